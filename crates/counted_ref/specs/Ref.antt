@@ -1,0 +1,52 @@
+-- A counted reference: a node number and a count, and the word that holds both.
+use Rattle.std.specs.Prelude.{ℕ, ◌+◌, ◌-◌, ◌*◌, ◌/◌, ◌%◌, ◌^◌, ◌<◌, Bool, ◌&&◌, nat_eq}
+
+-- a counted reference: the number of a node, and a count
+pub record Ref : Type 0 where
+  pub node : ℕ
+  pub count : ℕ
+
+-- how many of a word's bits hold the node, the lowest ones
+abbrev pub node_bits : ℕ
+node_bits = 24
+
+-- how many of a word's bits hold the count, the other ones
+abbrev pub count_bits : ℕ
+count_bits = 64 - node_bits
+
+-- the node number that no reference has: all node bits are set
+abbrev pub reserved_node : ℕ
+reserved_node = 2 ^ node_bits - 1
+
+-- the word whose count bits are set and whose node bits are not
+abbrev pub count_mask : ℕ
+count_mask = 2 ^ 64 - 2 ^ node_bits
+
+-- a reference is in range: its node is below the reserved one, and its count fits its bits
+pub record IsRef (r : Ref) : Type 0 where
+  pub node : r.node < reserved_node
+  pub count : r.count < 2 ^ count_bits
+
+-- the reference of a node with a count
+abbrev pub ref : ℕ → ℕ → Ref
+ref node count = record { node = node; count = count }
+
+-- the reference of no node, never counted
+abbrev pub null : Ref
+null = ref 0 0
+
+-- whether a reference is of no node, whatever its count
+abbrev pub is_null : Ref → Bool
+is_null r = nat_eq r.node 0
+
+-- whether two references have the same node and the same count
+abbrev pub same_ref : Ref → Ref → Bool
+same_ref a b = nat_eq a.node b.node && nat_eq a.count b.count
+
+-- the word of a reference: the count above the node
+abbrev pub ref_word : Ref → ℕ
+ref_word r = r.count * 2 ^ node_bits + r.node
+
+-- the reference that a word holds: its low bits as the node, and the others as the count
+abbrev pub ref_of : ℕ → Ref
+ref_of word = ref (word % 2 ^ node_bits) (word / 2 ^ node_bits)

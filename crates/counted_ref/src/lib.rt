@@ -1,0 +1,10 @@
+//! Counted references: the number of a node and a count, packed into one word.
+#![tactic(auto)]
+
+pub mod laws;
+mod reference;
+
+pub use reference::CountedRef;
+
+#[cfg(test)]
+mod tests;

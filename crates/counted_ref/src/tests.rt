@@ -1,0 +1,55 @@
+//! Words and answers typed from the table of the format, and what the derives write.
+use super::*;
+
+#[test]
+fn packs_and_unpacks_the_words_of_the_format(rt: HostRuntime) {
+    for (node, count, word) in [
+        (0, 0, 0),
+        (1, 0, 1),
+        (2, 1, 16_777_218),
+        (16_777_214, 1_099_511_627_775, 18_446_744_073_709_551_614),
+    ] {
+        let reference = CountedRef::new(node, count);
+        assert_eq!(rt; reference.word(), word, "the word of <{node},{count}>");
+        assert_eq!(rt;
+            reference.is_null(),
+            node == 0,
+            "whether <{node},{count}> is null"
+        );
+        match CountedRef::from_word(word) {
+            Some(found) => {
+                assert_eq!(rt; found.node(), node, "the node of {word}");
+                assert_eq!(rt; found.count(), count, "the count of {word}");
+                assert!(rt; found.same(reference), "the reference of {word}");
+            }
+            None => assert!(rt; false, "no reference of {word}"),
+        }
+    }
+}
+
+#[test]
+fn finds_no_reference_at_the_reserved_node(rt: HostRuntime) {
+    for word in [16_777_215, 33_554_431, 18_446_744_073_709_551_615] {
+        assert_eq!(rt; CountedRef::from_word(word), None, "of {word}");
+    }
+}
+
+#[test]
+fn raises_below_the_limit_alone(rt: HostRuntime) {
+    let once = CountedRef::new(1, 0).raised(7, 1);
+    assert_eq!(rt; once, Some(CountedRef::new(7, 1)));
+    assert_eq!(rt; CountedRef::new(2, 1).raised(7, 1), None);
+}
+
+#[test]
+fn tells_references_apart_by_node_and_by_count(rt: HostRuntime) {
+    let reference = CountedRef::new(2, 1);
+    for (other, want) in [
+        (CountedRef::new(2, 1), true),
+        (CountedRef::new(3, 1), false),
+        (CountedRef::new(2, 0), false),
+    ] {
+        assert_eq!(rt; reference.same(other), want, "as {other:?}");
+        assert_eq!(rt; reference == other, want, "== {other:?}");
+    }
+}
