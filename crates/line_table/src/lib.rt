@@ -1,0 +1,7 @@
+//! The kinds of queue, the lines of their table with the lines' names, and the table itself.
+#![tactic(auto)]
+
+mod lines;
+mod table;
+
+pub use lines::{Kind, Line, Section};
