@@ -1,0 +1,6 @@
+pub mod Memory
+pub mod Lines
+pub mod Machine
+pub mod Words
+pub mod Places
+pub mod Views

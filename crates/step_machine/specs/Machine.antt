@@ -1,0 +1,284 @@
+-- The machine: worlds, their moves, and what a list of moves leads to.
+use Rattle.std.specs.Prelude.{◌≡◌, ℕ, ◌+◌, ◌-◌, ◌^◌, ◌<◌, ◌≤◌, Bool, List, [], ◌∷◌, ◌++◌, length, map, replicate, Option, Some, None, slice_get, slice_index_or, slice_set, nat_eq, nat_lt, if◌then◌else◌, true, false}
+use Rattle.counted_ref.specs.Ref.{ref, null}
+use Rattle.line_table.specs.declared.lines.Kind.{Kind}
+use Rattle.line_table.specs.declared.lines.Line.{Line}
+use Rattle.line_table.specs.declared.lines.Line.TheVariants.{N1, N2, N3, N4, N5, F1, F2, F3, E2, E3, E5, E6, E7, E9, E13, E17, D2, D3, D4, D5, D10, D12, D13, A1, A2, A3, A4, A5, A6, A7, B1, B2, B3, B4, B5, B6}
+use Rattle.history.specs.declared.operations.Op.{Op}
+use Rattle.history.specs.declared.operations.Op.TheVariants.{Enq, Deq}
+use Rattle.history.specs.declared.operations.Reply.{Reply}
+use Rattle.history.specs.declared.operations.Stamped.{Stamped}
+use Rattle.step_machine.specs.declared.actors.Setup.{Setup}
+use Rattle.step_machine.specs.declared.actors.Held.{Held}
+use Rattle.step_machine.specs.declared.actors.Actor.{Actor}
+use Rattle.step_machine.specs.declared.actors.Outcome.{Outcome}
+use Rattle.step_machine.specs.declared.actors.Move.{Move}
+use Rattle.step_machine.specs.declared.actors.Move.TheVariants.{Begin, Step, Give}
+use Rattle.step_machine.specs.Memory.{nobody, blank, Shared, found, performed}
+use Rattle.step_machine.specs.Lines.{action, outcome, gives_up, takes, to_pocket, with_node, dequeues}
+
+-- a world: its setup, how many step numbers were given, the shared words, the actors from 1 on, for each node from 1
+-- on whether it was set aside, and the operations that have a number, by their first one
+pub record World : Type 0 where
+  pub setup : Setup
+  pub steps : ℕ
+  pub shared : Shared
+  pub actors : List Actor
+  pub aside : List Bool
+  pub operations : List Stamped
+
+-- an actor that never had a call
+abbrev pub idle : Actor
+idle =
+    record {
+      line = None;
+      op = Deq;
+      f = 0;
+      top = null;
+      node = 0;
+      mark = 0;
+      tail = null;
+      head = null;
+      next = null;
+      val = nobody;
+      noted = 0;
+      due = None;
+      holds = false;
+      pocket = None;
+      entry = None;
+    }
+
+-- the shared words at the start: node 1 is the dummy, and no other node was used
+abbrev pub first_words : ℕ → Shared
+first_words nodes =
+    record {
+      fresh = 1;
+      free = null;
+      head = ref 1 0;
+      tail = ref 1 0;
+      tail_lock = 0;
+      head_lock = 0;
+      nodes = replicate nodes blank;
+    }
+
+-- the world in which nothing happened yet
+abbrev pub opening : Setup → (actors : ℕ) → World
+opening s actors =
+    record {
+      setup = s;
+      steps = 0;
+      shared = first_words s.size;
+      actors = replicate actors idle;
+      aside = replicate s.size false;
+      operations = [];
+    }
+
+-- the actor of a number; none for 0 and above the number of actors
+abbrev pub actor_of : World → ℕ → Option Actor
+actor_of w me = if nat_eq me 0 then None else slice_get w.actors (me - 1)
+
+-- whether a call can be made: a body is below 2^48
+abbrev pub is_call : Op → Bool
+is_call (Enq body) = nat_lt body (2 ^ 48)
+is_call Deq = true
+
+-- a call with a full pocket starts at a line of its own, with the node and its mark in the hand
+abbrev pub from_pocket : Line → Option Held → Actor → Actor
+from_pocket l None a = a
+from_pocket l (Some held) a = record (takes held.node held.mark a) { line = Some l; pocket = None }
+
+-- an actor that begins a call
+abbrev pub begun : Kind → (me : ℕ) → Op → Actor → Actor
+begun kind me (Enq body) a =
+    from_pocket (with_node kind) a.pocket
+    (record a { line = Some N1; op = Enq body; val = record { from = me; body = body }; due = None; entry = None })
+begun kind me Deq a =
+    from_pocket F1 a.pocket (record a { line = Some (dequeues kind); op = Deq; due = None; entry = None })
+
+-- an actor that rests before its node was used: the node goes to the pocket, and the call stays unfinished
+abbrev pub rested : Actor → Actor
+rested a = record (to_pocket a) { line = None }
+
+-- an operation with its first number
+abbrev pub new_operation : (me : ℕ) → Op → (now : ℕ) → Stamped
+new_operation me op now = record { actor = me; op = op; first = now; last = None; at = None; reply = None }
+
+-- the last number of an operation that ends now, where it has a reply
+abbrev pub last_of : (now : ℕ) → Option Reply → Option ℕ
+last_of now None = None
+last_of now (Some reply) = Some now
+
+-- what is settled now, and else what was settled before
+abbrev pub first_settled : Option ℕ → Option ℕ → Option ℕ
+first_settled None before = before
+first_settled (Some now) before = Some now
+
+-- an operation that is told the outcome of a step
+abbrev pub told : (now : ℕ) → Outcome → Stamped → Stamped
+told now o s = record s { last = last_of now o.reply; at = first_settled o.at s.at; reply = o.reply }
+
+-- the operations after a step: a call's first step adds its operation, a later one changes it
+abbrev pub recorded : Option ℕ → Stamped → (Stamped → Stamped) → List Stamped → List Stamped
+recorded None new change ops = ops ++ change new ∷ []
+recorded (Some entry) new change ops = slice_set ops entry (change (slice_index_or ops entry new))
+
+-- where a call's operation stands, which is at the end of the list where it has no number yet
+abbrev pub entry_or : Option ℕ → ℕ → ℕ
+entry_or None n = n
+entry_or (Some entry) n = entry
+
+-- the flags of the nodes set aside, after a step that may set one aside
+abbrev pub aside_after : List Bool → Option ℕ → List Bool
+aside_after aside None = aside
+aside_after aside (Some node) = slice_set aside (node - 1) true
+
+-- a world with another state of one actor
+abbrev pub with_actor : World → (me : ℕ) → Actor → World
+with_actor w me a = record w { actors = slice_set w.actors (me - 1) a }
+
+-- the world after an actor, which was `a`, was told an outcome at the next number, with these shared words
+abbrev pub settled : World → (me : ℕ) → (a : Actor) → Shared → Outcome → World
+settled w me a shared o =
+    record {
+      setup = w.setup;
+      steps = w.steps + 1;
+      shared = shared;
+      actors = slice_set w.actors (me - 1) (record o.actor { entry = Some (entry_or a.entry (length w.operations)) });
+      aside = aside_after w.aside o.aside;
+      operations = recorded a.entry (new_operation me a.op (w.steps + 1)) (told (w.steps + 1) o) w.operations;
+    }
+
+-- the world after one step of an actor at a line
+abbrev pub stepped : World → (me : ℕ) → Actor → Line → World
+stepped w me a l =
+    settled w me a (performed (action w.setup me a l) w.shared)
+    (outcome w.setup (w.steps + 1) me a l (found (action w.setup me a l) w.shared))
+
+-- the world after an actor without a call begins one
+abbrev pub begins : World → (me : ℕ) → Op → Actor → Option Line → Option World
+begins w me op a None = if is_call op then Some (with_actor w me (begun w.setup.kind me op a)) else None
+begins w me op a (Some l) = None
+
+-- the world after one step of an actor that has a call
+abbrev pub steps : World → (me : ℕ) → Actor → Option Line → Option World
+steps w me a None = None
+steps w me a (Some l) = Some (stepped w me a l)
+
+-- the world after an actor gave up with an outcome
+abbrev pub given : World → (me : ℕ) → Actor → Option Outcome → Option World
+given w me a None = None
+given w me a (Some o) = Some (settled w me a w.shared o)
+
+-- the world after an actor that has a call gives up
+abbrev pub gives : World → (me : ℕ) → Actor → Option Line → Option World
+gives w me a None = None
+gives w me a (Some l) = given w me a (gives_up (w.steps + 1) a l)
+
+-- whether an actor may rest before a line: its node is in its hand, and was not used by this call
+abbrev pub may_rest : Line → Bool
+may_rest E2 = true
+may_rest A1 = true
+may_rest N1 = false
+may_rest N2 = false
+may_rest N3 = false
+may_rest N4 = false
+may_rest N5 = false
+may_rest F1 = false
+may_rest F2 = false
+may_rest F3 = false
+may_rest E3 = false
+may_rest E5 = false
+may_rest E6 = false
+may_rest E7 = false
+may_rest E9 = false
+may_rest E13 = false
+may_rest E17 = false
+may_rest D2 = false
+may_rest D3 = false
+may_rest D4 = false
+may_rest D5 = false
+may_rest D10 = false
+may_rest D12 = false
+may_rest D13 = false
+may_rest A2 = false
+may_rest A3 = false
+may_rest A4 = false
+may_rest A5 = false
+may_rest A6 = false
+may_rest A7 = false
+may_rest B1 = false
+may_rest B2 = false
+may_rest B3 = false
+may_rest B4 = false
+may_rest B5 = false
+may_rest B6 = false
+
+-- the world after an actor that has a call rests
+abbrev pub rests : World → (me : ℕ) → Actor → Option Line → Option World
+rests w me a None = None
+rests w me a (Some l) = if may_rest l then Some (with_actor w me (rested a)) else None
+
+-- the world after a move of an actor that is there
+abbrev pub moved : World → Move → Option Actor → Option World
+moved w m None = None
+moved w (Begin me op) (Some a) = begins w me op a a.line
+moved w (Step me) (Some a) = steps w me a a.line
+moved w (Give me) (Some a) = gives w me a a.line
+
+-- who makes a move
+abbrev pub mover : Move → ℕ
+mover (Begin me op) = me
+mover (Step me) = me
+mover (Give me) = me
+
+-- the world after a move; none where the move can't be made
+abbrev pub next : World → Move → Option World
+next w m = moved w m (actor_of w (mover m))
+
+-- the world after an actor that is there rests
+abbrev pub rest_of : World → (me : ℕ) → Option Actor → Option World
+rest_of w me None = None
+rest_of w me (Some a) = rests w me a a.line
+
+-- all moves: those that a call of a world makes, and a rest of an actor, which none makes
+pub data AnyMove : Type 0 where
+  made : Move → AnyMove
+  Rest : (actor : ℕ) → AnyMove
+
+-- the world after any move; none where it can't be made
+abbrev pub next_any : World → AnyMove → Option World
+next_any w (made m) = next w m
+next_any w (Rest me) = rest_of w me (actor_of w me)
+
+-- what follows from a world, where there is one
+abbrev pub run_on : (World → Option World) → Option World → Option World
+run_on more None = None
+run_on more (Some w) = more w
+
+-- the world after a list of moves; none where one of them can't be made
+abbrev pub run : List AnyMove → World → Option World
+run [] w = Some w
+run (m ∷ ms) w = run_on (run ms) (next_any w m)
+
+-- the sizes of a machine are in their ranges
+pub record IsSized (s : Setup) (actors : ℕ) : Type 0 where
+  pub nodes : 2 ≤ s.size
+  pub numbered : s.size < 2 ^ 24 - 1
+  pub counts : 1 ≤ s.limit
+  pub counted : s.limit < 2 ^ 40
+  pub some_actors : 1 ≤ actors
+  pub few_actors : actors < 2 ^ 16
+
+-- a world that any list of moves leads to
+pub record IsReached (w : World) : Type 0 where
+  pub actors : ℕ
+  pub moves : List AnyMove
+  pub sized : IsSized w.setup actors
+  pub led : run moves (opening w.setup actors) ≡ Some w
+
+-- a world that the calls of a world lead to: no actor rests
+pub record IsMade (w : World) : Type 0 where
+  pub actors : ℕ
+  pub moves : List Move
+  pub sized : IsSized w.setup actors
+  pub led : run (map made moves) (opening w.setup actors) ≡ Some w

@@ -1,0 +1,4 @@
+pub mod Seen
+pub mod TwoLockRuns
+pub mod NonBlockingRuns
+pub mod Verdicts

@@ -1,0 +1,350 @@
+-- Worked runs of the queue without locks.
+use Rattle.std.specs.Prelude.{List, [], ◌∷◌, ◌++◌, Some, None}
+use Rattle.counted_ref.specs.Ref.{ref, ref_word}
+use Rattle.line_table.specs.declared.lines.Kind.TheVariants.{NonBlocking}
+use Rattle.line_table.specs.declared.lines.Line.{Line}
+use Rattle.line_table.specs.declared.lines.Line.TheVariants.{N1, N2, N3, N4, N5, F1, F2, F3, E2, E3, E5, E6, E7, E9, E17, D2, D3, D4, D5, D10, D12, D13}
+use Rattle.history.specs.declared.operations.Op.TheVariants.{Enq, Deq}
+use Rattle.history.specs.declared.operations.Reply.TheVariants.{Done, Value, Empty, Refused}
+use Rattle.history.specs.declared.refusals.Refusal.TheVariants.{NoNode, WornOut, Busy}
+use Rattle.history.specs.declared.refusals.WornWord.TheVariants.{Free as OfFree, Next as OfNext, Tail as OfTail}
+use Rattle.step_machine.specs.Memory.{Fresh, Free, Head, Tail, Next}
+use Rattle.worked_runs.specs.Seen.{Run, begin, many, give, holds, stands, keeps, left}
+
+-- nothing happened yet
+abbrev pub no_moves : Run
+no_moves =
+    record {
+      setup = record { kind = NonBlocking; size = 3; limit = 100 };
+      actors = 2;
+      moves = [];
+      history =
+          [];
+      facts = [];
+    }
+
+-- a push onto the empty queue
+abbrev pub push : Run
+push =
+    record {
+      setup = record { kind = NonBlocking; size = 3; limit = 100 };
+      actors = 2;
+      moves = begin 1 (Enq 5) ++ many 1 10;
+      history =
+          record { actor = 1; op = Enq 5; first = 1; last = Some 10; at = Some 9; reply = Some Done } ∷
+          [];
+      facts = holds Tail (ref_word (ref 2 1)) ∷ holds (Next 1) (ref_word (ref 2 1)) ∷ holds Fresh 2 ∷ [];
+    }
+
+-- the lines that it goes through
+abbrev pub lines_of_push : List Line
+lines_of_push = N1 ∷ N2 ∷ N5 ∷ E2 ∷ E3 ∷ E5 ∷ E6 ∷ E7 ∷ E9 ∷ E17 ∷ []
+
+-- a push, then a pop, which frees the dummy
+abbrev pub push_and_pop : Run
+push_and_pop =
+    record {
+      setup = record { kind = NonBlocking; size = 3; limit = 100 };
+      actors = 2;
+      moves = begin 1 (Enq 5) ++ many 1 10 ++ begin 2 Deq ++ many 2 9;
+      history =
+          record { actor = 1; op = Enq 5; first = 1; last = Some 10; at = Some 9; reply = Some Done } ∷
+          record { actor = 2; op = Deq; first = 11; last = Some 19; at = Some 16; reply = Some (Value (record { from = 1; body = 5 })) } ∷
+          [];
+      facts = holds Head (ref_word (ref 2 1)) ∷ holds Free (ref_word (ref 1 1)) ∷ holds (Next 1) (ref_word (ref 0 1)) ∷ [];
+    }
+
+-- the lines that it goes through
+abbrev pub lines_of_push_and_pop : List Line
+lines_of_push_and_pop = N1 ∷ N2 ∷ N5 ∷ E2 ∷ E3 ∷ E5 ∷ E6 ∷ E7 ∷ E9 ∷ E17 ∷ D2 ∷ D3 ∷ D4 ∷ D5 ∷ D12 ∷ D13 ∷ F1 ∷ F2 ∷ F3 ∷ []
+
+-- a node was taken again, and its next cleared: the count stays
+abbrev pub reuse_cleared : Run
+reuse_cleared =
+    record {
+      setup = record { kind = NonBlocking; size = 3; limit = 100 };
+      actors = 2;
+      moves = begin 1 (Enq 5) ++ many 1 10 ++ begin 2 Deq ++ many 2 9 ++ begin 1 (Enq 6) ++ many 1 6;
+      history =
+          record { actor = 1; op = Enq 5; first = 1; last = Some 10; at = Some 9; reply = Some Done } ∷
+          record { actor = 2; op = Deq; first = 11; last = Some 19; at = Some 16; reply = Some (Value (record { from = 1; body = 5 })) } ∷
+          record { actor = 1; op = Enq 6; first = 20; last = None; at = None; reply = None } ∷
+          [];
+      facts = holds Free (ref_word (ref 0 2)) ∷ holds (Next 1) (ref_word (ref 0 1)) ∷ [];
+    }
+
+-- a push that uses a freed node again
+abbrev pub reuse : Run
+reuse =
+    record {
+      setup = record { kind = NonBlocking; size = 3; limit = 100 };
+      actors = 2;
+      moves = begin 1 (Enq 5) ++ many 1 10 ++ begin 2 Deq ++ many 2 9 ++ begin 1 (Enq 6) ++ many 1 11;
+      history =
+          record { actor = 1; op = Enq 5; first = 1; last = Some 10; at = Some 9; reply = Some Done } ∷
+          record { actor = 2; op = Deq; first = 11; last = Some 19; at = Some 16; reply = Some (Value (record { from = 1; body = 5 })) } ∷
+          record { actor = 1; op = Enq 6; first = 20; last = Some 30; at = Some 29; reply = Some Done } ∷
+          [];
+      facts = holds (Next 2) (ref_word (ref 1 1)) ∷ holds Tail (ref_word (ref 1 2)) ∷ holds Fresh 2 ∷ [];
+    }
+
+-- the lines that it goes through
+abbrev pub lines_of_reuse : List Line
+lines_of_reuse = N1 ∷ N2 ∷ N5 ∷ E2 ∷ E3 ∷ E5 ∷ E6 ∷ E7 ∷ E9 ∷ E17 ∷ D2 ∷ D3 ∷ D4 ∷ D5 ∷ D12 ∷ D13 ∷ F1 ∷ F2 ∷ F3 ∷ N1 ∷ N2 ∷ N3 ∷ N4 ∷ E2 ∷ E3 ∷ E5 ∷ E6 ∷ E7 ∷ E9 ∷ E17 ∷ []
+
+-- a pop of the empty queue, placed where it read null
+abbrev pub empty_queue : Run
+empty_queue =
+    record {
+      setup = record { kind = NonBlocking; size = 3; limit = 100 };
+      actors = 2;
+      moves = begin 1 Deq ++ many 1 4;
+      history =
+          record { actor = 1; op = Deq; first = 1; last = Some 4; at = Some 3; reply = Some Empty } ∷
+          [];
+      facts = [];
+    }
+
+-- an actor stopped before its E9, while its tail was freed
+abbrev pub stale_before : Run
+stale_before =
+    record {
+      setup = record { kind = NonBlocking; size = 3; limit = 100 };
+      actors = 2;
+      moves = begin 1 (Enq 7) ++ many 1 8 ++ begin 2 (Enq 8) ++ many 2 10 ++ begin 2 Deq ++ many 2 9;
+      history =
+          record { actor = 1; op = Enq 7; first = 1; last = None; at = None; reply = None } ∷
+          record { actor = 2; op = Enq 8; first = 9; last = Some 18; at = Some 17; reply = Some Done } ∷
+          record { actor = 2; op = Deq; first = 19; last = Some 27; at = Some 24; reply = Some (Value (record { from = 2; body = 8 })) } ∷
+          [];
+      facts = stands 1 (Some E9) ∷ holds (Next 1) (ref_word (ref 0 1)) ∷ [];
+    }
+
+-- the stale E9 fails by the count alone
+abbrev pub stale_fails : Run
+stale_fails =
+    record {
+      setup = record { kind = NonBlocking; size = 3; limit = 100 };
+      actors = 2;
+      moves = begin 1 (Enq 7) ++ many 1 8 ++ begin 2 (Enq 8) ++ many 2 10 ++ begin 2 Deq ++ many 2 9 ++ many 1 1;
+      history =
+          record { actor = 1; op = Enq 7; first = 1; last = None; at = None; reply = None } ∷
+          record { actor = 2; op = Enq 8; first = 9; last = Some 18; at = Some 17; reply = Some Done } ∷
+          record { actor = 2; op = Deq; first = 19; last = Some 27; at = Some 24; reply = Some (Value (record { from = 2; body = 8 })) } ∷
+          [];
+      facts = stands 1 (Some E5) ∷ [];
+    }
+
+-- after a stale E9 the push starts again and ends
+abbrev pub stale_reference : Run
+stale_reference =
+    record {
+      setup = record { kind = NonBlocking; size = 3; limit = 100 };
+      actors = 2;
+      moves = begin 1 (Enq 7) ++ many 1 8 ++ begin 2 (Enq 8) ++ many 2 10 ++ begin 2 Deq ++ many 2 9 ++ many 1 1 ++ many 1 5;
+      history =
+          record { actor = 1; op = Enq 7; first = 1; last = Some 33; at = Some 32; reply = Some Done } ∷
+          record { actor = 2; op = Enq 8; first = 9; last = Some 18; at = Some 17; reply = Some Done } ∷
+          record { actor = 2; op = Deq; first = 19; last = Some 27; at = Some 24; reply = Some (Value (record { from = 2; body = 8 })) } ∷
+          [];
+      facts = holds (Next 3) (ref_word (ref 2 1)) ∷ holds Tail (ref_word (ref 2 2)) ∷ [];
+    }
+
+-- a pop swings the tail that an unfinished push left behind, and takes its value
+abbrev pub lagging_tail : Run
+lagging_tail =
+    record {
+      setup = record { kind = NonBlocking; size = 3; limit = 100 };
+      actors = 2;
+      moves = begin 1 (Enq 5) ++ many 1 9 ++ begin 2 Deq ++ many 2 14;
+      history =
+          record { actor = 1; op = Enq 5; first = 1; last = None; at = Some 9; reply = None } ∷
+          record { actor = 2; op = Deq; first = 10; last = Some 23; at = Some 20; reply = Some (Value (record { from = 1; body = 5 })) } ∷
+          [];
+      facts = [];
+    }
+
+-- the lines that it goes through
+abbrev pub lines_of_lagging_tail : List Line
+lines_of_lagging_tail = N1 ∷ N2 ∷ N5 ∷ E2 ∷ E3 ∷ E5 ∷ E6 ∷ E7 ∷ E9 ∷ D2 ∷ D3 ∷ D4 ∷ D5 ∷ D10 ∷ D2 ∷ D3 ∷ D4 ∷ D5 ∷ D12 ∷ D13 ∷ F1 ∷ F2 ∷ F3 ∷ []
+
+-- the late swing of the tail is lost, and the push is done
+abbrev pub lost_swing : Run
+lost_swing =
+    record {
+      setup = record { kind = NonBlocking; size = 3; limit = 100 };
+      actors = 2;
+      moves = begin 1 (Enq 5) ++ many 1 9 ++ begin 2 Deq ++ many 2 14 ++ many 1 1;
+      history =
+          record { actor = 1; op = Enq 5; first = 1; last = Some 24; at = Some 9; reply = Some Done } ∷
+          record { actor = 2; op = Deq; first = 10; last = Some 23; at = Some 20; reply = Some (Value (record { from = 1; body = 5 })) } ∷
+          [];
+      facts = [];
+    }
+
+-- an empty reply is placed where null was read, before a push that ended earlier
+abbrev pub old_empty : Run
+old_empty =
+    record {
+      setup = record { kind = NonBlocking; size = 3; limit = 100 };
+      actors = 2;
+      moves = begin 1 Deq ++ many 1 3 ++ begin 2 (Enq 9) ++ many 2 10 ++ many 1 1;
+      history =
+          record { actor = 1; op = Deq; first = 1; last = Some 14; at = Some 3; reply = Some Empty } ∷
+          record { actor = 2; op = Enq 9; first = 4; last = Some 13; at = Some 12; reply = Some Done } ∷
+          [];
+      facts = [];
+    }
+
+-- a push is refused while no node is left, and is done after a pop
+abbrev pub no_node : Run
+no_node =
+    record {
+      setup = record { kind = NonBlocking; size = 2; limit = 100 };
+      actors = 1;
+      moves = begin 1 (Enq 1) ++ many 1 10 ++ begin 1 (Enq 2) ++ many 1 2 ++ begin 1 Deq ++ many 1 9 ++ begin 1 (Enq 2) ++ many 1 11;
+      history =
+          record { actor = 1; op = Enq 1; first = 1; last = Some 10; at = Some 9; reply = Some Done } ∷
+          record { actor = 1; op = Enq 2; first = 11; last = Some 12; at = Some 12; reply = Some (Refused NoNode) } ∷
+          record { actor = 1; op = Deq; first = 13; last = Some 21; at = Some 18; reply = Some (Value (record { from = 1; body = 1 })) } ∷
+          record { actor = 1; op = Enq 2; first = 22; last = Some 32; at = Some 31; reply = Some Done } ∷
+          [];
+      facts = [];
+    }
+
+-- the free list is worn out
+abbrev pub worn_free : Run
+worn_free =
+    record {
+      setup = record { kind = NonBlocking; size = 3; limit = 1 };
+      actors = 1;
+      moves = begin 1 (Enq 1) ++ many 1 10 ++ begin 1 Deq ++ many 1 9 ++ begin 1 (Enq 2) ++ many 1 2;
+      history =
+          record { actor = 1; op = Enq 1; first = 1; last = Some 10; at = Some 9; reply = Some Done } ∷
+          record { actor = 1; op = Deq; first = 11; last = Some 19; at = Some 16; reply = Some (Value (record { from = 1; body = 1 })) } ∷
+          record { actor = 1; op = Enq 2; first = 20; last = Some 21; at = Some 21; reply = Some (Refused (WornOut OfFree)) } ∷
+          [];
+      facts = [];
+    }
+
+-- a push that links behind a worn tail skips the swing
+abbrev pub swing_skipped : Run
+swing_skipped =
+    record {
+      setup = record { kind = NonBlocking; size = 3; limit = 1 };
+      actors = 1;
+      moves = begin 1 (Enq 1) ++ many 1 10 ++ begin 1 (Enq 2) ++ many 1 9;
+      history =
+          record { actor = 1; op = Enq 1; first = 1; last = Some 10; at = Some 9; reply = Some Done } ∷
+          record { actor = 1; op = Enq 2; first = 11; last = Some 19; at = Some 19; reply = Some Done } ∷
+          [];
+      facts = holds Tail (ref_word (ref 2 1)) ∷ holds (Next 2) (ref_word (ref 3 1)) ∷ [];
+    }
+
+-- with a worn tail that lags, a push is refused and keeps its node in the pocket
+abbrev pub worn_tail : Run
+worn_tail =
+    record {
+      setup = record { kind = NonBlocking; size = 4; limit = 1 };
+      actors = 1;
+      moves = begin 1 (Enq 1) ++ many 1 10 ++ begin 1 (Enq 2) ++ many 1 9 ++ begin 1 (Enq 3) ++ many 1 8;
+      history =
+          record { actor = 1; op = Enq 1; first = 1; last = Some 10; at = Some 9; reply = Some Done } ∷
+          record { actor = 1; op = Enq 2; first = 11; last = Some 19; at = Some 19; reply = Some Done } ∷
+          record { actor = 1; op = Enq 3; first = 20; last = Some 27; at = Some 27; reply = Some (Refused (WornOut OfTail)) } ∷
+          [];
+      facts = keeps 1 (Some (record { node = 4; mark = 0 })) ∷ [];
+    }
+
+-- giving up where the node is freed answers the value taken and pockets the node
+abbrev pub value_kept : Run
+value_kept =
+    record {
+      setup = record { kind = NonBlocking; size = 3; limit = 1 };
+      actors = 1;
+      moves = begin 1 (Enq 1) ++ many 1 10 ++ begin 1 Deq ++ many 1 6 ++ give 1;
+      history =
+          record { actor = 1; op = Enq 1; first = 1; last = Some 10; at = Some 9; reply = Some Done } ∷
+          record { actor = 1; op = Deq; first = 11; last = Some 17; at = Some 16; reply = Some (Value (record { from = 1; body = 1 })) } ∷
+          [];
+      facts = keeps 1 (Some (record { node = 1; mark = 1 })) ∷ [];
+    }
+
+-- a node whose next is worn is set aside
+abbrev pub worn_next : Run
+worn_next =
+    record {
+      setup = record { kind = NonBlocking; size = 3; limit = 1 };
+      actors = 1;
+      moves = begin 1 (Enq 1) ++ many 1 10 ++ begin 1 Deq ++ many 1 6 ++ give 1 ++ begin 1 (Enq 2) ++ many 1 2;
+      history =
+          record { actor = 1; op = Enq 1; first = 1; last = Some 10; at = Some 9; reply = Some Done } ∷
+          record { actor = 1; op = Deq; first = 11; last = Some 17; at = Some 16; reply = Some (Value (record { from = 1; body = 1 })) } ∷
+          record { actor = 1; op = Enq 2; first = 18; last = Some 19; at = Some 19; reply = Some (Refused (WornOut OfNext)) } ∷
+          [];
+      facts = keeps 1 None ∷ left 1 ∷ [];
+    }
+
+-- a push gives up, and the next pop frees its node first
+abbrev pub push_given_up : Run
+push_given_up =
+    record {
+      setup = record { kind = NonBlocking; size = 3; limit = 100 };
+      actors = 2;
+      moves = begin 1 (Enq 7) ++ many 1 8 ++ begin 2 (Enq 8) ++ many 2 10 ++ many 1 1 ++ give 1 ++ begin 1 Deq ++ many 1 12;
+      history =
+          record { actor = 1; op = Enq 7; first = 1; last = Some 20; at = Some 20; reply = Some (Refused Busy) } ∷
+          record { actor = 2; op = Enq 8; first = 9; last = Some 18; at = Some 17; reply = Some Done } ∷
+          record { actor = 1; op = Deq; first = 21; last = Some 32; at = Some 29; reply = Some (Value (record { from = 2; body = 8 })) } ∷
+          [];
+      facts = holds Free (ref_word (ref 1 2)) ∷ holds (Next 1) (ref_word (ref 2 1)) ∷ holds (Next 2) (ref_word (ref 0 0)) ∷ [];
+    }
+
+-- a push meets a lagging tail and takes fifteen steps
+abbrev pub longest_push : Run
+longest_push =
+    record {
+      setup = record { kind = NonBlocking; size = 3; limit = 100 };
+      actors = 2;
+      moves = begin 1 (Enq 5) ++ many 1 3 ++ begin 2 (Enq 6) ++ many 2 10 ++ begin 2 Deq ++ many 2 9 ++ many 1 6 ++ begin 2 (Enq 8) ++ many 2 15;
+      history =
+          record { actor = 1; op = Enq 5; first = 1; last = None; at = Some 28; reply = None } ∷
+          record { actor = 2; op = Enq 6; first = 4; last = Some 13; at = Some 12; reply = Some Done } ∷
+          record { actor = 2; op = Deq; first = 14; last = Some 22; at = Some 19; reply = Some (Value (record { from = 2; body = 6 })) } ∷
+          record { actor = 2; op = Enq 8; first = 29; last = Some 43; at = Some 42; reply = Some Done } ∷
+          [];
+      facts = holds Tail (ref_word (ref 1 3)) ∷ holds (Next 2) (ref_word (ref 1 1)) ∷ [];
+    }
+
+-- a pop frees its pocket first, meets a lagging tail and takes seventeen steps
+abbrev pub longest_pop : Run
+longest_pop =
+    record {
+      setup = record { kind = NonBlocking; size = 3; limit = 100 };
+      actors = 2;
+      moves = begin 2 (Enq 7) ++ many 2 8 ++ begin 1 (Enq 8) ++ many 1 9 ++ many 2 1 ++ give 2 ++ begin 2 Deq ++ many 2 17;
+      history =
+          record { actor = 2; op = Enq 7; first = 1; last = Some 19; at = Some 19; reply = Some (Refused Busy) } ∷
+          record { actor = 1; op = Enq 8; first = 9; last = None; at = Some 17; reply = None } ∷
+          record { actor = 2; op = Deq; first = 20; last = Some 36; at = Some 33; reply = Some (Value (record { from = 1; body = 8 })) } ∷
+          [];
+      facts = holds Free (ref_word (ref 1 2)) ∷ holds Head (ref_word (ref 3 1)) ∷ [];
+    }
+
+-- with a worn tail that lags a pop is refused too
+abbrev pub worn_tail_pop : Run
+worn_tail_pop =
+    record {
+      setup = record { kind = NonBlocking; size = 3; limit = 2 };
+      actors = 1;
+      moves = begin 1 (Enq 1) ++ many 1 10 ++ begin 1 Deq ++ many 1 9 ++ begin 1 (Enq 2) ++ many 1 11 ++ begin 1 Deq ++ many 1 7 ++ begin 1 (Enq 3) ++ many 1 9 ++ begin 1 Deq ++ many 1 4;
+      history =
+          record { actor = 1; op = Enq 1; first = 1; last = Some 10; at = Some 9; reply = Some Done } ∷
+          record { actor = 1; op = Deq; first = 11; last = Some 19; at = Some 16; reply = Some (Value (record { from = 1; body = 1 })) } ∷
+          record { actor = 1; op = Enq 2; first = 20; last = Some 30; at = Some 29; reply = Some Done } ∷
+          record { actor = 1; op = Deq; first = 31; last = Some 37; at = Some 36; reply = Some (Value (record { from = 1; body = 2 })) } ∷
+          record { actor = 1; op = Enq 3; first = 38; last = Some 46; at = Some 46; reply = Some Done } ∷
+          record { actor = 1; op = Deq; first = 47; last = Some 50; at = Some 50; reply = Some (Refused (WornOut OfTail)) } ∷
+          [];
+      facts = [];
+    }

@@ -1,0 +1,107 @@
+-- Worked runs of the queue with two locks.
+use Rattle.std.specs.Prelude.{List, [], ◌∷◌, ◌++◌, Some, None}
+use Rattle.counted_ref.specs.Ref.{ref, ref_word}
+use Rattle.line_table.specs.declared.lines.Kind.TheVariants.{TwoLock}
+use Rattle.line_table.specs.declared.lines.Line.{Line}
+use Rattle.line_table.specs.declared.lines.Line.TheVariants.{N1, N2, N5, F1, F2, F3, A1, A2, A3, A4, A5, A6, A7, B1, B2, B3, B4, B5, B6}
+use Rattle.history.specs.declared.operations.Op.TheVariants.{Enq, Deq}
+use Rattle.history.specs.declared.operations.Reply.TheVariants.{Done, Value, Empty, Refused}
+use Rattle.history.specs.declared.refusals.Refusal.TheVariants.{WornOut, Busy}
+use Rattle.history.specs.declared.refusals.WornWord.TheVariants.{Head as OfHead}
+use Rattle.step_machine.specs.Memory.{Free, Head, Tail, Tail_lock, Next}
+use Rattle.worked_runs.specs.Seen.{Run, begin, many, give, holds, stands}
+
+-- a push, then a pop by another actor
+abbrev pub first_run : Run
+first_run =
+    record {
+      setup = record { kind = TwoLock; size = 3; limit = 100 };
+      actors = 2;
+      moves = begin 1 (Enq 5) ++ many 1 10 ++ begin 2 Deq ++ many 2 9;
+      history =
+          record { actor = 1; op = Enq 5; first = 1; last = Some 10; at = Some 8; reply = Some Done } ∷
+          record { actor = 2; op = Deq; first = 11; last = Some 19; at = Some 15; reply = Some (Value (record { from = 1; body = 5 })) } ∷
+          [];
+      facts = holds Head (ref_word (ref 2 1)) ∷ holds Tail (ref_word (ref 2 0)) ∷ holds Free (ref_word (ref 1 1)) ∷ holds (Next 1) (ref_word (ref 0 0)) ∷ [];
+    }
+
+-- the lines that it goes through
+abbrev pub lines_of_first_run : List Line
+lines_of_first_run = N1 ∷ N2 ∷ N5 ∷ A1 ∷ A2 ∷ A3 ∷ A4 ∷ A5 ∷ A6 ∷ A7 ∷ B1 ∷ B2 ∷ B3 ∷ B4 ∷ B5 ∷ B6 ∷ F1 ∷ F2 ∷ F3 ∷ []
+
+-- three actors pass both locks, and a freed dummy is still named by Tail for a while
+abbrev pub locks_passed : Run
+locks_passed =
+    record {
+      setup = record { kind = TwoLock; size = 3; limit = 100 };
+      actors = 3;
+      moves = begin 1 (Enq 5) ++ many 1 6 ++ begin 2 (Enq 6) ++ many 2 6 ++ begin 3 Deq ++ many 3 4 ++ many 1 2 ++ begin 3 Deq ++ many 3 9 ++ many 1 2 ++ many 2 5;
+      history =
+          record { actor = 1; op = Enq 5; first = 1; last = Some 29; at = Some 18; reply = Some Done } ∷
+          record { actor = 2; op = Enq 6; first = 7; last = Some 34; at = Some 32; reply = Some Done } ∷
+          record { actor = 3; op = Deq; first = 13; last = Some 16; at = Some 15; reply = Some Empty } ∷
+          record { actor = 3; op = Deq; first = 19; last = Some 27; at = Some 23; reply = Some (Value (record { from = 1; body = 5 })) } ∷
+          [];
+      facts = [];
+    }
+
+-- an actor that finds the tail lock held stays at its line
+abbrev pub lock_waited_for : Run
+lock_waited_for =
+    record {
+      setup = record { kind = TwoLock; size = 3; limit = 100 };
+      actors = 3;
+      moves = begin 1 (Enq 5) ++ many 1 6 ++ begin 2 (Enq 6) ++ many 2 6;
+      history =
+          record { actor = 1; op = Enq 5; first = 1; last = None; at = None; reply = None } ∷
+          record { actor = 2; op = Enq 6; first = 7; last = None; at = None; reply = None } ∷
+          [];
+      facts = stands 2 (Some A3) ∷ holds Tail_lock 1 ∷ [];
+    }
+
+-- the node that Tail names is out of the queue and free, before the push moves Tail
+abbrev pub tail_behind : Run
+tail_behind =
+    record {
+      setup = record { kind = TwoLock; size = 3; limit = 100 };
+      actors = 3;
+      moves = begin 1 (Enq 5) ++ many 1 6 ++ begin 2 (Enq 6) ++ many 2 6 ++ begin 3 Deq ++ many 3 4 ++ many 1 2 ++ begin 3 Deq ++ many 3 9;
+      history =
+          record { actor = 1; op = Enq 5; first = 1; last = None; at = Some 18; reply = None } ∷
+          record { actor = 2; op = Enq 6; first = 7; last = None; at = None; reply = None } ∷
+          record { actor = 3; op = Deq; first = 13; last = Some 16; at = Some 15; reply = Some Empty } ∷
+          record { actor = 3; op = Deq; first = 19; last = Some 27; at = Some 23; reply = Some (Value (record { from = 1; body = 5 })) } ∷
+          [];
+      facts = holds Tail (ref_word (ref 1 0)) ∷ holds Free (ref_word (ref 1 1)) ∷ [];
+    }
+
+-- an actor stopped with the tail lock: a push gives up, and a pop finds the queue empty
+abbrev pub lock_holder_stopped : Run
+lock_holder_stopped =
+    record {
+      setup = record { kind = TwoLock; size = 3; limit = 100 };
+      actors = 2;
+      moves = begin 1 (Enq 5) ++ many 1 6 ++ begin 2 (Enq 6) ++ many 2 15 ++ give 2 ++ begin 2 Deq ++ many 2 7;
+      history =
+          record { actor = 1; op = Enq 5; first = 1; last = None; at = None; reply = None } ∷
+          record { actor = 2; op = Enq 6; first = 7; last = Some 22; at = Some 22; reply = Some (Refused Busy) } ∷
+          record { actor = 2; op = Deq; first = 23; last = Some 29; at = Some 28; reply = Some Empty } ∷
+          [];
+      facts = [];
+    }
+
+-- the head of the two-lock queue is worn out
+abbrev pub worn_head : Run
+worn_head =
+    record {
+      setup = record { kind = TwoLock; size = 4; limit = 1 };
+      actors = 1;
+      moves = begin 1 (Enq 1) ++ many 1 10 ++ begin 1 (Enq 2) ++ many 1 10 ++ begin 1 Deq ++ many 1 9 ++ begin 1 Deq ++ many 1 5;
+      history =
+          record { actor = 1; op = Enq 1; first = 1; last = Some 10; at = Some 8; reply = Some Done } ∷
+          record { actor = 1; op = Enq 2; first = 11; last = Some 20; at = Some 18; reply = Some Done } ∷
+          record { actor = 1; op = Deq; first = 21; last = Some 29; at = Some 25; reply = Some (Value (record { from = 1; body = 1 })) } ∷
+          record { actor = 1; op = Deq; first = 30; last = Some 34; at = Some 34; reply = Some (Refused (WornOut OfHead)) } ∷
+          [];
+      facts = [];
+    }

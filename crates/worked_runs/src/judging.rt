@@ -1,0 +1,19 @@
+//! Verdicts on histories.
+ghost use Rattle.std.specs.Prelude.{◌≡◌};
+ghost use Rattle.history.specs.declared.operations.Verdict.TheVariants.{Yes, No};
+ghost use Rattle.history.specs.declared.operations.Cause.TheVariants.{Shape, Span, Shared, Reply};
+ghost use Rattle.history.specs.History.{verdict};
+ghost use Rattle.worked_runs.specs.Verdicts.{late_empty, shared_place, outside_span, wrong_empty, no_reply, no_last, no_place, early_place, unfinished};
+
+/// The first fault of each history, by its place in the list.
+pub fn verdicts()
+    ensures late_empty { verdict late_empty ≡ No 1 Reply }
+    ensures shared_place { verdict shared_place ≡ No 2 Shared }
+    ensures outside_span { verdict outside_span ≡ No 1 Span }
+    ensures wrong_empty { verdict wrong_empty ≡ No 2 Reply }
+    ensures no_reply { verdict no_reply ≡ No 1 Shape }
+    ensures no_last { verdict no_last ≡ No 1 Shape }
+    ensures no_place { verdict no_place ≡ No 1 Shape }
+    ensures early_place { verdict early_place ≡ No 1 Span }
+    ensures unfinished { verdict unfinished ≡ Yes }
+{}

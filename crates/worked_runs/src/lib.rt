@@ -1,0 +1,10 @@
+//! Worked runs of the step machine, each computed from its definitions: what the moves lead to, as contracts.
+#![tactic(auto)]
+
+mod judging;
+mod non_blocking;
+mod two_lock;
+
+pub use judging::verdicts;
+pub use non_blocking::{non_blocking_moves_refused, non_blocking_runs};
+pub use two_lock::two_lock_runs;
