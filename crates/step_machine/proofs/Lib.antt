@@ -1,2 +1,10 @@
 pub mod Padding
 pub mod Seen
+pub mod Cases
+pub mod Growth
+pub mod Rooms
+pub mod Making
+pub mod Giving
+pub mod Range
+pub mod Kept
+pub mod Reached

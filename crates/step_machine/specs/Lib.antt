@@ -4,3 +4,6 @@ pub mod Machine
 pub mod Words
 pub mod Places
 pub mod Views
+pub mod Calls
+pub mod Kept
+pub mod Range

@@ -2,6 +2,14 @@
 #![tactic(auto)]
 
 mod actors;
+pub mod laws;
 mod memory;
+mod moving;
+mod outcomes;
+mod settling;
+mod steps;
+mod world;
 
 pub use actors::{Actor, Held, Move, Node, Outcome, Setup, Stepped};
+pub use moving::step_in;
+pub use world::World;
