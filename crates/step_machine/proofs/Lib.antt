@@ -1,2 +1,4 @@
 pub mod Padding
 pub mod Seen
+pub mod StampsLists
+pub mod StampsLines
