@@ -2,3 +2,4 @@ pub mod Padding
 pub mod Seen
 pub mod StampsLists
 pub mod StampsLines
+pub mod StampsKept
