@@ -3,3 +3,4 @@ pub mod Seen
 pub mod StampsLists
 pub mod StampsLines
 pub mod StampsKept
+pub mod StampsMoves
