@@ -4,3 +4,4 @@ pub mod StampsLists
 pub mod StampsLines
 pub mod StampsKept
 pub mod StampsMoves
+pub mod StampsLaws
