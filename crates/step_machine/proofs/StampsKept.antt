@@ -1,27 +1,26 @@
 -- What holds of the operations and of each actor after some moves, and that a numbered move keeps it.
-use Rattle.std.proofs.Common.{◌≡◌, ◌≢◌, ℕ, ◌+◌, ◌-◌, ◌<◌, ◌≤◌, ◌⊎◌, inl, inr, Bool, true, false, nat_eq, if◌then◌else◌, List, [], ◌∷◌, ◌++◌, length, Option, Some, None, IfSome, set, get_or, refl, sym, subst, ap, ◌∙◌, length-append, add-one, arith}
+use Rattle.std.proofs.Common.{◌≡◌, ◌≢◌, ℕ, ◌+◌, ◌-◌, ◌<◌, ◌≤◌, ◌⊎◌, inl, inr, Bool, true, false, nat_eq, if◌then◌else◌, List, [], ◌∷◌, ◌++◌, length, Option, Some, None, IfSome, set, refl, sym, subst, ap, ◌∙◌, length-append, arith}
 use Rattle.std.proofs.lemmas.Bool.{eqb-false}
 use Rattle.std.proofs.lemmas.Option.{none-some, same_Some, slice_get_within, get_or_from_slice_get, IfSome_then}
 use Rattle.std.specs.Prelude.{slice_get, IsSome, IsSomeAnd}
 use Rattle.line_table.specs.declared.lines.Line.{Line}
-use Rattle.history.specs.declared.operations.Op.{Op}
 use Rattle.history.specs.declared.operations.Reply.{Reply}
 use Rattle.history.specs.declared.operations.Stamped.{Stamped}
 use Rattle.step_machine.specs.declared.actors.Actor.{Actor}
 use Rattle.step_machine.specs.declared.actors.Outcome.{Outcome}
 use Rattle.step_machine.specs.Memory.{Shared}
 use Rattle.step_machine.specs.Machine.{World, actor_of, new_operation, last_of, first_settled, told, recorded, entry_or, settled}
-use Rattle.step_machine.specs.Stamps.{IsBy, IsStamped, IsLeft, EndedBefore}
+use Rattle.step_machine.specs.Stamps.{IsBy, IsStamped, HasNoEffect, EndedBefore}
 use Rattle.step_machine.proofs.StampsLists.{PutAt, put_set, put_end, put_cases, by_more, by_next, by_within}
 use Rattle.step_machine.proofs.StampsLines.{Stands, stands_while, GoesOn, Turns}
 
--- an operation is over: it has a last number, or, where actors may rest, was left
+-- an operation is over: it has a last number, or, where actors may rest, no effect
 abbrev pub Over : (Rests : Type 0) → Stamped → Type 0
-Over Rests o = IsSome o.last ⊎ (Rests × IsLeft o)
+Over Rests o = IsSome o.last ⊎ (Rests × HasNoEffect o)
 
 -- an operation stands in the list before another one
 abbrev pub Precedes : (Rests : Type 0) → Stamped → Stamped → Type 0
-Precedes Rests o p = (o.first < p.first) × (o.actor ≡ p.actor → EndedBefore o p.first ⊎ (Rests × IsLeft o))
+Precedes Rests o p = (o.first < p.first) × (o.actor ≡ p.actor → EndedBefore o p.first ⊎ (Rests × HasNoEffect o))
 
 -- the operations of a world whose numbers these makers took
 pub record Operations (Rests : Type 0) (K : List ℕ) (ops : List Stamped) : Type 0 where
@@ -201,7 +200,7 @@ if_both None P Q h g = tt
 if_both (Some n) P Q h g = (h, g)
 
 -- an operation that is over has ended before a number that nobody took yet
-ended_before : (Rests : Type 0) (K : List ℕ) (o : Stamped) (now : ℕ) → length K < now → IsStamped K o → Over Rests o → EndedBefore o now ⊎ (Rests × IsLeft o)
+ended_before : (Rests : Type 0) (K : List ℕ) (o : Stamped) (now : ℕ) → length K < now → IsStamped K o → Over Rests o → EndedBefore o now ⊎ (Rests × HasNoEffect o)
 ended_before Rests K o now low h (inr left) = inr left
 ended_before Rests K o now low h (inl ended) = inl (go o.last ended h.last_own)
   where
@@ -242,9 +241,10 @@ told_first Rests K ops me now a l o e h does idle stands =
     turns = does (Own (K ++ me ∷ []) me now) None (mine, omega arith) tt (stands_while l a.due None (λ no. absurd no) stands)
 
     precedes : (i : ℕ) (p : Stamped) → slice_get ops i ≡ Some p → Precedes Rests p x
-    precedes i p got =
-        (let within : p.first ≤ length K = by_within K p.first p.actor (h.each i p got).first_own in omega arith,
-         λ same. ended_before Rests K p now (omega arith) (h.each i p got) (idle i p got same))
+    precedes i p got = (
+      let within : p.first ≤ length K = by_within K p.first p.actor (h.each i p got).first_own in omega arith,
+      λ same. ended_before Rests K p now (omega arith) (h.each i p got) (idle i p got same),
+    )
 
 -- a later one changes it
 told_later : (Rests : Type 0) (K : List ℕ) (ops : List Stamped) (me now entry : ℕ) (a : Actor) (l : Line) (o : Outcome) (s : Stamped) → now ≡ length K + 1 → Operations Rests K ops → Does now l a.due a.noted o → Busy Rests ops me entry s → Stands l a.due s.at (Own K me s.first a.noted) → Told Rests (K ++ me ∷ []) ops (set ops entry (told now o s)) me entry o.actor

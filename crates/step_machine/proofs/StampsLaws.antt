@@ -1,14 +1,12 @@
 -- The laws of the stamps, from what each list of moves keeps.
-use Rattle.std.proofs.Common.{◌≡◌, ◌≢◌, ℕ, zero, suc, ◌+◌, ◌-◌, ◌<◌, ◌≤◌, ◌⊎◌, inl, inr, List, [], ◌∷◌, length, map, Option, Some, None, IfSome, get_or, refl, sym, subst, ◌∙◌, arith}
+use Rattle.std.proofs.Common.{◌≡◌, ◌≢◌, ℕ, suc, ◌<◌, ◌≤◌, ◌⊎◌, inl, inr, List, [], ◌∷◌, length, map, Option, Some, None, IfSome, get_or, refl, sym, subst, ◌∙◌, arith}
 use Rattle.std.specs.Prelude.{slice_get, IsSomeAnd, AllPairs}
 use Rattle.std.specs.List.{AllByRecursion}
 use Rattle.std.proofs.lemmas.Option.{none-some, IfSome_then, slice_get-get_or}
 use Rattle.history.specs.declared.operations.Stamped.{Stamped}
 use Rattle.history.specs.History.{IsPlaced, AreApart, Placement}
-use Rattle.step_machine.specs.declared.actors.Setup.{Setup}
-use Rattle.step_machine.specs.declared.actors.Move.{Move}
 use Rattle.step_machine.specs.Machine.{World, opening, AnyMove, made, run}
-use Rattle.step_machine.specs.Stamps.{makers, IsBy, IsStamped, IsLeft, BeginsBefore, EndedBefore, DoNotOverlap, DoNotOverlapOrRest, AfterMoves, AfterCalls}
+use Rattle.step_machine.specs.Stamps.{makers, IsBy, IsStamped, HasNoEffect, BeginsBefore, EndedBefore, DoNotOverlap, DoNotOverlapOrRest, AfterMoves, AfterCalls}
 use Rattle.step_machine.proofs.StampsLists.{by_one}
 use Rattle.step_machine.proofs.StampsKept.{Precedes, Kept}
 use Rattle.step_machine.proofs.StampsMoves.{moves_kept, may_rest_all, calls_rest_never}
@@ -46,14 +44,14 @@ operations_stand_by_first_number =
 or_rest : (o p : Stamped) → Precedes (Unit {0}) o p → DoNotOverlapOrRest o p
 or_rest o p h same = go (h.1 same)
   where
-    go : EndedBefore o p.first ⊎ (Unit {0} × IsLeft o) → EndedBefore o p.first ⊎ IsLeft o
+    go : EndedBefore o p.first ⊎ (Unit {0} × HasNoEffect o) → EndedBefore o p.first ⊎ HasNoEffect o
     go (inl ended) = inl ended
     go (inr left) = inr left.1
 
 no_rest : (o p : Stamped) → Precedes ⊥ o p → DoNotOverlap o p
 no_rest o p h same = go (h.1 same)
   where
-    go : EndedBefore o p.first ⊎ (⊥ × IsLeft o) → EndedBefore o p.first
+    go : EndedBefore o p.first ⊎ (⊥ × HasNoEffect o) → EndedBefore o p.first
     go (inl ended) = ended
     go (inr left) = absurd left.0
 
@@ -77,7 +75,7 @@ places_differ o p n not_after not_before = go o.last not_after
 apart : (K : List ℕ) (o p : Stamped) → IsStamped K o → IsStamped K p → Precedes (Unit {0}) o p → (n : ℕ) → o.at ≡ Some n → p.at ≢ Some n
 apart K o p h g pre n e f = go (pre.1 (by_one K n o.actor p.actor (subst (λ z. IfSome z (λ k. IsBy K k o.actor)) e h.at_own) (subst (λ z. IfSome z (λ k. IsBy K k p.actor)) f g.at_own)))
   where
-    go : EndedBefore o p.first ⊎ (Unit {0} × IsLeft o) → ⊥
+    go : EndedBefore o p.first ⊎ (Unit {0} × HasNoEffect o) → ⊥
     go (inl ended) =
         places_differ o p n
         (subst (λ z. IfSome z (λ k. IfSome o.last (λ last. k ≤ last))) e h.placed.not_after)

@@ -1,12 +1,12 @@
 -- Each move keeps what holds of the operations and of the actors, and so does each list of moves.
-use Rattle.std.proofs.Common.{◌≡◌, ◌≢◌, ℕ, zero, suc, ◌+◌, ◌-◌, ◌<◌, ◌≤◌, ◌⊎◌, inl, inr, Bool, true, false, if◌then◌else◌, List, [], ◌∷◌, ◌++◌, length, map, replicate, Option, Some, None, IfSome, refl, sym, subst, ap, ◌∙◌, append_assoc, append-nil, arith}
+use Rattle.std.proofs.Common.{◌≡◌, ◌≢◌, ℕ, zero, suc, ◌+◌, ◌-◌, ◌⊎◌, inl, inr, Bool, true, false, if◌then◌else◌, List, [], ◌∷◌, ◌++◌, map, replicate, Option, Some, None, IfSome, refl, sym, subst, ap, ◌∙◌, append_assoc, append-nil}
 use Rattle.std.specs.Prelude.{slice_get}
 use Rattle.std.specs.List.{AllByRecursion}
 use Rattle.std.proofs.lemmas.Option.{none-some, same_Some}
 use Rattle.line_table.specs.declared.lines.Kind.{Kind}
 use Rattle.line_table.specs.declared.lines.Kind.TheVariants.{TwoLock, NonBlocking}
 use Rattle.line_table.specs.declared.lines.Line.{Line}
-use Rattle.line_table.specs.declared.lines.Line.TheVariants.{N1, N2, N3, N4, N5, F1, F2, F3, E2, E3, E5, E6, E7, E9, E13, E17, D2, D3, D4, D5, D10, D12, D13, A1, A2, A3, A4, A5, A6, A7, B1, B2, B3, B4, B5, B6}
+use Rattle.line_table.specs.declared.lines.Line.TheVariants.{F1, E2, A1}
 use Rattle.history.specs.declared.operations.Op.{Op}
 use Rattle.history.specs.declared.operations.Op.TheVariants.{Enq, Deq}
 use Rattle.history.specs.declared.operations.Reply.{Reply}
@@ -17,12 +17,12 @@ use Rattle.step_machine.specs.declared.actors.Actor.{Actor}
 use Rattle.step_machine.specs.declared.actors.Outcome.{Outcome}
 use Rattle.step_machine.specs.declared.actors.Move.{Move}
 use Rattle.step_machine.specs.declared.actors.Move.TheVariants.{Begin, Step, Give}
-use Rattle.step_machine.specs.Memory.{found, performed}
+use Rattle.step_machine.specs.Memory.{found}
 use Rattle.step_machine.specs.Lines.{action, gives_up}
-use Rattle.step_machine.specs.Machine.{World, idle, opening, actor_of, is_call, from_pocket, begun, rested, with_actor, begins, steps, given, gives, rests, moved, mover, next, rest_of, AnyMove, made, Rest, next_any, run_on, run}
-use Rattle.step_machine.specs.Stamps.{numbered_by, makers, IsStamped, IsLeft}
+use Rattle.step_machine.specs.Machine.{World, idle, opening, actor_of, is_call, from_pocket, begun, rested, with_actor, begins, steps, given, gives, rests, moved, mover, rest_of, AnyMove, made, Rest, next_any, run_on, run}
+use Rattle.step_machine.specs.Stamps.{makers, HasNoEffect}
 use Rattle.step_machine.proofs.StampsLines.{Stands, Turns, turned, given_turned}
-use Rattle.step_machine.proofs.StampsKept.{Over, Operations, Idle, Busy, Own, Knows, Kept, Does, actor_stands, actor_cases, settled_kept}
+use Rattle.step_machine.proofs.StampsKept.{Over, Idle, Knows, Kept, actor_stands, actor_cases, settled_kept}
 use Rattle.step_machine.proofs.StampsLists.{same_or_not}
 
 -- the makers after one more move
@@ -98,7 +98,7 @@ left_over : (Rests : Type 0) (K : List ℕ) (ops : List Stamped) (me : ℕ) (due
 left_over Rests K ops me due noted rest l none None k = k.0
 left_over Rests K ops me due noted rest l none (Some e) k = λ i p got own. pick i p got own (same_or_not i e)
   where
-    left : IsLeft k.0
+    left : HasNoEffect k.0
     left = record { no_last = k.1.no_last; no_place = none k.0.at _ k.2; no_reply = k.1.no_reply }
 
     pick : (i : ℕ) (p : Stamped) → slice_get ops i ≡ Some p → p.actor ≡ me → (i ≡ e) ⊎ (i ≢ e) → Over Rests p

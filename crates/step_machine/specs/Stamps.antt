@@ -1,6 +1,5 @@
 -- What the stamps of operations name: numbers of their actors' own moves, one operation of an actor after the other.
-use Rattle.std.specs.Prelude.{◌≡◌, ℕ, ◌-◌, ◌<◌, ◌≤◌, ◌⊎◌, List, [], ◌∷◌, ◌++◌, map, Option, Some, None, IfSome, IsSomeAnd, slice_get}
-use Rattle.history.specs.declared.operations.Reply.{Reply}
+use Rattle.std.specs.Prelude.{◌≡◌, ℕ, ◌-◌, ◌<◌, ◌≤◌, ◌⊎◌, List, [], ◌∷◌, ◌++◌, map, Some, None, IfSome, IsSomeAnd, slice_get}
 use Rattle.history.specs.declared.operations.Stamped.{Stamped}
 use Rattle.history.specs.History.{IsPlaced}
 use Rattle.step_machine.specs.declared.actors.Setup.{Setup}
@@ -42,8 +41,8 @@ BeginsBefore o p = o.first < p.first
 abbrev pub EndedBefore : Stamped → (number : ℕ) → Type 0
 EndedBefore o number = IsSomeAnd o.last (λ last. last < number)
 
--- an operation that never ends, and has no effect: it has no last number, no place and no reply
-pub record IsLeft (o : Stamped) : Type 0 where
+-- an operation that neither ended nor took effect: it has no last number, no place and no reply
+pub record HasNoEffect (o : Stamped) : Type 0 where
   pub no_last : o.last ≡ None
   pub no_place : o.at ≡ None
   pub no_reply : o.reply ≡ None
@@ -52,9 +51,9 @@ pub record IsLeft (o : Stamped) : Type 0 where
 abbrev pub DoNotOverlap : Stamped → Stamped → Type 0
 DoNotOverlap o p = o.actor ≡ p.actor → EndedBefore o p.first
 
--- the same where actors may rest: else the first one was left without effect
+-- the same where actors may rest: else the first one has no effect
 abbrev pub DoNotOverlapOrRest : Stamped → Stamped → Type 0
-DoNotOverlapOrRest o p = o.actor ≡ p.actor → EndedBefore o p.first ⊎ IsLeft o
+DoNotOverlapOrRest o p = o.actor ≡ p.actor → EndedBefore o p.first ⊎ HasNoEffect o
 
 -- a fact holds of every list of moves and the world that it leads to
 abbrev pub AfterMoves : (List AnyMove → World → Type 0) → Type 0
