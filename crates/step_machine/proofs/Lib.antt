@@ -8,3 +8,8 @@ pub mod Giving
 pub mod Range
 pub mod Kept
 pub mod Reached
+pub mod StampsLists
+pub mod StampsLines
+pub mod StampsKept
+pub mod StampsMoves
+pub mod StampsLaws

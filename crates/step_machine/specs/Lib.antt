@@ -7,3 +7,4 @@ pub mod Views
 pub mod Calls
 pub mod Kept
 pub mod Range
+pub mod Stamps

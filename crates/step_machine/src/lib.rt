@@ -7,6 +7,7 @@ mod memory;
 mod moving;
 mod outcomes;
 mod settling;
+pub mod stamping;
 mod steps;
 mod world;
 
