@@ -1,2 +1,5 @@
 pub mod Queue
 pub mod History
+pub mod Devices
+pub mod Scripts
+pub mod Streams
