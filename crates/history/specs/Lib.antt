@@ -3,3 +3,5 @@ pub mod History
 pub mod Devices
 pub mod Scripts
 pub mod Streams
+pub mod Blocks
+pub mod HistoryText
