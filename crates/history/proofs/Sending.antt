@@ -65,8 +65,11 @@ Sends-all a b text held e p = record { sent = text; taken = p; whole = ap (λ l.
 
 -- the sink gave up within what was held back of a text
 pub TakesBeginning-held : (a b c : Option (List ℕ)) (text held : List ℕ) → Sends a b text held → TakesBeginning b c held → TakesBeginning a c text
-TakesBeginning-held a b c text held s t = (t.0, record {
-  sent = s.sent ++ t.1.sent;
-  taken = Appends-trans a b c s.sent t.1.sent s.taken t.1.taken;
-  whole = append_assoc s.sent t.1.sent t.0 ∙ ap (λ l. s.sent ++ l) t.1.whole ∙ s.whole;
-})
+TakesBeginning-held a b c text held s t = (
+  t.0,
+  record {
+    sent = s.sent ++ t.1.sent;
+    taken = Appends-trans a b c s.sent t.1.sent s.taken t.1.taken;
+    whole = append_assoc s.sent t.1.sent t.0 ∙ ap (λ l. s.sent ++ l) t.1.whole ∙ s.whole;
+  },
+)

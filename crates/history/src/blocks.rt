@@ -45,11 +45,14 @@ impl Block {
     /// It takes no memory. It is refused by `Write` where a call of the sink fails or takes nothing; the
     /// block is then of no further use.
     pub fn put<W: Sink>(&mut self, sink: &mut W, bytes: &[u8]) -> Result<(), Refusal>
-        ensures ok { OnOk result (Sends (W.contents sink.old) (W.contents sink.new) (self.old ++ bytes.now) self.new) }
+        ensures ok { OnOk result (Sends (W.contents sink.old) (W.contents sink.new)
+            (self.old ++ bytes.now) self.new) }
         ensures quiet { OnOk result (W.failures sink.new ≡ W.failures sink.old) }
         ensures only_write { IfErr result (λ why. why ≡ Refusal.Write) }
-        ensures beginning { OnErr result (TakesBeginning (W.contents sink.old) (W.contents sink.new) (self.old ++ bytes.now)) }
-        ensures cause { OnErr result (GivesUp (W.failures sink.old) (W.failures sink.new) (W.is_full sink.new)) }
+        ensures beginning { OnErr result (TakesBeginning (W.contents sink.old) (W.contents sink.new)
+            (self.old ++ bytes.now)) }
+        ensures cause { OnErr result (GivesUp (W.failures sink.old) (W.failures sink.new)
+            (W.is_full sink.new)) }
     {
         if bytes.len() > BLOCK - self.len {
             self.empty(sink)?;
@@ -67,7 +70,8 @@ impl Block {
         ensures quiet { OnOk result (W.failures sink.new ≡ W.failures sink.old) }
         ensures only_write { IfErr result (λ why. why ≡ Refusal.Write) }
         ensures beginning { OnErr result (TakesBeginning (W.contents sink.old) (W.contents sink.new) self) }
-        ensures cause { OnErr result (GivesUp (W.failures sink.old) (W.failures sink.new) (W.is_full sink.new)) }
+        ensures cause { OnErr result (GivesUp (W.failures sink.old) (W.failures sink.new)
+            (W.is_full sink.new)) }
     {
         write_all(sink, self.held())
     }
@@ -84,8 +88,10 @@ impl Block {
         ensures emptied { OnOk result (self.new ≡ []) }
         ensures quiet { OnOk result (W.failures sink.new ≡ W.failures sink.old) }
         ensures only_write { IfErr result (λ why. why ≡ Refusal.Write) }
-        ensures beginning { OnErr result (TakesBeginning (W.contents sink.old) (W.contents sink.new) self.old) }
-        ensures cause { OnErr result (GivesUp (W.failures sink.old) (W.failures sink.new) (W.is_full sink.new)) }
+        ensures beginning { OnErr result (TakesBeginning (W.contents sink.old) (W.contents sink.new)
+            self.old) }
+        ensures cause { OnErr result (GivesUp (W.failures sink.old) (W.failures sink.new)
+            (W.is_full sink.new)) }
     {
         write_all(sink, self.held())?;
         self.len = 0;
@@ -107,8 +113,10 @@ fn write_all<W: Sink>(sink: &mut W, bytes: &[u8]) -> Result<(), Refusal>
     ensures ok { OnOk result (Appends (W.contents sink.old) (W.contents sink.new) bytes.now) }
     ensures quiet { OnOk result (W.failures sink.new ≡ W.failures sink.old) }
     ensures only_write { IfErr result (λ why. why ≡ Refusal.Write) }
-    ensures beginning { OnErr result (TakesBeginning (W.contents sink.old) (W.contents sink.new) bytes.now) }
-    ensures cause { OnErr result (GivesUp (W.failures sink.old) (W.failures sink.new) (W.is_full sink.new)) }
+    ensures beginning { OnErr result (TakesBeginning (W.contents sink.old) (W.contents sink.new)
+        bytes.now) }
+    ensures cause { OnErr result (GivesUp (W.failures sink.old) (W.failures sink.new)
+        (W.is_full sink.new)) }
 {
     let mut rest = bytes;
     while !rest.is_empty() {

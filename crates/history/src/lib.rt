@@ -9,6 +9,8 @@ mod printing;
 mod refusals;
 mod scripts;
 mod streams;
+#[cfg(test)]
+mod tests;
 
 pub use blocks::{BLOCK, Block};
 pub use devices::{Sink, Source};

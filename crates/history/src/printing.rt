@@ -2,7 +2,8 @@
 ghost use Rattle.std.specs.Prelude.{◌≡◌, ◌+◌, ◌≤◌, ◌++◌, length, OnOk, IfErr, OnErr};
 ghost use Rattle.std.specs.Io.KnownBytes.{Appends};
 ghost use Rattle.history.specs.Blocks.{TakesBeginning, GivesUp};
-ghost use Rattle.history.specs.HistoryText.{call_text, step_text, refusal_text, reply_text, operation_text, header_text, history_text};
+ghost use Rattle.history.specs.HistoryText.{call_text, step_text, refusal_text, reply_text};
+ghost use Rattle.history.specs.HistoryText.{operation_text, header_text, history_text};
 
 use crate::blocks::Block;
 use crate::devices::Sink;
@@ -17,11 +18,14 @@ use crate::refusals::{Refusal, WornWord};
 /// beginning of the text is written then. A reader takes the text back where each actor is 1 or more,
 /// each step is, and each refusal is one that a queue answers.
 pub fn print_history<W: Sink>(history: &[Stamped], writer: &mut W) -> Result<(), Refusal>
-    ensures ok { OnOk result (Appends (W.contents writer.old) (W.contents writer.new) (history_text history.now)) }
+    ensures ok { OnOk result (Appends (W.contents writer.old) (W.contents writer.new)
+        (history_text history.now)) }
     ensures quiet { OnOk result (W.failures writer.new ≡ W.failures writer.old) }
     ensures only_write { IfErr result (λ why. why ≡ Refusal.Write) }
-    ensures beginning { OnErr result (TakesBeginning (W.contents writer.old) (W.contents writer.new) (history_text history.now)) }
-    ensures cause { OnErr result (GivesUp (W.failures writer.old) (W.failures writer.new) (W.is_full writer.new)) }
+    ensures beginning { OnErr result (TakesBeginning (W.contents writer.old) (W.contents writer.new)
+        (history_text history.now)) }
+    ensures cause { OnErr result (GivesUp (W.failures writer.old) (W.failures writer.new)
+        (W.is_full writer.new)) }
 {
     let mut block = Block::new();
     block.put(writer, header_line(history.len() as u64).as_slice())?;

@@ -9,6 +9,6 @@ loop-rest-preserved g c =
     let count = c.in-Ok.count in
     record {
       sends = Sends-more _ _ _ _ rest (take count rest) _ c.loop-rest.invariant.sends c.in-Ok.ensures.bytes
-        (sym (take-append-drop count rest) ∙ ap (λ xs. take count rest ++ xs) (sym (take_rest rest count)));
+          (sym (take-append-drop count rest) ∙ ap (λ xs. take count rest ++ xs) (sym (take_rest rest count)));
       quiet = c.in-Ok.ensures.failures ∙ c.loop-rest.invariant.quiet;
     }

@@ -20,7 +20,7 @@ returns-in_err-put-2-clause-beginning g c =
     let i = c.loop-operation.operation-index in
     let t = rw (c.as_slice-in-loop-operation.ensures, c.operation_line.ensures) at c.in_err-put-2.ensures.beginning in
     let u = rw (rows_more operation_text head c.args.history.now i c.operation-item.result c.loop-operation-test.true c.operation-item.is)
-      at (TakesBeginning-trans _ _ _ _ _ _ c.loop-operation.invariant.sends t) in
+    at (TakesBeginning-trans _ _ _ _ _ _ c.loop-operation.invariant.sends t) in
     let v = rw (rows_rest operation_text head c.args.history.now (i + 1)) at (TakesBeginning-longer _ _ _ (flat_map operation_text (drop (i + 1) c.args.history.now)) u) in
     rw p.1 v
 
@@ -31,7 +31,7 @@ loop-operation-preserved g c =
     let t = rw (c.as_slice-in-loop-operation.ensures, c.operation_line.ensures) at c.in_ok-put-2.ensures.ok in
     record {
       sends = rw (rows_more operation_text head c.args.history.now i c.operation-item.result c.loop-operation-test.true c.operation-item.is)
-        at (Sends-trans _ _ _ _ _ _ _ c.loop-operation.invariant.sends t);
+          at (Sends-trans _ _ _ _ _ _ _ c.loop-operation.invariant.sends t);
       quiet = c.in_ok-put-2.ensures.quiet ∙ c.loop-operation.invariant.quiet;
     }
 
