@@ -2,6 +2,7 @@ pub mod Queue
 pub mod History
 pub mod Devices
 pub mod Scripts
-pub mod Streams
+pub mod Readers
+pub mod Writers
 pub mod Blocks
 pub mod HistoryText

@@ -73,7 +73,8 @@ impl Block {
         ensures cause { OnErr result (GivesUp (W.failures sink.old) (W.failures sink.new)
             (W.is_full sink.new)) }
     {
-        write_all(sink, self.held())
+        let rest = self.held();
+        write_all(sink, rest)
     }
 
     fn held(&self) -> &[u8]

@@ -6,17 +6,19 @@ mod devices;
 mod lines;
 mod operations;
 mod printing;
+mod readers;
 mod refusals;
 mod scripts;
-mod streams;
 #[cfg(test)]
 mod tests;
+mod writers;
 
 pub use blocks::{BLOCK, Block};
 pub use devices::{Sink, Source};
 pub use lines::{LINE_ROOM, Line};
 pub use operations::{Body, Cause, Entry, Op, Reply, Stamped, Taken, Verdict};
 pub use printing::print_history;
+pub use readers::{MOST_BYTES, ReaderSource};
 pub use refusals::{Refusal, TextCause, WornWord};
 pub use scripts::{Script, Trouble};
-pub use streams::{MOST_BYTES, ReaderSource, WriterSink};
+pub use writers::WriterSink;

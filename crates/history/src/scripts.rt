@@ -37,8 +37,8 @@ pub struct Script {
 }
 
 impl Script {
-    ghost use Rattle.std.specs.Prelude.{◌≡◌, ◌<◌, [], IfOk};
-    ghost use Rattle.history.specs.Scripts.{left_of, written_of, failures_of, IsFresh, SameDevice};
+    ghost use Rattle.std.specs.Prelude.{◌≡◌, ◌+◌, ◌<◌, [], IfOk};
+    ghost use Rattle.history.specs.Scripts.{left_of, written_of, failures_of, failures_in, IsFresh, SameBytes, SameDevice};
 
     /// A script that gives these bytes, at most `piece` of them a call, and takes none.
     ///
@@ -107,11 +107,20 @@ impl Script {
         self.written.as_slice()
     }
 
-    /// How many of its calls answered an error. It takes no memory.
-    pub fn failures(&self) -> u64
-        ensures { result ≡ failures_of self.now }
+    // What is planned for this call. A failure is counted; one that the count has no room for is left out.
+    fn meets(&mut self) -> Option<Trouble>
+        ensures counted { failures_of self.new ≡ failures_of self.old + failures_in result }
+        ensures others { SameBytes self.old self.new }
     {
-        self.failures
+        let (trouble, plan) = due(self.plan);
+        self.plan = plan;
+        if trouble == Some(Trouble::Failure) {
+            if self.failures == u64::MAX {
+                return None;
+            }
+            self.failures += 1;
+        }
+        trouble
     }
 }
 
@@ -179,10 +188,7 @@ impl Source for Script {
     ghost has_ended = { λ s. s.ended };
 
     fn read(&mut self, into: &mut [u8]) -> io::Result<usize> {
-        let (trouble, plan) = due(self.plan);
-        self.plan = plan;
-        if trouble == Some(Trouble::Failure) && self.failures < u64::MAX {
-            self.failures += 1;
+        if self.meets() == Some(Trouble::Failure) {
             return Err(io::Error::from(ErrorKind::Other));
         }
         let count = copied(self.left(), into, self.piece);
@@ -205,16 +211,10 @@ impl Sink for Script {
     ghost is_full = { λ s. s.full };
 
     fn write(&mut self, bytes: &[u8]) -> io::Result<usize> {
-        let (trouble, plan) = due(self.plan);
-        self.plan = plan;
-        if trouble == Some(Trouble::Failure) && self.failures < u64::MAX {
-            self.failures += 1;
-            return Err(io::Error::from(ErrorKind::Other));
-        }
-        let count = if trouble == Some(Trouble::Standstill) {
-            0
-        } else {
-            kept(bytes, &mut self.written, self.piece)
+        let count = match self.meets() {
+            Some(Trouble::Failure) => return Err(io::Error::from(ErrorKind::Other)),
+            Some(Trouble::Standstill) => 0,
+            None => kept(bytes, &mut self.written, self.piece),
         };
         if !bytes.is_empty() {
             self.full = count == 0;

@@ -143,7 +143,6 @@ fn a_script_gives_its_bytes_in_pieces(rt: HostRuntime) -> Result<(), Fail> {
     assert_eq!(rt; reader.read(&mut into)?, 2);
     assert_eq!(rt; into, *b"ab\0");
     assert!(rt; reader.read(&mut into).is_err());
-    assert_eq!(rt; reader.failures(), 1);
     assert_eq!(rt; reader.left(), b"cde".as_slice());
     assert_eq!(rt; reader.read(&mut into)?, 2);
     assert_eq!(rt; reader.read(&mut into)?, 1);

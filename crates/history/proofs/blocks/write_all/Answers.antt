@@ -1,4 +1,4 @@
-use Rattle.std.proofs.Common.{◌∙◌, take, length, arith, sym, ap, ◌++◌, take-append-drop}
+use Rattle.std.proofs.Common.{◌∙◌, take, sym, ap, ◌++◌, take-append-drop}
 use Rattle.std.proofs.lemmas.List.{take_rest}
 use Rattle.history.proofs.Sending.{Sends-more}
 use Rattle.history.proofs.blocks.write_all.Goals as goal

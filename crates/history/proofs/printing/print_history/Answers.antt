@@ -1,7 +1,6 @@
-use Rattle.std.proofs.Common.{◌≡◌, ◌+◌, ◌++◌, List, ℕ, length, take, drop, ◌∙◌, sym, ap, arith, subst}
+use Rattle.std.proofs.Common.{◌+◌, length, drop, ◌∙◌}
 use Rattle.std.specs.List.{flat_map}
 use Rattle.std.proofs.lemmas.Result.{err_from_is_err_and, on_err_weaker}
-use Rattle.history.specs.Blocks.{Sends, TakesBeginning}
 use Rattle.history.specs.HistoryText.{header_text, operation_text}
 use Rattle.history.proofs.Sending.{Sends-trans, TakesBeginning-longer, TakesBeginning-trans, TakesBeginning-held}
 use Rattle.history.proofs.Rows.{rows_more, rows_rest, rows_all}

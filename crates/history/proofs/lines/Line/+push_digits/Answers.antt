@@ -1,4 +1,4 @@
-use Rattle.std.proofs.Common.{◌≡◌, ◌≤◌, ◌<◌, ◌+◌, ◌++◌, [], ◌∷◌, ◌/◌, ◌%◌, decimal, length, arith, ap, ◌∙◌, sym, append_assoc, length-append}
+use Rattle.std.proofs.Common.{◌+◌, ◌++◌, [], ◌∷◌, ◌/◌, ◌%◌, decimal, length, arith, ap, ◌∙◌, sym, append_assoc, length-append}
 use Rattle.std.proofs.lemmas.Fmt.{decimal_digit, decimal_step, decimal_nonempty}
 use Rattle.history.proofs.lines.Line.+push_digits.Goals as goal
 

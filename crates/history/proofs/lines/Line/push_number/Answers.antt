@@ -1,4 +1,4 @@
-use Rattle.std.proofs.Common.{◌≤◌, ◌<◌, ◌^◌, length, decimal, arith, ap, length-append}
+use Rattle.std.proofs.Common.{◌≤◌, length, decimal, arith, ap, length-append}
 use Rattle.std.proofs.lemmas.Fmt.{length-decimal-le}
 use Rattle.history.proofs.lines.Line.push_number.Goals as goal
 

@@ -1,7 +1,7 @@
-//! The readers and writers of std as sources and sinks, for a program's files and standard streams.
-use crate::devices::{Sink, Source};
+//! The readers of std as sources, for a program's files and its standard input.
+use crate::devices::Source;
 use std::io;
-use std::io::{ErrorKind, Read, Write};
+use std::io::{ErrorKind, Read};
 
 /// How many bytes a reader gives before it fails: 2^40.
 pub const MOST_BYTES: u64 = 1_099_511_627_776;
@@ -19,7 +19,7 @@ pub struct ReaderSource<R> {
 }
 
 impl<R> ReaderSource<R> {
-    ghost use Rattle.history.specs.Streams.{IsUnread};
+    ghost use Rattle.history.specs.Readers.{IsUnread};
 
     /// A source of this reader's bytes, of at most 2^40 of them.
     pub fn new(inner: R) -> ReaderSource<R>
@@ -68,55 +68,6 @@ impl<R: Read> Source for ReaderSource<R> {
                     self.ended = *count == 0;
                 }
             }
-            Err(_) => self.failures += 1,
-        }
-        answer
-    }
-}
-
-/// A writer of std as a sink, with no buffer of its own. It takes no memory.
-///
-/// Once 2^64 - 1 calls have failed, it takes nothing more.
-#[derive(Debug, Drop)]
-pub struct WriterSink<W> {
-    inner: W,
-    failures: u64,
-    full: bool,
-}
-
-impl<W> WriterSink<W> {
-    ghost use Rattle.history.specs.Streams.{IsUnwritten};
-
-    /// A sink that hands its bytes to this writer.
-    pub fn new(inner: W) -> WriterSink<W>
-        ensures { IsUnwritten result inner }
-    {
-        WriterSink {
-            inner,
-            failures: 0,
-            full: false,
-        }
-    }
-}
-
-impl<W: Write> Sink for WriterSink<W> {
-    ghost use Rattle.std.specs.Prelude.{None};
-
-    ghost contents = { λ _. None };
-
-    ghost failures = { λ s. s.failures };
-
-    ghost is_full = { λ s. s.full };
-
-    fn write(&mut self, bytes: &[u8]) -> io::Result<usize> {
-        let answer = if self.failures == u64::MAX {
-            Ok(0)
-        } else {
-            self.inner.write(bytes)
-        };
-        match &answer {
-            Ok(count) if !bytes.is_empty() => self.full = *count == 0,
-            Ok(_) => {}
             Err(_) => self.failures += 1,
         }
         answer
