@@ -6,3 +6,4 @@ pub mod Readers
 pub mod Writers
 pub mod Blocks
 pub mod HistoryText
+pub mod Causes

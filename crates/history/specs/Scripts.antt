@@ -1,5 +1,5 @@
 -- What a script of the tests holds, as its fields have it.
-use Rattle.std.specs.Prelude.{◌≡◌, ℕ, false, List, [], Option, Some, None, drop}
+use Rattle.std.specs.Prelude.{◌≡◌, ℕ, false, List, [], Option, Some, None, drop, vec_capacity}
 use Rattle.history.specs.declared.scripts.Script.{Script}
 use Rattle.history.specs.declared.scripts.Trouble.{Trouble}
 use Rattle.history.specs.declared.scripts.Trouble.TheVariants.{Failure, Standstill}
@@ -16,9 +16,20 @@ written_of script = script.written.items
 abbrev pub failures_of : Script → ℕ
 failures_of script = script.failures
 
--- a script is as new, with these bytes to give: it took none, no call failed, and it told nothing
-pub record IsFresh (script : Script) (bytes : List ℕ) : Type 0 where
+-- how many bytes a script takes in all
+abbrev pub room_of : Script → ℕ
+room_of script = vec_capacity script.written
+
+-- a script is to have this trouble after this many further calls
+abbrev pub IsDue : Script → Trouble → ℕ → Type 0
+IsDue script trouble calls = script.plan ≡ Some (record { trouble = trouble; calls_before = calls })
+
+-- a script is as new, with these bytes to give and this room: it took none, no call failed, and it told nothing
+pub record IsFresh (script : Script) (bytes : List ℕ) (room piece : ℕ) : Type 0 where
   pub left : left_of script ≡ bytes
+  pub takes : room_of script ≡ room
+  pub moves : script.piece ≡ piece
+  pub plan : script.plan ≡ None
   pub written : written_of script ≡ []
   pub failures : failures_of script ≡ 0
   pub ended : script.ended ≡ false

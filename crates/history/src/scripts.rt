@@ -37,15 +37,15 @@ pub struct Script {
 }
 
 impl Script {
-    ghost use Rattle.std.specs.Prelude.{◌≡◌, ◌+◌, ◌<◌, [], IfOk};
-    ghost use Rattle.history.specs.Scripts.{left_of, written_of, failures_of, failures_in, IsFresh, SameBytes, SameDevice};
+    ghost use Rattle.std.specs.Prelude.{◌≡◌, ◌+◌, ◌-◌, ◌<◌, [], IfOk, vec_capacity};
+    ghost use Rattle.history.specs.Scripts.{left_of, written_of, failures_of, failures_in, IsDue, IsFresh, SameBytes, SameDevice};
 
     /// A script that gives these bytes, at most `piece` of them a call, and takes none.
     ///
     /// It answers an error where the memory for a copy of them is refused.
     pub fn reader(alloc: Global, bytes: &[u8], piece: usize) -> Result<Script, AllocError>
         requires { 0 < piece }
-        ensures { IfOk result (λ script. IsFresh script bytes.now) }
+        ensures { IfOk result (λ script. IsFresh script bytes.now 0 piece) }
     {
         let given = Vec::from_slice(alloc, bytes)?;
         Ok(Script::over(given, Vec::new(alloc), piece))
@@ -56,7 +56,7 @@ impl Script {
     /// It answers an error where the memory for that room is refused; its writes then take none.
     pub fn writer(alloc: Global, room: usize, piece: usize) -> Result<Script, AllocError>
         requires { 0 < piece }
-        ensures { IfOk result (λ script. IsFresh script []) }
+        ensures { IfOk result (λ script. IsFresh script [] room piece) }
     {
         let written = Vec::with_capacity(alloc, room)?;
         Ok(Script::over(Vec::new(alloc), written, piece))
@@ -65,7 +65,7 @@ impl Script {
     fn over(given: Vec<u8>, written: Vec<u8>, piece: usize) -> Script
         requires empty { written.items ≡ [] }
         requires moves { 0 < piece }
-        ensures { IsFresh result given.items }
+        ensures { IsFresh result given.items (vec_capacity written) piece }
     {
         Script {
             given,
@@ -83,7 +83,8 @@ impl Script {
     /// of any trouble that was set before. It takes no memory.
     pub fn with(mut self, trouble: Trouble, call: u64) -> Script
         requires { 0 < call }
-        ensures { SameDevice self result }
+        ensures planned { IsDue result trouble (call - 1) }
+        ensures others { SameDevice self result }
     {
         let calls_before = call - 1;
         self.plan = Some(Plan {
