@@ -1,2 +1,5 @@
 pub mod Padding
 pub mod Seen
+pub mod Range
+pub mod Kept
+pub mod Reached

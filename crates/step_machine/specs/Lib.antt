@@ -4,3 +4,4 @@ pub mod Machine
 pub mod Words
 pub mod Places
 pub mod Views
+pub mod Range

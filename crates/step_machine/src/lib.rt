@@ -2,6 +2,7 @@
 #![tactic(auto)]
 
 mod actors;
+pub mod laws;
 mod memory;
 
 pub use actors::{Actor, Held, Move, Node, Outcome, Setup, Stepped};

@@ -1,0 +1,399 @@
+-- Every world that is reached has its numbers in range.
+use Rattle.std.proofs.Common.{◌≡◌, ℕ, ◌+◌, ◌-◌, ◌^◌, ◌<◌, ◌≤◌, Bool, true, false, nat_eq, if◌then◌else◌, Option, Some, None, IfSome, List, [], ◌∷◌, ◌++◌, map, length, slice_get, get_or, refl, sym, subst, ap, ◌∙◌, arith}
+use Rattle.std.proofs.Math.ListN.{length-set, length-replicate}
+use Rattle.std.proofs.lemmas.Bool.{eqb-false, ltb-true}
+use Rattle.std.proofs.lemmas.List.{map-append}
+use Rattle.std.proofs.lemmas.List.Elements.{All-set, All-replicate}
+use Rattle.std.proofs.lemmas.Option.{none-some, slice_get_within, get_or_from_slice_get}
+use Rattle.std.specs.List.{All}
+use Rattle.counted_ref.specs.Ref.{null}
+use Rattle.line_table.specs.declared.lines.Kind.{Kind}
+use Rattle.line_table.specs.declared.lines.Kind.TheVariants.{TwoLock, NonBlocking}
+use Rattle.line_table.specs.declared.lines.Line.{Line}
+use Rattle.line_table.specs.declared.lines.Line.TheVariants.{N1, N5, F1, E2, A1}
+use Rattle.history.specs.declared.operations.Op.{Op}
+use Rattle.history.specs.declared.operations.Op.TheVariants.{Enq, Deq}
+use Rattle.step_machine.specs.declared.actors.Setup.{Setup}
+use Rattle.step_machine.specs.declared.actors.Actor.{Actor}
+use Rattle.step_machine.specs.declared.actors.Held.{Held}
+use Rattle.step_machine.specs.declared.actors.Outcome.{Outcome}
+use Rattle.step_machine.specs.declared.actors.Move.{Move}
+use Rattle.step_machine.specs.declared.actors.Move.TheVariants.{Begin, Step, Give}
+use Rattle.step_machine.specs.Memory.{blank, Shared, word, found, performed}
+use Rattle.step_machine.specs.Lines.{action, dequeues, gives_up}
+use Rattle.step_machine.specs.Machine.{World, idle, opening, actor_of, is_call, from_pocket, begun, rested, aside_after, with_actor, settled, stepped, begins, steps, given, gives, may_rest, rests, moved, mover, next, rest_of, AnyMove, made, Rest, next_any, run_on, run, IsSized, IsReached, IsMade}
+use Rattle.step_machine.specs.Range.{RefInRange, NodeInRange, SharedInRange, HeldInRange, RegistersInRange, LineInRange, ActorInRange, WorldInRange}
+use Rattle.step_machine.proofs.Range.{content_weakens, registers_weaken, pocket_weakens, actor_weakens, writes, found_in_range, Accessed, performed_in_range}
+use Rattle.step_machine.proofs.Kept.{Kept, Wins, kept, with_held, given_up_kept}
+
+-- a world of so many actors is in range
+record Holds (k : ℕ) (w : World) : Type 0 where
+  number : length w.actors ≡ k
+  sized : IsSized w.setup k
+  shared : SharedInRange w.setup k w.shared
+  actors : All (ActorInRange w.setup w.shared.fresh k) w.actors
+  all_flags : length w.aside ≡ w.setup.size
+
+holds : (w : World) → WorldInRange w → Holds (length w.actors) w
+holds w h = record { number = refl; sized = h.sized; shared = h.shared; actors = h.actors; all_flags = h.all_flags }
+
+in_range : (k : ℕ) (w : World) → Holds k w → WorldInRange w
+in_range k w h =
+    let e : k ≡ length w.actors = sym h.number in
+    record {
+      sized = subst (IsSized w.setup) e h.sized;
+      shared = subst (λ j. SharedInRange w.setup j w.shared) e h.shared;
+      actors = subst (λ j. All (ActorInRange w.setup w.shared.fresh j) w.actors) e h.actors;
+      all_flags = h.all_flags;
+    }
+
+-- what holds wherever there is something holds in an option
+if_some : {X : Type 0} (P : X → Type 0) (o : Option X) → ((x : X) → o ≡ Some x → P x) → IfSome o P
+if_some P None f = tt
+if_some P (Some x) f = f x refl
+
+some_of : {X : Type 0} (P : X → Type 0) (o : Option X) (x : X) → o ≡ Some x → IfSome o P → P x
+some_of P o x e h = subst (λ p. IfSome p P) e h
+
+-- the actor of a number is the one that stands there
+there : (w : World) (me : ℕ) (a : Actor) → actor_of w me ≡ Some a → (1 ≤ me) × (slice_get w.actors (me - 1) ≡ Some a)
+there w me a e = go (nat_eq me 0) refl e
+  where
+    go : (b : Bool) → nat_eq me 0 ≡ b → (if b then None else slice_get w.actors (me - 1)) ≡ Some a → (1 ≤ me) × (slice_get w.actors (me - 1) ≡ Some a)
+    go true z f = absurd (none-some a f)
+    go false z f = let ne : ¬ (me ≡ 0) = eqb-false me 0 z in (omega arith, f)
+
+-- the number of an actor that is there is from 1 up to the number of actors
+pub mover_in_range : (w : World) (me : ℕ) (a : Actor) → actor_of w me ≡ Some a → (1 ≤ me) × (me ≤ length w.actors)
+mover_in_range w me a e =
+    let t : (1 ≤ me) × (slice_get w.actors (me - 1) ≡ Some a) = there w me a e in
+    let p : 1 ≤ me = t.0 in
+    let within : me - 1 < length w.actors = slice_get_within w.actors (me - 1) a t.1 in
+    (p, omega arith)
+
+-- what holds of each actor holds of the actor of a number
+pub actor_of-All : (P : Actor → Type 0) (w : World) (me : ℕ) (a : Actor) → All P w.actors → actor_of w me ≡ Some a → P a
+actor_of-All P w me a h e =
+    let t : (1 ≤ me) × (slice_get w.actors (me - 1) ≡ Some a) = there w me a e in
+    subst P (get_or_from_slice_get w.actors (me - 1) a a t.1) (h (me - 1) a (slice_get_within w.actors (me - 1) a t.1))
+
+-- each actor of a world in range is in range
+pub actor_in_range : (w : World) (me : ℕ) (a : Actor) → WorldInRange w → actor_of w me ≡ Some a → ActorInRange w.setup w.shared.fresh (length w.actors) a
+actor_in_range w me a h e = actor_of-All (ActorInRange w.setup w.shared.fresh (length w.actors)) w me a h.actors e
+
+-- a step sets flags and changes no number of them
+flags_kept : (flags : List Bool) (node : Option ℕ) → length (aside_after flags node) ≡ length flags
+flags_kept flags None = refl
+flags_kept flags (Some n) = length-set flags (n - 1) true
+
+settled_holds : (k : ℕ) (w : World) (me : ℕ) (a : Actor) (m : Shared) (o : Outcome) → Holds k w → SharedInRange w.setup k m → w.shared.fresh ≤ m.fresh → Kept w.setup m.fresh k o → Holds k (settled w me a m o)
+settled_holds k w me a m o h g rises c =
+    record {
+      number = length-set w.actors (me - 1) _ ∙ h.number;
+      sized = h.sized;
+      shared = g;
+      actors =
+          All-set (ActorInRange w.setup m.fresh k) w.actors (me - 1) _ (record { registers = c.registers; pocket = c.pocket; line = c.line })
+          (λ j d b. actor_weakens w.setup w.shared.fresh m.fresh k (get_or w.actors j d) rises (h.actors j d b));
+      all_flags = flags_kept w.aside o.aside ∙ h.all_flags;
+    }
+
+-- a line that wins a node that was never used makes it the last one used
+won : (s : Setup) (me : ℕ) (m : Shared) (a : Actor) (l : Line) → Wins s (performed (action s me a l) m).fresh 0 me a l (found (action s me a l) m)
+won s me m a N5 = λ e. go (nat_eq m.fresh a.f) e
+  where
+    go : (b : Bool) → b ≡ true → a.f + 1 ≤ (if b then record m { fresh = a.f + 1 } else m).fresh
+    go true e = omega arith
+    go false e = cc
+won s me m a _ = tt
+
+stepped_holds : (k : ℕ) (w : World) (me : ℕ) (a : Actor) (l : Line) → Holds k w → me ≤ k → ActorInRange w.setup w.shared.fresh k a → LineInRange w.setup.size a.f (Some l) → Holds k (stepped w me a l)
+stepped_holds k w me a l h i g n =
+    let x : Accessed w.setup k w.shared (performed (action w.setup me a l) w.shared) =
+    performed_in_range w.setup k w.shared (action w.setup me a l) h.shared (writes w.setup k me w.shared a l i g.registers n) in
+    settled_holds k w me a (performed (action w.setup me a l) w.shared) _ h x.range x.rises
+    (kept w.setup (performed (action w.setup me a l) w.shared).fresh k (w.steps + 1) me a l _
+    (registers_weaken w.setup w.shared.fresh _ k a x.rises g.registers)
+    (pocket_weakens w.setup.limit w.shared.fresh _ a.pocket x.rises g.pocket)
+    (won w.setup me w.shared a l)
+    (content_weakens w.setup w.shared.fresh _ k (word (action w.setup me a l)) _ x.rises (found_in_range w.setup k w.shared (word (action w.setup me a l)) h.shared)))
+
+with_actor_holds : (k : ℕ) (w : World) (me : ℕ) (a : Actor) → Holds k w → ActorInRange w.setup w.shared.fresh k a → Holds k (with_actor w me a)
+with_actor_holds k w me a h g =
+    record {
+      number = length-set w.actors (me - 1) a ∙ h.number;
+      sized = h.sized;
+      shared = h.shared;
+      actors = All-set (ActorInRange w.setup w.shared.fresh k) w.actors (me - 1) a g h.actors;
+      all_flags = h.all_flags;
+    }
+
+from_pocket_in_range : (s : Setup) (n k : ℕ) (l : Line) (p : Option Held) (a : Actor) → ((f : ℕ) → LineInRange s.size f (Some l)) → IfSome p (HeldInRange s.limit n) → ActorInRange s n k a → ActorInRange s n k (from_pocket l p a)
+from_pocket_in_range s n k l None a free p g = g
+from_pocket_in_range s n k l (Some held) a free p g =
+    record { registers = with_held s n k a held.node held.mark g.registers p.node p.mark; pocket = tt; line = free a.f }
+
+-- an actor that begins an enqueue with an empty pocket, and one that begins a dequeue
+enqueue_begun : (s : Setup) (n k me body : ℕ) (a : Actor) → me ≤ k → body < 2 ^ 48 → ActorInRange s n k a → ActorInRange s n k (record a { line = Some N1; op = Enq body; val = record { from = me; body = body }; due = None; entry = None })
+enqueue_begun s n k me body a i b g =
+    let r : RegistersInRange s n k a = g.registers in
+    record {
+      registers = record { op = b; f = r.f; top = r.top; node = r.node; mark = r.mark; tail = r.tail; head = r.head; next = r.next; val = record { from = i; body = b } };
+      pocket = g.pocket;
+      line = tt;
+    }
+
+dequeue_begun : (s : Setup) (n k : ℕ) (kind : Kind) (a : Actor) → ActorInRange s n k a → ActorInRange s n k (record a { line = Some (dequeues kind); op = Deq; due = None; entry = None })
+dequeue_begun s n k TwoLock a g =
+    let r : RegistersInRange s n k a = g.registers in
+    record {
+      registers = record { op = tt; f = r.f; top = r.top; node = r.node; mark = r.mark; tail = r.tail; head = r.head; next = r.next; val = r.val };
+      pocket = g.pocket;
+      line = tt;
+    }
+dequeue_begun s n k NonBlocking a g =
+    let r : RegistersInRange s n k a = g.registers in
+    record {
+      registers = record { op = tt; f = r.f; top = r.top; node = r.node; mark = r.mark; tail = r.tail; head = r.head; next = r.next; val = r.val };
+      pocket = g.pocket;
+      line = tt;
+    }
+
+begun_in_range : (s : Setup) (n k me : ℕ) (kind : Kind) (op : Op) (a : Actor) → me ≤ k → is_call op ≡ true → ActorInRange s n k a → ActorInRange s n k (begun kind me op a)
+begun_in_range s n k me TwoLock (Enq body) a i e g = from_pocket_in_range s n k A1 a.pocket _ (λ f. tt) g.pocket (enqueue_begun s n k me body a i (ltb-true body (2 ^ 48) e) g)
+begun_in_range s n k me NonBlocking (Enq body) a i e g = from_pocket_in_range s n k E2 a.pocket _ (λ f. tt) g.pocket (enqueue_begun s n k me body a i (ltb-true body (2 ^ 48) e) g)
+begun_in_range s n k me kind Deq a i e g = from_pocket_in_range s n k F1 a.pocket _ (λ f. tt) g.pocket (dequeue_begun s n k kind a g)
+
+-- a call that can't be made begins nothing
+begun_or_none : (k : ℕ) (w : World) (me : ℕ) (op : Op) (a : Actor) (b : Bool) → is_call op ≡ b → Holds k w → me ≤ k → ActorInRange w.setup w.shared.fresh k a → IfSome (if b then Some (with_actor w me (begun w.setup.kind me op a)) else None) (Holds k)
+begun_or_none k w me op a true e h i g = with_actor_holds k w me _ h (begun_in_range w.setup w.shared.fresh k me w.setup.kind op a i e g)
+begun_or_none k w me op a false e h i g = tt
+
+begins_holds : (k : ℕ) (w : World) (me : ℕ) (op : Op) (a : Actor) (l : Option Line) → Holds k w → me ≤ k → ActorInRange w.setup w.shared.fresh k a → IfSome (begins w me op a l) (Holds k)
+begins_holds k w me op a None h i g = begun_or_none k w me op a (is_call op) refl h i g
+begins_holds k w me op a (Some l) h i g = tt
+
+steps_holds : (k : ℕ) (w : World) (me : ℕ) (a : Actor) (l : Option Line) → Holds k w → me ≤ k → ActorInRange w.setup w.shared.fresh k a → LineInRange w.setup.size a.f l → IfSome (steps w me a l) (Holds k)
+steps_holds k w me a None h i g n = tt
+steps_holds k w me a (Some l) h i g n = stepped_holds k w me a l h i g n
+
+given_holds : (k : ℕ) (w : World) (me : ℕ) (a : Actor) (o : Option Outcome) → Holds k w → IfSome o (Kept w.setup w.shared.fresh k) → IfSome (given w me a o) (Holds k)
+given_holds k w me a None h c = tt
+given_holds k w me a (Some o) h c = settled_holds k w me a w.shared o h h.shared (omega arith) c
+
+gives_holds : (k : ℕ) (w : World) (me : ℕ) (a : Actor) (l : Option Line) → Holds k w → ActorInRange w.setup w.shared.fresh k a → IfSome (gives w me a l) (Holds k)
+gives_holds k w me a None h g = tt
+gives_holds k w me a (Some l) h g = given_holds k w me a (gives_up (w.steps + 1) a l) h (given_up_kept w.setup w.shared.fresh k (w.steps + 1) a l g.registers g.pocket)
+
+-- an actor that rests has its node in its pocket
+rested_or_none : (k : ℕ) (w : World) (me : ℕ) (a : Actor) (b : Bool) → Holds k w → ActorInRange w.setup w.shared.fresh k a → IfSome (if b then Some (with_actor w me (rested a)) else None) (Holds k)
+rested_or_none k w me a true h g =
+    with_actor_holds k w me (rested a) h
+    (record { registers = g.registers; pocket = record { node = g.registers.node; mark = g.registers.mark }; line = tt })
+rested_or_none k w me a false h g = tt
+
+rests_holds : (k : ℕ) (w : World) (me : ℕ) (a : Actor) (l : Option Line) → Holds k w → ActorInRange w.setup w.shared.fresh k a → IfSome (rests w me a l) (Holds k)
+rests_holds k w me a None h g = tt
+rests_holds k w me a (Some l) h g = rested_or_none k w me a (may_rest l) h g
+
+-- the actor of a number, where it is there
+abbrev Mover : (k : ℕ) (w : World) (me : ℕ) → Actor → Type 0
+Mover k w me a = (me ≤ k) × ActorInRange w.setup w.shared.fresh k a
+
+mover_there : (w : World) (me : ℕ) → WorldInRange w → IfSome (actor_of w me) (Mover (length w.actors) w me)
+mover_there w me h = if_some (Mover (length w.actors) w me) (actor_of w me) (λ a e. ((mover_in_range w me a e).1, actor_in_range w me a h e))
+
+moved_holds : (k : ℕ) (w : World) (m : Move) (a : Option Actor) → Holds k w → IfSome a (Mover k w (mover m)) → IfSome (moved w m a) (Holds k)
+moved_holds k w m None h g = tt
+moved_holds k w (Begin me op) (Some a) h g = begins_holds k w me op a a.line h g.0 g.1
+moved_holds k w (Step me) (Some a) h g = steps_holds k w me a a.line h g.0 g.1 g.1.line
+moved_holds k w (Give me) (Some a) h g = gives_holds k w me a a.line h g.1
+
+rest_of_holds : (k : ℕ) (w : World) (me : ℕ) (a : Option Actor) → Holds k w → IfSome a (Mover k w me) → IfSome (rest_of w me a) (Holds k)
+rest_of_holds k w me None h g = tt
+rest_of_holds k w me (Some a) h g = rests_holds k w me a a.line h g.1
+
+next_any_holds : (k : ℕ) (w : World) (m : AnyMove) → Holds k w → IfSome (next_any w m) (Holds k)
+next_any_holds k w m h = subst (λ j. IfSome (next_any w m) (Holds j)) h.number (go m)
+  where
+    go : (m : AnyMove) → IfSome (next_any w m) (Holds (length w.actors))
+    go (made m) = moved_holds (length w.actors) w m (actor_of w (mover m)) (holds w (in_range k w h)) (mover_there w (mover m) (in_range k w h))
+    go (Rest me) = rest_of_holds (length w.actors) w me (actor_of w me) (holds w (in_range k w h)) (mover_there w me (in_range k w h))
+
+run_on_if : (P : World → Type 0) (more : World → Option World) (o : Option World) → IfSome o P → ((v : World) → P v → IfSome (more v) P) → IfSome (run_on more o) P
+run_on_if P more None g each = tt
+run_on_if P more (Some v) g each = each v g
+
+run_holds : (k : ℕ) (ms : List AnyMove) (w : World) → Holds k w → IfSome (run ms w) (Holds k)
+run_holds k [] w h = h
+run_holds k (m ∷ ms) w h = run_on_if (Holds k) (run ms) (next_any w m) (next_any_holds k w m h) (run_holds k ms)
+
+weaker : {X : Type 0} (P Q : X → Type 0) (o : Option X) → ((x : X) → P x → Q x) → IfSome o P → IfSome o Q
+weaker P Q None f h = tt
+weaker P Q (Some x) f h = f x h
+
+-- any move keeps a world in range
+pub next_any_in_range : (w : World) (m : AnyMove) → WorldInRange w → IfSome (next_any w m) WorldInRange
+next_any_in_range w m h = weaker (Holds (length w.actors)) WorldInRange (next_any w m) (in_range (length w.actors)) (next_any_holds (length w.actors) w m (holds w h))
+
+-- each move that a call makes keeps a world in range
+pub next_in_range : (w : World) (m : Move) → WorldInRange w → IfSome (next w m) WorldInRange
+next_in_range w m h = next_any_in_range w (made m) h
+
+-- a list of moves keeps a world in range
+pub run_in_range : (ms : List AnyMove) (w : World) → WorldInRange w → IfSome (run ms w) WorldInRange
+run_in_range ms w h = weaker (Holds (length w.actors)) WorldInRange (run ms w) (in_range (length w.actors)) (run_holds (length w.actors) ms w (holds w h))
+
+idle_in_range : (s : Setup) (n k : ℕ) → ActorInRange s n k idle
+idle_in_range s n k =
+    let z : RefInRange s.limit n null = record { node = omega arith; count = omega arith } in
+    record {
+      registers = record { op = tt; f = omega arith; top = z; node = omega arith; mark = omega arith; tail = z; head = z; next = z; val = record { from = omega arith; body = omega arith } };
+      pocket = tt;
+      line = tt;
+    }
+
+opening_holds : (s : Setup) (actors : ℕ) → IsSized s actors → Holds actors (opening s actors)
+opening_holds s actors h =
+    let nodes : 2 ≤ s.size = h.nodes in
+    let z : RefInRange s.limit 1 null = record { node = omega arith; count = omega arith } in
+    record {
+      number = length-replicate actors idle;
+      sized = h;
+      shared =
+          record {
+            some_fresh = omega arith;
+            fresh = omega arith;
+            free = z;
+            head = record { node = omega arith; count = omega arith };
+            tail = record { node = omega arith; count = omega arith };
+            tail_lock = omega arith;
+            head_lock = omega arith;
+            nodes = All-replicate (NodeInRange s.limit 1 actors) s.size blank (record { next = z; value = record { from = omega arith; body = omega arith } });
+            all_nodes = length-replicate s.size blank;
+          };
+      actors = All-replicate (ActorInRange s 1 actors) actors idle (idle_in_range s 1 actors);
+      all_flags = length-replicate s.size false;
+    }
+
+-- the world in which nothing happened yet is in range
+pub opening_in_range : (s : Setup) (actors : ℕ) → IsSized s actors → WorldInRange (opening s actors)
+opening_in_range s actors h = in_range actors (opening s actors) (opening_holds s actors h)
+
+reached_holds : (w : World) (r : IsReached w) → Holds r.actors w
+reached_holds w r = some_of (Holds r.actors) (run r.moves (opening w.setup r.actors)) w r.led (run_holds r.actors r.moves (opening w.setup r.actors) (opening_holds w.setup r.actors r.sized))
+
+-- a world that any moves lead to is in range
+pub reached_in_range : (w : World) → IsReached w → WorldInRange w
+reached_in_range w r = in_range r.actors w (reached_holds w r)
+
+-- a world that the calls of a world lead to is one that any moves lead to
+abbrev pub made_reached : (w : World) → IsMade w → IsReached w
+made_reached w m = record { actors = m.actors; moves = map made m.moves; sized = m.sized; led = m.led }
+
+-- a world that the calls of a world lead to is in range
+pub made_in_range : (w : World) → IsMade w → WorldInRange w
+made_in_range w m = reached_in_range w (made_reached w m)
+
+-- no move changes the number of actors
+pub length-actors : (w : World) (r : IsReached w) → length w.actors ≡ r.actors
+length-actors w r = (reached_holds w r).number
+
+pub length-actors_made : (w : World) (m : IsMade w) → length w.actors ≡ m.actors
+length-actors_made w m = length-actors w (made_reached w m)
+
+-- the world in which nothing happened yet is one that no moves lead to
+pub opening_made : (s : Setup) (actors : ℕ) → IsSized s actors → IsMade (opening s actors)
+opening_made s actors h = record { actors = actors; moves = []; sized = h; led = refl }
+
+-- no move changes the setup
+abbrev SameSetup : World → World → Type 0
+SameSetup w v = v.setup ≡ w.setup
+
+begins_setup : (w : World) (me : ℕ) (op : Op) (a : Actor) (l : Option Line) → IfSome (begins w me op a l) (SameSetup w)
+begins_setup w me op a None = go (is_call op)
+  where
+    go : (b : Bool) → IfSome (if b then Some (with_actor w me (begun w.setup.kind me op a)) else None) (SameSetup w)
+    go true = refl
+    go false = tt
+begins_setup w me op a (Some l) = tt
+
+steps_setup : (w : World) (me : ℕ) (a : Actor) (l : Option Line) → IfSome (steps w me a l) (SameSetup w)
+steps_setup w me a None = tt
+steps_setup w me a (Some l) = refl
+
+gives_setup : (w : World) (me : ℕ) (a : Actor) (l : Option Line) → IfSome (gives w me a l) (SameSetup w)
+gives_setup w me a None = tt
+gives_setup w me a (Some l) = go (gives_up (w.steps + 1) a l)
+  where
+    go : (o : Option Outcome) → IfSome (given w me a o) (SameSetup w)
+    go None = tt
+    go (Some o) = refl
+
+rests_setup : (w : World) (me : ℕ) (a : Actor) (l : Option Line) → IfSome (rests w me a l) (SameSetup w)
+rests_setup w me a None = tt
+rests_setup w me a (Some l) = go (may_rest l)
+  where
+    go : (b : Bool) → IfSome (if b then Some (with_actor w me (rested a)) else None) (SameSetup w)
+    go true = refl
+    go false = tt
+
+next_any_setup : (w : World) (m : AnyMove) → IfSome (next_any w m) (SameSetup w)
+next_any_setup w (made m) = go m (actor_of w (mover m))
+  where
+    go : (m : Move) (a : Option Actor) → IfSome (moved w m a) (SameSetup w)
+    go m None = tt
+    go (Begin me op) (Some a) = begins_setup w me op a a.line
+    go (Step me) (Some a) = steps_setup w me a a.line
+    go (Give me) (Some a) = gives_setup w me a a.line
+next_any_setup w (Rest me) = go (actor_of w me)
+  where
+    go : (a : Option Actor) → IfSome (rest_of w me a) (SameSetup w)
+    go None = tt
+    go (Some a) = rests_setup w me a a.line
+
+pub setup-next_any : (w v : World) (m : AnyMove) → next_any w m ≡ Some v → v.setup ≡ w.setup
+setup-next_any w v m e = some_of (SameSetup w) (next_any w m) v e (next_any_setup w m)
+
+pub setup-next : (w v : World) (m : Move) → next w m ≡ Some v → v.setup ≡ w.setup
+setup-next w v m e = setup-next_any w v (made m) e
+
+-- one move more at the end of a list
+run_more : (ms : List AnyMove) (m : AnyMove) (w : World) → run (ms ++ m ∷ []) w ≡ run_on (λ v. next_any v m) (run ms w)
+run_more [] m w = last (next_any w m)
+  where
+    last : (o : Option World) → run_on (run []) o ≡ o
+    last None = refl
+    last (Some v) = refl
+run_more (k ∷ ks) m w = along (next_any w k) (run_more ks m)
+  where
+    along : (o : Option World) → ((v : World) → run (ks ++ m ∷ []) v ≡ run_on (λ u. next_any u m) (run ks v)) → run_on (run (ks ++ m ∷ [])) o ≡ run_on (λ u. next_any u m) (run_on (run ks) o)
+    along None each = refl
+    along (Some v) each = each v
+
+led_on : (w v : World) (k : ℕ) (ms : List AnyMove) (m : AnyMove) → run ms (opening w.setup k) ≡ Some w → next_any w m ≡ Some v → run (ms ++ m ∷ []) (opening v.setup k) ≡ Some v
+led_on w v k ms m r e =
+    let ends : run (ms ++ m ∷ []) (opening w.setup k) ≡ Some v = run_more ms m (opening w.setup k) ∙ ap (run_on (λ u. next_any u m)) r ∙ e in
+    subst (λ s. run (ms ++ m ∷ []) (opening s k) ≡ Some v) (sym (setup-next_any w v m e)) ends
+
+-- any move leads from a world that is reached to one that is reached
+pub reached_next : (w v : World) (m : AnyMove) → IsReached w → next_any w m ≡ Some v → IsReached v
+reached_next w v m r e =
+    record {
+      actors = r.actors;
+      moves = r.moves ++ m ∷ [];
+      sized = subst (λ s. IsSized s r.actors) (sym (setup-next_any w v m e)) r.sized;
+      led = led_on w v r.actors r.moves m r.led e;
+    }
+
+-- each move that a call makes leads from a world that calls made to one that calls made
+pub made_next : (w v : World) (m : Move) → IsMade w → next w m ≡ Some v → IsMade v
+made_next w v m r e =
+    record {
+      actors = r.actors;
+      moves = r.moves ++ m ∷ [];
+      sized = subst (λ s. IsSized s r.actors) (sym (setup-next w v m e)) r.sized;
+      led =
+          subst (λ ms. run ms (opening v.setup r.actors) ≡ Some v) (sym (map-append made r.moves (m ∷ [])))
+          (led_on w v r.actors (map made r.moves) (made m) r.led e);
+    }
