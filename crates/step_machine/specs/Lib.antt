@@ -5,3 +5,4 @@ pub mod Words
 pub mod Places
 pub mod Views
 pub mod Range
+pub mod Tables
