@@ -6,3 +6,7 @@ pub mod Reached
 pub mod Words
 pub mod Tables
 pub mod Fits
+pub mod Keeping
+pub mod Standing
+pub mod Naming
+pub mod Running

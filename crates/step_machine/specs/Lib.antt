@@ -6,3 +6,4 @@ pub mod Places
 pub mod Views
 pub mod Range
 pub mod Tables
+pub mod Standing

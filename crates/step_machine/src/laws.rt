@@ -1,20 +1,14 @@
 //! Laws of the machine, each the contract of a function that does nothing.
 ghost use Rattle.std.specs.Prelude.{◌≡◌, ◌<◌, ◌≤◌, Some};
+ghost use Rattle.line_table.specs.declared.lines.Kind.TheVariants.{TwoLock};
 ghost use Rattle.step_machine.specs.Memory.{Shared, Word, Content, Action, found, word};
 ghost use Rattle.step_machine.specs.Machine.{World, IsReached};
 ghost use Rattle.step_machine.specs.Words.{words_of, index, IsWord};
 ghost use Rattle.step_machine.specs.Range.{WorldInRange};
-ghost use Rattle.step_machine.specs.Tables.{
-  place_of,
-  place_step,
-  ContentFits,
-  SharedFits,
-  ActionFits,
-  IsReadAtItsPlace,
-  IsWrittenAtItsPlace,
-  IsOneStep,
-  OfEachNextAccess,
-};
+ghost use Rattle.step_machine.specs.Standing.{EachRunsItsQueue, EachNamesAWord};
+ghost use Rattle.step_machine.specs.Tables.{place_of, place_step, IsOneStep, OfEachNextAccess};
+ghost use Rattle.step_machine.specs.Tables.{ContentFits, SharedFits, ActionFits};
+ghost use Rattle.step_machine.specs.Tables.{IsReadAtItsPlace, IsWrittenAtItsPlace};
 
 /// All numbers of a world that any moves lead to are in their ranges.
 pub fn reached_worlds_are_in_range()
@@ -48,4 +42,14 @@ pub fn words_determine_contents()
 pub fn contents_fit_their_words()
     ensures held { (w : World) → IsReached w → SharedFits w.shared }
     ensures accessed { (w : World) → IsReached w → OfEachNextAccess w ActionFits }
+{}
+
+/// In a world that any moves lead to, each actor that has a call stands before a line of its queue.
+pub fn actors_stand_before_lines_of_their_queue()
+    ensures { (w : World) → IsReached w → EachRunsItsQueue w }
+{}
+
+/// In a world of the two-lock queue that any moves lead to, the next access of each actor names a word of the table.
+pub fn accesses_name_words_two_lock()
+    ensures { (w : World) → IsReached w → w.setup.kind ≡ TwoLock → EachNamesAWord w }
 {}
