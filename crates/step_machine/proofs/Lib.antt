@@ -13,3 +13,10 @@ pub mod StampsLines
 pub mod StampsKept
 pub mod StampsMoves
 pub mod StampsLaws
+pub mod Words
+pub mod Tables
+pub mod Fits
+pub mod Keeping
+pub mod Standing
+pub mod Naming
+pub mod Running

@@ -48,11 +48,11 @@ in_range k w h =
     }
 
 -- what holds wherever there is something holds in an option
-if_some : {X : Type 0} (P : X → Type 0) (o : Option X) → ((x : X) → o ≡ Some x → P x) → IfSome o P
+pub if_some : {X : Type 0} (P : X → Type 0) (o : Option X) → ((x : X) → o ≡ Some x → P x) → IfSome o P
 if_some P None f = tt
 if_some P (Some x) f = f x refl
 
-some_of : {X : Type 0} (P : X → Type 0) (o : Option X) (x : X) → o ≡ Some x → IfSome o P → P x
+pub some_of : {X : Type 0} (P : X → Type 0) (o : Option X) (x : X) → o ≡ Some x → IfSome o P → P x
 some_of P o x e h = subst (λ p. IfSome p P) e h
 
 -- the actor of a number is the one that stands there
@@ -220,7 +220,7 @@ next_any_holds k w m h = subst (λ j. IfSome (next_any w m) (Holds j)) h.number 
     go (made m) = moved_holds (length w.actors) w m (actor_of w (mover m)) (holds w (in_range k w h)) (mover_there w (mover m) (in_range k w h))
     go (Rest me) = rest_of_holds (length w.actors) w me (actor_of w me) (holds w (in_range k w h)) (mover_there w me (in_range k w h))
 
-run_on_if : (P : World → Type 0) (more : World → Option World) (o : Option World) → IfSome o P → ((v : World) → P v → IfSome (more v) P) → IfSome (run_on more o) P
+pub run_on_if : (P : World → Type 0) (more : World → Option World) (o : Option World) → IfSome o P → ((v : World) → P v → IfSome (more v) P) → IfSome (run_on more o) P
 run_on_if P more None g each = tt
 run_on_if P more (Some v) g each = each v g
 

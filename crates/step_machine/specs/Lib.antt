@@ -8,3 +8,5 @@ pub mod Calls
 pub mod Kept
 pub mod Range
 pub mod Stamps
+pub mod Tables
+pub mod Standing

@@ -1,8 +1,55 @@
 //! Laws of the machine, each the contract of a function that does nothing.
+ghost use Rattle.std.specs.Prelude.{◌≡◌, ◌<◌, ◌≤◌, Some};
+ghost use Rattle.line_table.specs.declared.lines.Kind.TheVariants.{TwoLock};
+ghost use Rattle.step_machine.specs.Memory.{Shared, Word, Content, Action, found, word};
 ghost use Rattle.step_machine.specs.Machine.{World, IsReached};
+ghost use Rattle.step_machine.specs.Words.{words_of, index, IsWord};
 ghost use Rattle.step_machine.specs.Range.{WorldInRange};
+ghost use Rattle.step_machine.specs.Standing.{EachRunsItsQueue, EachNamesAWord};
+ghost use Rattle.step_machine.specs.Tables.{place_of, place_step, IsOneStep, OfEachNextAccess};
+ghost use Rattle.step_machine.specs.Tables.{ContentFits, SharedFits, ActionFits};
+ghost use Rattle.step_machine.specs.Tables.{IsReadAtItsPlace, IsWrittenAtItsPlace};
 
 /// All numbers of a world that any moves lead to are in their ranges.
 pub fn reached_worlds_are_in_range()
     ensures { (w : World) → IsReached w → WorldInRange w }
+{}
+
+/// What a word holds stands at its place of the table, as a number.
+pub fn reading_a_word_is_reading_its_place()
+    ensures { (s : Shared) (x : Word) → IsWord s x → IsReadAtItsPlace s x }
+{}
+
+/// A word that is written changes its place of the table and no other one.
+pub fn writing_a_word_is_writing_its_place()
+    ensures { (s : Shared) (x : Word) (c : Content x) → IsWord s x → IsWrittenAtItsPlace s x c }
+{}
+
+/// An access, whose contents fit their words, is one atomic step on the place of the word that it names.
+pub fn an_access_is_one_step_on_its_place()
+    ensures step { (s : Shared) (a : Action) → IsWord s (word a) → ContentFits (word a) (found a s) →
+        ActionFits a → IsOneStep s a }
+    ensures place { (a : Action) → place_of (place_step a) ≡ index (word a) }
+{}
+
+/// Shared words whose contents fit, and whose tables are the same, hold the same.
+pub fn words_determine_contents()
+    ensures { (a b : Shared) → SharedFits a → SharedFits b → words_of a ≡ words_of b → a ≡ b }
+{}
+
+/// In a world that any moves lead to, what the words hold fits them, and so does what the next access of an actor
+/// compares and writes.
+pub fn contents_fit_their_words()
+    ensures held { (w : World) → IsReached w → SharedFits w.shared }
+    ensures accessed { (w : World) → IsReached w → OfEachNextAccess w ActionFits }
+{}
+
+/// In a world that any moves lead to, each actor that has a call stands before a line of its queue.
+pub fn actors_stand_before_lines_of_their_queue()
+    ensures { (w : World) → IsReached w → EachRunsItsQueue w }
+{}
+
+/// In a world of the two-lock queue that any moves lead to, the next access of each actor names a word of the table.
+pub fn accesses_name_words_two_lock()
+    ensures { (w : World) → IsReached w → w.setup.kind ≡ TwoLock → EachNamesAWord w }
 {}

@@ -1,0 +1,82 @@
+-- The table of numbers that holds the shared words: one atomic step on one of its places, and which contents fit it.
+use Rattle.std.specs.Prelude.{◌≡◌, ℕ, ◌^◌, ◌<◌, List, nat_eq, Some, slice_index_or, slice_set, bit_and, if◌then◌else◌}
+use Rattle.counted_ref.specs.Ref.{IsRef, count_mask}
+use Rattle.line_table.specs.declared.lines.Line.{Line}
+use Rattle.history.specs.declared.operations.Taken.{Taken}
+use Rattle.step_machine.specs.declared.actors.Actor.{Actor}
+use Rattle.step_machine.specs.Memory.{Shared, Word, Fresh, Free, Head, Tail, Tail_lock, Head_lock, Next, Value_of, Content, content, put, Action, load, store, clear, exchange, performed}
+use Rattle.step_machine.specs.Lines.{action}
+use Rattle.step_machine.specs.Machine.{World, actor_of}
+use Rattle.step_machine.specs.Words.{encoded, words_of, index}
+
+-- one atomic step on a place of a table: a load, a store, a fetch_and, or a compare-exchange
+pub data PlaceStep : Type 0 where
+  load_at : (place : ℕ) → PlaceStep
+  store_at : (place word : ℕ) → PlaceStep
+  and_at : (place mask : ℕ) → PlaceStep
+  exchange_at : (place old new : ℕ) → PlaceStep
+
+-- the place of a step
+abbrev pub place_of : PlaceStep → ℕ
+place_of (load_at p) = p
+place_of (store_at p w) = p
+place_of (and_at p mask) = p
+place_of (exchange_at p old new) = p
+
+-- the table after a step
+abbrev pub table_after : PlaceStep → List ℕ → List ℕ
+table_after (load_at p) ws = ws
+table_after (store_at p w) ws = slice_set ws p w
+table_after (and_at p mask) ws = slice_set ws p (bit_and (slice_index_or ws p 0) mask)
+table_after (exchange_at p old new) ws = if nat_eq (slice_index_or ws p 0) old then slice_set ws p new else ws
+
+-- the step of an access
+abbrev pub place_step : Action → PlaceStep
+place_step (load x) = load_at (index x)
+place_step (store x c) = store_at (index x) (encoded x c)
+place_step (clear n) = and_at (index (Next n)) count_mask
+place_step (exchange x old new) = exchange_at (index x) (encoded x old) (encoded x new)
+
+-- a value fits a word: its actor 16 bits, its body 48
+pub record ValueFits (v : Taken) : Type 0 where
+  pub from : v.from < 2 ^ 16
+  pub body : v.body < 2 ^ 48
+
+-- a content fits a word of 64 bits
+abbrev pub ContentFits : (x : Word) → Content x → Type 0
+ContentFits Fresh n = n < 2 ^ 64
+ContentFits Free r = IsRef r
+ContentFits Head r = IsRef r
+ContentFits Tail r = IsRef r
+ContentFits Tail_lock n = n < 2 ^ 64
+ContentFits Head_lock n = n < 2 ^ 64
+ContentFits (Next n) r = IsRef r
+ContentFits (Value_of n) v = ValueFits v
+
+-- each content of the shared words fits its word
+abbrev pub SharedFits : Shared → Type 0
+SharedFits s = (x : Word) → ContentFits x (content x s)
+
+-- what an access compares and writes fits the word that it names
+abbrev pub ActionFits : Action → Type 0
+ActionFits (load x) = Unit {0}
+ActionFits (store x c) = ContentFits x c
+ActionFits (clear n) = Unit {0}
+ActionFits (exchange x old new) = ContentFits x old × ContentFits x new
+
+-- reading the word is reading the number at its place of the table
+abbrev pub IsReadAtItsPlace : Shared → Word → Type 0
+IsReadAtItsPlace s x = slice_index_or (words_of s) (index x) 0 ≡ encoded x (content x s)
+
+-- writing a content into the word is writing its number at the word's place of the table
+abbrev pub IsWrittenAtItsPlace : Shared → (x : Word) → Content x → Type 0
+IsWrittenAtItsPlace s x c = words_of (put x c s) ≡ slice_set (words_of s) (index x) (encoded x c)
+
+-- an access makes of the table what its one step on one place makes of it
+abbrev pub IsOneStep : Shared → Action → Type 0
+IsOneStep s a = words_of (performed a s) ≡ table_after (place_step a) (words_of s)
+
+-- this is so of the next access of each actor that has a call
+abbrev pub OfEachNextAccess : World → (Action → Type 0) → Type 0
+OfEachNextAccess w P =
+    (me : ℕ) (a : Actor) (l : Line) → actor_of w me ≡ Some a → a.line ≡ Some l → P (action w.setup me a l)
