@@ -1,8 +1,24 @@
 //! Operations of a queue, their histories, and the readers and writers of texts.
 #![tactic(auto)]
 
+mod blocks;
+mod devices;
+mod lines;
 mod operations;
+mod printing;
+mod readers;
 mod refusals;
+mod scripts;
+#[cfg(test)]
+mod tests;
+mod writers;
 
+pub use blocks::{BLOCK, Block};
+pub use devices::{Sink, Source};
+pub use lines::{LINE_ROOM, Line};
 pub use operations::{Body, Cause, Entry, Op, Reply, Stamped, Taken, Verdict};
+pub use printing::print_history;
+pub use readers::{MOST_BYTES, ReaderSource};
 pub use refusals::{Refusal, TextCause, WornWord};
+pub use scripts::{Script, Trouble};
+pub use writers::WriterSink;

@@ -16,6 +16,11 @@ pub enum WornWord {
 }
 
 impl fmt::Display for WornWord {
+    ghost use Rattle.std.specs.Prelude.{Some};
+    ghost use Rattle.history.specs.HistoryText.{word_text};
+
+    ghost output = { λ word. Some (word_text word) };
+
     fn fmt<W: fmt::Write>(&self, f: &mut fmt::Formatter<W>) -> fmt::Result {
         f.write_str(match self {
             WornWord::Free => "Free",
@@ -40,6 +45,11 @@ pub enum TextCause {
 }
 
 impl fmt::Display for TextCause {
+    ghost use Rattle.std.specs.Prelude.{Some};
+    ghost use Rattle.history.specs.Causes.{cause_text};
+
+    ghost output = { λ cause. Some (cause_text cause) };
+
     fn fmt<W: fmt::Write>(&self, f: &mut fmt::Formatter<W>) -> fmt::Result {
         f.write_str(match self {
             TextCause::End => "End",

@@ -1,7 +1,10 @@
 //! The kinds of queue, the lines of their table with the lines' names, and the table itself.
 #![tactic(auto)]
 
+pub mod laws;
 mod lines;
 mod table;
+#[cfg(test)]
+mod tests;
 
 pub use lines::{Kind, Line, Section};

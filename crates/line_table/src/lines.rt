@@ -1,5 +1,9 @@
 //! The two queues, the lines that have a step, and the sections of their table.
-ghost use Rattle.std.specs.Prelude.{◌≡◌};
+ghost use Rattle.std.specs.Prelude.{◌≡◌, ◌≢◌, ◌↔◌, IsNone, IfSome};
+ghost use Rattle.std.specs.List.{find};
+ghost use Rattle.std.specs.Str.{bytes_eq};
+ghost use Rattle.line_table.specs.declared.lines.Line.{Line};
+ghost use Rattle.line_table.specs.Names.{name_of};
 ghost use Rattle.line_table.specs.Sections.{section_of};
 
 use crate::line_table;
@@ -71,10 +75,18 @@ pub enum Section {
     LockedDequeue,
 }
 
+// An array of the lines.
+macro_rules! listed {
+    (() $($name:ident $access:tt $then:tt)*) => {
+        [$(Line::$name),*]
+    };
+}
+
+// A match of a line with an arm for each name.
 macro_rules! names {
-    (($line:expr) $($name:ident $text:literal {$($access:tt)*} {$($then:tt)*})*) => {
+    (($line:expr) $($name:ident $access:tt $then:tt)*) => {
         match $line {
-            $(Line::$name => $text,)*
+            $(Line::$name => stringify!($name),)*
         }
     };
 }
@@ -89,14 +101,20 @@ macro_rules! sections {
     (@next $line:ident $arms:tt [$section:ident $variant:ident $($rest:tt)*]) => {
         line_table!((s s s s s) sections ($line $arms $variant [$($rest)*]) [$section])
     };
-    (($line:ident [$($arms:tt)*] $variant:ident $rest:tt) $($name:ident $text:literal $access:tt $then:tt)*) => {
+    (($line:ident [$($arms:tt)*] $variant:ident $rest:tt) $($name:ident $access:tt $then:tt)*) => {
         sections!(@next $line [$($arms)* $(Line::$name)|* => Section::$variant,] $rest)
     };
 }
 
 impl Line {
-    /// The name of the line.
-    pub fn name(self) -> &'static str {
+    /// Every line, in the order of the table.
+    pub const ALL: [Line; 36] =
+        line_table!((s s s s s) listed () [new_node free enqueue dequeue locked_enqueue locked_dequeue]);
+
+    /// The name of the line. Takes no memory.
+    pub fn name(self) -> &'static str
+        ensures { result.now ≡ name_of self }
+    {
         line_table!((s s s s s) names (self) [new_node free enqueue dequeue locked_enqueue locked_dequeue])
     }
 
@@ -114,4 +132,23 @@ impl Line {
             locked_dequeue LockedDequeue
         ])
     }
+
+    /// The line of this name, or none where no line has it. Takes no memory.
+    pub fn of_name(name: &[u8]) -> Option<Line>
+        ensures exact { (line : Line) → (result ≡ Some line) ↔ (name.now ≡ name_of line) }
+        ensures found { IfSome result (λ line. name.now ≡ name_of line) }
+        ensures none { IsNone result → (line : Line) → name.now ≢ name_of line }
+    {
+        first_named(&Line::ALL, name)
+    }
+}
+
+// The first of these lines that has this name.
+fn first_named(lines: &[Line], name: &[u8]) -> Option<Line>
+    ensures { result ≡ find (λ line. bytes_eq (name_of line) name.now) lines.now }
+{
+    lines
+        .iter()
+        .copied()
+        .find(|line| line.name().as_bytes() == name)
 }

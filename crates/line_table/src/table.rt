@@ -3,11 +3,10 @@
 /// Hands rows of the line table to a macro.
 ///
 /// `line_table!((setup now me a found) each given [section ..])` becomes `each! { given ROW .. }` with the rows of
-/// the sections named, in their order. A row is `LINE "LINE" {access} {then}`: the name, the name as text, the one
-/// access of one shared word, and what the actor does with what the access found. The two columns read the
-/// identifiers handed in: `setup` (the kind, the number of nodes and the greatest count), `now` (the number of the
-/// step), `me` (the actor's number), `a` (its registers) and `found` (what the access found). All other names are
-/// looked up where the macro is used.
+/// the sections named, in their order. A row is `LINE {access} {then}`: the line, its one access of one shared word,
+/// and what the actor does with what the access found. The two columns read the identifiers handed in: `setup` (the
+/// kind, the number of nodes and the greatest count), `now` (the number of the step), `me` (the actor's number), `a`
+/// (its registers) and `found` (what the access found). All other names are looked up where the macro is used.
 ///
 /// The sections are `new_node`, `free`, `enqueue`, `dequeue`, `locked_enqueue` and `locked_dequeue`.
 #[macro_export]
@@ -21,10 +20,10 @@ macro_rules! line_table {
     // A new node, in both queues.
     (@rows ($setup:ident $now:ident $me:ident $a:ident $found:ident) $each:ident $given:tt [new_node $($section:ident)*] [$($rows:tt)*]) => {
         $crate::line_table!(@rows ($setup $now $me $a $found) $each $given [$($section)*] [$($rows)*
-            N1 "N1" { load Fresh } {
+            N1 { load Fresh } {
                 goes(Line::N2, Actor { f: $found, ..$a })
             }
-            N2 "N2" { load Free } {
+            N2 { load Free } {
                 let a = Actor { top: $found, ..$a };
                 if a.top.is_null() {
                     if a.f < $setup.size {
@@ -38,17 +37,17 @@ macro_rules! line_table {
                     goes(Line::N3, a)
                 }
             }
-            N3 "N3" { load Next($a.top.node()) } {
+            N3 { load Next($a.top.node()) } {
                 goes(Line::N4, Actor { next: $found, ..$a })
             }
-            N4 "N4" { exchange Free ($a.top, raised($setup, $a.top, $a.next.node())) } {
+            N4 { exchange Free ($a.top, raised($setup, $a.top, $a.next.node())) } {
                 if $found.same($a.top) {
                     goes(with_node($setup.kind), takes($a.top.node(), $a.next.count(), $a))
                 } else {
                     goes(Line::N1, $a)
                 }
             }
-            N5 "N5" { exchange Fresh ($a.f, $a.f + 1) } {
+            N5 { exchange Fresh ($a.f, $a.f + 1) } {
                 if $found == $a.f {
                     goes(with_node($setup.kind), takes($a.f + 1, 0, $a))
                 } else {
@@ -60,7 +59,7 @@ macro_rules! line_table {
     // A node goes to the free list, in both queues.
     (@rows ($setup:ident $now:ident $me:ident $a:ident $found:ident) $each:ident $given:tt [free $($section:ident)*] [$($rows:tt)*]) => {
         $crate::line_table!(@rows ($setup $now $me $a $found) $each $given [$($section)*] [$($rows)*
-            F1 "F1" { load Free } {
+            F1 { load Free } {
                 let a = Actor { top: $found, ..$a };
                 if $found.count() == $setup.limit {
                     sets_aside(freed($setup.kind, $now, a.due, a))
@@ -68,10 +67,10 @@ macro_rules! line_table {
                     goes(Line::F2, a)
                 }
             }
-            F2 "F2" { store Next($a.node) (CountedRef::new($a.top.node(), $a.mark)) } {
+            F2 { store Next($a.node) (CountedRef::new($a.top.node(), $a.mark)) } {
                 goes(Line::F3, $a)
             }
-            F3 "F3" { exchange Free ($a.top, raised($setup, $a.top, $a.node)) } {
+            F3 { exchange Free ($a.top, raised($setup, $a.top, $a.node)) } {
                 if $found.same($a.top) {
                     freed($setup.kind, $now, $a.due, lets_go($a))
                 } else {
@@ -83,10 +82,10 @@ macro_rules! line_table {
     // The enqueue of the non-blocking queue.
     (@rows ($setup:ident $now:ident $me:ident $a:ident $found:ident) $each:ident $given:tt [enqueue $($section:ident)*] [$($rows:tt)*]) => {
         $crate::line_table!(@rows ($setup $now $me $a $found) $each $given [$($section)*] [$($rows)*
-            E2 "E2" { store Value($a.node) ($a.val) } {
+            E2 { store Value($a.node) ($a.val) } {
                 goes(Line::E3, $a)
             }
-            E3 "E3" { clear Next($a.node) } {
+            E3 { clear Next($a.node) } {
                 let a = Actor { mark: $found.count(), ..$a };
                 if a.mark == $setup.limit {
                     sets_aside(worn($now, WornWord::Next, a))
@@ -94,13 +93,13 @@ macro_rules! line_table {
                     goes(Line::E5, a)
                 }
             }
-            E5 "E5" { load Tail } {
+            E5 { load Tail } {
                 goes(Line::E6, Actor { tail: $found, ..$a })
             }
-            E6 "E6" { load Next($a.tail.node()) } {
+            E6 { load Next($a.tail.node()) } {
                 goes(Line::E7, Actor { next: $found, ..$a })
             }
-            E7 "E7" { load Tail } {
+            E7 { load Tail } {
                 if $found.same($a.tail) {
                     if $a.next.is_null() {
                         goes(Line::E9, $a)
@@ -113,7 +112,7 @@ macro_rules! line_table {
                     goes(Line::E5, $a)
                 }
             }
-            E9 "E9" { exchange Next($a.tail.node()) ($a.next, raised($setup, $a.next, $a.node)) } {
+            E9 { exchange Next($a.tail.node()) ($a.next, raised($setup, $a.next, $a.node)) } {
                 if $found.same($a.next) {
                     let a = lets_go(Actor { due: Some(Reply::Done), ..$a });
                     if a.tail.count() == $setup.limit {
@@ -125,10 +124,10 @@ macro_rules! line_table {
                     goes(Line::E5, $a)
                 }
             }
-            E13 "E13" { exchange Tail ($a.tail, raised($setup, $a.tail, $a.next.node())) } {
+            E13 { exchange Tail ($a.tail, raised($setup, $a.tail, $a.next.node())) } {
                 goes(Line::E5, $a)
             }
-            E17 "E17" { exchange Tail ($a.tail, raised($setup, $a.tail, $a.node)) } {
+            E17 { exchange Tail ($a.tail, raised($setup, $a.tail, $a.node)) } {
                 ends($now, Reply::Done, $a)
             }
         ])
@@ -136,16 +135,16 @@ macro_rules! line_table {
     // The dequeue of the non-blocking queue.
     (@rows ($setup:ident $now:ident $me:ident $a:ident $found:ident) $each:ident $given:tt [dequeue $($section:ident)*] [$($rows:tt)*]) => {
         $crate::line_table!(@rows ($setup $now $me $a $found) $each $given [$($section)*] [$($rows)*
-            D2 "D2" { load Head } {
+            D2 { load Head } {
                 goes(Line::D3, Actor { head: $found, ..$a })
             }
-            D3 "D3" { load Tail } {
+            D3 { load Tail } {
                 goes(Line::D4, Actor { tail: $found, ..$a })
             }
-            D4 "D4" { load Next($a.head.node()) } {
+            D4 { load Next($a.head.node()) } {
                 goes(Line::D5, Actor { next: $found, noted: $now, ..$a })
             }
-            D5 "D5" { load Head } {
+            D5 { load Head } {
                 if $found.same($a.head) {
                     if $a.head.node() == $a.tail.node() {
                         if $a.next.is_null() {
@@ -162,10 +161,10 @@ macro_rules! line_table {
                     goes(Line::D2, $a)
                 }
             }
-            D10 "D10" { exchange Tail ($a.tail, raised($setup, $a.tail, $a.next.node())) } {
+            D10 { exchange Tail ($a.tail, raised($setup, $a.tail, $a.next.node())) } {
                 goes(Line::D2, $a)
             }
-            D12 "D12" { load Value($a.next.node()) } {
+            D12 { load Value($a.next.node()) } {
                 let a = Actor { val: $found, ..$a };
                 if a.head.count() == $setup.limit {
                     worn($now, WornWord::Head, a)
@@ -173,7 +172,7 @@ macro_rules! line_table {
                     goes(Line::D13, a)
                 }
             }
-            D13 "D13" { exchange Head ($a.head, raised($setup, $a.head, $a.next.node())) } {
+            D13 { exchange Head ($a.head, raised($setup, $a.head, $a.next.node())) } {
                 if $found.same($a.head) {
                     let a = Actor { due: Some(Reply::Value($a.val)), ..$a };
                     effect($now, goes(Line::F1, takes(a.head.node(), a.next.count(), a)))
@@ -186,29 +185,29 @@ macro_rules! line_table {
     // The enqueue of the two-lock queue.
     (@rows ($setup:ident $now:ident $me:ident $a:ident $found:ident) $each:ident $given:tt [locked_enqueue $($section:ident)*] [$($rows:tt)*]) => {
         $crate::line_table!(@rows ($setup $now $me $a $found) $each $given [$($section)*] [$($rows)*
-            A1 "A1" { store Value($a.node) ($a.val) } {
+            A1 { store Value($a.node) ($a.val) } {
                 goes(Line::A2, $a)
             }
-            A2 "A2" { clear Next($a.node) } {
+            A2 { clear Next($a.node) } {
                 goes(Line::A3, $a)
             }
-            A3 "A3" { exchange TailLock (0, $me) } {
+            A3 { exchange TailLock (0, $me) } {
                 if $found == 0 {
                     goes(Line::A4, $a)
                 } else {
                     goes(Line::A3, $a)
                 }
             }
-            A4 "A4" { load Tail } {
+            A4 { load Tail } {
                 goes(Line::A5, Actor { tail: $found, ..$a })
             }
-            A5 "A5" { store Next($a.tail.node()) (CountedRef::new($a.node, 0)) } {
+            A5 { store Next($a.tail.node()) (CountedRef::new($a.node, 0)) } {
                 effect($now, goes(Line::A6, lets_go(Actor { due: Some(Reply::Done), ..$a })))
             }
-            A6 "A6" { store Tail (CountedRef::new($a.node, 0)) } {
+            A6 { store Tail (CountedRef::new($a.node, 0)) } {
                 goes(Line::A7, $a)
             }
-            A7 "A7" { store TailLock (0) } {
+            A7 { store TailLock (0) } {
                 ends($now, Reply::Done, $a)
             }
         ])
@@ -216,17 +215,17 @@ macro_rules! line_table {
     // The dequeue of the two-lock queue.
     (@rows ($setup:ident $now:ident $me:ident $a:ident $found:ident) $each:ident $given:tt [locked_dequeue $($section:ident)*] [$($rows:tt)*]) => {
         $crate::line_table!(@rows ($setup $now $me $a $found) $each $given [$($section)*] [$($rows)*
-            B1 "B1" { exchange HeadLock (0, $me) } {
+            B1 { exchange HeadLock (0, $me) } {
                 if $found == 0 {
                     goes(Line::B2, $a)
                 } else {
                     goes(Line::B1, $a)
                 }
             }
-            B2 "B2" { load Head } {
+            B2 { load Head } {
                 goes(Line::B3, Actor { head: $found, ..$a })
             }
-            B3 "B3" { load Next($a.head.node()) } {
+            B3 { load Next($a.head.node()) } {
                 let a = Actor { next: $found, noted: $now, ..$a };
                 if $found.is_null() {
                     goes(Line::B6, Actor { due: Some(Reply::Empty), ..a })
@@ -234,7 +233,7 @@ macro_rules! line_table {
                     goes(Line::B4, a)
                 }
             }
-            B4 "B4" { load Value($a.next.node()) } {
+            B4 { load Value($a.next.node()) } {
                 let a = Actor { val: $found, ..$a };
                 if a.head.count() == $setup.limit {
                     let reply = Reply::Refused(Refusal::WornOut(WornWord::Head));
@@ -243,11 +242,11 @@ macro_rules! line_table {
                     goes(Line::B5, a)
                 }
             }
-            B5 "B5" { store Head (raised($setup, $a.head, $a.next.node())) } {
+            B5 { store Head (raised($setup, $a.head, $a.next.node())) } {
                 let a = Actor { due: Some(Reply::Value($a.val)), ..$a };
                 effect($now, goes(Line::B6, takes(a.head.node(), a.next.count(), a)))
             }
-            B6 "B6" { store HeadLock (0) } {
+            B6 { store HeadLock (0) } {
                 unlocked($now, $a.due, $a)
             }
         ])

@@ -4,6 +4,9 @@ pub mod Machine
 pub mod Words
 pub mod Places
 pub mod Views
+pub mod Calls
+pub mod Kept
 pub mod Range
+pub mod Stamps
 pub mod Tables
 pub mod Standing

@@ -1,5 +1,5 @@
 -- What the fields of a world and of its memory stand for, and the room that a world keeps.
-use Rattle.std.specs.Prelude.{◌≡◌, ℕ, ◌+◌, ◌-◌, ◌≤◌, ◌⊎◌, ◌++◌, Bool, false, List, length, replicate, Option, Some, None}
+use Rattle.std.specs.Prelude.{◌≡◌, ℕ, nat_lt, ◌&&◌, if◌then◌else◌, ◌+◌, ◌-◌, ◌^◌, ◌<◌, ◌≤◌, ◌⊎◌, ◌++◌, Bool, false, List, length, replicate, Option, Some, None}
 use Rattle.std.specs.List.{sum_by}
 use Rattle.line_table.specs.declared.lines.Line.{Line}
 use Rattle.line_table.specs.declared.lines.Line.TheVariants.{N1, N2, N3, N4, N5, F1, F2, F3, E2, E3, E5, E6, E7, E9, E13, E17, D2, D3, D4, D5, D10, D12, D13, A1, A2, A3, A4, A5, A6, A7, B1, B2, B3, B4, B5, B6}
@@ -76,9 +76,15 @@ unrecorded actors = sum_by (λ a. is_unrecorded a.line a.entry) actors
 abbrev pub HasNodes : (size fresh room : ℕ) → List Actor → Type 0
 HasNodes size fresh room actors = (room ≡ size) ⊎ (fresh + seekers actors ≤ room)
 
+-- the numbers of a setup fit the parts of a reference
+pub record IsCounted (s : Setup) : Type 0 where
+  pub size : s.size < 2 ^ 24 - 1
+  pub limit : s.limit < 2 ^ 40
+
 -- the registers of an actor can be used: their numbers are in range, and there is room for the nodes that they name
 pub record IsReady (s : Setup) (room : ℕ) (a : Actor) : Type 0 where
   pub some : 1 ≤ room
+  pub few : room ≤ s.size
   pub f : a.f ≤ s.size
   pub node : a.node ≤ room
   pub mark : a.mark ≤ s.limit
@@ -98,3 +104,12 @@ first_memory size = record { words = first_words size; aside = replicate size fa
 -- the memory after an access of its words
 abbrev pub accessed : Action → Memory → Memory
 accessed action m = record m { words = performed action m.words }
+
+-- a call's operation stands in the list already, or there is room for it
+abbrev pub HasEntry : Option ℕ → (len capacity : ℕ) → Type 0
+HasEntry None len capacity = len < capacity
+HasEntry (Some entry) len capacity = Unit {0}
+
+-- the room after one node more was made room for, where it was less than enough and nodes are left
+abbrev pub room_after : (size enough room : ℕ) → ℕ
+room_after size enough room = if nat_lt room enough && nat_lt room size then room + 1 else room

@@ -4,5 +4,13 @@
 mod actors;
 pub mod laws;
 mod memory;
+mod moving;
+mod outcomes;
+mod settling;
+pub mod stamping;
+mod steps;
+mod world;
 
 pub use actors::{Actor, Held, Move, Node, Outcome, Setup, Stepped};
+pub use moving::step_in;
+pub use world::World;

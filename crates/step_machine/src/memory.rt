@@ -2,7 +2,7 @@
 ghost use Rattle.std.specs.Prelude.{◌≡◌, ◌+◌, ◌-◌, ◌^◌, ◌<◌, ◌≤◌, ◌++◌, ◌∷◌, [], length, slice_set, vec_len, vec_capacity, Some, None, IfOk, IfSome, OnErr, OnOk};
 ghost use Rattle.step_machine.specs.Memory.{Fresh, Free, Head, Tail, Tail_lock, Head_lock, Next, Value_of, content, store, exchange, clear, blank, nobody, node_at};
 ghost use Rattle.step_machine.specs.Machine.{first_words, aside_after};
-ghost use Rattle.step_machine.specs.Views.{first_memory, accessed};
+ghost use Rattle.step_machine.specs.Views.{first_memory, room_after, accessed};
 
 use crate::actors::Node;
 use counted_ref::CountedRef;
@@ -116,8 +116,20 @@ impl Memory {
         })
     }
 
+    /// Makes room for one node more, where there is room for fewer than `enough` and a node is left.
+    pub fn grow(&mut self, enough: usize) -> Result<(), AllocError>
+        ensures ok { OnOk result (self.new ≡ record self.old { room = room_after (length self.old.words.nodes) enough self.old.room }) }
+        ensures err { OnErr result (self.new ≡ self.old) }
+    {
+        let room = self.nodes.len();
+        if room < enough && room < self.size as usize {
+            return self.add_node();
+        }
+        Ok(())
+    }
+
     /// Makes room for one node more.
-    pub fn grow(&mut self) -> Result<(), AllocError>
+    fn add_node(&mut self) -> Result<(), AllocError>
         requires { self.old.room < length self.old.words.nodes }
         ensures ok { OnOk result (self.new ≡ record self.old { room = self.old.room + 1 }) }
         ensures err { OnErr result (self.new ≡ self.old) }
@@ -126,13 +138,6 @@ impl Memory {
         self.aside.push(false)?;
         push_blank(&mut self.nodes);
         Ok(())
-    }
-
-    /// For how many nodes there is room.
-    pub fn room(&self) -> usize
-        ensures { result ≡ self.now.room }
-    {
-        self.nodes.len()
     }
 
     /// Sets a node aside for good, where one is told.

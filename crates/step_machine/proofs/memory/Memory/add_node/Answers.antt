@@ -3,7 +3,7 @@ use Rattle.std.proofs.Common.{◌≡◌, ◌+◌, ◌<◌, ◌++◌, ◌∷◌, 
 use Rattle.step_machine.specs.Memory.{blank}
 use Rattle.step_machine.proofs.Padding.{short-padded}
 use Rattle.step_machine.proofs.Seen.{grown}
-use Rattle.step_machine.proofs.memory.Memory.grow.Goals as goal
+use Rattle.step_machine.proofs.memory.Memory.add_node.Goals as goal
 
 pub returns-clause-ok : goal.returns-clause-ok
 returns-clause-ok c =

@@ -1,0 +1,43 @@
+-- The names of the lines.
+use Rattle.std.specs.Prelude.{ℕ, List, codes}
+use Rattle.line_table.specs.declared.lines.Line.{Line}
+use Rattle.line_table.specs.declared.lines.Line.TheVariants.{N1, N2, N3, N4, N5, F1, F2, F3, E2, E3, E5, E6, E7, E9, E13, E17, D2, D3, D4, D5, D10, D12, D13, A1, A2, A3, A4, A5, A6, A7, B1, B2, B3, B4, B5, B6}
+
+-- the name of a line, in bytes
+abbrev pub name_of : Line → List ℕ
+name_of N1 = codes "N1"
+name_of N2 = codes "N2"
+name_of N3 = codes "N3"
+name_of N4 = codes "N4"
+name_of N5 = codes "N5"
+name_of F1 = codes "F1"
+name_of F2 = codes "F2"
+name_of F3 = codes "F3"
+name_of E2 = codes "E2"
+name_of E3 = codes "E3"
+name_of E5 = codes "E5"
+name_of E6 = codes "E6"
+name_of E7 = codes "E7"
+name_of E9 = codes "E9"
+name_of E13 = codes "E13"
+name_of E17 = codes "E17"
+name_of D2 = codes "D2"
+name_of D3 = codes "D3"
+name_of D4 = codes "D4"
+name_of D5 = codes "D5"
+name_of D10 = codes "D10"
+name_of D12 = codes "D12"
+name_of D13 = codes "D13"
+name_of A1 = codes "A1"
+name_of A2 = codes "A2"
+name_of A3 = codes "A3"
+name_of A4 = codes "A4"
+name_of A5 = codes "A5"
+name_of A6 = codes "A6"
+name_of A7 = codes "A7"
+name_of B1 = codes "B1"
+name_of B2 = codes "B2"
+name_of B3 = codes "B3"
+name_of B4 = codes "B4"
+name_of B5 = codes "B5"
+name_of B6 = codes "B6"

@@ -1,0 +1,123 @@
+-- Giving up, and beginning, by the parts of the calls that do it.
+use Rattle.std.proofs.Common.{◌≡◌, ℕ, ◌+◌, ◌⊎◌, inl, inr, Bool, true, false, if◌then◌else◌, Option, Some, None, IsSome, is_some, List, [], replicate, refl, sym, ap, ◌∙◌, arith}
+use Rattle.std.proofs.lemmas.List.Folds.{sum_by-replicate}
+use Rattle.line_table.specs.declared.lines.Kind.{Kind}
+use Rattle.line_table.specs.declared.lines.Kind.TheVariants.{TwoLock, NonBlocking}
+use Rattle.line_table.specs.declared.lines.Line.{Line}
+use Rattle.line_table.specs.declared.lines.Line.TheVariants.{N1, N2, N3, N4, N5, F1, F2, F3, E2, E3, E5, E6, E7, E9, E13, E17, D2, D3, D4, D5, D10, D12, D13, A1, A2, A3, A4, A5, A6, A7, B1, B2, B3, B4, B5, B6}
+use Rattle.history.specs.declared.operations.Op.{Op}
+use Rattle.history.specs.declared.operations.Op.TheVariants.{Enq, Deq}
+use Rattle.history.specs.declared.operations.Reply.{Reply}
+use Rattle.history.specs.declared.operations.Stamped.{Stamped}
+use Rattle.step_machine.specs.declared.actors.Setup.{Setup}
+use Rattle.step_machine.specs.declared.actors.Held.{Held}
+use Rattle.step_machine.specs.declared.actors.Actor.{Actor}
+use Rattle.step_machine.specs.declared.actors.Outcome.{Outcome}
+use Rattle.step_machine.specs.declared.actors.Move.TheVariants.{Begin, Give}
+use Rattle.step_machine.specs.Memory.{Shared}
+use Rattle.step_machine.specs.Lines.{gives_up, busy_or, with_node, dequeues}
+use Rattle.step_machine.specs.Machine.{World, opening, idle, actor_of, is_call, begun, from_pocket, with_actor, begins, given, gives, moved, next, settled}
+use Rattle.step_machine.specs.Calls.{giving_up, giving_up_at}
+use Rattle.step_machine.specs.Views.{seeks, seekers, unrecorded, is_unrecorded, Memory, first_memory}
+
+-- giving up, for an actor before a line
+pub giving_up-at : (w : World) (me : ℕ) (a : Actor) (l : Line) → actor_of w me ≡ Some a → a.line ≡ Some l → giving_up w (actor_of w me) ≡ gives_up (w.steps + 1) a l
+giving_up-at w me a l at here = ap (giving_up w) at ∙ ap (giving_up_at w a) here
+
+busy_or_any : (n m : ℕ) (due : Option Reply) (a : Actor) → IsSome (busy_or n due a) → IsSome (busy_or m due a)
+busy_or_any n m None a h = refl
+busy_or_any n m (Some reply) a h = refl
+
+-- whether an actor may give up does not hang on the step's number
+pub gives_up-any : (n m : ℕ) (a : Actor) (l : Line) → IsSome (gives_up n a l) → IsSome (gives_up m a l)
+gives_up-any n m a N1 h = h
+gives_up-any n m a N2 h = h
+gives_up-any n m a N3 h = h
+gives_up-any n m a N4 h = h
+gives_up-any n m a N5 h = h
+gives_up-any n m a F1 h = busy_or_any n m a.due _ h
+gives_up-any n m a F2 h = h
+gives_up-any n m a F3 h = h
+gives_up-any n m a E2 h = h
+gives_up-any n m a E3 h = h
+gives_up-any n m a E5 h = h
+gives_up-any n m a E6 h = h
+gives_up-any n m a E7 h = h
+gives_up-any n m a E9 h = h
+gives_up-any n m a E13 h = h
+gives_up-any n m a E17 h = h
+gives_up-any n m a D2 h = h
+gives_up-any n m a D3 h = h
+gives_up-any n m a D4 h = h
+gives_up-any n m a D5 h = h
+gives_up-any n m a D10 h = h
+gives_up-any n m a D12 h = h
+gives_up-any n m a D13 h = h
+gives_up-any n m a A1 h = h
+gives_up-any n m a A2 h = h
+gives_up-any n m a A3 h = h
+gives_up-any n m a A4 h = h
+gives_up-any n m a A5 h = h
+gives_up-any n m a A6 h = h
+gives_up-any n m a A7 h = h
+gives_up-any n m a B1 h = h
+gives_up-any n m a B2 h = h
+gives_up-any n m a B3 h = h
+gives_up-any n m a B4 h = h
+gives_up-any n m a B5 h = h
+gives_up-any n m a B6 h = h
+
+-- the move of giving up, by its parts
+pub give_move : (w : World) (me : ℕ) (a : Actor) (l : Line) (o : Outcome) → actor_of w me ≡ Some a → a.line ≡ Some l → gives_up (w.steps + 1) a l ≡ Some o → next w (Give me) ≡ Some (settled w me a w.shared o)
+give_move w me a l o at here up = ap (moved w (Give me)) at ∙ ap (gives w me a) here ∙ ap (given w me a) up
+
+-- the move of beginning a call, by its parts
+pub begin_move : (w : World) (me : ℕ) (op : Op) (a : Actor) → actor_of w me ≡ Some a → a.line ≡ None → is_call op ≡ true → next w (Begin me op) ≡ Some (with_actor w me (begun w.setup.kind me op a))
+begin_move w me op a at here call =
+    ap (moved w (Begin me op)) at ∙ ap (begins w me op a) here ∙
+    ap (λ b. if b then Some (with_actor w me (begun w.setup.kind me op a)) else None) call
+
+-- an actor that begins a call looks for a node at N1 alone
+pub begun_looks : (kind : Kind) (me : ℕ) (op : Op) (a : Actor) → (seeks (begun kind me op a).line ≡ 0) ⊎ ((begun kind me op a).line ≡ Some N1)
+begun_looks kind me (Enq body) a = go kind a.pocket
+  where
+    go : (k : Kind) (p : Option Held) → let b = record a { line = Some N1; op = Enq body; val = record { from = me; body = body }; due = None; entry = None } in (seeks (from_pocket (with_node k) p b).line ≡ 0) ⊎ ((from_pocket (with_node k) p b).line ≡ Some N1)
+    go k None = inr refl
+    go TwoLock (Some held) = inl refl
+    go NonBlocking (Some held) = inl refl
+begun_looks kind me Deq a = go kind a.pocket
+  where
+    go : (k : Kind) (p : Option Held) → let b = record a { line = Some (dequeues k); op = Deq; due = None; entry = None } in (seeks (from_pocket F1 p b).line ≡ 0) ⊎ ((from_pocket F1 p b).line ≡ Some N1)
+    go TwoLock None = inl refl
+    go NonBlocking None = inl refl
+    go k (Some held) = inl refl
+
+-- idle actors look for no node, and have no call without a number
+pub seekers-idle : (n : ℕ) → seekers (replicate n idle) ≡ 0
+seekers-idle n = omega (arith, sum_by-replicate (λ a. seeks a.line) n idle)
+
+pub unrecorded-idle : (n : ℕ) → unrecorded (replicate n idle) ≡ 0
+unrecorded-idle n = omega (arith, sum_by-replicate (λ a. is_unrecorded a.line a.entry) n idle)
+
+-- the world in which nothing happened yet, by its parts
+pub opened : (s : Setup) (actors : ℕ) (m : Memory) (xs : List Actor) (ops : List Stamped) → m ≡ first_memory s.size → xs ≡ replicate actors idle → ops ≡ [] → opening s actors ≡ record { setup = s; steps = 0; shared = m.words; actors = xs; aside = m.aside; operations = ops }
+opened s actors m xs ops e f g =
+    let there : Memory → List Actor → List Stamped → World = λ m xs ops. record { setup = s; steps = 0; shared = m.words; actors = xs; aside = m.aside; operations = ops } in
+    sym (ap (λ m. there m xs ops) e ∙ ap (λ xs. there (first_memory s.size) xs ops) f ∙ ap (there (first_memory s.size) (replicate actors idle)) g)
+
+-- two worlds are the same where their parts are
+pub same_world : (u v : World) → u.setup ≡ v.setup → u.steps ≡ v.steps → u.shared ≡ v.shared → u.actors ≡ v.actors → u.aside ≡ v.aside → u.operations ≡ v.operations → u ≡ v
+same_world u v e f g h i j =
+    let of_parts : Setup → ℕ → Shared → List Actor → List Bool → List Stamped → World =
+    λ s n m xs flags ops. record { setup = s; steps = n; shared = m; actors = xs; aside = flags; operations = ops } in
+    ap (λ s. of_parts s u.steps u.shared u.actors u.aside u.operations) e ∙
+    ap (λ n. of_parts v.setup n u.shared u.actors u.aside u.operations) f ∙
+    ap (λ m. of_parts v.setup v.steps m u.actors u.aside u.operations) g ∙
+    ap (λ xs. of_parts v.setup v.steps v.shared xs u.aside u.operations) h ∙
+    ap (λ flags. of_parts v.setup v.steps v.shared v.actors flags u.operations) i ∙
+    ap (λ ops. of_parts v.setup v.steps v.shared v.actors v.aside ops) j
+
+-- nothing is there where a test says so
+pub none_of : {X : Type 0} (o : Option X) → is_some o ≡ false → o ≡ None
+none_of None e = refl
+none_of (Some x) e = cc

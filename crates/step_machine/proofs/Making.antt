@@ -1,0 +1,68 @@
+-- What the calls of a world need of it, and what they keep: registers that can be used, room, and the list of moves.
+use Rattle.std.proofs.Common.{◌≡◌, ℕ, ◌+◌, ◌-◌, ◌<◌, ◌≤◌, inl, inr, Option, Some, None, IfSome, List, length, set, slice_get, refl, sym, subst, arith}
+use Rattle.line_table.specs.declared.lines.Line.{Line}
+use Rattle.history.specs.declared.operations.Stamped.{Stamped}
+use Rattle.step_machine.specs.declared.actors.Setup.{Setup}
+use Rattle.step_machine.specs.declared.actors.Actor.{Actor}
+use Rattle.step_machine.specs.declared.actors.Outcome.{Outcome}
+use Rattle.step_machine.specs.Machine.{World, actor_of, recorded, IsMade}
+use Rattle.step_machine.specs.Views.{seeks, unrecorded, HasNodes, HasEntry, IsReady}
+use Rattle.step_machine.specs.Range.{WorldInRange, ActorInRange}
+use Rattle.step_machine.proofs.Reached.{actor_in_range, made_in_range}
+use Rattle.step_machine.proofs.Rooms.{actor_got, has_entry, step_nodes, step_entries}
+
+-- there is room for all nodes that were used
+fresh_room : (w : World) (room : ℕ) → WorldInRange w → HasNodes w.setup.size w.shared.fresh room w.actors → w.shared.fresh ≤ room
+fresh_room w room h (inl full) = let g : w.shared.fresh ≤ w.setup.size = h.shared.fresh in omega arith
+fresh_room w room h (inr some) = omega arith
+
+-- the registers of an actor of a made world can be used
+pub ready : (w : World) (room me : ℕ) (a : Actor) → IsMade w → actor_of w me ≡ Some a → room ≤ w.setup.size → HasNodes w.setup.size w.shared.fresh room w.actors → IsReady w.setup room a
+ready w room me a made at within nodes =
+    let h : WorldInRange w = made_in_range w made in
+    let some : w.shared.fresh ≤ room = fresh_room w room h nodes in
+    let first : 1 ≤ w.shared.fresh = h.shared.some_fresh in
+    let all : w.shared.fresh ≤ w.setup.size = h.shared.fresh in
+    let r : ActorInRange w.setup w.shared.fresh (length w.actors) a = actor_in_range w me a h at in
+    record {
+      some = omega arith;
+      few = within;
+      f = omega (arith, r.registers.f);
+      node = omega (arith, r.registers.node);
+      mark = r.registers.mark;
+      top_node = omega (arith, r.registers.top.node);
+      top_count = r.registers.top.count;
+      tail_node = omega (arith, r.registers.tail.node);
+      tail_count = r.registers.tail.count;
+      head_node = omega (arith, r.registers.head.node);
+      head_count = r.registers.head.count;
+      next_node = omega (arith, r.registers.next.node);
+      next_count = r.registers.next.count;
+    }
+
+-- a node set aside by a step has room
+pub aside_room : (s : Setup) (room : ℕ) (a : Actor) (o : Option ℕ) → IsReady s room a → IfSome o (λ n. n ≡ a.node) → IfSome o (λ n. n - 1 < room)
+aside_room s room a None h g = tt
+aside_room s room a (Some n) h g = let few : a.node ≤ room = h.node in let some : 1 ≤ room = h.some in omega arith
+
+-- there is room for the entry of an actor that has a call
+pub entry_room : (w : World) (capacity me : ℕ) (a : Actor) (l : Line) → actor_of w me ≡ Some a → a.line ≡ Some l → length w.operations + unrecorded w.actors ≤ capacity → HasEntry a.entry (length w.operations) capacity
+entry_room w capacity me a l at here h = has_entry (length w.operations) capacity w.actors (me - 1) a l (actor_got w me a at) here h
+
+-- the room still serves after an actor was told an outcome
+pub record Rooms (size fresh room capacity : ℕ) (actors : List Actor) (operations : List Stamped) : Type 0 where
+  pub nodes : HasNodes size fresh room actors
+  pub entries : length operations + unrecorded actors ≤ capacity
+
+pub settled_rooms : (w : World) (room capacity more me : ℕ) (a : Actor) (l : Line) (o : Outcome) (fresh e : ℕ) (xs : List Actor) (ops : List Stamped) (new : Stamped) (change : Stamped → Stamped) → actor_of w me ≡ Some a → a.line ≡ Some l → fresh + seeks o.actor.line ≤ w.shared.fresh + seeks (Some l) → xs ≡ set w.actors (me - 1) (record o.actor { entry = Some e }) → ops ≡ recorded a.entry new change w.operations → HasNodes w.setup.size w.shared.fresh room w.actors → length w.operations + unrecorded w.actors ≤ capacity → capacity ≤ more → Rooms w.setup.size fresh room more xs ops
+settled_rooms w room capacity more me a l o fresh e xs ops new change at here grown actors operations nodes entries grows =
+    let b : Actor = record o.actor { entry = Some e } in
+    let i : slice_get w.actors (me - 1) ≡ Some a = actor_got w me a at in
+    let grown : fresh + seeks o.actor.line ≤ w.shared.fresh + seeks a.line = subst (λ k. fresh + seeks o.actor.line ≤ w.shared.fresh + seeks k) (sym here) grown in
+    let n : HasNodes w.setup.size fresh room (set w.actors (me - 1) b) = step_nodes w.setup.size w.shared.fresh fresh room w.actors (me - 1) a b i grown nodes in
+    let k : length (recorded a.entry new change w.operations) + unrecorded (set w.actors (me - 1) b) ≤ more =
+    step_entries w.operations new change capacity more w.actors (me - 1) a b l e i here refl entries grows in
+    record {
+      nodes = subst (HasNodes w.setup.size fresh room) (sym actors) n;
+      entries = subst (λ ys. length ops + unrecorded ys ≤ more) (sym actors) (subst (λ zs. length zs + unrecorded (set w.actors (me - 1) b) ≤ more) (sym operations) k);
+    }

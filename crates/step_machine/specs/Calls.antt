@@ -1,0 +1,168 @@
+-- What the calls of a world answer, and why each is refused.
+use Rattle.std.specs.Prelude.{◌≡◌, ℕ, ◌+◌, ◌-◌, ◌^◌, ◌<◌, ◌≤◌, ◌⊎◌, Option, Some, None, IsSome, IsNone, IsSomeAnd}
+use Rattle.line_table.specs.declared.lines.Kind.{Kind}
+use Rattle.line_table.specs.declared.lines.Line.{Line}
+use Rattle.history.specs.declared.operations.Reply.{Reply}
+use Rattle.history.specs.declared.refusals.Refusal.{Refusal}
+use Rattle.history.specs.declared.refusals.Refusal.TheVariants.{NoNode, WornOut, Busy, Memory, BadSize, IdleActor, ActorBusy, NotHere, NoSuchActor, Text, Read, Write, Stranger, Double, Lost, Closed}
+use Rattle.step_machine.specs.declared.actors.Setup.{Setup}
+use Rattle.step_machine.specs.declared.actors.Actor.{Actor}
+use Rattle.step_machine.specs.declared.actors.Outcome.{Outcome}
+use Rattle.step_machine.specs.declared.actors.Move.{Move}
+use Rattle.step_machine.specs.declared.actors.Move.TheVariants.{Begin, Step, Give}
+use Rattle.step_machine.specs.declared.actors.Stepped.{Stepped}
+use Rattle.step_machine.specs.declared.actors.Stepped.TheVariants.{Began, Went, Ended}
+use Rattle.step_machine.specs.Memory.{found}
+use Rattle.step_machine.specs.Lines.{action, outcome, gives_up}
+use Rattle.step_machine.specs.Machine.{World, IsSized, actor_of}
+
+-- some size of a machine is out of its range
+abbrev pub IsUnsized : Setup → (actors : ℕ) → Type 0
+IsUnsized s actors =
+    ((s.size < 2) ⊎ (2 ^ 24 - 1 ≤ s.size)) ⊎ ((s.limit < 1) ⊎ (2 ^ 40 ≤ s.limit)) ⊎ ((actors < 1) ⊎ (2 ^ 16 ≤ actors))
+
+-- the setup of a machine, by its parts
+abbrev pub setup_of : Kind → (nodes limit : ℕ) → Setup
+setup_of kind nodes limit = record { kind = kind; size = nodes; limit = limit }
+
+-- a new world is refused for this cause: a size is out of its range, or memory was refused where all are in theirs
+abbrev pub NewRefused : Setup → (actors : ℕ) → Refusal → Type 0
+NewRefused s actors BadSize = IsUnsized s actors
+NewRefused s actors Memory = IsSized s actors
+NewRefused s actors NoNode = ⊥
+NewRefused s actors (WornOut word) = ⊥
+NewRefused s actors Busy = ⊥
+NewRefused s actors IdleActor = ⊥
+NewRefused s actors ActorBusy = ⊥
+NewRefused s actors NotHere = ⊥
+NewRefused s actors NoSuchActor = ⊥
+NewRefused s actors (Text line cause) = ⊥
+NewRefused s actors Read = ⊥
+NewRefused s actors Write = ⊥
+NewRefused s actors Stranger = ⊥
+NewRefused s actors Double = ⊥
+NewRefused s actors Lost = ⊥
+NewRefused s actors Closed = ⊥
+
+-- an actor is there and has no call
+abbrev pub IsIdle : World → (me : ℕ) → Type 0
+IsIdle w me = IsSomeAnd (actor_of w me) (λ a. a.line ≡ None)
+
+-- an actor is there and has a call
+abbrev pub IsBusy : World → (me : ℕ) → Type 0
+IsBusy w me = IsSomeAnd (actor_of w me) (λ a. IsSome a.line)
+
+-- the outcome of giving up before a line; none where the actor has no call
+abbrev pub giving_up_at : World → Actor → Option Line → Option Outcome
+giving_up_at w a None = None
+giving_up_at w a (Some l) = gives_up (w.steps + 1) a l
+
+-- the outcome of giving up, for an actor that is there and has a call
+abbrev pub giving_up : World → Option Actor → Option Outcome
+giving_up w None = None
+giving_up w (Some a) = giving_up_at w a a.line
+
+-- all step numbers are used
+abbrev pub IsSpent : World → Type 0
+IsSpent w = w.steps ≡ 2 ^ 64 - 1
+
+-- a begin is refused for this cause: the actor isn't there, has a call, or memory was refused to an actor that may begin
+abbrev pub BeginRefused : World → (me : ℕ) → Refusal → Type 0
+BeginRefused w me NoSuchActor = actor_of w me ≡ None
+BeginRefused w me ActorBusy = IsBusy w me
+BeginRefused w me Memory = IsIdle w me
+BeginRefused w me NoNode = ⊥
+BeginRefused w me (WornOut word) = ⊥
+BeginRefused w me Busy = ⊥
+BeginRefused w me BadSize = ⊥
+BeginRefused w me IdleActor = ⊥
+BeginRefused w me NotHere = ⊥
+BeginRefused w me (Text line cause) = ⊥
+BeginRefused w me Read = ⊥
+BeginRefused w me Write = ⊥
+BeginRefused w me Stranger = ⊥
+BeginRefused w me Double = ⊥
+BeginRefused w me Lost = ⊥
+BeginRefused w me Closed = ⊥
+
+-- a step is refused for this cause: the actor isn't there, has no call, or all step numbers are used
+abbrev pub StepRefused : World → (me : ℕ) → Refusal → Type 0
+StepRefused w me NoSuchActor = actor_of w me ≡ None
+StepRefused w me IdleActor = IsIdle w me
+StepRefused w me BadSize = IsBusy w me × IsSpent w
+StepRefused w me NoNode = ⊥
+StepRefused w me (WornOut word) = ⊥
+StepRefused w me Busy = ⊥
+StepRefused w me Memory = ⊥
+StepRefused w me ActorBusy = ⊥
+StepRefused w me NotHere = ⊥
+StepRefused w me (Text line cause) = ⊥
+StepRefused w me Read = ⊥
+StepRefused w me Write = ⊥
+StepRefused w me Stranger = ⊥
+StepRefused w me Double = ⊥
+StepRefused w me Lost = ⊥
+StepRefused w me Closed = ⊥
+
+-- giving up is refused for this cause: the actor isn't there, has no call, is at no start of a turn, or all step numbers
+-- are used
+abbrev pub GiveRefused : World → (me : ℕ) → Refusal → Type 0
+GiveRefused w me NoSuchActor = actor_of w me ≡ None
+GiveRefused w me IdleActor = IsIdle w me
+GiveRefused w me NotHere = IsBusy w me × IsNone (giving_up w (actor_of w me))
+GiveRefused w me BadSize = IsSome (giving_up w (actor_of w me)) × IsSpent w
+GiveRefused w me NoNode = ⊥
+GiveRefused w me (WornOut word) = ⊥
+GiveRefused w me Busy = ⊥
+GiveRefused w me Memory = ⊥
+GiveRefused w me ActorBusy = ⊥
+GiveRefused w me (Text line cause) = ⊥
+GiveRefused w me Read = ⊥
+GiveRefused w me Write = ⊥
+GiveRefused w me Stranger = ⊥
+GiveRefused w me Double = ⊥
+GiveRefused w me Lost = ⊥
+GiveRefused w me Closed = ⊥
+
+-- a move is refused for this cause
+abbrev pub MoveRefused : World → Move → Refusal → Type 0
+MoveRefused w (Begin me op) why = BeginRefused w me why
+MoveRefused w (Step me) why = StepRefused w me why
+MoveRefused w (Give me) why = GiveRefused w me why
+
+-- what a step at a line with this reply is told as
+abbrev pub stepped_at : Line → Option Reply → Stepped
+stepped_at l None = Went l
+stepped_at l (Some reply) = Ended l reply
+
+-- the line before which an actor stands, where it is there and has a call
+abbrev pub line_of : Option Actor → Option Line
+line_of None = None
+line_of (Some a) = a.line
+
+-- what a step of an actor is told as, where it can be taken
+abbrev pub step_told : World → (me : ℕ) → Option Actor → Option Stepped
+step_told w me None = None
+step_told w me (Some a) = told_at w me a a.line
+  where
+    told_at : World → ℕ → Actor → Option Line → Option Stepped
+    told_at w me a None = None
+    told_at w me a (Some l) =
+        Some (stepped_at l (outcome w.setup (w.steps + 1) me a l (found (action w.setup me a l) w.shared)).reply)
+
+-- the reply of an outcome, where there is one
+abbrev pub reply_of : Option Outcome → Option Reply
+reply_of None = None
+reply_of (Some o) = o.reply
+
+-- what giving up is told as, where the actor stands at a line: the call ended there with its reply
+abbrev pub ended_at : Option Line → Option Reply → Option Stepped
+ended_at None reply = None
+ended_at (Some l) None = None
+ended_at (Some l) (Some reply) = Some (Ended l reply)
+
+-- what a move is told as, where it can be made
+abbrev pub move_told : World → Move → Option Stepped
+move_told w (Begin me op) = Some Began
+move_told w (Step me) = step_told w me (actor_of w me)
+move_told w (Give me) = ended_at (line_of (actor_of w me)) (reply_of (giving_up w (actor_of w me)))

@@ -1,0 +1,155 @@
+//! What a step leaves in the lists of a world: its actor, and its operation.
+ghost use Rattle.std.specs.Prelude.{◌≡◌, ◌+◌, ◌-◌, ◌<◌, ◌≤◌, Some, None, IfOk, IfSome, replicate, if◌then◌else◌, slice_set, slice_get, nat_eq, length, vec_len, vec_capacity};
+ghost use Rattle.step_machine.specs.Machine as machine;
+ghost use Rattle.step_machine.specs.Machine.{recorded, new_operation, told, aside_after, entry_or};
+ghost use Rattle.step_machine.specs.Views.{HasEntry};
+
+use crate::actors::{Actor, Outcome};
+use crate::memory::{Memory, nobody_value};
+use counted_ref::CountedRef;
+use history::{Op, Stamped};
+use std::alloc::{AllocError, Global};
+
+/// A call under way: whose it is, what it does, and where its operation stands.
+#[derive(Clone, Copy, Debug, PartialEq, Eq)]
+pub struct Call {
+    pub actor: u16,
+    pub op: Op,
+    pub entry: Option<usize>,
+}
+
+/// An actor that never had a call.
+pub fn idle() -> Actor
+    ensures { result ≡ machine.idle }
+{
+    let null = CountedRef::new(0, 0);
+    Actor {
+        line: None,
+        op: Op::Deq,
+        f: 0,
+        top: null,
+        node: 0,
+        mark: 0,
+        tail: null,
+        head: null,
+        next: null,
+        val: nobody_value(),
+        noted: 0,
+        due: None,
+        holds: false,
+        pocket: None,
+        entry: None,
+    }
+}
+
+/// Actors that never had a call.
+pub fn idle_actors(alloc: Global, actors: usize) -> Result<Vec<Actor>, AllocError>
+    ensures { IfOk result (λ v. v.items ≡ replicate actors machine.idle) }
+{
+    // The call is named here too, since the checker finds the modules of `Op` by the names that a body writes.
+    let idle = Actor {
+        op: Op::Deq,
+        ..idle()
+    };
+    vec![in alloc; idle; actors]
+}
+
+/// The actor of a number; none for 0 and above the number of actors.
+pub fn actor_at(actors: &Vec<Actor>, me: u16) -> Option<Actor>
+    ensures { result ≡ (if nat_eq me 0 then None else slice_get actors.now.items (me - 1)) }
+{
+    if me == 0 {
+        return None;
+    }
+    actors.get(me as usize - 1).copied()
+}
+
+pub fn put_actor(actors: &mut Vec<Actor>, me: u16, actor: Actor)
+    ensures items { actors.new.items ≡ slice_set actors.old.items (me - 1) actor }
+{
+    if let Some(place) = actors.get_mut(me.saturating_sub(1) as usize) {
+        *place = actor;
+    }
+}
+
+fn tell(now: u64, outcome: &Outcome, stamped: Stamped) -> Stamped
+    ensures { result ≡ told now outcome.now stamped }
+{
+    Stamped {
+        last: if outcome.reply.is_some() {
+            Some(now)
+        } else {
+            None
+        },
+        at: if outcome.at.is_some() {
+            outcome.at
+        } else {
+            stamped.at
+        },
+        reply: outcome.reply,
+        ..stamped
+    }
+}
+
+fn first_stamp(call: Call, now: u64) -> Stamped
+    ensures { result ≡ new_operation call.actor call.op now }
+{
+    Stamped {
+        actor: call.actor,
+        op: call.op,
+        first: now,
+        last: None,
+        at: None,
+        reply: None,
+    }
+}
+
+/// The operations after an outcome: a call's first step adds its operation, a later one changes it.
+fn put_operation(operations: &mut Vec<Stamped>, call: Call, now: u64, outcome: &Outcome)
+    requires { HasEntry call.entry (vec_len operations.old) (vec_capacity operations.old) }
+    ensures items { operations.new.items ≡ recorded call.entry (new_operation call.actor call.op now) (told now outcome.now) operations.old.items }
+    ensures room { vec_capacity operations.old ≤ vec_capacity operations.new }
+{
+    let entry = call.entry;
+    let new = first_stamp(call, now);
+    match entry {
+        None => {
+            let _ = operations.push(tell(now, outcome, new));
+        }
+        Some(place) => {
+            if let Some(stamped) = operations.get_mut(place) {
+                *stamped = tell(now, outcome, *stamped);
+            }
+        }
+    }
+}
+
+/// What an outcome leaves of its actor, its operation and the nodes set aside.
+pub fn settle(
+    memory: &mut Memory,
+    actors: &mut Vec<Actor>,
+    operations: &mut Vec<Stamped>,
+    call: Call,
+    now: u64,
+    outcome: Outcome,
+)
+    requires entry { HasEntry call.entry (vec_len operations.old) (vec_capacity operations.old) }
+    requires aside { IfSome outcome.aside (λ n. n - 1 < memory.old.room) }
+    ensures memory { memory.new ≡ record memory.old { aside = aside_after memory.old.aside outcome.aside } }
+    ensures actors { actors.new.items ≡ slice_set actors.old.items (call.actor - 1) (record outcome.actor { entry = Some (entry_or call.entry (length operations.old.items)) }) }
+    ensures operations { operations.new.items ≡ recorded call.entry (new_operation call.actor call.op now) (told now outcome) operations.old.items }
+    ensures room { vec_capacity operations.old ≤ vec_capacity operations.new }
+{
+    let place = call.entry.unwrap_or(operations.len());
+    let me = call.actor;
+    put_operation(operations, call, now, &outcome);
+    memory.set_aside(outcome.aside);
+    put_actor(
+        actors,
+        me,
+        Actor {
+            entry: Some(place),
+            ..outcome.actor
+        },
+    );
+}

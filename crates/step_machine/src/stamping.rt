@@ -1,0 +1,32 @@
+//! Laws of the stamps of operations, over all lists of moves. Each is the contract of a function that does nothing.
+ghost use Rattle.std.specs.Prelude.{◌≡◌, length, AllPairs};
+ghost use Rattle.std.specs.List.{AllByRecursion};
+ghost use Rattle.history.specs.History.{Placement};
+ghost use Rattle.step_machine.specs.Stamps.{makers, IsStamped, BeginsBefore, DoNotOverlap, DoNotOverlapOrRest, AfterMoves, AfterCalls};
+
+/// A world has given one number to each step and to each giving up.
+pub fn numbers_are_counted()
+    ensures { AfterMoves (λ moves w. w.steps ≡ length (makers moves)) }
+{}
+
+/// An operation's first number, its last one and its place are numbers of its actor's own moves, in this order:
+/// first, place, last.
+pub fn stamps_are_of_own_moves()
+    ensures { AfterMoves (λ moves w. AllByRecursion (IsStamped (makers moves)) w.operations) }
+{}
+
+/// A history lists its operations by their first numbers, and no two have the same.
+pub fn operations_stand_by_first_number()
+    ensures { AfterMoves (λ moves w. AllPairs BeginsBefore w.operations) }
+{}
+
+/// One actor's operations do not overlap: each has ended before the next begins, unless the actor rested.
+pub fn operations_of_an_actor_do_not_overlap()
+    ensures calls { AfterCalls (λ w. AllPairs DoNotOverlap w.operations) }
+    ensures with_rests { AfterMoves (λ moves w. AllPairs DoNotOverlapOrRest w.operations) }
+{}
+
+/// Every history is placed: each operation is well placed, and no two share a place.
+pub fn histories_are_placed()
+    ensures { AfterMoves (λ moves w. Placement w.operations) }
+{}

@@ -1,0 +1,233 @@
+//! A world, which makes one move at a time.
+ghost use Rattle.std.specs.Prelude.{◌≡◌, ◌+◌, ◌-◌, ◌<◌, ◌≤◌, ◌^◌, ◌≢◌, min, Some, OnOk, OnErr, IfOk, IfErr, IfSome, IsSome, length};
+ghost use Rattle.step_machine.specs.declared.actors.Move.TheVariants.{Begin, Step, Give};
+ghost use Rattle.step_machine.specs.Memory.{Fresh, Free, Head, Tail, Next, Value_of, content};
+ghost use Rattle.step_machine.specs.Machine.{opening, next, actor_of, IsSized, IsMade};
+ghost use Rattle.line_table.specs.declared.lines.Line.TheVariants.{N1};
+ghost use Rattle.step_machine.specs.Calls.{setup_of, NewRefused, BeginRefused, StepRefused, GiveRefused, stepped_at, step_told, giving_up, reply_of, line_of};
+
+use crate::actors::{Actor, Held, Move, Setup, Stepped};
+use crate::memory::Memory;
+use crate::outcomes::{begun, gives_up};
+use crate::settling::{Call, actor_at, idle_actors, put_actor, settle};
+use crate::steps::stepped;
+use counted_ref::CountedRef;
+use history::{Op, Refusal, Reply, Stamped, Taken};
+use line_table::{Kind, Line};
+use std::alloc::Global;
+use std::marker::Model;
+
+mod queries;
+
+/// Both ends of a queue, its free list and the actors, in plain memory: the machine after some list of moves.
+///
+/// Memory grows with the nodes that were used, the actors and the operations, and not with the number of nodes.
+#[derive(Drop)]
+pub struct World {
+    setup: Setup,
+    steps: u64,
+    memory: Memory,
+    actors: Vec<Actor>,
+    operations: Vec<Stamped>,
+}
+
+impl Model for World {
+    ghost use Rattle.step_machine.specs.Machine.{World as Worlds};
+
+    ghost Value = { Worlds };
+
+    ghost use Rattle.step_machine.specs.Kept.{world, IsKept};
+
+    ghost view = { world };
+
+    ghost invariant = { IsKept };
+}
+
+/// What a step at a line with this reply is told as.
+fn told_at(line: Line, reply: Option<Reply>) -> Stepped
+    ensures { result ≡ stepped_at line reply }
+{
+    match reply {
+        None => Stepped::Went(line),
+        Some(reply) => Stepped::Ended(line, reply),
+    }
+}
+
+/// For how many nodes there is to be room, if there are so many, before an actor stands before a line: where it looks for a
+/// node, those used and one for each actor, since each may look for one.
+fn nodes_wanted(line: Option<Line>, fresh: u32, actors: usize) -> usize
+    ensures looks { line ≡ Some N1 → result ≡ min (fresh + actors) (2 ^ 64 - 1) }
+    ensures not { line ≢ Some N1 → result ≡ 0 }
+{
+    match line {
+        Some(Line::N1) => (fresh as usize).saturating_add(actors),
+        _ => 0,
+    }
+}
+
+impl World {
+    /// The line before which an actor stands; none where it has no call or isn't there.
+    pub(crate) fn line_before(&self, actor: u16) -> Option<Line>
+        ensures { result ≡ line_of (actor_of self.now actor) }
+    {
+        match actor_at(&self.actors, actor) {
+            Some(a) => a.line,
+            None => None,
+        }
+    }
+
+    /// A world in which nothing happened yet: `nodes` is 2 to 16,777,214, the greatest count `limit` 1 to
+    /// 1,099,511,627,775, and `actors` 1 to 65,535.
+    ///
+    /// Refusals: `BadSize` where one of them is out of its range, else `Memory`. Takes memory for the actors and for
+    /// one node.
+    pub fn new(
+        alloc: Global,
+        kind: Kind,
+        nodes: u32,
+        limit: u64,
+        actors: u32,
+    ) -> Result<World, Refusal>
+        ensures ok { IfOk result (λ w. w ≡ opening (setup_of kind nodes limit) actors) }
+        ensures sized { OnOk result (IsSized (setup_of kind nodes limit) actors) }
+        ensures refused { IfErr result (NewRefused (setup_of kind nodes limit) actors) }
+    {
+        if nodes < 2 || nodes > 16_777_214 {
+            return Err(Refusal::BadSize);
+        }
+        if limit < 1 || limit > 1_099_511_627_775 {
+            return Err(Refusal::BadSize);
+        }
+        if actors < 1 || actors > 65_535 {
+            return Err(Refusal::BadSize);
+        }
+        let setup = Setup {
+            kind,
+            size: nodes,
+            limit,
+        };
+        let Ok(memory) = Memory::new(alloc, nodes) else {
+            return Err(Refusal::Memory);
+        };
+        let Ok(actors) = idle_actors(alloc, actors as usize) else {
+            return Err(Refusal::Memory);
+        };
+        Ok(World {
+            setup,
+            steps: 0,
+            memory,
+            actors,
+            operations: Vec::new(alloc),
+        })
+    }
+
+    /// Begins a call of the actor, 1 to 65,535. Takes no step number.
+    ///
+    /// Refusals, in this order: `NoSuchActor`, `ActorBusy`, `Memory`. Makes room for the call's operation and, of an
+    /// enqueue, for one node more, so that steps take no memory.
+    pub fn begin(&mut self, actor: u16, op: Op) -> Result<(), Refusal>
+        ensures ok { OnOk result (next self.old (Begin actor op) ≡ Some self.new) }
+        ensures err { OnErr result (self.new ≡ self.old) }
+        ensures refused { IfErr result (BeginRefused self.old actor) }
+    {
+        let Some(a) = actor_at(&self.actors, actor) else {
+            return Err(Refusal::NoSuchActor);
+        };
+        if a.line.is_some() {
+            return Err(Refusal::ActorBusy);
+        }
+        let actors = self.actors.len();
+        let kind = self.setup.kind;
+        let begun = begun(kind, actor, op, a);
+        let enough = nodes_wanted(begun.line, self.memory.fresh(), actors);
+        let Ok(()) = self.operations.reserve(actors) else {
+            return Err(Refusal::Memory);
+        };
+        let Ok(()) = self.memory.grow(enough) else {
+            return Err(Refusal::Memory);
+        };
+        put_actor(&mut self.actors, actor, begun);
+        Ok(())
+    }
+
+    /// Takes one step of the actor, 1 to 65,535, at the line before which it stands, and the next step number.
+    ///
+    /// Refusals, in this order: `NoSuchActor`, `IdleActor`, `BadSize` where all 2^64 - 1 step numbers are used. Takes no
+    /// memory.
+    pub fn step(&mut self, actor: u16) -> Result<Stepped, Refusal>
+        ensures ok { OnOk result (next self.old (Step actor) ≡ Some self.new) }
+        ensures told { IfOk result (λ s. step_told self.old actor (actor_of self.old actor) ≡ Some s) }
+        ensures err { OnErr result (self.new ≡ self.old) }
+        ensures refused { IfErr result (StepRefused self.old actor) }
+    {
+        let Some(a) = actor_at(&self.actors, actor) else {
+            return Err(Refusal::NoSuchActor);
+        };
+        let Some(line) = a.line else {
+            return Err(Refusal::IdleActor);
+        };
+        if self.steps == u64::MAX {
+            return Err(Refusal::BadSize);
+        }
+        let now = self.steps + 1;
+        let setup = self.setup;
+        let call = Call {
+            actor,
+            op: a.op,
+            entry: a.entry,
+        };
+        let outcome = stepped(&mut self.memory, setup, now, actor, a, line);
+        let told = told_at(line, outcome.reply);
+        settle(
+            &mut self.memory,
+            &mut self.actors,
+            &mut self.operations,
+            call,
+            now,
+            outcome,
+        );
+        self.steps = now;
+        Ok(told)
+    }
+
+    /// Gives up the actor's call, 1 to 65,535, which stands at the start of a turn, and takes the next step number. Answers
+    /// Busy, or the value taken where one was.
+    ///
+    /// Refusals, in this order: `NoSuchActor`, `IdleActor`, `NotHere` where no turn begins at its line, `BadSize` where all
+    /// 2^64 - 1 step numbers are used. Takes no memory.
+    pub fn give(&mut self, actor: u16) -> Result<Reply, Refusal>
+        ensures ok { OnOk result (next self.old (Give actor) ≡ Some self.new) }
+        ensures told { IfOk result (λ r. reply_of (giving_up self.old (actor_of self.old actor)) ≡ Some r) }
+        ensures err { OnErr result (self.new ≡ self.old) }
+        ensures refused { IfErr result (GiveRefused self.old actor) }
+    {
+        let Some(a) = actor_at(&self.actors, actor) else {
+            return Err(Refusal::NoSuchActor);
+        };
+        let Some(line) = a.line else {
+            return Err(Refusal::IdleActor);
+        };
+        let now = self.steps.saturating_add(1);
+        let op = a.op;
+        let entry = a.entry;
+        let Some(outcome) = gives_up(now, a, line) else {
+            return Err(Refusal::NotHere);
+        };
+        if self.steps == u64::MAX {
+            return Err(Refusal::BadSize);
+        }
+        let told = outcome.reply;
+        let Some(reply) = told else { unreachable!() };
+        let call = Call { actor, op, entry };
+        settle(
+            &mut self.memory,
+            &mut self.actors,
+            &mut self.operations,
+            call,
+            now,
+            outcome,
+        );
+        self.steps = now;
+        Ok(reply)
+    }
+}

@@ -1,0 +1,102 @@
+//! What can be asked of a world. No query takes memory but `history`.
+ghost use Rattle.std.specs.Prelude.{◌≡◌, ◌≤◌, ◌<◌, ◌^◌, IfOk, IfErr, IfSome, IsSome};
+ghost use Rattle.history.specs.declared.refusals.Refusal.TheVariants.{Memory};
+ghost use Rattle.step_machine.specs.Memory.{Free, Head, Tail, Next, Value_of, content};
+ghost use Rattle.step_machine.specs.Machine.{actor_of, IsMade};
+
+use crate::actors::Held;
+use crate::settling::actor_at;
+use crate::world::World;
+use counted_ref::CountedRef;
+use history::{Refusal, Stamped, Taken};
+use line_table::Line;
+use std::alloc::Global;
+
+impl World {
+    /// The operations with at least one number, by rising first number. Refusal: `Memory`. Takes memory for the list.
+    pub fn history(&self, alloc: Global) -> Result<Vec<Stamped>, Refusal>
+        ensures ok { IfOk result (λ v. v.items ≡ self.now.operations) }
+        ensures made { IsMade self.now }
+        ensures refused { IfErr result (λ why. why ≡ Memory) }
+    {
+        match Vec::from_slice(alloc, self.operations.as_slice()) {
+            Ok(operations) => Ok(operations),
+            Err(_) => Err(Refusal::Memory),
+        }
+    }
+
+    /// The line before which an actor stands, 1 to the number of actors; none where it has no call.
+    pub fn line(&self, actor: u16) -> Option<Line>
+        requires { IsSome (actor_of self.now actor) }
+        ensures { IfSome (actor_of self.now actor) (λ a. result ≡ a.line) }
+    {
+        match actor_at(&self.actors, actor) {
+            Some(a) => a.line,
+            None => unreachable!(),
+        }
+    }
+
+    /// The node in the pocket of an actor, 1 to the number of actors, with its mark.
+    pub fn pocket(&self, actor: u16) -> Option<Held>
+        requires { IsSome (actor_of self.now actor) }
+        ensures { IfSome (actor_of self.now actor) (λ a. result ≡ a.pocket) }
+    {
+        match actor_at(&self.actors, actor) {
+            Some(a) => a.pocket,
+            None => unreachable!(),
+        }
+    }
+
+    /// How many step numbers were given.
+    pub fn steps(&self) -> u64
+        ensures { result ≡ self.now.steps }
+    {
+        self.steps
+    }
+
+    /// How many nodes were ever used, from 1 on.
+    pub fn fresh(&self) -> u32
+        ensures { result ≡ self.now.shared.fresh }
+    {
+        self.memory.fresh()
+    }
+
+    /// The first node of the free list.
+    pub fn free(&self) -> CountedRef
+        ensures { result ≡ content Free self.now.shared }
+    {
+        self.memory.free()
+    }
+
+    /// The first node of the queue, the dummy.
+    pub fn head(&self) -> CountedRef
+        ensures { result ≡ content Head self.now.shared }
+    {
+        self.memory.head()
+    }
+
+    /// The node that is taken for the last one of the queue.
+    pub fn tail(&self) -> CountedRef
+        ensures { result ≡ content Tail self.now.shared }
+    {
+        self.memory.tail()
+    }
+
+    /// The `next` of a node, 1 to the number of nodes.
+    pub fn next_of(&self, node: u32) -> CountedRef
+        requires some { 1 ≤ node }
+        requires within { node ≤ self.now.setup.size }
+        ensures { result ≡ content (Next node) self.now.shared }
+    {
+        self.memory.next_of(node)
+    }
+
+    /// The value of a node, 1 to the number of nodes.
+    pub fn value_of_node(&self, node: u32) -> Taken
+        requires some { 1 ≤ node }
+        requires within { node ≤ self.now.setup.size }
+        ensures { result ≡ content (Value_of node) self.now.shared }
+    {
+        self.memory.value_of(node)
+    }
+}
