@@ -18,5 +18,5 @@ pub mod Tables
 pub mod Fits
 pub mod Keeping
 pub mod Standing
-pub mod Naming
 pub mod Running
+pub mod Naming

@@ -14,7 +14,7 @@ use Rattle.step_machine.specs.declared.actors.Setup.{Setup}
 use Rattle.step_machine.specs.declared.actors.Actor.{Actor}
 use Rattle.step_machine.specs.declared.actors.Held.{Held}
 use Rattle.step_machine.specs.declared.actors.Outcome.{Outcome}
-use Rattle.step_machine.specs.Memory.{Found, found}
+use Rattle.step_machine.specs.Memory.{Shared, Found, found}
 use Rattle.step_machine.specs.Lines.{action, outcome, freed, unlocked, sets_aside, goes, ends, effect, lets_go, to_pocket, with_node, takes, busy_or, gives_up}
 use Rattle.step_machine.specs.Machine.{World, from_pocket, begun, IsReached}
 use Rattle.step_machine.specs.Standing.{IsRunBy, LineIsRunBy, EachRunsItsQueue}
@@ -119,20 +119,29 @@ begun_runs NonBlocking me (Enq body) a = from_pocket_runs NonBlocking E2 a.pocke
 begun_runs TwoLock me Deq a = from_pocket_runs TwoLock F1 a.pocket _ tt tt
 begun_runs NonBlocking me Deq a = from_pocket_runs NonBlocking F1 a.pocket _ tt tt
 
-keeps_running : (s : Setup) → Keeps s (λ m. Unit {0}) (λ a. LineIsRunBy s.kind a.line)
-keeps_running s =
+-- nothing needs to be known for this
+abbrev Any : World → Type 0
+Any w = Unit {0}
+
+abbrev NoWords : Shared → Type 0
+NoWords m = Unit {0}
+
+abbrev Running : Setup → Actor → Type 0
+Running s a = LineIsRunBy s.kind a.line
+
+keeps_running : Keeps Any NoWords Running
+keeps_running =
     record {
-      words = λ me m a l at h p. tt;
-      actor = λ now me m a l at h p. (runs s now me a l (found (action s me a l) m) (subst (LineIsRunBy s.kind) at p)).line;
-      gave_up = λ now a l at p. given_up_runs s now a l;
-      began = λ me op a call p. begun_runs s.kind me op a;
-      at_rest = λ a l at may p. tt;
-      entered = λ a entry p. p;
+      words = λ w me a l j there at h p. tt;
+      actor = λ w me a l j there at h p. (runs w.setup (w.steps + 1) me a l (found (action w.setup me a l) w.shared) (subst (LineIsRunBy w.setup.kind) at p)).line;
+      gave_up = λ s now a l at p. given_up_runs s now a l;
+      began = λ s me op a call p. begun_runs s.kind me op a;
+      at_rest = λ s a l at may p. tt;
+      entered = λ s a entry p. p;
     }
 
 -- each actor of a reached world stands before a line of its queue
 pub each_runs_its_queue : (w : World) → IsReached w → EachRunsItsQueue w
 each_runs_its_queue w r me a l there at =
-    let h : Has (λ m. Unit {0}) (λ a. LineIsRunBy w.setup.kind a.line) w =
-    reached_has (λ m. Unit {0}) (λ a. LineIsRunBy w.setup.kind a.line) w r (keeps_running w.setup) tt tt in
-    subst (LineIsRunBy w.setup.kind) at (actor_of-All (λ a. LineIsRunBy w.setup.kind a.line) w me a h.actors there)
+    let h : Has Any NoWords Running keeps_running w = reached_has Any NoWords Running keeps_running w r (λ v q e. tt) tt tt in
+    subst (LineIsRunBy w.setup.kind) at (actor_of-All (Running w.setup) w me a h.actors there)

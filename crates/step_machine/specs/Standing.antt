@@ -13,7 +13,7 @@ use Rattle.step_machine.specs.declared.actors.Actor.{Actor}
 use Rattle.step_machine.specs.Memory.{word}
 use Rattle.step_machine.specs.Words.{IsWord}
 use Rattle.step_machine.specs.Machine.{World, actor_of}
-use Rattle.step_machine.specs.Tables.{OfEachNextAccess}
+use Rattle.step_machine.specs.Tables.{IsOneStep, OfEachNextAccess}
 
 -- a section of the line table is one that a queue runs
 abbrev pub IsRunBy : Section → Kind → Type 0
@@ -97,3 +97,7 @@ EachRunsItsQueue w =
 -- the next access of each actor names a word of the table
 abbrev pub EachNamesAWord : World → Type 0
 EachNamesAWord w = OfEachNextAccess w (λ a. IsWord w.shared (word a))
+
+-- the next access of each actor is one atomic step on the place of its word
+abbrev pub EachIsOneStep : World → Type 0
+EachIsOneStep w = OfEachNextAccess w (IsOneStep w.shared)

@@ -4,10 +4,10 @@ use Rattle.counted_ref.specs.Ref.{IsRef, count_mask}
 use Rattle.line_table.specs.declared.lines.Line.{Line}
 use Rattle.history.specs.declared.operations.Taken.{Taken}
 use Rattle.step_machine.specs.declared.actors.Actor.{Actor}
-use Rattle.step_machine.specs.Memory.{Shared, Word, Fresh, Free, Head, Tail, Tail_lock, Head_lock, Next, Value_of, Content, content, put, Action, load, store, clear, exchange, performed}
+use Rattle.step_machine.specs.Memory.{Shared, Word, Fresh, Free, Head, Tail, Tail_lock, Head_lock, Next, Value_of, Content, content, put, Action, load, store, clear, exchange, word, found, performed}
 use Rattle.step_machine.specs.Lines.{action}
 use Rattle.step_machine.specs.Machine.{World, actor_of}
-use Rattle.step_machine.specs.Words.{encoded, words_of, index}
+use Rattle.step_machine.specs.Words.{encoded, words_of, index, IsWord}
 
 -- one atomic step on a place of a table: a load, a store, a fetch_and, or a compare-exchange
 pub data PlaceStep : Type 0 where
@@ -63,6 +63,12 @@ ActionFits (load x) = Unit {0}
 ActionFits (store x c) = ContentFits x c
 ActionFits (clear n) = Unit {0}
 ActionFits (exchange x old new) = ContentFits x old × ContentFits x new
+
+-- an access names a word of the table, and what the word holds fits it, as does what the access compares and writes
+pub record AccessFits (s : Shared) (a : Action) : Type 0 where
+  pub names : IsWord s (word a)
+  pub held : ContentFits (word a) (found a s)
+  pub given : ActionFits a
 
 -- reading the word is reading the number at its place of the table
 abbrev pub IsReadAtItsPlace : Shared → Word → Type 0

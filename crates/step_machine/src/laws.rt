@@ -1,13 +1,13 @@
 //! Laws of the machine, each the contract of a function that does nothing.
 ghost use Rattle.std.specs.Prelude.{◌≡◌, ◌<◌, ◌≤◌, Some};
 ghost use Rattle.line_table.specs.declared.lines.Kind.TheVariants.{TwoLock};
-ghost use Rattle.step_machine.specs.Memory.{Shared, Word, Content, Action, found, word};
+ghost use Rattle.step_machine.specs.Memory.{Shared, Word, Content, Action, word};
 ghost use Rattle.step_machine.specs.Machine.{World, IsReached};
 ghost use Rattle.step_machine.specs.Words.{words_of, index, IsWord};
 ghost use Rattle.step_machine.specs.Range.{WorldInRange};
-ghost use Rattle.step_machine.specs.Standing.{EachRunsItsQueue, EachNamesAWord};
+ghost use Rattle.step_machine.specs.Standing.{EachRunsItsQueue, EachNamesAWord, EachIsOneStep};
 ghost use Rattle.step_machine.specs.Tables.{place_of, place_step, IsOneStep, OfEachNextAccess};
-ghost use Rattle.step_machine.specs.Tables.{ContentFits, SharedFits, ActionFits};
+ghost use Rattle.step_machine.specs.Tables.{SharedFits, ActionFits, AccessFits};
 ghost use Rattle.step_machine.specs.Tables.{IsReadAtItsPlace, IsWrittenAtItsPlace};
 
 /// All numbers of a world that any moves lead to are in their ranges.
@@ -25,10 +25,9 @@ pub fn writing_a_word_is_writing_its_place()
     ensures { (s : Shared) (x : Word) (c : Content x) → IsWord s x → IsWrittenAtItsPlace s x c }
 {}
 
-/// An access, whose contents fit their words, is one atomic step on the place of the word that it names.
+/// An access of a word of the table, whose contents fit, is one atomic step on the place of that word.
 pub fn an_access_is_one_step_on_its_place()
-    ensures step { (s : Shared) (a : Action) → IsWord s (word a) → ContentFits (word a) (found a s) →
-        ActionFits a → IsOneStep s a }
+    ensures step { (s : Shared) (a : Action) → AccessFits s a → IsOneStep s a }
     ensures place { (a : Action) → place_of (place_step a) ≡ index (word a) }
 {}
 
@@ -49,7 +48,13 @@ pub fn actors_stand_before_lines_of_their_queue()
     ensures { (w : World) → IsReached w → EachRunsItsQueue w }
 {}
 
-/// In a world of the two-lock queue that any moves lead to, the next access of each actor names a word of the table.
+/// In a world of the two-lock queue that any moves lead to, the next access of each actor names a word of the
+/// table.
 pub fn accesses_name_words_two_lock()
     ensures { (w : World) → IsReached w → w.setup.kind ≡ TwoLock → EachNamesAWord w }
+{}
+
+/// In such a world the next access of each actor is one atomic step on the place of its word.
+pub fn accesses_are_atomic_steps_two_lock()
+    ensures { (w : World) → IsReached w → w.setup.kind ≡ TwoLock → EachIsOneStep w }
 {}
