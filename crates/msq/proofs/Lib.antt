@@ -1,0 +1,5 @@
+mod Digits
+mod Lines
+mod Moves
+mod Consuming
+mod Stops

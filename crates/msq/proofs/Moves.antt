@@ -1,0 +1,80 @@
+-- Moves one after another.
+use Rattle.std.proofs.Common.{◌≡◌, ℕ, zero, suc, ◌+◌, ◌<◌, ◌≤◌, List, [], ◌∷◌, ◌++◌, Option, Some, None, Bool, true, false, cond, refl, sym, ap, ◌∙◌, arith, add-one, take, length, get_or}
+use Rattle.std.specs.Prelude.{replicate}
+use Rattle.history.specs.declared.operations.Op.{Op}
+use Rattle.line_table.specs.declared.lines.Line.{Line}
+use Rattle.step_machine.specs.declared.actors.Actor.{Actor}
+use Rattle.step_machine.specs.declared.actors.Move.{Move}
+use Rattle.step_machine.specs.declared.actors.Move.TheVariants.{Begin, Step}
+use Rattle.step_machine.specs.Machine.{World, next, run_on, moved, actor_of, begins, steps, stepped, is_call, begun, with_actor}
+use Rattle.std.proofs.lemmas.List.{replicate-append-replicate, append-nil}
+use Rattle.std.proofs.lemmas.List.Concat.{flat_map-cons}
+use Rattle.std.proofs.lemmas.Grind.{flat_map-append}
+use Rattle.std.proofs.Math.Seq.{take-suc}
+use Rattle.msq.specs.declared.schedule.Event.{Event}
+use Rattle.msq.specs.Schedule.{moves_of, moves_of_event}
+use Rattle.msq.specs.Runs.{world_after}
+
+-- moves, and then more of them
+pub world_after-append : (xs ys : List Move) (w : World) → world_after (xs ++ ys) w ≡ run_on (world_after ys) (world_after xs w)
+world_after-append [] ys w = refl
+world_after-append (x ∷ xs) ys w =
+    elim (next w x) as (λ (o : Option World). run_on (world_after (xs ++ ys)) o ≡ run_on (world_after ys) (run_on (world_after xs) o)) [
+      | None ↦ refl
+      | Some v ↦ world_after-append xs ys v
+    ]
+
+-- moves, and then more of them that can be made
+pub world_after_both : (xs ys : List Move) (w v u : World) → world_after xs w ≡ Some v → world_after ys v ≡ Some u → world_after (xs ++ ys) w ≡ Some u
+world_after_both xs ys w v u first second = rw (world_after-append xs ys w, first) second
+
+-- one move
+pub world_after_one : (m : Move) (w v : World) → next w m ≡ Some v → world_after (m ∷ []) w ≡ Some v
+world_after_one m w v made = rw made refl
+
+-- one copy more
+pub replicate-next : {A : Type 0} (n : ℕ) (x : A) → replicate n x ++ x ∷ [] ≡ replicate (n + 1) x
+replicate-next n x = replicate-append-replicate n 1 x
+
+-- one more of the same move
+pub world_after-replicate_next : (n : ℕ) (m : Move) (w v u : World) → world_after (replicate n m) w ≡ Some v → next v m ≡ Some u → world_after (replicate (n + 1) m) w ≡ Some u
+world_after-replicate_next n m w v u before made =
+    rw (← replicate-next n m) (world_after_both (replicate n m) (m ∷ []) w v u before (world_after_one m v u made))
+
+-- the moves of one event more
+pub world_after-take_next : (events : List Event) (i : ℕ) (event : Event) (w v u : World) → i < length events → event ≡ get_or events i event
+    → world_after (moves_of (take i events)) w ≡ Some v → world_after (moves_of_event event) v ≡ Some u
+    → world_after (moves_of (take (i + 1) events)) w ≡ Some u
+world_after-take_next events i event w v u within is before made =
+    let longer : take (i + 1) events ≡ take i events ++ event ∷ [] = rw (add-one, take-suc events i event, ← is) refl in
+    let moves : moves_of (take i events ++ event ∷ []) ≡ moves_of (take i events) ++ moves_of_event event =
+        flat_map-append moves_of_event (take i events) (event ∷ []) ∙ ap (λ (moves : List Move). moves_of (take i events) ++ moves) (flat_map-cons moves_of_event event [] ∙ append-nil (moves_of_event event)) in
+    rw (longer, moves) (world_after_both (moves_of (take i events)) (moves_of_event event) w v u before made)
+
+steps_of_chosen : (b : Bool) (u v : World) → cond b (Some u) None ≡ Some v → v.steps ≡ u.steps
+steps_of_chosen true u v e = let same : u ≡ v = cc in rw (← same) refl
+steps_of_chosen false u v e = absurd cc
+
+steps_of_begin : (w v : World) (me : ℕ) (op : Op) (a : Actor) (l : Option Line) → begins w me op a l ≡ Some v → v.steps ≡ w.steps
+steps_of_begin w v me op a (Some l) e = absurd cc
+steps_of_begin w v me op a None e = steps_of_chosen (is_call op) (with_actor w me (begun w.setup.kind me op a)) v e
+
+steps_of_step : (w v : World) (me : ℕ) (a : Actor) (l : Option Line) → steps w me a l ≡ Some v → v.steps ≡ w.steps + 1
+steps_of_step w v me a None e = absurd cc
+steps_of_step w v me a (Some l) e = let same : stepped w me a l ≡ v = cc in rw (← same) refl
+
+-- a begin takes no number
+pub steps-begin : (w v : World) (me : ℕ) (op : Op) → next w (Begin me op) ≡ Some v → v.steps ≡ w.steps
+steps-begin w v me op e = of_actor (actor_of w me) e
+  where
+    of_actor : (o : Option Actor) → moved w (Begin me op) o ≡ Some v → v.steps ≡ w.steps
+    of_actor None e = absurd cc
+    of_actor (Some a) e = steps_of_begin w v me op a a.line e
+
+-- a step takes the next number
+pub steps-step : (w v : World) (me : ℕ) → next w (Step me) ≡ Some v → v.steps ≡ w.steps + 1
+steps-step w v me e = of_actor (actor_of w me) e
+  where
+    of_actor : (o : Option Actor) → moved w (Step me) o ≡ Some v → v.steps ≡ w.steps + 1
+    of_actor None e = absurd cc
+    of_actor (Some a) e = steps_of_step w v me a a.line e

@@ -1,0 +1,4 @@
+pub mod Schedule
+pub mod ScheduleText
+pub mod Runs
+pub mod Commands

@@ -1,0 +1,152 @@
+-- What the run of a schedule reads, does and writes, and what it may be refused.
+use Rattle.std.specs.Prelude.{◌≡◌, ℕ, ◌+◌, ◌<◌, ◌≤◌, Bool, true, List, ◌∷◌, ◌++◌, length, replicate, Option, Some, None, Result, Ok, Err, map, ⊤}
+use Rattle.std.specs.Io.KnownBytes.{Appends, Consumes}
+use Rattle.history.specs.Blocks.{TakesBeginning}
+use Rattle.history.specs.HistoryText.{history_text}
+use Rattle.history.specs.declared.operations.Stamped.{Stamped}
+use Rattle.history.specs.declared.refusals.Refusal.{Refusal}
+use Rattle.history.specs.declared.refusals.Refusal.TheVariants.{Memory, IdleActor, ActorBusy, NotHere, NoSuchActor, Text, Read, Write}
+use Rattle.step_machine.specs.declared.actors.Move.{Move}
+use Rattle.step_machine.specs.declared.actors.Move.TheVariants.{Step}
+use Rattle.step_machine.specs.Calls.{setup_of, BeginRefused, StepRefused}
+use Rattle.step_machine.specs.Machine.{World, opening, made, run}
+use Rattle.msq.specs.declared.schedule.Event.{Event}
+use Rattle.msq.specs.declared.schedule.Event.TheVariants.{Begin, Steps}
+use Rattle.msq.specs.declared.faults.Fault.{Fault}
+use Rattle.msq.specs.Schedule.{Schedule, moves_of}
+use Rattle.msq.specs.ScheduleText.{schedule_text, IsInRange}
+
+-- the world after these moves; none where one of them can't be made
+abbrev pub world_after : List Move → World → Option World
+world_after moves w = run (map made moves) w
+
+-- the world of a schedule's queue and actors in which nothing happened yet
+abbrev pub opening_of : Schedule → World
+opening_of s = opening (setup_of s.kind s.nodes s.limit) s.actors
+
+-- the world that a schedule leads to; none where one of its events is refused
+abbrev pub world_of : Schedule → Option World
+world_of s = world_after (moves_of s.events) (opening_of s)
+
+-- steps of an actor are refused at one of them, after those before it
+pub record StepsRefused (w : World) (me count : ℕ) (why : Refusal) : Type 0 where
+  pub taken : ℕ
+  pub few : taken < count
+  pub world : World
+  pub led : world_after (replicate taken (Step me)) w ≡ Some world
+  pub refused : StepRefused world me why
+
+-- an event is refused: its begin, or one of its steps
+abbrev pub EventRefused : World → Event → Refusal → Type 0
+EventRefused w (Begin me op) why = BeginRefused w me why
+EventRefused w (Steps me count) why = StepsRefused w me count why
+
+-- events are refused at one of them, after those before it; the first event stands in line 7
+pub record EventsRefused (w : World) (events : List Event) (line : ℕ) (why : Refusal) : Type 0 where
+  pub before : List Event
+  pub event : Event
+  pub later : List Event
+  pub split : events ≡ before ++ event ∷ later
+  pub counted : line ≡ 7 + length before
+  pub world : World
+  pub led : world_after (moves_of before) w ≡ Some world
+  pub refused : EventRefused world event why
+
+-- known bytes were these and no others
+abbrev pub WereAll : Option (List ℕ) → List ℕ → Type 0
+WereAll None text = ⊤
+WereAll (Some bytes) text = bytes ≡ text
+
+-- known bytes were the text of a schedule in range, and the operations are those of the world that it leads to
+pub record IsRunOf (given : Option (List ℕ)) (operations : List Stamped) : Type 0 where
+  pub schedule : Schedule
+  pub in_range : IsInRange schedule
+  pub read : WereAll given (schedule_text schedule)
+  pub world : World
+  pub led : world_of schedule ≡ Some world
+  pub told : operations ≡ world.operations
+
+-- known bytes were the text of a schedule, and the text of its run's history was written
+pub record WritesRun (given old new : Option (List ℕ)) : Type 0 where
+  pub operations : List Stamped
+  pub run : IsRunOf given operations
+  pub written : Appends old new (history_text operations)
+
+-- known bytes were the text of a schedule, and a beginning of the text of its run's history was written
+pub record BeginsRun (given old new : Option (List ℕ)) : Type 0 where
+  pub operations : List Stamped
+  pub run : IsRunOf given operations
+  pub begun : TakesBeginning old new (history_text operations)
+
+-- known bytes were the text of a schedule in range, and its events are refused at the one in this line
+pub record RunRefused (given : Option (List ℕ)) (line : ℕ) (why : Refusal) : Type 0 where
+  pub schedule : Schedule
+  pub in_range : IsInRange schedule
+  pub read : WereAll given (schedule_text schedule)
+  pub refused : EventsRefused (opening_of schedule) schedule.events line why
+
+-- what an event may be refused
+abbrev pub IsEventRefusal : Refusal → Type 0
+IsEventRefusal IdleActor = Unit {0}
+IsEventRefusal ActorBusy = Unit {0}
+IsEventRefusal NotHere = Unit {0}
+IsEventRefusal NoSuchActor = Unit {0}
+IsEventRefusal _ = ⊥
+
+-- what a run may be refused as a whole
+abbrev pub IsRunRefusal : Refusal → Type 0
+IsRunRefusal Memory = Unit {0}
+IsRunRefusal (Text number cause) = Unit {0}
+IsRunRefusal Read = Unit {0}
+IsRunRefusal Write = Unit {0}
+IsRunRefusal _ = ⊥
+
+-- the events of a schedule were refused memory, or one of them was refused, with its line, the seventh or a later one
+abbrev pub IsEventFault : Refusal → Option ℕ → Type 0
+IsEventFault why None = why ≡ Memory
+IsEventFault why (Some line) = IsEventRefusal why × (7 ≤ line)
+
+-- a refusal comes with the line of an event, which is the seventh one or a later one, exactly where an event was refused
+abbrev pub IsRunFault : Refusal → Option ℕ → Type 0
+IsRunFault why None = IsRunRefusal why
+IsRunFault why (Some line) = IsEventRefusal why × (7 ≤ line)
+
+-- what the moves of an event may be refused
+abbrev pub IsMoveRefusal : Refusal → Type 0
+IsMoveRefusal Memory = Unit {0}
+IsMoveRefusal IdleActor = Unit {0}
+IsMoveRefusal ActorBusy = Unit {0}
+IsMoveRefusal NoSuchActor = Unit {0}
+IsMoveRefusal _ = ⊥
+
+-- bytes that were given are added to a text
+pub record AddsGiven (old new : Option (List ℕ)) (text longer : List ℕ) : Type 0 where
+  pub bytes : List ℕ
+  pub given : Consumes old new bytes
+  pub added : longer ≡ text ++ bytes
+
+-- a call that gives bytes fails where it reads, and not where memory is refused
+abbrev pub ReadsOrFails : {A : Type 0} → Result A Refusal → (old_failures new_failures : ℕ) → Type 0
+ReadsOrFails (Ok count) old new = new ≡ old
+ReadsOrFails (Err Memory) old new = new ≡ old
+ReadsOrFails (Err Read) old new = new ≡ old + 1
+ReadsOrFails (Err _) old new = ⊥
+
+-- how a reading of all bytes ends: no call failed where the end was told or memory was refused, and else the last one
+abbrev pub ReadsAll : {A : Type 0} → Result A Refusal → (old_failures new_failures : ℕ) → (has_ended : Bool) → Type 0
+ReadsAll (Ok text) old new ended = (new ≡ old) × (ended ≡ true)
+ReadsAll (Err Memory) old new ended = new ≡ old
+ReadsAll (Err Read) old new ended = new ≡ old + 1
+ReadsAll (Err _) old new ended = ⊥
+
+-- how the reading behind a run ends: a call failed where the run is refused so, and else none did; where memory wasn't
+-- refused the end was told
+abbrev pub EndsReadingAt : Refusal → (old_failures new_failures : ℕ) → (has_ended : Bool) → Type 0
+EndsReadingAt Memory old new ended = new ≡ old
+EndsReadingAt Read old new ended = new ≡ old + 1
+EndsReadingAt _ old new ended = (new ≡ old) × (ended ≡ true)
+
+-- how the reading behind a run ends, by what the run answers
+abbrev pub EndsReading : {A : Type 0} → Result A Fault → (old_failures new_failures : ℕ) → (has_ended : Bool) → Type 0
+EndsReading (Ok done) old new ended = (new ≡ old) × (ended ≡ true)
+EndsReading (Err fault) old new ended = EndsReadingAt fault.refusal old new ended

@@ -1,0 +1,25 @@
+-- Schedules, and the moves that their events are.
+use Rattle.std.specs.Prelude.{ℕ, List, [], ◌∷◌, replicate}
+use Rattle.std.specs.List.{flat_map}
+use Rattle.line_table.specs.declared.lines.Kind.{Kind}
+use Rattle.step_machine.specs.declared.actors.Move.{Move}
+use Rattle.step_machine.specs.declared.actors.Move.TheVariants.{Begin as BeginsCall, Step}
+use Rattle.msq.specs.declared.schedule.Event.{Event}
+use Rattle.msq.specs.declared.schedule.Event.TheVariants.{Begin, Steps}
+
+-- a schedule: the queue and its sizes, the number of actors, and the events in their order
+pub record Schedule : Type 0 where
+  pub kind : Kind
+  pub nodes : ℕ
+  pub limit : ℕ
+  pub actors : ℕ
+  pub events : List Event
+
+-- the moves of an event
+abbrev pub moves_of_event : Event → List Move
+moves_of_event (Begin actor op) = BeginsCall actor op ∷ []
+moves_of_event (Steps actor count) = replicate count (Step actor)
+
+-- the moves of a list of events
+abbrev pub moves_of : List Event → List Move
+moves_of events = flat_map moves_of_event events

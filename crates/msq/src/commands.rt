@@ -1,0 +1,81 @@
+//! The words after the program's name.
+ghost use Rattle.std.specs.Prelude.{◌≡◌, ◌≤◌, [], IfErr, IfOk, MatchResult, codes, string_bytes};
+ghost use Rattle.clap.specs.Words.{kind_of};
+ghost use Rattle.msq.specs.Commands.{file_of};
+
+use clap::Arg;
+use clap::error::ErrorKind;
+use std::alloc::{AllocError, Global};
+
+/// What the program is asked to do.
+#[derive(Debug, Drop)]
+pub enum Command {
+    /// Runs the schedule in this file; `-` is standard input.
+    Run { file: String },
+}
+
+/// The command that the words after the program's name ask for; no words ask for `run -`.
+///
+/// An error has the exit status and the text to print: 0 for help and the version, whose text
+/// goes to standard output, 2 for words that are refused, and 1 with no text where memory was
+/// refused. Takes memory, and doesn't wait.
+pub fn read_words(alloc: Global, words: &[String]) -> Result<Command, (u8, String)>
+    ensures none { words.now ≡ [] → MatchResult result (λ command. file_of command ≡ codes "-")
+        (λ e. e.0 ≡ 1) }
+    ensures status { IfErr result (λ e. e.0 ≤ 2) }
+    ensures memory { IfErr result (λ e. e.0 ≡ 1 → string_bytes e.1 ≡ []) }
+{
+    match asked(alloc, words) {
+        Ok(command) => Ok(command),
+        Err(error) => Err(told(alloc, &error)),
+    }
+}
+
+/// The command, or what clap says instead.
+fn asked(alloc: Global, words: &[String]) -> Result<Command, clap::Error>
+    ensures none { words.now ≡ [] → MatchResult result (λ command. file_of command ≡ codes "-")
+        (λ e. kind_of e ≡ ErrorKind.OutOfMemory) }
+{
+    if words.is_empty() {
+        return Ok(run_of(alloc, "-")?);
+    }
+    let file = Arg::new(alloc, "FILE")
+        .help("The schedule; - is standard input")
+        .required(true);
+    let run = clap::Command::new(alloc, "run")
+        .about("Runs a schedule and writes its history")
+        .arg(file)?;
+    let program = clap::Command::new(alloc, "msq")
+        .about("Runs concurrent queues one atomic line at a time")
+        .version("0.1.0")
+        .no_binary_name(true)
+        .subcommand_required(true)
+        .subcommand(run)?;
+    let matches = program.try_get_matches_from(words)?;
+    match matches.subcommand_matches("run") {
+        Some(run) => Ok(run_of(alloc, run.get_str("FILE").unwrap_or("-"))?),
+        None => Ok(run_of(alloc, "-")?),
+    }
+}
+
+fn run_of(alloc: Global, file: &str) -> Result<Command, AllocError>
+    ensures { IfOk result (λ command. file_of command ≡ file.now) }
+{
+    let file = String::from_str(alloc, file)?;
+    Ok(Command::Run { file })
+}
+
+/// The status and the text of what clap says.
+fn told(alloc: Global, error: &clap::Error) -> (u8, String)
+    ensures status { result.0 ≤ 2 }
+    ensures memory { result.0 ≡ 1 → string_bytes result.1 ≡ [] }
+    ensures refused { kind_of error.now ≡ ErrorKind.OutOfMemory → result.0 ≡ 1 }
+{
+    if error.kind() == ErrorKind::OutOfMemory {
+        return (1, String::new(alloc));
+    }
+    match format!(in alloc; "{error}") {
+        Ok(text) => (if error.use_stderr() { 2 } else { 0 }, text),
+        Err(_) => (1, String::new(alloc)),
+    }
+}

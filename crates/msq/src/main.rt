@@ -1,0 +1,22 @@
+//! Runs a schedule of queue calls, one atomic line at a time, and writes the history of its calls.
+#![tactic(auto)]
+
+mod commands;
+mod engine;
+mod events;
+mod faults;
+mod input;
+mod numbers;
+mod parsing;
+mod program;
+mod reading;
+mod running;
+mod schedule;
+#[cfg(test)]
+mod tests;
+
+use std::process::ExitCode;
+
+fn main(rt: HostRuntime) -> ExitCode {
+    ExitCode::from(program::obey(&rt))
+}

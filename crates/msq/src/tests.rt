@@ -1,0 +1,4 @@
+mod engine;
+mod faults;
+mod texts;
+mod words;
