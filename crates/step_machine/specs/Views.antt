@@ -1,12 +1,16 @@
 -- What the fields of a world and of its memory stand for, and the room that a world keeps.
-use Rattle.std.specs.Prelude.{◌≡◌, ℕ, nat_lt, ◌&&◌, if◌then◌else◌, ◌+◌, ◌-◌, ◌^◌, ◌<◌, ◌≤◌, ◌⊎◌, ◌++◌, Bool, false, List, length, replicate, Option, Some, None}
+use Rattle.std.specs.Prelude.{◌≡◌, ℕ, nat_lt, ◌&&◌, if◌then◌else◌, ◌+◌, ◌-◌, ◌^◌, ◌<◌, ◌≤◌, ◌⊎◌, ◌++◌, Bool, false, List, length, replicate, Option, Some, None, slice_set}
 use Rattle.std.specs.List.{sum_by}
 use Rattle.line_table.specs.declared.lines.Line.{Line}
 use Rattle.line_table.specs.declared.lines.Line.TheVariants.{N1, N2, N3, N4, N5, F1, F2, F3, E2, E3, E5, E6, E7, E9, E13, E17, D2, D3, D4, D5, D10, D12, D13, A1, A2, A3, A4, A5, A6, A7, B1, B2, B3, B4, B5, B6}
 use Rattle.step_machine.specs.declared.actors.Actor.{Actor}
+use Rattle.history.specs.declared.operations.Op.{Op}
+use Rattle.history.specs.declared.operations.Reply.{Reply}
+use Rattle.history.specs.declared.operations.Stamped.{Stamped}
+use Rattle.step_machine.specs.declared.actors.Outcome.{Outcome}
 use Rattle.step_machine.specs.declared.actors.Setup.{Setup}
 use Rattle.step_machine.specs.Memory.{Shared, Action, performed}
-use Rattle.step_machine.specs.Machine.{first_words}
+use Rattle.step_machine.specs.Machine.{first_words, entry_or, new_operation, told, recorded}
 
 -- the shared words, the nodes set aside, and for how many nodes from 1 on there is room
 pub record Memory : Type 0 where
@@ -113,3 +117,19 @@ HasEntry (Some entry) len capacity = Unit {0}
 -- the room after one node more was made room for, where it was less than enough and nodes are left
 abbrev pub room_after : (size enough room : ℕ) → ℕ
 room_after size enough room = if nat_lt room enough && nat_lt room size then room + 1 else room
+
+-- the memory with room for one node more, where it was less than enough and nodes are left
+abbrev pub grown : (enough : ℕ) → Memory → Memory
+grown enough m = record m { room = room_after (length m.words.nodes) enough m.room }
+
+-- a call that ends with a reply, and takes effect at this number where it did not before
+abbrev pub ended : (at : Option ℕ) → Reply → Actor → Outcome
+ended at reply a = record { actor = record a { line = None }; at = at; reply = Some reply; aside = None }
+
+-- the actors after one of them was told an outcome, with its entry in a list of operations that was so long
+abbrev pub actors_told : (me : ℕ) → (entry : Option ℕ) → (len : ℕ) → Outcome → List Actor → List Actor
+actors_told me entry len o actors = slice_set actors (me - 1) (record o.actor { entry = Some (entry_or entry len) })
+
+-- the operations after the call of an actor was told an outcome
+abbrev pub operations_told : (me : ℕ) → Op → (entry : Option ℕ) → (now : ℕ) → Outcome → List Stamped → List Stamped
+operations_told me op entry now o operations = recorded entry (new_operation me op now) (told now o) operations

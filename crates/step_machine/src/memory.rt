@@ -2,7 +2,7 @@
 ghost use Rattle.std.specs.Prelude.{◌≡◌, ◌+◌, ◌-◌, ◌^◌, ◌<◌, ◌≤◌, ◌++◌, ◌∷◌, [], length, slice_set, vec_len, vec_capacity, Some, None, IfOk, IfSome, OnErr, OnOk};
 ghost use Rattle.step_machine.specs.Memory.{Fresh, Free, Head, Tail, Tail_lock, Head_lock, Next, Value_of, content, store, exchange, clear, blank, nobody, node_at};
 ghost use Rattle.step_machine.specs.Machine.{first_words, aside_after};
-ghost use Rattle.step_machine.specs.Views.{first_memory, room_after, accessed};
+ghost use Rattle.step_machine.specs.Views.{first_memory, grown, accessed};
 
 use crate::actors::Node;
 use counted_ref::CountedRef;
@@ -118,7 +118,7 @@ impl Memory {
 
     /// Makes room for one node more, where there is room for fewer than `enough` and a node is left.
     pub fn grow(&mut self, enough: usize) -> Result<(), AllocError>
-        ensures ok { OnOk result (self.new ≡ record self.old { room = room_after (length self.old.words.nodes) enough self.old.room }) }
+        ensures ok { OnOk result (self.new ≡ grown enough self.old) }
         ensures err { OnErr result (self.new ≡ self.old) }
     {
         let room = self.nodes.len();

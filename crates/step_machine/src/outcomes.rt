@@ -2,6 +2,7 @@
 ghost use Rattle.std.specs.Prelude.{◌≡◌, ◌-◌, ◌<◌, ◌≤◌, ◌^◌, Some, None, true};
 ghost use Rattle.step_machine.specs.Lines as lines;
 ghost use Rattle.step_machine.specs.Machine as machine;
+ghost use Rattle.step_machine.specs.Views as views;
 
 use crate::actors::{Actor, Held, Outcome, Setup};
 use counted_ref::CountedRef;
@@ -24,7 +25,7 @@ pub fn goes(line: Line, actor: Actor) -> Outcome
 
 /// The call ends, and takes effect at this number, if it did not before.
 fn ended(at: Option<u64>, reply: Reply, actor: Actor) -> Outcome
-    ensures { result ≡ record { actor = record actor { line = None }; at = at; reply = Some reply; aside = None } }
+    ensures { result ≡ views.ended at reply actor }
 {
     Outcome {
         actor: Actor {

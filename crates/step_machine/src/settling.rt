@@ -2,7 +2,7 @@
 ghost use Rattle.std.specs.Prelude.{◌≡◌, ◌+◌, ◌-◌, ◌<◌, ◌≤◌, Some, None, IfOk, IfSome, replicate, if◌then◌else◌, slice_set, slice_get, nat_eq, length, vec_len, vec_capacity};
 ghost use Rattle.step_machine.specs.Machine as machine;
 ghost use Rattle.step_machine.specs.Machine.{recorded, new_operation, told, aside_after, entry_or};
-ghost use Rattle.step_machine.specs.Views.{HasEntry};
+ghost use Rattle.step_machine.specs.Views.{HasEntry, actors_told, operations_told};
 
 use crate::actors::{Actor, Outcome};
 use crate::memory::{Memory, nobody_value};
@@ -107,7 +107,8 @@ fn first_stamp(call: Call, now: u64) -> Stamped
 /// The operations after an outcome: a call's first step adds its operation, a later one changes it.
 fn put_operation(operations: &mut Vec<Stamped>, call: Call, now: u64, outcome: &Outcome)
     requires { HasEntry call.entry (vec_len operations.old) (vec_capacity operations.old) }
-    ensures items { operations.new.items ≡ recorded call.entry (new_operation call.actor call.op now) (told now outcome.now) operations.old.items }
+    ensures items { operations.new.items ≡
+        operations_told call.actor call.op call.entry now outcome.now operations.old.items }
     ensures room { vec_capacity operations.old ≤ vec_capacity operations.new }
 {
     let entry = call.entry;
@@ -136,8 +137,10 @@ pub fn settle(
     requires entry { HasEntry call.entry (vec_len operations.old) (vec_capacity operations.old) }
     requires aside { IfSome outcome.aside (λ n. n - 1 < memory.old.room) }
     ensures memory { memory.new ≡ record memory.old { aside = aside_after memory.old.aside outcome.aside } }
-    ensures actors { actors.new.items ≡ slice_set actors.old.items (call.actor - 1) (record outcome.actor { entry = Some (entry_or call.entry (length operations.old.items)) }) }
-    ensures operations { operations.new.items ≡ recorded call.entry (new_operation call.actor call.op now) (told now outcome) operations.old.items }
+    ensures actors { actors.new.items ≡
+        actors_told call.actor call.entry (length operations.old.items) outcome actors.old.items }
+    ensures operations { operations.new.items ≡
+        operations_told call.actor call.op call.entry now outcome operations.old.items }
     ensures room { vec_capacity operations.old ≤ vec_capacity operations.new }
 {
     let place = call.entry.unwrap_or(operations.len());

@@ -1,4 +1,4 @@
-use Rattle.std.proofs.Common.{◌≤◌, arith, refl}
+use Rattle.std.proofs.Common.{arith, refl}
 use Rattle.msq.proofs.Digits.{IsFrontOf-next}
 use Rattle.msq.proofs.numbers.number_at.Goals as goal
 

@@ -1,4 +1,4 @@
-use Rattle.std.proofs.Common.{◌≡◌, ◌≤◌, ◌++◌, All, length}
+use Rattle.std.proofs.Common.{◌≡◌, ◌++◌, All, length}
 use Rattle.std.specs.List.{flat_map}
 use Rattle.msq.specs.ScheduleText.{event_line, IsEventInRange}
 use Rattle.msq.proofs.parsing.events_of.Given as goal

@@ -1,4 +1,4 @@
-use Rattle.std.proofs.Common.{◌≡◌, ◌≤◌, arith}
+use Rattle.std.proofs.Common.{arith}
 use Rattle.msq.proofs.Moves.{world_after-take_next}
 use Rattle.msq.proofs.Stops.{EventsRefused_told}
 use Rattle.msq.proofs.running.make_all.Goals as goal

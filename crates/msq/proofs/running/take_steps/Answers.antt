@@ -1,4 +1,4 @@
-use Rattle.std.proofs.Common.{◌≡◌, ◌≤◌, arith}
+use Rattle.std.proofs.Common.{arith}
 use Rattle.step_machine.specs.declared.actors.Move.TheVariants.{Step}
 use Rattle.msq.proofs.Moves.{world_after-replicate_next}
 use Rattle.msq.proofs.running.take_steps.Goals as goal
