@@ -40,9 +40,9 @@ IsFrontOf-grown m d (x ∷ xs) digit fits front =
     record {
       none = λ e. absurd cc;
       some = λ long one.
-        let first : x ≢ 48 = λ e. let lone : length ((x ∷ xs) ++ (48 + d) ∷ []) ≡ 1 = one e in absurd (omega (arith, length-append xs ((48 + d) ∷ []))) in
-        let same : x ∷ xs ≡ decimal m = front.some (omega arith) (λ e. absurd (first e)) in
-        ap (λ (front : List ℕ). front ++ (48 + d) ∷ []) same ∙ sym (decimal-grown m d (positive_from_first m x xs same first) digit fits);
+          let first : x ≢ 48 = λ e. let lone : length ((x ∷ xs) ++ (48 + d) ∷ []) ≡ 1 = one e in absurd (omega (arith, length-append xs ((48 + d) ∷ []))) in
+          let same : x ∷ xs ≡ decimal m = front.some (omega arith) (λ e. absurd (first e)) in
+          ap (λ (front : List ℕ). front ++ (48 + d) ∷ []) same ∙ sym (decimal-grown m d (positive_from_first m x xs same first) digit fits);
     }
 
 -- one more byte, where the number grows by its digit

@@ -28,6 +28,6 @@ unfolding schedule_text
 schedule_text_of_lines s count text r1 r2 r3 r4 r5 r6 r7 h0 h1 h2 h3 h4 h5 h6 h7 counted =
     rw counted
     (text_of_parts text (line (codes "msq schedule 1")) (line (codes "queue " ++ kind_name s.kind))
-        (line (codes "nodes " ++ decimal s.nodes)) (line (codes "limit " ++ decimal s.limit))
-        (line (codes "actors " ++ decimal s.actors)) (line (codes "events " ++ decimal count))
-        (flat_map event_line s.events) r1 r2 r3 r4 r5 r6 r7 h0 h1 h2 h3 h4 h5 h6 h7)
+    (line (codes "nodes " ++ decimal s.nodes)) (line (codes "limit " ++ decimal s.limit))
+    (line (codes "actors " ++ decimal s.actors)) (line (codes "events " ++ decimal count))
+    (flat_map event_line s.events) r1 r2 r3 r4 r5 r6 r7 h0 h1 h2 h3 h4 h5 h6 h7)

@@ -48,7 +48,7 @@ pub world_after-take_next : (events : List Event) (i : ℕ) (event : Event) (w v
 world_after-take_next events i event w v u within is before made =
     let longer : take (i + 1) events ≡ take i events ++ event ∷ [] = rw (add-one, take-suc events i event, ← is) refl in
     let moves : moves_of (take i events ++ event ∷ []) ≡ moves_of (take i events) ++ moves_of_event event =
-        flat_map-append moves_of_event (take i events) (event ∷ []) ∙ ap (λ (moves : List Move). moves_of (take i events) ++ moves) (flat_map-cons moves_of_event event [] ∙ append-nil (moves_of_event event)) in
+    flat_map-append moves_of_event (take i events) (event ∷ []) ∙ ap (λ (moves : List Move). moves_of (take i events) ++ moves) (flat_map-cons moves_of_event event [] ∙ append-nil (moves_of_event event)) in
     rw (longer, moves) (world_after_both (moves_of (take i events)) (moves_of_event event) w v u before made)
 
 steps_of_chosen : (b : Bool) (u v : World) → cond b (Some u) None ≡ Some v → v.steps ≡ u.steps

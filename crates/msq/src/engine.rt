@@ -33,11 +33,7 @@ fn history_of<R: Source>(alloc: Global, reader: &mut R) -> Result<Vec<Stamped>, 
 /// reader fails; `Text`, where the bytes are no schedule; the refusal of the first event that is
 /// refused, with its line; `Write`, where a call of the writer fails or takes nothing. It takes
 /// memory; whether it waits is up to the reader and the writer.
-pub fn run<R: Source, W: Sink>(
-    alloc: Global,
-    reader: &mut R,
-    writer: &mut W,
-) -> Result<(), Fault>
+pub fn run<R: Source, W: Sink>(alloc: Global, reader: &mut R, writer: &mut W) -> Result<(), Fault>
     // The text of the schedule's history is written, and nothing else.
     ensures ok { OnOk result (WritesRun (R.remaining reader.old) (W.contents writer.old)
         (W.contents writer.new)) }

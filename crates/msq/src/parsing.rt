@@ -79,11 +79,7 @@ fn keep(events: &mut Vec<Event>, event: Event) -> Result<(), Refusal>
 
 /// Adds the event of the line that is due as the line of this number, and answers what follows
 /// the line.
-fn push_event<'a>(
-    events: &mut Vec<Event>,
-    number: u64,
-    text: &'a [u8],
-) -> Result<&'a [u8], Refusal>
+fn push_event<'a>(events: &mut Vec<Event>, number: u64, text: &'a [u8]) -> Result<&'a [u8], Refusal>
     ensures ok { IfOk result (λ rest. AddsEvent events.old.items events.new.items text.now rest.now) }
     ensures err { IfErr result IsTextRefusal }
 {
@@ -98,11 +94,7 @@ fn push_event<'a>(
 }
 
 /// So many events, a line each, and what follows them.
-fn events_of(
-    alloc: Global,
-    count: u64,
-    text: &[u8],
-) -> Result<(Vec<Event>, &[u8]), Refusal>
+fn events_of(alloc: Global, count: u64, text: &[u8]) -> Result<(Vec<Event>, &[u8]), Refusal>
     ensures text { IfOk result (λ found.
         text.now ≡ flat_map event_line found.0.items ++ found.1.now) }
     ensures count { IfOk result (λ found. length found.0.items ≡ count) }

@@ -10,8 +10,8 @@ ghost use Rattle.msq.specs.Runs.{world_after, world_of, opening_of, StepsRefused
 use crate::faults::Fault;
 use crate::schedule::{Event, Schedule};
 use history::{Refusal, Reply};
-use step_machine::World;
 use std::alloc::Global;
+use step_machine::World;
 
 /// The line of a schedule's first event.
 const FIRST_EVENT_LINE: u64 = 7;

@@ -28,6 +28,10 @@ impl Model for Schedule {
     ghost Value = { Schedule };
 
     ghost view = { λ s. record {
-      kind = s.kind; nodes = s.nodes; limit = s.limit; actors = s.actors; events = s.events.items
+      kind = s.kind;
+      nodes = s.nodes;
+      limit = s.limit;
+      actors = s.actors;
+      events = s.events.items;
     } };
 }

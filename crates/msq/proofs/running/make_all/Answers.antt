@@ -8,7 +8,7 @@ loop-place-preserved c =
     let made = c.in_default.ensures in
     record {
       led = world_after-take_next c.args.events.now c.loop-place.place c.index-events-place.result _ c.loop-place.world _ c.loop-place-test.true
-            c.index-events-place.is c.loop-place.invariant.led made.ok;
+          c.index-events-place.is c.loop-place.invariant.led made.ok;
       steps = omega (arith, made.steps, c.loop-place.invariant.steps);
     }
 
