@@ -1,2 +1,4 @@
 pub mod Sending
 pub mod Rows
+pub mod Rising
+pub mod Placing

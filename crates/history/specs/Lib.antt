@@ -1,5 +1,6 @@
 pub mod Queue
 pub mod History
+pub mod Checking
 pub mod Devices
 pub mod Scripts
 pub mod Readers
