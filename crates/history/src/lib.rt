@@ -4,6 +4,7 @@
 mod blocks;
 mod checking;
 mod devices;
+pub mod laws;
 mod lines;
 mod operations;
 mod printing;
