@@ -1,2 +1,10 @@
 pub mod Sending
 pub mod Rows
+pub mod Rising
+pub mod Placing
+pub mod Judging
+pub mod Judged
+pub mod Finding
+pub mod Faulty
+pub mod FirstFault
+pub mod FirstWrong

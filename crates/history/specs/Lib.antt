@@ -1,5 +1,7 @@
 pub mod Queue
 pub mod History
+pub mod Checking
+pub mod Faults
 pub mod Devices
 pub mod Scripts
 pub mod Readers

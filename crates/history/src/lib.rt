@@ -2,18 +2,22 @@
 #![tactic(auto)]
 
 mod blocks;
+mod checking;
 mod devices;
+pub mod laws;
 mod lines;
 mod operations;
 mod printing;
 mod readers;
 mod refusals;
+mod replaying;
 mod scripts;
 #[cfg(test)]
 mod tests;
 mod writers;
 
 pub use blocks::{BLOCK, Block};
+pub use checking::check;
 pub use devices::{Sink, Source};
 pub use lines::{LINE_ROOM, Line};
 pub use operations::{Body, Cause, Entry, Op, Reply, Stamped, Taken, Verdict};

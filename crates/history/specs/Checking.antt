@@ -1,0 +1,39 @@
+-- What a map by place holds while a history is judged.
+use Rattle.std.specs.Prelude.{◌≡◌, ℕ, Option, None, List, [], ◌∷◌, ◌++◌, map}
+use Rattle.std.specs.BTreeMap.{BTreeMap, values}
+use Rattle.std.specs.Borrow.{Bor}
+use Rattle.history.specs.declared.operations.Stamped.{Stamped}
+use Rattle.history.specs.declared.operations.Cause.{Cause}
+use Rattle.history.specs.declared.operations.Taken.{Taken}
+use Rattle.history.specs.Queue.{Queue}
+use Rattle.history.specs.History.{number_of, rising, fault_of}
+
+-- operations lent by their places
+abbrev pub Places : Type 0
+Places = BTreeMap ℕ (Bor Stamped)
+
+-- an entry with the operation that it lends
+abbrev pub shown : ℕ × Bor Stamped → ℕ × Stamped
+shown e = (e.0, e.1.now)
+
+-- an operation with the number of its place
+abbrev pub numbered : Stamped → ℕ × Stamped
+numbered o = (number_of o.at, o)
+
+-- the operations that a map lends, by rising place
+abbrev pub listed : Places → List Stamped
+listed places = map (λ o. o.now) (values places)
+
+-- a map has those operations of a list that have a place, each at its place
+abbrev pub Holds : Places → List Stamped → Type 0
+Holds places ops = map shown places.entries ≡ map numbered (rising ops)
+
+-- the fault found is that of the operation after those in the map; where it has none, the map has it too
+abbrev pub Judges : Places → Places → Stamped → Option Cause → Type 0
+Judges old new o cause =
+    (before : List Stamped) → Holds old before →
+    (cause ≡ fault_of before o) × (cause ≡ None → Holds new (before ++ o ∷ []))
+
+-- the queue of these values
+abbrev pub queue_of : List Taken → Queue
+queue_of values = record { values = values }

@@ -1,0 +1,30 @@
+//! Laws of the verdict on a history, each the contract of a function that does nothing.
+ghost use Rattle.std.specs.Prelude.{◌≡◌, ◌↔◌, ℕ, List};
+ghost use Rattle.history.specs.declared.operations.Stamped.{Stamped};
+ghost use Rattle.history.specs.declared.operations.Verdict.TheVariants.{Yes, No};
+ghost use Rattle.history.specs.declared.operations.Cause.TheVariants.{Shape, Span, Shared, Reply};
+ghost use Rattle.history.specs.History.{Placement, IsLegal, verdict};
+ghost use Rattle.history.specs.Faults.{FirstIsMisshapen, FirstIsOutside, FirstIsShared, FirstIsWrong};
+
+/// A history is judged `Yes` exactly where it is well placed and legal.
+pub fn yes_is_placed_and_legal()
+    ensures { (ops : List Stamped) → (verdict ops ≡ Yes) ↔ (Placement ops × IsLegal ops) }
+{}
+
+/// `No` with `Shape`, `Span` or `Shared` names exactly the first operation of the list with a fault of these, and
+/// the first of these faults that it has.
+pub fn a_fault_is_the_first_of_the_list()
+    ensures shape { (ops : List Stamped) (place : ℕ)
+        → (verdict ops ≡ No place Shape) ↔ FirstIsMisshapen ops place }
+    ensures span { (ops : List Stamped) (place : ℕ)
+        → (verdict ops ≡ No place Span) ↔ FirstIsOutside ops place }
+    ensures shared { (ops : List Stamped) (place : ℕ)
+        → (verdict ops ≡ No place Shared) ↔ FirstIsShared ops place }
+{}
+
+/// `No` with `Reply` says exactly that the history is well placed, and that the operation named is the first one,
+/// by rising place, whose reply a queue doesn't give.
+pub fn a_wrong_reply_is_the_first_by_place()
+    ensures { (ops : List Stamped) (place : ℕ)
+        → (verdict ops ≡ No place Reply) ↔ FirstIsWrong ops place }
+{}
