@@ -20,3 +20,6 @@ pub mod Keeping
 pub mod Standing
 pub mod Naming
 pub mod Running
+pub mod Chains
+pub mod Counting
+pub mod Effects

@@ -3,6 +3,7 @@ pub mod Lines
 pub mod Machine
 pub mod Words
 pub mod Places
+pub mod Chains
 pub mod Views
 pub mod Calls
 pub mod Kept
