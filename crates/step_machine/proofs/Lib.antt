@@ -23,3 +23,6 @@ pub mod Running
 pub mod Chains
 pub mod Counting
 pub mod Effects
+pub mod Older
+pub mod Reaching
+pub mod Fixed
