@@ -26,3 +26,5 @@ pub mod Effects
 pub mod Older
 pub mod Reaching
 pub mod Fixed
+pub mod Accounts
+pub mod TwoLockKnows

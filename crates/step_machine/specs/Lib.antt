@@ -4,6 +4,7 @@ pub mod Machine
 pub mod Words
 pub mod Places
 pub mod Chains
+pub mod Promises
 pub mod Views
 pub mod Calls
 pub mod Kept
