@@ -61,6 +61,14 @@ others_stay nodes k n x p q d = let e : n - 1 ≢ k - 1 = omega arith in get_or-
 pub written : (nodes : List Node) (k : ℕ) (x : Node) → 1 ≤ k → k ≤ length nodes → node_in (set nodes (k - 1) x) k ≡ x
 written nodes k x p h = get_or-set_same nodes (k - 1) x blank (omega arith)
 
+-- a write to a `next` changes no value
+pub next_keeps_value : (m : Shared) (k : ℕ) (r : Ref) (n : ℕ) → 1 ≤ k → k ≤ length m.nodes → 1 ≤ n → (node_at (put (Next k) r m) n).value ≡ (node_at m n).value
+next_keeps_value m k r n some low one = go (same_or_not n k)
+  where
+    go : (n ≡ k) ⊎ (n ≢ k) → (node_at (put (Next k) r m) n).value ≡ (node_at m n).value
+    go (inl q) = subst (λ j. (node_at (put (Next k) r m) j).value ≡ (node_at m j).value) (sym q) (ap (λ (y : Node). y.value) (written m.nodes k _ some low))
+    go (inr d) = ap (λ (y : Node). y.value) (others_stay m.nodes k n _ some one d)
+
 -- a node of the hand is in no chain
 pub not_linked : (m : Shared) (E : ℕ → ℕ) (queue free : List ℕ) → Shape m E queue free → (k : ℕ) → 1 ≤ k → 1 ≤ E k → (times k queue ≡ 0) × (times k free ≡ 0)
 not_linked m E queue free sh k some here =
@@ -112,13 +120,13 @@ turn_aside m E queue free a b k sh away =
     }
 
 -- a node that was never used comes into the hand
-pub turn_claim : (m : Shared) (E : ℕ → ℕ) (queue free : List ℕ) (a b : Actor) → Shape m E queue free → ((n : ℕ) → holds n b ≡ holds n a + one_if (nat_eq n (m.fresh + 1))) → Turn m (put Fresh (m.fresh + 1) m) queue free queue free a b None
-turn_claim m E queue free a b sh more =
+pub turn_claim : (m : Shared) (E : ℕ → ℕ) (queue free : List ℕ) (a b : Actor) (c : ℕ) → Shape m E queue free → c ≡ m.fresh + 1 → ((n : ℕ) → holds n b ≡ holds n a + one_if (nat_eq n (m.fresh + 1))) → Turn m (put Fresh c m) queue free queue free a b None
+turn_claim m E queue free a b c sh e more =
     record {
       queue_chain = sh.queue_chain;
       free_chain = sh.free_chain;
-      counts = λ n some. omega (arith, more n, used_more n m.fresh);
-      writes = writes_none m (put Fresh (m.fresh + 1) m) queue a refl;
+      counts = λ n some. omega (arith, more n, used_more n m.fresh, ap (used n) e);
+      writes = writes_none m (put Fresh c m) queue a refl;
     }
 
 -- the first free node comes into the hand

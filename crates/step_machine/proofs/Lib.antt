@@ -28,3 +28,4 @@ pub mod Reaching
 pub mod Fixed
 pub mod Accounts
 pub mod TwoLockKnows
+pub mod TwoLockLines
