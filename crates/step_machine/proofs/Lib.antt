@@ -29,3 +29,4 @@ pub mod Fixed
 pub mod Accounts
 pub mod TwoLockKnows
 pub mod TwoLockLines
+pub mod TwoLockSound

@@ -519,7 +519,7 @@ module _ (s : Setup) (k : ℕ) (m : Shared) (E : ℕ → ℕ) (h : ℕ) (rest fr
   busy_or_given (Some (Refused why)) b d e = absurd e
 
   -- what giving up does
-  gives : (l : Line) → IsRunBy (section_of l) TwoLock → Before s k m E h rest free me a l → IfSome (gives_up now a l) (Does m)
+  pub gives : (l : Line) → IsRunBy (section_of l) TwoLock → Before s k m E h rest free me a l → IfSome (gives_up now a l) (Does m)
   gives N1 r b = refuses N1 a Busy b (λ n. refl) b.owns refl (ap earned b.fixed.earned)
   gives F1 r b = busy_or_given a.due b refl b.fixed.earned
   gives A3 r b = refuses A3 (to_pocket a) Busy b (λ n. omega (arith, holds_hand n a b.fixed.hand b.fixed.pocket)) b.owns refl (ap earned b.fixed.earned)
@@ -527,3 +527,72 @@ module _ (s : Setup) (k : ℕ) (m : Shared) (E : ℕ → ℕ) (h : ℕ) (rest fr
   gives E5 r b = absurd r
   gives D2 r b = absurd r
   gives _ r b = tt
+
+-- the step that takes the front value, where a second node is in the chain
+pops : (s : Setup) (k : ℕ) (m : Shared) (E : ℕ → ℕ) (h x : ℕ) (ns free : List ℕ) (me now : ℕ) (a : Actor) → Before s k m E h (x ∷ ns) free me a B5 → a.next.node ≡ x → After s m h (x ∷ ns) free me now a (put Head (raised s a.head a.next.node) m) (outcome s now me a B5 m.head)
+pops s k m E h x ns free me now a b e =
+    record {
+      queue' = x ∷ ns;
+      free' = free;
+      turn =
+          turn_pop m E h x ns free a (outcome s now me a B5 m.head).actor (raised s a.head a.next.node) b.shape (raised_node s a.head a.next.node b.fixed.room ∙ e)
+          (λ n. omega (arith, empty n, ap (λ j. one_if (nat_eq n j)) at));
+      own = tt;
+      rises = inl refl;
+      locks = λ you some other. record {
+        tail = λ f. (f, refl, refl);
+        tail_back = λ f. f;
+        head = λ f. absurd (other (sym f ∙ b.owns.1));
+        head_back = λ f. f;
+      };
+      settled = b.settled;
+      knows = tt;
+      owns = b.owns;
+      account = popped h x ns refl refl (raised_count s a.head a.next.node b.fixed.room ∙ ap (λ (r : Ref). r.count + 1) (sym b.knows.0)) refl (ap (λ v. Some (Value v)) value);
+    }
+  where
+    at : a.head.node ≡ h
+    at = ap (λ (r : Ref). r.node) (sym b.knows.0) ∙ b.shape.queue_chain.0
+
+    empty : (n : ℕ) → in_hand n a ≡ 0
+    empty n = ap (λ (z : Bool). if z then one_if (nat_eq n a.node) else 0) b.fixed.hand
+
+    value : a.val ≡ (node_at m x).value
+    value = sym b.knows.2 ∙ ap (λ j. (node_at m j).value) e
+
+line_B5 : (s : Setup) (k : ℕ) (m : Shared) (E : ℕ → ℕ) (h : ℕ) (rest free : List ℕ) (me now : ℕ) (a : Actor) → Before s k m E h rest free me a B5 → After s m h rest free me now a (performed (action s me a B5) m) (outcome s now me a B5 m.head)
+line_B5 s k m E h rest free me now a b =
+    subst (λ r. After s m h r free me now a (put Head (raised s a.head a.next.node) m) (outcome s now me a B5 m.head)) (sym second.1)
+    (pops s k m E h a.next.node second.0 free me now a (subst (λ r. Before s k m E h r free me a B5) second.1 b) refl)
+  where
+    leads : next_in m.nodes h ≡ a.next.node
+    leads =
+        ap (next_in m.nodes) (sym b.shape.queue_chain.0 ∙ ap (λ (r : Ref). r.node) b.knows.0) ∙ ap (λ (r : Ref). r.node) b.knows.1
+
+    second : (ns : List ℕ) × (rest ≡ a.next.node ∷ ns)
+    second = second_leads m.nodes m.head.node h a.next.node rest b.shape.queue_chain leads b.nodes.1
+
+-- what a step at each line does
+pub does : (s : Setup) (k : ℕ) (m : Shared) (E : ℕ → ℕ) (h : ℕ) (rest free : List ℕ) (me now : ℕ) (a : Actor) (l : Line) → IsRunBy (section_of l) TwoLock → Before s k m E h rest free me a l → After s m h rest free me now a (performed (action s me a l) m) (outcome s now me a l (found (action s me a l) m))
+does s k m E h rest free me now a N1 r b = line_N1 s k m E h rest free me now a b
+does s k m E h rest free me now a N2 r b = line_N2 s k m E h rest free me now a b
+does s k m E h rest free me now a N3 r b = line_N3 s k m E h rest free me now a b
+does s k m E h rest free me now a N4 r b = line_N4 s k m E h rest free me now a b
+does s k m E h rest free me now a N5 r b = line_N5 s k m E h rest free me now a b
+does s k m E h rest free me now a F1 r b = line_F1 s k m E h rest free me now a b
+does s k m E h rest free me now a F2 r b = line_F2 s k m E h rest free me now a b
+does s k m E h rest free me now a F3 r b = line_F3 s k m E h rest free me now a b
+does s k m E h rest free me now a A1 r b = line_A1 s k m E h rest free me now a b
+does s k m E h rest free me now a A2 r b = line_A2 s k m E h rest free me now a b
+does s k m E h rest free me now a A3 r b = line_A3 s k m E h rest free me now a b
+does s k m E h rest free me now a A4 r b = line_A4 s k m E h rest free me now a b
+does s k m E h rest free me now a A5 r b = line_A5 s k m E h rest free me now a b
+does s k m E h rest free me now a A6 r b = line_A6 s k m E h rest free me now a b
+does s k m E h rest free me now a A7 r b = line_A7 s k m E h rest free me now a b
+does s k m E h rest free me now a B1 r b = line_B1 s k m E h rest free me now a b
+does s k m E h rest free me now a B2 r b = line_B2 s k m E h rest free me now a b
+does s k m E h rest free me now a B3 r b = line_B3 s k m E h rest free me now a b
+does s k m E h rest free me now a B4 r b = line_B4 s k m E h rest free me now a b
+does s k m E h rest free me now a B5 r b = line_B5 s k m E h rest free me now a b
+does s k m E h rest free me now a B6 r b = line_B6 s k m E h rest free me now a b
+does s k m E h rest free me now a _ r b = absurd r
