@@ -26,25 +26,29 @@ use Rattle.step_machine.specs.Standing.{HoldsNodes, IsRunBy}
 use Rattle.step_machine.specs.Places.{IsChain, one_if, in_hand, in_pocket}
 use Rattle.step_machine.specs.Chains.{last_node}
 use Rattle.step_machine.specs.Promises.{earned, promised_reply}
-use Rattle.step_machine.proofs.Chains.{next_in, chain_some, last_linked, second_leads}
+use Rattle.step_machine.proofs.Chains.{next_in, chain_none, chain_some, last_linked, second_leads}
 use Rattle.step_machine.proofs.Counting.{holds, holds_hand, holds_none, holds_own}
 use Rattle.step_machine.proofs.Effects.{Shape, Turn, Took, written, next_keeps_value, turn_words, turn_aside, turn_claim, turn_take, turn_giveback, turn_node, turn_link, turn_pop, with_node as node_set}
 use Rattle.step_machine.proofs.Fixed.{FixedAt, EarnedFreeing, EarnedUnlocking, frees_after}
 use Rattle.step_machine.proofs.Older.{Rises}
 use Rattle.step_machine.proofs.Accounts.{KeepsReply, Account, quiet, refused, found_empty, pushed, popped, same_ref-true, raised_node, raised_count}
-use Rattle.step_machine.proofs.TwoLockKnows.{OwnsAt, Owns, has_tail, has_head, Ready, IsWorn, KnowsAt, LocksKept}
+use Rattle.step_machine.proofs.TwoLockKnows.{OwnsAt, Owns, has_tail, has_head, Ready, Unlocks, KnowsAt, LocksKept}
 
 -- the node that a step sets aside was in the actor's hand
 abbrev pub IsOwn : (fresh : ℕ) → Actor → Option ℕ → Type 0
 IsOwn fresh a None = Unit {0}
 IsOwn fresh a (Some k) = (1 ≤ k) × (k ≤ fresh) × (1 ≤ holds k a)
 
+-- the queue was found empty, at this number
+abbrev pub Found : List ℕ → (now : ℕ) → ℕ → Type 0
+Found rest now k = (rest ≡ []) × (k ≡ now)
+
 -- what holds before a step of an actor at a line, with the chains from Head and from Free
-pub record Before (s : Setup) (k : ℕ) (m : Shared) (E : ℕ → ℕ) (h : ℕ) (rest free : List ℕ) (me : ℕ) (a : Actor) (l : Line) : Type 0 where
+pub record Before (Z : ℕ → Type 0) (s : Setup) (k : ℕ) (m : Shared) (E : ℕ → ℕ) (h : ℕ) (rest free : List ℕ) (me : ℕ) (a : Actor) (l : Line) : Type 0 where
   pub shape : Shape m E (h ∷ rest) free
   pub mine : (n : ℕ) → holds n a ≤ E n
   pub fixed : FixedAt s.limit me a (Some l)
-  pub knows : KnowsAt s m (last_node (h ∷ rest)) a (Some l)
+  pub knows : KnowsAt Z s m (last_node (h ∷ rest)) a (Some l)
   pub owns : OwnsAt m me (Some l)
   pub settled : m.tail_lock ≡ 0 → last_node (h ∷ rest) ≡ m.tail.node
   pub range : SharedInRange s k m
@@ -53,7 +57,7 @@ pub record Before (s : Setup) (k : ℕ) (m : Shared) (E : ℕ → ℕ) (h : ℕ)
   pub some : 1 ≤ me
 
 -- what a step of an actor does
-pub record After (s : Setup) (m : Shared) (h : ℕ) (rest free : List ℕ) (me now : ℕ) (a : Actor) (m' : Shared) (o : Outcome) : Type 0 where
+pub record After (Z : ℕ → Type 0) (s : Setup) (m : Shared) (h : ℕ) (rest free : List ℕ) (me now : ℕ) (a : Actor) (m' : Shared) (o : Outcome) : Type 0 where
   pub queue' : List ℕ
   pub free' : List ℕ
   pub turn : Turn m m' (h ∷ rest) free queue' free' a o.actor o.aside
@@ -61,19 +65,19 @@ pub record After (s : Setup) (m : Shared) (h : ℕ) (rest free : List ℕ) (me n
   pub rises : Rises m.free m'.free
   pub locks : (you : ℕ) → 1 ≤ you → you ≢ me → LocksKept m m' (last_node (h ∷ rest)) (last_node queue') you
   pub settled : m'.tail_lock ≡ 0 → last_node queue' ≡ m'.tail.node
-  pub knows : KnowsAt s m' (last_node queue') o.actor o.actor.line
+  pub knows : KnowsAt (Found rest now) s m' (last_node queue') o.actor o.actor.line
   pub owns : OwnsAt m' me o.actor.line
-  pub account : Account now m m' (h ∷ rest) queue' a o
+  pub account : Account Z now m m' (h ∷ rest) queue' a o
 
 -- the locks, Tail and Head stay
 locks_same : (m : Shared) (free : Ref) (nodes : List Node) (fresh last you : ℕ) → LocksKept m (record m { fresh = fresh; free = free; nodes = nodes }) last last you
 locks_same m free nodes fresh last you =
     record { tail = λ e. (e, refl, refl); tail_back = λ e. e; head = λ e. (e, refl); head_back = λ e. e }
 
-module _ (s : Setup) (k : ℕ) (m : Shared) (E : ℕ → ℕ) (h : ℕ) (rest free : List ℕ) (me now : ℕ) (a : Actor) where
+module _ (Z : ℕ → Type 0) (s : Setup) (k : ℕ) (m : Shared) (E : ℕ → ℕ) (h : ℕ) (rest free : List ℕ) (me now : ℕ) (a : Actor) where
   -- what a step does, by the words and the outcome
   abbrev Does : Shared → Outcome → Type 0
-  Does m' o = After s m h rest free me now a m' o
+  Does m' o = After Z s m h rest free me now a m' o
 
   -- a choice between two outcomes, and between what they do with the words
   either : (b : Bool) (x y : Outcome) → (b ≡ true → Does m x) → (b ≡ false → Does m y) → Does m (if b then x else y)
@@ -85,7 +89,7 @@ module _ (s : Setup) (k : ℕ) (m : Shared) (E : ℕ → ℕ) (h : ℕ) (rest fr
   chosen false m1 x y hx hy = hy refl
 
   -- a step that writes no word
-  still : (l : Line) (o : Outcome) → Before s k m E h rest free me a l → ((n : ℕ) → holds n o.actor ≡ holds n a) → o.aside ≡ None → KnowsAt s m (last_node (h ∷ rest)) o.actor o.actor.line → OwnsAt m me o.actor.line → Account now m m (h ∷ rest) (h ∷ rest) a o → Does m o
+  still : (l : Line) (o : Outcome) → Before Z s k m E h rest free me a l → ((n : ℕ) → holds n o.actor ≡ holds n a) → o.aside ≡ None → KnowsAt (Found rest now) s m (last_node (h ∷ rest)) o.actor o.actor.line → OwnsAt m me o.actor.line → Account Z now m m (h ∷ rest) (h ∷ rest) a o → Does m o
   still l o b same none knows owns account =
       record {
         queue' = h ∷ rest;
@@ -101,23 +105,23 @@ module _ (s : Setup) (k : ℕ) (m : Shared) (E : ℕ → ℕ) (h : ℕ) (rest fr
       }
 
   -- it goes on at another line
-  goes_still : (l to : Line) (c : Actor) → Before s k m E h rest free me a l → ((n : ℕ) → holds n c ≡ holds n a) → KnowsAt s m (last_node (h ∷ rest)) (record c { line = Some to }) (Some to) → OwnsAt m me (Some to) → KeepsReply a (goes to c) → Does m (goes to c)
+  goes_still : (l to : Line) (c : Actor) → Before Z s k m E h rest free me a l → ((n : ℕ) → holds n c ≡ holds n a) → KnowsAt (Found rest now) s m (last_node (h ∷ rest)) (record c { line = Some to }) (Some to) → OwnsAt m me (Some to) → KeepsReply a (goes to c) → Does m (goes to c)
   goes_still l to c b same knows owns keeps = still l (goes to c) b same refl knows owns (quiet refl refl refl keeps)
 
   -- it ends with a refusal that was not earned before
-  refuses : (l : Line) (c : Actor) (why : Refusal) → Before s k m E h rest free me a l → ((n : ℕ) → holds n c ≡ holds n a) → OwnsAt m me None → leaves why ≡ true → earned a.due ≡ None → Does m (ends now (Refused why) c)
+  refuses : (l : Line) (c : Actor) (why : Refusal) → Before Z s k m E h rest free me a l → ((n : ℕ) → holds n c ≡ holds n a) → OwnsAt m me None → leaves why ≡ true → earned a.due ≡ None → Does m (ends now (Refused why) c)
   refuses l c why b same owns ok none =
       still l (ends now (Refused why) c) b same refl tt owns (refused why refl refl refl refl ok none)
 
   -- the hand at a line that has none, and at one that has a node
-  empty_hand : (l : Line) (n : ℕ) → Before s k m E h rest free me a l → a.holds ≡ false → in_hand n a ≡ 0
+  empty_hand : (l : Line) (n : ℕ) → Before Z s k m E h rest free me a l → a.holds ≡ false → in_hand n a ≡ 0
   empty_hand l n b e = ap (λ (x : Bool). if x then one_if (nat_eq n a.node) else 0) e
 
-  full_hand : (l : Line) (n : ℕ) → Before s k m E h rest free me a l → a.holds ≡ true → in_hand n a ≡ one_if (nat_eq n a.node)
+  full_hand : (l : Line) (n : ℕ) → Before Z s k m E h rest free me a l → a.holds ≡ true → in_hand n a ≡ one_if (nat_eq n a.node)
   full_hand l n b e = ap (λ (x : Bool). if x then one_if (nat_eq n a.node) else 0) e
 
   -- a call for a node goes on with it
-  knows_with_node : (kind : Kind) (m' : Shared) (last : ℕ) (c : Actor) → KnowsAt s m' last c (Some (with_node kind))
+  knows_with_node : (kind : Kind) (m' : Shared) (last : ℕ) (c : Actor) → KnowsAt (Found rest now) s m' last c (Some (with_node kind))
   knows_with_node TwoLock m' last c = tt
   knows_with_node NonBlocking m' last c = tt
 
@@ -125,10 +129,10 @@ module _ (s : Setup) (k : ℕ) (m : Shared) (E : ℕ → ℕ) (h : ℕ) (rest fr
   owns_with_node TwoLock m' t d = (t, d)
   owns_with_node NonBlocking m' t d = (t, d)
 
-  line_N1 : Before s k m E h rest free me a N1 → Does m (outcome s now me a N1 m.fresh)
+  line_N1 : Before Z s k m E h rest free me a N1 → Does m (outcome s now me a N1 m.fresh)
   line_N1 b = goes_still N1 N2 (record a { f = m.fresh }) b (λ n. refl) tt b.owns (inl (ap earned b.fixed.earned))
 
-  line_N2 : Before s k m E h rest free me a N2 → Does m (outcome s now me a N2 m.free)
+  line_N2 : Before Z s k m E h rest free me a N2 → Does m (outcome s now me a N2 m.free)
   line_N2 b =
       let c : Actor = record a { top = m.free } in
       either (is_null m.free) _ _
@@ -137,12 +141,12 @@ module _ (s : Setup) (k : ℕ) (m : Shared) (E : ℕ → ℕ) (h : ℕ) (rest fr
       (λ e. either (nat_eq m.free.count s.limit) _ _ (λ f. refuses N2 c (WornOut OfFree) b (λ n. refl) b.owns refl (ap earned b.fixed.earned))
       (λ f. goes_still N2 N3 c b (λ n. refl) (inl refl) b.owns (inl (ap earned b.fixed.earned))))
 
-  line_N3 : Before s k m E h rest free me a N3 → Does m (outcome s now me a N3 (node_at m a.top.node).next)
+  line_N3 : Before Z s k m E h rest free me a N3 → Does m (outcome s now me a N3 (node_at m a.top.node).next)
   line_N3 b =
       goes_still N3 N4 (record a { next = (node_at m a.top.node).next }) b (λ n. refl) (b.knows, λ e. refl) b.owns (inl (ap earned b.fixed.earned))
 
   -- the exchange that takes the first free node
-  takes_free : Before s k m E h rest free me a N4 → same_ref m.free a.top ≡ true → Does (put Free (raised s a.top a.next.node) m) (goes (with_node s.kind) (takes a.top.node a.next.count a))
+  takes_free : Before Z s k m E h rest free me a N4 → same_ref m.free a.top ≡ true → Does (put Free (raised s a.top a.next.node) m) (goes (with_node s.kind) (takes a.top.node a.next.count a))
   takes_free b e =
       record {
         queue' = h ∷ rest;
@@ -167,13 +171,13 @@ module _ (s : Setup) (k : ℕ) (m : Shared) (E : ℕ → ℕ) (h : ℕ) (rest fr
           (raised_node s a.top a.next.node b.fixed.room ∙ sym (ap (λ (r : Ref). r.node) (b.knows.1 at)) ∙ ap (λ (r : Ref). next_in m.nodes r.node) (sym at))
           (λ n. omega (arith, empty_hand N4 n b b.fixed.hand, ap (λ (r : Ref). one_if (nat_eq n r.node)) at))
 
-  line_N4 : Before s k m E h rest free me a N4 → Does (performed (action s me a N4) m) (outcome s now me a N4 m.free)
+  line_N4 : Before Z s k m E h rest free me a N4 → Does (performed (action s me a N4) m) (outcome s now me a N4 m.free)
   line_N4 b =
       chosen (same_ref m.free a.top) _ _ _ (takes_free b)
       (λ e. goes_still N4 N1 a b (λ n. refl) tt b.owns (inl (ap earned b.fixed.earned)))
 
   -- the exchange that takes a node that was never used
-  claims : Before s k m E h rest free me a N5 → nat_eq m.fresh a.f ≡ true → Does (put Fresh (a.f + 1) m) (goes (with_node s.kind) (takes (a.f + 1) 0 a))
+  claims : Before Z s k m E h rest free me a N5 → nat_eq m.fresh a.f ≡ true → Does (put Fresh (a.f + 1) m) (goes (with_node s.kind) (takes (a.f + 1) 0 a))
   claims b e =
       let at : m.fresh ≡ a.f = eqb-true m.fresh a.f e in
       record {
@@ -189,12 +193,12 @@ module _ (s : Setup) (k : ℕ) (m : Shared) (E : ℕ → ℕ) (h : ℕ) (rest fr
         account = quiet refl refl refl (inl (ap earned b.fixed.earned));
       }
 
-  line_N5 : Before s k m E h rest free me a N5 → Does (performed (action s me a N5) m) (outcome s now me a N5 m.fresh)
+  line_N5 : Before Z s k m E h rest free me a N5 → Does (performed (action s me a N5) m) (outcome s now me a N5 m.fresh)
   line_N5 b =
       chosen (nat_eq m.fresh a.f) _ _ _ (claims b) (λ e. goes_still N5 N1 a b (λ n. refl) tt b.owns (inl (ap earned b.fixed.earned)))
 
   -- the node in hand is one of those used
-  within : (l : Line) → Before s k m E h rest free me a l → a.node ≤ length m.nodes
+  within : (l : Line) → Before Z s k m E h rest free me a l → a.node ≤ length m.nodes
   within l b =
       let low : a.node ≤ m.fresh = b.registers.node in
       let up : m.fresh ≤ s.size = b.range.fresh in
@@ -202,7 +206,7 @@ module _ (s : Setup) (k : ℕ) (m : Shared) (E : ℕ → ℕ) (h : ℕ) (rest fr
       omega arith
 
   -- a node that isn't freed is set aside; c is the actor then
-  asides_own : (l : Line) (o : Outcome) → Before s k m E h rest free me a l → a.holds ≡ true → a.pocket ≡ None → 1 ≤ a.node → o.aside ≡ Some a.node → ((n : ℕ) → holds n o.actor ≡ in_pocket n a.pocket) → KnowsAt s m (last_node (h ∷ rest)) o.actor o.actor.line → OwnsAt m me o.actor.line → Account now m m (h ∷ rest) (h ∷ rest) a o → Does m o
+  asides_own : (l : Line) (o : Outcome) → Before Z s k m E h rest free me a l → a.holds ≡ true → a.pocket ≡ None → 1 ≤ a.node → o.aside ≡ Some a.node → ((n : ℕ) → holds n o.actor ≡ in_pocket n a.pocket) → KnowsAt (Found rest now) s m (last_node (h ∷ rest)) o.actor o.actor.line → OwnsAt m me o.actor.line → Account Z now m m (h ∷ rest) (h ∷ rest) a o → Does m o
   asides_own l o b hand pocket some is left knows owns account =
       record {
         queue' = h ∷ rest;
@@ -225,7 +229,7 @@ module _ (s : Setup) (k : ℕ) (m : Shared) (E : ℕ → ℕ) (h : ℕ) (rest fr
   frees_keep o (Some Empty) e d same = absurd e
   frees_keep o (Some (Refused why)) e d same = absurd e
 
-  aside_freed : (c : Actor) (kind : Kind) (due : Option Reply) → Before s k m E h rest free me a F1 → c.node ≡ a.node → c.pocket ≡ a.pocket → c.due ≡ due → a.due ≡ due → EarnedFreeing due → Does m (sets_aside (freed kind now due c))
+  aside_freed : (c : Actor) (kind : Kind) (due : Option Reply) → Before Z s k m E h rest free me a F1 → c.node ≡ a.node → c.pocket ≡ a.pocket → c.due ≡ due → a.due ≡ due → EarnedFreeing due → Does m (sets_aside (freed kind now due c))
   aside_freed c TwoLock None b n p d f e =
       asides_own F1 (sets_aside (freed TwoLock now None c)) b b.fixed.hand b.fixed.pocket b.nodes (ap Some n) (λ i. omega (arith, ap (in_pocket i) p)) tt b.owns
       (quiet refl refl refl (inl (ap earned f)))
@@ -239,7 +243,7 @@ module _ (s : Setup) (k : ℕ) (m : Shared) (E : ℕ → ℕ) (h : ℕ) (rest fr
   aside_freed c kind (Some Empty) b n p d f e = absurd e
   aside_freed c kind (Some (Refused why)) b n p d f e = absurd e
 
-  line_F1 : Before s k m E h rest free me a F1 → Does m (outcome s now me a F1 m.free)
+  line_F1 : Before Z s k m E h rest free me a F1 → Does m (outcome s now me a F1 m.free)
   line_F1 b =
       let c : Actor = record a { top = m.free } in
       either (nat_eq m.free.count s.limit) _ _ (λ e. aside_freed c s.kind a.due b refl refl refl refl b.fixed.earned)
@@ -253,7 +257,7 @@ module _ (s : Setup) (k : ℕ) (m : Shared) (E : ℕ → ℕ) (h : ℕ) (rest fr
       kept n (Some (Refused why)) e = absurd e
 
   -- the node in hand is written
-  writes_own : (l : Line) (o : Outcome) (x : Node) → Before s k m E h rest free me a l → a.holds ≡ true → a.pocket ≡ None → 1 ≤ a.node → ((n : ℕ) → holds n o.actor ≡ holds n a) → o.aside ≡ None → KnowsAt s (node_set m a.node x) (last_node (h ∷ rest)) o.actor o.actor.line → OwnsAt m me o.actor.line → o.at ≡ None → KeepsReply a o → Does (node_set m a.node x) o
+  writes_own : (l : Line) (o : Outcome) (x : Node) → Before Z s k m E h rest free me a l → a.holds ≡ true → a.pocket ≡ None → 1 ≤ a.node → ((n : ℕ) → holds n o.actor ≡ holds n a) → o.aside ≡ None → KnowsAt (Found rest now) s (node_set m a.node x) (last_node (h ∷ rest)) o.actor o.actor.line → OwnsAt m me o.actor.line → o.at ≡ None → KeepsReply a o → Does (node_set m a.node x) o
   writes_own l o x b hand pocket some same none knows owns at keeps =
       record {
         queue' = h ∷ rest;
@@ -270,7 +274,7 @@ module _ (s : Setup) (k : ℕ) (m : Shared) (E : ℕ → ℕ) (h : ℕ) (rest fr
         account = quiet refl refl at keeps;
       }
 
-  line_F2 : Before s k m E h rest free me a F2 → Does (performed (action s me a F2) m) (outcome s now me a F2 (node_at m a.node).next)
+  line_F2 : Before Z s k m E h rest free me a F2 → Does (performed (action s me a F2) m) (outcome s now me a F2 (node_at m a.node).next)
   line_F2 b =
       writes_own F2 (goes F3 a) (record (node_at m a.node) { next = ref a.top.node a.mark }) b b.fixed.hand b.fixed.pocket b.nodes (λ n. refl) refl
       (ap (λ (x : Node). x.next) (written m.nodes a.node _ b.nodes (within F2 b)))
@@ -284,7 +288,7 @@ module _ (s : Setup) (k : ℕ) (m : Shared) (E : ℕ → ℕ) (h : ℕ) (rest fr
       keeps (Some (Refused why)) e = absurd e
 
   -- the free nodes, with the one in hand before them
-  gives_back : (o : Outcome) → Before s k m E h rest free me a F3 → same_ref m.free a.top ≡ true → o.aside ≡ None → ((n : ℕ) → holds n o.actor ≡ in_pocket n a.pocket) → KnowsAt s (put Free (raised s a.top a.node) m) (last_node (h ∷ rest)) o.actor o.actor.line → OwnsAt m me o.actor.line → o.at ≡ None → KeepsReply a o → Does (put Free (raised s a.top a.node) m) o
+  gives_back : (o : Outcome) → Before Z s k m E h rest free me a F3 → same_ref m.free a.top ≡ true → o.aside ≡ None → ((n : ℕ) → holds n o.actor ≡ in_pocket n a.pocket) → KnowsAt (Found rest now) s (put Free (raised s a.top a.node) m) (last_node (h ∷ rest)) o.actor o.actor.line → OwnsAt m me o.actor.line → o.at ≡ None → KeepsReply a o → Does (put Free (raised s a.top a.node) m) o
   gives_back o b e none left knows owns at keeps =
       let was : m.free ≡ a.top = same_ref-true m.free a.top e in
       record {
@@ -305,7 +309,7 @@ module _ (s : Setup) (k : ℕ) (m : Shared) (E : ℕ → ℕ) (h : ℕ) (rest fr
         account = quiet refl refl at keeps;
       }
 
-  freed_back : (c : Actor) (kind : Kind) (due : Option Reply) → Before s k m E h rest free me a F3 → same_ref m.free a.top ≡ true → c.pocket ≡ a.pocket → c.holds ≡ false → a.due ≡ due → EarnedFreeing due → Does (put Free (raised s a.top a.node) m) (freed kind now due c)
+  freed_back : (c : Actor) (kind : Kind) (due : Option Reply) → Before Z s k m E h rest free me a F3 → same_ref m.free a.top ≡ true → c.pocket ≡ a.pocket → c.holds ≡ false → a.due ≡ due → EarnedFreeing due → Does (put Free (raised s a.top a.node) m) (freed kind now due c)
   freed_back c TwoLock None b e p z d f = gives_back (freed TwoLock now None c) b e refl (λ n. left n) tt b.owns refl (inl (ap earned d))
     where
       left : (n : ℕ) → in_hand n c + in_pocket n c.pocket ≡ in_pocket n a.pocket
@@ -331,18 +335,18 @@ module _ (s : Setup) (k : ℕ) (m : Shared) (E : ℕ → ℕ) (h : ℕ) (rest fr
   keeps_due (Some Empty) e n = absurd e
   keeps_due (Some (Refused why)) e n = absurd e
 
-  line_F3 : Before s k m E h rest free me a F3 → Does (performed (action s me a F3) m) (outcome s now me a F3 m.free)
+  line_F3 : Before Z s k m E h rest free me a F3 → Does (performed (action s me a F3) m) (outcome s now me a F3 m.free)
   line_F3 b =
       chosen (same_ref m.free a.top) _ _ _ (λ e. freed_back (lets_go a) s.kind a.due b e refl refl refl b.fixed.earned)
       (λ e. goes_still F3 F1 a b (λ n. refl) tt b.owns (frees_keep (goes F1 a) a.due b.fixed.earned refl (keeps_due a.due b.fixed.earned)))
 
-  line_A1 : Before s k m E h rest free me a A1 → Does (performed (action s me a A1) m) (outcome s now me a A1 (node_at m a.node).value)
+  line_A1 : Before Z s k m E h rest free me a A1 → Does (performed (action s me a A1) m) (outcome s now me a A1 (node_at m a.node).value)
   line_A1 b =
       writes_own A1 (goes A2 a) (record (node_at m a.node) { value = a.val }) b b.fixed.hand b.fixed.pocket b.nodes (λ n. refl) refl
       (ap (λ (x : Node). x.value) (written m.nodes a.node _ b.nodes (within A1 b)))
       b.owns refl (inl (ap earned b.fixed.earned))
 
-  line_A2 : Before s k m E h rest free me a A2 → Does (performed (action s me a A2) m) (outcome s now me a A2 (node_at m a.node).next)
+  line_A2 : Before Z s k m E h rest free me a A2 → Does (performed (action s me a A2) m) (outcome s now me a A2 (node_at m a.node).next)
   line_A2 b =
       let is : node_at (node_set m a.node (record (node_at m a.node) { next = record (node_at m a.node).next { node = 0 } })) a.node ≡ record (node_at m a.node) { next = record (node_at m a.node).next { node = 0 } } =
       written m.nodes a.node _ b.nodes (within A2 b) in
@@ -351,7 +355,7 @@ module _ (s : Setup) (k : ℕ) (m : Shared) (E : ℕ → ℕ) (h : ℕ) (rest fr
       b.owns refl (inl (ap earned b.fixed.earned))
 
   -- a word that is no node, and not Fresh, Free or Head's node, is written, and the queue's chain stays
-  words_written : (l : Line) (m' : Shared) (o : Outcome) → Before s k m E h rest free me a l → m'.nodes ≡ m.nodes → m'.head ≡ m.head → m'.free ≡ m.free → m'.fresh ≡ m.fresh → ((n : ℕ) → holds n o.actor ≡ holds n a) → o.aside ≡ None → ((you : ℕ) → 1 ≤ you → you ≢ me → LocksKept m m' (last_node (h ∷ rest)) (last_node (h ∷ rest)) you) → (m'.tail_lock ≡ 0 → last_node (h ∷ rest) ≡ m'.tail.node) → KnowsAt s m' (last_node (h ∷ rest)) o.actor o.actor.line → OwnsAt m' me o.actor.line → Account now m m' (h ∷ rest) (h ∷ rest) a o → Does m' o
+  words_written : (l : Line) (m' : Shared) (o : Outcome) → Before Z s k m E h rest free me a l → m'.nodes ≡ m.nodes → m'.head ≡ m.head → m'.free ≡ m.free → m'.fresh ≡ m.fresh → ((n : ℕ) → holds n o.actor ≡ holds n a) → o.aside ≡ None → ((you : ℕ) → 1 ≤ you → you ≢ me → LocksKept m m' (last_node (h ∷ rest)) (last_node (h ∷ rest)) you) → (m'.tail_lock ≡ 0 → last_node (h ∷ rest) ≡ m'.tail.node) → KnowsAt (Found rest now) s m' (last_node (h ∷ rest)) o.actor o.actor.line → OwnsAt m' me o.actor.line → Account Z now m m' (h ∷ rest) (h ∷ rest) a o → Does m' o
   words_written l m' o b nodes head top fresh same none locks settled knows owns account =
       record {
         queue' = h ∷ rest;
@@ -368,7 +372,7 @@ module _ (s : Setup) (k : ℕ) (m : Shared) (E : ℕ → ℕ) (h : ℕ) (rest fr
         account = account;
       }
 
-  line_A3 : Before s k m E h rest free me a A3 → Does (performed (action s me a A3) m) (outcome s now me a A3 m.tail_lock)
+  line_A3 : Before Z s k m E h rest free me a A3 → Does (performed (action s me a A3) m) (outcome s now me a A3 m.tail_lock)
   line_A3 b =
       chosen (nat_eq m.tail_lock 0) _ _ _ won (λ e. goes_still A3 A3 a b (λ n. refl) b.knows b.owns (inl (ap earned b.fixed.earned)))
     where
@@ -385,11 +389,11 @@ module _ (s : Setup) (k : ℕ) (m : Shared) (E : ℕ → ℕ) (h : ℕ) (rest fr
           (λ f. absurd (let some : 1 ≤ me = b.some in omega arith))
           (b.knows, b.settled none) (refl, b.owns.1) (quiet refl refl refl (inl (ap earned b.fixed.earned)))
 
-  line_A4 : Before s k m E h rest free me a A4 → Does m (outcome s now me a A4 m.tail)
+  line_A4 : Before Z s k m E h rest free me a A4 → Does m (outcome s now me a A4 m.tail)
   line_A4 b =
       goes_still A4 A5 (record a { tail = m.tail }) b (λ n. refl) (b.knows.0, b.knows.1, refl) b.owns (inl (ap earned b.fixed.earned))
 
-  line_A5 : Before s k m E h rest free me a A5 → Does (performed (action s me a A5) m) (outcome s now me a A5 (node_at m a.tail.node).next)
+  line_A5 : Before Z s k m E h rest free me a A5 → Does (performed (action s me a A5) m) (outcome s now me a A5 (node_at m a.tail.node).next)
   line_A5 b =
       record {
         queue' = h ∷ rest ++ a.node ∷ [];
@@ -422,7 +426,7 @@ module _ (s : Setup) (k : ℕ) (m : Shared) (E : ℕ → ℕ) (h : ℕ) (rest fr
           let all : length m.nodes ≡ s.size = b.range.all_nodes in
           omega arith
 
-  line_A6 : Before s k m E h rest free me a A6 → Does (performed (action s me a A6) m) (outcome s now me a A6 m.tail)
+  line_A6 : Before Z s k m E h rest free me a A6 → Does (performed (action s me a A6) m) (outcome s now me a A6 m.tail)
   line_A6 b =
       words_written A6 (put Tail (ref a.node 0) m) (goes A7 a) b refl refl refl refl (λ n. refl) refl
       (λ you some other. record {
@@ -433,7 +437,7 @@ module _ (s : Setup) (k : ℕ) (m : Shared) (E : ℕ → ℕ) (h : ℕ) (rest fr
       })
       (λ f. b.knows) b.knows b.owns (quiet refl refl refl (inr (λ n. refl)))
 
-  line_A7 : Before s k m E h rest free me a A7 → Does (performed (action s me a A7) m) (outcome s now me a A7 m.tail_lock)
+  line_A7 : Before Z s k m E h rest free me a A7 → Does (performed (action s me a A7) m) (outcome s now me a A7 m.tail_lock)
   line_A7 b =
       words_written A7 (put Tail_lock 0 m) (ends now Done a) b refl refl refl refl (λ n. refl) refl
       (λ you some other. record {
@@ -445,7 +449,7 @@ module _ (s : Setup) (k : ℕ) (m : Shared) (E : ℕ → ℕ) (h : ℕ) (rest fr
       (λ f. b.knows) tt (λ f. let some : 1 ≤ me = b.some in omega arith, b.owns.1)
       (quiet refl refl refl (inr (λ n. sym (ap earned b.fixed.earned))))
 
-  line_B1 : Before s k m E h rest free me a B1 → Does (performed (action s me a B1) m) (outcome s now me a B1 m.head_lock)
+  line_B1 : Before Z s k m E h rest free me a B1 → Does (performed (action s me a B1) m) (outcome s now me a B1 m.head_lock)
   line_B1 b =
       chosen (nat_eq m.head_lock 0) _ _ _ won (λ e. goes_still B1 B1 a b (λ n. refl) tt b.owns (inl (ap earned b.fixed.earned)))
     where
@@ -461,17 +465,23 @@ module _ (s : Setup) (k : ℕ) (m : Shared) (E : ℕ → ℕ) (h : ℕ) (rest fr
           })
           b.settled tt (b.owns.0, refl) (quiet refl refl refl (inl (ap earned b.fixed.earned)))
 
-  line_B2 : Before s k m E h rest free me a B2 → Does m (outcome s now me a B2 m.head)
+  line_B2 : Before Z s k m E h rest free me a B2 → Does m (outcome s now me a B2 m.head)
   line_B2 b = goes_still B2 B3 (record a { head = m.head }) b (λ n. refl) refl b.owns (inl (ap earned b.fixed.earned))
 
-  line_B3 : Before s k m E h rest free me a B3 → Does m (outcome s now me a B3 (node_at m a.head.node).next)
+  line_B3 : Before Z s k m E h rest free me a B3 → Does m (outcome s now me a B3 (node_at m a.head.node).next)
   line_B3 b =
       let c : Actor = record a { next = (node_at m a.head.node).next; noted = now } in
       either (is_null (node_at m a.head.node).next) _ _
-      (λ e. goes_still B3 B6 (record c { due = Some Empty }) b (λ n. refl) tt b.owns (inl (ap earned b.fixed.earned)))
+      (λ e. goes_still B3 B6 (record c { due = Some Empty }) b (λ n. refl) (none e, refl) b.owns (inl (ap earned b.fixed.earned)))
       (λ e. goes_still B3 B4 c b (λ n. refl) (b.knows, refl) b.owns (inl (ap earned b.fixed.earned)))
+    where
+      at : h ≡ a.head.node
+      at = sym b.shape.queue_chain.0 ∙ ap (λ (r : Ref). r.node) b.knows
 
-  line_B4 : Before s k m E h rest free me a B4 → Does m (outcome s now me a B4 (node_at m a.next.node).value)
+      none : is_null (node_at m a.head.node).next ≡ true → rest ≡ []
+      none e = chain_none m.nodes (next_in m.nodes h) rest (ap (next_in m.nodes) at ∙ eqb-true (node_at m a.head.node).next.node 0 e) b.shape.queue_chain.3
+
+  line_B4 : Before Z s k m E h rest free me a B4 → Does m (outcome s now me a B4 (node_at m a.next.node).value)
   line_B4 b =
       let c : Actor = record a { val = (node_at m a.next.node).value } in
       either (nat_eq a.head.count s.limit) _ _
@@ -479,7 +489,7 @@ module _ (s : Setup) (k : ℕ) (m : Shared) (E : ℕ → ℕ) (h : ℕ) (rest fr
       (λ e. goes_still B4 B5 c b (λ n. refl) (b.knows.0, b.knows.1, refl) b.owns (inl (ap earned b.fixed.earned)))
 
   -- a step of B6, by what the call has earned
-  lets_head_go : (o : Outcome) → Before s k m E h rest free me a B6 → ((n : ℕ) → holds n o.actor ≡ holds n a) → o.aside ≡ None → KnowsAt s (put Head_lock 0 m) (last_node (h ∷ rest)) o.actor o.actor.line → has_tail o.actor.line ≡ false → has_head o.actor.line ≡ false → Account now m (put Head_lock 0 m) (h ∷ rest) (h ∷ rest) a o → Does (put Head_lock 0 m) o
+  lets_head_go : (o : Outcome) → Before Z s k m E h rest free me a B6 → ((n : ℕ) → holds n o.actor ≡ holds n a) → o.aside ≡ None → KnowsAt (Found rest now) s (put Head_lock 0 m) (last_node (h ∷ rest)) o.actor o.actor.line → has_tail o.actor.line ≡ false → has_head o.actor.line ≡ false → Account Z now m (put Head_lock 0 m) (h ∷ rest) (h ∷ rest) a o → Does (put Head_lock 0 m) o
   lets_head_go o b same none knows t d account =
       words_written B6 (put Head_lock 0 m) o b refl refl refl refl same none
       (λ you some other. record {
@@ -492,19 +502,19 @@ module _ (s : Setup) (k : ℕ) (m : Shared) (E : ℕ → ℕ) (h : ℕ) (rest fr
       (subst (λ x. Owns m.tail_lock me x) (sym t) b.owns.0, subst (λ x. Owns 0 me x) (sym d) (λ f. let some : 1 ≤ me = b.some in omega arith))
       account
 
-  unlocks : (due : Option Reply) → Before s k m E h rest free me a B6 → a.due ≡ due → EarnedUnlocking due → Does (put Head_lock 0 m) (unlocked now due a)
+  unlocks : (due : Option Reply) → Before Z s k m E h rest free me a B6 → a.due ≡ due → EarnedUnlocking due → Does (put Head_lock 0 m) (unlocked now due a)
   unlocks None b d e = absurd e
   unlocks (Some Done) b d e = absurd e
   unlocks (Some (Value v)) b d e = lets_head_go (goes F1 a) b (λ n. refl) refl tt refl refl (quiet refl refl refl (inr (λ n. refl)))
-  unlocks (Some Empty) b d e = lets_head_go (ends now Empty a) b (λ n. refl) refl tt refl refl (found_empty refl refl refl refl b.fixed.call (ap earned d))
+  unlocks (Some Empty) b d e = lets_head_go (ends now Empty a) b (λ n. refl) refl tt refl refl (found_empty refl refl refl refl b.fixed.call (ap earned d) (subst (Unlocks Z s.limit m a.noted) d b.knows))
   unlocks (Some (Refused why)) b d e =
       lets_head_go (ends now (Refused why) a) b (λ n. refl) refl tt refl refl
       (refused why refl refl refl refl (ap leaves e) (ap earned d))
 
-  line_B6 : Before s k m E h rest free me a B6 → Does (performed (action s me a B6) m) (outcome s now me a B6 m.head_lock)
+  line_B6 : Before Z s k m E h rest free me a B6 → Does (performed (action s me a B6) m) (outcome s now me a B6 m.head_lock)
   line_B6 b = unlocks a.due b refl b.fixed.earned
 
-  busy_or_given : (due : Option Reply) → Before s k m E h rest free me a F1 → a.due ≡ due → EarnedFreeing due → IfSome (busy_or now due (to_pocket a)) (Does m)
+  busy_or_given : (due : Option Reply) → Before Z s k m E h rest free me a F1 → a.due ≡ due → EarnedFreeing due → IfSome (busy_or now due (to_pocket a)) (Does m)
   busy_or_given None b d e = refuses F1 (to_pocket a) Busy b (λ n. to_its_pocket n b.fixed.hand b.fixed.pocket) b.owns refl (ap earned d)
     where
       to_its_pocket : (n : ℕ) → a.holds ≡ true → a.pocket ≡ None → holds n (to_pocket a) ≡ holds n a
@@ -519,7 +529,7 @@ module _ (s : Setup) (k : ℕ) (m : Shared) (E : ℕ → ℕ) (h : ℕ) (rest fr
   busy_or_given (Some (Refused why)) b d e = absurd e
 
   -- what giving up does
-  pub gives : (l : Line) → IsRunBy (section_of l) TwoLock → Before s k m E h rest free me a l → IfSome (gives_up now a l) (Does m)
+  pub gives : (l : Line) → IsRunBy (section_of l) TwoLock → Before Z s k m E h rest free me a l → IfSome (gives_up now a l) (Does m)
   gives N1 r b = refuses N1 a Busy b (λ n. refl) b.owns refl (ap earned b.fixed.earned)
   gives F1 r b = busy_or_given a.due b refl b.fixed.earned
   gives A3 r b = refuses A3 (to_pocket a) Busy b (λ n. omega (arith, holds_hand n a b.fixed.hand b.fixed.pocket)) b.owns refl (ap earned b.fixed.earned)
@@ -529,8 +539,8 @@ module _ (s : Setup) (k : ℕ) (m : Shared) (E : ℕ → ℕ) (h : ℕ) (rest fr
   gives _ r b = tt
 
 -- the step that takes the front value, where a second node is in the chain
-pops : (s : Setup) (k : ℕ) (m : Shared) (E : ℕ → ℕ) (h x : ℕ) (ns free : List ℕ) (me now : ℕ) (a : Actor) → Before s k m E h (x ∷ ns) free me a B5 → a.next.node ≡ x → After s m h (x ∷ ns) free me now a (put Head (raised s a.head a.next.node) m) (outcome s now me a B5 m.head)
-pops s k m E h x ns free me now a b e =
+pops : (Z : ℕ → Type 0) (s : Setup) (k : ℕ) (m : Shared) (E : ℕ → ℕ) (h x : ℕ) (ns free : List ℕ) (me now : ℕ) (a : Actor) → Before Z s k m E h (x ∷ ns) free me a B5 → a.next.node ≡ x → After Z s m h (x ∷ ns) free me now a (put Head (raised s a.head a.next.node) m) (outcome s now me a B5 m.head)
+pops Z s k m E h x ns free me now a b e =
     record {
       queue' = x ∷ ns;
       free' = free;
@@ -560,10 +570,10 @@ pops s k m E h x ns free me now a b e =
     value : a.val ≡ (node_at m x).value
     value = sym b.knows.2 ∙ ap (λ j. (node_at m j).value) e
 
-line_B5 : (s : Setup) (k : ℕ) (m : Shared) (E : ℕ → ℕ) (h : ℕ) (rest free : List ℕ) (me now : ℕ) (a : Actor) → Before s k m E h rest free me a B5 → After s m h rest free me now a (performed (action s me a B5) m) (outcome s now me a B5 m.head)
-line_B5 s k m E h rest free me now a b =
-    subst (λ r. After s m h r free me now a (put Head (raised s a.head a.next.node) m) (outcome s now me a B5 m.head)) (sym second.1)
-    (pops s k m E h a.next.node second.0 free me now a (subst (λ r. Before s k m E h r free me a B5) second.1 b) refl)
+line_B5 : (Z : ℕ → Type 0) (s : Setup) (k : ℕ) (m : Shared) (E : ℕ → ℕ) (h : ℕ) (rest free : List ℕ) (me now : ℕ) (a : Actor) → Before Z s k m E h rest free me a B5 → After Z s m h rest free me now a (performed (action s me a B5) m) (outcome s now me a B5 m.head)
+line_B5 Z s k m E h rest free me now a b =
+    subst (λ r. After Z s m h r free me now a (put Head (raised s a.head a.next.node) m) (outcome s now me a B5 m.head)) (sym second.1)
+    (pops Z s k m E h a.next.node second.0 free me now a (subst (λ r. Before Z s k m E h r free me a B5) second.1 b) refl)
   where
     leads : next_in m.nodes h ≡ a.next.node
     leads =
@@ -573,26 +583,26 @@ line_B5 s k m E h rest free me now a b =
     second = second_leads m.nodes m.head.node h a.next.node rest b.shape.queue_chain leads b.nodes.1
 
 -- what a step at each line does
-pub does : (s : Setup) (k : ℕ) (m : Shared) (E : ℕ → ℕ) (h : ℕ) (rest free : List ℕ) (me now : ℕ) (a : Actor) (l : Line) → IsRunBy (section_of l) TwoLock → Before s k m E h rest free me a l → After s m h rest free me now a (performed (action s me a l) m) (outcome s now me a l (found (action s me a l) m))
-does s k m E h rest free me now a N1 r b = line_N1 s k m E h rest free me now a b
-does s k m E h rest free me now a N2 r b = line_N2 s k m E h rest free me now a b
-does s k m E h rest free me now a N3 r b = line_N3 s k m E h rest free me now a b
-does s k m E h rest free me now a N4 r b = line_N4 s k m E h rest free me now a b
-does s k m E h rest free me now a N5 r b = line_N5 s k m E h rest free me now a b
-does s k m E h rest free me now a F1 r b = line_F1 s k m E h rest free me now a b
-does s k m E h rest free me now a F2 r b = line_F2 s k m E h rest free me now a b
-does s k m E h rest free me now a F3 r b = line_F3 s k m E h rest free me now a b
-does s k m E h rest free me now a A1 r b = line_A1 s k m E h rest free me now a b
-does s k m E h rest free me now a A2 r b = line_A2 s k m E h rest free me now a b
-does s k m E h rest free me now a A3 r b = line_A3 s k m E h rest free me now a b
-does s k m E h rest free me now a A4 r b = line_A4 s k m E h rest free me now a b
-does s k m E h rest free me now a A5 r b = line_A5 s k m E h rest free me now a b
-does s k m E h rest free me now a A6 r b = line_A6 s k m E h rest free me now a b
-does s k m E h rest free me now a A7 r b = line_A7 s k m E h rest free me now a b
-does s k m E h rest free me now a B1 r b = line_B1 s k m E h rest free me now a b
-does s k m E h rest free me now a B2 r b = line_B2 s k m E h rest free me now a b
-does s k m E h rest free me now a B3 r b = line_B3 s k m E h rest free me now a b
-does s k m E h rest free me now a B4 r b = line_B4 s k m E h rest free me now a b
-does s k m E h rest free me now a B5 r b = line_B5 s k m E h rest free me now a b
-does s k m E h rest free me now a B6 r b = line_B6 s k m E h rest free me now a b
-does s k m E h rest free me now a _ r b = absurd r
+pub does : (Z : ℕ → Type 0) (s : Setup) (k : ℕ) (m : Shared) (E : ℕ → ℕ) (h : ℕ) (rest free : List ℕ) (me now : ℕ) (a : Actor) (l : Line) → IsRunBy (section_of l) TwoLock → Before Z s k m E h rest free me a l → After Z s m h rest free me now a (performed (action s me a l) m) (outcome s now me a l (found (action s me a l) m))
+does Z s k m E h rest free me now a N1 r b = line_N1 Z s k m E h rest free me now a b
+does Z s k m E h rest free me now a N2 r b = line_N2 Z s k m E h rest free me now a b
+does Z s k m E h rest free me now a N3 r b = line_N3 Z s k m E h rest free me now a b
+does Z s k m E h rest free me now a N4 r b = line_N4 Z s k m E h rest free me now a b
+does Z s k m E h rest free me now a N5 r b = line_N5 Z s k m E h rest free me now a b
+does Z s k m E h rest free me now a F1 r b = line_F1 Z s k m E h rest free me now a b
+does Z s k m E h rest free me now a F2 r b = line_F2 Z s k m E h rest free me now a b
+does Z s k m E h rest free me now a F3 r b = line_F3 Z s k m E h rest free me now a b
+does Z s k m E h rest free me now a A1 r b = line_A1 Z s k m E h rest free me now a b
+does Z s k m E h rest free me now a A2 r b = line_A2 Z s k m E h rest free me now a b
+does Z s k m E h rest free me now a A3 r b = line_A3 Z s k m E h rest free me now a b
+does Z s k m E h rest free me now a A4 r b = line_A4 Z s k m E h rest free me now a b
+does Z s k m E h rest free me now a A5 r b = line_A5 Z s k m E h rest free me now a b
+does Z s k m E h rest free me now a A6 r b = line_A6 Z s k m E h rest free me now a b
+does Z s k m E h rest free me now a A7 r b = line_A7 Z s k m E h rest free me now a b
+does Z s k m E h rest free me now a B1 r b = line_B1 Z s k m E h rest free me now a b
+does Z s k m E h rest free me now a B2 r b = line_B2 Z s k m E h rest free me now a b
+does Z s k m E h rest free me now a B3 r b = line_B3 Z s k m E h rest free me now a b
+does Z s k m E h rest free me now a B4 r b = line_B4 Z s k m E h rest free me now a b
+does Z s k m E h rest free me now a B5 r b = line_B5 Z s k m E h rest free me now a b
+does Z s k m E h rest free me now a B6 r b = line_B6 Z s k m E h rest free me now a b
+does Z s k m E h rest free me now a _ r b = absurd r
