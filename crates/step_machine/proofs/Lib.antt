@@ -30,3 +30,5 @@ pub mod Accounts
 pub mod TwoLockKnows
 pub mod TwoLockLines
 pub mod TwoLockSound
+pub mod TwoLockLaws
+pub mod TwoLockCounts

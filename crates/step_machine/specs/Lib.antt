@@ -5,6 +5,7 @@ pub mod Words
 pub mod Places
 pub mod Chains
 pub mod Promises
+pub mod TwoLock
 pub mod Views
 pub mod Calls
 pub mod Kept
