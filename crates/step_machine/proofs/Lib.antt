@@ -27,6 +27,7 @@ pub mod Older
 pub mod Reaching
 pub mod Fixed
 pub mod Accounts
+pub mod Replay
 pub mod TwoLockKnows
 pub mod TwoLockLines
 pub mod TwoLockSound
