@@ -20,3 +20,16 @@ pub mod Keeping
 pub mod Standing
 pub mod Running
 pub mod Naming
+pub mod Chains
+pub mod Counting
+pub mod Effects
+pub mod Older
+pub mod Reaching
+pub mod Fixed
+pub mod Accounts
+pub mod Replay
+pub mod TwoLockKnows
+pub mod TwoLockLines
+pub mod TwoLockSound
+pub mod TwoLockLaws
+pub mod TwoLockCounts

@@ -72,7 +72,7 @@ places_differ o p n not_after not_before = go o.last not_after
     go (Some k) low ended = omega arith
 
 -- two operations of which the first precedes the other don't share a place
-apart : (K : List ℕ) (o p : Stamped) → IsStamped K o → IsStamped K p → Precedes (Unit {0}) o p → (n : ℕ) → o.at ≡ Some n → p.at ≢ Some n
+pub apart : (K : List ℕ) (o p : Stamped) → IsStamped K o → IsStamped K p → Precedes (Unit {0}) o p → (n : ℕ) → o.at ≡ Some n → p.at ≢ Some n
 apart K o p h g pre n e f = go (pre.1 (by_one K n o.actor p.actor (subst (λ z. IfSome z (λ k. IsBy K k o.actor)) e h.at_own) (subst (λ z. IfSome z (λ k. IsBy K k p.actor)) f g.at_own)))
   where
     go : EndedBefore o p.first ⊎ (Unit {0} × HasNoEffect o) → ⊥

@@ -21,8 +21,8 @@ abbrev pub Earned : (due : Option Reply) (at : Option ℕ) → (Noted : Type 0) 
 Earned None at Noted = at ≡ None
 Earned (Some Done) at Noted = IsSome at
 Earned (Some (Value v)) at Noted = IsSome at
-Earned (Some Empty) at Noted = Noted
-Earned (Some (Refused why)) at Noted = Unit {0}
+Earned (Some Empty) at Noted = (at ≡ None) × Noted
+Earned (Some (Refused why)) at Noted = at ≡ None
 
 -- what is known of the operation of an actor that stands before a line
 abbrev pub Stands : Line → (due : Option Reply) (at : Option ℕ) → (Noted : Type 0) → Type 0
@@ -68,7 +68,7 @@ earned_while : (due : Option Reply) (at : Option ℕ) {P Q : Type 0} → (P → 
 earned_while None at f h = h
 earned_while (Some Done) at f h = h
 earned_while (Some (Value v)) at f h = h
-earned_while (Some Empty) at f h = f h
+earned_while (Some Empty) at f h = (h.0, f h.1)
 earned_while (Some (Refused why)) at f h = h
 
 -- what a line knows stays so while the number noted stays one of the call
@@ -101,7 +101,7 @@ both false x y hx hy = hy
 ends_turned : (Q : ℕ → Type 0) (now : ℕ) (reply : Reply) (a : Actor) (at : Option ℕ) → Q now → IfSome at Q → Earned (Some reply) at (Q a.noted) → Turns Q at (ends now reply a)
 ends_turned Q now Done a at n p h = record { place = p; goes_on = h }
 ends_turned Q now (Value v) a at n p h = record { place = p; goes_on = h }
-ends_turned Q now Empty a at n p h = record { place = h; goes_on = refl }
+ends_turned Q now Empty a at n p h = record { place = h.1; goes_on = refl }
 ends_turned Q now (Refused why) a at n p h = record { place = n; goes_on = refl }
 
 freed_turned : (Q : ℕ → Type 0) (k : Kind) (now : ℕ) (due : Option Reply) (a : Actor) (at : Option ℕ) → Q now → IfSome at Q → Earned due at (Q a.noted) → Turns Q at (freed k now due a)
@@ -184,9 +184,9 @@ turned Q s now me a A6 c at n p h = record { place = p; goes_on = h }
 turned Q s now me a A7 c at n p h = record { place = p; goes_on = h }
 turned Q s now me a B1 c at n p h = both (nat_eq c 0) _ _ record { place = p; goes_on = h } record { place = p; goes_on = h }
 turned Q s now me a B2 c at n p h = record { place = p; goes_on = h }
-turned Q s now me a B3 c at n p h = both (is_null c) _ _ record { place = p; goes_on = n } record { place = p; goes_on = h }
+turned Q s now me a B3 c at n p h = both (is_null c) _ _ record { place = p; goes_on = (h, n) } record { place = p; goes_on = h }
 turned Q s now me a B4 c at n p h =
-    both (nat_eq a.head.count s.limit) _ _ record { place = p; goes_on = tt } record { place = p; goes_on = h }
+    both (nat_eq a.head.count s.limit) _ _ record { place = p; goes_on = h } record { place = p; goes_on = h }
 turned Q s now me a B5 c at n p h = record { place = n; goes_on = refl }
 turned Q s now me a B6 c at n p h = unlocked_turned Q now a.due a at n p h h
 

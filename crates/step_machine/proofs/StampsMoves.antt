@@ -141,7 +141,7 @@ run_kept Rests (m ∷ ms) K w may h =
     (λ v g. run_kept Rests ms (after K m) v may.1 g))
 
 -- at the start no actor has a call
-idle_got : (n k : ℕ) (a : Actor) → slice_get (replicate n idle) k ≡ Some a → idle ≡ a
+pub idle_got : (n k : ℕ) (a : Actor) → slice_get (replicate n idle) k ≡ Some a → idle ≡ a
 idle_got zero k a got = absurd (none-some a got)
 idle_got (suc n) zero a got = same_Some idle a got
 idle_got (suc n) (suc k) a got = idle_got n k a got

@@ -3,6 +3,9 @@ pub mod Lines
 pub mod Machine
 pub mod Words
 pub mod Places
+pub mod Chains
+pub mod Promises
+pub mod TwoLock
 pub mod Views
 pub mod Calls
 pub mod Kept

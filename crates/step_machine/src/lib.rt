@@ -9,6 +9,7 @@ mod outcomes;
 mod settling;
 pub mod stamping;
 mod steps;
+pub mod two_lock_laws;
 mod world;
 
 pub use actors::{Actor, Held, Move, Node, Outcome, Setup, Stepped};

@@ -1,0 +1,279 @@
+-- What an actor's registers have before each line, whatever the shared words hold, in both queues: whether a node is
+-- in its hand, that its pocket is empty, which call it runs, what its call has earned, and which counts were tested.
+use Rattle.std.proofs.Common.{◌≡◌, ◌≢◌, ℕ, ◌+◌, Bool, true, false, nat_eq, nat_lt, if◌then◌else◌, Option, Some, None, IfSome, refl, sym, subst}
+use Rattle.std.proofs.lemmas.Bool.{eqb-false}
+use Rattle.counted_ref.specs.Ref.{is_null, same_ref}
+use Rattle.line_table.specs.declared.lines.Kind.{Kind}
+use Rattle.line_table.specs.declared.lines.Kind.TheVariants.{TwoLock, NonBlocking}
+use Rattle.line_table.specs.declared.lines.Line.{Line}
+use Rattle.line_table.specs.declared.lines.Line.TheVariants.{N1, N2, N3, N4, N5, F1, F2, F3, E2, E3, E5, E6, E7, E9, E13, E17, D2, D3, D4, D5, D10, D12, D13, A1, A2, A3, A4, A5, A6, A7, B1, B2, B3, B4, B5, B6}
+use Rattle.line_table.specs.declared.lines.Section.{Section}
+use Rattle.line_table.specs.declared.lines.Section.TheVariants.{NewNode, Free, Enqueue, Dequeue, LockedEnqueue, LockedDequeue}
+use Rattle.line_table.specs.Sections.{section_of}
+use Rattle.history.specs.declared.refusals.Refusal.{Refusal}
+use Rattle.history.specs.declared.refusals.Refusal.TheVariants.{WornOut}
+use Rattle.history.specs.declared.refusals.WornWord.TheVariants.{Head as OfHead}
+use Rattle.history.specs.declared.operations.Op.{Op}
+use Rattle.history.specs.declared.operations.Op.TheVariants.{Enq, Deq}
+use Rattle.history.specs.declared.operations.Taken.{Taken}
+use Rattle.history.specs.declared.operations.Reply.{Reply}
+use Rattle.history.specs.declared.operations.Reply.TheVariants.{Done, Value, Empty, Refused}
+use Rattle.step_machine.specs.declared.actors.Setup.{Setup}
+use Rattle.step_machine.specs.declared.actors.Held.{Held}
+use Rattle.step_machine.specs.declared.actors.Actor.{Actor}
+use Rattle.step_machine.specs.declared.actors.Outcome.{Outcome}
+use Rattle.step_machine.specs.Memory.{Found}
+use Rattle.step_machine.specs.Lines.{action, outcome, goes, ends, effect, sets_aside, takes, lets_go, to_pocket, with_node, freed, unlocked, busy_or, gives_up}
+use Rattle.step_machine.specs.Machine.{from_pocket, begun, rested, may_rest}
+
+-- whether a call that lets the head lock go has a node to free
+abbrev pub frees_after : Option Reply → Bool
+frees_after None = false
+frees_after (Some Done) = false
+frees_after (Some (Value v)) = true
+frees_after (Some Empty) = false
+frees_after (Some (Refused why)) = false
+
+-- whether a node is in the hand before a line, by what the call has earned
+abbrev pub in_hand_at : Line → Option Reply → Bool
+in_hand_at F1 due = true
+in_hand_at F2 due = true
+in_hand_at F3 due = true
+in_hand_at E2 due = true
+in_hand_at E3 due = true
+in_hand_at E5 due = true
+in_hand_at E6 due = true
+in_hand_at E7 due = true
+in_hand_at E9 due = true
+in_hand_at E13 due = true
+in_hand_at A1 due = true
+in_hand_at A2 due = true
+in_hand_at A3 due = true
+in_hand_at A4 due = true
+in_hand_at A5 due = true
+in_hand_at B6 due = frees_after due
+in_hand_at _ due = false
+
+-- an enqueue pushes the pair of its actor and its body
+abbrev pub Pushes : (me : ℕ) → Op → Taken → Type 0
+Pushes me (Enq body) val = val ≡ record { from = me; body = body }
+Pushes me Deq val = ⊥
+
+-- which call a section of the lines runs
+abbrev pub Runs : Section → (me : ℕ) → Op → Taken → Type 0
+Runs NewNode me op val = Pushes me op val
+Runs Enqueue me op val = Pushes me op val
+Runs LockedEnqueue me op val = Pushes me op val
+Runs Free me op val = op ≡ Deq
+Runs Dequeue me op val = op ≡ Deq
+Runs LockedDequeue me op val = op ≡ Deq
+
+-- what a call has earned that frees a node: nothing yet, or the value taken
+abbrev pub EarnedFreeing : Option Reply → Type 0
+EarnedFreeing None = Unit {0}
+EarnedFreeing (Some Done) = ⊥
+EarnedFreeing (Some (Value v)) = Unit {0}
+EarnedFreeing (Some Empty) = ⊥
+EarnedFreeing (Some (Refused why)) = ⊥
+
+-- what a call has earned that lets the head lock go: a value, empty, or that Head is worn out
+abbrev pub EarnedUnlocking : Option Reply → Type 0
+EarnedUnlocking None = ⊥
+EarnedUnlocking (Some Done) = ⊥
+EarnedUnlocking (Some (Value v)) = Unit {0}
+EarnedUnlocking (Some Empty) = Unit {0}
+EarnedUnlocking (Some (Refused why)) = why ≡ WornOut OfHead
+
+-- what a call has earned before a line
+abbrev pub EarnedAt : Line → Option Reply → Type 0
+EarnedAt F1 due = EarnedFreeing due
+EarnedAt F2 due = EarnedFreeing due
+EarnedAt F3 due = EarnedFreeing due
+EarnedAt E17 due = due ≡ Some Done
+EarnedAt A6 due = due ≡ Some Done
+EarnedAt A7 due = due ≡ Some Done
+EarnedAt B6 due = EarnedUnlocking due
+EarnedAt _ due = due ≡ None
+
+-- the counts that were found not to be at the limit
+abbrev pub RoomAt : Line → (limit : ℕ) → Actor → Type 0
+RoomAt N3 limit a = a.top.count ≢ limit
+RoomAt N4 limit a = a.top.count ≢ limit
+RoomAt F2 limit a = a.top.count ≢ limit
+RoomAt F3 limit a = a.top.count ≢ limit
+RoomAt E13 limit a = a.tail.count ≢ limit
+RoomAt E17 limit a = a.tail.count ≢ limit
+RoomAt D10 limit a = a.tail.count ≢ limit
+RoomAt D13 limit a = a.head.count ≢ limit
+RoomAt B5 limit a = a.head.count ≢ limit
+RoomAt _ limit a = Unit {0}
+
+-- what an actor's registers have before its line
+abbrev pub FixedAt : (limit me : ℕ) → Actor → Option Line → Type 0
+FixedAt limit me a None = a.holds ≡ false
+FixedAt limit me a (Some l) =
+    record {
+      pocket : a.pocket ≡ None;
+      hand : a.holds ≡ in_hand_at l a.due;
+      call : Runs (section_of l) me a.op a.val;
+      earned : EarnedAt l a.due;
+      room : RoomAt l limit a;
+    }
+
+-- where an actor's operation stands says nothing of this
+pub fixed_entry : (limit me : ℕ) (a : Actor) (entry : Option ℕ) (l : Option Line) → FixedAt limit me a l → FixedAt limit me (record a { entry = entry }) l
+fixed_entry limit me a entry None h = h
+fixed_entry limit me a entry (Some N1) h = h
+fixed_entry limit me a entry (Some _) h = h
+
+-- the actor of an outcome has it
+pub record Fixes (limit me : ℕ) (o : Outcome) : Type 0 where
+  pub fixed : FixedAt limit me o.actor o.actor.line
+
+module _ (limit me : ℕ) where
+  either : (b : Bool) (x y : Outcome) → (b ≡ true → Fixes limit me x) → (b ≡ false → Fixes limit me y) → Fixes limit me (if b then x else y)
+  either true x y hx hy = hx refl
+  either false x y hx hy = hy refl
+
+  both : (b : Bool) (x y : Outcome) → Fixes limit me x → Fixes limit me y → Fixes limit me (if b then x else y)
+  both true x y hx hy = hx
+  both false x y hx hy = hy
+
+  with_node_fixed : (kind : Kind) (a : Actor) → a.pocket ≡ None → a.holds ≡ true → Pushes me a.op a.val → a.due ≡ None → Fixes limit me (goes (with_node kind) a)
+  with_node_fixed TwoLock a p h c e = record { fixed = record { pocket = p; hand = h; call = c; earned = e; room = tt } }
+  with_node_fixed NonBlocking a p h c e = record { fixed = record { pocket = p; hand = h; call = c; earned = e; room = tt } }
+
+  freed_fixed : (kind : Kind) (now : ℕ) (due : Option Reply) (a : Actor) → a.due ≡ due → a.pocket ≡ None → a.holds ≡ false → a.op ≡ Deq → Fixes limit me (freed kind now due a)
+  freed_fixed TwoLock now None a d p h c = record { fixed = record { pocket = p; hand = h; call = c; earned = d; room = tt } }
+  freed_fixed NonBlocking now None a d p h c = record { fixed = record { pocket = p; hand = h; call = c; earned = d; room = tt } }
+  freed_fixed kind now (Some reply) a d p h c = record { fixed = h }
+
+  aside_fixed : (kind : Kind) (now : ℕ) (due : Option Reply) (a : Actor) → a.due ≡ due → a.pocket ≡ None → a.op ≡ Deq → Fixes limit me (sets_aside (freed kind now due a))
+  aside_fixed TwoLock now None a d p c = record { fixed = record { pocket = p; hand = refl; call = c; earned = d; room = tt } }
+  aside_fixed NonBlocking now None a d p c = record { fixed = record { pocket = p; hand = refl; call = c; earned = d; room = tt } }
+  aside_fixed kind now (Some reply) a d p c = record { fixed = refl }
+
+  unlocked_fixed : (now : ℕ) (due : Option Reply) (a : Actor) → a.due ≡ due → a.pocket ≡ None → a.holds ≡ frees_after due → a.op ≡ Deq → EarnedUnlocking due → Fixes limit me (unlocked now due a)
+  unlocked_fixed now None a d p h c e = absurd e
+  unlocked_fixed now (Some (Value v)) a d p h c e =
+      record { fixed = record { pocket = p; hand = h; call = c; earned = subst (λ x. EarnedFreeing x) (sym d) tt; room = tt } }
+  unlocked_fixed now (Some Done) a d p h c e = absurd e
+  unlocked_fixed now (Some Empty) a d p h c e = record { fixed = h }
+  unlocked_fixed now (Some (Refused why)) a d p h c e = record { fixed = h }
+
+  ended_or : (b : Bool) (now : ℕ) (a : Actor) → (b ≡ false → a.tail.count ≢ limit) → a.pocket ≡ None → Pushes me a.op a.val → Fixes limit me (effect now (if b then ends now Done (lets_go (record a { due = Some Done })) else goes E17 (lets_go (record a { due = Some Done }))))
+  ended_or true now a r p c = record { fixed = refl }
+  ended_or false now a r p c = record { fixed = record { pocket = p; hand = refl; call = c; earned = refl; room = r refl } }
+
+-- the outcome of each line
+pub fixed : (s : Setup) (now me : ℕ) (a : Actor) (l : Line) (c : Found (action s me a l)) → FixedAt s.limit me a (Some l) → Fixes s.limit me (outcome s now me a l c)
+fixed s now me a N1 c h = record { fixed = record { pocket = h.pocket; hand = h.hand; call = h.call; earned = h.earned; room = tt } }
+fixed s now me a N2 c h =
+    both s.limit me (is_null c) _ _
+    (both s.limit me (nat_lt a.f s.size) _ _ (record { fixed = record { pocket = h.pocket; hand = h.hand; call = h.call; earned = h.earned; room = tt } }) (record { fixed = h.hand }))
+    (either s.limit me (nat_eq c.count s.limit) _ _ (λ e. record { fixed = h.hand })
+    (λ e. record { fixed = record { pocket = h.pocket; hand = h.hand; call = h.call; earned = h.earned; room = eqb-false c.count s.limit e } }))
+fixed s now me a N3 c h = record { fixed = record { pocket = h.pocket; hand = h.hand; call = h.call; earned = h.earned; room = h.room } }
+fixed s now me a N4 c h =
+    both s.limit me (same_ref c a.top) _ _ (with_node_fixed s.limit me s.kind (takes a.top.node a.next.count a) h.pocket refl h.call h.earned)
+    (record { fixed = record { pocket = h.pocket; hand = h.hand; call = h.call; earned = h.earned; room = tt } })
+fixed s now me a N5 c h =
+    both s.limit me (nat_eq c a.f) _ _ (with_node_fixed s.limit me s.kind (takes (a.f + 1) 0 a) h.pocket refl h.call h.earned)
+    (record { fixed = record { pocket = h.pocket; hand = h.hand; call = h.call; earned = h.earned; room = tt } })
+fixed s now me a F1 c h =
+    either s.limit me (nat_eq c.count s.limit) _ _
+    (λ e. aside_fixed s.limit me s.kind now a.due (record a { top = c }) refl h.pocket h.call)
+    (λ e. record { fixed = record { pocket = h.pocket; hand = h.hand; call = h.call; earned = h.earned; room = eqb-false c.count s.limit e } })
+fixed s now me a F2 c h = record { fixed = record { pocket = h.pocket; hand = h.hand; call = h.call; earned = h.earned; room = h.room } }
+fixed s now me a F3 c h =
+    both s.limit me (same_ref c a.top) _ _ (freed_fixed s.limit me s.kind now a.due (lets_go a) refl h.pocket refl h.call)
+    (record { fixed = record { pocket = h.pocket; hand = h.hand; call = h.call; earned = h.earned; room = tt } })
+fixed s now me a E2 c h = record { fixed = record { pocket = h.pocket; hand = h.hand; call = h.call; earned = h.earned; room = tt } }
+fixed s now me a E3 c h =
+    both s.limit me (nat_eq c.count s.limit) _ _ (record { fixed = refl })
+    (record { fixed = record { pocket = h.pocket; hand = h.hand; call = h.call; earned = h.earned; room = tt } })
+fixed s now me a E5 c h = record { fixed = record { pocket = h.pocket; hand = h.hand; call = h.call; earned = h.earned; room = tt } }
+fixed s now me a E6 c h = record { fixed = record { pocket = h.pocket; hand = h.hand; call = h.call; earned = h.earned; room = tt } }
+fixed s now me a E7 c h =
+    both s.limit me (same_ref c a.tail) _ _
+    (both s.limit me (is_null a.next) _ _ (record { fixed = record { pocket = h.pocket; hand = h.hand; call = h.call; earned = h.earned; room = tt } })
+    (either s.limit me (nat_eq a.tail.count s.limit) _ _ (λ e. record { fixed = refl })
+    (λ e. record { fixed = record { pocket = h.pocket; hand = h.hand; call = h.call; earned = h.earned; room = eqb-false a.tail.count s.limit e } })))
+    (record { fixed = record { pocket = h.pocket; hand = h.hand; call = h.call; earned = h.earned; room = tt } })
+fixed s now me a E9 c h =
+    both s.limit me (same_ref c a.next) _ _ (ended_or s.limit me (nat_eq a.tail.count s.limit) now a (λ e. eqb-false a.tail.count s.limit e) h.pocket h.call)
+    (record { fixed = record { pocket = h.pocket; hand = h.hand; call = h.call; earned = h.earned; room = tt } })
+fixed s now me a E13 c h = record { fixed = record { pocket = h.pocket; hand = h.hand; call = h.call; earned = h.earned; room = tt } }
+fixed s now me a E17 c h = record { fixed = h.hand }
+fixed s now me a D2 c h = record { fixed = record { pocket = h.pocket; hand = h.hand; call = h.call; earned = h.earned; room = tt } }
+fixed s now me a D3 c h = record { fixed = record { pocket = h.pocket; hand = h.hand; call = h.call; earned = h.earned; room = tt } }
+fixed s now me a D4 c h = record { fixed = record { pocket = h.pocket; hand = h.hand; call = h.call; earned = h.earned; room = tt } }
+fixed s now me a D5 c h =
+    both s.limit me (same_ref c a.head) _ _
+    (both s.limit me (nat_eq a.head.node a.tail.node) _ _
+    (both s.limit me (is_null a.next) _ _ (record { fixed = h.hand })
+    (either s.limit me (nat_eq a.tail.count s.limit) _ _ (λ e. record { fixed = h.hand })
+    (λ e. record { fixed = record { pocket = h.pocket; hand = h.hand; call = h.call; earned = h.earned; room = eqb-false a.tail.count s.limit e } })))
+    (record { fixed = record { pocket = h.pocket; hand = h.hand; call = h.call; earned = h.earned; room = tt } }))
+    (record { fixed = record { pocket = h.pocket; hand = h.hand; call = h.call; earned = h.earned; room = tt } })
+fixed s now me a D10 c h = record { fixed = record { pocket = h.pocket; hand = h.hand; call = h.call; earned = h.earned; room = tt } }
+fixed s now me a D12 c h =
+    either s.limit me (nat_eq a.head.count s.limit) _ _ (λ e. record { fixed = h.hand })
+    (λ e. record { fixed = record { pocket = h.pocket; hand = h.hand; call = h.call; earned = h.earned; room = eqb-false a.head.count s.limit e } })
+fixed s now me a D13 c h =
+    both s.limit me (same_ref c a.head) _ _ (record { fixed = record { pocket = h.pocket; hand = refl; call = h.call; earned = tt; room = tt } })
+    (record { fixed = record { pocket = h.pocket; hand = h.hand; call = h.call; earned = h.earned; room = tt } })
+fixed s now me a A1 c h = record { fixed = record { pocket = h.pocket; hand = h.hand; call = h.call; earned = h.earned; room = tt } }
+fixed s now me a A2 c h = record { fixed = record { pocket = h.pocket; hand = h.hand; call = h.call; earned = h.earned; room = tt } }
+fixed s now me a A3 c h =
+    both s.limit me (nat_eq c 0) _ _ (record { fixed = record { pocket = h.pocket; hand = h.hand; call = h.call; earned = h.earned; room = tt } })
+    (record { fixed = record { pocket = h.pocket; hand = h.hand; call = h.call; earned = h.earned; room = tt } })
+fixed s now me a A4 c h = record { fixed = record { pocket = h.pocket; hand = h.hand; call = h.call; earned = h.earned; room = tt } }
+fixed s now me a A5 c h = record { fixed = record { pocket = h.pocket; hand = refl; call = h.call; earned = refl; room = tt } }
+fixed s now me a A6 c h = record { fixed = record { pocket = h.pocket; hand = h.hand; call = h.call; earned = h.earned; room = tt } }
+fixed s now me a A7 c h = record { fixed = h.hand }
+fixed s now me a B1 c h =
+    both s.limit me (nat_eq c 0) _ _ (record { fixed = record { pocket = h.pocket; hand = h.hand; call = h.call; earned = h.earned; room = tt } })
+    (record { fixed = record { pocket = h.pocket; hand = h.hand; call = h.call; earned = h.earned; room = tt } })
+fixed s now me a B2 c h = record { fixed = record { pocket = h.pocket; hand = h.hand; call = h.call; earned = h.earned; room = tt } }
+fixed s now me a B3 c h =
+    both s.limit me (is_null c) _ _ (record { fixed = record { pocket = h.pocket; hand = h.hand; call = h.call; earned = tt; room = tt } })
+    (record { fixed = record { pocket = h.pocket; hand = h.hand; call = h.call; earned = h.earned; room = tt } })
+fixed s now me a B4 c h =
+    either s.limit me (nat_eq a.head.count s.limit) _ _ (λ e. record { fixed = record { pocket = h.pocket; hand = h.hand; call = h.call; earned = refl; room = tt } })
+    (λ e. record { fixed = record { pocket = h.pocket; hand = h.hand; call = h.call; earned = h.earned; room = eqb-false a.head.count s.limit e } })
+fixed s now me a B5 c h = record { fixed = record { pocket = h.pocket; hand = refl; call = h.call; earned = tt; room = tt } }
+fixed s now me a B6 c h = unlocked_fixed s.limit me now a.due a refl h.pocket h.hand h.call h.earned
+
+busy_or_fixed : (limit me now : ℕ) (due : Option Reply) (a : Actor) → a.holds ≡ false → IfSome (busy_or now due a) (Fixes limit me)
+busy_or_fixed limit me now None a h = record { fixed = h }
+busy_or_fixed limit me now (Some reply) a h = record { fixed = h }
+
+-- the outcome of giving up at each line
+pub fixed_given : (limit now me : ℕ) (a : Actor) (l : Line) → FixedAt limit me a (Some l) → IfSome (gives_up now a l) (Fixes limit me)
+fixed_given limit now me a N1 h = record { fixed = h.hand }
+fixed_given limit now me a F1 h = busy_or_fixed limit me now a.due (to_pocket a) refl
+fixed_given limit now me a E5 h = record { fixed = refl }
+fixed_given limit now me a D2 h = record { fixed = h.hand }
+fixed_given limit now me a A3 h = record { fixed = refl }
+fixed_given limit now me a B1 h = record { fixed = h.hand }
+fixed_given limit now me a _ h = tt
+
+-- an actor that rests has nothing in its hand
+pub fixed_rested : (limit me : ℕ) (a : Actor) → FixedAt limit me (rested a) (rested a).line
+fixed_rested limit me a = refl
+
+from_pocket_fixed : (limit me : ℕ) (l : Line) (pocket : Option Held) (a : Actor) → a.pocket ≡ pocket → ((held : Held) → FixedAt limit me (from_pocket l (Some held) a) (Some l)) → (a.pocket ≡ None → FixedAt limit me a a.line) → FixedAt limit me (from_pocket l pocket a) (from_pocket l pocket a).line
+from_pocket_fixed limit me l None a e full none = none e
+from_pocket_fixed limit me l (Some held) a e full none = full held
+
+-- an actor that begins a call
+pub fixed_begun : (limit me : ℕ) (kind : Kind) (op : Op) (a : Actor) → a.holds ≡ false → FixedAt limit me (begun kind me op a) (begun kind me op a).line
+fixed_begun limit me TwoLock (Enq body) a h =
+    from_pocket_fixed limit me A1 a.pocket _ refl (λ held. record { pocket = refl; hand = refl; call = refl; earned = refl; room = tt }) (λ p. record { pocket = p; hand = h; call = refl; earned = refl; room = tt })
+fixed_begun limit me NonBlocking (Enq body) a h =
+    from_pocket_fixed limit me E2 a.pocket _ refl (λ held. record { pocket = refl; hand = refl; call = refl; earned = refl; room = tt }) (λ p. record { pocket = p; hand = h; call = refl; earned = refl; room = tt })
+fixed_begun limit me TwoLock Deq a h =
+    from_pocket_fixed limit me F1 a.pocket _ refl (λ held. record { pocket = refl; hand = refl; call = refl; earned = tt; room = tt }) (λ p. record { pocket = p; hand = h; call = refl; earned = refl; room = tt })
+fixed_begun limit me NonBlocking Deq a h =
+    from_pocket_fixed limit me F1 a.pocket _ refl (λ held. record { pocket = refl; hand = refl; call = refl; earned = tt; room = tt }) (λ p. record { pocket = p; hand = h; call = refl; earned = refl; room = tt })

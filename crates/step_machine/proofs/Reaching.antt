@@ -1,0 +1,99 @@
+-- What a world has at the start, and each move of an actor keeps, each world that is reached has.
+-- Each of the four cases is given the world before, that it is reached, and which queue it runs.
+use Rattle.std.proofs.Common.{◌≡◌, ℕ, ◌+◌, Bool, true, false, if◌then◌else◌, Option, Some, None, IfSome, List, [], ◌∷◌, refl, sym, ◌∙◌}
+use Rattle.line_table.specs.declared.lines.Kind.{Kind}
+use Rattle.line_table.specs.declared.lines.Line.{Line}
+use Rattle.history.specs.declared.operations.Op.{Op}
+use Rattle.step_machine.specs.declared.actors.Setup.{Setup}
+use Rattle.step_machine.specs.declared.actors.Actor.{Actor}
+use Rattle.step_machine.specs.declared.actors.Outcome.{Outcome}
+use Rattle.step_machine.specs.declared.actors.Move.{Move}
+use Rattle.step_machine.specs.declared.actors.Move.TheVariants.{Begin, Step, Give}
+use Rattle.step_machine.specs.Lines.{gives_up}
+use Rattle.step_machine.specs.Machine.{World, opening, actor_of, is_call, begun, rested, with_actor, settled, stepped, begins, steps, given, gives, may_rest, rests, moved, mover, rest_of, AnyMove, made, Rest, next_any, run, IsSized, IsReached}
+use Rattle.step_machine.proofs.Reached.{if_some, some_of, setup-next_any, run_on_if, reached_next}
+
+-- each move of an actor keeps a fact of the worlds of a queue
+pub record EachMoveKeeps (kind : Kind) (P : World → Type 0) : Type 0 where
+  pub step : (w : World) (me : ℕ) (a : Actor) (l : Line) → IsReached w → w.setup.kind ≡ kind → actor_of w me ≡ Some a → a.line ≡ Some l → P w → P (stepped w me a l)
+  pub gave_up : (w : World) (me : ℕ) (a : Actor) (l : Line) (o : Outcome) → IsReached w → w.setup.kind ≡ kind → actor_of w me ≡ Some a → a.line ≡ Some l → gives_up (w.steps + 1) a l ≡ Some o → P w → P (settled w me a w.shared o)
+  pub began : (w : World) (me : ℕ) (op : Op) (a : Actor) → IsReached w → w.setup.kind ≡ kind → actor_of w me ≡ Some a → a.line ≡ None → is_call op ≡ true → P w → P (with_actor w me (begun w.setup.kind me op a))
+  pub at_rest : (w : World) (me : ℕ) (a : Actor) (l : Line) → IsReached w → w.setup.kind ≡ kind → actor_of w me ≡ Some a → a.line ≡ Some l → may_rest l ≡ true → P w → P (with_actor w me (rested a))
+
+module _ (kind : Kind) (P : World → Type 0) (keeps : EachMoveKeeps kind P) where
+  -- the fact, of a world that is reached
+  record Has (w : World) : Type 0 where
+    reached : IsReached w
+    runs : w.setup.kind ≡ kind
+    has : P w
+
+  begins_has : (w : World) (me : ℕ) (op : Op) (a : Actor) (l : Option Line) → Has w → actor_of w me ≡ Some a → a.line ≡ l → IfSome (begins w me op a l) P
+  begins_has w me op a None h is e = go (is_call op) refl
+    where
+      go : (b : Bool) → is_call op ≡ b → IfSome (if b then Some (with_actor w me (begun w.setup.kind me op a)) else None) P
+      go true call = keeps.began w me op a h.reached h.runs is e call h.has
+      go false call = tt
+  begins_has w me op a (Some l) h is e = tt
+
+  steps_has : (w : World) (me : ℕ) (a : Actor) (l : Option Line) → Has w → actor_of w me ≡ Some a → a.line ≡ l → IfSome (steps w me a l) P
+  steps_has w me a None h is e = tt
+  steps_has w me a (Some l) h is e = keeps.step w me a l h.reached h.runs is e h.has
+
+  gives_has : (w : World) (me : ℕ) (a : Actor) (l : Option Line) → Has w → actor_of w me ≡ Some a → a.line ≡ l → IfSome (gives w me a l) P
+  gives_has w me a None h is e = tt
+  gives_has w me a (Some l) h is e = go (gives_up (w.steps + 1) a l) refl
+    where
+      go : (o : Option Outcome) → gives_up (w.steps + 1) a l ≡ o → IfSome (given w me a o) P
+      go None f = tt
+      go (Some o) f = keeps.gave_up w me a l o h.reached h.runs is e f h.has
+
+  rests_has : (w : World) (me : ℕ) (a : Actor) (l : Option Line) → Has w → actor_of w me ≡ Some a → a.line ≡ l → IfSome (rests w me a l) P
+  rests_has w me a None h is e = tt
+  rests_has w me a (Some l) h is e = go (may_rest l) refl
+    where
+      go : (b : Bool) → may_rest l ≡ b → IfSome (if b then Some (with_actor w me (rested a)) else None) P
+      go true may = keeps.at_rest w me a l h.reached h.runs is e may h.has
+      go false may = tt
+
+  moved_has : (w : World) (m : Move) (o : Option Actor) → Has w → actor_of w (mover m) ≡ o → IfSome (moved w m o) P
+  moved_has w m None h is = tt
+  moved_has w (Begin me op) (Some a) h is = begins_has w me op a a.line h is refl
+  moved_has w (Step me) (Some a) h is = steps_has w me a a.line h is refl
+  moved_has w (Give me) (Some a) h is = gives_has w me a a.line h is refl
+
+  rest_of_has : (w : World) (me : ℕ) (o : Option Actor) → Has w → actor_of w me ≡ o → IfSome (rest_of w me o) P
+  rest_of_has w me None h is = tt
+  rest_of_has w me (Some a) h is = rests_has w me a a.line h is refl
+
+  next_any_keeps : (w : World) (m : AnyMove) → Has w → IfSome (next_any w m) P
+  next_any_keeps w (made m) h = moved_has w m (actor_of w (mover m)) h refl
+  next_any_keeps w (Rest me) h = rest_of_has w me (actor_of w me) h refl
+
+  next_any_has : (w : World) (m : AnyMove) → Has w → IfSome (next_any w m) Has
+  next_any_has w m h =
+      if_some Has (next_any w m)
+      (λ v e. record {
+        reached = reached_next w v m h.reached e;
+        runs = kind_kept v e;
+        has = some_of P (next_any w m) v e (next_any_keeps w m h);
+      })
+    where
+      kind_kept : (v : World) → next_any w m ≡ Some v → v.setup.kind ≡ kind
+      kind_kept v e = ap_kind (setup-next_any w v m e) ∙ h.runs
+        where
+          ap_kind : v.setup ≡ w.setup → v.setup.kind ≡ w.setup.kind
+          ap_kind f = λ i. (f i).kind
+
+  run_has : (ms : List AnyMove) (w : World) → Has w → IfSome (run ms w) Has
+  run_has [] w h = h
+  run_has (m ∷ ms) w h = run_on_if Has (run ms) (next_any w m) (next_any_has w m h) (run_has ms)
+
+  pub each_reached : ((s : Setup) (actors : ℕ) → IsSized s actors → s.kind ≡ kind → P (opening s actors)) → (w : World) → IsReached w → w.setup.kind ≡ kind → P w
+  each_reached starts w r e =
+      (some_of Has (run r.moves (opening w.setup r.actors)) w r.led
+      (run_has r.moves (opening w.setup r.actors)
+      (record {
+        reached = record { actors = r.actors; moves = []; sized = r.sized; led = refl };
+        runs = e;
+        has = starts w.setup r.actors r.sized e;
+      }))).has

@@ -1,0 +1,274 @@
+-- The operations by rising place, and what the queue gives them in that order.
+--
+-- `place_given` and `place_added`: an operation that gets a place is inserted. `inserted_last`: at the greatest place it
+-- goes to the end. `empty_placed`: an empty reply may be inserted where the queue was empty, however long ago, and
+-- `still_empty`: where the queue was empty before a number, it is so when operations get places that are not below, or
+-- empty replies any. `before k L` are those of L before the first one whose place isn't below k.
+use Rattle.std.proofs.Common.{◌≡◌, ◌≢◌, ℕ, zero, suc, ◌+◌, ◌≤◌, ◌<◌, Bool, true, false, not, nat_le, if◌then◌else◌, Option, Some, None, is_some, List, [], ◌∷◌, ◌++◌, set, length, refl, sym, ap, ◌∙◌, subst, arith}
+use Rattle.std.specs.Prelude.{slice_get}
+use Rattle.std.specs.List.{AllByRecursion}
+use Rattle.std.proofs.lemmas.Bool.{leb-true, leb-false, le-leb, lt-leb}
+use Rattle.std.proofs.lemmas.Option.{none-some, same_Some}
+use Rattle.history.specs.declared.operations.Stamped.{Stamped}
+use Rattle.history.specs.declared.operations.Op.TheVariants.{Deq}
+use Rattle.history.specs.declared.operations.Reply.TheVariants.{Empty}
+use Rattle.history.specs.Queue.{Queue, empty, given}
+use Rattle.history.specs.History.{number_of, inserted, rising, answer, Gets, Replays, replayed}
+
+-- the number of an operation's place
+abbrev pub place : Stamped → ℕ
+place o = number_of o.at
+
+-- the operations before the first one whose place isn't below a number, and the others
+abbrev pub before : ℕ → List Stamped → List Stamped
+before k [] = []
+before k (p ∷ ps) = if nat_le k (place p) then [] else p ∷ before k ps
+
+abbrev pub from : ℕ → List Stamped → List Stamped
+from k [] = []
+from k (p ∷ ps) = if nat_le k (place p) then p ∷ ps else from k ps
+
+pub before-from : (k : ℕ) (ps : List Stamped) → before k ps ++ from k ps ≡ ps
+before-from k [] = refl
+before-from k (p ∷ ps) = go (nat_le k (place p)) (before-from k ps)
+  where
+    go : (b : Bool) → before k ps ++ from k ps ≡ ps → (if b then [] else p ∷ before k ps) ++ (if b then p ∷ ps else from k ps) ≡ p ∷ ps
+    go true ih = refl
+    go false ih = ap (λ x. p ∷ x) ih
+
+pub inserted_split : (o : Stamped) (ps : List Stamped) → inserted o ps ≡ before (place o) ps ++ o ∷ from (place o) ps
+inserted_split o [] = refl
+inserted_split o (p ∷ ps) = go (nat_le (place o) (place p)) (inserted_split o ps)
+  where
+    go : (b : Bool) → inserted o ps ≡ before (place o) ps ++ o ∷ from (place o) ps → (if b then o ∷ p ∷ ps else p ∷ inserted o ps) ≡ (if b then [] else p ∷ before (place o) ps) ++ o ∷ (if b then p ∷ ps else from (place o) ps)
+    go true ih = refl
+    go false ih = ap (λ x. p ∷ x) ih
+
+-- where all places are below, an operation goes to the end
+pub inserted_last : (o : Stamped) (ps : List Stamped) → AllByRecursion (λ p. place p < place o) ps → inserted o ps ≡ ps ++ o ∷ []
+inserted_last o [] h = refl
+inserted_last o (p ∷ ps) h =
+    let low : place p < place o = h.0 in
+    ap (λ b. if b then o ∷ p ∷ ps else p ∷ inserted o ps) (lt-leb (place o) (place p) low) ∙ ap (λ x. p ∷ x) (inserted_last o ps h.1)
+
+-- an operation that is inserted is among the others
+pub inserted_all : (P : Stamped → Type 0) (o : Stamped) (ps : List Stamped) → P o → AllByRecursion P ps → AllByRecursion P (inserted o ps)
+inserted_all P o [] h g = (h, tt)
+inserted_all P o (p ∷ ps) h g = go (nat_le (place o) (place p)) (inserted_all P o ps h g.1)
+  where
+    go : (b : Bool) → AllByRecursion P (inserted o ps) → AllByRecursion P (if b then o ∷ p ∷ ps else p ∷ inserted o ps)
+    go true ih = (h, g)
+    go false ih = (g.0, ih)
+
+pub rising_all : (P : Stamped → Type 0) (ops : List Stamped) → ((i : ℕ) (o : Stamped) → slice_get ops i ≡ Some o → is_some o.at ≡ true → P o) → AllByRecursion P (rising ops)
+rising_all P [] h = tt
+rising_all P (o ∷ os) h = go (is_some o.at) refl (rising_all P os (λ i p got. h (suc i) p got))
+  where
+    go : (b : Bool) → is_some o.at ≡ b → AllByRecursion P (rising os) → AllByRecursion P (if b then inserted o (rising os) else rising os)
+    go true e ih = inserted_all P o (rising os) (h 0 o refl e) ih
+    go false e ih = ih
+
+-- two operations whose places differ may be inserted in either order
+abbrev at_most : Stamped → Stamped → Bool
+at_most a b = nat_le (place a) (place b)
+
+front : (a p : Stamped) (ps : List Stamped) (b : Bool) → at_most a p ≡ b → inserted a (p ∷ ps) ≡ (if b then a ∷ p ∷ ps else p ∷ inserted a ps)
+front a p ps b e = ap (λ x. if x then a ∷ p ∷ ps else p ∷ inserted a ps) e
+
+opposite : (a b : Stamped) (x : Bool) → place a ≢ place b → at_most a b ≡ x → at_most b a ≡ not x
+opposite a b true d e = let h : place a ≤ place b = leb-true _ _ e in lt-leb _ _ (omega arith)
+opposite a b false d e = let h : place b < place a = leb-false _ _ e in le-leb _ _ (omega arith)
+
+commute_front : (a b p : Stamped) (ps : List Stamped) (x y z : Bool) → place a ≢ place b → at_most a p ≡ x → at_most b p ≡ y → at_most a b ≡ z → inserted a (inserted b ps) ≡ inserted b (inserted a ps) → inserted a (inserted b (p ∷ ps)) ≡ inserted b (inserted a (p ∷ ps))
+commute_front a b p ps true true true d ea eb e ih =
+    ap (inserted a) (front b p ps true eb) ∙ front a b (p ∷ ps) true e ∙
+    sym (ap (inserted b) (front a p ps true ea) ∙ front b a (p ∷ ps) false (opposite a b true d e) ∙ ap (λ r. a ∷ r) (front b p ps true eb))
+commute_front a b p ps true true false d ea eb e ih =
+    ap (inserted a) (front b p ps true eb) ∙ front a b (p ∷ ps) false e ∙ ap (λ r. b ∷ r) (front a p ps true ea) ∙
+    sym (ap (inserted b) (front a p ps true ea) ∙ front b a (p ∷ ps) true (opposite a b false d e))
+commute_front a b p ps true false z d ea eb e ih =
+    let h1 : place a ≤ place p = leb-true _ _ ea in
+    let h2 : place p < place b = leb-false _ _ eb in
+    let f : at_most b a ≡ false = lt-leb _ _ (omega arith) in
+    ap (inserted a) (front b p ps false eb) ∙ front a p (inserted b ps) true ea ∙
+    sym (ap (inserted b) (front a p ps true ea) ∙ front b a (p ∷ ps) false f ∙ ap (λ r. a ∷ r) (front b p ps false eb))
+commute_front a b p ps false true z d ea eb e ih =
+    let h1 : place p < place a = leb-false _ _ ea in
+    let h2 : place b ≤ place p = leb-true _ _ eb in
+    let f : at_most a b ≡ false = lt-leb _ _ (omega arith) in
+    ap (inserted a) (front b p ps true eb) ∙ front a b (p ∷ ps) false f ∙ ap (λ r. b ∷ r) (front a p ps false ea) ∙
+    sym (ap (inserted b) (front a p ps false ea) ∙ front b p (inserted a ps) true eb)
+commute_front a b p ps false false z d ea eb e ih =
+    ap (inserted a) (front b p ps false eb) ∙ front a p (inserted b ps) false ea ∙ ap (λ r. p ∷ r) ih ∙
+    sym (ap (inserted b) (front a p ps false ea) ∙ front b p (inserted a ps) false eb)
+
+pub commute : (a b : Stamped) (ps : List Stamped) → place a ≢ place b → inserted a (inserted b ps) ≡ inserted b (inserted a ps)
+commute a b [] d = go (at_most a b) refl
+  where
+    first : (a b : Stamped) (x : Bool) → at_most a b ≡ x → inserted a (b ∷ []) ≡ (if x then a ∷ b ∷ [] else b ∷ a ∷ [])
+    first a b x e = ap (λ x. if x then a ∷ b ∷ [] else b ∷ a ∷ []) e
+
+    go : (x : Bool) → at_most a b ≡ x → inserted a (b ∷ []) ≡ inserted b (a ∷ [])
+    go true e = first a b true e ∙ sym (first b a false (opposite a b true d e))
+    go false e = first a b false e ∙ sym (first b a true (opposite a b false d e))
+commute a b (p ∷ ps) d = commute_front a b p ps _ _ _ d refl refl refl (commute a b ps d)
+
+-- an operation before others whose order one more is inserted into
+behind : (p o : Stamped) (n : ℕ) (xs ys : List Stamped) → o.at ≡ Some n → p.at ≢ Some n → xs ≡ inserted o ys → (if is_some p.at then inserted p xs else xs) ≡ inserted o (if is_some p.at then inserted p ys else ys)
+behind p o n xs ys e d same = go p.at refl
+  where
+    go : (at : Option ℕ) → p.at ≡ at → (if is_some at then inserted p xs else xs) ≡ inserted o (if is_some at then inserted p ys else ys)
+    go None f = same
+    go (Some k) f =
+        ap (inserted p) same
+        ∙ commute p o ys (λ q. d (f ∙ ap Some (sym (ap number_of f) ∙ q ∙ ap number_of e)))
+
+-- an operation that gets a place is inserted
+pub place_given : (n : ℕ) (ops : List Stamped) (i : ℕ) (p o : Stamped) → o.at ≡ Some n → slice_get ops i ≡ Some p → p.at ≡ None → ((j : ℕ) (q : Stamped) → slice_get ops j ≡ Some q → q.at ≢ Some n) → rising (set ops i o) ≡ inserted o (rising ops)
+place_given n [] i p o e got none other = absurd (none-some p got)
+place_given n (q ∷ qs) zero p o e got none other =
+    ap (λ (b : Option ℕ). if is_some b then inserted o (rising qs) else rising qs) e
+    ∙ ap (inserted o) (sym (ap (λ (b : Option ℕ). if is_some b then inserted q (rising qs) else rising qs) (ap (λ (x : Stamped). x.at) (same_Some q p got) ∙ none)))
+place_given n (q ∷ qs) (suc i) p o e got none other =
+    behind q o n (rising (set qs i o)) (rising qs) e (other 0 q refl)
+    (place_given n qs i p o e got none (λ j r there. other (suc j) r there))
+
+-- and so is one that is added
+pub place_added : (n : ℕ) (ops : List Stamped) (o : Stamped) → o.at ≡ Some n → ((j : ℕ) (q : Stamped) → slice_get ops j ≡ Some q → q.at ≢ Some n) → rising (ops ++ o ∷ []) ≡ inserted o (rising ops)
+place_added n [] o e other = ap (λ (b : Option ℕ). if is_some b then o ∷ [] else []) e
+place_added n (q ∷ qs) o e other =
+    behind q o n (rising (qs ++ o ∷ [])) (rising qs) e (other 0 q refl) (place_added n qs o e (λ j r there. other (suc j) r there))
+
+-- an operation that has no place and gets none changes nothing
+pub unplaced_set : (ops : List Stamped) (i : ℕ) (p o : Stamped) → o.at ≡ None → slice_get ops i ≡ Some p → p.at ≡ None → rising (set ops i o) ≡ rising ops
+unplaced_set [] i p o e got none = absurd (none-some p got)
+unplaced_set (q ∷ qs) zero p o e got none =
+    ap (λ (b : Option ℕ). if is_some b then inserted o (rising qs) else rising qs) e
+    ∙ sym (ap (λ (b : Option ℕ). if is_some b then inserted q (rising qs) else rising qs) (ap (λ (x : Stamped). x.at) (same_Some q p got) ∙ none))
+unplaced_set (q ∷ qs) (suc i) p o e got none = ap (λ xs. if is_some q.at then inserted q xs else xs) (unplaced_set qs i p o e got none)
+
+pub unplaced_added : (ops : List Stamped) (o : Stamped) → o.at ≡ None → rising (ops ++ o ∷ []) ≡ rising ops
+unplaced_added [] o e = ap (λ (b : Option ℕ). if is_some b then o ∷ [] else []) e
+unplaced_added (q ∷ qs) o e = ap (λ xs. if is_some q.at then inserted q xs else xs) (unplaced_added qs o e)
+
+-- an element set to itself
+pub set_same : {X : Type 0} (xs : List X) (i : ℕ) (x : X) → slice_get xs i ≡ Some x → set xs i x ≡ xs
+set_same [] i x got = refl
+set_same (y ∷ ys) zero x got = ap (λ z. z ∷ ys) (sym (same_Some y x got))
+set_same (y ∷ ys) (suc i) x got = ap (λ zs. y ∷ zs) (set_same ys i x got)
+
+-- replies to operations one after the other
+pub replayed-append : (queue : Queue) (xs ys : List Stamped) → replayed queue (xs ++ ys) ≡ replayed (replayed queue xs) ys
+replayed-append queue [] ys = refl
+replayed-append queue (x ∷ xs) ys = replayed-append (answer queue x x.reply).after xs ys
+
+pub replays-append : (queue : Queue) (xs ys : List Stamped) → Replays queue xs → Replays (replayed queue xs) ys → Replays queue (xs ++ ys)
+replays-append queue [] ys h g = g
+replays-append queue (x ∷ xs) ys h g = (h.0, replays-append (answer queue x x.reply).after xs ys h.1 g)
+
+pub replays-front : (queue : Queue) (xs ys : List Stamped) → Replays queue (xs ++ ys) → Replays queue xs
+replays-front queue [] ys h = tt
+replays-front queue (x ∷ xs) ys h = (h.0, replays-front (answer queue x x.reply).after xs ys h.1)
+
+pub replays-back : (queue : Queue) (xs ys : List Stamped) → Replays queue (xs ++ ys) → Replays (replayed queue xs) ys
+replays-back queue [] ys h = h
+replays-back queue (x ∷ xs) ys h = replays-back (answer queue x x.reply).after xs ys h.1
+
+-- one more operation at the end
+pub replays_more : (queue : Queue) (xs : List Stamped) (o : Stamped) → Replays queue xs → Gets (replayed queue xs) o o.reply → Replays queue (xs ++ o ∷ [])
+replays_more queue xs o h g = replays-append queue xs (o ∷ []) h (g, tt)
+
+-- a dequeue that is told that the queue is empty
+pub record IsEmptyReply (o : Stamped) : Type 0 where
+  pub op : o.op ≡ Deq
+  pub reply : o.reply ≡ Some Empty
+
+gets_empty : (o : Stamped) → IsEmptyReply o → Gets empty o o.reply
+gets_empty o e = subst (λ r. Gets empty o r) (sym e.reply) (subst (λ p. Empty ≡ (given o.actor p empty).reply) (sym e.op) refl)
+
+stays_empty : (o : Stamped) → IsEmptyReply o → (answer empty o o.reply).after ≡ empty
+stays_empty o e = ap (λ r. (answer empty o r).after) e.reply ∙ ap (λ p. (given o.actor p empty).after) e.op
+
+-- it may stand wherever the queue is empty, and changes nothing
+pub empty_between : (xs ys : List Stamped) (o : Stamped) → IsEmptyReply o → replayed empty xs ≡ empty → replayed empty (xs ++ o ∷ ys) ≡ replayed empty (xs ++ ys)
+empty_between xs ys o e none =
+    replayed-append empty xs (o ∷ ys) ∙ ap (λ q. replayed q (o ∷ ys)) none ∙ ap (λ q. replayed q ys) (stays_empty o e)
+    ∙ sym (replayed-append empty xs ys ∙ ap (λ q. replayed q ys) none)
+
+pub empty_placed : (o : Stamped) (ps : List Stamped) → IsEmptyReply o → replayed empty (before (place o) ps) ≡ empty → Replays empty ps → Replays empty (inserted o ps)
+empty_placed o ps e none h =
+    subst (Replays empty) (sym (inserted_split o ps))
+    (replays-append empty (before (place o) ps) (o ∷ from (place o) ps)
+    (replays-front empty (before (place o) ps) (from (place o) ps) whole)
+    (subst (λ q. Replays q (o ∷ from (place o) ps)) (sym none)
+    (gets_empty o e, subst (λ q. Replays q (from (place o) ps)) (none ∙ sym (stays_empty o e)) (replays-back empty (before (place o) ps) (from (place o) ps) whole))))
+  where
+    whole : Replays empty (before (place o) ps ++ from (place o) ps)
+    whole = subst (Replays empty) (sym (before-from (place o) ps)) h
+
+pub empty_keeps : (o : Stamped) (ps : List Stamped) → IsEmptyReply o → replayed empty (before (place o) ps) ≡ empty → replayed empty (inserted o ps) ≡ replayed empty ps
+empty_keeps o ps e none =
+    ap (replayed empty) (inserted_split o ps) ∙ empty_between (before (place o) ps) (from (place o) ps) o e none
+    ∙ ap (replayed empty) (before-from (place o) ps)
+
+-- the operations before a number, once one is inserted at it or behind it
+pub before_below : (k : ℕ) (o : Stamped) (ps : List Stamped) → k ≤ place o → before k (inserted o ps) ≡ before k ps
+before_below k o [] low = ap (λ b. if b then [] else o ∷ []) (le-leb k (place o) low)
+before_below k o (p ∷ ps) low = go (nat_le (place o) (place p)) refl (before_below k o ps low)
+  where
+    go : (b : Bool) → nat_le (place o) (place p) ≡ b → before k (inserted o ps) ≡ before k ps → before k (if b then o ∷ p ∷ ps else p ∷ inserted o ps) ≡ before k (p ∷ ps)
+    go true e ih =
+        let up : place o ≤ place p = leb-true (place o) (place p) e in
+        ap (λ b. if b then [] else o ∷ before k (p ∷ ps)) (le-leb k (place o) low)
+        ∙ sym (ap (λ b. if b then [] else p ∷ before k ps) (le-leb k (place p) (omega arith)))
+    go false e ih = ap (λ xs. if nat_le k (place p) then [] else p ∷ xs) ih
+
+-- and once one is inserted before it
+pub before_above : (k : ℕ) (o : Stamped) (ps : List Stamped) → place o < k → before k (inserted o ps) ≡ inserted o (before k ps)
+before_above k o [] low = ap (λ b. if b then [] else o ∷ []) (lt-leb k (place o) low)
+before_above k o (p ∷ ps) low = go (nat_le (place o) (place p)) refl (nat_le k (place p)) refl (before_above k o ps low)
+  where
+    go : (b : Bool) → nat_le (place o) (place p) ≡ b → (c : Bool) → nat_le k (place p) ≡ c → before k (inserted o ps) ≡ inserted o (before k ps) → before k (if b then o ∷ p ∷ ps else p ∷ inserted o ps) ≡ inserted o (if c then [] else p ∷ before k ps)
+    go true e true f ih =
+        ap (λ b. if b then [] else o ∷ before k (p ∷ ps)) (lt-leb k (place o) low)
+        ∙ ap (λ b. o ∷ (if b then [] else p ∷ before k ps)) f
+    go true e false f ih =
+        ap (λ b. if b then [] else o ∷ before k (p ∷ ps)) (lt-leb k (place o) low)
+        ∙ ap (λ b. o ∷ (if b then [] else p ∷ before k ps)) f
+        ∙ sym (ap (λ b. if b then o ∷ p ∷ before k ps else p ∷ inserted o (before k ps)) e)
+    go false e true f ih = absurd (let a : place p < place o = leb-false (place o) (place p) e in let b : k ≤ place p = leb-true k (place p) f in omega arith)
+    go false e false f ih =
+        ap (λ b. if b then [] else p ∷ before k (inserted o ps)) f ∙ ap (λ xs. p ∷ xs) ih
+        ∙ sym (ap (λ b. if b then o ∷ p ∷ before k ps else p ∷ inserted o (before k ps)) e)
+
+-- those before the lower of two numbers
+pub before_twice : (n k : ℕ) (ps : List Stamped) → n ≤ k → before n (before k ps) ≡ before n ps
+before_twice n k [] low = refl
+before_twice n k (p ∷ ps) low = go (nat_le k (place p)) refl (before_twice n k ps low)
+  where
+    go : (c : Bool) → nat_le k (place p) ≡ c → before n (before k ps) ≡ before n ps → before n (if c then [] else p ∷ before k ps) ≡ before n (p ∷ ps)
+    go true e ih =
+        let up : k ≤ place p = leb-true k (place p) e in
+        sym (ap (λ b. if b then [] else p ∷ before n ps) (le-leb n (place p) (omega arith)))
+    go false e ih = ap (λ xs. if nat_le n (place p) then [] else p ∷ xs) ih
+
+-- where the queue was empty before a number, it is so once an operation gets a place that isn't below it
+pub still_empty_below : (k : ℕ) (o : Stamped) (ps : List Stamped) → k ≤ place o → replayed empty (before k ps) ≡ empty → replayed empty (before k (inserted o ps)) ≡ empty
+still_empty_below k o ps low none = ap (replayed empty) (before_below k o ps low) ∙ none
+
+-- and once an empty reply gets its place
+pub still_empty : (k : ℕ) (o : Stamped) (ps : List Stamped) → IsEmptyReply o → replayed empty (before (place o) ps) ≡ empty → replayed empty (before k ps) ≡ empty → replayed empty (before k (inserted o ps)) ≡ empty
+still_empty k o ps e here none = go (nat_le k (place o)) refl
+  where
+    go : (b : Bool) → nat_le k (place o) ≡ b → replayed empty (before k (inserted o ps)) ≡ empty
+    go true f = still_empty_below k o ps (leb-true k (place o) f) none
+    go false f =
+        let low : place o < k = leb-false k (place o) f in
+        ap (replayed empty) (before_above k o ps low)
+        ∙ empty_keeps o (before k ps) e (ap (replayed empty) (before_twice (place o) k ps (omega arith)) ∙ here)
+        ∙ none
+
+-- all are before a number that is above their places
+pub before_all : (k : ℕ) (ps : List Stamped) → AllByRecursion (λ p. place p < k) ps → before k ps ≡ ps
+before_all k [] h = refl
+before_all k (p ∷ ps) h = ap (λ b. if b then [] else p ∷ before k ps) (lt-leb k (place p) h.0) ∙ ap (λ x. p ∷ x) (before_all k ps h.1)

@@ -1,0 +1,47 @@
+-- The replies that calls under way have earned, and the operations with them.
+use Rattle.std.specs.Prelude.{ℕ, Bool, true, false, List, map, Option, Some, None}
+use Rattle.std.specs.List.{count_by}
+use Rattle.history.specs.declared.operations.Reply.{Reply}
+use Rattle.history.specs.declared.operations.Reply.TheVariants.{Done, Value, Empty, Refused}
+use Rattle.history.specs.declared.operations.Stamped.{Stamped}
+use Rattle.step_machine.specs.declared.actors.Actor.{Actor}
+use Rattle.step_machine.specs.Machine.{World, actor_of}
+
+-- the reply that a call has earned by its effect: done, or the value taken; an empty reply and a refusal have none
+abbrev pub earned : Option Reply → Option Reply
+earned None = None
+earned (Some Done) = Some Done
+earned (Some (Value v)) = Some (Value v)
+earned (Some Empty) = None
+earned (Some (Refused why)) = None
+
+-- what the call of an actor will answer, where that is settled
+abbrev pub due_of : Option Actor → Option Reply
+due_of None = None
+due_of (Some a) = a.due
+
+-- the reply that an operation was told, or else, once it took effect, the one that its call has earned
+abbrev pub promised_reply : (told : Option Reply) → (at : Option ℕ) → (due : Option Reply) → Option Reply
+promised_reply (Some reply) at due = Some reply
+promised_reply None None due = None
+promised_reply None (Some at) due = earned due
+
+-- an operation with the reply that it was told or that its call has earned
+abbrev pub promised : World → Stamped → Stamped
+promised w o = record o { reply = promised_reply o.reply o.at (due_of (actor_of w o.actor)) }
+
+-- all operations, with the replies that they were told or that their calls have earned
+abbrev pub promises : World → List Stamped
+promises w = map (promised w) w.operations
+
+-- whether a reply is a value
+abbrev pub is_value : Option Reply → Bool
+is_value None = false
+is_value (Some Done) = false
+is_value (Some (Value v)) = true
+is_value (Some Empty) = false
+is_value (Some (Refused why)) = false
+
+-- how many operations have taken a value
+abbrev pub values_taken : List Stamped → ℕ
+values_taken ops = count_by (λ o. is_value o.reply) ops

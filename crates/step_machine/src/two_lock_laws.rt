@@ -1,0 +1,32 @@
+//! Laws of the two-lock queue, over all worlds that any moves lead to: any setup and number of actors in range, and
+//! any list of begins, steps, givings up and rests. Each is the contract of a function that does nothing.
+ghost use Rattle.step_machine.specs.TwoLock.{OfTwoLockWorlds, HasItsPlaces, KeepsQueueAndFreeApart};
+ghost use Rattle.step_machine.specs.TwoLock.{TailNamesTheLast, CountsNothing};
+ghost use Rattle.step_machine.specs.TwoLock.{RaisesBelowTheLimit, RefusesWithCause};
+
+/// Each node is in exactly one place: never used, in the queue, free, held by one actor, or set aside.
+pub fn each_node_is_in_one_place()
+    ensures places { OfTwoLockWorlds HasItsPlaces }
+    ensures apart { OfTwoLockWorlds KeepsQueueAndFreeApart }
+{}
+
+/// Tail names the last node of the queue, except while an actor has linked its node and not yet moved Tail.
+pub fn tail_names_the_last_node()
+    ensures { OfTwoLockWorlds TailNamesTheLast }
+{}
+
+/// The counts of Tail and of every `next` are 0.
+pub fn tail_and_next_count_nothing()
+    ensures { OfTwoLockWorlds CountsNothing }
+{}
+
+/// A count is raised only below the limit.
+pub fn counts_are_raised_below_the_limit()
+    ensures { OfTwoLockWorlds RaisesBelowTheLimit }
+{}
+
+/// A step refuses only where its cause is there: `NoNode` where all nodes are used and none is free, and `WornOut`
+/// where the word's count is at the limit.
+pub fn refusals_have_their_cause()
+    ensures { OfTwoLockWorlds RefusesWithCause }
+{}
