@@ -3,3 +3,4 @@ mod Lines
 mod Moves
 mod Consuming
 mod Stops
+mod Words

@@ -1,10 +1,10 @@
 //! The words after the program's name.
-ghost use Rattle.std.specs.Prelude.{◌≡◌, ◌≤◌, [], IfErr, IfOk, MatchResult, codes, string_bytes};
-ghost use Rattle.clap.specs.Words.{kind_of};
-ghost use Rattle.msq.specs.Commands.{file_of};
+ghost use Rattle.std.specs.Prelude.{◌≡◌, ◌≤◌, [], IfErr, IfOk, map, option_map, string_bytes, true};
+ghost use Rattle.clap.specs.Words.{app_of, kind_of, subcommand_rows_of, takes};
+ghost use Rattle.msq.specs.Commands.{asked_file, command_line_app, file_met, file_of};
 
-use clap::Arg;
 use clap::error::ErrorKind;
+use clap::{Arg, ArgMatches};
 use std::alloc::{AllocError, Global};
 
 /// What the program is asked to do.
@@ -20,8 +20,12 @@ pub enum Command {
 /// goes to standard output, 2 for words that are refused, and 1 with no text where memory was
 /// refused. Takes memory, and doesn't wait.
 pub fn read_words(alloc: Global, words: &[String]) -> Result<Command, (u8, String)>
-    ensures none { words.now ≡ [] → MatchResult result (λ command. file_of command ≡ codes "-")
-        (λ e. e.0 ≡ 1) }
+    // At `Ok` it runs the file that the words name, and `-` where they name none.
+    ensures file { IfOk result (λ command. file_of command ≡ asked_file (map string_bytes words.now)) }
+    // Words that are a command line, and no words, are refused only where memory is.
+    ensures passes { IfErr result (λ e. takes command_line_app (map string_bytes words.now) ≡ true
+        → e.0 ≡ 1) }
+    ensures none { words.now ≡ [] → IfErr result (λ e. e.0 ≡ 1) }
     ensures status { IfErr result (λ e. e.0 ≤ 2) }
     ensures memory { IfErr result (λ e. e.0 ≡ 1 → string_bytes e.1 ≡ []) }
 {
@@ -31,31 +35,44 @@ pub fn read_words(alloc: Global, words: &[String]) -> Result<Command, (u8, Strin
     }
 }
 
-/// The command, or what clap says instead.
-fn asked(alloc: Global, words: &[String]) -> Result<Command, clap::Error>
-    ensures none { words.now ≡ [] → MatchResult result (λ command. file_of command ≡ codes "-")
-        (λ e. kind_of e ≡ ErrorKind.OutOfMemory) }
+/// The command line: `run` with a FILE, help and the version.
+fn command_line<'a>(alloc: Global) -> Result<clap::Command<'a>, AllocError>
+    ensures { IfOk result (λ command. app_of command ≡ command_line_app) }
 {
-    if words.is_empty() {
-        return Ok(run_of(alloc, "-")?);
-    }
     let file = Arg::new(alloc, "FILE")
         .help("The schedule; - is standard input")
         .required(true);
     let run = clap::Command::new(alloc, "run")
         .about("Runs a schedule and writes its history")
         .arg(file)?;
-    let program = clap::Command::new(alloc, "msq")
+    clap::Command::new(alloc, "msq")
         .about("Runs concurrent queues one atomic line at a time")
         .version("0.1.0")
         .no_binary_name(true)
         .subcommand_required(true)
-        .subcommand(run)?;
-    let matches = program.try_get_matches_from(words)?;
-    match matches.subcommand_matches("run") {
-        Some(run) => Ok(run_of(alloc, run.get_str("FILE").unwrap_or("-"))?),
-        None => Ok(run_of(alloc, "-")?),
+        .subcommand(run)
+}
+
+/// The command, or what clap says instead.
+fn asked(alloc: Global, words: &[String]) -> Result<Command, clap::Error>
+    ensures file { IfOk result (λ command. file_of command ≡ asked_file (map string_bytes words.now)) }
+    ensures passes { IfErr result (λ e. takes command_line_app (map string_bytes words.now) ≡ true
+        → kind_of e ≡ ErrorKind.OutOfMemory) }
+    ensures none { words.now ≡ [] → IfErr result (λ e. kind_of e ≡ ErrorKind.OutOfMemory) }
+{
+    if words.is_empty() {
+        return Ok(run_of(alloc, "-")?);
     }
+    let matches = command_line(alloc)?.try_get_matches_from(words)?;
+    Ok(run_of(alloc, file_in(&matches).unwrap_or("-"))?)
+}
+
+/// The FILE of the command that clap met.
+fn file_in<'a>(matches: &ArgMatches<'a>) -> Option<&'a str>
+    ensures { option_map (λ file. file.now) result ≡ file_met (subcommand_rows_of matches.now) }
+{
+    let (_run, options) = matches.subcommand()?;
+    options.get_str("FILE")
 }
 
 fn run_of(alloc: Global, file: &str) -> Result<Command, AllocError>
