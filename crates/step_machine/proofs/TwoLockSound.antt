@@ -28,7 +28,7 @@ use Rattle.step_machine.proofs.StampsKept.{Does}
 use Rattle.step_machine.proofs.Reached.{some_of, reached_in_range, actor_in_range, actor_of-All}
 use Rattle.step_machine.proofs.Keeping.{Has}
 use Rattle.step_machine.proofs.Standing.{EndsHold}
-use Rattle.step_machine.proofs.Naming.{reached_stands}
+use Rattle.step_machine.proofs.Naming.{two_lock_stands}
 use Rattle.step_machine.proofs.StampsKept.{actor_stands, actor_cases}
 use Rattle.step_machine.proofs.StampsMoves.{idle_got}
 use Rattle.step_machine.proofs.Chains.{next_in, one_if_same, one_if_tells, chain_some, second_leads}
@@ -55,13 +55,13 @@ pub record Sound (Z : ℕ → Type 0) (w : World) (queue free : List ℕ) : Type
 -- each actor's registers hold nodes where its line uses them so
 pub nodes_at : (w : World) → IsReached w → w.setup.kind ≡ TwoLock → (me : ℕ) (a : Actor) (l : Line) → actor_of w me ≡ Some a → a.line ≡ Some l → IsRunBy (section_of l) TwoLock × HoldsNodes l a
 nodes_at w r e me a l is at =
-    let p : ActorStands w.setup.kind a = actor_of-All (ActorStands w.setup.kind) w me a (reached_stands w r e).actors is in
+    let p : ActorStands w.setup.kind a = actor_of-All (ActorStands w.setup.kind) w me a (two_lock_stands w r e).actors is in
     let q : IsRunBy (section_of l) w.setup.kind × HoldsNodes l a = subst (Stands w.setup.kind a) at p.line in
     (subst (IsRunBy (section_of l)) e q.0, q.1)
 
 -- Head holds a node
 pub head_some : (w : World) → IsReached w → w.setup.kind ≡ TwoLock → 1 ≤ w.shared.head.node
-head_some w r e = (reached_stands w r e).words.head
+head_some w r e = (two_lock_stands w r e).words.head
 
 -- what holds before a step of an actor
 pub before : (Z : ℕ → Type 0) (w : World) (me : ℕ) (a : Actor) (l : Line) (h : ℕ) (rest free : List ℕ) → IsReached w → w.setup.kind ≡ TwoLock → actor_of w me ≡ Some a → a.line ≡ Some l → Sound Z w (h ∷ rest) free → Before Z w.setup (length w.actors) w.shared (elsewhere w) h rest free me a l
