@@ -33,3 +33,8 @@ pub mod TwoLockLines
 pub mod TwoLockSound
 pub mod TwoLockLaws
 pub mod TwoLockCounts
+pub mod NonBlockingKnows
+pub mod NonBlockingLag
+pub mod NonBlockingEffects
+pub mod NonBlockingSteps
+pub mod NonBlockingSound
