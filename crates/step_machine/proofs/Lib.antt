@@ -28,6 +28,8 @@ pub mod Reaching
 pub mod Fixed
 pub mod Accounts
 pub mod Replay
+pub mod Booking
+pub mod Legal
 pub mod TwoLockKnows
 pub mod TwoLockLines
 pub mod TwoLockSound
