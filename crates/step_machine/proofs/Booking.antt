@@ -107,7 +107,7 @@ over_reply K p d d' h (inr left) =
     e d ∙ sym (e d')
 
 -- an operation that isn't the mover's, or is over, stays as it is in the book
-entry_kept : (K : List ℕ) (w : World) (me : ℕ) (b : Actor) (p : Stamped) → 1 ≤ me → IsStamped K p → (p.actor ≡ me → Over (Unit {0}) p) → entry_in (with_actor w me b) p ≡ entry_in w p
+pub entry_kept : (K : List ℕ) (w : World) (me : ℕ) (b : Actor) (p : Stamped) → 1 ≤ me → IsStamped K p → (p.actor ≡ me → Over (Unit {0}) p) → entry_in (with_actor w me b) p ≡ entry_in w p
 entry_kept K w me b p some h over = go (same_or_not p.actor me)
   where
     go : (p.actor ≡ me) ⊎ (p.actor ≢ me) → entry_in (with_actor w me b) p ≡ entry_in w p

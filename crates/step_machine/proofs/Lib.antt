@@ -30,6 +30,7 @@ pub mod Accounts
 pub mod Replay
 pub mod Booking
 pub mod Legal
+pub mod LegalMoves
 pub mod TwoLockKnows
 pub mod TwoLockLines
 pub mod TwoLockSound
