@@ -90,6 +90,11 @@ module _ (w : World) (me : ℕ) (a : Actor) (m' : Shared) (o : Outcome) (h : ℕ
           let is : place p ≡ n = ap number_of e in
           omega arith
 
+  -- a queue that is empty now is empty before the next number
+  pub empty_now : rest ≡ [] → replayed empty (before (w.steps + 1) (rising (book w))) ≡ empty
+  empty_now e =
+      ap (replayed empty) (before_all (w.steps + 1) (rising (book w)) below) ∙ ac.list ∙ ap (λ ns. queue_of (values_of w.shared ns)) e
+
   -- a step that gives no place
   after_quiet : (queue' : List ℕ) → queue' ≡ h ∷ rest → m'.head.count ≡ w.shared.head.count → Unchanged (book w) (book after) → AfterStep w after queue'
   after_quiet queue' same count u =

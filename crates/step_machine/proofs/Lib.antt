@@ -31,8 +31,10 @@ pub mod Replay
 pub mod Booking
 pub mod Legal
 pub mod LegalMoves
+pub mod Promises
 pub mod TwoLockKnows
 pub mod TwoLockLines
 pub mod TwoLockSound
 pub mod TwoLockLaws
 pub mod TwoLockCounts
+pub mod TwoLockLegal
