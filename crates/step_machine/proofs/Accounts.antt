@@ -22,12 +22,12 @@ KeepsReply a o = (earned a.due ≡ None) ⊎ ((n : ℕ) → promised_reply o.rep
 
 -- what a step at number `now` means for the list of values; `Z` is what is known of a number noted at which the queue
 -- was empty
-pub data Account (Z : ℕ → Type 0) (now : ℕ) (m m' : Shared) (queue queue' : List ℕ) (a : Actor) (o : Outcome) : Type 0 where
-  quiet : queue' ≡ queue → m'.head.count ≡ m.head.count → o.at ≡ None → KeepsReply a o → Account Z now m m' queue queue' a o
-  refused : (why : Refusal) → queue' ≡ queue → m'.head.count ≡ m.head.count → o.at ≡ Some now → o.reply ≡ Some (Refused why) → leaves why ≡ true → earned a.due ≡ None → Account Z now m m' queue queue' a o
-  found_empty : queue' ≡ queue → m'.head.count ≡ m.head.count → o.at ≡ Some a.noted → o.reply ≡ Some Empty → a.op ≡ Deq → earned a.due ≡ None → Z a.noted → Account Z now m m' queue queue' a o
-  pushed : queue' ≡ queue ++ a.node ∷ [] → m'.head.count ≡ m.head.count → o.at ≡ Some now → promised_reply o.reply (Some now) o.actor.due ≡ Some Done → (node_at m' a.node).value ≡ a.val → Account Z now m m' queue queue' a o
-  popped : (h x : ℕ) (rest : List ℕ) → queue ≡ h ∷ x ∷ rest → queue' ≡ x ∷ rest → m'.head.count ≡ m.head.count + 1 → o.at ≡ Some now → promised_reply o.reply (Some now) o.actor.due ≡ Some (Value (node_at m x).value) → Account Z now m m' queue queue' a o
+pub data Account (Z : ℕ → Type 0) (me now : ℕ) (m m' : Shared) (queue queue' : List ℕ) (a : Actor) (o : Outcome) : Type 0 where
+  quiet : queue' ≡ queue → m'.head.count ≡ m.head.count → o.at ≡ None → KeepsReply a o → Account Z me now m m' queue queue' a o
+  refused : (why : Refusal) → queue' ≡ queue → m'.head.count ≡ m.head.count → o.at ≡ Some now → o.reply ≡ Some (Refused why) → leaves why ≡ true → earned a.due ≡ None → Account Z me now m m' queue queue' a o
+  found_empty : queue' ≡ queue → m'.head.count ≡ m.head.count → o.at ≡ Some a.noted → o.reply ≡ Some Empty → a.op ≡ Deq → earned a.due ≡ None → Z a.noted → Account Z me now m m' queue queue' a o
+  pushed : queue' ≡ queue ++ a.node ∷ [] → m'.head.count ≡ m.head.count → o.at ≡ Some now → promised_reply o.reply (Some now) o.actor.due ≡ Some Done → (node_at m' a.node).value ≡ a.val → Pushes me a.op a.val → earned a.due ≡ None → Account Z me now m m' queue queue' a o
+  popped : (h x : ℕ) (rest : List ℕ) → queue ≡ h ∷ x ∷ rest → queue' ≡ x ∷ rest → m'.head.count ≡ m.head.count + 1 → o.at ≡ Some now → promised_reply o.reply (Some now) o.actor.due ≡ Some (Value (node_at m x).value) → a.op ≡ Deq → earned a.due ≡ None → Account Z me now m m' queue queue' a o
 
 -- references are the same where their nodes and counts are
 pub ref_path : (a b : Ref) → a.node ≡ b.node → a.count ≡ b.count → a ≡ b

@@ -38,3 +38,8 @@ pub mod NonBlockingLag
 pub mod NonBlockingEffects
 pub mod NonBlockingSteps
 pub mod NonBlockingSound
+pub mod Booking
+pub mod Legal
+pub mod LegalMoves
+pub mod Promises
+pub mod TwoLockLegal

@@ -67,7 +67,7 @@ pub record After (Z : ℕ → Type 0) (s : Setup) (m : Shared) (h : ℕ) (rest f
   pub settled : m'.tail_lock ≡ 0 → last_node queue' ≡ m'.tail.node
   pub knows : KnowsAt (Found rest now) s m' (last_node queue') o.actor o.actor.line
   pub owns : OwnsAt m' me o.actor.line
-  pub account : Account Z now m m' (h ∷ rest) queue' a o
+  pub account : Account Z me now m m' (h ∷ rest) queue' a o
 
 -- the locks, Tail and Head stay
 locks_same : (m : Shared) (free : Ref) (nodes : List Node) (fresh last you : ℕ) → LocksKept m (record m { fresh = fresh; free = free; nodes = nodes }) last last you
@@ -89,7 +89,7 @@ module _ (Z : ℕ → Type 0) (s : Setup) (k : ℕ) (m : Shared) (E : ℕ → �
   chosen false m1 x y hx hy = hy refl
 
   -- a step that writes no word
-  still : (l : Line) (o : Outcome) → Before Z s k m E h rest free me a l → ((n : ℕ) → holds n o.actor ≡ holds n a) → o.aside ≡ None → KnowsAt (Found rest now) s m (last_node (h ∷ rest)) o.actor o.actor.line → OwnsAt m me o.actor.line → Account Z now m m (h ∷ rest) (h ∷ rest) a o → Does m o
+  still : (l : Line) (o : Outcome) → Before Z s k m E h rest free me a l → ((n : ℕ) → holds n o.actor ≡ holds n a) → o.aside ≡ None → KnowsAt (Found rest now) s m (last_node (h ∷ rest)) o.actor o.actor.line → OwnsAt m me o.actor.line → Account Z me now m m (h ∷ rest) (h ∷ rest) a o → Does m o
   still l o b same none knows owns account =
       record {
         queue' = h ∷ rest;
@@ -206,7 +206,7 @@ module _ (Z : ℕ → Type 0) (s : Setup) (k : ℕ) (m : Shared) (E : ℕ → �
       omega arith
 
   -- a node that isn't freed is set aside; c is the actor then
-  asides_own : (l : Line) (o : Outcome) → Before Z s k m E h rest free me a l → a.holds ≡ true → a.pocket ≡ None → 1 ≤ a.node → o.aside ≡ Some a.node → ((n : ℕ) → holds n o.actor ≡ in_pocket n a.pocket) → KnowsAt (Found rest now) s m (last_node (h ∷ rest)) o.actor o.actor.line → OwnsAt m me o.actor.line → Account Z now m m (h ∷ rest) (h ∷ rest) a o → Does m o
+  asides_own : (l : Line) (o : Outcome) → Before Z s k m E h rest free me a l → a.holds ≡ true → a.pocket ≡ None → 1 ≤ a.node → o.aside ≡ Some a.node → ((n : ℕ) → holds n o.actor ≡ in_pocket n a.pocket) → KnowsAt (Found rest now) s m (last_node (h ∷ rest)) o.actor o.actor.line → OwnsAt m me o.actor.line → Account Z me now m m (h ∷ rest) (h ∷ rest) a o → Does m o
   asides_own l o b hand pocket some is left knows owns account =
       record {
         queue' = h ∷ rest;
@@ -355,7 +355,7 @@ module _ (Z : ℕ → Type 0) (s : Setup) (k : ℕ) (m : Shared) (E : ℕ → �
       b.owns refl (inl (ap earned b.fixed.earned))
 
   -- a word that is no node, and not Fresh, Free or Head's node, is written, and the queue's chain stays
-  words_written : (l : Line) (m' : Shared) (o : Outcome) → Before Z s k m E h rest free me a l → m'.nodes ≡ m.nodes → m'.head ≡ m.head → m'.free ≡ m.free → m'.fresh ≡ m.fresh → ((n : ℕ) → holds n o.actor ≡ holds n a) → o.aside ≡ None → ((you : ℕ) → 1 ≤ you → you ≢ me → LocksKept m m' (last_node (h ∷ rest)) (last_node (h ∷ rest)) you) → (m'.tail_lock ≡ 0 → last_node (h ∷ rest) ≡ m'.tail.node) → KnowsAt (Found rest now) s m' (last_node (h ∷ rest)) o.actor o.actor.line → OwnsAt m' me o.actor.line → Account Z now m m' (h ∷ rest) (h ∷ rest) a o → Does m' o
+  words_written : (l : Line) (m' : Shared) (o : Outcome) → Before Z s k m E h rest free me a l → m'.nodes ≡ m.nodes → m'.head ≡ m.head → m'.free ≡ m.free → m'.fresh ≡ m.fresh → ((n : ℕ) → holds n o.actor ≡ holds n a) → o.aside ≡ None → ((you : ℕ) → 1 ≤ you → you ≢ me → LocksKept m m' (last_node (h ∷ rest)) (last_node (h ∷ rest)) you) → (m'.tail_lock ≡ 0 → last_node (h ∷ rest) ≡ m'.tail.node) → KnowsAt (Found rest now) s m' (last_node (h ∷ rest)) o.actor o.actor.line → OwnsAt m' me o.actor.line → Account Z me now m m' (h ∷ rest) (h ∷ rest) a o → Does m' o
   words_written l m' o b nodes head top fresh same none locks settled knows owns account =
       record {
         queue' = h ∷ rest;
@@ -413,7 +413,7 @@ module _ (Z : ℕ → Type 0) (s : Setup) (k : ℕ) (m : Shared) (E : ℕ → �
         settled = λ f. absurd (let some : 1 ≤ me = b.some in let mine : m.tail_lock ≡ me = b.owns.0 in omega arith);
         knows = last_linked h rest a.node;
         owns = b.owns;
-        account = pushed refl refl refl refl (next_keeps_value m a.tail.node (ref a.node 0) a.node b.nodes.1 low b.nodes.0 ∙ b.knows.0.0);
+        account = pushed refl refl refl refl (next_keeps_value m a.tail.node (ref a.node 0) a.node b.nodes.1 low b.nodes.0 ∙ b.knows.0.0) b.fixed.call (ap earned b.fixed.earned);
       }
     where
       last : a.tail.node ≡ last_node (h ∷ rest)
@@ -489,7 +489,7 @@ module _ (Z : ℕ → Type 0) (s : Setup) (k : ℕ) (m : Shared) (E : ℕ → �
       (λ e. goes_still B4 B5 c b (λ n. refl) (b.knows.0, b.knows.1, refl) b.owns (inl (ap earned b.fixed.earned)))
 
   -- a step of B6, by what the call has earned
-  lets_head_go : (o : Outcome) → Before Z s k m E h rest free me a B6 → ((n : ℕ) → holds n o.actor ≡ holds n a) → o.aside ≡ None → KnowsAt (Found rest now) s (put Head_lock 0 m) (last_node (h ∷ rest)) o.actor o.actor.line → has_tail o.actor.line ≡ false → has_head o.actor.line ≡ false → Account Z now m (put Head_lock 0 m) (h ∷ rest) (h ∷ rest) a o → Does (put Head_lock 0 m) o
+  lets_head_go : (o : Outcome) → Before Z s k m E h rest free me a B6 → ((n : ℕ) → holds n o.actor ≡ holds n a) → o.aside ≡ None → KnowsAt (Found rest now) s (put Head_lock 0 m) (last_node (h ∷ rest)) o.actor o.actor.line → has_tail o.actor.line ≡ false → has_head o.actor.line ≡ false → Account Z me now m (put Head_lock 0 m) (h ∷ rest) (h ∷ rest) a o → Does (put Head_lock 0 m) o
   lets_head_go o b same none knows t d account =
       words_written B6 (put Head_lock 0 m) o b refl refl refl refl same none
       (λ you some other. record {
@@ -558,7 +558,7 @@ pops Z s k m E h x ns free me now a b e =
       settled = b.settled;
       knows = tt;
       owns = b.owns;
-      account = popped h x ns refl refl (raised_count s a.head a.next.node b.fixed.room ∙ ap (λ (r : Ref). r.count + 1) (sym b.knows.0)) refl (ap (λ v. Some (Value v)) value);
+      account = popped h x ns refl refl (raised_count s a.head a.next.node b.fixed.room ∙ ap (λ (r : Ref). r.count + 1) (sym b.knows.0)) refl (ap (λ v. Some (Value v)) value) b.fixed.call (ap earned b.fixed.earned);
     }
   where
     at : a.head.node ≡ h

@@ -37,6 +37,7 @@ use Rattle.step_machine.proofs.Effects.{Shape, Turn, Writes, shape_turned, hand_
 use Rattle.step_machine.proofs.Fixed.{FixedAt, Fixes, fixed, fixed_given, fixed_entry, fixed_begun, fixed_rested}
 use Rattle.step_machine.proofs.Older.{Rises}
 use Rattle.step_machine.proofs.Reaching.{EachMoveKeeps, each_reached}
+use Rattle.step_machine.proofs.LegalMoves.{same_op, same_op_given}
 use Rattle.step_machine.proofs.TwoLockKnows.{OwnsAt, Owns, KnowsAt, NodesKept, LocksKept, locks_kept, knows_kept, knows_entry, knows_more}
 use Rattle.step_machine.proofs.TwoLockLines.{IsOwn, Found, Before, After, does, gives}
 
@@ -281,7 +282,7 @@ pub record Carried (L : World → List ℕ → Type 0) (Z : World → ℕ → Ty
 -- a further fact of a world and its queue's chain, and one of the numbers noted where the queue was empty, which the
 -- moves carry along
 pub record Carries (L : World → List ℕ → Type 0) (Z : World → ℕ → Type 0) : Type 1 where
-  pub told : (w : World) (me : ℕ) (a : Actor) (l : Line) (m' : Shared) (o : Outcome) (h : ℕ) (rest free : List ℕ) → IsReached w → w.setup.kind ≡ TwoLock → actor_of w me ≡ Some a → a.line ≡ Some l → Sound (Z w) w (h ∷ rest) free → (t : After (Z w) w.setup w.shared h rest free me (w.steps + 1) a m' o) → Does (w.steps + 1) l a.due a.noted o → L w (h ∷ rest) → Carried L Z w (settled w me a m' o) rest t.queue'
+  pub told : (w : World) (me : ℕ) (a : Actor) (l : Line) (m' : Shared) (o : Outcome) (h : ℕ) (rest free : List ℕ) → IsReached w → w.setup.kind ≡ TwoLock → actor_of w me ≡ Some a → a.line ≡ Some l → Sound (Z w) w (h ∷ rest) free → (t : After (Z w) w.setup w.shared h rest free me (w.steps + 1) a m' o) → Does (w.steps + 1) l a.due a.noted o → o.actor.op ≡ a.op → L w (h ∷ rest) → Carried L Z w (settled w me a m' o) rest t.queue'
   pub began : (w : World) (me : ℕ) (op : Op) (a : Actor) (queue : List ℕ) → IsReached w → actor_of w me ≡ Some a → a.line ≡ None → L w queue → L (with_actor w me (begun w.setup.kind me op a)) queue × ((k : ℕ) → Z w k → Z (with_actor w me (begun w.setup.kind me op a)) k)
   pub at_rest : (w : World) (me : ℕ) (a : Actor) (l : Line) (queue : List ℕ) → IsReached w → actor_of w me ≡ Some a → a.line ≡ Some l → may_rest l ≡ true → L w queue → L (with_actor w me (rested a)) queue × ((k : ℕ) → Z w k → Z (with_actor w me (rested a)) k)
   pub starts : (s : Setup) (actors : ℕ) → IsSized s actors → L (opening s actors) (1 ∷ [])
@@ -313,7 +314,8 @@ module _ (L : World → List ℕ → Type 0) (Z : World → ℕ → Type 0) (car
           does (Z w) w.setup (length w.actors) w.shared (elsewhere w) w.shared.head.node rest p.free me (w.steps + 1) a l (nodes_at w r e me a l is at).0 b in
           let c : Carried L Z w (stepped w me a l) rest t.queue' =
           carries.told w me a l (performed (action w.setup me a l) w.shared) o w.shared.head.node rest p.free r e is at so t
-          (λ Q place n p stands. turned Q w.setup (w.steps + 1) me a l (found (action w.setup me a l) w.shared) place n p stands) fact in
+          (λ Q place n p stands. turned Q w.setup (w.steps + 1) me a l (found (action w.setup me a l) w.shared) place n p stands)
+          (same_op w.setup (w.steps + 1) me a l (found (action w.setup me a l) w.shared)) fact in
           record {
             queue = t.queue';
             free = t.free';
@@ -336,7 +338,8 @@ module _ (L : World → List ℕ → Type 0) (Z : World → ℕ → Type 0) (car
           (gives (Z w) w.setup (length w.actors) w.shared (elsewhere w) w.shared.head.node rest p.free me (w.steps + 1) a l (nodes_at w r e me a l is at).0 b) in
           let c : Carried L Z w (settled w me a w.shared o) rest t.queue' =
           carries.told w me a l w.shared o w.shared.head.node rest p.free r e is at so t
-          (λ Q place n p stands. some_of (Turns Q place) (gives_up (w.steps + 1) a l) o given (given_turned Q (w.steps + 1) a l place n p stands)) fact in
+          (λ Q place n p stands. some_of (Turns Q place) (gives_up (w.steps + 1) a l) o given (given_turned Q (w.steps + 1) a l place n p stands))
+          (some_of (λ x. x.actor.op ≡ a.op) (gives_up (w.steps + 1) a l) o given (same_op_given (w.steps + 1) a l)) fact in
           record {
             queue = t.queue';
             free = t.free';
@@ -392,7 +395,7 @@ module _ (L : World → List ℕ → Type 0) (Z : World → ℕ → Type 0) (car
 nothing : Carries (λ w q. Unit {0}) (λ w k. Unit {0})
 nothing =
     record {
-      told = λ w me a l m' o h rest free r e is at so t d f. record { fact = tt; keeps = λ k z. tt; finds = λ e. tt };
+      told = λ w me a l m' o h rest free r e is at so t d p f. record { fact = tt; keeps = λ k z. tt; finds = λ e. tt };
       began = λ w me op a q r is at f. (tt, λ k z. tt);
       at_rest = λ w me a l q r is at may f. (tt, λ k z. tt);
       starts = λ s actors h. tt;

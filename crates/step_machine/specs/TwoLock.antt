@@ -11,12 +11,15 @@ use Rattle.history.specs.declared.refusals.Refusal.{Refusal}
 use Rattle.history.specs.declared.refusals.Refusal.TheVariants.{NoNode, WornOut, Busy, Memory, BadSize, IdleActor, ActorBusy, NotHere, NoSuchActor, Text, Read, Write, Stranger, Double, Lost, Closed}
 use Rattle.history.specs.declared.operations.Reply.{Reply}
 use Rattle.history.specs.declared.operations.Reply.TheVariants.{Done, Value, Empty, Refused}
+use Rattle.history.specs.Queue.{empty}
+use Rattle.history.specs.History.{rising, Replays, replayed}
 use Rattle.step_machine.specs.declared.actors.Actor.{Actor}
 use Rattle.step_machine.specs.Memory.{Shared, node_at, found}
 use Rattle.step_machine.specs.Lines.{action, outcome}
 use Rattle.step_machine.specs.Machine.{World, actor_of, IsReached}
 use Rattle.step_machine.specs.Places.{IsChain, IsQueued, IsFree, Places}
-use Rattle.step_machine.specs.Chains.{last_node}
+use Rattle.step_machine.specs.Chains.{last_node, queue_values}
+use Rattle.step_machine.specs.Promises.{promises, values_taken}
 
 -- a fact holds of each world of the two-lock queue that any moves lead to
 abbrev pub OfTwoLockWorlds : (World → Type 0) → Type 0
@@ -126,3 +129,14 @@ abbrev pub RefusesWithCause : World → Type 0
 RefusesWithCause w =
     (me : ℕ) (a : Actor) (l : Line) → actor_of w me ≡ Some a → a.line ≡ Some l →
     HasCauseFor w (outcome w.setup (w.steps + 1) me a l (found (action w.setup me a l) w.shared)).reply
+
+-- by rising place, from the empty queue, the operations get the replies that they were told or that their calls have
+-- earned, and the queue then has the values in the chain from Head
+abbrev pub ReplaysToItsValues : World → Type 0
+ReplaysToItsValues w =
+    (queue : List ℕ) → IsChain w.shared.nodes w.shared.head.node queue →
+    Replays empty (rising (promises w)) × (replayed empty (rising (promises w)) ≡ record { values = queue_values w.shared queue })
+
+-- Head's count is the number of values taken, those of calls under way too
+abbrev pub CountsValuesTaken : World → Type 0
+CountsValuesTaken w = w.shared.head.count ≡ values_taken (promises w)

@@ -1,8 +1,10 @@
 //! Laws of the two-lock queue, over all worlds that any moves lead to: any setup and number of actors in range, and
 //! any list of begins, steps, givings up and rests. Each is the contract of a function that does nothing.
+ghost use Rattle.history.specs.History.{IsLegal};
 ghost use Rattle.step_machine.specs.TwoLock.{OfTwoLockWorlds, HasItsPlaces, KeepsQueueAndFreeApart};
 ghost use Rattle.step_machine.specs.TwoLock.{TailNamesTheLast, CountsNothing};
 ghost use Rattle.step_machine.specs.TwoLock.{RaisesBelowTheLimit, RefusesWithCause};
+ghost use Rattle.step_machine.specs.TwoLock.{ReplaysToItsValues, CountsValuesTaken};
 
 /// Each node is in exactly one place: never used, in the queue, free, held by one actor, or set aside.
 pub fn each_node_is_in_one_place()
@@ -29,4 +31,20 @@ pub fn counts_are_raised_below_the_limit()
 /// where the word's count is at the limit.
 pub fn refusals_have_their_cause()
     ensures { OfTwoLockWorlds RefusesWithCause }
+{}
+
+/// Every history is legal: by rising place, from the empty queue, each operation gets the reply that it was told.
+pub fn histories_are_legal()
+    ensures { OfTwoLockWorlds (λ w. IsLegal w.operations) }
+{}
+
+/// At every step the operations that took effect so far, with the replies that they were told or that their calls
+/// have earned, replay from the empty queue to the values in the chain from Head.
+pub fn operations_replay_to_the_values()
+    ensures { OfTwoLockWorlds ReplaysToItsValues }
+{}
+
+/// Head's count is the number of values taken.
+pub fn head_counts_the_values_taken()
+    ensures { OfTwoLockWorlds CountsValuesTaken }
 {}

@@ -1,0 +1,90 @@
+-- The histories of the two-lock queue are legal: the laws on the replay of operations and on Head's count.
+use Rattle.std.proofs.Common.{◌≡◌, ◌≢◌, ℕ, ◌+◌, ◌≤◌, List, [], ◌∷◌, Option, Some, None, refl, sym, ap, ◌∙◌, subst, arith}
+use Rattle.std.specs.Prelude.{slice_get}
+use Rattle.std.proofs.lemmas.Option.{none-some}
+use Rattle.line_table.specs.declared.lines.Kind.TheVariants.{TwoLock}
+use Rattle.line_table.specs.declared.lines.Line.{Line}
+use Rattle.history.specs.declared.operations.Op.{Op}
+use Rattle.history.specs.Queue.{empty}
+use Rattle.history.specs.History.{rising, replayed, IsLegal}
+use Rattle.step_machine.specs.declared.actors.Setup.{Setup}
+use Rattle.step_machine.specs.declared.actors.Actor.{Actor}
+use Rattle.step_machine.specs.declared.actors.Outcome.{Outcome}
+use Rattle.step_machine.specs.Memory.{Shared}
+use Rattle.step_machine.specs.Machine.{World, actor_of, opening, begun, rested, settled, with_actor, IsSized, IsReached}
+use Rattle.step_machine.specs.Places.{IsChain}
+use Rattle.step_machine.specs.Chains.{queue_values}
+use Rattle.step_machine.specs.Stamps.{makers}
+use Rattle.step_machine.specs.TwoLock.{OfTwoLockWorlds, ReplaysToItsValues, CountsValuesTaken}
+use Rattle.step_machine.proofs.StampsKept.{Knows, Kept, Does}
+use Rattle.step_machine.proofs.Chains.{chain_same}
+use Rattle.step_machine.proofs.Counting.{holds, elsewhere, elsewhere_one}
+use Rattle.step_machine.proofs.Fixed.{FixedAt, EarnedAt}
+use Rattle.step_machine.proofs.Booking.{Books, books, book}
+use Rattle.step_machine.proofs.Legal.{Accounted, WasEmpty, AfterStep, queue_of, after_step, empty_now}
+use Rattle.step_machine.proofs.LegalMoves.{calls_settled, kept_reached, accounted_with, book_begun, book_rested, begun_entry}
+use Rattle.step_machine.proofs.Promises.{legal_book, replays_promises, replayed_promises, taken_promises}
+use Rattle.step_machine.proofs.TwoLockLines.{After}
+use Rattle.step_machine.proofs.TwoLockSound.{Sound, Carried, Carries, Proved, reached_proved}
+
+-- a step carries the accounts along
+told_accounted : (w : World) (me : ℕ) (a : Actor) (l : Line) (m' : Shared) (o : Outcome) (h : ℕ) (rest free : List ℕ) → IsReached w → actor_of w me ≡ Some a → a.line ≡ Some l → Sound (WasEmpty w) w (h ∷ rest) free → (t : After (WasEmpty w) w.setup w.shared h rest free me (w.steps + 1) a m' o) → Does (w.steps + 1) l a.due a.noted o → o.actor.op ≡ a.op → Accounted w (h ∷ rest) → Carried Accounted WasEmpty w (settled w me a m' o) rest t.queue'
+told_accounted w me a l m' o h rest free r is at so t does same ac =
+    record {
+      fact =
+          record {
+            replays = st.replays;
+            list = st.list;
+            counted = st.counted;
+            calls = calls_settled (makers r.moves) w me a l m' o kept is at same ac.calls;
+          };
+      keeps = λ k z. (let low : k ≤ w.steps = z.0 in omega arith, st.still k (let low : k ≤ w.steps = z.0 in omega arith) z.1);
+      finds = λ e. (omega arith, st.still (w.steps + 1) (omega arith) (empty_now w me a m' o h rest free so.shape t.turn.writes mine b ac e));
+    }
+  where
+    kept : Kept (Unit {0}) (makers r.moves) w
+    kept = kept_reached w r
+
+    mine : (n : ℕ) → holds n a ≤ elsewhere w n
+    mine n = elsewhere_one w me a n is
+
+    fixed : FixedAt w.setup.limit me a (Some l)
+    fixed = subst (FixedAt w.setup.limit me a) at (so.actors me a is).fixed
+
+    b : Books w (settled w me a m' o) me a o
+    b =
+        books (makers r.moves) w me a m' l o kept is does fixed.earned
+        (subst (λ x. Knows (Unit {0}) (makers r.moves) w.operations me x a.entry a.due a.noted) at (kept.actors me a is))
+        (λ e s entry got. ac.calls me e a l s is at entry got)
+
+    st : AfterStep w (settled w me a m' o) t.queue'
+    st = after_step w me a m' o h rest free so.shape t.turn.writes mine b ac t.queue' t.account
+
+-- the moves carry the accounts along
+carried : Carries Accounted WasEmpty
+carried =
+    record {
+      told = λ w me a l m' o h rest free r e is at so t does same ac. told_accounted w me a l m' o h rest free r is at so t does same ac;
+      began = λ w me op a queue r is at ac.
+          accounted_with w me a (begun w.setup.kind me op a) queue is (book_begun (makers r.moves) w me a (begun w.setup.kind me op a) (kept_reached w r) is at)
+          (λ l e line entry. none-some e (sym (begun_entry w.setup.kind me op a) ∙ entry)) ac;
+      at_rest = λ w me a l queue r is at may ac.
+          accounted_with w me a (rested a) queue is (book_rested w me a (rested a) is refl) (λ k e line entry. none-some k line) ac;
+      starts = λ s actors sized. record { replays = tt; list = refl; counted = refl; calls = λ me e a l s is line entry got. absurd (none-some s got) };
+    }
+
+-- each world that is reached has its chains and its accounts
+pub reached_accounted : (w : World) → IsReached w → w.setup.kind ≡ TwoLock → Proved Accounted WasEmpty w
+reached_accounted = reached_proved Accounted WasEmpty carried
+
+pub histories_are_legal : OfTwoLockWorlds (λ w. IsLegal w.operations)
+histories_are_legal w r e = legal_book w (reached_accounted w r e).fact.replays
+
+pub replay_to_the_values : OfTwoLockWorlds ReplaysToItsValues
+replay_to_the_values w r e queue chain =
+    let p : Proved Accounted WasEmpty w = reached_accounted w r e in
+    (replays_promises w p.fact.replays,
+    replayed_promises w ∙ p.fact.list ∙ ap (λ q. queue_of (queue_values w.shared q)) (chain_same w.shared.nodes p.queue queue w.shared.head.node p.sound.shape.queue_chain chain))
+
+pub head_counts_values_taken : OfTwoLockWorlds CountsValuesTaken
+head_counts_values_taken w r e = (reached_accounted w r e).fact.counted ∙ taken_promises w

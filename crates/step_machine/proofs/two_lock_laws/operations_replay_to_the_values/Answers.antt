@@ -1,0 +1,5 @@
+use Rattle.step_machine.proofs.TwoLockLegal.{replay_to_the_values}
+use Rattle.step_machine.proofs.two_lock_laws.operations_replay_to_the_values.Goals as goal
+
+pub returns : goal.returns
+returns c = replay_to_the_values
