@@ -38,3 +38,7 @@ pub mod TwoLockSound
 pub mod TwoLockLaws
 pub mod TwoLockCounts
 pub mod TwoLockLegal
+pub mod NonBlockingKnows
+pub mod NonBlockingLag
+pub mod NonBlockingEffects
+pub mod NonBlockingSteps

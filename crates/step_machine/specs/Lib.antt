@@ -13,3 +13,4 @@ pub mod Range
 pub mod Stamps
 pub mod Tables
 pub mod Standing
+pub mod Lag
