@@ -42,33 +42,41 @@ abbrev pub Looked : Shared → Actor → Type 0
 Looked m a =
     (m.head ≡ a.head → (1 ≤ a.next.node → next_of m a.head.node ≡ a.next) × (a.tail.node ≢ a.head.node → (m.tail.node ≢ a.head.node) × (1 ≤ a.next.node)))
 
--- what an actor knows before its line
-abbrev pub KnowsAt : (limit : ℕ) → Shared → Actor → Option Line → Type 0
-KnowsAt limit m a (Some N3) = WasIn m.free a.top
-KnowsAt limit m a (Some N4) = WasIn m.free a.top × (m.free ≡ a.top → next_of m a.top.node ≡ a.next)
-KnowsAt limit m a (Some F3) = next_of m a.node ≡ ref a.top.node a.mark
-KnowsAt limit m a (Some E3) = (node_at m a.node).value ≡ a.val
-KnowsAt limit m a (Some E5) = Ready limit m a
-KnowsAt limit m a (Some E6) = Ready limit m a × WasIn m.tail a.tail
-KnowsAt limit m a (Some E7) = Ready limit m a × WasIn m.tail a.tail × (m.tail ≡ a.tail → WasNext m a)
-KnowsAt limit m a (Some E9) =
+-- what an actor knows before its line; `Z` is what is known of a number at which the queue was found empty
+abbrev pub KnowsAt : (Z : ℕ → Type 0) (limit : ℕ) → Shared → Actor → Option Line → Type 0
+KnowsAt Z limit m a (Some N3) = WasIn m.free a.top
+KnowsAt Z limit m a (Some N4) = WasIn m.free a.top × (m.free ≡ a.top → next_of m a.top.node ≡ a.next)
+KnowsAt Z limit m a (Some F3) = next_of m a.node ≡ ref a.top.node a.mark
+KnowsAt Z limit m a (Some E3) = (node_at m a.node).value ≡ a.val
+KnowsAt Z limit m a (Some E5) = Ready limit m a
+KnowsAt Z limit m a (Some E6) = Ready limit m a × WasIn m.tail a.tail
+KnowsAt Z limit m a (Some E7) = Ready limit m a × WasIn m.tail a.tail × (m.tail ≡ a.tail → WasNext m a)
+KnowsAt Z limit m a (Some E9) =
     Ready limit m a × (a.next.node ≡ 0) × ((a.next.count < (next_of m a.tail.node).count) ⊎ ((m.tail ≡ a.tail) × (next_of m a.tail.node ≡ a.next)))
-KnowsAt limit m a (Some E13) = Ready limit m a × MayGoOn m a a.next.node
-KnowsAt limit m a (Some E17) = MayGoOn m a a.node
-KnowsAt limit m a (Some D3) = WasIn m.head a.head
-KnowsAt limit m a (Some D4) =
+KnowsAt Z limit m a (Some E13) = Ready limit m a × MayGoOn m a a.next.node
+KnowsAt Z limit m a (Some E17) = MayGoOn m a a.node
+KnowsAt Z limit m a (Some D3) = WasIn m.head a.head
+KnowsAt Z limit m a (Some D4) =
     WasIn m.head a.head × WasIn m.tail a.tail × (m.head ≡ a.head → a.tail.node ≢ a.head.node → m.tail.node ≢ a.head.node)
-KnowsAt limit m a (Some D5) = WasIn m.head a.head × WasIn m.tail a.tail × Looked m a
-KnowsAt limit m a (Some D10) = MayGoOn m a a.next.node
-KnowsAt limit m a (Some D12) = MayTake m a
-KnowsAt limit m a (Some D13) = MayTake m a × (m.head ≡ a.head → (node_at m a.next.node).value ≡ a.val)
-KnowsAt limit m a _ = Unit {0}
+KnowsAt Z limit m a (Some D5) =
+    WasIn m.head a.head × WasIn m.tail a.tail × Looked m a × (m.head ≡ a.head → a.next.node ≡ 0 → Z a.noted)
+KnowsAt Z limit m a (Some D10) = MayGoOn m a a.next.node
+KnowsAt Z limit m a (Some D12) = MayTake m a
+KnowsAt Z limit m a (Some D13) = MayTake m a × (m.head ≡ a.head → (node_at m a.next.node).value ≡ a.val)
+KnowsAt Z limit m a _ = Unit {0}
 
 -- where its operation stands says nothing of what an actor knows
-pub knows_entry : (limit : ℕ) (m : Shared) (a : Actor) (entry : Option ℕ) (l : Option Line) → KnowsAt limit m a l → KnowsAt limit m (record a { entry = entry }) l
-knows_entry limit m a entry None h = h
-knows_entry limit m a entry (Some N1) h = h
-knows_entry limit m a entry (Some _) h = h
+pub knows_entry : (Z : ℕ → Type 0) (limit : ℕ) (m : Shared) (a : Actor) (entry : Option ℕ) (l : Option Line) → KnowsAt Z limit m a l → KnowsAt Z limit m (record a { entry = entry }) l
+knows_entry Z limit m a entry None h = h
+knows_entry Z limit m a entry (Some N1) h = h
+knows_entry Z limit m a entry (Some _) h = h
+
+-- so it does where more is known of the number noted
+pub knows_more : (Z Z' : ℕ → Type 0) (limit : ℕ) (m : Shared) (a : Actor) (l : Option Line) → ((k : ℕ) → Z k → Z' k) → KnowsAt Z limit m a l → KnowsAt Z' limit m a l
+knows_more Z Z' limit m a None more h = tt
+knows_more Z Z' limit m a (Some D5) more h = (h.0, h.1, h.2, λ e n. more a.noted (h.3 e n))
+knows_more Z Z' limit m a (Some N1) more h = h
+knows_more Z Z' limit m a (Some _) more h = h
 
 -- a mark is the count of its node's `next`
 abbrev pub IsMark : Shared → (node mark : ℕ) → Type 0
@@ -100,7 +108,7 @@ pub record Keeps (m m' : Shared) (c : Actor) : Type 0 where
   pub dummy : 1 ≤ (next_of m m.head.node).node → node_at m' m.head.node ≡ node_at m m.head.node
   pub front : 1 ≤ (next_of m m.head.node).node → (node_at m' (next_of m m.head.node).node).value ≡ (node_at m (next_of m m.head.node).node).value
 
-module _ (limit : ℕ) (m m' : Shared) (c : Actor) (k : Keeps m m' c) where
+module _ (Z : ℕ → Type 0) (limit : ℕ) (m m' : Shared) (c : Actor) (k : Keeps m m' c) where
   same_next : (n : ℕ) → node_at m' n ≡ node_at m n → next_of m' n ≡ next_of m n
   same_next n e = ap (λ (x : Node). x.next) e
 
@@ -179,7 +187,7 @@ module _ (limit : ℕ) (m m' : Shared) (c : Actor) (k : Keeps m m' c) where
           inr (gone.0, omega arith)
 
   -- an actor still knows what it knew
-  pub knows_kept : (me : ℕ) (l : Line) → FixedAt limit me c (Some l) → HoldsNodes l c → KnowsAt limit m c (Some l) → KnowsAt limit m' c (Some l)
+  pub knows_kept : (me : ℕ) (l : Line) → FixedAt limit me c (Some l) → HoldsNodes l c → KnowsAt Z limit m c (Some l) → KnowsAt Z limit m' c (Some l)
   knows_kept me N3 f p h = was_on m.free m'.free c.top k.moves.free h
   knows_kept me N4 f p h =
       (was_on m.free m'.free c.top k.moves.free h.0, λ e. go e (still_there m.free m'.free c.top k.moves.free h.0 e))
@@ -214,6 +222,7 @@ module _ (limit : ℕ) (m m' : Shared) (c : Actor) (k : Keeps m m' c) where
       λ some. next_stays c.next some was ((h.2 was).0 some),
       λ d. (off_stays same was ((h.2 was).1 d).0, ((h.2 was).1 d).1),
     ),
+    λ e none. h.3 (sym (head_is h.0 e) ∙ e) none,
   )
   knows_kept me D10 f p h = may_go_on c.next.node p.1 h
   knows_kept me D12 f p h = may_take p.1 h
