@@ -42,3 +42,4 @@ pub mod NonBlockingKnows
 pub mod NonBlockingLag
 pub mod NonBlockingEffects
 pub mod NonBlockingSteps
+pub mod NonBlockingSound

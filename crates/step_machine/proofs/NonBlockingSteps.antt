@@ -5,12 +5,13 @@ use Rattle.counted_ref.specs.Ref.{Ref, ref, is_null, same_ref}
 use Rattle.line_table.specs.declared.lines.Kind.{Kind}
 use Rattle.line_table.specs.declared.lines.Kind.TheVariants.{TwoLock, NonBlocking}
 use Rattle.line_table.specs.declared.lines.Line.{Line}
-use Rattle.line_table.specs.declared.lines.Line.TheVariants.{N1, N2, N3, N4, N5, F1, F2, F3, E2, E3, E5, E6, E7, E9, E13, E17, D2, D3, D4, D5, D10, D12, D13}
+use Rattle.line_table.specs.declared.lines.Line.TheVariants.{N1, N2, N3, N4, N5, F1, F2, F3, E2, E3, E5, E6, E7, E9, E13, E17, D2, D3, D4, D5, D10, D12, D13, A3, B1}
+use Rattle.line_table.specs.declared.lines.Section.TheVariants.{LockedEnqueue, LockedDequeue}
 use Rattle.line_table.specs.Sections.{section_of}
 use Rattle.history.specs.declared.operations.Reply.{Reply}
 use Rattle.history.specs.declared.operations.Reply.TheVariants.{Done, Value, Empty, Refused}
 use Rattle.history.specs.declared.refusals.Refusal.{Refusal}
-use Rattle.history.specs.declared.refusals.Refusal.TheVariants.{NoNode, WornOut}
+use Rattle.history.specs.declared.refusals.Refusal.TheVariants.{NoNode, WornOut, Busy}
 use Rattle.history.specs.declared.refusals.WornWord.TheVariants.{Free as OfFree, Next as OfNext, Tail as OfTail, Head as OfHead}
 use Rattle.history.specs.History.{leaves}
 use Rattle.step_machine.specs.Promises.{earned, promised_reply}
@@ -22,7 +23,7 @@ use Rattle.step_machine.specs.declared.actors.Outcome.{Outcome}
 use Rattle.step_machine.specs.Memory.{Shared, node_at, put, performed, found, Fresh, Free, Head, Tail, Next, Value_of}
 use Rattle.step_machine.specs.Places.{one_if}
 use Rattle.step_machine.specs.Chains.{last_node}
-use Rattle.step_machine.specs.Lines.{action, outcome, raised, goes, ends, effect, freed, sets_aside, takes, lets_go, to_pocket, with_node}
+use Rattle.step_machine.specs.Lines.{action, outcome, raised, goes, ends, effect, freed, sets_aside, takes, lets_go, to_pocket, with_node, busy_or, gives_up}
 use Rattle.step_machine.specs.Standing.{IsRunBy, HoldsNodes}
 use Rattle.step_machine.proofs.Chains.{node_in, chain_none}
 use Rattle.step_machine.proofs.Counting.{holds, asides, holds_hand, holds_none, holds_own}
@@ -327,3 +328,27 @@ module _ (Z : ℕ → Type 0) (s : Setup) (m : Shared) (E : ℕ → ℕ) (front 
       pops _ f.hand f.pocket was h.1 f.room (k.0.1 was).0 (k.0.1 was).1 refl f.pocket refl h.0 refl refl tt refl (ap (λ v. Some (Value v)) (sym (k.1 was))))
       (λ b. on _ (ap earned f.earned) refl (λ n. refl) refl marked tt)
   does l e r h f k = absurd (subst (IsRunBy (section_of l)) e r)
+
+  -- what an actor holds whose node goes to its pocket
+  to_pocket_holds : a.holds ≡ true → a.pocket ≡ None → (n : ℕ) → holds n (to_pocket a) ≡ holds n a
+  to_pocket_holds h p n = omega (arith, holds_hand n a h p)
+
+  to_pocket_marks : a.holds ≡ true → Marked m (to_pocket a)
+  to_pocket_marks h = record { hand = λ q. absurd (true≢false (sym q)); pocket = marked.hand h }
+
+  gives_free : (due : Option Reply) → a.due ≡ due → EarnedFreeing due → a.holds ≡ true → a.pocket ≡ None → IfSome (busy_or now due (to_pocket a)) (Goes m)
+  gives_free None d f h p = refuses _ Busy (ap earned d) refl refl refl (to_pocket_holds h p) refl (to_pocket_marks h) refl
+  gives_free (Some (Value v)) d f h p = still _ (to_pocket_holds h p) refl (to_pocket_marks h) tt (quiet refl refl refl (inr (λ n. sym (ap earned d))))
+  gives_free (Some Done) d f h p = absurd f
+  gives_free (Some Empty) d f h p = absurd f
+  gives_free (Some (Refused why)) d f h p = absurd f
+
+  -- an actor that gives up before a line of this queue changes no word
+  pub gives : (l : Line) → s.kind ≡ NonBlocking → IsRunBy (section_of l) s.kind → FixedAt s.limit me a (Some l) → IfSome (gives_up now a l) (Goes m)
+  gives N1 e r f = refuses _ Busy (ap earned f.earned) refl refl refl (λ n. refl) refl marked refl
+  gives F1 e r f = gives_free a.due refl f.earned f.hand f.pocket
+  gives E5 e r f = refuses _ Busy (ap earned f.earned) refl refl refl (to_pocket_holds f.hand f.pocket) refl (to_pocket_marks f.hand) refl
+  gives D2 e r f = refuses _ Busy (ap earned f.earned) refl refl refl (λ n. refl) refl marked refl
+  gives A3 e r f = absurd (subst (IsRunBy LockedEnqueue) e r)
+  gives B1 e r f = absurd (subst (IsRunBy LockedDequeue) e r)
+  gives _ e r f = tt

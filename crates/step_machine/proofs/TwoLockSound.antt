@@ -219,14 +219,14 @@ from_pocket_holds : (n : ℕ) (l : Line) (pocket : Option Held) (a : Actor) → 
 from_pocket_holds n l None a p e = refl
 from_pocket_holds n l (Some held) a p e = omega (arith, ap (λ (x : Bool). if x then one_if (nat_eq n a.node) else 0) e, ap (in_pocket n) p)
 
-begun_holds : (n me : ℕ) (kind : Kind) (op : Op) (a : Actor) → a.holds ≡ false → holds n (begun kind me op a) ≡ holds n a
+pub begun_holds : (n me : ℕ) (kind : Kind) (op : Op) (a : Actor) → a.holds ≡ false → holds n (begun kind me op a) ≡ holds n a
 begun_holds n me TwoLock (Enq body) a e = from_pocket_holds n A1 a.pocket _ refl e
 begun_holds n me NonBlocking (Enq body) a e = from_pocket_holds n E2 a.pocket _ refl e
 begun_holds n me TwoLock Deq a e = from_pocket_holds n F1 a.pocket _ refl e
 begun_holds n me NonBlocking Deq a e = from_pocket_holds n F1 a.pocket _ refl e
 
 -- an actor that rests keeps its node, in its pocket, and has no lock
-rested_holds : (limit me n : ℕ) (a : Actor) (l : Line) → may_rest l ≡ true → FixedAt limit me a (Some l) → holds n (rested a) ≡ holds n a
+pub rested_holds : (limit me n : ℕ) (a : Actor) (l : Line) → may_rest l ≡ true → FixedAt limit me a (Some l) → holds n (rested a) ≡ holds n a
 rested_holds limit me n a E2 may f = omega (arith, holds_hand n a f.hand f.pocket)
 rested_holds limit me n a A1 may f = omega (arith, holds_hand n a f.hand f.pocket)
 rested_holds limit me n a _ may f = cc
@@ -237,20 +237,20 @@ rested_owns m me A1 may h = h
 rested_owns m me _ may h = cc
 
 -- at the start
-opening_elsewhere : (n k : ℕ) → held n (replicate k idle) ≡ 0
+pub opening_elsewhere : (n k : ℕ) → held n (replicate k idle) ≡ 0
 opening_elsewhere n zero = refl
 opening_elsewhere n (suc k) = omega (arith, opening_elsewhere n k)
 
-no_flags : (n k : ℕ) → get_or (replicate k false) n false ≡ false
+pub no_flags : (n k : ℕ) → get_or (replicate k false) n false ≡ false
 no_flags n zero = refl
 no_flags zero (suc k) = refl
 no_flags (suc n) (suc k) = no_flags n k
 
-blank_leads : (k : ℕ) → next_in (replicate k blank) 1 ≡ 0
+pub blank_leads : (k : ℕ) → next_in (replicate k blank) 1 ≡ 0
 blank_leads zero = refl
 blank_leads (suc k) = refl
 
-first_used : (n : ℕ) → 1 ≤ n → one_if (nat_eq n 1) ≡ used n 1
+pub first_used : (n : ℕ) → 1 ≤ n → one_if (nat_eq n 1) ≡ used n 1
 first_used n some = go (one_if_tells n 1)
   where
     go : ((n ≡ 1) × (one_if (nat_eq n 1) ≡ 1)) ⊎ ((n ≢ 1) × (one_if (nat_eq n 1) ≡ 0)) → one_if (nat_eq n 1) ≡ used n 1
