@@ -43,3 +43,4 @@ pub mod NonBlockingLag
 pub mod NonBlockingEffects
 pub mod NonBlockingSteps
 pub mod NonBlockingSound
+pub mod NonBlockingLaws

@@ -52,7 +52,7 @@ pub have_their_places : OfTwoLockWorlds HasItsPlaces
 have_their_places w r e = let p : Plain w = reached_sound w r e in (p.queue, p.free, places w p)
 
 -- what a list contains stands in it
-contained : (n : ℕ) (ns : List ℕ) (k : ℕ) → k < length ns → get_or ns k n ≡ n → 1 ≤ times n ns
+pub contained : (n : ℕ) (ns : List ℕ) (k : ℕ) → k < length ns → get_or ns k n ≡ n → 1 ≤ times n ns
 contained n [] k low e = absurd (omega arith)
 contained n (x ∷ xs) zero low e = omega (arith, one_if_same n x (sym e))
 contained n (x ∷ xs) (suc k) low e = omega (arith, contained n xs k (omega arith) e)

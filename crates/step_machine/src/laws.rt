@@ -1,6 +1,5 @@
 //! Laws of the machine, each the contract of a function that does nothing.
 ghost use Rattle.std.specs.Prelude.{◌≡◌, ◌<◌, ◌≤◌, Some};
-ghost use Rattle.line_table.specs.declared.lines.Kind.TheVariants.{TwoLock};
 ghost use Rattle.step_machine.specs.Memory.{Shared, Word, Content, Action, found, word};
 ghost use Rattle.step_machine.specs.Machine.{World, IsReached};
 ghost use Rattle.step_machine.specs.Words.{words_of, index, IsWord};
@@ -49,7 +48,7 @@ pub fn actors_stand_before_lines_of_their_queue()
     ensures { (w : World) → IsReached w → EachRunsItsQueue w }
 {}
 
-/// In a world of the two-lock queue that any moves lead to, the next access of each actor names a word of the table.
-pub fn accesses_name_words_two_lock()
-    ensures { (w : World) → IsReached w → w.setup.kind ≡ TwoLock → EachNamesAWord w }
+/// In a world that any moves lead to, the next access of each actor names a word of the table.
+pub fn accesses_name_words()
+    ensures { (w : World) → IsReached w → EachNamesAWord w }
 {}
