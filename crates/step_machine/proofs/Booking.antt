@@ -2,13 +2,13 @@
 --
 -- `book w` lists them without their first and last numbers. `books` says what a step does with it, and `unchanged` and
 -- `entered_at` what that does with the operations by rising place: nothing, or one more is inserted.
-use Rattle.std.proofs.Common.{◌≡◌, ◌≢◌, ℕ, zero, suc, ◌+◌, ◌-◌, ◌≤◌, ◌<◌, ◌⊎◌, inl, inr, Bool, true, false, nat_eq, nat_lt, if◌then◌else◌, Option, Some, None, is_some, IfSome, List, [], ◌∷◌, ◌++◌, map, set, length, get_or, refl, sym, ap, ◌∙◌, subst, arith}
+use Rattle.std.proofs.Common.{◌≡◌, ◌≢◌, ℕ, zero, suc, ◌+◌, ◌-◌, ◌≤◌, ◌<◌, ◌⊎◌, inl, inr, Bool, true, false, nat_eq, nat_lt, if◌then◌else◌, Option, Some, None, IfSome, List, [], ◌∷◌, ◌++◌, map, set, length, refl, sym, ap, ◌∙◌, subst, arith}
 use Rattle.std.specs.Prelude.{slice_get, IsSome}
 use Rattle.std.proofs.lemmas.Bool.{eqb-false, ltb-true, ltb-false}
 use Rattle.std.proofs.lemmas.List.{map-append}
 use Rattle.std.proofs.lemmas.Option.{none-some, same_Some, slice_get_within, get_or_from_slice_get}
 use Rattle.line_table.specs.declared.lines.Line.{Line}
-use Rattle.line_table.specs.declared.lines.Line.TheVariants.{N1, F1, F2, F3, E17, A6, A7, B6, D5}
+use Rattle.line_table.specs.declared.lines.Line.TheVariants.{F1, F2, F3, E17, A6, A7, B6, D5}
 use Rattle.history.specs.declared.operations.Op.{Op}
 use Rattle.history.specs.declared.operations.Reply.{Reply}
 use Rattle.history.specs.declared.operations.Reply.TheVariants.{Done, Value, Empty, Refused}
@@ -19,11 +19,11 @@ use Rattle.step_machine.specs.declared.actors.Outcome.{Outcome}
 use Rattle.step_machine.specs.Memory.{Shared}
 use Rattle.step_machine.specs.Machine.{World, actor_of, new_operation, told, recorded, entry_or, first_settled, settled, with_actor}
 use Rattle.step_machine.specs.Places.{one_if}
-use Rattle.step_machine.specs.Promises.{earned, due_of, promised_reply, promised, is_value}
-use Rattle.step_machine.specs.Stamps.{IsBy, IsStamped, HasNoEffect}
-use Rattle.step_machine.proofs.StampsLists.{same_or_not, slice_get-set_same, slice_get-set_other, PutAt, put_set, put_end, by_within}
+use Rattle.step_machine.specs.Promises.{earned, due_of, promised_reply, is_value}
+use Rattle.step_machine.specs.Stamps.{IsBy, IsStamped}
+use Rattle.step_machine.proofs.StampsLists.{same_or_not, slice_get-set_same, slice_get-set_other, put_set, put_end, by_within}
 use Rattle.step_machine.proofs.StampsLines.{Earned, Stands, stands_while, GoesOn, Turns}
-use Rattle.step_machine.proofs.StampsKept.{Over, Precedes, Operations, Idle, Busy, Knows, Kept, Does, actor_stands, settled_kept}
+use Rattle.step_machine.proofs.StampsKept.{Over, Operations, Idle, Busy, Knows, Kept, Does, actor_stands, settled_kept}
 use Rattle.step_machine.proofs.StampsLaws.{apart}
 use Rattle.step_machine.proofs.Fixed.{EarnedAt, EarnedFreeing, EarnedUnlocking}
 use Rattle.step_machine.proofs.Accounts.{KeepsReply}
@@ -57,7 +57,7 @@ taken-set (z ∷ zs) zero x y got =
 taken-set (z ∷ zs) (suc i) x y got = omega (arith, taken-set zs i x y got)
 
 -- maps that agree on a list, and ones that agree but at a place that is set
-map_agree : {X Y : Type 0} (f g : X → Y) (xs : List X) → ((i : ℕ) (x : X) → slice_get xs i ≡ Some x → f x ≡ g x) → map f xs ≡ map g xs
+pub map_agree : {X Y : Type 0} (f g : X → Y) (xs : List X) → ((i : ℕ) (x : X) → slice_get xs i ≡ Some x → f x ≡ g x) → map f xs ≡ map g xs
 map_agree f g [] each = refl
 map_agree f g (x ∷ xs) each = cc (each 0 x refl, map_agree f g xs (λ i y got. each (suc i) y got))
 

@@ -1,7 +1,7 @@
 -- Chains of nodes: what keeps them, how they get longer, and what the last node is.
 -- `chain_kept` is for each write to a node that is not in the chain, `chain_linked` for the write to the `next` of the
 -- last one. `chain_same` says that a chain is determined by where it starts.
-use Rattle.std.proofs.Common.{◌≡◌, ◌≢◌, ℕ, ◌+◌, ◌-◌, ◌≤◌, ◌<◌, Bool, true, false, nat_eq, List, [], ◌∷◌, ◌++◌, length, map, get_or, set, refl, sym, ap, ◌∙◌, subst, arith, get_or-set_other, get_or-set_same, ◌⊎◌, inl, inr}
+use Rattle.std.proofs.Common.{◌≡◌, ◌≢◌, ℕ, ◌+◌, ◌-◌, ◌≤◌, nat_eq, List, [], ◌∷◌, ◌++◌, length, get_or, refl, sym, ap, ◌∙◌, subst, arith, ◌⊎◌, inl, inr}
 use Rattle.std.proofs.lemmas.Bool.Decides.{eqb_tells}
 use Rattle.step_machine.specs.declared.actors.Node.{Node}
 use Rattle.step_machine.specs.Memory.{blank}

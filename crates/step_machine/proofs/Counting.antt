@@ -1,12 +1,11 @@
 -- How often actors hold a node, and how often it was set aside, after one actor's state or one flag changed.
 -- `elsewhere w n` counts a node outside the two chains. A step of an actor changes it by what that actor held and
 -- holds and by what is set aside: `elsewhere_settled`. Two actors hold different nodes: `held_both`.
-use Rattle.std.proofs.Common.{◌≡◌, ◌≢◌, ℕ, zero, suc, ◌+◌, ◌-◌, ◌≤◌, ◌<◌, Bool, true, false, nat_eq, nat_le, if◌then◌else◌, List, [], ◌∷◌, length, get_or, set, Option, Some, None, refl, sym, ap, ◌∙◌, subst, arith, get_or-set_other, get_or-set_same, ◌⊎◌, inl, inr}
+use Rattle.std.proofs.Common.{◌≡◌, ◌≢◌, ℕ, zero, suc, ◌+◌, ◌-◌, ◌≤◌, ◌<◌, Bool, true, false, nat_eq, nat_le, if◌then◌else◌, List, [], ◌∷◌, length, set, Option, Some, None, refl, ap, ◌∙◌, arith, get_or-set_other, get_or-set_same, ◌⊎◌, inl, inr}
 use Rattle.std.specs.Prelude.{slice_get}
 use Rattle.std.proofs.lemmas.Option.{none-some, same_Some}
 use Rattle.std.proofs.lemmas.Bool.{leb-true, leb-false, le-leb, lt-leb}
 use Rattle.step_machine.specs.declared.actors.Actor.{Actor}
-use Rattle.step_machine.specs.declared.actors.Held.{Held}
 use Rattle.step_machine.specs.declared.actors.Outcome.{Outcome}
 use Rattle.step_machine.specs.Memory.{Shared}
 use Rattle.step_machine.specs.Machine.{World, actor_of, aside_after, settled, entry_or, with_actor}

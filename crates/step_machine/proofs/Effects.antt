@@ -13,7 +13,7 @@
 --   `turn_pop`       the dummy comes into the hand, and the second node of the queue is the dummy
 -- `shape_turned` is the shape after a step, `hand_kept` says that others' nodes stay as they are, and `free_kept`,
 -- `queue_kept` and `value_kept` that those of the chains do.
-use Rattle.std.proofs.Common.{◌≡◌, ◌≢◌, ℕ, zero, suc, ◌+◌, ◌-◌, ◌≤◌, ◌<◌, Bool, true, false, nat_eq, if◌then◌else◌, List, [], ◌∷◌, ◌++◌, length, get_or, set, Option, Some, None, refl, sym, ap, ◌∙◌, subst, arith, get_or-set_other, get_or-set_same, ◌⊎◌, inl, inr}
+use Rattle.std.proofs.Common.{◌≡◌, ◌≢◌, ℕ, zero, suc, ◌+◌, ◌-◌, ◌≤◌, nat_eq, List, [], ◌∷◌, ◌++◌, length, set, Option, Some, None, refl, sym, ap, ◌∙◌, subst, arith, get_or-set_other, get_or-set_same, ◌⊎◌, inl, inr}
 use Rattle.std.proofs.Math.ListN.{length-set}
 use Rattle.counted_ref.specs.Ref.{Ref}
 use Rattle.step_machine.specs.declared.actors.Actor.{Actor}
@@ -21,7 +21,7 @@ use Rattle.step_machine.specs.declared.actors.Node.{Node}
 use Rattle.step_machine.specs.Memory.{blank, Shared, node_at, put, Fresh, Free, Head, Next}
 use Rattle.step_machine.specs.Places.{IsChain, one_if, times}
 use Rattle.step_machine.specs.Chains.{last_node, values_of}
-use Rattle.step_machine.proofs.Chains.{node_in, next_in, one_if_same, one_if_other, chain_kept, chain_linked, chain_some, last_times, last_within, last_leads, times-append}
+use Rattle.step_machine.proofs.Chains.{node_in, next_in, one_if_same, one_if_other, chain_kept, chain_linked, last_times, last_within, last_leads, times-append}
 use Rattle.step_machine.proofs.Counting.{holds, asides, used, used_more, used_most}
 use Rattle.step_machine.proofs.StampsLists.{same_or_not}
 

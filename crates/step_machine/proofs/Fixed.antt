@@ -10,7 +10,6 @@ use Rattle.line_table.specs.declared.lines.Line.TheVariants.{N1, N2, N3, N4, N5,
 use Rattle.line_table.specs.declared.lines.Section.{Section}
 use Rattle.line_table.specs.declared.lines.Section.TheVariants.{NewNode, Free, Enqueue, Dequeue, LockedEnqueue, LockedDequeue}
 use Rattle.line_table.specs.Sections.{section_of}
-use Rattle.history.specs.declared.refusals.Refusal.{Refusal}
 use Rattle.history.specs.declared.refusals.Refusal.TheVariants.{WornOut}
 use Rattle.history.specs.declared.refusals.WornWord.TheVariants.{Head as OfHead}
 use Rattle.history.specs.declared.operations.Op.{Op}
@@ -24,7 +23,7 @@ use Rattle.step_machine.specs.declared.actors.Actor.{Actor}
 use Rattle.step_machine.specs.declared.actors.Outcome.{Outcome}
 use Rattle.step_machine.specs.Memory.{Found}
 use Rattle.step_machine.specs.Lines.{action, outcome, goes, ends, effect, sets_aside, takes, lets_go, to_pocket, with_node, freed, unlocked, busy_or, gives_up}
-use Rattle.step_machine.specs.Machine.{from_pocket, begun, rested, may_rest}
+use Rattle.step_machine.specs.Machine.{from_pocket, begun, rested}
 
 -- whether a call that lets the head lock go has a node to free
 abbrev pub frees_after : Option Reply → Bool

@@ -1,35 +1,30 @@
 -- That the operations of a world, by rising place and with the replies that their calls have earned, are what the queue
 -- gives, and that the queue then has the values of the chain: kept by each step that has an `Account`, in both queues.
-use Rattle.std.proofs.Common.{◌≡◌, ◌≢◌, ℕ, zero, suc, ◌+◌, ◌-◌, ◌≤◌, ◌<◌, ◌⊎◌, inl, inr, Bool, true, false, nat_eq, nat_lt, if◌then◌else◌, Option, Some, None, is_some, IfSome, List, [], ◌∷◌, ◌++◌, map, drop, set, length, get_or, refl, sym, ap, ◌∙◌, subst, arith}
+use Rattle.std.proofs.Common.{◌≡◌, ℕ, zero, suc, ◌+◌, ◌≤◌, ◌<◌, true, nat_eq, Option, Some, None, is_some, List, [], ◌∷◌, ◌++◌, drop, refl, sym, ap, ◌∙◌, subst, arith}
 use Rattle.std.specs.Prelude.{slice_get}
 use Rattle.std.specs.List.{AllByRecursion}
 use Rattle.std.proofs.lemmas.List.{map-append}
-use Rattle.std.proofs.lemmas.Option.{none-some, same_Some, slice_get_within, get_or_from_slice_get}
 use Rattle.line_table.specs.declared.lines.Line.{Line}
-use Rattle.history.specs.declared.refusals.Refusal.{Refusal}
 use Rattle.history.specs.declared.operations.Op.{Op}
 use Rattle.history.specs.declared.operations.Op.TheVariants.{Enq, Deq}
 use Rattle.history.specs.declared.operations.Taken.{Taken}
-use Rattle.history.specs.declared.operations.Reply.{Reply}
 use Rattle.history.specs.declared.operations.Reply.TheVariants.{Done, Value, Empty, Refused}
 use Rattle.history.specs.declared.operations.Stamped.{Stamped}
 use Rattle.history.specs.Queue.{Queue, empty, given, front_of}
-use Rattle.history.specs.History.{number_of, inserted, rising, answer, Gets, Replays, replayed, leaves}
+use Rattle.history.specs.History.{number_of, rising, answer, Gets, Replays, replayed}
 use Rattle.step_machine.specs.declared.actors.Actor.{Actor}
 use Rattle.step_machine.specs.declared.actors.Outcome.{Outcome}
 use Rattle.step_machine.specs.Memory.{Shared, node_at}
-use Rattle.step_machine.specs.Machine.{World, actor_of, new_operation, told, recorded, entry_or, settled, with_actor}
+use Rattle.step_machine.specs.Machine.{World, actor_of, told, settled}
 use Rattle.step_machine.specs.Places.{one_if, times}
 use Rattle.step_machine.specs.Chains.{values_of, queue_values}
-use Rattle.step_machine.specs.Promises.{earned, promised_reply, is_value}
-use Rattle.step_machine.proofs.StampsLists.{same_or_not, slice_get-set_same, slice_get-set_other, slice_get-append_end, put_end}
-use Rattle.step_machine.proofs.StampsKept.{Knows, Kept, Does, actor_cases}
+use Rattle.step_machine.specs.Promises.{promised_reply, is_value}
 use Rattle.step_machine.proofs.Counting.{holds, elsewhere}
 use Rattle.step_machine.proofs.Effects.{Shape, Writes, values_kept, null_times}
-use Rattle.step_machine.proofs.Fixed.{EarnedAt, Pushes}
+use Rattle.step_machine.proofs.Fixed.{Pushes}
 use Rattle.step_machine.proofs.Accounts.{Account, quiet, refused, found_empty, pushed, popped}
 use Rattle.step_machine.proofs.Replay.{place, before, inserted_last, rising_all, replayed-append, replays_more, IsEmptyReply, empty_placed, empty_keeps, still_empty, still_empty_below, before_all}
-use Rattle.step_machine.proofs.Booking.{entered, entry_in, book, taken, Books, Unchanged, Entered, unchanged, entered_at}
+use Rattle.step_machine.proofs.Booking.{entered, book, taken, Books, Unchanged, Entered, unchanged, entered_at}
 
 -- a queue of these values
 abbrev pub queue_of : List Taken → Queue

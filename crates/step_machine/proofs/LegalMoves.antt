@@ -1,13 +1,12 @@
 -- That moves keep what the operations of a world are accounted for, for both queues: which call an operation is of, and
 -- what begins and rests leave.
-use Rattle.std.proofs.Common.{◌≡◌, ◌≢◌, ℕ, suc, ◌+◌, ◌-◌, ◌≤◌, ◌<◌, ◌⊎◌, inl, inr, Bool, true, false, nat_eq, nat_lt, if◌then◌else◌, Option, Some, None, IfSome, List, [], ◌∷◌, ◌++◌, map, set, length, get_or, refl, sym, ap, ◌∙◌, subst, arith}
+use Rattle.std.proofs.Common.{◌≡◌, ◌≢◌, ℕ, ◌+◌, ◌<◌, ◌⊎◌, inl, inr, Bool, true, false, nat_eq, nat_lt, if◌then◌else◌, Option, Some, None, IfSome, List, set, length, get_or, refl, sym, ap, ◌∙◌, subst, arith}
 use Rattle.std.specs.Prelude.{slice_get}
-use Rattle.std.proofs.lemmas.Option.{none-some, same_Some, slice_get_within, get_or_from_slice_get}
+use Rattle.std.proofs.lemmas.Option.{same_Some, slice_get_within, get_or_from_slice_get}
 use Rattle.counted_ref.specs.Ref.{is_null, same_ref}
 use Rattle.line_table.specs.declared.lines.Kind.{Kind}
-use Rattle.line_table.specs.declared.lines.Kind.TheVariants.{TwoLock, NonBlocking}
 use Rattle.line_table.specs.declared.lines.Line.{Line}
-use Rattle.line_table.specs.declared.lines.Line.TheVariants.{N1, N2, N4, N5, F1, F3, E2, E3, E5, E7, E9, E17, D2, D5, D12, D13, A1, A3, B1, B3, B4, B6}
+use Rattle.line_table.specs.declared.lines.Line.TheVariants.{N1, N2, N4, N5, F1, F3, E3, E5, E7, E9, E17, D2, D5, D12, D13, A3, B1, B3, B4, B6}
 use Rattle.history.specs.declared.operations.Op.{Op}
 use Rattle.history.specs.declared.operations.Op.TheVariants.{Enq, Deq}
 use Rattle.history.specs.declared.operations.Reply.{Reply}
@@ -20,17 +19,17 @@ use Rattle.step_machine.specs.declared.actors.Actor.{Actor}
 use Rattle.step_machine.specs.declared.actors.Held.{Held}
 use Rattle.step_machine.specs.declared.actors.Outcome.{Outcome}
 use Rattle.step_machine.specs.Memory.{Shared, Found}
-use Rattle.step_machine.specs.Lines.{action, outcome, goes, ends, effect, lets_go, to_pocket, with_node, takes, freed, unlocked, busy_or, gives_up}
-use Rattle.step_machine.specs.Machine.{World, actor_of, opening, new_operation, told, recorded, entry_or, from_pocket, begun, rested, settled, with_actor, run, IsReached}
+use Rattle.step_machine.specs.Lines.{action, outcome, goes, ends, effect, lets_go, to_pocket, with_node, freed, unlocked, busy_or, gives_up}
+use Rattle.step_machine.specs.Machine.{World, actor_of, opening, new_operation, told, recorded, entry_or, from_pocket, begun, settled, with_actor, run, IsReached}
 use Rattle.step_machine.specs.Promises.{due_of, promised_reply}
 use Rattle.step_machine.specs.Stamps.{makers}
 use Rattle.step_machine.proofs.StampsLists.{same_or_not, slice_get-set_same, slice_get-set_other, slice_get-append_end, put_end}
-use Rattle.step_machine.proofs.StampsKept.{Over, Idle, Busy, Knows, Kept, actor_stands, actor_cases}
+use Rattle.step_machine.proofs.StampsKept.{Idle, Busy, Knows, Kept, actor_stands, actor_cases}
 use Rattle.step_machine.proofs.StampsMoves.{moves_kept, may_rest_all}
 use Rattle.step_machine.proofs.Reached.{some_of}
-use Rattle.step_machine.proofs.Booking.{entered, entry_in, book, taken, entry_kept, actor_same, actor_other}
+use Rattle.step_machine.proofs.Booking.{entered, entry_in, book, taken, map_agree, entry_kept, actor_same, actor_other}
 use Rattle.step_machine.proofs.Replay.{before}
-use Rattle.step_machine.proofs.Legal.{Accounted, WasEmpty, AfterStep}
+use Rattle.step_machine.proofs.Legal.{Accounted, WasEmpty}
 
 -- an outcome leaves the call of its actor
 record SameOp (a : Actor) (o : Outcome) : Type 0 where
@@ -148,15 +147,10 @@ calls_settled K w me a l m' o h is line same calls you e c k s there at entry go
 pub kept_reached : (w : World) (r : IsReached w) → Kept (Unit {0}) (makers r.moves) w
 kept_reached w r = some_of (Kept (Unit {0}) (makers r.moves)) (run r.moves (opening w.setup r.actors)) w r.led (moves_kept (Unit {0}) w.setup r.actors r.moves (may_rest_all r.moves))
 
--- maps that agree on a list
-map_same : {X Y : Type 0} (f g : X → Y) (xs : List X) → ((i : ℕ) (x : X) → slice_get xs i ≡ Some x → f x ≡ g x) → map f xs ≡ map g xs
-map_same f g [] each = refl
-map_same f g (x ∷ xs) each = cc (each 0 x refl, map_same f g xs (λ i y got. each (suc i) y got))
-
 -- the book stays where an actor without a call has another state
 pub book_begun : (K : List ℕ) (w : World) (me : ℕ) (a b : Actor) → Kept (Unit {0}) K w → actor_of w me ≡ Some a → a.line ≡ None → book (with_actor w me b) ≡ book w
 book_begun K w me a b h is line =
-    map_same (entry_in (with_actor w me b)) (entry_in w) w.operations
+    map_agree (entry_in (with_actor w me b)) (entry_in w) w.operations
     (λ i p got. entry_kept K w me b p (actor_stands w me a is).0 (h.operations.each i p got) (λ own. idle i p got own))
   where
     idle : Idle (Unit {0}) w.operations me
@@ -164,7 +158,7 @@ book_begun K w me a b h is line =
 
 -- and where what an actor will answer stays
 pub book_rested : (w : World) (me : ℕ) (a b : Actor) → actor_of w me ≡ Some a → b.due ≡ a.due → book (with_actor w me b) ≡ book w
-book_rested w me a b is same = map_same (entry_in (with_actor w me b)) (entry_in w) w.operations (λ i p got. go p (same_or_not p.actor me))
+book_rested w me a b is same = map_agree (entry_in (with_actor w me b)) (entry_in w) w.operations (λ i p got. go p (same_or_not p.actor me))
   where
     go : (p : Stamped) → (p.actor ≡ me) ⊎ (p.actor ≢ me) → entry_in (with_actor w me b) p ≡ entry_in w p
     go p (inl own) =

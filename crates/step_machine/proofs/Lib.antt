@@ -43,3 +43,5 @@ pub mod Legal
 pub mod LegalMoves
 pub mod Promises
 pub mod TwoLockLegal
+pub mod NonBlockingLaws
+pub mod NonBlockingLegal

@@ -2,6 +2,7 @@
 use Rattle.std.proofs.Common.{◌≡◌, ◌≢◌, ℕ, ◌+◌, ◌-◌, ◌≤◌, ◌<◌, Bool, true, false, nat_eq, if◌then◌else◌, List, [], ◌∷◌, ◌++◌, length, Option, Some, None, IfSome, refl, sym, ap, ◌∙◌, subst, arith, ◌⊎◌, inl, inr}
 use Rattle.std.proofs.lemmas.Bool.{true≢false}
 use Rattle.counted_ref.specs.Ref.{Ref}
+use Rattle.history.specs.declared.operations.Op.TheVariants.{Deq}
 use Rattle.history.specs.declared.operations.Reply.TheVariants.{Value}
 use Rattle.step_machine.specs.declared.actors.Setup.{Setup}
 use Rattle.step_machine.specs.declared.actors.Actor.{Actor}
@@ -12,7 +13,7 @@ use Rattle.step_machine.specs.Memory.{Shared, node_at, put, Fresh, Free, Head, T
 use Rattle.step_machine.specs.Places.{one_if, times}
 use Rattle.step_machine.specs.Chains.{last_node}
 use Rattle.step_machine.specs.Lines.{raised}
-use Rattle.step_machine.specs.Promises.{promised_reply}
+use Rattle.step_machine.specs.Promises.{earned, promised_reply}
 use Rattle.step_machine.specs.Lag.{TailLags}
 use Rattle.step_machine.proofs.Chains.{node_in, next_in, last_linked, last_times, last_within, second_leads}
 use Rattle.step_machine.proofs.Counting.{holds, asides, used_above, used_most}
@@ -35,7 +36,7 @@ abbrev pub Found : List ℕ → (now : ℕ) → ℕ → Type 0
 Found rest now k = (rest ≡ []) × (k ≡ now)
 
 -- what a step of an actor at a number does
-pub record Does (Z : ℕ → Type 0) (now limit : ℕ) (m m' : Shared) (front : ℕ) (rest free : List ℕ) (a : Actor) (o : Outcome) : Type 0 where
+pub record Does (Z : ℕ → Type 0) (me now limit : ℕ) (m m' : Shared) (front : ℕ) (rest free : List ℕ) (a : Actor) (o : Outcome) : Type 0 where
   pub front' : ℕ
   pub rest' : List ℕ
   pub free' : List ℕ
@@ -45,7 +46,7 @@ pub record Does (Z : ℕ → Type 0) (now limit : ℕ) (m m' : Shared) (front : 
   pub last_room : (next_of m' (last_node (front' ∷ rest'))).count ≢ limit
   pub marked : Marked m' o.actor
   pub knows : KnowsAt (Found rest now) limit m' o.actor o.actor.line
-  pub account : Account Z now m m' (front ∷ rest) (front' ∷ rest') a o
+  pub account : Account Z me now m m' (front ∷ rest) (front' ∷ rest') a o
   pub own_aside : IfSome o.aside (λ k. (1 ≤ k) × (1 ≤ holds k a))
 
 -- what an exchange writes rises, where its count is not at the limit
@@ -141,9 +142,9 @@ module _ (s : Setup) (m : Shared) (E : ℕ → ℕ) (front : ℕ) (rest free : L
       let there : 1 ≤ times k (front ∷ rest) = subst (λ j. 1 ≤ times j (front ∷ rest)) e (last_times front rest) in
       omega arith
 
-  module _ (Z : ℕ → Type 0) (now : ℕ) (a : Actor) (o : Outcome) where
+  module _ (Z : ℕ → Type 0) (me now : ℕ) (a : Actor) (o : Outcome) where
     -- no word is written
-    pub does_nothing : ((n : ℕ) → holds n o.actor ≡ holds n a) → o.aside ≡ None → Marked m o.actor → KnowsAt (Found rest now) s.limit m o.actor o.actor.line → Account Z now m m (front ∷ rest) (front ∷ rest) a o → Does Z now s.limit m m front rest free a o
+    pub does_nothing : ((n : ℕ) → holds n o.actor ≡ holds n a) → o.aside ≡ None → Marked m o.actor → KnowsAt (Found rest now) s.limit m o.actor o.actor.line → Account Z me now m m (front ∷ rest) (front ∷ rest) a o → Does Z me now s.limit m m front rest free a o
     does_nothing same none marked knows account =
         record {
           front' = front;
@@ -160,7 +161,7 @@ module _ (s : Setup) (m : Shared) (E : ℕ → ℕ) (front : ℕ) (rest free : L
         }
 
     -- the node in hand is set aside
-    pub does_aside : (k : ℕ) → 1 ≤ k → 1 ≤ holds k a → ((n : ℕ) → holds n o.actor + one_if (nat_eq n k) ≡ holds n a) → o.aside ≡ Some k → Marked m o.actor → KnowsAt (Found rest now) s.limit m o.actor o.actor.line → Account Z now m m (front ∷ rest) (front ∷ rest) a o → Does Z now s.limit m m front rest free a o
+    pub does_aside : (k : ℕ) → 1 ≤ k → 1 ≤ holds k a → ((n : ℕ) → holds n o.actor + one_if (nat_eq n k) ≡ holds n a) → o.aside ≡ Some k → Marked m o.actor → KnowsAt (Found rest now) s.limit m o.actor o.actor.line → Account Z me now m m (front ∷ rest) (front ∷ rest) a o → Does Z me now s.limit m m front rest free a o
     does_aside k some here away put_there marked knows account =
         record {
           front' = front;
@@ -177,7 +178,7 @@ module _ (s : Setup) (m : Shared) (E : ℕ → ℕ) (front : ℕ) (rest free : L
         }
 
     -- a node that was never used comes into the hand
-    pub does_claim : (c : ℕ) → m.fresh + 1 ≡ c → ((n : ℕ) → holds n o.actor ≡ holds n a + one_if (nat_eq n c)) → o.aside ≡ None → Marked (put Fresh c m) o.actor → KnowsAt (Found rest now) s.limit (put Fresh c m) o.actor o.actor.line → Account Z now m (put Fresh c m) (front ∷ rest) (front ∷ rest) a o → Does Z now s.limit m (put Fresh c m) front rest free a o
+    pub does_claim : (c : ℕ) → m.fresh + 1 ≡ c → ((n : ℕ) → holds n o.actor ≡ holds n a + one_if (nat_eq n c)) → o.aside ≡ None → Marked (put Fresh c m) o.actor → KnowsAt (Found rest now) s.limit (put Fresh c m) o.actor o.actor.line → Account Z me now m (put Fresh c m) (front ∷ rest) (front ∷ rest) a o → Does Z me now s.limit m (put Fresh c m) front rest free a o
     does_claim c e more none marked knows account =
         record {
           front' = front;
@@ -196,7 +197,7 @@ module _ (s : Setup) (m : Shared) (E : ℕ → ℕ) (front : ℕ) (rest free : L
         }
 
     -- the first free node comes into the hand
-    pub does_take : (r : Ref) → 1 ≤ m.free.node → Rises m.free r → r.node ≡ (next_of m m.free.node).node → ((n : ℕ) → holds n o.actor ≡ holds n a + one_if (nat_eq n m.free.node)) → o.aside ≡ None → Marked (put Free r m) o.actor → KnowsAt (Found rest now) s.limit (put Free r m) o.actor o.actor.line → Account Z now m (put Free r m) (front ∷ rest) (front ∷ rest) a o → Does Z now s.limit m (put Free r m) front rest free a o
+    pub does_take : (r : Ref) → 1 ≤ m.free.node → Rises m.free r → r.node ≡ (next_of m m.free.node).node → ((n : ℕ) → holds n o.actor ≡ holds n a + one_if (nat_eq n m.free.node)) → o.aside ≡ None → Marked (put Free r m) o.actor → KnowsAt (Found rest now) s.limit (put Free r m) o.actor o.actor.line → Account Z me now m (put Free r m) (front ∷ rest) (front ∷ rest) a o → Does Z me now s.limit m (put Free r m) front rest free a o
     does_take r some up e more none marked knows account =
         record {
           front' = front;
@@ -216,7 +217,7 @@ module _ (s : Setup) (m : Shared) (E : ℕ → ℕ) (front : ℕ) (rest free : L
         took = turn_take m E (front ∷ rest) free a o.actor r w.shape some e more
 
     -- the node in hand goes before the free ones
-    pub does_giveback : (r : Ref) → 1 ≤ r.node → r.node ≤ length m.nodes → Rises m.free r → (next_of m r.node).node ≡ m.free.node → ((n : ℕ) → holds n o.actor + one_if (nat_eq n r.node) ≡ holds n a) → o.aside ≡ None → Marked (put Free r m) o.actor → KnowsAt (Found rest now) s.limit (put Free r m) o.actor o.actor.line → Account Z now m (put Free r m) (front ∷ rest) (front ∷ rest) a o → Does Z now s.limit m (put Free r m) front rest free a o
+    pub does_giveback : (r : Ref) → 1 ≤ r.node → r.node ≤ length m.nodes → Rises m.free r → (next_of m r.node).node ≡ m.free.node → ((n : ℕ) → holds n o.actor + one_if (nat_eq n r.node) ≡ holds n a) → o.aside ≡ None → Marked (put Free r m) o.actor → KnowsAt (Found rest now) s.limit (put Free r m) o.actor o.actor.line → Account Z me now m (put Free r m) (front ∷ rest) (front ∷ rest) a o → Does Z me now s.limit m (put Free r m) front rest free a o
     does_giveback r some low up leads away none marked knows account =
         record {
           front' = front;
@@ -235,7 +236,7 @@ module _ (s : Setup) (m : Shared) (E : ℕ → ℕ) (front : ℕ) (rest free : L
         }
 
     -- a word of the node in hand is written, and the node may be set aside
-    pub does_write : (k : ℕ) (x : Node) → ((n : ℕ) → holds n a ≤ E n) → 1 ≤ k → k ≤ length m.nodes → 1 ≤ holds k a → x.next.count ≡ (next_of m k).count → ((n : ℕ) → holds n o.actor + asides n o.aside ≡ holds n a) → IfSome o.aside (λ j. (1 ≤ j) × (1 ≤ holds j a)) → Marked (with_node m k x) o.actor → KnowsAt (Found rest now) s.limit (with_node m k x) o.actor o.actor.line → Account Z now m (with_node m k x) (front ∷ rest) (front ∷ rest) a o → Does Z now s.limit m (with_node m k x) front rest free a o
+    pub does_write : (k : ℕ) (x : Node) → ((n : ℕ) → holds n a ≤ E n) → 1 ≤ k → k ≤ length m.nodes → 1 ≤ holds k a → x.next.count ≡ (next_of m k).count → ((n : ℕ) → holds n o.actor + asides n o.aside ≡ holds n a) → IfSome o.aside (λ j. (1 ≤ j) × (1 ≤ holds j a)) → Marked (with_node m k x) o.actor → KnowsAt (Found rest now) s.limit (with_node m k x) o.actor o.actor.line → Account Z me now m (with_node m k x) (front ∷ rest) (front ∷ rest) a o → Does Z me now s.limit m (with_node m k x) front rest free a o
     does_write k x mine some low here e away own marked knows account =
         record {
           front' = front;
@@ -267,7 +268,7 @@ module _ (s : Setup) (m : Shared) (E : ℕ → ℕ) (front : ℕ) (rest free : L
         last_some = (last_within m.nodes front rest m.head.node w.shape.queue_chain).0
 
     -- Tail goes on to the node behind its own
-    pub does_swing : (r : Ref) → 1 ≤ r.node → (next_of m m.tail.node).node ≡ r.node → r.count ≡ m.tail.count + 1 → ((n : ℕ) → holds n o.actor ≡ holds n a) → o.aside ≡ None → Marked (put Tail r m) o.actor → KnowsAt (Found rest now) s.limit (put Tail r m) o.actor o.actor.line → Account Z now m (put Tail r m) (front ∷ rest) (front ∷ rest) a o → Does Z now s.limit m (put Tail r m) front rest free a o
+    pub does_swing : (r : Ref) → 1 ≤ r.node → (next_of m m.tail.node).node ≡ r.node → r.count ≡ m.tail.count + 1 → ((n : ℕ) → holds n o.actor ≡ holds n a) → o.aside ≡ None → Marked (put Tail r m) o.actor → KnowsAt (Found rest now) s.limit (put Tail r m) o.actor o.actor.line → Account Z me now m (put Tail r m) (front ∷ rest) (front ∷ rest) a o → Does Z me now s.limit m (put Tail r m) front rest free a o
     does_swing r some leads up same none marked knows account =
         record {
           front' = front;
@@ -289,7 +290,7 @@ module _ (s : Setup) (m : Shared) (E : ℕ → ℕ) (front : ℕ) (rest free : L
         one = one_after m (front ∷ rest) m.head.node r.node w.shape.queue_chain w.lag leads some
 
     -- the node in hand goes behind the last one of the queue
-    pub does_link : (k x : ℕ) (r : Ref) → ((n : ℕ) → holds n a ≤ E n) → m.tail.node ≡ k → (next_of m k).node ≡ 0 → 1 ≤ x → x ≤ length m.nodes → 1 ≤ holds x a → (next_of m x).node ≡ 0 → (next_of m x).count ≢ s.limit → r.node ≡ x → (next_of m k).count < r.count → ((n : ℕ) → holds n o.actor + one_if (nat_eq n x) ≡ holds n a) → o.aside ≡ None → Marked (put (Next k) r m) o.actor → KnowsAt (Found rest now) s.limit (put (Next k) r m) o.actor o.actor.line → Account Z now m (put (Next k) r m) (front ∷ rest) (front ∷ rest ++ x ∷ []) a o → Does Z now s.limit m (put (Next k) r m) front rest free a o
+    pub does_link : (k x : ℕ) (r : Ref) → ((n : ℕ) → holds n a ≤ E n) → m.tail.node ≡ k → (next_of m k).node ≡ 0 → 1 ≤ x → x ≤ length m.nodes → 1 ≤ holds x a → (next_of m x).node ≡ 0 → (next_of m x).count ≢ s.limit → r.node ≡ x → (next_of m k).count < r.count → ((n : ℕ) → holds n o.actor + one_if (nat_eq n x) ≡ holds n a) → o.aside ≡ None → Marked (put (Next k) r m) o.actor → KnowsAt (Found rest now) s.limit (put (Next k) r m) o.actor o.actor.line → Account Z me now m (put (Next k) r m) (front ∷ rest) (front ∷ rest ++ x ∷ []) a o → Does Z me now s.limit m (put (Next k) r m) front rest free a o
     does_link k x r mine at null some low here leads room e up away none marked knows account =
         record {
           front' = front;
@@ -323,13 +324,13 @@ module _ (s : Setup) (m : Shared) (E : ℕ → ℕ) (front : ℕ) (rest free : L
         other q = tail_apart x some (omega (arith, mine x)) (at ∙ sym q)
 
     -- the first node comes into the hand, and the one behind it is the first
-    pub does_pop : (r : Ref) → IsOff m front rest → (next_of m front).node ≡ r.node → 1 ≤ r.node → r.count ≡ m.head.count + 1 → ((n : ℕ) → holds n o.actor ≡ holds n a + one_if (nat_eq n front)) → o.aside ≡ None → Marked (put Head r m) o.actor → KnowsAt (Found rest now) s.limit (put Head r m) o.actor o.actor.line → o.at ≡ Some now → promised_reply o.reply (Some now) o.actor.due ≡ Some (Value (node_at m r.node).value) → Does Z now s.limit m (put Head r m) front rest free a o
-    does_pop r away leads some up more none marked knows at earns = go rest w second.1 away knows
+    pub does_pop : (r : Ref) → IsOff m front rest → (next_of m front).node ≡ r.node → 1 ≤ r.node → r.count ≡ m.head.count + 1 → ((n : ℕ) → holds n o.actor ≡ holds n a + one_if (nat_eq n front)) → o.aside ≡ None → Marked (put Head r m) o.actor → KnowsAt (Found rest now) s.limit (put Head r m) o.actor o.actor.line → o.at ≡ Some now → promised_reply o.reply (Some now) o.actor.due ≡ Some (Value (node_at m r.node).value) → a.op ≡ Deq → earned a.due ≡ None → Does Z me now s.limit m (put Head r m) front rest free a o
+    does_pop r away leads some up more none marked knows at earns op u = go rest w second.1 away knows
       where
         second : (others : List ℕ) × (rest ≡ r.node ∷ others)
         second = second_leads m.nodes m.head.node front r.node rest w.shape.queue_chain leads some
 
-        go : (rs : List ℕ) → Sound s.limit m E front rs free → rs ≡ r.node ∷ second.0 → IsOff m front rs → KnowsAt (Found rs now) s.limit (put Head r m) o.actor o.actor.line → Does Z now s.limit m (put Head r m) front rs free a o
+        go : (rs : List ℕ) → Sound s.limit m E front rs free → rs ≡ r.node ∷ second.0 → IsOff m front rs → KnowsAt (Found rs now) s.limit (put Head r m) o.actor o.actor.line → Does Z me now s.limit m (put Head r m) front rs free a o
         go rs v e away knows =
             record {
               front' = r.node;
@@ -344,6 +345,6 @@ module _ (s : Setup) (m : Shared) (E : ℕ → ℕ) (front : ℕ) (rest free : L
               last_room = subst (λ ys. (next_of m (last_node (front ∷ ys))).count ≢ s.limit) e v.last_room;
               marked = marked;
               knows = knows;
-              account = popped front r.node second.0 (ap (λ ys. front ∷ ys) e) refl up at earns;
+              account = popped front r.node second.0 (ap (λ ys. front ∷ ys) e) refl up at earns op u;
               own_aside = subst (λ y. IfSome y (λ k. (1 ≤ k) × (1 ≤ holds k a))) (sym none) tt;
             }

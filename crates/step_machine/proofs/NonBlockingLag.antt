@@ -157,5 +157,5 @@ after_not_first m front to rest once h e same = go h.before (h.chain ∙ ap (λ 
         let there : 1 ≤ times to rest = subst (λ ns. 1 ≤ times to ns) (sym (ap others f)) (times_there [] to []) in
         omega (arith, few, one)
     go (x ∷ xs) f =
-        let there : 1 ≤ times to rest = subst (λ ns. 1 ≤ times to ns) (sym (ap others f) ) (subst (λ ns. 1 ≤ times to ns) (append_assoc xs (m.tail.node ∷ []) (to ∷ [])) (times_there (xs ++ m.tail.node ∷ []) to [])) in
+        let there : 1 ≤ times to rest = subst (λ ns. 1 ≤ times to ns) (sym (ap others f)) (subst (λ ns. 1 ≤ times to ns) (append_assoc xs (m.tail.node ∷ []) (to ∷ [])) (times_there (xs ++ m.tail.node ∷ []) to [])) in
         omega (arith, few, one)

@@ -37,6 +37,7 @@ use Rattle.step_machine.proofs.Counting.{holds, asides, elsewhere, elsewhere_set
 use Rattle.step_machine.proofs.Effects.{Shape, Turn, Writes, Whose, shape_turned, hand_kept, free_kept, queue_kept, value_kept}
 use Rattle.step_machine.proofs.Fixed.{FixedAt, Fixes, fixed, fixed_given, fixed_entry, fixed_begun, fixed_rested}
 use Rattle.step_machine.proofs.Reaching.{EachMoveKeeps, each_reached}
+use Rattle.step_machine.proofs.LegalMoves.{same_op, same_op_given}
 use Rattle.step_machine.proofs.TwoLockSound.{Carried, begun_holds, rested_holds, opening_elsewhere, no_flags, blank_leads, first_used}
 use Rattle.step_machine.proofs.NonBlockingKnows.{next_of, KnowsAt, IsMark, Marked, Moves, Keeps, knows_entry, knows_more, knows_kept, marks_kept}
 use Rattle.step_machine.proofs.NonBlockingEffects.{Sound, Does, Found, no_marks}
@@ -150,7 +151,7 @@ knowing_entry Z s m me a entry g =
     }
 
 -- what holds of a world after an actor was told an outcome, by what its step did
-sound_settled : (Z Z' : ℕ → Type 0) (w : World) (me : ℕ) (a : Actor) (m' : Shared) (o : Outcome) (front : ℕ) (rest free : List ℕ) → IsReached w → actor_of w me ≡ Some a → SoundWorld Z w front rest free → (d : Does Z (w.steps + 1) w.setup.limit w.shared m' front rest free a o) → w.shared.fresh ≤ m'.fresh → EndsHold m' → Placed w.setup.kind o → Fixes w.setup.limit me o → ((k : ℕ) → Z k → Z' k) → (rest ≡ [] → Z' (w.steps + 1)) → SoundWorld Z' (settled w me a m' o) d.front' d.rest' d.free'
+sound_settled : (Z Z' : ℕ → Type 0) (w : World) (me : ℕ) (a : Actor) (m' : Shared) (o : Outcome) (front : ℕ) (rest free : List ℕ) → IsReached w → actor_of w me ≡ Some a → SoundWorld Z w front rest free → (d : Does Z me (w.steps + 1) w.setup.limit w.shared m' front rest free a o) → w.shared.fresh ≤ m'.fresh → EndsHold m' → Placed w.setup.kind o → Fixes w.setup.limit me o → ((k : ℕ) → Z k → Z' k) → (rest ≡ [] → Z' (w.steps + 1)) → SoundWorld Z' (settled w me a m' o) d.front' d.rest' d.free'
 sound_settled Z Z' w me a m' o front rest free r is so d rises ends stands fx more finds =
     record {
       words =
@@ -278,7 +279,7 @@ found_a_node Z s me m a _ k = tt
 -- a further fact of a world and its queue's chain, and one of the numbers noted where the queue was empty, which the
 -- moves carry along
 pub record Carries (L : World → List ℕ → Type 0) (Z : World → ℕ → Type 0) : Type 1 where
-  pub told : (w : World) (me : ℕ) (a : Actor) (l : Line) (m' : Shared) (o : Outcome) (front : ℕ) (rest free : List ℕ) → IsReached w → w.setup.kind ≡ NonBlocking → actor_of w me ≡ Some a → a.line ≡ Some l → SoundWorld (Z w) w front rest free → (d : Does (Z w) (w.steps + 1) w.setup.limit w.shared m' front rest free a o) → Stamps (w.steps + 1) l a.due a.noted o → L w (front ∷ rest) → Carried L Z w (settled w me a m' o) rest (d.front' ∷ d.rest')
+  pub told : (w : World) (me : ℕ) (a : Actor) (l : Line) (m' : Shared) (o : Outcome) (front : ℕ) (rest free : List ℕ) → IsReached w → w.setup.kind ≡ NonBlocking → actor_of w me ≡ Some a → a.line ≡ Some l → SoundWorld (Z w) w front rest free → (d : Does (Z w) me (w.steps + 1) w.setup.limit w.shared m' front rest free a o) → Stamps (w.steps + 1) l a.due a.noted o → o.actor.op ≡ a.op → L w (front ∷ rest) → Carried L Z w (settled w me a m' o) rest (d.front' ∷ d.rest')
   pub began : (w : World) (me : ℕ) (op : Op) (a : Actor) (queue : List ℕ) → IsReached w → actor_of w me ≡ Some a → a.line ≡ None → L w queue → L (with_actor w me (begun w.setup.kind me op a)) queue × ((k : ℕ) → Z w k → Z (with_actor w me (begun w.setup.kind me op a)) k)
   pub at_rest : (w : World) (me : ℕ) (a : Actor) (l : Line) (queue : List ℕ) → IsReached w → actor_of w me ≡ Some a → a.line ≡ Some l → may_rest l ≡ true → L w queue → L (with_actor w me (rested a)) queue × ((k : ℕ) → Z w k → Z (with_actor w me (rested a)) k)
   pub starts : (s : Setup) (actors : ℕ) → IsSized s actors → L (opening s actors) (1 ∷ [])
@@ -331,11 +332,12 @@ module _ (L : World → List ℕ → Type 0) (Z : World → ℕ → Type 0) (car
   proved_step : (w : World) (me : ℕ) (a : Actor) (l : Line) → IsReached w → w.setup.kind ≡ NonBlocking → actor_of w me ≡ Some a → a.line ≡ Some l → Proved L Z w → Proved L Z (stepped w me a l)
   proved_step w me a l r e is at p =
       let k : AtLine w me a l = at_line w me a l at (p.sound.actors me a is) in
-      let d : Does (Z w) (w.steps + 1) w.setup.limit w.shared m' p.front p.rest p.free a o =
+      let d : Does (Z w) me (w.steps + 1) w.setup.limit w.shared m' p.front p.rest p.free a o =
       does (Z w) w.setup w.shared (elsewhere w) p.front p.rest p.free p.sound.words (w.steps + 1) me a (λ n. elsewhere_one w me a n is) (node_low w me a r is) k.marked l e k.runs k.nodes k.fixes k.knows in
       let c : Carried L Z w (stepped w me a l) p.rest (d.front' ∷ d.rest') =
       carries.told w me a l m' o p.front p.rest p.free r e is at p.sound d
-      (λ Q place n q stands. turned Q w.setup (w.steps + 1) me a l (found (action w.setup me a l) w.shared) place n q stands) p.fact in
+      (λ Q place n q stands. turned Q w.setup (w.steps + 1) me a l (found (action w.setup me a l) w.shared) place n q stands)
+      (same_op w.setup (w.steps + 1) me a l (found (action w.setup me a l) w.shared)) p.fact in
       record {
         front = d.front';
         rest = d.rest';
@@ -358,12 +360,13 @@ module _ (L : World → List ℕ → Type 0) (Z : World → ℕ → Type 0) (car
   proved_given : (w : World) (me : ℕ) (a : Actor) (l : Line) (o : Outcome) → IsReached w → w.setup.kind ≡ NonBlocking → actor_of w me ≡ Some a → a.line ≡ Some l → gives_up (w.steps + 1) a l ≡ Some o → Proved L Z w → Proved L Z (settled w me a w.shared o)
   proved_given w me a l o r e is at given p =
       let k : AtLine w me a l = at_line w me a l at (p.sound.actors me a is) in
-      let d : Does (Z w) (w.steps + 1) w.setup.limit w.shared w.shared p.front p.rest p.free a o =
-      some_of (Does (Z w) (w.steps + 1) w.setup.limit w.shared w.shared p.front p.rest p.free a) (gives_up (w.steps + 1) a l) o given
+      let d : Does (Z w) me (w.steps + 1) w.setup.limit w.shared w.shared p.front p.rest p.free a o =
+      some_of (Does (Z w) me (w.steps + 1) w.setup.limit w.shared w.shared p.front p.rest p.free a) (gives_up (w.steps + 1) a l) o given
       (gives (Z w) w.setup w.shared (elsewhere w) p.front p.rest p.free p.sound.words (w.steps + 1) me a (λ n. elsewhere_one w me a n is) (node_low w me a r is) k.marked l e k.runs k.fixes) in
       let c : Carried L Z w (settled w me a w.shared o) p.rest (d.front' ∷ d.rest') =
       carries.told w me a l w.shared o p.front p.rest p.free r e is at p.sound d
-      (λ Q place n q stands. some_of (Turns Q place) (gives_up (w.steps + 1) a l) o given (given_turned Q (w.steps + 1) a l place n q stands)) p.fact in
+      (λ Q place n q stands. some_of (Turns Q place) (gives_up (w.steps + 1) a l) o given (given_turned Q (w.steps + 1) a l place n q stands))
+      (some_of (λ x. x.actor.op ≡ a.op) (gives_up (w.steps + 1) a l) o given (same_op_given (w.steps + 1) a l)) p.fact in
       record {
         front = d.front';
         rest = d.rest';
@@ -428,7 +431,7 @@ module _ (L : World → List ℕ → Type 0) (Z : World → ℕ → Type 0) (car
 nothing : Carries (λ w q. Unit {0}) (λ w k. Unit {0})
 nothing =
     record {
-      told = λ w me a l m' o front rest free r e is at so d t f. record { fact = tt; keeps = λ k z. tt; finds = λ q. tt };
+      told = λ w me a l m' o front rest free r e is at so d t same f. record { fact = tt; keeps = λ k z. tt; finds = λ q. tt };
       began = λ w me op a q r is at f. (tt, λ k z. tt);
       at_rest = λ w me a l q r is at may f. (tt, λ k z. tt);
       starts = λ s actors h. tt;

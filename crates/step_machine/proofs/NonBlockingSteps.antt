@@ -8,6 +8,7 @@ use Rattle.line_table.specs.declared.lines.Line.{Line}
 use Rattle.line_table.specs.declared.lines.Line.TheVariants.{N1, N2, N3, N4, N5, F1, F2, F3, E2, E3, E5, E6, E7, E9, E13, E17, D2, D3, D4, D5, D10, D12, D13, A3, B1}
 use Rattle.line_table.specs.declared.lines.Section.TheVariants.{LockedEnqueue, LockedDequeue}
 use Rattle.line_table.specs.Sections.{section_of}
+use Rattle.history.specs.declared.operations.Op.TheVariants.{Deq}
 use Rattle.history.specs.declared.operations.Reply.{Reply}
 use Rattle.history.specs.declared.operations.Reply.TheVariants.{Done, Value, Empty, Refused}
 use Rattle.history.specs.declared.refusals.Refusal.{Refusal}
@@ -29,7 +30,7 @@ use Rattle.step_machine.proofs.Chains.{node_in, chain_none}
 use Rattle.step_machine.proofs.Counting.{holds, asides, holds_hand, holds_none, holds_own}
 use Rattle.step_machine.proofs.Effects.{written, next_keeps_value, with_node as with_new}
 use Rattle.step_machine.proofs.Accounts.{Account, KeepsReply, quiet, refused, found_empty, pushed, same_ref-true, raised_node, raised_count}
-use Rattle.step_machine.proofs.Fixed.{FixedAt, EarnedFreeing}
+use Rattle.step_machine.proofs.Fixed.{FixedAt, Pushes, EarnedFreeing}
 use Rattle.step_machine.proofs.NonBlockingKnows.{next_of, KnowsAt, Marked, IsMark, Ready, WasNext, MayGoOn}
 use Rattle.step_machine.proofs.NonBlockingLag.{behind_tail, tail_is_last, off, off_leads}
 use Rattle.step_machine.proofs.NonBlockingEffects.{Sound, Does, Found, raised_rises, no_marks, one_mark, first, does_nothing, does_aside, does_claim, does_take, does_giveback, does_write, does_swing, does_link, does_pop}
@@ -37,7 +38,7 @@ use Rattle.step_machine.proofs.NonBlockingEffects.{Sound, Does, Found, raised_ri
 module _ (Z : ℕ → Type 0) (s : Setup) (m : Shared) (E : ℕ → ℕ) (front : ℕ) (rest free : List ℕ) (w : Sound s.limit m E front rest free) (now me : ℕ) (a : Actor) (mine : (n : ℕ) → holds n a ≤ E n) (low : a.node ≤ length m.nodes) (marked : Marked m a) where
   -- the words become these, and the outcome is this one
   abbrev Goes : Shared → Outcome → Type 0
-  Goes m' o = Does Z now s.limit m m' front rest free a o
+  Goes m' o = Does Z me now s.limit m m' front rest free a o
 
   -- what the actor of an outcome knows then
   abbrev Learns : Shared → Outcome → Type 0
@@ -57,8 +58,8 @@ module _ (Z : ℕ → Type 0) (s : Setup) (m : Shared) (E : ℕ → ℕ) (front 
   tried_same false m' m'' x hx hy = hy refl
 
   -- an outcome in which the actor holds what it held
-  still : (o : Outcome) → ((n : ℕ) → holds n o.actor ≡ holds n a) → o.aside ≡ None → Marked m o.actor → Learns m o → Account Z now m m (front ∷ rest) (front ∷ rest) a o → Goes m o
-  still o = does_nothing s m E front rest free w Z now a o
+  still : (o : Outcome) → ((n : ℕ) → holds n o.actor ≡ holds n a) → o.aside ≡ None → Marked m o.actor → Learns m o → Account Z me now m m (front ∷ rest) (front ∷ rest) a o → Goes m o
+  still o = does_nothing s m E front rest free w Z me now a o
 
   -- the call goes on, and has earned nothing
   on : (o : Outcome) → earned a.due ≡ None → o.at ≡ None → ((n : ℕ) → holds n o.actor ≡ holds n a) → o.aside ≡ None → Marked m o.actor → Learns m o → Goes m o
@@ -86,7 +87,7 @@ module _ (Z : ℕ → Type 0) (s : Setup) (m : Shared) (E : ℕ → ℕ) (front 
   -- the node in hand is set aside
   aside : (o : Outcome) → a.holds ≡ true → a.pocket ≡ None → 1 ≤ a.node → o.actor.holds ≡ false → o.actor.pocket ≡ None → o.aside ≡ Some a.node → Learns m o → o.at ≡ None → KeepsReply a o → Goes m o
   aside o h p some g q e knows at keeps =
-      does_aside s m E front rest free w Z now a o a.node some (own h p) (let_go o.actor h p g q) e (no_marks m o.actor g q) knows (quiet refl refl at keeps)
+      does_aside s m E front rest free w Z me now a o a.node some (own h p) (let_go o.actor h p g q) e (no_marks m o.actor g q) knows (quiet refl refl at keeps)
 
   aside_freed : (kind : Kind) (due : Option Reply) (top : Ref) → a.due ≡ due → EarnedFreeing due → a.holds ≡ true → a.pocket ≡ None → 1 ≤ a.node → Goes m (sets_aside (freed kind now due (record a { top = top })))
   aside_freed TwoLock None top d f h p some = aside _ h p some refl p refl tt refl (inr (λ n. refl))
@@ -99,7 +100,7 @@ module _ (Z : ℕ → Type 0) (s : Setup) (m : Shared) (E : ℕ → ℕ) (front 
   -- the node in hand goes before the free ones
   gives_back : (o : Outcome) → a.holds ≡ true → a.pocket ≡ None → 1 ≤ a.node → m.free ≡ a.top → a.top.count ≢ s.limit → next_of m a.node ≡ ref a.top.node a.mark → o.actor.holds ≡ false → o.actor.pocket ≡ None → o.aside ≡ None → Learns (put Free (raised s a.top a.node) m) o → o.at ≡ None → KeepsReply a o → Goes (put Free (raised s a.top a.node) m) o
   gives_back o h p some was room knows g q e next no_at keeps =
-      does_giveback s m E front rest free w Z now a o (raised s a.top a.node) (subst (λ k. 1 ≤ k) (sym at) some) (subst (λ k. k ≤ length m.nodes) (sym at) low)
+      does_giveback s m E front rest free w Z me now a o (raised s a.top a.node) (subst (λ k. 1 ≤ k) (sym at) some) (subst (λ k. k ≤ length m.nodes) (sym at) low)
       (raised_rises s m.free a.top a.node was room) (ap (λ k. (next_of m k).node) at ∙ ap (λ (x : Ref). x.node) knows ∙ sym (ap (λ (x : Ref). x.node) was))
       (λ n. ap (λ k. holds n o.actor + one_if (nat_eq n k)) at ∙ let_go o.actor h p g q n) e (no_marks (put Free (raised s a.top a.node) m) o.actor g q) next (quiet refl refl no_at keeps)
     where
@@ -117,7 +118,7 @@ module _ (Z : ℕ → Type 0) (s : Setup) (m : Shared) (E : ℕ → ℕ) (front 
   -- the node in hand is written, and its count stays
   writes : (o : Outcome) (x : Node) → a.holds ≡ true → a.pocket ≡ None → 1 ≤ a.node → x.next.count ≡ (next_of m a.node).count → o.actor.holds ≡ true → o.actor.pocket ≡ None → o.actor.node ≡ a.node → o.actor.mark ≡ x.next.count → o.aside ≡ None → Learns (with_new m a.node x) o → o.at ≡ None → KeepsReply a o → Goes (with_new m a.node x) o
   writes o x h p some count g q at mark none knows no_at keeps =
-      does_write s m E front rest free w Z now a o a.node x mine some low (own h p) count same (subst (λ y. IfSome y (λ j. (1 ≤ j) × (1 ≤ holds j a))) (sym none) tt)
+      does_write s m E front rest free w Z me now a o a.node x mine some low (own h p) count same (subst (λ y. IfSome y (λ j. (1 ≤ j) × (1 ≤ holds j a))) (sym none) tt)
       (one_mark (with_new m a.node x) o.actor q (subst (λ k. 1 ≤ k) (sym at) some, ap (λ k. (next_of (with_new m a.node x) k).count) at ∙ ap (λ (y : Node). y.next.count) (written m.nodes a.node x some low) ∙ sym mark)) knows (quiet refl refl no_at keeps)
     where
       same : (n : ℕ) → holds n o.actor + asides n o.aside ≡ holds n a
@@ -127,9 +128,9 @@ module _ (Z : ℕ → Type 0) (s : Setup) (m : Shared) (E : ℕ → ℕ) (front 
           omega (arith, holds_hand n o.actor g q, holds_hand n a h p)
 
   -- the node in hand is written and set aside, and its count stays
-  writes_aside : (o : Outcome) (x : Node) → a.holds ≡ true → a.pocket ≡ None → 1 ≤ a.node → x.next.count ≡ (next_of m a.node).count → o.actor.holds ≡ false → o.actor.pocket ≡ None → o.aside ≡ Some a.node → Learns (with_new m a.node x) o → Account Z now m (with_new m a.node x) (front ∷ rest) (front ∷ rest) a o → Goes (with_new m a.node x) o
+  writes_aside : (o : Outcome) (x : Node) → a.holds ≡ true → a.pocket ≡ None → 1 ≤ a.node → x.next.count ≡ (next_of m a.node).count → o.actor.holds ≡ false → o.actor.pocket ≡ None → o.aside ≡ Some a.node → Learns (with_new m a.node x) o → Account Z me now m (with_new m a.node x) (front ∷ rest) (front ∷ rest) a o → Goes (with_new m a.node x) o
   writes_aside o x h p some count g q put_there knows account =
-      does_write s m E front rest free w Z now a o a.node x mine some low (own h p) count same (subst (λ y. IfSome y (λ j. (1 ≤ j) × (1 ≤ holds j a))) (sym put_there) (some, own h p))
+      does_write s m E front rest free w Z me now a o a.node x mine some low (own h p) count same (subst (λ y. IfSome y (λ j. (1 ≤ j) × (1 ≤ holds j a))) (sym put_there) (some, own h p))
       (no_marks (with_new m a.node x) o.actor g q) knows account
     where
       same : (n : ℕ) → holds n o.actor + asides n o.aside ≡ holds n a
@@ -140,7 +141,7 @@ module _ (Z : ℕ → Type 0) (s : Setup) (m : Shared) (E : ℕ → ℕ) (front 
   -- the first free node comes into the hand
   takes_node : (o : Outcome) → a.holds ≡ false → a.pocket ≡ None → 1 ≤ a.top.node → m.free ≡ a.top → a.top.count ≢ s.limit → next_of m a.top.node ≡ a.next → o.actor.holds ≡ true → o.actor.pocket ≡ None → o.actor.node ≡ a.top.node → o.actor.mark ≡ a.next.count → o.aside ≡ None → Learns (put Free (raised s a.top a.next.node) m) o → o.at ≡ None → earned a.due ≡ None → Goes (put Free (raised s a.top a.next.node) m) o
   takes_node o h p some was room next g q at mark none knows no_at u =
-      does_take s m E front rest free w Z now a o (raised s a.top a.next.node) (subst (λ (r : Ref). 1 ≤ r.node) (sym was) some) (raised_rises s m.free a.top a.next.node was room)
+      does_take s m E front rest free w Z me now a o (raised s a.top a.next.node) (subst (λ (r : Ref). 1 ≤ r.node) (sym was) some) (raised_rises s m.free a.top a.next.node was room)
       (raised_node s a.top a.next.node room ∙ sym (ap (λ (r : Ref). r.node) (ap (λ (r : Ref). next_of m r.node) was ∙ next)))
       (took o.actor m.free.node h p g q (at ∙ sym (ap (λ (r : Ref). r.node) was))) none
       (one_mark (put Free (raised s a.top a.next.node) m) o.actor q (subst (λ k. 1 ≤ k) (sym at) some, ap (λ k. (next_of m k).count) at ∙ ap (λ (r : Ref). r.count) next ∙ sym mark)) knows (quiet refl refl no_at (inl u))
@@ -152,7 +153,7 @@ module _ (Z : ℕ → Type 0) (s : Setup) (m : Shared) (E : ℕ → ℕ) (front 
   -- a node never used comes into the hand
   claims_node : (o : Outcome) → a.holds ≡ false → a.pocket ≡ None → m.fresh ≡ a.f → o.actor.holds ≡ true → o.actor.pocket ≡ None → o.actor.node ≡ a.f + 1 → o.actor.mark ≡ 0 → o.aside ≡ None → Learns (put Fresh (a.f + 1) m) o → o.at ≡ None → earned a.due ≡ None → Goes (put Fresh (a.f + 1) m) o
   claims_node o h p was g q at mark none knows no_at u =
-      does_claim s m E front rest free w Z now a o (a.f + 1) (ap (λ k. k + 1) was) (took o.actor (a.f + 1) h p g q at) none
+      does_claim s m E front rest free w Z me now a o (a.f + 1) (ap (λ k. k + 1) was) (took o.actor (a.f + 1) h p g q at) none
       (one_mark (put Fresh (a.f + 1) m) o.actor q (omega (arith, at), ap (λ k. (next_of m k).count) at ∙ w.unused (a.f + 1) (omega (arith, was)) ∙ sym mark)) knows (quiet refl refl no_at (inl u))
 
   claims_to : (kind : Kind) → a.holds ≡ false → a.pocket ≡ None → m.fresh ≡ a.f → earned a.due ≡ None → Goes (put Fresh (a.f + 1) m) (goes (with_node kind) (takes (a.f + 1) 0 a))
@@ -162,7 +163,7 @@ module _ (Z : ℕ → Type 0) (s : Setup) (m : Shared) (E : ℕ → ℕ) (front 
   -- Tail goes on to a node, where the register is in the word still
   swings : (to : ℕ) (o : Outcome) → m.tail ≡ a.tail → 1 ≤ to → a.tail.count ≢ s.limit → MayGoOn m a to → ((n : ℕ) → holds n o.actor ≡ holds n a) → o.aside ≡ None → Marked m o.actor → Learns (put Tail (raised s a.tail to) m) o → o.at ≡ None → KeepsReply a o → Goes (put Tail (raised s a.tail to) m) o
   swings to o was some room may same none marks knows no_at keeps =
-      does_swing s m E front rest free w Z now a o (raised s a.tail to) (subst (λ k. 1 ≤ k) (sym at) some)
+      does_swing s m E front rest free w Z me now a o (raised s a.tail to) (subst (λ k. 1 ≤ k) (sym at) some)
       (ap (λ (r : Ref). (next_of m r.node).node) was ∙ may.1 was ∙ sym at)
       (raised_count s a.tail to room ∙ ap (λ (r : Ref). r.count + 1) (sym was)) same none marks knows (quiet refl refl no_at keeps)
     where
@@ -170,13 +171,13 @@ module _ (Z : ℕ → Type 0) (s : Setup) (m : Shared) (E : ℕ → ℕ) (front 
       at = raised_node s a.tail to room
 
   -- the node in hand goes behind the last one of the queue
-  links : (o : Outcome) → a.holds ≡ true → a.pocket ≡ None → 1 ≤ a.node → Ready s.limit m a → a.next.node ≡ 0 → m.tail ≡ a.tail → next_of m a.tail.node ≡ a.next → a.next.count ≢ s.limit → o.actor.holds ≡ false → o.actor.pocket ≡ None → o.aside ≡ None → Learns (put (Next a.tail.node) (raised s a.next a.node) m) o → o.at ≡ Some now → promised_reply o.reply (Some now) o.actor.due ≡ Some Done → Goes (put (Next a.tail.node) (raised s a.next a.node) m) o
-  links o h p some ready null was next room g q none knows at earns =
-      does_link s m E front rest free w Z now a o a.tail.node a.node (raised s a.next a.node) mine (ap (λ (r : Ref). r.node) was) (ap (λ (r : Ref). r.node) next ∙ null) some low (own h p) ready.1
+  links : (o : Outcome) → a.holds ≡ true → a.pocket ≡ None → 1 ≤ a.node → Ready s.limit m a → a.next.node ≡ 0 → m.tail ≡ a.tail → next_of m a.tail.node ≡ a.next → a.next.count ≢ s.limit → o.actor.holds ≡ false → o.actor.pocket ≡ None → o.aside ≡ None → Learns (put (Next a.tail.node) (raised s a.next a.node) m) o → o.at ≡ Some now → promised_reply o.reply (Some now) o.actor.due ≡ Some Done → Pushes me a.op a.val → earned a.due ≡ None → Goes (put (Next a.tail.node) (raised s a.next a.node) m) o
+  links o h p some ready null was next room g q none knows at earns pushes u =
+      does_link s m E front rest free w Z me now a o a.tail.node a.node (raised s a.next a.node) mine (ap (λ (r : Ref). r.node) was) (ap (λ (r : Ref). r.node) next ∙ null) some low (own h p) ready.1
       (λ e. ready.2 (sym (marked.hand h).1 ∙ e)) (raised_node s a.next a.node room)
       (let up : (raised s a.next a.node).count ≡ a.next.count + 1 = raised_count s a.next a.node room in let c : (next_of m a.tail.node).count ≡ a.next.count = ap (λ (r : Ref). r.count) next in omega arith)
       (let_go o.actor h p g q) none (no_marks (put (Next a.tail.node) (raised s a.next a.node) m) o.actor g q) knows
-      (pushed refl refl at earns (next_keeps_value m a.tail.node (raised s a.next a.node) a.node behind.0 behind.1 some ∙ ready.0))
+      (pushed refl refl at earns (next_keeps_value m a.tail.node (raised s a.next a.node) a.node behind.0 behind.1 some ∙ ready.0) pushes u)
     where
       behind : (1 ≤ a.tail.node) × (a.tail.node ≤ length m.nodes)
       behind =
@@ -195,23 +196,23 @@ module _ (Z : ℕ → Type 0) (s : Setup) (m : Shared) (E : ℕ → ℕ) (front 
       last_is = tail_is_last m (front ∷ rest) m.head.node w.shape.queue_chain w.lag (ap (λ j. (next_of m j).node) at ∙ ap (λ (x : Ref). x.node) same ∙ null) ∙ at
 
   -- the call ends then or goes on to swing Tail
-  linked : (b : Bool) → a.holds ≡ true → a.pocket ≡ None → 1 ≤ a.node → 1 ≤ a.tail.node → Ready s.limit m a → a.next.node ≡ 0 → m.tail ≡ a.tail → next_of m a.tail.node ≡ a.next → Goes (put (Next a.tail.node) (raised s a.next a.node) m) (effect now (if b then ends now Done (lets_go (record a { due = Some Done })) else goes E17 (lets_go (record a { due = Some Done }))))
-  linked true h p some some_tail ready null was same = links _ h p some ready null was same (next_room was same null) refl p refl tt refl refl
-  linked false h p some some_tail ready null was same =
+  linked : (b : Bool) → a.holds ≡ true → a.pocket ≡ None → 1 ≤ a.node → 1 ≤ a.tail.node → Ready s.limit m a → a.next.node ≡ 0 → m.tail ≡ a.tail → next_of m a.tail.node ≡ a.next → Pushes me a.op a.val → earned a.due ≡ None → Goes (put (Next a.tail.node) (raised s a.next a.node) m) (effect now (if b then ends now Done (lets_go (record a { due = Some Done })) else goes E17 (lets_go (record a { due = Some Done }))))
+  linked true h p some some_tail ready null was same pushes u = links _ h p some ready null was same (next_room was same null) refl p refl tt refl refl pushes u
+  linked false h p some some_tail ready null was same pushes u =
       links _ h p some ready null was same (next_room was same null) refl p refl
       (inl was, λ q. ap (λ (x : Node). x.next.node) (written m.nodes a.tail.node (record (node_at m a.tail.node) { next = raised s a.next a.node }) some_tail tail_low) ∙ raised_node s a.next a.node (next_room was same null))
-      refl refl
+      refl refl pushes u
     where
       tail_low : a.tail.node ≤ length m.nodes
       tail_low = subst (λ (x : Ref). x.node ≤ length m.nodes) was (behind_tail m (front ∷ rest) m.head.node w.shape.queue_chain w.lag).1
 
   -- the first node comes into the hand
-  pops : (o : Outcome) → a.holds ≡ false → a.pocket ≡ None → m.head ≡ a.head → 1 ≤ a.next.node → a.head.count ≢ s.limit → next_of m a.head.node ≡ a.next → m.tail.node ≢ a.head.node → o.actor.holds ≡ true → o.actor.pocket ≡ None → o.actor.node ≡ a.head.node → 1 ≤ a.head.node → o.actor.mark ≡ a.next.count → o.aside ≡ None → Learns (put Head (raised s a.head a.next.node) m) o → o.at ≡ Some now → promised_reply o.reply (Some now) o.actor.due ≡ Some (Value (node_at m a.next.node).value) → Goes (put Head (raised s a.head a.next.node) m) o
-  pops o h p was some room next away g q at some_head mark none knows placed earns =
-      does_pop s m E front rest free w Z now a o (raised s a.head a.next.node) (off m front rest w.lag (λ e. away (e ∙ is_first)))
+  pops : (o : Outcome) → a.holds ≡ false → a.pocket ≡ None → m.head ≡ a.head → 1 ≤ a.next.node → a.head.count ≢ s.limit → next_of m a.head.node ≡ a.next → m.tail.node ≢ a.head.node → o.actor.holds ≡ true → o.actor.pocket ≡ None → o.actor.node ≡ a.head.node → 1 ≤ a.head.node → o.actor.mark ≡ a.next.count → o.aside ≡ None → Learns (put Head (raised s a.head a.next.node) m) o → o.at ≡ Some now → promised_reply o.reply (Some now) o.actor.due ≡ Some (Value (node_at m a.next.node).value) → a.op ≡ Deq → earned a.due ≡ None → Goes (put Head (raised s a.head a.next.node) m) o
+  pops o h p was some room next away g q at some_head mark none knows placed earns op u =
+      does_pop s m E front rest free w Z me now a o (raised s a.head a.next.node) (off m front rest w.lag (λ e. away (e ∙ is_first)))
       (ap (λ k. (next_of m k).node) is_first ∙ ap (λ (r : Ref). r.node) next ∙ sym to) (subst (λ k. 1 ≤ k) (sym to) some)
       (raised_count s a.head a.next.node room ∙ ap (λ (r : Ref). r.count + 1) (sym was)) (took o.actor front h p g q (at ∙ sym is_first)) none
-      (one_mark (put Head (raised s a.head a.next.node) m) o.actor q (subst (λ k. 1 ≤ k) (sym at) some_head, ap (λ k. (next_of m k).count) at ∙ ap (λ (r : Ref). r.count) next ∙ sym mark)) knows placed (earns ∙ ap (λ k. Some (Value (node_at m k).value)) (sym to))
+      (one_mark (put Head (raised s a.head a.next.node) m) o.actor q (subst (λ k. 1 ≤ k) (sym at) some_head, ap (λ k. (next_of m k).count) at ∙ ap (λ (r : Ref). r.count) next ∙ sym mark)) knows placed (earns ∙ ap (λ k. Some (Value (node_at m k).value)) (sym to)) op u
     where
       to : (raised s a.head a.next.node).node ≡ a.next.node
       to = raised_node s a.head a.next.node room
@@ -279,7 +280,7 @@ module _ (Z : ℕ → Type 0) (s : Setup) (m : Shared) (E : ℕ → ℕ) (front 
   does E9 e r h f k =
       tried (same_ref (next_of m a.tail.node) a.next) _ m _ _
       (λ b. let same : next_of m a.tail.node ≡ a.next = same_ref-true (next_of m a.tail.node) a.next b in
-      linked (nat_eq a.tail.count s.limit) f.hand f.pocket h.0 h.1 k.0 k.1 (there same k.2) same)
+      linked (nat_eq a.tail.count s.limit) f.hand f.pocket h.0 h.1 k.0 k.1 (there same k.2) same f.call (ap earned f.earned))
       (λ b. on _ (ap earned f.earned) refl (λ n. refl) refl marked k.0)
     where
       there : next_of m a.tail.node ≡ a.next → (a.next.count < (next_of m a.tail.node).count) ⊎ ((m.tail ≡ a.tail) × (next_of m a.tail.node ≡ a.next)) → m.tail ≡ a.tail
@@ -325,7 +326,7 @@ module _ (Z : ℕ → Type 0) (s : Setup) (m : Shared) (E : ℕ → ℕ) (front 
   does D13 e r h f k =
       tried (same_ref m.head a.head) _ m _ _
       (λ b. let was : m.head ≡ a.head = same_ref-true m.head a.head b in
-      pops _ f.hand f.pocket was h.1 f.room (k.0.1 was).0 (k.0.1 was).1 refl f.pocket refl h.0 refl refl tt refl (ap (λ v. Some (Value v)) (sym (k.1 was))))
+      pops _ f.hand f.pocket was h.1 f.room (k.0.1 was).0 (k.0.1 was).1 refl f.pocket refl h.0 refl refl tt refl (ap (λ v. Some (Value v)) (sym (k.1 was))) f.call (ap earned f.earned))
       (λ b. on _ (ap earned f.earned) refl (λ n. refl) refl marked tt)
   does l e r h f k = absurd (subst (IsRunBy (section_of l)) e r)
 

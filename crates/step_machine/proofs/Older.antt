@@ -1,6 +1,6 @@
 -- References that a word held once, where the word's count only rises: the one lemma that keeps them apart from what
 -- the word holds later.
-use Rattle.std.proofs.Common.{◌≡◌, ◌<◌, ◌⊎◌, inl, inr, sym, ap, ◌∙◌, arith}
+use Rattle.std.proofs.Common.{◌≡◌, ◌<◌, ◌⊎◌, inl, inr, ap, ◌∙◌, arith}
 use Rattle.counted_ref.specs.Ref.{Ref}
 
 -- a word's content becomes another one: it stays, or its count is higher

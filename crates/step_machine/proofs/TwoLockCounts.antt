@@ -1,9 +1,8 @@
 -- In the two-lock queue the counts of Tail and of each node's `next` stay 0.
-use Rattle.std.proofs.Common.{◌≡◌, ◌≢◌, ℕ, zero, suc, ◌+◌, ◌-◌, ◌<◌, Bool, true, false, nat_eq, nat_lt, if◌then◌else◌, List, [], ◌∷◌, length, replicate, get_or, set, Option, Some, None, IfSome, refl, sym, ap, ◌∙◌, subst, arith, ◌⊎◌, inl, inr}
-use Rattle.std.specs.Prelude.{slice_get}
+use Rattle.std.proofs.Common.{◌≡◌, ◌≢◌, ℕ, zero, suc, ◌+◌, ◌-◌, Bool, true, false, nat_eq, nat_lt, if◌then◌else◌, List, [], ◌∷◌, length, get_or, set, Option, Some, None, IfSome, refl, sym, ap, ◌∙◌, subst, arith, ◌⊎◌, inl, inr}
 use Rattle.std.specs.List.{All}
 use Rattle.std.proofs.lemmas.List.Elements.{All-set, All-replicate}
-use Rattle.counted_ref.specs.Ref.{Ref, ref, is_null, same_ref}
+use Rattle.counted_ref.specs.Ref.{Ref, is_null, same_ref}
 use Rattle.line_table.specs.declared.lines.Kind.{Kind}
 use Rattle.line_table.specs.declared.lines.Kind.TheVariants.{TwoLock, NonBlocking}
 use Rattle.line_table.specs.declared.lines.Line.{Line}
@@ -18,15 +17,15 @@ use Rattle.step_machine.specs.declared.actors.Actor.{Actor}
 use Rattle.step_machine.specs.declared.actors.Held.{Held}
 use Rattle.step_machine.specs.declared.actors.Node.{Node}
 use Rattle.step_machine.specs.declared.actors.Outcome.{Outcome}
-use Rattle.step_machine.specs.Memory.{blank, Shared, Found, found, performed, put, node_at, Tail, Next, Value_of, Content, content, word, Word, Fresh, Free, Head, Tail_lock, Head_lock}
-use Rattle.step_machine.specs.Lines.{action, outcome, goes, with_node, takes, freed, unlocked, sets_aside, lets_go, to_pocket, busy_or, gives_up}
-use Rattle.step_machine.specs.Machine.{World, idle, opening, actor_of, from_pocket, begun, rested, with_actor, entry_or, settled, stepped, IsSized, IsReached}
+use Rattle.step_machine.specs.Memory.{blank, Shared, found, performed, node_at}
+use Rattle.step_machine.specs.Lines.{action, outcome, goes, with_node, takes, freed, unlocked, lets_go, to_pocket, busy_or, gives_up}
+use Rattle.step_machine.specs.Machine.{World, opening, actor_of, from_pocket, begun, rested, with_actor, entry_or, settled, IsReached}
 use Rattle.step_machine.specs.Standing.{IsRunBy}
 use Rattle.step_machine.specs.TwoLock.{OfTwoLockWorlds, CountsNothing}
 use Rattle.step_machine.proofs.Reached.{some_of}
 use Rattle.step_machine.proofs.StampsKept.{actor_stands, actor_cases}
 use Rattle.step_machine.proofs.StampsMoves.{idle_got}
-use Rattle.step_machine.proofs.Reaching.{EachMoveKeeps, each_reached}
+use Rattle.step_machine.proofs.Reaching.{each_reached}
 use Rattle.step_machine.proofs.TwoLockSound.{nodes_at}
 
 -- the counts of Tail and of each `next` are 0

@@ -1,35 +1,32 @@
 -- The laws of the two-lock queue on places, Tail, counts and refusals.
-use Rattle.std.proofs.Common.{◌≡◌, ◌≢◌, ℕ, zero, suc, ◌+◌, ◌-◌, ◌≤◌, ◌<◌, Bool, true, false, nat_eq, nat_lt, if◌then◌else◌, List, [], ◌∷◌, length, get_or, set, Option, Some, None, IfSome, refl, sym, ap, ◌∙◌, subst, arith, ◌⊎◌, inl, inr}
-use Rattle.std.specs.Prelude.{slice_get, Contains}
-use Rattle.std.specs.List.{All}
-use Rattle.std.proofs.lemmas.Bool.{eqb-true, eqb-false, ne_eqb, ltb-false}
+use Rattle.std.proofs.Common.{◌≡◌, ◌≢◌, ℕ, zero, suc, ◌+◌, ◌-◌, ◌≤◌, ◌<◌, Bool, true, false, nat_eq, nat_lt, if◌then◌else◌, List, [], ◌∷◌, length, get_or, Option, Some, None, IfSome, refl, sym, ap, ◌∙◌, subst, arith, ◌⊎◌, inl, inr}
+use Rattle.std.specs.Prelude.{slice_get}
+use Rattle.std.proofs.lemmas.Bool.{eqb-true, ne_eqb, ltb-false}
 use Rattle.std.proofs.lemmas.Option.{slice_get-get_or}
-use Rattle.counted_ref.specs.Ref.{Ref, is_null, same_ref}
+use Rattle.counted_ref.specs.Ref.{is_null, same_ref}
 use Rattle.line_table.specs.declared.lines.Kind.{Kind}
 use Rattle.line_table.specs.declared.lines.Kind.TheVariants.{TwoLock}
 use Rattle.line_table.specs.declared.lines.Line.{Line}
 use Rattle.line_table.specs.declared.lines.Line.TheVariants.{N1, N2, N3, N4, N5, F1, F2, F3, E9, E13, E17, D10, D13, A1, A2, A3, A4, A5, A6, A7, B1, B2, B3, B4, B5, B6}
 use Rattle.line_table.specs.Sections.{section_of}
-use Rattle.history.specs.declared.refusals.Refusal.{Refusal}
-use Rattle.history.specs.declared.refusals.Refusal.TheVariants.{NoNode, WornOut}
-use Rattle.history.specs.declared.refusals.WornWord.TheVariants.{Head as OfHead}
+use Rattle.history.specs.declared.refusals.Refusal.TheVariants.{NoNode}
 use Rattle.history.specs.declared.operations.Reply.{Reply}
 use Rattle.history.specs.declared.operations.Reply.TheVariants.{Done, Value, Empty, Refused}
 use Rattle.step_machine.specs.declared.actors.Setup.{Setup}
 use Rattle.step_machine.specs.declared.actors.Actor.{Actor}
 use Rattle.step_machine.specs.declared.actors.Outcome.{Outcome}
-use Rattle.step_machine.specs.Memory.{Shared, node_at, found}
-use Rattle.step_machine.specs.Lines.{action, outcome, goes, with_node, takes, lets_go, freed, unlocked, sets_aside}
+use Rattle.step_machine.specs.Memory.{node_at, found}
+use Rattle.step_machine.specs.Lines.{action, outcome, goes, with_node, takes, lets_go, freed, unlocked}
 use Rattle.step_machine.specs.Machine.{World, idle, actor_of, IsReached}
 use Rattle.step_machine.specs.Range.{RegistersInRange, ActorInRange, WorldInRange}
 use Rattle.step_machine.specs.Standing.{IsRunBy}
-use Rattle.step_machine.specs.Places.{IsChain, one_if, times, IsQueued, IsFree, Places}
+use Rattle.step_machine.specs.Places.{times, Places}
 use Rattle.step_machine.specs.Chains.{last_node}
 use Rattle.step_machine.specs.TwoLock.{OfTwoLockWorlds, HasItsPlaces, KeepsQueueAndFreeApart, HasTailMoved, TailNamesTheLast, raised_at, RaisesBelowTheLimit, HasCause, HasCauseFor, RefusesWithCause}
 use Rattle.step_machine.proofs.Reached.{reached_in_range, actor_in_range}
 use Rattle.step_machine.proofs.StampsLists.{same_or_not}
 use Rattle.step_machine.proofs.Chains.{one_if_same, chain_same}
-use Rattle.step_machine.proofs.Counting.{used, used_within, used_above, used_most, elsewhere}
+use Rattle.step_machine.proofs.Counting.{used_within, used_above, used_most, elsewhere}
 use Rattle.step_machine.proofs.Effects.{Shape, null_times}
 use Rattle.step_machine.proofs.Fixed.{FixedAt, RoomAt, EarnedFreeing, EarnedUnlocking}
 use Rattle.step_machine.proofs.TwoLockKnows.{Owns, has_tail, KnowsAt, Unlocks}
@@ -52,7 +49,7 @@ pub have_their_places : OfTwoLockWorlds HasItsPlaces
 have_their_places w r e = let p : Plain w = reached_sound w r e in (p.queue, p.free, places w p)
 
 -- what a list contains stands in it
-contained : (n : ℕ) (ns : List ℕ) (k : ℕ) → k < length ns → get_or ns k n ≡ n → 1 ≤ times n ns
+pub contained : (n : ℕ) (ns : List ℕ) (k : ℕ) → k < length ns → get_or ns k n ≡ n → 1 ≤ times n ns
 contained n [] k low e = absurd (omega arith)
 contained n (x ∷ xs) zero low e = omega (arith, one_if_same n x (sym e))
 contained n (x ∷ xs) (suc k) low e = omega (arith, contained n xs k (omega arith) e)

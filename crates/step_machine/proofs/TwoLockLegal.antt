@@ -1,26 +1,21 @@
 -- The histories of the two-lock queue are legal: the laws on the replay of operations and on Head's count.
-use Rattle.std.proofs.Common.{◌≡◌, ◌≢◌, ℕ, ◌+◌, ◌≤◌, List, [], ◌∷◌, Option, Some, None, refl, sym, ap, ◌∙◌, subst, arith}
-use Rattle.std.specs.Prelude.{slice_get}
+use Rattle.std.proofs.Common.{◌≡◌, ℕ, ◌+◌, ◌≤◌, List, ◌∷◌, Some, refl, sym, ap, ◌∙◌, subst, arith}
 use Rattle.std.proofs.lemmas.Option.{none-some}
 use Rattle.line_table.specs.declared.lines.Kind.TheVariants.{TwoLock}
 use Rattle.line_table.specs.declared.lines.Line.{Line}
-use Rattle.history.specs.declared.operations.Op.{Op}
-use Rattle.history.specs.Queue.{empty}
-use Rattle.history.specs.History.{rising, replayed, IsLegal}
-use Rattle.step_machine.specs.declared.actors.Setup.{Setup}
+use Rattle.history.specs.History.{IsLegal}
 use Rattle.step_machine.specs.declared.actors.Actor.{Actor}
 use Rattle.step_machine.specs.declared.actors.Outcome.{Outcome}
 use Rattle.step_machine.specs.Memory.{Shared}
-use Rattle.step_machine.specs.Machine.{World, actor_of, opening, begun, rested, settled, with_actor, IsSized, IsReached}
-use Rattle.step_machine.specs.Places.{IsChain}
+use Rattle.step_machine.specs.Machine.{World, actor_of, begun, rested, settled, IsReached}
 use Rattle.step_machine.specs.Chains.{queue_values}
 use Rattle.step_machine.specs.Stamps.{makers}
 use Rattle.step_machine.specs.TwoLock.{OfTwoLockWorlds, ReplaysToItsValues, CountsValuesTaken}
 use Rattle.step_machine.proofs.StampsKept.{Knows, Kept, Does}
 use Rattle.step_machine.proofs.Chains.{chain_same}
 use Rattle.step_machine.proofs.Counting.{holds, elsewhere, elsewhere_one}
-use Rattle.step_machine.proofs.Fixed.{FixedAt, EarnedAt}
-use Rattle.step_machine.proofs.Booking.{Books, books, book}
+use Rattle.step_machine.proofs.Fixed.{FixedAt}
+use Rattle.step_machine.proofs.Booking.{Books, books}
 use Rattle.step_machine.proofs.Legal.{Accounted, WasEmpty, AfterStep, queue_of, after_step, empty_now}
 use Rattle.step_machine.proofs.LegalMoves.{calls_settled, kept_reached, accounted_with, book_begun, book_rested, begun_entry}
 use Rattle.step_machine.proofs.Promises.{legal_book, replays_promises, replayed_promises, taken_promises}
@@ -82,9 +77,10 @@ histories_are_legal w r e = legal_book w (reached_accounted w r e).fact.replays
 
 pub replay_to_the_values : OfTwoLockWorlds ReplaysToItsValues
 replay_to_the_values w r e queue chain =
-    let p : Proved Accounted WasEmpty w = reached_accounted w r e in
-    (replays_promises w p.fact.replays,
-    replayed_promises w ∙ p.fact.list ∙ ap (λ q. queue_of (queue_values w.shared q)) (chain_same w.shared.nodes p.queue queue w.shared.head.node p.sound.shape.queue_chain chain))
+    let p : Proved Accounted WasEmpty w = reached_accounted w r e in (
+      replays_promises w p.fact.replays,
+      replayed_promises w ∙ p.fact.list ∙ ap (λ q. queue_of (queue_values w.shared q)) (chain_same w.shared.nodes p.queue queue w.shared.head.node p.sound.shape.queue_chain chain),
+    )
 
 pub head_counts_values_taken : OfTwoLockWorlds CountsValuesTaken
 head_counts_values_taken w r e = (reached_accounted w r e).fact.counted ∙ taken_promises w

@@ -1,7 +1,6 @@
 -- Each step and each giving up of the two-lock queue: which effect it has, and what its actor knows then.
-use Rattle.std.proofs.Common.{◌≡◌, ◌≢◌, ℕ, ◌+◌, ◌-◌, ◌≤◌, ◌<◌, Bool, true, false, nat_eq, nat_lt, if◌then◌else◌, List, [], ◌∷◌, ◌++◌, length, Option, Some, None, IfSome, refl, sym, ap, ◌∙◌, subst, arith, ◌⊎◌, inl, inr}
+use Rattle.std.proofs.Common.{◌≡◌, ◌≢◌, ℕ, ◌+◌, ◌≤◌, Bool, true, false, nat_eq, nat_lt, if◌then◌else◌, List, [], ◌∷◌, ◌++◌, length, Option, Some, None, IfSome, refl, sym, ap, ◌∙◌, subst, arith, inl, inr}
 use Rattle.std.proofs.lemmas.Bool.{eqb-true}
-use Rattle.std.proofs.lemmas.Option.{same_Some}
 use Rattle.counted_ref.specs.Ref.{Ref, ref, is_null, same_ref}
 use Rattle.line_table.specs.declared.lines.Kind.{Kind}
 use Rattle.line_table.specs.declared.lines.Kind.TheVariants.{TwoLock, NonBlocking}
@@ -11,7 +10,6 @@ use Rattle.line_table.specs.Sections.{section_of}
 use Rattle.history.specs.declared.refusals.Refusal.{Refusal}
 use Rattle.history.specs.declared.refusals.Refusal.TheVariants.{NoNode, WornOut, Busy}
 use Rattle.history.specs.declared.refusals.WornWord.TheVariants.{Free as OfFree, Head as OfHead}
-use Rattle.history.specs.declared.operations.Op.TheVariants.{Deq}
 use Rattle.history.specs.declared.operations.Reply.{Reply}
 use Rattle.history.specs.declared.operations.Reply.TheVariants.{Done, Value, Empty, Refused}
 use Rattle.history.specs.History.{leaves}
@@ -19,20 +17,20 @@ use Rattle.step_machine.specs.declared.actors.Setup.{Setup}
 use Rattle.step_machine.specs.declared.actors.Actor.{Actor}
 use Rattle.step_machine.specs.declared.actors.Node.{Node}
 use Rattle.step_machine.specs.declared.actors.Outcome.{Outcome}
-use Rattle.step_machine.specs.Memory.{Shared, node_at, put, Fresh, Free, Head, Tail, Tail_lock, Head_lock, Next, Value_of, found, performed}
-use Rattle.step_machine.specs.Lines.{action, outcome, raised, goes, ends, worn, effect, sets_aside, takes, lets_go, to_pocket, with_node, freed, unlocked, busy_or, gives_up}
+use Rattle.step_machine.specs.Memory.{Shared, node_at, put, Fresh, Free, Head, Tail, Tail_lock, Head_lock, found, performed}
+use Rattle.step_machine.specs.Lines.{action, outcome, raised, goes, ends, sets_aside, takes, lets_go, to_pocket, with_node, freed, unlocked, busy_or, gives_up}
 use Rattle.step_machine.specs.Range.{SharedInRange, RegistersInRange}
 use Rattle.step_machine.specs.Standing.{HoldsNodes, IsRunBy}
-use Rattle.step_machine.specs.Places.{IsChain, one_if, in_hand, in_pocket}
+use Rattle.step_machine.specs.Places.{one_if, in_hand, in_pocket}
 use Rattle.step_machine.specs.Chains.{last_node}
 use Rattle.step_machine.specs.Promises.{earned, promised_reply}
-use Rattle.step_machine.proofs.Chains.{next_in, chain_none, chain_some, last_linked, second_leads}
-use Rattle.step_machine.proofs.Counting.{holds, holds_hand, holds_none, holds_own}
+use Rattle.step_machine.proofs.Chains.{next_in, chain_none, last_linked, second_leads}
+use Rattle.step_machine.proofs.Counting.{holds, holds_hand, holds_own}
 use Rattle.step_machine.proofs.Effects.{Shape, Turn, Took, written, next_keeps_value, turn_words, turn_aside, turn_claim, turn_take, turn_giveback, turn_node, turn_link, turn_pop, with_node as node_set}
-use Rattle.step_machine.proofs.Fixed.{FixedAt, EarnedFreeing, EarnedUnlocking, frees_after}
+use Rattle.step_machine.proofs.Fixed.{FixedAt, EarnedFreeing, EarnedUnlocking}
 use Rattle.step_machine.proofs.Older.{Rises}
 use Rattle.step_machine.proofs.Accounts.{KeepsReply, Account, quiet, refused, found_empty, pushed, popped, same_ref-true, raised_node, raised_count}
-use Rattle.step_machine.proofs.TwoLockKnows.{OwnsAt, Owns, has_tail, has_head, Ready, Unlocks, KnowsAt, LocksKept}
+use Rattle.step_machine.proofs.TwoLockKnows.{OwnsAt, Owns, has_tail, has_head, Unlocks, KnowsAt, LocksKept}
 
 -- the node that a step sets aside was in the actor's hand
 abbrev pub IsOwn : (fresh : ℕ) → Actor → Option ℕ → Type 0

@@ -1,13 +1,11 @@
 -- What holds of each world of the two-lock queue that is reached, and that each move keeps it. A further fact of a world
 -- and its queue's chain may be carried along: `Carries`.
-use Rattle.std.proofs.Common.{◌≡◌, ◌≢◌, ℕ, zero, suc, get_or, ◌+◌, ◌-◌, ◌≤◌, ◌<◌, Bool, true, false, nat_eq, if◌then◌else◌, List, [], ◌∷◌, length, replicate, Option, Some, None, IfSome, refl, sym, ap, ◌∙◌, subst, arith, ◌⊎◌, inl, inr}
+use Rattle.std.proofs.Common.{◌≡◌, ◌≢◌, ℕ, zero, suc, get_or, ◌+◌, ◌-◌, ◌≤◌, Bool, true, false, nat_eq, if◌then◌else◌, List, [], ◌∷◌, length, replicate, Option, Some, None, refl, sym, ap, ◌∙◌, subst, arith, ◌⊎◌, inl, inr}
 use Rattle.std.specs.Prelude.{slice_get}
-use Rattle.std.proofs.lemmas.Option.{none-some, same_Some}
-use Rattle.counted_ref.specs.Ref.{Ref}
 use Rattle.line_table.specs.declared.lines.Kind.{Kind}
 use Rattle.line_table.specs.declared.lines.Kind.TheVariants.{TwoLock, NonBlocking}
 use Rattle.line_table.specs.declared.lines.Line.{Line}
-use Rattle.line_table.specs.declared.lines.Line.TheVariants.{N1, F1, E2, A1, B1, D2}
+use Rattle.line_table.specs.declared.lines.Line.TheVariants.{F1, E2, A1}
 use Rattle.line_table.specs.Sections.{section_of}
 use Rattle.history.specs.declared.operations.Op.{Op}
 use Rattle.history.specs.declared.operations.Op.TheVariants.{Enq, Deq}
@@ -18,27 +16,25 @@ use Rattle.step_machine.specs.declared.actors.Outcome.{Outcome}
 use Rattle.step_machine.specs.Memory.{blank, Shared, node_at, found, performed}
 use Rattle.step_machine.specs.Lines.{action, outcome, gives_up}
 use Rattle.step_machine.specs.Machine.{World, idle, opening, actor_of, is_call, from_pocket, begun, rested, may_rest, with_actor, entry_or, settled, stepped, IsSized, IsReached}
-use Rattle.step_machine.specs.Range.{SharedInRange, WorldInRange, ActorInRange}
+use Rattle.step_machine.specs.Range.{WorldInRange, ActorInRange}
 use Rattle.step_machine.specs.Standing.{IsRunBy, HoldsNodes, Stands, ActorStands}
-use Rattle.step_machine.specs.Places.{IsChain, one_if, times, in_hand, in_pocket, held, set_aside}
+use Rattle.step_machine.specs.Places.{one_if, times, in_pocket, held, set_aside}
 use Rattle.step_machine.specs.Chains.{last_node}
 use Rattle.std.proofs.Math.ListN.{length-replicate}
 use Rattle.step_machine.proofs.StampsLines.{Turns, turned, given_turned}
 use Rattle.step_machine.proofs.StampsKept.{Does}
 use Rattle.step_machine.proofs.Reached.{some_of, reached_in_range, actor_in_range, actor_of-All}
-use Rattle.step_machine.proofs.Keeping.{Has}
-use Rattle.step_machine.proofs.Standing.{EndsHold}
 use Rattle.step_machine.proofs.Naming.{two_lock_stands}
 use Rattle.step_machine.proofs.StampsKept.{actor_stands, actor_cases}
 use Rattle.step_machine.proofs.StampsMoves.{idle_got}
 use Rattle.step_machine.proofs.Chains.{next_in, one_if_same, one_if_tells, chain_some, second_leads}
-use Rattle.step_machine.proofs.Counting.{holds, asides, elsewhere, elsewhere_settled, elsewhere_with, elsewhere_one, elsewhere_two, IsNew, holds_hand, holds_none, used, used_most, used_within, used_above, held_one}
-use Rattle.step_machine.proofs.Effects.{Shape, Turn, Writes, shape_turned, hand_kept, free_kept, queue_kept, value_kept}
-use Rattle.step_machine.proofs.Fixed.{FixedAt, Fixes, fixed, fixed_given, fixed_entry, fixed_begun, fixed_rested}
+use Rattle.step_machine.proofs.Counting.{holds, elsewhere, elsewhere_settled, elsewhere_with, elsewhere_one, elsewhere_two, IsNew, holds_hand, used, used_most, used_within, used_above, held_one}
+use Rattle.step_machine.proofs.Effects.{Shape, Writes, shape_turned, hand_kept, free_kept, queue_kept, value_kept}
+use Rattle.step_machine.proofs.Fixed.{FixedAt, Fixes, fixed, fixed_given, fixed_entry, fixed_begun}
 use Rattle.step_machine.proofs.Older.{Rises}
-use Rattle.step_machine.proofs.Reaching.{EachMoveKeeps, each_reached}
+use Rattle.step_machine.proofs.Reaching.{each_reached}
 use Rattle.step_machine.proofs.LegalMoves.{same_op, same_op_given}
-use Rattle.step_machine.proofs.TwoLockKnows.{OwnsAt, Owns, KnowsAt, NodesKept, LocksKept, locks_kept, knows_kept, knows_entry, knows_more}
+use Rattle.step_machine.proofs.TwoLockKnows.{OwnsAt, KnowsAt, NodesKept, LocksKept, locks_kept, knows_kept, knows_entry, knows_more}
 use Rattle.step_machine.proofs.TwoLockLines.{IsOwn, Found, Before, After, does, gives}
 
 -- what holds of an actor: what its registers have, what it knows, and which locks it has

@@ -14,3 +14,4 @@ pub mod Stamps
 pub mod Tables
 pub mod Standing
 pub mod Lag
+pub mod NonBlocking

@@ -14,7 +14,7 @@ use Rattle.history.specs.declared.operations.Reply.TheVariants.{Done, Value, Emp
 use Rattle.history.specs.Queue.{empty}
 use Rattle.history.specs.History.{rising, Replays, replayed}
 use Rattle.step_machine.specs.declared.actors.Actor.{Actor}
-use Rattle.step_machine.specs.Memory.{Shared, node_at, found}
+use Rattle.step_machine.specs.Memory.{node_at, found}
 use Rattle.step_machine.specs.Lines.{action, outcome}
 use Rattle.step_machine.specs.Machine.{World, actor_of, IsReached}
 use Rattle.step_machine.specs.Places.{IsChain, IsQueued, IsFree, Places}

@@ -1,6 +1,5 @@
 //! Laws of the machine, each the contract of a function that does nothing.
 ghost use Rattle.std.specs.Prelude.{◌≡◌, ◌<◌, ◌≤◌, Some};
-ghost use Rattle.line_table.specs.declared.lines.Kind.TheVariants.{TwoLock};
 ghost use Rattle.step_machine.specs.Memory.{Shared, Word, Content, Action, word};
 ghost use Rattle.step_machine.specs.Machine.{World, IsReached};
 ghost use Rattle.step_machine.specs.Words.{words_of, index, IsWord};
@@ -48,13 +47,12 @@ pub fn actors_stand_before_lines_of_their_queue()
     ensures { (w : World) → IsReached w → EachRunsItsQueue w }
 {}
 
-/// In a world of the two-lock queue that any moves lead to, the next access of each actor names a word of the
-/// table.
-pub fn accesses_name_words_two_lock()
-    ensures { (w : World) → IsReached w → w.setup.kind ≡ TwoLock → EachNamesAWord w }
+/// In a world that any moves lead to, the next access of each actor names a word of the table.
+pub fn accesses_name_words()
+    ensures { (w : World) → IsReached w → EachNamesAWord w }
 {}
 
 /// In such a world the next access of each actor is one atomic step on the place of its word.
-pub fn accesses_are_atomic_steps_two_lock()
-    ensures { (w : World) → IsReached w → w.setup.kind ≡ TwoLock → EachIsOneStep w }
+pub fn accesses_are_atomic_steps()
+    ensures { (w : World) → IsReached w → EachIsOneStep w }
 {}

@@ -5,6 +5,7 @@ mod actors;
 pub mod laws;
 mod memory;
 mod moving;
+pub mod non_blocking_laws;
 mod outcomes;
 mod settling;
 pub mod stamping;

@@ -1,0 +1,6 @@
+-- The lemma is the law.
+use Rattle.step_machine.proofs.NonBlockingLegal.{head_counts_values_taken}
+use Rattle.step_machine.proofs.non_blocking_laws.head_counts_the_values_taken.Goals as goal
+
+pub returns : goal.returns
+returns c = head_counts_values_taken

@@ -1,0 +1,57 @@
+//! Laws of the non-blocking queue, over all worlds that any moves lead to: any setup and number of actors in range, and
+//! any list of begins, steps, givings up and rests. Each is the contract of a function that does nothing.
+ghost use Rattle.history.specs.History.{IsLegal};
+ghost use Rattle.step_machine.specs.TwoLock.{HasItsPlaces, KeepsQueueAndFreeApart};
+ghost use Rattle.step_machine.specs.TwoLock.{RaisesBelowTheLimit, RefusesWithCause};
+ghost use Rattle.step_machine.specs.TwoLock.{ReplaysToItsValues, CountsValuesTaken};
+ghost use Rattle.step_machine.specs.NonBlocking.{OfNonBlockingWorlds, TailLagsByOne, TailIsNotBehindHead};
+ghost use Rattle.step_machine.specs.NonBlocking.{NeverFindsHeadWornOut, FindsItsOwnNextWornOut};
+ghost use Rattle.step_machine.specs.NonBlocking.{NeverRefusedForHead, TakesTheFront};
+
+/// Each node is in exactly one place: never used, in the queue, free, held by one actor, or set aside.
+pub fn each_node_is_in_one_place()
+    ensures places { OfNonBlockingWorlds HasItsPlaces }
+    ensures apart { OfNonBlockingWorlds KeepsQueueAndFreeApart }
+{}
+
+/// Tail names the last node of the queue or the one before it, and its count is Head's and one more for each node
+/// before it. So it is never behind Head.
+pub fn tail_lags_by_at_most_one()
+    ensures lags { OfNonBlockingWorlds TailLagsByOne }
+    ensures not_behind { OfNonBlockingWorlds TailIsNotBehindHead }
+{}
+
+/// A count is raised only below the limit.
+pub fn counts_are_raised_below_the_limit()
+    ensures { OfNonBlockingWorlds RaisesBelowTheLimit }
+{}
+
+/// A step refuses only where its cause is there: `NoNode` where all nodes are used and none is free, and `WornOut`
+/// where the word's count is at the limit. That word is never Head.
+pub fn refusals_have_their_cause()
+    ensures causes { OfNonBlockingWorlds RefusesWithCause }
+    ensures own_next { OfNonBlockingWorlds FindsItsOwnNextWornOut }
+    ensures never_head { OfNonBlockingWorlds NeverFindsHeadWornOut }
+    ensures in_history { OfNonBlockingWorlds NeverRefusedForHead }
+{}
+
+/// The value that a dequeue takes is the first one of the queue.
+pub fn values_are_taken_from_the_front()
+    ensures { OfNonBlockingWorlds TakesTheFront }
+{}
+
+/// Every history is legal: by rising place, from the empty queue, each operation gets the reply that it was told.
+pub fn histories_are_legal()
+    ensures { OfNonBlockingWorlds (λ w. IsLegal w.operations) }
+{}
+
+/// At every step the operations that took effect so far, with the replies that they were told or that their calls
+/// have earned, replay from the empty queue to the values in the chain from Head.
+pub fn operations_replay_to_the_values()
+    ensures { OfNonBlockingWorlds ReplaysToItsValues }
+{}
+
+/// Head's count is the number of values taken.
+pub fn head_counts_the_values_taken()
+    ensures { OfNonBlockingWorlds CountsValuesTaken }
+{}
