@@ -1,5 +1,5 @@
 -- The tests of an operation's shape, span and place against what they say in words.
-use Rattle.std.proofs.Common.{◌≡◌, ℕ, ◌<◌, ◌⊎◌, inl, inr, Bool, true, false, nat_le, ◌&&◌, Option, Some, None, is_some, IsSome, IsNone, IsSomeAnd, List, [], ◌∷◌, ◌++◌, map, refl, sym, ap, ◌∙◌, subst, arith}
+use Rattle.std.proofs.Common.{◌≡◌, ℕ, ◌<◌, ◌⊎◌, inl, inr, true, false, nat_le, ◌&&◌, Option, Some, None, is_some, IsSome, IsNone, IsSomeAnd, List, [], ◌∷◌, map, refl, sym, ap, subst, arith}
 use Rattle.std.specs.List.{Contains}
 use Rattle.std.proofs.lemmas.Bool.{leb-false, lt-leb, eq-eqb, eqb-true, and_cases, and_left, and_right, or_cases, or_left, or_right}
 use Rattle.std.proofs.lemmas.List.Elements.{Contains-append_left, Contains-append_right, Contains-push, Contains-push_cases, Contains-append_cases}

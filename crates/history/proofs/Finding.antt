@@ -2,12 +2,12 @@
 use Rattle.std.proofs.Common.{◌≡◌, ℕ, ◌+◌, Bool, true, false, not, ◌||◌, if◌then◌else◌, Option, Some, None, List, [], ◌∷◌, ◌++◌, length, refl, sym, ap, ◌∙◌, arith, add-zero}
 use Rattle.history.specs.declared.operations.Stamped.{Stamped}
 use Rattle.history.specs.declared.operations.Verdict.{Verdict}
-use Rattle.history.specs.declared.operations.Verdict.TheVariants.{Yes, No}
+use Rattle.history.specs.declared.operations.Verdict.TheVariants.{No}
 use Rattle.history.specs.declared.operations.Cause.{Cause}
 use Rattle.history.specs.declared.operations.Cause.TheVariants.{Shape, Span, Shared, Reply}
 use Rattle.history.specs.Queue.{empty}
 use Rattle.history.specs.History.{rising, is_shaped, lies_within, same_place, is_shared, fault_of, fault_or, first_fault, first_wrong, wrong_reply, fault_or_replies, verdict}
-use Rattle.history.specs.Faults.{StandsAt, FirstFaultIs}
+use Rattle.history.specs.Faults.{FirstFaultIs}
 use Rattle.history.proofs.Judging.{no_verdict, placement_from_no_fault}
 use Rattle.history.proofs.Judged.{no_fault_from_placement}
 

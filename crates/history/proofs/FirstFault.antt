@@ -1,5 +1,5 @@
 -- A no by shape, span or place, in words: of the first operation with such a fault, the first fault that it has.
-use Rattle.std.proofs.Common.{◌≡◌, ℕ, Bool, true, false, Option, Some, List, ◌↔◌, refl, sym, ap, ◌∙◌}
+use Rattle.std.proofs.Common.{◌≡◌, ℕ, Bool, true, false, Some, List, ◌↔◌, refl}
 use Rattle.std.proofs.lemmas.Bool.{true_from_ne_false, both_ways}
 use Rattle.history.specs.declared.operations.Stamped.{Stamped}
 use Rattle.history.specs.declared.operations.Verdict.TheVariants.{No}

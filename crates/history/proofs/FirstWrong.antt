@@ -3,12 +3,11 @@ use Rattle.std.proofs.Common.{◌≡◌, ◌≢◌, ℕ, ◌+◌, ◌⊎◌, inl
 use Rattle.std.specs.List.{AllByRecursion}
 use Rattle.std.proofs.lemmas.Bool.{false_from_ne_true, both_ways}
 use Rattle.history.specs.declared.operations.Stamped.{Stamped}
-use Rattle.history.specs.declared.operations.Verdict.TheVariants.{Yes, No}
+use Rattle.history.specs.declared.operations.Verdict.TheVariants.{No}
 use Rattle.history.specs.declared.operations.Cause.TheVariants.{Reply}
 use Rattle.history.specs.Queue.{Queue, empty}
-use Rattle.history.specs.History.{number_of, AreApart, Placement, inserted, rising, answer, Gets, Replays, replayed, same_place, gets, first_wrong, place_in, wrong_reply, fault_or_replies, verdict}
-use Rattle.history.specs.Faults.{StandsAt, FirstIsWrong}
-use Rattle.history.proofs.Rising.{rising-cons}
+use Rattle.history.specs.History.{number_of, AreApart, Placement, inserted, rising, answer, Replays, replayed, gets, first_wrong, place_in, wrong_reply, fault_or_replies, verdict}
+use Rattle.history.specs.Faults.{FirstIsWrong}
 use Rattle.history.proofs.Judging.{gets_right, placement_from_no_fault}
 use Rattle.history.proofs.Judged.{got, not_same, no_fault_from_placement}
 use Rattle.history.proofs.Faulty.{same_from}

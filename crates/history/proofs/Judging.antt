@@ -1,5 +1,5 @@
 -- A verdict of yes says that the operations are placed and legal.
-use Rattle.std.proofs.Common.{◌≡◌, ◌≢◌, ℕ, ◌+◌, Bool, true, false, not, ◌&&◌, ◌||◌, nat_le, nat_eq, if◌then◌else◌, Option, Some, None, IfSome, List, [], ◌∷◌, refl, ap}
+use Rattle.std.proofs.Common.{◌≡◌, ◌≢◌, ℕ, ◌+◌, Bool, true, false, not, ◌&&◌, nat_le, nat_eq, if◌then◌else◌, Option, Some, None, IfSome, List, [], ◌∷◌, refl, ap}
 use Rattle.std.proofs.lemmas.Bool.{leb-true, eqb-true, eqb-false, and_parts, or_parts}
 use Rattle.std.specs.List.{AllByRecursion}
 use Rattle.history.specs.declared.operations.Taken.{Taken}
@@ -7,7 +7,7 @@ use Rattle.history.specs.declared.operations.Reply.{Reply}
 use Rattle.history.specs.declared.operations.Reply.TheVariants.{Done, Value, Empty, Refused}
 use Rattle.history.specs.declared.operations.Stamped.{Stamped}
 use Rattle.history.specs.declared.operations.Verdict.{Verdict}
-use Rattle.history.specs.declared.operations.Verdict.TheVariants.{Yes, No}
+use Rattle.history.specs.declared.operations.Verdict.TheVariants.{Yes}
 use Rattle.history.specs.declared.operations.Cause.{Cause}
 use Rattle.history.specs.declared.operations.Cause.TheVariants.{Shape, Span, Shared}
 use Rattle.history.specs.Queue.{Queue, empty}

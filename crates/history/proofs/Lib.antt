@@ -8,3 +8,4 @@ pub mod Finding
 pub mod Faulty
 pub mod FirstFault
 pub mod FirstWrong
+pub mod Ordered

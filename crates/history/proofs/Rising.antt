@@ -1,6 +1,5 @@
 -- The operations by rising place: those of a list with one more at its front or at its end.
-use Rattle.std.proofs.Common.{◌≡◌, ◌≢◌, ℕ, ◌≤◌, ◌<◌, Bool, true, false, not, ◌||◌, nat_le, nat_eq, if◌then◌else◌, Option, None, Some, is_some, List, [], ◌∷◌, ◌++◌, refl, sym, ap, ◌∙◌, subst, arith}
-use Rattle.std.specs.List.{AllByRecursion}
+use Rattle.std.proofs.Common.{◌≡◌, ◌≢◌, ℕ, ◌≤◌, ◌<◌, Bool, true, false, not, nat_le, if◌then◌else◌, Option, None, Some, is_some, List, [], ◌∷◌, ◌++◌, refl, sym, ap, ◌∙◌, arith}
 use Rattle.std.proofs.lemmas.Bool.{leb-true, leb-false, eqb-false, le-leb, lt-leb, or_parts}
 use Rattle.history.specs.declared.operations.Stamped.{Stamped}
 use Rattle.history.specs.History.{number_of, inserted, rising, same_place, is_shared}

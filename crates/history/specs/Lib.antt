@@ -2,6 +2,7 @@ pub mod Queue
 pub mod History
 pub mod Checking
 pub mod Faults
+pub mod Order
 pub mod Devices
 pub mod Scripts
 pub mod Readers

@@ -1,8 +1,8 @@
 //! Whether a history is one of a first-in-first-out queue.
-ghost use Rattle.std.specs.Prelude.{◌≡◌, ◌≤◌, ◌<◌, ◌^◌, ◌+◌, [], None, length, OnOk, IfOk, IfErr};
+ghost use Rattle.std.specs.Prelude.{◌≡◌, [], None, IfOk, IfErr};
 ghost use Rattle.history.specs.Queue.{empty};
 ghost use Rattle.history.specs.History as rule;
-ghost use Rattle.history.specs.History.{verdict, is_shaped, lies_within};
+ghost use Rattle.history.specs.History.{verdict};
 ghost use Rattle.history.specs.Checking.{listed, Judges};
 
 use crate::operations::{Cause, Stamped, Verdict};
@@ -11,11 +11,15 @@ use crate::replaying::gets;
 use std::alloc::Global;
 use std::collections::{BTreeMap, VecDeque};
 
-/// Judges a history: the first operation of the list whose shape, span or place is wrong; else, by
-/// rising place, the first completed one whose reply a queue doesn't give; else yes.
+#[cfg(test)]
+mod tests;
+
+/// Judges a history: No by the first operation of the list whose shape, span or place is wrong; else
+/// No by the first completed one, by rising place, whose reply a queue doesn't give; else Yes.
 ///
-/// It takes memory for the operations that have a place, and time `n * log n` for `n` operations. It
-/// is refused by `Memory` alone.
+/// A No tells where the operation stands in the list, from 1. The call takes memory for the
+/// operations that have a place, and time `n * log n` for `n` operations; it doesn't wait. It is
+/// refused by `Memory` alone.
 pub fn check(alloc: Global, history: &[Stamped]) -> Result<Verdict, Refusal>
     ensures ok { IfOk result (λ answer. answer ≡ verdict history.now) }
     ensures only_memory { IfErr result (λ why. why ≡ Refusal.Memory) }
@@ -79,6 +83,7 @@ fn fault_of<'a>(
     }
 }
 
+// Whether last step, place and reply go together.
 fn is_shaped(operation: &Stamped) -> bool
     ensures { result ≡ rule.is_shaped operation.now.last operation.now.at operation.now.reply }
 {
@@ -88,6 +93,7 @@ fn is_shaped(operation: &Stamped) -> bool
     }
 }
 
+// Whether the last step isn't before the first one, and the place lies between them.
 fn lies_within(operation: &Stamped) -> bool
     ensures { result ≡ rule.lies_within operation.now.first operation.now.last operation.now.at }
 {

@@ -1,10 +1,13 @@
 //! Laws of the verdict on a history, each the contract of a function that does nothing.
-ghost use Rattle.std.specs.Prelude.{◌≡◌, ◌↔◌, ℕ, List};
+ghost use Rattle.std.specs.Prelude.{◌≡◌, ◌↔◌, ℕ, List, is_some};
+ghost use Rattle.std.specs.List.{filter};
+ghost use Rattle.std.specs.List.Sorted.{IsPermutation};
 ghost use Rattle.history.specs.declared.operations.Stamped.{Stamped};
 ghost use Rattle.history.specs.declared.operations.Verdict.TheVariants.{Yes, No};
 ghost use Rattle.history.specs.declared.operations.Cause.TheVariants.{Shape, Span, Shared, Reply};
-ghost use Rattle.history.specs.History.{Placement, IsLegal, verdict};
+ghost use Rattle.history.specs.History.{Placement, IsLegal, rising, verdict};
 ghost use Rattle.history.specs.Faults.{FirstIsMisshapen, FirstIsOutside, FirstIsShared, FirstIsWrong};
+ghost use Rattle.history.specs.Order.{Rises};
 
 /// A history is judged `Yes` exactly where it is well placed and legal.
 pub fn yes_is_placed_and_legal()
@@ -27,4 +30,11 @@ pub fn a_fault_is_the_first_of_the_list()
 pub fn a_wrong_reply_is_the_first_by_place()
     ensures { (ops : List Stamped) (place : ℕ)
         → (verdict ops ≡ No place Reply) ↔ FirstIsWrong ops place }
+{}
+
+/// The order in which operations are applied to a queue has exactly those that have a place, and no place is after
+/// that of a later one.
+pub fn the_order_is_by_rising_place()
+    ensures same { (ops : List Stamped) → IsPermutation (filter (λ o. is_some o.at) ops) (rising ops) }
+    ensures rises { (ops : List Stamped) → Rises (rising ops) }
 {}

@@ -27,9 +27,12 @@ pub(crate) fn gets(queue: &mut VecDeque<Taken>, operation: &Stamped) -> Result<b
     }
 }
 
+// What the queue gives an actor's call.
 fn given(queue: &mut VecDeque<Taken>, actor: u16, op: Op) -> Result<Reply, Refusal>
-    ensures reply { IfOk result (λ reply. reply ≡ (object.given actor op (queue_of queue.old.items)).reply) }
-    ensures after { OnOk result (queue_of queue.new.items ≡ (object.given actor op (queue_of queue.old.items)).after) }
+    ensures reply { IfOk result (λ reply.
+        reply ≡ (object.given actor op (queue_of queue.old.items)).reply) }
+    ensures after { OnOk result (queue_of queue.new.items
+        ≡ (object.given actor op (queue_of queue.old.items)).after) }
     ensures only_memory { IfErr result (λ why. why ≡ Refusal.Memory) }
 {
     match op {
@@ -44,6 +47,7 @@ fn given(queue: &mut VecDeque<Taken>, actor: u16, op: Op) -> Result<Reply, Refus
     }
 }
 
+// Whether a queue may answer this refusal.
 fn leaves(why: Refusal) -> bool
     ensures { result ≡ rule.leaves why }
 {

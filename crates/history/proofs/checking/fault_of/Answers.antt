@@ -1,4 +1,4 @@
-use Rattle.std.proofs.Common.{◌≡◌, true, None, Some, refl, sym, ◌∙◌}
+use Rattle.std.proofs.Common.{◌≡◌, true, sym, ◌∙◌}
 use Rattle.history.specs.History as rule
 use Rattle.history.proofs.Placing.{judges_unplaced, judges_new, judges_shared}
 use Rattle.history.proofs.checking.fault_of.Goals as goal
