@@ -2,6 +2,7 @@
 #![tactic(auto)]
 
 mod actors;
+pub mod histories;
 pub mod laws;
 mod memory;
 mod moving;

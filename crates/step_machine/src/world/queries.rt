@@ -1,6 +1,7 @@
 //! What can be asked of a world. No query takes memory but `history`.
 ghost use Rattle.std.specs.Prelude.{◌≡◌, ◌≤◌, ◌<◌, ◌^◌, IfOk, IfErr, IfSome, IsSome};
 ghost use Rattle.history.specs.declared.refusals.Refusal.TheVariants.{Memory};
+ghost use Rattle.history.specs.History.{Placement, IsLegal};
 ghost use Rattle.step_machine.specs.Memory.{Free, Head, Tail, Next, Value_of, content};
 ghost use Rattle.step_machine.specs.Machine.{actor_of, IsMade};
 
@@ -17,6 +18,8 @@ impl World {
     pub fn history(&self, alloc: Global) -> Result<Vec<Stamped>, Refusal>
         ensures ok { IfOk result (λ v. v.items ≡ self.now.operations) }
         ensures made { IsMade self.now }
+        ensures placed { IfOk result (λ v. Placement v.items) }
+        ensures legal { IfOk result (λ v. IsLegal v.items) }
         ensures refused { IfErr result (λ why. why ≡ Memory) }
     {
         match Vec::from_slice(alloc, self.operations.as_slice()) {

@@ -1,0 +1,20 @@
+//! Laws of all histories, of both queues at once. Each is the contract of a function that does nothing.
+ghost use Rattle.history.specs.History.{Placement, IsLegal};
+ghost use Rattle.step_machine.specs.TwoLock.{ReplaysToItsValues};
+ghost use Rattle.step_machine.specs.Histories.{OfEachHistory, OfEachWorld};
+
+/// Every history is placed and legal: of either queue, of any size, greatest count and number of actors in range, and
+/// after any list of begins, steps, givings up and rests, in any order and with any actor stopped anywhere.
+///
+/// So all completed operations and some unfinished ones, each placed at one step between its first and its last, are a
+/// run of one first-in-first-out list that gives every reply given.
+pub fn every_history_is_placed_and_legal()
+    ensures placed { OfEachHistory Placement }
+    ensures legal { OfEachHistory IsLegal }
+{}
+
+/// At every step the operations that took effect so far, with the replies that they were told or that their calls
+/// have earned, replay from the empty queue to the values in the chain from Head.
+pub fn operations_replay_to_the_values()
+    ensures { OfEachWorld ReplaysToItsValues }
+{}
