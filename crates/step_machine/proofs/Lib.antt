@@ -46,3 +46,4 @@ pub mod TwoLockLegal
 pub mod NonBlockingLaws
 pub mod NonBlockingLegal
 pub mod EachHistory
+pub mod PlaceOf

@@ -16,3 +16,4 @@ pub mod Standing
 pub mod Lag
 pub mod NonBlocking
 pub mod Histories
+pub mod Placing

@@ -8,6 +8,7 @@ mod memory;
 mod moving;
 pub mod non_blocking_laws;
 mod outcomes;
+mod places;
 mod settling;
 pub mod stamping;
 mod steps;
@@ -16,4 +17,5 @@ mod world;
 
 pub use actors::{Actor, Held, Move, Node, Outcome, Setup, Stepped};
 pub use moving::step_in;
+pub use places::Place;
 pub use world::World;

@@ -1,5 +1,5 @@
 //! The shared words in plain memory, and one access of one word.
-ghost use Rattle.std.specs.Prelude.{◌≡◌, ◌+◌, ◌-◌, ◌^◌, ◌<◌, ◌≤◌, ◌++◌, ◌∷◌, [], length, slice_set, vec_len, vec_capacity, Some, None, IfOk, IfSome, OnErr, OnOk};
+ghost use Rattle.std.specs.Prelude.{◌≡◌, ◌+◌, ◌-◌, ◌^◌, ◌<◌, ◌≤◌, ◌++◌, ◌∷◌, [], length, slice_set, slice_index_or, false, vec_len, vec_capacity, Some, None, IfOk, IfSome, OnErr, OnOk};
 ghost use Rattle.step_machine.specs.Memory.{Fresh, Free, Head, Tail, Tail_lock, Head_lock, Next, Value_of, content, store, exchange, clear, blank, nobody, node_at};
 ghost use Rattle.step_machine.specs.Machine.{first_words, aside_after};
 ghost use Rattle.step_machine.specs.Views.{first_memory, grown, accessed};
@@ -155,6 +155,16 @@ impl Memory {
         match self.nodes.get(node.saturating_sub(1) as usize) {
             Some(node) => *node,
             None => blank_node(),
+        }
+    }
+
+    /// Whether a node was set aside.
+    pub fn is_aside(&self, node: u32) -> bool
+        ensures { result ≡ slice_index_or self.now.aside (node - 1) false }
+    {
+        match self.aside.get(node.saturating_sub(1) as usize) {
+            Some(flag) => *flag,
+            None => false,
         }
     }
 

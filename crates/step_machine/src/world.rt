@@ -17,6 +17,7 @@ use line_table::{Kind, Line};
 use std::alloc::Global;
 use std::marker::Model;
 
+mod placing;
 mod queries;
 
 /// Both ends of a queue, its free list and the actors, in plain memory: the machine after some list of moves.

@@ -1,0 +1,55 @@
+-- What is found is the one place of the node, since a made world has its places.
+use Rattle.std.proofs.Common.{rules, ◌≡◌, ◌≤◌, sym, ap, ◌∙◌, subst, arith}
+use Rattle.step_machine.specs.declared.places.Place.{Place}
+use Rattle.step_machine.specs.declared.places.Place.TheVariants.{Untouched, Queue, Free, Held, SetAside}
+use Rattle.step_machine.specs.Places.{one_if, set_aside}
+use Rattle.step_machine.specs.Placing.{IsAt}
+use Rattle.step_machine.specs.Kept.{world}
+use Rattle.step_machine.proofs.PlaceOf.{only_place, queue_place, free_place}
+use Rattle.step_machine.proofs.world.World.place_of.Goals as goal
+
+pub returns-then-node-used-clause-nowhere_else : goal.returns-then-node-used-clause-nowhere_else
+returns-then-node-used-clause-nowhere_else c =
+    subst (λ w. (p : Place) → IsAt w c.args.node p → p ≡ Untouched) c.self.view_is
+    (only_place (world c.self.inside) c.self.invariant.made c.args.node c.requires.some Untouched (search rules))
+
+pub returns-then-is_aside-clause-nowhere_else : goal.returns-then-is_aside-clause-nowhere_else
+returns-then-is_aside-clause-nowhere_else c =
+    subst (λ w. (p : Place) → IsAt w c.args.node p → p ≡ SetAside) c.self.view_is
+    (only_place (world c.self.inside) c.self.invariant.made c.args.node c.requires.some SetAside (search rules))
+
+pub returns-then-is_held-clause-nowhere_else : goal.returns-then-is_held-clause-nowhere_else
+returns-then-is_held-clause-nowhere_else c =
+    subst (λ w. (p : Place) → IsAt w c.args.node p → p ≡ Held) c.self.view_is
+    (only_place (world c.self.inside) c.self.invariant.made c.args.node c.requires.some Held (search rules))
+
+queued : (c : goal.Then-is_in_chain) → IsAt (world c.self.inside) c.args.node Queue
+queued c =
+    queue_place (world c.self.inside) c.self.invariant.made c.args.node c.requires.some c.is_in_chain.result _ _
+    (c.node.ensures.value ∙ ap (λ r. r.node) c.head.ensures) c.fresh-used.ensures c.is_in_chain.ensures c.if-is_in_chain.true
+
+pub returns-then-is_in_chain-clause-there : goal.returns-then-is_in_chain-clause-there
+returns-then-is_in_chain-clause-there c = subst (λ w. IsAt w c.args.node Queue) c.self.view_is (queued c)
+
+pub returns-then-is_in_chain-clause-nowhere_else : goal.returns-then-is_in_chain-clause-nowhere_else
+returns-then-is_in_chain-clause-nowhere_else c =
+    subst (λ w. (p : Place) → IsAt w c.args.node p → p ≡ Queue) c.self.view_is
+    (only_place (world c.self.inside) c.self.invariant.made c.args.node c.requires.some Queue (queued c))
+
+freed : (c : goal.Else-is_in_chain) → IsAt (world c.self.inside) c.args.node Free
+freed c =
+    let used : c.fresh-used.result ≡ c.self.inside.memory.words.fresh = c.fresh-used.ensures in
+    let low : c.args.node ≤ c.self.inside.memory.words.fresh = omega (arith, c.if-node-used.false) in
+    let kept : set_aside c.args.node c.self.inside.memory.aside ≡ 0 =
+    ap one_if (sym c.is_aside.ensures ∙ c.if-is_aside.false) in
+    free_place (world c.self.inside) c.self.invariant.made c.args.node c.requires.some low c.is_in_chain.result _ _
+    (c.node.ensures.value ∙ ap (λ r. r.node) c.head.ensures) used c.is_in_chain.ensures c.if-is_in_chain.false
+    (c.is_held.ensures.1 c.if-is_held.false) kept
+
+pub returns-clause-there : goal.returns-clause-there
+returns-clause-there c = subst (λ w. IsAt w c.args.node Free) c.self.view_is (freed c)
+
+pub returns-clause-nowhere_else : goal.returns-clause-nowhere_else
+returns-clause-nowhere_else c =
+    subst (λ w. (p : Place) → IsAt w c.args.node p → p ≡ Free) c.self.view_is
+    (only_place (world c.self.inside) c.self.invariant.made c.args.node c.requires.some Free (freed c))

@@ -1,0 +1,24 @@
+-- What a query of a node's place says.
+use Rattle.std.specs.Prelude.{◌≡◌, ℕ, ◌≤◌, Bool, true, false, List, length}
+use Rattle.step_machine.specs.declared.actors.Node.{Node}
+use Rattle.step_machine.specs.declared.places.Place.{Place}
+use Rattle.step_machine.specs.declared.places.Place.TheVariants.{Untouched, Queue, Free, Held, SetAside}
+use Rattle.step_machine.specs.Machine.{World}
+use Rattle.step_machine.specs.Places.{IsChain, times, IsUntouched, IsQueued, IsFree, IsHeld, IsSetAside}
+
+-- a node is at a place
+abbrev pub IsAt : World → ℕ → Place → Type 0
+IsAt w n Untouched = IsUntouched w n
+IsAt w n Queue = IsQueued w n
+IsAt w n Free = IsFree w n
+IsAt w n Held = IsHeld w n
+IsAt w n SetAside = IsSetAside w n
+
+-- whether something is there is told by how often it is there
+abbrev pub Tells : Bool → ℕ → Type 0
+Tells is_there often = (is_there ≡ true → 1 ≤ often) × (is_there ≡ false → often ≡ 0)
+
+-- whether a node is in the chain that starts at another one is told, if that chain has no more nodes than these
+abbrev pub TellsOfChain : Bool → List Node → (from node most : ℕ) → Type 0
+TellsOfChain is_there nodes from node most =
+    (ns : List ℕ) → IsChain nodes from ns → length ns ≤ most → Tells is_there (times node ns)

@@ -1,0 +1,64 @@
+//! Where a node is, and how that is found out.
+ghost use Rattle.std.specs.Prelude.{◌≡◌, ◌+◌};
+ghost use Rattle.step_machine.specs.Places.{in_hand, in_pocket, held};
+ghost use Rattle.step_machine.specs.Placing.{Tells, TellsOfChain};
+
+use crate::actors::Actor;
+use crate::memory::Memory;
+
+/// Where a node is. It is in one place at a time.
+#[derive(Clone, Copy, Debug, PartialEq, Eq)]
+pub enum Place {
+    /// It was never used.
+    Untouched,
+    /// In the chain from Head. The first one there, the dummy, has no value of the queue.
+    Queue,
+    /// In the chain from Free.
+    Free,
+    /// In an actor's hand or pocket.
+    Held,
+    /// Never used again, since its count or that of Free is at the limit.
+    SetAside,
+}
+
+/// Whether a node is in the chain that starts at another one, among the first nodes there.
+pub fn is_in_chain(memory: &Memory, from: u32, node: u32, most: u32) -> bool
+    ensures { TellsOfChain result memory.now.words.nodes from node most }
+{
+    let mut at = from;
+    for _ in 0..most {
+        if at == 0 {
+            return false;
+        }
+        if at == node {
+            return true;
+        }
+        at = memory.next_of(at).node();
+    }
+    false
+}
+
+/// Whether an actor has a node in its hand or in its pocket.
+fn has(actor: &Actor, node: u32) -> bool
+    ensures { Tells result (in_hand node actor.now + in_pocket node actor.now.pocket) }
+{
+    if actor.holds && actor.node == node {
+        return true;
+    }
+    match actor.pocket {
+        Some(held) => held.node == node,
+        None => false,
+    }
+}
+
+/// Whether an actor has a node.
+pub fn is_held(actors: &Vec<Actor>, node: u32) -> bool
+    ensures { Tells result (held node actors.now.items) }
+{
+    for actor in actors {
+        if has(actor, node) {
+            return true;
+        }
+    }
+    false
+}
