@@ -47,3 +47,5 @@ pub mod NonBlockingLaws
 pub mod NonBlockingLegal
 pub mod EachHistory
 pub mod PlaceOf
+pub mod EffectLines
+pub mod EffectsKept
