@@ -1,10 +1,12 @@
 //! What a world is led through, and what is seen of it.
 mod answers;
+mod benches;
 mod expected;
 mod memory;
 mod moves;
 mod non_blocking;
 mod overlapping;
+mod places;
 mod refusals;
 mod trials;
 mod two_lock;

@@ -10,7 +10,7 @@ use std::test::Fail;
 #[test]
 fn no_moves(rt: HostRuntime) -> Result<(), Fail> {
     let trial = Trial::of(rt.alloc(), NON_BLOCKING, &[])?;
-    assert!(rt; trial.world.history(rt.alloc())?.is_empty());
+    trial.shows(&rt, rt.alloc(), &[])?;
     Ok(())
 }
 
@@ -18,10 +18,11 @@ fn no_moves(rt: HostRuntime) -> Result<(), Fail> {
 fn push(rt: HostRuntime) -> Result<(), Fail> {
     let events = [Begin(1, enq(5)), Steps(1, 10)];
     let mut trial = Trial::of(rt.alloc(), NON_BLOCKING, &events)?;
-    assert_eq!(rt;
-        trial.world.history(rt.alloc())?.as_slice(),
-        [complete(1, enq(5), (1, 10, 9), Reply::Done)].as_slice()
-    );
+    trial.shows(
+        &rt,
+        rt.alloc(),
+        &[complete(1, enq(5), (1, 10, 9), Reply::Done)],
+    )?;
     assert_eq!(rt; trial.world.tail(), CountedRef::new(2, 1));
     assert_eq!(rt; trial.next_of(1), Some(CountedRef::new(2, 1)));
     assert_eq!(rt; trial.world.fresh(), 2);
@@ -37,10 +38,7 @@ fn push_and_pop(rt: HostRuntime) -> Result<(), Fail> {
         complete(1, enq(5), (1, 10, 9), Reply::Done),
         complete(2, Deq, (11, 19, 16), value(1, 5)),
     ];
-    assert_eq!(rt;
-        trial.world.history(rt.alloc())?.as_slice(),
-        expected.as_slice()
-    );
+    trial.shows(&rt, rt.alloc(), &expected)?;
     assert_eq!(rt; trial.world.head(), CountedRef::new(2, 1));
     assert_eq!(rt; trial.world.free(), CountedRef::new(1, 1));
     assert_eq!(rt; trial.next_of(1), Some(CountedRef::new(0, 1)));
@@ -67,10 +65,7 @@ fn reuse(rt: HostRuntime) -> Result<(), Fail> {
         complete(2, Deq, (11, 19, 16), value(1, 5)),
         complete(1, enq(6), (20, 30, 29), Reply::Done),
     ];
-    assert_eq!(rt;
-        trial.world.history(rt.alloc())?.as_slice(),
-        expected.as_slice()
-    );
+    trial.shows(&rt, rt.alloc(), &expected)?;
     assert_eq!(rt; trial.next_of(2), Some(CountedRef::new(1, 1)));
     assert_eq!(rt; trial.world.tail(), CountedRef::new(1, 2));
     assert_eq!(rt; trial.world.fresh(), 2);
@@ -81,10 +76,7 @@ fn reuse(rt: HostRuntime) -> Result<(), Fail> {
 fn empty_queue(rt: HostRuntime) -> Result<(), Fail> {
     let trial = Trial::of(rt.alloc(), NON_BLOCKING, &[Begin(1, Deq), Steps(1, 4)])?;
     let expected = [complete(1, Deq, (1, 4, 3), Reply::Empty)];
-    assert_eq!(rt;
-        trial.world.history(rt.alloc())?.as_slice(),
-        expected.as_slice()
-    );
+    trial.shows(&rt, rt.alloc(), &expected)?;
     Ok(())
 }
 
@@ -112,9 +104,6 @@ fn no_node(rt: HostRuntime) -> Result<(), Fail> {
         complete(1, Deq, (13, 21, 18), value(1, 1)),
         complete(1, enq(2), (22, 32, 31), Reply::Done),
     ];
-    assert_eq!(rt;
-        trial.world.history(rt.alloc())?.as_slice(),
-        expected.as_slice()
-    );
+    trial.shows(&rt, rt.alloc(), &expected)?;
     Ok(())
 }

@@ -20,6 +20,7 @@ fn stale_reference(rt: HostRuntime) -> Result<(), Fail> {
     ];
     let mut trial = Trial::of(rt.alloc(), NON_BLOCKING, &events)?;
     assert_eq!(rt; trial.line(1), Some(Line::E9));
+    assert_eq!(rt; trial.play(Give(1)), Err(Refusal::NotHere));
     assert_eq!(rt; trial.next_of(1), Some(CountedRef::new(0, 1)));
     // The node is null in both references, so the exchange fails by the count alone.
     trial.play(Steps(1, 1))?;
@@ -30,10 +31,7 @@ fn stale_reference(rt: HostRuntime) -> Result<(), Fail> {
         complete(2, enq(8), (9, 18, 17), Reply::Done),
         complete(2, Deq, (19, 27, 24), value(2, 8)),
     ];
-    assert_eq!(rt;
-        trial.world.history(rt.alloc())?.as_slice(),
-        expected.as_slice()
-    );
+    trial.shows(&rt, rt.alloc(), &expected)?;
     assert_eq!(rt; trial.next_of(3), Some(CountedRef::new(2, 1)));
     assert_eq!(rt; trial.world.tail(), CountedRef::new(2, 2));
     Ok(())
@@ -43,18 +41,19 @@ fn stale_reference(rt: HostRuntime) -> Result<(), Fail> {
 fn lagging_tail(rt: HostRuntime) -> Result<(), Fail> {
     let events = [Begin(1, enq(5)), Steps(1, 9), Begin(2, Deq), Steps(2, 14)];
     let mut trial = Trial::of(rt.alloc(), NON_BLOCKING, &events)?;
-    let pop = complete(2, Deq, (10, 23, 20), value(1, 5));
-    assert_eq!(rt;
-        trial.world.history(rt.alloc())?.as_slice(),
-        [effective(1, enq(5), 1, 9), pop].as_slice()
-    );
+    let expected = [
+        effective(1, enq(5), 1, 9),
+        complete(2, Deq, (10, 23, 20), value(1, 5)),
+    ];
+    trial.shows(&rt, rt.alloc(), &expected)?;
     // The late swing of the tail is lost, and the push is done.
     assert_eq!(rt; trial.line(1), Some(Line::E17));
     trial.play(Steps(1, 1))?;
-    assert_eq!(rt;
-        trial.world.history(rt.alloc())?.as_slice(),
-        [complete(1, enq(5), (1, 24, 9), Reply::Done), pop].as_slice()
-    );
+    let expected = [
+        complete(1, enq(5), (1, 24, 9), Reply::Done),
+        complete(2, Deq, (10, 23, 20), value(1, 5)),
+    ];
+    trial.shows(&rt, rt.alloc(), &expected)?;
     Ok(())
 }
 
@@ -68,10 +67,7 @@ fn old_empty(rt: HostRuntime) -> Result<(), Fail> {
         complete(1, Deq, (1, 14, 3), Reply::Empty),
         complete(2, enq(9), (4, 13, 12), Reply::Done),
     ];
-    assert_eq!(rt;
-        trial.world.history(rt.alloc())?.as_slice(),
-        expected.as_slice()
-    );
+    trial.shows(&rt, rt.alloc(), &expected)?;
     Ok(())
 }
 
@@ -93,10 +89,7 @@ fn push_given_up(rt: HostRuntime) -> Result<(), Fail> {
         complete(2, enq(8), (9, 18, 17), Reply::Done),
         complete(1, Deq, (21, 32, 29), value(2, 8)),
     ];
-    assert_eq!(rt;
-        trial.world.history(rt.alloc())?.as_slice(),
-        expected.as_slice()
-    );
+    trial.shows(&rt, rt.alloc(), &expected)?;
     assert_eq!(rt; trial.world.free(), CountedRef::new(1, 2));
     assert_eq!(rt; trial.next_of(1), Some(CountedRef::new(2, 1)));
     assert_eq!(rt; trial.next_of(2), Some(CountedRef::new(0, 0)));
@@ -123,10 +116,7 @@ fn longest_push(rt: HostRuntime) -> Result<(), Fail> {
         complete(2, Deq, (14, 22, 19), value(2, 6)),
         complete(2, enq(8), (29, 43, 42), Reply::Done),
     ];
-    assert_eq!(rt;
-        trial.world.history(rt.alloc())?.as_slice(),
-        expected.as_slice()
-    );
+    trial.shows(&rt, rt.alloc(), &expected)?;
     assert_eq!(rt; trial.world.tail(), CountedRef::new(1, 3));
     assert_eq!(rt; trial.next_of(2), Some(CountedRef::new(1, 1)));
     Ok(())
@@ -150,10 +140,7 @@ fn longest_pop(rt: HostRuntime) -> Result<(), Fail> {
         effective(1, enq(8), 9, 17),
         complete(2, Deq, (20, 36, 33), value(1, 8)),
     ];
-    assert_eq!(rt;
-        trial.world.history(rt.alloc())?.as_slice(),
-        expected.as_slice()
-    );
+    trial.shows(&rt, rt.alloc(), &expected)?;
     assert_eq!(rt; trial.world.free(), CountedRef::new(1, 2));
     assert_eq!(rt; trial.world.head(), CountedRef::new(3, 1));
     Ok(())

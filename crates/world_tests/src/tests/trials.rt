@@ -3,10 +3,11 @@ ghost use Rattle.std.specs.Prelude.{◌≡◌, length};
 
 use super::moves::{begin, give, steps};
 use counted_ref::CountedRef;
-use history::{Op, Refusal, Taken};
+use history::{Op, Refusal, Stamped, Taken, Verdict, check};
 use line_table::{Kind, Line};
 use std::alloc::Global;
-use step_machine::{Held, World};
+use std::process::Abort;
+use step_machine::{Held, Place, World};
 
 /// What is done with a world: a call begins, an actor takes some steps, an actor gives up.
 #[derive(Clone, Copy, Debug, PartialEq, Eq)]
@@ -84,6 +85,19 @@ impl Trial {
         }
     }
 
+    /// Its history is this list, and is one of a queue by the verdict.
+    pub fn shows(
+        &self,
+        rt: &impl Abort,
+        alloc: Global,
+        expected: &[Stamped],
+    ) -> Result<(), Refusal> {
+        let history = self.world.history(alloc)?;
+        assert_eq!(rt; history.as_slice(), expected);
+        assert_eq!(rt; check(alloc, &history)?, Verdict::Yes);
+        Ok(())
+    }
+
     /// The line of an actor; none where it has no call or isn't there.
     pub fn line(&self, actor: u16) -> Option<Line> {
         if actor < 1 || actor > self.actors {
@@ -106,6 +120,14 @@ impl Trial {
             return None;
         }
         Some(self.world.next_of(node))
+    }
+
+    /// Where a node is; none where the node isn't there.
+    pub fn place_of(&self, node: u32) -> Option<Place> {
+        if node < 1 || node > self.nodes {
+            return None;
+        }
+        Some(self.world.place_of(node))
     }
 
     /// The value of a node; none where the node isn't there.

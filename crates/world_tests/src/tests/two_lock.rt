@@ -16,10 +16,7 @@ fn first_run(rt: HostRuntime) -> Result<(), Fail> {
         complete(1, enq(5), (1, 10, 8), Reply::Done),
         complete(2, Deq, (11, 19, 15), value(1, 5)),
     ];
-    assert_eq!(rt;
-        trial.world.history(rt.alloc())?.as_slice(),
-        expected.as_slice()
-    );
+    trial.shows(&rt, rt.alloc(), &expected)?;
     assert_eq!(rt; trial.world.head(), CountedRef::new(2, 1));
     assert_eq!(rt; trial.world.tail(), CountedRef::new(2, 0));
     assert_eq!(rt; trial.world.free(), CountedRef::new(1, 1));
@@ -58,10 +55,7 @@ fn locks_passed(rt: HostRuntime) -> Result<(), Fail> {
         complete(3, Deq, (13, 16, 15), Reply::Empty),
         complete(3, Deq, (19, 27, 23), value(1, 5)),
     ];
-    assert_eq!(rt;
-        trial.world.history(rt.alloc())?.as_slice(),
-        expected.as_slice()
-    );
+    trial.shows(&rt, rt.alloc(), &expected)?;
     Ok(())
 }
 
@@ -82,9 +76,6 @@ fn lock_holder_stopped(rt: HostRuntime) -> Result<(), Fail> {
         complete(2, enq(6), (7, 22, 22), Reply::Refused(Refusal::Busy)),
         complete(2, Deq, (23, 29, 28), Reply::Empty),
     ];
-    assert_eq!(rt;
-        trial.world.history(rt.alloc())?.as_slice(),
-        expected.as_slice()
-    );
+    trial.shows(&rt, rt.alloc(), &expected)?;
     Ok(())
 }

@@ -36,10 +36,7 @@ fn worn_free(rt: HostRuntime) -> Result<(), Fail> {
         complete(1, Deq, (11, 19, 16), value(1, 1)),
         complete(1, enq(2), (20, 21, 21), worn(WornWord::Free)),
     ];
-    assert_eq!(rt;
-        trial.world.history(rt.alloc())?.as_slice(),
-        expected.as_slice()
-    );
+    trial.shows(&rt, rt.alloc(), &expected)?;
     Ok(())
 }
 
@@ -56,10 +53,7 @@ fn swing_skipped(rt: HostRuntime) -> Result<(), Fail> {
         complete(1, enq(1), (1, 10, 9), Reply::Done),
         complete(1, enq(2), (11, 19, 19), Reply::Done),
     ];
-    assert_eq!(rt;
-        trial.world.history(rt.alloc())?.as_slice(),
-        expected.as_slice()
-    );
+    trial.shows(&rt, rt.alloc(), &expected)?;
     assert_eq!(rt; trial.world.tail(), CountedRef::new(2, 1));
     assert_eq!(rt; trial.next_of(2), Some(CountedRef::new(3, 1)));
     Ok(())
@@ -85,10 +79,7 @@ fn worn_tail(rt: HostRuntime) -> Result<(), Fail> {
         complete(1, enq(2), (11, 19, 19), Reply::Done),
         complete(1, enq(3), (20, 27, 27), worn(WornWord::Tail)),
     ];
-    assert_eq!(rt;
-        trial.world.history(rt.alloc())?.as_slice(),
-        expected.as_slice()
-    );
+    trial.shows(&rt, rt.alloc(), &expected)?;
     assert_eq!(rt; trial.pocket(1), Some(Held { node: 4, mark: 0 }));
     Ok(())
 }
@@ -107,10 +98,7 @@ fn value_kept(rt: HostRuntime) -> Result<(), Fail> {
         complete(1, enq(1), (1, 10, 9), Reply::Done),
         complete(1, Deq, (11, 17, 16), value(1, 1)),
     ];
-    assert_eq!(rt;
-        trial.world.history(rt.alloc())?.as_slice(),
-        expected.as_slice()
-    );
+    trial.shows(&rt, rt.alloc(), &expected)?;
     assert_eq!(rt; trial.pocket(1), Some(Held { node: 1, mark: 1 }));
     Ok(())
 }
@@ -132,10 +120,7 @@ fn worn_next(rt: HostRuntime) -> Result<(), Fail> {
         complete(1, Deq, (11, 17, 16), value(1, 1)),
         complete(1, enq(2), (18, 19, 19), worn(WornWord::Next)),
     ];
-    assert_eq!(rt;
-        trial.world.history(rt.alloc())?.as_slice(),
-        expected.as_slice()
-    );
+    trial.shows(&rt, rt.alloc(), &expected)?;
     // Node 1 is set aside: neither in the pocket nor free.
     assert_eq!(rt; trial.pocket(1), None);
     assert!(rt; trial.world.free().is_null());
@@ -167,10 +152,7 @@ fn worn_head(rt: HostRuntime) -> Result<(), Fail> {
         complete(1, Deq, (21, 29, 25), value(1, 1)),
         complete(1, Deq, (30, 34, 34), worn(WornWord::Head)),
     ];
-    assert_eq!(rt;
-        trial.world.history(rt.alloc())?.as_slice(),
-        expected.as_slice()
-    );
+    trial.shows(&rt, rt.alloc(), &expected)?;
     Ok(())
 }
 
@@ -204,9 +186,6 @@ fn worn_tail_pop(rt: HostRuntime) -> Result<(), Fail> {
         complete(1, enq(3), (38, 46, 46), Reply::Done),
         complete(1, Deq, (47, 50, 50), worn(WornWord::Tail)),
     ];
-    assert_eq!(rt;
-        trial.world.history(rt.alloc())?.as_slice(),
-        expected.as_slice()
-    );
+    trial.shows(&rt, rt.alloc(), &expected)?;
     Ok(())
 }
