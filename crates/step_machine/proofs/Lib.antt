@@ -45,3 +45,4 @@ pub mod Promises
 pub mod TwoLockLegal
 pub mod NonBlockingLaws
 pub mod NonBlockingLegal
+pub mod Alone

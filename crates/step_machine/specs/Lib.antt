@@ -15,3 +15,4 @@ pub mod Tables
 pub mod Standing
 pub mod Lag
 pub mod NonBlocking
+pub mod Solo

@@ -8,6 +8,7 @@ mod moving;
 pub mod non_blocking_laws;
 mod outcomes;
 mod settling;
+pub mod solo;
 pub mod stamping;
 mod steps;
 pub mod two_lock_laws;
