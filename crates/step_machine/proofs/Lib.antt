@@ -47,3 +47,4 @@ pub mod NonBlockingLaws
 pub mod NonBlockingLegal
 pub mod EachHistory
 pub mod PlaceOf
+pub mod Alone

@@ -17,3 +17,4 @@ pub mod Lag
 pub mod NonBlocking
 pub mod Histories
 pub mod Placing
+pub mod Solo
