@@ -48,3 +48,5 @@ pub mod NonBlockingLegal
 pub mod EachHistory
 pub mod PlaceOf
 pub mod Alone
+pub mod EffectLines
+pub mod EffectsKept

@@ -18,3 +18,4 @@ pub mod NonBlocking
 pub mod Histories
 pub mod Placing
 pub mod Solo
+pub mod TakingEffect

@@ -1,6 +1,8 @@
 //! Laws of all histories, of both queues at once. Each is the contract of a function that does nothing.
 ghost use Rattle.history.specs.History.{Placement, IsLegal};
 ghost use Rattle.step_machine.specs.TwoLock.{ReplaysToItsValues};
+ghost use Rattle.step_machine.specs.TakingEffect.{ArePlacedByEffect, HaveTheirEffect};
+ghost use Rattle.step_machine.specs.TakingEffect.{OfOperations, OfOperationsOfCalls};
 ghost use Rattle.step_machine.specs.Histories.{OfEachHistory, OfEachWorld};
 
 /// Every history is placed and legal: of either queue, of any size, greatest count and number of actors in range, and
@@ -11,6 +13,14 @@ ghost use Rattle.step_machine.specs.Histories.{OfEachHistory, OfEachWorld};
 pub fn every_history_is_placed_and_legal()
     ensures placed { OfEachHistory Placement }
     ensures legal { OfEachHistory IsLegal }
+{}
+
+/// Which operations have a place, and where. One that is done or got a value has it at the number of a step of its own
+/// actor that had an effect on the queue: a successful E9 or D13, or an A5 or B5. An unfinished one has such a place or
+/// none; after begins, steps and givings up it has one exactly if its actor took such a step since its first number.
+pub fn operations_are_placed_by_their_effects()
+    ensures places { OfOperations ArePlacedByEffect }
+    ensures effects { OfOperationsOfCalls HaveTheirEffect }
 {}
 
 /// At every step the operations that took effect so far, with the replies that they were told or that their calls

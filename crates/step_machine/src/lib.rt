@@ -2,6 +2,7 @@
 #![tactic(auto)]
 
 mod actors;
+mod benches;
 pub mod histories;
 pub mod laws;
 mod memory;
@@ -17,6 +18,7 @@ pub mod two_lock_laws;
 mod world;
 
 pub use actors::{Actor, Held, Move, Node, Outcome, Setup, Stepped};
+pub use benches::{Bench, on_bench};
 pub use moving::step_in;
 pub use places::Place;
 pub use world::World;

@@ -78,6 +78,14 @@ impl World {
         }
     }
 
+    /// Does nothing, and says that the world is one that its moves led to.
+    pub(crate) fn is_made(&self)
+        ensures { IsMade self.now }
+    {
+        // A body knows the type's invariant where it uses a field.
+        let _ = &self.setup;
+    }
+
     /// A world in which nothing happened yet: `nodes` is 2 to 16,777,214, the greatest count `limit` 1 to
     /// 1,099,511,627,775, and `actors` 1 to 65,535.
     ///

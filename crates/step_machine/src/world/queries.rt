@@ -4,6 +4,7 @@ ghost use Rattle.history.specs.declared.refusals.Refusal.TheVariants.{Memory};
 ghost use Rattle.history.specs.History.{Placement, IsLegal};
 ghost use Rattle.step_machine.specs.Memory.{Free, Head, Tail, Next, Value_of, content};
 ghost use Rattle.step_machine.specs.Machine.{actor_of, IsMade};
+ghost use Rattle.step_machine.specs.TakingEffect.{HavePlacesByItsEffects};
 
 use crate::actors::Held;
 use crate::settling::actor_at;
@@ -14,12 +15,16 @@ use line_table::Line;
 use std::alloc::Global;
 
 impl World {
-    /// The operations with at least one number, by rising first number. Refusal: `Memory`. Takes memory for the list.
+    /// The operations with at least one number, by rising first number: the world's history. It is placed and legal, and
+    /// an operation has a place where it is completed, or where its E9, D13, A5 or B5 has succeeded.
+    ///
+    /// Refusal: `Memory`. Takes memory for the list.
     pub fn history(&self, alloc: Global) -> Result<Vec<Stamped>, Refusal>
         ensures ok { IfOk result (λ v. v.items ≡ self.now.operations) }
         ensures made { IsMade self.now }
         ensures placed { IfOk result (λ v. Placement v.items) }
         ensures legal { IfOk result (λ v. IsLegal v.items) }
+        ensures effects { IfOk result (λ v. HavePlacesByItsEffects self.now v.items) }
         ensures refused { IfErr result (λ why. why ≡ Memory) }
     {
         match Vec::from_slice(alloc, self.operations.as_slice()) {

@@ -1,0 +1,23 @@
+//! A world behind a lock, which threads share.
+ghost use Rattle.std.specs.Sync.Mutex.{mutex_guard_value};
+ghost use Rattle.step_machine.specs.Machine.{IsMade, IsReached};
+
+use crate::world::World;
+use std::sync::{Mutex, MutexGuard, Wait};
+
+/// A world that threads share. Who wants to make a move locks it, and calls `step_in` on the world that the guard
+/// lends.
+pub type Bench = Mutex<World>;
+
+/// Locks a bench, and lends its world until the guard is dropped. Whatever other threads did before, the world is one
+/// that begins, steps and givings up led to, so every law of worlds holds of it.
+///
+/// Waits while another thread has the lock. Takes no memory.
+pub fn on_bench<'b, R: Wait>(rt: &R, bench: &'b Bench) -> MutexGuard<'b, World>
+    ensures made { IsMade (mutex_guard_value result) }
+    ensures reached { IsReached (mutex_guard_value result) }
+{
+    let world = bench.lock(rt);
+    world.is_made();
+    world
+}
