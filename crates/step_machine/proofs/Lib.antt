@@ -1,6 +1,7 @@
 pub mod Padding
 pub mod Seen
 pub mod Cases
+pub mod AtLines
 pub mod Growth
 pub mod Rooms
 pub mod Making
