@@ -1,0 +1,121 @@
+//! The text of a schedule.
+ghost use Rattle.std.specs.Prelude.{◌≡◌, ◌+◌, ◌≤◌, ◌++◌, length, codes, decimal, OnOk, IfErr, OnErr};
+ghost use Rattle.std.specs.Io.KnownBytes.{Appends};
+ghost use Rattle.history.specs.Blocks.{TakesBeginning, GivesUp};
+ghost use Rattle.history.specs.HistoryText.{call_text};
+ghost use Rattle.schedule_text.specs.Texts.{kind_name, header_text, event_words, event_text, schedule_text};
+
+use crate::schedules::{Event, Schedule};
+use history::{Block, LINE_ROOM, Line, Op, Refusal, Sink};
+use line_table::Kind;
+
+/// Writes the text of a schedule: six header lines, then a line for each event, in their order.
+///
+/// It takes no memory; whether it waits is up to the writer. It is refused by `Write` where a call of
+/// the writer fails or takes nothing; a beginning of the text is written then. `parse` takes the text
+/// back where each number is in its range.
+pub fn print<W: Sink>(schedule: &Schedule, writer: &mut W) -> Result<(), Refusal>
+    ensures ok { OnOk result (Appends (W.contents writer.old) (W.contents writer.new)
+        (schedule_text schedule.now)) }
+    ensures quiet { OnOk result (W.failures writer.new ≡ W.failures writer.old) }
+    ensures only_write { IfErr result (λ why. why ≡ Refusal.Write) }
+    ensures beginning { OnErr result (TakesBeginning (W.contents writer.old) (W.contents writer.new)
+        (schedule_text schedule.now)) }
+    ensures cause { OnErr result (GivesUp (W.failures writer.old) (W.failures writer.new)
+        (W.is_full writer.new)) }
+{
+    let mut block = Block::new();
+    block.put(writer, header_lines(schedule).as_slice())?;
+    for event in &schedule.events {
+        block.put(writer, event_line(*event).as_slice())?;
+    }
+    block.finish(writer)
+}
+
+#[tactic(auto, unfolding(crate::specs::Texts::header_text))]
+fn header_lines(schedule: &Schedule) -> Line
+    ensures { result ≡ header_text schedule.now }
+{
+    let mut lines = Line::new();
+    lines.push(b"msq schedule 1\nqueue ");
+    lines.push(name_of_kind(schedule.kind));
+    lines.push(b"\nnodes ");
+    lines.push_number(u64::from(schedule.nodes));
+    lines.push(b"\nlimit ");
+    lines.push_number(schedule.limit);
+    lines.push(b"\nactors ");
+    lines.push_number(u64::from(schedule.actors));
+    lines.push(b"\nevents ");
+    lines.push_number(schedule.events.len() as u64);
+    lines.push(b"\n");
+    lines
+}
+
+fn name_of_kind(kind: Kind) -> &'static [u8]
+    ensures text { result.now ≡ kind_name kind }
+    ensures short { length result.now ≤ 11 }
+{
+    match kind {
+        Kind::TwoLock => b"two-lock",
+        Kind::NonBlocking => b"nonblocking",
+    }
+}
+
+#[tactic(auto, unfolding(crate::specs::Texts::event_text))]
+fn event_line(event: Event) -> Line
+    ensures { result ≡ event_text event }
+{
+    let mut line = Line::new();
+    push_event(&mut line, event);
+    line.push(b"\n");
+    line
+}
+
+fn push_event(line: &mut Line, event: Event)
+    requires { length line.old + 60 ≤ LINE_ROOM }
+    ensures text { line.new ≡ line.old ++ event_words event }
+    ensures short { length line.new ≤ length line.old + 60 }
+{
+    match event {
+        Event::Begin(actor, op) => {
+            push_actor(line, b"begin ", actor);
+            push_call(line, op);
+        }
+        Event::Step(actor, at) => {
+            push_actor(line, b"step ", actor);
+            line.push(at.name().as_bytes());
+        }
+        Event::Steps(actor, count) => {
+            push_actor(line, b"steps ", actor);
+            line.push_number(u64::from(count));
+        }
+        Event::Give(actor) => {
+            line.push(b"give ");
+            line.push_number(u64::from(actor));
+        }
+    }
+}
+
+fn push_actor(line: &mut Line, words: &[u8], actor: u16)
+    requires { length line.old + length words.now + 21 ≤ LINE_ROOM }
+    ensures text { line.new ≡ line.old ++ words.now ++ decimal actor ++ codes " " }
+    ensures short { length line.new ≤ length line.old + length words.now + 21 }
+{
+    line.push(words);
+    line.push_number(u64::from(actor));
+    line.push(b" ");
+}
+
+fn push_call(line: &mut Line, op: Op)
+    requires { length line.old + 24 ≤ LINE_ROOM }
+    ensures text { line.new ≡ line.old ++ call_text op }
+    ensures short { length line.new ≤ length line.old + 24 }
+{
+    match op {
+        Op::Enq(body) => {
+            line.push(b"enq ");
+            line.push_number(body.number());
+        }
+        Op::Deq => line.push(b"deq"),
+    }
+}
