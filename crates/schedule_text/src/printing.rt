@@ -1,6 +1,7 @@
 //! The text of a schedule.
 ghost use Rattle.std.specs.Prelude.{◌≡◌, ◌+◌, ◌≤◌, ◌++◌, length, codes, decimal, OnOk, IfErr, OnErr};
 ghost use Rattle.std.specs.Io.KnownBytes.{Appends};
+ghost use Rattle.std.specs.List.{flat_map};
 ghost use Rattle.history.specs.Blocks.{TakesBeginning, GivesUp};
 ghost use Rattle.history.specs.HistoryText.{call_text};
 ghost use Rattle.schedule_text.specs.Texts.{kind_name, header_text, event_words, event_text, schedule_text};
@@ -24,9 +25,23 @@ pub fn print<W: Sink>(schedule: &Schedule, writer: &mut W) -> Result<(), Refusal
     ensures cause { OnErr result (GivesUp (W.failures writer.old) (W.failures writer.new)
         (W.is_full writer.new)) }
 {
+    print_lines(header_lines(schedule), &schedule.events, writer)
+}
+
+// Writes the header lines, and then a line for each event.
+fn print_lines<W: Sink>(header: Line, events: &[Event], writer: &mut W) -> Result<(), Refusal>
+    ensures ok { OnOk result (Appends (W.contents writer.old) (W.contents writer.new)
+        (header ++ flat_map event_text events.now)) }
+    ensures quiet { OnOk result (W.failures writer.new ≡ W.failures writer.old) }
+    ensures only_write { IfErr result (λ why. why ≡ Refusal.Write) }
+    ensures beginning { OnErr result (TakesBeginning (W.contents writer.old) (W.contents writer.new)
+        (header ++ flat_map event_text events.now)) }
+    ensures cause { OnErr result (GivesUp (W.failures writer.old) (W.failures writer.new)
+        (W.is_full writer.new)) }
+{
     let mut block = Block::new();
-    block.put(writer, header_lines(schedule).as_slice())?;
-    for event in &schedule.events {
+    block.put(writer, header.as_slice())?;
+    for event in events {
         block.put(writer, event_line(*event).as_slice())?;
     }
     block.finish(writer)
