@@ -1,12 +1,13 @@
--- The one text of each schedule, and the ranges of its numbers.
-use Rattle.std.specs.Prelude.{ℕ, ◌^◌, ◌<◌, ◌≤◌, List, ◌++◌, length, All, codes, decimal}
-use Rattle.std.specs.List.{flat_map}
-use Rattle.history.specs.HistoryText.{call_text}
+-- The one text of each schedule, the ranges of its numbers, and which lines are due in such a text.
+use Rattle.std.specs.Prelude.{◌≡◌, ℕ, ◌-◌, ◌^◌, ◌<◌, ◌≤◌, Bool, true, List, [], ◌∷◌, ◌++◌, length, map, All, codes, nat_lt}
 use Rattle.history.specs.declared.operations.Op.{Op}
 use Rattle.history.specs.declared.operations.Op.TheVariants.{Enq, Deq}
 use Rattle.line_table.specs.Names.{name_of}
 use Rattle.line_table.specs.declared.lines.Kind.{Kind}
 use Rattle.line_table.specs.declared.lines.Kind.TheVariants.{TwoLock, NonBlocking}
+use Rattle.text_lines.specs.Grammars.{Grammar, lines_of}
+use Rattle.text_lines.specs.Lines.{line, spaced}
+use Rattle.text_lines.specs.Numerals.{numeral, IsWithin}
 use Rattle.schedule_text.specs.declared.schedules.Event.{Event}
 use Rattle.schedule_text.specs.declared.schedules.Event.TheVariants.{Begin, Step, Steps, Give}
 use Rattle.schedule_text.specs.Schedules.{Schedule}
@@ -16,30 +17,45 @@ abbrev pub kind_name : Kind → List ℕ
 kind_name TwoLock = codes "two-lock"
 kind_name NonBlocking = codes "nonblocking"
 
+-- the words of a call
+abbrev pub call_words : Op → List (List ℕ)
+call_words (Enq body) = codes "enq" ∷ numeral body ∷ []
+call_words Deq = codes "deq" ∷ []
+
 -- the words of an event
-abbrev pub event_words : Event → List ℕ
-event_words (Begin actor op) = codes "begin " ++ decimal actor ++ codes " " ++ call_text op
-event_words (Step actor line) = codes "step " ++ decimal actor ++ codes " " ++ name_of line
-event_words (Steps actor count) = codes "steps " ++ decimal actor ++ codes " " ++ decimal count
-event_words (Give actor) = codes "give " ++ decimal actor
+abbrev pub event_words : Event → List (List ℕ)
+event_words (Begin actor op) = codes "begin" ∷ numeral actor ∷ call_words op
+event_words (Step actor line) = codes "step" ∷ numeral actor ∷ name_of line ∷ []
+event_words (Steps actor count) = codes "steps" ∷ numeral actor ∷ numeral count ∷ []
+event_words (Give actor) = codes "give" ∷ numeral actor ∷ []
 
--- the line of an event, with its line feed
-unfoldable pub event_text : Event → List ℕ
-event_text event = event_words event ++ codes "\n"
+-- a name and the words after it are those of an event
+abbrev pub SpellsEvent : List ℕ → List (List ℕ) → Event → Type 0
+SpellsEvent name words event = name ∷ words ≡ event_words event
 
--- the six lines before the events
-unfoldable pub header_text : Schedule → List ℕ
-header_text s =
-    codes "msq schedule 1\nqueue " ++ kind_name s.kind ++ codes "\nnodes " ++ decimal s.nodes ++ codes "\nlimit " ++ decimal s.limit
-    ++ codes "\nactors " ++ decimal s.actors ++ codes "\nevents " ++ decimal (length s.events) ++ codes "\n"
+-- what a line of a schedule says
+pub data Said : Type 0 where
+  version : Said
+  queue : Kind → Said
+  nodes : ℕ → Said
+  limit : ℕ → Said
+  actors : ℕ → Said
+  events : ℕ → Said
+  happens : Event → Said
 
--- the one text of a schedule
-abbrev pub schedule_text : Schedule → List ℕ
-schedule_text s = header_text s ++ flat_map event_text s.events
+-- the words of a line
+abbrev pub said_words : Said → List (List ℕ)
+said_words version = codes "msq" ∷ codes "schedule" ∷ codes "1" ∷ []
+said_words (queue kind) = codes "queue" ∷ kind_name kind ∷ []
+said_words (nodes count) = codes "nodes" ∷ numeral count ∷ []
+said_words (limit count) = codes "limit" ∷ numeral count ∷ []
+said_words (actors count) = codes "actors" ∷ numeral count ∷ []
+said_words (events count) = codes "events" ∷ numeral count ∷ []
+said_words (happens event) = event_words event
 
 -- an actor's number is from 1 to 65,535
 abbrev pub IsActor : ℕ → Type 0
-IsActor actor = (1 ≤ actor) × (actor ≤ 65535)
+IsActor actor = IsWithin 1 65535 actor
 
 -- the body of a push is below 2 ^ 48
 abbrev pub IsCallInRange : Op → Type 0
@@ -50,13 +66,99 @@ IsCallInRange Deq = Unit {0}
 abbrev pub IsEventInRange : Event → Type 0
 IsEventInRange (Begin actor op) = IsActor actor × IsCallInRange op
 IsEventInRange (Step actor line) = IsActor actor
-IsEventInRange (Steps actor count) = IsActor actor × (1 ≤ count) × (count ≤ 1000000)
+IsEventInRange (Steps actor count) = IsActor actor × IsWithin 1 1000000 count
 IsEventInRange (Give actor) = IsActor actor
+
+-- each number of a line is in its range
+abbrev pub IsSaidInRange : Said → Type 0
+IsSaidInRange version = Unit {0}
+IsSaidInRange (queue kind) = Unit {0}
+IsSaidInRange (nodes count) = IsWithin 2 16777214 count
+IsSaidInRange (limit count) = IsWithin 1 1099511627775 count
+IsSaidInRange (actors count) = IsWithin 1 65535 count
+IsSaidInRange (events count) = IsWithin 0 1000000 count
+IsSaidInRange (happens event) = IsEventInRange event
+
+-- which line is due: one of the six of the header, or an event with so many left
+pub data Due : Type 0 where
+  version_due : Due
+  queue_due : Due
+  nodes_due : Due
+  limit_due : Due
+  actors_due : Due
+  events_due : Due
+  events_left : ℕ → Due
+
+-- whether a further line is due
+abbrev pub is_due : Due → Bool
+is_due (events_left count) = nat_lt 0 count
+is_due version_due = true
+is_due queue_due = true
+is_due nodes_due = true
+is_due limit_due = true
+is_due actors_due = true
+is_due events_due = true
+
+-- the line that is due may say this
+abbrev pub MaySay : Due → Said → Type 0
+MaySay version_due version = Unit {0}
+MaySay queue_due (queue kind) = Unit {0}
+MaySay nodes_due (nodes count) = Unit {0}
+MaySay limit_due (limit count) = Unit {0}
+MaySay actors_due (actors count) = Unit {0}
+MaySay events_due (events count) = Unit {0}
+MaySay (events_left count) (happens event) = Unit {0}
+MaySay _ _ = ⊥
+
+-- how many events are due after the line with their number
+abbrev pub events_after : Said → ℕ
+events_after (events count) = count
+events_after _ = 0
+
+-- what is due after a line
+abbrev pub due_after : Due → Said → Due
+due_after version_due said = queue_due
+due_after queue_due said = nodes_due
+due_after nodes_due said = limit_due
+due_after limit_due said = actors_due
+due_after actors_due said = events_due
+due_after events_due said = events_left (events_after said)
+due_after (events_left count) said = events_left (count - 1)
+
+-- the lines of schedules
+abbrev pub schedule_lines : Grammar Due Said
+schedule_lines = record {
+  is_due = is_due;
+  may_say = MaySay;
+  in_range = λ due said. IsSaidInRange said;
+  words = λ said. spaced (said_words said);
+  after = due_after;
+}
+
+-- what the six lines before the events say
+abbrev pub header_by : Schedule → List Said
+header_by s = version ∷ queue s.kind ∷ nodes s.nodes ∷ limit s.limit ∷ actors s.actors ∷ events (length s.events) ∷ []
+
+-- what the lines of a schedule say
+abbrev pub said_by : Schedule → List Said
+said_by s = header_by s ++ map happens s.events
+
+-- the six lines before the events
+unfoldable pub header_text : Schedule → List ℕ
+header_text s = lines_of schedule_lines (header_by s)
+
+-- the line of an event
+unfoldable pub event_text : Event → List ℕ
+event_text event = line (spaced (event_words event))
+
+-- the one text of a schedule
+unfoldable pub schedule_text : Schedule → List ℕ
+schedule_text s = lines_of schedule_lines (said_by s)
 
 -- each number of a schedule is in its range
 pub record IsInRange (s : Schedule) : Type 0 where
-  pub nodes : (2 ≤ s.nodes) × (s.nodes ≤ 16777214)
-  pub limit : (1 ≤ s.limit) × (s.limit ≤ 1099511627775)
+  pub nodes : IsWithin 2 16777214 s.nodes
+  pub limit : IsWithin 1 1099511627775 s.limit
   pub actors : IsActor s.actors
   pub events : length s.events ≤ 1000000
   pub each : All IsEventInRange s.events

@@ -1,6 +1,7 @@
 //! Schedules of what the actors of a queue do, and their texts.
 #![tactic(auto)]
 
+mod events;
 mod printing;
 mod schedules;
 

@@ -1,10 +1,11 @@
 //! The text of a schedule.
-ghost use Rattle.std.specs.Prelude.{◌≡◌, ◌+◌, ◌≤◌, ◌++◌, length, codes, decimal, OnOk, IfErr, OnErr};
+ghost use Rattle.std.specs.Prelude.{◌≡◌, ◌+◌, ◌≤◌, ◌++◌, ◌∷◌, length, OnOk, IfErr, OnErr};
 ghost use Rattle.std.specs.Io.KnownBytes.{Appends};
 ghost use Rattle.std.specs.List.{flat_map};
 ghost use Rattle.history.specs.Blocks.{TakesBeginning, GivesUp};
-ghost use Rattle.history.specs.HistoryText.{call_text};
-ghost use Rattle.schedule_text.specs.Texts.{kind_name, header_text, event_words, event_text, schedule_text};
+ghost use Rattle.text_lines.specs.Lines.{spaced};
+ghost use Rattle.text_lines.specs.Numerals.{numeral};
+ghost use Rattle.schedule_text.specs.Texts.{kind_name, call_words, event_words, event_text, header_text, schedule_text};
 
 use crate::schedules::{Event, Schedule};
 use history::{Block, LINE_ROOM, Line, Op, Refusal, Sink};
@@ -55,13 +56,13 @@ fn header_lines(schedule: &Schedule) -> Line
     lines.push(b"msq schedule 1\nqueue ");
     lines.push(name_of_kind(schedule.kind));
     lines.push(b"\nnodes ");
-    lines.push_number(u64::from(schedule.nodes));
+    push_numeral(&mut lines, u64::from(schedule.nodes));
     lines.push(b"\nlimit ");
-    lines.push_number(schedule.limit);
+    push_numeral(&mut lines, schedule.limit);
     lines.push(b"\nactors ");
-    lines.push_number(u64::from(schedule.actors));
+    push_numeral(&mut lines, u64::from(schedule.actors));
     lines.push(b"\nevents ");
-    lines.push_number(schedule.events.len() as u64);
+    push_numeral(&mut lines, schedule.events.len() as u64);
     lines.push(b"\n");
     lines
 }
@@ -88,49 +89,56 @@ fn event_line(event: Event) -> Line
 
 fn push_event(line: &mut Line, event: Event)
     requires { length line.old + 60 ≤ LINE_ROOM }
-    ensures text { line.new ≡ line.old ++ event_words event }
+    ensures text { line.new ≡ line.old ++ spaced (event_words event) }
     ensures short { length line.new ≤ length line.old + 60 }
 {
     match event {
         Event::Begin(actor, op) => {
             push_actor(line, b"begin ", actor);
+            line.push(b" ");
             push_call(line, op);
         }
         Event::Step(actor, at) => {
             push_actor(line, b"step ", actor);
+            line.push(b" ");
             line.push(at.name().as_bytes());
         }
         Event::Steps(actor, count) => {
             push_actor(line, b"steps ", actor);
-            line.push_number(u64::from(count));
+            line.push(b" ");
+            push_numeral(line, u64::from(count));
         }
-        Event::Give(actor) => {
-            line.push(b"give ");
-            line.push_number(u64::from(actor));
-        }
+        Event::Give(actor) => push_actor(line, b"give ", actor),
     }
 }
 
 fn push_actor(line: &mut Line, words: &[u8], actor: u16)
-    requires { length line.old + length words.now + 21 ≤ LINE_ROOM }
-    ensures text { line.new ≡ line.old ++ words.now ++ decimal actor ++ codes " " }
-    ensures short { length line.new ≤ length line.old + length words.now + 21 }
+    requires { length line.old + length words.now + 20 ≤ LINE_ROOM }
+    ensures text { line.new ≡ line.old ++ words.now ++ numeral actor }
+    ensures short { length line.new ≤ length line.old + length words.now + 20 }
 {
     line.push(words);
-    line.push_number(u64::from(actor));
-    line.push(b" ");
+    push_numeral(line, u64::from(actor));
 }
 
 fn push_call(line: &mut Line, op: Op)
     requires { length line.old + 24 ≤ LINE_ROOM }
-    ensures text { line.new ≡ line.old ++ call_text op }
+    ensures text { line.new ≡ line.old ++ spaced (call_words op) }
     ensures short { length line.new ≤ length line.old + 24 }
 {
     match op {
         Op::Enq(body) => {
             line.push(b"enq ");
-            line.push_number(body.number());
+            push_numeral(line, body.number());
         }
         Op::Deq => line.push(b"deq"),
     }
+}
+
+fn push_numeral(line: &mut Line, number: u64)
+    requires { length line.old + 20 ≤ LINE_ROOM }
+    ensures digits { line.new ≡ line.old ++ numeral number }
+    ensures short { length line.new ≤ length line.old + 20 }
+{
+    line.push_number(number);
 }
