@@ -1,2 +1,5 @@
-mod Parts
 mod Absent
+mod Parts
+mod Spelling
+mod Refusing
+mod Joining

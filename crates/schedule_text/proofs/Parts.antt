@@ -1,5 +1,5 @@
 -- The text of a schedule, in two parts: the header, and the events.
-use Rattle.std.proofs.Common.{◌≡◌, List, [], ◌∷◌, ◌++◌, map, refl, sym, ap, ◌∙◌, append_assoc}
+use Rattle.std.proofs.Common.{◌≡◌, List, [], ◌∷◌, ◌++◌, map, refl, ap, ◌∙◌}
 use Rattle.std.specs.List.{flat_map}
 use Rattle.std.proofs.lemmas.List.Concat.{flat_map-append}
 use Rattle.text_lines.specs.Grammars.{lines_of}

@@ -1,2 +1,3 @@
 pub mod Schedules
 pub mod Texts
+pub mod Reading

@@ -10,6 +10,8 @@ use Rattle.text_lines.specs.Lines.{line, spaced}
 use Rattle.text_lines.specs.Numerals.{numeral, IsWithin}
 use Rattle.schedule_text.specs.declared.schedules.Event.{Event}
 use Rattle.schedule_text.specs.declared.schedules.Event.TheVariants.{Begin, Step, Steps, Give}
+use Rattle.schedule_text.specs.declared.fields.Field.{Field}
+use Rattle.schedule_text.specs.declared.fields.Field.TheVariants.{Nodes, Limit, Actors, Events}
 use Rattle.schedule_text.specs.Schedules.{Schedule}
 
 -- the name of a queue
@@ -33,24 +35,25 @@ event_words (Give actor) = codes "give" ∷ numeral actor ∷ []
 abbrev pub SpellsEvent : List ℕ → List (List ℕ) → Event → Type 0
 SpellsEvent name words event = name ∷ words ≡ event_words event
 
+-- the name of a number of the header
+abbrev pub field_name : Field → List ℕ
+field_name Nodes = codes "nodes"
+field_name Limit = codes "limit"
+field_name Actors = codes "actors"
+field_name Events = codes "events"
+
 -- what a line of a schedule says
 pub data Said : Type 0 where
   version : Said
   queue : Kind → Said
-  nodes : ℕ → Said
-  limit : ℕ → Said
-  actors : ℕ → Said
-  events : ℕ → Said
+  number : Field → ℕ → Said
   happens : Event → Said
 
 -- the words of a line
 abbrev pub said_words : Said → List (List ℕ)
 said_words version = codes "msq" ∷ codes "schedule" ∷ codes "1" ∷ []
 said_words (queue kind) = codes "queue" ∷ kind_name kind ∷ []
-said_words (nodes count) = codes "nodes" ∷ numeral count ∷ []
-said_words (limit count) = codes "limit" ∷ numeral count ∷ []
-said_words (actors count) = codes "actors" ∷ numeral count ∷ []
-said_words (events count) = codes "events" ∷ numeral count ∷ []
+said_words (number field value) = field_name field ∷ numeral value ∷ []
 said_words (happens event) = event_words event
 
 -- an actor's number is from 1 to 65,535
@@ -69,60 +72,66 @@ IsEventInRange (Step actor line) = IsActor actor
 IsEventInRange (Steps actor count) = IsActor actor × IsWithin 1 1000000 count
 IsEventInRange (Give actor) = IsActor actor
 
+-- the least value of a number of the header
+abbrev pub least : Field → ℕ
+least Nodes = 2
+least Limit = 1
+least Actors = 1
+least Events = 0
+
+-- its greatest value
+abbrev pub greatest : Field → ℕ
+greatest Nodes = 16777214
+greatest Limit = 1099511627775
+greatest Actors = 65535
+greatest Events = 1000000
+
 -- each number of a line is in its range
 abbrev pub IsSaidInRange : Said → Type 0
 IsSaidInRange version = Unit {0}
 IsSaidInRange (queue kind) = Unit {0}
-IsSaidInRange (nodes count) = IsWithin 2 16777214 count
-IsSaidInRange (limit count) = IsWithin 1 1099511627775 count
-IsSaidInRange (actors count) = IsWithin 1 65535 count
-IsSaidInRange (events count) = IsWithin 0 1000000 count
+IsSaidInRange (number field value) = IsWithin (least field) (greatest field) value
 IsSaidInRange (happens event) = IsEventInRange event
 
--- which line is due: one of the six of the header, or an event with so many left
+-- which line is due: the version, the queue, a number of the header, or an event where so many are left
 pub data Due : Type 0 where
   version_due : Due
   queue_due : Due
-  nodes_due : Due
-  limit_due : Due
-  actors_due : Due
-  events_due : Due
+  number_due : Field → Due
   events_left : ℕ → Due
 
 -- whether a further line is due
 abbrev pub is_due : Due → Bool
-is_due (events_left count) = nat_lt 0 count
 is_due version_due = true
 is_due queue_due = true
-is_due nodes_due = true
-is_due limit_due = true
-is_due actors_due = true
-is_due events_due = true
+is_due (number_due field) = true
+is_due (events_left count) = nat_lt 0 count
 
 -- the line that is due may say this
 abbrev pub MaySay : Due → Said → Type 0
 MaySay version_due version = Unit {0}
 MaySay queue_due (queue kind) = Unit {0}
-MaySay nodes_due (nodes count) = Unit {0}
-MaySay limit_due (limit count) = Unit {0}
-MaySay actors_due (actors count) = Unit {0}
-MaySay events_due (events count) = Unit {0}
+MaySay (number_due due) (number field value) = due ≡ field
 MaySay (events_left count) (happens event) = Unit {0}
 MaySay _ _ = ⊥
 
 -- how many events are due after the line with their number
 abbrev pub events_after : Said → ℕ
-events_after (events count) = count
+events_after (number field value) = value
 events_after _ = 0
+
+-- what is due after a number of the header
+abbrev pub due_after_number : Field → Said → Due
+due_after_number Nodes said = number_due Limit
+due_after_number Limit said = number_due Actors
+due_after_number Actors said = number_due Events
+due_after_number Events said = events_left (events_after said)
 
 -- what is due after a line
 abbrev pub due_after : Due → Said → Due
 due_after version_due said = queue_due
-due_after queue_due said = nodes_due
-due_after nodes_due said = limit_due
-due_after limit_due said = actors_due
-due_after actors_due said = events_due
-due_after events_due said = events_left (events_after said)
+due_after queue_due said = number_due Nodes
+due_after (number_due field) said = due_after_number field said
 due_after (events_left count) said = events_left (count - 1)
 
 -- the lines of schedules
@@ -137,7 +146,9 @@ schedule_lines = record {
 
 -- what the six lines before the events say
 abbrev pub header_by : Schedule → List Said
-header_by s = version ∷ queue s.kind ∷ nodes s.nodes ∷ limit s.limit ∷ actors s.actors ∷ events (length s.events) ∷ []
+header_by s =
+    version ∷ queue s.kind ∷ number Nodes s.nodes ∷ number Limit s.limit ∷ number Actors s.actors
+    ∷ number Events (length s.events) ∷ []
 
 -- what the lines of a schedule say
 abbrev pub said_by : Schedule → List Said

@@ -2,8 +2,11 @@
 #![tactic(auto)]
 
 mod events;
+mod fields;
+mod parsing;
 mod printing;
 mod schedules;
 
+pub use parsing::parse;
 pub use printing::print;
 pub use schedules::{Event, Schedule};
