@@ -6,6 +6,8 @@ mod fields;
 mod parsing;
 mod printing;
 mod schedules;
+#[cfg(test)]
+mod tests;
 
 pub use parsing::parse;
 pub use printing::print;
