@@ -21,7 +21,7 @@ pub use checking::check;
 pub use devices::{Sink, Source};
 pub use lines::{LINE_ROOM, Line};
 pub use operations::{Body, Cause, Entry, Op, Reply, Stamped, Taken, Verdict};
-pub use printing::print_history;
+pub use printing::{print_history, push_call, push_reply};
 pub use readers::{MOST_BYTES, ReaderSource};
 pub use refusals::{Refusal, TextCause, WornWord};
 pub use scripts::{Script, Trouble};
