@@ -9,4 +9,3 @@ pub mod Readers
 pub mod Writers
 pub mod Blocks
 pub mod HistoryText
-pub mod Causes

@@ -23,6 +23,7 @@ pub use lines::{LINE_ROOM, Line};
 pub use operations::{Body, Cause, Entry, Op, Reply, Stamped, Taken, Verdict};
 pub use printing::{print_history, push_call, push_reply};
 pub use readers::{MOST_BYTES, ReaderSource};
-pub use refusals::{Refusal, TextCause, WornWord};
+pub use refusals::{Refusal, WornWord};
 pub use scripts::{Script, Trouble};
+pub use text_lines::TextCause;
 pub use writers::WriterSink;
