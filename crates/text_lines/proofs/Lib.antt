@@ -2,3 +2,4 @@ pub mod Numerals
 pub mod Cuts
 pub mod Digits
 pub mod Faults
+pub mod Kept
