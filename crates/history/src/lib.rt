@@ -25,7 +25,7 @@ pub use devices::{Sink, Source};
 pub use lines::{LINE_ROOM, Line};
 pub use operations::{Body, Cause, Entry, Op, Reply, Stamped, Taken, Verdict};
 pub use parsing::parse_history;
-pub use printing::print_history;
+pub use printing::{print_history, push_call, push_reply};
 pub use readers::{MOST_BYTES, ReaderSource};
 pub use refusals::{Refusal, WornWord};
 pub use scripts::{Script, Trouble};
