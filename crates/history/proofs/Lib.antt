@@ -9,3 +9,7 @@ pub mod Faulty
 pub mod FirstFault
 pub mod FirstWrong
 pub mod Ordered
+mod Ink
+mod Said
+mod Texts
+mod Steps

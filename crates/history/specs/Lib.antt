@@ -9,4 +9,5 @@ pub mod Readers
 pub mod Writers
 pub mod Blocks
 pub mod HistoryText
-pub mod Causes
+pub mod HistoryLines
+pub mod HistoryReading

@@ -66,7 +66,8 @@ fn operation_line(operation: &Stamped) -> Line
     line
 }
 
-fn push_call(line: &mut Line, op: Op)
+/// Puts a call at the end of a line: `enq` and its body, or `deq`. It takes no memory.
+pub fn push_call(line: &mut Line, op: Op)
     requires { length line.old + 24 ≤ LINE_ROOM }
     ensures text { line.new ≡ line.old ++ call_text op }
     ensures short { length line.new ≤ length line.old + 24 }
@@ -91,7 +92,9 @@ fn push_step(line: &mut Line, step: Option<u64>)
     }
 }
 
-fn push_reply(line: &mut Line, reply: Option<Reply>)
+/// Puts a reply at the end of a line, or a dash where there is none: a value with its pusher and its
+/// body, a refusal with its number and a worn word's name. It takes no memory.
+pub fn push_reply(line: &mut Line, reply: Option<Reply>)
     requires { length line.old + 47 ≤ LINE_ROOM }
     ensures text { line.new ≡ line.old ++ reply_text reply }
     ensures short { length line.new ≤ length line.old + 47 }

@@ -1,6 +1,7 @@
 pub mod Padding
 pub mod Seen
 pub mod Cases
+pub mod AtLines
 pub mod Growth
 pub mod Rooms
 pub mod Making
@@ -47,5 +48,6 @@ pub mod NonBlockingLaws
 pub mod NonBlockingLegal
 pub mod EachHistory
 pub mod PlaceOf
+pub mod Alone
 pub mod EffectLines
 pub mod EffectsKept

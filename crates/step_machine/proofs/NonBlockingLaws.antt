@@ -47,10 +47,10 @@ use Rattle.step_machine.proofs.NonBlockingEffects.{Sound}
 use Rattle.step_machine.proofs.NonBlockingSound.{Knowing, SoundWorld, Proved, reached_sound}
 
 -- nothing more is carried along
-abbrev Plain : World → Type 0
+abbrev pub Plain : World → Type 0
 Plain w = Proved (λ w q. Unit {0}) (λ w k. Unit {0}) w
 
-abbrev Nothing : ℕ → Type 0
+abbrev pub Nothing : ℕ → Type 0
 Nothing k = Unit {0}
 
 places : (w : World) → (p : Plain w) → Places w (p.front ∷ p.rest) p.free
@@ -96,16 +96,16 @@ tail_is_not_behind w r e =
     go front rest (b ∷ bs) after chain count at = (omega arith, λ same. absurd (omega arith))
 
 -- what holds of an actor at a line, and of the words
-record AtLine (w : World) (me : ℕ) (a : Actor) (l : Line) : Type 0 where
-  plain : Plain w
-  range : WorldInRange w
-  registers : RegistersInRange w.setup w.shared.fresh (length w.actors) a
-  runs : IsRunBy (section_of l) NonBlocking
-  nodes : HoldsNodes l a
-  fixes : FixedAt w.setup.limit me a (Some l)
-  knows : KnowsAt Nothing w.setup.limit w.shared a (Some l)
+pub record AtLine (w : World) (me : ℕ) (a : Actor) (l : Line) : Type 0 where
+  pub plain : Plain w
+  pub range : WorldInRange w
+  pub registers : RegistersInRange w.setup w.shared.fresh (length w.actors) a
+  pub runs : IsRunBy (section_of l) NonBlocking
+  pub nodes : HoldsNodes l a
+  pub fixes : FixedAt w.setup.limit me a (Some l)
+  pub knows : KnowsAt Nothing w.setup.limit w.shared a (Some l)
 
-at_line : (w : World) → IsReached w → w.setup.kind ≡ NonBlocking → (me : ℕ) (a : Actor) (l : Line) → actor_of w me ≡ Some a → a.line ≡ Some l → AtLine w me a l
+pub at_line : (w : World) → IsReached w → w.setup.kind ≡ NonBlocking → (me : ℕ) (a : Actor) (l : Line) → actor_of w me ≡ Some a → a.line ≡ Some l → AtLine w me a l
 at_line w r e me a l is at =
     let p : Plain w = reached_sound w r e in
     let g : WorldInRange w = reached_in_range w r in

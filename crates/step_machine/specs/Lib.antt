@@ -17,4 +17,5 @@ pub mod Lag
 pub mod NonBlocking
 pub mod Histories
 pub mod Placing
+pub mod Solo
 pub mod TakingEffect

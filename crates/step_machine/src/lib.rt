@@ -11,6 +11,7 @@ pub mod non_blocking_laws;
 mod outcomes;
 mod places;
 mod settling;
+pub mod solo;
 pub mod stamping;
 mod steps;
 pub mod two_lock_laws;

@@ -5,6 +5,7 @@ ghost use Rattle.step_machine.specs.Memory.{Fresh, Free, Head, Tail, Next, Value
 ghost use Rattle.step_machine.specs.Machine.{opening, next, actor_of, IsSized, IsMade};
 ghost use Rattle.line_table.specs.declared.lines.Line.TheVariants.{N1};
 ghost use Rattle.step_machine.specs.Calls.{setup_of, NewRefused, BeginRefused, StepRefused, GiveRefused, stepped_at, step_told, giving_up, reply_of, line_of};
+ghost use Rattle.step_machine.specs.Solo.{EndsAlone};
 
 use crate::actors::{Actor, Held, Move, Setup, Stepped};
 use crate::memory::Memory;
@@ -132,10 +133,14 @@ impl World {
 
     /// Begins a call of the actor, 1 to 65,535. Takes no step number.
     ///
+    /// In the non-blocking queue, where no other move is made, the actor's steps then end an enqueue within 15 and a dequeue
+    /// within 17, while step numbers are left.
+    ///
     /// Refusals, in this order: `NoSuchActor`, `ActorBusy`, `Memory`. Makes room for the call's operation and, of an
     /// enqueue, for one node more, so that steps take no memory.
     pub fn begin(&mut self, actor: u16, op: Op) -> Result<(), Refusal>
         ensures ok { OnOk result (next self.old (Begin actor op) ≡ Some self.new) }
+        ensures alone { OnOk result (EndsAlone self.new actor op) }
         ensures err { OnErr result (self.new ≡ self.old) }
         ensures refused { IfErr result (BeginRefused self.old actor) }
     {

@@ -8,7 +8,8 @@ use Rattle.step_machine.specs.Range.{WorldInRange}
 use Rattle.step_machine.specs.Kept.{world}
 use Rattle.step_machine.proofs.Giving.{begin_move, begun_looks, same_world, none_of}
 use Rattle.step_machine.proofs.Rooms.{actor_got, begin_nodes, begin_entries, room_after_within}
-use Rattle.step_machine.proofs.Reached.{made_next, made_in_range}
+use Rattle.step_machine.proofs.Reached.{made_next, made_reached, made_in_range}
+use Rattle.step_machine.proofs.Alone.{ends_alone}
 use Rattle.step_machine.proofs.world.World.begin.Goals as goal
 
 no_call : (c : goal.After-put_actor) → c.in-Some.a.line ≡ None
@@ -61,3 +62,8 @@ invariant_of-self-2 c =
 
 pub returns-clause-ok : goal.returns-clause-ok
 returns-clause-ok c = ap (λ w. next w (Begin c.args.actor c.args.op)) (sym c.self.view_is) ∙ moves c
+
+pub returns-clause-alone : goal.returns-clause-alone
+returns-clause-alone c =
+    let w = world c.self.inside in
+    ends_alone w _ c.args.actor c.args.op (moves c) (made_reached _ (made_next w _ (Begin c.args.actor c.args.op) c.self.invariant.made (moves c)))

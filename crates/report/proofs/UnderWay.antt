@@ -1,0 +1,80 @@
+-- A text on its way to a sink, piece by piece.
+use Rattle.std.proofs.Common.{◌≡◌, ℕ, List, [], ◌++◌, Option, refl, sym, subst, ◌∙◌, append_assoc, append-nil}
+use Rattle.std.specs.Io.KnownBytes.{Appends}
+use Rattle.history.specs.Blocks.{Sends, TakesBeginning}
+use Rattle.history.proofs.Sending.{Sends-none, Sends-more, Sends-trans, Appends-Sends, TakesBeginning-longer, TakesBeginning-trans, TakesBeginning-held}
+
+-- of a whole text, a sink took a front, some is held back, and the rest is still to come
+pub record IsUnderWay (old new : Option (List ℕ)) (whole held rest : List ℕ) : Type 0 where
+  pub text : List ℕ
+  pub sends : Sends old new text held
+  pub all : text ++ rest ≡ whole
+
+-- at the start nothing was taken but what is held
+pub under_way_first : (a : Option (List ℕ)) (held rest : List ℕ) → IsUnderWay a a (held ++ rest) held rest
+under_way_first a held rest = record { text = held; sends = Sends-none a held; all = refl }
+
+-- one more piece was handed on
+pub under_way_more : (a b c : Option (List ℕ)) (whole held piece rest after : List ℕ) → IsUnderWay a b whole held (piece ++ rest) → Sends b c (held ++ piece) after → IsUnderWay a c whole after rest
+under_way_more a b c whole held piece rest after u s = record {
+  text = u.text ++ piece;
+  sends = Sends-trans a b c u.text held piece after u.sends s;
+  all = append_assoc u.text piece rest ∙ u.all;
+}
+
+-- the sink gave up within a piece
+pub under_way_stops : (a b c : Option (List ℕ)) (whole held piece rest : List ℕ) → IsUnderWay a b whole held (piece ++ rest) → TakesBeginning b c (held ++ piece) → TakesBeginning a c whole
+under_way_stops a b c whole held piece rest u t =
+    subst (TakesBeginning a c) (append_assoc u.text piece rest ∙ u.all)
+    (TakesBeginning-longer a c (u.text ++ piece) rest (TakesBeginning-trans a b c u.text held piece u.sends t))
+
+-- nothing is to come any more
+pub under_way_done : (a b : Option (List ℕ)) (whole held : List ℕ) → IsUnderWay a b whole held [] → Sends a b whole held
+under_way_done a b whole held u = subst (λ t. Sends a b t held) (sym (append-nil u.text) ∙ u.all) u.sends
+
+-- the sink took all that was held
+pub under_way_ends : (a b c : Option (List ℕ)) (whole held : List ℕ) → IsUnderWay a b whole held [] → Appends b c held → Appends a c whole
+under_way_ends a b c whole held u p =
+    Appends-Sends a c whole
+    (Sends-more a b c whole held held [] (under_way_done a b whole held u) p (sym (append-nil held)))
+
+-- the sink gave up within what was held
+pub under_way_stops_last : (a b c : Option (List ℕ)) (whole held : List ℕ) → IsUnderWay a b whole held [] → TakesBeginning b c held → TakesBeginning a c whole
+under_way_stops_last a b c whole held u t = TakesBeginning-held a b c whole held (under_way_done a b whole held u) t
+
+-- a text of three pieces, of which the first was handed on
+pieces_first : (a b : Option (List ℕ)) (x y z h : List ℕ) → Sends a b x h → IsUnderWay a b (x ++ y ++ z) h (y ++ z)
+pieces_first a b x y z h s =
+    subst (λ w. IsUnderWay a b w h (y ++ z)) (sym (append_assoc x y z))
+    (under_way_more a a b (x ++ (y ++ z)) [] x (y ++ z) h (under_way_first a [] (x ++ (y ++ z))) s)
+
+-- and the second
+pieces_second : (a b c : Option (List ℕ)) (x y z h i : List ℕ) → Sends a b x h → Sends b c (h ++ y) i → IsUnderWay a c (x ++ y ++ z) i (z ++ [])
+pieces_second a b c x y z h i s t =
+    subst (IsUnderWay a c (x ++ y ++ z) i) (sym (append-nil z))
+    (under_way_more a b c (x ++ y ++ z) h y z i (pieces_first a b x y z h s) t)
+
+pieces_third : (a b c d : Option (List ℕ)) (x y z h i j : List ℕ) → Sends a b x h → Sends b c (h ++ y) i → Sends c d (i ++ z) j → IsUnderWay a d (x ++ y ++ z) j []
+pieces_third a b c d x y z h i j s t u =
+    under_way_more a c d (x ++ y ++ z) i z [] j (pieces_second a b c x y z h i s t) u
+
+-- the sink gave up within the first of three pieces
+pub pieces_stop_at_first : (a b : Option (List ℕ)) (x y z : List ℕ) → TakesBeginning a b x → TakesBeginning a b (x ++ y ++ z)
+pieces_stop_at_first a b x y z t =
+    subst (TakesBeginning a b) (sym (append_assoc x y z)) (TakesBeginning-longer a b x (y ++ z) t)
+
+-- within the second
+pub pieces_stop_at_second : (a b c : Option (List ℕ)) (x y z h : List ℕ) → Sends a b x h → TakesBeginning b c (h ++ y) → TakesBeginning a c (x ++ y ++ z)
+pieces_stop_at_second a b c x y z h s t = under_way_stops a b c (x ++ y ++ z) h y z (pieces_first a b x y z h s) t
+
+-- within the third
+pub pieces_stop_at_third : (a b c d : Option (List ℕ)) (x y z h i : List ℕ) → Sends a b x h → Sends b c (h ++ y) i → TakesBeginning c d (i ++ z) → TakesBeginning a d (x ++ y ++ z)
+pieces_stop_at_third a b c d x y z h i s t u = under_way_stops a c d (x ++ y ++ z) i z [] (pieces_second a b c x y z h i s t) u
+
+-- the sink took all three pieces
+pub pieces_end : (a b c d e : Option (List ℕ)) (x y z h i j : List ℕ) → Sends a b x h → Sends b c (h ++ y) i → Sends c d (i ++ z) j → Appends d e j → Appends a e (x ++ y ++ z)
+pieces_end a b c d e x y z h i j s t u p = under_way_ends a d e (x ++ y ++ z) j (pieces_third a b c d x y z h i j s t u) p
+
+-- it gave up within what was held of them at the end
+pub pieces_stop_at_end : (a b c d e : Option (List ℕ)) (x y z h i j : List ℕ) → Sends a b x h → Sends b c (h ++ y) i → Sends c d (i ++ z) j → TakesBeginning d e j → TakesBeginning a e (x ++ y ++ z)
+pieces_stop_at_end a b c d e x y z h i j s t u v = under_way_stops_last a d e (x ++ y ++ z) j (pieces_third a b c d x y z h i j s t u) v

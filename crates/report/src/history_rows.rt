@@ -1,0 +1,35 @@
+//! The lines of a history table.
+ghost use Rattle.std.specs.Prelude.{◌≡◌, ◌≤◌, length};
+ghost use Rattle.report.specs.HistoryTable.{row_text, count_text};
+
+use crate::columns::{push_left, push_right};
+use crate::kinds::{Kind, name_of};
+use history::{Line, Stamped, push_call, push_reply};
+
+// The line of an operation with this place.
+#[tactic(auto, unfolding(crate::specs::HistoryTable::row_text))]
+pub(crate) fn row_line(at: u64, operation: &Stamped) -> Line
+    ensures { result ≡ row_text at operation.now }
+{
+    let mut line = Line::new();
+    push_right(&mut line, 10, at);
+    push_right(&mut line, 7, u64::from(operation.actor));
+    line.push(b" ");
+    push_call(&mut line, operation.op);
+    line.push(b" -> ");
+    push_reply(&mut line, operation.reply);
+    line.push(b"\n");
+    line
+}
+
+// The line of a kind with its number.
+#[tactic(auto, unfolding(crate::specs::HistoryTable::count_text))]
+pub(crate) fn count_line(kind: Kind, number: u64) -> Line
+    ensures { result ≡ count_text kind number }
+{
+    let mut line = Line::new();
+    push_left(&mut line, 10, name_of(kind));
+    push_right(&mut line, 8, number);
+    line.push(b"\n");
+    line
+}

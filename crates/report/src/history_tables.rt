@@ -1,0 +1,108 @@
+//! The table of a history.
+ghost use Rattle.std.specs.Prelude.{◌≡◌, ◌++◌, ◌⊎◌, OnOk, IfErr, OnErr, map};
+ghost use Rattle.std.specs.Io.KnownBytes.{Appends};
+ghost use Rattle.std.specs.List.{flat_map};
+ghost use Rattle.history.specs.Blocks.{Sends, TakesBeginning, GivesUp};
+ghost use Rattle.history.specs.Checking.{shown};
+ghost use Rattle.report.specs.HistoryTable.{row_text, count_text, table_text, history_table_text};
+
+use crate::counting::counts_of;
+use crate::history_rows::{count_line, row_line};
+use crate::kinds::Kind;
+use crate::sorting::by_place;
+use history::{Block, Refusal, Sink, Stamped};
+use indexmap::IndexMap;
+use std::alloc::Global;
+
+/// Writes the table of a history: `yes`, a line for each operation that has a place, by rising place,
+/// and a line for each kind of operation with how many there are of it.
+///
+/// Operations at one place come in the order of the list, kinds in the order in which each first
+/// occurs there; operations without a place count too. It takes memory for the operations that have a
+/// place, and time `n * log n` for `n` operations; whether it waits is up to the writer. It is refused
+/// by `Memory` before the first byte is written, and else by `Write` where a call of the writer fails
+/// or takes nothing; a beginning of the table is written then.
+pub fn history_table<W: Sink>(
+    alloc: Global,
+    history: &[Stamped],
+    writer: &mut W,
+) -> Result<(), Refusal>
+    ensures ok { OnOk result (Appends (W.contents writer.old) (W.contents writer.new)
+        (history_table_text history.now)) }
+    ensures quiet { OnOk result (W.failures writer.new ≡ W.failures writer.old) }
+    ensures only { IfErr result (λ why. (why ≡ Refusal.Memory) ⊎ (why ≡ Refusal.Write)) }
+    ensures unwritten { IfErr result (λ why. why ≡ Refusal.Memory → writer.new ≡ writer.old) }
+    ensures beginning { IfErr result (λ why. why ≡ Refusal.Write
+        → TakesBeginning (W.contents writer.old) (W.contents writer.new)
+        (history_table_text history.now)) }
+    ensures cause { IfErr result (λ why. why ≡ Refusal.Write
+        → GivesUp (W.failures writer.old) (W.failures writer.new) (W.is_full writer.new)) }
+{
+    let placed = by_place(alloc, history)?;
+    let counts = counts_of(alloc, history)?;
+    write_table(&placed, &counts, writer)
+}
+
+// Writes `yes`, the lines of the operations, and those of the counts.
+fn write_table<W: Sink>(
+    placed: &[(u64, &Stamped)],
+    counts: &IndexMap<Kind, u64>,
+    writer: &mut W,
+) -> Result<(), Refusal>
+    ensures ok { OnOk result (Appends (W.contents writer.old) (W.contents writer.new)
+        (table_text (map shown placed.now) counts.now.entries)) }
+    ensures quiet { OnOk result (W.failures writer.new ≡ W.failures writer.old) }
+    ensures only_write { IfErr result (λ why. why ≡ Refusal.Write) }
+    ensures beginning { OnErr result (TakesBeginning (W.contents writer.old) (W.contents writer.new)
+        (table_text (map shown placed.now) counts.now.entries)) }
+    ensures cause { OnErr result (GivesUp (W.failures writer.old) (W.failures writer.new)
+        (W.is_full writer.new)) }
+{
+    let mut block = Block::new();
+    block.put(writer, b"yes\n")?;
+    put_rows(&mut block, writer, placed)?;
+    put_counts(&mut block, writer, counts)?;
+    block.finish(writer)
+}
+
+// Puts the lines of operations.
+fn put_rows<W: Sink>(
+    block: &mut Block,
+    writer: &mut W,
+    placed: &[(u64, &Stamped)],
+) -> Result<(), Refusal>
+    ensures ok { OnOk result (Sends (W.contents writer.old) (W.contents writer.new)
+        (block.old ++ flat_map (λ e. row_text e.0 e.1) (map shown placed.now)) block.new) }
+    ensures quiet { OnOk result (W.failures writer.new ≡ W.failures writer.old) }
+    ensures only_write { IfErr result (λ why. why ≡ Refusal.Write) }
+    ensures beginning { OnErr result (TakesBeginning (W.contents writer.old) (W.contents writer.new)
+        (block.old ++ flat_map (λ e. row_text e.0 e.1) (map shown placed.now))) }
+    ensures cause { OnErr result (GivesUp (W.failures writer.old) (W.failures writer.new)
+        (W.is_full writer.new)) }
+{
+    for (at, operation) in placed {
+        block.put(writer, row_line(*at, *operation).as_slice())?;
+    }
+    Ok(())
+}
+
+// Puts the lines of the counts.
+fn put_counts<W: Sink>(
+    block: &mut Block,
+    writer: &mut W,
+    counts: &IndexMap<Kind, u64>,
+) -> Result<(), Refusal>
+    ensures ok { OnOk result (Sends (W.contents writer.old) (W.contents writer.new)
+        (block.old ++ flat_map (λ e. count_text e.0 e.1) counts.now.entries) block.new) }
+    ensures quiet { OnOk result (W.failures writer.new ≡ W.failures writer.old) }
+    ensures only_write { IfErr result (λ why. why ≡ Refusal.Write) }
+    ensures beginning { OnErr result (TakesBeginning (W.contents writer.old) (W.contents writer.new)
+        (block.old ++ flat_map (λ e. count_text e.0 e.1) counts.now.entries)) }
+    ensures cause { OnErr result (GivesUp (W.failures writer.old) (W.failures writer.new)
+        (W.is_full writer.new)) }
+{
+    for (kind, number) in counts {
+        block.put(writer, count_line(*kind, *number).as_slice())?;
+    }
+    Ok(())
+}

@@ -1,0 +1,5 @@
+mod Absent
+mod Parts
+mod Spelling
+mod Refusing
+mod Joining

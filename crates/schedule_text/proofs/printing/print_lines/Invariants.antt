@@ -1,0 +1,12 @@
+use Rattle.std.proofs.Common.{◌≡◌, ◌++◌, take}
+use Rattle.std.specs.List.{flat_map}
+use Rattle.history.specs.Blocks.{Sends}
+use Rattle.schedule_text.specs.Texts.{event_text}
+use Rattle.schedule_text.proofs.printing.print_lines.Given as goal
+
+abbrev pub invariant-loop-event : goal.invariant-loop-event
+invariant-loop-event g l = record {
+  sends : Sends (g.W.Sink.contents l.fn.writer) (g.W.Sink.contents l.writer)
+      (l.fn.header ++ flat_map event_text (take l.event-index l.events)) l.block;
+  quiet : g.W.Sink.failures l.writer ≡ g.W.Sink.failures l.fn.writer;
+}

@@ -1,0 +1,47 @@
+-- What the reader of schedules reads, and what it may be refused.
+use Rattle.std.specs.Prelude.{◌≡◌, ℕ, ◌+◌, ◌≤◌, List, [], ◌∷◌, ◌++◌}
+use Rattle.history.specs.declared.refusals.Refusal.{Refusal}
+use Rattle.history.specs.declared.refusals.Refusal.TheVariants.{Memory, Text}
+use Rattle.text_lines.specs.Grammars.{IsFirstFault}
+use Rattle.text_lines.specs.Lines.{line, spaced}
+use Rattle.text_lines.specs.Numerals.{IsWithin}
+use Rattle.schedule_text.specs.declared.fields.Field.TheVariants.{Nodes, Limit, Actors, Events}
+use Rattle.schedule_text.specs.declared.parsing.Header.{Header}
+use Rattle.schedule_text.specs.declared.schedules.Event.{Event}
+use Rattle.schedule_text.specs.Texts.{Said, version, queue, number, happens, Due, version_due, events_left, said_words, IsActor, IsSaidInRange, MaySay, schedule_lines}
+
+-- the line at the front of a text is due, and says this in range
+pub record IsFront (due : Due) (said : Said) (text rest : List ℕ) : Type 0 where
+  pub may : MaySay due said
+  pub range : IsSaidInRange said
+  pub spelled : text ≡ line (spaced (said_words said)) ++ rest
+
+-- one event is added to a list, and its line is the front of a text
+pub record AddsEvent (old new : List Event) (text rest : List ℕ) : Type 0 where
+  pub event : Event
+  pub added : new ≡ old ++ event ∷ []
+  pub front : (left : ℕ) → IsFront (events_left left) (happens event) text rest
+
+-- what the lines of a header say
+abbrev pub said_in : Header → List Said
+said_in h =
+    version ∷ queue h.kind ∷ number Nodes h.nodes ∷ number Limit h.limit ∷ number Actors h.actors ∷ number Events h.events ∷ []
+
+-- each number of a header is in its range
+pub record IsHeaderInRange (h : Header) : Type 0 where
+  pub nodes : IsWithin 2 16777214 h.nodes
+  pub limit : IsWithin 1 1099511627775 h.limit
+  pub actors : IsActor h.actors
+  pub events : h.events ≤ 1000000
+
+-- after so many lines the reading of the rest is refused: memory is, or the first faulty line is told by its number
+abbrev pub IsRefusedAfter : (before : ℕ) → Due → List ℕ → Refusal → Type 0
+IsRefusedAfter before due rest Memory = Unit {0}
+IsRefusedAfter before due rest (Text at cause) = (n : ℕ) × (at ≡ before + n) × IsFirstFault schedule_lines due rest n cause
+IsRefusedAfter before due rest _ = ⊥
+
+-- a text is refused: memory is, or it is no schedule's text, and the first faulty line is told
+abbrev pub IsRefusedText : List ℕ → Refusal → Type 0
+IsRefusedText text Memory = Unit {0}
+IsRefusedText text (Text at cause) = IsFirstFault schedule_lines version_due text at cause
+IsRefusedText text _ = ⊥

@@ -1,0 +1,27 @@
+-- Schedules, and the moves that their events are.
+use Rattle.std.specs.Prelude.{ℕ, List, [], ◌∷◌, replicate}
+use Rattle.std.specs.List.{flat_map}
+use Rattle.line_table.specs.declared.lines.Kind.{Kind}
+use Rattle.step_machine.specs.declared.actors.Move.{Move}
+use Rattle.step_machine.specs.declared.actors.Move.TheVariants.{Begin as BeginsCall, Step as TakesStep, Give as GivesUp}
+use Rattle.schedule_text.specs.declared.schedules.Event.{Event}
+use Rattle.schedule_text.specs.declared.schedules.Event.TheVariants.{Begin, Step, Steps, Give}
+
+-- a schedule: the queue and its sizes, the number of actors, and the events in their order
+pub record Schedule : Type 0 where
+  pub kind : Kind
+  pub nodes : ℕ
+  pub limit : ℕ
+  pub actors : ℕ
+  pub events : List Event
+
+-- the moves of an event; a step that names its line is one step
+abbrev pub moves_of_event : Event → List Move
+moves_of_event (Begin actor op) = BeginsCall actor op ∷ []
+moves_of_event (Step actor line) = TakesStep actor ∷ []
+moves_of_event (Steps actor count) = replicate count (TakesStep actor)
+moves_of_event (Give actor) = GivesUp actor ∷ []
+
+-- the moves of a list of events
+abbrev pub moves_of : List Event → List Move
+moves_of events = flat_map moves_of_event events

@@ -1,0 +1,165 @@
+//! The event of a schedule's line.
+ghost use Rattle.std.specs.Prelude.{◌≡◌, ◌≢◌, ℕ, [], ◌∷◌, MatchResult, codes};
+ghost use Rattle.text_lines.specs.Lines.{words_of};
+ghost use Rattle.text_lines.specs.Readings.{IsKept, Reads, ReadsLine, ReadsWords};
+ghost use Rattle.text_lines.specs.Numerals.{IsWithin};
+ghost use Rattle.text_lines.specs.Wording.{number_words};
+ghost use Rattle.line_table.specs.Names.{name_of};
+ghost use Rattle.history.specs.declared.operations.Op.{Op};
+ghost use Rattle.line_table.specs.declared.lines.Line.{Line};
+ghost use Rattle.schedule_text.specs.Texts.{call_words, event_words, IsActor, IsCallInRange, IsEventInRange, SpellsEvent};
+
+use crate::schedules::Event;
+use history::{Body, Op};
+use line_table::Line;
+use text_lines::{TextCause, Words};
+
+const MOST_ACTORS: u64 = 65_535;
+
+const MOST_STEPS: u64 = 1_000_000;
+
+const MOST_BODY: u64 = 281_474_976_710_655;
+
+/// The event that a line says, without its line feed.
+pub fn event_in(line: &[u8]) -> Result<Event, TextCause>
+    ensures { ReadsLine (λ event. words_of line.now ≡ event_words event) IsEventInRange result }
+{
+    // The check of what follows stops unless the type of a call is named here.
+    let _: Option<Op> = None;
+    let mut words = Words::of(line);
+    let event = match words.next_word() {
+        Some(name) => event_of(name, words)?,
+        None => return Err(TextCause::Form),
+    };
+    event.ok_or(TextCause::Range)
+}
+
+// The event of this name; none where a number is out of its range.
+fn event_of(name: &[u8], words: Words) -> Result<Option<Event>, TextCause>
+    ensures { Reads (SpellsEvent name.now words.entry) IsEventInRange result }
+{
+    match name {
+        b"begin" => begin_in(words),
+        b"step" => step_in(words),
+        b"steps" => steps_in(words),
+        b"give" => give_in(words),
+        _ => Err(TextCause::Form),
+    }
+}
+
+fn begin_in(words: Words) -> Result<Option<Event>, TextCause>
+    ensures { Reads (SpellsEvent (codes "begin") words.entry) IsEventInRange result }
+{
+    let mut words = words;
+    let actor = actor_in(&mut words)?;
+    let op = call_in(words)?;
+    Ok(begin_of(actor, op))
+}
+
+fn begin_of(actor: Option<u16>, op: Option<Op>) -> Option<Event>
+    ensures { (a : ℕ) (o : Op) → IsKept IsActor a actor → IsKept IsCallInRange o op
+        → IsKept IsEventInRange (Event.Begin a o) result }
+{
+    Some(Event::Begin(actor?, op?))
+}
+
+// The call of these words; none where its body is out of its range.
+fn call_in(words: Words) -> Result<Option<Op>, TextCause>
+    ensures { Reads (λ op. words.entry ≡ call_words op) IsCallInRange result }
+{
+    let mut words = words;
+    match words.next_word() {
+        Some(b"enq") => enqueue_in(words),
+        Some(b"deq") => {
+            words.expect_end()?;
+            Ok(Some(Op::Deq))
+        }
+        _ => Err(TextCause::Form),
+    }
+}
+
+fn step_in(words: Words) -> Result<Option<Event>, TextCause>
+    ensures { Reads (SpellsEvent (codes "step") words.entry) IsEventInRange result }
+{
+    let mut words = words;
+    let actor = actor_in(&mut words)?;
+    let line = line_in(words)?;
+    Ok(step_of(actor, line))
+}
+
+fn step_of(actor: Option<u16>, line: Line) -> Option<Event>
+    ensures { (a : ℕ) → IsKept IsActor a actor → IsKept IsEventInRange (Event.Step a line) result }
+{
+    Some(Event::Step(actor?, line))
+}
+
+// The line of the table whose name is the one word.
+fn line_in(words: Words) -> Result<Line, TextCause>
+    ensures { MatchResult result (λ line. words.entry ≡ name_of line ∷ [])
+        (λ why. (why ≡ TextCause.Form) × ((line : Line) → words.entry ≢ name_of line ∷ [])) }
+{
+    let mut words = words;
+    let name = words.next_word().ok_or(TextCause::Form)?;
+    let line = Line::of_name(name).ok_or(TextCause::Form)?;
+    words.expect_end()?;
+    Ok(line)
+}
+
+fn steps_in(words: Words) -> Result<Option<Event>, TextCause>
+    ensures { Reads (SpellsEvent (codes "steps") words.entry) IsEventInRange result }
+{
+    let mut words = words;
+    let actor = actor_in(&mut words)?;
+    let count = words.number(1, MOST_STEPS)?;
+    words.expect_end()?;
+    Ok(steps_of(actor, count))
+}
+
+fn steps_of(actor: Option<u16>, count: Option<u64>) -> Option<Event>
+    requires { (k : ℕ) × IsKept (IsWithin 1 1000000) k count }
+    ensures { (a k : ℕ) → IsKept IsActor a actor → IsKept (IsWithin 1 1000000) k count
+        → IsKept IsEventInRange (Event.Steps a k) result }
+{
+    Some(Event::Steps(actor?, count? as u32))
+}
+
+fn give_in(words: Words) -> Result<Option<Event>, TextCause>
+    ensures { Reads (SpellsEvent (codes "give") words.entry) IsEventInRange result }
+{
+    let mut words = words;
+    let actor = actor_in(&mut words)?;
+    words.expect_end()?;
+    Ok(give_of(actor))
+}
+
+fn give_of(actor: Option<u16>) -> Option<Event>
+    ensures { (a : ℕ) → IsKept IsActor a actor → IsKept IsEventInRange (Event.Give a) result }
+{
+    Some(Event::Give(actor?))
+}
+
+fn actor_in(words: &mut Words) -> Result<Option<u16>, TextCause>
+    ensures { ReadsWords number_words IsActor words.old words.new result }
+{
+    match words.number(1, MOST_ACTORS)? {
+        Some(actor) => Ok(Some(actor as u16)),
+        None => Ok(None),
+    }
+}
+
+// The enqueue of the body that is the one word left.
+fn enqueue_in(words: Words) -> Result<Option<Op>, TextCause>
+    ensures { Reads (λ op. codes "enq" ∷ words.entry ≡ call_words op) IsCallInRange result }
+{
+    let mut words = words;
+    let number = words.number(0, MOST_BODY)?;
+    words.expect_end()?;
+    Ok(enqueue_of(number))
+}
+
+fn enqueue_of(number: Option<u64>) -> Option<Op>
+    ensures { (n : ℕ) → IsKept (IsWithin 0 281474976710655) n number
+        → IsKept IsCallInRange (Op.Enq n) result }
+{
+    Some(Op::Enq(Body::new(number?)?))
+}

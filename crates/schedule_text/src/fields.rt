@@ -1,0 +1,90 @@
+//! The lines of a schedule's header.
+ghost use Rattle.std.specs.Prelude.{◌≡◌, ◌≢◌, MatchOption};
+ghost use Rattle.line_table.specs.declared.lines.Kind.{Kind};
+ghost use Rattle.text_lines.specs.Lines.{words_of};
+ghost use Rattle.text_lines.specs.Readings.{ReadsLine};
+ghost use Rattle.schedule_text.specs.Texts.{queue, number, kind_name, said_words, field_name, least, greatest, IsSaidInRange};
+
+use line_table::Kind;
+use text_lines::{TextCause, Words};
+
+/// A number of the header.
+#[derive(Clone, Copy)]
+pub enum Field {
+    Nodes,
+    Limit,
+    Actors,
+    Events,
+}
+
+impl Field {
+    fn name(self) -> &'static [u8]
+        ensures { result.now ≡ field_name self }
+    {
+        match self {
+            Field::Nodes => b"nodes",
+            Field::Limit => b"limit",
+            Field::Actors => b"actors",
+            Field::Events => b"events",
+        }
+    }
+
+    fn least(self) -> u64
+        ensures { result ≡ least self }
+    {
+        match self {
+            Field::Nodes => 2,
+            Field::Limit | Field::Actors => 1,
+            Field::Events => 0,
+        }
+    }
+
+    fn greatest(self) -> u64
+        ensures { result ≡ greatest self }
+    {
+        match self {
+            Field::Nodes => 16_777_214,
+            Field::Limit => 1_099_511_627_775,
+            Field::Actors => 65_535,
+            Field::Events => 1_000_000,
+        }
+    }
+}
+
+/// The queue that a line names.
+pub fn kind_in(line: &[u8]) -> Result<Kind, TextCause>
+    ensures { ReadsLine (λ kind. words_of line.now ≡ said_words (queue kind))
+        (λ kind. IsSaidInRange (queue kind)) result }
+{
+    let mut words = Words::of(line);
+    words.expect_word(b"queue")?;
+    let name = words.next_word().ok_or(TextCause::Form)?;
+    let kind = kind_of(name).ok_or(TextCause::Form)?;
+    words.expect_end()?;
+    Ok(kind)
+}
+
+fn kind_of(name: &[u8]) -> Option<Kind>
+    ensures { MatchOption result ((kind : Kind) → name.now ≢ kind_name kind)
+        (λ kind. name.now ≡ kind_name kind) }
+{
+    if name == b"two-lock".as_slice() {
+        Some(Kind::TwoLock)
+    } else if name == b"nonblocking".as_slice() {
+        Some(Kind::NonBlocking)
+    } else {
+        None
+    }
+}
+
+/// The number that a line says.
+pub fn number_of(field: Field, line: &[u8]) -> Result<u64, TextCause>
+    ensures { ReadsLine (λ value. words_of line.now ≡ said_words (number field value))
+        (λ value. IsSaidInRange (number field value)) result }
+{
+    let mut words = Words::of(line);
+    words.expect_word(field.name())?;
+    let value = words.number(field.least(), field.greatest())?;
+    words.expect_end()?;
+    value.ok_or(TextCause::Range)
+}

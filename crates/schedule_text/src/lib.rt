@@ -1,0 +1,14 @@
+//! Schedules of what the actors of a queue do, and their texts.
+#![tactic(auto)]
+
+mod events;
+mod fields;
+mod parsing;
+mod printing;
+mod schedules;
+#[cfg(test)]
+mod tests;
+
+pub use parsing::parse;
+pub use printing::print;
+pub use schedules::{Event, Schedule};

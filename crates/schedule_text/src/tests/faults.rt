@@ -1,0 +1,131 @@
+use crate::parse;
+use crate::tests::texts::SHIPPED;
+use history::Refusal;
+use std::alloc::{AllocError, Global};
+use std::test::Fail;
+use text_lines::TextCause;
+
+const LINES: [&str; 10] = [
+    "msq schedule 1",
+    "queue nonblocking",
+    "nodes 3",
+    "limit 100",
+    "actors 2",
+    "events 4",
+    "begin 1 enq 5",
+    "steps 1 10",
+    "begin 2 deq",
+    "steps 2 9",
+];
+
+// The lines above, with another one in the place of one of them, from 1.
+fn text_with(alloc: Global, number: u64, other: &str) -> Result<Vec<u8>, AllocError> {
+    let mut text = Vec::new(alloc);
+    let mut at = 0u64;
+    for line in &LINES {
+        at = at.saturating_add(1);
+        let line = if at == number { other } else { line };
+        text.extend_from_slice(line.as_bytes())?;
+        text.push(b'\n')?;
+    }
+    Ok(text)
+}
+
+fn refusal_of(alloc: Global, text: &[u8]) -> Option<Refusal> {
+    parse(alloc, text).err()
+}
+
+#[test]
+fn tells_the_first_faulty_line(rt: HostRuntime) -> Result<(), Fail> {
+    let cases = [
+        (1, "msq schedule 2", TextCause::Form),
+        (1, "msq schedule 1 ", TextCause::Form),
+        (1, "msq  schedule 1", TextCause::Form),
+        (2, "queue two_lock", TextCause::Form),
+        (2, "queue nonblocking\r", TextCause::Form),
+        (2, "queue Nonblocking", TextCause::Form),
+        (3, "nodes 1", TextCause::Range),
+        (3, "nodes 16777215", TextCause::Range),
+        (3, "nodes 0x3", TextCause::Form),
+        (3, "nodes 3\r", TextCause::Form),
+        (3, "nodes  3", TextCause::Form),
+        (3, "nodes", TextCause::Form),
+        (3, "nodes ", TextCause::Form),
+        (3, "nodes 3 ", TextCause::Form),
+        (3, "limit 3", TextCause::Form),
+        (4, "limit 0", TextCause::Range),
+        (4, "limit 1099511627776", TextCause::Range),
+        (4, "limit 18446744073709551616", TextCause::Range),
+        (4, "limit 00", TextCause::Form),
+        (5, "actors 0", TextCause::Range),
+        (5, "actors 65536", TextCause::Range),
+        (5, "actors +2", TextCause::Form),
+        (6, "events 1000001", TextCause::Range),
+        (7, "begin 1 enq 007", TextCause::Form),
+        (7, "begin 1  enq 7", TextCause::Form),
+        (7, "begin 1 enq", TextCause::Form),
+        (7, "begin 1 deq 1", TextCause::Form),
+        (7, "begin 1 enq 281474976710656", TextCause::Range),
+        (7, "begin 0 deq", TextCause::Range),
+        (7, "begin 65536 deq", TextCause::Range),
+        (7, "begin 0 pop", TextCause::Form),
+        (8, "step 1 E4", TextCause::Form),
+        (8, "step 0 E4", TextCause::Form),
+        (8, "step 0 E9", TextCause::Range),
+        (8, "step 1 e9", TextCause::Form),
+        (8, "step 1 E", TextCause::Form),
+        (8, "step 1", TextCause::Form),
+        (8, "steps 1 0", TextCause::Range),
+        (8, "steps 1 1000001", TextCause::Range),
+        (8, "steps 0 1 1", TextCause::Form),
+        (8, "steps 1 E9", TextCause::Form),
+        (8, "give 0", TextCause::Range),
+        (8, "give 1 1", TextCause::Form),
+        (8, "", TextCause::Form),
+    ];
+    for (number, line, cause) in cases {
+        let text = text_with(rt.alloc(), number, line)?;
+        let want = Some(Refusal::Text(number, cause));
+        assert_eq!(rt; refusal_of(rt.alloc(), &text), want, "{line}");
+    }
+    Ok(())
+}
+
+#[test]
+fn a_text_that_is_cut_ends_too_early(rt: HostRuntime) -> Result<(), Fail> {
+    for text in SHIPPED {
+        let text = text.as_bytes();
+        let mut feeds = 0u64;
+        for (place, byte) in text.iter().enumerate() {
+            let want = Some(Refusal::Text(feeds.saturating_add(1), TextCause::End));
+            assert_eq!(rt; refusal_of(rt.alloc(), &text[..place]), want, "at {place}");
+            if *byte == b'\n' {
+                feeds = feeds.saturating_add(1);
+            }
+        }
+    }
+    Ok(())
+}
+
+#[test]
+fn further_bytes_are_extra(rt: HostRuntime) -> Result<(), Fail> {
+    for more in ["\n", "x", "steps 1 1\n"] {
+        let mut text = text_with(rt.alloc(), 0, "")?;
+        text.extend_from_slice(more.as_bytes())?;
+        let want = Some(Refusal::Text(11, TextCause::Extra));
+        assert_eq!(rt; refusal_of(rt.alloc(), &text), want, "{more:?}");
+    }
+    Ok(())
+}
+
+#[test]
+fn a_number_of_any_length_has_the_form(rt: HostRuntime) -> Result<(), Fail> {
+    let mut line = String::from_str(rt.alloc(), "nodes ")?;
+    for _ in 0..100_000 {
+        line.push('9')?;
+    }
+    let text = text_with(rt.alloc(), 3, line.as_str())?;
+    let want = Some(Refusal::Text(3, TextCause::Range));
+    assert_eq!(rt; refusal_of(rt.alloc(), &text), want);
+    Ok(())
+}

@@ -1,0 +1,5 @@
+pub mod Numerals
+pub mod Cuts
+pub mod Digits
+pub mod Faults
+pub mod Kept

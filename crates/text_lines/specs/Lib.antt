@@ -1,0 +1,6 @@
+pub mod Causes
+pub mod Lines
+pub mod Numerals
+pub mod Readings
+pub mod Grammars
+pub mod Wording

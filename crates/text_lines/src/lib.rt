@@ -1,0 +1,12 @@
+//! Texts of lines: the lines that are due, their words and numbers, and the first faulty line.
+#![tactic(auto)]
+
+mod causes;
+mod cutting;
+mod numbers;
+mod wording;
+
+pub use causes::TextCause;
+pub use cutting::line_at;
+pub use numbers::number_in;
+pub use wording::Words;
