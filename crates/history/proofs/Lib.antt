@@ -13,3 +13,4 @@ mod Ink
 mod Said
 mod Texts
 mod Steps
+mod OneReading

@@ -136,7 +136,7 @@ due-none zero none = refl
 due-none (suc left) none = absurd (omega arith)
 
 -- the lines of operations
-lines-said : (ops : List Stamped) → All IsReadable ops → lines_of history_grammar (said ops) ≡ flat_map operation_text ops
+pub lines-said : (ops : List Stamped) → All IsReadable ops → lines_of history_grammar (said ops) ≡ flat_map operation_text ops
 lines-said [] all = refl
 lines-said (o ∷ ops) all = λ i. operation-spelled o (All-head IsReadable o ops all) i ++ lines-said ops (All-tail IsReadable o ops all) i
 

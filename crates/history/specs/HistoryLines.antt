@@ -1,5 +1,6 @@
 -- The grammar of histories: what each line may say, in which words, and which of this is in range.
 use Rattle.std.specs.Prelude.{◌≡◌, ◌≤◌, ◌-◌, ℕ, zero, suc, List, [], ◌∷◌, ◌++◌, Option, Some, None, Bool, true, false, length, codes, map, All}
+use Rattle.text_lines.specs.declared.causes.TextCause.{TextCause}
 use Rattle.text_lines.specs.Lines.{spaced}
 use Rattle.text_lines.specs.Numerals.{numeral, IsWithin}
 use Rattle.text_lines.specs.Grammars.{Grammar, IsFirstFault}
@@ -160,8 +161,12 @@ history_grammar = record {
 abbrev pub history_lines : List Stamped → List HistoryLine
 history_lines ops = Count (length ops) ∷ map (λ o. Operation o) ops
 
--- the first faulty line of a text that is no history's, and what is wrong with it
+-- the first faulty line of a text, as one of a history, has this number, and is wrong for this cause
+abbrev pub HasFirstFault : List ℕ → ℕ → TextCause → Type 0
+HasFirstFault text number cause = IsFirstFault history_grammar First text number cause
+
+-- the refusal of a text that is no history's: its first faulty line and what is wrong with it, or no room
 abbrev pub IsFirstFaultOfHistory : List ℕ → Refusal → Type 0
-IsFirstFaultOfHistory text (Text number cause) = IsFirstFault history_grammar First text number cause
+IsFirstFaultOfHistory text (Text number cause) = HasFirstFault text number cause
 IsFirstFaultOfHistory text Memory = Unit {0}
 IsFirstFaultOfHistory text _ = ⊥

@@ -1,5 +1,5 @@
-//! Laws of the verdict on a history, each the contract of a function that does nothing.
-ghost use Rattle.std.specs.Prelude.{◌≡◌, ◌↔◌, ℕ, List, is_some};
+//! Laws of the verdict on a history and of its text, each the contract of a function that does nothing.
+ghost use Rattle.std.specs.Prelude.{◌≡◌, ◌≢◌, ◌↔◌, ℕ, List, is_some};
 ghost use Rattle.std.specs.List.{filter};
 ghost use Rattle.std.specs.List.Sorted.{IsPermutation};
 ghost use Rattle.history.specs.declared.operations.Stamped.{Stamped};
@@ -8,6 +8,9 @@ ghost use Rattle.history.specs.declared.operations.Cause.TheVariants.{Shape, Spa
 ghost use Rattle.history.specs.History.{Placement, IsLegal, rising, verdict};
 ghost use Rattle.history.specs.Faults.{FirstIsMisshapen, FirstIsOutside, FirstIsShared, FirstIsWrong};
 ghost use Rattle.history.specs.Order.{Rises};
+ghost use Rattle.text_lines.specs.declared.causes.TextCause.{TextCause};
+ghost use Rattle.history.specs.HistoryText.{history_text};
+ghost use Rattle.history.specs.HistoryLines.{IsHistoryInRange, HasFirstFault};
 
 /// A history is judged `Yes` exactly where it is well placed and legal.
 pub fn yes_is_placed_and_legal()
@@ -37,4 +40,25 @@ pub fn a_wrong_reply_is_the_first_by_place()
 pub fn the_order_is_by_rising_place()
     ensures same { (ops : List Stamped) → IsPermutation (filter (λ o. is_some o.at) ops) (rising ops) }
     ensures rises { (ops : List Stamped) → Rises (rising ops) }
+{}
+
+/// A text is that of one history in range at most.
+pub fn a_text_is_of_one_history()
+    ensures { (a b : List Stamped) → IsHistoryInRange a → IsHistoryInRange b
+        → history_text a ≡ history_text b → a ≡ b }
+{}
+
+/// The first faulty line of a text is one, and wrong for one cause; the text of a history in range has none.
+pub fn a_text_has_one_first_fault()
+    ensures one { (text : List ℕ) (m n : ℕ) (c d : TextCause)
+        → HasFirstFault text m c → HasFirstFault text n d → (m ≡ n) × (c ≡ d) }
+    ensures none { (ops : List Stamped) (n : ℕ) (c : TextCause)
+        → IsHistoryInRange ops → ¬ HasFirstFault (history_text ops) n c }
+{}
+
+/// Every text is that of a history in range or has a first faulty line: it can't be that it is neither.
+pub fn a_text_is_a_history_or_faulty()
+    ensures { (text : List ℕ)
+        → ((ops : List Stamped) → IsHistoryInRange ops → text ≢ history_text ops)
+        → ¬ ((n : ℕ) (c : TextCause) → ¬ HasFirstFault text n c) }
 {}

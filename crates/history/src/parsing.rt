@@ -79,3 +79,6 @@ fn push_to(operations: &mut Vec<Stamped>, operation: Stamped) -> Result<(), Refu
         Err(_) => Err(Refusal::Memory),
     }
 }
+
+#[cfg(test)]
+mod tests;

@@ -1,9 +1,10 @@
 -- Reading a number digit by digit.
-use Rattle.std.proofs.Common.{◌≡◌, ◌≢◌, ℕ, zero, suc, ◌+◌, ◌-◌, ◌*◌, ◌/◌, ◌%◌, ◌<◌, ◌≤◌, ◌⊎◌, List, [], ◌∷◌, ◌++◌, length, get_or, take, refl, sym, ap, ◌∙◌, arith, add-one}
+use Rattle.std.proofs.Common.{◌≡◌, ◌≢◌, ℕ, zero, suc, ◌+◌, ◌-◌, ◌*◌, ◌/◌, ◌%◌, ◌<◌, ◌≤◌, ◌⊎◌, List, [], ◌∷◌, ◌++◌, length, get_or, take, refl, sym, ap, subst, ◌∙◌, arith, add-one}
 use mathlib.Core.Logic.{⊎_elim}
 use Rattle.std.proofs.lemmas.List.{length-append}
-use Rattle.std.proofs.Math.Seq.{take-suc}
-use Rattle.text_lines.specs.Numerals.{numeral}
+use Rattle.std.proofs.Math.Seq.{take-suc, take-length}
+use Rattle.std.specs.Prelude.{◌↔◌, All}
+use Rattle.text_lines.specs.Numerals.{numeral, IsPlain}
 use Rattle.text_lines.proofs.Numerals.{numeral_digit, numeral_step, IsPlain-numeral}
 
 -- one more digit behind a number above 0
@@ -74,3 +75,23 @@ no_number-zero word several begins n same =
     let first = (IsPlain-numeral n).first in
     let one : length word ≡ 1 = (rw (sym same) at first) begins in
     omega (arith, one, several)
+
+-- the digits up to a place are those of a number
+number_to : (word : List ℕ) → All (λ byte. (48 ≤ byte) × (byte ≤ 57)) word → (i : ℕ) → i ≤ length word → (n : ℕ) × IsFrontOf n (take i word)
+number_to word digits zero within = (0, record { none = λ e. refl; some = λ long first. absurd (omega (arith, long)) })
+number_to word digits (suc i) within =
+    let front = number_to word digits i (omega arith) in
+    let digit = digits i 0 (omega arith) in
+    (front.0 * 10 + (get_or word i 0 - 48), rw (← add-one i) (IsFrontOf-next front.0 word i (get_or word i 0) (omega arith) refl digit.0 digit.1 front.1))
+
+-- a plain word is a number
+number_of_plain : (word : List ℕ) → IsPlain word → (n : ℕ) × (word ≡ numeral n)
+number_of_plain word plain =
+    let front = number_to word plain.digits (length word) (omega arith) in
+    let whole : take (length word) word ≡ word = take-length word in
+    let all : IsFrontOf front.0 word = rw whole at front.1 in
+    (front.0, all.some plain.some plain.first)
+
+-- the plain words are the numbers
+pub plain_or_number : (word : List ℕ) → IsPlain word ↔ ((n : ℕ) × (word ≡ numeral n))
+plain_or_number word = (number_of_plain word, λ found. subst IsPlain (sym found.1) (IsPlain-numeral found.0))

@@ -1,5 +1,5 @@
 -- A whole line by what was kept of it.
-use Rattle.std.proofs.Common.{◌≡◌, Option, Some, None, subst, sym}
+use Rattle.std.proofs.Common.{Option, Some, None, subst, sym}
 use Rattle.std.specs.Option.{ok_or}
 use Rattle.text_lines.specs.declared.causes.TextCause.TheVariants.{Range}
 use Rattle.text_lines.specs.Readings.{IsKept, ReadsLine}

@@ -66,3 +66,8 @@ pub record IsFirstFault {S R : Type 0} (g : Grammar S R) (s : S) (text : List �
   pub begins : Begins g s before text rest
   pub counted : number ≡ 1 + length before
   pub fault : IsFault g (state_after g s before) rest cause
+
+-- the words of a line tell what it says, and have no line feed
+pub record IsSound {S R : Type 0} (g : Grammar S R) : Type 0 where
+  pub no_feed : (s : S) (r : R) → g.may_say s r → HasNo 10 (g.words r)
+  pub one : (s : S) (r q : R) → g.may_say s r → g.may_say s q → g.words r ≡ g.words q → r ≡ q

@@ -3,6 +3,7 @@
 
 mod causes;
 mod cutting;
+pub mod laws;
 mod numbers;
 mod wording;
 

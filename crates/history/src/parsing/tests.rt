@@ -1,0 +1,157 @@
+//! What no clause says: that texts are read where memory is there, and the faults of known texts.
+use super::*;
+use crate::operations::{Body, Taken};
+use crate::printing::print_history;
+use crate::scripts::Script;
+use std::test::Fail;
+
+const TWO: &[u8] = b"history 2
+1 enq 5 first 1 last 10 at 8 reply done
+2 deq first 11 last 19 at 15 reply value 1 5
+";
+
+const EACH_REPLY: &[u8] = b"history 7
+65535 enq 281474976710655 first 1 last 18446744073709551615 at 9 reply done
+1 deq first 3 last 2 at 1 reply empty
+1 deq first 3 last - at 9 reply value 65535 0
+1 enq 0 first 11 last 12 at 12 reply refused 1
+1 enq 2 first 20 last 21 at 21 reply refused 2 Free
+2 enq 6 first 7 last 22 at 22 reply refused 3
+1 enq 5 first 1 last - at - reply -
+";
+
+#[test]
+fn reads_two_operations(rt: HostRuntime) -> Result<(), Fail> {
+    let five = Body::new(5).ok_or("not a body")?;
+    let read = parse_history(rt.alloc(), TWO)?;
+    assert_eq!(rt; read.len(), 2);
+    assert_eq!(rt; read[0].op, Op::Enq(five));
+    assert_eq!(rt; read[0].at, Some(8));
+    assert_eq!(rt;
+        read[1].reply,
+        Some(Reply::Value(Taken {
+            from: 1,
+            body: five
+        }))
+    );
+    Ok(())
+}
+
+#[test]
+fn prints_what_it_read(rt: HostRuntime) -> Result<(), Fail> {
+    for text in [TWO, EACH_REPLY, b"history 0\n".as_slice()] {
+        let read = parse_history(rt.alloc(), text)?;
+        let mut writer = Script::writer(rt.alloc(), 1000, 7)?;
+        assert_eq!(rt; print_history(read.as_slice(), &mut writer), Ok(()));
+        assert_eq!(rt; writer.written(), text);
+    }
+    Ok(())
+}
+
+#[test]
+fn tells_the_end_of_each_cut_text(rt: HostRuntime) {
+    for text in [TWO, EACH_REPLY] {
+        let mut number = 1;
+        for (cut, byte) in text.iter().enumerate() {
+            let fault = parse_history(rt.alloc(), &text[..cut]).err();
+            assert_eq!(rt;
+                fault,
+                Some(Refusal::Text(number, TextCause::End)),
+                "before {cut}"
+            );
+            if *byte == 10 && number < 9 {
+                number += 1;
+            }
+        }
+    }
+}
+
+#[test]
+fn tells_the_first_faulty_line(rt: HostRuntime) {
+    for (text, number, cause) in [
+        (b"".as_slice(), 1, TextCause::End),
+        (b"history 1000001\n", 1, TextCause::Range),
+        (b"history 00\n", 1, TextCause::Form),
+        (b"history  0\n", 1, TextCause::Form),
+        (b"history 0\r\n", 1, TextCause::Form),
+        (b"History 0\n", 1, TextCause::Form),
+        (b"history +0\n", 1, TextCause::Form),
+        (b"history 0\n\n", 2, TextCause::Extra),
+        (b"history 0\nx", 2, TextCause::Extra),
+        (
+            b"history 1\n1 enq 1 first 0 last 4 at 3 reply done\n",
+            2,
+            TextCause::Range,
+        ),
+        (
+            b"history 1\n1 enq 1 first 1 last 4 at 3 reply refused 2\n",
+            2,
+            TextCause::Form,
+        ),
+        (
+            b"history 1\n1 enq 1 first 1 last 4 at 3 reply refused 4\n",
+            2,
+            TextCause::Form,
+        ),
+        (
+            b"history 1\n0 enq 1 first 1 last 4 at 3 reply refused 4\n",
+            2,
+            TextCause::Form,
+        ),
+        (
+            b"history 1\n65536 deq first 1 last - at - reply -\n",
+            2,
+            TextCause::Range,
+        ),
+        (
+            b"history 1\n1 enq 281474976710656 first 1 last - at - reply -\n",
+            2,
+            TextCause::Range,
+        ),
+        (
+            b"history 1\n1 deq first 18446744073709551616 last - at - reply -\n",
+            2,
+            TextCause::Range,
+        ),
+        (
+            b"history 1\n1 deq first 1 last - at - reply value 0 1\n",
+            2,
+            TextCause::Range,
+        ),
+        (
+            b"history 1\n1 deq first 1 last 007 at - reply -\n",
+            2,
+            TextCause::Form,
+        ),
+        (
+            b"history 1\n1 deq first 1 last - at - reply - \n",
+            2,
+            TextCause::Form,
+        ),
+        (
+            b"history 2\n1 deq first 1 last 0 at - reply -\nx\n",
+            2,
+            TextCause::Range,
+        ),
+    ] {
+        let fault = parse_history(rt.alloc(), text).err();
+        assert_eq!(rt;
+            fault,
+            Some(Refusal::Text(number, cause)),
+            "{number} {cause}"
+        );
+    }
+}
+
+#[test]
+fn finds_a_hundred_thousand_digits_out_of_range(rt: HostRuntime) -> Result<(), Fail> {
+    let mut text = Vec::new(rt.alloc());
+    text.extend_from_slice(b"history ")?;
+    for _ in 0..100_000 {
+        text.push(b'9')?;
+    }
+    text.push(b'\n')?;
+    let fault = parse_history(rt.alloc(), text.as_slice()).err();
+    assert_eq!(rt; fault, Some(Refusal::Text(1, TextCause::Range)));
+    Ok(())
+}
