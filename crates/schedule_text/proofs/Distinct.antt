@@ -1,17 +1,16 @@
 -- No two things that a line may say have the same words.
-use Rattle.std.proofs.Common.{◌≡◌, ℕ, ◌+◌, List, [], ◌∷◌, length, get_or, drop, refl, sym, ap, ap₂, ◌∙◌, ◌*◌, arith}
+use Rattle.std.proofs.Common.{◌≡◌, ℕ, ◌+◌, List, [], length, get_or, drop, refl, sym, ap, ap₂, ◌∙◌, ◌*◌, arith}
 use Rattle.history.specs.declared.operations.Op.{Op}
 use Rattle.history.specs.declared.operations.Op.TheVariants.{Enq, Deq}
 use Rattle.line_table.specs.declared.lines.Kind.{Kind}
 use Rattle.line_table.specs.declared.lines.Kind.TheVariants.{TwoLock, NonBlocking}
 use Rattle.line_table.proofs.Names.{name_of-differs}
-use Rattle.text_lines.specs.Numerals.{numeral}
 use Rattle.text_lines.proofs.Numerals.{numeral_injective}
 use Rattle.schedule_text.specs.declared.schedules.Event.{Event}
 use Rattle.schedule_text.specs.declared.schedules.Event.TheVariants.{Begin, Step, Steps, Give}
 use Rattle.schedule_text.specs.declared.fields.Field.{Field}
 use Rattle.schedule_text.specs.declared.fields.Field.TheVariants.{Nodes, Limit, Actors, Events}
-use Rattle.schedule_text.specs.Texts.{Said, version, queue, number, happens, said_words, event_words, call_words, kind_name, field_name}
+use Rattle.schedule_text.specs.Texts.{Said, version, queue, number, happens, said_words, event_words, call_words, kind_name}
 
 -- the word of a place in a list of words
 abbrev word_at : ℕ → List (List ℕ) → List ℕ

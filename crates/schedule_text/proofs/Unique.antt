@@ -1,10 +1,10 @@
 -- A text is that of one list of lines at most, has no fault then, and else one first fault, where no two things have
 -- the same words and no word has a line feed.
-use Rattle.std.proofs.Common.{◌≡◌, ◌≢◌, ℕ, ◌+◌, List, [], ◌∷◌, ◌++◌, length, All, Bool, true, false, refl, sym, ap, ap₂, ◌∙◌, subst, arith, append_assoc}
+use Rattle.std.proofs.Common.{◌≡◌, ◌≢◌, ℕ, suc, List, [], ◌∷◌, ◌++◌, length, true, false, refl, sym, ap, ap₂, ◌∙◌, subst, append_assoc}
 use Rattle.std.proofs.lemmas.List.Elements.{All-nil, All-head, All-tail}
 use Rattle.text_lines.specs.declared.causes.TextCause.{TextCause}
 use Rattle.text_lines.specs.declared.causes.TextCause.TheVariants.{End, Form, Range, Extra}
-use Rattle.text_lines.specs.Grammars.{Grammar, Says, AreDue, state_after, lines_of, Begins, IsFault, IsFirstFault}
+use Rattle.text_lines.specs.Grammars.{Grammar, Says, AreDue, state_after, lines_of, IsFault}
 use Rattle.text_lines.specs.Lines.{HasNo, line}
 
 -- a list is cut at its first line feed in one way
@@ -72,7 +72,46 @@ module _ {S R : Type 0} (g : Grammar S R) (apart : (a b : R) → g.words a ≡ g
   text_faultless s (r ∷ rs) [] rest cause due done begun same fault = good_line s r rest (lines_of g rs) cause due.0 due.1 due.2 (sym same) fault
   text_faultless s (r ∷ rs) (b ∷ bs) rest cause due done begun same fault =
       let cuts = line_once (g.words r) (g.words b) (lines_of g rs) (lines_of g bs ++ rest) (unbroken r) (unbroken b)
-          (same ∙ append_assoc (line (g.words b)) (lines_of g bs) rest) in
+      (same ∙ append_assoc (line (g.words b)) (lines_of g bs) rest) in
       let said : b ≡ r = sym (apart r b cuts.0) in
       text_faultless (g.after s r) rs bs rest cause due.3 done (subst (λ b. AreDue g (g.after s b) bs) said begun.3) cuts.1
       (subst (λ b. IsFault g (state_after g (g.after s b) bs) rest cause) said fault)
+
+  -- a text has one fault at its front
+  same_cause : (s : S) (rest : List ℕ) (c d : TextCause) → IsFault g s rest c → IsFault g s rest d → c ≡ d
+  same_cause s rest End End p q = refl
+  same_cause s rest End Form p q = absurd (line_feed_there q.says q.later rest q.split p.1)
+  same_cause s rest End Range p q = absurd (line_feed_there q.says q.later rest q.split p.1)
+  same_cause s rest End Extra p q = let two : true ≡ false = sym p.0 ∙ q.0 in absurd cc
+  same_cause s rest Form End p q = absurd (line_feed_there p.says p.later rest p.split q.1)
+  same_cause s rest Form Form p q = refl
+  same_cause s rest Form Range p q =
+      let same = line_once q.says p.says q.later p.later q.whole p.whole (sym q.split ∙ p.split) in
+      absurd (p.wrong q.wrong.0 (subst (λ says. Says g s says q.wrong.0) same.0 q.wrong.1))
+  same_cause s rest Form Extra p q = let two : true ≡ false = sym p.due ∙ q.0 in absurd cc
+  same_cause s rest Range End p q = absurd (line_feed_there p.says p.later rest p.split q.1)
+  same_cause s rest Range Form p q =
+      let same = line_once p.says q.says p.later q.later p.whole q.whole (sym p.split ∙ q.split) in
+      absurd (q.wrong p.wrong.0 (subst (λ says. Says g s says p.wrong.0) same.0 p.wrong.1))
+  same_cause s rest Range Range p q = refl
+  same_cause s rest Range Extra p q = let two : true ≡ false = sym p.due ∙ q.0 in absurd cc
+  same_cause s rest Extra End p q = let two : true ≡ false = sym q.0 ∙ p.0 in absurd cc
+  same_cause s rest Extra Form p q = let two : true ≡ false = sym q.due ∙ p.0 in absurd cc
+  same_cause s rest Extra Range p q = let two : true ≡ false = sym q.due ∙ p.0 in absurd cc
+  same_cause s rest Extra Extra p q = refl
+
+  -- a text has one first fault
+  pub fault_once : (s : S) (ps bs : List R) (x y : List ℕ) (c d : TextCause) → AreDue g s ps → AreDue g s bs → lines_of g ps ++ x ≡ lines_of g bs ++ y
+      → IsFault g (state_after g s ps) x c → IsFault g (state_after g s bs) y d → (length ps ≡ length bs) × (c ≡ d)
+  fault_once s [] [] x y c d p q same f h = (refl, same_cause s x c d f (subst (λ y. IsFault g s y d) (sym same) h))
+  fault_once s [] (b ∷ bs) x y c d p q same f h =
+      absurd (good_line s b x (lines_of g bs ++ y) c q.0 q.1 q.2 (same ∙ append_assoc (line (g.words b)) (lines_of g bs) y) f)
+  fault_once s (a ∷ ps) [] x y c d p q same f h =
+      absurd (good_line s a y (lines_of g ps ++ x) d p.0 p.1 p.2 (sym same ∙ append_assoc (line (g.words a)) (lines_of g ps) x) h)
+  fault_once s (a ∷ ps) (b ∷ bs) x y c d p q same f h =
+      let cuts = line_once (g.words a) (g.words b) (lines_of g ps ++ x) (lines_of g bs ++ y) (unbroken a) (unbroken b)
+      (sym (append_assoc (line (g.words a)) (lines_of g ps) x) ∙ same ∙ append_assoc (line (g.words b)) (lines_of g bs) y) in
+      let said : b ≡ a = sym (apart a b cuts.0) in
+      let later = fault_once (g.after s a) ps bs x y c d p.3 (subst (λ b. AreDue g (g.after s b) bs) said q.3) cuts.1 f
+      (subst (λ b. IsFault g (state_after g (g.after s b) bs) y d) said h) in
+      (ap suc later.0, later.1)
