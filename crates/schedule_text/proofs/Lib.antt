@@ -1,5 +1,8 @@
-mod Absent
-mod Parts
-mod Spelling
-mod Refusing
-mod Joining
+pub mod Absent
+pub mod Parts
+pub mod Spelling
+pub mod Refusing
+pub mod Joining
+pub mod Distinct
+pub mod Unique
+pub mod OneText

@@ -3,6 +3,7 @@
 
 mod events;
 mod fields;
+pub mod laws;
 mod parsing;
 mod printing;
 mod schedules;

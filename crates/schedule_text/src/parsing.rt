@@ -155,10 +155,21 @@ fn header_of(text: &[u8]) -> Result<(Header, &[u8]), Refusal>
 
 /// The schedule of this text, whole.
 ///
-/// It is refused with `Memory`, and with `Text` where it is no schedule's text: with the number of
-/// its first faulty line, from 1, and what is wrong with it. It takes memory as its events come, and
-/// goes over the text once. It doesn't wait.
+/// It is refused with `Memory`, and with `Text` exactly where the text is no schedule's: with the
+/// number of its first faulty line, from 1, and what is wrong with it. It takes memory as its events
+/// come, and goes over the text once. It doesn't wait.
 pub fn parse(alloc: Global, text: &[u8]) -> Result<Schedule, Refusal>
+    ensures text { IfOk result (λ schedule. text.now ≡ schedule_text schedule) }
+    ensures range { IfOk result IsInRange }
+    ensures err { IfErr result (IsRefusedText text.now) }
+    // The text of a schedule in range is read as that schedule, unless memory is refused.
+    ensures back { (s : Schedule) → IsInRange s → text.now ≡ schedule_text s
+        → MatchResult result (λ schedule. schedule ≡ s) (λ why. why ≡ Refusal.Memory) }
+{
+    schedule_of(alloc, text)
+}
+
+fn schedule_of(alloc: Global, text: &[u8]) -> Result<Schedule, Refusal>
     ensures text { IfOk result (λ schedule. text.now ≡ schedule_text schedule) }
     ensures range { IfOk result IsInRange }
     ensures err { IfErr result (IsRefusedText text.now) }

@@ -1,0 +1,141 @@
+-- One text a schedule, no fault in it, and one first fault of any other text.
+use Rattle.std.proofs.Common.{◌≡◌, ◌≢◌, ℕ, ◌+◌, ◌-◌, ◌≤◌, List, [], ◌∷◌, length, map, All, false, refl, sym, ap, ap₂, subst, ◌∙◌, arith}
+use Rattle.std.specs.Prelude.{Result, Ok, Err, IfOk, IfErr, MatchResult}
+use Rattle.std.proofs.lemmas.Bool.{lt-ltb}
+use Rattle.std.proofs.lemmas.List.Elements.{All-nil, All-cons, All-append, All-head, All-tail}
+use Rattle.history.specs.declared.refusals.Refusal.{Refusal}
+use Rattle.history.specs.declared.refusals.Refusal.TheVariants.{NoNode, WornOut, Busy, Memory, BadSize, IdleActor, ActorBusy, NotHere, NoSuchActor, Text, Read, Write, Stranger, Double, Lost, Closed}
+use Rattle.text_lines.specs.declared.causes.TextCause.{TextCause}
+use Rattle.text_lines.specs.Grammars.{AreDue, state_after, IsFirstFault}
+use Rattle.text_lines.specs.Lines.{HasNo, spaced}
+use Rattle.schedule_text.specs.declared.schedules.Event.{Event}
+use Rattle.schedule_text.specs.Schedules.{Schedule}
+use Rattle.schedule_text.specs.Texts.{Said, happens, version_due, events_left, is_due, said_words, header_by, said_by, schedule_lines, schedule_text, IsEventInRange, IsInRange}
+use Rattle.schedule_text.specs.Reading.{IsRefusedText}
+use Rattle.schedule_text.proofs.Spelling.{AreWords, AreWords-said, words_of-said}
+use Rattle.schedule_text.proofs.Joining.{state_after-append, state_after-happens}
+use Rattle.schedule_text.proofs.Distinct.{said_same}
+use Rattle.schedule_text.proofs.Unique.{lines_once, text_faultless, fault_once}
+
+-- words and the spaces between them have no line feed
+unbroken_words : (words : List (List ℕ)) → AreWords words → HasNo 10 (spaced words)
+unbroken_words [] all = All-nil (λ b. b ≢ 10)
+unbroken_words (word ∷ []) all = all.0.unbroken
+unbroken_words (word ∷ next ∷ words) all =
+    All-append (λ b. b ≢ 10) word (32 ∷ spaced (next ∷ words)) all.0.unbroken
+    (All-cons (λ b. b ≢ 10) 32 (spaced (next ∷ words)) (λ same. omega (arith, same)) (unbroken_words (next ∷ words) all.1))
+
+unbroken : (said : Said) → HasNo 10 (schedule_lines.words said)
+unbroken said = unbroken_words (said_words said) (AreWords-said said)
+
+apart : (a b : Said) → schedule_lines.words a ≡ schedule_lines.words b → a ≡ b
+apart a b same = said_same a b (sym (words_of-said a (spaced (said_words a)) refl) ∙ words_of-said b (spaced (said_words a)) same)
+
+-- the events of a list are due where so many are left
+events_due : (count : ℕ) (events : List Event) → length events ≡ count → All IsEventInRange events → AreDue schedule_lines (events_left count) (map happens events)
+events_due count [] counted all = tt
+events_due count (event ∷ events) counted all =
+    (lt-ltb 0 count (omega arith), tt, All-head IsEventInRange event events all, events_due (count - 1) events (omega arith) (All-tail IsEventInRange event events all))
+
+-- the lines of a schedule in range are due
+lines_due : (s : Schedule) → IsInRange s → AreDue schedule_lines version_due (said_by s)
+lines_due s range =
+    let count : 0 ≤ length s.events = omega arith in (
+      refl,
+      tt,
+      tt,
+      (
+        refl,
+        tt,
+        tt,
+        (
+          refl,
+          refl,
+          range.nodes,
+          (
+            refl,
+            refl,
+            range.limit,
+            (
+              refl,
+              refl,
+              range.actors,
+              (
+                refl,
+                refl,
+                (count, range.events),
+                events_due (length s.events) s.events refl range.each,
+              ),
+            ),
+          ),
+        ),
+      ),
+    )
+
+-- and no further line is
+none_due : (s : Schedule) → is_due (state_after schedule_lines version_due (said_by s)) ≡ false
+none_due s =
+    let left : length s.events - length s.events ≡ 0 = omega arith in
+    ap is_due (state_after-append schedule_lines version_due (header_by s) (map happens s.events) ∙ state_after-happens (length s.events) s.events ∙ ap events_left left)
+
+-- lists of events whose lines say the same
+events_same : (ps bs : List Event) → map happens ps ≡ map happens bs → ps ≡ bs
+events_same [] [] same = refl
+events_same [] (b ∷ bs) same = absurd cc
+events_same (a ∷ ps) [] same = absurd cc
+events_same (a ∷ ps) (b ∷ bs) same =
+    let first : a ≡ b = cc in
+    let rest : map happens ps ≡ map happens bs = cc in
+    ap₂ (λ (x : Event) (xs : List Event). x ∷ xs) first (events_same ps bs rest)
+
+-- no two schedules have one text
+pub one_text : (a b : Schedule) → schedule_text a ≡ schedule_text b → a ≡ b
+unfolding schedule_text
+one_text a b same =
+    let lines : said_by a ≡ said_by b = lines_once schedule_lines apart unbroken (said_by a) (said_by b) same in
+    let kind : a.kind ≡ b.kind = cc in
+    let nodes : a.nodes ≡ b.nodes = cc in
+    let limit : a.limit ≡ b.limit = cc in
+    let actors : a.actors ≡ b.actors = cc in
+    let said : map happens a.events ≡ map happens b.events = cc in
+    let events : a.events ≡ b.events = events_same a.events b.events said in
+    λ i. record { kind = kind i; nodes = nodes i; limit = limit i; actors = actors i; events = events i }
+
+-- the text of a schedule in range has no fault
+pub no_fault : (s : Schedule) (at : ℕ) (cause : TextCause) → IsInRange s → IsFirstFault schedule_lines version_due (schedule_text s) at cause → ⊥
+unfolding schedule_text
+no_fault s at cause range fault =
+    text_faultless schedule_lines apart unbroken version_due (said_by s) fault.before fault.rest cause (lines_due s range) (none_due s)
+    fault.begins.due fault.begins.spelled fault.fault
+
+-- a text has one first fault
+pub one_fault : (text : List ℕ) (at by : ℕ) (c d : TextCause) → IsFirstFault schedule_lines version_due text at c → IsFirstFault schedule_lines version_due text by d
+    → (at ≡ by) × (c ≡ d)
+one_fault text at by c d p q =
+    let both = fault_once schedule_lines apart unbroken version_due p.before q.before p.rest q.rest c d p.begins.due q.begins.due
+    (sym p.begins.spelled ∙ q.begins.spelled) p.fault q.fault in
+    (p.counted ∙ ap (λ (n : ℕ). 1 + n) both.0 ∙ sym q.counted, both.1)
+
+-- what is read of a schedule's text is that schedule
+pub read_back : (text : List ℕ) (answer : Result Schedule Refusal) → IfOk answer (λ t. text ≡ schedule_text t) → IfErr answer (IsRefusedText text)
+    → (s : Schedule) → IsInRange s → text ≡ schedule_text s → MatchResult answer (λ t. t ≡ s) (λ why. why ≡ Memory)
+read_back text (Ok t) told refused s range same = one_text t s (sym told ∙ same)
+read_back text (Err why) told refused s range same = only_memory why refused
+  where
+    only_memory : (why : Refusal) → IsRefusedText text why → why ≡ Memory
+    only_memory Memory refused = refl
+    only_memory (Text at cause) refused = absurd (no_fault s at cause range (subst (λ text. IsFirstFault schedule_lines version_due text at cause) same refused))
+    only_memory NoNode refused = absurd refused
+    only_memory (WornOut word) refused = absurd refused
+    only_memory Busy refused = absurd refused
+    only_memory BadSize refused = absurd refused
+    only_memory IdleActor refused = absurd refused
+    only_memory ActorBusy refused = absurd refused
+    only_memory NotHere refused = absurd refused
+    only_memory NoSuchActor refused = absurd refused
+    only_memory Read refused = absurd refused
+    only_memory Write refused = absurd refused
+    only_memory Stranger refused = absurd refused
+    only_memory Double refused = absurd refused
+    only_memory Lost refused = absurd refused
+    only_memory Closed refused = absurd refused

@@ -1,0 +1,25 @@
+//! Laws of the texts of schedules: functions that do nothing, whose contracts are the laws.
+ghost use Rattle.std.specs.Prelude.{◌≡◌, ℕ, List};
+ghost use Rattle.text_lines.specs.Grammars.{IsFirstFault};
+ghost use Rattle.text_lines.specs.declared.causes.TextCause.{TextCause};
+ghost use Rattle.schedule_text.specs.Schedules.{Schedule};
+ghost use Rattle.schedule_text.specs.Texts.{version_due, schedule_lines, schedule_text, IsInRange};
+
+/// No two schedules have one text. Takes no memory.
+#[tactic(auto, using(crate::proofs::OneText::one_text))]
+pub fn a_text_is_one_schedules()
+    ensures { (a b : Schedule) → schedule_text a ≡ schedule_text b → a ≡ b }
+{}
+
+/// The text of a schedule in range has no faulty line. Takes no memory.
+pub fn the_text_of_a_schedule_has_no_fault()
+    ensures { (s : Schedule) (at : ℕ) (cause : TextCause) → IsInRange s
+        → ¬ IsFirstFault schedule_lines version_due (schedule_text s) at cause }
+{}
+
+/// A text has one first faulty line at most, and one cause there. Takes no memory.
+pub fn a_text_has_one_first_fault()
+    ensures { (text : List ℕ) (at by : ℕ) (c d : TextCause)
+        → IsFirstFault schedule_lines version_due text at c
+        → IsFirstFault schedule_lines version_due text by d → (at ≡ by) × (c ≡ d) }
+{}
