@@ -4,3 +4,5 @@ mod Moves
 mod Consuming
 mod Stops
 mod Words
+mod Taking
+mod RightVerdict

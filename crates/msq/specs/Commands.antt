@@ -1,22 +1,29 @@
 -- What the words after the program's name ask for.
-use Rattle.std.specs.Prelude.{ℕ, true, List, [], codes, Option, Some, None, string_bytes, unwrap_or}
+use Rattle.std.specs.Prelude.{ℕ, Bool, true, false, nat_eq, List, [], codes, Option, Some, None, string_bytes, unwrap_or}
+use Rattle.std.specs.Cmp.Lexicographic.{pointwise}
 use Rattle.clap.specs.Words.{App, Row, Rule, Text, first_of, new_app, new_rule, subcommand_of, with_rule, with_subcommand}
 use Rattle.msq.specs.declared.commands.Command.{Command}
-use Rattle.msq.specs.declared.commands.Command.TheVariants.{Run}
+use Rattle.msq.specs.declared.commands.Command.TheVariants.{Run, Check}
 
 -- the file of a command, as its bytes
 abbrev pub file_of : Command → List ℕ
 file_of (Run file) = string_bytes file
+file_of (Check file) = string_bytes file
+
+-- whether a command judges a history
+abbrev pub is_check : Command → Bool
+is_check (Run file) = false
+is_check (Check file) = true
 
 -- the required argument FILE
 abbrev pub file_rule : Rule
 file_rule = record (new_rule (codes "FILE")) { required = true }
 
--- the command `run`, with a FILE
-abbrev pub run_app : App
-run_app = with_rule (new_app (codes "run")) file_rule
+-- a command of this name, with a FILE
+abbrev pub file_app : Text → App
+file_app name = with_rule (new_app name) file_rule
 
--- the program's command before `run` is added: it has a version, and its words begin with the command's
+-- the program's command before its commands are added: it has a version, and its words begin with the command's
 abbrev pub bare_app : App
 bare_app =
     record {
@@ -26,12 +33,21 @@ bare_app =
 
 -- the program's command line, as clap reads it
 abbrev pub command_line_app : App
-command_line_app = with_subcommand bare_app run_app.top
+command_line_app = with_subcommand (with_subcommand bare_app (file_app (codes "run")).top) (file_app (codes "check")).top
 
 -- the FILE among the matches of a command
 abbrev pub file_met : Option (Text × List Row) → Option Text
 file_met None = None
 file_met (Some command) = first_of (codes "FILE") command.1
+
+-- whether the command that was met is `check`
+abbrev pub check_met : Option (Text × List Row) → Bool
+check_met None = false
+check_met (Some command) = pointwise nat_eq command.0 (codes "check")
+
+-- whether the words ask for a check; no words ask for a run
+unfoldable pub asks_check : List Text → Bool
+asks_check words = check_met (subcommand_of command_line_app words)
 
 -- the file that the words name, and `-` where they name none
 unfoldable pub asked_file : List Text → List ℕ

@@ -2,3 +2,5 @@ pub mod Schedule
 pub mod ScheduleText
 pub mod Runs
 pub mod Commands
+pub mod Checks
+pub mod Endings

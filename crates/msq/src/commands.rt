@@ -1,7 +1,7 @@
 //! The words after the program's name.
 ghost use Rattle.std.specs.Prelude.{◌≡◌, ◌≤◌, [], IfErr, IfOk, map, option_map, string_bytes, true};
-ghost use Rattle.clap.specs.Words.{app_of, kind_of, subcommand_rows_of, takes};
-ghost use Rattle.msq.specs.Commands.{asked_file, command_line_app, file_met, file_of};
+ghost use Rattle.clap.specs.Words.{app_of, kind_of, subcommand_rows_of, takes, with_subcommand};
+ghost use Rattle.msq.specs.Commands.{asked_file, asks_check, check_met, command_line_app, file_app, file_met, file_of, is_check};
 
 use clap::error::ErrorKind;
 use clap::{Arg, ArgMatches};
@@ -12,6 +12,19 @@ use std::alloc::{AllocError, Global};
 pub enum Command {
     /// Runs the schedule in this file; `-` is standard input.
     Run { file: String },
+    /// Judges the history in this file; `-` is standard input.
+    Check { file: String },
+}
+
+impl Command {
+    /// The file's name. Takes no memory.
+    pub fn file(&self) -> &str
+        ensures { result.now ≡ file_of self.now }
+    {
+        match self {
+            Command::Run { file } | Command::Check { file } => file.as_str(),
+        }
+    }
 }
 
 /// The command that the words after the program's name ask for; no words ask for `run -`.
@@ -20,8 +33,9 @@ pub enum Command {
 /// goes to standard output, 2 for words that are refused, and 1 with no text where memory was
 /// refused. Takes memory, and doesn't wait.
 pub fn read_words(alloc: Global, words: &[String]) -> Result<Command, (u8, String)>
-    // At `Ok` it runs the file that the words name, and `-` where they name none.
+    // At `Ok` it takes the file that the words name, and `-` where they name none.
     ensures file { IfOk result (λ command. file_of command ≡ asked_file (map string_bytes words.now)) }
+    ensures check { IfOk result (λ command. is_check command ≡ asks_check (map string_bytes words.now)) }
     // Words that are a command line, and no words, are refused only where memory is.
     ensures passes { IfErr result (λ e. takes command_line_app (map string_bytes words.now) ≡ true
         → e.0 ≡ 1) }
@@ -35,51 +49,91 @@ pub fn read_words(alloc: Global, words: &[String]) -> Result<Command, (u8, Strin
     }
 }
 
-/// The command line: `run` with a FILE, help and the version.
+/// The program with one more command, of this name and with a FILE.
+fn with_command<'a>(
+    alloc: Global,
+    program: clap::Command<'a>,
+    name: &'a str,
+    about: &'a str,
+    file: &'a str,
+) -> Result<clap::Command<'a>, AllocError>
+    ensures { IfOk result (λ more.
+        app_of more ≡ with_subcommand (app_of program.entry) (file_app name.entry.now).top) }
+{
+    let file = Arg::new(alloc, "FILE").help(file).required(true);
+    let command = clap::Command::new(alloc, name).about(about).arg(file)?;
+    program.subcommand(command)
+}
+
+/// The command line: `run` and `check` with a FILE, help and the version.
 fn command_line<'a>(alloc: Global) -> Result<clap::Command<'a>, AllocError>
     ensures { IfOk result (λ command. app_of command ≡ command_line_app) }
 {
-    let file = Arg::new(alloc, "FILE")
-        .help("The schedule; - is standard input")
-        .required(true);
-    let run = clap::Command::new(alloc, "run")
-        .about("Runs a schedule and writes its history")
-        .arg(file)?;
-    clap::Command::new(alloc, "msq")
-        .about("Runs concurrent queues one atomic line at a time")
+    let program = clap::Command::new(alloc, "msq")
+        .about("Runs concurrent queues one atomic line at a time, and judges histories")
         .version("0.1.0")
         .no_binary_name(true)
-        .subcommand_required(true)
-        .subcommand(run)
+        .subcommand_required(true);
+    let program = with_command(
+        alloc,
+        program,
+        "run",
+        "Runs a schedule and writes its history",
+        "The schedule; - is standard input",
+    )?;
+    with_command(
+        alloc,
+        program,
+        "check",
+        "Judges a history: writes its table, or what is wrong with it",
+        "The history; - is standard input",
+    )
 }
 
 /// The command, or what clap says instead.
 fn asked(alloc: Global, words: &[String]) -> Result<Command, clap::Error>
     ensures file { IfOk result (λ command. file_of command ≡ asked_file (map string_bytes words.now)) }
+    ensures check { IfOk result (λ command. is_check command ≡ asks_check (map string_bytes words.now)) }
     ensures passes { IfErr result (λ e. takes command_line_app (map string_bytes words.now) ≡ true
         → kind_of e ≡ ErrorKind.OutOfMemory) }
     ensures none { words.now ≡ [] → IfErr result (λ e. kind_of e ≡ ErrorKind.OutOfMemory) }
 {
     if words.is_empty() {
-        return Ok(run_of(alloc, "-")?);
+        return Ok(command_of(alloc, false, "-")?);
     }
     let matches = command_line(alloc)?.try_get_matches_from(words)?;
-    Ok(run_of(alloc, file_in(&matches).unwrap_or("-"))?)
+    let file = file_in(&matches).unwrap_or("-");
+    Ok(command_of(alloc, met_check(&matches), file)?)
 }
 
 /// The FILE of the command that clap met.
 fn file_in<'a>(matches: &ArgMatches<'a>) -> Option<&'a str>
     ensures { option_map (λ file. file.now) result ≡ file_met (subcommand_rows_of matches.now) }
 {
-    let (_run, options) = matches.subcommand()?;
+    let (_command, options) = matches.subcommand()?;
     options.get_str("FILE")
 }
 
-fn run_of(alloc: Global, file: &str) -> Result<Command, AllocError>
-    ensures { IfOk result (λ command. file_of command ≡ file.now) }
+/// Whether the command that clap met is `check`.
+fn met_check(matches: &ArgMatches<'_>) -> bool
+    ensures { result ≡ check_met (subcommand_rows_of matches.now) }
+{
+    match matches.subcommand() {
+        Some((name, _options)) => name == "check",
+        None => false,
+    }
+}
+
+fn command_of(alloc: Global, checks: bool, file: &str) -> Result<Command, AllocError>
+    ensures file { IfOk result (λ command. file_of command ≡ file.now) }
+    ensures check { IfOk result (λ command. is_check command ≡ checks) }
 {
     let file = String::from_str(alloc, file)?;
-    Ok(Command::Run { file })
+    Ok(if checks {
+        Command::Check { file }
+    } else {
+        Command::Run { file }
+    })
 }
 
 /// The status and the text of what clap says.

@@ -1,14 +1,16 @@
 //! The program: its words, its files and its exit status.
 use crate::commands::{Command, read_words};
+use crate::endings::end_of;
 use crate::engine::run;
 use crate::faults::Fault;
-use history::{ReaderSource, Refusal, WriterSink};
+use crate::judging::check_text;
+use history::{ReaderSource, Refusal, Source, Verdict, WriterSink};
 use std::fs::File;
 use std::rt::Runtime;
 use std::{env, io};
 
 /// Does what the program's words ask for, and answers the exit status: 0 where it is done or help
-/// was asked for, 1 where it was refused, 2 where the words were.
+/// was asked for, 1 where it was refused, 2 where the words were, 3 where a history was judged No.
 ///
 /// A refusal is one line on standard error.
 pub fn obey<R: Runtime + AllocGlobal>(rt: &R) -> u8 {
@@ -20,7 +22,7 @@ pub fn obey<R: Runtime + AllocGlobal>(rt: &R) -> u8 {
         Err(_) => return ended(rt, Err(Fault::from(Refusal::Memory))),
     };
     match read_words(rt.alloc(), &words) {
-        Ok(Command::Run { file }) => ended(rt, run_file(rt, file.as_str())),
+        Ok(command) => ended(rt, outcome_of(rt, &command)),
         Err((0, text)) => shown(rt, text.as_str()),
         Err((1, _)) => ended(rt, Err(Fault::from(Refusal::Memory))),
         Err((_, text)) => refused(rt, text.as_str()),
@@ -36,32 +38,58 @@ fn words_of<R: Runtime + AllocGlobal>(rt: &R) -> io::Result<Vec<String>> {
     Ok(words)
 }
 
-/// Runs the schedule in a file, or on standard input for `-`, to standard output.
-fn run_file<R: Runtime + AllocGlobal>(rt: &R, file: &str) -> Result<(), Fault> {
-    let mut writer = WriterSink::new(io::writer(rt));
+/// Obeys a command on its file, or on standard input for `-`, and writes to standard output.
+fn outcome_of<R: Runtime + AllocGlobal>(rt: &R, command: &Command) -> Result<Verdict, Fault> {
+    let file = command.file();
     if file == "-" {
-        let mut reader = ReaderSource::new(rt.reader());
-        return run(rt.alloc(), &mut reader, &mut writer);
+        return outcome_on(rt, command, ReaderSource::new(rt.reader()));
     }
     match File::open(rt, file) {
-        Ok(file) => {
-            let mut reader = ReaderSource::new(file);
-            run(rt.alloc(), &mut reader, &mut writer)
-        }
+        Ok(file) => outcome_on(rt, command, ReaderSource::new(file)),
         Err(_) => Err(Fault::from(Refusal::Read)),
     }
 }
 
-/// The status of a run, whose fault, if any, is written to standard error.
-fn ended<R: Runtime>(rt: &R, outcome: Result<(), Fault>) -> u8 {
-    match outcome {
-        Ok(()) => 0,
-        Err(fault) => {
-            // Where standard error fails too, the status alone tells of the fault.
-            let _ = eprintln!(rt; "{fault}");
-            1
+/// Obeys a command on what a source gives. A run that is done has the verdict Yes.
+fn outcome_on<R: Runtime + AllocGlobal, S: Source + Drop>(
+    rt: &R,
+    command: &Command,
+    source: S,
+) -> Result<Verdict, Fault> {
+    let mut reader = source;
+    let mut writer = WriterSink::new(io::writer(rt));
+    match command {
+        Command::Run { .. } => {
+            run(rt.alloc(), &mut reader, &mut writer)?;
+            Ok(Verdict::Yes)
         }
+        Command::Check { .. } => Ok(check_text(rt.alloc(), &mut reader, &mut writer)?),
     }
+}
+
+/// Standard error as a writer.
+#[derive(Drop)]
+struct Complaints<'a, R> {
+    rt: &'a R,
+}
+
+impl<R: Eprint> io::Write for Complaints<'_, R> {
+    fn write(&mut self, bytes: &[u8]) -> io::Result<usize> {
+        let Ok(text) = str::from_utf8(bytes) else {
+            return Err(io::Error::from(io::ErrorKind::InvalidData));
+        };
+        self.rt.eprint(text)?;
+        Ok(bytes.len())
+    }
+
+    fn flush(&mut self) -> io::Result<()> {
+        Ok(())
+    }
+}
+
+/// The status of an outcome, whose fault, if any, is written to standard error.
+fn ended<R: Runtime>(rt: &R, outcome: Result<Verdict, Fault>) -> u8 {
+    end_of(outcome, &mut WriterSink::new(Complaints { rt }))
 }
 
 /// The status of help that is shown on standard output.

@@ -1,4 +1,6 @@
+mod endings;
 mod engine;
 mod faults;
+mod judging;
 mod texts;
 mod words;

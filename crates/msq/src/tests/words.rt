@@ -24,6 +24,25 @@ fn reads_the_file_to_run(rt: HostRuntime) -> Result<(), Fail> {
         let words = strings(rt.alloc(), words)?;
         match read_words(rt.alloc(), &words) {
             Ok(Command::Run { file }) => assert_eq!(rt; file.as_str(), *want),
+            Ok(command) => panic!(rt; "{words:?} gave {command:?}"),
+            Err((status, text)) => panic!(rt; "{words:?} gave {status}, {text}"),
+        }
+    }
+    Ok(())
+}
+
+#[test]
+fn reads_the_file_to_check(rt: HostRuntime) -> Result<(), Fail> {
+    let cases: [(&[&str], &str); 3] = [
+        (&["check", "-"], "-"),
+        (&["check", "row.history"], "row.history"),
+        (&["check", ""], ""),
+    ];
+    for (words, want) in &cases {
+        let words = strings(rt.alloc(), words)?;
+        match read_words(rt.alloc(), &words) {
+            Ok(Command::Check { file }) => assert_eq!(rt; file.as_str(), *want),
+            Ok(command) => panic!(rt; "{words:?} gave {command:?}"),
             Err((status, text)) => panic!(rt; "{words:?} gave {status}, {text}"),
         }
     }
@@ -36,13 +55,13 @@ fn refuses_other_words(rt: HostRuntime) -> Result<(), Fail> {
         (&["run"], 2),
         (&["run", "a", "b"], 2),
         (&["run", "--fast", "a"], 2),
-        (&["check", "a"], 2),
+        (&["check"], 2),
         (&["work", "a"], 2),
         (&["post", "a"], 2),
         (&["-"], 2),
         (&["Run", "a"], 2),
         (&["--help"], 0),
-        (&["run", "--help"], 0),
+        (&["check", "--help"], 0),
         (&["--version"], 0),
     ];
     for (words, want) in &cases {

@@ -4,13 +4,18 @@ use Rattle.std.proofs.lemmas.Bool.{eqb-true}
 use Rattle.std.proofs.lemmas.List.{nil_from_length}
 use Rattle.std.proofs.lemmas.Result.{err_from_is_err_and}
 use Rattle.clap.specs.Words.{App, Text, is_simple, takes, subcommand_of}
-use Rattle.msq.proofs.Words.{asked_file-nil, asked_file-met, is_simple-command_line}
+use Rattle.msq.proofs.Words.{asked_file-nil, asks_check-nil, asked_file-met, asks_check-met, is_simple-command_line}
 use Rattle.msq.proofs.commands.asked.Goals as goal
 
 pub returns-then-is_empty-clause-file : goal.returns-then-is_empty-clause-file
 returns-then-is_empty-clause-file c =
     let empty = nil_from_length c.args.words.now (eqb-true _ _ (sym c.is_empty.ensures ∙ c.if-is_empty.true)) in
-    rw empty (c.in_ok-run_of.ensures ∙ sym asked_file-nil)
+    rw empty (c.in_ok-command_of.ensures.file ∙ sym asked_file-nil)
+
+pub returns-then-is_empty-clause-check : goal.returns-then-is_empty-clause-check
+returns-then-is_empty-clause-check c =
+    let empty = nil_from_length c.args.words.now (eqb-true _ _ (sym c.is_empty.ensures ∙ c.if-is_empty.true)) in
+    rw empty (c.in_ok-command_of.ensures.check ∙ sym asks_check-nil)
 
 pub returns-in_err-matches-clause-passes : goal.returns-in_err-matches-clause-passes
 returns-in_err-matches-clause-passes c =
@@ -24,5 +29,13 @@ returns-clause-file c =
     let words : List Text = map (string_bytes {Z = Global}) c.args.words.now in
     let simple = ap is_simple c.in_ok-command_line.ensures ∙ is_simple-command_line in
     let told = (c.in_ok-matches.ensures.matches simple).1 in
-    c.in_ok-run_of-2.ensures
-    ∙ asked_file-met _ words c.file_in.result _ c.unwrap_or.result (told ∙ ap (λ (a : App). subcommand_of a words) c.in_ok-command_line.ensures) c.file_in.ensures c.unwrap_or.ensures refl
+    c.in_ok-command_of-2.ensures.file
+    ∙ asked_file-met _ words c.file_in.result _ c.unwrap_or-file.result (told ∙ ap (λ (a : App). subcommand_of a words) c.in_ok-command_line.ensures) c.file_in.ensures c.unwrap_or-file.ensures refl
+
+pub returns-clause-check : goal.returns-clause-check
+returns-clause-check c =
+    let words : List Text = map (string_bytes {Z = Global}) c.args.words.now in
+    let simple = ap is_simple c.in_ok-command_line.ensures ∙ is_simple-command_line in
+    let told = (c.in_ok-matches.ensures.matches simple).1 in
+    c.in_ok-command_of-2.ensures.check
+    ∙ asks_check-met _ words _ (told ∙ ap (λ (a : App). subcommand_of a words) c.in_ok-command_line.ensures) c.met_check.ensures

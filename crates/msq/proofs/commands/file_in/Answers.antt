@@ -6,5 +6,5 @@ use Rattle.msq.proofs.commands.file_in.Goals as goal
 
 pub returns : goal.returns
 returns c =
-    let found = found_of c.in_ok-_run.options.now in
-    c.get_str.ensures ∙ first_value-rows found (codes "FILE") ∙ sym (file_met-rows (subcommand_rows_of c.args.matches.now) (rows_of found) (sym c.in_ok-_run.ensures.rows))
+    let found = found_of c.in_ok-_command.options.now in
+    c.get_str.ensures ∙ first_value-rows found (codes "FILE") ∙ sym (file_met-rows (subcommand_rows_of c.args.matches.now) (rows_of found) (sym c.in_ok-_command.ensures.rows))

@@ -1,0 +1,19 @@
+-- Exit statuses, and the line that tells of a fault.
+use Rattle.std.specs.Prelude.{◌≡◌, ◌⊎◌, ℕ, List, [], ◌∷◌, ◌++◌, Bool, Option, Result, Ok, Err}
+use Rattle.std.specs.Io.KnownBytes.{Appends}
+use Rattle.history.specs.Blocks.{TakesBeginning, GivesUp}
+use Rattle.history.specs.declared.operations.Verdict.{Verdict}
+use Rattle.history.specs.declared.operations.Verdict.TheVariants.{Yes, No}
+use Rattle.msq.specs.declared.faults.Fault.{Fault}
+
+-- the exit status: 0 where all is well, 3 where a history was judged no, 1 where there is a fault
+abbrev pub status_of : Result Verdict Fault → ℕ
+status_of (Ok Yes) = 0
+status_of (Ok (No place cause)) = 3
+status_of (Err fault) = 1
+
+-- a sink took one text that ends with a line feed and no call failed, or it gave up within it
+abbrev pub TakesLine : (old new : Option (List ℕ)) → (old_failures new_failures : ℕ) → (is_full : Bool) → Type 0
+TakesLine old new old_failures new_failures is_full =
+    (text : List ℕ) × ((Appends old new (text ++ 10 ∷ []) × (new_failures ≡ old_failures))
+    ⊎ (TakesBeginning old new (text ++ 10 ∷ []) × GivesUp old_failures new_failures is_full))
