@@ -1,0 +1,7 @@
+pub mod Tracing
+pub mod Leading
+pub mod Entering
+pub mod Keeps
+pub mod Counting
+pub mod Calls
+pub mod Deals
