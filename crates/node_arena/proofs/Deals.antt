@@ -13,10 +13,13 @@ use Rattle.step_machine.specs.Machine.{World, idle, actor_of, IsSized}
 use Rattle.step_machine.specs.Machine as machine
 use Rattle.node_arena.specs.declared.seats.Seat.{Seat}
 use Rattle.node_arena.specs.Traces.{Traced, first_trace, changed}
+use Rattle.node_arena.specs.declared.arena.Arena.{Arena}
+use Rattle.node_arena.specs.Leads.{at_rest}
+use Rattle.node_arena.specs.Seats.{IsArena, IsTable}
 use Rattle.node_arena.specs.Seeing.{Knows, View, keeper, seated, members, new_seat, dealt_left, dealt_right}
 use Rattle.node_arena.specs.Plans.{Layout, IsPlanned}
 use Rattle.node_arena.specs.Rule.{Fits, Holds, first_view}
-use Rattle.node_arena.specs.Making.{first_words, IsDealt, AreDealt}
+use Rattle.node_arena.specs.Making.{first_words, IsDealt, AreDealt, IsNewSeat}
 use Rattle.node_arena.proofs.Tracing.{changed_here, changed_else}
 use Rattle.node_arena.proofs.Keeps.{one_of}
 
@@ -127,3 +130,21 @@ got_snoc (x ∷ xs) a b (suc k) e = ⊎_elim (λ t. inl t) (λ (t : (k ≡ lengt
 -- a seat more that was just dealt
 pub one_more : (z : Layout) (t : TableId) (xs : List Seat) (n : ℕ) (s : Seat) → length xs ≡ n → AreDealt z t xs → IsDealt z t (n + 1) s → AreDealt z t (xs ++ s ∷ [])
 one_more z t xs n s len all new k y got = ⊎_elim (λ (h : slice_get xs k ≡ Some y). all k y h) (λ (h : (k ≡ length xs) × (s ≡ y)). subst (λ (q : ℕ × Seat). IsDealt z t (q.0 + 1) q.1) (λ i. (sym (h.0 ∙ len) i, h.1 i)) new) (got_snoc xs s y k got)
+
+-- a seat that was dealt is a new seat of the arena
+pub new_seats : (r : Arena) (seats : List Seat) → IsArena r → AreDealt r.plan r.table.shared.table_id seats → (k : ℕ) (s : Seat) → slice_get seats k ≡ Some s → IsNewSeat r (k + 1) s
+new_seats r seats arena all k s got =
+    let d = all k s got in
+    record {
+      ready = record { seat = record { arena = arena; sits = d.seat }; free = ap (λ v. (at_rest v.actor).line) d.view; pocket = d.pocket ∙ sym (ap (λ v. (at_rest v.actor).pocket) d.view) };
+      view = d.view;
+      number = d.number;
+      pocket = d.pocket;
+      failed = d.failed;
+    }
+
+-- a table of the first words, made about a plan, is laid out for it
+pub laid : (z about : Layout) (t : TableId) → IsPlanned z → about ≡ z → t.words ≡ length (first_words z.setup.size) → t.slots ≡ 0 → IsTable z about t
+laid z about t sized key words slots =
+    let e : length (replicate {A = ℕ} (2 * z.setup.size) 0) ≡ 2 * z.setup.size = length-replicate {A = ℕ} (2 * z.setup.size) 0 in
+    record { sized = sized; key = key; words = words ∙ (let h : length (first_words z.setup.size) ≡ 6 + 2 * z.setup.size = omega arith in h); slots = slots }

@@ -207,6 +207,7 @@ module _ (z : Layout) (s : State ℕ View) (h : Holds z s) (id : ℕ) (v : Knows
     walked = walked;
     reaches = reached;
     after = here;
+    trod = me.path;
     found = found_is x is;
     number = refl;
     actor = refl;

@@ -1,3 +1,4 @@
+pub mod Machine
 pub mod Traces
 pub mod Leads
 pub mod Seeing
@@ -5,3 +6,5 @@ pub mod Plans
 pub mod Rule
 pub mod Seats
 pub mod Making
+pub mod Turns
+pub mod Walks

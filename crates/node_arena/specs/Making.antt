@@ -13,7 +13,7 @@ use Rattle.node_arena.specs.declared.arena.Arena.{Arena}
 use Rattle.node_arena.specs.declared.seats.Seat.{Seat}
 use Rattle.node_arena.specs.Seeing.{keeper, new_seat}
 use Rattle.node_arena.specs.Plans.{Layout}
-use Rattle.node_arena.specs.Seats.{IsArena, Sits, view, plan_of}
+use Rattle.node_arena.specs.Seats.{IsReady, Sits, view, plan_of}
 
 -- the words at the start, in the order of the table: one node was used, the dummy, which Head and Tail name
 abbrev pub first_words : (nodes : ℕ) → List ℕ
@@ -40,12 +40,19 @@ pub record IsDealt (z : Layout) (t : TableId) (n : ℕ) (s : Seat) : Type 0 wher
 abbrev pub AreDealt : Layout → TableId → List Seat → Type 0
 AreDealt z t seats = (k : ℕ) (s : Seat) → slice_get seats k ≡ Some s → IsDealt z t (k + 1) s
 
--- a new arena of a plan, with a seat for each role, numbered from 1, each ready and with an empty pocket
+-- a new seat of an arena: it may begin a call, knows nothing, and its pocket is empty
+pub record IsNewSeat (r : Arena) (n : ℕ) (s : Seat) : Type 0 where
+  pub ready : IsReady r s
+  pub view : view s ≡ new_seat n
+  pub number : s.number ≡ n
+  pub pocket : s.pocket ≡ None
+  pub failed : s.failed ≡ 0
+
+-- a new arena of a plan, with a new seat for each role, numbered from 1
 pub record IsMade (z : Layout) (r : Arena) (seats : List Seat) : Type 0 where
-  pub arena : IsArena r
   pub plan : plan_of r ≡ z
   pub count : length seats ≡ length z.roles
-  pub dealt : AreDealt z r.table.shared.table_id seats
+  pub each : (k : ℕ) (s : Seat) → slice_get seats k ≡ Some s → IsNewSeat r (k + 1) s
 
 -- some size is out of its range
 abbrev pub IsUnsized : Setup → (seats : ℕ) → Type 0

@@ -63,6 +63,7 @@ pub record Steps (z : Layout) (lead : Lead) (l : Line) (n : ℕ) (v v' : Knows) 
   pub walked : was.paths v.number ≡ v.path
   pub reaches : IsTraced (step_at was v.number (led z.setup v.number lead v.actor) l)
   pub after : actor_of (step_at was v.number (led z.setup v.number lead v.actor) l).world v.number ≡ Some v'.actor
+  pub trod : (step_at was v.number (led z.setup v.number lead v.actor) l).paths v.number ≡ v'.path
   pub found : n ≡ number_at z.setup was v.number (led z.setup v.number lead v.actor) l
   pub number : v'.number ≡ v.number
   pub actor : v'.actor ≡ actor_at z.setup was v.number (led z.setup v.number lead v.actor) l

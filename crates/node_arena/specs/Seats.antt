@@ -100,6 +100,11 @@ pub record KeepsStored (s t : Seat) : Type 0 where
   pub pocket : t.pocket ≡ s.pocket
   pub failed : t.failed ≡ s.failed
 
+-- a seat is the same one by its number and its role
+pub record KeepsName (s t : Seat) : Type 0 where
+  pub number : t.number ≡ s.number
+  pub role : t.role ≡ s.role
+
 -- how many pushes a line counts
 abbrev pub pushes_at : Line → ℕ
 pushes_at E9 = 1
