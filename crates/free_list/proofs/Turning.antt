@@ -1,0 +1,164 @@
+-- The turns of a take: N1 and N2, and then N5, or N3 and N4, or a refusal.
+use Rattle.std.proofs.Common.{◌≡◌, ◌≢◌, ℕ, ◌+◌, Bool, true, false, if◌then◌else◌, nat_eq, Option, Some, List, [], ◌∷◌, ◌++◌, sym, refl, ap, ◌∙◌, subst, arith}
+use Rattle.std.proofs.lemmas.List.Sums.{sum_by-append}
+use Rattle.counted_ref.specs.Ref.{ref_of, same_ref}
+use Rattle.line_table.specs.declared.lines.Kind.{Kind}
+use Rattle.line_table.specs.declared.lines.Kind.TheVariants.{TwoLock, NonBlocking}
+use Rattle.line_table.specs.declared.lines.Line.{Line}
+use Rattle.line_table.specs.declared.lines.Line.TheVariants.{N1, N2, N3, N4, N5}
+use Rattle.history.specs.declared.refusals.Refusal.{Refusal}
+use Rattle.node_arena.specs.Machine.{with_node}
+use Rattle.node_arena.specs.Traces.{Event}
+use Rattle.node_arena.specs.Leads.{Lead, goes_on}
+use Rattle.node_arena.specs.declared.arena.Arena.{Arena}
+use Rattle.node_arena.specs.declared.seats.Seat.{Seat}
+use Rattle.node_arena.specs.Seats.{KeepsStored, DidStep, view}
+use Rattle.node_arena.specs.Turns.{failed_at, failed_turns, at_n1}
+use Rattle.node_arena.specs.Walks.{Walks}
+use Rattle.free_list.specs.declared.outcomes.Actor.{Actor as Running}
+use Rattle.free_list.specs.declared.outcomes.Outcome.{Outcome}
+use Rattle.free_list.specs.declared.outcomes.Outcome.TheVariants.{Goes, Ends, Freed}
+use Rattle.free_list.specs.declared.outcomes.Turn.TheVariants.{Refused}
+use Rattle.free_list.specs.Runs.{in_hand, turn_of, Stands, StartsTake, Follows}
+use Rattle.free_list.specs.Takes.{Got, Fell, Turned, Turns}
+use Rattle.free_list.proofs.Walking.{walk_then, then_stored, event, walk_one, to_is, ended_at, failed_last, now_sole}
+use Rattle.free_list.proofs.Standing.{after_n1, Ended, Second, after_n2, after_n3, Holding, after_n4, after_n5}
+
+actor_or : Running → Outcome → Running
+actor_or d (Goes l a) = a
+actor_or d (Ends why) = d
+actor_or d Freed = d
+
+-- outcomes that are the same go on with the same registers
+pub same_actor : (l k : Line) (a b : Running) → Goes l a ≡ Goes k b → a ≡ b
+unfolding actor_or
+same_actor l k a b e = ap (actor_or a) e
+
+-- one line more on a path
+pub failed_snoc : (es : List Event) (e : Event) → failed_turns (es ++ e ∷ []) ≡ failed_turns es + failed_at e.line e.to
+failed_snoc es e = sum_by-append (λ x. failed_at x.line x.to) es (e ∷ []) ∙ (let z : 0 + failed_at e.line e.to ≡ failed_at e.line e.to = omega arith in ap (λ k. failed_turns es + k) z)
+
+-- at the start of a turn a call knows nothing of its registers
+pub any_registers : (r : Arena) (t : Seat) (lead : Lead) (a : Running) → StartsTake r t lead → Stands r t lead N1 a
+any_registers r t lead a h = record { seat = h.seat; can = h.can; line = h.line; empty = h.empty; knows = tt }
+
+starts : (r : Arena) (t : Seat) (lead : Lead) (a : Running) → Stands r t lead N1 a → StartsTake r t lead
+starts r t lead a h = record { seat = h.seat; can = h.can; line = h.line; empty = h.empty }
+
+none_with_node : (k : Kind) (o : Option Line) → o ≡ Some (with_node k) → at_n1 o ≡ 0
+none_with_node TwoLock o e = ap at_n1 e
+none_with_node NonBlocking o e = ap at_n1 e
+
+-- the last step of a turn, at N4 or N5
+module _ (r : Arena) (s t x : Seat) (l : Line) (n : ℕ) (d : DidStep r t x goes_on l n) (before : List Event) (w : Walks (view s) (view t) before) (never : failed_turns before ≡ 0) (q : (o : Option Line) → failed_at l o ≡ at_n1 o) where
+  abbrev lines : List Event
+  lines = before ++ event r t x goes_on l n d ∷ []
+
+  -- it came to a node
+  pub got : (a : Running) (h : Running) → Holding r t x goes_on a n l d h → Got r s x lines (in_hand h)
+  got a h o =
+      record {
+        seat = d.seat;
+        over = o.over;
+        empty = o.empty;
+        node = o.node.node;
+        mark = o.node.mark;
+        never = (let f = failed_snoc before (event r t x goes_on l n d) in let z = q (event r t x goes_on l n d).to ∙ none_with_node r.plan.setup.kind (event r t x goes_on l n d).to (to_is r t x goes_on l n d ∙ o.over) in omega arith);
+        there = ended_at r t x goes_on l n d s before _ w o.there;
+        sole = now_sole r t x goes_on l n d h.node o.node.held o.node.node o.node.some;
+      }
+
+  -- it failed
+  pub fell : (a : Running) → Stands r x goes_on N1 a → Fell r x lines
+  fell a h =
+      let e : failed_at l (view x).actor.line ≡ 1 = q (view x).actor.line ∙ ap at_n1 h.line in
+      record {
+        stands = starts r x goes_on a h;
+        once = (let f = failed_snoc before (event r t x goes_on l n d) in let z = ap (failed_at l) (to_is r t x goes_on l n d) ∙ e in omega arith);
+        last = failed_last r t x goes_on l n d before e;
+      }
+
+-- a node in hand is what its turn took
+took_at : (k : Kind) (r : Arena) (s x : Seat) (es : List Event) (a : Running) → Got r s x es (in_hand a) → Turned r s x es (turn_of (Goes (with_node k) a))
+took_at TwoLock r s x es a g = g
+took_at NonBlocking r s x es a g = g
+
+-- the first two lines of a turn
+module _ (r : Arena) (s u : Seat) (lead : Lead) (a a1 : Running) (l : Line) (h : Stands r s lead N1 a) (f : Follows r s u lead N1 a (Goes l a1)) where
+  pub to_n2 : Stands r u goes_on N2 a1
+  to_n2 = subst (Stands r u goes_on N2) (sym (same_actor l N2 a1 (record a { f = f.found }) f.leads_to)) (after_n1 r s u lead a f.found h f.did)
+
+module _ (r : Arena) (s u t : Seat) (lead : Lead) (a a1 : Running) (l1 : Line) (out : Outcome) (f : Follows r s u lead N1 a (Goes l1 a1)) (h : Stands r u goes_on N2 a1) (g : Follows r u t goes_on N2 a1 out) where
+  abbrev one : Event
+  one = event r s u lead N1 f.found f.did
+
+  abbrev two : Event
+  two = event r u t goes_on N2 g.found g.did
+
+  abbrev looks : List Event
+  looks = one ∷ two ∷ []
+
+  pub look_walk : Walks (view s) (view t) looks
+  look_walk = walk_then (view s) (view u) (view t) (one ∷ []) (two ∷ []) (walk_one r s u lead N1 f.found f.did refl) (walk_one r u t goes_on N2 g.found g.did refl)
+
+  pub look_stored : KeepsStored s t
+  look_stored = then_stored s u t f.did.stored g.did.stored
+
+  pub second_is : Second r u t goes_on a1 g.found g.did out
+  second_is = subst (Second r u t goes_on a1 g.found g.did) (sym g.leads_to) (after_n2 r u t goes_on a1 g.found h g.did)
+
+  -- a turn that is refused
+  pub refused_turn : (why : Refusal) → out ≡ Ends why → Turns r s t (Refused why)
+  refused_turn why e =
+      let o : Ended r u t goes_on a1 g.found g.did why = subst (Second r u t goes_on a1 g.found g.did) e second_is in
+      record {
+        stored = look_stored;
+        lines = looks;
+        walks = look_walk;
+        turned = record { seat = g.did.seat; over = o.over; empty = o.empty; never = refl; cause = ended_at r u t goes_on N2 g.found g.did s (one ∷ []) _ (walk_one r s u lead N1 f.found f.did refl) o.cause; possible = o.possible };
+      }
+
+  pub to_n5 : (k : Line) (b : Running) → out ≡ Goes k b → k ≡ N5 → Stands r t goes_on N5 b
+  to_n5 k b e is = subst (Second r u t goes_on a1 g.found g.did) (e ∙ ap (λ j. Goes j b) is) second_is
+
+  pub to_n3 : (k : Line) (b : Running) → out ≡ Goes k b → k ≢ N5 → Stands r t goes_on N3 b
+  to_n3 k b e other = go k other (subst (Second r u t goes_on a1 g.found g.did) e second_is)
+    where
+      go : (k : Line) → k ≢ N5 → Second r u t goes_on a1 g.found g.did (Goes k b) → Stands r t goes_on N3 b
+      go N3 other x = x
+      go N5 other x = absurd (other refl)
+      go _ other x = absurd x
+
+  -- a turn that ends at N5
+  pub fresh_turn : (x : Seat) (k : Line) (b : Running) (last : Outcome) → out ≡ Goes k b → k ≡ N5 → Follows r t x goes_on N5 b last → Turns r s x (turn_of last)
+  fresh_turn x k b last e is y =
+      record {
+        stored = then_stored s t x look_stored y.did.stored;
+        lines = looks ++ event r t x goes_on N5 y.found y.did ∷ [];
+        walks = walk_then (view s) (view t) (view x) looks (event r t x goes_on N5 y.found y.did ∷ []) look_walk (walk_one r t x goes_on N5 y.found y.did refl);
+        turned = subst (λ o. Turned r s x (looks ++ event r t x goes_on N5 y.found y.did ∷ []) (turn_of o)) (sym y.leads_to) (go (nat_eq y.found b.f) refl);
+      }
+    where
+      go : (p : Bool) → nat_eq y.found b.f ≡ p → Turned r s x (looks ++ event r t x goes_on N5 y.found y.did ∷ []) (turn_of (if p then Goes (with_node r.plan.setup.kind) (record b { node = b.f + 1; mark = 0 }) else Goes N1 b))
+      go true w = took_at r.plan.setup.kind r s x _ (record b { node = b.f + 1; mark = 0 }) (got r s t x N5 y.found y.did looks look_walk refl (λ o. refl) b (record b { node = b.f + 1; mark = 0 }) ((after_n5 r t x goes_on b y.found (to_n5 k b e is) y.did).0 w))
+      go false w = fell r s t x N5 y.found y.did looks look_walk refl (λ o. refl) b ((after_n5 r t x goes_on b y.found (to_n5 k b e is) y.did).1 w)
+
+  pub to_n4 : (k m : Line) (b c : Running) (x : Seat) → out ≡ Goes k b → k ≢ N5 → Follows r t x goes_on N3 b (Goes m c) → Stands r x goes_on N4 c
+  to_n4 k m b c x e other y = subst (Stands r x goes_on N4) (sym (same_actor m N4 c (record b { next = ref_of y.found }) y.leads_to)) (after_n3 r t x goes_on b y.found (to_n3 k b e other) y.did)
+
+  -- a turn that ends at N4
+  pub reuse_turn : (k m : Line) (b c : Running) (x v : Seat) (last : Outcome) → out ≡ Goes k b → k ≢ N5 → Follows r t x goes_on N3 b (Goes m c) → Follows r x v goes_on N4 c last → Turns r s v (turn_of last)
+  reuse_turn k m b c x v last e other y z =
+      record {
+        stored = then_stored s x v (then_stored s t x look_stored y.did.stored) z.did.stored;
+        lines = (looks ++ event r t x goes_on N3 y.found y.did ∷ []) ++ event r x v goes_on N4 z.found z.did ∷ [];
+        walks = walk_then (view s) (view x) (view v) (looks ++ event r t x goes_on N3 y.found y.did ∷ []) (event r x v goes_on N4 z.found z.did ∷ []) walked (walk_one r x v goes_on N4 z.found z.did refl);
+        turned = subst (λ o. Turned r s v ((looks ++ event r t x goes_on N3 y.found y.did ∷ []) ++ event r x v goes_on N4 z.found z.did ∷ []) (turn_of o)) (sym z.leads_to) (go (same_ref (ref_of z.found) c.top) refl);
+      }
+    where
+      walked : Walks (view s) (view x) (looks ++ event r t x goes_on N3 y.found y.did ∷ [])
+      walked = walk_then (view s) (view t) (view x) looks (event r t x goes_on N3 y.found y.did ∷ []) look_walk (walk_one r t x goes_on N3 y.found y.did refl)
+
+      go : (p : Bool) → same_ref (ref_of z.found) c.top ≡ p → Turned r s v ((looks ++ event r t x goes_on N3 y.found y.did ∷ []) ++ event r x v goes_on N4 z.found z.did ∷ []) (turn_of (if p then Goes (with_node r.plan.setup.kind) (record c { node = c.top.node; mark = c.next.count }) else Goes N1 c))
+      go true w = took_at r.plan.setup.kind r s v _ (record c { node = c.top.node; mark = c.next.count }) (got r s x v N4 z.found z.did (looks ++ event r t x goes_on N3 y.found y.did ∷ []) walked refl (λ o. refl) c (record c { node = c.top.node; mark = c.next.count }) ((after_n4 r x v goes_on c z.found (to_n4 k m b c x e other y) z.did).0 w))
+      go false w = fell r s x v N4 z.found z.did (looks ++ event r t x goes_on N3 y.found y.did ∷ []) walked refl (λ o. refl) c ((after_n4 r x v goes_on c z.found (to_n4 k m b c x e other y) z.did).1 w)

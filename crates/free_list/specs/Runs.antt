@@ -1,0 +1,152 @@
+-- A running call: what it remembers agrees with its seat's actor, line by line.
+use Rattle.std.specs.Prelude.{◌≡◌, ℕ, ◌+◌, ◌<◌, ◌≤◌, true, if◌then◌else◌, nat_eq, nat_lt, Some, None, Result, Ok, Err, zero, suc}
+use Rattle.counted_ref.specs.Ref.{ref_of, same_ref, is_null}
+use Rattle.line_table.specs.declared.lines.Line.{Line}
+use Rattle.line_table.specs.declared.lines.Line.TheVariants.{N1, N2, N3, N4, N5, F1, F2, F3, E2, A1}
+use Rattle.history.specs.declared.refusals.WornWord.TheVariants.{Free as OfFree}
+use Rattle.history.specs.declared.refusals.Refusal.TheVariants.{NoNode, WornOut}
+use Rattle.history.specs.declared.operations.Op.TheVariants.{Enq, Deq}
+use Rattle.node_arena.specs.Machine.{Setup, Held, Actor, with_node}
+use Rattle.node_arena.specs.Leads.{Lead, goes_on, begins, led, CanLead}
+use Rattle.node_arena.specs.declared.arena.Arena.{Arena}
+use Rattle.node_arena.specs.declared.seats.Seat.{Seat}
+use Rattle.node_arena.specs.Seats.{IsSeat, DidStep, view}
+use Rattle.free_list.specs.declared.outcomes.Actor.{Actor as Running}
+use Rattle.free_list.specs.declared.outcomes.Reply.{Reply}
+use Rattle.free_list.specs.declared.outcomes.Reply.TheVariants.{Refused as IsRefused}
+use Rattle.free_list.specs.declared.outcomes.Turn.{Turn}
+use Rattle.free_list.specs.declared.outcomes.Turn.TheVariants.{Took, Failed, Refused}
+use Rattle.free_list.specs.declared.outcomes.Gave.{Gave}
+use Rattle.free_list.specs.declared.outcomes.Gave.TheVariants.{Back, Again}
+use Rattle.free_list.specs.declared.outcomes.Outcome.{Outcome}
+use Rattle.free_list.specs.declared.outcomes.Outcome.TheVariants.{Goes, Ends, Freed}
+
+-- how a take sets out: its first turn begins an enqueue, and a later one goes on
+abbrev pub taking : ℕ → Lead
+taking zero = begins (Enq 0)
+taking (suc n) = goes_on
+
+-- how a give back sets out: its first turn begins a dequeue, and a later one goes on
+abbrev pub giving : ℕ → Lead
+giving zero = begins Deq
+giving (suc n) = goes_on
+
+-- a call that ends with a reply
+abbrev pub told_by : Reply → Outcome
+told_by (IsRefused why) = Ends why
+
+-- the number that an exchange found
+abbrev pub found_by : Result ℕ ℕ → ℕ
+found_by (Ok n) = n
+found_by (Err n) = n
+
+-- what a running call makes of the number found at a line
+abbrev pub follow : Setup → Running → Line → ℕ → Outcome
+follow z a N1 n = Goes N2 (record a { f = n })
+follow z a N2 n =
+    let b = record a { top = ref_of n } in
+    if is_null (ref_of n)
+    then if nat_lt a.f z.size then Goes N5 b else Ends NoNode
+    else if nat_eq (ref_of n).count z.limit then Ends (WornOut OfFree)
+    else Goes N3 b
+follow z a N3 n = Goes N4 (record a { next = ref_of n })
+follow z a N4 n =
+    if same_ref (ref_of n) a.top then Goes (with_node z.kind) (record a { node = a.top.node; mark = a.next.count }) else Goes N1 a
+follow z a N5 n = if nat_eq n a.f then Goes (with_node z.kind) (record a { node = a.f + 1; mark = 0 }) else Goes N1 a
+follow z a F1 n = if nat_eq (ref_of n).count z.limit then Freed else Goes F2 (record a { top = ref_of n })
+follow z a F2 n = Goes F3 a
+follow z a F3 n = if same_ref (ref_of n) a.top then Freed else Goes F1 a
+follow z a l n = Goes l a
+
+-- the node of a running call, with its mark
+abbrev pub in_hand : Running → Held
+in_hand a = record { node = a.node; mark = a.mark }
+
+-- the turn of a take that ends so: it failed where it is back at N1, and else has its node
+abbrev pub turn_of : Outcome → Turn
+turn_of (Goes N1 a) = Failed
+turn_of (Goes l a) = Took (in_hand a)
+turn_of (Ends why) = Refused why
+turn_of Freed = Failed
+
+-- the turn of a give back that ends so
+abbrev pub gave_of : Outcome → Gave
+gave_of Freed = Back
+gave_of (Goes l a) = Again
+gave_of (Ends why) = Again
+
+-- a node in hand, with its mark
+pub record HasNode (z : Setup) (b : Actor) (h : Held) : Type 0 where
+  pub node : b.node ≡ h.node
+  pub mark : b.mark ≡ h.mark
+  pub held : b.holds ≡ true
+  pub some : 1 ≤ h.node
+  pub inside : h.node ≤ z.size
+  pub small : h.mark ≤ z.limit
+
+-- a reference to the first free node that can be changed
+pub record HasTop (z : Setup) (b : Actor) (a : Running) : Type 0 where
+  pub top : b.top ≡ a.top
+  pub room : a.top.count < z.limit
+
+-- the same where there is a free node
+pub record HasFree (z : Setup) (b : Actor) (a : Running) : Type 0 where
+  pub top : HasTop z b a
+  pub some : 1 ≤ a.top.node
+  pub inside : a.top.node ≤ z.size
+
+-- an actor that frees the node in its hand, before a dequeue
+pub record Frees (b : Actor) (h : Held) : Type 0 where
+  pub node : b.node ≡ h.node
+  pub mark : b.mark ≡ h.mark
+  pub held : b.holds ≡ true
+  pub early : b.due ≡ None
+
+-- the same where node and mark are known to be in range
+pub record FreesOne (z : Setup) (b : Actor) (h : Held) : Type 0 where
+  pub frees : Frees b h
+  pub some : 1 ≤ h.node
+  pub inside : h.node ≤ z.size
+  pub small : h.mark ≤ z.limit
+
+-- what a running call knows of its actor's registers before a line
+abbrev pub KnowsAt : Setup → Line → Actor → Running → Type 0
+KnowsAt z N2 b a = b.f ≡ a.f
+KnowsAt z N3 b a = HasFree z b a
+KnowsAt z N4 b a = HasFree z b a × (b.next ≡ a.next)
+KnowsAt z N5 b a = (b.f ≡ a.f) × (a.f < z.size)
+KnowsAt z F1 b a = Frees b (in_hand a)
+KnowsAt z F2 b a = FreesOne z b (in_hand a) × HasTop z b a
+KnowsAt z F3 b a = FreesOne z b (in_hand a) × HasTop z b a
+KnowsAt z E2 b a = HasNode z b (in_hand a)
+KnowsAt z A1 b a = HasNode z b (in_hand a)
+KnowsAt z l b a = Unit {0}
+
+-- a seat's actor, led there, stands before a line with an empty pocket, and the call knows its registers
+pub record Stands (r : Arena) (s : Seat) (lead : Lead) (l : Line) (a : Running) : Type 0 where
+  pub seat : IsSeat r s
+  pub can : CanLead lead (view s).actor
+  pub line : (led r.plan.setup (view s).number lead (view s).actor).line ≡ Some l
+  pub empty : (led r.plan.setup (view s).number lead (view s).actor).pocket ≡ None
+  pub knows : KnowsAt r.plan.setup l (led r.plan.setup (view s).number lead (view s).actor) a
+
+-- a seat's actor, led there, stands at the start of a take's turn
+pub record StartsTake (r : Arena) (s : Seat) (lead : Lead) : Type 0 where
+  pub seat : IsSeat r s
+  pub can : CanLead lead (view s).actor
+  pub line : (led r.plan.setup (view s).number lead (view s).actor).line ≡ Some N1
+  pub empty : (led r.plan.setup (view s).number lead (view s).actor).pocket ≡ None
+
+-- a seat's actor, led there, stands at the start of a give back's turn, with its node
+pub record StartsGive (r : Arena) (s : Seat) (lead : Lead) (h : Held) : Type 0 where
+  pub seat : IsSeat r s
+  pub can : CanLead lead (view s).actor
+  pub line : (led r.plan.setup (view s).number lead (view s).actor).line ≡ Some F1
+  pub empty : (led r.plan.setup (view s).number lead (view s).actor).pocket ≡ None
+  pub frees : Frees (led r.plan.setup (view s).number lead (view s).actor) h
+
+-- the seat made its step at a line, and the call made of the number found what the line says
+pub record Follows (r : Arena) (s t : Seat) (lead : Lead) (l : Line) (a : Running) (out : Outcome) : Type 0 where
+  pub found : ℕ
+  pub did : DidStep r s t lead l found
+  pub leads_to : out ≡ follow r.plan.setup a l found

@@ -1,0 +1,134 @@
+-- What a turn of a take leads to, and what a take answers.
+use Rattle.std.specs.Prelude.{◌≡◌, ℕ, ◌<◌, ◌≤◌, ◌⊎◌, List, [], ◌∷◌, ◌++◌, Some, None, Result, Err, MatchResult, IfOk, IfErr}
+use Rattle.history.specs.declared.refusals.WornWord.TheVariants.{Free as OfFree, Next as OfNext, Tail as OfTail, Head as OfHead}
+use Rattle.history.specs.declared.refusals.Refusal.{Refusal}
+use Rattle.history.specs.declared.refusals.Refusal.TheVariants.{NoNode, WornOut, Busy, Memory, BadSize, IdleActor, ActorBusy, NotHere, NoSuchActor, Text, Read, Write, Stranger, Double, Lost, Closed}
+use Rattle.node_arena.specs.Machine.{Held, World, IsFree, IsUntouched, HasCause, with_node}
+use Rattle.node_arena.specs.Traces.{Event, Traced, IsTraced}
+use Rattle.node_arena.specs.Leads.{goes_on}
+use Rattle.node_arena.specs.declared.arena.Arena.{Arena}
+use Rattle.node_arena.specs.declared.seats.Seat.{Seat}
+use Rattle.node_arena.specs.Seats.{IsSeat, IsReady, KeepsStored, KeepsName, view, pocket_of, failed_of}
+use Rattle.node_arena.specs.Turns.{failed_at, failed_turns}
+use Rattle.node_arena.specs.Walks.{Walks, HadNoEffect, added, LastHeld, NowHolds, MetCause, EndsFailed, IsSole}
+use Rattle.free_list.specs.declared.outcomes.Turn.{Turn}
+use Rattle.free_list.specs.declared.outcomes.Turn.TheVariants.{Took, Failed, Refused}
+use Rattle.free_list.specs.Runs.{StartsTake, taking}
+
+-- a node was free or was never used
+abbrev pub WasThere : ℕ → World → Type 0
+WasThere node w = IsFree w node ⊎ IsUntouched w node
+
+-- at its last step a take took a node that was free or never used, and now the node is this seat's alone, and in no
+-- chain
+pub record IsTaken (r : Arena) (s t : Seat) (node : ℕ) : Type 0 where
+  pub there : LastHeld r s t (WasThere node)
+  pub sole : NowHolds r t (λ w. IsSole w (view t).number node)
+
+-- the cause of each refusal: all nodes used and none free, or Free's count at the limit, at the last step of the call;
+-- or so many turns failed, the last one at the last step
+abbrev pub TakeRefused : Arena → Seat → Seat → (turns : ℕ) → Refusal → Type 0
+TakeRefused r s t turns NoNode = MetCause r s t NoNode
+TakeRefused r s t turns (WornOut OfFree) = MetCause r s t (WornOut OfFree)
+TakeRefused r s t turns (WornOut OfNext) = ⊥
+TakeRefused r s t turns (WornOut OfTail) = ⊥
+TakeRefused r s t turns (WornOut OfHead) = ⊥
+TakeRefused r s t turns Busy = (failed_turns (added s t) ≡ turns) × EndsFailed s t
+TakeRefused r s t turns Memory = ⊥
+TakeRefused r s t turns BadSize = ⊥
+TakeRefused r s t turns IdleActor = ⊥
+TakeRefused r s t turns ActorBusy = ⊥
+TakeRefused r s t turns NotHere = ⊥
+TakeRefused r s t turns NoSuchActor = ⊥
+TakeRefused r s t turns (Text line cause) = ⊥
+TakeRefused r s t turns Read = ⊥
+TakeRefused r s t turns Write = ⊥
+TakeRefused r s t turns Stranger = ⊥
+TakeRefused r s t turns Double = ⊥
+TakeRefused r s t turns Lost = ⊥
+TakeRefused r s t turns Closed = ⊥
+
+-- fewer turns failed than were allowed, unless the answer is Busy
+abbrev pub FailsFewer : (turns : ℕ) → {X : Type 0} → Result X Refusal → ℕ → Type 0
+FailsFewer turns out n = (out ≡ Err Busy → ⊥) → n < turns
+
+-- a turn of a take is refused by these alone
+abbrev pub IsRefusedBy : Refusal → Type 0
+IsRefusedBy why = (why ≡ NoNode) ⊎ (why ≡ WornOut OfFree)
+
+-- the end of some lines: what held before the last of them, of a world with the path so far
+pub record EndedAt (r : Arena) (s : Seat) (es : List Event) (P : World → Type 0) : Type 0 where
+  pub was : Traced
+  pub reached : IsTraced was
+  pub setup : was.world.setup ≡ r.plan.setup
+  pub before : List Event
+  pub last : Event
+  pub path : es ≡ before ++ last ∷ []
+  pub within : was.paths (view s).number ≡ (view s).path ++ before
+  pub held : P was.world
+
+-- the last of some lines was a failed turn
+pub record FailedAt (es : List Event) : Type 0 where
+  pub before : List Event
+  pub last : Event
+  pub path : es ≡ before ++ last ∷ []
+  pub failed : failed_at last.line last.to ≡ 1
+
+-- a node came into the hand
+pub record Got (r : Arena) (s t : Seat) (es : List Event) (h : Held) : Type 0 where
+  pub seat : IsSeat r t
+  pub over : (view t).actor.line ≡ Some (with_node r.plan.setup.kind)
+  pub empty : (view t).actor.pocket ≡ None
+  pub node : (view t).actor.node ≡ h.node
+  pub mark : (view t).actor.mark ≡ h.mark
+  pub never : failed_turns es ≡ 0
+  pub there : EndedAt r s es (WasThere h.node)
+  pub sole : NowHolds r t (λ w. IsSole w (view t).number h.node)
+
+-- a turn that failed
+pub record Fell (r : Arena) (t : Seat) (es : List Event) : Type 0 where
+  pub stands : StartsTake r t goes_on
+  pub once : failed_turns es ≡ 1
+  pub last : FailedAt es
+
+-- a turn that was refused
+pub record Refuses (r : Arena) (s t : Seat) (es : List Event) (why : Refusal) : Type 0 where
+  pub seat : IsSeat r t
+  pub over : (view t).actor.line ≡ None
+  pub empty : (view t).actor.pocket ≡ None
+  pub never : failed_turns es ≡ 0
+  pub cause : EndedAt r s es (λ w. HasCause w why)
+  pub possible : IsRefusedBy why
+
+-- what a turn leads to
+abbrev pub Turned : Arena → Seat → Seat → List Event → Turn → Type 0
+Turned r s t es (Took h) = Got r s t es h
+Turned r s t es Failed = Fell r t es
+Turned r s t es (Refused why) = Refuses r s t es why
+
+-- a turn of a take, from one line N1 to its end
+pub record Turns (r : Arena) (s t : Seat) (out : Turn) : Type 0 where
+  pub stored : KeepsStored s t
+  pub lines : List Event
+  pub walks : Walks (view s) (view t) lines
+  pub turned : Turned r s t lines out
+
+-- a take after so many failed turns
+pub record Trying (r : Arena) (s t : Seat) (n : ℕ) : Type 0 where
+  pub stands : StartsTake r t (taking n)
+  pub stored : KeepsStored s t
+  pub lines : List Event
+  pub walks : Walks (view s) (view t) lines
+  pub failed : failed_turns lines ≡ n
+  pub last : 1 ≤ n → FailedAt lines
+
+-- what a take answers
+pub record Answers (r : Arena) (s t : Seat) (turns : ℕ) (out : Result Held Refusal) : Type 0 where
+  pub ready : IsReady r t
+  pub same : KeepsName s t
+  pub pocket : MatchResult out (λ held. pocket_of t ≡ Some held) (λ _. pocket_of t ≡ None)
+  pub lines : HadNoEffect s t
+  pub taken : IfOk out (λ held. IsTaken r s t held.node)
+  pub refused : IfErr out (TakeRefused r s t turns)
+  pub failed : failed_of t ≡ failed_turns (added s t)
+  pub fewer : FailsFewer turns out (failed_of t)

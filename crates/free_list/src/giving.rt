@@ -1,0 +1,66 @@
+//! Gives a node back.
+ghost use Rattle.std.specs.Prelude.{◌≡◌, ◌≤◌, ◌<◌, None, IsSome, MatchResult, IfErr, OnOk};
+ghost use Rattle.node_arena.specs.Seats.{IsReady, KeepsName, pocket_of, failed_of};
+ghost use Rattle.node_arena.specs.Turns.{failed_turns};
+ghost use Rattle.node_arena.specs.Walks.{HadNoEffect, added};
+ghost use Rattle.free_list.specs.Runs.{StartsGive, giving};
+ghost use Rattle.free_list.specs.Gives.{GiveTurns, GiveAnswers, IsGivenBack, GiveRefused};
+
+use crate::lines::{f1, f2, f3};
+use crate::outcomes::{Gave, Outcome, given, registers};
+use history::Refusal;
+use node_arena::{Arena, Held, Seat};
+
+// One turn, where `index` turns of this call failed before.
+fn give_turn(arena: &Arena, seat: &mut Seat, held: Held, index: u32) -> Gave
+    requires { StartsGive arena.now seat.old (giving index) held }
+    ensures { GiveTurns arena.now seat.old seat.new held result }
+{
+    let Outcome::Goes(_, a) = f1(arena, seat, registers(held.node, held.mark), index) else {
+        return Gave::Back;
+    };
+    let Outcome::Goes(_, a) = f2(arena, seat, a) else {
+        unreachable!()
+    };
+    given(f3(arena, seat, a))
+}
+
+// Turns until one succeeds, or all failed.
+fn tried(arena: &Arena, seat: &mut Seat, turns: u32) -> Result<(), Refusal>
+    requires ready { IsReady arena.now seat.old }
+    requires full { IsSome (pocket_of seat.old) }
+    requires turns { 1 ≤ turns }
+    ensures { GiveAnswers arena.now seat.old seat.new turns result }
+{
+    let held = seat.pocket().unwrap();
+    for index in 0..turns {
+        if let Gave::Back = give_turn(arena, seat, held, index) {
+            seat.keep(None, index);
+            return Ok(());
+        }
+    }
+    seat.keep(Some(held), turns);
+    Err(Refusal::Busy)
+}
+
+/// Gives back the node in the seat's pocket: it is then free, or set aside for good where Free's count is the greatest
+/// one. The pocket is full before, and empty after Ok.
+///
+/// Refused by `Busy` alone, where each of so many turns failed, 1 or more: each met a changed word. The node is then
+/// still in the pocket. Takes no memory and doesn't wait.
+pub fn give_back(arena: &Arena, seat: &mut Seat, turns: u32) -> Result<(), Refusal>
+    requires ready { IsReady arena.now seat.old }
+    requires full { IsSome (pocket_of seat.old) }
+    requires turns { 1 ≤ turns }
+    ensures ready { IsReady arena.now seat.new }
+    ensures same { KeepsName seat.old seat.new }
+    ensures pocket { MatchResult result
+        (λ _. pocket_of seat.new ≡ None) (λ _. pocket_of seat.new ≡ pocket_of seat.old) }
+    ensures lines { HadNoEffect seat.old seat.new }
+    ensures back { OnOk result (IsGivenBack arena.now seat.old seat.new) }
+    ensures refused { IfErr result (GiveRefused seat.old seat.new turns) }
+    ensures failed { failed_of seat.new ≡ failed_turns (added seat.old seat.new) }
+    ensures fewer { OnOk result (failed_of seat.new < turns) }
+{
+    tried(arena, seat, turns)
+}

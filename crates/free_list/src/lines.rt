@@ -1,0 +1,133 @@
+//! The lines of a take and of a give back, each a row of the line table on the words of an arena.
+ghost use Rattle.std.specs.Prelude.{◌≡◌};
+ghost use Rattle.line_table.specs.declared.lines.Line.TheVariants as lines;
+ghost use Rattle.node_arena.specs.Leads.{Lead, goes_on};
+ghost use Rattle.free_list.specs.Runs.{Stands, Follows};
+
+use crate::outcomes::{
+    Actor, Outcome, Reply, Untold, ends, exchanged, freed, goes, lets_go, raised, reference,
+    sets_aside, takes, with_node, worn,
+};
+use counted_ref::CountedRef;
+use history::{Refusal, WornWord};
+use line_table::{Line, line_table};
+use node_arena::{Arena, Seat};
+
+/// What a running call gives for the number of a step.
+const NOW: Untold = Untold;
+
+// The access of a line, as one step call.
+macro_rules! access {
+    ($arena:ident $seat:ident $line:ident load Fresh) => { $arena.load($seat, Line::$line, 0) as u32 };
+    ($arena:ident $seat:ident $line:ident load Free) => { reference($arena.load($seat, Line::$line, 1)) };
+    ($arena:ident $seat:ident $line:ident load Next($node:expr)) => {
+        reference($arena.load($seat, Line::$line, 4 + 2 * $node as usize))
+    };
+    ($arena:ident $seat:ident $line:ident store Next($node:expr) ($new:expr)) => {
+        $arena.store($seat, Line::$line, 4 + 2 * $node as usize, $new.word())
+    };
+    ($arena:ident $seat:ident $line:ident exchange Fresh ($old:expr, $new:expr)) => {
+        exchanged($arena.exchange($seat, Line::$line, 0, u64::from($old), u64::from($new))) as u32
+    };
+    ($arena:ident $seat:ident $line:ident exchange Free ($old:expr, $new:expr)) => {
+        reference(exchanged($arena.exchange($seat, Line::$line, 1, $old.word(), $new.word())))
+    };
+}
+
+// One row: its access, and then its third column.
+macro_rules! row {
+    (($arena:ident $seat:ident $found:ident N1) N1 {$($access:tt)*} {$($then:tt)*} $($rest:tt)*) => {
+        { let $found = access!($arena $seat N1 $($access)*); $($then)* }
+    };
+    (($arena:ident $seat:ident $found:ident N2) N2 {$($access:tt)*} {$($then:tt)*} $($rest:tt)*) => {
+        { let $found = access!($arena $seat N2 $($access)*); $($then)* }
+    };
+    (($arena:ident $seat:ident $found:ident N3) N3 {$($access:tt)*} {$($then:tt)*} $($rest:tt)*) => {
+        { let $found = access!($arena $seat N3 $($access)*); $($then)* }
+    };
+    (($arena:ident $seat:ident $found:ident N4) N4 {$($access:tt)*} {$($then:tt)*} $($rest:tt)*) => {
+        { let $found = access!($arena $seat N4 $($access)*); $($then)* }
+    };
+    (($arena:ident $seat:ident $found:ident N5) N5 {$($access:tt)*} {$($then:tt)*} $($rest:tt)*) => {
+        { let $found = access!($arena $seat N5 $($access)*); $($then)* }
+    };
+    (($arena:ident $seat:ident $found:ident F1) F1 {$($access:tt)*} {$($then:tt)*} $($rest:tt)*) => {
+        { let $found = access!($arena $seat F1 $($access)*); $($then)* }
+    };
+    (($arena:ident $seat:ident $found:ident F2) F2 {$($access:tt)*} {$($then:tt)*} $($rest:tt)*) => {
+        { access!($arena $seat F2 $($access)*); $($then)* }
+    };
+    (($arena:ident $seat:ident $found:ident F3) F3 {$($access:tt)*} {$($then:tt)*} $($rest:tt)*) => {
+        { let $found = access!($arena $seat F3 $($access)*); $($then)* }
+    };
+    ($given:tt $line:ident $access:tt $then:tt $($rest:tt)*) => {
+        row! { $given $($rest)* }
+    };
+}
+
+/// `index` turns of this call failed before.
+pub(crate) fn n1(arena: &Arena, seat: &mut Seat, a: Actor, index: u32) -> Outcome
+    ghost lead: { Lead }
+    requires { Stands arena.now seat.old lead lines.N1 a }
+    ensures { Follows arena.now seat.old seat.new lead lines.N1 a result }
+{
+    let _ = index;
+    line_table!((setup NOW NOW a found) row (arena seat found N1) [new_node])
+}
+
+pub(crate) fn n2(arena: &Arena, seat: &mut Seat, a: Actor) -> Outcome
+    requires { Stands arena.now seat.old goes_on lines.N2 a }
+    ensures { Follows arena.now seat.old seat.new goes_on lines.N2 a result }
+{
+    let setup = arena.setup();
+    line_table!((setup NOW NOW a found) row (arena seat found N2) [new_node])
+}
+
+pub(crate) fn n3(arena: &Arena, seat: &mut Seat, a: Actor) -> Outcome
+    requires { Stands arena.now seat.old goes_on lines.N3 a }
+    ensures { Follows arena.now seat.old seat.new goes_on lines.N3 a result }
+{
+    line_table!((setup NOW NOW a found) row (arena seat found N3) [new_node])
+}
+
+pub(crate) fn n4(arena: &Arena, seat: &mut Seat, a: Actor) -> Outcome
+    requires { Stands arena.now seat.old goes_on lines.N4 a }
+    ensures { Follows arena.now seat.old seat.new goes_on lines.N4 a result }
+{
+    let setup = arena.setup();
+    line_table!((setup NOW NOW a found) row (arena seat found N4) [new_node])
+}
+
+pub(crate) fn n5(arena: &Arena, seat: &mut Seat, a: Actor) -> Outcome
+    requires { Stands arena.now seat.old goes_on lines.N5 a }
+    ensures { Follows arena.now seat.old seat.new goes_on lines.N5 a result }
+{
+    let setup = arena.setup();
+    line_table!((setup NOW NOW a found) row (arena seat found N5) [new_node])
+}
+
+/// `index` turns of this call failed before.
+pub(crate) fn f1(arena: &Arena, seat: &mut Seat, a: Actor, index: u32) -> Outcome
+    ghost lead: { Lead }
+    requires { Stands arena.now seat.old lead lines.F1 a }
+    ensures { Follows arena.now seat.old seat.new lead lines.F1 a result }
+{
+    let _ = index;
+    let setup = arena.setup();
+    line_table!((setup NOW NOW a found) row (arena seat found F1) [free])
+}
+
+pub(crate) fn f2(arena: &Arena, seat: &mut Seat, a: Actor) -> Outcome
+    requires { Stands arena.now seat.old goes_on lines.F2 a }
+    ensures { Follows arena.now seat.old seat.new goes_on lines.F2 a result }
+{
+    line_table!((setup NOW NOW a found) row (arena seat found F2) [free])
+}
+
+pub(crate) fn f3(arena: &Arena, seat: &mut Seat, a: Actor) -> Outcome
+    requires { Stands arena.now seat.old goes_on lines.F3 a }
+    ensures { Follows arena.now seat.old seat.new goes_on lines.F3 a result }
+{
+    let setup = arena.setup();
+    line_table!((setup NOW NOW a found) row (arena seat found F3) [free])
+}

@@ -1,0 +1,194 @@
+//! What a running call remembers, and the words of the line table's third column for it.
+ghost use Rattle.std.specs.Prelude.{◌≡◌, ◌+◌, ◌<◌, ◌≤◌, ◌%◌, ◌^◌, ◌≢◌, nat_eq, if◌then◌else◌};
+ghost use Rattle.counted_ref.specs.Ref.{ref, ref_of, node_bits, reserved_node, count_bits};
+ghost use Rattle.history.specs.declared.refusals.Refusal.TheVariants.{WornOut};
+ghost use Rattle.node_arena.specs.Machine as machine;
+ghost use Rattle.free_list.specs.Runs.{told_by, found_by, turn_of, gave_of};
+
+use counted_ref::CountedRef;
+use history::{Refusal, WornWord};
+use line_table::{Kind, Line};
+use node_arena::{Held, Setup};
+
+/// What the machine knows and a running call doesn't: step numbers, and what is due.
+#[derive(Clone, Copy)]
+pub(crate) struct Untold;
+
+/// The registers of a running call.
+#[derive(Clone, Copy)]
+pub(crate) struct Actor {
+    pub(crate) f: u32,
+    pub(crate) top: CountedRef,
+    pub(crate) next: CountedRef,
+    pub(crate) node: u32,
+    pub(crate) mark: u64,
+    pub(crate) due: Untold,
+}
+
+/// What a call that ends is told.
+#[derive(Drop)]
+pub(crate) enum Reply {
+    Refused(Refusal),
+}
+
+/// What a line leads to.
+#[derive(Drop)]
+pub(crate) enum Outcome {
+    /// The call goes on at a line.
+    Goes(Line, Actor),
+    /// The call ends with a refusal.
+    Ends(Refusal),
+    /// The node is free, or set aside.
+    Freed,
+}
+
+/// What a turn of a take comes to.
+#[derive(Drop)]
+pub(crate) enum Turn {
+    /// A node came into the hand.
+    Took(Held),
+    /// The turn failed.
+    Failed,
+    /// The call ends with a refusal.
+    Refused(Refusal),
+}
+
+/// What a turn of a give back comes to.
+#[derive(Drop)]
+pub(crate) enum Gave {
+    /// The node is free, or set aside.
+    Back,
+    /// The turn failed.
+    Again,
+}
+
+/// Registers with this node and mark, and nothing read.
+pub(crate) fn registers(node: u32, mark: u64) -> Actor
+    ensures node { result.node ≡ node }
+    ensures mark { result.mark ≡ mark }
+{
+    let null = CountedRef::new(0, 0);
+    Actor {
+        f: 0,
+        top: null,
+        next: null,
+        node,
+        mark,
+        due: Untold,
+    }
+}
+
+/// The reference that a word holds.
+pub(crate) fn reference(word: u64) -> CountedRef
+    requires { word % 2 ^ node_bits ≢ reserved_node }
+    ensures { result ≡ ref_of word }
+{
+    match CountedRef::from_word(word) {
+        Some(reference) => reference,
+        None => unreachable!(),
+    }
+}
+
+/// The word that an exchange found.
+pub(crate) fn exchanged(answer: Result<u64, u64>) -> u64
+    ensures { result ≡ found_by answer }
+{
+    match answer {
+        Ok(found) => found,
+        Err(found) => found,
+    }
+}
+
+pub(crate) fn goes(line: Line, a: Actor) -> Outcome
+    ensures { result ≡ Outcome.Goes line a }
+{
+    Outcome::Goes(line, a)
+}
+
+pub(crate) fn ends(now: Untold, reply: Reply, a: Actor) -> Outcome
+    ensures { result ≡ told_by reply }
+{
+    let _ = (now, a);
+    match reply {
+        Reply::Refused(why) => Outcome::Ends(why),
+    }
+}
+
+pub(crate) fn worn(now: Untold, word: WornWord, a: Actor) -> Outcome
+    ensures { result ≡ Outcome.Ends (WornOut word) }
+{
+    let _ = (now, a);
+    Outcome::Ends(Refusal::WornOut(word))
+}
+
+pub(crate) fn with_node(kind: Kind) -> Line
+    ensures { result ≡ machine.with_node kind }
+{
+    match kind {
+        Kind::NonBlocking => Line::E2,
+        Kind::TwoLock => Line::A1,
+    }
+}
+
+pub(crate) fn takes(node: u32, mark: u64, a: Actor) -> Actor
+    ensures { result ≡ record a { node = node; mark = mark } }
+{
+    Actor { node, mark, ..a }
+}
+
+/// The reference that names another node, with its count raised.
+pub(crate) fn raised(setup: Setup, from: CountedRef, to: u32) -> CountedRef
+    requires to { to < reserved_node }
+    requires count { from.count < setup.limit }
+    requires limit { setup.limit < 2 ^ count_bits }
+    ensures { result ≡ machine.raised setup from to }
+{
+    match from.raised(to, setup.limit) {
+        Some(reference) => reference,
+        None => unreachable!(),
+    }
+}
+
+pub(crate) fn lets_go(a: Actor) -> Actor
+    ensures { result ≡ a }
+{
+    a
+}
+
+pub(crate) fn freed(kind: Kind, now: Untold, due: Untold, a: Actor) -> Outcome
+    ensures { result ≡ Outcome.Freed }
+{
+    let _ = (kind, now, due, a);
+    Outcome::Freed
+}
+
+pub(crate) fn sets_aside(outcome: Outcome) -> Outcome
+    ensures { result ≡ outcome }
+{
+    outcome
+}
+
+/// The turn of a take that ends so.
+pub(crate) fn turned(outcome: Outcome) -> Turn
+    ensures { result ≡ turn_of outcome }
+{
+    match outcome {
+        Outcome::Goes(Line::N1, _) => Turn::Failed,
+        Outcome::Goes(_, a) => Turn::Took(Held {
+            node: a.node,
+            mark: a.mark,
+        }),
+        Outcome::Ends(why) => Turn::Refused(why),
+        Outcome::Freed => Turn::Failed,
+    }
+}
+
+/// The turn of a give back that ends so.
+pub(crate) fn given(outcome: Outcome) -> Gave
+    ensures { result ≡ gave_of outcome }
+{
+    match outcome {
+        Outcome::Freed => Gave::Back,
+        Outcome::Goes(..) | Outcome::Ends(_) => Gave::Again,
+    }
+}

@@ -1,0 +1,93 @@
+-- Which steps add to the history, by the form of their access: a seat counts its pushes and pops there.
+use Rattle.std.proofs.Common.{◌≡◌, ◌≢◌, ℕ, if◌then◌else◌, nat_eq, List, [], ◌∷◌, Some, sym, refl, ap, ◌∙◌, subst, eq-eqb, ne_eqb}
+use Rattle.std.specs.List.{count_by}
+use Rattle.counted_ref.specs.Ref.{same_ref}
+use Rattle.line_table.specs.declared.lines.Line.{Line}
+use Rattle.line_table.specs.declared.lines.Line.TheVariants.{E9, D13, A5, B5}
+use Rattle.history.specs.declared.operations.Entry.{Entry}
+use Rattle.history.specs.declared.operations.Entry.TheVariants.{Push, Pop}
+use Rattle.step_machine.specs.declared.actors.Setup.{Setup}
+use Rattle.step_machine.specs.declared.actors.Actor.{Actor}
+use Rattle.step_machine.specs.Memory.{Word, Head, Next, Content, content, Found, same}
+use Rattle.step_machine.specs.Lines.{action}
+use Rattle.step_machine.specs.Words.{encoded}
+use Rattle.step_machine.specs.Machine.{actor_of}
+use Rattle.step_machine.specs.Tables.{PlaceStep, load_at, store_at, and_at, exchange_at, place_step, ContentFits, ActionFits}
+use Rattle.step_machine.proofs.Tables.{same_content}
+use Rattle.step_machine.proofs.Fits.{shared_fits, access_fits}
+use Rattle.step_machine.proofs.Reached.{reached_in_range}
+use Rattle.node_arena.specs.Traces.{Traced, IsTraced, entries_of, entries_at, number_at}
+use Rattle.node_arena.specs.Seats.{is_push, is_pop, pushes_at, pops_at}
+use Rattle.node_arena.proofs.Tracing.{traced_reached}
+
+-- entries have as many pushes and pops as a line counts
+pub record Counts (l : Line) (es : List Entry) : Type 0 where
+  pub pushes : count_by is_push es ≡ pushes_at l
+  pub pops : count_by is_pop es ≡ pops_at l
+
+-- a load adds nothing
+pub loads_nothing : (s : Setup) (me : ℕ) (a : Actor) (l : Line) (p : ℕ) (c : Found (action s me a l)) → place_step (action s me a l) ≡ load_at p → entries_of s me a l c ≡ []
+loads_nothing s me a E9 p c e = cc
+loads_nothing s me a D13 p c e = cc
+loads_nothing s me a A5 p c e = cc
+loads_nothing s me a B5 p c e = cc
+loads_nothing s me a _ p c e = refl
+
+-- a fetch_and adds nothing
+pub clears_nothing : (s : Setup) (me : ℕ) (a : Actor) (l : Line) (p mask : ℕ) (c : Found (action s me a l)) → place_step (action s me a l) ≡ and_at p mask → entries_of s me a l c ≡ []
+clears_nothing s me a E9 p mask c e = cc
+clears_nothing s me a D13 p mask c e = cc
+clears_nothing s me a A5 p mask c e = cc
+clears_nothing s me a B5 p mask c e = cc
+clears_nothing s me a _ p mask c e = refl
+
+-- a store adds what its line counts
+pub stores_counted : (s : Setup) (me : ℕ) (a : Actor) (l : Line) (p n : ℕ) (c : Found (action s me a l)) → place_step (action s me a l) ≡ store_at p n → Counts l (entries_of s me a l c)
+stores_counted s me a E9 p n c e = cc
+stores_counted s me a D13 p n c e = cc
+stores_counted s me a A5 p n c e = record { pushes = refl; pops = refl }
+stores_counted s me a B5 p n c e = record { pushes = refl; pops = refl }
+stores_counted s me a _ p n c e = record { pushes = refl; pops = refl }
+
+-- the number that an exchange compares with
+old_of : PlaceStep → ℕ
+old_of (load_at p) = 0
+old_of (store_at p n) = 0
+old_of (and_at p mask) = 0
+old_of (exchange_at p old new) = old
+
+-- an actor that stands before a line whose access is an exchange
+module _ (t : Traced) (me : ℕ) (a : Actor) (p old new : ℕ) (r : IsTraced t) (at : actor_of t.world me ≡ Some a) where
+  -- whether the exchange is won, by the contents and by the numbers
+  won_is : (l : Line) (x : Word) (was mine : Content x) → ContentFits x was → ContentFits x mine → encoded x mine ≡ old → same x was mine ≡ nat_eq (encoded x was) old
+  won_is l x was mine f g e = same_content x was mine f g ∙ ap (nat_eq (encoded x was)) e
+
+  fits : (x : Word) → ContentFits x (content x t.world.shared)
+  fits = shared_fits t.world (reached_in_range t.world (traced_reached t r))
+
+  given : (l : Line) → a.line ≡ Some l → ActionFits (action t.world.setup me a l)
+  given l here = access_fits t.world me a l (reached_in_range t.world (traced_reached t r)) at here
+
+  won_e9 : a.line ≡ Some E9 → place_step (action t.world.setup me a E9) ≡ exchange_at p old new → same_ref (content (Next a.tail.node) t.world.shared) a.next ≡ nat_eq (number_at t.world.setup t me a E9) old
+  unfolding old_of
+  won_e9 here e = won_is E9 (Next a.tail.node) (content (Next a.tail.node) t.world.shared) a.next (fits (Next a.tail.node)) (given E9 here).0 (ap old_of e)
+
+  won_d13 : a.line ≡ Some D13 → place_step (action t.world.setup me a D13) ≡ exchange_at p old new → same_ref t.world.shared.head a.head ≡ nat_eq (number_at t.world.setup t me a D13) old
+  unfolding old_of
+  won_d13 here e = won_is D13 Head t.world.shared.head a.head (fits Head) (given D13 here).0 (ap old_of e)
+
+  -- an exchange that is won adds what its line counts
+  pub wins_counted : (l : Line) → a.line ≡ Some l → place_step (action t.world.setup me a l) ≡ exchange_at p old new → number_at t.world.setup t me a l ≡ old → Counts l (entries_at t.world.setup t me a l)
+  wins_counted E9 here e n = subst (λ b. Counts E9 (if b then Push me a.val.body ∷ [] else [])) (sym (won_e9 here e ∙ eq-eqb _ _ n)) (record { pushes = refl; pops = refl })
+  wins_counted D13 here e n = subst (λ b. Counts D13 (if b then Pop me a.val ∷ [] else [])) (sym (won_d13 here e ∙ eq-eqb _ _ n)) (record { pushes = refl; pops = refl })
+  wins_counted A5 here e n = cc
+  wins_counted B5 here e n = cc
+  wins_counted _ here e n = record { pushes = refl; pops = refl }
+
+  -- an exchange that is lost adds nothing
+  pub loses_nothing : (l : Line) → a.line ≡ Some l → place_step (action t.world.setup me a l) ≡ exchange_at p old new → number_at t.world.setup t me a l ≢ old → entries_at t.world.setup t me a l ≡ []
+  loses_nothing E9 here e n = ap (λ b. if b then Push me a.val.body ∷ [] else []) (won_e9 here e ∙ ne_eqb _ _ n)
+  loses_nothing D13 here e n = ap (λ b. if b then Pop me a.val ∷ [] else []) (won_d13 here e ∙ ne_eqb _ _ n)
+  loses_nothing A5 here e n = cc
+  loses_nothing B5 here e n = cc
+  loses_nothing _ here e n = refl

@@ -1,0 +1,150 @@
+-- The opening keeps the rule, and so does a seat that is dealt.
+use Rattle.std.proofs.Common.{◌≡◌, ◌≢◌, ◌⊎◌, ℕ, ◌+◌, ◌-◌, ◌*◌, ◌<◌, ◌≤◌, if◌then◌else◌, List, [], ◌∷◌, ◌++◌, zero, suc, length, replicate, set, sym, refl, ap, ◌∙◌, subst, ⊎_elim, inl, inr, arith, slice_get, Some, None, ne_eqb}
+use Rattle.std.proofs.Math.ListN.{length-replicate}
+use mathlib.Core.Option.{some, some-injective, some-ne-none}
+use lib.ListN.{get_elem?}
+use Rattle.atomic_table.specs.Table.{Me, Splits, opening}
+use Rattle.atomic_table.specs.Seated.{TableId}
+use Rattle.atomic_table.proofs.Lists.{at_set}
+use Rattle.step_machine.specs.declared.actors.Setup.{Setup}
+use Rattle.step_machine.specs.Memory.{blank}
+use Rattle.step_machine.specs.Words.{words_of, node_words}
+use Rattle.step_machine.specs.Machine.{World, idle, actor_of, IsSized}
+use Rattle.step_machine.specs.Machine as machine
+use Rattle.node_arena.specs.declared.seats.Seat.{Seat}
+use Rattle.node_arena.specs.Traces.{Traced, first_trace, changed}
+use Rattle.node_arena.specs.declared.arena.Arena.{Arena}
+use Rattle.node_arena.specs.Leads.{at_rest}
+use Rattle.node_arena.specs.Seats.{IsArena, IsTable}
+use Rattle.node_arena.specs.Seeing.{Knows, View, keeper, seated, members, new_seat, dealt_left, dealt_right}
+use Rattle.node_arena.specs.Plans.{Layout, IsPlanned}
+use Rattle.node_arena.specs.Rule.{Fits, Holds, first_view}
+use Rattle.node_arena.specs.Making.{first_words, IsDealt, AreDealt, IsNewSeat}
+use Rattle.node_arena.proofs.Tracing.{changed_here, changed_else}
+use Rattle.node_arena.proofs.Keeps.{one_of}
+
+at_end : {A : Type 0} (l : List A) (a b : A) (j : ℕ) → get_elem? (l ++ a ∷ []) j ≡ some b → (get_elem? l j ≡ some b) ⊎ ((j ≡ length l) × (a ≡ b))
+at_end [] a b zero e = inr (refl, some-injective a b e)
+at_end [] a b (suc j) e = absurd (some-ne-none b (sym e))
+at_end (x ∷ xs) a b zero e = inl e
+at_end (x ∷ xs) a b (suc j) e = ⊎_elim (λ t. inl t) (λ (t : (j ≡ length xs) × (a ≡ b)). inr (ap suc t.0, t.1)) (at_end xs a b j e)
+
+none_at : {A : Type 0} {X : Type 0} (i : ℕ) (b : A) → get_elem? {A = A} [] i ≡ some b → X
+none_at i b e = absurd (some-ne-none b (sym e))
+
+lone : (u w : View) (j : ℕ) → get_elem? (u ∷ []) j ≡ some w → (j ≡ 0) × (u ≡ w)
+lone u w zero e = (refl, some-injective u w e)
+lone u w (suc j) e = none_at j w e
+
+-- each node that was never used has two words, both 0
+blank_words : (k m : ℕ) → 2 * k ≡ m → node_words (replicate k blank) ≡ replicate m 0
+blank_words zero zero e = refl
+blank_words zero (suc m) e = absurd (omega arith)
+blank_words (suc k) zero e = absurd (omega arith)
+blank_words (suc k) (suc zero) e = absurd (omega arith)
+blank_words (suc k) (suc (suc m)) e = ap (λ ws. 0 ∷ 0 ∷ ws) (blank_words k m (omega arith))
+
+opening_words : (s : Setup) (actors : ℕ) → first_words s.size ≡ words_of (machine.opening s actors).shared
+opening_words s actors = ap (λ ws. 1 ∷ 0 ∷ 1 ∷ 1 ∷ 0 ∷ 0 ∷ ws) (sym (blank_words s.size (2 * s.size) refl))
+
+idle_at : (n k : ℕ) → k < n → slice_get (replicate n idle) k ≡ Some idle
+idle_at zero k h = absurd (omega arith)
+idle_at (suc n) zero h = refl
+idle_at (suc n) (suc k) h = idle_at n k (omega arith)
+
+idle_actor : (s : Setup) (n k : ℕ) → 1 ≤ k → k ≤ n → actor_of (machine.opening s n) k ≡ Some idle
+idle_actor s n k from_one few = ap (λ b. if b then None else slice_get (replicate n idle) (k - 1)) (ne_eqb k 0 (omega arith)) ∙ idle_at n (k - 1) (omega arith)
+
+-- the rule holds of a new table, whose words are the first ones
+pub opens : (z : Layout) (words : List ℕ) → IsPlanned z → words ≡ first_words z.setup.size → Holds z (opening {S = ℕ} words [] (first_view z))
+opens z words size e =
+    let t : Traced = first_trace z.setup (length z.roles) in
+    record {
+      sized = size;
+      trace = t;
+      reached = record { actors = length z.roles; moves = []; sized = size; led = refl };
+      setup = refl;
+      actors = length-replicate (length z.roles) idle;
+      words = e ∙ opening_words z.setup (length z.roles);
+      permitted = λ k d h. absurd (omega arith);
+      dealt = 1;
+      home = 0;
+      owner = λ p. (0, 0);
+      fits = λ j i u v a b. let q = lone (keeper 1) u j a in none_at i v (ap (λ (y : View). get_elem? (members y) i) q.1 ∙ b);
+      owned = λ j i u v a b. let q = lone (keeper 1) u j a in none_at i v (ap (λ (y : View). get_elem? (members y) i) q.1 ∙ b);
+      kept = λ j n a. let q = lone (keeper 1) (keeper n) j a in let f = q.1 in (q.0, cc);
+      undealt = λ n some few. record { actor = idle_actor z.setup (length z.roles) n some few; path = refl; own = refl };
+    }
+
+pub deals : (z : Layout) (id n : ℕ) → n ≤ length z.roles → Splits {S = ℕ} (Holds z) id (keeper n) (dealt_left (keeper n)) (dealt_right (keeper n))
+deals z id n few s h mine =
+    let k = h.kept id n mine in
+    let l : ℕ = length (set s.views id (keeper (n + 1))) in
+    let own : ℕ → ℕ × ℕ = changed h.owner n (l, 0) in
+    let P : ℕ → ℕ → Knows → Type 0 = λ j i o. Fits h.trace o × (own o.number ≡ (j, i)) × (o.number < n + 1) in
+    let fresh = h.undealt n (let e = k.1 in omega arith) few in
+    let new : P l 0 (new_seat n) = (record { actor = fresh.actor; path = fresh.path; rest = h.trace.history; begins = refl; own = fresh.own }, changed_here h.owner n (l, 0), omega arith) in
+    let old : (j i : ℕ) (u : View) (o : Knows) → get_elem? s.views j ≡ some u → get_elem? (members u) i ≡ some o → P j i o = λ j i u o a b.
+    let t = h.owned j i u o a b in let lt : o.number < n = let x = t.1 in let e = k.1 in omega arith in (h.fits j i u o a b, changed_else h.owner n (l, 0) o.number (λ e. omega arith) ∙ t.0, omega arith) in
+    let all : (j i : ℕ) (u : View) (o : Knows) → get_elem? (set s.views id (keeper (n + 1)) ++ seated (new_seat n) ∷ []) j ≡ some u → get_elem? (members u) i ≡ some o → P j i o = λ j i u o a b.
+    ⊎_elim
+    (λ (t : get_elem? (set s.views id (keeper (n + 1))) j ≡ some u).
+    ⊎_elim (λ (q : (j ≡ id) × (keeper (n + 1) ≡ u)). subst (λ x. P x i o) (sym q.0) (old id i (keeper n) o mine (ap (λ (y : View). get_elem? (members y) i) q.1 ∙ b)))
+    (λ (q : (j ≢ id) × (get_elem? s.views j ≡ some u)). old j i u o q.1 b)
+    (at_set s.views id j (keeper (n + 1)) u t))
+    (λ (t : (j ≡ l) × (seated (new_seat n) ≡ u)). let q = one_of (new_seat n) o i (ap (λ (y : View). get_elem? (members y) i) t.1 ∙ b) in subst (λ (y : ℕ × ℕ × Knows). P y.0 y.1 y.2) (λ c. (sym t.0 c, sym q.0 c, q.1 c)) new)
+    (at_end (set s.views id (keeper (n + 1))) (seated (new_seat n)) u j a) in
+    record {
+      sized = h.sized;
+      trace = h.trace;
+      reached = h.reached;
+      setup = h.setup;
+      actors = h.actors;
+      words = h.words;
+      permitted = h.permitted;
+      dealt = n + 1;
+      home = h.home;
+      owner = own;
+      fits = λ j i u o a b. (all j i u o a b).0;
+      owned = λ j i u o a b. let t = all j i u o a b in (t.1, t.2);
+      kept = λ j m a. ⊎_elim
+          (λ (t : get_elem? (set s.views id (keeper (n + 1))) j ≡ some (keeper m)).
+          ⊎_elim (λ (q : (j ≡ id) × (keeper (n + 1) ≡ keeper m)). let e = q.1 in (q.0 ∙ k.0, cc))
+          (λ (q : (j ≢ id) × (get_elem? s.views j ≡ some (keeper m))). absurd (q.0 ((h.kept j m q.1).0 ∙ sym k.0)))
+          (at_set s.views id j (keeper (n + 1)) (keeper m) t))
+          (λ (t : (j ≡ l) × (seated (new_seat n) ≡ keeper m)). let e = t.1 in cc)
+          (at_end (set s.views id (keeper (n + 1))) (seated (new_seat n)) (keeper m) j a);
+      undealt = λ p over within. h.undealt p (let e = k.1 in omega arith) within;
+    }
+
+-- the same at the names of a call
+pub deals_at : (z about : Layout) (id n : ℕ) (me : Me ℕ View) → about ≡ z → me ≡ (keeper n, []) → n ≤ length z.roles → Splits {S = ℕ} (Holds about) id me.0 (dealt_left me.0) (dealt_right me.0)
+deals_at z about id n me same is few = subst (λ (y : Me ℕ View). Splits {S = ℕ} (Holds about) id y.0 (dealt_left y.0) (dealt_right y.0)) (sym is) (deals about id n (subst (λ x. n ≤ length x.roles) (sym same) few))
+
+got_snoc : {A : Type 0} (xs : List A) (a b : A) (k : ℕ) → slice_get (xs ++ a ∷ []) k ≡ Some b → (slice_get xs k ≡ Some b) ⊎ ((k ≡ length xs) × (a ≡ b))
+got_snoc [] a b zero e = inr (refl, cc)
+got_snoc [] a b (suc k) e = cc
+got_snoc (x ∷ xs) a b zero e = inl e
+got_snoc (x ∷ xs) a b (suc k) e = ⊎_elim (λ t. inl t) (λ (t : (k ≡ length xs) × (a ≡ b)). inr (ap suc t.0, t.1)) (got_snoc xs a b k e)
+
+-- a seat more that was just dealt
+pub one_more : (z : Layout) (t : TableId) (xs : List Seat) (n : ℕ) (s : Seat) → length xs ≡ n → AreDealt z t xs → IsDealt z t (n + 1) s → AreDealt z t (xs ++ s ∷ [])
+one_more z t xs n s len all new k y got = ⊎_elim (λ (h : slice_get xs k ≡ Some y). all k y h) (λ (h : (k ≡ length xs) × (s ≡ y)). subst (λ (q : ℕ × Seat). IsDealt z t (q.0 + 1) q.1) (λ i. (sym (h.0 ∙ len) i, h.1 i)) new) (got_snoc xs s y k got)
+
+-- a seat that was dealt is a new seat of the arena
+pub new_seats : (r : Arena) (seats : List Seat) → IsArena r → AreDealt r.plan r.table.shared.table_id seats → (k : ℕ) (s : Seat) → slice_get seats k ≡ Some s → IsNewSeat r (k + 1) s
+new_seats r seats arena all k s got =
+    let d = all k s got in
+    record {
+      ready = record { seat = record { arena = arena; sits = d.seat }; free = ap (λ v. (at_rest v.actor).line) d.view; pocket = d.pocket ∙ sym (ap (λ v. (at_rest v.actor).pocket) d.view) };
+      view = d.view;
+      number = d.number;
+      pocket = d.pocket;
+      failed = d.failed;
+    }
+
+-- a table of the first words, made about a plan, is laid out for it
+pub laid : (z about : Layout) (t : TableId) → IsPlanned z → about ≡ z → t.words ≡ length (first_words z.setup.size) → t.slots ≡ 0 → IsTable z about t
+laid z about t sized key words slots =
+    let e : length (replicate {A = ℕ} (2 * z.setup.size) 0) ≡ 2 * z.setup.size = length-replicate {A = ℕ} (2 * z.setup.size) 0 in
+    record { sized = sized; key = key; words = words ∙ (let h : length (first_words z.setup.size) ≡ 6 + 2 * z.setup.size = omega arith in h); slots = slots }

@@ -1,0 +1,104 @@
+-- What a step tells of the world that it was made in.
+use Rattle.std.proofs.Common.{◌≡◌, ◌≢◌, ℕ, ◌+◌, ◌-◌, ◌<◌, ◌≤◌, true, if◌then◌else◌, nat_eq, Some, IsSomeAnd, List, ◌∷◌, length, get_or, Contains, inl, inr, refl, sym, ap, subst, ◌∙◌, arith}
+use Rattle.std.proofs.lemmas.Bool.Decides.{leb_tells}
+use Rattle.line_table.specs.declared.lines.Kind.{Kind}
+use Rattle.line_table.specs.declared.lines.Kind.TheVariants.{TwoLock, NonBlocking}
+use Rattle.counted_ref.specs.Ref.{Ref}
+use Rattle.line_table.specs.declared.lines.Line.{Line}
+use Rattle.line_table.specs.declared.lines.Line.TheVariants.{F2}
+use Rattle.history.specs.declared.refusals.Refusal.{Refusal}
+use Rattle.history.specs.declared.operations.Reply.TheVariants.{Refused}
+use Rattle.step_machine.specs.declared.actors.Actor.{Actor}
+use Rattle.step_machine.specs.Memory.{Word, Content, content, found}
+use Rattle.step_machine.specs.declared.actors.Setup.{Setup}
+use Rattle.step_machine.specs.Lines.{action, outcome, raised}
+use Rattle.step_machine.specs.Machine.{World, actor_of, IsReached}
+use Rattle.step_machine.specs.Tables.{SharedFits}
+use Rattle.step_machine.specs.Range.{WorldInRange, ActorInRange}
+use Rattle.step_machine.specs.Places.{IsChain, IsFree, IsQueued, times, held, in_hand, one_if}
+use Rattle.step_machine.specs.TwoLock.{HasItsPlaces, HasCause, HasCauseFor}
+use Rattle.step_machine.proofs.Reached.{reached_in_range, actor_in_range}
+use Rattle.step_machine.proofs.Accounts.{raised_node}
+use Rattle.step_machine.proofs.Fits.{shared_fits}
+use Rattle.step_machine.proofs.Chains.{one_if_same, chain_same, chain_some}
+use Rattle.step_machine.proofs.Counting.{holds as holds_of, held_one}
+use Rattle.step_machine.proofs.StampsKept.{actor_stands}
+use Rattle.step_machine.proofs.TwoLockLaws as two_lock
+use Rattle.step_machine.proofs.TwoLockLaws.{contained}
+use Rattle.step_machine.proofs.NonBlockingLaws as non_blocking
+use Rattle.node_arena.specs.Traces.{outcome_at}
+use Rattle.node_arena.specs.Leads.{Lead, led}
+use Rattle.node_arena.specs.Seeing.{Knows}
+use Rattle.node_arena.specs.Plans.{Layout}
+use Rattle.node_arena.specs.Rule.{Steps}
+use Rattle.node_arena.specs.Walks.{IsSole}
+use Rattle.node_arena.proofs.Tracing.{traced_reached}
+
+module _ (z : Layout) (lead : Lead) (l : Line) (n : ℕ) (v v' : Knows) (h : Steps z lead l n v v') where
+  -- its numbers are in range
+  pub was_in_range : WorldInRange h.was.world
+  was_in_range = reached_in_range h.was.world (traced_reached h.was h.reached)
+
+  -- its contents fit their words
+  pub was_fits : SharedFits h.was.world.shared
+  was_fits = shared_fits h.was.world was_in_range
+
+  -- the actor's registers are in range
+  pub actor_was_in_range : ActorInRange h.was.world.setup h.was.world.shared.fresh (length h.was.world.actors) (led z.setup v.number lead v.actor)
+  actor_was_in_range = actor_in_range h.was.world v.number (led z.setup v.number lead v.actor) was_in_range h.before
+
+-- a step that is refused has its cause in that world, in either queue
+pub has_cause : (z : Layout) (lead : Lead) (l : Line) (n : ℕ) (v v' : Knows) (h : Steps z lead l n v v') (why : Refusal) → (outcome_at z.setup h.was v.number (led z.setup v.number lead v.actor) l).reply ≡ Some (Refused why) → HasCause h.was.world why
+has_cause z lead l n v v' h why e = go h.was.world.setup.kind refl (ap (λ s. (outcome s (h.was.world.steps + 1) v.number (led z.setup v.number lead v.actor) l (found (action s v.number (led z.setup v.number lead v.actor) l) h.was.world.shared)).reply) h.setup ∙ e)
+  where
+    go : (k : Kind) → h.was.world.setup.kind ≡ k → (outcome h.was.world.setup (h.was.world.steps + 1) v.number (led z.setup v.number lead v.actor) l (found (action h.was.world.setup v.number (led z.setup v.number lead v.actor) l) h.was.world.shared)).reply ≡ Some (Refused why) → HasCause h.was.world why
+    go TwoLock k reply = subst (HasCauseFor h.was.world) reply (two_lock.refuse_with_cause h.was.world (traced_reached h.was h.reached) k v.number (led z.setup v.number lead v.actor) l h.before h.line)
+    go NonBlocking k reply = subst (HasCauseFor h.was.world) reply (non_blocking.refuse_with_cause h.was.world (traced_reached h.was h.reached) k v.number (led z.setup v.number lead v.actor) l h.before h.line)
+
+-- a reached world has its places, in either queue
+pub places_of : (w : World) → IsReached w → HasItsPlaces w
+places_of w r = go w.setup.kind refl
+  where
+    go : (k : Kind) → w.setup.kind ≡ k → HasItsPlaces w
+    go TwoLock e = two_lock.have_their_places w r e
+    go NonBlocking e = non_blocking.have_their_places w r e
+
+-- a node in an actor's hand is nobody else's, and in no chain
+pub sole : (w : World) (me : ℕ) (a : Actor) → IsReached w → actor_of w me ≡ Some a → a.holds ≡ true → 1 ≤ a.node → IsSole w me a.node
+sole w me a r there holds some =
+    let p : HasItsPlaces w = places_of w r in
+    let h : in_hand a.node a ≡ 1 = ap (λ b. if b then one_if (nat_eq a.node a.node) else 0) holds ∙ one_if_same a.node a.node refl in
+    let least : holds_of a.node a ≤ held a.node w.actors = held_one a.node w.actors (me - 1) a (actor_stands w me a there).1 in
+    let used : a.node ≤ w.shared.fresh = used_node a.node (held a.node w.actors) w.shared.fresh (omega arith) (λ lt. let e = p.2.untouched a.node lt in omega arith) in
+    let e = p.2.touched a.node some used in
+    record {
+      holder = subst (λ o. IsSomeAnd o (λ b. in_hand a.node b ≡ 1)) (sym there) h;
+      once = omega arith;
+      not_queued = λ q. let t = subst (λ ns. 1 ≤ times a.node ns) (chain_same w.shared.nodes q.0 p.0 w.shared.head.node q.1 p.2.queue_chain) (contained a.node q.0 q.2.0 q.2.1 q.2.2) in omega arith;
+      not_free = λ q. let t = subst (λ ns. 1 ≤ times a.node ns) (chain_same w.shared.nodes q.0 p.1 w.shared.free.node q.1 p.2.free_chain) (contained a.node q.0 q.2.0 q.2.1 q.2.2) in omega arith;
+    }
+  where
+    used_node : (n h fresh : ℕ) → 1 ≤ h → (fresh < n → h ≡ 0) → n ≤ fresh
+    used_node n h fresh some none = elim (leb_tells n fresh) [
+      | inl t ↦ t.1
+      | inr f ↦ (let no = f.1 in let z = none (omega arith) in absurd (omega arith))
+    ]
+
+-- the node that Free names is free
+pub first_is_free : (w : World) → IsReached w → 1 ≤ w.shared.free.node → IsFree w w.shared.free.node
+first_is_free w r some =
+    let p : HasItsPlaces w = places_of w r in
+    let c = chain_some w.shared.nodes w.shared.free.node p.1 some p.2.free_chain in
+    (p.1, p.2.free_chain, subst (λ ns. Contains ns w.shared.free.node) (sym c.1) (0, omega arith, refl))
+
+-- an actor before F2 has one of the nodes
+pub names_next : (w : World) (me : ℕ) (a : Actor) → IsReached w → actor_of w me ≡ Some a → a.line ≡ Some F2 → (1 ≤ a.node) × (a.node ≤ w.setup.size)
+names_next w me a r there line =
+    let named = non_blocking.each_access_names_a_word w r me a F2 there line in
+    let h = (reached_in_range w r).shared.all_nodes in
+    let low = named.1 in
+    (named.0, omega arith)
+
+-- a raised reference names the other node, below the limit
+pub raised_names : (s : Setup) (x : Ref) (to : ℕ) → x.count ≢ s.limit → (raised s x to).node ≡ to
+raised_names = raised_node

@@ -1,0 +1,8 @@
+use Rattle.node_arena.proofs.Calls.{asks_store, stored}
+use Rattle.node_arena.proofs.arena.Arena.store.Goals as goal
+
+pub store-requires : goal.store-requires
+store-requires g c = asks_store c.args.self.now c.args.seat.now g.lead c.args.line c.args.word c.args.value c.requires
+
+pub returns : goal.returns
+returns g c = rw c.count.ensures (stored c.args.self.now c.args.seat.now _ g.lead c.args.line c.args.word c.args.value c.requires c.store.ensures)

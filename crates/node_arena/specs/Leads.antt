@@ -1,0 +1,38 @@
+-- How an actor sets out for a step: it goes on with its call, or it gives up or rests and begins another one.
+use Rattle.std.specs.Prelude.{◌≡◌, ℕ, true, if◌then◌else◌, Option, Some, None}
+use Rattle.line_table.specs.declared.lines.Line.{Line}
+use Rattle.history.specs.declared.operations.Op.{Op}
+use Rattle.step_machine.specs.declared.actors.Setup.{Setup}
+use Rattle.step_machine.specs.declared.actors.Actor.{Actor}
+use Rattle.step_machine.specs.declared.actors.Outcome.{Outcome}
+use Rattle.step_machine.specs.Lines.{gives_up}
+use Rattle.step_machine.specs.Machine.{is_call, begun, rested, may_rest}
+
+-- the moves that come directly before a step and touch no shared word
+pub data Lead : Type 0 where
+  goes_on : Lead
+  begins : Op → Lead
+
+-- an actor that gave up with an outcome, or else went on
+abbrev pub gave_up : Actor → Option Outcome → Actor
+gave_up a None = a
+gave_up a (Some o) = o.actor
+
+-- an actor out of its call: it rests or gives up where it may
+abbrev pub out_of : Actor → Option Line → Actor
+out_of a None = a
+out_of a (Some l) = if may_rest l then rested a else gave_up a (gives_up 0 a l)
+
+-- an actor as after its give or its rest
+abbrev pub at_rest : Actor → Actor
+at_rest a = out_of a a.line
+
+-- the actor before its step
+abbrev pub led : Setup → (me : ℕ) → Lead → Actor → Actor
+led s me goes_on a = a
+led s me (begins op) a = begun s.kind me op (at_rest a)
+
+-- the moves before the step can be made: the call that begins is one, and no other call is under way
+abbrev pub CanLead : Lead → Actor → Type 0
+CanLead goes_on a = Unit {0}
+CanLead (begins op) a = (is_call op ≡ true) × ((at_rest a).line ≡ None)

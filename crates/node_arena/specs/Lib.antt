@@ -1,0 +1,10 @@
+pub mod Machine
+pub mod Traces
+pub mod Leads
+pub mod Seeing
+pub mod Plans
+pub mod Rule
+pub mod Seats
+pub mod Making
+pub mod Turns
+pub mod Walks

@@ -1,0 +1,91 @@
+-- The rule of the table: words and seats are those of a traced world that moves lead to.
+use Rattle.std.specs.Prelude.{◌≡◌, ℕ, ◌<◌, ◌≤◌, List, [], ◌∷◌, ◌++◌, length, Option, Some, None}
+use Rattle.std.specs.List.{All}
+use mathlib.Core.Option.{some}
+use lib.ListN.{get_elem?}
+use Rattle.atomic_table.specs.Table.{State, Me}
+use Rattle.line_table.specs.declared.lines.Line.{Line}
+use Rattle.line_table.specs.declared.lines.Line.TheVariants.{N1}
+use Rattle.history.specs.declared.operations.Entry.{Entry}
+use Rattle.step_machine.specs.Words.{words_of}
+use Rattle.step_machine.specs.Machine.{idle, actor_of}
+use Rattle.node_arena.specs.Traces.{Traced, IsTraced, step_at, actor_at, event_at, entries_at, number_at, own_entries}
+use Rattle.node_arena.specs.Leads.{Lead, led}
+use Rattle.node_arena.specs.Seeing.{Knows, View, keeper, seated, members, knows}
+use Rattle.node_arena.specs.Plans.{Layout, IsPlanned, IsPermitted}
+
+-- a seat's actor and path are the traced world's, what it has seen is a beginning of the history, and it has just its
+-- own entries of it
+pub record Fits (t : Traced) (v : Knows) : Type 0 where
+  pub actor : actor_of t.world v.number ≡ Some v.actor
+  pub path : t.paths v.number ≡ v.path
+  pub rest : List Entry
+  pub begins : t.history ≡ v.seen ++ rest
+  pub own : own_entries v.number t.history ≡ v.mine
+
+-- nothing was done by a number
+pub record IsNew (t : Traced) (n : ℕ) : Type 0 where
+  pub actor : actor_of t.world n ≡ Some idle
+  pub path : t.paths n ≡ []
+  pub own : own_entries n t.history ≡ []
+
+-- the rule: there is a traced world, which moves lead to, with exactly these words, to which each seat fits; no two
+-- seats have one number, and no entry is of a seat whose role doesn't permit it
+pub record Holds (z : Layout) (s : State ℕ View) : Type 0 where
+  pub sized : IsPlanned z
+  pub trace : Traced
+  pub reached : IsTraced trace
+  pub setup : trace.world.setup ≡ z.setup
+  pub actors : length trace.world.actors ≡ length z.roles
+  pub words : s.words ≡ words_of trace.world.shared
+  pub permitted : All (IsPermitted z.roles) trace.history
+  pub dealt : ℕ
+  pub home : ℕ
+  pub owner : ℕ → ℕ × ℕ
+  pub fits : (j i : ℕ) (u : View) (v : Knows) → get_elem? s.views j ≡ some u → get_elem? (members u) i ≡ some v → Fits trace v
+  pub owned : (j i : ℕ) (u : View) (v : Knows) → get_elem? s.views j ≡ some u → get_elem? (members u) i ≡ some v → (owner v.number ≡ (j, i)) × (v.number < dealt)
+  pub kept : (j n : ℕ) → get_elem? s.views j ≡ some (keeper n) → (j ≡ home) × (n ≡ dealt)
+  pub undealt : (n : ℕ) → dealt ≤ n → n ≤ length z.roles → IsNew trace n
+
+-- the first view deals number 1 first
+abbrev pub first_view : Layout → View
+first_view z = keeper 1
+
+-- what one step at a line tells of the seat before and after: it was made in a traced world that moves lead to, in
+-- which the seat's actor stood as led there, and it found this number
+pub record Steps (z : Layout) (lead : Lead) (l : Line) (n : ℕ) (v v' : Knows) : Type 0 where
+  pub sized : IsPlanned z
+  pub was : Traced
+  pub reached : IsTraced was
+  pub setup : was.world.setup ≡ z.setup
+  pub before : actor_of was.world v.number ≡ Some (led z.setup v.number lead v.actor)
+  pub line : (led z.setup v.number lead v.actor).line ≡ Some l
+  pub walked : was.paths v.number ≡ v.path
+  pub reaches : IsTraced (step_at was v.number (led z.setup v.number lead v.actor) l)
+  pub after : actor_of (step_at was v.number (led z.setup v.number lead v.actor) l).world v.number ≡ Some v'.actor
+  pub trod : (step_at was v.number (led z.setup v.number lead v.actor) l).paths v.number ≡ v'.path
+  pub found : n ≡ number_at z.setup was v.number (led z.setup v.number lead v.actor) l
+  pub number : v'.number ≡ v.number
+  pub actor : v'.actor ≡ actor_at z.setup was v.number (led z.setup v.number lead v.actor) l
+  pub path : v'.path ≡ v.path ++ event_at z.setup was v.number (led z.setup v.number lead v.actor) l ∷ []
+  pub rest : List Entry
+  pub seen : v'.seen ≡ (v.seen ++ rest) ++ entries_at z.setup was v.number (led z.setup v.number lead v.actor) l
+  pub all : v'.seen ≡ (step_at was v.number (led z.setup v.number lead v.actor) l).history
+  pub mine : v'.mine ≡ v.mine ++ entries_at z.setup was v.number (led z.setup v.number lead v.actor) l
+  pub own : own_entries v'.number v'.seen ≡ v'.mine
+  pub permitted : All (IsPermitted z.roles) v'.seen
+
+-- the line of an actor in a call
+abbrev pub line_of : Option Line → Line
+line_of None = N1
+line_of (Some l) = l
+
+-- what a step tells, where the seat's view says at which line it was made
+abbrev pub Tells : Layout → Lead → Me ℕ View → ℕ → Me ℕ View → Type 0
+Tells z lead me n me' =
+    (me' ≡ (seated (knows me'.0), [])) ×
+    Steps z lead (line_of (led z.setup (knows me.0).number lead (knows me.0).actor).line) n (knows me.0) (knows me'.0)
+
+-- the same of a step that isn't told what it found
+abbrev pub TellsNothing : Layout → Lead → Me ℕ View → Me ℕ View → Type 0
+TellsNothing z lead me me' = (n : ℕ) × Tells z lead me n me'

@@ -1,0 +1,156 @@
+-- What clauses say of an arena and its seats.
+use Rattle.std.specs.Prelude.{◌≡◌, ℕ, ◌+◌, ◌-◌, ◌*◌, ◌^◌, ◌<◌, Bool, true, false, List, [], Option, Some, None, slice_get}
+use Rattle.std.specs.List.{count_by}
+use Rattle.line_table.specs.declared.lines.Line.{Line}
+use Rattle.line_table.specs.declared.lines.Line.TheVariants.{E9, D13, A5, B5}
+use Rattle.history.specs.declared.operations.Entry.{Entry}
+use Rattle.history.specs.declared.operations.Entry.TheVariants.{Push, Pop}
+use Rattle.step_machine.specs.declared.actors.Setup.{Setup}
+use Rattle.step_machine.specs.declared.actors.Held.{Held}
+use Rattle.step_machine.specs.Lines.{action}
+use Rattle.step_machine.specs.Tables.{PlaceStep, place_of, place_step}
+use Rattle.atomic_table.specs.Seated.{TableId}
+use Rattle.node_arena.specs.declared.roles.Role.{Role}
+use Rattle.node_arena.specs.declared.arena.Arena.{Arena}
+use Rattle.node_arena.specs.declared.seats.Seat.{Seat}
+use Rattle.node_arena.specs.Leads.{Lead, led, at_rest, CanLead}
+use Rattle.node_arena.specs.Seeing.{Knows, seated, knows}
+use Rattle.node_arena.specs.Plans.{Layout, IsPlanned, PermitsLine}
+use Rattle.node_arena.specs.Rule.{Steps}
+
+-- the plan of an arena
+abbrev pub plan_of : Arena → Layout
+plan_of r = r.plan
+
+-- the setup of an arena
+abbrev pub setup_of : Arena → Setup
+setup_of r = r.plan.setup
+
+-- the roles of an arena's seats
+abbrev pub roles_of : Arena → List Role
+roles_of r = r.plan.roles
+
+-- how many words an arena has
+abbrev pub word_count : Arena → ℕ
+word_count r = 6 + 2 * r.plan.setup.size
+
+-- what a seat knows
+abbrev pub view : Seat → Knows
+view s = knows s.token.me.0
+
+-- the number of a seat
+abbrev pub number_of : Seat → ℕ
+number_of s = s.number
+
+-- the role of a seat
+abbrev pub role_of : Seat → Role
+role_of s = s.role
+
+-- the node in a seat's pocket, as the seat stores it
+abbrev pub pocket_of : Seat → Option Held
+pocket_of s = s.pocket
+
+-- the failed turns of a seat's last call, as the seat stores them
+abbrev pub failed_of : Seat → ℕ
+failed_of s = s.failed
+
+-- a seat that keeps another pocket and another number of failed turns
+abbrev pub keeping : Seat → Option Held → ℕ → Seat
+keeping s pocket failed = record s { pocket = pocket; failed = failed }
+
+-- whether an entry is a push
+abbrev pub is_push : Entry → Bool
+is_push (Push seat body) = true
+is_push (Pop seat value) = false
+
+-- whether an entry is a pop
+abbrev pub is_pop : Entry → Bool
+is_pop (Push seat body) = false
+is_pop (Pop seat value) = true
+
+-- a table, made about a plan, is laid out for it
+pub record IsTable (z about : Layout) (t : TableId) : Type 0 where
+  pub sized : IsPlanned z
+  pub key : about ≡ z
+  pub words : t.words ≡ 6 + 2 * z.setup.size
+  pub slots : t.slots ≡ 0
+
+-- the arena's table is laid out for its plan
+abbrev pub IsArena : Arena → Type 0
+IsArena r = IsTable r.plan r.table.shared.key r.table.shared.table_id
+
+-- a seat of a table: it is an actor by its number, has its role, and counts its own pushes and pops
+pub record Sits (z : Layout) (t : TableId) (s : Seat) : Type 0 where
+  pub table : s.token.table_id ≡ t
+  pub seat : s.token.me ≡ (seated (view s), [])
+  pub number : s.number ≡ (view s).number
+  pub role : slice_get z.roles (s.number - 1) ≡ Some s.role
+  pub pushes : s.pushes ≡ count_by is_push (view s).mine
+  pub pops : s.pops ≡ count_by is_pop (view s).mine
+
+-- a seat of an arena
+pub record IsSeat (r : Arena) (s : Seat) : Type 0 where
+  pub arena : IsArena r
+  pub sits : Sits r.plan r.table.shared.table_id s
+
+-- the seat keeps its number, its role, its pocket and its count of failed turns
+pub record KeepsStored (s t : Seat) : Type 0 where
+  pub number : t.number ≡ s.number
+  pub role : t.role ≡ s.role
+  pub pocket : t.pocket ≡ s.pocket
+  pub failed : t.failed ≡ s.failed
+
+-- a seat is the same one by its number and its role
+pub record KeepsName (s t : Seat) : Type 0 where
+  pub number : t.number ≡ s.number
+  pub role : t.role ≡ s.role
+
+-- how many pushes a line counts
+abbrev pub pushes_at : Line → ℕ
+pushes_at E9 = 1
+pushes_at A5 = 1
+pushes_at l = 0
+
+-- how many pops a line counts
+abbrev pub pops_at : Line → ℕ
+pops_at D13 = 1
+pops_at B5 = 1
+pops_at l = 0
+
+-- a seat that counts what a line counts
+abbrev pub counting : Seat → Line → Seat
+counting s l = record s { pushes = s.pushes + pushes_at l; pops = s.pops + pops_at l }
+
+-- a counter of a seat has room for what a line counts
+abbrev pub HasRoom : Seat → Line → Type 0
+HasRoom s E9 = s.pushes + 1 < 2 ^ 64
+HasRoom s A5 = s.pushes + 1 < 2 ^ 64
+HasRoom s D13 = s.pops + 1 < 2 ^ 64
+HasRoom s B5 = s.pops + 1 < 2 ^ 64
+HasRoom s l = Unit {0}
+
+-- the seat's next move by the rule is this step on a word, at this line, with these moves before it
+pub record MayStep (r : Arena) (s : Seat) (lead : Lead) (l : Line) (x : PlaceStep) : Type 0 where
+  pub seat : IsSeat r s
+  pub leads : CanLead lead (view s).actor
+  pub line : (led r.plan.setup (view s).number lead (view s).actor).line ≡ Some l
+  pub access : place_step (action r.plan.setup (view s).number (led r.plan.setup (view s).number lead (view s).actor) l) ≡ x
+  pub there : place_of x < word_count r
+  pub permits : PermitsLine s.role l
+  pub room : HasRoom s l
+
+-- the seat made that step, and found this number
+pub record DidStep (r : Arena) (s t : Seat) (lead : Lead) (l : Line) (n : ℕ) : Type 0 where
+  pub seat : IsSeat r t
+  pub stored : KeepsStored s t
+  pub told : Steps r.plan lead l n (view s) (view t)
+
+-- the seat made that step
+abbrev pub DidSome : Arena → Seat → Seat → Lead → Line → Type 0
+DidSome r s t lead l = (n : ℕ) × DidStep r s t lead l n
+
+-- a seat in no call, or whose actor may give up or rest: its pocket is the one that its actor then has
+pub record IsReady (r : Arena) (s : Seat) : Type 0 where
+  pub seat : IsSeat r s
+  pub free : (at_rest (view s).actor).line ≡ None
+  pub pocket : s.pocket ≡ (at_rest (view s).actor).pocket

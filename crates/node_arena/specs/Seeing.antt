@@ -1,0 +1,68 @@
+-- What a seat knows.
+use Rattle.std.specs.Prelude.{ℕ, ◌+◌, List, [], ◌∷◌}
+use Rattle.history.specs.declared.operations.Entry.{Entry}
+use Rattle.step_machine.specs.declared.actors.Actor.{Actor}
+use Rattle.step_machine.specs.Machine.{idle}
+use Rattle.node_arena.specs.Traces.{Event}
+
+-- what a seat knows: its number, its actor with line and registers, its path, a beginning of the history, and its own
+-- entries
+pub record Knows : Type 0 where
+  pub number : ℕ
+  pub actor : Actor
+  pub path : List Event
+  pub seen : List Entry
+  pub mine : List Entry
+
+-- the views of the table: the first one deals numbers; one that gathers has what closed seats knew; two seats are one
+-- while they meet; a spent one knows nothing
+pub data View : Type 0 where
+  keeper : ℕ → View
+  gathered : List Knows → View
+  seated : Knows → View
+  paired : Knows → Knows → View
+  spent : View
+
+-- the seats that a view speaks of
+abbrev pub members : View → List Knows
+members (keeper n) = []
+members (gathered vs) = vs
+members (seated v) = v ∷ []
+members (paired v w) = v ∷ w ∷ []
+members spent = []
+
+-- what a seat knows that was just dealt
+abbrev pub new_seat : ℕ → Knows
+new_seat n = record { number = n; actor = idle; path = []; seen = []; mine = [] }
+
+-- what the first seat of a view knows
+abbrev pub knows : View → Knows
+knows (keeper n) = new_seat 0
+knows (gathered vs) = new_seat 0
+knows (seated v) = v
+knows (paired v w) = v
+knows spent = new_seat 0
+
+-- what the second seat of a view knows
+abbrev pub knows_second : View → Knows
+knows_second (keeper n) = new_seat 0
+knows_second (gathered vs) = new_seat 0
+knows_second (seated v) = v
+knows_second (paired v w) = w
+knows_second spent = new_seat 0
+
+-- what is left after a seat was dealt
+abbrev pub dealt_left : View → View
+dealt_left (keeper n) = keeper (n + 1)
+dealt_left (gathered vs) = spent
+dealt_left (seated v) = spent
+dealt_left (paired v w) = spent
+dealt_left spent = spent
+
+-- the seat that is dealt
+abbrev pub dealt_right : View → View
+dealt_right (keeper n) = seated (new_seat n)
+dealt_right (gathered vs) = spent
+dealt_right (seated v) = spent
+dealt_right (paired v w) = spent
+dealt_right spent = spent

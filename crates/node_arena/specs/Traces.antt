@@ -1,0 +1,130 @@
+-- Traced worlds: a world, the path of each actor, and the entries of all calls that had their effect.
+use Rattle.std.specs.Prelude.{◌≡◌, ℕ, ◌+◌, if◌then◌else◌, nat_eq, List, [], ◌∷◌, ◌++◌, length, Option, Some, None}
+use Rattle.std.specs.List.{filter}
+use Rattle.line_table.specs.declared.lines.Line.{Line}
+use Rattle.line_table.specs.declared.lines.Line.TheVariants.{E9, D13, A5, B5}
+use Rattle.history.specs.declared.operations.Entry.{Entry}
+use Rattle.history.specs.declared.operations.Entry.TheVariants.{Push, Pop}
+use Rattle.counted_ref.specs.Ref.{same_ref}
+use Rattle.step_machine.specs.declared.actors.Setup.{Setup}
+use Rattle.step_machine.specs.declared.actors.Actor.{Actor}
+use Rattle.step_machine.specs.declared.actors.Outcome.{Outcome}
+use Rattle.step_machine.specs.declared.actors.Move.TheVariants.{Begin, Step, Give}
+use Rattle.step_machine.specs.Memory.{word, Found, found}
+use Rattle.step_machine.specs.Lines.{action, outcome}
+use Rattle.step_machine.specs.Words.{encoded}
+use Rattle.step_machine.specs.Machine.{World, actor_of, stepped, entry_or, opening, AnyMove, made, Rest, next_any, IsSized}
+
+-- a line that an actor went through: the number found there, the line gone to, or none where the call ended, and how
+-- many entries the history then had
+pub record Event : Type 0 where
+  pub line : Line
+  pub found : ℕ
+  pub to : Option Line
+  pub entries : ℕ
+
+-- a world with the path of each actor and the history so far
+pub record Traced : Type 0 where
+  pub world : World
+  pub paths : ℕ → List Event
+  pub history : List Entry
+
+-- a function with another value at one number
+abbrev pub changed : {X : Type 0} → (ℕ → X) → ℕ → X → ℕ → X
+changed f n x m = if nat_eq m n then x else f m
+
+-- the entries that a step at a line adds to the history: the push or the pop that takes its effect there
+abbrev pub entries_of : (s : Setup) (me : ℕ) (a : Actor) (l : Line) → Found (action s me a l) → List Entry
+entries_of s me a E9 was = if same_ref was a.next then Push me a.val.body ∷ [] else []
+entries_of s me a D13 was = if same_ref was a.head then Pop me a.val ∷ [] else []
+entries_of s me a A5 was = Push me a.val.body ∷ []
+entries_of s me a B5 was = Pop me a.val ∷ []
+entries_of s me a l was = []
+
+module _ (s : Setup) (t : Traced) (me : ℕ) (a : Actor) (l : Line) where
+  -- the number that the access of a line finds
+  abbrev pub number_at : ℕ
+  number_at = encoded (word (action s me a l)) (found (action s me a l) t.world.shared)
+
+  -- what the step at a line makes of its actor and its operation
+  abbrev pub outcome_at : Outcome
+  outcome_at = outcome s (t.world.steps + 1) me a l (found (action s me a l) t.world.shared)
+
+  -- the actor after its step at a line
+  abbrev pub actor_at : Actor
+  actor_at = record outcome_at.actor { entry = Some (entry_or a.entry (length t.world.operations)) }
+
+  -- the entries that the step at a line adds
+  abbrev pub entries_at : List Entry
+  entries_at = entries_of s me a l (found (action s me a l) t.world.shared)
+
+  -- what the step at a line adds to its actor's path
+  abbrev pub event_at : Event
+  event_at =
+      record {
+        line = l;
+        found = number_at;
+        to = outcome_at.actor.line;
+        entries = length (t.history ++ entries_at);
+      }
+
+-- the traced world after an actor's step at a line
+abbrev pub step_at : Traced → (me : ℕ) → Actor → Line → Traced
+step_at t me a l =
+    record {
+      world = stepped t.world me a l;
+      paths = changed t.paths me (t.paths me ++ event_at t.world.setup t me a l ∷ []);
+      history = t.history ++ entries_at t.world.setup t me a l;
+    }
+
+-- the trace after a step that leads to a world
+abbrev pub traced_at : Traced → (me : ℕ) → Actor → Option Line → World → Traced
+traced_at t me a None w = record t { world = w }
+traced_at t me a (Some l) w = record (step_at t me a l) { world = w }
+
+-- the same for an actor that may be there
+abbrev pub traced_step : Traced → (me : ℕ) → Option Actor → World → Traced
+traced_step t me None w = record t { world = w }
+traced_step t me (Some a) w = traced_at t me a a.line w
+
+-- the trace after a move that leads to a world; steps alone change paths and history
+abbrev pub traced_move : Traced → AnyMove → World → Traced
+traced_move t (made (Begin me op)) w = record t { world = w }
+traced_move t (made (Step me)) w = traced_step t me (actor_of t.world me) w
+traced_move t (made (Give me)) w = record t { world = w }
+traced_move t (Rest me) w = record t { world = w }
+
+-- the trace after a move; none where it can't be made
+abbrev pub traced_next : Traced → AnyMove → Option World → Option Traced
+traced_next t m None = None
+traced_next t m (Some w) = Some (traced_move t m w)
+
+-- what follows from a trace, where there is one
+abbrev pub traced_on : (Traced → Option Traced) → Option Traced → Option Traced
+traced_on more None = None
+traced_on more (Some t) = more t
+
+-- the trace after a list of moves; none where one of them can't be made
+abbrev pub trace : List AnyMove → Traced → Option Traced
+trace [] t = Some t
+trace (m ∷ ms) t = traced_on (trace ms) (traced_next t m (next_any t.world m))
+
+-- the trace in which nothing happened yet
+abbrev pub first_trace : Setup → (actors : ℕ) → Traced
+first_trace s actors = record { world = opening s actors; paths = λ p. []; history = [] }
+
+-- a traced world that some list of moves leads to
+pub record IsTraced (t : Traced) : Type 0 where
+  pub actors : ℕ
+  pub moves : List AnyMove
+  pub sized : IsSized t.world.setup actors
+  pub led : trace moves (first_trace t.world.setup actors) ≡ Some t
+
+-- whose entry it is
+abbrev pub maker : Entry → ℕ
+maker (Push seat body) = seat
+maker (Pop seat value) = seat
+
+-- the entries of one seat
+abbrev pub own_entries : ℕ → List Entry → List Entry
+own_entries me es = filter (λ e. nat_eq (maker e) me) es

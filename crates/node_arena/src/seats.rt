@@ -1,0 +1,85 @@
+//! A seat, and what it stores.
+ghost use Rattle.std.specs.Prelude.{◌≡◌};
+
+use crate::roles::Role;
+use crate::views::SeatToken;
+use line_table::Line;
+use step_machine::Held;
+
+/// What a thread holds in order to be an actor of an arena. It is an arena's by its calls' conditions.
+#[derive(Drop)]
+pub struct Seat {
+    pub(crate) token: SeatToken,
+    pub(crate) number: u16,
+    pub(crate) role: Role,
+    pub(crate) pocket: Option<Held>,
+    pub(crate) failed: u32,
+    pub(crate) pushes: u64,
+    pub(crate) pops: u64,
+}
+
+impl Seat {
+    ghost use Rattle.node_arena.specs.Seats.{number_of, role_of, pocket_of, failed_of, keeping, counting, HasRoom};
+    ghost use Rattle.node_arena.specs.Plans as plans;
+
+    // Counts the push or the pop that a line makes.
+    pub(crate) fn count(&mut self, line: Line)
+        requires { HasRoom self.old line }
+        ensures { self.new ≡ counting self.old line }
+    {
+        match line {
+            Line::E9 | Line::A5 => self.pushes += 1,
+            Line::D13 | Line::B5 => self.pops += 1,
+            _ => {}
+        }
+    }
+
+    /// The number of the seat, from 1.
+    pub fn number(&self) -> u16
+        ensures { result ≡ number_of self.now }
+    {
+        self.number
+    }
+
+    /// Whether the seat may push.
+    pub fn may_push(&self) -> bool
+        ensures { result ≡ plans.may_push (role_of self.now) }
+    {
+        match self.role {
+            Role::Giver | Role::Both => true,
+            Role::Taker => false,
+        }
+    }
+
+    /// Whether the seat may pop.
+    pub fn may_pop(&self) -> bool
+        ensures { result ≡ plans.may_pop (role_of self.now) }
+    {
+        match self.role {
+            Role::Taker | Role::Both => true,
+            Role::Giver => false,
+        }
+    }
+
+    /// The node in the seat's pocket, with its mark.
+    pub fn pocket(&self) -> Option<Held>
+        ensures { result ≡ pocket_of self.now }
+    {
+        self.pocket
+    }
+
+    /// How many turns of the seat's last take or give back failed.
+    pub fn failed(&self) -> u32
+        ensures { result ≡ failed_of self.now }
+    {
+        self.failed
+    }
+
+    /// Stores a pocket and a number of failed turns, and changes nothing else.
+    pub fn keep(&mut self, pocket: Option<Held>, failed: u32)
+        ensures { self.new ≡ keeping self.old pocket failed }
+    {
+        self.pocket = pocket;
+        self.failed = failed;
+    }
+}

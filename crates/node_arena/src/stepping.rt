@@ -1,0 +1,82 @@
+//! The atomic steps of a seat, one call for each form.
+ghost use Rattle.std.specs.Prelude.{◌≡◌, ◌≢◌, MatchResult};
+ghost use Rattle.step_machine.specs.Tables.{load_at, store_at, and_at, exchange_at};
+ghost use Rattle.node_arena.specs.Leads.{Lead};
+ghost use Rattle.node_arena.specs.Seats.{MayStep, DidStep, DidSome};
+
+use crate::arena::Arena;
+use crate::seats::Seat;
+use line_table::Line;
+use std::marker::Brand;
+
+impl Arena {
+    /// One load of a word: the seat's next move, at this line. Answers what was found.
+    ///
+    /// That the step is the seat's next move by the rule is the caller's condition. Takes no memory and doesn't wait.
+    pub fn load(&self, seat: &mut Seat, line: Line, word: usize) -> u64
+        ghost lead: { Lead }
+        requires { MayStep self.now seat.old lead line (load_at word) }
+        ensures { DidStep self.now seat.old seat.new lead line result }
+    {
+        let _ = line;
+        self.table.shared.load::<Brand>(&mut seat.token, word)
+    }
+
+    /// One store into a word: the seat's next move, at this line. The seat counts a push or a pop that it makes.
+    ///
+    /// That the step is the seat's next move by the rule is the caller's condition. Takes no memory and doesn't wait.
+    pub fn store(&self, seat: &mut Seat, line: Line, word: usize, value: u64)
+        ghost lead: { Lead }
+        requires { MayStep self.now seat.old lead line (store_at word value) }
+        ensures { DidSome self.now seat.old seat.new lead line }
+    {
+        self.table
+            .shared
+            .store::<Brand>(&mut seat.token, word, value);
+        seat.count(line);
+    }
+
+    /// One fetch_and of a word with a mask: the seat's next move, at this line. Answers what was found.
+    ///
+    /// That the step is the seat's next move by the rule is the caller's condition. Takes no memory and doesn't wait.
+    pub fn fetch_and(&self, seat: &mut Seat, line: Line, word: usize, mask: u64) -> u64
+        ghost lead: { Lead }
+        requires { MayStep self.now seat.old lead line (and_at word mask) }
+        ensures { DidStep self.now seat.old seat.new lead line result }
+    {
+        let _ = line;
+        self.table
+            .shared
+            .fetch_and::<Brand>(&mut seat.token, word, mask)
+    }
+
+    /// One compare-exchange of a word: the seat's next move, at this line. It writes `new` where the word is `old`;
+    /// else the answer is an `Err` with the word found. The seat counts a push or a pop that it makes.
+    ///
+    /// That the step is the seat's next move by the rule is the caller's condition. Takes no memory and doesn't wait.
+    pub fn exchange(
+        &self,
+        seat: &mut Seat,
+        line: Line,
+        word: usize,
+        old: u64,
+        new: u64,
+    ) -> Result<u64, u64>
+        ghost lead: { Lead }
+        requires { MayStep self.now seat.old lead line (exchange_at word old new) }
+        ensures { MatchResult result
+            (λ n. (n ≡ old) × DidStep self.now seat.old seat.new lead line n)
+            (λ n. (n ≢ old) × DidStep self.now seat.old seat.new lead line n) }
+    {
+        let found = self
+            .table
+            .shared
+            .compare_exchange::<Brand>(&mut seat.token, word, old, new);
+        if found == old {
+            seat.count(line);
+            Ok(found)
+        } else {
+            Err(found)
+        }
+    }
+}

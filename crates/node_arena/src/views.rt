@@ -1,0 +1,51 @@
+//! The table, its rule, and how views change beside steps.
+use crate::plans::Plan;
+use atomic_table::{Play, Seat, Split, Table, TableRule};
+use std::alloc::Global;
+use std::marker::{Brand, Model};
+
+/// What a seat knows: its actor, its path, a beginning of the history, and its own entries. No value of it is made.
+pub struct Knowing {
+    unused: u8,
+}
+
+impl Model for Knowing {
+    ghost use Rattle.node_arena.specs.Seeing.{View, spent};
+
+    ghost Value = { View };
+
+    ghost view = { λ _. spent };
+}
+
+/// The rule: words and seats are those of a traced world that moves lead to.
+pub struct WordRule;
+
+impl TableRule<u8, Knowing, Plan> for WordRule {
+    ghost use Rattle.node_arena.specs.Rule.{Holds, first_view};
+
+    ghost holds = { Holds };
+
+    ghost first = { first_view };
+}
+
+/// The table of the shared words.
+pub type WordTable = Table<u8, Knowing, Plan, WordRule, Global>;
+
+/// What a seat steps with.
+pub type SeatToken = Seat<u8, Knowing>;
+
+// Each call picks what its step tells.
+impl Play<u8, Knowing> for Brand {
+    ghost then = { λ _ _ _ _. Unit {0} };
+}
+
+/// The arena's own token deals the next number.
+pub(crate) struct Deal;
+
+impl Split<Knowing> for Deal {
+    ghost use Rattle.node_arena.specs.Seeing.{dealt_left, dealt_right};
+
+    ghost left = { dealt_left };
+
+    ghost right = { dealt_right };
+}
