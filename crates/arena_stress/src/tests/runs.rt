@@ -1,0 +1,104 @@
+//! Takes and give backs in turn, by one seat and by two, and by two threads.
+ghost use Rattle.std.specs.Prelude.{◌≡◌, None, OnOk, IfSome};
+ghost use Rattle.arena_stress.specs.Seated.{IsFresh};
+
+use crate::running::both;
+use crate::seating::{pop, seats_of};
+use free_list::{give_back, take};
+use history::{Refusal, WornWord};
+use node_arena::{Arena, Held, Role, Seat};
+use std::alloc::Global;
+use std::test::Fail;
+
+// An arena with one seat.
+fn one_seat(alloc: Global, nodes: u32, limit: u64) -> Option<(Arena, Seat)>
+    ensures { IfSome result (λ r. IsFresh r.0 r.1) }
+{
+    let (arena, mut seats) = seats_of(alloc, nodes, limit, &[Role::Both])?;
+    let seat = pop(&arena, &mut seats)?;
+    Some((arena, seat))
+}
+
+// An arena with two seats.
+fn two_seats(alloc: Global, nodes: u32, limit: u64) -> Option<(Arena, Seat, Seat)>
+    ensures { IfSome result (λ r. IsFresh r.0 r.1 × IsFresh r.0 r.2) }
+{
+    let (arena, mut seats) = seats_of(alloc, nodes, limit, &[Role::Both, Role::Both])?;
+    let second = pop(&arena, &mut seats)?;
+    let first = pop(&arena, &mut seats)?;
+    Some((arena, first, second))
+}
+
+// Takes a node and gives it back.
+fn round(arena: &Arena, seat: &mut Seat) -> Result<Held, Refusal>
+    requires { IsFresh arena.now seat.old }
+    ensures { OnOk result (IsFresh arena.now seat.new) }
+{
+    let held = take(arena, seat, 8)?;
+    give_back(arena, seat, 8)?;
+    Ok(held)
+}
+
+// How many rounds succeed, each with node 2 and mark 0, and what the next one is refused.
+fn refused_after(arena: &Arena, mut seat: Seat) -> (u32, Refusal)
+    requires { IsFresh arena.now seat }
+{
+    for count in 0..10 {
+        match round(arena, &mut seat) {
+            Ok(held) => {
+                if held.node != 2 || held.mark != 0 {
+                    return (count, Refusal::Lost);
+                }
+            }
+            Err(why) => return (count, why),
+        }
+    }
+    (10, Refusal::Busy)
+}
+
+/// With two nodes one seat takes and gives back node 2 until Free's count is the greatest one: the node is then free
+/// and can't be taken, or it is set aside.
+#[test]
+fn a_node_is_used_until_its_count_is_the_greatest(rt: HostRuntime) -> Result<(), Fail> {
+    for (limit, count, refusal) in [
+        (1, 1, Refusal::WornOut(WornWord::Free)),
+        (2, 2, Refusal::NoNode),
+        (3, 2, Refusal::WornOut(WornWord::Free)),
+    ] {
+        let (arena, seat) = one_seat(rt.alloc(), 2, limit).expect(&rt, "an arena");
+        assert_eq!(rt; refused_after(&arena, seat), (count, refusal), "at limit {limit}");
+    }
+    Ok(())
+}
+
+/// With two nodes a second seat finds none while the first has node 2.
+#[test]
+fn a_second_seat_finds_no_node(rt: HostRuntime) -> Result<(), Fail> {
+    let (arena, mut one, mut other) = two_seats(rt.alloc(), 2, 3).expect(&rt, "an arena");
+    assert_eq!(rt; (one.number(), other.number()), (1, 2), "the numbers");
+    assert_eq!(rt; take(&arena, &mut one, 8), Ok(Held { node: 2, mark: 0 }));
+    assert_eq!(rt; take(&arena, &mut other, 8), Err(Refusal::NoNode));
+    assert_eq!(rt; one.pocket(), Some(Held { node: 2, mark: 0 }), "the first pocket");
+    Ok(())
+}
+
+/// After a thousand rounds of each of two threads, one thread takes nodes 2 and 3 by both seats.
+#[test]
+fn two_threads_leave_each_node_once(rt: HostRuntime) -> Result<(), Fail> {
+    let (arena, one, other) = two_seats(rt.alloc(), 3, 100_000).expect(&rt, "an arena");
+    let (one, other) = both(&rt, &arena, one, other, 1_000);
+    let mut one = one.expect(&rt, "the first seat");
+    let mut other = other.expect(&rt, "the second seat");
+    let nodes = match (take(&arena, &mut one, 8), take(&arena, &mut other, 8)) {
+        (Ok(first), Ok(second)) => {
+            if first.node < second.node {
+                (first.node, second.node)
+            } else {
+                (second.node, first.node)
+            }
+        }
+        _ => (0, 0),
+    };
+    assert_eq!(rt; nodes, (2, 3), "the nodes");
+    Ok(())
+}
