@@ -6,11 +6,10 @@ mod seating;
 #[cfg(test)]
 mod tests;
 
-use crate::running::{alone, four, found};
+use crate::running::{alone, found, four};
 use crate::seating::eight_seats;
-use std::env;
-use std::io;
 use std::time::Instant;
+use std::{env, io};
 
 /// The nodes of the arena: the dummy and eight more.
 const NODES: u32 = 9;

@@ -25,12 +25,7 @@ pub fn pop(arena: &Arena, seats: &mut Vec<Seat>) -> Option<Seat>
 }
 
 /// An arena for the queue without locks, with as many seats.
-pub fn seats_of(
-    alloc: Global,
-    nodes: u32,
-    limit: u64,
-    roles: &[Role],
-) -> Option<(Arena, Vec<Seat>)>
+pub fn seats_of(alloc: Global, nodes: u32, limit: u64, roles: &[Role]) -> Option<(Arena, Vec<Seat>)>
     ensures { IfSome result (λ r. AreFresh r.0 r.1.items) }
 {
     match Arena::new(alloc, Kind::NonBlocking, nodes, limit, roles) {

@@ -10,15 +10,28 @@ use std::test::Fail;
 #[test]
 fn sizes_out_of_range_are_refused(rt: HostRuntime) -> Result<(), Fail> {
     let one = [Role::Both];
-    for (nodes, limit, seats) in [(1, 3, 1), (16_777_215, 3, 1), (2, 0, 1), (2, 1 << 40, 1), (2, 3, 0)] {
+    for (nodes, limit, seats) in [
+        (1, 3, 1),
+        (16_777_215, 3, 1),
+        (2, 0, 1),
+        (2, 1 << 40, 1),
+        (2, 3, 0),
+    ] {
         let made = Arena::new(rt.alloc(), Kind::TwoLock, nodes, limit, &one[..seats]);
         let refusal = match made {
             Ok(_) => None,
             Err(why) => Some(why),
         };
-        assert_eq!(rt; refusal, Some(Refusal::BadSize), "{nodes} nodes, limit {limit}, {seats} seats");
+        assert_eq!(rt;
+            refusal,
+            Some(Refusal::BadSize),
+            "{nodes} nodes, limit {limit}, {seats} seats"
+        );
     }
     let made = Arena::new(rt.alloc(), Kind::TwoLock, 2, 1, &one);
-    assert!(rt; matches!(made, Ok(_) | Err(Refusal::Memory)), "the least sizes");
+    assert!(rt;
+        matches!(made, Ok(_) | Err(Refusal::Memory)),
+        "the least sizes"
+    );
     Ok(())
 }

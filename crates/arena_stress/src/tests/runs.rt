@@ -66,7 +66,11 @@ fn a_node_is_used_until_its_count_is_the_greatest(rt: HostRuntime) -> Result<(),
         (3, 2, Refusal::WornOut(WornWord::Free)),
     ] {
         let (arena, seat) = one_seat(rt.alloc(), 2, limit).expect(&rt, "an arena");
-        assert_eq!(rt; refused_after(&arena, seat), (count, refusal), "at limit {limit}");
+        assert_eq!(rt;
+            refused_after(&arena, seat),
+            (count, refusal),
+            "at limit {limit}"
+        );
     }
     Ok(())
 }
@@ -78,7 +82,11 @@ fn a_second_seat_finds_no_node(rt: HostRuntime) -> Result<(), Fail> {
     assert_eq!(rt; (one.number(), other.number()), (1, 2), "the numbers");
     assert_eq!(rt; take(&arena, &mut one, 8), Ok(Held { node: 2, mark: 0 }));
     assert_eq!(rt; take(&arena, &mut other, 8), Err(Refusal::NoNode));
-    assert_eq!(rt; one.pocket(), Some(Held { node: 2, mark: 0 }), "the first pocket");
+    assert_eq!(rt;
+        one.pocket(),
+        Some(Held { node: 2, mark: 0 }),
+        "the first pocket"
+    );
     Ok(())
 }
 
