@@ -1,5 +1,5 @@
 -- Giving up, and beginning, by the parts of the calls that do it.
-use Rattle.std.proofs.Common.{◌≡◌, ℕ, ◌+◌, ◌⊎◌, inl, inr, Bool, true, false, if◌then◌else◌, Option, Some, None, IsSome, is_some, List, [], replicate, refl, sym, ap, ◌∙◌, arith}
+use Rattle.std.proofs.Common.{◌≡◌, ℕ, ◌+◌, ◌⊎◌, inl, inr, Bool, true, false, if◌then◌else◌, Option, Some, None, IsSome, is_some, List, [], replicate, refl, sym, ap, subst, ◌∙◌, arith}
 use Rattle.std.proofs.lemmas.List.Folds.{sum_by-replicate}
 use Rattle.line_table.specs.declared.lines.Kind.{Kind}
 use Rattle.line_table.specs.declared.lines.Kind.TheVariants.{TwoLock, NonBlocking}
@@ -66,6 +66,14 @@ gives_up-any n m a B3 h = h
 gives_up-any n m a B4 h = h
 gives_up-any n m a B5 h = h
 gives_up-any n m a B6 h = h
+
+-- an actor that may give up by any number may do so in its world
+pub may_give_up : (w : World) (me now : ℕ) (a : Actor) (l : Line) → actor_of w me ≡ Some a → a.line ≡ Some l → IsSome (gives_up now a l) → IsSome (giving_up w (actor_of w me))
+may_give_up w me now a l at here h = subst IsSome (sym (giving_up-at w me a l at here)) (gives_up-any now (w.steps + 1) a l h)
+
+-- the outcome of giving up in a world is that of the actor's line
+pub giving_up-is : (w : World) (me : ℕ) (a : Actor) (l : Line) (o : Outcome) → actor_of w me ≡ Some a → a.line ≡ Some l → gives_up (w.steps + 1) a l ≡ Some o → giving_up w (actor_of w me) ≡ Some o
+giving_up-is w me a l o at here up = giving_up-at w me a l at here ∙ up
 
 -- the move of giving up, by its parts
 pub give_move : (w : World) (me : ℕ) (a : Actor) (l : Line) (o : Outcome) → actor_of w me ≡ Some a → a.line ≡ Some l → gives_up (w.steps + 1) a l ≡ Some o → next w (Give me) ≡ Some (settled w me a w.shared o)

@@ -1,15 +1,20 @@
 -- What the calls of a world need of it, and what they keep: registers that can be used, room, and the list of moves.
-use Rattle.std.proofs.Common.{◌≡◌, ℕ, ◌+◌, ◌-◌, ◌<◌, ◌≤◌, inl, inr, Option, Some, None, IfSome, List, length, set, slice_get, refl, sym, subst, arith}
+use Rattle.std.proofs.Common.{◌≡◌, ℕ, ◌+◌, ◌-◌, ◌^◌, ◌<◌, ◌≤◌, ◌⊎◌, inl, inr, Option, Some, None, IfSome, List, length, min, set, slice_get, refl, sym, ap, subst, arith}
 use Rattle.line_table.specs.declared.lines.Line.{Line}
+use Rattle.line_table.specs.declared.lines.Line.TheVariants.{N1}
+use Rattle.history.specs.declared.operations.Op.{Op}
 use Rattle.history.specs.declared.operations.Stamped.{Stamped}
 use Rattle.step_machine.specs.declared.actors.Setup.{Setup}
 use Rattle.step_machine.specs.declared.actors.Actor.{Actor}
 use Rattle.step_machine.specs.declared.actors.Outcome.{Outcome}
-use Rattle.step_machine.specs.Machine.{World, actor_of, recorded, IsMade}
-use Rattle.step_machine.specs.Views.{seeks, unrecorded, HasNodes, HasEntry, IsReady}
+use Rattle.step_machine.specs.Lines.{gives_up}
+use Rattle.step_machine.specs.Machine.{World, actor_of, begun, recorded, IsMade}
+use Rattle.step_machine.specs.Views.{seeks, unrecorded, HasNodes, HasEntry, IsReady, room_after}
 use Rattle.step_machine.specs.Range.{WorldInRange, ActorInRange}
+use Rattle.step_machine.proofs.Giving.{begun_looks}
+use Rattle.step_machine.proofs.Growth.{Settles, given_settles}
 use Rattle.step_machine.proofs.Reached.{actor_in_range, made_in_range}
-use Rattle.step_machine.proofs.Rooms.{actor_got, has_entry, step_nodes, step_entries}
+use Rattle.step_machine.proofs.Rooms.{actor_got, has_entry, begin_nodes, begin_entries, step_nodes, step_entries}
 
 -- there is room for all nodes that were used
 fresh_room : (w : World) (room : ℕ) → WorldInRange w → HasNodes w.setup.size w.shared.fresh room w.actors → w.shared.fresh ≤ room
@@ -66,3 +71,33 @@ settled_rooms w room capacity more me a l o fresh e xs ops new change at here gr
       nodes = subst (HasNodes w.setup.size fresh room) (sym actors) n;
       entries = subst (λ ys. length ops + unrecorded ys ≤ more) (sym actors) (subst (λ zs. length zs + unrecorded (set w.actors (me - 1) b) ≤ more) (sym operations) k);
     }
+
+-- after an actor gave up the room still serves
+pub given_rooms : (w : World) (room more_room capacity more me now : ℕ) (a : Actor) (l : Line) (o : Outcome) (fresh e : ℕ) (xs : List Actor) (ops : List Stamped) (new : Stamped) (change : Stamped → Stamped) → actor_of w me ≡ Some a → a.line ≡ Some l → gives_up now a l ≡ Some o → fresh ≡ w.shared.fresh → more_room ≡ room → xs ≡ set w.actors (me - 1) (record o.actor { entry = Some e }) → ops ≡ recorded a.entry new change w.operations → HasNodes w.setup.size w.shared.fresh room w.actors → length w.operations + unrecorded w.actors ≤ capacity → capacity ≤ more → Rooms w.setup.size fresh more_room more xs ops
+given_rooms w room more_room capacity more me now a l o fresh e xs ops new change at here up same kept actors operations nodes entries grows =
+    let h : IfSome (Some o) (Settles (seeks (Some l)) a.node) = subst (λ p. IfSome p (Settles (seeks (Some l)) a.node)) up (given_settles now a l) in
+    let looks : seeks o.actor.line ≤ seeks (Some l) = h.looks in
+    subst (λ n. Rooms w.setup.size fresh n more xs ops) (sym kept)
+    (settled_rooms w room capacity more me a l o fresh e xs ops new change at here (omega arith) actors operations nodes entries grows)
+
+-- after an actor began a call there is room for the nodes that it and the others may look for, and for one more entry each
+pub begun_rooms : (w : World) (room more_room enough capacity me : ℕ) (a b : Actor) (fresh : ℕ) (xs : List Actor) (ops : List Stamped) → actor_of w me ≡ Some a → a.line ≡ None → (seeks b.line ≡ 0) ⊎ (enough ≡ w.shared.fresh + length w.actors) → room ≤ w.setup.size → fresh ≡ w.shared.fresh → more_room ≡ room_after w.setup.size enough room → xs ≡ set w.actors (me - 1) b → length ops + length w.actors ≤ capacity → HasNodes w.setup.size w.shared.fresh room w.actors → Rooms w.setup.size fresh more_room capacity xs ops
+begun_rooms w room more_room enough capacity me a b fresh xs ops at none looks within same kept actors fits nodes =
+    let ys : List Actor = set w.actors (me - 1) b in
+    let n : HasNodes w.setup.size w.shared.fresh (room_after w.setup.size enough room) ys =
+    begin_nodes w.setup.size w.shared.fresh room enough w.actors (me - 1) a b within (actor_got w me a at) (ap seeks none) looks nodes in
+    record {
+      nodes =
+          subst (HasNodes w.setup.size fresh more_room) (sym actors)
+          (subst (λ k. HasNodes w.setup.size k more_room ys) (sym same) (subst (λ k. HasNodes w.setup.size w.shared.fresh k ys) (sym kept) n));
+      entries = subst (λ zs. length ops + unrecorded zs ≤ capacity) (sym actors) (begin_entries (length ops) capacity w.actors (me - 1) b fits);
+    }
+
+-- an actor that began a call looks for no node, or room is wanted for those used and one for each actor
+pub begun_wants : (w : World) (me wanted fresh actors : ℕ) (op : Op) (a b : Actor) → WorldInRange w → b ≡ begun w.setup.kind me op a → fresh ≡ w.shared.fresh → actors ≡ length w.actors → (b.line ≡ Some N1 → wanted ≡ min (fresh + actors) (2 ^ 64 - 1)) → (seeks b.line ≡ 0) ⊎ (wanted ≡ w.shared.fresh + length w.actors)
+begun_wants w me wanted fresh actors op a b range made used counted wants =
+    let few : w.shared.fresh + length w.actors < 2 ^ 64 - 1 = omega (arith, range.shared.fresh, range.sized.numbered, range.sized.few_actors) in
+    elim (subst (λ c. (seeks c.line ≡ 0) ⊎ (c.line ≡ Some N1)) (sym made) (begun_looks w.setup.kind me op a)) [
+      | inl none ↦ inl none
+      | inr first ↦ inr (let h : wanted ≡ min (fresh + actors) (2 ^ 64 - 1) = wants first in omega (arith, h, few, used, counted))
+    ]

@@ -1,12 +1,11 @@
 -- What each effect of a step of the non-blocking queue does with the words, the chains and the lag.
-use Rattle.std.proofs.Common.{◌≡◌, ◌≢◌, ℕ, ◌+◌, ◌-◌, ◌≤◌, ◌<◌, Bool, true, false, nat_eq, if◌then◌else◌, List, [], ◌∷◌, ◌++◌, length, Option, Some, None, IfSome, refl, sym, ap, ◌∙◌, subst, arith, ◌⊎◌, inl, inr}
+use Rattle.std.proofs.Common.{◌≡◌, ◌≢◌, ℕ, ◌+◌, ◌≤◌, ◌<◌, false, nat_eq, List, [], ◌∷◌, ◌++◌, length, Some, None, IfSome, refl, sym, ap, ◌∙◌, subst, arith, ◌⊎◌, inl, inr}
 use Rattle.std.proofs.lemmas.Bool.{true≢false}
 use Rattle.counted_ref.specs.Ref.{Ref}
 use Rattle.history.specs.declared.operations.Op.TheVariants.{Deq}
 use Rattle.history.specs.declared.operations.Reply.TheVariants.{Value}
 use Rattle.step_machine.specs.declared.actors.Setup.{Setup}
 use Rattle.step_machine.specs.declared.actors.Actor.{Actor}
-use Rattle.step_machine.specs.declared.actors.Held.{Held}
 use Rattle.step_machine.specs.declared.actors.Node.{Node}
 use Rattle.step_machine.specs.declared.actors.Outcome.{Outcome}
 use Rattle.step_machine.specs.Memory.{Shared, node_at, put, Fresh, Free, Head, Tail, Next}
@@ -15,9 +14,9 @@ use Rattle.step_machine.specs.Chains.{last_node}
 use Rattle.step_machine.specs.Lines.{raised}
 use Rattle.step_machine.specs.Promises.{earned, promised_reply}
 use Rattle.step_machine.specs.Lag.{TailLags}
-use Rattle.step_machine.proofs.Chains.{node_in, next_in, last_linked, last_times, last_within, second_leads}
-use Rattle.step_machine.proofs.Counting.{holds, asides, used_above, used_most}
-use Rattle.step_machine.proofs.Accounts.{Account, popped, raised_node, raised_count}
+use Rattle.step_machine.proofs.Chains.{last_linked, last_times, last_within, second_leads}
+use Rattle.step_machine.proofs.Counting.{holds, asides}
+use Rattle.step_machine.proofs.Accounts.{Account, popped, raised_count}
 use Rattle.step_machine.proofs.Older.{Rises}
 use Rattle.step_machine.proofs.Effects.{Shape, Turn, Took, with_node, others_stay, written, not_linked, queued_once, turn_words, turn_aside, turn_claim, turn_take, turn_giveback, turn_node, turn_link, turn_pop}
 use Rattle.step_machine.proofs.StampsLists.{same_or_not}

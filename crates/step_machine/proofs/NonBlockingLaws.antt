@@ -1,50 +1,47 @@
 -- The laws of the non-blocking queue on places, Tail, counts, refusals, the front and accesses; the last with
 -- those of the two-lock queue.
-use Rattle.std.proofs.Common.{◌≡◌, ◌≢◌, ℕ, zero, suc, ◌+◌, ◌-◌, ◌≤◌, ◌<◌, Bool, true, false, nat_eq, nat_lt, if◌then◌else◌, List, [], ◌∷◌, ◌++◌, length, Option, Some, None, IfSome, set, slice_index_or, refl, sym, ap, ◌∙◌, subst, arith, ◌⊎◌, inl, inr}
+use Rattle.std.proofs.Common.{◌≡◌, ◌≢◌, ℕ, zero, suc, ◌+◌, ◌≤◌, ◌<◌, Bool, true, false, nat_eq, nat_lt, if◌then◌else◌, List, [], ◌∷◌, ◌++◌, length, Option, Some, None, IfSome, slice_index_or, refl, sym, ap, ◌∙◌, subst, arith, ◌⊎◌, inl, inr}
 use Rattle.std.specs.List.{All}
-use Rattle.std.proofs.lemmas.Bool.{eqb-true, eqb-false, ltb-false}
-use Rattle.std.proofs.lemmas.List.Elements.{All-set, All-replicate, All-append, All-cons, All-nil}
+use Rattle.std.proofs.lemmas.Bool.{eqb-true, ltb-false}
+use Rattle.std.proofs.lemmas.List.Elements.{All-set, All-append, All-cons, All-nil}
 use Rattle.counted_ref.specs.Ref.{Ref, is_null, same_ref}
 use Rattle.line_table.specs.declared.lines.Kind.{Kind}
 use Rattle.line_table.specs.declared.lines.Kind.TheVariants.{TwoLock, NonBlocking}
 use Rattle.line_table.specs.declared.lines.Line.{Line}
 use Rattle.line_table.specs.declared.lines.Line.TheVariants.{N1, N2, N3, N4, N5, F1, F2, F3, E2, E3, E5, E6, E7, E9, E13, E17, D2, D3, D4, D5, D10, D12, D13, A3, B1, B5}
-use Rattle.line_table.specs.declared.lines.Section.TheVariants.{LockedDequeue}
 use Rattle.line_table.specs.Sections.{section_of}
 use Rattle.history.specs.declared.refusals.Refusal.{Refusal}
-use Rattle.history.specs.declared.refusals.Refusal.TheVariants.{NoNode, WornOut, Busy}
+use Rattle.history.specs.declared.refusals.Refusal.TheVariants.{NoNode, WornOut}
 use Rattle.history.specs.declared.refusals.WornWord.TheVariants.{Free as OfFree, Next as OfNext, Tail as OfTail, Head as OfHead}
 use Rattle.history.specs.declared.operations.Reply.{Reply}
 use Rattle.history.specs.declared.operations.Reply.TheVariants.{Done, Value, Empty, Refused}
 use Rattle.history.specs.declared.operations.Stamped.{Stamped}
-use Rattle.step_machine.specs.declared.actors.Setup.{Setup}
 use Rattle.step_machine.specs.declared.actors.Actor.{Actor}
 use Rattle.step_machine.specs.declared.actors.Outcome.{Outcome}
-use Rattle.step_machine.specs.Memory.{Shared, node_at, found, performed, Next}
-use Rattle.step_machine.specs.Lines.{action, outcome, goes, with_node, takes, lets_go, to_pocket, freed, sets_aside, ends, effect, busy_or, gives_up}
+use Rattle.step_machine.specs.Memory.{Shared, found, performed, Next}
+use Rattle.step_machine.specs.Lines.{action, outcome, goes, lets_go, to_pocket, freed, ends, effect, busy_or, gives_up}
 use Rattle.step_machine.specs.Machine.{World, actor_of, settled, recorded, told, new_operation, IsReached}
 use Rattle.step_machine.specs.Range.{RegistersInRange, ActorInRange, WorldInRange}
 use Rattle.step_machine.specs.Standing.{IsRunBy, HoldsNodes, Stands, EachNamesAWord}
-use Rattle.step_machine.specs.Places.{IsChain, times, IsQueued, IsFree, Places}
+use Rattle.step_machine.specs.Places.{times, Places}
 use Rattle.step_machine.specs.Chains.{last_node}
 use Rattle.step_machine.specs.Lag.{TailLags}
 use Rattle.step_machine.specs.TwoLock.{HasItsPlaces, KeepsQueueAndFreeApart, raised_at, RaisesBelowTheLimit, HasCauseFor, RefusesWithCause}
-use Rattle.step_machine.specs.NonBlocking.{OfNonBlockingWorlds, TailLagsByOne, TailIsNotBehindHead, NeverFindsHeadWornOut, FindsItsOwnNextWornOut, NeverRefusedForHead, HasTheFront, TakesTheFront}
+use Rattle.step_machine.specs.NonBlocking.{OfNonBlockingWorlds, TailLagsByOne, TailIsNotBehindHead, NeverFindsHeadWornOut, FindsItsOwnNextWornOut, NeverRefusedForHead, TakesTheFront}
 use Rattle.step_machine.proofs.Range.{found_in_range}
 use Rattle.step_machine.proofs.Reached.{some_of, reached_in_range, actor_in_range}
 use Rattle.step_machine.proofs.Chains.{chain_same, second_leads}
 use Rattle.step_machine.proofs.Counting.{used_within, used_above, used_most, elsewhere}
 use Rattle.step_machine.proofs.Effects.{Shape, null_times}
-use Rattle.step_machine.proofs.Fixed.{FixedAt, RoomAt, EarnedFreeing}
+use Rattle.step_machine.proofs.Fixed.{FixedAt, EarnedFreeing}
 use Rattle.step_machine.proofs.Accounts.{ref_path, same_ref-true}
 use Rattle.step_machine.proofs.Older.{WasIn}
 use Rattle.step_machine.proofs.Naming.{names_a_word, accesses_name_words_two_lock}
-use Rattle.step_machine.proofs.Reaching.{EachMoveKeeps, each_reached}
+use Rattle.step_machine.proofs.Reaching.{each_reached}
 use Rattle.step_machine.proofs.TwoLockLaws.{contained}
 use Rattle.step_machine.proofs.NonBlockingKnows.{next_of, KnowsAt, MayTake}
 use Rattle.step_machine.proofs.NonBlockingLag.{IsOff, off, off_count, tail_is_last}
-use Rattle.step_machine.proofs.NonBlockingEffects.{Sound}
-use Rattle.step_machine.proofs.NonBlockingSound.{Knowing, SoundWorld, Proved, reached_sound}
+use Rattle.step_machine.proofs.NonBlockingSound.{Knowing, Proved, reached_sound}
 
 -- nothing more is carried along
 abbrev pub Plain : World → Type 0

@@ -1,6 +1,5 @@
 -- The histories of the non-blocking queue are legal: the laws on the replay of operations and on Head's count.
-use Rattle.std.proofs.Common.{◌≡◌, ℕ, ◌+◌, ◌≤◌, List, [], ◌∷◌, Some, None, refl, sym, ap, ◌∙◌, subst, arith}
-use Rattle.std.specs.Prelude.{slice_get}
+use Rattle.std.proofs.Common.{◌≡◌, ℕ, ◌+◌, ◌≤◌, List, ◌∷◌, Some, refl, sym, ap, ◌∙◌, subst, arith}
 use Rattle.std.proofs.lemmas.Option.{none-some}
 use Rattle.line_table.specs.declared.lines.Kind.TheVariants.{NonBlocking}
 use Rattle.line_table.specs.declared.lines.Line.{Line}
@@ -8,7 +7,7 @@ use Rattle.history.specs.History.{IsLegal}
 use Rattle.step_machine.specs.declared.actors.Actor.{Actor}
 use Rattle.step_machine.specs.declared.actors.Outcome.{Outcome}
 use Rattle.step_machine.specs.Memory.{Shared}
-use Rattle.step_machine.specs.Machine.{World, actor_of, begun, rested, settled, with_actor, IsReached}
+use Rattle.step_machine.specs.Machine.{World, actor_of, begun, rested, settled, IsReached}
 use Rattle.step_machine.specs.Chains.{queue_values}
 use Rattle.step_machine.specs.Stamps.{makers}
 use Rattle.step_machine.specs.TwoLock.{ReplaysToItsValues, CountsValuesTaken}

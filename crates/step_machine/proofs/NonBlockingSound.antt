@@ -1,14 +1,13 @@
 -- What holds of each world of the non-blocking queue that is reached, and that each move keeps it. A further fact of a
 -- world and its queue's chain may be carried along: `Carries`.
-use Rattle.std.proofs.Common.{◌≡◌, ◌≢◌, ℕ, zero, suc, get_or, ◌+◌, ◌-◌, ◌≤◌, ◌<◌, Bool, true, false, nat_eq, nat_le, if◌then◌else◌, List, [], ◌∷◌, length, replicate, Option, Some, None, IfSome, refl, sym, ap, ◌∙◌, subst, arith, ◌⊎◌, inl, inr}
+use Rattle.std.proofs.Common.{◌≡◌, ◌≢◌, ℕ, zero, suc, get_or, ◌+◌, ◌-◌, ◌≤◌, ◌<◌, Bool, true, false, nat_le, List, [], ◌∷◌, length, replicate, Option, Some, None, IfSome, refl, sym, ap, ◌∙◌, subst, arith, ◌⊎◌, inl, inr}
 use Rattle.std.specs.Prelude.{slice_get}
 use Rattle.std.proofs.lemmas.Bool.{leb-true, eqb-false, true≢false}
 use Rattle.std.proofs.Math.ListN.{length-replicate}
-use Rattle.counted_ref.specs.Ref.{Ref, same_ref}
 use Rattle.line_table.specs.declared.lines.Kind.{Kind}
 use Rattle.line_table.specs.declared.lines.Kind.TheVariants.{TwoLock, NonBlocking}
 use Rattle.line_table.specs.declared.lines.Line.{Line}
-use Rattle.line_table.specs.declared.lines.Line.TheVariants.{E2, A1, F1, D2, B1, N1, D5}
+use Rattle.line_table.specs.declared.lines.Line.TheVariants.{E2, A1, F1, D5}
 use Rattle.line_table.specs.Sections.{section_of}
 use Rattle.history.specs.declared.operations.Op.{Op}
 use Rattle.history.specs.declared.operations.Op.TheVariants.{Enq, Deq}
@@ -20,11 +19,9 @@ use Rattle.step_machine.specs.declared.actors.Outcome.{Outcome}
 use Rattle.step_machine.specs.Memory.{blank, Shared, node_at, word, found, performed}
 use Rattle.step_machine.specs.Lines.{action, outcome, gives_up}
 use Rattle.step_machine.specs.Machine.{World, idle, opening, actor_of, is_call, from_pocket, begun, rested, may_rest, with_actor, entry_or, settled, stepped, IsSized, IsReached}
-use Rattle.step_machine.specs.Range.{SharedInRange, WorldInRange, ActorInRange, LineInRange}
+use Rattle.step_machine.specs.Range.{WorldInRange, ActorInRange, LineInRange}
 use Rattle.step_machine.specs.Standing.{IsRunBy, HoldsNodes, Stands, ActorStands}
 use Rattle.step_machine.specs.Places.{one_if, times, held, set_aside}
-use Rattle.step_machine.specs.Chains.{last_node}
-use Rattle.step_machine.specs.Lag.{TailLags}
 use Rattle.step_machine.proofs.Accounts.{same_ref-true}
 use Rattle.step_machine.proofs.StampsLines.{Turns, turned, given_turned}
 use Rattle.step_machine.proofs.StampsKept.{actor_stands, actor_cases, Does as Stamps}
@@ -33,10 +30,10 @@ use Rattle.step_machine.proofs.Range.{writes, performed_in_range}
 use Rattle.step_machine.proofs.Reached.{some_of, reached_in_range, actor_in_range, mover_in_range}
 use Rattle.step_machine.proofs.Standing.{EndsHold, found_holds, access_holds, FoundANode, Placed, placed, given_up_placed, still_stands, rested_stands, begun_stands}
 use Rattle.step_machine.proofs.Chains.{one_if_same, chain_some, second_leads, next_in, last_times}
-use Rattle.step_machine.proofs.Counting.{holds, asides, elsewhere, elsewhere_settled, elsewhere_with, elsewhere_one, elsewhere_two, IsNew, used, used_most, used_above, held_one}
-use Rattle.step_machine.proofs.Effects.{Shape, Turn, Writes, Whose, shape_turned, hand_kept, free_kept, queue_kept, value_kept}
-use Rattle.step_machine.proofs.Fixed.{FixedAt, Fixes, fixed, fixed_given, fixed_entry, fixed_begun, fixed_rested}
-use Rattle.step_machine.proofs.Reaching.{EachMoveKeeps, each_reached}
+use Rattle.step_machine.proofs.Counting.{holds, elsewhere, elsewhere_settled, elsewhere_with, elsewhere_one, elsewhere_two, IsNew, used, used_most, used_above, held_one}
+use Rattle.step_machine.proofs.Effects.{Shape, Writes, Whose, shape_turned, hand_kept, free_kept, queue_kept, value_kept}
+use Rattle.step_machine.proofs.Fixed.{FixedAt, Fixes, fixed, fixed_given, fixed_entry, fixed_begun}
+use Rattle.step_machine.proofs.Reaching.{each_reached}
 use Rattle.step_machine.proofs.LegalMoves.{same_op, same_op_given}
 use Rattle.step_machine.proofs.TwoLockSound.{Carried, begun_holds, rested_holds, opening_elsewhere, no_flags, blank_leads, first_used}
 use Rattle.step_machine.proofs.NonBlockingKnows.{next_of, KnowsAt, IsMark, Marked, Moves, Keeps, knows_entry, knows_more, knows_kept, marks_kept}

@@ -1,5 +1,5 @@
 -- What the step of each line does in the non-blocking queue.
-use Rattle.std.proofs.Common.{◌≡◌, ◌≢◌, ℕ, ◌+◌, ◌-◌, ◌≤◌, ◌<◌, Bool, true, false, nat_eq, nat_lt, if◌then◌else◌, List, [], ◌∷◌, ◌++◌, length, set, Option, Some, None, IfSome, refl, sym, ap, ◌∙◌, subst, arith, ◌⊎◌, inl, inr}
+use Rattle.std.proofs.Common.{◌≡◌, ◌≢◌, ℕ, ◌+◌, ◌-◌, ◌≤◌, ◌<◌, Bool, true, false, nat_eq, nat_lt, if◌then◌else◌, List, ◌∷◌, length, set, Option, Some, None, IfSome, refl, sym, ap, ◌∙◌, subst, arith, ◌⊎◌, inl, inr}
 use Rattle.std.proofs.lemmas.Bool.{eqb-true, eqb-false, true≢false}
 use Rattle.counted_ref.specs.Ref.{Ref, ref, is_null, same_ref}
 use Rattle.line_table.specs.declared.lines.Kind.{Kind}
@@ -18,10 +18,9 @@ use Rattle.history.specs.History.{leaves}
 use Rattle.step_machine.specs.Promises.{earned, promised_reply}
 use Rattle.step_machine.specs.declared.actors.Setup.{Setup}
 use Rattle.step_machine.specs.declared.actors.Actor.{Actor}
-use Rattle.step_machine.specs.declared.actors.Held.{Held}
 use Rattle.step_machine.specs.declared.actors.Node.{Node}
 use Rattle.step_machine.specs.declared.actors.Outcome.{Outcome}
-use Rattle.step_machine.specs.Memory.{Shared, node_at, put, performed, found, Fresh, Free, Head, Tail, Next, Value_of}
+use Rattle.step_machine.specs.Memory.{Shared, node_at, put, performed, found, Fresh, Free, Head, Tail, Next}
 use Rattle.step_machine.specs.Places.{one_if}
 use Rattle.step_machine.specs.Chains.{last_node}
 use Rattle.step_machine.specs.Lines.{action, outcome, raised, goes, ends, effect, freed, sets_aside, takes, lets_go, to_pocket, with_node, busy_or, gives_up}
@@ -31,7 +30,7 @@ use Rattle.step_machine.proofs.Counting.{holds, asides, holds_hand, holds_none, 
 use Rattle.step_machine.proofs.Effects.{written, next_keeps_value, with_node as with_new}
 use Rattle.step_machine.proofs.Accounts.{Account, KeepsReply, quiet, refused, found_empty, pushed, same_ref-true, raised_node, raised_count}
 use Rattle.step_machine.proofs.Fixed.{FixedAt, Pushes, EarnedFreeing}
-use Rattle.step_machine.proofs.NonBlockingKnows.{next_of, KnowsAt, Marked, IsMark, Ready, WasNext, MayGoOn}
+use Rattle.step_machine.proofs.NonBlockingKnows.{next_of, KnowsAt, Marked, Ready, WasNext, MayGoOn}
 use Rattle.step_machine.proofs.NonBlockingLag.{behind_tail, tail_is_last, off, off_leads}
 use Rattle.step_machine.proofs.NonBlockingEffects.{Sound, Does, Found, raised_rises, no_marks, one_mark, first, does_nothing, does_aside, does_claim, does_take, does_giveback, does_write, does_swing, does_link, does_pop}
 

@@ -1,24 +1,20 @@
 -- Giving up leads from a made world to a made world, and keeps its room.
-use Rattle.std.proofs.Common.{◌≡◌, ◌+◌, ◌≤◌, Some, IfSome, IsSome, vec_capacity, arith, refl, sym, ap, subst, ◌∙◌}
+use Rattle.std.proofs.Common.{◌≡◌, ◌+◌, ◌≤◌, Some, IsSome, vec_capacity, arith, refl, sym, ap, subst, ◌∙◌}
 use Rattle.step_machine.specs.declared.actors.Move.TheVariants.{Give}
 use Rattle.step_machine.specs.Lines.{gives_up}
 use Rattle.step_machine.specs.Machine.{next, actor_of, recorded, new_operation, told, settled}
 use Rattle.step_machine.specs.Calls.{giving_up, reply_of}
-use Rattle.step_machine.specs.Views.{seeks, HasEntry, HasNodes}
+use Rattle.step_machine.specs.Views.{HasEntry}
 use Rattle.step_machine.specs.Kept.{world}
-use Rattle.step_machine.proofs.Growth.{Settles, given_settles}
-use Rattle.step_machine.proofs.Giving.{giving_up-at, gives_up-any, give_move, same_world}
-use Rattle.step_machine.proofs.Making.{entry_room, Rooms, settled_rooms}
+use Rattle.step_machine.proofs.Giving.{giving_up-is, may_give_up, give_move, same_world}
+use Rattle.step_machine.proofs.Making.{entry_room, Rooms, given_rooms}
 use Rattle.step_machine.proofs.Reached.{made_next}
 use Rattle.step_machine.proofs.world.World.give.Goals as goal
 
 pub returns-then-self-clause-refused : goal.returns-then-self-clause-refused
 returns-then-self-clause-refused c =
-    let w = world c.self.inside in
-    let up : IsSome (gives_up (w.steps + 1) c.in-Some.a c.in-Some-line.line) =
-    gives_up-any c.saturating_add-now.result (w.steps + 1) c.in-Some.a c.in-Some-line.line (subst IsSome c.in-Some-gives_up.ensures refl) in
     subst (λ v. IsSome (giving_up v (actor_of v c.args.actor)) × (v.steps ≡ 18446744073709551615)) c.self.view_is
-    (subst IsSome (sym (giving_up-at w c.args.actor c.in-Some.a c.in-Some-line.line (sym c.in-Some.ensures) c.in-Some-line.is)) up, c.if-self.true)
+    (may_give_up (world c.self.inside) c.args.actor _ c.in-Some.a c.in-Some-line.line (sym c.in-Some.ensures) c.in-Some-line.is (subst IsSome c.in-Some-gives_up.ensures refl), c.if-self.true)
 
 pub settle-requires-clause-entry : goal.settle-requires-clause-entry
 settle-requires-clause-entry c =
@@ -31,38 +27,26 @@ now_is c = omega (arith, c.saturating_add-now.ensures, c.if-self.false, c.self.i
 up_is : (c : goal.After-self-1) → gives_up (c.self.inside.steps + 1) c.in-Some.a c.in-Some-line.line ≡ Some c.in-Some-gives_up.outcome
 up_is c = ap (λ n. gives_up n c.in-Some.a c.in-Some-line.line) (sym (now_is c)) ∙ sym c.in-Some-gives_up.ensures
 
-told_is : (c : goal.After-self-1) → c.settle.new.operations.items ≡ recorded c.in-Some.a.entry (new_operation c.args.actor c.in-Some.a.op (c.self.inside.steps + 1)) (told (c.self.inside.steps + 1) c.in-Some-gives_up.outcome) c.self.inside.operations.items
-told_is c =
-    subst (λ n. c.settle.new.operations.items ≡ recorded c.in-Some.a.entry (new_operation c.args.actor c.in-Some.a.op n) (told n c.in-Some-gives_up.outcome) c.self.inside.operations.items) (now_is c) c.settle.ensures.operations
-
 moves : (c : goal.After-self-1) → next (world c.self.inside) (Give c.args.actor) ≡ Some (world (record { setup = c.self.inside.setup; steps = c.saturating_add-now.result; memory = c.settle.new.memory; actors = c.settle.new.actors; operations = c.settle.new.operations }))
 moves c =
     give_move (world c.self.inside) c.args.actor c.in-Some.a c.in-Some-line.line c.in-Some-gives_up.outcome (sym c.in-Some.ensures) c.in-Some-line.is (up_is c) ∙
     ap Some
     (sym
     (same_world _ (settled (world c.self.inside) c.args.actor c.in-Some.a c.self.inside.memory.words c.in-Some-gives_up.outcome) refl (now_is c)
-    (ap (λ m. m.words) c.settle.ensures.memory) c.settle.ensures.actors (ap (λ m. m.aside) c.settle.ensures.memory) (told_is c)))
+    (ap (λ m. m.words) c.settle.ensures.memory) c.settle.ensures.actors (ap (λ m. m.aside) c.settle.ensures.memory)
+    (subst (λ n. c.settle.new.operations.items ≡ recorded c.in-Some.a.entry (new_operation c.args.actor c.in-Some.a.op n) (told n c.in-Some-gives_up.outcome) c.self.inside.operations.items) (now_is c) c.settle.ensures.operations)))
 
 pub invariant_of-self : goal.invariant_of-self
 invariant_of-self c =
-    let w = world c.self.inside in
-    let a = c.in-Some.a in
-    let l = c.in-Some-line.line in
-    let o = c.in-Some-gives_up.outcome in
-    let after = c.settle.new.memory in
-    let room : after.room ≡ c.self.inside.memory.room = ap (λ m. m.room) c.settle.ensures.memory in
-    let fresh : after.words.fresh ≡ w.shared.fresh = ap (λ m. m.words.fresh) c.settle.ensures.memory in
-    let looks : seeks o.actor.line ≤ seeks (Some l) =
-    (let h : IfSome (Some o) (Settles (seeks (Some l)) a.node) = subst (λ p. IfSome p (Settles (seeks (Some l)) a.node)) (up_is c) (given_settles (w.steps + 1) a l) in h.looks) in
-    let grown : after.words.fresh + seeks o.actor.line ≤ w.shared.fresh + seeks (Some l) = omega arith in
-    let rooms : Rooms w.setup.size after.words.fresh c.self.inside.memory.room _ c.settle.new.actors.items c.settle.new.operations.items =
-    settled_rooms w c.self.inside.memory.room _ _ c.args.actor a l o after.words.fresh _ _ _ _ _ (sym c.in-Some.ensures) c.in-Some-line.is grown c.settle.ensures.actors
-    c.settle.ensures.operations c.self.invariant.nodes c.self.invariant.entries c.settle.ensures.room in
+    let room : c.settle.new.memory.room ≡ c.self.inside.memory.room = ap (λ m. m.room) c.settle.ensures.memory in
+    let rooms : Rooms c.self.inside.setup.size c.settle.new.memory.words.fresh c.settle.new.memory.room _ c.settle.new.actors.items c.settle.new.operations.items =
+    given_rooms (world c.self.inside) _ _ _ _ c.args.actor _ c.in-Some.a c.in-Some-line.line c.in-Some-gives_up.outcome _ _ _ _ _ _ (sym c.in-Some.ensures) c.in-Some-line.is (up_is c)
+    (ap (λ m. m.words.fresh) c.settle.ensures.memory) room c.settle.ensures.actors c.settle.ensures.operations c.self.invariant.nodes c.self.invariant.entries c.settle.ensures.room in
     record {
-      made = made_next w _ (Give c.args.actor) c.self.invariant.made (moves c);
+      made = made_next (world c.self.inside) _ (Give c.args.actor) c.self.invariant.made (moves c);
       numbers = omega (arith, now_is c, c.if-self.false, c.self.invariant.numbers);
-      within = subst (λ n. n ≤ w.setup.size) (sym room) c.self.invariant.within;
-      nodes = subst (λ n. HasNodes w.setup.size after.words.fresh n c.settle.new.actors.items) (sym room) rooms.nodes;
+      within = subst (λ n. n ≤ c.self.inside.setup.size) (sym room) c.self.invariant.within;
+      nodes = rooms.nodes;
       entries = rooms.entries;
     }
 
@@ -71,7 +55,5 @@ returns-clause-ok c = ap (λ w. next w (Give c.args.actor)) (sym c.self.view_is)
 
 pub returns-clause-told : goal.returns-clause-told
 returns-clause-told c =
-    let w = world c.self.inside in
     subst (λ v. reply_of (giving_up v (actor_of v c.args.actor)) ≡ Some c.in-Some-told.reply) c.self.view_is
-    (ap reply_of (giving_up-at w c.args.actor c.in-Some.a c.in-Some-line.line (sym c.in-Some.ensures) c.in-Some-line.is) ∙
-    ap reply_of (up_is c) ∙ c.in-Some-told.is)
+    (ap reply_of (giving_up-is (world c.self.inside) c.args.actor c.in-Some.a c.in-Some-line.line _ (sym c.in-Some.ensures) c.in-Some-line.is (up_is c)) ∙ c.in-Some-told.is)
