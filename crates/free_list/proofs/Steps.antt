@@ -1,5 +1,5 @@
 -- What each line asks of its step call, and the number that it finds there.
-use Rattle.std.proofs.Common.{◌≡◌, ◌≢◌, ℕ, ◌+◌, ◌*◌, ◌%◌, ◌^◌, ◌<◌, ◌≤◌, Result, Ok, Err, MatchResult, sym, refl, ap, ◌∙◌, subst, arith}
+use Rattle.std.proofs.Common.{◌≡◌, ◌≢◌, ℕ, ◌+◌, ◌*◌, ◌%◌, ◌^◌, ◌<◌, ◌≤◌, sym, refl, ap, ◌∙◌, arith}
 use Rattle.counted_ref.specs.Ref.{Ref, IsRef, ref, ref_word, ref_of, reserved_node, node_bits}
 use Rattle.counted_ref.proofs.Words.{ref_of-ref_word}
 use Rattle.line_table.specs.declared.lines.Line.{Line}
