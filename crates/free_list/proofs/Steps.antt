@@ -1,5 +1,5 @@
 -- What each line asks of its step call, and the number that it finds there.
-use Rattle.std.proofs.Common.{◌≡◌, ◌≢◌, ℕ, ◌+◌, ◌*◌, ◌%◌, ◌^◌, ◌<◌, ◌≤◌, Result, Ok, Err, MatchResult, sym, refl, ap, ◌∙◌, subst, arith}
+use Rattle.std.proofs.Common.{◌≡◌, ◌≢◌, ℕ, ◌+◌, ◌*◌, ◌%◌, ◌^◌, ◌<◌, ◌≤◌, sym, refl, ap, ◌∙◌, arith}
 use Rattle.counted_ref.specs.Ref.{Ref, IsRef, ref, ref_word, ref_of, reserved_node, node_bits}
 use Rattle.counted_ref.proofs.Words.{ref_of-ref_word}
 use Rattle.line_table.specs.declared.lines.Line.{Line}
@@ -13,7 +13,7 @@ use Rattle.node_arena.specs.Plans.{PermitsLine}
 use Rattle.node_arena.specs.Seats.{MayStep, DidStep, HasRoom, view, word_count}
 use Rattle.node_arena.proofs.Told.{was_in_range, was_fits}
 use Rattle.free_list.specs.declared.outcomes.Actor.{Actor as Running}
-use Rattle.free_list.specs.Runs.{found_by, Stands}
+use Rattle.free_list.specs.Runs.{Stands}
 
 module _ (r : Arena) (s : Seat) (lead : Lead) where
   abbrev b : Actor
@@ -76,8 +76,3 @@ module _ (r : Arena) (s t : Seat) (lead : Lead) (n : ℕ) where
 
   pub ref_f3 : (d : DidStep r s t lead F3 n) → (ref_of n ≡ d.told.was.world.shared.free) × (n % 2 ^ node_bits ≢ reserved_node)
   ref_f3 d = read_back d.told.was.world.shared.free n (was_fits r.plan lead F3 n (view s) (view t) d.told WordFree) d.told.found
-
--- what an exchange found, won or lost
-pub did_found : (r : Arena) (s t : Seat) (lead : Lead) (l : Line) (old n : ℕ) (res : Result ℕ ℕ) → MatchResult res (λ k. (k ≡ old) × DidStep r s t lead l k) (λ k. (k ≢ old) × DidStep r s t lead l k) → n ≡ found_by res → DidStep r s t lead l n
-did_found r s t lead l old n (Ok k) h e = subst (DidStep r s t lead l) (sym e) h.1
-did_found r s t lead l old n (Err k) h e = subst (DidStep r s t lead l) (sym e) h.1

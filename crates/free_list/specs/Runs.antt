@@ -1,5 +1,5 @@
 -- A running call: what it remembers agrees with its seat's actor, line by line.
-use Rattle.std.specs.Prelude.{◌≡◌, ℕ, ◌+◌, ◌<◌, ◌≤◌, true, if◌then◌else◌, nat_eq, nat_lt, Some, None, Result, Ok, Err, zero, suc}
+use Rattle.std.specs.Prelude.{◌≡◌, ℕ, ◌+◌, ◌<◌, ◌≤◌, true, if◌then◌else◌, nat_eq, nat_lt, Some, None, zero, suc}
 use Rattle.counted_ref.specs.Ref.{ref_of, same_ref, is_null}
 use Rattle.line_table.specs.declared.lines.Line.{Line}
 use Rattle.line_table.specs.declared.lines.Line.TheVariants.{N1, N2, N3, N4, N5, F1, F2, F3, E2, A1}
@@ -34,11 +34,6 @@ giving (suc n) = goes_on
 -- a call that ends with a reply
 abbrev pub told_by : Reply → Outcome
 told_by (IsRefused why) = Ends why
-
--- the number that an exchange found
-abbrev pub found_by : Result ℕ ℕ → ℕ
-found_by (Ok n) = n
-found_by (Err n) = n
 
 -- what a running call makes of the number found at a line
 abbrev pub follow : Setup → Running → Line → ℕ → Outcome

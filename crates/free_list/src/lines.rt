@@ -4,9 +4,10 @@ ghost use Rattle.line_table.specs.declared.lines.Line.TheVariants as lines;
 ghost use Rattle.node_arena.specs.Leads.{Lead, goes_on};
 ghost use Rattle.free_list.specs.Runs.{Stands, Follows};
 
+use crate::accessing::{exchanged, stored};
 use crate::outcomes::{
-    Actor, Outcome, Reply, Untold, ends, exchanged, freed, goes, lets_go, raised, reference,
-    sets_aside, takes, with_node, worn,
+    Actor, Outcome, Reply, Untold, ends, freed, goes, lets_go, raised, reference, sets_aside,
+    takes, with_node, worn,
 };
 use counted_ref::CountedRef;
 use history::{Refusal, WornWord};
@@ -24,13 +25,13 @@ macro_rules! access {
         reference($arena.load($seat, Line::$line, 4 + 2 * $node as usize))
     };
     ($arena:ident $seat:ident $line:ident store Next($node:expr) ($new:expr)) => {
-        $arena.store($seat, Line::$line, 4 + 2 * $node as usize, $new.word())
+        stored($arena, $seat, Line::$line, 4 + 2 * $node as usize, $new.word())
     };
     ($arena:ident $seat:ident $line:ident exchange Fresh ($old:expr, $new:expr)) => {
-        exchanged($arena.exchange($seat, Line::$line, 0, u64::from($old), u64::from($new))) as u32
+        exchanged($arena, $seat, Line::$line, 0, u64::from($old), u64::from($new)) as u32
     };
     ($arena:ident $seat:ident $line:ident exchange Free ($old:expr, $new:expr)) => {
-        reference(exchanged($arena.exchange($seat, Line::$line, 1, $old.word(), $new.word())))
+        reference(exchanged($arena, $seat, Line::$line, 1, $old.word(), $new.word()))
     };
 }
 

@@ -3,7 +3,7 @@ ghost use Rattle.std.specs.Prelude.{◌≡◌, ◌+◌, ◌<◌, ◌≤◌, ◌%
 ghost use Rattle.counted_ref.specs.Ref.{ref, ref_of, node_bits, reserved_node, count_bits};
 ghost use Rattle.history.specs.declared.refusals.Refusal.TheVariants.{WornOut};
 ghost use Rattle.node_arena.specs.Machine as machine;
-ghost use Rattle.free_list.specs.Runs.{told_by, found_by, turn_of, gave_of};
+ghost use Rattle.free_list.specs.Runs.{told_by, turn_of, gave_of};
 
 use counted_ref::CountedRef;
 use history::{Refusal, WornWord};
@@ -86,16 +86,6 @@ pub(crate) fn reference(word: u64) -> CountedRef
     match CountedRef::from_word(word) {
         Some(reference) => reference,
         None => unreachable!(),
-    }
-}
-
-/// The word that an exchange found.
-pub(crate) fn exchanged(answer: Result<u64, u64>) -> u64
-    ensures { result ≡ found_by answer }
-{
-    match answer {
-        Ok(found) => found,
-        Err(found) => found,
     }
 }
 

@@ -1,5 +1,0 @@
-use Rattle.node_arena.specs.Leads.{goes_on}
-use Rattle.free_list.proofs.lines.n4.Given as goal
-
-abbrev pub ghost-exchange : goal.ghost-exchange
-ghost-exchange a = goes_on
