@@ -1,6 +1,6 @@
-mod Digits
-mod Lines
+mod Told
 mod Moves
+mod Leading
 mod Consuming
 mod Stops
 mod Words

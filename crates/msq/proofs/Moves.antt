@@ -1,18 +1,15 @@
 -- Moves one after another.
-use Rattle.std.proofs.Common.{◌≡◌, ℕ, ◌+◌, ◌<◌, List, [], ◌∷◌, ◌++◌, Option, Some, None, Bool, true, false, cond, refl, ap, ◌∙◌, add-one, take, length, get_or}
+use Rattle.std.proofs.Common.{◌≡◌, ℕ, ◌+◌, List, [], ◌∷◌, ◌++◌, Option, Some, None, Bool, true, false, cond, refl}
 use Rattle.std.specs.Prelude.{replicate}
 use Rattle.history.specs.declared.operations.Op.{Op}
 use Rattle.line_table.specs.declared.lines.Line.{Line}
 use Rattle.step_machine.specs.declared.actors.Actor.{Actor}
 use Rattle.step_machine.specs.declared.actors.Move.{Move}
-use Rattle.step_machine.specs.declared.actors.Move.TheVariants.{Begin, Step}
-use Rattle.step_machine.specs.Machine.{World, next, run_on, moved, actor_of, begins, steps, stepped, is_call, begun, with_actor}
-use Rattle.std.proofs.lemmas.List.{replicate-append-replicate, append-nil}
-use Rattle.std.proofs.lemmas.List.Concat.{flat_map-cons}
-use Rattle.std.proofs.lemmas.Grind.{flat_map-append}
-use Rattle.std.proofs.Math.Seq.{take-suc}
-use Rattle.msq.specs.declared.schedule.Event.{Event}
-use Rattle.msq.specs.Schedule.{moves_of, moves_of_event}
+use Rattle.step_machine.specs.declared.actors.Move.TheVariants.{Begin, Step, Give}
+use Rattle.step_machine.specs.Machine.{World, next, run_on, moved, actor_of, begins, steps, stepped, given, gives, settled, is_call, begun, with_actor}
+use Rattle.step_machine.specs.declared.actors.Outcome.{Outcome}
+use Rattle.step_machine.specs.Lines.{gives_up}
+use Rattle.std.proofs.lemmas.List.{replicate-append-replicate}
 use Rattle.msq.specs.Runs.{world_after}
 
 -- moves, and then more of them
@@ -41,16 +38,6 @@ pub world_after-replicate_next : (n : ℕ) (m : Move) (w v u : World) → world_
 world_after-replicate_next n m w v u before made =
     rw (← replicate-next n m) (world_after_both (replicate n m) (m ∷ []) w v u before (world_after_one m v u made))
 
--- the moves of one event more
-pub world_after-take_next : (events : List Event) (i : ℕ) (event : Event) (w v u : World) → i < length events → event ≡ get_or events i event
-    → world_after (moves_of (take i events)) w ≡ Some v → world_after (moves_of_event event) v ≡ Some u
-    → world_after (moves_of (take (i + 1) events)) w ≡ Some u
-world_after-take_next events i event w v u within is before made =
-    let longer : take (i + 1) events ≡ take i events ++ event ∷ [] = rw (add-one, take-suc events i event, ← is) refl in
-    let moves : moves_of (take i events ++ event ∷ []) ≡ moves_of (take i events) ++ moves_of_event event =
-    flat_map-append moves_of_event (take i events) (event ∷ []) ∙ ap (λ (moves : List Move). moves_of (take i events) ++ moves) (flat_map-cons moves_of_event event [] ∙ append-nil (moves_of_event event)) in
-    rw (longer, moves) (world_after_both (moves_of (take i events)) (moves_of_event event) w v u before made)
-
 steps_of_chosen : (b : Bool) (u v : World) → cond b (Some u) None ≡ Some v → v.steps ≡ u.steps
 steps_of_chosen true u v e = let same : u ≡ v = cc in rw (← same) refl
 steps_of_chosen false u v e = absurd cc
@@ -78,3 +65,19 @@ steps-step w v me e = of_actor (actor_of w me) e
     of_actor : (o : Option Actor) → moved w (Step me) o ≡ Some v → v.steps ≡ w.steps + 1
     of_actor None e = absurd cc
     of_actor (Some a) e = steps_of_step w v me a a.line e
+
+steps_of_given : (w v : World) (me : ℕ) (a : Actor) (o : Option Outcome) → given w me a o ≡ Some v → v.steps ≡ w.steps + 1
+steps_of_given w v me a None e = absurd cc
+steps_of_given w v me a (Some o) e = let same : settled w me a w.shared o ≡ v = cc in rw (← same) refl
+
+steps_of_give : (w v : World) (me : ℕ) (a : Actor) (l : Option Line) → gives w me a l ≡ Some v → v.steps ≡ w.steps + 1
+steps_of_give w v me a None e = absurd cc
+steps_of_give w v me a (Some l) e = steps_of_given w v me a (gives_up (w.steps + 1) a l) e
+
+-- giving up takes the next number
+pub steps-give : (w v : World) (me : ℕ) → next w (Give me) ≡ Some v → v.steps ≡ w.steps + 1
+steps-give w v me e = of_actor (actor_of w me) e
+  where
+    of_actor : (o : Option Actor) → moved w (Give me) o ≡ Some v → v.steps ≡ w.steps + 1
+    of_actor None e = absurd cc
+    of_actor (Some a) e = steps_of_give w v me a a.line e

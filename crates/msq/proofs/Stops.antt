@@ -4,13 +4,12 @@ use Rattle.std.specs.Prelude.{IfSome}
 use Rattle.std.proofs.lemmas.List.{take-append-drop, length-take}
 use Rattle.history.specs.declared.refusals.Refusal.{Refusal}
 use Rattle.step_machine.specs.Machine.{World}
-use Rattle.msq.specs.declared.schedule.Event.{Event}
-use Rattle.msq.specs.Schedule.{moves_of}
-use Rattle.msq.specs.Runs.{world_after, EventRefused, EventsRefused}
+use Rattle.schedule_text.specs.declared.schedules.Event.{Event}
+use Rattle.msq.specs.Runs.{EventRefused, EventsLead, EventsRefused}
 
 -- the event of a place is refused, after the events before it
 EventsRefused_at : (events : List Event) (i : ℕ) (event : Event) (w v : World) (why : Refusal) → i < length events → event ≡ get_or events i event
-    → world_after (moves_of (take i events)) w ≡ Some v → EventRefused v event why → EventsRefused w events (7 + i) why
+    → EventsLead w (take i events) v → EventRefused v event why → EventsRefused w events (7 + i) why
 EventsRefused_at events i event w v why within is led refused =
     let rest : drop i events ≡ event ∷ drop (suc i) events = rw (drop-cons events i event within, ← is) refl in
     record {
@@ -26,7 +25,7 @@ EventsRefused_at events i event w v why within is led refused =
 
 -- the same, where the line of the event may be told
 pub EventsRefused_told : (events : List Event) (i : ℕ) (event : Event) (w v : World) (why told : Refusal) (line : Option ℕ) → i < length events
-    → event ≡ get_or events i event → world_after (moves_of (take i events)) w ≡ Some v → EventRefused v event why → told ≡ why
+    → event ≡ get_or events i event → EventsLead w (take i events) v → EventRefused v event why → told ≡ why
     → IfSome line (λ line. line ≡ 7 + i) → IfSome line (λ line. EventsRefused w events line told)
 EventsRefused_told events i event w v why told None within is led refused same place = tt
 EventsRefused_told events i event w v why told (Some line) within is led refused same place =

@@ -1,5 +1,3 @@
-pub mod Schedule
-pub mod ScheduleText
 pub mod Runs
 pub mod Commands
 pub mod Checks

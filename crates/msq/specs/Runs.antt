@@ -1,20 +1,23 @@
 -- What the run of a schedule reads, does and writes, and what it may be refused.
-use Rattle.std.specs.Prelude.{◌≡◌, ℕ, ◌+◌, ◌<◌, ◌≤◌, Bool, true, List, ◌∷◌, ◌++◌, length, replicate, Option, Some, None, Result, Ok, Err, map, ⊤}
+use Rattle.std.specs.Prelude.{◌≡◌, ◌≢◌, ℕ, ◌+◌, ◌<◌, ◌≤◌, Bool, true, List, [], ◌∷◌, ◌++◌, length, replicate, Option, Some, None, Result, Ok, Err, map, ⊤}
 use Rattle.std.specs.Io.KnownBytes.{Appends, Consumes}
 use Rattle.history.specs.Blocks.{TakesBeginning}
 use Rattle.history.specs.HistoryText.{history_text}
 use Rattle.history.specs.declared.operations.Stamped.{Stamped}
 use Rattle.history.specs.declared.refusals.Refusal.{Refusal}
-use Rattle.history.specs.declared.refusals.Refusal.TheVariants.{Memory, IdleActor, ActorBusy, NotHere, NoSuchActor, Text, Read, Write}
+use Rattle.history.specs.declared.refusals.Refusal.TheVariants.{Memory, BadSize, IdleActor, ActorBusy, NotHere, NoSuchActor, Text, Read, Write}
+use Rattle.line_table.specs.declared.lines.Line.{Line}
+use Rattle.text_lines.specs.Grammars.{IsFirstFault}
+use Rattle.text_lines.specs.declared.causes.TextCause.{TextCause}
 use Rattle.step_machine.specs.declared.actors.Move.{Move}
 use Rattle.step_machine.specs.declared.actors.Move.TheVariants.{Step}
-use Rattle.step_machine.specs.Calls.{setup_of, BeginRefused, StepRefused}
-use Rattle.step_machine.specs.Machine.{World, opening, made, run}
-use Rattle.msq.specs.declared.schedule.Event.{Event}
-use Rattle.msq.specs.declared.schedule.Event.TheVariants.{Begin, Steps}
+use Rattle.step_machine.specs.Calls.{setup_of, line_of, BeginRefused, StepRefused, GiveRefused, IsBusy, IsIdle, IsSpent}
+use Rattle.step_machine.specs.Machine.{World, actor_of, opening, made, run}
+use Rattle.schedule_text.specs.declared.schedules.Event.{Event}
+use Rattle.schedule_text.specs.declared.schedules.Event.TheVariants.{Begin, Step as StepAt, Steps, Give}
+use Rattle.schedule_text.specs.Schedules.{Schedule, moves_of, moves_of_event}
+use Rattle.schedule_text.specs.Texts.{schedule_lines, schedule_text, version_due, IsInRange}
 use Rattle.msq.specs.declared.faults.Fault.{Fault}
-use Rattle.msq.specs.Schedule.{Schedule, moves_of}
-use Rattle.msq.specs.ScheduleText.{schedule_text, IsInRange}
 
 -- the world after these moves; none where one of them can't be made
 abbrev pub world_after : List Move → World → Option World
@@ -24,9 +27,26 @@ world_after moves w = run (map made moves) w
 abbrev pub opening_of : Schedule → World
 opening_of s = opening (setup_of s.kind s.nodes s.limit) s.actors
 
--- the world that a schedule leads to; none where one of its events is refused
+-- the world that the moves of a schedule lead to; none where one of them can't be made
 abbrev pub world_of : Schedule → Option World
 world_of s = world_after (moves_of s.events) (opening_of s)
+
+-- an actor stands before the line that an event names, where it names one
+abbrev pub StandsWhereNamed : World → Event → Type 0
+StandsWhereNamed w (Begin me op) = Unit {0}
+StandsWhereNamed w (StepAt me line) = line_of (actor_of w me) ≡ Some line
+StandsWhereNamed w (Steps me count) = Unit {0}
+StandsWhereNamed w (Give me) = Unit {0}
+
+-- an event leads from a world to another: its moves do, and a step that names its line is one at that line
+pub record EventLeads (w : World) (event : Event) (v : World) : Type 0 where
+  pub named : StandsWhereNamed w event
+  pub made : world_after (moves_of_event event) w ≡ Some v
+
+-- events, one after another, lead from a world to another
+abbrev pub EventsLead : World → List Event → World → Type 0
+EventsLead w [] v = w ≡ v
+EventsLead w (event ∷ events) v = (u : World) × EventLeads w event u × EventsLead u events v
 
 -- steps of an actor are refused at one of them, after those before it
 pub record StepsRefused (w : World) (me count : ℕ) (why : Refusal) : Type 0 where
@@ -36,10 +56,21 @@ pub record StepsRefused (w : World) (me count : ℕ) (why : Refusal) : Type 0 wh
   pub led : world_after (replicate taken (Step me)) w ≡ Some world
   pub refused : StepRefused world me why
 
--- an event is refused: its begin, or one of its steps
+-- a step at a named line is refused for this cause: the actor isn't there, has no call, stands before another line, or all
+-- step numbers are used
+abbrev pub StepAtRefused : World → (me : ℕ) → Line → Refusal → Type 0
+StepAtRefused w me line NoSuchActor = actor_of w me ≡ None
+StepAtRefused w me line IdleActor = IsIdle w me
+StepAtRefused w me line NotHere = IsBusy w me × (line_of (actor_of w me) ≢ Some line)
+StepAtRefused w me line BadSize = (line_of (actor_of w me) ≡ Some line) × IsSpent w
+StepAtRefused w me line _ = ⊥
+
+-- an event is refused: its begin, its step at a line, one of its steps, or its giving up
 abbrev pub EventRefused : World → Event → Refusal → Type 0
 EventRefused w (Begin me op) why = BeginRefused w me why
+EventRefused w (StepAt me line) why = StepAtRefused w me line why
 EventRefused w (Steps me count) why = StepsRefused w me count why
+EventRefused w (Give me) why = GiveRefused w me why
 
 -- events are refused at one of them, after those before it; the first event stands in line 7
 pub record EventsRefused (w : World) (events : List Event) (line : ℕ) (why : Refusal) : Type 0 where
@@ -49,7 +80,7 @@ pub record EventsRefused (w : World) (events : List Event) (line : ℕ) (why : R
   pub split : events ≡ before ++ event ∷ later
   pub counted : line ≡ 7 + length before
   pub world : World
-  pub led : world_after (moves_of before) w ≡ Some world
+  pub led : EventsLead w before world
   pub refused : EventRefused world event why
 
 -- known bytes were these and no others
@@ -57,13 +88,15 @@ abbrev pub WereAll : Option (List ℕ) → List ℕ → Type 0
 WereAll None text = ⊤
 WereAll (Some bytes) text = bytes ≡ text
 
--- known bytes were the text of a schedule in range, and the operations are those of the world that it leads to
+-- known bytes were the text of a schedule in range, all its events can be made, and the operations are those of the world
+-- that they lead to
 pub record IsRunOf (given : Option (List ℕ)) (operations : List Stamped) : Type 0 where
   pub schedule : Schedule
   pub in_range : IsInRange schedule
   pub read : WereAll given (schedule_text schedule)
   pub world : World
-  pub led : world_of schedule ≡ Some world
+  pub led : EventsLead (opening_of schedule) schedule.events world
+  pub made : world_of schedule ≡ Some world
   pub told : operations ≡ world.operations
 
 -- known bytes were the text of a schedule, and the text of its run's history was written
@@ -84,6 +117,16 @@ pub record RunRefused (given : Option (List ℕ)) (line : ℕ) (why : Refusal) :
   pub in_range : IsInRange schedule
   pub read : WereAll given (schedule_text schedule)
   pub refused : EventsRefused (opening_of schedule) schedule.events line why
+
+-- known bytes have their first faulty line as a schedule here, with this cause
+abbrev pub IsFaultyAt : (given : Option (List ℕ)) → (line : ℕ) → TextCause → Type 0
+IsFaultyAt None line cause = ⊤
+IsFaultyAt (Some text) line cause = IsFirstFault schedule_lines version_due text line cause
+
+-- where known bytes are refused as a text, that is their first faulty line as a schedule, and what is wrong with it
+abbrev pub TellsFaultyLine : (given : Option (List ℕ)) → Refusal → Type 0
+TellsFaultyLine given (Text line cause) = IsFaultyAt given line cause
+TellsFaultyLine given _ = ⊤
 
 -- what an event may be refused
 abbrev pub IsEventRefusal : Refusal → Type 0
@@ -116,6 +159,7 @@ abbrev pub IsMoveRefusal : Refusal → Type 0
 IsMoveRefusal Memory = Unit {0}
 IsMoveRefusal IdleActor = Unit {0}
 IsMoveRefusal ActorBusy = Unit {0}
+IsMoveRefusal NotHere = Unit {0}
 IsMoveRefusal NoSuchActor = Unit {0}
 IsMoveRefusal _ = ⊥
 

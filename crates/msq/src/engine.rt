@@ -1,18 +1,19 @@
 //! The engine of `run`: from a reader's bytes to a writer's.
 ghost use Rattle.std.specs.Prelude.{◌≡◌, ◌≢◌, IfErr, IfOk, IfSome, OnOk};
-ghost use Rattle.msq.specs.Runs.{BeginsRun, WritesRun, EndsReading, IsRunFault, IsRunOf, RunRefused};
+ghost use Rattle.msq.specs.Runs.{BeginsRun, WritesRun, EndsReading, IsRunFault, IsRunOf, RunRefused, TellsFaultyLine};
 ghost use Rattle.history.specs.Blocks.{GivesUp};
 
 use crate::faults::Fault;
 use crate::input::read_all;
-use crate::parsing::parse;
 use crate::running::world_of_schedule;
 use history::{Refusal, Sink, Source, Stamped, print_history};
+use schedule_text::parse;
 use std::alloc::Global;
 
 /// The history of the schedule whose text a source gives.
 fn history_of<R: Source>(alloc: Global, reader: &mut R) -> Result<Vec<Stamped>, Fault>
     ensures ok { IfOk result (λ history. IsRunOf (R.remaining reader.old) history.items) }
+    ensures text { IfErr result (λ fault. TellsFaultyLine (R.remaining reader.old) fault.refusal) }
     ensures fault { IfErr result (λ fault. IsRunFault fault.refusal fault.line) }
     ensures refused { IfErr result (λ fault. IfSome fault.line (λ line.
         RunRefused (R.remaining reader.old) line fault.refusal)) }
@@ -45,6 +46,8 @@ pub fn run<R: Source, W: Sink>(alloc: Global, reader: &mut R, writer: &mut W) ->
     // At any other fault nothing is.
     ensures unwritten { IfErr result (λ fault. fault.refusal ≢ Refusal.Write → writer.new ≡ writer.old) }
     ensures fault { IfErr result (λ fault. IsRunFault fault.refusal fault.line) }
+    // A text that is no schedule is refused by its first faulty line.
+    ensures text { IfErr result (λ fault. TellsFaultyLine (R.remaining reader.old) fault.refusal) }
     // A line is that of the first event that is refused, and the refusal is that event's.
     ensures refused { IfErr result (λ fault. IfSome fault.line (λ line.
         RunRefused (R.remaining reader.old) line fault.refusal)) }

@@ -4,16 +4,11 @@
 mod commands;
 mod endings;
 mod engine;
-mod events;
 mod faults;
 mod input;
 mod judging;
-mod numbers;
-mod parsing;
 mod program;
-mod reading;
 mod running;
-mod schedule;
 mod sending;
 mod spelling;
 #[cfg(test)]

@@ -1,32 +1,49 @@
-//! Runs a schedule from its text to the text of its history.
+//! Makes the events of a schedule on a world.
 ghost use Rattle.std.specs.Prelude.{◌≡◌, ◌+◌, ◌*◌, ◌^◌, ◌<◌, ◌≤◌, All, IfOk, IfErr, OnOk, OnErr, IfSome, Some, length, replicate};
-ghost use Rattle.step_machine.specs.Machine.{next};
-ghost use Rattle.step_machine.specs.declared.actors.Move.TheVariants.{Step};
-ghost use Rattle.msq.specs.Schedule.{moves_of, moves_of_event};
-ghost use Rattle.msq.specs.ScheduleText.{IsEventInRange, IsInRange};
-ghost use Rattle.step_machine.specs.Calls.{StepRefused};
-ghost use Rattle.msq.specs.Runs.{world_after, world_of, opening_of, StepsRefused, EventRefused, EventsRefused, IsEventFault, IsMoveRefusal};
+ghost use Rattle.step_machine.specs.Calls.{line_of, GiveRefused, StepRefused};
+ghost use Rattle.step_machine.specs.Machine.{actor_of, next};
+ghost use Rattle.step_machine.specs.declared.actors.Move.TheVariants.{Give, Step};
+ghost use Rattle.schedule_text.specs.Texts.{IsEventInRange, IsInRange};
+ghost use Rattle.msq.specs.Runs.{world_after, world_of, opening_of, EventLeads, EventsLead, StepsRefused, StepAtRefused, EventRefused, EventsRefused, IsEventFault, IsMoveRefusal};
 
 use crate::faults::Fault;
-use crate::schedule::{Event, Schedule};
 use history::{Refusal, Reply};
+use line_table::Line;
+use schedule_text::{Event, Schedule};
 use std::alloc::Global;
-use step_machine::World;
+use step_machine::{Stepped, World};
 
 /// The line of a schedule's first event.
 const FIRST_EVENT_LINE: u64 = 7;
 
-/// Takes one step of an actor.
-fn take_step(world: &mut World, actor: u16) -> Result<(), Refusal>
+/// Takes one step of an actor, and answers the line at which it was taken.
+fn take_step(world: &mut World, actor: u16) -> Result<Line, Refusal>
     requires { world.old.steps + 1 < 2 ^ 64 }
     ensures ok { OnOk result (next world.old (Step actor) ≡ Some world.new) }
+    ensures at { IfOk result (λ line. line_of (actor_of world.old actor) ≡ Some line) }
     ensures steps { OnOk result (world.new.steps ≡ world.old.steps + 1) }
     ensures kind { IfErr result IsMoveRefusal }
     ensures refused { IfErr result (StepRefused world.old actor) }
 {
     // The check of the call stops unless the type of a reply is named here.
     let _: Option<Reply> = None;
-    world.step(actor)?;
+    match world.step(actor)? {
+        Stepped::Went(line) | Stepped::Ended(line, _) => Ok(line),
+        Stepped::Began => unreachable!(),
+    }
+}
+
+/// Takes one step of an actor, which has to be one at this line.
+fn take_step_at(world: &mut World, actor: u16, line: Line) -> Result<(), Refusal>
+    requires { world.old.steps + 1 < 2 ^ 64 }
+    ensures ok { OnOk result (EventLeads world.old (Event.Step actor line) world.new) }
+    ensures steps { OnOk result (world.new.steps ≡ world.old.steps + 1) }
+    ensures kind { IfErr result IsMoveRefusal }
+    ensures refused { IfErr result (StepAtRefused world.old actor line) }
+{
+    if take_step(world, actor)? != line {
+        return Err(Refusal::NotHere);
+    }
     Ok(())
 }
 
@@ -44,18 +61,34 @@ fn take_steps(world: &mut World, actor: u16, count: u32) -> Result<(), Refusal>
     Ok(())
 }
 
-/// Makes the moves of an event.
+/// Gives up the call of an actor.
+fn give_up(world: &mut World, actor: u16) -> Result<(), Refusal>
+    requires { world.old.steps + 1 < 2 ^ 64 }
+    ensures ok { OnOk result (next world.old (Give actor) ≡ Some world.new) }
+    ensures steps { OnOk result (world.new.steps ≡ world.old.steps + 1) }
+    ensures kind { IfErr result IsMoveRefusal }
+    ensures refused { IfErr result (GiveRefused world.old actor) }
+{
+    // The check of the call stops unless the type of a reply is named here.
+    let _: Option<Reply> = None;
+    world.give(actor)?;
+    Ok(())
+}
+
+/// Makes the moves of an event. Where the event is refused, the world is whatever its moves left.
 fn make(world: &mut World, event: Event) -> Result<(), Refusal>
     requires range { IsEventInRange event }
     requires left { world.old.steps + 1000001 < 2 ^ 64 }
-    ensures ok { OnOk result (world_after (moves_of_event event) world.old ≡ Some world.new) }
+    ensures ok { OnOk result (EventLeads world.old event world.new) }
     ensures steps { OnOk result (world.new.steps ≤ world.old.steps + 1000000) }
     ensures kind { IfErr result IsMoveRefusal }
     ensures refused { IfErr result (EventRefused world.old event) }
 {
     match event {
         Event::Begin(actor, op) => world.begin(actor, op),
+        Event::Step(actor, line) => take_step_at(world, actor, line),
         Event::Steps(actor, count) => take_steps(world, actor, count),
+        Event::Give(actor) => give_up(world, actor),
     }
 }
 
@@ -63,7 +96,7 @@ fn make(world: &mut World, event: Event) -> Result<(), Refusal>
 fn make_all(world: &mut World, events: &[Event]) -> Result<(), Fault>
     requires range { All IsEventInRange events.now }
     requires left { world.old.steps + length events.now * 1000000 + 1000001 < 2 ^ 64 }
-    ensures ok { OnOk result (world_after (moves_of events.now) world.old ≡ Some world.new) }
+    ensures ok { OnOk result (EventsLead world.old events.now world.new) }
     ensures kind { IfErr result (λ fault. IsEventFault fault.refusal fault.line) }
     ensures refused { IfErr result (λ fault. IfSome fault.line (λ line.
         EventsRefused world.old events.now line fault.refusal)) }
@@ -79,7 +112,9 @@ fn make_all(world: &mut World, events: &[Event]) -> Result<(), Fault>
 /// The world that a schedule leads to.
 pub fn world_of_schedule(alloc: Global, schedule: &Schedule) -> Result<World, Fault>
     requires { IsInRange schedule.now }
-    ensures ok { IfOk result (λ world. world_of schedule.now ≡ Some world) }
+    ensures ok { IfOk result (λ world.
+        EventsLead (opening_of schedule.now) schedule.now.events world) }
+    ensures moves { IfOk result (λ world. world_of schedule.now ≡ Some world) }
     ensures kind { IfErr result (λ fault. IsEventFault fault.refusal fault.line) }
     ensures refused { IfErr result (λ fault. IfSome fault.line (λ line.
         EventsRefused (opening_of schedule.now) schedule.now.events line fault.refusal)) }

@@ -2,5 +2,5 @@ mod endings;
 mod engine;
 mod faults;
 mod judging;
-mod texts;
+mod schedules;
 mod words;

@@ -1,155 +1,179 @@
+ghost use Rattle.std.specs.Prelude.{◌<◌};
+
+use crate::endings::end_of;
 use crate::engine::run;
 use crate::faults::Fault;
-use crate::tests::texts::{text, text_with};
-use history::{Refusal, Script, TextCause, Trouble};
+use crate::tests::schedules::WORKED;
+use history::{Refusal, Script, Trouble, Verdict};
 use std::alloc::{AllocError, Global};
 use std::test::Fail;
 
-const HISTORY: &str = "history 2
-1 enq 5 first 1 last 10 at 8 reply done
-2 deq first 11 last 19 at 15 reply value 1 5
-";
+const LINES: [&str; 10] = [
+    "msq schedule 1",
+    "queue nonblocking",
+    "nodes 3",
+    "limit 100",
+    "actors 2",
+    "events 4",
+    "begin 1 enq 5",
+    "steps 1 10",
+    "begin 2 deq",
+    "steps 2 9",
+];
 
-const THREE_ACTORS: &str = "msq schedule 1
-queue two-lock
+const GIVEN_UP_BEFORE_A_TURN: &str = "msq schedule 1
+queue nonblocking
 nodes 3
 limit 100
-actors 3
-events 11
-begin 1 enq 5
-steps 1 6
-begin 2 enq 6
-steps 2 6
-begin 3 deq
-steps 3 4
-steps 1 2
-begin 3 deq
-steps 3 9
-steps 1 2
-steps 2 5
+actors 2
+events 3
+begin 1 enq 7
+steps 1 8
+give 1
 ";
 
-const THEIR_HISTORY: &str = "history 4
-1 enq 5 first 1 last 29 at 18 reply done
-2 enq 6 first 7 last 34 at 32 reply done
-3 deq first 13 last 16 at 15 reply empty
-3 deq first 19 last 27 at 23 reply value 1 5
-";
-
-const NO_EVENTS: &str = "msq schedule 1
-queue two-lock
-nodes 2
-limit 1
-actors 1
-events 0
-";
-
-// What a run answers, and what it wrote.
-fn answer(
-    alloc: Global,
-    reader: &mut Script,
-    writer: Script,
-) -> Result<(Result<(), Fault>, Vec<u8>), AllocError> {
-    let mut writer = writer;
-    let outcome = run(alloc, reader, &mut writer);
-    Ok((outcome, Vec::from_slice(alloc, writer.written())?))
+// The lines above, with another one in the place of one of them, from 1.
+fn text_with(alloc: Global, number: u64, other: &str) -> Result<Vec<u8>, AllocError> {
+    let mut text = Vec::new(alloc);
+    let mut at = 0u64;
+    for line in &LINES {
+        at = at.saturating_add(1);
+        let line = if at == number { other } else { line };
+        text.extend_from_slice(line.as_bytes())?;
+        text.push(b'\n')?;
+    }
+    Ok(text)
 }
 
-fn answer_to(alloc: Global, text: &[u8]) -> Result<(Result<(), Fault>, Vec<u8>), AllocError> {
-    let mut reader = Script::reader(alloc, text, 4096)?;
-    let writer = Script::writer(alloc, 1000, 4096)?;
-    answer(alloc, &mut reader, writer)
+// What the program does with a schedule.
+#[derive(Drop)]
+struct Done {
+    status: u8,
+    written: Vec<u8>,
+    complained: Vec<u8>,
+}
+
+// What the program does with a schedule that comes in pieces of this size, and goes in such ones.
+fn done_with(alloc: Global, text: &[u8], piece: usize) -> Result<Done, AllocError>
+    requires { 0 < piece }
+{
+    let mut reader = Script::reader(alloc, text, piece)?;
+    let mut writer = Script::writer(alloc, 1000, piece)?;
+    let mut complaints = Script::writer(alloc, 100, piece)?;
+    let outcome = run(alloc, &mut reader, &mut writer);
+    let status = end_of(outcome.map(|_| Verdict::Yes), &mut complaints);
+    Ok(Done {
+        status,
+        written: Vec::from_slice(alloc, writer.written())?,
+        complained: Vec::from_slice(alloc, complaints.written())?,
+    })
 }
 
 #[test]
-fn writes_the_history_whatever_the_pieces(rt: HostRuntime) -> Result<(), Fail> {
-    let text = text(rt.alloc())?;
-    for piece in [1, 7, 4096] {
-        let mut reader = Script::reader(rt.alloc(), &text, piece)?;
-        let writer = Script::writer(rt.alloc(), 1000, piece)?;
-        let (outcome, written) = answer(rt.alloc(), &mut reader, writer)?;
-        assert_eq!(rt; outcome, Ok(()), "by {piece}");
-        assert_eq!(rt; written.as_slice(), HISTORY.as_bytes(), "by {piece}");
+fn writes_each_history_whatever_the_pieces(rt: HostRuntime) -> Result<(), Fail> {
+    for (text, want) in &WORKED {
+        for piece in [1, 7, 4096] {
+            let done = done_with(rt.alloc(), text.as_bytes(), piece)?;
+            assert_eq!(rt;
+                done.written.as_slice(),
+                want.as_bytes(),
+                "by {piece}: {text}"
+            );
+            assert_eq!(rt; done.status, 0, "by {piece}: {text}");
+            assert!(rt; done.complained.is_empty(), "by {piece}: {text}");
+        }
     }
     Ok(())
 }
 
 #[test]
-fn writes_the_history_of_a_schedule(rt: HostRuntime) -> Result<(), Fail> {
-    let cases = [(THREE_ACTORS, THEIR_HISTORY), (NO_EVENTS, "history 0\n")];
-    for (text, want) in cases {
-        let (outcome, written) = answer_to(rt.alloc(), text.as_bytes())?;
-        assert_eq!(rt; outcome, Ok(()));
-        assert_eq!(rt; written.as_slice(), want.as_bytes());
-    }
-    Ok(())
-}
-
-#[test]
-fn stops_at_the_first_refused_event(rt: HostRuntime) -> Result<(), Fail> {
+fn tells_the_first_faulty_line_or_refused_event(rt: HostRuntime) -> Result<(), Fail> {
     let cases = [
-        (8, "steps 1 11", Refusal::IdleActor, 8),
-        (7, "begin 2 enq 5", Refusal::IdleActor, 8),
-        (9, "begin 1 deq", Refusal::IdleActor, 10),
-        (8, "begin 1 deq", Refusal::ActorBusy, 8),
-        (7, "begin 3 enq 5", Refusal::NoSuchActor, 7),
-        (10, "steps 3 1", Refusal::NoSuchActor, 10),
+        (3, "nodes 1", "fault 10 Text line 3 Range\n"),
+        (8, "step 1 E4", "fault 10 Text line 8 Form\n"),
+        (8, "steps 1 11", "fault 6 IdleActor line 8\n"),
+        (7, "begin 2 enq 5", "fault 6 IdleActor line 8\n"),
+        (8, "step 2 N1", "fault 6 IdleActor line 8\n"),
+        (8, "step 1 N1", "fault 6 IdleActor line 10\n"),
+        (9, "give 1", "fault 6 IdleActor line 9\n"),
+        (8, "begin 1 deq", "fault 7 ActorBusy line 8\n"),
+        (8, "step 1 N2", "fault 8 NotHere line 8\n"),
+        (8, "step 1 A1", "fault 8 NotHere line 8\n"),
+        (7, "begin 3 enq 5", "fault 9 NoSuchActor line 7\n"),
+        (8, "step 3 N1", "fault 9 NoSuchActor line 8\n"),
+        (10, "steps 3 1", "fault 9 NoSuchActor line 10\n"),
+        (10, "give 3", "fault 9 NoSuchActor line 10\n"),
     ];
-    for (number, line, refusal, at) in cases {
+    for (number, line, want) in cases {
         let text = text_with(rt.alloc(), number, line)?;
-        let (outcome, written) = answer_to(rt.alloc(), &text)?;
-        let line = Some(at);
-        assert_eq!(rt; outcome, Err(Fault { refusal, line }), "at {at}");
-        assert!(rt; written.is_empty(), "at {at}");
+        let done = done_with(rt.alloc(), &text, 4096)?;
+        assert_eq!(rt; done.complained.as_slice(), want.as_bytes(), "{line}");
+        assert_eq!(rt; done.status, 1, "{line}");
+        assert!(rt; done.written.is_empty(), "{line}");
     }
     Ok(())
 }
 
 #[test]
-fn a_faulty_text_comes_before_a_refused_event(rt: HostRuntime) -> Result<(), Fail> {
-    let mut text = text_with(rt.alloc(), 8, "steps 1 11")?;
-    text.push(b'\n')?;
-    let (outcome, written) = answer_to(rt.alloc(), &text)?;
-    let refusal = Refusal::Text(11, TextCause::Extra);
-    let line = None;
-    assert_eq!(rt; outcome, Err(Fault { refusal, line }));
-    assert!(rt; written.is_empty());
+fn tells_faults_of_whole_texts(rt: HostRuntime) -> Result<(), Fail> {
+    let mut cut = text_with(rt.alloc(), 0, "")?;
+    let _ = cut.pop();
+    let mut longer = text_with(rt.alloc(), 0, "")?;
+    longer.push(b'\n')?;
+    let mut faulty = text_with(rt.alloc(), 8, "steps 1 11")?;
+    faulty.push(b'\n')?;
+    let cases: [(&[u8], &str); 4] = [
+        (&cut, "fault 10 Text line 10 End\n"),
+        (&longer, "fault 10 Text line 11 Extra\n"),
+        // A fault of the text comes before a refused event.
+        (&faulty, "fault 10 Text line 11 Extra\n"),
+        (
+            GIVEN_UP_BEFORE_A_TURN.as_bytes(),
+            "fault 8 NotHere line 9\n",
+        ),
+    ];
+    for (text, want) in &cases {
+        let done = done_with(rt.alloc(), text, 7)?;
+        assert_eq!(rt; done.complained.as_slice(), want.as_bytes());
+        assert_eq!(rt; done.status, 1, "{want}");
+        assert!(rt; done.written.is_empty(), "{want}");
+    }
     Ok(())
 }
 
 #[test]
 fn writes_nothing_where_a_read_fails(rt: HostRuntime) -> Result<(), Fail> {
-    let text = text(rt.alloc())?;
-    let calls = text.len().div_ceil(7) as u64;
-    for call in 1..calls.saturating_add(2) {
-        let reader = Script::reader(rt.alloc(), &text, 7)?;
-        let mut reader = reader.with(Trouble::Failure, call);
-        let writer = Script::writer(rt.alloc(), 1000, 7)?;
-        let (outcome, written) = answer(rt.alloc(), &mut reader, writer)?;
-        let refusal = Refusal::Read;
-        let line = None;
-        assert_eq!(rt; outcome, Err(Fault { refusal, line }), "at call {call}");
-        assert!(rt; written.is_empty(), "at call {call}");
+    for (text, _) in &WORKED {
+        let calls = text.len().div_ceil(7) as u64;
+        for call in 1..calls.saturating_add(2) {
+            let reader = Script::reader(rt.alloc(), text.as_bytes(), 7)?;
+            let mut reader = reader.with(Trouble::Failure, call);
+            let mut writer = Script::writer(rt.alloc(), 1000, 7)?;
+            let outcome = run(rt.alloc(), &mut reader, &mut writer);
+            let want = Err(Fault::from(Refusal::Read));
+            assert_eq!(rt; outcome, want, "at call {call}: {text}");
+            assert!(rt; writer.written().is_empty(), "at call {call}: {text}");
+        }
     }
     Ok(())
 }
 
 #[test]
 fn writes_a_beginning_where_a_write_fails(rt: HostRuntime) -> Result<(), Fail> {
-    let text = text(rt.alloc())?;
-    let history = HISTORY.as_bytes();
-    for trouble in [Trouble::Failure, Trouble::Standstill] {
-        let mut call = 0u64;
-        for want in (0..history.len()).step_by(7) {
-            call = call.saturating_add(1);
-            let mut reader = Script::reader(rt.alloc(), &text, 4096)?;
-            let writer = Script::writer(rt.alloc(), 1000, 7)?;
-            let writer = writer.with(trouble, call);
-            let (outcome, written) = answer(rt.alloc(), &mut reader, writer)?;
-            let refusal = Refusal::Write;
-            let line = None;
-            assert_eq!(rt; outcome, Err(Fault { refusal, line }), "at call {call}");
-            assert_eq!(rt; written.as_slice(), &history[..want], "at call {call}");
+    for (text, history) in &WORKED {
+        for trouble in [Trouble::Failure, Trouble::Standstill] {
+            let mut call = 0u64;
+            for want in (0..history.len()).step_by(7) {
+                call = call.saturating_add(1);
+                let mut reader = Script::reader(rt.alloc(), text.as_bytes(), 4096)?;
+                let writer = Script::writer(rt.alloc(), 1000, 7)?;
+                let mut writer = writer.with(trouble, call);
+                let outcome = run(rt.alloc(), &mut reader, &mut writer);
+                let refusal = Err(Fault::from(Refusal::Write));
+                assert_eq!(rt; outcome, refusal, "at call {call}: {text}");
+                let begun = &history.as_bytes()[..want];
+                assert_eq!(rt; writer.written(), begun, "at call {call}: {text}");
+            }
         }
     }
     Ok(())

@@ -1,5 +1,5 @@
 use Rattle.std.proofs.Common.{arith}
-use Rattle.msq.proofs.Moves.{world_after-take_next}
+use Rattle.msq.proofs.Leading.{EventsLead-take_next}
 use Rattle.msq.proofs.Stops.{EventsRefused_told}
 use Rattle.msq.proofs.running.make_all.Goals as goal
 
@@ -7,7 +7,7 @@ pub loop-place-preserved : goal.loop-place-preserved
 loop-place-preserved c =
     let made = c.in_default.ensures in
     record {
-      led = world_after-take_next c.args.events.now c.loop-place.place c.index-events-place.result _ c.loop-place.world _ c.loop-place-test.true
+      led = EventsLead-take_next c.args.events.now c.loop-place.place c.index-events-place.result _ c.loop-place.world _ c.loop-place-test.true
           c.index-events-place.is c.loop-place.invariant.led made.ok;
       steps = omega (arith, made.steps, c.loop-place.invariant.steps);
     }
