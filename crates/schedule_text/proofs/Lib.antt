@@ -4,5 +4,4 @@ pub mod Spelling
 pub mod Refusing
 pub mod Joining
 pub mod Distinct
-pub mod Unique
 pub mod OneText

@@ -2,20 +2,21 @@
 use Rattle.std.proofs.Common.{◌≡◌, ◌≢◌, ℕ, ◌+◌, ◌-◌, ◌≤◌, List, [], ◌∷◌, length, map, All, false, refl, sym, ap, ap₂, subst, ◌∙◌, arith}
 use Rattle.std.specs.Prelude.{Result, Ok, Err, IfOk, IfErr, MatchResult}
 use Rattle.std.proofs.lemmas.Bool.{lt-ltb}
+use Rattle.std.proofs.lemmas.List.{append-nil}
 use Rattle.std.proofs.lemmas.List.Elements.{All-nil, All-cons, All-append, All-head, All-tail}
 use Rattle.history.specs.declared.refusals.Refusal.{Refusal}
 use Rattle.history.specs.declared.refusals.Refusal.TheVariants.{NoNode, WornOut, Busy, Memory, BadSize, IdleActor, ActorBusy, NotHere, NoSuchActor, Text, Read, Write, Stranger, Double, Lost, Closed}
 use Rattle.text_lines.specs.declared.causes.TextCause.{TextCause}
-use Rattle.text_lines.specs.Grammars.{AreDue, state_after, IsFirstFault}
+use Rattle.text_lines.specs.Grammars.{Grammar, AreDue, state_after, lines_of, IsText, IsFirstFault, IsSound}
 use Rattle.text_lines.specs.Lines.{HasNo, spaced}
+use Rattle.text_lines.proofs.Single.{one_list, no_fault, one_fault}
 use Rattle.schedule_text.specs.declared.schedules.Event.{Event}
 use Rattle.schedule_text.specs.Schedules.{Schedule}
-use Rattle.schedule_text.specs.Texts.{Said, happens, version_due, events_left, is_due, said_words, header_by, said_by, schedule_lines, schedule_text, IsEventInRange, IsInRange}
+use Rattle.schedule_text.specs.Texts.{Said, happens, Due, version_due, events_left, is_due, due_after, said_words, MaySay, header_by, said_by, schedule_lines, schedule_text, IsEventInRange, IsInRange}
 use Rattle.schedule_text.specs.Reading.{IsRefusedText}
 use Rattle.schedule_text.proofs.Spelling.{AreWords, AreWords-said, words_of-said}
 use Rattle.schedule_text.proofs.Joining.{state_after-append, state_after-happens}
 use Rattle.schedule_text.proofs.Distinct.{said_same}
-use Rattle.schedule_text.proofs.Unique.{lines_once, text_faultless, fault_once}
 
 -- words and the spaces between them have no line feed
 unbroken_words : (words : List (List ℕ)) → AreWords words → HasNo 10 (spaced words)
@@ -30,6 +31,27 @@ unbroken said = unbroken_words (said_words said) (AreWords-said said)
 
 apart : (a b : Said) → schedule_lines.words a ≡ schedule_lines.words b → a ≡ b
 apart a b same = said_same a b (sym (words_of-said a (spaced (said_words a)) refl) ∙ words_of-said b (spaced (said_words a)) same)
+
+-- the words of a line of a schedule tell what it says, and have no line feed
+IsSound-schedule : IsSound schedule_lines
+IsSound-schedule = record { no_feed = λ due said may. unbroken said; one = λ due a b may may' same. apart a b same }
+
+-- the lines of schedules, whatever their numbers
+abbrev unranged_lines : Grammar Due Said
+unranged_lines = record {
+  is_due = is_due;
+  may_say = MaySay;
+  in_range = λ due said. Unit {0};
+  words = λ said. spaced (said_words said);
+  after = due_after;
+}
+
+IsSound-unranged : IsSound unranged_lines
+IsSound-unranged = record { no_feed = λ due said may. unbroken said; one = λ due a b may may' same. apart a b same }
+
+unranged_events : (count : ℕ) (events : List Event) → length events ≡ count → AreDue unranged_lines (events_left count) (map happens events)
+unranged_events count [] counted = tt
+unranged_events count (event ∷ events) counted = (lt-ltb 0 count (omega arith), tt, tt, unranged_events (count - 1) events (omega arith))
 
 -- the events of a list are due where so many are left
 events_due : (count : ℕ) (events : List Event) → length events ≡ count → All IsEventInRange events → AreDue schedule_lines (events_left count) (map happens events)
@@ -78,6 +100,19 @@ none_due s =
     let left : length s.events - length s.events ≡ 0 = omega arith in
     ap is_due (state_after-append schedule_lines version_due (header_by s) (map happens s.events) ∙ state_after-happens (length s.events) s.events ∙ ap events_left left)
 
+-- the text of any schedule is of such lines
+IsText-unranged : (s : Schedule) → IsText unranged_lines version_due (said_by s) (schedule_text s)
+unfolding schedule_text
+IsText-unranged s =
+    let events : AreDue unranged_lines (events_left (length s.events)) (map happens s.events) = unranged_events (length s.events) s.events refl in
+    record {
+      lines = record {
+        due = (refl, tt, tt, (refl, tt, tt, (refl, refl, tt, (refl, refl, tt, (refl, refl, tt, (refl, refl, tt, events))))));
+        spelled = sym (append-nil (lines_of schedule_lines (said_by s)));
+      };
+      done = none_due s;
+    }
+
 -- lists of events whose lines say the same
 events_same : (ps bs : List Event) → map happens ps ≡ map happens bs → ps ≡ bs
 events_same [] [] same = refl
@@ -90,9 +125,9 @@ events_same (a ∷ ps) (b ∷ bs) same =
 
 -- no two schedules have one text
 pub one_text : (a b : Schedule) → schedule_text a ≡ schedule_text b → a ≡ b
-unfolding schedule_text
 one_text a b same =
-    let lines : said_by a ≡ said_by b = lines_once schedule_lines apart unbroken (said_by a) (said_by b) same in
+    let lines : said_by a ≡ said_by b = one_list unranged_lines IsSound-unranged version_due (said_by a) (said_by b) (schedule_text b)
+    (subst (IsText unranged_lines version_due (said_by a)) same (IsText-unranged a)) (IsText-unranged b) in
     let kind : a.kind ≡ b.kind = cc in
     let nodes : a.nodes ≡ b.nodes = cc in
     let limit : a.limit ≡ b.limit = cc in
@@ -101,20 +136,20 @@ one_text a b same =
     let events : a.events ≡ b.events = events_same a.events b.events said in
     λ i. record { kind = kind i; nodes = nodes i; limit = limit i; actors = actors i; events = events i }
 
--- the text of a schedule in range has no fault
-pub no_fault : (s : Schedule) (at : ℕ) (cause : TextCause) → IsInRange s → IsFirstFault schedule_lines version_due (schedule_text s) at cause → ⊥
+-- the text of a schedule in range is in the grammar
+IsText-schedule : (s : Schedule) → IsInRange s → IsText schedule_lines version_due (said_by s) (schedule_text s)
 unfolding schedule_text
-no_fault s at cause range fault =
-    text_faultless schedule_lines apart unbroken version_due (said_by s) fault.before fault.rest cause (lines_due s range) (none_due s)
-    fault.begins.due fault.begins.spelled fault.fault
+IsText-schedule s range =
+    record { lines = record { due = lines_due s range; spelled = sym (append-nil (lines_of schedule_lines (said_by s))) }; done = none_due s }
+
+-- so it has no fault
+pub no_fault_of_schedule : (s : Schedule) (at : ℕ) (cause : TextCause) → IsInRange s → IsFirstFault schedule_lines version_due (schedule_text s) at cause → ⊥
+no_fault_of_schedule s at cause range = no_fault schedule_lines IsSound-schedule version_due (said_by s) (schedule_text s) at cause (IsText-schedule s range)
 
 -- a text has one first fault
-pub one_fault : (text : List ℕ) (at by : ℕ) (c d : TextCause) → IsFirstFault schedule_lines version_due text at c → IsFirstFault schedule_lines version_due text by d
-    → (at ≡ by) × (c ≡ d)
-one_fault text at by c d p q =
-    let both = fault_once schedule_lines apart unbroken version_due p.before q.before p.rest q.rest c d p.begins.due q.begins.due
-    (sym p.begins.spelled ∙ q.begins.spelled) p.fault q.fault in
-    (p.counted ∙ ap (λ (n : ℕ). 1 + n) both.0 ∙ sym q.counted, both.1)
+pub one_fault_of_schedule : (text : List ℕ) (at by : ℕ) (c d : TextCause) → IsFirstFault schedule_lines version_due text at c
+    → IsFirstFault schedule_lines version_due text by d → (at ≡ by) × (c ≡ d)
+one_fault_of_schedule = one_fault schedule_lines IsSound-schedule version_due
 
 -- what is read of a schedule's text is that schedule
 pub read_back : (text : List ℕ) (answer : Result Schedule Refusal) → IfOk answer (λ t. text ≡ schedule_text t) → IfErr answer (IsRefusedText text)
@@ -124,7 +159,7 @@ read_back text (Err why) told refused s range same = only_memory why refused
   where
     only_memory : (why : Refusal) → IsRefusedText text why → why ≡ Memory
     only_memory Memory refused = refl
-    only_memory (Text at cause) refused = absurd (no_fault s at cause range (subst (λ text. IsFirstFault schedule_lines version_due text at cause) same refused))
+    only_memory (Text at cause) refused = absurd (no_fault_of_schedule s at cause range (subst (λ text. IsFirstFault schedule_lines version_due text at cause) same refused))
     only_memory NoNode refused = absurd refused
     only_memory (WornOut word) refused = absurd refused
     only_memory Busy refused = absurd refused
