@@ -3,4 +3,5 @@ mod engine;
 mod faults;
 mod judging;
 mod schedules;
+mod tables;
 mod words;

@@ -4,7 +4,7 @@ use crate::endings::end_of;
 use crate::engine::run;
 use crate::faults::Fault;
 use crate::tests::schedules::WORKED;
-use history::{Refusal, Script, Trouble, Verdict};
+use history::{Refusal, Script, TextCause, Trouble, Verdict};
 use std::alloc::{AllocError, Global};
 use std::test::Fail;
 
@@ -20,6 +20,16 @@ const LINES: [&str; 10] = [
     "begin 2 deq",
     "steps 2 9",
 ];
+
+const ONE_STEP_TOO_MANY: &str = "msq schedule 1
+queue nonblocking
+nodes 3
+limit 100
+actors 2
+events 2
+begin 1 enq 5
+steps 1 11
+";
 
 const GIVEN_UP_BEFORE_A_TURN: &str = "msq schedule 1
 queue nonblocking
@@ -89,8 +99,15 @@ fn writes_each_history_whatever_the_pieces(rt: HostRuntime) -> Result<(), Fail> 
 #[test]
 fn tells_the_first_faulty_line_or_refused_event(rt: HostRuntime) -> Result<(), Fail> {
     let cases = [
+        (1, "msq schedule 2", "fault 10 Text line 1 Form\n"),
         (3, "nodes 1", "fault 10 Text line 3 Range\n"),
+        (3, "nodes 0x3", "fault 10 Text line 3 Form\n"),
+        (3, "nodes 3\r", "fault 10 Text line 3 Form\n"),
+        (6, "events 1000001", "fault 10 Text line 6 Range\n"),
+        (7, "begin 0 deq", "fault 10 Text line 7 Range\n"),
+        (7, "begin 1 enq 007", "fault 10 Text line 7 Form\n"),
         (8, "step 1 E4", "fault 10 Text line 8 Form\n"),
+        (8, "steps 1  10", "fault 10 Text line 8 Form\n"),
         (8, "steps 1 11", "fault 6 IdleActor line 8\n"),
         (7, "begin 2 enq 5", "fault 6 IdleActor line 8\n"),
         (8, "step 2 N1", "fault 6 IdleActor line 8\n"),
@@ -122,7 +139,8 @@ fn tells_faults_of_whole_texts(rt: HostRuntime) -> Result<(), Fail> {
     longer.push(b'\n')?;
     let mut faulty = text_with(rt.alloc(), 8, "steps 1 11")?;
     faulty.push(b'\n')?;
-    let cases: [(&[u8], &str); 4] = [
+    let cases: [(&[u8], &str); 6] = [
+        (b"", "fault 10 Text line 1 End\n"),
         (&cut, "fault 10 Text line 10 End\n"),
         (&longer, "fault 10 Text line 11 Extra\n"),
         // A fault of the text comes before a refused event.
@@ -131,12 +149,50 @@ fn tells_faults_of_whole_texts(rt: HostRuntime) -> Result<(), Fail> {
             GIVEN_UP_BEFORE_A_TURN.as_bytes(),
             "fault 8 NotHere line 9\n",
         ),
+        (ONE_STEP_TOO_MANY.as_bytes(), "fault 6 IdleActor line 8\n"),
     ];
     for (text, want) in &cases {
         let done = done_with(rt.alloc(), text, 7)?;
         assert_eq!(rt; done.complained.as_slice(), want.as_bytes());
         assert_eq!(rt; done.status, 1, "{want}");
         assert!(rt; done.written.is_empty(), "{want}");
+    }
+    Ok(())
+}
+
+#[test]
+fn tells_that_a_long_number_is_out_of_range(rt: HostRuntime) -> Result<(), Fail> {
+    let mut line = String::from_str(rt.alloc(), "nodes ")?;
+    for _ in 0..100_000 {
+        line.push('9')?;
+    }
+    let text = text_with(rt.alloc(), 3, line.as_str())?;
+    let done = done_with(rt.alloc(), &text, 4096)?;
+    assert_eq!(rt;
+        done.complained.as_slice(),
+        b"fault 10 Text line 3 Range\n".as_slice()
+    );
+    assert_eq!(rt; done.status, 1);
+    assert!(rt; done.written.is_empty());
+    Ok(())
+}
+
+#[test]
+fn tells_the_end_of_each_cut_schedule(rt: HostRuntime) -> Result<(), Fail> {
+    for (text, _) in &WORKED {
+        let text = text.as_bytes();
+        let mut line = 1u64;
+        for (place, byte) in text.iter().enumerate() {
+            let mut reader = Script::reader(rt.alloc(), &text[..place], 4096)?;
+            let mut writer = Script::writer(rt.alloc(), 1000, 4096)?;
+            let outcome = run(rt.alloc(), &mut reader, &mut writer);
+            let want = Err(Fault::from(Refusal::Text(line, TextCause::End)));
+            assert_eq!(rt; outcome, want, "before byte {place}");
+            assert!(rt; writer.written().is_empty(), "before byte {place}");
+            if *byte == b'\n' {
+                line = line.saturating_add(1);
+            }
+        }
     }
     Ok(())
 }

@@ -1,4 +1,10 @@
+ghost use Rattle.std.specs.Prelude.{◌<◌};
+
+use crate::endings::end_of;
+use crate::faults::Fault;
 use crate::judging::check_text;
+use crate::tests::schedules::WORKED;
+use crate::tests::tables::TABLES;
 use history::{Cause, Refusal, Script, TextCause, Trouble, Verdict};
 use std::alloc::{AllocError, Global};
 use std::test::Fail;
@@ -65,27 +71,85 @@ fn answer(alloc: Global, reader: Script, writer: Script) -> Result<Answer, Alloc
     Ok((outcome, Vec::from_slice(alloc, writer.written())?))
 }
 
+// What the program does with a history.
+#[derive(Drop)]
+struct Done {
+    status: u8,
+    written: Vec<u8>,
+    complained: Vec<u8>,
+}
+
+// What the program does with a history that comes in pieces of this size, and goes in such ones.
+fn done_with(alloc: Global, text: &[u8], piece: usize) -> Result<Done, AllocError>
+    requires { 0 < piece }
+{
+    let reader = Script::reader(alloc, text, piece)?;
+    let writer = Script::writer(alloc, 1000, piece)?;
+    let (outcome, written) = answer(alloc, reader, writer)?;
+    let mut complaints = Script::writer(alloc, 100, piece)?;
+    let status = end_of(outcome.map_err(Fault::from), &mut complaints);
+    Ok(Done {
+        status,
+        written,
+        complained: Vec::from_slice(alloc, complaints.written())?,
+    })
+}
+
+#[test]
+fn tables_each_history_whatever_the_pieces(rt: HostRuntime) -> Result<(), Fail> {
+    for ((_, text), table) in WORKED.iter().zip(TABLES.iter()) {
+        for piece in [1, 7, 4096] {
+            let done = done_with(rt.alloc(), text.as_bytes(), piece)?;
+            assert_eq!(rt;
+                done.written.as_slice(),
+                table.as_bytes(),
+                "by {piece}: {text}"
+            );
+            assert_eq!(rt; done.status, 0, "by {piece}: {text}");
+            assert!(rt; done.complained.is_empty(), "by {piece}: {text}");
+        }
+    }
+    Ok(())
+}
+
 #[test]
 fn judges_histories_whatever_the_pieces(rt: HostRuntime) -> Result<(), Fail> {
+    let cases = [
+        (FOUR, 0, THEIR_TABLE),
+        (OLD_EMPTY, 0, ITS_TABLE),
+        ("history 0\n", 0, "yes\n"),
+        (LATE_EMPTY, 3, "no 1 Reply\n"),
+        (ONE_PLACE, 3, "no 2 Shared\n"),
+        (OUTSIDE, 3, "no 1 Span\n"),
+        (EMPTY_TOO_SOON, 3, "no 2 Reply\n"),
+        (NO_REPLY, 3, "no 1 Shape\n"),
+    ];
+    for (text, status, want) in cases {
+        for piece in [1, 7, 4096] {
+            let done = done_with(rt.alloc(), text.as_bytes(), piece)?;
+            assert_eq!(rt; done.written.as_slice(), want.as_bytes(), "by {piece}");
+            assert_eq!(rt; done.status, status, "by {piece}: {text}");
+            assert!(rt; done.complained.is_empty(), "by {piece}: {text}");
+        }
+    }
+    Ok(())
+}
+
+#[test]
+fn answers_the_verdict(rt: HostRuntime) -> Result<(), Fail> {
     let no = |place, cause| Verdict::No { place, cause };
     let cases = [
-        (FOUR, Verdict::Yes, THEIR_TABLE),
-        (OLD_EMPTY, Verdict::Yes, ITS_TABLE),
-        ("history 0\n", Verdict::Yes, "yes\n"),
-        (LATE_EMPTY, no(1, Cause::Reply), "no 1 Reply\n"),
-        (ONE_PLACE, no(2, Cause::Shared), "no 2 Shared\n"),
-        (OUTSIDE, no(1, Cause::Span), "no 1 Span\n"),
-        (EMPTY_TOO_SOON, no(2, Cause::Reply), "no 2 Reply\n"),
-        (NO_REPLY, no(1, Cause::Shape), "no 1 Shape\n"),
+        (FOUR, Verdict::Yes),
+        (LATE_EMPTY, no(1, Cause::Reply)),
+        (ONE_PLACE, no(2, Cause::Shared)),
+        (OUTSIDE, no(1, Cause::Span)),
+        (NO_REPLY, no(1, Cause::Shape)),
     ];
-    for (text, verdict, want) in cases {
-        for piece in [1, 7, 4096] {
-            let reader = Script::reader(rt.alloc(), text.as_bytes(), piece)?;
-            let writer = Script::writer(rt.alloc(), 1000, piece)?;
-            let (outcome, written) = answer(rt.alloc(), reader, writer)?;
-            assert_eq!(rt; outcome, Ok(verdict), "by {piece}");
-            assert_eq!(rt; written.as_slice(), want.as_bytes(), "by {piece}");
-        }
+    for (text, verdict) in cases {
+        let reader = Script::reader(rt.alloc(), text.as_bytes(), 4096)?;
+        let writer = Script::writer(rt.alloc(), 1000, 4096)?;
+        let (outcome, _) = answer(rt.alloc(), reader, writer)?;
+        assert_eq!(rt; outcome, Ok(verdict), "{text}");
     }
     Ok(())
 }
@@ -93,28 +157,57 @@ fn judges_histories_whatever_the_pieces(rt: HostRuntime) -> Result<(), Fail> {
 #[test]
 fn tells_the_first_faulty_line(rt: HostRuntime) -> Result<(), Fail> {
     let cases = [
-        ("", 1, TextCause::End),
-        ("history 1\n", 2, TextCause::End),
-        ("history 00\n", 1, TextCause::Form),
-        ("history 1000001\n", 1, TextCause::Range),
-        ("history 0\n\n", 2, TextCause::Extra),
+        ("", "fault 10 Text line 1 End\n"),
+        ("history 1\n", "fault 10 Text line 2 End\n"),
+        ("history 00\n", "fault 10 Text line 1 Form\n"),
+        ("history 1000001\n", "fault 10 Text line 1 Range\n"),
+        ("history 0\n\n", "fault 10 Text line 2 Extra\n"),
         (
             "history 1\n1 enq 1 first 0 last 4 at 3 reply done\n",
-            2,
-            TextCause::Range,
+            "fault 10 Text line 2 Range\n",
+        ),
+        (
+            "history 1\n1 enq 1 first 1 last 4 at 3 reply refused 2\n",
+            "fault 10 Text line 2 Form\n",
         ),
         (
             "history 1\n1 enq 1 first 1 last 4 at 3 reply refused 4\n",
-            2,
-            TextCause::Form,
+            "fault 10 Text line 2 Form\n",
+        ),
+        (
+            "history 1\n1 enq 007 first 1 last 4 at 3 reply done\n",
+            "fault 10 Text line 2 Form\n",
+        ),
+        (
+            "history 1\n1 enq 1 first 1  last 4 at 3 reply done\n",
+            "fault 10 Text line 2 Form\n",
         ),
     ];
-    for (text, line, cause) in cases {
-        let reader = Script::reader(rt.alloc(), text.as_bytes(), 4096)?;
-        let writer = Script::writer(rt.alloc(), 1000, 4096)?;
-        let (outcome, written) = answer(rt.alloc(), reader, writer)?;
-        assert_eq!(rt; outcome, Err(Refusal::Text(line, cause)), "{text}");
-        assert!(rt; written.is_empty(), "{text}");
+    for (text, want) in cases {
+        let done = done_with(rt.alloc(), text.as_bytes(), 4096)?;
+        assert_eq!(rt; done.complained.as_slice(), want.as_bytes(), "{text}");
+        assert_eq!(rt; done.status, 1, "{text}");
+        assert!(rt; done.written.is_empty(), "{text}");
+    }
+    Ok(())
+}
+
+#[test]
+fn tells_the_end_of_each_cut_history(rt: HostRuntime) -> Result<(), Fail> {
+    for (_, text) in &WORKED {
+        let text = text.as_bytes();
+        let mut line = 1u64;
+        for (place, byte) in text.iter().enumerate() {
+            let reader = Script::reader(rt.alloc(), &text[..place], 4096)?;
+            let writer = Script::writer(rt.alloc(), 1000, 4096)?;
+            let (outcome, written) = answer(rt.alloc(), reader, writer)?;
+            let want = Err(Refusal::Text(line, TextCause::End));
+            assert_eq!(rt; outcome, want, "before byte {place}");
+            assert!(rt; written.is_empty(), "before byte {place}");
+            if *byte == b'\n' {
+                line = line.saturating_add(1);
+            }
+        }
     }
     Ok(())
 }
