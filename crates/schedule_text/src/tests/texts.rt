@@ -235,8 +235,73 @@ actors 2
 events 0
 ";
 
+const STALE_HEAD: &str = "msq schedule 1
+queue nonblocking
+nodes 3
+limit 100
+actors 2
+events 12
+begin 1 enq 5
+steps 1 10
+begin 2 deq
+steps 2 5
+begin 1 deq
+steps 1 9
+begin 1 enq 6
+steps 1 11
+begin 1 deq
+steps 1 9
+step 2 D13
+steps 2 4
+";
+
+const STOPPED_HOLDER: &str = "msq schedule 1
+queue two-lock
+nodes 3
+limit 100
+actors 2
+events 7
+begin 1 enq 5
+steps 1 6
+begin 2 enq 6
+steps 2 15
+give 2
+begin 2 deq
+steps 2 7
+";
+
+const WORN_COUNTS: &str = "msq schedule 1
+queue nonblocking
+nodes 3
+limit 2
+actors 1
+events 12
+begin 1 enq 1
+steps 1 10
+begin 1 deq
+steps 1 9
+begin 1 enq 2
+steps 1 11
+begin 1 deq
+steps 1 7
+begin 1 enq 3
+steps 1 9
+begin 1 deq
+steps 1 4
+";
+
 /// The schedules that come with the program.
-pub const SHIPPED: [&str; 3] = [NO_CALLS, FIRST_RUN, LOCK_HELD];
+pub const SHIPPED: [&str; 9] = [
+    NO_CALLS,
+    FIRST_RUN,
+    LAGGING_TAIL,
+    LOCK_HELD,
+    OLD_EMPTY_REPLY,
+    STALE_REFERENCE,
+    STALE_HEAD,
+    STOPPED_HOLDER,
+    WORN_COUNTS,
+];
 
 #[test]
 fn prints_each_schedule_as_it_was_read(rt: HostRuntime) -> Result<(), Fail> {
@@ -257,6 +322,9 @@ fn prints_each_schedule_as_it_was_read(rt: HostRuntime) -> Result<(), Fail> {
         GIVEN_UP,
         LOCK_HELD,
         NO_CALLS,
+        STALE_HEAD,
+        STOPPED_HOLDER,
+        WORN_COUNTS,
         WIDEST,
         LEAST,
     ];
