@@ -3,6 +3,7 @@ use super::*;
 use crate::operations::{Body, Taken};
 use crate::printing::print_history;
 use crate::scripts::Script;
+use std::alloc::AllocError;
 use std::test::Fail;
 
 const TWO: &[u8] = b"history 2
@@ -66,8 +67,12 @@ fn tells_the_end_of_each_cut_text(rt: HostRuntime) {
     }
 }
 
+fn refusal_of(alloc: Global, text: &[u8]) -> Option<Refusal> {
+    parse_history(alloc, text).err()
+}
+
 #[test]
-fn tells_the_first_faulty_line(rt: HostRuntime) {
+fn tells_what_is_wrong_with_the_first_line(rt: HostRuntime) {
     for (text, number, cause) in [
         (b"".as_slice(), 1, TextCause::End),
         (b"history 1000001\n", 1, TextCause::Range),
@@ -78,69 +83,63 @@ fn tells_the_first_faulty_line(rt: HostRuntime) {
         (b"history +0\n", 1, TextCause::Form),
         (b"history 0\n\n", 2, TextCause::Extra),
         (b"history 0\nx", 2, TextCause::Extra),
-        (
-            b"history 1\n1 enq 1 first 0 last 4 at 3 reply done\n",
-            2,
-            TextCause::Range,
-        ),
-        (
-            b"history 1\n1 enq 1 first 1 last 4 at 3 reply refused 2\n",
-            2,
-            TextCause::Form,
-        ),
-        (
-            b"history 1\n1 enq 1 first 1 last 4 at 3 reply refused 4\n",
-            2,
-            TextCause::Form,
-        ),
-        (
-            b"history 1\n0 enq 1 first 1 last 4 at 3 reply refused 4\n",
-            2,
-            TextCause::Form,
-        ),
-        (
-            b"history 1\n65536 deq first 1 last - at - reply -\n",
-            2,
-            TextCause::Range,
-        ),
-        (
-            b"history 1\n1 enq 281474976710656 first 1 last - at - reply -\n",
-            2,
-            TextCause::Range,
-        ),
-        (
-            b"history 1\n1 deq first 18446744073709551616 last - at - reply -\n",
-            2,
-            TextCause::Range,
-        ),
-        (
-            b"history 1\n1 deq first 1 last - at - reply value 0 1\n",
-            2,
-            TextCause::Range,
-        ),
-        (
-            b"history 1\n1 deq first 1 last 007 at - reply -\n",
-            2,
-            TextCause::Form,
-        ),
-        (
-            b"history 1\n1 deq first 1 last - at - reply - \n",
-            2,
-            TextCause::Form,
-        ),
-        (
-            b"history 2\n1 deq first 1 last 0 at - reply -\nx\n",
-            2,
-            TextCause::Range,
-        ),
     ] {
-        let fault = parse_history(rt.alloc(), text).err();
-        assert_eq!(rt;
-            fault,
-            Some(Refusal::Text(number, cause)),
-            "{number} {cause}"
-        );
+        let want = Some(Refusal::Text(number, cause));
+        assert_eq!(rt; refusal_of(rt.alloc(), text), want, "{number} {cause}");
     }
+}
+
+// The text of a history of one operation, which this line says.
+fn text_of(alloc: Global, line: &[u8]) -> Result<Vec<u8>, AllocError> {
+    let mut text = Vec::new(alloc);
+    text.extend_from_slice(b"history 1\n")?;
+    text.extend_from_slice(line)?;
+    text.push(b'\n')?;
+    Ok(text)
+}
+
+#[test]
+fn tells_what_is_wrong_with_an_operation(rt: HostRuntime) -> Result<(), Fail> {
+    let cases: [(&str, TextCause); 14] = [
+        ("1 enq 1 first 0 last 4 at 3 reply done", TextCause::Range),
+        (
+            "1 enq 1 first 1 last 4 at 3 reply refused 2",
+            TextCause::Form,
+        ),
+        (
+            "1 enq 1 first 1 last 4 at 3 reply refused 4",
+            TextCause::Form,
+        ),
+        (
+            "0 enq 1 first 1 last 4 at 3 reply refused 4",
+            TextCause::Form,
+        ),
+        ("65536 deq first 1 last - at - reply -", TextCause::Range),
+        (
+            "1 enq 281474976710656 first 1 last - at - reply -",
+            TextCause::Range,
+        ),
+        (
+            "1 deq first 18446744073709551616 last - at - reply -",
+            TextCause::Range,
+        ),
+        (
+            "1 deq first 1 last - at - reply value 0 1",
+            TextCause::Range,
+        ),
+        ("1 deq first 1 last 007 at - reply -", TextCause::Form),
+        ("1 enq 007 first 1 last - at - reply -", TextCause::Form),
+        ("1 deq  first 1 last - at - reply -", TextCause::Form),
+        ("1 deq first 1 last - at - reply - ", TextCause::Form),
+        ("1 deq first 1 last - at - reply -\r", TextCause::Form),
+        ("1 deq first 1 last 0 at - reply -\nx", TextCause::Range),
+    ];
+    for (line, cause) in &cases {
+        let text = text_of(rt.alloc(), line.as_bytes())?;
+        let want = Some(Refusal::Text(2, *cause));
+        assert_eq!(rt; refusal_of(rt.alloc(), &text), want, "{line}");
+    }
+    Ok(())
 }
 
 #[test]
