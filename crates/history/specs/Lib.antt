@@ -1,4 +1,5 @@
 pub mod Queue
+pub mod Entries
 pub mod History
 pub mod Checking
 pub mod Faults

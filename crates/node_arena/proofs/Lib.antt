@@ -1,4 +1,5 @@
 pub mod Tracing
+pub mod Histories
 pub mod Leading
 pub mod Entering
 pub mod Keeps

@@ -1,5 +1,5 @@
 -- What a step tells of the world that it was made in.
-use Rattle.std.proofs.Common.{◌≡◌, ◌≢◌, ℕ, ◌+◌, ◌-◌, ◌<◌, ◌≤◌, true, if◌then◌else◌, nat_eq, Some, IsSomeAnd, List, ◌∷◌, length, get_or, Contains, inl, inr, refl, sym, ap, subst, ◌∙◌, arith}
+use Rattle.std.proofs.Common.{◌≡◌, ◌≢◌, ℕ, ◌+◌, ◌-◌, ◌<◌, ◌≤◌, true, if◌then◌else◌, nat_eq, Some, IsSomeAnd, length, Contains, inl, inr, refl, sym, ap, subst, ◌∙◌, arith}
 use Rattle.std.proofs.lemmas.Bool.Decides.{leb_tells}
 use Rattle.line_table.specs.declared.lines.Kind.{Kind}
 use Rattle.line_table.specs.declared.lines.Kind.TheVariants.{TwoLock, NonBlocking}
@@ -9,13 +9,13 @@ use Rattle.line_table.specs.declared.lines.Line.TheVariants.{F2}
 use Rattle.history.specs.declared.refusals.Refusal.{Refusal}
 use Rattle.history.specs.declared.operations.Reply.TheVariants.{Refused}
 use Rattle.step_machine.specs.declared.actors.Actor.{Actor}
-use Rattle.step_machine.specs.Memory.{Word, Content, content, found}
+use Rattle.step_machine.specs.Memory.{found}
 use Rattle.step_machine.specs.declared.actors.Setup.{Setup}
 use Rattle.step_machine.specs.Lines.{action, outcome, raised}
 use Rattle.step_machine.specs.Machine.{World, actor_of, IsReached}
 use Rattle.step_machine.specs.Tables.{SharedFits}
 use Rattle.step_machine.specs.Range.{WorldInRange, ActorInRange}
-use Rattle.step_machine.specs.Places.{IsChain, IsFree, IsQueued, times, held, in_hand, one_if}
+use Rattle.step_machine.specs.Places.{IsFree, times, held, in_hand, one_if}
 use Rattle.step_machine.specs.TwoLock.{HasItsPlaces, HasCause, HasCauseFor}
 use Rattle.step_machine.proofs.Reached.{reached_in_range, actor_in_range}
 use Rattle.step_machine.proofs.Accounts.{raised_node}

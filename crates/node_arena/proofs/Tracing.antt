@@ -14,7 +14,7 @@ world_of : Option Traced → Option World
 world_of None = None
 world_of (Some t) = Some t.world
 
-world-traced_move : (t : Traced) (m : AnyMove) (w : World) → (traced_move t m w).world ≡ w
+pub world-traced_move : (t : Traced) (m : AnyMove) (w : World) → (traced_move t m w).world ≡ w
 world-traced_move t (made (Begin me op)) w = refl
 world-traced_move t (made (Step me)) w = go (actor_of t.world me)
   where

@@ -5,12 +5,16 @@ use Rattle.line_table.specs.declared.lines.Line.{Line}
 use Rattle.line_table.specs.declared.lines.Line.TheVariants.{E9, D13, A5, B5}
 use Rattle.history.specs.declared.operations.Entry.{Entry}
 use Rattle.history.specs.declared.operations.Entry.TheVariants.{Push, Pop}
+use Rattle.history.specs.Queue.{empty}
+use Rattle.history.specs.Entries.{Plays}
 use Rattle.counted_ref.specs.Ref.{same_ref}
 use Rattle.step_machine.specs.declared.actors.Setup.{Setup}
 use Rattle.step_machine.specs.declared.actors.Actor.{Actor}
 use Rattle.step_machine.specs.declared.actors.Outcome.{Outcome}
 use Rattle.step_machine.specs.declared.actors.Move.TheVariants.{Begin, Step, Give}
 use Rattle.step_machine.specs.Memory.{word, Found, found}
+use Rattle.step_machine.specs.Places.{IsChain}
+use Rattle.step_machine.specs.Chains.{queue_values}
 use Rattle.step_machine.specs.Lines.{action, outcome}
 use Rattle.step_machine.specs.Words.{encoded}
 use Rattle.step_machine.specs.Machine.{World, actor_of, stepped, entry_or, opening, AnyMove, made, Rest, next_any, IsSized}
@@ -128,3 +132,8 @@ maker (Pop seat value) = seat
 -- the entries of one seat
 abbrev pub own_entries : ℕ → List Entry → List Entry
 own_entries me es = filter (λ e. nat_eq (maker e) me) es
+
+-- the history leads from the empty queue to the values in the chain from Head
+abbrev pub PlaysToItsValues : Traced → Type 0
+PlaysToItsValues t =
+    (queue : List ℕ) → IsChain t.world.shared.nodes t.world.shared.head.node queue → Plays empty t.history (record { values = queue_values t.world.shared queue })

@@ -1,5 +1,5 @@
 -- Failed turns: an actor went back to the start of its turn.
-use Rattle.std.specs.Prelude.{ℕ, Option, Some, None, List}
+use Rattle.std.specs.Prelude.{ℕ, Option, Some, List}
 use Rattle.std.specs.List.{sum_by}
 use Rattle.line_table.specs.declared.lines.Line.{Line}
 use Rattle.line_table.specs.declared.lines.Line.TheVariants.{N1, N4, N5, F1, F3, E5, E7, E9, E13, D2, D5, D10, D13, A3, B1}

@@ -3,6 +3,7 @@
 
 mod arena;
 mod dealing;
+pub mod laws;
 mod plans;
 mod roles;
 mod seats;

@@ -1,16 +1,19 @@
 -- That the operations of a world, by rising place and with the replies that their calls have earned, are what the queue
 -- gives, and that the queue then has the values of the chain: kept by each step that has an `Account`, in both queues.
-use Rattle.std.proofs.Common.{◌≡◌, ℕ, zero, suc, ◌+◌, ◌≤◌, ◌<◌, true, nat_eq, Option, Some, None, is_some, List, [], ◌∷◌, ◌++◌, drop, refl, sym, ap, ◌∙◌, subst, arith}
+use Rattle.std.proofs.Common.{◌≡◌, ℕ, zero, suc, ◌+◌, ◌≤◌, ◌<◌, true, nat_eq, Option, Some, None, is_some, List, [], ◌∷◌, ◌++◌, drop, append-nil, refl, sym, ap, ◌∙◌, subst, arith}
 use Rattle.std.specs.Prelude.{slice_get}
-use Rattle.std.specs.List.{AllByRecursion}
+use Rattle.std.specs.List.{AllByRecursion, flat_map}
 use Rattle.std.proofs.lemmas.List.{map-append}
+use Rattle.std.proofs.lemmas.Grind.{flat_map-append}
 use Rattle.line_table.specs.declared.lines.Line.{Line}
 use Rattle.history.specs.declared.operations.Op.{Op}
 use Rattle.history.specs.declared.operations.Op.TheVariants.{Enq, Deq}
 use Rattle.history.specs.declared.operations.Taken.{Taken}
+use Rattle.history.specs.declared.operations.Reply.{Reply}
 use Rattle.history.specs.declared.operations.Reply.TheVariants.{Done, Value, Empty, Refused}
 use Rattle.history.specs.declared.operations.Stamped.{Stamped}
 use Rattle.history.specs.Queue.{Queue, empty, given, front_of}
+use Rattle.history.specs.Entries.{Plays}
 use Rattle.history.specs.History.{number_of, rising, answer, Gets, Replays, replayed}
 use Rattle.step_machine.specs.declared.actors.Actor.{Actor}
 use Rattle.step_machine.specs.declared.actors.Outcome.{Outcome}
@@ -19,11 +22,13 @@ use Rattle.step_machine.specs.Machine.{World, actor_of, told, settled}
 use Rattle.step_machine.specs.Places.{one_if, times}
 use Rattle.step_machine.specs.Chains.{values_of, queue_values}
 use Rattle.step_machine.specs.Promises.{promised_reply, is_value}
+use Rattle.step_machine.specs.Entries.{entry_with, entry_of}
 use Rattle.step_machine.proofs.Counting.{holds, elsewhere}
 use Rattle.step_machine.proofs.Effects.{Shape, Writes, values_kept, null_times}
 use Rattle.step_machine.proofs.Fixed.{Pushes}
 use Rattle.step_machine.proofs.Accounts.{Account, quiet, refused, found_empty, pushed, popped}
 use Rattle.step_machine.proofs.Replay.{place, before, inserted_last, rising_all, replayed-append, replays_more, IsEmptyReply, empty_placed, empty_keeps, still_empty, still_empty_below, before_all}
+use Rattle.step_machine.proofs.Gains.{gained, gained_at, booked, Gains, nothing_inserted, plays-append, push_plays}
 use Rattle.step_machine.proofs.Booking.{entered, book, taken, Books, Unchanged, Entered, unchanged, entered_at}
 
 -- a queue of these values
@@ -34,6 +39,7 @@ queue_of vs = record { values = vs }
 pub record Accounted (w : World) (queue : List ℕ) : Type 0 where
   pub replays : Replays empty (rising (book w))
   pub list : replayed empty (rising (book w)) ≡ queue_of (queue_values w.shared queue)
+  pub plays : Plays empty (booked w) (queue_of (queue_values w.shared queue))
   pub counted : w.shared.head.count ≡ taken (book w)
   pub calls : (me e : ℕ) (a : Actor) (l : Line) (s : Stamped) → actor_of w me ≡ Some a → a.line ≡ Some l → a.entry ≡ Some e → slice_get w.operations e ≡ Some s → s.op ≡ a.op
 
@@ -73,6 +79,17 @@ module _ (w : World) (me : ℕ) (a : Actor) (m' : Shared) (o : Outcome) (h : ℕ
 
   kept_values : values_of m' rest ≡ values_of w.shared rest
   kept_values = same_values w.shared m' (elsewhere w) h rest free a sh wr mine rest (λ n. omega arith)
+
+  -- the values after a push, and after a pop
+  pushed_values : (node_at m' a.node).value ≡ a.val → values_of m' (rest ++ a.node ∷ []) ≡ values_of w.shared rest ++ a.val ∷ []
+  pushed_values e =
+      map-append (λ n. (node_at m' n).value) rest (a.node ∷ []) ∙ ap (λ vs. vs ++ (node_at m' a.node).value ∷ []) kept_values
+      ∙ ap (λ v. values_of w.shared rest ++ v ∷ []) e
+
+  popped_values : (first x : ℕ) (ns : List ℕ) → h ∷ rest ≡ first ∷ x ∷ ns → values_of m' ns ≡ values_of w.shared ns
+  popped_values first x ns was =
+      same_values w.shared m' (elsewhere w) h rest free a sh wr mine ns
+      (λ n. let e : times n rest ≡ one_if (nat_eq n x) + times n ns = ap (λ qs. times n (drop 1 qs)) was in omega arith)
 
   -- all places are numbers that were given
   below : AllByRecursion (λ p. place p < w.steps + 1) (rising (book w))
@@ -139,19 +156,76 @@ module _ (w : World) (me : ℕ) (a : Actor) (m' : Shared) (o : Outcome) (h : ℕ
       push_gives me a.op a.val (queue_of (values_of w.shared rest)) pushes in
       after_now queue' (entered me a.op (Some (w.steps + 1)) (Some Done)) refl
       (entered_at w after me a o (w.steps + 1) (Some Done) b at none told)
-      g.0 (g.1 ∙ ap queue_of (sym (values value)) ∙ ap (λ q. queue_of (queue_values m' q)) (sym longer)) (omega (arith, count))
-    where
-      values : (node_at m' a.node).value ≡ a.val → values_of m' (rest ++ a.node ∷ []) ≡ values_of w.shared rest ++ a.val ∷ []
-      values e =
-          map-append (λ n. (node_at m' n).value) rest (a.node ∷ []) ∙ ap (λ vs. vs ++ (node_at m' a.node).value ∷ []) kept_values
-          ∙ ap (λ v. values_of w.shared rest ++ v ∷ []) e
+      g.0 (g.1 ∙ ap queue_of (sym (pushed_values value)) ∙ ap (λ q. queue_of (queue_values m' q)) (sym longer)) (omega (arith, count))
   after_step queue' (popped first x ns was now_is count at told op none) =
       let g : (Value (node_at w.shared x).value ≡ (given me a.op (queue_of (values_of w.shared rest))).reply) × ((given me a.op (queue_of (values_of w.shared rest))).after ≡ queue_of (values_of w.shared ns)) =
       pop_gives me a.op (node_at w.shared x).value (values_of w.shared ns) (queue_of (values_of w.shared rest)) op (ap (λ qs. queue_of (queue_values w.shared qs)) was) in
       after_now queue' (entered me a.op (Some (w.steps + 1)) (Some (Value (node_at w.shared x).value))) refl
       (entered_at w after me a o (w.steps + 1) (Some (Value (node_at w.shared x).value)) b at none told)
-      g.0 (g.1 ∙ ap queue_of (sym (same_values w.shared m' (elsewhere w) h rest free a sh wr mine ns fewer)) ∙ ap (λ q. queue_of (queue_values m' q)) (sym now_is)) count
-    where
-      fewer : (n : ℕ) → times n ns ≤ times n rest
-      fewer n =
-          let e : times n rest ≡ one_if (nat_eq n x) + times n ns = ap (λ qs. times n (drop 1 qs)) was in omega arith
+      g.0 (g.1 ∙ ap queue_of (sym (popped_values first x ns was)) ∙ ap (λ q. queue_of (queue_values m' q)) (sym now_is)) count
+
+  -- a step that adds no entry
+  gains_nothing : booked after ≡ booked w → gained me a.op o ≡ [] → Gains w after me a o
+  gains_nothing same none = same ∙ sym (append-nil (booked w)) ∙ ap (λ es. booked w ++ es) (sym none)
+
+  -- a step that enters an operation without an entry
+  gains_no_entry : (y : Stamped) → Entered (book w) (book after) y → entry_of y ≡ [] → gained me a.op o ≡ [] → Gains w after me a o
+  gains_no_entry y n no_entry none = gains_nothing (ap (flat_map entry_of) n.rises ∙ nothing_inserted y (rising (book w)) no_entry) none
+
+  -- a step that enters an operation at its own number
+  gains_its_entry : (y : Stamped) → place y ≡ w.steps + 1 → Entered (book w) (book after) y → gained me a.op o ≡ entry_of y → Gains w after me a o
+  gains_its_entry y at n same =
+      ap (flat_map entry_of) (n.rises ∙ inserted_last y (rising (book w)) (subst (λ k. AllByRecursion (λ p. place p < k) (rising (book w))) (sym at) below))
+      ∙ flat_map-append entry_of (rising (book w)) (y ∷ []) ∙ ap (λ es. booked w ++ es) (append-nil (entry_of y) ∙ sym same)
+
+  -- what an outcome gains at a place, with the reply that is told or earned there
+  gained_is : (n : ℕ) (reply : Option Reply) → o.at ≡ Some n → promised_reply o.reply (Some n) o.actor.due ≡ reply → gained me a.op o ≡ entry_with me a.op reply
+  gained_is n reply at told = ap (λ p. gained_at me a.op p o.reply o.actor.due) at ∙ ap (entry_with me a.op) told
+
+  -- a step that adds no entry leads nowhere else
+  plays_nothing : (queue' : List ℕ) → queue' ≡ h ∷ rest → gained me a.op o ≡ [] → Plays (queue_of (values_of w.shared rest)) (gained me a.op o) (queue_of (queue_values m' queue'))
+  plays_nothing queue' same none =
+      subst (λ es. Plays (queue_of (values_of w.shared rest)) es (queue_of (queue_values m' queue'))) (sym none)
+      (ap queue_of (sym kept_values) ∙ ap (λ q. queue_of (queue_values m' q)) (sym same))
+
+  -- a step adds the entries that its outcome gains
+  pub after_gains : (queue' : List ℕ) → Account (WasEmpty w) me (w.steps + 1) w.shared m' (h ∷ rest) queue' a o → Gains w after me a o
+  after_gains queue' (quiet same count none keeps) =
+      gains_nothing (ap (flat_map entry_of) (let u : Unchanged (book w) (book after) = unchanged w after me a o b none keeps in u.rises))
+      (ap (λ p. gained_at me a.op p o.reply o.actor.due) none)
+  after_gains queue' (refused why same count at told ok none) =
+      let is : promised_reply o.reply (Some (w.steps + 1)) o.actor.due ≡ Some (Refused why) = ap (λ r. promised_reply r (Some (w.steps + 1)) o.actor.due) told in
+      gains_no_entry (entered me a.op (Some (w.steps + 1)) (Some (Refused why))) (entered_at w after me a o (w.steps + 1) (Some (Refused why)) b at none is) refl
+      (gained_is (w.steps + 1) (Some (Refused why)) at is)
+  after_gains queue' (found_empty same count at told op none was) =
+      let is : promised_reply o.reply (Some a.noted) o.actor.due ≡ Some Empty = ap (λ r. promised_reply r (Some a.noted) o.actor.due) told in
+      gains_no_entry (entered me a.op (Some a.noted) (Some Empty)) (entered_at w after me a o a.noted (Some Empty) b at none is) refl (gained_is a.noted (Some Empty) at is)
+  after_gains queue' (pushed longer count at told value pushes none) =
+      gains_its_entry (entered me a.op (Some (w.steps + 1)) (Some Done)) refl (entered_at w after me a o (w.steps + 1) (Some Done) b at none told)
+      (gained_is (w.steps + 1) (Some Done) at told)
+  after_gains queue' (popped first x ns was now_is count at told op none) =
+      gains_its_entry (entered me a.op (Some (w.steps + 1)) (Some (Value (node_at w.shared x).value))) refl
+      (entered_at w after me a o (w.steps + 1) (Some (Value (node_at w.shared x).value)) b at none told) (gained_is (w.steps + 1) _ at told)
+
+  -- which lead to the values of the queue's chain
+  outcome_plays : (queue' : List ℕ) → Account (WasEmpty w) me (w.steps + 1) w.shared m' (h ∷ rest) queue' a o → Plays (queue_of (values_of w.shared rest)) (gained me a.op o) (queue_of (queue_values m' queue'))
+  outcome_plays queue' (quiet same count none keeps) = plays_nothing queue' same (ap (λ p. gained_at me a.op p o.reply o.actor.due) none)
+  outcome_plays queue' (refused why same count at told ok none) =
+      plays_nothing queue' same (gained_is (w.steps + 1) (Some (Refused why)) at (ap (λ r. promised_reply r (Some (w.steps + 1)) o.actor.due) told))
+  outcome_plays queue' (found_empty same count at told op none was) =
+      plays_nothing queue' same (gained_is a.noted (Some Empty) at (ap (λ r. promised_reply r (Some a.noted) o.actor.due) told))
+  outcome_plays queue' (pushed longer count at told value pushes none) =
+      let g : (Done ≡ (given me a.op (queue_of (values_of w.shared rest))).reply) × ((given me a.op (queue_of (values_of w.shared rest))).after ≡ queue_of (values_of w.shared rest ++ a.val ∷ [])) =
+      push_gives me a.op a.val (queue_of (values_of w.shared rest)) pushes in
+      subst (λ es. Plays (queue_of (values_of w.shared rest)) es (queue_of (queue_values m' queue'))) (sym (gained_is (w.steps + 1) (Some Done) at told))
+      (push_plays me a.op a.val _ _ pushes (g.1 ∙ ap queue_of (sym (pushed_values value)) ∙ ap (λ q. queue_of (queue_values m' q)) (sym longer)))
+  outcome_plays queue' (popped first x ns was now_is count at told op none) =
+      let g : (Value (node_at w.shared x).value ≡ (given me Deq (queue_of (values_of w.shared rest))).reply) × ((given me Deq (queue_of (values_of w.shared rest))).after ≡ queue_of (values_of w.shared ns)) =
+      pop_gives me Deq (node_at w.shared x).value (values_of w.shared ns) (queue_of (values_of w.shared rest)) refl (ap (λ qs. queue_of (queue_values w.shared qs)) was) in
+      subst (λ es. Plays (queue_of (values_of w.shared rest)) es (queue_of (queue_values m' queue'))) (sym (gained_is (w.steps + 1) _ at told))
+      (sym g.0, g.1 ∙ ap queue_of (sym (popped_values first x ns was)) ∙ ap (λ q. queue_of (queue_values m' q)) (sym now_is))
+
+  pub after_plays : (queue' : List ℕ) → Account (WasEmpty w) me (w.steps + 1) w.shared m' (h ∷ rest) queue' a o → Plays empty (booked after) (queue_of (queue_values m' queue'))
+  after_plays queue' account =
+      subst (λ es. Plays empty es (queue_of (queue_values m' queue'))) (sym (after_gains queue' account))
+      (plays-append empty _ _ (booked w) (gained me a.op o) ac.plays (outcome_plays queue' account))

@@ -12,7 +12,11 @@ use Rattle.history.specs.declared.operations.Op.TheVariants.{Enq, Deq}
 use Rattle.history.specs.declared.operations.Reply.{Reply}
 use Rattle.history.specs.declared.operations.Reply.TheVariants.{Done, Value, Empty, Refused}
 use Rattle.history.specs.declared.operations.Stamped.{Stamped}
+use Rattle.std.specs.List.{flat_map}
 use Rattle.history.specs.Queue.{empty}
+use Rattle.history.specs.Entries.{Plays}
+use Rattle.step_machine.specs.Chains.{queue_values}
+use Rattle.step_machine.specs.Entries.{entry_of}
 use Rattle.history.specs.History.{rising, Replays, replayed}
 use Rattle.step_machine.specs.declared.actors.Setup.{Setup}
 use Rattle.step_machine.specs.declared.actors.Actor.{Actor}
@@ -29,7 +33,7 @@ use Rattle.step_machine.proofs.StampsMoves.{moves_kept, may_rest_all}
 use Rattle.step_machine.proofs.Reached.{some_of}
 use Rattle.step_machine.proofs.Booking.{entered, entry_in, book, taken, map_agree, entry_kept, actor_same, actor_other}
 use Rattle.step_machine.proofs.Replay.{before}
-use Rattle.step_machine.proofs.Legal.{Accounted, WasEmpty}
+use Rattle.step_machine.proofs.Legal.{Accounted, WasEmpty, queue_of}
 
 -- an outcome leaves the call of its actor
 record SameOp (a : Actor) (o : Outcome) : Type 0 where
@@ -172,6 +176,7 @@ accounted_with w me a b queue is same new ac = (
   record {
     replays = subst (λ t. Replays empty (rising t)) (sym same) ac.replays;
     list = ap (λ t. replayed empty (rising t)) same ∙ ac.list;
+    plays = subst (λ t. Plays empty (flat_map entry_of (rising t)) (queue_of (queue_values w.shared queue))) (sym same) ac.plays;
     counted = ac.counted ∙ sym (ap taken same);
     calls = λ you e c l s there line entry got. pick you e c l s line entry got (actor_cases w me a b is you c there);
   },

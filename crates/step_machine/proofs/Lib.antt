@@ -27,6 +27,7 @@ pub mod Effects
 pub mod Older
 pub mod Reaching
 pub mod Fixed
+pub mod Gains
 pub mod Accounts
 pub mod Replay
 pub mod TwoLockKnows
@@ -47,6 +48,7 @@ pub mod TwoLockLegal
 pub mod NonBlockingLaws
 pub mod NonBlockingLegal
 pub mod EachHistory
+pub mod EachEntry
 pub mod PlaceOf
 pub mod Alone
 pub mod EffectLines

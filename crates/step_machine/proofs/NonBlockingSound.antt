@@ -326,11 +326,23 @@ module _ (L : World → List ℕ → Type 0) (Z : World → ℕ → Type 0) (car
       (performed_in_range w.setup (length w.actors) w.shared (action w.setup me a l) g.shared
       (writes w.setup (length w.actors) me w.shared a l (mover_in_range w me a is).1 c.registers (subst (LineInRange w.setup.size a.f) at c.line))).rises
 
+  -- what the step of an actor does
+  pub step_does : (w : World) (me : ℕ) (a : Actor) (l : Line) → IsReached w → w.setup.kind ≡ NonBlocking → actor_of w me ≡ Some a → a.line ≡ Some l → (p : Proved L Z w) → Does (Z w) me (w.steps + 1) w.setup.limit w.shared (performed (action w.setup me a l) w.shared) p.front p.rest p.free a (outcome w.setup (w.steps + 1) me a l (found (action w.setup me a l) w.shared))
+  step_does w me a l r e is at p =
+      let k : AtLine w me a l = at_line w me a l at (p.sound.actors me a is) in
+      does (Z w) w.setup w.shared (elsewhere w) p.front p.rest p.free p.sound.words (w.steps + 1) me a (λ n. elsewhere_one w me a n is) (node_low w me a r is) k.marked l e k.runs k.nodes k.fixes k.knows
+
+  -- and what giving up does
+  pub give_does : (w : World) (me : ℕ) (a : Actor) (l : Line) (o : Outcome) → IsReached w → w.setup.kind ≡ NonBlocking → actor_of w me ≡ Some a → a.line ≡ Some l → gives_up (w.steps + 1) a l ≡ Some o → (p : Proved L Z w) → Does (Z w) me (w.steps + 1) w.setup.limit w.shared w.shared p.front p.rest p.free a o
+  give_does w me a l o r e is at given p =
+      let k : AtLine w me a l = at_line w me a l at (p.sound.actors me a is) in
+      some_of (Does (Z w) me (w.steps + 1) w.setup.limit w.shared w.shared p.front p.rest p.free a) (gives_up (w.steps + 1) a l) o given
+      (gives (Z w) w.setup w.shared (elsewhere w) p.front p.rest p.free p.sound.words (w.steps + 1) me a (λ n. elsewhere_one w me a n is) (node_low w me a r is) k.marked l e k.runs k.fixes)
+
   proved_step : (w : World) (me : ℕ) (a : Actor) (l : Line) → IsReached w → w.setup.kind ≡ NonBlocking → actor_of w me ≡ Some a → a.line ≡ Some l → Proved L Z w → Proved L Z (stepped w me a l)
   proved_step w me a l r e is at p =
       let k : AtLine w me a l = at_line w me a l at (p.sound.actors me a is) in
-      let d : Does (Z w) me (w.steps + 1) w.setup.limit w.shared m' p.front p.rest p.free a o =
-      does (Z w) w.setup w.shared (elsewhere w) p.front p.rest p.free p.sound.words (w.steps + 1) me a (λ n. elsewhere_one w me a n is) (node_low w me a r is) k.marked l e k.runs k.nodes k.fixes k.knows in
+      let d : Does (Z w) me (w.steps + 1) w.setup.limit w.shared m' p.front p.rest p.free a o = step_does w me a l r e is at p in
       let c : Carried L Z w (stepped w me a l) p.rest (d.front' ∷ d.rest') =
       carries.told w me a l m' o p.front p.rest p.free r e is at p.sound d
       (λ Q place n q stands. turned Q w.setup (w.steps + 1) me a l (found (action w.setup me a l) w.shared) place n q stands)
@@ -357,9 +369,7 @@ module _ (L : World → List ℕ → Type 0) (Z : World → ℕ → Type 0) (car
   proved_given : (w : World) (me : ℕ) (a : Actor) (l : Line) (o : Outcome) → IsReached w → w.setup.kind ≡ NonBlocking → actor_of w me ≡ Some a → a.line ≡ Some l → gives_up (w.steps + 1) a l ≡ Some o → Proved L Z w → Proved L Z (settled w me a w.shared o)
   proved_given w me a l o r e is at given p =
       let k : AtLine w me a l = at_line w me a l at (p.sound.actors me a is) in
-      let d : Does (Z w) me (w.steps + 1) w.setup.limit w.shared w.shared p.front p.rest p.free a o =
-      some_of (Does (Z w) me (w.steps + 1) w.setup.limit w.shared w.shared p.front p.rest p.free a) (gives_up (w.steps + 1) a l) o given
-      (gives (Z w) w.setup w.shared (elsewhere w) p.front p.rest p.free p.sound.words (w.steps + 1) me a (λ n. elsewhere_one w me a n is) (node_low w me a r is) k.marked l e k.runs k.fixes) in
+      let d : Does (Z w) me (w.steps + 1) w.setup.limit w.shared w.shared p.front p.rest p.free a o = give_does w me a l o r e is at given p in
       let c : Carried L Z w (settled w me a w.shared o) p.rest (d.front' ∷ d.rest') =
       carries.told w me a l w.shared o p.front p.rest p.free r e is at p.sound d
       (λ Q place n q stands. some_of (Turns Q place) (gives_up (w.steps + 1) a l) o given (given_turned Q (w.steps + 1) a l place n q stands))

@@ -1,5 +1,7 @@
 -- What holds of the book of a world holds of its operations, with the replies that they were told and those earned.
 use Rattle.std.proofs.Common.{◌≡◌, ℕ, ◌+◌, Bool, true, false, nat_le, if◌then◌else◌, Option, Some, None, is_some, List, [], ◌∷◌, map, refl, sym, ap, ◌∙◌, subst, arith}
+use Rattle.std.specs.List.{flat_map}
+use Rattle.std.proofs.lemmas.List.Folds.{flat_map-map}
 use Rattle.std.proofs.lemmas.List.Recursion.{is_count_by}
 use Rattle.history.specs.declared.operations.Reply.{Reply}
 use Rattle.history.specs.declared.operations.Reply.TheVariants.{Done, Value, Empty, Refused}
@@ -10,7 +12,9 @@ use Rattle.step_machine.specs.Machine.{World, actor_of}
 use Rattle.step_machine.specs.Places.{one_if}
 use Rattle.step_machine.specs.Promises.{earned, due_of, promised_reply, promised, promises, is_value, values_taken}
 use Rattle.step_machine.proofs.Replay.{place}
+use Rattle.step_machine.specs.Entries.{entry_of, entries}
 use Rattle.step_machine.proofs.Booking.{entry_in, book, taken}
+use Rattle.step_machine.proofs.Gains.{booked}
 
 -- the order doesn't hang on replies
 module _ (w : World) where
@@ -132,3 +136,9 @@ module _ (w : World) where
   -- how many values were taken
   pub taken_promises : taken (book w) ≡ values_taken (promises w)
   taken_promises = taken_same w.operations ∙ taken_counts (promises w)
+
+  -- the entries are those of the book
+  pub entries_booked : entries w ≡ booked w
+  entries_booked =
+      ap (flat_map entry_of) (rising_promised w.operations) ∙ flat_map-map entry_of (promised w) (rising w.operations)
+      ∙ sym (flat_map-map entry_of (entry_in w) (rising w.operations)) ∙ sym (ap (flat_map entry_of) (rising_entry w.operations))

@@ -6,21 +6,38 @@ use Rattle.line_table.specs.declared.lines.Line.{Line}
 use Rattle.history.specs.History.{IsLegal}
 use Rattle.step_machine.specs.declared.actors.Actor.{Actor}
 use Rattle.step_machine.specs.declared.actors.Outcome.{Outcome}
-use Rattle.step_machine.specs.Memory.{Shared}
-use Rattle.step_machine.specs.Machine.{World, actor_of, begun, rested, settled, IsReached}
+use Rattle.step_machine.specs.Memory.{Shared, found, performed}
+use Rattle.step_machine.specs.Lines.{action, outcome, gives_up}
+use Rattle.step_machine.specs.Machine.{World, actor_of, begun, rested, settled, stepped, IsReached}
 use Rattle.step_machine.specs.Chains.{queue_values}
 use Rattle.step_machine.specs.Stamps.{makers}
 use Rattle.step_machine.specs.TwoLock.{OfTwoLockWorlds, ReplaysToItsValues, CountsValuesTaken}
+use Rattle.step_machine.proofs.Reached.{some_of}
+use Rattle.step_machine.proofs.StampsLines.{Turns, turned, given_turned}
 use Rattle.step_machine.proofs.StampsKept.{Knows, Kept, Does}
 use Rattle.step_machine.proofs.Chains.{chain_same}
 use Rattle.step_machine.proofs.Counting.{holds, elsewhere, elsewhere_one}
 use Rattle.step_machine.proofs.Fixed.{FixedAt}
 use Rattle.step_machine.proofs.Booking.{Books, books}
-use Rattle.step_machine.proofs.Legal.{Accounted, WasEmpty, AfterStep, queue_of, after_step, empty_now}
+use Rattle.step_machine.proofs.Legal.{Accounted, WasEmpty, AfterStep, queue_of, after_step, after_gains, after_plays, empty_now}
+use Rattle.step_machine.proofs.Gains.{Gains}
 use Rattle.step_machine.proofs.LegalMoves.{calls_settled, kept_reached, accounted_with, book_begun, book_rested, begun_entry}
 use Rattle.step_machine.proofs.Promises.{legal_book, replays_promises, replayed_promises, taken_promises}
 use Rattle.step_machine.proofs.TwoLockLines.{After}
-use Rattle.step_machine.proofs.TwoLockSound.{Sound, Carried, Carries, Proved, reached_proved}
+use Rattle.step_machine.proofs.TwoLockSound.{Sound, Carried, Carries, Proved, Doing, step_does, give_does, reached_proved}
+
+-- what a step does with the book
+told_books : (w : World) (me : ℕ) (a : Actor) (l : Line) (m' : Shared) (o : Outcome) (queue free : List ℕ) → IsReached w → actor_of w me ≡ Some a → a.line ≡ Some l → Sound (WasEmpty w) w queue free → Does (w.steps + 1) l a.due a.noted o → Accounted w queue → Books w (settled w me a m' o) me a o
+told_books w me a l m' o queue free r is at so does ac =
+    books (makers r.moves) w me a m' l o kept is does fixed.earned
+    (subst (λ x. Knows (Unit {0}) (makers r.moves) w.operations me x a.entry a.due a.noted) at (kept.actors me a is))
+    (λ e s entry got. ac.calls me e a l s is at entry got)
+  where
+    kept : Kept (Unit {0}) (makers r.moves) w
+    kept = kept_reached w r
+
+    fixed : FixedAt w.setup.limit me a (Some l)
+    fixed = subst (FixedAt w.setup.limit me a) at (so.actors me a is).fixed
 
 -- a step carries the accounts along
 told_accounted : (w : World) (me : ℕ) (a : Actor) (l : Line) (m' : Shared) (o : Outcome) (h : ℕ) (rest free : List ℕ) → IsReached w → actor_of w me ≡ Some a → a.line ≡ Some l → Sound (WasEmpty w) w (h ∷ rest) free → (t : After (WasEmpty w) w.setup w.shared h rest free me (w.steps + 1) a m' o) → Does (w.steps + 1) l a.due a.noted o → o.actor.op ≡ a.op → Accounted w (h ∷ rest) → Carried Accounted WasEmpty w (settled w me a m' o) rest t.queue'
@@ -30,27 +47,19 @@ told_accounted w me a l m' o h rest free r is at so t does same ac =
           record {
             replays = st.replays;
             list = st.list;
+            plays = after_plays w me a m' o h rest free so.shape t.turn.writes mine b ac t.queue' t.account;
             counted = st.counted;
-            calls = calls_settled (makers r.moves) w me a l m' o kept is at same ac.calls;
+            calls = calls_settled (makers r.moves) w me a l m' o (kept_reached w r) is at same ac.calls;
           };
       keeps = λ k z. (let low : k ≤ w.steps = z.0 in omega arith, st.still k (let low : k ≤ w.steps = z.0 in omega arith) z.1);
       finds = λ e. (omega arith, st.still (w.steps + 1) (omega arith) (empty_now w me a m' o h rest free so.shape t.turn.writes mine b ac e));
     }
   where
-    kept : Kept (Unit {0}) (makers r.moves) w
-    kept = kept_reached w r
-
     mine : (n : ℕ) → holds n a ≤ elsewhere w n
     mine n = elsewhere_one w me a n is
 
-    fixed : FixedAt w.setup.limit me a (Some l)
-    fixed = subst (FixedAt w.setup.limit me a) at (so.actors me a is).fixed
-
     b : Books w (settled w me a m' o) me a o
-    b =
-        books (makers r.moves) w me a m' l o kept is does fixed.earned
-        (subst (λ x. Knows (Unit {0}) (makers r.moves) w.operations me x a.entry a.due a.noted) at (kept.actors me a is))
-        (λ e s entry got. ac.calls me e a l s is at entry got)
+    b = told_books w me a l m' o (h ∷ rest) free r is at so does ac
 
     st : AfterStep w (settled w me a m' o) t.queue'
     st = after_step w me a m' o h rest free so.shape t.turn.writes mine b ac t.queue' t.account
@@ -65,7 +74,7 @@ carried =
           (λ l e line entry. none-some e (sym (begun_entry w.setup.kind me op a) ∙ entry)) ac;
       at_rest = λ w me a l queue r is at may ac.
           accounted_with w me a (rested a) queue is (book_rested w me a (rested a) is refl) (λ k e line entry. none-some k line) ac;
-      starts = λ s actors sized. record { replays = tt; list = refl; counted = refl; calls = λ me e a l s is line entry got. absurd (none-some s got) };
+      starts = λ s actors sized. record { replays = tt; list = refl; plays = refl; counted = refl; calls = λ me e a l s is line entry got. absurd (none-some s got) };
     }
 
 -- each world that is reached has its chains and its accounts
@@ -84,3 +93,19 @@ replay_to_the_values w r e queue chain =
 
 pub head_counts_values_taken : OfTwoLockWorlds CountsValuesTaken
 head_counts_values_taken w r e = (reached_accounted w r e).fact.counted ∙ taken_promises w
+
+-- a step adds the entries that its outcome gains, and so does giving up
+told_gains : (w : World) (me : ℕ) (a : Actor) (l : Line) (m' : Shared) (o : Outcome) → IsReached w → actor_of w me ≡ Some a → a.line ≡ Some l → Doing Accounted WasEmpty carried w me a m' o → Does (w.steps + 1) l a.due a.noted o → Gains w (settled w me a m' o) me a o
+told_gains w me a l m' o r is at d does =
+    after_gains w me a m' o w.shared.head.node d.rest d.free d.sound.shape d.does.turn.writes (λ n. elsewhere_one w me a n is)
+    (told_books w me a l m' o (w.shared.head.node ∷ d.rest) d.free r is at d.sound does d.fact) d.fact d.does.queue' d.does.account
+
+pub step_gains : (w : World) (me : ℕ) (a : Actor) (l : Line) → IsReached w → w.setup.kind ≡ TwoLock → actor_of w me ≡ Some a → a.line ≡ Some l → Gains w (stepped w me a l) me a (outcome w.setup (w.steps + 1) me a l (found (action w.setup me a l) w.shared))
+step_gains w me a l r e is at =
+    told_gains w me a l (performed (action w.setup me a l) w.shared) _ r is at (step_does Accounted WasEmpty carried w me a l r e is at (reached_accounted w r e))
+    (λ Q place n q stands. turned Q w.setup (w.steps + 1) me a l (found (action w.setup me a l) w.shared) place n q stands)
+
+pub give_gains : (w : World) (me : ℕ) (a : Actor) (l : Line) (o : Outcome) → IsReached w → w.setup.kind ≡ TwoLock → actor_of w me ≡ Some a → a.line ≡ Some l → gives_up (w.steps + 1) a l ≡ Some o → Gains w (settled w me a w.shared o) me a o
+give_gains w me a l o r e is at given =
+    told_gains w me a l w.shared o r is at (give_does Accounted WasEmpty carried w me a l o r e is at given (reached_accounted w r e))
+    (λ Q place n q stands. some_of (Turns Q place) (gives_up (w.steps + 1) a l) o given (given_turned Q (w.steps + 1) a l place n q stands))

@@ -295,55 +295,81 @@ module _ (L : World → List ℕ → Type 0) (Z : World → ℕ → Type 0) (car
   headed : (w : World) → IsReached w → w.setup.kind ≡ TwoLock → (p : Proved L Z w) → (rest : List ℕ) × (p.queue ≡ w.shared.head.node ∷ rest)
   headed w r e p = chain_some w.shared.nodes w.shared.head.node p.queue (head_some w r e) p.sound.shape.queue_chain
 
+  -- what a move of an actor does, with the chains before it
+  pub record Doing (w : World) (me : ℕ) (a : Actor) (m' : Shared) (o : Outcome) : Type 0 where
+    pub rest : List ℕ
+    pub free : List ℕ
+    pub sound : Sound (Z w) w (w.shared.head.node ∷ rest) free
+    pub fact : L w (w.shared.head.node ∷ rest)
+    pub does : After (Z w) w.setup w.shared w.shared.head.node rest free me (w.steps + 1) a m' o
+
+  -- what the step of an actor does
+  pub step_does : (w : World) (me : ℕ) (a : Actor) (l : Line) → IsReached w → w.setup.kind ≡ TwoLock → actor_of w me ≡ Some a → a.line ≡ Some l → Proved L Z w → Doing w me a (performed (action w.setup me a l) w.shared) (outcome w.setup (w.steps + 1) me a l (found (action w.setup me a l) w.shared))
+  step_does w me a l r e is at p =
+      let hd : (rest : List ℕ) × (p.queue ≡ w.shared.head.node ∷ rest) = headed w r e p in
+      let so : Sound (Z w) w (w.shared.head.node ∷ hd.0) p.free = subst (λ q. Sound (Z w) w q p.free) hd.1 p.sound in
+      record {
+        rest = hd.0;
+        free = p.free;
+        sound = so;
+        fact = subst (λ q. L w q) hd.1 p.fact;
+        does =
+            does (Z w) w.setup (length w.actors) w.shared (elsewhere w) w.shared.head.node hd.0 p.free me (w.steps + 1) a l (nodes_at w r e me a l is at).0
+            (before (Z w) w me a l w.shared.head.node hd.0 p.free r e is at so);
+      }
+
+  -- and what giving up does
+  pub give_does : (w : World) (me : ℕ) (a : Actor) (l : Line) (o : Outcome) → IsReached w → w.setup.kind ≡ TwoLock → actor_of w me ≡ Some a → a.line ≡ Some l → gives_up (w.steps + 1) a l ≡ Some o → Proved L Z w → Doing w me a w.shared o
+  give_does w me a l o r e is at given p =
+      let hd : (rest : List ℕ) × (p.queue ≡ w.shared.head.node ∷ rest) = headed w r e p in
+      let so : Sound (Z w) w (w.shared.head.node ∷ hd.0) p.free = subst (λ q. Sound (Z w) w q p.free) hd.1 p.sound in
+      record {
+        rest = hd.0;
+        free = p.free;
+        sound = so;
+        fact = subst (λ q. L w q) hd.1 p.fact;
+        does =
+            some_of (After (Z w) w.setup w.shared w.shared.head.node hd.0 p.free me (w.steps + 1) a w.shared) (gives_up (w.steps + 1) a l) o given
+            (gives (Z w) w.setup (length w.actors) w.shared (elsewhere w) w.shared.head.node hd.0 p.free me (w.steps + 1) a l (nodes_at w r e me a l is at).0
+            (before (Z w) w me a l w.shared.head.node hd.0 p.free r e is at so));
+      }
+
   proved_step : (w : World) (me : ℕ) (a : Actor) (l : Line) → IsReached w → w.setup.kind ≡ TwoLock → actor_of w me ≡ Some a → a.line ≡ Some l → Proved L Z w → Proved L Z (stepped w me a l)
   proved_step w me a l r e is at p =
-      let hd : (rest : List ℕ) × (p.queue ≡ w.shared.head.node ∷ rest) = headed w r e p in
-      go hd.0 (subst (λ q. Sound (Z w) w q p.free) hd.1 p.sound) (subst (λ q. L w q) hd.1 p.fact)
+      let d : Doing w me a (performed (action w.setup me a l) w.shared) o = step_does w me a l r e is at p in
+      let c : Carried L Z w (stepped w me a l) d.rest d.does.queue' =
+      carries.told w me a l (performed (action w.setup me a l) w.shared) o w.shared.head.node d.rest d.free r e is at d.sound d.does
+      (λ Q place n p stands. turned Q w.setup (w.steps + 1) me a l (found (action w.setup me a l) w.shared) place n p stands)
+      (same_op w.setup (w.steps + 1) me a l (found (action w.setup me a l) w.shared)) d.fact in
+      record {
+        queue = d.does.queue';
+        free = d.does.free';
+        sound =
+            sound_settled (Z w) (Z (stepped w me a l)) w me a l (performed (action w.setup me a l) w.shared) o w.shared.head.node d.rest d.free r e is at d.sound
+            (fixed w.setup (w.steps + 1) me a l (found (action w.setup me a l) w.shared) (subst (FixedAt w.setup.limit me a) at (d.sound.actors me a is).fixed)) d.does
+            c.keeps c.finds;
+        fact = c.fact;
+      }
     where
       o : Outcome
       o = outcome w.setup (w.steps + 1) me a l (found (action w.setup me a l) w.shared)
 
-      go : (rest : List ℕ) → Sound (Z w) w (w.shared.head.node ∷ rest) p.free → L w (w.shared.head.node ∷ rest) → Proved L Z (stepped w me a l)
-      go rest so fact =
-          let b : Before (Z w) w.setup (length w.actors) w.shared (elsewhere w) w.shared.head.node rest p.free me a l = before (Z w) w me a l w.shared.head.node rest p.free r e is at so in
-          let t : After (Z w) w.setup w.shared w.shared.head.node rest p.free me (w.steps + 1) a (performed (action w.setup me a l) w.shared) o =
-          does (Z w) w.setup (length w.actors) w.shared (elsewhere w) w.shared.head.node rest p.free me (w.steps + 1) a l (nodes_at w r e me a l is at).0 b in
-          let c : Carried L Z w (stepped w me a l) rest t.queue' =
-          carries.told w me a l (performed (action w.setup me a l) w.shared) o w.shared.head.node rest p.free r e is at so t
-          (λ Q place n p stands. turned Q w.setup (w.steps + 1) me a l (found (action w.setup me a l) w.shared) place n p stands)
-          (same_op w.setup (w.steps + 1) me a l (found (action w.setup me a l) w.shared)) fact in
-          record {
-            queue = t.queue';
-            free = t.free';
-            sound =
-                sound_settled (Z w) (Z (stepped w me a l)) w me a l (performed (action w.setup me a l) w.shared) o w.shared.head.node rest p.free r e is at so
-                (fixed w.setup (w.steps + 1) me a l (found (action w.setup me a l) w.shared) b.fixed) t c.keeps c.finds;
-            fact = c.fact;
-          }
-
   proved_given : (w : World) (me : ℕ) (a : Actor) (l : Line) (o : Outcome) → IsReached w → w.setup.kind ≡ TwoLock → actor_of w me ≡ Some a → a.line ≡ Some l → gives_up (w.steps + 1) a l ≡ Some o → Proved L Z w → Proved L Z (settled w me a w.shared o)
   proved_given w me a l o r e is at given p =
-      let hd : (rest : List ℕ) × (p.queue ≡ w.shared.head.node ∷ rest) = headed w r e p in
-      go hd.0 (subst (λ q. Sound (Z w) w q p.free) hd.1 p.sound) (subst (λ q. L w q) hd.1 p.fact)
-    where
-      go : (rest : List ℕ) → Sound (Z w) w (w.shared.head.node ∷ rest) p.free → L w (w.shared.head.node ∷ rest) → Proved L Z (settled w me a w.shared o)
-      go rest so fact =
-          let b : Before (Z w) w.setup (length w.actors) w.shared (elsewhere w) w.shared.head.node rest p.free me a l = before (Z w) w me a l w.shared.head.node rest p.free r e is at so in
-          let t : After (Z w) w.setup w.shared w.shared.head.node rest p.free me (w.steps + 1) a w.shared o =
-          some_of (After (Z w) w.setup w.shared w.shared.head.node rest p.free me (w.steps + 1) a w.shared) (gives_up (w.steps + 1) a l) o given
-          (gives (Z w) w.setup (length w.actors) w.shared (elsewhere w) w.shared.head.node rest p.free me (w.steps + 1) a l (nodes_at w r e me a l is at).0 b) in
-          let c : Carried L Z w (settled w me a w.shared o) rest t.queue' =
-          carries.told w me a l w.shared o w.shared.head.node rest p.free r e is at so t
-          (λ Q place n p stands. some_of (Turns Q place) (gives_up (w.steps + 1) a l) o given (given_turned Q (w.steps + 1) a l place n p stands))
-          (some_of (λ x. x.actor.op ≡ a.op) (gives_up (w.steps + 1) a l) o given (same_op_given (w.steps + 1) a l)) fact in
-          record {
-            queue = t.queue';
-            free = t.free';
-            sound =
-                sound_settled (Z w) (Z (settled w me a w.shared o)) w me a l w.shared o w.shared.head.node rest p.free r e is at so
-                (some_of (Fixes w.setup.limit me) (gives_up (w.steps + 1) a l) o given (fixed_given w.setup.limit (w.steps + 1) me a l b.fixed)) t c.keeps c.finds;
-            fact = c.fact;
-          }
+      let d : Doing w me a w.shared o = give_does w me a l o r e is at given p in
+      let c : Carried L Z w (settled w me a w.shared o) d.rest d.does.queue' =
+      carries.told w me a l w.shared o w.shared.head.node d.rest d.free r e is at d.sound d.does
+      (λ Q place n p stands. some_of (Turns Q place) (gives_up (w.steps + 1) a l) o given (given_turned Q (w.steps + 1) a l place n p stands))
+      (some_of (λ x. x.actor.op ≡ a.op) (gives_up (w.steps + 1) a l) o given (same_op_given (w.steps + 1) a l)) d.fact in
+      record {
+        queue = d.does.queue';
+        free = d.does.free';
+        sound =
+            sound_settled (Z w) (Z (settled w me a w.shared o)) w me a l w.shared o w.shared.head.node d.rest d.free r e is at d.sound
+            (some_of (Fixes w.setup.limit me) (gives_up (w.steps + 1) a l) o given
+            (fixed_given w.setup.limit (w.steps + 1) me a l (subst (FixedAt w.setup.limit me a) at (d.sound.actors me a is).fixed))) d.does c.keeps c.finds;
+        fact = c.fact;
+      }
 
   proved_begun : (w : World) (me : ℕ) (op : Op) (a : Actor) → IsReached w → w.setup.kind ≡ TwoLock → actor_of w me ≡ Some a → a.line ≡ None → is_call op ≡ true → Proved L Z w → Proved L Z (with_actor w me (begun w.setup.kind me op a))
   proved_begun w me op a r e is at call p =

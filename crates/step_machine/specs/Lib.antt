@@ -8,6 +8,7 @@ pub mod Promises
 pub mod TwoLock
 pub mod Views
 pub mod Calls
+pub mod Entries
 pub mod Kept
 pub mod Range
 pub mod Stamps

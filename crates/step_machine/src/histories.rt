@@ -4,6 +4,7 @@ ghost use Rattle.step_machine.specs.TwoLock.{ReplaysToItsValues};
 ghost use Rattle.step_machine.specs.TakingEffect.{ArePlacedByEffect, HaveTheirEffect};
 ghost use Rattle.step_machine.specs.TakingEffect.{OfOperations, OfOperationsOfCalls};
 ghost use Rattle.step_machine.specs.Histories.{OfEachHistory, OfEachWorld};
+ghost use Rattle.step_machine.specs.Entries.{PlaysToItsValues};
 
 /// Every history is placed and legal: of either queue, of any size, greatest count and number of actors in range, and
 /// after any list of begins, steps, givings up and rests, in any order and with any actor stopped anywhere.
@@ -27,4 +28,10 @@ pub fn operations_are_placed_by_their_effects()
 /// have earned, replay from the empty queue to the values in the chain from Head.
 pub fn operations_replay_to_the_values()
     ensures { OfEachWorld ReplaysToItsValues }
+{}
+
+/// At every step the pushes and pops that had their effect so far, by rising place, lead from the empty queue to the
+/// values in the chain from Head: each push puts its value at the back, and each pop takes the front one.
+pub fn pushes_and_pops_play_to_the_values()
+    ensures { OfEachWorld PlaysToItsValues }
 {}

@@ -1,0 +1,43 @@
+-- The entries of a world: the pushes and the pops of its operations that had their effect.
+use Rattle.std.specs.Prelude.{ℕ, List, [], ◌∷◌, Option, Some, None}
+use Rattle.std.specs.List.{flat_map}
+use Rattle.history.specs.declared.operations.Op.{Op}
+use Rattle.history.specs.declared.operations.Op.TheVariants.{Enq, Deq}
+use Rattle.history.specs.declared.operations.Reply.{Reply}
+use Rattle.history.specs.declared.operations.Reply.TheVariants.{Done, Value, Empty, Refused}
+use Rattle.history.specs.declared.operations.Entry.{Entry}
+use Rattle.history.specs.declared.operations.Entry.TheVariants.{Push, Pop}
+use Rattle.history.specs.declared.operations.Stamped.{Stamped}
+use Rattle.history.specs.Queue.{empty}
+use Rattle.history.specs.Entries.{Plays}
+use Rattle.history.specs.History.{rising}
+use Rattle.step_machine.specs.Machine.{World}
+use Rattle.step_machine.specs.Places.{IsChain}
+use Rattle.step_machine.specs.Chains.{queue_values}
+use Rattle.step_machine.specs.Promises.{promises}
+
+-- the entry of an enqueue that is done
+abbrev pub pushed_by : (me : ℕ) → Op → List Entry
+pushed_by me (Enq body) = Push me body ∷ []
+pushed_by me Deq = []
+
+-- the entry of an operation with a reply: the push of one that is done, the pop of one that got a value, and else none
+abbrev pub entry_with : (me : ℕ) → Op → Option Reply → List Entry
+entry_with me op None = []
+entry_with me op (Some Done) = pushed_by me op
+entry_with me op (Some (Value v)) = Pop me v ∷ []
+entry_with me op (Some Empty) = []
+entry_with me op (Some (Refused why)) = []
+
+-- the same of a stamped operation
+abbrev pub entry_of : Stamped → List Entry
+entry_of o = entry_with o.actor o.op o.reply
+
+-- the entries of all operations that had their effect, by rising place, with the replies that their calls have earned
+abbrev pub entries : World → List Entry
+entries w = flat_map entry_of (rising (promises w))
+
+-- the entries lead from the empty queue to the values in the chain from Head
+abbrev pub PlaysToItsValues : World → Type 0
+PlaysToItsValues w =
+    (queue : List ℕ) → IsChain w.shared.nodes w.shared.head.node queue → Plays empty (entries w) (record { values = queue_values w.shared queue })
