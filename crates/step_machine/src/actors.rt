@@ -30,10 +30,12 @@ pub struct Held {
 pub struct Actor {
     /// None where the actor has no call.
     pub line: Option<Line>,
-    pub op: Op,
+    /// Whether `node` and `mark` are in the actor's hand.
+    pub holds: bool,
     pub f: u32,
-    pub top: CountedRef,
     pub node: u32,
+    pub op: Op,
+    pub top: CountedRef,
     pub mark: u64,
     pub tail: CountedRef,
     pub head: CountedRef,
@@ -43,8 +45,6 @@ pub struct Actor {
     pub noted: u64,
     /// What the call will answer, where that is settled.
     pub due: Option<Reply>,
-    /// Whether `node` and `mark` are in the actor's hand.
-    pub holds: bool,
     pub pocket: Option<Held>,
     /// Where the call's operation stands in the history, once the call has a number.
     pub entry: Option<usize>,

@@ -72,23 +72,31 @@ pub fn put_actor(actors: &mut Vec<Actor>, me: u16, actor: Actor)
     }
 }
 
-fn tell(now: u64, outcome: &Outcome, stamped: Stamped) -> Stamped
-    ensures { result ≡ told now outcome.now stamped }
+/// Puts an actor in its place, whose operation stands at `entry`.
+#[inline(always)]
+fn put_entered(actors: &mut Vec<Actor>, me: u16, entry: usize, actor: Actor)
+    ensures items { actors.new.items ≡ slice_set actors.old.items (me - 1) (record actor { entry = Some entry }) }
 {
-    Stamped {
-        last: if outcome.reply.is_some() {
-            Some(now)
-        } else {
-            None
-        },
-        at: if outcome.at.is_some() {
-            outcome.at
-        } else {
-            stamped.at
-        },
-        reply: outcome.reply,
-        ..stamped
+    if let Some(place) = actors.get_mut(me.saturating_sub(1) as usize) {
+        *place = actor;
+        place.entry = Some(entry);
     }
+}
+
+/// Tells an operation the outcome of a step.
+#[inline(always)]
+fn tell(now: u64, outcome: &Outcome, stamped: &mut Stamped)
+    ensures { stamped.new ≡ told now outcome.now stamped.old }
+{
+    stamped.last = if outcome.reply.is_some() {
+        Some(now)
+    } else {
+        None
+    };
+    if outcome.at.is_some() {
+        stamped.at = outcome.at;
+    }
+    stamped.reply = outcome.reply;
 }
 
 fn first_stamp(call: Call, now: u64) -> Stamped
@@ -105,27 +113,29 @@ fn first_stamp(call: Call, now: u64) -> Stamped
 }
 
 /// The operations after an outcome: a call's first step adds its operation, a later one changes it.
+#[inline(always)]
 fn put_operation(operations: &mut Vec<Stamped>, call: Call, now: u64, outcome: &Outcome)
     requires { HasEntry call.entry (vec_len operations.old) (vec_capacity operations.old) }
     ensures items { operations.new.items ≡
         operations_told call.actor call.op call.entry now outcome.now operations.old.items }
     ensures room { vec_capacity operations.old ≤ vec_capacity operations.new }
 {
-    let entry = call.entry;
-    let new = first_stamp(call, now);
-    match entry {
+    match call.entry {
         None => {
-            let _ = operations.push(tell(now, outcome, new));
+            let mut new = first_stamp(call, now);
+            tell(now, outcome, &mut new);
+            let _ = operations.push(new);
         }
         Some(place) => {
             if let Some(stamped) = operations.get_mut(place) {
-                *stamped = tell(now, outcome, *stamped);
+                tell(now, outcome, stamped);
             }
         }
     }
 }
 
 /// What an outcome leaves of its actor, its operation and the nodes set aside.
+#[inline(always)]
 pub fn settle(
     memory: &mut Memory,
     actors: &mut Vec<Actor>,
@@ -147,12 +157,5 @@ pub fn settle(
     let me = call.actor;
     put_operation(operations, call, now, &outcome);
     memory.set_aside(outcome.aside);
-    put_actor(
-        actors,
-        me,
-        Actor {
-            entry: Some(place),
-            ..outcome.actor
-        },
-    );
+    put_entered(actors, me, place, outcome.actor);
 }
