@@ -75,7 +75,8 @@ pub fn put_actor(actors: &mut Vec<Actor>, me: u16, actor: Actor)
 /// Puts an actor in its place, whose operation stands at `entry`.
 #[inline(always)]
 fn put_entered(actors: &mut Vec<Actor>, me: u16, entry: usize, actor: Actor)
-    ensures items { actors.new.items ≡ slice_set actors.old.items (me - 1) (record actor { entry = Some entry }) }
+    ensures items { actors.new.items ≡
+        slice_set actors.old.items (me - 1) (record actor { entry = Some entry }) }
 {
     if let Some(place) = actors.get_mut(me.saturating_sub(1) as usize) {
         *place = actor;
