@@ -6,8 +6,8 @@ use Rattle.atomic_table.specs.Table.{Me, Allows}
 use Rattle.atomic_table.specs.declared.shared.Seat.{Seat as Token}
 use Rattle.line_table.specs.declared.lines.Line.{Line}
 use Rattle.history.specs.declared.operations.Entry.{Entry}
-use Rattle.step_machine.specs.declared.actors.Actor.{Actor}
-use Rattle.step_machine.specs.Lines.{action}
+use Rattle.line_steps.specs.declared.actors.Actor.{Actor}
+use Rattle.line_steps.specs.Lines.{action}
 use Rattle.step_machine.specs.Tables.{PlaceStep, load_at, store_at, and_at, exchange_at, place_of, place_step}
 use Rattle.node_arena.specs.declared.views.Knowing.{Knowing}
 use Rattle.node_arena.specs.declared.arena.Arena.{Arena}

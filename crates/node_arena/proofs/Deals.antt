@@ -6,8 +6,8 @@ use lib.ListN.{get_elem?}
 use Rattle.atomic_table.specs.Table.{Me, Splits, opening}
 use Rattle.atomic_table.specs.Seated.{TableId}
 use Rattle.atomic_table.proofs.Lists.{at_set}
-use Rattle.step_machine.specs.declared.actors.Setup.{Setup}
-use Rattle.step_machine.specs.Memory.{blank}
+use Rattle.line_steps.specs.declared.actors.Setup.{Setup}
+use Rattle.line_steps.specs.Memory.{blank}
 use Rattle.step_machine.specs.Words.{words_of, node_words}
 use Rattle.step_machine.specs.Machine.{World, idle, actor_of, IsSized}
 use Rattle.step_machine.specs.Machine as machine

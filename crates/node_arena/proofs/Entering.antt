@@ -7,10 +7,10 @@ use Rattle.line_table.specs.declared.lines.Line.TheVariants.{E9, D13, A5, B5}
 use Rattle.history.specs.declared.operations.Taken.{Taken}
 use Rattle.history.specs.declared.operations.Entry.{Entry}
 use Rattle.history.specs.declared.operations.Entry.TheVariants.{Push, Pop}
-use Rattle.step_machine.specs.declared.actors.Setup.{Setup}
-use Rattle.step_machine.specs.declared.actors.Actor.{Actor}
-use Rattle.step_machine.specs.Memory.{Found, found}
-use Rattle.step_machine.specs.Lines.{action}
+use Rattle.line_steps.specs.declared.actors.Setup.{Setup}
+use Rattle.line_steps.specs.declared.actors.Actor.{Actor}
+use Rattle.line_steps.specs.Memory.{Found, found}
+use Rattle.line_steps.specs.Lines.{action}
 use Rattle.node_arena.specs.declared.roles.Role.{Role}
 use Rattle.node_arena.specs.Traces.{Traced, entries_of, entries_at, maker, own_entries}
 use Rattle.node_arena.specs.Plans.{Permits, PermitsLine, IsPermitted}

@@ -17,13 +17,14 @@ use Rattle.history.specs.declared.operations.Taken.{Taken}
 use Rattle.history.specs.Queue.{empty}
 use Rattle.history.specs.Entries.{Plays}
 use Rattle.history.specs.History.{rising}
-use Rattle.step_machine.specs.declared.actors.Setup.{Setup}
-use Rattle.step_machine.specs.declared.actors.Actor.{Actor}
-use Rattle.step_machine.specs.declared.actors.Outcome.{Outcome}
+use Rattle.line_steps.specs.declared.actors.Setup.{Setup}
+use Rattle.line_steps.specs.declared.actors.Actor.{Actor}
+use Rattle.line_steps.specs.declared.actors.Outcome.{Outcome}
+use Rattle.line_steps.specs.Memory.{Found, found}
+use Rattle.line_steps.specs.Lines.{action, outcome, goes, ends, effect, takes, lets_go, sets_aside, freed, unlocked, busy_or, gives_up}
+use Rattle.line_steps.specs.Calling.{is_call, begun}
 use Rattle.step_machine.specs.declared.actors.Move.TheVariants.{Begin, Step, Give}
-use Rattle.step_machine.specs.Memory.{Found, found}
-use Rattle.step_machine.specs.Lines.{action, outcome, goes, ends, effect, takes, lets_go, sets_aside, freed, unlocked, busy_or, gives_up}
-use Rattle.step_machine.specs.Machine.{World, actor_of, is_call, begun, rested, with_actor, begins, steps, given, gives, may_rest, rests, moved, rest_of, AnyMove, made, Rest, next_any, IsReached}
+use Rattle.step_machine.specs.Machine.{World, actor_of, rested, with_actor, begins, steps, given, gives, may_rest, rests, moved, rest_of, AnyMove, made, Rest, next_any, IsReached}
 use Rattle.step_machine.specs.Entries.{pushed_by, entry_of, entries}
 use Rattle.step_machine.specs.Chains.{queue_values}
 use Rattle.step_machine.specs.Stamps.{makers}

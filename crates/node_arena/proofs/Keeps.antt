@@ -10,9 +10,9 @@ use Rattle.atomic_table.specs.Table.{State, Me, keeps, Allows}
 use Rattle.atomic_table.proofs.Lists.{at_set}
 use Rattle.line_table.specs.declared.lines.Line.{Line}
 use Rattle.history.specs.declared.operations.Entry.{Entry}
-use Rattle.step_machine.specs.declared.actors.Actor.{Actor}
-use Rattle.step_machine.specs.Memory.{word}
-use Rattle.step_machine.specs.Lines.{action}
+use Rattle.line_steps.specs.declared.actors.Actor.{Actor}
+use Rattle.line_steps.specs.Memory.{word}
+use Rattle.line_steps.specs.Lines.{action}
 use Rattle.step_machine.specs.Words.{words_of, IsWord}
 use Rattle.step_machine.specs.Tables.{PlaceStep, load_at, store_at, and_at, exchange_at, place_of, place_step, table_after}
 use Rattle.step_machine.specs.Machine.{actor_of}

@@ -10,11 +10,12 @@ use Rattle.history.specs.declared.operations.Op.{Op}
 use Rattle.history.specs.declared.operations.Op.TheVariants.{Enq, Deq}
 use Rattle.history.specs.declared.operations.Reply.{Reply}
 use Rattle.history.specs.declared.operations.Reply.TheVariants.{Refused}
-use Rattle.step_machine.specs.declared.actors.Actor.{Actor}
-use Rattle.step_machine.specs.declared.actors.Outcome.{Outcome}
+use Rattle.line_steps.specs.declared.actors.Actor.{Actor}
+use Rattle.line_steps.specs.declared.actors.Outcome.{Outcome}
+use Rattle.line_steps.specs.Lines.{gives_up, ends, busy_or, to_pocket}
+use Rattle.line_steps.specs.Calling.{begun, is_call}
 use Rattle.step_machine.specs.declared.actors.Move.TheVariants.{Begin, Give}
-use Rattle.step_machine.specs.Lines.{gives_up, ends, busy_or, to_pocket}
-use Rattle.step_machine.specs.Machine.{World, actor_of, with_actor, settled, entry_or, begun, rested, may_rest, rests, rest_of, is_call, next_any, made, Rest}
+use Rattle.step_machine.specs.Machine.{World, actor_of, with_actor, settled, entry_or, rested, may_rest, rests, rest_of, next_any, made, Rest}
 use Rattle.step_machine.proofs.Reached.{mover_in_range}
 use Rattle.step_machine.proofs.Booking.{actor_same, actor_other}
 use Rattle.step_machine.proofs.Giving.{give_move, begin_move}

@@ -2,11 +2,12 @@
 use Rattle.std.specs.Prelude.{◌≡◌, ℕ, true, if◌then◌else◌, Option, Some, None}
 use Rattle.line_table.specs.declared.lines.Line.{Line}
 use Rattle.history.specs.declared.operations.Op.{Op}
-use Rattle.step_machine.specs.declared.actors.Setup.{Setup}
-use Rattle.step_machine.specs.declared.actors.Actor.{Actor}
-use Rattle.step_machine.specs.declared.actors.Outcome.{Outcome}
-use Rattle.step_machine.specs.Lines.{gives_up}
-use Rattle.step_machine.specs.Machine.{is_call, begun, rested, may_rest}
+use Rattle.line_steps.specs.declared.actors.Setup.{Setup}
+use Rattle.line_steps.specs.declared.actors.Actor.{Actor}
+use Rattle.line_steps.specs.declared.actors.Outcome.{Outcome}
+use Rattle.line_steps.specs.Lines.{gives_up}
+use Rattle.line_steps.specs.Calling.{is_call, begun}
+use Rattle.step_machine.specs.Machine.{rested, may_rest}
 
 -- the moves that come directly before a step and touch no shared word
 pub data Lead : Type 0 where

@@ -1,7 +1,7 @@
 -- What a seat knows.
 use Rattle.std.specs.Prelude.{ℕ, ◌+◌, List, [], ◌∷◌}
 use Rattle.history.specs.declared.operations.Entry.{Entry}
-use Rattle.step_machine.specs.declared.actors.Actor.{Actor}
+use Rattle.line_steps.specs.declared.actors.Actor.{Actor}
 use Rattle.step_machine.specs.Machine.{idle}
 use Rattle.node_arena.specs.Traces.{Event}
 

@@ -8,14 +8,14 @@ use Rattle.history.specs.declared.operations.Entry.TheVariants.{Push, Pop}
 use Rattle.history.specs.Queue.{empty}
 use Rattle.history.specs.Entries.{Plays}
 use Rattle.counted_ref.specs.Ref.{same_ref}
-use Rattle.step_machine.specs.declared.actors.Setup.{Setup}
-use Rattle.step_machine.specs.declared.actors.Actor.{Actor}
-use Rattle.step_machine.specs.declared.actors.Outcome.{Outcome}
+use Rattle.line_steps.specs.declared.actors.Setup.{Setup}
+use Rattle.line_steps.specs.declared.actors.Actor.{Actor}
+use Rattle.line_steps.specs.declared.actors.Outcome.{Outcome}
+use Rattle.line_steps.specs.Memory.{word, Found, found}
+use Rattle.line_steps.specs.Lines.{action, outcome}
 use Rattle.step_machine.specs.declared.actors.Move.TheVariants.{Begin, Step, Give}
-use Rattle.step_machine.specs.Memory.{word, Found, found}
 use Rattle.step_machine.specs.Places.{IsChain}
 use Rattle.step_machine.specs.Chains.{queue_values}
-use Rattle.step_machine.specs.Lines.{action, outcome}
 use Rattle.step_machine.specs.Words.{encoded}
 use Rattle.step_machine.specs.Machine.{World, actor_of, stepped, entry_or, opening, AnyMove, made, Rest, next_any, IsSized}
 

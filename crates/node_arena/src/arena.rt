@@ -1,6 +1,6 @@
 //! The arena: the table of the shared words, and what it was made for.
 ghost use Rattle.std.specs.Prelude.{◌≡◌, ◌*◌, ◌^◌, ◌<◌, IfOk, IfErr, OnOk};
-ghost use Rattle.step_machine.specs.declared.actors.Setup.{Setup as Setups};
+ghost use Rattle.line_steps.specs.declared.actors.Setup.{Setup as Setups};
 ghost use Rattle.node_arena.specs.Plans.{IsPlanned};
 ghost use Rattle.node_arena.specs.Making.{first_words, IsMade, NewRefused};
 

@@ -12,14 +12,15 @@ use Rattle.history.specs.declared.operations.Op.{Op}
 use Rattle.history.specs.declared.operations.Op.TheVariants.{Enq, Deq}
 use Rattle.history.specs.declared.operations.Reply.{Reply}
 use Rattle.history.specs.declared.operations.Reply.TheVariants.{Done}
-use Rattle.step_machine.specs.declared.actors.Actor.{Actor}
-use Rattle.step_machine.specs.declared.actors.Outcome.{Outcome}
-use Rattle.step_machine.specs.declared.actors.Held.{Held}
-use Rattle.step_machine.specs.declared.actors.Setup.{Setup}
+use Rattle.line_steps.specs.declared.actors.Actor.{Actor}
+use Rattle.line_steps.specs.declared.actors.Outcome.{Outcome}
+use Rattle.line_steps.specs.declared.actors.Held.{Held}
+use Rattle.line_steps.specs.declared.actors.Setup.{Setup}
+use Rattle.line_steps.specs.Memory.{Shared, put, found, performed, Tail}
+use Rattle.line_steps.specs.Lines.{action, outcome, raised, goes, ends, effect, lets_go, sets_aside, with_node, dequeues, freed}
+use Rattle.line_steps.specs.Calling.{is_call, from_pocket, begun}
 use Rattle.step_machine.specs.declared.actors.Move.TheVariants.{Begin, Step}
-use Rattle.step_machine.specs.Memory.{Shared, put, found, performed, Tail}
-use Rattle.step_machine.specs.Lines.{action, outcome, raised, goes, ends, effect, lets_go, sets_aside, with_node, dequeues, freed}
-use Rattle.step_machine.specs.Machine.{World, actor_of, is_call, from_pocket, begun, with_actor, entry_or, settled, stepped, begins, steps, moved, made, next, run, run_on, IsReached}
+use Rattle.step_machine.specs.Machine.{World, actor_of, with_actor, entry_or, settled, stepped, begins, steps, moved, made, next, run, run_on, IsReached}
 use Rattle.step_machine.specs.Calls.{IsIdle}
 use Rattle.step_machine.specs.Places.{IsChain}
 use Rattle.step_machine.specs.Lag.{TailLags}

@@ -14,9 +14,9 @@ use Rattle.history.specs.declared.operations.Reply.{Reply}
 use Rattle.history.specs.declared.operations.Reply.TheVariants.{Done, Value, Empty, Refused}
 use Rattle.history.specs.declared.operations.Stamped.{Stamped}
 use Rattle.history.specs.History.{inserted, rising}
-use Rattle.step_machine.specs.declared.actors.Actor.{Actor}
-use Rattle.step_machine.specs.declared.actors.Outcome.{Outcome}
-use Rattle.step_machine.specs.Memory.{Shared}
+use Rattle.line_steps.specs.declared.actors.Actor.{Actor}
+use Rattle.line_steps.specs.declared.actors.Outcome.{Outcome}
+use Rattle.line_steps.specs.Memory.{Shared}
 use Rattle.step_machine.specs.Machine.{World, actor_of, new_operation, told, recorded, entry_or, first_settled, settled, with_actor}
 use Rattle.step_machine.specs.Places.{one_if}
 use Rattle.step_machine.specs.Promises.{earned, due_of, promised_reply, is_value}

@@ -6,10 +6,10 @@ use Rattle.line_table.specs.declared.lines.Line.{Line}
 use Rattle.line_table.specs.Sections.{section_of}
 use Rattle.history.specs.Queue.{empty}
 use Rattle.history.specs.Entries.{Plays}
-use Rattle.step_machine.specs.declared.actors.Actor.{Actor}
-use Rattle.step_machine.specs.declared.actors.Outcome.{Outcome}
-use Rattle.step_machine.specs.Memory.{found}
-use Rattle.step_machine.specs.Lines.{action, outcome, gives_up}
+use Rattle.line_steps.specs.declared.actors.Actor.{Actor}
+use Rattle.line_steps.specs.declared.actors.Outcome.{Outcome}
+use Rattle.line_steps.specs.Memory.{found}
+use Rattle.line_steps.specs.Lines.{action, outcome, gives_up}
 use Rattle.step_machine.specs.Machine.{World, actor_of, settled, stepped, IsReached}
 use Rattle.step_machine.specs.Chains.{queue_values}
 use Rattle.step_machine.specs.Histories.{OfEachWorld}

@@ -4,7 +4,7 @@ use Rattle.std.proofs.lemmas.Option.{IfSome_then}
 use Rattle.line_table.specs.declared.lines.Kind.{Kind}
 use Rattle.line_table.specs.declared.lines.Kind.TheVariants.{TwoLock, NonBlocking}
 use Rattle.history.specs.History.{Placement, IsLegal}
-use Rattle.step_machine.specs.declared.actors.Setup.{Setup}
+use Rattle.line_steps.specs.declared.actors.Setup.{Setup}
 use Rattle.step_machine.specs.Machine.{World, opening, AnyMove, next_any, run, run_on, IsSized, IsReached, IsMade}
 use Rattle.step_machine.specs.TwoLock.{ReplaysToItsValues}
 use Rattle.step_machine.specs.Histories.{OfEachWorld, OfEachHistory}

@@ -9,11 +9,11 @@ use Rattle.line_table.specs.declared.lines.Line.{Line}
 use Rattle.line_table.specs.declared.lines.Line.TheVariants.{N1, N2, N3, N4, N5, F1, F2, F3, E2, E3, E5, E6, E7, E9, E13, E17, D2, D3, D4, D5, D10, D12, D13, A1, A2, A3, A4, A5, A6, A7, B1, B2, B3, B4, B5, B6}
 use Rattle.history.specs.declared.operations.Reply.{Reply}
 use Rattle.history.specs.declared.operations.Reply.TheVariants.{Done, Value, Empty, Refused}
-use Rattle.step_machine.specs.declared.actors.Setup.{Setup}
-use Rattle.step_machine.specs.declared.actors.Actor.{Actor}
-use Rattle.step_machine.specs.declared.actors.Outcome.{Outcome}
-use Rattle.step_machine.specs.Memory.{Shared, node_at, found}
-use Rattle.step_machine.specs.Lines.{action, outcome, ends, sets_aside, freed, unlocked, busy_or, gives_up}
+use Rattle.line_steps.specs.declared.actors.Setup.{Setup}
+use Rattle.line_steps.specs.declared.actors.Actor.{Actor}
+use Rattle.line_steps.specs.declared.actors.Outcome.{Outcome}
+use Rattle.line_steps.specs.Memory.{Shared, node_at, found}
+use Rattle.line_steps.specs.Lines.{action, outcome, ends, sets_aside, freed, unlocked, busy_or, gives_up}
 use Rattle.step_machine.specs.TakingEffect.{HasEffect, IsByEffect}
 use Rattle.step_machine.proofs.Reached.{some_of}
 

@@ -8,14 +8,15 @@ use Rattle.line_table.specs.declared.lines.Line.TheVariants.{E9, D13, A5, B5}
 use Rattle.history.specs.declared.operations.Op.{Op}
 use Rattle.history.specs.declared.operations.Reply.{Reply}
 use Rattle.history.specs.declared.operations.Stamped.{Stamped}
-use Rattle.step_machine.specs.declared.actors.Setup.{Setup}
-use Rattle.step_machine.specs.declared.actors.Actor.{Actor}
-use Rattle.step_machine.specs.declared.actors.Outcome.{Outcome}
+use Rattle.line_steps.specs.declared.actors.Setup.{Setup}
+use Rattle.line_steps.specs.declared.actors.Actor.{Actor}
+use Rattle.line_steps.specs.declared.actors.Outcome.{Outcome}
+use Rattle.line_steps.specs.Memory.{Shared}
+use Rattle.line_steps.specs.Lines.{gives_up}
+use Rattle.line_steps.specs.Calling.{is_call, begun}
 use Rattle.step_machine.specs.declared.actors.Move.{Move}
 use Rattle.step_machine.specs.declared.actors.Move.TheVariants.{Begin, Step, Give}
-use Rattle.step_machine.specs.Memory.{Shared}
-use Rattle.step_machine.specs.Lines.{gives_up}
-use Rattle.step_machine.specs.Machine.{World, opening, actor_of, is_call, begun, rested, with_actor, new_operation, told, recorded, first_settled, begins, steps, given, gives, may_rest, rests, moved, mover, rest_of, AnyMove, made, Rest, next_any, run_on, run}
+use Rattle.step_machine.specs.Machine.{World, opening, actor_of, rested, with_actor, new_operation, told, recorded, first_settled, begins, steps, given, gives, may_rest, rests, moved, mover, rest_of, AnyMove, made, Rest, next_any, run_on, run}
 use Rattle.step_machine.specs.TakingEffect.{HasEffect, TookEffect, IsByEffect, ArePlacedByEffect, HaveTheirEffect, OfOperations, OfOperationsOfCalls, HavePlacesByItsEffects}
 use Rattle.step_machine.proofs.Reached.{some_of}
 use Rattle.step_machine.proofs.StampsLists.{PutAt, put_set, put_end, put_cases}

@@ -4,10 +4,10 @@ use Rattle.counted_ref.specs.Ref.{Ref, IsRef, ref}
 use Rattle.line_table.specs.declared.lines.Line.{Line}
 use Rattle.line_table.specs.declared.lines.Line.TheVariants.{N1, N2, N3, N4, N5, F1, F2, F3, E2, E3, E5, E6, E7, E9, E13, E17, D2, D3, D4, D5, D10, D12, D13, A1, A2, A3, A4, A5, A6, A7, B1, B2, B3, B4, B5, B6}
 use Rattle.history.specs.declared.operations.Taken.{Taken}
-use Rattle.step_machine.specs.declared.actors.Setup.{Setup}
-use Rattle.step_machine.specs.declared.actors.Actor.{Actor}
-use Rattle.step_machine.specs.Memory.{Word, Fresh, Free, Head, Tail, Tail_lock, Head_lock, Next, Value_of, Content, content}
-use Rattle.step_machine.specs.Lines.{action, raised}
+use Rattle.line_steps.specs.declared.actors.Setup.{Setup}
+use Rattle.line_steps.specs.declared.actors.Actor.{Actor}
+use Rattle.line_steps.specs.Memory.{Word, Fresh, Free, Head, Tail, Tail_lock, Head_lock, Next, Value_of, Content, content}
+use Rattle.line_steps.specs.Lines.{action, raised}
 use Rattle.step_machine.specs.Machine.{World, actor_of, IsSized}
 use Rattle.step_machine.specs.Range.{RefInRange, ValueInRange, RegistersInRange, LineInRange, ActorInRange, WorldInRange}
 use Rattle.step_machine.specs.Tables.{ValueFits, ContentFits, SharedFits, ActionFits}

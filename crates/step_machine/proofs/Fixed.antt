@@ -17,13 +17,14 @@ use Rattle.history.specs.declared.operations.Op.TheVariants.{Enq, Deq}
 use Rattle.history.specs.declared.operations.Taken.{Taken}
 use Rattle.history.specs.declared.operations.Reply.{Reply}
 use Rattle.history.specs.declared.operations.Reply.TheVariants.{Done, Value, Empty, Refused}
-use Rattle.step_machine.specs.declared.actors.Setup.{Setup}
-use Rattle.step_machine.specs.declared.actors.Held.{Held}
-use Rattle.step_machine.specs.declared.actors.Actor.{Actor}
-use Rattle.step_machine.specs.declared.actors.Outcome.{Outcome}
-use Rattle.step_machine.specs.Memory.{Found}
-use Rattle.step_machine.specs.Lines.{action, outcome, goes, ends, effect, sets_aside, takes, lets_go, to_pocket, with_node, freed, unlocked, busy_or, gives_up}
-use Rattle.step_machine.specs.Machine.{from_pocket, begun, rested}
+use Rattle.line_steps.specs.declared.actors.Setup.{Setup}
+use Rattle.line_steps.specs.declared.actors.Held.{Held}
+use Rattle.line_steps.specs.declared.actors.Actor.{Actor}
+use Rattle.line_steps.specs.declared.actors.Outcome.{Outcome}
+use Rattle.line_steps.specs.Memory.{Found}
+use Rattle.line_steps.specs.Lines.{action, outcome, goes, ends, effect, sets_aside, takes, lets_go, to_pocket, with_node, freed, unlocked, busy_or, gives_up}
+use Rattle.line_steps.specs.Calling.{from_pocket, begun}
+use Rattle.step_machine.specs.Machine.{rested}
 
 -- whether a call that lets the head lock go has a node to free
 abbrev pub frees_after : Option Reply → Bool

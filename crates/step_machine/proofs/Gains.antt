@@ -11,8 +11,8 @@ use Rattle.history.specs.declared.operations.Stamped.{Stamped}
 use Rattle.history.specs.Queue.{Queue, given}
 use Rattle.history.specs.Entries.{Plays}
 use Rattle.history.specs.History.{inserted, rising}
-use Rattle.step_machine.specs.declared.actors.Actor.{Actor}
-use Rattle.step_machine.specs.declared.actors.Outcome.{Outcome}
+use Rattle.line_steps.specs.declared.actors.Actor.{Actor}
+use Rattle.line_steps.specs.declared.actors.Outcome.{Outcome}
 use Rattle.step_machine.specs.Machine.{World}
 use Rattle.step_machine.specs.Promises.{promised_reply}
 use Rattle.step_machine.specs.Entries.{pushed_by, entry_with, entry_of}

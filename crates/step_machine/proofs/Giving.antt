@@ -9,16 +9,18 @@ use Rattle.history.specs.declared.operations.Op.{Op}
 use Rattle.history.specs.declared.operations.Op.TheVariants.{Enq, Deq}
 use Rattle.history.specs.declared.operations.Reply.{Reply}
 use Rattle.history.specs.declared.operations.Stamped.{Stamped}
-use Rattle.step_machine.specs.declared.actors.Setup.{Setup}
-use Rattle.step_machine.specs.declared.actors.Held.{Held}
-use Rattle.step_machine.specs.declared.actors.Actor.{Actor}
-use Rattle.step_machine.specs.declared.actors.Outcome.{Outcome}
+use Rattle.line_steps.specs.declared.actors.Setup.{Setup}
+use Rattle.line_steps.specs.declared.actors.Held.{Held}
+use Rattle.line_steps.specs.declared.actors.Actor.{Actor}
+use Rattle.line_steps.specs.declared.actors.Outcome.{Outcome}
+use Rattle.line_steps.specs.Memory.{Shared}
+use Rattle.line_steps.specs.Lines.{gives_up, busy_or, with_node, dequeues}
+use Rattle.line_steps.specs.Calling.{is_call, begun, from_pocket}
+use Rattle.line_steps.specs.Rooms.{Memory, first_memory}
 use Rattle.step_machine.specs.declared.actors.Move.TheVariants.{Begin, Give}
-use Rattle.step_machine.specs.Memory.{Shared}
-use Rattle.step_machine.specs.Lines.{gives_up, busy_or, with_node, dequeues}
-use Rattle.step_machine.specs.Machine.{World, opening, idle, actor_of, is_call, begun, from_pocket, with_actor, begins, given, gives, moved, next, settled}
+use Rattle.step_machine.specs.Machine.{World, opening, idle, actor_of, with_actor, begins, given, gives, moved, next, settled}
 use Rattle.step_machine.specs.Calls.{giving_up, giving_up_at}
-use Rattle.step_machine.specs.Views.{seeks, seekers, unrecorded, is_unrecorded, Memory, first_memory}
+use Rattle.step_machine.specs.Views.{seeks, seekers, unrecorded, is_unrecorded}
 
 -- giving up, for an actor before a line
 pub giving_up-at : (w : World) (me : ℕ) (a : Actor) (l : Line) → actor_of w me ≡ Some a → a.line ≡ Some l → giving_up w (actor_of w me) ≡ gives_up (w.steps + 1) a l

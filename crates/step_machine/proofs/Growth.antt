@@ -8,11 +8,11 @@ use Rattle.line_table.specs.declared.lines.Line.{Line}
 use Rattle.line_table.specs.declared.lines.Line.TheVariants.{N1, N2, N3, N4, N5, F1, F2, F3, E2, E3, E5, E6, E7, E9, E13, E17, D2, D3, D4, D5, D10, D12, D13, A1, A2, A3, A4, A5, A6, A7, B1, B2, B3, B4, B5, B6}
 use Rattle.history.specs.declared.operations.Reply.{Reply}
 use Rattle.history.specs.declared.operations.Reply.TheVariants.{Done, Value, Empty, Refused}
-use Rattle.step_machine.specs.declared.actors.Setup.{Setup}
-use Rattle.step_machine.specs.declared.actors.Actor.{Actor}
-use Rattle.step_machine.specs.declared.actors.Outcome.{Outcome}
-use Rattle.step_machine.specs.Memory.{Shared, Found, found, performed, put, same, content, Free, Head, Tail, Tail_lock, Head_lock, Next, Fresh}
-use Rattle.step_machine.specs.Lines.{action, outcome, freed, unlocked, sets_aside, goes, effect, with_node, ends, lets_go, takes, raised, gives_up, busy_or, to_pocket}
+use Rattle.line_steps.specs.declared.actors.Setup.{Setup}
+use Rattle.line_steps.specs.declared.actors.Actor.{Actor}
+use Rattle.line_steps.specs.declared.actors.Outcome.{Outcome}
+use Rattle.line_steps.specs.Memory.{Shared, Found, found, performed, put, same, content, Free, Head, Tail, Tail_lock, Head_lock, Next, Fresh}
+use Rattle.line_steps.specs.Lines.{action, outcome, freed, unlocked, sets_aside, goes, effect, with_node, ends, lets_go, takes, raised, gives_up, busy_or, to_pocket}
 use Rattle.step_machine.specs.Views.{seeks}
 
 -- the actor of an outcome looks for a node only where the line before did, and the node set aside is this one

@@ -4,14 +4,16 @@ use Rattle.std.proofs.lemmas.List.Elements.{All-set, All-replicate}
 use Rattle.std.specs.List.{All}
 use Rattle.line_table.specs.declared.lines.Line.{Line}
 use Rattle.history.specs.declared.operations.Op.{Op}
-use Rattle.step_machine.specs.declared.actors.Setup.{Setup}
-use Rattle.step_machine.specs.declared.actors.Actor.{Actor}
-use Rattle.step_machine.specs.declared.actors.Outcome.{Outcome}
+use Rattle.line_steps.specs.declared.actors.Setup.{Setup}
+use Rattle.line_steps.specs.declared.actors.Actor.{Actor}
+use Rattle.line_steps.specs.declared.actors.Outcome.{Outcome}
+use Rattle.line_steps.specs.Memory.{Shared, found, performed}
+use Rattle.line_steps.specs.Lines.{action, outcome, gives_up}
+use Rattle.line_steps.specs.Rooms.{first_words}
+use Rattle.line_steps.specs.Calling.{is_call, begun}
 use Rattle.step_machine.specs.declared.actors.Move.{Move}
 use Rattle.step_machine.specs.declared.actors.Move.TheVariants.{Begin, Step, Give}
-use Rattle.step_machine.specs.Memory.{Shared, found, performed}
-use Rattle.step_machine.specs.Lines.{action, outcome, gives_up}
-use Rattle.step_machine.specs.Machine.{World, idle, first_words, opening, actor_of, is_call, begun, rested, with_actor, settled, begins, steps, given, gives, may_rest, rests, moved, mover, rest_of, AnyMove, made, Rest, next_any, run, IsReached}
+use Rattle.step_machine.specs.Machine.{World, idle, opening, actor_of, rested, with_actor, settled, begins, steps, given, gives, may_rest, rests, moved, mover, rest_of, AnyMove, made, Rest, next_any, run, IsReached}
 use Rattle.step_machine.proofs.Reached.{if_some, some_of, actor_of-All, setup-next_any, run_on_if, made_reached, opening_made, reached_next}
 
 -- a fact of the shared words and one of each actor are kept by all that an actor does, in worlds of which J is known

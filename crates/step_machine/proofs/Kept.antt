@@ -9,11 +9,11 @@ use Rattle.line_table.specs.declared.lines.Line.TheVariants.{N1, N2, N3, N4, N5,
 use Rattle.history.specs.declared.operations.Reply.{Reply}
 use Rattle.history.specs.declared.operations.Reply.TheVariants.{Done, Value, Empty, Refused}
 use Rattle.history.specs.declared.operations.Taken.{Taken}
-use Rattle.step_machine.specs.declared.actors.Setup.{Setup}
-use Rattle.step_machine.specs.declared.actors.Actor.{Actor}
-use Rattle.step_machine.specs.declared.actors.Outcome.{Outcome}
-use Rattle.step_machine.specs.Memory.{word, Found}
-use Rattle.step_machine.specs.Lines.{action, outcome, freed, unlocked, sets_aside, goes, ends, effect, lets_go, to_pocket, with_node, takes, busy_or, gives_up}
+use Rattle.line_steps.specs.declared.actors.Setup.{Setup}
+use Rattle.line_steps.specs.declared.actors.Actor.{Actor}
+use Rattle.line_steps.specs.declared.actors.Outcome.{Outcome}
+use Rattle.line_steps.specs.Memory.{word, Found}
+use Rattle.line_steps.specs.Lines.{action, outcome, freed, unlocked, sets_aside, goes, ends, effect, lets_go, to_pocket, with_node, takes, busy_or, gives_up}
 use Rattle.step_machine.specs.Range.{RefInRange, ValueInRange, HeldInRange, RegistersInRange, LineInRange}
 use Rattle.step_machine.proofs.Range.{ContentInRange}
 

@@ -15,9 +15,9 @@ use Rattle.history.specs.declared.operations.Stamped.{Stamped}
 use Rattle.history.specs.Queue.{Queue, empty, given, front_of}
 use Rattle.history.specs.Entries.{Plays}
 use Rattle.history.specs.History.{number_of, rising, answer, Gets, Replays, replayed}
-use Rattle.step_machine.specs.declared.actors.Actor.{Actor}
-use Rattle.step_machine.specs.declared.actors.Outcome.{Outcome}
-use Rattle.step_machine.specs.Memory.{Shared, node_at}
+use Rattle.line_steps.specs.declared.actors.Actor.{Actor}
+use Rattle.line_steps.specs.declared.actors.Outcome.{Outcome}
+use Rattle.line_steps.specs.Memory.{Shared, node_at}
 use Rattle.step_machine.specs.Machine.{World, actor_of, told, settled}
 use Rattle.step_machine.specs.Places.{one_if, times}
 use Rattle.step_machine.specs.Chains.{values_of, queue_values}

@@ -18,13 +18,14 @@ use Rattle.history.specs.Entries.{Plays}
 use Rattle.step_machine.specs.Chains.{queue_values}
 use Rattle.step_machine.specs.Entries.{entry_of}
 use Rattle.history.specs.History.{rising, Replays, replayed}
-use Rattle.step_machine.specs.declared.actors.Setup.{Setup}
-use Rattle.step_machine.specs.declared.actors.Actor.{Actor}
-use Rattle.step_machine.specs.declared.actors.Held.{Held}
-use Rattle.step_machine.specs.declared.actors.Outcome.{Outcome}
-use Rattle.step_machine.specs.Memory.{Shared, Found}
-use Rattle.step_machine.specs.Lines.{action, outcome, goes, ends, effect, lets_go, to_pocket, with_node, freed, unlocked, busy_or, gives_up}
-use Rattle.step_machine.specs.Machine.{World, actor_of, opening, new_operation, told, recorded, entry_or, from_pocket, begun, settled, with_actor, run, IsReached}
+use Rattle.line_steps.specs.declared.actors.Setup.{Setup}
+use Rattle.line_steps.specs.declared.actors.Actor.{Actor}
+use Rattle.line_steps.specs.declared.actors.Held.{Held}
+use Rattle.line_steps.specs.declared.actors.Outcome.{Outcome}
+use Rattle.line_steps.specs.Memory.{Shared, Found}
+use Rattle.line_steps.specs.Lines.{action, outcome, goes, ends, effect, lets_go, to_pocket, with_node, freed, unlocked, busy_or, gives_up}
+use Rattle.line_steps.specs.Calling.{from_pocket, begun}
+use Rattle.step_machine.specs.Machine.{World, actor_of, opening, new_operation, told, recorded, entry_or, settled, with_actor, run, IsReached}
 use Rattle.step_machine.specs.Promises.{due_of, promised_reply}
 use Rattle.step_machine.specs.Stamps.{makers}
 use Rattle.step_machine.proofs.StampsLists.{same_or_not, slice_get-set_same, slice_get-set_other, slice_get-append_end, put_end}

@@ -4,12 +4,15 @@ use Rattle.line_table.specs.declared.lines.Line.{Line}
 use Rattle.line_table.specs.declared.lines.Line.TheVariants.{N1}
 use Rattle.history.specs.declared.operations.Op.{Op}
 use Rattle.history.specs.declared.operations.Stamped.{Stamped}
-use Rattle.step_machine.specs.declared.actors.Setup.{Setup}
-use Rattle.step_machine.specs.declared.actors.Actor.{Actor}
-use Rattle.step_machine.specs.declared.actors.Outcome.{Outcome}
-use Rattle.step_machine.specs.Lines.{gives_up}
-use Rattle.step_machine.specs.Machine.{World, actor_of, begun, recorded, IsMade}
-use Rattle.step_machine.specs.Views.{seeks, unrecorded, HasNodes, HasEntry, IsReady, room_after}
+use Rattle.line_steps.specs.declared.actors.Setup.{Setup}
+use Rattle.line_steps.specs.declared.actors.Actor.{Actor}
+use Rattle.line_steps.specs.declared.actors.Outcome.{Outcome}
+use Rattle.line_steps.specs.Lines.{gives_up}
+use Rattle.line_steps.specs.Calling.{begun}
+use Rattle.line_steps.specs.Ready.{IsReady}
+use Rattle.line_steps.specs.Rooms.{room_after}
+use Rattle.step_machine.specs.Machine.{World, actor_of, recorded, IsMade}
+use Rattle.step_machine.specs.Views.{seeks, unrecorded, HasNodes, HasEntry}
 use Rattle.step_machine.specs.Range.{WorldInRange, ActorInRange}
 use Rattle.step_machine.proofs.Giving.{begun_looks}
 use Rattle.step_machine.proofs.Growth.{Settles, given_settles}

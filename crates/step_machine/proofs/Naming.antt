@@ -7,12 +7,12 @@ use Rattle.line_table.specs.declared.lines.Line.{Line}
 use Rattle.line_table.specs.declared.lines.Line.TheVariants.{N3, F2, E2, E3, E6, E9, D4, D5, D12, A1, A2, A5, B3, B4}
 use Rattle.line_table.specs.declared.lines.Section.TheVariants.{Dequeue}
 use Rattle.line_table.specs.Sections.{section_of}
-use Rattle.step_machine.specs.declared.actors.Setup.{Setup}
-use Rattle.step_machine.specs.declared.actors.Actor.{Actor}
-use Rattle.step_machine.specs.declared.actors.Outcome.{Outcome}
-use Rattle.step_machine.specs.Memory.{Shared, word, found}
+use Rattle.line_steps.specs.declared.actors.Setup.{Setup}
+use Rattle.line_steps.specs.declared.actors.Actor.{Actor}
+use Rattle.line_steps.specs.declared.actors.Outcome.{Outcome}
+use Rattle.line_steps.specs.Memory.{Shared, word, found}
+use Rattle.line_steps.specs.Lines.{action, outcome, gives_up}
 use Rattle.step_machine.specs.Words.{IsWord}
-use Rattle.step_machine.specs.Lines.{action, outcome, gives_up}
 use Rattle.step_machine.specs.Machine.{World, actor_of, IsReached}
 use Rattle.step_machine.specs.Range.{SharedInRange, RegistersInRange, ActorInRange, WorldInRange}
 use Rattle.step_machine.specs.Standing.{IsRunBy, HoldsNodes, Stands, ActorStands, EachNamesAWord}

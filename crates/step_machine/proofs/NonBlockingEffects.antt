@@ -4,14 +4,14 @@ use Rattle.std.proofs.lemmas.Bool.{true≢false}
 use Rattle.counted_ref.specs.Ref.{Ref}
 use Rattle.history.specs.declared.operations.Op.TheVariants.{Deq}
 use Rattle.history.specs.declared.operations.Reply.TheVariants.{Value}
-use Rattle.step_machine.specs.declared.actors.Setup.{Setup}
-use Rattle.step_machine.specs.declared.actors.Actor.{Actor}
-use Rattle.step_machine.specs.declared.actors.Node.{Node}
-use Rattle.step_machine.specs.declared.actors.Outcome.{Outcome}
-use Rattle.step_machine.specs.Memory.{Shared, node_at, put, Fresh, Free, Head, Tail, Next}
+use Rattle.line_steps.specs.declared.actors.Setup.{Setup}
+use Rattle.line_steps.specs.declared.actors.Actor.{Actor}
+use Rattle.line_steps.specs.declared.actors.Node.{Node}
+use Rattle.line_steps.specs.declared.actors.Outcome.{Outcome}
+use Rattle.line_steps.specs.Memory.{Shared, node_at, put, Fresh, Free, Head, Tail, Next}
+use Rattle.line_steps.specs.Lines.{raised}
 use Rattle.step_machine.specs.Places.{one_if, times}
 use Rattle.step_machine.specs.Chains.{last_node}
-use Rattle.step_machine.specs.Lines.{raised}
 use Rattle.step_machine.specs.Promises.{earned, promised_reply}
 use Rattle.step_machine.specs.Lag.{TailLags}
 use Rattle.step_machine.proofs.Chains.{last_linked, last_times, last_within, second_leads}

@@ -3,10 +3,10 @@ use Rattle.std.proofs.Common.{◌≡◌, ◌≢◌, ℕ, ◌≤◌, ◌<◌, tru
 use Rattle.counted_ref.specs.Ref.{Ref, ref}
 use Rattle.line_table.specs.declared.lines.Line.{Line}
 use Rattle.line_table.specs.declared.lines.Line.TheVariants.{N1, N3, N4, F3, E3, E5, E6, E7, E9, E13, E17, D3, D4, D5, D10, D12, D13}
-use Rattle.step_machine.specs.declared.actors.Actor.{Actor}
-use Rattle.step_machine.specs.declared.actors.Held.{Held}
-use Rattle.step_machine.specs.declared.actors.Node.{Node}
-use Rattle.step_machine.specs.Memory.{Shared, node_at}
+use Rattle.line_steps.specs.declared.actors.Actor.{Actor}
+use Rattle.line_steps.specs.declared.actors.Held.{Held}
+use Rattle.line_steps.specs.declared.actors.Node.{Node}
+use Rattle.line_steps.specs.Memory.{Shared, node_at}
 use Rattle.step_machine.specs.Places.{in_hand, in_pocket, one_if}
 use Rattle.step_machine.specs.Standing.{HoldsNodes}
 use Rattle.step_machine.proofs.Chains.{one_if_same}

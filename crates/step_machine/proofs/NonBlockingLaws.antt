@@ -16,10 +16,10 @@ use Rattle.history.specs.declared.refusals.WornWord.TheVariants.{Free as OfFree,
 use Rattle.history.specs.declared.operations.Reply.{Reply}
 use Rattle.history.specs.declared.operations.Reply.TheVariants.{Done, Value, Empty, Refused}
 use Rattle.history.specs.declared.operations.Stamped.{Stamped}
-use Rattle.step_machine.specs.declared.actors.Actor.{Actor}
-use Rattle.step_machine.specs.declared.actors.Outcome.{Outcome}
-use Rattle.step_machine.specs.Memory.{Shared, found, performed, Next}
-use Rattle.step_machine.specs.Lines.{action, outcome, goes, lets_go, to_pocket, freed, ends, effect, busy_or, gives_up}
+use Rattle.line_steps.specs.declared.actors.Actor.{Actor}
+use Rattle.line_steps.specs.declared.actors.Outcome.{Outcome}
+use Rattle.line_steps.specs.Memory.{Shared, found, performed, Next}
+use Rattle.line_steps.specs.Lines.{action, outcome, goes, lets_go, to_pocket, freed, ends, effect, busy_or, gives_up}
 use Rattle.step_machine.specs.Machine.{World, actor_of, settled, recorded, told, new_operation, IsReached}
 use Rattle.step_machine.specs.Range.{RegistersInRange, ActorInRange, WorldInRange}
 use Rattle.step_machine.specs.Standing.{IsRunBy, HoldsNodes, Stands, EachNamesAWord}

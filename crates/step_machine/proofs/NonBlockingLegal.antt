@@ -4,11 +4,12 @@ use Rattle.std.proofs.lemmas.Option.{none-some}
 use Rattle.line_table.specs.declared.lines.Kind.TheVariants.{NonBlocking}
 use Rattle.line_table.specs.declared.lines.Line.{Line}
 use Rattle.history.specs.History.{IsLegal}
-use Rattle.step_machine.specs.declared.actors.Actor.{Actor}
-use Rattle.step_machine.specs.declared.actors.Outcome.{Outcome}
-use Rattle.step_machine.specs.Memory.{Shared, found, performed}
-use Rattle.step_machine.specs.Lines.{action, outcome, gives_up}
-use Rattle.step_machine.specs.Machine.{World, actor_of, begun, rested, settled, stepped, IsReached}
+use Rattle.line_steps.specs.declared.actors.Actor.{Actor}
+use Rattle.line_steps.specs.declared.actors.Outcome.{Outcome}
+use Rattle.line_steps.specs.Memory.{Shared, found, performed}
+use Rattle.line_steps.specs.Lines.{action, outcome, gives_up}
+use Rattle.line_steps.specs.Calling.{begun}
+use Rattle.step_machine.specs.Machine.{World, actor_of, rested, settled, stepped, IsReached}
 use Rattle.step_machine.specs.Chains.{queue_values}
 use Rattle.step_machine.specs.Stamps.{makers}
 use Rattle.step_machine.specs.TwoLock.{ReplaysToItsValues, CountsValuesTaken}

@@ -15,15 +15,15 @@ use Rattle.history.specs.declared.refusals.Refusal.{Refusal}
 use Rattle.history.specs.declared.refusals.Refusal.TheVariants.{NoNode, WornOut, Busy}
 use Rattle.history.specs.declared.refusals.WornWord.TheVariants.{Free as OfFree, Next as OfNext, Tail as OfTail, Head as OfHead}
 use Rattle.history.specs.History.{leaves}
+use Rattle.line_steps.specs.declared.actors.Setup.{Setup}
+use Rattle.line_steps.specs.declared.actors.Actor.{Actor}
+use Rattle.line_steps.specs.declared.actors.Node.{Node}
+use Rattle.line_steps.specs.declared.actors.Outcome.{Outcome}
+use Rattle.line_steps.specs.Memory.{Shared, node_at, put, performed, found, Fresh, Free, Head, Tail, Next}
+use Rattle.line_steps.specs.Lines.{action, outcome, raised, goes, ends, effect, freed, sets_aside, takes, lets_go, to_pocket, with_node, busy_or, gives_up}
 use Rattle.step_machine.specs.Promises.{earned, promised_reply}
-use Rattle.step_machine.specs.declared.actors.Setup.{Setup}
-use Rattle.step_machine.specs.declared.actors.Actor.{Actor}
-use Rattle.step_machine.specs.declared.actors.Node.{Node}
-use Rattle.step_machine.specs.declared.actors.Outcome.{Outcome}
-use Rattle.step_machine.specs.Memory.{Shared, node_at, put, performed, found, Fresh, Free, Head, Tail, Next}
 use Rattle.step_machine.specs.Places.{one_if}
 use Rattle.step_machine.specs.Chains.{last_node}
-use Rattle.step_machine.specs.Lines.{action, outcome, raised, goes, ends, effect, freed, sets_aside, takes, lets_go, to_pocket, with_node, busy_or, gives_up}
 use Rattle.step_machine.specs.Standing.{IsRunBy, HoldsNodes}
 use Rattle.step_machine.proofs.Chains.{node_in, chain_none}
 use Rattle.step_machine.proofs.Counting.{holds, asides, holds_hand, holds_none, holds_own}

@@ -2,8 +2,8 @@
 use Rattle.std.proofs.Common.{◌≡◌, ◌≢◌, ℕ, zero, suc, ◌+◌, ◌*◌, ◌-◌, ◌≤◌, ◌<◌, Bool, true, false, nat_eq, nat_le, if◌then◌else◌, List, [], ◌∷◌, length, refl, sym, ap, ◌∙◌, subst, arith, ◌⊎◌, inl, inr}
 use Rattle.std.specs.Prelude.{Contains}
 use Rattle.std.proofs.lemmas.Bool.{leb-true, leb-false}
+use Rattle.line_steps.specs.declared.actors.Node.{Node}
 use Rattle.step_machine.specs.declared.places.Place.TheVariants.{Untouched, Queue, Free, Held, SetAside}
-use Rattle.step_machine.specs.declared.actors.Node.{Node}
 use Rattle.step_machine.specs.declared.places.Place.{Place}
 use Rattle.step_machine.specs.Machine.{World, IsMade}
 use Rattle.step_machine.specs.Places.{IsChain, one_if, times, held, set_aside, IsQueued, IsFree, Places}

@@ -13,15 +13,17 @@ use Rattle.line_table.specs.declared.lines.Line.{Line}
 use Rattle.line_table.specs.declared.lines.Line.TheVariants.{N1, N5, F1, E2, A1}
 use Rattle.history.specs.declared.operations.Op.{Op}
 use Rattle.history.specs.declared.operations.Op.TheVariants.{Enq, Deq}
-use Rattle.step_machine.specs.declared.actors.Setup.{Setup}
-use Rattle.step_machine.specs.declared.actors.Actor.{Actor}
-use Rattle.step_machine.specs.declared.actors.Held.{Held}
-use Rattle.step_machine.specs.declared.actors.Outcome.{Outcome}
+use Rattle.line_steps.specs.declared.actors.Setup.{Setup}
+use Rattle.line_steps.specs.declared.actors.Actor.{Actor}
+use Rattle.line_steps.specs.declared.actors.Held.{Held}
+use Rattle.line_steps.specs.declared.actors.Outcome.{Outcome}
+use Rattle.line_steps.specs.Memory.{blank, Shared, word, found, performed}
+use Rattle.line_steps.specs.Lines.{action, dequeues, gives_up}
+use Rattle.line_steps.specs.Calling.{is_call, from_pocket, begun}
+use Rattle.line_steps.specs.Rooms.{aside_after}
 use Rattle.step_machine.specs.declared.actors.Move.{Move}
 use Rattle.step_machine.specs.declared.actors.Move.TheVariants.{Begin, Step, Give}
-use Rattle.step_machine.specs.Memory.{blank, Shared, word, found, performed}
-use Rattle.step_machine.specs.Lines.{action, dequeues, gives_up}
-use Rattle.step_machine.specs.Machine.{World, idle, opening, actor_of, is_call, from_pocket, begun, rested, aside_after, with_actor, settled, stepped, begins, steps, given, gives, may_rest, rests, moved, mover, next, rest_of, AnyMove, made, Rest, next_any, run_on, run, IsSized, IsReached, IsMade}
+use Rattle.step_machine.specs.Machine.{World, idle, opening, actor_of, rested, with_actor, settled, stepped, begins, steps, given, gives, may_rest, rests, moved, mover, next, rest_of, AnyMove, made, Rest, next_any, run_on, run, IsSized, IsReached, IsMade}
 use Rattle.step_machine.specs.Range.{RefInRange, NodeInRange, SharedInRange, HeldInRange, RegistersInRange, LineInRange, ActorInRange, WorldInRange}
 use Rattle.step_machine.proofs.Range.{content_weakens, registers_weaken, pocket_weakens, actor_weakens, writes, found_in_range, Accessed, performed_in_range}
 use Rattle.step_machine.proofs.Kept.{Kept, Wins, kept, with_held, given_up_kept}

@@ -4,13 +4,14 @@ use Rattle.std.proofs.Common.{◌≡◌, ℕ, ◌+◌, Bool, true, false, if◌t
 use Rattle.line_table.specs.declared.lines.Kind.{Kind}
 use Rattle.line_table.specs.declared.lines.Line.{Line}
 use Rattle.history.specs.declared.operations.Op.{Op}
-use Rattle.step_machine.specs.declared.actors.Setup.{Setup}
-use Rattle.step_machine.specs.declared.actors.Actor.{Actor}
-use Rattle.step_machine.specs.declared.actors.Outcome.{Outcome}
+use Rattle.line_steps.specs.declared.actors.Setup.{Setup}
+use Rattle.line_steps.specs.declared.actors.Actor.{Actor}
+use Rattle.line_steps.specs.declared.actors.Outcome.{Outcome}
+use Rattle.line_steps.specs.Lines.{gives_up}
+use Rattle.line_steps.specs.Calling.{is_call, begun}
 use Rattle.step_machine.specs.declared.actors.Move.{Move}
 use Rattle.step_machine.specs.declared.actors.Move.TheVariants.{Begin, Step, Give}
-use Rattle.step_machine.specs.Lines.{gives_up}
-use Rattle.step_machine.specs.Machine.{World, opening, actor_of, is_call, begun, rested, with_actor, settled, stepped, begins, steps, given, gives, may_rest, rests, moved, mover, rest_of, AnyMove, made, Rest, next_any, run, IsSized, IsReached}
+use Rattle.step_machine.specs.Machine.{World, opening, actor_of, rested, with_actor, settled, stepped, begins, steps, given, gives, may_rest, rests, moved, mover, rest_of, AnyMove, made, Rest, next_any, run, IsSized, IsReached}
 use Rattle.step_machine.proofs.Reached.{if_some, some_of, setup-next_any, run_on_if, reached_next}
 
 -- each move of an actor keeps a fact of the worlds of a queue

@@ -7,9 +7,10 @@ use Rattle.std.specs.List.{sum_by}
 use Rattle.line_table.specs.declared.lines.Line.{Line}
 use Rattle.line_table.specs.declared.lines.Line.TheVariants.{N1, N2, N3, N4, N5, F1, F2, F3, E2, E3, E5, E6, E7, E9, E13, E17, D2, D3, D4, D5, D10, D12, D13, A1, A2, A3, A4, A5, A6, A7, B1, B2, B3, B4, B5, B6}
 use Rattle.history.specs.declared.operations.Stamped.{Stamped}
-use Rattle.step_machine.specs.declared.actors.Actor.{Actor}
+use Rattle.line_steps.specs.declared.actors.Actor.{Actor}
+use Rattle.line_steps.specs.Rooms.{room_after}
 use Rattle.step_machine.specs.Machine.{recorded, World, actor_of}
-use Rattle.step_machine.specs.Views.{seeks, seekers, is_unrecorded, unrecorded, HasNodes, HasEntry, room_after}
+use Rattle.step_machine.specs.Views.{seeks, seekers, is_unrecorded, unrecorded, HasNodes, HasEntry}
 
 -- an element that a list has at an index
 pub got : {X : Type 0} (xs : List X) (i : ℕ) (x : X) → slice_get xs i ≡ Some x → (i < length xs) × ((d : X) → get_or xs i d ≡ x)

@@ -10,13 +10,14 @@ use Rattle.history.specs.declared.operations.Op.{Op}
 use Rattle.history.specs.declared.operations.Op.TheVariants.{Enq, Deq}
 use Rattle.history.specs.declared.operations.Reply.{Reply}
 use Rattle.history.specs.declared.operations.Reply.TheVariants.{Done, Value, Empty, Refused}
-use Rattle.step_machine.specs.declared.actors.Setup.{Setup}
-use Rattle.step_machine.specs.declared.actors.Actor.{Actor}
-use Rattle.step_machine.specs.declared.actors.Held.{Held}
-use Rattle.step_machine.specs.declared.actors.Outcome.{Outcome}
-use Rattle.step_machine.specs.Memory.{Shared, Found, found}
-use Rattle.step_machine.specs.Lines.{action, outcome, freed, unlocked, sets_aside, goes, ends, effect, lets_go, to_pocket, with_node, takes, busy_or, gives_up}
-use Rattle.step_machine.specs.Machine.{World, from_pocket, begun, IsReached}
+use Rattle.line_steps.specs.declared.actors.Setup.{Setup}
+use Rattle.line_steps.specs.declared.actors.Actor.{Actor}
+use Rattle.line_steps.specs.declared.actors.Held.{Held}
+use Rattle.line_steps.specs.declared.actors.Outcome.{Outcome}
+use Rattle.line_steps.specs.Memory.{Shared, Found, found}
+use Rattle.line_steps.specs.Lines.{action, outcome, freed, unlocked, sets_aside, goes, ends, effect, lets_go, to_pocket, with_node, takes, busy_or, gives_up}
+use Rattle.line_steps.specs.Calling.{from_pocket, begun}
+use Rattle.step_machine.specs.Machine.{World, IsReached}
 use Rattle.step_machine.specs.Standing.{IsRunBy, LineIsRunBy, EachRunsItsQueue}
 use Rattle.step_machine.proofs.Reached.{actor_of-All}
 use Rattle.step_machine.proofs.Keeping.{Keeps, Has, reached_has}

@@ -6,9 +6,9 @@ use Rattle.std.specs.Prelude.{slice_get, IsSome, IsSomeAnd}
 use Rattle.line_table.specs.declared.lines.Line.{Line}
 use Rattle.history.specs.declared.operations.Reply.{Reply}
 use Rattle.history.specs.declared.operations.Stamped.{Stamped}
-use Rattle.step_machine.specs.declared.actors.Actor.{Actor}
-use Rattle.step_machine.specs.declared.actors.Outcome.{Outcome}
-use Rattle.step_machine.specs.Memory.{Shared}
+use Rattle.line_steps.specs.declared.actors.Actor.{Actor}
+use Rattle.line_steps.specs.declared.actors.Outcome.{Outcome}
+use Rattle.line_steps.specs.Memory.{Shared}
 use Rattle.step_machine.specs.Machine.{World, actor_of, new_operation, last_of, first_settled, told, recorded, entry_or, settled}
 use Rattle.step_machine.specs.Stamps.{IsBy, IsStamped, HasNoEffect, EndedBefore}
 use Rattle.step_machine.proofs.StampsLists.{PutAt, put_set, put_end, put_cases, by_more, by_next, by_within}

@@ -11,15 +11,16 @@ use Rattle.history.specs.declared.operations.Op.{Op}
 use Rattle.history.specs.declared.operations.Op.TheVariants.{Enq, Deq}
 use Rattle.history.specs.declared.operations.Reply.{Reply}
 use Rattle.history.specs.declared.operations.Stamped.{Stamped}
-use Rattle.step_machine.specs.declared.actors.Setup.{Setup}
-use Rattle.step_machine.specs.declared.actors.Held.{Held}
-use Rattle.step_machine.specs.declared.actors.Actor.{Actor}
-use Rattle.step_machine.specs.declared.actors.Outcome.{Outcome}
+use Rattle.line_steps.specs.declared.actors.Setup.{Setup}
+use Rattle.line_steps.specs.declared.actors.Held.{Held}
+use Rattle.line_steps.specs.declared.actors.Actor.{Actor}
+use Rattle.line_steps.specs.declared.actors.Outcome.{Outcome}
+use Rattle.line_steps.specs.Memory.{found}
+use Rattle.line_steps.specs.Lines.{action, gives_up}
+use Rattle.line_steps.specs.Calling.{is_call, from_pocket, begun}
 use Rattle.step_machine.specs.declared.actors.Move.{Move}
 use Rattle.step_machine.specs.declared.actors.Move.TheVariants.{Begin, Step, Give}
-use Rattle.step_machine.specs.Memory.{found}
-use Rattle.step_machine.specs.Lines.{action, gives_up}
-use Rattle.step_machine.specs.Machine.{World, idle, opening, actor_of, is_call, from_pocket, begun, rested, with_actor, begins, steps, given, gives, rests, moved, mover, rest_of, AnyMove, made, Rest, next_any, run_on, run}
+use Rattle.step_machine.specs.Machine.{World, idle, opening, actor_of, rested, with_actor, begins, steps, given, gives, rests, moved, mover, rest_of, AnyMove, made, Rest, next_any, run_on, run}
 use Rattle.step_machine.specs.Stamps.{makers, HasNoEffect}
 use Rattle.step_machine.proofs.StampsLines.{Stands, Turns, turned, given_turned}
 use Rattle.step_machine.proofs.StampsKept.{Over, Idle, Knows, Kept, actor_stands, actor_cases, settled_kept}

@@ -11,13 +11,14 @@ use Rattle.history.specs.declared.operations.Op.{Op}
 use Rattle.history.specs.declared.operations.Op.TheVariants.{Enq, Deq}
 use Rattle.history.specs.declared.operations.Reply.{Reply}
 use Rattle.history.specs.declared.operations.Reply.TheVariants.{Done, Value, Empty, Refused}
-use Rattle.step_machine.specs.declared.actors.Setup.{Setup}
-use Rattle.step_machine.specs.declared.actors.Actor.{Actor}
-use Rattle.step_machine.specs.declared.actors.Held.{Held}
-use Rattle.step_machine.specs.declared.actors.Outcome.{Outcome}
-use Rattle.step_machine.specs.Memory.{Shared, Word, Content, content, Action, word, Found, performed, same, load, store, clear, exchange, Fresh, Free, Head, Tail, Tail_lock, Head_lock, Next, Value_of, put}
-use Rattle.step_machine.specs.Lines.{action, raised, outcome, freed, unlocked, sets_aside, goes, ends, effect, lets_go, to_pocket, with_node, takes, busy_or, gives_up}
-use Rattle.step_machine.specs.Machine.{from_pocket, begun, rested, may_rest}
+use Rattle.line_steps.specs.declared.actors.Setup.{Setup}
+use Rattle.line_steps.specs.declared.actors.Actor.{Actor}
+use Rattle.line_steps.specs.declared.actors.Held.{Held}
+use Rattle.line_steps.specs.declared.actors.Outcome.{Outcome}
+use Rattle.line_steps.specs.Memory.{Shared, Word, Content, content, Action, word, Found, performed, same, load, store, clear, exchange, Fresh, Free, Head, Tail, Tail_lock, Head_lock, Next, Value_of, put}
+use Rattle.line_steps.specs.Lines.{action, raised, outcome, freed, unlocked, sets_aside, goes, ends, effect, lets_go, to_pocket, with_node, takes, busy_or, gives_up}
+use Rattle.line_steps.specs.Calling.{from_pocket, begun}
+use Rattle.step_machine.specs.Machine.{rested, may_rest}
 use Rattle.step_machine.specs.Standing.{IsRunBy, HasNodeToFree, HoldsNodes, Stands, ActorStands}
 
 -- Head and Tail hold nodes

@@ -6,8 +6,8 @@ use Rattle.std.specs.List.{All}
 use Rattle.counted_ref.specs.Ref.{IsRef, count_mask}
 use Rattle.counted_ref.proofs.Words.{refs_apart, same_word, cleared_word}
 use Rattle.history.specs.declared.operations.Taken.{Taken}
-use Rattle.step_machine.specs.declared.actors.Node.{Node}
-use Rattle.step_machine.specs.Memory.{blank, Shared, Word, Fresh, Free, Head, Tail, Tail_lock, Head_lock, Next, Value_of, Content, content, put, same, Action, load, store, clear, exchange, word, found}
+use Rattle.line_steps.specs.declared.actors.Node.{Node}
+use Rattle.line_steps.specs.Memory.{blank, Shared, Word, Fresh, Free, Head, Tail, Tail_lock, Head_lock, Next, Value_of, Content, content, put, same, Action, load, store, clear, exchange, word, found}
 use Rattle.step_machine.specs.Words.{value_word, encoded, node_words, words_of, index, IsWord}
 use Rattle.step_machine.specs.Tables.{place_of, place_step, ValueFits, ContentFits, SharedFits, ActionFits, IsOneStep}
 use Rattle.step_machine.proofs.Words.{reading, writing}

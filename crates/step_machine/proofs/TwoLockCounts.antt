@@ -12,14 +12,15 @@ use Rattle.history.specs.declared.operations.Op.{Op}
 use Rattle.history.specs.declared.operations.Op.TheVariants.{Enq, Deq}
 use Rattle.history.specs.declared.operations.Reply.{Reply}
 use Rattle.history.specs.declared.operations.Reply.TheVariants.{Done, Value, Empty, Refused}
-use Rattle.step_machine.specs.declared.actors.Setup.{Setup}
-use Rattle.step_machine.specs.declared.actors.Actor.{Actor}
-use Rattle.step_machine.specs.declared.actors.Held.{Held}
-use Rattle.step_machine.specs.declared.actors.Node.{Node}
-use Rattle.step_machine.specs.declared.actors.Outcome.{Outcome}
-use Rattle.step_machine.specs.Memory.{blank, Shared, found, performed, node_at}
-use Rattle.step_machine.specs.Lines.{action, outcome, goes, with_node, takes, freed, unlocked, lets_go, to_pocket, busy_or, gives_up}
-use Rattle.step_machine.specs.Machine.{World, opening, actor_of, from_pocket, begun, rested, with_actor, entry_or, settled, IsReached}
+use Rattle.line_steps.specs.declared.actors.Setup.{Setup}
+use Rattle.line_steps.specs.declared.actors.Actor.{Actor}
+use Rattle.line_steps.specs.declared.actors.Held.{Held}
+use Rattle.line_steps.specs.declared.actors.Node.{Node}
+use Rattle.line_steps.specs.declared.actors.Outcome.{Outcome}
+use Rattle.line_steps.specs.Memory.{blank, Shared, found, performed, node_at}
+use Rattle.line_steps.specs.Lines.{action, outcome, goes, with_node, takes, freed, unlocked, lets_go, to_pocket, busy_or, gives_up}
+use Rattle.line_steps.specs.Calling.{from_pocket, begun}
+use Rattle.step_machine.specs.Machine.{World, opening, actor_of, rested, with_actor, entry_or, settled, IsReached}
 use Rattle.step_machine.specs.Standing.{IsRunBy}
 use Rattle.step_machine.specs.TwoLock.{OfTwoLockWorlds, CountsNothing}
 use Rattle.step_machine.proofs.Reached.{some_of}

@@ -12,11 +12,11 @@ use Rattle.line_table.specs.Sections.{section_of}
 use Rattle.history.specs.declared.refusals.Refusal.TheVariants.{NoNode}
 use Rattle.history.specs.declared.operations.Reply.{Reply}
 use Rattle.history.specs.declared.operations.Reply.TheVariants.{Done, Value, Empty, Refused}
-use Rattle.step_machine.specs.declared.actors.Setup.{Setup}
-use Rattle.step_machine.specs.declared.actors.Actor.{Actor}
-use Rattle.step_machine.specs.declared.actors.Outcome.{Outcome}
-use Rattle.step_machine.specs.Memory.{node_at, found}
-use Rattle.step_machine.specs.Lines.{action, outcome, goes, with_node, takes, lets_go, freed, unlocked}
+use Rattle.line_steps.specs.declared.actors.Setup.{Setup}
+use Rattle.line_steps.specs.declared.actors.Actor.{Actor}
+use Rattle.line_steps.specs.declared.actors.Outcome.{Outcome}
+use Rattle.line_steps.specs.Memory.{node_at, found}
+use Rattle.line_steps.specs.Lines.{action, outcome, goes, with_node, takes, lets_go, freed, unlocked}
 use Rattle.step_machine.specs.Machine.{World, idle, actor_of, IsReached}
 use Rattle.step_machine.specs.Range.{RegistersInRange, ActorInRange, WorldInRange}
 use Rattle.step_machine.specs.Standing.{IsRunBy}

@@ -13,12 +13,12 @@ use Rattle.history.specs.declared.refusals.WornWord.TheVariants.{Free as OfFree,
 use Rattle.history.specs.declared.operations.Reply.{Reply}
 use Rattle.history.specs.declared.operations.Reply.TheVariants.{Done, Value, Empty, Refused}
 use Rattle.history.specs.History.{leaves}
-use Rattle.step_machine.specs.declared.actors.Setup.{Setup}
-use Rattle.step_machine.specs.declared.actors.Actor.{Actor}
-use Rattle.step_machine.specs.declared.actors.Node.{Node}
-use Rattle.step_machine.specs.declared.actors.Outcome.{Outcome}
-use Rattle.step_machine.specs.Memory.{Shared, node_at, put, Fresh, Free, Head, Tail, Tail_lock, Head_lock, found, performed}
-use Rattle.step_machine.specs.Lines.{action, outcome, raised, goes, ends, sets_aside, takes, lets_go, to_pocket, with_node, freed, unlocked, busy_or, gives_up}
+use Rattle.line_steps.specs.declared.actors.Setup.{Setup}
+use Rattle.line_steps.specs.declared.actors.Actor.{Actor}
+use Rattle.line_steps.specs.declared.actors.Node.{Node}
+use Rattle.line_steps.specs.declared.actors.Outcome.{Outcome}
+use Rattle.line_steps.specs.Memory.{Shared, node_at, put, Fresh, Free, Head, Tail, Tail_lock, Head_lock, found, performed}
+use Rattle.line_steps.specs.Lines.{action, outcome, raised, goes, ends, sets_aside, takes, lets_go, to_pocket, with_node, freed, unlocked, busy_or, gives_up}
 use Rattle.step_machine.specs.Range.{SharedInRange, RegistersInRange}
 use Rattle.step_machine.specs.Standing.{HoldsNodes, IsRunBy}
 use Rattle.step_machine.specs.Places.{one_if, in_hand, in_pocket}

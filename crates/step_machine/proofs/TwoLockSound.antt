@@ -9,13 +9,14 @@ use Rattle.line_table.specs.declared.lines.Line.TheVariants.{F1, E2, A1}
 use Rattle.line_table.specs.Sections.{section_of}
 use Rattle.history.specs.declared.operations.Op.{Op}
 use Rattle.history.specs.declared.operations.Op.TheVariants.{Enq, Deq}
-use Rattle.step_machine.specs.declared.actors.Setup.{Setup}
-use Rattle.step_machine.specs.declared.actors.Actor.{Actor}
-use Rattle.step_machine.specs.declared.actors.Held.{Held}
-use Rattle.step_machine.specs.declared.actors.Outcome.{Outcome}
-use Rattle.step_machine.specs.Memory.{blank, Shared, node_at, found, performed}
-use Rattle.step_machine.specs.Lines.{action, outcome, gives_up}
-use Rattle.step_machine.specs.Machine.{World, idle, opening, actor_of, is_call, from_pocket, begun, rested, may_rest, with_actor, entry_or, settled, stepped, IsSized, IsReached}
+use Rattle.line_steps.specs.declared.actors.Setup.{Setup}
+use Rattle.line_steps.specs.declared.actors.Actor.{Actor}
+use Rattle.line_steps.specs.declared.actors.Held.{Held}
+use Rattle.line_steps.specs.declared.actors.Outcome.{Outcome}
+use Rattle.line_steps.specs.Memory.{blank, Shared, node_at, found, performed}
+use Rattle.line_steps.specs.Lines.{action, outcome, gives_up}
+use Rattle.line_steps.specs.Calling.{is_call, from_pocket, begun}
+use Rattle.step_machine.specs.Machine.{World, idle, opening, actor_of, rested, may_rest, with_actor, entry_or, settled, stepped, IsSized, IsReached}
 use Rattle.step_machine.specs.Range.{WorldInRange, ActorInRange}
 use Rattle.step_machine.specs.Standing.{IsRunBy, HoldsNodes, Stands, ActorStands}
 use Rattle.step_machine.specs.Places.{one_if, times, in_pocket, held, set_aside}

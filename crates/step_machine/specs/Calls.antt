@@ -5,15 +5,15 @@ use Rattle.line_table.specs.declared.lines.Line.{Line}
 use Rattle.history.specs.declared.operations.Reply.{Reply}
 use Rattle.history.specs.declared.refusals.Refusal.{Refusal}
 use Rattle.history.specs.declared.refusals.Refusal.TheVariants.{NoNode, WornOut, Busy, Memory, BadSize, IdleActor, ActorBusy, NotHere, NoSuchActor, Text, Read, Write, Stranger, Double, Lost, Closed}
-use Rattle.step_machine.specs.declared.actors.Setup.{Setup}
-use Rattle.step_machine.specs.declared.actors.Actor.{Actor}
-use Rattle.step_machine.specs.declared.actors.Outcome.{Outcome}
+use Rattle.line_steps.specs.declared.actors.Setup.{Setup}
+use Rattle.line_steps.specs.declared.actors.Actor.{Actor}
+use Rattle.line_steps.specs.declared.actors.Outcome.{Outcome}
+use Rattle.line_steps.specs.Memory.{found}
+use Rattle.line_steps.specs.Lines.{action, outcome, gives_up}
 use Rattle.step_machine.specs.declared.actors.Move.{Move}
 use Rattle.step_machine.specs.declared.actors.Move.TheVariants.{Begin, Step, Give}
 use Rattle.step_machine.specs.declared.actors.Stepped.{Stepped}
 use Rattle.step_machine.specs.declared.actors.Stepped.TheVariants.{Began, Went, Ended}
-use Rattle.step_machine.specs.Memory.{found}
-use Rattle.step_machine.specs.Lines.{action, outcome, gives_up}
 use Rattle.step_machine.specs.Machine.{World, IsSized, actor_of}
 
 -- some size of a machine is out of its range

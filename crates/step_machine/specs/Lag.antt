@@ -1,6 +1,6 @@
 -- How far Tail is behind in the queue that lets it lag.
 use Rattle.std.specs.Prelude.{◌≡◌, ℕ, ◌+◌, ◌≤◌, List, ◌∷◌, ◌++◌, length}
-use Rattle.step_machine.specs.Memory.{Shared}
+use Rattle.line_steps.specs.Memory.{Shared}
 
 -- Tail names the last node of the queue's chain or the one before it, and its count is Head's and one more for each
 -- node before it

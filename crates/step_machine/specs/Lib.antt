@@ -1,5 +1,3 @@
-pub mod Memory
-pub mod Lines
 pub mod Machine
 pub mod Words
 pub mod Places

@@ -1,21 +1,21 @@
 -- The machine: worlds, their moves, and what a list of moves leads to.
-use Rattle.std.specs.Prelude.{◌≡◌, ℕ, ◌+◌, ◌-◌, ◌^◌, ◌<◌, ◌≤◌, Bool, List, [], ◌∷◌, ◌++◌, length, map, replicate, Option, Some, None, slice_get, slice_index_or, slice_set, nat_eq, nat_lt, if◌then◌else◌, true, false}
-use Rattle.counted_ref.specs.Ref.{ref, null}
-use Rattle.line_table.specs.declared.lines.Kind.{Kind}
+use Rattle.std.specs.Prelude.{◌≡◌, ℕ, ◌+◌, ◌-◌, ◌^◌, ◌<◌, ◌≤◌, Bool, List, [], ◌∷◌, ◌++◌, length, map, replicate, Option, Some, None, slice_get, slice_index_or, slice_set, nat_eq, if◌then◌else◌, true, false}
+use Rattle.counted_ref.specs.Ref.{null}
 use Rattle.line_table.specs.declared.lines.Line.{Line}
 use Rattle.line_table.specs.declared.lines.Line.TheVariants.{N1, N2, N3, N4, N5, F1, F2, F3, E2, E3, E5, E6, E7, E9, E13, E17, D2, D3, D4, D5, D10, D12, D13, A1, A2, A3, A4, A5, A6, A7, B1, B2, B3, B4, B5, B6}
 use Rattle.history.specs.declared.operations.Op.{Op}
-use Rattle.history.specs.declared.operations.Op.TheVariants.{Enq, Deq}
+use Rattle.history.specs.declared.operations.Op.TheVariants.{Deq}
 use Rattle.history.specs.declared.operations.Reply.{Reply}
 use Rattle.history.specs.declared.operations.Stamped.{Stamped}
-use Rattle.step_machine.specs.declared.actors.Setup.{Setup}
-use Rattle.step_machine.specs.declared.actors.Held.{Held}
-use Rattle.step_machine.specs.declared.actors.Actor.{Actor}
-use Rattle.step_machine.specs.declared.actors.Outcome.{Outcome}
+use Rattle.line_steps.specs.declared.actors.Setup.{Setup}
+use Rattle.line_steps.specs.declared.actors.Actor.{Actor}
+use Rattle.line_steps.specs.declared.actors.Outcome.{Outcome}
+use Rattle.line_steps.specs.Memory.{nobody, Shared, found, performed}
+use Rattle.line_steps.specs.Lines.{action, outcome, gives_up, to_pocket}
+use Rattle.line_steps.specs.Rooms.{first_words, aside_after}
+use Rattle.line_steps.specs.Calling.{is_call, begun}
 use Rattle.step_machine.specs.declared.actors.Move.{Move}
 use Rattle.step_machine.specs.declared.actors.Move.TheVariants.{Begin, Step, Give}
-use Rattle.step_machine.specs.Memory.{nobody, blank, Shared, found, performed}
-use Rattle.step_machine.specs.Lines.{action, outcome, gives_up, takes, to_pocket, with_node, dequeues}
 
 -- a world: its setup, how many step numbers were given, the shared words, the actors from 1 on, for each node from 1
 -- on whether it was set aside, and the operations that have a number, by their first one
@@ -48,19 +48,6 @@ idle =
       entry = None;
     }
 
--- the shared words at the start: node 1 is the dummy, and no other node was used
-abbrev pub first_words : ℕ → Shared
-first_words nodes =
-    record {
-      fresh = 1;
-      free = null;
-      head = ref 1 0;
-      tail = ref 1 0;
-      tail_lock = 0;
-      head_lock = 0;
-      nodes = replicate nodes blank;
-    }
-
 -- the world in which nothing happened yet
 abbrev pub opening : Setup → (actors : ℕ) → World
 opening s actors =
@@ -76,24 +63,6 @@ opening s actors =
 -- the actor of a number; none for 0 and above the number of actors
 abbrev pub actor_of : World → ℕ → Option Actor
 actor_of w me = if nat_eq me 0 then None else slice_get w.actors (me - 1)
-
--- whether a call can be made: a body is below 2^48
-abbrev pub is_call : Op → Bool
-is_call (Enq body) = nat_lt body (2 ^ 48)
-is_call Deq = true
-
--- a call with a full pocket starts at a line of its own, with the node and its mark in the hand
-abbrev pub from_pocket : Line → Option Held → Actor → Actor
-from_pocket l None a = a
-from_pocket l (Some held) a = record (takes held.node held.mark a) { line = Some l; pocket = None }
-
--- an actor that begins a call
-abbrev pub begun : Kind → (me : ℕ) → Op → Actor → Actor
-begun kind me (Enq body) a =
-    from_pocket (with_node kind) a.pocket
-    (record a { line = Some N1; op = Enq body; val = record { from = me; body = body }; due = None; entry = None })
-begun kind me Deq a =
-    from_pocket F1 a.pocket (record a { line = Some (dequeues kind); op = Deq; due = None; entry = None })
 
 -- an actor that rests before its node was used: the node goes to the pocket, and the call stays unfinished
 abbrev pub rested : Actor → Actor
@@ -126,11 +95,6 @@ recorded (Some entry) new change ops = slice_set ops entry (change (slice_index_
 abbrev pub entry_or : Option ℕ → ℕ → ℕ
 entry_or None n = n
 entry_or (Some entry) n = entry
-
--- the flags of the nodes set aside, after a step that may set one aside
-abbrev pub aside_after : List Bool → Option ℕ → List Bool
-aside_after aside None = aside
-aside_after aside (Some node) = slice_set aside (node - 1) true
 
 -- a world with another state of one actor
 abbrev pub with_actor : World → (me : ℕ) → Actor → World

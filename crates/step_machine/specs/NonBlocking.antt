@@ -7,9 +7,9 @@ use Rattle.line_table.specs.declared.lines.Line.TheVariants.{D13}
 use Rattle.history.specs.declared.refusals.WornWord.TheVariants.{Next as OfNext, Head as OfHead}
 use Rattle.history.specs.declared.refusals.Refusal.TheVariants.{WornOut}
 use Rattle.history.specs.declared.operations.Reply.TheVariants.{Refused}
-use Rattle.step_machine.specs.declared.actors.Actor.{Actor}
-use Rattle.step_machine.specs.Memory.{Shared, node_at, found}
-use Rattle.step_machine.specs.Lines.{action, outcome}
+use Rattle.line_steps.specs.declared.actors.Actor.{Actor}
+use Rattle.line_steps.specs.Memory.{Shared, node_at, found}
+use Rattle.line_steps.specs.Lines.{action, outcome}
 use Rattle.step_machine.specs.Machine.{World, actor_of, IsReached}
 use Rattle.step_machine.specs.Places.{IsChain}
 use Rattle.step_machine.specs.Lag.{TailLags}

@@ -1,9 +1,9 @@
 -- Where each node is: five sets of nodes, which know nothing of lines.
 use Rattle.std.specs.Prelude.{◌≡◌, ℕ, ◌+◌, ◌-◌, ◌<◌, ◌≤◌, Bool, true, false, nat_eq, if◌then◌else◌, List, [], ◌∷◌, length, Option, Some, None, slice_index_or, Contains}
-use Rattle.step_machine.specs.declared.actors.Actor.{Actor}
-use Rattle.step_machine.specs.declared.actors.Held.{Held}
-use Rattle.step_machine.specs.declared.actors.Node.{Node}
-use Rattle.step_machine.specs.Memory.{blank}
+use Rattle.line_steps.specs.declared.actors.Actor.{Actor}
+use Rattle.line_steps.specs.declared.actors.Held.{Held}
+use Rattle.line_steps.specs.declared.actors.Node.{Node}
+use Rattle.line_steps.specs.Memory.{blank}
 use Rattle.step_machine.specs.Machine.{World}
 
 -- these nodes, each the `next` of the one before, lead from a node number to null

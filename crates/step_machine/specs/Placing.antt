@@ -1,6 +1,6 @@
 -- What a query of a node's place says.
 use Rattle.std.specs.Prelude.{◌≡◌, ℕ, ◌≤◌, Bool, true, false, List, length}
-use Rattle.step_machine.specs.declared.actors.Node.{Node}
+use Rattle.line_steps.specs.declared.actors.Node.{Node}
 use Rattle.step_machine.specs.declared.places.Place.{Place}
 use Rattle.step_machine.specs.declared.places.Place.TheVariants.{Untouched, Queue, Free, Held, SetAside}
 use Rattle.step_machine.specs.Machine.{World}

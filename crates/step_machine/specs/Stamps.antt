@@ -2,7 +2,7 @@
 use Rattle.std.specs.Prelude.{◌≡◌, ℕ, ◌-◌, ◌<◌, ◌≤◌, ◌⊎◌, List, [], ◌∷◌, ◌++◌, map, Some, None, IfSome, IsSomeAnd, slice_get}
 use Rattle.history.specs.declared.operations.Stamped.{Stamped}
 use Rattle.history.specs.History.{IsPlaced}
-use Rattle.step_machine.specs.declared.actors.Setup.{Setup}
+use Rattle.line_steps.specs.declared.actors.Setup.{Setup}
 use Rattle.step_machine.specs.declared.actors.Move.{Move}
 use Rattle.step_machine.specs.declared.actors.Move.TheVariants.{Begin, Step, Give}
 use Rattle.step_machine.specs.Machine.{World, opening, AnyMove, made, Rest, run}

@@ -9,8 +9,8 @@ use Rattle.line_table.specs.declared.lines.Section.TheVariants.{NewNode, Free, E
 use Rattle.line_table.specs.Sections.{section_of}
 use Rattle.history.specs.declared.operations.Reply.{Reply}
 use Rattle.history.specs.declared.operations.Reply.TheVariants.{Done, Value, Empty, Refused}
-use Rattle.step_machine.specs.declared.actors.Actor.{Actor}
-use Rattle.step_machine.specs.Memory.{word}
+use Rattle.line_steps.specs.declared.actors.Actor.{Actor}
+use Rattle.line_steps.specs.Memory.{word}
 use Rattle.step_machine.specs.Words.{IsWord}
 use Rattle.step_machine.specs.Machine.{World, actor_of}
 use Rattle.step_machine.specs.Tables.{IsOneStep, OfEachNextAccess}

@@ -6,11 +6,11 @@ use Rattle.line_table.specs.declared.lines.Line.TheVariants.{N1, N2, N3, N4, N5,
 use Rattle.history.specs.declared.operations.Reply.{Reply}
 use Rattle.history.specs.declared.operations.Reply.TheVariants.{Done, Value, Empty, Refused}
 use Rattle.history.specs.declared.operations.Stamped.{Stamped}
-use Rattle.step_machine.specs.declared.actors.Setup.{Setup}
-use Rattle.step_machine.specs.declared.actors.Actor.{Actor}
+use Rattle.line_steps.specs.declared.actors.Setup.{Setup}
+use Rattle.line_steps.specs.declared.actors.Actor.{Actor}
+use Rattle.line_steps.specs.Memory.{Shared, node_at}
 use Rattle.step_machine.specs.declared.actors.Move.{Move}
 use Rattle.step_machine.specs.declared.actors.Move.TheVariants.{Step}
-use Rattle.step_machine.specs.Memory.{Shared, node_at}
 use Rattle.step_machine.specs.Machine.{World, opening, actor_of, AnyMove, made, run, IsMade}
 
 -- an actor's step at a line has an effect on the queue: at E9 and D13 the word is still what the actor read, so that its

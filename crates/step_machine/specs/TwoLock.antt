@@ -13,9 +13,9 @@ use Rattle.history.specs.declared.operations.Reply.{Reply}
 use Rattle.history.specs.declared.operations.Reply.TheVariants.{Done, Value, Empty, Refused}
 use Rattle.history.specs.Queue.{empty}
 use Rattle.history.specs.History.{rising, Replays, replayed}
-use Rattle.step_machine.specs.declared.actors.Actor.{Actor}
-use Rattle.step_machine.specs.Memory.{node_at, found}
-use Rattle.step_machine.specs.Lines.{action, outcome}
+use Rattle.line_steps.specs.declared.actors.Actor.{Actor}
+use Rattle.line_steps.specs.Memory.{node_at, found}
+use Rattle.line_steps.specs.Lines.{action, outcome}
 use Rattle.step_machine.specs.Machine.{World, actor_of, IsReached}
 use Rattle.step_machine.specs.Places.{IsChain, IsQueued, IsFree, Places}
 use Rattle.step_machine.specs.Chains.{last_node, queue_values}

@@ -1,6 +1,6 @@
 //! Laws of the machine, each the contract of a function that does nothing.
 ghost use Rattle.std.specs.Prelude.{◌≡◌, ◌<◌, ◌≤◌, Some};
-ghost use Rattle.step_machine.specs.Memory.{Shared, Word, Content, Action, word};
+ghost use Rattle.line_steps.specs.Memory.{Shared, Word, Content, Action, word};
 ghost use Rattle.step_machine.specs.Machine.{World, IsReached};
 ghost use Rattle.step_machine.specs.Words.{words_of, index, IsWord};
 ghost use Rattle.step_machine.specs.Range.{WorldInRange};

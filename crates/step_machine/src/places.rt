@@ -3,8 +3,7 @@ ghost use Rattle.std.specs.Prelude.{◌≡◌, ◌+◌};
 ghost use Rattle.step_machine.specs.Places.{in_hand, in_pocket, held};
 ghost use Rattle.step_machine.specs.Placing.{Tells, TellsOfChain};
 
-use crate::actors::Actor;
-use crate::memory::Memory;
+use line_steps::{Actor, Memory};
 
 /// Where a node is. It is in one place at a time.
 #[derive(Clone, Copy, Debug, PartialEq, Eq)]

@@ -1,13 +1,13 @@
 //! What a step leaves in the lists of a world: its actor, and its operation.
 ghost use Rattle.std.specs.Prelude.{◌≡◌, ◌+◌, ◌-◌, ◌<◌, ◌≤◌, Some, None, IfOk, IfSome, replicate, if◌then◌else◌, slice_set, slice_get, nat_eq, length, vec_len, vec_capacity};
+ghost use Rattle.line_steps.specs.Rooms.{aside_after};
 ghost use Rattle.step_machine.specs.Machine as machine;
-ghost use Rattle.step_machine.specs.Machine.{recorded, new_operation, told, aside_after, entry_or};
+ghost use Rattle.step_machine.specs.Machine.{recorded, new_operation, told, entry_or};
 ghost use Rattle.step_machine.specs.Views.{HasEntry, actors_told, operations_told};
 
-use crate::actors::{Actor, Outcome};
-use crate::memory::{Memory, nobody_value};
 use counted_ref::CountedRef;
 use history::{Op, Stamped};
+use line_steps::{Actor, Memory, Outcome, nobody_value};
 use std::alloc::{AllocError, Global};
 
 /// A call under way: whose it is, what it does, and where its operation stands.

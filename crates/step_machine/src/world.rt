@@ -1,19 +1,17 @@
 //! A world, which makes one move at a time.
 ghost use Rattle.std.specs.Prelude.{◌≡◌, ◌+◌, ◌-◌, ◌<◌, ◌≤◌, ◌^◌, ◌≢◌, min, Some, OnOk, OnErr, IfOk, IfErr, IfSome, IsSome, length};
+ghost use Rattle.line_steps.specs.Memory.{Fresh, Free, Head, Tail, Next, Value_of, content};
 ghost use Rattle.step_machine.specs.declared.actors.Move.TheVariants.{Begin, Step, Give};
-ghost use Rattle.step_machine.specs.Memory.{Fresh, Free, Head, Tail, Next, Value_of, content};
 ghost use Rattle.step_machine.specs.Machine.{opening, next, actor_of, IsSized, IsMade};
 ghost use Rattle.line_table.specs.declared.lines.Line.TheVariants.{N1};
 ghost use Rattle.step_machine.specs.Calls.{setup_of, NewRefused, BeginRefused, StepRefused, GiveRefused, stepped_at, step_told, giving_up, reply_of, line_of};
 ghost use Rattle.step_machine.specs.Solo.{EndsAlone};
 
-use crate::actors::{Actor, Held, Move, Setup, Stepped};
-use crate::memory::Memory;
-use crate::outcomes::{begun, gives_up};
+use crate::actors::{Move, Stepped};
 use crate::settling::{Call, actor_at, idle_actors, put_actor, settle};
-use crate::steps::stepped;
 use counted_ref::CountedRef;
 use history::{Op, Refusal, Reply, Stamped, Taken};
+use line_steps::{Actor, Held, Memory, Setup, begun, gives_up, stepped};
 use line_table::{Kind, Line};
 use std::alloc::Global;
 use std::marker::Model;

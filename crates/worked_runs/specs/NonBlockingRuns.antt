@@ -8,7 +8,7 @@ use Rattle.history.specs.declared.operations.Op.TheVariants.{Enq, Deq}
 use Rattle.history.specs.declared.operations.Reply.TheVariants.{Done, Value, Empty, Refused}
 use Rattle.history.specs.declared.refusals.Refusal.TheVariants.{NoNode, WornOut, Busy}
 use Rattle.history.specs.declared.refusals.WornWord.TheVariants.{Free as OfFree, Next as OfNext, Tail as OfTail}
-use Rattle.step_machine.specs.Memory.{Fresh, Free, Head, Tail, Next}
+use Rattle.line_steps.specs.Memory.{Fresh, Free, Head, Tail, Next}
 use Rattle.worked_runs.specs.Seen.{Run, begin, many, give, holds, stands, keeps, left}
 
 -- nothing happened yet

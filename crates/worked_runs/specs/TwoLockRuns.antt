@@ -8,7 +8,7 @@ use Rattle.history.specs.declared.operations.Op.TheVariants.{Enq, Deq}
 use Rattle.history.specs.declared.operations.Reply.TheVariants.{Done, Value, Empty, Refused}
 use Rattle.history.specs.declared.refusals.Refusal.TheVariants.{WornOut, Busy}
 use Rattle.history.specs.declared.refusals.WornWord.TheVariants.{Head as OfHead}
-use Rattle.step_machine.specs.Memory.{Free, Head, Tail, Tail_lock, Next}
+use Rattle.line_steps.specs.Memory.{Free, Head, Tail, Tail_lock, Next}
 use Rattle.worked_runs.specs.Seen.{Run, begin, many, give, holds, stands}
 
 -- a push, then a pop by another actor

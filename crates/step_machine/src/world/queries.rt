@@ -2,15 +2,15 @@
 ghost use Rattle.std.specs.Prelude.{◌≡◌, ◌≤◌, ◌<◌, ◌^◌, IfOk, IfErr, IfSome, IsSome};
 ghost use Rattle.history.specs.declared.refusals.Refusal.TheVariants.{Memory};
 ghost use Rattle.history.specs.History.{Placement, IsLegal};
-ghost use Rattle.step_machine.specs.Memory.{Free, Head, Tail, Next, Value_of, content};
+ghost use Rattle.line_steps.specs.Memory.{Free, Head, Tail, Next, Value_of, content};
 ghost use Rattle.step_machine.specs.Machine.{actor_of, IsMade};
 ghost use Rattle.step_machine.specs.TakingEffect.{HavePlacesByItsEffects};
 
-use crate::actors::Held;
 use crate::settling::actor_at;
 use crate::world::World;
 use counted_ref::CountedRef;
 use history::{Refusal, Stamped, Taken};
+use line_steps::Held;
 use line_table::Line;
 use std::alloc::Global;
 

@@ -1,8 +1,10 @@
 -- A begin leads from a made world to a made world, and makes room for its call.
 use Rattle.std.proofs.Common.{◌≡◌, ◌+◌, ◌-◌, ◌≤◌, ◌⊎◌, Some, None, length, set, vec_capacity, arith, refl, sym, ap, subst, ◌∙◌}
+use Rattle.line_steps.specs.Calling.{begun}
+use Rattle.line_steps.specs.Rooms.{room_after}
 use Rattle.step_machine.specs.declared.actors.Move.TheVariants.{Begin}
-use Rattle.step_machine.specs.Machine.{next, begun, with_actor}
-use Rattle.step_machine.specs.Views.{seeks, room_after}
+use Rattle.step_machine.specs.Machine.{next, with_actor}
+use Rattle.step_machine.specs.Views.{seeks}
 use Rattle.step_machine.specs.Range.{WorldInRange}
 use Rattle.step_machine.specs.Kept.{world}
 use Rattle.step_machine.proofs.Giving.{begin_move, same_world, none_of}
@@ -27,8 +29,7 @@ moves c =
 
 looks : (c : goal.After-put_actor) → (seeks c.begun-begun.result.line ≡ 0) ⊎ (c.nodes_wanted-enough.result ≡ c.self.inside.memory.words.fresh + length c.self.inside.actors.items)
 looks c =
-    let w = world c.self.inside in
-    begun_wants w c.args.actor _ c.fresh.result c.len-actors.result c.args.op c.in-Some.a _ (made_in_range w c.self.invariant.made) c.begun-begun.ensures.actor
+    begun_wants _ c.args.actor _ c.fresh.result c.len-actors.result c.args.op c.in-Some.a _ (made_in_range _ c.self.invariant.made) c.begun-begun.ensures.actor
     c.fresh.ensures (omega (arith, c.len-actors.ensures, c.self.inside.actors.ok.0)) c.nodes_wanted-enough.ensures.looks
 
 pub invariant_of-self-2 : goal.invariant_of-self-2
@@ -55,5 +56,4 @@ returns-clause-ok c = ap (λ w. next w (Begin c.args.actor c.args.op)) (sym c.se
 
 pub returns-clause-alone : goal.returns-clause-alone
 returns-clause-alone c =
-    let w = world c.self.inside in
-    ends_alone w _ c.args.actor c.args.op (moves c) (made_reached _ (made_next w _ (Begin c.args.actor c.args.op) c.self.invariant.made (moves c)))
+    ends_alone _ _ c.args.actor c.args.op (moves c) (made_reached _ (made_next _ _ (Begin c.args.actor c.args.op) c.self.invariant.made (moves c)))

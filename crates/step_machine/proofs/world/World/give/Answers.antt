@@ -1,7 +1,7 @@
 -- Giving up leads from a made world to a made world, and keeps its room.
 use Rattle.std.proofs.Common.{◌≡◌, ◌+◌, ◌≤◌, Some, IsSome, vec_capacity, arith, refl, sym, ap, subst, ◌∙◌}
+use Rattle.line_steps.specs.Lines.{gives_up}
 use Rattle.step_machine.specs.declared.actors.Move.TheVariants.{Give}
-use Rattle.step_machine.specs.Lines.{gives_up}
 use Rattle.step_machine.specs.Machine.{next, actor_of, recorded, new_operation, told, settled}
 use Rattle.step_machine.specs.Calls.{giving_up, reply_of}
 use Rattle.step_machine.specs.Views.{HasEntry}

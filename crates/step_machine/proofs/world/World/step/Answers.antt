@@ -1,9 +1,10 @@
 -- A step leads from a made world to a made world, and keeps its room.
 use Rattle.std.proofs.Common.{◌≡◌, ◌+◌, ◌-◌, ◌<◌, ◌≤◌, Some, IfSome, rules, vec_capacity, arith, sym, ap, subst, ◌∙◌}
+use Rattle.line_steps.specs.Memory.{performed}
+use Rattle.line_steps.specs.Lines.{action}
+use Rattle.line_steps.specs.Ready.{IsReady}
 use Rattle.step_machine.specs.declared.actors.Move.TheVariants.{Step}
-use Rattle.step_machine.specs.Memory.{performed}
-use Rattle.step_machine.specs.Lines.{action}
-use Rattle.step_machine.specs.Views.{seeks, HasEntry, HasNodes, IsReady}
+use Rattle.step_machine.specs.Views.{seeks, HasEntry, HasNodes}
 use Rattle.step_machine.specs.Kept.{world}
 use Rattle.step_machine.proofs.Growth.{settles, grows}
 use Rattle.step_machine.proofs.Making.{ready, aside_room, entry_room, Rooms, settled_rooms}

@@ -1,0 +1,4 @@
+pub mod Padding
+pub mod Seen
+pub mod Cases
+pub mod AtLines

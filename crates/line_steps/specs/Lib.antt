@@ -1,0 +1,5 @@
+pub mod Memory
+pub mod Lines
+pub mod Rooms
+pub mod Ready
+pub mod Calling

@@ -1,0 +1,25 @@
+-- When a step can be taken: the numbers of a setup and of an actor's registers that can be used.
+use Rattle.std.specs.Prelude.{ℕ, ◌-◌, ◌^◌, ◌<◌, ◌≤◌}
+use Rattle.line_steps.specs.declared.actors.Setup.{Setup}
+use Rattle.line_steps.specs.declared.actors.Actor.{Actor}
+
+-- the numbers of a setup fit the parts of a reference
+pub record IsCounted (s : Setup) : Type 0 where
+  pub size : s.size < 2 ^ 24 - 1
+  pub limit : s.limit < 2 ^ 40
+
+-- the registers of an actor can be used: their numbers are in range, and there is room for the nodes that they name
+pub record IsReady (s : Setup) (room : ℕ) (a : Actor) : Type 0 where
+  pub some : 1 ≤ room
+  pub few : room ≤ s.size
+  pub f : a.f ≤ s.size
+  pub node : a.node ≤ room
+  pub mark : a.mark ≤ s.limit
+  pub top_node : a.top.node ≤ room
+  pub top_count : a.top.count ≤ s.limit
+  pub tail_node : a.tail.node ≤ room
+  pub tail_count : a.tail.count ≤ s.limit
+  pub head_node : a.head.node ≤ room
+  pub head_count : a.head.count ≤ s.limit
+  pub next_node : a.next.node ≤ room
+  pub next_count : a.next.count ≤ s.limit

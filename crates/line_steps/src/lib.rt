@@ -1,0 +1,12 @@
+//! One step of an actor at a line of the table, on the shared words of a queue in plain memory.
+#![tactic(auto)]
+
+mod actors;
+mod memory;
+mod outcomes;
+mod steps;
+
+pub use actors::{Actor, Held, Node, Outcome, Setup};
+pub use memory::{Memory, nobody_value};
+pub use outcomes::{begun, gives_up};
+pub use steps::stepped;
