@@ -1,5 +1,5 @@
 -- The room that a world keeps for nodes and operations, and its lists after an outcome was told.
-use Rattle.std.specs.Prelude.{◌≡◌, ℕ, ◌+◌, ◌-◌, ◌<◌, ◌≤◌, ◌⊎◌, List, Option, Some, None, slice_set}
+use Rattle.std.specs.Prelude.{◌≡◌, ℕ, ◌+◌, ◌-◌, ◌<◌, ◌≤◌, ◌⊎◌, List, Option, Some, None, slice_set, slice_get, nat_eq, if◌then◌else◌}
 use Rattle.std.specs.List.{sum_by}
 use Rattle.line_table.specs.declared.lines.Line.{Line}
 use Rattle.line_table.specs.declared.lines.Line.TheVariants.{N1, N2, N3, N4, N5, F1, F2, F3, E2, E3, E5, E6, E7, E9, E13, E17, D2, D3, D4, D5, D10, D12, D13, A1, A2, A3, A4, A5, A6, A7, B1, B2, B3, B4, B5, B6}
@@ -71,6 +71,10 @@ HasNodes size fresh room actors = (room ≡ size) ⊎ (fresh + seekers actors �
 abbrev pub HasEntry : Option ℕ → (len capacity : ℕ) → Type 0
 HasEntry None len capacity = len < capacity
 HasEntry (Some entry) len capacity = Unit {0}
+
+-- the actor of a number in a list of actors; none for 0 and above their number
+abbrev pub actor_in : List Actor → ℕ → Option Actor
+actor_in actors me = if nat_eq me 0 then None else slice_get actors (me - 1)
 
 -- the actors after one of them was told an outcome, with its entry in a list of operations that was so long
 abbrev pub actors_told : (me : ℕ) → (entry : Option ℕ) → (len : ℕ) → Outcome → List Actor → List Actor

@@ -1,9 +1,9 @@
 //! What a step leaves in the lists of a world: its actor, and its operation.
-ghost use Rattle.std.specs.Prelude.{◌≡◌, ◌+◌, ◌-◌, ◌<◌, ◌≤◌, Some, None, IfOk, IfSome, replicate, if◌then◌else◌, slice_set, slice_get, nat_eq, length, vec_len, vec_capacity};
+ghost use Rattle.std.specs.Prelude.{◌≡◌, ◌+◌, ◌-◌, ◌<◌, ◌≤◌, Some, None, IfOk, IfSome, IsNone, replicate, if◌then◌else◌, slice_set, slice_get, nat_eq, length, vec_len, vec_capacity};
 ghost use Rattle.line_steps.specs.Rooms.{aside_after};
 ghost use Rattle.step_machine.specs.Machine as machine;
 ghost use Rattle.step_machine.specs.Machine.{recorded, new_operation, told, entry_or};
-ghost use Rattle.step_machine.specs.Views.{HasEntry, actors_told, operations_told};
+ghost use Rattle.step_machine.specs.Views.{HasEntry, actor_in, actors_told, operations_told};
 
 use counted_ref::CountedRef;
 use history::{Op, Stamped};
@@ -55,13 +55,15 @@ pub fn idle_actors(alloc: Global, actors: usize) -> Result<Vec<Actor>, AllocErro
 }
 
 /// The actor of a number; none for 0 and above the number of actors.
-pub fn actor_at(actors: &Vec<Actor>, me: u16) -> Option<Actor>
-    ensures { result ≡ (if nat_eq me 0 then None else slice_get actors.now.items (me - 1)) }
+#[inline(always)]
+pub fn actor_at(actors: &Vec<Actor>, me: u16) -> Option<&Actor>
+    ensures there { IfSome result (λ a. actor_in actors.now.items me ≡ Some a.now) }
+    ensures none { IsNone result → actor_in actors.now.items me ≡ None }
 {
     if me == 0 {
         return None;
     }
-    actors.get(me as usize - 1).copied()
+    actors.get(me as usize - 1)
 }
 
 pub fn put_actor(actors: &mut Vec<Actor>, me: u16, actor: Actor)

@@ -150,7 +150,7 @@ impl World {
         }
         let actors = self.actors.len();
         let kind = self.setup.kind;
-        let begun = begun(kind, actor, op, a);
+        let begun = begun(kind, actor, op, *a);
         let enough = nodes_wanted(begun.line, self.memory.fresh(), actors);
         let Ok(()) = self.operations.reserve(actors) else {
             return Err(Refusal::Memory);
@@ -188,7 +188,7 @@ impl World {
             op: a.op,
             entry: a.entry,
         };
-        let outcome = stepped(&mut self.memory, setup, now, actor, a, line);
+        let outcome = stepped(&mut self.memory, setup, now, actor, *a, line);
         let told = told_at(line, outcome.reply);
         settle(
             &mut self.memory,
@@ -222,7 +222,7 @@ impl World {
         let now = self.steps.saturating_add(1);
         let op = a.op;
         let entry = a.entry;
-        let Some(outcome) = gives_up(now, a, line) else {
+        let Some(outcome) = gives_up(now, *a, line) else {
             return Err(Refusal::NotHere);
         };
         if self.steps == u64::MAX {

@@ -14,33 +14,33 @@ use Rattle.step_machine.proofs.world.World.give.Goals as goal
 pub returns-then-self-clause-refused : goal.returns-then-self-clause-refused
 returns-then-self-clause-refused c =
     subst (λ v. IsSome (giving_up v (actor_of v c.args.actor)) × (v.steps ≡ 18446744073709551615)) c.self.view_is
-    (may_give_up (world c.self.inside) c.args.actor _ c.in-Some.a c.in-Some-line.line (sym c.in-Some.ensures) c.in-Some-line.is (subst IsSome c.in-Some-gives_up.ensures refl), c.if-self.true)
+    (may_give_up (world c.self.inside) c.args.actor _ c.in-Some.a.now c.in-Some-line.line c.in-Some.ensures.there c.in-Some-line.is (subst IsSome c.in-Some-gives_up.ensures refl), c.if-self.true)
 
 pub settle-requires-clause-entry : goal.settle-requires-clause-entry
 settle-requires-clause-entry c =
-    subst (λ n. HasEntry c.in-Some.a.entry n (vec_capacity c.self.inside.operations)) (sym c.self.inside.operations.ok.0)
-    (entry_room (world c.self.inside) _ c.args.actor c.in-Some.a c.in-Some-line.line (sym c.in-Some.ensures) c.in-Some-line.is c.self.invariant.entries)
+    subst (λ n. HasEntry c.in-Some.a.now.entry n (vec_capacity c.self.inside.operations)) (sym c.self.inside.operations.ok.0)
+    (entry_room (world c.self.inside) _ c.args.actor c.in-Some.a.now c.in-Some-line.line c.in-Some.ensures.there c.in-Some-line.is c.self.invariant.entries)
 
 now_is : (c : goal.After-self-1) → c.saturating_add-now.result ≡ c.self.inside.steps + 1
 now_is c = omega (arith, c.saturating_add-now.ensures, c.if-self.false, c.self.invariant.numbers)
 
-up_is : (c : goal.After-self-1) → gives_up (c.self.inside.steps + 1) c.in-Some.a c.in-Some-line.line ≡ Some c.in-Some-gives_up.outcome
-up_is c = ap (λ n. gives_up n c.in-Some.a c.in-Some-line.line) (sym (now_is c)) ∙ sym c.in-Some-gives_up.ensures
+up_is : (c : goal.After-self-1) → gives_up (c.self.inside.steps + 1) c.in-Some.a.now c.in-Some-line.line ≡ Some c.in-Some-gives_up.outcome
+up_is c = ap (λ n. gives_up n c.in-Some.a.now c.in-Some-line.line) (sym (now_is c)) ∙ sym c.in-Some-gives_up.ensures
 
 moves : (c : goal.After-self-1) → next (world c.self.inside) (Give c.args.actor) ≡ Some (world (record { setup = c.self.inside.setup; steps = c.saturating_add-now.result; memory = c.settle.new.memory; actors = c.settle.new.actors; operations = c.settle.new.operations }))
 moves c =
-    give_move (world c.self.inside) c.args.actor c.in-Some.a c.in-Some-line.line c.in-Some-gives_up.outcome (sym c.in-Some.ensures) c.in-Some-line.is (up_is c) ∙
+    give_move (world c.self.inside) c.args.actor c.in-Some.a.now c.in-Some-line.line c.in-Some-gives_up.outcome c.in-Some.ensures.there c.in-Some-line.is (up_is c) ∙
     ap Some
     (sym
-    (same_world _ (settled (world c.self.inside) c.args.actor c.in-Some.a c.self.inside.memory.words c.in-Some-gives_up.outcome) refl (now_is c)
+    (same_world _ (settled (world c.self.inside) c.args.actor c.in-Some.a.now c.self.inside.memory.words c.in-Some-gives_up.outcome) refl (now_is c)
     (ap (λ m. m.words) c.settle.ensures.memory) c.settle.ensures.actors (ap (λ m. m.aside) c.settle.ensures.memory)
-    (subst (λ n. c.settle.new.operations.items ≡ recorded c.in-Some.a.entry (new_operation c.args.actor c.in-Some.a.op n) (told n c.in-Some-gives_up.outcome) c.self.inside.operations.items) (now_is c) c.settle.ensures.operations)))
+    (subst (λ n. c.settle.new.operations.items ≡ recorded c.in-Some.a.now.entry (new_operation c.args.actor c.in-Some.a.now.op n) (told n c.in-Some-gives_up.outcome) c.self.inside.operations.items) (now_is c) c.settle.ensures.operations)))
 
 pub invariant_of-self : goal.invariant_of-self
 invariant_of-self c =
     let room : c.settle.new.memory.room ≡ c.self.inside.memory.room = ap (λ m. m.room) c.settle.ensures.memory in
     let rooms : Rooms c.self.inside.setup.size c.settle.new.memory.words.fresh c.settle.new.memory.room _ c.settle.new.actors.items c.settle.new.operations.items =
-    given_rooms (world c.self.inside) _ _ _ _ c.args.actor _ c.in-Some.a c.in-Some-line.line c.in-Some-gives_up.outcome _ _ _ _ _ _ (sym c.in-Some.ensures) c.in-Some-line.is (up_is c)
+    given_rooms (world c.self.inside) _ _ _ _ c.args.actor _ c.in-Some.a.now c.in-Some-line.line c.in-Some-gives_up.outcome _ _ _ _ _ _ c.in-Some.ensures.there c.in-Some-line.is (up_is c)
     (ap (λ m. m.words.fresh) c.settle.ensures.memory) room c.settle.ensures.actors c.settle.ensures.operations c.self.invariant.nodes c.self.invariant.entries c.settle.ensures.room in
     record {
       made = made_next (world c.self.inside) _ (Give c.args.actor) c.self.invariant.made (moves c);
@@ -56,4 +56,4 @@ returns-clause-ok c = ap (λ w. next w (Give c.args.actor)) (sym c.self.view_is)
 pub returns-clause-told : goal.returns-clause-told
 returns-clause-told c =
     subst (λ v. reply_of (giving_up v (actor_of v c.args.actor)) ≡ Some c.in-Some-told.reply) c.self.view_is
-    (ap reply_of (giving_up-is (world c.self.inside) c.args.actor c.in-Some.a c.in-Some-line.line _ (sym c.in-Some.ensures) c.in-Some-line.is (up_is c)) ∙ c.in-Some-told.is)
+    (ap reply_of (giving_up-is (world c.self.inside) c.args.actor c.in-Some.a.now c.in-Some-line.line _ c.in-Some.ensures.there c.in-Some-line.is (up_is c)) ∙ c.in-Some-told.is)

@@ -13,20 +13,20 @@ use Rattle.step_machine.proofs.world.World.step.Goals as goal
 
 pub stepped-outcome-requires-clause-ready : goal.stepped-outcome-requires-clause-ready
 stepped-outcome-requires-clause-ready c =
-    ready (world c.self.inside) c.self.inside.memory.room c.args.actor _ c.self.invariant.made (sym c.in-Some.ensures) c.self.invariant.within
+    ready (world c.self.inside) c.self.inside.memory.room c.args.actor _ c.self.invariant.made c.in-Some.ensures.there c.self.invariant.within
     c.self.invariant.nodes
 
 pub settle-requires-clause-entry : goal.settle-requires-clause-entry
 settle-requires-clause-entry c =
-    subst (λ n. HasEntry c.in-Some.a.entry n (vec_capacity c.self.inside.operations)) (sym c.self.inside.operations.ok.0)
-    (entry_room (world c.self.inside) _ c.args.actor c.in-Some.a c.in-Some-line.line (sym c.in-Some.ensures) c.in-Some-line.is c.self.invariant.entries)
+    subst (λ n. HasEntry c.in-Some.a.now.entry n (vec_capacity c.self.inside.operations)) (sym c.self.inside.operations.ok.0)
+    (entry_room (world c.self.inside) _ c.args.actor c.in-Some.a.now c.in-Some-line.line c.in-Some.ensures.there c.in-Some-line.is c.self.invariant.entries)
 
 pub settle-requires-clause-aside : goal.settle-requires-clause-aside
 settle-requires-clause-aside c =
-    let a = c.in-Some.a in
+    let a = c.in-Some.a.now in
     let w = world c.self.inside in
     let can : IsReady w.setup c.self.inside.memory.room a =
-    ready w _ c.args.actor a c.self.invariant.made (sym c.in-Some.ensures) c.self.invariant.within c.self.invariant.nodes in
+    ready w _ c.args.actor a c.self.invariant.made c.in-Some.ensures.there c.self.invariant.within c.self.invariant.nodes in
     subst (λ m. IfSome c.stepped-outcome.result.aside (λ n. n - 1 < m.room)) (sym c.stepped-outcome.ensures.memory)
     (aside_room w.setup _ a c.stepped-outcome.result.aside can
     (subst (λ o. IfSome o.aside (λ n. n ≡ a.node)) (sym c.stepped-outcome.ensures.outcome) (settles w.setup (w.steps + 1) c.args.actor a c.in-Some-line.line _).leaves))
@@ -34,7 +34,7 @@ settle-requires-clause-aside c =
 pub invariant_of-self : goal.invariant_of-self
 invariant_of-self c =
     let w = world c.self.inside in
-    let a = c.in-Some.a in
+    let a = c.in-Some.a.now in
     let l = c.in-Some-line.line in
     let o = c.stepped-outcome.result in
     let after = c.settle.new.memory in
@@ -47,7 +47,7 @@ invariant_of-self c =
     (subst (λ p. (performed (action w.setup c.args.actor a l) w.shared).fresh + seeks p.actor.line ≤ w.shared.fresh + seeks (Some l)) (sym c.stepped-outcome.ensures.outcome)
     (grows w.setup (w.steps + 1) c.args.actor a l w.shared)) in
     let rooms : Rooms w.setup.size after.words.fresh c.self.inside.memory.room _ c.settle.new.actors.items c.settle.new.operations.items =
-    settled_rooms w c.self.inside.memory.room _ _ c.args.actor a l o after.words.fresh _ _ _ _ _ (sym c.in-Some.ensures) c.in-Some-line.is grown c.settle.ensures.actors
+    settled_rooms w c.self.inside.memory.room _ _ c.args.actor a l o after.words.fresh _ _ _ _ _ c.in-Some.ensures.there c.in-Some-line.is grown c.settle.ensures.actors
     c.settle.ensures.operations c.self.invariant.nodes c.self.invariant.entries c.settle.ensures.room in
     record {
       made = made_next w _ (Step c.args.actor) c.self.invariant.made (search rules);
