@@ -17,7 +17,8 @@ use Rattle.node_arena.specs.Leads.{Lead, led}
 use Rattle.node_arena.specs.Seeing.{View, seated, knows}
 use Rattle.node_arena.specs.Plans.{Layout}
 use Rattle.node_arena.specs.Rule.{Holds, Steps, Tells, TellsNothing, line_of}
-use Rattle.node_arena.specs.Seats.{MayStep, DidStep, DidSome, view, is_push, is_pop, counting}
+use Rattle.history.specs.Entries.{is_push, is_pop}
+use Rattle.node_arena.specs.Seats.{MayStep, DidStep, DidSome, view, counting}
 use Rattle.node_arena.proofs.Keeps.{becomes, allows}
 use Rattle.node_arena.proofs.Counting.{Counts, loads_nothing, clears_nothing, stores_counted, wins_counted, loses_nothing}
 

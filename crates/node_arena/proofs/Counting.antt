@@ -17,7 +17,8 @@ use Rattle.step_machine.proofs.Tables.{same_content}
 use Rattle.step_machine.proofs.Fits.{shared_fits, access_fits}
 use Rattle.step_machine.proofs.Reached.{reached_in_range}
 use Rattle.node_arena.specs.Traces.{Traced, IsTraced, entries_of, entries_at, number_at}
-use Rattle.node_arena.specs.Seats.{is_push, is_pop, pushes_at, pops_at}
+use Rattle.history.specs.Entries.{is_push, is_pop}
+use Rattle.node_arena.specs.Seats.{pushes_at, pops_at}
 use Rattle.node_arena.proofs.Tracing.{traced_reached}
 
 -- entries have as many pushes and pops as a line counts

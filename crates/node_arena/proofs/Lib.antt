@@ -1,5 +1,6 @@
 pub mod Tracing
 pub mod Histories
+pub mod Rooms
 pub mod Leading
 pub mod Entering
 pub mod Keeps

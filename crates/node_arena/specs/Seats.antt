@@ -1,10 +1,9 @@
 -- What clauses say of an arena and its seats.
-use Rattle.std.specs.Prelude.{◌≡◌, ℕ, ◌+◌, ◌-◌, ◌*◌, ◌^◌, ◌<◌, Bool, true, false, List, [], Option, Some, None, slice_get}
+use Rattle.std.specs.Prelude.{◌≡◌, ℕ, ◌+◌, ◌-◌, ◌*◌, ◌^◌, ◌<◌, List, [], Option, Some, None, slice_get}
 use Rattle.std.specs.List.{count_by}
 use Rattle.line_table.specs.declared.lines.Line.{Line}
 use Rattle.line_table.specs.declared.lines.Line.TheVariants.{E9, D13, A5, B5}
-use Rattle.history.specs.declared.operations.Entry.{Entry}
-use Rattle.history.specs.declared.operations.Entry.TheVariants.{Push, Pop}
+use Rattle.history.specs.Entries.{is_push, is_pop}
 use Rattle.line_steps.specs.declared.actors.Setup.{Setup}
 use Rattle.line_steps.specs.declared.actors.Held.{Held}
 use Rattle.line_steps.specs.Lines.{action}
@@ -57,16 +56,6 @@ failed_of s = s.failed
 -- a seat that keeps another pocket and another number of failed turns
 abbrev pub keeping : Seat → Option Held → ℕ → Seat
 keeping s pocket failed = record s { pocket = pocket; failed = failed }
-
--- whether an entry is a push
-abbrev pub is_push : Entry → Bool
-is_push (Push seat body) = true
-is_push (Pop seat value) = false
-
--- whether an entry is a pop
-abbrev pub is_pop : Entry → Bool
-is_pop (Push seat body) = false
-is_pop (Pop seat value) = true
 
 -- a table, made about a plan, is laid out for it
 pub record IsTable (z about : Layout) (t : TableId) : Type 0 where

@@ -12,6 +12,7 @@ pub mod StampsMoves
 pub mod StampsLaws
 pub mod Words
 pub mod Tables
+pub mod Few
 pub mod Fits
 pub mod Keeping
 pub mod Standing

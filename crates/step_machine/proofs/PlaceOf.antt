@@ -200,7 +200,7 @@ module _ (w : World) (queue free : List ℕ) (h : Places w queue free) (n : ℕ)
       sym (place_ranked-rank q) ∙ ap place_ranked (sym (found_at q there) ∙ found_at p here) ∙ place_ranked-rank p
 
   -- the queue has no more nodes than were used
-  few : length queue ≤ w.shared.fresh
+  pub few : length queue ≤ w.shared.fresh
   few = at_most w.shared.fresh queue within (λ k. go k)
     where
       none : times 0 queue ≡ 0

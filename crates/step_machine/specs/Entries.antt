@@ -1,6 +1,6 @@
 -- The entries of a world: the pushes and the pops of its operations that had their effect.
-use Rattle.std.specs.Prelude.{ℕ, List, [], ◌∷◌, Option, Some, None}
-use Rattle.std.specs.List.{flat_map}
+use Rattle.std.specs.Prelude.{ℕ, ◌+◌, ◌<◌, ◌≤◌, List, [], ◌∷◌, Option, Some, None}
+use Rattle.std.specs.List.{count_by, flat_map}
 use Rattle.history.specs.declared.operations.Op.{Op}
 use Rattle.history.specs.declared.operations.Op.TheVariants.{Enq, Deq}
 use Rattle.history.specs.declared.operations.Reply.{Reply}
@@ -9,7 +9,7 @@ use Rattle.history.specs.declared.operations.Entry.{Entry}
 use Rattle.history.specs.declared.operations.Entry.TheVariants.{Push, Pop}
 use Rattle.history.specs.declared.operations.Stamped.{Stamped}
 use Rattle.history.specs.Queue.{empty}
-use Rattle.history.specs.Entries.{Plays}
+use Rattle.history.specs.Entries.{is_push, is_pop, Plays}
 use Rattle.history.specs.History.{rising}
 use Rattle.step_machine.specs.Machine.{World}
 use Rattle.step_machine.specs.Places.{IsChain}
@@ -41,3 +41,8 @@ entries w = flat_map entry_of (rising (promises w))
 abbrev pub PlaysToItsValues : World → Type 0
 PlaysToItsValues w =
     (queue : List ℕ) → IsChain w.shared.nodes w.shared.head.node queue → Plays empty (entries w) (record { values = queue_values w.shared queue })
+
+-- the pops are at most as many as the greatest count, and the pushes fewer than the pops and the nodes together
+abbrev pub AreFew : World → Type 0
+AreFew w =
+    (count_by is_pop (entries w) ≤ w.setup.limit) × (count_by is_push (entries w) < count_by is_pop (entries w) + w.setup.size)

@@ -4,7 +4,7 @@ ghost use Rattle.step_machine.specs.TwoLock.{ReplaysToItsValues};
 ghost use Rattle.step_machine.specs.TakingEffect.{ArePlacedByEffect, HaveTheirEffect};
 ghost use Rattle.step_machine.specs.TakingEffect.{OfOperations, OfOperationsOfCalls};
 ghost use Rattle.step_machine.specs.Histories.{OfEachHistory, OfEachWorld};
-ghost use Rattle.step_machine.specs.Entries.{PlaysToItsValues};
+ghost use Rattle.step_machine.specs.Entries.{AreFew, PlaysToItsValues};
 
 /// Every history is placed and legal: of either queue, of any size, greatest count and number of actors in range, and
 /// after any list of begins, steps, givings up and rests, in any order and with any actor stopped anywhere.
@@ -34,4 +34,10 @@ pub fn operations_replay_to_the_values()
 /// values in the chain from Head: each push puts its value at the back, and each pop takes the front one.
 pub fn pushes_and_pops_play_to_the_values()
     ensures { OfEachWorld PlaysToItsValues }
+{}
+
+/// At every step the pops that had their effect so far are at most as many as the greatest count, and the pushes are
+/// fewer than those pops and the nodes together.
+pub fn pushes_and_pops_are_few()
+    ensures { OfEachWorld AreFew }
 {}
