@@ -4,11 +4,11 @@ use Rattle.std.specs.List.{All}
 use Rattle.counted_ref.specs.Ref.{Ref}
 use Rattle.line_table.specs.declared.lines.Kind.TheVariants.{TwoLock}
 use Rattle.line_table.specs.declared.lines.Line.{Line}
-use Rattle.line_table.specs.declared.lines.Line.TheVariants.{N1, N2, N3, N4, N5, F1, F2, F3, E2, E3, E5, E6, E7, E9, E13, E17, D2, D3, D4, D5, D10, D12, D13, A1, A2, A3, A4, A5, A6, A7, B1, B2, B3, B4, B5, B6}
+use Rattle.line_table.specs.declared.lines.Line.TheVariants.{N4, F3, E9, E13, E17, D10, D13, A6, B5}
 use Rattle.history.specs.declared.refusals.WornWord.{WornWord}
 use Rattle.history.specs.declared.refusals.WornWord.TheVariants.{Free as OfFree, Next as OfNext, Tail as OfTail, Head as OfHead}
 use Rattle.history.specs.declared.refusals.Refusal.{Refusal}
-use Rattle.history.specs.declared.refusals.Refusal.TheVariants.{NoNode, WornOut, Busy, Memory, BadSize, IdleActor, ActorBusy, NotHere, NoSuchActor, Text, Read, Write, Stranger, Double, Lost, Closed}
+use Rattle.history.specs.declared.refusals.Refusal.TheVariants.{NoNode, WornOut}
 use Rattle.history.specs.declared.operations.Reply.{Reply}
 use Rattle.history.specs.declared.operations.Reply.TheVariants.{Done, Value, Empty, Refused}
 use Rattle.history.specs.Queue.{empty}
@@ -48,42 +48,15 @@ CountsNothing w = (w.shared.tail.count ≡ 0) × All (λ n. n.next.count ≡ 0) 
 
 -- the reference whose raised one a line may write
 abbrev pub raised_at : Line → Actor → Option Ref
-raised_at N1 a = None
-raised_at N2 a = None
-raised_at N3 a = None
 raised_at N4 a = Some a.top
-raised_at N5 a = None
-raised_at F1 a = None
-raised_at F2 a = None
 raised_at F3 a = Some a.top
-raised_at E2 a = None
-raised_at E3 a = None
-raised_at E5 a = None
-raised_at E6 a = None
-raised_at E7 a = None
 raised_at E9 a = Some a.next
 raised_at E13 a = Some a.tail
 raised_at E17 a = Some a.tail
-raised_at D2 a = None
-raised_at D3 a = None
-raised_at D4 a = None
-raised_at D5 a = None
 raised_at D10 a = Some a.tail
-raised_at D12 a = None
 raised_at D13 a = Some a.head
-raised_at A1 a = None
-raised_at A2 a = None
-raised_at A3 a = None
-raised_at A4 a = None
-raised_at A5 a = None
-raised_at A6 a = None
-raised_at A7 a = None
-raised_at B1 a = None
-raised_at B2 a = None
-raised_at B3 a = None
-raised_at B4 a = None
 raised_at B5 a = Some a.head
-raised_at B6 a = None
+raised_at _ a = None
 
 -- no actor is to raise a count that is at the limit
 abbrev pub RaisesBelowTheLimit : World → Type 0
@@ -101,20 +74,7 @@ IsWornOut w OfHead = w.shared.head.count ≡ w.setup.limit
 abbrev pub HasCause : World → Refusal → Type 0
 HasCause w NoNode = (w.shared.fresh ≡ w.setup.size) × IsChain w.shared.nodes w.shared.free.node []
 HasCause w (WornOut word) = IsWornOut w word
-HasCause w Busy = ⊥
-HasCause w Memory = ⊥
-HasCause w BadSize = ⊥
-HasCause w IdleActor = ⊥
-HasCause w ActorBusy = ⊥
-HasCause w NotHere = ⊥
-HasCause w NoSuchActor = ⊥
-HasCause w (Text line cause) = ⊥
-HasCause w Read = ⊥
-HasCause w Write = ⊥
-HasCause w Stranger = ⊥
-HasCause w Double = ⊥
-HasCause w Lost = ⊥
-HasCause w Closed = ⊥
+HasCause w _ = ⊥
 
 -- a world has the cause for a step's reply, if that is a refusal
 abbrev pub HasCauseFor : World → Option Reply → Type 0
