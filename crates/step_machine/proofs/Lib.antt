@@ -1,3 +1,4 @@
+pub mod AnyMoves
 pub mod Growth
 pub mod Rooms
 pub mod Making
@@ -16,7 +17,6 @@ pub mod Few
 pub mod Fits
 pub mod Keeping
 pub mod Standing
-pub mod Running
 pub mod Naming
 pub mod Chains
 pub mod Counting

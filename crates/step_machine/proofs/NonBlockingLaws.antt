@@ -22,7 +22,7 @@ use Rattle.line_steps.specs.Memory.{Shared, found, performed, Next}
 use Rattle.line_steps.specs.Lines.{action, outcome, goes, lets_go, to_pocket, freed, ends, effect, busy_or, gives_up}
 use Rattle.step_machine.specs.Machine.{World, actor_of, settled, recorded, told, new_operation, IsReached}
 use Rattle.step_machine.specs.Range.{RegistersInRange, ActorInRange, WorldInRange}
-use Rattle.step_machine.specs.Standing.{IsRunBy, HoldsNodes, Stands, EachNamesAWord}
+use Rattle.step_machine.specs.Standing.{IsRunBy, HoldsNodes, Stands, EachRunsItsQueue, EachNamesAWord}
 use Rattle.step_machine.specs.Places.{times, Places}
 use Rattle.step_machine.specs.Chains.{last_node}
 use Rattle.step_machine.specs.Lag.{TailLags}
@@ -39,6 +39,7 @@ use Rattle.step_machine.proofs.Older.{WasIn}
 use Rattle.step_machine.proofs.Naming.{names_a_word, accesses_name_words_two_lock}
 use Rattle.step_machine.proofs.Reaching.{each_reached}
 use Rattle.step_machine.proofs.TwoLockLaws.{contained}
+use Rattle.step_machine.proofs.TwoLockSound.{nodes_at}
 use Rattle.step_machine.proofs.NonBlockingKnows.{next_of, KnowsAt, MayTake}
 use Rattle.step_machine.proofs.NonBlockingLag.{IsOff, off, off_count, tail_is_last}
 use Rattle.step_machine.proofs.NonBlockingSound.{Knowing, Proved, reached_sound}
@@ -348,6 +349,14 @@ each_access_names_a_word w r = go w.setup.kind refl
     go : (kind : Kind) → w.setup.kind ≡ kind → EachNamesAWord w
     go TwoLock e = accesses_name_words_two_lock w r e
     go NonBlocking e = accesses_name_words_non_blocking w r e
+
+-- each actor stands before a line of its queue
+pub each_runs_its_queue : (w : World) → IsReached w → EachRunsItsQueue w
+each_runs_its_queue w r me a l is at = go w.setup.kind refl
+  where
+    go : (kind : Kind) → w.setup.kind ≡ kind → IsRunBy (section_of l) w.setup.kind
+    go TwoLock e = subst (IsRunBy (section_of l)) (sym e) (nodes_at w r e me a l is at).0
+    go NonBlocking e = subst (IsRunBy (section_of l)) (sym e) (at_line w r e me a l is at).runs
 
 -- where Head is as read, the registers are the front of the queue
 pub front_is_taken : OfNonBlockingWorlds TakesTheFront
