@@ -6,7 +6,7 @@ use Rattle.counted_ref.proofs.Words.{same_ref-true, same_ref-equal}
 use Rattle.line_table.specs.declared.lines.Kind.{Kind}
 use Rattle.line_table.specs.declared.lines.Kind.TheVariants.{TwoLock, NonBlocking}
 use Rattle.line_table.specs.declared.lines.Line.{Line}
-use Rattle.line_table.specs.declared.lines.Line.TheVariants.{N1, N2, N3, N4, N5, F1, F2, F3, E2, E3, E5, E6, E7, E9, E13, E17, D2, D3, D4, D5, D10, D12, D13, A1, A2, A3, A4, A5, A6, A7, B1, B2, B3, B4, B5, B6}
+use Rattle.line_table.specs.declared.lines.Line.TheVariants.{N1, N2, N4, N5, F1, F3, E3, E5, E7, E9, D2, D5, D12, D13, A3, A5, B1, B3, B4, B5, B6}
 use Rattle.history.specs.declared.operations.Reply.{Reply}
 use Rattle.history.specs.declared.operations.Reply.TheVariants.{Done, Value, Empty, Refused}
 use Rattle.line_steps.specs.declared.actors.Setup.{Setup}
@@ -70,35 +70,24 @@ line_effects s now me a D13 m =
     exchanged _ now (same_ref m.head a.head) _ _ (same_ref-true _ _) (same_ref-equal _ _) refl refl
 line_effects s now me a A5 m = record { by = λ n e may. (same_Some n now (sym e), tt); gives = λ h. refl }
 line_effects s now me a B5 m = record { by = λ n e may. (same_Some n now (sym e), tt); gives = λ h. refl }
-line_effects s now me a N1 m = quietly now _ (inl refl)
 line_effects s now me a N2 m =
     quietly now _
     (both (is_null m.free) _ _ (both (nat_lt a.f s.size) _ _ (inl refl) (inr (λ h. h)))
     (both (nat_eq m.free.count s.limit) _ _ (inr (λ h. h)) (inl refl)))
-line_effects s now me a N3 m = quietly now _ (inl refl)
 line_effects s now me a N4 m = quietly now _ (both (same_ref m.free a.top) _ _ (inl refl) (inl refl))
 line_effects s now me a N5 m = quietly now _ (both (nat_eq m.fresh a.f) _ _ (inl refl) (inl refl))
 line_effects s now me a F1 m =
     quietly now _
     (both (nat_eq m.free.count s.limit) _ _ (aside_quiet (freed s.kind now a.due (record a { top = m.free })) (freed_quiet s.kind now a.due (record a { top = m.free }))) (inl refl))
-line_effects s now me a F2 m = quietly now _ (inl refl)
 line_effects s now me a F3 m =
     quietly now _ (both (same_ref m.free a.top) _ _ (freed_quiet s.kind now a.due (record a { holds = false })) (inl refl))
-line_effects s now me a E2 m = quietly now _ (inl refl)
 line_effects s now me a E3 m =
     quietly now _ (both (nat_eq (node_at m a.node).next.count s.limit) _ _ (inr (λ h. h)) (inl refl))
-line_effects s now me a E5 m = quietly now _ (inl refl)
-line_effects s now me a E6 m = quietly now _ (inl refl)
 line_effects s now me a E7 m =
     quietly now _
     (both (same_ref m.tail a.tail) _ _
     (both (is_null a.next) _ _ (inl refl) (both (nat_eq a.tail.count s.limit) _ _ (inr (λ h. h)) (inl refl)))
     (inl refl))
-line_effects s now me a E13 m = quietly now _ (inl refl)
-line_effects s now me a E17 m = quietly now _ (inl refl)
-line_effects s now me a D2 m = quietly now _ (inl refl)
-line_effects s now me a D3 m = quietly now _ (inl refl)
-line_effects s now me a D4 m = quietly now _ (inl refl)
 line_effects s now me a D5 m =
     quietly now _
     (both (same_ref m.head a.head) _ _
@@ -106,21 +95,15 @@ line_effects s now me a D5 m =
     (both (is_null a.next) _ _ (inr (λ h. h)) (both (nat_eq a.tail.count s.limit) _ _ (inr (λ h. h)) (inl refl)))
     (inl refl))
     (inl refl))
-line_effects s now me a D10 m = quietly now _ (inl refl)
 line_effects s now me a D12 m =
     quietly now _ (both (nat_eq a.head.count s.limit) _ _ (inr (λ h. h)) (inl refl))
-line_effects s now me a A1 m = quietly now _ (inl refl)
-line_effects s now me a A2 m = quietly now _ (inl refl)
 line_effects s now me a A3 m = quietly now _ (both (nat_eq m.tail_lock 0) _ _ (inl refl) (inl refl))
-line_effects s now me a A4 m = quietly now _ (inl refl)
-line_effects s now me a A6 m = quietly now _ (inl refl)
-line_effects s now me a A7 m = quietly now _ (inl refl)
 line_effects s now me a B1 m = quietly now _ (both (nat_eq m.head_lock 0) _ _ (inl refl) (inl refl))
-line_effects s now me a B2 m = quietly now _ (inl refl)
 line_effects s now me a B3 m =
     quietly now _ (both (is_null (node_at m a.head.node).next) _ _ (inl refl) (inl refl))
 line_effects s now me a B4 m = quietly now _ (both (nat_eq a.head.count s.limit) _ _ (inl refl) (inl refl))
 line_effects s now me a B6 m = quietly now _ (unlocked_quiet now a.due a)
+line_effects s now me a _ m = quietly now _ (inl refl)
 
 busy_or_quiet : (now : ℕ) (due : Option Reply) (a : Actor) → IfSome (busy_or now due a) Quiet
 busy_or_quiet now None a = inr (λ h. h)

@@ -6,7 +6,7 @@ use Rattle.counted_ref.specs.Ref.{is_null, same_ref}
 use Rattle.line_table.specs.declared.lines.Kind.{Kind}
 use Rattle.line_table.specs.declared.lines.Kind.TheVariants.{TwoLock, NonBlocking}
 use Rattle.line_table.specs.declared.lines.Line.{Line}
-use Rattle.line_table.specs.declared.lines.Line.TheVariants.{N1, N2, N3, N4, N5, F1, F2, F3, E2, E3, E5, E6, E7, E9, E13, E17, D2, D3, D4, D5, D10, D12, D13, A1, A2, A3, A4, A5, A6, A7, B1, B2, B3, B4, B5, B6}
+use Rattle.line_table.specs.declared.lines.Line.TheVariants.{N1, N2, N3, N4, N5, F1, F2, F3, E2, E3, E5, E6, E7, E9, E13, E17, D2, D5, D10, D12, D13, A1, A2, A3, A4, A5, A6, A7, B1, B3, B4, B5, B6}
 use Rattle.line_table.specs.declared.lines.Section.{Section}
 use Rattle.line_table.specs.declared.lines.Section.TheVariants.{NewNode, Free, Enqueue, Dequeue, LockedEnqueue, LockedDequeue}
 use Rattle.line_table.specs.Sections.{section_of}
@@ -167,7 +167,6 @@ module _ (limit me : ℕ) where
 
 -- the outcome of each line
 pub fixed : (s : Setup) (now me : ℕ) (a : Actor) (l : Line) (c : Found (action s me a l)) → FixedAt s.limit me a (Some l) → Fixes s.limit me (outcome s now me a l c)
-fixed s now me a N1 c h = record { fixed = record { pocket = h.pocket; hand = h.hand; call = h.call; earned = h.earned; room = tt } }
 fixed s now me a N2 c h =
     both s.limit me (is_null c) _ _
     (both s.limit me (nat_lt a.f s.size) _ _ (record { fixed = record { pocket = h.pocket; hand = h.hand; call = h.call; earned = h.earned; room = tt } }) (record { fixed = h.hand }))
@@ -188,12 +187,9 @@ fixed s now me a F2 c h = record { fixed = record { pocket = h.pocket; hand = h.
 fixed s now me a F3 c h =
     both s.limit me (same_ref c a.top) _ _ (freed_fixed s.limit me s.kind now a.due (lets_go a) refl h.pocket refl h.call)
     (record { fixed = record { pocket = h.pocket; hand = h.hand; call = h.call; earned = h.earned; room = tt } })
-fixed s now me a E2 c h = record { fixed = record { pocket = h.pocket; hand = h.hand; call = h.call; earned = h.earned; room = tt } }
 fixed s now me a E3 c h =
     both s.limit me (nat_eq c.count s.limit) _ _ (record { fixed = refl })
     (record { fixed = record { pocket = h.pocket; hand = h.hand; call = h.call; earned = h.earned; room = tt } })
-fixed s now me a E5 c h = record { fixed = record { pocket = h.pocket; hand = h.hand; call = h.call; earned = h.earned; room = tt } }
-fixed s now me a E6 c h = record { fixed = record { pocket = h.pocket; hand = h.hand; call = h.call; earned = h.earned; room = tt } }
 fixed s now me a E7 c h =
     both s.limit me (same_ref c a.tail) _ _
     (both s.limit me (is_null a.next) _ _ (record { fixed = record { pocket = h.pocket; hand = h.hand; call = h.call; earned = h.earned; room = tt } })
@@ -203,11 +199,7 @@ fixed s now me a E7 c h =
 fixed s now me a E9 c h =
     both s.limit me (same_ref c a.next) _ _ (ended_or s.limit me (nat_eq a.tail.count s.limit) now a (λ e. eqb-false a.tail.count s.limit e) h.pocket h.call)
     (record { fixed = record { pocket = h.pocket; hand = h.hand; call = h.call; earned = h.earned; room = tt } })
-fixed s now me a E13 c h = record { fixed = record { pocket = h.pocket; hand = h.hand; call = h.call; earned = h.earned; room = tt } }
 fixed s now me a E17 c h = record { fixed = h.hand }
-fixed s now me a D2 c h = record { fixed = record { pocket = h.pocket; hand = h.hand; call = h.call; earned = h.earned; room = tt } }
-fixed s now me a D3 c h = record { fixed = record { pocket = h.pocket; hand = h.hand; call = h.call; earned = h.earned; room = tt } }
-fixed s now me a D4 c h = record { fixed = record { pocket = h.pocket; hand = h.hand; call = h.call; earned = h.earned; room = tt } }
 fixed s now me a D5 c h =
     both s.limit me (same_ref c a.head) _ _
     (both s.limit me (nat_eq a.head.node a.tail.node) _ _
@@ -216,26 +208,20 @@ fixed s now me a D5 c h =
     (λ e. record { fixed = record { pocket = h.pocket; hand = h.hand; call = h.call; earned = h.earned; room = eqb-false a.tail.count s.limit e } })))
     (record { fixed = record { pocket = h.pocket; hand = h.hand; call = h.call; earned = h.earned; room = tt } }))
     (record { fixed = record { pocket = h.pocket; hand = h.hand; call = h.call; earned = h.earned; room = tt } })
-fixed s now me a D10 c h = record { fixed = record { pocket = h.pocket; hand = h.hand; call = h.call; earned = h.earned; room = tt } }
 fixed s now me a D12 c h =
     either s.limit me (nat_eq a.head.count s.limit) _ _ (λ e. record { fixed = h.hand })
     (λ e. record { fixed = record { pocket = h.pocket; hand = h.hand; call = h.call; earned = h.earned; room = eqb-false a.head.count s.limit e } })
 fixed s now me a D13 c h =
     both s.limit me (same_ref c a.head) _ _ (record { fixed = record { pocket = h.pocket; hand = refl; call = h.call; earned = tt; room = tt } })
     (record { fixed = record { pocket = h.pocket; hand = h.hand; call = h.call; earned = h.earned; room = tt } })
-fixed s now me a A1 c h = record { fixed = record { pocket = h.pocket; hand = h.hand; call = h.call; earned = h.earned; room = tt } }
-fixed s now me a A2 c h = record { fixed = record { pocket = h.pocket; hand = h.hand; call = h.call; earned = h.earned; room = tt } }
 fixed s now me a A3 c h =
     both s.limit me (nat_eq c 0) _ _ (record { fixed = record { pocket = h.pocket; hand = h.hand; call = h.call; earned = h.earned; room = tt } })
     (record { fixed = record { pocket = h.pocket; hand = h.hand; call = h.call; earned = h.earned; room = tt } })
-fixed s now me a A4 c h = record { fixed = record { pocket = h.pocket; hand = h.hand; call = h.call; earned = h.earned; room = tt } }
 fixed s now me a A5 c h = record { fixed = record { pocket = h.pocket; hand = refl; call = h.call; earned = refl; room = tt } }
-fixed s now me a A6 c h = record { fixed = record { pocket = h.pocket; hand = h.hand; call = h.call; earned = h.earned; room = tt } }
 fixed s now me a A7 c h = record { fixed = h.hand }
 fixed s now me a B1 c h =
     both s.limit me (nat_eq c 0) _ _ (record { fixed = record { pocket = h.pocket; hand = h.hand; call = h.call; earned = h.earned; room = tt } })
     (record { fixed = record { pocket = h.pocket; hand = h.hand; call = h.call; earned = h.earned; room = tt } })
-fixed s now me a B2 c h = record { fixed = record { pocket = h.pocket; hand = h.hand; call = h.call; earned = h.earned; room = tt } }
 fixed s now me a B3 c h =
     both s.limit me (is_null c) _ _ (record { fixed = record { pocket = h.pocket; hand = h.hand; call = h.call; earned = tt; room = tt } })
     (record { fixed = record { pocket = h.pocket; hand = h.hand; call = h.call; earned = h.earned; room = tt } })
@@ -244,6 +230,7 @@ fixed s now me a B4 c h =
     (λ e. record { fixed = record { pocket = h.pocket; hand = h.hand; call = h.call; earned = h.earned; room = eqb-false a.head.count s.limit e } })
 fixed s now me a B5 c h = record { fixed = record { pocket = h.pocket; hand = refl; call = h.call; earned = tt; room = tt } }
 fixed s now me a B6 c h = unlocked_fixed s.limit me now a.due a refl h.pocket h.hand h.call h.earned
+fixed s now me a _ c h = record { fixed = record { pocket = h.pocket; hand = h.hand; call = h.call; earned = h.earned; room = tt } }
 
 busy_or_fixed : (limit me now : ℕ) (due : Option Reply) (a : Actor) → a.holds ≡ false → IfSome (busy_or now due a) (Fixes limit me)
 busy_or_fixed limit me now None a h = record { fixed = h }

@@ -5,7 +5,7 @@ use Rattle.counted_ref.specs.Ref.{Ref, is_null, same_ref}
 use Rattle.line_table.specs.declared.lines.Kind.{Kind}
 use Rattle.line_table.specs.declared.lines.Kind.TheVariants.{TwoLock, NonBlocking}
 use Rattle.line_table.specs.declared.lines.Line.{Line}
-use Rattle.line_table.specs.declared.lines.Line.TheVariants.{N1, N2, N3, N4, N5, F1, F2, F3, E2, E3, E5, E6, E7, E9, E13, E17, D2, D3, D4, D5, D10, D12, D13, A1, A2, A3, A4, A5, A6, A7, B1, B2, B3, B4, B5, B6}
+use Rattle.line_table.specs.declared.lines.Line.TheVariants.{N1, N2, N3, N4, N5, F1, F3, E3, E5, E6, E7, E9, E17, D2, D3, D4, D5, D12, D13, A3, A4, B1, B2, B3, B4, B5, B6}
 use Rattle.history.specs.declared.operations.Reply.{Reply}
 use Rattle.history.specs.declared.operations.Reply.TheVariants.{Done, Value, Empty, Refused}
 use Rattle.history.specs.declared.operations.Taken.{Taken}
@@ -103,9 +103,7 @@ module _ (s : Setup) (n k : ℕ) where
   kept now me a F1 c h p w g =
       let r : RegistersInRange s n k (record a { top = c }) = with_top a c h g in
       both (nat_eq c.count s.limit) _ _ (aside_kept _ (freed_kept s.kind now a.due (record a { top = c }) r p)) (record { registers = r; pocket = p; line = tt })
-  kept now me a F2 c h p w g = record { registers = h; pocket = p; line = tt }
   kept now me a F3 c h p w g = both (same_ref c a.top) _ _ (freed_kept s.kind now a.due (lets_go a) h p) (record { registers = h; pocket = p; line = tt })
-  kept now me a E2 c h p w g = record { registers = h; pocket = p; line = tt }
   kept now me a E3 c h p w g =
       let m : c.count ≤ s.limit = g.count in
       let r : RegistersInRange s n k (record a { mark = c.count }) = with_held a a.node c.count h h.node m in
@@ -119,8 +117,6 @@ module _ (s : Setup) (n k : ℕ) where
       (record { registers = h; pocket = p; line = tt })
   kept now me a E9 c h p w g =
       both (same_ref c a.next) _ _ (ended_or (nat_eq a.tail.count s.limit) now (lets_go (record a { due = Some Done })) h p) (record { registers = h; pocket = p; line = tt })
-  kept now me a E13 c h p w g = record { registers = h; pocket = p; line = tt }
-  kept now me a E17 c h p w g = record { registers = h; pocket = p; line = tt }
   kept now me a D2 c h p w g = record { registers = with_head a c h g; pocket = p; line = tt }
   kept now me a D3 c h p w g = record { registers = with_tail a c h g; pocket = p; line = tt }
   kept now me a D4 c h p w g = record { registers = with_next a c h g; pocket = p; line = tt }
@@ -131,19 +127,13 @@ module _ (s : Setup) (n k : ℕ) where
       (both (nat_eq a.tail.count s.limit) _ _ (record { registers = h; pocket = p; line = tt }) (record { registers = h; pocket = p; line = tt })))
       (record { registers = h; pocket = p; line = tt }))
       (record { registers = h; pocket = p; line = tt })
-  kept now me a D10 c h p w g = record { registers = h; pocket = p; line = tt }
   kept now me a D12 c h p w g =
       let r : RegistersInRange s n k (record a { val = c }) = with_val a c h g in
       both (nat_eq a.head.count s.limit) _ _ (record { registers = r; pocket = p; line = tt }) (record { registers = r; pocket = p; line = tt })
   kept now me a D13 c h p w g =
       both (same_ref c a.head) _ _ (record { registers = with_held a a.head.node a.next.count h h.head.node h.next.count; pocket = p; line = tt }) (record { registers = h; pocket = p; line = tt })
-  kept now me a A1 c h p w g = record { registers = h; pocket = p; line = tt }
-  kept now me a A2 c h p w g = record { registers = h; pocket = p; line = tt }
   kept now me a A3 c h p w g = both (nat_eq c 0) _ _ (record { registers = h; pocket = p; line = tt }) (record { registers = h; pocket = p; line = tt })
   kept now me a A4 c h p w g = record { registers = with_tail a c h g; pocket = p; line = tt }
-  kept now me a A5 c h p w g = record { registers = h; pocket = p; line = tt }
-  kept now me a A6 c h p w g = record { registers = h; pocket = p; line = tt }
-  kept now me a A7 c h p w g = record { registers = h; pocket = p; line = tt }
   kept now me a B1 c h p w g = both (nat_eq c 0) _ _ (record { registers = h; pocket = p; line = tt }) (record { registers = h; pocket = p; line = tt })
   kept now me a B2 c h p w g = record { registers = with_head a c h g; pocket = p; line = tt }
   kept now me a B3 c h p w g =
@@ -154,6 +144,7 @@ module _ (s : Setup) (n k : ℕ) where
       both (nat_eq a.head.count s.limit) _ _ (record { registers = r; pocket = p; line = tt }) (record { registers = r; pocket = p; line = tt })
   kept now me a B5 c h p w g = record { registers = with_held a a.head.node a.next.count h h.head.node h.next.count; pocket = p; line = tt }
   kept now me a B6 c h p w g = unlocked_kept now a.due a h p
+  kept now me a _ c h p w g = record { registers = h; pocket = p; line = tt }
 
   busy_or_kept : (now : ℕ) (due : Option Reply) (a : Actor) → RegistersInRange s n k a → IfSome a.pocket (HeldInRange s.limit n) → IfSome (busy_or now due a) (Kept s n k)
   busy_or_kept now None a h p = record { registers = h; pocket = p; line = tt }

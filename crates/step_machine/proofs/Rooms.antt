@@ -5,7 +5,7 @@ use Rattle.std.proofs.lemmas.Bool.{ltb-true, ltb-false}
 use Rattle.std.proofs.lemmas.List.Sums.{sum_by-set, sum_by-le, get_or-le-sum_by}
 use Rattle.std.specs.List.{sum_by}
 use Rattle.line_table.specs.declared.lines.Line.{Line}
-use Rattle.line_table.specs.declared.lines.Line.TheVariants.{N1, N2, N3, N4, N5, F1, F2, F3, E2, E3, E5, E6, E7, E9, E13, E17, D2, D3, D4, D5, D10, D12, D13, A1, A2, A3, A4, A5, A6, A7, B1, B2, B3, B4, B5, B6}
+use Rattle.line_table.specs.declared.lines.Line.TheVariants.{N1}
 use Rattle.history.specs.declared.operations.Stamped.{Stamped}
 use Rattle.line_steps.specs.declared.actors.Actor.{Actor}
 use Rattle.line_steps.specs.Rooms.{room_after}
@@ -46,41 +46,7 @@ sum_most f xs h = omega (arith, sum_by-le f 1 xs (λ k d _. h (get_or xs k d)))
 seeks_most : (l : Option Line) → seeks l ≤ 1
 seeks_most None = omega arith
 seeks_most (Some N1) = omega arith
-seeks_most (Some N2) = omega arith
-seeks_most (Some N3) = omega arith
-seeks_most (Some N4) = omega arith
-seeks_most (Some N5) = omega arith
-seeks_most (Some F1) = omega arith
-seeks_most (Some F2) = omega arith
-seeks_most (Some F3) = omega arith
-seeks_most (Some E2) = omega arith
-seeks_most (Some E3) = omega arith
-seeks_most (Some E5) = omega arith
-seeks_most (Some E6) = omega arith
-seeks_most (Some E7) = omega arith
-seeks_most (Some E9) = omega arith
-seeks_most (Some E13) = omega arith
-seeks_most (Some E17) = omega arith
-seeks_most (Some D2) = omega arith
-seeks_most (Some D3) = omega arith
-seeks_most (Some D4) = omega arith
-seeks_most (Some D5) = omega arith
-seeks_most (Some D10) = omega arith
-seeks_most (Some D12) = omega arith
-seeks_most (Some D13) = omega arith
-seeks_most (Some A1) = omega arith
-seeks_most (Some A2) = omega arith
-seeks_most (Some A3) = omega arith
-seeks_most (Some A4) = omega arith
-seeks_most (Some A5) = omega arith
-seeks_most (Some A6) = omega arith
-seeks_most (Some A7) = omega arith
-seeks_most (Some B1) = omega arith
-seeks_most (Some B2) = omega arith
-seeks_most (Some B3) = omega arith
-seeks_most (Some B4) = omega arith
-seeks_most (Some B5) = omega arith
-seeks_most (Some B6) = omega arith
+seeks_most (Some _) = omega arith
 
 -- an actor has at most one call without a number, and none where its call has one
 unrecorded_most : (l : Option Line) (entry : Option ℕ) → is_unrecorded l entry ≤ 1

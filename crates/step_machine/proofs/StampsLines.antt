@@ -5,7 +5,7 @@ use Rattle.counted_ref.specs.Ref.{is_null, same_ref}
 use Rattle.line_table.specs.declared.lines.Kind.{Kind}
 use Rattle.line_table.specs.declared.lines.Kind.TheVariants.{TwoLock, NonBlocking}
 use Rattle.line_table.specs.declared.lines.Line.{Line}
-use Rattle.line_table.specs.declared.lines.Line.TheVariants.{N1, N2, N3, N4, N5, F1, F2, F3, E2, E3, E5, E6, E7, E9, E13, E17, D2, D3, D4, D5, D10, D12, D13, A1, A2, A3, A4, A5, A6, A7, B1, B2, B3, B4, B5, B6}
+use Rattle.line_table.specs.declared.lines.Line.TheVariants.{N1, N2, N4, N5, F1, F2, F3, E3, E5, E7, E9, E17, D2, D4, D5, D12, D13, A3, A5, A6, A7, B1, B3, B4, B5, B6}
 use Rattle.history.specs.declared.operations.Reply.{Reply}
 use Rattle.history.specs.declared.operations.Reply.TheVariants.{Done, Value, Empty, Refused}
 use Rattle.line_steps.specs.declared.actors.Setup.{Setup}
@@ -26,42 +26,15 @@ Earned (Some (Refused why)) at Noted = at ≡ None
 
 -- what is known of the operation of an actor that stands before a line
 abbrev pub Stands : Line → (due : Option Reply) (at : Option ℕ) → (Noted : Type 0) → Type 0
-Stands N1 due at Noted = at ≡ None
-Stands N2 due at Noted = at ≡ None
-Stands N3 due at Noted = at ≡ None
-Stands N4 due at Noted = at ≡ None
-Stands N5 due at Noted = at ≡ None
 Stands F1 due at Noted = Earned due at Noted
 Stands F2 due at Noted = Earned due at Noted
 Stands F3 due at Noted = Earned due at Noted
-Stands E2 due at Noted = at ≡ None
-Stands E3 due at Noted = at ≡ None
-Stands E5 due at Noted = at ≡ None
-Stands E6 due at Noted = at ≡ None
-Stands E7 due at Noted = at ≡ None
-Stands E9 due at Noted = at ≡ None
-Stands E13 due at Noted = at ≡ None
 Stands E17 due at Noted = IsSome at
-Stands D2 due at Noted = at ≡ None
-Stands D3 due at Noted = at ≡ None
-Stands D4 due at Noted = at ≡ None
 Stands D5 due at Noted = (at ≡ None) × Noted
-Stands D10 due at Noted = at ≡ None
-Stands D12 due at Noted = at ≡ None
-Stands D13 due at Noted = at ≡ None
-Stands A1 due at Noted = at ≡ None
-Stands A2 due at Noted = at ≡ None
-Stands A3 due at Noted = at ≡ None
-Stands A4 due at Noted = at ≡ None
-Stands A5 due at Noted = at ≡ None
 Stands A6 due at Noted = IsSome at
 Stands A7 due at Noted = IsSome at
-Stands B1 due at Noted = at ≡ None
-Stands B2 due at Noted = at ≡ None
-Stands B3 due at Noted = at ≡ None
-Stands B4 due at Noted = at ≡ None
-Stands B5 due at Noted = at ≡ None
 Stands B6 due at Noted = Earned due at Noted
+Stands _ due at Noted = at ≡ None
 
 -- what is earned stays so while the number noted stays one of the call
 earned_while : (due : Option Reply) (at : Option ℕ) {P Q : Type 0} → (P → Q) → Earned due at P → Earned due at Q
@@ -129,12 +102,10 @@ pushed_turned Q false now a at n = record { place = n; goes_on = refl }
 
 -- the outcome of each line
 pub turned : (Q : ℕ → Type 0) (s : Setup) (now me : ℕ) (a : Actor) (l : Line) (c : Found (action s me a l)) (at : Option ℕ) → Q now → IfSome at Q → Stands l a.due at (Q a.noted) → Turns Q at (outcome s now me a l c)
-turned Q s now me a N1 c at n p h = record { place = p; goes_on = h }
 turned Q s now me a N2 c at n p h =
     both (is_null c) _ _
     (both (nat_lt a.f s.size) _ _ record { place = p; goes_on = h } record { place = n; goes_on = refl })
     (both (nat_eq c.count s.limit) _ _ record { place = n; goes_on = refl } record { place = p; goes_on = h })
-turned Q s now me a N3 c at n p h = record { place = p; goes_on = h }
 turned Q s now me a N4 c at n p h =
     both (same_ref c a.top) _ _ (with_node_turned Q s.kind (takes a.top.node a.next.count a) at p h) record { place = p; goes_on = h }
 turned Q s now me a N5 c at n p h =
@@ -143,14 +114,10 @@ turned Q s now me a F1 c at n p h =
     both (nat_eq c.count s.limit) _ _
     (aside_turned _ (freed_turned Q s.kind now a.due (record a { top = c }) at n p h))
     record { place = p; goes_on = h }
-turned Q s now me a F2 c at n p h = record { place = p; goes_on = h }
 turned Q s now me a F3 c at n p h =
     both (same_ref c a.top) _ _ (freed_turned Q s.kind now a.due (lets_go a) at n p h) record { place = p; goes_on = h }
-turned Q s now me a E2 c at n p h = record { place = p; goes_on = h }
 turned Q s now me a E3 c at n p h =
     both (nat_eq c.count s.limit) _ _ record { place = n; goes_on = refl } record { place = p; goes_on = h }
-turned Q s now me a E5 c at n p h = record { place = p; goes_on = h }
-turned Q s now me a E6 c at n p h = record { place = p; goes_on = h }
 turned Q s now me a E7 c at n p h =
     both (same_ref c a.tail) _ _
     (both (is_null a.next) _ _ record { place = p; goes_on = h } (both (nat_eq a.tail.count s.limit) _ _ record { place = n; goes_on = refl } record { place = p; goes_on = h }))
@@ -159,10 +126,6 @@ turned Q s now me a E9 c at n p h =
     both (same_ref c a.next) _ _
     (pushed_turned Q (nat_eq a.tail.count s.limit) now (lets_go (record a { due = Some Done })) at n)
     record { place = p; goes_on = h }
-turned Q s now me a E13 c at n p h = record { place = p; goes_on = h }
-turned Q s now me a E17 c at n p h = record { place = p; goes_on = h }
-turned Q s now me a D2 c at n p h = record { place = p; goes_on = h }
-turned Q s now me a D3 c at n p h = record { place = p; goes_on = h }
 turned Q s now me a D4 c at n p h = record { place = p; goes_on = (h, n) }
 turned Q s now me a D5 c at n p h =
     both (same_ref c a.head) _ _
@@ -170,25 +133,19 @@ turned Q s now me a D5 c at n p h =
     (both (is_null a.next) _ _ record { place = h.1; goes_on = refl } (both (nat_eq a.tail.count s.limit) _ _ record { place = n; goes_on = refl } record { place = p; goes_on = h.0 }))
     record { place = p; goes_on = h.0 })
     record { place = p; goes_on = h.0 }
-turned Q s now me a D10 c at n p h = record { place = p; goes_on = h }
 turned Q s now me a D12 c at n p h =
     both (nat_eq a.head.count s.limit) _ _ record { place = n; goes_on = refl } record { place = p; goes_on = h }
 turned Q s now me a D13 c at n p h =
     both (same_ref c a.head) _ _ record { place = n; goes_on = refl } record { place = p; goes_on = h }
-turned Q s now me a A1 c at n p h = record { place = p; goes_on = h }
-turned Q s now me a A2 c at n p h = record { place = p; goes_on = h }
 turned Q s now me a A3 c at n p h = both (nat_eq c 0) _ _ record { place = p; goes_on = h } record { place = p; goes_on = h }
-turned Q s now me a A4 c at n p h = record { place = p; goes_on = h }
 turned Q s now me a A5 c at n p h = record { place = n; goes_on = refl }
-turned Q s now me a A6 c at n p h = record { place = p; goes_on = h }
-turned Q s now me a A7 c at n p h = record { place = p; goes_on = h }
 turned Q s now me a B1 c at n p h = both (nat_eq c 0) _ _ record { place = p; goes_on = h } record { place = p; goes_on = h }
-turned Q s now me a B2 c at n p h = record { place = p; goes_on = h }
 turned Q s now me a B3 c at n p h = both (is_null c) _ _ record { place = p; goes_on = (h, n) } record { place = p; goes_on = h }
 turned Q s now me a B4 c at n p h =
     both (nat_eq a.head.count s.limit) _ _ record { place = p; goes_on = h } record { place = p; goes_on = h }
 turned Q s now me a B5 c at n p h = record { place = n; goes_on = refl }
 turned Q s now me a B6 c at n p h = unlocked_turned Q now a.due a at n p h h
+turned Q s now me a _ c at n p h = record { place = p; goes_on = h }
 
 busy_or_turned : (Q : ℕ → Type 0) (now : ℕ) (due : Option Reply) (a : Actor) (at : Option ℕ) → Q now → IfSome at Q → Earned due at (Q a.noted) → IfSome (busy_or now due a) (Turns Q at)
 busy_or_turned Q now None a at n p h = record { place = n; goes_on = refl }
