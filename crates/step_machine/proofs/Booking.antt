@@ -21,9 +21,10 @@ use Rattle.step_machine.specs.Machine.{World, actor_of, new_operation, told, rec
 use Rattle.step_machine.specs.Places.{one_if}
 use Rattle.step_machine.specs.Promises.{earned, due_of, promised_reply, is_value}
 use Rattle.step_machine.specs.Stamps.{IsBy, IsStamped}
+use Rattle.step_machine.proofs.Reached.{actor_stands}
 use Rattle.step_machine.proofs.StampsLists.{same_or_not, slice_get-set_same, slice_get-set_other, put_set, put_end, by_within}
 use Rattle.step_machine.proofs.StampsLines.{Earned, Stands, stands_while, GoesOn, Turns}
-use Rattle.step_machine.proofs.StampsKept.{Over, Operations, Idle, Busy, Knows, Kept, Does, actor_stands, settled_kept}
+use Rattle.step_machine.proofs.StampsKept.{Over, Operations, Idle, Busy, Knows, Kept, Does, settled_kept}
 use Rattle.step_machine.proofs.StampsLaws.{apart}
 use Rattle.step_machine.proofs.Fixed.{EarnedAt, EarnedFreeing, EarnedUnlocking}
 use Rattle.step_machine.proofs.Accounts.{KeepsReply}

@@ -1,5 +1,5 @@
 -- What each list of moves leaves of effects: the places that they gave, and no others.
-use Rattle.std.proofs.Common.{◌≡◌, ◌≢◌, ℕ, suc, ◌+◌, ◌≤◌, ◌⊎◌, inl, inr, Bool, true, false, List, [], ◌∷◌, ◌++◌, length, map, drop, get_or, Option, Some, None, IfSome, set, refl, sym, subst, ap, ◌∙◌, append_assoc, append-nil, length-append, arith}
+use Rattle.std.proofs.Common.{◌≡◌, ◌≢◌, ℕ, ◌+◌, ◌≤◌, ◌⊎◌, inl, inr, Bool, true, false, List, [], ◌∷◌, ◌++◌, length, map, drop, get_or, Option, Some, None, IfSome, set, refl, sym, subst, ap, ◌∙◌, append_assoc, append-nil, length-append, arith}
 use Rattle.std.specs.Prelude.{slice_get, IsSome}
 use Rattle.std.specs.List.{AllByRecursion}
 use Rattle.std.proofs.lemmas.Option.{none-some, same_Some, get_or_from_slice_get, IfSome_then}
@@ -15,8 +15,8 @@ use Rattle.step_machine.specs.declared.actors.Move.TheVariants.{Begin, Step, Giv
 use Rattle.step_machine.specs.Machine.{World, opening, actor_of, new_operation, told, recorded, first_settled, stepped, AnyMove, made, Rest, next_any, run_on, run}
 use Rattle.step_machine.specs.TakingEffect.{HasEffect, TookEffect, IsByEffect, ArePlacedByEffect, HaveTheirEffect, OfOperations, OfOperationsOfCalls, HavePlacesByItsEffects}
 use Rattle.step_machine.proofs.AnyMoves.{after_move}
-use Rattle.step_machine.proofs.Reached.{some_of}
-use Rattle.step_machine.proofs.StampsLists.{PutAt, put_set, put_end, put_cases}
+use Rattle.step_machine.proofs.Reached.{some_of, if_some}
+use Rattle.step_machine.proofs.StampsLists.{PutAt, put_set, put_end, put_cases, all_of}
 use Rattle.step_machine.proofs.StampsLines.{Stands}
 use Rattle.step_machine.proofs.StampsKept.{Over, Knows, Kept}
 use Rattle.step_machine.proofs.StampsMoves.{May, moves_kept, may_rest_all, calls_rest_never}
@@ -278,19 +278,10 @@ module _ (Rests : Type 0) (s : Setup) (n : ℕ) where
   moves_known : (moves : List AnyMove) → AllByRecursion (May Rests) moves → IfSome (run moves (opening s n)) (λ w. Known moves w.operations w.steps)
   moves_known moves may = run_known moves [] (opening s n) tt may refl opening_known
 
--- a fact of the element at each place is one of all elements
-all_of : {X : Type 0} (P : X → Type 0) (xs : List X) → ((i : ℕ) (o : X) → slice_get xs i ≡ Some o → P o) → AllByRecursion P xs
-all_of P [] h = tt
-all_of P (x ∷ xs) h = (h 0 x refl, all_of P xs (λ i o got. h (suc i) o got))
-
-if_some_all : (o : Option ℕ) (P : ℕ → Type 0) → ((k : ℕ) → o ≡ Some k → P k) → IfSome o P
-if_some_all None P h = tt
-if_some_all (Some k) P h = h k refl
-
 pub placed_by_effect : OfOperations ArePlacedByEffect
 placed_by_effect s n moves =
     IfSome_then (run moves (opening s n)) (moves_known (Unit {0}) s n moves (may_rest_all moves))
-    (λ w h. all_of _ w.operations (λ i o got may. if_some_all o.at _ (λ k at. h.from i k o got may at)))
+    (λ w h. all_of _ w.operations (λ i o got may. if_some _ o.at (λ k at. h.from i k o got may at)))
 
 pub have_their_effect : OfOperationsOfCalls HaveTheirEffect
 have_their_effect s n moves =

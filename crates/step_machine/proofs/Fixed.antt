@@ -24,7 +24,6 @@ use Rattle.line_steps.specs.declared.actors.Outcome.{Outcome}
 use Rattle.line_steps.specs.Memory.{Found}
 use Rattle.line_steps.specs.Lines.{action, outcome, goes, ends, effect, sets_aside, takes, lets_go, to_pocket, with_node, freed, unlocked, busy_or, gives_up}
 use Rattle.line_steps.specs.Calling.{from_pocket, begun}
-use Rattle.step_machine.specs.Machine.{rested}
 
 -- whether a call that lets the head lock go has a node to free
 abbrev pub frees_after : Option Reply → Bool
@@ -245,10 +244,6 @@ fixed_given limit now me a D2 h = record { fixed = h.hand }
 fixed_given limit now me a A3 h = record { fixed = refl }
 fixed_given limit now me a B1 h = record { fixed = h.hand }
 fixed_given limit now me a _ h = tt
-
--- an actor that rests has nothing in its hand
-pub fixed_rested : (limit me : ℕ) (a : Actor) → FixedAt limit me (rested a) (rested a).line
-fixed_rested limit me a = refl
 
 from_pocket_fixed : (limit me : ℕ) (l : Line) (pocket : Option Held) (a : Actor) → a.pocket ≡ pocket → ((held : Held) → FixedAt limit me (from_pocket l (Some held) a) (Some l)) → (a.pocket ≡ None → FixedAt limit me a a.line) → FixedAt limit me (from_pocket l pocket a) (from_pocket l pocket a).line
 from_pocket_fixed limit me l None a e full none = none e

@@ -29,9 +29,9 @@ use Rattle.step_machine.specs.Machine.{World, actor_of, opening, new_operation, 
 use Rattle.step_machine.specs.Promises.{due_of, promised_reply}
 use Rattle.step_machine.specs.Stamps.{makers}
 use Rattle.step_machine.proofs.StampsLists.{same_or_not, slice_get-set_same, slice_get-set_other, slice_get-append_end, put_end}
-use Rattle.step_machine.proofs.StampsKept.{Idle, Busy, Knows, Kept, actor_stands, actor_cases}
+use Rattle.step_machine.proofs.StampsKept.{Idle, Busy, Knows, Kept, actor_cases}
 use Rattle.step_machine.proofs.StampsMoves.{moves_kept, may_rest_all}
-use Rattle.step_machine.proofs.Reached.{some_of}
+use Rattle.step_machine.proofs.Reached.{some_of, actor_stands}
 use Rattle.step_machine.proofs.Booking.{entered, entry_in, book, taken, map_agree, entry_kept, actor_same, actor_other}
 use Rattle.step_machine.proofs.Replay.{before}
 use Rattle.step_machine.proofs.Legal.{Accounted, WasEmpty, queue_of}

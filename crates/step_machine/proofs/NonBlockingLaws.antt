@@ -5,6 +5,7 @@ use Rattle.std.specs.List.{All}
 use Rattle.std.proofs.lemmas.Bool.{eqb-true, ltb-false}
 use Rattle.std.proofs.lemmas.List.Elements.{All-set, All-append, All-cons, All-nil}
 use Rattle.counted_ref.specs.Ref.{Ref, is_null, same_ref}
+use Rattle.counted_ref.proofs.Words.{same_ref-true, equal_refs}
 use Rattle.line_table.specs.declared.lines.Kind.{Kind}
 use Rattle.line_table.specs.declared.lines.Kind.TheVariants.{TwoLock, NonBlocking}
 use Rattle.line_table.specs.declared.lines.Line.{Line}
@@ -34,7 +35,6 @@ use Rattle.step_machine.proofs.Chains.{chain_same, second_leads}
 use Rattle.step_machine.proofs.Counting.{used_within, used_above, used_most, elsewhere}
 use Rattle.step_machine.proofs.Effects.{Shape, null_times}
 use Rattle.step_machine.proofs.Fixed.{FixedAt, EarnedFreeing}
-use Rattle.step_machine.proofs.Accounts.{ref_path, same_ref-true}
 use Rattle.step_machine.proofs.Older.{WasIn}
 use Rattle.step_machine.proofs.Naming.{names_a_word, accesses_name_words_two_lock}
 use Rattle.step_machine.proofs.Reaching.{each_reached}
@@ -90,7 +90,7 @@ tail_is_not_behind w r e =
 
     go : (front : ℕ) (rest before after : List ℕ) → (front ∷ rest) ≡ before ++ w.shared.tail.node ∷ after → w.shared.tail.count ≡ w.shared.head.count + length before → w.shared.head.node ≡ front → TailIsNotBehindHead w
     go front rest [] after chain count at =
-        (omega arith, λ same. ref_path w.shared.tail w.shared.head (sym (at ∙ ap first_of chain)) same)
+        (omega arith, λ same. equal_refs w.shared.tail w.shared.head (sym (at ∙ ap first_of chain)) same)
     go front rest (b ∷ bs) after chain count at = (omega arith, λ same. absurd (omega arith))
 
 -- what holds of an actor at a line, and of the words

@@ -23,12 +23,11 @@ use Rattle.step_machine.specs.Machine.{World, idle, opening, actor_of, rested, m
 use Rattle.step_machine.specs.Range.{WorldInRange, ActorInRange, LineInRange}
 use Rattle.step_machine.specs.Standing.{IsRunBy, HoldsNodes, Stands, ActorStands}
 use Rattle.step_machine.specs.Places.{one_if, times, held, set_aside}
-use Rattle.step_machine.proofs.Accounts.{same_ref-true}
 use Rattle.step_machine.proofs.StampsLines.{Turns, turned, given_turned}
-use Rattle.step_machine.proofs.StampsKept.{actor_stands, actor_cases, Does as Stamps}
+use Rattle.step_machine.proofs.StampsKept.{actor_cases, Does as Stamps}
 use Rattle.step_machine.proofs.StampsMoves.{idle_got}
 use Rattle.step_machine.proofs.Range.{writes, performed_in_range}
-use Rattle.step_machine.proofs.Reached.{some_of, reached_in_range, actor_in_range, mover_in_range}
+use Rattle.step_machine.proofs.Reached.{some_of, reached_in_range, actor_in_range, mover_in_range, actor_stands}
 use Rattle.step_machine.proofs.Standing.{EndsHold, found_holds, access_holds, FoundANode, Placed, placed, given_up_placed, still_stands, rested_stands, begun_stands}
 use Rattle.step_machine.proofs.Chains.{one_if_same, chain_some, second_leads, next_in, last_times}
 use Rattle.step_machine.proofs.Counting.{holds, elsewhere, elsewhere_settled, elsewhere_with, elsewhere_one, elsewhere_two, IsNew, used, used_most, used_above, held_one}
@@ -40,6 +39,7 @@ use Rattle.step_machine.proofs.TwoLockSound.{Carried, begun_holds, rested_holds,
 use Rattle.step_machine.proofs.NonBlockingKnows.{next_of, KnowsAt, IsMark, Marked, Moves, Keeps, knows_entry, knows_more, knows_kept, marks_kept}
 use Rattle.step_machine.proofs.NonBlockingEffects.{Sound, Does, Found, no_marks}
 use Rattle.step_machine.proofs.NonBlockingSteps.{does, gives}
+use Rattle.counted_ref.proofs.Words.{same_ref-true}
 
 -- what holds of an actor: where it stands, what its registers have, its marks, and what it knows
 abbrev pub Knowing : (Z : ℕ → Type 0) → Setup → Shared → (me : ℕ) → Actor → Type 0

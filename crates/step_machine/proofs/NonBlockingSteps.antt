@@ -2,6 +2,7 @@
 use Rattle.std.proofs.Common.{◌≡◌, ◌≢◌, ℕ, ◌+◌, ◌-◌, ◌≤◌, ◌<◌, Bool, true, false, nat_eq, nat_lt, if◌then◌else◌, List, ◌∷◌, length, set, Option, Some, None, IfSome, refl, sym, ap, ◌∙◌, subst, arith, ◌⊎◌, inl, inr}
 use Rattle.std.proofs.lemmas.Bool.{eqb-true, eqb-false, true≢false}
 use Rattle.counted_ref.specs.Ref.{Ref, ref, is_null, same_ref}
+use Rattle.counted_ref.proofs.Words.{same_ref-true}
 use Rattle.line_table.specs.declared.lines.Kind.{Kind}
 use Rattle.line_table.specs.declared.lines.Kind.TheVariants.{TwoLock, NonBlocking}
 use Rattle.line_table.specs.declared.lines.Line.{Line}
@@ -28,7 +29,7 @@ use Rattle.step_machine.specs.Standing.{IsRunBy, HoldsNodes}
 use Rattle.step_machine.proofs.Chains.{node_in, chain_none}
 use Rattle.step_machine.proofs.Counting.{holds, asides, holds_hand, holds_none, holds_own}
 use Rattle.step_machine.proofs.Effects.{written, next_keeps_value, with_node as with_new}
-use Rattle.step_machine.proofs.Accounts.{Account, KeepsReply, quiet, refused, found_empty, pushed, same_ref-true, raised_node, raised_count}
+use Rattle.step_machine.proofs.Accounts.{Account, KeepsReply, quiet, refused, found_empty, pushed, raised_node, raised_count}
 use Rattle.step_machine.proofs.Fixed.{FixedAt, Pushes, EarnedFreeing}
 use Rattle.step_machine.proofs.NonBlockingKnows.{next_of, KnowsAt, Marked, Ready, WasNext, MayGoOn}
 use Rattle.step_machine.proofs.NonBlockingLag.{behind_tail, tail_is_last, off, off_leads}

@@ -57,9 +57,9 @@ if_some P (Some x) f = f x refl
 pub some_of : {X : Type 0} (P : X → Type 0) (o : Option X) (x : X) → o ≡ Some x → IfSome o P → P x
 some_of P o x e h = subst (λ p. IfSome p P) e h
 
--- the actor of a number is the one that stands there
-there : (w : World) (me : ℕ) (a : Actor) → actor_of w me ≡ Some a → (1 ≤ me) × (slice_get w.actors (me - 1) ≡ Some a)
-there w me a e = go (nat_eq me 0) refl e
+-- the actor of a number stands in the list at the place before
+pub actor_stands : (w : World) (me : ℕ) (a : Actor) → actor_of w me ≡ Some a → (1 ≤ me) × (slice_get w.actors (me - 1) ≡ Some a)
+actor_stands w me a e = go (nat_eq me 0) refl e
   where
     go : (b : Bool) → nat_eq me 0 ≡ b → (if b then None else slice_get w.actors (me - 1)) ≡ Some a → (1 ≤ me) × (slice_get w.actors (me - 1) ≡ Some a)
     go true z f = absurd (none-some a f)
@@ -68,7 +68,7 @@ there w me a e = go (nat_eq me 0) refl e
 -- the number of an actor that is there is from 1 up to the number of actors
 pub mover_in_range : (w : World) (me : ℕ) (a : Actor) → actor_of w me ≡ Some a → (1 ≤ me) × (me ≤ length w.actors)
 mover_in_range w me a e =
-    let t : (1 ≤ me) × (slice_get w.actors (me - 1) ≡ Some a) = there w me a e in
+    let t : (1 ≤ me) × (slice_get w.actors (me - 1) ≡ Some a) = actor_stands w me a e in
     let p : 1 ≤ me = t.0 in
     let within : me - 1 < length w.actors = slice_get_within w.actors (me - 1) a t.1 in
     (p, omega arith)
@@ -76,7 +76,7 @@ mover_in_range w me a e =
 -- what holds of each actor holds of the actor of a number
 pub actor_of-All : (P : Actor → Type 0) (w : World) (me : ℕ) (a : Actor) → All P w.actors → actor_of w me ≡ Some a → P a
 actor_of-All P w me a h e =
-    let t : (1 ≤ me) × (slice_get w.actors (me - 1) ≡ Some a) = there w me a e in
+    let t : (1 ≤ me) × (slice_get w.actors (me - 1) ≡ Some a) = actor_stands w me a e in
     subst P (get_or_from_slice_get w.actors (me - 1) a a t.1) (h (me - 1) a (slice_get_within w.actors (me - 1) a t.1))
 
 -- each actor of a world in range is in range
@@ -242,10 +242,6 @@ made_reached w m = record { actors = m.actors; moves = map made m.moves; sized =
 -- a world that the calls of a world lead to is in range
 pub made_in_range : (w : World) → IsMade w → WorldInRange w
 made_in_range w m = reached_in_range w (made_reached w m)
-
--- no move changes the number of actors
-pub length-actors : (w : World) (r : IsReached w) → length w.actors ≡ r.actors
-length-actors w r = (reached_holds w r).number
 
 -- the world in which nothing happened yet is one that no moves lead to
 pub opening_made : (s : Setup) (actors : ℕ) → IsSized s actors → IsMade (opening s actors)

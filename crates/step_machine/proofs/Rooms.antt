@@ -1,5 +1,5 @@
 -- The room that a world keeps for nodes and entries, over a begin and over a step.
-use Rattle.std.proofs.Common.{◌≡◌, ℕ, zero, suc, ◌+◌, ◌-◌, ◌<◌, ◌≤◌, ◌⊎◌, inl, inr, Bool, true, false, ◌&&◌, nat_eq, nat_lt, if◌then◌else◌, Option, Some, None, List, [], ◌∷◌, length, get_or, set, slice_get, refl, sym, ap, subst, ◌∙◌, arith, length-append}
+use Rattle.std.proofs.Common.{◌≡◌, ℕ, zero, suc, ◌+◌, ◌<◌, ◌≤◌, ◌⊎◌, inl, inr, Bool, true, false, ◌&&◌, nat_lt, if◌then◌else◌, Option, Some, None, List, [], ◌∷◌, length, get_or, set, slice_get, refl, sym, ap, subst, ◌∙◌, arith, length-append}
 use Rattle.std.proofs.Math.ListN.{length-set}
 use Rattle.std.proofs.lemmas.Bool.{ltb-true, ltb-false}
 use Rattle.std.proofs.lemmas.List.Sums.{sum_by-set, sum_by-le, get_or-le-sum_by}
@@ -9,7 +9,7 @@ use Rattle.line_table.specs.declared.lines.Line.TheVariants.{N1}
 use Rattle.history.specs.declared.operations.Stamped.{Stamped}
 use Rattle.line_steps.specs.declared.actors.Actor.{Actor}
 use Rattle.line_steps.specs.Rooms.{room_after}
-use Rattle.step_machine.specs.Machine.{recorded, World, actor_of}
+use Rattle.step_machine.specs.Machine.{recorded}
 use Rattle.step_machine.specs.Views.{seeks, seekers, is_unrecorded, unrecorded, HasNodes, HasEntry}
 
 -- an element that a list has at an index
@@ -17,14 +17,6 @@ pub got : {X : Type 0} (xs : List X) (i : ℕ) (x : X) → slice_get xs i ≡ So
 got [] i x e = cc
 got (y ∷ ys) zero x e = (omega arith, λ d. cc)
 got (y ∷ ys) (suc i) x e = let h = got ys i x e in (omega (arith, h.0), h.1)
-
--- the actor of a number stands in the list
-pub actor_got : (w : World) (me : ℕ) (a : Actor) → actor_of w me ≡ Some a → slice_get w.actors (me - 1) ≡ Some a
-actor_got w me a e = go (nat_eq me 0) e
-  where
-    go : (b : Bool) → (if b then None else slice_get w.actors (me - 1)) ≡ Some a → slice_get w.actors (me - 1) ≡ Some a
-    go true e = cc
-    go false e = e
 
 -- a sum with one item replaced, from what the item was
 sum_set : {X : Type 0} (f : X → ℕ) (xs : List X) (i : ℕ) (x y : X) → slice_get xs i ≡ Some x → sum_by f (set xs i y) + f x ≡ sum_by f xs + f y

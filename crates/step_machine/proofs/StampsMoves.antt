@@ -22,9 +22,9 @@ use Rattle.step_machine.specs.declared.actors.Move.TheVariants.{Begin, Step, Giv
 use Rattle.step_machine.specs.Machine.{World, idle, opening, actor_of, rested, with_actor, may_rest, AnyMove, made, Rest, next_any, run_on, run}
 use Rattle.step_machine.specs.Stamps.{makers, HasNoEffect}
 use Rattle.step_machine.proofs.AnyMoves.{after_move}
-use Rattle.step_machine.proofs.Reached.{some_of}
+use Rattle.step_machine.proofs.Reached.{some_of, actor_stands}
 use Rattle.step_machine.proofs.StampsLines.{Stands, Turns, turned, given_turned}
-use Rattle.step_machine.proofs.StampsKept.{Over, Idle, Knows, Kept, actor_stands, actor_cases, settled_kept}
+use Rattle.step_machine.proofs.StampsKept.{Over, Idle, Knows, Kept, actor_cases, settled_kept}
 use Rattle.step_machine.proofs.StampsLists.{same_or_not}
 
 -- the makers after one more move

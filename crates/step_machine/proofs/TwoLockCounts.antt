@@ -23,8 +23,8 @@ use Rattle.line_steps.specs.Calling.{from_pocket, begun}
 use Rattle.step_machine.specs.Machine.{World, opening, actor_of, rested, with_actor, entry_or, settled, IsReached}
 use Rattle.step_machine.specs.Standing.{IsRunBy}
 use Rattle.step_machine.specs.TwoLock.{OfTwoLockWorlds, CountsNothing}
-use Rattle.step_machine.proofs.Reached.{some_of}
-use Rattle.step_machine.proofs.StampsKept.{actor_stands, actor_cases}
+use Rattle.step_machine.proofs.Reached.{some_of, actor_stands}
+use Rattle.step_machine.proofs.StampsKept.{actor_cases}
 use Rattle.step_machine.proofs.StampsMoves.{idle_got}
 use Rattle.step_machine.proofs.Reaching.{each_reached}
 use Rattle.step_machine.proofs.TwoLockSound.{nodes_at}

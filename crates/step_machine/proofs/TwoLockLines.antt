@@ -2,6 +2,7 @@
 use Rattle.std.proofs.Common.{◌≡◌, ◌≢◌, ℕ, ◌+◌, ◌≤◌, Bool, true, false, nat_eq, nat_lt, if◌then◌else◌, List, [], ◌∷◌, ◌++◌, length, Option, Some, None, IfSome, refl, sym, ap, ◌∙◌, subst, arith, inl, inr}
 use Rattle.std.proofs.lemmas.Bool.{eqb-true}
 use Rattle.counted_ref.specs.Ref.{Ref, ref, is_null, same_ref}
+use Rattle.counted_ref.proofs.Words.{same_ref-true}
 use Rattle.line_table.specs.declared.lines.Kind.{Kind}
 use Rattle.line_table.specs.declared.lines.Kind.TheVariants.{TwoLock, NonBlocking}
 use Rattle.line_table.specs.declared.lines.Line.{Line}
@@ -29,7 +30,7 @@ use Rattle.step_machine.proofs.Counting.{holds, holds_hand, holds_own}
 use Rattle.step_machine.proofs.Effects.{Shape, Turn, Took, written, next_keeps_value, turn_words, turn_aside, turn_claim, turn_take, turn_giveback, turn_node, turn_link, turn_pop, with_node as node_set}
 use Rattle.step_machine.proofs.Fixed.{FixedAt, EarnedFreeing, EarnedUnlocking}
 use Rattle.step_machine.proofs.Older.{Rises}
-use Rattle.step_machine.proofs.Accounts.{KeepsReply, Account, quiet, refused, found_empty, pushed, popped, same_ref-true, raised_node, raised_count}
+use Rattle.step_machine.proofs.Accounts.{KeepsReply, Account, quiet, refused, found_empty, pushed, popped, raised_node, raised_count}
 use Rattle.step_machine.proofs.TwoLockKnows.{OwnsAt, Owns, has_tail, has_head, Unlocks, KnowsAt, LocksKept}
 
 -- the node that a step sets aside was in the actor's hand

@@ -84,11 +84,6 @@ Stands kind a (Some l) = IsRunBy (section_of l) kind × HoldsNodes l a
 abbrev pub ActorStands : Kind → Actor → Type 0
 ActorStands kind a = record { pocket : IfSome a.pocket (λ held. 1 ≤ held.node); line : Stands kind a a.line }
 
--- an actor's next line is one of its queue
-abbrev pub LineIsRunBy : Kind → Option Line → Type 0
-LineIsRunBy kind None = Unit {0}
-LineIsRunBy kind (Some l) = IsRunBy (section_of l) kind
-
 -- each actor that has a call stands before a line of its queue
 abbrev pub EachRunsItsQueue : World → Type 0
 EachRunsItsQueue w =
