@@ -15,15 +15,12 @@ use Rattle.line_steps.specs.declared.actors.Outcome.{Outcome}
 use Rattle.line_steps.specs.Memory.{Shared, node_at, found}
 use Rattle.line_steps.specs.Lines.{action, outcome, ends, sets_aside, freed, unlocked, busy_or, gives_up}
 use Rattle.step_machine.specs.TakingEffect.{HasEffect, IsByEffect}
+use Rattle.step_machine.proofs.Choices.{both}
 use Rattle.step_machine.proofs.Reached.{some_of}
 
 -- an outcome gives no place, or it is told empty or refused
 abbrev pub Quiet : Outcome → Type 0
 Quiet o = (o.at ≡ None) ⊎ (IsByEffect o.reply → ⊥)
-
-both : (b : Bool) (x y : Outcome) → Quiet x → Quiet y → Quiet (if b then x else y)
-both true x y h g = h
-both false x y h g = g
 
 ends_quiet : (now : ℕ) (reply : Reply) (a : Actor) → Quiet (ends now reply a)
 ends_quiet now Done a = inl refl
@@ -72,36 +69,36 @@ line_effects s now me a A5 m = record { by = λ n e may. (same_Some n now (sym e
 line_effects s now me a B5 m = record { by = λ n e may. (same_Some n now (sym e), tt); gives = λ h. refl }
 line_effects s now me a N2 m =
     quietly now _
-    (both (is_null m.free) _ _ (both (nat_lt a.f s.size) _ _ (inl refl) (inr (λ h. h)))
-    (both (nat_eq m.free.count s.limit) _ _ (inr (λ h. h)) (inl refl)))
-line_effects s now me a N4 m = quietly now _ (both (same_ref m.free a.top) _ _ (inl refl) (inl refl))
-line_effects s now me a N5 m = quietly now _ (both (nat_eq m.fresh a.f) _ _ (inl refl) (inl refl))
+    (both Quiet (is_null m.free) (both Quiet (nat_lt a.f s.size) (inl refl) (inr (λ h. h)))
+    (both Quiet (nat_eq m.free.count s.limit) (inr (λ h. h)) (inl refl)))
+line_effects s now me a N4 m = quietly now _ (both Quiet (same_ref m.free a.top) (inl refl) (inl refl))
+line_effects s now me a N5 m = quietly now _ (both Quiet (nat_eq m.fresh a.f) (inl refl) (inl refl))
 line_effects s now me a F1 m =
     quietly now _
-    (both (nat_eq m.free.count s.limit) _ _ (aside_quiet (freed s.kind now a.due (record a { top = m.free })) (freed_quiet s.kind now a.due (record a { top = m.free }))) (inl refl))
+    (both Quiet (nat_eq m.free.count s.limit) (aside_quiet (freed s.kind now a.due (record a { top = m.free })) (freed_quiet s.kind now a.due (record a { top = m.free }))) (inl refl))
 line_effects s now me a F3 m =
-    quietly now _ (both (same_ref m.free a.top) _ _ (freed_quiet s.kind now a.due (record a { holds = false })) (inl refl))
+    quietly now _ (both Quiet (same_ref m.free a.top) (freed_quiet s.kind now a.due (record a { holds = false })) (inl refl))
 line_effects s now me a E3 m =
-    quietly now _ (both (nat_eq (node_at m a.node).next.count s.limit) _ _ (inr (λ h. h)) (inl refl))
+    quietly now _ (both Quiet (nat_eq (node_at m a.node).next.count s.limit) (inr (λ h. h)) (inl refl))
 line_effects s now me a E7 m =
     quietly now _
-    (both (same_ref m.tail a.tail) _ _
-    (both (is_null a.next) _ _ (inl refl) (both (nat_eq a.tail.count s.limit) _ _ (inr (λ h. h)) (inl refl)))
+    (both Quiet (same_ref m.tail a.tail)
+    (both Quiet (is_null a.next) (inl refl) (both Quiet (nat_eq a.tail.count s.limit) (inr (λ h. h)) (inl refl)))
     (inl refl))
 line_effects s now me a D5 m =
     quietly now _
-    (both (same_ref m.head a.head) _ _
-    (both (nat_eq a.head.node a.tail.node) _ _
-    (both (is_null a.next) _ _ (inr (λ h. h)) (both (nat_eq a.tail.count s.limit) _ _ (inr (λ h. h)) (inl refl)))
+    (both Quiet (same_ref m.head a.head)
+    (both Quiet (nat_eq a.head.node a.tail.node)
+    (both Quiet (is_null a.next) (inr (λ h. h)) (both Quiet (nat_eq a.tail.count s.limit) (inr (λ h. h)) (inl refl)))
     (inl refl))
     (inl refl))
 line_effects s now me a D12 m =
-    quietly now _ (both (nat_eq a.head.count s.limit) _ _ (inr (λ h. h)) (inl refl))
-line_effects s now me a A3 m = quietly now _ (both (nat_eq m.tail_lock 0) _ _ (inl refl) (inl refl))
-line_effects s now me a B1 m = quietly now _ (both (nat_eq m.head_lock 0) _ _ (inl refl) (inl refl))
+    quietly now _ (both Quiet (nat_eq a.head.count s.limit) (inr (λ h. h)) (inl refl))
+line_effects s now me a A3 m = quietly now _ (both Quiet (nat_eq m.tail_lock 0) (inl refl) (inl refl))
+line_effects s now me a B1 m = quietly now _ (both Quiet (nat_eq m.head_lock 0) (inl refl) (inl refl))
 line_effects s now me a B3 m =
-    quietly now _ (both (is_null (node_at m a.head.node).next) _ _ (inl refl) (inl refl))
-line_effects s now me a B4 m = quietly now _ (both (nat_eq a.head.count s.limit) _ _ (inl refl) (inl refl))
+    quietly now _ (both Quiet (is_null (node_at m a.head.node).next) (inl refl) (inl refl))
+line_effects s now me a B4 m = quietly now _ (both Quiet (nat_eq a.head.count s.limit) (inl refl) (inl refl))
 line_effects s now me a B6 m = quietly now _ (unlocked_quiet now a.due a)
 line_effects s now me a _ m = quietly now _ (inl refl)
 

@@ -24,6 +24,7 @@ use Rattle.line_steps.specs.declared.actors.Outcome.{Outcome}
 use Rattle.line_steps.specs.Memory.{Found}
 use Rattle.line_steps.specs.Lines.{action, outcome, goes, ends, effect, sets_aside, takes, lets_go, to_pocket, with_node, freed, unlocked, busy_or, gives_up}
 use Rattle.line_steps.specs.Calling.{from_pocket, begun}
+use Rattle.step_machine.proofs.Choices.{either, both}
 
 -- whether a call that lets the head lock go has a node to free
 abbrev pub frees_after : Option Reply → Bool
@@ -130,14 +131,6 @@ pub record Fixes (limit me : ℕ) (o : Outcome) : Type 0 where
   pub fixed : FixedAt limit me o.actor o.actor.line
 
 module _ (limit me : ℕ) where
-  either : (b : Bool) (x y : Outcome) → (b ≡ true → Fixes limit me x) → (b ≡ false → Fixes limit me y) → Fixes limit me (if b then x else y)
-  either true x y hx hy = hx refl
-  either false x y hx hy = hy refl
-
-  both : (b : Bool) (x y : Outcome) → Fixes limit me x → Fixes limit me y → Fixes limit me (if b then x else y)
-  both true x y hx hy = hx
-  both false x y hx hy = hy
-
   with_node_fixed : (kind : Kind) (a : Actor) → a.pocket ≡ None → a.holds ≡ true → Pushes me a.op a.val → a.due ≡ None → Fixes limit me (goes (with_node kind) a)
   with_node_fixed TwoLock a p h c e = record { fixed = record { pocket = p; hand = h; call = c; earned = e; room = tt } }
   with_node_fixed NonBlocking a p h c e = record { fixed = record { pocket = p; hand = h; call = c; earned = e; room = tt } }
@@ -167,65 +160,65 @@ module _ (limit me : ℕ) where
 -- the outcome of each line
 pub fixed : (s : Setup) (now me : ℕ) (a : Actor) (l : Line) (c : Found (action s me a l)) → FixedAt s.limit me a (Some l) → Fixes s.limit me (outcome s now me a l c)
 fixed s now me a N2 c h =
-    both s.limit me (is_null c) _ _
-    (both s.limit me (nat_lt a.f s.size) _ _ (record { fixed = record { pocket = h.pocket; hand = h.hand; call = h.call; earned = h.earned; room = tt } }) (record { fixed = h.hand }))
-    (either s.limit me (nat_eq c.count s.limit) _ _ (λ e. record { fixed = h.hand })
+    both (Fixes s.limit me) (is_null c)
+    (both (Fixes s.limit me) (nat_lt a.f s.size) (record { fixed = record { pocket = h.pocket; hand = h.hand; call = h.call; earned = h.earned; room = tt } }) (record { fixed = h.hand }))
+    (either (Fixes s.limit me) (nat_eq c.count s.limit) (λ e. record { fixed = h.hand })
     (λ e. record { fixed = record { pocket = h.pocket; hand = h.hand; call = h.call; earned = h.earned; room = eqb-false c.count s.limit e } }))
 fixed s now me a N3 c h = record { fixed = record { pocket = h.pocket; hand = h.hand; call = h.call; earned = h.earned; room = h.room } }
 fixed s now me a N4 c h =
-    both s.limit me (same_ref c a.top) _ _ (with_node_fixed s.limit me s.kind (takes a.top.node a.next.count a) h.pocket refl h.call h.earned)
+    both (Fixes s.limit me) (same_ref c a.top) (with_node_fixed s.limit me s.kind (takes a.top.node a.next.count a) h.pocket refl h.call h.earned)
     (record { fixed = record { pocket = h.pocket; hand = h.hand; call = h.call; earned = h.earned; room = tt } })
 fixed s now me a N5 c h =
-    both s.limit me (nat_eq c a.f) _ _ (with_node_fixed s.limit me s.kind (takes (a.f + 1) 0 a) h.pocket refl h.call h.earned)
+    both (Fixes s.limit me) (nat_eq c a.f) (with_node_fixed s.limit me s.kind (takes (a.f + 1) 0 a) h.pocket refl h.call h.earned)
     (record { fixed = record { pocket = h.pocket; hand = h.hand; call = h.call; earned = h.earned; room = tt } })
 fixed s now me a F1 c h =
-    either s.limit me (nat_eq c.count s.limit) _ _
+    either (Fixes s.limit me) (nat_eq c.count s.limit)
     (λ e. aside_fixed s.limit me s.kind now a.due (record a { top = c }) refl h.pocket h.call)
     (λ e. record { fixed = record { pocket = h.pocket; hand = h.hand; call = h.call; earned = h.earned; room = eqb-false c.count s.limit e } })
 fixed s now me a F2 c h = record { fixed = record { pocket = h.pocket; hand = h.hand; call = h.call; earned = h.earned; room = h.room } }
 fixed s now me a F3 c h =
-    both s.limit me (same_ref c a.top) _ _ (freed_fixed s.limit me s.kind now a.due (lets_go a) refl h.pocket refl h.call)
+    both (Fixes s.limit me) (same_ref c a.top) (freed_fixed s.limit me s.kind now a.due (lets_go a) refl h.pocket refl h.call)
     (record { fixed = record { pocket = h.pocket; hand = h.hand; call = h.call; earned = h.earned; room = tt } })
 fixed s now me a E3 c h =
-    both s.limit me (nat_eq c.count s.limit) _ _ (record { fixed = refl })
+    both (Fixes s.limit me) (nat_eq c.count s.limit) (record { fixed = refl })
     (record { fixed = record { pocket = h.pocket; hand = h.hand; call = h.call; earned = h.earned; room = tt } })
 fixed s now me a E7 c h =
-    both s.limit me (same_ref c a.tail) _ _
-    (both s.limit me (is_null a.next) _ _ (record { fixed = record { pocket = h.pocket; hand = h.hand; call = h.call; earned = h.earned; room = tt } })
-    (either s.limit me (nat_eq a.tail.count s.limit) _ _ (λ e. record { fixed = refl })
+    both (Fixes s.limit me) (same_ref c a.tail)
+    (both (Fixes s.limit me) (is_null a.next) (record { fixed = record { pocket = h.pocket; hand = h.hand; call = h.call; earned = h.earned; room = tt } })
+    (either (Fixes s.limit me) (nat_eq a.tail.count s.limit) (λ e. record { fixed = refl })
     (λ e. record { fixed = record { pocket = h.pocket; hand = h.hand; call = h.call; earned = h.earned; room = eqb-false a.tail.count s.limit e } })))
     (record { fixed = record { pocket = h.pocket; hand = h.hand; call = h.call; earned = h.earned; room = tt } })
 fixed s now me a E9 c h =
-    both s.limit me (same_ref c a.next) _ _ (ended_or s.limit me (nat_eq a.tail.count s.limit) now a (λ e. eqb-false a.tail.count s.limit e) h.pocket h.call)
+    both (Fixes s.limit me) (same_ref c a.next) (ended_or s.limit me (nat_eq a.tail.count s.limit) now a (λ e. eqb-false a.tail.count s.limit e) h.pocket h.call)
     (record { fixed = record { pocket = h.pocket; hand = h.hand; call = h.call; earned = h.earned; room = tt } })
 fixed s now me a E17 c h = record { fixed = h.hand }
 fixed s now me a D5 c h =
-    both s.limit me (same_ref c a.head) _ _
-    (both s.limit me (nat_eq a.head.node a.tail.node) _ _
-    (both s.limit me (is_null a.next) _ _ (record { fixed = h.hand })
-    (either s.limit me (nat_eq a.tail.count s.limit) _ _ (λ e. record { fixed = h.hand })
+    both (Fixes s.limit me) (same_ref c a.head)
+    (both (Fixes s.limit me) (nat_eq a.head.node a.tail.node)
+    (both (Fixes s.limit me) (is_null a.next) (record { fixed = h.hand })
+    (either (Fixes s.limit me) (nat_eq a.tail.count s.limit) (λ e. record { fixed = h.hand })
     (λ e. record { fixed = record { pocket = h.pocket; hand = h.hand; call = h.call; earned = h.earned; room = eqb-false a.tail.count s.limit e } })))
     (record { fixed = record { pocket = h.pocket; hand = h.hand; call = h.call; earned = h.earned; room = tt } }))
     (record { fixed = record { pocket = h.pocket; hand = h.hand; call = h.call; earned = h.earned; room = tt } })
 fixed s now me a D12 c h =
-    either s.limit me (nat_eq a.head.count s.limit) _ _ (λ e. record { fixed = h.hand })
+    either (Fixes s.limit me) (nat_eq a.head.count s.limit) (λ e. record { fixed = h.hand })
     (λ e. record { fixed = record { pocket = h.pocket; hand = h.hand; call = h.call; earned = h.earned; room = eqb-false a.head.count s.limit e } })
 fixed s now me a D13 c h =
-    both s.limit me (same_ref c a.head) _ _ (record { fixed = record { pocket = h.pocket; hand = refl; call = h.call; earned = tt; room = tt } })
+    both (Fixes s.limit me) (same_ref c a.head) (record { fixed = record { pocket = h.pocket; hand = refl; call = h.call; earned = tt; room = tt } })
     (record { fixed = record { pocket = h.pocket; hand = h.hand; call = h.call; earned = h.earned; room = tt } })
 fixed s now me a A3 c h =
-    both s.limit me (nat_eq c 0) _ _ (record { fixed = record { pocket = h.pocket; hand = h.hand; call = h.call; earned = h.earned; room = tt } })
+    both (Fixes s.limit me) (nat_eq c 0) (record { fixed = record { pocket = h.pocket; hand = h.hand; call = h.call; earned = h.earned; room = tt } })
     (record { fixed = record { pocket = h.pocket; hand = h.hand; call = h.call; earned = h.earned; room = tt } })
 fixed s now me a A5 c h = record { fixed = record { pocket = h.pocket; hand = refl; call = h.call; earned = refl; room = tt } }
 fixed s now me a A7 c h = record { fixed = h.hand }
 fixed s now me a B1 c h =
-    both s.limit me (nat_eq c 0) _ _ (record { fixed = record { pocket = h.pocket; hand = h.hand; call = h.call; earned = h.earned; room = tt } })
+    both (Fixes s.limit me) (nat_eq c 0) (record { fixed = record { pocket = h.pocket; hand = h.hand; call = h.call; earned = h.earned; room = tt } })
     (record { fixed = record { pocket = h.pocket; hand = h.hand; call = h.call; earned = h.earned; room = tt } })
 fixed s now me a B3 c h =
-    both s.limit me (is_null c) _ _ (record { fixed = record { pocket = h.pocket; hand = h.hand; call = h.call; earned = tt; room = tt } })
+    both (Fixes s.limit me) (is_null c) (record { fixed = record { pocket = h.pocket; hand = h.hand; call = h.call; earned = tt; room = tt } })
     (record { fixed = record { pocket = h.pocket; hand = h.hand; call = h.call; earned = h.earned; room = tt } })
 fixed s now me a B4 c h =
-    either s.limit me (nat_eq a.head.count s.limit) _ _ (λ e. record { fixed = record { pocket = h.pocket; hand = h.hand; call = h.call; earned = refl; room = tt } })
+    either (Fixes s.limit me) (nat_eq a.head.count s.limit) (λ e. record { fixed = record { pocket = h.pocket; hand = h.hand; call = h.call; earned = refl; room = tt } })
     (λ e. record { fixed = record { pocket = h.pocket; hand = h.hand; call = h.call; earned = h.earned; room = eqb-false a.head.count s.limit e } })
 fixed s now me a B5 c h = record { fixed = record { pocket = h.pocket; hand = refl; call = h.call; earned = tt; room = tt } }
 fixed s now me a B6 c h = unlocked_fixed s.limit me now a.due a refl h.pocket h.hand h.call h.earned

@@ -14,16 +14,12 @@ use Rattle.line_steps.specs.declared.actors.Outcome.{Outcome}
 use Rattle.line_steps.specs.Memory.{Shared, Found, found, performed, put, same, content, Free, Head, Tail, Tail_lock, Head_lock, Next, Fresh}
 use Rattle.line_steps.specs.Lines.{action, outcome, freed, unlocked, sets_aside, goes, effect, with_node, ends, lets_go, takes, raised, gives_up, busy_or, to_pocket}
 use Rattle.step_machine.specs.Views.{seeks}
+use Rattle.step_machine.proofs.Choices.{both}
 
 -- the actor of an outcome looks for a node only where the line before did, and the node set aside is this one
 pub record Settles (seek node : ℕ) (o : Outcome) : Type 0 where
   pub looks : seeks o.actor.line ≤ seek
   pub leaves : IfSome o.aside (λ n. n ≡ node)
-
--- a choice of two such outcomes
-both : (k n : ℕ) (b : Bool) (x y : Outcome) → Settles k n x → Settles k n y → Settles k n (if b then x else y)
-both k n true x y hx hy = hx
-both k n false x y hx hy = hy
 
 freed_settles : (n : ℕ) (k : Kind) (now : ℕ) (due : Option Reply) (a : Actor) → Settles 0 n (freed k now due a)
 freed_settles n TwoLock now None a = record { looks = omega arith; leaves = tt }
@@ -52,37 +48,37 @@ weakened n o h = record { looks = omega (arith, h.looks); leaves = h.leaves }
 -- one step, but for a won exchange of Fresh, adds no actor that looks for a node
 pub settles : (s : Setup) (now me : ℕ) (a : Actor) (l : Line) (c : Found (action s me a l)) → Settles (seeks (Some l)) a.node (outcome s now me a l c)
 settles s now me a N2 c =
-    both _ _ (is_null c) _ _ (both _ _ (nat_lt a.f s.size) _ _ record { looks = omega arith; leaves = tt } record { looks = omega arith; leaves = tt })
-    (both _ _ (nat_eq c.count s.limit) _ _ record { looks = omega arith; leaves = tt } record { looks = omega arith; leaves = tt })
+    both (Settles _ _) (is_null c) (both (Settles _ _) (nat_lt a.f s.size) record { looks = omega arith; leaves = tt } record { looks = omega arith; leaves = tt })
+    (both (Settles _ _) (nat_eq c.count s.limit) record { looks = omega arith; leaves = tt } record { looks = omega arith; leaves = tt })
 settles s now me a N4 c =
-    both _ _ (same_ref c a.top) _ _ (weakened _ _ (with_node_settles _ s.kind (takes a.top.node a.next.count a))) record { looks = omega arith; leaves = tt }
+    both (Settles _ _) (same_ref c a.top) (weakened _ _ (with_node_settles _ s.kind (takes a.top.node a.next.count a))) record { looks = omega arith; leaves = tt }
 settles s now me a N5 c =
-    both _ _ (nat_eq c a.f) _ _ (weakened _ _ (with_node_settles _ s.kind (takes (a.f + 1) 0 a))) record { looks = omega arith; leaves = tt }
+    both (Settles _ _) (nat_eq c a.f) (weakened _ _ (with_node_settles _ s.kind (takes (a.f + 1) 0 a))) record { looks = omega arith; leaves = tt }
 settles s now me a F1 c =
-    both _ _ (nat_eq c.count s.limit) _ _ (freed_aside s.kind now a.due (record a { top = c })) record { looks = omega arith; leaves = tt }
+    both (Settles _ _) (nat_eq c.count s.limit) (freed_aside s.kind now a.due (record a { top = c })) record { looks = omega arith; leaves = tt }
 settles s now me a F3 c =
-    both _ _ (same_ref c a.top) _ _ (freed_settles _ s.kind now a.due (lets_go a)) record { looks = omega arith; leaves = tt }
+    both (Settles _ _) (same_ref c a.top) (freed_settles _ s.kind now a.due (lets_go a)) record { looks = omega arith; leaves = tt }
 settles s now me a E3 c =
-    both _ _ (nat_eq c.count s.limit) _ _ record { looks = omega arith; leaves = refl } record { looks = omega arith; leaves = tt }
+    both (Settles _ _) (nat_eq c.count s.limit) record { looks = omega arith; leaves = refl } record { looks = omega arith; leaves = tt }
 settles s now me a E7 c =
-    both _ _ (same_ref c a.tail) _ _ (both _ _ (is_null a.next) _ _ record { looks = omega arith; leaves = tt } (both _ _ (nat_eq a.tail.count s.limit) _ _ record { looks = omega arith; leaves = tt } record { looks = omega arith; leaves = tt })) record { looks = omega arith; leaves = tt }
+    both (Settles _ _) (same_ref c a.tail) (both (Settles _ _) (is_null a.next) record { looks = omega arith; leaves = tt } (both (Settles _ _) (nat_eq a.tail.count s.limit) record { looks = omega arith; leaves = tt } record { looks = omega arith; leaves = tt })) record { looks = omega arith; leaves = tt }
 settles s now me a E9 c =
-    both _ _ (same_ref c a.next) _ _ (linked (nat_eq a.tail.count s.limit)) record { looks = omega arith; leaves = tt }
+    both (Settles _ _) (same_ref c a.next) (linked (nat_eq a.tail.count s.limit)) record { looks = omega arith; leaves = tt }
   where
     linked : (b : Bool) → Settles 0 a.node (effect now (if b then ends now Done (lets_go (record a { due = Some Done })) else goes E17 (lets_go (record a { due = Some Done }))))
     linked true = record { looks = omega arith; leaves = tt }
     linked false = record { looks = omega arith; leaves = tt }
 settles s now me a D5 c =
-    both _ _ (same_ref c a.head) _ _ (both _ _ (nat_eq a.head.node a.tail.node) _ _ (both _ _ (is_null a.next) _ _ record { looks = omega arith; leaves = tt } (both _ _ (nat_eq a.tail.count s.limit) _ _ record { looks = omega arith; leaves = tt } record { looks = omega arith; leaves = tt })) record { looks = omega arith; leaves = tt }) record { looks = omega arith; leaves = tt }
+    both (Settles _ _) (same_ref c a.head) (both (Settles _ _) (nat_eq a.head.node a.tail.node) (both (Settles _ _) (is_null a.next) record { looks = omega arith; leaves = tt } (both (Settles _ _) (nat_eq a.tail.count s.limit) record { looks = omega arith; leaves = tt } record { looks = omega arith; leaves = tt })) record { looks = omega arith; leaves = tt }) record { looks = omega arith; leaves = tt }
 settles s now me a D12 c =
-    both _ _ (nat_eq a.head.count s.limit) _ _ record { looks = omega arith; leaves = tt } record { looks = omega arith; leaves = tt }
+    both (Settles _ _) (nat_eq a.head.count s.limit) record { looks = omega arith; leaves = tt } record { looks = omega arith; leaves = tt }
 settles s now me a D13 c =
-    both _ _ (same_ref c a.head) _ _ record { looks = omega arith; leaves = tt } record { looks = omega arith; leaves = tt }
-settles s now me a A3 c = both _ _ (nat_eq c 0) _ _ record { looks = omega arith; leaves = tt } record { looks = omega arith; leaves = tt }
-settles s now me a B1 c = both _ _ (nat_eq c 0) _ _ record { looks = omega arith; leaves = tt } record { looks = omega arith; leaves = tt }
-settles s now me a B3 c = both _ _ (is_null c) _ _ record { looks = omega arith; leaves = tt } record { looks = omega arith; leaves = tt }
+    both (Settles _ _) (same_ref c a.head) record { looks = omega arith; leaves = tt } record { looks = omega arith; leaves = tt }
+settles s now me a A3 c = both (Settles _ _) (nat_eq c 0) record { looks = omega arith; leaves = tt } record { looks = omega arith; leaves = tt }
+settles s now me a B1 c = both (Settles _ _) (nat_eq c 0) record { looks = omega arith; leaves = tt } record { looks = omega arith; leaves = tt }
+settles s now me a B3 c = both (Settles _ _) (is_null c) record { looks = omega arith; leaves = tt } record { looks = omega arith; leaves = tt }
 settles s now me a B4 c =
-    both _ _ (nat_eq a.head.count s.limit) _ _ record { looks = omega arith; leaves = tt } record { looks = omega arith; leaves = tt }
+    both (Settles _ _) (nat_eq a.head.count s.limit) record { looks = omega arith; leaves = tt } record { looks = omega arith; leaves = tt }
 settles s now me a B6 c = unlocked_settles _ now a.due a
 settles s now me a _ c = record { looks = omega arith; leaves = tt }
 

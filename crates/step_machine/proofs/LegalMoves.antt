@@ -28,6 +28,7 @@ use Rattle.line_steps.specs.Calling.{from_pocket, begun}
 use Rattle.step_machine.specs.Machine.{World, actor_of, opening, new_operation, told, recorded, entry_or, settled, with_actor, run, IsReached}
 use Rattle.step_machine.specs.Promises.{due_of, promised_reply}
 use Rattle.step_machine.specs.Stamps.{makers}
+use Rattle.step_machine.proofs.Choices.{both}
 use Rattle.step_machine.proofs.StampsLists.{same_or_not, slice_get-set_same, slice_get-set_other, slice_get-append_end, put_end}
 use Rattle.step_machine.proofs.StampsKept.{Idle, Busy, Knows, Kept, actor_cases}
 use Rattle.step_machine.proofs.StampsMoves.{moves_kept, may_rest_all}
@@ -39,10 +40,6 @@ use Rattle.step_machine.proofs.Legal.{Accounted, WasEmpty, queue_of}
 -- an outcome leaves the call of its actor
 record SameOp (a : Actor) (o : Outcome) : Type 0 where
   same : o.actor.op ≡ a.op
-
-both : (a : Actor) (b : Bool) (x y : Outcome) → SameOp a x → SameOp a y → SameOp a (if b then x else y)
-both a true x y hx hy = hx
-both a false x y hx hy = hy
 
 freed_op : (kind : Kind) (now : ℕ) (due : Option Reply) (a : Actor) → SameOp a (freed kind now due a)
 freed_op kind now None a = record { same = refl }
@@ -56,25 +53,25 @@ unlocked_op now (Some Empty) a = record { same = refl }
 unlocked_op now (Some (Refused why)) a = record { same = refl }
 
 op_kept : (s : Setup) (now me : ℕ) (a : Actor) (l : Line) (c : Found (action s me a l)) → SameOp a (outcome s now me a l c)
-op_kept s now me a N2 c = both a (is_null c) _ _ (both a (nat_lt a.f s.size) _ _ (record { same = refl }) (record { same = refl })) (both a (nat_eq c.count s.limit) _ _ (record { same = refl }) (record { same = refl }))
-op_kept s now me a N4 c = both a (same_ref c a.top) _ _ (record { same = refl }) (record { same = refl })
-op_kept s now me a N5 c = both a (nat_eq c a.f) _ _ (record { same = refl }) (record { same = refl })
-op_kept s now me a F1 c = both a (nat_eq c.count s.limit) _ _ (record { same = (freed_op s.kind now a.due (record a { top = c })).same }) (record { same = refl })
-op_kept s now me a F3 c = both a (same_ref c a.top) _ _ (record { same = (freed_op s.kind now a.due (lets_go a)).same }) (record { same = refl })
-op_kept s now me a E3 c = both a (nat_eq c.count s.limit) _ _ (record { same = refl }) (record { same = refl })
-op_kept s now me a E7 c = both a (same_ref c a.tail) _ _ (both a (is_null a.next) _ _ (record { same = refl }) (both a (nat_eq a.tail.count s.limit) _ _ (record { same = refl }) (record { same = refl }))) (record { same = refl })
-op_kept s now me a E9 c = both a (same_ref c a.next) _ _ (ended (nat_eq a.tail.count s.limit)) (record { same = refl })
+op_kept s now me a N2 c = both (SameOp a) (is_null c) (both (SameOp a) (nat_lt a.f s.size) (record { same = refl }) (record { same = refl })) (both (SameOp a) (nat_eq c.count s.limit) (record { same = refl }) (record { same = refl }))
+op_kept s now me a N4 c = both (SameOp a) (same_ref c a.top) (record { same = refl }) (record { same = refl })
+op_kept s now me a N5 c = both (SameOp a) (nat_eq c a.f) (record { same = refl }) (record { same = refl })
+op_kept s now me a F1 c = both (SameOp a) (nat_eq c.count s.limit) (record { same = (freed_op s.kind now a.due (record a { top = c })).same }) (record { same = refl })
+op_kept s now me a F3 c = both (SameOp a) (same_ref c a.top) (record { same = (freed_op s.kind now a.due (lets_go a)).same }) (record { same = refl })
+op_kept s now me a E3 c = both (SameOp a) (nat_eq c.count s.limit) (record { same = refl }) (record { same = refl })
+op_kept s now me a E7 c = both (SameOp a) (same_ref c a.tail) (both (SameOp a) (is_null a.next) (record { same = refl }) (both (SameOp a) (nat_eq a.tail.count s.limit) (record { same = refl }) (record { same = refl }))) (record { same = refl })
+op_kept s now me a E9 c = both (SameOp a) (same_ref c a.next) (ended (nat_eq a.tail.count s.limit)) (record { same = refl })
   where
     ended : (b : Bool) → SameOp a (effect now (if b then ends now Done (lets_go (record a { due = Some Done })) else goes E17 (lets_go (record a { due = Some Done }))))
     ended true = record { same = refl }
     ended false = record { same = refl }
-op_kept s now me a D5 c = both a (same_ref c a.head) _ _ (both a (nat_eq a.head.node a.tail.node) _ _ (both a (is_null a.next) _ _ (record { same = refl }) (both a (nat_eq a.tail.count s.limit) _ _ (record { same = refl }) (record { same = refl }))) (record { same = refl })) (record { same = refl })
-op_kept s now me a D12 c = both a (nat_eq a.head.count s.limit) _ _ (record { same = refl }) (record { same = refl })
-op_kept s now me a D13 c = both a (same_ref c a.head) _ _ (record { same = refl }) (record { same = refl })
-op_kept s now me a A3 c = both a (nat_eq c 0) _ _ (record { same = refl }) (record { same = refl })
-op_kept s now me a B1 c = both a (nat_eq c 0) _ _ (record { same = refl }) (record { same = refl })
-op_kept s now me a B3 c = both a (is_null c) _ _ (record { same = refl }) (record { same = refl })
-op_kept s now me a B4 c = both a (nat_eq a.head.count s.limit) _ _ (record { same = refl }) (record { same = refl })
+op_kept s now me a D5 c = both (SameOp a) (same_ref c a.head) (both (SameOp a) (nat_eq a.head.node a.tail.node) (both (SameOp a) (is_null a.next) (record { same = refl }) (both (SameOp a) (nat_eq a.tail.count s.limit) (record { same = refl }) (record { same = refl }))) (record { same = refl })) (record { same = refl })
+op_kept s now me a D12 c = both (SameOp a) (nat_eq a.head.count s.limit) (record { same = refl }) (record { same = refl })
+op_kept s now me a D13 c = both (SameOp a) (same_ref c a.head) (record { same = refl }) (record { same = refl })
+op_kept s now me a A3 c = both (SameOp a) (nat_eq c 0) (record { same = refl }) (record { same = refl })
+op_kept s now me a B1 c = both (SameOp a) (nat_eq c 0) (record { same = refl }) (record { same = refl })
+op_kept s now me a B3 c = both (SameOp a) (is_null c) (record { same = refl }) (record { same = refl })
+op_kept s now me a B4 c = both (SameOp a) (nat_eq a.head.count s.limit) (record { same = refl }) (record { same = refl })
 op_kept s now me a B6 c = unlocked_op now a.due a
 op_kept s now me a _ c = record { same = refl }
 

@@ -1,3 +1,4 @@
+pub mod Choices
 pub mod AnyMoves
 pub mod Growth
 pub mod Rooms

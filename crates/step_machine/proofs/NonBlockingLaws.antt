@@ -29,6 +29,7 @@ use Rattle.step_machine.specs.Chains.{last_node}
 use Rattle.step_machine.specs.Lag.{TailLags}
 use Rattle.step_machine.specs.TwoLock.{HasItsPlaces, KeepsQueueAndFreeApart, raised_at, RaisesBelowTheLimit, HasCauseFor, RefusesWithCause}
 use Rattle.step_machine.specs.NonBlocking.{OfNonBlockingWorlds, TailLagsByOne, TailIsNotBehindHead, NeverFindsHeadWornOut, FindsItsOwnNextWornOut, NeverRefusedForHead, TakesTheFront}
+use Rattle.step_machine.proofs.Choices.{either}
 use Rattle.step_machine.proofs.Range.{found_in_range}
 use Rattle.step_machine.proofs.Reached.{some_of, reached_in_range, actor_in_range}
 use Rattle.step_machine.proofs.Chains.{chain_same, second_leads}
@@ -191,10 +192,6 @@ WhyReply w a (Some (Refused why)) = Why w a why
 record Caused (w : World) (a : Actor) (o : Outcome) : Type 0 where
   cause : WhyReply w a o.reply
 
-either : (w : World) (a : Actor) (b : Bool) (x y : Outcome) → (b ≡ true → Caused w a x) → (b ≡ false → Caused w a y) → Caused w a (if b then x else y)
-either w a true x y hx hy = hx refl
-either w a false x y hx hy = hy refl
-
 freed_caused : (w : World) (a : Actor) (kind : Kind) (now : ℕ) (due : Option Reply) (b : Actor) → EarnedFreeing due → Caused w a (freed kind now due b)
 freed_caused w a kind now None b h = record { cause = tt }
 freed_caused w a kind now (Some Done) b h = absurd h
@@ -215,40 +212,40 @@ no_node w a g low null none =
 caused : (w : World) (now me : ℕ) (a : Actor) (l : Line) → AtLine w me a l → Caused w a (outcome w.setup now me a l (found (action w.setup me a l) w.shared))
 caused w now me a N1 h = record { cause = tt }
 caused w now me a N2 h =
-    either w a (is_null w.shared.free) _ _
-    (λ n. either w a (nat_lt a.f w.setup.size) _ _ (λ b. record { cause = tt }) (λ b. record { cause = no_node w a h.range h.registers.f n b }))
-    (λ n. either w a (nat_eq w.shared.free.count w.setup.limit) _ _ (λ b. record { cause = eqb-true w.shared.free.count w.setup.limit b }) (λ b. record { cause = tt }))
+    either (Caused w a) (is_null w.shared.free)
+    (λ n. either (Caused w a) (nat_lt a.f w.setup.size) (λ b. record { cause = tt }) (λ b. record { cause = no_node w a h.range h.registers.f n b }))
+    (λ n. either (Caused w a) (nat_eq w.shared.free.count w.setup.limit) (λ b. record { cause = eqb-true w.shared.free.count w.setup.limit b }) (λ b. record { cause = tt }))
 caused w now me a N3 h = record { cause = tt }
-caused w now me a N4 h = either w a (same_ref w.shared.free a.top) _ _ (λ b. record { cause = tt }) (λ b. record { cause = tt })
-caused w now me a N5 h = either w a (nat_eq w.shared.fresh a.f) _ _ (λ b. record { cause = tt }) (λ b. record { cause = tt })
+caused w now me a N4 h = either (Caused w a) (same_ref w.shared.free a.top) (λ b. record { cause = tt }) (λ b. record { cause = tt })
+caused w now me a N5 h = either (Caused w a) (nat_eq w.shared.fresh a.f) (λ b. record { cause = tt }) (λ b. record { cause = tt })
 caused w now me a F1 h =
-    either w a (nat_eq w.shared.free.count w.setup.limit) _ _
+    either (Caused w a) (nat_eq w.shared.free.count w.setup.limit)
     (λ b. record { cause = (freed_caused w a w.setup.kind now a.due (record a { top = w.shared.free }) h.fixes.earned).cause }) (λ b. record { cause = tt })
 caused w now me a F2 h = record { cause = tt }
-caused w now me a F3 h = either w a (same_ref w.shared.free a.top) _ _ (λ b. freed_caused w a w.setup.kind now a.due (lets_go a) h.fixes.earned) (λ b. record { cause = tt })
+caused w now me a F3 h = either (Caused w a) (same_ref w.shared.free a.top) (λ b. freed_caused w a w.setup.kind now a.due (lets_go a) h.fixes.earned) (λ b. record { cause = tt })
 caused w now me a E2 h = record { cause = tt }
 caused w now me a E3 h =
-    either w a (nat_eq (next_of w.shared a.node).count w.setup.limit) _ _ (λ b. record { cause = eqb-true (next_of w.shared a.node).count w.setup.limit b }) (λ b. record { cause = tt })
+    either (Caused w a) (nat_eq (next_of w.shared a.node).count w.setup.limit) (λ b. record { cause = eqb-true (next_of w.shared a.node).count w.setup.limit b }) (λ b. record { cause = tt })
 caused w now me a E5 h = record { cause = tt }
 caused w now me a E6 h = record { cause = tt }
 caused w now me a E7 h =
-    either w a (same_ref w.shared.tail a.tail) _ _
-    (λ b. either w a (is_null a.next) _ _ (λ n. record { cause = tt })
-    (λ n. either w a (nat_eq a.tail.count w.setup.limit) _ _
+    either (Caused w a) (same_ref w.shared.tail a.tail)
+    (λ b. either (Caused w a) (is_null a.next) (λ n. record { cause = tt })
+    (λ n. either (Caused w a) (nat_eq a.tail.count w.setup.limit)
     (λ c. record { cause = ap (λ (x : Ref). x.count) (same_ref-true w.shared.tail a.tail b) ∙ eqb-true a.tail.count w.setup.limit c }) (λ c. record { cause = tt })))
     (λ b. record { cause = tt })
 caused w now me a E9 h =
-    either w a (same_ref (next_of w.shared a.tail.node) a.next) _ _ (λ b. ended_or w a now (nat_eq a.tail.count w.setup.limit) (lets_go (record a { due = Some Done }))) (λ b. record { cause = tt })
+    either (Caused w a) (same_ref (next_of w.shared a.tail.node) a.next) (λ b. ended_or w a now (nat_eq a.tail.count w.setup.limit) (lets_go (record a { due = Some Done }))) (λ b. record { cause = tt })
 caused w now me a E13 h = record { cause = tt }
 caused w now me a E17 h = record { cause = tt }
 caused w now me a D2 h = record { cause = tt }
 caused w now me a D3 h = record { cause = tt }
 caused w now me a D4 h = record { cause = tt }
 caused w now me a D5 h =
-    either w a (same_ref w.shared.head a.head) _ _
-    (λ b. either w a (nat_eq a.head.node a.tail.node) _ _
-    (λ c. either w a (is_null a.next) _ _ (λ n. record { cause = tt })
-    (λ n. either w a (nat_eq a.tail.count w.setup.limit) _ _ (λ d. record { cause = worn_tail (eqb-true a.tail.count w.setup.limit d) h.knows.1 }) (λ d. record { cause = tt })))
+    either (Caused w a) (same_ref w.shared.head a.head)
+    (λ b. either (Caused w a) (nat_eq a.head.node a.tail.node)
+    (λ c. either (Caused w a) (is_null a.next) (λ n. record { cause = tt })
+    (λ n. either (Caused w a) (nat_eq a.tail.count w.setup.limit) (λ d. record { cause = worn_tail (eqb-true a.tail.count w.setup.limit d) h.knows.1 }) (λ d. record { cause = tt })))
     (λ c. record { cause = tt }))
     (λ b. record { cause = tt })
   where
@@ -257,10 +254,10 @@ caused w now me a D5 h =
     worn_tail worn (inr less) = absurd (let most : w.shared.tail.count ≤ w.setup.limit = h.range.shared.tail.count in omega arith)
 caused w now me a D10 h = record { cause = tt }
 caused w now me a D12 h =
-    either w a (nat_eq a.head.count w.setup.limit) _ _
+    either (Caused w a) (nat_eq a.head.count w.setup.limit)
     (λ b. absurd (let worn : a.head.count ≡ w.setup.limit = eqb-true a.head.count w.setup.limit b in let below : a.head.count < w.setup.limit = head_below w me a D12 h h.knows in omega arith))
     (λ b. record { cause = tt })
-caused w now me a D13 h = either w a (same_ref w.shared.head a.head) _ _ (λ b. record { cause = tt }) (λ b. record { cause = tt })
+caused w now me a D13 h = either (Caused w a) (same_ref w.shared.head a.head) (λ b. record { cause = tt }) (λ b. record { cause = tt })
 caused w now me a l h = absurd h.runs
 
 -- the three clauses follow

@@ -26,6 +26,7 @@ use Rattle.step_machine.specs.Promises.{earned, promised_reply}
 use Rattle.step_machine.specs.Places.{one_if}
 use Rattle.step_machine.specs.Chains.{last_node}
 use Rattle.step_machine.specs.Standing.{IsRunBy, HoldsNodes}
+use Rattle.step_machine.proofs.Choices.{either}
 use Rattle.step_machine.proofs.Chains.{node_in, chain_none}
 use Rattle.step_machine.proofs.Counting.{holds, asides, holds_hand, holds_none, holds_own}
 use Rattle.step_machine.proofs.Effects.{written, next_keeps_value, with_node as with_new}
@@ -43,10 +44,6 @@ module _ (Z : ℕ → Type 0) (s : Setup) (m : Shared) (E : ℕ → ℕ) (front 
   -- what the actor of an outcome knows then
   abbrev Learns : Shared → Outcome → Type 0
   Learns m' o = KnowsAt (Found rest now) s.limit m' o.actor o.actor.line
-
-  either : (b : Bool) (m' : Shared) (x y : Outcome) → (b ≡ true → Goes m' x) → (b ≡ false → Goes m' y) → Goes m' (if b then x else y)
-  either true m' x y hx hy = hx refl
-  either false m' x y hx hy = hy refl
 
   -- an exchange that succeeds or not
   tried : (b : Bool) (m' m'' : Shared) (x y : Outcome) → (b ≡ true → Goes m' x) → (b ≡ false → Goes m'' y) → Goes (if b then m' else m'') (if b then x else y)
@@ -224,9 +221,9 @@ module _ (Z : ℕ → Type 0) (s : Setup) (m : Shared) (E : ℕ → ℕ) (front 
   pub does : (l : Line) → s.kind ≡ NonBlocking → IsRunBy (section_of l) s.kind → HoldsNodes l a → FixedAt s.limit me a (Some l) → KnowsAt Z s.limit m a (Some l) → Goes (performed (action s me a l) m) (outcome s now me a l (found (action s me a l) m))
   does N1 e r h f k = on _ (ap earned f.earned) refl (λ n. refl) refl marked tt
   does N2 e r h f k =
-      either (is_null m.free) m _ _
-      (λ n. either (nat_lt a.f s.size) m _ _ (λ b. on _ (ap earned f.earned) refl (λ n. refl) refl marked tt) (λ b. refuses _ NoNode (ap earned f.earned) refl refl refl (λ n. refl) refl marked refl))
-      (λ n. either (nat_eq m.free.count s.limit) m _ _ (λ b. refuses _ (WornOut OfFree) (ap earned f.earned) refl refl refl (λ n. refl) refl marked refl)
+      either (Goes m) (is_null m.free)
+      (λ n. either (Goes m) (nat_lt a.f s.size) (λ b. on _ (ap earned f.earned) refl (λ n. refl) refl marked tt) (λ b. refuses _ NoNode (ap earned f.earned) refl refl refl (λ n. refl) refl marked refl))
+      (λ n. either (Goes m) (nat_eq m.free.count s.limit) (λ b. refuses _ (WornOut OfFree) (ap earned f.earned) refl refl refl (λ n. refl) refl marked refl)
       (λ b. on _ (ap earned f.earned) refl (λ n. refl) refl marked (inl refl)))
   does N3 e r h f k = on _ (ap earned f.earned) refl (λ n. refl) refl marked (k, λ q. refl)
   does N4 e r h f k =
@@ -236,7 +233,7 @@ module _ (Z : ℕ → Type 0) (s : Setup) (m : Shared) (E : ℕ → ℕ) (front 
   does N5 e r h f k =
       tried (nat_eq m.fresh a.f) _ m _ _ (λ b. claims_to s.kind f.hand f.pocket (eqb-true m.fresh a.f b) (ap earned f.earned)) (λ b. on _ (ap earned f.earned) refl (λ n. refl) refl marked tt)
   does F1 e r h f k =
-      either (nat_eq m.free.count s.limit) m _ _ (λ b. aside_freed s.kind a.due m.free refl f.earned f.hand f.pocket h)
+      either (Goes m) (nat_eq m.free.count s.limit) (λ b. aside_freed s.kind a.due m.free refl f.earned f.hand f.pocket h)
       (λ b. still _ (λ n. refl) refl marked tt (quiet refl refl refl (inr (λ n. refl))))
   does F2 e r h f k =
       writes _ (record (node_at m a.node) { next = ref a.top.node a.mark }) f.hand f.pocket h (sym (marked.hand f.hand).1) f.hand f.pocket refl refl refl
@@ -249,7 +246,7 @@ module _ (Z : ℕ → Type 0) (s : Setup) (m : Shared) (E : ℕ → ℕ) (front 
       writes _ (record (node_at m a.node) { value = a.val }) f.hand f.pocket h refl f.hand f.pocket refl (sym (marked.hand f.hand).1) refl
       (ap (λ (x : Node). x.value) (written m.nodes a.node (record (node_at m a.node) { value = a.val }) h low)) refl (inl (ap earned f.earned))
   does E3 e r h f k =
-      either (nat_eq (next_of m a.node).count s.limit) (with_new m a.node x) _ _
+      either (Goes (with_new m a.node x)) (nat_eq (next_of m a.node).count s.limit)
       (λ b. writes_aside _ x f.hand f.pocket h refl refl f.pocket refl tt (refused (WornOut OfNext) refl refl refl refl refl (ap earned f.earned)))
       (λ b. writes _ x f.hand f.pocket h refl f.hand f.pocket refl refl refl
       (ap (λ (y : Node). y.value) cleared ∙ k, ap (λ (y : Node). y.next.node) cleared, eqb-false (next_of m a.node).count s.limit b) refl (inl (ap earned f.earned)))
@@ -262,10 +259,10 @@ module _ (Z : ℕ → Type 0) (s : Setup) (m : Shared) (E : ℕ → ℕ) (front 
   does E5 e r h f k = on _ (ap earned f.earned) refl (λ n. refl) refl marked (k, inl refl)
   does E6 e r h f k = on _ (ap earned f.earned) refl (λ n. refl) refl marked (k.0, k.1, λ q. inl refl)
   does E7 e r h f k =
-      either (same_ref m.tail a.tail) m _ _
+      either (Goes m) (same_ref m.tail a.tail)
       (λ b. let was : m.tail ≡ a.tail = same_ref-true m.tail a.tail b in
-      either (is_null a.next) m _ _ (λ n. on _ (ap earned f.earned) refl (λ n. refl) refl marked (k.0, eqb-true a.next.node 0 n, there was (k.2 was)))
-      (λ n. either (nat_eq a.tail.count s.limit) m _ _
+      either (Goes m) (is_null a.next) (λ n. on _ (ap earned f.earned) refl (λ n. refl) refl marked (k.0, eqb-true a.next.node 0 n, there was (k.2 was)))
+      (λ n. either (Goes m) (nat_eq a.tail.count s.limit)
       (λ c. refuses _ (WornOut OfTail) (ap earned f.earned) refl refl refl (λ n. omega (arith, holds_hand n a f.hand f.pocket)) refl (record { hand = λ q. absurd (true≢false (sym q)); pocket = marked.hand f.hand }) refl)
       (λ c. on _ (ap earned f.earned) refl (λ n. refl) refl marked (k.0, (k.1, λ q. follows (eqb-false a.next.node 0 n) (k.2 was))))))
       (λ b. on _ (ap earned f.earned) refl (λ n. refl) refl marked k.0)
@@ -307,11 +304,11 @@ module _ (Z : ℕ → Type 0) (s : Setup) (m : Shared) (E : ℕ → ℕ) (front 
       leads was away =
           subst (λ j. 1 ≤ (next_of m j).node) (is_first was) (off_leads m front m.head.node rest w.shape.queue_chain (off m front rest w.lag (λ q. away (q ∙ is_first was))))
   does D5 e r h f k =
-      either (same_ref m.head a.head) m _ _
+      either (Goes m) (same_ref m.head a.head)
       (λ b. let was : m.head ≡ a.head = same_ref-true m.head a.head b in
-      either (nat_eq a.head.node a.tail.node) m _ _
-      (λ c. either (is_null a.next) m _ _ (λ n. still _ (λ n. refl) refl marked tt (found_empty refl refl refl refl f.call (ap earned f.earned) (k.3 was (eqb-true a.next.node 0 n))))
-      (λ n. either (nat_eq a.tail.count s.limit) m _ _ (λ d. refuses _ (WornOut OfTail) (ap earned f.earned) refl refl refl (λ n. refl) refl marked refl)
+      either (Goes m) (nat_eq a.head.node a.tail.node)
+      (λ c. either (Goes m) (is_null a.next) (λ n. still _ (λ n. refl) refl marked tt (found_empty refl refl refl refl f.call (ap earned f.earned) (k.3 was (eqb-true a.next.node 0 n))))
+      (λ n. either (Goes m) (nat_eq a.tail.count s.limit) (λ d. refuses _ (WornOut OfTail) (ap earned f.earned) refl refl refl (λ n. refl) refl marked refl)
       (λ d. on _ (ap earned f.earned) refl (λ n. refl) refl marked (k.1, λ q. ap (λ j. (next_of m j).node) (sym (eqb-true a.head.node a.tail.node c)) ∙ ap (λ (x : Ref). x.node) ((k.2 was).0 (let some : a.next.node ≢ 0 = eqb-false a.next.node 0 n in omega arith))))))
       (λ c. let other : a.tail.node ≢ a.head.node = λ q. eqb-false a.head.node a.tail.node c (sym q) in
       on _ (ap earned f.earned) refl (λ n. refl) refl marked (inl was, λ q. ((k.2 was).0 ((k.2 was).1 other).1, ((k.2 was).1 other).0))))
@@ -321,7 +318,7 @@ module _ (Z : ℕ → Type 0) (s : Setup) (m : Shared) (E : ℕ → ℕ) (front 
       (λ b. swings a.next.node _ (same_ref-true m.tail a.tail b) h.1 f.room k (λ n. refl) refl marked tt refl (inl (ap earned f.earned)))
       (λ b. on _ (ap earned f.earned) refl (λ n. refl) refl marked tt)
   does D12 e r h f k =
-      either (nat_eq a.head.count s.limit) m _ _ (λ b. refuses _ (WornOut OfHead) (ap earned f.earned) refl refl refl (λ n. refl) refl marked refl)
+      either (Goes m) (nat_eq a.head.count s.limit) (λ b. refuses _ (WornOut OfHead) (ap earned f.earned) refl refl refl (λ n. refl) refl marked refl)
       (λ b. on _ (ap earned f.earned) refl (λ n. refl) refl marked (k, λ q. refl))
   does D13 e r h f k =
       tried (same_ref m.head a.head) _ m _ _

@@ -14,6 +14,7 @@ use Rattle.line_steps.specs.declared.actors.Outcome.{Outcome}
 use Rattle.line_steps.specs.Memory.{Found}
 use Rattle.line_steps.specs.Lines.{action, outcome, goes, ends, effect, sets_aside, takes, lets_go, to_pocket, with_node, freed, unlocked, busy_or, gives_up}
 use Rattle.step_machine.specs.Machine.{first_settled}
+use Rattle.step_machine.proofs.Choices.{both}
 
 -- what a call's answer, where it is settled, says of the operation's place; `Noted` says that the number noted is one
 -- of the call
@@ -65,11 +66,6 @@ pub record Turns (Q : ℕ → Type 0) (at : Option ℕ) (o : Outcome) : Type 0 w
   pub place : IfSome (first_settled o.at at) Q
   pub goes_on : GoesOn o.actor.line o.reply o.actor.due (first_settled o.at at) (Q o.actor.noted)
 
--- a choice of two such outcomes
-both : {Q : ℕ → Type 0} {at : Option ℕ} (b : Bool) (x y : Outcome) → Turns Q at x → Turns Q at y → Turns Q at (if b then x else y)
-both true x y hx hy = hx
-both false x y hx hy = hy
-
 -- a call that ends with the answer that it earned
 ends_turned : (Q : ℕ → Type 0) (now : ℕ) (reply : Reply) (a : Actor) (at : Option ℕ) → Q now → IfSome at Q → Earned (Some reply) at (Q a.noted) → Turns Q at (ends now reply a)
 ends_turned Q now Done a at n p h = record { place = p; goes_on = h }
@@ -103,46 +99,46 @@ pushed_turned Q false now a at n = record { place = n; goes_on = refl }
 -- the outcome of each line
 pub turned : (Q : ℕ → Type 0) (s : Setup) (now me : ℕ) (a : Actor) (l : Line) (c : Found (action s me a l)) (at : Option ℕ) → Q now → IfSome at Q → Stands l a.due at (Q a.noted) → Turns Q at (outcome s now me a l c)
 turned Q s now me a N2 c at n p h =
-    both (is_null c) _ _
-    (both (nat_lt a.f s.size) _ _ record { place = p; goes_on = h } record { place = n; goes_on = refl })
-    (both (nat_eq c.count s.limit) _ _ record { place = n; goes_on = refl } record { place = p; goes_on = h })
+    both (Turns Q at) (is_null c)
+    (both (Turns Q at) (nat_lt a.f s.size) record { place = p; goes_on = h } record { place = n; goes_on = refl })
+    (both (Turns Q at) (nat_eq c.count s.limit) record { place = n; goes_on = refl } record { place = p; goes_on = h })
 turned Q s now me a N4 c at n p h =
-    both (same_ref c a.top) _ _ (with_node_turned Q s.kind (takes a.top.node a.next.count a) at p h) record { place = p; goes_on = h }
+    both (Turns Q at) (same_ref c a.top) (with_node_turned Q s.kind (takes a.top.node a.next.count a) at p h) record { place = p; goes_on = h }
 turned Q s now me a N5 c at n p h =
-    both (nat_eq c a.f) _ _ (with_node_turned Q s.kind (takes (a.f + 1) 0 a) at p h) record { place = p; goes_on = h }
+    both (Turns Q at) (nat_eq c a.f) (with_node_turned Q s.kind (takes (a.f + 1) 0 a) at p h) record { place = p; goes_on = h }
 turned Q s now me a F1 c at n p h =
-    both (nat_eq c.count s.limit) _ _
+    both (Turns Q at) (nat_eq c.count s.limit)
     (aside_turned _ (freed_turned Q s.kind now a.due (record a { top = c }) at n p h))
     record { place = p; goes_on = h }
 turned Q s now me a F3 c at n p h =
-    both (same_ref c a.top) _ _ (freed_turned Q s.kind now a.due (lets_go a) at n p h) record { place = p; goes_on = h }
+    both (Turns Q at) (same_ref c a.top) (freed_turned Q s.kind now a.due (lets_go a) at n p h) record { place = p; goes_on = h }
 turned Q s now me a E3 c at n p h =
-    both (nat_eq c.count s.limit) _ _ record { place = n; goes_on = refl } record { place = p; goes_on = h }
+    both (Turns Q at) (nat_eq c.count s.limit) record { place = n; goes_on = refl } record { place = p; goes_on = h }
 turned Q s now me a E7 c at n p h =
-    both (same_ref c a.tail) _ _
-    (both (is_null a.next) _ _ record { place = p; goes_on = h } (both (nat_eq a.tail.count s.limit) _ _ record { place = n; goes_on = refl } record { place = p; goes_on = h }))
+    both (Turns Q at) (same_ref c a.tail)
+    (both (Turns Q at) (is_null a.next) record { place = p; goes_on = h } (both (Turns Q at) (nat_eq a.tail.count s.limit) record { place = n; goes_on = refl } record { place = p; goes_on = h }))
     record { place = p; goes_on = h }
 turned Q s now me a E9 c at n p h =
-    both (same_ref c a.next) _ _
+    both (Turns Q at) (same_ref c a.next)
     (pushed_turned Q (nat_eq a.tail.count s.limit) now (lets_go (record a { due = Some Done })) at n)
     record { place = p; goes_on = h }
 turned Q s now me a D4 c at n p h = record { place = p; goes_on = (h, n) }
 turned Q s now me a D5 c at n p h =
-    both (same_ref c a.head) _ _
-    (both (nat_eq a.head.node a.tail.node) _ _
-    (both (is_null a.next) _ _ record { place = h.1; goes_on = refl } (both (nat_eq a.tail.count s.limit) _ _ record { place = n; goes_on = refl } record { place = p; goes_on = h.0 }))
+    both (Turns Q at) (same_ref c a.head)
+    (both (Turns Q at) (nat_eq a.head.node a.tail.node)
+    (both (Turns Q at) (is_null a.next) record { place = h.1; goes_on = refl } (both (Turns Q at) (nat_eq a.tail.count s.limit) record { place = n; goes_on = refl } record { place = p; goes_on = h.0 }))
     record { place = p; goes_on = h.0 })
     record { place = p; goes_on = h.0 }
 turned Q s now me a D12 c at n p h =
-    both (nat_eq a.head.count s.limit) _ _ record { place = n; goes_on = refl } record { place = p; goes_on = h }
+    both (Turns Q at) (nat_eq a.head.count s.limit) record { place = n; goes_on = refl } record { place = p; goes_on = h }
 turned Q s now me a D13 c at n p h =
-    both (same_ref c a.head) _ _ record { place = n; goes_on = refl } record { place = p; goes_on = h }
-turned Q s now me a A3 c at n p h = both (nat_eq c 0) _ _ record { place = p; goes_on = h } record { place = p; goes_on = h }
+    both (Turns Q at) (same_ref c a.head) record { place = n; goes_on = refl } record { place = p; goes_on = h }
+turned Q s now me a A3 c at n p h = both (Turns Q at) (nat_eq c 0) record { place = p; goes_on = h } record { place = p; goes_on = h }
 turned Q s now me a A5 c at n p h = record { place = n; goes_on = refl }
-turned Q s now me a B1 c at n p h = both (nat_eq c 0) _ _ record { place = p; goes_on = h } record { place = p; goes_on = h }
-turned Q s now me a B3 c at n p h = both (is_null c) _ _ record { place = p; goes_on = (h, n) } record { place = p; goes_on = h }
+turned Q s now me a B1 c at n p h = both (Turns Q at) (nat_eq c 0) record { place = p; goes_on = h } record { place = p; goes_on = h }
+turned Q s now me a B3 c at n p h = both (Turns Q at) (is_null c) record { place = p; goes_on = (h, n) } record { place = p; goes_on = h }
 turned Q s now me a B4 c at n p h =
-    both (nat_eq a.head.count s.limit) _ _ record { place = p; goes_on = h } record { place = p; goes_on = h }
+    both (Turns Q at) (nat_eq a.head.count s.limit) record { place = p; goes_on = h } record { place = p; goes_on = h }
 turned Q s now me a B5 c at n p h = record { place = n; goes_on = refl }
 turned Q s now me a B6 c at n p h = unlocked_turned Q now a.due a at n p h h
 turned Q s now me a _ c at n p h = record { place = p; goes_on = h }

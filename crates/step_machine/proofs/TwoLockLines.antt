@@ -25,6 +25,7 @@ use Rattle.step_machine.specs.Standing.{HoldsNodes, IsRunBy}
 use Rattle.step_machine.specs.Places.{one_if, in_hand, in_pocket}
 use Rattle.step_machine.specs.Chains.{last_node}
 use Rattle.step_machine.specs.Promises.{earned, promised_reply}
+use Rattle.step_machine.proofs.Choices.{either}
 use Rattle.step_machine.proofs.Chains.{next_in, chain_none, last_linked, second_leads}
 use Rattle.step_machine.proofs.Counting.{holds, holds_hand, holds_own}
 use Rattle.step_machine.proofs.Effects.{Shape, Turn, Took, written, next_keeps_value, turn_words, turn_aside, turn_claim, turn_take, turn_giveback, turn_node, turn_link, turn_pop, with_node as node_set}
@@ -78,11 +79,6 @@ module _ (Z : ℕ → Type 0) (s : Setup) (k : ℕ) (m : Shared) (E : ℕ → �
   abbrev Does : Shared → Outcome → Type 0
   Does m' o = After Z s m h rest free me now a m' o
 
-  -- a choice between two outcomes, and between what they do with the words
-  either : (b : Bool) (x y : Outcome) → (b ≡ true → Does m x) → (b ≡ false → Does m y) → Does m (if b then x else y)
-  either true x y hx hy = hx refl
-  either false x y hx hy = hy refl
-
   chosen : (b : Bool) (m1 : Shared) (x y : Outcome) → (b ≡ true → Does m1 x) → (b ≡ false → Does m y) → Does (if b then m1 else m) (if b then x else y)
   chosen true m1 x y hx hy = hx refl
   chosen false m1 x y hx hy = hy refl
@@ -134,10 +130,10 @@ module _ (Z : ℕ → Type 0) (s : Setup) (k : ℕ) (m : Shared) (E : ℕ → �
   line_N2 : Before Z s k m E h rest free me a N2 → Does m (outcome s now me a N2 m.free)
   line_N2 b =
       let c : Actor = record a { top = m.free } in
-      either (is_null m.free) _ _
-      (λ e. either (nat_lt a.f s.size) _ _ (λ f. goes_still N2 N5 c b (λ n. refl) tt b.owns (inl (ap earned b.fixed.earned)))
+      either (Does m) (is_null m.free)
+      (λ e. either (Does m) (nat_lt a.f s.size) (λ f. goes_still N2 N5 c b (λ n. refl) tt b.owns (inl (ap earned b.fixed.earned)))
       (λ f. refuses N2 c NoNode b (λ n. refl) b.owns refl (ap earned b.fixed.earned)))
-      (λ e. either (nat_eq m.free.count s.limit) _ _ (λ f. refuses N2 c (WornOut OfFree) b (λ n. refl) b.owns refl (ap earned b.fixed.earned))
+      (λ e. either (Does m) (nat_eq m.free.count s.limit) (λ f. refuses N2 c (WornOut OfFree) b (λ n. refl) b.owns refl (ap earned b.fixed.earned))
       (λ f. goes_still N2 N3 c b (λ n. refl) (inl refl) b.owns (inl (ap earned b.fixed.earned))))
 
   line_N3 : Before Z s k m E h rest free me a N3 → Does m (outcome s now me a N3 (node_at m a.top.node).next)
@@ -245,7 +241,7 @@ module _ (Z : ℕ → Type 0) (s : Setup) (k : ℕ) (m : Shared) (E : ℕ → �
   line_F1 : Before Z s k m E h rest free me a F1 → Does m (outcome s now me a F1 m.free)
   line_F1 b =
       let c : Actor = record a { top = m.free } in
-      either (nat_eq m.free.count s.limit) _ _ (λ e. aside_freed c s.kind a.due b refl refl refl refl b.fixed.earned)
+      either (Does m) (nat_eq m.free.count s.limit) (λ e. aside_freed c s.kind a.due b refl refl refl refl b.fixed.earned)
       (λ e. goes_still F1 F2 c b (λ n. refl) tt b.owns (frees_keep (goes F2 c) a.due b.fixed.earned refl (λ n. kept n a.due b.fixed.earned)))
     where
       kept : (n : ℕ) (due : Option Reply) → EarnedFreeing due → promised_reply None (Some n) due ≡ due
@@ -470,7 +466,7 @@ module _ (Z : ℕ → Type 0) (s : Setup) (k : ℕ) (m : Shared) (E : ℕ → �
   line_B3 : Before Z s k m E h rest free me a B3 → Does m (outcome s now me a B3 (node_at m a.head.node).next)
   line_B3 b =
       let c : Actor = record a { next = (node_at m a.head.node).next; noted = now } in
-      either (is_null (node_at m a.head.node).next) _ _
+      either (Does m) (is_null (node_at m a.head.node).next)
       (λ e. goes_still B3 B6 (record c { due = Some Empty }) b (λ n. refl) (none e, refl) b.owns (inl (ap earned b.fixed.earned)))
       (λ e. goes_still B3 B4 c b (λ n. refl) (b.knows, refl) b.owns (inl (ap earned b.fixed.earned)))
     where
@@ -483,7 +479,7 @@ module _ (Z : ℕ → Type 0) (s : Setup) (k : ℕ) (m : Shared) (E : ℕ → �
   line_B4 : Before Z s k m E h rest free me a B4 → Does m (outcome s now me a B4 (node_at m a.next.node).value)
   line_B4 b =
       let c : Actor = record a { val = (node_at m a.next.node).value } in
-      either (nat_eq a.head.count s.limit) _ _
+      either (Does m) (nat_eq a.head.count s.limit)
       (λ e. goes_still B4 B6 (record c { due = Some (Refused (WornOut OfHead)) }) b (λ n. refl) (ap (λ (r : Ref). r.count) b.knows.0 ∙ eqb-true a.head.count s.limit e) b.owns (inl (ap earned b.fixed.earned)))
       (λ e. goes_still B4 B5 c b (λ n. refl) (b.knows.0, b.knows.1, refl) b.owns (inl (ap earned b.fixed.earned)))
 
