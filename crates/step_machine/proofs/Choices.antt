@@ -10,3 +10,8 @@ either P false hx hy = hy refl
 pub both : {X : Type 0} (P : X → Type 0) (b : Bool) {x y : X} → P x → P y → P (if b then x else y)
 both P true hx hy = hx
 both P false hx hy = hy
+
+-- the same of two things that one test chooses, as the words and the outcome of an exchange
+pub tried : {X Y : Type 0} (P : X → Y → Type 0) (b : Bool) {x x' : X} {y y' : Y} → (b ≡ true → P x y) → (b ≡ false → P x' y') → P (if b then x else x') (if b then y else y')
+tried P true hx hy = hx refl
+tried P false hx hy = hy refl

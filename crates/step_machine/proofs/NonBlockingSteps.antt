@@ -26,7 +26,7 @@ use Rattle.step_machine.specs.Promises.{earned, promised_reply}
 use Rattle.step_machine.specs.Places.{one_if}
 use Rattle.step_machine.specs.Chains.{last_node}
 use Rattle.step_machine.specs.Standing.{IsRunBy, HoldsNodes}
-use Rattle.step_machine.proofs.Choices.{either}
+use Rattle.step_machine.proofs.Choices.{either, tried}
 use Rattle.step_machine.proofs.Chains.{node_in, chain_none}
 use Rattle.step_machine.proofs.Counting.{holds, asides, holds_hand, holds_none, holds_own}
 use Rattle.step_machine.proofs.Effects.{written, next_keeps_value, with_node as with_new}
@@ -45,14 +45,9 @@ module _ (Z : ℕ → Type 0) (s : Setup) (m : Shared) (E : ℕ → ℕ) (front 
   abbrev Learns : Shared → Outcome → Type 0
   Learns m' o = KnowsAt (Found rest now) s.limit m' o.actor o.actor.line
 
-  -- an exchange that succeeds or not
-  tried : (b : Bool) (m' m'' : Shared) (x y : Outcome) → (b ≡ true → Goes m' x) → (b ≡ false → Goes m'' y) → Goes (if b then m' else m'') (if b then x else y)
-  tried true m' m'' x y hx hy = hx refl
-  tried false m' m'' x y hx hy = hy refl
-
-  tried_same : (b : Bool) (m' m'' : Shared) (x : Outcome) → (b ≡ true → Goes m' x) → (b ≡ false → Goes m'' x) → Goes (if b then m' else m'') x
-  tried_same true m' m'' x hx hy = hx refl
-  tried_same false m' m'' x hx hy = hy refl
+  -- an exchange after which the outcome is the same, whether it succeeds or not
+  tried_same : (b : Bool) {m' m'' : Shared} {x : Outcome} → (b ≡ true → Goes m' x) → (b ≡ false → Goes m'' x) → Goes (if b then m' else m'') x
+  tried_same b {x = x} hx hy = either (λ m'. Goes m' x) b hx hy
 
   -- an outcome in which the actor holds what it held
   still : (o : Outcome) → ((n : ℕ) → holds n o.actor ≡ holds n a) → o.aside ≡ None → Marked m o.actor → Learns m o → Account Z me now m m (front ∷ rest) (front ∷ rest) a o → Goes m o
@@ -227,11 +222,11 @@ module _ (Z : ℕ → Type 0) (s : Setup) (m : Shared) (E : ℕ → ℕ) (front 
       (λ b. on _ (ap earned f.earned) refl (λ n. refl) refl marked (inl refl)))
   does N3 e r h f k = on _ (ap earned f.earned) refl (λ n. refl) refl marked (k, λ q. refl)
   does N4 e r h f k =
-      tried (same_ref m.free a.top) _ m _ _
+      tried Goes (same_ref m.free a.top)
       (λ b. let was : m.free ≡ a.top = same_ref-true m.free a.top b in takes_to s.kind f.hand f.pocket h was f.room (k.1 was) (ap earned f.earned))
       (λ b. on _ (ap earned f.earned) refl (λ n. refl) refl marked tt)
   does N5 e r h f k =
-      tried (nat_eq m.fresh a.f) _ m _ _ (λ b. claims_to s.kind f.hand f.pocket (eqb-true m.fresh a.f b) (ap earned f.earned)) (λ b. on _ (ap earned f.earned) refl (λ n. refl) refl marked tt)
+      tried Goes (nat_eq m.fresh a.f) (λ b. claims_to s.kind f.hand f.pocket (eqb-true m.fresh a.f b) (ap earned f.earned)) (λ b. on _ (ap earned f.earned) refl (λ n. refl) refl marked tt)
   does F1 e r h f k =
       either (Goes m) (nat_eq m.free.count s.limit) (λ b. aside_freed s.kind a.due m.free refl f.earned f.hand f.pocket h)
       (λ b. still _ (λ n. refl) refl marked tt (quiet refl refl refl (inr (λ n. refl))))
@@ -239,7 +234,7 @@ module _ (Z : ℕ → Type 0) (s : Setup) (m : Shared) (E : ℕ → ℕ) (front 
       writes _ (record (node_at m a.node) { next = ref a.top.node a.mark }) f.hand f.pocket h (sym (marked.hand f.hand).1) f.hand f.pocket refl refl refl
       (ap (λ (x : Node). x.next) (written m.nodes a.node (record (node_at m a.node) { next = ref a.top.node a.mark }) h low)) refl (inr (λ n. refl))
   does F3 e r h f k =
-      tried (same_ref m.free a.top) _ m _ _
+      tried Goes (same_ref m.free a.top)
       (λ b. gives_back_freed s.kind a.due refl f.earned f.hand f.pocket h (same_ref-true m.free a.top b) f.room k)
       (λ b. still _ (λ n. refl) refl marked tt (quiet refl refl refl (inr (λ n. refl))))
   does E2 e r h f k =
@@ -275,7 +270,7 @@ module _ (Z : ℕ → Type 0) (s : Setup) (m : Shared) (E : ℕ → ℕ) (front 
       follows some (inl here) = ap (λ (x : Ref). x.node) here
       follows some (inr gone) = absurd (some gone.0)
   does E9 e r h f k =
-      tried (same_ref (next_of m a.tail.node) a.next) _ m _ _
+      tried Goes (same_ref (next_of m a.tail.node) a.next)
       (λ b. let same : next_of m a.tail.node ≡ a.next = same_ref-true (next_of m a.tail.node) a.next b in
       linked (nat_eq a.tail.count s.limit) f.hand f.pocket h.0 h.1 k.0 k.1 (there same k.2) same f.call (ap earned f.earned))
       (λ b. on _ (ap earned f.earned) refl (λ n. refl) refl marked k.0)
@@ -284,11 +279,11 @@ module _ (Z : ℕ → Type 0) (s : Setup) (m : Shared) (E : ℕ → ℕ) (front 
       there same (inl less) = absurd (let c : (next_of m a.tail.node).count ≡ a.next.count = ap (λ (x : Ref). x.count) same in omega arith)
       there same (inr was) = was.0
   does E13 e r h f k =
-      tried_same (same_ref m.tail a.tail) _ m _
+      tried_same (same_ref m.tail a.tail)
       (λ b. swings a.next.node _ (same_ref-true m.tail a.tail b) h.2 f.room k.1 (λ n. refl) refl marked k.0 refl (inl (ap earned f.earned)))
       (λ b. on _ (ap earned f.earned) refl (λ n. refl) refl marked k.0)
   does E17 e r h f k =
-      tried_same (same_ref m.tail a.tail) _ m _
+      tried_same (same_ref m.tail a.tail)
       (λ b. swings a.node _ (same_ref-true m.tail a.tail b) h.0 f.room k (λ n. refl) refl marked tt refl (inr (λ n. sym (ap earned f.earned))))
       (λ b. still _ (λ n. refl) refl marked tt (quiet refl refl refl (inr (λ n. sym (ap earned f.earned)))))
   does D2 e r h f k = on _ (ap earned f.earned) refl (λ n. refl) refl marked (inl refl)
@@ -314,14 +309,14 @@ module _ (Z : ℕ → Type 0) (s : Setup) (m : Shared) (E : ℕ → ℕ) (front 
       on _ (ap earned f.earned) refl (λ n. refl) refl marked (inl was, λ q. ((k.2 was).0 ((k.2 was).1 other).1, ((k.2 was).1 other).0))))
       (λ b. on _ (ap earned f.earned) refl (λ n. refl) refl marked tt)
   does D10 e r h f k =
-      tried_same (same_ref m.tail a.tail) _ m _
+      tried_same (same_ref m.tail a.tail)
       (λ b. swings a.next.node _ (same_ref-true m.tail a.tail b) h.1 f.room k (λ n. refl) refl marked tt refl (inl (ap earned f.earned)))
       (λ b. on _ (ap earned f.earned) refl (λ n. refl) refl marked tt)
   does D12 e r h f k =
       either (Goes m) (nat_eq a.head.count s.limit) (λ b. refuses _ (WornOut OfHead) (ap earned f.earned) refl refl refl (λ n. refl) refl marked refl)
       (λ b. on _ (ap earned f.earned) refl (λ n. refl) refl marked (k, λ q. refl))
   does D13 e r h f k =
-      tried (same_ref m.head a.head) _ m _ _
+      tried Goes (same_ref m.head a.head)
       (λ b. let was : m.head ≡ a.head = same_ref-true m.head a.head b in
       pops _ f.hand f.pocket was h.1 f.room (k.0.1 was).0 (k.0.1 was).1 refl f.pocket refl h.0 refl refl tt refl (ap (λ v. Some (Value v)) (sym (k.1 was))) f.call (ap earned f.earned))
       (λ b. on _ (ap earned f.earned) refl (λ n. refl) refl marked tt)

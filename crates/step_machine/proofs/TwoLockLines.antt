@@ -25,7 +25,7 @@ use Rattle.step_machine.specs.Standing.{HoldsNodes, IsRunBy}
 use Rattle.step_machine.specs.Places.{one_if, in_hand, in_pocket}
 use Rattle.step_machine.specs.Chains.{last_node}
 use Rattle.step_machine.specs.Promises.{earned, promised_reply}
-use Rattle.step_machine.proofs.Choices.{either}
+use Rattle.step_machine.proofs.Choices.{either, tried}
 use Rattle.step_machine.proofs.Chains.{next_in, chain_none, last_linked, second_leads}
 use Rattle.step_machine.proofs.Counting.{holds, holds_hand, holds_own}
 use Rattle.step_machine.proofs.Effects.{Shape, Turn, Took, written, next_keeps_value, turn_words, turn_aside, turn_claim, turn_take, turn_giveback, turn_node, turn_link, turn_pop, with_node as node_set}
@@ -78,10 +78,6 @@ module _ (Z : ℕ → Type 0) (s : Setup) (k : ℕ) (m : Shared) (E : ℕ → �
   -- what a step does, by the words and the outcome
   abbrev Does : Shared → Outcome → Type 0
   Does m' o = After Z s m h rest free me now a m' o
-
-  chosen : (b : Bool) (m1 : Shared) (x y : Outcome) → (b ≡ true → Does m1 x) → (b ≡ false → Does m y) → Does (if b then m1 else m) (if b then x else y)
-  chosen true m1 x y hx hy = hx refl
-  chosen false m1 x y hx hy = hy refl
 
   -- a step that writes no word
   still : (l : Line) (o : Outcome) → Before Z s k m E h rest free me a l → ((n : ℕ) → holds n o.actor ≡ holds n a) → o.aside ≡ None → KnowsAt (Found rest now) s m (last_node (h ∷ rest)) o.actor o.actor.line → OwnsAt m me o.actor.line → Account Z me now m m (h ∷ rest) (h ∷ rest) a o → Does m o
@@ -168,7 +164,7 @@ module _ (Z : ℕ → Type 0) (s : Setup) (k : ℕ) (m : Shared) (E : ℕ → �
 
   line_N4 : Before Z s k m E h rest free me a N4 → Does (performed (action s me a N4) m) (outcome s now me a N4 m.free)
   line_N4 b =
-      chosen (same_ref m.free a.top) _ _ _ (takes_free b)
+      tried Does (same_ref m.free a.top) (takes_free b)
       (λ e. goes_still N4 N1 a b (λ n. refl) tt b.owns (inl (ap earned b.fixed.earned)))
 
   -- the exchange that takes a node that was never used
@@ -190,7 +186,7 @@ module _ (Z : ℕ → Type 0) (s : Setup) (k : ℕ) (m : Shared) (E : ℕ → �
 
   line_N5 : Before Z s k m E h rest free me a N5 → Does (performed (action s me a N5) m) (outcome s now me a N5 m.fresh)
   line_N5 b =
-      chosen (nat_eq m.fresh a.f) _ _ _ (claims b) (λ e. goes_still N5 N1 a b (λ n. refl) tt b.owns (inl (ap earned b.fixed.earned)))
+      tried Does (nat_eq m.fresh a.f) (claims b) (λ e. goes_still N5 N1 a b (λ n. refl) tt b.owns (inl (ap earned b.fixed.earned)))
 
   -- the node in hand is one of those used
   within : (l : Line) → Before Z s k m E h rest free me a l → a.node ≤ length m.nodes
@@ -332,7 +328,7 @@ module _ (Z : ℕ → Type 0) (s : Setup) (k : ℕ) (m : Shared) (E : ℕ → �
 
   line_F3 : Before Z s k m E h rest free me a F3 → Does (performed (action s me a F3) m) (outcome s now me a F3 m.free)
   line_F3 b =
-      chosen (same_ref m.free a.top) _ _ _ (λ e. freed_back (lets_go a) s.kind a.due b e refl refl refl b.fixed.earned)
+      tried Does (same_ref m.free a.top) (λ e. freed_back (lets_go a) s.kind a.due b e refl refl refl b.fixed.earned)
       (λ e. goes_still F3 F1 a b (λ n. refl) tt b.owns (frees_keep (goes F1 a) a.due b.fixed.earned refl (keeps_due a.due b.fixed.earned)))
 
   line_A1 : Before Z s k m E h rest free me a A1 → Does (performed (action s me a A1) m) (outcome s now me a A1 (node_at m a.node).value)
@@ -369,7 +365,7 @@ module _ (Z : ℕ → Type 0) (s : Setup) (k : ℕ) (m : Shared) (E : ℕ → �
 
   line_A3 : Before Z s k m E h rest free me a A3 → Does (performed (action s me a A3) m) (outcome s now me a A3 m.tail_lock)
   line_A3 b =
-      chosen (nat_eq m.tail_lock 0) _ _ _ won (λ e. goes_still A3 A3 a b (λ n. refl) b.knows b.owns (inl (ap earned b.fixed.earned)))
+      tried Does (nat_eq m.tail_lock 0) won (λ e. goes_still A3 A3 a b (λ n. refl) b.knows b.owns (inl (ap earned b.fixed.earned)))
     where
       won : nat_eq m.tail_lock 0 ≡ true → Does (put Tail_lock me m) (goes A4 a)
       won e =
@@ -446,7 +442,7 @@ module _ (Z : ℕ → Type 0) (s : Setup) (k : ℕ) (m : Shared) (E : ℕ → �
 
   line_B1 : Before Z s k m E h rest free me a B1 → Does (performed (action s me a B1) m) (outcome s now me a B1 m.head_lock)
   line_B1 b =
-      chosen (nat_eq m.head_lock 0) _ _ _ won (λ e. goes_still B1 B1 a b (λ n. refl) tt b.owns (inl (ap earned b.fixed.earned)))
+      tried Does (nat_eq m.head_lock 0) won (λ e. goes_still B1 B1 a b (λ n. refl) tt b.owns (inl (ap earned b.fixed.earned)))
     where
       won : nat_eq m.head_lock 0 ≡ true → Does (put Head_lock me m) (goes B2 a)
       won e =
