@@ -28,6 +28,7 @@ pub mod Fixed
 pub mod Gains
 pub mod Accounts
 pub mod Replay
+pub mod Carrying
 pub mod TwoLockKnows
 pub mod TwoLockLines
 pub mod TwoLockSound
@@ -42,9 +43,8 @@ pub mod Booking
 pub mod Legal
 pub mod LegalMoves
 pub mod Promises
-pub mod TwoLockLegal
 pub mod NonBlockingLaws
-pub mod NonBlockingLegal
+pub mod EachLegal
 pub mod EachHistory
 pub mod EachEntry
 pub mod PlaceOf
