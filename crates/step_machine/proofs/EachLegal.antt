@@ -12,7 +12,7 @@ use Rattle.step_machine.specs.Machine.{World, rested, settled}
 use Rattle.step_machine.specs.Places.{IsChain}
 use Rattle.step_machine.specs.Chains.{queue_values}
 use Rattle.step_machine.specs.Stamps.{makers}
-use Rattle.step_machine.specs.TwoLock.{ReplaysToItsValues, CountsValuesTaken}
+use Rattle.step_machine.specs.EachQueue.{ReplaysToItsValues, CountsValuesTaken}
 use Rattle.step_machine.specs.Histories.{OfEachWorld}
 use Rattle.step_machine.proofs.StampsKept.{Knows, Kept}
 use Rattle.step_machine.proofs.Chains.{chain_same}

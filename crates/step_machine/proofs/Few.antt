@@ -18,7 +18,7 @@ use Rattle.history.specs.History.{number_of, inserted, rising}
 use Rattle.line_steps.specs.Memory.{node_at}
 use Rattle.step_machine.specs.Machine.{World}
 use Rattle.step_machine.specs.Chains.{queue_values}
-use Rattle.step_machine.specs.TwoLock.{HasItsPlaces}
+use Rattle.step_machine.specs.EachQueue.{HasItsPlaces}
 use Rattle.step_machine.specs.Promises.{promises, is_value}
 use Rattle.step_machine.specs.Entries.{entry_with, entry_of, entries, AreFew}
 use Rattle.step_machine.specs.Histories.{OfEachWorld}

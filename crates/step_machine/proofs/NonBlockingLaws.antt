@@ -27,7 +27,7 @@ use Rattle.step_machine.specs.Standing.{IsRunBy, HoldsNodes, Stands, EachRunsIts
 use Rattle.step_machine.specs.Places.{times, Places}
 use Rattle.step_machine.specs.Chains.{last_node}
 use Rattle.step_machine.specs.Lag.{TailLags}
-use Rattle.step_machine.specs.TwoLock.{HasItsPlaces, KeepsQueueAndFreeApart, raised_at, RaisesBelowTheLimit, HasCauseFor, RefusesWithCause}
+use Rattle.step_machine.specs.EachQueue.{HasItsPlaces, KeepsQueueAndFreeApart, raised_at, RaisesBelowTheLimit, HasCauseFor, RefusesWithCause}
 use Rattle.step_machine.specs.NonBlocking.{OfNonBlockingWorlds, TailLagsByOne, TailIsNotBehindHead, NeverFindsHeadWornOut, FindsItsOwnNextWornOut, NeverRefusedForHead, TakesTheFront}
 use Rattle.step_machine.proofs.Choices.{either}
 use Rattle.step_machine.proofs.Range.{found_in_range}

@@ -22,7 +22,8 @@ use Rattle.step_machine.specs.Range.{RegistersInRange, ActorInRange, WorldInRang
 use Rattle.step_machine.specs.Standing.{IsRunBy}
 use Rattle.step_machine.specs.Places.{times, Places}
 use Rattle.step_machine.specs.Chains.{last_node}
-use Rattle.step_machine.specs.TwoLock.{OfTwoLockWorlds, HasItsPlaces, KeepsQueueAndFreeApart, HasTailMoved, TailNamesTheLast, raised_at, RaisesBelowTheLimit, HasCause, HasCauseFor, RefusesWithCause}
+use Rattle.step_machine.specs.EachQueue.{HasItsPlaces, KeepsQueueAndFreeApart, raised_at, RaisesBelowTheLimit, HasCause, HasCauseFor, RefusesWithCause}
+use Rattle.step_machine.specs.TwoLock.{OfTwoLockWorlds, HasTailMoved, TailNamesTheLast}
 use Rattle.step_machine.proofs.Choices.{either}
 use Rattle.step_machine.proofs.Reached.{reached_in_range, actor_in_range}
 use Rattle.step_machine.proofs.StampsLists.{same_or_not}

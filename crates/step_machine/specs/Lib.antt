@@ -3,6 +3,7 @@ pub mod Words
 pub mod Places
 pub mod Chains
 pub mod Promises
+pub mod EachQueue
 pub mod TwoLock
 pub mod Views
 pub mod Calls
