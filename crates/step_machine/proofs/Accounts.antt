@@ -2,16 +2,7 @@
 -- number noted, a push, or a pop. `Account` says which, with what it does to the queue's chain and to Head's count.
 use Rattle.std.proofs.Common.{◌≡◌, ◌≢◌, ℕ, ◌+◌, true, if◌then◌else◌, List, [], ◌∷◌, ◌++◌, Some, None, ap, ◌⊎◌}
 use Rattle.std.proofs.lemmas.Bool.{ne_eqb}
-use Rattle.counted_ref.specs.Ref.{Ref, ref}
-use Rattle.history.specs.declared.refusals.Refusal.{Refusal}
-use Rattle.history.specs.declared.operations.Op.TheVariants.{Deq}
-use Rattle.history.specs.declared.operations.Reply.TheVariants.{Done, Value, Empty, Refused}
-use Rattle.history.specs.History.{leaves}
-use Rattle.line_steps.specs.declared.actors.Setup.{Setup}
-use Rattle.line_steps.specs.declared.actors.Actor.{Actor}
-use Rattle.line_steps.specs.declared.actors.Outcome.{Outcome}
-use Rattle.line_steps.specs.Memory.{Shared, node_at}
-use Rattle.line_steps.specs.Lines.{raised}
+use Rattle.step_machine.specs.Below.{Ref, ref, Refusal, Deq, Done, Value, Empty, Refused, leaves, Setup, Actor, Outcome, Shared, node_at, raised}
 use Rattle.step_machine.specs.Promises.{earned, promised_reply}
 use Rattle.step_machine.proofs.Fixed.{Pushes}
 

@@ -1,11 +1,6 @@
 -- What a move leads to, where it can be made: one of four worlds, by what its actor does.
 use Rattle.std.proofs.Common.{◌≡◌, ℕ, ◌+◌, Bool, true, false, if◌then◌else◌, Option, Some, None, IfSome, refl}
-use Rattle.line_table.specs.declared.lines.Line.{Line}
-use Rattle.history.specs.declared.operations.Op.{Op}
-use Rattle.line_steps.specs.declared.actors.Actor.{Actor}
-use Rattle.line_steps.specs.declared.actors.Outcome.{Outcome}
-use Rattle.line_steps.specs.Lines.{gives_up}
-use Rattle.line_steps.specs.Calling.{is_call, begun}
+use Rattle.step_machine.specs.Below.{Line, Op, Actor, Outcome, gives_up, is_call, begun}
 use Rattle.step_machine.specs.declared.actors.Move.{Move}
 use Rattle.step_machine.specs.declared.actors.Move.TheVariants.{Begin, Step, Give}
 use Rattle.step_machine.specs.Machine.{World, actor_of, rested, with_actor, settled, stepped, begins, steps, given, gives, may_rest, rests, moved, mover, rest_of, AnyMove, made, Rest, next_any}

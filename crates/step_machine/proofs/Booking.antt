@@ -7,16 +7,7 @@ use Rattle.std.specs.Prelude.{slice_get, IsSome}
 use Rattle.std.proofs.lemmas.Bool.{eqb-false, ltb-true, ltb-false}
 use Rattle.std.proofs.lemmas.List.{map-append}
 use Rattle.std.proofs.lemmas.Option.{none-some, same_Some, slice_get_within, get_or_from_slice_get}
-use Rattle.line_table.specs.declared.lines.Line.{Line}
-use Rattle.line_table.specs.declared.lines.Line.TheVariants.{F1, F2, F3, E17, A6, A7, B6, D5}
-use Rattle.history.specs.declared.operations.Op.{Op}
-use Rattle.history.specs.declared.operations.Reply.{Reply}
-use Rattle.history.specs.declared.operations.Reply.TheVariants.{Done, Value, Empty, Refused}
-use Rattle.history.specs.declared.operations.Stamped.{Stamped}
-use Rattle.history.specs.History.{inserted, rising}
-use Rattle.line_steps.specs.declared.actors.Actor.{Actor}
-use Rattle.line_steps.specs.declared.actors.Outcome.{Outcome}
-use Rattle.line_steps.specs.Memory.{Shared}
+use Rattle.step_machine.specs.Below.{Line, F1, F2, F3, E17, A6, A7, B6, D5, Op, Reply, Done, Value, Empty, Refused, Stamped, inserted, rising, Actor, Outcome, Shared}
 use Rattle.step_machine.specs.Machine.{World, actor_of, new_operation, told, recorded, entry_or, first_settled, settled, with_actor}
 use Rattle.step_machine.specs.Places.{one_if}
 use Rattle.step_machine.specs.Promises.{earned, due_of, promised_reply, is_value}

@@ -1,14 +1,7 @@
 -- What the moves carry along of a world and its queue's chain, in both queues: a fact of the chain, and one of the
 -- numbers noted where the queue was empty.
 use Rattle.std.proofs.Common.{◌≡◌, ℕ, ◌+◌, true, List, [], ◌∷◌, Some, None}
-use Rattle.line_table.specs.declared.lines.Line.{Line}
-use Rattle.history.specs.declared.operations.Op.{Op}
-use Rattle.line_steps.specs.declared.actors.Setup.{Setup}
-use Rattle.line_steps.specs.declared.actors.Actor.{Actor}
-use Rattle.line_steps.specs.declared.actors.Outcome.{Outcome}
-use Rattle.line_steps.specs.Memory.{Shared, found, performed}
-use Rattle.line_steps.specs.Lines.{action, outcome, gives_up}
-use Rattle.line_steps.specs.Calling.{begun}
+use Rattle.step_machine.specs.Below.{Line, Op, Setup, Actor, Outcome, Shared, found, performed, action, outcome, gives_up, begun}
 use Rattle.step_machine.specs.Machine.{World, opening, actor_of, rested, may_rest, with_actor, settled, IsSized, IsReached}
 use Rattle.step_machine.proofs.Reached.{some_of}
 use Rattle.step_machine.proofs.StampsLines.{Turns, turned, given_turned}

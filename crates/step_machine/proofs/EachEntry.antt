@@ -1,15 +1,6 @@
 -- Each step of a world that is reached, and each giving up, adds the entries that its outcome gains, in both queues.
 use Rattle.std.proofs.Common.{◌≡◌, ◌+◌, ℕ, Some, refl, sym, subst}
-use Rattle.line_table.specs.declared.lines.Kind.{Kind}
-use Rattle.line_table.specs.declared.lines.Kind.TheVariants.{TwoLock, NonBlocking}
-use Rattle.line_table.specs.declared.lines.Line.{Line}
-use Rattle.line_table.specs.Sections.{section_of}
-use Rattle.history.specs.Queue.{empty}
-use Rattle.history.specs.Entries.{Plays}
-use Rattle.line_steps.specs.declared.actors.Actor.{Actor}
-use Rattle.line_steps.specs.declared.actors.Outcome.{Outcome}
-use Rattle.line_steps.specs.Memory.{found, performed}
-use Rattle.line_steps.specs.Lines.{action, outcome, gives_up}
+use Rattle.step_machine.specs.Below.{Kind, TwoLock, NonBlocking, Line, section_of, empty, Plays, Actor, Outcome, found, performed, action, outcome, gives_up}
 use Rattle.step_machine.specs.Machine.{World, actor_of, settled, stepped, IsReached}
 use Rattle.step_machine.specs.Chains.{queue_values}
 use Rattle.step_machine.specs.Histories.{OfEachWorld}

@@ -1,10 +1,7 @@
 -- What is proved of each queue by itself, said of both at once.
 use Rattle.std.proofs.Common.{◌≡◌, ℕ, List, [], ◌∷◌, Option, Some, None, IfSome, refl, sym, subst, ◌∙◌}
 use Rattle.std.proofs.lemmas.Option.{IfSome_then}
-use Rattle.line_table.specs.declared.lines.Kind.{Kind}
-use Rattle.line_table.specs.declared.lines.Kind.TheVariants.{TwoLock, NonBlocking}
-use Rattle.history.specs.History.{Placement, IsLegal}
-use Rattle.line_steps.specs.declared.actors.Setup.{Setup}
+use Rattle.step_machine.specs.Below.{Kind, TwoLock, NonBlocking, Placement, IsLegal, Setup}
 use Rattle.step_machine.specs.Machine.{World, opening, AnyMove, next_any, run, run_on, IsSized, IsReached, IsMade}
 use Rattle.step_machine.specs.Histories.{OfEachWorld, OfEachHistory}
 use Rattle.step_machine.proofs.Reached.{if_some, some_of, setup-next_any, made_reached}

@@ -1,13 +1,7 @@
 -- The histories of both queues are legal: the operations of each world by rising place, and Head's count.
 use Rattle.std.proofs.Common.{◌≡◌, ℕ, ◌+◌, ◌≤◌, List, ◌∷◌, refl, sym, ap, ◌∙◌, subst, arith}
 use Rattle.std.proofs.lemmas.Option.{none-some}
-use Rattle.line_table.specs.declared.lines.Kind.{Kind}
-use Rattle.line_table.specs.declared.lines.Kind.TheVariants.{TwoLock, NonBlocking}
-use Rattle.history.specs.History.{IsLegal}
-use Rattle.line_steps.specs.declared.actors.Actor.{Actor}
-use Rattle.line_steps.specs.declared.actors.Outcome.{Outcome}
-use Rattle.line_steps.specs.Memory.{Shared}
-use Rattle.line_steps.specs.Calling.{begun}
+use Rattle.step_machine.specs.Below.{Kind, TwoLock, NonBlocking, IsLegal, Actor, Outcome, Shared, begun}
 use Rattle.step_machine.specs.Machine.{World, rested, settled}
 use Rattle.step_machine.specs.Places.{IsChain}
 use Rattle.step_machine.specs.Chains.{queue_values}

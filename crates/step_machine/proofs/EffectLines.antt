@@ -1,19 +1,8 @@
 -- Which lines give an operation a place by an effect, and that no other one does.
 use Rattle.std.proofs.Common.{◌≡◌, ℕ, Bool, true, false, nat_eq, nat_lt, if◌then◌else◌, Option, Some, None, IfSome, refl, sym, ◌∙◌, ◌⊎◌, inl, inr}
 use Rattle.std.proofs.lemmas.Option.{none-some, same_Some}
-use Rattle.counted_ref.specs.Ref.{is_null, same_ref}
+use Rattle.step_machine.specs.Below.{is_null, same_ref, Kind, TwoLock, NonBlocking, Line, N1, N2, N4, N5, F1, F3, E3, E5, E7, E9, D2, D5, D12, D13, A3, A5, B1, B3, B4, B5, B6, Reply, Done, Value, Empty, Refused, Setup, Actor, Outcome, Shared, node_at, found, action, outcome, ends, sets_aside, freed, unlocked, busy_or, gives_up}
 use Rattle.counted_ref.proofs.Words.{same_ref-true, same_ref-equal}
-use Rattle.line_table.specs.declared.lines.Kind.{Kind}
-use Rattle.line_table.specs.declared.lines.Kind.TheVariants.{TwoLock, NonBlocking}
-use Rattle.line_table.specs.declared.lines.Line.{Line}
-use Rattle.line_table.specs.declared.lines.Line.TheVariants.{N1, N2, N4, N5, F1, F3, E3, E5, E7, E9, D2, D5, D12, D13, A3, A5, B1, B3, B4, B5, B6}
-use Rattle.history.specs.declared.operations.Reply.{Reply}
-use Rattle.history.specs.declared.operations.Reply.TheVariants.{Done, Value, Empty, Refused}
-use Rattle.line_steps.specs.declared.actors.Setup.{Setup}
-use Rattle.line_steps.specs.declared.actors.Actor.{Actor}
-use Rattle.line_steps.specs.declared.actors.Outcome.{Outcome}
-use Rattle.line_steps.specs.Memory.{Shared, node_at, found}
-use Rattle.line_steps.specs.Lines.{action, outcome, ends, sets_aside, freed, unlocked, busy_or, gives_up}
 use Rattle.step_machine.specs.TakingEffect.{HasEffect, IsByEffect}
 use Rattle.step_machine.proofs.Choices.{both}
 use Rattle.step_machine.proofs.Reached.{some_of}

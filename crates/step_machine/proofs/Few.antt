@@ -4,18 +4,7 @@ use Rattle.std.specs.List.{count_by, flat_map}
 use Rattle.std.proofs.lemmas.List.{length-map}
 use Rattle.std.proofs.lemmas.List.Recursion.{is_count_by}
 use Rattle.std.specs.Prelude.{is_some}
-use Rattle.history.specs.declared.operations.Op.{Op}
-use Rattle.history.specs.declared.operations.Op.TheVariants.{Enq, Deq}
-use Rattle.history.specs.declared.operations.Reply.{Reply}
-use Rattle.history.specs.declared.operations.Reply.TheVariants.{Done, Value, Empty, Refused}
-use Rattle.history.specs.declared.operations.Taken.{Taken}
-use Rattle.history.specs.declared.operations.Entry.{Entry}
-use Rattle.history.specs.declared.operations.Entry.TheVariants.{Push, Pop}
-use Rattle.history.specs.declared.operations.Stamped.{Stamped}
-use Rattle.history.specs.Queue.{Queue, empty, given, front_of}
-use Rattle.history.specs.Entries.{is_push, is_pop, Plays}
-use Rattle.history.specs.History.{number_of, inserted, rising}
-use Rattle.line_steps.specs.Memory.{node_at}
+use Rattle.step_machine.specs.Below.{Op, Enq, Deq, Taken, Reply, Done, Value, Empty, Refused, Stamped, Entry, Push, Pop, Queue, empty, given, front_of, is_push, is_pop, Plays, number_of, inserted, rising, node_at}
 use Rattle.step_machine.specs.Machine.{World}
 use Rattle.step_machine.specs.Chains.{queue_values}
 use Rattle.step_machine.specs.EachQueue.{HasItsPlaces}

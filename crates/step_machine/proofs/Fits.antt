@@ -1,13 +1,6 @@
 -- What is in range fits its word.
 use Rattle.std.proofs.Common.{◌≡◌, ℕ, ◌+◌, ◌-◌, ◌^◌, ◌<◌, ◌≤◌, Some, length, subst, arith}
-use Rattle.counted_ref.specs.Ref.{Ref, IsRef, ref}
-use Rattle.line_table.specs.declared.lines.Line.{Line}
-use Rattle.line_table.specs.declared.lines.Line.TheVariants.{N4, N5, F2, F3, E2, E9, E13, E17, D10, D13, A1, A3, A5, A6, A7, B1, B5, B6}
-use Rattle.history.specs.declared.operations.Taken.{Taken}
-use Rattle.line_steps.specs.declared.actors.Setup.{Setup}
-use Rattle.line_steps.specs.declared.actors.Actor.{Actor}
-use Rattle.line_steps.specs.Memory.{Word, Fresh, Free, Head, Tail, Tail_lock, Head_lock, Next, Value_of, Content, content}
-use Rattle.line_steps.specs.Lines.{action, raised}
+use Rattle.step_machine.specs.Below.{Ref, IsRef, ref, Line, N4, N5, F2, F3, E2, E9, E13, E17, D10, D13, A1, A3, A5, A6, A7, B1, B5, B6, Taken, Setup, Actor, Word, Fresh, Free, Head, Tail, Tail_lock, Head_lock, Next, Value_of, Content, content, action, raised}
 use Rattle.step_machine.specs.Machine.{World, actor_of, IsSized}
 use Rattle.step_machine.specs.Range.{RefInRange, ValueInRange, RegistersInRange, LineInRange, ActorInRange, WorldInRange}
 use Rattle.step_machine.specs.Tables.{ValueFits, ContentFits, SharedFits, ActionFits}

@@ -2,28 +2,8 @@
 -- in its hand, that its pocket is empty, which call it runs, what its call has earned, and which counts were tested.
 use Rattle.std.proofs.Common.{◌≡◌, ◌≢◌, ℕ, ◌+◌, Bool, true, false, nat_eq, nat_lt, if◌then◌else◌, Option, Some, None, IfSome, refl, sym, subst}
 use Rattle.std.proofs.lemmas.Bool.{eqb-false}
-use Rattle.counted_ref.specs.Ref.{is_null, same_ref}
-use Rattle.line_table.specs.declared.lines.Kind.{Kind}
-use Rattle.line_table.specs.declared.lines.Kind.TheVariants.{TwoLock, NonBlocking}
-use Rattle.line_table.specs.declared.lines.Line.{Line}
-use Rattle.line_table.specs.declared.lines.Line.TheVariants.{N1, N2, N3, N4, N5, F1, F2, F3, E2, E3, E5, E6, E7, E9, E13, E17, D2, D5, D10, D12, D13, A1, A2, A3, A4, A5, A6, A7, B1, B3, B4, B5, B6}
-use Rattle.line_table.specs.declared.lines.Section.{Section}
+use Rattle.step_machine.specs.Below.{is_null, same_ref, Kind, TwoLock, NonBlocking, Line, N1, N2, N3, N4, N5, F1, F2, F3, E2, E3, E5, E6, E7, E9, E13, E17, D2, D5, D10, D12, D13, A1, A2, A3, A4, A5, A6, A7, B1, B3, B4, B5, B6, Section, section_of, OfHead, WornOut, Op, Enq, Deq, Taken, Reply, Done, Value, Empty, Refused, Setup, Held, Actor, Outcome, Found, action, outcome, goes, ends, effect, sets_aside, takes, lets_go, to_pocket, with_node, freed, unlocked, busy_or, gives_up, from_pocket, begun}
 use Rattle.line_table.specs.declared.lines.Section.TheVariants.{NewNode, Free, Enqueue, Dequeue, LockedEnqueue, LockedDequeue}
-use Rattle.line_table.specs.Sections.{section_of}
-use Rattle.history.specs.declared.refusals.Refusal.TheVariants.{WornOut}
-use Rattle.history.specs.declared.refusals.WornWord.TheVariants.{Head as OfHead}
-use Rattle.history.specs.declared.operations.Op.{Op}
-use Rattle.history.specs.declared.operations.Op.TheVariants.{Enq, Deq}
-use Rattle.history.specs.declared.operations.Taken.{Taken}
-use Rattle.history.specs.declared.operations.Reply.{Reply}
-use Rattle.history.specs.declared.operations.Reply.TheVariants.{Done, Value, Empty, Refused}
-use Rattle.line_steps.specs.declared.actors.Setup.{Setup}
-use Rattle.line_steps.specs.declared.actors.Held.{Held}
-use Rattle.line_steps.specs.declared.actors.Actor.{Actor}
-use Rattle.line_steps.specs.declared.actors.Outcome.{Outcome}
-use Rattle.line_steps.specs.Memory.{Found}
-use Rattle.line_steps.specs.Lines.{action, outcome, goes, ends, effect, sets_aside, takes, lets_go, to_pocket, with_node, freed, unlocked, busy_or, gives_up}
-use Rattle.line_steps.specs.Calling.{from_pocket, begun}
 use Rattle.step_machine.proofs.Choices.{either, both}
 
 -- whether a call that lets the head lock go has a node to free

@@ -1,22 +1,8 @@
 -- Giving up, and beginning, by the parts of the calls that do it.
 use Rattle.std.proofs.Common.{◌≡◌, ℕ, ◌+◌, ◌⊎◌, inl, inr, Bool, true, false, if◌then◌else◌, Option, Some, None, IsSome, is_some, List, [], replicate, refl, sym, ap, subst, ◌∙◌, arith}
 use Rattle.std.proofs.lemmas.List.Folds.{sum_by-replicate}
-use Rattle.line_table.specs.declared.lines.Kind.{Kind}
-use Rattle.line_table.specs.declared.lines.Kind.TheVariants.{TwoLock, NonBlocking}
-use Rattle.line_table.specs.declared.lines.Line.{Line}
-use Rattle.line_table.specs.declared.lines.Line.TheVariants.{N1, F1}
-use Rattle.history.specs.declared.operations.Op.{Op}
-use Rattle.history.specs.declared.operations.Op.TheVariants.{Enq, Deq}
-use Rattle.history.specs.declared.operations.Reply.{Reply}
-use Rattle.history.specs.declared.operations.Stamped.{Stamped}
-use Rattle.line_steps.specs.declared.actors.Setup.{Setup}
-use Rattle.line_steps.specs.declared.actors.Held.{Held}
-use Rattle.line_steps.specs.declared.actors.Actor.{Actor}
-use Rattle.line_steps.specs.declared.actors.Outcome.{Outcome}
-use Rattle.line_steps.specs.Memory.{Shared}
-use Rattle.line_steps.specs.Lines.{gives_up, busy_or, with_node, dequeues}
-use Rattle.line_steps.specs.Calling.{is_call, begun, from_pocket}
-use Rattle.line_steps.specs.Rooms.{Memory, first_memory}
+use Rattle.step_machine.specs.Below.{Kind, TwoLock, NonBlocking, Line, N1, F1, Op, Enq, Deq, Reply, Stamped, Setup, Held, Actor, Outcome, Shared, gives_up, busy_or, with_node, dequeues, is_call, begun, from_pocket, first_memory}
+use Rattle.line_steps.specs.Rooms.{Memory}
 use Rattle.step_machine.specs.declared.actors.Move.TheVariants.{Begin, Give}
 use Rattle.step_machine.specs.Machine.{World, opening, idle, actor_of, with_actor, begins, given, gives, moved, next, settled}
 use Rattle.step_machine.specs.Calls.{giving_up, giving_up_at}

@@ -2,15 +2,7 @@
 use Rattle.std.proofs.Common.{◌≡◌, ℕ, ◌+◌, ◌-◌, true, Option, Some, IfSome, List, [], ◌∷◌, ◌∙◌, refl}
 use Rattle.std.proofs.lemmas.List.Elements.{All-set, All-replicate}
 use Rattle.std.specs.List.{All}
-use Rattle.line_table.specs.declared.lines.Line.{Line}
-use Rattle.history.specs.declared.operations.Op.{Op}
-use Rattle.line_steps.specs.declared.actors.Setup.{Setup}
-use Rattle.line_steps.specs.declared.actors.Actor.{Actor}
-use Rattle.line_steps.specs.declared.actors.Outcome.{Outcome}
-use Rattle.line_steps.specs.Memory.{Shared, found, performed}
-use Rattle.line_steps.specs.Lines.{action, outcome, gives_up}
-use Rattle.line_steps.specs.Rooms.{first_words}
-use Rattle.line_steps.specs.Calling.{is_call, begun}
+use Rattle.step_machine.specs.Below.{Line, Op, Setup, Actor, Outcome, Shared, found, performed, action, outcome, gives_up, is_call, begun, first_words}
 use Rattle.step_machine.specs.Machine.{World, idle, opening, actor_of, rested, with_actor, settled, may_rest, AnyMove, next_any, run, IsReached}
 use Rattle.step_machine.proofs.AnyMoves.{after_move}
 use Rattle.step_machine.proofs.Reached.{if_some, some_of, actor_of-All, setup-next_any, run_on_if, made_reached, opening_made, reached_next}

@@ -3,28 +3,10 @@
 use Rattle.std.proofs.Common.{◌≡◌, ◌≢◌, ℕ, ◌+◌, ◌<◌, ◌⊎◌, inl, inr, Bool, true, false, nat_eq, nat_lt, if◌then◌else◌, Option, Some, None, IfSome, List, set, length, get_or, refl, sym, ap, ◌∙◌, subst, arith}
 use Rattle.std.specs.Prelude.{slice_get}
 use Rattle.std.proofs.lemmas.Option.{same_Some, slice_get_within, get_or_from_slice_get}
-use Rattle.counted_ref.specs.Ref.{is_null, same_ref}
-use Rattle.line_table.specs.declared.lines.Kind.{Kind}
-use Rattle.line_table.specs.declared.lines.Line.{Line}
-use Rattle.line_table.specs.declared.lines.Line.TheVariants.{N1, N2, N4, N5, F1, F3, E3, E5, E7, E9, E17, D2, D5, D12, D13, A3, B1, B3, B4, B6}
-use Rattle.history.specs.declared.operations.Op.{Op}
-use Rattle.history.specs.declared.operations.Op.TheVariants.{Enq, Deq}
-use Rattle.history.specs.declared.operations.Reply.{Reply}
-use Rattle.history.specs.declared.operations.Reply.TheVariants.{Done, Value, Empty, Refused}
-use Rattle.history.specs.declared.operations.Stamped.{Stamped}
+use Rattle.step_machine.specs.Below.{is_null, same_ref, Kind, Line, N1, N2, N4, N5, F1, F3, E3, E5, E7, E9, E17, D2, D5, D12, D13, A3, B1, B3, B4, B6, Op, Enq, Deq, Reply, Done, Value, Empty, Refused, Stamped, empty, Plays, rising, Replays, replayed, Setup, Held, Actor, Outcome, Shared, Found, action, outcome, goes, ends, effect, lets_go, to_pocket, with_node, freed, unlocked, busy_or, gives_up, from_pocket, begun}
 use Rattle.std.specs.List.{flat_map}
-use Rattle.history.specs.Queue.{empty}
-use Rattle.history.specs.Entries.{Plays}
 use Rattle.step_machine.specs.Chains.{queue_values}
 use Rattle.step_machine.specs.Entries.{entry_of}
-use Rattle.history.specs.History.{rising, Replays, replayed}
-use Rattle.line_steps.specs.declared.actors.Setup.{Setup}
-use Rattle.line_steps.specs.declared.actors.Actor.{Actor}
-use Rattle.line_steps.specs.declared.actors.Held.{Held}
-use Rattle.line_steps.specs.declared.actors.Outcome.{Outcome}
-use Rattle.line_steps.specs.Memory.{Shared, Found}
-use Rattle.line_steps.specs.Lines.{action, outcome, goes, ends, effect, lets_go, to_pocket, with_node, freed, unlocked, busy_or, gives_up}
-use Rattle.line_steps.specs.Calling.{from_pocket, begun}
 use Rattle.step_machine.specs.Machine.{World, actor_of, opening, new_operation, told, recorded, entry_or, settled, with_actor, run, IsReached}
 use Rattle.step_machine.specs.Promises.{due_of, promised_reply}
 use Rattle.step_machine.specs.Stamps.{makers}

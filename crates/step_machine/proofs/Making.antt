@@ -1,16 +1,6 @@
 -- What the calls of a world need of it, and what they keep: registers that can be used, room, and the list of moves.
 use Rattle.std.proofs.Common.{◌≡◌, ℕ, ◌+◌, ◌-◌, ◌^◌, ◌<◌, ◌≤◌, ◌⊎◌, inl, inr, Option, Some, None, IfSome, List, length, min, set, slice_get, refl, sym, ap, subst, arith}
-use Rattle.line_table.specs.declared.lines.Line.{Line}
-use Rattle.line_table.specs.declared.lines.Line.TheVariants.{N1}
-use Rattle.history.specs.declared.operations.Op.{Op}
-use Rattle.history.specs.declared.operations.Stamped.{Stamped}
-use Rattle.line_steps.specs.declared.actors.Setup.{Setup}
-use Rattle.line_steps.specs.declared.actors.Actor.{Actor}
-use Rattle.line_steps.specs.declared.actors.Outcome.{Outcome}
-use Rattle.line_steps.specs.Lines.{gives_up}
-use Rattle.line_steps.specs.Calling.{begun}
-use Rattle.line_steps.specs.Ready.{IsReady}
-use Rattle.line_steps.specs.Rooms.{room_after}
+use Rattle.step_machine.specs.Below.{Line, N1, Op, Stamped, Setup, Actor, Outcome, gives_up, begun, room_after, IsReady}
 use Rattle.step_machine.specs.Machine.{World, actor_of, recorded, IsMade}
 use Rattle.step_machine.specs.Views.{seeks, unrecorded, HasNodes, HasEntry}
 use Rattle.step_machine.specs.Range.{WorldInRange, ActorInRange}

@@ -1,16 +1,8 @@
 -- In a reached world of the two-lock queue each access names a word of the table; and an access that does is one step on
 -- its place.
 use Rattle.std.proofs.Common.{◌≡◌, ℕ, ◌+◌, ◌≤◌, ◌∙◌, Option, Some, None, IfSome, length, ap, subst, arith}
-use Rattle.line_table.specs.declared.lines.Kind.TheVariants.{TwoLock}
-use Rattle.line_table.specs.declared.lines.Line.{Line}
-use Rattle.line_table.specs.declared.lines.Line.TheVariants.{N3, F2, E2, E3, E6, E9, D4, D5, D12, A1, A2, A5, B3, B4}
+use Rattle.step_machine.specs.Below.{TwoLock, Line, N3, F2, E2, E3, E6, E9, D4, D5, D12, A1, A2, A5, B3, B4, section_of, Setup, Actor, Outcome, Shared, word, found, action, outcome, gives_up}
 use Rattle.line_table.specs.declared.lines.Section.TheVariants.{Dequeue}
-use Rattle.line_table.specs.Sections.{section_of}
-use Rattle.line_steps.specs.declared.actors.Setup.{Setup}
-use Rattle.line_steps.specs.declared.actors.Actor.{Actor}
-use Rattle.line_steps.specs.declared.actors.Outcome.{Outcome}
-use Rattle.line_steps.specs.Memory.{Shared, word, found}
-use Rattle.line_steps.specs.Lines.{action, outcome, gives_up}
 use Rattle.step_machine.specs.Words.{IsWord}
 use Rattle.step_machine.specs.Machine.{World, IsReached}
 use Rattle.step_machine.specs.Range.{SharedInRange, RegistersInRange, ActorInRange, WorldInRange}

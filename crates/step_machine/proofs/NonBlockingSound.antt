@@ -4,21 +4,7 @@ use Rattle.std.proofs.Common.{◌≡◌, ◌≢◌, ℕ, zero, suc, get_or, ◌+
 use Rattle.std.specs.Prelude.{slice_get}
 use Rattle.std.proofs.lemmas.Bool.{leb-true, eqb-false, true≢false}
 use Rattle.std.proofs.Math.ListN.{length-replicate}
-use Rattle.line_table.specs.declared.lines.Kind.{Kind}
-use Rattle.line_table.specs.declared.lines.Kind.TheVariants.{TwoLock, NonBlocking}
-use Rattle.line_table.specs.declared.lines.Line.{Line}
-use Rattle.line_table.specs.declared.lines.Line.TheVariants.{E2, A1, F1, D5}
-use Rattle.line_table.specs.Sections.{section_of}
-use Rattle.history.specs.declared.operations.Op.{Op}
-use Rattle.history.specs.declared.operations.Op.TheVariants.{Enq, Deq}
-use Rattle.line_steps.specs.declared.actors.Setup.{Setup}
-use Rattle.line_steps.specs.declared.actors.Actor.{Actor}
-use Rattle.line_steps.specs.declared.actors.Held.{Held}
-use Rattle.line_steps.specs.declared.actors.Node.{Node}
-use Rattle.line_steps.specs.declared.actors.Outcome.{Outcome}
-use Rattle.line_steps.specs.Memory.{blank, Shared, node_at, word, found, performed}
-use Rattle.line_steps.specs.Lines.{action, outcome, gives_up}
-use Rattle.line_steps.specs.Calling.{is_call, from_pocket, begun}
+use Rattle.step_machine.specs.Below.{Kind, TwoLock, NonBlocking, Line, E2, A1, F1, D5, section_of, Op, Enq, Deq, Setup, Node, Held, Actor, Outcome, blank, Shared, node_at, word, found, performed, action, outcome, gives_up, is_call, from_pocket, begun}
 use Rattle.step_machine.specs.Machine.{World, idle, opening, actor_of, rested, may_rest, with_actor, entry_or, settled, stepped, IsSized, IsReached}
 use Rattle.step_machine.specs.Range.{WorldInRange, ActorInRange, LineInRange}
 use Rattle.step_machine.specs.Standing.{IsRunBy, HoldsNodes, Stands, ActorStands}

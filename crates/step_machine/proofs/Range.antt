@@ -4,15 +4,7 @@ use Rattle.std.proofs.Math.ListN.{length-set}
 use Rattle.std.proofs.lemmas.Bool.{eqb-false, eqb-true}
 use Rattle.std.proofs.lemmas.List.Elements.{All-set}
 use Rattle.std.specs.List.{All}
-use Rattle.counted_ref.specs.Ref.{Ref, ref}
-use Rattle.line_table.specs.declared.lines.Line.{Line}
-use Rattle.line_table.specs.declared.lines.Line.TheVariants.{N4, N5, F2, F3, E2, E9, E13, E17, D10, D13, A1, A3, A5, A6, A7, B1, B5, B6}
-use Rattle.line_steps.specs.declared.actors.Setup.{Setup}
-use Rattle.line_steps.specs.declared.actors.Actor.{Actor}
-use Rattle.line_steps.specs.declared.actors.Held.{Held}
-use Rattle.line_steps.specs.declared.actors.Node.{Node}
-use Rattle.line_steps.specs.Memory.{blank, Shared, Word, Content, Action, performed, content, same, load, store, clear, exchange, Fresh, Free, Head, Tail, Tail_lock, Head_lock, Next, Value_of, put}
-use Rattle.line_steps.specs.Lines.{raised, action}
+use Rattle.step_machine.specs.Below.{Ref, ref, Line, N4, N5, F2, F3, E2, E9, E13, E17, D10, D13, A1, A3, A5, A6, A7, B1, B5, B6, Setup, Node, Held, Actor, blank, Shared, Word, Content, Action, performed, content, same, load, store, clear, exchange, Fresh, Free, Head, Tail, Tail_lock, Head_lock, Next, Value_of, put, raised, action}
 use Rattle.step_machine.specs.Range.{RefInRange, ValueInRange, NodeInRange, SharedInRange, HeldInRange, RegistersInRange, LineInRange, ActorInRange}
 
 -- what is in range stays so where more nodes are used

@@ -6,21 +6,7 @@ use Rattle.std.proofs.lemmas.List.{map-append}
 use Rattle.std.proofs.lemmas.List.Elements.{All-set, All-replicate}
 use Rattle.std.proofs.lemmas.Option.{none-some, slice_get_within, get_or_from_slice_get}
 use Rattle.std.specs.List.{All}
-use Rattle.counted_ref.specs.Ref.{null}
-use Rattle.line_table.specs.declared.lines.Kind.{Kind}
-use Rattle.line_table.specs.declared.lines.Kind.TheVariants.{TwoLock, NonBlocking}
-use Rattle.line_table.specs.declared.lines.Line.{Line}
-use Rattle.line_table.specs.declared.lines.Line.TheVariants.{N1, N5, F1, E2, A1}
-use Rattle.history.specs.declared.operations.Op.{Op}
-use Rattle.history.specs.declared.operations.Op.TheVariants.{Enq, Deq}
-use Rattle.line_steps.specs.declared.actors.Setup.{Setup}
-use Rattle.line_steps.specs.declared.actors.Actor.{Actor}
-use Rattle.line_steps.specs.declared.actors.Held.{Held}
-use Rattle.line_steps.specs.declared.actors.Outcome.{Outcome}
-use Rattle.line_steps.specs.Memory.{blank, Shared, word, found, performed}
-use Rattle.line_steps.specs.Lines.{action, dequeues, gives_up}
-use Rattle.line_steps.specs.Calling.{is_call, from_pocket, begun}
-use Rattle.line_steps.specs.Rooms.{aside_after}
+use Rattle.step_machine.specs.Below.{null, Kind, TwoLock, NonBlocking, Line, N1, N5, F1, E2, A1, Op, Enq, Deq, Setup, Held, Actor, Outcome, blank, Shared, word, found, performed, action, dequeues, gives_up, is_call, from_pocket, begun, aside_after}
 use Rattle.step_machine.specs.declared.actors.Move.{Move}
 use Rattle.step_machine.specs.Machine.{World, idle, opening, actor_of, rested, with_actor, settled, stepped, next, AnyMove, made, next_any, run_on, run, IsSized, IsReached, IsMade}
 use Rattle.step_machine.specs.Range.{RefInRange, NodeInRange, SharedInRange, HeldInRange, RegistersInRange, LineInRange, ActorInRange, WorldInRange}

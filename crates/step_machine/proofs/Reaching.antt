@@ -1,14 +1,7 @@
 -- What a world has at the start, and each move of an actor keeps, each world that is reached has.
 -- Each of the four cases is given the world before, that it is reached, and which queue it runs.
 use Rattle.std.proofs.Common.{◌≡◌, ℕ, ◌+◌, true, Some, None, IfSome, List, [], ◌∷◌, refl, ◌∙◌}
-use Rattle.line_table.specs.declared.lines.Kind.{Kind}
-use Rattle.line_table.specs.declared.lines.Line.{Line}
-use Rattle.history.specs.declared.operations.Op.{Op}
-use Rattle.line_steps.specs.declared.actors.Setup.{Setup}
-use Rattle.line_steps.specs.declared.actors.Actor.{Actor}
-use Rattle.line_steps.specs.declared.actors.Outcome.{Outcome}
-use Rattle.line_steps.specs.Lines.{gives_up}
-use Rattle.line_steps.specs.Calling.{is_call, begun}
+use Rattle.step_machine.specs.Below.{Kind, Line, Op, Setup, Actor, Outcome, gives_up, is_call, begun}
 use Rattle.step_machine.specs.Machine.{World, opening, actor_of, rested, with_actor, settled, stepped, may_rest, AnyMove, next_any, run, IsSized, IsReached}
 use Rattle.step_machine.proofs.AnyMoves.{after_move}
 use Rattle.step_machine.proofs.Reached.{if_some, some_of, setup-next_any, run_on_if, reached_next}

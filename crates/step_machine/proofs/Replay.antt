@@ -9,11 +9,7 @@ use Rattle.std.specs.Prelude.{slice_get}
 use Rattle.std.specs.List.{AllByRecursion}
 use Rattle.std.proofs.lemmas.Bool.{leb-true, leb-false, le-leb, lt-leb}
 use Rattle.std.proofs.lemmas.Option.{none-some, same_Some}
-use Rattle.history.specs.declared.operations.Stamped.{Stamped}
-use Rattle.history.specs.declared.operations.Op.TheVariants.{Deq}
-use Rattle.history.specs.declared.operations.Reply.TheVariants.{Empty}
-use Rattle.history.specs.Queue.{Queue, empty, given}
-use Rattle.history.specs.History.{number_of, inserted, rising, answer, Gets, Replays, replayed}
+use Rattle.step_machine.specs.Below.{Deq, Empty, Stamped, Queue, empty, given, number_of, inserted, rising, answer, Gets, Replays, replayed}
 use Rattle.history.proofs.Rising.{commute}
 
 -- the number of an operation's place

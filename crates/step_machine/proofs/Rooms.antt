@@ -4,11 +4,7 @@ use Rattle.std.proofs.Math.ListN.{length-set}
 use Rattle.std.proofs.lemmas.Bool.{ltb-true, ltb-false}
 use Rattle.std.proofs.lemmas.List.Sums.{sum_by-set, sum_by-le, get_or-le-sum_by}
 use Rattle.std.specs.List.{sum_by}
-use Rattle.line_table.specs.declared.lines.Line.{Line}
-use Rattle.line_table.specs.declared.lines.Line.TheVariants.{N1}
-use Rattle.history.specs.declared.operations.Stamped.{Stamped}
-use Rattle.line_steps.specs.declared.actors.Actor.{Actor}
-use Rattle.line_steps.specs.Rooms.{room_after}
+use Rattle.step_machine.specs.Below.{Line, N1, Stamped, Actor, room_after}
 use Rattle.step_machine.specs.Machine.{recorded}
 use Rattle.step_machine.specs.Views.{seeks, seekers, is_unrecorded, unrecorded, HasNodes, HasEntry}
 

@@ -3,12 +3,7 @@ use Rattle.std.proofs.Common.{◌≡◌, ◌≢◌, ℕ, ◌+◌, ◌-◌, ◌<�
 use Rattle.std.proofs.lemmas.Bool.{eqb-false}
 use Rattle.std.proofs.lemmas.Option.{none-some, same_Some, slice_get_within, get_or_from_slice_get, IfSome_then}
 use Rattle.std.specs.Prelude.{slice_get, IsSome, IsSomeAnd}
-use Rattle.line_table.specs.declared.lines.Line.{Line}
-use Rattle.history.specs.declared.operations.Reply.{Reply}
-use Rattle.history.specs.declared.operations.Stamped.{Stamped}
-use Rattle.line_steps.specs.declared.actors.Actor.{Actor}
-use Rattle.line_steps.specs.declared.actors.Outcome.{Outcome}
-use Rattle.line_steps.specs.Memory.{Shared}
+use Rattle.step_machine.specs.Below.{Line, Reply, Stamped, Actor, Outcome, Shared}
 use Rattle.step_machine.specs.Machine.{World, actor_of, new_operation, last_of, first_settled, told, recorded, entry_or, settled}
 use Rattle.step_machine.specs.Stamps.{IsBy, IsStamped, HasNoEffect, EndedBefore}
 pub use Rattle.step_machine.proofs.Reached.{actor_stands}

@@ -3,8 +3,7 @@ use Rattle.std.proofs.Common.{◌≡◌, ◌≢◌, ℕ, suc, ◌<◌, ◌≤◌
 use Rattle.std.specs.Prelude.{slice_get, IsSomeAnd, AllPairs}
 use Rattle.std.specs.List.{AllByRecursion}
 use Rattle.std.proofs.lemmas.Option.{none-some, IfSome_then, slice_get-get_or}
-use Rattle.history.specs.declared.operations.Stamped.{Stamped}
-use Rattle.history.specs.History.{IsPlaced, AreApart, Placement}
+use Rattle.step_machine.specs.Below.{Stamped, IsPlaced, AreApart, Placement}
 use Rattle.step_machine.specs.Machine.{World, opening, AnyMove, made, run}
 use Rattle.step_machine.specs.Stamps.{makers, IsBy, IsStamped, HasNoEffect, BeginsBefore, EndedBefore, DoNotOverlap, DoNotOverlapOrRest, AfterMoves, AfterCalls}
 use Rattle.step_machine.proofs.StampsLists.{by_one, all_of}

@@ -2,24 +2,7 @@
 use Rattle.std.proofs.Common.{◌≡◌, ◌≢◌, ℕ, zero, suc, ◌+◌, ◌-◌, Bool, true, false, nat_eq, nat_lt, if◌then◌else◌, List, [], ◌∷◌, length, get_or, set, Option, Some, None, IfSome, refl, sym, ap, ◌∙◌, subst, arith, ◌⊎◌, inl, inr}
 use Rattle.std.specs.List.{All}
 use Rattle.std.proofs.lemmas.List.Elements.{All-set, All-replicate}
-use Rattle.counted_ref.specs.Ref.{Ref, is_null, same_ref}
-use Rattle.line_table.specs.declared.lines.Kind.{Kind}
-use Rattle.line_table.specs.declared.lines.Kind.TheVariants.{TwoLock, NonBlocking}
-use Rattle.line_table.specs.declared.lines.Line.{Line}
-use Rattle.line_table.specs.declared.lines.Line.TheVariants.{N1, N2, N3, N4, N5, F1, F2, F3, E2, E5, D2, A1, A2, A3, A4, A5, A6, A7, B1, B2, B3, B4, B5, B6}
-use Rattle.line_table.specs.Sections.{section_of}
-use Rattle.history.specs.declared.operations.Op.{Op}
-use Rattle.history.specs.declared.operations.Op.TheVariants.{Enq, Deq}
-use Rattle.history.specs.declared.operations.Reply.{Reply}
-use Rattle.history.specs.declared.operations.Reply.TheVariants.{Done, Value, Empty, Refused}
-use Rattle.line_steps.specs.declared.actors.Setup.{Setup}
-use Rattle.line_steps.specs.declared.actors.Actor.{Actor}
-use Rattle.line_steps.specs.declared.actors.Held.{Held}
-use Rattle.line_steps.specs.declared.actors.Node.{Node}
-use Rattle.line_steps.specs.declared.actors.Outcome.{Outcome}
-use Rattle.line_steps.specs.Memory.{blank, Shared, found, performed, node_at}
-use Rattle.line_steps.specs.Lines.{action, outcome, goes, with_node, takes, freed, unlocked, lets_go, to_pocket, busy_or, gives_up}
-use Rattle.line_steps.specs.Calling.{from_pocket, begun}
+use Rattle.step_machine.specs.Below.{Ref, is_null, same_ref, Kind, TwoLock, NonBlocking, Line, N1, N2, N3, N4, N5, F1, F2, F3, E2, E5, D2, A1, A2, A3, A4, A5, A6, A7, B1, B2, B3, B4, B5, B6, section_of, Op, Enq, Deq, Reply, Done, Value, Empty, Refused, Setup, Node, Held, Actor, Outcome, blank, Shared, found, performed, node_at, action, outcome, goes, with_node, takes, freed, unlocked, lets_go, to_pocket, busy_or, gives_up, from_pocket, begun}
 use Rattle.step_machine.specs.Machine.{World, opening, actor_of, rested, with_actor, entry_or, settled, IsReached}
 use Rattle.step_machine.specs.Standing.{IsRunBy}
 use Rattle.step_machine.specs.TwoLock.{OfTwoLockWorlds, CountsNothing}

@@ -1,14 +1,6 @@
 -- What an actor of the two-lock queue knows of the shared words before its line, and that steps of others keep it.
 use Rattle.std.proofs.Common.{◌≡◌, ◌≢◌, ℕ, ◌≤◌, Bool, true, false, Option, Some, None, sym, ap, ◌∙◌, subst, arith}
-use Rattle.counted_ref.specs.Ref.{Ref, ref}
-use Rattle.line_table.specs.declared.lines.Line.{Line}
-use Rattle.line_table.specs.declared.lines.Line.TheVariants.{N1, N3, N4, F3, A2, A3, A4, A5, A6, A7, B2, B3, B4, B5, B6}
-use Rattle.history.specs.declared.operations.Reply.{Reply}
-use Rattle.history.specs.declared.operations.Reply.TheVariants.{Done, Value, Empty, Refused}
-use Rattle.line_steps.specs.declared.actors.Setup.{Setup}
-use Rattle.line_steps.specs.declared.actors.Actor.{Actor}
-use Rattle.line_steps.specs.declared.actors.Node.{Node}
-use Rattle.line_steps.specs.Memory.{Shared, node_at}
+use Rattle.step_machine.specs.Below.{Ref, ref, Line, N1, N3, N4, F3, A2, A3, A4, A5, A6, A7, B2, B3, B4, B5, B6, Reply, Done, Value, Empty, Refused, Setup, Node, Actor, Shared, node_at}
 use Rattle.step_machine.specs.Standing.{HoldsNodes}
 use Rattle.step_machine.proofs.Counting.{holds, holds_own}
 use Rattle.step_machine.proofs.Fixed.{FixedAt}

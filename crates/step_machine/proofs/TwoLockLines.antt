@@ -1,25 +1,8 @@
 -- Each step and each giving up of the two-lock queue: which effect it has, and what its actor knows then.
 use Rattle.std.proofs.Common.{◌≡◌, ◌≢◌, ℕ, ◌+◌, ◌≤◌, Bool, true, false, nat_eq, nat_lt, if◌then◌else◌, List, [], ◌∷◌, ◌++◌, length, Option, Some, None, IfSome, refl, sym, ap, ◌∙◌, subst, arith, inl, inr}
 use Rattle.std.proofs.lemmas.Bool.{eqb-true}
-use Rattle.counted_ref.specs.Ref.{Ref, ref, is_null, same_ref}
+use Rattle.step_machine.specs.Below.{Ref, ref, is_null, same_ref, Kind, TwoLock, NonBlocking, Line, N1, N2, N3, N4, N5, F1, F2, F3, E5, D2, A1, A2, A3, A4, A5, A6, A7, B1, B2, B3, B4, B5, B6, section_of, OfFree, OfHead, Refusal, NoNode, WornOut, Busy, Reply, Done, Value, Empty, Refused, leaves, Setup, Node, Actor, Outcome, Shared, node_at, put, Fresh, Free, Head, Tail, Tail_lock, Head_lock, found, performed, action, outcome, raised, goes, ends, sets_aside, takes, lets_go, to_pocket, with_node, freed, unlocked, busy_or, gives_up}
 use Rattle.counted_ref.proofs.Words.{same_ref-true}
-use Rattle.line_table.specs.declared.lines.Kind.{Kind}
-use Rattle.line_table.specs.declared.lines.Kind.TheVariants.{TwoLock, NonBlocking}
-use Rattle.line_table.specs.declared.lines.Line.{Line}
-use Rattle.line_table.specs.declared.lines.Line.TheVariants.{N1, N2, N3, N4, N5, F1, F2, F3, E5, D2, A1, A2, A3, A4, A5, A6, A7, B1, B2, B3, B4, B5, B6}
-use Rattle.line_table.specs.Sections.{section_of}
-use Rattle.history.specs.declared.refusals.Refusal.{Refusal}
-use Rattle.history.specs.declared.refusals.Refusal.TheVariants.{NoNode, WornOut, Busy}
-use Rattle.history.specs.declared.refusals.WornWord.TheVariants.{Free as OfFree, Head as OfHead}
-use Rattle.history.specs.declared.operations.Reply.{Reply}
-use Rattle.history.specs.declared.operations.Reply.TheVariants.{Done, Value, Empty, Refused}
-use Rattle.history.specs.History.{leaves}
-use Rattle.line_steps.specs.declared.actors.Setup.{Setup}
-use Rattle.line_steps.specs.declared.actors.Actor.{Actor}
-use Rattle.line_steps.specs.declared.actors.Node.{Node}
-use Rattle.line_steps.specs.declared.actors.Outcome.{Outcome}
-use Rattle.line_steps.specs.Memory.{Shared, node_at, put, Fresh, Free, Head, Tail, Tail_lock, Head_lock, found, performed}
-use Rattle.line_steps.specs.Lines.{action, outcome, raised, goes, ends, sets_aside, takes, lets_go, to_pocket, with_node, freed, unlocked, busy_or, gives_up}
 use Rattle.step_machine.specs.Range.{SharedInRange, RegistersInRange}
 use Rattle.step_machine.specs.Standing.{HoldsNodes, IsRunBy}
 use Rattle.step_machine.specs.Places.{one_if, in_hand, in_pocket}

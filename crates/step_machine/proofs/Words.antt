@@ -1,9 +1,6 @@
 -- Each access of a word is the access of its place in the table.
 use Rattle.std.proofs.Common.{◌≡◌, ℕ, zero, suc, ◌+◌, ◌-◌, ◌*◌, ◌<◌, ◌≤◌, List, [], ◌∷◌, length, get_or, set, refl, sym, ap, subst, arith}
-use Rattle.counted_ref.specs.Ref.{Ref, ref_word}
-use Rattle.history.specs.declared.operations.Taken.{Taken}
-use Rattle.line_steps.specs.declared.actors.Node.{Node}
-use Rattle.line_steps.specs.Memory.{blank, Shared, Word, Fresh, Free, Head, Tail, Tail_lock, Head_lock, Next, Value_of, Content, content, put}
+use Rattle.step_machine.specs.Below.{Ref, ref_word, Taken, Node, blank, Shared, Word, Fresh, Free, Head, Tail, Tail_lock, Head_lock, Next, Value_of, Content, content, put}
 use Rattle.step_machine.specs.Words.{value_word, encoded, node_words, words_of, index, IsWord}
 
 next_word : (ns : List Node) (k : ℕ) → k < length ns → get_or (node_words ns) (2 * k) 0 ≡ ref_word (get_or ns k blank).next

@@ -1,15 +1,6 @@
 -- What the calls of a world answer, and why each is refused.
 use Rattle.std.specs.Prelude.{◌≡◌, ℕ, ◌+◌, ◌-◌, ◌^◌, ◌<◌, ◌≤◌, ◌⊎◌, Option, Some, None, IsSome, IsNone, IsSomeAnd}
-use Rattle.line_table.specs.declared.lines.Kind.{Kind}
-use Rattle.line_table.specs.declared.lines.Line.{Line}
-use Rattle.history.specs.declared.operations.Reply.{Reply}
-use Rattle.history.specs.declared.refusals.Refusal.{Refusal}
-use Rattle.history.specs.declared.refusals.Refusal.TheVariants.{Memory, BadSize, IdleActor, ActorBusy, NotHere, NoSuchActor}
-use Rattle.line_steps.specs.declared.actors.Setup.{Setup}
-use Rattle.line_steps.specs.declared.actors.Actor.{Actor}
-use Rattle.line_steps.specs.declared.actors.Outcome.{Outcome}
-use Rattle.line_steps.specs.Memory.{found}
-use Rattle.line_steps.specs.Lines.{action, outcome, gives_up}
+use Rattle.step_machine.specs.Below.{Kind, Line, Refusal, Memory, BadSize, IdleActor, ActorBusy, NotHere, NoSuchActor, Reply, Setup, Actor, Outcome, found, action, outcome, gives_up}
 use Rattle.step_machine.specs.declared.actors.Move.{Move}
 use Rattle.step_machine.specs.declared.actors.Move.TheVariants.{Begin, Step, Give}
 use Rattle.step_machine.specs.declared.actors.Stepped.{Stepped}

@@ -1,19 +1,6 @@
 -- What the laws of both queues say of each world.
 use Rattle.std.specs.Prelude.{◌≡◌, ℕ, ◌+◌, ◌<◌, List, [], Option, Some, None, IfSome}
-use Rattle.counted_ref.specs.Ref.{Ref}
-use Rattle.line_table.specs.declared.lines.Line.{Line}
-use Rattle.line_table.specs.declared.lines.Line.TheVariants.{N4, F3, E9, E13, E17, D10, D13, B5}
-use Rattle.history.specs.declared.refusals.WornWord.{WornWord}
-use Rattle.history.specs.declared.refusals.WornWord.TheVariants.{Free as OfFree, Next as OfNext, Tail as OfTail, Head as OfHead}
-use Rattle.history.specs.declared.refusals.Refusal.{Refusal}
-use Rattle.history.specs.declared.refusals.Refusal.TheVariants.{NoNode, WornOut}
-use Rattle.history.specs.declared.operations.Reply.{Reply}
-use Rattle.history.specs.declared.operations.Reply.TheVariants.{Done, Value, Empty, Refused}
-use Rattle.history.specs.Queue.{empty}
-use Rattle.history.specs.History.{rising, Replays, replayed}
-use Rattle.line_steps.specs.declared.actors.Actor.{Actor}
-use Rattle.line_steps.specs.Memory.{node_at, found}
-use Rattle.line_steps.specs.Lines.{action, outcome}
+use Rattle.step_machine.specs.Below.{Ref, Line, N4, F3, E9, E13, E17, D10, D13, B5, WornWord, OfFree, OfNext, OfTail, OfHead, Refusal, NoNode, WornOut, Reply, Done, Value, Empty, Refused, empty, rising, Replays, replayed, Actor, node_at, found, action, outcome}
 use Rattle.step_machine.specs.Machine.{World, actor_of}
 use Rattle.step_machine.specs.Places.{IsChain, IsQueued, IsFree, Places}
 use Rattle.step_machine.specs.Chains.{queue_values}

@@ -1,16 +1,7 @@
 -- The entries of a world: the pushes and the pops of its operations that had their effect.
 use Rattle.std.specs.Prelude.{ℕ, ◌+◌, ◌<◌, ◌≤◌, List, [], ◌∷◌, Option, Some, None}
 use Rattle.std.specs.List.{count_by, flat_map}
-use Rattle.history.specs.declared.operations.Op.{Op}
-use Rattle.history.specs.declared.operations.Op.TheVariants.{Enq, Deq}
-use Rattle.history.specs.declared.operations.Reply.{Reply}
-use Rattle.history.specs.declared.operations.Reply.TheVariants.{Done, Value, Empty, Refused}
-use Rattle.history.specs.declared.operations.Entry.{Entry}
-use Rattle.history.specs.declared.operations.Entry.TheVariants.{Push, Pop}
-use Rattle.history.specs.declared.operations.Stamped.{Stamped}
-use Rattle.history.specs.Queue.{empty}
-use Rattle.history.specs.Entries.{is_push, is_pop, Plays}
-use Rattle.history.specs.History.{rising}
+use Rattle.step_machine.specs.Below.{Op, Enq, Deq, Reply, Done, Value, Empty, Refused, Stamped, Entry, Push, Pop, empty, is_push, is_pop, Plays, rising}
 use Rattle.step_machine.specs.Machine.{World}
 use Rattle.step_machine.specs.Places.{IsChain}
 use Rattle.step_machine.specs.Chains.{queue_values}

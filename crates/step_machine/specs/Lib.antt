@@ -1,3 +1,4 @@
+pub mod Below
 pub mod Machine
 pub mod Words
 pub mod Places

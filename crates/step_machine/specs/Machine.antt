@@ -1,19 +1,6 @@
 -- The machine: worlds, their moves, and what a list of moves leads to.
 use Rattle.std.specs.Prelude.{◌≡◌, ℕ, ◌+◌, ◌-◌, ◌^◌, ◌<◌, ◌≤◌, Bool, List, [], ◌∷◌, ◌++◌, length, map, replicate, Option, Some, None, slice_get, slice_index_or, slice_set, nat_eq, if◌then◌else◌, true, false}
-use Rattle.counted_ref.specs.Ref.{null}
-use Rattle.line_table.specs.declared.lines.Line.{Line}
-use Rattle.line_table.specs.declared.lines.Line.TheVariants.{E2, A1}
-use Rattle.history.specs.declared.operations.Op.{Op}
-use Rattle.history.specs.declared.operations.Op.TheVariants.{Deq}
-use Rattle.history.specs.declared.operations.Reply.{Reply}
-use Rattle.history.specs.declared.operations.Stamped.{Stamped}
-use Rattle.line_steps.specs.declared.actors.Setup.{Setup}
-use Rattle.line_steps.specs.declared.actors.Actor.{Actor}
-use Rattle.line_steps.specs.declared.actors.Outcome.{Outcome}
-use Rattle.line_steps.specs.Memory.{nobody, Shared, found, performed}
-use Rattle.line_steps.specs.Lines.{action, outcome, gives_up, to_pocket}
-use Rattle.line_steps.specs.Rooms.{first_words, aside_after}
-use Rattle.line_steps.specs.Calling.{is_call, begun}
+use Rattle.step_machine.specs.Below.{null, Line, E2, A1, Op, Deq, Reply, Stamped, Setup, Actor, Outcome, nobody, Shared, found, performed, action, outcome, gives_up, to_pocket, is_call, begun, first_words, aside_after}
 use Rattle.step_machine.specs.declared.actors.Move.{Move}
 use Rattle.step_machine.specs.declared.actors.Move.TheVariants.{Begin, Step, Give}
 

@@ -1,10 +1,7 @@
 -- The replies that calls under way have earned, and the operations with them.
 use Rattle.std.specs.Prelude.{ℕ, Bool, true, false, List, map, Option, Some, None}
 use Rattle.std.specs.List.{count_by}
-use Rattle.history.specs.declared.operations.Reply.{Reply}
-use Rattle.history.specs.declared.operations.Reply.TheVariants.{Done, Value, Empty, Refused}
-use Rattle.history.specs.declared.operations.Stamped.{Stamped}
-use Rattle.line_steps.specs.declared.actors.Actor.{Actor}
+use Rattle.step_machine.specs.Below.{Reply, Done, Value, Empty, Refused, Stamped, Actor}
 use Rattle.step_machine.specs.Machine.{World, actor_of}
 
 -- the reply that a call has earned by its effect: done, or the value taken; an empty reply and a refusal have none

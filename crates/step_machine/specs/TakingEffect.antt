@@ -1,14 +1,7 @@
 -- Which step gives an operation its place: the one that changes the queue as a list.
 use Rattle.std.specs.Prelude.{◌≡◌, ℕ, ◌+◌, ◌≤◌, List, ◌∷◌, ◌++◌, map, Option, Some, None, IfSome}
 use Rattle.std.specs.List.{AllByRecursion}
-use Rattle.line_table.specs.declared.lines.Line.{Line}
-use Rattle.line_table.specs.declared.lines.Line.TheVariants.{E9, D13, A5, B5}
-use Rattle.history.specs.declared.operations.Reply.{Reply}
-use Rattle.history.specs.declared.operations.Reply.TheVariants.{Done, Value, Empty, Refused}
-use Rattle.history.specs.declared.operations.Stamped.{Stamped}
-use Rattle.line_steps.specs.declared.actors.Setup.{Setup}
-use Rattle.line_steps.specs.declared.actors.Actor.{Actor}
-use Rattle.line_steps.specs.Memory.{Shared, node_at}
+use Rattle.step_machine.specs.Below.{Line, E9, D13, A5, B5, Reply, Done, Value, Empty, Refused, Stamped, Setup, Actor, Shared, node_at}
 use Rattle.step_machine.specs.declared.actors.Move.{Move}
 use Rattle.step_machine.specs.declared.actors.Move.TheVariants.{Step}
 use Rattle.step_machine.specs.Machine.{World, opening, actor_of, AnyMove, made, run, IsMade}

@@ -1,9 +1,7 @@
 -- What the laws of the two-lock queue say of each of its worlds.
 use Rattle.std.specs.Prelude.{◌≡◌, ◌≢◌, ℕ, List, Some}
 use Rattle.std.specs.List.{All}
-use Rattle.line_table.specs.declared.lines.Kind.TheVariants.{TwoLock}
-use Rattle.line_table.specs.declared.lines.Line.TheVariants.{A6}
-use Rattle.line_steps.specs.declared.actors.Actor.{Actor}
+use Rattle.step_machine.specs.Below.{TwoLock, A6, Actor}
 use Rattle.step_machine.specs.Machine.{World, actor_of, IsReached}
 use Rattle.step_machine.specs.Places.{IsChain}
 use Rattle.step_machine.specs.Chains.{last_node}

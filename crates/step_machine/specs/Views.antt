@@ -1,12 +1,7 @@
 -- The room that a world keeps for nodes and operations, and its lists after an outcome was told.
 use Rattle.std.specs.Prelude.{◌≡◌, ℕ, ◌+◌, ◌-◌, ◌<◌, ◌≤◌, ◌⊎◌, List, Option, Some, None, slice_set, slice_get, nat_eq, if◌then◌else◌}
 use Rattle.std.specs.List.{sum_by}
-use Rattle.line_table.specs.declared.lines.Line.{Line}
-use Rattle.line_table.specs.declared.lines.Line.TheVariants.{N1, N2, N3, N4, N5}
-use Rattle.line_steps.specs.declared.actors.Actor.{Actor}
-use Rattle.history.specs.declared.operations.Op.{Op}
-use Rattle.history.specs.declared.operations.Stamped.{Stamped}
-use Rattle.line_steps.specs.declared.actors.Outcome.{Outcome}
+use Rattle.step_machine.specs.Below.{Line, N1, N2, N3, N4, N5, Op, Stamped, Actor, Outcome}
 use Rattle.step_machine.specs.Machine.{entry_or, new_operation, told, recorded}
 
 -- whether an actor at a line still looks for a node, as a number
