@@ -26,11 +26,9 @@ aside_quiet : (o : Outcome) → Quiet o → Quiet (sets_aside o)
 aside_quiet o h = h
 
 unlocked_quiet : (now : ℕ) (due : Option Reply) (a : Actor) → Quiet (unlocked now due a)
-unlocked_quiet now None a = inl refl
-unlocked_quiet now (Some (Value v)) a = inl refl
-unlocked_quiet now (Some Done) a = inl refl
 unlocked_quiet now (Some Empty) a = inr (λ h. h)
 unlocked_quiet now (Some (Refused why)) a = inr (λ h. h)
+unlocked_quiet now _ a = inl refl
 
 -- an outcome gives a place by an effect exactly where there is one, and then its own number
 pub record Effects (E : Type 0) (now : ℕ) (o : Outcome) : Type 0 where

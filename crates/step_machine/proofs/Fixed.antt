@@ -8,11 +8,8 @@ use Rattle.step_machine.proofs.Choices.{either, both}
 
 -- whether a call that lets the head lock go has a node to free
 abbrev pub frees_after : Option Reply → Bool
-frees_after None = false
-frees_after (Some Done) = false
 frees_after (Some (Value v)) = true
-frees_after (Some Empty) = false
-frees_after (Some (Refused why)) = false
+frees_after _ = false
 
 -- whether a node is in the hand before a line, by what the call has earned
 abbrev pub in_hand_at : Line → Option Reply → Bool
@@ -51,10 +48,8 @@ Runs LockedDequeue me op val = op ≡ Deq
 -- what a call has earned that frees a node: nothing yet, or the value taken
 abbrev pub EarnedFreeing : Option Reply → Type 0
 EarnedFreeing None = Unit {0}
-EarnedFreeing (Some Done) = ⊥
 EarnedFreeing (Some (Value v)) = Unit {0}
-EarnedFreeing (Some Empty) = ⊥
-EarnedFreeing (Some (Refused why)) = ⊥
+EarnedFreeing _ = ⊥
 
 -- what a call has earned that lets the head lock go: a value, empty, or that Head is worn out
 abbrev pub EarnedUnlocking : Option Reply → Type 0

@@ -21,11 +21,8 @@ freed_aside NonBlocking now None a = record { looks = omega arith; leaves = refl
 freed_aside k now (Some reply) a = record { looks = omega arith; leaves = refl }
 
 unlocked_settles : (n now : ℕ) (due : Option Reply) (a : Actor) → Settles 0 n (unlocked now due a)
-unlocked_settles n now None a = record { looks = omega arith; leaves = tt }
-unlocked_settles n now (Some (Value v)) a = record { looks = omega arith; leaves = tt }
 unlocked_settles n now (Some Done) a = record { looks = omega arith; leaves = tt }
-unlocked_settles n now (Some Empty) a = record { looks = omega arith; leaves = tt }
-unlocked_settles n now (Some (Refused why)) a = record { looks = omega arith; leaves = tt }
+unlocked_settles n now _ a = record { looks = omega arith; leaves = tt }
 
 with_node_settles : (n : ℕ) (k : Kind) (a : Actor) → Settles 0 n (goes (with_node k) a)
 with_node_settles n TwoLock a = record { looks = omega arith; leaves = tt }

@@ -41,11 +41,8 @@ module _ (s : Setup) (n k : ℕ) where
   freed_kept kind now (Some reply) a h p = record { registers = h; pocket = p; line = tt }
 
   unlocked_kept : (now : ℕ) (due : Option Reply) (a : Actor) → RegistersInRange s n k a → IfSome a.pocket (HeldInRange s.limit n) → Kept s n k (unlocked now due a)
-  unlocked_kept now None a h p = record { registers = h; pocket = p; line = tt }
-  unlocked_kept now (Some (Value v)) a h p = record { registers = h; pocket = p; line = tt }
   unlocked_kept now (Some Done) a h p = record { registers = h; pocket = p; line = tt }
-  unlocked_kept now (Some Empty) a h p = record { registers = h; pocket = p; line = tt }
-  unlocked_kept now (Some (Refused why)) a h p = record { registers = h; pocket = p; line = tt }
+  unlocked_kept now _ a h p = record { registers = h; pocket = p; line = tt }
 
   with_node_kept : (kind : Kind) (a : Actor) → RegistersInRange s n k a → IfSome a.pocket (HeldInRange s.limit n) → Kept s n k (goes (with_node kind) a)
   with_node_kept TwoLock a h p = record { registers = h; pocket = p; line = tt }

@@ -28,11 +28,8 @@ freed_op kind now None a = record { same = refl }
 freed_op kind now (Some reply) a = record { same = refl }
 
 unlocked_op : (now : ℕ) (due : Option Reply) (a : Actor) → SameOp a (unlocked now due a)
-unlocked_op now None a = record { same = refl }
 unlocked_op now (Some Done) a = record { same = refl }
-unlocked_op now (Some (Value v)) a = record { same = refl }
-unlocked_op now (Some Empty) a = record { same = refl }
-unlocked_op now (Some (Refused why)) a = record { same = refl }
+unlocked_op now _ a = record { same = refl }
 
 op_kept : (s : Setup) (now me : ℕ) (a : Actor) (l : Line) (c : Found (action s me a l)) → SameOp a (outcome s now me a l c)
 op_kept s now me a N2 c = both (SameOp a) (is_null c) (both (SameOp a) (nat_lt a.f s.size) (record { same = refl }) (record { same = refl })) (both (SameOp a) (nat_eq c.count s.limit) (record { same = refl }) (record { same = refl }))

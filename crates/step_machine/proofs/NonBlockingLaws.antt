@@ -168,21 +168,16 @@ Why w a (WornOut OfHead) = ⊥
 Why w a _ = ⊥
 
 abbrev WhyReply : World → Actor → Option Reply → Type 0
-WhyReply w a None = Unit {0}
-WhyReply w a (Some Done) = Unit {0}
-WhyReply w a (Some (Value v)) = Unit {0}
-WhyReply w a (Some Empty) = Unit {0}
 WhyReply w a (Some (Refused why)) = Why w a why
+WhyReply w a _ = Unit {0}
 
 record Caused (w : World) (a : Actor) (o : Outcome) : Type 0 where
   cause : WhyReply w a o.reply
 
 freed_caused : (w : World) (a : Actor) (kind : Kind) (now : ℕ) (due : Option Reply) (b : Actor) → EarnedFreeing due → Caused w a (freed kind now due b)
 freed_caused w a kind now None b h = record { cause = tt }
-freed_caused w a kind now (Some Done) b h = absurd h
 freed_caused w a kind now (Some (Value v)) b h = record { cause = tt }
-freed_caused w a kind now (Some Empty) b h = absurd h
-freed_caused w a kind now (Some (Refused why)) b h = absurd h
+freed_caused w a kind now _ b h = absurd h
 
 ended_or : (w : World) (a : Actor) (now : ℕ) (b : Bool) (c : Actor) → Caused w a (effect now (if b then ends now Done c else goes E17 c))
 ended_or w a now true c = record { cause = tt }
@@ -247,16 +242,13 @@ caused w now me a l h = absurd h.runs
 
 -- the three clauses follow
 has_cause : (w : World) (a : Actor) (reply : Option Reply) → WhyReply w a reply → HasCauseFor w reply
-has_cause w a None h = tt
-has_cause w a (Some Done) h = tt
-has_cause w a (Some (Value v)) h = tt
-has_cause w a (Some Empty) h = tt
 has_cause w a (Some (Refused NoNode)) h = h
 has_cause w a (Some (Refused (WornOut OfFree))) h = h
 has_cause w a (Some (Refused (WornOut OfNext))) h = (a.node, h)
 has_cause w a (Some (Refused (WornOut OfTail))) h = h
 has_cause w a (Some (Refused (WornOut OfHead))) h = absurd h
 has_cause w a (Some (Refused _)) h = absurd h
+has_cause w a _ h = tt
 
 why_of : (w : World) → IsReached w → w.setup.kind ≡ NonBlocking → (me : ℕ) (a : Actor) (l : Line) → actor_of w me ≡ Some a → a.line ≡ Some l → WhyReply w a (outcome w.setup (w.steps + 1) me a l (found (action w.setup me a l) w.shared)).reply
 why_of w r e me a l is at = (caused w (w.steps + 1) me a l (at_line w r e me a l is at)).cause
@@ -290,9 +282,7 @@ spares reply h e = subst SparesHead e h
 gives_free_for_head : (now : ℕ) (due : Option Reply) (a : Actor) → EarnedFreeing due → IfSome (busy_or now due a) (λ o. SparesHead o.reply)
 gives_free_for_head now None a f = tt
 gives_free_for_head now (Some (Value v)) a f = tt
-gives_free_for_head now (Some Done) a f = absurd f
-gives_free_for_head now (Some Empty) a f = absurd f
-gives_free_for_head now (Some (Refused why)) a f = absurd f
+gives_free_for_head now _ a f = absurd f
 
 gives_for_head : (now limit me : ℕ) (a : Actor) (l : Line) → FixedAt limit me a (Some l) → IfSome (gives_up now a l) (λ o. SparesHead o.reply)
 gives_for_head now limit me a N1 f = tt

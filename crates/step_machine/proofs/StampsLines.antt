@@ -28,11 +28,8 @@ Stands _ due at Noted = at ≡ None
 
 -- what is earned stays so while the number noted stays one of the call
 earned_while : (due : Option Reply) (at : Option ℕ) {P Q : Type 0} → (P → Q) → Earned due at P → Earned due at Q
-earned_while None at f h = h
-earned_while (Some Done) at f h = h
-earned_while (Some (Value v)) at f h = h
 earned_while (Some Empty) at f h = (h.0, f h.1)
-earned_while (Some (Refused why)) at f h = h
+earned_while _ at f h = h
 
 -- what a line knows stays so while the number noted stays one of the call
 pub stands_while : (l : Line) (due : Option Reply) (at : Option ℕ) {P Q : Type 0} → (P → Q) → Stands l due at P → Stands l due at Q

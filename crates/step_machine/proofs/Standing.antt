@@ -93,9 +93,7 @@ module _ (s : Setup) where
   unlocked_placed : (now : ℕ) (due : Option Reply) (a : Actor) → IfSome a.pocket (λ held. 1 ≤ held.node) → HasNodeToFree due a.node → Placed s.kind (unlocked now due a)
   unlocked_placed now None a p h = record { pocket = p; line = (tt, h) }
   unlocked_placed now (Some (Value v)) a p h = record { pocket = p; line = (tt, h) }
-  unlocked_placed now (Some Done) a p h = record { pocket = p; line = tt }
-  unlocked_placed now (Some Empty) a p h = record { pocket = p; line = tt }
-  unlocked_placed now (Some (Refused why)) a p h = record { pocket = p; line = tt }
+  unlocked_placed now _ a p h = record { pocket = p; line = tt }
 
   with_node_placed : (kind : Kind) (a : Actor) → IfSome a.pocket (λ held. 1 ≤ held.node) → 1 ≤ a.node → Placed kind (goes (with_node kind) a)
   with_node_placed TwoLock a p h = record { pocket = p; line = (tt, h) }

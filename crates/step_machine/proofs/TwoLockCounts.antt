@@ -68,11 +68,8 @@ freed_marks NonBlocking now None a g = same _ a g refl refl refl
 freed_marks kind now (Some reply) a g = same _ a g refl refl refl
 
 unlocked_marks : (now : ℕ) (due : Option Reply) (a : Actor) → MarksNothing a → Marks (unlocked now due a)
-unlocked_marks now None a g = same _ a g refl refl refl
 unlocked_marks now (Some Done) a g = same _ a g refl refl refl
-unlocked_marks now (Some (Value v)) a g = same _ a g refl refl refl
-unlocked_marks now (Some Empty) a g = same _ a g refl refl refl
-unlocked_marks now (Some (Refused why)) a g = same _ a g refl refl refl
+unlocked_marks now _ a g = same _ a g refl refl refl
 
 -- an actor that takes a node
 taken : (l : Line) (node mark : ℕ) (a : Actor) → MarksNothing a → mark ≡ 0 → Marks (goes l (takes node mark a))
