@@ -124,10 +124,8 @@ pub record Books (w v : World) (me : ℕ) (a : Actor) (o : Outcome) : Type 0 whe
 -- a call that has earned nothing has no place: one that frees a node, one that lets the head lock go, and any
 freeing : (due : Option Reply) (at : Option ℕ) → Earned due at (Unit {0}) → EarnedFreeing due → earned due ≡ None → at ≡ None
 freeing None at h e n = h
-freeing (Some Done) at h e n = absurd e
 freeing (Some (Value v)) at h e n = cc
-freeing (Some Empty) at h e n = absurd e
-freeing (Some (Refused why)) at h e n = absurd e
+freeing _ at h e n = absurd e
 
 unlocking : (due : Option Reply) (at : Option ℕ) → Earned due at (Unit {0}) → EarnedUnlocking due → earned due ≡ None → at ≡ None
 unlocking None at h e n = absurd e

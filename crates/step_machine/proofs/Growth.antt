@@ -1,7 +1,7 @@
 -- What a step does to the number of nodes used and of actors that look for one, and which node it may set aside.
 use Rattle.std.proofs.Common.{◌≡◌, ℕ, ◌+◌, ◌≤◌, Bool, true, false, nat_eq, nat_lt, if◌then◌else◌, Option, Some, None, IfSome, refl, arith}
 use Rattle.std.proofs.lemmas.Bool.{eqb-true}
-use Rattle.step_machine.specs.Below.{is_null, same_ref, Kind, TwoLock, NonBlocking, Line, N1, N2, N4, N5, F1, F3, E3, E5, E7, E9, E13, E17, D2, D5, D10, D12, D13, A3, B1, B3, B4, B6, Reply, Done, Value, Empty, Refused, Setup, Actor, Outcome, Shared, Found, found, performed, put, same, content, Free, Head, Tail, Tail_lock, Head_lock, Next, Fresh, action, outcome, freed, unlocked, sets_aside, goes, effect, with_node, ends, lets_go, takes, raised, gives_up, busy_or, to_pocket}
+use Rattle.step_machine.specs.Below.{is_null, same_ref, Kind, TwoLock, NonBlocking, Line, N1, N2, N4, N5, F1, F3, E3, E5, E7, E9, E13, E17, D2, D5, D10, D12, D13, A3, B1, B3, B4, B6, Reply, Done, Setup, Actor, Outcome, Shared, Found, found, performed, put, same, content, Free, Head, Tail, Tail_lock, Head_lock, Next, Fresh, action, outcome, freed, unlocked, sets_aside, goes, effect, with_node, ends, lets_go, takes, raised, gives_up, busy_or, to_pocket}
 use Rattle.step_machine.specs.Views.{seeks}
 use Rattle.step_machine.proofs.Choices.{both}
 

@@ -1,7 +1,7 @@
 -- What a step makes of its actor is in range.
-use Rattle.std.proofs.Common.{◌≡◌, ℕ, ◌+◌, ◌≤◌, Bool, true, false, nat_eq, nat_lt, if◌then◌else◌, Option, Some, None, IfSome, refl, arith}
+use Rattle.std.proofs.Common.{◌≡◌, ℕ, ◌+◌, ◌≤◌, Bool, true, false, nat_eq, nat_lt, if◌then◌else◌, Option, Some, None, IfSome, arith}
 use Rattle.std.proofs.lemmas.Bool.{ltb-true}
-use Rattle.step_machine.specs.Below.{Ref, is_null, same_ref, Kind, TwoLock, NonBlocking, Line, N1, N2, N3, N4, N5, F1, F3, E3, E5, E6, E7, E9, E17, D2, D3, D4, D5, D12, D13, A3, A4, B1, B2, B3, B4, B5, B6, Taken, Reply, Done, Value, Empty, Refused, Setup, Actor, Outcome, word, Found, action, outcome, freed, unlocked, sets_aside, goes, ends, effect, lets_go, to_pocket, with_node, takes, busy_or, gives_up}
+use Rattle.step_machine.specs.Below.{Ref, is_null, same_ref, Kind, TwoLock, NonBlocking, Line, N1, N2, N3, N4, N5, F1, F3, E3, E5, E6, E7, E9, E17, D2, D3, D4, D5, D12, D13, A3, A4, B1, B2, B3, B4, B5, B6, Taken, Reply, Done, Setup, Actor, Outcome, word, Found, action, outcome, freed, unlocked, sets_aside, goes, ends, effect, lets_go, to_pocket, with_node, takes, busy_or, gives_up}
 use Rattle.step_machine.specs.Range.{RefInRange, ValueInRange, HeldInRange, RegistersInRange, LineInRange}
 use Rattle.step_machine.proofs.Choices.{either, both}
 use Rattle.step_machine.proofs.Range.{ContentInRange}

@@ -3,7 +3,7 @@
 use Rattle.std.proofs.Common.{◌≡◌, ◌≢◌, ℕ, ◌+◌, ◌<◌, ◌⊎◌, inl, inr, Bool, true, false, nat_eq, nat_lt, if◌then◌else◌, Option, Some, None, IfSome, List, set, length, get_or, refl, sym, ap, ◌∙◌, subst, arith}
 use Rattle.std.specs.Prelude.{slice_get}
 use Rattle.std.proofs.lemmas.Option.{same_Some, slice_get_within, get_or_from_slice_get}
-use Rattle.step_machine.specs.Below.{is_null, same_ref, Kind, Line, N1, N2, N4, N5, F1, F3, E3, E5, E7, E9, E17, D2, D5, D12, D13, A3, B1, B3, B4, B6, Op, Enq, Deq, Reply, Done, Value, Empty, Refused, Stamped, empty, Plays, rising, Replays, replayed, Setup, Held, Actor, Outcome, Shared, Found, action, outcome, goes, ends, effect, lets_go, to_pocket, with_node, freed, unlocked, busy_or, gives_up, from_pocket, begun}
+use Rattle.step_machine.specs.Below.{is_null, same_ref, Kind, Line, N1, N2, N4, N5, F1, F3, E3, E5, E7, E9, E17, D2, D5, D12, D13, A3, B1, B3, B4, B6, Op, Enq, Deq, Reply, Done, Stamped, empty, Plays, rising, Replays, replayed, Setup, Held, Actor, Outcome, Shared, Found, action, outcome, goes, ends, effect, lets_go, to_pocket, with_node, freed, unlocked, busy_or, gives_up, from_pocket, begun}
 use Rattle.std.specs.List.{flat_map}
 use Rattle.step_machine.specs.Chains.{queue_values}
 use Rattle.step_machine.specs.Entries.{entry_of}

@@ -4,7 +4,7 @@ use Rattle.std.proofs.Common.{◌≡◌, ◌≢◌, ℕ, zero, suc, ◌+◌, ◌
 use Rattle.std.specs.List.{All}
 use Rattle.std.proofs.lemmas.Bool.{eqb-true, ltb-false}
 use Rattle.std.proofs.lemmas.List.Elements.{All-set, All-append, All-cons, All-nil}
-use Rattle.step_machine.specs.Below.{Ref, is_null, same_ref, Kind, TwoLock, NonBlocking, Line, N1, N2, N3, N4, N5, F1, F2, F3, E2, E3, E5, E6, E7, E9, E13, E17, D2, D3, D4, D5, D10, D12, D13, A3, B1, B5, section_of, OfFree, OfNext, OfTail, OfHead, Refusal, NoNode, WornOut, Reply, Done, Value, Empty, Refused, Stamped, Actor, Outcome, Shared, found, performed, Next, action, outcome, goes, lets_go, to_pocket, freed, ends, effect, busy_or, gives_up}
+use Rattle.step_machine.specs.Below.{Ref, is_null, same_ref, Kind, TwoLock, NonBlocking, Line, N1, N2, N3, N4, N5, F1, F2, F3, E2, E3, E5, E6, E7, E9, E13, E17, D2, D3, D4, D5, D10, D12, D13, A3, B1, B5, section_of, OfFree, OfNext, OfTail, OfHead, Refusal, NoNode, WornOut, Reply, Done, Value, Refused, Stamped, Actor, Outcome, Shared, found, performed, Next, action, outcome, goes, lets_go, to_pocket, freed, ends, effect, busy_or, gives_up}
 use Rattle.counted_ref.proofs.Words.{same_ref-true, equal_refs}
 use Rattle.step_machine.specs.Machine.{World, actor_of, settled, recorded, told, new_operation, IsReached}
 use Rattle.step_machine.specs.Range.{RegistersInRange, ActorInRange, WorldInRange}

@@ -1,7 +1,7 @@
 -- What the step of each line does in the non-blocking queue.
 use Rattle.std.proofs.Common.{◌≡◌, ◌≢◌, ℕ, ◌+◌, ◌-◌, ◌≤◌, ◌<◌, Bool, true, false, nat_eq, nat_lt, if◌then◌else◌, List, ◌∷◌, length, set, Option, Some, None, IfSome, refl, sym, ap, ◌∙◌, subst, arith, ◌⊎◌, inl, inr}
 use Rattle.std.proofs.lemmas.Bool.{eqb-true, eqb-false, true≢false}
-use Rattle.step_machine.specs.Below.{Ref, ref, is_null, same_ref, Kind, TwoLock, NonBlocking, Line, N1, N2, N3, N4, N5, F1, F2, F3, E2, E3, E5, E6, E7, E9, E13, E17, D2, D3, D4, D5, D10, D12, D13, A3, B1, section_of, OfFree, OfNext, OfTail, OfHead, Refusal, NoNode, WornOut, Busy, Deq, Reply, Done, Value, Empty, Refused, leaves, Setup, Node, Actor, Outcome, Shared, node_at, put, performed, found, Fresh, Free, Head, Tail, Next, action, outcome, raised, goes, ends, effect, freed, sets_aside, takes, lets_go, to_pocket, with_node, busy_or, gives_up}
+use Rattle.step_machine.specs.Below.{Ref, ref, is_null, same_ref, Kind, TwoLock, NonBlocking, Line, N1, N2, N3, N4, N5, F1, F2, F3, E2, E3, E5, E6, E7, E9, E13, E17, D2, D3, D4, D5, D10, D12, D13, A3, B1, section_of, OfFree, OfNext, OfTail, OfHead, Refusal, NoNode, WornOut, Busy, Deq, Reply, Done, Value, Refused, leaves, Setup, Node, Actor, Outcome, Shared, node_at, put, performed, found, Fresh, Free, Head, Tail, Next, action, outcome, raised, goes, ends, effect, freed, sets_aside, takes, lets_go, to_pocket, with_node, busy_or, gives_up}
 use Rattle.counted_ref.proofs.Words.{same_ref-true}
 use Rattle.line_table.specs.declared.lines.Section.TheVariants.{LockedEnqueue, LockedDequeue}
 use Rattle.step_machine.specs.Promises.{earned, promised_reply}
@@ -67,9 +67,7 @@ module _ (Z : ℕ → Type 0) (s : Setup) (m : Shared) (E : ℕ → ℕ) (front 
   aside_freed TwoLock None top d f h p some = aside _ h p some refl p refl tt refl (inr (λ n. refl))
   aside_freed NonBlocking None top d f h p some = aside _ h p some refl p refl tt refl (inr (λ n. refl))
   aside_freed kind (Some (Value v)) top d f h p some = aside _ h p some refl p refl tt refl (inr (λ n. sym (ap earned d)))
-  aside_freed kind (Some Done) top d f h p some = absurd f
-  aside_freed kind (Some Empty) top d f h p some = absurd f
-  aside_freed kind (Some (Refused why)) top d f h p some = absurd f
+  aside_freed kind _ top d f h p some = absurd f
 
   -- the node in hand goes before the free ones
   gives_back : (o : Outcome) → a.holds ≡ true → a.pocket ≡ None → 1 ≤ a.node → m.free ≡ a.top → a.top.count ≢ s.limit → next_of m a.node ≡ ref a.top.node a.mark → o.actor.holds ≡ false → o.actor.pocket ≡ None → o.aside ≡ None → Learns (put Free (raised s a.top a.node) m) o → o.at ≡ None → KeepsReply a o → Goes (put Free (raised s a.top a.node) m) o
@@ -85,9 +83,7 @@ module _ (Z : ℕ → Type 0) (s : Setup) (m : Shared) (E : ℕ → ℕ) (front 
   gives_back_freed TwoLock None d f h p some was room knows = gives_back _ h p some was room knows refl p refl tt refl (inr (λ n. refl))
   gives_back_freed NonBlocking None d f h p some was room knows = gives_back _ h p some was room knows refl p refl tt refl (inr (λ n. refl))
   gives_back_freed kind (Some (Value v)) d f h p some was room knows = gives_back _ h p some was room knows refl p refl tt refl (inr (λ n. sym (ap earned d)))
-  gives_back_freed kind (Some Done) d f h p some was room knows = absurd f
-  gives_back_freed kind (Some Empty) d f h p some was room knows = absurd f
-  gives_back_freed kind (Some (Refused why)) d f h p some was room knows = absurd f
+  gives_back_freed kind _ d f h p some was room knows = absurd f
 
   -- the node in hand is written, and its count stays
   writes : (o : Outcome) (x : Node) → a.holds ≡ true → a.pocket ≡ None → 1 ≤ a.node → x.next.count ≡ (next_of m a.node).count → o.actor.holds ≡ true → o.actor.pocket ≡ None → o.actor.node ≡ a.node → o.actor.mark ≡ x.next.count → o.aside ≡ None → Learns (with_new m a.node x) o → o.at ≡ None → KeepsReply a o → Goes (with_new m a.node x) o
@@ -314,9 +310,7 @@ module _ (Z : ℕ → Type 0) (s : Setup) (m : Shared) (E : ℕ → ℕ) (front 
   gives_free : (due : Option Reply) → a.due ≡ due → EarnedFreeing due → a.holds ≡ true → a.pocket ≡ None → IfSome (busy_or now due (to_pocket a)) (Goes m)
   gives_free None d f h p = refuses _ Busy (ap earned d) refl refl refl (to_pocket_holds h p) refl (to_pocket_marks h) refl
   gives_free (Some (Value v)) d f h p = still _ (to_pocket_holds h p) refl (to_pocket_marks h) tt (quiet refl refl refl (inr (λ n. sym (ap earned d))))
-  gives_free (Some Done) d f h p = absurd f
-  gives_free (Some Empty) d f h p = absurd f
-  gives_free (Some (Refused why)) d f h p = absurd f
+  gives_free _ d f h p = absurd f
 
   -- an actor that gives up before a line of this queue changes no word
   pub gives : (l : Line) → s.kind ≡ NonBlocking → IsRunBy (section_of l) s.kind → FixedAt s.limit me a (Some l) → IfSome (gives_up now a l) (Goes m)

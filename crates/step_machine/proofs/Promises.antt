@@ -3,7 +3,7 @@ use Rattle.std.proofs.Common.{◌≡◌, ℕ, ◌+◌, Bool, true, false, nat_le
 use Rattle.std.specs.List.{flat_map}
 use Rattle.std.proofs.lemmas.List.Folds.{flat_map-map}
 use Rattle.std.proofs.lemmas.List.Recursion.{is_count_by}
-use Rattle.step_machine.specs.Below.{Reply, Done, Value, Empty, Refused, Stamped, Queue, empty, inserted, rising, answer, Gets, Replays, replayed, IsLegal}
+use Rattle.step_machine.specs.Below.{Reply, Done, Stamped, Queue, empty, inserted, rising, answer, Gets, Replays, replayed, IsLegal}
 use Rattle.step_machine.specs.Machine.{World, actor_of}
 use Rattle.step_machine.specs.Places.{one_if}
 use Rattle.step_machine.specs.Promises.{earned, due_of, promised_reply, promised, promises, is_value, values_taken}

@@ -1,7 +1,7 @@
 -- Each actor stands before a line of its queue, and where no null follows Head, before nodes and not null.
-use Rattle.std.proofs.Common.{◌≡◌, ℕ, ◌+◌, ◌≤◌, Bool, true, false, nat_eq, nat_lt, if◌then◌else◌, Option, Some, None, IfSome, refl, arith}
+use Rattle.std.proofs.Common.{◌≡◌, ℕ, ◌+◌, ◌≤◌, Bool, true, false, nat_eq, nat_lt, if◌then◌else◌, Option, Some, None, IfSome, arith}
 use Rattle.std.proofs.lemmas.Bool.{eqb-false}
-use Rattle.step_machine.specs.Below.{Ref, ref, is_null, same_ref, Kind, TwoLock, NonBlocking, Line, N1, N2, N3, N4, N5, F1, F2, F3, E2, E3, E5, E6, E7, E9, E13, E17, D2, D3, D4, D5, D10, D12, D13, A1, A2, A3, A4, A5, A6, A7, B1, B2, B3, B4, B5, B6, section_of, Op, Enq, Deq, Reply, Done, Value, Empty, Refused, Setup, Held, Actor, Outcome, Shared, Word, Content, content, Action, word, Found, performed, same, load, store, clear, exchange, Fresh, Free, Head, Tail, Tail_lock, Head_lock, Next, Value_of, put, action, raised, outcome, freed, unlocked, sets_aside, goes, ends, effect, lets_go, to_pocket, with_node, takes, busy_or, gives_up, from_pocket, begun}
+use Rattle.step_machine.specs.Below.{Ref, ref, is_null, same_ref, Kind, TwoLock, NonBlocking, Line, N1, N2, N3, N4, N5, F1, F2, F3, E2, E3, E5, E6, E7, E9, E13, E17, D2, D3, D4, D5, D10, D12, D13, A1, A2, A3, A4, A5, A6, A7, B1, B2, B3, B4, B5, B6, section_of, Op, Enq, Deq, Reply, Done, Value, Setup, Held, Actor, Outcome, Shared, Word, Content, content, Action, word, Found, performed, same, load, store, clear, exchange, Fresh, Free, Head, Tail, Tail_lock, Head_lock, Next, Value_of, put, action, raised, outcome, freed, unlocked, sets_aside, goes, ends, effect, lets_go, to_pocket, with_node, takes, busy_or, gives_up, from_pocket, begun}
 use Rattle.step_machine.specs.Machine.{rested, may_rest}
 use Rattle.step_machine.specs.Standing.{IsRunBy, HasNodeToFree, HoldsNodes, Stands, ActorStands}
 use Rattle.step_machine.proofs.Choices.{either, both}

@@ -1,8 +1,8 @@
 -- In the two-lock queue the counts of Tail and of each node's `next` stay 0.
-use Rattle.std.proofs.Common.{◌≡◌, ◌≢◌, ℕ, zero, suc, ◌+◌, ◌-◌, Bool, true, false, nat_eq, nat_lt, if◌then◌else◌, List, [], ◌∷◌, length, get_or, set, Option, Some, None, IfSome, refl, sym, ap, ◌∙◌, subst, arith, ◌⊎◌, inl, inr}
+use Rattle.std.proofs.Common.{◌≡◌, ◌≢◌, ℕ, zero, suc, ◌+◌, ◌-◌, nat_eq, nat_lt, List, [], ◌∷◌, length, get_or, set, Option, Some, None, IfSome, refl, sym, ap, ◌∙◌, subst, arith, ◌⊎◌, inl, inr}
 use Rattle.std.specs.List.{All}
 use Rattle.std.proofs.lemmas.List.Elements.{All-set, All-replicate}
-use Rattle.step_machine.specs.Below.{Ref, is_null, same_ref, Kind, TwoLock, NonBlocking, Line, N1, N2, N3, N4, N5, F1, F2, F3, E2, E5, D2, A1, A2, A3, A4, A5, A6, A7, B1, B2, B3, B4, B5, B6, section_of, Op, Enq, Deq, Reply, Done, Value, Empty, Refused, Setup, Node, Held, Actor, Outcome, blank, Shared, found, performed, node_at, action, outcome, goes, with_node, takes, freed, unlocked, lets_go, to_pocket, busy_or, gives_up, from_pocket, begun}
+use Rattle.step_machine.specs.Below.{Ref, is_null, same_ref, Kind, TwoLock, NonBlocking, Line, N1, N2, N3, N4, N5, F1, F2, F3, E2, E5, D2, A1, A2, A3, A4, A5, A6, A7, B1, B2, B3, B4, B5, B6, section_of, Op, Enq, Deq, Reply, Done, Setup, Node, Held, Actor, Outcome, blank, Shared, found, performed, node_at, action, outcome, goes, with_node, takes, freed, unlocked, lets_go, to_pocket, busy_or, gives_up, from_pocket, begun}
 use Rattle.step_machine.specs.Machine.{World, opening, actor_of, rested, with_actor, entry_or, settled, IsReached}
 use Rattle.step_machine.specs.Standing.{IsRunBy}
 use Rattle.step_machine.specs.TwoLock.{OfTwoLockWorlds, CountsNothing}

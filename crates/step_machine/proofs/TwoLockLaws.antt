@@ -1,5 +1,5 @@
 -- The laws of the two-lock queue on places, Tail, counts and refusals.
-use Rattle.std.proofs.Common.{◌≡◌, ◌≢◌, ℕ, zero, suc, ◌+◌, ◌-◌, ◌≤◌, ◌<◌, Bool, true, false, nat_eq, nat_lt, if◌then◌else◌, List, [], ◌∷◌, length, get_or, Option, Some, None, IfSome, refl, sym, ap, ◌∙◌, subst, arith, ◌⊎◌, inl, inr}
+use Rattle.std.proofs.Common.{◌≡◌, ◌≢◌, ℕ, zero, suc, ◌+◌, ◌-◌, ◌≤◌, ◌<◌, true, false, nat_eq, nat_lt, if◌then◌else◌, List, [], ◌∷◌, length, get_or, Option, Some, None, IfSome, refl, sym, ap, ◌∙◌, subst, arith, ◌⊎◌, inl, inr}
 use Rattle.std.specs.Prelude.{slice_get}
 use Rattle.std.proofs.lemmas.Bool.{eqb-true, ne_eqb, ltb-false}
 use Rattle.std.proofs.lemmas.Option.{slice_get-get_or}
@@ -119,10 +119,8 @@ with_node_caused w kind a = record { cause = tt }
 
 freed_caused : (w : World) (kind : Kind) (now : ℕ) (due : Option Reply) (a : Actor) → EarnedFreeing due → Caused w (freed kind now due a)
 freed_caused w kind now None a h = record { cause = tt }
-freed_caused w kind now (Some Done) a h = absurd h
 freed_caused w kind now (Some (Value v)) a h = record { cause = tt }
-freed_caused w kind now (Some Empty) a h = absurd h
-freed_caused w kind now (Some (Refused why)) a h = absurd h
+freed_caused w kind now _ a h = absurd h
 
 unlocked_caused : (w : World) (now : ℕ) (noted : ℕ) (due : Option Reply) (a : Actor) → EarnedUnlocking due → Unlocks (λ k. Unit {0}) w.setup.limit w.shared noted due → Caused w (unlocked now due a)
 unlocked_caused w now noted None a h k = absurd h

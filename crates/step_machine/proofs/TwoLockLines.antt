@@ -198,10 +198,8 @@ module _ (Z : ℕ → Type 0) (s : Setup) (k : ℕ) (m : Shared) (E : ℕ → �
   -- the reply of a call that frees a node is the one that it earned
   frees_keep : (o : Outcome) (due : Option Reply) → EarnedFreeing due → a.due ≡ due → ((n : ℕ) → promised_reply o.reply (Some n) o.actor.due ≡ due) → KeepsReply a o
   frees_keep o None e d same = inl (ap earned d)
-  frees_keep o (Some Done) e d same = absurd e
   frees_keep o (Some (Value v)) e d same = inr (λ n. same n ∙ sym (ap earned d))
-  frees_keep o (Some Empty) e d same = absurd e
-  frees_keep o (Some (Refused why)) e d same = absurd e
+  frees_keep o _ e d same = absurd e
 
   aside_freed : (c : Actor) (kind : Kind) (due : Option Reply) → Before Z s k m E h rest free me a F1 → c.node ≡ a.node → c.pocket ≡ a.pocket → c.due ≡ due → a.due ≡ due → EarnedFreeing due → Does m (sets_aside (freed kind now due c))
   aside_freed c TwoLock None b n p d f e =
@@ -225,10 +223,8 @@ module _ (Z : ℕ → Type 0) (s : Setup) (k : ℕ) (m : Shared) (E : ℕ → �
     where
       kept : (n : ℕ) (due : Option Reply) → EarnedFreeing due → promised_reply None (Some n) due ≡ due
       kept n None e = refl
-      kept n (Some Done) e = absurd e
       kept n (Some (Value v)) e = refl
-      kept n (Some Empty) e = absurd e
-      kept n (Some (Refused why)) e = absurd e
+      kept n _ e = absurd e
 
   -- the node in hand is written
   writes_own : (l : Line) (o : Outcome) (x : Node) → Before Z s k m E h rest free me a l → a.holds ≡ true → a.pocket ≡ None → 1 ≤ a.node → ((n : ℕ) → holds n o.actor ≡ holds n a) → o.aside ≡ None → KnowsAt (Found rest now) s (node_set m a.node x) (last_node (h ∷ rest)) o.actor o.actor.line → OwnsAt m me o.actor.line → o.at ≡ None → KeepsReply a o → Does (node_set m a.node x) o
@@ -256,10 +252,8 @@ module _ (Z : ℕ → Type 0) (s : Setup) (k : ℕ) (m : Shared) (E : ℕ → �
     where
       keeps : (due : Option Reply) → EarnedFreeing due → KeepsReply (record a { due = due }) (goes F3 (record a { due = due }))
       keeps None e = inl refl
-      keeps (Some Done) e = absurd e
       keeps (Some (Value v)) e = inr (λ n. refl)
-      keeps (Some Empty) e = absurd e
-      keeps (Some (Refused why)) e = absurd e
+      keeps _ e = absurd e
 
   -- the free nodes, with the one in hand before them
   gives_back : (o : Outcome) → Before Z s k m E h rest free me a F3 → same_ref m.free a.top ≡ true → o.aside ≡ None → ((n : ℕ) → holds n o.actor ≡ in_pocket n a.pocket) → KnowsAt (Found rest now) s (put Free (raised s a.top a.node) m) (last_node (h ∷ rest)) o.actor o.actor.line → OwnsAt m me o.actor.line → o.at ≡ None → KeepsReply a o → Does (put Free (raised s a.top a.node) m) o
@@ -292,22 +286,18 @@ module _ (Z : ℕ → Type 0) (s : Setup) (k : ℕ) (m : Shared) (E : ℕ → �
     where
       left : (n : ℕ) → in_hand n c + in_pocket n c.pocket ≡ in_pocket n a.pocket
       left n = omega (arith, ap (λ (x : Bool). if x then one_if (nat_eq n c.node) else 0) z, ap (in_pocket n) p)
-  freed_back c kind (Some Done) b e p z d f = absurd f
   freed_back c kind (Some (Value v)) b e p z d f =
       gives_back (freed kind now (Some (Value v)) c) b e refl (λ n. left n) tt b.owns refl (inr (λ n. sym (ap earned d)))
     where
       left : (n : ℕ) → in_hand n c + in_pocket n c.pocket ≡ in_pocket n a.pocket
       left n = omega (arith, ap (λ (x : Bool). if x then one_if (nat_eq n c.node) else 0) z, ap (in_pocket n) p)
-  freed_back c kind (Some Empty) b e p z d f = absurd f
-  freed_back c kind (Some (Refused why)) b e p z d f = absurd f
+  freed_back c kind _ b e p z d f = absurd f
 
   -- the reply earned stays
   keeps_due : (due : Option Reply) → EarnedFreeing due → (n : ℕ) → promised_reply None (Some n) due ≡ due
   keeps_due None e n = refl
-  keeps_due (Some Done) e n = absurd e
   keeps_due (Some (Value v)) e n = refl
-  keeps_due (Some Empty) e n = absurd e
-  keeps_due (Some (Refused why)) e n = absurd e
+  keeps_due _ e n = absurd e
 
   line_F3 : Before Z s k m E h rest free me a F3 → Does (performed (action s me a F3) m) (outcome s now me a F3 m.free)
   line_F3 b =

@@ -1,6 +1,6 @@
 -- What the laws of both queues say of each world.
 use Rattle.std.specs.Prelude.{◌≡◌, ℕ, ◌+◌, ◌<◌, List, [], Option, Some, None, IfSome}
-use Rattle.step_machine.specs.Below.{Ref, Line, N4, F3, E9, E13, E17, D10, D13, B5, WornWord, OfFree, OfNext, OfTail, OfHead, Refusal, NoNode, WornOut, Reply, Done, Value, Empty, Refused, empty, rising, Replays, replayed, Actor, node_at, found, action, outcome}
+use Rattle.step_machine.specs.Below.{Ref, Line, N4, F3, E9, E13, E17, D10, D13, B5, WornWord, OfFree, OfNext, OfTail, OfHead, Refusal, NoNode, WornOut, Reply, Refused, empty, rising, Replays, replayed, Actor, node_at, found, action, outcome}
 use Rattle.step_machine.specs.Machine.{World, actor_of}
 use Rattle.step_machine.specs.Places.{IsChain, IsQueued, IsFree, Places}
 use Rattle.step_machine.specs.Chains.{queue_values}
@@ -46,11 +46,8 @@ HasCause w _ = ⊥
 
 -- a world has the cause for a step's reply, if that is a refusal
 abbrev pub HasCauseFor : World → Option Reply → Type 0
-HasCauseFor w None = Unit {0}
-HasCauseFor w (Some Done) = Unit {0}
-HasCauseFor w (Some (Value v)) = Unit {0}
-HasCauseFor w (Some Empty) = Unit {0}
 HasCauseFor w (Some (Refused why)) = HasCause w why
+HasCauseFor w _ = Unit {0}
 
 -- each actor's next step is refused only where the world has the cause
 abbrev pub RefusesWithCause : World → Type 0

@@ -1,6 +1,6 @@
 -- Before which lines the actors of a world stand, and which registers hold nodes there.
 use Rattle.std.specs.Prelude.{◌≡◌, ℕ, ◌≤◌, Option, Some, None, IfSome}
-use Rattle.step_machine.specs.Below.{Kind, TwoLock, NonBlocking, Line, N1, N2, N3, N4, N5, F1, F2, F3, E2, E3, E5, E6, E7, E9, E13, E17, D2, D3, D4, D5, D10, D12, D13, A1, A2, A3, A4, A5, A6, A7, B1, B2, B3, B4, B5, B6, Section, section_of, Reply, Done, Value, Empty, Refused, Actor, word}
+use Rattle.step_machine.specs.Below.{Kind, TwoLock, NonBlocking, Line, N1, N2, N3, N4, N5, F1, F2, F3, E2, E3, E5, E6, E7, E9, E13, E17, D2, D3, D4, D5, D10, D12, D13, A1, A2, A3, A4, A5, A6, A7, B1, B2, B3, B4, B5, B6, Section, section_of, Reply, Value, Actor, word}
 use Rattle.line_table.specs.declared.lines.Section.TheVariants.{NewNode, Free, Enqueue, Dequeue, LockedEnqueue, LockedDequeue}
 use Rattle.step_machine.specs.Words.{IsWord}
 use Rattle.step_machine.specs.Machine.{World, actor_of}
@@ -23,9 +23,7 @@ IsRunBy LockedDequeue TwoLock = Unit {0}
 abbrev pub HasNodeToFree : Option Reply → (node : ℕ) → Type 0
 HasNodeToFree None node = 1 ≤ node
 HasNodeToFree (Some (Value v)) node = 1 ≤ node
-HasNodeToFree (Some Done) node = Unit {0}
-HasNodeToFree (Some Empty) node = Unit {0}
-HasNodeToFree (Some (Refused why)) node = Unit {0}
+HasNodeToFree _ node = Unit {0}
 
 -- the registers that hold nodes before a line, and not null
 abbrev pub HoldsNodes : Line → Actor → Type 0
