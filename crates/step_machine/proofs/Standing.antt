@@ -1,7 +1,7 @@
 -- Each actor stands before a line of its queue, and where no null follows Head, before nodes and not null.
 use Rattle.std.proofs.Common.{◌≡◌, ℕ, ◌+◌, ◌≤◌, Bool, true, false, nat_eq, nat_lt, if◌then◌else◌, Option, Some, None, IfSome, arith}
 use Rattle.std.proofs.lemmas.Bool.{eqb-false}
-use Rattle.step_machine.specs.Below.{Ref, ref, is_null, same_ref, Kind, TwoLock, NonBlocking, Line, N1, N2, N3, N4, N5, F1, F2, F3, E2, E3, E5, E6, E7, E9, E13, E17, D2, D3, D4, D5, D10, D12, D13, A1, A2, A3, A4, A5, A6, A7, B1, B2, B3, B4, B5, B6, section_of, Op, Enq, Deq, Reply, Done, Value, Setup, Held, Actor, Outcome, Shared, Word, Content, content, Action, word, Found, performed, same, load, store, clear, exchange, Fresh, Free, Head, Tail, Tail_lock, Head_lock, Next, Value_of, put, action, raised, outcome, freed, unlocked, sets_aside, goes, ends, effect, lets_go, to_pocket, with_node, takes, busy_or, gives_up, from_pocket, begun}
+use Rattle.step_machine.specs.Below.{Ref, ref, is_null, same_ref, Kind, TwoLock, NonBlocking, Line, N1, N2, N3, N4, N5, F1, F2, F3, E2, E3, E5, E6, E7, E9, E13, E17, D2, D3, D4, D5, D10, D12, D13, A1, A2, A3, A4, A5, A6, A7, B1, B2, B3, B4, B5, B6, section_of, Op, Enq, Deq, Reply, Done, Value, Setup, Held, Actor, Outcome, Shared, Word, Content, content, Action, word, Found, performed, same, load, store, clear, exchange, Head, Tail, Next, put, action, raised, outcome, freed, unlocked, sets_aside, goes, ends, effect, lets_go, to_pocket, with_node, takes, busy_or, gives_up, from_pocket, begun}
 use Rattle.step_machine.specs.Machine.{rested, may_rest}
 use Rattle.step_machine.specs.Standing.{IsRunBy, HasNodeToFree, HoldsNodes, Stands, ActorStands}
 use Rattle.step_machine.proofs.Choices.{either, both}
@@ -13,14 +13,9 @@ pub record EndsHold (m : Shared) : Type 0 where
 
 -- a content of Head or of Tail holds a node
 abbrev pub ContentHolds : (x : Word) → Content x → Type 0
-ContentHolds Fresh c = Unit {0}
-ContentHolds Free r = Unit {0}
 ContentHolds Head r = 1 ≤ r.node
 ContentHolds Tail r = 1 ≤ r.node
-ContentHolds Tail_lock c = Unit {0}
-ContentHolds Head_lock c = Unit {0}
-ContentHolds (Next n) r = Unit {0}
-ContentHolds (Value_of n) v = Unit {0}
+ContentHolds _ c = Unit {0}
 
 -- what an access writes into Head or Tail holds a node
 abbrev WritesHold : Action → Type 0
@@ -46,14 +41,9 @@ writes_hold s me a B5 h = raised_holds s a.head a.next.node h.0 h.1
 writes_hold s me a _ h = tt
 
 put_holds : (m : Shared) (x : Word) (c : Content x) → EndsHold m → ContentHolds x c → EndsHold (put x c m)
-put_holds m Fresh c h g = record { head = h.head; tail = h.tail }
-put_holds m Free c h g = record { head = h.head; tail = h.tail }
 put_holds m Head c h g = record { head = g; tail = h.tail }
 put_holds m Tail c h g = record { head = h.head; tail = g }
-put_holds m Tail_lock c h g = record { head = h.head; tail = h.tail }
-put_holds m Head_lock c h g = record { head = h.head; tail = h.tail }
-put_holds m (Next n) c h g = record { head = h.head; tail = h.tail }
-put_holds m (Value_of n) c h g = record { head = h.head; tail = h.tail }
+put_holds m _ c h g = record { head = h.head; tail = h.tail }
 
 performed_holds : (m : Shared) (a : Action) → EndsHold m → WritesHold a → EndsHold (performed a m)
 performed_holds m (load x) h g = h

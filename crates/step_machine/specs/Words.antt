@@ -40,11 +40,6 @@ index (Value_of n) = 5 + 2 * n
 
 -- a word of this table: a node's word names one of its nodes
 abbrev pub IsWord : Shared → Word → Type 0
-IsWord s Fresh = Unit {0}
-IsWord s Free = Unit {0}
-IsWord s Head = Unit {0}
-IsWord s Tail = Unit {0}
-IsWord s Tail_lock = Unit {0}
-IsWord s Head_lock = Unit {0}
 IsWord s (Next n) = (1 ≤ n) × (n ≤ length s.nodes)
 IsWord s (Value_of n) = (1 ≤ n) × (n ≤ length s.nodes)
+IsWord s _ = Unit {0}
