@@ -1,8 +1,8 @@
 -- What a turn of a take leads to, and what a take answers.
 use Rattle.std.specs.Prelude.{◌≡◌, ℕ, ◌<◌, ◌≤◌, ◌⊎◌, List, [], ◌∷◌, ◌++◌, Some, None, Result, Err, MatchResult, IfOk, IfErr}
-use Rattle.history.specs.declared.refusals.WornWord.TheVariants.{Free as OfFree, Next as OfNext, Tail as OfTail, Head as OfHead}
+use Rattle.history.specs.declared.refusals.WornWord.TheVariants.{Free as OfFree}
 use Rattle.history.specs.declared.refusals.Refusal.{Refusal}
-use Rattle.history.specs.declared.refusals.Refusal.TheVariants.{NoNode, WornOut, Busy, Memory, BadSize, IdleActor, ActorBusy, NotHere, NoSuchActor, Text, Read, Write, Stranger, Double, Lost, Closed}
+use Rattle.history.specs.declared.refusals.Refusal.TheVariants.{NoNode, WornOut, Busy}
 use Rattle.node_arena.specs.Machine.{Held, World, IsFree, IsUntouched, HasCause, with_node}
 use Rattle.node_arena.specs.Traces.{Event, Traced, IsTraced}
 use Rattle.node_arena.specs.Leads.{goes_on}
@@ -30,23 +30,8 @@ pub record IsTaken (r : Arena) (s t : Seat) (node : ℕ) : Type 0 where
 abbrev pub TakeRefused : Arena → Seat → Seat → (turns : ℕ) → Refusal → Type 0
 TakeRefused r s t turns NoNode = MetCause r s t NoNode
 TakeRefused r s t turns (WornOut OfFree) = MetCause r s t (WornOut OfFree)
-TakeRefused r s t turns (WornOut OfNext) = ⊥
-TakeRefused r s t turns (WornOut OfTail) = ⊥
-TakeRefused r s t turns (WornOut OfHead) = ⊥
 TakeRefused r s t turns Busy = (failed_turns (added s t) ≡ turns) × EndsFailed s t
-TakeRefused r s t turns Memory = ⊥
-TakeRefused r s t turns BadSize = ⊥
-TakeRefused r s t turns IdleActor = ⊥
-TakeRefused r s t turns ActorBusy = ⊥
-TakeRefused r s t turns NotHere = ⊥
-TakeRefused r s t turns NoSuchActor = ⊥
-TakeRefused r s t turns (Text line cause) = ⊥
-TakeRefused r s t turns Read = ⊥
-TakeRefused r s t turns Write = ⊥
-TakeRefused r s t turns Stranger = ⊥
-TakeRefused r s t turns Double = ⊥
-TakeRefused r s t turns Lost = ⊥
-TakeRefused r s t turns Closed = ⊥
+TakeRefused r s t turns _ = ⊥
 
 -- fewer turns failed than were allowed, unless the answer is Busy
 abbrev pub FailsFewer : (turns : ℕ) → {X : Type 0} → Result X Refusal → ℕ → Type 0

@@ -11,7 +11,7 @@ use Rattle.text_lines.proofs.Cuts.{words_of-spaced}
 use Rattle.history.specs.declared.refusals.WornWord.{WornWord}
 use Rattle.history.specs.declared.refusals.WornWord.TheVariants.{Free, Next, Tail, Head}
 use Rattle.history.specs.declared.refusals.Refusal.{Refusal}
-use Rattle.history.specs.declared.refusals.Refusal.TheVariants.{NoNode, WornOut, Busy, Memory, BadSize, IdleActor, ActorBusy, NotHere, NoSuchActor, Text, Read, Write, Stranger, Double, Lost, Closed}
+use Rattle.history.specs.declared.refusals.Refusal.TheVariants.{NoNode, WornOut, Busy}
 use Rattle.history.specs.declared.operations.Op.{Op}
 use Rattle.history.specs.declared.operations.Op.TheVariants.{Enq, Deq}
 use Rattle.history.specs.declared.operations.Reply.{Reply}
@@ -62,19 +62,7 @@ ink-refusal : (why : Refusal) → leaves why ≡ true → All IsInk (refusal_wor
 ink-refusal NoNode e = one (codes "1") (ink-tested (codes "1") refl)
 ink-refusal (WornOut word) e = more (codes "2") (word_text word ∷ []) (ink-tested (codes "2") refl) (one (word_text word) (ink-word word))
 ink-refusal Busy e = one (codes "3") (ink-tested (codes "3") refl)
-ink-refusal Memory e = absurd cc
-ink-refusal BadSize e = absurd cc
-ink-refusal IdleActor e = absurd cc
-ink-refusal ActorBusy e = absurd cc
-ink-refusal NotHere e = absurd cc
-ink-refusal NoSuchActor e = absurd cc
-ink-refusal (Text line cause) e = absurd cc
-ink-refusal Read e = absurd cc
-ink-refusal Write e = absurd cc
-ink-refusal Stranger e = absurd cc
-ink-refusal Double e = absurd cc
-ink-refusal Lost e = absurd cc
-ink-refusal Closed e = absurd cc
+ink-refusal _ e = absurd cc
 
 ink-reply : (reply : Option Reply) → IsQueueReply reply → All IsInk (reply_words reply)
 ink-reply None may = one (codes "-") (ink-tested (codes "-") refl)

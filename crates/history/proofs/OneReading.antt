@@ -13,7 +13,7 @@ use Rattle.text_lines.proofs.Total.{not_neither}
 use Rattle.history.specs.declared.refusals.WornWord.{WornWord}
 use Rattle.history.specs.declared.refusals.WornWord.TheVariants.{Free, Next, Tail, Head}
 use Rattle.history.specs.declared.refusals.Refusal.{Refusal}
-use Rattle.history.specs.declared.refusals.Refusal.TheVariants.{NoNode, WornOut, Busy, Memory, BadSize, IdleActor, ActorBusy, NotHere, NoSuchActor, Text, Read, Write, Stranger, Double, Lost, Closed}
+use Rattle.history.specs.declared.refusals.Refusal.TheVariants.{NoNode, WornOut, Busy}
 use Rattle.history.specs.declared.operations.Op.{Op}
 use Rattle.history.specs.declared.operations.Op.TheVariants.{Enq, Deq}
 use Rattle.history.specs.declared.operations.Reply.{Reply}
@@ -81,19 +81,7 @@ given_refusal : (P : Refusal → Type 0) → P NoNode → ((word : WornWord) →
 given_refusal P none worn busy NoNode e = none
 given_refusal P none worn busy (WornOut word) e = worn word
 given_refusal P none worn busy Busy e = busy
-given_refusal P none worn busy Memory e = absurd cc
-given_refusal P none worn busy BadSize e = absurd cc
-given_refusal P none worn busy IdleActor e = absurd cc
-given_refusal P none worn busy ActorBusy e = absurd cc
-given_refusal P none worn busy NotHere e = absurd cc
-given_refusal P none worn busy NoSuchActor e = absurd cc
-given_refusal P none worn busy (Text at cause) e = absurd cc
-given_refusal P none worn busy Read e = absurd cc
-given_refusal P none worn busy Write e = absurd cc
-given_refusal P none worn busy Stranger e = absurd cc
-given_refusal P none worn busy Double e = absurd cc
-given_refusal P none worn busy Lost e = absurd cc
-given_refusal P none worn busy Closed e = absurd cc
+given_refusal P none worn busy _ e = absurd cc
 
 -- the words of a refusal that a queue may give tell it
 one-refusal : (a b : Refusal) → leaves a ≡ true → leaves b ≡ true → refusal_words a ≡ refusal_words b → a ≡ b

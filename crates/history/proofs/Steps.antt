@@ -9,7 +9,7 @@ use Rattle.text_lines.specs.Readings.{IsWrong}
 use Rattle.text_lines.specs.Grammars.{Begins, IsText, IsFirstFault}
 use Rattle.text_lines.proofs.Faults.{Begins-nothing, Begins-more, IsText-whole, first_fault-end, first_fault-line, first_fault-extra}
 use Rattle.history.specs.declared.refusals.Refusal.{Refusal}
-use Rattle.history.specs.declared.refusals.Refusal.TheVariants.{NoNode, WornOut, Busy, Memory, BadSize, IdleActor, ActorBusy, NotHere, NoSuchActor, Text, Read, Write, Stranger, Double, Lost, Closed}
+use Rattle.history.specs.declared.refusals.Refusal.TheVariants.{Memory, Text}
 use Rattle.history.specs.declared.operations.Stamped.{Stamped}
 use Rattle.history.specs.HistoryText.{history_text}
 use Rattle.history.specs.HistoryLines.{HistoryLine, Count, Operation, First, Operations, IsHistoryInRange, IsFirstFaultOfHistory, history_grammar}
@@ -55,20 +55,7 @@ fault-operation count ops text rest says later place (Text at cause) begins coun
     (omega (arith, wrong.0, counted, length-map ops (λ o. Operation o))) (due-some (count - length ops) (omega arith)) split whole
     (wrong-operation (count - length ops) says cause wrong.1)
 fault-operation count ops text rest says later place Memory begins counted more split whole wrong = tt
-fault-operation count ops text rest says later place NoNode begins counted more split whole wrong = absurd wrong
-fault-operation count ops text rest says later place (WornOut word) begins counted more split whole wrong = absurd wrong
-fault-operation count ops text rest says later place Busy begins counted more split whole wrong = absurd wrong
-fault-operation count ops text rest says later place BadSize begins counted more split whole wrong = absurd wrong
-fault-operation count ops text rest says later place IdleActor begins counted more split whole wrong = absurd wrong
-fault-operation count ops text rest says later place ActorBusy begins counted more split whole wrong = absurd wrong
-fault-operation count ops text rest says later place NotHere begins counted more split whole wrong = absurd wrong
-fault-operation count ops text rest says later place NoSuchActor begins counted more split whole wrong = absurd wrong
-fault-operation count ops text rest says later place Read begins counted more split whole wrong = absurd wrong
-fault-operation count ops text rest says later place Write begins counted more split whole wrong = absurd wrong
-fault-operation count ops text rest says later place Stranger begins counted more split whole wrong = absurd wrong
-fault-operation count ops text rest says later place Double begins counted more split whole wrong = absurd wrong
-fault-operation count ops text rest says later place Lost begins counted more split whole wrong = absurd wrong
-fault-operation count ops text rest says later place Closed begins counted more split whole wrong = absurd wrong
+fault-operation count ops text rest says later place _ begins counted more split whole wrong = absurd wrong
 
 -- no operation is due, and bytes follow
 pub fault-extra : (count : ℕ) (ops : List Stamped) (text rest : List ℕ) → BeginsHistory count ops text rest → length ops ≡ count → rest ≢ []

@@ -12,7 +12,7 @@ use Rattle.text_lines.specs.Readings.{IsWrong}
 use Rattle.text_lines.specs.Grammars.{Says, AreDue, state_after, lines_of, IsText}
 use Rattle.text_lines.proofs.Numerals.{numeral_decimal}
 use Rattle.history.specs.declared.refusals.Refusal.{Refusal}
-use Rattle.history.specs.declared.refusals.Refusal.TheVariants.{NoNode, WornOut, Busy, Memory, BadSize, IdleActor, ActorBusy, NotHere, NoSuchActor, Text, Read, Write, Stranger, Double, Lost, Closed}
+use Rattle.history.specs.declared.refusals.Refusal.TheVariants.{NoNode, WornOut, Busy}
 use Rattle.history.specs.declared.operations.Op.{Op}
 use Rattle.history.specs.declared.operations.Op.TheVariants.{Enq, Deq}
 use Rattle.history.specs.declared.operations.Reply.{Reply}
@@ -54,19 +54,7 @@ unfolding spaces
 refusal-spelled NoNode e = refl
 refusal-spelled (WornOut word) e = ap (λ (later : List ℕ). 32 ∷ codes "2" ++ (32 ∷ later)) (append-nil (word_text word))
 refusal-spelled Busy e = refl
-refusal-spelled Memory e = absurd cc
-refusal-spelled BadSize e = absurd cc
-refusal-spelled IdleActor e = absurd cc
-refusal-spelled ActorBusy e = absurd cc
-refusal-spelled NotHere e = absurd cc
-refusal-spelled NoSuchActor e = absurd cc
-refusal-spelled (Text at cause) e = absurd cc
-refusal-spelled Read e = absurd cc
-refusal-spelled Write e = absurd cc
-refusal-spelled Stranger e = absurd cc
-refusal-spelled Double e = absurd cc
-refusal-spelled Lost e = absurd cc
-refusal-spelled Closed e = absurd cc
+refusal-spelled _ e = absurd cc
 
 value_text : (from body : List ℕ) → 32 ∷ codes "value" ++ (32 ∷ from ++ (32 ∷ body)) ≡ 32 ∷ (codes "value " ++ from ++ codes " " ++ body)
 value_text from body = ap (λ (later : List ℕ). 32 ∷ codes "value " ++ later) (sym (append_assoc from (codes " ") body))

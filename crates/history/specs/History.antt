@@ -2,7 +2,7 @@
 use Rattle.std.specs.Prelude.{◌≡◌, ◌≢◌, ℕ, ◌+◌, ◌≤◌, ◌↔◌, Bool, true, false, not, ◌&&◌, ◌||◌, List, [], ◌∷◌, Option, Some, None, IsSome, IfSome, is_some, nat_le, nat_eq, if◌then◌else◌}
 use Rattle.std.specs.List.{AllByRecursion}
 use Rattle.history.specs.declared.refusals.Refusal.{Refusal}
-use Rattle.history.specs.declared.refusals.Refusal.TheVariants.{NoNode, WornOut, Busy, Memory, BadSize, IdleActor, ActorBusy, NotHere, NoSuchActor, Text, Read, Write, Stranger, Double, Lost, Closed}
+use Rattle.history.specs.declared.refusals.Refusal.TheVariants.{NoNode, WornOut, Busy}
 use Rattle.history.specs.declared.operations.Reply.{Reply}
 use Rattle.history.specs.declared.operations.Reply.TheVariants.{Done, Value, Empty, Refused}
 use Rattle.history.specs.declared.operations.Stamped.{Stamped}
@@ -54,19 +54,7 @@ abbrev pub leaves : Refusal → Bool
 leaves NoNode = true
 leaves (WornOut word) = true
 leaves Busy = true
-leaves Memory = false
-leaves BadSize = false
-leaves IdleActor = false
-leaves ActorBusy = false
-leaves NotHere = false
-leaves NoSuchActor = false
-leaves (Text line cause) = false
-leaves Read = false
-leaves Write = false
-leaves Stranger = false
-leaves Double = false
-leaves Lost = false
-leaves Closed = false
+leaves _ = false
 
 -- the answer to an operation by what it was told: a refusal leaves the queue, any other reply and none take what the queue gives
 abbrev pub answer : Queue → Stamped → Option Reply → Answer

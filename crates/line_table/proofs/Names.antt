@@ -4,7 +4,7 @@ use Rattle.std.specs.List.{find}
 use Rattle.std.specs.Str.{bytes_eq}
 use Rattle.std.proofs.lemmas.Slice.Eq.{bytes_eq-Decides}
 use Rattle.line_table.specs.declared.lines.Line.{Line}
-use Rattle.line_table.specs.declared.lines.Line.TheVariants.{N1, N2, N3, N4, N5, F1, F2, F3, E2, E3, E5, E6, E7, E9, E13, E17, D2, D3, D4, D5, D10, D12, D13, A1, A2, A3, A4, A5, A6, A7, B1, B2, B3, B4, B5, B6}
+use Rattle.line_table.specs.declared.lines.Line.TheVariants.{N1}
 use Rattle.line_table.specs.declared.lines.TheConstants.Line.{ALL}
 use Rattle.line_table.specs.Names.{name_of}
 
@@ -15,41 +15,7 @@ line_of name = find (λ line. bytes_eq (name_of line) name) ALL
 -- the name of a line finds it: no earlier line has its name
 pub line_of-name_of : (line : Line) → line_of (name_of line) ≡ Some line
 line_of-name_of N1 = refl
-line_of-name_of N2 = refl
-line_of-name_of N3 = refl
-line_of-name_of N4 = refl
-line_of-name_of N5 = refl
-line_of-name_of F1 = refl
-line_of-name_of F2 = refl
-line_of-name_of F3 = refl
-line_of-name_of E2 = refl
-line_of-name_of E3 = refl
-line_of-name_of E5 = refl
-line_of-name_of E6 = refl
-line_of-name_of E7 = refl
-line_of-name_of E9 = refl
-line_of-name_of E13 = refl
-line_of-name_of E17 = refl
-line_of-name_of D2 = refl
-line_of-name_of D3 = refl
-line_of-name_of D4 = refl
-line_of-name_of D5 = refl
-line_of-name_of D10 = refl
-line_of-name_of D12 = refl
-line_of-name_of D13 = refl
-line_of-name_of A1 = refl
-line_of-name_of A2 = refl
-line_of-name_of A3 = refl
-line_of-name_of A4 = refl
-line_of-name_of A5 = refl
-line_of-name_of A6 = refl
-line_of-name_of A7 = refl
-line_of-name_of B1 = refl
-line_of-name_of B2 = refl
-line_of-name_of B3 = refl
-line_of-name_of B4 = refl
-line_of-name_of B5 = refl
-line_of-name_of B6 = refl
+line_of-name_of _ = refl
 
 -- what is found in a list passes the test
 find-passes : {X : Type 0} (p : X → Bool) (xs : List X) → IfSome (find p xs) (λ x. p x ≡ true)

@@ -4,7 +4,7 @@ use Rattle.atomic_table.specs.Seated.{TableId}
 use Rattle.atomic_table.specs.declared.shared.Seat.{Seat as Token}
 use Rattle.line_table.specs.declared.lines.Kind.{Kind}
 use Rattle.history.specs.declared.refusals.Refusal.{Refusal}
-use Rattle.history.specs.declared.refusals.Refusal.TheVariants.{NoNode, WornOut, Busy, Memory, BadSize, IdleActor, ActorBusy, NotHere, NoSuchActor, Text, Read, Write, Stranger, Double, Lost, Closed}
+use Rattle.history.specs.declared.refusals.Refusal.TheVariants.{Memory, BadSize}
 use Rattle.line_steps.specs.declared.actors.Setup.{Setup}
 use Rattle.step_machine.specs.Machine.{IsSized}
 use Rattle.node_arena.specs.declared.roles.Role.{Role}
@@ -63,17 +63,4 @@ IsUnsized s seats =
 abbrev pub NewRefused : Layout → Refusal → Type 0
 NewRefused z BadSize = IsUnsized z.setup (length z.roles)
 NewRefused z Memory = IsSized z.setup (length z.roles)
-NewRefused z NoNode = ⊥
-NewRefused z (WornOut word) = ⊥
-NewRefused z Busy = ⊥
-NewRefused z IdleActor = ⊥
-NewRefused z ActorBusy = ⊥
-NewRefused z NotHere = ⊥
-NewRefused z NoSuchActor = ⊥
-NewRefused z (Text line cause) = ⊥
-NewRefused z Read = ⊥
-NewRefused z Write = ⊥
-NewRefused z Stranger = ⊥
-NewRefused z Double = ⊥
-NewRefused z Lost = ⊥
-NewRefused z Closed = ⊥
+NewRefused z _ = ⊥

@@ -5,7 +5,7 @@ use Rattle.std.proofs.lemmas.List.{append-nil, map-append, length-map}
 use Rattle.std.proofs.lemmas.List.Elements.{All-nil, All-cons, All-append}
 use Rattle.std.proofs.lemmas.List.Concat.{flat_map-append}
 use Rattle.history.specs.declared.refusals.Refusal.{Refusal}
-use Rattle.history.specs.declared.refusals.Refusal.TheVariants.{NoNode, WornOut, Busy, Memory, BadSize, IdleActor, ActorBusy, NotHere, NoSuchActor, Text, Read, Write, Stranger, Double, Lost, Closed}
+use Rattle.history.specs.declared.refusals.Refusal.TheVariants.{Memory, Text}
 use Rattle.text_lines.specs.declared.causes.TextCause.{TextCause}
 use Rattle.text_lines.specs.declared.causes.TextCause.TheVariants.{Extra}
 use Rattle.text_lines.proofs.Faults.{Begins-more, first_fault-extra}
@@ -53,20 +53,7 @@ pub refused_behind : (before : ℕ) (s t : Due) (rs : List Said) (text rest : Li
 refused_behind before s t rs text rest Memory begins state refused = tt
 refused_behind before s t rs text rest (Text number cause) begins state refused =
     (length rs + refused.0, omega (arith, refused.1), IsFirstFault-behind schedule_lines s rs text rest refused.0 cause begins (rw (sym state) at refused.2))
-refused_behind before s t rs text rest NoNode begins state refused = refused
-refused_behind before s t rs text rest (WornOut word) begins state refused = refused
-refused_behind before s t rs text rest Busy begins state refused = refused
-refused_behind before s t rs text rest BadSize begins state refused = refused
-refused_behind before s t rs text rest IdleActor begins state refused = refused
-refused_behind before s t rs text rest ActorBusy begins state refused = refused
-refused_behind before s t rs text rest NotHere begins state refused = refused
-refused_behind before s t rs text rest NoSuchActor begins state refused = refused
-refused_behind before s t rs text rest Read begins state refused = refused
-refused_behind before s t rs text rest Write begins state refused = refused
-refused_behind before s t rs text rest Stranger begins state refused = refused
-refused_behind before s t rs text rest Double begins state refused = refused
-refused_behind before s t rs text rest Lost begins state refused = refused
-refused_behind before s t rs text rest Closed begins state refused = refused
+refused_behind before s t rs text rest _ begins state refused = refused
 
 -- no line in front of a text
 pub Begins-none : (due : Due) (text : List ℕ) → Begins schedule_lines due [] text text
@@ -127,20 +114,7 @@ All-added old new text rest all adds =
 pub refused_text : (text : List ℕ) (why : Refusal) → IsRefusedAfter 0 version_due text why → IsRefusedText text why
 refused_text text Memory refused = tt
 refused_text text (Text at cause) refused = rw (refused.1, zero-add) refused.2
-refused_text text NoNode refused = refused
-refused_text text (WornOut word) refused = refused
-refused_text text Busy refused = refused
-refused_text text BadSize refused = refused
-refused_text text IdleActor refused = refused
-refused_text text ActorBusy refused = refused
-refused_text text NotHere refused = refused
-refused_text text NoSuchActor refused = refused
-refused_text text Read refused = refused
-refused_text text Write refused = refused
-refused_text text Stranger refused = refused
-refused_text text Double refused = refused
-refused_text text Lost refused = refused
-refused_text text Closed refused = refused
+refused_text text _ refused = refused
 
 -- a header, and all its events
 module _ (h : Header) (events : List Event) (text rest later : List ℕ)

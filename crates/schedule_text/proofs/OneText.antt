@@ -5,7 +5,7 @@ use Rattle.std.proofs.lemmas.Bool.{lt-ltb}
 use Rattle.std.proofs.lemmas.List.{append-nil}
 use Rattle.std.proofs.lemmas.List.Elements.{All-nil, All-cons, All-append, All-head, All-tail}
 use Rattle.history.specs.declared.refusals.Refusal.{Refusal}
-use Rattle.history.specs.declared.refusals.Refusal.TheVariants.{NoNode, WornOut, Busy, Memory, BadSize, IdleActor, ActorBusy, NotHere, NoSuchActor, Text, Read, Write, Stranger, Double, Lost, Closed}
+use Rattle.history.specs.declared.refusals.Refusal.TheVariants.{Memory, Text}
 use Rattle.text_lines.specs.declared.causes.TextCause.{TextCause}
 use Rattle.text_lines.specs.Grammars.{Grammar, AreDue, state_after, lines_of, IsText, IsFirstFault, IsSound}
 use Rattle.text_lines.specs.Lines.{HasNo, spaced}
@@ -160,17 +160,4 @@ read_back text (Err why) told refused s range same = only_memory why refused
     only_memory : (why : Refusal) → IsRefusedText text why → why ≡ Memory
     only_memory Memory refused = refl
     only_memory (Text at cause) refused = absurd (no_fault_of_schedule s at cause range (subst (λ text. IsFirstFault schedule_lines version_due text at cause) same refused))
-    only_memory NoNode refused = absurd refused
-    only_memory (WornOut word) refused = absurd refused
-    only_memory Busy refused = absurd refused
-    only_memory BadSize refused = absurd refused
-    only_memory IdleActor refused = absurd refused
-    only_memory ActorBusy refused = absurd refused
-    only_memory NotHere refused = absurd refused
-    only_memory NoSuchActor refused = absurd refused
-    only_memory Read refused = absurd refused
-    only_memory Write refused = absurd refused
-    only_memory Stranger refused = absurd refused
-    only_memory Double refused = absurd refused
-    only_memory Lost refused = absurd refused
-    only_memory Closed refused = absurd refused
+    only_memory _ refused = absurd refused

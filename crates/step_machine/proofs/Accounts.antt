@@ -1,17 +1,8 @@
 -- What a step of an actor means for the list of values, for both queues: nothing, a refusal, an empty reply at the
 -- number noted, a push, or a pop. `Account` says which, with what it does to the queue's chain and to Head's count.
-use Rattle.std.proofs.Common.{◌≡◌, ◌≢◌, ℕ, ◌+◌, Bool, true, false, nat_eq, ◌&&◌, if◌then◌else◌, List, [], ◌∷◌, ◌++◌, Some, None, refl, ap, ◌⊎◌}
-use Rattle.std.proofs.lemmas.Bool.{eqb-true, ne_eqb}
-use Rattle.counted_ref.specs.Ref.{Ref, ref, same_ref}
-use Rattle.history.specs.declared.refusals.Refusal.{Refusal}
-use Rattle.history.specs.declared.operations.Op.TheVariants.{Deq}
-use Rattle.history.specs.declared.operations.Reply.TheVariants.{Done, Value, Empty, Refused}
-use Rattle.history.specs.History.{leaves}
-use Rattle.line_steps.specs.declared.actors.Setup.{Setup}
-use Rattle.line_steps.specs.declared.actors.Actor.{Actor}
-use Rattle.line_steps.specs.declared.actors.Outcome.{Outcome}
-use Rattle.line_steps.specs.Memory.{Shared, node_at}
-use Rattle.line_steps.specs.Lines.{raised}
+use Rattle.std.proofs.Common.{◌≡◌, ◌≢◌, ℕ, ◌+◌, true, if◌then◌else◌, List, [], ◌∷◌, ◌++◌, Some, None, ap, ◌⊎◌}
+use Rattle.std.proofs.lemmas.Bool.{ne_eqb}
+use Rattle.step_machine.specs.Below.{Ref, ref, Refusal, Deq, Done, Value, Empty, Refused, leaves, Setup, Actor, Outcome, Shared, node_at, raised}
 use Rattle.step_machine.specs.Promises.{earned, promised_reply}
 use Rattle.step_machine.proofs.Fixed.{Pushes}
 
@@ -27,21 +18,6 @@ pub data Account (Z : ℕ → Type 0) (me now : ℕ) (m m' : Shared) (queue queu
   found_empty : queue' ≡ queue → m'.head.count ≡ m.head.count → o.at ≡ Some a.noted → o.reply ≡ Some Empty → a.op ≡ Deq → earned a.due ≡ None → Z a.noted → Account Z me now m m' queue queue' a o
   pushed : queue' ≡ queue ++ a.node ∷ [] → m'.head.count ≡ m.head.count → o.at ≡ Some now → promised_reply o.reply (Some now) o.actor.due ≡ Some Done → (node_at m' a.node).value ≡ a.val → Pushes me a.op a.val → earned a.due ≡ None → Account Z me now m m' queue queue' a o
   popped : (h x : ℕ) (rest : List ℕ) → queue ≡ h ∷ x ∷ rest → queue' ≡ x ∷ rest → m'.head.count ≡ m.head.count + 1 → o.at ≡ Some now → promised_reply o.reply (Some now) o.actor.due ≡ Some (Value (node_at m x).value) → a.op ≡ Deq → earned a.due ≡ None → Account Z me now m m' queue queue' a o
-
--- references are the same where their nodes and counts are
-pub ref_path : (a b : Ref) → a.node ≡ b.node → a.count ≡ b.count → a ≡ b
-ref_path a b p q = λ i. record { node = p i; count = q i }
-
-and_true : (x y : Bool) → x && y ≡ true → (x ≡ true) × (y ≡ true)
-and_true true true e = (refl, refl)
-and_true true false e = absurd (let f : false ≡ true = e in cc)
-and_true false y e = absurd (let f : false ≡ true = e in cc)
-
--- an exchange that found what it compared with
-pub same_ref-true : (a b : Ref) → same_ref a b ≡ true → a ≡ b
-same_ref-true a b e =
-    let p : (nat_eq a.node b.node ≡ true) × (nat_eq a.count b.count ≡ true) = and_true _ _ e in
-    ref_path a b (eqb-true a.node b.node p.0) (eqb-true a.count b.count p.1)
 
 -- a reference whose count is not at the limit is raised by one
 pub raised_is : (s : Setup) (r : Ref) (to : ℕ) → r.count ≢ s.limit → raised s r to ≡ ref to (r.count + 1)

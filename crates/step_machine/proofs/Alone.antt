@@ -3,22 +3,7 @@
 use Rattle.std.proofs.Common.{◌≡◌, ◌≢◌, ℕ, suc, ◌+◌, ◌≤◌, Bool, true, false, nat_eq, nat_lt, ◌&&◌, if◌then◌else◌, [], ◌∷◌, length, replicate, Option, Some, None, IfSome, IsSomeAnd, refl, sym, ap, ◌∙◌, subst, arith}
 use Rattle.std.proofs.lemmas.Bool.{eqb-true, eq-eqb, true≢false}
 use Rattle.std.proofs.lemmas.Option.{none-some}
-use Rattle.counted_ref.specs.Ref.{Ref, is_null, same_ref}
-use Rattle.line_table.specs.declared.lines.Kind.{Kind}
-use Rattle.line_table.specs.declared.lines.Kind.TheVariants.{NonBlocking}
-use Rattle.line_table.specs.declared.lines.Line.{Line}
-use Rattle.line_table.specs.declared.lines.Line.TheVariants.{N1, N2, N3, N4, N5, F1, F2, F3, E2, E3, E5, E6, E7, E9, E13, E17, D2, D3, D4, D5, D10, D12, D13}
-use Rattle.history.specs.declared.operations.Op.{Op}
-use Rattle.history.specs.declared.operations.Op.TheVariants.{Enq, Deq}
-use Rattle.history.specs.declared.operations.Reply.{Reply}
-use Rattle.history.specs.declared.operations.Reply.TheVariants.{Done}
-use Rattle.line_steps.specs.declared.actors.Actor.{Actor}
-use Rattle.line_steps.specs.declared.actors.Outcome.{Outcome}
-use Rattle.line_steps.specs.declared.actors.Held.{Held}
-use Rattle.line_steps.specs.declared.actors.Setup.{Setup}
-use Rattle.line_steps.specs.Memory.{Shared, put, found, performed, Tail}
-use Rattle.line_steps.specs.Lines.{action, outcome, raised, goes, ends, effect, lets_go, sets_aside, with_node, dequeues, freed}
-use Rattle.line_steps.specs.Calling.{is_call, from_pocket, begun}
+use Rattle.step_machine.specs.Below.{Ref, is_null, same_ref, Kind, NonBlocking, Line, N1, N2, N3, N4, N5, F1, F2, F3, E2, E3, E5, E6, E7, E9, E13, E17, D2, D3, D4, D5, D10, D12, D13, Op, Enq, Deq, Reply, Done, Setup, Held, Actor, Outcome, Shared, put, found, performed, Tail, action, outcome, raised, goes, ends, effect, lets_go, sets_aside, with_node, dequeues, freed, is_call, from_pocket, begun}
 use Rattle.step_machine.specs.declared.actors.Move.TheVariants.{Begin, Step}
 use Rattle.step_machine.specs.Machine.{World, actor_of, with_actor, entry_or, settled, stepped, begins, steps, moved, made, next, run, run_on, IsReached}
 use Rattle.step_machine.specs.Calls.{IsIdle}
@@ -26,6 +11,7 @@ use Rattle.step_machine.specs.Places.{IsChain}
 use Rattle.step_machine.specs.Lag.{TailLags}
 use Rattle.step_machine.specs.Solo.{EndsWithin, most_steps, EndsAlone, EachEndsAlone}
 use Rattle.step_machine.specs.NonBlocking.{OfNonBlockingWorlds}
+use Rattle.step_machine.proofs.Choices.{either}
 use Rattle.step_machine.proofs.Accounts.{raised_node}
 use Rattle.step_machine.proofs.Booking.{actor_same}
 use Rattle.step_machine.proofs.Effects.{queued_once}
@@ -83,10 +69,6 @@ module _ (me : ℕ) (w : World) (a : Actor) (l : Line) (h : At me w a l) where
       record {
         ends_then = λ r. more (record { reached = r; runs = h.runs; here = actor_same w me a (after o) h.here; line = line });
       }
-
-  either : (k : ℕ) (b : Bool) (m : Shared) (x y : Outcome) → (b ≡ true → Leads k me w a m x) → (b ≡ false → Leads k me w a m y) → Leads k me w a m (if b then x else y)
-  either k true m x y hx hy = hx refl
-  either k false m x y hx hy = hy refl
 
   -- an exchange that succeeds, as what it compares with is there
   won : (k : ℕ) (b : Bool) (m m' : Shared) (x y : Outcome) → b ≡ true → Leads k me w a m x → Leads k me w a (if b then m else m') (if b then x else y)
@@ -163,8 +145,8 @@ at_E7 : (me : ℕ) (w : World) (a : Actor) → At me w a E7 → w.shared.tail �
 at_E7 me w a h was is =
     by_step 6 me w a E7 h
     (passed me w a E7 h 6 (same_ref w.shared.tail a.tail) _ _ _ (same_ref-same w.shared.tail a.tail was)
-    (either me w a E7 h 6 (is_null a.next) _ _ _ (λ n. goes_on me w a E7 h 6 _ _ E9 refl (λ g. within 2 6 _ me (omega arith) (at_E9 me _ _ g is)))
-    (λ n. either me w a E7 h 6 (nat_eq a.tail.count w.setup.limit) _ _ _ (λ b. ended me w a E7 h 6 _ _ refl) (λ b. goes_on me w a E7 h 6 _ _ E13 refl (λ g. at_E13 me _ _ g was)))))
+    (either (Leads 6 me w a _) (is_null a.next) (λ n. goes_on me w a E7 h 6 _ _ E9 refl (λ g. within 2 6 _ me (omega arith) (at_E9 me _ _ g is)))
+    (λ n. either (Leads 6 me w a _) (nat_eq a.tail.count w.setup.limit) (λ b. ended me w a E7 h 6 _ _ refl) (λ b. goes_on me w a E7 h 6 _ _ E13 refl (λ g. at_E13 me _ _ g was)))))
 
 at_E6 : (me : ℕ) (w : World) (a : Actor) → At me w a E6 → w.shared.tail ≡ a.tail → EndsWithin 8 w me
 at_E6 me w a h was = by_step 7 me w a E6 h (goes_on me w a E6 h 7 _ _ E7 refl (λ g. at_E7 me _ _ g was refl))
@@ -176,7 +158,7 @@ at_E5 me w a h = by_step 8 me w a E5 h (goes_on me w a E5 h 8 _ _ E6 refl (λ g.
 at_E3 : (me : ℕ) (w : World) (a : Actor) → At me w a E3 → EndsWithin 10 w me
 at_E3 me w a h =
     by_step 9 me w a E3 h
-    (either me w a E3 h 9 (nat_eq (next_of w.shared a.node).count w.setup.limit) _ _ _ (λ b. ended me w a E3 h 9 _ _ refl) (λ b. goes_on me w a E3 h 9 _ _ E5 refl (λ g. at_E5 me _ _ g)))
+    (either (Leads 9 me w a _) (nat_eq (next_of w.shared a.node).count w.setup.limit) (λ b. ended me w a E3 h 9 _ _ refl) (λ b. goes_on me w a E3 h 9 _ _ E5 refl (λ g. at_E5 me _ _ g)))
 
 at_E2 : (me : ℕ) (w : World) (a : Actor) → At me w a E2 → EndsWithin 11 w me
 at_E2 me w a h = by_step 10 me w a E2 h (goes_on me w a E2 h 10 _ _ E3 refl (λ g. at_E3 me _ _ g))
@@ -202,9 +184,9 @@ at_N3 me w a h was = by_step 12 me w a N3 h (goes_on me w a N3 h 12 _ _ N4 refl 
 at_N2 : (me : ℕ) (w : World) (a : Actor) → At me w a N2 → w.shared.fresh ≡ a.f → EndsWithin 14 w me
 at_N2 me w a h was =
     by_step 13 me w a N2 h
-    (either me w a N2 h 13 (is_null w.shared.free) _ _ _
-    (λ n. either me w a N2 h 13 (nat_lt a.f w.setup.size) _ _ _ (λ b. goes_on me w a N2 h 13 _ _ N5 refl (λ g. within 12 13 _ me (omega arith) (at_N5 me _ _ g was))) (λ b. ended me w a N2 h 13 _ _ refl))
-    (λ n. either me w a N2 h 13 (nat_eq w.shared.free.count w.setup.limit) _ _ _ (λ b. ended me w a N2 h 13 _ _ refl) (λ b. goes_on me w a N2 h 13 _ _ N3 refl (λ g. at_N3 me _ _ g refl))))
+    (either (Leads 13 me w a _) (is_null w.shared.free)
+    (λ n. either (Leads 13 me w a _) (nat_lt a.f w.setup.size) (λ b. goes_on me w a N2 h 13 _ _ N5 refl (λ g. within 12 13 _ me (omega arith) (at_N5 me _ _ g was))) (λ b. ended me w a N2 h 13 _ _ refl))
+    (λ n. either (Leads 13 me w a _) (nat_eq w.shared.free.count w.setup.limit) (λ b. ended me w a N2 h 13 _ _ refl) (λ b. goes_on me w a N2 h 13 _ _ N3 refl (λ g. at_N3 me _ _ g refl))))
 
 at_N1 : (me : ℕ) (w : World) (a : Actor) → At me w a N1 → EndsWithin 15 w me
 at_N1 me w a h = by_step 14 me w a N1 h (goes_on me w a N1 h 14 _ _ N2 refl (λ g. at_N2 me _ _ g refl))
@@ -233,7 +215,7 @@ at_F2 k me w a h was more = by_step (k + 1) me w a F2 h (goes_on me w a F2 h (k 
 at_F1 : (k me : ℕ) (w : World) (a : Actor) → At me w a F1 → Then k me a.due → EndsWithin (k + 1 + 1 + 1) w me
 at_F1 k me w a h more =
     by_step (k + 1 + 1) me w a F1 h
-    (either me w a F1 h (k + 1 + 1) (nat_eq w.shared.free.count w.setup.limit) _ _ _
+    (either (Leads (k + 1 + 1) me w a _) (nat_eq w.shared.free.count w.setup.limit)
     (λ b. after_setting_aside (k + 1 + 1) me w a F1 h _ a.due w.setup.kind (w.steps + 1) _ h.runs (λ e v c g. within k (k + 1 + 1) v me (omega arith) (more e v c g)))
     (λ b. goes_on me w a F1 h (k + 1 + 1) _ _ F2 refl (λ g. at_F2 k me _ _ g refl more)))
 
@@ -247,13 +229,13 @@ at_D13 me w a h was =
 at_D12 : (me : ℕ) (w : World) (a : Actor) → At me w a D12 → w.shared.head ≡ a.head → EndsWithin 5 w me
 at_D12 me w a h was =
     by_step 4 me w a D12 h
-    (either me w a D12 h 4 (nat_eq a.head.count w.setup.limit) _ _ _ (λ b. ended me w a D12 h 4 _ _ refl) (λ b. goes_on me w a D12 h 4 _ _ D13 refl (λ g. at_D13 me _ _ g was)))
+    (either (Leads 4 me w a _) (nat_eq a.head.count w.setup.limit) (λ b. ended me w a D12 h 4 _ _ refl) (λ b. goes_on me w a D12 h 4 _ _ D13 refl (λ g. at_D13 me _ _ g was)))
 
 at_D5_apart : (me : ℕ) (w : World) (a : Actor) → At me w a D5 → w.shared.head ≡ a.head → a.tail.node ≢ a.head.node → EndsWithin 6 w me
 at_D5_apart me w a h was apart =
     by_step 5 me w a D5 h
     (passed me w a D5 h 5 (same_ref w.shared.head a.head) _ _ _ (same_ref-same w.shared.head a.head was)
-    (either me w a D5 h 5 (nat_eq a.head.node a.tail.node) _ _ _ (λ b. absurd (apart (sym (eqb-true a.head.node a.tail.node b)))) (λ b. goes_on me w a D5 h 5 _ _ D12 refl (λ g. at_D12 me _ _ g was))))
+    (either (Leads 5 me w a _) (nat_eq a.head.node a.tail.node) (λ b. absurd (apart (sym (eqb-true a.head.node a.tail.node b)))) (λ b. goes_on me w a D5 h 5 _ _ D12 refl (λ g. at_D12 me _ _ g was))))
 
 at_D4_apart : (me : ℕ) (w : World) (a : Actor) → At me w a D4 → w.shared.head ≡ a.head → a.tail.node ≢ a.head.node → EndsWithin 7 w me
 at_D4_apart me w a h was apart = by_step 6 me w a D4 h (goes_on me w a D4 h 6 _ _ D5 refl (λ g. at_D5_apart me _ _ g was apart))
@@ -278,9 +260,9 @@ at_D5 : (me : ℕ) (w : World) (a : Actor) → At me w a D5 → w.shared.head �
 at_D5 me w a h front was =
     by_step 10 me w a D5 h
     (passed me w a D5 h 10 (same_ref w.shared.head a.head) _ _ _ (same_ref-same w.shared.head a.head front)
-    (either me w a D5 h 10 (nat_eq a.head.node a.tail.node) _ _ _
-    (λ b. either me w a D5 h 10 (is_null a.next) _ _ _ (λ n. ended me w a D5 h 10 _ _ refl)
-    (λ n. either me w a D5 h 10 (nat_eq a.tail.count w.setup.limit) _ _ _ (λ d. ended me w a D5 h 10 _ _ refl) (λ d. goes_on me w a D5 h 10 _ _ D10 refl (λ g. at_D10 me _ _ g was))))
+    (either (Leads 10 me w a _) (nat_eq a.head.node a.tail.node)
+    (λ b. either (Leads 10 me w a _) (is_null a.next) (λ n. ended me w a D5 h 10 _ _ refl)
+    (λ n. either (Leads 10 me w a _) (nat_eq a.tail.count w.setup.limit) (λ d. ended me w a D5 h 10 _ _ refl) (λ d. goes_on me w a D5 h 10 _ _ D10 refl (λ g. at_D10 me _ _ g was))))
     (λ b. goes_on me w a D5 h 10 _ _ D12 refl (λ g. within 5 10 _ me (omega arith) (at_D12 me _ _ g front)))))
 
 at_D4 : (me : ℕ) (w : World) (a : Actor) → At me w a D4 → w.shared.head ≡ a.head → w.shared.tail ≡ a.tail → EndsWithin 12 w me

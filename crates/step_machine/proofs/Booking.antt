@@ -7,23 +7,15 @@ use Rattle.std.specs.Prelude.{slice_get, IsSome}
 use Rattle.std.proofs.lemmas.Bool.{eqb-false, ltb-true, ltb-false}
 use Rattle.std.proofs.lemmas.List.{map-append}
 use Rattle.std.proofs.lemmas.Option.{none-some, same_Some, slice_get_within, get_or_from_slice_get}
-use Rattle.line_table.specs.declared.lines.Line.{Line}
-use Rattle.line_table.specs.declared.lines.Line.TheVariants.{F1, F2, F3, E17, A6, A7, B6, D5}
-use Rattle.history.specs.declared.operations.Op.{Op}
-use Rattle.history.specs.declared.operations.Reply.{Reply}
-use Rattle.history.specs.declared.operations.Reply.TheVariants.{Done, Value, Empty, Refused}
-use Rattle.history.specs.declared.operations.Stamped.{Stamped}
-use Rattle.history.specs.History.{inserted, rising}
-use Rattle.line_steps.specs.declared.actors.Actor.{Actor}
-use Rattle.line_steps.specs.declared.actors.Outcome.{Outcome}
-use Rattle.line_steps.specs.Memory.{Shared}
+use Rattle.step_machine.specs.Below.{Line, F1, F2, F3, E17, A6, A7, B6, D5, Op, Reply, Done, Value, Empty, Refused, Stamped, inserted, rising, Actor, Outcome, Shared}
 use Rattle.step_machine.specs.Machine.{World, actor_of, new_operation, told, recorded, entry_or, first_settled, settled, with_actor}
 use Rattle.step_machine.specs.Places.{one_if}
 use Rattle.step_machine.specs.Promises.{earned, due_of, promised_reply, is_value}
 use Rattle.step_machine.specs.Stamps.{IsBy, IsStamped}
+use Rattle.step_machine.proofs.Reached.{actor_stands}
 use Rattle.step_machine.proofs.StampsLists.{same_or_not, slice_get-set_same, slice_get-set_other, put_set, put_end, by_within}
 use Rattle.step_machine.proofs.StampsLines.{Earned, Stands, stands_while, GoesOn, Turns}
-use Rattle.step_machine.proofs.StampsKept.{Over, Operations, Idle, Busy, Knows, Kept, Does, actor_stands, settled_kept}
+use Rattle.step_machine.proofs.StampsKept.{Over, Operations, Idle, Busy, Knows, Kept, Does, settled_kept}
 use Rattle.step_machine.proofs.StampsLaws.{apart}
 use Rattle.step_machine.proofs.Fixed.{EarnedAt, EarnedFreeing, EarnedUnlocking}
 use Rattle.step_machine.proofs.Accounts.{KeepsReply}
@@ -132,10 +124,8 @@ pub record Books (w v : World) (me : ℕ) (a : Actor) (o : Outcome) : Type 0 whe
 -- a call that has earned nothing has no place: one that frees a node, one that lets the head lock go, and any
 freeing : (due : Option Reply) (at : Option ℕ) → Earned due at (Unit {0}) → EarnedFreeing due → earned due ≡ None → at ≡ None
 freeing None at h e n = h
-freeing (Some Done) at h e n = absurd e
 freeing (Some (Value v)) at h e n = cc
-freeing (Some Empty) at h e n = absurd e
-freeing (Some (Refused why)) at h e n = absurd e
+freeing _ at h e n = absurd e
 
 unlocking : (due : Option Reply) (at : Option ℕ) → Earned due at (Unit {0}) → EarnedUnlocking due → earned due ≡ None → at ≡ None
 unlocking None at h e n = absurd e

@@ -3,8 +3,7 @@
 -- last one. `chain_same` says that a chain is determined by where it starts.
 use Rattle.std.proofs.Common.{◌≡◌, ◌≢◌, ℕ, ◌+◌, ◌-◌, ◌≤◌, nat_eq, List, [], ◌∷◌, ◌++◌, length, get_or, refl, sym, ap, ◌∙◌, subst, arith, ◌⊎◌, inl, inr}
 use Rattle.std.proofs.lemmas.Bool.Decides.{eqb_tells}
-use Rattle.line_steps.specs.declared.actors.Node.{Node}
-use Rattle.line_steps.specs.Memory.{blank}
+use Rattle.step_machine.specs.Below.{Node, blank}
 use Rattle.step_machine.specs.Places.{IsChain, one_if, times}
 use Rattle.step_machine.specs.Chains.{last_node}
 

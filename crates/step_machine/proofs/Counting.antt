@@ -5,13 +5,10 @@ use Rattle.std.proofs.Common.{◌≡◌, ◌≢◌, ℕ, zero, suc, ◌+◌, ◌
 use Rattle.std.specs.Prelude.{slice_get}
 use Rattle.std.proofs.lemmas.Option.{none-some, same_Some}
 use Rattle.std.proofs.lemmas.Bool.{leb-true, leb-false, le-leb, lt-leb}
-use Rattle.line_steps.specs.declared.actors.Actor.{Actor}
-use Rattle.line_steps.specs.declared.actors.Outcome.{Outcome}
-use Rattle.line_steps.specs.Memory.{Shared}
-use Rattle.line_steps.specs.Rooms.{aside_after}
+use Rattle.step_machine.specs.Below.{Actor, Outcome, Shared, aside_after}
 use Rattle.step_machine.specs.Machine.{World, actor_of, settled, entry_or, with_actor}
 use Rattle.step_machine.specs.Places.{one_if, in_hand, in_pocket, held, set_aside}
-use Rattle.step_machine.proofs.StampsKept.{actor_stands}
+use Rattle.step_machine.proofs.Reached.{actor_stands}
 use Rattle.step_machine.proofs.Chains.{one_if_tells, one_if_same, one_if_other}
 
 -- how often one actor holds a node

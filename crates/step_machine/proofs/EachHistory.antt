@@ -1,17 +1,12 @@
 -- What is proved of each queue by itself, said of both at once.
 use Rattle.std.proofs.Common.{◌≡◌, ℕ, List, [], ◌∷◌, Option, Some, None, IfSome, refl, sym, subst, ◌∙◌}
 use Rattle.std.proofs.lemmas.Option.{IfSome_then}
-use Rattle.line_table.specs.declared.lines.Kind.{Kind}
-use Rattle.line_table.specs.declared.lines.Kind.TheVariants.{TwoLock, NonBlocking}
-use Rattle.history.specs.History.{Placement, IsLegal}
-use Rattle.line_steps.specs.declared.actors.Setup.{Setup}
+use Rattle.step_machine.specs.Below.{Kind, TwoLock, NonBlocking, Placement, IsLegal, Setup}
 use Rattle.step_machine.specs.Machine.{World, opening, AnyMove, next_any, run, run_on, IsSized, IsReached, IsMade}
-use Rattle.step_machine.specs.TwoLock.{ReplaysToItsValues}
 use Rattle.step_machine.specs.Histories.{OfEachWorld, OfEachHistory}
 use Rattle.step_machine.proofs.Reached.{if_some, some_of, setup-next_any, made_reached}
 use Rattle.step_machine.proofs.StampsLaws.{histories_are_placed}
-use Rattle.step_machine.proofs.TwoLockLegal.{histories_are_legal as legal_two_lock, replay_to_the_values as replay_two_lock}
-use Rattle.step_machine.proofs.NonBlockingLegal.{histories_are_legal as legal_non_blocking, replay_to_the_values as replay_non_blocking}
+pub use Rattle.step_machine.proofs.EachLegal.{histories_are_legal, replay_to_the_values}
 
 -- what holds of each world of either queue holds of each world
 pub of_both : (P : World → Type 0) → ((w : World) → IsReached w → w.setup.kind ≡ TwoLock → P w) → ((w : World) → IsReached w → w.setup.kind ≡ NonBlocking → P w) → OfEachWorld P
@@ -44,11 +39,7 @@ reached_by s actors moves w sized led =
       led = subst (λ t. run moves (opening t actors) ≡ Some w) (sym same) led;
     }
 
--- the history of each world that is reached is legal
-pub reached_legal : OfEachWorld (λ w. IsLegal w.operations)
-reached_legal = of_both (λ w. IsLegal w.operations) legal_two_lock legal_non_blocking
-
--- and placed
+-- the history of each world that is reached is placed
 pub reached_placed : OfEachWorld (λ w. Placement w.operations)
 reached_placed w r =
     some_of (λ v. Placement v.operations) (run r.moves (opening w.setup r.actors)) w r.led (histories_are_placed w.setup r.actors r.moves)
@@ -59,15 +50,11 @@ each_placed s actors moves sized = histories_are_placed s actors moves
 
 pub each_legal : OfEachHistory IsLegal
 each_legal s actors moves sized =
-    if_some (λ w. IsLegal w.operations) (run moves (opening s actors)) (λ w led. reached_legal w (reached_by s actors moves w sized led))
-
--- the operations of each world replay to its values
-pub replay_to_the_values : OfEachWorld ReplaysToItsValues
-replay_to_the_values = of_both ReplaysToItsValues replay_two_lock replay_non_blocking
+    if_some (λ w. IsLegal w.operations) (run moves (opening s actors)) (λ w led. histories_are_legal w (reached_by s actors moves w sized led))
 
 -- the history of each world that calls lead to
 pub made_placed : (w : World) → IsMade w → Placement w.operations
 made_placed w m = reached_placed w (made_reached w m)
 
 pub made_legal : (w : World) → IsMade w → IsLegal w.operations
-made_legal w m = reached_legal w (made_reached w m)
+made_legal w m = histories_are_legal w (made_reached w m)

@@ -1,29 +1,15 @@
 -- Which lines give an operation a place by an effect, and that no other one does.
 use Rattle.std.proofs.Common.{◌≡◌, ℕ, Bool, true, false, nat_eq, nat_lt, if◌then◌else◌, Option, Some, None, IfSome, refl, sym, ◌∙◌, ◌⊎◌, inl, inr}
 use Rattle.std.proofs.lemmas.Option.{none-some, same_Some}
-use Rattle.counted_ref.specs.Ref.{is_null, same_ref}
+use Rattle.step_machine.specs.Below.{is_null, same_ref, Kind, TwoLock, NonBlocking, Line, N1, N2, N4, N5, F1, F3, E3, E5, E7, E9, D2, D5, D12, D13, A3, A5, B1, B3, B4, B5, B6, Reply, Done, Value, Empty, Refused, Setup, Actor, Outcome, Shared, node_at, found, action, outcome, ends, sets_aside, freed, unlocked, busy_or, gives_up}
 use Rattle.counted_ref.proofs.Words.{same_ref-true, same_ref-equal}
-use Rattle.line_table.specs.declared.lines.Kind.{Kind}
-use Rattle.line_table.specs.declared.lines.Kind.TheVariants.{TwoLock, NonBlocking}
-use Rattle.line_table.specs.declared.lines.Line.{Line}
-use Rattle.line_table.specs.declared.lines.Line.TheVariants.{N1, N2, N3, N4, N5, F1, F2, F3, E2, E3, E5, E6, E7, E9, E13, E17, D2, D3, D4, D5, D10, D12, D13, A1, A2, A3, A4, A5, A6, A7, B1, B2, B3, B4, B5, B6}
-use Rattle.history.specs.declared.operations.Reply.{Reply}
-use Rattle.history.specs.declared.operations.Reply.TheVariants.{Done, Value, Empty, Refused}
-use Rattle.line_steps.specs.declared.actors.Setup.{Setup}
-use Rattle.line_steps.specs.declared.actors.Actor.{Actor}
-use Rattle.line_steps.specs.declared.actors.Outcome.{Outcome}
-use Rattle.line_steps.specs.Memory.{Shared, node_at, found}
-use Rattle.line_steps.specs.Lines.{action, outcome, ends, sets_aside, freed, unlocked, busy_or, gives_up}
 use Rattle.step_machine.specs.TakingEffect.{HasEffect, IsByEffect}
+use Rattle.step_machine.proofs.Choices.{both}
 use Rattle.step_machine.proofs.Reached.{some_of}
 
 -- an outcome gives no place, or it is told empty or refused
 abbrev pub Quiet : Outcome → Type 0
 Quiet o = (o.at ≡ None) ⊎ (IsByEffect o.reply → ⊥)
-
-both : (b : Bool) (x y : Outcome) → Quiet x → Quiet y → Quiet (if b then x else y)
-both true x y h g = h
-both false x y h g = g
 
 ends_quiet : (now : ℕ) (reply : Reply) (a : Actor) → Quiet (ends now reply a)
 ends_quiet now Done a = inl refl
@@ -40,11 +26,9 @@ aside_quiet : (o : Outcome) → Quiet o → Quiet (sets_aside o)
 aside_quiet o h = h
 
 unlocked_quiet : (now : ℕ) (due : Option Reply) (a : Actor) → Quiet (unlocked now due a)
-unlocked_quiet now None a = inl refl
-unlocked_quiet now (Some (Value v)) a = inl refl
-unlocked_quiet now (Some Done) a = inl refl
 unlocked_quiet now (Some Empty) a = inr (λ h. h)
 unlocked_quiet now (Some (Refused why)) a = inr (λ h. h)
+unlocked_quiet now _ a = inl refl
 
 -- an outcome gives a place by an effect exactly where there is one, and then its own number
 pub record Effects (E : Type 0) (now : ℕ) (o : Outcome) : Type 0 where
@@ -70,57 +54,40 @@ line_effects s now me a D13 m =
     exchanged _ now (same_ref m.head a.head) _ _ (same_ref-true _ _) (same_ref-equal _ _) refl refl
 line_effects s now me a A5 m = record { by = λ n e may. (same_Some n now (sym e), tt); gives = λ h. refl }
 line_effects s now me a B5 m = record { by = λ n e may. (same_Some n now (sym e), tt); gives = λ h. refl }
-line_effects s now me a N1 m = quietly now _ (inl refl)
 line_effects s now me a N2 m =
     quietly now _
-    (both (is_null m.free) _ _ (both (nat_lt a.f s.size) _ _ (inl refl) (inr (λ h. h)))
-    (both (nat_eq m.free.count s.limit) _ _ (inr (λ h. h)) (inl refl)))
-line_effects s now me a N3 m = quietly now _ (inl refl)
-line_effects s now me a N4 m = quietly now _ (both (same_ref m.free a.top) _ _ (inl refl) (inl refl))
-line_effects s now me a N5 m = quietly now _ (both (nat_eq m.fresh a.f) _ _ (inl refl) (inl refl))
+    (both Quiet (is_null m.free) (both Quiet (nat_lt a.f s.size) (inl refl) (inr (λ h. h)))
+    (both Quiet (nat_eq m.free.count s.limit) (inr (λ h. h)) (inl refl)))
+line_effects s now me a N4 m = quietly now _ (both Quiet (same_ref m.free a.top) (inl refl) (inl refl))
+line_effects s now me a N5 m = quietly now _ (both Quiet (nat_eq m.fresh a.f) (inl refl) (inl refl))
 line_effects s now me a F1 m =
     quietly now _
-    (both (nat_eq m.free.count s.limit) _ _ (aside_quiet (freed s.kind now a.due (record a { top = m.free })) (freed_quiet s.kind now a.due (record a { top = m.free }))) (inl refl))
-line_effects s now me a F2 m = quietly now _ (inl refl)
+    (both Quiet (nat_eq m.free.count s.limit) (aside_quiet (freed s.kind now a.due (record a { top = m.free })) (freed_quiet s.kind now a.due (record a { top = m.free }))) (inl refl))
 line_effects s now me a F3 m =
-    quietly now _ (both (same_ref m.free a.top) _ _ (freed_quiet s.kind now a.due (record a { holds = false })) (inl refl))
-line_effects s now me a E2 m = quietly now _ (inl refl)
+    quietly now _ (both Quiet (same_ref m.free a.top) (freed_quiet s.kind now a.due (record a { holds = false })) (inl refl))
 line_effects s now me a E3 m =
-    quietly now _ (both (nat_eq (node_at m a.node).next.count s.limit) _ _ (inr (λ h. h)) (inl refl))
-line_effects s now me a E5 m = quietly now _ (inl refl)
-line_effects s now me a E6 m = quietly now _ (inl refl)
+    quietly now _ (both Quiet (nat_eq (node_at m a.node).next.count s.limit) (inr (λ h. h)) (inl refl))
 line_effects s now me a E7 m =
     quietly now _
-    (both (same_ref m.tail a.tail) _ _
-    (both (is_null a.next) _ _ (inl refl) (both (nat_eq a.tail.count s.limit) _ _ (inr (λ h. h)) (inl refl)))
+    (both Quiet (same_ref m.tail a.tail)
+    (both Quiet (is_null a.next) (inl refl) (both Quiet (nat_eq a.tail.count s.limit) (inr (λ h. h)) (inl refl)))
     (inl refl))
-line_effects s now me a E13 m = quietly now _ (inl refl)
-line_effects s now me a E17 m = quietly now _ (inl refl)
-line_effects s now me a D2 m = quietly now _ (inl refl)
-line_effects s now me a D3 m = quietly now _ (inl refl)
-line_effects s now me a D4 m = quietly now _ (inl refl)
 line_effects s now me a D5 m =
     quietly now _
-    (both (same_ref m.head a.head) _ _
-    (both (nat_eq a.head.node a.tail.node) _ _
-    (both (is_null a.next) _ _ (inr (λ h. h)) (both (nat_eq a.tail.count s.limit) _ _ (inr (λ h. h)) (inl refl)))
+    (both Quiet (same_ref m.head a.head)
+    (both Quiet (nat_eq a.head.node a.tail.node)
+    (both Quiet (is_null a.next) (inr (λ h. h)) (both Quiet (nat_eq a.tail.count s.limit) (inr (λ h. h)) (inl refl)))
     (inl refl))
     (inl refl))
-line_effects s now me a D10 m = quietly now _ (inl refl)
 line_effects s now me a D12 m =
-    quietly now _ (both (nat_eq a.head.count s.limit) _ _ (inr (λ h. h)) (inl refl))
-line_effects s now me a A1 m = quietly now _ (inl refl)
-line_effects s now me a A2 m = quietly now _ (inl refl)
-line_effects s now me a A3 m = quietly now _ (both (nat_eq m.tail_lock 0) _ _ (inl refl) (inl refl))
-line_effects s now me a A4 m = quietly now _ (inl refl)
-line_effects s now me a A6 m = quietly now _ (inl refl)
-line_effects s now me a A7 m = quietly now _ (inl refl)
-line_effects s now me a B1 m = quietly now _ (both (nat_eq m.head_lock 0) _ _ (inl refl) (inl refl))
-line_effects s now me a B2 m = quietly now _ (inl refl)
+    quietly now _ (both Quiet (nat_eq a.head.count s.limit) (inr (λ h. h)) (inl refl))
+line_effects s now me a A3 m = quietly now _ (both Quiet (nat_eq m.tail_lock 0) (inl refl) (inl refl))
+line_effects s now me a B1 m = quietly now _ (both Quiet (nat_eq m.head_lock 0) (inl refl) (inl refl))
 line_effects s now me a B3 m =
-    quietly now _ (both (is_null (node_at m a.head.node).next) _ _ (inl refl) (inl refl))
-line_effects s now me a B4 m = quietly now _ (both (nat_eq a.head.count s.limit) _ _ (inl refl) (inl refl))
+    quietly now _ (both Quiet (is_null (node_at m a.head.node).next) (inl refl) (inl refl))
+line_effects s now me a B4 m = quietly now _ (both Quiet (nat_eq a.head.count s.limit) (inl refl) (inl refl))
 line_effects s now me a B6 m = quietly now _ (unlocked_quiet now a.due a)
+line_effects s now me a _ m = quietly now _ (inl refl)
 
 busy_or_quiet : (now : ℕ) (due : Option Reply) (a : Actor) → IfSome (busy_or now due a) Quiet
 busy_or_quiet now None a = inr (λ h. h)

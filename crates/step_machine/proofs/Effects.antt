@@ -15,10 +15,7 @@
 -- `queue_kept` and `value_kept` that those of the chains do.
 use Rattle.std.proofs.Common.{◌≡◌, ◌≢◌, ℕ, zero, suc, ◌+◌, ◌-◌, ◌≤◌, nat_eq, List, [], ◌∷◌, ◌++◌, length, set, Option, Some, None, refl, sym, ap, ◌∙◌, subst, arith, get_or-set_other, get_or-set_same, ◌⊎◌, inl, inr}
 use Rattle.std.proofs.Math.ListN.{length-set}
-use Rattle.counted_ref.specs.Ref.{Ref}
-use Rattle.line_steps.specs.declared.actors.Actor.{Actor}
-use Rattle.line_steps.specs.declared.actors.Node.{Node}
-use Rattle.line_steps.specs.Memory.{blank, Shared, node_at, put, Fresh, Free, Head, Next}
+use Rattle.step_machine.specs.Below.{Ref, Node, Actor, blank, Shared, node_at, put, Fresh, Free, Head, Next}
 use Rattle.step_machine.specs.Places.{IsChain, one_if, times}
 use Rattle.step_machine.specs.Chains.{last_node, values_of}
 use Rattle.step_machine.proofs.Chains.{node_in, next_in, one_if_same, one_if_other, chain_kept, chain_linked, last_times, last_within, last_leads, times-append}

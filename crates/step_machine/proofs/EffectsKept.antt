@@ -1,25 +1,15 @@
 -- What each list of moves leaves of effects: the places that they gave, and no others.
-use Rattle.std.proofs.Common.{◌≡◌, ◌≢◌, ℕ, suc, ◌+◌, ◌≤◌, ◌⊎◌, inl, inr, Bool, true, false, if◌then◌else◌, List, [], ◌∷◌, ◌++◌, length, map, drop, get_or, Option, Some, None, IfSome, set, refl, sym, subst, ap, ◌∙◌, append_assoc, append-nil, length-append, arith}
+use Rattle.std.proofs.Common.{◌≡◌, ◌≢◌, ℕ, ◌+◌, ◌≤◌, ◌⊎◌, inl, inr, Bool, true, false, List, [], ◌∷◌, ◌++◌, length, map, drop, get_or, Option, Some, None, IfSome, set, refl, sym, subst, ap, ◌∙◌, append_assoc, append-nil, length-append, arith}
 use Rattle.std.specs.Prelude.{slice_get, IsSome}
 use Rattle.std.specs.List.{AllByRecursion}
 use Rattle.std.proofs.lemmas.Option.{none-some, same_Some, get_or_from_slice_get, IfSome_then}
-use Rattle.line_table.specs.declared.lines.Line.{Line}
-use Rattle.line_table.specs.declared.lines.Line.TheVariants.{E9, D13, A5, B5}
-use Rattle.history.specs.declared.operations.Op.{Op}
-use Rattle.history.specs.declared.operations.Reply.{Reply}
-use Rattle.history.specs.declared.operations.Stamped.{Stamped}
-use Rattle.line_steps.specs.declared.actors.Setup.{Setup}
-use Rattle.line_steps.specs.declared.actors.Actor.{Actor}
-use Rattle.line_steps.specs.declared.actors.Outcome.{Outcome}
-use Rattle.line_steps.specs.Memory.{Shared}
-use Rattle.line_steps.specs.Lines.{gives_up}
-use Rattle.line_steps.specs.Calling.{is_call, begun}
-use Rattle.step_machine.specs.declared.actors.Move.{Move}
+use Rattle.step_machine.specs.Below.{Line, E9, D13, A5, B5, Reply, Stamped, Setup, Actor, Outcome, Shared}
 use Rattle.step_machine.specs.declared.actors.Move.TheVariants.{Begin, Step, Give}
-use Rattle.step_machine.specs.Machine.{World, opening, actor_of, rested, with_actor, new_operation, told, recorded, first_settled, begins, steps, given, gives, may_rest, rests, moved, mover, rest_of, AnyMove, made, Rest, next_any, run_on, run}
+use Rattle.step_machine.specs.Machine.{World, opening, actor_of, new_operation, told, recorded, first_settled, stepped, AnyMove, made, Rest, next_any, run_on, run}
 use Rattle.step_machine.specs.TakingEffect.{HasEffect, TookEffect, IsByEffect, ArePlacedByEffect, HaveTheirEffect, OfOperations, OfOperationsOfCalls, HavePlacesByItsEffects}
-use Rattle.step_machine.proofs.Reached.{some_of}
-use Rattle.step_machine.proofs.StampsLists.{PutAt, put_set, put_end, put_cases}
+use Rattle.step_machine.proofs.AnyMoves.{after_move}
+use Rattle.step_machine.proofs.Reached.{some_of, if_some}
+use Rattle.step_machine.proofs.StampsLists.{PutAt, put_set, put_end, put_cases, all_of}
 use Rattle.step_machine.proofs.StampsLines.{Stands}
 use Rattle.step_machine.proofs.StampsKept.{Over, Knows, Kept}
 use Rattle.step_machine.proofs.StampsMoves.{May, moves_kept, may_rest_all, calls_rest_never}
@@ -217,72 +207,47 @@ module _ (Rests : Type 0) (s : Setup) (n : ℕ) where
     abbrev After : AnyMove → World → Type 0
     After m v = Known (done ++ m ∷ []) v.operations v.steps
 
-    begins_known : (me : ℕ) (op : Op) (a : Actor) (l : Option Line) → IfSome (begins w me op a l) (After (made (Begin me op)))
-    begins_known me op a (Some l) = tt
-    begins_known me op a None = go (is_call op)
-      where
-        go : (b : Bool) → IfSome (if b then Some (with_actor w me (begun w.setup.kind me op a)) else None) (After (made (Begin me op)))
-        go false = tt
-        go true = still done w (made (Begin me op)) refl led h
-
-    steps_known : (me : ℕ) (a : Actor) → actor_of w me ≡ Some a → (l : Option Line) → a.line ≡ l → Knows Rests K w.operations me l a.entry a.due a.noted → IfSome (steps w me a l) (After (made (Step me)))
-    steps_known me a is None at knows = tt
-    steps_known me a is (Some l) at knows =
-        settled_known done w (made (Step me)) me _ (HasEffect w.shared a l) K led kept h (line_effects w.setup (w.steps + 1) me a l w.shared)
-        (λ x. record {
-          before = done;
-          after = [];
-          world = w;
-          actor = a;
-          line = l;
-          moves_are = refl;
-          led = led;
-          numbered = refl;
-          here = is;
-          at_line = at;
-          effect = x;
-        })
-        by_it a l (λ at Noted x stands. effect_first w.shared a l a.due at Noted x stands) a.entry knows
-      where
-        by_it : (you k : ℕ) → made (Step me) ≡ made (Step you) → Now w you k → (you ≡ me) × (k ≡ w.steps + 1) × HasEffect w.shared a l
-        by_it you k e now =
-            let same : you ≡ me = sym (ap who e) in
-            let actor : now.0 ≡ a = same_Some now.0 a (sym now.3 ∙ ap (actor_of w) same ∙ is) in
-            let line : now.1 ≡ l = same_Some now.1 l (sym now.4 ∙ ap (λ (b : Actor). b.line) actor ∙ at) in
-            (same, now.2, subst (λ b. HasEffect w.shared b l) actor (subst (λ j. HasEffect w.shared now.0 j) line now.5))
-
-    gives_known : (me : ℕ) (a : Actor) → (l : Option Line) → Knows Rests K w.operations me l a.entry a.due a.noted → IfSome (gives w me a l) (After (made (Give me)))
-    gives_known me a None knows = tt
-    gives_known me a (Some l) knows = go (gives_up (w.steps + 1) a l) refl
-      where
-        go : (o : Option Outcome) → gives_up (w.steps + 1) a l ≡ o → IfSome (given w me a o) (After (made (Give me)))
-        go None e = tt
-        go (Some o) e =
-            settled_known done w (made (Give me)) me o ⊥ K led kept h (give_effects (w.steps + 1) a l o e) (λ x. absurd x)
-            (λ you k is now. absurd (let f : false ≡ true = ap is_step is in cc))
-            a l (λ at Noted x stands. absurd x) a.entry knows
-
-    rests_known : (me : ℕ) (a : Actor) (l : Option Line) → IfSome (rests w me a l) (After (Rest me))
-    rests_known me a None = tt
-    rests_known me a (Some l) = go (may_rest l)
-      where
-        go : (b : Bool) → IfSome (if b then Some (with_actor w me (rested a)) else None) (After (Rest me))
-        go false = tt
-        go true = still done w (Rest me) refl led h
-
-    moved_known : (m : Move) (o : Option Actor) → actor_of w (mover m) ≡ o → IfSome (moved w m o) (After (made m))
-    moved_known m None is = tt
-    moved_known (Begin me op) (Some a) is = begins_known me op a a.line
-    moved_known (Step me) (Some a) is = steps_known me a is a.line refl (kept.actors me a is)
-    moved_known (Give me) (Some a) is = gives_known me a a.line (kept.actors me a is)
-
-    rest_known : (me : ℕ) (o : Option Actor) → IfSome (rest_of w me o) (After (Rest me))
-    rest_known me None = tt
-    rest_known me (Some a) = rests_known me a a.line
-
     next_known : (m : AnyMove) → IfSome (next_any w m) (After m)
-    next_known (made m) = moved_known m (actor_of w (mover m)) refl
-    next_known (Rest me) = rest_known me (actor_of w me)
+    next_known m =
+        after_move w After
+        (record {
+          began = λ me op a is e call. still done w (made (Begin me op)) refl led h;
+          step = λ me a l is at. stepped_known me a l is at;
+          gave_up = λ me a l o is at given.
+              settled_known done w (made (Give me)) me o ⊥ K led kept h (give_effects (w.steps + 1) a l o given) (λ x. absurd x)
+              (λ you k is now. absurd (let f : false ≡ true = ap is_step is in cc))
+              a l (λ at Noted x stands. absurd x) a.entry (knows me a l is at);
+          at_rest = λ me a l is at may. still done w (Rest me) refl led h;
+        })
+        m
+      where
+        knows : (me : ℕ) (a : Actor) (l : Line) → actor_of w me ≡ Some a → a.line ≡ Some l → Knows Rests K w.operations me (Some l) a.entry a.due a.noted
+        knows me a l is at = subst (λ x. Knows Rests K w.operations me x a.entry a.due a.noted) at (kept.actors me a is)
+
+        stepped_known : (me : ℕ) (a : Actor) (l : Line) → actor_of w me ≡ Some a → a.line ≡ Some l → After (made (Step me)) (stepped w me a l)
+        stepped_known me a l is at =
+            settled_known done w (made (Step me)) me _ (HasEffect w.shared a l) K led kept h (line_effects w.setup (w.steps + 1) me a l w.shared)
+            (λ x. record {
+              before = done;
+              after = [];
+              world = w;
+              actor = a;
+              line = l;
+              moves_are = refl;
+              led = led;
+              numbered = refl;
+              here = is;
+              at_line = at;
+              effect = x;
+            })
+            by_it a l (λ at Noted x stands. effect_first w.shared a l a.due at Noted x stands) a.entry (knows me a l is at)
+          where
+            by_it : (you k : ℕ) → made (Step me) ≡ made (Step you) → Now w you k → (you ≡ me) × (k ≡ w.steps + 1) × HasEffect w.shared a l
+            by_it you k e now =
+                let same : you ≡ me = sym (ap who e) in
+                let actor : now.0 ≡ a = same_Some now.0 a (sym now.3 ∙ ap (actor_of w) same ∙ is) in
+                let line : now.1 ≡ l = same_Some now.1 l (sym now.4 ∙ ap (λ (b : Actor). b.line) actor ∙ at) in
+                (same, now.2, subst (λ b. HasEffect w.shared b l) actor (subst (λ j. HasEffect w.shared now.0 j) line now.5))
 
   run_known : (ms done : List AnyMove) (w : World) → AllByRecursion (May Rests) done → AllByRecursion (May Rests) ms → run done (opening s n) ≡ Some w → Known done w.operations w.steps → IfSome (run ms w) (λ v. Known (done ++ ms) v.operations v.steps)
   run_known [] done w before may led h = subst (λ d. Known d w.operations w.steps) (sym (append-nil done)) h
@@ -306,19 +271,10 @@ module _ (Rests : Type 0) (s : Setup) (n : ℕ) where
   moves_known : (moves : List AnyMove) → AllByRecursion (May Rests) moves → IfSome (run moves (opening s n)) (λ w. Known moves w.operations w.steps)
   moves_known moves may = run_known moves [] (opening s n) tt may refl opening_known
 
--- a fact of the element at each place is one of all elements
-all_of : {X : Type 0} (P : X → Type 0) (xs : List X) → ((i : ℕ) (o : X) → slice_get xs i ≡ Some o → P o) → AllByRecursion P xs
-all_of P [] h = tt
-all_of P (x ∷ xs) h = (h 0 x refl, all_of P xs (λ i o got. h (suc i) o got))
-
-if_some_all : (o : Option ℕ) (P : ℕ → Type 0) → ((k : ℕ) → o ≡ Some k → P k) → IfSome o P
-if_some_all None P h = tt
-if_some_all (Some k) P h = h k refl
-
 pub placed_by_effect : OfOperations ArePlacedByEffect
 placed_by_effect s n moves =
     IfSome_then (run moves (opening s n)) (moves_known (Unit {0}) s n moves (may_rest_all moves))
-    (λ w h. all_of _ w.operations (λ i o got may. if_some_all o.at _ (λ k at. h.from i k o got may at)))
+    (λ w h. all_of _ w.operations (λ i o got may. if_some _ o.at (λ k at. h.from i k o got may at)))
 
 pub have_their_effect : OfOperationsOfCalls HaveTheirEffect
 have_their_effect s n moves =

@@ -4,31 +4,18 @@ use Rattle.std.specs.List.{count_by, flat_map}
 use Rattle.std.proofs.lemmas.List.{length-map}
 use Rattle.std.proofs.lemmas.List.Recursion.{is_count_by}
 use Rattle.std.specs.Prelude.{is_some}
-use Rattle.history.specs.declared.operations.Op.{Op}
-use Rattle.history.specs.declared.operations.Op.TheVariants.{Enq, Deq}
-use Rattle.history.specs.declared.operations.Reply.{Reply}
-use Rattle.history.specs.declared.operations.Reply.TheVariants.{Done, Value, Empty, Refused}
-use Rattle.history.specs.declared.operations.Taken.{Taken}
-use Rattle.history.specs.declared.operations.Entry.{Entry}
-use Rattle.history.specs.declared.operations.Entry.TheVariants.{Push, Pop}
-use Rattle.history.specs.declared.operations.Stamped.{Stamped}
-use Rattle.history.specs.Queue.{Queue, empty, given, front_of}
-use Rattle.history.specs.Entries.{is_push, is_pop, Plays}
-use Rattle.history.specs.History.{number_of, inserted, rising}
-use Rattle.line_steps.specs.Memory.{node_at}
+use Rattle.step_machine.specs.Below.{Op, Enq, Deq, Taken, Reply, Done, Value, Empty, Refused, Stamped, Entry, Push, Pop, Queue, empty, given, front_of, is_push, is_pop, Plays, number_of, inserted, rising, node_at}
 use Rattle.step_machine.specs.Machine.{World}
 use Rattle.step_machine.specs.Chains.{queue_values}
-use Rattle.step_machine.specs.TwoLock.{HasItsPlaces, CountsValuesTaken}
+use Rattle.step_machine.specs.EachQueue.{HasItsPlaces}
 use Rattle.step_machine.specs.Promises.{promises, is_value}
 use Rattle.step_machine.specs.Entries.{entry_with, entry_of, entries, AreFew}
 use Rattle.step_machine.specs.Histories.{OfEachWorld}
 use Rattle.step_machine.specs.Range.{WorldInRange}
 use Rattle.step_machine.proofs.Reached.{reached_in_range}
-use Rattle.step_machine.proofs.EachHistory.{of_both}
 use Rattle.step_machine.proofs.EachEntry.{plays_to_the_values}
 use Rattle.step_machine.proofs.PlaceOf.{have_places, few}
-use Rattle.step_machine.proofs.TwoLockLegal as two_lock
-use Rattle.step_machine.proofs.NonBlockingLegal as non_blocking
+use Rattle.step_machine.proofs.EachLegal.{head_counts_values_taken}
 
 -- one more where a test is passed
 abbrev pub one_more : Bool → ℕ → ℕ
@@ -106,9 +93,6 @@ values_rising (o ∷ os) = go (is_some o.at) (values_rising os)
     go true ih = subst (λ n. n ≤ one_more (is_value o.reply) (count has_value os)) (sym (values_inserted o (rising os))) (both_more (is_value o.reply) (count has_value (rising os)) (count has_value os) ih)
     go false ih = no_fewer (is_value o.reply) (count has_value (rising os)) (count has_value os) ih
 
-counts_values : OfEachWorld CountsValuesTaken
-counts_values = of_both CountsValuesTaken two_lock.head_counts_values_taken non_blocking.head_counts_values_taken
-
 -- a queue has a node more than values
 fewer_values : (w : World) (queue : List ℕ) (most : ℕ) → length queue ≤ most → 1 ≤ most → length (queue_values w.shared queue) + 1 ≤ most
 fewer_values w [] most h some = some
@@ -126,7 +110,7 @@ are_few w r = (pops_few, pushes_few)
 
     taken : count is_pop (entries w) ≤ w.shared.head.count
     taken =
-        omega (arith, pops_are_values (rising (promises w)), values_rising (promises w), count_is has_value (promises w), counts_values w r)
+        omega (arith, pops_are_values (rising (promises w)), values_rising (promises w), count_is has_value (promises w), head_counts_values_taken w r)
 
     pops_few : count_by is_pop (entries w) ≤ w.setup.limit
     pops_few = let c : w.shared.head.count ≤ w.setup.limit = range.shared.head.count in omega (arith, taken, c, count_is is_pop (entries w))

@@ -1,13 +1,6 @@
 -- What is in range fits its word.
 use Rattle.std.proofs.Common.{◌≡◌, ℕ, ◌+◌, ◌-◌, ◌^◌, ◌<◌, ◌≤◌, Some, length, subst, arith}
-use Rattle.counted_ref.specs.Ref.{Ref, IsRef, ref}
-use Rattle.line_table.specs.declared.lines.Line.{Line}
-use Rattle.line_table.specs.declared.lines.Line.TheVariants.{N1, N2, N3, N4, N5, F1, F2, F3, E2, E3, E5, E6, E7, E9, E13, E17, D2, D3, D4, D5, D10, D12, D13, A1, A2, A3, A4, A5, A6, A7, B1, B2, B3, B4, B5, B6}
-use Rattle.history.specs.declared.operations.Taken.{Taken}
-use Rattle.line_steps.specs.declared.actors.Setup.{Setup}
-use Rattle.line_steps.specs.declared.actors.Actor.{Actor}
-use Rattle.line_steps.specs.Memory.{Word, Fresh, Free, Head, Tail, Tail_lock, Head_lock, Next, Value_of, Content, content}
-use Rattle.line_steps.specs.Lines.{action, raised}
+use Rattle.step_machine.specs.Below.{Ref, IsRef, ref, Line, N4, N5, F2, F3, E2, E9, E13, E17, D10, D13, A1, A3, A5, A6, A7, B1, B5, B6, Taken, Setup, Actor, Word, Fresh, Free, Head, Tail, Tail_lock, Head_lock, Next, Value_of, Content, content, action, raised}
 use Rattle.step_machine.specs.Machine.{World, actor_of, IsSized}
 use Rattle.step_machine.specs.Range.{RefInRange, ValueInRange, RegistersInRange, LineInRange, ActorInRange, WorldInRange}
 use Rattle.step_machine.specs.Tables.{ValueFits, ContentFits, SharedFits, ActionFits}
@@ -56,44 +49,27 @@ module _ (s : Setup) (n k : ℕ) (sized : IsSized s k) (used : n ≤ s.size) whe
 
   -- what a line compares and writes fits its word
   action_fits : (me : ℕ) (a : Actor) (l : Line) → me ≤ k → RegistersInRange s n k a → LineInRange s.size a.f (Some l) → ActionFits (action s me a l)
-  action_fits me a N1 i h f = tt
-  action_fits me a N2 i h f = tt
-  action_fits me a N3 i h f = tt
   action_fits me a N4 i h f = (ref_fits a.top h.top, raised_fits a.top a.next.node h.top h.next.node)
   action_fits me a N5 i h f =
       let b : s.size < 2 ^ 24 - 1 = sized.numbered in
       (node_number_fits a.f h.f, number_fits (a.f + 1) s.size (omega arith) (omega arith))
-  action_fits me a F1 i h f = tt
   action_fits me a F2 i h f = ref_fits (ref a.top.node a.mark) (record { node = h.top.node; count = h.mark })
   action_fits me a F3 i h f = (ref_fits a.top h.top, raised_fits a.top a.node h.top h.node)
   action_fits me a E2 i h f = value_fits a.val h.val
-  action_fits me a E3 i h f = tt
-  action_fits me a E5 i h f = tt
-  action_fits me a E6 i h f = tt
-  action_fits me a E7 i h f = tt
   action_fits me a E9 i h f = (ref_fits a.next h.next, raised_fits a.next a.node h.next h.node)
   action_fits me a E13 i h f = (ref_fits a.tail h.tail, raised_fits a.tail a.next.node h.tail h.next.node)
   action_fits me a E17 i h f = (ref_fits a.tail h.tail, raised_fits a.tail a.node h.tail h.node)
-  action_fits me a D2 i h f = tt
-  action_fits me a D3 i h f = tt
-  action_fits me a D4 i h f = tt
-  action_fits me a D5 i h f = tt
   action_fits me a D10 i h f = (ref_fits a.tail h.tail, raised_fits a.tail a.next.node h.tail h.next.node)
-  action_fits me a D12 i h f = tt
   action_fits me a D13 i h f = (ref_fits a.head h.head, raised_fits a.head a.next.node h.head h.next.node)
   action_fits me a A1 i h f = value_fits a.val h.val
-  action_fits me a A2 i h f = tt
   action_fits me a A3 i h f = (small_fits, actor_number_fits me i)
-  action_fits me a A4 i h f = tt
   action_fits me a A5 i h f = ref_fits (ref a.node 0) (record { node = h.node; count = omega arith })
   action_fits me a A6 i h f = ref_fits (ref a.node 0) (record { node = h.node; count = omega arith })
   action_fits me a A7 i h f = small_fits
   action_fits me a B1 i h f = (small_fits, actor_number_fits me i)
-  action_fits me a B2 i h f = tt
-  action_fits me a B3 i h f = tt
-  action_fits me a B4 i h f = tt
   action_fits me a B5 i h f = raised_fits a.head a.next.node h.head h.next.node
   action_fits me a B6 i h f = small_fits
+  action_fits me a _ i h f = tt
 
 -- all that a world in range holds fits its words
 pub shared_fits : (w : World) → WorldInRange w → SharedFits w.shared

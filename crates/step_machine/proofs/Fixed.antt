@@ -2,37 +2,14 @@
 -- in its hand, that its pocket is empty, which call it runs, what its call has earned, and which counts were tested.
 use Rattle.std.proofs.Common.{◌≡◌, ◌≢◌, ℕ, ◌+◌, Bool, true, false, nat_eq, nat_lt, if◌then◌else◌, Option, Some, None, IfSome, refl, sym, subst}
 use Rattle.std.proofs.lemmas.Bool.{eqb-false}
-use Rattle.counted_ref.specs.Ref.{is_null, same_ref}
-use Rattle.line_table.specs.declared.lines.Kind.{Kind}
-use Rattle.line_table.specs.declared.lines.Kind.TheVariants.{TwoLock, NonBlocking}
-use Rattle.line_table.specs.declared.lines.Line.{Line}
-use Rattle.line_table.specs.declared.lines.Line.TheVariants.{N1, N2, N3, N4, N5, F1, F2, F3, E2, E3, E5, E6, E7, E9, E13, E17, D2, D3, D4, D5, D10, D12, D13, A1, A2, A3, A4, A5, A6, A7, B1, B2, B3, B4, B5, B6}
-use Rattle.line_table.specs.declared.lines.Section.{Section}
+use Rattle.step_machine.specs.Below.{is_null, same_ref, Kind, TwoLock, NonBlocking, Line, N1, N2, N3, N4, N5, F1, F2, F3, E2, E3, E5, E6, E7, E9, E13, E17, D2, D5, D10, D12, D13, A1, A2, A3, A4, A5, A6, A7, B1, B3, B4, B5, B6, Section, section_of, OfHead, WornOut, Op, Enq, Deq, Taken, Reply, Done, Value, Empty, Refused, Setup, Held, Actor, Outcome, Found, action, outcome, goes, ends, effect, sets_aside, takes, lets_go, to_pocket, with_node, freed, unlocked, busy_or, gives_up, from_pocket, begun}
 use Rattle.line_table.specs.declared.lines.Section.TheVariants.{NewNode, Free, Enqueue, Dequeue, LockedEnqueue, LockedDequeue}
-use Rattle.line_table.specs.Sections.{section_of}
-use Rattle.history.specs.declared.refusals.Refusal.TheVariants.{WornOut}
-use Rattle.history.specs.declared.refusals.WornWord.TheVariants.{Head as OfHead}
-use Rattle.history.specs.declared.operations.Op.{Op}
-use Rattle.history.specs.declared.operations.Op.TheVariants.{Enq, Deq}
-use Rattle.history.specs.declared.operations.Taken.{Taken}
-use Rattle.history.specs.declared.operations.Reply.{Reply}
-use Rattle.history.specs.declared.operations.Reply.TheVariants.{Done, Value, Empty, Refused}
-use Rattle.line_steps.specs.declared.actors.Setup.{Setup}
-use Rattle.line_steps.specs.declared.actors.Held.{Held}
-use Rattle.line_steps.specs.declared.actors.Actor.{Actor}
-use Rattle.line_steps.specs.declared.actors.Outcome.{Outcome}
-use Rattle.line_steps.specs.Memory.{Found}
-use Rattle.line_steps.specs.Lines.{action, outcome, goes, ends, effect, sets_aside, takes, lets_go, to_pocket, with_node, freed, unlocked, busy_or, gives_up}
-use Rattle.line_steps.specs.Calling.{from_pocket, begun}
-use Rattle.step_machine.specs.Machine.{rested}
+use Rattle.step_machine.proofs.Choices.{either, both}
 
 -- whether a call that lets the head lock go has a node to free
 abbrev pub frees_after : Option Reply → Bool
-frees_after None = false
-frees_after (Some Done) = false
 frees_after (Some (Value v)) = true
-frees_after (Some Empty) = false
-frees_after (Some (Refused why)) = false
+frees_after _ = false
 
 -- whether a node is in the hand before a line, by what the call has earned
 abbrev pub in_hand_at : Line → Option Reply → Bool
@@ -71,10 +48,8 @@ Runs LockedDequeue me op val = op ≡ Deq
 -- what a call has earned that frees a node: nothing yet, or the value taken
 abbrev pub EarnedFreeing : Option Reply → Type 0
 EarnedFreeing None = Unit {0}
-EarnedFreeing (Some Done) = ⊥
 EarnedFreeing (Some (Value v)) = Unit {0}
-EarnedFreeing (Some Empty) = ⊥
-EarnedFreeing (Some (Refused why)) = ⊥
+EarnedFreeing _ = ⊥
 
 -- what a call has earned that lets the head lock go: a value, empty, or that Head is worn out
 abbrev pub EarnedUnlocking : Option Reply → Type 0
@@ -131,14 +106,6 @@ pub record Fixes (limit me : ℕ) (o : Outcome) : Type 0 where
   pub fixed : FixedAt limit me o.actor o.actor.line
 
 module _ (limit me : ℕ) where
-  either : (b : Bool) (x y : Outcome) → (b ≡ true → Fixes limit me x) → (b ≡ false → Fixes limit me y) → Fixes limit me (if b then x else y)
-  either true x y hx hy = hx refl
-  either false x y hx hy = hy refl
-
-  both : (b : Bool) (x y : Outcome) → Fixes limit me x → Fixes limit me y → Fixes limit me (if b then x else y)
-  both true x y hx hy = hx
-  both false x y hx hy = hy
-
   with_node_fixed : (kind : Kind) (a : Actor) → a.pocket ≡ None → a.holds ≡ true → Pushes me a.op a.val → a.due ≡ None → Fixes limit me (goes (with_node kind) a)
   with_node_fixed TwoLock a p h c e = record { fixed = record { pocket = p; hand = h; call = c; earned = e; room = tt } }
   with_node_fixed NonBlocking a p h c e = record { fixed = record { pocket = p; hand = h; call = c; earned = e; room = tt } }
@@ -167,83 +134,70 @@ module _ (limit me : ℕ) where
 
 -- the outcome of each line
 pub fixed : (s : Setup) (now me : ℕ) (a : Actor) (l : Line) (c : Found (action s me a l)) → FixedAt s.limit me a (Some l) → Fixes s.limit me (outcome s now me a l c)
-fixed s now me a N1 c h = record { fixed = record { pocket = h.pocket; hand = h.hand; call = h.call; earned = h.earned; room = tt } }
 fixed s now me a N2 c h =
-    both s.limit me (is_null c) _ _
-    (both s.limit me (nat_lt a.f s.size) _ _ (record { fixed = record { pocket = h.pocket; hand = h.hand; call = h.call; earned = h.earned; room = tt } }) (record { fixed = h.hand }))
-    (either s.limit me (nat_eq c.count s.limit) _ _ (λ e. record { fixed = h.hand })
+    both (Fixes s.limit me) (is_null c)
+    (both (Fixes s.limit me) (nat_lt a.f s.size) (record { fixed = record { pocket = h.pocket; hand = h.hand; call = h.call; earned = h.earned; room = tt } }) (record { fixed = h.hand }))
+    (either (Fixes s.limit me) (nat_eq c.count s.limit) (λ e. record { fixed = h.hand })
     (λ e. record { fixed = record { pocket = h.pocket; hand = h.hand; call = h.call; earned = h.earned; room = eqb-false c.count s.limit e } }))
 fixed s now me a N3 c h = record { fixed = record { pocket = h.pocket; hand = h.hand; call = h.call; earned = h.earned; room = h.room } }
 fixed s now me a N4 c h =
-    both s.limit me (same_ref c a.top) _ _ (with_node_fixed s.limit me s.kind (takes a.top.node a.next.count a) h.pocket refl h.call h.earned)
+    both (Fixes s.limit me) (same_ref c a.top) (with_node_fixed s.limit me s.kind (takes a.top.node a.next.count a) h.pocket refl h.call h.earned)
     (record { fixed = record { pocket = h.pocket; hand = h.hand; call = h.call; earned = h.earned; room = tt } })
 fixed s now me a N5 c h =
-    both s.limit me (nat_eq c a.f) _ _ (with_node_fixed s.limit me s.kind (takes (a.f + 1) 0 a) h.pocket refl h.call h.earned)
+    both (Fixes s.limit me) (nat_eq c a.f) (with_node_fixed s.limit me s.kind (takes (a.f + 1) 0 a) h.pocket refl h.call h.earned)
     (record { fixed = record { pocket = h.pocket; hand = h.hand; call = h.call; earned = h.earned; room = tt } })
 fixed s now me a F1 c h =
-    either s.limit me (nat_eq c.count s.limit) _ _
+    either (Fixes s.limit me) (nat_eq c.count s.limit)
     (λ e. aside_fixed s.limit me s.kind now a.due (record a { top = c }) refl h.pocket h.call)
     (λ e. record { fixed = record { pocket = h.pocket; hand = h.hand; call = h.call; earned = h.earned; room = eqb-false c.count s.limit e } })
 fixed s now me a F2 c h = record { fixed = record { pocket = h.pocket; hand = h.hand; call = h.call; earned = h.earned; room = h.room } }
 fixed s now me a F3 c h =
-    both s.limit me (same_ref c a.top) _ _ (freed_fixed s.limit me s.kind now a.due (lets_go a) refl h.pocket refl h.call)
+    both (Fixes s.limit me) (same_ref c a.top) (freed_fixed s.limit me s.kind now a.due (lets_go a) refl h.pocket refl h.call)
     (record { fixed = record { pocket = h.pocket; hand = h.hand; call = h.call; earned = h.earned; room = tt } })
-fixed s now me a E2 c h = record { fixed = record { pocket = h.pocket; hand = h.hand; call = h.call; earned = h.earned; room = tt } }
 fixed s now me a E3 c h =
-    both s.limit me (nat_eq c.count s.limit) _ _ (record { fixed = refl })
+    both (Fixes s.limit me) (nat_eq c.count s.limit) (record { fixed = refl })
     (record { fixed = record { pocket = h.pocket; hand = h.hand; call = h.call; earned = h.earned; room = tt } })
-fixed s now me a E5 c h = record { fixed = record { pocket = h.pocket; hand = h.hand; call = h.call; earned = h.earned; room = tt } }
-fixed s now me a E6 c h = record { fixed = record { pocket = h.pocket; hand = h.hand; call = h.call; earned = h.earned; room = tt } }
 fixed s now me a E7 c h =
-    both s.limit me (same_ref c a.tail) _ _
-    (both s.limit me (is_null a.next) _ _ (record { fixed = record { pocket = h.pocket; hand = h.hand; call = h.call; earned = h.earned; room = tt } })
-    (either s.limit me (nat_eq a.tail.count s.limit) _ _ (λ e. record { fixed = refl })
+    both (Fixes s.limit me) (same_ref c a.tail)
+    (both (Fixes s.limit me) (is_null a.next) (record { fixed = record { pocket = h.pocket; hand = h.hand; call = h.call; earned = h.earned; room = tt } })
+    (either (Fixes s.limit me) (nat_eq a.tail.count s.limit) (λ e. record { fixed = refl })
     (λ e. record { fixed = record { pocket = h.pocket; hand = h.hand; call = h.call; earned = h.earned; room = eqb-false a.tail.count s.limit e } })))
     (record { fixed = record { pocket = h.pocket; hand = h.hand; call = h.call; earned = h.earned; room = tt } })
 fixed s now me a E9 c h =
-    both s.limit me (same_ref c a.next) _ _ (ended_or s.limit me (nat_eq a.tail.count s.limit) now a (λ e. eqb-false a.tail.count s.limit e) h.pocket h.call)
+    both (Fixes s.limit me) (same_ref c a.next) (ended_or s.limit me (nat_eq a.tail.count s.limit) now a (λ e. eqb-false a.tail.count s.limit e) h.pocket h.call)
     (record { fixed = record { pocket = h.pocket; hand = h.hand; call = h.call; earned = h.earned; room = tt } })
-fixed s now me a E13 c h = record { fixed = record { pocket = h.pocket; hand = h.hand; call = h.call; earned = h.earned; room = tt } }
 fixed s now me a E17 c h = record { fixed = h.hand }
-fixed s now me a D2 c h = record { fixed = record { pocket = h.pocket; hand = h.hand; call = h.call; earned = h.earned; room = tt } }
-fixed s now me a D3 c h = record { fixed = record { pocket = h.pocket; hand = h.hand; call = h.call; earned = h.earned; room = tt } }
-fixed s now me a D4 c h = record { fixed = record { pocket = h.pocket; hand = h.hand; call = h.call; earned = h.earned; room = tt } }
 fixed s now me a D5 c h =
-    both s.limit me (same_ref c a.head) _ _
-    (both s.limit me (nat_eq a.head.node a.tail.node) _ _
-    (both s.limit me (is_null a.next) _ _ (record { fixed = h.hand })
-    (either s.limit me (nat_eq a.tail.count s.limit) _ _ (λ e. record { fixed = h.hand })
+    both (Fixes s.limit me) (same_ref c a.head)
+    (both (Fixes s.limit me) (nat_eq a.head.node a.tail.node)
+    (both (Fixes s.limit me) (is_null a.next) (record { fixed = h.hand })
+    (either (Fixes s.limit me) (nat_eq a.tail.count s.limit) (λ e. record { fixed = h.hand })
     (λ e. record { fixed = record { pocket = h.pocket; hand = h.hand; call = h.call; earned = h.earned; room = eqb-false a.tail.count s.limit e } })))
     (record { fixed = record { pocket = h.pocket; hand = h.hand; call = h.call; earned = h.earned; room = tt } }))
     (record { fixed = record { pocket = h.pocket; hand = h.hand; call = h.call; earned = h.earned; room = tt } })
-fixed s now me a D10 c h = record { fixed = record { pocket = h.pocket; hand = h.hand; call = h.call; earned = h.earned; room = tt } }
 fixed s now me a D12 c h =
-    either s.limit me (nat_eq a.head.count s.limit) _ _ (λ e. record { fixed = h.hand })
+    either (Fixes s.limit me) (nat_eq a.head.count s.limit) (λ e. record { fixed = h.hand })
     (λ e. record { fixed = record { pocket = h.pocket; hand = h.hand; call = h.call; earned = h.earned; room = eqb-false a.head.count s.limit e } })
 fixed s now me a D13 c h =
-    both s.limit me (same_ref c a.head) _ _ (record { fixed = record { pocket = h.pocket; hand = refl; call = h.call; earned = tt; room = tt } })
+    both (Fixes s.limit me) (same_ref c a.head) (record { fixed = record { pocket = h.pocket; hand = refl; call = h.call; earned = tt; room = tt } })
     (record { fixed = record { pocket = h.pocket; hand = h.hand; call = h.call; earned = h.earned; room = tt } })
-fixed s now me a A1 c h = record { fixed = record { pocket = h.pocket; hand = h.hand; call = h.call; earned = h.earned; room = tt } }
-fixed s now me a A2 c h = record { fixed = record { pocket = h.pocket; hand = h.hand; call = h.call; earned = h.earned; room = tt } }
 fixed s now me a A3 c h =
-    both s.limit me (nat_eq c 0) _ _ (record { fixed = record { pocket = h.pocket; hand = h.hand; call = h.call; earned = h.earned; room = tt } })
+    both (Fixes s.limit me) (nat_eq c 0) (record { fixed = record { pocket = h.pocket; hand = h.hand; call = h.call; earned = h.earned; room = tt } })
     (record { fixed = record { pocket = h.pocket; hand = h.hand; call = h.call; earned = h.earned; room = tt } })
-fixed s now me a A4 c h = record { fixed = record { pocket = h.pocket; hand = h.hand; call = h.call; earned = h.earned; room = tt } }
 fixed s now me a A5 c h = record { fixed = record { pocket = h.pocket; hand = refl; call = h.call; earned = refl; room = tt } }
-fixed s now me a A6 c h = record { fixed = record { pocket = h.pocket; hand = h.hand; call = h.call; earned = h.earned; room = tt } }
 fixed s now me a A7 c h = record { fixed = h.hand }
 fixed s now me a B1 c h =
-    both s.limit me (nat_eq c 0) _ _ (record { fixed = record { pocket = h.pocket; hand = h.hand; call = h.call; earned = h.earned; room = tt } })
+    both (Fixes s.limit me) (nat_eq c 0) (record { fixed = record { pocket = h.pocket; hand = h.hand; call = h.call; earned = h.earned; room = tt } })
     (record { fixed = record { pocket = h.pocket; hand = h.hand; call = h.call; earned = h.earned; room = tt } })
-fixed s now me a B2 c h = record { fixed = record { pocket = h.pocket; hand = h.hand; call = h.call; earned = h.earned; room = tt } }
 fixed s now me a B3 c h =
-    both s.limit me (is_null c) _ _ (record { fixed = record { pocket = h.pocket; hand = h.hand; call = h.call; earned = tt; room = tt } })
+    both (Fixes s.limit me) (is_null c) (record { fixed = record { pocket = h.pocket; hand = h.hand; call = h.call; earned = tt; room = tt } })
     (record { fixed = record { pocket = h.pocket; hand = h.hand; call = h.call; earned = h.earned; room = tt } })
 fixed s now me a B4 c h =
-    either s.limit me (nat_eq a.head.count s.limit) _ _ (λ e. record { fixed = record { pocket = h.pocket; hand = h.hand; call = h.call; earned = refl; room = tt } })
+    either (Fixes s.limit me) (nat_eq a.head.count s.limit) (λ e. record { fixed = record { pocket = h.pocket; hand = h.hand; call = h.call; earned = refl; room = tt } })
     (λ e. record { fixed = record { pocket = h.pocket; hand = h.hand; call = h.call; earned = h.earned; room = eqb-false a.head.count s.limit e } })
 fixed s now me a B5 c h = record { fixed = record { pocket = h.pocket; hand = refl; call = h.call; earned = tt; room = tt } }
 fixed s now me a B6 c h = unlocked_fixed s.limit me now a.due a refl h.pocket h.hand h.call h.earned
+fixed s now me a _ c h = record { fixed = record { pocket = h.pocket; hand = h.hand; call = h.call; earned = h.earned; room = tt } }
 
 busy_or_fixed : (limit me now : ℕ) (due : Option Reply) (a : Actor) → a.holds ≡ false → IfSome (busy_or now due a) (Fixes limit me)
 busy_or_fixed limit me now None a h = record { fixed = h }
@@ -258,10 +212,6 @@ fixed_given limit now me a D2 h = record { fixed = h.hand }
 fixed_given limit now me a A3 h = record { fixed = refl }
 fixed_given limit now me a B1 h = record { fixed = h.hand }
 fixed_given limit now me a _ h = tt
-
--- an actor that rests has nothing in its hand
-pub fixed_rested : (limit me : ℕ) (a : Actor) → FixedAt limit me (rested a) (rested a).line
-fixed_rested limit me a = refl
 
 from_pocket_fixed : (limit me : ℕ) (l : Line) (pocket : Option Held) (a : Actor) → a.pocket ≡ pocket → ((held : Held) → FixedAt limit me (from_pocket l (Some held) a) (Some l)) → (a.pocket ≡ None → FixedAt limit me a a.line) → FixedAt limit me (from_pocket l pocket a) (from_pocket l pocket a).line
 from_pocket_fixed limit me l None a e full none = none e

@@ -1,18 +1,7 @@
 -- What an outcome adds to the entries of the operations that had their effect.
 use Rattle.std.proofs.Common.{◌≡◌, ℕ, Bool, true, false, nat_le, if◌then◌else◌, Option, Some, None, List, [], ◌∷◌, ◌++◌, sym, ap, subst}
 use Rattle.std.specs.List.{flat_map}
-use Rattle.history.specs.declared.operations.Op.{Op}
-use Rattle.history.specs.declared.operations.Op.TheVariants.{Enq, Deq}
-use Rattle.history.specs.declared.operations.Taken.{Taken}
-use Rattle.history.specs.declared.operations.Reply.{Reply}
-use Rattle.history.specs.declared.operations.Entry.{Entry}
-use Rattle.history.specs.declared.operations.Entry.TheVariants.{Push, Pop}
-use Rattle.history.specs.declared.operations.Stamped.{Stamped}
-use Rattle.history.specs.Queue.{Queue, given}
-use Rattle.history.specs.Entries.{Plays}
-use Rattle.history.specs.History.{inserted, rising}
-use Rattle.line_steps.specs.declared.actors.Actor.{Actor}
-use Rattle.line_steps.specs.declared.actors.Outcome.{Outcome}
+use Rattle.step_machine.specs.Below.{Op, Enq, Deq, Taken, Reply, Stamped, Entry, Push, Pop, Queue, given, Plays, inserted, rising, Actor, Outcome}
 use Rattle.step_machine.specs.Machine.{World}
 use Rattle.step_machine.specs.Promises.{promised_reply}
 use Rattle.step_machine.specs.Entries.{pushed_by, entry_with, entry_of}

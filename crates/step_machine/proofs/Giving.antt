@@ -1,22 +1,8 @@
 -- Giving up, and beginning, by the parts of the calls that do it.
 use Rattle.std.proofs.Common.{◌≡◌, ℕ, ◌+◌, ◌⊎◌, inl, inr, Bool, true, false, if◌then◌else◌, Option, Some, None, IsSome, is_some, List, [], replicate, refl, sym, ap, subst, ◌∙◌, arith}
 use Rattle.std.proofs.lemmas.List.Folds.{sum_by-replicate}
-use Rattle.line_table.specs.declared.lines.Kind.{Kind}
-use Rattle.line_table.specs.declared.lines.Kind.TheVariants.{TwoLock, NonBlocking}
-use Rattle.line_table.specs.declared.lines.Line.{Line}
-use Rattle.line_table.specs.declared.lines.Line.TheVariants.{N1, N2, N3, N4, N5, F1, F2, F3, E2, E3, E5, E6, E7, E9, E13, E17, D2, D3, D4, D5, D10, D12, D13, A1, A2, A3, A4, A5, A6, A7, B1, B2, B3, B4, B5, B6}
-use Rattle.history.specs.declared.operations.Op.{Op}
-use Rattle.history.specs.declared.operations.Op.TheVariants.{Enq, Deq}
-use Rattle.history.specs.declared.operations.Reply.{Reply}
-use Rattle.history.specs.declared.operations.Stamped.{Stamped}
-use Rattle.line_steps.specs.declared.actors.Setup.{Setup}
-use Rattle.line_steps.specs.declared.actors.Held.{Held}
-use Rattle.line_steps.specs.declared.actors.Actor.{Actor}
-use Rattle.line_steps.specs.declared.actors.Outcome.{Outcome}
-use Rattle.line_steps.specs.Memory.{Shared}
-use Rattle.line_steps.specs.Lines.{gives_up, busy_or, with_node, dequeues}
-use Rattle.line_steps.specs.Calling.{is_call, begun, from_pocket}
-use Rattle.line_steps.specs.Rooms.{Memory, first_memory}
+use Rattle.step_machine.specs.Below.{Kind, TwoLock, NonBlocking, Line, N1, F1, Op, Enq, Deq, Reply, Stamped, Setup, Held, Actor, Outcome, Shared, gives_up, busy_or, with_node, dequeues, is_call, begun, from_pocket, first_memory}
+use Rattle.line_steps.specs.Rooms.{Memory}
 use Rattle.step_machine.specs.declared.actors.Move.TheVariants.{Begin, Give}
 use Rattle.step_machine.specs.Machine.{World, opening, idle, actor_of, with_actor, begins, given, gives, moved, next, settled}
 use Rattle.step_machine.specs.Calls.{giving_up, giving_up_at}
@@ -32,42 +18,8 @@ busy_or_any n m (Some reply) a h = refl
 
 -- whether an actor may give up does not hang on the step's number
 pub gives_up-any : (n m : ℕ) (a : Actor) (l : Line) → IsSome (gives_up n a l) → IsSome (gives_up m a l)
-gives_up-any n m a N1 h = h
-gives_up-any n m a N2 h = h
-gives_up-any n m a N3 h = h
-gives_up-any n m a N4 h = h
-gives_up-any n m a N5 h = h
 gives_up-any n m a F1 h = busy_or_any n m a.due _ h
-gives_up-any n m a F2 h = h
-gives_up-any n m a F3 h = h
-gives_up-any n m a E2 h = h
-gives_up-any n m a E3 h = h
-gives_up-any n m a E5 h = h
-gives_up-any n m a E6 h = h
-gives_up-any n m a E7 h = h
-gives_up-any n m a E9 h = h
-gives_up-any n m a E13 h = h
-gives_up-any n m a E17 h = h
-gives_up-any n m a D2 h = h
-gives_up-any n m a D3 h = h
-gives_up-any n m a D4 h = h
-gives_up-any n m a D5 h = h
-gives_up-any n m a D10 h = h
-gives_up-any n m a D12 h = h
-gives_up-any n m a D13 h = h
-gives_up-any n m a A1 h = h
-gives_up-any n m a A2 h = h
-gives_up-any n m a A3 h = h
-gives_up-any n m a A4 h = h
-gives_up-any n m a A5 h = h
-gives_up-any n m a A6 h = h
-gives_up-any n m a A7 h = h
-gives_up-any n m a B1 h = h
-gives_up-any n m a B2 h = h
-gives_up-any n m a B3 h = h
-gives_up-any n m a B4 h = h
-gives_up-any n m a B5 h = h
-gives_up-any n m a B6 h = h
+gives_up-any n m a _ h = h
 
 -- an actor that may give up by any number may do so in its world
 pub may_give_up : (w : World) (me now : ℕ) (a : Actor) (l : Line) → actor_of w me ≡ Some a → a.line ≡ Some l → IsSome (gives_up now a l) → IsSome (giving_up w (actor_of w me))

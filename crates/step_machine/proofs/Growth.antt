@@ -1,29 +1,14 @@
 -- What a step does to the number of nodes used and of actors that look for one, and which node it may set aside.
 use Rattle.std.proofs.Common.{◌≡◌, ℕ, ◌+◌, ◌≤◌, Bool, true, false, nat_eq, nat_lt, if◌then◌else◌, Option, Some, None, IfSome, refl, arith}
 use Rattle.std.proofs.lemmas.Bool.{eqb-true}
-use Rattle.counted_ref.specs.Ref.{is_null, same_ref}
-use Rattle.line_table.specs.declared.lines.Kind.{Kind}
-use Rattle.line_table.specs.declared.lines.Kind.TheVariants.{TwoLock, NonBlocking}
-use Rattle.line_table.specs.declared.lines.Line.{Line}
-use Rattle.line_table.specs.declared.lines.Line.TheVariants.{N1, N2, N3, N4, N5, F1, F2, F3, E2, E3, E5, E6, E7, E9, E13, E17, D2, D3, D4, D5, D10, D12, D13, A1, A2, A3, A4, A5, A6, A7, B1, B2, B3, B4, B5, B6}
-use Rattle.history.specs.declared.operations.Reply.{Reply}
-use Rattle.history.specs.declared.operations.Reply.TheVariants.{Done, Value, Empty, Refused}
-use Rattle.line_steps.specs.declared.actors.Setup.{Setup}
-use Rattle.line_steps.specs.declared.actors.Actor.{Actor}
-use Rattle.line_steps.specs.declared.actors.Outcome.{Outcome}
-use Rattle.line_steps.specs.Memory.{Shared, Found, found, performed, put, same, content, Free, Head, Tail, Tail_lock, Head_lock, Next, Fresh}
-use Rattle.line_steps.specs.Lines.{action, outcome, freed, unlocked, sets_aside, goes, effect, with_node, ends, lets_go, takes, raised, gives_up, busy_or, to_pocket}
+use Rattle.step_machine.specs.Below.{is_null, same_ref, Kind, TwoLock, NonBlocking, Line, N1, N2, N4, N5, F1, F3, E3, E5, E7, E9, E13, E17, D2, D5, D10, D12, D13, A3, B1, B3, B4, B6, Reply, Done, Setup, Actor, Outcome, Shared, Found, found, performed, put, same, content, Free, Head, Tail, Tail_lock, Head_lock, Next, Fresh, action, outcome, freed, unlocked, sets_aside, goes, effect, with_node, ends, lets_go, takes, raised, gives_up, busy_or, to_pocket}
 use Rattle.step_machine.specs.Views.{seeks}
+use Rattle.step_machine.proofs.Choices.{both}
 
 -- the actor of an outcome looks for a node only where the line before did, and the node set aside is this one
 pub record Settles (seek node : ℕ) (o : Outcome) : Type 0 where
   pub looks : seeks o.actor.line ≤ seek
   pub leaves : IfSome o.aside (λ n. n ≡ node)
-
--- a choice of two such outcomes
-both : (k n : ℕ) (b : Bool) (x y : Outcome) → Settles k n x → Settles k n y → Settles k n (if b then x else y)
-both k n true x y hx hy = hx
-both k n false x y hx hy = hy
 
 freed_settles : (n : ℕ) (k : Kind) (now : ℕ) (due : Option Reply) (a : Actor) → Settles 0 n (freed k now due a)
 freed_settles n TwoLock now None a = record { looks = omega arith; leaves = tt }
@@ -36,11 +21,8 @@ freed_aside NonBlocking now None a = record { looks = omega arith; leaves = refl
 freed_aside k now (Some reply) a = record { looks = omega arith; leaves = refl }
 
 unlocked_settles : (n now : ℕ) (due : Option Reply) (a : Actor) → Settles 0 n (unlocked now due a)
-unlocked_settles n now None a = record { looks = omega arith; leaves = tt }
-unlocked_settles n now (Some (Value v)) a = record { looks = omega arith; leaves = tt }
 unlocked_settles n now (Some Done) a = record { looks = omega arith; leaves = tt }
-unlocked_settles n now (Some Empty) a = record { looks = omega arith; leaves = tt }
-unlocked_settles n now (Some (Refused why)) a = record { looks = omega arith; leaves = tt }
+unlocked_settles n now _ a = record { looks = omega arith; leaves = tt }
 
 with_node_settles : (n : ℕ) (k : Kind) (a : Actor) → Settles 0 n (goes (with_node k) a)
 with_node_settles n TwoLock a = record { looks = omega arith; leaves = tt }
@@ -51,59 +33,40 @@ weakened n o h = record { looks = omega (arith, h.looks); leaves = h.leaves }
 
 -- one step, but for a won exchange of Fresh, adds no actor that looks for a node
 pub settles : (s : Setup) (now me : ℕ) (a : Actor) (l : Line) (c : Found (action s me a l)) → Settles (seeks (Some l)) a.node (outcome s now me a l c)
-settles s now me a N1 c = record { looks = omega arith; leaves = tt }
 settles s now me a N2 c =
-    both _ _ (is_null c) _ _ (both _ _ (nat_lt a.f s.size) _ _ record { looks = omega arith; leaves = tt } record { looks = omega arith; leaves = tt })
-    (both _ _ (nat_eq c.count s.limit) _ _ record { looks = omega arith; leaves = tt } record { looks = omega arith; leaves = tt })
-settles s now me a N3 c = record { looks = omega arith; leaves = tt }
+    both (Settles _ _) (is_null c) (both (Settles _ _) (nat_lt a.f s.size) record { looks = omega arith; leaves = tt } record { looks = omega arith; leaves = tt })
+    (both (Settles _ _) (nat_eq c.count s.limit) record { looks = omega arith; leaves = tt } record { looks = omega arith; leaves = tt })
 settles s now me a N4 c =
-    both _ _ (same_ref c a.top) _ _ (weakened _ _ (with_node_settles _ s.kind (takes a.top.node a.next.count a))) record { looks = omega arith; leaves = tt }
+    both (Settles _ _) (same_ref c a.top) (weakened _ _ (with_node_settles _ s.kind (takes a.top.node a.next.count a))) record { looks = omega arith; leaves = tt }
 settles s now me a N5 c =
-    both _ _ (nat_eq c a.f) _ _ (weakened _ _ (with_node_settles _ s.kind (takes (a.f + 1) 0 a))) record { looks = omega arith; leaves = tt }
+    both (Settles _ _) (nat_eq c a.f) (weakened _ _ (with_node_settles _ s.kind (takes (a.f + 1) 0 a))) record { looks = omega arith; leaves = tt }
 settles s now me a F1 c =
-    both _ _ (nat_eq c.count s.limit) _ _ (freed_aside s.kind now a.due (record a { top = c })) record { looks = omega arith; leaves = tt }
-settles s now me a F2 c = record { looks = omega arith; leaves = tt }
+    both (Settles _ _) (nat_eq c.count s.limit) (freed_aside s.kind now a.due (record a { top = c })) record { looks = omega arith; leaves = tt }
 settles s now me a F3 c =
-    both _ _ (same_ref c a.top) _ _ (freed_settles _ s.kind now a.due (lets_go a)) record { looks = omega arith; leaves = tt }
-settles s now me a E2 c = record { looks = omega arith; leaves = tt }
+    both (Settles _ _) (same_ref c a.top) (freed_settles _ s.kind now a.due (lets_go a)) record { looks = omega arith; leaves = tt }
 settles s now me a E3 c =
-    both _ _ (nat_eq c.count s.limit) _ _ record { looks = omega arith; leaves = refl } record { looks = omega arith; leaves = tt }
-settles s now me a E5 c = record { looks = omega arith; leaves = tt }
-settles s now me a E6 c = record { looks = omega arith; leaves = tt }
+    both (Settles _ _) (nat_eq c.count s.limit) record { looks = omega arith; leaves = refl } record { looks = omega arith; leaves = tt }
 settles s now me a E7 c =
-    both _ _ (same_ref c a.tail) _ _ (both _ _ (is_null a.next) _ _ record { looks = omega arith; leaves = tt } (both _ _ (nat_eq a.tail.count s.limit) _ _ record { looks = omega arith; leaves = tt } record { looks = omega arith; leaves = tt })) record { looks = omega arith; leaves = tt }
+    both (Settles _ _) (same_ref c a.tail) (both (Settles _ _) (is_null a.next) record { looks = omega arith; leaves = tt } (both (Settles _ _) (nat_eq a.tail.count s.limit) record { looks = omega arith; leaves = tt } record { looks = omega arith; leaves = tt })) record { looks = omega arith; leaves = tt }
 settles s now me a E9 c =
-    both _ _ (same_ref c a.next) _ _ (linked (nat_eq a.tail.count s.limit)) record { looks = omega arith; leaves = tt }
+    both (Settles _ _) (same_ref c a.next) (linked (nat_eq a.tail.count s.limit)) record { looks = omega arith; leaves = tt }
   where
     linked : (b : Bool) → Settles 0 a.node (effect now (if b then ends now Done (lets_go (record a { due = Some Done })) else goes E17 (lets_go (record a { due = Some Done }))))
     linked true = record { looks = omega arith; leaves = tt }
     linked false = record { looks = omega arith; leaves = tt }
-settles s now me a E13 c = record { looks = omega arith; leaves = tt }
-settles s now me a E17 c = record { looks = omega arith; leaves = tt }
-settles s now me a D2 c = record { looks = omega arith; leaves = tt }
-settles s now me a D3 c = record { looks = omega arith; leaves = tt }
-settles s now me a D4 c = record { looks = omega arith; leaves = tt }
 settles s now me a D5 c =
-    both _ _ (same_ref c a.head) _ _ (both _ _ (nat_eq a.head.node a.tail.node) _ _ (both _ _ (is_null a.next) _ _ record { looks = omega arith; leaves = tt } (both _ _ (nat_eq a.tail.count s.limit) _ _ record { looks = omega arith; leaves = tt } record { looks = omega arith; leaves = tt })) record { looks = omega arith; leaves = tt }) record { looks = omega arith; leaves = tt }
-settles s now me a D10 c = record { looks = omega arith; leaves = tt }
+    both (Settles _ _) (same_ref c a.head) (both (Settles _ _) (nat_eq a.head.node a.tail.node) (both (Settles _ _) (is_null a.next) record { looks = omega arith; leaves = tt } (both (Settles _ _) (nat_eq a.tail.count s.limit) record { looks = omega arith; leaves = tt } record { looks = omega arith; leaves = tt })) record { looks = omega arith; leaves = tt }) record { looks = omega arith; leaves = tt }
 settles s now me a D12 c =
-    both _ _ (nat_eq a.head.count s.limit) _ _ record { looks = omega arith; leaves = tt } record { looks = omega arith; leaves = tt }
+    both (Settles _ _) (nat_eq a.head.count s.limit) record { looks = omega arith; leaves = tt } record { looks = omega arith; leaves = tt }
 settles s now me a D13 c =
-    both _ _ (same_ref c a.head) _ _ record { looks = omega arith; leaves = tt } record { looks = omega arith; leaves = tt }
-settles s now me a A1 c = record { looks = omega arith; leaves = tt }
-settles s now me a A2 c = record { looks = omega arith; leaves = tt }
-settles s now me a A3 c = both _ _ (nat_eq c 0) _ _ record { looks = omega arith; leaves = tt } record { looks = omega arith; leaves = tt }
-settles s now me a A4 c = record { looks = omega arith; leaves = tt }
-settles s now me a A5 c = record { looks = omega arith; leaves = tt }
-settles s now me a A6 c = record { looks = omega arith; leaves = tt }
-settles s now me a A7 c = record { looks = omega arith; leaves = tt }
-settles s now me a B1 c = both _ _ (nat_eq c 0) _ _ record { looks = omega arith; leaves = tt } record { looks = omega arith; leaves = tt }
-settles s now me a B2 c = record { looks = omega arith; leaves = tt }
-settles s now me a B3 c = both _ _ (is_null c) _ _ record { looks = omega arith; leaves = tt } record { looks = omega arith; leaves = tt }
+    both (Settles _ _) (same_ref c a.head) record { looks = omega arith; leaves = tt } record { looks = omega arith; leaves = tt }
+settles s now me a A3 c = both (Settles _ _) (nat_eq c 0) record { looks = omega arith; leaves = tt } record { looks = omega arith; leaves = tt }
+settles s now me a B1 c = both (Settles _ _) (nat_eq c 0) record { looks = omega arith; leaves = tt } record { looks = omega arith; leaves = tt }
+settles s now me a B3 c = both (Settles _ _) (is_null c) record { looks = omega arith; leaves = tt } record { looks = omega arith; leaves = tt }
 settles s now me a B4 c =
-    both _ _ (nat_eq a.head.count s.limit) _ _ record { looks = omega arith; leaves = tt } record { looks = omega arith; leaves = tt }
-settles s now me a B5 c = record { looks = omega arith; leaves = tt }
+    both (Settles _ _) (nat_eq a.head.count s.limit) record { looks = omega arith; leaves = tt } record { looks = omega arith; leaves = tt }
 settles s now me a B6 c = unlocked_settles _ now a.due a
+settles s now me a _ c = record { looks = omega arith; leaves = tt }
 
 -- Fresh after an exchange of another word
 if_fresh : (b : Bool) (x y : Shared) → x.fresh ≡ y.fresh → (if b then x else y).fresh ≡ y.fresh
@@ -121,41 +84,16 @@ grows s now me a N5 m = go (nat_eq m.fresh a.f) refl s.kind
     go true e TwoLock = let h : m.fresh ≡ a.f = eqb-true m.fresh a.f e in omega arith
     go true e NonBlocking = let h : m.fresh ≡ a.f = eqb-true m.fresh a.f e in omega arith
     go false e k = omega arith
-grows s now me a N1 m = plus m _ _ (outcome s now me a N1 (found (action s me a N1) m)) a.node (refl) (settles s now me a N1 (found (action s me a N1) m))
-grows s now me a N2 m = plus m _ _ (outcome s now me a N2 (found (action s me a N2) m)) a.node (refl) (settles s now me a N2 (found (action s me a N2) m))
-grows s now me a N3 m = plus m _ _ (outcome s now me a N3 (found (action s me a N3) m)) a.node (refl) (settles s now me a N3 (found (action s me a N3) m))
 grows s now me a N4 m = plus m _ _ (outcome s now me a N4 (found (action s me a N4) m)) a.node (if_fresh (same Free (content Free m) a.top) (put Free (raised s a.top a.next.node) m) m refl) (settles s now me a N4 (found (action s me a N4) m))
-grows s now me a F1 m = plus m _ _ (outcome s now me a F1 (found (action s me a F1) m)) a.node (refl) (settles s now me a F1 (found (action s me a F1) m))
-grows s now me a F2 m = plus m _ _ (outcome s now me a F2 (found (action s me a F2) m)) a.node (refl) (settles s now me a F2 (found (action s me a F2) m))
 grows s now me a F3 m = plus m _ _ (outcome s now me a F3 (found (action s me a F3) m)) a.node (if_fresh (same Free (content Free m) a.top) (put Free (raised s a.top a.node) m) m refl) (settles s now me a F3 (found (action s me a F3) m))
-grows s now me a E2 m = plus m _ _ (outcome s now me a E2 (found (action s me a E2) m)) a.node (refl) (settles s now me a E2 (found (action s me a E2) m))
-grows s now me a E3 m = plus m _ _ (outcome s now me a E3 (found (action s me a E3) m)) a.node (refl) (settles s now me a E3 (found (action s me a E3) m))
-grows s now me a E5 m = plus m _ _ (outcome s now me a E5 (found (action s me a E5) m)) a.node (refl) (settles s now me a E5 (found (action s me a E5) m))
-grows s now me a E6 m = plus m _ _ (outcome s now me a E6 (found (action s me a E6) m)) a.node (refl) (settles s now me a E6 (found (action s me a E6) m))
-grows s now me a E7 m = plus m _ _ (outcome s now me a E7 (found (action s me a E7) m)) a.node (refl) (settles s now me a E7 (found (action s me a E7) m))
 grows s now me a E9 m = plus m _ _ (outcome s now me a E9 (found (action s me a E9) m)) a.node (if_fresh (same (Next a.tail.node) (content (Next a.tail.node) m) a.next) (put (Next a.tail.node) (raised s a.next a.node) m) m refl) (settles s now me a E9 (found (action s me a E9) m))
 grows s now me a E13 m = plus m _ _ (outcome s now me a E13 (found (action s me a E13) m)) a.node (if_fresh (same Tail (content Tail m) a.tail) (put Tail (raised s a.tail a.next.node) m) m refl) (settles s now me a E13 (found (action s me a E13) m))
 grows s now me a E17 m = plus m _ _ (outcome s now me a E17 (found (action s me a E17) m)) a.node (if_fresh (same Tail (content Tail m) a.tail) (put Tail (raised s a.tail a.node) m) m refl) (settles s now me a E17 (found (action s me a E17) m))
-grows s now me a D2 m = plus m _ _ (outcome s now me a D2 (found (action s me a D2) m)) a.node (refl) (settles s now me a D2 (found (action s me a D2) m))
-grows s now me a D3 m = plus m _ _ (outcome s now me a D3 (found (action s me a D3) m)) a.node (refl) (settles s now me a D3 (found (action s me a D3) m))
-grows s now me a D4 m = plus m _ _ (outcome s now me a D4 (found (action s me a D4) m)) a.node (refl) (settles s now me a D4 (found (action s me a D4) m))
-grows s now me a D5 m = plus m _ _ (outcome s now me a D5 (found (action s me a D5) m)) a.node (refl) (settles s now me a D5 (found (action s me a D5) m))
 grows s now me a D10 m = plus m _ _ (outcome s now me a D10 (found (action s me a D10) m)) a.node (if_fresh (same Tail (content Tail m) a.tail) (put Tail (raised s a.tail a.next.node) m) m refl) (settles s now me a D10 (found (action s me a D10) m))
-grows s now me a D12 m = plus m _ _ (outcome s now me a D12 (found (action s me a D12) m)) a.node (refl) (settles s now me a D12 (found (action s me a D12) m))
 grows s now me a D13 m = plus m _ _ (outcome s now me a D13 (found (action s me a D13) m)) a.node (if_fresh (same Head (content Head m) a.head) (put Head (raised s a.head a.next.node) m) m refl) (settles s now me a D13 (found (action s me a D13) m))
-grows s now me a A1 m = plus m _ _ (outcome s now me a A1 (found (action s me a A1) m)) a.node (refl) (settles s now me a A1 (found (action s me a A1) m))
-grows s now me a A2 m = plus m _ _ (outcome s now me a A2 (found (action s me a A2) m)) a.node (refl) (settles s now me a A2 (found (action s me a A2) m))
 grows s now me a A3 m = plus m _ _ (outcome s now me a A3 (found (action s me a A3) m)) a.node (if_fresh (same Tail_lock (content Tail_lock m) 0) (put Tail_lock (me) m) m refl) (settles s now me a A3 (found (action s me a A3) m))
-grows s now me a A4 m = plus m _ _ (outcome s now me a A4 (found (action s me a A4) m)) a.node (refl) (settles s now me a A4 (found (action s me a A4) m))
-grows s now me a A5 m = plus m _ _ (outcome s now me a A5 (found (action s me a A5) m)) a.node (refl) (settles s now me a A5 (found (action s me a A5) m))
-grows s now me a A6 m = plus m _ _ (outcome s now me a A6 (found (action s me a A6) m)) a.node (refl) (settles s now me a A6 (found (action s me a A6) m))
-grows s now me a A7 m = plus m _ _ (outcome s now me a A7 (found (action s me a A7) m)) a.node (refl) (settles s now me a A7 (found (action s me a A7) m))
 grows s now me a B1 m = plus m _ _ (outcome s now me a B1 (found (action s me a B1) m)) a.node (if_fresh (same Head_lock (content Head_lock m) 0) (put Head_lock (me) m) m refl) (settles s now me a B1 (found (action s me a B1) m))
-grows s now me a B2 m = plus m _ _ (outcome s now me a B2 (found (action s me a B2) m)) a.node (refl) (settles s now me a B2 (found (action s me a B2) m))
-grows s now me a B3 m = plus m _ _ (outcome s now me a B3 (found (action s me a B3) m)) a.node (refl) (settles s now me a B3 (found (action s me a B3) m))
-grows s now me a B4 m = plus m _ _ (outcome s now me a B4 (found (action s me a B4) m)) a.node (refl) (settles s now me a B4 (found (action s me a B4) m))
-grows s now me a B5 m = plus m _ _ (outcome s now me a B5 (found (action s me a B5) m)) a.node (refl) (settles s now me a B5 (found (action s me a B5) m))
-grows s now me a B6 m = plus m _ _ (outcome s now me a B6 (found (action s me a B6) m)) a.node (refl) (settles s now me a B6 (found (action s me a B6) m))
+grows s now me a l m = plus m _ _ (outcome s now me a l (found (action s me a l) m)) a.node (refl) (settles s now me a l (found (action s me a l) m))
 
 -- giving up ends the call, and sets nothing aside
 busy_or_settles : (now node seek : ℕ) (due : Option Reply) (a : Actor) → IfSome (busy_or now due a) (Settles seek node)
@@ -164,38 +102,9 @@ busy_or_settles now node seek (Some reply) a = record { looks = omega arith; lea
 
 pub given_settles : (now : ℕ) (a : Actor) (l : Line) → IfSome (gives_up now a l) (Settles (seeks (Some l)) a.node)
 given_settles now a N1 = record { looks = omega arith; leaves = tt }
-given_settles now a N2 = tt
-given_settles now a N3 = tt
-given_settles now a N4 = tt
-given_settles now a N5 = tt
 given_settles now a F1 = busy_or_settles now a.node 0 a.due (to_pocket a)
-given_settles now a F2 = tt
-given_settles now a F3 = tt
-given_settles now a E2 = tt
-given_settles now a E3 = tt
 given_settles now a E5 = record { looks = omega arith; leaves = tt }
-given_settles now a E6 = tt
-given_settles now a E7 = tt
-given_settles now a E9 = tt
-given_settles now a E13 = tt
-given_settles now a E17 = tt
 given_settles now a D2 = record { looks = omega arith; leaves = tt }
-given_settles now a D3 = tt
-given_settles now a D4 = tt
-given_settles now a D5 = tt
-given_settles now a D10 = tt
-given_settles now a D12 = tt
-given_settles now a D13 = tt
-given_settles now a A1 = tt
-given_settles now a A2 = tt
 given_settles now a A3 = record { looks = omega arith; leaves = tt }
-given_settles now a A4 = tt
-given_settles now a A5 = tt
-given_settles now a A6 = tt
-given_settles now a A7 = tt
 given_settles now a B1 = record { looks = omega arith; leaves = tt }
-given_settles now a B2 = tt
-given_settles now a B3 = tt
-given_settles now a B4 = tt
-given_settles now a B5 = tt
-given_settles now a B6 = tt
+given_settles now a _ = tt

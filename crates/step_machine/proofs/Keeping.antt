@@ -1,19 +1,10 @@
 -- What each step keeps of the shared words and of the actor that takes it holds in every world that is reached.
-use Rattle.std.proofs.Common.{◌≡◌, ℕ, ◌+◌, ◌-◌, Bool, true, false, if◌then◌else◌, Option, Some, None, IfSome, List, [], ◌∷◌, ◌∙◌, refl}
+use Rattle.std.proofs.Common.{◌≡◌, ℕ, ◌+◌, ◌-◌, true, Option, Some, IfSome, List, [], ◌∷◌, ◌∙◌, refl}
 use Rattle.std.proofs.lemmas.List.Elements.{All-set, All-replicate}
 use Rattle.std.specs.List.{All}
-use Rattle.line_table.specs.declared.lines.Line.{Line}
-use Rattle.history.specs.declared.operations.Op.{Op}
-use Rattle.line_steps.specs.declared.actors.Setup.{Setup}
-use Rattle.line_steps.specs.declared.actors.Actor.{Actor}
-use Rattle.line_steps.specs.declared.actors.Outcome.{Outcome}
-use Rattle.line_steps.specs.Memory.{Shared, found, performed}
-use Rattle.line_steps.specs.Lines.{action, outcome, gives_up}
-use Rattle.line_steps.specs.Rooms.{first_words}
-use Rattle.line_steps.specs.Calling.{is_call, begun}
-use Rattle.step_machine.specs.declared.actors.Move.{Move}
-use Rattle.step_machine.specs.declared.actors.Move.TheVariants.{Begin, Step, Give}
-use Rattle.step_machine.specs.Machine.{World, idle, opening, actor_of, rested, with_actor, settled, begins, steps, given, gives, may_rest, rests, moved, mover, rest_of, AnyMove, made, Rest, next_any, run, IsReached}
+use Rattle.step_machine.specs.Below.{Line, Op, Setup, Actor, Outcome, Shared, found, performed, action, outcome, gives_up, is_call, begun, first_words}
+use Rattle.step_machine.specs.Machine.{World, idle, opening, actor_of, rested, with_actor, settled, may_rest, AnyMove, next_any, run, IsReached}
+use Rattle.step_machine.proofs.AnyMoves.{after_move}
 use Rattle.step_machine.proofs.Reached.{if_some, some_of, actor_of-All, setup-next_any, run_on_if, made_reached, opening_made, reached_next}
 
 -- a fact of the shared words and one of each actor are kept by all that an actor does, in worlds of which J is known
@@ -38,52 +29,21 @@ module _ (J : World → Type 0) (Q : Shared → Type 0) (P : Setup → Actor →
   with_actor_has : (w : World) (me : ℕ) (a : Actor) → Has w → P w.setup a → Has (with_actor w me a)
   with_actor_has w me a h p = record { words = h.words; actors = All-set (P w.setup) w.actors (me - 1) a p h.actors }
 
-  begins_has : (w : World) (me : ℕ) (op : Op) (a : Actor) (l : Option Line) → Has w → P w.setup a → IfSome (begins w me op a l) Has
-  begins_has w me op a None h p = go (is_call op) refl
-    where
-      go : (b : Bool) → is_call op ≡ b → IfSome (if b then Some (with_actor w me (begun w.setup.kind me op a)) else None) Has
-      go true e = with_actor_has w me _ h (keeps.began w.setup me op a e p)
-      go false e = tt
-  begins_has w me op a (Some l) h p = tt
-
-  steps_has : (w : World) (me : ℕ) (a : Actor) (l : Option Line) → J w → actor_of w me ≡ Some a → a.line ≡ l → Has w → P w.setup a → IfSome (steps w me a l) Has
-  steps_has w me a None j f e h p = tt
-  steps_has w me a (Some l) j f e h p =
-      settled_has w me a _ _ h (keeps.words w me a l j f e h.words p) (keeps.actor w me a l j f e h.words p)
-
-  given_has : (w : World) (me : ℕ) (a : Actor) (o : Option Outcome) → Has w → IfSome o (λ x. P w.setup x.actor) → IfSome (given w me a o) Has
-  given_has w me a None h p = tt
-  given_has w me a (Some o) h p = settled_has w me a w.shared o h h.words p
-
-  gives_has : (w : World) (me : ℕ) (a : Actor) (l : Option Line) → a.line ≡ l → Has w → P w.setup a → IfSome (gives w me a l) Has
-  gives_has w me a None e h p = tt
-  gives_has w me a (Some l) e h p = given_has w me a (gives_up (w.steps + 1) a l) h (keeps.gave_up w.setup (w.steps + 1) a l e p)
-
-  rests_has : (w : World) (me : ℕ) (a : Actor) (l : Option Line) → a.line ≡ l → Has w → P w.setup a → IfSome (rests w me a l) Has
-  rests_has w me a None e h p = tt
-  rests_has w me a (Some l) e h p = go (may_rest l) refl
-    where
-      go : (b : Bool) → may_rest l ≡ b → IfSome (if b then Some (with_actor w me (rested a)) else None) Has
-      go true f = with_actor_has w me _ h (keeps.at_rest w.setup a l e f p)
-      go false f = tt
-
-  moved_has : (w : World) (m : Move) (a : Option Actor) → J w → actor_of w (mover m) ≡ a → Has w → IfSome a (P w.setup) → IfSome (moved w m a) Has
-  moved_has w m None j f h p = tt
-  moved_has w (Begin me op) (Some a) j f h p = begins_has w me op a a.line h p
-  moved_has w (Step me) (Some a) j f h p = steps_has w me a a.line j f refl h p
-  moved_has w (Give me) (Some a) j f h p = gives_has w me a a.line refl h p
-
-  rest_of_has : (w : World) (me : ℕ) (a : Option Actor) → Has w → IfSome a (P w.setup) → IfSome (rest_of w me a) Has
-  rest_of_has w me None h p = tt
-  rest_of_has w me (Some a) h p = rests_has w me a a.line refl h p
-
-  actor_has : (w : World) (me : ℕ) → Has w → IfSome (actor_of w me) (P w.setup)
-  actor_has w me h = if_some (P w.setup) (actor_of w me) (λ a e. actor_of-All (P w.setup) w me a h.actors e)
-
   -- any move keeps the facts
   pub next_any_has : (w : World) (m : AnyMove) → J w → Has w → IfSome (next_any w m) Has
-  next_any_has w (made m) j h = moved_has w m (actor_of w (mover m)) j refl h (actor_has w (mover m) h)
-  next_any_has w (Rest me) j h = rest_of_has w me (actor_of w me) h (actor_has w me h)
+  next_any_has w m j h =
+      after_move w (λ m v. Has v)
+      (record {
+        began = λ me op a is e call. with_actor_has w me _ h (keeps.began w.setup me op a call (actor me a is));
+        step = λ me a l is at. settled_has w me a _ _ h (keeps.words w me a l j is at h.words (actor me a is)) (keeps.actor w me a l j is at h.words (actor me a is));
+        gave_up = λ me a l o is at given.
+            settled_has w me a w.shared o h h.words (some_of (λ x. P w.setup x.actor) (gives_up (w.steps + 1) a l) o given (keeps.gave_up w.setup (w.steps + 1) a l at (actor me a is)));
+        at_rest = λ me a l is at may. with_actor_has w me _ h (keeps.at_rest w.setup a l at may (actor me a is));
+      })
+      m
+    where
+      actor : (me : ℕ) (a : Actor) → actor_of w me ≡ Some a → P w.setup a
+      actor me a is = actor_of-All (P w.setup) w me a h.actors is
 
   -- a reached world of a setup has the facts
   record Goes (s : Setup) (w : World) : Type 0 where

@@ -1,20 +1,9 @@
 -- What a step makes of its actor is in range.
-use Rattle.std.proofs.Common.{◌≡◌, ℕ, ◌+◌, ◌≤◌, Bool, true, false, nat_eq, nat_lt, if◌then◌else◌, Option, Some, None, IfSome, refl, arith}
+use Rattle.std.proofs.Common.{◌≡◌, ℕ, ◌+◌, ◌≤◌, Bool, true, false, nat_eq, nat_lt, if◌then◌else◌, Option, Some, None, IfSome, arith}
 use Rattle.std.proofs.lemmas.Bool.{ltb-true}
-use Rattle.counted_ref.specs.Ref.{Ref, is_null, same_ref}
-use Rattle.line_table.specs.declared.lines.Kind.{Kind}
-use Rattle.line_table.specs.declared.lines.Kind.TheVariants.{TwoLock, NonBlocking}
-use Rattle.line_table.specs.declared.lines.Line.{Line}
-use Rattle.line_table.specs.declared.lines.Line.TheVariants.{N1, N2, N3, N4, N5, F1, F2, F3, E2, E3, E5, E6, E7, E9, E13, E17, D2, D3, D4, D5, D10, D12, D13, A1, A2, A3, A4, A5, A6, A7, B1, B2, B3, B4, B5, B6}
-use Rattle.history.specs.declared.operations.Reply.{Reply}
-use Rattle.history.specs.declared.operations.Reply.TheVariants.{Done, Value, Empty, Refused}
-use Rattle.history.specs.declared.operations.Taken.{Taken}
-use Rattle.line_steps.specs.declared.actors.Setup.{Setup}
-use Rattle.line_steps.specs.declared.actors.Actor.{Actor}
-use Rattle.line_steps.specs.declared.actors.Outcome.{Outcome}
-use Rattle.line_steps.specs.Memory.{word, Found}
-use Rattle.line_steps.specs.Lines.{action, outcome, freed, unlocked, sets_aside, goes, ends, effect, lets_go, to_pocket, with_node, takes, busy_or, gives_up}
+use Rattle.step_machine.specs.Below.{Ref, is_null, same_ref, Kind, TwoLock, NonBlocking, Line, N1, N2, N3, N4, N5, F1, F3, E3, E5, E6, E7, E9, E17, D2, D3, D4, D5, D12, D13, A3, A4, B1, B2, B3, B4, B5, B6, Taken, Reply, Done, Setup, Actor, Outcome, word, Found, action, outcome, freed, unlocked, sets_aside, goes, ends, effect, lets_go, to_pocket, with_node, takes, busy_or, gives_up}
 use Rattle.step_machine.specs.Range.{RefInRange, ValueInRange, HeldInRange, RegistersInRange, LineInRange}
+use Rattle.step_machine.proofs.Choices.{either, both}
 use Rattle.step_machine.proofs.Range.{ContentInRange}
 
 -- the actor of an outcome is in range
@@ -46,27 +35,14 @@ module _ (s : Setup) (n k : ℕ) where
   pub with_held : (a : Actor) (node mark : ℕ) → RegistersInRange s n k a → node ≤ n → mark ≤ s.limit → RegistersInRange s n k (takes node mark a)
   with_held a node mark h g m = record { op = h.op; f = h.f; top = h.top; node = g; mark = m; tail = h.tail; head = h.head; next = h.next; val = h.val }
 
-  -- a choice of two outcomes whose actors are in range
-  either : (b : Bool) (x y : Outcome) → (b ≡ true → Kept s n k x) → (b ≡ false → Kept s n k y) → Kept s n k (if b then x else y)
-  either true x y hx hy = hx refl
-  either false x y hx hy = hy refl
-
-  -- the same where no fact of the test is wanted
-  both : (b : Bool) (x y : Outcome) → Kept s n k x → Kept s n k y → Kept s n k (if b then x else y)
-  both true x y hx hy = hx
-  both false x y hx hy = hy
-
   freed_kept : (kind : Kind) (now : ℕ) (due : Option Reply) (a : Actor) → RegistersInRange s n k a → IfSome a.pocket (HeldInRange s.limit n) → Kept s n k (freed kind now due a)
   freed_kept TwoLock now None a h p = record { registers = h; pocket = p; line = tt }
   freed_kept NonBlocking now None a h p = record { registers = h; pocket = p; line = tt }
   freed_kept kind now (Some reply) a h p = record { registers = h; pocket = p; line = tt }
 
   unlocked_kept : (now : ℕ) (due : Option Reply) (a : Actor) → RegistersInRange s n k a → IfSome a.pocket (HeldInRange s.limit n) → Kept s n k (unlocked now due a)
-  unlocked_kept now None a h p = record { registers = h; pocket = p; line = tt }
-  unlocked_kept now (Some (Value v)) a h p = record { registers = h; pocket = p; line = tt }
   unlocked_kept now (Some Done) a h p = record { registers = h; pocket = p; line = tt }
-  unlocked_kept now (Some Empty) a h p = record { registers = h; pocket = p; line = tt }
-  unlocked_kept now (Some (Refused why)) a h p = record { registers = h; pocket = p; line = tt }
+  unlocked_kept now _ a h p = record { registers = h; pocket = p; line = tt }
 
   with_node_kept : (kind : Kind) (a : Actor) → RegistersInRange s n k a → IfSome a.pocket (HeldInRange s.limit n) → Kept s n k (goes (with_node kind) a)
   with_node_kept TwoLock a h p = record { registers = h; pocket = p; line = tt }
@@ -88,72 +64,63 @@ module _ (s : Setup) (n k : ℕ) where
   kept now me a N1 c h p w g = record { registers = with_f a c h g; pocket = p; line = tt }
   kept now me a N2 c h p w g =
       let r : RegistersInRange s n k (record a { top = c }) = with_top a c h g in
-      both (is_null c) _ _
-      (either (nat_lt a.f s.size) _ _ (λ e. record { registers = r; pocket = p; line = ltb-true a.f s.size e }) (λ e. record { registers = r; pocket = p; line = tt }))
-      (both (nat_eq c.count s.limit) _ _ (record { registers = r; pocket = p; line = tt }) (record { registers = r; pocket = p; line = tt }))
+      both (Kept s n k) (is_null c)
+      (either (Kept s n k) (nat_lt a.f s.size) (λ e. record { registers = r; pocket = p; line = ltb-true a.f s.size e }) (λ e. record { registers = r; pocket = p; line = tt }))
+      (both (Kept s n k) (nat_eq c.count s.limit) (record { registers = r; pocket = p; line = tt }) (record { registers = r; pocket = p; line = tt }))
   kept now me a N3 c h p w g = record { registers = with_next a c h g; pocket = p; line = tt }
   kept now me a N4 c h p w g =
-      both (same_ref c a.top) _ _
+      both (Kept s n k) (same_ref c a.top)
       (with_node_kept s.kind (takes a.top.node a.next.count a) (with_held a a.top.node a.next.count h h.top.node h.next.count) p)
       (record { registers = h; pocket = p; line = tt })
   kept now me a N5 c h p w g =
-      either (nat_eq c a.f) _ _
+      either (Kept s n k) (nat_eq c a.f)
       (λ e. with_node_kept s.kind (takes (a.f + 1) 0 a) (with_held a (a.f + 1) 0 h (w e) (omega arith)) p)
       (λ e. record { registers = h; pocket = p; line = tt })
   kept now me a F1 c h p w g =
       let r : RegistersInRange s n k (record a { top = c }) = with_top a c h g in
-      both (nat_eq c.count s.limit) _ _ (aside_kept _ (freed_kept s.kind now a.due (record a { top = c }) r p)) (record { registers = r; pocket = p; line = tt })
-  kept now me a F2 c h p w g = record { registers = h; pocket = p; line = tt }
-  kept now me a F3 c h p w g = both (same_ref c a.top) _ _ (freed_kept s.kind now a.due (lets_go a) h p) (record { registers = h; pocket = p; line = tt })
-  kept now me a E2 c h p w g = record { registers = h; pocket = p; line = tt }
+      both (Kept s n k) (nat_eq c.count s.limit) (aside_kept _ (freed_kept s.kind now a.due (record a { top = c }) r p)) (record { registers = r; pocket = p; line = tt })
+  kept now me a F3 c h p w g = both (Kept s n k) (same_ref c a.top) (freed_kept s.kind now a.due (lets_go a) h p) (record { registers = h; pocket = p; line = tt })
   kept now me a E3 c h p w g =
       let m : c.count ≤ s.limit = g.count in
       let r : RegistersInRange s n k (record a { mark = c.count }) = with_held a a.node c.count h h.node m in
-      both (nat_eq c.count s.limit) _ _ (record { registers = r; pocket = p; line = tt }) (record { registers = r; pocket = p; line = tt })
+      both (Kept s n k) (nat_eq c.count s.limit) (record { registers = r; pocket = p; line = tt }) (record { registers = r; pocket = p; line = tt })
   kept now me a E5 c h p w g = record { registers = with_tail a c h g; pocket = p; line = tt }
   kept now me a E6 c h p w g = record { registers = with_next a c h g; pocket = p; line = tt }
   kept now me a E7 c h p w g =
-      both (same_ref c a.tail) _ _
-      (both (is_null a.next) _ _ (record { registers = h; pocket = p; line = tt })
-      (both (nat_eq a.tail.count s.limit) _ _ (record { registers = h; pocket = record { node = h.node; mark = h.mark }; line = tt }) (record { registers = h; pocket = p; line = tt })))
+      both (Kept s n k) (same_ref c a.tail)
+      (both (Kept s n k) (is_null a.next) (record { registers = h; pocket = p; line = tt })
+      (both (Kept s n k) (nat_eq a.tail.count s.limit) (record { registers = h; pocket = record { node = h.node; mark = h.mark }; line = tt }) (record { registers = h; pocket = p; line = tt })))
       (record { registers = h; pocket = p; line = tt })
   kept now me a E9 c h p w g =
-      both (same_ref c a.next) _ _ (ended_or (nat_eq a.tail.count s.limit) now (lets_go (record a { due = Some Done })) h p) (record { registers = h; pocket = p; line = tt })
-  kept now me a E13 c h p w g = record { registers = h; pocket = p; line = tt }
-  kept now me a E17 c h p w g = record { registers = h; pocket = p; line = tt }
+      both (Kept s n k) (same_ref c a.next) (ended_or (nat_eq a.tail.count s.limit) now (lets_go (record a { due = Some Done })) h p) (record { registers = h; pocket = p; line = tt })
   kept now me a D2 c h p w g = record { registers = with_head a c h g; pocket = p; line = tt }
   kept now me a D3 c h p w g = record { registers = with_tail a c h g; pocket = p; line = tt }
   kept now me a D4 c h p w g = record { registers = with_next a c h g; pocket = p; line = tt }
   kept now me a D5 c h p w g =
-      both (same_ref c a.head) _ _
-      (both (nat_eq a.head.node a.tail.node) _ _
-      (both (is_null a.next) _ _ (record { registers = h; pocket = p; line = tt })
-      (both (nat_eq a.tail.count s.limit) _ _ (record { registers = h; pocket = p; line = tt }) (record { registers = h; pocket = p; line = tt })))
+      both (Kept s n k) (same_ref c a.head)
+      (both (Kept s n k) (nat_eq a.head.node a.tail.node)
+      (both (Kept s n k) (is_null a.next) (record { registers = h; pocket = p; line = tt })
+      (both (Kept s n k) (nat_eq a.tail.count s.limit) (record { registers = h; pocket = p; line = tt }) (record { registers = h; pocket = p; line = tt })))
       (record { registers = h; pocket = p; line = tt }))
       (record { registers = h; pocket = p; line = tt })
-  kept now me a D10 c h p w g = record { registers = h; pocket = p; line = tt }
   kept now me a D12 c h p w g =
       let r : RegistersInRange s n k (record a { val = c }) = with_val a c h g in
-      both (nat_eq a.head.count s.limit) _ _ (record { registers = r; pocket = p; line = tt }) (record { registers = r; pocket = p; line = tt })
+      both (Kept s n k) (nat_eq a.head.count s.limit) (record { registers = r; pocket = p; line = tt }) (record { registers = r; pocket = p; line = tt })
   kept now me a D13 c h p w g =
-      both (same_ref c a.head) _ _ (record { registers = with_held a a.head.node a.next.count h h.head.node h.next.count; pocket = p; line = tt }) (record { registers = h; pocket = p; line = tt })
-  kept now me a A1 c h p w g = record { registers = h; pocket = p; line = tt }
-  kept now me a A2 c h p w g = record { registers = h; pocket = p; line = tt }
-  kept now me a A3 c h p w g = both (nat_eq c 0) _ _ (record { registers = h; pocket = p; line = tt }) (record { registers = h; pocket = p; line = tt })
+      both (Kept s n k) (same_ref c a.head) (record { registers = with_held a a.head.node a.next.count h h.head.node h.next.count; pocket = p; line = tt }) (record { registers = h; pocket = p; line = tt })
+  kept now me a A3 c h p w g = both (Kept s n k) (nat_eq c 0) (record { registers = h; pocket = p; line = tt }) (record { registers = h; pocket = p; line = tt })
   kept now me a A4 c h p w g = record { registers = with_tail a c h g; pocket = p; line = tt }
-  kept now me a A5 c h p w g = record { registers = h; pocket = p; line = tt }
-  kept now me a A6 c h p w g = record { registers = h; pocket = p; line = tt }
-  kept now me a A7 c h p w g = record { registers = h; pocket = p; line = tt }
-  kept now me a B1 c h p w g = both (nat_eq c 0) _ _ (record { registers = h; pocket = p; line = tt }) (record { registers = h; pocket = p; line = tt })
+  kept now me a B1 c h p w g = both (Kept s n k) (nat_eq c 0) (record { registers = h; pocket = p; line = tt }) (record { registers = h; pocket = p; line = tt })
   kept now me a B2 c h p w g = record { registers = with_head a c h g; pocket = p; line = tt }
   kept now me a B3 c h p w g =
       let r : RegistersInRange s n k (record a { next = c }) = with_next a c h g in
-      both (is_null c) _ _ (record { registers = r; pocket = p; line = tt }) (record { registers = r; pocket = p; line = tt })
+      both (Kept s n k) (is_null c) (record { registers = r; pocket = p; line = tt }) (record { registers = r; pocket = p; line = tt })
   kept now me a B4 c h p w g =
       let r : RegistersInRange s n k (record a { val = c }) = with_val a c h g in
-      both (nat_eq a.head.count s.limit) _ _ (record { registers = r; pocket = p; line = tt }) (record { registers = r; pocket = p; line = tt })
+      both (Kept s n k) (nat_eq a.head.count s.limit) (record { registers = r; pocket = p; line = tt }) (record { registers = r; pocket = p; line = tt })
   kept now me a B5 c h p w g = record { registers = with_held a a.head.node a.next.count h h.head.node h.next.count; pocket = p; line = tt }
   kept now me a B6 c h p w g = unlocked_kept now a.due a h p
+  kept now me a _ c h p w g = record { registers = h; pocket = p; line = tt }
 
   busy_or_kept : (now : ℕ) (due : Option Reply) (a : Actor) → RegistersInRange s n k a → IfSome a.pocket (HeldInRange s.limit n) → IfSome (busy_or now due a) (Kept s n k)
   busy_or_kept now None a h p = record { registers = h; pocket = p; line = tt }

@@ -5,19 +5,7 @@ use Rattle.std.specs.Prelude.{slice_get}
 use Rattle.std.specs.List.{AllByRecursion, flat_map}
 use Rattle.std.proofs.lemmas.List.{map-append}
 use Rattle.std.proofs.lemmas.Grind.{flat_map-append}
-use Rattle.line_table.specs.declared.lines.Line.{Line}
-use Rattle.history.specs.declared.operations.Op.{Op}
-use Rattle.history.specs.declared.operations.Op.TheVariants.{Enq, Deq}
-use Rattle.history.specs.declared.operations.Taken.{Taken}
-use Rattle.history.specs.declared.operations.Reply.{Reply}
-use Rattle.history.specs.declared.operations.Reply.TheVariants.{Done, Value, Empty, Refused}
-use Rattle.history.specs.declared.operations.Stamped.{Stamped}
-use Rattle.history.specs.Queue.{Queue, empty, given, front_of}
-use Rattle.history.specs.Entries.{Plays}
-use Rattle.history.specs.History.{number_of, rising, answer, Gets, Replays, replayed}
-use Rattle.line_steps.specs.declared.actors.Actor.{Actor}
-use Rattle.line_steps.specs.declared.actors.Outcome.{Outcome}
-use Rattle.line_steps.specs.Memory.{Shared, node_at}
+use Rattle.step_machine.specs.Below.{Line, Op, Enq, Deq, Taken, Reply, Done, Value, Empty, Refused, Stamped, Queue, empty, given, front_of, Plays, number_of, rising, answer, Gets, Replays, replayed, Actor, Outcome, Shared, node_at}
 use Rattle.step_machine.specs.Machine.{World, actor_of, told, settled}
 use Rattle.step_machine.specs.Places.{one_if, times}
 use Rattle.step_machine.specs.Chains.{values_of, queue_values}

@@ -3,35 +3,18 @@
 use Rattle.std.proofs.Common.{◌≡◌, ◌≢◌, ℕ, ◌+◌, ◌<◌, ◌⊎◌, inl, inr, Bool, true, false, nat_eq, nat_lt, if◌then◌else◌, Option, Some, None, IfSome, List, set, length, get_or, refl, sym, ap, ◌∙◌, subst, arith}
 use Rattle.std.specs.Prelude.{slice_get}
 use Rattle.std.proofs.lemmas.Option.{same_Some, slice_get_within, get_or_from_slice_get}
-use Rattle.counted_ref.specs.Ref.{is_null, same_ref}
-use Rattle.line_table.specs.declared.lines.Kind.{Kind}
-use Rattle.line_table.specs.declared.lines.Line.{Line}
-use Rattle.line_table.specs.declared.lines.Line.TheVariants.{N1, N2, N4, N5, F1, F3, E3, E5, E7, E9, E17, D2, D5, D12, D13, A3, B1, B3, B4, B6}
-use Rattle.history.specs.declared.operations.Op.{Op}
-use Rattle.history.specs.declared.operations.Op.TheVariants.{Enq, Deq}
-use Rattle.history.specs.declared.operations.Reply.{Reply}
-use Rattle.history.specs.declared.operations.Reply.TheVariants.{Done, Value, Empty, Refused}
-use Rattle.history.specs.declared.operations.Stamped.{Stamped}
+use Rattle.step_machine.specs.Below.{is_null, same_ref, Kind, Line, N1, N2, N4, N5, F1, F3, E3, E5, E7, E9, E17, D2, D5, D12, D13, A3, B1, B3, B4, B6, Op, Enq, Deq, Reply, Done, Stamped, empty, Plays, rising, Replays, replayed, Setup, Held, Actor, Outcome, Shared, Found, action, outcome, goes, ends, effect, lets_go, to_pocket, with_node, freed, unlocked, busy_or, gives_up, from_pocket, begun}
 use Rattle.std.specs.List.{flat_map}
-use Rattle.history.specs.Queue.{empty}
-use Rattle.history.specs.Entries.{Plays}
 use Rattle.step_machine.specs.Chains.{queue_values}
 use Rattle.step_machine.specs.Entries.{entry_of}
-use Rattle.history.specs.History.{rising, Replays, replayed}
-use Rattle.line_steps.specs.declared.actors.Setup.{Setup}
-use Rattle.line_steps.specs.declared.actors.Actor.{Actor}
-use Rattle.line_steps.specs.declared.actors.Held.{Held}
-use Rattle.line_steps.specs.declared.actors.Outcome.{Outcome}
-use Rattle.line_steps.specs.Memory.{Shared, Found}
-use Rattle.line_steps.specs.Lines.{action, outcome, goes, ends, effect, lets_go, to_pocket, with_node, freed, unlocked, busy_or, gives_up}
-use Rattle.line_steps.specs.Calling.{from_pocket, begun}
 use Rattle.step_machine.specs.Machine.{World, actor_of, opening, new_operation, told, recorded, entry_or, settled, with_actor, run, IsReached}
 use Rattle.step_machine.specs.Promises.{due_of, promised_reply}
 use Rattle.step_machine.specs.Stamps.{makers}
+use Rattle.step_machine.proofs.Choices.{both}
 use Rattle.step_machine.proofs.StampsLists.{same_or_not, slice_get-set_same, slice_get-set_other, slice_get-append_end, put_end}
-use Rattle.step_machine.proofs.StampsKept.{Idle, Busy, Knows, Kept, actor_stands, actor_cases}
+use Rattle.step_machine.proofs.StampsKept.{Idle, Busy, Knows, Kept, actor_cases}
 use Rattle.step_machine.proofs.StampsMoves.{moves_kept, may_rest_all}
-use Rattle.step_machine.proofs.Reached.{some_of}
+use Rattle.step_machine.proofs.Reached.{some_of, actor_stands}
 use Rattle.step_machine.proofs.Booking.{entered, entry_in, book, taken, map_agree, entry_kept, actor_same, actor_other}
 use Rattle.step_machine.proofs.Replay.{before}
 use Rattle.step_machine.proofs.Legal.{Accounted, WasEmpty, queue_of}
@@ -40,41 +23,34 @@ use Rattle.step_machine.proofs.Legal.{Accounted, WasEmpty, queue_of}
 record SameOp (a : Actor) (o : Outcome) : Type 0 where
   same : o.actor.op ≡ a.op
 
-both : (a : Actor) (b : Bool) (x y : Outcome) → SameOp a x → SameOp a y → SameOp a (if b then x else y)
-both a true x y hx hy = hx
-both a false x y hx hy = hy
-
 freed_op : (kind : Kind) (now : ℕ) (due : Option Reply) (a : Actor) → SameOp a (freed kind now due a)
 freed_op kind now None a = record { same = refl }
 freed_op kind now (Some reply) a = record { same = refl }
 
 unlocked_op : (now : ℕ) (due : Option Reply) (a : Actor) → SameOp a (unlocked now due a)
-unlocked_op now None a = record { same = refl }
 unlocked_op now (Some Done) a = record { same = refl }
-unlocked_op now (Some (Value v)) a = record { same = refl }
-unlocked_op now (Some Empty) a = record { same = refl }
-unlocked_op now (Some (Refused why)) a = record { same = refl }
+unlocked_op now _ a = record { same = refl }
 
 op_kept : (s : Setup) (now me : ℕ) (a : Actor) (l : Line) (c : Found (action s me a l)) → SameOp a (outcome s now me a l c)
-op_kept s now me a N2 c = both a (is_null c) _ _ (both a (nat_lt a.f s.size) _ _ (record { same = refl }) (record { same = refl })) (both a (nat_eq c.count s.limit) _ _ (record { same = refl }) (record { same = refl }))
-op_kept s now me a N4 c = both a (same_ref c a.top) _ _ (record { same = refl }) (record { same = refl })
-op_kept s now me a N5 c = both a (nat_eq c a.f) _ _ (record { same = refl }) (record { same = refl })
-op_kept s now me a F1 c = both a (nat_eq c.count s.limit) _ _ (record { same = (freed_op s.kind now a.due (record a { top = c })).same }) (record { same = refl })
-op_kept s now me a F3 c = both a (same_ref c a.top) _ _ (record { same = (freed_op s.kind now a.due (lets_go a)).same }) (record { same = refl })
-op_kept s now me a E3 c = both a (nat_eq c.count s.limit) _ _ (record { same = refl }) (record { same = refl })
-op_kept s now me a E7 c = both a (same_ref c a.tail) _ _ (both a (is_null a.next) _ _ (record { same = refl }) (both a (nat_eq a.tail.count s.limit) _ _ (record { same = refl }) (record { same = refl }))) (record { same = refl })
-op_kept s now me a E9 c = both a (same_ref c a.next) _ _ (ended (nat_eq a.tail.count s.limit)) (record { same = refl })
+op_kept s now me a N2 c = both (SameOp a) (is_null c) (both (SameOp a) (nat_lt a.f s.size) (record { same = refl }) (record { same = refl })) (both (SameOp a) (nat_eq c.count s.limit) (record { same = refl }) (record { same = refl }))
+op_kept s now me a N4 c = both (SameOp a) (same_ref c a.top) (record { same = refl }) (record { same = refl })
+op_kept s now me a N5 c = both (SameOp a) (nat_eq c a.f) (record { same = refl }) (record { same = refl })
+op_kept s now me a F1 c = both (SameOp a) (nat_eq c.count s.limit) (record { same = (freed_op s.kind now a.due (record a { top = c })).same }) (record { same = refl })
+op_kept s now me a F3 c = both (SameOp a) (same_ref c a.top) (record { same = (freed_op s.kind now a.due (lets_go a)).same }) (record { same = refl })
+op_kept s now me a E3 c = both (SameOp a) (nat_eq c.count s.limit) (record { same = refl }) (record { same = refl })
+op_kept s now me a E7 c = both (SameOp a) (same_ref c a.tail) (both (SameOp a) (is_null a.next) (record { same = refl }) (both (SameOp a) (nat_eq a.tail.count s.limit) (record { same = refl }) (record { same = refl }))) (record { same = refl })
+op_kept s now me a E9 c = both (SameOp a) (same_ref c a.next) (ended (nat_eq a.tail.count s.limit)) (record { same = refl })
   where
     ended : (b : Bool) → SameOp a (effect now (if b then ends now Done (lets_go (record a { due = Some Done })) else goes E17 (lets_go (record a { due = Some Done }))))
     ended true = record { same = refl }
     ended false = record { same = refl }
-op_kept s now me a D5 c = both a (same_ref c a.head) _ _ (both a (nat_eq a.head.node a.tail.node) _ _ (both a (is_null a.next) _ _ (record { same = refl }) (both a (nat_eq a.tail.count s.limit) _ _ (record { same = refl }) (record { same = refl }))) (record { same = refl })) (record { same = refl })
-op_kept s now me a D12 c = both a (nat_eq a.head.count s.limit) _ _ (record { same = refl }) (record { same = refl })
-op_kept s now me a D13 c = both a (same_ref c a.head) _ _ (record { same = refl }) (record { same = refl })
-op_kept s now me a A3 c = both a (nat_eq c 0) _ _ (record { same = refl }) (record { same = refl })
-op_kept s now me a B1 c = both a (nat_eq c 0) _ _ (record { same = refl }) (record { same = refl })
-op_kept s now me a B3 c = both a (is_null c) _ _ (record { same = refl }) (record { same = refl })
-op_kept s now me a B4 c = both a (nat_eq a.head.count s.limit) _ _ (record { same = refl }) (record { same = refl })
+op_kept s now me a D5 c = both (SameOp a) (same_ref c a.head) (both (SameOp a) (nat_eq a.head.node a.tail.node) (both (SameOp a) (is_null a.next) (record { same = refl }) (both (SameOp a) (nat_eq a.tail.count s.limit) (record { same = refl }) (record { same = refl }))) (record { same = refl })) (record { same = refl })
+op_kept s now me a D12 c = both (SameOp a) (nat_eq a.head.count s.limit) (record { same = refl }) (record { same = refl })
+op_kept s now me a D13 c = both (SameOp a) (same_ref c a.head) (record { same = refl }) (record { same = refl })
+op_kept s now me a A3 c = both (SameOp a) (nat_eq c 0) (record { same = refl }) (record { same = refl })
+op_kept s now me a B1 c = both (SameOp a) (nat_eq c 0) (record { same = refl }) (record { same = refl })
+op_kept s now me a B3 c = both (SameOp a) (is_null c) (record { same = refl }) (record { same = refl })
+op_kept s now me a B4 c = both (SameOp a) (nat_eq a.head.count s.limit) (record { same = refl }) (record { same = refl })
 op_kept s now me a B6 c = unlocked_op now a.due a
 op_kept s now me a _ c = record { same = refl }
 

@@ -1,3 +1,5 @@
+pub mod Choices
+pub mod AnyMoves
 pub mod Growth
 pub mod Rooms
 pub mod Making
@@ -16,7 +18,6 @@ pub mod Few
 pub mod Fits
 pub mod Keeping
 pub mod Standing
-pub mod Running
 pub mod Naming
 pub mod Chains
 pub mod Counting
@@ -27,6 +28,7 @@ pub mod Fixed
 pub mod Gains
 pub mod Accounts
 pub mod Replay
+pub mod Carrying
 pub mod TwoLockKnows
 pub mod TwoLockLines
 pub mod TwoLockSound
@@ -41,9 +43,8 @@ pub mod Booking
 pub mod Legal
 pub mod LegalMoves
 pub mod Promises
-pub mod TwoLockLegal
 pub mod NonBlockingLaws
-pub mod NonBlockingLegal
+pub mod EachLegal
 pub mod EachHistory
 pub mod EachEntry
 pub mod PlaceOf

@@ -1,23 +1,13 @@
 -- What the calls of a world need of it, and what they keep: registers that can be used, room, and the list of moves.
 use Rattle.std.proofs.Common.{◌≡◌, ℕ, ◌+◌, ◌-◌, ◌^◌, ◌<◌, ◌≤◌, ◌⊎◌, inl, inr, Option, Some, None, IfSome, List, length, min, set, slice_get, refl, sym, ap, subst, arith}
-use Rattle.line_table.specs.declared.lines.Line.{Line}
-use Rattle.line_table.specs.declared.lines.Line.TheVariants.{N1}
-use Rattle.history.specs.declared.operations.Op.{Op}
-use Rattle.history.specs.declared.operations.Stamped.{Stamped}
-use Rattle.line_steps.specs.declared.actors.Setup.{Setup}
-use Rattle.line_steps.specs.declared.actors.Actor.{Actor}
-use Rattle.line_steps.specs.declared.actors.Outcome.{Outcome}
-use Rattle.line_steps.specs.Lines.{gives_up}
-use Rattle.line_steps.specs.Calling.{begun}
-use Rattle.line_steps.specs.Ready.{IsReady}
-use Rattle.line_steps.specs.Rooms.{room_after}
+use Rattle.step_machine.specs.Below.{Line, N1, Op, Stamped, Setup, Actor, Outcome, gives_up, begun, room_after, IsReady}
 use Rattle.step_machine.specs.Machine.{World, actor_of, recorded, IsMade}
 use Rattle.step_machine.specs.Views.{seeks, unrecorded, HasNodes, HasEntry}
 use Rattle.step_machine.specs.Range.{WorldInRange, ActorInRange}
 use Rattle.step_machine.proofs.Giving.{begun_looks}
 use Rattle.step_machine.proofs.Growth.{Settles, given_settles}
-use Rattle.step_machine.proofs.Reached.{actor_in_range, made_in_range}
-use Rattle.step_machine.proofs.Rooms.{actor_got, has_entry, begin_nodes, begin_entries, step_nodes, step_entries}
+use Rattle.step_machine.proofs.Reached.{actor_in_range, made_in_range, actor_stands}
+use Rattle.step_machine.proofs.Rooms.{has_entry, begin_nodes, begin_entries, step_nodes, step_entries}
 
 -- there is room for all nodes that were used
 fresh_room : (w : World) (room : ℕ) → WorldInRange w → HasNodes w.setup.size w.shared.fresh room w.actors → w.shared.fresh ≤ room
@@ -55,7 +45,7 @@ aside_room s room a (Some n) h g = let few : a.node ≤ room = h.node in let som
 
 -- there is room for the entry of an actor that has a call
 pub entry_room : (w : World) (capacity me : ℕ) (a : Actor) (l : Line) → actor_of w me ≡ Some a → a.line ≡ Some l → length w.operations + unrecorded w.actors ≤ capacity → HasEntry a.entry (length w.operations) capacity
-entry_room w capacity me a l at here h = has_entry (length w.operations) capacity w.actors (me - 1) a l (actor_got w me a at) here h
+entry_room w capacity me a l at here h = has_entry (length w.operations) capacity w.actors (me - 1) a l (actor_stands w me a at).1 here h
 
 -- the room still serves after an actor was told an outcome
 pub record Rooms (size fresh room capacity : ℕ) (actors : List Actor) (operations : List Stamped) : Type 0 where
@@ -65,7 +55,7 @@ pub record Rooms (size fresh room capacity : ℕ) (actors : List Actor) (operati
 pub settled_rooms : (w : World) (room capacity more me : ℕ) (a : Actor) (l : Line) (o : Outcome) (fresh e : ℕ) (xs : List Actor) (ops : List Stamped) (new : Stamped) (change : Stamped → Stamped) → actor_of w me ≡ Some a → a.line ≡ Some l → fresh + seeks o.actor.line ≤ w.shared.fresh + seeks (Some l) → xs ≡ set w.actors (me - 1) (record o.actor { entry = Some e }) → ops ≡ recorded a.entry new change w.operations → HasNodes w.setup.size w.shared.fresh room w.actors → length w.operations + unrecorded w.actors ≤ capacity → capacity ≤ more → Rooms w.setup.size fresh room more xs ops
 settled_rooms w room capacity more me a l o fresh e xs ops new change at here grown actors operations nodes entries grows =
     let b : Actor = record o.actor { entry = Some e } in
-    let i : slice_get w.actors (me - 1) ≡ Some a = actor_got w me a at in
+    let i : slice_get w.actors (me - 1) ≡ Some a = (actor_stands w me a at).1 in
     let grown : fresh + seeks o.actor.line ≤ w.shared.fresh + seeks a.line = subst (λ k. fresh + seeks o.actor.line ≤ w.shared.fresh + seeks k) (sym here) grown in
     let n : HasNodes w.setup.size fresh room (set w.actors (me - 1) b) = step_nodes w.setup.size w.shared.fresh fresh room w.actors (me - 1) a b i grown nodes in
     let k : length (recorded a.entry new change w.operations) + unrecorded (set w.actors (me - 1) b) ≤ more =
@@ -88,7 +78,7 @@ pub begun_rooms : (w : World) (room more_room enough capacity me : ℕ) (a b : A
 begun_rooms w room more_room enough capacity me a b fresh xs ops at none looks within same kept actors fits nodes =
     let ys : List Actor = set w.actors (me - 1) b in
     let n : HasNodes w.setup.size w.shared.fresh (room_after w.setup.size enough room) ys =
-    begin_nodes w.setup.size w.shared.fresh room enough w.actors (me - 1) a b within (actor_got w me a at) (ap seeks none) looks nodes in
+    begin_nodes w.setup.size w.shared.fresh room enough w.actors (me - 1) a b within (actor_stands w me a at).1 (ap seeks none) looks nodes in
     record {
       nodes =
           subst (HasNodes w.setup.size fresh more_room) (sym actors)

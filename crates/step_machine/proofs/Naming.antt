@@ -1,39 +1,27 @@
--- In a reached world each access names a word of the table, and is one step on its place: in the two-lock queue, and in
--- the other one where its dequeues find nodes.
-use Rattle.std.proofs.Common.{◌≡◌, ℕ, ◌+◌, ◌≤◌, ◌∙◌, true, false, nat_eq, Option, Some, None, IfSome, length, ap, subst, arith}
-use Rattle.counted_ref.specs.Ref.{same_ref}
-use Rattle.line_table.specs.declared.lines.Kind.TheVariants.{TwoLock}
-use Rattle.line_table.specs.declared.lines.Line.{Line}
-use Rattle.line_table.specs.declared.lines.Line.TheVariants.{N3, F2, E2, E3, E6, E9, D4, D5, D12, A1, A2, A5, B3, B4}
+-- In a reached world of the two-lock queue each access names a word of the table; and an access that does is one step on
+-- its place.
+use Rattle.std.proofs.Common.{◌≡◌, ℕ, ◌+◌, ◌≤◌, ◌∙◌, Option, Some, None, IfSome, length, ap, subst, arith}
+use Rattle.step_machine.specs.Below.{TwoLock, Line, N3, F2, E2, E3, E6, E9, D4, D5, D12, A1, A2, A5, B3, B4, section_of, Setup, Actor, Outcome, Shared, word, found, action, outcome, gives_up}
 use Rattle.line_table.specs.declared.lines.Section.TheVariants.{Dequeue}
-use Rattle.line_table.specs.Sections.{section_of}
-use Rattle.line_steps.specs.declared.actors.Setup.{Setup}
-use Rattle.line_steps.specs.declared.actors.Actor.{Actor}
-use Rattle.line_steps.specs.declared.actors.Outcome.{Outcome}
-use Rattle.line_steps.specs.Memory.{Shared, word, found}
-use Rattle.line_steps.specs.Lines.{action, outcome, gives_up}
 use Rattle.step_machine.specs.Words.{IsWord}
-use Rattle.step_machine.specs.Machine.{World, actor_of, IsReached}
+use Rattle.step_machine.specs.Machine.{World, IsReached}
 use Rattle.step_machine.specs.Range.{SharedInRange, RegistersInRange, ActorInRange, WorldInRange}
 use Rattle.step_machine.specs.Standing.{IsRunBy, HoldsNodes, Stands, ActorStands, EachNamesAWord}
 use Rattle.step_machine.proofs.Reached.{actor_of-All, actor_in_range, reached_in_range}
 use Rattle.step_machine.specs.Tables.{OfEachNextAccess, IsOneStep}
 use Rattle.step_machine.proofs.Tables.{one_step}
 use Rattle.step_machine.proofs.Fits.{shared_fits, access_fits}
-use Rattle.step_machine.proofs.Running.{each_runs_its_queue}
 use Rattle.step_machine.proofs.Keeping.{Keeps, Has, reached_has}
 use Rattle.step_machine.proofs.Standing.{EndsHold, found_holds, access_holds, Placed, still_stands, FoundANode, placed, given_up_placed, rested_stands, begun_stands}
 
--- where a dequeue sees Head as before and Tail elsewhere, the node behind Head is there
-abbrev pub FindsNodes : World → Type 0
-FindsNodes w =
-    (me : ℕ) (a : Actor) → actor_of w me ≡ Some a → a.line ≡ Some D5 → same_ref w.shared.head a.head ≡ true →
-    nat_eq a.head.node a.tail.node ≡ false →
-    1 ≤ a.next.node
+-- a world of the two-lock queue
+abbrev pub IsTwoLock : World → Type 0
+IsTwoLock w = w.setup.kind ≡ TwoLock
 
-found_a_node : (w : World) (me : ℕ) (a : Actor) (l : Line) → FindsNodes w → actor_of w me ≡ Some a → a.line ≡ Some l → FoundANode w.setup me a l (found (action w.setup me a l) w.shared)
-found_a_node w me a D5 j there at = j me a there at
-found_a_node w me a _ j there at = tt
+-- which runs no dequeue of the other one
+found_a_node : (w : World) (me : ℕ) (a : Actor) (l : Line) → IsTwoLock w → IsRunBy (section_of l) w.setup.kind → FoundANode w.setup me a l (found (action w.setup me a l) w.shared)
+found_a_node w me a D5 j r = absurd (subst (IsRunBy Dequeue) j r)
+found_a_node w me a _ j r = tt
 
 standing : (s : Setup) (a : Actor) (l : Line) → a.line ≡ Some l → ActorStands s.kind a → IsRunBy (section_of l) s.kind × HoldsNodes l a
 standing s a l e p = subst (Stands s.kind a) e p.line
@@ -45,7 +33,7 @@ given_up_stands s a (Some o) h = record { pocket = h.pocket; line = h.line }
 abbrev pub Standing : Setup → Actor → Type 0
 Standing s a = ActorStands s.kind a
 
-pub keeps_standing : Keeps FindsNodes EndsHold Standing
+pub keeps_standing : Keeps IsTwoLock EndsHold Standing
 keeps_standing =
     record {
       words = λ w me a l j there at h p. access_holds w.setup me w.shared a l h (standing w.setup a l at p).1;
@@ -53,7 +41,7 @@ keeps_standing =
           let st : IsRunBy (section_of l) w.setup.kind × HoldsNodes l a = standing w.setup a l at p in
           let o : Placed w.setup.kind (outcome w.setup (w.steps + 1) me a l (found (action w.setup me a l) w.shared)) =
           placed w.setup (w.steps + 1) me a l (found (action w.setup me a l) w.shared) p.pocket st.0 st.1
-          (found_holds w.shared (word (action w.setup me a l)) h) (found_a_node w me a l j there at) in
+          (found_holds w.shared (word (action w.setup me a l)) h) (found_a_node w me a l j st.0) in
           record { pocket = o.pocket; line = o.line };
       gave_up = λ s now a l at p. given_up_stands s a (gives_up now a l) (given_up_placed s now a l p.pocket (standing s a l at p).1);
       began = λ s me op a call p. begun_stands s.kind me op a p.pocket;
@@ -61,18 +49,10 @@ keeps_standing =
       entered = λ s a entry p. record { pocket = p.pocket; line = still_stands s.kind a a.holds entry a.line p.line };
     }
 
--- the two-lock queue runs no dequeue of the other one
-two_lock_finds_nodes : (w : World) → IsReached w → w.setup.kind ≡ TwoLock → FindsNodes w
-two_lock_finds_nodes w r e me a there at s n = absurd (subst (IsRunBy Dequeue) e (each_runs_its_queue w r me a D5 there at))
-
--- where dequeues find nodes, the actors of a reached world stand before lines with nodes where those use nodes
-pub reached_stands : (w : World) → IsReached w → ((v : World) → IsReached v → v.setup ≡ w.setup → FindsNodes v) → Has FindsNodes EndsHold Standing keeps_standing w
-reached_stands w r finds =
-    reached_has FindsNodes EndsHold Standing keeps_standing w r finds (record { head = omega arith; tail = omega arith }) (record { pocket = tt; line = tt })
-
--- so they do in the two-lock queue
-pub two_lock_stands : (w : World) → IsReached w → w.setup.kind ≡ TwoLock → Has FindsNodes EndsHold Standing keeps_standing w
-two_lock_stands w r e = reached_stands w r (λ v q f. two_lock_finds_nodes v q (ap (λ s. s.kind) f ∙ e))
+-- each actor of a reached world stands before its line, and Head and Tail hold nodes
+pub two_lock_stands : (w : World) → IsReached w → w.setup.kind ≡ TwoLock → Has IsTwoLock EndsHold Standing keeps_standing w
+two_lock_stands w r e =
+    reached_has IsTwoLock EndsHold Standing keeps_standing w r (λ v q f. ap (λ s. s.kind) f ∙ e) (record { head = omega arith; tail = omega arith }) (record { pocket = tt; line = tt })
 
 -- a line that uses registers as nodes names words of these nodes
 pub names_a_word : (s : Setup) (k me : ℕ) (m : Shared) (a : Actor) (l : Line) → SharedInRange s k m → RegistersInRange s m.fresh k a → HoldsNodes l a → IsWord m (word (action s me a l))
@@ -101,16 +81,12 @@ names_a_word s k me m a l g r h = go l h
     go _ h = tt
 
 -- what an actor that stands before a line accesses next is a word of the table
-pub standing_names : (w : World) → IsReached w → Has FindsNodes EndsHold Standing keeps_standing w → EachNamesAWord w
+pub standing_names : (w : World) → IsReached w → Has IsTwoLock EndsHold Standing keeps_standing w → EachNamesAWord w
 standing_names w r st me a l there at =
     let h : WorldInRange w = reached_in_range w r in
     let g : ActorInRange w.setup w.shared.fresh (length w.actors) a = actor_in_range w me a h there in
     let p : ActorStands w.setup.kind a = actor_of-All (Standing w.setup) w me a st.actors there in
     names_a_word w.setup (length w.actors) me w.shared a l h.shared g.registers (standing w.setup a l at p).1
-
--- where dequeues find nodes, the next access of each actor names a word of the table
-pub accesses_name_words : (w : World) → IsReached w → ((v : World) → IsReached v → v.setup ≡ w.setup → FindsNodes v) → EachNamesAWord w
-accesses_name_words w r finds = standing_names w r (reached_stands w r finds)
 
 -- so it does in the two-lock queue
 pub accesses_name_words_two_lock : (w : World) → IsReached w → w.setup.kind ≡ TwoLock → EachNamesAWord w
@@ -121,11 +97,3 @@ pub accesses_are_one_step : (w : World) → IsReached w → EachNamesAWord w →
 accesses_are_one_step w r names me a l there at =
     let h : WorldInRange w = reached_in_range w r in
     one_step w.shared (action w.setup me a l) (names me a l there at) (shared_fits w h (word (action w.setup me a l))) (access_fits w me a l h there at)
-
--- an actor of a reached world of the two-lock queue stands before its line, and has a node in its pocket or none
-pub two_lock_actor_stands : (w : World) (me : ℕ) (a : Actor) → IsReached w → w.setup.kind ≡ TwoLock → actor_of w me ≡ Some a → ActorStands w.setup.kind a
-two_lock_actor_stands w me a r e there = actor_of-All (Standing w.setup) w me a (two_lock_stands w r e).actors there
-
--- Head and Tail of a reached world of the two-lock queue hold nodes
-pub two_lock_ends_hold : (w : World) → IsReached w → w.setup.kind ≡ TwoLock → EndsHold w.shared
-two_lock_ends_hold w r e = (two_lock_stands w r e).words

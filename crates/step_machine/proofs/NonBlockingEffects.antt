@@ -1,15 +1,7 @@
 -- What each effect of a step of the non-blocking queue does with the words, the chains and the lag.
 use Rattle.std.proofs.Common.{◌≡◌, ◌≢◌, ℕ, ◌+◌, ◌≤◌, ◌<◌, false, nat_eq, List, [], ◌∷◌, ◌++◌, length, Some, None, IfSome, refl, sym, ap, ◌∙◌, subst, arith, ◌⊎◌, inl, inr}
 use Rattle.std.proofs.lemmas.Bool.{true≢false}
-use Rattle.counted_ref.specs.Ref.{Ref}
-use Rattle.history.specs.declared.operations.Op.TheVariants.{Deq}
-use Rattle.history.specs.declared.operations.Reply.TheVariants.{Value}
-use Rattle.line_steps.specs.declared.actors.Setup.{Setup}
-use Rattle.line_steps.specs.declared.actors.Actor.{Actor}
-use Rattle.line_steps.specs.declared.actors.Node.{Node}
-use Rattle.line_steps.specs.declared.actors.Outcome.{Outcome}
-use Rattle.line_steps.specs.Memory.{Shared, node_at, put, Fresh, Free, Head, Tail, Next}
-use Rattle.line_steps.specs.Lines.{raised}
+use Rattle.step_machine.specs.Below.{Ref, Deq, Value, Setup, Node, Actor, Outcome, Shared, node_at, put, Fresh, Free, Head, Tail, Next, raised}
 use Rattle.step_machine.specs.Places.{one_if, times}
 use Rattle.step_machine.specs.Chains.{last_node}
 use Rattle.step_machine.specs.Promises.{earned, promised_reply}

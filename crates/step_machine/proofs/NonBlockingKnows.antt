@@ -1,12 +1,6 @@
 -- What an actor of the non-blocking queue knows of the shared words before its line, and that steps of others keep it.
 use Rattle.std.proofs.Common.{◌≡◌, ◌≢◌, ℕ, ◌≤◌, ◌<◌, true, nat_eq, if◌then◌else◌, Option, Some, None, IfSome, refl, sym, ap, ◌∙◌, subst, arith, ◌⊎◌, inl, inr}
-use Rattle.counted_ref.specs.Ref.{Ref, ref}
-use Rattle.line_table.specs.declared.lines.Line.{Line}
-use Rattle.line_table.specs.declared.lines.Line.TheVariants.{N1, N3, N4, F3, E3, E5, E6, E7, E9, E13, E17, D3, D4, D5, D10, D12, D13}
-use Rattle.line_steps.specs.declared.actors.Actor.{Actor}
-use Rattle.line_steps.specs.declared.actors.Held.{Held}
-use Rattle.line_steps.specs.declared.actors.Node.{Node}
-use Rattle.line_steps.specs.Memory.{Shared, node_at}
+use Rattle.step_machine.specs.Below.{Ref, ref, Line, N1, N3, N4, F3, E3, E5, E6, E7, E9, E13, E17, D3, D4, D5, D10, D12, D13, Node, Held, Actor, Shared, node_at}
 use Rattle.step_machine.specs.Places.{in_hand, in_pocket, one_if}
 use Rattle.step_machine.specs.Standing.{HoldsNodes}
 use Rattle.step_machine.proofs.Chains.{one_if_same}

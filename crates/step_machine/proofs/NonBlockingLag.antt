@@ -1,8 +1,6 @@
 -- Where Tail is in the queue that lets it lag, and what that says of the nodes behind Head and behind Tail.
 use Rattle.std.proofs.Common.{◌≡◌, ◌≢◌, ℕ, ◌+◌, ◌≤◌, ◌<◌, nat_eq, List, [], ◌∷◌, ◌++◌, length, refl, sym, ap, ◌∙◌, subst, arith, append_assoc, length-append}
-use Rattle.counted_ref.specs.Ref.{Ref}
-use Rattle.line_steps.specs.declared.actors.Node.{Node}
-use Rattle.line_steps.specs.Memory.{Shared, put, Head, Tail}
+use Rattle.step_machine.specs.Below.{Ref, Node, Shared, put, Head, Tail}
 use Rattle.step_machine.specs.Places.{IsChain, one_if, times}
 use Rattle.step_machine.specs.Chains.{last_node}
 use Rattle.step_machine.specs.Lag.{TailLags}

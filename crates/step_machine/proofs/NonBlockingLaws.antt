@@ -4,41 +4,28 @@ use Rattle.std.proofs.Common.{◌≡◌, ◌≢◌, ℕ, zero, suc, ◌+◌, ◌
 use Rattle.std.specs.List.{All}
 use Rattle.std.proofs.lemmas.Bool.{eqb-true, ltb-false}
 use Rattle.std.proofs.lemmas.List.Elements.{All-set, All-append, All-cons, All-nil}
-use Rattle.counted_ref.specs.Ref.{Ref, is_null, same_ref}
-use Rattle.line_table.specs.declared.lines.Kind.{Kind}
-use Rattle.line_table.specs.declared.lines.Kind.TheVariants.{TwoLock, NonBlocking}
-use Rattle.line_table.specs.declared.lines.Line.{Line}
-use Rattle.line_table.specs.declared.lines.Line.TheVariants.{N1, N2, N3, N4, N5, F1, F2, F3, E2, E3, E5, E6, E7, E9, E13, E17, D2, D3, D4, D5, D10, D12, D13, A3, B1, B5}
-use Rattle.line_table.specs.Sections.{section_of}
-use Rattle.history.specs.declared.refusals.Refusal.{Refusal}
-use Rattle.history.specs.declared.refusals.Refusal.TheVariants.{NoNode, WornOut}
-use Rattle.history.specs.declared.refusals.WornWord.TheVariants.{Free as OfFree, Next as OfNext, Tail as OfTail, Head as OfHead}
-use Rattle.history.specs.declared.operations.Reply.{Reply}
-use Rattle.history.specs.declared.operations.Reply.TheVariants.{Done, Value, Empty, Refused}
-use Rattle.history.specs.declared.operations.Stamped.{Stamped}
-use Rattle.line_steps.specs.declared.actors.Actor.{Actor}
-use Rattle.line_steps.specs.declared.actors.Outcome.{Outcome}
-use Rattle.line_steps.specs.Memory.{Shared, found, performed, Next}
-use Rattle.line_steps.specs.Lines.{action, outcome, goes, lets_go, to_pocket, freed, ends, effect, busy_or, gives_up}
+use Rattle.step_machine.specs.Below.{Ref, is_null, same_ref, Kind, TwoLock, NonBlocking, Line, N1, N2, N3, N4, N5, F1, F2, F3, E2, E3, E5, E6, E7, E9, E13, E17, D2, D3, D4, D5, D10, D12, D13, A3, B1, B5, section_of, OfFree, OfNext, OfTail, OfHead, Refusal, NoNode, WornOut, Reply, Done, Value, Refused, Stamped, Actor, Outcome, Shared, found, performed, Next, action, outcome, goes, lets_go, to_pocket, freed, ends, effect, busy_or, gives_up}
+use Rattle.counted_ref.proofs.Words.{same_ref-true, equal_refs}
 use Rattle.step_machine.specs.Machine.{World, actor_of, settled, recorded, told, new_operation, IsReached}
 use Rattle.step_machine.specs.Range.{RegistersInRange, ActorInRange, WorldInRange}
-use Rattle.step_machine.specs.Standing.{IsRunBy, HoldsNodes, Stands, EachNamesAWord}
+use Rattle.step_machine.specs.Standing.{IsRunBy, HoldsNodes, Stands, EachRunsItsQueue, EachNamesAWord}
 use Rattle.step_machine.specs.Places.{times, Places}
 use Rattle.step_machine.specs.Chains.{last_node}
 use Rattle.step_machine.specs.Lag.{TailLags}
-use Rattle.step_machine.specs.TwoLock.{HasItsPlaces, KeepsQueueAndFreeApart, raised_at, RaisesBelowTheLimit, HasCauseFor, RefusesWithCause}
+use Rattle.step_machine.specs.EachQueue.{HasItsPlaces, KeepsQueueAndFreeApart, raised_at, RaisesBelowTheLimit, HasCauseFor, RefusesWithCause}
 use Rattle.step_machine.specs.NonBlocking.{OfNonBlockingWorlds, TailLagsByOne, TailIsNotBehindHead, NeverFindsHeadWornOut, FindsItsOwnNextWornOut, NeverRefusedForHead, TakesTheFront}
+use Rattle.step_machine.proofs.Choices.{either}
 use Rattle.step_machine.proofs.Range.{found_in_range}
 use Rattle.step_machine.proofs.Reached.{some_of, reached_in_range, actor_in_range}
 use Rattle.step_machine.proofs.Chains.{chain_same, second_leads}
 use Rattle.step_machine.proofs.Counting.{used_within, used_above, used_most, elsewhere}
 use Rattle.step_machine.proofs.Effects.{Shape, null_times}
 use Rattle.step_machine.proofs.Fixed.{FixedAt, EarnedFreeing}
-use Rattle.step_machine.proofs.Accounts.{ref_path, same_ref-true}
 use Rattle.step_machine.proofs.Older.{WasIn}
 use Rattle.step_machine.proofs.Naming.{names_a_word, accesses_name_words_two_lock}
 use Rattle.step_machine.proofs.Reaching.{each_reached}
 use Rattle.step_machine.proofs.TwoLockLaws.{contained}
+use Rattle.step_machine.proofs.TwoLockSound.{nodes_at}
 use Rattle.step_machine.proofs.NonBlockingKnows.{next_of, KnowsAt, MayTake}
 use Rattle.step_machine.proofs.NonBlockingLag.{IsOff, off, off_count, tail_is_last}
 use Rattle.step_machine.proofs.NonBlockingSound.{Knowing, Proved, reached_sound}
@@ -89,7 +76,7 @@ tail_is_not_behind w r e =
 
     go : (front : ℕ) (rest before after : List ℕ) → (front ∷ rest) ≡ before ++ w.shared.tail.node ∷ after → w.shared.tail.count ≡ w.shared.head.count + length before → w.shared.head.node ≡ front → TailIsNotBehindHead w
     go front rest [] after chain count at =
-        (omega arith, λ same. ref_path w.shared.tail w.shared.head (sym (at ∙ ap first_of chain)) same)
+        (omega arith, λ same. equal_refs w.shared.tail w.shared.head (sym (at ∙ ap first_of chain)) same)
     go front rest (b ∷ bs) after chain count at = (omega arith, λ same. absurd (omega arith))
 
 -- what holds of an actor at a line, and of the words
@@ -181,25 +168,16 @@ Why w a (WornOut OfHead) = ⊥
 Why w a _ = ⊥
 
 abbrev WhyReply : World → Actor → Option Reply → Type 0
-WhyReply w a None = Unit {0}
-WhyReply w a (Some Done) = Unit {0}
-WhyReply w a (Some (Value v)) = Unit {0}
-WhyReply w a (Some Empty) = Unit {0}
 WhyReply w a (Some (Refused why)) = Why w a why
+WhyReply w a _ = Unit {0}
 
 record Caused (w : World) (a : Actor) (o : Outcome) : Type 0 where
   cause : WhyReply w a o.reply
 
-either : (w : World) (a : Actor) (b : Bool) (x y : Outcome) → (b ≡ true → Caused w a x) → (b ≡ false → Caused w a y) → Caused w a (if b then x else y)
-either w a true x y hx hy = hx refl
-either w a false x y hx hy = hy refl
-
 freed_caused : (w : World) (a : Actor) (kind : Kind) (now : ℕ) (due : Option Reply) (b : Actor) → EarnedFreeing due → Caused w a (freed kind now due b)
 freed_caused w a kind now None b h = record { cause = tt }
-freed_caused w a kind now (Some Done) b h = absurd h
 freed_caused w a kind now (Some (Value v)) b h = record { cause = tt }
-freed_caused w a kind now (Some Empty) b h = absurd h
-freed_caused w a kind now (Some (Refused why)) b h = absurd h
+freed_caused w a kind now _ b h = absurd h
 
 ended_or : (w : World) (a : Actor) (now : ℕ) (b : Bool) (c : Actor) → Caused w a (effect now (if b then ends now Done c else goes E17 c))
 ended_or w a now true c = record { cause = tt }
@@ -214,40 +192,40 @@ no_node w a g low null none =
 caused : (w : World) (now me : ℕ) (a : Actor) (l : Line) → AtLine w me a l → Caused w a (outcome w.setup now me a l (found (action w.setup me a l) w.shared))
 caused w now me a N1 h = record { cause = tt }
 caused w now me a N2 h =
-    either w a (is_null w.shared.free) _ _
-    (λ n. either w a (nat_lt a.f w.setup.size) _ _ (λ b. record { cause = tt }) (λ b. record { cause = no_node w a h.range h.registers.f n b }))
-    (λ n. either w a (nat_eq w.shared.free.count w.setup.limit) _ _ (λ b. record { cause = eqb-true w.shared.free.count w.setup.limit b }) (λ b. record { cause = tt }))
+    either (Caused w a) (is_null w.shared.free)
+    (λ n. either (Caused w a) (nat_lt a.f w.setup.size) (λ b. record { cause = tt }) (λ b. record { cause = no_node w a h.range h.registers.f n b }))
+    (λ n. either (Caused w a) (nat_eq w.shared.free.count w.setup.limit) (λ b. record { cause = eqb-true w.shared.free.count w.setup.limit b }) (λ b. record { cause = tt }))
 caused w now me a N3 h = record { cause = tt }
-caused w now me a N4 h = either w a (same_ref w.shared.free a.top) _ _ (λ b. record { cause = tt }) (λ b. record { cause = tt })
-caused w now me a N5 h = either w a (nat_eq w.shared.fresh a.f) _ _ (λ b. record { cause = tt }) (λ b. record { cause = tt })
+caused w now me a N4 h = either (Caused w a) (same_ref w.shared.free a.top) (λ b. record { cause = tt }) (λ b. record { cause = tt })
+caused w now me a N5 h = either (Caused w a) (nat_eq w.shared.fresh a.f) (λ b. record { cause = tt }) (λ b. record { cause = tt })
 caused w now me a F1 h =
-    either w a (nat_eq w.shared.free.count w.setup.limit) _ _
+    either (Caused w a) (nat_eq w.shared.free.count w.setup.limit)
     (λ b. record { cause = (freed_caused w a w.setup.kind now a.due (record a { top = w.shared.free }) h.fixes.earned).cause }) (λ b. record { cause = tt })
 caused w now me a F2 h = record { cause = tt }
-caused w now me a F3 h = either w a (same_ref w.shared.free a.top) _ _ (λ b. freed_caused w a w.setup.kind now a.due (lets_go a) h.fixes.earned) (λ b. record { cause = tt })
+caused w now me a F3 h = either (Caused w a) (same_ref w.shared.free a.top) (λ b. freed_caused w a w.setup.kind now a.due (lets_go a) h.fixes.earned) (λ b. record { cause = tt })
 caused w now me a E2 h = record { cause = tt }
 caused w now me a E3 h =
-    either w a (nat_eq (next_of w.shared a.node).count w.setup.limit) _ _ (λ b. record { cause = eqb-true (next_of w.shared a.node).count w.setup.limit b }) (λ b. record { cause = tt })
+    either (Caused w a) (nat_eq (next_of w.shared a.node).count w.setup.limit) (λ b. record { cause = eqb-true (next_of w.shared a.node).count w.setup.limit b }) (λ b. record { cause = tt })
 caused w now me a E5 h = record { cause = tt }
 caused w now me a E6 h = record { cause = tt }
 caused w now me a E7 h =
-    either w a (same_ref w.shared.tail a.tail) _ _
-    (λ b. either w a (is_null a.next) _ _ (λ n. record { cause = tt })
-    (λ n. either w a (nat_eq a.tail.count w.setup.limit) _ _
+    either (Caused w a) (same_ref w.shared.tail a.tail)
+    (λ b. either (Caused w a) (is_null a.next) (λ n. record { cause = tt })
+    (λ n. either (Caused w a) (nat_eq a.tail.count w.setup.limit)
     (λ c. record { cause = ap (λ (x : Ref). x.count) (same_ref-true w.shared.tail a.tail b) ∙ eqb-true a.tail.count w.setup.limit c }) (λ c. record { cause = tt })))
     (λ b. record { cause = tt })
 caused w now me a E9 h =
-    either w a (same_ref (next_of w.shared a.tail.node) a.next) _ _ (λ b. ended_or w a now (nat_eq a.tail.count w.setup.limit) (lets_go (record a { due = Some Done }))) (λ b. record { cause = tt })
+    either (Caused w a) (same_ref (next_of w.shared a.tail.node) a.next) (λ b. ended_or w a now (nat_eq a.tail.count w.setup.limit) (lets_go (record a { due = Some Done }))) (λ b. record { cause = tt })
 caused w now me a E13 h = record { cause = tt }
 caused w now me a E17 h = record { cause = tt }
 caused w now me a D2 h = record { cause = tt }
 caused w now me a D3 h = record { cause = tt }
 caused w now me a D4 h = record { cause = tt }
 caused w now me a D5 h =
-    either w a (same_ref w.shared.head a.head) _ _
-    (λ b. either w a (nat_eq a.head.node a.tail.node) _ _
-    (λ c. either w a (is_null a.next) _ _ (λ n. record { cause = tt })
-    (λ n. either w a (nat_eq a.tail.count w.setup.limit) _ _ (λ d. record { cause = worn_tail (eqb-true a.tail.count w.setup.limit d) h.knows.1 }) (λ d. record { cause = tt })))
+    either (Caused w a) (same_ref w.shared.head a.head)
+    (λ b. either (Caused w a) (nat_eq a.head.node a.tail.node)
+    (λ c. either (Caused w a) (is_null a.next) (λ n. record { cause = tt })
+    (λ n. either (Caused w a) (nat_eq a.tail.count w.setup.limit) (λ d. record { cause = worn_tail (eqb-true a.tail.count w.setup.limit d) h.knows.1 }) (λ d. record { cause = tt })))
     (λ c. record { cause = tt }))
     (λ b. record { cause = tt })
   where
@@ -256,24 +234,21 @@ caused w now me a D5 h =
     worn_tail worn (inr less) = absurd (let most : w.shared.tail.count ≤ w.setup.limit = h.range.shared.tail.count in omega arith)
 caused w now me a D10 h = record { cause = tt }
 caused w now me a D12 h =
-    either w a (nat_eq a.head.count w.setup.limit) _ _
+    either (Caused w a) (nat_eq a.head.count w.setup.limit)
     (λ b. absurd (let worn : a.head.count ≡ w.setup.limit = eqb-true a.head.count w.setup.limit b in let below : a.head.count < w.setup.limit = head_below w me a D12 h h.knows in omega arith))
     (λ b. record { cause = tt })
-caused w now me a D13 h = either w a (same_ref w.shared.head a.head) _ _ (λ b. record { cause = tt }) (λ b. record { cause = tt })
+caused w now me a D13 h = either (Caused w a) (same_ref w.shared.head a.head) (λ b. record { cause = tt }) (λ b. record { cause = tt })
 caused w now me a l h = absurd h.runs
 
 -- the three clauses follow
 has_cause : (w : World) (a : Actor) (reply : Option Reply) → WhyReply w a reply → HasCauseFor w reply
-has_cause w a None h = tt
-has_cause w a (Some Done) h = tt
-has_cause w a (Some (Value v)) h = tt
-has_cause w a (Some Empty) h = tt
 has_cause w a (Some (Refused NoNode)) h = h
 has_cause w a (Some (Refused (WornOut OfFree))) h = h
 has_cause w a (Some (Refused (WornOut OfNext))) h = (a.node, h)
 has_cause w a (Some (Refused (WornOut OfTail))) h = h
 has_cause w a (Some (Refused (WornOut OfHead))) h = absurd h
 has_cause w a (Some (Refused _)) h = absurd h
+has_cause w a _ h = tt
 
 why_of : (w : World) → IsReached w → w.setup.kind ≡ NonBlocking → (me : ℕ) (a : Actor) (l : Line) → actor_of w me ≡ Some a → a.line ≡ Some l → WhyReply w a (outcome w.setup (w.steps + 1) me a l (found (action w.setup me a l) w.shared)).reply
 why_of w r e me a l is at = (caused w (w.steps + 1) me a l (at_line w r e me a l is at)).cause
@@ -307,9 +282,7 @@ spares reply h e = subst SparesHead e h
 gives_free_for_head : (now : ℕ) (due : Option Reply) (a : Actor) → EarnedFreeing due → IfSome (busy_or now due a) (λ o. SparesHead o.reply)
 gives_free_for_head now None a f = tt
 gives_free_for_head now (Some (Value v)) a f = tt
-gives_free_for_head now (Some Done) a f = absurd f
-gives_free_for_head now (Some Empty) a f = absurd f
-gives_free_for_head now (Some (Refused why)) a f = absurd f
+gives_free_for_head now _ a f = absurd f
 
 gives_for_head : (now limit me : ℕ) (a : Actor) (l : Line) → FixedAt limit me a (Some l) → IfSome (gives_up now a l) (λ o. SparesHead o.reply)
 gives_for_head now limit me a N1 f = tt
@@ -348,6 +321,14 @@ each_access_names_a_word w r = go w.setup.kind refl
     go : (kind : Kind) → w.setup.kind ≡ kind → EachNamesAWord w
     go TwoLock e = accesses_name_words_two_lock w r e
     go NonBlocking e = accesses_name_words_non_blocking w r e
+
+-- each actor stands before a line of its queue
+pub each_runs_its_queue : (w : World) → IsReached w → EachRunsItsQueue w
+each_runs_its_queue w r me a l is at = go w.setup.kind refl
+  where
+    go : (kind : Kind) → w.setup.kind ≡ kind → IsRunBy (section_of l) w.setup.kind
+    go TwoLock e = subst (IsRunBy (section_of l)) (sym e) (nodes_at w r e me a l is at).0
+    go NonBlocking e = subst (IsRunBy (section_of l)) (sym e) (at_line w r e me a l is at).runs
 
 -- where Head is as read, the registers are the front of the queue
 pub front_is_taken : OfNonBlockingWorlds TakesTheFront

@@ -4,42 +4,27 @@ use Rattle.std.proofs.Common.{◌≡◌, ◌≢◌, ℕ, zero, suc, get_or, ◌+
 use Rattle.std.specs.Prelude.{slice_get}
 use Rattle.std.proofs.lemmas.Bool.{leb-true, eqb-false, true≢false}
 use Rattle.std.proofs.Math.ListN.{length-replicate}
-use Rattle.line_table.specs.declared.lines.Kind.{Kind}
-use Rattle.line_table.specs.declared.lines.Kind.TheVariants.{TwoLock, NonBlocking}
-use Rattle.line_table.specs.declared.lines.Line.{Line}
-use Rattle.line_table.specs.declared.lines.Line.TheVariants.{E2, A1, F1, D5}
-use Rattle.line_table.specs.Sections.{section_of}
-use Rattle.history.specs.declared.operations.Op.{Op}
-use Rattle.history.specs.declared.operations.Op.TheVariants.{Enq, Deq}
-use Rattle.line_steps.specs.declared.actors.Setup.{Setup}
-use Rattle.line_steps.specs.declared.actors.Actor.{Actor}
-use Rattle.line_steps.specs.declared.actors.Held.{Held}
-use Rattle.line_steps.specs.declared.actors.Node.{Node}
-use Rattle.line_steps.specs.declared.actors.Outcome.{Outcome}
-use Rattle.line_steps.specs.Memory.{blank, Shared, node_at, word, found, performed}
-use Rattle.line_steps.specs.Lines.{action, outcome, gives_up}
-use Rattle.line_steps.specs.Calling.{is_call, from_pocket, begun}
+use Rattle.step_machine.specs.Below.{Kind, TwoLock, NonBlocking, Line, E2, A1, F1, D5, section_of, Op, Enq, Deq, Setup, Node, Held, Actor, Outcome, blank, Shared, node_at, word, found, performed, action, outcome, gives_up, is_call, from_pocket, begun}
 use Rattle.step_machine.specs.Machine.{World, idle, opening, actor_of, rested, may_rest, with_actor, entry_or, settled, stepped, IsSized, IsReached}
 use Rattle.step_machine.specs.Range.{WorldInRange, ActorInRange, LineInRange}
 use Rattle.step_machine.specs.Standing.{IsRunBy, HoldsNodes, Stands, ActorStands}
 use Rattle.step_machine.specs.Places.{one_if, times, held, set_aside}
-use Rattle.step_machine.proofs.Accounts.{same_ref-true}
-use Rattle.step_machine.proofs.StampsLines.{Turns, turned, given_turned}
-use Rattle.step_machine.proofs.StampsKept.{actor_stands, actor_cases, Does as Stamps}
+use Rattle.step_machine.proofs.StampsKept.{actor_cases}
 use Rattle.step_machine.proofs.StampsMoves.{idle_got}
 use Rattle.step_machine.proofs.Range.{writes, performed_in_range}
-use Rattle.step_machine.proofs.Reached.{some_of, reached_in_range, actor_in_range, mover_in_range}
+use Rattle.step_machine.proofs.Reached.{some_of, reached_in_range, actor_in_range, mover_in_range, actor_stands}
 use Rattle.step_machine.proofs.Standing.{EndsHold, found_holds, access_holds, FoundANode, Placed, placed, given_up_placed, still_stands, rested_stands, begun_stands}
 use Rattle.step_machine.proofs.Chains.{one_if_same, chain_some, second_leads, next_in, last_times}
 use Rattle.step_machine.proofs.Counting.{holds, elsewhere, elsewhere_settled, elsewhere_with, elsewhere_one, elsewhere_two, IsNew, used, used_most, used_above, held_one}
 use Rattle.step_machine.proofs.Effects.{Shape, Writes, Whose, shape_turned, hand_kept, free_kept, queue_kept, value_kept}
 use Rattle.step_machine.proofs.Fixed.{FixedAt, Fixes, fixed, fixed_given, fixed_entry, fixed_begun}
 use Rattle.step_machine.proofs.Reaching.{each_reached}
-use Rattle.step_machine.proofs.LegalMoves.{same_op, same_op_given}
-use Rattle.step_machine.proofs.TwoLockSound.{Carried, begun_holds, rested_holds, opening_elsewhere, no_flags, blank_leads, first_used}
+use Rattle.step_machine.proofs.Carrying.{NumberedMove, stepped_move, given_move, Carried, Carries, Moving, nothing}
+use Rattle.step_machine.proofs.TwoLockSound.{begun_holds, rested_holds, opening_elsewhere, no_flags, blank_leads, first_used}
 use Rattle.step_machine.proofs.NonBlockingKnows.{next_of, KnowsAt, IsMark, Marked, Moves, Keeps, knows_entry, knows_more, knows_kept, marks_kept}
 use Rattle.step_machine.proofs.NonBlockingEffects.{Sound, Does, Found, no_marks}
 use Rattle.step_machine.proofs.NonBlockingSteps.{does, gives}
+use Rattle.counted_ref.proofs.Words.{same_ref-true}
 
 -- what holds of an actor: where it stands, what its registers have, its marks, and what it knows
 abbrev pub Knowing : (Z : ℕ → Type 0) → Setup → Shared → (me : ℕ) → Actor → Type 0
@@ -274,14 +259,6 @@ found_a_node : (Z : ℕ → Type 0) (s : Setup) (me : ℕ) (m : Shared) (a : Act
 found_a_node Z s me m a D5 k = λ b c. ((k.2 (same_ref-true m.head a.head b)).1 (λ q. eqb-false a.head.node a.tail.node c (sym q))).1
 found_a_node Z s me m a _ k = tt
 
--- a further fact of a world and its queue's chain, and one of the numbers noted where the queue was empty, which the
--- moves carry along
-pub record Carries (L : World → List ℕ → Type 0) (Z : World → ℕ → Type 0) : Type 1 where
-  pub told : (w : World) (me : ℕ) (a : Actor) (l : Line) (m' : Shared) (o : Outcome) (front : ℕ) (rest free : List ℕ) → IsReached w → w.setup.kind ≡ NonBlocking → actor_of w me ≡ Some a → a.line ≡ Some l → SoundWorld (Z w) w front rest free → (d : Does (Z w) me (w.steps + 1) w.setup.limit w.shared m' front rest free a o) → Stamps (w.steps + 1) l a.due a.noted o → o.actor.op ≡ a.op → L w (front ∷ rest) → Carried L Z w (settled w me a m' o) rest (d.front' ∷ d.rest')
-  pub began : (w : World) (me : ℕ) (op : Op) (a : Actor) (queue : List ℕ) → IsReached w → actor_of w me ≡ Some a → a.line ≡ None → L w queue → L (with_actor w me (begun w.setup.kind me op a)) queue × ((k : ℕ) → Z w k → Z (with_actor w me (begun w.setup.kind me op a)) k)
-  pub at_rest : (w : World) (me : ℕ) (a : Actor) (l : Line) (queue : List ℕ) → IsReached w → actor_of w me ≡ Some a → a.line ≡ Some l → may_rest l ≡ true → L w queue → L (with_actor w me (rested a)) queue × ((k : ℕ) → Z w k → Z (with_actor w me (rested a)) k)
-  pub starts : (s : Setup) (actors : ℕ) → IsSized s actors → L (opening s actors) (1 ∷ [])
-
 -- a world's chains, with what holds of them
 pub record Proved (L : World → List ℕ → Type 0) (Z : World → ℕ → Type 0) (w : World) : Type 0 where
   pub front : ℕ
@@ -327,64 +304,62 @@ module _ (L : World → List ℕ → Type 0) (Z : World → ℕ → Type 0) (car
       (performed_in_range w.setup (length w.actors) w.shared (action w.setup me a l) g.shared
       (writes w.setup (length w.actors) me w.shared a l (mover_in_range w me a is).1 c.registers (subst (LineInRange w.setup.size a.f) at c.line))).rises
 
-  -- what the step of an actor does
-  pub step_does : (w : World) (me : ℕ) (a : Actor) (l : Line) → IsReached w → w.setup.kind ≡ NonBlocking → actor_of w me ≡ Some a → a.line ≡ Some l → (p : Proved L Z w) → Does (Z w) me (w.steps + 1) w.setup.limit w.shared (performed (action w.setup me a l) w.shared) p.front p.rest p.free a (outcome w.setup (w.steps + 1) me a l (found (action w.setup me a l) w.shared))
+  -- what a step or a giving up does
+  abbrev Effect : (w : World) (me : ℕ) → Actor → Proved L Z w → Shared → Outcome → Type 0
+  Effect w me a p m' o = Does (Z w) me (w.steps + 1) w.setup.limit w.shared m' p.front p.rest p.free a o
+
+  step_does : (w : World) (me : ℕ) (a : Actor) (l : Line) → IsReached w → w.setup.kind ≡ NonBlocking → actor_of w me ≡ Some a → a.line ≡ Some l → (p : Proved L Z w) → Effect w me a p (performed (action w.setup me a l) w.shared) (outcome w.setup (w.steps + 1) me a l (found (action w.setup me a l) w.shared))
   step_does w me a l r e is at p =
       let k : AtLine w me a l = at_line w me a l at (p.sound.actors me a is) in
       does (Z w) w.setup w.shared (elsewhere w) p.front p.rest p.free p.sound.words (w.steps + 1) me a (λ n. elsewhere_one w me a n is) (node_low w me a r is) k.marked l e k.runs k.nodes k.fixes k.knows
 
-  -- and what giving up does
-  pub give_does : (w : World) (me : ℕ) (a : Actor) (l : Line) (o : Outcome) → IsReached w → w.setup.kind ≡ NonBlocking → actor_of w me ≡ Some a → a.line ≡ Some l → gives_up (w.steps + 1) a l ≡ Some o → (p : Proved L Z w) → Does (Z w) me (w.steps + 1) w.setup.limit w.shared w.shared p.front p.rest p.free a o
+  give_does : (w : World) (me : ℕ) (a : Actor) (l : Line) (o : Outcome) → IsReached w → w.setup.kind ≡ NonBlocking → actor_of w me ≡ Some a → a.line ≡ Some l → gives_up (w.steps + 1) a l ≡ Some o → (p : Proved L Z w) → Effect w me a p w.shared o
   give_does w me a l o r e is at given p =
       let k : AtLine w me a l = at_line w me a l at (p.sound.actors me a is) in
-      some_of (Does (Z w) me (w.steps + 1) w.setup.limit w.shared w.shared p.front p.rest p.free a) (gives_up (w.steps + 1) a l) o given
+      some_of (Effect w me a p w.shared) (gives_up (w.steps + 1) a l) o given
       (gives (Z w) w.setup w.shared (elsewhere w) p.front p.rest p.free p.sound.words (w.steps + 1) me a (λ n. elsewhere_one w me a n is) (node_low w me a r is) k.marked l e k.runs k.fixes)
+
+  -- they are numbered moves
+  step_move : (w : World) (me : ℕ) (a : Actor) (l : Line) → IsReached w → actor_of w me ≡ Some a → a.line ≡ Some l → (p : Proved L Z w) → (d : Effect w me a p (performed (action w.setup me a l) w.shared) (outcome w.setup (w.steps + 1) me a l (found (action w.setup me a l) w.shared))) → NumberedMove (Z w) w me a (performed (action w.setup me a l) w.shared) (outcome w.setup (w.steps + 1) me a l (found (action w.setup me a l) w.shared)) p.front p.rest (d.front' ∷ d.rest')
+  step_move w me a l r is at p d =
+      stepped_move (Z w) w me a l p.front p.rest p.free (d.front' ∷ d.rest') r is at p.sound.words.shape (at_line w me a l at (p.sound.actors me a is)).fixes d.turn.writes d.account
+
+  give_move : (w : World) (me : ℕ) (a : Actor) (l : Line) (o : Outcome) → IsReached w → actor_of w me ≡ Some a → a.line ≡ Some l → gives_up (w.steps + 1) a l ≡ Some o → (p : Proved L Z w) → (d : Effect w me a p w.shared o) → NumberedMove (Z w) w me a w.shared o p.front p.rest (d.front' ∷ d.rest')
+  give_move w me a l o r is at given p d =
+      given_move (Z w) w me a l o p.front p.rest p.free (d.front' ∷ d.rest') r is at given p.sound.words.shape (at_line w me a l at (p.sound.actors me a is)).fixes d.turn.writes d.account
+
+  pub step_moving : (w : World) (me : ℕ) (a : Actor) (l : Line) → IsReached w → w.setup.kind ≡ NonBlocking → actor_of w me ≡ Some a → a.line ≡ Some l → Proved L Z w → Moving L Z w me a (performed (action w.setup me a l) w.shared) (outcome w.setup (w.steps + 1) me a l (found (action w.setup me a l) w.shared))
+  step_moving w me a l r e is at p = record { front = p.front; rest = p.rest; queue' = _; move = step_move w me a l r is at p (step_does w me a l r e is at p); fact = p.fact }
+
+  pub give_moving : (w : World) (me : ℕ) (a : Actor) (l : Line) (o : Outcome) → IsReached w → w.setup.kind ≡ NonBlocking → actor_of w me ≡ Some a → a.line ≡ Some l → gives_up (w.steps + 1) a l ≡ Some o → Proved L Z w → Moving L Z w me a w.shared o
+  give_moving w me a l o r e is at given p = record { front = p.front; rest = p.rest; queue' = _; move = give_move w me a l o r is at given p (give_does w me a l o r e is at given p); fact = p.fact }
+
+  proved_by : (w : World) (me : ℕ) (a : Actor) (m' : Shared) (o : Outcome) → IsReached w → actor_of w me ≡ Some a → (p : Proved L Z w) → (d : Effect w me a p m' o) → NumberedMove (Z w) w me a m' o p.front p.rest (d.front' ∷ d.rest') → w.shared.fresh ≤ m'.fresh → EndsHold m' → Placed w.setup.kind o → Fixes w.setup.limit me o → Proved L Z (settled w me a m' o)
+  proved_by w me a m' o r is p d move rises ends stands f =
+      let c : Carried L Z w (settled w me a m' o) p.rest (d.front' ∷ d.rest') = carries.told w me a m' o p.front p.rest (d.front' ∷ d.rest') move p.fact in
+      record {
+        front = d.front';
+        rest = d.rest';
+        free = d.free';
+        sound = sound_settled (Z w) (Z (settled w me a m' o)) w me a m' o p.front p.rest p.free r is p.sound d rises ends stands f c.keeps c.finds;
+        fact = c.fact;
+      }
 
   proved_step : (w : World) (me : ℕ) (a : Actor) (l : Line) → IsReached w → w.setup.kind ≡ NonBlocking → actor_of w me ≡ Some a → a.line ≡ Some l → Proved L Z w → Proved L Z (stepped w me a l)
   proved_step w me a l r e is at p =
       let k : AtLine w me a l = at_line w me a l at (p.sound.actors me a is) in
-      let d : Does (Z w) me (w.steps + 1) w.setup.limit w.shared m' p.front p.rest p.free a o = step_does w me a l r e is at p in
-      let c : Carried L Z w (stepped w me a l) p.rest (d.front' ∷ d.rest') =
-      carries.told w me a l m' o p.front p.rest p.free r e is at p.sound d
-      (λ Q place n q stands. turned Q w.setup (w.steps + 1) me a l (found (action w.setup me a l) w.shared) place n q stands)
-      (same_op w.setup (w.steps + 1) me a l (found (action w.setup me a l) w.shared)) p.fact in
-      record {
-        front = d.front';
-        rest = d.rest';
-        free = d.free';
-        sound =
-            sound_settled (Z w) (Z (stepped w me a l)) w me a m' o p.front p.rest p.free r is p.sound d (fresh_rises w me a l r is at)
-            (access_holds w.setup me w.shared a l p.sound.ends k.nodes)
-            (placed w.setup (w.steps + 1) me a l (found (action w.setup me a l) w.shared) k.pocket k.runs k.nodes
-            (found_holds w.shared (word (action w.setup me a l)) p.sound.ends) (found_a_node (Z w) w.setup me w.shared a l k.knows))
-            (fixed w.setup (w.steps + 1) me a l (found (action w.setup me a l) w.shared) k.fixes) c.keeps c.finds;
-        fact = c.fact;
-      }
-    where
-      m' : Shared
-      m' = performed (action w.setup me a l) w.shared
-
-      o : Outcome
-      o = outcome w.setup (w.steps + 1) me a l (found (action w.setup me a l) w.shared)
+      proved_by w me a _ _ r is p (step_does w me a l r e is at p) (step_move w me a l r is at p (step_does w me a l r e is at p)) (fresh_rises w me a l r is at)
+      (access_holds w.setup me w.shared a l p.sound.ends k.nodes)
+      (placed w.setup (w.steps + 1) me a l (found (action w.setup me a l) w.shared) k.pocket k.runs k.nodes
+      (found_holds w.shared (word (action w.setup me a l)) p.sound.ends) (found_a_node (Z w) w.setup me w.shared a l k.knows))
+      (fixed w.setup (w.steps + 1) me a l (found (action w.setup me a l) w.shared) k.fixes)
 
   proved_given : (w : World) (me : ℕ) (a : Actor) (l : Line) (o : Outcome) → IsReached w → w.setup.kind ≡ NonBlocking → actor_of w me ≡ Some a → a.line ≡ Some l → gives_up (w.steps + 1) a l ≡ Some o → Proved L Z w → Proved L Z (settled w me a w.shared o)
   proved_given w me a l o r e is at given p =
       let k : AtLine w me a l = at_line w me a l at (p.sound.actors me a is) in
-      let d : Does (Z w) me (w.steps + 1) w.setup.limit w.shared w.shared p.front p.rest p.free a o = give_does w me a l o r e is at given p in
-      let c : Carried L Z w (settled w me a w.shared o) p.rest (d.front' ∷ d.rest') =
-      carries.told w me a l w.shared o p.front p.rest p.free r e is at p.sound d
-      (λ Q place n q stands. some_of (Turns Q place) (gives_up (w.steps + 1) a l) o given (given_turned Q (w.steps + 1) a l place n q stands))
-      (some_of (λ x. x.actor.op ≡ a.op) (gives_up (w.steps + 1) a l) o given (same_op_given (w.steps + 1) a l)) p.fact in
-      record {
-        front = d.front';
-        rest = d.rest';
-        free = d.free';
-        sound =
-            sound_settled (Z w) (Z (settled w me a w.shared o)) w me a w.shared o p.front p.rest p.free r is p.sound d (omega arith) p.sound.ends
-            (some_of (Placed w.setup.kind) (gives_up (w.steps + 1) a l) o given (given_up_placed w.setup (w.steps + 1) a l k.pocket k.nodes))
-            (some_of (Fixes w.setup.limit me) (gives_up (w.steps + 1) a l) o given (fixed_given w.setup.limit (w.steps + 1) me a l k.fixes)) c.keeps c.finds;
-        fact = c.fact;
-      }
+      proved_by w me a w.shared o r is p (give_does w me a l o r e is at given p) (give_move w me a l o r is at given p (give_does w me a l o r e is at given p)) (omega arith) p.sound.ends
+      (some_of (Placed w.setup.kind) (gives_up (w.steps + 1) a l) o given (given_up_placed w.setup (w.steps + 1) a l k.pocket k.nodes))
+      (some_of (Fixes w.setup.limit me) (gives_up (w.steps + 1) a l) o given (fixed_given w.setup.limit (w.steps + 1) me a l k.fixes))
 
   proved_begun : (w : World) (me : ℕ) (op : Op) (a : Actor) → IsReached w → w.setup.kind ≡ NonBlocking → actor_of w me ≡ Some a → a.line ≡ None → is_call op ≡ true → Proved L Z w → Proved L Z (with_actor w me (begun w.setup.kind me op a))
   proved_begun w me op a r e is at call p =
@@ -434,16 +409,6 @@ module _ (L : World → List ℕ → Type 0) (Z : World → ℕ → Type 0) (car
       each_reached NonBlocking (Proved L Z)
       (record { step = proved_step; gave_up = proved_given; began = proved_begun; at_rest = proved_rested })
       (λ s actors sized e. record { front = 1; rest = []; free = []; sound = opening_sound (Z (opening s actors)) s actors sized; fact = carries.starts s actors sized })
-
--- nothing more is carried along
-nothing : Carries (λ w q. Unit {0}) (λ w k. Unit {0})
-nothing =
-    record {
-      told = λ w me a l m' o front rest free r e is at so d t same f. record { fact = tt; keeps = λ k z. tt; finds = λ q. tt };
-      began = λ w me op a q r is at f. (tt, λ k z. tt);
-      at_rest = λ w me a l q r is at may f. (tt, λ k z. tt);
-      starts = λ s actors h. tt;
-    }
 
 -- each world that is reached has its chains
 pub reached_sound : (w : World) → IsReached w → w.setup.kind ≡ NonBlocking → Proved (λ w q. Unit {0}) (λ w k. Unit {0}) w

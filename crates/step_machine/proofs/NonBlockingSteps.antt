@@ -1,34 +1,18 @@
 -- What the step of each line does in the non-blocking queue.
 use Rattle.std.proofs.Common.{◌≡◌, ◌≢◌, ℕ, ◌+◌, ◌-◌, ◌≤◌, ◌<◌, Bool, true, false, nat_eq, nat_lt, if◌then◌else◌, List, ◌∷◌, length, set, Option, Some, None, IfSome, refl, sym, ap, ◌∙◌, subst, arith, ◌⊎◌, inl, inr}
 use Rattle.std.proofs.lemmas.Bool.{eqb-true, eqb-false, true≢false}
-use Rattle.counted_ref.specs.Ref.{Ref, ref, is_null, same_ref}
-use Rattle.line_table.specs.declared.lines.Kind.{Kind}
-use Rattle.line_table.specs.declared.lines.Kind.TheVariants.{TwoLock, NonBlocking}
-use Rattle.line_table.specs.declared.lines.Line.{Line}
-use Rattle.line_table.specs.declared.lines.Line.TheVariants.{N1, N2, N3, N4, N5, F1, F2, F3, E2, E3, E5, E6, E7, E9, E13, E17, D2, D3, D4, D5, D10, D12, D13, A3, B1}
+use Rattle.step_machine.specs.Below.{Ref, ref, is_null, same_ref, Kind, TwoLock, NonBlocking, Line, N1, N2, N3, N4, N5, F1, F2, F3, E2, E3, E5, E6, E7, E9, E13, E17, D2, D3, D4, D5, D10, D12, D13, A3, B1, section_of, OfFree, OfNext, OfTail, OfHead, Refusal, NoNode, WornOut, Busy, Deq, Reply, Done, Value, Refused, leaves, Setup, Node, Actor, Outcome, Shared, node_at, put, performed, found, Fresh, Free, Head, Tail, Next, action, outcome, raised, goes, ends, effect, freed, sets_aside, takes, lets_go, to_pocket, with_node, busy_or, gives_up}
+use Rattle.counted_ref.proofs.Words.{same_ref-true}
 use Rattle.line_table.specs.declared.lines.Section.TheVariants.{LockedEnqueue, LockedDequeue}
-use Rattle.line_table.specs.Sections.{section_of}
-use Rattle.history.specs.declared.operations.Op.TheVariants.{Deq}
-use Rattle.history.specs.declared.operations.Reply.{Reply}
-use Rattle.history.specs.declared.operations.Reply.TheVariants.{Done, Value, Empty, Refused}
-use Rattle.history.specs.declared.refusals.Refusal.{Refusal}
-use Rattle.history.specs.declared.refusals.Refusal.TheVariants.{NoNode, WornOut, Busy}
-use Rattle.history.specs.declared.refusals.WornWord.TheVariants.{Free as OfFree, Next as OfNext, Tail as OfTail, Head as OfHead}
-use Rattle.history.specs.History.{leaves}
-use Rattle.line_steps.specs.declared.actors.Setup.{Setup}
-use Rattle.line_steps.specs.declared.actors.Actor.{Actor}
-use Rattle.line_steps.specs.declared.actors.Node.{Node}
-use Rattle.line_steps.specs.declared.actors.Outcome.{Outcome}
-use Rattle.line_steps.specs.Memory.{Shared, node_at, put, performed, found, Fresh, Free, Head, Tail, Next}
-use Rattle.line_steps.specs.Lines.{action, outcome, raised, goes, ends, effect, freed, sets_aside, takes, lets_go, to_pocket, with_node, busy_or, gives_up}
 use Rattle.step_machine.specs.Promises.{earned, promised_reply}
 use Rattle.step_machine.specs.Places.{one_if}
 use Rattle.step_machine.specs.Chains.{last_node}
 use Rattle.step_machine.specs.Standing.{IsRunBy, HoldsNodes}
+use Rattle.step_machine.proofs.Choices.{either, tried}
 use Rattle.step_machine.proofs.Chains.{node_in, chain_none}
 use Rattle.step_machine.proofs.Counting.{holds, asides, holds_hand, holds_none, holds_own}
 use Rattle.step_machine.proofs.Effects.{written, next_keeps_value, with_node as with_new}
-use Rattle.step_machine.proofs.Accounts.{Account, KeepsReply, quiet, refused, found_empty, pushed, same_ref-true, raised_node, raised_count}
+use Rattle.step_machine.proofs.Accounts.{Account, KeepsReply, quiet, refused, found_empty, pushed, raised_node, raised_count}
 use Rattle.step_machine.proofs.Fixed.{FixedAt, Pushes, EarnedFreeing}
 use Rattle.step_machine.proofs.NonBlockingKnows.{next_of, KnowsAt, Marked, Ready, WasNext, MayGoOn}
 use Rattle.step_machine.proofs.NonBlockingLag.{behind_tail, tail_is_last, off, off_leads}
@@ -43,18 +27,9 @@ module _ (Z : ℕ → Type 0) (s : Setup) (m : Shared) (E : ℕ → ℕ) (front 
   abbrev Learns : Shared → Outcome → Type 0
   Learns m' o = KnowsAt (Found rest now) s.limit m' o.actor o.actor.line
 
-  either : (b : Bool) (m' : Shared) (x y : Outcome) → (b ≡ true → Goes m' x) → (b ≡ false → Goes m' y) → Goes m' (if b then x else y)
-  either true m' x y hx hy = hx refl
-  either false m' x y hx hy = hy refl
-
-  -- an exchange that succeeds or not
-  tried : (b : Bool) (m' m'' : Shared) (x y : Outcome) → (b ≡ true → Goes m' x) → (b ≡ false → Goes m'' y) → Goes (if b then m' else m'') (if b then x else y)
-  tried true m' m'' x y hx hy = hx refl
-  tried false m' m'' x y hx hy = hy refl
-
-  tried_same : (b : Bool) (m' m'' : Shared) (x : Outcome) → (b ≡ true → Goes m' x) → (b ≡ false → Goes m'' x) → Goes (if b then m' else m'') x
-  tried_same true m' m'' x hx hy = hx refl
-  tried_same false m' m'' x hx hy = hy refl
+  -- an exchange after which the outcome is the same, whether it succeeds or not
+  tried_same : (b : Bool) {m' m'' : Shared} {x : Outcome} → (b ≡ true → Goes m' x) → (b ≡ false → Goes m'' x) → Goes (if b then m' else m'') x
+  tried_same b {x = x} hx hy = either (λ m'. Goes m' x) b hx hy
 
   -- an outcome in which the actor holds what it held
   still : (o : Outcome) → ((n : ℕ) → holds n o.actor ≡ holds n a) → o.aside ≡ None → Marked m o.actor → Learns m o → Account Z me now m m (front ∷ rest) (front ∷ rest) a o → Goes m o
@@ -92,9 +67,7 @@ module _ (Z : ℕ → Type 0) (s : Setup) (m : Shared) (E : ℕ → ℕ) (front 
   aside_freed TwoLock None top d f h p some = aside _ h p some refl p refl tt refl (inr (λ n. refl))
   aside_freed NonBlocking None top d f h p some = aside _ h p some refl p refl tt refl (inr (λ n. refl))
   aside_freed kind (Some (Value v)) top d f h p some = aside _ h p some refl p refl tt refl (inr (λ n. sym (ap earned d)))
-  aside_freed kind (Some Done) top d f h p some = absurd f
-  aside_freed kind (Some Empty) top d f h p some = absurd f
-  aside_freed kind (Some (Refused why)) top d f h p some = absurd f
+  aside_freed kind _ top d f h p some = absurd f
 
   -- the node in hand goes before the free ones
   gives_back : (o : Outcome) → a.holds ≡ true → a.pocket ≡ None → 1 ≤ a.node → m.free ≡ a.top → a.top.count ≢ s.limit → next_of m a.node ≡ ref a.top.node a.mark → o.actor.holds ≡ false → o.actor.pocket ≡ None → o.aside ≡ None → Learns (put Free (raised s a.top a.node) m) o → o.at ≡ None → KeepsReply a o → Goes (put Free (raised s a.top a.node) m) o
@@ -110,9 +83,7 @@ module _ (Z : ℕ → Type 0) (s : Setup) (m : Shared) (E : ℕ → ℕ) (front 
   gives_back_freed TwoLock None d f h p some was room knows = gives_back _ h p some was room knows refl p refl tt refl (inr (λ n. refl))
   gives_back_freed NonBlocking None d f h p some was room knows = gives_back _ h p some was room knows refl p refl tt refl (inr (λ n. refl))
   gives_back_freed kind (Some (Value v)) d f h p some was room knows = gives_back _ h p some was room knows refl p refl tt refl (inr (λ n. sym (ap earned d)))
-  gives_back_freed kind (Some Done) d f h p some was room knows = absurd f
-  gives_back_freed kind (Some Empty) d f h p some was room knows = absurd f
-  gives_back_freed kind (Some (Refused why)) d f h p some was room knows = absurd f
+  gives_back_freed kind _ d f h p some was room knows = absurd f
 
   -- the node in hand is written, and its count stays
   writes : (o : Outcome) (x : Node) → a.holds ≡ true → a.pocket ≡ None → 1 ≤ a.node → x.next.count ≡ (next_of m a.node).count → o.actor.holds ≡ true → o.actor.pocket ≡ None → o.actor.node ≡ a.node → o.actor.mark ≡ x.next.count → o.aside ≡ None → Learns (with_new m a.node x) o → o.at ≡ None → KeepsReply a o → Goes (with_new m a.node x) o
@@ -223,32 +194,32 @@ module _ (Z : ℕ → Type 0) (s : Setup) (m : Shared) (E : ℕ → ℕ) (front 
   pub does : (l : Line) → s.kind ≡ NonBlocking → IsRunBy (section_of l) s.kind → HoldsNodes l a → FixedAt s.limit me a (Some l) → KnowsAt Z s.limit m a (Some l) → Goes (performed (action s me a l) m) (outcome s now me a l (found (action s me a l) m))
   does N1 e r h f k = on _ (ap earned f.earned) refl (λ n. refl) refl marked tt
   does N2 e r h f k =
-      either (is_null m.free) m _ _
-      (λ n. either (nat_lt a.f s.size) m _ _ (λ b. on _ (ap earned f.earned) refl (λ n. refl) refl marked tt) (λ b. refuses _ NoNode (ap earned f.earned) refl refl refl (λ n. refl) refl marked refl))
-      (λ n. either (nat_eq m.free.count s.limit) m _ _ (λ b. refuses _ (WornOut OfFree) (ap earned f.earned) refl refl refl (λ n. refl) refl marked refl)
+      either (Goes m) (is_null m.free)
+      (λ n. either (Goes m) (nat_lt a.f s.size) (λ b. on _ (ap earned f.earned) refl (λ n. refl) refl marked tt) (λ b. refuses _ NoNode (ap earned f.earned) refl refl refl (λ n. refl) refl marked refl))
+      (λ n. either (Goes m) (nat_eq m.free.count s.limit) (λ b. refuses _ (WornOut OfFree) (ap earned f.earned) refl refl refl (λ n. refl) refl marked refl)
       (λ b. on _ (ap earned f.earned) refl (λ n. refl) refl marked (inl refl)))
   does N3 e r h f k = on _ (ap earned f.earned) refl (λ n. refl) refl marked (k, λ q. refl)
   does N4 e r h f k =
-      tried (same_ref m.free a.top) _ m _ _
+      tried Goes (same_ref m.free a.top)
       (λ b. let was : m.free ≡ a.top = same_ref-true m.free a.top b in takes_to s.kind f.hand f.pocket h was f.room (k.1 was) (ap earned f.earned))
       (λ b. on _ (ap earned f.earned) refl (λ n. refl) refl marked tt)
   does N5 e r h f k =
-      tried (nat_eq m.fresh a.f) _ m _ _ (λ b. claims_to s.kind f.hand f.pocket (eqb-true m.fresh a.f b) (ap earned f.earned)) (λ b. on _ (ap earned f.earned) refl (λ n. refl) refl marked tt)
+      tried Goes (nat_eq m.fresh a.f) (λ b. claims_to s.kind f.hand f.pocket (eqb-true m.fresh a.f b) (ap earned f.earned)) (λ b. on _ (ap earned f.earned) refl (λ n. refl) refl marked tt)
   does F1 e r h f k =
-      either (nat_eq m.free.count s.limit) m _ _ (λ b. aside_freed s.kind a.due m.free refl f.earned f.hand f.pocket h)
+      either (Goes m) (nat_eq m.free.count s.limit) (λ b. aside_freed s.kind a.due m.free refl f.earned f.hand f.pocket h)
       (λ b. still _ (λ n. refl) refl marked tt (quiet refl refl refl (inr (λ n. refl))))
   does F2 e r h f k =
       writes _ (record (node_at m a.node) { next = ref a.top.node a.mark }) f.hand f.pocket h (sym (marked.hand f.hand).1) f.hand f.pocket refl refl refl
       (ap (λ (x : Node). x.next) (written m.nodes a.node (record (node_at m a.node) { next = ref a.top.node a.mark }) h low)) refl (inr (λ n. refl))
   does F3 e r h f k =
-      tried (same_ref m.free a.top) _ m _ _
+      tried Goes (same_ref m.free a.top)
       (λ b. gives_back_freed s.kind a.due refl f.earned f.hand f.pocket h (same_ref-true m.free a.top b) f.room k)
       (λ b. still _ (λ n. refl) refl marked tt (quiet refl refl refl (inr (λ n. refl))))
   does E2 e r h f k =
       writes _ (record (node_at m a.node) { value = a.val }) f.hand f.pocket h refl f.hand f.pocket refl (sym (marked.hand f.hand).1) refl
       (ap (λ (x : Node). x.value) (written m.nodes a.node (record (node_at m a.node) { value = a.val }) h low)) refl (inl (ap earned f.earned))
   does E3 e r h f k =
-      either (nat_eq (next_of m a.node).count s.limit) (with_new m a.node x) _ _
+      either (Goes (with_new m a.node x)) (nat_eq (next_of m a.node).count s.limit)
       (λ b. writes_aside _ x f.hand f.pocket h refl refl f.pocket refl tt (refused (WornOut OfNext) refl refl refl refl refl (ap earned f.earned)))
       (λ b. writes _ x f.hand f.pocket h refl f.hand f.pocket refl refl refl
       (ap (λ (y : Node). y.value) cleared ∙ k, ap (λ (y : Node). y.next.node) cleared, eqb-false (next_of m a.node).count s.limit b) refl (inl (ap earned f.earned)))
@@ -261,10 +232,10 @@ module _ (Z : ℕ → Type 0) (s : Setup) (m : Shared) (E : ℕ → ℕ) (front 
   does E5 e r h f k = on _ (ap earned f.earned) refl (λ n. refl) refl marked (k, inl refl)
   does E6 e r h f k = on _ (ap earned f.earned) refl (λ n. refl) refl marked (k.0, k.1, λ q. inl refl)
   does E7 e r h f k =
-      either (same_ref m.tail a.tail) m _ _
+      either (Goes m) (same_ref m.tail a.tail)
       (λ b. let was : m.tail ≡ a.tail = same_ref-true m.tail a.tail b in
-      either (is_null a.next) m _ _ (λ n. on _ (ap earned f.earned) refl (λ n. refl) refl marked (k.0, eqb-true a.next.node 0 n, there was (k.2 was)))
-      (λ n. either (nat_eq a.tail.count s.limit) m _ _
+      either (Goes m) (is_null a.next) (λ n. on _ (ap earned f.earned) refl (λ n. refl) refl marked (k.0, eqb-true a.next.node 0 n, there was (k.2 was)))
+      (λ n. either (Goes m) (nat_eq a.tail.count s.limit)
       (λ c. refuses _ (WornOut OfTail) (ap earned f.earned) refl refl refl (λ n. omega (arith, holds_hand n a f.hand f.pocket)) refl (record { hand = λ q. absurd (true≢false (sym q)); pocket = marked.hand f.hand }) refl)
       (λ c. on _ (ap earned f.earned) refl (λ n. refl) refl marked (k.0, (k.1, λ q. follows (eqb-false a.next.node 0 n) (k.2 was))))))
       (λ b. on _ (ap earned f.earned) refl (λ n. refl) refl marked k.0)
@@ -277,7 +248,7 @@ module _ (Z : ℕ → Type 0) (s : Setup) (m : Shared) (E : ℕ → ℕ) (front 
       follows some (inl here) = ap (λ (x : Ref). x.node) here
       follows some (inr gone) = absurd (some gone.0)
   does E9 e r h f k =
-      tried (same_ref (next_of m a.tail.node) a.next) _ m _ _
+      tried Goes (same_ref (next_of m a.tail.node) a.next)
       (λ b. let same : next_of m a.tail.node ≡ a.next = same_ref-true (next_of m a.tail.node) a.next b in
       linked (nat_eq a.tail.count s.limit) f.hand f.pocket h.0 h.1 k.0 k.1 (there same k.2) same f.call (ap earned f.earned))
       (λ b. on _ (ap earned f.earned) refl (λ n. refl) refl marked k.0)
@@ -286,11 +257,11 @@ module _ (Z : ℕ → Type 0) (s : Setup) (m : Shared) (E : ℕ → ℕ) (front 
       there same (inl less) = absurd (let c : (next_of m a.tail.node).count ≡ a.next.count = ap (λ (x : Ref). x.count) same in omega arith)
       there same (inr was) = was.0
   does E13 e r h f k =
-      tried_same (same_ref m.tail a.tail) _ m _
+      tried_same (same_ref m.tail a.tail)
       (λ b. swings a.next.node _ (same_ref-true m.tail a.tail b) h.2 f.room k.1 (λ n. refl) refl marked k.0 refl (inl (ap earned f.earned)))
       (λ b. on _ (ap earned f.earned) refl (λ n. refl) refl marked k.0)
   does E17 e r h f k =
-      tried_same (same_ref m.tail a.tail) _ m _
+      tried_same (same_ref m.tail a.tail)
       (λ b. swings a.node _ (same_ref-true m.tail a.tail b) h.0 f.room k (λ n. refl) refl marked tt refl (inr (λ n. sym (ap earned f.earned))))
       (λ b. still _ (λ n. refl) refl marked tt (quiet refl refl refl (inr (λ n. sym (ap earned f.earned)))))
   does D2 e r h f k = on _ (ap earned f.earned) refl (λ n. refl) refl marked (inl refl)
@@ -306,24 +277,24 @@ module _ (Z : ℕ → Type 0) (s : Setup) (m : Shared) (E : ℕ → ℕ) (front 
       leads was away =
           subst (λ j. 1 ≤ (next_of m j).node) (is_first was) (off_leads m front m.head.node rest w.shape.queue_chain (off m front rest w.lag (λ q. away (q ∙ is_first was))))
   does D5 e r h f k =
-      either (same_ref m.head a.head) m _ _
+      either (Goes m) (same_ref m.head a.head)
       (λ b. let was : m.head ≡ a.head = same_ref-true m.head a.head b in
-      either (nat_eq a.head.node a.tail.node) m _ _
-      (λ c. either (is_null a.next) m _ _ (λ n. still _ (λ n. refl) refl marked tt (found_empty refl refl refl refl f.call (ap earned f.earned) (k.3 was (eqb-true a.next.node 0 n))))
-      (λ n. either (nat_eq a.tail.count s.limit) m _ _ (λ d. refuses _ (WornOut OfTail) (ap earned f.earned) refl refl refl (λ n. refl) refl marked refl)
+      either (Goes m) (nat_eq a.head.node a.tail.node)
+      (λ c. either (Goes m) (is_null a.next) (λ n. still _ (λ n. refl) refl marked tt (found_empty refl refl refl refl f.call (ap earned f.earned) (k.3 was (eqb-true a.next.node 0 n))))
+      (λ n. either (Goes m) (nat_eq a.tail.count s.limit) (λ d. refuses _ (WornOut OfTail) (ap earned f.earned) refl refl refl (λ n. refl) refl marked refl)
       (λ d. on _ (ap earned f.earned) refl (λ n. refl) refl marked (k.1, λ q. ap (λ j. (next_of m j).node) (sym (eqb-true a.head.node a.tail.node c)) ∙ ap (λ (x : Ref). x.node) ((k.2 was).0 (let some : a.next.node ≢ 0 = eqb-false a.next.node 0 n in omega arith))))))
       (λ c. let other : a.tail.node ≢ a.head.node = λ q. eqb-false a.head.node a.tail.node c (sym q) in
       on _ (ap earned f.earned) refl (λ n. refl) refl marked (inl was, λ q. ((k.2 was).0 ((k.2 was).1 other).1, ((k.2 was).1 other).0))))
       (λ b. on _ (ap earned f.earned) refl (λ n. refl) refl marked tt)
   does D10 e r h f k =
-      tried_same (same_ref m.tail a.tail) _ m _
+      tried_same (same_ref m.tail a.tail)
       (λ b. swings a.next.node _ (same_ref-true m.tail a.tail b) h.1 f.room k (λ n. refl) refl marked tt refl (inl (ap earned f.earned)))
       (λ b. on _ (ap earned f.earned) refl (λ n. refl) refl marked tt)
   does D12 e r h f k =
-      either (nat_eq a.head.count s.limit) m _ _ (λ b. refuses _ (WornOut OfHead) (ap earned f.earned) refl refl refl (λ n. refl) refl marked refl)
+      either (Goes m) (nat_eq a.head.count s.limit) (λ b. refuses _ (WornOut OfHead) (ap earned f.earned) refl refl refl (λ n. refl) refl marked refl)
       (λ b. on _ (ap earned f.earned) refl (λ n. refl) refl marked (k, λ q. refl))
   does D13 e r h f k =
-      tried (same_ref m.head a.head) _ m _ _
+      tried Goes (same_ref m.head a.head)
       (λ b. let was : m.head ≡ a.head = same_ref-true m.head a.head b in
       pops _ f.hand f.pocket was h.1 f.room (k.0.1 was).0 (k.0.1 was).1 refl f.pocket refl h.0 refl refl tt refl (ap (λ v. Some (Value v)) (sym (k.1 was))) f.call (ap earned f.earned))
       (λ b. on _ (ap earned f.earned) refl (λ n. refl) refl marked tt)
@@ -339,9 +310,7 @@ module _ (Z : ℕ → Type 0) (s : Setup) (m : Shared) (E : ℕ → ℕ) (front 
   gives_free : (due : Option Reply) → a.due ≡ due → EarnedFreeing due → a.holds ≡ true → a.pocket ≡ None → IfSome (busy_or now due (to_pocket a)) (Goes m)
   gives_free None d f h p = refuses _ Busy (ap earned d) refl refl refl (to_pocket_holds h p) refl (to_pocket_marks h) refl
   gives_free (Some (Value v)) d f h p = still _ (to_pocket_holds h p) refl (to_pocket_marks h) tt (quiet refl refl refl (inr (λ n. sym (ap earned d))))
-  gives_free (Some Done) d f h p = absurd f
-  gives_free (Some Empty) d f h p = absurd f
-  gives_free (Some (Refused why)) d f h p = absurd f
+  gives_free _ d f h p = absurd f
 
   -- an actor that gives up before a line of this queue changes no word
   pub gives : (l : Line) → s.kind ≡ NonBlocking → IsRunBy (section_of l) s.kind → FixedAt s.limit me a (Some l) → IfSome (gives_up now a l) (Goes m)

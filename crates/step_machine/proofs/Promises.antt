@@ -3,11 +3,7 @@ use Rattle.std.proofs.Common.{◌≡◌, ℕ, ◌+◌, Bool, true, false, nat_le
 use Rattle.std.specs.List.{flat_map}
 use Rattle.std.proofs.lemmas.List.Folds.{flat_map-map}
 use Rattle.std.proofs.lemmas.List.Recursion.{is_count_by}
-use Rattle.history.specs.declared.operations.Reply.{Reply}
-use Rattle.history.specs.declared.operations.Reply.TheVariants.{Done, Value, Empty, Refused}
-use Rattle.history.specs.declared.operations.Stamped.{Stamped}
-use Rattle.history.specs.Queue.{Queue, empty}
-use Rattle.history.specs.History.{inserted, rising, answer, Gets, Replays, replayed, IsLegal}
+use Rattle.step_machine.specs.Below.{Reply, Done, Stamped, Queue, empty, inserted, rising, answer, Gets, Replays, replayed, IsLegal}
 use Rattle.step_machine.specs.Machine.{World, actor_of}
 use Rattle.step_machine.specs.Places.{one_if}
 use Rattle.step_machine.specs.Promises.{earned, due_of, promised_reply, promised, promises, is_value, values_taken}
@@ -52,18 +48,12 @@ module _ (w : World) where
 
   -- what the queue gives doesn't hang on first and last numbers
   answer_same : (queue : Queue) (o : Stamped) (reply : Option Reply) → answer queue (entry_in w o) reply ≡ answer queue (promised w o) reply
-  answer_same queue o None = refl
   answer_same queue o (Some Done) = refl
-  answer_same queue o (Some (Value v)) = refl
-  answer_same queue o (Some Empty) = refl
-  answer_same queue o (Some (Refused why)) = refl
+  answer_same queue o _ = refl
 
   gets_same : (queue : Queue) (o : Stamped) (reply : Option Reply) → Gets queue (entry_in w o) reply → Gets queue (promised w o) reply
-  gets_same queue o None h = h
   gets_same queue o (Some Done) h = h
-  gets_same queue o (Some (Value v)) h = h
-  gets_same queue o (Some Empty) h = h
-  gets_same queue o (Some (Refused why)) h = h
+  gets_same queue o _ h = h
 
   replays_same : (queue : Queue) (ops : List Stamped) → Replays queue (map (entry_in w) ops) → Replays queue (map (promised w) ops)
   replays_same queue [] h = tt
@@ -80,26 +70,19 @@ module _ (w : World) where
 
   -- a reply that was earned and not told gives what no reply gives
   answer_earned : (queue : Queue) (o : Stamped) (due : Option Reply) → answer queue (entry_in w o) (earned due) ≡ answer queue o None
-  answer_earned queue o None = refl
   answer_earned queue o (Some Done) = refl
-  answer_earned queue o (Some (Value v)) = refl
-  answer_earned queue o (Some Empty) = refl
-  answer_earned queue o (Some (Refused why)) = refl
+  answer_earned queue o _ = refl
 
   answer_told : (queue : Queue) (o : Stamped) (reply : Option Reply) (at : Option ℕ) (due : Option Reply) → answer queue (entry_in w o) (promised_reply reply at due) ≡ answer queue o reply
   answer_told queue o None None due = refl
   answer_told queue o None (Some n) due = answer_earned queue o due
   answer_told queue o (Some Done) at due = refl
-  answer_told queue o (Some (Value v)) at due = refl
-  answer_told queue o (Some Empty) at due = refl
-  answer_told queue o (Some (Refused why)) at due = refl
+  answer_told queue o _ at due = refl
 
   gets_told : (queue : Queue) (o : Stamped) (reply : Option Reply) (at : Option ℕ) (due : Option Reply) → Gets queue (entry_in w o) (promised_reply reply at due) → Gets queue o reply
   gets_told queue o None at due h = tt
   gets_told queue o (Some Done) at due h = h
-  gets_told queue o (Some (Value v)) at due h = h
-  gets_told queue o (Some Empty) at due h = h
-  gets_told queue o (Some (Refused why)) at due h = h
+  gets_told queue o _ at due h = h
 
   replays_told : (queue : Queue) (ops : List Stamped) → Replays queue (map (entry_in w) ops) → Replays queue ops
   replays_told queue [] h = tt

@@ -4,16 +4,9 @@ use Rattle.std.proofs.Math.ListN.{length-set}
 use Rattle.std.proofs.lemmas.Bool.{eqb-false, eqb-true}
 use Rattle.std.proofs.lemmas.List.Elements.{All-set}
 use Rattle.std.specs.List.{All}
-use Rattle.counted_ref.specs.Ref.{Ref, ref}
-use Rattle.line_table.specs.declared.lines.Line.{Line}
-use Rattle.line_table.specs.declared.lines.Line.TheVariants.{N4, N5, F2, F3, E2, E9, E13, E17, D10, D13, A1, A3, A5, A6, A7, B1, B5, B6}
-use Rattle.line_steps.specs.declared.actors.Setup.{Setup}
-use Rattle.line_steps.specs.declared.actors.Actor.{Actor}
-use Rattle.line_steps.specs.declared.actors.Held.{Held}
-use Rattle.line_steps.specs.declared.actors.Node.{Node}
-use Rattle.line_steps.specs.Memory.{blank, Shared, Word, Content, Action, performed, content, same, load, store, clear, exchange, Fresh, Free, Head, Tail, Tail_lock, Head_lock, Next, Value_of, put}
-use Rattle.line_steps.specs.Lines.{raised, action}
+use Rattle.step_machine.specs.Below.{Ref, ref, Line, N4, N5, F2, F3, E2, E9, E13, E17, D10, D13, A1, A3, A5, A6, A7, B1, B5, B6, Setup, Node, Held, Actor, blank, Shared, Word, Content, Action, performed, content, same, load, store, clear, exchange, Fresh, Free, Head, Tail, Tail_lock, Head_lock, Next, Value_of, put, raised, action}
 use Rattle.step_machine.specs.Range.{RefInRange, ValueInRange, NodeInRange, SharedInRange, HeldInRange, RegistersInRange, LineInRange, ActorInRange}
+use Rattle.step_machine.proofs.Choices.{either}
 
 -- what is in range stays so where more nodes are used
 ref_weakens : (limit n m : ℕ) (r : Ref) → n ≤ m → RefInRange limit n r → RefInRange limit m r
@@ -75,13 +68,7 @@ content_weakens s n m k (Value_of i) v h g = g
 -- what may be written into a word: Fresh only rises
 abbrev pub MayWrite : (s : Setup) (n k : ℕ) (x : Word) → Content x → Type 0
 MayWrite s n k Fresh c = (n ≤ c) × (c ≤ s.size)
-MayWrite s n k Free r = RefInRange s.limit n r
-MayWrite s n k Head r = RefInRange s.limit n r
-MayWrite s n k Tail r = RefInRange s.limit n r
-MayWrite s n k Tail_lock c = c ≤ k
-MayWrite s n k Head_lock c = c ≤ k
-MayWrite s n k (Next i) r = RefInRange s.limit n r
-MayWrite s n k (Value_of i) v = ValueInRange k v
+MayWrite s n k x c = ContentInRange s n k x c
 
 -- what an access writes where it writes
 abbrev pub WritesInRange : (s : Setup) (k : ℕ) → Shared → Action → Type 0
@@ -206,13 +193,7 @@ put_in_range s k m (Value_of i) c h g =
 
 put_rises : (s : Setup) (k : ℕ) (m : Shared) (x : Word) (c : Content x) → MayWrite s m.fresh k x c → m.fresh ≤ (put x c m).fresh
 put_rises s k m Fresh c g = g.0
-put_rises s k m Free c g = omega arith
-put_rises s k m Head c g = omega arith
-put_rises s k m Tail c g = omega arith
-put_rises s k m Tail_lock c g = omega arith
-put_rises s k m Head_lock c g = omega arith
-put_rises s k m (Next i) c g = omega arith
-put_rises s k m (Value_of i) c g = omega arith
+put_rises s k m _ c g = omega arith
 
 -- an access keeps the shared words in range, and Fresh only rises
 pub record Accessed (s : Setup) (k : ℕ) (m m' : Shared) : Type 0 where
@@ -222,14 +203,11 @@ pub record Accessed (s : Setup) (k : ℕ) (m m' : Shared) : Type 0 where
 put_access : (s : Setup) (k : ℕ) (m : Shared) (x : Word) (c : Content x) → SharedInRange s k m → MayWrite s m.fresh k x c → Accessed s k m (put x c m)
 put_access s k m x c h g = record { range = put_in_range s k m x c h g; rises = put_rises s k m x c g }
 
-chosen : (s : Setup) (k : ℕ) (m : Shared) (b : Bool) (x : Word) (c : Content x) → SharedInRange s k m → (b ≡ true → MayWrite s m.fresh k x c) → Accessed s k m (if b then put x c m else m)
-chosen s k m true x c h g = put_access s k m x c h (g refl)
-chosen s k m false x c h g = record { range = h; rises = omega arith }
-
 pub performed_in_range : (s : Setup) (k : ℕ) (m : Shared) (a : Action) → SharedInRange s k m → WritesInRange s k m a → Accessed s k m (performed a m)
 performed_in_range s k m (load x) h g = record { range = h; rises = omega arith }
 performed_in_range s k m (store x c) h g = put_access s k m x c h g
 performed_in_range s k m (clear i) h g =
     let old : NodeInRange s.limit m.fresh k (get_or m.nodes (i - 1) blank) = node_in_range s.limit m.fresh k m.nodes (i - 1) h.nodes in
     put_access s k m (Next i) _ h (record { node = omega arith; count = old.next.count })
-performed_in_range s k m (exchange x old new) h g = chosen s k m (same x (content x m) old) x new h g
+performed_in_range s k m (exchange x old new) h g =
+    either (Accessed s k m) (same x (content x m) old) (λ e. put_access s k m x new h (g e)) (λ e. record { range = h; rises = omega arith })

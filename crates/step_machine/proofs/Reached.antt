@@ -6,27 +6,13 @@ use Rattle.std.proofs.lemmas.List.{map-append}
 use Rattle.std.proofs.lemmas.List.Elements.{All-set, All-replicate}
 use Rattle.std.proofs.lemmas.Option.{none-some, slice_get_within, get_or_from_slice_get}
 use Rattle.std.specs.List.{All}
-use Rattle.counted_ref.specs.Ref.{null}
-use Rattle.line_table.specs.declared.lines.Kind.{Kind}
-use Rattle.line_table.specs.declared.lines.Kind.TheVariants.{TwoLock, NonBlocking}
-use Rattle.line_table.specs.declared.lines.Line.{Line}
-use Rattle.line_table.specs.declared.lines.Line.TheVariants.{N1, N5, F1, E2, A1}
-use Rattle.history.specs.declared.operations.Op.{Op}
-use Rattle.history.specs.declared.operations.Op.TheVariants.{Enq, Deq}
-use Rattle.line_steps.specs.declared.actors.Setup.{Setup}
-use Rattle.line_steps.specs.declared.actors.Actor.{Actor}
-use Rattle.line_steps.specs.declared.actors.Held.{Held}
-use Rattle.line_steps.specs.declared.actors.Outcome.{Outcome}
-use Rattle.line_steps.specs.Memory.{blank, Shared, word, found, performed}
-use Rattle.line_steps.specs.Lines.{action, dequeues, gives_up}
-use Rattle.line_steps.specs.Calling.{is_call, from_pocket, begun}
-use Rattle.line_steps.specs.Rooms.{aside_after}
+use Rattle.step_machine.specs.Below.{null, Kind, TwoLock, NonBlocking, Line, N1, N5, F1, E2, A1, Op, Enq, Deq, Setup, Held, Actor, Outcome, blank, Shared, word, found, performed, action, dequeues, gives_up, is_call, from_pocket, begun, aside_after}
 use Rattle.step_machine.specs.declared.actors.Move.{Move}
-use Rattle.step_machine.specs.declared.actors.Move.TheVariants.{Begin, Step, Give}
-use Rattle.step_machine.specs.Machine.{World, idle, opening, actor_of, rested, with_actor, settled, stepped, begins, steps, given, gives, may_rest, rests, moved, mover, next, rest_of, AnyMove, made, Rest, next_any, run_on, run, IsSized, IsReached, IsMade}
+use Rattle.step_machine.specs.Machine.{World, idle, opening, actor_of, rested, with_actor, settled, stepped, next, AnyMove, made, next_any, run_on, run, IsSized, IsReached, IsMade}
 use Rattle.step_machine.specs.Range.{RefInRange, NodeInRange, SharedInRange, HeldInRange, RegistersInRange, LineInRange, ActorInRange, WorldInRange}
 use Rattle.step_machine.proofs.Range.{content_weakens, registers_weaken, pocket_weakens, actor_weakens, writes, found_in_range, Accessed, performed_in_range}
 use Rattle.step_machine.proofs.Kept.{Kept, Wins, kept, with_held, given_up_kept}
+use Rattle.step_machine.proofs.AnyMoves.{after_move}
 
 -- a world of so many actors is in range
 record Holds (k : ℕ) (w : World) : Type 0 where
@@ -57,9 +43,9 @@ if_some P (Some x) f = f x refl
 pub some_of : {X : Type 0} (P : X → Type 0) (o : Option X) (x : X) → o ≡ Some x → IfSome o P → P x
 some_of P o x e h = subst (λ p. IfSome p P) e h
 
--- the actor of a number is the one that stands there
-there : (w : World) (me : ℕ) (a : Actor) → actor_of w me ≡ Some a → (1 ≤ me) × (slice_get w.actors (me - 1) ≡ Some a)
-there w me a e = go (nat_eq me 0) refl e
+-- the actor of a number stands in the list at the place before
+pub actor_stands : (w : World) (me : ℕ) (a : Actor) → actor_of w me ≡ Some a → (1 ≤ me) × (slice_get w.actors (me - 1) ≡ Some a)
+actor_stands w me a e = go (nat_eq me 0) refl e
   where
     go : (b : Bool) → nat_eq me 0 ≡ b → (if b then None else slice_get w.actors (me - 1)) ≡ Some a → (1 ≤ me) × (slice_get w.actors (me - 1) ≡ Some a)
     go true z f = absurd (none-some a f)
@@ -68,7 +54,7 @@ there w me a e = go (nat_eq me 0) refl e
 -- the number of an actor that is there is from 1 up to the number of actors
 pub mover_in_range : (w : World) (me : ℕ) (a : Actor) → actor_of w me ≡ Some a → (1 ≤ me) × (me ≤ length w.actors)
 mover_in_range w me a e =
-    let t : (1 ≤ me) × (slice_get w.actors (me - 1) ≡ Some a) = there w me a e in
+    let t : (1 ≤ me) × (slice_get w.actors (me - 1) ≡ Some a) = actor_stands w me a e in
     let p : 1 ≤ me = t.0 in
     let within : me - 1 < length w.actors = slice_get_within w.actors (me - 1) a t.1 in
     (p, omega arith)
@@ -76,7 +62,7 @@ mover_in_range w me a e =
 -- what holds of each actor holds of the actor of a number
 pub actor_of-All : (P : Actor → Type 0) (w : World) (me : ℕ) (a : Actor) → All P w.actors → actor_of w me ≡ Some a → P a
 actor_of-All P w me a h e =
-    let t : (1 ≤ me) × (slice_get w.actors (me - 1) ≡ Some a) = there w me a e in
+    let t : (1 ≤ me) × (slice_get w.actors (me - 1) ≡ Some a) = actor_stands w me a e in
     subst P (get_or_from_slice_get w.actors (me - 1) a a t.1) (h (me - 1) a (slice_get_within w.actors (me - 1) a t.1))
 
 -- each actor of a world in range is in range
@@ -166,61 +152,27 @@ begun_in_range s n k me TwoLock (Enq body) a i e g = from_pocket_in_range s n k 
 begun_in_range s n k me NonBlocking (Enq body) a i e g = from_pocket_in_range s n k E2 a.pocket _ (λ f. tt) g.pocket (enqueue_begun s n k me body a i (ltb-true body (2 ^ 48) e) g)
 begun_in_range s n k me kind Deq a i e g = from_pocket_in_range s n k F1 a.pocket _ (λ f. tt) g.pocket (dequeue_begun s n k kind a g)
 
--- a call that can't be made begins nothing
-begun_or_none : (k : ℕ) (w : World) (me : ℕ) (op : Op) (a : Actor) (b : Bool) → is_call op ≡ b → Holds k w → me ≤ k → ActorInRange w.setup w.shared.fresh k a → IfSome (if b then Some (with_actor w me (begun w.setup.kind me op a)) else None) (Holds k)
-begun_or_none k w me op a true e h i g = with_actor_holds k w me _ h (begun_in_range w.setup w.shared.fresh k me w.setup.kind op a i e g)
-begun_or_none k w me op a false e h i g = tt
-
-begins_holds : (k : ℕ) (w : World) (me : ℕ) (op : Op) (a : Actor) (l : Option Line) → Holds k w → me ≤ k → ActorInRange w.setup w.shared.fresh k a → IfSome (begins w me op a l) (Holds k)
-begins_holds k w me op a None h i g = begun_or_none k w me op a (is_call op) refl h i g
-begins_holds k w me op a (Some l) h i g = tt
-
-steps_holds : (k : ℕ) (w : World) (me : ℕ) (a : Actor) (l : Option Line) → Holds k w → me ≤ k → ActorInRange w.setup w.shared.fresh k a → LineInRange w.setup.size a.f l → IfSome (steps w me a l) (Holds k)
-steps_holds k w me a None h i g n = tt
-steps_holds k w me a (Some l) h i g n = stepped_holds k w me a l h i g n
-
-given_holds : (k : ℕ) (w : World) (me : ℕ) (a : Actor) (o : Option Outcome) → Holds k w → IfSome o (Kept w.setup w.shared.fresh k) → IfSome (given w me a o) (Holds k)
-given_holds k w me a None h c = tt
-given_holds k w me a (Some o) h c = settled_holds k w me a w.shared o h h.shared (omega arith) c
-
-gives_holds : (k : ℕ) (w : World) (me : ℕ) (a : Actor) (l : Option Line) → Holds k w → ActorInRange w.setup w.shared.fresh k a → IfSome (gives w me a l) (Holds k)
-gives_holds k w me a None h g = tt
-gives_holds k w me a (Some l) h g = given_holds k w me a (gives_up (w.steps + 1) a l) h (given_up_kept w.setup w.shared.fresh k (w.steps + 1) a l g.registers g.pocket)
-
--- an actor that rests has its node in its pocket
-rested_or_none : (k : ℕ) (w : World) (me : ℕ) (a : Actor) (b : Bool) → Holds k w → ActorInRange w.setup w.shared.fresh k a → IfSome (if b then Some (with_actor w me (rested a)) else None) (Holds k)
-rested_or_none k w me a true h g =
-    with_actor_holds k w me (rested a) h
-    (record { registers = g.registers; pocket = record { node = g.registers.node; mark = g.registers.mark }; line = tt })
-rested_or_none k w me a false h g = tt
-
-rests_holds : (k : ℕ) (w : World) (me : ℕ) (a : Actor) (l : Option Line) → Holds k w → ActorInRange w.setup w.shared.fresh k a → IfSome (rests w me a l) (Holds k)
-rests_holds k w me a None h g = tt
-rests_holds k w me a (Some l) h g = rested_or_none k w me a (may_rest l) h g
-
--- the actor of a number, where it is there
-abbrev Mover : (k : ℕ) (w : World) (me : ℕ) → Actor → Type 0
-Mover k w me a = (me ≤ k) × ActorInRange w.setup w.shared.fresh k a
-
-mover_there : (w : World) (me : ℕ) → WorldInRange w → IfSome (actor_of w me) (Mover (length w.actors) w me)
-mover_there w me h = if_some (Mover (length w.actors) w me) (actor_of w me) (λ a e. ((mover_in_range w me a e).1, actor_in_range w me a h e))
-
-moved_holds : (k : ℕ) (w : World) (m : Move) (a : Option Actor) → Holds k w → IfSome a (Mover k w (mover m)) → IfSome (moved w m a) (Holds k)
-moved_holds k w m None h g = tt
-moved_holds k w (Begin me op) (Some a) h g = begins_holds k w me op a a.line h g.0 g.1
-moved_holds k w (Step me) (Some a) h g = steps_holds k w me a a.line h g.0 g.1 g.1.line
-moved_holds k w (Give me) (Some a) h g = gives_holds k w me a a.line h g.1
-
-rest_of_holds : (k : ℕ) (w : World) (me : ℕ) (a : Option Actor) → Holds k w → IfSome a (Mover k w me) → IfSome (rest_of w me a) (Holds k)
-rest_of_holds k w me None h g = tt
-rest_of_holds k w me (Some a) h g = rests_holds k w me a a.line h g.1
-
+-- each move keeps a world in range
 next_any_holds : (k : ℕ) (w : World) (m : AnyMove) → Holds k w → IfSome (next_any w m) (Holds k)
-next_any_holds k w m h = subst (λ j. IfSome (next_any w m) (Holds j)) h.number (go m)
+next_any_holds k w m h =
+    after_move w (λ m v. Holds k v)
+    (record {
+      began = λ me op a is e call. with_actor_holds k w me _ h (begun_in_range w.setup w.shared.fresh k me w.setup.kind op a (low me a is) call (actor me a is));
+      step = λ me a l is at. stepped_holds k w me a l h (low me a is) (actor me a is) (subst (LineInRange w.setup.size a.f) at (actor me a is).line);
+      gave_up = λ me a l o is at given.
+          settled_holds k w me a w.shared o h h.shared (omega arith)
+          (some_of (Kept w.setup w.shared.fresh k) (gives_up (w.steps + 1) a l) o given (given_up_kept w.setup w.shared.fresh k (w.steps + 1) a l (actor me a is).registers (actor me a is).pocket));
+      at_rest = λ me a l is at may.
+          with_actor_holds k w me (rested a) h
+          (record { registers = (actor me a is).registers; pocket = record { node = (actor me a is).registers.node; mark = (actor me a is).registers.mark }; line = tt });
+    })
+    m
   where
-    go : (m : AnyMove) → IfSome (next_any w m) (Holds (length w.actors))
-    go (made m) = moved_holds (length w.actors) w m (actor_of w (mover m)) (holds w (in_range k w h)) (mover_there w (mover m) (in_range k w h))
-    go (Rest me) = rest_of_holds (length w.actors) w me (actor_of w me) (holds w (in_range k w h)) (mover_there w me (in_range k w h))
+    actor : (me : ℕ) (a : Actor) → actor_of w me ≡ Some a → ActorInRange w.setup w.shared.fresh k a
+    actor me a is = actor_of-All (ActorInRange w.setup w.shared.fresh k) w me a h.actors is
+
+    low : (me : ℕ) (a : Actor) → actor_of w me ≡ Some a → me ≤ k
+    low me a is = let up : me ≤ length w.actors = (mover_in_range w me a is).1 in let all : length w.actors ≡ k = h.number in omega arith
 
 pub run_on_if : (P : World → Type 0) (more : World → Option World) (o : Option World) → IfSome o P → ((v : World) → P v → IfSome (more v) P) → IfSome (run_on more o) P
 run_on_if P more None g each = tt
@@ -229,22 +181,6 @@ run_on_if P more (Some v) g each = each v g
 run_holds : (k : ℕ) (ms : List AnyMove) (w : World) → Holds k w → IfSome (run ms w) (Holds k)
 run_holds k [] w h = h
 run_holds k (m ∷ ms) w h = run_on_if (Holds k) (run ms) (next_any w m) (next_any_holds k w m h) (run_holds k ms)
-
-weaker : {X : Type 0} (P Q : X → Type 0) (o : Option X) → ((x : X) → P x → Q x) → IfSome o P → IfSome o Q
-weaker P Q None f h = tt
-weaker P Q (Some x) f h = f x h
-
--- any move keeps a world in range
-pub next_any_in_range : (w : World) (m : AnyMove) → WorldInRange w → IfSome (next_any w m) WorldInRange
-next_any_in_range w m h = weaker (Holds (length w.actors)) WorldInRange (next_any w m) (in_range (length w.actors)) (next_any_holds (length w.actors) w m (holds w h))
-
--- each move that a call makes keeps a world in range
-pub next_in_range : (w : World) (m : Move) → WorldInRange w → IfSome (next w m) WorldInRange
-next_in_range w m h = next_any_in_range w (made m) h
-
--- a list of moves keeps a world in range
-pub run_in_range : (ms : List AnyMove) (w : World) → WorldInRange w → IfSome (run ms w) WorldInRange
-run_in_range ms w h = weaker (Holds (length w.actors)) WorldInRange (run ms w) (in_range (length w.actors)) (run_holds (length w.actors) ms w (holds w h))
 
 idle_in_range : (s : Setup) (n k : ℕ) → ActorInRange s n k idle
 idle_in_range s n k =
@@ -278,10 +214,6 @@ opening_holds s actors h =
       all_flags = length-replicate s.size false;
     }
 
--- the world in which nothing happened yet is in range
-pub opening_in_range : (s : Setup) (actors : ℕ) → IsSized s actors → WorldInRange (opening s actors)
-opening_in_range s actors h = in_range actors (opening s actors) (opening_holds s actors h)
-
 reached_holds : (w : World) (r : IsReached w) → Holds r.actors w
 reached_holds w r = some_of (Holds r.actors) (run r.moves (opening w.setup r.actors)) w r.led (run_holds r.actors r.moves (opening w.setup r.actors) (opening_holds w.setup r.actors r.sized))
 
@@ -297,65 +229,19 @@ made_reached w m = record { actors = m.actors; moves = map made m.moves; sized =
 pub made_in_range : (w : World) → IsMade w → WorldInRange w
 made_in_range w m = reached_in_range w (made_reached w m)
 
--- no move changes the number of actors
-pub length-actors : (w : World) (r : IsReached w) → length w.actors ≡ r.actors
-length-actors w r = (reached_holds w r).number
-
-pub length-actors_made : (w : World) (m : IsMade w) → length w.actors ≡ m.actors
-length-actors_made w m = length-actors w (made_reached w m)
-
 -- the world in which nothing happened yet is one that no moves lead to
 pub opening_made : (s : Setup) (actors : ℕ) → IsSized s actors → IsMade (opening s actors)
 opening_made s actors h = record { actors = actors; moves = []; sized = h; led = refl }
 
 -- no move changes the setup
-abbrev SameSetup : World → World → Type 0
-SameSetup w v = v.setup ≡ w.setup
-
-begins_setup : (w : World) (me : ℕ) (op : Op) (a : Actor) (l : Option Line) → IfSome (begins w me op a l) (SameSetup w)
-begins_setup w me op a None = go (is_call op)
-  where
-    go : (b : Bool) → IfSome (if b then Some (with_actor w me (begun w.setup.kind me op a)) else None) (SameSetup w)
-    go true = refl
-    go false = tt
-begins_setup w me op a (Some l) = tt
-
-steps_setup : (w : World) (me : ℕ) (a : Actor) (l : Option Line) → IfSome (steps w me a l) (SameSetup w)
-steps_setup w me a None = tt
-steps_setup w me a (Some l) = refl
-
-gives_setup : (w : World) (me : ℕ) (a : Actor) (l : Option Line) → IfSome (gives w me a l) (SameSetup w)
-gives_setup w me a None = tt
-gives_setup w me a (Some l) = go (gives_up (w.steps + 1) a l)
-  where
-    go : (o : Option Outcome) → IfSome (given w me a o) (SameSetup w)
-    go None = tt
-    go (Some o) = refl
-
-rests_setup : (w : World) (me : ℕ) (a : Actor) (l : Option Line) → IfSome (rests w me a l) (SameSetup w)
-rests_setup w me a None = tt
-rests_setup w me a (Some l) = go (may_rest l)
-  where
-    go : (b : Bool) → IfSome (if b then Some (with_actor w me (rested a)) else None) (SameSetup w)
-    go true = refl
-    go false = tt
-
-next_any_setup : (w : World) (m : AnyMove) → IfSome (next_any w m) (SameSetup w)
-next_any_setup w (made m) = go m (actor_of w (mover m))
-  where
-    go : (m : Move) (a : Option Actor) → IfSome (moved w m a) (SameSetup w)
-    go m None = tt
-    go (Begin me op) (Some a) = begins_setup w me op a a.line
-    go (Step me) (Some a) = steps_setup w me a a.line
-    go (Give me) (Some a) = gives_setup w me a a.line
-next_any_setup w (Rest me) = go (actor_of w me)
-  where
-    go : (a : Option Actor) → IfSome (rest_of w me a) (SameSetup w)
-    go None = tt
-    go (Some a) = rests_setup w me a a.line
+next_any_setup : (w : World) (m : AnyMove) → IfSome (next_any w m) (λ v. v.setup ≡ w.setup)
+next_any_setup w m =
+    after_move w (λ m v. v.setup ≡ w.setup)
+    (record { began = λ me op a is e call. refl; step = λ me a l is at. refl; gave_up = λ me a l o is at given. refl; at_rest = λ me a l is at may. refl })
+    m
 
 pub setup-next_any : (w v : World) (m : AnyMove) → next_any w m ≡ Some v → v.setup ≡ w.setup
-setup-next_any w v m e = some_of (SameSetup w) (next_any w m) v e (next_any_setup w m)
+setup-next_any w v m e = some_of (λ v. v.setup ≡ w.setup) (next_any w m) v e (next_any_setup w m)
 
 pub setup-next : (w v : World) (m : Move) → next w m ≡ Some v → v.setup ≡ w.setup
 setup-next w v m e = setup-next_any w v (made m) e

@@ -1,17 +1,9 @@
 -- What a world has at the start, and each move of an actor keeps, each world that is reached has.
 -- Each of the four cases is given the world before, that it is reached, and which queue it runs.
-use Rattle.std.proofs.Common.{◌≡◌, ℕ, ◌+◌, Bool, true, false, if◌then◌else◌, Option, Some, None, IfSome, List, [], ◌∷◌, refl, ◌∙◌}
-use Rattle.line_table.specs.declared.lines.Kind.{Kind}
-use Rattle.line_table.specs.declared.lines.Line.{Line}
-use Rattle.history.specs.declared.operations.Op.{Op}
-use Rattle.line_steps.specs.declared.actors.Setup.{Setup}
-use Rattle.line_steps.specs.declared.actors.Actor.{Actor}
-use Rattle.line_steps.specs.declared.actors.Outcome.{Outcome}
-use Rattle.line_steps.specs.Lines.{gives_up}
-use Rattle.line_steps.specs.Calling.{is_call, begun}
-use Rattle.step_machine.specs.declared.actors.Move.{Move}
-use Rattle.step_machine.specs.declared.actors.Move.TheVariants.{Begin, Step, Give}
-use Rattle.step_machine.specs.Machine.{World, opening, actor_of, rested, with_actor, settled, stepped, begins, steps, given, gives, may_rest, rests, moved, mover, rest_of, AnyMove, made, Rest, next_any, run, IsSized, IsReached}
+use Rattle.std.proofs.Common.{◌≡◌, ℕ, ◌+◌, true, Some, None, IfSome, List, [], ◌∷◌, refl, ◌∙◌}
+use Rattle.step_machine.specs.Below.{Kind, Line, Op, Setup, Actor, Outcome, gives_up, is_call, begun}
+use Rattle.step_machine.specs.Machine.{World, opening, actor_of, rested, with_actor, settled, stepped, may_rest, AnyMove, next_any, run, IsSized, IsReached}
+use Rattle.step_machine.proofs.AnyMoves.{after_move}
 use Rattle.step_machine.proofs.Reached.{if_some, some_of, setup-next_any, run_on_if, reached_next}
 
 -- each move of an actor keeps a fact of the worlds of a queue
@@ -28,47 +20,16 @@ module _ (kind : Kind) (P : World → Type 0) (keeps : EachMoveKeeps kind P) whe
     runs : w.setup.kind ≡ kind
     has : P w
 
-  begins_has : (w : World) (me : ℕ) (op : Op) (a : Actor) (l : Option Line) → Has w → actor_of w me ≡ Some a → a.line ≡ l → IfSome (begins w me op a l) P
-  begins_has w me op a None h is e = go (is_call op) refl
-    where
-      go : (b : Bool) → is_call op ≡ b → IfSome (if b then Some (with_actor w me (begun w.setup.kind me op a)) else None) P
-      go true call = keeps.began w me op a h.reached h.runs is e call h.has
-      go false call = tt
-  begins_has w me op a (Some l) h is e = tt
-
-  steps_has : (w : World) (me : ℕ) (a : Actor) (l : Option Line) → Has w → actor_of w me ≡ Some a → a.line ≡ l → IfSome (steps w me a l) P
-  steps_has w me a None h is e = tt
-  steps_has w me a (Some l) h is e = keeps.step w me a l h.reached h.runs is e h.has
-
-  gives_has : (w : World) (me : ℕ) (a : Actor) (l : Option Line) → Has w → actor_of w me ≡ Some a → a.line ≡ l → IfSome (gives w me a l) P
-  gives_has w me a None h is e = tt
-  gives_has w me a (Some l) h is e = go (gives_up (w.steps + 1) a l) refl
-    where
-      go : (o : Option Outcome) → gives_up (w.steps + 1) a l ≡ o → IfSome (given w me a o) P
-      go None f = tt
-      go (Some o) f = keeps.gave_up w me a l o h.reached h.runs is e f h.has
-
-  rests_has : (w : World) (me : ℕ) (a : Actor) (l : Option Line) → Has w → actor_of w me ≡ Some a → a.line ≡ l → IfSome (rests w me a l) P
-  rests_has w me a None h is e = tt
-  rests_has w me a (Some l) h is e = go (may_rest l) refl
-    where
-      go : (b : Bool) → may_rest l ≡ b → IfSome (if b then Some (with_actor w me (rested a)) else None) P
-      go true may = keeps.at_rest w me a l h.reached h.runs is e may h.has
-      go false may = tt
-
-  moved_has : (w : World) (m : Move) (o : Option Actor) → Has w → actor_of w (mover m) ≡ o → IfSome (moved w m o) P
-  moved_has w m None h is = tt
-  moved_has w (Begin me op) (Some a) h is = begins_has w me op a a.line h is refl
-  moved_has w (Step me) (Some a) h is = steps_has w me a a.line h is refl
-  moved_has w (Give me) (Some a) h is = gives_has w me a a.line h is refl
-
-  rest_of_has : (w : World) (me : ℕ) (o : Option Actor) → Has w → actor_of w me ≡ o → IfSome (rest_of w me o) P
-  rest_of_has w me None h is = tt
-  rest_of_has w me (Some a) h is = rests_has w me a a.line h is refl
-
   next_any_keeps : (w : World) (m : AnyMove) → Has w → IfSome (next_any w m) P
-  next_any_keeps w (made m) h = moved_has w m (actor_of w (mover m)) h refl
-  next_any_keeps w (Rest me) h = rest_of_has w me (actor_of w me) h refl
+  next_any_keeps w m h =
+      after_move w (λ m v. P v)
+      (record {
+        began = λ me op a is e call. keeps.began w me op a h.reached h.runs is e call h.has;
+        step = λ me a l is at. keeps.step w me a l h.reached h.runs is at h.has;
+        gave_up = λ me a l o is at given. keeps.gave_up w me a l o h.reached h.runs is at given h.has;
+        at_rest = λ me a l is at may. keeps.at_rest w me a l h.reached h.runs is at may h.has;
+      })
+      m
 
   next_any_has : (w : World) (m : AnyMove) → Has w → IfSome (next_any w m) Has
   next_any_has w m h =

@@ -4,16 +4,13 @@
 -- goes to the end. `empty_placed`: an empty reply may be inserted where the queue was empty, however long ago, and
 -- `still_empty`: where the queue was empty before a number, it is so when operations get places that are not below, or
 -- empty replies any. `before k L` are those of L before the first one whose place isn't below k.
-use Rattle.std.proofs.Common.{◌≡◌, ◌≢◌, ℕ, zero, suc, ◌≤◌, ◌<◌, Bool, true, false, not, nat_le, if◌then◌else◌, Option, Some, None, is_some, List, [], ◌∷◌, ◌++◌, set, refl, sym, ap, ◌∙◌, subst, arith}
+use Rattle.std.proofs.Common.{◌≡◌, ◌≢◌, ℕ, zero, suc, ◌≤◌, ◌<◌, Bool, true, false, nat_le, if◌then◌else◌, Option, Some, None, is_some, List, [], ◌∷◌, ◌++◌, set, refl, sym, ap, ◌∙◌, subst, arith}
 use Rattle.std.specs.Prelude.{slice_get}
 use Rattle.std.specs.List.{AllByRecursion}
 use Rattle.std.proofs.lemmas.Bool.{leb-true, leb-false, le-leb, lt-leb}
 use Rattle.std.proofs.lemmas.Option.{none-some, same_Some}
-use Rattle.history.specs.declared.operations.Stamped.{Stamped}
-use Rattle.history.specs.declared.operations.Op.TheVariants.{Deq}
-use Rattle.history.specs.declared.operations.Reply.TheVariants.{Empty}
-use Rattle.history.specs.Queue.{Queue, empty, given}
-use Rattle.history.specs.History.{number_of, inserted, rising, answer, Gets, Replays, replayed}
+use Rattle.step_machine.specs.Below.{Deq, Empty, Stamped, Queue, empty, given, number_of, inserted, rising, answer, Gets, Replays, replayed}
+use Rattle.history.proofs.Rising.{commute}
 
 -- the number of an operation's place
 abbrev pub place : Stamped → ℕ
@@ -67,51 +64,6 @@ rising_all P (o ∷ os) h = go (is_some o.at) refl (rising_all P os (λ i p got.
     go : (b : Bool) → is_some o.at ≡ b → AllByRecursion P (rising os) → AllByRecursion P (if b then inserted o (rising os) else rising os)
     go true e ih = inserted_all P o (rising os) (h 0 o refl e) ih
     go false e ih = ih
-
--- two operations whose places differ may be inserted in either order
-abbrev at_most : Stamped → Stamped → Bool
-at_most a b = nat_le (place a) (place b)
-
-front : (a p : Stamped) (ps : List Stamped) (b : Bool) → at_most a p ≡ b → inserted a (p ∷ ps) ≡ (if b then a ∷ p ∷ ps else p ∷ inserted a ps)
-front a p ps b e = ap (λ x. if x then a ∷ p ∷ ps else p ∷ inserted a ps) e
-
-opposite : (a b : Stamped) (x : Bool) → place a ≢ place b → at_most a b ≡ x → at_most b a ≡ not x
-opposite a b true d e = let h : place a ≤ place b = leb-true _ _ e in lt-leb _ _ (omega arith)
-opposite a b false d e = let h : place b < place a = leb-false _ _ e in le-leb _ _ (omega arith)
-
-commute_front : (a b p : Stamped) (ps : List Stamped) (x y z : Bool) → place a ≢ place b → at_most a p ≡ x → at_most b p ≡ y → at_most a b ≡ z → inserted a (inserted b ps) ≡ inserted b (inserted a ps) → inserted a (inserted b (p ∷ ps)) ≡ inserted b (inserted a (p ∷ ps))
-commute_front a b p ps true true true d ea eb e ih =
-    ap (inserted a) (front b p ps true eb) ∙ front a b (p ∷ ps) true e ∙
-    sym (ap (inserted b) (front a p ps true ea) ∙ front b a (p ∷ ps) false (opposite a b true d e) ∙ ap (λ r. a ∷ r) (front b p ps true eb))
-commute_front a b p ps true true false d ea eb e ih =
-    ap (inserted a) (front b p ps true eb) ∙ front a b (p ∷ ps) false e ∙ ap (λ r. b ∷ r) (front a p ps true ea) ∙
-    sym (ap (inserted b) (front a p ps true ea) ∙ front b a (p ∷ ps) true (opposite a b false d e))
-commute_front a b p ps true false z d ea eb e ih =
-    let h1 : place a ≤ place p = leb-true _ _ ea in
-    let h2 : place p < place b = leb-false _ _ eb in
-    let f : at_most b a ≡ false = lt-leb _ _ (omega arith) in
-    ap (inserted a) (front b p ps false eb) ∙ front a p (inserted b ps) true ea ∙
-    sym (ap (inserted b) (front a p ps true ea) ∙ front b a (p ∷ ps) false f ∙ ap (λ r. a ∷ r) (front b p ps false eb))
-commute_front a b p ps false true z d ea eb e ih =
-    let h1 : place p < place a = leb-false _ _ ea in
-    let h2 : place b ≤ place p = leb-true _ _ eb in
-    let f : at_most a b ≡ false = lt-leb _ _ (omega arith) in
-    ap (inserted a) (front b p ps true eb) ∙ front a b (p ∷ ps) false f ∙ ap (λ r. b ∷ r) (front a p ps false ea) ∙
-    sym (ap (inserted b) (front a p ps false ea) ∙ front b p (inserted a ps) true eb)
-commute_front a b p ps false false z d ea eb e ih =
-    ap (inserted a) (front b p ps false eb) ∙ front a p (inserted b ps) false ea ∙ ap (λ r. p ∷ r) ih ∙
-    sym (ap (inserted b) (front a p ps false ea) ∙ front b p (inserted a ps) false eb)
-
-pub commute : (a b : Stamped) (ps : List Stamped) → place a ≢ place b → inserted a (inserted b ps) ≡ inserted b (inserted a ps)
-commute a b [] d = go (at_most a b) refl
-  where
-    first : (a b : Stamped) (x : Bool) → at_most a b ≡ x → inserted a (b ∷ []) ≡ (if x then a ∷ b ∷ [] else b ∷ a ∷ [])
-    first a b x e = ap (λ x. if x then a ∷ b ∷ [] else b ∷ a ∷ []) e
-
-    go : (x : Bool) → at_most a b ≡ x → inserted a (b ∷ []) ≡ inserted b (a ∷ [])
-    go true e = first a b true e ∙ sym (first b a false (opposite a b true d e))
-    go false e = first a b false e ∙ sym (first b a true (opposite a b false d e))
-commute a b (p ∷ ps) d = commute_front a b p ps _ _ _ d refl refl refl (commute a b ps d)
 
 -- an operation before others whose order one more is inserted into
 behind : (p o : Stamped) (n : ℕ) (xs ys : List Stamped) → o.at ≡ Some n → p.at ≢ Some n → xs ≡ inserted o ys → (if is_some p.at then inserted p xs else xs) ≡ inserted o (if is_some p.at then inserted p ys else ys)

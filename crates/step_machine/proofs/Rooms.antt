@@ -1,15 +1,11 @@
 -- The room that a world keeps for nodes and entries, over a begin and over a step.
-use Rattle.std.proofs.Common.{◌≡◌, ℕ, zero, suc, ◌+◌, ◌-◌, ◌<◌, ◌≤◌, ◌⊎◌, inl, inr, Bool, true, false, ◌&&◌, nat_eq, nat_lt, if◌then◌else◌, Option, Some, None, List, [], ◌∷◌, length, get_or, set, slice_get, refl, sym, ap, subst, ◌∙◌, arith, length-append}
+use Rattle.std.proofs.Common.{◌≡◌, ℕ, zero, suc, ◌+◌, ◌<◌, ◌≤◌, ◌⊎◌, inl, inr, Bool, true, false, ◌&&◌, nat_lt, if◌then◌else◌, Option, Some, None, List, [], ◌∷◌, length, get_or, set, slice_get, refl, sym, ap, subst, ◌∙◌, arith, length-append}
 use Rattle.std.proofs.Math.ListN.{length-set}
 use Rattle.std.proofs.lemmas.Bool.{ltb-true, ltb-false}
 use Rattle.std.proofs.lemmas.List.Sums.{sum_by-set, sum_by-le, get_or-le-sum_by}
 use Rattle.std.specs.List.{sum_by}
-use Rattle.line_table.specs.declared.lines.Line.{Line}
-use Rattle.line_table.specs.declared.lines.Line.TheVariants.{N1, N2, N3, N4, N5, F1, F2, F3, E2, E3, E5, E6, E7, E9, E13, E17, D2, D3, D4, D5, D10, D12, D13, A1, A2, A3, A4, A5, A6, A7, B1, B2, B3, B4, B5, B6}
-use Rattle.history.specs.declared.operations.Stamped.{Stamped}
-use Rattle.line_steps.specs.declared.actors.Actor.{Actor}
-use Rattle.line_steps.specs.Rooms.{room_after}
-use Rattle.step_machine.specs.Machine.{recorded, World, actor_of}
+use Rattle.step_machine.specs.Below.{Line, N1, Stamped, Actor, room_after}
+use Rattle.step_machine.specs.Machine.{recorded}
 use Rattle.step_machine.specs.Views.{seeks, seekers, is_unrecorded, unrecorded, HasNodes, HasEntry}
 
 -- an element that a list has at an index
@@ -17,14 +13,6 @@ pub got : {X : Type 0} (xs : List X) (i : ℕ) (x : X) → slice_get xs i ≡ So
 got [] i x e = cc
 got (y ∷ ys) zero x e = (omega arith, λ d. cc)
 got (y ∷ ys) (suc i) x e = let h = got ys i x e in (omega (arith, h.0), h.1)
-
--- the actor of a number stands in the list
-pub actor_got : (w : World) (me : ℕ) (a : Actor) → actor_of w me ≡ Some a → slice_get w.actors (me - 1) ≡ Some a
-actor_got w me a e = go (nat_eq me 0) e
-  where
-    go : (b : Bool) → (if b then None else slice_get w.actors (me - 1)) ≡ Some a → slice_get w.actors (me - 1) ≡ Some a
-    go true e = cc
-    go false e = e
 
 -- a sum with one item replaced, from what the item was
 sum_set : {X : Type 0} (f : X → ℕ) (xs : List X) (i : ℕ) (x y : X) → slice_get xs i ≡ Some x → sum_by f (set xs i y) + f x ≡ sum_by f xs + f y
@@ -46,41 +34,7 @@ sum_most f xs h = omega (arith, sum_by-le f 1 xs (λ k d _. h (get_or xs k d)))
 seeks_most : (l : Option Line) → seeks l ≤ 1
 seeks_most None = omega arith
 seeks_most (Some N1) = omega arith
-seeks_most (Some N2) = omega arith
-seeks_most (Some N3) = omega arith
-seeks_most (Some N4) = omega arith
-seeks_most (Some N5) = omega arith
-seeks_most (Some F1) = omega arith
-seeks_most (Some F2) = omega arith
-seeks_most (Some F3) = omega arith
-seeks_most (Some E2) = omega arith
-seeks_most (Some E3) = omega arith
-seeks_most (Some E5) = omega arith
-seeks_most (Some E6) = omega arith
-seeks_most (Some E7) = omega arith
-seeks_most (Some E9) = omega arith
-seeks_most (Some E13) = omega arith
-seeks_most (Some E17) = omega arith
-seeks_most (Some D2) = omega arith
-seeks_most (Some D3) = omega arith
-seeks_most (Some D4) = omega arith
-seeks_most (Some D5) = omega arith
-seeks_most (Some D10) = omega arith
-seeks_most (Some D12) = omega arith
-seeks_most (Some D13) = omega arith
-seeks_most (Some A1) = omega arith
-seeks_most (Some A2) = omega arith
-seeks_most (Some A3) = omega arith
-seeks_most (Some A4) = omega arith
-seeks_most (Some A5) = omega arith
-seeks_most (Some A6) = omega arith
-seeks_most (Some A7) = omega arith
-seeks_most (Some B1) = omega arith
-seeks_most (Some B2) = omega arith
-seeks_most (Some B3) = omega arith
-seeks_most (Some B4) = omega arith
-seeks_most (Some B5) = omega arith
-seeks_most (Some B6) = omega arith
+seeks_most (Some _) = omega arith
 
 -- an actor has at most one call without a number, and none where its call has one
 unrecorded_most : (l : Option Line) (entry : Option ℕ) → is_unrecorded l entry ≤ 1

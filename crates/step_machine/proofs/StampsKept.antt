@@ -3,14 +3,10 @@ use Rattle.std.proofs.Common.{◌≡◌, ◌≢◌, ℕ, ◌+◌, ◌-◌, ◌<�
 use Rattle.std.proofs.lemmas.Bool.{eqb-false}
 use Rattle.std.proofs.lemmas.Option.{none-some, same_Some, slice_get_within, get_or_from_slice_get, IfSome_then}
 use Rattle.std.specs.Prelude.{slice_get, IsSome, IsSomeAnd}
-use Rattle.line_table.specs.declared.lines.Line.{Line}
-use Rattle.history.specs.declared.operations.Reply.{Reply}
-use Rattle.history.specs.declared.operations.Stamped.{Stamped}
-use Rattle.line_steps.specs.declared.actors.Actor.{Actor}
-use Rattle.line_steps.specs.declared.actors.Outcome.{Outcome}
-use Rattle.line_steps.specs.Memory.{Shared}
+use Rattle.step_machine.specs.Below.{Line, Reply, Stamped, Actor, Outcome, Shared}
 use Rattle.step_machine.specs.Machine.{World, actor_of, new_operation, last_of, first_settled, told, recorded, entry_or, settled}
 use Rattle.step_machine.specs.Stamps.{IsBy, IsStamped, HasNoEffect, EndedBefore}
+pub use Rattle.step_machine.proofs.Reached.{actor_stands}
 use Rattle.step_machine.proofs.StampsLists.{PutAt, put_set, put_end, put_cases, by_more, by_next, by_within}
 use Rattle.step_machine.proofs.StampsLines.{Stands, stands_while, GoesOn, Turns}
 
@@ -295,14 +291,6 @@ told_move Rests K ops me now a l o e h does (Some entry) k =
     subst (λ s. Told Rests (K ++ me ∷ []) ops (set ops entry (told now o s)) me entry o.actor)
     (sym (get_or_from_slice_get ops entry k.0 (new_operation me a.op now) k.1.here))
     (told_later Rests K ops me now entry a l o k.0 e h does k.1 k.2)
-
--- the actor of a number stands in the list at the place before
-pub actor_stands : (w : World) (me : ℕ) (a : Actor) → actor_of w me ≡ Some a → (1 ≤ me) × (slice_get w.actors (me - 1) ≡ Some a)
-actor_stands w me a got = go (nat_eq me 0) refl got
-  where
-    go : (b : Bool) → nat_eq me 0 ≡ b → (if b then None else slice_get w.actors (me - 1)) ≡ Some a → (1 ≤ me) × (slice_get w.actors (me - 1) ≡ Some a)
-    go true e g = absurd (none-some a g)
-    go false e g = (let other : ¬ (me ≡ 0) = eqb-false me 0 e in omega arith, g)
 
 -- the actors after one was set: it, or another one as it was
 pub actor_cases : (w : World) (me : ℕ) (a b : Actor) → actor_of w me ≡ Some a → (you : ℕ) (c : Actor) → actor_of (record w { actors = set w.actors (me - 1) b }) you ≡ Some c → ((you ≡ me) × (b ≡ c)) ⊎ ((you ≢ me) × (actor_of w you ≡ Some c))

@@ -3,18 +3,12 @@ use Rattle.std.proofs.Common.{◌≡◌, ◌≢◌, ℕ, suc, ◌<◌, ◌≤◌
 use Rattle.std.specs.Prelude.{slice_get, IsSomeAnd, AllPairs}
 use Rattle.std.specs.List.{AllByRecursion}
 use Rattle.std.proofs.lemmas.Option.{none-some, IfSome_then, slice_get-get_or}
-use Rattle.history.specs.declared.operations.Stamped.{Stamped}
-use Rattle.history.specs.History.{IsPlaced, AreApart, Placement}
+use Rattle.step_machine.specs.Below.{Stamped, IsPlaced, AreApart, Placement}
 use Rattle.step_machine.specs.Machine.{World, opening, AnyMove, made, run}
 use Rattle.step_machine.specs.Stamps.{makers, IsBy, IsStamped, HasNoEffect, BeginsBefore, EndedBefore, DoNotOverlap, DoNotOverlapOrRest, AfterMoves, AfterCalls}
-use Rattle.step_machine.proofs.StampsLists.{by_one}
+use Rattle.step_machine.proofs.StampsLists.{by_one, all_of}
 use Rattle.step_machine.proofs.StampsKept.{Precedes, Kept}
 use Rattle.step_machine.proofs.StampsMoves.{moves_kept, may_rest_all, calls_rest_never}
-
--- a fact of the element at each place is one of all elements
-all_of : {X : Type 0} (P : X → Type 0) (xs : List X) → ((i : ℕ) (o : X) → slice_get xs i ≡ Some o → P o) → AllByRecursion P xs
-all_of P [] h = tt
-all_of P (x ∷ xs) h = (h 0 x refl, all_of P xs (λ i o got. h (suc i) o got))
 
 -- a fact of the elements at two places is one of all pairs
 pairs_of : {X : Type 0} (R : X → X → Type 0) (xs : List X) → ((i j : ℕ) (o p : X) → i < j → slice_get xs i ≡ Some o → slice_get xs j ≡ Some p → R o p) → AllPairs R xs

@@ -1,19 +1,9 @@
 -- What each line knows of its operation, and that each step and each giving up keeps it.
 use Rattle.std.proofs.Common.{◌≡◌, ℕ, ◌+◌, Bool, true, false, nat_eq, nat_lt, if◌then◌else◌, Option, Some, None, IfSome, refl}
 use Rattle.std.specs.Prelude.{IsSome}
-use Rattle.counted_ref.specs.Ref.{is_null, same_ref}
-use Rattle.line_table.specs.declared.lines.Kind.{Kind}
-use Rattle.line_table.specs.declared.lines.Kind.TheVariants.{TwoLock, NonBlocking}
-use Rattle.line_table.specs.declared.lines.Line.{Line}
-use Rattle.line_table.specs.declared.lines.Line.TheVariants.{N1, N2, N3, N4, N5, F1, F2, F3, E2, E3, E5, E6, E7, E9, E13, E17, D2, D3, D4, D5, D10, D12, D13, A1, A2, A3, A4, A5, A6, A7, B1, B2, B3, B4, B5, B6}
-use Rattle.history.specs.declared.operations.Reply.{Reply}
-use Rattle.history.specs.declared.operations.Reply.TheVariants.{Done, Value, Empty, Refused}
-use Rattle.line_steps.specs.declared.actors.Setup.{Setup}
-use Rattle.line_steps.specs.declared.actors.Actor.{Actor}
-use Rattle.line_steps.specs.declared.actors.Outcome.{Outcome}
-use Rattle.line_steps.specs.Memory.{Found}
-use Rattle.line_steps.specs.Lines.{action, outcome, goes, ends, effect, sets_aside, takes, lets_go, to_pocket, with_node, freed, unlocked, busy_or, gives_up}
+use Rattle.step_machine.specs.Below.{is_null, same_ref, Kind, TwoLock, NonBlocking, Line, N1, N2, N4, N5, F1, F2, F3, E3, E5, E7, E9, E17, D2, D4, D5, D12, D13, A3, A5, A6, A7, B1, B3, B4, B5, B6, Reply, Done, Value, Empty, Refused, Setup, Actor, Outcome, Found, action, outcome, goes, ends, effect, sets_aside, takes, lets_go, to_pocket, with_node, freed, unlocked, busy_or, gives_up}
 use Rattle.step_machine.specs.Machine.{first_settled}
+use Rattle.step_machine.proofs.Choices.{both}
 
 -- what a call's answer, where it is settled, says of the operation's place; `Noted` says that the number noted is one
 -- of the call
@@ -26,50 +16,20 @@ Earned (Some (Refused why)) at Noted = at ≡ None
 
 -- what is known of the operation of an actor that stands before a line
 abbrev pub Stands : Line → (due : Option Reply) (at : Option ℕ) → (Noted : Type 0) → Type 0
-Stands N1 due at Noted = at ≡ None
-Stands N2 due at Noted = at ≡ None
-Stands N3 due at Noted = at ≡ None
-Stands N4 due at Noted = at ≡ None
-Stands N5 due at Noted = at ≡ None
 Stands F1 due at Noted = Earned due at Noted
 Stands F2 due at Noted = Earned due at Noted
 Stands F3 due at Noted = Earned due at Noted
-Stands E2 due at Noted = at ≡ None
-Stands E3 due at Noted = at ≡ None
-Stands E5 due at Noted = at ≡ None
-Stands E6 due at Noted = at ≡ None
-Stands E7 due at Noted = at ≡ None
-Stands E9 due at Noted = at ≡ None
-Stands E13 due at Noted = at ≡ None
 Stands E17 due at Noted = IsSome at
-Stands D2 due at Noted = at ≡ None
-Stands D3 due at Noted = at ≡ None
-Stands D4 due at Noted = at ≡ None
 Stands D5 due at Noted = (at ≡ None) × Noted
-Stands D10 due at Noted = at ≡ None
-Stands D12 due at Noted = at ≡ None
-Stands D13 due at Noted = at ≡ None
-Stands A1 due at Noted = at ≡ None
-Stands A2 due at Noted = at ≡ None
-Stands A3 due at Noted = at ≡ None
-Stands A4 due at Noted = at ≡ None
-Stands A5 due at Noted = at ≡ None
 Stands A6 due at Noted = IsSome at
 Stands A7 due at Noted = IsSome at
-Stands B1 due at Noted = at ≡ None
-Stands B2 due at Noted = at ≡ None
-Stands B3 due at Noted = at ≡ None
-Stands B4 due at Noted = at ≡ None
-Stands B5 due at Noted = at ≡ None
 Stands B6 due at Noted = Earned due at Noted
+Stands _ due at Noted = at ≡ None
 
 -- what is earned stays so while the number noted stays one of the call
 earned_while : (due : Option Reply) (at : Option ℕ) {P Q : Type 0} → (P → Q) → Earned due at P → Earned due at Q
-earned_while None at f h = h
-earned_while (Some Done) at f h = h
-earned_while (Some (Value v)) at f h = h
 earned_while (Some Empty) at f h = (h.0, f h.1)
-earned_while (Some (Refused why)) at f h = h
+earned_while _ at f h = h
 
 -- what a line knows stays so while the number noted stays one of the call
 pub stands_while : (l : Line) (due : Option Reply) (at : Option ℕ) {P Q : Type 0} → (P → Q) → Stands l due at P → Stands l due at Q
@@ -91,11 +51,6 @@ GoesOn (Some l) (Some reply) due at Noted = ⊥
 pub record Turns (Q : ℕ → Type 0) (at : Option ℕ) (o : Outcome) : Type 0 where
   pub place : IfSome (first_settled o.at at) Q
   pub goes_on : GoesOn o.actor.line o.reply o.actor.due (first_settled o.at at) (Q o.actor.noted)
-
--- a choice of two such outcomes
-both : {Q : ℕ → Type 0} {at : Option ℕ} (b : Bool) (x y : Outcome) → Turns Q at x → Turns Q at y → Turns Q at (if b then x else y)
-both true x y hx hy = hx
-both false x y hx hy = hy
 
 -- a call that ends with the answer that it earned
 ends_turned : (Q : ℕ → Type 0) (now : ℕ) (reply : Reply) (a : Actor) (at : Option ℕ) → Q now → IfSome at Q → Earned (Some reply) at (Q a.noted) → Turns Q at (ends now reply a)
@@ -129,66 +84,50 @@ pushed_turned Q false now a at n = record { place = n; goes_on = refl }
 
 -- the outcome of each line
 pub turned : (Q : ℕ → Type 0) (s : Setup) (now me : ℕ) (a : Actor) (l : Line) (c : Found (action s me a l)) (at : Option ℕ) → Q now → IfSome at Q → Stands l a.due at (Q a.noted) → Turns Q at (outcome s now me a l c)
-turned Q s now me a N1 c at n p h = record { place = p; goes_on = h }
 turned Q s now me a N2 c at n p h =
-    both (is_null c) _ _
-    (both (nat_lt a.f s.size) _ _ record { place = p; goes_on = h } record { place = n; goes_on = refl })
-    (both (nat_eq c.count s.limit) _ _ record { place = n; goes_on = refl } record { place = p; goes_on = h })
-turned Q s now me a N3 c at n p h = record { place = p; goes_on = h }
+    both (Turns Q at) (is_null c)
+    (both (Turns Q at) (nat_lt a.f s.size) record { place = p; goes_on = h } record { place = n; goes_on = refl })
+    (both (Turns Q at) (nat_eq c.count s.limit) record { place = n; goes_on = refl } record { place = p; goes_on = h })
 turned Q s now me a N4 c at n p h =
-    both (same_ref c a.top) _ _ (with_node_turned Q s.kind (takes a.top.node a.next.count a) at p h) record { place = p; goes_on = h }
+    both (Turns Q at) (same_ref c a.top) (with_node_turned Q s.kind (takes a.top.node a.next.count a) at p h) record { place = p; goes_on = h }
 turned Q s now me a N5 c at n p h =
-    both (nat_eq c a.f) _ _ (with_node_turned Q s.kind (takes (a.f + 1) 0 a) at p h) record { place = p; goes_on = h }
+    both (Turns Q at) (nat_eq c a.f) (with_node_turned Q s.kind (takes (a.f + 1) 0 a) at p h) record { place = p; goes_on = h }
 turned Q s now me a F1 c at n p h =
-    both (nat_eq c.count s.limit) _ _
+    both (Turns Q at) (nat_eq c.count s.limit)
     (aside_turned _ (freed_turned Q s.kind now a.due (record a { top = c }) at n p h))
     record { place = p; goes_on = h }
-turned Q s now me a F2 c at n p h = record { place = p; goes_on = h }
 turned Q s now me a F3 c at n p h =
-    both (same_ref c a.top) _ _ (freed_turned Q s.kind now a.due (lets_go a) at n p h) record { place = p; goes_on = h }
-turned Q s now me a E2 c at n p h = record { place = p; goes_on = h }
+    both (Turns Q at) (same_ref c a.top) (freed_turned Q s.kind now a.due (lets_go a) at n p h) record { place = p; goes_on = h }
 turned Q s now me a E3 c at n p h =
-    both (nat_eq c.count s.limit) _ _ record { place = n; goes_on = refl } record { place = p; goes_on = h }
-turned Q s now me a E5 c at n p h = record { place = p; goes_on = h }
-turned Q s now me a E6 c at n p h = record { place = p; goes_on = h }
+    both (Turns Q at) (nat_eq c.count s.limit) record { place = n; goes_on = refl } record { place = p; goes_on = h }
 turned Q s now me a E7 c at n p h =
-    both (same_ref c a.tail) _ _
-    (both (is_null a.next) _ _ record { place = p; goes_on = h } (both (nat_eq a.tail.count s.limit) _ _ record { place = n; goes_on = refl } record { place = p; goes_on = h }))
+    both (Turns Q at) (same_ref c a.tail)
+    (both (Turns Q at) (is_null a.next) record { place = p; goes_on = h } (both (Turns Q at) (nat_eq a.tail.count s.limit) record { place = n; goes_on = refl } record { place = p; goes_on = h }))
     record { place = p; goes_on = h }
 turned Q s now me a E9 c at n p h =
-    both (same_ref c a.next) _ _
+    both (Turns Q at) (same_ref c a.next)
     (pushed_turned Q (nat_eq a.tail.count s.limit) now (lets_go (record a { due = Some Done })) at n)
     record { place = p; goes_on = h }
-turned Q s now me a E13 c at n p h = record { place = p; goes_on = h }
-turned Q s now me a E17 c at n p h = record { place = p; goes_on = h }
-turned Q s now me a D2 c at n p h = record { place = p; goes_on = h }
-turned Q s now me a D3 c at n p h = record { place = p; goes_on = h }
 turned Q s now me a D4 c at n p h = record { place = p; goes_on = (h, n) }
 turned Q s now me a D5 c at n p h =
-    both (same_ref c a.head) _ _
-    (both (nat_eq a.head.node a.tail.node) _ _
-    (both (is_null a.next) _ _ record { place = h.1; goes_on = refl } (both (nat_eq a.tail.count s.limit) _ _ record { place = n; goes_on = refl } record { place = p; goes_on = h.0 }))
+    both (Turns Q at) (same_ref c a.head)
+    (both (Turns Q at) (nat_eq a.head.node a.tail.node)
+    (both (Turns Q at) (is_null a.next) record { place = h.1; goes_on = refl } (both (Turns Q at) (nat_eq a.tail.count s.limit) record { place = n; goes_on = refl } record { place = p; goes_on = h.0 }))
     record { place = p; goes_on = h.0 })
     record { place = p; goes_on = h.0 }
-turned Q s now me a D10 c at n p h = record { place = p; goes_on = h }
 turned Q s now me a D12 c at n p h =
-    both (nat_eq a.head.count s.limit) _ _ record { place = n; goes_on = refl } record { place = p; goes_on = h }
+    both (Turns Q at) (nat_eq a.head.count s.limit) record { place = n; goes_on = refl } record { place = p; goes_on = h }
 turned Q s now me a D13 c at n p h =
-    both (same_ref c a.head) _ _ record { place = n; goes_on = refl } record { place = p; goes_on = h }
-turned Q s now me a A1 c at n p h = record { place = p; goes_on = h }
-turned Q s now me a A2 c at n p h = record { place = p; goes_on = h }
-turned Q s now me a A3 c at n p h = both (nat_eq c 0) _ _ record { place = p; goes_on = h } record { place = p; goes_on = h }
-turned Q s now me a A4 c at n p h = record { place = p; goes_on = h }
+    both (Turns Q at) (same_ref c a.head) record { place = n; goes_on = refl } record { place = p; goes_on = h }
+turned Q s now me a A3 c at n p h = both (Turns Q at) (nat_eq c 0) record { place = p; goes_on = h } record { place = p; goes_on = h }
 turned Q s now me a A5 c at n p h = record { place = n; goes_on = refl }
-turned Q s now me a A6 c at n p h = record { place = p; goes_on = h }
-turned Q s now me a A7 c at n p h = record { place = p; goes_on = h }
-turned Q s now me a B1 c at n p h = both (nat_eq c 0) _ _ record { place = p; goes_on = h } record { place = p; goes_on = h }
-turned Q s now me a B2 c at n p h = record { place = p; goes_on = h }
-turned Q s now me a B3 c at n p h = both (is_null c) _ _ record { place = p; goes_on = (h, n) } record { place = p; goes_on = h }
+turned Q s now me a B1 c at n p h = both (Turns Q at) (nat_eq c 0) record { place = p; goes_on = h } record { place = p; goes_on = h }
+turned Q s now me a B3 c at n p h = both (Turns Q at) (is_null c) record { place = p; goes_on = (h, n) } record { place = p; goes_on = h }
 turned Q s now me a B4 c at n p h =
-    both (nat_eq a.head.count s.limit) _ _ record { place = p; goes_on = h } record { place = p; goes_on = h }
+    both (Turns Q at) (nat_eq a.head.count s.limit) record { place = p; goes_on = h } record { place = p; goes_on = h }
 turned Q s now me a B5 c at n p h = record { place = n; goes_on = refl }
 turned Q s now me a B6 c at n p h = unlocked_turned Q now a.due a at n p h h
+turned Q s now me a _ c at n p h = record { place = p; goes_on = h }
 
 busy_or_turned : (Q : ℕ → Type 0) (now : ℕ) (due : Option Reply) (a : Actor) (at : Option ℕ) → Q now → IfSome at Q → Earned due at (Q a.noted) → IfSome (busy_or now due a) (Turns Q at)
 busy_or_turned Q now None a at n p h = record { place = n; goes_on = refl }

@@ -2,6 +2,7 @@
 use Rattle.std.proofs.Common.{◌≡◌, ◌≢◌, ℕ, zero, suc, ◌+◌, ◌-◌, ◌<◌, ◌≤◌, ◌⊎◌, inl, inr, List, [], ◌∷◌, ◌++◌, length, Some, set, refl, sym, ap, ◌∙◌, arith}
 use Rattle.std.proofs.lemmas.Option.{none-some, same_Some, slice_get_within}
 use Rattle.std.specs.Prelude.{slice_get}
+use Rattle.std.specs.List.{AllByRecursion}
 use Rattle.step_machine.specs.Stamps.{IsBy}
 
 -- in the second list the place `e` holds x, and each other place holds what it held in the first
@@ -87,3 +88,8 @@ by_within K n me h = let within : n - 1 < length K = slice_get_within K (n - 1) 
 -- a number was taken by one actor
 pub by_one : (K : List ℕ) (n a b : ℕ) → IsBy K n a → IsBy K n b → a ≡ b
 by_one K n a b h g = same_Some a b (sym h.own ∙ g.own)
+
+-- a fact of the element at each place is one of all elements
+pub all_of : {X : Type 0} (P : X → Type 0) (xs : List X) → ((i : ℕ) (o : X) → slice_get xs i ≡ Some o → P o) → AllByRecursion P xs
+all_of P [] h = tt
+all_of P (x ∷ xs) h = (h 0 x refl, all_of P xs (λ i o got. h (suc i) o got))

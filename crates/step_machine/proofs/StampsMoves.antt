@@ -1,29 +1,17 @@
 -- Each move keeps what holds of the operations and of the actors, and so does each list of moves.
-use Rattle.std.proofs.Common.{◌≡◌, ◌≢◌, ℕ, zero, suc, ◌+◌, ◌-◌, ◌⊎◌, inl, inr, Bool, true, false, if◌then◌else◌, List, [], ◌∷◌, ◌++◌, map, replicate, Option, Some, None, IfSome, refl, sym, subst, ap, ◌∙◌, append_assoc, append-nil}
+use Rattle.std.proofs.Common.{◌≡◌, ◌≢◌, ℕ, zero, suc, ◌+◌, ◌-◌, ◌⊎◌, inl, inr, true, List, [], ◌∷◌, ◌++◌, map, replicate, Option, Some, None, IfSome, refl, sym, subst, ap, ◌∙◌, append_assoc, append-nil}
 use Rattle.std.specs.Prelude.{slice_get}
 use Rattle.std.specs.List.{AllByRecursion}
-use Rattle.std.proofs.lemmas.Option.{none-some, same_Some}
-use Rattle.line_table.specs.declared.lines.Kind.{Kind}
-use Rattle.line_table.specs.declared.lines.Kind.TheVariants.{TwoLock, NonBlocking}
-use Rattle.line_table.specs.declared.lines.Line.{Line}
-use Rattle.line_table.specs.declared.lines.Line.TheVariants.{F1, E2, A1}
-use Rattle.history.specs.declared.operations.Op.{Op}
-use Rattle.history.specs.declared.operations.Op.TheVariants.{Enq, Deq}
-use Rattle.history.specs.declared.operations.Reply.{Reply}
-use Rattle.history.specs.declared.operations.Stamped.{Stamped}
-use Rattle.line_steps.specs.declared.actors.Setup.{Setup}
-use Rattle.line_steps.specs.declared.actors.Held.{Held}
-use Rattle.line_steps.specs.declared.actors.Actor.{Actor}
-use Rattle.line_steps.specs.declared.actors.Outcome.{Outcome}
-use Rattle.line_steps.specs.Memory.{found}
-use Rattle.line_steps.specs.Lines.{action, gives_up}
-use Rattle.line_steps.specs.Calling.{is_call, from_pocket, begun}
+use Rattle.std.proofs.lemmas.Option.{none-some, same_Some, IfSome_then}
+use Rattle.step_machine.specs.Below.{Kind, TwoLock, NonBlocking, Line, F1, E2, A1, Op, Enq, Deq, Reply, Stamped, Setup, Held, Actor, found, action, gives_up, from_pocket, begun}
 use Rattle.step_machine.specs.declared.actors.Move.{Move}
 use Rattle.step_machine.specs.declared.actors.Move.TheVariants.{Begin, Step, Give}
-use Rattle.step_machine.specs.Machine.{World, idle, opening, actor_of, rested, with_actor, begins, steps, given, gives, rests, moved, mover, rest_of, AnyMove, made, Rest, next_any, run_on, run}
+use Rattle.step_machine.specs.Machine.{World, idle, opening, actor_of, rested, with_actor, may_rest, AnyMove, made, Rest, next_any, run_on, run}
 use Rattle.step_machine.specs.Stamps.{makers, HasNoEffect}
+use Rattle.step_machine.proofs.AnyMoves.{after_move}
+use Rattle.step_machine.proofs.Reached.{some_of, actor_stands}
 use Rattle.step_machine.proofs.StampsLines.{Stands, Turns, turned, given_turned}
-use Rattle.step_machine.proofs.StampsKept.{Over, Idle, Knows, Kept, actor_stands, actor_cases, settled_kept}
+use Rattle.step_machine.proofs.StampsKept.{Over, Idle, Knows, Kept, actor_cases, settled_kept}
 use Rattle.step_machine.proofs.StampsLists.{same_or_not}
 
 -- the makers after one more move
@@ -64,36 +52,6 @@ begun_knows Rests K ops me NonBlocking (Enq body) a over = from_pocket_knows Res
 begun_knows Rests K ops me TwoLock Deq a over = from_pocket_knows Rests K ops me F1 a.pocket _ (over, refl) (λ h. (over, refl))
 begun_knows Rests K ops me NonBlocking Deq a over = from_pocket_knows Rests K ops me F1 a.pocket _ (over, refl) (λ h. (over, refl))
 
-begins_kept : (Rests : Type 0) (K : List ℕ) (w : World) (me : ℕ) (op : Op) (a : Actor) → Kept Rests K w → actor_of w me ≡ Some a → (l : Option Line) → Knows Rests K w.operations me l a.entry a.due a.noted → IfSome (begins w me op a l) (Kept Rests K)
-begins_kept Rests K w me op a h is (Some l) k = tt
-begins_kept Rests K w me op a h is None k = go (is_call op)
-  where
-    go : (b : Bool) → IfSome (if b then Some (with_actor w me (begun w.setup.kind me op a)) else None) (Kept Rests K)
-    go false = tt
-    go true = with_actor_kept Rests K w me a _ h is (begun_knows Rests K w.operations me w.setup.kind op a k)
-
-steps_kept : (Rests : Type 0) (K : List ℕ) (w : World) (me : ℕ) (a : Actor) → Kept Rests K w → actor_of w me ≡ Some a → (l : Option Line) → Knows Rests K w.operations me l a.entry a.due a.noted → IfSome (steps w me a l) (Kept Rests (K ++ me ∷ []))
-steps_kept Rests K w me a h is None k = tt
-steps_kept Rests K w me a h is (Some l) k =
-    settled_kept Rests K w me a _ l _ h is k
-    (λ Q at n p stands. turned Q w.setup (w.steps + 1) me a l (found (action w.setup me a l) w.shared) at n p stands)
-
-given_kept : (Rests : Type 0) (K : List ℕ) (w : World) (me : ℕ) (a : Actor) (l : Line) → Kept Rests K w → actor_of w me ≡ Some a → Knows Rests K w.operations me (Some l) a.entry a.due a.noted → (o : Option Outcome) → ((Q : ℕ → Type 0) (at : Option ℕ) → Q (w.steps + 1) → IfSome at Q → Stands l a.due at (Q a.noted) → IfSome o (Turns Q at)) → IfSome (given w me a o) (Kept Rests (K ++ me ∷ []))
-given_kept Rests K w me a l h is k None does = tt
-given_kept Rests K w me a l h is k (Some o) does = settled_kept Rests K w me a w.shared l o h is k does
-
-gives_kept : (Rests : Type 0) (K : List ℕ) (w : World) (me : ℕ) (a : Actor) → Kept Rests K w → actor_of w me ≡ Some a → (l : Option Line) → Knows Rests K w.operations me l a.entry a.due a.noted → IfSome (gives w me a l) (Kept Rests (K ++ me ∷ []))
-gives_kept Rests K w me a h is None k = tt
-gives_kept Rests K w me a h is (Some l) k =
-    given_kept Rests K w me a l h is k (gives_up (w.steps + 1) a l)
-    (λ Q at n p stands. given_turned Q (w.steps + 1) a l at n p stands)
-
-moved_kept : (Rests : Type 0) (K : List ℕ) (w : World) → Kept Rests K w → (m : Move) (o : Option Actor) → actor_of w (mover m) ≡ o → IfSome (moved w m o) (Kept Rests (after K (made m)))
-moved_kept Rests K w h m None is = tt
-moved_kept Rests K w h (Begin me op) (Some a) is = begins_kept Rests K w me op a h is a.line (h.actors me a is)
-moved_kept Rests K w h (Step me) (Some a) is = steps_kept Rests K w me a h is a.line (h.actors me a is)
-moved_kept Rests K w h (Give me) (Some a) is = gives_kept Rests K w me a h is a.line (h.actors me a is)
-
 -- an operation that its actor leaves before its node is used has no place
 left_over : (Rests : Type 0) (K : List ℕ) (ops : List Stamped) (me : ℕ) (due : Option Reply) (noted : ℕ) → Rests → (l : Line) → ((at : Option ℕ) (Noted : Type 0) → Stands l due at Noted → at ≡ None) → (entry : Option ℕ) → Knows Rests K ops me (Some l) entry due noted → Idle Rests ops me
 left_over Rests K ops me due noted rest l none None k = k.0
@@ -107,22 +65,34 @@ left_over Rests K ops me due noted rest l none (Some e) k = λ i p got own. pick
         subst (λ z. Over Rests z) (same_Some k.0 p (sym k.1.here ∙ ap (λ j. slice_get ops j) (sym q) ∙ got)) (inr (rest, left))
     pick i p got own (inr n) = k.1.others i p n got own
 
-rests_kept : (Rests : Type 0) (K : List ℕ) (w : World) (me : ℕ) (a : Actor) → Rests → Kept Rests K w → actor_of w me ≡ Some a → (l : Option Line) → Knows Rests K w.operations me l a.entry a.due a.noted → IfSome (rests w me a l) (Kept Rests K)
-rests_kept Rests K w me a rest h is (Some E2) k =
+rested_kept : (Rests : Type 0) (K : List ℕ) (w : World) (me : ℕ) (a : Actor) (l : Line) → Rests → Kept Rests K w → actor_of w me ≡ Some a → may_rest l ≡ true → Knows Rests K w.operations me (Some l) a.entry a.due a.noted → Kept Rests K (with_actor w me (rested a))
+rested_kept Rests K w me a E2 rest h is may k =
     with_actor_kept Rests K w me a (rested a) h is
     (left_over Rests K w.operations me a.due a.noted rest E2 (λ at Noted stands. stands) a.entry k)
-rests_kept Rests K w me a rest h is (Some A1) k =
+rested_kept Rests K w me a A1 rest h is may k =
     with_actor_kept Rests K w me a (rested a) h is
     (left_over Rests K w.operations me a.due a.noted rest A1 (λ at Noted stands. stands) a.entry k)
-rests_kept Rests K w me a rest h is _ k = tt
-
-rest_kept : (Rests : Type 0) (K : List ℕ) (w : World) → Rests → Kept Rests K w → (me : ℕ) (o : Option Actor) → actor_of w me ≡ o → IfSome (rest_of w me o) (Kept Rests K)
-rest_kept Rests K w rest h me None is = tt
-rest_kept Rests K w rest h me (Some a) is = rests_kept Rests K w me a rest h is a.line (h.actors me a is)
+rested_kept Rests K w me a _ rest h is may k = cc
 
 next_kept : (Rests : Type 0) (K : List ℕ) (w : World) (m : AnyMove) → May Rests m → Kept Rests K w → IfSome (next_any w m) (Kept Rests (after K m))
-next_kept Rests K w (made m) may h = moved_kept Rests K w h m (actor_of w (mover m)) refl
-next_kept Rests K w (Rest me) may h = rest_kept Rests K w may h me (actor_of w me) refl
+next_kept Rests K w m may h =
+    IfSome_then (next_any w m)
+    (after_move w (λ m v. May Rests m → Kept Rests (after K m) v)
+    (record {
+      began = λ me op a is e call yes. with_actor_kept Rests K w me a _ h is (begun_knows Rests K w.operations me w.setup.kind op a (knows me a None is e));
+      step = λ me a l is at yes.
+          settled_kept Rests K w me a _ l _ h is (knows me a (Some l) is at)
+          (λ Q at n p stands. turned Q w.setup (w.steps + 1) me a l (found (action w.setup me a l) w.shared) at n p stands);
+      gave_up = λ me a l o is at given yes.
+          settled_kept Rests K w me a w.shared l o h is (knows me a (Some l) is at)
+          (λ Q at n p stands. some_of (Turns Q at) (gives_up (w.steps + 1) a l) o given (given_turned Q (w.steps + 1) a l at n p stands));
+      at_rest = λ me a l is at rests yes. rested_kept Rests K w me a l yes h is rests (knows me a (Some l) is at);
+    })
+    m)
+    (λ v g. g may)
+  where
+    knows : (me : ℕ) (a : Actor) (l : Option Line) → actor_of w me ≡ Some a → a.line ≡ l → Knows Rests K w.operations me l a.entry a.due a.noted
+    knows me a l is at = subst (λ x. Knows Rests K w.operations me x a.entry a.due a.noted) at (h.actors me a is)
 
 run_on_kept : (Rests : Type 0) (K L : List ℕ) (more : World → Option World) (o : Option World) → IfSome o (Kept Rests K) → ((v : World) → Kept Rests K v → IfSome (more v) (Kept Rests L)) → IfSome (run_on more o) (Kept Rests L)
 run_on_kept Rests K L more None h each = tt

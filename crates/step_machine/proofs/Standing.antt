@@ -1,25 +1,10 @@
 -- Each actor stands before a line of its queue, and where no null follows Head, before nodes and not null.
-use Rattle.std.proofs.Common.{◌≡◌, ℕ, ◌+◌, ◌≤◌, Bool, true, false, nat_eq, nat_lt, if◌then◌else◌, Option, Some, None, IfSome, refl, arith}
+use Rattle.std.proofs.Common.{◌≡◌, ℕ, ◌+◌, ◌≤◌, Bool, true, false, nat_eq, nat_lt, if◌then◌else◌, Option, Some, None, IfSome, arith}
 use Rattle.std.proofs.lemmas.Bool.{eqb-false}
-use Rattle.counted_ref.specs.Ref.{Ref, ref, is_null, same_ref}
-use Rattle.line_table.specs.declared.lines.Kind.{Kind}
-use Rattle.line_table.specs.declared.lines.Kind.TheVariants.{TwoLock, NonBlocking}
-use Rattle.line_table.specs.declared.lines.Line.{Line}
-use Rattle.line_table.specs.declared.lines.Line.TheVariants.{N1, N2, N3, N4, N5, F1, F2, F3, E2, E3, E5, E6, E7, E9, E13, E17, D2, D3, D4, D5, D10, D12, D13, A1, A2, A3, A4, A5, A6, A7, B1, B2, B3, B4, B5, B6}
-use Rattle.line_table.specs.Sections.{section_of}
-use Rattle.history.specs.declared.operations.Op.{Op}
-use Rattle.history.specs.declared.operations.Op.TheVariants.{Enq, Deq}
-use Rattle.history.specs.declared.operations.Reply.{Reply}
-use Rattle.history.specs.declared.operations.Reply.TheVariants.{Done, Value, Empty, Refused}
-use Rattle.line_steps.specs.declared.actors.Setup.{Setup}
-use Rattle.line_steps.specs.declared.actors.Actor.{Actor}
-use Rattle.line_steps.specs.declared.actors.Held.{Held}
-use Rattle.line_steps.specs.declared.actors.Outcome.{Outcome}
-use Rattle.line_steps.specs.Memory.{Shared, Word, Content, content, Action, word, Found, performed, same, load, store, clear, exchange, Fresh, Free, Head, Tail, Tail_lock, Head_lock, Next, Value_of, put}
-use Rattle.line_steps.specs.Lines.{action, raised, outcome, freed, unlocked, sets_aside, goes, ends, effect, lets_go, to_pocket, with_node, takes, busy_or, gives_up}
-use Rattle.line_steps.specs.Calling.{from_pocket, begun}
+use Rattle.step_machine.specs.Below.{Ref, ref, is_null, same_ref, Kind, TwoLock, NonBlocking, Line, N1, N2, N3, N4, N5, F1, F2, F3, E2, E3, E5, E6, E7, E9, E13, E17, D2, D3, D4, D5, D10, D12, D13, A1, A2, A3, A4, A5, A6, A7, B1, B2, B3, B4, B5, B6, section_of, Op, Enq, Deq, Reply, Done, Value, Setup, Held, Actor, Outcome, Shared, Word, Content, content, Action, word, Found, performed, same, load, store, clear, exchange, Head, Tail, Next, put, action, raised, outcome, freed, unlocked, sets_aside, goes, ends, effect, lets_go, to_pocket, with_node, takes, busy_or, gives_up, from_pocket, begun}
 use Rattle.step_machine.specs.Machine.{rested, may_rest}
 use Rattle.step_machine.specs.Standing.{IsRunBy, HasNodeToFree, HoldsNodes, Stands, ActorStands}
+use Rattle.step_machine.proofs.Choices.{either, both}
 
 -- Head and Tail hold nodes
 pub record EndsHold (m : Shared) : Type 0 where
@@ -28,14 +13,9 @@ pub record EndsHold (m : Shared) : Type 0 where
 
 -- a content of Head or of Tail holds a node
 abbrev pub ContentHolds : (x : Word) → Content x → Type 0
-ContentHolds Fresh c = Unit {0}
-ContentHolds Free r = Unit {0}
 ContentHolds Head r = 1 ≤ r.node
 ContentHolds Tail r = 1 ≤ r.node
-ContentHolds Tail_lock c = Unit {0}
-ContentHolds Head_lock c = Unit {0}
-ContentHolds (Next n) r = Unit {0}
-ContentHolds (Value_of n) v = Unit {0}
+ContentHolds _ c = Unit {0}
 
 -- what an access writes into Head or Tail holds a node
 abbrev WritesHold : Action → Type 0
@@ -61,24 +41,15 @@ writes_hold s me a B5 h = raised_holds s a.head a.next.node h.0 h.1
 writes_hold s me a _ h = tt
 
 put_holds : (m : Shared) (x : Word) (c : Content x) → EndsHold m → ContentHolds x c → EndsHold (put x c m)
-put_holds m Fresh c h g = record { head = h.head; tail = h.tail }
-put_holds m Free c h g = record { head = h.head; tail = h.tail }
 put_holds m Head c h g = record { head = g; tail = h.tail }
 put_holds m Tail c h g = record { head = h.head; tail = g }
-put_holds m Tail_lock c h g = record { head = h.head; tail = h.tail }
-put_holds m Head_lock c h g = record { head = h.head; tail = h.tail }
-put_holds m (Next n) c h g = record { head = h.head; tail = h.tail }
-put_holds m (Value_of n) c h g = record { head = h.head; tail = h.tail }
-
-chosen_holds : (b : Bool) (x y : Shared) → EndsHold x → EndsHold y → EndsHold (if b then x else y)
-chosen_holds true x y h g = h
-chosen_holds false x y h g = g
+put_holds m _ c h g = record { head = h.head; tail = h.tail }
 
 performed_holds : (m : Shared) (a : Action) → EndsHold m → WritesHold a → EndsHold (performed a m)
 performed_holds m (load x) h g = h
 performed_holds m (store x c) h g = put_holds m x c h g
 performed_holds m (clear n) h g = put_holds m (Next n) _ h tt
-performed_holds m (exchange x old new) h g = chosen_holds (same x (content x m) old) _ _ (put_holds m x new h g) h
+performed_holds m (exchange x old new) h g = both EndsHold (same x (content x m) old) (put_holds m x new h g) h
 
 pub found_holds : (m : Shared) (x : Word) → EndsHold m → ContentHolds x (content x m)
 found_holds m Head h = h.head
@@ -104,14 +75,6 @@ still_stands kind a holds entry (Some N1) h = h
 still_stands kind a holds entry (Some _) h = h
 
 module _ (s : Setup) where
-  either : (b : Bool) (x y : Outcome) → (b ≡ true → Placed s.kind x) → (b ≡ false → Placed s.kind y) → Placed s.kind (if b then x else y)
-  either true x y hx hy = hx refl
-  either false x y hx hy = hy refl
-
-  both : (b : Bool) (x y : Outcome) → Placed s.kind x → Placed s.kind y → Placed s.kind (if b then x else y)
-  both true x y hx hy = hx
-  both false x y hx hy = hy
-
   freed_placed : (kind : Kind) (now : ℕ) (due : Option Reply) (a : Actor) → IfSome a.pocket (λ held. 1 ≤ held.node) → Placed kind (freed kind now due a)
   freed_placed TwoLock now None a p = record { pocket = p; line = (tt, tt) }
   freed_placed NonBlocking now None a p = record { pocket = p; line = (tt, tt) }
@@ -120,9 +83,7 @@ module _ (s : Setup) where
   unlocked_placed : (now : ℕ) (due : Option Reply) (a : Actor) → IfSome a.pocket (λ held. 1 ≤ held.node) → HasNodeToFree due a.node → Placed s.kind (unlocked now due a)
   unlocked_placed now None a p h = record { pocket = p; line = (tt, h) }
   unlocked_placed now (Some (Value v)) a p h = record { pocket = p; line = (tt, h) }
-  unlocked_placed now (Some Done) a p h = record { pocket = p; line = tt }
-  unlocked_placed now (Some Empty) a p h = record { pocket = p; line = tt }
-  unlocked_placed now (Some (Refused why)) a p h = record { pocket = p; line = tt }
+  unlocked_placed now _ a p h = record { pocket = p; line = tt }
 
   with_node_placed : (kind : Kind) (a : Actor) → IfSome a.pocket (λ held. 1 ≤ held.node) → 1 ≤ a.node → Placed kind (goes (with_node kind) a)
   with_node_placed TwoLock a p h = record { pocket = p; line = (tt, h) }
@@ -143,56 +104,56 @@ module _ (s : Setup) where
   pub placed : (now me : ℕ) (a : Actor) (l : Line) (c : Found (action s me a l)) → IfSome a.pocket (λ held. 1 ≤ held.node) → IsRunBy (section_of l) s.kind → HoldsNodes l a → ContentHolds (word (action s me a l)) c → FoundANode me a l c → Placed s.kind (outcome s now me a l c)
   placed now me a N1 c p r h g f = record { pocket = p; line = (tt, tt) }
   placed now me a N2 c p r h g f =
-      either (is_null c) _ _
-      (λ e. both (nat_lt a.f s.size) _ _ (record { pocket = p; line = (tt, tt) }) (record { pocket = p; line = tt }))
-      (λ e. both (nat_eq c.count s.limit) _ _ (record { pocket = p; line = tt }) (record { pocket = p; line = (tt, not_null c e) }))
+      either (Placed s.kind) (is_null c)
+      (λ e. both (Placed s.kind) (nat_lt a.f s.size) (record { pocket = p; line = (tt, tt) }) (record { pocket = p; line = tt }))
+      (λ e. both (Placed s.kind) (nat_eq c.count s.limit) (record { pocket = p; line = tt }) (record { pocket = p; line = (tt, not_null c e) }))
   placed now me a N3 c p r h g f = record { pocket = p; line = (tt, h) }
   placed now me a N4 c p r h g f =
-      both (same_ref c a.top) _ _ (with_node_placed s.kind (takes a.top.node a.next.count a) p h) (record { pocket = p; line = (tt, tt) })
+      both (Placed s.kind) (same_ref c a.top) (with_node_placed s.kind (takes a.top.node a.next.count a) p h) (record { pocket = p; line = (tt, tt) })
   placed now me a N5 c p r h g f =
-      both (nat_eq c a.f) _ _ (with_node_placed s.kind (takes (a.f + 1) 0 a) p (omega arith)) (record { pocket = p; line = (tt, tt) })
+      both (Placed s.kind) (nat_eq c a.f) (with_node_placed s.kind (takes (a.f + 1) 0 a) p (omega arith)) (record { pocket = p; line = (tt, tt) })
   placed now me a F1 c p r h g f =
-      both (nat_eq c.count s.limit) _ _ (aside_placed _ (freed_placed s.kind now a.due (record a { top = c }) p)) (record { pocket = p; line = (tt, h) })
+      both (Placed s.kind) (nat_eq c.count s.limit) (aside_placed _ (freed_placed s.kind now a.due (record a { top = c }) p)) (record { pocket = p; line = (tt, h) })
   placed now me a F2 c p r h g f = record { pocket = p; line = (tt, h) }
-  placed now me a F3 c p r h g f = both (same_ref c a.top) _ _ (freed_placed s.kind now a.due (lets_go a) p) (record { pocket = p; line = (tt, h) })
+  placed now me a F3 c p r h g f = both (Placed s.kind) (same_ref c a.top) (freed_placed s.kind now a.due (lets_go a) p) (record { pocket = p; line = (tt, h) })
   placed now me a E2 c p r h g f = record { pocket = p; line = (r, h) }
-  placed now me a E3 c p r h g f = both (nat_eq c.count s.limit) _ _ (record { pocket = p; line = tt }) (record { pocket = p; line = (r, h) })
+  placed now me a E3 c p r h g f = both (Placed s.kind) (nat_eq c.count s.limit) (record { pocket = p; line = tt }) (record { pocket = p; line = (r, h) })
   placed now me a E5 c p r h g f = record { pocket = p; line = (r, (h, g)) }
   placed now me a E6 c p r h g f = record { pocket = p; line = (r, h) }
   placed now me a E7 c p r h g f =
-      both (same_ref c a.tail) _ _
-      (either (is_null a.next) _ _ (λ e. record { pocket = p; line = (r, h) })
-      (λ e. both (nat_eq a.tail.count s.limit) _ _ (record { pocket = h.0; line = tt }) (record { pocket = p; line = (r, (h.0, h.1, not_null a.next e)) })))
+      both (Placed s.kind) (same_ref c a.tail)
+      (either (Placed s.kind) (is_null a.next) (λ e. record { pocket = p; line = (r, h) })
+      (λ e. both (Placed s.kind) (nat_eq a.tail.count s.limit) (record { pocket = h.0; line = tt }) (record { pocket = p; line = (r, (h.0, h.1, not_null a.next e)) })))
       (record { pocket = p; line = (r, h.0) })
   placed now me a E9 c p r h g f =
-      both (same_ref c a.next) _ _ (ended_or (nat_eq a.tail.count s.limit) now (lets_go (record a { due = Some Done })) p (r, h)) (record { pocket = p; line = (r, h.0) })
+      both (Placed s.kind) (same_ref c a.next) (ended_or (nat_eq a.tail.count s.limit) now (lets_go (record a { due = Some Done })) p (r, h)) (record { pocket = p; line = (r, h.0) })
   placed now me a E13 c p r h g f = record { pocket = p; line = (r, h.0) }
   placed now me a E17 c p r h g f = record { pocket = p; line = tt }
   placed now me a D2 c p r h g f = record { pocket = p; line = (r, g) }
   placed now me a D3 c p r h g f = record { pocket = p; line = (r, (h, g)) }
   placed now me a D4 c p r h g f = record { pocket = p; line = (r, h) }
   placed now me a D5 c p r h g f =
-      either (same_ref c a.head) _ _
-      (λ e. either (nat_eq a.head.node a.tail.node) _ _
-      (λ d. either (is_null a.next) _ _ (λ n. record { pocket = p; line = tt })
-      (λ n. both (nat_eq a.tail.count s.limit) _ _ (record { pocket = p; line = tt }) (record { pocket = p; line = (r, (h.1, not_null a.next n)) })))
+      either (Placed s.kind) (same_ref c a.head)
+      (λ e. either (Placed s.kind) (nat_eq a.head.node a.tail.node)
+      (λ d. either (Placed s.kind) (is_null a.next) (λ n. record { pocket = p; line = tt })
+      (λ n. both (Placed s.kind) (nat_eq a.tail.count s.limit) (record { pocket = p; line = tt }) (record { pocket = p; line = (r, (h.1, not_null a.next n)) })))
       (λ d. record { pocket = p; line = (r, (h.0, f e d)) }))
       (λ e. record { pocket = p; line = (r, tt) })
   placed now me a D10 c p r h g f = record { pocket = p; line = (r, tt) }
-  placed now me a D12 c p r h g f = both (nat_eq a.head.count s.limit) _ _ (record { pocket = p; line = tt }) (record { pocket = p; line = (r, h) })
-  placed now me a D13 c p r h g f = both (same_ref c a.head) _ _ (record { pocket = p; line = (tt, h.0) }) (record { pocket = p; line = (r, tt) })
+  placed now me a D12 c p r h g f = both (Placed s.kind) (nat_eq a.head.count s.limit) (record { pocket = p; line = tt }) (record { pocket = p; line = (r, h) })
+  placed now me a D13 c p r h g f = both (Placed s.kind) (same_ref c a.head) (record { pocket = p; line = (tt, h.0) }) (record { pocket = p; line = (r, tt) })
   placed now me a A1 c p r h g f = record { pocket = p; line = (r, h) }
   placed now me a A2 c p r h g f = record { pocket = p; line = (r, h) }
-  placed now me a A3 c p r h g f = both (nat_eq c 0) _ _ (record { pocket = p; line = (r, h) }) (record { pocket = p; line = (r, h) })
+  placed now me a A3 c p r h g f = both (Placed s.kind) (nat_eq c 0) (record { pocket = p; line = (r, h) }) (record { pocket = p; line = (r, h) })
   placed now me a A4 c p r h g f = record { pocket = p; line = (r, (h, g)) }
   placed now me a A5 c p r h g f = record { pocket = p; line = (r, h.0) }
   placed now me a A6 c p r h g f = record { pocket = p; line = (r, tt) }
   placed now me a A7 c p r h g f = record { pocket = p; line = tt }
-  placed now me a B1 c p r h g f = both (nat_eq c 0) _ _ (record { pocket = p; line = (r, tt) }) (record { pocket = p; line = (r, tt) })
+  placed now me a B1 c p r h g f = both (Placed s.kind) (nat_eq c 0) (record { pocket = p; line = (r, tt) }) (record { pocket = p; line = (r, tt) })
   placed now me a B2 c p r h g f = record { pocket = p; line = (r, g) }
   placed now me a B3 c p r h g f =
-      either (is_null c) _ _ (λ e. record { pocket = p; line = (r, tt) }) (λ e. record { pocket = p; line = (r, (h, not_null c e)) })
-  placed now me a B4 c p r h g f = both (nat_eq a.head.count s.limit) _ _ (record { pocket = p; line = (r, tt) }) (record { pocket = p; line = (r, h) })
+      either (Placed s.kind) (is_null c) (λ e. record { pocket = p; line = (r, tt) }) (λ e. record { pocket = p; line = (r, (h, not_null c e)) })
+  placed now me a B4 c p r h g f = both (Placed s.kind) (nat_eq a.head.count s.limit) (record { pocket = p; line = (r, tt) }) (record { pocket = p; line = (r, h) })
   placed now me a B5 c p r h g f = record { pocket = p; line = (r, h.0) }
   placed now me a B6 c p r h g f = unlocked_placed now a.due a p h
 

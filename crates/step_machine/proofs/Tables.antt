@@ -3,11 +3,8 @@ use Rattle.std.proofs.Common.{◌≡◌, ℕ, zero, suc, ◌-◌, ◌^◌, ◌<�
 use Rattle.std.proofs.lemmas.Bool.{eq-eqb, eqb-true}
 use Rattle.std.proofs.lemmas.Bool.Decides.{eqb_tells}
 use Rattle.std.specs.List.{All}
-use Rattle.counted_ref.specs.Ref.{IsRef, count_mask}
+use Rattle.step_machine.specs.Below.{IsRef, count_mask, Taken, Node, blank, Shared, Word, Fresh, Free, Head, Tail, Tail_lock, Head_lock, Next, Value_of, Content, content, put, same, Action, load, store, clear, exchange, word, found}
 use Rattle.counted_ref.proofs.Words.{refs_apart, same_word, cleared_word}
-use Rattle.history.specs.declared.operations.Taken.{Taken}
-use Rattle.line_steps.specs.declared.actors.Node.{Node}
-use Rattle.line_steps.specs.Memory.{blank, Shared, Word, Fresh, Free, Head, Tail, Tail_lock, Head_lock, Next, Value_of, Content, content, put, same, Action, load, store, clear, exchange, word, found}
 use Rattle.step_machine.specs.Words.{value_word, encoded, node_words, words_of, index, IsWord}
 use Rattle.step_machine.specs.Tables.{place_of, place_step, ValueFits, ContentFits, SharedFits, ActionFits, IsOneStep}
 use Rattle.step_machine.proofs.Words.{reading, writing}

@@ -1,30 +1,14 @@
 -- In the two-lock queue the counts of Tail and of each node's `next` stay 0.
-use Rattle.std.proofs.Common.{◌≡◌, ◌≢◌, ℕ, zero, suc, ◌+◌, ◌-◌, Bool, true, false, nat_eq, nat_lt, if◌then◌else◌, List, [], ◌∷◌, length, get_or, set, Option, Some, None, IfSome, refl, sym, ap, ◌∙◌, subst, arith, ◌⊎◌, inl, inr}
+use Rattle.std.proofs.Common.{◌≡◌, ◌≢◌, ℕ, zero, suc, ◌+◌, ◌-◌, nat_eq, nat_lt, List, [], ◌∷◌, length, get_or, set, Option, Some, None, IfSome, refl, sym, ap, ◌∙◌, subst, arith, ◌⊎◌, inl, inr}
 use Rattle.std.specs.List.{All}
 use Rattle.std.proofs.lemmas.List.Elements.{All-set, All-replicate}
-use Rattle.counted_ref.specs.Ref.{Ref, is_null, same_ref}
-use Rattle.line_table.specs.declared.lines.Kind.{Kind}
-use Rattle.line_table.specs.declared.lines.Kind.TheVariants.{TwoLock, NonBlocking}
-use Rattle.line_table.specs.declared.lines.Line.{Line}
-use Rattle.line_table.specs.declared.lines.Line.TheVariants.{N1, N2, N3, N4, N5, F1, F2, F3, E2, E5, D2, A1, A2, A3, A4, A5, A6, A7, B1, B2, B3, B4, B5, B6}
-use Rattle.line_table.specs.Sections.{section_of}
-use Rattle.history.specs.declared.operations.Op.{Op}
-use Rattle.history.specs.declared.operations.Op.TheVariants.{Enq, Deq}
-use Rattle.history.specs.declared.operations.Reply.{Reply}
-use Rattle.history.specs.declared.operations.Reply.TheVariants.{Done, Value, Empty, Refused}
-use Rattle.line_steps.specs.declared.actors.Setup.{Setup}
-use Rattle.line_steps.specs.declared.actors.Actor.{Actor}
-use Rattle.line_steps.specs.declared.actors.Held.{Held}
-use Rattle.line_steps.specs.declared.actors.Node.{Node}
-use Rattle.line_steps.specs.declared.actors.Outcome.{Outcome}
-use Rattle.line_steps.specs.Memory.{blank, Shared, found, performed, node_at}
-use Rattle.line_steps.specs.Lines.{action, outcome, goes, with_node, takes, freed, unlocked, lets_go, to_pocket, busy_or, gives_up}
-use Rattle.line_steps.specs.Calling.{from_pocket, begun}
+use Rattle.step_machine.specs.Below.{Ref, is_null, same_ref, Kind, TwoLock, NonBlocking, Line, N1, N2, N3, N4, N5, F1, F2, F3, E2, E5, D2, A1, A2, A3, A4, A5, A6, A7, B1, B2, B3, B4, B5, B6, section_of, Op, Enq, Deq, Reply, Done, Setup, Node, Held, Actor, Outcome, blank, Shared, found, performed, node_at, action, outcome, goes, with_node, takes, freed, unlocked, lets_go, to_pocket, busy_or, gives_up, from_pocket, begun}
 use Rattle.step_machine.specs.Machine.{World, opening, actor_of, rested, with_actor, entry_or, settled, IsReached}
 use Rattle.step_machine.specs.Standing.{IsRunBy}
 use Rattle.step_machine.specs.TwoLock.{OfTwoLockWorlds, CountsNothing}
-use Rattle.step_machine.proofs.Reached.{some_of}
-use Rattle.step_machine.proofs.StampsKept.{actor_stands, actor_cases}
+use Rattle.step_machine.proofs.Choices.{both}
+use Rattle.step_machine.proofs.Reached.{some_of, actor_stands}
+use Rattle.step_machine.proofs.StampsKept.{actor_cases}
 use Rattle.step_machine.proofs.StampsMoves.{idle_got}
 use Rattle.step_machine.proofs.Reaching.{each_reached}
 use Rattle.step_machine.proofs.TwoLockSound.{nodes_at}
@@ -51,37 +35,29 @@ no_count (x ∷ xs) (suc k) h = no_count xs k (λ j d low. h (suc j) d (omega ar
 set_count : (m : Shared) (k : ℕ) (x : Node) → NoCounts m → x.next.count ≡ 0 → NoCounts (record m { nodes = set m.nodes k x })
 set_count m k x h e = record { tail = h.tail; nodes = All-set (λ n. n.next.count ≡ 0) m.nodes k x e h.nodes }
 
-chosen : (b : Bool) (x y : Shared) → NoCounts x → NoCounts y → NoCounts (if b then x else y)
-chosen true x y hx hy = hx
-chosen false x y hx hy = hy
-
 words : (s : Setup) (me : ℕ) (m : Shared) (a : Actor) (l : Line) → IsRunBy (section_of l) TwoLock → NoCounts m → MarksNothing a → NoCounts (performed (action s me a l) m)
 words s me m a N1 r h g = h
 words s me m a N2 r h g = h
 words s me m a N3 r h g = h
-words s me m a N4 r h g = chosen (same_ref m.free a.top) _ m (record { tail = h.tail; nodes = h.nodes }) h
-words s me m a N5 r h g = chosen (nat_eq m.fresh a.f) _ m (record { tail = h.tail; nodes = h.nodes }) h
+words s me m a N4 r h g = both NoCounts (same_ref m.free a.top) (record { tail = h.tail; nodes = h.nodes }) h
+words s me m a N5 r h g = both NoCounts (nat_eq m.fresh a.f) (record { tail = h.tail; nodes = h.nodes }) h
 words s me m a F1 r h g = h
 words s me m a F2 r h g = set_count m (a.node - 1) _ h g.mark
-words s me m a F3 r h g = chosen (same_ref m.free a.top) _ m (record { tail = h.tail; nodes = h.nodes }) h
+words s me m a F3 r h g = both NoCounts (same_ref m.free a.top) (record { tail = h.tail; nodes = h.nodes }) h
 words s me m a A1 r h g = set_count m (a.node - 1) _ h (no_count m.nodes (a.node - 1) h.nodes)
 words s me m a A2 r h g = set_count m (a.node - 1) _ h (no_count m.nodes (a.node - 1) h.nodes)
-words s me m a A3 r h g = chosen (nat_eq m.tail_lock 0) _ m (record { tail = h.tail; nodes = h.nodes }) h
+words s me m a A3 r h g = both NoCounts (nat_eq m.tail_lock 0) (record { tail = h.tail; nodes = h.nodes }) h
 words s me m a A4 r h g = h
 words s me m a A5 r h g = set_count m (a.tail.node - 1) _ h refl
 words s me m a A6 r h g = record { tail = refl; nodes = h.nodes }
 words s me m a A7 r h g = record { tail = h.tail; nodes = h.nodes }
-words s me m a B1 r h g = chosen (nat_eq m.head_lock 0) _ m (record { tail = h.tail; nodes = h.nodes }) h
+words s me m a B1 r h g = both NoCounts (nat_eq m.head_lock 0) (record { tail = h.tail; nodes = h.nodes }) h
 words s me m a B2 r h g = h
 words s me m a B3 r h g = h
 words s me m a B4 r h g = h
 words s me m a B5 r h g = record { tail = h.tail; nodes = h.nodes }
 words s me m a B6 r h g = record { tail = h.tail; nodes = h.nodes }
 words s me m a _ r h g = absurd r
-
-both : (b : Bool) (x y : Outcome) → Marks x → Marks y → Marks (if b then x else y)
-both true x y hx hy = hx
-both false x y hx hy = hy
 
 same : (o : Outcome) (a : Actor) → MarksNothing a → o.actor.mark ≡ a.mark → o.actor.next ≡ a.next → o.actor.pocket ≡ a.pocket → Marks o
 same o a g p q r = record { actor = record { mark = p ∙ g.mark; next = ap (λ (x : Ref). x.count) q ∙ g.next; pocket = subst (λ x. IfSome x (λ (h : Held). h.mark ≡ 0)) (sym r) g.pocket } }
@@ -92,11 +68,8 @@ freed_marks NonBlocking now None a g = same _ a g refl refl refl
 freed_marks kind now (Some reply) a g = same _ a g refl refl refl
 
 unlocked_marks : (now : ℕ) (due : Option Reply) (a : Actor) → MarksNothing a → Marks (unlocked now due a)
-unlocked_marks now None a g = same _ a g refl refl refl
 unlocked_marks now (Some Done) a g = same _ a g refl refl refl
-unlocked_marks now (Some (Value v)) a g = same _ a g refl refl refl
-unlocked_marks now (Some Empty) a g = same _ a g refl refl refl
-unlocked_marks now (Some (Refused why)) a g = same _ a g refl refl refl
+unlocked_marks now _ a g = same _ a g refl refl refl
 
 -- an actor that takes a node
 taken : (l : Line) (node mark : ℕ) (a : Actor) → MarksNothing a → mark ≡ 0 → Marks (goes l (takes node mark a))
@@ -105,29 +78,29 @@ taken l node mark a g e = record { actor = record { mark = e; next = g.next; poc
 marks : (s : Setup) (now me : ℕ) (m : Shared) (a : Actor) (l : Line) → IsRunBy (section_of l) TwoLock → NoCounts m → MarksNothing a → Marks (outcome s now me a l (found (action s me a l) m))
 marks s now me m a N1 r h g = same _ a g refl refl refl
 marks s now me m a N2 r h g =
-    both (is_null m.free) _ _ (both (nat_lt a.f s.size) _ _ (same _ a g refl refl refl) (same _ a g refl refl refl)) (both (nat_eq m.free.count s.limit) _ _ (same _ a g refl refl refl) (same _ a g refl refl refl))
+    both Marks (is_null m.free) (both Marks (nat_lt a.f s.size) (same _ a g refl refl refl) (same _ a g refl refl refl)) (both Marks (nat_eq m.free.count s.limit) (same _ a g refl refl refl) (same _ a g refl refl refl))
 marks s now me m a N3 r h g = record { actor = record { mark = g.mark; next = no_count m.nodes (a.top.node - 1) h.nodes; pocket = g.pocket } }
-marks s now me m a N4 r h g = both (same_ref m.free a.top) _ _ (taken (with_node s.kind) a.top.node a.next.count a g g.next) (same _ a g refl refl refl)
-marks s now me m a N5 r h g = both (nat_eq m.fresh a.f) _ _ (taken (with_node s.kind) (a.f + 1) 0 a g refl) (same _ a g refl refl refl)
+marks s now me m a N4 r h g = both Marks (same_ref m.free a.top) (taken (with_node s.kind) a.top.node a.next.count a g g.next) (same _ a g refl refl refl)
+marks s now me m a N5 r h g = both Marks (nat_eq m.fresh a.f) (taken (with_node s.kind) (a.f + 1) 0 a g refl) (same _ a g refl refl refl)
 marks s now me m a F1 r h g =
-    both (nat_eq m.free.count s.limit) _ _
+    both Marks (nat_eq m.free.count s.limit)
     (let x : Marks (freed s.kind now a.due (record a { top = m.free })) = freed_marks s.kind now a.due (record a { top = m.free }) g in record { actor = record { mark = x.actor.mark; next = x.actor.next; pocket = x.actor.pocket } })
     (same _ a g refl refl refl)
 marks s now me m a F2 r h g = same _ a g refl refl refl
-marks s now me m a F3 r h g = both (same_ref m.free a.top) _ _ (freed_marks s.kind now a.due (lets_go a) g) (same _ a g refl refl refl)
+marks s now me m a F3 r h g = both Marks (same_ref m.free a.top) (freed_marks s.kind now a.due (lets_go a) g) (same _ a g refl refl refl)
 marks s now me m a A1 r h g = same _ a g refl refl refl
 marks s now me m a A2 r h g = same _ a g refl refl refl
-marks s now me m a A3 r h g = both (nat_eq m.tail_lock 0) _ _ (same _ a g refl refl refl) (same _ a g refl refl refl)
+marks s now me m a A3 r h g = both Marks (nat_eq m.tail_lock 0) (same _ a g refl refl refl) (same _ a g refl refl refl)
 marks s now me m a A4 r h g = same _ a g refl refl refl
 marks s now me m a A5 r h g = same _ a g refl refl refl
 marks s now me m a A6 r h g = same _ a g refl refl refl
 marks s now me m a A7 r h g = same _ a g refl refl refl
-marks s now me m a B1 r h g = both (nat_eq m.head_lock 0) _ _ (same _ a g refl refl refl) (same _ a g refl refl refl)
+marks s now me m a B1 r h g = both Marks (nat_eq m.head_lock 0) (same _ a g refl refl refl) (same _ a g refl refl refl)
 marks s now me m a B2 r h g = same _ a g refl refl refl
 marks s now me m a B3 r h g =
     let none : (node_at m a.head.node).next.count ≡ 0 = no_count m.nodes (a.head.node - 1) h.nodes in
-    both (is_null (node_at m a.head.node).next) _ _ (record { actor = record { mark = g.mark; next = none; pocket = g.pocket } }) (record { actor = record { mark = g.mark; next = none; pocket = g.pocket } })
-marks s now me m a B4 r h g = both (nat_eq a.head.count s.limit) _ _ (same _ a g refl refl refl) (same _ a g refl refl refl)
+    both Marks (is_null (node_at m a.head.node).next) (record { actor = record { mark = g.mark; next = none; pocket = g.pocket } }) (record { actor = record { mark = g.mark; next = none; pocket = g.pocket } })
+marks s now me m a B4 r h g = both Marks (nat_eq a.head.count s.limit) (same _ a g refl refl refl) (same _ a g refl refl refl)
 marks s now me m a B5 r h g = record { actor = record { mark = g.next; next = g.next; pocket = g.pocket } }
 marks s now me m a B6 r h g = unlocked_marks now a.due a g
 marks s now me m a _ r h g = absurd r

@@ -1,14 +1,6 @@
 -- What an actor of the two-lock queue knows of the shared words before its line, and that steps of others keep it.
 use Rattle.std.proofs.Common.{◌≡◌, ◌≢◌, ℕ, ◌≤◌, Bool, true, false, Option, Some, None, sym, ap, ◌∙◌, subst, arith}
-use Rattle.counted_ref.specs.Ref.{Ref, ref}
-use Rattle.line_table.specs.declared.lines.Line.{Line}
-use Rattle.line_table.specs.declared.lines.Line.TheVariants.{N1, N3, N4, F3, A2, A3, A4, A5, A6, A7, B2, B3, B4, B5, B6}
-use Rattle.history.specs.declared.operations.Reply.{Reply}
-use Rattle.history.specs.declared.operations.Reply.TheVariants.{Done, Value, Empty, Refused}
-use Rattle.line_steps.specs.declared.actors.Setup.{Setup}
-use Rattle.line_steps.specs.declared.actors.Actor.{Actor}
-use Rattle.line_steps.specs.declared.actors.Node.{Node}
-use Rattle.line_steps.specs.Memory.{Shared, node_at}
+use Rattle.step_machine.specs.Below.{Ref, ref, Line, N1, N3, N4, F3, A2, A3, A4, A5, A6, A7, B2, B3, B4, B5, B6, Reply, Empty, Refused, Setup, Node, Actor, Shared, node_at}
 use Rattle.step_machine.specs.Standing.{HoldsNodes}
 use Rattle.step_machine.proofs.Counting.{holds, holds_own}
 use Rattle.step_machine.proofs.Fixed.{FixedAt}
@@ -47,11 +39,9 @@ Ready m a = ((node_at m a.node).value ≡ a.val) × ((node_at m a.node).next.nod
 -- what an actor knows that lets the head lock go, by what its call has earned: Head is worn out, or the queue was empty
 -- at the number noted, of which `Z` says what that means
 abbrev pub Unlocks : (Z : ℕ → Type 0) (limit : ℕ) → Shared → (noted : ℕ) → Option Reply → Type 0
-Unlocks Z limit m noted None = Unit {0}
-Unlocks Z limit m noted (Some Done) = Unit {0}
-Unlocks Z limit m noted (Some (Value v)) = Unit {0}
 Unlocks Z limit m noted (Some Empty) = Z noted
 Unlocks Z limit m noted (Some (Refused why)) = m.head.count ≡ limit
+Unlocks Z limit m noted _ = Unit {0}
 
 -- what an actor knows before its line; `last` is the last node of the queue
 abbrev pub KnowsAt : (Z : ℕ → Type 0) → Setup → Shared → (last : ℕ) → Actor → Option Line → Type 0
@@ -82,11 +72,9 @@ knows_more Y Z s m last a None f h = h
 knows_more Y Z s m last a (Some B6) f h = unlocks a.due h
   where
     unlocks : (due : Option Reply) → Unlocks Y s.limit m a.noted due → Unlocks Z s.limit m a.noted due
-    unlocks None g = tt
-    unlocks (Some Done) g = tt
-    unlocks (Some (Value v)) g = tt
     unlocks (Some Empty) g = f a.noted g
     unlocks (Some (Refused why)) g = g
+    unlocks _ g = tt
 knows_more Y Z s m last a (Some _) f h = h
 
 -- what steps of others keep for the holder of a lock; `last` and `last'` are the last node of the queue
@@ -166,9 +154,7 @@ knows_kept Z s m m' last last' you c B5 k n f p o h = (
 knows_kept Z s m m' last last' you c B6 k n f p o h = unlocks c.due h
   where
     unlocks : (due : Option Reply) → Unlocks Z s.limit m c.noted due → Unlocks Z s.limit m' c.noted due
-    unlocks None g = tt
-    unlocks (Some Done) g = tt
-    unlocks (Some (Value v)) g = tt
     unlocks (Some Empty) g = g
     unlocks (Some (Refused why)) g = ap (λ (r : Ref). r.count) (k.head o.1).1 ∙ g
+    unlocks _ g = tt
 knows_kept Z s m m' last last' you c _ k n f p o h = tt

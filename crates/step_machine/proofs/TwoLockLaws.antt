@@ -1,28 +1,17 @@
 -- The laws of the two-lock queue on places, Tail, counts and refusals.
-use Rattle.std.proofs.Common.{◌≡◌, ◌≢◌, ℕ, zero, suc, ◌+◌, ◌-◌, ◌≤◌, ◌<◌, Bool, true, false, nat_eq, nat_lt, if◌then◌else◌, List, [], ◌∷◌, length, get_or, Option, Some, None, IfSome, refl, sym, ap, ◌∙◌, subst, arith, ◌⊎◌, inl, inr}
+use Rattle.std.proofs.Common.{◌≡◌, ◌≢◌, ℕ, zero, suc, ◌+◌, ◌-◌, ◌≤◌, ◌<◌, true, false, nat_eq, nat_lt, if◌then◌else◌, List, [], ◌∷◌, length, get_or, Option, Some, None, IfSome, refl, sym, ap, ◌∙◌, subst, arith, ◌⊎◌, inl, inr}
 use Rattle.std.specs.Prelude.{slice_get}
 use Rattle.std.proofs.lemmas.Bool.{eqb-true, ne_eqb, ltb-false}
 use Rattle.std.proofs.lemmas.Option.{slice_get-get_or}
-use Rattle.counted_ref.specs.Ref.{is_null, same_ref}
-use Rattle.line_table.specs.declared.lines.Kind.{Kind}
-use Rattle.line_table.specs.declared.lines.Kind.TheVariants.{TwoLock}
-use Rattle.line_table.specs.declared.lines.Line.{Line}
-use Rattle.line_table.specs.declared.lines.Line.TheVariants.{N1, N2, N3, N4, N5, F1, F2, F3, E9, E13, E17, D10, D13, A1, A2, A3, A4, A5, A6, A7, B1, B2, B3, B4, B5, B6}
-use Rattle.line_table.specs.Sections.{section_of}
-use Rattle.history.specs.declared.refusals.Refusal.TheVariants.{NoNode}
-use Rattle.history.specs.declared.operations.Reply.{Reply}
-use Rattle.history.specs.declared.operations.Reply.TheVariants.{Done, Value, Empty, Refused}
-use Rattle.line_steps.specs.declared.actors.Setup.{Setup}
-use Rattle.line_steps.specs.declared.actors.Actor.{Actor}
-use Rattle.line_steps.specs.declared.actors.Outcome.{Outcome}
-use Rattle.line_steps.specs.Memory.{node_at, found}
-use Rattle.line_steps.specs.Lines.{action, outcome, goes, with_node, takes, lets_go, freed, unlocked}
+use Rattle.step_machine.specs.Below.{is_null, same_ref, Kind, TwoLock, Line, N1, N2, N3, N4, N5, F1, F2, F3, E9, E13, E17, D10, D13, A1, A2, A3, A4, A5, A6, A7, B1, B2, B3, B4, B5, B6, section_of, NoNode, Reply, Done, Value, Empty, Refused, Setup, Actor, Outcome, node_at, found, action, outcome, goes, with_node, takes, lets_go, freed, unlocked}
 use Rattle.step_machine.specs.Machine.{World, idle, actor_of, IsReached}
 use Rattle.step_machine.specs.Range.{RegistersInRange, ActorInRange, WorldInRange}
 use Rattle.step_machine.specs.Standing.{IsRunBy}
 use Rattle.step_machine.specs.Places.{times, Places}
 use Rattle.step_machine.specs.Chains.{last_node}
-use Rattle.step_machine.specs.TwoLock.{OfTwoLockWorlds, HasItsPlaces, KeepsQueueAndFreeApart, HasTailMoved, TailNamesTheLast, raised_at, RaisesBelowTheLimit, HasCause, HasCauseFor, RefusesWithCause}
+use Rattle.step_machine.specs.EachQueue.{HasItsPlaces, KeepsQueueAndFreeApart, raised_at, RaisesBelowTheLimit, HasCause, HasCauseFor, RefusesWithCause}
+use Rattle.step_machine.specs.TwoLock.{OfTwoLockWorlds, HasTailMoved, TailNamesTheLast}
+use Rattle.step_machine.proofs.Choices.{either}
 use Rattle.step_machine.proofs.Reached.{reached_in_range, actor_in_range}
 use Rattle.step_machine.proofs.StampsLists.{same_or_not}
 use Rattle.step_machine.proofs.Chains.{one_if_same, chain_same}
@@ -125,19 +114,13 @@ raise_below_the_limit w r e me a l is at =
 record Caused (w : World) (o : Outcome) : Type 0 where
   cause : HasCauseFor w o.reply
 
-either : (w : World) (b : Bool) (x y : Outcome) → (b ≡ true → Caused w x) → (b ≡ false → Caused w y) → Caused w (if b then x else y)
-either w true x y hx hy = hx refl
-either w false x y hx hy = hy refl
-
 with_node_caused : (w : World) (kind : Kind) (a : Actor) → Caused w (goes (with_node kind) a)
 with_node_caused w kind a = record { cause = tt }
 
 freed_caused : (w : World) (kind : Kind) (now : ℕ) (due : Option Reply) (a : Actor) → EarnedFreeing due → Caused w (freed kind now due a)
 freed_caused w kind now None a h = record { cause = tt }
-freed_caused w kind now (Some Done) a h = absurd h
 freed_caused w kind now (Some (Value v)) a h = record { cause = tt }
-freed_caused w kind now (Some Empty) a h = absurd h
-freed_caused w kind now (Some (Refused why)) a h = absurd h
+freed_caused w kind now _ a h = absurd h
 
 unlocked_caused : (w : World) (now : ℕ) (noted : ℕ) (due : Option Reply) (a : Actor) → EarnedUnlocking due → Unlocks (λ k. Unit {0}) w.setup.limit w.shared noted due → Caused w (unlocked now due a)
 unlocked_caused w now noted None a h k = absurd h
@@ -155,27 +138,27 @@ no_node w a g low null none =
 caused : (w : World) (now me : ℕ) (a : Actor) (l : Line) → WorldInRange w → RegistersInRange w.setup w.shared.fresh (length w.actors) a → IsRunBy (section_of l) TwoLock → FixedAt w.setup.limit me a (Some l) → (last : ℕ) → KnowsAt (λ k. Unit {0}) w.setup w.shared last a (Some l) → Caused w (outcome w.setup now me a l (found (action w.setup me a l) w.shared))
 caused w now me a N1 g c r f last k = record { cause = tt }
 caused w now me a N2 g c r f last k =
-    either w (is_null w.shared.free) _ _
-    (λ e. either w (nat_lt a.f w.setup.size) _ _ (λ n. record { cause = tt }) (λ n. record { cause = no_node w a g c.f e n }))
-    (λ e. either w (nat_eq w.shared.free.count w.setup.limit) _ _ (λ n. record { cause = eqb-true w.shared.free.count w.setup.limit n }) (λ n. record { cause = tt }))
+    either (Caused w) (is_null w.shared.free)
+    (λ e. either (Caused w) (nat_lt a.f w.setup.size) (λ n. record { cause = tt }) (λ n. record { cause = no_node w a g c.f e n }))
+    (λ e. either (Caused w) (nat_eq w.shared.free.count w.setup.limit) (λ n. record { cause = eqb-true w.shared.free.count w.setup.limit n }) (λ n. record { cause = tt }))
 caused w now me a N3 g c r f last k = record { cause = tt }
-caused w now me a N4 g c r f last k = either w (same_ref w.shared.free a.top) _ _ (λ e. with_node_caused w w.setup.kind (takes a.top.node a.next.count a)) (λ e. record { cause = tt })
-caused w now me a N5 g c r f last k = either w (nat_eq w.shared.fresh a.f) _ _ (λ e. with_node_caused w w.setup.kind (takes (a.f + 1) 0 a)) (λ e. record { cause = tt })
+caused w now me a N4 g c r f last k = either (Caused w) (same_ref w.shared.free a.top) (λ e. with_node_caused w w.setup.kind (takes a.top.node a.next.count a)) (λ e. record { cause = tt })
+caused w now me a N5 g c r f last k = either (Caused w) (nat_eq w.shared.fresh a.f) (λ e. with_node_caused w w.setup.kind (takes (a.f + 1) 0 a)) (λ e. record { cause = tt })
 caused w now me a F1 g c r f last k =
-    either w (nat_eq w.shared.free.count w.setup.limit) _ _ (λ e. record { cause = (freed_caused w w.setup.kind now a.due (record a { top = w.shared.free }) f.earned).cause }) (λ e. record { cause = tt })
+    either (Caused w) (nat_eq w.shared.free.count w.setup.limit) (λ e. record { cause = (freed_caused w w.setup.kind now a.due (record a { top = w.shared.free }) f.earned).cause }) (λ e. record { cause = tt })
 caused w now me a F2 g c r f last k = record { cause = tt }
-caused w now me a F3 g c r f last k = either w (same_ref w.shared.free a.top) _ _ (λ e. freed_caused w w.setup.kind now a.due (lets_go a) f.earned) (λ e. record { cause = tt })
+caused w now me a F3 g c r f last k = either (Caused w) (same_ref w.shared.free a.top) (λ e. freed_caused w w.setup.kind now a.due (lets_go a) f.earned) (λ e. record { cause = tt })
 caused w now me a A1 g c r f last k = record { cause = tt }
 caused w now me a A2 g c r f last k = record { cause = tt }
-caused w now me a A3 g c r f last k = either w (nat_eq w.shared.tail_lock 0) _ _ (λ e. record { cause = tt }) (λ e. record { cause = tt })
+caused w now me a A3 g c r f last k = either (Caused w) (nat_eq w.shared.tail_lock 0) (λ e. record { cause = tt }) (λ e. record { cause = tt })
 caused w now me a A4 g c r f last k = record { cause = tt }
 caused w now me a A5 g c r f last k = record { cause = tt }
 caused w now me a A6 g c r f last k = record { cause = tt }
 caused w now me a A7 g c r f last k = record { cause = tt }
-caused w now me a B1 g c r f last k = either w (nat_eq w.shared.head_lock 0) _ _ (λ e. record { cause = tt }) (λ e. record { cause = tt })
+caused w now me a B1 g c r f last k = either (Caused w) (nat_eq w.shared.head_lock 0) (λ e. record { cause = tt }) (λ e. record { cause = tt })
 caused w now me a B2 g c r f last k = record { cause = tt }
-caused w now me a B3 g c r f last k = either w (is_null (node_at w.shared a.head.node).next) _ _ (λ e. record { cause = tt }) (λ e. record { cause = tt })
-caused w now me a B4 g c r f last k = either w (nat_eq a.head.count w.setup.limit) _ _ (λ e. record { cause = tt }) (λ e. record { cause = tt })
+caused w now me a B3 g c r f last k = either (Caused w) (is_null (node_at w.shared a.head.node).next) (λ e. record { cause = tt }) (λ e. record { cause = tt })
+caused w now me a B4 g c r f last k = either (Caused w) (nat_eq a.head.count w.setup.limit) (λ e. record { cause = tt }) (λ e. record { cause = tt })
 caused w now me a B5 g c r f last k = record { cause = tt }
 caused w now me a B6 g c r f last k = unlocked_caused w now a.noted a.due a f.earned k
 caused w now me a _ g c r f last k = absurd r

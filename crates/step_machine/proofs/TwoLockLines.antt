@@ -1,35 +1,20 @@
 -- Each step and each giving up of the two-lock queue: which effect it has, and what its actor knows then.
 use Rattle.std.proofs.Common.{◌≡◌, ◌≢◌, ℕ, ◌+◌, ◌≤◌, Bool, true, false, nat_eq, nat_lt, if◌then◌else◌, List, [], ◌∷◌, ◌++◌, length, Option, Some, None, IfSome, refl, sym, ap, ◌∙◌, subst, arith, inl, inr}
 use Rattle.std.proofs.lemmas.Bool.{eqb-true}
-use Rattle.counted_ref.specs.Ref.{Ref, ref, is_null, same_ref}
-use Rattle.line_table.specs.declared.lines.Kind.{Kind}
-use Rattle.line_table.specs.declared.lines.Kind.TheVariants.{TwoLock, NonBlocking}
-use Rattle.line_table.specs.declared.lines.Line.{Line}
-use Rattle.line_table.specs.declared.lines.Line.TheVariants.{N1, N2, N3, N4, N5, F1, F2, F3, E5, D2, A1, A2, A3, A4, A5, A6, A7, B1, B2, B3, B4, B5, B6}
-use Rattle.line_table.specs.Sections.{section_of}
-use Rattle.history.specs.declared.refusals.Refusal.{Refusal}
-use Rattle.history.specs.declared.refusals.Refusal.TheVariants.{NoNode, WornOut, Busy}
-use Rattle.history.specs.declared.refusals.WornWord.TheVariants.{Free as OfFree, Head as OfHead}
-use Rattle.history.specs.declared.operations.Reply.{Reply}
-use Rattle.history.specs.declared.operations.Reply.TheVariants.{Done, Value, Empty, Refused}
-use Rattle.history.specs.History.{leaves}
-use Rattle.line_steps.specs.declared.actors.Setup.{Setup}
-use Rattle.line_steps.specs.declared.actors.Actor.{Actor}
-use Rattle.line_steps.specs.declared.actors.Node.{Node}
-use Rattle.line_steps.specs.declared.actors.Outcome.{Outcome}
-use Rattle.line_steps.specs.Memory.{Shared, node_at, put, Fresh, Free, Head, Tail, Tail_lock, Head_lock, found, performed}
-use Rattle.line_steps.specs.Lines.{action, outcome, raised, goes, ends, sets_aside, takes, lets_go, to_pocket, with_node, freed, unlocked, busy_or, gives_up}
+use Rattle.step_machine.specs.Below.{Ref, ref, is_null, same_ref, Kind, TwoLock, NonBlocking, Line, N1, N2, N3, N4, N5, F1, F2, F3, E5, D2, A1, A2, A3, A4, A5, A6, A7, B1, B2, B3, B4, B5, B6, section_of, OfFree, OfHead, Refusal, NoNode, WornOut, Busy, Reply, Done, Value, Empty, Refused, leaves, Setup, Node, Actor, Outcome, Shared, node_at, put, Fresh, Free, Head, Tail, Tail_lock, Head_lock, found, performed, action, outcome, raised, goes, ends, sets_aside, takes, lets_go, to_pocket, with_node, freed, unlocked, busy_or, gives_up}
+use Rattle.counted_ref.proofs.Words.{same_ref-true}
 use Rattle.step_machine.specs.Range.{SharedInRange, RegistersInRange}
 use Rattle.step_machine.specs.Standing.{HoldsNodes, IsRunBy}
 use Rattle.step_machine.specs.Places.{one_if, in_hand, in_pocket}
 use Rattle.step_machine.specs.Chains.{last_node}
 use Rattle.step_machine.specs.Promises.{earned, promised_reply}
+use Rattle.step_machine.proofs.Choices.{either, tried}
 use Rattle.step_machine.proofs.Chains.{next_in, chain_none, last_linked, second_leads}
 use Rattle.step_machine.proofs.Counting.{holds, holds_hand, holds_own}
 use Rattle.step_machine.proofs.Effects.{Shape, Turn, Took, written, next_keeps_value, turn_words, turn_aside, turn_claim, turn_take, turn_giveback, turn_node, turn_link, turn_pop, with_node as node_set}
 use Rattle.step_machine.proofs.Fixed.{FixedAt, EarnedFreeing, EarnedUnlocking}
 use Rattle.step_machine.proofs.Older.{Rises}
-use Rattle.step_machine.proofs.Accounts.{KeepsReply, Account, quiet, refused, found_empty, pushed, popped, same_ref-true, raised_node, raised_count}
+use Rattle.step_machine.proofs.Accounts.{KeepsReply, Account, quiet, refused, found_empty, pushed, popped, raised_node, raised_count}
 use Rattle.step_machine.proofs.TwoLockKnows.{OwnsAt, Owns, has_tail, has_head, Unlocks, KnowsAt, LocksKept}
 
 -- the node that a step sets aside was in the actor's hand
@@ -76,15 +61,6 @@ module _ (Z : ℕ → Type 0) (s : Setup) (k : ℕ) (m : Shared) (E : ℕ → �
   -- what a step does, by the words and the outcome
   abbrev Does : Shared → Outcome → Type 0
   Does m' o = After Z s m h rest free me now a m' o
-
-  -- a choice between two outcomes, and between what they do with the words
-  either : (b : Bool) (x y : Outcome) → (b ≡ true → Does m x) → (b ≡ false → Does m y) → Does m (if b then x else y)
-  either true x y hx hy = hx refl
-  either false x y hx hy = hy refl
-
-  chosen : (b : Bool) (m1 : Shared) (x y : Outcome) → (b ≡ true → Does m1 x) → (b ≡ false → Does m y) → Does (if b then m1 else m) (if b then x else y)
-  chosen true m1 x y hx hy = hx refl
-  chosen false m1 x y hx hy = hy refl
 
   -- a step that writes no word
   still : (l : Line) (o : Outcome) → Before Z s k m E h rest free me a l → ((n : ℕ) → holds n o.actor ≡ holds n a) → o.aside ≡ None → KnowsAt (Found rest now) s m (last_node (h ∷ rest)) o.actor o.actor.line → OwnsAt m me o.actor.line → Account Z me now m m (h ∷ rest) (h ∷ rest) a o → Does m o
@@ -133,10 +109,10 @@ module _ (Z : ℕ → Type 0) (s : Setup) (k : ℕ) (m : Shared) (E : ℕ → �
   line_N2 : Before Z s k m E h rest free me a N2 → Does m (outcome s now me a N2 m.free)
   line_N2 b =
       let c : Actor = record a { top = m.free } in
-      either (is_null m.free) _ _
-      (λ e. either (nat_lt a.f s.size) _ _ (λ f. goes_still N2 N5 c b (λ n. refl) tt b.owns (inl (ap earned b.fixed.earned)))
+      either (Does m) (is_null m.free)
+      (λ e. either (Does m) (nat_lt a.f s.size) (λ f. goes_still N2 N5 c b (λ n. refl) tt b.owns (inl (ap earned b.fixed.earned)))
       (λ f. refuses N2 c NoNode b (λ n. refl) b.owns refl (ap earned b.fixed.earned)))
-      (λ e. either (nat_eq m.free.count s.limit) _ _ (λ f. refuses N2 c (WornOut OfFree) b (λ n. refl) b.owns refl (ap earned b.fixed.earned))
+      (λ e. either (Does m) (nat_eq m.free.count s.limit) (λ f. refuses N2 c (WornOut OfFree) b (λ n. refl) b.owns refl (ap earned b.fixed.earned))
       (λ f. goes_still N2 N3 c b (λ n. refl) (inl refl) b.owns (inl (ap earned b.fixed.earned))))
 
   line_N3 : Before Z s k m E h rest free me a N3 → Does m (outcome s now me a N3 (node_at m a.top.node).next)
@@ -171,7 +147,7 @@ module _ (Z : ℕ → Type 0) (s : Setup) (k : ℕ) (m : Shared) (E : ℕ → �
 
   line_N4 : Before Z s k m E h rest free me a N4 → Does (performed (action s me a N4) m) (outcome s now me a N4 m.free)
   line_N4 b =
-      chosen (same_ref m.free a.top) _ _ _ (takes_free b)
+      tried Does (same_ref m.free a.top) (takes_free b)
       (λ e. goes_still N4 N1 a b (λ n. refl) tt b.owns (inl (ap earned b.fixed.earned)))
 
   -- the exchange that takes a node that was never used
@@ -193,7 +169,7 @@ module _ (Z : ℕ → Type 0) (s : Setup) (k : ℕ) (m : Shared) (E : ℕ → �
 
   line_N5 : Before Z s k m E h rest free me a N5 → Does (performed (action s me a N5) m) (outcome s now me a N5 m.fresh)
   line_N5 b =
-      chosen (nat_eq m.fresh a.f) _ _ _ (claims b) (λ e. goes_still N5 N1 a b (λ n. refl) tt b.owns (inl (ap earned b.fixed.earned)))
+      tried Does (nat_eq m.fresh a.f) (claims b) (λ e. goes_still N5 N1 a b (λ n. refl) tt b.owns (inl (ap earned b.fixed.earned)))
 
   -- the node in hand is one of those used
   within : (l : Line) → Before Z s k m E h rest free me a l → a.node ≤ length m.nodes
@@ -222,10 +198,8 @@ module _ (Z : ℕ → Type 0) (s : Setup) (k : ℕ) (m : Shared) (E : ℕ → �
   -- the reply of a call that frees a node is the one that it earned
   frees_keep : (o : Outcome) (due : Option Reply) → EarnedFreeing due → a.due ≡ due → ((n : ℕ) → promised_reply o.reply (Some n) o.actor.due ≡ due) → KeepsReply a o
   frees_keep o None e d same = inl (ap earned d)
-  frees_keep o (Some Done) e d same = absurd e
   frees_keep o (Some (Value v)) e d same = inr (λ n. same n ∙ sym (ap earned d))
-  frees_keep o (Some Empty) e d same = absurd e
-  frees_keep o (Some (Refused why)) e d same = absurd e
+  frees_keep o _ e d same = absurd e
 
   aside_freed : (c : Actor) (kind : Kind) (due : Option Reply) → Before Z s k m E h rest free me a F1 → c.node ≡ a.node → c.pocket ≡ a.pocket → c.due ≡ due → a.due ≡ due → EarnedFreeing due → Does m (sets_aside (freed kind now due c))
   aside_freed c TwoLock None b n p d f e =
@@ -244,15 +218,13 @@ module _ (Z : ℕ → Type 0) (s : Setup) (k : ℕ) (m : Shared) (E : ℕ → �
   line_F1 : Before Z s k m E h rest free me a F1 → Does m (outcome s now me a F1 m.free)
   line_F1 b =
       let c : Actor = record a { top = m.free } in
-      either (nat_eq m.free.count s.limit) _ _ (λ e. aside_freed c s.kind a.due b refl refl refl refl b.fixed.earned)
+      either (Does m) (nat_eq m.free.count s.limit) (λ e. aside_freed c s.kind a.due b refl refl refl refl b.fixed.earned)
       (λ e. goes_still F1 F2 c b (λ n. refl) tt b.owns (frees_keep (goes F2 c) a.due b.fixed.earned refl (λ n. kept n a.due b.fixed.earned)))
     where
       kept : (n : ℕ) (due : Option Reply) → EarnedFreeing due → promised_reply None (Some n) due ≡ due
       kept n None e = refl
-      kept n (Some Done) e = absurd e
       kept n (Some (Value v)) e = refl
-      kept n (Some Empty) e = absurd e
-      kept n (Some (Refused why)) e = absurd e
+      kept n _ e = absurd e
 
   -- the node in hand is written
   writes_own : (l : Line) (o : Outcome) (x : Node) → Before Z s k m E h rest free me a l → a.holds ≡ true → a.pocket ≡ None → 1 ≤ a.node → ((n : ℕ) → holds n o.actor ≡ holds n a) → o.aside ≡ None → KnowsAt (Found rest now) s (node_set m a.node x) (last_node (h ∷ rest)) o.actor o.actor.line → OwnsAt m me o.actor.line → o.at ≡ None → KeepsReply a o → Does (node_set m a.node x) o
@@ -280,10 +252,8 @@ module _ (Z : ℕ → Type 0) (s : Setup) (k : ℕ) (m : Shared) (E : ℕ → �
     where
       keeps : (due : Option Reply) → EarnedFreeing due → KeepsReply (record a { due = due }) (goes F3 (record a { due = due }))
       keeps None e = inl refl
-      keeps (Some Done) e = absurd e
       keeps (Some (Value v)) e = inr (λ n. refl)
-      keeps (Some Empty) e = absurd e
-      keeps (Some (Refused why)) e = absurd e
+      keeps _ e = absurd e
 
   -- the free nodes, with the one in hand before them
   gives_back : (o : Outcome) → Before Z s k m E h rest free me a F3 → same_ref m.free a.top ≡ true → o.aside ≡ None → ((n : ℕ) → holds n o.actor ≡ in_pocket n a.pocket) → KnowsAt (Found rest now) s (put Free (raised s a.top a.node) m) (last_node (h ∷ rest)) o.actor o.actor.line → OwnsAt m me o.actor.line → o.at ≡ None → KeepsReply a o → Does (put Free (raised s a.top a.node) m) o
@@ -316,26 +286,22 @@ module _ (Z : ℕ → Type 0) (s : Setup) (k : ℕ) (m : Shared) (E : ℕ → �
     where
       left : (n : ℕ) → in_hand n c + in_pocket n c.pocket ≡ in_pocket n a.pocket
       left n = omega (arith, ap (λ (x : Bool). if x then one_if (nat_eq n c.node) else 0) z, ap (in_pocket n) p)
-  freed_back c kind (Some Done) b e p z d f = absurd f
   freed_back c kind (Some (Value v)) b e p z d f =
       gives_back (freed kind now (Some (Value v)) c) b e refl (λ n. left n) tt b.owns refl (inr (λ n. sym (ap earned d)))
     where
       left : (n : ℕ) → in_hand n c + in_pocket n c.pocket ≡ in_pocket n a.pocket
       left n = omega (arith, ap (λ (x : Bool). if x then one_if (nat_eq n c.node) else 0) z, ap (in_pocket n) p)
-  freed_back c kind (Some Empty) b e p z d f = absurd f
-  freed_back c kind (Some (Refused why)) b e p z d f = absurd f
+  freed_back c kind _ b e p z d f = absurd f
 
   -- the reply earned stays
   keeps_due : (due : Option Reply) → EarnedFreeing due → (n : ℕ) → promised_reply None (Some n) due ≡ due
   keeps_due None e n = refl
-  keeps_due (Some Done) e n = absurd e
   keeps_due (Some (Value v)) e n = refl
-  keeps_due (Some Empty) e n = absurd e
-  keeps_due (Some (Refused why)) e n = absurd e
+  keeps_due _ e n = absurd e
 
   line_F3 : Before Z s k m E h rest free me a F3 → Does (performed (action s me a F3) m) (outcome s now me a F3 m.free)
   line_F3 b =
-      chosen (same_ref m.free a.top) _ _ _ (λ e. freed_back (lets_go a) s.kind a.due b e refl refl refl b.fixed.earned)
+      tried Does (same_ref m.free a.top) (λ e. freed_back (lets_go a) s.kind a.due b e refl refl refl b.fixed.earned)
       (λ e. goes_still F3 F1 a b (λ n. refl) tt b.owns (frees_keep (goes F1 a) a.due b.fixed.earned refl (keeps_due a.due b.fixed.earned)))
 
   line_A1 : Before Z s k m E h rest free me a A1 → Does (performed (action s me a A1) m) (outcome s now me a A1 (node_at m a.node).value)
@@ -372,7 +338,7 @@ module _ (Z : ℕ → Type 0) (s : Setup) (k : ℕ) (m : Shared) (E : ℕ → �
 
   line_A3 : Before Z s k m E h rest free me a A3 → Does (performed (action s me a A3) m) (outcome s now me a A3 m.tail_lock)
   line_A3 b =
-      chosen (nat_eq m.tail_lock 0) _ _ _ won (λ e. goes_still A3 A3 a b (λ n. refl) b.knows b.owns (inl (ap earned b.fixed.earned)))
+      tried Does (nat_eq m.tail_lock 0) won (λ e. goes_still A3 A3 a b (λ n. refl) b.knows b.owns (inl (ap earned b.fixed.earned)))
     where
       won : nat_eq m.tail_lock 0 ≡ true → Does (put Tail_lock me m) (goes A4 a)
       won e =
@@ -449,7 +415,7 @@ module _ (Z : ℕ → Type 0) (s : Setup) (k : ℕ) (m : Shared) (E : ℕ → �
 
   line_B1 : Before Z s k m E h rest free me a B1 → Does (performed (action s me a B1) m) (outcome s now me a B1 m.head_lock)
   line_B1 b =
-      chosen (nat_eq m.head_lock 0) _ _ _ won (λ e. goes_still B1 B1 a b (λ n. refl) tt b.owns (inl (ap earned b.fixed.earned)))
+      tried Does (nat_eq m.head_lock 0) won (λ e. goes_still B1 B1 a b (λ n. refl) tt b.owns (inl (ap earned b.fixed.earned)))
     where
       won : nat_eq m.head_lock 0 ≡ true → Does (put Head_lock me m) (goes B2 a)
       won e =
@@ -469,7 +435,7 @@ module _ (Z : ℕ → Type 0) (s : Setup) (k : ℕ) (m : Shared) (E : ℕ → �
   line_B3 : Before Z s k m E h rest free me a B3 → Does m (outcome s now me a B3 (node_at m a.head.node).next)
   line_B3 b =
       let c : Actor = record a { next = (node_at m a.head.node).next; noted = now } in
-      either (is_null (node_at m a.head.node).next) _ _
+      either (Does m) (is_null (node_at m a.head.node).next)
       (λ e. goes_still B3 B6 (record c { due = Some Empty }) b (λ n. refl) (none e, refl) b.owns (inl (ap earned b.fixed.earned)))
       (λ e. goes_still B3 B4 c b (λ n. refl) (b.knows, refl) b.owns (inl (ap earned b.fixed.earned)))
     where
@@ -482,7 +448,7 @@ module _ (Z : ℕ → Type 0) (s : Setup) (k : ℕ) (m : Shared) (E : ℕ → �
   line_B4 : Before Z s k m E h rest free me a B4 → Does m (outcome s now me a B4 (node_at m a.next.node).value)
   line_B4 b =
       let c : Actor = record a { val = (node_at m a.next.node).value } in
-      either (nat_eq a.head.count s.limit) _ _
+      either (Does m) (nat_eq a.head.count s.limit)
       (λ e. goes_still B4 B6 (record c { due = Some (Refused (WornOut OfHead)) }) b (λ n. refl) (ap (λ (r : Ref). r.count) b.knows.0 ∙ eqb-true a.head.count s.limit e) b.owns (inl (ap earned b.fixed.earned)))
       (λ e. goes_still B4 B5 c b (λ n. refl) (b.knows.0, b.knows.1, refl) b.owns (inl (ap earned b.fixed.earned)))
 

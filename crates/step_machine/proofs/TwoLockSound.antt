@@ -2,28 +2,13 @@
 -- and its queue's chain may be carried along: `Carries`.
 use Rattle.std.proofs.Common.{◌≡◌, ◌≢◌, ℕ, zero, suc, get_or, ◌+◌, ◌-◌, ◌≤◌, Bool, true, false, nat_eq, if◌then◌else◌, List, [], ◌∷◌, length, replicate, Option, Some, None, refl, sym, ap, ◌∙◌, subst, arith, ◌⊎◌, inl, inr}
 use Rattle.std.specs.Prelude.{slice_get}
-use Rattle.line_table.specs.declared.lines.Kind.{Kind}
-use Rattle.line_table.specs.declared.lines.Kind.TheVariants.{TwoLock, NonBlocking}
-use Rattle.line_table.specs.declared.lines.Line.{Line}
-use Rattle.line_table.specs.declared.lines.Line.TheVariants.{F1, E2, A1}
-use Rattle.line_table.specs.Sections.{section_of}
-use Rattle.history.specs.declared.operations.Op.{Op}
-use Rattle.history.specs.declared.operations.Op.TheVariants.{Enq, Deq}
-use Rattle.line_steps.specs.declared.actors.Setup.{Setup}
-use Rattle.line_steps.specs.declared.actors.Actor.{Actor}
-use Rattle.line_steps.specs.declared.actors.Held.{Held}
-use Rattle.line_steps.specs.declared.actors.Outcome.{Outcome}
-use Rattle.line_steps.specs.Memory.{blank, Shared, node_at, found, performed}
-use Rattle.line_steps.specs.Lines.{action, outcome, gives_up}
-use Rattle.line_steps.specs.Calling.{is_call, from_pocket, begun}
+use Rattle.step_machine.specs.Below.{Kind, TwoLock, NonBlocking, Line, F1, E2, A1, section_of, Op, Enq, Deq, Setup, Held, Actor, Outcome, blank, Shared, node_at, found, performed, action, outcome, gives_up, is_call, from_pocket, begun}
 use Rattle.step_machine.specs.Machine.{World, idle, opening, actor_of, rested, may_rest, with_actor, entry_or, settled, stepped, IsSized, IsReached}
 use Rattle.step_machine.specs.Range.{WorldInRange, ActorInRange}
 use Rattle.step_machine.specs.Standing.{IsRunBy, HoldsNodes, Stands, ActorStands}
 use Rattle.step_machine.specs.Places.{one_if, times, in_pocket, held, set_aside}
 use Rattle.step_machine.specs.Chains.{last_node}
 use Rattle.std.proofs.Math.ListN.{length-replicate}
-use Rattle.step_machine.proofs.StampsLines.{Turns, turned, given_turned}
-use Rattle.step_machine.proofs.StampsKept.{Does}
 use Rattle.step_machine.proofs.Reached.{some_of, reached_in_range, actor_in_range, actor_of-All}
 use Rattle.step_machine.proofs.Naming.{two_lock_stands}
 use Rattle.step_machine.proofs.StampsKept.{actor_stands, actor_cases}
@@ -34,7 +19,7 @@ use Rattle.step_machine.proofs.Effects.{Shape, Writes, shape_turned, hand_kept, 
 use Rattle.step_machine.proofs.Fixed.{FixedAt, Fixes, fixed, fixed_given, fixed_entry, fixed_begun}
 use Rattle.step_machine.proofs.Older.{Rises}
 use Rattle.step_machine.proofs.Reaching.{each_reached}
-use Rattle.step_machine.proofs.LegalMoves.{same_op, same_op_given}
+use Rattle.step_machine.proofs.Carrying.{NumberedMove, stepped_move, given_move, Carried, Carries, Moving, nothing}
 use Rattle.step_machine.proofs.TwoLockKnows.{OwnsAt, KnowsAt, NodesKept, LocksKept, locks_kept, knows_kept, knows_entry, knows_more}
 use Rattle.step_machine.proofs.TwoLockLines.{IsOwn, Found, Before, After, does, gives}
 
@@ -270,20 +255,6 @@ opening_sound Z s actors h =
           (record { fixed = refl; knows = tt; owns = (let one : 1 ≤ me = at.0 in λ e. omega arith, let one : 1 ≤ me = at.0 in λ e. omega arith) });
     }
 
--- what an actor's step carries along
-pub record Carried (L : World → List ℕ → Type 0) (Z : World → ℕ → Type 0) (w v : World) (rest queue' : List ℕ) : Type 0 where
-  pub fact : L v queue'
-  pub keeps : (k : ℕ) → Z w k → Z v k
-  pub finds : rest ≡ [] → Z v (w.steps + 1)
-
--- a further fact of a world and its queue's chain, and one of the numbers noted where the queue was empty, which the
--- moves carry along
-pub record Carries (L : World → List ℕ → Type 0) (Z : World → ℕ → Type 0) : Type 1 where
-  pub told : (w : World) (me : ℕ) (a : Actor) (l : Line) (m' : Shared) (o : Outcome) (h : ℕ) (rest free : List ℕ) → IsReached w → w.setup.kind ≡ TwoLock → actor_of w me ≡ Some a → a.line ≡ Some l → Sound (Z w) w (h ∷ rest) free → (t : After (Z w) w.setup w.shared h rest free me (w.steps + 1) a m' o) → Does (w.steps + 1) l a.due a.noted o → o.actor.op ≡ a.op → L w (h ∷ rest) → Carried L Z w (settled w me a m' o) rest t.queue'
-  pub began : (w : World) (me : ℕ) (op : Op) (a : Actor) (queue : List ℕ) → IsReached w → actor_of w me ≡ Some a → a.line ≡ None → L w queue → L (with_actor w me (begun w.setup.kind me op a)) queue × ((k : ℕ) → Z w k → Z (with_actor w me (begun w.setup.kind me op a)) k)
-  pub at_rest : (w : World) (me : ℕ) (a : Actor) (l : Line) (queue : List ℕ) → IsReached w → actor_of w me ≡ Some a → a.line ≡ Some l → may_rest l ≡ true → L w queue → L (with_actor w me (rested a)) queue × ((k : ℕ) → Z w k → Z (with_actor w me (rested a)) k)
-  pub starts : (s : Setup) (actors : ℕ) → IsSized s actors → L (opening s actors) (1 ∷ [])
-
 -- a world's chains, with what holds of them
 pub record Proved (L : World → List ℕ → Type 0) (Z : World → ℕ → Type 0) (w : World) : Type 0 where
   pub queue : List ℕ
@@ -292,85 +263,76 @@ pub record Proved (L : World → List ℕ → Type 0) (Z : World → ℕ → Typ
   pub fact : L w queue
 
 module _ (L : World → List ℕ → Type 0) (Z : World → ℕ → Type 0) (carries : Carries L Z) where
-  -- the queue's chain begins with the node of Head
-  headed : (w : World) → IsReached w → w.setup.kind ≡ TwoLock → (p : Proved L Z w) → (rest : List ℕ) × (p.queue ≡ w.shared.head.node ∷ rest)
-  headed w r e p = chain_some w.shared.nodes w.shared.head.node p.queue (head_some w r e) p.sound.shape.queue_chain
+  -- the same with the node of Head apart, at which the queue's chain begins
+  record Headed (w : World) : Type 0 where
+    rest : List ℕ
+    free : List ℕ
+    sound : Sound (Z w) w (w.shared.head.node ∷ rest) free
+    fact : L w (w.shared.head.node ∷ rest)
 
-  -- what a move of an actor does, with the chains before it
-  pub record Doing (w : World) (me : ℕ) (a : Actor) (m' : Shared) (o : Outcome) : Type 0 where
-    pub rest : List ℕ
-    pub free : List ℕ
-    pub sound : Sound (Z w) w (w.shared.head.node ∷ rest) free
-    pub fact : L w (w.shared.head.node ∷ rest)
-    pub does : After (Z w) w.setup w.shared w.shared.head.node rest free me (w.steps + 1) a m' o
+  headed : (w : World) → IsReached w → w.setup.kind ≡ TwoLock → Proved L Z w → Headed w
+  headed w r e p =
+      let h : (rest : List ℕ) × (p.queue ≡ w.shared.head.node ∷ rest) = chain_some w.shared.nodes w.shared.head.node p.queue (head_some w r e) p.sound.shape.queue_chain in
+      record { rest = h.0; free = p.free; sound = subst (λ q. Sound (Z w) w q p.free) h.1 p.sound; fact = subst (λ q. L w q) h.1 p.fact }
 
-  -- what the step of an actor does
-  pub step_does : (w : World) (me : ℕ) (a : Actor) (l : Line) → IsReached w → w.setup.kind ≡ TwoLock → actor_of w me ≡ Some a → a.line ≡ Some l → Proved L Z w → Doing w me a (performed (action w.setup me a l) w.shared) (outcome w.setup (w.steps + 1) me a l (found (action w.setup me a l) w.shared))
-  step_does w me a l r e is at p =
-      let hd : (rest : List ℕ) × (p.queue ≡ w.shared.head.node ∷ rest) = headed w r e p in
-      let so : Sound (Z w) w (w.shared.head.node ∷ hd.0) p.free = subst (λ q. Sound (Z w) w q p.free) hd.1 p.sound in
+  fixed_at : (w : World) (me : ℕ) (a : Actor) (l : Line) → actor_of w me ≡ Some a → a.line ≡ Some l → (q : Headed w) → FixedAt w.setup.limit me a (Some l)
+  fixed_at w me a l is at q = subst (FixedAt w.setup.limit me a) at (q.sound.actors me a is).fixed
+
+  -- what a step or a giving up does
+  abbrev Effect : (w : World) (me : ℕ) → Actor → Headed w → Shared → Outcome → Type 0
+  Effect w me a q m' o = After (Z w) w.setup w.shared w.shared.head.node q.rest q.free me (w.steps + 1) a m' o
+
+  step_does : (w : World) (me : ℕ) (a : Actor) (l : Line) → IsReached w → w.setup.kind ≡ TwoLock → actor_of w me ≡ Some a → a.line ≡ Some l → (q : Headed w) → Effect w me a q (performed (action w.setup me a l) w.shared) (outcome w.setup (w.steps + 1) me a l (found (action w.setup me a l) w.shared))
+  step_does w me a l r e is at q =
+      does (Z w) w.setup (length w.actors) w.shared (elsewhere w) w.shared.head.node q.rest q.free me (w.steps + 1) a l (nodes_at w r e me a l is at).0
+      (before (Z w) w me a l w.shared.head.node q.rest q.free r e is at q.sound)
+
+  give_does : (w : World) (me : ℕ) (a : Actor) (l : Line) (o : Outcome) → IsReached w → w.setup.kind ≡ TwoLock → actor_of w me ≡ Some a → a.line ≡ Some l → gives_up (w.steps + 1) a l ≡ Some o → (q : Headed w) → Effect w me a q w.shared o
+  give_does w me a l o r e is at given q =
+      some_of (Effect w me a q w.shared) (gives_up (w.steps + 1) a l) o given
+      (gives (Z w) w.setup (length w.actors) w.shared (elsewhere w) w.shared.head.node q.rest q.free me (w.steps + 1) a l (nodes_at w r e me a l is at).0
+      (before (Z w) w me a l w.shared.head.node q.rest q.free r e is at q.sound))
+
+  -- they are numbered moves
+  step_move : (w : World) (me : ℕ) (a : Actor) (l : Line) → IsReached w → actor_of w me ≡ Some a → a.line ≡ Some l → (q : Headed w) → (t : Effect w me a q (performed (action w.setup me a l) w.shared) (outcome w.setup (w.steps + 1) me a l (found (action w.setup me a l) w.shared))) → NumberedMove (Z w) w me a (performed (action w.setup me a l) w.shared) (outcome w.setup (w.steps + 1) me a l (found (action w.setup me a l) w.shared)) w.shared.head.node q.rest t.queue'
+  step_move w me a l r is at q t =
+      stepped_move (Z w) w me a l w.shared.head.node q.rest q.free t.queue' r is at q.sound.shape (fixed_at w me a l is at q) t.turn.writes t.account
+
+  give_move : (w : World) (me : ℕ) (a : Actor) (l : Line) (o : Outcome) → IsReached w → actor_of w me ≡ Some a → a.line ≡ Some l → gives_up (w.steps + 1) a l ≡ Some o → (q : Headed w) → (t : Effect w me a q w.shared o) → NumberedMove (Z w) w me a w.shared o w.shared.head.node q.rest t.queue'
+  give_move w me a l o r is at given q t =
+      given_move (Z w) w me a l o w.shared.head.node q.rest q.free t.queue' r is at given q.sound.shape (fixed_at w me a l is at q) t.turn.writes t.account
+
+  pub step_moving : (w : World) (me : ℕ) (a : Actor) (l : Line) → IsReached w → w.setup.kind ≡ TwoLock → actor_of w me ≡ Some a → a.line ≡ Some l → Proved L Z w → Moving L Z w me a (performed (action w.setup me a l) w.shared) (outcome w.setup (w.steps + 1) me a l (found (action w.setup me a l) w.shared))
+  step_moving w me a l r e is at p =
+      let q : Headed w = headed w r e p in
+      record { front = w.shared.head.node; rest = q.rest; queue' = _; move = step_move w me a l r is at q (step_does w me a l r e is at q); fact = q.fact }
+
+  pub give_moving : (w : World) (me : ℕ) (a : Actor) (l : Line) (o : Outcome) → IsReached w → w.setup.kind ≡ TwoLock → actor_of w me ≡ Some a → a.line ≡ Some l → gives_up (w.steps + 1) a l ≡ Some o → Proved L Z w → Moving L Z w me a w.shared o
+  give_moving w me a l o r e is at given p =
+      let q : Headed w = headed w r e p in
+      record { front = w.shared.head.node; rest = q.rest; queue' = _; move = give_move w me a l o r is at given q (give_does w me a l o r e is at given q); fact = q.fact }
+
+  proved_by : (w : World) (me : ℕ) (a : Actor) (l : Line) (m' : Shared) (o : Outcome) → IsReached w → w.setup.kind ≡ TwoLock → actor_of w me ≡ Some a → a.line ≡ Some l → (q : Headed w) → (t : Effect w me a q m' o) → NumberedMove (Z w) w me a m' o w.shared.head.node q.rest t.queue' → Fixes w.setup.limit me o → Proved L Z (settled w me a m' o)
+  proved_by w me a l m' o r e is at q t move f =
+      let c : Carried L Z w (settled w me a m' o) q.rest t.queue' = carries.told w me a m' o w.shared.head.node q.rest t.queue' move q.fact in
       record {
-        rest = hd.0;
-        free = p.free;
-        sound = so;
-        fact = subst (λ q. L w q) hd.1 p.fact;
-        does =
-            does (Z w) w.setup (length w.actors) w.shared (elsewhere w) w.shared.head.node hd.0 p.free me (w.steps + 1) a l (nodes_at w r e me a l is at).0
-            (before (Z w) w me a l w.shared.head.node hd.0 p.free r e is at so);
-      }
-
-  -- and what giving up does
-  pub give_does : (w : World) (me : ℕ) (a : Actor) (l : Line) (o : Outcome) → IsReached w → w.setup.kind ≡ TwoLock → actor_of w me ≡ Some a → a.line ≡ Some l → gives_up (w.steps + 1) a l ≡ Some o → Proved L Z w → Doing w me a w.shared o
-  give_does w me a l o r e is at given p =
-      let hd : (rest : List ℕ) × (p.queue ≡ w.shared.head.node ∷ rest) = headed w r e p in
-      let so : Sound (Z w) w (w.shared.head.node ∷ hd.0) p.free = subst (λ q. Sound (Z w) w q p.free) hd.1 p.sound in
-      record {
-        rest = hd.0;
-        free = p.free;
-        sound = so;
-        fact = subst (λ q. L w q) hd.1 p.fact;
-        does =
-            some_of (After (Z w) w.setup w.shared w.shared.head.node hd.0 p.free me (w.steps + 1) a w.shared) (gives_up (w.steps + 1) a l) o given
-            (gives (Z w) w.setup (length w.actors) w.shared (elsewhere w) w.shared.head.node hd.0 p.free me (w.steps + 1) a l (nodes_at w r e me a l is at).0
-            (before (Z w) w me a l w.shared.head.node hd.0 p.free r e is at so));
+        queue = t.queue';
+        free = t.free';
+        sound = sound_settled (Z w) (Z (settled w me a m' o)) w me a l m' o w.shared.head.node q.rest q.free r e is at q.sound f t c.keeps c.finds;
+        fact = c.fact;
       }
 
   proved_step : (w : World) (me : ℕ) (a : Actor) (l : Line) → IsReached w → w.setup.kind ≡ TwoLock → actor_of w me ≡ Some a → a.line ≡ Some l → Proved L Z w → Proved L Z (stepped w me a l)
   proved_step w me a l r e is at p =
-      let d : Doing w me a (performed (action w.setup me a l) w.shared) o = step_does w me a l r e is at p in
-      let c : Carried L Z w (stepped w me a l) d.rest d.does.queue' =
-      carries.told w me a l (performed (action w.setup me a l) w.shared) o w.shared.head.node d.rest d.free r e is at d.sound d.does
-      (λ Q place n p stands. turned Q w.setup (w.steps + 1) me a l (found (action w.setup me a l) w.shared) place n p stands)
-      (same_op w.setup (w.steps + 1) me a l (found (action w.setup me a l) w.shared)) d.fact in
-      record {
-        queue = d.does.queue';
-        free = d.does.free';
-        sound =
-            sound_settled (Z w) (Z (stepped w me a l)) w me a l (performed (action w.setup me a l) w.shared) o w.shared.head.node d.rest d.free r e is at d.sound
-            (fixed w.setup (w.steps + 1) me a l (found (action w.setup me a l) w.shared) (subst (FixedAt w.setup.limit me a) at (d.sound.actors me a is).fixed)) d.does
-            c.keeps c.finds;
-        fact = c.fact;
-      }
-    where
-      o : Outcome
-      o = outcome w.setup (w.steps + 1) me a l (found (action w.setup me a l) w.shared)
+      let q : Headed w = headed w r e p in
+      proved_by w me a l _ _ r e is at q (step_does w me a l r e is at q) (step_move w me a l r is at q (step_does w me a l r e is at q))
+      (fixed w.setup (w.steps + 1) me a l (found (action w.setup me a l) w.shared) (fixed_at w me a l is at q))
 
   proved_given : (w : World) (me : ℕ) (a : Actor) (l : Line) (o : Outcome) → IsReached w → w.setup.kind ≡ TwoLock → actor_of w me ≡ Some a → a.line ≡ Some l → gives_up (w.steps + 1) a l ≡ Some o → Proved L Z w → Proved L Z (settled w me a w.shared o)
   proved_given w me a l o r e is at given p =
-      let d : Doing w me a w.shared o = give_does w me a l o r e is at given p in
-      let c : Carried L Z w (settled w me a w.shared o) d.rest d.does.queue' =
-      carries.told w me a l w.shared o w.shared.head.node d.rest d.free r e is at d.sound d.does
-      (λ Q place n p stands. some_of (Turns Q place) (gives_up (w.steps + 1) a l) o given (given_turned Q (w.steps + 1) a l place n p stands))
-      (some_of (λ x. x.actor.op ≡ a.op) (gives_up (w.steps + 1) a l) o given (same_op_given (w.steps + 1) a l)) d.fact in
-      record {
-        queue = d.does.queue';
-        free = d.does.free';
-        sound =
-            sound_settled (Z w) (Z (settled w me a w.shared o)) w me a l w.shared o w.shared.head.node d.rest d.free r e is at d.sound
-            (some_of (Fixes w.setup.limit me) (gives_up (w.steps + 1) a l) o given
-            (fixed_given w.setup.limit (w.steps + 1) me a l (subst (FixedAt w.setup.limit me a) at (d.sound.actors me a is).fixed))) d.does c.keeps c.finds;
-        fact = c.fact;
-      }
+      let q : Headed w = headed w r e p in
+      proved_by w me a l w.shared o r e is at q (give_does w me a l o r e is at given q) (give_move w me a l o r is at given q (give_does w me a l o r e is at given q))
+      (some_of (Fixes w.setup.limit me) (gives_up (w.steps + 1) a l) o given (fixed_given w.setup.limit (w.steps + 1) me a l (fixed_at w me a l is at q)))
 
   proved_begun : (w : World) (me : ℕ) (op : Op) (a : Actor) → IsReached w → w.setup.kind ≡ TwoLock → actor_of w me ≡ Some a → a.line ≡ None → is_call op ≡ true → Proved L Z w → Proved L Z (with_actor w me (begun w.setup.kind me op a))
   proved_begun w me op a r e is at call p =
@@ -413,16 +375,6 @@ module _ (L : World → List ℕ → Type 0) (Z : World → ℕ → Type 0) (car
       each_reached TwoLock (Proved L Z)
       (record { step = proved_step; gave_up = proved_given; began = proved_begun; at_rest = proved_rested })
       (λ s actors sized e. record { queue = 1 ∷ []; free = []; sound = opening_sound (Z (opening s actors)) s actors sized; fact = carries.starts s actors sized })
-
--- nothing more is carried along
-nothing : Carries (λ w q. Unit {0}) (λ w k. Unit {0})
-nothing =
-    record {
-      told = λ w me a l m' o h rest free r e is at so t d p f. record { fact = tt; keeps = λ k z. tt; finds = λ e. tt };
-      began = λ w me op a q r is at f. (tt, λ k z. tt);
-      at_rest = λ w me a l q r is at may f. (tt, λ k z. tt);
-      starts = λ s actors h. tt;
-    }
 
 -- each world that is reached has its chains
 pub reached_sound : (w : World) → IsReached w → w.setup.kind ≡ TwoLock → Proved (λ w q. Unit {0}) (λ w k. Unit {0}) w

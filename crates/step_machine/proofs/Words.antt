@@ -1,9 +1,6 @@
 -- Each access of a word is the access of its place in the table.
 use Rattle.std.proofs.Common.{◌≡◌, ℕ, zero, suc, ◌+◌, ◌-◌, ◌*◌, ◌<◌, ◌≤◌, List, [], ◌∷◌, length, get_or, set, refl, sym, ap, subst, arith}
-use Rattle.counted_ref.specs.Ref.{Ref, ref_word}
-use Rattle.history.specs.declared.operations.Taken.{Taken}
-use Rattle.line_steps.specs.declared.actors.Node.{Node}
-use Rattle.line_steps.specs.Memory.{blank, Shared, Word, Fresh, Free, Head, Tail, Tail_lock, Head_lock, Next, Value_of, Content, content, put}
+use Rattle.step_machine.specs.Below.{Ref, ref_word, Taken, Node, blank, Shared, Word, Next, Value_of, Content, content, put}
 use Rattle.step_machine.specs.Words.{value_word, encoded, node_words, words_of, index, IsWord}
 
 next_word : (ns : List Node) (k : ℕ) → k < length ns → get_or (node_words ns) (2 * k) 0 ≡ ref_word (get_or ns k blank).next
@@ -41,12 +38,6 @@ before s ws =
 
 -- reading a word is reading its place of the table
 pub reading : (s : Shared) (x : Word) → IsWord s x → get_or (words_of s) (index x) 0 ≡ encoded x (content x s)
-reading s Fresh h = refl
-reading s Free h = refl
-reading s Head h = refl
-reading s Tail h = refl
-reading s Tail_lock h = refl
-reading s Head_lock h = refl
 reading s (Next zero) h = let some : 1 ≤ 0 = h.0 in absurd (omega arith)
 reading s (Next (suc k)) h =
     let within : suc k ≤ length s.nodes = h.1 in
@@ -59,15 +50,10 @@ reading s (Value_of (suc k)) h =
     let e : 5 + 2 * suc k ≡ suc (suc (suc (suc (suc (suc (suc (2 * k))))))) = omega arith in
     let f : suc k - 1 ≡ k = omega arith in
     rw e (subst (λ j. get_or (node_words s.nodes) (suc (2 * k)) 0 ≡ value_word (get_or s.nodes j blank).value) (sym f) (value_of_word s.nodes k (omega arith)))
+reading s _ h = refl
 
 -- writing a word is writing its place of the table
 pub writing : (s : Shared) (x : Word) (c : Content x) → IsWord s x → words_of (put x c s) ≡ set (words_of s) (index x) (encoded x c)
-writing s Fresh c h = refl
-writing s Free c h = refl
-writing s Head c h = refl
-writing s Tail c h = refl
-writing s Tail_lock c h = refl
-writing s Head_lock c h = refl
 writing s (Next zero) c h = let some : 1 ≤ 0 = h.0 in absurd (omega arith)
 writing s (Next (suc k)) c h =
     let within : suc k ≤ length s.nodes = h.1 in
@@ -84,3 +70,4 @@ writing s (Value_of (suc k)) c h =
     rw e
     (ap (before s)
     (subst (λ j. node_words (set s.nodes j (record (get_or s.nodes j blank) { value = c })) ≡ set (node_words s.nodes) (suc (2 * k)) (value_word c)) (sym f) (value_put s.nodes k c (omega arith))))
+writing s _ c h = refl

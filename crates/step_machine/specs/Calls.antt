@@ -1,15 +1,6 @@
 -- What the calls of a world answer, and why each is refused.
 use Rattle.std.specs.Prelude.{◌≡◌, ℕ, ◌+◌, ◌-◌, ◌^◌, ◌<◌, ◌≤◌, ◌⊎◌, Option, Some, None, IsSome, IsNone, IsSomeAnd}
-use Rattle.line_table.specs.declared.lines.Kind.{Kind}
-use Rattle.line_table.specs.declared.lines.Line.{Line}
-use Rattle.history.specs.declared.operations.Reply.{Reply}
-use Rattle.history.specs.declared.refusals.Refusal.{Refusal}
-use Rattle.history.specs.declared.refusals.Refusal.TheVariants.{NoNode, WornOut, Busy, Memory, BadSize, IdleActor, ActorBusy, NotHere, NoSuchActor, Text, Read, Write, Stranger, Double, Lost, Closed}
-use Rattle.line_steps.specs.declared.actors.Setup.{Setup}
-use Rattle.line_steps.specs.declared.actors.Actor.{Actor}
-use Rattle.line_steps.specs.declared.actors.Outcome.{Outcome}
-use Rattle.line_steps.specs.Memory.{found}
-use Rattle.line_steps.specs.Lines.{action, outcome, gives_up}
+use Rattle.step_machine.specs.Below.{Kind, Line, Refusal, Memory, BadSize, IdleActor, ActorBusy, NotHere, NoSuchActor, Reply, Setup, Actor, Outcome, found, action, outcome, gives_up}
 use Rattle.step_machine.specs.declared.actors.Move.{Move}
 use Rattle.step_machine.specs.declared.actors.Move.TheVariants.{Begin, Step, Give}
 use Rattle.step_machine.specs.declared.actors.Stepped.{Stepped}
@@ -29,20 +20,7 @@ setup_of kind nodes limit = record { kind = kind; size = nodes; limit = limit }
 abbrev pub NewRefused : Setup → (actors : ℕ) → Refusal → Type 0
 NewRefused s actors BadSize = IsUnsized s actors
 NewRefused s actors Memory = IsSized s actors
-NewRefused s actors NoNode = ⊥
-NewRefused s actors (WornOut word) = ⊥
-NewRefused s actors Busy = ⊥
-NewRefused s actors IdleActor = ⊥
-NewRefused s actors ActorBusy = ⊥
-NewRefused s actors NotHere = ⊥
-NewRefused s actors NoSuchActor = ⊥
-NewRefused s actors (Text line cause) = ⊥
-NewRefused s actors Read = ⊥
-NewRefused s actors Write = ⊥
-NewRefused s actors Stranger = ⊥
-NewRefused s actors Double = ⊥
-NewRefused s actors Lost = ⊥
-NewRefused s actors Closed = ⊥
+NewRefused s actors _ = ⊥
 
 -- an actor is there and has no call
 abbrev pub IsIdle : World → (me : ℕ) → Type 0
@@ -71,38 +49,14 @@ abbrev pub BeginRefused : World → (me : ℕ) → Refusal → Type 0
 BeginRefused w me NoSuchActor = actor_of w me ≡ None
 BeginRefused w me ActorBusy = IsBusy w me
 BeginRefused w me Memory = IsIdle w me
-BeginRefused w me NoNode = ⊥
-BeginRefused w me (WornOut word) = ⊥
-BeginRefused w me Busy = ⊥
-BeginRefused w me BadSize = ⊥
-BeginRefused w me IdleActor = ⊥
-BeginRefused w me NotHere = ⊥
-BeginRefused w me (Text line cause) = ⊥
-BeginRefused w me Read = ⊥
-BeginRefused w me Write = ⊥
-BeginRefused w me Stranger = ⊥
-BeginRefused w me Double = ⊥
-BeginRefused w me Lost = ⊥
-BeginRefused w me Closed = ⊥
+BeginRefused w me _ = ⊥
 
 -- a step is refused for this cause: the actor isn't there, has no call, or all step numbers are used
 abbrev pub StepRefused : World → (me : ℕ) → Refusal → Type 0
 StepRefused w me NoSuchActor = actor_of w me ≡ None
 StepRefused w me IdleActor = IsIdle w me
 StepRefused w me BadSize = IsBusy w me × IsSpent w
-StepRefused w me NoNode = ⊥
-StepRefused w me (WornOut word) = ⊥
-StepRefused w me Busy = ⊥
-StepRefused w me Memory = ⊥
-StepRefused w me ActorBusy = ⊥
-StepRefused w me NotHere = ⊥
-StepRefused w me (Text line cause) = ⊥
-StepRefused w me Read = ⊥
-StepRefused w me Write = ⊥
-StepRefused w me Stranger = ⊥
-StepRefused w me Double = ⊥
-StepRefused w me Lost = ⊥
-StepRefused w me Closed = ⊥
+StepRefused w me _ = ⊥
 
 -- giving up is refused for this cause: the actor isn't there, has no call, is at no start of a turn, or all step numbers
 -- are used
@@ -111,18 +65,7 @@ GiveRefused w me NoSuchActor = actor_of w me ≡ None
 GiveRefused w me IdleActor = IsIdle w me
 GiveRefused w me NotHere = IsBusy w me × IsNone (giving_up w (actor_of w me))
 GiveRefused w me BadSize = IsSome (giving_up w (actor_of w me)) × IsSpent w
-GiveRefused w me NoNode = ⊥
-GiveRefused w me (WornOut word) = ⊥
-GiveRefused w me Busy = ⊥
-GiveRefused w me Memory = ⊥
-GiveRefused w me ActorBusy = ⊥
-GiveRefused w me (Text line cause) = ⊥
-GiveRefused w me Read = ⊥
-GiveRefused w me Write = ⊥
-GiveRefused w me Stranger = ⊥
-GiveRefused w me Double = ⊥
-GiveRefused w me Lost = ⊥
-GiveRefused w me Closed = ⊥
+GiveRefused w me _ = ⊥
 
 -- a move is refused for this cause
 abbrev pub MoveRefused : World → Move → Refusal → Type 0

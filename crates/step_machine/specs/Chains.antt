@@ -1,7 +1,6 @@
 -- What a chain of nodes has: a last node, and the values of the nodes behind its first one.
 use Rattle.std.specs.Prelude.{ℕ, List, [], ◌∷◌, map}
-use Rattle.history.specs.declared.operations.Taken.{Taken}
-use Rattle.line_steps.specs.Memory.{Shared, node_at}
+use Rattle.step_machine.specs.Below.{Taken, Shared, node_at}
 
 -- the last node of a chain; 0 of the empty one
 abbrev pub last_node : List ℕ → ℕ

@@ -1,16 +1,7 @@
 -- The entries of a world: the pushes and the pops of its operations that had their effect.
-use Rattle.std.specs.Prelude.{ℕ, ◌+◌, ◌<◌, ◌≤◌, List, [], ◌∷◌, Option, Some, None}
+use Rattle.std.specs.Prelude.{ℕ, ◌+◌, ◌<◌, ◌≤◌, List, [], ◌∷◌, Option, Some}
 use Rattle.std.specs.List.{count_by, flat_map}
-use Rattle.history.specs.declared.operations.Op.{Op}
-use Rattle.history.specs.declared.operations.Op.TheVariants.{Enq, Deq}
-use Rattle.history.specs.declared.operations.Reply.{Reply}
-use Rattle.history.specs.declared.operations.Reply.TheVariants.{Done, Value, Empty, Refused}
-use Rattle.history.specs.declared.operations.Entry.{Entry}
-use Rattle.history.specs.declared.operations.Entry.TheVariants.{Push, Pop}
-use Rattle.history.specs.declared.operations.Stamped.{Stamped}
-use Rattle.history.specs.Queue.{empty}
-use Rattle.history.specs.Entries.{is_push, is_pop, Plays}
-use Rattle.history.specs.History.{rising}
+use Rattle.step_machine.specs.Below.{Op, Enq, Deq, Reply, Done, Value, Stamped, Entry, Push, Pop, empty, is_push, is_pop, Plays, rising}
 use Rattle.step_machine.specs.Machine.{World}
 use Rattle.step_machine.specs.Places.{IsChain}
 use Rattle.step_machine.specs.Chains.{queue_values}
@@ -23,11 +14,9 @@ pushed_by me Deq = []
 
 -- the entry of an operation with a reply: the push of one that is done, the pop of one that got a value, and else none
 abbrev pub entry_with : (me : ℕ) → Op → Option Reply → List Entry
-entry_with me op None = []
 entry_with me op (Some Done) = pushed_by me op
 entry_with me op (Some (Value v)) = Pop me v ∷ []
-entry_with me op (Some Empty) = []
-entry_with me op (Some (Refused why)) = []
+entry_with me op _ = []
 
 -- the same of a stamped operation
 abbrev pub entry_of : Stamped → List Entry

@@ -1,7 +1,6 @@
 -- What is said of every history: of either queue, and after any list of moves.
 use Rattle.std.specs.Prelude.{ℕ, List, IfSome}
-use Rattle.history.specs.declared.operations.Stamped.{Stamped}
-use Rattle.line_steps.specs.declared.actors.Setup.{Setup}
+use Rattle.step_machine.specs.Below.{Stamped, Setup}
 use Rattle.step_machine.specs.Machine.{World, opening, AnyMove, run, IsSized, IsReached}
 
 -- a fact holds of each world that is reached

@@ -1,8 +1,10 @@
+pub mod Below
 pub mod Machine
 pub mod Words
 pub mod Places
 pub mod Chains
 pub mod Promises
+pub mod EachQueue
 pub mod TwoLock
 pub mod Views
 pub mod Calls

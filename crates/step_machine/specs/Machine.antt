@@ -1,19 +1,6 @@
 -- The machine: worlds, their moves, and what a list of moves leads to.
 use Rattle.std.specs.Prelude.{◌≡◌, ℕ, ◌+◌, ◌-◌, ◌^◌, ◌<◌, ◌≤◌, Bool, List, [], ◌∷◌, ◌++◌, length, map, replicate, Option, Some, None, slice_get, slice_index_or, slice_set, nat_eq, if◌then◌else◌, true, false}
-use Rattle.counted_ref.specs.Ref.{null}
-use Rattle.line_table.specs.declared.lines.Line.{Line}
-use Rattle.line_table.specs.declared.lines.Line.TheVariants.{N1, N2, N3, N4, N5, F1, F2, F3, E2, E3, E5, E6, E7, E9, E13, E17, D2, D3, D4, D5, D10, D12, D13, A1, A2, A3, A4, A5, A6, A7, B1, B2, B3, B4, B5, B6}
-use Rattle.history.specs.declared.operations.Op.{Op}
-use Rattle.history.specs.declared.operations.Op.TheVariants.{Deq}
-use Rattle.history.specs.declared.operations.Reply.{Reply}
-use Rattle.history.specs.declared.operations.Stamped.{Stamped}
-use Rattle.line_steps.specs.declared.actors.Setup.{Setup}
-use Rattle.line_steps.specs.declared.actors.Actor.{Actor}
-use Rattle.line_steps.specs.declared.actors.Outcome.{Outcome}
-use Rattle.line_steps.specs.Memory.{nobody, Shared, found, performed}
-use Rattle.line_steps.specs.Lines.{action, outcome, gives_up, to_pocket}
-use Rattle.line_steps.specs.Rooms.{first_words, aside_after}
-use Rattle.line_steps.specs.Calling.{is_call, begun}
+use Rattle.step_machine.specs.Below.{null, Line, E2, A1, Op, Deq, Reply, Stamped, Setup, Actor, Outcome, nobody, Shared, found, performed, action, outcome, gives_up, to_pocket, is_call, begun, first_words, aside_after}
 use Rattle.step_machine.specs.declared.actors.Move.{Move}
 use Rattle.step_machine.specs.declared.actors.Move.TheVariants.{Begin, Step, Give}
 
@@ -142,40 +129,7 @@ gives w me a (Some l) = given w me a (gives_up (w.steps + 1) a l)
 abbrev pub may_rest : Line → Bool
 may_rest E2 = true
 may_rest A1 = true
-may_rest N1 = false
-may_rest N2 = false
-may_rest N3 = false
-may_rest N4 = false
-may_rest N5 = false
-may_rest F1 = false
-may_rest F2 = false
-may_rest F3 = false
-may_rest E3 = false
-may_rest E5 = false
-may_rest E6 = false
-may_rest E7 = false
-may_rest E9 = false
-may_rest E13 = false
-may_rest E17 = false
-may_rest D2 = false
-may_rest D3 = false
-may_rest D4 = false
-may_rest D5 = false
-may_rest D10 = false
-may_rest D12 = false
-may_rest D13 = false
-may_rest A2 = false
-may_rest A3 = false
-may_rest A4 = false
-may_rest A5 = false
-may_rest A6 = false
-may_rest A7 = false
-may_rest B1 = false
-may_rest B2 = false
-may_rest B3 = false
-may_rest B4 = false
-may_rest B5 = false
-may_rest B6 = false
+may_rest _ = false
 
 -- the world after an actor that has a call rests
 abbrev pub rests : World → (me : ℕ) → Actor → Option Line → Option World

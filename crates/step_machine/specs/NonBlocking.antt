@@ -1,15 +1,7 @@
 -- What the laws of the non-blocking queue say of each of its worlds.
 use Rattle.std.specs.Prelude.{◌≡◌, ◌≢◌, ℕ, ◌+◌, ◌≤◌, List, ◌∷◌, Some}
 use Rattle.std.specs.List.{All}
-use Rattle.line_table.specs.declared.lines.Kind.TheVariants.{NonBlocking}
-use Rattle.line_table.specs.declared.lines.Line.{Line}
-use Rattle.line_table.specs.declared.lines.Line.TheVariants.{D13}
-use Rattle.history.specs.declared.refusals.WornWord.TheVariants.{Next as OfNext, Head as OfHead}
-use Rattle.history.specs.declared.refusals.Refusal.TheVariants.{WornOut}
-use Rattle.history.specs.declared.operations.Reply.TheVariants.{Refused}
-use Rattle.line_steps.specs.declared.actors.Actor.{Actor}
-use Rattle.line_steps.specs.Memory.{Shared, node_at, found}
-use Rattle.line_steps.specs.Lines.{action, outcome}
+use Rattle.step_machine.specs.Below.{NonBlocking, Line, D13, OfNext, OfHead, WornOut, Refused, Actor, Shared, node_at, found, action, outcome}
 use Rattle.step_machine.specs.Machine.{World, actor_of, IsReached}
 use Rattle.step_machine.specs.Places.{IsChain}
 use Rattle.step_machine.specs.Lag.{TailLags}

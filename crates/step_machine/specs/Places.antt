@@ -1,9 +1,6 @@
 -- Where each node is: five sets of nodes, which know nothing of lines.
 use Rattle.std.specs.Prelude.{◌≡◌, ℕ, ◌+◌, ◌-◌, ◌<◌, ◌≤◌, Bool, true, false, nat_eq, if◌then◌else◌, List, [], ◌∷◌, length, Option, Some, None, slice_index_or, Contains}
-use Rattle.line_steps.specs.declared.actors.Actor.{Actor}
-use Rattle.line_steps.specs.declared.actors.Held.{Held}
-use Rattle.line_steps.specs.declared.actors.Node.{Node}
-use Rattle.line_steps.specs.Memory.{blank}
+use Rattle.step_machine.specs.Below.{Node, Held, Actor, blank}
 use Rattle.step_machine.specs.Machine.{World}
 
 -- these nodes, each the `next` of the one before, lead from a node number to null

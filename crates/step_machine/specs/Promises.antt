@@ -1,19 +1,14 @@
 -- The replies that calls under way have earned, and the operations with them.
 use Rattle.std.specs.Prelude.{ℕ, Bool, true, false, List, map, Option, Some, None}
 use Rattle.std.specs.List.{count_by}
-use Rattle.history.specs.declared.operations.Reply.{Reply}
-use Rattle.history.specs.declared.operations.Reply.TheVariants.{Done, Value, Empty, Refused}
-use Rattle.history.specs.declared.operations.Stamped.{Stamped}
-use Rattle.line_steps.specs.declared.actors.Actor.{Actor}
+use Rattle.step_machine.specs.Below.{Reply, Done, Value, Stamped, Actor}
 use Rattle.step_machine.specs.Machine.{World, actor_of}
 
 -- the reply that a call has earned by its effect: done, or the value taken; an empty reply and a refusal have none
 abbrev pub earned : Option Reply → Option Reply
-earned None = None
 earned (Some Done) = Some Done
 earned (Some (Value v)) = Some (Value v)
-earned (Some Empty) = None
-earned (Some (Refused why)) = None
+earned _ = None
 
 -- what the call of an actor will answer, where that is settled
 abbrev pub due_of : Option Actor → Option Reply
@@ -36,11 +31,8 @@ promises w = map (promised w) w.operations
 
 -- whether a reply is a value
 abbrev pub is_value : Option Reply → Bool
-is_value None = false
-is_value (Some Done) = false
 is_value (Some (Value v)) = true
-is_value (Some Empty) = false
-is_value (Some (Refused why)) = false
+is_value _ = false
 
 -- how many operations have taken a value
 abbrev pub values_taken : List Stamped → ℕ

@@ -1,17 +1,7 @@
 -- Every number in a world is in the range of its word.
 use Rattle.std.specs.Prelude.{◌≡◌, ℕ, ◌^◌, ◌<◌, ◌≤◌, length, Option, Some, IfSome}
 use Rattle.std.specs.List.{All}
-use Rattle.counted_ref.specs.Ref.{Ref}
-use Rattle.line_table.specs.declared.lines.Line.{Line}
-use Rattle.line_table.specs.declared.lines.Line.TheVariants.{N5}
-use Rattle.history.specs.declared.operations.Op.{Op}
-use Rattle.history.specs.declared.operations.Op.TheVariants.{Enq, Deq}
-use Rattle.history.specs.declared.operations.Taken.{Taken}
-use Rattle.line_steps.specs.declared.actors.Setup.{Setup}
-use Rattle.line_steps.specs.declared.actors.Actor.{Actor}
-use Rattle.line_steps.specs.declared.actors.Held.{Held}
-use Rattle.line_steps.specs.declared.actors.Node.{Node}
-use Rattle.line_steps.specs.Memory.{Shared}
+use Rattle.step_machine.specs.Below.{Ref, Line, N5, Op, Enq, Deq, Taken, Setup, Node, Held, Actor, Shared}
 use Rattle.step_machine.specs.Machine.{World, IsSized}
 
 -- a reference names one of the first `fresh` nodes or none, and its count is at most the limit

@@ -1,8 +1,6 @@
 -- How soon an actor ends its call, where no other one makes a move.
 use Rattle.std.specs.Prelude.{◌≡◌, ℕ, ◌≤◌, replicate, Some, IsSomeAnd}
-use Rattle.line_table.specs.declared.lines.Kind.TheVariants.{NonBlocking}
-use Rattle.history.specs.declared.operations.Op.{Op}
-use Rattle.history.specs.declared.operations.Op.TheVariants.{Enq, Deq}
+use Rattle.step_machine.specs.Below.{NonBlocking, Op, Enq, Deq}
 use Rattle.step_machine.specs.declared.actors.Move.TheVariants.{Begin, Step}
 use Rattle.step_machine.specs.Machine.{World, made, next, run}
 use Rattle.step_machine.specs.Calls.{IsIdle}

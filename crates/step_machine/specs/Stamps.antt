@@ -1,8 +1,6 @@
 -- What the stamps of operations name: numbers of their actors' own moves, one operation of an actor after the other.
 use Rattle.std.specs.Prelude.{◌≡◌, ℕ, ◌-◌, ◌<◌, ◌≤◌, ◌⊎◌, List, [], ◌∷◌, ◌++◌, map, Some, None, IfSome, IsSomeAnd, slice_get}
-use Rattle.history.specs.declared.operations.Stamped.{Stamped}
-use Rattle.history.specs.History.{IsPlaced}
-use Rattle.line_steps.specs.declared.actors.Setup.{Setup}
+use Rattle.step_machine.specs.Below.{Stamped, IsPlaced, Setup}
 use Rattle.step_machine.specs.declared.actors.Move.{Move}
 use Rattle.step_machine.specs.declared.actors.Move.TheVariants.{Begin, Step, Give}
 use Rattle.step_machine.specs.Machine.{World, opening, AnyMove, made, Rest, run}

@@ -1,16 +1,7 @@
 -- Before which lines the actors of a world stand, and which registers hold nodes there.
 use Rattle.std.specs.Prelude.{◌≡◌, ℕ, ◌≤◌, Option, Some, None, IfSome}
-use Rattle.line_table.specs.declared.lines.Kind.{Kind}
-use Rattle.line_table.specs.declared.lines.Kind.TheVariants.{TwoLock, NonBlocking}
-use Rattle.line_table.specs.declared.lines.Line.{Line}
-use Rattle.line_table.specs.declared.lines.Line.TheVariants.{N1, N2, N3, N4, N5, F1, F2, F3, E2, E3, E5, E6, E7, E9, E13, E17, D2, D3, D4, D5, D10, D12, D13, A1, A2, A3, A4, A5, A6, A7, B1, B2, B3, B4, B5, B6}
-use Rattle.line_table.specs.declared.lines.Section.{Section}
+use Rattle.step_machine.specs.Below.{Kind, TwoLock, NonBlocking, Line, N1, N2, N3, N4, N5, F1, F2, F3, E2, E3, E5, E6, E7, E9, E13, E17, D2, D3, D4, D5, D10, D12, D13, A1, A2, A3, A4, A5, A6, A7, B1, B2, B3, B4, B5, B6, Section, section_of, Reply, Value, Actor, word}
 use Rattle.line_table.specs.declared.lines.Section.TheVariants.{NewNode, Free, Enqueue, Dequeue, LockedEnqueue, LockedDequeue}
-use Rattle.line_table.specs.Sections.{section_of}
-use Rattle.history.specs.declared.operations.Reply.{Reply}
-use Rattle.history.specs.declared.operations.Reply.TheVariants.{Done, Value, Empty, Refused}
-use Rattle.line_steps.specs.declared.actors.Actor.{Actor}
-use Rattle.line_steps.specs.Memory.{word}
 use Rattle.step_machine.specs.Words.{IsWord}
 use Rattle.step_machine.specs.Machine.{World, actor_of}
 use Rattle.step_machine.specs.Tables.{IsOneStep, OfEachNextAccess}
@@ -32,9 +23,7 @@ IsRunBy LockedDequeue TwoLock = Unit {0}
 abbrev pub HasNodeToFree : Option Reply → (node : ℕ) → Type 0
 HasNodeToFree None node = 1 ≤ node
 HasNodeToFree (Some (Value v)) node = 1 ≤ node
-HasNodeToFree (Some Done) node = Unit {0}
-HasNodeToFree (Some Empty) node = Unit {0}
-HasNodeToFree (Some (Refused why)) node = Unit {0}
+HasNodeToFree _ node = Unit {0}
 
 -- the registers that hold nodes before a line, and not null
 abbrev pub HoldsNodes : Line → Actor → Type 0
@@ -83,11 +72,6 @@ Stands kind a (Some l) = IsRunBy (section_of l) kind × HoldsNodes l a
 -- an actor's pocket is empty or has a node, and it stands at its line
 abbrev pub ActorStands : Kind → Actor → Type 0
 ActorStands kind a = record { pocket : IfSome a.pocket (λ held. 1 ≤ held.node); line : Stands kind a a.line }
-
--- an actor's next line is one of its queue
-abbrev pub LineIsRunBy : Kind → Option Line → Type 0
-LineIsRunBy kind None = Unit {0}
-LineIsRunBy kind (Some l) = IsRunBy (section_of l) kind
 
 -- each actor that has a call stands before a line of its queue
 abbrev pub EachRunsItsQueue : World → Type 0

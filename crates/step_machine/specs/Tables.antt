@@ -1,11 +1,6 @@
 -- The table of numbers that holds the shared words: one atomic step on one of its places, and which contents fit it.
 use Rattle.std.specs.Prelude.{◌≡◌, ℕ, ◌^◌, ◌<◌, List, nat_eq, Some, slice_index_or, slice_set, bit_and, if◌then◌else◌}
-use Rattle.counted_ref.specs.Ref.{IsRef, count_mask}
-use Rattle.line_table.specs.declared.lines.Line.{Line}
-use Rattle.history.specs.declared.operations.Taken.{Taken}
-use Rattle.line_steps.specs.declared.actors.Actor.{Actor}
-use Rattle.line_steps.specs.Memory.{Shared, Word, Fresh, Free, Head, Tail, Tail_lock, Head_lock, Next, Value_of, Content, content, put, Action, load, store, clear, exchange, word, found, performed}
-use Rattle.line_steps.specs.Lines.{action}
+use Rattle.step_machine.specs.Below.{IsRef, count_mask, Line, Taken, Actor, Shared, Word, Fresh, Free, Head, Tail, Tail_lock, Head_lock, Next, Value_of, Content, content, put, Action, load, store, clear, exchange, word, found, performed, action}
 use Rattle.step_machine.specs.Machine.{World, actor_of}
 use Rattle.step_machine.specs.Words.{encoded, words_of, index, IsWord}
 

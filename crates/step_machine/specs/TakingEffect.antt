@@ -1,14 +1,7 @@
 -- Which step gives an operation its place: the one that changes the queue as a list.
 use Rattle.std.specs.Prelude.{◌≡◌, ℕ, ◌+◌, ◌≤◌, List, ◌∷◌, ◌++◌, map, Option, Some, None, IfSome}
 use Rattle.std.specs.List.{AllByRecursion}
-use Rattle.line_table.specs.declared.lines.Line.{Line}
-use Rattle.line_table.specs.declared.lines.Line.TheVariants.{N1, N2, N3, N4, N5, F1, F2, F3, E2, E3, E5, E6, E7, E9, E13, E17, D2, D3, D4, D5, D10, D12, D13, A1, A2, A3, A4, A5, A6, A7, B1, B2, B3, B4, B5, B6}
-use Rattle.history.specs.declared.operations.Reply.{Reply}
-use Rattle.history.specs.declared.operations.Reply.TheVariants.{Done, Value, Empty, Refused}
-use Rattle.history.specs.declared.operations.Stamped.{Stamped}
-use Rattle.line_steps.specs.declared.actors.Setup.{Setup}
-use Rattle.line_steps.specs.declared.actors.Actor.{Actor}
-use Rattle.line_steps.specs.Memory.{Shared, node_at}
+use Rattle.step_machine.specs.Below.{Line, E9, D13, A5, B5, Reply, Done, Value, Empty, Refused, Stamped, Setup, Actor, Shared, node_at}
 use Rattle.step_machine.specs.declared.actors.Move.{Move}
 use Rattle.step_machine.specs.declared.actors.Move.TheVariants.{Step}
 use Rattle.step_machine.specs.Machine.{World, opening, actor_of, AnyMove, made, run, IsMade}
@@ -16,42 +9,11 @@ use Rattle.step_machine.specs.Machine.{World, opening, actor_of, AnyMove, made, 
 -- an actor's step at a line has an effect on the queue: at E9 and D13 the word is still what the actor read, so that its
 -- exchange succeeds, and at A5 and B5 it always has one
 abbrev pub HasEffect : Shared → Actor → Line → Type 0
-HasEffect m a N1 = ⊥
-HasEffect m a N2 = ⊥
-HasEffect m a N3 = ⊥
-HasEffect m a N4 = ⊥
-HasEffect m a N5 = ⊥
-HasEffect m a F1 = ⊥
-HasEffect m a F2 = ⊥
-HasEffect m a F3 = ⊥
-HasEffect m a E2 = ⊥
-HasEffect m a E3 = ⊥
-HasEffect m a E5 = ⊥
-HasEffect m a E6 = ⊥
-HasEffect m a E7 = ⊥
 HasEffect m a E9 = (node_at m a.tail.node).next ≡ a.next
-HasEffect m a E13 = ⊥
-HasEffect m a E17 = ⊥
-HasEffect m a D2 = ⊥
-HasEffect m a D3 = ⊥
-HasEffect m a D4 = ⊥
-HasEffect m a D5 = ⊥
-HasEffect m a D10 = ⊥
-HasEffect m a D12 = ⊥
 HasEffect m a D13 = m.head ≡ a.head
-HasEffect m a A1 = ⊥
-HasEffect m a A2 = ⊥
-HasEffect m a A3 = ⊥
-HasEffect m a A4 = ⊥
 HasEffect m a A5 = Unit {0}
-HasEffect m a A6 = ⊥
-HasEffect m a A7 = ⊥
-HasEffect m a B1 = ⊥
-HasEffect m a B2 = ⊥
-HasEffect m a B3 = ⊥
-HasEffect m a B4 = ⊥
 HasEffect m a B5 = Unit {0}
-HasEffect m a B6 = ⊥
+HasEffect m a _ = ⊥
 
 -- in a list of moves, this number is that of an actor's step that had an effect
 pub record TookEffect (s : Setup) (actors : ℕ) (moves : List AnyMove) (me number : ℕ) : Type 0 where

@@ -1,37 +1,15 @@
 -- What the laws of the two-lock queue say of each of its worlds.
-use Rattle.std.specs.Prelude.{◌≡◌, ◌≢◌, ℕ, ◌+◌, ◌<◌, List, [], Option, Some, None, IfSome}
+use Rattle.std.specs.Prelude.{◌≡◌, ◌≢◌, ℕ, List, Some}
 use Rattle.std.specs.List.{All}
-use Rattle.counted_ref.specs.Ref.{Ref}
-use Rattle.line_table.specs.declared.lines.Kind.TheVariants.{TwoLock}
-use Rattle.line_table.specs.declared.lines.Line.{Line}
-use Rattle.line_table.specs.declared.lines.Line.TheVariants.{N1, N2, N3, N4, N5, F1, F2, F3, E2, E3, E5, E6, E7, E9, E13, E17, D2, D3, D4, D5, D10, D12, D13, A1, A2, A3, A4, A5, A6, A7, B1, B2, B3, B4, B5, B6}
-use Rattle.history.specs.declared.refusals.WornWord.{WornWord}
-use Rattle.history.specs.declared.refusals.WornWord.TheVariants.{Free as OfFree, Next as OfNext, Tail as OfTail, Head as OfHead}
-use Rattle.history.specs.declared.refusals.Refusal.{Refusal}
-use Rattle.history.specs.declared.refusals.Refusal.TheVariants.{NoNode, WornOut, Busy, Memory, BadSize, IdleActor, ActorBusy, NotHere, NoSuchActor, Text, Read, Write, Stranger, Double, Lost, Closed}
-use Rattle.history.specs.declared.operations.Reply.{Reply}
-use Rattle.history.specs.declared.operations.Reply.TheVariants.{Done, Value, Empty, Refused}
-use Rattle.history.specs.Queue.{empty}
-use Rattle.history.specs.History.{rising, Replays, replayed}
-use Rattle.line_steps.specs.declared.actors.Actor.{Actor}
-use Rattle.line_steps.specs.Memory.{node_at, found}
-use Rattle.line_steps.specs.Lines.{action, outcome}
+use Rattle.step_machine.specs.Below.{TwoLock, A6, Actor}
 use Rattle.step_machine.specs.Machine.{World, actor_of, IsReached}
-use Rattle.step_machine.specs.Places.{IsChain, IsQueued, IsFree, Places}
-use Rattle.step_machine.specs.Chains.{last_node, queue_values}
-use Rattle.step_machine.specs.Promises.{promises, values_taken}
+use Rattle.step_machine.specs.Places.{IsChain}
+use Rattle.step_machine.specs.Chains.{last_node}
+pub use Rattle.step_machine.specs.EachQueue.{HasItsPlaces, HasCause, HasCauseFor}
 
 -- a fact holds of each world of the two-lock queue that any moves lead to
 abbrev pub OfTwoLockWorlds : (World → Type 0) → Type 0
 OfTwoLockWorlds P = (w : World) → IsReached w → w.setup.kind ≡ TwoLock → P w
-
--- there are a chain from Head and one from Free, and each node used is in one place, once
-abbrev pub HasItsPlaces : World → Type 0
-HasItsPlaces w = (queue : List ℕ) × (free : List ℕ) × Places w queue free
-
--- no node is in the queue and free
-abbrev pub KeepsQueueAndFreeApart : World → Type 0
-KeepsQueueAndFreeApart w = (n : ℕ) → IsQueued w n → IsFree w n → ⊥
 
 -- no actor has linked its node and not yet moved Tail
 abbrev pub HasTailMoved : World → Type 0
@@ -45,98 +23,3 @@ TailNamesTheLast w =
 -- the counts of Tail and of each node's `next` are 0
 abbrev pub CountsNothing : World → Type 0
 CountsNothing w = (w.shared.tail.count ≡ 0) × All (λ n. n.next.count ≡ 0) w.shared.nodes
-
--- the reference whose raised one a line may write
-abbrev pub raised_at : Line → Actor → Option Ref
-raised_at N1 a = None
-raised_at N2 a = None
-raised_at N3 a = None
-raised_at N4 a = Some a.top
-raised_at N5 a = None
-raised_at F1 a = None
-raised_at F2 a = None
-raised_at F3 a = Some a.top
-raised_at E2 a = None
-raised_at E3 a = None
-raised_at E5 a = None
-raised_at E6 a = None
-raised_at E7 a = None
-raised_at E9 a = Some a.next
-raised_at E13 a = Some a.tail
-raised_at E17 a = Some a.tail
-raised_at D2 a = None
-raised_at D3 a = None
-raised_at D4 a = None
-raised_at D5 a = None
-raised_at D10 a = Some a.tail
-raised_at D12 a = None
-raised_at D13 a = Some a.head
-raised_at A1 a = None
-raised_at A2 a = None
-raised_at A3 a = None
-raised_at A4 a = None
-raised_at A5 a = None
-raised_at A6 a = None
-raised_at A7 a = None
-raised_at B1 a = None
-raised_at B2 a = None
-raised_at B3 a = None
-raised_at B4 a = None
-raised_at B5 a = Some a.head
-raised_at B6 a = None
-
--- no actor is to raise a count that is at the limit
-abbrev pub RaisesBelowTheLimit : World → Type 0
-RaisesBelowTheLimit w =
-    (me : ℕ) (a : Actor) (l : Line) → actor_of w me ≡ Some a → a.line ≡ Some l → IfSome (raised_at l a) (λ r. r.count < w.setup.limit)
-
--- a word's count is at the limit
-abbrev pub IsWornOut : World → WornWord → Type 0
-IsWornOut w OfFree = w.shared.free.count ≡ w.setup.limit
-IsWornOut w OfNext = (n : ℕ) × ((node_at w.shared n).next.count ≡ w.setup.limit)
-IsWornOut w OfTail = w.shared.tail.count ≡ w.setup.limit
-IsWornOut w OfHead = w.shared.head.count ≡ w.setup.limit
-
--- a world has the cause for a step to refuse: all nodes are used and none is free, or the word is worn out
-abbrev pub HasCause : World → Refusal → Type 0
-HasCause w NoNode = (w.shared.fresh ≡ w.setup.size) × IsChain w.shared.nodes w.shared.free.node []
-HasCause w (WornOut word) = IsWornOut w word
-HasCause w Busy = ⊥
-HasCause w Memory = ⊥
-HasCause w BadSize = ⊥
-HasCause w IdleActor = ⊥
-HasCause w ActorBusy = ⊥
-HasCause w NotHere = ⊥
-HasCause w NoSuchActor = ⊥
-HasCause w (Text line cause) = ⊥
-HasCause w Read = ⊥
-HasCause w Write = ⊥
-HasCause w Stranger = ⊥
-HasCause w Double = ⊥
-HasCause w Lost = ⊥
-HasCause w Closed = ⊥
-
--- a world has the cause for a step's reply, if that is a refusal
-abbrev pub HasCauseFor : World → Option Reply → Type 0
-HasCauseFor w None = Unit {0}
-HasCauseFor w (Some Done) = Unit {0}
-HasCauseFor w (Some (Value v)) = Unit {0}
-HasCauseFor w (Some Empty) = Unit {0}
-HasCauseFor w (Some (Refused why)) = HasCause w why
-
--- each actor's next step is refused only where the world has the cause
-abbrev pub RefusesWithCause : World → Type 0
-RefusesWithCause w =
-    (me : ℕ) (a : Actor) (l : Line) → actor_of w me ≡ Some a → a.line ≡ Some l →
-    HasCauseFor w (outcome w.setup (w.steps + 1) me a l (found (action w.setup me a l) w.shared)).reply
-
--- by rising place, from the empty queue, the operations get the replies that they were told or that their calls have
--- earned, and the queue then has the values in the chain from Head
-abbrev pub ReplaysToItsValues : World → Type 0
-ReplaysToItsValues w =
-    (queue : List ℕ) → IsChain w.shared.nodes w.shared.head.node queue →
-    Replays empty (rising (promises w)) × (replayed empty (rising (promises w)) ≡ record { values = queue_values w.shared queue })
-
--- Head's count is the number of values taken, those of calls under way too
-abbrev pub CountsValuesTaken : World → Type 0
-CountsValuesTaken w = w.shared.head.count ≡ values_taken (promises w)

@@ -1,53 +1,17 @@
 -- The room that a world keeps for nodes and operations, and its lists after an outcome was told.
 use Rattle.std.specs.Prelude.{◌≡◌, ℕ, ◌+◌, ◌-◌, ◌<◌, ◌≤◌, ◌⊎◌, List, Option, Some, None, slice_set, slice_get, nat_eq, if◌then◌else◌}
 use Rattle.std.specs.List.{sum_by}
-use Rattle.line_table.specs.declared.lines.Line.{Line}
-use Rattle.line_table.specs.declared.lines.Line.TheVariants.{N1, N2, N3, N4, N5, F1, F2, F3, E2, E3, E5, E6, E7, E9, E13, E17, D2, D3, D4, D5, D10, D12, D13, A1, A2, A3, A4, A5, A6, A7, B1, B2, B3, B4, B5, B6}
-use Rattle.line_steps.specs.declared.actors.Actor.{Actor}
-use Rattle.history.specs.declared.operations.Op.{Op}
-use Rattle.history.specs.declared.operations.Stamped.{Stamped}
-use Rattle.line_steps.specs.declared.actors.Outcome.{Outcome}
+use Rattle.step_machine.specs.Below.{Line, N1, N2, N3, N4, N5, Op, Stamped, Actor, Outcome}
 use Rattle.step_machine.specs.Machine.{entry_or, new_operation, told, recorded}
 
 -- whether an actor at a line still looks for a node, as a number
 abbrev pub seeks : Option Line → ℕ
-seeks None = 0
 seeks (Some N1) = 1
 seeks (Some N2) = 1
 seeks (Some N3) = 1
 seeks (Some N4) = 1
 seeks (Some N5) = 1
-seeks (Some F1) = 0
-seeks (Some F2) = 0
-seeks (Some F3) = 0
-seeks (Some E2) = 0
-seeks (Some E3) = 0
-seeks (Some E5) = 0
-seeks (Some E6) = 0
-seeks (Some E7) = 0
-seeks (Some E9) = 0
-seeks (Some E13) = 0
-seeks (Some E17) = 0
-seeks (Some D2) = 0
-seeks (Some D3) = 0
-seeks (Some D4) = 0
-seeks (Some D5) = 0
-seeks (Some D10) = 0
-seeks (Some D12) = 0
-seeks (Some D13) = 0
-seeks (Some A1) = 0
-seeks (Some A2) = 0
-seeks (Some A3) = 0
-seeks (Some A4) = 0
-seeks (Some A5) = 0
-seeks (Some A6) = 0
-seeks (Some A7) = 0
-seeks (Some B1) = 0
-seeks (Some B2) = 0
-seeks (Some B3) = 0
-seeks (Some B4) = 0
-seeks (Some B5) = 0
-seeks (Some B6) = 0
+seeks _ = 0
 
 -- how many actors still look for a node
 abbrev pub seekers : List Actor → ℕ

@@ -1,9 +1,6 @@
 -- The layout of the shared words in one table of numbers.
 use Rattle.std.specs.Prelude.{ℕ, ◌+◌, ◌*◌, ◌^◌, ◌≤◌, List, [], ◌∷◌, length}
-use Rattle.counted_ref.specs.Ref.{ref_word}
-use Rattle.history.specs.declared.operations.Taken.{Taken}
-use Rattle.line_steps.specs.declared.actors.Node.{Node}
-use Rattle.line_steps.specs.Memory.{Shared, Word, Fresh, Free, Head, Tail, Tail_lock, Head_lock, Next, Value_of, Content}
+use Rattle.step_machine.specs.Below.{ref_word, Taken, Node, Shared, Word, Fresh, Free, Head, Tail, Tail_lock, Head_lock, Next, Value_of, Content}
 
 -- the word of a value: who pushed it above its body
 abbrev pub value_word : Taken → ℕ
@@ -43,11 +40,6 @@ index (Value_of n) = 5 + 2 * n
 
 -- a word of this table: a node's word names one of its nodes
 abbrev pub IsWord : Shared → Word → Type 0
-IsWord s Fresh = Unit {0}
-IsWord s Free = Unit {0}
-IsWord s Head = Unit {0}
-IsWord s Tail = Unit {0}
-IsWord s Tail_lock = Unit {0}
-IsWord s Head_lock = Unit {0}
 IsWord s (Next n) = (1 ≤ n) × (n ≤ length s.nodes)
 IsWord s (Value_of n) = (1 ≤ n) × (n ≤ length s.nodes)
+IsWord s _ = Unit {0}

@@ -1,6 +1,6 @@
 //! Laws of all histories, of both queues at once. Each is the contract of a function that does nothing.
 ghost use Rattle.history.specs.History.{Placement, IsLegal};
-ghost use Rattle.step_machine.specs.TwoLock.{ReplaysToItsValues};
+ghost use Rattle.step_machine.specs.EachQueue.{ReplaysToItsValues};
 ghost use Rattle.step_machine.specs.TakingEffect.{ArePlacedByEffect, HaveTheirEffect};
 ghost use Rattle.step_machine.specs.TakingEffect.{OfOperations, OfOperationsOfCalls};
 ghost use Rattle.step_machine.specs.Histories.{OfEachHistory, OfEachWorld};

@@ -1,9 +1,9 @@
 //! Laws of the non-blocking queue, over all worlds that any moves lead to: any setup and number of actors in range, and
 //! any list of begins, steps, givings up and rests. Each is the contract of a function that does nothing.
 ghost use Rattle.history.specs.History.{IsLegal};
-ghost use Rattle.step_machine.specs.TwoLock.{HasItsPlaces, KeepsQueueAndFreeApart};
-ghost use Rattle.step_machine.specs.TwoLock.{RaisesBelowTheLimit, RefusesWithCause};
-ghost use Rattle.step_machine.specs.TwoLock.{ReplaysToItsValues, CountsValuesTaken};
+ghost use Rattle.step_machine.specs.EachQueue.{HasItsPlaces, KeepsQueueAndFreeApart};
+ghost use Rattle.step_machine.specs.EachQueue.{RaisesBelowTheLimit, RefusesWithCause};
+ghost use Rattle.step_machine.specs.EachQueue.{ReplaysToItsValues, CountsValuesTaken};
 ghost use Rattle.step_machine.specs.NonBlocking.{OfNonBlockingWorlds, TailLagsByOne, TailIsNotBehindHead};
 ghost use Rattle.step_machine.specs.NonBlocking.{NeverFindsHeadWornOut, FindsItsOwnNextWornOut};
 ghost use Rattle.step_machine.specs.NonBlocking.{NeverRefusedForHead, TakesTheFront};

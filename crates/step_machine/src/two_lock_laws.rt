@@ -1,10 +1,10 @@
 //! Laws of the two-lock queue, over all worlds that any moves lead to: any setup and number of actors in range, and
 //! any list of begins, steps, givings up and rests. Each is the contract of a function that does nothing.
 ghost use Rattle.history.specs.History.{IsLegal};
-ghost use Rattle.step_machine.specs.TwoLock.{OfTwoLockWorlds, HasItsPlaces, KeepsQueueAndFreeApart};
-ghost use Rattle.step_machine.specs.TwoLock.{TailNamesTheLast, CountsNothing};
-ghost use Rattle.step_machine.specs.TwoLock.{RaisesBelowTheLimit, RefusesWithCause};
-ghost use Rattle.step_machine.specs.TwoLock.{ReplaysToItsValues, CountsValuesTaken};
+ghost use Rattle.step_machine.specs.EachQueue.{HasItsPlaces, KeepsQueueAndFreeApart};
+ghost use Rattle.step_machine.specs.EachQueue.{RaisesBelowTheLimit, RefusesWithCause};
+ghost use Rattle.step_machine.specs.EachQueue.{ReplaysToItsValues, CountsValuesTaken};
+ghost use Rattle.step_machine.specs.TwoLock.{OfTwoLockWorlds, TailNamesTheLast, CountsNothing};
 
 /// Each node is in exactly one place: never used, in the queue, free, held by one actor, or set aside.
 pub fn each_node_is_in_one_place()

@@ -1,6 +1,5 @@
--- The lemma is the law.
-use Rattle.step_machine.proofs.NonBlockingLegal.{head_counts_values_taken}
+use Rattle.step_machine.proofs.EachLegal.{head_counts_values_taken}
 use Rattle.step_machine.proofs.non_blocking_laws.head_counts_the_values_taken.Goals as goal
 
 pub returns : goal.returns
-returns c = head_counts_values_taken
+returns c = λ w r e. head_counts_values_taken w r

@@ -1,5 +1,5 @@
-use Rattle.step_machine.proofs.TwoLockLegal.{head_counts_values_taken}
+use Rattle.step_machine.proofs.EachLegal.{head_counts_values_taken}
 use Rattle.step_machine.proofs.two_lock_laws.head_counts_the_values_taken.Goals as goal
 
 pub returns : goal.returns
-returns c = head_counts_values_taken
+returns c = λ w r e. head_counts_values_taken w r

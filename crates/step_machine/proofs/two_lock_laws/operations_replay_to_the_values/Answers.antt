@@ -1,5 +1,5 @@
-use Rattle.step_machine.proofs.TwoLockLegal.{replay_to_the_values}
+use Rattle.step_machine.proofs.EachLegal.{replay_to_the_values}
 use Rattle.step_machine.proofs.two_lock_laws.operations_replay_to_the_values.Goals as goal
 
 pub returns : goal.returns
-returns c = replay_to_the_values
+returns c = λ w r e. replay_to_the_values w r

@@ -1,7 +1,6 @@
 -- A begin leads from a made world to a made world, and makes room for its call.
 use Rattle.std.proofs.Common.{◌≡◌, ◌+◌, ◌-◌, ◌≤◌, ◌⊎◌, Some, None, length, set, vec_capacity, arith, refl, sym, ap, subst, ◌∙◌}
-use Rattle.line_steps.specs.Calling.{begun}
-use Rattle.line_steps.specs.Rooms.{room_after}
+use Rattle.step_machine.specs.Below.{begun, room_after}
 use Rattle.step_machine.specs.declared.actors.Move.TheVariants.{Begin}
 use Rattle.step_machine.specs.Machine.{next, with_actor}
 use Rattle.step_machine.specs.Views.{seeks}

@@ -1,8 +1,6 @@
 -- A step leads from a made world to a made world, and keeps its room.
 use Rattle.std.proofs.Common.{◌≡◌, ◌+◌, ◌-◌, ◌<◌, ◌≤◌, Some, IfSome, rules, vec_capacity, arith, sym, ap, subst, ◌∙◌}
-use Rattle.line_steps.specs.Memory.{performed}
-use Rattle.line_steps.specs.Lines.{action}
-use Rattle.line_steps.specs.Ready.{IsReady}
+use Rattle.step_machine.specs.Below.{performed, action, IsReady}
 use Rattle.step_machine.specs.declared.actors.Move.TheVariants.{Step}
 use Rattle.step_machine.specs.Views.{seeks, HasEntry, HasNodes}
 use Rattle.step_machine.specs.Kept.{world}
