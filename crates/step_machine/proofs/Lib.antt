@@ -50,3 +50,6 @@ pub mod PlaceOf
 pub mod Alone
 pub mod EffectLines
 pub mod EffectsKept
+pub mod Locks
+pub mod WornOut
+pub mod Marks

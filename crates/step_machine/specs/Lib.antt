@@ -18,3 +18,4 @@ pub mod Histories
 pub mod Placing
 pub mod Solo
 pub mod TakingEffect
+pub mod Locks
