@@ -1,3 +1,4 @@
+pub mod AnyMoves
 pub mod Growth
 pub mod Rooms
 pub mod Making
@@ -53,3 +54,6 @@ pub mod EffectsKept
 pub mod Locks
 pub mod WornOut
 pub mod Marks
+pub mod Walking
+pub mod StepTells
+pub mod RepliesPlaced

@@ -19,3 +19,4 @@ pub mod Placing
 pub mod Solo
 pub mod TakingEffect
 pub mod Locks
+pub mod Recording

@@ -2,6 +2,8 @@
 ghost use Rattle.std.specs.Prelude.{◌≡◌, length, AllPairs};
 ghost use Rattle.std.specs.List.{AllByRecursion};
 ghost use Rattle.history.specs.History.{Placement};
+ghost use Rattle.step_machine.specs.TakingEffect.{OfOperations};
+ghost use Rattle.step_machine.specs.Recording.{IsRefusedAtItsEnd, AreEmptyAtTheirLastLook};
 ghost use Rattle.step_machine.specs.Stamps.{makers, IsStamped, BeginsBefore, DoNotOverlap, DoNotOverlapOrRest, AfterMoves, AfterCalls};
 
 /// A world has given one number to each step and to each giving up.
@@ -29,4 +31,15 @@ pub fn operations_of_an_actor_do_not_overlap()
 /// Every history is placed: each operation is well placed, and no two share a place.
 pub fn histories_are_placed()
     ensures { AfterMoves (λ moves w. Placement w.operations) }
+{}
+
+/// A refused operation stands at its last number.
+pub fn refusals_stand_at_their_last_number()
+    ensures { AfterMoves (λ moves w. AllByRecursion IsRefusedAtItsEnd w.operations) }
+{}
+
+/// An operation that was told that the queue is empty stands at its call's last step at D4 or B3, where the dequeue looks
+/// for a node behind the dummy.
+pub fn empty_replies_stand_at_their_last_look()
+    ensures { OfOperations AreEmptyAtTheirLastLook }
 {}
