@@ -57,3 +57,4 @@ pub mod Marks
 pub mod Walking
 pub mod StepTells
 pub mod RepliesPlaced
+pub mod Recorded

@@ -4,6 +4,7 @@ ghost use Rattle.std.specs.List.{AllByRecursion};
 ghost use Rattle.history.specs.History.{Placement};
 ghost use Rattle.step_machine.specs.TakingEffect.{OfOperations};
 ghost use Rattle.step_machine.specs.Recording.{IsRefusedAtItsEnd, AreEmptyAtTheirLastLook};
+ghost use Rattle.step_machine.specs.Recording.{AreOfCallsBegun, EndAsTold, TellTheirEnds};
 ghost use Rattle.step_machine.specs.Stamps.{makers, IsStamped, BeginsBefore, DoNotOverlap, DoNotOverlapOrRest, AfterMoves, AfterCalls};
 
 /// A world has given one number to each step and to each giving up.
@@ -42,4 +43,16 @@ pub fn refusals_stand_at_their_last_number()
 /// for a node behind the dummy.
 pub fn empty_replies_stand_at_their_last_look()
     ensures { OfOperations AreEmptyAtTheirLastLook }
+{}
+
+/// An operation is of the call that its actor had begun when it took its first number.
+pub fn operations_are_of_the_calls_begun()
+    ensures { OfOperations AreOfCallsBegun }
+{}
+
+/// An operation's last number and its reply are those of a move of its actor that ended a call, as that move was told; and
+/// each such move has left its number and reply to an operation.
+pub fn operations_end_as_they_were_told()
+    ensures ends { OfOperations EndAsTold }
+    ensures each_end { OfOperations TellTheirEnds }
 {}
