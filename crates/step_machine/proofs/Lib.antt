@@ -58,3 +58,5 @@ pub mod Walking
 pub mod StepTells
 pub mod RepliesPlaced
 pub mod Recorded
+pub mod NumbersLie
+pub mod EffectPlaces

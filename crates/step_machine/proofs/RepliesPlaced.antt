@@ -169,8 +169,7 @@ module _ (s : Setup) (n : ℕ) where
     told_empty : (k : ℕ) → o.reply ≡ Some Empty → first_settled o.at it.was.at ≡ Some k → ((k ≡ 0) ⊎ Look (done ++ m ∷ []) it.was.actor k) × ((j last : ℕ) → last_of (w.steps + 1) o.reply ≡ Some last → Look (done ++ m ∷ []) it.was.actor j → j ≤ last → j ≤ k)
     told_empty k e at =
         let noted : a.noted ≡ k = same_Some a.noted k (sym (ap (λ x. first_settled x it.was.at) (t.empty e)) ∙ at) in
-        let x : LastLook done me a.noted = h.noted me a is in
-        (
+        let x : LastLook done me a.noted = h.noted me a is in (
           subst (λ y. (k ≡ 0) ⊎ Look (done ++ m ∷ []) y k) (sym it.own) (subst (λ j. (j ≡ 0) ⊎ Look (done ++ m ∷ []) me j) noted (or_look done m me a.noted x.0)),
           λ j last end look low. go j noted (cases me j (subst (λ y. Look (done ++ m ∷ []) y j) it.own look)),
         )

@@ -20,3 +20,4 @@ pub mod Solo
 pub mod TakingEffect
 pub mod Locks
 pub mod Recording
+pub mod Spans

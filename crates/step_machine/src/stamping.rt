@@ -2,9 +2,10 @@
 ghost use Rattle.std.specs.Prelude.{◌≡◌, length, AllPairs};
 ghost use Rattle.std.specs.List.{AllByRecursion};
 ghost use Rattle.history.specs.History.{Placement};
-ghost use Rattle.step_machine.specs.TakingEffect.{OfOperations};
+ghost use Rattle.step_machine.specs.TakingEffect.{OfOperations, OfOperationsOfCalls};
 ghost use Rattle.step_machine.specs.Recording.{IsRefusedAtItsEnd, AreEmptyAtTheirLastLook};
 ghost use Rattle.step_machine.specs.Recording.{AreOfCallsBegun, EndAsTold, TellTheirEnds};
+ghost use Rattle.step_machine.specs.Spans.{NumbersLieInOne, NumbersLieInOneBeforeNext};
 ghost use Rattle.step_machine.specs.Stamps.{makers, IsStamped, BeginsBefore, DoNotOverlap, DoNotOverlapOrRest, AfterMoves, AfterCalls};
 
 /// A world has given one number to each step and to each giving up.
@@ -55,4 +56,11 @@ pub fn operations_are_of_the_calls_begun()
 pub fn operations_end_as_they_were_told()
     ensures ends { OfOperations EndAsTold }
     ensures each_end { OfOperations TellTheirEnds }
+{}
+
+/// Each number that an actor's move took lies in exactly one operation of that actor. Where actors may rest, which leaves
+/// operations without a last number, one reaches to the first number of the actor's next one at most.
+pub fn each_number_lies_in_one_operation()
+    ensures calls { OfOperationsOfCalls NumbersLieInOne }
+    ensures with_rests { OfOperations NumbersLieInOneBeforeNext }
 {}
