@@ -1,11 +1,12 @@
--- A lock of the two-lock queue names its holder, and who has linked a node has Tail alone.
-use Rattle.std.proofs.Common.{◌≡◌, ◌≢◌, ℕ, ◌-◌, ◌≤◌, Bool, true, false, IsTrue, if◌then◌else◌, get_or, length, Option, Some, None, refl, sym, ap, ◌∙◌, subst, arith}
+-- A lock of the two-lock queue names its holder, who has linked a node has Tail alone, and B5 takes the first value.
+use Rattle.std.proofs.Common.{◌≡◌, ◌≢◌, ℕ, ◌-◌, ◌≤◌, Bool, true, false, IsTrue, if◌then◌else◌, get_or, length, List, ◌∷◌, Option, Some, None, refl, sym, ap, ◌∙◌, subst, arith}
 use Rattle.std.specs.Prelude.{◌↔◌, slice_get, IsSome}
 use Rattle.std.proofs.lemmas.Bool.{ne_eqb}
 use Rattle.std.proofs.lemmas.Option.{slice_get-get_or}
+use Rattle.counted_ref.specs.Ref.{Ref}
 use Rattle.line_table.specs.declared.lines.Kind.TheVariants.{TwoLock}
 use Rattle.line_table.specs.declared.lines.Line.{Line}
-use Rattle.line_table.specs.declared.lines.Line.TheVariants.{N1, E5, E7, E13, E17, D3, D10, A4, A5, A6, A7}
+use Rattle.line_table.specs.declared.lines.Line.TheVariants.{N1, E5, E7, E13, E17, D3, D10, A4, A5, A6, A7, B5}
 use Rattle.line_table.specs.Sections.{section_of}
 use Rattle.line_steps.specs.declared.actors.Setup.{Setup}
 use Rattle.line_steps.specs.declared.actors.Actor.{Actor}
@@ -15,10 +16,13 @@ use Rattle.step_machine.specs.Machine.{World, idle, actor_of, IsReached}
 use Rattle.step_machine.specs.Range.{WorldInRange}
 use Rattle.step_machine.specs.Standing.{IsRunBy}
 use Rattle.step_machine.specs.TwoLock.{OfTwoLockWorlds}
-use Rattle.step_machine.specs.Locks.{has_tail_lock, has_head_lock, LocksNameTheirHolders, LocksAreOfActors, LeavesTailToItsMover}
+use Rattle.step_machine.specs.Locks.{has_tail_lock, has_head_lock, LocksNameTheirHolders, LocksAreOfActors, LeavesTailToItsMover, TakesTheFrontAtB5}
+use Rattle.step_machine.specs.Places.{IsChain}
+use Rattle.step_machine.specs.Chains.{last_node}
+use Rattle.step_machine.proofs.Chains.{next_in, chain_some, second_leads}
 use Rattle.step_machine.proofs.Reached.{reached_in_range}
-use Rattle.step_machine.proofs.TwoLockKnows.{Owns, OwnsAt, has_tail, has_head}
-use Rattle.step_machine.proofs.TwoLockSound.{Proved, nodes_at, reached_sound}
+use Rattle.step_machine.proofs.TwoLockKnows.{Owns, OwnsAt, KnowsAt, has_tail, has_head}
+use Rattle.step_machine.proofs.TwoLockSound.{Proved, nodes_at, head_some, reached_sound}
 
 -- the same lines
 tail_lines : (l : Option Line) → has_tail l ≡ has_tail_lock l
@@ -96,3 +100,20 @@ leave_tail_to_its_mover w r e me you a b l is at other there here =
       λ q. (let f : false ≡ true = sym away.0 ∙ ap is_tail q in cc),
       λ q. (let f : false ≡ true = sym away.1 ∙ ap is_A5 q in cc),
     )
+
+-- at B5 the registers are the front of the queue
+pub front_is_taken : OfTwoLockWorlds TakesTheFrontAtB5
+front_is_taken w r e me a queue is at chain =
+    let p : Proved (λ w q. Unit {0}) (λ w k. Unit {0}) w = reached_sound w r e in
+    let k : KnowsAt (λ k. Unit {0}) w.setup w.shared (last_node p.queue) a (Some B5) = subst (KnowsAt (λ k. Unit {0}) w.setup w.shared (last_node p.queue) a) at (p.sound.actors me a is).knows in
+    let first : (rest : List ℕ) × (queue ≡ w.shared.head.node ∷ rest) = chain_some w.shared.nodes w.shared.head.node queue (head_some w r e) chain in
+    let here : w.shared.head.node ≡ a.head.node = ap (λ (x : Ref). x.node) k.0 in
+    let second : (others : List ℕ) × (first.0 ≡ a.next.node ∷ others) =
+    second_leads w.shared.nodes w.shared.head.node w.shared.head.node a.next.node first.0
+    (subst (IsChain w.shared.nodes w.shared.head.node) first.1 chain)
+    (ap (next_in w.shared.nodes) here ∙ ap (λ (x : Ref). x.node) k.1) (nodes_at w r e me a B5 is at).1.1 in
+    record {
+      others = second.0;
+      nodes = first.1 ∙ ap (λ ns. w.shared.head.node ∷ ns) second.1 ∙ ap (λ n. n ∷ a.next.node ∷ second.0) here;
+      value = k.2;
+    }

@@ -1,5 +1,6 @@
--- What is said of the locks of the two-lock queue and of the refusals there, and of the marks of pockets in both queues.
-use Rattle.std.specs.Prelude.{◌≡◌, ◌≢◌, ◌↔◌, ℕ, ◌+◌, Bool, true, false, Option, Some, IfSome, IsSome, IsTrue}
+-- What is said of the locks of the two-lock queue, and of the refusals and the values taken there; and of the marks of
+-- pockets in both queues.
+use Rattle.std.specs.Prelude.{◌≡◌, ◌≢◌, ◌↔◌, ℕ, ◌+◌, Bool, true, false, List, Option, Some, IfSome, IsSome, IsTrue}
 use Rattle.std.specs.List.{All}
 use Rattle.line_table.specs.declared.lines.Line.{Line}
 use Rattle.line_table.specs.declared.lines.Line.TheVariants.{A4, A5, A6, A7, B2, B3, B4, B5, B6}
@@ -11,6 +12,8 @@ use Rattle.line_steps.specs.declared.actors.Actor.{Actor}
 use Rattle.line_steps.specs.Memory.{Tail, word, node_at, found}
 use Rattle.line_steps.specs.Lines.{action, outcome}
 use Rattle.step_machine.specs.Machine.{World, actor_of}
+use Rattle.step_machine.specs.Places.{IsChain}
+use Rattle.step_machine.specs.NonBlocking.{HasTheFront}
 
 -- whether an actor has the tail lock before its line: from A4, which follows its taking, to A7, which lets it go
 abbrev pub has_tail_lock : Option Line → Bool
@@ -62,6 +65,12 @@ FindsFreeOrHeadWornOut w =
 -- no operation was refused since a word but Free and Head is worn out
 abbrev pub RefusedForFreeOrHead : World → Type 0
 RefusedForFreeOrHead w = All (λ o. IsOfFreeOrHead o.reply) w.operations
+
+-- an actor at B5 has the queue's first value, which it then answers
+abbrev pub TakesTheFrontAtB5 : World → Type 0
+TakesTheFrontAtB5 w =
+    (me : ℕ) (a : Actor) (queue : List ℕ) → actor_of w me ≡ Some a → a.line ≡ Some B5 →
+    IsChain w.shared.nodes w.shared.head.node queue → HasTheFront w.shared queue a
 
 -- the mark of a node in a pocket is the count of the node's `next`
 abbrev pub MarksAreCounts : World → Type 0

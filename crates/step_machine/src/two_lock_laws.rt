@@ -6,7 +6,7 @@ ghost use Rattle.step_machine.specs.TwoLock.{TailNamesTheLast, CountsNothing};
 ghost use Rattle.step_machine.specs.TwoLock.{RaisesBelowTheLimit, RefusesWithCause};
 ghost use Rattle.step_machine.specs.TwoLock.{ReplaysToItsValues, CountsValuesTaken};
 ghost use Rattle.step_machine.specs.Locks.{LocksNameTheirHolders, LocksAreOfActors, LeavesTailToItsMover};
-ghost use Rattle.step_machine.specs.Locks.{FindsFreeOrHeadWornOut, RefusedForFreeOrHead, MarksAreCounts};
+ghost use Rattle.step_machine.specs.Locks.{FindsFreeOrHeadWornOut, RefusedForFreeOrHead, TakesTheFrontAtB5, MarksAreCounts};
 
 /// Each node is in exactly one place: never used, in the queue, free, held by one actor, or set aside.
 pub fn each_node_is_in_one_place()
@@ -51,6 +51,11 @@ pub fn locks_name_their_holders()
 /// Between A5 and A6, where Tail names a node that is no longer the last, only the actor there uses what Tail names.
 pub fn tail_is_left_to_its_mover()
     ensures { OfTwoLockWorlds LeavesTailToItsMover }
+{}
+
+/// The value that a dequeue takes is the first one of the queue.
+pub fn values_are_taken_from_the_front()
+    ensures { OfTwoLockWorlds TakesTheFrontAtB5 }
 {}
 
 /// The mark of a node in a pocket is the count of the node's `next`.
