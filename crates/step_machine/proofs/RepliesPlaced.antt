@@ -1,5 +1,5 @@
 -- Where the operations that were refused, or told that the queue is empty, have their places.
-use Rattle.std.proofs.Common.{◌≡◌, ◌≢◌, ℕ, suc, ◌+◌, ◌-◌, ◌≤◌, ◌⊎◌, inl, inr, Bool, true, false, List, [], ◌∷◌, ◌++◌, length, Option, Some, None, IfSome, refl, sym, subst, ap, ◌∙◌, append_assoc, length-append, arith}
+use Rattle.std.proofs.Common.{◌≡◌, ◌≢◌, ℕ, ◌+◌, ◌-◌, ◌≤◌, ◌⊎◌, inl, inr, Bool, true, false, List, [], ◌∷◌, ◌++◌, length, Option, Some, None, IfSome, refl, sym, subst, ap, ◌∙◌, append_assoc, length-append, arith}
 use Rattle.std.specs.Prelude.{slice_get, IsTrue}
 use Rattle.std.specs.List.{AllByRecursion}
 use Rattle.std.proofs.lemmas.Option.{none-some, same_Some, IfSome_then}
@@ -24,13 +24,13 @@ use Rattle.step_machine.specs.Stamps.{makers, IsBy, AfterMoves}
 use Rattle.step_machine.specs.TakingEffect.{OfOperations}
 use Rattle.step_machine.specs.Recording.{IsRefusedAtItsEnd, looks, IsLook, IsLastLook, AreEmptyAtTheirLastLook}
 use Rattle.step_machine.proofs.Reached.{some_of}
-use Rattle.step_machine.proofs.StampsLists.{put_cases, by_within}
-use Rattle.step_machine.proofs.StampsKept.{Kept, actor_stands, actor_cases}
+use Rattle.step_machine.proofs.StampsLists.{by_within}
+use Rattle.step_machine.proofs.StampsKept.{Kept, actor_stands}
 use Rattle.step_machine.proofs.StampsMoves.{idle_got}
 use Rattle.step_machine.proofs.AnyMoves.{AfterEach}
 use Rattle.step_machine.proofs.EffectsKept.{split_last}
 use Rattle.step_machine.proofs.StepTells.{Tells, tells, given_tells}
-use Rattle.step_machine.proofs.Walking.{walked, kept_after, Telling, telling}
+use Rattle.step_machine.proofs.Walking.{walked, kept_after, Telling, telling, each_put, each_actor, all_of, if_some_all}
 
 -- who takes a step, and whether a move is one
 abbrev pub stepper : AnyMove → ℕ
@@ -51,15 +51,6 @@ begun_noted TwoLock me (Enq body) a = from_pocket_noted A1 a.pocket _
 begun_noted NonBlocking me (Enq body) a = from_pocket_noted E2 a.pocket _
 begun_noted TwoLock me Deq a = from_pocket_noted F1 a.pocket _
 begun_noted NonBlocking me Deq a = from_pocket_noted F1 a.pocket _
-
--- a fact of the element at each place is one of all elements
-all_of : {X : Type 0} (P : X → Type 0) (xs : List X) → ((i : ℕ) (o : X) → slice_get xs i ≡ Some o → P o) → AllByRecursion P xs
-all_of P [] h = tt
-all_of P (x ∷ xs) h = (h 0 x refl, all_of P xs (λ i o got. h (suc i) o got))
-
-if_some_all : (o : Option ℕ) (P : ℕ → Type 0) → ((k : ℕ) → o ≡ Some k → P k) → IfSome o P
-if_some_all None P h = tt
-if_some_all (Some k) P h = h k refl
 
 module _ (s : Setup) (n : ℕ) where
   abbrev Look : List AnyMove → (me number : ℕ) → Type 0
@@ -113,10 +104,15 @@ module _ (s : Setup) (n : ℕ) where
   abbrev LastLook : List AnyMove → (me number : ℕ) → Type 0
   LastLook done me number = ((number ≡ 0) ⊎ Look done me number) × ((j : ℕ) → Look done me j → j ≤ number)
 
+  -- a number is that of the last look of an operation's actor up to the operation's last number, or 0
+  abbrev LastOf : List AnyMove → Stamped → (number : ℕ) → Type 0
+  LastOf done o number =
+      ((number ≡ 0) ⊎ Look done o.actor number) × ((j last : ℕ) → o.last ≡ Some last → Look done o.actor j → j ≤ last → j ≤ number)
+
   -- where the operations after some moves have their places, and what their actors have noted
   record Placed (done : List AnyMove) (w : World) : Type 0 where
     refused : (i : ℕ) (o : Stamped) → slice_get w.operations i ≡ Some o → IsRefusedAtItsEnd o
-    empty : (i k : ℕ) (o : Stamped) → slice_get w.operations i ≡ Some o → o.reply ≡ Some Empty → o.at ≡ Some k → ((k ≡ 0) ⊎ Look done o.actor k) × ((j last : ℕ) → o.last ≡ Some last → Look done o.actor j → j ≤ last → j ≤ k)
+    empty : (i k : ℕ) (o : Stamped) → slice_get w.operations i ≡ Some o → o.reply ≡ Some Empty → o.at ≡ Some k → LastOf done o k
     noted : (me : ℕ) (a : Actor) → actor_of w me ≡ Some a → LastLook done me a.noted
     within : (me j : ℕ) → Look done me j → j ≤ w.steps
 
@@ -130,9 +126,9 @@ module _ (s : Setup) (n : ℕ) where
       record {
         refused = h.refused;
         empty = λ i k o got e at.
-            let x : ((k ≡ 0) ⊎ Look done o.actor k) × ((j last : ℕ) → o.last ≡ Some last → Look done o.actor j → j ≤ last → j ≤ k) = h.empty i k o got e at in
+            let x : LastOf done o k = h.empty i k o got e at in
             (or_look done m o.actor k x.0, λ j last l t low. x.1 j last l (old o.actor j t) low);
-        noted = λ you c got. pick you c (actor_cases w me a b is you c got);
+        noted = each_actor w me a b (λ you c. LastLook (done ++ m ∷ []) you c.noted) is (subst (λ k. LastLook (done ++ m ∷ []) me k) (sym same) (lasts me a.noted (h.noted me a is))) (λ you c other there. lasts you c.noted (h.noted you c there));
         within = λ you j t. h.within you j (old you j t);
       }
     where
@@ -141,12 +137,6 @@ module _ (s : Setup) (n : ℕ) where
 
       lasts : (you k : ℕ) → LastLook done you k → LastLook (done ++ m ∷ []) you k
       lasts you k x = (or_look done m you k x.0, λ j t. x.1 j (old you j t))
-
-      pick : (you : ℕ) (c : Actor) → ((you ≡ me) × (b ≡ c)) ⊎ ((you ≢ me) × (actor_of w you ≡ Some c)) → LastLook (done ++ m ∷ []) you c.noted
-      pick you c (inl q) =
-          subst (λ (z : Actor). LastLook (done ++ m ∷ []) you z.noted) q.1
-          (subst (λ k. LastLook (done ++ m ∷ []) you k) (sym same) (lasts you a.noted (subst (λ j. LastLook done j a.noted) (sym q.0) (h.noted me a is))))
-      pick you c (inr q) = lasts you c.noted (h.noted you c q.1)
 
   module _ (done : List AnyMove) (w : World) (m : AnyMove) (me : ℕ) (a : Actor) (l : Line) (o : Outcome) (m' : Shared) (looked : Bool) (led : run done (opening s n) ≡ Some w) (is : actor_of w me ≡ Some a) (at_line : a.line ≡ Some l) (h : Placed done w) (t : Tells l looked (w.steps + 1) a o) (yes : looked ≡ true → Look (done ++ m ∷ []) me (w.steps + 1)) (only : (you j : ℕ) → m ≡ made (Step you) → Now w you j → (you ≡ me) × (j ≡ w.steps + 1) × (looked ≡ true)) where
     kept : Kept (Unit {0}) (makers done) w
@@ -166,7 +156,7 @@ module _ (s : Setup) (n : ℕ) where
     told_refused : IsRefusedAtItsEnd (told (w.steps + 1) o it.was)
     told_refused why e = ap (λ x. first_settled x it.was.at) (t.refused why e) ∙ sym (ap (last_of (w.steps + 1)) e)
 
-    told_empty : (k : ℕ) → o.reply ≡ Some Empty → first_settled o.at it.was.at ≡ Some k → ((k ≡ 0) ⊎ Look (done ++ m ∷ []) it.was.actor k) × ((j last : ℕ) → last_of (w.steps + 1) o.reply ≡ Some last → Look (done ++ m ∷ []) it.was.actor j → j ≤ last → j ≤ k)
+    told_empty : (k : ℕ) → o.reply ≡ Some Empty → first_settled o.at it.was.at ≡ Some k → LastOf (done ++ m ∷ []) (told (w.steps + 1) o it.was) k
     told_empty k e at =
         let noted : a.noted ≡ k = same_Some a.noted k (sym (ap (λ x. first_settled x it.was.at) (t.empty e)) ∙ at) in
         let x : LastLook done me a.noted = h.noted me a is in (
@@ -204,35 +194,29 @@ module _ (s : Setup) (n : ℕ) where
           λ j look. seen false o.actor.noted j e (λ x. absurd (let f : false ≡ true = x in cc)) (λ x. t.passes e) (cases me j look),
         )
 
+    -- another operation
+    other_empty : (i k : ℕ) (p : Stamped) → slice_get w.operations i ≡ Some p → p.reply ≡ Some Empty → p.at ≡ Some k → LastOf (done ++ m ∷ []) p k
+    other_empty i k p got e at =
+        let x : LastOf done p k = h.empty i k p got e at in
+        (or_look done m p.actor k x.0, λ j last end look low. go x j last end low (cases p.actor j look))
+      where
+        go : LastOf done p k → (j last : ℕ) → p.last ≡ Some last → j ≤ last → Look done p.actor j ⊎ ((p.actor ≡ me) × (j ≡ w.steps + 1) × (looked ≡ true)) → j ≤ k
+        go x j last end low (inl old) = x.1 j last end old low
+        go x j last end low (inr new) = let within : last ≤ w.steps = ended i last p got end in omega (arith, new.1)
+
     -- a numbered move
     settled_placed : Placed (done ++ m ∷ []) (settled w me a m' o)
     settled_placed =
         record {
-          refused = λ i p got. refused i p (put_cases it.put i p got);
-          empty = λ i k p got e at. empty i k p e at (put_cases it.put i p got);
-          noted = λ you c got. pick you c (actor_cases w me a _ is you c got);
+          refused = each_put it.put (λ i p. IsRefusedAtItsEnd p) told_refused (λ i p other got. h.refused i p got);
+          empty = λ i k.
+              each_put it.put (λ j p. p.reply ≡ Some Empty → p.at ≡ Some k → LastOf (done ++ m ∷ []) p k) (told_empty k) (λ j p other got. other_empty j k p got) i;
+          noted =
+              each_actor w me a (record o.actor { entry = Some (entry_or a.entry (length w.operations)) }) (λ you c. LastLook (done ++ m ∷ []) you c.noted) is mover
+              (λ you c other there. lasts you c other (h.noted you c there));
           within = λ you j look. within you j (cases you j look);
         }
       where
-        refused : (i : ℕ) (p : Stamped) → ((i ≡ it.place) × (told (w.steps + 1) o it.was ≡ p)) ⊎ ((i ≢ it.place) × (slice_get w.operations i ≡ Some p)) → IsRefusedAtItsEnd p
-        refused i p (inl q) = subst IsRefusedAtItsEnd q.1 told_refused
-        refused i p (inr q) = h.refused i p q.1
-
-        empty : (i k : ℕ) (p : Stamped) → p.reply ≡ Some Empty → p.at ≡ Some k → ((i ≡ it.place) × (told (w.steps + 1) o it.was ≡ p)) ⊎ ((i ≢ it.place) × (slice_get w.operations i ≡ Some p)) → ((k ≡ 0) ⊎ Look (done ++ m ∷ []) p.actor k) × ((j last : ℕ) → p.last ≡ Some last → Look (done ++ m ∷ []) p.actor j → j ≤ last → j ≤ k)
-        empty i k p e at (inl q) =
-            subst (λ (x : Stamped). x.reply ≡ Some Empty → x.at ≡ Some k → ((k ≡ 0) ⊎ Look (done ++ m ∷ []) x.actor k) × ((j last : ℕ) → x.last ≡ Some last → Look (done ++ m ∷ []) x.actor j → j ≤ last → j ≤ k)) q.1 (told_empty k) e at
-        empty i k p e at (inr q) =
-            let x : ((k ≡ 0) ⊎ Look done p.actor k) × ((j last : ℕ) → p.last ≡ Some last → Look done p.actor j → j ≤ last → j ≤ k) = h.empty i k p q.1 e at in
-            (or_look done m p.actor k x.0, λ j last end look low. go j last end low x.1 (cases p.actor j look))
-          where
-            go : (j last : ℕ) → p.last ≡ Some last → j ≤ last → ((j last : ℕ) → p.last ≡ Some last → Look done p.actor j → j ≤ last → j ≤ k) → Look done p.actor j ⊎ ((p.actor ≡ me) × (j ≡ w.steps + 1) × (looked ≡ true)) → j ≤ k
-            go j last end low x (inl old) = x j last end old low
-            go j last end low x (inr new) = let within : last ≤ w.steps = ended i last p q.1 end in omega (arith, new.1)
-
-        pick : (you : ℕ) (c : Actor) → ((you ≡ me) × (record o.actor { entry = Some (entry_or a.entry (length w.operations)) } ≡ c)) ⊎ ((you ≢ me) × (actor_of w you ≡ Some c)) → LastLook (done ++ m ∷ []) you c.noted
-        pick you c (inl q) = subst (λ (z : Actor). LastLook (done ++ m ∷ []) you z.noted) q.1 (subst (λ j. LastLook (done ++ m ∷ []) j o.actor.noted) (sym q.0) mover)
-        pick you c (inr q) = lasts you c q.0 (h.noted you c q.1)
-
         within : (you j : ℕ) → Look done you j ⊎ ((you ≡ me) × (j ≡ w.steps + 1) × (looked ≡ true)) → j ≤ w.steps + 1
         within you j (inl old) = let low : j ≤ w.steps = h.within you j old in omega arith
         within you j (inr new) = omega (arith, new.1)

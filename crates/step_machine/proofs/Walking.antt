@@ -1,20 +1,21 @@
 -- A fact of the moves made so far and of the world that they led to, which each move keeps, holds after every list of
 -- moves. `Telling` says what a numbered move does with the operations.
-use Rattle.std.proofs.Common.{◌≡◌, ◌≢◌, ℕ, ◌+◌, ◌≤◌, ◌<◌, ◌⊎◌, inl, inr, List, [], ◌∷◌, ◌++◌, length, Option, Some, None, IfSome, set, refl, sym, subst, append_assoc, append-nil, arith}
+use Rattle.std.proofs.Common.{◌≡◌, ◌≢◌, ℕ, suc, ◌+◌, ◌≤◌, ◌<◌, ◌⊎◌, inl, inr, List, [], ◌∷◌, ◌++◌, length, Option, Some, None, IfSome, set, refl, sym, ap, ◌∙◌, subst, append_assoc, append-nil, arith}
 use Rattle.std.specs.Prelude.{slice_get}
-use Rattle.std.proofs.lemmas.Option.{slice_get_within, get_or_from_slice_get}
+use Rattle.std.specs.List.{AllByRecursion}
+use Rattle.std.proofs.lemmas.Option.{same_Some, slice_get_within, get_or_from_slice_get}
 use Rattle.line_table.specs.declared.lines.Line.{Line}
 use Rattle.history.specs.declared.operations.Stamped.{Stamped}
 use Rattle.line_steps.specs.declared.actors.Setup.{Setup}
 use Rattle.line_steps.specs.declared.actors.Actor.{Actor}
 use Rattle.line_steps.specs.declared.actors.Outcome.{Outcome}
-use Rattle.step_machine.specs.Machine.{World, opening, actor_of, new_operation, told, recorded, AnyMove, next_any, run_on, run}
+use Rattle.step_machine.specs.Machine.{World, opening, actor_of, with_actor, new_operation, told, recorded, AnyMove, next_any, run_on, run}
 use Rattle.step_machine.specs.Stamps.{makers}
 use Rattle.step_machine.proofs.AnyMoves.{AfterEach, after_move}
 use Rattle.step_machine.proofs.Reached.{some_of}
-use Rattle.step_machine.proofs.StampsLists.{PutAt, put_set, put_end, by_within}
+use Rattle.step_machine.proofs.StampsLists.{PutAt, put_set, put_end, put_cases, by_within}
 use Rattle.step_machine.proofs.StampsLines.{Stands, stands_while}
-use Rattle.step_machine.proofs.StampsKept.{Over, Knows, Kept}
+use Rattle.step_machine.proofs.StampsKept.{Over, Knows, Kept, actor_cases}
 use Rattle.step_machine.proofs.StampsMoves.{moves_kept, may_rest_all}
 use Rattle.step_machine.proofs.EffectsKept.{run_last}
 
@@ -87,3 +88,40 @@ telling K w me a l o kept is at = go a.entry refl (subst (λ x. Knows (Unit {0})
           latest = knows.1.latest;
           from = inr (e, knows.1.here);
         })
+
+-- an operation that stands where one is told is the one that was there
+pub stood : {K : List ℕ} {w : World} {me : ℕ} {a : Actor} {l : Line} {o : Outcome} {opz : List Stamped} (it : Telling K w me a l o opz) (i : ℕ) (p : Stamped) → slice_get w.operations i ≡ Some p → i ≡ it.place → it.was ≡ p
+stood {w = w} {me = me} {a = a} it i p got q = go it.from
+  where
+    here : slice_get w.operations it.place ≡ Some p
+    here = ap (λ j. slice_get w.operations j) (sym q) ∙ got
+
+    go : ((a.entry ≡ None) × (it.place ≡ length w.operations) × (it.was ≡ new_operation me a.op (w.steps + 1))) ⊎ ((a.entry ≡ Some it.place) × (slice_get w.operations it.place ≡ Some it.was)) → it.was ≡ p
+    go (inl new) = absurd (let within : it.place < length w.operations = slice_get_within w.operations it.place p here in omega (arith, new.1))
+    go (inr old) = same_Some it.was p (sym old.1 ∙ here)
+
+-- what holds of the element put, and of each other one, holds of each element
+pub each_put : {X : Type 0} {xs ys : List X} {e : ℕ} {x : X} → PutAt xs ys e x → (P : ℕ → X → Type 0) → P e x → ((i : ℕ) (y : X) → i ≢ e → slice_get xs i ≡ Some y → P i y) → (i : ℕ) (y : X) → slice_get ys i ≡ Some y → P i y
+each_put {xs = xs} {e = e} {x = x} put P here others i y got = go (put_cases put i y got)
+  where
+    go : ((i ≡ e) × (x ≡ y)) ⊎ ((i ≢ e) × (slice_get xs i ≡ Some y)) → P i y
+    go (inl q) = subst (λ j. P j y) (sym q.0) (subst (P e) q.1 here)
+    go (inr q) = others i y q.0 q.1
+
+-- what holds of an actor's new state, and of each other actor, holds of each actor
+pub each_actor : (w : World) (me : ℕ) (a b : Actor) (P : ℕ → Actor → Type 0) → actor_of w me ≡ Some a → P me b → ((you : ℕ) (c : Actor) → you ≢ me → actor_of w you ≡ Some c → P you c) → (you : ℕ) (c : Actor) → actor_of (with_actor w me b) you ≡ Some c → P you c
+each_actor w me a b P is mine others you c got = go (actor_cases w me a b is you c got)
+  where
+    go : ((you ≡ me) × (b ≡ c)) ⊎ ((you ≢ me) × (actor_of w you ≡ Some c)) → P you c
+    go (inl q) = subst (λ j. P j c) (sym q.0) (subst (P me) q.1 mine)
+    go (inr q) = others you c q.0 q.1
+
+-- a fact of the element at each place is one of all elements
+pub all_of : {X : Type 0} (P : X → Type 0) (xs : List X) → ((i : ℕ) (o : X) → slice_get xs i ≡ Some o → P o) → AllByRecursion P xs
+all_of P [] h = tt
+all_of P (x ∷ xs) h = (h 0 x refl, all_of P xs (λ i o got. h (suc i) o got))
+
+-- and a fact of what an option has, if it has something
+pub if_some_all : {X : Type 0} (o : Option X) (P : X → Type 0) → ((x : X) → o ≡ Some x → P x) → IfSome o P
+if_some_all None P h = tt
+if_some_all (Some x) P h = h x refl
