@@ -2,7 +2,7 @@
 use Rattle.std.proofs.Common.{◌≡◌, ◌≢◌, ℕ, suc, ◌+◌, ◌-◌, ◌<◌, ◌≤◌, ◌⊎◌, inl, inr, Bool, true, false, List, [], ◌∷◌, ◌++◌, length, Option, Some, None, IfSome, refl, sym, subst, ap, ◌∙◌, length-append, arith}
 use Rattle.std.specs.Prelude.{slice_get}
 use Rattle.std.specs.List.{AllByRecursion}
-use Rattle.std.proofs.lemmas.Option.{none-some, same_Some, slice_get_within}
+use Rattle.std.proofs.lemmas.Option.{none-some, same_Some}
 use Rattle.line_table.specs.declared.lines.Line.{Line}
 use Rattle.line_table.specs.declared.lines.Line.TheVariants.{E9, D13, A5, B5}
 use Rattle.line_table.specs.Sections.{section_of}
@@ -24,7 +24,7 @@ use Rattle.step_machine.specs.Spans.{LiesIn, ComesBeforeNext, IsEffectLineOf, Ar
 use Rattle.step_machine.proofs.Reached.{some_of}
 use Rattle.step_machine.proofs.StampsLists.{same_or_not}
 use Rattle.step_machine.proofs.StampsLines.{Stands}
-use Rattle.step_machine.proofs.StampsKept.{Kept, Operations, actor_stands, actor_cases}
+use Rattle.step_machine.proofs.StampsKept.{Kept, Operations, actor_stands}
 use Rattle.step_machine.proofs.StampsMoves.{idle_got}
 use Rattle.step_machine.proofs.StampsLaws.{apart}
 use Rattle.step_machine.proofs.Fixed.{Pushes, Runs, FixedAt, Fixes, fixed, fixed_given, fixed_entry, fixed_begun}
@@ -35,7 +35,7 @@ use Rattle.step_machine.proofs.EffectsKept.{split_last, placed_by_effect}
 use Rattle.step_machine.proofs.StepTells.{Tells, tells, given_tells}
 use Rattle.step_machine.proofs.RepliesPlaced.{stepper, is_step}
 use Rattle.step_machine.proofs.NumbersLie.{order, ended_out}
-use Rattle.step_machine.proofs.Walking.{walked, kept_after, Telling, telling}
+use Rattle.step_machine.proofs.Walking.{walked, kept_after, Telling, telling, stood, each_actor}
 
 -- a line with an effect is one of the actor's call
 pushes_line : (me : ℕ) (op : Op) (val : Taken) (l : Line) → Pushes me op val → ((body : ℕ) → IsEffectLineOf (Enq body) l) → IsEffectLineOf op l
@@ -108,19 +108,13 @@ module _ (s : Setup) (n : ℕ) where
   still : (done : List AnyMove) (w : World) (m : AnyMove) (me : ℕ) (a b : Actor) → is_step m ≡ false → run done (opening s n) ≡ Some w → actor_of w me ≡ Some a → FixedAt w.setup.limit me b b.line → ((l : Line) (e : ℕ) → b.line ≡ Some l → b.entry ≡ Some e → ⊥) → Placing done w → Placing (done ++ m ∷ []) (with_actor w me b)
   still done w m me a b none led is registers fresh h =
       record {
-        registers = λ you c got. pick you c (actor_cases w me a b is you c got);
-        calls = λ you e c l o there at entry got. calls you e c l o at entry got (actor_cases w me a b is you c there);
+        registers = each_actor w me a b (λ j x. FixedAt w.setup.limit j x x.line) is registers (λ j x other there. h.registers j x there);
+        calls = λ you e c l o there.
+            each_actor w me a b (λ j x. x.line ≡ Some l → x.entry ≡ Some e → slice_get w.operations e ≡ Some o → o.op ≡ x.op) is
+            (λ at entry got. absurd (fresh l e at entry)) (λ j x other here at entry got. h.calls j e x l o here at entry got) you c there;
         places = λ you k t.
             elim (took_last done w m you k led t) [ inl old ↦ subst (PlacedAt w.operations you k) old.1 (h.places you k old.0) | inr new ↦ absurd (let f : false ≡ true = sym none ∙ ap is_step new.0 in cc) ];
       }
-    where
-      pick : (you : ℕ) (c : Actor) → ((you ≡ me) × (b ≡ c)) ⊎ ((you ≢ me) × (actor_of w you ≡ Some c)) → FixedAt w.setup.limit you c c.line
-      pick you c (inl q) = subst (λ j. FixedAt w.setup.limit j c c.line) (sym q.0) (subst (λ (z : Actor). FixedAt w.setup.limit me z z.line) q.1 registers)
-      pick you c (inr q) = h.registers you c q.1
-
-      calls : (you e : ℕ) (c : Actor) (l : Line) (o : Stamped) → c.line ≡ Some l → c.entry ≡ Some e → slice_get w.operations e ≡ Some o → ((you ≡ me) × (b ≡ c)) ⊎ ((you ≢ me) × (actor_of w you ≡ Some c)) → o.op ≡ c.op
-      calls you e c l o at entry got (inl q) = absurd (fresh l e (ap (λ (z : Actor). z.line) q.1 ∙ at) (ap (λ (z : Actor). z.entry) q.1 ∙ entry))
-      calls you e c l o at entry got (inr q) = h.calls you e c l o q.1 at entry got
 
   module _ (done : List AnyMove) (w : World) (m : AnyMove) (me : ℕ) (a : Actor) (l : Line) (o : Outcome) (m' : Shared) (looked : Bool) (E : Type 0) (led : run done (opening s n) ≡ Some w) (is : actor_of w me ≡ Some a) (at_line : a.line ≡ Some l) (h : Placing done w) (t : Tells l looked (w.steps + 1) a o) (eff : Effects E (w.steps + 1) o) (first : (at : Option ℕ) → E → Stands l a.due at (Unit {0}) → at ≡ None) (registers : Fixes w.setup.limit me o) (same : o.actor.op ≡ a.op) (by_it : (you k : ℕ) (line : Line) → m ≡ made (Step you) → Now w you k line → (you ≡ me) × (k ≡ w.steps + 1) × (line ≡ l) × E × IsEffectLineOf a.op l) where
     kept : Kept (Unit {0}) (makers done) w
@@ -152,21 +146,11 @@ module _ (s : Setup) (n : ℕ) where
     old_placed : (you k : ℕ) (line : Line) → PlacedAt w.operations you k line → PlacedAt (settled w me a m' o).operations you k line
     old_placed you k line x = go (same_or_not x.place it.place)
       where
-        stood : x.place ≡ it.place → it.was ≡ x.operation
-        stood q = pick it.from
-          where
-            here : slice_get w.operations it.place ≡ Some x.operation
-            here = ap (λ j. slice_get w.operations j) (sym q) ∙ x.there
-
-            pick : ((a.entry ≡ None) × (it.place ≡ length w.operations) × (it.was ≡ new_operation me a.op (w.steps + 1))) ⊎ ((a.entry ≡ Some it.place) × (slice_get w.operations it.place ≡ Some it.was)) → it.was ≡ x.operation
-            pick (inl new) = absurd (let within : it.place < length w.operations = slice_get_within w.operations it.place x.operation here in omega (arith, new.1))
-            pick (inr old) = same_Some it.was x.operation (sym old.1 ∙ here)
-
         go : (x.place ≡ it.place) ⊎ (x.place ≢ it.place) → PlacedAt (settled w me a m' o).operations you k line
         go (inr other) =
             record { place = x.place; operation = x.operation; there = it.put.others x.place other ∙ x.there; own = x.own; at = x.at; call = x.call }
         go (inl q) =
-            let was : it.was ≡ x.operation = stood q in
+            let was : it.was ≡ x.operation = stood it x.place x.operation x.there q in
             record {
               place = it.place;
               operation = told (w.steps + 1) o it.was;
@@ -191,18 +175,14 @@ module _ (s : Setup) (n : ℕ) where
     settled_placing : Placing (done ++ m ∷ []) (settled w me a m' o)
     settled_placing =
         record {
-          registers = λ you c got. pick you c (actor_cases w me a _ is you c got);
+          registers =
+              each_actor w me a (record o.actor { entry = Some (entry_or a.entry (length w.operations)) }) (λ j x. FixedAt w.setup.limit j x x.line) is
+              (fixed_entry w.setup.limit me o.actor (Some (entry_or a.entry (length w.operations))) o.actor.line registers.fixed)
+              (λ j x other there. h.registers j x there);
           calls = calls_settled (makers done) w me a l m' o kept is at_line same h.calls;
           places = λ you k x. places you k x (took_last done w m you k led x);
         }
       where
-        pick : (you : ℕ) (c : Actor) → ((you ≡ me) × (record o.actor { entry = Some (entry_or a.entry (length w.operations)) } ≡ c)) ⊎ ((you ≢ me) × (actor_of w you ≡ Some c)) → FixedAt w.setup.limit you c c.line
-        pick you c (inl q) =
-            subst (λ j. FixedAt w.setup.limit j c c.line) (sym q.0)
-            (subst (λ (z : Actor). FixedAt w.setup.limit me z z.line) q.1
-            (fixed_entry w.setup.limit me o.actor (Some (entry_or a.entry (length w.operations))) o.actor.line registers.fixed))
-        pick you c (inr q) = h.registers you c q.1
-
         places : (you k : ℕ) (x : TookEffect s n (done ++ m ∷ []) you k) → ((u : TookEffect s n done you k) × (u.line ≡ x.line)) ⊎ ((m ≡ made (Step you)) × Now w you k x.line) → PlacedAt (settled w me a m' o).operations you k x.line
         places you k x (inl old) = subst (PlacedAt (settled w me a m' o).operations you k) old.1 (old_placed you k old.0.line (h.places you k old.0))
         places you k x (inr new) =

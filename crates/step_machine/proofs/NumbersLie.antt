@@ -1,7 +1,7 @@
 -- Each number that an actor's move took lies in exactly one operation of that actor.
 use Rattle.std.proofs.Common.{◌≡◌, ◌≢◌, ℕ, zero, suc, ◌+◌, ◌-◌, ◌<◌, ◌≤◌, ◌⊎◌, inl, inr, List, [], ◌∷◌, ◌++◌, length, map, Option, Some, None, IfSome, refl, sym, subst, ap, ◌∙◌, append_assoc, append-nil, arith}
 use Rattle.std.specs.Prelude.{slice_get, IsSomeAnd}
-use Rattle.std.proofs.lemmas.Option.{none-some, same_Some, slice_get_within}
+use Rattle.std.proofs.lemmas.Option.{none-some, same_Some}
 use Rattle.line_table.specs.declared.lines.Line.{Line}
 use Rattle.history.specs.declared.operations.Reply.{Reply}
 use Rattle.history.specs.declared.operations.Stamped.{Stamped}
@@ -21,7 +21,7 @@ use Rattle.step_machine.proofs.StampsLists.{put_cases, same_or_not, slice_get-ap
 use Rattle.step_machine.proofs.StampsKept.{Kept, Operations}
 use Rattle.step_machine.proofs.StampsMoves.{moves_kept, calls_rest_never}
 use Rattle.step_machine.proofs.AnyMoves.{AfterEach}
-use Rattle.step_machine.proofs.Walking.{walked, kept_after, Telling, telling}
+use Rattle.step_machine.proofs.Walking.{walked, kept_after, Telling, telling, stood}
 
 -- two numbers stand in one of three ways
 pub order : (i j : ℕ) → (i < j) ⊎ ((i ≡ j) ⊎ (j < i))
@@ -98,17 +98,6 @@ module _ (s : Setup) (n : ℕ) (done : List AnyMove) (w : World) (m : AnyMove) (
 
   -- a number taken before
   module _ (k you : ℕ) (low : k ≤ w.steps) (y : Lies w.operations you k) where
-    -- the operation told, where it stood in the list, is the one that was there
-    stood : (i : ℕ) (p : Stamped) → slice_get w.operations i ≡ Some p → i ≡ it.place → it.was ≡ p
-    stood i p got q = go it.from
-      where
-        here : slice_get w.operations it.place ≡ Some p
-        here = ap (λ j. slice_get w.operations j) (sym q) ∙ got
-
-        go : ((a.entry ≡ None) × (it.place ≡ length w.operations) × (it.was ≡ new_operation me a.op (w.steps + 1))) ⊎ ((a.entry ≡ Some it.place) × (slice_get w.operations it.place ≡ Some it.was)) → it.was ≡ p
-        go (inl new) = absurd (let within : it.place < length w.operations = slice_get_within w.operations it.place p here in omega (arith, new.1))
-        go (inr old) = same_Some it.was p (sym old.1 ∙ here)
-
     -- a later operation of the actor begins after the number
     later : (j : ℕ) (p : Stamped) → y.place < j → p.actor ≡ you → ((j ≡ it.place) × (told (w.steps + 1) o it.was ≡ p)) ⊎ ((j ≢ it.place) × (slice_get w.operations j ≡ Some p)) → k < p.first
     later j p lt own (inl q) = subst (λ (z : Stamped). z.actor ≡ you → k < z.first) q.1 (λ mine. first it.from mine) own
@@ -132,7 +121,7 @@ module _ (s : Setup) (n : ℕ) (done : List AnyMove) (w : World) (m : AnyMove) (
               next = λ j p lt got own. later j p lt own (put_cases it.put j p got);
             }
         go (inl same) =
-            let was : it.was ≡ y.operation = stood y.place y.operation y.there same in
+            let was : it.was ≡ y.operation = stood it y.place y.operation y.there same in
             record {
               place = it.place;
               operation = told (w.steps + 1) o it.was;

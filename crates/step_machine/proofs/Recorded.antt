@@ -1,8 +1,8 @@
 -- Each operation is of the call that was begun, and ends as its last move was told.
-use Rattle.std.proofs.Common.{◌≡◌, ◌≢◌, ℕ, suc, ◌+◌, ◌-◌, ◌<◌, ◌⊎◌, inl, inr, List, [], ◌∷◌, ◌++◌, length, Option, Some, None, IfSome, refl, sym, subst, ap, ◌∙◌, append_assoc, length-append, arith}
+use Rattle.std.proofs.Common.{◌≡◌, ◌≢◌, ℕ, ◌+◌, ◌-◌, ◌⊎◌, inl, inr, List, [], ◌∷◌, ◌++◌, length, Option, Some, None, IfSome, refl, sym, subst, ap, ◌∙◌, append_assoc, length-append, arith}
 use Rattle.std.specs.Prelude.{slice_get}
 use Rattle.std.specs.List.{AllByRecursion}
-use Rattle.std.proofs.lemmas.Option.{none-some, same_Some, slice_get_within, IfSome_then}
+use Rattle.std.proofs.lemmas.Option.{none-some, same_Some, IfSome_then}
 use Rattle.line_table.specs.declared.lines.Kind.{Kind}
 use Rattle.line_table.specs.declared.lines.Kind.TheVariants.{TwoLock, NonBlocking}
 use Rattle.line_table.specs.declared.lines.Line.{Line}
@@ -27,12 +27,11 @@ use Rattle.step_machine.specs.Calls.{giving_up, giving_up_at, stepped_at, line_o
 use Rattle.step_machine.specs.Stamps.{makers, numbered_by}
 use Rattle.step_machine.specs.TakingEffect.{OfOperations}
 use Rattle.step_machine.specs.Recording.{maker, IsFirstOfCall, AreOfCallsBegun, IsEnd, EndAsTold, Ending, TellTheirEnds}
-use Rattle.step_machine.proofs.StampsLists.{put_cases}
-use Rattle.step_machine.proofs.StampsKept.{actor_stands, actor_cases}
+use Rattle.step_machine.proofs.StampsKept.{actor_stands}
 use Rattle.step_machine.proofs.StampsMoves.{idle_got}
 use Rattle.step_machine.proofs.AnyMoves.{AfterEach}
 use Rattle.step_machine.proofs.EffectsKept.{split_last}
-use Rattle.step_machine.proofs.Walking.{walked, kept_after, Telling, telling}
+use Rattle.step_machine.proofs.Walking.{walked, kept_after, Telling, telling, stood, each_put, each_actor, all_of, if_some_all}
 
 -- the reply that a move was told, if its call ended
 abbrev said : Option Stepped → Option Reply
@@ -78,15 +77,6 @@ begun_op NonBlocking me Deq a = from_pocket_op F1 a.pocket _
 all_more : (P : AnyMove → Type 0) (ms : List AnyMove) (m : AnyMove) → AllByRecursion P ms → P m → AllByRecursion P (ms ++ m ∷ [])
 all_more P [] m all last = (last, tt)
 all_more P (k ∷ ks) m all last = (all.0, all_more P ks m all.1 last)
-
--- a fact of the element at each place is one of all elements
-all_of : {X : Type 0} (P : X → Type 0) (xs : List X) → ((i : ℕ) (o : X) → slice_get xs i ≡ Some o → P o) → AllByRecursion P xs
-all_of P [] h = tt
-all_of P (x ∷ xs) h = (h 0 x refl, all_of P xs (λ i o got. h (suc i) o got))
-
-if_some_all : {X : Type 0} (o : Option X) (P : X → Type 0) → ((x : X) → o ≡ Some x → P x) → IfSome o P
-if_some_all None P h = tt
-if_some_all (Some x) P h = h x refl
 
 -- an actor began a call, and made no move since
 record Begun (done : List AnyMove) (me : ℕ) (op : Op) : Type 0 where
@@ -173,15 +163,12 @@ module _ (s : Setup) (n : ℕ) where
   still done w m me a b own none led is mine h =
       record {
         firsts = λ i o got. first_more done m o.actor o.first o.op (h.firsts i o got);
-        begins = λ you c l got at e. pick you c l at e (actor_cases w me a b is you c got);
+        begins = λ you c l got.
+            each_actor w me a b (λ j x. x.line ≡ Some l → x.entry ≡ None → Begun (done ++ m ∷ []) j x.op) is (λ at e. mine l at)
+            (λ j x other there at e. begun_more done m j x.op (λ same. other (sym same ∙ own)) (h.begins j x l there at e)) you c got;
         ends = λ i last reply o got l r. end_more done m o.actor last reply (h.ends i last reply o got l r);
         each_end = λ you k reply e. elim (end_last done w m you k reply led e) [ inl old ↦ h.each_end you k reply old | inr new ↦ absurd (none-some reply (sym none ∙ new.2)) ];
       }
-    where
-      pick : (you : ℕ) (c : Actor) (l : Line) → c.line ≡ Some l → c.entry ≡ None → ((you ≡ me) × (b ≡ c)) ⊎ ((you ≢ me) × (actor_of w you ≡ Some c)) → Begun (done ++ m ∷ []) you c.op
-      pick you c l at e (inl q) =
-          subst (λ j. Begun (done ++ m ∷ []) j c.op) (sym q.0) (subst (λ (z : Actor). Begun (done ++ m ∷ []) me z.op) q.1 (mine l (ap (λ (z : Actor). z.line) q.1 ∙ at)))
-      pick you c l at e (inr q) = begun_more done m you c.op (λ same. q.0 (sym same ∙ own)) (h.begins you c l q.1 at e)
 
   module _ (done : List AnyMove) (w : World) (move : Move) (me : ℕ) (a : Actor) (l : Line) (o : Outcome) (m' : Shared) (takes : numbered_by (made move) ≡ me ∷ []) (own : mover move ≡ me) (led : run done (opening s n) ≡ Some w) (is : actor_of w me ≡ Some a) (at_line : a.line ≡ Some l) (tells : heard w (made move) ≡ o.reply) (as_told : (reply : Reply) → o.reply ≡ Some reply → move_told w move ≡ Some (Ended l reply)) (h : Records done w) where
     it : Telling (makers done) w me a l o (settled w me a m' o).operations
@@ -227,38 +214,25 @@ module _ (s : Setup) (n : ℕ) where
 
     -- the operation told had not ended
     elsewhere : (i last : ℕ) (p : Stamped) → slice_get w.operations i ≡ Some p → p.last ≡ Some last → i ≢ it.place
-    elsewhere i last p got ended q = go it.from
-      where
-        here : slice_get w.operations it.place ≡ Some p
-        here = ap (λ j. slice_get w.operations j) (sym q) ∙ got
-
-        go : ((a.entry ≡ None) × (it.place ≡ length w.operations) × (it.was ≡ new_operation me a.op (w.steps + 1))) ⊎ ((a.entry ≡ Some it.place) × (slice_get w.operations it.place ≡ Some it.was)) → ⊥
-        go (inl new) = let within : it.place < length w.operations = slice_get_within w.operations it.place p here in omega (arith, new.1)
-        go (inr old) = none-some last (sym it.no_last ∙ ap (λ (x : Stamped). x.last) (same_Some it.was p (sym old.1 ∙ here)) ∙ ended)
+    elsewhere i last p got ended q = none-some last (sym it.no_last ∙ ap (λ (x : Stamped). x.last) (stood it i p got q) ∙ ended)
 
     -- a numbered move
     settled_records : Records (done ++ made move ∷ []) (settled w me a m' o)
     settled_records =
         record {
-          firsts = λ i p got. firsts i p (put_cases it.put i p got);
-          begins = λ you c j got at e. begins you c j at e (actor_cases w me a _ is you c got);
-          ends = λ i last reply p got last_is reply_is. ends i last reply p last_is reply_is (put_cases it.put i p got);
+          firsts =
+              each_put it.put (λ i p. IsFirstOfCall s n (done ++ made move ∷ []) p.actor p.first p.op) first
+              (λ i p other got. first_more done (made move) p.actor p.first p.op (h.firsts i p got));
+          begins = λ you c j got.
+              each_actor w me a (record o.actor { entry = Some (entry_or a.entry (length w.operations)) }) (λ i x. x.line ≡ Some j → x.entry ≡ None → Begun (done ++ made move ∷ []) i x.op) is
+              (λ at e. absurd (none-some (entry_or a.entry (length w.operations)) (sym e)))
+              (λ i x other there at e. begun_more done (made move) i x.op (λ same. other (sym same ∙ own)) (h.begins i x j there at e)) you c got;
+          ends = λ i last reply.
+              each_put it.put (λ j p. p.last ≡ Some last → p.reply ≡ Some reply → IsEnd s n (done ++ made move ∷ []) p.actor last reply) (end last reply)
+              (λ j p other got l r. end_more done (made move) p.actor last reply (h.ends j last reply p got l r)) i;
           each_end = λ you k reply e. each_end you k reply (end_last done w (made move) you k reply led e);
         }
       where
-        firsts : (i : ℕ) (p : Stamped) → ((i ≡ it.place) × (told (w.steps + 1) o it.was ≡ p)) ⊎ ((i ≢ it.place) × (slice_get w.operations i ≡ Some p)) → IsFirstOfCall s n (done ++ made move ∷ []) p.actor p.first p.op
-        firsts i p (inl q) = subst (λ (x : Stamped). IsFirstOfCall s n (done ++ made move ∷ []) x.actor x.first x.op) q.1 first
-        firsts i p (inr q) = first_more done (made move) p.actor p.first p.op (h.firsts i p q.1)
-
-        begins : (you : ℕ) (c : Actor) (j : Line) → c.line ≡ Some j → c.entry ≡ None → ((you ≡ me) × (record o.actor { entry = Some (entry_or a.entry (length w.operations)) } ≡ c)) ⊎ ((you ≢ me) × (actor_of w you ≡ Some c)) → Begun (done ++ made move ∷ []) you c.op
-        begins you c j at e (inl q) = absurd (none-some (entry_or a.entry (length w.operations)) (sym (ap (λ (z : Actor). z.entry) q.1 ∙ e)))
-        begins you c j at e (inr q) = begun_more done (made move) you c.op (λ same. q.0 (sym same ∙ own)) (h.begins you c j q.1 at e)
-
-        ends : (i last : ℕ) (reply : Reply) (p : Stamped) → p.last ≡ Some last → p.reply ≡ Some reply → ((i ≡ it.place) × (told (w.steps + 1) o it.was ≡ p)) ⊎ ((i ≢ it.place) × (slice_get w.operations i ≡ Some p)) → IsEnd s n (done ++ made move ∷ []) p.actor last reply
-        ends i last reply p last_is reply_is (inl q) =
-            subst (λ (x : Stamped). x.last ≡ Some last → x.reply ≡ Some reply → IsEnd s n (done ++ made move ∷ []) x.actor last reply) q.1 (end last reply) last_is reply_is
-        ends i last reply p last_is reply_is (inr q) = end_more done (made move) p.actor last reply (h.ends i last reply p q.1 last_is reply_is)
-
         each_end : (you k : ℕ) (reply : Reply) → IsEnd s n done you k reply ⊎ ((mover move ≡ you) × (k ≡ w.steps + 1) × (heard w (made move) ≡ Some reply)) → Ending (settled w me a m' o).operations you k reply
         each_end you k reply (inl old) =
             let x : Ending w.operations you k reply = h.each_end you k reply old in
