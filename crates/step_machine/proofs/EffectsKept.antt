@@ -16,7 +16,7 @@ use Rattle.step_machine.proofs.StampsMoves.{May, moves_kept, may_rest_all, calls
 use Rattle.step_machine.proofs.EffectLines.{Effects, line_effects, give_effects}
 
 -- the last of some moves is one of them, or it is after that one
-split_last : (done before after : List AnyMove) (m x : AnyMove) → done ++ m ∷ [] ≡ before ++ x ∷ after → ((before ≡ done) × (m ≡ x)) ⊎ ((more : List AnyMove) × (done ≡ before ++ x ∷ more))
+pub split_last : (done before after : List AnyMove) (m x : AnyMove) → done ++ m ∷ [] ≡ before ++ x ∷ after → ((before ≡ done) × (m ≡ x)) ⊎ ((more : List AnyMove) × (done ≡ before ++ x ∷ more))
 split_last [] [] after m x e = inl (refl, ap (λ ms. get_or ms 0 x) e)
 split_last [] (b ∷ bs) after m x e =
     absurd (let short : length {A = AnyMove} [] ≡ length (bs ++ x ∷ after) = ap (λ ms. length (drop 1 ms)) e in omega (arith, length-append bs (x ∷ after)))
@@ -29,7 +29,7 @@ split_last (d ∷ ds) (b ∷ bs) after m x e =
     go same (inr p) = inr (p.0, ap (λ y. y ∷ ds) same ∙ ap (λ ys. b ∷ ys) p.1)
 
 -- one move more at the end of a list
-run_last : (ms : List AnyMove) (m : AnyMove) (w v u : World) → run ms w ≡ Some v → next_any v m ≡ Some u → run (ms ++ m ∷ []) w ≡ Some u
+pub run_last : (ms : List AnyMove) (m : AnyMove) (w v u : World) → run ms w ≡ Some v → next_any v m ≡ Some u → run (ms ++ m ∷ []) w ≡ Some u
 run_last [] m w v u led e = ap (run_on (run [])) (ap (λ x. next_any x m) (same_Some w v led) ∙ e)
 run_last (k ∷ ks) m w v u led e = on (next_any w k) led (λ x. run_last ks m x v u)
   where

@@ -51,3 +51,12 @@ pub mod PlaceOf
 pub mod Alone
 pub mod EffectLines
 pub mod EffectsKept
+pub mod Locks
+pub mod WornOut
+pub mod Marks
+pub mod Walking
+pub mod StepTells
+pub mod RepliesPlaced
+pub mod Recorded
+pub mod NumbersLie
+pub mod EffectPlaces

@@ -19,7 +19,7 @@ pub record NoCounts (m : Shared) : Type 0 where
   pub nodes : All (λ n. n.next.count ≡ 0) m.nodes
 
 -- and so are those that an actor holds
-abbrev MarksNothing : Actor → Type 0
+abbrev pub MarksNothing : Actor → Type 0
 MarksNothing a = record { mark : a.mark ≡ 0; next : a.next.count ≡ 0; pocket : IfSome a.pocket (λ h. h.mark ≡ 0) }
 
 -- the actor of an outcome has none
@@ -27,7 +27,7 @@ record Marks (o : Outcome) : Type 0 where
   actor : MarksNothing o.actor
 
 -- the node of a number has none, also where there is none
-no_count : (nodes : List Node) (k : ℕ) → All (λ n. n.next.count ≡ 0) nodes → (get_or nodes k blank).next.count ≡ 0
+pub no_count : (nodes : List Node) (k : ℕ) → All (λ n. n.next.count ≡ 0) nodes → (get_or nodes k blank).next.count ≡ 0
 no_count [] k h = refl
 no_count (x ∷ xs) zero h = h 0 blank (omega arith)
 no_count (x ∷ xs) (suc k) h = no_count xs k (λ j d low. h (suc j) d (omega arith))
@@ -134,9 +134,9 @@ begun_marks TwoLock me Deq a g = from_pocket_marks F1 a.pocket _ g.pocket (recor
 begun_marks NonBlocking me Deq a g = from_pocket_marks F1 a.pocket _ g.pocket (record { mark = g.mark; next = g.next; pocket = g.pocket })
 
 -- a world without counts
-record Uncounted (w : World) : Type 0 where
-  shared : NoCounts w.shared
-  actors : (me : ℕ) (a : Actor) → actor_of w me ≡ Some a → MarksNothing a
+pub record Uncounted (w : World) : Type 0 where
+  pub shared : NoCounts w.shared
+  pub actors : (me : ℕ) (a : Actor) → actor_of w me ≡ Some a → MarksNothing a
 
 settled_uncounted : (w : World) (me : ℕ) (a : Actor) (m : Shared) (o : Outcome) → actor_of w me ≡ Some a → Uncounted w → NoCounts m → Marks o → Uncounted (settled w me a m o)
 settled_uncounted w me a m o is u h g =
@@ -153,7 +153,7 @@ with_uncounted w me a b is u g = record { shared = u.shared; actors = λ you c g
     pick you c (inl q) = subst MarksNothing q.1 g
     pick you c (inr q) = u.actors you c q.1
 
-uncounted : (w : World) → IsReached w → w.setup.kind ≡ TwoLock → Uncounted w
+pub uncounted : (w : World) → IsReached w → w.setup.kind ≡ TwoLock → Uncounted w
 uncounted =
     each_reached TwoLock Uncounted
     (record {

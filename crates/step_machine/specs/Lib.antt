@@ -20,3 +20,6 @@ pub mod Histories
 pub mod Placing
 pub mod Solo
 pub mod TakingEffect
+pub mod Locks
+pub mod Recording
+pub mod Spans

@@ -1,6 +1,7 @@
 //! A world behind a lock, which threads share.
+ghost use Rattle.std.specs.Prelude.{length};
 ghost use Rattle.std.specs.Sync.Mutex.{mutex_guard_value};
-ghost use Rattle.step_machine.specs.Machine.{IsMade, IsReached};
+ghost use Rattle.step_machine.specs.Machine.{IsSized, IsMade, IsReached};
 
 use crate::world::World;
 use std::sync::{Mutex, MutexGuard, Wait};
@@ -16,6 +17,7 @@ pub type Bench = Mutex<World>;
 pub fn on_bench<'b, R: Wait>(rt: &R, bench: &'b Bench) -> MutexGuard<'b, World>
     ensures made { IsMade (mutex_guard_value result) }
     ensures reached { IsReached (mutex_guard_value result) }
+    ensures sized { IsSized (mutex_guard_value result).setup (length (mutex_guard_value result).actors) }
 {
     let world = bench.lock(rt);
     world.is_made();

@@ -3,6 +3,7 @@ ghost use Rattle.history.specs.History.{Placement, IsLegal};
 ghost use Rattle.step_machine.specs.EachQueue.{ReplaysToItsValues};
 ghost use Rattle.step_machine.specs.TakingEffect.{ArePlacedByEffect, HaveTheirEffect};
 ghost use Rattle.step_machine.specs.TakingEffect.{OfOperations, OfOperationsOfCalls};
+ghost use Rattle.step_machine.specs.Spans.{ArePlacedAtTheirLines, EffectsGivePlaces};
 ghost use Rattle.step_machine.specs.Histories.{OfEachHistory, OfEachWorld};
 ghost use Rattle.step_machine.specs.Entries.{AreFew, PlaysToItsValues};
 
@@ -22,6 +23,14 @@ pub fn every_history_is_placed_and_legal()
 pub fn operations_are_placed_by_their_effects()
     ensures places { OfOperations ArePlacedByEffect }
     ensures effects { OfOperationsOfCalls HaveTheirEffect }
+{}
+
+/// Which line gives a call its place: of an enqueue E9 or A5, of a dequeue D13 or B5. After rests too each step that had an
+/// effect gives its number as the place to the operation of its actor in which the number lies, that is up to the
+/// operation's last number, and before the actor's next operation begins.
+pub fn effects_give_operations_their_places()
+    ensures lines { OfOperations ArePlacedAtTheirLines }
+    ensures each_effect { OfOperations EffectsGivePlaces }
 {}
 
 /// At every step the operations that took effect so far, with the replies that they were told or that their calls

@@ -1,5 +1,5 @@
 //! One move of a world, as a value.
-ghost use Rattle.std.specs.Prelude.{◌≡◌, Some, OnOk, OnErr, IfOk, IfErr};
+ghost use Rattle.std.specs.Prelude.{◌≡◌, ◌^◌, ◌<◌, Some, OnOk, OnErr, IfOk, IfErr};
 ghost use Rattle.step_machine.specs.declared.actors.Move.TheVariants.{Give};
 ghost use Rattle.step_machine.specs.Machine.{next};
 ghost use Rattle.step_machine.specs.Calls.{MoveRefused, move_told};
@@ -15,6 +15,7 @@ use history::Refusal;
 /// begin takes memory.
 pub fn step_in(world: &mut World, one: Move) -> Result<Stepped, Refusal>
     ensures ok { OnOk result (next world.old one ≡ Some world.new) }
+    ensures numbered { OnOk result (world.new.steps < 2 ^ 64) }
     ensures told { IfOk result (λ s. move_told world.old one ≡ Some s) }
     ensures err { OnErr result (world.new ≡ world.old) }
     ensures refused { IfErr result (MoveRefused world.old one) }
@@ -32,6 +33,7 @@ pub fn step_in(world: &mut World, one: Move) -> Result<Stepped, Refusal>
 /// Gives up an actor's call, and says at which line.
 fn give_in(world: &mut World, actor: u16) -> Result<Stepped, Refusal>
     ensures ok { OnOk result (next world.old (Give actor) ≡ Some world.new) }
+    ensures numbered { OnOk result (world.new.steps < 2 ^ 64) }
     ensures told { IfOk result (λ s. move_told world.old (Give actor) ≡ Some s) }
     ensures err { OnErr result (world.new ≡ world.old) }
     ensures refused { IfErr result (MoveRefused world.old (Give actor)) }

@@ -4,6 +4,7 @@ ghost use Rattle.history.specs.History.{IsLegal};
 ghost use Rattle.step_machine.specs.EachQueue.{HasItsPlaces, KeepsQueueAndFreeApart};
 ghost use Rattle.step_machine.specs.EachQueue.{RaisesBelowTheLimit, RefusesWithCause};
 ghost use Rattle.step_machine.specs.EachQueue.{ReplaysToItsValues, CountsValuesTaken};
+ghost use Rattle.step_machine.specs.Locks.{MarksAreCounts};
 ghost use Rattle.step_machine.specs.NonBlocking.{OfNonBlockingWorlds, TailLagsByOne, TailIsNotBehindHead};
 ghost use Rattle.step_machine.specs.NonBlocking.{NeverFindsHeadWornOut, FindsItsOwnNextWornOut};
 ghost use Rattle.step_machine.specs.NonBlocking.{NeverRefusedForHead, TakesTheFront};
@@ -33,6 +34,11 @@ pub fn refusals_have_their_cause()
     ensures own_next { OfNonBlockingWorlds FindsItsOwnNextWornOut }
     ensures never_head { OfNonBlockingWorlds NeverFindsHeadWornOut }
     ensures in_history { OfNonBlockingWorlds NeverRefusedForHead }
+{}
+
+/// The mark of a node in a pocket is the count of the node's `next`.
+pub fn marks_are_counts()
+    ensures { OfNonBlockingWorlds MarksAreCounts }
 {}
 
 /// The value that a dequeue takes is the first one of the queue.

@@ -2,6 +2,10 @@
 ghost use Rattle.std.specs.Prelude.{◌≡◌, length, AllPairs};
 ghost use Rattle.std.specs.List.{AllByRecursion};
 ghost use Rattle.history.specs.History.{Placement};
+ghost use Rattle.step_machine.specs.TakingEffect.{OfOperations, OfOperationsOfCalls};
+ghost use Rattle.step_machine.specs.Recording.{IsRefusedAtItsEnd, AreEmptyAtTheirLastLook};
+ghost use Rattle.step_machine.specs.Recording.{AreOfCallsBegun, EndAsTold, TellTheirEnds};
+ghost use Rattle.step_machine.specs.Spans.{NumbersLieInOne, NumbersLieInOneBeforeNext};
 ghost use Rattle.step_machine.specs.Stamps.{makers, IsStamped, BeginsBefore, DoNotOverlap, DoNotOverlapOrRest, AfterMoves, AfterCalls};
 
 /// A world has given one number to each step and to each giving up.
@@ -29,4 +33,34 @@ pub fn operations_of_an_actor_do_not_overlap()
 /// Every history is placed: each operation is well placed, and no two share a place.
 pub fn histories_are_placed()
     ensures { AfterMoves (λ moves w. Placement w.operations) }
+{}
+
+/// A refused operation stands at its last number.
+pub fn refusals_stand_at_their_last_number()
+    ensures { AfterMoves (λ moves w. AllByRecursion IsRefusedAtItsEnd w.operations) }
+{}
+
+/// An operation that was told that the queue is empty stands at its call's last step at D4 or B3, where the dequeue looks
+/// for a node behind the dummy.
+pub fn empty_replies_stand_at_their_last_look()
+    ensures { OfOperations AreEmptyAtTheirLastLook }
+{}
+
+/// An operation is of the call that its actor had begun when it took its first number.
+pub fn operations_are_of_the_calls_begun()
+    ensures { OfOperations AreOfCallsBegun }
+{}
+
+/// An operation's last number and its reply are those of a move of its actor that ended a call, as that move was told; and
+/// each such move has left its number and reply to an operation.
+pub fn operations_end_as_they_were_told()
+    ensures ends { OfOperations EndAsTold }
+    ensures each_end { OfOperations TellTheirEnds }
+{}
+
+/// Each number that an actor's move took lies in exactly one operation of that actor. Where actors may rest, which leaves
+/// operations without a last number, one reaches to the first number of the actor's next one at most.
+pub fn each_number_lies_in_one_operation()
+    ensures calls { OfOperationsOfCalls NumbersLieInOne }
+    ensures with_rests { OfOperations NumbersLieInOneBeforeNext }
 {}

@@ -5,6 +5,8 @@ ghost use Rattle.step_machine.specs.EachQueue.{HasItsPlaces, KeepsQueueAndFreeAp
 ghost use Rattle.step_machine.specs.EachQueue.{RaisesBelowTheLimit, RefusesWithCause};
 ghost use Rattle.step_machine.specs.EachQueue.{ReplaysToItsValues, CountsValuesTaken};
 ghost use Rattle.step_machine.specs.TwoLock.{OfTwoLockWorlds, TailNamesTheLast, CountsNothing};
+ghost use Rattle.step_machine.specs.Locks.{LocksNameTheirHolders, LocksAreOfActors, LeavesTailToItsMover};
+ghost use Rattle.step_machine.specs.Locks.{FindsFreeOrHeadWornOut, RefusedForFreeOrHead, TakesTheFrontAtB5, MarksAreCounts};
 
 /// Each node is in exactly one place: never used, in the queue, free, held by one actor, or set aside.
 pub fn each_node_is_in_one_place()
@@ -31,6 +33,34 @@ pub fn counts_are_raised_below_the_limit()
 /// where the word's count is at the limit.
 pub fn refusals_have_their_cause()
     ensures { OfTwoLockWorlds RefusesWithCause }
+{}
+
+/// A call is worn out by Free or Head alone: no step finds another word worn out, and no operation was refused so.
+pub fn calls_are_worn_out_by_free_or_head_alone()
+    ensures found { OfTwoLockWorlds FindsFreeOrHeadWornOut }
+    ensures in_history { OfTwoLockWorlds RefusedForFreeOrHead }
+{}
+
+/// A lock names its holder: its word is the number of an actor exactly where that actor stands at A4 to A7, or of the
+/// head lock at B2 to B6; and else it is 0.
+pub fn locks_name_their_holders()
+    ensures holders { OfTwoLockWorlds LocksNameTheirHolders }
+    ensures actors { OfTwoLockWorlds LocksAreOfActors }
+{}
+
+/// Between A5 and A6, where Tail names a node that is no longer the last, only the actor there uses what Tail names.
+pub fn tail_is_left_to_its_mover()
+    ensures { OfTwoLockWorlds LeavesTailToItsMover }
+{}
+
+/// The value that a dequeue takes is the first one of the queue.
+pub fn values_are_taken_from_the_front()
+    ensures { OfTwoLockWorlds TakesTheFrontAtB5 }
+{}
+
+/// The mark of a node in a pocket is the count of the node's `next`.
+pub fn marks_are_counts()
+    ensures { OfTwoLockWorlds MarksAreCounts }
 {}
 
 /// Every history is legal: by rising place, from the empty queue, each operation gets the reply that it was told.

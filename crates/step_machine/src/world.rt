@@ -138,6 +138,7 @@ impl World {
     /// enqueue, for one node more, so that steps take no memory.
     pub fn begin(&mut self, actor: u16, op: Op) -> Result<(), Refusal>
         ensures ok { OnOk result (next self.old (Begin actor op) ≡ Some self.new) }
+        ensures numbered { OnOk result (self.new.steps < 2 ^ 64) }
         ensures alone { OnOk result (EndsAlone self.new actor op) }
         ensures err { OnErr result (self.new ≡ self.old) }
         ensures refused { IfErr result (BeginRefused self.old actor) }
@@ -168,6 +169,7 @@ impl World {
     /// memory.
     pub fn step(&mut self, actor: u16) -> Result<Stepped, Refusal>
         ensures ok { OnOk result (next self.old (Step actor) ≡ Some self.new) }
+        ensures numbered { OnOk result (self.new.steps < 2 ^ 64) }
         ensures told { IfOk result (λ s. step_told self.old actor (actor_of self.old actor) ≡ Some s) }
         ensures err { OnErr result (self.new ≡ self.old) }
         ensures refused { IfErr result (StepRefused self.old actor) }
@@ -209,6 +211,7 @@ impl World {
     /// 2^64 - 1 step numbers are used. Takes no memory.
     pub fn give(&mut self, actor: u16) -> Result<Reply, Refusal>
         ensures ok { OnOk result (next self.old (Give actor) ≡ Some self.new) }
+        ensures numbered { OnOk result (self.new.steps < 2 ^ 64) }
         ensures told { IfOk result (λ r. reply_of (giving_up self.old (actor_of self.old actor)) ≡ Some r) }
         ensures err { OnErr result (self.new ≡ self.old) }
         ensures refused { IfErr result (GiveRefused self.old actor) }

@@ -1,16 +1,16 @@
 //! What can be asked of a world. No query takes memory but `history`.
-ghost use Rattle.std.specs.Prelude.{◌≡◌, ◌≤◌, ◌<◌, ◌^◌, IfOk, IfErr, IfSome, IsSome};
+ghost use Rattle.std.specs.Prelude.{◌≡◌, ◌≤◌, ◌<◌, ◌^◌, IfOk, IfErr, IfSome, IsSome, length};
 ghost use Rattle.history.specs.declared.refusals.Refusal.TheVariants.{Memory};
 ghost use Rattle.history.specs.History.{Placement, IsLegal};
 ghost use Rattle.line_steps.specs.Memory.{Free, Head, Tail, Next, Value_of, content};
-ghost use Rattle.step_machine.specs.Machine.{actor_of, IsMade};
+ghost use Rattle.step_machine.specs.Machine.{actor_of, IsMade, IsReached};
 ghost use Rattle.step_machine.specs.TakingEffect.{HavePlacesByItsEffects};
 
 use crate::settling::actor_at;
 use crate::world::World;
 use counted_ref::CountedRef;
 use history::{Refusal, Stamped, Taken};
-use line_steps::Held;
+use line_steps::{Held, Setup};
 use line_table::Line;
 use std::alloc::Global;
 
@@ -55,9 +55,26 @@ impl World {
         }
     }
 
-    /// How many step numbers were given.
+    /// The kind of queue, the number of nodes and the greatest count, as `new` was given them.
+    pub fn setup(&self) -> Setup
+        ensures { result ≡ self.now.setup }
+    {
+        self.setup
+    }
+
+    /// How many actors there are, numbered from 1.
+    pub fn actors(&self) -> usize
+        ensures { result ≡ length self.now.actors }
+    {
+        self.actors.len()
+    }
+
+    /// How many step numbers were given. The world is one that begins, steps and givings up led to, so every law of worlds
+    /// holds of it.
     pub fn steps(&self) -> u64
-        ensures { result ≡ self.now.steps }
+        ensures value { result ≡ self.now.steps }
+        ensures made { IsMade self.now }
+        ensures reached { IsReached self.now }
     {
         self.steps
     }
