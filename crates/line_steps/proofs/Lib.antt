@@ -1,3 +1,3 @@
 pub mod Padding
 pub mod Seen
-pub mod Cases
+pub mod ByAccess

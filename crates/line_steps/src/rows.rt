@@ -1,4 +1,6 @@
 //! A function a line: what a step does at that line, which is the line's row of the table.
+#![tactic(auto, unfolding(crate::specs::Steps::outcome_on))]
+
 ghost use Rattle.line_steps.specs.Steps.{MayStep, Stepped};
 
 use crate::actors::{Actor, Outcome, Setup};

@@ -25,6 +25,7 @@ macro_rules! rows_of {
 /// most 16,777,214 and `limit` at most 1,099,511,627,775. The actor's registers name nodes for which there is room, their
 /// counts are at most `limit`, and `f` is at most `size`. Answers what becomes of the actor and of its operation. Takes
 /// no memory.
+#[tactic(auto, using(crate::proofs::ByAccess::outcome_by_access))]
 pub fn stepped(
     memory: &mut Memory,
     setup: Setup,
