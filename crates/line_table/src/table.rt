@@ -9,8 +9,7 @@
 /// looked up where the macro is used.
 ///
 /// `line_table!(each given [section ..])` becomes `each! { given N1 N2 .. }` with the lines of the sections named, in
-/// their order. `line_table!((setup now me a found) each given [section ..])` hands over their rows, one after another.
-/// The sections are `new_node`, `free`, `enqueue`, `dequeue`, `locked_enqueue` and `locked_dequeue`.
+/// their order. The sections are `new_node`, `free`, `enqueue`, `dequeue`, `locked_enqueue` and `locked_dequeue`.
 #[macro_export]
 macro_rules! line_table {
     // A new node, in both queues.
@@ -319,18 +318,5 @@ macro_rules! line_table {
     };
     (@names $each:ident $given:tt [locked_dequeue $($section:ident)*] [$($line:ident)*]) => {
         $crate::line_table!(@names $each $given [$($section)*] [$($line)* B1 B2 B3 B4 B5 B6])
-    };
-    // The rows of sections.
-    ($ids:tt $each:ident $given:tt [$($section:ident)*]) => {
-        line_table!(line_table (@rows $ids $each $given []) [$($section)*])
-    };
-    ((@rows $ids:tt $each:ident $given:tt [$($rows:tt)*])) => {
-        $each! { $given $($rows)* }
-    };
-    ((@rows $ids:tt $each:ident $given:tt $rows:tt) $line:ident $($more:ident)*) => {
-        line_table!($line $ids line_table (@next $ids $each $given $rows [$($more)*]))
-    };
-    ((@next $ids:tt $each:ident $given:tt [$($rows:tt)*] [$($more:ident)*]) $($row:tt)*) => {
-        line_table!((@rows $ids $each $given [$($rows)* $($row)*]) $($more)*)
     };
 }
