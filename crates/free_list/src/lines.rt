@@ -37,33 +37,10 @@ macro_rules! access {
 
 // One row: its access, and then its third column.
 macro_rules! row {
-    (($arena:ident $seat:ident $found:ident N1) N1 {$($access:tt)*} {$($then:tt)*} $($rest:tt)*) => {
-        { let $found = access!($arena $seat N1 $($access)*); $($then)* }
-    };
-    (($arena:ident $seat:ident $found:ident N2) N2 {$($access:tt)*} {$($then:tt)*} $($rest:tt)*) => {
-        { let $found = access!($arena $seat N2 $($access)*); $($then)* }
-    };
-    (($arena:ident $seat:ident $found:ident N3) N3 {$($access:tt)*} {$($then:tt)*} $($rest:tt)*) => {
-        { let $found = access!($arena $seat N3 $($access)*); $($then)* }
-    };
-    (($arena:ident $seat:ident $found:ident N4) N4 {$($access:tt)*} {$($then:tt)*} $($rest:tt)*) => {
-        { let $found = access!($arena $seat N4 $($access)*); $($then)* }
-    };
-    (($arena:ident $seat:ident $found:ident N5) N5 {$($access:tt)*} {$($then:tt)*} $($rest:tt)*) => {
-        { let $found = access!($arena $seat N5 $($access)*); $($then)* }
-    };
-    (($arena:ident $seat:ident $found:ident F1) F1 {$($access:tt)*} {$($then:tt)*} $($rest:tt)*) => {
-        { let $found = access!($arena $seat F1 $($access)*); $($then)* }
-    };
-    (($arena:ident $seat:ident $found:ident F2) F2 {$($access:tt)*} {$($then:tt)*} $($rest:tt)*) => {
-        { access!($arena $seat F2 $($access)*); $($then)* }
-    };
-    (($arena:ident $seat:ident $found:ident F3) F3 {$($access:tt)*} {$($then:tt)*} $($rest:tt)*) => {
-        { let $found = access!($arena $seat F3 $($access)*); $($then)* }
-    };
-    ($given:tt $line:ident $access:tt $then:tt $($rest:tt)*) => {
-        row! { $given $($rest)* }
-    };
+    (($arena:ident $seat:ident $found:ident) $line:ident {$($access:tt)*} {$($then:tt)*}) => {{
+        let $found = access!($arena $seat $line $($access)*);
+        $($then)*
+    }};
 }
 
 /// `index` turns of this call failed before.
@@ -73,7 +50,7 @@ pub(crate) fn n1(arena: &Arena, seat: &mut Seat, a: Actor, index: u32) -> Outcom
     ensures { Follows arena.now seat.old seat.new lead lines.N1 a result }
 {
     let _ = index;
-    line_table!((setup NOW NOW a found) row (arena seat found N1) [new_node])
+    line_table!(N1 (setup NOW NOW a found) row (arena seat found))
 }
 
 pub(crate) fn n2(arena: &Arena, seat: &mut Seat, a: Actor) -> Outcome
@@ -81,14 +58,14 @@ pub(crate) fn n2(arena: &Arena, seat: &mut Seat, a: Actor) -> Outcome
     ensures { Follows arena.now seat.old seat.new goes_on lines.N2 a result }
 {
     let setup = arena.setup();
-    line_table!((setup NOW NOW a found) row (arena seat found N2) [new_node])
+    line_table!(N2 (setup NOW NOW a found) row (arena seat found))
 }
 
 pub(crate) fn n3(arena: &Arena, seat: &mut Seat, a: Actor) -> Outcome
     requires { Stands arena.now seat.old goes_on lines.N3 a }
     ensures { Follows arena.now seat.old seat.new goes_on lines.N3 a result }
 {
-    line_table!((setup NOW NOW a found) row (arena seat found N3) [new_node])
+    line_table!(N3 (setup NOW NOW a found) row (arena seat found))
 }
 
 pub(crate) fn n4(arena: &Arena, seat: &mut Seat, a: Actor) -> Outcome
@@ -96,7 +73,7 @@ pub(crate) fn n4(arena: &Arena, seat: &mut Seat, a: Actor) -> Outcome
     ensures { Follows arena.now seat.old seat.new goes_on lines.N4 a result }
 {
     let setup = arena.setup();
-    line_table!((setup NOW NOW a found) row (arena seat found N4) [new_node])
+    line_table!(N4 (setup NOW NOW a found) row (arena seat found))
 }
 
 pub(crate) fn n5(arena: &Arena, seat: &mut Seat, a: Actor) -> Outcome
@@ -104,7 +81,7 @@ pub(crate) fn n5(arena: &Arena, seat: &mut Seat, a: Actor) -> Outcome
     ensures { Follows arena.now seat.old seat.new goes_on lines.N5 a result }
 {
     let setup = arena.setup();
-    line_table!((setup NOW NOW a found) row (arena seat found N5) [new_node])
+    line_table!(N5 (setup NOW NOW a found) row (arena seat found))
 }
 
 /// `index` turns of this call failed before.
@@ -115,14 +92,14 @@ pub(crate) fn f1(arena: &Arena, seat: &mut Seat, a: Actor, index: u32) -> Outcom
 {
     let _ = index;
     let setup = arena.setup();
-    line_table!((setup NOW NOW a found) row (arena seat found F1) [free])
+    line_table!(F1 (setup NOW NOW a found) row (arena seat found))
 }
 
 pub(crate) fn f2(arena: &Arena, seat: &mut Seat, a: Actor) -> Outcome
     requires { Stands arena.now seat.old goes_on lines.F2 a }
     ensures { Follows arena.now seat.old seat.new goes_on lines.F2 a result }
 {
-    line_table!((setup NOW NOW a found) row (arena seat found F2) [free])
+    line_table!(F2 (setup NOW NOW a found) row (arena seat found))
 }
 
 pub(crate) fn f3(arena: &Arena, seat: &mut Seat, a: Actor) -> Outcome
@@ -130,5 +107,5 @@ pub(crate) fn f3(arena: &Arena, seat: &mut Seat, a: Actor) -> Outcome
     ensures { Follows arena.now seat.old seat.new goes_on lines.F3 a result }
 {
     let setup = arena.setup();
-    line_table!((setup NOW NOW a found) row (arena seat found F3) [free])
+    line_table!(F3 (setup NOW NOW a found) row (arena seat found))
 }

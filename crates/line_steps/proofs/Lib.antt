@@ -1,4 +1,3 @@
 pub mod Padding
 pub mod Seen
-pub mod Cases
-pub mod AtLines
+pub mod ByAccess

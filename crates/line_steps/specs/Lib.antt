@@ -2,4 +2,5 @@ pub mod Memory
 pub mod Lines
 pub mod Rooms
 pub mod Ready
+pub mod Steps
 pub mod Calling

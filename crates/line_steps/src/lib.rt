@@ -4,6 +4,7 @@
 mod actors;
 mod memory;
 mod outcomes;
+mod rows;
 mod steps;
 
 pub use actors::{Actor, Held, Node, Outcome, Setup};

@@ -77,14 +77,14 @@ pub enum Section {
 
 // An array of the lines.
 macro_rules! listed {
-    (() $($name:ident $access:tt $then:tt)*) => {
+    (() $($name:ident)*) => {
         [$(Line::$name),*]
     };
 }
 
 // A match of a line with an arm for each name.
 macro_rules! names {
-    (($line:expr) $($name:ident $access:tt $then:tt)*) => {
+    (($line:expr) $($name:ident)*) => {
         match $line {
             $(Line::$name => stringify!($name),)*
         }
@@ -99,9 +99,9 @@ macro_rules! sections {
         }
     };
     (@next $line:ident $arms:tt [$section:ident $variant:ident $($rest:tt)*]) => {
-        line_table!((s s s s s) sections ($line $arms $variant [$($rest)*]) [$section])
+        line_table!(sections ($line $arms $variant [$($rest)*]) [$section])
     };
-    (($line:ident [$($arms:tt)*] $variant:ident $rest:tt) $($name:ident $access:tt $then:tt)*) => {
+    (($line:ident [$($arms:tt)*] $variant:ident $rest:tt) $($name:ident)*) => {
         sections!(@next $line [$($arms)* $(Line::$name)|* => Section::$variant,] $rest)
     };
 }
@@ -109,13 +109,13 @@ macro_rules! sections {
 impl Line {
     /// Every line, in the order of the table.
     pub const ALL: [Line; 36] =
-        line_table!((s s s s s) listed () [new_node free enqueue dequeue locked_enqueue locked_dequeue]);
+        line_table!(listed () [new_node free enqueue dequeue locked_enqueue locked_dequeue]);
 
     /// The name of the line. Takes no memory.
     pub fn name(self) -> &'static str
         ensures { result.now ≡ name_of self }
     {
-        line_table!((s s s s s) names (self) [new_node free enqueue dequeue locked_enqueue locked_dequeue])
+        line_table!(names (self) [new_node free enqueue dequeue locked_enqueue locked_dequeue])
     }
 
     /// The section of the table in which the line stands. Takes no memory.

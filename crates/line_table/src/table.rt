@@ -1,254 +1,322 @@
 //! The line table, written once, as rows of tokens that a body turns into what it needs.
 
-/// Hands rows of the line table to a macro.
+/// Hands the row of a line, or the names of the lines of a section, to a macro.
 ///
-/// `line_table!((setup now me a found) each given [section ..])` becomes `each! { given ROW .. }` with the rows of
-/// the sections named, in their order. A row is `LINE {access} {then}`: the line, its one access of one shared word,
-/// and what the actor does with what the access found. The two columns read the identifiers handed in: `setup` (the
-/// kind, the number of nodes and the greatest count), `now` (the number of the step), `me` (the actor's number), `a`
-/// (its registers) and `found` (what the access found). All other names are looked up where the macro is used.
+/// `line_table!(N4 (setup now me a found) each given)` becomes `each! { given N4 {access} {then} }`, the row of N4: the
+/// line, its one access of one shared word, and what the actor does with what the access found. The two columns read
+/// the identifiers handed in: `setup` (the kind, the number of nodes and the greatest count), `now` (the number of the
+/// step), `me` (the actor's number), `a` (its registers) and `found` (what the access found). All other names are
+/// looked up where the macro is used.
 ///
-/// The sections are `new_node`, `free`, `enqueue`, `dequeue`, `locked_enqueue` and `locked_dequeue`.
+/// `line_table!(each given [section ..])` becomes `each! { given N1 N2 .. }` with the lines of the sections named, in
+/// their order. The sections are `new_node`, `free`, `enqueue`, `dequeue`, `locked_enqueue` and `locked_dequeue`.
 #[macro_export]
 macro_rules! line_table {
-    ($ids:tt $each:ident $given:tt [$($section:ident)*]) => {
-        $crate::line_table!(@rows $ids $each $given [$($section)*] [])
-    };
-    (@rows $ids:tt $each:ident $given:tt [] [$($rows:tt)*]) => {
-        $each! { $given $($rows)* }
-    };
     // A new node, in both queues.
-    (@rows ($setup:ident $now:ident $me:ident $a:ident $found:ident) $each:ident $given:tt [new_node $($section:ident)*] [$($rows:tt)*]) => {
-        $crate::line_table!(@rows ($setup $now $me $a $found) $each $given [$($section)*] [$($rows)*
-            N1 { load Fresh } {
-                goes(Line::N2, Actor { f: $found, ..$a })
-            }
-            N2 { load Free } {
-                let a = Actor { top: $found, ..$a };
-                if a.top.is_null() {
-                    if a.f < $setup.size {
-                        goes(Line::N5, a)
-                    } else {
-                        ends($now, Reply::Refused(Refusal::NoNode), a)
-                    }
-                } else if a.top.count() == $setup.limit {
-                    worn($now, WornWord::Free, a)
+    (N1 ($setup:ident $now:ident $me:ident $a:ident $found:ident) $each:ident $given:tt) => {
+        $each! { $given N1 { load Fresh } {
+            goes(Line::N2, Actor { f: $found, ..$a })
+        } }
+    };
+    (N2 ($setup:ident $now:ident $me:ident $a:ident $found:ident) $each:ident $given:tt) => {
+        $each! { $given N2 { load Free } {
+            let a = Actor { top: $found, ..$a };
+            if a.top.is_null() {
+                if a.f < $setup.size {
+                    goes(Line::N5, a)
                 } else {
-                    goes(Line::N3, a)
+                    ends($now, Reply::Refused(Refusal::NoNode), a)
                 }
+            } else if a.top.count() == $setup.limit {
+                worn($now, WornWord::Free, a)
+            } else {
+                goes(Line::N3, a)
             }
-            N3 { load Next($a.top.node()) } {
-                goes(Line::N4, Actor { next: $found, ..$a })
+        } }
+    };
+    (N3 ($setup:ident $now:ident $me:ident $a:ident $found:ident) $each:ident $given:tt) => {
+        $each! { $given N3 { load Next($a.top.node()) } {
+            goes(Line::N4, Actor { next: $found, ..$a })
+        } }
+    };
+    (N4 ($setup:ident $now:ident $me:ident $a:ident $found:ident) $each:ident $given:tt) => {
+        $each! { $given N4 { exchange Free ($a.top, raised($setup, $a.top, $a.next.node())) } {
+            if $found.same($a.top) {
+                goes(with_node($setup.kind), takes($a.top.node(), $a.next.count(), $a))
+            } else {
+                goes(Line::N1, $a)
             }
-            N4 { exchange Free ($a.top, raised($setup, $a.top, $a.next.node())) } {
-                if $found.same($a.top) {
-                    goes(with_node($setup.kind), takes($a.top.node(), $a.next.count(), $a))
-                } else {
-                    goes(Line::N1, $a)
-                }
+        } }
+    };
+    (N5 ($setup:ident $now:ident $me:ident $a:ident $found:ident) $each:ident $given:tt) => {
+        $each! { $given N5 { exchange Fresh ($a.f, $a.f + 1) } {
+            if $found == $a.f {
+                goes(with_node($setup.kind), takes($a.f + 1, 0, $a))
+            } else {
+                goes(Line::N1, $a)
             }
-            N5 { exchange Fresh ($a.f, $a.f + 1) } {
-                if $found == $a.f {
-                    goes(with_node($setup.kind), takes($a.f + 1, 0, $a))
-                } else {
-                    goes(Line::N1, $a)
-                }
-            }
-        ])
+        } }
     };
     // A node goes to the free list, in both queues.
-    (@rows ($setup:ident $now:ident $me:ident $a:ident $found:ident) $each:ident $given:tt [free $($section:ident)*] [$($rows:tt)*]) => {
-        $crate::line_table!(@rows ($setup $now $me $a $found) $each $given [$($section)*] [$($rows)*
-            F1 { load Free } {
-                let a = Actor { top: $found, ..$a };
-                if $found.count() == $setup.limit {
-                    sets_aside(freed($setup.kind, $now, a.due, a))
-                } else {
-                    goes(Line::F2, a)
-                }
+    (F1 ($setup:ident $now:ident $me:ident $a:ident $found:ident) $each:ident $given:tt) => {
+        $each! { $given F1 { load Free } {
+            let a = Actor { top: $found, ..$a };
+            if $found.count() == $setup.limit {
+                sets_aside(freed($setup.kind, $now, a.due, a))
+            } else {
+                goes(Line::F2, a)
             }
-            F2 { store Next($a.node) (CountedRef::new($a.top.node(), $a.mark)) } {
-                goes(Line::F3, $a)
+        } }
+    };
+    (F2 ($setup:ident $now:ident $me:ident $a:ident $found:ident) $each:ident $given:tt) => {
+        $each! { $given F2 { store Next($a.node) (CountedRef::new($a.top.node(), $a.mark)) } {
+            goes(Line::F3, $a)
+        } }
+    };
+    (F3 ($setup:ident $now:ident $me:ident $a:ident $found:ident) $each:ident $given:tt) => {
+        $each! { $given F3 { exchange Free ($a.top, raised($setup, $a.top, $a.node)) } {
+            if $found.same($a.top) {
+                freed($setup.kind, $now, $a.due, lets_go($a))
+            } else {
+                goes(Line::F1, $a)
             }
-            F3 { exchange Free ($a.top, raised($setup, $a.top, $a.node)) } {
-                if $found.same($a.top) {
-                    freed($setup.kind, $now, $a.due, lets_go($a))
-                } else {
-                    goes(Line::F1, $a)
-                }
-            }
-        ])
+        } }
     };
     // The enqueue of the non-blocking queue.
-    (@rows ($setup:ident $now:ident $me:ident $a:ident $found:ident) $each:ident $given:tt [enqueue $($section:ident)*] [$($rows:tt)*]) => {
-        $crate::line_table!(@rows ($setup $now $me $a $found) $each $given [$($section)*] [$($rows)*
-            E2 { store Value($a.node) ($a.val) } {
-                goes(Line::E3, $a)
+    (E2 ($setup:ident $now:ident $me:ident $a:ident $found:ident) $each:ident $given:tt) => {
+        $each! { $given E2 { store Value($a.node) ($a.val) } {
+            goes(Line::E3, $a)
+        } }
+    };
+    (E3 ($setup:ident $now:ident $me:ident $a:ident $found:ident) $each:ident $given:tt) => {
+        $each! { $given E3 { clear Next($a.node) } {
+            let a = Actor { mark: $found.count(), ..$a };
+            if a.mark == $setup.limit {
+                sets_aside(worn($now, WornWord::Next, a))
+            } else {
+                goes(Line::E5, a)
             }
-            E3 { clear Next($a.node) } {
-                let a = Actor { mark: $found.count(), ..$a };
-                if a.mark == $setup.limit {
-                    sets_aside(worn($now, WornWord::Next, a))
+        } }
+    };
+    (E5 ($setup:ident $now:ident $me:ident $a:ident $found:ident) $each:ident $given:tt) => {
+        $each! { $given E5 { load Tail } {
+            goes(Line::E6, Actor { tail: $found, ..$a })
+        } }
+    };
+    (E6 ($setup:ident $now:ident $me:ident $a:ident $found:ident) $each:ident $given:tt) => {
+        $each! { $given E6 { load Next($a.tail.node()) } {
+            goes(Line::E7, Actor { next: $found, ..$a })
+        } }
+    };
+    (E7 ($setup:ident $now:ident $me:ident $a:ident $found:ident) $each:ident $given:tt) => {
+        $each! { $given E7 { load Tail } {
+            if $found.same($a.tail) {
+                if $a.next.is_null() {
+                    goes(Line::E9, $a)
+                } else if $a.tail.count() == $setup.limit {
+                    worn($now, WornWord::Tail, to_pocket($a))
                 } else {
-                    goes(Line::E5, a)
+                    goes(Line::E13, $a)
                 }
-            }
-            E5 { load Tail } {
-                goes(Line::E6, Actor { tail: $found, ..$a })
-            }
-            E6 { load Next($a.tail.node()) } {
-                goes(Line::E7, Actor { next: $found, ..$a })
-            }
-            E7 { load Tail } {
-                if $found.same($a.tail) {
-                    if $a.next.is_null() {
-                        goes(Line::E9, $a)
-                    } else if $a.tail.count() == $setup.limit {
-                        worn($now, WornWord::Tail, to_pocket($a))
-                    } else {
-                        goes(Line::E13, $a)
-                    }
-                } else {
-                    goes(Line::E5, $a)
-                }
-            }
-            E9 { exchange Next($a.tail.node()) ($a.next, raised($setup, $a.next, $a.node)) } {
-                if $found.same($a.next) {
-                    let a = lets_go(Actor { due: Some(Reply::Done), ..$a });
-                    if a.tail.count() == $setup.limit {
-                        effect($now, ends($now, Reply::Done, a))
-                    } else {
-                        effect($now, goes(Line::E17, a))
-                    }
-                } else {
-                    goes(Line::E5, $a)
-                }
-            }
-            E13 { exchange Tail ($a.tail, raised($setup, $a.tail, $a.next.node())) } {
+            } else {
                 goes(Line::E5, $a)
             }
-            E17 { exchange Tail ($a.tail, raised($setup, $a.tail, $a.node)) } {
-                ends($now, Reply::Done, $a)
+        } }
+    };
+    (E9 ($setup:ident $now:ident $me:ident $a:ident $found:ident) $each:ident $given:tt) => {
+        $each! { $given E9 { exchange Next($a.tail.node()) ($a.next, raised($setup, $a.next, $a.node)) } {
+            if $found.same($a.next) {
+                let a = lets_go(Actor { due: Some(Reply::Done), ..$a });
+                if a.tail.count() == $setup.limit {
+                    effect($now, ends($now, Reply::Done, a))
+                } else {
+                    effect($now, goes(Line::E17, a))
+                }
+            } else {
+                goes(Line::E5, $a)
             }
-        ])
+        } }
+    };
+    (E13 ($setup:ident $now:ident $me:ident $a:ident $found:ident) $each:ident $given:tt) => {
+        $each! { $given E13 { exchange Tail ($a.tail, raised($setup, $a.tail, $a.next.node())) } {
+            goes(Line::E5, $a)
+        } }
+    };
+    (E17 ($setup:ident $now:ident $me:ident $a:ident $found:ident) $each:ident $given:tt) => {
+        $each! { $given E17 { exchange Tail ($a.tail, raised($setup, $a.tail, $a.node)) } {
+            ends($now, Reply::Done, $a)
+        } }
     };
     // The dequeue of the non-blocking queue.
-    (@rows ($setup:ident $now:ident $me:ident $a:ident $found:ident) $each:ident $given:tt [dequeue $($section:ident)*] [$($rows:tt)*]) => {
-        $crate::line_table!(@rows ($setup $now $me $a $found) $each $given [$($section)*] [$($rows)*
-            D2 { load Head } {
-                goes(Line::D3, Actor { head: $found, ..$a })
-            }
-            D3 { load Tail } {
-                goes(Line::D4, Actor { tail: $found, ..$a })
-            }
-            D4 { load Next($a.head.node()) } {
-                goes(Line::D5, Actor { next: $found, noted: $now, ..$a })
-            }
-            D5 { load Head } {
-                if $found.same($a.head) {
-                    if $a.head.node() == $a.tail.node() {
-                        if $a.next.is_null() {
-                            ends($now, Reply::Empty, $a)
-                        } else if $a.tail.count() == $setup.limit {
-                            worn($now, WornWord::Tail, $a)
-                        } else {
-                            goes(Line::D10, $a)
-                        }
+    (D2 ($setup:ident $now:ident $me:ident $a:ident $found:ident) $each:ident $given:tt) => {
+        $each! { $given D2 { load Head } {
+            goes(Line::D3, Actor { head: $found, ..$a })
+        } }
+    };
+    (D3 ($setup:ident $now:ident $me:ident $a:ident $found:ident) $each:ident $given:tt) => {
+        $each! { $given D3 { load Tail } {
+            goes(Line::D4, Actor { tail: $found, ..$a })
+        } }
+    };
+    (D4 ($setup:ident $now:ident $me:ident $a:ident $found:ident) $each:ident $given:tt) => {
+        $each! { $given D4 { load Next($a.head.node()) } {
+            goes(Line::D5, Actor { next: $found, noted: $now, ..$a })
+        } }
+    };
+    (D5 ($setup:ident $now:ident $me:ident $a:ident $found:ident) $each:ident $given:tt) => {
+        $each! { $given D5 { load Head } {
+            if $found.same($a.head) {
+                if $a.head.node() == $a.tail.node() {
+                    if $a.next.is_null() {
+                        ends($now, Reply::Empty, $a)
+                    } else if $a.tail.count() == $setup.limit {
+                        worn($now, WornWord::Tail, $a)
                     } else {
-                        goes(Line::D12, $a)
+                        goes(Line::D10, $a)
                     }
                 } else {
-                    goes(Line::D2, $a)
+                    goes(Line::D12, $a)
                 }
-            }
-            D10 { exchange Tail ($a.tail, raised($setup, $a.tail, $a.next.node())) } {
+            } else {
                 goes(Line::D2, $a)
             }
-            D12 { load Value($a.next.node()) } {
-                let a = Actor { val: $found, ..$a };
-                if a.head.count() == $setup.limit {
-                    worn($now, WornWord::Head, a)
-                } else {
-                    goes(Line::D13, a)
-                }
+        } }
+    };
+    (D10 ($setup:ident $now:ident $me:ident $a:ident $found:ident) $each:ident $given:tt) => {
+        $each! { $given D10 { exchange Tail ($a.tail, raised($setup, $a.tail, $a.next.node())) } {
+            goes(Line::D2, $a)
+        } }
+    };
+    (D12 ($setup:ident $now:ident $me:ident $a:ident $found:ident) $each:ident $given:tt) => {
+        $each! { $given D12 { load Value($a.next.node()) } {
+            let a = Actor { val: $found, ..$a };
+            if a.head.count() == $setup.limit {
+                worn($now, WornWord::Head, a)
+            } else {
+                goes(Line::D13, a)
             }
-            D13 { exchange Head ($a.head, raised($setup, $a.head, $a.next.node())) } {
-                if $found.same($a.head) {
-                    let a = Actor { due: Some(Reply::Value($a.val)), ..$a };
-                    effect($now, goes(Line::F1, takes(a.head.node(), a.next.count(), a)))
-                } else {
-                    goes(Line::D2, $a)
-                }
+        } }
+    };
+    (D13 ($setup:ident $now:ident $me:ident $a:ident $found:ident) $each:ident $given:tt) => {
+        $each! { $given D13 { exchange Head ($a.head, raised($setup, $a.head, $a.next.node())) } {
+            if $found.same($a.head) {
+                let a = Actor { due: Some(Reply::Value($a.val)), ..$a };
+                effect($now, goes(Line::F1, takes(a.head.node(), a.next.count(), a)))
+            } else {
+                goes(Line::D2, $a)
             }
-        ])
+        } }
     };
     // The enqueue of the two-lock queue.
-    (@rows ($setup:ident $now:ident $me:ident $a:ident $found:ident) $each:ident $given:tt [locked_enqueue $($section:ident)*] [$($rows:tt)*]) => {
-        $crate::line_table!(@rows ($setup $now $me $a $found) $each $given [$($section)*] [$($rows)*
-            A1 { store Value($a.node) ($a.val) } {
-                goes(Line::A2, $a)
-            }
-            A2 { clear Next($a.node) } {
+    (A1 ($setup:ident $now:ident $me:ident $a:ident $found:ident) $each:ident $given:tt) => {
+        $each! { $given A1 { store Value($a.node) ($a.val) } {
+            goes(Line::A2, $a)
+        } }
+    };
+    (A2 ($setup:ident $now:ident $me:ident $a:ident $found:ident) $each:ident $given:tt) => {
+        $each! { $given A2 { clear Next($a.node) } {
+            goes(Line::A3, $a)
+        } }
+    };
+    (A3 ($setup:ident $now:ident $me:ident $a:ident $found:ident) $each:ident $given:tt) => {
+        $each! { $given A3 { exchange TailLock (0, $me) } {
+            if $found == 0 {
+                goes(Line::A4, $a)
+            } else {
                 goes(Line::A3, $a)
             }
-            A3 { exchange TailLock (0, $me) } {
-                if $found == 0 {
-                    goes(Line::A4, $a)
-                } else {
-                    goes(Line::A3, $a)
-                }
-            }
-            A4 { load Tail } {
-                goes(Line::A5, Actor { tail: $found, ..$a })
-            }
-            A5 { store Next($a.tail.node()) (CountedRef::new($a.node, 0)) } {
-                effect($now, goes(Line::A6, lets_go(Actor { due: Some(Reply::Done), ..$a })))
-            }
-            A6 { store Tail (CountedRef::new($a.node, 0)) } {
-                goes(Line::A7, $a)
-            }
-            A7 { store TailLock (0) } {
-                ends($now, Reply::Done, $a)
-            }
-        ])
+        } }
+    };
+    (A4 ($setup:ident $now:ident $me:ident $a:ident $found:ident) $each:ident $given:tt) => {
+        $each! { $given A4 { load Tail } {
+            goes(Line::A5, Actor { tail: $found, ..$a })
+        } }
+    };
+    (A5 ($setup:ident $now:ident $me:ident $a:ident $found:ident) $each:ident $given:tt) => {
+        $each! { $given A5 { store Next($a.tail.node()) (CountedRef::new($a.node, 0)) } {
+            effect($now, goes(Line::A6, lets_go(Actor { due: Some(Reply::Done), ..$a })))
+        } }
+    };
+    (A6 ($setup:ident $now:ident $me:ident $a:ident $found:ident) $each:ident $given:tt) => {
+        $each! { $given A6 { store Tail (CountedRef::new($a.node, 0)) } {
+            goes(Line::A7, $a)
+        } }
+    };
+    (A7 ($setup:ident $now:ident $me:ident $a:ident $found:ident) $each:ident $given:tt) => {
+        $each! { $given A7 { store TailLock (0) } {
+            ends($now, Reply::Done, $a)
+        } }
     };
     // The dequeue of the two-lock queue.
-    (@rows ($setup:ident $now:ident $me:ident $a:ident $found:ident) $each:ident $given:tt [locked_dequeue $($section:ident)*] [$($rows:tt)*]) => {
-        $crate::line_table!(@rows ($setup $now $me $a $found) $each $given [$($section)*] [$($rows)*
-            B1 { exchange HeadLock (0, $me) } {
-                if $found == 0 {
-                    goes(Line::B2, $a)
-                } else {
-                    goes(Line::B1, $a)
-                }
+    (B1 ($setup:ident $now:ident $me:ident $a:ident $found:ident) $each:ident $given:tt) => {
+        $each! { $given B1 { exchange HeadLock (0, $me) } {
+            if $found == 0 {
+                goes(Line::B2, $a)
+            } else {
+                goes(Line::B1, $a)
             }
-            B2 { load Head } {
-                goes(Line::B3, Actor { head: $found, ..$a })
+        } }
+    };
+    (B2 ($setup:ident $now:ident $me:ident $a:ident $found:ident) $each:ident $given:tt) => {
+        $each! { $given B2 { load Head } {
+            goes(Line::B3, Actor { head: $found, ..$a })
+        } }
+    };
+    (B3 ($setup:ident $now:ident $me:ident $a:ident $found:ident) $each:ident $given:tt) => {
+        $each! { $given B3 { load Next($a.head.node()) } {
+            let a = Actor { next: $found, noted: $now, ..$a };
+            if $found.is_null() {
+                goes(Line::B6, Actor { due: Some(Reply::Empty), ..a })
+            } else {
+                goes(Line::B4, a)
             }
-            B3 { load Next($a.head.node()) } {
-                let a = Actor { next: $found, noted: $now, ..$a };
-                if $found.is_null() {
-                    goes(Line::B6, Actor { due: Some(Reply::Empty), ..a })
-                } else {
-                    goes(Line::B4, a)
-                }
+        } }
+    };
+    (B4 ($setup:ident $now:ident $me:ident $a:ident $found:ident) $each:ident $given:tt) => {
+        $each! { $given B4 { load Value($a.next.node()) } {
+            let a = Actor { val: $found, ..$a };
+            if a.head.count() == $setup.limit {
+                let reply = Reply::Refused(Refusal::WornOut(WornWord::Head));
+                goes(Line::B6, Actor { due: Some(reply), ..a })
+            } else {
+                goes(Line::B5, a)
             }
-            B4 { load Value($a.next.node()) } {
-                let a = Actor { val: $found, ..$a };
-                if a.head.count() == $setup.limit {
-                    let reply = Reply::Refused(Refusal::WornOut(WornWord::Head));
-                    goes(Line::B6, Actor { due: Some(reply), ..a })
-                } else {
-                    goes(Line::B5, a)
-                }
-            }
-            B5 { store Head (raised($setup, $a.head, $a.next.node())) } {
-                let a = Actor { due: Some(Reply::Value($a.val)), ..$a };
-                effect($now, goes(Line::B6, takes(a.head.node(), a.next.count(), a)))
-            }
-            B6 { store HeadLock (0) } {
-                unlocked($now, $a.due, $a)
-            }
-        ])
+        } }
+    };
+    (B5 ($setup:ident $now:ident $me:ident $a:ident $found:ident) $each:ident $given:tt) => {
+        $each! { $given B5 { store Head (raised($setup, $a.head, $a.next.node())) } {
+            let a = Actor { due: Some(Reply::Value($a.val)), ..$a };
+            effect($now, goes(Line::B6, takes(a.head.node(), a.next.count(), a)))
+        } }
+    };
+    (B6 ($setup:ident $now:ident $me:ident $a:ident $found:ident) $each:ident $given:tt) => {
+        $each! { $given B6 { store HeadLock (0) } {
+            unlocked($now, $a.due, $a)
+        } }
+    };
+    // The lines of sections.
+    ($each:ident $given:tt [$($section:ident)*]) => {
+        $crate::line_table!(@names $each $given [$($section)*] [])
+    };
+    (@names $each:ident $given:tt [] [$($line:ident)*]) => {
+        $each! { $given $($line)* }
+    };
+    (@names $each:ident $given:tt [new_node $($section:ident)*] [$($line:ident)*]) => {
+        $crate::line_table!(@names $each $given [$($section)*] [$($line)* N1 N2 N3 N4 N5])
+    };
+    (@names $each:ident $given:tt [free $($section:ident)*] [$($line:ident)*]) => {
+        $crate::line_table!(@names $each $given [$($section)*] [$($line)* F1 F2 F3])
+    };
+    (@names $each:ident $given:tt [enqueue $($section:ident)*] [$($line:ident)*]) => {
+        $crate::line_table!(@names $each $given [$($section)*] [$($line)* E2 E3 E5 E6 E7 E9 E13 E17])
+    };
+    (@names $each:ident $given:tt [dequeue $($section:ident)*] [$($line:ident)*]) => {
+        $crate::line_table!(@names $each $given [$($section)*] [$($line)* D2 D3 D4 D5 D10 D12 D13])
+    };
+    (@names $each:ident $given:tt [locked_enqueue $($section:ident)*] [$($line:ident)*]) => {
+        $crate::line_table!(@names $each $given [$($section)*] [$($line)* A1 A2 A3 A4 A5 A6 A7])
+    };
+    (@names $each:ident $given:tt [locked_dequeue $($section:ident)*] [$($line:ident)*]) => {
+        $crate::line_table!(@names $each $given [$($section)*] [$($line)* B1 B2 B3 B4 B5 B6])
     };
 }

@@ -1,0 +1,24 @@
+-- One step at a line: when it can be taken, and what it leaves.
+use Rattle.std.specs.Prelude.{ℕ, ◌≡◌}
+use Rattle.line_table.specs.declared.lines.Line.{Line}
+use Rattle.line_steps.specs.declared.actors.Setup.{Setup}
+use Rattle.line_steps.specs.declared.actors.Actor.{Actor}
+use Rattle.line_steps.specs.declared.actors.Outcome.{Outcome}
+use Rattle.line_steps.specs.Memory.{Shared, found}
+use Rattle.line_steps.specs.Lines.{action, outcome}
+use Rattle.line_steps.specs.Rooms.{Memory, accessed}
+use Rattle.line_steps.specs.Ready.{IsCounted, IsReady}
+
+-- an actor may take a step: the setup's numbers fit a reference, and the actor's registers can be used
+pub record MayStep (s : Setup) (room : ℕ) (a : Actor) : Type 0 where
+  pub counted : IsCounted s
+  pub ready : IsReady s room a
+
+-- the outcome of a step at a line, on the shared words
+unfoldable pub outcome_on : Setup → (now me : ℕ) → Actor → Line → Shared → Outcome
+outcome_on s now me a l words = outcome s now me a l (found (action s me a l) words)
+
+-- a step at a line was taken: the outcome is that of the line, and the memory is the one after the line's access
+pub record Stepped (s : Setup) (now me : ℕ) (a : Actor) (l : Line) (old new : Memory) (o : Outcome) : Type 0 where
+  pub outcome : o ≡ outcome_on s now me a l old.words
+  pub memory : new ≡ accessed (action s me a l) old
