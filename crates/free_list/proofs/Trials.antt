@@ -56,7 +56,7 @@ failed-append es fs = sum_by-append (λ e. failed_at e.line e.to) es fs
 
 -- a seat that keeps another pocket is still the arena's
 pub kept_seat : (r : Arena) (t : Seat) (p : Option Held) (n : ℕ) → IsSeat r t → IsSeat r (keeping t p n)
-kept_seat r t p n h = record { arena = h.arena; sits = record { table = h.sits.table; seat = h.sits.seat; number = h.sits.number; role = h.sits.role; pushes = h.sits.pushes; pops = h.sits.pops } }
+kept_seat r t p n h = record { arena = h.arena; sits = record { table = h.sits.table; seat = h.sits.seat; number = h.sits.number; role = h.sits.role; pushes = h.sits.pushes; pops = h.sits.pops; fitted = h.sits.fitted } }
 
 pub now_kept : (r : Arena) (t : Seat) (p : Option Held) (n : ℕ) (P : World → Type 0) → NowHolds r t P → NowHolds r (keeping t p n) P
 now_kept r t p n P h = record { now = h.now; reached = h.reached; setup = h.setup; actor = h.actor; path = h.path; holds = h.holds }

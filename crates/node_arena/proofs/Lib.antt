@@ -1,10 +1,12 @@
 pub mod Tracing
 pub mod Histories
-pub mod Rooms
 pub mod Leading
 pub mod Entering
+pub mod Told
+pub mod Seens
+pub mod There
+pub mod Rooms
 pub mod Keeps
 pub mod Counting
 pub mod Calls
 pub mod Deals
-pub mod Told

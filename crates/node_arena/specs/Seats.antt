@@ -7,7 +7,7 @@ use Rattle.history.specs.Entries.{is_push, is_pop}
 use Rattle.line_steps.specs.declared.actors.Setup.{Setup}
 use Rattle.line_steps.specs.declared.actors.Held.{Held}
 use Rattle.line_steps.specs.Lines.{action}
-use Rattle.step_machine.specs.Tables.{PlaceStep, place_of, place_step}
+use Rattle.step_machine.specs.Tables.{PlaceStep, place_step}
 use Rattle.atomic_table.specs.Seated.{TableId}
 use Rattle.node_arena.specs.declared.roles.Role.{Role}
 use Rattle.node_arena.specs.declared.arena.Arena.{Arena}
@@ -15,7 +15,7 @@ use Rattle.node_arena.specs.declared.seats.Seat.{Seat}
 use Rattle.node_arena.specs.Leads.{Lead, led, at_rest, CanLead}
 use Rattle.node_arena.specs.Seeing.{Knows, seated, knows}
 use Rattle.node_arena.specs.Plans.{Layout, IsPlanned, PermitsLine}
-use Rattle.node_arena.specs.Rule.{Steps}
+use Rattle.node_arena.specs.Rule.{Steps, Fitted}
 
 -- the plan of an arena
 abbrev pub plan_of : Arena → Layout
@@ -68,7 +68,8 @@ pub record IsTable (z about : Layout) (t : TableId) : Type 0 where
 abbrev pub IsArena : Arena → Type 0
 IsArena r = IsTable r.plan r.table.shared.key r.table.shared.table_id
 
--- a seat of a table: it is an actor by its number, has its role, and counts its own pushes and pops
+-- a seat of a table: it is an actor by its number, has its role, counts its own pushes and pops, and fits to some traced
+-- world
 pub record Sits (z : Layout) (t : TableId) (s : Seat) : Type 0 where
   pub table : s.token.table_id ≡ t
   pub seat : s.token.me ≡ (seated (view s), [])
@@ -76,6 +77,7 @@ pub record Sits (z : Layout) (t : TableId) (s : Seat) : Type 0 where
   pub role : slice_get z.roles (s.number - 1) ≡ Some s.role
   pub pushes : s.pushes ≡ count_by is_push (view s).mine
   pub pops : s.pops ≡ count_by is_pop (view s).mine
+  pub fitted : Fitted z (view s)
 
 -- a seat of an arena
 pub record IsSeat (r : Arena) (s : Seat) : Type 0 where
@@ -118,15 +120,14 @@ HasRoom s D13 = s.pops + 1 < 2 ^ 64
 HasRoom s B5 = s.pops + 1 < 2 ^ 64
 HasRoom s l = Unit {0}
 
--- the seat's next move by the rule is this step on a word, at this line, with these moves before it
+-- the seat's next move by the rule is this step on a word, at this line, with these moves before it, and the seat's role
+-- permits it
 pub record MayStep (r : Arena) (s : Seat) (lead : Lead) (l : Line) (x : PlaceStep) : Type 0 where
   pub seat : IsSeat r s
   pub leads : CanLead lead (view s).actor
   pub line : (led r.plan.setup (view s).number lead (view s).actor).line ≡ Some l
   pub access : place_step (action r.plan.setup (view s).number (led r.plan.setup (view s).number lead (view s).actor) l) ≡ x
-  pub there : place_of x < word_count r
   pub permits : PermitsLine s.role l
-  pub room : HasRoom s l
 
 -- the seat made that step, and found this number
 pub record DidStep (r : Arena) (s t : Seat) (lead : Lead) (l : Line) (n : ℕ) : Type 0 where

@@ -1,11 +1,11 @@
 -- Traced worlds: a world, the path of each actor, and the entries of all calls that had their effect.
-use Rattle.std.specs.Prelude.{◌≡◌, ℕ, ◌+◌, if◌then◌else◌, nat_eq, List, [], ◌∷◌, ◌++◌, length, Option, Some, None}
+use Rattle.std.specs.Prelude.{◌≡◌, ℕ, ◌+◌, Bool, true, false, if◌then◌else◌, nat_eq, List, [], ◌∷◌, ◌++◌, length, Option, Some, None}
 use Rattle.std.specs.List.{filter}
 use Rattle.line_table.specs.declared.lines.Line.{Line}
-use Rattle.line_table.specs.declared.lines.Line.TheVariants.{E9, D13, A5, B5}
+use Rattle.line_table.specs.declared.lines.Line.TheVariants.{E9, D4, D13, A5, B3, B5}
 use Rattle.history.specs.declared.operations.Entry.{Entry}
 use Rattle.history.specs.declared.operations.Entry.TheVariants.{Push, Pop}
-use Rattle.history.specs.Queue.{empty}
+use Rattle.history.specs.Queue.{Queue, empty}
 use Rattle.history.specs.Entries.{Plays}
 use Rattle.counted_ref.specs.Ref.{same_ref}
 use Rattle.line_steps.specs.declared.actors.Setup.{Setup}
@@ -44,6 +44,17 @@ entries_of s me a D13 was = if same_ref was a.head then Pop me a.val ∷ [] else
 entries_of s me a A5 was = Push me a.val.body ∷ []
 entries_of s me a B5 was = Pop me a.val ∷ []
 entries_of s me a l was = []
+
+-- whether a seat sees the whole history at its step at a line: where the step may have its effect, and where it reads
+-- what follows Head's node
+abbrev pub sees : Line → Bool
+sees E9 = true
+sees D4 = true
+sees D13 = true
+sees A5 = true
+sees B3 = true
+sees B5 = true
+sees l = false
 
 module _ (s : Setup) (t : Traced) (me : ℕ) (a : Actor) (l : Line) where
   -- the number that the access of a line finds
@@ -137,3 +148,7 @@ own_entries me es = filter (λ e. nat_eq (maker e) me) es
 abbrev pub PlaysToItsValues : Traced → Type 0
 PlaysToItsValues t =
     (queue : List ℕ) → IsChain t.world.shared.nodes t.world.shared.head.node queue → Plays empty t.history (record { values = queue_values t.world.shared queue })
+
+-- entries are those of a first-in-first-out list
+abbrev pub IsLegal : List Entry → Type 0
+IsLegal es = (after : Queue) × Plays empty es after
