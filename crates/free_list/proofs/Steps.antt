@@ -1,7 +1,6 @@
 -- What each line asks of its step call, and the number that it finds there.
 use Rattle.std.proofs.Common.{◌≡◌, ◌≢◌, ℕ, ◌+◌, ◌*◌, ◌%◌, ◌^◌, ◌≤◌, sym, refl, ap, ◌∙◌, arith}
-use Rattle.counted_ref.specs.Ref.{Ref, IsRef, ref, ref_word, ref_of, reserved_node, node_bits}
-use Rattle.counted_ref.proofs.Words.{ref_of-ref_word}
+use Rattle.counted_ref.specs.Ref.{ref, ref_word, ref_of, reserved_node, node_bits}
 use Rattle.line_table.specs.declared.lines.Line.{Line}
 use Rattle.line_table.specs.declared.lines.Line.TheVariants.{N1, N2, N3, N4, N5, F1, F2, F3}
 use Rattle.node_arena.specs.Machine.{Actor, node_at, raised, PlaceStep, load_at, store_at, exchange_at, place_step, action}
@@ -12,6 +11,7 @@ use Rattle.node_arena.specs.declared.seats.Seat.{Seat}
 use Rattle.node_arena.specs.Plans.{PermitsLine}
 use Rattle.node_arena.specs.Seats.{MayStep, DidStep, view}
 use Rattle.node_arena.proofs.Told.{was_in_range, was_fits}
+use Rattle.node_arena.proofs.Reading.{read_back}
 use Rattle.free_list.specs.declared.outcomes.Actor.{Actor as Running}
 use Rattle.free_list.specs.Runs.{Stands}
 
@@ -49,10 +49,6 @@ module _ (r : Arena) (s : Seat) (lead : Lead) where
   pub may_f3 : (a : Running) (old new : ℕ) → Stands r s lead F3 a → old ≡ ref_word a.top → new ≡ ref_word (raised r.plan.setup a.top a.node) → MayStep r s lead F3 (exchange_at 1 old new)
   may_f3 a old new h e f = may F3 a (exchange_at 1 old new) h
       ((λ i. exchange_at 1 (ref_word (h.knows.1.top i)) (ref_word (raised r.plan.setup (h.knows.1.top i) (h.knows.0.frees.node i)))) ∙ (λ i. exchange_at 1 (sym e i) (sym f i))) tt
-
--- a reference in range is read back from its word, which isn't a reserved one
-pub read_back : (x : Ref) (n : ℕ) → IsRef x → n ≡ ref_word x → (ref_of n ≡ x) × (n % 2 ^ node_bits ≢ reserved_node)
-read_back x n h e = (ap ref_of e ∙ ref_of-ref_word x h, λ f. let c = h.node in omega arith)
 
 module _ (r : Arena) (s t : Seat) (lead : Lead) (n : ℕ) where
   pub fresh_small : DidStep r s t lead N1 n → n ≤ r.plan.setup.size

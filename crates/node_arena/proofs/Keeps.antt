@@ -22,11 +22,11 @@ use Rattle.step_machine.proofs.Tables.{place-place_step}
 use Rattle.step_machine.proofs.Naming.{accesses_are_one_step}
 use Rattle.step_machine.proofs.NonBlockingLaws.{each_access_names_a_word}
 use Rattle.node_arena.specs.declared.roles.Role.{Role}
-use Rattle.node_arena.specs.Traces.{Traced, IsTraced, step_at, actor_at, event_at, entries_at, number_at, maker, own_entries, sees}
+use Rattle.node_arena.specs.Traces.{Traced, IsTraced, step_at, actor_at, outcome_at, event_at, entries_at, number_at, maker, own_entries, sees}
 use Rattle.node_arena.specs.Leads.{Lead, led, CanLead}
 use Rattle.node_arena.specs.Seeing.{Knows, View, keeper, seated, members, knows}
 use Rattle.node_arena.specs.Plans.{Layout, IsPermitted, PermitsLine}
-use Rattle.node_arena.specs.Rule.{Fits, IsNew, Holds, Steps, Tells, line_of}
+use Rattle.node_arena.specs.Rule.{Fits, IsNew, Holds, notes_of, Steps, Tells, line_of}
 use Rattle.node_arena.proofs.Tracing.{traced_reached, step_traced, step_here, step_else, step_count, changed_here, changed_else}
 use Rattle.node_arena.proofs.Leading.{Led, leads}
 use Rattle.node_arena.proofs.Entering.{own_added, none_added, permitted_added}
@@ -129,7 +129,7 @@ module _ (z : Layout) (s : State ℕ View) (h : Holds z s) (id : ℕ) (v : Knows
   history_is = (λ i. f.history i ++ entries_at (setup i) u v.number a l)
 
   abbrev v' : Knows
-  v' = record { number = v.number; actor = actor_at z.setup u v.number a l; path = v.path ++ event_at z.setup u v.number a l ∷ []; seen = if sees l then t.history else v.seen; mine = v.mine ++ es }
+  v' = record { number = v.number; actor = actor_at z.setup u v.number a l; path = v.path ++ event_at z.setup u v.number a l ∷ []; seen = if sees l then t.history else v.seen; mine = v.mine ++ es; notes = v.notes ++ notes_of (outcome_at z.setup u v.number a l).reply (if sees l then t.history else v.seen) }
 
   reached : IsTraced t
   reached = step_traced u v.number a l led_there.1 f.here line
@@ -230,6 +230,7 @@ module _ (z : Layout) (s : State ℕ View) (h : Holds z s) (id : ℕ) (v : Knows
     whole = whole_by v.seen fit.rest es t.history parts (sees l);
     stays = stays_by v.seen fit.rest es t.history parts (sees l);
     mine = refl;
+    notes = refl;
     fits = me;
     permitted = permitted;
   }

@@ -3,6 +3,9 @@ pub mod Histories
 pub mod Leading
 pub mod Entering
 pub mod Told
+pub mod Noting
+pub mod Walking
+pub mod Reading
 pub mod Seens
 pub mod There
 pub mod Rooms

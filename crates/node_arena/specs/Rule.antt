@@ -7,9 +7,11 @@ use Rattle.atomic_table.specs.Table.{State, Me}
 use Rattle.line_table.specs.declared.lines.Line.{Line}
 use Rattle.line_table.specs.declared.lines.Line.TheVariants.{N1}
 use Rattle.history.specs.declared.operations.Entry.{Entry}
+use Rattle.history.specs.declared.operations.Reply.{Reply}
+use Rattle.history.specs.declared.operations.Reply.TheVariants.{Empty}
 use Rattle.step_machine.specs.Words.{words_of}
 use Rattle.step_machine.specs.Machine.{idle, actor_of}
-use Rattle.node_arena.specs.Traces.{Traced, IsTraced, step_at, actor_at, event_at, entries_at, number_at, own_entries, sees}
+use Rattle.node_arena.specs.Traces.{Traced, IsTraced, step_at, actor_at, outcome_at, event_at, entries_at, number_at, own_entries, sees}
 use Rattle.node_arena.specs.Leads.{Lead, led}
 use Rattle.node_arena.specs.Seeing.{Knows, View, keeper, seated, members, knows}
 use Rattle.node_arena.specs.Plans.{Layout, IsPlanned, IsPermitted}
@@ -52,6 +54,11 @@ pub record Holds (z : Layout) (s : State ℕ View) : Type 0 where
 abbrev pub first_view : Layout → View
 first_view z = keeper 1
 
+-- what a reply notes of what its seat has seen: an empty one notes how many entries that is
+abbrev pub notes_of : Option Reply → List Entry → List ℕ
+notes_of (Some Empty) es = length es ∷ []
+notes_of reply es = []
+
 -- what one step at a line tells of the seat before and after: it was made in a traced world that moves lead to, in
 -- which the seat's actor stood as led there, and it found this number
 pub record Steps (z : Layout) (lead : Lead) (l : Line) (n : ℕ) (v v' : Knows) : Type 0 where
@@ -74,6 +81,7 @@ pub record Steps (z : Layout) (lead : Lead) (l : Line) (n : ℕ) (v v' : Knows) 
   pub whole : sees l ≡ true → v'.seen ≡ (step_at was v.number (led z.setup v.number lead v.actor) l).history
   pub stays : sees l ≡ false → v'.seen ≡ v.seen
   pub mine : v'.mine ≡ v.mine ++ entries_at z.setup was v.number (led z.setup v.number lead v.actor) l
+  pub notes : v'.notes ≡ v.notes ++ notes_of (outcome_at z.setup was v.number (led z.setup v.number lead v.actor) l).reply v'.seen
   pub fits : Fits (step_at was v.number (led z.setup v.number lead v.actor) l) v'
   pub permitted : All (IsPermitted z.roles) (step_at was v.number (led z.setup v.number lead v.actor) l).history
 

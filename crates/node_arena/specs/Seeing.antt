@@ -5,14 +5,15 @@ use Rattle.line_steps.specs.declared.actors.Actor.{Actor}
 use Rattle.step_machine.specs.Machine.{idle}
 use Rattle.node_arena.specs.Traces.{Event}
 
--- what a seat knows: its number, its actor with line and registers, its path, a beginning of the history, and its own
--- entries
+-- what a seat knows: its number, its actor with line and registers, its path, a beginning of the history, its own entries,
+-- and its notes: after so many entries it found the queue empty
 pub record Knows : Type 0 where
   pub number : ℕ
   pub actor : Actor
   pub path : List Event
   pub seen : List Entry
   pub mine : List Entry
+  pub notes : List ℕ
 
 -- the views of the table: the first one deals numbers; one that gathers has what closed seats knew; two seats are one
 -- while they meet; a spent one knows nothing
@@ -33,7 +34,7 @@ members spent = []
 
 -- what a seat knows that was just dealt
 abbrev pub new_seat : ℕ → Knows
-new_seat n = record { number = n; actor = idle; path = []; seen = []; mine = [] }
+new_seat n = record { number = n; actor = idle; path = []; seen = []; mine = []; notes = [] }
 
 -- what the first seat of a view knows
 abbrev pub knows : View → Knows
