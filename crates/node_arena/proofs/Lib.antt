@@ -13,3 +13,4 @@ pub mod Keeps
 pub mod Counting
 pub mod Calls
 pub mod Deals
+pub mod Noted

@@ -15,7 +15,7 @@ use Rattle.line_steps.specs.Lines.{action}
 use Rattle.node_arena.specs.Traces.{Traced, IsTraced, entries_of, sees, IsLegal, own_entries}
 use Rattle.node_arena.specs.Seeing.{Knows}
 use Rattle.node_arena.specs.Plans.{Layout, IsPermitted}
-use Rattle.node_arena.specs.Rule.{Fitted}
+use Rattle.node_arena.specs.Rule.{IsSound, Fitted}
 use Rattle.node_arena.proofs.Tracing.{traced_reached}
 use Rattle.node_arena.proofs.Histories.{history_plays}
 use Rattle.node_arena.proofs.Told.{places_of}
@@ -79,9 +79,14 @@ legal_first xs ys h = plays_first xs ys empty h.0 h.1
 pub history_legal : (t : Traced) → IsTraced t → IsLegal t.history
 history_legal t r = let p = places_of t.world (traced_reached t r) in (_, history_plays t r p.0 p.2.queue_chain)
 
--- what a seat has seen is legal, permitted, and has just its own entries of it
+-- what a seat has seen is legal
 pub seen_legal : (z : Layout) (v : Knows) → Fitted z v → IsLegal v.seen
 seen_legal z v f = legal_first v.seen f.fits.rest (subst IsLegal f.fits.begins (history_legal f.trace f.reached))
 
+-- permitted
 pub seen_permitted : (z : Layout) (v : Knows) → Fitted z v → All (IsPermitted z.roles) v.seen
 seen_permitted z v f = All-first (IsPermitted z.roles) v.seen f.fits.rest (subst (All (IsPermitted z.roles)) f.fits.begins f.permitted)
+
+-- and its own entries are just those that it has seen
+pub sound_of : (z : Layout) (v : Knows) → Fitted z v → IsSound z.roles v
+sound_of z v f = record { legal = seen_legal z v f; permitted = seen_permitted z v f; own = f.fits.known }

@@ -15,7 +15,7 @@ use Rattle.node_arena.specs.declared.seats.Seat.{Seat}
 use Rattle.node_arena.specs.Leads.{Lead, led, at_rest, CanLead}
 use Rattle.node_arena.specs.Seeing.{Knows, seated, knows}
 use Rattle.node_arena.specs.Plans.{Layout, IsPlanned, PermitsLine}
-use Rattle.node_arena.specs.Rule.{Steps, Fitted}
+use Rattle.node_arena.specs.Rule.{IsSound, Steps, Fitted}
 
 -- the plan of an arena
 abbrev pub plan_of : Arena → Layout
@@ -83,6 +83,10 @@ pub record Sits (z : Layout) (t : TableId) (s : Seat) : Type 0 where
 pub record IsSeat (r : Arena) (s : Seat) : Type 0 where
   pub arena : IsArena r
   pub sits : Sits r.plan r.table.shared.table_id s
+
+-- what each seat of any arena knows is sound
+abbrev pub EachSeatIsSound : Type 0
+EachSeatIsSound = (r : Arena) (s : Seat) → IsSeat r s → IsSound r.plan.roles (view s)
 
 -- the seat keeps its number, its role, its pocket and its count of failed turns
 pub record KeepsStored (s t : Seat) : Type 0 where

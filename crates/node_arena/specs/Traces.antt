@@ -1,12 +1,12 @@
 -- Traced worlds: a world, the path of each actor, and the entries of all calls that had their effect.
 use Rattle.std.specs.Prelude.{◌≡◌, ℕ, ◌+◌, Bool, true, false, if◌then◌else◌, nat_eq, List, [], ◌∷◌, ◌++◌, length, Option, Some, None}
-use Rattle.std.specs.List.{filter}
+use Rattle.std.specs.List.{count_by, filter}
 use Rattle.line_table.specs.declared.lines.Line.{Line}
 use Rattle.line_table.specs.declared.lines.Line.TheVariants.{E9, D4, D13, A5, B3, B5}
 use Rattle.history.specs.declared.operations.Entry.{Entry}
 use Rattle.history.specs.declared.operations.Entry.TheVariants.{Push, Pop}
 use Rattle.history.specs.Queue.{Queue, empty}
-use Rattle.history.specs.Entries.{Plays}
+use Rattle.history.specs.Entries.{is_pop, Plays}
 use Rattle.counted_ref.specs.Ref.{same_ref}
 use Rattle.line_steps.specs.declared.actors.Setup.{Setup}
 use Rattle.line_steps.specs.declared.actors.Actor.{Actor}
@@ -148,6 +148,10 @@ own_entries me es = filter (λ e. nat_eq (maker e) me) es
 abbrev pub PlaysToItsValues : Traced → Type 0
 PlaysToItsValues t =
     (queue : List ℕ) → IsChain t.world.shared.nodes t.world.shared.head.node queue → Plays empty t.history (record { values = queue_values t.world.shared queue })
+
+-- Head's count is the number of pops in the history
+abbrev pub CountsItsPops : Traced → Type 0
+CountsItsPops t = t.world.shared.head.count ≡ count_by is_pop t.history
 
 -- entries are those of a first-in-first-out list
 abbrev pub IsLegal : List Entry → Type 0

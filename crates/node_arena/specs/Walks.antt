@@ -2,6 +2,9 @@
 use Rattle.std.specs.Prelude.{◌≡◌, ℕ, List, [], ◌∷◌, ◌++◌, length, drop, Some, IsSomeAnd}
 use Rattle.history.specs.declared.operations.Entry.{Entry}
 use Rattle.history.specs.declared.refusals.Refusal.{Refusal}
+use Rattle.history.specs.declared.refusals.Refusal.TheVariants.{WornOut}
+use Rattle.history.specs.declared.refusals.WornWord.TheVariants.{Next as OfNext}
+use Rattle.line_steps.specs.Memory.{node_at}
 use Rattle.step_machine.specs.Machine.{World, actor_of}
 use Rattle.step_machine.specs.Places.{IsQueued, IsFree, held, in_hand}
 use Rattle.step_machine.specs.TwoLock.{HasCause}
@@ -84,6 +87,11 @@ pub record LastHeld (r : Arena) (s t : Seat) (P : World → Type 0) : Type 0 whe
   pub within : was.paths (view s).number ≡ (view s).path ++ before
   pub held : P was.world
 
+-- a world has the cause for an actor's step to refuse; where a `next` is worn out, it is that of the actor's own node
+abbrev pub HasOwnCause : World → (me : ℕ) → Refusal → Type 0
+HasOwnCause w me (WornOut OfNext) = IsSomeAnd (actor_of w me) (λ a. (node_at w.shared a.node).next.count ≡ w.setup.limit)
+HasOwnCause w me why = HasCause w why
+
 -- a call's last step met a refusal's cause
 abbrev pub MetCause : Arena → Seat → Seat → Refusal → Type 0
-MetCause r s t why = LastHeld r s t (λ w. HasCause w why)
+MetCause r s t why = LastHeld r s t (λ w. HasOwnCause w (view s).number why)

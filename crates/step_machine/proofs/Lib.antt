@@ -13,6 +13,7 @@ pub mod StampsLaws
 pub mod Words
 pub mod Tables
 pub mod Few
+pub mod Pops
 pub mod Fits
 pub mod Keeping
 pub mod Standing
