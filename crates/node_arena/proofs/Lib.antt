@@ -14,3 +14,4 @@ pub mod Counting
 pub mod Calls
 pub mod Deals
 pub mod Noted
+pub mod Between

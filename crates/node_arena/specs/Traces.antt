@@ -1,5 +1,5 @@
 -- Traced worlds: a world, the path of each actor, and the entries of all calls that had their effect.
-use Rattle.std.specs.Prelude.{◌≡◌, ℕ, ◌+◌, Bool, true, false, if◌then◌else◌, nat_eq, List, [], ◌∷◌, ◌++◌, length, Option, Some, None}
+use Rattle.std.specs.Prelude.{◌≡◌, ◌⊎◌, ℕ, ◌+◌, ◌<◌, ◌≤◌, Bool, true, false, if◌then◌else◌, nat_eq, List, [], ◌∷◌, ◌++◌, length, take, Option, Some, None}
 use Rattle.std.specs.List.{count_by, filter}
 use Rattle.line_table.specs.declared.lines.Line.{Line}
 use Rattle.line_table.specs.declared.lines.Line.TheVariants.{E9, D4, D13, A5, B3, B5}
@@ -152,6 +152,18 @@ PlaysToItsValues t =
 -- Head's count is the number of pops in the history
 abbrev pub CountsItsPops : Traced → Type 0
 CountsItsPops t = t.world.shared.head.count ≡ count_by is_pop t.history
+
+-- an actor that looked behind Head when there were so many entries finds: Head's count is above that of its register, or
+-- these entries leave the empty queue
+pub record LeftNothing (t : Traced) (a : Actor) (entries : ℕ) : Type 0 where
+  pub some : entries ≤ length t.history
+  pub since : (a.head.count < t.world.shared.head.count) ⊎ Plays empty (take entries t.history) empty
+
+-- an actor whose last line was D4, which found null, left nothing behind Head at that moment, or Head was moved since
+abbrev pub KeepsWhatD4Found : Traced → Type 0
+KeepsWhatD4Found t =
+    (me : ℕ) (a : Actor) (before : List Event) (last : Event) → actor_of t.world me ≡ Some a → t.paths me ≡ before ++ last ∷ [] →
+    last.line ≡ D4 → a.next.node ≡ 0 → LeftNothing t a last.entries
 
 -- entries are those of a first-in-first-out list
 abbrev pub IsLegal : List Entry → Type 0

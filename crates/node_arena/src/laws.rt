@@ -1,7 +1,7 @@
 //! Laws of all traced worlds, and of all seats. Each is the contract of a function that does nothing.
 ghost use Rattle.std.specs.Prelude.{◌≡◌};
 ghost use Rattle.step_machine.specs.Entries.{entries};
-ghost use Rattle.node_arena.specs.Traces.{Traced, IsTraced, PlaysToItsValues, CountsItsPops};
+ghost use Rattle.node_arena.specs.Traces.{Traced, IsTraced, PlaysToItsValues, CountsItsPops, KeepsWhatD4Found};
 ghost use Rattle.node_arena.specs.Seats.{EachSeatIsSound};
 
 /// The history of a traced world has just the entries of that world's operations that had their effect, by rising place:
@@ -19,6 +19,12 @@ pub fn a_history_plays_to_the_values()
 /// In a traced world Head's count is the number of pops in the history.
 pub fn heads_count_is_the_number_of_pops()
     ensures { (t : Traced) → IsTraced t → CountsItsPops t }
+{}
+
+/// Between D4 and D5 a dequeue that found null may still answer empty: Head's count is above the one that it read, or the
+/// entries that there were at its D4, as many as its path says, leave the empty queue.
+pub fn what_d4_found_stays_noted()
+    ensures { (t : Traced) → IsTraced t → KeepsWhatD4Found t }
 {}
 
 /// What a seat of an arena knows is sound, before and after each call: what it has seen is the history of a
