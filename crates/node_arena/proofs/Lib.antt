@@ -13,5 +13,6 @@ pub mod Keeps
 pub mod Counting
 pub mod Calls
 pub mod Deals
+pub mod Meets
 pub mod Noted
 pub mod Between

@@ -14,7 +14,7 @@ use Rattle.step_machine.specs.Machine.{idle, actor_of}
 use Rattle.node_arena.specs.declared.roles.Role.{Role}
 use Rattle.node_arena.specs.Traces.{Traced, IsTraced, step_at, actor_at, outcome_at, event_at, entries_at, number_at, own_entries, sees, IsLegal}
 use Rattle.node_arena.specs.Leads.{Lead, led}
-use Rattle.node_arena.specs.Seeing.{Knows, View, keeper, seated, members, knows}
+use Rattle.node_arena.specs.Seeing.{Knows, View, keeper, seated, paired, members, knows}
 use Rattle.node_arena.specs.Plans.{Layout, IsPlanned, IsPermitted}
 
 -- a seat's actor and path are the traced world's, what it has seen is a beginning of the history, and its own entries
@@ -115,3 +115,14 @@ pub record Fitted (z : Layout) (v : Knows) : Type 0 where
   pub setup : trace.world.setup ≡ z.setup
   pub permitted : All (IsPermitted z.roles) trace.history
   pub fits : Fits trace v
+
+-- two seats that are one have seen one history, which begins with what each had seen; nothing else changed
+pub record Met (z : Layout) (v w : Knows) (m : Me ℕ View) : Type 0 where
+  pub all : List Entry
+  pub first_rest : List Entry
+  pub second_rest : List Entry
+  pub seats : m ≡ (paired (record v { seen = all }) (record w { seen = all }), [])
+  pub first : all ≡ v.seen ++ first_rest
+  pub second : all ≡ w.seen ++ second_rest
+  pub first_fits : Fitted z (record v { seen = all })
+  pub second_fits : Fitted z (record w { seen = all })

@@ -1,8 +1,9 @@
 -- What clauses say of an arena and its seats.
-use Rattle.std.specs.Prelude.{◌≡◌, ℕ, ◌+◌, ◌-◌, ◌*◌, ◌^◌, ◌<◌, List, [], Option, Some, None, slice_get}
+use Rattle.std.specs.Prelude.{◌≡◌, ℕ, ◌+◌, ◌-◌, ◌*◌, ◌^◌, ◌<◌, List, [], ◌++◌, Option, Some, None, slice_get}
 use Rattle.std.specs.List.{count_by}
 use Rattle.line_table.specs.declared.lines.Line.{Line}
 use Rattle.line_table.specs.declared.lines.Line.TheVariants.{E9, D13, A5, B5}
+use Rattle.history.specs.declared.operations.Entry.{Entry}
 use Rattle.history.specs.Entries.{is_push, is_pop}
 use Rattle.line_steps.specs.declared.actors.Setup.{Setup}
 use Rattle.line_steps.specs.declared.actors.Held.{Held}
@@ -148,3 +149,18 @@ pub record IsReady (r : Arena) (s : Seat) : Type 0 where
   pub seat : IsSeat r s
   pub free : (at_rest (view s).actor).line ≡ None
   pub pocket : s.pocket ≡ (at_rest (view s).actor).pocket
+
+-- a seat stores and knows the same as before, but that it has now seen this, which begins with what it had seen
+pub record Sees (s t : Seat) (all : List Entry) : Type 0 where
+  pub stored : KeepsStored s t
+  pub knows : view t ≡ record (view s) { seen = all }
+  pub more : List Entry
+  pub begins : all ≡ (view s).seen ++ more
+
+-- two seats have met: both have seen one history, which begins with what each had seen
+pub record Meets (r : Arena) (s t s' t' : Seat) : Type 0 where
+  pub one : IsReady r s'
+  pub other : IsReady r t'
+  pub all : List Entry
+  pub first : Sees s s' all
+  pub second : Sees t t' all

@@ -1,5 +1,5 @@
 -- What a seat knows.
-use Rattle.std.specs.Prelude.{ℕ, ◌+◌, List, [], ◌∷◌}
+use Rattle.std.specs.Prelude.{ℕ, ◌+◌, List, [], ◌∷◌, ◌++◌}
 use Rattle.history.specs.declared.operations.Entry.{Entry}
 use Rattle.line_steps.specs.declared.actors.Actor.{Actor}
 use Rattle.step_machine.specs.Machine.{idle}
@@ -67,3 +67,23 @@ dealt_right (gathered vs) = spent
 dealt_right (seated v) = spent
 dealt_right (paired v w) = spent
 dealt_right spent = spent
+
+-- two seats become one; one that gathers takes in a seat that is closed
+abbrev pub both_of : View → View → View
+both_of (seated v) (seated w) = paired v w
+both_of (gathered vs) (seated w) = gathered (vs ++ w ∷ [])
+both_of v w = v
+
+-- the first of two seats that were one
+abbrev pub first_of : View → View
+first_of (paired v w) = seated v
+first_of v = v
+
+-- the second of them
+abbrev pub second_of : View → View
+second_of (paired v w) = seated w
+second_of v = spent
+
+-- a view that stays as it is
+abbrev pub itself : View → View
+itself v = v
