@@ -148,22 +148,22 @@ line_gains s now me a B5 c h = refl
 line_gains s now me a l c h = (quiet s now me a l c refl).none
 
 -- the entries that a move adds: those of a step at the line of its actor
-abbrev pub line_entries : World → (me : ℕ) → Actor → Option Line → List Entry
+abbrev line_entries : World → (me : ℕ) → Actor → Option Line → List Entry
 line_entries w me a None = []
 line_entries w me a (Some l) = entries_of w.setup me a l (found (action w.setup me a l) w.shared)
 
-abbrev pub step_entries : World → (me : ℕ) → Option Actor → List Entry
+abbrev step_entries : World → (me : ℕ) → Option Actor → List Entry
 step_entries w me None = []
 step_entries w me (Some a) = line_entries w me a a.line
 
-abbrev pub move_entries : World → AnyMove → List Entry
+abbrev move_entries : World → AnyMove → List Entry
 move_entries w (made (Begin me op)) = []
 move_entries w (made (Step me)) = step_entries w me (actor_of w me)
 move_entries w (made (Give me)) = []
 move_entries w (Rest me) = []
 
 -- a move adds them to the history
-pub history_moved : (t : Traced) (m : AnyMove) (w : World) → (traced_move t m w).history ≡ t.history ++ move_entries t.world m
+history_moved : (t : Traced) (m : AnyMove) (w : World) → (traced_move t m w).history ≡ t.history ++ move_entries t.world m
 history_moved t (made (Begin me op)) w = sym (append-nil t.history)
 history_moved t (made (Step me)) w = go (actor_of t.world me)
   where

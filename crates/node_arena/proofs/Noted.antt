@@ -1,9 +1,8 @@
 -- A queue that is found empty: what its seat has then seen leaves the empty queue.
-use Rattle.std.proofs.Common.{◌≡◌, ℕ, ◌≤◌, if◌then◌else◌, List, [], ◌∷◌, ◌++◌, refl, sym, ap, subst, ◌∙◌, arith, append-nil, inl, inr}
+use Rattle.std.proofs.Common.{◌≡◌, ℕ, ◌≤◌, if◌then◌else◌, List, [], ◌∷◌, ◌++◌, length, refl, sym, ap, subst, ◌∙◌, arith, append-nil, inl, inr}
 use Rattle.std.specs.List.{count_by}
 use Rattle.std.proofs.lemmas.List.Sums.{sum_by-append}
-use Rattle.counted_ref.specs.Ref.{Ref, IsRef, ref_of, ref_word}
-use Rattle.counted_ref.proofs.Words.{ref_of-ref_word}
+use Rattle.counted_ref.specs.Ref.{Ref, ref_of}
 use Rattle.line_table.specs.declared.lines.Kind.TheVariants.{TwoLock, NonBlocking}
 use Rattle.line_table.specs.declared.lines.Line.TheVariants.{D4, D5, B3}
 use Rattle.history.specs.Queue.{empty}
@@ -17,7 +16,7 @@ use Rattle.step_machine.proofs.Older.{WasIn}
 use Rattle.step_machine.proofs.TwoLockKnows as two_lock_knows
 use Rattle.step_machine.proofs.TwoLockSound as two_lock_sound
 use Rattle.step_machine.proofs.NonBlockingLaws as non_blocking
-use Rattle.node_arena.specs.Traces.{Traced, IsTraced}
+use Rattle.node_arena.specs.Traces.{Traced, IsTraced, event_at}
 use Rattle.node_arena.specs.Leads.{goes_on}
 use Rattle.node_arena.specs.Seeing.{Knows}
 use Rattle.node_arena.specs.Plans.{Layout}
@@ -25,6 +24,7 @@ use Rattle.node_arena.specs.Rule.{Steps}
 use Rattle.node_arena.proofs.Tracing.{traced_reached}
 use Rattle.node_arena.proofs.Histories.{history_plays, counts_pops}
 use Rattle.node_arena.proofs.Told.{places_of, was_fits}
+use Rattle.node_arena.proofs.Reading.{read_back}
 
 -- a chain whose first node leads nowhere is that node alone, and has no values
 no_values : (w : World) (queue : List ℕ) → 1 ≤ w.shared.head.node → IsChain w.shared.nodes w.shared.head.node queue → (node_at w.shared w.shared.head.node).next.node ≡ 0 → queue_values w.shared queue ≡ []
@@ -39,9 +39,6 @@ leaves_nothing t r least null =
     let p = places_of t.world (traced_reached t r) in
     subst (λ vs. Plays empty t.history (record { values = vs })) (no_values t.world p.0 least p.2.queue_chain null) (history_plays t r p.0 p.2.queue_chain)
 
-read : (x : Ref) (n : ℕ) → IsRef x → n ≡ ref_word x → ref_of n ≡ x
-read x n h e = ap ref_of e ∙ ref_of-ref_word x h
-
 -- line D5 finds Head as it was, after D4 found null
 module _ (z : Layout) (two : z.setup.kind ≡ NonBlocking) (n4 n5 : ℕ) (v v4 v5 : Knows) (k4 : Steps z goes_on D4 n4 v v4) (k5 : Steps z goes_on D5 n5 v4 v5) where
   abbrev was4 : Traced
@@ -52,6 +49,10 @@ module _ (z : Layout) (two : z.setup.kind ≡ NonBlocking) (n4 n5 : ℕ) (v v4 v
 
   seen4 : v4.seen ≡ was4.history
   seen4 = k4.whole refl ∙ append-nil was4.history
+
+  -- as many entries as the seat has then seen are in its path
+  pub counted4 : (event_at z.setup was4 v.number v.actor D4).entries ≡ length v4.seen
+  counted4 = ap length (sym (k4.whole refl))
 
   pub seen5 : v5.seen ≡ v4.seen
   seen5 = k5.stays refl
@@ -78,10 +79,10 @@ module _ (z : Layout) (two : z.setup.kind ≡ NonBlocking) (n4 n5 : ℕ) (v v4 v
       low = at.nodes.0
 
       head5 : was5.world.shared.head ≡ v.actor.head
-      head5 = sym (read was5.world.shared.head n5 (was_fits z goes_on D5 n5 v4 v5 k5 Head) k5.found) ∙ same ∙ ap (λ x. x.head) k4.actor
+      head5 = sym (read_back was5.world.shared.head n5 (was_fits z goes_on D5 n5 v4 v5 k5 Head) k5.found).0 ∙ same ∙ ap (λ x. x.head) k4.actor
 
       null4 : (node_at was4.world.shared v.actor.head.node).next.node ≡ 0
-      null4 = ap (λ (x : Ref). x.node) (sym (read (node_at was4.world.shared v.actor.head.node).next n4 (was_fits z goes_on D4 n4 v v4 k4 (Next v.actor.head.node)) k4.found)) ∙ null
+      null4 = ap (λ (x : Ref). x.node) (sym (read_back (node_at was4.world.shared v.actor.head.node).next n4 (was_fits z goes_on D4 n4 v v4 k4 (Next v.actor.head.node)) k4.found).0) ∙ null
 
       go : WasIn was4.world.shared.head v.actor.head → was4.world.shared.head ≡ v.actor.head
       go (inl e) = e
@@ -109,4 +110,4 @@ finds_nothing_locked z two n v v' k null =
     low = (two_lock_sound.nodes_at k.was.world r e v.number v.actor B3 k.before k.line).1
 
     null3 : (node_at k.was.world.shared v.actor.head.node).next.node ≡ 0
-    null3 = ap (λ (x : Ref). x.node) (sym (read (node_at k.was.world.shared v.actor.head.node).next n (was_fits z goes_on B3 n v v' k (Next v.actor.head.node)) k.found)) ∙ null
+    null3 = ap (λ (x : Ref). x.node) (sym (read_back (node_at k.was.world.shared v.actor.head.node).next n (was_fits z goes_on B3 n v v' k (Next v.actor.head.node)) k.found).0) ∙ null

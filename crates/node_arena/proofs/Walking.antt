@@ -17,9 +17,11 @@ use Rattle.node_arena.proofs.Tracing.{traced_reached}
 use Rattle.node_arena.proofs.Told.{sole}
 use Rattle.node_arena.proofs.Noting.{AnswersNoEmpty, notes_nothing}
 
+-- no line
 pub no_walk : (v : Knows) → Walks v v []
 no_walk v = record { number = refl; path = sym (append-nil v.path); mine = refl; notes = refl; rest = []; seen = sym (append-nil v.seen) }
 
+-- some lines and then others
 pub walk_then : (v w x : Knows) (es fs : List Event) → Walks v w es → Walks w x fs → Walks v x (es ++ fs)
 walk_then v w x es fs f g =
     record {
@@ -31,6 +33,7 @@ walk_then v w x es fs f g =
       seen = g.seen ∙ ap (λ p. p ++ g.rest) f.seen ∙ append_assoc v.seen f.rest g.rest;
     }
 
+-- what a seat stores stays, and then again
 pub then_stored : (s t u : Seat) → KeepsStored s t → KeepsStored t u → KeepsStored s u
 then_stored s t u f g = record { number = g.number ∙ f.number; role = g.role ∙ f.role; pocket = g.pocket ∙ f.pocket; failed = g.failed ∙ f.failed }
 
@@ -38,9 +41,11 @@ then_stored s t u f g = record { number = g.number ∙ f.number; role = g.role �
 pub added_is : (s t : Seat) (es : List Event) → Walks (view s) (view t) es → added s t ≡ es
 added_is s t es w = ap (drop (length (view s).path)) w.path ∙ drop-append_seam (view s).path es
 
+-- what held before the last of some lines held at a call's last step
 pub last_held : (r : Arena) (s t : Seat) (es : List Event) (P : World → Type 0) → added s t ≡ es → EndedAt r s es P → LastHeld r s t P
 last_held r s t es P e h = record { was = h.was; reached = h.reached; setup = h.setup; before = h.before; last = h.last; path = e ∙ h.path; within = h.within; held = h.held }
 
+-- and so where that line was a failed turn
 pub ends_failed : (s t : Seat) (es : List Event) → added s t ≡ es → FailedAt es → EndsFailed s t
 ends_failed s t es e h = record { before = h.before; last = h.last; path = e ∙ h.path; failed = h.failed }
 

@@ -21,8 +21,8 @@ pub fn heads_count_is_the_number_of_pops()
     ensures { (t : Traced) → IsTraced t → CountsItsPops t }
 {}
 
-/// Between D4 and D5 a dequeue that found null may still answer empty: Head's count is above the one that it read, or the
-/// entries that there were at its D4, as many as its path says, leave the empty queue.
+/// An actor whose last line was D4, where it found null, has in its path how many entries there then were: Head's count is
+/// above the one that it read, or these entries leave the empty queue.
 pub fn what_d4_found_stays_noted()
     ensures { (t : Traced) → IsTraced t → KeepsWhatD4Found t }
 {}
