@@ -19,6 +19,8 @@ use Rattle.node_arena.specs.Seats.{IsReady, DidStep, view, keeping, pocket_of}
 use Rattle.node_arena.specs.Turns.{failed_at, failed_turns, at_f1}
 use Rattle.node_arena.specs.Walks.{Walks, added, NowHolds}
 use Rattle.node_arena.proofs.Tracing.{traced_reached}
+use Rattle.node_arena.proofs.Noting.{none_due}
+use Rattle.node_arena.proofs.Walking.{no_walk, walk_then, then_stored, added_is, ends_failed, failed_behind, failed-append, kept_seat, now_kept, event, after, walk_on, to_is, failed_last, now_holds}
 use Rattle.node_arena.proofs.Told.{was_in_range, actor_was_in_range, first_is_free, raised_names}
 use Rattle.free_list.specs.declared.outcomes.Actor.{Actor as Running}
 use Rattle.free_list.specs.declared.outcomes.Outcome.{Outcome}
@@ -26,11 +28,9 @@ use Rattle.free_list.specs.declared.outcomes.Outcome.TheVariants.{Goes, Freed}
 use Rattle.free_list.specs.declared.outcomes.Gave.TheVariants.{Back, Again}
 use Rattle.free_list.specs.Runs.{gave_of, Frees, Stands, StartsGive, Follows}
 use Rattle.free_list.specs.Gives.{IsBack, GiveTurned, GiveTurns, Giving, GiveAnswers}
-use Rattle.free_list.proofs.Walking.{walk_then, then_stored, event, after, walk_one, to_is, failed_last, now_holds}
 use Rattle.free_list.proofs.Steps.{ref_f1, ref_f3}
 use Rattle.free_list.proofs.Standing.{Shelved, after_f1, after_f2, after_f3}
 use Rattle.free_list.proofs.Turning.{same_actor}
-use Rattle.free_list.proofs.Trials.{no_walk, added_is, ends_failed, failed_behind, failed-append, kept_seat, now_kept}
 
 none_at_dequeue : (k : Kind) (o : Option Line) → o ≡ Some (dequeues k) → at_f1 o ≡ 0
 none_at_dequeue TwoLock o e = ap at_f1 e
@@ -81,7 +81,7 @@ aside_turn r s t lead h a out n st f stays = go (nat_eq (ref_of f.found).count r
         record {
           stored = f.did.stored;
           lines = event r s t lead F1 f.found f.did ∷ [];
-          walks = walk_one r s t lead F1 f.found f.did refl;
+          walks = walk_on r s t lead F1 f.found f.did refl (none_due (led r.plan.setup (view s).number lead (view s).actor) st.knows.early);
           turned = record {
             seat = f.did.seat;
             over = o.over;
@@ -130,7 +130,7 @@ module _ (r : Arena) (s u t x : Seat) (lead : Lead) (h : Held) (a b c : Running)
   mark_is = ap (λ z. z.mark) same ∙ ((to_f2 r s u lead a b l st f).2 ∙ ma)
 
   walked : Walks (view s) (view t) (one ∷ two ∷ [])
-  walked = walk_then (view s) (view u) (view t) (one ∷ []) (two ∷ []) (walk_one r s u lead F1 f.found f.did refl) (walk_one r u t goes_on F2 g.found g.did refl)
+  walked = walk_then (view s) (view u) (view t) (one ∷ []) (two ∷ []) (walk_on r s u lead F1 f.found f.did refl (none_due (led r.plan.setup (view s).number lead (view s).actor) st.knows.early)) (walk_on r u t goes_on F2 g.found g.did refl tt)
 
   same_top : (p : Bool) → same_ref (ref_of k.found) c.top ≡ p → same_ref k.did.told.was.world.shared.free (led r.plan.setup (view t).number goes_on (view t).actor).top ≡ p
   same_top p e = (λ i. same_ref (sym (ref_f3 r t x goes_on k.found k.did).0 i) (stands.knows.1.top i)) ∙ e
@@ -159,7 +159,7 @@ module _ (r : Arena) (s u t x : Seat) (lead : Lead) (h : Held) (a b c : Running)
       record {
         stored = then_stored s t x (then_stored s u t f.did.stored g.did.stored) k.did.stored;
         lines = one ∷ two ∷ three ∷ [];
-        walks = walk_then (view s) (view t) (view x) (one ∷ two ∷ []) (three ∷ []) walked (walk_one r t x goes_on F3 k.found k.did refl);
+        walks = walk_then (view s) (view t) (view x) (one ∷ two ∷ []) (three ∷ []) walked (walk_on r t x goes_on F3 k.found k.did refl (none_due (view t).actor stands.knows.0.frees.early));
         turned = subst (λ o. GiveTurned r x (one ∷ two ∷ three ∷ []) h (gave_of o)) (sym k.leads_to) (turned (same_ref (ref_of k.found) c.top) refl);
       }
 

@@ -1,5 +1,4 @@
 pub mod Steps
-pub mod Walking
 pub mod Standing
 pub mod Turning
 pub mod Trials

@@ -1,65 +1,22 @@
 -- A take: its turns one after another, and what it answers.
-use Rattle.std.proofs.Common.{◌≡◌, inl, inr, ℕ, zero, suc, ◌+◌, ◌<◌, ◌≤◌, Option, Some, None, Ok, Err, List, [], ◌∷◌, ◌++◌, length, drop, add-one, sym, refl, ap, ◌∙◌, subst, arith, append-nil, append_assoc}
-use Rattle.std.proofs.lemmas.List.Sums.{sum_by-append}
-use Rattle.std.proofs.Math.Seq.{drop-append_seam}
+use Rattle.std.proofs.Common.{◌≡◌, inl, inr, ℕ, zero, suc, ◌+◌, ◌<◌, ◌≤◌, Option, Some, None, Ok, Err, List, [], ◌++◌, add-one, sym, refl, ap, ◌∙◌, subst, arith}
 use Rattle.line_table.specs.declared.lines.Kind.{Kind}
 use Rattle.line_table.specs.declared.lines.Kind.TheVariants.{TwoLock, NonBlocking}
 use Rattle.line_table.specs.declared.lines.Line.TheVariants.{N1}
 use Rattle.history.specs.declared.operations.Op.TheVariants.{Enq}
 use Rattle.history.specs.declared.refusals.Refusal.{Refusal}
 use Rattle.history.specs.declared.refusals.Refusal.TheVariants.{Busy}
-use Rattle.node_arena.specs.Machine.{Held, Actor, World, HasCause, with_node, from_pocket, rested}
+use Rattle.node_arena.specs.Machine.{Held, Actor, HasCause, with_node, from_pocket, rested}
 use Rattle.node_arena.specs.Traces.{Event}
 use Rattle.node_arena.specs.Leads.{at_rest, out_of}
-use Rattle.node_arena.specs.Seeing.{Knows}
 use Rattle.node_arena.specs.declared.arena.Arena.{Arena}
 use Rattle.node_arena.specs.declared.seats.Seat.{Seat}
-use Rattle.node_arena.specs.Seats.{IsSeat, IsReady, view, keeping, pocket_of}
-use Rattle.node_arena.specs.Turns.{failed_at, failed_turns}
-use Rattle.node_arena.specs.Walks.{Walks, added, LastHeld, NowHolds, EndsFailed}
+use Rattle.node_arena.specs.Seats.{IsReady, view, keeping, pocket_of}
+use Rattle.node_arena.specs.Turns.{failed_turns}
+use Rattle.node_arena.specs.Walks.{Walks, added, LastHeld}
 use Rattle.free_list.specs.declared.outcomes.Turn.TheVariants.{Took, Failed, Refused}
-use Rattle.free_list.specs.Takes.{EndedAt, FailedAt, IsRefusedBy, TakeRefused, Turns, Trying, Answers}
-use Rattle.free_list.proofs.Walking.{walk_then, then_stored}
-
-pub no_walk : (v : Knows) → Walks v v []
-no_walk v = record { number = refl; path = sym (append-nil v.path); mine = refl; rest = []; seen = sym (append-nil v.seen) }
-
--- what a seat's path has more is what was added
-pub added_is : (s t : Seat) (es : List Event) → Walks (view s) (view t) es → added s t ≡ es
-added_is s t es w = ap (drop (length (view s).path)) w.path ∙ drop-append_seam (view s).path es
-
-pub last_held : (r : Arena) (s t : Seat) (es : List Event) (P : World → Type 0) → added s t ≡ es → EndedAt r s es P → LastHeld r s t P
-last_held r s t es P e h = record { was = h.was; reached = h.reached; setup = h.setup; before = h.before; last = h.last; path = e ∙ h.path; within = h.within; held = h.held }
-
-pub ends_failed : (s t : Seat) (es : List Event) → added s t ≡ es → FailedAt es → EndsFailed s t
-ends_failed s t es e h = record { before = h.before; last = h.last; path = e ∙ h.path; failed = h.failed }
-
--- lines behind others
-pub ended_behind : (r : Arena) (s t : Seat) (es fs : List Event) (P : World → Type 0) → Walks (view s) (view t) es → EndedAt r t fs P → EndedAt r s (es ++ fs) P
-ended_behind r s t es fs P w h =
-    record {
-      was = h.was;
-      reached = h.reached;
-      setup = h.setup;
-      before = es ++ h.before;
-      last = h.last;
-      path = ap (λ x. es ++ x) h.path ∙ sym (append_assoc es h.before (h.last ∷ []));
-      within = ap h.was.paths (sym w.number) ∙ h.within ∙ ap (λ p. p ++ h.before) w.path ∙ append_assoc (view s).path es h.before;
-      held = h.held;
-    }
-
-pub failed_behind : (es fs : List Event) → FailedAt fs → FailedAt (es ++ fs)
-failed_behind es fs h = record { before = es ++ h.before; last = h.last; path = ap (λ x. es ++ x) h.path ∙ sym (append_assoc es h.before (h.last ∷ [])); failed = h.failed }
-
-pub failed-append : (es fs : List Event) → failed_turns (es ++ fs) ≡ failed_turns es + failed_turns fs
-failed-append es fs = sum_by-append (λ e. failed_at e.line e.to) es fs
-
--- a seat that keeps another pocket is still the arena's
-pub kept_seat : (r : Arena) (t : Seat) (p : Option Held) (n : ℕ) → IsSeat r t → IsSeat r (keeping t p n)
-kept_seat r t p n h = record { arena = h.arena; sits = record { table = h.sits.table; seat = h.sits.seat; number = h.sits.number; role = h.sits.role; pushes = h.sits.pushes; pops = h.sits.pops } }
-
-pub now_kept : (r : Arena) (t : Seat) (p : Option Held) (n : ℕ) (P : World → Type 0) → NowHolds r t P → NowHolds r (keeping t p n) P
-now_kept r t p n P h = record { now = h.now; reached = h.reached; setup = h.setup; actor = h.actor; path = h.path; holds = h.holds }
+use Rattle.node_arena.proofs.Walking.{no_walk, walk_then, then_stored, added_is, last_held, ends_failed, ended_behind, failed_behind, failed-append, kept_seat, now_kept}
+use Rattle.free_list.specs.Takes.{IsRefusedBy, TakeRefused, Turns, Trying, Answers}
 
 -- an actor that just got a node rests
 pub rests_with : (k : Kind) (a : Actor) → a.line ≡ Some (with_node k) → at_rest a ≡ rested a

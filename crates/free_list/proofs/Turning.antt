@@ -1,6 +1,5 @@
 -- The turns of a take: N1 and N2, and then N5, or N3 and N4, or a refusal.
 use Rattle.std.proofs.Common.{◌≡◌, ◌≢◌, ℕ, ◌+◌, Bool, true, false, if◌then◌else◌, nat_eq, Option, Some, List, [], ◌∷◌, ◌++◌, sym, refl, ap, ◌∙◌, subst, arith}
-use Rattle.std.proofs.lemmas.List.Sums.{sum_by-append}
 use Rattle.counted_ref.specs.Ref.{ref_of, same_ref}
 use Rattle.line_table.specs.declared.lines.Kind.{Kind}
 use Rattle.line_table.specs.declared.lines.Kind.TheVariants.{TwoLock, NonBlocking}
@@ -15,13 +14,13 @@ use Rattle.node_arena.specs.declared.seats.Seat.{Seat}
 use Rattle.node_arena.specs.Seats.{KeepsStored, DidStep, view}
 use Rattle.node_arena.specs.Turns.{failed_at, failed_turns, at_n1}
 use Rattle.node_arena.specs.Walks.{Walks}
+use Rattle.node_arena.proofs.Walking.{walk_then, then_stored, failed_snoc, event, walk_on, to_is, ended_at, failed_last, now_sole}
 use Rattle.free_list.specs.declared.outcomes.Actor.{Actor as Running}
 use Rattle.free_list.specs.declared.outcomes.Outcome.{Outcome}
 use Rattle.free_list.specs.declared.outcomes.Outcome.TheVariants.{Goes, Ends, Freed}
 use Rattle.free_list.specs.declared.outcomes.Turn.TheVariants.{Refused}
 use Rattle.free_list.specs.Runs.{in_hand, turn_of, Stands, StartsTake, Follows}
 use Rattle.free_list.specs.Takes.{Got, Fell, Turned, Turns}
-use Rattle.free_list.proofs.Walking.{walk_then, then_stored, event, walk_one, to_is, ended_at, failed_last, now_sole}
 use Rattle.free_list.proofs.Standing.{after_n1, Ended, Second, after_n2, after_n3, Holding, after_n4, after_n5}
 
 actor_or : Running → Outcome → Running
@@ -33,10 +32,6 @@ actor_or d Freed = d
 pub same_actor : (l k : Line) (a b : Running) → Goes l a ≡ Goes k b → a ≡ b
 unfolding actor_or
 same_actor l k a b e = ap (actor_or a) e
-
--- one line more on a path
-pub failed_snoc : (es : List Event) (e : Event) → failed_turns (es ++ e ∷ []) ≡ failed_turns es + failed_at e.line e.to
-failed_snoc es e = sum_by-append (λ x. failed_at x.line x.to) es (e ∷ []) ∙ (let z : 0 + failed_at e.line e.to ≡ failed_at e.line e.to = omega arith in ap (λ k. failed_turns es + k) z)
 
 -- at the start of a turn a call knows nothing of its registers
 pub any_registers : (r : Arena) (t : Seat) (lead : Lead) (a : Running) → StartsTake r t lead → Stands r t lead N1 a
@@ -99,7 +94,7 @@ module _ (r : Arena) (s u t : Seat) (lead : Lead) (a a1 : Running) (l1 : Line) (
   looks = one ∷ two ∷ []
 
   pub look_walk : Walks (view s) (view t) looks
-  look_walk = walk_then (view s) (view u) (view t) (one ∷ []) (two ∷ []) (walk_one r s u lead N1 f.found f.did refl) (walk_one r u t goes_on N2 g.found g.did refl)
+  look_walk = walk_then (view s) (view u) (view t) (one ∷ []) (two ∷ []) (walk_on r s u lead N1 f.found f.did refl tt) (walk_on r u t goes_on N2 g.found g.did refl tt)
 
   pub look_stored : KeepsStored s t
   look_stored = then_stored s u t f.did.stored g.did.stored
@@ -115,7 +110,7 @@ module _ (r : Arena) (s u t : Seat) (lead : Lead) (a a1 : Running) (l1 : Line) (
         stored = look_stored;
         lines = looks;
         walks = look_walk;
-        turned = record { seat = g.did.seat; over = o.over; empty = o.empty; never = refl; cause = ended_at r u t goes_on N2 g.found g.did s (one ∷ []) _ (walk_one r s u lead N1 f.found f.did refl) o.cause; possible = o.possible };
+        turned = record { seat = g.did.seat; over = o.over; empty = o.empty; never = refl; cause = ended_at r u t goes_on N2 g.found g.did s (one ∷ []) _ (walk_on r s u lead N1 f.found f.did refl tt) o.cause; possible = o.possible };
       }
 
   pub to_n5 : (k : Line) (b : Running) → out ≡ Goes k b → k ≡ N5 → Stands r t goes_on N5 b
@@ -135,7 +130,7 @@ module _ (r : Arena) (s u t : Seat) (lead : Lead) (a a1 : Running) (l1 : Line) (
       record {
         stored = then_stored s t x look_stored y.did.stored;
         lines = looks ++ event r t x goes_on N5 y.found y.did ∷ [];
-        walks = walk_then (view s) (view t) (view x) looks (event r t x goes_on N5 y.found y.did ∷ []) look_walk (walk_one r t x goes_on N5 y.found y.did refl);
+        walks = walk_then (view s) (view t) (view x) looks (event r t x goes_on N5 y.found y.did ∷ []) look_walk (walk_on r t x goes_on N5 y.found y.did refl tt);
         turned = subst (λ o. Turned r s x (looks ++ event r t x goes_on N5 y.found y.did ∷ []) (turn_of o)) (sym y.leads_to) (go (nat_eq y.found b.f) refl);
       }
     where
@@ -152,12 +147,12 @@ module _ (r : Arena) (s u t : Seat) (lead : Lead) (a a1 : Running) (l1 : Line) (
       record {
         stored = then_stored s x v (then_stored s t x look_stored y.did.stored) z.did.stored;
         lines = (looks ++ event r t x goes_on N3 y.found y.did ∷ []) ++ event r x v goes_on N4 z.found z.did ∷ [];
-        walks = walk_then (view s) (view x) (view v) (looks ++ event r t x goes_on N3 y.found y.did ∷ []) (event r x v goes_on N4 z.found z.did ∷ []) walked (walk_one r x v goes_on N4 z.found z.did refl);
+        walks = walk_then (view s) (view x) (view v) (looks ++ event r t x goes_on N3 y.found y.did ∷ []) (event r x v goes_on N4 z.found z.did ∷ []) walked (walk_on r x v goes_on N4 z.found z.did refl tt);
         turned = subst (λ o. Turned r s v ((looks ++ event r t x goes_on N3 y.found y.did ∷ []) ++ event r x v goes_on N4 z.found z.did ∷ []) (turn_of o)) (sym z.leads_to) (go (same_ref (ref_of z.found) c.top) refl);
       }
     where
       walked : Walks (view s) (view x) (looks ++ event r t x goes_on N3 y.found y.did ∷ [])
-      walked = walk_then (view s) (view t) (view x) looks (event r t x goes_on N3 y.found y.did ∷ []) look_walk (walk_one r t x goes_on N3 y.found y.did refl)
+      walked = walk_then (view s) (view t) (view x) looks (event r t x goes_on N3 y.found y.did ∷ []) look_walk (walk_on r t x goes_on N3 y.found y.did refl tt)
 
       go : (p : Bool) → same_ref (ref_of z.found) c.top ≡ p → Turned r s v ((looks ++ event r t x goes_on N3 y.found y.did ∷ []) ++ event r x v goes_on N4 z.found z.did ∷ []) (turn_of (if p then Goes (with_node r.plan.setup.kind) (record c { node = c.top.node; mark = c.next.count }) else Goes N1 c))
       go true w = took_at r.plan.setup.kind r s v _ (record c { node = c.top.node; mark = c.next.count }) (got r s x v N4 z.found z.did (looks ++ event r t x goes_on N3 y.found y.did ∷ []) walked refl (λ o. refl) c (record c { node = c.top.node; mark = c.next.count }) ((after_n4 r x v goes_on c z.found (to_n4 k m b c x e other y) z.did).0 w))

@@ -9,11 +9,10 @@ use Rattle.node_arena.specs.declared.arena.Arena.{Arena}
 use Rattle.node_arena.specs.declared.seats.Seat.{Seat}
 use Rattle.node_arena.specs.Seats.{IsSeat, IsReady, KeepsStored, KeepsName, view, pocket_of, failed_of}
 use Rattle.node_arena.specs.Turns.{failed_turns}
-use Rattle.node_arena.specs.Walks.{Walks, HadNoEffect, added, NowHolds, EndsFailed}
+use Rattle.node_arena.specs.Walks.{Walks, HadNoEffect, added, FailedAt, NowHolds, EndsFailed}
 use Rattle.free_list.specs.declared.outcomes.Gave.{Gave}
 use Rattle.free_list.specs.declared.outcomes.Gave.TheVariants.{Back, Again}
 use Rattle.free_list.specs.Runs.{StartsGive, giving}
-use Rattle.free_list.specs.Takes.{FailedAt}
 
 -- a node is free, or set aside where Free's count is at the limit
 abbrev pub IsBack : ℕ → World → Type 0

@@ -1,16 +1,16 @@
 -- What a turn of a take leads to, and what a take answers.
-use Rattle.std.specs.Prelude.{◌≡◌, ℕ, ◌<◌, ◌≤◌, ◌⊎◌, List, [], ◌∷◌, ◌++◌, Some, None, Result, Err, MatchResult, IfOk, IfErr}
+use Rattle.std.specs.Prelude.{◌≡◌, ℕ, ◌<◌, ◌≤◌, ◌⊎◌, List, Some, None, Result, Err, MatchResult, IfOk, IfErr}
 use Rattle.history.specs.declared.refusals.WornWord.TheVariants.{Free as OfFree}
 use Rattle.history.specs.declared.refusals.Refusal.{Refusal}
 use Rattle.history.specs.declared.refusals.Refusal.TheVariants.{NoNode, WornOut, Busy}
 use Rattle.node_arena.specs.Machine.{Held, World, IsFree, IsUntouched, HasCause, with_node}
-use Rattle.node_arena.specs.Traces.{Event, Traced, IsTraced}
+use Rattle.node_arena.specs.Traces.{Event}
 use Rattle.node_arena.specs.Leads.{goes_on}
 use Rattle.node_arena.specs.declared.arena.Arena.{Arena}
 use Rattle.node_arena.specs.declared.seats.Seat.{Seat}
 use Rattle.node_arena.specs.Seats.{IsSeat, IsReady, KeepsStored, KeepsName, view, pocket_of, failed_of}
-use Rattle.node_arena.specs.Turns.{failed_at, failed_turns}
-use Rattle.node_arena.specs.Walks.{Walks, HadNoEffect, added, LastHeld, NowHolds, MetCause, EndsFailed, IsSole}
+use Rattle.node_arena.specs.Turns.{failed_turns}
+use Rattle.node_arena.specs.Walks.{Walks, HadNoEffect, added, EndedAt, FailedAt, LastHeld, NowHolds, MetCause, EndsFailed, IsSole}
 use Rattle.free_list.specs.declared.outcomes.Turn.{Turn}
 use Rattle.free_list.specs.declared.outcomes.Turn.TheVariants.{Took, Failed, Refused}
 use Rattle.free_list.specs.Runs.{StartsTake, taking}
@@ -40,24 +40,6 @@ FailsFewer turns out n = (out ≡ Err Busy → ⊥) → n < turns
 -- a turn of a take is refused by these alone
 abbrev pub IsRefusedBy : Refusal → Type 0
 IsRefusedBy why = (why ≡ NoNode) ⊎ (why ≡ WornOut OfFree)
-
--- the end of some lines: what held before the last of them, of a world with the path so far
-pub record EndedAt (r : Arena) (s : Seat) (es : List Event) (P : World → Type 0) : Type 0 where
-  pub was : Traced
-  pub reached : IsTraced was
-  pub setup : was.world.setup ≡ r.plan.setup
-  pub before : List Event
-  pub last : Event
-  pub path : es ≡ before ++ last ∷ []
-  pub within : was.paths (view s).number ≡ (view s).path ++ before
-  pub held : P was.world
-
--- the last of some lines was a failed turn
-pub record FailedAt (es : List Event) : Type 0 where
-  pub before : List Event
-  pub last : Event
-  pub path : es ≡ before ++ last ∷ []
-  pub failed : failed_at last.line last.to ≡ 1
 
 -- a node came into the hand
 pub record Got (r : Arena) (s t : Seat) (es : List Event) (h : Held) : Type 0 where

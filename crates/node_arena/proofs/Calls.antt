@@ -12,13 +12,14 @@ use Rattle.step_machine.specs.Tables.{PlaceStep, load_at, store_at, and_at, exch
 use Rattle.node_arena.specs.declared.views.Knowing.{Knowing}
 use Rattle.node_arena.specs.declared.arena.Arena.{Arena}
 use Rattle.node_arena.specs.declared.seats.Seat.{Seat}
-use Rattle.node_arena.specs.Traces.{entries_at, number_at}
+use Rattle.node_arena.specs.Traces.{entries_at, number_at, step_at}
 use Rattle.node_arena.specs.Leads.{Lead, led}
 use Rattle.node_arena.specs.Seeing.{View, seated, knows}
 use Rattle.node_arena.specs.Plans.{Layout}
-use Rattle.node_arena.specs.Rule.{Holds, Steps, Tells, TellsNothing, line_of}
+use Rattle.node_arena.specs.Rule.{Holds, Steps, Fitted, Tells, TellsNothing, line_of}
 use Rattle.history.specs.Entries.{is_push, is_pop}
 use Rattle.node_arena.specs.Seats.{MayStep, DidStep, DidSome, view, counting}
+use Rattle.node_arena.proofs.There.{stood, place_within}
 use Rattle.node_arena.proofs.Keeps.{becomes, allows}
 use Rattle.node_arena.proofs.Counting.{Counts, loads_nothing, clears_nothing, stores_counted, wins_counted, loses_nothing}
 
@@ -28,10 +29,16 @@ pub asks : (r : Arena) (s : Seat) (lead : Lead) (l : Line) (x : PlaceStep) → M
     × Allows {S = ℕ} (Holds r.table.shared.key) r.table.shared.table_id.slots s.token.id s.token.me (place_of x) (becomes x) (λ n m. Tells r.table.shared.key lead s.token.me n m)
 asks r s lead l x may = (
   may.seat.sits.table,
-  (let h = may.there in let e = may.seat.arena.words in omega arith),
+  there,
   allows r.plan r.table.shared.key r.table.shared.table_id.slots s.token.id s.token.me lead l x s.role may.seat.arena.key may.seat.arena.slots may.seat.sits.seat may.leads may.line
       (subst (λ n. slice_get r.plan.roles (n - 1) ≡ Some s.role) may.seat.sits.number may.seat.sits.role) may.permits may.access,
 )
+  where
+    there : place_of x < r.table.shared.table_id.words
+    there =
+        let h = place_within r.plan (view s).number (led r.plan.setup (view s).number lead (view s).actor) l (stood r.plan (view s) lead l may.seat.sits.fitted may.leads may.line) in
+        let e = ap place_of may.access in
+        omega (arith, h, e, may.seat.arena.words)
 
 -- a store is told nothing
 pub asks_store : (r : Arena) (s : Seat) (lead : Lead) (l : Line) (p n : ℕ) → MayStep r s lead l (store_at p n)
@@ -68,6 +75,7 @@ module _ (r : Arena) (s : Seat) (t : Token ℕ Knowing) (lead : Lead) (l : Line)
         number = number ∙ (may.seat.sits.number ∙ (sym steps.number ∙ ap (λ y. (knows y.me.0).number) (sym token)));
         role = subst (λ q. slice_get r.plan.roles (q - 1) ≡ Some u.role) (sym number) (may.seat.sits.role ∙ ap (λ y. Some y) (sym role));
         pushes = pushes ∙ (ap (λ k. k + count_by is_push es) may.seat.sits.pushes ∙ (sym (sum_by-append _ (view s).mine es) ∙ (ap (count_by is_push) (sym steps.mine) ∙ ap (λ y. count_by is_push (knows y.me.0).mine) (sym token))));
+        fitted = subst (λ y. Fitted r.plan (knows y.me.0)) (sym token) (record { trace = step_at steps.was (view s).number a l; reached = steps.reaches; setup = steps.setup; permitted = steps.permitted; fits = steps.fits });
         pops = pops ∙ (ap (λ k. k + count_by is_pop es) may.seat.sits.pops ∙ (sym (sum_by-append _ (view s).mine es) ∙ (ap (count_by is_pop) (sym steps.mine) ∙ ap (λ y. count_by is_pop (knows y.me.0).mine) (sym token))));
       };
     };

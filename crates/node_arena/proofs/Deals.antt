@@ -1,10 +1,15 @@
 -- The opening keeps the rule, and so does a seat that is dealt.
 use Rattle.std.proofs.Common.{◌≡◌, ◌≢◌, ◌⊎◌, ℕ, ◌+◌, ◌-◌, ◌*◌, ◌<◌, ◌≤◌, if◌then◌else◌, List, [], ◌∷◌, ◌++◌, zero, suc, length, replicate, set, sym, refl, ap, ◌∙◌, subst, ⊎_elim, inl, inr, arith, slice_get, Some, None, ne_eqb}
+use Rattle.std.specs.List.{count_by}
+use Rattle.std.proofs.lemmas.List.Elements.{All-nil}
 use Rattle.std.proofs.Math.ListN.{length-replicate}
 use mathlib.Core.Option.{some, some-injective, some-ne-none}
 use lib.ListN.{get_elem?}
 use Rattle.atomic_table.specs.Table.{Me, Splits, opening}
 use Rattle.atomic_table.specs.Seated.{TableId}
+use Rattle.atomic_table.specs.declared.shared.Seat.{Seat as Token}
+use Rattle.node_arena.specs.declared.roles.Role.{Role}
+use Rattle.node_arena.specs.declared.views.Knowing.{Knowing}
 use Rattle.atomic_table.proofs.Lists.{at_set}
 use Rattle.line_steps.specs.declared.actors.Setup.{Setup}
 use Rattle.line_steps.specs.Memory.{blank}
@@ -15,15 +20,16 @@ use Rattle.node_arena.specs.declared.seats.Seat.{Seat}
 use Rattle.node_arena.specs.Traces.{Traced, first_trace, changed}
 use Rattle.node_arena.specs.declared.arena.Arena.{Arena}
 use Rattle.node_arena.specs.Leads.{at_rest}
+use Rattle.history.specs.Entries.{is_push, is_pop}
 use Rattle.node_arena.specs.Seats.{IsArena, IsTable}
-use Rattle.node_arena.specs.Seeing.{Knows, View, keeper, seated, members, new_seat, dealt_left, dealt_right}
-use Rattle.node_arena.specs.Plans.{Layout, IsPlanned}
-use Rattle.node_arena.specs.Rule.{Fits, Holds, first_view}
+use Rattle.node_arena.specs.Seeing.{Knows, View, keeper, seated, members, knows, new_seat, dealt_left, dealt_right}
+use Rattle.node_arena.specs.Plans.{Layout, IsPlanned, IsPermitted}
+use Rattle.node_arena.specs.Rule.{Fits, Holds, Fitted, first_view}
 use Rattle.node_arena.specs.Making.{first_words, IsDealt, AreDealt, IsNewSeat}
 use Rattle.node_arena.proofs.Tracing.{changed_here, changed_else}
 use Rattle.node_arena.proofs.Keeps.{one_of}
 
-at_end : {A : Type 0} (l : List A) (a b : A) (j : ℕ) → get_elem? (l ++ a ∷ []) j ≡ some b → (get_elem? l j ≡ some b) ⊎ ((j ≡ length l) × (a ≡ b))
+pub at_end : {A : Type 0} (l : List A) (a b : A) (j : ℕ) → get_elem? (l ++ a ∷ []) j ≡ some b → (get_elem? l j ≡ some b) ⊎ ((j ≡ length l) × (a ≡ b))
 at_end [] a b zero e = inr (refl, some-injective a b e)
 at_end [] a b (suc j) e = absurd (some-ne-none b (sym e))
 at_end (x ∷ xs) a b zero e = inl e
@@ -83,7 +89,7 @@ deals z id n few s h mine =
     let own : ℕ → ℕ × ℕ = changed h.owner n (l, 0) in
     let P : ℕ → ℕ → Knows → Type 0 = λ j i o. Fits h.trace o × (own o.number ≡ (j, i)) × (o.number < n + 1) in
     let fresh = h.undealt n (let e = k.1 in omega arith) few in
-    let new : P l 0 (new_seat n) = (record { actor = fresh.actor; path = fresh.path; rest = h.trace.history; begins = refl; own = fresh.own }, changed_here h.owner n (l, 0), omega arith) in
+    let new : P l 0 (new_seat n) = (record { actor = fresh.actor; path = fresh.path; rest = h.trace.history; begins = refl; own = fresh.own; known = refl }, changed_here h.owner n (l, 0), omega arith) in
     let old : (j i : ℕ) (u : View) (o : Knows) → get_elem? s.views j ≡ some u → get_elem? (members u) i ≡ some o → P j i o = λ j i u o a b.
     let t = h.owned j i u o a b in let lt : o.number < n = let x = t.1 in let e = k.1 in omega arith in (h.fits j i u o a b, changed_else h.owner n (l, 0) o.number (λ e. omega arith) ∙ t.0, omega arith) in
     let all : (j i : ℕ) (u : View) (o : Knows) → get_elem? (set s.views id (keeper (n + 1)) ++ seated (new_seat n) ∷ []) j ≡ some u → get_elem? (members u) i ≡ some o → P j i o = λ j i u o a b.
@@ -148,3 +154,35 @@ pub laid : (z about : Layout) (t : TableId) → IsPlanned z → about ≡ z → 
 laid z about t sized key words slots =
     let e : length (replicate {A = ℕ} (2 * z.setup.size) 0) ≡ 2 * z.setup.size = length-replicate {A = ℕ} (2 * z.setup.size) 0 in
     record { sized = sized; key = key; words = words ∙ (let h : length (first_words z.setup.size) ≡ 6 + 2 * z.setup.size = omega arith in h); slots = slots }
+
+-- a new seat fits to the world in which nothing happened yet
+newly : (z : Layout) (n : ℕ) → IsPlanned z → 1 ≤ n → n ≤ length z.roles → Fitted z (new_seat n)
+newly z n sized least few =
+    record {
+      trace = first_trace z.setup (length z.roles);
+      reached = record { actors = length z.roles; moves = []; sized = sized; led = refl };
+      setup = refl;
+      permitted = All-nil (IsPermitted z.roles);
+      fits = record { actor = idle_actor z.setup (length z.roles) n least few; path = refl; rest = []; begins = refl; own = refl; known = refl };
+    }
+
+-- a seat with the token of a number that was dealt
+pub dealt : (z : Layout) (t : TableId) (n : ℕ) (role : Role) (k : Token ℕ Knowing) → IsPlanned z → 1 ≤ n → n ≤ length z.roles → slice_get z.roles (n - 1) ≡ Some role → k.table_id ≡ t → k.me ≡ (seated (new_seat n), [])
+    → IsDealt z t n record { token = k; number = n; role = role; pocket = None; failed = 0; pushes = 0; pops = 0 }
+dealt z t n role k sized least few permits table me =
+    let is : knows k.me.0 ≡ new_seat n = ap (λ (y : Me ℕ View). knows y.0) me in
+    record {
+      seat = record {
+        table = table;
+        seat = me ∙ ap (λ v. (seated v, [])) (sym is);
+        number = sym (ap (λ v. v.number) is);
+        role = permits;
+        pushes = ap (λ (v : Knows). count_by is_push v.mine) (sym is);
+        pops = ap (λ (v : Knows). count_by is_pop v.mine) (sym is);
+        fitted = subst (Fitted z) (sym is) (newly z n sized least few);
+      };
+      view = is;
+      number = refl;
+      pocket = refl;
+      failed = refl;
+    }

@@ -1,5 +1,5 @@
 -- What a step adds to the history is its own actor's, and permitted where its line is.
-use Rattle.std.proofs.Common.{◌≡◌, ◌≢◌, ℕ, ◌-◌, Bool, true, false, if◌then◌else◌, cond, zero, suc, Some, IsSomeAnd, List, [], ◌∷◌, slice_get, sym, refl, ap, subst, eq-eqb, ne_eqb, arith}
+use Rattle.std.proofs.Common.{◌≡◌, ◌≢◌, ℕ, ◌-◌, ◌≤◌, Bool, true, false, if◌then◌else◌, cond, zero, suc, Some, IsSomeAnd, List, [], ◌∷◌, slice_get, sym, refl, ap, subst, eq-eqb, ne_eqb, arith}
 use Rattle.std.specs.List.{All}
 use Rattle.counted_ref.specs.Ref.{same_ref}
 use Rattle.line_table.specs.declared.lines.Line.{Line}
@@ -72,24 +72,24 @@ all_one : (P : Entry → Type 0) (e : Entry) → P e → All P (e ∷ [])
 all_one P e p zero d b = p
 all_one P e p (suc k) d b = absurd (omega arith)
 
-permitted_one : (roles : List Role) (r : Role) (e : Entry) → slice_get roles (maker e - 1) ≡ Some r → Permits r e → IsPermitted roles e
-permitted_one roles r e at p = subst (λ o. IsSomeAnd o (λ x. Permits x e)) (sym at) p
+permitted_one : (roles : List Role) (r : Role) (e : Entry) → 1 ≤ maker e → slice_get roles (maker e - 1) ≡ Some r → Permits r e → IsPermitted roles e
+permitted_one roles r e least at p = (least, subst (λ o. IsSomeAnd o (λ x. Permits x e)) (sym at) p)
 
-permitted_of : (s : Setup) (roles : List Role) (me : ℕ) (a : Actor) (l : Line) (r : Role) (c : Found (action s me a l)) → slice_get roles (me - 1) ≡ Some r → PermitsLine r l → All (IsPermitted roles) (entries_of s me a l c)
-permitted_of s roles me a E9 r c at p = go (same_ref c a.next)
+permitted_of : (s : Setup) (roles : List Role) (me : ℕ) (a : Actor) (l : Line) (r : Role) (c : Found (action s me a l)) → 1 ≤ me → slice_get roles (me - 1) ≡ Some r → PermitsLine r l → All (IsPermitted roles) (entries_of s me a l c)
+permitted_of s roles me a E9 r c least at p = go (same_ref c a.next)
   where
     go : (b : Bool) → All (IsPermitted roles) (if b then Push me a.val.body ∷ [] else [])
-    go true = all_one (IsPermitted roles) (Push me a.val.body) (permitted_one roles r (Push me a.val.body) at p)
+    go true = all_one (IsPermitted roles) (Push me a.val.body) (permitted_one roles r (Push me a.val.body) least at p)
     go false = all_none (IsPermitted roles)
-permitted_of s roles me a D13 r c at p = go (same_ref c a.head)
+permitted_of s roles me a D13 r c least at p = go (same_ref c a.head)
   where
     go : (b : Bool) → All (IsPermitted roles) (if b then Pop me a.val ∷ [] else [])
-    go true = all_one (IsPermitted roles) (Pop me a.val) (permitted_one roles r (Pop me a.val) at p)
+    go true = all_one (IsPermitted roles) (Pop me a.val) (permitted_one roles r (Pop me a.val) least at p)
     go false = all_none (IsPermitted roles)
-permitted_of s roles me a A5 r c at p = all_one (IsPermitted roles) (Push me a.val.body) (permitted_one roles r (Push me a.val.body) at p)
-permitted_of s roles me a B5 r c at p = all_one (IsPermitted roles) (Pop me a.val) (permitted_one roles r (Pop me a.val) at p)
-permitted_of s roles me a _ r c at p = all_none (IsPermitted roles)
+permitted_of s roles me a A5 r c least at p = all_one (IsPermitted roles) (Push me a.val.body) (permitted_one roles r (Push me a.val.body) least at p)
+permitted_of s roles me a B5 r c least at p = all_one (IsPermitted roles) (Pop me a.val) (permitted_one roles r (Pop me a.val) least at p)
+permitted_of s roles me a _ r c least at p = all_none (IsPermitted roles)
 
 -- what a step adds is permitted, where the actor's role permits the line
-pub permitted_added : (s : Setup) (roles : List Role) (t : Traced) (me : ℕ) (a : Actor) (l : Line) (r : Role) → slice_get roles (me - 1) ≡ Some r → PermitsLine r l → All (IsPermitted roles) (entries_at s t me a l)
-permitted_added s roles t me a l r at p = permitted_of s roles me a l r (found (action s me a l) t.world.shared) at p
+pub permitted_added : (s : Setup) (roles : List Role) (t : Traced) (me : ℕ) (a : Actor) (l : Line) (r : Role) → 1 ≤ me → slice_get roles (me - 1) ≡ Some r → PermitsLine r l → All (IsPermitted roles) (entries_at s t me a l)
+permitted_added s roles t me a l r least at p = permitted_of s roles me a l r (found (action s me a l) t.world.shared) least at p

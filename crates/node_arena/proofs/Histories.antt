@@ -1,7 +1,7 @@
 -- The history of a traced world is that of its operations which had their effect.
 use Rattle.std.proofs.Common.{◌≡◌, ℕ, ◌+◌, Bool, true, false, nat_eq, nat_lt, if◌then◌else◌, Option, Some, None, IfSome, List, [], ◌∷◌, ◌++◌, append-nil, refl, sym, ap, subst, ◌∙◌}
 use Rattle.std.proofs.lemmas.Option.{none-some, same_Some}
-use Rattle.std.specs.List.{flat_map}
+use Rattle.std.specs.List.{count_by, flat_map}
 use Rattle.line_table.specs.declared.lines.Kind.{Kind}
 use Rattle.line_table.specs.declared.lines.Line.{Line}
 use Rattle.line_table.specs.declared.lines.Line.TheVariants.{N1, N2, N4, N5, F1, F3, E3, E5, E7, E9, E17, D2, D5, D12, D13, A3, A5, B1, B3, B4, B5, B6}
@@ -15,7 +15,7 @@ use Rattle.history.specs.declared.operations.Entry.{Entry}
 use Rattle.history.specs.declared.operations.Entry.TheVariants.{Push, Pop}
 use Rattle.history.specs.declared.operations.Taken.{Taken}
 use Rattle.history.specs.Queue.{empty}
-use Rattle.history.specs.Entries.{Plays}
+use Rattle.history.specs.Entries.{is_pop, Plays}
 use Rattle.history.specs.History.{rising}
 use Rattle.line_steps.specs.declared.actors.Setup.{Setup}
 use Rattle.line_steps.specs.declared.actors.Actor.{Actor}
@@ -33,8 +33,9 @@ use Rattle.step_machine.proofs.Reached.{some_of, reached_next}
 use Rattle.step_machine.proofs.Gains.{gained, booked}
 use Rattle.step_machine.proofs.LegalMoves.{kept_reached, book_begun, book_rested}
 use Rattle.step_machine.proofs.Promises.{entries_booked}
+use Rattle.step_machine.proofs.Pops.{head_counts_pops}
 use Rattle.step_machine.proofs.EachEntry.{each_step_gains, each_give_gains, each_call, plays_to_the_values}
-use Rattle.node_arena.specs.Traces.{Traced, entries_of, traced_at, traced_step, traced_move, traced_next, traced_on, trace, first_trace, IsTraced, PlaysToItsValues}
+use Rattle.node_arena.specs.Traces.{Traced, entries_of, traced_at, traced_step, traced_move, traced_next, traced_on, trace, first_trace, IsTraced, PlaysToItsValues, CountsItsPops}
 use Rattle.node_arena.proofs.Tracing.{world-traced_move, traced_reached}
 
 -- an outcome adds nothing
@@ -265,3 +266,7 @@ history_is t r =
 pub history_plays : (t : Traced) → IsTraced t → PlaysToItsValues t
 history_plays t r queue chain =
     subst (λ es. Plays empty es (record { values = queue_values t.world.shared queue })) (sym (history_is t r)) (plays_to_the_values t.world (traced_reached t r) queue chain)
+
+-- Head's count is the number of its pops
+pub counts_pops : (t : Traced) → IsTraced t → CountsItsPops t
+counts_pops t r = head_counts_pops t.world (traced_reached t r) ∙ ap (count_by is_pop) (sym (history_is t r))

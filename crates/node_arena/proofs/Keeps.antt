@@ -11,24 +11,26 @@ use Rattle.atomic_table.proofs.Lists.{at_set}
 use Rattle.line_table.specs.declared.lines.Line.{Line}
 use Rattle.history.specs.declared.operations.Entry.{Entry}
 use Rattle.line_steps.specs.declared.actors.Actor.{Actor}
-use Rattle.line_steps.specs.Memory.{word}
+use Rattle.line_steps.specs.Memory.{word, found}
 use Rattle.line_steps.specs.Lines.{action}
 use Rattle.step_machine.specs.Words.{words_of, IsWord}
 use Rattle.step_machine.specs.Tables.{PlaceStep, load_at, store_at, and_at, exchange_at, place_of, place_step, table_after}
 use Rattle.step_machine.specs.Machine.{actor_of}
 use Rattle.step_machine.proofs.Words.{reading}
+use Rattle.step_machine.proofs.Reached.{mover_in_range}
 use Rattle.step_machine.proofs.Tables.{place-place_step}
 use Rattle.step_machine.proofs.Naming.{accesses_are_one_step}
 use Rattle.step_machine.proofs.NonBlockingLaws.{each_access_names_a_word}
 use Rattle.node_arena.specs.declared.roles.Role.{Role}
-use Rattle.node_arena.specs.Traces.{Traced, IsTraced, step_at, actor_at, event_at, entries_at, number_at, maker, own_entries}
+use Rattle.node_arena.specs.Traces.{Traced, IsTraced, step_at, actor_at, outcome_at, event_at, entries_at, number_at, maker, own_entries, sees}
 use Rattle.node_arena.specs.Leads.{Lead, led, CanLead}
 use Rattle.node_arena.specs.Seeing.{Knows, View, keeper, seated, members, knows}
 use Rattle.node_arena.specs.Plans.{Layout, IsPermitted, PermitsLine}
-use Rattle.node_arena.specs.Rule.{Fits, IsNew, Holds, Steps, Tells, line_of}
+use Rattle.node_arena.specs.Rule.{Fits, IsNew, Holds, notes_of, Steps, Tells, line_of}
 use Rattle.node_arena.proofs.Tracing.{traced_reached, step_traced, step_here, step_else, step_count, changed_here, changed_else}
 use Rattle.node_arena.proofs.Leading.{Led, leads}
 use Rattle.node_arena.proofs.Entering.{own_added, none_added, permitted_added}
+use Rattle.node_arena.proofs.Seens.{silent, later, begins_by, between, seen_is, whole_by, stays_by, known_by}
 
 -- what a word becomes by a step on its place, where it was n
 abbrev pub becomes : PlaceStep → ℕ → ℕ
@@ -127,7 +129,7 @@ module _ (z : Layout) (s : State ℕ View) (h : Holds z s) (id : ℕ) (v : Knows
   history_is = (λ i. f.history i ++ entries_at (setup i) u v.number a l)
 
   abbrev v' : Knows
-  v' = record { number = v.number; actor = actor_at z.setup u v.number a l; path = v.path ++ event_at z.setup u v.number a l ∷ []; seen = t.history; mine = v.mine ++ es }
+  v' = record { number = v.number; actor = actor_at z.setup u v.number a l; path = v.path ++ event_at z.setup u v.number a l ∷ []; seen = if sees l then t.history else v.seen; mine = v.mine ++ es; notes = v.notes ++ notes_of (outcome_at z.setup u v.number a l).reply (if sees l then t.history else v.seen) }
 
   reached : IsTraced t
   reached = step_traced u v.number a l led_there.1 f.here line
@@ -138,13 +140,23 @@ module _ (z : Layout) (s : State ℕ View) (h : Holds z s) (id : ℕ) (v : Knows
   walked : u.paths v.number ≡ v.path
   walked = ap (λ p. p v.number) f.paths ∙ fit.path
 
+  quiet : sees l ≡ false → es ≡ []
+  quiet = silent z.setup v.number a l (found (action z.setup v.number a l) u.world.shared)
+
+  parts : t.history ≡ (v.seen ++ fit.rest) ++ es
+  parts = history_is ∙ ap (λ hs. hs ++ es) fit.begins
+
+  own : own_entries v.number t.history ≡ v.mine ++ es
+  own = ap (own_entries v.number) history_is ∙ (filter-append (λ e. nat_eq (maker e) v.number) h.trace.history es ∙ (λ i. fit.own i ++ own_added z.setup u v.number a l i))
+
   me : Fits t v'
   me = record {
     actor = here;
     path = changed_here u.paths v.number _ ∙ (λ i. walked i ++ event_at (setup i) u v.number a l ∷ []);
-    rest = [];
-    begins = sym (append-nil t.history);
-    own = ap (own_entries v.number) history_is ∙ (filter-append (λ e. nat_eq (maker e) v.number) h.trace.history es ∙ (λ i. fit.own i ++ own_added z.setup u v.number a l i));
+    rest = later v.seen fit.rest es t.history parts (sees l);
+    begins = begins_by v.seen fit.rest es t.history parts (sees l);
+    own = own;
+    known = known_by v.seen fit.rest es t.history parts v.number v.mine (sees l) quiet own fit.known;
   }
 
   others : (o : Knows) → o.number ≢ v.number → Fits h.trace o → Fits t o
@@ -154,6 +166,7 @@ module _ (z : Layout) (s : State ℕ View) (h : Holds z s) (id : ℕ) (v : Knows
     rest = g.rest ++ es;
     begins = history_is ∙ (ap (λ hs. hs ++ es) g.begins ∙ append_assoc o.seen g.rest es);
     own = ap (own_entries o.number) history_is ∙ (filter-append (λ e. nat_eq (maker e) o.number) h.trace.history es ∙ (ap (λ ys. own_entries o.number h.trace.history ++ ys) (none_added z.setup u v.number o.number a l ne) ∙ (append-nil (own_entries o.number h.trace.history) ∙ g.own)));
+    known = g.known;
   }
 
   new : (n : ℕ) → n ≢ v.number → IsNew h.trace n → IsNew t n
@@ -164,7 +177,7 @@ module _ (z : Layout) (s : State ℕ View) (h : Holds z s) (id : ℕ) (v : Knows
   }
 
   permitted : All (IsPermitted z.roles) t.history
-  permitted = subst (All (IsPermitted z.roles)) (sym history_is) (All-append (IsPermitted z.roles) h.trace.history es h.permitted (permitted_added z.setup z.roles u v.number a l role its permits))
+  permitted = subst (All (IsPermitted z.roles)) (sym history_is) (All-append (IsPermitted z.roles) h.trace.history es h.permitted (permitted_added z.setup z.roles u v.number a l role (mover_in_range u.world v.number a f.here).0 its permits))
 
   same_words : words_of u.world.shared ≡ s.words
   same_words = ap words_of f.shared ∙ sym h.words
@@ -212,11 +225,13 @@ module _ (z : Layout) (s : State ℕ View) (h : Holds z s) (id : ℕ) (v : Knows
     number = refl;
     actor = refl;
     path = refl;
-    rest = fit.rest;
-    seen = history_is ∙ ap (λ hs. hs ++ es) fit.begins;
-    all = refl;
+    rest = between v.seen fit.rest es t.history parts (sees l);
+    seen = seen_is v.seen fit.rest es t.history parts (sees l) quiet;
+    whole = whole_by v.seen fit.rest es t.history parts (sees l);
+    stays = stays_by v.seen fit.rest es t.history parts (sees l);
     mine = refl;
-    own = me.own;
+    notes = refl;
+    fits = me;
     permitted = permitted;
   }
 

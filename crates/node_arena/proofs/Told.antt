@@ -1,15 +1,20 @@
 -- What a step tells of the world that it was made in.
-use Rattle.std.proofs.Common.{◌≡◌, ◌≢◌, ℕ, ◌+◌, ◌-◌, ◌<◌, ◌≤◌, true, if◌then◌else◌, nat_eq, Some, IsSomeAnd, length, Contains, inl, inr, refl, sym, ap, subst, ◌∙◌, arith}
+use Rattle.std.proofs.Common.{◌≡◌, ◌≢◌, ℕ, zero, suc, ◌+◌, ◌-◌, ◌<◌, ◌≤◌, true, if◌then◌else◌, nat_eq, Some, IsSomeAnd, List, [], ◌∷◌, slice_index_or, length, Contains, inl, inr, refl, sym, ap, subst, ◌∙◌, arith}
+use Rattle.std.specs.List.{All}
 use Rattle.std.proofs.lemmas.Bool.Decides.{leb_tells}
+use Rattle.std.proofs.lemmas.List.Elements.{All-head, All-tail}
 use Rattle.line_table.specs.declared.lines.Kind.{Kind}
 use Rattle.line_table.specs.declared.lines.Kind.TheVariants.{TwoLock, NonBlocking}
 use Rattle.counted_ref.specs.Ref.{Ref}
 use Rattle.line_table.specs.declared.lines.Line.{Line}
 use Rattle.line_table.specs.declared.lines.Line.TheVariants.{F2}
 use Rattle.history.specs.declared.refusals.Refusal.{Refusal}
+use Rattle.history.specs.declared.refusals.Refusal.TheVariants.{WornOut}
+use Rattle.history.specs.declared.refusals.WornWord.TheVariants.{Free as OfFree, Next as OfNext, Tail as OfTail, Head as OfHead}
 use Rattle.history.specs.declared.operations.Reply.TheVariants.{Refused}
 use Rattle.line_steps.specs.declared.actors.Actor.{Actor}
-use Rattle.line_steps.specs.Memory.{found}
+use Rattle.line_steps.specs.declared.actors.Node.{Node}
+use Rattle.line_steps.specs.Memory.{blank, node_at, found}
 use Rattle.line_steps.specs.declared.actors.Setup.{Setup}
 use Rattle.line_steps.specs.Lines.{action, outcome, raised}
 use Rattle.step_machine.specs.Machine.{World, actor_of, IsReached}
@@ -25,13 +30,14 @@ use Rattle.step_machine.proofs.Counting.{holds as holds_of, held_one}
 use Rattle.step_machine.proofs.StampsKept.{actor_stands}
 use Rattle.step_machine.proofs.TwoLockLaws as two_lock
 use Rattle.step_machine.proofs.TwoLockLaws.{contained}
+use Rattle.step_machine.proofs.TwoLockCounts.{count_nothing}
 use Rattle.step_machine.proofs.NonBlockingLaws as non_blocking
 use Rattle.node_arena.specs.Traces.{outcome_at}
 use Rattle.node_arena.specs.Leads.{Lead, led}
 use Rattle.node_arena.specs.Seeing.{Knows}
 use Rattle.node_arena.specs.Plans.{Layout}
 use Rattle.node_arena.specs.Rule.{Steps}
-use Rattle.node_arena.specs.Walks.{IsSole}
+use Rattle.node_arena.specs.Walks.{HasOwnCause, IsSole}
 use Rattle.node_arena.proofs.Tracing.{traced_reached}
 
 module _ (z : Layout) (lead : Lead) (l : Line) (n : ℕ) (v v' : Knows) (h : Steps z lead l n v v') where
@@ -54,6 +60,33 @@ has_cause z lead l n v v' h why e = go h.was.world.setup.kind refl (ap (λ s. (o
     go : (k : Kind) → h.was.world.setup.kind ≡ k → (outcome h.was.world.setup (h.was.world.steps + 1) v.number (led z.setup v.number lead v.actor) l (found (action h.was.world.setup v.number (led z.setup v.number lead v.actor) l) h.was.world.shared)).reply ≡ Some (Refused why) → HasCause h.was.world why
     go TwoLock k reply = subst (HasCauseFor h.was.world) reply (two_lock.refuse_with_cause h.was.world (traced_reached h.was h.reached) k v.number (led z.setup v.number lead v.actor) l h.before h.line)
     go NonBlocking k reply = subst (HasCauseFor h.was.world) reply (non_blocking.refuse_with_cause h.was.world (traced_reached h.was h.reached) k v.number (led z.setup v.number lead v.actor) l h.before h.line)
+
+-- no `next` of the queue with locks has a count
+none_counted : (nodes : List Node) (i : ℕ) → All (λ n. n.next.count ≡ 0) nodes → (slice_index_or nodes i blank).next.count ≡ 0
+none_counted [] i h = refl
+none_counted (n ∷ ns) zero h = All-head (λ (x : Node). x.next.count ≡ 0) n ns h
+none_counted (n ∷ ns) (suc i) h = none_counted ns i (All-tail (λ (x : Node). x.next.count ≡ 0) n ns h)
+
+-- and where a `next` is worn out, it is that of the actor's own node
+pub has_own_cause : (z : Layout) (lead : Lead) (l : Line) (n : ℕ) (v v' : Knows) (h : Steps z lead l n v v') (why : Refusal) → (outcome_at z.setup h.was v.number (led z.setup v.number lead v.actor) l).reply ≡ Some (Refused why) → HasOwnCause h.was.world v.number why
+has_own_cause z lead l n v v' h why e = by_cause why e (has_cause z lead l n v v' h why e)
+  where
+    a : Actor
+    a = led z.setup v.number lead v.actor
+
+    w : World
+    w = h.was.world
+
+    worn : (k : Kind) → w.setup.kind ≡ k → (outcome w.setup (w.steps + 1) v.number a l (found (action w.setup v.number a l) w.shared)).reply ≡ Some (Refused (WornOut OfNext)) → HasCause w (WornOut OfNext) → (node_at w.shared a.node).next.count ≡ w.setup.limit
+    worn TwoLock k f c = absurd (let x = none_counted w.shared.nodes (c.0 - 1) (count_nothing w (traced_reached h.was h.reached) k).1 in let y = (reached_in_range w (traced_reached h.was h.reached)).sized.counts in let q = c.1 in omega arith)
+    worn NonBlocking k f c = non_blocking.own_next_is_worn w (traced_reached h.was h.reached) k v.number a l h.before h.line f
+
+    by_cause : (why : Refusal) → (outcome_at z.setup h.was v.number a l).reply ≡ Some (Refused why) → HasCause w why → HasOwnCause w v.number why
+    by_cause (WornOut OfNext) f c = subst (λ o. IsSomeAnd o (λ b. (node_at w.shared b.node).next.count ≡ w.setup.limit)) (sym h.before) (worn w.setup.kind refl (ap (λ s. (outcome s (w.steps + 1) v.number a l (found (action s v.number a l) w.shared)).reply) h.setup ∙ f) c)
+    by_cause (WornOut OfFree) f c = c
+    by_cause (WornOut OfTail) f c = c
+    by_cause (WornOut OfHead) f c = c
+    by_cause _ f c = c
 
 -- a reached world has its places, in either queue
 pub places_of : (w : World) → IsReached w → HasItsPlaces w

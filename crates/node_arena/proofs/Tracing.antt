@@ -71,7 +71,7 @@ traced_moves t m w r e =
 step_move : (w : World) (me : ℕ) (a : Actor) (l : Line) → actor_of w me ≡ Some a → a.line ≡ Some l → next w (Step me) ≡ Some (stepped w me a l)
 step_move w me a l at here = ap (moved w (Step me)) at ∙ ap (steps w me a) here
 
-traced_step_is : (t : Traced) (me : ℕ) (a : Actor) (l : Line) → actor_of t.world me ≡ Some a → a.line ≡ Some l → traced_move t (made (Step me)) (stepped t.world me a l) ≡ step_at t me a l
+pub traced_step_is : (t : Traced) (me : ℕ) (a : Actor) (l : Line) → actor_of t.world me ≡ Some a → a.line ≡ Some l → traced_move t (made (Step me)) (stepped t.world me a l) ≡ step_at t me a l
 traced_step_is t me a l at here = ap (λ o. traced_step t me o (stepped t.world me a l)) at ∙ ap (λ o. traced_at t me a o (stepped t.world me a l)) here
 
 -- an actor's step leads from a trace that moves lead to on to one

@@ -1,5 +1,5 @@
 -- What an arena is made for: its setup, and the role of each seat.
-use Rattle.std.specs.Prelude.{◌-◌, Bool, true, false, IsTrue, List, length, IsSomeAnd, slice_get}
+use Rattle.std.specs.Prelude.{◌-◌, ◌≤◌, Bool, true, false, IsTrue, List, length, IsSomeAnd, slice_get}
 use Rattle.line_table.specs.declared.lines.Line.{Line}
 use Rattle.line_table.specs.declared.lines.Line.TheVariants.{E9, D13, A5, B5}
 use Rattle.history.specs.declared.operations.Entry.{Entry}
@@ -42,7 +42,7 @@ PermitsLine r l = Unit {0}
 
 -- an entry is permitted by the role of its seat
 abbrev pub IsPermitted : List Role → Entry → Type 0
-IsPermitted roles e = IsSomeAnd (slice_get roles (maker e - 1)) (λ r. Permits r e)
+IsPermitted roles e = (1 ≤ maker e) × IsSomeAnd (slice_get roles (maker e - 1)) (λ r. Permits r e)
 
 -- a plan's sizes are in their ranges
 abbrev pub IsPlanned : Layout → Type 0

@@ -1,5 +1,5 @@
 -- The rule of the table: words and seats are those of a traced world that moves lead to.
-use Rattle.std.specs.Prelude.{◌≡◌, ℕ, ◌<◌, ◌≤◌, List, [], ◌∷◌, ◌++◌, length, Option, Some, None}
+use Rattle.std.specs.Prelude.{◌≡◌, ℕ, ◌<◌, ◌≤◌, true, false, List, [], ◌∷◌, ◌++◌, length, Option, Some, None}
 use Rattle.std.specs.List.{All}
 use mathlib.Core.Option.{some}
 use lib.ListN.{get_elem?}
@@ -7,21 +7,32 @@ use Rattle.atomic_table.specs.Table.{State, Me}
 use Rattle.line_table.specs.declared.lines.Line.{Line}
 use Rattle.line_table.specs.declared.lines.Line.TheVariants.{N1}
 use Rattle.history.specs.declared.operations.Entry.{Entry}
+use Rattle.history.specs.declared.operations.Reply.{Reply}
+use Rattle.history.specs.declared.operations.Reply.TheVariants.{Empty}
 use Rattle.step_machine.specs.Words.{words_of}
 use Rattle.step_machine.specs.Machine.{idle, actor_of}
-use Rattle.node_arena.specs.Traces.{Traced, IsTraced, step_at, actor_at, event_at, entries_at, number_at, own_entries}
+use Rattle.node_arena.specs.declared.roles.Role.{Role}
+use Rattle.node_arena.specs.Traces.{Traced, IsTraced, step_at, actor_at, outcome_at, event_at, entries_at, number_at, own_entries, sees, IsLegal}
 use Rattle.node_arena.specs.Leads.{Lead, led}
-use Rattle.node_arena.specs.Seeing.{Knows, View, keeper, seated, members, knows}
+use Rattle.node_arena.specs.Seeing.{Knows, View, keeper, seated, paired, members, knows}
 use Rattle.node_arena.specs.Plans.{Layout, IsPlanned, IsPermitted}
 
--- a seat's actor and path are the traced world's, what it has seen is a beginning of the history, and it has just its
--- own entries of it
+-- a seat's actor and path are the traced world's, what it has seen is a beginning of the history, and its own entries
+-- are just those of it, and just those that it has seen
 pub record Fits (t : Traced) (v : Knows) : Type 0 where
   pub actor : actor_of t.world v.number ≡ Some v.actor
   pub path : t.paths v.number ≡ v.path
   pub rest : List Entry
   pub begins : t.history ≡ v.seen ++ rest
   pub own : own_entries v.number t.history ≡ v.mine
+  pub known : own_entries v.number v.seen ≡ v.mine
+
+-- what a seat knows is sound: what it has seen is legal and permitted by the roles, and its own entries are just those that
+-- it has seen
+pub record IsSound (roles : List Role) (v : Knows) : Type 0 where
+  pub legal : IsLegal v.seen
+  pub permitted : All (IsPermitted roles) v.seen
+  pub own : own_entries v.number v.seen ≡ v.mine
 
 -- nothing was done by a number
 pub record IsNew (t : Traced) (n : ℕ) : Type 0 where
@@ -51,6 +62,11 @@ pub record Holds (z : Layout) (s : State ℕ View) : Type 0 where
 abbrev pub first_view : Layout → View
 first_view z = keeper 1
 
+-- what a reply notes of what its seat has seen: an empty one notes how many entries that is
+abbrev pub notes_of : Option Reply → List Entry → List ℕ
+notes_of (Some Empty) es = length es ∷ []
+notes_of reply es = []
+
 -- what one step at a line tells of the seat before and after: it was made in a traced world that moves lead to, in
 -- which the seat's actor stood as led there, and it found this number
 pub record Steps (z : Layout) (lead : Lead) (l : Line) (n : ℕ) (v v' : Knows) : Type 0 where
@@ -70,10 +86,12 @@ pub record Steps (z : Layout) (lead : Lead) (l : Line) (n : ℕ) (v v' : Knows) 
   pub path : v'.path ≡ v.path ++ event_at z.setup was v.number (led z.setup v.number lead v.actor) l ∷ []
   pub rest : List Entry
   pub seen : v'.seen ≡ (v.seen ++ rest) ++ entries_at z.setup was v.number (led z.setup v.number lead v.actor) l
-  pub all : v'.seen ≡ (step_at was v.number (led z.setup v.number lead v.actor) l).history
+  pub whole : sees l ≡ true → v'.seen ≡ (step_at was v.number (led z.setup v.number lead v.actor) l).history
+  pub stays : sees l ≡ false → v'.seen ≡ v.seen
   pub mine : v'.mine ≡ v.mine ++ entries_at z.setup was v.number (led z.setup v.number lead v.actor) l
-  pub own : own_entries v'.number v'.seen ≡ v'.mine
-  pub permitted : All (IsPermitted z.roles) v'.seen
+  pub notes : v'.notes ≡ v.notes ++ notes_of (outcome_at z.setup was v.number (led z.setup v.number lead v.actor) l).reply v'.seen
+  pub fits : Fits (step_at was v.number (led z.setup v.number lead v.actor) l) v'
+  pub permitted : All (IsPermitted z.roles) (step_at was v.number (led z.setup v.number lead v.actor) l).history
 
 -- the line of an actor in a call
 abbrev pub line_of : Option Line → Line
@@ -89,3 +107,22 @@ Tells z lead me n me' =
 -- the same of a step that isn't told what it found
 abbrev pub TellsNothing : Layout → Lead → Me ℕ View → Me ℕ View → Type 0
 TellsNothing z lead me me' = (n : ℕ) × Tells z lead me n me'
+
+-- there was a traced world, which moves lead to, to which a seat fits, with a history of entries that the roles permit
+pub record Fitted (z : Layout) (v : Knows) : Type 0 where
+  pub trace : Traced
+  pub reached : IsTraced trace
+  pub setup : trace.world.setup ≡ z.setup
+  pub permitted : All (IsPermitted z.roles) trace.history
+  pub fits : Fits trace v
+
+-- two seats that are one have seen one history, which begins with what each had seen; nothing else changed
+pub record Met (z : Layout) (v w : Knows) (m : Me ℕ View) : Type 0 where
+  pub all : List Entry
+  pub first_rest : List Entry
+  pub second_rest : List Entry
+  pub seats : m ≡ (paired (record v { seen = all }) (record w { seen = all }), [])
+  pub first : all ≡ v.seen ++ first_rest
+  pub second : all ≡ w.seen ++ second_rest
+  pub first_fits : Fitted z (record v { seen = all })
+  pub second_fits : Fitted z (record w { seen = all })

@@ -1,13 +1,14 @@
 -- What clauses say of an arena and its seats.
-use Rattle.std.specs.Prelude.{◌≡◌, ℕ, ◌+◌, ◌-◌, ◌*◌, ◌^◌, ◌<◌, List, [], Option, Some, None, slice_get}
+use Rattle.std.specs.Prelude.{◌≡◌, ℕ, ◌+◌, ◌-◌, ◌*◌, ◌^◌, ◌<◌, List, [], ◌++◌, Option, Some, None, slice_get}
 use Rattle.std.specs.List.{count_by}
 use Rattle.line_table.specs.declared.lines.Line.{Line}
 use Rattle.line_table.specs.declared.lines.Line.TheVariants.{E9, D13, A5, B5}
+use Rattle.history.specs.declared.operations.Entry.{Entry}
 use Rattle.history.specs.Entries.{is_push, is_pop}
 use Rattle.line_steps.specs.declared.actors.Setup.{Setup}
 use Rattle.line_steps.specs.declared.actors.Held.{Held}
 use Rattle.line_steps.specs.Lines.{action}
-use Rattle.step_machine.specs.Tables.{PlaceStep, place_of, place_step}
+use Rattle.step_machine.specs.Tables.{PlaceStep, place_step}
 use Rattle.atomic_table.specs.Seated.{TableId}
 use Rattle.node_arena.specs.declared.roles.Role.{Role}
 use Rattle.node_arena.specs.declared.arena.Arena.{Arena}
@@ -15,7 +16,7 @@ use Rattle.node_arena.specs.declared.seats.Seat.{Seat}
 use Rattle.node_arena.specs.Leads.{Lead, led, at_rest, CanLead}
 use Rattle.node_arena.specs.Seeing.{Knows, seated, knows}
 use Rattle.node_arena.specs.Plans.{Layout, IsPlanned, PermitsLine}
-use Rattle.node_arena.specs.Rule.{Steps}
+use Rattle.node_arena.specs.Rule.{IsSound, Steps, Fitted}
 
 -- the plan of an arena
 abbrev pub plan_of : Arena → Layout
@@ -68,7 +69,8 @@ pub record IsTable (z about : Layout) (t : TableId) : Type 0 where
 abbrev pub IsArena : Arena → Type 0
 IsArena r = IsTable r.plan r.table.shared.key r.table.shared.table_id
 
--- a seat of a table: it is an actor by its number, has its role, and counts its own pushes and pops
+-- a seat of a table: it is an actor by its number, has its role, counts its own pushes and pops, and fits to some traced
+-- world
 pub record Sits (z : Layout) (t : TableId) (s : Seat) : Type 0 where
   pub table : s.token.table_id ≡ t
   pub seat : s.token.me ≡ (seated (view s), [])
@@ -76,11 +78,16 @@ pub record Sits (z : Layout) (t : TableId) (s : Seat) : Type 0 where
   pub role : slice_get z.roles (s.number - 1) ≡ Some s.role
   pub pushes : s.pushes ≡ count_by is_push (view s).mine
   pub pops : s.pops ≡ count_by is_pop (view s).mine
+  pub fitted : Fitted z (view s)
 
 -- a seat of an arena
 pub record IsSeat (r : Arena) (s : Seat) : Type 0 where
   pub arena : IsArena r
   pub sits : Sits r.plan r.table.shared.table_id s
+
+-- what each seat of any arena knows is sound
+abbrev pub EachSeatIsSound : Type 0
+EachSeatIsSound = (r : Arena) (s : Seat) → IsSeat r s → IsSound r.plan.roles (view s)
 
 -- the seat keeps its number, its role, its pocket and its count of failed turns
 pub record KeepsStored (s t : Seat) : Type 0 where
@@ -118,15 +125,14 @@ HasRoom s D13 = s.pops + 1 < 2 ^ 64
 HasRoom s B5 = s.pops + 1 < 2 ^ 64
 HasRoom s l = Unit {0}
 
--- the seat's next move by the rule is this step on a word, at this line, with these moves before it
+-- the seat's next move by the rule is this step on a word, at this line, with these moves before it, and the seat's role
+-- permits it
 pub record MayStep (r : Arena) (s : Seat) (lead : Lead) (l : Line) (x : PlaceStep) : Type 0 where
   pub seat : IsSeat r s
   pub leads : CanLead lead (view s).actor
   pub line : (led r.plan.setup (view s).number lead (view s).actor).line ≡ Some l
   pub access : place_step (action r.plan.setup (view s).number (led r.plan.setup (view s).number lead (view s).actor) l) ≡ x
-  pub there : place_of x < word_count r
   pub permits : PermitsLine s.role l
-  pub room : HasRoom s l
 
 -- the seat made that step, and found this number
 pub record DidStep (r : Arena) (s t : Seat) (lead : Lead) (l : Line) (n : ℕ) : Type 0 where
@@ -143,3 +149,18 @@ pub record IsReady (r : Arena) (s : Seat) : Type 0 where
   pub seat : IsSeat r s
   pub free : (at_rest (view s).actor).line ≡ None
   pub pocket : s.pocket ≡ (at_rest (view s).actor).pocket
+
+-- a seat stores and knows the same as before, but that it has now seen this, which begins with what it had seen
+pub record Sees (s t : Seat) (all : List Entry) : Type 0 where
+  pub stored : KeepsStored s t
+  pub knows : view t ≡ record (view s) { seen = all }
+  pub more : List Entry
+  pub begins : all ≡ (view s).seen ++ more
+
+-- two seats have met: both have seen one history, which begins with what each had seen
+pub record Meets (r : Arena) (s t s' t' : Seat) : Type 0 where
+  pub one : IsReady r s'
+  pub other : IsReady r t'
+  pub all : List Entry
+  pub first : Sees s s' all
+  pub second : Sees t t' all

@@ -1,18 +1,19 @@
 -- What a seat knows.
-use Rattle.std.specs.Prelude.{ℕ, ◌+◌, List, [], ◌∷◌}
+use Rattle.std.specs.Prelude.{ℕ, ◌+◌, List, [], ◌∷◌, ◌++◌}
 use Rattle.history.specs.declared.operations.Entry.{Entry}
 use Rattle.line_steps.specs.declared.actors.Actor.{Actor}
 use Rattle.step_machine.specs.Machine.{idle}
 use Rattle.node_arena.specs.Traces.{Event}
 
--- what a seat knows: its number, its actor with line and registers, its path, a beginning of the history, and its own
--- entries
+-- what a seat knows: its number, its actor with line and registers, its path, a beginning of the history, its own entries,
+-- and its notes: after so many entries it found the queue empty
 pub record Knows : Type 0 where
   pub number : ℕ
   pub actor : Actor
   pub path : List Event
   pub seen : List Entry
   pub mine : List Entry
+  pub notes : List ℕ
 
 -- the views of the table: the first one deals numbers; one that gathers has what closed seats knew; two seats are one
 -- while they meet; a spent one knows nothing
@@ -33,7 +34,7 @@ members spent = []
 
 -- what a seat knows that was just dealt
 abbrev pub new_seat : ℕ → Knows
-new_seat n = record { number = n; actor = idle; path = []; seen = []; mine = [] }
+new_seat n = record { number = n; actor = idle; path = []; seen = []; mine = []; notes = [] }
 
 -- what the first seat of a view knows
 abbrev pub knows : View → Knows
@@ -66,3 +67,23 @@ dealt_right (gathered vs) = spent
 dealt_right (seated v) = spent
 dealt_right (paired v w) = spent
 dealt_right spent = spent
+
+-- two seats become one; one that gathers takes in a seat that is closed
+abbrev pub both_of : View → View → View
+both_of (seated v) (seated w) = paired v w
+both_of (gathered vs) (seated w) = gathered (vs ++ w ∷ [])
+both_of v w = v
+
+-- the first of two seats that were one
+abbrev pub first_of : View → View
+first_of (paired v w) = seated v
+first_of v = v
+
+-- the second of them
+abbrev pub second_of : View → View
+second_of (paired v w) = seated w
+second_of v = spent
+
+-- a view that stays as it is
+abbrev pub itself : View → View
+itself v = v

@@ -1,12 +1,12 @@
 -- Traced worlds: a world, the path of each actor, and the entries of all calls that had their effect.
-use Rattle.std.specs.Prelude.{◌≡◌, ℕ, ◌+◌, if◌then◌else◌, nat_eq, List, [], ◌∷◌, ◌++◌, length, Option, Some, None}
-use Rattle.std.specs.List.{filter}
+use Rattle.std.specs.Prelude.{◌≡◌, ◌⊎◌, ℕ, ◌+◌, ◌<◌, ◌≤◌, Bool, true, false, if◌then◌else◌, nat_eq, List, [], ◌∷◌, ◌++◌, length, take, Option, Some, None}
+use Rattle.std.specs.List.{count_by, filter}
 use Rattle.line_table.specs.declared.lines.Line.{Line}
-use Rattle.line_table.specs.declared.lines.Line.TheVariants.{E9, D13, A5, B5}
+use Rattle.line_table.specs.declared.lines.Line.TheVariants.{E9, D4, D13, A5, B3, B5}
 use Rattle.history.specs.declared.operations.Entry.{Entry}
 use Rattle.history.specs.declared.operations.Entry.TheVariants.{Push, Pop}
-use Rattle.history.specs.Queue.{empty}
-use Rattle.history.specs.Entries.{Plays}
+use Rattle.history.specs.Queue.{Queue, empty}
+use Rattle.history.specs.Entries.{is_pop, Plays}
 use Rattle.counted_ref.specs.Ref.{same_ref}
 use Rattle.line_steps.specs.declared.actors.Setup.{Setup}
 use Rattle.line_steps.specs.declared.actors.Actor.{Actor}
@@ -44,6 +44,17 @@ entries_of s me a D13 was = if same_ref was a.head then Pop me a.val ∷ [] else
 entries_of s me a A5 was = Push me a.val.body ∷ []
 entries_of s me a B5 was = Pop me a.val ∷ []
 entries_of s me a l was = []
+
+-- whether a seat sees the whole history at its step at a line: where the step may have its effect, and where it reads
+-- what follows Head's node
+abbrev pub sees : Line → Bool
+sees E9 = true
+sees D4 = true
+sees D13 = true
+sees A5 = true
+sees B3 = true
+sees B5 = true
+sees l = false
 
 module _ (s : Setup) (t : Traced) (me : ℕ) (a : Actor) (l : Line) where
   -- the number that the access of a line finds
@@ -137,3 +148,23 @@ own_entries me es = filter (λ e. nat_eq (maker e) me) es
 abbrev pub PlaysToItsValues : Traced → Type 0
 PlaysToItsValues t =
     (queue : List ℕ) → IsChain t.world.shared.nodes t.world.shared.head.node queue → Plays empty t.history (record { values = queue_values t.world.shared queue })
+
+-- Head's count is the number of pops in the history
+abbrev pub CountsItsPops : Traced → Type 0
+CountsItsPops t = t.world.shared.head.count ≡ count_by is_pop t.history
+
+-- an actor that looked behind Head when there were so many entries finds: Head's count is above that of its register, or
+-- these entries leave the empty queue
+pub record LeftNothing (t : Traced) (a : Actor) (entries : ℕ) : Type 0 where
+  pub some : entries ≤ length t.history
+  pub since : (a.head.count < t.world.shared.head.count) ⊎ Plays empty (take entries t.history) empty
+
+-- an actor whose last line was D4, which found null, left nothing behind Head at that moment, or Head was moved since
+abbrev pub KeepsWhatD4Found : Traced → Type 0
+KeepsWhatD4Found t =
+    (me : ℕ) (a : Actor) (before : List Event) (last : Event) → actor_of t.world me ≡ Some a → t.paths me ≡ before ++ last ∷ [] →
+    last.line ≡ D4 → a.next.node ≡ 0 → LeftNothing t a last.entries
+
+-- entries are those of a first-in-first-out list
+abbrev pub IsLegal : List Entry → Type 0
+IsLegal es = (after : Queue) × Plays empty es after

@@ -2,6 +2,9 @@
 use Rattle.std.specs.Prelude.{◌≡◌, ℕ, List, [], ◌∷◌, ◌++◌, length, drop, Some, IsSomeAnd}
 use Rattle.history.specs.declared.operations.Entry.{Entry}
 use Rattle.history.specs.declared.refusals.Refusal.{Refusal}
+use Rattle.history.specs.declared.refusals.Refusal.TheVariants.{WornOut}
+use Rattle.history.specs.declared.refusals.WornWord.TheVariants.{Next as OfNext}
+use Rattle.line_steps.specs.Memory.{node_at}
 use Rattle.step_machine.specs.Machine.{World, actor_of}
 use Rattle.step_machine.specs.Places.{IsQueued, IsFree, held, in_hand}
 use Rattle.step_machine.specs.TwoLock.{HasCause}
@@ -12,12 +15,13 @@ use Rattle.node_arena.specs.Seeing.{Knows}
 use Rattle.node_arena.specs.Seats.{view}
 use Rattle.node_arena.specs.Turns.{failed_at}
 
--- a seat went through these lines: its path has them more, its own entries are as they were, and what it has seen is
--- only longer
+-- a seat went through these lines: its path has them more, its own entries and its notes are as they were, and what it has
+-- seen is only longer
 pub record Walks (v v' : Knows) (added : List Event) : Type 0 where
   pub number : v'.number ≡ v.number
   pub path : v'.path ≡ v.path ++ added
   pub mine : v'.mine ≡ v.mine
+  pub notes : v'.notes ≡ v.notes
   pub rest : List Entry
   pub seen : v'.seen ≡ v.seen ++ rest
 
@@ -25,10 +29,17 @@ pub record Walks (v v' : Knows) (added : List Event) : Type 0 where
 abbrev pub added : Seat → Seat → List Event
 added s t = drop (length (view s).path) (view t).path
 
--- a call had no effect: its seat's path has the lines added, its own entries are as they were, and what it has seen is
--- only longer
+-- a call had no effect: its seat's path has the lines added, its own entries and its notes are as they were, and what it
+-- has seen is only longer
 abbrev pub HadNoEffect : Seat → Seat → Type 0
 HadNoEffect s t = Walks (view s) (view t) (added s t)
+
+-- the last of some lines was a failed turn
+pub record FailedAt (es : List Event) : Type 0 where
+  pub before : List Event
+  pub last : Event
+  pub path : es ≡ before ++ last ∷ []
+  pub failed : failed_at last.line last.to ≡ 1
 
 -- a call's last step was a failed turn
 pub record EndsFailed (s t : Seat) : Type 0 where
@@ -54,6 +65,17 @@ pub record NowHolds (r : Arena) (t : Seat) (P : World → Type 0) : Type 0 where
   pub path : now.paths (view t).number ≡ (view t).path
   pub holds : P now.world
 
+-- the end of some lines: what held before the last of them, of a world with the path so far
+pub record EndedAt (r : Arena) (s : Seat) (es : List Event) (P : World → Type 0) : Type 0 where
+  pub was : Traced
+  pub reached : IsTraced was
+  pub setup : was.world.setup ≡ r.plan.setup
+  pub before : List Event
+  pub last : Event
+  pub path : es ≡ before ++ last ∷ []
+  pub within : was.paths (view s).number ≡ (view s).path ++ before
+  pub held : P was.world
+
 -- at a call's last step this held before it: of a traced world, which moves lead to, with the path of the call so far
 pub record LastHeld (r : Arena) (s t : Seat) (P : World → Type 0) : Type 0 where
   pub was : Traced
@@ -65,6 +87,11 @@ pub record LastHeld (r : Arena) (s t : Seat) (P : World → Type 0) : Type 0 whe
   pub within : was.paths (view s).number ≡ (view s).path ++ before
   pub held : P was.world
 
+-- a world has the cause for an actor's step to refuse; where a `next` is worn out, it is that of the actor's own node
+abbrev pub HasOwnCause : World → (me : ℕ) → Refusal → Type 0
+HasOwnCause w me (WornOut OfNext) = IsSomeAnd (actor_of w me) (λ a. (node_at w.shared a.node).next.count ≡ w.setup.limit)
+HasOwnCause w me why = HasCause w why
+
 -- a call's last step met a refusal's cause
 abbrev pub MetCause : Arena → Seat → Seat → Refusal → Type 0
-MetCause r s t why = LastHeld r s t (λ w. HasCause w why)
+MetCause r s t why = LastHeld r s t (λ w. HasOwnCause w (view s).number why)

@@ -1,7 +1,8 @@
-//! Laws of all traced worlds. Each is the contract of a function that does nothing.
+//! Laws of all traced worlds, and of all seats. Each is the contract of a function that does nothing.
 ghost use Rattle.std.specs.Prelude.{◌≡◌};
 ghost use Rattle.step_machine.specs.Entries.{entries};
-ghost use Rattle.node_arena.specs.Traces.{Traced, IsTraced, PlaysToItsValues};
+ghost use Rattle.node_arena.specs.Traces.{Traced, IsTraced, PlaysToItsValues, CountsItsPops, KeepsWhatD4Found};
+ghost use Rattle.node_arena.specs.Seats.{EachSeatIsSound};
 
 /// The history of a traced world has just the entries of that world's operations that had their effect, by rising place:
 /// the push of each enqueue that is done or has earned it, and the pop of each dequeue that got a value or has earned it.
@@ -13,4 +14,22 @@ pub fn a_history_is_of_the_operations_that_had_their_effect()
 /// at the back, and each pop takes the front one.
 pub fn a_history_plays_to_the_values()
     ensures { (t : Traced) → IsTraced t → PlaysToItsValues t }
+{}
+
+/// In a traced world Head's count is the number of pops in the history.
+pub fn heads_count_is_the_number_of_pops()
+    ensures { (t : Traced) → IsTraced t → CountsItsPops t }
+{}
+
+/// An actor whose last line was D4, where it found null, has in its path how many entries there then were: Head's count is
+/// above the one that it read, or these entries leave the empty queue.
+pub fn what_d4_found_stays_noted()
+    ensures { (t : Traced) → IsTraced t → KeepsWhatD4Found t }
+{}
+
+/// What a seat of an arena knows is sound, before and after each call: what it has seen is the history of a
+/// first-in-first-out list, each entry of it is permitted by its maker's role, and the seat's own entries are just those
+/// that it has seen.
+pub fn what_a_seat_knows_is_sound()
+    ensures { EachSeatIsSound }
 {}

@@ -4,6 +4,7 @@
 mod arena;
 mod dealing;
 pub mod laws;
+mod meeting;
 mod plans;
 mod roles;
 mod seats;

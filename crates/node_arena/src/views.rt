@@ -1,10 +1,11 @@
 //! The table, its rule, and how views change beside steps.
 use crate::plans::Plan;
-use atomic_table::{Play, Seat, Split, Table, TableRule};
+use atomic_table::{Join, Play, Seat, Split, Table, TableRule};
 use std::alloc::Global;
 use std::marker::{Brand, Model};
 
-/// What a seat knows: its actor, its path, a beginning of the history, and its own entries. No value of it is made.
+/// What a seat knows: its actor, its path, a beginning of the history, its own entries, and its notes. No value of it is
+/// made.
 pub struct Knowing {
     unused: u8,
 }
@@ -48,4 +49,37 @@ impl Split<Knowing> for Deal {
     ghost left = { dealt_left };
 
     ghost right = { dealt_right };
+}
+
+/// A spare token, which knows nothing.
+pub(crate) struct Spare;
+
+impl Split<Knowing> for Spare {
+    ghost use Rattle.node_arena.specs.Seeing.{itself, spent};
+
+    ghost left = { itself };
+
+    ghost right = { λ _. spent };
+}
+
+/// Two seats become one.
+pub(crate) struct Gather;
+
+impl Join<Knowing> for Gather {
+    ghost use Rattle.node_arena.specs.Seeing.{both_of, spent};
+
+    ghost both = { both_of };
+
+    ghost spent = { spent };
+}
+
+/// Two seats that were one.
+pub(crate) struct Part;
+
+impl Split<Knowing> for Part {
+    ghost use Rattle.node_arena.specs.Seeing.{first_of, second_of};
+
+    ghost left = { first_of };
+
+    ghost right = { second_of };
 }

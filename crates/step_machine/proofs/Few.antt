@@ -45,11 +45,11 @@ plays_count (Pop seat value ∷ es) q r h = go q.values h (λ vs. plays_count es
         let ih : count is_push es + length vs ≡ count is_pop es + length r.values = each vs g.1 in
         omega (arith, ih)
 
-abbrev has_value : Stamped → Bool
+abbrev pub has_value : Stamped → Bool
 has_value o = is_value o.reply
 
 -- an operation with a value is one pop, and any other is none
-pops_are_values : (os : List Stamped) → count is_pop (flat_map entry_of os) ≡ count has_value os
+pub pops_are_values : (os : List Stamped) → count is_pop (flat_map entry_of os) ≡ count has_value os
 pops_are_values [] = refl
 pops_are_values (o ∷ os) = go o.op o.reply (pops_are_values os)
   where
@@ -68,7 +68,7 @@ swapped false true n m e = ap (λ k. 1 + k) e
 swapped false false n m e = e
 
 -- an operation put by its place is one more
-values_inserted : (o : Stamped) (ps : List Stamped) → count has_value (inserted o ps) ≡ one_more (is_value o.reply) (count has_value ps)
+pub values_inserted : (o : Stamped) (ps : List Stamped) → count has_value (inserted o ps) ≡ one_more (is_value o.reply) (count has_value ps)
 values_inserted o [] = refl
 values_inserted o (p ∷ ps) = go (nat_le (number_of o.at) (number_of p.at)) (values_inserted o ps)
   where

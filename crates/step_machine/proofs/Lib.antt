@@ -15,6 +15,7 @@ pub mod StampsLaws
 pub mod Words
 pub mod Tables
 pub mod Few
+pub mod Pops
 pub mod Fits
 pub mod Keeping
 pub mod Standing

@@ -90,6 +90,22 @@ fn a_second_seat_finds_no_node(rt: HostRuntime) -> Result<(), Fail> {
     Ok(())
 }
 
+/// Seats that meet keep their pockets, and go on.
+#[test]
+fn seats_that_met_go_on(rt: HostRuntime) -> Result<(), Fail> {
+    let (arena, mut one, mut other) = two_seats(rt.alloc(), 3, 3).expect(&rt, "an arena");
+    arena.meet(&mut one, &mut other);
+    assert_eq!(rt; take(&arena, &mut one, 8), Ok(Held { node: 2, mark: 0 }));
+    arena.meet(&mut other, &mut one);
+    assert_eq!(rt;
+        (one.pocket(), other.pocket()),
+        (Some(Held { node: 2, mark: 0 }), None),
+        "the pockets"
+    );
+    assert_eq!(rt; take(&arena, &mut other, 8), Ok(Held { node: 3, mark: 0 }));
+    Ok(())
+}
+
 /// After a thousand rounds of each of two threads, one thread takes nodes 2 and 3 by both seats.
 #[test]
 fn two_threads_leave_each_node_once(rt: HostRuntime) -> Result<(), Fail> {

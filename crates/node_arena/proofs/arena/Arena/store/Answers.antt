@@ -1,4 +1,5 @@
 use Rattle.node_arena.proofs.Calls.{asks_store, stored}
+use Rattle.node_arena.proofs.Rooms.{has_room}
 use Rattle.node_arena.proofs.arena.Arena.store.Goals as goal
 
 pub store-requires : goal.store-requires
@@ -6,3 +7,6 @@ store-requires g c = asks_store c.args.self.now c.args.seat.now g.lead c.args.li
 
 pub returns : goal.returns
 returns g c = rw c.count.ensures (stored c.args.self.now c.args.seat.now _ g.lead c.args.line c.args.word c.args.value c.requires c.store.ensures)
+
+pub count-requires : goal.count-requires
+count-requires g c = has_room c.args.self.now c.args.seat.now c.store.new.seat c.requires.seat c.args.line
