@@ -78,7 +78,11 @@ fn the_greatest_sizes_are_accepted(rt: HostRuntime) -> Result<(), Fail> {
         GREATEST_LIMIT,
         &roles,
     )?;
-    assert_eq!(rt; (arena.setup().size, seats.len()), (16_777_214, 65_535), "the sizes");
+    assert_eq!(rt;
+        (arena.setup().size, seats.len()),
+        (16_777_214, 65_535),
+        "the sizes"
+    );
     Ok(())
 }
 
