@@ -1,7 +1,7 @@
 //! Where texts come from and go to: readers and writers that count their failures.
 ghost use Rattle.std.specs.Prelude.{◌≡◌, ◌≤◌, ℕ, List, Bool, Option, length, IfOk};
-ghost use Rattle.std.specs.Io.KnownBytes.{ReadConsumes, WriteAppends};
-ghost use Rattle.history.specs.Devices.{failures_after, idle_after, Spends};
+ghost use Rattle.std.specs.Io.KnownBytes.{WriteAppends};
+ghost use Rattle.history.specs.Devices.{failures_after, idle_after, Gives, Spends};
 
 use std::io;
 
@@ -22,11 +22,13 @@ pub trait Source {
     /// Gives bytes into the front of `into`, and answers how many: none at the end, and where `into`
     /// has no room.
     ///
-    /// After an error the bytes that are left are those that were left before it. Whether a call
-    /// waits for bytes is up to the source.
+    /// After an error the bytes that are left are those that were left before it; only where no further
+    /// failure can be counted, after 2^64 - 1 of them, a source need not say any more what is left.
+    /// Whether a call waits for bytes is up to the source.
     fn read(&mut self, into: &mut [u8]) -> io::Result<usize>
         ensures bound { IfOk result (λ count. count ≤ length into.new) }
-        ensures bytes { ReadConsumes (remaining self.old) (remaining self.new) result into.new }
+        ensures bytes { Gives (remaining self.old) (remaining self.new) (failures self.new) result
+            into.new }
         ensures budget { Spends (budget self.old) (budget self.new) result }
         ensures failures { failures self.new ≡ failures_after (failures self.old) result }
         ensures end { has_ended self.new ≡ idle_after (has_ended self.old) (length into.new) result };

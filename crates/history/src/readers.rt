@@ -8,8 +8,8 @@ pub const MOST_BYTES: u64 = 1_099_511_627_776;
 
 /// A reader of std as a source. It gives at most a set number of bytes; from then on each call fails.
 ///
-/// It keeps no bytes of its own, and takes no memory. Once 2^64 - 1 calls have failed, it tells its
-/// end and reads no more.
+/// The bytes left are those that the reader has left, where it says them. It keeps no bytes of its own, and takes no
+/// memory. Once 2^64 - 1 calls have failed, it tells its end and reads no more.
 #[derive(Debug, Drop)]
 pub struct ReaderSource<R> {
     inner: R,
@@ -42,9 +42,9 @@ impl<R> ReaderSource<R> {
 }
 
 impl<R: Read> Source for ReaderSource<R> {
-    ghost use Rattle.std.specs.Prelude.{None};
+    ghost use Rattle.history.specs.Devices.{known_below};
 
-    ghost remaining = { λ _. None };
+    ghost remaining = { λ s. known_below s.failures (R.remaining s.inner) };
 
     ghost failures = { λ s. s.failures };
 

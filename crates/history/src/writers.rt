@@ -3,7 +3,8 @@ use crate::devices::Sink;
 use std::io;
 use std::io::Write;
 
-/// A writer of std as a sink, with no buffer of its own. It takes no memory.
+/// A writer of std as a sink, with no buffer of its own: it holds the bytes that the writer holds, where that says them.
+/// It takes no memory.
 ///
 /// Once 2^64 - 1 calls have failed, it takes nothing more.
 #[derive(Debug, Drop)]
@@ -29,9 +30,7 @@ impl<W> WriterSink<W> {
 }
 
 impl<W: Write> Sink for WriterSink<W> {
-    ghost use Rattle.std.specs.Prelude.{None};
-
-    ghost contents = { λ _. None };
+    ghost contents = { λ s. W.contents s.inner };
 
     ghost failures = { λ s. s.failures };
 

@@ -1,7 +1,9 @@
 -- What the words after the program's name ask for.
-use Rattle.std.specs.Prelude.{ℕ, Bool, true, false, nat_eq, List, [], codes, Option, Some, None, string_bytes, unwrap_or}
+use Rattle.std.specs.Prelude.{◌≡◌, ◌⊎◌, ℕ, Bool, true, false, nat_eq, List, [], ◌∷◌, codes, Option, Some, None, string_bytes, unwrap_or}
 use Rattle.std.specs.Cmp.Lexicographic.{pointwise}
-use Rattle.clap.specs.Words.{App, Row, Rule, Text, first_of, new_app, new_rule, subcommand_of, with_rule, with_subcommand}
+use Rattle.clap.specs.Words.{App, IsAmong, Kinds, Row, Rule, Text, fault_of, first_of, new_app, new_rule, subcommand_of, with_rule, with_subcommand}
+use Rattle.clap.specs.declared.error.kind.ErrorKind.{ErrorKind}
+use Rattle.clap.specs.declared.error.kind.ErrorKind.TheVariants.{DisplayHelp, DisplayVersion, OutOfMemory}
 use Rattle.msq.specs.declared.commands.Command.{Command}
 use Rattle.msq.specs.declared.commands.Command.TheVariants.{Run, Check}
 
@@ -52,3 +54,19 @@ asks_check words = check_met (subcommand_of command_line_app words)
 -- the file that the words name, and `-` where they name none
 unfoldable pub asked_file : List Text → List ℕ
 asked_file words = unwrap_or (file_met (subcommand_of command_line_app words)) (codes "-")
+
+-- what clap may find wrong with the words; nothing where there are none, which ask for a run
+unfoldable pub faults_in : List Text → Kinds
+faults_in [] = []
+faults_in (word ∷ words) = fault_of command_line_app (word ∷ words)
+
+-- the exit status for what clap says: 0 with help and the version, 1 where memory was refused, 2 with all else
+abbrev pub status_at : ErrorKind → ℕ
+status_at DisplayHelp = 0
+status_at DisplayVersion = 0
+status_at OutOfMemory = 1
+status_at _ = 2
+
+-- the status is that of something which clap may find wrong, or 1, where memory was refused
+abbrev pub IsStatusAmong : Kinds → ℕ → Type 0
+IsStatusAmong kinds status = (status ≡ 1) ⊎ ((kind : ErrorKind) × IsAmong kind kinds × (status ≡ status_at kind))

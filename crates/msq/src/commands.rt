@@ -1,11 +1,20 @@
 //! The words after the program's name.
-ghost use Rattle.std.specs.Prelude.{◌≡◌, ◌≤◌, [], IfErr, IfOk, map, option_map, string_bytes, true};
-ghost use Rattle.clap.specs.Words.{app_of, kind_of, subcommand_rows_of, takes, with_subcommand};
-ghost use Rattle.msq.specs.Commands.{asked_file, asks_check, check_met, command_line_app, file_app, file_met, file_of, is_check};
+ghost use Rattle.std.specs.Prelude.{◌≡◌, ◌⊎◌, [], IfErr, IfOk, map, option_map, string_bytes, true};
+ghost use Rattle.clap.specs.Words.{HasKind, app_of, kind_of, subcommand_rows_of, takes, with_subcommand};
+ghost use Rattle.msq.specs.Commands.{asked_file, asks_check, check_met, command_line_app, faults_in, file_app, file_met, file_of, is_check, status_at, IsStatusAmong};
 
 use clap::error::ErrorKind;
 use clap::{Arg, ArgMatches};
 use std::alloc::{AllocError, Global};
+
+/// What the program's help says at its end.
+const AFTER_HELP: &str = "With no words at all it runs the schedule on standard input.
+
+Exit statuses:
+  0  done, or help or the version was asked for
+  1  refused, with one line on standard error: docs/FAULTS.md has each refusal
+  2  the words were refused
+  3  check said no";
 
 /// What the program is asked to do.
 #[derive(Debug, Drop)]
@@ -36,11 +45,14 @@ pub fn read_words(alloc: Global, words: &[String]) -> Result<Command, (u8, Strin
     // At `Ok` it takes the file that the words name, and `-` where they name none.
     ensures file { IfOk result (λ command. file_of command ≡ asked_file (map string_bytes words.now)) }
     ensures check { IfOk result (λ command. is_check command ≡ asks_check (map string_bytes words.now)) }
+    // It is `Ok` only where clap finds no fault in the words.
+    ensures taken { IfOk result (λ _. faults_in (map string_bytes words.now) ≡ []) }
     // Words that are a command line, and no words, are refused only where memory is.
     ensures passes { IfErr result (λ e. takes command_line_app (map string_bytes words.now) ≡ true
         → e.0 ≡ 1) }
     ensures none { words.now ≡ [] → IfErr result (λ e. e.0 ≡ 1) }
-    ensures status { IfErr result (λ e. e.0 ≤ 2) }
+    // The status is that of what clap says, or 1 where memory is refused.
+    ensures status { IfErr result (λ e. IsStatusAmong (faults_in (map string_bytes words.now)) e.0) }
     ensures memory { IfErr result (λ e. e.0 ≡ 1 → string_bytes e.1 ≡ []) }
 {
     match asked(alloc, words) {
@@ -72,6 +84,7 @@ fn command_line<'a>(alloc: Global) -> Result<clap::Command<'a>, AllocError>
     let program = clap::Command::new(alloc, "msq")
         .about("Runs concurrent queues one atomic line at a time, and judges histories")
         .version("0.1.0")
+        .after_help(AFTER_HELP)
         .no_binary_name(true)
         .subcommand_required(true);
     let program = with_command(
@@ -81,19 +94,22 @@ fn command_line<'a>(alloc: Global) -> Result<clap::Command<'a>, AllocError>
         "Runs a schedule and writes its history",
         "The schedule; - is standard input",
     )?;
-    with_command(
+    let program = with_command(
         alloc,
         program,
         "check",
         "Judges a history: writes its table, or what is wrong with it",
         "The history; - is standard input",
-    )
+    )?;
+    program.bin_name("msq")
 }
 
 /// The command, or what clap says instead.
 fn asked(alloc: Global, words: &[String]) -> Result<Command, clap::Error>
     ensures file { IfOk result (λ command. file_of command ≡ asked_file (map string_bytes words.now)) }
     ensures check { IfOk result (λ command. is_check command ≡ asks_check (map string_bytes words.now)) }
+    ensures taken { IfOk result (λ _. faults_in (map string_bytes words.now) ≡ []) }
+    ensures kinds { IfErr result (HasKind (faults_in (map string_bytes words.now))) }
     ensures passes { IfErr result (λ e. takes command_line_app (map string_bytes words.now) ≡ true
         → kind_of e ≡ ErrorKind.OutOfMemory) }
     ensures none { words.now ≡ [] → IfErr result (λ e. kind_of e ≡ ErrorKind.OutOfMemory) }
@@ -138,7 +154,7 @@ fn command_of(alloc: Global, checks: bool, file: &str) -> Result<Command, AllocE
 
 /// The status and the text of what clap says.
 fn told(alloc: Global, error: &clap::Error) -> (u8, String)
-    ensures status { result.0 ≤ 2 }
+    ensures status { (result.0 ≡ 1) ⊎ (result.0 ≡ status_at (kind_of error.now)) }
     ensures memory { result.0 ≡ 1 → string_bytes result.1 ≡ [] }
     ensures refused { kind_of error.now ≡ ErrorKind.OutOfMemory → result.0 ≡ 1 }
 {

@@ -38,6 +38,7 @@ pub fn run<R: Source, W: Sink>(alloc: Global, reader: &mut R, writer: &mut W) ->
     // The text of the schedule's history is written, and nothing else.
     ensures ok { OnOk result (WritesRun (R.remaining reader.old) (W.contents writer.old)
         (W.contents writer.new)) }
+    ensures quiet { OnOk result (W.failures writer.new ≡ W.failures writer.old) }
     // Where writing fails, a beginning of that text is written.
     ensures beginning { IfErr result (λ fault. fault.refusal ≡ Refusal.Write
         → BeginsRun (R.remaining reader.old) (W.contents writer.old) (W.contents writer.new)) }

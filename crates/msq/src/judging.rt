@@ -25,6 +25,7 @@ pub fn check_text<R: Source, W: Sink>(
     // The verdict is that on the history read, and the text that tells it is written and nothing else.
     ensures ok { IfOk result (TellsVerdict (R.remaining reader.old) (W.contents writer.old)
         (W.contents writer.new)) }
+    ensures quiet { OnOk result (W.failures writer.new ≡ W.failures writer.old) }
     // A text is refused by its first faulty line.
     ensures text { IfErr result (TellsFirstFault (R.remaining reader.old)) }
     // Where writing fails, a beginning of the text that tells the verdict is written.
@@ -66,6 +67,7 @@ fn tell<W: Sink>(
 ) -> Result<(), Refusal>
     ensures ok { OnOk result (Appends (W.contents writer.old) (W.contents writer.new)
         (verdict_text history.now verdict)) }
+    ensures quiet { OnOk result (W.failures writer.new ≡ W.failures writer.old) }
     ensures only { IfErr result (λ why. (why ≡ Refusal.Memory) ⊎ (why ≡ Refusal.Write)) }
     ensures unwritten { IfErr result (λ why. why ≡ Refusal.Memory → writer.new ≡ writer.old) }
     ensures beginning { IfErr result (λ why. why ≡ Refusal.Write

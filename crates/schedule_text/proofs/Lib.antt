@@ -5,3 +5,4 @@ pub mod Refusing
 pub mod Joining
 pub mod Distinct
 pub mod OneText
+mod ReadOrFaulty

@@ -1,5 +1,5 @@
 //! Laws of the texts of schedules: functions that do nothing, whose contracts are the laws.
-ghost use Rattle.std.specs.Prelude.{◌≡◌, ℕ, List};
+ghost use Rattle.std.specs.Prelude.{◌≡◌, ◌≢◌, ℕ, List};
 ghost use Rattle.text_lines.specs.Grammars.{IsFirstFault};
 ghost use Rattle.text_lines.specs.declared.causes.TextCause.{TextCause};
 ghost use Rattle.schedule_text.specs.Schedules.{Schedule};
@@ -22,4 +22,13 @@ pub fn a_text_has_one_first_fault()
     ensures { (text : List ℕ) (at by : ℕ) (c d : TextCause)
         → IsFirstFault schedule_lines version_due text at c
         → IsFirstFault schedule_lines version_due text by d → (at ≡ by) × (c ≡ d) }
+{}
+
+/// Every text is that of a schedule in range or has a first faulty line: it can't be that it is neither. Takes no
+/// memory.
+pub fn a_text_is_a_schedule_or_faulty()
+    ensures { (text : List ℕ)
+        → ((s : Schedule) → IsInRange s → text ≢ schedule_text s)
+        → ¬ ((at : ℕ) (cause : TextCause)
+        → ¬ IsFirstFault schedule_lines version_due text at cause) }
 {}

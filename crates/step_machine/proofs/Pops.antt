@@ -10,7 +10,8 @@ use Rattle.step_machine.specs.Promises.{is_value, due_of, promised_reply, promis
 use Rattle.step_machine.specs.Entries.{entries}
 use Rattle.step_machine.specs.Histories.{OfEachWorld}
 use Rattle.step_machine.proofs.EachHistory.{reached_placed}
-use Rattle.step_machine.proofs.Few.{one_more, count, count_is, has_value, pops_are_values, values_inserted, counts_values}
+use Rattle.step_machine.proofs.Few.{one_more, count, count_is, has_value, pops_are_values, values_inserted}
+use Rattle.step_machine.proofs.EachLegal.{head_counts_values_taken}
 
 -- an operation that has a value has a place
 abbrev ValueHasPlace : Stamped → Type 0
@@ -41,7 +42,7 @@ values_rise (o ∷ os) h = go (is_some o.at) (is_value o.reply) h.0 (values_inse
 -- Head's count is the number of pops
 pub head_counts_pops : OfEachWorld (λ w. w.shared.head.count ≡ count_by is_pop (entries w))
 head_counts_pops w r =
-    counts_values w r
+    head_counts_values_taken w r
     ∙ sym (count_is has_value (promises w))
     ∙ sym (values_rise (promises w) (values_have_places w w.operations (reached_placed w r).each))
     ∙ sym (pops_are_values (rising (promises w)))

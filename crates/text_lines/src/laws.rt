@@ -1,7 +1,9 @@
-//! Laws of numbers and words, each the contract of a function that does nothing.
+//! Laws of numbers, words and grammars, each the contract of a function that does nothing.
 ghost use Rattle.std.specs.Prelude.{◌≡◌, ◌↔◌, ℕ, List, ◌∷◌, All};
+ghost use Rattle.text_lines.specs.Grammars.{Grammar, IsFirstFault, IsSound, IsText};
 ghost use Rattle.text_lines.specs.Lines.{HasNo, spaced, words_of};
 ghost use Rattle.text_lines.specs.Numerals.{numeral, IsPlain};
+ghost use Rattle.text_lines.specs.declared.causes.TextCause.{TextCause};
 
 /// A word is a number exactly where it is one digit or more, the first of several not being 0, and it is then one
 /// number.
@@ -16,4 +18,38 @@ pub fn words_are_parted_by_single_spaces()
     ensures line { (says : List ℕ) → spaced (words_of says) ≡ says }
     ensures words { (word : List ℕ) (words : List (List ℕ)) → All (HasNo 32) (word ∷ words)
         → words_of (spaced (word ∷ words)) ≡ word ∷ words }
+{}
+
+/// A grammar of lines, for the laws below. They hold of each type that has one, and so of every grammar.
+pub trait LineGrammar {
+    // The states between its lines.
+    ghost State: { Type 0 };
+
+    // What its lines say.
+    ghost Said: { Type 0 };
+
+    // Whether a line is due, what it may say, which of this is in range, its words, and the state after it.
+    ghost grammar: { Grammar State Said };
+}
+
+/// Where the words of a line tell what it says, and have no line feed, a text is the lines of one list at most.
+pub fn a_text_is_of_one_list<G: LineGrammar>()
+    ensures { (s : G.State) (rs qs : List G.Said) (text : List ℕ) → IsSound G.grammar
+        → IsText G.grammar s rs text → IsText G.grammar s qs text → rs ≡ qs }
+{}
+
+/// There the first faulty line of a text is one, and wrong for one cause, and the lines of a list have none.
+pub fn a_text_has_one_first_fault<G: LineGrammar>()
+    ensures one { (s : G.State) (text : List ℕ) (m n : ℕ) (c d : TextCause) → IsSound G.grammar
+        → IsFirstFault G.grammar s text m c → IsFirstFault G.grammar s text n d
+        → (m ≡ n) × (c ≡ d) }
+    ensures none { (s : G.State) (rs : List G.Said) (text : List ℕ) (n : ℕ) (c : TextCause)
+        → IsSound G.grammar → IsText G.grammar s rs text → ¬ IsFirstFault G.grammar s text n c }
+{}
+
+/// In every grammar at all, a text is the lines of a list or has a first faulty line: it can't be that it is neither.
+pub fn a_text_is_read_or_faulty<G: LineGrammar>()
+    ensures { (s : G.State) (text : List ℕ)
+        → ((rs : List G.Said) → ¬ IsText G.grammar s rs text)
+        → ¬ ((n : ℕ) (c : TextCause) → ¬ IsFirstFault G.grammar s text n c) }
 {}

@@ -2,6 +2,7 @@
 mod answers;
 mod benches;
 mod expected;
+mod long_runs;
 mod memory;
 mod moves;
 mod non_blocking;

@@ -59,6 +59,33 @@ fn arenas_have_their_sizes_and_a_seat_for_each_role(rt: HostRuntime) -> Result<(
     Ok(())
 }
 
+// So many roles, all with both calls.
+fn roles_of(alloc: Global, count: usize) -> Result<Vec<Role>, Refusal> {
+    match vec![in alloc; Role::Both; count] {
+        Ok(roles) => Ok(roles),
+        Err(_) => Err(Refusal::Memory),
+    }
+}
+
+/// The greatest sizes of all, at once: 268 MB of words, which are there.
+#[test]
+fn the_greatest_sizes_are_accepted(rt: HostRuntime) -> Result<(), Fail> {
+    let roles = roles_of(rt.alloc(), 65_535)?;
+    let (arena, seats) = Arena::new(
+        rt.alloc(),
+        Kind::NonBlocking,
+        16_777_214,
+        GREATEST_LIMIT,
+        &roles,
+    )?;
+    assert_eq!(rt;
+        (arena.setup().size, seats.len()),
+        (16_777_214, 65_535),
+        "the sizes"
+    );
+    Ok(())
+}
+
 /// Sizes out of their ranges are refused as such, before any memory is asked for.
 #[test]
 fn sizes_out_of_range_are_refused(rt: HostRuntime) -> Result<(), Fail> {

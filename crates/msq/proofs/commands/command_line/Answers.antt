@@ -1,7 +1,8 @@
 use Rattle.std.proofs.Common.{◌≡◌, ap, ◌∙◌, codes, true}
 use Rattle.std.proofs.lemmas.Result.{IfOk-weaker}
 use Rattle.clap.specs.Words.{App, app_of, with_subcommand}
-use Rattle.msq.specs.Commands.{bare_app, file_app}
+use Rattle.clap.specs.Simple.{app_of_fields}
+use Rattle.msq.specs.Commands.{bare_app, command_line_app, file_app}
 use Rattle.msq.proofs.commands.command_line.Goals as goal
 
 -- the program's command, from a new one
@@ -11,7 +12,9 @@ bare_of a = record { top = record a.top { has_version = true; no_binary_name = t
 pub returns : goal.returns
 returns c =
     let bare_is : app_of c.subcommand_required-program.result ≡ bare_app =
-    rw (c.subcommand_required-program.ensures, c.no_binary_name.ensures, c.version.ensures, c.about.ensures) (ap bare_of c.new.ensures.app) in
+    rw (c.subcommand_required-program.ensures, c.no_binary_name.ensures, c.after_help.ensures, c.version.ensures, c.about.ensures) (ap bare_of c.new.ensures.app) in
     let run_is : app_of c.in_ok-program.program ≡ with_subcommand bare_app (file_app (codes "run")).top =
     c.in_ok-program.ensures ∙ ap (λ (a : App). with_subcommand a (file_app (codes "run")).top) bare_is in
-    IfOk-weaker c.with_command-2.result _ _ (λ r h. h ∙ ap (λ (a : App). with_subcommand a (file_app (codes "check")).top) run_is) c.with_command-2.ensures
+    let check_is : app_of c.in_ok-program-2.program ≡ command_line_app =
+    c.in_ok-program-2.ensures ∙ ap (λ (a : App). with_subcommand a (file_app (codes "check")).top) run_is in
+    IfOk-weaker c.bin_name.result _ _ (λ r h. ap app_of_fields h.0 ∙ check_is) c.bin_name.ensures

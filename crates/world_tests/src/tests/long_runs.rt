@@ -1,0 +1,56 @@
+//! One long run in the greatest queue: no call says that memory is refused where it is there.
+use super::expected::{complete, enq, value};
+use super::moves::{begin, steps};
+use history::Op::Deq;
+use history::{Refusal, Reply, Stamped, Verdict, check};
+use line_table::Kind;
+use std::alloc::Global;
+use std::test::Fail;
+use step_machine::World;
+
+/// How many bodies are pushed, and then taken.
+const CALLS: u32 = 100_000;
+
+/// How many step numbers the pushes take, 10 each.
+const PUSHED: u64 = 1_000_000;
+
+/// A world of the greatest sizes in which one actor pushed the numbers below CALLS, and then took each.
+fn pushed_and_popped(alloc: Global) -> Result<World, Refusal> {
+    let mut world = World::new(alloc, Kind::TwoLock, 16_777_214, 1_099_511_627_775, 65_535)?;
+    for number in 0..CALLS {
+        begin(&mut world, 1, enq(number))?;
+        steps(&mut world, 1, 10)?;
+    }
+    for _ in 0..CALLS {
+        begin(&mut world, 1, Deq)?;
+        steps(&mut world, 1, 9)?;
+    }
+    Ok(world)
+}
+
+/// The operation at this place of its history, from 0.
+fn operation(place: u32) -> Stamped {
+    if place < CALLS {
+        let before = u64::from(place) * 10;
+        let stamps = (before + 1, before + 10, before + 8);
+        return complete(1, enq(place), stamps, Reply::Done);
+    }
+    let number = place - CALLS;
+    let before = PUSHED + u64::from(number) * 9;
+    let stamps = (before + 1, before + 9, before + 5);
+    complete(1, Deq, stamps, value(1, number))
+}
+
+#[test]
+fn a_long_run_has_the_memory_that_it_takes(rt: HostRuntime) -> Result<(), Fail> {
+    let world = pushed_and_popped(rt.alloc())?;
+    let history = world.history(rt.alloc())?;
+    assert_eq!(rt; history.len(), 200_000);
+    let mut place = 0;
+    for found in &history {
+        assert_eq!(rt; *found, operation(place), "operation {place}");
+        place += 1;
+    }
+    assert_eq!(rt; check(rt.alloc(), &history)?, Verdict::Yes);
+    Ok(())
+}
