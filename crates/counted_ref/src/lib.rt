@@ -5,6 +5,3 @@ pub mod laws;
 mod reference;
 
 pub use reference::CountedRef;
-
-#[cfg(test)]
-mod tests;

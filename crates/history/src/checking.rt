@@ -11,9 +11,6 @@ use crate::replaying::gets;
 use std::alloc::Global;
 use std::collections::{BTreeMap, VecDeque};
 
-#[cfg(test)]
-mod tests;
-
 /// Judges a history: No by the first operation of the list whose shape, span or place is wrong; else
 /// No by the first completed one, by rising place, whose reply a queue doesn't give; else Yes.
 ///

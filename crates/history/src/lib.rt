@@ -15,8 +15,6 @@ mod refusals;
 mod replaying;
 mod replies;
 mod scripts;
-#[cfg(test)]
-mod tests;
 mod writers;
 
 pub use blocks::{BLOCK, Block};

@@ -79,6 +79,3 @@ fn push_to(operations: &mut Vec<Stamped>, operation: Stamped) -> Result<(), Refu
         Err(_) => Err(Refusal::Memory),
     }
 }
-
-#[cfg(test)]
-mod tests;

@@ -4,7 +4,4 @@
 pub mod laws;
 mod lines;
 mod table;
-#[cfg(test)]
-mod tests;
-
 pub use lines::{Kind, Line, Section};

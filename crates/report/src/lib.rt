@@ -7,8 +7,5 @@ mod history_rows;
 mod history_tables;
 mod kinds;
 mod sorting;
-#[cfg(test)]
-mod tests;
-
 pub use history_tables::history_table;
 pub use kinds::Kind;

@@ -7,9 +7,6 @@ pub mod laws;
 mod parsing;
 mod printing;
 mod schedules;
-#[cfg(test)]
-mod tests;
-
 pub use parsing::parse;
 pub use printing::print;
 pub use schedules::{Event, Schedule};

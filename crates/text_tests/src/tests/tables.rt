@@ -1,6 +1,6 @@
 //! What no clause says: tables as they stand in a file, and a call that succeeds.
-use crate::history_table;
 use history::{Body, Op, Refusal, Reply, Script, Stamped, Taken};
+use report::history_table;
 use std::alloc::Global;
 use std::process::Abort;
 use std::test::Fail;

@@ -1,6 +1,6 @@
-use crate::parse;
-use crate::tests::texts::SHIPPED;
+use crate::tests::schedules::SHIPPED;
 use history::Refusal;
+use schedule_text::parse;
 use std::alloc::{AllocError, Global};
 use std::test::Fail;
 use text_lines::TextCause;

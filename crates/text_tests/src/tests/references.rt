@@ -1,5 +1,5 @@
 //! Words and answers typed from the table of the format, and what the derives write.
-use super::*;
+use counted_ref::CountedRef;
 
 #[test]
 fn packs_and_unpacks_the_words_of_the_format(rt: HostRuntime) {

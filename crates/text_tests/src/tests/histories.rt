@@ -1,8 +1,6 @@
 //! What no clause says: that texts are read where memory is there, and the faults of known texts.
-use super::*;
-use crate::operations::{Body, Taken};
-use crate::printing::print_history;
-use crate::scripts::Script;
+use history::{Body, Op, Refusal, Reply, Script, Stamped, Taken, TextCause};
+use history::{parse_history, print_history};
 use std::alloc::AllocError;
 use std::test::Fail;
 

@@ -1,6 +1,6 @@
-use crate::{Event, Schedule, parse, print};
 use history::{Body, Op, Script};
 use line_table::{Kind, Line};
+use schedule_text::{Event, Schedule, parse, print};
 use std::test::Fail;
 
 const FIRST_RUN: &str = "msq schedule 1

@@ -1,5 +1,5 @@
 //! What no clause says: the texts as they stand in a file, the messages, and calls that succeed.
-use crate::{
+use history::{
     Body, Op, ReaderSource, Refusal, Reply, Script, Sink, Source, Stamped, Taken, TextCause,
     Trouble, WornWord, WriterSink, print_history,
 };

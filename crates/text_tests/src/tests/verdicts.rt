@@ -1,5 +1,5 @@
 //! Calls that succeed: each verdict with its place, on histories that were judged by hand.
-use crate::{Body, Cause, Op, Refusal, Reply, Stamped, Taken, Verdict, check};
+use history::{Body, Cause, Op, Refusal, Reply, Stamped, Taken, Verdict, check};
 use std::test::Fail;
 
 fn enqueue(body: u64) -> Result<Op, Fail> {

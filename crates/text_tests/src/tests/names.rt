@@ -1,5 +1,5 @@
 //! The names as the lines are known by, and texts that name no line.
-use crate::Line;
+use line_table::Line;
 
 const NAMED: [(Line, &str); 36] = [
     (Line::N1, "N1"),

@@ -1,0 +1,9 @@
+//! Words, lines, devices, verdicts, tables and texts, each against what was typed from outside.
+mod devices;
+mod histories;
+mod names;
+mod references;
+mod schedule_faults;
+mod schedules;
+mod tables;
+mod verdicts;
