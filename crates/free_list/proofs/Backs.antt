@@ -17,10 +17,10 @@ use Rattle.node_arena.specs.declared.arena.Arena.{Arena}
 use Rattle.node_arena.specs.declared.seats.Seat.{Seat}
 use Rattle.node_arena.specs.Seats.{IsReady, DidStep, view, keeping, pocket_of}
 use Rattle.node_arena.specs.Turns.{failed_at, failed_turns, at_f1}
-use Rattle.node_arena.specs.Walks.{Walks, added, NowHolds}
+use Rattle.node_arena.specs.Walks.{Walks, Passes, added, NowHolds}
 use Rattle.node_arena.proofs.Tracing.{traced_reached}
 use Rattle.node_arena.proofs.Noting.{none_due}
-use Rattle.node_arena.proofs.Walking.{no_walk, walk_then, then_stored, added_is, ends_failed, failed_behind, failed-append, kept_seat, now_kept, event, after, walk_on, to_is, failed_last, now_holds}
+use Rattle.node_arena.proofs.Walking.{no_pass, pass_then, then_stored, added_is, ends_failed, failed_behind, failed-append, kept_seat, now_kept, event, after, pass_on, to_is, failed_last, now_holds}
 use Rattle.node_arena.proofs.Told.{was_in_range, actor_was_in_range, first_is_free, raised_names}
 use Rattle.free_list.specs.declared.outcomes.Actor.{Actor as Running}
 use Rattle.free_list.specs.declared.outcomes.Outcome.{Outcome}
@@ -81,7 +81,7 @@ aside_turn r s t lead h a out n st f stays = go (nat_eq (ref_of f.found).count r
         record {
           stored = f.did.stored;
           lines = event r s t lead F1 f.found f.did ∷ [];
-          walks = walk_on r s t lead F1 f.found f.did refl (none_due (led r.plan.setup (view s).number lead (view s).actor) st.knows.early);
+          walks = pass_on r s t lead F1 f.found f.did refl (none_due (led r.plan.setup (view s).number lead (view s).actor) st.knows.early) refl;
           turned = record {
             seat = f.did.seat;
             over = o.over;
@@ -129,8 +129,8 @@ module _ (r : Arena) (s u t x : Seat) (lead : Lead) (h : Held) (a b c : Running)
   mark_is : c.mark ≡ h.mark
   mark_is = ap (λ z. z.mark) same ∙ ((to_f2 r s u lead a b l st f).2 ∙ ma)
 
-  walked : Walks (view s) (view t) (one ∷ two ∷ [])
-  walked = walk_then (view s) (view u) (view t) (one ∷ []) (two ∷ []) (walk_on r s u lead F1 f.found f.did refl (none_due (led r.plan.setup (view s).number lead (view s).actor) st.knows.early)) (walk_on r u t goes_on F2 g.found g.did refl tt)
+  walked : Passes (view s) (view t) (one ∷ two ∷ [])
+  walked = pass_then (view s) (view u) (view t) (one ∷ []) (two ∷ []) (pass_on r s u lead F1 f.found f.did refl (none_due (led r.plan.setup (view s).number lead (view s).actor) st.knows.early) refl) (pass_on r u t goes_on F2 g.found g.did refl tt refl)
 
   same_top : (p : Bool) → same_ref (ref_of k.found) c.top ≡ p → same_ref k.did.told.was.world.shared.free (led r.plan.setup (view t).number goes_on (view t).actor).top ≡ p
   same_top p e = (λ i. same_ref (sym (ref_f3 r t x goes_on k.found k.did).0 i) (stands.knows.1.top i)) ∙ e
@@ -159,7 +159,7 @@ module _ (r : Arena) (s u t x : Seat) (lead : Lead) (h : Held) (a b c : Running)
       record {
         stored = then_stored s t x (then_stored s u t f.did.stored g.did.stored) k.did.stored;
         lines = one ∷ two ∷ three ∷ [];
-        walks = walk_then (view s) (view t) (view x) (one ∷ two ∷ []) (three ∷ []) walked (walk_on r t x goes_on F3 k.found k.did refl (none_due (view t).actor stands.knows.0.frees.early));
+        walks = pass_then (view s) (view t) (view x) (one ∷ two ∷ []) (three ∷ []) walked (pass_on r t x goes_on F3 k.found k.did refl (none_due (view t).actor stands.knows.0.frees.early) refl);
         turned = subst (λ o. GiveTurned r x (one ∷ two ∷ three ∷ []) h (gave_of o)) (sym k.leads_to) (turned (same_ref (ref_of k.found) c.top) refl);
       }
 
@@ -181,7 +181,7 @@ sets_forth r s h ready full =
       };
       stored = record { number = refl; role = refl; pocket = refl; failed = refl };
       lines = [];
-      walks = no_walk (view s);
+      walks = no_pass (view s);
       failed = refl;
       last = λ one. absurd (omega arith);
     }
@@ -203,7 +203,7 @@ module _ (r : Arena) (s t : Seat) (g : Held) (n : ℕ) (h : Giving r s t g n) wh
         stands = rw add-one d.turned.stands;
         stored = then_stored s t x h.stored d.stored;
         lines = h.lines ++ d.lines;
-        walks = walk_then (view s) (view t) (view x) h.lines d.lines h.walks d.walks;
+        walks = pass_then (view s) (view t) (view x) h.lines d.lines h.walks d.walks;
         failed = (let f = h.failed in let z = d.turned.once in let e = failed-append h.lines d.lines in omega arith);
         last = λ some. failed_behind h.lines d.lines d.turned.last;
       }
@@ -212,16 +212,17 @@ module _ (r : Arena) (s t : Seat) (g : Held) (n : ℕ) (h : Giving r s t g n) wh
   pub gave_it : (x : Seat) (turns : ℕ) (o : Unit {0}) → n < turns → pocket_of s ≡ Some g → GiveTurns r t x g Back → GiveAnswers r s (keeping x None n) turns (Ok o)
   gave_it x turns o less full d =
       let es : List Event = h.lines ++ d.lines in
-      let w : Walks (view s) (view x) es = walk_then (view s) (view t) (view x) h.lines d.lines h.walks d.walks in
+      let p : Passes (view s) (view x) es = pass_then (view s) (view t) (view x) h.lines d.lines h.walks d.walks in
       let all : failed_turns es ≡ n = (let f = h.failed in let z = d.turned.never in let e = failed-append h.lines d.lines in omega arith) in
-      let e : added s x ≡ es = added_is s x es w in
+      let e : added s x ≡ es = added_is s x es p.walks in
       let rest = rests_before r.plan.setup.kind (view x).actor d.turned.over in
       let name = then_stored s t x h.stored d.stored in
       record {
         ready = record { seat = kept_seat r x None n d.turned.seat; free = ap (λ a. a.line) rest; pocket = sym (ap (λ a. a.pocket) rest ∙ d.turned.empty) };
         same = record { number = name.number; role = name.role };
         pocket = refl;
-        lines = subst (Walks (view s) (view x)) (sym e) w;
+        lines = subst (Walks (view s) (view x)) (sym e) p.walks;
+        seen = p.same;
         back = subst (λ p. IfSome p (λ held. NowHolds r (keeping x None n) (IsBack held.node))) (sym full) (now_kept r x None n _ d.turned.back);
         refused = tt;
         failed = sym (ap failed_turns e ∙ all);
@@ -232,14 +233,15 @@ module _ (r : Arena) (s t : Seat) (g : Held) (n : ℕ) (h : Giving r s t g n) wh
 pub kept_it : (r : Arena) (s t : Seat) (g : Held) (turns : ℕ) → 1 ≤ turns → pocket_of s ≡ Some g → Giving r s t g turns → GiveAnswers r s (keeping t (Some g) turns) turns (Err Busy)
 kept_it r s t g zero some full h = absurd (omega arith)
 kept_it r s t g (suc m) some full h =
-    let e : added s t ≡ h.lines = added_is s t h.lines h.walks in
+    let e : added s t ≡ h.lines = added_is s t h.lines h.walks.walks in
     let at = h.stands in
     let rest = rests_at_f1 (view t).actor at.line at.frees.early in
     record {
       ready = record { seat = kept_seat r t (Some g) (suc m) at.seat; free = ap (λ b. b.line) rest; pocket = (λ i. Some (record { node = sym at.frees.node i; mark = sym at.frees.mark i })) ∙ sym (ap (λ b. b.pocket) rest) };
       same = record { number = h.stored.number; role = h.stored.role };
       pocket = sym full;
-      lines = subst (Walks (view s) (view t)) (sym e) h.walks;
+      lines = subst (Walks (view s) (view t)) (sym e) h.walks.walks;
+      seen = h.walks.same;
       back = tt;
       refused = (refl, ap failed_turns e ∙ h.failed, ends_failed s (keeping t (Some g) (suc m)) h.lines e (h.last some));
       failed = sym (ap failed_turns e ∙ h.failed);

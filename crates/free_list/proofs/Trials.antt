@@ -13,9 +13,9 @@ use Rattle.node_arena.specs.declared.arena.Arena.{Arena}
 use Rattle.node_arena.specs.declared.seats.Seat.{Seat}
 use Rattle.node_arena.specs.Seats.{IsReady, view, keeping, pocket_of}
 use Rattle.node_arena.specs.Turns.{failed_turns}
-use Rattle.node_arena.specs.Walks.{Walks, added, LastHeld}
+use Rattle.node_arena.specs.Walks.{Walks, Passes, added, LastHeld}
 use Rattle.free_list.specs.declared.outcomes.Turn.TheVariants.{Took, Failed, Refused}
-use Rattle.node_arena.proofs.Walking.{no_walk, walk_then, then_stored, added_is, last_held, ends_failed, ended_behind, failed_behind, failed-append, kept_seat, now_kept}
+use Rattle.node_arena.proofs.Walking.{no_pass, pass_then, then_stored, added_is, last_held, ends_failed, ended_behind, failed_behind, failed-append, kept_seat, now_kept}
 use Rattle.free_list.specs.Takes.{IsRefusedBy, TakeRefused, Turns, Trying, Answers}
 
 -- an actor that just got a node rests
@@ -40,7 +40,7 @@ sets_out r s h none =
       };
       stored = record { number = refl; role = refl; pocket = refl; failed = refl };
       lines = [];
-      walks = no_walk (view s);
+      walks = no_pass (view s);
       failed = refl;
       last = λ one. absurd (omega arith);
     }
@@ -53,7 +53,7 @@ module _ (r : Arena) (s t : Seat) (n : ℕ) (h : Trying r s t n) where
         stands = rw add-one d.turned.stands;
         stored = then_stored s t x h.stored d.stored;
         lines = h.lines ++ d.lines;
-        walks = walk_then (view s) (view t) (view x) h.lines d.lines h.walks d.walks;
+        walks = pass_then (view s) (view t) (view x) h.lines d.lines h.walks d.walks;
         failed = (let f = h.failed in let g = d.turned.once in let e = failed-append h.lines d.lines in omega arith);
         last = λ some. failed_behind h.lines d.lines d.turned.last;
       }
@@ -62,9 +62,9 @@ module _ (r : Arena) (s t : Seat) (n : ℕ) (h : Trying r s t n) where
   pub took : (x : Seat) (turns : ℕ) (g : Held) → n < turns → Turns r t x (Took g) → Answers r s (keeping x (Some g) n) turns (Ok g)
   took x turns g less d =
       let es : List Event = h.lines ++ d.lines in
-      let w : Walks (view s) (view x) es = walk_then (view s) (view t) (view x) h.lines d.lines h.walks d.walks in
+      let p : Passes (view s) (view x) es = pass_then (view s) (view t) (view x) h.lines d.lines h.walks d.walks in
       let all : failed_turns es ≡ n = (let f = h.failed in let z = d.turned.never in let e = failed-append h.lines d.lines in omega arith) in
-      let e : added s x ≡ es = added_is s x es w in
+      let e : added s x ≡ es = added_is s x es p.walks in
       let rest = rests_with r.plan.setup.kind (view x).actor d.turned.over in
       let name = then_stored s t x h.stored d.stored in
       record {
@@ -75,9 +75,10 @@ module _ (r : Arena) (s t : Seat) (n : ℕ) (h : Trying r s t n) where
         };
         same = record { number = name.number; role = name.role };
         pocket = refl;
-        lines = subst (Walks (view s) (view x)) (sym e) w;
+        lines = subst (Walks (view s) (view x)) (sym e) p.walks;
+        seen = p.same;
         taken = record {
-          there = last_held r s (keeping x (Some g) n) es _ e (ended_behind r s t h.lines d.lines _ h.walks d.turned.there);
+          there = last_held r s (keeping x (Some g) n) es _ e (ended_behind r s t h.lines d.lines _ h.walks.walks d.turned.there);
           sole = now_kept r x (Some g) n _ d.turned.sole;
         };
         refused = tt;
@@ -89,9 +90,9 @@ module _ (r : Arena) (s t : Seat) (n : ℕ) (h : Trying r s t n) where
   pub refused : (x : Seat) (turns : ℕ) (why : Refusal) → n < turns → Turns r t x (Refused why) → Answers r s (keeping x None n) turns (Err why)
   refused x turns why less d =
       let es : List Event = h.lines ++ d.lines in
-      let w : Walks (view s) (view x) es = walk_then (view s) (view t) (view x) h.lines d.lines h.walks d.walks in
+      let p : Passes (view s) (view x) es = pass_then (view s) (view t) (view x) h.lines d.lines h.walks d.walks in
       let all : failed_turns es ≡ n = (let f = h.failed in let z = d.turned.never in let e = failed-append h.lines d.lines in omega arith) in
-      let e : added s x ≡ es = added_is s x es w in
+      let e : added s x ≡ es = added_is s x es p.walks in
       let rest : at_rest (view x).actor ≡ (view x).actor = ap (out_of (view x).actor) d.turned.over in
       let name = then_stored s t x h.stored d.stored in
       record {
@@ -102,9 +103,10 @@ module _ (r : Arena) (s t : Seat) (n : ℕ) (h : Trying r s t n) where
         };
         same = record { number = name.number; role = name.role };
         pocket = refl;
-        lines = subst (Walks (view s) (view x)) (sym e) w;
+        lines = subst (Walks (view s) (view x)) (sym e) p.walks;
+        seen = p.same;
         taken = tt;
-        refused = by_cause x turns why d.turned.possible (last_held r s (keeping x None n) es _ e (ended_behind r s t h.lines d.lines _ h.walks d.turned.cause));
+        refused = by_cause x turns why d.turned.possible (last_held r s (keeping x None n) es _ e (ended_behind r s t h.lines d.lines _ h.walks.walks d.turned.cause));
         failed = sym (ap failed_turns e ∙ all);
         fewer = λ other. less;
       }
@@ -117,7 +119,7 @@ module _ (r : Arena) (s t : Seat) (n : ℕ) (h : Trying r s t n) where
 pub gave_up : (r : Arena) (s t : Seat) (turns : ℕ) → 1 ≤ turns → Trying r s t turns → Answers r s (keeping t None turns) turns (Err Busy)
 gave_up r s t zero some h = absurd (omega arith)
 gave_up r s t (suc m) some h =
-    let e : added s t ≡ h.lines = added_is s t h.lines h.walks in
+    let e : added s t ≡ h.lines = added_is s t h.lines h.walks.walks in
     let at = h.stands in
     let rest : at_rest (view t).actor ≡ record (view t).actor { line = None } = ap (out_of (view t).actor) at.line in
     record {
@@ -128,7 +130,8 @@ gave_up r s t (suc m) some h =
       };
       same = record { number = h.stored.number; role = h.stored.role };
       pocket = refl;
-      lines = subst (Walks (view s) (view t)) (sym e) h.walks;
+      lines = subst (Walks (view s) (view t)) (sym e) h.walks.walks;
+      seen = h.walks.same;
       taken = tt;
       refused = (ap failed_turns e ∙ h.failed, ends_failed s (keeping t None (suc m)) h.lines e (h.last some));
       failed = sym (ap failed_turns e ∙ h.failed);

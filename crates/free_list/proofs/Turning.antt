@@ -13,8 +13,8 @@ use Rattle.node_arena.specs.declared.arena.Arena.{Arena}
 use Rattle.node_arena.specs.declared.seats.Seat.{Seat}
 use Rattle.node_arena.specs.Seats.{KeepsStored, DidStep, view}
 use Rattle.node_arena.specs.Turns.{failed_at, failed_turns, at_n1}
-use Rattle.node_arena.specs.Walks.{Walks}
-use Rattle.node_arena.proofs.Walking.{walk_then, then_stored, failed_snoc, event, walk_on, to_is, ended_at, failed_last, now_sole}
+use Rattle.node_arena.specs.Walks.{Walks, Passes}
+use Rattle.node_arena.proofs.Walking.{pass_then, then_stored, failed_snoc, event, walk_on, pass_on, to_is, ended_at, failed_last, now_sole}
 use Rattle.free_list.specs.declared.outcomes.Actor.{Actor as Running}
 use Rattle.free_list.specs.declared.outcomes.Outcome.{Outcome}
 use Rattle.free_list.specs.declared.outcomes.Outcome.TheVariants.{Goes, Ends, Freed}
@@ -93,8 +93,8 @@ module _ (r : Arena) (s u t : Seat) (lead : Lead) (a a1 : Running) (l1 : Line) (
   abbrev looks : List Event
   looks = one ∷ two ∷ []
 
-  pub look_walk : Walks (view s) (view t) looks
-  look_walk = walk_then (view s) (view u) (view t) (one ∷ []) (two ∷ []) (walk_on r s u lead N1 f.found f.did refl tt) (walk_on r u t goes_on N2 g.found g.did refl tt)
+  pub look_walk : Passes (view s) (view t) looks
+  look_walk = pass_then (view s) (view u) (view t) (one ∷ []) (two ∷ []) (pass_on r s u lead N1 f.found f.did refl tt refl) (pass_on r u t goes_on N2 g.found g.did refl tt refl)
 
   pub look_stored : KeepsStored s t
   look_stored = then_stored s u t f.did.stored g.did.stored
@@ -130,13 +130,13 @@ module _ (r : Arena) (s u t : Seat) (lead : Lead) (a a1 : Running) (l1 : Line) (
       record {
         stored = then_stored s t x look_stored y.did.stored;
         lines = looks ++ event r t x goes_on N5 y.found y.did ∷ [];
-        walks = walk_then (view s) (view t) (view x) looks (event r t x goes_on N5 y.found y.did ∷ []) look_walk (walk_on r t x goes_on N5 y.found y.did refl tt);
+        walks = pass_then (view s) (view t) (view x) looks (event r t x goes_on N5 y.found y.did ∷ []) look_walk (pass_on r t x goes_on N5 y.found y.did refl tt refl);
         turned = subst (λ o. Turned r s x (looks ++ event r t x goes_on N5 y.found y.did ∷ []) (turn_of o)) (sym y.leads_to) (go (nat_eq y.found b.f) refl);
       }
     where
       go : (p : Bool) → nat_eq y.found b.f ≡ p → Turned r s x (looks ++ event r t x goes_on N5 y.found y.did ∷ []) (turn_of (if p then Goes (with_node r.plan.setup.kind) (record b { node = b.f + 1; mark = 0 }) else Goes N1 b))
-      go true w = took_at r.plan.setup.kind r s x _ (record b { node = b.f + 1; mark = 0 }) (got r s t x N5 y.found y.did looks look_walk refl (λ o. refl) b (record b { node = b.f + 1; mark = 0 }) ((after_n5 r t x goes_on b y.found (to_n5 k b e is) y.did).0 w))
-      go false w = fell r s t x N5 y.found y.did looks look_walk refl (λ o. refl) b ((after_n5 r t x goes_on b y.found (to_n5 k b e is) y.did).1 w)
+      go true w = took_at r.plan.setup.kind r s x _ (record b { node = b.f + 1; mark = 0 }) (got r s t x N5 y.found y.did looks look_walk.walks refl (λ o. refl) b (record b { node = b.f + 1; mark = 0 }) ((after_n5 r t x goes_on b y.found (to_n5 k b e is) y.did).0 w))
+      go false w = fell r s t x N5 y.found y.did looks look_walk.walks refl (λ o. refl) b ((after_n5 r t x goes_on b y.found (to_n5 k b e is) y.did).1 w)
 
   pub to_n4 : (k m : Line) (b c : Running) (x : Seat) → out ≡ Goes k b → k ≢ N5 → Follows r t x goes_on N3 b (Goes m c) → Stands r x goes_on N4 c
   to_n4 k m b c x e other y = subst (Stands r x goes_on N4) (sym (same_actor m N4 c (record b { next = ref_of y.found }) y.leads_to)) (after_n3 r t x goes_on b y.found (to_n3 k b e other) y.did)
@@ -147,13 +147,13 @@ module _ (r : Arena) (s u t : Seat) (lead : Lead) (a a1 : Running) (l1 : Line) (
       record {
         stored = then_stored s x v (then_stored s t x look_stored y.did.stored) z.did.stored;
         lines = (looks ++ event r t x goes_on N3 y.found y.did ∷ []) ++ event r x v goes_on N4 z.found z.did ∷ [];
-        walks = walk_then (view s) (view x) (view v) (looks ++ event r t x goes_on N3 y.found y.did ∷ []) (event r x v goes_on N4 z.found z.did ∷ []) walked (walk_on r x v goes_on N4 z.found z.did refl tt);
+        walks = pass_then (view s) (view x) (view v) (looks ++ event r t x goes_on N3 y.found y.did ∷ []) (event r x v goes_on N4 z.found z.did ∷ []) walked (pass_on r x v goes_on N4 z.found z.did refl tt refl);
         turned = subst (λ o. Turned r s v ((looks ++ event r t x goes_on N3 y.found y.did ∷ []) ++ event r x v goes_on N4 z.found z.did ∷ []) (turn_of o)) (sym z.leads_to) (go (same_ref (ref_of z.found) c.top) refl);
       }
     where
-      walked : Walks (view s) (view x) (looks ++ event r t x goes_on N3 y.found y.did ∷ [])
-      walked = walk_then (view s) (view t) (view x) looks (event r t x goes_on N3 y.found y.did ∷ []) look_walk (walk_on r t x goes_on N3 y.found y.did refl tt)
+      walked : Passes (view s) (view x) (looks ++ event r t x goes_on N3 y.found y.did ∷ [])
+      walked = pass_then (view s) (view t) (view x) looks (event r t x goes_on N3 y.found y.did ∷ []) look_walk (pass_on r t x goes_on N3 y.found y.did refl tt refl)
 
       go : (p : Bool) → same_ref (ref_of z.found) c.top ≡ p → Turned r s v ((looks ++ event r t x goes_on N3 y.found y.did ∷ []) ++ event r x v goes_on N4 z.found z.did ∷ []) (turn_of (if p then Goes (with_node r.plan.setup.kind) (record c { node = c.top.node; mark = c.next.count }) else Goes N1 c))
-      go true w = took_at r.plan.setup.kind r s v _ (record c { node = c.top.node; mark = c.next.count }) (got r s x v N4 z.found z.did (looks ++ event r t x goes_on N3 y.found y.did ∷ []) walked refl (λ o. refl) c (record c { node = c.top.node; mark = c.next.count }) ((after_n4 r x v goes_on c z.found (to_n4 k m b c x e other y) z.did).0 w))
-      go false w = fell r s x v N4 z.found z.did (looks ++ event r t x goes_on N3 y.found y.did ∷ []) walked refl (λ o. refl) c ((after_n4 r x v goes_on c z.found (to_n4 k m b c x e other y) z.did).1 w)
+      go true w = took_at r.plan.setup.kind r s v _ (record c { node = c.top.node; mark = c.next.count }) (got r s x v N4 z.found z.did (looks ++ event r t x goes_on N3 y.found y.did ∷ []) walked.walks refl (λ o. refl) c (record c { node = c.top.node; mark = c.next.count }) ((after_n4 r x v goes_on c z.found (to_n4 k m b c x e other y) z.did).0 w))
+      go false w = fell r s x v N4 z.found z.did (looks ++ event r t x goes_on N3 y.found y.did ∷ []) walked.walks refl (λ o. refl) c ((after_n4 r x v goes_on c z.found (to_n4 k m b c x e other y) z.did).1 w)

@@ -9,7 +9,7 @@ use Rattle.node_arena.specs.declared.arena.Arena.{Arena}
 use Rattle.node_arena.specs.declared.seats.Seat.{Seat}
 use Rattle.node_arena.specs.Seats.{IsSeat, IsReady, KeepsStored, KeepsName, view, pocket_of, failed_of}
 use Rattle.node_arena.specs.Turns.{failed_turns}
-use Rattle.node_arena.specs.Walks.{Walks, HadNoEffect, added, FailedAt, NowHolds, EndsFailed}
+use Rattle.node_arena.specs.Walks.{Passes, HadNoEffect, SeesNoMore, added, FailedAt, NowHolds, EndsFailed}
 use Rattle.free_list.specs.declared.outcomes.Gave.{Gave}
 use Rattle.free_list.specs.declared.outcomes.Gave.TheVariants.{Back, Again}
 use Rattle.free_list.specs.Runs.{StartsGive, giving}
@@ -41,7 +41,7 @@ GiveTurned r t es h Again = Slipped r t es h
 pub record GiveTurns (r : Arena) (s t : Seat) (h : Held) (out : Gave) : Type 0 where
   pub stored : KeepsStored s t
   pub lines : List Event
-  pub walks : Walks (view s) (view t) lines
+  pub walks : Passes (view s) (view t) lines
   pub turned : GiveTurned r t lines h out
 
 -- a give back after so many failed turns
@@ -49,7 +49,7 @@ pub record Giving (r : Arena) (s t : Seat) (h : Held) (n : ℕ) : Type 0 where
   pub stands : StartsGive r t (giving n) h
   pub stored : KeepsStored s t
   pub lines : List Event
-  pub walks : Walks (view s) (view t) lines
+  pub walks : Passes (view s) (view t) lines
   pub failed : failed_turns lines ≡ n
   pub last : 1 ≤ n → FailedAt lines
 
@@ -67,6 +67,7 @@ pub record GiveAnswers (r : Arena) (s t : Seat) (turns : ℕ) (out : Result (Uni
   pub same : KeepsName s t
   pub pocket : MatchResult out (λ _. pocket_of t ≡ None) (λ _. pocket_of t ≡ pocket_of s)
   pub lines : HadNoEffect s t
+  pub seen : SeesNoMore s t
   pub back : OnOk out (IsGivenBack r s t)
   pub refused : IfErr out (GiveRefused s t turns)
   pub failed : failed_of t ≡ failed_turns (added s t)

@@ -10,7 +10,7 @@ use Rattle.node_arena.specs.declared.arena.Arena.{Arena}
 use Rattle.node_arena.specs.declared.seats.Seat.{Seat}
 use Rattle.node_arena.specs.Seats.{IsSeat, IsReady, KeepsStored, KeepsName, view, pocket_of, failed_of}
 use Rattle.node_arena.specs.Turns.{failed_turns}
-use Rattle.node_arena.specs.Walks.{Walks, HadNoEffect, added, EndedAt, FailedAt, LastHeld, NowHolds, MetCause, EndsFailed, IsSole}
+use Rattle.node_arena.specs.Walks.{Passes, HadNoEffect, SeesNoMore, added, EndedAt, FailedAt, LastHeld, NowHolds, MetCause, EndsFailed, IsSole}
 use Rattle.free_list.specs.declared.outcomes.Turn.{Turn}
 use Rattle.free_list.specs.declared.outcomes.Turn.TheVariants.{Took, Failed, Refused}
 use Rattle.free_list.specs.Runs.{StartsTake, taking}
@@ -77,7 +77,7 @@ Turned r s t es (Refused why) = Refuses r s t es why
 pub record Turns (r : Arena) (s t : Seat) (out : Turn) : Type 0 where
   pub stored : KeepsStored s t
   pub lines : List Event
-  pub walks : Walks (view s) (view t) lines
+  pub walks : Passes (view s) (view t) lines
   pub turned : Turned r s t lines out
 
 -- a take after so many failed turns
@@ -85,7 +85,7 @@ pub record Trying (r : Arena) (s t : Seat) (n : ℕ) : Type 0 where
   pub stands : StartsTake r t (taking n)
   pub stored : KeepsStored s t
   pub lines : List Event
-  pub walks : Walks (view s) (view t) lines
+  pub walks : Passes (view s) (view t) lines
   pub failed : failed_turns lines ≡ n
   pub last : 1 ≤ n → FailedAt lines
 
@@ -95,6 +95,7 @@ pub record Answers (r : Arena) (s t : Seat) (turns : ℕ) (out : Result Held Ref
   pub same : KeepsName s t
   pub pocket : MatchResult out (λ held. pocket_of t ≡ Some held) (λ _. pocket_of t ≡ None)
   pub lines : HadNoEffect s t
+  pub seen : SeesNoMore s t
   pub taken : IfOk out (λ held. IsTaken r s t held.node)
   pub refused : IfErr out (TakeRefused r s t turns)
   pub failed : failed_of t ≡ failed_turns (added s t)

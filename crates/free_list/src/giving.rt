@@ -3,7 +3,7 @@ ghost use Rattle.std.specs.Prelude.{◌≡◌, ◌≤◌, ◌<◌, None, IsSome,
 ghost use Rattle.node_arena.specs.Rule.{IsSound};
 ghost use Rattle.node_arena.specs.Seats.{IsReady, KeepsName, roles_of, view, pocket_of, failed_of};
 ghost use Rattle.node_arena.specs.Turns.{failed_turns};
-ghost use Rattle.node_arena.specs.Walks.{HadNoEffect, added};
+ghost use Rattle.node_arena.specs.Walks.{HadNoEffect, SeesNoMore, added};
 ghost use Rattle.free_list.specs.Runs.{StartsGive, giving};
 ghost use Rattle.free_list.specs.Gives.{GiveTurns, GiveAnswers, IsGivenBack, GiveRefused};
 
@@ -58,6 +58,7 @@ pub fn give_back(arena: &Arena, seat: &mut Seat, turns: u32) -> Result<(), Refus
     ensures pocket { MatchResult result
         (λ _. pocket_of seat.new ≡ None) (λ _. pocket_of seat.new ≡ pocket_of seat.old) }
     ensures lines { HadNoEffect seat.old seat.new }
+    ensures seen { SeesNoMore seat.old seat.new }
     ensures sound { IsSound (roles_of arena.now) (view seat.new) }
     ensures back { OnOk result (IsGivenBack arena.now seat.old seat.new) }
     ensures refused { IfErr result (GiveRefused seat.old seat.new turns) }

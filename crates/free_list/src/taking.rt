@@ -3,7 +3,7 @@ ghost use Rattle.std.specs.Prelude.{◌≡◌, ◌≤◌, Some, None, MatchResul
 ghost use Rattle.node_arena.specs.Rule.{IsSound};
 ghost use Rattle.node_arena.specs.Seats.{IsReady, KeepsName, roles_of, view, pocket_of, failed_of};
 ghost use Rattle.node_arena.specs.Turns.{failed_turns};
-ghost use Rattle.node_arena.specs.Walks.{HadNoEffect, added};
+ghost use Rattle.node_arena.specs.Walks.{HadNoEffect, SeesNoMore, added};
 ghost use Rattle.free_list.specs.Runs.{StartsTake, taking};
 ghost use Rattle.free_list.specs.Takes.{Turns, Answers, IsTaken, TakeRefused, FailsFewer};
 
@@ -75,6 +75,7 @@ pub fn take(arena: &Arena, seat: &mut Seat, turns: u32) -> Result<Held, Refusal>
     ensures pocket { MatchResult result
         (λ held. pocket_of seat.new ≡ Some held) (λ _. pocket_of seat.new ≡ None) }
     ensures lines { HadNoEffect seat.old seat.new }
+    ensures seen { SeesNoMore seat.old seat.new }
     ensures sound { IsSound (roles_of arena.now) (view seat.new) }
     ensures taken { IfOk result (λ held. IsTaken arena.now seat.old seat.new held.node) }
     ensures refused { IfErr result (TakeRefused arena.now seat.old seat.new turns) }

@@ -1,10 +1,10 @@
 -- The lines of a call, one after another: what they add to a seat's path, and what its last step tells.
-use Rattle.std.proofs.Common.{◌≡◌, ℕ, ◌+◌, ◌≤◌, true, Option, List, [], ◌∷◌, ◌++◌, length, drop, sym, refl, ap, ◌∙◌, subst, append-nil, append_assoc, arith}
+use Rattle.std.proofs.Common.{◌≡◌, ℕ, ◌+◌, ◌≤◌, true, false, Option, List, [], ◌∷◌, ◌++◌, length, drop, sym, refl, ap, ◌∙◌, subst, append-nil, append_assoc, arith}
 use Rattle.std.proofs.lemmas.List.Sums.{sum_by-append}
 use Rattle.std.proofs.Math.Seq.{drop-append_seam}
 use Rattle.line_table.specs.declared.lines.Line.{Line}
 use Rattle.node_arena.specs.Machine.{Held, Actor, World, actor_of, action, found}
-use Rattle.node_arena.specs.Traces.{Event, Traced, entries_at, event_at, outcome_at, step_at}
+use Rattle.node_arena.specs.Traces.{Event, Traced, entries_at, event_at, outcome_at, sees, step_at}
 use Rattle.node_arena.specs.Leads.{Lead, led}
 use Rattle.node_arena.specs.Seeing.{Knows}
 use Rattle.node_arena.specs.declared.arena.Arena.{Arena}
@@ -12,7 +12,7 @@ use Rattle.node_arena.specs.declared.seats.Seat.{Seat}
 use Rattle.node_arena.specs.Rule.{notes_of}
 use Rattle.node_arena.specs.Seats.{IsSeat, KeepsStored, DidStep, view, keeping}
 use Rattle.node_arena.specs.Turns.{failed_at, failed_turns}
-use Rattle.node_arena.specs.Walks.{Walks, added, EndedAt, FailedAt, EndsFailed, LastHeld, NowHolds, IsSole}
+use Rattle.node_arena.specs.Walks.{Walks, Passes, added, EndedAt, FailedAt, EndsFailed, LastHeld, NowHolds, IsSole}
 use Rattle.node_arena.proofs.Tracing.{traced_reached}
 use Rattle.node_arena.proofs.Told.{sole}
 use Rattle.node_arena.proofs.Noting.{AnswersNoEmpty, notes_nothing}
@@ -32,6 +32,13 @@ walk_then v w x es fs f g =
       rest = f.rest ++ g.rest;
       seen = g.seen ∙ ap (λ p. p ++ g.rest) f.seen ∙ append_assoc v.seen f.rest g.rest;
     }
+
+-- the same where the seat sees nothing
+pub no_pass : (v : Knows) → Passes v v []
+no_pass v = record { walks = no_walk v; same = refl }
+
+pub pass_then : (v w x : Knows) (es fs : List Event) → Passes v w es → Passes w x fs → Passes v x (es ++ fs)
+pass_then v w x es fs f g = record { walks = walk_then v w x es fs f.walks g.walks; same = g.same ∙ f.same }
 
 -- what a seat stores stays, and then again
 pub then_stored : (s t u : Seat) → KeepsStored s t → KeepsStored t u → KeepsStored s u
@@ -106,6 +113,10 @@ module _ (r : Arena) (s t : Seat) (lead : Lead) (l : Line) (n : ℕ) (d : DidSte
   -- the same at a line where the call doesn't answer empty
   pub walk_on : entries_at r.plan.setup d.told.was (view s).number b l ≡ [] → AnswersNoEmpty b l → Walks (view s) (view t) (event ∷ [])
   walk_on none other = walk_one none (notes_nothing r.plan.setup (d.told.was.world.steps + 1) (view s).number b l (found (action r.plan.setup (view s).number b l) d.told.was.world.shared) (view t).seen other)
+
+  -- and where the seat sees nothing
+  pub pass_on : entries_at r.plan.setup d.told.was (view s).number b l ≡ [] → AnswersNoEmpty b l → sees l ≡ false → Passes (view s) (view t) (event ∷ [])
+  pass_on none other blind = record { walks = walk_on none other; same = d.told.stays blind }
 
   -- the step went where the actor now stands
   pub to_is : event.to ≡ (view t).actor.line

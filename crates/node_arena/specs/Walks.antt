@@ -25,6 +25,11 @@ pub record Walks (v v' : Knows) (added : List Event) : Type 0 where
   pub rest : List Entry
   pub seen : v'.seen ≡ v.seen ++ rest
 
+-- a seat went through these lines, and what it has seen is as it was
+pub record Passes (v v' : Knows) (added : List Event) : Type 0 where
+  pub walks : Walks v v' added
+  pub same : v'.seen ≡ v.seen
+
 -- what a call added to its seat's path
 abbrev pub added : Seat → Seat → List Event
 added s t = drop (length (view s).path) (view t).path
@@ -33,6 +38,10 @@ added s t = drop (length (view s).path) (view t).path
 -- has seen is only longer
 abbrev pub HadNoEffect : Seat → Seat → Type 0
 HadNoEffect s t = Walks (view s) (view t) (added s t)
+
+-- what a seat has seen is as it was
+abbrev pub SeesNoMore : Seat → Seat → Type 0
+SeesNoMore s t = (view t).seen ≡ (view s).seen
 
 -- the last of some lines was a failed turn
 pub record FailedAt (es : List Event) : Type 0 where
