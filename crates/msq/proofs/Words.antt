@@ -2,7 +2,7 @@
 use Rattle.std.proofs.Common.{◌≡◌, ◌==◌, ℕ, List, [], ◌∷◌, length, map, Option, Some, None, Bool, true, false, refl, ap, ◌∙◌, codes, option_map, Bor}
 use Rattle.std.specs.Prelude.{unwrap_or, nat_eq}
 use Rattle.std.specs.Cmp.Lexicographic.{pointwise}
-use Rattle.clap.specs.Words.{Row, Text, fault_of, first_of, is_simple, is_simple_and_free, subcommand_of}
+use Rattle.clap.specs.Words.{App, Row, Text, fault_of, first_of, is_simple, is_simple_and_free, subcommand_of}
 use Rattle.clap.proofs.OnLiterals.{clap_on_literals}
 use Rattle.msq.specs.Commands.{asked_file, asks_check, check_met, command_line_app, faults_in, file_met}
 
@@ -31,11 +31,12 @@ pub faults_in-nil : faults_in [] ≡ []
 unfolding faults_in
 faults_in-nil = refl
 
--- the faults of words are those that clap tells
-pub faults_in-words : {A : Type 0} (f : A → Text) (words : List A) (is_empty : Bool) → is_empty ≡ (length words == 0) → is_empty ≡ false → faults_in (map f words) ≡ fault_of command_line_app (map f words)
+-- the faults of words are those that clap tells of this command line
+pub faults_in-words : {A : Type 0} (f : A → Text) (words : List A) (is_empty : Bool) (app : App) → app ≡ command_line_app → is_empty ≡ (length words == 0) → is_empty ≡ false
+    → fault_of app (map f words) ≡ faults_in (map f words)
 unfolding faults_in
-faults_in-words f [] is_empty is some = absurd cc
-faults_in-words f (word ∷ words) is_empty is some = refl
+faults_in-words f [] is_empty app same is some = absurd cc
+faults_in-words f (word ∷ words) is_empty app same is some = ap (λ (a : App). fault_of a (f word ∷ map f words)) same
 
 -- the file of the command that was met
 pub file_met-rows : (met : Option (Text × List Row)) (rows : List Row) → option_map (λ p. p.1) met ≡ Some rows → file_met met ≡ first_of (codes "FILE") rows

@@ -1,9 +1,9 @@
-use Rattle.std.proofs.Common.{◌∙◌, sym, ap, map, refl, subst, inl, List, Global}
+use Rattle.std.proofs.Common.{◌∙◌, sym, ap, map, refl, subst, List, Global}
 use Rattle.std.specs.Prelude.{string_bytes}
 use Rattle.std.proofs.lemmas.Bool.{eqb-true}
 use Rattle.std.proofs.lemmas.List.{nil_from_length}
 use Rattle.std.proofs.lemmas.Result.{err_from_is_err_and}
-use Rattle.clap.specs.Words.{App, HasKind, Kinds, Text, fault_of, is_simple, is_simple_and_free, takes, subcommand_of}
+use Rattle.clap.specs.Words.{App, HasKind, Kinds, Text, is_simple, is_simple_and_free, takes, subcommand_of}
 use Rattle.msq.proofs.Words.{asked_file-nil, asks_check-nil, asked_file-met, asks_check-met, faults_in-nil, faults_in-words, is_free-command_line, is_simple-command_line}
 use Rattle.msq.proofs.commands.asked.Goals as goal
 
@@ -24,9 +24,8 @@ returns-then-is_empty-clause-taken c =
 
 pub returns-in_err-matches-clause-kinds : goal.returns-in_err-matches-clause-kinds
 returns-in_err-matches-clause-kinds c =
-    let words : List Text = map (string_bytes {Z = Global}) c.args.words.now in
     let free = ap is_simple_and_free c.in_ok-command_line.ensures ∙ is_free-command_line in
-    let faults = ap (λ (a : App). fault_of a words) c.in_ok-command_line.ensures ∙ sym (faults_in-words _ c.args.words.now _ c.is_empty.ensures c.if-is_empty.false) in
+    let faults = faults_in-words _ c.args.words.now _ _ c.in_ok-command_line.ensures c.is_empty.ensures c.if-is_empty.false in
     let p = err_from_is_err_and c.from_residual-in_err-matches.result c.from_residual-in_err-matches.ensures.1 in
     rw (p.1, p.2) (subst (λ (kinds : Kinds). HasKind kinds c.in_err-matches.field-0.0) faults (c.in_err-matches.ensures.kinds free))
 
@@ -55,6 +54,5 @@ returns-clause-check c =
 
 pub returns-clause-taken : goal.returns-clause-taken
 returns-clause-taken c =
-    let words : List Text = map (string_bytes {Z = Global}) c.args.words.now in
     let free = ap is_simple_and_free c.in_ok-command_line.ensures ∙ is_free-command_line in
-    faults_in-words _ c.args.words.now _ c.is_empty.ensures c.if-is_empty.false ∙ ap (λ (a : App). fault_of a words) (sym c.in_ok-command_line.ensures) ∙ c.in_ok-matches.ensures.kinds free
+    sym (faults_in-words _ c.args.words.now _ _ c.in_ok-command_line.ensures c.is_empty.ensures c.if-is_empty.false) ∙ c.in_ok-matches.ensures.kinds free
