@@ -4,4 +4,5 @@
 pub mod laws;
 mod lines;
 mod table;
+
 pub use lines::{Kind, Line, Section};

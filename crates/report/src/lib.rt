@@ -7,5 +7,6 @@ mod history_rows;
 mod history_tables;
 mod kinds;
 mod sorting;
+
 pub use history_tables::history_table;
 pub use kinds::Kind;

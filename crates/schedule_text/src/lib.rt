@@ -7,6 +7,7 @@ pub mod laws;
 mod parsing;
 mod printing;
 mod schedules;
+
 pub use parsing::parse;
 pub use printing::print;
 pub use schedules::{Event, Schedule};

@@ -1,7 +1,8 @@
 //! What no clause says: that texts are read where memory is there, and the faults of known texts.
-use history::{Body, Op, Refusal, Reply, Script, Stamped, Taken, TextCause};
-use history::{parse_history, print_history};
-use std::alloc::AllocError;
+use history::{
+    Body, Op, Refusal, Reply, Script, Stamped, Taken, TextCause, parse_history, print_history,
+};
+use std::alloc::{AllocError, Global};
 use std::test::Fail;
 
 const TWO: &[u8] = b"history 2
