@@ -120,6 +120,7 @@ spares z id v s h at_id =
     (λ (t : (j ≡ l) × (spent ≡ keeper n)). let e = t.1 in cc)
     (at_end (set s.views id (seated v)) spent (keeper n) j a))
 
+-- what a seat knows, once it has seen the whole history
 abbrev learned : Traced → Knows → Knows
 learned t v = record v { seen = t.history }
 
@@ -166,12 +167,15 @@ meets_at key slots id me v w none is = subst (λ (y : ℕ × Me ℕ View). Allow
 pub parts_at : (key : Layout) (id : ℕ) (me : Me ℕ View) (v w : Knows) → me ≡ (paired v w, []) → Splits {S = ℕ} (Holds key) id me.0 (first_of me.0) (second_of me.0)
 parts_at key id me v w is = subst (λ (y : Me ℕ View). Splits {S = ℕ} (Holds key) id y.0 (first_of y.0) (second_of y.0)) (sym is) (parts key id v w)
 
+-- the token that two others joined into
 pub joined_is : (j one tok : Me ℕ View) (v w : Knows) → one ≡ (seated v, []) → tok ≡ (seated w, []) → j ≡ (both_of one.0 tok.0, one.1) → j ≡ (paired v w, [])
 joined_is j one tok v w a b e = e ∙ (λ i. (both_of (a i).0 (b i).0, (a i).1))
 
+-- what the load tells of two views that are one, said of the two
 pub met_there : (z : Layout) (j m : Me ℕ View) (v w : Knows) → j ≡ (paired v w, []) → Met z (knows j.0) (knows_second j.0) m → Met z v w m
 met_there z j m v w is h = subst (λ (y : Me ℕ View). Met z (knows y.0) (knows_second y.0) m) is h
 
+-- a seat with another token of its own, which knows the same but for what it has seen
 sits_so : (r : Arena) (s : Seat) (t : Token ℕ Knowing) (v : Knows) → IsReady r s → t.table_id ≡ r.table.shared.table_id → t.me ≡ (seated v, []) → v.number ≡ (view s).number → v.actor ≡ (view s).actor → v.mine ≡ (view s).mine → Fitted r.plan v → IsReady r (record s { token = t })
 sits_so r s t v i here me number actor mine fitted =
     let is : knows t.me.0 ≡ v = ap (λ (y : Me ℕ View). knows y.0) me in
@@ -192,6 +196,7 @@ sits_so r s t v i here me number actor mine fitted =
       pocket = i.pocket ∙ sym (ap (λ a. (at_rest a).pocket) (ap (λ w. w.actor) is ∙ actor));
     }
 
+-- the seats after they met
 pub meeting : (r : Arena) (s o : Seat) (k a b : Token ℕ Knowing) → IsReady r s → IsReady r o → Met r.plan (view s) (view o) k.me → a.me ≡ (first_of k.me.0, k.me.1) → b.me ≡ (second_of k.me.0, []) → a.table_id ≡ r.table.shared.table_id → b.table_id ≡ r.table.shared.table_id
     → Meets r s o (record s { token = a }) (record o { token = b })
 meeting r s o k a b i j h left right here there =
@@ -205,5 +210,6 @@ meeting r s o k a b i j h left right here there =
       second = record { stored = record { number = refl; role = refl; pocket = refl; failed = refl }; knows = ap (λ (y : Me ℕ View). knows y.0) two; more = h.second_rest; begins = h.second };
     }
 
+-- the plan by which a meeting is told is the arena's
 pub met_at : (z y : Layout) (v w : Knows) (m : Me ℕ View) → y ≡ z → Met y v w m → Met z v w m
 met_at z y v w m e h = subst (λ (x : Layout). Met x v w m) e h
