@@ -10,7 +10,7 @@ use Rattle.line_steps.specs.Lines.{action}
 use Rattle.step_machine.specs.Words.{index, IsWord}
 use Rattle.step_machine.specs.Tables.{place_of, place_step}
 use Rattle.step_machine.specs.Machine.{actor_of}
-use Rattle.step_machine.specs.TwoLock.{raised_at}
+use Rattle.step_machine.specs.EachQueue.{raised_at}
 use Rattle.step_machine.proofs.Tables.{place-place_step}
 use Rattle.step_machine.proofs.Reached.{reached_in_range}
 use Rattle.step_machine.proofs.TwoLockLaws as two_lock

@@ -21,7 +21,7 @@ use Rattle.step_machine.specs.Machine.{World, actor_of, IsReached}
 use Rattle.step_machine.specs.Tables.{SharedFits}
 use Rattle.step_machine.specs.Range.{WorldInRange, ActorInRange}
 use Rattle.step_machine.specs.Places.{IsFree, times, held, in_hand, one_if}
-use Rattle.step_machine.specs.TwoLock.{HasItsPlaces, HasCause, HasCauseFor}
+use Rattle.step_machine.specs.EachQueue.{HasItsPlaces, HasCause, HasCauseFor}
 use Rattle.step_machine.proofs.Reached.{reached_in_range, actor_in_range}
 use Rattle.step_machine.proofs.Accounts.{raised_node}
 use Rattle.step_machine.proofs.Fits.{shared_fits}

@@ -11,4 +11,4 @@ pub use Rattle.step_machine.specs.Words.{index, words_of}
 pub use Rattle.step_machine.specs.Tables.{PlaceStep, load_at, store_at, and_at, exchange_at, place_of, place_step}
 pub use Rattle.step_machine.specs.Machine.{World, actor_of, entry_or, rested, may_rest, IsReached}
 pub use Rattle.step_machine.specs.Places.{IsChain, IsUntouched, IsQueued, IsFree, IsSetAside, set_aside, held, in_hand, in_pocket, one_if}
-pub use Rattle.step_machine.specs.TwoLock.{HasCause}
+pub use Rattle.step_machine.specs.EachQueue.{HasCause}

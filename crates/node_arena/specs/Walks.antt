@@ -7,7 +7,7 @@ use Rattle.history.specs.declared.refusals.WornWord.TheVariants.{Next as OfNext}
 use Rattle.line_steps.specs.Memory.{node_at}
 use Rattle.step_machine.specs.Machine.{World, actor_of}
 use Rattle.step_machine.specs.Places.{IsQueued, IsFree, held, in_hand}
-use Rattle.step_machine.specs.TwoLock.{HasCause}
+use Rattle.step_machine.specs.EachQueue.{HasCause}
 use Rattle.node_arena.specs.declared.arena.Arena.{Arena}
 use Rattle.node_arena.specs.declared.seats.Seat.{Seat}
 use Rattle.node_arena.specs.Traces.{Event, Traced, IsTraced}

@@ -5,7 +5,6 @@ use Rattle.step_machine.specs.Below.{TwoLock, A6, Actor}
 use Rattle.step_machine.specs.Machine.{World, actor_of, IsReached}
 use Rattle.step_machine.specs.Places.{IsChain}
 use Rattle.step_machine.specs.Chains.{last_node}
-pub use Rattle.step_machine.specs.EachQueue.{HasItsPlaces, HasCause, HasCauseFor}
 
 -- a fact holds of each world of the two-lock queue that any moves lead to
 abbrev pub OfTwoLockWorlds : (World → Type 0) → Type 0
