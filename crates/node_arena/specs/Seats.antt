@@ -30,10 +30,6 @@ setup_of r = r.plan.setup
 abbrev pub roles_of : Arena → List Role
 roles_of r = r.plan.roles
 
--- how many words an arena has
-abbrev pub word_count : Arena → ℕ
-word_count r = 6 + 2 * r.plan.setup.size
-
 -- what a seat knows
 abbrev pub view : Seat → Knows
 view s = knows s.token.me.0
