@@ -46,10 +46,8 @@ fn a_long_run_has_the_memory_that_it_takes(rt: HostRuntime) -> Result<(), Fail> 
     let world = pushed_and_popped(rt.alloc())?;
     let history = world.history(rt.alloc())?;
     assert_eq!(rt; history.len(), 200_000);
-    let mut place = 0;
-    for found in &history {
+    for (place, found) in (0..200_000).zip(&history) {
         assert_eq!(rt; *found, operation(place), "operation {place}");
-        place += 1;
     }
     assert_eq!(rt; check(rt.alloc(), &history)?, Verdict::Yes);
     Ok(())
