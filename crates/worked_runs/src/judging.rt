@@ -5,7 +5,7 @@ ghost use Rattle.history.specs.declared.operations.Cause.TheVariants.{Shape, Spa
 ghost use Rattle.history.specs.History.{verdict};
 ghost use Rattle.worked_runs.specs.Verdicts.{late_empty, shared_place, outside_span, wrong_empty, no_reply, no_last, no_place, early_place, unfinished};
 
-/// The first fault of each history, by its place in the list.
+/// The verdict on each history: yes, or its first fault by its place in the list.
 pub fn verdicts()
     ensures late_empty { verdict late_empty ≡ No 1 Reply }
     ensures shared_place { verdict shared_place ≡ No 2 Shared }
