@@ -9,6 +9,7 @@ pub mod Faulty
 pub mod FirstFault
 pub mod FirstWrong
 pub mod Ordered
+pub mod Linearizing
 mod Ink
 mod Said
 mod Texts

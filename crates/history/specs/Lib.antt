@@ -4,6 +4,7 @@ pub mod History
 pub mod Checking
 pub mod Faults
 pub mod Order
+pub mod Linearizability
 pub mod Devices
 pub mod Scripts
 pub mod Readers

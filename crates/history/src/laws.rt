@@ -8,6 +8,7 @@ ghost use Rattle.history.specs.declared.operations.Cause.TheVariants.{Shape, Spa
 ghost use Rattle.history.specs.History.{Placement, IsLegal, rising, verdict};
 ghost use Rattle.history.specs.Faults.{FirstIsMisshapen, FirstIsOutside, FirstIsShared, FirstIsWrong};
 ghost use Rattle.history.specs.Order.{Rises};
+ghost use Rattle.history.specs.Linearizability.{IsLinearizable};
 ghost use Rattle.text_lines.specs.declared.causes.TextCause.{TextCause};
 ghost use Rattle.history.specs.HistoryText.{history_text};
 ghost use Rattle.history.specs.HistoryLines.{IsHistoryInRange, HasFirstFault};
@@ -40,6 +41,12 @@ pub fn a_wrong_reply_is_the_first_by_place()
 pub fn the_order_is_by_rising_place()
     ensures same { (ops : List Stamped) → IsPermutation (filter (λ o. is_some o.at) ops) (rising ops) }
     ensures rises { (ops : List Stamped) → Rises (rising ops) }
+{}
+
+/// What is placed and legal is linearizable: the operations that have a place, by rising place, are an order that shows
+/// it. So a history that is judged `Yes` is linearizable.
+pub fn placed_and_legal_is_linearizable()
+    ensures { (ops : List Stamped) → Placement ops → IsLegal ops → IsLinearizable ops }
 {}
 
 /// A text is that of one history in range at most.

@@ -1,0 +1,52 @@
+-- Linearizable histories, as Herlihy and Wing define them: no place of an operation is read.
+use Rattle.std.specs.Prelude.{◌≡◌, ◌≤◌, List, [], ◌∷◌, ◌++◌, map, None, Some, IfSome}
+use Rattle.std.specs.List.{AllByRecursion}
+use Rattle.std.specs.List.Sorted.{IsPermutation}
+use Rattle.history.specs.declared.operations.Reply.{Reply}
+use Rattle.history.specs.declared.operations.Stamped.{Stamped}
+use Rattle.history.specs.Queue.{Queue, empty}
+use Rattle.history.specs.History.{answer, Gets}
+
+-- an operation of an order, and the reply that it is given there
+pub record Answered : Type 0 where
+  pub operation : Stamped
+  pub reply : Reply
+
+-- the operations of an order
+abbrev pub operations_of : List Answered → List Stamped
+operations_of order = map (λ a. a.operation) order
+
+-- an operation has neither ended nor been told a reply
+pub record IsPending (o : Stamped) : Type 0 where
+  pub not_ended : o.last ≡ None
+  pub not_told : o.reply ≡ None
+
+-- an operation that was told a reply is given that one
+abbrev pub GivesWhatWasTold : Answered → Type 0
+GivesWhatWasTold a = IfSome a.operation.reply (λ told. a.reply ≡ told)
+
+-- one operation may come before another: the other had not ended when the one began
+abbrev pub MayComeBefore : Stamped → Stamped → Type 0
+MayComeBefore o p = IfSome p.last (λ last. o.first ≤ last)
+
+-- an operation that ended before another began comes first
+abbrev pub KeepsTime : List Stamped → Type 0
+KeepsTime [] = Unit {0}
+KeepsTime (o ∷ os) = AllByRecursion (MayComeBefore o) os × KeepsTime os
+
+-- from this queue, the operations run one after another, and each is given its reply
+abbrev pub IsRun : Queue → List Answered → Type 0
+IsRun queue [] = Unit {0}
+IsRun queue (a ∷ rest) =
+    Gets queue a.operation (Some a.reply) × IsRun (answer queue a.operation (Some a.reply)).after rest
+
+-- A history is linearizable: there is an order of all its completed operations and some pending ones, each once, with a
+-- reply for each pending one, that keeps time and is a run of the queue that gives every reply told.
+pub record IsLinearizable (ops : List Stamped) : Type 0 where
+  pub order : List Answered
+  pub left_out : List Stamped
+  pub each_once : IsPermutation ops (operations_of order ++ left_out)
+  pub only_pending_left_out : AllByRecursion IsPending left_out
+  pub replies : AllByRecursion GivesWhatWasTold order
+  pub timely : KeepsTime (operations_of order)
+  pub runs : IsRun empty order
