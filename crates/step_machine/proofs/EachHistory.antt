@@ -1,6 +1,8 @@
 -- What is proved of each queue by itself, said of both at once.
 use Rattle.std.proofs.Common.{◌≡◌, ℕ, List, [], ◌∷◌, Option, Some, None, IfSome, refl, sym, subst, ◌∙◌}
 use Rattle.std.proofs.lemmas.Option.{IfSome_then}
+use Rattle.history.specs.Linearizability.{IsLinearizable}
+use Rattle.history.proofs.Linearizing.{placed_linearizes}
 use Rattle.step_machine.specs.Below.{Kind, TwoLock, NonBlocking, Placement, IsLegal, Setup}
 use Rattle.step_machine.specs.Machine.{World, opening, AnyMove, next_any, run, run_on, IsSized, IsReached, IsMade}
 use Rattle.step_machine.specs.Histories.{OfEachWorld, OfEachHistory}
@@ -44,6 +46,10 @@ pub reached_placed : OfEachWorld (λ w. Placement w.operations)
 reached_placed w r =
     some_of (λ v. Placement v.operations) (run r.moves (opening w.setup r.actors)) w r.led (histories_are_placed w.setup r.actors r.moves)
 
+-- and legal, so it is linearizable
+reached_linearizable : OfEachWorld (λ w. IsLinearizable w.operations)
+reached_linearizable w r = placed_linearizes w.operations (reached_placed w r) (histories_are_legal w r)
+
 -- so each history is
 pub each_placed : OfEachHistory Placement
 each_placed s actors moves sized = histories_are_placed s actors moves
@@ -52,9 +58,16 @@ pub each_legal : OfEachHistory IsLegal
 each_legal s actors moves sized =
     if_some (λ w. IsLegal w.operations) (run moves (opening s actors)) (λ w led. histories_are_legal w (reached_by s actors moves w sized led))
 
+pub each_linearizable : OfEachHistory IsLinearizable
+each_linearizable s actors moves sized =
+    if_some (λ w. IsLinearizable w.operations) (run moves (opening s actors)) (λ w led. reached_linearizable w (reached_by s actors moves w sized led))
+
 -- the history of each world that calls lead to
 pub made_placed : (w : World) → IsMade w → Placement w.operations
 made_placed w m = reached_placed w (made_reached w m)
 
 pub made_legal : (w : World) → IsMade w → IsLegal w.operations
 made_legal w m = histories_are_legal w (made_reached w m)
+
+pub made_linearizable : (w : World) → IsMade w → IsLinearizable w.operations
+made_linearizable w m = reached_linearizable w (made_reached w m)

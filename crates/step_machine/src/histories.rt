@@ -1,11 +1,21 @@
 //! Laws of all histories, of both queues at once. Each is the contract of a function that does nothing.
 ghost use Rattle.history.specs.History.{Placement, IsLegal};
+ghost use Rattle.history.specs.Linearizability.{IsLinearizable};
 ghost use Rattle.step_machine.specs.EachQueue.{ReplaysToItsValues};
 ghost use Rattle.step_machine.specs.TakingEffect.{ArePlacedByEffect, HaveTheirEffect};
 ghost use Rattle.step_machine.specs.TakingEffect.{OfOperations, OfOperationsOfCalls};
 ghost use Rattle.step_machine.specs.Spans.{ArePlacedAtTheirLines, EffectsGivePlaces};
 ghost use Rattle.step_machine.specs.Histories.{OfEachHistory, OfEachWorld};
 ghost use Rattle.step_machine.specs.Entries.{AreFew, PlaysToItsValues};
+
+/// Every history is linearizable: of either queue, of any size, greatest count and number of actors in range, and after
+/// any list of begins, steps, givings up and rests, in any order and with any actor stopped anywhere.
+///
+/// So there is an order of all completed operations and some pending ones, each once, in which an operation that ended
+/// before another began comes first, and which is a run of one first-in-first-out list that gives every reply given.
+pub fn every_history_is_linearizable()
+    ensures { OfEachHistory IsLinearizable }
+{}
 
 /// Every history is placed and legal: of either queue, of any size, greatest count and number of actors in range, and
 /// after any list of begins, steps, givings up and rests, in any order and with any actor stopped anywhere.

@@ -2,6 +2,7 @@
 ghost use Rattle.std.specs.Prelude.{◌≡◌, ◌≤◌, ◌<◌, ◌^◌, IfOk, IfErr, IfSome, IsSome, length};
 ghost use Rattle.history.specs.declared.refusals.Refusal.TheVariants.{Memory};
 ghost use Rattle.history.specs.History.{Placement, IsLegal};
+ghost use Rattle.history.specs.Linearizability.{IsLinearizable};
 ghost use Rattle.line_steps.specs.Memory.{Free, Head, Tail, Next, Value_of, content};
 ghost use Rattle.step_machine.specs.Machine.{actor_of, IsMade, IsReached};
 ghost use Rattle.step_machine.specs.TakingEffect.{HavePlacesByItsEffects};
@@ -15,8 +16,9 @@ use line_table::Line;
 use std::alloc::Global;
 
 impl World {
-    /// The operations with at least one number, by rising first number: the world's history. It is placed and legal, and
-    /// an operation has a place where it is completed, or where its E9, D13, A5 or B5 has succeeded.
+    /// The operations with at least one number, by rising first number: the world's history. It is linearizable. It is
+    /// placed and legal too, which says more: the places are linearization points. An operation has a place where it is
+    /// completed, or where its E9, D13, A5 or B5 has succeeded.
     ///
     /// Refusal: `Memory`. Takes memory for the list.
     pub fn history(&self, alloc: Global) -> Result<Vec<Stamped>, Refusal>
@@ -24,6 +26,7 @@ impl World {
         ensures made { IsMade self.now }
         ensures placed { IfOk result (λ v. Placement v.items) }
         ensures legal { IfOk result (λ v. IsLegal v.items) }
+        ensures linearizable { IfOk result (λ v. IsLinearizable v.items) }
         ensures effects { IfOk result (λ v. HavePlacesByItsEffects self.now v.items) }
         ensures refused { IfErr result (λ why. why ≡ Memory) }
     {

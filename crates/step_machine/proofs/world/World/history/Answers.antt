@@ -1,9 +1,10 @@
--- The answered list is the history of a made world, which is placed and legal.
+-- The answered list is the history of a made world, which is placed, legal and linearizable.
 use Rattle.std.proofs.Common.{rules, ◌≡◌, sym, subst}
 use Rattle.history.specs.History.{Placement, IsLegal}
+use Rattle.history.specs.Linearizability.{IsLinearizable}
 use Rattle.step_machine.specs.TakingEffect.{HavePlacesByItsEffects}
 use Rattle.step_machine.specs.Kept.{world}
-use Rattle.step_machine.proofs.EachHistory.{made_placed, made_legal}
+use Rattle.step_machine.proofs.EachHistory.{made_placed, made_legal, made_linearizable}
 use Rattle.step_machine.proofs.EffectsKept.{made_effects}
 use Rattle.step_machine.proofs.world.World.history.Goals as goal
 
@@ -16,6 +17,11 @@ pub returns-in-Ok-clause-legal : goal.returns-in-Ok-clause-legal
 returns-in-Ok-clause-legal c =
     let same : c.in-Ok.operations.items ≡ c.self.inside.operations.items = search rules in
     subst IsLegal (sym same) (made_legal (world c.self.inside) c.self.invariant.made)
+
+pub returns-in-Ok-clause-linearizable : goal.returns-in-Ok-clause-linearizable
+returns-in-Ok-clause-linearizable c =
+    let same : c.in-Ok.operations.items ≡ c.self.inside.operations.items = search rules in
+    subst IsLinearizable (sym same) (made_linearizable (world c.self.inside) c.self.invariant.made)
 
 pub returns-in-Ok-clause-effects : goal.returns-in-Ok-clause-effects
 returns-in-Ok-clause-effects c =
