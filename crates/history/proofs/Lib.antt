@@ -10,6 +10,9 @@ pub mod FirstFault
 pub mod FirstWrong
 pub mod Ordered
 pub mod Linearizing
+mod TwoOrders
+mod SmallOrders
+mod Tallying
 mod Ink
 mod Said
 mod Texts

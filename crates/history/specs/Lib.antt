@@ -5,6 +5,8 @@ pub mod Checking
 pub mod Faults
 pub mod Order
 pub mod Linearizability
+pub mod SmallHistories
+pub mod Tallies
 pub mod Devices
 pub mod Scripts
 pub mod Readers

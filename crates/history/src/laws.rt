@@ -1,14 +1,17 @@
 //! Laws of the verdict on a history and of its text, each the contract of a function that does nothing.
-ghost use Rattle.std.specs.Prelude.{◌≡◌, ◌≢◌, ◌↔◌, ℕ, List, is_some};
+ghost use Rattle.std.specs.Prelude.{◌≡◌, ◌≢◌, ◌↔◌, ◌≤◌, ℕ, List, is_some};
 ghost use Rattle.std.specs.List.{filter};
 ghost use Rattle.std.specs.List.Sorted.{IsPermutation};
 ghost use Rattle.history.specs.declared.operations.Stamped.{Stamped};
+ghost use Rattle.history.specs.declared.operations.Taken.{Taken};
 ghost use Rattle.history.specs.declared.operations.Verdict.TheVariants.{Yes, No};
 ghost use Rattle.history.specs.declared.operations.Cause.TheVariants.{Shape, Span, Shared, Reply};
 ghost use Rattle.history.specs.History.{Placement, IsLegal, rising, verdict};
 ghost use Rattle.history.specs.Faults.{FirstIsMisshapen, FirstIsOutside, FirstIsShared, FirstIsWrong};
 ghost use Rattle.history.specs.Order.{Rises};
 ghost use Rattle.history.specs.Linearizability.{IsLinearizable};
+ghost use Rattle.history.specs.Tallies.{takes, pushes};
+ghost use Rattle.history.specs.SmallHistories.{taken_too_early, push_lost, taken_twice, pending_push_taken, overlapping_pop_is_empty};
 ghost use Rattle.text_lines.specs.declared.causes.TextCause.{TextCause};
 ghost use Rattle.history.specs.HistoryText.{history_text};
 ghost use Rattle.history.specs.HistoryLines.{IsHistoryInRange, HasFirstFault};
@@ -47,6 +50,25 @@ pub fn the_order_is_by_rising_place()
 /// it. So a history that is judged `Yes` is linearizable.
 pub fn placed_and_legal_is_linearizable()
     ensures { (ops : List Stamped) → Placement ops → IsLegal ops → IsLinearizable ops }
+{}
+
+/// In a linearizable history no value is taken more often than it was pushed, by operations that were not refused.
+pub fn a_value_is_taken_at_most_as_often_as_pushed()
+    ensures { (ops : List Stamped) (v : Taken) → IsLinearizable ops → takes v ops ≤ pushes v ops }
+{}
+
+/// What is not linearizable: a value that is taken before its push began; a queue found empty after a push ended; and
+/// a value that was pushed once and is taken twice.
+pub fn wrong_histories_are_not_linearizable()
+    ensures too_early { ¬ IsLinearizable taken_too_early }
+    ensures lost { ¬ IsLinearizable push_lost }
+    ensures twice { ¬ IsLinearizable taken_twice }
+{}
+
+/// What is linearizable: a pop of the value of a pending push, and a queue found empty while a push goes on.
+pub fn overlaps_are_linearizable()
+    ensures pending { IsLinearizable pending_push_taken }
+    ensures overlapping { IsLinearizable overlapping_pop_is_empty }
 {}
 
 /// A text is that of one history in range at most.
