@@ -13,6 +13,7 @@ pub mod Linearizing
 mod TwoOrders
 mod SmallOrders
 mod Tallying
+mod Unplaced
 mod Ink
 mod Said
 mod Texts

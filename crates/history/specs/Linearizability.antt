@@ -50,3 +50,11 @@ pub record IsLinearizable (ops : List Stamped) : Type 0 where
   pub replies : AllByRecursion GivesWhatWasTold order
   pub timely : KeepsTime (operations_of order)
   pub runs : IsRun empty order
+
+-- two operations are the same but for their places
+pub record DifferInPlace (o p : Stamped) : Type 0 where
+  pub actor : p.actor ≡ o.actor
+  pub op : p.op ≡ o.op
+  pub first : p.first ≡ o.first
+  pub last : p.last ≡ o.last
+  pub reply : p.reply ≡ o.reply

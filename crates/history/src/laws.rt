@@ -1,5 +1,5 @@
 //! Laws of the verdict on a history and of its text, each the contract of a function that does nothing.
-ghost use Rattle.std.specs.Prelude.{◌≡◌, ◌≢◌, ◌↔◌, ◌≤◌, ℕ, List, is_some};
+ghost use Rattle.std.specs.Prelude.{◌≡◌, ◌≢◌, ◌↔◌, ◌≤◌, ℕ, List, map, is_some};
 ghost use Rattle.std.specs.List.{filter};
 ghost use Rattle.std.specs.List.Sorted.{IsPermutation};
 ghost use Rattle.history.specs.declared.operations.Stamped.{Stamped};
@@ -9,7 +9,7 @@ ghost use Rattle.history.specs.declared.operations.Cause.TheVariants.{Shape, Spa
 ghost use Rattle.history.specs.History.{Placement, IsLegal, rising, verdict};
 ghost use Rattle.history.specs.Faults.{FirstIsMisshapen, FirstIsOutside, FirstIsShared, FirstIsWrong};
 ghost use Rattle.history.specs.Order.{Rises};
-ghost use Rattle.history.specs.Linearizability.{IsLinearizable};
+ghost use Rattle.history.specs.Linearizability.{IsLinearizable, DifferInPlace};
 ghost use Rattle.history.specs.Tallies.{takes, pushes};
 ghost use Rattle.history.specs.SmallHistories.{taken_too_early, push_lost, taken_twice, pending_push_taken, overlapping_pop_is_empty};
 ghost use Rattle.text_lines.specs.declared.causes.TextCause.{TextCause};
@@ -49,7 +49,14 @@ pub fn the_order_is_by_rising_place()
 /// What is placed and legal is linearizable: the operations that have a place, by rising place, are an order that shows
 /// it. So a history that is judged `Yes` is linearizable.
 pub fn placed_and_legal_is_linearizable()
-    ensures { (ops : List Stamped) → Placement ops → IsLegal ops → IsLinearizable ops }
+    ensures placed { (ops : List Stamped) → Placement ops → IsLegal ops → IsLinearizable ops }
+    ensures judged { (ops : List Stamped) → verdict ops ≡ Yes → IsLinearizable ops }
+{}
+
+/// Whether a history is linearizable doesn't hang on the places of its operations.
+pub fn linearizable_reads_no_places()
+    ensures { (ops : List Stamped) (f : Stamped → Stamped) → ((o : Stamped) → DifferInPlace o (f o))
+        → IsLinearizable ops → IsLinearizable (map f ops) }
 {}
 
 /// In a linearizable history no value is taken more often than it was pushed, by operations that were not refused.
