@@ -1,7 +1,7 @@
 //! Gives a node back.
 ghost use Rattle.std.specs.Prelude.{◌≡◌, ◌≤◌, ◌<◌, None, IsSome, MatchResult, IfErr, OnOk};
-ghost use Rattle.node_arena.specs.Rule.{IsSound};
-ghost use Rattle.node_arena.specs.Seats.{IsReady, KeepsName, roles_of, view, pocket_of, failed_of};
+ghost use Rattle.history.specs.Seats.{IsSound};
+ghost use Rattle.node_arena.specs.Seats.{IsReady, KeepsName, permits_of, known_of, pocket_of, failed_of};
 ghost use Rattle.node_arena.specs.Turns.{failed_turns};
 ghost use Rattle.node_arena.specs.Walks.{HadNoEffect, SeesNoMore, added};
 ghost use Rattle.free_list.specs.Runs.{StartsGive, giving};
@@ -59,7 +59,7 @@ pub fn give_back(arena: &Arena, seat: &mut Seat, turns: u32) -> Result<(), Refus
         (λ _. pocket_of seat.new ≡ None) (λ _. pocket_of seat.new ≡ pocket_of seat.old) }
     ensures lines { HadNoEffect seat.old seat.new }
     ensures seen { SeesNoMore seat.old seat.new }
-    ensures sound { IsSound (roles_of arena.now) (view seat.new) }
+    ensures sound { IsSound (permits_of arena.now) (known_of seat.new) }
     ensures back { OnOk result (IsGivenBack arena.now seat.old seat.new) }
     ensures refused { IfErr result (GiveRefused seat.old seat.new turns) }
     ensures failed { failed_of seat.new ≡ failed_turns (added seat.old seat.new) }

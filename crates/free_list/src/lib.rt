@@ -1,7 +1,6 @@
 //! The free list on shared words: a node is taken from it, or given back.
 #![tactic(auto)]
 
-mod accessing;
 mod giving;
 mod lines;
 mod outcomes;

@@ -4,15 +4,14 @@ ghost use Rattle.line_table.specs.declared.lines.Line.TheVariants as lines;
 ghost use Rattle.node_arena.specs.Leads.{Lead, goes_on};
 ghost use Rattle.free_list.specs.Runs.{Stands, Follows};
 
-use crate::accessing::{exchanged, stored};
 use crate::outcomes::{
-    Actor, Outcome, Reply, Untold, ends, freed, goes, lets_go, raised, reference, sets_aside,
-    takes, with_node, worn,
+    Actor, Outcome, Reply, Untold, ends, freed, goes, lets_go, raised, sets_aside, takes,
+    with_node, worn,
 };
 use counted_ref::CountedRef;
 use history::{Refusal, WornWord};
 use line_table::{Line, line_table};
-use node_arena::{Arena, Seat};
+use node_arena::{Arena, Seat, exchanged, reference, stored};
 
 /// What a running call gives for the number of a step.
 const NOW: Untold = Untold;

@@ -1,6 +1,6 @@
 //! What a running call remembers, and the words of the line table's third column for it.
-ghost use Rattle.std.specs.Prelude.{◌≡◌, ◌+◌, ◌<◌, ◌≤◌, ◌%◌, ◌^◌, ◌≢◌, nat_eq, if◌then◌else◌};
-ghost use Rattle.counted_ref.specs.Ref.{ref, ref_of, node_bits, reserved_node, count_bits};
+ghost use Rattle.std.specs.Prelude.{◌≡◌, ◌<◌, ◌^◌};
+ghost use Rattle.counted_ref.specs.Ref.{reserved_node, count_bits};
 ghost use Rattle.history.specs.declared.refusals.Refusal.TheVariants.{WornOut};
 ghost use Rattle.node_arena.specs.Machine as machine;
 ghost use Rattle.free_list.specs.Runs.{told_by, turn_of, gave_of};
@@ -75,17 +75,6 @@ pub(crate) fn registers(node: u32, mark: u64) -> Actor
         node,
         mark,
         due: Untold,
-    }
-}
-
-/// The reference that a word holds.
-pub(crate) fn reference(word: u64) -> CountedRef
-    requires { word % 2 ^ node_bits ≢ reserved_node }
-    ensures { result ≡ ref_of word }
-{
-    match CountedRef::from_word(word) {
-        Some(reference) => reference,
-        None => unreachable!(),
     }
 }
 

@@ -1,7 +1,7 @@
 //! Takes a node.
 ghost use Rattle.std.specs.Prelude.{◌≡◌, ◌≤◌, Some, None, MatchResult, IfOk, IfErr};
-ghost use Rattle.node_arena.specs.Rule.{IsSound};
-ghost use Rattle.node_arena.specs.Seats.{IsReady, KeepsName, roles_of, view, pocket_of, failed_of};
+ghost use Rattle.history.specs.Seats.{IsSound};
+ghost use Rattle.node_arena.specs.Seats.{IsReady, KeepsName, permits_of, known_of, pocket_of, failed_of};
 ghost use Rattle.node_arena.specs.Turns.{failed_turns};
 ghost use Rattle.node_arena.specs.Walks.{HadNoEffect, SeesNoMore, added};
 ghost use Rattle.free_list.specs.Runs.{StartsTake, taking};
@@ -76,7 +76,7 @@ pub fn take(arena: &Arena, seat: &mut Seat, turns: u32) -> Result<Held, Refusal>
         (λ held. pocket_of seat.new ≡ Some held) (λ _. pocket_of seat.new ≡ None) }
     ensures lines { HadNoEffect seat.old seat.new }
     ensures seen { SeesNoMore seat.old seat.new }
-    ensures sound { IsSound (roles_of arena.now) (view seat.new) }
+    ensures sound { IsSound (permits_of arena.now) (known_of seat.new) }
     ensures taken { IfOk result (λ held. IsTaken arena.now seat.old seat.new held.node) }
     ensures refused { IfErr result (TakeRefused arena.now seat.old seat.new turns) }
     ensures failed { failed_of seat.new ≡ failed_turns (added seat.old seat.new) }

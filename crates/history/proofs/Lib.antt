@@ -14,6 +14,7 @@ mod TwoOrders
 mod SmallOrders
 mod Tallying
 mod Unplaced
+pub mod Learning
 mod Ink
 mod Said
 mod Texts

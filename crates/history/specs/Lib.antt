@@ -1,5 +1,9 @@
 pub mod Queue
 pub mod Entries
+pub mod Seats
+pub mod Answers
+pub mod Rests
+pub mod Closing
 pub mod History
 pub mod Checking
 pub mod Faults

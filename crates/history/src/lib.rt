@@ -1,4 +1,4 @@
-//! Operations of a queue, their histories, and the readers and writers of texts.
+//! Operations of a queue, their histories, what every queue promises, and the readers and writers of texts.
 #![tactic(auto)]
 
 mod blocks;
@@ -9,11 +9,13 @@ mod lines;
 mod operations;
 mod parsing;
 mod printing;
+mod queues;
 mod readers;
 mod reading;
 mod refusals;
 mod replaying;
 mod replies;
+mod rests;
 mod scripts;
 mod writers;
 
@@ -24,8 +26,10 @@ pub use lines::{LINE_ROOM, Line};
 pub use operations::{Body, Cause, Entry, Op, Reply, Stamped, Taken, Verdict};
 pub use parsing::parse_history;
 pub use printing::{print_history, push_call, push_reply};
+pub use queues::Fifo;
 pub use readers::{MOST_BYTES, ReaderSource};
 pub use refusals::{Refusal, WornWord};
+pub use rests::Rest;
 pub use scripts::{Script, Trouble};
 pub use text_lines::TextCause;
 pub use writers::WriterSink;

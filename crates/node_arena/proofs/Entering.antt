@@ -1,19 +1,22 @@
 -- What a step adds to the history is its own actor's, and permitted where its line is.
-use Rattle.std.proofs.Common.{◌≡◌, ◌≢◌, ℕ, ◌-◌, ◌≤◌, Bool, true, false, if◌then◌else◌, cond, zero, suc, Some, IsSomeAnd, List, [], ◌∷◌, slice_get, sym, refl, ap, subst, eq-eqb, ne_eqb, arith}
+use Rattle.std.proofs.Common.{◌≡◌, ◌≢◌, ℕ, ◌-◌, ◌≤◌, Bool, true, false, if◌then◌else◌, cond, zero, suc, Some, None, IsSomeAnd, List, [], ◌∷◌, slice_get, sym, refl, ap, subst, eq-eqb, ne_eqb, arith}
 use Rattle.std.specs.List.{All}
+use Rattle.std.proofs.lemmas.Option.{same_Some}
 use Rattle.counted_ref.specs.Ref.{same_ref}
 use Rattle.line_table.specs.declared.lines.Line.{Line}
 use Rattle.line_table.specs.declared.lines.Line.TheVariants.{E9, D13, A5, B5}
 use Rattle.history.specs.declared.operations.Taken.{Taken}
 use Rattle.history.specs.declared.operations.Entry.{Entry}
 use Rattle.history.specs.declared.operations.Entry.TheVariants.{Push, Pop}
+use Rattle.history.specs.Entries.{maker, own_entries}
+use Rattle.history.specs.Seats.{Allows}
 use Rattle.line_steps.specs.declared.actors.Setup.{Setup}
 use Rattle.line_steps.specs.declared.actors.Actor.{Actor}
 use Rattle.line_steps.specs.Memory.{Found, found}
 use Rattle.line_steps.specs.Lines.{action}
 use Rattle.node_arena.specs.declared.roles.Role.{Role}
-use Rattle.node_arena.specs.Traces.{Traced, entries_of, entries_at, maker, own_entries}
-use Rattle.node_arena.specs.Plans.{Permits, PermitsLine, IsPermitted}
+use Rattle.node_arena.specs.Traces.{Traced, entries_of, entries_at}
+use Rattle.node_arena.specs.Plans.{PermitsLine, IsPermitted, permit_of, permits_by}
 
 push_own : (me body : ℕ) → own_entries me (Push me body ∷ []) ≡ Push me body ∷ []
 push_own me body = ap (λ b. cond b (Push me body ∷ []) []) (eq-eqb me me refl)
@@ -72,8 +75,14 @@ all_one : (P : Entry → Type 0) (e : Entry) → P e → All P (e ∷ [])
 all_one P e p zero d b = p
 all_one P e p (suc k) d b = absurd (omega arith)
 
-permitted_one : (roles : List Role) (r : Role) (e : Entry) → 1 ≤ maker e → slice_get roles (maker e - 1) ≡ Some r → Permits r e → IsPermitted roles e
-permitted_one roles r e least at p = (least, subst (λ o. IsSomeAnd o (λ x. Permits x e)) (sym at) p)
+-- what a role permits stands where the role stands
+pub permits-at : (roles : List Role) (k : ℕ) (r : Role) → slice_get roles k ≡ Some r → slice_get (permits_by roles) k ≡ Some (permit_of r)
+permits-at [] k r at = absurd (let e : None ≡ Some r = at in cc)
+permits-at (x ∷ xs) zero r at = ap (λ o. Some (permit_of o)) (same_Some x r at)
+permits-at (x ∷ xs) (suc k) r at = permits-at xs k r at
+
+permitted_one : (roles : List Role) (r : Role) (e : Entry) → 1 ≤ maker e → slice_get roles (maker e - 1) ≡ Some r → Allows (permit_of r) e → IsPermitted roles e
+permitted_one roles r e least at p = (least, subst (λ o. IsSomeAnd o (λ x. Allows x e)) (sym (permits-at roles (maker e - 1) r at)) p)
 
 permitted_of : (s : Setup) (roles : List Role) (me : ℕ) (a : Actor) (l : Line) (r : Role) (c : Found (action s me a l)) → 1 ≤ me → slice_get roles (me - 1) ≡ Some r → PermitsLine r l → All (IsPermitted roles) (entries_of s me a l c)
 permitted_of s roles me a E9 r c least at p = go (same_ref c a.next)

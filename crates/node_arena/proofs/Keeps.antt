@@ -10,6 +10,7 @@ use Rattle.atomic_table.specs.Table.{State, Me, keeps, Allows}
 use Rattle.atomic_table.proofs.Lists.{at_set}
 use Rattle.line_table.specs.declared.lines.Line.{Line}
 use Rattle.history.specs.declared.operations.Entry.{Entry}
+use Rattle.history.specs.Entries.{maker, own_entries}
 use Rattle.line_steps.specs.declared.actors.Actor.{Actor}
 use Rattle.line_steps.specs.Memory.{word, found}
 use Rattle.line_steps.specs.Lines.{action}
@@ -22,7 +23,7 @@ use Rattle.step_machine.proofs.Tables.{place-place_step}
 use Rattle.step_machine.proofs.Naming.{accesses_are_one_step}
 use Rattle.step_machine.proofs.NonBlockingLaws.{each_access_names_a_word}
 use Rattle.node_arena.specs.declared.roles.Role.{Role}
-use Rattle.node_arena.specs.Traces.{Traced, IsTraced, step_at, actor_at, outcome_at, event_at, entries_at, number_at, maker, own_entries, sees}
+use Rattle.node_arena.specs.Traces.{Traced, IsTraced, step_at, actor_at, outcome_at, event_at, entries_at, number_at, sees}
 use Rattle.node_arena.specs.Leads.{Lead, led, CanLead}
 use Rattle.node_arena.specs.Seeing.{Knows, View, keeper, seated, members, knows}
 use Rattle.node_arena.specs.Plans.{Layout, IsPermitted, PermitsLine}

@@ -16,3 +16,4 @@ pub mod Deals
 pub mod Meets
 pub mod Noted
 pub mod Between
+pub mod Permits

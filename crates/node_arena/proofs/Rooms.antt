@@ -5,10 +5,10 @@ use Rattle.atomic_table.specs.declared.shared.Seat.{Seat as Token}
 use Rattle.line_table.specs.declared.lines.Line.{Line}
 use Rattle.line_table.specs.declared.lines.Line.TheVariants.{E9, D13, A5, B5}
 use Rattle.history.specs.declared.operations.Entry.{Entry}
-use Rattle.history.specs.Entries.{is_push, is_pop}
+use Rattle.history.specs.Entries.{is_push, is_pop, maker}
 use Rattle.step_machine.proofs.Few.{one_more, count, count_is, both_more, no_fewer, are_few}
 use Rattle.node_arena.specs.declared.views.Knowing.{Knowing}
-use Rattle.node_arena.specs.Traces.{Traced, IsTraced, maker}
+use Rattle.node_arena.specs.Traces.{Traced, IsTraced}
 use Rattle.node_arena.specs.declared.arena.Arena.{Arena}
 use Rattle.node_arena.specs.declared.seats.Seat.{Seat}
 use Rattle.node_arena.specs.Seeing.{Knows}

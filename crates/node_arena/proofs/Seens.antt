@@ -7,15 +7,17 @@ use Rattle.line_table.specs.declared.lines.Line.TheVariants.{E9, D13, A5, B5}
 use Rattle.history.specs.declared.operations.Entry.{Entry}
 use Rattle.history.specs.declared.operations.Entry.TheVariants.{Push, Pop}
 use Rattle.history.specs.Queue.{Queue, empty}
-use Rattle.history.specs.Entries.{Plays}
+use Rattle.history.specs.Entries.{Plays, IsLegal, own_entries}
+use Rattle.history.specs.Seats.{IsSound}
 use Rattle.line_steps.specs.declared.actors.Setup.{Setup}
 use Rattle.line_steps.specs.declared.actors.Actor.{Actor}
 use Rattle.line_steps.specs.Memory.{Found}
 use Rattle.line_steps.specs.Lines.{action}
-use Rattle.node_arena.specs.Traces.{Traced, IsTraced, entries_of, sees, IsLegal, own_entries}
+use Rattle.node_arena.specs.Traces.{Traced, IsTraced, entries_of, sees}
+use Rattle.node_arena.specs.Seeing as seeing
 use Rattle.node_arena.specs.Seeing.{Knows}
-use Rattle.node_arena.specs.Plans.{Layout, IsPermitted}
-use Rattle.node_arena.specs.Rule.{IsSound, Fitted}
+use Rattle.node_arena.specs.Plans.{Layout, IsPermitted, permits_by}
+use Rattle.node_arena.specs.Rule.{Fitted}
 use Rattle.node_arena.proofs.Tracing.{traced_reached}
 use Rattle.node_arena.proofs.Histories.{history_plays}
 use Rattle.node_arena.proofs.Told.{places_of}
@@ -88,5 +90,5 @@ pub seen_permitted : (z : Layout) (v : Knows) → Fitted z v → All (IsPermitte
 seen_permitted z v f = All-first (IsPermitted z.roles) v.seen f.fits.rest (subst (All (IsPermitted z.roles)) f.fits.begins f.permitted)
 
 -- and its own entries are just those that it has seen
-pub sound_of : (z : Layout) (v : Knows) → Fitted z v → IsSound z.roles v
+pub sound_of : (z : Layout) (v : Knows) → Fitted z v → IsSound (permits_by z.roles) (seeing.known_by v)
 sound_of z v f = record { legal = seen_legal z v f; permitted = seen_permitted z v f; own = f.fits.known }

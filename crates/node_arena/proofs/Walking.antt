@@ -3,16 +3,19 @@ use Rattle.std.proofs.Common.{◌≡◌, ℕ, ◌+◌, ◌≤◌, true, false, O
 use Rattle.std.proofs.lemmas.List.Sums.{sum_by-append}
 use Rattle.std.proofs.Math.Seq.{drop-append_seam}
 use Rattle.line_table.specs.declared.lines.Line.{Line}
+use Rattle.history.specs.declared.operations.Entry.{Entry}
+use Rattle.history.specs.Answers.{SeesMore}
+use Rattle.history.proofs.Learning.{adds_then}
 use Rattle.node_arena.specs.Machine.{Held, Actor, World, actor_of, action, found}
 use Rattle.node_arena.specs.Traces.{Event, Traced, entries_at, event_at, outcome_at, sees, step_at}
 use Rattle.node_arena.specs.Leads.{Lead, led}
-use Rattle.node_arena.specs.Seeing.{Knows}
+use Rattle.node_arena.specs.Seeing.{Knows, known_by}
 use Rattle.node_arena.specs.declared.arena.Arena.{Arena}
 use Rattle.node_arena.specs.declared.seats.Seat.{Seat}
 use Rattle.node_arena.specs.Rule.{notes_of}
 use Rattle.node_arena.specs.Seats.{IsSeat, KeepsStored, DidStep, view, keeping}
 use Rattle.node_arena.specs.Turns.{failed_at, failed_turns}
-use Rattle.node_arena.specs.Walks.{Walks, Passes, added, EndedAt, FailedAt, EndsFailed, LastHeld, NowHolds, IsSole}
+use Rattle.node_arena.specs.Walks.{Walks, Passes, Acts, added, EndedAt, FailedAt, EndsFailed, LastHeld, NowHolds, IsSole}
 use Rattle.node_arena.proofs.Tracing.{traced_reached}
 use Rattle.node_arena.proofs.Told.{sole}
 use Rattle.node_arena.proofs.Noting.{AnswersNoEmpty, notes_nothing}
@@ -40,13 +43,42 @@ no_pass v = record { walks = no_walk v; same = refl }
 pub pass_then : (v w x : Knows) (es fs : List Event) → Passes v w es → Passes w x fs → Passes v x (es ++ fs)
 pass_then v w x es fs f g = record { walks = walk_then v w x es fs f.walks g.walks; same = g.same ∙ f.same }
 
+-- a seat that went through lines sees no less
+pub sees_on : (v w : Knows) (es : List Event) → Walks v w es → SeesMore (known_by v) (known_by w)
+sees_on v w es f = record { number = f.number; between = f.rest; seen = f.seen; mine = f.mine; notes = f.notes }
+
+-- lines before those of an effect
+pub then_act : (v w x : Knows) (e e' : Entry) (es fs : List Event) → e ≡ e' → Walks v w es → Acts w x e fs → Acts v x e' (es ++ fs)
+then_act v w x e e' es fs same f g =
+    record {
+      path = g.path ∙ ap (λ p. p ++ fs) f.path ∙ append_assoc v.path es fs;
+      adds = adds_then (known_by v) (known_by w) (known_by x) e e' same (sees_on v w es f) g.adds;
+    }
+
+-- lines after those of an effect, where the seat sees nothing
+pub act_then : (v w x : Knows) (e : Entry) (es fs : List Event) → Acts v w e es → Passes w x fs → Acts v x e (es ++ fs)
+act_then v w x e es fs f g =
+    record {
+      path = g.walks.path ∙ ap (λ p. p ++ fs) f.path ∙ append_assoc v.path es fs;
+      adds = record {
+        number = g.walks.number ∙ f.adds.number;
+        between = f.adds.between;
+        seen = g.same ∙ f.adds.seen;
+        mine = g.walks.mine ∙ f.adds.mine;
+        notes = g.walks.notes ∙ f.adds.notes;
+      };
+    }
+
 -- what a seat stores stays, and then again
 pub then_stored : (s t u : Seat) → KeepsStored s t → KeepsStored t u → KeepsStored s u
 then_stored s t u f g = record { number = g.number ∙ f.number; role = g.role ∙ f.role; pocket = g.pocket ∙ f.pocket; failed = g.failed ∙ f.failed }
 
 -- what a seat's path has more is what was added
+pub added_path : (s t : Seat) (es : List Event) → (view t).path ≡ (view s).path ++ es → added s t ≡ es
+added_path s t es e = ap (drop (length (view s).path)) e ∙ drop-append_seam (view s).path es
+
 pub added_is : (s t : Seat) (es : List Event) → Walks (view s) (view t) es → added s t ≡ es
-added_is s t es w = ap (drop (length (view s).path)) w.path ∙ drop-append_seam (view s).path es
+added_is s t es w = added_path s t es w.path
 
 -- what held before the last of some lines held at a call's last step
 pub last_held : (r : Arena) (s t : Seat) (es : List Event) (P : World → Type 0) → added s t ≡ es → EndedAt r s es P → LastHeld r s t P
@@ -117,6 +149,20 @@ module _ (r : Arena) (s t : Seat) (lead : Lead) (l : Line) (n : ℕ) (d : DidSte
   -- and where the seat sees nothing
   pub pass_on : entries_at r.plan.setup d.told.was (view s).number b l ≡ [] → AnswersNoEmpty b l → sees l ≡ false → Passes (view s) (view t) (event ∷ [])
   pass_on none other blind = record { walks = walk_on none other; same = d.told.stays blind }
+
+  -- it had its effect: it added this entry
+  pub act_on : (e : Entry) → entries_at r.plan.setup d.told.was (view s).number b l ≡ e ∷ [] → AnswersNoEmpty b l → Acts (view s) (view t) e (event ∷ [])
+  act_on e one other =
+      record {
+        path = d.told.path;
+        adds = record {
+          number = d.told.number;
+          between = d.told.rest;
+          seen = d.told.seen ∙ ap (λ es. ((view s).seen ++ d.told.rest) ++ es) one;
+          mine = d.told.mine ∙ ap (λ es. (view s).mine ++ es) one;
+          notes = d.told.notes ∙ ap (λ ks. (view s).notes ++ ks) (notes_nothing r.plan.setup (d.told.was.world.steps + 1) (view s).number b l (found (action r.plan.setup (view s).number b l) d.told.was.world.shared) (view t).seen other) ∙ append-nil (view s).notes;
+        };
+      }
 
   -- the step went where the actor now stands
   pub to_is : event.to ≡ (view t).actor.line

@@ -1,14 +1,14 @@
 -- What an arena is made for: its setup, and the role of each seat.
-use Rattle.std.specs.Prelude.{◌-◌, ◌≤◌, Bool, true, false, IsTrue, List, length, IsSomeAnd, slice_get}
+use Rattle.std.specs.Prelude.{Bool, true, false, IsTrue, List, length, map}
 use Rattle.line_table.specs.declared.lines.Line.{Line}
 use Rattle.line_table.specs.declared.lines.Line.TheVariants.{E9, D13, A5, B5}
 use Rattle.history.specs.declared.operations.Entry.{Entry}
-use Rattle.history.specs.declared.operations.Entry.TheVariants.{Push, Pop}
+use Rattle.history.specs.Seats as seats
+use Rattle.history.specs.Seats.{Permit}
 use Rattle.line_steps.specs.declared.actors.Setup.{Setup}
 use Rattle.step_machine.specs.Machine.{IsSized}
 use Rattle.node_arena.specs.declared.roles.Role.{Role}
 use Rattle.node_arena.specs.declared.roles.Role.TheVariants.{Giver, Taker, Both}
-use Rattle.node_arena.specs.Traces.{maker}
 
 -- the plan of an arena: the kind of queue, how many nodes and the greatest count, and the roles of the seats from 1 on
 pub record Layout : Type 0 where
@@ -27,10 +27,13 @@ may_pop Giver = false
 may_pop Taker = true
 may_pop Both = true
 
--- a role permits an entry: a push of who may push, a pop of who may pop
-abbrev pub Permits : Role → Entry → Type 0
-Permits r (Push seat body) = IsTrue (may_push r)
-Permits r (Pop seat value) = IsTrue (may_pop r)
+-- what a role permits
+abbrev pub permit_of : Role → Permit
+permit_of r = record { pushes = may_push r; pops = may_pop r }
+
+-- what each seat may do, by the roles
+abbrev pub permits_by : List Role → List Permit
+permits_by roles = map permit_of roles
 
 -- a role permits what a line adds to the history
 abbrev pub PermitsLine : Role → Line → Type 0
@@ -42,7 +45,7 @@ PermitsLine r l = Unit {0}
 
 -- an entry is permitted by the role of its seat
 abbrev pub IsPermitted : List Role → Entry → Type 0
-IsPermitted roles e = (1 ≤ maker e) × IsSomeAnd (slice_get roles (maker e - 1)) (λ r. Permits r e)
+IsPermitted roles e = seats.IsPermitted (permits_by roles) e
 
 -- a plan's sizes are in their ranges
 abbrev pub IsPlanned : Layout → Type 0

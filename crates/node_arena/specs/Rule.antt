@@ -9,10 +9,10 @@ use Rattle.line_table.specs.declared.lines.Line.TheVariants.{N1}
 use Rattle.history.specs.declared.operations.Entry.{Entry}
 use Rattle.history.specs.declared.operations.Reply.{Reply}
 use Rattle.history.specs.declared.operations.Reply.TheVariants.{Empty}
+use Rattle.history.specs.Entries.{own_entries}
 use Rattle.step_machine.specs.Words.{words_of}
 use Rattle.step_machine.specs.Machine.{idle, actor_of}
-use Rattle.node_arena.specs.declared.roles.Role.{Role}
-use Rattle.node_arena.specs.Traces.{Traced, IsTraced, step_at, actor_at, outcome_at, event_at, entries_at, number_at, own_entries, sees, IsLegal}
+use Rattle.node_arena.specs.Traces.{Traced, IsTraced, step_at, actor_at, outcome_at, event_at, entries_at, number_at, sees}
 use Rattle.node_arena.specs.Leads.{Lead, led}
 use Rattle.node_arena.specs.Seeing.{Knows, View, keeper, seated, paired, members, knows}
 use Rattle.node_arena.specs.Plans.{Layout, IsPlanned, IsPermitted}
@@ -26,13 +26,6 @@ pub record Fits (t : Traced) (v : Knows) : Type 0 where
   pub begins : t.history ≡ v.seen ++ rest
   pub own : own_entries v.number t.history ≡ v.mine
   pub known : own_entries v.number v.seen ≡ v.mine
-
--- what a seat knows is sound: what it has seen is legal and permitted by the roles, and its own entries are just those that
--- it has seen
-pub record IsSound (roles : List Role) (v : Knows) : Type 0 where
-  pub legal : IsLegal v.seen
-  pub permitted : All (IsPermitted roles) v.seen
-  pub own : own_entries v.number v.seen ≡ v.mine
 
 -- nothing was done by a number
 pub record IsNew (t : Traced) (n : ℕ) : Type 0 where

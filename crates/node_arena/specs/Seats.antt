@@ -5,6 +5,7 @@ use Rattle.line_table.specs.declared.lines.Line.{Line}
 use Rattle.line_table.specs.declared.lines.Line.TheVariants.{E9, D13, A5, B5}
 use Rattle.history.specs.declared.operations.Entry.{Entry}
 use Rattle.history.specs.Entries.{is_push, is_pop}
+use Rattle.history.specs.Seats.{Permit, Known, IsSound}
 use Rattle.line_steps.specs.declared.actors.Setup.{Setup}
 use Rattle.line_steps.specs.declared.actors.Held.{Held}
 use Rattle.line_steps.specs.Lines.{action}
@@ -14,9 +15,9 @@ use Rattle.node_arena.specs.declared.roles.Role.{Role}
 use Rattle.node_arena.specs.declared.arena.Arena.{Arena}
 use Rattle.node_arena.specs.declared.seats.Seat.{Seat}
 use Rattle.node_arena.specs.Leads.{Lead, led, at_rest, CanLead}
-use Rattle.node_arena.specs.Seeing.{Knows, seated, knows}
-use Rattle.node_arena.specs.Plans.{Layout, IsPlanned, PermitsLine}
-use Rattle.node_arena.specs.Rule.{IsSound, Steps, Fitted}
+use Rattle.node_arena.specs.Seeing.{Knows, seated, knows, known_by}
+use Rattle.node_arena.specs.Plans.{Layout, IsPlanned, PermitsLine, permits_by}
+use Rattle.node_arena.specs.Rule.{Steps, Fitted}
 
 -- the plan of an arena
 abbrev pub plan_of : Arena → Layout
@@ -26,13 +27,17 @@ plan_of r = r.plan
 abbrev pub setup_of : Arena → Setup
 setup_of r = r.plan.setup
 
--- the roles of an arena's seats
-abbrev pub roles_of : Arena → List Role
-roles_of r = r.plan.roles
+-- what each seat of an arena may do
+abbrev pub permits_of : Arena → List Permit
+permits_of r = permits_by r.plan.roles
 
 -- what a seat knows
 abbrev pub view : Seat → Knows
 view s = knows s.token.me.0
+
+-- what a seat knows of its queue
+abbrev pub known_of : Seat → Known
+known_of s = known_by (view s)
 
 -- the number of a seat
 abbrev pub number_of : Seat → ℕ
@@ -83,7 +88,7 @@ pub record IsSeat (r : Arena) (s : Seat) : Type 0 where
 
 -- what each seat of any arena knows is sound
 abbrev pub EachSeatIsSound : Type 0
-EachSeatIsSound = (r : Arena) (s : Seat) → IsSeat r s → IsSound r.plan.roles (view s)
+EachSeatIsSound = (r : Arena) (s : Seat) → IsSeat r s → IsSound (permits_of r) (known_of s)
 
 -- the seat keeps its number, its role, its pocket and its count of failed turns
 pub record KeepsStored (s t : Seat) : Type 0 where

@@ -1,6 +1,7 @@
 -- What a seat knows.
 use Rattle.std.specs.Prelude.{ℕ, ◌+◌, List, [], ◌∷◌, ◌++◌}
 use Rattle.history.specs.declared.operations.Entry.{Entry}
+use Rattle.history.specs.Seats.{Known}
 use Rattle.line_steps.specs.declared.actors.Actor.{Actor}
 use Rattle.step_machine.specs.Machine.{idle}
 use Rattle.node_arena.specs.Traces.{Event}
@@ -14,6 +15,10 @@ pub record Knows : Type 0 where
   pub seen : List Entry
   pub mine : List Entry
   pub notes : List ℕ
+
+-- what a seat knows of its queue
+abbrev pub known_by : Knows → Known
+known_by v = record { number = v.number; seen = v.seen; mine = v.mine; notes = v.notes }
 
 -- the views of the table: the first one deals numbers; one that gathers has what closed seats knew; two seats are one
 -- while they meet; a spent one knows nothing

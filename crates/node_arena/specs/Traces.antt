@@ -1,11 +1,11 @@
 -- Traced worlds: a world, the path of each actor, and the entries of all calls that had their effect.
 use Rattle.std.specs.Prelude.{◌≡◌, ◌⊎◌, ℕ, ◌+◌, ◌<◌, ◌≤◌, Bool, true, false, if◌then◌else◌, nat_eq, List, [], ◌∷◌, ◌++◌, length, take, Option, Some, None}
-use Rattle.std.specs.List.{count_by, filter}
+use Rattle.std.specs.List.{count_by}
 use Rattle.line_table.specs.declared.lines.Line.{Line}
 use Rattle.line_table.specs.declared.lines.Line.TheVariants.{E9, D4, D13, A5, B3, B5}
 use Rattle.history.specs.declared.operations.Entry.{Entry}
 use Rattle.history.specs.declared.operations.Entry.TheVariants.{Push, Pop}
-use Rattle.history.specs.Queue.{Queue, empty}
+use Rattle.history.specs.Queue.{empty}
 use Rattle.history.specs.Entries.{is_pop, Plays}
 use Rattle.counted_ref.specs.Ref.{same_ref}
 use Rattle.line_steps.specs.declared.actors.Setup.{Setup}
@@ -135,15 +135,6 @@ pub record IsTraced (t : Traced) : Type 0 where
   pub sized : IsSized t.world.setup actors
   pub led : trace moves (first_trace t.world.setup actors) ≡ Some t
 
--- whose entry it is
-abbrev pub maker : Entry → ℕ
-maker (Push seat body) = seat
-maker (Pop seat value) = seat
-
--- the entries of one seat
-abbrev pub own_entries : ℕ → List Entry → List Entry
-own_entries me es = filter (λ e. nat_eq (maker e) me) es
-
 -- the history leads from the empty queue to the values in the chain from Head
 abbrev pub PlaysToItsValues : Traced → Type 0
 PlaysToItsValues t =
@@ -164,7 +155,3 @@ abbrev pub KeepsWhatD4Found : Traced → Type 0
 KeepsWhatD4Found t =
     (me : ℕ) (a : Actor) (before : List Event) (last : Event) → actor_of t.world me ≡ Some a → t.paths me ≡ before ++ last ∷ [] →
     last.line ≡ D4 → a.next.node ≡ 0 → LeftNothing t a last.entries
-
--- entries are those of a first-in-first-out list
-abbrev pub IsLegal : List Entry → Type 0
-IsLegal es = (after : Queue) × Plays empty es after

@@ -4,6 +4,7 @@ use Rattle.history.specs.declared.operations.Entry.{Entry}
 use Rattle.history.specs.declared.refusals.Refusal.{Refusal}
 use Rattle.history.specs.declared.refusals.Refusal.TheVariants.{WornOut}
 use Rattle.history.specs.declared.refusals.WornWord.TheVariants.{Next as OfNext}
+use Rattle.history.specs.Answers.{Adds}
 use Rattle.line_steps.specs.Memory.{node_at}
 use Rattle.step_machine.specs.Machine.{World, actor_of}
 use Rattle.step_machine.specs.Places.{IsQueued, IsFree, held, in_hand}
@@ -11,7 +12,7 @@ use Rattle.step_machine.specs.EachQueue.{HasCause}
 use Rattle.node_arena.specs.declared.arena.Arena.{Arena}
 use Rattle.node_arena.specs.declared.seats.Seat.{Seat}
 use Rattle.node_arena.specs.Traces.{Event, Traced, IsTraced}
-use Rattle.node_arena.specs.Seeing.{Knows}
+use Rattle.node_arena.specs.Seeing.{Knows, known_by}
 use Rattle.node_arena.specs.Seats.{view}
 use Rattle.node_arena.specs.Turns.{failed_at}
 
@@ -29,6 +30,12 @@ pub record Walks (v v' : Knows) (added : List Event) : Type 0 where
 pub record Passes (v v' : Knows) (added : List Event) : Type 0 where
   pub walks : Walks v v' added
   pub same : v'.seen ≡ v.seen
+
+-- a seat went through these lines, and its call had its effect at one of them: what the seat has seen goes on and ends with
+-- this entry, which is one more of its own
+pub record Acts (v v' : Knows) (e : Entry) (lines : List Event) : Type 0 where
+  pub path : v'.path ≡ v.path ++ lines
+  pub adds : Adds (known_by v) e (known_by v')
 
 -- what a call added to its seat's path
 abbrev pub added : Seat → Seat → List Event

@@ -1,6 +1,7 @@
 //! The shared words of a queue, with a seat for each actor, under the rule that words and seats are a world's.
 #![tactic(auto)]
 
+mod accessing;
 mod arena;
 mod dealing;
 pub mod laws;
@@ -11,6 +12,7 @@ mod seats;
 mod stepping;
 mod views;
 
+pub use accessing::{exchanged, masked, reference, stored};
 pub use arena::Arena;
 pub use plans::Plan;
 pub use roles::Role;

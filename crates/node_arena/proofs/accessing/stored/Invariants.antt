@@ -1,5 +1,5 @@
 use Rattle.node_arena.specs.Leads.{goes_on}
-use Rattle.free_list.proofs.accessing.stored.Given as goal
+use Rattle.node_arena.proofs.accessing.stored.Given as goal
 
 abbrev pub ghost-store : goal.ghost-store
 ghost-store a = goes_on

@@ -1,0 +1,5 @@
+use Rattle.history.proofs.Learning.{answers_then}
+use Rattle.history.proofs.queues.Fifo.pop.Goals as goal
+
+pub returns-in-Ok-clause-answer : goal.returns-in-Ok-clause-answer
+returns-in-Ok-clause-answer g c = answers_then _ _ _ c.in-Ok.taken c.loop.invariant.more c.in-Ok.ensures.answer

@@ -1,0 +1,78 @@
+-- What a call of a queue tells its seat.
+use Rattle.std.specs.Prelude.{◌≡◌, ℕ, List, [], ◌∷◌, ◌++◌, length, Option, Some, None}
+use Rattle.history.specs.declared.operations.Entry.{Entry}
+use Rattle.history.specs.declared.operations.Entry.TheVariants.{Push, Pop}
+use Rattle.history.specs.declared.operations.Taken.{Taken}
+use Rattle.history.specs.declared.refusals.Refusal.{Refusal}
+use Rattle.history.specs.declared.refusals.Refusal.TheVariants.{NoNode, WornOut, Busy}
+use Rattle.history.specs.Entries.{LeadsTo}
+use Rattle.history.specs.Seats.{Known}
+
+-- a call had its effect: what the seat has seen goes on from what it had seen and ends with the entry, which is one more of
+-- its own
+pub record Adds (k : Known) (e : Entry) (k' : Known) : Type 0 where
+  pub number : k'.number ≡ k.number
+  pub between : List Entry
+  pub seen : k'.seen ≡ (k.seen ++ between) ++ e ∷ []
+  pub mine : k'.mine ≡ k.mine ++ e ∷ []
+  pub notes : k'.notes ≡ k.notes
+
+-- a body was pushed
+abbrev pub Pushed : Known → (body : ℕ) → Known → Type 0
+Pushed k body k' = Adds k (Push k.number body) k'
+
+-- a value was popped
+abbrev pub Popped : Known → Taken → Known → Type 0
+Popped k value k' = Adds k (Pop k.number value) k'
+
+-- the queue was found empty: what the seat has seen goes on from what it had seen and leaves the empty queue, which is noted
+pub record FoundEmpty (k k' : Known) : Type 0 where
+  pub number : k'.number ≡ k.number
+  pub between : List Entry
+  pub seen : k'.seen ≡ k.seen ++ between
+  pub empty : LeadsTo k'.seen []
+  pub mine : k'.mine ≡ k.mine
+  pub notes : k'.notes ≡ k.notes ++ length k'.seen ∷ []
+
+-- nothing was done: what the seat has seen goes on from what it had seen, and all else is as before
+pub record SeesMore (k k' : Known) : Type 0 where
+  pub number : k'.number ≡ k.number
+  pub between : List Entry
+  pub seen : k'.seen ≡ k.seen ++ between
+  pub mine : k'.mine ≡ k.mine
+  pub notes : k'.notes ≡ k.notes
+
+-- what a pop answers: the front value, or that there is none
+abbrev pub PopAnswers : Known → Option Taken → Known → Type 0
+PopAnswers k None k' = FoundEmpty k k'
+PopAnswers k (Some value) k' = Popped k value k'
+
+-- a push may be refused so: there was no node, a word was worn out, or others were in the way
+abbrev pub StopsPush : Refusal → Type 0
+StopsPush NoNode = Unit {0}
+StopsPush (WornOut word) = Unit {0}
+StopsPush Busy = Unit {0}
+StopsPush _ = ⊥
+
+-- a pop may be refused so: a word was worn out, or others were in the way
+abbrev pub StopsPop : Refusal → Type 0
+StopsPop (WornOut word) = Unit {0}
+StopsPop Busy = Unit {0}
+StopsPop _ = ⊥
+
+-- a push that waits may be refused so: there was no node, or a word was worn out
+abbrev pub EndsPush : Refusal → Type 0
+EndsPush NoNode = Unit {0}
+EndsPush (WornOut word) = Unit {0}
+EndsPush _ = ⊥
+
+-- a pop that waits may be refused so: a word was worn out
+abbrev pub EndsPop : Refusal → Type 0
+EndsPop (WornOut word) = Unit {0}
+EndsPop _ = ⊥
+
+-- two seats met: both have seen one history, which begins with what each had seen
+pub record Meets (one other one' other' : Known) : Type 0 where
+  pub same : other'.seen ≡ one'.seen
+  pub first : SeesMore one one'
+  pub second : SeesMore other other'

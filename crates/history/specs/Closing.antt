@@ -1,0 +1,37 @@
+-- What is known of a queue that was closed.
+use Rattle.std.specs.Prelude.{◌≡◌, ◌↔◌, ℕ, ◌+◌, ◌≤◌, IsTrue, List, length, IsSomeAnd, slice_get}
+use Rattle.std.specs.List.{All, count_by, sum_by}
+use Rattle.history.specs.declared.operations.Entry.{Entry}
+use Rattle.history.specs.declared.rests.Rest.{Rest}
+use Rattle.history.specs.Entries.{is_push, is_pop, maker, own_entries, LeadsTo}
+use Rattle.history.specs.Seats.{Permit, Known, IsPermitted}
+use Rattle.history.specs.Rests.{left_of, taken_of, whole_of}
+
+-- how many pushes these seats made
+abbrev pub pushes_of : List Known → ℕ
+pushes_of seats = sum_by (λ k. count_by is_push k.mine) seats
+
+-- how many pops these seats made
+abbrev pub pops_of : List Known → ℕ
+pops_of seats = sum_by (λ k. count_by is_pop k.mine) seats
+
+-- an entry is of one of these seats
+abbrev pub IsOfOne : List Known → Entry → Type 0
+IsOfOne seats e = (n : ℕ) × IsSomeAnd (slice_get seats n) (λ k. maker e ≡ k.number)
+
+-- each seat that the queue gave is among these
+abbrev pub AreAll : List Permit → List Known → Type 0
+AreAll permits seats = (n : ℕ) → 1 ≤ n → n ≤ length permits → (i : ℕ) × IsSomeAnd (slice_get seats i) (λ k. k.number ≡ n)
+
+-- a queue was closed by these seats: a legal history that has just their own entries as theirs leads to the values left, and
+-- its pops were counted; it is whole exactly where these seats made that many pops, and pushes for those and the values left,
+-- and then it has their entries and no others; where each seat is handed in, it is whole
+pub record Closes (permits : List Permit) (seats : List Known) (rest : Rest) : Type 0 where
+  pub history : List Entry
+  pub leads : LeadsTo history (left_of rest)
+  pub permitted : All (IsPermitted permits) history
+  pub own : All (λ k. own_entries k.number history ≡ k.mine) seats
+  pub counted : taken_of rest ≡ count_by is_pop history
+  pub whole : IsTrue (whole_of rest) ↔ ((pops_of seats ≡ taken_of rest) × (pushes_of seats ≡ taken_of rest + length (left_of rest)))
+  pub theirs : IsTrue (whole_of rest) → All (IsOfOne seats) history
+  pub all : AreAll permits seats → IsTrue (whole_of rest)

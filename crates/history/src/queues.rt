@@ -1,0 +1,140 @@
+//! What every queue promises, whichever it is.
+ghost use Rattle.std.specs.Prelude.{◌≡◌, ◌≤◌, ◌↔◌, IsTrue, List, map, IfErr, IfOk, OnOk, OnErr};
+ghost use Rattle.std.specs.List.{All};
+ghost use Rattle.history.specs.Seats.{Known, Permit, IsSound, MayPush, MayPop};
+ghost use Rattle.history.specs.Answers.{Pushed, PopAnswers, SeesMore, Meets, StopsPush, StopsPop, EndsPush, EndsPop};
+ghost use Rattle.history.specs.Closing.{Closes};
+
+use crate::operations::{Body, Taken};
+use crate::refusals::Refusal;
+use crate::rests::Rest;
+use crossbeam_utils::Backoff;
+use std::alloc::Global;
+use std::sync::Wait;
+
+/// How many turns a waiting call takes before it lets others go on.
+const TURNS: u32 = 8;
+
+/// A first-in-first-out queue that threads share, each with a seat of its own.
+///
+/// A seat belongs to the queue that gave it. There is one history of pushes and pops in the order in which they had their
+/// effect. Each seat has seen a beginning of it, and each call tells its seat more.
+pub trait Fifo {
+    /// What a thread holds in order to call the queue.
+    type Seat: Send + Drop;
+
+    // The seat is one of this queue's, and in no call.
+    ghost is_seat: { Self → Self.Seat → Type 0 };
+
+    // What each seat may do, from number 1 on.
+    ghost permits: { Self → List Permit };
+
+    // What a seat knows.
+    ghost known: { Self.Seat → Known };
+
+    /// Pushes a body at the back, in so many turns at most, 1 or more. The seat may push.
+    ///
+    /// Refusals: `NoNode`, `WornOut` and `Busy`; the queue is then as if the call had not been. Takes no memory and
+    /// doesn't wait.
+    fn try_push(&self, seat: &mut Self::Seat, body: Body, turns: u32) -> Result<(), Refusal>
+        requires seat { is_seat self.now seat.old }
+        requires role { MayPush (permits self.now) (known seat.old).number }
+        requires turns { 1 ≤ turns }
+        ensures seat { is_seat self.now seat.new }
+        ensures number { (known seat.new).number ≡ (known seat.old).number }
+        ensures pushed { OnOk result (Pushed (known seat.old) body (known seat.new)) }
+        ensures refused { OnErr result (SeesMore (known seat.old) (known seat.new)) }
+        ensures why { IfErr result StopsPush };
+
+    /// Takes the value at the front, in so many turns at most, 1 or more; none where the queue was empty. The seat may
+    /// pop.
+    ///
+    /// Refusals: `WornOut` and `Busy`; the queue is then as if the call had not been. Takes no memory and doesn't wait.
+    fn try_pop(&self, seat: &mut Self::Seat, turns: u32) -> Result<Option<Taken>, Refusal>
+        requires seat { is_seat self.now seat.old }
+        requires role { MayPop (permits self.now) (known seat.old).number }
+        requires turns { 1 ≤ turns }
+        ensures seat { is_seat self.now seat.new }
+        ensures number { (known seat.new).number ≡ (known seat.old).number }
+        ensures answer { IfOk result (λ taken. PopAnswers (known seat.old) taken (known seat.new)) }
+        ensures refused { OnErr result (SeesMore (known seat.old) (known seat.new)) }
+        ensures why { IfErr result StopsPop };
+
+    /// Afterwards both seats have seen one history, which begins with what each had seen. Takes no memory and doesn't
+    /// wait.
+    fn meet(&self, one: &mut Self::Seat, other: &mut Self::Seat)
+        requires one { is_seat self.now one.old }
+        requires other { is_seat self.now other.old }
+        ensures one { is_seat self.now one.new }
+        ensures other { is_seat self.now other.new }
+        ensures meets { Meets (known one.old) (known other.old) (known one.new) (known other.new) };
+
+    /// Whether the seat may push. Takes no memory and doesn't wait.
+    fn may_push(&self, seat: &Self::Seat) -> bool
+        requires { is_seat self.now seat.now }
+        ensures { IsTrue result ↔ MayPush (permits self.now) (known seat.now).number };
+
+    /// Whether the seat may pop. Takes no memory and doesn't wait.
+    fn may_pop(&self, seat: &Self::Seat) -> bool
+        requires { is_seat self.now seat.now }
+        ensures { IsTrue result ↔ MayPop (permits self.now) (known seat.now).number };
+
+    /// Ends the queue and the seats handed in: what is left, how many values were taken, and whether these seats made all
+    /// pushes and pops.
+    ///
+    /// Refused by `Memory` alone; the queue is then given up. Takes memory for the values left, and doesn't wait.
+    fn close(self, alloc: Global, seats: Vec<Self::Seat>) -> Result<Rest, Refusal>
+        requires { All (is_seat self) seats.items }
+        ensures rest { IfOk result (λ rest. Closes (permits self) (map known seats.items) rest) }
+        ensures only_memory { IfErr result (λ why. why ≡ Refusal.Memory) };
+
+    // What a seat of the queue knows is sound.
+    ghost sound: { (queue : Self) (seat : Self.Seat) → is_seat queue seat → IsSound (permits queue) (known seat) };
+
+    /// Pushes a body at the back, and tries again while others are in the way. The seat may push.
+    ///
+    /// Refusals: `NoNode` and `WornOut`; the queue is then as if the call had not been. Takes no memory, and waits.
+    final fn push<R: Wait>(&self, rt: &R, seat: &mut Self::Seat, body: Body) -> Result<(), Refusal>
+        requires seat { is_seat self.now seat.old }
+        requires role { MayPush (permits self.now) (known seat.old).number }
+        ensures seat { is_seat self.now seat.new }
+        ensures number { (known seat.new).number ≡ (known seat.old).number }
+        ensures pushed { OnOk result (Pushed (known seat.old) body (known seat.new)) }
+        ensures refused { OnErr result (SeesMore (known seat.old) (known seat.new)) }
+        ensures why { IfErr result EndsPush }
+    {
+        let backoff = Backoff::new();
+        for _ in rt.forever() {
+            match self.try_push(seat, body, TURNS) {
+                Ok(()) => return Ok(()),
+                Err(Refusal::Busy) => backoff.snooze(),
+                Err(why) => return Err(why),
+            }
+        }
+        unreachable!()
+    }
+
+    /// Takes the value at the front, and tries again while others are in the way; none where the queue was empty. The seat
+    /// may pop.
+    ///
+    /// Refused by `WornOut` alone; the queue is then as if the call had not been. Takes no memory, and waits.
+    final fn pop<R: Wait>(&self, rt: &R, seat: &mut Self::Seat) -> Result<Option<Taken>, Refusal>
+        requires seat { is_seat self.now seat.old }
+        requires role { MayPop (permits self.now) (known seat.old).number }
+        ensures seat { is_seat self.now seat.new }
+        ensures number { (known seat.new).number ≡ (known seat.old).number }
+        ensures answer { IfOk result (λ taken. PopAnswers (known seat.old) taken (known seat.new)) }
+        ensures refused { OnErr result (SeesMore (known seat.old) (known seat.new)) }
+        ensures why { IfErr result EndsPop }
+    {
+        let backoff = Backoff::new();
+        for _ in rt.forever() {
+            match self.try_pop(seat, TURNS) {
+                Ok(taken) => return Ok(taken),
+                Err(Refusal::Busy) => backoff.snooze(),
+                Err(why) => return Err(why),
+            }
+        }
+        unreachable!()
+    }
+}

@@ -1,0 +1,9 @@
+pub mod Values
+pub mod PushSteps
+pub mod PushStands
+pub mod PushTries
+pub mod Pushes
+pub mod PopSteps
+pub mod PopStands
+pub mod Fronts
+pub mod Pops

@@ -1,0 +1,170 @@
+-- A running pop: what it remembers before each line, and what it answers.
+use Rattle.std.specs.Prelude.{◌≡◌, ℕ, zero, suc, ◌+◌, ◌≤◌, ◌<◌, ◌⊎◌, Bool, true, false, if◌then◌else◌, nat_eq, List, ◌++◌, Option, Some, None, Result, IfOk, IfErr}
+use Rattle.counted_ref.specs.Ref.{ref_of, is_null}
+use Rattle.line_table.specs.declared.lines.Line.{Line}
+use Rattle.line_table.specs.declared.lines.Line.TheVariants.{B1, B2, B3, B4, B5, B6, F1}
+use Rattle.history.specs.declared.operations.Entry.TheVariants.{Pop}
+use Rattle.history.specs.declared.operations.Op.TheVariants.{Deq}
+use Rattle.history.specs.declared.operations.Reply as replies
+use Rattle.history.specs.declared.operations.Reply.TheVariants as reply
+use Rattle.history.specs.declared.operations.Taken.{Taken}
+use Rattle.history.specs.declared.refusals.Refusal.{Refusal}
+use Rattle.history.specs.declared.refusals.Refusal.TheVariants.{WornOut, Busy}
+use Rattle.history.specs.declared.refusals.WornWord.TheVariants.{Head as OfHead}
+use Rattle.history.specs.Answers.{FoundEmpty, PopAnswers}
+use Rattle.node_arena.specs.Machine.{Setup, Actor}
+use Rattle.node_arena.specs.Traces.{Event}
+use Rattle.node_arena.specs.Leads.{Lead, begins, goes_on, led, CanLead}
+use Rattle.node_arena.specs.declared.arena.Arena.{Arena}
+use Rattle.node_arena.specs.declared.seats.Seat.{Seat}
+use Rattle.node_arena.specs.Seeing.{known_by}
+use Rattle.node_arena.specs.Seats.{IsSeat, IsReady, KeepsStored, KeepsName, DidStep, view, known_of, pocket_of}
+use Rattle.node_arena.specs.Turns.{failed_turns}
+use Rattle.node_arena.specs.Walks.{Walks, Acts, HadNoEffect, FailedAt, EndsFailed, EndedAt, MetCause, HasOwnCause, added}
+use Rattle.two_lock.specs.Values.{value_of}
+use Rattle.two_lock.specs.declared.pop_outcomes.Actor.{Actor as Running}
+use Rattle.two_lock.specs.declared.pop_outcomes.Reply.{Reply}
+use Rattle.two_lock.specs.declared.pop_outcomes.Reply.TheVariants.{Value as IsValue, Empty as IsEmpty, Refused as IsRefused}
+use Rattle.two_lock.specs.declared.pop_outcomes.Outcome.{Outcome}
+use Rattle.two_lock.specs.declared.pop_outcomes.Outcome.TheVariants.{Goes, Empty, Refused}
+
+-- how a pop sets out: its first turn begins a dequeue, and a later one goes on
+abbrev pub popping : ℕ → Lead
+popping zero = begins Deq
+popping (suc n) = goes_on
+
+-- where a pop goes once the lock was let go: a value's node is freed, and else the call ends
+abbrev pub unlocked_as : Option Reply → Running → Outcome
+unlocked_as None a = Goes F1 a
+unlocked_as (Some (IsValue word)) a = Goes F1 a
+unlocked_as (Some IsEmpty) a = Empty
+unlocked_as (Some (IsRefused why)) a = Refused why
+
+-- what a running pop makes of the number found at a line
+abbrev pub follow : Setup → Running → Line → ℕ → Outcome
+follow z a B1 n = if nat_eq n 0 then Goes B2 a else Goes B1 a
+follow z a B2 n = Goes B3 (record a { head = ref_of n })
+follow z a B3 n =
+    let b = record a { next = ref_of n } in
+    if is_null (ref_of n) then Goes B6 (record b { due = Some IsEmpty }) else Goes B4 b
+follow z a B4 n =
+    let b = record a { val = n } in
+    if nat_eq a.head.count z.limit then Goes B6 (record b { due = Some (IsRefused (WornOut OfHead)) }) else Goes B5 b
+follow z a B5 n = Goes B6 (record a { node = a.head.node; mark = a.next.count; due = Some (IsValue a.val) })
+follow z a B6 n = unlocked_as a.due a
+follow z a l n = Goes l a
+
+-- whether a try of the lock got it
+abbrev pub has_lock : Outcome → Bool
+has_lock (Goes B2 a) = true
+has_lock outcome = false
+
+-- the reply that is due, in the words of the machine
+abbrev pub told_by : Option Reply → Option replies.Reply
+told_by None = None
+told_by (Some (IsValue word)) = Some (reply.Value (value_of word))
+told_by (Some IsEmpty) = Some reply.Empty
+told_by (Some (IsRefused why)) = Some (reply.Refused why)
+
+-- what is due, and with a value the node that comes free
+pub record KnowsDue (b : Actor) (a : Running) (due : Option Reply) : Type 0 where
+  pub told : b.due ≡ told_by due
+  pub node : (word : ℕ) → due ≡ Some (IsValue word) → b.node ≡ a.node
+  pub mark : (word : ℕ) → due ≡ Some (IsValue word) → b.mark ≡ a.mark
+
+-- what a running pop knows of its actor's registers before a line
+abbrev pub KnowsAt : Setup → Line → Actor → Running → Type 0
+KnowsAt z B3 b a = b.head ≡ a.head
+KnowsAt z B4 b a = (b.head ≡ a.head) × (b.next ≡ a.next)
+KnowsAt z B5 b a = (b.head ≡ a.head) × (b.next ≡ a.next) × (b.val ≡ value_of a.val) × (a.head.count < z.limit)
+KnowsAt z B6 b a = KnowsDue b a a.due
+KnowsAt z l b a = Unit {0}
+
+-- a seat's actor, led there, stands before a line of a pop with an empty pocket
+pub record IsBefore (r : Arena) (s : Seat) (lead : Lead) (l : Line) : Type 0 where
+  pub seat : IsSeat r s
+  pub can : CanLead lead (view s).actor
+  pub line : (led r.plan.setup (view s).number lead (view s).actor).line ≡ Some l
+  pub empty : (led r.plan.setup (view s).number lead (view s).actor).pocket ≡ None
+
+-- and the call knows its registers
+pub record Stands (r : Arena) (s : Seat) (lead : Lead) (l : Line) (a : Running) : Type 0 where
+  pub before : IsBefore r s lead l
+  pub knows : KnowsAt r.plan.setup l (led r.plan.setup (view s).number lead (view s).actor) a
+
+-- the seat made its step at a line, and the call made of the number found what the line says
+pub record Follows (r : Arena) (s t : Seat) (lead : Lead) (l : Line) (a : Running) (out : Outcome) : Type 0 where
+  pub found : ℕ
+  pub did : DidStep r s t lead l found
+  pub leads_to : out ≡ follow r.plan.setup a l found
+
+-- a value was taken, and the node that comes free is in the hand
+pub record Took (r : Arena) (s t : Seat) (es : List Event) (a : Running) : Type 0 where
+  pub over : (view t).actor.line ≡ Some F1
+  pub due : (view t).actor.due ≡ Some (reply.Value (value_of a.val))
+  pub node : (view t).actor.node ≡ a.node
+  pub mark : (view t).actor.mark ≡ a.mark
+  pub acts : Acts (view s) (view t) (Pop (view s).number (value_of a.val)) es
+
+-- the queue was found empty
+pub record SawEmpty (s t : Seat) (es : List Event) : Type 0 where
+  pub over : (view t).actor.line ≡ None
+  pub path : (view t).path ≡ (view s).path ++ es
+  pub found : FoundEmpty (known_by (view s)) (known_by (view t))
+
+-- Head was found worn out
+pub record SawWorn (r : Arena) (s t : Seat) (es : List Event) (why : Refusal) : Type 0 where
+  pub over : (view t).actor.line ≡ None
+  pub walks : Walks (view s) (view t) es
+  pub is : why ≡ WornOut OfHead
+  pub cause : EndedAt r s es (λ w. HasOwnCause w (view s).number (WornOut OfHead))
+
+-- what the lines under the lock come to
+abbrev pub Fronted : Arena → Seat → Seat → List Event → Outcome → Type 0
+Fronted r s t es (Goes l a) = Took r s t es a
+Fronted r s t es Empty = SawEmpty s t es
+Fronted r s t es (Refused why) = SawWorn r s t es why
+
+-- the lines under the lock, from B2 to B6
+pub record Fronts (r : Arena) (s t : Seat) (out : Outcome) : Type 0 where
+  pub seat : IsSeat r t
+  pub empty : (view t).actor.pocket ≡ None
+  pub stored : KeepsStored s t
+  pub lines : List Event
+  pub never : failed_turns lines ≡ 0
+  pub fronted : Fronted r s t lines out
+
+-- a pop after so many failed turns since it began
+pub record Trying (r : Arena) (s t : Seat) (n : ℕ) : Type 0 where
+  pub before : IsBefore r t (popping n) B1
+  pub stored : KeepsStored s t
+  pub lines : List Event
+  pub walks : Walks (view s) (view t) lines
+  pub failed : failed_turns lines ≡ n
+  pub last : 1 ≤ n → FailedAt lines
+
+-- the cause of each refusal: so many turns failed, the last one at the last step, or at the last step Head's count was the
+-- greatest one
+abbrev pub DrawRefused : Arena → Seat → Seat → (spent turns : ℕ) → Refusal → Type 0
+DrawRefused r s t spent turns Busy = (spent + failed_turns (added s t) ≡ turns) × EndsFailed s t
+DrawRefused r s t spent turns (WornOut OfHead) = MetCause r s t (WornOut OfHead)
+DrawRefused r s t spent turns _ = ⊥
+
+-- what a pop answers that has an empty pocket, where so many turns failed before
+pub record Draws (r : Arena) (s t : Seat) (spent turns : ℕ) (out : Result (Option Taken) Refusal) : Type 0 where
+  pub ready : IsReady r t
+  pub same : KeepsName s t
+  pub path : (view t).path ≡ (view s).path ++ added s t
+  pub answer : IfOk out (λ o. PopAnswers (known_of s) o (known_of t))
+  pub refused : IfErr out (λ why. HadNoEffect s t × DrawRefused r s t spent turns why)
+
+-- why a pop is refused
+abbrev pub PopRefused : Arena → Seat → Seat → (turns : ℕ) → Refusal → Type 0
+PopRefused r s t turns why = DrawRefused r s t 0 turns why
+
+-- what a pop answers
+pub record Answers (r : Arena) (s t : Seat) (turns : ℕ) (out : Result (Option Taken) Refusal) : Type 0 where
+  pub ready : IsReady r t
+  pub same : KeepsName s t
+  pub answer : IfOk out (λ o. PopAnswers (known_of s) o (known_of t))
+  pub refused : IfErr out (λ why. HadNoEffect s t × PopRefused r s t turns why)

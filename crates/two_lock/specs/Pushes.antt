@@ -1,0 +1,107 @@
+-- A running push: what it remembers before each line, and what it answers.
+use Rattle.std.specs.Prelude.{◌≡◌, ℕ, ◌+◌, ◌≤◌, ◌<◌, Bool, true, false, if◌then◌else◌, nat_eq, List, Some, None, Result, MatchResult, OnOk, IfErr}
+use Rattle.counted_ref.specs.Ref.{ref, ref_of}
+use Rattle.line_table.specs.declared.lines.Line.{Line}
+use Rattle.line_table.specs.declared.lines.Line.TheVariants.{A1, A2, A3, A4, A5, A6, A7}
+use Rattle.history.specs.declared.operations.Entry.TheVariants.{Push}
+use Rattle.history.specs.declared.refusals.Refusal.{Refusal}
+use Rattle.history.specs.declared.refusals.Refusal.TheVariants.{Busy}
+use Rattle.node_arena.specs.Machine.{Setup, Held, Actor}
+use Rattle.node_arena.specs.Traces.{Event}
+use Rattle.node_arena.specs.Leads.{Lead, goes_on, led, CanLead}
+use Rattle.node_arena.specs.declared.arena.Arena.{Arena}
+use Rattle.node_arena.specs.declared.seats.Seat.{Seat}
+use Rattle.node_arena.specs.Seats.{IsSeat, IsReady, KeepsStored, KeepsName, DidStep, view, pocket_of, failed_of}
+use Rattle.node_arena.specs.Turns.{failed_turns}
+use Rattle.node_arena.specs.Walks.{Walks, Acts, HadNoEffect, FailedAt, EndsFailed, added}
+use Rattle.free_list.specs.Takes.{TakeRefused}
+use Rattle.two_lock.specs.Values.{value_of}
+use Rattle.two_lock.specs.declared.push_outcomes.Actor.{Actor as Running}
+use Rattle.two_lock.specs.declared.push_outcomes.Reply.TheVariants.{Done as IsDone}
+use Rattle.two_lock.specs.declared.push_outcomes.Outcome.{Outcome}
+use Rattle.two_lock.specs.declared.push_outcomes.Outcome.TheVariants.{Goes, Done}
+
+-- the registers of a push that has this node and this word of a value
+abbrev pub registers_of : Held → ℕ → Running
+registers_of h val = record { node = h.node; mark = h.mark; val = val; tail = ref 0 0; due = None }
+
+-- what a running push makes of the number found at a line
+abbrev pub follow : Running → Line → ℕ → Outcome
+follow a A1 n = Goes A2 a
+follow a A2 n = Goes A3 a
+follow a A3 n = if nat_eq n 0 then Goes A4 a else Goes A3 a
+follow a A4 n = Goes A5 (record a { tail = ref_of n })
+follow a A5 n = Goes A6 (record a { due = Some IsDone })
+follow a A6 n = Goes A7 a
+follow a A7 n = Done
+follow a l n = Goes l a
+
+-- whether a try of the lock got it
+abbrev pub has_lock : Outcome → Bool
+has_lock (Goes A4 a) = true
+has_lock outcome = false
+
+-- what a running push knows beside node, mark and value before a line
+abbrev pub KnowsAt : Setup → Line → Actor → Running → Type 0
+KnowsAt z A5 b a = (b.tail ≡ a.tail) × (a.node ≤ z.size)
+KnowsAt z A6 b a = a.node ≤ z.size
+KnowsAt z l b a = Unit {0}
+
+-- a seat's actor, led there, stands before a line of a push with an empty pocket, and the call knows its registers
+pub record Stands (r : Arena) (s : Seat) (lead : Lead) (l : Line) (a : Running) : Type 0 where
+  pub seat : IsSeat r s
+  pub can : CanLead lead (view s).actor
+  pub line : (led r.plan.setup (view s).number lead (view s).actor).line ≡ Some l
+  pub empty : (led r.plan.setup (view s).number lead (view s).actor).pocket ≡ None
+  pub node : (led r.plan.setup (view s).number lead (view s).actor).node ≡ a.node
+  pub mark : (led r.plan.setup (view s).number lead (view s).actor).mark ≡ a.mark
+  pub val : (led r.plan.setup (view s).number lead (view s).actor).val ≡ value_of a.val
+  pub knows : KnowsAt r.plan.setup l (led r.plan.setup (view s).number lead (view s).actor) a
+
+-- the seat made its step at a line, and the call made of the number found what the line says
+pub record Follows (r : Arena) (s t : Seat) (lead : Lead) (l : Line) (a : Running) (out : Outcome) : Type 0 where
+  pub found : ℕ
+  pub did : DidStep r s t lead l found
+  pub leads_to : out ≡ follow a l found
+
+-- the node was linked, and the call is over
+pub record Links (r : Arena) (s t : Seat) (a : Running) : Type 0 where
+  pub seat : IsSeat r t
+  pub over : (view t).actor.line ≡ None
+  pub empty : (view t).actor.pocket ≡ None
+  pub stored : KeepsStored s t
+  pub lines : List Event
+  pub acts : Acts (view s) (view t) (Push (view s).number (value_of a.val).body) lines
+  pub never : failed_turns lines ≡ 0
+
+-- a push that has its node, after so many failed turns of its call, `spent` of them before it had the node
+pub record Trying (r : Arena) (s t : Seat) (h : Held) (val spent n : ℕ) : Type 0 where
+  pub stands : Stands r t goes_on A3 (registers_of h val)
+  pub stored : KeepsStored s t
+  pub lines : List Event
+  pub walks : Walks (view s) (view t) lines
+  pub failed : spent + failed_turns lines ≡ n
+  pub last : spent < n → FailedAt lines
+
+-- a call pushed a body
+abbrev pub DidPush : (s t : Seat) → (body : ℕ) → Type 0
+DidPush s t body = Acts (view s) (view t) (Push (view s).number body) (added s t)
+
+-- what a push answers that has its node, where so many turns failed before
+pub record Puts (r : Arena) (s t : Seat) (h : Held) (body spent turns : ℕ) (out : Result (Unit {0}) Refusal) : Type 0 where
+  pub ready : IsReady r t
+  pub same : KeepsName s t
+  pub pocket : MatchResult out (λ _. pocket_of t ≡ None) (λ _. pocket_of t ≡ Some h)
+  pub pushed : OnOk out (DidPush s t body × (spent + failed_turns (added s t) < turns))
+  pub refused : IfErr out (λ why. (why ≡ Busy) × HadNoEffect s t × (spent + failed_turns (added s t) ≡ turns) × EndsFailed s t)
+
+-- the cause of each refusal is that of a take, or so many turns failed, the last one at the last step
+abbrev pub PushRefused : Arena → Seat → Seat → (turns : ℕ) → Refusal → Type 0
+PushRefused r s t turns why = TakeRefused r s t turns why
+
+-- what a push answers
+pub record Answers (r : Arena) (s t : Seat) (body turns : ℕ) (out : Result (Unit {0}) Refusal) : Type 0 where
+  pub ready : IsReady r t
+  pub same : KeepsName s t
+  pub pushed : OnOk out (DidPush s t body × (pocket_of t ≡ None) × (failed_turns (added s t) < turns))
+  pub refused : IfErr out (λ why. HadNoEffect s t × PushRefused r s t turns why)

@@ -1,0 +1,9 @@
+//! The two-lock queue on shared words: one lock for pushes, and one for pops.
+#![tactic(auto)]
+
+mod pop_lines;
+mod pop_outcomes;
+mod popping;
+mod push_lines;
+mod push_outcomes;
+mod pushing;

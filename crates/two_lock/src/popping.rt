@@ -1,0 +1,109 @@
+//! Takes the value at the front.
+ghost use Rattle.std.specs.Prelude.{◌≡◌, ◌≤◌, ◌<◌, IsTrue, None};
+ghost use Rattle.line_table.specs.declared.lines.Line.TheVariants as lines;
+ghost use Rattle.node_arena.specs.Leads.{goes_on};
+ghost use Rattle.node_arena.specs.Plans.{may_pop};
+ghost use Rattle.node_arena.specs.Seats.{IsReady, role_of, pocket_of};
+ghost use Rattle.two_lock.specs.Values.{IsTwoLock};
+ghost use Rattle.two_lock.specs.Pops.{Stands, IsBefore, Fronts, Draws, Answers};
+
+use crate::pop_lines::{b1, b2, b3, b4, b5, b6};
+use crate::pop_outcomes::{Actor, Outcome, blank, got_lock, value};
+use free_list::give_back;
+use history::{Refusal, Taken};
+use line_table::Line;
+use node_arena::{Arena, Held, Seat};
+
+// With the lock: the value after Head's node is taken where there is one, and the lock is let go.
+fn front(arena: &Arena, seat: &mut Seat, a: Actor) -> Outcome
+    requires stands { Stands arena.now seat.old goes_on lines.B2 a }
+    requires two_lock { IsTwoLock arena.now }
+    requires role { IsTrue (may_pop (role_of seat.old)) }
+    ensures { Fronts arena.now seat.old seat.new result }
+{
+    let Outcome::Goes(_, a) = b2(arena, seat, a) else {
+        unreachable!()
+    };
+    let Outcome::Goes(next, a) = b3(arena, seat, a) else {
+        unreachable!()
+    };
+    if let Line::B6 = next {
+        return b6(arena, seat, a);
+    }
+    let Outcome::Goes(next, a) = b4(arena, seat, a) else {
+        unreachable!()
+    };
+    if let Line::B6 = next {
+        return b6(arena, seat, a);
+    }
+    let Outcome::Goes(_, a) = b5(arena, seat, a) else {
+        unreachable!()
+    };
+    b6(arena, seat, a)
+}
+
+// With the lock, where so many turns failed before: a node that comes free is given back with the turns that are left.
+fn end(arena: &Arena, seat: &mut Seat, failed: u32, turns: u32) -> Result<Option<Taken>, Refusal>
+    requires before { IsBefore arena.now seat.old goes_on lines.B2 }
+    requires two_lock { IsTwoLock arena.now }
+    requires role { IsTrue (may_pop (role_of seat.old)) }
+    requires turns { failed < turns }
+    ensures { Draws arena.now seat.old seat.new failed turns result }
+{
+    match front(arena, seat, blank()) {
+        Outcome::Goes(_, a) => {
+            let node = a.node;
+            let mark = a.mark;
+            let taken = value(a.val);
+            seat.keep(Some(Held { node, mark }), failed);
+            let _ = give_back(arena, seat, turns - failed);
+            Ok(Some(taken))
+        }
+        Outcome::Empty => {
+            seat.keep(None, failed);
+            Ok(None)
+        }
+        Outcome::Refused(why) => {
+            seat.keep(None, failed);
+            Err(why)
+        }
+    }
+}
+
+// The pop with an empty pocket, where `spent` turns of this call failed before.
+fn draw(arena: &Arena, seat: &mut Seat, spent: u32, turns: u32) -> Result<Option<Taken>, Refusal>
+    requires ready { IsReady arena.now seat.old }
+    requires two_lock { IsTwoLock arena.now }
+    requires role { IsTrue (may_pop (role_of seat.old)) }
+    requires empty { pocket_of seat.old ≡ None }
+    requires turns { spent < turns }
+    ensures { Draws arena.now seat.old seat.new spent turns result }
+{
+    for index in 0..turns - spent {
+        if got_lock(b1(arena, seat, blank(), index)) {
+            return end(arena, seat, spent + index, turns);
+        }
+    }
+    seat.keep(None, turns);
+    Err(Refusal::Busy)
+}
+
+/// Takes the value at the front, after it gives back the node in the seat's pocket, if there is one; none where the queue
+/// was empty.
+///
+/// Refusals: `WornOut(Head)` where Head's count was the greatest one, and `Busy` where each of so many turns failed. The
+/// node that comes free is given back with the turns that are left, and else stays in the pocket. Takes no memory and
+/// doesn't wait.
+pub(crate) fn try_pop(arena: &Arena, seat: &mut Seat, turns: u32) -> Result<Option<Taken>, Refusal>
+    requires ready { IsReady arena.now seat.old }
+    requires two_lock { IsTwoLock arena.now }
+    requires role { IsTrue (may_pop (role_of seat.old)) }
+    requires turns { 1 ≤ turns }
+    ensures { Answers arena.now seat.old seat.new turns result }
+{
+    if seat.pocket().is_none() {
+        return draw(arena, seat, 0, turns);
+    }
+    give_back(arena, seat, turns)?;
+    draw(arena, seat, seat.failed(), turns)
+}

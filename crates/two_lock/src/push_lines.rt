@@ -1,0 +1,101 @@
+//! The lines of a push, each a row of the line table on the words of an arena.
+ghost use Rattle.std.specs.Prelude.{IsTrue};
+ghost use Rattle.line_table.specs.declared.lines.Line.TheVariants as lines;
+ghost use Rattle.node_arena.specs.Leads.{Lead, goes_on};
+ghost use Rattle.node_arena.specs.Plans.{may_push};
+ghost use Rattle.node_arena.specs.Seats.{role_of};
+ghost use Rattle.two_lock.specs.Pushes.{Stands, Follows};
+
+use crate::push_outcomes::{Actor, Outcome, Reply, Untold, effect, ends, goes, lets_go};
+use counted_ref::CountedRef;
+use line_table::{Line, line_table};
+use node_arena::{Arena, Seat, exchanged, masked, reference, stored};
+
+/// What a running call gives for the number of a step.
+const NOW: Untold = Untold;
+
+/// The bits of a word that hold the count.
+const COUNT_MASK: u64 = 18_446_744_073_692_774_400;
+
+// The access of a line, as one step call.
+macro_rules! access {
+    ($arena:ident $seat:ident $line:ident load Tail) => { reference($arena.load($seat, Line::$line, 3)) };
+    ($arena:ident $seat:ident $line:ident store Value($node:expr) ($new:expr)) => {
+        $arena.store($seat, Line::$line, 5 + 2 * $node as usize, $new)
+    };
+    ($arena:ident $seat:ident $line:ident store Next($node:expr) ($new:expr)) => {
+        stored($arena, $seat, Line::$line, 4 + 2 * $node as usize, $new.word())
+    };
+    ($arena:ident $seat:ident $line:ident store Tail ($new:expr)) => {
+        stored($arena, $seat, Line::$line, 3, $new.word())
+    };
+    ($arena:ident $seat:ident $line:ident store TailLock ($new:expr)) => {
+        stored($arena, $seat, Line::$line, 4, $new)
+    };
+    ($arena:ident $seat:ident $line:ident clear Next($node:expr)) => {
+        reference(masked($arena, $seat, Line::$line, 4 + 2 * $node as usize, COUNT_MASK))
+    };
+    ($arena:ident $seat:ident $line:ident exchange TailLock ($old:expr, $new:expr)) => {
+        exchanged($arena, $seat, Line::$line, 4, $old, u64::from($new))
+    };
+}
+
+// One row: its access, and then its third column.
+macro_rules! row {
+    (($arena:ident $seat:ident $found:ident) $line:ident {$($access:tt)*} {$($then:tt)*}) => {{
+        let $found = access!($arena $seat $line $($access)*);
+        $($then)*
+    }};
+}
+
+pub(crate) fn a1(arena: &Arena, seat: &mut Seat, a: Actor) -> Outcome
+    ghost lead: { Lead }
+    requires { Stands arena.now seat.old lead lines.A1 a }
+    ensures { Follows arena.now seat.old seat.new lead lines.A1 a result }
+{
+    line_table!(A1 (setup NOW NOW a found) row (arena seat found))
+}
+
+pub(crate) fn a2(arena: &Arena, seat: &mut Seat, a: Actor) -> Outcome
+    requires { Stands arena.now seat.old goes_on lines.A2 a }
+    ensures { Follows arena.now seat.old seat.new goes_on lines.A2 a result }
+{
+    line_table!(A2 (setup NOW NOW a found) row (arena seat found))
+}
+
+pub(crate) fn a3(arena: &Arena, seat: &mut Seat, a: Actor) -> Outcome
+    requires { Stands arena.now seat.old goes_on lines.A3 a }
+    ensures { Follows arena.now seat.old seat.new goes_on lines.A3 a result }
+{
+    let me = seat.number();
+    line_table!(A3 (setup NOW me a found) row (arena seat found))
+}
+
+pub(crate) fn a4(arena: &Arena, seat: &mut Seat, a: Actor) -> Outcome
+    requires { Stands arena.now seat.old goes_on lines.A4 a }
+    ensures { Follows arena.now seat.old seat.new goes_on lines.A4 a result }
+{
+    line_table!(A4 (setup NOW NOW a found) row (arena seat found))
+}
+
+pub(crate) fn a5(arena: &Arena, seat: &mut Seat, a: Actor) -> Outcome
+    requires stands { Stands arena.now seat.old goes_on lines.A5 a }
+    requires role { IsTrue (may_push (role_of seat.old)) }
+    ensures { Follows arena.now seat.old seat.new goes_on lines.A5 a result }
+{
+    line_table!(A5 (setup NOW NOW a found) row (arena seat found))
+}
+
+pub(crate) fn a6(arena: &Arena, seat: &mut Seat, a: Actor) -> Outcome
+    requires { Stands arena.now seat.old goes_on lines.A6 a }
+    ensures { Follows arena.now seat.old seat.new goes_on lines.A6 a result }
+{
+    line_table!(A6 (setup NOW NOW a found) row (arena seat found))
+}
+
+pub(crate) fn a7(arena: &Arena, seat: &mut Seat, a: Actor) -> Outcome
+    requires { Stands arena.now seat.old goes_on lines.A7 a }
+    ensures { Follows arena.now seat.old seat.new goes_on lines.A7 a result }
+{
+    line_table!(A7 (setup NOW NOW a found) row (arena seat found))
+}

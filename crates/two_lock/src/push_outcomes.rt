@@ -1,0 +1,94 @@
+//! What a running push remembers, and the words of the line table's third column for it.
+ghost use Rattle.std.specs.Prelude.{◌≡◌, ◌+◌, ◌*◌, ◌^◌, ◌<◌};
+ghost use Rattle.two_lock.specs.Pushes.{registers_of, has_lock};
+
+use counted_ref::CountedRef;
+use line_table::Line;
+use node_arena::Held;
+
+/// What the machine knows and a running push doesn't: step numbers.
+#[derive(Clone, Copy)]
+pub(crate) struct Untold;
+
+/// The registers of a running push.
+#[derive(Clone, Copy)]
+pub(crate) struct Actor {
+    pub(crate) node: u32,
+    pub(crate) mark: u64,
+    /// The word of its value: the number of the seat in the upper bits, the body in the 48 lower ones.
+    pub(crate) val: u64,
+    pub(crate) tail: CountedRef,
+    pub(crate) due: Option<Reply>,
+}
+
+/// What a push that ends is told.
+#[derive(Clone, Copy)]
+pub(crate) enum Reply {
+    Done,
+}
+
+/// What a line leads to.
+#[derive(Drop)]
+pub(crate) enum Outcome {
+    /// The call goes on at a line.
+    Goes(Line, Actor),
+    /// The body was pushed.
+    Done,
+}
+
+/// The word of the value of this seat and body.
+pub(crate) fn word_of(from: u16, body: u64) -> u64
+    requires { body < 2 ^ 48 }
+    ensures { result ≡ from * 2 ^ 48 + body }
+{
+    u64::from(from) * 281_474_976_710_656 + body
+}
+
+/// Registers with this node and this word of a value.
+pub(crate) fn registers(held: Held, val: u64) -> Actor
+    ensures { result ≡ registers_of held val }
+{
+    Actor {
+        node: held.node,
+        mark: held.mark,
+        val,
+        tail: CountedRef::new(0, 0),
+        due: None,
+    }
+}
+
+pub(crate) fn goes(line: Line, a: Actor) -> Outcome
+    ensures { result ≡ Outcome.Goes line a }
+{
+    Outcome::Goes(line, a)
+}
+
+pub(crate) fn ends(now: Untold, reply: Reply, a: Actor) -> Outcome
+    ensures { result ≡ Outcome.Done }
+{
+    let _ = (now, reply, a);
+    Outcome::Done
+}
+
+pub(crate) fn effect(now: Untold, outcome: Outcome) -> Outcome
+    ensures { result ≡ outcome }
+{
+    let _ = now;
+    outcome
+}
+
+pub(crate) fn lets_go(a: Actor) -> Actor
+    ensures { result ≡ a }
+{
+    a
+}
+
+/// Whether a try of the lock got it.
+pub(crate) fn got_lock(outcome: Outcome) -> bool
+    ensures { result ≡ has_lock outcome }
+{
+    match outcome {
+        Outcome::Goes(Line::A4, _) => true,
+        Outcome::Goes(..) | Outcome::Done => false,
+    }
+}

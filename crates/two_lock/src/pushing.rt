@@ -1,0 +1,89 @@
+//! Pushes a body.
+ghost use Rattle.std.specs.Prelude.{◌≡◌, ◌≤◌, ◌<◌, IsTrue, Some};
+ghost use Rattle.line_table.specs.declared.lines.Line.TheVariants as lines;
+ghost use Rattle.node_arena.specs.Leads.{goes_on};
+ghost use Rattle.node_arena.specs.Plans.{may_push};
+ghost use Rattle.node_arena.specs.Seats.{IsReady, role_of, pocket_of};
+ghost use Rattle.two_lock.specs.Values.{IsTwoLock};
+ghost use Rattle.two_lock.specs.Pushes.{Stands, Links, Puts, Answers};
+
+use crate::push_lines::{a1, a2, a3, a4, a5, a6, a7};
+use crate::push_outcomes::{Actor, Outcome, got_lock, registers, word_of};
+use free_list::take;
+use history::{Body, Refusal};
+use node_arena::{Arena, Held, Seat};
+
+// The node is linked behind the last one, Tail goes on to it, and the lock is let go.
+fn link(arena: &Arena, seat: &mut Seat, a: Actor)
+    requires stands { Stands arena.now seat.old goes_on lines.A4 a }
+    requires role { IsTrue (may_push (role_of seat.old)) }
+    ensures { Links arena.now seat.old seat.new a }
+{
+    let Outcome::Goes(_, a) = a4(arena, seat, a) else {
+        unreachable!()
+    };
+    let Outcome::Goes(_, a) = a5(arena, seat, a) else {
+        unreachable!()
+    };
+    let Outcome::Goes(_, a) = a6(arena, seat, a) else {
+        unreachable!()
+    };
+    a7(arena, seat, a);
+}
+
+// The push with the node in the pocket, where `spent` turns of this call failed before.
+fn put(
+    arena: &Arena,
+    seat: &mut Seat,
+    held: Held,
+    body: Body,
+    spent: u32,
+    turns: u32,
+) -> Result<(), Refusal>
+    requires ready { IsReady arena.now seat.old }
+    requires two_lock { IsTwoLock arena.now }
+    requires role { IsTrue (may_push (role_of seat.old)) }
+    requires full { pocket_of seat.old ≡ Some held }
+    requires turns { spent < turns }
+    ensures { Puts arena.now seat.old seat.new held body spent turns result }
+{
+    let val = word_of(seat.number(), body.number());
+    let Outcome::Goes(_, a) = a1(arena, seat, registers(held, val)) else {
+        unreachable!()
+    };
+    let Outcome::Goes(..) = a2(arena, seat, a) else {
+        unreachable!()
+    };
+    for index in spent..turns {
+        if got_lock(a3(arena, seat, registers(held, val))) {
+            link(arena, seat, registers(held, val));
+            seat.keep(None, index);
+            return Ok(());
+        }
+    }
+    seat.keep(Some(held), turns);
+    Err(Refusal::Busy)
+}
+
+/// Pushes a body at the back, by the node in the seat's pocket, or else by one that it takes.
+///
+/// Refusals: those of a take, and `Busy` where each of so many turns failed. A node that the call got stays in the
+/// pocket. Takes no memory and doesn't wait.
+pub(crate) fn try_push(
+    arena: &Arena,
+    seat: &mut Seat,
+    body: Body,
+    turns: u32,
+) -> Result<(), Refusal>
+    requires ready { IsReady arena.now seat.old }
+    requires two_lock { IsTwoLock arena.now }
+    requires role { IsTrue (may_push (role_of seat.old)) }
+    requires turns { 1 ≤ turns }
+    ensures { Answers arena.now seat.old seat.new body turns result }
+{
+    if let Some(held) = seat.pocket() {
+        return put(arena, seat, held, body, 0, turns);
+    }
+    let held = take(arena, seat, turns)?;
+    put(arena, seat, held, body, seat.failed(), turns)
+}
