@@ -15,6 +15,7 @@ mod SmallOrders
 mod Tallying
 mod Unplaced
 pub mod Learning
+pub mod Sums
 mod Ink
 mod Said
 mod Texts

@@ -21,9 +21,9 @@ use Rattle.node_arena.specs.Traces.{Traced, first_trace, changed}
 use Rattle.node_arena.specs.declared.arena.Arena.{Arena}
 use Rattle.node_arena.specs.Leads.{at_rest}
 use Rattle.history.specs.Entries.{is_push, is_pop}
-use Rattle.node_arena.specs.Seats.{IsArena, IsTable}
+use Rattle.node_arena.specs.Seats.{IsArena}
 use Rattle.node_arena.specs.Seeing.{Knows, View, keeper, seated, members, knows, new_seat, dealt_left, dealt_right}
-use Rattle.node_arena.specs.Plans.{Layout, IsPlanned, IsPermitted}
+use Rattle.node_arena.specs.Plans.{Layout, IsPlanned, IsPermitted, IsTable}
 use Rattle.node_arena.specs.Rule.{Fits, Holds, Fitted, first_view}
 use Rattle.node_arena.specs.Making.{first_words, IsDealt, AreDealt, IsNewSeat}
 use Rattle.node_arena.proofs.Tracing.{changed_here, changed_else}

@@ -14,6 +14,9 @@ pub mod Counting
 pub mod Calls
 pub mod Deals
 pub mod Meets
+pub mod Gathers
+pub mod Lefts
+pub mod Ends
 pub mod Noted
 pub mod Between
 pub mod Permits

@@ -22,7 +22,7 @@ use Rattle.node_arena.proofs.Keeps.{one_of}
 use Rattle.node_arena.proofs.Deals.{at_end}
 
 -- the views change, and each actor that they speak of keeps its place in `own`
-views_now : (z : Layout) (s : State ℕ View) (h : Holds z s) (words : List ℕ) (views : List View) (own : ℕ → ℕ × ℕ) → words ≡ s.words
+pub views_now : (z : Layout) (s : State ℕ View) (h : Holds z s) (words : List ℕ) (views : List View) (own : ℕ → ℕ × ℕ) → words ≡ s.words
     → ((j i : ℕ) (u : View) (o : Knows) → get_elem? views j ≡ some u → get_elem? (members u) i ≡ some o → Fits h.trace o × (own o.number ≡ (j, i)) × (o.number < h.dealt))
     → ((j n : ℕ) → get_elem? views j ≡ some (keeper n) → (j ≡ h.home) × (n ≡ h.dealt))
     → Holds z record { words = words; homes = s.homes; views = views }
@@ -47,7 +47,7 @@ two_of : (v w o : Knows) (i : ℕ) → get_elem? (v ∷ w ∷ []) i ≡ some o �
 two_of v w o zero e = inl (refl, some-injective v o e)
 two_of v w o (suc i) e = let t = one_of w o i e in inr (ap suc t.0, t.1)
 
-no_one : {X : Type 0} (o : Knows) (i : ℕ) → get_elem? {A = Knows} [] i ≡ some o → X
+pub no_one : {X : Type 0} (o : Knows) (i : ℕ) → get_elem? {A = Knows} [] i ≡ some o → X
 no_one o i e = absurd (some-ne-none o (sym e))
 
 -- two seats become one

@@ -6,5 +6,7 @@ pub mod Plans
 pub mod Rule
 pub mod Seats
 pub mod Making
+pub mod Remains
+pub mod Closing
 pub mod Turns
 pub mod Walks

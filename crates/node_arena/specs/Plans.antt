@@ -1,5 +1,6 @@
 -- What an arena is made for: its setup, and the role of each seat.
-use Rattle.std.specs.Prelude.{Bool, true, false, IsTrue, List, length, map}
+use Rattle.std.specs.Prelude.{◌≡◌, ◌+◌, ◌*◌, Bool, true, false, IsTrue, List, length, map}
+use Rattle.atomic_table.specs.Seated.{TableId}
 use Rattle.line_table.specs.declared.lines.Line.{Line}
 use Rattle.line_table.specs.declared.lines.Line.TheVariants.{E9, D13, A5, B5}
 use Rattle.history.specs.declared.operations.Entry.{Entry}
@@ -50,3 +51,10 @@ IsPermitted roles e = seats.IsPermitted (permits_by roles) e
 -- a plan's sizes are in their ranges
 abbrev pub IsPlanned : Layout → Type 0
 IsPlanned z = IsSized z.setup (length z.roles)
+
+-- a table, made about a plan, is laid out for it
+pub record IsTable (z about : Layout) (t : TableId) : Type 0 where
+  pub sized : IsPlanned z
+  pub key : about ≡ z
+  pub words : t.words ≡ 6 + 2 * z.setup.size
+  pub slots : t.slots ≡ 0

@@ -14,7 +14,7 @@ use Rattle.step_machine.specs.Words.{words_of}
 use Rattle.step_machine.specs.Machine.{idle, actor_of}
 use Rattle.node_arena.specs.Traces.{Traced, IsTraced, step_at, actor_at, outcome_at, event_at, entries_at, number_at, sees}
 use Rattle.node_arena.specs.Leads.{Lead, led}
-use Rattle.node_arena.specs.Seeing.{Knows, View, keeper, seated, paired, members, knows}
+use Rattle.node_arena.specs.Seeing.{Knows, View, keeper, gathered, seated, paired, members, knows}
 use Rattle.node_arena.specs.Plans.{Layout, IsPlanned, IsPermitted}
 
 -- a seat's actor and path are the traced world's, what it has seen is a beginning of the history, and its own entries
@@ -119,3 +119,7 @@ pub record Met (z : Layout) (v w : Knows) (m : Me ℕ View) : Type 0 where
   pub second : all ≡ w.seen ++ second_rest
   pub first_fits : Fitted z (record v { seen = all })
   pub second_fits : Fitted z (record w { seen = all })
+
+-- a new token gathers, and has taken in none
+abbrev pub Opens : Me ℕ View → Type 0
+Opens me = me ≡ (gathered [], [])

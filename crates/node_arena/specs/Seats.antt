@@ -1,5 +1,5 @@
 -- What clauses say of an arena and its seats.
-use Rattle.std.specs.Prelude.{◌≡◌, ℕ, ◌+◌, ◌-◌, ◌*◌, ◌^◌, ◌<◌, List, [], ◌++◌, Option, Some, None, slice_get}
+use Rattle.std.specs.Prelude.{◌≡◌, ℕ, ◌+◌, ◌-◌, ◌^◌, ◌<◌, List, [], ◌++◌, Option, Some, None, slice_get}
 use Rattle.std.specs.List.{count_by}
 use Rattle.line_table.specs.declared.lines.Line.{Line}
 use Rattle.line_table.specs.declared.lines.Line.TheVariants.{E9, D13, A5, B5}
@@ -16,7 +16,7 @@ use Rattle.node_arena.specs.declared.arena.Arena.{Arena}
 use Rattle.node_arena.specs.declared.seats.Seat.{Seat}
 use Rattle.node_arena.specs.Leads.{Lead, led, at_rest, CanLead}
 use Rattle.node_arena.specs.Seeing.{Knows, seated, knows, known_by}
-use Rattle.node_arena.specs.Plans.{Layout, IsPlanned, PermitsLine, permits_by}
+use Rattle.node_arena.specs.Plans.{Layout, IsTable, PermitsLine, permits_by}
 use Rattle.node_arena.specs.Rule.{Steps, Fitted}
 
 -- the plan of an arena
@@ -58,13 +58,6 @@ failed_of s = s.failed
 -- a seat that keeps another pocket and another number of failed turns
 abbrev pub keeping : Seat → Option Held → ℕ → Seat
 keeping s pocket failed = record s { pocket = pocket; failed = failed }
-
--- a table, made about a plan, is laid out for it
-pub record IsTable (z about : Layout) (t : TableId) : Type 0 where
-  pub sized : IsPlanned z
-  pub key : about ≡ z
-  pub words : t.words ≡ 6 + 2 * z.setup.size
-  pub slots : t.slots ≡ 0
 
 -- the arena's table is laid out for its plan
 abbrev pub IsArena : Arena → Type 0

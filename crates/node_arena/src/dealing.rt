@@ -1,7 +1,6 @@
 //! Seats are cut from the arena's own token.
 ghost use Rattle.std.specs.Prelude.{◌≡◌, ◌+◌, ◌-◌, ◌<◌, ◌≤◌, IfOk, Some, length, slice_get};
-ghost use Rattle.node_arena.specs.Plans.{Layout};
-ghost use Rattle.node_arena.specs.Seats.{IsTable};
+ghost use Rattle.node_arena.specs.Plans.{Layout, IsTable};
 ghost use Rattle.node_arena.specs.Making.{IsKeeper, IsDealt, AreDealt};
 
 use crate::plans::Plan;

@@ -3,10 +3,13 @@
 
 mod accessing;
 mod arena;
+mod closing;
 mod dealing;
 pub mod laws;
+mod making;
 mod meeting;
 mod plans;
+mod remains;
 mod roles;
 mod seats;
 mod stepping;

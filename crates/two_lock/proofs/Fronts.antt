@@ -1,13 +1,12 @@
 -- The lines of a pop under the lock, from B2 to B6.
-use Rattle.std.proofs.Common.{◌≡◌, ℕ, ◌+◌, Bool, true, false, nat_eq, if◌then◌else◌, Option, Some, None, List, [], ◌∷◌, ◌++◌, length, sym, refl, ap, subst, ◌∙◌, append-nil, append_assoc}
+use Rattle.std.proofs.Common.{◌≡◌, ℕ, ◌+◌, Bool, true, false, nat_eq, if◌then◌else◌, Option, Some, List, [], ◌∷◌, ◌++◌, length, sym, refl, ap, subst, ◌∙◌, append-nil, append_assoc}
 use Rattle.std.proofs.lemmas.Bool.{eqb-true}
-use Rattle.counted_ref.specs.Ref.{Ref, ref_of, is_null}
+use Rattle.counted_ref.specs.Ref.{ref_of, is_null}
 use Rattle.line_table.specs.declared.lines.Line.{Line}
-use Rattle.line_table.specs.declared.lines.Line.TheVariants.{B2, B3, B4, B5, B6, F1}
+use Rattle.line_table.specs.declared.lines.Line.TheVariants.{B2, B3, B4, B5, B6}
 use Rattle.history.specs.declared.operations.Entry.TheVariants.{Pop}
 use Rattle.history.specs.declared.operations.Reply as replies
 use Rattle.history.specs.declared.operations.Reply.TheVariants as reply
-use Rattle.history.specs.declared.refusals.Refusal.{Refusal}
 use Rattle.history.specs.declared.refusals.Refusal.TheVariants.{WornOut}
 use Rattle.history.specs.declared.refusals.WornWord.TheVariants.{Head as OfHead}
 use Rattle.history.specs.Queue as queue
@@ -18,7 +17,7 @@ use Rattle.node_arena.specs.Leads.{goes_on}
 use Rattle.node_arena.specs.Rule.{notes_of}
 use Rattle.node_arena.specs.declared.arena.Arena.{Arena}
 use Rattle.node_arena.specs.declared.seats.Seat.{Seat}
-use Rattle.node_arena.specs.Seats.{KeepsStored, DidStep, view}
+use Rattle.node_arena.specs.Seats.{KeepsStored, view}
 use Rattle.node_arena.specs.Walks.{Walks, Passes, Acts, HasOwnCause}
 use Rattle.node_arena.proofs.Noting.{IsNotEmpty}
 use Rattle.node_arena.proofs.Noted.{finds_nothing_locked}
@@ -30,7 +29,7 @@ use Rattle.two_lock.specs.declared.pop_outcomes.Reply.{Reply}
 use Rattle.two_lock.specs.declared.pop_outcomes.Reply.TheVariants.{Value as IsValue, Empty as IsEmpty, Refused as IsRefused}
 use Rattle.two_lock.specs.declared.pop_outcomes.Outcome.{Outcome}
 use Rattle.two_lock.specs.declared.pop_outcomes.Outcome.TheVariants.{Goes, Empty, Refused}
-use Rattle.two_lock.specs.Pops.{told_by, follow, unlocked_as, Stands, Follows, Fronts}
+use Rattle.two_lock.specs.Pops.{told_by, unlocked_as, Stands, Follows, Fronts}
 use Rattle.two_lock.proofs.PopStands.{stands_next}
 
 actor_or : Running → Outcome → Running

@@ -7,3 +7,4 @@ pub mod PopSteps
 pub mod PopStands
 pub mod Fronts
 pub mod Pops
+pub mod Queues

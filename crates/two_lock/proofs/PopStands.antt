@@ -1,24 +1,24 @@
 -- Where each line of a pop leads.
-use Rattle.std.proofs.Common.{◌≡◌, ◌≢◌, ℕ, ◌+◌, ◌<◌, ◌≤◌, Bool, true, false, nat_eq, if◌then◌else◌, Option, Some, None, length, sym, refl, ap, ◌∙◌, subst, arith}
+use Rattle.std.proofs.Common.{◌≡◌, ◌≢◌, ℕ, ◌+◌, ◌<◌, Bool, true, false, nat_eq, if◌then◌else◌, Some, length, sym, refl, ap, ◌∙◌, subst, arith}
 use Rattle.std.proofs.lemmas.Bool.{eqb-false}
 use Rattle.counted_ref.specs.Ref.{Ref, ref_of, is_null}
 use Rattle.line_table.specs.declared.lines.Line.{Line}
-use Rattle.line_table.specs.declared.lines.Line.TheVariants.{B1, B2, B3, B4, B5, B6, F1}
+use Rattle.line_table.specs.declared.lines.Line.TheVariants.{B1, B2, B3, B4, B5, B6}
 use Rattle.history.specs.declared.operations.Reply.TheVariants as reply
 use Rattle.history.specs.declared.refusals.Refusal.TheVariants.{WornOut}
 use Rattle.history.specs.declared.refusals.WornWord.TheVariants.{Head as OfHead}
-use Rattle.node_arena.specs.Machine.{Setup, Actor, Outcome as MachineOutcome, goes, entry_or}
+use Rattle.node_arena.specs.Machine.{Setup, Actor, goes, entry_or}
 use Rattle.node_arena.specs.Leads.{Lead, goes_on, led}
 use Rattle.node_arena.specs.declared.arena.Arena.{Arena}
 use Rattle.node_arena.specs.declared.seats.Seat.{Seat}
 use Rattle.node_arena.specs.Seats.{DidStep, view}
-use Rattle.node_arena.proofs.Told.{was_in_range, actor_was_in_range}
+use Rattle.node_arena.proofs.Told.{actor_was_in_range}
 use Rattle.two_lock.specs.Values.{value_of}
 use Rattle.two_lock.specs.declared.pop_outcomes.Actor.{Actor as Running}
 use Rattle.two_lock.specs.declared.pop_outcomes.Outcome.{Outcome}
 use Rattle.two_lock.specs.declared.pop_outcomes.Outcome.TheVariants.{Goes, Empty, Refused}
 use Rattle.two_lock.specs.declared.pop_outcomes.Reply.TheVariants.{Value as IsValue, Empty as IsEmpty, Refused as IsRefused}
-use Rattle.two_lock.specs.Pops.{KnowsAt, IsBefore, Stands, Follows, follow}
+use Rattle.two_lock.specs.Pops.{IsBefore, Stands, Follows, follow}
 use Rattle.two_lock.proofs.PopSteps.{ref_b2, ref_b3, value_b4}
 
 -- where an outcome goes on, the seat stands there

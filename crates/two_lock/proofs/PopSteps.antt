@@ -1,9 +1,8 @@
 -- What each line of a pop asks of its step call, and what it finds.
 use Rattle.std.proofs.Common.{◌≡◌, ◌≢◌, ℕ, ◌+◌, ◌*◌, ◌%◌, ◌^◌, IsTrue, sym, refl, ap, ◌∙◌}
-use Rattle.counted_ref.specs.Ref.{Ref, ref_word, ref_of, reserved_node, node_bits}
+use Rattle.counted_ref.specs.Ref.{ref_word, ref_of, reserved_node, node_bits}
 use Rattle.line_table.specs.declared.lines.Line.{Line}
 use Rattle.line_table.specs.declared.lines.Line.TheVariants.{B1, B2, B3, B4, B5, B6}
-use Rattle.history.specs.declared.operations.Taken.{Taken}
 use Rattle.node_arena.specs.Machine.{Actor, node_at, raised, PlaceStep, load_at, store_at, exchange_at, place_step, action}
 use Rattle.node_arena.specs.Machine.{WordHead, WordNext, WordValue}
 use Rattle.node_arena.specs.Leads.{Lead, led}

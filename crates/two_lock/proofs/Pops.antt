@@ -1,5 +1,5 @@
 -- Pops: turns at the lock, one after another, and what they answer.
-use Rattle.std.proofs.Common.{◌≡◌, ℕ, zero, suc, ◌+◌, ◌-◌, ◌<◌, ◌≤◌, Bool, true, false, nat_eq, if◌then◌else◌, List, [], ◌∷◌, ◌++◌, Option, Some, None, Result, Ok, Err, IfOk, IfErr, sym, refl, ap, subst, ◌∙◌, arith, add-one, append_assoc}
+use Rattle.std.proofs.Common.{◌≡◌, ℕ, zero, suc, ◌+◌, ◌≤◌, Bool, true, false, nat_eq, if◌then◌else◌, List, [], ◌∷◌, ◌++◌, Option, Some, None, Result, Ok, Err, IfOk, IfErr, sym, refl, ap, subst, ◌∙◌, arith, add-one, append_assoc}
 use Rattle.line_table.specs.declared.lines.Line.TheVariants.{B1, B2, F1}
 use Rattle.history.specs.declared.operations.Op.TheVariants.{Deq}
 use Rattle.history.specs.declared.operations.Taken.{Taken}
@@ -8,20 +8,20 @@ use Rattle.history.specs.declared.refusals.Refusal.TheVariants.{WornOut, Busy}
 use Rattle.history.specs.declared.refusals.WornWord.TheVariants.{Free as OfFree, Next as OfNext, Tail as OfTail, Head as OfHead}
 use Rattle.history.specs.Answers.{PopAnswers}
 use Rattle.history.proofs.Learning.{answers_then}
-use Rattle.node_arena.specs.Machine.{Held, Actor, World, dequeues, from_pocket}
+use Rattle.node_arena.specs.Machine.{Held, Actor, dequeues, from_pocket}
 use Rattle.node_arena.specs.Traces.{Event}
 use Rattle.node_arena.specs.Leads.{goes_on, at_rest, out_of}
 use Rattle.node_arena.specs.declared.arena.Arena.{Arena}
 use Rattle.node_arena.specs.declared.seats.Seat.{Seat}
-use Rattle.node_arena.specs.Seats.{IsReady, KeepsName, KeepsStored, view, known_of, keeping, pocket_of}
+use Rattle.node_arena.specs.Seats.{IsReady, KeepsName, view, known_of, keeping, pocket_of}
 use Rattle.node_arena.specs.Turns.{failed_turns, at_b1}
-use Rattle.node_arena.specs.Walks.{Walks, HadNoEffect, FailedAt, EndsFailed, EndedAt, LastHeld, HasOwnCause, added}
+use Rattle.node_arena.specs.Walks.{Walks, HadNoEffect, EndsFailed, HasOwnCause, added}
 use Rattle.node_arena.proofs.Walking.{no_walk, walk_then, then_stored, sees_on, added_is, added_path, last_held, ends_failed, ended_behind, failed-append, failed_behind, kept_seat, event, walk_on, to_is, failed_last}
 use Rattle.two_lock.specs.Values.{IsTwoLock}
 use Rattle.two_lock.specs.declared.pop_outcomes.Actor.{Actor as Running}
 use Rattle.two_lock.specs.declared.pop_outcomes.Outcome.{Outcome}
 use Rattle.two_lock.specs.declared.pop_outcomes.Outcome.TheVariants.{Goes, Refused}
-use Rattle.two_lock.specs.Pops.{popping, has_lock, IsBefore, Stands, Follows, Fronts, Trying, DrawRefused, Draws, Answers}
+use Rattle.two_lock.specs.Pops.{popping, has_lock, IsBefore, Follows, Fronts, Trying, DrawRefused, Draws, Answers}
 use Rattle.two_lock.proofs.PopStands.{stands_b1, won_b1, lost_b1}
 
 -- lines before a pop, with so many failed turns
@@ -138,8 +138,7 @@ pop_gives_up r s t spent turns (suc m) some all g =
       answer = tt;
       refused = (
         subst (Walks (view s) (view t)) (sym e) g.walks,
-        (let c = ap failed_turns e in let f = g.failed in omega arith),
-        ends_failed s (keeping t None turns) g.lines e (g.last some),
+        ((let c = ap failed_turns e in let f = g.failed in omega arith), ends_failed s (keeping t None turns) g.lines e (g.last some)),
       );
     }
 

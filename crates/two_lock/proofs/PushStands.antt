@@ -1,5 +1,5 @@
 -- Where each line of a push leads.
-use Rattle.std.proofs.Common.{◌≡◌, ℕ, ◌+◌, ◌≤◌, Bool, true, false, nat_eq, if◌then◌else◌, Some, None, length, sym, refl, ap, ◌∙◌, arith}
+use Rattle.std.proofs.Common.{◌≡◌, ℕ, ◌≤◌, Bool, true, false, nat_eq, if◌then◌else◌, Some, None, length, sym, ap, ◌∙◌, arith}
 use Rattle.counted_ref.specs.Ref.{ref_of}
 use Rattle.line_table.specs.declared.lines.Line.{Line}
 use Rattle.line_table.specs.declared.lines.Line.TheVariants.{A1, A2, A3, A4, A5, A6, A7}

@@ -1,6 +1,6 @@
 -- What each line of a push asks of its step call, and the references that it finds.
-use Rattle.std.proofs.Common.{◌≡◌, ◌≢◌, ℕ, ◌+◌, ◌*◌, ◌%◌, ◌^◌, ◌≤◌, IsTrue, sym, refl, ap, ◌∙◌, arith}
-use Rattle.counted_ref.specs.Ref.{Ref, ref, ref_word, ref_of, reserved_node, node_bits, count_mask}
+use Rattle.std.proofs.Common.{◌≡◌, ◌≢◌, ℕ, ◌+◌, ◌*◌, ◌%◌, ◌^◌, IsTrue, sym, refl, ap, ◌∙◌}
+use Rattle.counted_ref.specs.Ref.{ref, ref_word, ref_of, reserved_node, node_bits, count_mask}
 use Rattle.line_table.specs.declared.lines.Line.{Line}
 use Rattle.line_table.specs.declared.lines.Line.TheVariants.{A1, A2, A3, A4, A5, A6, A7}
 use Rattle.node_arena.specs.Machine.{Actor, node_at, PlaceStep, load_at, store_at, and_at, exchange_at, place_step, action}

@@ -1,5 +1,5 @@
 -- A push that has its node: it sets out, links the node, and its turns.
-use Rattle.std.proofs.Common.{◌≡◌, ℕ, ◌+◌, ◌*◌, ◌^◌, ◌<◌, ◌≤◌, Bool, true, false, nat_eq, if◌then◌else◌, List, [], ◌∷◌, ◌++◌, Option, Some, None, Ok, Err, sym, refl, ap, subst, ◌∙◌, arith, lt-ltb}
+use Rattle.std.proofs.Common.{◌≡◌, ℕ, ◌+◌, ◌*◌, ◌^◌, ◌<◌, Bool, true, false, nat_eq, if◌then◌else◌, List, [], ◌∷◌, ◌++◌, Option, Some, None, Ok, Err, sym, refl, ap, subst, ◌∙◌, arith, lt-ltb}
 use Rattle.line_table.specs.declared.lines.Line.{Line}
 use Rattle.line_table.specs.declared.lines.Line.TheVariants.{N1, A1, A2, A3, A4, A5, A6, A7}
 use Rattle.counted_ref.specs.Ref.{ref_of}
@@ -12,10 +12,10 @@ use Rattle.node_arena.specs.Traces.{Event}
 use Rattle.node_arena.specs.Leads.{Lead, begins, goes_on, at_rest, out_of}
 use Rattle.node_arena.specs.declared.arena.Arena.{Arena}
 use Rattle.node_arena.specs.declared.seats.Seat.{Seat}
-use Rattle.node_arena.specs.Seats.{IsReady, KeepsStored, view, keeping}
-use Rattle.node_arena.specs.Turns.{failed_turns, failed_at, at_a3}
+use Rattle.node_arena.specs.Seats.{IsReady, view, keeping}
+use Rattle.node_arena.specs.Turns.{failed_turns, at_a3}
 use Rattle.node_arena.specs.Walks.{Walks, Acts, added}
-use Rattle.node_arena.proofs.Walking.{no_walk, walk_then, then_act, act_then, pass_then, then_stored, added_is, added_path, failed-append, failed_behind, kept_seat, ends_failed, event, walk_on, pass_on, act_on, to_is, failed_last}
+use Rattle.node_arena.proofs.Walking.{walk_then, then_act, act_then, pass_then, then_stored, added_is, added_path, failed-append, failed_behind, kept_seat, ends_failed, event, walk_on, pass_on, act_on, to_is, failed_last}
 use Rattle.two_lock.specs.Values.{IsTwoLock, value_of}
 use Rattle.two_lock.specs.declared.push_outcomes.Actor.{Actor as Running}
 use Rattle.two_lock.specs.declared.push_outcomes.Reply.TheVariants.{Done as IsDone}

@@ -1,5 +1,5 @@
 -- A whole push: with a full pocket, or after a take.
-use Rattle.std.proofs.Common.{◌≡◌, ℕ, ◌+◌, ◌<◌, ◌≤◌, List, ◌∷◌, [], ◌++◌, Result, Ok, Err, sym, refl, ap, subst, ◌∙◌, arith}
+use Rattle.std.proofs.Common.{◌≡◌, ℕ, List, ◌++◌, Result, Ok, Err, sym, ap, subst, ◌∙◌, arith}
 use Rattle.history.specs.declared.refusals.Refusal.{Refusal}
 use Rattle.history.specs.declared.refusals.Refusal.TheVariants.{Busy}
 use Rattle.history.specs.declared.operations.Entry.TheVariants.{Push}
@@ -11,7 +11,7 @@ use Rattle.node_arena.specs.Seats.{KeepsName, view}
 use Rattle.node_arena.specs.Turns.{failed_turns}
 use Rattle.node_arena.specs.Walks.{Walks, Acts, added, HadNoEffect, EndsFailed}
 use Rattle.node_arena.proofs.Walking.{walk_then, then_act, added_is, added_path, failed-append, failed_behind, ends_failed}
-use Rattle.two_lock.specs.Pushes.{DidPush, PushRefused, Puts, Answers}
+use Rattle.two_lock.specs.Pushes.{PushRefused, Puts, Answers}
 
 busy : (r : Arena) (s t : Seat) (turns : ℕ) (why : Refusal) → why ≡ Busy → failed_turns (added s t) ≡ turns → EndsFailed s t → PushRefused r s t turns why
 busy r s t turns why e f h = subst (PushRefused r s t turns) (sym e) (f, h)

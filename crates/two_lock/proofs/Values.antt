@@ -1,6 +1,5 @@
 -- Words of values, and the number of a value's word.
-use Rattle.std.proofs.Common.{◌≡◌, ℕ, ◌+◌, ◌*◌, ◌/◌, ◌%◌, ◌^◌, ◌<◌, ap, ◌∙◌, arith}
-use Rattle.history.specs.declared.operations.Taken.{Taken}
+use Rattle.std.proofs.Common.{◌≡◌, ℕ, ◌+◌, ◌*◌, ◌/◌, ◌%◌, ◌^◌, ◌<◌, arith}
 use Rattle.two_lock.specs.Values.{value_of}
 
 -- the word of a word's value is that word

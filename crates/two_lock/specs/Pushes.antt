@@ -11,7 +11,7 @@ use Rattle.node_arena.specs.Traces.{Event}
 use Rattle.node_arena.specs.Leads.{Lead, goes_on, led, CanLead}
 use Rattle.node_arena.specs.declared.arena.Arena.{Arena}
 use Rattle.node_arena.specs.declared.seats.Seat.{Seat}
-use Rattle.node_arena.specs.Seats.{IsSeat, IsReady, KeepsStored, KeepsName, DidStep, view, pocket_of, failed_of}
+use Rattle.node_arena.specs.Seats.{IsSeat, IsReady, KeepsStored, KeepsName, DidStep, view, pocket_of}
 use Rattle.node_arena.specs.Turns.{failed_turns}
 use Rattle.node_arena.specs.Walks.{Walks, Acts, HadNoEffect, FailedAt, EndsFailed, added}
 use Rattle.free_list.specs.Takes.{TakeRefused}

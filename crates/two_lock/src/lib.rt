@@ -7,3 +7,6 @@ mod popping;
 mod push_lines;
 mod push_outcomes;
 mod pushing;
+mod queue;
+
+pub use queue::TwoLockQueue;

@@ -1,15 +1,13 @@
 //! The queue: its arena, and its calls.
-ghost use Rattle.std.specs.Prelude.{◌≡◌, ◌≤◌, ◌↔◌, IsTrue, IfOk, IfErr, OnOk, OnErr};
+ghost use Rattle.std.specs.Prelude.{◌≡◌, ◌≤◌, IfOk, IfErr, OnOk, OnErr};
 ghost use Rattle.line_table.specs.declared.lines.Kind.TheVariants.{TwoLock};
-ghost use Rattle.history.specs.Seats.{MayPush, MayPop};
-ghost use Rattle.history.specs.Answers.{Pushed, PopAnswers, SeesMore, Meets, StopsPush, StopsPop};
 ghost use Rattle.node_arena.specs.Plans.{IsPlanned};
-ghost use Rattle.node_arena.specs.Making.{plan, IsMade, NewRefused};
+ghost use Rattle.node_arena.specs.Making.{plan, NewRefused};
 ghost use Rattle.two_lock.specs.Values.{IsTwoLock};
 
 use crate::popping::try_pop;
 use crate::pushing::try_push;
-use history::{Body, Refusal, Taken};
+use history::{Body, Fifo, Refusal, Rest, Taken};
 use line_table::Kind;
 use node_arena::{Arena, Role, Seat};
 use std::alloc::Global;
@@ -22,10 +20,7 @@ pub struct TwoLockQueue {
 }
 
 impl TwoLockQueue {
-    ghost use Rattle.node_arena.specs.Seats.{known_of};
-    ghost use Rattle.two_lock.specs.Pushes.{PushRefused};
-    ghost use Rattle.two_lock.specs.Pops.{PopRefused};
-    ghost use Rattle.two_lock.specs.Queues.{arena_of, permits_of, IsQueueSeat};
+    ghost use Rattle.two_lock.specs.Queues.{IsQueueMade};
 
     /// A queue with so many nodes, 2 to 16,777,214, the greatest count `limit`, 1 to 1,099,511,627,775, and a seat for
     /// each role, 1 to 65,535 of them, in their order. One node is always in the queue.
@@ -38,20 +33,41 @@ impl TwoLockQueue {
         limit: u64,
         roles: &[Role],
     ) -> Result<(TwoLockQueue, Vec<Seat>), Refusal>
-        ensures ok { IfOk result (λ r. IsMade (plan TwoLock nodes limit roles.now) (arena_of r.0) r.1.items) }
+        ensures ok { IfOk result (λ r. IsQueueMade nodes limit roles.now r.0 r.1.items) }
         ensures sized { OnOk result (IsPlanned (plan TwoLock nodes limit roles.now)) }
         ensures refused { IfErr result (NewRefused (plan TwoLock nodes limit roles.now)) }
     {
         let (arena, seats) = Arena::new(alloc, Kind::TwoLock, nodes, limit, roles)?;
         Ok((TwoLockQueue { arena }, seats))
     }
+}
 
-    /// Pushes a body at the back, in so many turns at most, 1 or more. The seat may push.
-    ///
+impl Fifo for TwoLockQueue {
+    ghost use Rattle.std.specs.Prelude.{map};
+    ghost use Rattle.std.specs.List.{All};
+    ghost use Rattle.history.specs.Seats.{MayPush, MayPop};
+    ghost use Rattle.history.specs.Answers.{Pushed, PopAnswers, SeesMore, StopsPush, StopsPop};
+    ghost use Rattle.history.specs.Closing.{Closes};
+    ghost use Rattle.node_arena.specs.Seats.{known_of, view};
+    ghost use Rattle.node_arena.proofs.Seens.{sound_of};
+    ghost use Rattle.two_lock.specs.Pushes.{PushRefused};
+    ghost use Rattle.two_lock.specs.Pops.{PopRefused};
+    ghost use Rattle.two_lock.specs.Queues.{arena_of, permits_of, IsQueueSeat};
+
+    type Seat = Seat;
+
+    ghost is_seat = { IsQueueSeat };
+
+    ghost permits = { permits_of };
+
+    ghost known = { known_of };
+
+    ghost sound = { λ q s h. sound_of (arena_of q).plan (view s) h.seat.sits.fitted };
+
     /// Refusals: `NoNode` where at one step all nodes were used and none was free, `WornOut(Free)` where at one step
     /// Free's count was the greatest one, and `Busy` where each of so many turns failed. A node that the call got stays
     /// in the seat's pocket, for its next push. Takes no memory and doesn't wait.
-    pub fn try_push(&self, seat: &mut Seat, body: Body, turns: u32) -> Result<(), Refusal>
+    fn try_push(&self, seat: &mut Seat, body: Body, turns: u32) -> Result<(), Refusal>
         requires seat { IsQueueSeat self.now seat.old }
         requires role { MayPush (permits_of self.now) (known_of seat.old).number }
         requires turns { 1 ≤ turns }
@@ -65,18 +81,15 @@ impl TwoLockQueue {
         try_push(&self.arena, seat, body, turns)
     }
 
-    /// Takes the value at the front, in so many turns at most, 1 or more; none where the queue was empty. The seat may
-    /// pop.
-    ///
     /// Refusals: `WornOut(Head)` where at one step Head's count was the greatest one, and `Busy` where each of so many
     /// turns failed. Takes no memory and doesn't wait.
-    pub fn try_pop(&self, seat: &mut Seat, turns: u32) -> Result<Option<Taken>, Refusal>
+    fn try_pop(&self, seat: &mut Seat, turns: u32) -> Result<Option<Taken>, Refusal>
         requires seat { IsQueueSeat self.now seat.old }
         requires role { MayPop (permits_of self.now) (known_of seat.old).number }
         requires turns { 1 ≤ turns }
         ensures seat { IsQueueSeat self.now seat.new }
         ensures number { (known_of seat.new).number ≡ (known_of seat.old).number }
-        ensures answer { IfOk result (λ taken. PopAnswers (known_of seat.old) taken (known_of seat.new)) }
+        ensures answer { IfOk result (λ o. PopAnswers (known_of seat.old) o (known_of seat.new)) }
         ensures refused { OnErr result (SeesMore (known_of seat.old) (known_of seat.new)) }
         ensures why { IfErr result StopsPop }
         ensures caused { IfErr result (PopRefused (arena_of self.now) seat.old seat.new turns) }
@@ -84,31 +97,23 @@ impl TwoLockQueue {
         try_pop(&self.arena, seat, turns)
     }
 
-    /// Afterwards both seats have seen one history, which begins with what each had seen. Takes no memory and doesn't
-    /// wait.
-    pub fn meet(&self, one: &mut Seat, other: &mut Seat)
-        requires one { IsQueueSeat self.now one.old }
-        requires other { IsQueueSeat self.now other.old }
-        ensures one { IsQueueSeat self.now one.new }
-        ensures other { IsQueueSeat self.now other.new }
-        ensures meets { Meets (known_of one.old) (known_of other.old) (known_of one.new) (known_of other.new) }
-    {
+    fn meet(&self, one: &mut Seat, other: &mut Seat) {
         self.arena.meet(one, other);
     }
 
-    /// Whether the seat may push. Takes no memory and doesn't wait.
-    pub fn may_push(&self, seat: &Seat) -> bool
-        requires { IsQueueSeat self.now seat.now }
-        ensures { IsTrue result ↔ MayPush (permits_of self.now) (known_of seat.now).number }
-    {
+    fn may_push(&self, seat: &Seat) -> bool {
         seat.may_push()
     }
 
-    /// Whether the seat may pop. Takes no memory and doesn't wait.
-    pub fn may_pop(&self, seat: &Seat) -> bool
-        requires { IsQueueSeat self.now seat.now }
-        ensures { IsTrue result ↔ MayPop (permits_of self.now) (known_of seat.now).number }
-    {
+    fn may_pop(&self, seat: &Seat) -> bool {
         seat.may_pop()
+    }
+
+    fn close(self, alloc: Global, seats: Vec<Seat>) -> Result<Rest, Refusal>
+        requires { All (IsQueueSeat self) seats.items }
+        ensures rest { IfOk result (λ r. Closes (permits_of self) (map known_of seats.items) r) }
+        ensures only_memory { IfErr result (λ why. why ≡ Refusal.Memory) }
+    {
+        self.arena.close(alloc, seats)
     }
 }

@@ -1,4 +1,4 @@
-use Rattle.std.proofs.Common.{◌≡◌, ◌+◌, ◌∙◌, sym, subst, arith}
+use Rattle.std.proofs.Common.{◌∙◌, sym, arith}
 use Rattle.two_lock.proofs.Pops.{pop_again, pop_ends, pop_gives_up}
 use Rattle.two_lock.proofs.popping.draw.Goals as goal
 

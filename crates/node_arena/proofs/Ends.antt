@@ -1,0 +1,238 @@
+-- The end of an arena: its words are those of a traced world, to which each seat handed in fits.
+use Rattle.std.proofs.Common.{◌≡◌, ℕ, ◌+◌, ◌*◌, ◌≤◌, ◌↔◌, IsTrue, zero, suc, List, [], ◌∷◌, length, map, slice_get, slice_index, Some, refl, sym, ap, subst, ◌∙◌, arith}
+use Rattle.std.specs.List.{All, count_by, sum_by}
+use Rattle.std.proofs.lemmas.List.{length-map}
+use Rattle.std.proofs.lemmas.List.Elements.{All-nil, All-cons, All-head, All-tail, All-weaker}
+use Rattle.std.proofs.lemmas.List.Sums.{sum_by-cons}
+use Rattle.std.proofs.lemmas.Option.{none-some, same_Some}
+use mathlib.Core.Option.{some}
+use lib.ListN.{get_elem?}
+use Rattle.atomic_table.specs.Table.{Me, Final, Seen}
+use Rattle.counted_ref.specs.Ref.{Ref}
+use Rattle.line_table.specs.declared.lines.Kind.{Kind}
+use Rattle.line_table.specs.declared.lines.Kind.TheVariants.{TwoLock, NonBlocking}
+use Rattle.history.specs.declared.rests.Rest.{Rest}
+use Rattle.history.specs.Queue.{empty}
+use Rattle.history.specs.Entries.{is_push, is_pop, own_entries, Plays, LeadsTo}
+use Rattle.history.specs.Seats.{Known}
+use Rattle.history.specs.Rests.{left_of, taken_of, whole_of}
+use Rattle.history.specs.Closing.{pushes_of, pops_of, Closes}
+use Rattle.history.proofs.Sums.{AreApart, closes}
+use Rattle.line_steps.specs.declared.actors.Node.{Node}
+use Rattle.line_steps.specs.Memory.{Shared, Head, Next, Value_of, node_at}
+use Rattle.step_machine.specs.Machine.{World, IsReached}
+use Rattle.step_machine.specs.Words.{node_words, words_of}
+use Rattle.step_machine.specs.Tables.{SharedFits}
+use Rattle.step_machine.specs.Range.{WorldInRange}
+use Rattle.step_machine.specs.Places.{IsChain}
+use Rattle.step_machine.specs.Chains.{values_of, queue_values}
+use Rattle.step_machine.specs.EachQueue.{HasItsPlaces}
+use Rattle.step_machine.proofs.Reached.{reached_in_range}
+use Rattle.step_machine.proofs.Fits.{shared_fits}
+use Rattle.step_machine.proofs.Words.{reading}
+use Rattle.step_machine.proofs.Chains.{chain_some}
+use Rattle.step_machine.proofs.PlaceOf.{few}
+use Rattle.step_machine.proofs.TwoLockSound as two_lock
+use Rattle.step_machine.proofs.NonBlockingSound as non_blocking
+use Rattle.node_arena.specs.declared.arena.Arena.{Arena}
+use Rattle.node_arena.specs.declared.seats.Seat.{Seat}
+use Rattle.node_arena.specs.Traces.{Traced, IsTraced}
+use Rattle.node_arena.specs.Seeing.{View, gathered}
+use Rattle.node_arena.specs.Plans.{Layout, IsPermitted}
+use Rattle.node_arena.specs.Rule.{Fits, Holds}
+use Rattle.node_arena.specs.Seats.{IsReady, view, known_of, permits_of}
+use Rattle.node_arena.specs.Closing.{HasToken, CountsItsOwn}
+use Rattle.node_arena.specs.Remains.{value_of, ref_at, front_of, HasRef, HasNode, HaveValues, IsQueue}
+use Rattle.node_arena.proofs.Tracing.{traced_reached}
+use Rattle.node_arena.proofs.Histories.{history_plays, counts_pops}
+use Rattle.node_arena.proofs.Told.{places_of}
+use Rattle.node_arena.proofs.Reading.{read_back, value_parts}
+use Rattle.node_arena.proofs.Lefts.{same_values}
+
+length-node_words : (ns : List Node) → length (node_words ns) ≡ 2 * length ns
+length-node_words [] = refl
+length-node_words (n ∷ ns) = omega (arith, length-node_words ns)
+
+-- the words of a memory whose contents fit
+module _ (m : Shared) (fits : SharedFits m) where
+  long : length (words_of m) ≡ 6 + 2 * length m.nodes
+  long = omega (arith, length-node_words m.nodes)
+
+  head_is : ref_at (words_of m) 2 ≡ m.head
+  head_is = (read_back m.head (slice_index (words_of m) 2) (fits Head) refl).0
+
+  has_head : HasRef (words_of m) 2
+  has_head = record { there = omega (arith, long); named = (read_back m.head (slice_index (words_of m) 2) (fits Head) refl).1 }
+
+  module _ (n : ℕ) (low : 1 ≤ n) (high : n ≤ length m.nodes) where
+    next_is : ref_at (words_of m) (4 + 2 * n) ≡ (node_at m n).next
+    next_is = (read_back (node_at m n).next (slice_index (words_of m) (4 + 2 * n)) (fits (Next n)) (reading m (Next n) (low, high))).0
+
+    has_node : HasNode (words_of m) n
+    has_node =
+        record {
+          next = record { there = omega (arith, long, high); named = (read_back (node_at m n).next (slice_index (words_of m) (4 + 2 * n)) (fits (Next n)) (reading m (Next n) (low, high))).1 };
+          value = omega (arith, long, high);
+        }
+
+    value_is : (node_at m n).value ≡ value_of (slice_index (words_of m) (5 + 2 * n))
+    value_is =
+        let p = value_parts (node_at m n).value (slice_index (words_of m) (5 + 2 * n)) (fits (Value_of n)) (reading m (Value_of n) (low, high)) in
+        λ i. record { from = p.0 i; body = p.1 i }
+
+  -- the nodes of a chain have their values
+  chain_values : (ns : List ℕ) (n : ℕ) → IsChain m.nodes n ns → HaveValues (words_of m) n (values_of m ns)
+  chain_values [] n c = c
+  chain_values (k ∷ ks) n c =
+      let more : HaveValues (words_of m) (ref_at (words_of m) (4 + 2 * k)).node (values_of m ks) =
+      subst (λ (r : Ref). HaveValues (words_of m) r.node (values_of m ks)) (sym (next_is k c.1 c.2)) (chain_values ks (node_at m k).next.node c.3) in
+      subst (λ j. HaveValues (words_of m) j (values_of m (k ∷ ks))) (sym c.0) (c.1, has_node k c.1 c.2, value_is k c.1 c.2, more)
+
+-- Head names a node
+head_some : (w : World) → IsReached w → 1 ≤ w.shared.head.node
+head_some w r = go w.setup.kind refl
+  where
+    go : (k : Kind) → w.setup.kind ≡ k → 1 ≤ w.shared.head.node
+    go TwoLock e = two_lock.head_some w r e
+    go NonBlocking e =
+        let p : non_blocking.Proved (λ w q. Unit {0}) (λ w k. Unit {0}) w = non_blocking.reached_sound w r e in
+        let c = p.sound.words.shape.queue_chain in
+        subst (λ n. 1 ≤ n) (sym c.0) c.1
+
+-- the words of a world have the values of its queue, of which there are no more than nodes
+record Left (w : World) : Type 0 where
+  queue : List ℕ
+  chain : IsChain w.shared.nodes w.shared.head.node queue
+  head : HasRef (words_of w.shared) 2
+  dummy : HasNode (words_of w.shared) (ref_at (words_of w.shared) 2).node
+  values : HaveValues (words_of w.shared) (front_of (words_of w.shared)) (queue_values w.shared queue)
+  few : length (queue_values w.shared queue) ≤ w.setup.size
+  long : length (words_of w.shared) ≡ 6 + 2 * w.setup.size
+
+left_in : (w : World) → IsReached w → Left w
+left_in w r =
+    let m : Shared = w.shared in
+    let range : WorldInRange w = reached_in_range w r in
+    let fits : SharedFits m = shared_fits w range in
+    let all : length m.nodes ≡ w.setup.size = range.shared.all_nodes in
+    let fresh : m.fresh ≤ w.setup.size = range.shared.fresh in
+    let low : 1 ≤ m.head.node = head_some w r in
+    let high : m.head.node ≤ length m.nodes = let h = range.shared.head.node in omega arith in
+    let p : HasItsPlaces w = places_of w r in
+    let used : length p.0 ≤ m.fresh = few w p.0 p.1 p.2 1 (omega arith) in
+    let at = chain_some m.nodes m.head.node p.0 low p.2.queue_chain in
+    let c : IsChain m.nodes m.head.node (m.head.node ∷ at.0) = subst (IsChain m.nodes m.head.node) at.1 p.2.queue_chain in
+    let front : front_of (words_of m) ≡ (node_at m m.head.node).next.node =
+    ap (λ (x : Ref). (ref_at (words_of m) (4 + 2 * x.node)).node) (head_is m fits) ∙ ap (λ (x : Ref). x.node) (next_is m fits m.head.node low high) in
+    record {
+      queue = m.head.node ∷ at.0;
+      chain = c;
+      head = has_head m fits;
+      dummy = subst (λ (x : Ref). HasNode (words_of m) x.node) (sym (head_is m fits)) (has_node m fits m.head.node low high);
+      values = subst (λ n. HaveValues (words_of m) n (values_of m at.0)) (sym front) (chain_values m fits at.0 (node_at m m.head.node).next.node c.3);
+      few = omega (arith, used, fresh, ap length at.1, length-map at.0 (λ n. (node_at m n).value));
+      long = omega (arith, long m fits, all);
+    }
+
+-- at the end there is a traced world with these words; each seat handed in fits to it, and no two of them have one number
+pub record Ends (z : Layout) (seats : List Seat) (words : List ℕ) : Type 0 where
+  pub trace : Traced
+  pub reached : IsTraced trace
+  pub setup : trace.world.setup ≡ z.setup
+  pub words_are : words ≡ words_of trace.world.shared
+  pub permitted : All (IsPermitted z.roles) trace.history
+  pub fits : (k : ℕ) (s : Seat) → slice_get seats k ≡ Some s → Fits trace (view s)
+  pub apart : (k l : ℕ) (s t : Seat) → slice_get seats k ≡ Some s → slice_get seats l ≡ Some t → (view s).number ≡ (view t).number → k ≡ l
+
+got_map : {A B : Type 0} (f : A → B) (xs : List A) (k : ℕ) (x : A) → slice_get xs k ≡ Some x → get_elem? (map f xs) k ≡ some (f x)
+got_map f [] k x e = cc
+got_map f (y ∷ ys) zero x e = let same : y ≡ x = cc in ap (λ z. some (f z)) same
+got_map f (y ∷ ys) (suc k) x e = got_map f ys k x e
+
+ends_at : (z : Layout) (seats : List Seat) (id : ℕ) (words slots : List ℕ) → Final (Seen (Holds z) id (gathered (map view seats))) words slots → Ends z seats words
+ends_at z seats id words slots t =
+    let h : Holds z t.0 = t.1.0 in
+    let u : View = gathered (map view seats) in
+    let at_id : get_elem? t.0.views id ≡ some u = t.1.1 in
+    record {
+      trace = h.trace;
+      reached = h.reached;
+      setup = h.setup;
+      words_are = sym t.2 ∙ h.words;
+      permitted = h.permitted;
+      fits = λ k s got. h.fits id k u (view s) at_id (got_map view seats k s got);
+      apart = λ k l a b x y e. ap (λ (q : ℕ × ℕ). q.1) (sym (h.owned id k u (view a) at_id (got_map view seats k a x)).0 ∙ (ap h.owner e ∙ (h.owned id l u (view b) at_id (got_map view seats l b y)).0));
+    }
+
+-- the same at the names of a call
+pub ends : (z key : Layout) (seats : List Seat) (id : ℕ) (me : Me ℕ View) (words slots : List ℕ) → key ≡ z → me ≡ (gathered (map view seats), []) → Final (Seen (Holds key) id me.0) words slots → Ends z seats words
+ends z key seats id me words slots same is t = ends_at z seats id words slots (subst (λ (y : Layout × Me ℕ View). Final (Seen (Holds y.0) id y.1.0) words slots) (λ i. (same i, is i)) t)
+
+-- the words are those of a queue
+pub queue_at_end : (z : Layout) (seats : List Seat) (words : List ℕ) (most : ℕ) → z.setup.size ≤ most → Ends z seats words → IsQueue words most
+queue_at_end z seats words most room e =
+    let l : Left e.trace.world = left_in e.trace.world (traced_reached e.trace e.reached) in
+    subst (λ ws. IsQueue ws most) (sym e.words_are)
+    (record {
+      head = l.head;
+      dummy = l.dummy;
+      behind = record {
+        values = queue_values e.trace.world.shared l.queue;
+        chain = l.values;
+        room = omega (arith, l.few, ap (λ x. x.size) e.setup, room);
+        few = omega (arith, l.few, l.long);
+      };
+    })
+
+-- each seat's own entries are those that it knows
+own_each : (t : Traced) (seats : List Seat) → ((k : ℕ) (s : Seat) → slice_get seats k ≡ Some s → Fits t (view s)) → All (λ k. own_entries k.number t.history ≡ k.mine) (map known_of seats)
+own_each t [] f = All-nil (λ (k : Known). own_entries k.number t.history ≡ k.mine)
+own_each t (s ∷ ss) f = All-cons (λ (k : Known). own_entries k.number t.history ≡ k.mine) (known_of s) (map known_of ss) (f 0 s refl).own (own_each t ss (λ k. f (suc k)))
+
+seat_at : (seats : List Seat) (i : ℕ) (k : Known) → slice_get (map known_of seats) i ≡ Some k → (s : Seat) × (slice_get seats i ≡ Some s) × (known_of s ≡ k)
+seat_at [] i k e = absurd (none-some k e)
+seat_at (s ∷ ss) zero k e = (s, refl, same_Some (known_of s) k e)
+seat_at (s ∷ ss) (suc i) k e = seat_at ss i k e
+
+numbers_apart : (z : Layout) (seats : List Seat) (words : List ℕ) → Ends z seats words → AreApart (map known_of seats)
+numbers_apart z seats words e i j k l a b same =
+    let s = seat_at seats i k a in
+    let t = seat_at seats j l b in
+    e.apart i j s.0 t.0 s.1 t.1 (ap (λ x. x.number) s.2 ∙ same ∙ ap (λ x. x.number) (sym t.2))
+
+-- what is told of the rest, by the words and by what the seats made
+pub record Rests (words : List ℕ) (pushes pops : ℕ) (rest : Rest) : Type 0 where
+  pub left : HaveValues words (front_of words) (left_of rest)
+  pub taken : taken_of rest ≡ (ref_at words 2).count
+  pub whole : IsTrue (whole_of rest) ↔ ((pops ≡ taken_of rest) × (pushes ≡ taken_of rest + length (left_of rest)))
+
+-- an arena is closed by seats, where that is told of its end
+pub closes_at_end : (r : Arena) (seats : List Seat) (words : List ℕ) (pushes pops : ℕ) (rest : Rest) → Ends r.plan seats words → pushes ≡ pushes_of (map known_of seats) → pops ≡ pops_of (map known_of seats) → Rests words pushes pops rest → Closes (permits_of r) (map known_of seats) rest
+closes_at_end r seats words pushes pops rest e pushed popped h =
+    let t : Traced = e.trace in
+    let l : Left t.world = left_in t.world (traced_reached t e.reached) in
+    let told : HaveValues (words_of t.world.shared) (front_of (words_of t.world.shared)) (left_of rest) = subst (λ ws. HaveValues ws (front_of ws) (left_of rest)) e.words_are h.left in
+    let same : queue_values t.world.shared l.queue ≡ left_of rest = same_values (words_of t.world.shared) (front_of (words_of t.world.shared)) _ _ l.values told in
+    let leads : LeadsTo t.history (left_of rest) = subst (λ vs. Plays empty t.history (record { values = vs })) same (history_plays t e.reached l.queue l.chain) in
+    let head : ref_at (words_of t.world.shared) 2 ≡ t.world.shared.head = head_is t.world.shared (shared_fits t.world (reached_in_range t.world (traced_reached t e.reached))) in
+    let counted : taken_of rest ≡ count_by is_pop t.history = h.taken ∙ ap (λ ws. (ref_at ws 2).count) e.words_are ∙ ap (λ (x : Ref). x.count) head ∙ counts_pops t e.reached in
+    closes (permits_of r) (map known_of seats) rest t.history leads e.permitted (own_each t seats e.fits) (numbers_apart r.plan seats words e) counted
+    (λ w. let x = h.whole.0 w in (sym popped ∙ x.0, sym pushed ∙ x.1), λ x. h.whole.1 (popped ∙ x.0, pushed ∙ x.1))
+
+-- each seat of an arena brings a token of its table, and its own counts
+pub have_tokens : (r : Arena) (seats : List Seat) → All (IsReady r) seats → All (HasToken r.table.shared.table_id) seats
+have_tokens r = All-weaker (IsReady r) (HasToken r.table.shared.table_id) (λ s h. record { table = h.seat.sits.table; seat = h.seat.sits.seat })
+
+pub count_own : (r : Arena) (seats : List Seat) → All (IsReady r) seats → All CountsItsOwn seats
+count_own r = All-weaker (IsReady r) CountsItsOwn (λ s h. record { pushes = h.seat.sits.pushes; pops = h.seat.sits.pops })
+
+-- the sums of their counts are those of what they know
+pub sum_by-pushes : (seats : List Seat) → All CountsItsOwn seats → sum_by (λ (s : Seat). s.pushes) seats ≡ pushes_of (map known_of seats)
+sum_by-pushes [] h = refl
+sum_by-pushes (s ∷ ss) h =
+    omega (arith, sum_by-cons (λ (x : Seat). x.pushes) s ss, sum_by-cons (λ (k : Known). count_by is_push k.mine) (known_of s) (map known_of ss), (All-head CountsItsOwn s ss h).pushes, sum_by-pushes ss (All-tail CountsItsOwn s ss h))
+
+pub sum_by-pops : (seats : List Seat) → All CountsItsOwn seats → sum_by (λ (s : Seat). s.pops) seats ≡ pops_of (map known_of seats)
+sum_by-pops [] h = refl
+sum_by-pops (s ∷ ss) h =
+    omega (arith, sum_by-cons (λ (x : Seat). x.pops) s ss, sum_by-cons (λ (k : Known). count_by is_pop k.mine) (known_of s) (map known_of ss), (All-head CountsItsOwn s ss h).pops, sum_by-pops ss (All-tail CountsItsOwn s ss h))

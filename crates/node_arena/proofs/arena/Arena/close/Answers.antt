@@ -1,0 +1,23 @@
+use Rattle.std.proofs.Common.{map, ap, ◌∙◌, arith}
+use Rattle.history.specs.Closing.{pushes_of, pops_of}
+use Rattle.node_arena.specs.Seats.{known_of}
+use Rattle.node_arena.proofs.Gathers.{enters}
+use Rattle.node_arena.proofs.Ends.{ends, queue_at_end, closes_at_end}
+use Rattle.node_arena.proofs.arena.Arena.close.Goals as goal
+
+pub load_new_seat-requires : goal.load_new_seat-requires
+load_new_seat-requires c = let w = c.args.self.laid_out.words in (omega arith, enters _ _)
+
+pub rest_of-rest-requires-clause-queue : goal.rest_of-rest-requires-clause-queue
+rest_of-rest-requires-clause-queue c =
+    let end = ends c.args.self.plan c.args.self.table.shared.key c.args.seats.items _ _ _ _ c.args.self.laid_out.key c.gather.ensures.seat c.close_with-closed.ensures.values.2 in
+    queue_at_end c.args.self.plan c.args.seats.items _ _ (omega (arith, ap (λ z. z.setup.size) c.plan.view_is, c.in-Ok.ensures.exact)) end
+
+pub returns-clause-rest : goal.returns-clause-rest
+returns-clause-rest c =
+    let end = ends c.args.self.plan c.args.self.table.shared.key c.args.seats.items _ _ _ _ c.args.self.laid_out.key c.gather.ensures.seat c.close_with-closed.ensures.values.2 in
+    let told = c.rest_of-rest.ensures in
+    closes_at_end c.args.self c.args.seats.items _ c.pushes_by-pushes.result c.pops_by-pops.result c.rest_of-rest.result end
+    (c.pushes_by-pushes.ensures ∙ ap (λ xs. pushes_of (map known_of xs)) c.deref.ensures.value)
+    (c.pops_by-pops.ensures ∙ ap (λ xs. pops_of (map known_of xs)) c.deref-2.ensures.value)
+    (record { left = told.left; taken = told.taken; whole = told.whole })

@@ -1,0 +1,46 @@
+-- What is left of a queue, by the words of its table.
+use Rattle.std.specs.Prelude.{◌≡◌, ◌≢◌, ℕ, ◌+◌, ◌*◌, ◌/◌, ◌%◌, ◌^◌, ◌<◌, ◌≤◌, List, [], ◌∷◌, length, slice_index}
+use Rattle.counted_ref.specs.Ref.{Ref, ref_of, node_bits, reserved_node}
+use Rattle.history.specs.declared.operations.Taken.{Taken}
+
+-- the value of a word: the seat is in its upper bits, and the body in the 48 lower ones
+abbrev pub value_of : ℕ → Taken
+value_of word = record { from = word / 2 ^ 48; body = word % 2 ^ 48 }
+
+-- the reference in the word at a place
+abbrev pub ref_at : List ℕ → ℕ → Ref
+ref_at words place = ref_of (slice_index words place)
+
+-- the word at a place is there, and it has a reference
+pub record HasRef (words : List ℕ) (place : ℕ) : Type 0 where
+  pub there : place < length words
+  pub named : slice_index words place % 2 ^ node_bits ≢ reserved_node
+
+-- both words of a node are there, and the first has a reference
+pub record HasNode (words : List ℕ) (node : ℕ) : Type 0 where
+  pub next : HasRef words (4 + 2 * node)
+  pub value : 5 + 2 * node < length words
+
+-- from a node on, where each names the next one and the last one null, the nodes have these values
+abbrev pub HaveValues : List ℕ → (node : ℕ) → List Taken → Type 0
+HaveValues words node [] = node ≡ 0
+HaveValues words node (value ∷ values) =
+    (1 ≤ node) × HasNode words node × (value ≡ value_of (slice_index words (5 + 2 * node))) ×
+    HaveValues words (ref_at words (4 + 2 * node)).node values
+
+-- from a node on there are some values, no more than there is room for, nor than words
+pub record HasValues (words : List ℕ) (node most : ℕ) : Type 0 where
+  pub values : List Taken
+  pub chain : HaveValues words node values
+  pub room : length values ≤ most
+  pub few : length values ≤ length words
+
+-- the node behind that of Head
+abbrev pub front_of : List ℕ → ℕ
+front_of words = (ref_at words (4 + 2 * (ref_at words 2).node)).node
+
+-- the words of a queue, with room for its values
+pub record IsQueue (words : List ℕ) (room : ℕ) : Type 0 where
+  pub head : HasRef words 2
+  pub dummy : HasNode words (ref_at words 2).node
+  pub behind : HasValues words (front_of words) room

@@ -1,0 +1,86 @@
+//! The end of an arena.
+ghost use Rattle.std.specs.Prelude.{◌≡◌, ◌<◌, [], map, IfOk, IfErr};
+ghost use Rattle.std.specs.List.{All};
+ghost use Rattle.history.specs.Closing.{pushes_of, pops_of, Closes};
+ghost use Rattle.node_arena.specs.Seats.{view, known_of, permits_of, IsReady};
+ghost use Rattle.node_arena.specs.Closing.{HasToken, HasGathered, CountsItsOwn};
+
+use crate::arena::Arena;
+use crate::remains::{Made, rest_of};
+use crate::seats::Seat;
+use crate::views::{Gather, Open, SeatToken, WordTable};
+use history::{Refusal, Rest};
+use std::alloc::Global;
+
+// How many pushes the seats made.
+fn pushes_by(seats: &[Seat]) -> u128
+    requires { All CountsItsOwn seats.now }
+    ensures { result ≡ pushes_of (map known_of seats.now) }
+{
+    let mut pushes: u128 = 0;
+    for seat in seats {
+        pushes += u128::from(seat.pushes);
+    }
+    pushes
+}
+
+// How many pops the seats made.
+fn pops_by(seats: &[Seat]) -> u128
+    requires { All CountsItsOwn seats.now }
+    ensures { result ≡ pops_of (map known_of seats.now) }
+{
+    let mut pops: u128 = 0;
+    for seat in seats {
+        pops += u128::from(seat.pops);
+    }
+    pops
+}
+
+// The token takes in those of the seats.
+fn gather(table: &WordTable, gatherer: &mut SeatToken, seats: Vec<Seat>)
+    requires words { 0 < table.now.shared.table_id.words }
+    requires gatherer { HasGathered table.now.shared.table_id gatherer.old [] }
+    requires seats { All (HasToken table.now.shared.table_id) seats.items }
+    ensures { HasGathered table.now.shared.table_id gatherer.new (map view seats.items) }
+{
+    for seat in seats {
+        let Seat {
+            token,
+            number: _,
+            role: _,
+            pocket: _,
+            failed: _,
+            pushes: _,
+            pops: _,
+        } = seat;
+        let shared = &table.shared;
+        shared.join_seat::<Gather>(gatherer, token);
+    }
+}
+
+impl Arena {
+    /// Ends the arena and the seats handed in, each of which is one of its own and in no call: which values are left in
+    /// the queue, how many were taken from it, and whether these seats made all its pushes and pops.
+    ///
+    /// Refused by `Memory` alone, before anything is done; the arena is then given up. Takes memory for as many values as
+    /// there are nodes, and doesn't wait.
+    pub fn close(self, alloc: Global, seats: Vec<Seat>) -> Result<Rest, Refusal>
+        requires { All (IsReady self) seats.items }
+        ensures rest { IfOk result (λ rest. Closes (permits_of self) (map known_of seats.items) rest) }
+        ensures only_memory { IfErr result (λ why. why ≡ Refusal.Memory) }
+    {
+        let Arena { table, plan } = self;
+        let Ok(room) = Vec::with_capacity(alloc, plan.setup.size as usize) else {
+            return Err(Refusal::Memory);
+        };
+        let pushes = pushes_by(&seats);
+        let pops = pops_by(&seats);
+        let shared = &table.shared;
+        let mut gatherer = shared.load_new_seat::<Open>(0).1;
+        gather(&table, &mut gatherer, seats);
+        let closed = table.close_with(gatherer);
+        let rest = rest_of(&closed, Made { pushes, pops }, room);
+        closed.free();
+        Ok(rest)
+    }
+}

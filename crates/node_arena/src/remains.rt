@@ -1,0 +1,98 @@
+//! What is left of a queue, by the words of its closed table.
+ghost use Rattle.std.specs.Prelude.{◌≡◌, ◌↔◌, ◌+◌, ◌*◌, ◌<◌, IsTrue, [], length, slice_index};
+ghost use Rattle.std.specs.Prelude.{vec_capacity};
+ghost use Rattle.std.specs.Slots.{slots_items, IsFull};
+ghost use Rattle.history.specs.Rests.{left_of, taken_of, whole_of};
+ghost use Rattle.node_arena.specs.Remains as remains;
+ghost use Rattle.node_arena.specs.Remains.{ref_at, front_of, HasRef, HasNode, HaveValues};
+ghost use Rattle.node_arena.specs.Remains.{HasValues, IsQueue};
+
+use crate::accessing::reference;
+use atomic_table::Closed;
+use counted_ref::CountedRef;
+use history::{Body, Rest, Taken};
+use std::alloc::Global;
+
+/// The table of an arena, once no thread shares it any more.
+pub(crate) type ClosedTable = Closed<u8, Global>;
+
+/// How many pushes and pops some seats made. There is room for those of any list of seats.
+#[derive(Clone, Copy)]
+pub(crate) struct Made {
+    pub(crate) pushes: u128,
+    pub(crate) pops: u128,
+}
+
+fn word_at(closed: &ClosedTable, place: usize) -> u64
+    requires full { IsFull closed.now.words }
+    requires there { place < length (slots_items closed.now.words) }
+    ensures { result ≡ slice_index (slots_items closed.now.words) place }
+{
+    closed.word(place)
+}
+
+fn reference_at(closed: &ClosedTable, place: usize) -> CountedRef
+    requires full { IsFull closed.now.words }
+    requires there { HasRef (slots_items closed.now.words) place }
+    ensures { result ≡ ref_at (slots_items closed.now.words) place }
+{
+    reference(word_at(closed, place))
+}
+
+// The node that a node names as the next one.
+fn next_of(closed: &ClosedTable, node: u32) -> u32
+    requires full { IsFull closed.now.words }
+    requires there { HasNode (slots_items closed.now.words) node }
+    ensures { result ≡ (ref_at (slots_items closed.now.words) (4 + 2 * node)).node }
+{
+    reference_at(closed, 4 + 2 * node as usize).node()
+}
+
+fn value_of(closed: &ClosedTable, node: u32) -> Taken
+    requires full { IsFull closed.now.words }
+    requires there { HasNode (slots_items closed.now.words) node }
+    ensures { result ≡ remains.value_of (slice_index (slots_items closed.now.words) (5 + 2 * node)) }
+{
+    let word = word_at(closed, 5 + 2 * node as usize);
+    let Some(body) = Body::new(word % 281_474_976_710_656) else {
+        unreachable!()
+    };
+    Taken {
+        from: (word / 281_474_976_710_656) as u16,
+        body,
+    }
+}
+
+// The values from a node on, put into an empty list that has room for them.
+fn values_from(closed: &ClosedTable, first: u32, mut values: Vec<Taken>) -> Vec<Taken>
+    requires full { IsFull closed.now.words }
+    requires some { HasValues (slots_items closed.now.words) first (vec_capacity values) }
+    requires empty { values.items ≡ [] }
+    ensures { HaveValues (slots_items closed.now.words) first result.items }
+{
+    let mut node = first;
+    while node != 0 {
+        values.push(value_of(closed, node)).unwrap();
+        node = next_of(closed, node);
+    }
+    values
+}
+
+/// What is left in a queue, how many values were taken from it, and whether these are all pushes and pops. The list is an
+/// empty one with room for the values left.
+pub(crate) fn rest_of(closed: &ClosedTable, made: Made, room: Vec<Taken>) -> Rest
+    requires full { IsFull closed.now.words }
+    requires queue { IsQueue (slots_items closed.now.words) (vec_capacity room) }
+    requires empty { room.items ≡ [] }
+    ensures left { let words = slots_items closed.now.words in HaveValues words (front_of words) (left_of result) }
+    ensures taken { taken_of result ≡ (ref_at (slots_items closed.now.words) 2).count }
+    ensures whole { IsTrue (whole_of result) ↔
+        ((made.pops ≡ taken_of result) × (made.pushes ≡ taken_of result + length (left_of result))) }
+{
+    let head = reference_at(closed, 2);
+    let left = values_from(closed, next_of(closed, head.node()), room);
+    let taken = head.count();
+    let pushes = u128::from(taken) + left.len() as u128;
+    let whole = made.pops == u128::from(taken) && made.pushes == pushes;
+    Rest::of(left, taken, whole)
+}

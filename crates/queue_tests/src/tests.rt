@@ -1,0 +1,3 @@
+//! Runs of queues, with the answers of runs worked out by hand.
+mod calls;
+mod two_lock;
