@@ -42,7 +42,7 @@ use Rattle.node_arena.specs.Plans.{Layout, IsPermitted}
 use Rattle.node_arena.specs.Rule.{Fits, Holds}
 use Rattle.node_arena.specs.Seats.{IsReady, view, known_of, permits_of}
 use Rattle.node_arena.specs.Closing.{HasToken, CountsItsOwn}
-use Rattle.node_arena.specs.Remains.{value_of, ref_at, front_of, HasRef, HasNode, HaveValues, IsQueue}
+use Rattle.node_arena.specs.Remains.{value_of, ref_at, front_of, HasRef, HasNode, HaveValues, AreLeft, IsQueue}
 use Rattle.node_arena.proofs.Tracing.{traced_reached}
 use Rattle.node_arena.proofs.Histories.{history_plays, counts_pops}
 use Rattle.node_arena.proofs.Told.{places_of}
@@ -105,7 +105,7 @@ record Left (w : World) : Type 0 where
   chain : IsChain w.shared.nodes w.shared.head.node queue
   head : HasRef (words_of w.shared) 2
   dummy : HasNode (words_of w.shared) (ref_at (words_of w.shared) 2).node
-  values : HaveValues (words_of w.shared) (front_of (words_of w.shared)) (queue_values w.shared queue)
+  values : AreLeft (words_of w.shared) (queue_values w.shared queue)
   few : length (queue_values w.shared queue) ≤ w.setup.size
   long : length (words_of w.shared) ≡ 6 + 2 * w.setup.size
 
@@ -202,7 +202,7 @@ numbers_apart z seats words e i j k l a b same =
 
 -- what is told of the rest, by the words and by what the seats made
 pub record Rests (words : List ℕ) (pushes pops : ℕ) (rest : Rest) : Type 0 where
-  pub left : HaveValues words (front_of words) (left_of rest)
+  pub left : AreLeft words (left_of rest)
   pub taken : taken_of rest ≡ (ref_at words 2).count
   pub whole : IsTrue (whole_of rest) ↔ ((pops ≡ taken_of rest) × (pushes ≡ taken_of rest + length (left_of rest)))
 
@@ -211,7 +211,7 @@ pub closes_at_end : (r : Arena) (seats : List Seat) (words : List ℕ) (pushes p
 closes_at_end r seats words pushes pops rest e pushed popped h =
     let t : Traced = e.trace in
     let l : Left t.world = left_in t.world (traced_reached t e.reached) in
-    let told : HaveValues (words_of t.world.shared) (front_of (words_of t.world.shared)) (left_of rest) = subst (λ ws. HaveValues ws (front_of ws) (left_of rest)) e.words_are h.left in
+    let told : AreLeft (words_of t.world.shared) (left_of rest) = subst (λ ws. AreLeft ws (left_of rest)) e.words_are h.left in
     let same : queue_values t.world.shared l.queue ≡ left_of rest = same_values (words_of t.world.shared) (front_of (words_of t.world.shared)) _ _ l.values told in
     let leads : LeadsTo t.history (left_of rest) = subst (λ vs. Plays empty t.history (record { values = vs })) same (history_plays t e.reached l.queue l.chain) in
     let head : ref_at (words_of t.world.shared) 2 ≡ t.world.shared.head = head_is t.world.shared (shared_fits t.world (reached_in_range t.world (traced_reached t e.reached))) in

@@ -35,9 +35,13 @@ pub record HasValues (words : List ℕ) (node most : ℕ) : Type 0 where
   pub room : length values ≤ most
   pub few : length values ≤ length words
 
--- the node behind that of Head
+-- the node behind Head's
 abbrev pub front_of : List ℕ → ℕ
 front_of words = (ref_at words (4 + 2 * (ref_at words 2).node)).node
+
+-- these are the values of a queue, the front first: those from the node behind Head's on
+abbrev pub AreLeft : List ℕ → List Taken → Type 0
+AreLeft words values = HaveValues words (front_of words) values
 
 -- the words of a queue, with room for its values
 pub record IsQueue (words : List ℕ) (room : ℕ) : Type 0 where

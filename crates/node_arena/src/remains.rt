@@ -1,11 +1,11 @@
 //! What is left of a queue, by the words of its closed table.
-ghost use Rattle.std.specs.Prelude.{◌≡◌, ◌↔◌, ◌+◌, ◌*◌, ◌<◌, IsTrue, [], length, slice_index};
-ghost use Rattle.std.specs.Prelude.{vec_capacity};
+ghost use Rattle.std.specs.Prelude.{◌≡◌, ◌↔◌, ◌+◌, ◌*◌, ◌<◌, IsTrue, [], length};
+ghost use Rattle.std.specs.Prelude.{slice_index, vec_capacity};
 ghost use Rattle.std.specs.Slots.{slots_items, IsFull};
 ghost use Rattle.history.specs.Rests.{left_of, taken_of, whole_of};
 ghost use Rattle.node_arena.specs.Remains as remains;
-ghost use Rattle.node_arena.specs.Remains.{ref_at, front_of, HasRef, HasNode, HaveValues};
-ghost use Rattle.node_arena.specs.Remains.{HasValues, IsQueue};
+ghost use Rattle.node_arena.specs.Remains.{ref_at, HasRef, HasNode, HaveValues, HasValues};
+ghost use Rattle.node_arena.specs.Remains.{AreLeft, IsQueue};
 
 use crate::accessing::reference;
 use atomic_table::Closed;
@@ -84,7 +84,7 @@ pub(crate) fn rest_of(closed: &ClosedTable, made: Made, room: Vec<Taken>) -> Res
     requires full { IsFull closed.now.words }
     requires queue { IsQueue (slots_items closed.now.words) (vec_capacity room) }
     requires empty { room.items ≡ [] }
-    ensures left { let words = slots_items closed.now.words in HaveValues words (front_of words) (left_of result) }
+    ensures left { AreLeft (slots_items closed.now.words) (left_of result) }
     ensures taken { taken_of result ≡ (ref_at (slots_items closed.now.words) 2).count }
     ensures whole { IsTrue (whole_of result) ↔
         ((made.pops ≡ taken_of result) × (made.pushes ≡ taken_of result + length (left_of result))) }
