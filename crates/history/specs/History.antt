@@ -64,7 +64,7 @@ answer queue o (Some (Value v)) = given o.actor o.op queue
 answer queue o (Some Empty) = given o.actor o.op queue
 answer queue o None = given o.actor o.op queue
 
--- the queue gives the reply that an operation was told; an unfinished one was told nothing
+-- the queue gives the reply that an operation was told; a pending one was told nothing
 abbrev pub Gets : Queue → Stamped → Option Reply → Type 0
 Gets queue o (Some (Refused why)) = leaves why ≡ true
 Gets queue o (Some Done) = Done ≡ (given o.actor o.op queue).reply

@@ -51,7 +51,7 @@ opening s actors =
 abbrev pub actor_of : World → ℕ → Option Actor
 actor_of w me = if nat_eq me 0 then None else slice_get w.actors (me - 1)
 
--- an actor that rests before its node was used: the node goes to the pocket, and the call stays unfinished
+-- an actor that rests before its node was used: the node goes to the pocket, and the call stays pending
 abbrev pub rested : Actor → Actor
 rested a = record (to_pocket a) { line = None }
 

@@ -52,7 +52,7 @@ pub record TookItsEffect (s : Setup) (actors : ℕ) (moves : List AnyMove) (o : 
   pub step : TookEffect s actors moves o.actor number
   pub line : IsEffectLineOf o.op step.line
 
--- each operation that is unfinished, or done, or got a value, has its place, if any, by an effect at a line of its call
+-- each operation that is pending, or done, or got a value, has its place, if any, by an effect at a line of its call
 abbrev pub ArePlacedAtTheirLines : Setup → (actors : ℕ) → List AnyMove → List Stamped → Type 0
 ArePlacedAtTheirLines s actors moves ops =
     AllByRecursion (λ o. IsByEffect o.reply → IfSome o.at (TookItsEffect s actors moves o)) ops

@@ -37,13 +37,13 @@ IsByEffect (Some (Value v)) = Unit {0}
 IsByEffect (Some Empty) = ⊥
 IsByEffect (Some (Refused why)) = ⊥
 
--- each operation that is unfinished, or done, or got a value, has its place, if any, at a step of its actor that had an
+-- each operation that is pending, or done, or got a value, has its place, if any, at a step of its actor that had an
 -- effect
 abbrev pub ArePlacedByEffect : Setup → (actors : ℕ) → List AnyMove → List Stamped → Type 0
 ArePlacedByEffect s actors moves ops =
     AllByRecursion (λ o. IsByEffect o.reply → IfSome o.at (TookEffect s actors moves o.actor)) ops
 
--- each operation that is unfinished has its place at the step of its actor that had an effect, if there was one since
+-- each operation that is pending has its place at the step of its actor that had an effect, if there was one since
 -- its first number
 abbrev pub HaveTheirEffect : Setup → (actors : ℕ) → List AnyMove → List Stamped → Type 0
 HaveTheirEffect s actors moves ops =

@@ -20,7 +20,7 @@ pub fn every_history_is_linearizable()
 /// Every history is placed and legal: of either queue, of any size, greatest count and number of actors in range, and
 /// after any list of begins, steps, givings up and rests, in any order and with any actor stopped anywhere.
 ///
-/// So all completed operations and some unfinished ones, each placed at one step between its first and its last, are a
+/// So all completed operations and some pending ones, each placed at one step between its first and its last, are a
 /// run of one first-in-first-out list that gives every reply given.
 pub fn every_history_is_placed_and_legal()
     ensures placed { OfEachHistory Placement }
@@ -28,7 +28,7 @@ pub fn every_history_is_placed_and_legal()
 {}
 
 /// Which operations have a place, and where. One that is done or got a value has it at the number of a step of its own
-/// actor that had an effect on the queue: a successful E9 or D13, or an A5 or B5. An unfinished one has such a place or
+/// actor that had an effect on the queue: a successful E9 or D13, or an A5 or B5. A pending one has such a place or
 /// none; after begins, steps and givings up it has one exactly if its actor took such a step since its first number.
 pub fn operations_are_placed_by_their_effects()
     ensures places { OfOperations ArePlacedByEffect }
