@@ -13,10 +13,6 @@ equal_refs a b n c = λ i. record { node = n i; count = c i }
 pub ref_word_fits : (r : Ref) → IsRef r → ref_word r < 2 ^ 64
 ref_word_fits r h = omega arith
 
--- the word of the reference that a word holds is that word
-pub ref_word-ref_of : (word : ℕ) → ref_word (ref_of word) ≡ word
-ref_word-ref_of word = omega arith
-
 -- the reference that the word of a reference in range holds is that reference
 pub ref_of-ref_word : (r : Ref) → IsRef r → ref_of (ref_word r) ≡ r
 ref_of-ref_word r h = equal_refs (ref_of (ref_word r)) r (omega arith) (omega arith)

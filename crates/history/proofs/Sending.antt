@@ -1,6 +1,6 @@
 -- Lemmas on texts that reach a sink in several calls.
 use Rattle.std.proofs.Common.{◌≡◌, ℕ, List, [], ◌++◌, None, Some, Option, refl, sym, ap, ◌∙◌, append_assoc, append-nil, subst}
-use Rattle.std.specs.Io.KnownBytes.{Appends, Keeps}
+use Rattle.std.specs.Io.KnownBytes.{Appends}
 use Rattle.history.specs.Blocks.{Sends, TakesBeginning}
 
 -- a sink that took xs and then ys took both
@@ -13,11 +13,6 @@ Appends-trans (Some x) (Some y) (Some z) xs ys p q = q ∙ ap (λ l. l ++ ys) p 
 pub Appends-nil : (a : Option (List ℕ)) → Appends a a []
 Appends-nil None = tt
 Appends-nil (Some x) = sym (append-nil x)
-
-pub Appends-Keeps : (a b : Option (List ℕ)) → Keeps a b → Appends a b []
-Appends-Keeps None b p = tt
-Appends-Keeps (Some x) None p = absurd p
-Appends-Keeps (Some x) (Some y) p = p ∙ sym (append-nil x)
 
 -- before the first call all of the text is held back
 pub Sends-none : (a : Option (List ℕ)) (text : List ℕ) → Sends a a text text

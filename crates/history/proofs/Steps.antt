@@ -20,10 +20,6 @@ use Rattle.history.proofs.Texts.{said, state-said, due-some, due-none, history-s
 abbrev pub BeginsHistory : ℕ → List Stamped → List ℕ → List ℕ → Type 0
 BeginsHistory count ops text rest = Begins history_grammar First (Count count ∷ said ops) text rest
 
--- the first line is read
-pub BeginsHistory-first : (count : ℕ) (text rest : List ℕ) → IsAfterFirst text count rest → BeginsHistory count [] text rest
-BeginsHistory-first count text rest after = Begins-more history_grammar First First [] (Count count) text text rest (Begins-nothing history_grammar First text) refl refl tt after.0 after.1
-
 -- one more operation is read
 pub BeginsHistory-next : (count : ℕ) (ops new : List Stamped) (text rest says later : List ℕ) → BeginsHistory count ops text rest → length ops < count
     → rest ≡ line says ++ later → AddsOperation ops new says → BeginsHistory count new text later
@@ -72,10 +68,6 @@ whole-history count ops text rest begins counted empty =
     IsText-whole history_grammar First (Operations (count - length ops)) (Count count ∷ said ops) text rest begins (state-said ops count)
     (due-none (count - length ops) (omega arith)) empty in
     history-spelled ops text (subst (λ (count : ℕ). IsText history_grammar First (Count count ∷ said ops) text) (sym counted) is)
-
--- the first line is due, and there is no line feed
-pub fault-no_line : (text : List ℕ) → HasNo 10 text → IsFirstFault history_grammar First text 1 End
-fault-no_line text none = first_fault-end history_grammar First First [] text text 1 (Begins-nothing history_grammar First text) refl refl refl none
 
 -- the first line is wrong
 pub fault-first : (text says rest : List ℕ) (cause : TextCause) → text ≡ line says ++ rest → HasNo 10 says → IsWrong (SaysCount says) IsCount cause

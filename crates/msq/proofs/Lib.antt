@@ -1,7 +1,6 @@
 mod Told
 mod Moves
 mod Leading
-mod Consuming
 mod Stops
 mod Words
 mod Taking

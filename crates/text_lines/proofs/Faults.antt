@@ -7,11 +7,6 @@ use Rattle.text_lines.specs.Lines.{HasNo, line}
 use Rattle.text_lines.specs.Readings.{IsWrong}
 use Rattle.text_lines.specs.Grammars.{Grammar, Says, AreDue, state_after, lines_of, Begins, IsText, IsWrongLine, IsFirstFault}
 
--- the state after one more line
-pub state_after-push : {S R : Type 0} (g : Grammar S R) (s : S) (rs : List R) (r : R) → state_after g s (rs ++ r ∷ []) ≡ g.after (state_after g s rs) r
-state_after-push g s [] r = refl
-state_after-push g s (q ∷ rs) r = state_after-push g (g.after s q) rs r
-
 -- one more line that is due
 pub AreDue-push : {S R : Type 0} (g : Grammar S R) (s : S) (rs : List R) (r : R) → AreDue g s rs → g.is_due (state_after g s rs) ≡ true
     → g.may_say (state_after g s rs) r → g.in_range (state_after g s rs) r → AreDue g s (rs ++ r ∷ [])
