@@ -13,7 +13,7 @@ use Rattle.history.specs.declared.refusals.Refusal.TheVariants.{Memory, Text}
 use Rattle.history.specs.declared.operations.Stamped.{Stamped}
 use Rattle.history.specs.HistoryText.{history_text}
 use Rattle.history.specs.HistoryLines.{HistoryLine, Count, Operation, First, Operations, IsHistoryInRange, IsFirstFaultOfHistory, history_grammar}
-use Rattle.history.specs.HistoryReading.{IsAfterFirst, AddsOperation, IsWrongOperation, SaysCount, IsCount}
+use Rattle.history.specs.HistoryReading.{AddsOperation, IsWrongOperation, SaysCount, IsCount}
 use Rattle.history.proofs.Texts.{said, state-said, due-some, due-none, history-spelled, wrong-operation, wrong-count}
 
 -- a text begins with its first line and the lines of these operations

@@ -1,15 +1,8 @@
 -- Moves one after another.
-use Rattle.std.proofs.Common.{◌≡◌, ℕ, ◌+◌, List, [], ◌∷◌, ◌++◌, Option, Some, None, Bool, true, false, cond, refl}
+use Rattle.std.proofs.Common.{◌≡◌, ℕ, ◌+◌, List, [], ◌∷◌, ◌++◌, Option, Some, None, refl}
 use Rattle.std.specs.Prelude.{replicate}
-use Rattle.history.specs.declared.operations.Op.{Op}
-use Rattle.line_table.specs.declared.lines.Line.{Line}
-use Rattle.line_steps.specs.declared.actors.Actor.{Actor}
-use Rattle.line_steps.specs.Calling.{is_call, begun}
-use Rattle.line_steps.specs.declared.actors.Outcome.{Outcome}
-use Rattle.line_steps.specs.Lines.{gives_up}
 use Rattle.step_machine.specs.declared.actors.Move.{Move}
-use Rattle.step_machine.specs.declared.actors.Move.TheVariants.{Begin, Step, Give}
-use Rattle.step_machine.specs.Machine.{World, next, run_on, moved, actor_of, begins, steps, stepped, given, gives, settled, with_actor}
+use Rattle.step_machine.specs.Machine.{World, next, run_on}
 use Rattle.std.proofs.lemmas.List.{replicate-append-replicate}
 use Rattle.msq.specs.Runs.{world_after}
 
