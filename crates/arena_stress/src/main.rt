@@ -8,6 +8,7 @@ mod tests;
 
 use crate::running::{alone, found, four};
 use crate::seating::eight_seats;
+use counted_ref::MOST_COUNT;
 use std::time::Instant;
 use std::{env, io};
 
@@ -15,7 +16,7 @@ use std::{env, io};
 const NODES: u32 = 9;
 
 /// The greatest count.
-const LIMIT: u64 = 1_099_511_627_775;
+const LIMIT: u64 = MOST_COUNT;
 
 /// How often each of the four threads takes a node and gives it back.
 const PAIRS: u32 = 250_000;

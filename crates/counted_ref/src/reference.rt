@@ -13,6 +13,12 @@ const NODE_SPAN: u64 = 1 << NODE_BITS;
 /// The node number that no reference has: all node bits are set.
 const RESERVED_NODE: u64 = NODE_SPAN - 1;
 
+/// The greatest number of a node, 16,777,214.
+pub const MOST_NODE: u32 = (1 << NODE_BITS) - 2;
+
+/// The greatest count, 1,099,511,627,775.
+pub const MOST_COUNT: u64 = (1 << (64 - NODE_BITS)) - 1;
+
 /// A counted reference: a node number in the low 24 bits of one word, and a count in the high 40.
 ///
 /// Node 0 is null, nodes are 1 to 16,777,214, and 16,777,215 is reserved. Counts are 0 to

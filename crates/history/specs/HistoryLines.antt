@@ -1,8 +1,9 @@
 -- The grammar of histories: what each line may say, in which words, and which of this is in range.
-use Rattle.std.specs.Prelude.{◌≡◌, ◌≤◌, ◌-◌, ℕ, zero, suc, List, [], ◌∷◌, ◌++◌, Option, Some, None, Bool, true, false, length, codes, map, All}
+use Rattle.std.specs.Prelude.{◌≡◌, ◌≤◌, ◌-◌, ◌^◌, ℕ, zero, suc, List, [], ◌∷◌, ◌++◌, Option, Some, None, Bool, true, false, length, codes, map, All}
 use Rattle.text_lines.specs.declared.causes.TextCause.{TextCause}
 use Rattle.text_lines.specs.Lines.{spaced}
 use Rattle.text_lines.specs.Numerals.{numeral, IsWithin}
+use Rattle.history.specs.Limits.{body_bits, actor_bits}
 use Rattle.text_lines.specs.Grammars.{Grammar, IsFirstFault}
 use Rattle.history.specs.declared.refusals.Refusal.{Refusal}
 use Rattle.history.specs.declared.refusals.Refusal.TheVariants.{WornOut, Memory, Text}
@@ -76,11 +77,11 @@ IsQueueReply (Some (Refused why)) = leaves why ≡ true
 
 -- the number of an actor
 abbrev pub IsActor : ℕ → Type 0
-IsActor actor = IsWithin 1 65535 actor
+IsActor actor = IsWithin 1 (2 ^ actor_bits - 1) actor
 
 -- the number of a body
 abbrev pub IsBody : ℕ → Type 0
-IsBody body = IsWithin 0 281474976710655 body
+IsBody body = IsWithin 0 (2 ^ body_bits - 1) body
 
 -- the number of a step
 abbrev pub IsStep : ℕ → Type 0

@@ -1,3 +1,4 @@
+pub mod Limits
 pub mod Queue
 pub mod Entries
 pub mod Seats

@@ -23,7 +23,9 @@ pub use blocks::{BLOCK, Block};
 pub use checking::check;
 pub use devices::{Sink, Source};
 pub use lines::{LINE_ROOM, Line};
-pub use operations::{Body, Cause, Entry, Op, Reply, Stamped, Taken, Verdict};
+pub use operations::{
+    Body, Cause, Entry, MOST_ACTOR, MOST_BODY, Op, Reply, Stamped, Taken, Verdict,
+};
 pub use parsing::parse_history;
 pub use printing::{print_history, push_call, push_reply};
 pub use queues::Fifo;

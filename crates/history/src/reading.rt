@@ -7,8 +7,8 @@ ghost use Rattle.history.specs.HistoryLines.{IsStepInRange, IsReplyInRange, IsOp
 ghost use Rattle.history.specs.HistoryReading.{labelled_number, labelled_step};
 ghost use Rattle.history.specs.HistoryReading.{AreOfOperation, SaysOperation, AreOfCount, SaysCount, IsCount};
 
-use crate::operations::{Body, Op, Reply, Stamped};
-use crate::replies::{MOST_ACTORS, MOST_BODY, reply_of};
+use crate::operations::{Body, MOST_ACTOR, MOST_BODY, Op, Reply, Stamped};
+use crate::replies::reply_of;
 use text_lines::{TextCause, Words, number_in};
 
 const MOST_OPERATIONS: u64 = 1_000_000;
@@ -40,7 +40,7 @@ pub fn operation_of(line: &[u8]) -> Result<Stamped, TextCause>
 fn parts_of(mut words: Words) -> Result<Option<Stamped>, TextCause>
     ensures { Reads (AreOfOperation words.entry) IsOperationInRange result }
 {
-    let actor = words.number(1, MOST_ACTORS)?;
+    let actor = words.number(1, MOST_ACTOR)?;
     let op = call_of(&mut words)?;
     let first = labelled(&mut words, b"first", 1, u64::MAX)?;
     let last = step_of(&mut words, b"last")?;

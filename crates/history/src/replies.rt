@@ -4,13 +4,9 @@ ghost use Rattle.text_lines.specs.Readings.{IsKept, Reads};
 ghost use Rattle.history.specs.HistoryLines.{IsActor, IsBody, IsValueInRange, IsReplyInRange};
 ghost use Rattle.history.specs.HistoryReading.{AreOfReply, AreOfRefusal, AreOfValue, AreOfWord, IsPlainReply};
 
-use crate::operations::{Body, Reply, Taken};
+use crate::operations::{Body, MOST_ACTOR, MOST_BODY, Reply, Taken};
 use crate::refusals::{Refusal, WornWord};
 use text_lines::{TextCause, Words};
-
-pub const MOST_ACTORS: u64 = 65_535;
-
-pub const MOST_BODY: u64 = 281_474_976_710_655;
 
 /// The reply that these words are, or none for a dash; it is left out where a number in it is out of
 /// range.
@@ -54,7 +50,7 @@ fn value_reply(value: Option<Taken>) -> Option<Option<Reply>>
 fn value_of(mut words: Words) -> Result<Option<Taken>, TextCause>
     ensures { Reads (AreOfValue words.entry) IsValueInRange result }
 {
-    let from = words.number(1, MOST_ACTORS)?;
+    let from = words.number(1, MOST_ACTOR)?;
     let body = words.number(0, MOST_BODY)?;
     words.expect_end()?;
     Ok(taken(from, body))

@@ -1,5 +1,6 @@
 -- How an actor begins a call, and how a call ends with a reply.
 use Rattle.std.specs.Prelude.{ℕ, ◌^◌, Bool, true, Option, Some, None, nat_lt}
+use Rattle.history.specs.Limits.{body_bits}
 use Rattle.line_table.specs.declared.lines.Kind.{Kind}
 use Rattle.line_table.specs.declared.lines.Line.{Line}
 use Rattle.line_table.specs.declared.lines.Line.TheVariants.{N1, F1}
@@ -13,7 +14,7 @@ use Rattle.line_steps.specs.Lines.{takes, with_node, dequeues}
 
 -- whether a call can be made: a body is below 2^48
 abbrev pub is_call : Op → Bool
-is_call (Enq body) = nat_lt body (2 ^ 48)
+is_call (Enq body) = nat_lt body (2 ^ body_bits)
 is_call Deq = true
 
 -- a call with a full pocket starts at a line of its own, with the node and its mark in the hand

@@ -1,12 +1,13 @@
 -- When a step can be taken: the numbers of a setup and of an actor's registers that can be used.
-use Rattle.std.specs.Prelude.{ℕ, ◌-◌, ◌^◌, ◌<◌, ◌≤◌}
+use Rattle.std.specs.Prelude.{ℕ, ◌^◌, ◌<◌, ◌≤◌}
+use Rattle.counted_ref.specs.Ref.{reserved_node, count_bits}
 use Rattle.line_steps.specs.declared.actors.Setup.{Setup}
 use Rattle.line_steps.specs.declared.actors.Actor.{Actor}
 
 -- the numbers of a setup fit the parts of a reference
 pub record IsCounted (s : Setup) : Type 0 where
-  pub size : s.size < 2 ^ 24 - 1
-  pub limit : s.limit < 2 ^ 40
+  pub size : s.size < reserved_node
+  pub limit : s.limit < 2 ^ count_bits
 
 -- the registers of an actor can be used: their numbers are in range, and there is room for the nodes that they name
 pub record IsReady (s : Setup) (room : ℕ) (a : Actor) : Type 0 where

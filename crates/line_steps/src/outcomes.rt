@@ -1,5 +1,6 @@
 //! What a step makes of its actor, by the words of the line table.
-ghost use Rattle.std.specs.Prelude.{◌≡◌, ◌-◌, ◌<◌, ◌≤◌, ◌^◌, Some, None, true};
+ghost use Rattle.std.specs.Prelude.{◌≡◌, ◌<◌, ◌≤◌, ◌^◌, Some, None, true};
+ghost use Rattle.counted_ref.specs.Ref.{reserved_node, count_bits};
 ghost use Rattle.line_steps.specs.Lines as lines;
 ghost use Rattle.line_steps.specs.Calling as calling;
 
@@ -137,8 +138,8 @@ pub fn freed(kind: Kind, now: u64, due: Option<Reply>, actor: Actor) -> Outcome
 }
 
 pub fn raised(setup: Setup, old: CountedRef, to: u32) -> CountedRef
-    requires node { to < 2 ^ 24 - 1 }
-    requires limit { setup.limit < 2 ^ 40 }
+    requires node { to < reserved_node }
+    requires limit { setup.limit < 2 ^ count_bits }
     requires count { old.count ≤ setup.limit }
     ensures { result ≡ lines.raised setup old to }
 {

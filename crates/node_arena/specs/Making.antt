@@ -1,11 +1,11 @@
 -- What `Arena::new` gives, and why it is refused.
-use Rattle.std.specs.Prelude.{◌≡◌, ℕ, ◌+◌, ◌-◌, ◌*◌, ◌^◌, ◌<◌, ◌≤◌, ◌⊎◌, List, [], ◌∷◌, length, replicate, Some, None, slice_get}
+use Rattle.std.specs.Prelude.{◌≡◌, ℕ, ◌+◌, ◌*◌, List, [], ◌∷◌, length, replicate, Some, None, slice_get}
 use Rattle.atomic_table.specs.Seated.{TableId}
 use Rattle.atomic_table.specs.declared.shared.Seat.{Seat as Token}
 use Rattle.line_table.specs.declared.lines.Kind.{Kind}
 use Rattle.history.specs.declared.refusals.Refusal.{Refusal}
 use Rattle.history.specs.declared.refusals.Refusal.TheVariants.{Memory, BadSize}
-use Rattle.line_steps.specs.declared.actors.Setup.{Setup}
+use Rattle.step_machine.specs.Calls.{IsUnsized}
 use Rattle.step_machine.specs.Machine.{IsSized}
 use Rattle.node_arena.specs.declared.roles.Role.{Role}
 use Rattle.node_arena.specs.declared.views.Knowing.{Knowing}
@@ -53,11 +53,6 @@ pub record IsMade (z : Layout) (r : Arena) (seats : List Seat) : Type 0 where
   pub plan : plan_of r ≡ z
   pub count : length seats ≡ length z.roles
   pub each : (k : ℕ) (s : Seat) → slice_get seats k ≡ Some s → IsNewSeat r (k + 1) s
-
--- some size is out of its range
-abbrev pub IsUnsized : Setup → (seats : ℕ) → Type 0
-IsUnsized s seats =
-    ((s.size < 2) ⊎ (2 ^ 24 - 1 ≤ s.size)) ⊎ ((s.limit < 1) ⊎ (2 ^ 40 ≤ s.limit)) ⊎ ((seats < 1) ⊎ (2 ^ 16 ≤ seats))
 
 -- a new arena is refused for this cause: a size is out of its range, or memory was refused where all are in theirs
 abbrev pub NewRefused : Layout → Refusal → Type 0

@@ -10,7 +10,8 @@ use crate::plans::Plan;
 use crate::roles::Role;
 use crate::seats::Seat;
 use atomic_table::Table;
-use history::Refusal;
+use counted_ref::{MOST_COUNT, MOST_NODE};
+use history::{MOST_ACTOR, Refusal};
 use line_table::Kind;
 use std::alloc::{AllocError, Global};
 use step_machine::Setup;
@@ -56,13 +57,13 @@ impl Arena {
         ensures sized { OnOk result (IsPlanned (making.plan kind nodes limit roles.now)) }
         ensures refused { IfErr result (NewRefused (making.plan kind nodes limit roles.now)) }
     {
-        if nodes < 2 || nodes > 16_777_214 {
+        if nodes < 2 || nodes > MOST_NODE {
             return Err(Refusal::BadSize);
         }
-        if limit < 1 || limit > 1_099_511_627_775 {
+        if limit < 1 || limit > MOST_COUNT {
             return Err(Refusal::BadSize);
         }
-        if roles.is_empty() || roles.len() > 65_535 {
+        if roles.is_empty() || roles.len() as u64 > MOST_ACTOR {
             return Err(Refusal::BadSize);
         }
         let Ok(roles) = roles.to_vec(alloc) else {

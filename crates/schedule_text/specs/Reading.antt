@@ -8,7 +8,7 @@ use Rattle.text_lines.specs.Numerals.{IsWithin}
 use Rattle.schedule_text.specs.declared.fields.Field.TheVariants.{Nodes, Limit, Actors, Events}
 use Rattle.schedule_text.specs.declared.parsing.Header.{Header}
 use Rattle.schedule_text.specs.declared.schedules.Event.{Event}
-use Rattle.schedule_text.specs.Texts.{Said, version, queue, number, happens, Due, version_due, events_left, said_words, IsActor, IsSaidInRange, MaySay, schedule_lines}
+use Rattle.schedule_text.specs.Texts.{Said, version, queue, number, happens, Due, version_due, events_left, said_words, least, greatest, IsActor, IsSaidInRange, MaySay, schedule_lines}
 
 -- the line at the front of a text is due, and says this in range
 pub record IsFront (due : Due) (said : Said) (text rest : List ℕ) : Type 0 where
@@ -29,8 +29,8 @@ said_in h =
 
 -- each number of a header is in its range
 pub record IsHeaderInRange (h : Header) : Type 0 where
-  pub nodes : IsWithin 2 16777214 h.nodes
-  pub limit : IsWithin 1 1099511627775 h.limit
+  pub nodes : IsWithin (least Nodes) (greatest Nodes) h.nodes
+  pub limit : IsWithin (least Limit) (greatest Limit) h.limit
   pub actors : IsActor h.actors
   pub events : h.events ≤ 1000000
 

@@ -8,6 +8,8 @@ use Rattle.line_table.specs.declared.lines.Kind.TheVariants.{TwoLock, NonBlockin
 use Rattle.text_lines.specs.Grammars.{Grammar, lines_of}
 use Rattle.text_lines.specs.Lines.{line, spaced}
 use Rattle.text_lines.specs.Numerals.{numeral, IsWithin}
+use Rattle.counted_ref.specs.Ref.{reserved_node, count_bits}
+use Rattle.history.specs.Limits.{body_bits, actor_bits}
 use Rattle.schedule_text.specs.declared.schedules.Event.{Event}
 use Rattle.schedule_text.specs.declared.schedules.Event.TheVariants.{Begin, Step, Steps, Give}
 use Rattle.schedule_text.specs.declared.fields.Field.{Field}
@@ -58,11 +60,11 @@ said_words (happens event) = event_words event
 
 -- an actor's number is from 1 to 65,535
 abbrev pub IsActor : ℕ → Type 0
-IsActor actor = IsWithin 1 65535 actor
+IsActor actor = IsWithin 1 (2 ^ actor_bits - 1) actor
 
--- the body of a push is below 2 ^ 48
+-- the body of a push is in range
 abbrev pub IsCallInRange : Op → Type 0
-IsCallInRange (Enq body) = body < 2 ^ 48
+IsCallInRange (Enq body) = body < 2 ^ body_bits
 IsCallInRange Deq = Unit {0}
 
 -- each number of an event is in its range
@@ -81,9 +83,9 @@ least Events = 0
 
 -- its greatest value
 abbrev pub greatest : Field → ℕ
-greatest Nodes = 16777214
-greatest Limit = 1099511627775
-greatest Actors = 65535
+greatest Nodes = reserved_node - 1
+greatest Limit = 2 ^ count_bits - 1
+greatest Actors = 2 ^ actor_bits - 1
 greatest Events = 1000000
 
 -- each number of a line is in its range
@@ -168,8 +170,8 @@ schedule_text s = lines_of schedule_lines (said_by s)
 
 -- each number of a schedule is in its range
 pub record IsInRange (s : Schedule) : Type 0 where
-  pub nodes : IsWithin 2 16777214 s.nodes
-  pub limit : IsWithin 1 1099511627775 s.limit
+  pub nodes : IsWithin (least Nodes) (greatest Nodes) s.nodes
+  pub limit : IsWithin (least Limit) (greatest Limit) s.limit
   pub actors : IsActor s.actors
   pub events : length s.events ≤ 1000000
   pub each : All IsEventInRange s.events

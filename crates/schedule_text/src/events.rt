@@ -10,15 +10,11 @@ ghost use Rattle.line_table.specs.declared.lines.Line.{Line};
 ghost use Rattle.schedule_text.specs.Texts.{call_words, event_words, IsActor, IsCallInRange, IsEventInRange, SpellsEvent};
 
 use crate::schedules::Event;
-use history::{Body, Op};
+use history::{Body, MOST_ACTOR, MOST_BODY, Op};
 use line_table::Line;
 use text_lines::{TextCause, Words};
 
-const MOST_ACTORS: u64 = 65_535;
-
 const MOST_STEPS: u64 = 1_000_000;
-
-const MOST_BODY: u64 = 281_474_976_710_655;
 
 /// The event that a line says, without its line feed.
 pub fn event_in(line: &[u8]) -> Result<Event, TextCause>
@@ -141,7 +137,7 @@ fn give_of(actor: Option<u16>) -> Option<Event>
 fn actor_in(words: &mut Words) -> Result<Option<u16>, TextCause>
     ensures { ReadsWords number_words IsActor words.old words.new result }
 {
-    match words.number(1, MOST_ACTORS)? {
+    match words.number(1, MOST_ACTOR)? {
         Some(actor) => Ok(Some(actor as u16)),
         None => Ok(None),
     }

@@ -5,6 +5,8 @@ ghost use Rattle.text_lines.specs.Lines.{words_of};
 ghost use Rattle.text_lines.specs.Readings.{ReadsLine};
 ghost use Rattle.schedule_text.specs.Texts.{queue, number, kind_name, said_words, field_name, least, greatest, IsSaidInRange};
 
+use counted_ref::{MOST_COUNT, MOST_NODE};
+use history::MOST_ACTOR;
 use line_table::Kind;
 use text_lines::{TextCause, Words};
 
@@ -43,9 +45,9 @@ impl Field {
         ensures { result ≡ greatest self }
     {
         match self {
-            Field::Nodes => 16_777_214,
-            Field::Limit => 1_099_511_627_775,
-            Field::Actors => 65_535,
+            Field::Nodes => u64::from(MOST_NODE),
+            Field::Limit => MOST_COUNT,
+            Field::Actors => MOST_ACTOR,
             Field::Events => 1_000_000,
         }
     }

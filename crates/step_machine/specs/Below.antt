@@ -1,5 +1,5 @@
 -- What the machine cites of the crates below it, in one place.
-pub use Rattle.counted_ref.specs.Ref.{Ref, null, IsRef, count_mask, ref_word, ref, is_null, same_ref}
+pub use Rattle.counted_ref.specs.Ref.{Ref, null, IsRef, reserved_node, count_bits, count_mask, ref_word, ref, is_null, same_ref}
 pub use Rattle.line_table.specs.declared.lines.Kind.{Kind}
 pub use Rattle.line_table.specs.declared.lines.Kind.TheVariants.{NonBlocking, TwoLock}
 pub use Rattle.line_table.specs.declared.lines.Line.{Line}
@@ -18,6 +18,7 @@ pub use Rattle.history.specs.declared.operations.Reply.TheVariants.{Done, Value,
 pub use Rattle.history.specs.declared.operations.Stamped.{Stamped}
 pub use Rattle.history.specs.declared.operations.Entry.{Entry}
 pub use Rattle.history.specs.declared.operations.Entry.TheVariants.{Push, Pop}
+pub use Rattle.history.specs.Limits.{body_bits, actor_bits}
 pub use Rattle.history.specs.Queue.{empty, Queue, given, front_of}
 pub use Rattle.history.specs.Entries.{is_push, is_pop, Plays}
 pub use Rattle.history.specs.History.{rising, Replays, replayed, IsPlaced, leaves, inserted, Placement, IsLegal, number_of, answer, Gets, AreApart}

@@ -1,6 +1,6 @@
 -- What the calls of a world answer, and why each is refused.
 use Rattle.std.specs.Prelude.{◌≡◌, ℕ, ◌+◌, ◌-◌, ◌^◌, ◌<◌, ◌≤◌, ◌⊎◌, Option, Some, None, IsSome, IsNone, IsSomeAnd}
-use Rattle.step_machine.specs.Below.{Kind, Line, Refusal, Memory, BadSize, IdleActor, ActorBusy, NotHere, NoSuchActor, Reply, Setup, Actor, Outcome, found, action, outcome, gives_up}
+use Rattle.step_machine.specs.Below.{reserved_node, count_bits, actor_bits, Kind, Line, Refusal, Memory, BadSize, IdleActor, ActorBusy, NotHere, NoSuchActor, Reply, Setup, Actor, Outcome, found, action, outcome, gives_up}
 use Rattle.step_machine.specs.declared.actors.Move.{Move}
 use Rattle.step_machine.specs.declared.actors.Move.TheVariants.{Begin, Step, Give}
 use Rattle.step_machine.specs.declared.actors.Stepped.{Stepped}
@@ -10,7 +10,7 @@ use Rattle.step_machine.specs.Machine.{World, IsSized, actor_of}
 -- some size of a machine is out of its range
 abbrev pub IsUnsized : Setup → (actors : ℕ) → Type 0
 IsUnsized s actors =
-    ((s.size < 2) ⊎ (2 ^ 24 - 1 ≤ s.size)) ⊎ ((s.limit < 1) ⊎ (2 ^ 40 ≤ s.limit)) ⊎ ((actors < 1) ⊎ (2 ^ 16 ≤ actors))
+    ((s.size < 2) ⊎ (reserved_node ≤ s.size)) ⊎ ((s.limit < 1) ⊎ (2 ^ count_bits ≤ s.limit)) ⊎ ((actors < 1) ⊎ (2 ^ actor_bits ≤ actors))
 
 -- the setup of a machine, by its parts
 abbrev pub setup_of : Kind → (nodes limit : ℕ) → Setup

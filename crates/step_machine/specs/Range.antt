@@ -1,7 +1,7 @@
 -- Every number in a world is in the range of its word.
 use Rattle.std.specs.Prelude.{◌≡◌, ℕ, ◌^◌, ◌<◌, ◌≤◌, length, Option, Some, IfSome}
 use Rattle.std.specs.List.{All}
-use Rattle.step_machine.specs.Below.{Ref, Line, N5, Op, Enq, Deq, Taken, Setup, Node, Held, Actor, Shared}
+use Rattle.step_machine.specs.Below.{body_bits, Ref, Line, N5, Op, Enq, Deq, Taken, Setup, Node, Held, Actor, Shared}
 use Rattle.step_machine.specs.Machine.{World, IsSized}
 
 -- a reference names one of the first `fresh` nodes or none, and its count is at most the limit
@@ -12,7 +12,7 @@ pub record RefInRange (limit fresh : ℕ) (r : Ref) : Type 0 where
 -- a value is of one of the actors or of nobody, and its body is below 2^48
 pub record ValueInRange (actors : ℕ) (v : Taken) : Type 0 where
   pub from : v.from ≤ actors
-  pub body : v.body < 2 ^ 48
+  pub body : v.body < 2 ^ body_bits
 
 -- a node's reference and its value are in range
 pub record NodeInRange (limit fresh actors : ℕ) (n : Node) : Type 0 where
@@ -33,7 +33,7 @@ pub record SharedInRange (s : Setup) (actors : ℕ) (m : Shared) : Type 0 where
 
 -- a call is in range: a body is below 2^48
 abbrev pub OpInRange : Op → Type 0
-OpInRange (Enq body) = body < 2 ^ 48
+OpInRange (Enq body) = body < 2 ^ body_bits
 OpInRange Deq = Unit {0}
 
 -- a node in a pocket is one of the first `fresh` or none, and its mark is at most the limit

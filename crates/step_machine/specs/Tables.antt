@@ -1,6 +1,6 @@
 -- The table of numbers that holds the shared words: one atomic step on one of its places, and which contents fit it.
 use Rattle.std.specs.Prelude.{◌≡◌, ℕ, ◌^◌, ◌<◌, List, nat_eq, Some, slice_index_or, slice_set, bit_and, if◌then◌else◌}
-use Rattle.step_machine.specs.Below.{IsRef, count_mask, Line, Taken, Actor, Shared, Word, Fresh, Free, Head, Tail, Tail_lock, Head_lock, Next, Value_of, Content, content, put, Action, load, store, clear, exchange, word, found, performed, action}
+use Rattle.step_machine.specs.Below.{body_bits, actor_bits, IsRef, count_mask, Line, Taken, Actor, Shared, Word, Fresh, Free, Head, Tail, Tail_lock, Head_lock, Next, Value_of, Content, content, put, Action, load, store, clear, exchange, word, found, performed, action}
 use Rattle.step_machine.specs.Machine.{World, actor_of}
 use Rattle.step_machine.specs.Words.{encoded, words_of, index, IsWord}
 
@@ -34,8 +34,8 @@ place_step (exchange x old new) = exchange_at (index x) (encoded x old) (encoded
 
 -- a value fits a word: its actor 16 bits, its body 48
 pub record ValueFits (v : Taken) : Type 0 where
-  pub from : v.from < 2 ^ 16
-  pub body : v.body < 2 ^ 48
+  pub from : v.from < 2 ^ actor_bits
+  pub body : v.body < 2 ^ body_bits
 
 -- a content fits a word of 64 bits
 abbrev pub ContentFits : (x : Word) → Content x → Type 0

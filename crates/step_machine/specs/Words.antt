@@ -1,10 +1,10 @@
 -- The layout of the shared words in one table of numbers.
 use Rattle.std.specs.Prelude.{ℕ, ◌+◌, ◌*◌, ◌^◌, ◌≤◌, List, [], ◌∷◌, length}
-use Rattle.step_machine.specs.Below.{ref_word, Taken, Node, Shared, Word, Fresh, Free, Head, Tail, Tail_lock, Head_lock, Next, Value_of, Content}
+use Rattle.step_machine.specs.Below.{body_bits, ref_word, Taken, Node, Shared, Word, Fresh, Free, Head, Tail, Tail_lock, Head_lock, Next, Value_of, Content}
 
 -- the word of a value: who pushed it above its body
 abbrev pub value_word : Taken → ℕ
-value_word v = v.from * 2 ^ 48 + v.body
+value_word v = v.from * 2 ^ body_bits + v.body
 
 -- the number that stands for a content of a word
 abbrev pub encoded : (x : Word) → Content x → ℕ

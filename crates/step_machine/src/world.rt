@@ -9,8 +9,8 @@ ghost use Rattle.step_machine.specs.Solo.{EndsAlone};
 
 use crate::actors::{Move, Stepped};
 use crate::settling::{Call, actor_at, idle_actors, put_actor, settle};
-use counted_ref::CountedRef;
-use history::{Op, Refusal, Reply, Stamped, Taken};
+use counted_ref::{CountedRef, MOST_COUNT, MOST_NODE};
+use history::{MOST_ACTOR, Op, Refusal, Reply, Stamped, Taken};
 use line_steps::{Actor, Held, Memory, Setup, begun, gives_up, stepped};
 use line_table::{Kind, Line};
 use std::alloc::Global;
@@ -100,13 +100,13 @@ impl World {
         ensures sized { OnOk result (IsSized (setup_of kind nodes limit) actors) }
         ensures refused { IfErr result (NewRefused (setup_of kind nodes limit) actors) }
     {
-        if nodes < 2 || nodes > 16_777_214 {
+        if nodes < 2 || nodes > MOST_NODE {
             return Err(Refusal::BadSize);
         }
-        if limit < 1 || limit > 1_099_511_627_775 {
+        if limit < 1 || limit > MOST_COUNT {
             return Err(Refusal::BadSize);
         }
-        if actors < 1 || actors > 65_535 {
+        if actors < 1 || u64::from(actors) > MOST_ACTOR {
             return Err(Refusal::BadSize);
         }
         let setup = Setup {
