@@ -1,10 +1,13 @@
 -- The last of some seats, and those before it.
-use Rattle.std.proofs.Common.{◌≡◌, ℕ, zero, suc, List, [], ◌∷◌, ◌++◌, length, Option, Some, None, slice_get, IfSome, refl, subst}
+use Rattle.std.proofs.Common.{◌≡◌, ℕ, zero, suc, List, [], ◌∷◌, ◌++◌, length, take, Option, Some, None, slice_get, slice_index_or, IfSome, refl, subst}
 use Rattle.std.specs.Option.{option_to_list}
-use Rattle.std.proofs.lemmas.Option.{none-some}
+use Rattle.std.specs.List.{All}
+use Rattle.std.proofs.lemmas.Option.{none-some, slice_get-get_or}
+use Rattle.std.proofs.lemmas.List.Elements.{All-take}
 use Rattle.node_arena.specs.declared.arena.Arena.{Arena}
 use Rattle.node_arena.specs.declared.seats.Seat.{Seat}
 use Rattle.node_arena.specs.Plans.{Layout}
+use Rattle.node_arena.specs.Seats.{IsReady}
 use Rattle.node_arena.specs.Making.{IsMade}
 use Rattle.arena_stress.specs.Seated.{IsFresh, AreFresh}
 
@@ -35,3 +38,7 @@ made_fresh z r seats m k s got = let n = m.each k s got in (n.ready, n.pocket)
 -- the first of some seats, and those behind it
 pub first_is : (r : Arena) (xs ys : List Seat) (s : Seat) → xs ≡ s ∷ ys → AreFresh r xs → IsFresh r s × AreFresh r ys
 first_is r xs ys s e all = let h : AreFresh r (s ∷ ys) = subst (AreFresh r) e all in (h 0 s refl, λ k t got. h (suc k) t got)
+
+-- each of the first seats of a new arena is ready
+pub made_ready : (z : Layout) (r : Arena) (seats : List Seat) (n : ℕ) → IsMade z r seats → All (IsReady r) (take n seats)
+made_ready z r seats n m = All-take (IsReady r) n seats (λ k d lt. (m.each k (slice_index_or seats k d) (slice_get-get_or seats k d lt)).ready)

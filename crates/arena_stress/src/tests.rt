@@ -1,3 +1,4 @@
-//! Runs of the free list, with the answers of runs worked out by hand.
+//! Runs of the free list, with the answers of runs worked out by hand; new arenas and closed ones.
+mod closing;
 mod memory;
 mod runs;
