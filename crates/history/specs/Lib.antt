@@ -5,6 +5,7 @@ pub mod Seats
 pub mod Answers
 pub mod Rests
 pub mod Closing
+pub mod Openings
 pub mod History
 pub mod Checking
 pub mod Faults

@@ -20,3 +20,4 @@ pub mod Ends
 pub mod Noted
 pub mod Between
 pub mod Permits
+pub mod Openings

@@ -20,7 +20,12 @@ pub struct TwoLockQueue {
 }
 
 impl TwoLockQueue {
-    ghost use Rattle.two_lock.specs.Queues.{IsQueueMade};
+    ghost use Rattle.std.specs.Prelude.{map};
+    ghost use Rattle.std.specs.List.{All};
+    ghost use Rattle.history.specs.Openings.{AreNew};
+    ghost use Rattle.node_arena.specs.Plans.{permits_by};
+    ghost use Rattle.node_arena.specs.Seats.{known_of};
+    ghost use Rattle.two_lock.specs.Queues.{permits_of, IsQueueSeat, IsQueueMade};
 
     /// A queue with so many nodes, 2 to 16,777,214, the greatest count `limit`, 1 to 1,099,511,627,775, and a seat for
     /// each role, 1 to 65,535 of them, in their order. One node is always in the queue.
@@ -34,6 +39,9 @@ impl TwoLockQueue {
         roles: &[Role],
     ) -> Result<(TwoLockQueue, Vec<Seat>), Refusal>
         ensures ok { IfOk result (λ r. IsQueueMade nodes limit roles.now r.0 r.1.items) }
+        ensures permits { IfOk result (λ r. permits_of r.0 ≡ permits_by roles.now) }
+        ensures seats { IfOk result (λ r. All (IsQueueSeat r.0) r.1.items) }
+        ensures unused { IfOk result (λ r. AreNew (permits_of r.0) (map known_of r.1.items)) }
         ensures sized { OnOk result (IsPlanned (plan TwoLock nodes limit roles.now)) }
         ensures refused { IfErr result (NewRefused (plan TwoLock nodes limit roles.now)) }
     {

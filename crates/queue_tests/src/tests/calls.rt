@@ -2,7 +2,7 @@
 use history::{Body, Fifo, Refusal, Taken};
 
 /// How many turns each call has.
-const TURNS: u32 = 8;
+const TURNS: u32 = 3;
 
 /// Pushes a small body. A seat that may not push answers `BadSize`, which no queue does.
 pub fn push<Q: Fifo>(queue: &Q, seat: &mut Q::Seat, body: u64) -> Result<(), Refusal>

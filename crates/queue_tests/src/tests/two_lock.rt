@@ -4,17 +4,23 @@ ghost use Rattle.std.specs.List.{All};
 ghost use Rattle.two_lock.specs.Queues.{IsQueueSeat};
 
 use super::calls::{parts, pop, push};
+use super::threads::{Run, met};
 use history::{Fifo, Refusal, Rest};
 use node_arena::{Role, Seat};
 use std::alloc::Global;
 use std::test::Fail;
 use two_lock::TwoLockQueue;
 
-// A queue of so many nodes, with a seat for each role.
-fn queue_of(alloc: Global, nodes: u32, roles: &[Role]) -> Result<(TwoLockQueue, Vec<Seat>), Refusal>
+// A queue of so many nodes and this greatest count, with a seat for each role.
+fn queue_of(
+    alloc: Global,
+    nodes: u32,
+    limit: u64,
+    roles: &[Role],
+) -> Result<(TwoLockQueue, Vec<Seat>), Refusal>
     ensures { IfOk result (λ r. All (IsQueueSeat r.0) r.1.items) }
 {
-    match TwoLockQueue::new(alloc, nodes, 100, roles) {
+    match TwoLockQueue::new(alloc, nodes, limit, roles) {
         Ok(made) => Ok(made),
         Err(why) => Err(why),
     }
@@ -46,7 +52,7 @@ fn closed(alloc: Global, queue: TwoLockQueue, seat: Seat) -> Result<Rest, Refusa
 /// One node is always in the queue, so two nodes have room for one value. A push that finds no node keeps none.
 #[test]
 fn two_nodes_have_room_for_one_value(rt: HostRuntime) -> Result<(), Fail> {
-    let (queue, mut seats) = queue_of(rt.alloc(), 2, &[Role::Giver])?;
+    let (queue, mut seats) = queue_of(rt.alloc(), 2, 100, &[Role::Giver])?;
     let mut seat = last(&queue, &mut seats)?;
     assert_eq!(rt; push(&queue, &mut seat, 1), Ok(()));
     assert_eq!(rt; push(&queue, &mut seat, 2), Err(Refusal::NoNode));
@@ -57,7 +63,7 @@ fn two_nodes_have_room_for_one_value(rt: HostRuntime) -> Result<(), Fail> {
 /// The first value pushed comes first, and the second one is left.
 #[test]
 fn values_come_in_their_order(rt: HostRuntime) -> Result<(), Fail> {
-    let (queue, mut seats) = queue_of(rt.alloc(), 4, &[Role::Both])?;
+    let (queue, mut seats) = queue_of(rt.alloc(), 4, 100, &[Role::Both])?;
     let mut seat = last(&queue, &mut seats)?;
     push(&queue, &mut seat, 1)?;
     push(&queue, &mut seat, 2)?;
@@ -74,13 +80,49 @@ fn values_come_in_their_order(rt: HostRuntime) -> Result<(), Fail> {
 #[test]
 fn a_rest_is_whole_where_its_pusher_is_handed_in(rt: HostRuntime) -> Result<(), Fail> {
     for by_pusher in [true, false] {
-        let (queue, mut seats) = queue_of(rt.alloc(), 4, &[Role::Both, Role::Both])?;
+        let (queue, mut seats) = queue_of(rt.alloc(), 4, 100, &[Role::Both, Role::Both])?;
         let second = last(&queue, &mut seats)?;
         let mut first = last(&queue, &mut seats)?;
         push(&queue, &mut first, 1)?;
         let handed = if by_pusher { first } else { second };
         let rest = closed(rt.alloc(), queue, handed)?;
         assert_eq!(rt; rest.whole(), by_pusher, "by the pusher: {by_pusher}");
+    }
+    Ok(())
+}
+
+/// One seat alone is never Busy, and pops what it just pushed; ten thousand times over, on three nodes.
+#[test]
+fn one_seat_pops_what_it_pushed(rt: HostRuntime) -> Result<(), Fail> {
+    let (queue, mut seats) = queue_of(rt.alloc(), 3, 100_000, &[Role::Both])?;
+    let mut seat = last(&queue, &mut seats)?;
+    for number in 1..=10_000 {
+        assert_eq!(rt; push(&queue, &mut seat, number), Ok(()), "push of {number}");
+        assert_eq!(rt; pop(&queue, &mut seat), Ok(Some((1, number))), "pop of {number}");
+    }
+    let mut rest = closed(rt.alloc(), queue, seat)?;
+    assert_eq!(rt; rest.taken(), 10_000);
+    assert_eq!(rt; rest.next(), None);
+    assert!(rt; rest.whole());
+    Ok(())
+}
+
+/// Two threads push and pop 1,000 times each: no pop finds the queue empty, each value is popped once, and the bodies of
+/// each pusher rise. The rest is whole where both seats are handed in, and not where one alone is.
+#[test]
+fn two_threads_pop_each_value_once(rt: HostRuntime) -> Result<(), Fail> {
+    for with_both in [true, false] {
+        let roles = [Role::Both, Role::Both];
+        let (queue, seats) = queue_of(rt.alloc(), 16, 1_099_511_627_775, &roles)?;
+        let run = met(&rt, rt.alloc(), queue, seats, with_both)?;
+        let wanted = Run {
+            in_order: true,
+            each_once: true,
+            taken: 2000,
+            empty: true,
+            whole: with_both,
+        };
+        assert_eq!(rt; run, wanted, "with both: {with_both}");
     }
     Ok(())
 }

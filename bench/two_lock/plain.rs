@@ -1,0 +1,311 @@
+//! The two-lock queue of the crate `two_lock`, written plainly: the same words, lines, turns and limit tests, and no proof.
+//! Beside it a `VecDeque` behind one lock.
+//!
+//! `plain QUEUE WORK COUNT` prints how many nanoseconds WORK took on `two-lock` or `mutex`, each thread COUNT times:
+//! `one` (one thread pushes and pops), `four` (four threads do), `pair` (one thread pushes and one pops), `two` (two push
+//! and two pop).
+use std::collections::VecDeque;
+use std::sync::Mutex;
+use std::sync::atomic::{AtomicU64, Ordering::SeqCst};
+use std::thread;
+use std::time::Instant;
+
+const SPAN: u64 = 1 << 24;
+const NODES: u64 = 65;
+const LIMIT: u64 = (1 << 40) - 1;
+const TURNS: u32 = 8;
+
+const FRESH: usize = 0;
+const FREE: usize = 1;
+const HEAD: usize = 2;
+const TAIL: usize = 3;
+const TAIL_LOCK: usize = 4;
+const HEAD_LOCK: usize = 5;
+
+#[derive(Clone, Copy)]
+struct Held {
+    node: u64,
+    mark: u64,
+}
+
+enum Refusal {
+    NoNode,
+    WornOut,
+    Busy,
+}
+
+struct Seat {
+    number: u64,
+    pocket: Option<Held>,
+    failed: u32,
+}
+
+trait Queue: Sync {
+    fn try_push(&self, seat: &mut Seat, body: u64) -> Result<(), Refusal>;
+    fn try_pop(&self, seat: &mut Seat) -> Result<Option<(u64, u64)>, Refusal>;
+}
+
+struct TwoLock {
+    words: Vec<AtomicU64>,
+}
+
+fn next_of(node: u64) -> usize {
+    (4 + 2 * node) as usize
+}
+
+fn value_of(node: u64) -> usize {
+    (5 + 2 * node) as usize
+}
+
+impl TwoLock {
+    fn new() -> TwoLock {
+        let words: Vec<AtomicU64> = (0..6 + 2 * NODES).map(|_| AtomicU64::new(0)).collect();
+        for word in [FRESH, HEAD, TAIL] {
+            words[word].store(1, SeqCst);
+        }
+        TwoLock { words }
+    }
+
+    fn load(&self, word: usize) -> u64 {
+        self.words[word].load(SeqCst)
+    }
+
+    fn store(&self, word: usize, value: u64) {
+        self.words[word].store(value, SeqCst);
+    }
+
+    fn exchange(&self, word: usize, old: u64, new: u64) -> bool {
+        self.words[word].compare_exchange(old, new, SeqCst, SeqCst).is_ok()
+    }
+
+    fn take(&self, seat: &mut Seat, turns: u32) -> Result<Held, Refusal> {
+        for index in 0..turns {
+            let fresh = self.load(FRESH);
+            let top = self.load(FREE);
+            let held = if top % SPAN == 0 {
+                if fresh >= NODES {
+                    seat.failed = index;
+                    return Err(Refusal::NoNode);
+                }
+                self.exchange(FRESH, fresh, fresh + 1).then_some(Held { node: fresh + 1, mark: 0 })
+            } else if top / SPAN == LIMIT {
+                seat.failed = index;
+                return Err(Refusal::WornOut);
+            } else {
+                let node = top % SPAN;
+                let next = self.load(next_of(node));
+                let new = (top / SPAN + 1) * SPAN + next % SPAN;
+                self.exchange(FREE, top, new).then_some(Held { node, mark: next / SPAN })
+            };
+            if let Some(held) = held {
+                seat.pocket = Some(held);
+                seat.failed = index;
+                return Ok(held);
+            }
+        }
+        seat.failed = turns;
+        Err(Refusal::Busy)
+    }
+
+    fn give_back(&self, seat: &mut Seat, held: Held, turns: u32) -> Result<(), Refusal> {
+        for index in 0..turns {
+            let top = self.load(FREE);
+            let won = top / SPAN == LIMIT || {
+                self.store(next_of(held.node), held.mark * SPAN + top % SPAN);
+                self.exchange(FREE, top, (top / SPAN + 1) * SPAN + held.node)
+            };
+            if won {
+                seat.pocket = None;
+                seat.failed = index;
+                return Ok(());
+            }
+        }
+        seat.failed = turns;
+        Err(Refusal::Busy)
+    }
+
+    fn put(&self, seat: &mut Seat, held: Held, body: u64, spent: u32) -> Result<(), Refusal> {
+        self.store(value_of(held.node), (seat.number << 48) + body);
+        self.words[next_of(held.node)].fetch_and(!(SPAN - 1), SeqCst);
+        for index in spent..TURNS {
+            if self.exchange(TAIL_LOCK, 0, seat.number) {
+                let tail = self.load(TAIL);
+                self.store(next_of(tail % SPAN), held.node);
+                self.store(TAIL, held.node);
+                self.store(TAIL_LOCK, 0);
+                seat.pocket = None;
+                seat.failed = index;
+                return Ok(());
+            }
+        }
+        seat.pocket = Some(held);
+        seat.failed = TURNS;
+        Err(Refusal::Busy)
+    }
+
+    fn draw(&self, seat: &mut Seat, spent: u32) -> Result<Option<(u64, u64)>, Refusal> {
+        for index in spent..TURNS {
+            if !self.exchange(HEAD_LOCK, 0, seat.number) {
+                continue;
+            }
+            let head = self.load(HEAD);
+            let next = self.load(next_of(head % SPAN));
+            if next % SPAN == 0 {
+                self.store(HEAD_LOCK, 0);
+                return Ok(None);
+            }
+            let value = self.load(value_of(next % SPAN));
+            if head / SPAN == LIMIT {
+                self.store(HEAD_LOCK, 0);
+                return Err(Refusal::WornOut);
+            }
+            self.store(HEAD, (head / SPAN + 1) * SPAN + next % SPAN);
+            self.store(HEAD_LOCK, 0);
+            let held = Held { node: head % SPAN, mark: next / SPAN };
+            seat.pocket = Some(held);
+            let _ = self.give_back(seat, held, TURNS - index);
+            return Ok(Some((value >> 48, value & ((1 << 48) - 1))));
+        }
+        seat.failed = TURNS;
+        Err(Refusal::Busy)
+    }
+}
+
+impl Queue for TwoLock {
+    #[inline(never)]
+    fn try_push(&self, seat: &mut Seat, body: u64) -> Result<(), Refusal> {
+        if let Some(held) = seat.pocket {
+            return self.put(seat, held, body, 0);
+        }
+        let held = self.take(seat, TURNS)?;
+        let spent = seat.failed;
+        self.put(seat, held, body, spent)
+    }
+
+    #[inline(never)]
+    fn try_pop(&self, seat: &mut Seat) -> Result<Option<(u64, u64)>, Refusal> {
+        let Some(held) = seat.pocket else {
+            return self.draw(seat, 0);
+        };
+        self.give_back(seat, held, TURNS)?;
+        let spent = seat.failed;
+        self.draw(seat, spent)
+    }
+}
+
+struct Locked {
+    values: Mutex<VecDeque<(u64, u64)>>,
+}
+
+impl Queue for Locked {
+    #[inline(never)]
+    fn try_push(&self, seat: &mut Seat, body: u64) -> Result<(), Refusal> {
+        let mut values = self.values.lock().unwrap();
+        if values.len() as u64 >= NODES - 1 {
+            return Err(Refusal::NoNode);
+        }
+        values.push_back((seat.number, body));
+        Ok(())
+    }
+
+    #[inline(never)]
+    fn try_pop(&self, _seat: &mut Seat) -> Result<Option<(u64, u64)>, Refusal> {
+        Ok(self.values.lock().unwrap().pop_front())
+    }
+}
+
+// As crossbeam's Backoff: spins longer each time, and then yields.
+#[derive(Default)]
+struct Backoff {
+    step: u32,
+}
+
+impl Backoff {
+    fn snooze(&mut self) {
+        if self.step <= 6 {
+            for _ in 0..1 << self.step {
+                std::hint::spin_loop();
+            }
+        } else {
+            thread::yield_now();
+        }
+        if self.step <= 10 {
+            self.step += 1;
+        }
+    }
+}
+
+fn push<Q: Queue>(queue: &Q, seat: &mut Seat) {
+    let mut backoff = Backoff::default();
+    loop {
+        match queue.try_push(seat, 1) {
+            Ok(()) | Err(Refusal::WornOut) => return,
+            Err(Refusal::Busy | Refusal::NoNode) => backoff.snooze(),
+        }
+    }
+}
+
+fn pop<Q: Queue>(queue: &Q, seat: &mut Seat) {
+    let mut backoff = Backoff::default();
+    loop {
+        match queue.try_pop(seat) {
+            Ok(Some(_)) | Err(Refusal::WornOut | Refusal::NoNode) => return,
+            Ok(None) | Err(Refusal::Busy) => backoff.snooze(),
+        }
+    }
+}
+
+#[derive(Clone, Copy)]
+enum Work {
+    Pairs,
+    Pushes,
+    Pops,
+}
+
+fn toil<Q: Queue>(queue: &Q, number: u64, work: Work, count: u64) {
+    let mut seat = Seat { number, pocket: None, failed: 0 };
+    for _ in 0..count {
+        match work {
+            Work::Pairs => {
+                push(queue, &mut seat);
+                pop(queue, &mut seat);
+            }
+            Work::Pushes => push(queue, &mut seat),
+            Work::Pops => pop(queue, &mut seat),
+        }
+    }
+}
+
+fn measure<Q: Queue>(queue: &Q, works: &[Work], count: u64) {
+    let start = Instant::now();
+    if let [work] = works {
+        toil(queue, 1, *work, count);
+    } else {
+        thread::scope(|scope| {
+            for (number, work) in (1..).zip(works) {
+                scope.spawn(move || toil(queue, number, *work, count));
+            }
+        });
+    }
+    println!("{}", start.elapsed().as_nanos());
+}
+
+fn main() {
+    let words: Vec<String> = std::env::args().skip(1).collect();
+    let [queue, work, count] = words.as_slice() else {
+        eprintln!("plain QUEUE WORK COUNT");
+        return;
+    };
+    let count: u64 = count.parse().expect("a count");
+    let works: &[Work] = match work.as_str() {
+        "one" => &[Work::Pairs],
+        "four" => &[Work::Pairs; 4],
+        "pair" => &[Work::Pushes, Work::Pops],
+        _ => &[Work::Pushes, Work::Pushes, Work::Pops, Work::Pops],
+    };
+    if queue == "mutex" {
+        measure(&Locked { values: Mutex::new(VecDeque::with_capacity(NODES as usize)) }, works, count);
+    } else {
+        measure(&TwoLock::new(), works, count);
+    }
+}

@@ -1,0 +1,23 @@
+-- A queue with no room.
+use Rattle.std.specs.Prelude.{true, List, [], ◌∷◌, replicate, refl}
+use Rattle.std.proofs.lemmas.List.Elements.{All-nil}
+use Rattle.history.specs.Queue.{empty}
+use Rattle.history.specs.Seats.{Permit, Known, IsSound, IsPermitted}
+use Rattle.mock_queues.specs.declared.full.FullQueue.{FullQueue}
+use Rattle.mock_queues.specs.declared.full.FullSeat.{FullSeat}
+
+-- its one seat may push and pop
+abbrev pub one_permit : List Permit
+one_permit = record { pushes = true; pops = true } ∷ []
+
+-- its seat is number 1, and sees nothing: each pop notes that the queue was empty from the start
+abbrev pub knows_empties : FullSeat → Known
+knows_empties s = record { number = 1; seen = []; mine = []; notes = replicate s.empties 0 }
+
+-- each seat is its own
+abbrev pub IsFullSeat : FullQueue → FullSeat → Type 0
+IsFullSeat q s = Unit {0}
+
+-- what the seat knows is sound
+pub empties_are_sound : (s : FullSeat) → IsSound one_permit (knows_empties s)
+empties_are_sound s = record { legal = (empty, refl); permitted = All-nil (IsPermitted one_permit); own = refl }

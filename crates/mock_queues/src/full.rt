@@ -1,0 +1,72 @@
+//! A queue with no room: each push is refused, and each pop finds it empty, until its notes can't be counted.
+ghost use Rattle.std.specs.Prelude.{IfOk, IfErr};
+
+use history::{Body, Fifo, Refusal, Rest, Taken};
+use std::alloc::Global;
+
+/// A queue with no room.
+#[derive(Drop)]
+pub struct FullQueue;
+
+/// The one seat of a queue with no room. It may push and pop.
+#[derive(Drop)]
+pub struct FullSeat {
+    empties: u64,
+}
+
+impl FullQueue {
+    ghost use Rattle.mock_queues.specs.Full.{IsFullSeat};
+
+    /// A queue with no room, with its seat. Takes no memory.
+    pub fn new() -> (FullQueue, FullSeat)
+        ensures { IsFullSeat result.0 result.1 }
+    {
+        (FullQueue, FullSeat { empties: 0 })
+    }
+}
+
+impl Fifo for FullQueue {
+    ghost use Rattle.std.specs.Prelude.{◌≡◌, map};
+    ghost use Rattle.history.specs.Closing.{Closes};
+    ghost use Rattle.mock_queues.specs.Full.{IsFullSeat, one_permit, knows_empties, empties_are_sound};
+
+    type Seat = FullSeat;
+
+    ghost is_seat = { IsFullSeat };
+
+    ghost permits = { λ _. one_permit };
+
+    ghost known = { knows_empties };
+
+    ghost sound = { λ _ seat _. empties_are_sound seat };
+
+    fn try_push(&self, _seat: &mut FullSeat, _body: Body, _turns: u32) -> Result<(), Refusal> {
+        Err(Refusal::NoNode)
+    }
+
+    fn try_pop(&self, seat: &mut FullSeat, _turns: u32) -> Result<Option<Taken>, Refusal> {
+        if seat.empties == u64::MAX {
+            return Err(Refusal::Busy);
+        }
+        seat.empties += 1;
+        Ok(None)
+    }
+
+    fn meet(&self, _one: &mut FullSeat, _other: &mut FullSeat) {}
+
+    fn may_push(&self, _seat: &FullSeat) -> bool {
+        true
+    }
+
+    fn may_pop(&self, _seat: &FullSeat) -> bool {
+        true
+    }
+
+    fn close(self, alloc: Global, seats: Vec<FullSeat>) -> Result<Rest, Refusal>
+        ensures rest { IfOk result (λ rest. Closes one_permit (map knows_empties seats.items) rest) }
+        ensures only_memory { IfErr result (λ why. why ≡ Refusal.Memory) }
+    {
+        drop(seats);
+        Ok(Rest::of(Vec::new(alloc), 0, true))
+    }
+}

@@ -1,0 +1,107 @@
+//! What is left when the threads have ended, and whether it all adds up.
+ghost use Rattle.queue_stress.specs.Seated.{MayCall, AreFour};
+
+use crate::running::{drains, four, pushes};
+use crate::seating::{Four, list_of};
+use crate::tallies::Tally;
+use history::{Fifo, Rest};
+use std::alloc::Global;
+use std::sync::Wait;
+use std::thread::Threads;
+
+/// The bodies of the pushes that look for nodes come after those of all rounds.
+const LATE: u64 = 1_099_511_627_776;
+
+/// What a run of four threads came to.
+#[derive(Clone, Copy, Debug, PartialEq, Eq)]
+pub struct Verdict {
+    /// How many bodies were pushed.
+    pub pushed: u64,
+    /// How many nodes the last pushes found.
+    pub found: u32,
+    /// Whether each thread, and what was left, had each sender's bodies in order.
+    pub in_order: bool,
+    /// Whether the bodies taken and those left are just those pushed: by sender, as many and with the same sum.
+    pub each_once: bool,
+    /// Whether the queue counted the values taken as the threads did, and told that these seats made all calls.
+    pub whole: bool,
+}
+
+// Pushes until it is refused, so many times at most; how many bodies were pushed.
+fn fills<R: Wait, Q: Fifo>(
+    rt: &R,
+    queue: &Q,
+    seat: &mut Q::Seat,
+    number: u16,
+    most: u32,
+    tally: &mut Tally,
+) -> u32
+    requires { MayCall Q.is_seat Q.permits Q.known queue.now seat.old }
+    ensures { MayCall Q.is_seat Q.permits Q.known queue.now seat.new }
+{
+    for index in 0..most {
+        if !pushes(rt, queue, seat, number, LATE + u64::from(index), tally) {
+            return index;
+        }
+    }
+    most
+}
+
+// The nodes that the four seats find.
+fn finds<R: Wait, Q: Fifo>(
+    rt: &R,
+    queue: &Q,
+    seats: &mut Four<Q::Seat>,
+    most: u32,
+    tally: &mut Tally,
+) -> u32
+    requires { AreFour Q.is_seat Q.permits Q.known queue.now seats.old }
+    ensures { AreFour Q.is_seat Q.permits Q.known queue.now seats.new }
+{
+    let one = fills(rt, queue, &mut seats.one, 1, most, tally);
+    let two = fills(rt, queue, &mut seats.two, 2, most, tally);
+    let three = fills(rt, queue, &mut seats.three, 3, most, tally);
+    let four = fills(rt, queue, &mut seats.four, 4, most, tally);
+    one.wrapping_add(two).wrapping_add(three).wrapping_add(four)
+}
+
+// Adds the values left, so many at most.
+fn leaves(rest: &mut Rest, most: u32, tally: &mut Tally) {
+    for _ in 0..most {
+        let Some(taken) = rest.next() else {
+            return;
+        };
+        tally.takes(taken);
+    }
+}
+
+/// A run of four threads with the seats 1 to 4 of a queue of so many nodes, each with so many pushes and a pop after each.
+/// Then one seat takes what is left, pushes look for the nodes, and the queue is closed. None where memory is refused.
+pub fn judged<R: Threads + Wait + Sync, Q: Fifo + Sync + Drop>(
+    rt: &R,
+    alloc: Global,
+    queue: Q,
+    seats: Four<Q::Seat>,
+    pairs: u32,
+    nodes: u32,
+) -> Option<Verdict>
+    requires { AreFour Q.is_seat Q.permits Q.known queue seats }
+{
+    let (mut seats, mut threads) = four(rt, &queue, seats, pairs);
+    let mut last = Tally::new();
+    drains(rt, &queue, &mut seats.one, nodes, &mut last);
+    let taken = threads.taken.with(&last.taken).total();
+    let found = finds(rt, &queue, &mut seats, nodes, &mut threads);
+    let list = list_of(&queue, alloc, seats)?;
+    let mut rest = queue.close(alloc, list).ok()?;
+    let whole = rest.whole() && rest.taken() == taken;
+    leaves(&mut rest, nodes, &mut last);
+    let all = threads.with(&last);
+    Some(Verdict {
+        pushed: all.pushed.total(),
+        found,
+        in_order: all.in_order,
+        each_once: all.taken == all.pushed,
+        whole,
+    })
+}

@@ -1,0 +1,144 @@
+//! Rounds of pushes and pops in threads.
+ghost use Rattle.std.specs.Thread.{IsSync};
+ghost use Rattle.queue_stress.specs.Seated.{MayCall, AreTwo, AreFour};
+
+use crate::seating::Four;
+use crate::tallies::Tally;
+use history::{Body, Fifo};
+use std::sync::Wait;
+use std::thread::{Threads, join};
+
+/// Pushes a body, and counts it where it was pushed; whether it was.
+pub fn pushes<R: Wait, Q: Fifo>(
+    rt: &R,
+    queue: &Q,
+    seat: &mut Q::Seat,
+    number: u16,
+    body: u64,
+    tally: &mut Tally,
+) -> bool
+    requires { MayCall Q.is_seat Q.permits Q.known queue.now seat.old }
+    ensures { MayCall Q.is_seat Q.permits Q.known queue.now seat.new }
+{
+    let Some(body) = Body::new(body) else {
+        return false;
+    };
+    match queue.push(rt, seat, body) {
+        Ok(()) => {
+            tally.pushes(number, body.number());
+            true
+        }
+        Err(_) => false,
+    }
+}
+
+/// Pops until the queue is empty or a pop is refused, so many times at most; whether it was empty.
+pub fn drains<R: Wait, Q: Fifo>(
+    rt: &R,
+    queue: &Q,
+    seat: &mut Q::Seat,
+    most: u32,
+    tally: &mut Tally,
+) -> bool
+    requires { MayCall Q.is_seat Q.permits Q.known queue.now seat.old }
+    ensures { MayCall Q.is_seat Q.permits Q.known queue.now seat.new }
+{
+    for _ in 0..most {
+        match queue.pop(rt, seat) {
+            Ok(Some(taken)) => tally.takes(taken),
+            Ok(None) => return true,
+            Err(_) => return false,
+        }
+    }
+    false
+}
+
+/// So many pushes of the seat of this number, with bodies from 1 on, and a pop behind each.
+pub fn rounds<R: Wait, Q: Fifo>(
+    rt: &R,
+    queue: &Q,
+    mut seat: Q::Seat,
+    number: u16,
+    pairs: u32,
+) -> (Q::Seat, Tally)
+    requires { MayCall Q.is_seat Q.permits Q.known queue.now seat }
+    ensures { MayCall Q.is_seat Q.permits Q.known queue.now result.0 }
+{
+    let mut tally = Tally::new();
+    for index in 0..pairs {
+        pushes(
+            rt,
+            queue,
+            &mut seat,
+            number,
+            u64::from(index) + 1,
+            &mut tally,
+        );
+        drains(rt, queue, &mut seat, 1, &mut tally);
+    }
+    (seat, tally)
+}
+
+// The rounds of two threads, whose seats have these numbers.
+fn both<R: Threads + Wait + Sync, Q: Fifo + Sync>(
+    rt: &R,
+    queue: &Q,
+    one: (Q::Seat, u16),
+    other: (Q::Seat, u16),
+    pairs: u32,
+) -> ((Q::Seat, Tally), (Q::Seat, Tally))
+    requires one { MayCall Q.is_seat Q.permits Q.known queue.now one.0 }
+    requires other { MayCall Q.is_seat Q.permits Q.known queue.now other.0 }
+    ensures one { MayCall Q.is_seat Q.permits Q.known queue.now result.0.0 }
+    ensures other { MayCall Q.is_seat Q.permits Q.known queue.now result.1.0 }
+{
+    let (one, first) = one;
+    let (other, second) = other;
+    join(
+        rt,
+        || -> (Q::Seat, Tally)
+            requires { MayCall Q.is_seat Q.permits Q.known queue.now one }
+            ensures { MayCall Q.is_seat Q.permits Q.known queue.entry.now result.0 }
+        { rounds(rt, queue, one, first, pairs) },
+        || -> (Q::Seat, Tally)
+            requires { MayCall Q.is_seat Q.permits Q.known queue.now other }
+            ensures { MayCall Q.is_seat Q.permits Q.known queue.entry.now result.0 }
+        { rounds(rt, queue, other, second, pairs) },
+    )
+}
+
+/// The rounds of four threads, whose seats are numbered from 1 on.
+pub fn four<R: Threads + Wait + Sync, Q: Fifo + Sync>(
+    rt: &R,
+    queue: &Q,
+    seats: Four<Q::Seat>,
+    pairs: u32,
+) -> (Four<Q::Seat>, Tally)
+    requires { AreFour Q.is_seat Q.permits Q.known queue.now seats }
+    ensures { AreFour Q.is_seat Q.permits Q.known queue.now result.0 }
+{
+    let Four {
+        one,
+        two,
+        three,
+        four,
+    } = seats;
+    let (((one, first), (two, second)), ((three, third), (four, fourth))) = join(
+        rt,
+        || -> ((Q::Seat, Tally), (Q::Seat, Tally))
+            requires { IsSync R.row × AreTwo Q.is_seat Q.permits Q.known queue.now one two }
+            ensures { AreTwo Q.is_seat Q.permits Q.known queue.entry.now result.0.0 result.1.0 }
+        { both(rt, queue, (one, 1), (two, 2), pairs) },
+        || -> ((Q::Seat, Tally), (Q::Seat, Tally))
+            requires { IsSync R.row × AreTwo Q.is_seat Q.permits Q.known queue.now three four }
+            ensures { AreTwo Q.is_seat Q.permits Q.known queue.entry.now result.0.0 result.1.0 }
+        { both(rt, queue, (three, 3), (four, 4), pairs) },
+    );
+    let seats = Four {
+        one,
+        two,
+        three,
+        four,
+    };
+    (seats, first.with(&second).with(&third).with(&fourth))
+}

@@ -1,0 +1,10 @@
+use Rattle.history.specs.Seats.{MayPop}
+use Rattle.two_threads.proofs.running.pop_one.Given as goal
+
+abbrev pub invariant-loop : goal.invariant-loop
+invariant-loop g l = record {
+  can : (goal.iterator-loop g).can_next l.iterator';
+  finite : (goal.iterator-loop g).is_finite l.iterator';
+  seat : g.Q.Fifo.is_seat l.fn.queue l.seat;
+  role : MayPop (g.Q.Fifo.permits l.fn.queue) (g.Q.Fifo.known l.seat).number;
+}
