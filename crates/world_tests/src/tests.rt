@@ -1,6 +1,7 @@
 //! What a world is led through, and what is seen of it.
 mod answers;
 mod benches;
+mod events;
 mod expected;
 mod long_runs;
 mod memory;

@@ -24,8 +24,20 @@ fn whole_call(rt: &impl Wait, bench: &Bench, actor: u16, op: Op) -> Result<u32, 
     Ok(MOST_STEPS)
 }
 
-fn history_on(rt: &impl Wait, alloc: Global, bench: &Bench) -> Result<Vec<Stamped>, Refusal> {
-    on_bench(rt, bench).history(alloc)
+// The history of the world behind a bench, and how many steps it took.
+fn seen_on(rt: &impl Wait, alloc: Global, bench: &Bench) -> Result<(Vec<Stamped>, u64), Refusal> {
+    let world = on_bench(rt, bench);
+    Ok((world.history(alloc)?, world.steps()))
+}
+
+// Whether an operation is the push or the pop, and a pop of so many steps: 4 where it finds nothing, and else 9.
+fn is_either(operation: &Stamped, popped: u32) -> bool {
+    let expected = match (operation.actor, popped) {
+        (1, _) => (enq(5), Reply::Done),
+        (_, 4) => (Op::Deq, Reply::Empty),
+        _ => (Op::Deq, value(1, 5)),
+    };
+    (operation.op, operation.reply) == (expected.0, Some(expected.1))
 }
 
 #[test]
@@ -36,29 +48,19 @@ fn two_threads_share_a_world(rt: HostRuntime) -> Result<(), Fail> {
         || whole_call(&rt, &bench, 1, enq(5)),
         || whole_call(&rt, &bench, 2, Op::Deq),
     );
-    assert_eq!(rt; pushed?, 10);
+    let (history, steps) = seen_on(&rt, rt.alloc(), &bench)?;
     let popped = popped?;
-    let history = history_on(&rt, rt.alloc(), &bench)?;
+    assert_eq!(rt;
+        (pushed?, history.len(), steps),
+        (10, 2, u64::from(popped) + 10)
+    );
+    assert!(rt; popped == 4 || popped == 9, "{popped} steps");
     assert_eq!(rt; check(rt.alloc(), &history)?, Verdict::Yes);
-    assert_eq!(rt; history.len(), 2);
     for operation in &history {
-        let (op, replies) = match operation.actor {
-            1 => (enq(5), [Reply::Done, Reply::Done]),
-            _ => (Op::Deq, [Reply::Empty, value(1, 5)]),
-        };
-        assert_eq!(rt; operation.op, op);
         assert!(rt;
-            replies.map(Some).contains(&operation.reply),
-            "at {operation:?}"
+            is_either(operation, popped),
+            "{operation:?} and {popped} steps"
         );
-        // The dequeue takes 4 steps where it finds nothing, and else 9.
-        if operation.reply == Some(Reply::Empty) {
-            assert_eq!(rt; popped, 4);
-        }
-        if operation.reply == Some(value(1, 5)) {
-            assert_eq!(rt; popped, 9);
-        }
     }
-    assert_eq!(rt; on_bench(&rt, &bench).steps(), u64::from(popped) + 10);
     Ok(())
 }

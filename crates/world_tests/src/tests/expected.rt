@@ -13,12 +13,17 @@ pub fn enq(number: u32) -> Op {
     Op::Enq(body(number))
 }
 
-/// The reply of a dequeue that took what an actor pushed.
-pub fn value(from: u16, number: u32) -> Reply {
-    Reply::Value(Taken {
+/// A value, with the actor that pushed it.
+pub fn taken(from: u16, number: u32) -> Taken {
+    Taken {
         from,
         body: body(number),
-    })
+    }
+}
+
+/// The reply of a dequeue that took what an actor pushed.
+pub fn value(from: u16, number: u32) -> Reply {
+    Reply::Value(taken(from, number))
 }
 
 /// An operation that took no effect yet.

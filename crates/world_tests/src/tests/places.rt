@@ -1,6 +1,6 @@
 //! Where the nodes of a world are.
+use super::events::Event::{Begin, Give, Placed, Steps};
 use super::expected::enq;
-use super::trials::Event::{Begin, Give, Steps};
 use super::trials::{NON_BLOCKING, Sizes, TWO_LOCK, Trial};
 use history::Op::Deq;
 use std::test::Fail;
@@ -14,7 +14,7 @@ fn nodes_change_their_places(rt: HostRuntime) -> Result<(), Fail> {
         ..NON_BLOCKING
     };
     let mut trial = Trial::new(rt.alloc(), sizes)?;
-    for (event, places) in [
+    for (event, [first, second, third]) in [
         (Begin(1, enq(1)), [Queue, Untouched, Untouched]),
         // N5.
         (Steps(1, 3), [Queue, Held, Untouched]),
@@ -29,26 +29,28 @@ fn nodes_change_their_places(rt: HostRuntime) -> Result<(), Fail> {
         // E3.
         (Steps(1, 2), [SetAside, Queue, Untouched]),
     ] {
-        trial.play(event)?;
-        for (node, place) in (1..).zip(places) {
-            assert_eq!(rt;
-                trial.place_of(node),
-                Some(place),
-                "of node {node} at {event:?}"
-            );
-        }
+        trial.goes(
+            &rt,
+            &[event, Placed(1, first), Placed(2, second), Placed(3, third)],
+        );
     }
     Ok(())
 }
 
 #[test]
 fn freed_nodes_are_free(rt: HostRuntime) -> Result<(), Fail> {
-    let events = [Begin(1, enq(5)), Steps(1, 10), Begin(2, Deq), Steps(2, 9)];
+    let events = [
+        Begin(1, enq(5)),
+        Steps(1, 10),
+        Begin(2, Deq),
+        Steps(2, 9),
+        Placed(1, Free),
+        Placed(2, Queue),
+        Placed(3, Untouched),
+    ];
     for sizes in [TWO_LOCK, NON_BLOCKING] {
-        let trial = Trial::of(rt.alloc(), sizes, &events)?;
-        assert_eq!(rt; trial.place_of(1), Some(Free));
-        assert_eq!(rt; trial.place_of(2), Some(Queue));
-        assert_eq!(rt; trial.place_of(3), Some(Untouched));
+        let mut trial = Trial::new(rt.alloc(), sizes)?;
+        trial.goes(&rt, &events);
     }
     Ok(())
 }

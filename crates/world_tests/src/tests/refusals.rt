@@ -1,17 +1,22 @@
 //! What the calls refuse, and that a refused call changes nothing that can be seen.
+use super::events::Event::{At, Begin, Refused, Steps};
 use super::expected::{enq, started};
-use super::trials::Event::{Begin, Give, Steps};
 use super::trials::{NON_BLOCKING, Trial};
 use history::Op::Deq;
-use history::{Refusal, Stamped};
+use history::Refusal;
 use line_table::{Kind, Line};
 use std::alloc::Global;
 use std::test::Fail;
-use step_machine::World;
+use step_machine::{Move, World};
+
+// Why a new world of these sizes is refused, if it is.
+fn refused(alloc: Global, kind: Kind, (nodes, limit, actors): (u32, u64, u32)) -> Option<Refusal> {
+    World::new(alloc, kind, nodes, limit, actors).err()
+}
 
 #[test]
-fn sizes_out_of_range_are_refused(rt: HostRuntime) -> Result<(), Fail> {
-    for (nodes, limit, actors) in [
+fn sizes_out_of_range_are_refused(rt: HostRuntime) {
+    for sizes in [
         (0, 100, 2),
         (1, 100, 2),
         (16_777_215, 100, 2),
@@ -20,16 +25,9 @@ fn sizes_out_of_range_are_refused(rt: HostRuntime) -> Result<(), Fail> {
         (3, 100, 0),
         (3, 100, 65_536),
     ] {
-        for kind in [Kind::TwoLock, Kind::NonBlocking] {
-            let answer = World::new(rt.alloc(), kind, nodes, limit, actors);
-            assert_eq!(rt;
-                answer.err(),
-                Some(Refusal::BadSize),
-                "{nodes} {limit} {actors}"
-            );
-        }
+        let found = [Kind::TwoLock, Kind::NonBlocking].map(|kind| refused(rt.alloc(), kind, sizes));
+        assert_eq!(rt; found, [Some(Refusal::BadSize); 2], "{sizes:?}");
     }
-    Ok(())
 }
 
 #[test]
@@ -45,54 +43,43 @@ fn the_greatest_sizes_are_accepted(rt: HostRuntime) -> Result<(), Fail> {
     Ok(())
 }
 
-/// What is seen of a world of two actors: its history, the next lines, the words and the step numbers given.
-fn seen(
-    alloc: Global,
-    trial: &Trial,
-) -> Result<(Vec<Stamped>, [Option<Line>; 2], [u64; 5]), Refusal> {
-    let world = &trial.world;
-    let numbers = [
+/// The words of a world and the step numbers given.
+fn numbers(world: &World) -> [u64; 5] {
+    [
         world.steps(),
         u64::from(world.fresh()),
         world.free().word(),
         world.head().word(),
         world.tail().word(),
-    ];
-    Ok((
-        world.history(alloc)?,
-        [trial.line(1), trial.line(2)],
-        numbers,
-    ))
+    ]
 }
 
 #[test]
 fn refused_moves_change_nothing(rt: HostRuntime) -> Result<(), Fail> {
-    let mut trial = Trial::of(rt.alloc(), NON_BLOCKING, &[Begin(1, enq(7)), Steps(1, 2)])?;
-    let (history, lines, numbers) = seen(rt.alloc(), &trial)?;
-    assert_eq!(rt; history.as_slice(), [started(1, enq(7), 1)].as_slice());
-    assert_eq!(rt; lines, [Some(Line::N5), None]);
-    for (event, why) in [
-        (Begin(0, Deq), Refusal::NoSuchActor),
-        (Begin(3, Deq), Refusal::NoSuchActor),
-        (Begin(1, Deq), Refusal::ActorBusy),
-        (Begin(1, enq(7)), Refusal::ActorBusy),
-        (Steps(0, 1), Refusal::NoSuchActor),
-        (Steps(3, 1), Refusal::NoSuchActor),
-        (Steps(2, 1), Refusal::IdleActor),
-        (Give(0), Refusal::NoSuchActor),
-        (Give(65_535), Refusal::NoSuchActor),
-        (Give(2), Refusal::IdleActor),
-        (Give(1), Refusal::NotHere),
+    let mut trial = Trial::new(rt.alloc(), NON_BLOCKING)?;
+    let history = [started(1, enq(7), 1)];
+    trial.goes(&rt, &[Begin(1, enq(7)), Steps(1, 2)]);
+    trial.shows(&rt, rt.alloc(), &history)?;
+    let before = numbers(&trial.world);
+    for (one, why) in [
+        (Move::Begin(0, Deq), Refusal::NoSuchActor),
+        (Move::Begin(3, Deq), Refusal::NoSuchActor),
+        (Move::Begin(1, Deq), Refusal::ActorBusy),
+        (Move::Begin(1, enq(7)), Refusal::ActorBusy),
+        (Move::Step(0), Refusal::NoSuchActor),
+        (Move::Step(3), Refusal::NoSuchActor),
+        (Move::Step(2), Refusal::IdleActor),
+        (Move::Give(0), Refusal::NoSuchActor),
+        (Move::Give(65_535), Refusal::NoSuchActor),
+        (Move::Give(2), Refusal::IdleActor),
+        (Move::Give(1), Refusal::NotHere),
     ] {
-        assert_eq!(rt; trial.play(event), Err(why), "at {event:?}");
-        let (history_after, lines_after, numbers_after) = seen(rt.alloc(), &trial)?;
-        assert_eq!(rt;
-            history_after.as_slice(),
-            history.as_slice(),
-            "at {event:?}"
+        trial.goes(
+            &rt,
+            &[Refused(one, why), At(1, Some(Line::N5)), At(2, None)],
         );
-        assert_eq!(rt; lines_after, lines, "at {event:?}");
-        assert_eq!(rt; numbers_after, numbers, "at {event:?}");
+        trial.shows(&rt, rt.alloc(), &history)?;
+        assert_eq!(rt; numbers(&trial.world), before, "at {one:?}");
     }
     Ok(())
 }

@@ -1,8 +1,7 @@
 //! Worked runs in which a count reaches the greatest one, by one actor.
+use super::events::Event::{Begin, Free, Give, Next, Pocket, Steps, Tail};
 use super::expected::{complete, enq, value};
-use super::trials::Event::{Begin, Give, Steps};
-use super::trials::{NON_BLOCKING, Sizes, TWO_LOCK, Trial};
-use counted_ref::CountedRef;
+use super::trials::{NON_BLOCKING, Sizes, TWO_LOCK, run};
 use history::Op::Deq;
 use history::{Refusal, Reply, WornWord};
 use line_table::Kind;
@@ -30,14 +29,12 @@ fn worn_free(rt: HostRuntime) -> Result<(), Fail> {
         Begin(1, enq(2)),
         Steps(1, 2),
     ];
-    let trial = Trial::of(rt.alloc(), WORN_AT_1, &events)?;
     let expected = [
         complete(1, enq(1), (1, 10, 9), Reply::Done),
         complete(1, Deq, (11, 19, 16), value(1, 1)),
         complete(1, enq(2), (20, 21, 21), worn(WornWord::Free)),
     ];
-    trial.shows(&rt, rt.alloc(), &expected)?;
-    Ok(())
+    run(&rt, rt.alloc(), WORN_AT_1, &events, &expected)
 }
 
 #[test]
@@ -47,16 +44,14 @@ fn swing_skipped(rt: HostRuntime) -> Result<(), Fail> {
         Steps(1, 10),
         Begin(1, enq(2)),
         Steps(1, 9),
+        Tail(2, 1),
+        Next(2, 3, 1),
     ];
-    let trial = Trial::of(rt.alloc(), WORN_AT_1, &events)?;
     let expected = [
         complete(1, enq(1), (1, 10, 9), Reply::Done),
         complete(1, enq(2), (11, 19, 19), Reply::Done),
     ];
-    trial.shows(&rt, rt.alloc(), &expected)?;
-    assert_eq!(rt; trial.world.tail(), CountedRef::new(2, 1));
-    assert_eq!(rt; trial.next_of(2), Some(CountedRef::new(3, 1)));
-    Ok(())
+    run(&rt, rt.alloc(), WORN_AT_1, &events, &expected)
 }
 
 #[test]
@@ -72,16 +67,14 @@ fn worn_tail(rt: HostRuntime) -> Result<(), Fail> {
         Steps(1, 9),
         Begin(1, enq(3)),
         Steps(1, 8),
+        Pocket(1, Some(Held { node: 4, mark: 0 })),
     ];
-    let trial = Trial::of(rt.alloc(), four_nodes, &events)?;
     let expected = [
         complete(1, enq(1), (1, 10, 9), Reply::Done),
         complete(1, enq(2), (11, 19, 19), Reply::Done),
         complete(1, enq(3), (20, 27, 27), worn(WornWord::Tail)),
     ];
-    trial.shows(&rt, rt.alloc(), &expected)?;
-    assert_eq!(rt; trial.pocket(1), Some(Held { node: 4, mark: 0 }));
-    Ok(())
+    run(&rt, rt.alloc(), four_nodes, &events, &expected)
 }
 
 #[test]
@@ -92,15 +85,13 @@ fn value_kept(rt: HostRuntime) -> Result<(), Fail> {
         Begin(1, Deq),
         Steps(1, 6),
         Give(1),
+        Pocket(1, Some(Held { node: 1, mark: 1 })),
     ];
-    let trial = Trial::of(rt.alloc(), WORN_AT_1, &events)?;
     let expected = [
         complete(1, enq(1), (1, 10, 9), Reply::Done),
         complete(1, Deq, (11, 17, 16), value(1, 1)),
     ];
-    trial.shows(&rt, rt.alloc(), &expected)?;
-    assert_eq!(rt; trial.pocket(1), Some(Held { node: 1, mark: 1 }));
-    Ok(())
+    run(&rt, rt.alloc(), WORN_AT_1, &events, &expected)
 }
 
 #[test]
@@ -113,18 +104,16 @@ fn worn_next(rt: HostRuntime) -> Result<(), Fail> {
         Give(1),
         Begin(1, enq(2)),
         Steps(1, 2),
+        // Node 1 is set aside: neither in the pocket nor free.
+        Pocket(1, None),
+        Free(0, 0),
     ];
-    let trial = Trial::of(rt.alloc(), WORN_AT_1, &events)?;
     let expected = [
         complete(1, enq(1), (1, 10, 9), Reply::Done),
         complete(1, Deq, (11, 17, 16), value(1, 1)),
         complete(1, enq(2), (18, 19, 19), worn(WornWord::Next)),
     ];
-    trial.shows(&rt, rt.alloc(), &expected)?;
-    // Node 1 is set aside: neither in the pocket nor free.
-    assert_eq!(rt; trial.pocket(1), None);
-    assert!(rt; trial.world.free().is_null());
-    Ok(())
+    run(&rt, rt.alloc(), WORN_AT_1, &events, &expected)
 }
 
 #[test]
@@ -145,15 +134,13 @@ fn worn_head(rt: HostRuntime) -> Result<(), Fail> {
         Begin(1, Deq),
         Steps(1, 5),
     ];
-    let trial = Trial::of(rt.alloc(), sizes, &events)?;
     let expected = [
         complete(1, enq(1), (1, 10, 8), Reply::Done),
         complete(1, enq(2), (11, 20, 18), Reply::Done),
         complete(1, Deq, (21, 29, 25), value(1, 1)),
         complete(1, Deq, (30, 34, 34), worn(WornWord::Head)),
     ];
-    trial.shows(&rt, rt.alloc(), &expected)?;
-    Ok(())
+    run(&rt, rt.alloc(), sizes, &events, &expected)
 }
 
 #[test]
@@ -177,7 +164,6 @@ fn worn_tail_pop(rt: HostRuntime) -> Result<(), Fail> {
         Begin(1, Deq),
         Steps(1, 4),
     ];
-    let trial = Trial::of(rt.alloc(), sizes, &events)?;
     let expected = [
         complete(1, enq(1), (1, 10, 9), Reply::Done),
         complete(1, Deq, (11, 19, 16), value(1, 1)),
@@ -186,6 +172,5 @@ fn worn_tail_pop(rt: HostRuntime) -> Result<(), Fail> {
         complete(1, enq(3), (38, 46, 46), Reply::Done),
         complete(1, Deq, (47, 50, 50), worn(WornWord::Tail)),
     ];
-    trial.shows(&rt, rt.alloc(), &expected)?;
-    Ok(())
+    run(&rt, rt.alloc(), sizes, &events, &expected)
 }
