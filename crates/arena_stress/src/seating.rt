@@ -24,7 +24,7 @@ pub fn pop(arena: &Arena, seats: &mut Vec<Seat>) -> Option<Seat>
     seats.pop()
 }
 
-/// An arena for the queue without locks, with as many seats.
+/// An arena for the non-blocking queue, with as many seats.
 pub fn seats_of(alloc: Global, nodes: u32, limit: u64, roles: &[Role]) -> Option<(Arena, Vec<Seat>)>
     ensures { IfSome result (λ r. AreFresh r.0 r.1.items) }
 {

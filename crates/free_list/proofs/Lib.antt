@@ -1,5 +1,5 @@
 pub mod Steps
 pub mod Standing
 pub mod Turning
-pub mod Trials
-pub mod Backs
+pub mod TakeTurns
+pub mod GiveBack

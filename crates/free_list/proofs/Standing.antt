@@ -10,9 +10,9 @@ use Rattle.history.specs.declared.refusals.Refusal.{Refusal}
 use Rattle.history.specs.declared.refusals.Refusal.TheVariants.{NoNode, WornOut}
 use Rattle.history.specs.declared.operations.Reply.{Reply}
 use Rattle.history.specs.declared.operations.Reply.TheVariants.{Refused}
-use Rattle.node_arena.specs.Machine.{Actor, Outcome as MachineOutcome, actor_of, entry_or, with_node, dequeues, goes, ends, worn, takes, lets_go, freed, sets_aside, HasCause, IsFree}
+use Rattle.node_arena.specs.Machine.{Actor, Outcome as MachineOutcome, actor_of, entry_or, with_node, dequeues, goes, ends, worn, fills_hand, empties_hand, freed, sets_aside, HasCause, IsFree}
 use Rattle.node_arena.specs.Traces.{step_at, outcome_at}
-use Rattle.node_arena.specs.Leads.{Lead, goes_on, led}
+use Rattle.node_arena.specs.Prologues.{Prologue, continues, after_prologue}
 use Rattle.node_arena.specs.declared.arena.Arena.{Arena}
 use Rattle.node_arena.specs.declared.seats.Seat.{Seat}
 use Rattle.node_arena.specs.Seats.{IsSeat, DidStep, view}
@@ -21,35 +21,35 @@ use Rattle.node_arena.proofs.Tracing.{traced_reached}
 use Rattle.free_list.specs.declared.outcomes.Actor.{Actor as Running}
 use Rattle.free_list.specs.declared.outcomes.Outcome.{Outcome}
 use Rattle.free_list.specs.declared.outcomes.Outcome.TheVariants.{Goes, Ends, Freed}
-use Rattle.free_list.specs.Runs.{in_hand, follow, HasNode, KnowsAt, Stands}
+use Rattle.free_list.specs.Runs.{in_hand, follow, HasNode, AgreesAt, CallIsAt}
 use Rattle.free_list.specs.Takes.{WasThere, IsRefusedBy}
 use Rattle.free_list.proofs.Steps.{ref_n2, ref_n3, ref_n4, ref_f1, ref_f3}
 
-stands_on : (r : Arena) (t : Seat) (l : Line) (a : Running) → IsSeat r t → (view t).actor.line ≡ Some l → (view t).actor.pocket ≡ None → KnowsAt r.plan.setup l (view t).actor a → Stands r t goes_on l a
+stands_on : (r : Arena) (t : Seat) (l : Line) (a : Running) → IsSeat r t → (view t).actor.line ≡ Some l → (view t).actor.pocket ≡ None → AgreesAt r.plan.setup l (view t).actor a → CallIsAt r t continues l a
 stands_on r t l a seat line empty knows = record { seat = seat; can = tt; line = line; empty = empty; knows = knows }
 
-module _ (r : Arena) (s t : Seat) (lead : Lead) (a : Running) (n : ℕ) where
+module _ (r : Arena) (s t : Seat) (prologue : Prologue) (a : Running) (n : ℕ) where
   abbrev b : Actor
-  b = led r.plan.setup (view s).number lead (view s).actor
+  b = after_prologue r.plan.setup (view s).number prologue (view s).actor
 
   -- the actor after a step with this outcome
-  settled_as : (l : Line) (d : DidStep r s t lead l n) (o : MachineOutcome) → outcome_at r.plan.setup d.told.was (view s).number b l ≡ o → (x : Option ℕ) × ((view t).actor ≡ record o.actor { entry = x })
+  settled_as : (l : Line) (d : DidStep r s t prologue l n) (o : MachineOutcome) → outcome_at r.plan.setup d.told.was (view s).number b l ≡ o → (x : Option ℕ) × ((view t).actor ≡ record o.actor { entry = x })
   settled_as l d o e = (Some (entry_or b.entry (length d.told.was.world.operations)), d.told.actor ∙ ap (λ (p : MachineOutcome). record p.actor { entry = Some (entry_or b.entry (length d.told.was.world.operations)) }) e)
 
   -- N1
-  pub after_n1 : Stands r s lead N1 a → DidStep r s t lead N1 n → Stands r t goes_on N2 (record a { f = n })
+  pub after_n1 : CallIsAt r s prologue N1 a → DidStep r s t prologue N1 n → CallIsAt r t continues N2 (record a { f = n })
   after_n1 h d = stands_on r t N2 (record a { f = n }) d.seat (ap (λ x. x.line) d.told.actor) (ap (λ x. x.pocket) d.told.actor ∙ h.empty) (ap (λ x. x.f) d.told.actor ∙ sym d.told.found)
 
   -- N2
-  pub record Ended (d : DidStep r s t lead N2 n) (why : Refusal) : Type 0 where
+  pub record Ended (d : DidStep r s t prologue N2 n) (why : Refusal) : Type 0 where
     pub over : (view t).actor.line ≡ None
     pub empty : (view t).actor.pocket ≡ None
     pub cause : HasCause d.told.was.world why
     pub possible : IsRefusedBy why
 
-  abbrev pub Second : DidStep r s t lead N2 n → Outcome → Type 0
-  Second d (Goes N3 a') = Stands r t goes_on N3 a'
-  Second d (Goes N5 a') = Stands r t goes_on N5 a'
+  abbrev pub Second : DidStep r s t prologue N2 n → Outcome → Type 0
+  Second d (Goes N3 a') = CallIsAt r t continues N3 a'
+  Second d (Goes N5 a') = CallIsAt r t continues N5 a'
   Second d (Goes l a') = ⊥
   Second d (Ends why) = Ended d why
   Second d Freed = ⊥
@@ -68,8 +68,8 @@ module _ (r : Arena) (s t : Seat) (lead : Lead) (a : Running) (n : ℕ) where
       else if u then Ends (WornOut OfFree)
       else Goes N3 (record a { top = top })
 
-  pub after_n2 : Stands r s lead N2 a → (d : DidStep r s t lead N2 n) → Second d (follow r.plan.setup a N2 n)
-  after_n2 h d = subst (λ x. Second d (second x (is_null x) (nat_lt a.f r.plan.setup.size) (nat_eq x.count r.plan.setup.limit))) (sym (ref_n2 r s t lead n d).0) (go (is_null d.told.was.world.shared.free) (nat_lt a.f r.plan.setup.size) (nat_eq d.told.was.world.shared.free.count r.plan.setup.limit) refl refl refl)
+  pub after_n2 : CallIsAt r s prologue N2 a → (d : DidStep r s t prologue N2 n) → Second d (follow r.plan.setup a N2 n)
+  after_n2 h d = subst (λ x. Second d (second x (is_null x) (nat_lt a.f r.plan.setup.size) (nat_eq x.count r.plan.setup.limit))) (sym (ref_n2 r s t prologue n d).0) (go (is_null d.told.was.world.shared.free) (nat_lt a.f r.plan.setup.size) (nat_eq d.told.was.world.shared.free.count r.plan.setup.limit) refl refl refl)
     where
       is : (p q u : Bool) → is_null d.told.was.world.shared.free ≡ p → nat_lt a.f r.plan.setup.size ≡ q → nat_eq d.told.was.world.shared.free.count r.plan.setup.limit ≡ u → outcome_at r.plan.setup d.told.was (view s).number b N2 ≡ second_outcome (d.told.was.world.steps + 1) d.told.was.world.shared.free p q u
       is p q u x y w = λ i. second_outcome (d.told.was.world.steps + 1) d.told.was.world.shared.free (x i) ((ap (λ f. nat_lt f r.plan.setup.size) h.knows ∙ y) i) (w i)
@@ -81,14 +81,14 @@ module _ (r : Arena) (s t : Seat) (lead : Lead) (a : Running) (n : ℕ) where
       go true false u x y w =
           let e = is true false u x y w in
           let o = settled_as N2 d (second_outcome (d.told.was.world.steps + 1) d.told.was.world.shared.free true false u) e in
-          record { over = ap (λ c. c.line) o.1; empty = ap (λ c. c.pocket) o.1 ∙ h.empty; cause = has_cause r.plan lead N2 n (view s) (view t) d.told NoNode (ap (λ c. c.reply) e); possible = inl refl }
+          record { over = ap (λ c. c.line) o.1; empty = ap (λ c. c.pocket) o.1 ∙ h.empty; cause = has_cause r.plan prologue N2 n (view s) (view t) d.told NoNode (ap (λ c. c.reply) e); possible = inl refl }
       go false q true x y w =
           let e = is false q true x y w in
           let o = settled_as N2 d (second_outcome (d.told.was.world.steps + 1) d.told.was.world.shared.free false q true) e in
-          record { over = ap (λ c. c.line) o.1; empty = ap (λ c. c.pocket) o.1 ∙ h.empty; cause = has_cause r.plan lead N2 n (view s) (view t) d.told (WornOut OfFree) (ap (λ c. c.reply) e); possible = inr refl }
+          record { over = ap (λ c. c.line) o.1; empty = ap (λ c. c.pocket) o.1 ∙ h.empty; cause = has_cause r.plan prologue N2 n (view s) (view t) d.told (WornOut OfFree) (ap (λ c. c.reply) e); possible = inr refl }
       go false q false x y w =
           let o = settled_as N2 d (second_outcome (d.told.was.world.steps + 1) d.told.was.world.shared.free false q false) (is false q false x y w) in
-          let range = (was_in_range r.plan lead N2 n (view s) (view t) d.told).shared in
+          let range = (was_in_range r.plan prologue N2 n (view s) (view t) d.told).shared in
           let free = range.free in
           let c = free.count in
           let m = free.node in
@@ -101,41 +101,41 @@ module _ (r : Arena) (s t : Seat) (lead : Lead) (a : Running) (n : ℕ) where
           (record { top = record { top = ap (λ c. c.top) o.1; room = omega arith }; some = omega arith; inside = omega arith })
 
   -- N3
-  pub after_n3 : Stands r s lead N3 a → (d : DidStep r s t lead N3 n) → Stands r t goes_on N4 (record a { next = ref_of n })
+  pub after_n3 : CallIsAt r s prologue N3 a → (d : DidStep r s t prologue N3 n) → CallIsAt r t continues N4 (record a { next = ref_of n })
   after_n3 h d = stands_on r t N4 (record a { next = ref_of n }) d.seat (ap (λ x. x.line) d.told.actor) (ap (λ x. x.pocket) d.told.actor ∙ h.empty)
-      (record { top = record { top = ap (λ x. x.top) d.told.actor ∙ h.knows.top.top; room = h.knows.top.room }; some = h.knows.some; inside = h.knows.inside }, ap (λ x. x.next) d.told.actor ∙ sym (ref_n3 r s t lead n d).0)
+      (record { top = record { top = ap (λ x. x.top) d.told.actor ∙ h.knows.top.top; room = h.knows.top.room }; some = h.knows.some; inside = h.knows.inside }, ap (λ x. x.next) d.told.actor ∙ sym (ref_n3 r s t prologue n d).0)
 
   -- a node came into the hand, or the turn failed
-  pub record Holding (l : Line) (d : DidStep r s t lead l n) (a' : Running) : Type 0 where
+  pub record Holding (l : Line) (d : DidStep r s t prologue l n) (a' : Running) : Type 0 where
     pub over : (view t).actor.line ≡ Some (with_node r.plan.setup.kind)
     pub empty : (view t).actor.pocket ≡ None
     pub node : HasNode r.plan.setup (view t).actor (in_hand a')
     pub there : WasThere a'.node d.told.was.world
 
   abbrev fourth : Bool → MachineOutcome
-  fourth p = if p then goes (with_node r.plan.setup.kind) (takes b.top.node b.next.count b) else goes N1 b
+  fourth p = if p then goes (with_node r.plan.setup.kind) (fills_hand b.top.node b.next.count b) else goes N1 b
 
   abbrev fifth : Bool → MachineOutcome
-  fifth p = if p then goes (with_node r.plan.setup.kind) (takes (b.f + 1) 0 b) else goes N1 b
+  fifth p = if p then goes (with_node r.plan.setup.kind) (fills_hand (b.f + 1) 0 b) else goes N1 b
 
   abbrev first : (now : ℕ) → Ref → Bool → Option Reply → MachineOutcome
   first now top p due = if p then sets_aside (freed r.plan.setup.kind now due (record b { top = top })) else goes F2 (record b { top = top })
 
   abbrev third : (now : ℕ) → Bool → Option Reply → MachineOutcome
-  third now p due = if p then freed r.plan.setup.kind now due (lets_go b) else goes F1 b
+  third now p due = if p then freed r.plan.setup.kind now due (empties_hand b) else goes F1 b
 
   -- N4
-  pub after_n4 : Stands r s lead N4 a → (d : DidStep r s t lead N4 n) → (same_ref (ref_of n) a.top ≡ true → Holding N4 d (record a { node = a.top.node; mark = a.next.count })) × (same_ref (ref_of n) a.top ≡ false → Stands r t goes_on N1 a)
+  pub after_n4 : CallIsAt r s prologue N4 a → (d : DidStep r s t prologue N4 n) → (same_ref (ref_of n) a.top ≡ true → Holding N4 d (record a { node = a.top.node; mark = a.next.count })) × (same_ref (ref_of n) a.top ≡ false → CallIsAt r t continues N1 a)
   after_n4 h d = (won, lost)
     where
       same : (p : Bool) → same_ref (ref_of n) a.top ≡ p → same_ref d.told.was.world.shared.free b.top ≡ p
-      same p e = (λ i. same_ref (sym (ref_n4 r s t lead n d).0 i) (h.knows.0.top.top i)) ∙ e
+      same p e = (λ i. same_ref (sym (ref_n4 r s t prologue n d).0 i) (h.knows.0.top.top i)) ∙ e
 
       won : same_ref (ref_of n) a.top ≡ true → Holding N4 d (record a { node = a.top.node; mark = a.next.count })
       won e =
           let o = settled_as N4 d (fourth true) (ap fourth (same true e)) in
           let is : d.told.was.world.shared.free ≡ a.top = same_ref-true d.told.was.world.shared.free b.top (same true e) ∙ h.knows.0.top.top in
-          let low = (actor_was_in_range r.plan lead N4 n (view s) (view t) d.told).registers.next.count in
+          let low = (actor_was_in_range r.plan prologue N4 n (view s) (view t) d.told).registers.next.count in
           let zl = ap (λ z. z.limit) d.told.setup in
           let nx = ap (λ x. x.count) h.knows.1 in
           record {
@@ -145,13 +145,13 @@ module _ (r : Arena) (s t : Seat) (lead : Lead) (a : Running) (n : ℕ) where
             there = inl (subst (IsFree d.told.was.world) (ap (λ x. x.node) is) (first_is_free d.told.was.world (traced_reached d.told.was d.told.reached) (subst (λ k. 1 ≤ k) (sym (ap (λ x. x.node) is)) h.knows.0.some)));
           }
 
-      lost : same_ref (ref_of n) a.top ≡ false → Stands r t goes_on N1 a
+      lost : same_ref (ref_of n) a.top ≡ false → CallIsAt r t continues N1 a
       lost e =
           let o = settled_as N4 d (fourth false) (ap fourth (same false e)) in
           stands_on r t N1 a d.seat (ap (λ c. c.line) o.1) (ap (λ c. c.pocket) o.1 ∙ h.empty) tt
 
   -- N5
-  pub after_n5 : Stands r s lead N5 a → (d : DidStep r s t lead N5 n) → (nat_eq n a.f ≡ true → Holding N5 d (record a { node = a.f + 1; mark = 0 })) × (nat_eq n a.f ≡ false → Stands r t goes_on N1 a)
+  pub after_n5 : CallIsAt r s prologue N5 a → (d : DidStep r s t prologue N5 n) → (nat_eq n a.f ≡ true → Holding N5 d (record a { node = a.f + 1; mark = 0 })) × (nat_eq n a.f ≡ false → CallIsAt r t continues N1 a)
   after_n5 h d = (won, lost)
     where
       same : (p : Bool) → nat_eq n a.f ≡ p → nat_eq d.told.was.world.shared.fresh b.f ≡ p
@@ -170,64 +170,64 @@ module _ (r : Arena) (s t : Seat) (lead : Lead) (a : Running) (n : ℕ) where
             there = inr (let u : d.told.was.world.shared.fresh < a.f + 1 = omega arith in u);
           }
 
-      lost : nat_eq n a.f ≡ false → Stands r t goes_on N1 a
+      lost : nat_eq n a.f ≡ false → CallIsAt r t continues N1 a
       lost e =
           let o = settled_as N5 d (fifth false) (ap fifth (same false e)) in
           stands_on r t N1 a d.seat (ap (λ c. c.line) o.1) (ap (λ c. c.pocket) o.1 ∙ h.empty) tt
 
   -- F1
-  pub record Shelved (l : Line) (d : DidStep r s t lead l n) : Type 0 where
+  pub record Shelved (l : Line) (d : DidStep r s t prologue l n) : Type 0 where
     pub over : (view t).actor.line ≡ Some (dequeues r.plan.setup.kind)
     pub empty : (view t).actor.pocket ≡ None
 
-  pub after_f1 : Stands r s lead F1 a → (d : DidStep r s t lead F1 n) → (nat_eq (ref_of n).count r.plan.setup.limit ≡ true → Shelved F1 d) × (nat_eq (ref_of n).count r.plan.setup.limit ≡ false → Stands r t goes_on F2 (record a { top = ref_of n }))
+  pub after_f1 : CallIsAt r s prologue F1 a → (d : DidStep r s t prologue F1 n) → (nat_eq (ref_of n).count r.plan.setup.limit ≡ true → Shelved F1 d) × (nat_eq (ref_of n).count r.plan.setup.limit ≡ false → CallIsAt r t continues F2 (record a { top = ref_of n }))
   after_f1 h d = (aside, on)
     where
       same : (p : Bool) → nat_eq (ref_of n).count r.plan.setup.limit ≡ p → nat_eq d.told.was.world.shared.free.count r.plan.setup.limit ≡ p
-      same p e = ap (λ x. nat_eq x.count r.plan.setup.limit) (sym (ref_f1 r s t lead n d).0) ∙ e
+      same p e = ap (λ x. nat_eq x.count r.plan.setup.limit) (sym (ref_f1 r s t prologue n d).0) ∙ e
 
       aside : nat_eq (ref_of n).count r.plan.setup.limit ≡ true → Shelved F1 d
       aside e =
           let o = settled_as F1 d (first (d.told.was.world.steps + 1) d.told.was.world.shared.free true None) (λ i. first (d.told.was.world.steps + 1) d.told.was.world.shared.free (same true e i) (h.knows.early i)) in
           record { over = ap (λ c. c.line) o.1; empty = ap (λ c. c.pocket) o.1 ∙ h.empty }
 
-      on : nat_eq (ref_of n).count r.plan.setup.limit ≡ false → Stands r t goes_on F2 (record a { top = ref_of n })
+      on : nat_eq (ref_of n).count r.plan.setup.limit ≡ false → CallIsAt r t continues F2 (record a { top = ref_of n })
       on e =
           let o = settled_as F1 d (first (d.told.was.world.steps + 1) d.told.was.world.shared.free false None) (λ i. first (d.told.was.world.steps + 1) d.told.was.world.shared.free (same false e i) (h.knows.early i)) in
-          let range = (was_in_range r.plan lead F1 n (view s) (view t) d.told).shared.free.count in
+          let range = (was_in_range r.plan prologue F1 n (view s) (view t) d.told).shared.free.count in
           let zl = ap (λ z. z.limit) d.told.setup in
-          let rf = ap (λ x. x.count) (ref_f1 r s t lead n d).0 in
+          let rf = ap (λ x. x.count) (ref_f1 r s t prologue n d).0 in
           let unworn : (ref_of n).count ≢ r.plan.setup.limit = eqb-false (ref_of n).count r.plan.setup.limit e in
-          let reg = (actor_was_in_range r.plan lead F1 n (view s) (view t) d.told).registers.mark in
+          let reg = (actor_was_in_range r.plan prologue F1 n (view s) (view t) d.told).registers.mark in
           let next = names_next (step_at d.told.was (view s).number b F1).world (view t).number (view t).actor (traced_reached (step_at d.told.was (view s).number b F1) d.told.reaches) (ap (λ k. actor_of (step_at d.told.was (view s).number b F1).world k) d.told.number ∙ d.told.after) (ap (λ c. c.line) o.1) in
           let nd : (view t).actor.node ≡ a.node = ap (λ c. c.node) o.1 ∙ h.knows.node in
           let zs = ap (λ z. z.size) d.told.setup in
           let mk = h.knows.mark in
           stands_on r t F2 (record a { top = ref_of n }) d.seat (ap (λ c. c.line) o.1) (ap (λ c. c.pocket) o.1 ∙ h.empty) (
             record { frees = record { node = nd; mark = ap (λ c. c.mark) o.1 ∙ h.knows.mark; held = ap (λ c. c.holds) o.1 ∙ h.knows.held; early = ap (λ c. c.due) o.1 ∙ h.knows.early }; some = (let x = next.0 in omega arith); inside = (let x = next.1 in omega arith); small = omega arith },
-            record { top = ap (λ c. c.top) o.1 ∙ sym (ref_f1 r s t lead n d).0; room = omega arith },
+            record { top = ap (λ c. c.top) o.1 ∙ sym (ref_f1 r s t prologue n d).0; room = omega arith },
           )
 
   -- F2
-  pub after_f2 : Stands r s lead F2 a → (d : DidStep r s t lead F2 n) → Stands r t goes_on F3 a
+  pub after_f2 : CallIsAt r s prologue F2 a → (d : DidStep r s t prologue F2 n) → CallIsAt r t continues F3 a
   after_f2 h d = stands_on r t F3 a d.seat (ap (λ x. x.line) d.told.actor) (ap (λ x. x.pocket) d.told.actor ∙ h.empty) (
     record { frees = record { node = ap (λ c. c.node) d.told.actor ∙ h.knows.0.frees.node; mark = ap (λ c. c.mark) d.told.actor ∙ h.knows.0.frees.mark; held = ap (λ c. c.holds) d.told.actor ∙ h.knows.0.frees.held; early = ap (λ c. c.due) d.told.actor ∙ h.knows.0.frees.early }; some = h.knows.0.some; inside = h.knows.0.inside; small = h.knows.0.small },
     record { top = ap (λ c. c.top) d.told.actor ∙ h.knows.1.top; room = h.knows.1.room },
   )
 
   -- F3
-  pub after_f3 : Stands r s lead F3 a → (d : DidStep r s t lead F3 n) → (same_ref (ref_of n) a.top ≡ true → Shelved F3 d) × (same_ref (ref_of n) a.top ≡ false → Stands r t goes_on F1 a)
+  pub after_f3 : CallIsAt r s prologue F3 a → (d : DidStep r s t prologue F3 n) → (same_ref (ref_of n) a.top ≡ true → Shelved F3 d) × (same_ref (ref_of n) a.top ≡ false → CallIsAt r t continues F1 a)
   after_f3 h d = (won, lost)
     where
       same : (p : Bool) → same_ref (ref_of n) a.top ≡ p → same_ref d.told.was.world.shared.free b.top ≡ p
-      same p e = (λ i. same_ref (sym (ref_f3 r s t lead n d).0 i) (h.knows.1.top i)) ∙ e
+      same p e = (λ i. same_ref (sym (ref_f3 r s t prologue n d).0 i) (h.knows.1.top i)) ∙ e
 
       won : same_ref (ref_of n) a.top ≡ true → Shelved F3 d
       won e =
           let o = settled_as F3 d (third (d.told.was.world.steps + 1) true None) (λ i. third (d.told.was.world.steps + 1) (same true e i) (h.knows.0.frees.early i)) in
           record { over = ap (λ c. c.line) o.1; empty = ap (λ c. c.pocket) o.1 ∙ h.empty }
 
-      lost : same_ref (ref_of n) a.top ≡ false → Stands r t goes_on F1 a
+      lost : same_ref (ref_of n) a.top ≡ false → CallIsAt r t continues F1 a
       lost e =
           let o = settled_as F3 d (third (d.told.was.world.steps + 1) false None) (λ i. third (d.told.was.world.steps + 1) (same false e i) (h.knows.0.frees.early i)) in
           stands_on r t F1 a d.seat (ap (λ c. c.line) o.1) (ap (λ c. c.pocket) o.1 ∙ h.empty)

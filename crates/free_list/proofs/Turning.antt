@@ -8,18 +8,18 @@ use Rattle.line_table.specs.declared.lines.Line.TheVariants.{N1, N2, N3, N4, N5}
 use Rattle.history.specs.declared.refusals.Refusal.{Refusal}
 use Rattle.node_arena.specs.Machine.{with_node}
 use Rattle.node_arena.specs.Traces.{Event}
-use Rattle.node_arena.specs.Leads.{Lead, goes_on}
+use Rattle.node_arena.specs.Prologues.{Prologue, continues}
 use Rattle.node_arena.specs.declared.arena.Arena.{Arena}
 use Rattle.node_arena.specs.declared.seats.Seat.{Seat}
 use Rattle.node_arena.specs.Seats.{KeepsStored, DidStep, view}
 use Rattle.node_arena.specs.Turns.{failed_at, failed_turns, at_n1}
-use Rattle.node_arena.specs.Walks.{Walks, Passes}
-use Rattle.node_arena.proofs.Walking.{pass_then, then_stored, failed_snoc, event, walk_on, pass_on, to_is, ended_at, failed_last, now_sole}
+use Rattle.node_arena.specs.Paths.{ExtendsPath, Passes}
+use Rattle.node_arena.proofs.Paths.{pass_then, then_stored, failed_snoc, event, walk_on, pass_on, to_is, ended_at, failed_last, now_sole}
 use Rattle.free_list.specs.declared.outcomes.Actor.{Actor as Running}
 use Rattle.free_list.specs.declared.outcomes.Outcome.{Outcome}
 use Rattle.free_list.specs.declared.outcomes.Outcome.TheVariants.{Goes, Ends, Freed}
 use Rattle.free_list.specs.declared.outcomes.Turn.TheVariants.{Refused}
-use Rattle.free_list.specs.Runs.{in_hand, turn_of, Stands, StartsTake, Follows}
+use Rattle.free_list.specs.Runs.{in_hand, turn_of, CallIsAt, StartsTake, Follows}
 use Rattle.free_list.specs.Takes.{Got, Fell, Turned, Turns}
 use Rattle.free_list.proofs.Standing.{after_n1, Ended, Second, after_n2, after_n3, Holding, after_n4, after_n5}
 
@@ -34,23 +34,23 @@ unfolding actor_or
 same_actor l k a b e = ap (actor_or a) e
 
 -- at the start of a turn a call knows nothing of its registers
-pub any_registers : (r : Arena) (t : Seat) (lead : Lead) (a : Running) → StartsTake r t lead → Stands r t lead N1 a
-any_registers r t lead a h = record { seat = h.seat; can = h.can; line = h.line; empty = h.empty; knows = tt }
+pub any_registers : (r : Arena) (t : Seat) (prologue : Prologue) (a : Running) → StartsTake r t prologue → CallIsAt r t prologue N1 a
+any_registers r t prologue a h = record { seat = h.seat; can = h.can; line = h.line; empty = h.empty; knows = tt }
 
-starts : (r : Arena) (t : Seat) (lead : Lead) (a : Running) → Stands r t lead N1 a → StartsTake r t lead
-starts r t lead a h = record { seat = h.seat; can = h.can; line = h.line; empty = h.empty }
+starts : (r : Arena) (t : Seat) (prologue : Prologue) (a : Running) → CallIsAt r t prologue N1 a → StartsTake r t prologue
+starts r t prologue a h = record { seat = h.seat; can = h.can; line = h.line; empty = h.empty }
 
 none_with_node : (k : Kind) (o : Option Line) → o ≡ Some (with_node k) → at_n1 o ≡ 0
 none_with_node TwoLock o e = ap at_n1 e
 none_with_node NonBlocking o e = ap at_n1 e
 
 -- the last step of a turn, at N4 or N5
-module _ (r : Arena) (s t x : Seat) (l : Line) (n : ℕ) (d : DidStep r t x goes_on l n) (before : List Event) (w : Walks (view s) (view t) before) (never : failed_turns before ≡ 0) (q : (o : Option Line) → failed_at l o ≡ at_n1 o) where
+module _ (r : Arena) (s t x : Seat) (l : Line) (n : ℕ) (d : DidStep r t x continues l n) (before : List Event) (w : ExtendsPath (view s) (view t) before) (never : failed_turns before ≡ 0) (q : (o : Option Line) → failed_at l o ≡ at_n1 o) where
   abbrev lines : List Event
-  lines = before ++ event r t x goes_on l n d ∷ []
+  lines = before ++ event r t x continues l n d ∷ []
 
   -- it came to a node
-  pub got : (a : Running) (h : Running) → Holding r t x goes_on a n l d h → Got r s x lines (in_hand h)
+  pub got : (a : Running) (h : Running) → Holding r t x continues a n l d h → Got r s x lines (in_hand h)
   got a h o =
       record {
         seat = d.seat;
@@ -58,19 +58,19 @@ module _ (r : Arena) (s t x : Seat) (l : Line) (n : ℕ) (d : DidStep r t x goes
         empty = o.empty;
         node = o.node.node;
         mark = o.node.mark;
-        never = (let f = failed_snoc before (event r t x goes_on l n d) in let z = q (event r t x goes_on l n d).to ∙ none_with_node r.plan.setup.kind (event r t x goes_on l n d).to (to_is r t x goes_on l n d ∙ o.over) in omega arith);
-        there = ended_at r t x goes_on l n d s before _ w o.there;
-        sole = now_sole r t x goes_on l n d h.node o.node.held o.node.node o.node.some;
+        never = (let f = failed_snoc before (event r t x continues l n d) in let z = q (event r t x continues l n d).to ∙ none_with_node r.plan.setup.kind (event r t x continues l n d).to (to_is r t x continues l n d ∙ o.over) in omega arith);
+        there = ended_at r t x continues l n d s before _ w o.there;
+        sole = now_sole r t x continues l n d h.node o.node.held o.node.node o.node.some;
       }
 
   -- it failed
-  pub fell : (a : Running) → Stands r x goes_on N1 a → Fell r x lines
+  pub fell : (a : Running) → CallIsAt r x continues N1 a → Fell r x lines
   fell a h =
       let e : failed_at l (view x).actor.line ≡ 1 = q (view x).actor.line ∙ ap at_n1 h.line in
       record {
-        stands = starts r x goes_on a h;
-        once = (let f = failed_snoc before (event r t x goes_on l n d) in let z = ap (failed_at l) (to_is r t x goes_on l n d) ∙ e in omega arith);
-        last = failed_last r t x goes_on l n d before e;
+        stands = starts r x continues a h;
+        once = (let f = failed_snoc before (event r t x continues l n d) in let z = ap (failed_at l) (to_is r t x continues l n d) ∙ e in omega arith);
+        last = failed_last r t x continues l n d before e;
       }
 
 -- a node in hand is what its turn took
@@ -79,81 +79,81 @@ took_at TwoLock r s x es a g = g
 took_at NonBlocking r s x es a g = g
 
 -- the first two lines of a turn
-module _ (r : Arena) (s u : Seat) (lead : Lead) (a a1 : Running) (l : Line) (h : Stands r s lead N1 a) (f : Follows r s u lead N1 a (Goes l a1)) where
-  pub to_n2 : Stands r u goes_on N2 a1
-  to_n2 = subst (Stands r u goes_on N2) (sym (same_actor l N2 a1 (record a { f = f.found }) f.leads_to)) (after_n1 r s u lead a f.found h f.did)
+module _ (r : Arena) (s u : Seat) (prologue : Prologue) (a a1 : Running) (l : Line) (h : CallIsAt r s prologue N1 a) (f : Follows r s u prologue N1 a (Goes l a1)) where
+  pub to_n2 : CallIsAt r u continues N2 a1
+  to_n2 = subst (CallIsAt r u continues N2) (sym (same_actor l N2 a1 (record a { f = f.found }) f.leads_to)) (after_n1 r s u prologue a f.found h f.did)
 
-module _ (r : Arena) (s u t : Seat) (lead : Lead) (a a1 : Running) (l1 : Line) (out : Outcome) (f : Follows r s u lead N1 a (Goes l1 a1)) (h : Stands r u goes_on N2 a1) (g : Follows r u t goes_on N2 a1 out) where
+module _ (r : Arena) (s u t : Seat) (prologue : Prologue) (a a1 : Running) (l1 : Line) (out : Outcome) (f : Follows r s u prologue N1 a (Goes l1 a1)) (h : CallIsAt r u continues N2 a1) (g : Follows r u t continues N2 a1 out) where
   abbrev one : Event
-  one = event r s u lead N1 f.found f.did
+  one = event r s u prologue N1 f.found f.did
 
   abbrev two : Event
-  two = event r u t goes_on N2 g.found g.did
+  two = event r u t continues N2 g.found g.did
 
   abbrev looks : List Event
   looks = one ∷ two ∷ []
 
   pub look_walk : Passes (view s) (view t) looks
-  look_walk = pass_then (view s) (view u) (view t) (one ∷ []) (two ∷ []) (pass_on r s u lead N1 f.found f.did refl tt refl) (pass_on r u t goes_on N2 g.found g.did refl tt refl)
+  look_walk = pass_then (view s) (view u) (view t) (one ∷ []) (two ∷ []) (pass_on r s u prologue N1 f.found f.did refl tt refl) (pass_on r u t continues N2 g.found g.did refl tt refl)
 
   pub look_stored : KeepsStored s t
   look_stored = then_stored s u t f.did.stored g.did.stored
 
-  pub second_is : Second r u t goes_on a1 g.found g.did out
-  second_is = subst (Second r u t goes_on a1 g.found g.did) (sym g.leads_to) (after_n2 r u t goes_on a1 g.found h g.did)
+  pub second_is : Second r u t continues a1 g.found g.did out
+  second_is = subst (Second r u t continues a1 g.found g.did) (sym g.leads_to) (after_n2 r u t continues a1 g.found h g.did)
 
   -- a turn that is refused
   pub refused_turn : (why : Refusal) → out ≡ Ends why → Turns r s t (Refused why)
   refused_turn why e =
-      let o : Ended r u t goes_on a1 g.found g.did why = subst (Second r u t goes_on a1 g.found g.did) e second_is in
+      let o : Ended r u t continues a1 g.found g.did why = subst (Second r u t continues a1 g.found g.did) e second_is in
       record {
         stored = look_stored;
         lines = looks;
         walks = look_walk;
-        turned = record { seat = g.did.seat; over = o.over; empty = o.empty; never = refl; cause = ended_at r u t goes_on N2 g.found g.did s (one ∷ []) _ (walk_on r s u lead N1 f.found f.did refl tt) o.cause; possible = o.possible };
+        turned = record { seat = g.did.seat; over = o.over; empty = o.empty; never = refl; cause = ended_at r u t continues N2 g.found g.did s (one ∷ []) _ (walk_on r s u prologue N1 f.found f.did refl tt) o.cause; possible = o.possible };
       }
 
-  pub to_n5 : (k : Line) (b : Running) → out ≡ Goes k b → k ≡ N5 → Stands r t goes_on N5 b
-  to_n5 k b e is = subst (Second r u t goes_on a1 g.found g.did) (e ∙ ap (λ j. Goes j b) is) second_is
+  pub to_n5 : (k : Line) (b : Running) → out ≡ Goes k b → k ≡ N5 → CallIsAt r t continues N5 b
+  to_n5 k b e is = subst (Second r u t continues a1 g.found g.did) (e ∙ ap (λ j. Goes j b) is) second_is
 
-  pub to_n3 : (k : Line) (b : Running) → out ≡ Goes k b → k ≢ N5 → Stands r t goes_on N3 b
-  to_n3 k b e other = go k other (subst (Second r u t goes_on a1 g.found g.did) e second_is)
+  pub to_n3 : (k : Line) (b : Running) → out ≡ Goes k b → k ≢ N5 → CallIsAt r t continues N3 b
+  to_n3 k b e other = go k other (subst (Second r u t continues a1 g.found g.did) e second_is)
     where
-      go : (k : Line) → k ≢ N5 → Second r u t goes_on a1 g.found g.did (Goes k b) → Stands r t goes_on N3 b
+      go : (k : Line) → k ≢ N5 → Second r u t continues a1 g.found g.did (Goes k b) → CallIsAt r t continues N3 b
       go N3 other x = x
       go N5 other x = absurd (other refl)
       go _ other x = absurd x
 
   -- a turn that ends at N5
-  pub fresh_turn : (x : Seat) (k : Line) (b : Running) (last : Outcome) → out ≡ Goes k b → k ≡ N5 → Follows r t x goes_on N5 b last → Turns r s x (turn_of last)
+  pub fresh_turn : (x : Seat) (k : Line) (b : Running) (last : Outcome) → out ≡ Goes k b → k ≡ N5 → Follows r t x continues N5 b last → Turns r s x (turn_of last)
   fresh_turn x k b last e is y =
       record {
         stored = then_stored s t x look_stored y.did.stored;
-        lines = looks ++ event r t x goes_on N5 y.found y.did ∷ [];
-        walks = pass_then (view s) (view t) (view x) looks (event r t x goes_on N5 y.found y.did ∷ []) look_walk (pass_on r t x goes_on N5 y.found y.did refl tt refl);
-        turned = subst (λ o. Turned r s x (looks ++ event r t x goes_on N5 y.found y.did ∷ []) (turn_of o)) (sym y.leads_to) (go (nat_eq y.found b.f) refl);
+        lines = looks ++ event r t x continues N5 y.found y.did ∷ [];
+        walks = pass_then (view s) (view t) (view x) looks (event r t x continues N5 y.found y.did ∷ []) look_walk (pass_on r t x continues N5 y.found y.did refl tt refl);
+        turned = subst (λ o. Turned r s x (looks ++ event r t x continues N5 y.found y.did ∷ []) (turn_of o)) (sym y.leads_to) (go (nat_eq y.found b.f) refl);
       }
     where
-      go : (p : Bool) → nat_eq y.found b.f ≡ p → Turned r s x (looks ++ event r t x goes_on N5 y.found y.did ∷ []) (turn_of (if p then Goes (with_node r.plan.setup.kind) (record b { node = b.f + 1; mark = 0 }) else Goes N1 b))
-      go true w = took_at r.plan.setup.kind r s x _ (record b { node = b.f + 1; mark = 0 }) (got r s t x N5 y.found y.did looks look_walk.walks refl (λ o. refl) b (record b { node = b.f + 1; mark = 0 }) ((after_n5 r t x goes_on b y.found (to_n5 k b e is) y.did).0 w))
-      go false w = fell r s t x N5 y.found y.did looks look_walk.walks refl (λ o. refl) b ((after_n5 r t x goes_on b y.found (to_n5 k b e is) y.did).1 w)
+      go : (p : Bool) → nat_eq y.found b.f ≡ p → Turned r s x (looks ++ event r t x continues N5 y.found y.did ∷ []) (turn_of (if p then Goes (with_node r.plan.setup.kind) (record b { node = b.f + 1; mark = 0 }) else Goes N1 b))
+      go true w = took_at r.plan.setup.kind r s x _ (record b { node = b.f + 1; mark = 0 }) (got r s t x N5 y.found y.did looks look_walk.walks refl (λ o. refl) b (record b { node = b.f + 1; mark = 0 }) ((after_n5 r t x continues b y.found (to_n5 k b e is) y.did).0 w))
+      go false w = fell r s t x N5 y.found y.did looks look_walk.walks refl (λ o. refl) b ((after_n5 r t x continues b y.found (to_n5 k b e is) y.did).1 w)
 
-  pub to_n4 : (k m : Line) (b c : Running) (x : Seat) → out ≡ Goes k b → k ≢ N5 → Follows r t x goes_on N3 b (Goes m c) → Stands r x goes_on N4 c
-  to_n4 k m b c x e other y = subst (Stands r x goes_on N4) (sym (same_actor m N4 c (record b { next = ref_of y.found }) y.leads_to)) (after_n3 r t x goes_on b y.found (to_n3 k b e other) y.did)
+  pub to_n4 : (k m : Line) (b c : Running) (x : Seat) → out ≡ Goes k b → k ≢ N5 → Follows r t x continues N3 b (Goes m c) → CallIsAt r x continues N4 c
+  to_n4 k m b c x e other y = subst (CallIsAt r x continues N4) (sym (same_actor m N4 c (record b { next = ref_of y.found }) y.leads_to)) (after_n3 r t x continues b y.found (to_n3 k b e other) y.did)
 
   -- a turn that ends at N4
-  pub reuse_turn : (k m : Line) (b c : Running) (x v : Seat) (last : Outcome) → out ≡ Goes k b → k ≢ N5 → Follows r t x goes_on N3 b (Goes m c) → Follows r x v goes_on N4 c last → Turns r s v (turn_of last)
+  pub reuse_turn : (k m : Line) (b c : Running) (x v : Seat) (last : Outcome) → out ≡ Goes k b → k ≢ N5 → Follows r t x continues N3 b (Goes m c) → Follows r x v continues N4 c last → Turns r s v (turn_of last)
   reuse_turn k m b c x v last e other y z =
       record {
         stored = then_stored s x v (then_stored s t x look_stored y.did.stored) z.did.stored;
-        lines = (looks ++ event r t x goes_on N3 y.found y.did ∷ []) ++ event r x v goes_on N4 z.found z.did ∷ [];
-        walks = pass_then (view s) (view x) (view v) (looks ++ event r t x goes_on N3 y.found y.did ∷ []) (event r x v goes_on N4 z.found z.did ∷ []) walked (pass_on r x v goes_on N4 z.found z.did refl tt refl);
-        turned = subst (λ o. Turned r s v ((looks ++ event r t x goes_on N3 y.found y.did ∷ []) ++ event r x v goes_on N4 z.found z.did ∷ []) (turn_of o)) (sym z.leads_to) (go (same_ref (ref_of z.found) c.top) refl);
+        lines = (looks ++ event r t x continues N3 y.found y.did ∷ []) ++ event r x v continues N4 z.found z.did ∷ [];
+        walks = pass_then (view s) (view x) (view v) (looks ++ event r t x continues N3 y.found y.did ∷ []) (event r x v continues N4 z.found z.did ∷ []) walked (pass_on r x v continues N4 z.found z.did refl tt refl);
+        turned = subst (λ o. Turned r s v ((looks ++ event r t x continues N3 y.found y.did ∷ []) ++ event r x v continues N4 z.found z.did ∷ []) (turn_of o)) (sym z.leads_to) (go (same_ref (ref_of z.found) c.top) refl);
       }
     where
-      walked : Passes (view s) (view x) (looks ++ event r t x goes_on N3 y.found y.did ∷ [])
-      walked = pass_then (view s) (view t) (view x) looks (event r t x goes_on N3 y.found y.did ∷ []) look_walk (pass_on r t x goes_on N3 y.found y.did refl tt refl)
+      walked : Passes (view s) (view x) (looks ++ event r t x continues N3 y.found y.did ∷ [])
+      walked = pass_then (view s) (view t) (view x) looks (event r t x continues N3 y.found y.did ∷ []) look_walk (pass_on r t x continues N3 y.found y.did refl tt refl)
 
-      go : (p : Bool) → same_ref (ref_of z.found) c.top ≡ p → Turned r s v ((looks ++ event r t x goes_on N3 y.found y.did ∷ []) ++ event r x v goes_on N4 z.found z.did ∷ []) (turn_of (if p then Goes (with_node r.plan.setup.kind) (record c { node = c.top.node; mark = c.next.count }) else Goes N1 c))
-      go true w = took_at r.plan.setup.kind r s v _ (record c { node = c.top.node; mark = c.next.count }) (got r s x v N4 z.found z.did (looks ++ event r t x goes_on N3 y.found y.did ∷ []) walked.walks refl (λ o. refl) c (record c { node = c.top.node; mark = c.next.count }) ((after_n4 r x v goes_on c z.found (to_n4 k m b c x e other y) z.did).0 w))
-      go false w = fell r s x v N4 z.found z.did (looks ++ event r t x goes_on N3 y.found y.did ∷ []) walked.walks refl (λ o. refl) c ((after_n4 r x v goes_on c z.found (to_n4 k m b c x e other y) z.did).1 w)
+      go : (p : Bool) → same_ref (ref_of z.found) c.top ≡ p → Turned r s v ((looks ++ event r t x continues N3 y.found y.did ∷ []) ++ event r x v continues N4 z.found z.did ∷ []) (turn_of (if p then Goes (with_node r.plan.setup.kind) (record c { node = c.top.node; mark = c.next.count }) else Goes N1 c))
+      go true w = took_at r.plan.setup.kind r s v _ (record c { node = c.top.node; mark = c.next.count }) (got r s x v N4 z.found z.did (looks ++ event r t x continues N3 y.found y.did ∷ []) walked.walks refl (λ o. refl) c (record c { node = c.top.node; mark = c.next.count }) ((after_n4 r x v continues c z.found (to_n4 k m b c x e other y) z.did).0 w))
+      go false w = fell r s x v N4 z.found z.did (looks ++ event r t x continues N3 y.found y.did ∷ []) walked.walks refl (λ o. refl) c ((after_n4 r x v continues c z.found (to_n4 k m b c x e other y) z.did).1 w)

@@ -4,12 +4,12 @@ use Rattle.history.specs.declared.refusals.Refusal.{Refusal}
 use Rattle.history.specs.declared.refusals.Refusal.TheVariants.{Busy}
 use Rattle.node_arena.specs.Machine.{Held, World, IsFree, IsSetAside, dequeues}
 use Rattle.node_arena.specs.Traces.{Event}
-use Rattle.node_arena.specs.Leads.{goes_on}
+use Rattle.node_arena.specs.Prologues.{continues}
 use Rattle.node_arena.specs.declared.arena.Arena.{Arena}
 use Rattle.node_arena.specs.declared.seats.Seat.{Seat}
 use Rattle.node_arena.specs.Seats.{IsSeat, IsReady, KeepsStored, KeepsName, view, pocket_of, failed_of}
 use Rattle.node_arena.specs.Turns.{failed_turns}
-use Rattle.node_arena.specs.Walks.{Passes, HadNoEffect, SeesNoMore, added, FailedAt, NowHolds, EndsFailed}
+use Rattle.node_arena.specs.Paths.{Passes, HadNoEffect, SeesNoMore, added, FailedAt, NowHolds, EndsFailed}
 use Rattle.free_list.specs.declared.outcomes.Gave.{Gave}
 use Rattle.free_list.specs.declared.outcomes.Gave.TheVariants.{Back, Again}
 use Rattle.free_list.specs.Runs.{StartsGive, giving}
@@ -28,7 +28,7 @@ pub record LetGo (r : Arena) (t : Seat) (es : List Event) (node : ℕ) : Type 0 
 
 -- a turn that failed
 pub record Slipped (r : Arena) (t : Seat) (es : List Event) (h : Held) : Type 0 where
-  pub stands : StartsGive r t goes_on h
+  pub stands : StartsGive r t continues h
   pub once : failed_turns es ≡ 1
   pub last : FailedAt es
 
@@ -58,8 +58,8 @@ abbrev pub IsGivenBack : Arena → Seat → Seat → Type 0
 IsGivenBack r s t = IfSome (pocket_of s) (λ held. NowHolds r t (IsBack held.node))
 
 -- a give back is refused Busy alone, after so many failed turns, the last one at the last step
-abbrev pub GiveRefused : Seat → Seat → (turns : ℕ) → Refusal → Type 0
-GiveRefused s t turns why = (why ≡ Busy) × (failed_turns (added s t) ≡ turns) × EndsFailed s t
+abbrev pub GiveBackRefused : Seat → Seat → (turns : ℕ) → Refusal → Type 0
+GiveBackRefused s t turns why = (why ≡ Busy) × (failed_turns (added s t) ≡ turns) × EndsFailed s t
 
 -- what a give back answers
 pub record GiveAnswers (r : Arena) (s t : Seat) (turns : ℕ) (out : Result (Unit {0}) Refusal) : Type 0 where
@@ -69,6 +69,6 @@ pub record GiveAnswers (r : Arena) (s t : Seat) (turns : ℕ) (out : Result (Uni
   pub lines : HadNoEffect s t
   pub seen : SeesNoMore s t
   pub back : OnOk out (IsGivenBack r s t)
-  pub refused : IfErr out (GiveRefused s t turns)
+  pub refused : IfErr out (GiveBackRefused s t turns)
   pub failed : failed_of t ≡ failed_turns (added s t)
   pub fewer : OnOk out (failed_of t < turns)

@@ -7,7 +7,7 @@ use Rattle.history.specs.declared.refusals.WornWord.TheVariants.{Free as OfFree}
 use Rattle.history.specs.declared.refusals.Refusal.TheVariants.{NoNode, WornOut}
 use Rattle.history.specs.declared.operations.Op.TheVariants.{Enq, Deq}
 use Rattle.node_arena.specs.Machine.{Setup, Held, Actor, with_node}
-use Rattle.node_arena.specs.Leads.{Lead, goes_on, begins, led, CanLead}
+use Rattle.node_arena.specs.Prologues.{Prologue, continues, begins, after_prologue, CanStart}
 use Rattle.node_arena.specs.declared.arena.Arena.{Arena}
 use Rattle.node_arena.specs.declared.seats.Seat.{Seat}
 use Rattle.node_arena.specs.Seats.{IsSeat, DidStep, view}
@@ -22,14 +22,14 @@ use Rattle.free_list.specs.declared.outcomes.Outcome.{Outcome}
 use Rattle.free_list.specs.declared.outcomes.Outcome.TheVariants.{Goes, Ends, Freed}
 
 -- how a take sets out: its first turn begins an enqueue, and a later one goes on
-abbrev pub taking : ℕ → Lead
+abbrev pub taking : ℕ → Prologue
 taking zero = begins (Enq 0)
-taking (suc n) = goes_on
+taking (suc n) = continues
 
 -- how a give back sets out: its first turn begins a dequeue, and a later one goes on
-abbrev pub giving : ℕ → Lead
+abbrev pub giving : ℕ → Prologue
 giving zero = begins Deq
-giving (suc n) = goes_on
+giving (suc n) = continues
 
 -- a call that ends with a reply
 abbrev pub told_by : Reply → Outcome
@@ -105,43 +105,43 @@ pub record FreesOne (z : Setup) (b : Actor) (h : Held) : Type 0 where
   pub small : h.mark ≤ z.limit
 
 -- what a running call knows of its actor's registers before a line
-abbrev pub KnowsAt : Setup → Line → Actor → Running → Type 0
-KnowsAt z N2 b a = b.f ≡ a.f
-KnowsAt z N3 b a = HasFree z b a
-KnowsAt z N4 b a = HasFree z b a × (b.next ≡ a.next)
-KnowsAt z N5 b a = (b.f ≡ a.f) × (a.f < z.size)
-KnowsAt z F1 b a = Frees b (in_hand a)
-KnowsAt z F2 b a = FreesOne z b (in_hand a) × HasTop z b a
-KnowsAt z F3 b a = FreesOne z b (in_hand a) × HasTop z b a
-KnowsAt z E2 b a = HasNode z b (in_hand a)
-KnowsAt z A1 b a = HasNode z b (in_hand a)
-KnowsAt z l b a = Unit {0}
+abbrev pub AgreesAt : Setup → Line → Actor → Running → Type 0
+AgreesAt z N2 b a = b.f ≡ a.f
+AgreesAt z N3 b a = HasFree z b a
+AgreesAt z N4 b a = HasFree z b a × (b.next ≡ a.next)
+AgreesAt z N5 b a = (b.f ≡ a.f) × (a.f < z.size)
+AgreesAt z F1 b a = Frees b (in_hand a)
+AgreesAt z F2 b a = FreesOne z b (in_hand a) × HasTop z b a
+AgreesAt z F3 b a = FreesOne z b (in_hand a) × HasTop z b a
+AgreesAt z E2 b a = HasNode z b (in_hand a)
+AgreesAt z A1 b a = HasNode z b (in_hand a)
+AgreesAt z l b a = Unit {0}
 
 -- a seat's actor, led there, stands before a line with an empty pocket, and the call knows its registers
-pub record Stands (r : Arena) (s : Seat) (lead : Lead) (l : Line) (a : Running) : Type 0 where
+pub record CallIsAt (r : Arena) (s : Seat) (prologue : Prologue) (l : Line) (a : Running) : Type 0 where
   pub seat : IsSeat r s
-  pub can : CanLead lead (view s).actor
-  pub line : (led r.plan.setup (view s).number lead (view s).actor).line ≡ Some l
-  pub empty : (led r.plan.setup (view s).number lead (view s).actor).pocket ≡ None
-  pub knows : KnowsAt r.plan.setup l (led r.plan.setup (view s).number lead (view s).actor) a
+  pub can : CanStart prologue (view s).actor
+  pub line : (after_prologue r.plan.setup (view s).number prologue (view s).actor).line ≡ Some l
+  pub empty : (after_prologue r.plan.setup (view s).number prologue (view s).actor).pocket ≡ None
+  pub knows : AgreesAt r.plan.setup l (after_prologue r.plan.setup (view s).number prologue (view s).actor) a
 
 -- a seat's actor, led there, stands at the start of a take's turn
-pub record StartsTake (r : Arena) (s : Seat) (lead : Lead) : Type 0 where
+pub record StartsTake (r : Arena) (s : Seat) (prologue : Prologue) : Type 0 where
   pub seat : IsSeat r s
-  pub can : CanLead lead (view s).actor
-  pub line : (led r.plan.setup (view s).number lead (view s).actor).line ≡ Some N1
-  pub empty : (led r.plan.setup (view s).number lead (view s).actor).pocket ≡ None
+  pub can : CanStart prologue (view s).actor
+  pub line : (after_prologue r.plan.setup (view s).number prologue (view s).actor).line ≡ Some N1
+  pub empty : (after_prologue r.plan.setup (view s).number prologue (view s).actor).pocket ≡ None
 
 -- a seat's actor, led there, stands at the start of a give back's turn, with its node
-pub record StartsGive (r : Arena) (s : Seat) (lead : Lead) (h : Held) : Type 0 where
+pub record StartsGive (r : Arena) (s : Seat) (prologue : Prologue) (h : Held) : Type 0 where
   pub seat : IsSeat r s
-  pub can : CanLead lead (view s).actor
-  pub line : (led r.plan.setup (view s).number lead (view s).actor).line ≡ Some F1
-  pub empty : (led r.plan.setup (view s).number lead (view s).actor).pocket ≡ None
-  pub frees : Frees (led r.plan.setup (view s).number lead (view s).actor) h
+  pub can : CanStart prologue (view s).actor
+  pub line : (after_prologue r.plan.setup (view s).number prologue (view s).actor).line ≡ Some F1
+  pub empty : (after_prologue r.plan.setup (view s).number prologue (view s).actor).pocket ≡ None
+  pub frees : Frees (after_prologue r.plan.setup (view s).number prologue (view s).actor) h
 
 -- the seat made its step at a line, and the call made of the number found what the line says
-pub record Follows (r : Arena) (s t : Seat) (lead : Lead) (l : Line) (a : Running) (out : Outcome) : Type 0 where
+pub record Follows (r : Arena) (s t : Seat) (prologue : Prologue) (l : Line) (a : Running) (out : Outcome) : Type 0 where
   pub found : ℕ
-  pub did : DidStep r s t lead l found
+  pub did : DidStep r s t prologue l found
   pub leads_to : out ≡ follow r.plan.setup a l found

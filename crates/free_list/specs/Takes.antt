@@ -5,12 +5,12 @@ use Rattle.history.specs.declared.refusals.Refusal.{Refusal}
 use Rattle.history.specs.declared.refusals.Refusal.TheVariants.{NoNode, WornOut, Busy}
 use Rattle.node_arena.specs.Machine.{Held, World, IsFree, IsUntouched, HasCause, with_node}
 use Rattle.node_arena.specs.Traces.{Event}
-use Rattle.node_arena.specs.Leads.{goes_on}
+use Rattle.node_arena.specs.Prologues.{continues}
 use Rattle.node_arena.specs.declared.arena.Arena.{Arena}
 use Rattle.node_arena.specs.declared.seats.Seat.{Seat}
 use Rattle.node_arena.specs.Seats.{IsSeat, IsReady, KeepsStored, KeepsName, view, pocket_of, failed_of}
 use Rattle.node_arena.specs.Turns.{failed_turns}
-use Rattle.node_arena.specs.Walks.{Passes, HadNoEffect, SeesNoMore, added, EndedAt, FailedAt, LastHeld, NowHolds, MetCause, EndsFailed, IsSole}
+use Rattle.node_arena.specs.Paths.{Passes, HadNoEffect, SeesNoMore, added, EndedAt, FailedAt, LastHeld, NowHolds, MetCause, EndsFailed, IsSole}
 use Rattle.free_list.specs.declared.outcomes.Turn.{Turn}
 use Rattle.free_list.specs.declared.outcomes.Turn.TheVariants.{Took, Failed, Refused}
 use Rattle.free_list.specs.Runs.{StartsTake, taking}
@@ -54,7 +54,7 @@ pub record Got (r : Arena) (s t : Seat) (es : List Event) (h : Held) : Type 0 wh
 
 -- a turn that failed
 pub record Fell (r : Arena) (t : Seat) (es : List Event) : Type 0 where
-  pub stands : StartsTake r t goes_on
+  pub stands : StartsTake r t continues
   pub once : failed_turns es ≡ 1
   pub last : FailedAt es
 
@@ -90,7 +90,7 @@ pub record Trying (r : Arena) (s t : Seat) (n : ℕ) : Type 0 where
   pub last : 1 ≤ n → FailedAt lines
 
 -- what a take answers
-pub record Answers (r : Arena) (s t : Seat) (turns : ℕ) (out : Result Held Refusal) : Type 0 where
+pub record AnswersTake (r : Arena) (s t : Seat) (turns : ℕ) (out : Result Held Refusal) : Type 0 where
   pub ready : IsReady r t
   pub same : KeepsName s t
   pub pocket : MatchResult out (λ held. pocket_of t ≡ Some held) (λ _. pocket_of t ≡ None)

@@ -3,9 +3,9 @@ ghost use Rattle.std.specs.Prelude.{◌≡◌, ◌≤◌, ◌<◌, None, IsSome,
 ghost use Rattle.history.specs.Seats.{IsSound};
 ghost use Rattle.node_arena.specs.Seats.{IsReady, KeepsName, permits_of, known_of, pocket_of, failed_of};
 ghost use Rattle.node_arena.specs.Turns.{failed_turns};
-ghost use Rattle.node_arena.specs.Walks.{HadNoEffect, SeesNoMore, added};
+ghost use Rattle.node_arena.specs.Paths.{HadNoEffect, SeesNoMore, added};
 ghost use Rattle.free_list.specs.Runs.{StartsGive, giving};
-ghost use Rattle.free_list.specs.Gives.{GiveTurns, GiveAnswers, IsGivenBack, GiveRefused};
+ghost use Rattle.free_list.specs.Gives.{GiveTurns, GiveAnswers, IsGivenBack, GiveBackRefused};
 
 use crate::lines::{f1, f2, f3};
 use crate::outcomes::{Gave, Outcome, given, registers};
@@ -27,7 +27,7 @@ fn give_turn(arena: &Arena, seat: &mut Seat, held: Held, index: u32) -> Gave
 }
 
 // Turns until one succeeds, or all failed.
-fn tried(arena: &Arena, seat: &mut Seat, turns: u32) -> Result<(), Refusal>
+fn give_within(arena: &Arena, seat: &mut Seat, turns: u32) -> Result<(), Refusal>
     requires ready { IsReady arena.now seat.old }
     requires full { IsSome (pocket_of seat.old) }
     requires turns { 1 ≤ turns }
@@ -61,9 +61,9 @@ pub fn give_back(arena: &Arena, seat: &mut Seat, turns: u32) -> Result<(), Refus
     ensures seen { SeesNoMore seat.old seat.new }
     ensures sound { IsSound (permits_of arena.now) (known_of seat.new) }
     ensures back { OnOk result (IsGivenBack arena.now seat.old seat.new) }
-    ensures refused { IfErr result (GiveRefused seat.old seat.new turns) }
+    ensures refused { IfErr result (GiveBackRefused seat.old seat.new turns) }
     ensures failed { failed_of seat.new ≡ failed_turns (added seat.old seat.new) }
     ensures fewer { OnOk result (failed_of seat.new < turns) }
 {
-    tried(arena, seat, turns)
+    give_within(arena, seat, turns)
 }

@@ -1,11 +1,11 @@
 //! The lines of a take and of a give back, each a row of the line table on the words of an arena.
 ghost use Rattle.std.specs.Prelude.{◌≡◌};
 ghost use Rattle.line_table.specs.declared.lines.Line.TheVariants as lines;
-ghost use Rattle.node_arena.specs.Leads.{Lead, goes_on};
-ghost use Rattle.free_list.specs.Runs.{Stands, Follows};
+ghost use Rattle.node_arena.specs.Prologues.{Prologue, continues};
+ghost use Rattle.free_list.specs.Runs.{CallIsAt, Follows};
 
 use crate::outcomes::{
-    Actor, Outcome, Reply, Untold, ends, freed, goes, lets_go, raised, sets_aside, takes,
+    Actor, Outcome, Reply, Untold, ends, freed, goes, empties_hand, raised, sets_aside, fills_hand,
     with_node, worn,
 };
 use counted_ref::CountedRef;
@@ -44,40 +44,40 @@ macro_rules! row {
 
 /// `index` turns of this call failed before.
 pub(crate) fn n1(arena: &Arena, seat: &mut Seat, a: Actor, index: u32) -> Outcome
-    ghost lead: { Lead }
-    requires { Stands arena.now seat.old lead lines.N1 a }
-    ensures { Follows arena.now seat.old seat.new lead lines.N1 a result }
+    ghost prologue: { Prologue }
+    requires { CallIsAt arena.now seat.old prologue lines.N1 a }
+    ensures { Follows arena.now seat.old seat.new prologue lines.N1 a result }
 {
     let _ = index;
     line_table!(N1 (setup NOW NOW a found) row (arena seat found))
 }
 
 pub(crate) fn n2(arena: &Arena, seat: &mut Seat, a: Actor) -> Outcome
-    requires { Stands arena.now seat.old goes_on lines.N2 a }
-    ensures { Follows arena.now seat.old seat.new goes_on lines.N2 a result }
+    requires { CallIsAt arena.now seat.old continues lines.N2 a }
+    ensures { Follows arena.now seat.old seat.new continues lines.N2 a result }
 {
     let setup = arena.setup();
     line_table!(N2 (setup NOW NOW a found) row (arena seat found))
 }
 
 pub(crate) fn n3(arena: &Arena, seat: &mut Seat, a: Actor) -> Outcome
-    requires { Stands arena.now seat.old goes_on lines.N3 a }
-    ensures { Follows arena.now seat.old seat.new goes_on lines.N3 a result }
+    requires { CallIsAt arena.now seat.old continues lines.N3 a }
+    ensures { Follows arena.now seat.old seat.new continues lines.N3 a result }
 {
     line_table!(N3 (setup NOW NOW a found) row (arena seat found))
 }
 
 pub(crate) fn n4(arena: &Arena, seat: &mut Seat, a: Actor) -> Outcome
-    requires { Stands arena.now seat.old goes_on lines.N4 a }
-    ensures { Follows arena.now seat.old seat.new goes_on lines.N4 a result }
+    requires { CallIsAt arena.now seat.old continues lines.N4 a }
+    ensures { Follows arena.now seat.old seat.new continues lines.N4 a result }
 {
     let setup = arena.setup();
     line_table!(N4 (setup NOW NOW a found) row (arena seat found))
 }
 
 pub(crate) fn n5(arena: &Arena, seat: &mut Seat, a: Actor) -> Outcome
-    requires { Stands arena.now seat.old goes_on lines.N5 a }
-    ensures { Follows arena.now seat.old seat.new goes_on lines.N5 a result }
+    requires { CallIsAt arena.now seat.old continues lines.N5 a }
+    ensures { Follows arena.now seat.old seat.new continues lines.N5 a result }
 {
     let setup = arena.setup();
     line_table!(N5 (setup NOW NOW a found) row (arena seat found))
@@ -85,9 +85,9 @@ pub(crate) fn n5(arena: &Arena, seat: &mut Seat, a: Actor) -> Outcome
 
 /// `index` turns of this call failed before.
 pub(crate) fn f1(arena: &Arena, seat: &mut Seat, a: Actor, index: u32) -> Outcome
-    ghost lead: { Lead }
-    requires { Stands arena.now seat.old lead lines.F1 a }
-    ensures { Follows arena.now seat.old seat.new lead lines.F1 a result }
+    ghost prologue: { Prologue }
+    requires { CallIsAt arena.now seat.old prologue lines.F1 a }
+    ensures { Follows arena.now seat.old seat.new prologue lines.F1 a result }
 {
     let _ = index;
     let setup = arena.setup();
@@ -95,15 +95,15 @@ pub(crate) fn f1(arena: &Arena, seat: &mut Seat, a: Actor, index: u32) -> Outcom
 }
 
 pub(crate) fn f2(arena: &Arena, seat: &mut Seat, a: Actor) -> Outcome
-    requires { Stands arena.now seat.old goes_on lines.F2 a }
-    ensures { Follows arena.now seat.old seat.new goes_on lines.F2 a result }
+    requires { CallIsAt arena.now seat.old continues lines.F2 a }
+    ensures { Follows arena.now seat.old seat.new continues lines.F2 a result }
 {
     line_table!(F2 (setup NOW NOW a found) row (arena seat found))
 }
 
 pub(crate) fn f3(arena: &Arena, seat: &mut Seat, a: Actor) -> Outcome
-    requires { Stands arena.now seat.old goes_on lines.F3 a }
-    ensures { Follows arena.now seat.old seat.new goes_on lines.F3 a result }
+    requires { CallIsAt arena.now seat.old continues lines.F3 a }
+    ensures { Follows arena.now seat.old seat.new continues lines.F3 a result }
 {
     let setup = arena.setup();
     line_table!(F3 (setup NOW NOW a found) row (arena seat found))

@@ -109,7 +109,7 @@ pub(crate) fn with_node(kind: Kind) -> Line
     }
 }
 
-pub(crate) fn takes(node: u32, mark: u64, a: Actor) -> Actor
+pub(crate) fn fills_hand(node: u32, mark: u64, a: Actor) -> Actor
     ensures { result ≡ record a { node = node; mark = mark } }
 {
     Actor { node, mark, ..a }
@@ -128,7 +128,7 @@ pub(crate) fn raised(setup: Setup, from: CountedRef, to: u32) -> CountedRef
     }
 }
 
-pub(crate) fn lets_go(a: Actor) -> Actor
+pub(crate) fn empties_hand(a: Actor) -> Actor
     ensures { result ≡ a }
 {
     a

@@ -3,9 +3,9 @@ ghost use Rattle.std.specs.Prelude.{◌≡◌, ◌≤◌, Some, None, MatchResul
 ghost use Rattle.history.specs.Seats.{IsSound};
 ghost use Rattle.node_arena.specs.Seats.{IsReady, KeepsName, permits_of, known_of, pocket_of, failed_of};
 ghost use Rattle.node_arena.specs.Turns.{failed_turns};
-ghost use Rattle.node_arena.specs.Walks.{HadNoEffect, SeesNoMore, added};
+ghost use Rattle.node_arena.specs.Paths.{HadNoEffect, SeesNoMore, added};
 ghost use Rattle.free_list.specs.Runs.{StartsTake, taking};
-ghost use Rattle.free_list.specs.Takes.{Turns, Answers, IsTaken, TakeRefused, FailsFewer};
+ghost use Rattle.free_list.specs.Takes.{Turns, AnswersTake, IsTaken, TakeRefused, FailsFewer};
 
 use crate::lines::{n1, n2, n3, n4, n5};
 use crate::outcomes::{Outcome, Turn, registers, turned};
@@ -37,11 +37,11 @@ fn take_turn(arena: &Arena, seat: &mut Seat, index: u32) -> Turn
 }
 
 // Turns until one succeeds or is refused, or all failed.
-fn tried(arena: &Arena, seat: &mut Seat, turns: u32) -> Result<Held, Refusal>
+fn take_within(arena: &Arena, seat: &mut Seat, turns: u32) -> Result<Held, Refusal>
     requires ready { IsReady arena.now seat.old }
     requires empty { pocket_of seat.old ≡ None }
     requires turns { 1 ≤ turns }
-    ensures { Answers arena.now seat.old seat.new turns result }
+    ensures { AnswersTake arena.now seat.old seat.new turns result }
 {
     for index in 0..turns {
         match take_turn(arena, seat, index) {
@@ -82,5 +82,5 @@ pub fn take(arena: &Arena, seat: &mut Seat, turns: u32) -> Result<Held, Refusal>
     ensures failed { failed_of seat.new ≡ failed_turns (added seat.old seat.new) }
     ensures fewer { FailsFewer turns result (failed_of seat.new) }
 {
-    tried(arena, seat, turns)
+    take_within(arena, seat, turns)
 }

@@ -5,7 +5,7 @@ use Rattle.std.proofs.lemmas.Bool.{leb-false, lt-leb, eq-eqb, eqb-true, and_case
 use Rattle.std.proofs.lemmas.List.Elements.{Contains-append_left, Contains-append_right, Contains-push, Contains-push_cases, Contains-append_cases}
 use Rattle.history.specs.declared.operations.Reply.{Reply}
 use Rattle.history.specs.declared.operations.Stamped.{Stamped}
-use Rattle.history.specs.History.{is_shaped, lies_within, same_place, is_shared}
+use Rattle.history.specs.History.{is_shaped, lies_within, same_point, is_shared}
 use Rattle.history.specs.Faults.{SharesPlace}
 
 -- exactly one of last step and reply is there, or both are and the place isn't
@@ -79,12 +79,12 @@ span_fails first (Some last) (Some at) (inr (inl h)) =
     and_left _ (nat_le at last) (and_right (nat_le first last) _ (lt-leb first at h))
 span_fails first (Some last) (Some at) (inr (inr h)) = and_right (nat_le first last && nat_le first at) _ (lt-leb at last h)
 
-same_true : (a b : Option ℕ) → same_place a b ≡ true → (is_some a ≡ true) × (b ≡ a)
+same_true : (a b : Option ℕ) → same_point a b ≡ true → (is_some a ≡ true) × (b ≡ a)
 same_true None b e = cc e
 same_true (Some a) None e = cc e
 same_true (Some a) (Some b) e = (refl, ap Some (sym (eqb-true a b e)))
 
-pub same_from : (a b : Option ℕ) → is_some a ≡ true → b ≡ a → same_place a b ≡ true
+pub same_from : (a b : Option ℕ) → is_some a ≡ true → b ≡ a → same_point a b ≡ true
 same_from None b s e = cc s
 same_from (Some a) None s e = cc e
 same_from (Some a) (Some b) s e = let h : a ≡ b = cc e in eq-eqb a b h
@@ -92,9 +92,9 @@ same_from (Some a) (Some b) s e = let h : a ≡ b = cc e in eq-eqb a b h
 -- a passed test of a shared place
 pub shares : (o : Stamped) (ps : List Stamped) → is_shared o ps ≡ true → SharesPlace ps o
 shares o [] e = cc e
-shares o (p ∷ ps) e = go (or_cases (same_place o.at p.at) (is_shared o ps) e) (shares o ps)
+shares o (p ∷ ps) e = go (or_cases (same_point o.at p.at) (is_shared o ps) e) (shares o ps)
   where
-    go : (same_place o.at p.at ≡ true) ⊎ (is_shared o ps ≡ true) → (is_shared o ps ≡ true → SharesPlace ps o) → SharesPlace (p ∷ ps) o
+    go : (same_point o.at p.at ≡ true) ⊎ (is_shared o ps ≡ true) → (is_shared o ps ≡ true → SharesPlace ps o) → SharesPlace (p ∷ ps) o
     go (inl e) more =
         let s = same_true o.at p.at e in (
           s.0,
@@ -112,7 +112,7 @@ pub sharing_passes : (o : Stamped) (ps : List Stamped) → SharesPlace ps o → 
 sharing_passes o [] h = absurd (none_there o.at h.1)
 sharing_passes o (p ∷ ps) h = go (Contains-append_cases (p.at ∷ []) (map (λ p. p.at) ps) o.at h.1) (sharing_passes o ps)
   where
-    here : Contains [] o.at ⊎ (p.at ≡ o.at) → same_place o.at p.at ≡ true
+    here : Contains [] o.at ⊎ (p.at ≡ o.at) → same_point o.at p.at ≡ true
     here (inl g) = absurd (none_there o.at g)
     here (inr e) = same_from o.at p.at h.0 e
 

@@ -6,7 +6,7 @@ use Rattle.history.specs.declared.operations.Verdict.TheVariants.{No}
 use Rattle.history.specs.declared.operations.Cause.{Cause}
 use Rattle.history.specs.declared.operations.Cause.TheVariants.{Shape, Span, Shared, Reply}
 use Rattle.history.specs.Queue.{empty}
-use Rattle.history.specs.History.{rising, is_shaped, lies_within, same_place, is_shared, fault_of, fault_or, first_fault, first_wrong, wrong_reply, fault_or_replies, verdict}
+use Rattle.history.specs.History.{by_point, is_shaped, lies_within, same_point, is_shared, fault_of, fault_or, first_fault, first_wrong, wrong_reply, fault_or_replies, verdict}
 use Rattle.history.specs.Faults.{FirstFaultIs}
 use Rattle.history.proofs.Judging.{no_verdict, placement_from_no_fault}
 use Rattle.history.proofs.Judged.{no_fault_from_placement}
@@ -30,7 +30,7 @@ shared-turned : (o : Stamped) (ps before : List Stamped) → is_shared o (turned
 unfolding turned
 shared-turned o [] before = refl
 shared-turned o (p ∷ ps) before =
-    shared-turned o ps (p ∷ before) ∙ or_turned (is_shared o ps) (same_place o.at p.at) (is_shared o before)
+    shared-turned o ps (p ∷ before) ∙ or_turned (is_shared o ps) (same_point o.at p.at) (is_shared o before)
 
 or_false : (a : Bool) → (a || false) ≡ a
 or_false true = refl
@@ -136,14 +136,14 @@ told_is_fault ops place c n h = fault_stands ops place c (go (first_fault 1 [] o
     by_reply (Some o) e = n (let f : Reply ≡ c = cc e in f)
 
     go : (v : Option Verdict) → fault_or_replies ops v ≡ No place c → v ≡ Some (No place c)
-    go None e = absurd (by_reply (first_wrong empty (rising ops)) e)
+    go None e = absurd (by_reply (first_wrong empty (by_point ops)) e)
     go (Some v) e = ap Some e
 
 -- a no by a reply comes without a first fault
-pub told_is_wrong : (ops : List Stamped) (place : ℕ) → verdict ops ≡ No place Reply → (first_fault 1 [] ops ≡ None) × (wrong_reply ops (first_wrong empty (rising ops)) ≡ No place Reply)
+pub told_is_wrong : (ops : List Stamped) (place : ℕ) → verdict ops ≡ No place Reply → (first_fault 1 [] ops ≡ None) × (wrong_reply ops (first_wrong empty (by_point ops)) ≡ No place Reply)
 told_is_wrong ops place h = go (first_fault 1 [] ops) refl h
   where
-    go : (v : Option Verdict) → first_fault 1 [] ops ≡ v → fault_or_replies ops v ≡ No place Reply → (first_fault 1 [] ops ≡ None) × (wrong_reply ops (first_wrong empty (rising ops)) ≡ No place Reply)
+    go : (v : Option Verdict) → first_fault 1 [] ops ≡ v → fault_or_replies ops v ≡ No place Reply → (first_fault 1 [] ops ≡ None) × (wrong_reply ops (first_wrong empty (by_point ops)) ≡ No place Reply)
     go None f e = (f, e)
     go (Some v) f e =
         let r = fault_stands ops place Reply (f ∙ ap Some e) in

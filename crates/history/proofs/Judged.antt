@@ -8,7 +8,7 @@ use Rattle.history.specs.declared.operations.Stamped.{Stamped}
 use Rattle.history.specs.declared.operations.Verdict.TheVariants.{Yes}
 use Rattle.history.specs.declared.operations.Cause.TheVariants.{Shape, Span, Shared}
 use Rattle.history.specs.Queue.{Queue, empty}
-use Rattle.history.specs.History.{LiesIn, IsPlaced, AreApart, Placement, rising, Gets, answer, Replays, IsLegal, is_shaped, lies_within, same_place, is_shared, fault_or, first_fault, same_reply, gets, first_wrong, wrong_reply, fault_or_replies, verdict}
+use Rattle.history.specs.History.{LiesIn, IsPlaced, AreApart, Placement, by_point, AgreesWithQueue, answer, IsSequentialRun, IsLegal, is_shaped, lies_within, same_point, is_shared, fault_or, first_fault, same_reply, agrees_with_queue, first_wrong, wrong_reply, fault_or_replies, verdict}
 
 shape_of : (first : ℕ) (last at : Option ℕ) (reply : Option Reply) → LiesIn first last at reply → is_shaped last at reply ≡ true
 shape_of first None None None h = refl
@@ -37,7 +37,7 @@ clear true false d e f g = cc f
 clear false c d e f g = cc e
 
 -- places that differ aren't the same
-pub not_same : (p place : Option ℕ) → IfSome place (λ at. p ≢ Some at) → same_place p place ≡ false
+pub not_same : (p place : Option ℕ) → IfSome place (λ at. p ≢ Some at) → same_point p place ≡ false
 not_same None None h = refl
 not_same None (Some at) h = refl
 not_same (Some b) None h = refl
@@ -72,14 +72,14 @@ pub no_fault_from_placement : (ops : List Stamped) → Placement ops → first_f
 no_fault_from_placement ops p = no_fault_in ops [] 1 p.each (alone ops) p.apart
 
 -- a reply that the queue gives passes the test
-pub got : (queue : Queue) (o : Stamped) (r : Option Reply) → Gets queue o r → gets queue o r ≡ true
+pub got : (queue : Queue) (o : Stamped) (r : Option Reply) → AgreesWithQueue queue o r → agrees_with_queue queue o r ≡ true
 got queue o None h = refl
 got queue o (Some (Refused why)) h = h
 got queue o (Some Done) h = subst (λ q. same_reply Done q ≡ true) h refl
 got queue o (Some Empty) h = subst (λ q. same_reply Empty q ≡ true) h refl
 got queue o (Some (Value v)) h = subst (λ q. same_reply (Value v) q ≡ true) h (and_from _ _ (eq-eqb v.from v.from refl) (eq-eqb v.body v.body refl))
 
-none_wrong : (ops : List Stamped) (queue : Queue) → Replays queue ops → first_wrong queue ops ≡ None
+none_wrong : (ops : List Stamped) (queue : Queue) → IsSequentialRun queue ops → first_wrong queue ops ≡ None
 none_wrong [] queue h = refl
 none_wrong (o ∷ os) queue h =
     ap (λ b. if b then first_wrong (answer queue o o.reply).after os else Some o) (got queue o o.reply h.0) ∙
@@ -89,4 +89,4 @@ none_wrong (o ∷ os) queue h =
 pub right_is_yes : (ops : List Stamped) → Placement ops → IsLegal ops → verdict ops ≡ Yes
 right_is_yes ops p l =
     ap (fault_or_replies ops) (no_fault_from_placement ops p) ∙
-    ap (wrong_reply ops) (none_wrong (rising ops) empty l)
+    ap (wrong_reply ops) (none_wrong (by_point ops) empty l)

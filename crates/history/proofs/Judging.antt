@@ -11,7 +11,7 @@ use Rattle.history.specs.declared.operations.Verdict.TheVariants.{Yes}
 use Rattle.history.specs.declared.operations.Cause.{Cause}
 use Rattle.history.specs.declared.operations.Cause.TheVariants.{Shape, Span, Shared}
 use Rattle.history.specs.Queue.{Queue, empty}
-use Rattle.history.specs.History.{LiesIn, IsPlaced, AreApart, Placement, rising, Gets, answer, Replays, IsLegal, is_shaped, lies_within, same_place, is_shared, fault_of, fault_or, first_fault, same_reply, gets, first_wrong, wrong_reply, fault_or_replies, verdict}
+use Rattle.history.specs.History.{LiesIn, IsPlaced, AreApart, Placement, by_point, AgreesWithQueue, answer, IsSequentialRun, IsLegal, is_shaped, lies_within, same_point, is_shared, fault_of, fault_or, first_fault, same_reply, agrees_with_queue, first_wrong, wrong_reply, fault_or_replies, verdict}
 
 lies : (first : ℕ) (last at : Option ℕ) (reply : Option Reply) → is_shaped last at reply ≡ true → lies_within first last at ≡ true → LiesIn first last at reply
 lies first None None None s w = record { ended = (λ x. x, λ x. x); placed = λ x. x; not_before = tt; not_after = tt }
@@ -43,22 +43,22 @@ no_verdict None place rest e = (refl, e)
 no_verdict (Some cause) place rest e = cc e
 
 -- a place that is not another's
-differs : (a : Option ℕ) (at : ℕ) → same_place a (Some at) ≡ false → a ≢ Some at
+differs : (a : Option ℕ) (at : ℕ) → same_point a (Some at) ≡ false → a ≢ Some at
 differs None at e f = cc f
 differs (Some b) at e f = let h : b ≡ at = cc f in eqb-false b at e h
 
-shared_with : (p o : Stamped) (earlier : List Stamped) → is_shared p (o ∷ earlier) ≡ false → (same_place p.at o.at ≡ false) × (is_shared p earlier ≡ false)
-shared_with p o earlier e = or_parts (same_place p.at o.at) (is_shared p earlier) e
+shared_with : (p o : Stamped) (earlier : List Stamped) → is_shared p (o ∷ earlier) ≡ false → (same_point p.at o.at ≡ false) × (is_shared p earlier ≡ false)
+shared_with p o earlier e = or_parts (same_point p.at o.at) (is_shared p earlier) e
 
-apart_from : (place : Option ℕ) (os : List Stamped) → AllByRecursion (λ p. same_place p.at place ≡ false) os → IfSome place (λ at. AllByRecursion (λ p. p.at ≢ Some at) os)
+apart_from : (place : Option ℕ) (os : List Stamped) → AllByRecursion (λ p. same_point p.at place ≡ false) os → IfSome place (λ at. AllByRecursion (λ p. p.at ≢ Some at) os)
 apart_from None os h = tt
 apart_from (Some at) os h = all os h
   where
-    all : (os : List Stamped) → AllByRecursion (λ p. same_place p.at (Some at) ≡ false) os → AllByRecursion (λ p. p.at ≢ Some at) os
+    all : (os : List Stamped) → AllByRecursion (λ p. same_point p.at (Some at) ≡ false) os → AllByRecursion (λ p. p.at ≢ Some at) os
     all [] h = tt
     all (p ∷ ps) h = (differs p.at at h.0, all ps h.1)
 
-split_shared : (o : Stamped) (earlier os : List Stamped) → AllByRecursion (λ p. is_shared p (o ∷ earlier) ≡ false) os → AllByRecursion (λ p. same_place p.at o.at ≡ false) os × AllByRecursion (λ p. is_shared p earlier ≡ false) os
+split_shared : (o : Stamped) (earlier os : List Stamped) → AllByRecursion (λ p. is_shared p (o ∷ earlier) ≡ false) os → AllByRecursion (λ p. same_point p.at o.at ≡ false) os × AllByRecursion (λ p. is_shared p earlier ≡ false) os
 split_shared o earlier [] h = (tt, tt)
 split_shared o earlier (p ∷ ps) h =
     let a = shared_with p o earlier h.0 in let b = split_shared o earlier ps h.1 in ((a.0, b.0), (a.1, b.1))
@@ -91,29 +91,29 @@ same_answer (Value v) (Value w) e = ap Value (same_value v w e)
 same_answer _ _ e = cc e
 
 -- the queue gives a reply that passes the test
-pub gets_right : (queue : Queue) (o : Stamped) (r : Option Reply) → gets queue o r ≡ true → Gets queue o r
+pub gets_right : (queue : Queue) (o : Stamped) (r : Option Reply) → agrees_with_queue queue o r ≡ true → AgreesWithQueue queue o r
 gets_right queue o None e = tt
 gets_right queue o (Some (Refused why)) e = e
 gets_right queue o (Some Done) e = same_answer Done _ e
 gets_right queue o (Some (Value v)) e = same_answer (Value v) _ e
 gets_right queue o (Some Empty) e = same_answer Empty _ e
 
-right_from : (b : Bool) (queue : Queue) (o : Stamped) (os : List Stamped) → gets queue o o.reply ≡ b → (if b then first_wrong (answer queue o o.reply).after os else Some o) ≡ None → (first_wrong (answer queue o o.reply).after os ≡ None → Replays (answer queue o o.reply).after os) → Replays queue (o ∷ os)
+right_from : (b : Bool) (queue : Queue) (o : Stamped) (os : List Stamped) → agrees_with_queue queue o o.reply ≡ b → (if b then first_wrong (answer queue o o.reply).after os else Some o) ≡ None → (first_wrong (answer queue o o.reply).after os ≡ None → IsSequentialRun (answer queue o o.reply).after os) → IsSequentialRun queue (o ∷ os)
 right_from true queue o os f g more = (gets_right queue o o.reply f, more g)
 right_from false queue o os f g more = cc g
 
 -- operations none of which is wrong get their replies
-pub replays_right : (queue : Queue) (ops : List Stamped) → first_wrong queue ops ≡ None → Replays queue ops
+pub replays_right : (queue : Queue) (ops : List Stamped) → first_wrong queue ops ≡ None → IsSequentialRun queue ops
 replays_right queue [] e = tt
 replays_right queue (o ∷ os) e =
-    right_from (gets queue o o.reply) queue o os refl e (replays_right (answer queue o o.reply).after os)
+    right_from (agrees_with_queue queue o o.reply) queue o os refl e (replays_right (answer queue o o.reply).after os)
 
 no_wrong : (ops : List Stamped) (o : Option Stamped) → wrong_reply ops o ≡ Yes → o ≡ None
 no_wrong ops None e = refl
 no_wrong ops (Some o) e = cc e
 
 -- a fault is never a yes
-yes_from : (ops : List Stamped) (v : Option Verdict) → (v ≡ Some Yes → ⊥) → fault_or_replies ops v ≡ Yes → (v ≡ None) × (first_wrong empty (rising ops) ≡ None)
+yes_from : (ops : List Stamped) (v : Option Verdict) → (v ≡ Some Yes → ⊥) → fault_or_replies ops v ≡ Yes → (v ≡ None) × (first_wrong empty (by_point ops) ≡ None)
 yes_from ops None n e = (refl, no_wrong ops _ e)
 yes_from ops (Some v) n e = absurd (n (ap Some e))
 
@@ -129,4 +129,4 @@ never_yes place earlier (o ∷ os) e = go (fault_of earlier o) (first_fault (pla
 pub yes_is_right : (ops : List Stamped) → verdict ops ≡ Yes → Placement ops × IsLegal ops
 yes_is_right ops e =
     let y = yes_from ops (first_fault 1 [] ops) (never_yes 1 [] ops) e in
-    (placement_from_no_fault ops y.0, replays_right empty (rising ops) y.1)
+    (placement_from_no_fault ops y.0, replays_right empty (by_point ops) y.1)

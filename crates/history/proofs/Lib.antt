@@ -16,8 +16,8 @@ mod Tallying
 mod Unplaced
 pub mod Learning
 pub mod Sums
-mod Ink
-mod Said
+mod NoSpaces
+mod LineReaders
 mod Texts
 mod Steps
 mod OneReading

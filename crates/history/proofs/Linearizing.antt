@@ -9,8 +9,8 @@ use Rattle.history.specs.declared.operations.Op.TheVariants.{Enq, Deq}
 use Rattle.history.specs.declared.operations.Reply.{Reply}
 use Rattle.history.specs.declared.operations.Reply.TheVariants.{Done, Value, Empty, Refused}
 use Rattle.history.specs.declared.operations.Stamped.{Stamped}
-use Rattle.history.specs.Queue.{Queue, empty, given, front_of}
-use Rattle.history.specs.History.{LiesIn, IsPlaced, Placement, number_of, inserted, rising, Gets, answer, Replays, IsLegal}
+use Rattle.history.specs.Queue.{Queue, empty, response, front_of}
+use Rattle.history.specs.History.{LiesIn, IsPlaced, Placement, point_or_zero, inserted, by_point, AgreesWithQueue, answer, IsSequentialRun, IsLegal}
 use Rattle.history.specs.Linearizability.{Answered, operations_of, IsPending, GivesWhatWasTold, MayComeBefore, KeepsTime, IsRun, IsLinearizable}
 use Rattle.history.specs.Order.{Rises}
 use Rattle.history.proofs.Ordered.{rising_moves, rising_rises}
@@ -33,10 +33,10 @@ split_moves test [] = IsPermutation-refl []
 split_moves test (o ∷ os) = with_front o os (filter test os) (filter (λ o. not (test o)) os) (test o) (split_moves test os)
 
 -- the operations by rising place, and those without a place, are all of them
-rising_and_rest : (ops : List Stamped) → IsPermutation ops (rising ops ++ filter (λ o. not (has_place o)) ops)
+rising_and_rest : (ops : List Stamped) → IsPermutation ops (by_point ops ++ filter (λ o. not (has_place o)) ops)
 rising_and_rest ops =
     IsPermutation-trans _ _ _ (split_moves has_place ops)
-    (IsPermutation-append_left (filter (λ o. not (has_place o)) ops) (filter has_place ops) (rising ops) (rising_moves ops))
+    (IsPermutation-append_left (filter (λ o. not (has_place o)) ops) (filter has_place ops) (by_point ops) (rising_moves ops))
 
 -- ---- who is left out is pending
 
@@ -62,37 +62,37 @@ rest_pending (o ∷ os) h = go (has_place o) refl (rest_pending os h.1)
 
 -- an operation's place lies between its first step and its last
 abbrev LiesAtItsPlace : Stamped → Type 0
-LiesAtItsPlace o = (o.first ≤ number_of o.at) × IfSome o.last (λ last. number_of o.at ≤ last)
+LiesAtItsPlace o = (o.first ≤ point_or_zero o.at) × IfSome o.last (λ last. point_or_zero o.at ≤ last)
 
-lies_at_its_place : (first : ℕ) (last at : Option ℕ) (reply : Option Reply) → LiesIn first last at reply → is_some at ≡ true → (first ≤ number_of at) × IfSome last (λ last. number_of at ≤ last)
+lies_at_its_place : (first : ℕ) (last at : Option ℕ) (reply : Option Reply) → LiesIn first last at reply → is_some at ≡ true → (first ≤ point_or_zero at) × IfSome last (λ last. point_or_zero at ≤ last)
 lies_at_its_place first last (Some at) reply h some = (h.not_before, h.not_after)
 lies_at_its_place first last None reply h some = cc some
 
 all_inserted : (P : Stamped → Type 0) (o : Stamped) (ps : List Stamped) → P o → AllByRecursion P ps → AllByRecursion P (inserted o ps)
 all_inserted P o [] h a = (h, tt)
-all_inserted P o (p ∷ ps) h a = go (nat_le (number_of o.at) (number_of p.at)) (all_inserted P o ps h a.1)
+all_inserted P o (p ∷ ps) h a = go (nat_le (point_or_zero o.at) (point_or_zero p.at)) (all_inserted P o ps h a.1)
   where
     go : (b : Bool) → AllByRecursion P (inserted o ps) → AllByRecursion P (if b then o ∷ p ∷ ps else p ∷ inserted o ps)
     go true more = (h, a)
     go false more = (a.0, more)
 
-rising_lie : (ops : List Stamped) → AllByRecursion IsPlaced ops → AllByRecursion LiesAtItsPlace (rising ops)
+rising_lie : (ops : List Stamped) → AllByRecursion IsPlaced ops → AllByRecursion LiesAtItsPlace (by_point ops)
 rising_lie [] h = tt
 rising_lie (o ∷ os) h = go (has_place o) refl (rising_lie os h.1)
   where
-    go : (b : Bool) → has_place o ≡ b → AllByRecursion LiesAtItsPlace (rising os) → AllByRecursion LiesAtItsPlace (if b then inserted o (rising os) else rising os)
+    go : (b : Bool) → has_place o ≡ b → AllByRecursion LiesAtItsPlace (by_point os) → AllByRecursion LiesAtItsPlace (if b then inserted o (by_point os) else by_point os)
     go true e more =
-        all_inserted LiesAtItsPlace o (rising os) (lies_at_its_place o.first o.last o.at o.reply h.0 e) more
+        all_inserted LiesAtItsPlace o (by_point os) (lies_at_its_place o.first o.last o.at o.reply h.0 e) more
     go false e more = more
 
 before_last : (first a b : ℕ) (last : Option ℕ) → first ≤ a → a ≤ b → IfSome last (λ last. b ≤ last) → IfSome last (λ last. first ≤ last)
 before_last first a b None h k l = tt
 before_last first a b (Some last) h k l = omega arith
 
-come_before : (o : Stamped) (ps : List Stamped) → LiesAtItsPlace o → AllByRecursion (λ p. number_of o.at ≤ number_of p.at) ps → AllByRecursion LiesAtItsPlace ps → AllByRecursion (MayComeBefore o) ps
+come_before : (o : Stamped) (ps : List Stamped) → LiesAtItsPlace o → AllByRecursion (λ p. point_or_zero o.at ≤ point_or_zero p.at) ps → AllByRecursion LiesAtItsPlace ps → AllByRecursion (MayComeBefore o) ps
 come_before o [] h r l = tt
 come_before o (p ∷ ps) h r l =
-    (before_last o.first (number_of o.at) (number_of p.at) p.last h.0 r.0 l.0.1, come_before o ps h r.1 l.1)
+    (before_last o.first (point_or_zero o.at) (point_or_zero p.at) p.last h.0 r.0 l.0.1, come_before o ps h r.1 l.1)
 
 keeps_time : (os : List Stamped) → Rises os → AllByRecursion LiesAtItsPlace os → KeepsTime os
 keeps_time [] r l = tt
@@ -102,7 +102,7 @@ keeps_time (o ∷ os) r l = (come_before o os l.0 r.0 l.1, keeps_time os r.1 l.1
 
 -- the reply that was told, and else what the queue gives
 abbrev reply_in : Queue → Stamped → Option Reply → Reply
-reply_in queue o None = (given o.actor o.op queue).reply
+reply_in queue o None = (response o.actor o.op queue).reply
 reply_in queue o (Some reply) = reply
 
 -- operations, each with its reply in this order
@@ -134,37 +134,37 @@ front_is_no_refusal : (values : List Taken) → IsNoRefusal (front_of values).re
 front_is_no_refusal [] = tt
 front_is_no_refusal (front ∷ rest) = tt
 
-given_is_no_refusal : (actor : ℕ) (op : Op) (queue : Queue) → IsNoRefusal (given actor op queue).reply
+given_is_no_refusal : (actor : ℕ) (op : Op) (queue : Queue) → IsNoRefusal (response actor op queue).reply
 given_is_no_refusal actor (Enq body) queue = tt
 given_is_no_refusal actor Deq queue = front_is_no_refusal queue.values
 
 -- an operation that is given what the queue gives gets it, and leads where the queue leads
-gets_given : (queue : Queue) (o : Stamped) (reply : Reply) → reply ≡ (given o.actor o.op queue).reply → IsNoRefusal reply → Gets queue o (Some reply) × (answer queue o (Some reply) ≡ given o.actor o.op queue)
+gets_given : (queue : Queue) (o : Stamped) (reply : Reply) → reply ≡ (response o.actor o.op queue).reply → IsNoRefusal reply → AgreesWithQueue queue o (Some reply) × (answer queue o (Some reply) ≡ response o.actor o.op queue)
 gets_given queue o Done e n = (e, refl)
 gets_given queue o (Value v) e n = (e, refl)
 gets_given queue o Empty e n = (e, refl)
 gets_given queue o (Refused why) e n = absurd n
 
-runs_on : (queue : Queue) (o : Stamped) (os : List Stamped) (reply : Option Reply) → Gets queue o reply → IsRun (answer queue o reply).after (answered (answer queue o reply).after os) → Gets queue o (Some (reply_in queue o reply)) × IsRun (answer queue o (Some (reply_in queue o reply))).after (answered (answer queue o reply).after os)
+runs_on : (queue : Queue) (o : Stamped) (os : List Stamped) (reply : Option Reply) → AgreesWithQueue queue o reply → IsRun (answer queue o reply).after (answered (answer queue o reply).after os) → AgreesWithQueue queue o (Some (reply_in queue o reply)) × IsRun (answer queue o (Some (reply_in queue o reply))).after (answered (answer queue o reply).after os)
 runs_on queue o os (Some reply) g more = (g, more)
 runs_on queue o os None g more =
-    let h = gets_given queue o (given o.actor o.op queue).reply refl (given_is_no_refusal o.actor o.op queue) in
-    (h.0, subst (λ a. IsRun a.after (answered (given o.actor o.op queue).after os)) (sym h.1) more)
+    let h = gets_given queue o (response o.actor o.op queue).reply refl (given_is_no_refusal o.actor o.op queue) in
+    (h.0, subst (λ a. IsRun a.after (answered (response o.actor o.op queue).after os)) (sym h.1) more)
 
-runs : (queue : Queue) (os : List Stamped) → Replays queue os → IsRun queue (answered queue os)
+runs : (queue : Queue) (os : List Stamped) → IsSequentialRun queue os → IsRun queue (answered queue os)
 runs queue [] h = tt
 runs queue (o ∷ os) h = runs_on queue o os o.reply h.0 (runs (answer queue o o.reply).after os h.1)
 
 -- what is placed and legal is linearizable
 pub placed_linearizes : (ops : List Stamped) → Placement ops → IsLegal ops → IsLinearizable ops
 placed_linearizes ops placed legal =
-    let same : operations_of (answered empty (rising ops)) ≡ rising ops = same_operations empty (rising ops) in
+    let same : operations_of (answered empty (by_point ops)) ≡ by_point ops = same_operations empty (by_point ops) in
     record {
-      order = answered empty (rising ops);
+      order = answered empty (by_point ops);
       left_out = filter (λ o. not (has_place o)) ops;
       each_once = subst (λ r. IsPermutation ops (r ++ filter (λ o. not (has_place o)) ops)) (sym same) (rising_and_rest ops);
       only_pending_left_out = rest_pending ops placed.each;
-      replies = all_told empty (rising ops);
-      timely = subst KeepsTime (sym same) (keeps_time (rising ops) (rising_rises ops) (rising_lie ops placed.each));
-      runs = runs empty (rising ops) legal;
+      replies = all_told empty (by_point ops);
+      timely = subst KeepsTime (sym same) (keeps_time (by_point ops) (rising_rises ops) (rising_lie ops placed.each));
+      runs = runs empty (by_point ops) legal;
     }

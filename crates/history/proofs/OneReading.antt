@@ -6,7 +6,7 @@ use Rattle.std.proofs.lemmas.List.{append-nil}
 use Rattle.text_lines.specs.declared.causes.TextCause.{TextCause}
 use Rattle.text_lines.specs.Lines.{HasNo, spaced, words_of}
 use Rattle.text_lines.specs.Numerals.{numeral}
-use Rattle.text_lines.specs.Grammars.{AreDue, state_after, lines_of, IsText, IsFirstFault, IsSound}
+use Rattle.text_lines.specs.Grammars.{AreDue, state_after, lines_of, IsText, IsFirstFault, IsSoundGrammar}
 use Rattle.text_lines.proofs.Numerals.{numeral_injective, HasNo-numeral}
 use Rattle.text_lines.proofs.Single.{one_list, no_fault, one_fault}
 use Rattle.text_lines.proofs.Total.{not_neither}
@@ -22,7 +22,7 @@ use Rattle.history.specs.declared.operations.Stamped.{Stamped}
 use Rattle.history.specs.History.{leaves}
 use Rattle.history.specs.HistoryText.{word_text, history_text}
 use Rattle.history.specs.HistoryLines.{HistoryLine, Count, Operation, HistoryDue, First, Operations, call_words, step_word, refusal_words, reply_words, stamp_words, operation_words, line_words, IsQueueReply, IsReadable, IsHistoryInRange, is_line_due, MaySay, history_grammar, history_lines}
-use Rattle.history.proofs.Ink.{IsInk, ink-operation, ink-count, words_of-ink, HasNo-spaced}
+use Rattle.history.proofs.NoSpaces.{IsInk, ink-operation, ink-count, words_of-ink, HasNo-spaced}
 use Rattle.history.proofs.Texts.{said, state-said, due-some, due-none, count-spelled, lines-said, history-spelled}
 
 -- a number is no dash
@@ -167,8 +167,8 @@ one-line (Operations left) (Operation a) (Count n) may may' e = absurd may'
 one-line (Operations left) (Operation a) (Operation b) may may' e = ap (λ (o : Stamped). Operation o) (one-operation a b may may' e)
 
 -- the words of a line of a history tell what it says, and have no line feed
-pub IsSound-history : IsSound history_grammar
-IsSound-history = record {
+pub IsSoundGrammar-history : IsSoundGrammar history_grammar
+IsSoundGrammar-history = record {
   no_feed = λ s r may. HasNo-spaced (line_words r) (ink-line s r may);
   one = λ s r q may may' e. one-line s r q may may' (sym (line_words-said s r may) ∙ ap words_of e ∙ line_words-said s q may');
 }
@@ -195,7 +195,7 @@ IsText-history ops range =
 -- one history a text
 pub one_history : (a b : List Stamped) → IsHistoryInRange a → IsHistoryInRange b → history_text a ≡ history_text b → a ≡ b
 one_history a b ra rb e =
-    let lines : history_lines a ≡ history_lines b = one_list history_grammar IsSound-history First (history_lines a) (history_lines b) (history_text b)
+    let lines : history_lines a ≡ history_lines b = one_list history_grammar IsSoundGrammar-history First (history_lines a) (history_lines b) (history_text b)
     (subst (IsText history_grammar First (history_lines a)) e (IsText-history a ra)) (IsText-history b rb) in
     let saids : said a ≡ said b = cc in
     said_injective a b saids
@@ -211,11 +211,11 @@ one_history a b ra rb e =
 
 -- the text of a history in range has no faulty line
 pub no_fault_of_history : (ops : List Stamped) (number : ℕ) (cause : TextCause) → IsHistoryInRange ops → IsFirstFault history_grammar First (history_text ops) number cause → ⊥
-no_fault_of_history ops number cause range = no_fault history_grammar IsSound-history First (history_lines ops) (history_text ops) number cause (IsText-history ops range)
+no_fault_of_history ops number cause range = no_fault history_grammar IsSoundGrammar-history First (history_lines ops) (history_text ops) number cause (IsText-history ops range)
 
 -- the first faulty line of a text is one
 pub one_fault_of_history : (text : List ℕ) (m n : ℕ) (c d : TextCause) → IsFirstFault history_grammar First text m c → IsFirstFault history_grammar First text n d → (m ≡ n) × (c ≡ d)
-one_fault_of_history = one_fault history_grammar IsSound-history First
+one_fault_of_history = one_fault history_grammar IsSoundGrammar-history First
 
 -- lines that are due after the first one are operations, as many as are due
 record AreOperations (left : ℕ) (rs : List HistoryLine) : Type 0 where

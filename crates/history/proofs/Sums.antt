@@ -11,8 +11,8 @@ use Rattle.history.specs.declared.operations.Op.TheVariants.{Enq}
 use Rattle.history.specs.declared.operations.Taken.{Taken}
 use Rattle.history.specs.declared.operations.Reply.TheVariants.{Value, Empty}
 use Rattle.history.specs.declared.rests.Rest.{Rest}
-use Rattle.history.specs.Queue.{Queue, empty, given, front_of}
-use Rattle.history.specs.Entries.{maker, own_entries, is_push, is_pop, Plays, LeadsTo}
+use Rattle.history.specs.Queue.{Queue, empty, response, front_of}
+use Rattle.history.specs.Entries.{seat_of, own_entries, is_push, is_pop, Plays, LeadsTo}
 use Rattle.history.specs.Seats.{Permit, Known, Allows, IsPermitted}
 use Rattle.history.specs.Rests.{left_of, taken_of, whole_of}
 use Rattle.history.specs.Closing.{pushes_of, pops_of, IsOfOne, AreAll, Closes}
@@ -42,7 +42,7 @@ by_seat p (k ∷ ks) es = count p (own_entries k.number es) + by_seat p ks es
 -- the same, entry by entry: each counts as often as its maker is one of the seats
 abbrev by_entry : (Entry → Bool) → List Known → List Entry → ℕ
 by_entry p ks [] = 0
-by_entry p ks (e ∷ es) = cond (p e) (times (maker e) ks) 0 + by_entry p ks es
+by_entry p ks (e ∷ es) = cond (p e) (times (seat_of e) ks) 0 + by_entry p ks es
 
 by_entry-nil : (p : Entry → Bool) (es : List Entry) → by_entry p [] es ≡ 0
 by_entry-nil p [] = refl
@@ -54,10 +54,10 @@ by_entry-nil p (e ∷ es) = go (p e) (by_entry-nil p es)
 
 by_entry-cons : (p : Entry → Bool) (k : Known) (ks : List Known) (es : List Entry) → by_entry p (k ∷ ks) es ≡ count p (own_entries k.number es) + by_entry p ks es
 by_entry-cons p k ks [] = refl
-by_entry-cons p k ks (e ∷ es) = go (nat_eq (maker e) k.number) (p e) refl (by_entry-cons p k ks es)
+by_entry-cons p k ks (e ∷ es) = go (nat_eq (seat_of e) k.number) (p e) refl (by_entry-cons p k ks es)
   where
     go : (c b : Bool) → p e ≡ b → by_entry p (k ∷ ks) es ≡ count p (own_entries k.number es) + by_entry p ks es
-        → cond b (one_more c (times (maker e) ks)) 0 + by_entry p (k ∷ ks) es ≡ count p (cond c (e ∷ own_entries k.number es) (own_entries k.number es)) + (cond b (times (maker e) ks) 0 + by_entry p ks es)
+        → cond b (one_more c (times (seat_of e) ks)) 0 + by_entry p (k ∷ ks) es ≡ count p (cond c (e ∷ own_entries k.number es) (own_entries k.number es)) + (cond b (times (seat_of e) ks) 0 + by_entry p ks es)
     go true true is ih = omega (arith, ih, ap (λ b. one_more b (count p (own_entries k.number es))) is)
     go true false is ih = omega (arith, ih, ap (λ b. one_more b (count p (own_entries k.number es))) is)
     go false true is ih = omega (arith, ih)
@@ -127,13 +127,13 @@ module _ (p : Entry → Bool) (ks : List Known) where
   by_entry-most apart [] = omega arith
   by_entry-most apart (e ∷ es) = go (p e) (by_entry-most apart es)
     where
-      go : (b : Bool) → by_entry p ks es ≤ count p es → cond b (times (maker e) ks) 0 + by_entry p ks es ≤ one_more b (count p es)
-      go true ih = omega (arith, ih, times-most (maker e) ks apart)
+      go : (b : Bool) → by_entry p ks es ≤ count p es → cond b (times (seat_of e) ks) 0 + by_entry p ks es ≤ one_more b (count p es)
+      go true ih = omega (arith, ih, times-most (seat_of e) ks apart)
       go false ih = omega (arith, ih)
 
   -- where these are all that pass the test, each is of one of the seats
   abbrev Counted : Entry → Type 0
-  Counted e = p e ≡ true → 1 ≤ times (maker e) ks
+  Counted e = p e ≡ true → 1 ≤ times (seat_of e) ks
 
   by_entry-all : AreApart ks → (es : List Entry) → by_entry p ks es ≡ count p es → All Counted es
   by_entry-all apart [] h = All-nil Counted
@@ -141,17 +141,17 @@ module _ (p : Entry → Bool) (ks : List Known) where
       let t = go (p e) h (by_entry-most apart es) in
       All-cons Counted e es t.1 (by_entry-all apart es t.0)
     where
-      go : (b : Bool) → cond b (times (maker e) ks) 0 + by_entry p ks es ≡ one_more b (count p es) → by_entry p ks es ≤ count p es → (by_entry p ks es ≡ count p es) × (b ≡ true → 1 ≤ times (maker e) ks)
-      go true f le = (omega (arith, f, le, times-most (maker e) ks apart), λ _. omega (arith, f, le))
+      go : (b : Bool) → cond b (times (seat_of e) ks) 0 + by_entry p ks es ≡ one_more b (count p es) → by_entry p ks es ≤ count p es → (by_entry p ks es ≡ count p es) × (b ≡ true → 1 ≤ times (seat_of e) ks)
+      go true f le = (omega (arith, f, le, times-most (seat_of e) ks apart), λ _. omega (arith, f, le))
       go false f le = (omega (arith, f), λ t. absurd (let u : false ≡ true = t in cc))
 
   -- where each entry is of one of the seats, these are all
-  by_entry-whole : AreApart ks → (es : List Entry) → All (λ e. 1 ≤ times (maker e) ks) es → by_entry p ks es ≡ count p es
+  by_entry-whole : AreApart ks → (es : List Entry) → All (λ e. 1 ≤ times (seat_of e) ks) es → by_entry p ks es ≡ count p es
   by_entry-whole apart [] h = refl
-  by_entry-whole apart (e ∷ es) h = go (p e) (by_entry-whole apart es (All-tail (λ x. 1 ≤ times (maker x) ks) e es h))
+  by_entry-whole apart (e ∷ es) h = go (p e) (by_entry-whole apart es (All-tail (λ x. 1 ≤ times (seat_of x) ks) e es h))
     where
-      go : (b : Bool) → by_entry p ks es ≡ count p es → cond b (times (maker e) ks) 0 + by_entry p ks es ≡ one_more b (count p es)
-      go true ih = omega (arith, ih, times-most (maker e) ks apart, All-head (λ x. 1 ≤ times (maker x) ks) e es h)
+      go : (b : Bool) → by_entry p ks es ≡ count p es → cond b (times (seat_of e) ks) 0 + by_entry p ks es ≡ one_more b (count p es)
+      go true ih = omega (arith, ih, times-most (seat_of e) ks apart, All-head (λ x. 1 ≤ times (seat_of x) ks) e es h)
       go false ih = omega (arith, ih)
 
 -- the pushes and the values before are as many as the pops and the values after
@@ -159,7 +159,7 @@ plays_count : (es : List Entry) (q r : Queue) → Plays q es r → count is_push
 plays_count [] q r e = ap (λ (x : Queue). 0 + length x.values) e
 plays_count (Push seat body ∷ es) q r h =
     let x : Taken = record { from = seat; body = body } in
-    let ih : count is_push es + length (q.values ++ x ∷ []) ≡ count is_pop es + length r.values = plays_count es (given seat (Enq body) q).after r h in
+    let ih : count is_push es + length (q.values ++ x ∷ []) ≡ count is_pop es + length r.values = plays_count es (response seat (Enq body) q).after r h in
     let more : length (q.values ++ x ∷ []) ≡ length q.values + 1 = length-append q.values (x ∷ []) in
     omega (arith, ih, more)
 plays_count (Pop seat value ∷ es) q r h = go q.values h (λ vs. plays_count es (record { values = vs }) r)
@@ -175,14 +175,14 @@ pub pushes-LeadsTo : (es : List Entry) (left : List Taken) → LeadsTo es left �
 pushes-LeadsTo es left h = omega (arith, plays_count es empty (record { values = left }) h, count-is is_push es, count-is is_pop es)
 
 -- the maker of an entry that is permitted is one of all seats
-maker_times : (permits : List Permit) (ks : List Known) → AreAll permits ks → (e : Entry) → IsPermitted permits e → 1 ≤ times (maker e) ks
+maker_times : (permits : List Permit) (ks : List Known) → AreAll permits ks → (e : Entry) → IsPermitted permits e → 1 ≤ times (seat_of e) ks
 maker_times permits ks every e h =
-    let i = every (maker e) h.0 (let t = within (slice_get permits (maker e - 1)) refl h.1 in let low = h.0 in omega (arith, t, low)) in
-    times-some (maker e) ks i.0 i.1
+    let i = every (seat_of e) h.0 (let t = within (slice_get permits (seat_of e - 1)) refl h.1 in let low = h.0 in omega (arith, t, low)) in
+    times-some (seat_of e) ks i.0 i.1
   where
-    within : (o : Option Permit) → slice_get permits (maker e - 1) ≡ o → IsSomeAnd o (λ p. Allows p e) → maker e - 1 < length permits
+    within : (o : Option Permit) → slice_get permits (seat_of e - 1) ≡ o → IsSomeAnd o (λ p. Allows p e) → seat_of e - 1 < length permits
     within None is f = absurd f
-    within (Some p) is f = slice_get_within permits (maker e - 1) p is
+    within (Some p) is f = slice_get_within permits (seat_of e - 1) p is
 
 -- seats with numbers apart, whose own entries of a history are just those that they know
 module _ (ks : List Known) (es : List Entry) (apart : AreApart ks) (own : All (λ k. own_entries k.number es ≡ k.mine) ks) where
@@ -204,7 +204,7 @@ module _ (ks : List Known) (es : List Entry) (apart : AreApart ks) (own : All (�
   -- where they are all seats, it is as much
   pub made-all : (permits : List Permit) → All (IsPermitted permits) es → AreAll permits ks → (p : Entry → Bool) → sum_by (λ k. count_by p k.mine) ks ≡ count_by p es
   made-all permits permitted every p =
-      let each : All (λ e. 1 ≤ times (maker e) ks) es = λ k d lt. maker_times permits ks every (slice_index_or es k d) (permitted k d lt) in
+      let each : All (λ e. 1 ≤ times (seat_of e) ks) es = λ k d lt. maker_times permits ks every (slice_index_or es k d) (permitted k d lt) in
       omega (arith, made_is p ks es own, by_seat-is p ks es, by_entry-whole p ks apart es each, count-is p es)
 
 -- a queue is closed by seats with numbers apart, where its rest is whole exactly if they made all pushes and pops

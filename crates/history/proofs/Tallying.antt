@@ -9,8 +9,8 @@ use Rattle.history.specs.declared.operations.Taken.{Taken}
 use Rattle.history.specs.declared.operations.Reply.{Reply}
 use Rattle.history.specs.declared.operations.Reply.TheVariants.{Done, Value, Empty, Refused}
 use Rattle.history.specs.declared.operations.Stamped.{Stamped}
-use Rattle.history.specs.Queue.{Queue, empty, given}
-use Rattle.history.specs.History.{Gets, answer, same_reply}
+use Rattle.history.specs.Queue.{Queue, empty, response}
+use Rattle.history.specs.History.{AgreesWithQueue, answer, same_reply}
 use Rattle.history.specs.Linearizability.{Answered, operations_of, IsPending, GivesWhatWasTold, IsRun, IsLinearizable}
 use Rattle.history.specs.SmallHistories.{five, taken_twice}
 use Rattle.history.specs.Tallies.{is_told, is_not_refused, is_push_of, takes, pushes}
@@ -39,7 +39,7 @@ copies v values = sum_by (λ w. one_if (nat_eq v.from w.from && nat_eq v.body w.
 
 -- ---- along a run
 
-given_tally : (v : Taken) (actor : ℕ) (op : Op) (values : List Taken) → one_if (same_reply (Value v) (given actor op (record { values = values })).reply) + copies v (given actor op (record { values = values })).after.values ≤ one_if (is_push_of v actor op) + copies v values
+given_tally : (v : Taken) (actor : ℕ) (op : Op) (values : List Taken) → one_if (same_reply (Value v) (response actor op (record { values = values })).reply) + copies v (response actor op (record { values = values })).after.values ≤ one_if (is_push_of v actor op) + copies v values
 given_tally v actor (Enq body) values =
     let w : Taken = record { from = actor; body = body } in
     let e = sum_by-append (λ w. one_if (nat_eq v.from w.from && nat_eq v.body w.body)) values (w ∷ []) in
@@ -49,13 +49,13 @@ given_tally v actor Deq (front ∷ rest) =
     let e = sum_by-cons (λ w. one_if (nat_eq v.from w.from && nat_eq v.body w.body)) front rest in
     omega (arith, e)
 
-with_reply : (v : Taken) (queue : Queue) (o : Stamped) (reply : Reply) → reply ≡ (given o.actor o.op queue).reply → one_if (same_reply (Value v) reply) + copies v (given o.actor o.op queue).after.values ≤ one_if (is_push_of v o.actor o.op) + copies v queue.values
+with_reply : (v : Taken) (queue : Queue) (o : Stamped) (reply : Reply) → reply ≡ (response o.actor o.op queue).reply → one_if (same_reply (Value v) reply) + copies v (response o.actor o.op queue).after.values ≤ one_if (is_push_of v o.actor o.op) + copies v queue.values
 with_reply v queue o reply h =
-    subst (λ r. one_if (same_reply (Value v) r) + copies v (given o.actor o.op queue).after.values ≤ one_if (is_push_of v o.actor o.op) + copies v queue.values)
+    subst (λ r. one_if (same_reply (Value v) r) + copies v (response o.actor o.op queue).after.values ≤ one_if (is_push_of v o.actor o.op) + copies v queue.values)
     (sym h) (given_tally v o.actor o.op queue.values)
 
 -- what the queue has of a value and what is taken of it is what it had and what is pushed
-step_tally : (v : Taken) (queue : Queue) (o : Stamped) (reply : Reply) → Gets queue o (Some reply) → one_if (same_reply (Value v) reply) + copies v (answer queue o (Some reply)).after.values ≤ one_if (is_not_refused (Some reply) && is_push_of v o.actor o.op) + copies v queue.values
+step_tally : (v : Taken) (queue : Queue) (o : Stamped) (reply : Reply) → AgreesWithQueue queue o (Some reply) → one_if (same_reply (Value v) reply) + copies v (answer queue o (Some reply)).after.values ≤ one_if (is_not_refused (Some reply) && is_push_of v o.actor o.op) + copies v queue.values
 step_tally v queue o (Refused why) h = omega arith
 step_tally v queue o Done h =
     with_reply v queue o _ h
@@ -125,8 +125,8 @@ takes_at_most_pushes ops v h =
     (run_tally v empty h.order h.runs) told.1
     (sum_by-append (push_of v) (operations_of h.order) h.left_out))
   where
-    in_all : (t p ts ps of_order of_rest given put pending : ℕ) → ts ≡ t → ts ≡ of_order + of_rest → of_rest ≡ 0 → of_order ≤ given → given ≤ put + 0 → put ≤ p → ps ≡ p + pending → t ≤ ps
-    in_all t p ts ps of_order of_rest given put pending a b c d e f g = omega arith
+    in_all : (t p ts ps of_order of_rest response put pending : ℕ) → ts ≡ t → ts ≡ of_order + of_rest → of_rest ≡ 0 → of_order ≤ response → response ≤ put + 0 → put ≤ p → ps ≡ p + pending → t ≤ ps
+    in_all t p ts ps of_order of_rest response put pending a b c d e f g = omega arith
 
 pub twice_is_not : IsLinearizable taken_twice → ⊥
 twice_is_not h = let k : 2 ≤ 1 = takes_at_most_pushes taken_twice five h in omega arith

@@ -6,7 +6,7 @@ use Rattle.history.specs.declared.operations.Reply.{Reply}
 use Rattle.history.specs.declared.operations.Reply.TheVariants.{Done, Value, Empty}
 use Rattle.history.specs.declared.operations.Stamped.{Stamped}
 use Rattle.history.specs.Queue.{empty}
-use Rattle.history.specs.History.{answer, Gets}
+use Rattle.history.specs.History.{answer, AgreesWithQueue}
 use Rattle.history.specs.Linearizability.{Answered, operations_of, IsPending, GivesWhatWasTold, MayComeBefore, KeepsTime, IsRun, IsLinearizable}
 use Rattle.history.specs.SmallHistories.{five, push, pop, taken_too_early, push_lost}
 
@@ -43,8 +43,8 @@ record RunsBefore (a b : Stamped) : Type 0 where
   pub first_told : IfSome a.reply (λ told. first ≡ told)
   pub second_told : IfSome b.reply (λ told. second ≡ told)
   pub timely : MayComeBefore a b
-  pub first_gets : Gets empty a (Some first)
-  pub second_gets : Gets (answer empty a (Some first)).after b (Some second)
+  pub first_gets : AgreesWithQueue empty a (Some first)
+  pub second_gets : AgreesWithQueue (answer empty a (Some first)).after b (Some second)
 
 abbrev front_or : Stamped → List Stamped → Stamped
 front_or o [] = o
@@ -89,7 +89,7 @@ pub too_early_is_not : IsLinearizable taken_too_early → ⊥
 too_early_is_not h = go (two_runs (pop 2 1 2 (Value five)) (push 3 4) (pop_ended 2 1 2 (Value five)) (push_ended 3 4) h)
   where
     go : RunsBefore (pop 2 1 2 (Value five)) (push 3 4) ⊎ RunsBefore (push 3 4) (pop 2 1 2 (Value five)) → ⊥
-    go (inl r) = cc (subst (λ x. Gets empty (pop 2 1 2 (Value five)) (Some x)) r.first_told r.first_gets)
+    go (inl r) = cc (subst (λ x. AgreesWithQueue empty (pop 2 1 2 (Value five)) (Some x)) r.first_told r.first_gets)
     go (inr r) = let late : 3 ≤ 2 = r.timely in omega arith
 
 pub lost_is_not : IsLinearizable push_lost → ⊥
@@ -97,7 +97,7 @@ lost_is_not h = go (two_runs (push 1 2) (pop 2 3 4 Empty) (push_ended 1 2) (pop_
   where
     go : RunsBefore (push 1 2) (pop 2 3 4 Empty) ⊎ RunsBefore (pop 2 3 4 Empty) (push 1 2) → ⊥
     go (inl r) =
-        let done : Gets (answer empty (push 1 2) (Some Done)).after (pop 2 3 4 Empty) (Some r.second) =
-        subst (λ x. Gets (answer empty (push 1 2) (Some x)).after (pop 2 3 4 Empty) (Some r.second)) r.first_told r.second_gets in
-        cc (subst (λ x. Gets (answer empty (push 1 2) (Some Done)).after (pop 2 3 4 Empty) (Some x)) r.second_told done)
+        let done : AgreesWithQueue (answer empty (push 1 2) (Some Done)).after (pop 2 3 4 Empty) (Some r.second) =
+        subst (λ x. AgreesWithQueue (answer empty (push 1 2) (Some x)).after (pop 2 3 4 Empty) (Some r.second)) r.first_told r.second_gets in
+        cc (subst (λ x. AgreesWithQueue (answer empty (push 1 2) (Some Done)).after (pop 2 3 4 Empty) (Some x)) r.second_told done)
     go (inr r) = let late : 3 ≤ 2 = r.timely in omega arith

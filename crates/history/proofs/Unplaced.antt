@@ -7,8 +7,8 @@ use Rattle.std.proofs.lemmas.List.Sorted.{IsPermutation-map}
 use Rattle.history.specs.declared.operations.Reply.{Reply}
 use Rattle.history.specs.declared.operations.Reply.TheVariants.{Done, Value, Empty, Refused}
 use Rattle.history.specs.declared.operations.Stamped.{Stamped}
-use Rattle.history.specs.Queue.{Queue, empty, given}
-use Rattle.history.specs.History.{Gets, answer}
+use Rattle.history.specs.Queue.{Queue, empty, response}
+use Rattle.history.specs.History.{AgreesWithQueue, answer}
 use Rattle.history.specs.Linearizability.{Answered, operations_of, IsPending, GivesWhatWasTold, MayComeBefore, KeepsTime, IsRun, IsLinearizable, DifferInPlace}
 
 -- an operation of an order with its place changed
@@ -50,11 +50,11 @@ still_timely f same [] h = tt
 still_timely f same (o ∷ os) h = (still_before f same o os h.0, still_timely f same os h.1)
 
 -- what the queue gives an operation doesn't hang on its place
-same_given : (f : Stamped → Stamped) → ChangesPlaces f → (queue : Queue) (o : Stamped) → given o.actor o.op queue ≡ given (f o).actor (f o).op queue
+same_given : (f : Stamped → Stamped) → ChangesPlaces f → (queue : Queue) (o : Stamped) → response o.actor o.op queue ≡ response (f o).actor (f o).op queue
 same_given f same queue o =
-    ap (λ a. given a o.op queue) (sym (same o).actor) ∙ ap (λ op. given (f o).actor op queue) (sym (same o).op)
+    ap (λ a. response a o.op queue) (sym (same o).actor) ∙ ap (λ op. response (f o).actor op queue) (sym (same o).op)
 
-still_gets : (f : Stamped → Stamped) → ChangesPlaces f → (queue : Queue) (o : Stamped) (reply : Reply) → Gets queue o (Some reply) → Gets queue (f o) (Some reply) × (answer queue o (Some reply) ≡ answer queue (f o) (Some reply))
+still_gets : (f : Stamped → Stamped) → ChangesPlaces f → (queue : Queue) (o : Stamped) (reply : Reply) → AgreesWithQueue queue o (Some reply) → AgreesWithQueue queue (f o) (Some reply) × (answer queue o (Some reply) ≡ answer queue (f o) (Some reply))
 still_gets f same queue o (Refused why) h = (h, refl)
 still_gets f same queue o Done h =
     (h ∙ ap (λ a. a.reply) (same_given f same queue o), same_given f same queue o)

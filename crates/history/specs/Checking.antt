@@ -6,11 +6,11 @@ use Rattle.history.specs.declared.operations.Stamped.{Stamped}
 use Rattle.history.specs.declared.operations.Cause.{Cause}
 use Rattle.history.specs.declared.operations.Taken.{Taken}
 use Rattle.history.specs.Queue.{Queue}
-use Rattle.history.specs.History.{number_of, rising, fault_of}
+use Rattle.history.specs.History.{point_or_zero, by_point, fault_of}
 
 -- operations lent by their places
-abbrev pub Places : Type 0
-Places = BTreeMap ℕ (Bor Stamped)
+abbrev pub OperationsByPoint : Type 0
+OperationsByPoint = BTreeMap ℕ (Bor Stamped)
 
 -- an entry with the operation that it lends
 abbrev pub shown : ℕ × Bor Stamped → ℕ × Stamped
@@ -18,21 +18,21 @@ shown e = (e.0, e.1.now)
 
 -- an operation with the number of its place
 abbrev pub numbered : Stamped → ℕ × Stamped
-numbered o = (number_of o.at, o)
+numbered o = (point_or_zero o.at, o)
 
 -- the operations that a map lends, by rising place
-abbrev pub listed : Places → List Stamped
+abbrev pub listed : OperationsByPoint → List Stamped
 listed places = map (λ o. o.now) (values places)
 
 -- a map has those operations of a list that have a place, each at its place
-abbrev pub Holds : Places → List Stamped → Type 0
-Holds places ops = map shown places.entries ≡ map numbered (rising ops)
+abbrev pub HoldsThoseWithPoints : OperationsByPoint → List Stamped → Type 0
+HoldsThoseWithPoints places ops = map shown places.entries ≡ map numbered (by_point ops)
 
 -- the fault found is that of the operation after those in the map; where it has none, the map has it too
-abbrev pub Judges : Places → Places → Stamped → Option Cause → Type 0
+abbrev pub Judges : OperationsByPoint → OperationsByPoint → Stamped → Option Cause → Type 0
 Judges old new o cause =
-    (before : List Stamped) → Holds old before →
-    (cause ≡ fault_of before o) × (cause ≡ None → Holds new (before ++ o ∷ []))
+    (before : List Stamped) → HoldsThoseWithPoints old before →
+    (cause ≡ fault_of before o) × (cause ≡ None → HoldsThoseWithPoints new (before ++ o ∷ []))
 
 -- the queue of these values
 abbrev pub queue_of : List Taken → Queue

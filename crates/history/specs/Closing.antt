@@ -3,7 +3,7 @@ use Rattle.std.specs.Prelude.{◌≡◌, ◌↔◌, ℕ, ◌+◌, ◌≤◌, IsT
 use Rattle.std.specs.List.{All, count_by, sum_by}
 use Rattle.history.specs.declared.operations.Entry.{Entry}
 use Rattle.history.specs.declared.rests.Rest.{Rest}
-use Rattle.history.specs.Entries.{is_push, is_pop, maker, own_entries, LeadsTo}
+use Rattle.history.specs.Entries.{is_push, is_pop, seat_of, own_entries, LeadsTo}
 use Rattle.history.specs.Seats.{Permit, Known, IsPermitted}
 use Rattle.history.specs.Rests.{left_of, taken_of, whole_of}
 
@@ -17,7 +17,7 @@ pops_of seats = sum_by (λ k. count_by is_pop k.mine) seats
 
 -- an entry is of one of these seats
 abbrev pub IsOfOne : List Known → Entry → Type 0
-IsOfOne seats e = (n : ℕ) × IsSomeAnd (slice_get seats n) (λ k. maker e ≡ k.number)
+IsOfOne seats e = (n : ℕ) × IsSomeAnd (slice_get seats n) (λ k. seat_of e ≡ k.number)
 
 -- each seat that the queue gave is among these
 abbrev pub AreAll : List Permit → List Known → Type 0

@@ -3,7 +3,7 @@ use Rattle.std.specs.Prelude.{◌≡◌, ℕ, ◌+◌, ◌<◌, ◌⊎◌, List,
 use Rattle.std.specs.List.{Contains}
 use Rattle.history.specs.declared.operations.Stamped.{Stamped}
 use Rattle.history.specs.Queue.{empty}
-use Rattle.history.specs.History.{Placement, rising, Gets, Replays, replayed}
+use Rattle.history.specs.History.{Placement, by_point, AgreesWithQueue, IsSequentialRun, queue_after}
 
 -- exactly one of last step and reply is there, or both are and the place isn't
 abbrev pub IsMisshapen : Stamped → Type 0
@@ -57,6 +57,6 @@ pub record FirstIsWrong (ops : List Stamped) (place : ℕ) : Type 0 where
   pub stands : StandsAt ops place earlier operation
   pub sooner : List Stamped
   pub afterwards : List Stamped
-  pub order : rising ops ≡ sooner ++ operation ∷ afterwards
-  pub replays : Replays empty sooner
-  pub wrong : ¬ (Gets (replayed empty sooner) operation operation.reply)
+  pub order : by_point ops ≡ sooner ++ operation ∷ afterwards
+  pub replays : IsSequentialRun empty sooner
+  pub wrong : ¬ (AgreesWithQueue (queue_after empty sooner) operation operation.reply)

@@ -10,7 +10,7 @@ use Rattle.history.specs.declared.operations.Verdict.{Verdict}
 use Rattle.history.specs.declared.operations.Verdict.TheVariants.{Yes, No}
 use Rattle.history.specs.declared.operations.Cause.{Cause}
 use Rattle.history.specs.declared.operations.Cause.TheVariants.{Shape, Span, Shared, Reply as OfReply}
-use Rattle.history.specs.Queue.{Queue, empty, Answer, given}
+use Rattle.history.specs.Queue.{Queue, empty, Answer, response}
 
 -- An operation has a last step exactly where it has a reply; a completed one has a place; the place lies within it.
 -- This speaks of the first step, the last one, the place and the reply.
@@ -35,19 +35,19 @@ pub record Placement (ops : List Stamped) : Type 0 where
   pub apart : AreApart ops
 
 -- the number of a place
-abbrev pub number_of : Option ℕ → ℕ
-number_of None = 0
-number_of (Some at) = at
+abbrev pub point_or_zero : Option ℕ → ℕ
+point_or_zero None = 0
+point_or_zero (Some at) = at
 
 -- a list by rising place with one more operation, before those of its own place
 abbrev pub inserted : Stamped → List Stamped → List Stamped
 inserted o [] = o ∷ []
-inserted o (p ∷ ps) = if nat_le (number_of o.at) (number_of p.at) then o ∷ p ∷ ps else p ∷ inserted o ps
+inserted o (p ∷ ps) = if nat_le (point_or_zero o.at) (point_or_zero p.at) then o ∷ p ∷ ps else p ∷ inserted o ps
 
 -- the operations that have a place, by rising place, equal ones in the order of the list
-abbrev pub rising : List Stamped → List Stamped
-rising [] = []
-rising (o ∷ os) = if is_some o.at then inserted o (rising os) else rising os
+abbrev pub by_point : List Stamped → List Stamped
+by_point [] = []
+by_point (o ∷ os) = if is_some o.at then inserted o (by_point os) else by_point os
 
 -- whether a refusal is one that a queue may answer, and that leaves it as it is
 abbrev pub leaves : Refusal → Bool
@@ -59,32 +59,32 @@ leaves _ = false
 -- the answer to an operation by what it was told: a refusal leaves the queue, any other reply and none take what the queue gives
 abbrev pub answer : Queue → Stamped → Option Reply → Answer
 answer queue o (Some (Refused why)) = record { reply = Refused why; after = queue }
-answer queue o (Some Done) = given o.actor o.op queue
-answer queue o (Some (Value v)) = given o.actor o.op queue
-answer queue o (Some Empty) = given o.actor o.op queue
-answer queue o None = given o.actor o.op queue
+answer queue o (Some Done) = response o.actor o.op queue
+answer queue o (Some (Value v)) = response o.actor o.op queue
+answer queue o (Some Empty) = response o.actor o.op queue
+answer queue o None = response o.actor o.op queue
 
 -- the queue gives the reply that an operation was told; a pending one was told nothing
-abbrev pub Gets : Queue → Stamped → Option Reply → Type 0
-Gets queue o (Some (Refused why)) = leaves why ≡ true
-Gets queue o (Some Done) = Done ≡ (given o.actor o.op queue).reply
-Gets queue o (Some (Value v)) = Value v ≡ (given o.actor o.op queue).reply
-Gets queue o (Some Empty) = Empty ≡ (given o.actor o.op queue).reply
-Gets queue o None = Unit {0}
+abbrev pub AgreesWithQueue : Queue → Stamped → Option Reply → Type 0
+AgreesWithQueue queue o (Some (Refused why)) = leaves why ≡ true
+AgreesWithQueue queue o (Some Done) = Done ≡ (response o.actor o.op queue).reply
+AgreesWithQueue queue o (Some (Value v)) = Value v ≡ (response o.actor o.op queue).reply
+AgreesWithQueue queue o (Some Empty) = Empty ≡ (response o.actor o.op queue).reply
+AgreesWithQueue queue o None = Unit {0}
 
 -- from this queue, operations in this order get the replies that they were told
-abbrev pub Replays : Queue → List Stamped → Type 0
-Replays queue [] = Unit {0}
-Replays queue (o ∷ os) = Gets queue o o.reply × Replays (answer queue o o.reply).after os
+abbrev pub IsSequentialRun : Queue → List Stamped → Type 0
+IsSequentialRun queue [] = Unit {0}
+IsSequentialRun queue (o ∷ os) = AgreesWithQueue queue o o.reply × IsSequentialRun (answer queue o o.reply).after os
 
 -- the queue after these operations, in this order
-abbrev pub replayed : Queue → List Stamped → Queue
-replayed queue [] = queue
-replayed queue (o ∷ os) = replayed (answer queue o o.reply).after os
+abbrev pub queue_after : Queue → List Stamped → Queue
+queue_after queue [] = queue
+queue_after queue (o ∷ os) = queue_after (answer queue o o.reply).after os
 
 -- by rising place, from the empty queue, the operations get the replies that they were told
 abbrev pub IsLegal : List Stamped → Type 0
-IsLegal ops = Replays empty (rising ops)
+IsLegal ops = IsSequentialRun empty (by_point ops)
 
 -- whether last step, place and reply go together
 abbrev pub is_shaped : Option ℕ → Option ℕ → Option Reply → Bool
@@ -102,15 +102,15 @@ lies_within first None (Some at) = nat_le first at
 lies_within first (Some last) (Some at) = nat_le first last && nat_le first at && nat_le at last
 
 -- whether two places are there and are the same
-abbrev pub same_place : Option ℕ → Option ℕ → Bool
-same_place None b = false
-same_place (Some a) None = false
-same_place (Some a) (Some b) = nat_eq a b
+abbrev pub same_point : Option ℕ → Option ℕ → Bool
+same_point None b = false
+same_point (Some a) None = false
+same_point (Some a) (Some b) = nat_eq a b
 
 -- whether an operation's place is that of one in a list
 abbrev pub is_shared : Stamped → List Stamped → Bool
 is_shared o [] = false
-is_shared o (p ∷ ps) = same_place o.at p.at || is_shared o ps
+is_shared o (p ∷ ps) = same_point o.at p.at || is_shared o ps
 
 -- the fault of an operation, by itself and by the operations before it
 abbrev pub fault_of : List Stamped → Stamped → Option Cause
@@ -141,37 +141,37 @@ same_reply Empty Done = false
 same_reply Empty (Value w) = false
 same_reply (Value v) Done = false
 same_reply (Value v) Empty = false
-same_reply (Refused why) given = false
+same_reply (Refused why) response = false
 same_reply told (Refused why) = false
 
 -- whether the queue gives the reply that an operation was told
-abbrev pub gets : Queue → Stamped → Option Reply → Bool
-gets queue o (Some (Refused why)) = leaves why
-gets queue o (Some Done) = same_reply Done (given o.actor o.op queue).reply
-gets queue o (Some (Value v)) = same_reply (Value v) (given o.actor o.op queue).reply
-gets queue o (Some Empty) = same_reply Empty (given o.actor o.op queue).reply
-gets queue o None = true
+abbrev pub agrees_with_queue : Queue → Stamped → Option Reply → Bool
+agrees_with_queue queue o (Some (Refused why)) = leaves why
+agrees_with_queue queue o (Some Done) = same_reply Done (response o.actor o.op queue).reply
+agrees_with_queue queue o (Some (Value v)) = same_reply (Value v) (response o.actor o.op queue).reply
+agrees_with_queue queue o (Some Empty) = same_reply Empty (response o.actor o.op queue).reply
+agrees_with_queue queue o None = true
 
 -- the first operation whose reply the queue does not give
 abbrev pub first_wrong : Queue → List Stamped → Option Stamped
 first_wrong queue [] = None
 first_wrong queue (o ∷ os) =
-    if gets queue o o.reply then first_wrong (answer queue o o.reply).after os else Some o
+    if agrees_with_queue queue o o.reply then first_wrong (answer queue o o.reply).after os else Some o
 
 -- where in a list the first operation of a place stands, counted from a number on
-abbrev pub place_in : Option ℕ → ℕ → List Stamped → ℕ
-place_in at place [] = place
-place_in at place (o ∷ os) = if same_place at o.at then place else place_in at (place + 1) os
+abbrev pub index_by_point : Option ℕ → ℕ → List Stamped → ℕ
+index_by_point at place [] = place
+index_by_point at place (o ∷ os) = if same_point at o.at then place else index_by_point at (place + 1) os
 
 -- the verdict by the operation whose reply is wrong
 abbrev pub wrong_reply : List Stamped → Option Stamped → Verdict
 wrong_reply ops None = Yes
-wrong_reply ops (Some o) = No (place_in o.at 1 ops) OfReply
+wrong_reply ops (Some o) = No (index_by_point o.at 1 ops) OfReply
 
 -- the verdict by the first fault of shape, span or shared place, and else by the replies
 abbrev pub fault_or_replies : List Stamped → Option Verdict → Verdict
 fault_or_replies ops (Some fault) = fault
-fault_or_replies ops None = wrong_reply ops (first_wrong empty (rising ops))
+fault_or_replies ops None = wrong_reply ops (first_wrong empty (by_point ops))
 
 -- the verdict on a history: its first fault of shape, span or shared place, else its first wrong reply, else yes
 abbrev pub verdict : List Stamped → Verdict

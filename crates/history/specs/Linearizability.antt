@@ -5,7 +5,7 @@ use Rattle.std.specs.List.Sorted.{IsPermutation}
 use Rattle.history.specs.declared.operations.Reply.{Reply}
 use Rattle.history.specs.declared.operations.Stamped.{Stamped}
 use Rattle.history.specs.Queue.{Queue, empty}
-use Rattle.history.specs.History.{answer, Gets}
+use Rattle.history.specs.History.{answer, AgreesWithQueue}
 
 -- an operation of an order, and the reply that it is given there
 pub record Answered : Type 0 where
@@ -38,7 +38,7 @@ KeepsTime (o ∷ os) = AllByRecursion (MayComeBefore o) os × KeepsTime os
 abbrev pub IsRun : Queue → List Answered → Type 0
 IsRun queue [] = Unit {0}
 IsRun queue (a ∷ rest) =
-    Gets queue a.operation (Some a.reply) × IsRun (answer queue a.operation (Some a.reply)).after rest
+    AgreesWithQueue queue a.operation (Some a.reply) × IsRun (answer queue a.operation (Some a.reply)).after rest
 
 -- A history is linearizable: there is an order of all its completed operations and some pending ones, each once, with a
 -- reply for each pending one, that keeps time and is a run of the queue that gives every reply told.

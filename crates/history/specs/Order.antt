@@ -2,9 +2,9 @@
 use Rattle.std.specs.Prelude.{◌≤◌, List, [], ◌∷◌}
 use Rattle.std.specs.List.{AllByRecursion}
 use Rattle.history.specs.declared.operations.Stamped.{Stamped}
-use Rattle.history.specs.History.{number_of}
+use Rattle.history.specs.History.{point_or_zero}
 
 -- no operation's place is after that of a later one
 abbrev pub Rises : List Stamped → Type 0
 Rises [] = Unit {0}
-Rises (o ∷ os) = AllByRecursion (λ p. number_of o.at ≤ number_of p.at) os × Rises os
+Rises (o ∷ os) = AllByRecursion (λ p. point_or_zero o.at ≤ point_or_zero p.at) os × Rises os

@@ -5,8 +5,8 @@ use Rattle.history.specs.declared.scripts.Trouble.{Trouble}
 use Rattle.history.specs.declared.scripts.Trouble.TheVariants.{Failure, Standstill}
 
 -- the bytes that a script has still to give
-abbrev pub left_of : Script → List ℕ
-left_of script = drop script.at script.given.items
+abbrev pub unread_of : Script → List ℕ
+unread_of script = drop script.at script.given.items
 
 -- the bytes that a script has taken
 abbrev pub written_of : Script → List ℕ
@@ -26,7 +26,7 @@ IsDue script trouble calls = script.plan ≡ Some (record { trouble = trouble; c
 
 -- a script is as new, with these bytes to give and this room: it took none, no call failed, and it told nothing
 pub record IsFresh (script : Script) (bytes : List ℕ) (room piece : ℕ) : Type 0 where
-  pub left : left_of script ≡ bytes
+  pub left : unread_of script ≡ bytes
   pub takes : room_of script ≡ room
   pub moves : script.piece ≡ piece
   pub plan : script.plan ≡ None

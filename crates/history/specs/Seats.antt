@@ -3,7 +3,7 @@ use Rattle.std.specs.Prelude.{◌≡◌, ℕ, ◌-◌, ◌≤◌, Bool, IsTrue, 
 use Rattle.std.specs.List.{All}
 use Rattle.history.specs.declared.operations.Entry.{Entry}
 use Rattle.history.specs.declared.operations.Entry.TheVariants.{Push, Pop}
-use Rattle.history.specs.Entries.{maker, own_entries, IsLegal}
+use Rattle.history.specs.Entries.{seat_of, own_entries, IsQueueRun}
 
 -- what a seat may do: push, pop, both or neither
 pub record Permit : Type 0 where
@@ -17,7 +17,7 @@ Allows p (Pop seat value) = IsTrue p.pops
 
 -- an entry is of a seat, from number 1 on, whose permit allows it
 abbrev pub IsPermitted : List Permit → Entry → Type 0
-IsPermitted permits e = (1 ≤ maker e) × IsSomeAnd (slice_get permits (maker e - 1)) (λ p. Allows p e)
+IsPermitted permits e = (1 ≤ seat_of e) × IsSomeAnd (slice_get permits (seat_of e - 1)) (λ p. Allows p e)
 
 -- the seat of this number may push
 abbrev pub MayPush : List Permit → ℕ → Type 0
@@ -37,6 +37,6 @@ pub record Known : Type 0 where
 
 -- what a seat knows is sound: what it has seen is legal and permitted, and its own entries are just those that it has seen
 pub record IsSound (permits : List Permit) (k : Known) : Type 0 where
-  pub legal : IsLegal k.seen
+  pub legal : IsQueueRun k.seen
   pub permitted : All (IsPermitted permits) k.seen
   pub own : own_entries k.number k.seen ≡ k.mine

@@ -7,7 +7,7 @@ ghost use Rattle.history.specs.Checking.{listed, Judges};
 
 use crate::operations::{Cause, Stamped, Verdict};
 use crate::refusals::Refusal;
-use crate::replaying::gets;
+use crate::replaying::agrees_with_queue;
 use std::alloc::Global;
 use std::collections::{BTreeMap, VecDeque};
 
@@ -28,7 +28,7 @@ pub fn check(alloc: Global, history: &[Stamped]) -> Result<Verdict, Refusal>
     match first_wrong(alloc, &places)? {
         None => Ok(Verdict::Yes),
         Some(wrong) => Ok(Verdict::No {
-            place: place_in(wrong.at, history),
+            place: index_by_point(wrong.at, history),
             cause: Cause::Reply,
         }),
     }
@@ -43,7 +43,7 @@ fn first_fault<'a>(
     requires { places.old.entries ≡ [] }
     ensures fault { IfOk result (λ fault. fault ≡ rule.first_fault 1 [] history.now) }
     ensures places { IfOk result (λ fault.
-        fault ≡ None → listed places.new ≡ rule.rising history.now) }
+        fault ≡ None → listed places.new ≡ rule.by_point history.now) }
     ensures only_memory { IfErr result (λ why. why ≡ Refusal.Memory) }
 {
     for (index, operation) in history.iter().enumerate() {
@@ -110,7 +110,7 @@ fn first_wrong(alloc: Global, places: &BTreeMap<u64, &Stamped>) -> Result<Option
 {
     let mut queue = VecDeque::new(alloc);
     for operation in places.values() {
-        if !gets(&mut queue, *operation)? {
+        if !agrees_with_queue(&mut queue, *operation)? {
             return Ok(Some(**operation));
         }
     }
@@ -118,12 +118,12 @@ fn first_wrong(alloc: Global, places: &BTreeMap<u64, &Stamped>) -> Result<Option
 }
 
 // Where the first operation of this place stands in the list, from 1.
-fn place_in(at: Option<u64>, history: &[Stamped]) -> u64
-    ensures { result ≡ rule.place_in at 1 history.now }
+fn index_by_point(at: Option<u64>, history: &[Stamped]) -> u64
+    ensures { result ≡ rule.index_by_point at 1 history.now }
 {
     let mut place = 1;
     for operation in history {
-        if same_place(at, operation.at) {
+        if same_point(at, operation.at) {
             return place;
         }
         place += 1;
@@ -131,8 +131,8 @@ fn place_in(at: Option<u64>, history: &[Stamped]) -> u64
     place
 }
 
-fn same_place(place: Option<u64>, other: Option<u64>) -> bool
-    ensures { result ≡ rule.same_place place other }
+fn same_point(place: Option<u64>, other: Option<u64>) -> bool
+    ensures { result ≡ rule.same_point place other }
 {
     match (place, other) {
         (Some(place), Some(other)) => place == other,

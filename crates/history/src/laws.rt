@@ -6,7 +6,7 @@ ghost use Rattle.history.specs.declared.operations.Stamped.{Stamped};
 ghost use Rattle.history.specs.declared.operations.Taken.{Taken};
 ghost use Rattle.history.specs.declared.operations.Verdict.TheVariants.{Yes, No};
 ghost use Rattle.history.specs.declared.operations.Cause.TheVariants.{Shape, Span, Shared, Reply};
-ghost use Rattle.history.specs.History.{Placement, IsLegal, rising, verdict};
+ghost use Rattle.history.specs.History.{Placement, IsLegal, by_point, verdict};
 ghost use Rattle.history.specs.Faults.{FirstIsMisshapen, FirstIsOutside, FirstIsShared, FirstIsWrong};
 ghost use Rattle.history.specs.Order.{Rises};
 ghost use Rattle.history.specs.Linearizability.{IsLinearizable, DifferInPlace};
@@ -42,8 +42,8 @@ pub fn a_wrong_reply_is_the_first_by_place()
 /// The order in which operations are applied to a queue has exactly those that have a place, and no place is after
 /// that of a later one.
 pub fn the_order_is_by_rising_place()
-    ensures same { (ops : List Stamped) → IsPermutation (filter (λ o. is_some o.at) ops) (rising ops) }
-    ensures rises { (ops : List Stamped) → Rises (rising ops) }
+    ensures same { (ops : List Stamped) → IsPermutation (filter (λ o. is_some o.at) ops) (by_point ops) }
+    ensures rises { (ops : List Stamped) → Rises (by_point ops) }
 {}
 
 /// What is placed and legal is linearizable: the operations that have a place, by rising place, are an order that shows

@@ -1,7 +1,7 @@
 //! Reading the lines of a history.
 ghost use Rattle.std.specs.Prelude.{ℕ, Some};
 ghost use Rattle.text_lines.specs.Numerals.{IsWithin};
-ghost use Rattle.text_lines.specs.Readings.{IsKept, Reads, ReadsWords, ReadsLine};
+ghost use Rattle.text_lines.specs.Readings.{ReadsBack, Reads, ReadsWords, ReadsLine};
 ghost use Rattle.history.specs.HistoryLines.{call_words, IsActor, IsBody, IsStep, IsCallInRange};
 ghost use Rattle.history.specs.HistoryLines.{IsStepInRange, IsReplyInRange, IsOperationInRange};
 ghost use Rattle.history.specs.HistoryReading.{labelled_number, labelled_step};
@@ -59,10 +59,10 @@ fn stamped(
     at: Option<Option<u64>>,
     reply: Option<Option<Reply>>,
 ) -> Option<Stamped>
-    ensures { (o : Stamped) → IsKept IsActor o.actor actor → IsKept IsCallInRange o.op op
-        → IsKept IsStep o.first first → IsKept IsStepInRange o.last last
-        → IsKept IsStepInRange o.at at → IsKept IsReplyInRange o.reply reply
-        → IsKept IsOperationInRange o result }
+    ensures { (o : Stamped) → ReadsBack IsActor o.actor actor → ReadsBack IsCallInRange o.op op
+        → ReadsBack IsStep o.first first → ReadsBack IsStepInRange o.last last
+        → ReadsBack IsStepInRange o.at at → ReadsBack IsReplyInRange o.reply reply
+        → ReadsBack IsOperationInRange o result }
 {
     Some(Stamped {
         actor: u16::try_from(actor?).ok()?,
@@ -97,7 +97,7 @@ fn step_of(words: &mut Words, label: &[u8]) -> Result<Option<Option<u64>>, TextC
 }
 
 fn taken_step(step: Option<u64>) -> Option<Option<u64>>
-    ensures { (n : ℕ) → IsKept IsStep n step → IsKept IsStepInRange (Some n) result }
+    ensures { (n : ℕ) → ReadsBack IsStep n step → ReadsBack IsStepInRange (Some n) result }
 {
     Some(Some(step?))
 }
@@ -120,7 +120,7 @@ fn call_of(words: &mut Words) -> Result<Option<Op>, TextCause>
 }
 
 fn enqueue(body: Option<u64>) -> Option<Op>
-    ensures { (n : ℕ) → IsKept IsBody n body → IsKept IsCallInRange (Op.Enq n) result }
+    ensures { (n : ℕ) → ReadsBack IsBody n body → ReadsBack IsCallInRange (Op.Enq n) result }
 {
     Some(Op::Enq(Body::new(body?)?))
 }

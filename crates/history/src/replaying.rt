@@ -10,9 +10,9 @@ use std::collections::VecDeque;
 
 // Applies an operation to the queue. The result is whether the queue gives the reply that the
 // operation was told.
-pub(crate) fn gets(queue: &mut VecDeque<Taken>, operation: &Stamped) -> Result<bool, Refusal>
+pub(crate) fn agrees_with_queue(queue: &mut VecDeque<Taken>, operation: &Stamped) -> Result<bool, Refusal>
     ensures told { IfOk result (λ told.
-        told ≡ rule.gets (queue_of queue.old.items) operation.now operation.now.reply) }
+        told ≡ rule.agrees_with_queue (queue_of queue.old.items) operation.now operation.now.reply) }
     ensures after { OnOk result (queue_of queue.new.items
         ≡ (rule.answer (queue_of queue.old.items) operation.now operation.now.reply).after) }
     ensures only_memory { IfErr result (λ why. why ≡ Refusal.Memory) }
@@ -30,9 +30,9 @@ pub(crate) fn gets(queue: &mut VecDeque<Taken>, operation: &Stamped) -> Result<b
 // What the queue gives an actor's call.
 fn given(queue: &mut VecDeque<Taken>, actor: u16, op: Op) -> Result<Reply, Refusal>
     ensures reply { IfOk result (λ reply.
-        reply ≡ (object.given actor op (queue_of queue.old.items)).reply) }
+        reply ≡ (object.response actor op (queue_of queue.old.items)).reply) }
     ensures after { OnOk result (queue_of queue.new.items
-        ≡ (object.given actor op (queue_of queue.old.items)).after) }
+        ≡ (object.response actor op (queue_of queue.old.items)).after) }
     ensures only_memory { IfErr result (λ why. why ≡ Refusal.Memory) }
 {
     match op {

@@ -1,6 +1,6 @@
 //! Reading a reply from the last words of a line.
 ghost use Rattle.std.specs.Prelude.{◌≡◌, MatchResult, Some};
-ghost use Rattle.text_lines.specs.Readings.{IsKept, Reads};
+ghost use Rattle.text_lines.specs.Readings.{ReadsBack, Reads};
 ghost use Rattle.history.specs.HistoryLines.{IsActor, IsBody, IsValueInRange, IsReplyInRange};
 ghost use Rattle.history.specs.HistoryReading.{AreOfReply, AreOfRefusal, AreOfValue, AreOfWord, IsPlainReply};
 
@@ -41,8 +41,8 @@ fn plain_reply(word: &[u8]) -> Result<Option<Option<Reply>>, TextCause>
 }
 
 fn value_reply(value: Option<Taken>) -> Option<Option<Reply>>
-    ensures { (v : Taken) → IsKept IsValueInRange v value
-        → IsKept IsReplyInRange (Some (Reply.Value v)) result }
+    ensures { (v : Taken) → ReadsBack IsValueInRange v value
+        → ReadsBack IsReplyInRange (Some (Reply.Value v)) result }
 {
     Some(Some(Reply::Value(value?)))
 }
@@ -57,8 +57,8 @@ fn value_of(mut words: Words) -> Result<Option<Taken>, TextCause>
 }
 
 fn taken(from: Option<u64>, body: Option<u64>) -> Option<Taken>
-    ensures { (value : Taken) → IsKept IsActor value.from from → IsKept IsBody value.body body
-        → IsKept IsValueInRange value result }
+    ensures { (value : Taken) → ReadsBack IsActor value.from from → ReadsBack IsBody value.body body
+        → ReadsBack IsValueInRange value result }
 {
     Some(Taken {
         from: u16::try_from(from?).ok()?,

@@ -38,7 +38,7 @@ pub struct Script {
 
 impl Script {
     ghost use Rattle.std.specs.Prelude.{◌≡◌, ◌+◌, ◌-◌, ◌<◌, [], IfOk, vec_capacity};
-    ghost use Rattle.history.specs.Scripts.{left_of, written_of, failures_of, failures_in, IsDue, IsFresh, SameBytes, SameDevice};
+    ghost use Rattle.history.specs.Scripts.{unread_of, written_of, failures_of, failures_in, IsDue, IsFresh, SameBytes, SameDevice};
 
     /// A script that gives these bytes, at most `piece` of them a call, and takes none.
     ///
@@ -96,7 +96,7 @@ impl Script {
 
     /// The bytes that it has still to give. It takes no memory.
     pub fn left(&self) -> &[u8]
-        ensures { result.now ≡ left_of self.now }
+        ensures { result.now ≡ unread_of self.now }
     {
         &self.given[self.at..]
     }
@@ -164,9 +164,9 @@ fn copied(from: &[u8], into: &mut [u8], most: usize) -> usize
 }
 
 // Appends as many bytes as there is room for, at most `most`, and answers how many.
-fn kept(from: &[u8], into: &mut Vec<u8>, most: usize) -> usize
+fn append_fitting(from: &[u8], into: &mut Vec<u8>, most: usize) -> usize
     ensures count { result ≤ length from.now }
-    ensures kept { into.new.items ≡ into.old.items ++ take result from.now }
+    ensures append_fitting { into.new.items ≡ into.old.items ++ take result from.now }
 {
     let room = into.capacity() - into.len();
     let count = from.len().min(room).min(most);
@@ -178,13 +178,13 @@ fn kept(from: &[u8], into: &mut Vec<u8>, most: usize) -> usize
 
 impl Source for Script {
     ghost use Rattle.std.specs.Prelude.{Some, length};
-    ghost use Rattle.history.specs.Scripts.{left_of, failures_of};
+    ghost use Rattle.history.specs.Scripts.{unread_of, failures_of};
 
-    ghost remaining = { λ s. Some (left_of s) };
+    ghost remaining = { λ s. Some (unread_of s) };
 
     ghost failures = { failures_of };
 
-    ghost budget = { λ s. length (left_of s) };
+    ghost budget = { λ s. length (unread_of s) };
 
     ghost has_ended = { λ s. s.ended };
 
@@ -215,7 +215,7 @@ impl Sink for Script {
         let count = match self.meets() {
             Some(Trouble::Failure) => return Err(io::Error::from(ErrorKind::Other)),
             Some(Trouble::Standstill) => 0,
-            None => kept(bytes, &mut self.written, self.piece),
+            None => append_fitting(bytes, &mut self.written, self.piece),
         };
         if !bytes.is_empty() {
             self.full = count == 0;

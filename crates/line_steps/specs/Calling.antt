@@ -10,7 +10,7 @@ use Rattle.history.specs.declared.operations.Reply.{Reply}
 use Rattle.line_steps.specs.declared.actors.Held.{Held}
 use Rattle.line_steps.specs.declared.actors.Actor.{Actor}
 use Rattle.line_steps.specs.declared.actors.Outcome.{Outcome}
-use Rattle.line_steps.specs.Lines.{takes, with_node, dequeues}
+use Rattle.line_steps.specs.Lines.{fills_hand, with_node, dequeues}
 
 -- whether a call can be made: a body is below 2^48
 abbrev pub is_call : Op → Bool
@@ -20,7 +20,7 @@ is_call Deq = true
 -- a call with a full pocket starts at a line of its own, with the node and its mark in the hand
 abbrev pub from_pocket : Line → Option Held → Actor → Actor
 from_pocket l None a = a
-from_pocket l (Some held) a = record (takes held.node held.mark a) { line = Some l; pocket = None }
+from_pocket l (Some held) a = record (fills_hand held.node held.mark a) { line = Some l; pocket = None }
 
 -- an actor that begins a call
 abbrev pub begun : Kind → (me : ℕ) → Op → Actor → Actor

@@ -67,7 +67,7 @@ goes l a = record { actor = record a { line = Some l }; at = None; reply = None;
 abbrev pub effect_at_end : ℕ → Actor → Reply → Option ℕ
 effect_at_end now a Done = None
 effect_at_end now a (Value v) = None
-effect_at_end now a Empty = Some a.noted
+effect_at_end now a Empty = Some a.empty_at
 effect_at_end now a (Refused why) = Some now
 
 -- the call ends with a reply
@@ -88,12 +88,12 @@ abbrev pub sets_aside : Outcome → Outcome
 sets_aside o = record o { actor = record o.actor { holds = false }; aside = Some o.actor.node }
 
 -- a node and its mark come into the hand
-abbrev pub takes : ℕ → ℕ → Actor → Actor
-takes node mark a = record a { node = node; mark = mark; holds = true }
+abbrev pub fills_hand : ℕ → ℕ → Actor → Actor
+fills_hand node mark a = record a { node = node; mark = mark; holds = true }
 
 -- the hand is empty
-abbrev pub lets_go : Actor → Actor
-lets_go a = record a { holds = false }
+abbrev pub empties_hand : Actor → Actor
+empties_hand a = record a { holds = false }
 
 -- the node in hand goes to the pocket, with its mark
 abbrev pub to_pocket : Actor → Actor
@@ -133,14 +133,14 @@ outcome s now me a N2 top =
     else goes N3 b
 outcome s now me a N3 next = goes N4 (record a { next = next })
 outcome s now me a N4 was =
-    if same_ref was a.top then goes (with_node s.kind) (takes a.top.node a.next.count a) else goes N1 a
+    if same_ref was a.top then goes (with_node s.kind) (fills_hand a.top.node a.next.count a) else goes N1 a
 outcome s now me a N5 was =
-    if nat_eq was a.f then goes (with_node s.kind) (takes (a.f + 1) 0 a) else goes N1 a
+    if nat_eq was a.f then goes (with_node s.kind) (fills_hand (a.f + 1) 0 a) else goes N1 a
 outcome s now me a F1 top =
     let b = record a { top = top } in
     if nat_eq top.count s.limit then sets_aside (freed s.kind now a.due b) else goes F2 b
 outcome s now me a F2 was = goes F3 a
-outcome s now me a F3 was = if same_ref was a.top then freed s.kind now a.due (lets_go a) else goes F1 a
+outcome s now me a F3 was = if same_ref was a.top then freed s.kind now a.due (empties_hand a) else goes F1 a
 outcome s now me a E2 was = goes E3 a
 outcome s now me a E3 was =
     let b = record a { mark = was.count } in
@@ -154,7 +154,7 @@ outcome s now me a E7 tail =
     else goes E13 a
     else goes E5 a
 outcome s now me a E9 was =
-    let b = lets_go (record a { due = Some Done }) in
+    let b = empties_hand (record a { due = Some Done }) in
     if same_ref was a.next
     then effect now (if nat_eq a.tail.count s.limit then ends now Done b else goes E17 b)
     else goes E5 a
@@ -162,7 +162,7 @@ outcome s now me a E13 was = goes E5 a
 outcome s now me a E17 was = ends now Done a
 outcome s now me a D2 head = goes D3 (record a { head = head })
 outcome s now me a D3 tail = goes D4 (record a { tail = tail })
-outcome s now me a D4 next = goes D5 (record a { next = next; noted = now })
+outcome s now me a D4 next = goes D5 (record a { next = next; empty_at = now })
 outcome s now me a D5 head =
     if same_ref head a.head
     then if nat_eq a.head.node a.tail.node
@@ -176,25 +176,25 @@ outcome s now me a D12 val =
     let b = record a { val = val } in if nat_eq a.head.count s.limit then worn now OfHead b else goes D13 b
 outcome s now me a D13 was =
     if same_ref was a.head
-    then effect now (goes F1 (takes a.head.node a.next.count (record a { due = Some (Value a.val) })))
+    then effect now (goes F1 (fills_hand a.head.node a.next.count (record a { due = Some (Value a.val) })))
     else goes D2 a
 outcome s now me a A1 was = goes A2 a
 outcome s now me a A2 was = goes A3 a
 outcome s now me a A3 was = if nat_eq was 0 then goes A4 a else goes A3 a
 outcome s now me a A4 tail = goes A5 (record a { tail = tail })
-outcome s now me a A5 was = effect now (goes A6 (lets_go (record a { due = Some Done })))
+outcome s now me a A5 was = effect now (goes A6 (empties_hand (record a { due = Some Done })))
 outcome s now me a A6 was = goes A7 a
 outcome s now me a A7 was = ends now Done a
 outcome s now me a B1 was = if nat_eq was 0 then goes B2 a else goes B1 a
 outcome s now me a B2 head = goes B3 (record a { head = head })
 outcome s now me a B3 next =
-    let b = record a { next = next; noted = now } in
+    let b = record a { next = next; empty_at = now } in
     if is_null next then goes B6 (record b { due = Some Empty }) else goes B4 b
 outcome s now me a B4 val =
     let b = record a { val = val } in
     if nat_eq a.head.count s.limit then goes B6 (record b { due = Some (Refused (WornOut OfHead)) }) else goes B5 b
 outcome s now me a B5 was =
-    effect now (goes B6 (takes a.head.node a.next.count (record a { due = Some (Value a.val) })))
+    effect now (goes B6 (fills_hand a.head.node a.next.count (record a { due = Some (Value a.val) })))
 outcome s now me a B6 was = unlocked now a.due a
 
 -- giving up ends the call with Busy

@@ -10,7 +10,7 @@ pub record IsCounted (s : Setup) : Type 0 where
   pub limit : s.limit < 2 ^ count_bits
 
 -- the registers of an actor can be used: their numbers are in range, and there is room for the nodes that they name
-pub record IsReady (s : Setup) (room : ℕ) (a : Actor) : Type 0 where
+pub record RegistersFit (s : Setup) (room : ℕ) (a : Actor) : Type 0 where
   pub some : 1 ≤ room
   pub few : room ≤ s.size
   pub f : a.f ≤ s.size

@@ -7,12 +7,12 @@ use Rattle.line_steps.specs.declared.actors.Outcome.{Outcome}
 use Rattle.line_steps.specs.Memory.{Shared, found}
 use Rattle.line_steps.specs.Lines.{action, outcome}
 use Rattle.line_steps.specs.Rooms.{Memory, accessed}
-use Rattle.line_steps.specs.Ready.{IsCounted, IsReady}
+use Rattle.line_steps.specs.Ready.{IsCounted, RegistersFit}
 
 -- an actor may take a step: the setup's numbers fit a reference, and the actor's registers can be used
 pub record MayStep (s : Setup) (room : ℕ) (a : Actor) : Type 0 where
   pub counted : IsCounted s
-  pub ready : IsReady s room a
+  pub ready : RegistersFit s room a
 
 -- the outcome of a step at a line, on the shared words
 unfoldable pub outcome_on : Setup → (now me : ℕ) → Actor → Line → Shared → Outcome

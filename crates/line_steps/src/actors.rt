@@ -42,7 +42,7 @@ pub struct Actor {
     pub next: CountedRef,
     pub val: Taken,
     /// The number of the step at which an empty reply would fall: the last D4, or the B3 that found null.
-    pub noted: u64,
+    pub empty_at: u64,
     /// What the call will answer, where that is settled.
     pub due: Option<Reply>,
     pub pocket: Option<Held>,

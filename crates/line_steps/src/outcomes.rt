@@ -41,11 +41,11 @@ fn ended(at: Option<u64>, reply: Reply, actor: Actor) -> Outcome
 pub fn ends(now: u64, reply: Reply, actor: Actor) -> Outcome
     ensures { result ≡ lines.ends now reply actor }
 {
-    let noted = actor.noted;
+    let empty_at = actor.empty_at;
     match reply {
         Reply::Done => ended(None, Reply::Done, actor),
         Reply::Value(value) => ended(None, Reply::Value(value), actor),
-        Reply::Empty => ended(Some(noted), Reply::Empty, actor),
+        Reply::Empty => ended(Some(empty_at), Reply::Empty, actor),
         Reply::Refused(why) => ended(Some(now), Reply::Refused(why), actor),
     }
 }
@@ -69,7 +69,7 @@ pub fn sets_aside(outcome: Outcome) -> Outcome
     ensures { result ≡ lines.sets_aside outcome }
 {
     let node = outcome.actor.node;
-    let actor = lets_go(outcome.actor);
+    let actor = empties_hand(outcome.actor);
     Outcome {
         actor,
         aside: Some(node),
@@ -77,8 +77,8 @@ pub fn sets_aside(outcome: Outcome) -> Outcome
     }
 }
 
-pub fn takes(node: u32, mark: u64, actor: Actor) -> Actor
-    ensures { result ≡ lines.takes node mark actor }
+pub fn fills_hand(node: u32, mark: u64, actor: Actor) -> Actor
+    ensures { result ≡ lines.fills_hand node mark actor }
 {
     Actor {
         node,
@@ -88,8 +88,8 @@ pub fn takes(node: u32, mark: u64, actor: Actor) -> Actor
     }
 }
 
-pub fn lets_go(actor: Actor) -> Actor
-    ensures { result ≡ lines.lets_go actor }
+pub fn empties_hand(actor: Actor) -> Actor
+    ensures { result ≡ lines.empties_hand actor }
 {
     Actor {
         holds: false,
@@ -163,7 +163,7 @@ fn from_pocket(line: Line, pocket: Option<Held>, actor: Actor) -> Actor
         Some(held) => Actor {
             line: Some(line),
             pocket: None,
-            ..takes(held.node, held.mark, actor)
+            ..fills_hand(held.node, held.mark, actor)
         },
     }
 }

@@ -6,7 +6,7 @@ ghost use Rattle.line_steps.specs.Steps.{MayStep, Stepped};
 use crate::actors::{Actor, Outcome, Setup};
 use crate::memory::Memory;
 use crate::outcomes::{
-    effect, ends, freed, goes, lets_go, raised, sets_aside, takes, to_pocket, unlocked, with_node,
+    effect, ends, freed, goes, empties_hand, raised, sets_aside, fills_hand, to_pocket, unlocked, with_node,
     worn,
 };
 use counted_ref::CountedRef;

@@ -3,7 +3,7 @@ ghost use Rattle.std.specs.Prelude.{◌≡◌};
 ghost use Rattle.line_steps.specs.Memory.{found};
 ghost use Rattle.line_steps.specs.Lines.{action, outcome};
 ghost use Rattle.line_steps.specs.Rooms.{accessed};
-ghost use Rattle.line_steps.specs.Ready.{IsReady, IsCounted};
+ghost use Rattle.line_steps.specs.Ready.{RegistersFit, IsCounted};
 
 use crate::actors::{Actor, Outcome, Setup};
 use crate::memory::Memory;
@@ -35,7 +35,7 @@ pub fn stepped(
     line: Line,
 ) -> Outcome
     requires counted { IsCounted setup }
-    requires ready { IsReady setup memory.old.room a }
+    requires ready { RegistersFit setup memory.old.room a }
     ensures outcome { result ≡ outcome setup now me a line (found (action setup me a line) memory.old.words) }
     ensures memory { memory.new ≡ accessed (action setup me a line) memory.old }
 {

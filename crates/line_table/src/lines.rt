@@ -11,9 +11,9 @@ use crate::line_table;
 /// Which queue a machine runs.
 #[derive(Clone, Copy, Debug, PartialEq, Eq)]
 pub enum Kind {
-    /// The queue with a lock at each end.
+    /// The two-lock queue.
     TwoLock,
-    /// The queue without locks.
+    /// The non-blocking queue.
     NonBlocking,
 }
 

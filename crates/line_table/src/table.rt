@@ -42,7 +42,7 @@ macro_rules! line_table {
     (N4 ($setup:ident $now:ident $me:ident $a:ident $found:ident) $each:ident $given:tt) => {
         $each! { $given N4 { exchange Free ($a.top, raised($setup, $a.top, $a.next.node())) } {
             if $found.same($a.top) {
-                goes(with_node($setup.kind), takes($a.top.node(), $a.next.count(), $a))
+                goes(with_node($setup.kind), fills_hand($a.top.node(), $a.next.count(), $a))
             } else {
                 goes(Line::N1, $a)
             }
@@ -51,7 +51,7 @@ macro_rules! line_table {
     (N5 ($setup:ident $now:ident $me:ident $a:ident $found:ident) $each:ident $given:tt) => {
         $each! { $given N5 { exchange Fresh ($a.f, $a.f + 1) } {
             if $found == $a.f {
-                goes(with_node($setup.kind), takes($a.f + 1, 0, $a))
+                goes(with_node($setup.kind), fills_hand($a.f + 1, 0, $a))
             } else {
                 goes(Line::N1, $a)
             }
@@ -76,7 +76,7 @@ macro_rules! line_table {
     (F3 ($setup:ident $now:ident $me:ident $a:ident $found:ident) $each:ident $given:tt) => {
         $each! { $given F3 { exchange Free ($a.top, raised($setup, $a.top, $a.node)) } {
             if $found.same($a.top) {
-                freed($setup.kind, $now, $a.due, lets_go($a))
+                freed($setup.kind, $now, $a.due, empties_hand($a))
             } else {
                 goes(Line::F1, $a)
             }
@@ -126,7 +126,7 @@ macro_rules! line_table {
     (E9 ($setup:ident $now:ident $me:ident $a:ident $found:ident) $each:ident $given:tt) => {
         $each! { $given E9 { exchange Next($a.tail.node()) ($a.next, raised($setup, $a.next, $a.node)) } {
             if $found.same($a.next) {
-                let a = lets_go(Actor { due: Some(Reply::Done), ..$a });
+                let a = empties_hand(Actor { due: Some(Reply::Done), ..$a });
                 if a.tail.count() == $setup.limit {
                     effect($now, ends($now, Reply::Done, a))
                 } else {
@@ -160,7 +160,7 @@ macro_rules! line_table {
     };
     (D4 ($setup:ident $now:ident $me:ident $a:ident $found:ident) $each:ident $given:tt) => {
         $each! { $given D4 { load Next($a.head.node()) } {
-            goes(Line::D5, Actor { next: $found, noted: $now, ..$a })
+            goes(Line::D5, Actor { next: $found, empty_at: $now, ..$a })
         } }
     };
     (D5 ($setup:ident $now:ident $me:ident $a:ident $found:ident) $each:ident $given:tt) => {
@@ -201,7 +201,7 @@ macro_rules! line_table {
         $each! { $given D13 { exchange Head ($a.head, raised($setup, $a.head, $a.next.node())) } {
             if $found.same($a.head) {
                 let a = Actor { due: Some(Reply::Value($a.val)), ..$a };
-                effect($now, goes(Line::F1, takes(a.head.node(), a.next.count(), a)))
+                effect($now, goes(Line::F1, fills_hand(a.head.node(), a.next.count(), a)))
             } else {
                 goes(Line::D2, $a)
             }
@@ -234,7 +234,7 @@ macro_rules! line_table {
     };
     (A5 ($setup:ident $now:ident $me:ident $a:ident $found:ident) $each:ident $given:tt) => {
         $each! { $given A5 { store Next($a.tail.node()) (CountedRef::new($a.node, 0)) } {
-            effect($now, goes(Line::A6, lets_go(Actor { due: Some(Reply::Done), ..$a })))
+            effect($now, goes(Line::A6, empties_hand(Actor { due: Some(Reply::Done), ..$a })))
         } }
     };
     (A6 ($setup:ident $now:ident $me:ident $a:ident $found:ident) $each:ident $given:tt) => {
@@ -264,7 +264,7 @@ macro_rules! line_table {
     };
     (B3 ($setup:ident $now:ident $me:ident $a:ident $found:ident) $each:ident $given:tt) => {
         $each! { $given B3 { load Next($a.head.node()) } {
-            let a = Actor { next: $found, noted: $now, ..$a };
+            let a = Actor { next: $found, empty_at: $now, ..$a };
             if $found.is_null() {
                 goes(Line::B6, Actor { due: Some(Reply::Empty), ..a })
             } else {
@@ -286,7 +286,7 @@ macro_rules! line_table {
     (B5 ($setup:ident $now:ident $me:ident $a:ident $found:ident) $each:ident $given:tt) => {
         $each! { $given B5 { store Head (raised($setup, $a.head, $a.next.node())) } {
             let a = Actor { due: Some(Reply::Value($a.val)), ..$a };
-            effect($now, goes(Line::B6, takes(a.head.node(), a.next.count(), a)))
+            effect($now, goes(Line::B6, fills_hand(a.head.node(), a.next.count(), a)))
         } }
     };
     (B6 ($setup:ident $now:ident $me:ident $a:ident $found:ident) $each:ident $given:tt) => {

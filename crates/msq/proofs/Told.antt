@@ -5,7 +5,7 @@ use Rattle.line_table.specs.declared.lines.Line.{Line}
 use Rattle.line_steps.specs.declared.actors.Actor.{Actor}
 use Rattle.step_machine.specs.declared.actors.Stepped.{Stepped}
 use Rattle.step_machine.specs.declared.actors.Stepped.TheVariants.{Began, Went, Ended}
-use Rattle.step_machine.specs.Calls.{line_of, step_told, stepped_at}
+use Rattle.step_machine.specs.Calls.{line_of, step_answer, stepped_at}
 use Rattle.step_machine.specs.Machine.{World}
 
 -- the line that is told
@@ -18,12 +18,12 @@ line_in-stepped_at : (line : Line) (reply : Option Reply) (s : Stepped) → Some
 line_in-stepped_at line None s e = let same : stepped_at line None ≡ s = cc in rw (← same) refl
 line_in-stepped_at line (Some reply) s e = let same : stepped_at line (Some reply) ≡ s = cc in rw (← same) refl
 
-line_in_of : (w : World) (me : ℕ) (a : Actor) (s : Stepped) (line : Option Line) → step_told w me (Some (record a { line = line })) ≡ Some s → line_in s ≡ line
+line_in_of : (w : World) (me : ℕ) (a : Actor) (s : Stepped) (line : Option Line) → step_answer w me (Some (record a { line = line })) ≡ Some s → line_in s ≡ line
 line_in_of w me a s None e = absurd cc
 line_in_of w me a s (Some line) e = line_in-stepped_at line _ s e
 
 -- a step is told at the line before which the actor stood
-pub line_in_step : (w : World) (me : ℕ) (o : Option Actor) (s : Stepped) → step_told w me o ≡ Some s → line_in s ≡ line_of o
+pub line_in_step : (w : World) (me : ℕ) (o : Option Actor) (s : Stepped) → step_answer w me o ≡ Some s → line_in s ≡ line_of o
 line_in_step w me None s e = absurd cc
 line_in_step w me (Some a) s e = line_in_of w me a s a.line e
 

@@ -11,7 +11,7 @@ use Rattle.text_lines.specs.Grammars.{IsFirstFault}
 use Rattle.text_lines.specs.declared.causes.TextCause.{TextCause}
 use Rattle.step_machine.specs.declared.actors.Move.{Move}
 use Rattle.step_machine.specs.declared.actors.Move.TheVariants.{Step}
-use Rattle.step_machine.specs.Calls.{setup_of, line_of, BeginRefused, StepRefused, GiveRefused, IsBusy, IsIdle, IsSpent}
+use Rattle.step_machine.specs.Calls.{setup_from, line_of, BeginRefused, StepRefused, GiveRefused, IsBusy, IsIdle, IsSpent}
 use Rattle.step_machine.specs.Machine.{World, actor_of, opening, made, run}
 use Rattle.schedule_text.specs.declared.schedules.Event.{Event}
 use Rattle.schedule_text.specs.declared.schedules.Event.TheVariants.{Begin, Step as StepAt, Steps, Give}
@@ -25,7 +25,7 @@ world_after moves w = run (map made moves) w
 
 -- the world of a schedule's queue and actors in which nothing happened yet
 abbrev pub opening_of : Schedule → World
-opening_of s = opening (setup_of s.kind s.nodes s.limit) s.actors
+opening_of s = opening (setup_from s.kind s.nodes s.limit) s.actors
 
 -- the world that the moves of a schedule lead to; none where one of them can't be made
 abbrev pub world_of : Schedule → Option World

@@ -17,5 +17,5 @@ mod tests;
 use std::process::ExitCode;
 
 fn main(rt: HostRuntime) -> ExitCode {
-    ExitCode::from(program::obey(&rt))
+    ExitCode::from(program::run_program(&rt))
 }

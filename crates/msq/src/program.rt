@@ -13,7 +13,7 @@ use std::{env, io};
 /// was asked for, 1 where it was refused, 2 where the words were, 3 where a history was judged No.
 ///
 /// A refusal is one line on standard error.
-pub fn obey<R: Runtime + AllocGlobal>(rt: &R) -> u8 {
+pub fn run_program<R: Runtime + AllocGlobal>(rt: &R) -> u8 {
     let words = match words_of(rt) {
         Ok(words) => words,
         Err(error) if error.kind() == io::ErrorKind::InvalidData => {
@@ -69,11 +69,11 @@ fn outcome_on<R: Runtime + AllocGlobal, S: Source + Drop>(
 
 /// Standard error as a writer.
 #[derive(Drop)]
-struct Complaints<'a, R> {
+struct Stderr<'a, R> {
     rt: &'a R,
 }
 
-impl<R: Eprint> io::Write for Complaints<'_, R> {
+impl<R: Eprint> io::Write for Stderr<'_, R> {
     fn write(&mut self, bytes: &[u8]) -> io::Result<usize> {
         let Ok(text) = str::from_utf8(bytes) else {
             return Err(io::Error::from(io::ErrorKind::InvalidData));
@@ -89,7 +89,7 @@ impl<R: Eprint> io::Write for Complaints<'_, R> {
 
 /// The status of an outcome, whose fault, if any, is written to standard error.
 fn ended<R: Runtime>(rt: &R, outcome: Result<Verdict, Fault>) -> u8 {
-    end_of(outcome, &mut WriterSink::new(Complaints { rt }))
+    end_of(outcome, &mut WriterSink::new(Stderr { rt }))
 }
 
 /// The status of help that is shown on standard output.

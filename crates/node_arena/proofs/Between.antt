@@ -23,11 +23,11 @@ use Rattle.line_steps.specs.Memory.{node_at}
 use Rattle.line_steps.specs.Lines.{with_node, dequeues, gives_up, busy_or, to_pocket}
 use Rattle.line_steps.specs.Calling.{is_call, begun, from_pocket}
 use Rattle.step_machine.specs.declared.actors.Move.TheVariants.{Begin, Step, Give}
-use Rattle.step_machine.specs.Machine.{World, actor_of, rested, entry_or, with_actor, settled, begins, steps, given, gives, may_rest, rests, moved, rest_of, AnyMove, made, Rest, next_any}
-use Rattle.step_machine.proofs.Older.{WasIn}
+use Rattle.step_machine.specs.Machine.{World, actor_of, rested, entry_or, with_actor, after_outcome, begins, steps, given, gives, may_rest, rests, moved, rest_of, AnyMove, made, Rest, next_any}
+use Rattle.step_machine.proofs.StaleReferences.{IsCurrentOrStale}
 use Rattle.step_machine.proofs.Reached.{some_of}
-use Rattle.step_machine.proofs.StampsKept.{actor_cases}
-use Rattle.step_machine.proofs.TwoLockSound as two_lock_sound
+use Rattle.step_machine.proofs.StampsInvariants.{actor_cases}
+use Rattle.step_machine.proofs.TwoLockInvariant as two_lock_sound
 use Rattle.step_machine.proofs.NonBlockingLaws as non_blocking
 use Rattle.node_arena.specs.Traces.{Event, Traced, IsTraced, LeftNothing, KeepsWhatD4Found, actor_at, event_at, entries_at, step_at, traced_move, traced_next, traced_on, trace, first_trace}
 use Rattle.node_arena.proofs.Tracing.{traced_reached, traced_moves, traced_step_is, changed_here, changed_else}
@@ -112,8 +112,8 @@ keeps t u r q m h me b before last is path line null = ⊎_elim stays looks (m.e
         subst (λ (e : Event). LeftNothing u b e.entries) same (s.2 (ap (λ (e : Event). e.line) same ∙ line) null)
 
 -- a move that is no step: one actor has another state, with the same registers
-quiet : (t : Traced) (w : World) (me : ℕ) (a b : Actor) → actor_of t.world me ≡ Some a → ((you : ℕ) → actor_of w you ≡ actor_of (with_actor t.world me b) you) → LooksSame a b → Turns t (record t { world = w })
-quiet t w me a b is same looks =
+stutters : (t : Traced) (w : World) (me : ℕ) (a b : Actor) → actor_of t.world me ≡ Some a → ((you : ℕ) → actor_of w you ≡ actor_of (with_actor t.world me b) you) → LooksSame a b → Turns t (record t { world = w })
+stutters t w me a b is same looks =
     record {
       more = [];
       history = sym (append-nil t.history);
@@ -131,7 +131,7 @@ at_d4 : (t : Traced) (me : ℕ) (a : Actor) → IsTraced t → actor_of t.world 
     → LeftNothing (step_at t me a D4) (actor_at t.world.setup t me a D4) (event_at t.world.setup t me a D4).entries
 at_d4 t me a r is here null = record { some = omega arith; since = runs t.world.setup.kind refl }
   where
-    found : WasIn t.world.shared.head a.head → 1 ≤ a.head.node → (a.head.count < t.world.shared.head.count) ⊎ Plays empty (take (length (t.history ++ [])) (t.history ++ [])) empty
+    found : IsCurrentOrStale t.world.shared.head a.head → 1 ≤ a.head.node → (a.head.count < t.world.shared.head.count) ⊎ Plays empty (take (length (t.history ++ [])) (t.history ++ [])) empty
     found (inl e) low =
         inr (subst (λ es. Plays empty es empty) (sym (all_first (t.history ++ []) ∙ append-nil t.history))
         (leaves_nothing t r (subst (λ (x : Ref). 1 ≤ x.node) (sym e) low) (subst (λ (x : Ref). (node_at t.world.shared x.node).next.node ≡ 0) (sym e) null)))
@@ -168,7 +168,7 @@ turns : (t : Traced) (m : AnyMove) → IsTraced t → IfSome (next_any t.world m
 turns t (made (Begin me op)) r = go (actor_of t.world me) refl
   where
     call : (b : Bool) (a : Actor) → actor_of t.world me ≡ Some a → IfSome (if b then Some (with_actor t.world me (begun t.world.setup.kind me op a)) else None) (λ w. Turns t (record t { world = w }))
-    call true a is = quiet t (with_actor t.world me (begun t.world.setup.kind me op a)) me a (begun t.world.setup.kind me op a) is (λ you. refl) (begun_same t.world.setup.kind me op a)
+    call true a is = stutters t (with_actor t.world me (begun t.world.setup.kind me op a)) me a (begun t.world.setup.kind me op a) is (λ you. refl) (begun_same t.world.setup.kind me op a)
     call false a is = tt
 
     at : (a : Actor) (l : Option Line) → actor_of t.world me ≡ Some a → IfSome (begins t.world me op a l) (λ w. Turns t (record t { world = w }))
@@ -191,7 +191,7 @@ turns t (made (Give me)) r = go (actor_of t.world me) refl
   where
     up : (a : Actor) (l : Line) (o : Option Outcome) → actor_of t.world me ≡ Some a → IfSome o (λ p. LooksSame a p.actor) → IfSome (given t.world me a o) (λ w. Turns t (record t { world = w }))
     up a l None is h = tt
-    up a l (Some o) is h = quiet t (settled t.world me a t.world.shared o) me a (record o.actor { entry = Some (entry_or a.entry (length t.world.operations)) }) is (λ you. refl) h
+    up a l (Some o) is h = stutters t (after_outcome t.world me a t.world.shared o) me a (record o.actor { entry = Some (entry_or a.entry (length t.world.operations)) }) is (λ you. refl) h
 
     at : (a : Actor) (l : Option Line) → actor_of t.world me ≡ Some a → IfSome (gives t.world me a l) (λ w. Turns t (record t { world = w }))
     at a None is = tt
@@ -203,7 +203,7 @@ turns t (made (Give me)) r = go (actor_of t.world me) refl
 turns t (Rest me) r = go (actor_of t.world me) refl
   where
     may : (b : Bool) (a : Actor) → actor_of t.world me ≡ Some a → IfSome (if b then Some (with_actor t.world me (rested a)) else None) (λ w. Turns t (record t { world = w }))
-    may true a is = quiet t (with_actor t.world me (rested a)) me a (rested a) is (λ you. refl) (refl, refl)
+    may true a is = stutters t (with_actor t.world me (rested a)) me a (rested a) is (λ you. refl) (refl, refl)
     may false a is = tt
 
     at : (a : Actor) (l : Option Line) → actor_of t.world me ≡ Some a → IfSome (rests t.world me a l) (λ w. Turns t (record t { world = w }))

@@ -8,64 +8,64 @@ use Rattle.line_table.specs.declared.lines.Line.{Line}
 use Rattle.history.specs.declared.operations.Entry.{Entry}
 use Rattle.line_steps.specs.declared.actors.Actor.{Actor}
 use Rattle.line_steps.specs.Lines.{action}
-use Rattle.step_machine.specs.Tables.{PlaceStep, load_at, store_at, and_at, exchange_at, place_of, place_step}
+use Rattle.step_machine.specs.Tables.{WordStep, load_at, store_at, and_at, exchange_at, word_index, word_step}
 use Rattle.node_arena.specs.declared.views.Knowing.{Knowing}
 use Rattle.node_arena.specs.declared.arena.Arena.{Arena}
 use Rattle.node_arena.specs.declared.seats.Seat.{Seat}
 use Rattle.node_arena.specs.Traces.{entries_at, number_at, step_at}
-use Rattle.node_arena.specs.Leads.{Lead, led}
+use Rattle.node_arena.specs.Prologues.{Prologue, after_prologue}
 use Rattle.node_arena.specs.Seeing.{View, seated, knows}
 use Rattle.node_arena.specs.Plans.{Layout}
-use Rattle.node_arena.specs.Rule.{Holds, Steps, Fitted, Tells, TellsNothing, line_of}
+use Rattle.node_arena.specs.Rule.{Holds, Steps, Fitted, Tells, TellsNothing, line_or_first}
 use Rattle.history.specs.Entries.{is_push, is_pop}
 use Rattle.node_arena.specs.Seats.{MayStep, DidStep, DidSome, view, counting}
 use Rattle.node_arena.proofs.There.{stood, place_within}
-use Rattle.node_arena.proofs.Keeps.{becomes, allows}
+use Rattle.node_arena.proofs.StepsPreserve.{becomes, allows}
 use Rattle.node_arena.proofs.Counting.{Counts, loads_nothing, clears_nothing, stores_counted, wins_counted, loses_nothing}
 
 -- what a step on a word asks of the table
-pub asks : (r : Arena) (s : Seat) (lead : Lead) (l : Line) (x : PlaceStep) → MayStep r s lead l x
-    → (s.token.table_id ≡ r.table.shared.table_id) × (place_of x < r.table.shared.table_id.words)
-    × Allows {S = ℕ} (Holds r.table.shared.key) r.table.shared.table_id.slots s.token.id s.token.me (place_of x) (becomes x) (λ n m. Tells r.table.shared.key lead s.token.me n m)
-asks r s lead l x may = (
+pub asks : (r : Arena) (s : Seat) (prologue : Prologue) (l : Line) (x : WordStep) → MayStep r s prologue l x
+    → (s.token.table_id ≡ r.table.shared.table_id) × (word_index x < r.table.shared.table_id.words)
+    × Allows {S = ℕ} (Holds r.table.shared.key) r.table.shared.table_id.slots s.token.id s.token.me (word_index x) (becomes x) (λ n m. Tells r.table.shared.key prologue s.token.me n m)
+asks r s prologue l x may = (
   may.seat.sits.table,
   there,
-  allows r.plan r.table.shared.key r.table.shared.table_id.slots s.token.id s.token.me lead l x s.role may.seat.arena.key may.seat.arena.slots may.seat.sits.seat may.leads may.line
+  allows r.plan r.table.shared.key r.table.shared.table_id.slots s.token.id s.token.me prologue l x s.role may.seat.arena.key may.seat.arena.slots may.seat.sits.seat may.leads may.line
       (subst (λ n. slice_get r.plan.roles (n - 1) ≡ Some s.role) may.seat.sits.number may.seat.sits.role) may.permits may.access,
 )
   where
-    there : place_of x < r.table.shared.table_id.words
+    there : word_index x < r.table.shared.table_id.words
     there =
-        let h = place_within r.plan (view s).number (led r.plan.setup (view s).number lead (view s).actor) l (stood r.plan (view s) lead l may.seat.sits.fitted may.leads may.line) in
-        let e = ap place_of may.access in
+        let h = place_within r.plan (view s).number (after_prologue r.plan.setup (view s).number prologue (view s).actor) l (stood r.plan (view s) prologue l may.seat.sits.fitted may.leads may.line) in
+        let e = ap word_index may.access in
         omega (arith, h, e, may.seat.arena.words)
 
 -- a store is told nothing
-pub asks_store : (r : Arena) (s : Seat) (lead : Lead) (l : Line) (p n : ℕ) → MayStep r s lead l (store_at p n)
+pub asks_store : (r : Arena) (s : Seat) (prologue : Prologue) (l : Line) (p n : ℕ) → MayStep r s prologue l (store_at p n)
     → (s.token.table_id ≡ r.table.shared.table_id) × (p < r.table.shared.table_id.words)
-    × Allows {S = ℕ} (Holds r.table.shared.key) r.table.shared.table_id.slots s.token.id s.token.me p (λ _. n) (λ _ m. TellsNothing r.table.shared.key lead s.token.me m)
-asks_store r s lead l p n may =
-    let h = asks r s lead l (store_at p n) may in
+    × Allows {S = ℕ} (Holds r.table.shared.key) r.table.shared.table_id.slots s.token.id s.token.me p (λ _. n) (λ _ m. TellsNothing r.table.shared.key prologue s.token.me m)
+asks_store r s prologue l p n may =
+    let h = asks r s prologue l (store_at p n) may in
     (h.0, h.1, λ st holds size mine fit. let q = h.2 st holds size mine fit in (q.0, q.1, q.2, q.3, (_, q.4)))
 
 -- what a seat is told of its step
-told_at : (r : Arena) (s : Seat) (me : Me ℕ View) (lead : Lead) (l : Line) (x : PlaceStep) (n : ℕ) → MayStep r s lead l x → Tells r.table.shared.key lead s.token.me n me → Steps r.plan lead l n (view s) (knows me.0)
-told_at r s me lead l x n may tells =
-    subst (λ (k : Line). Steps r.plan lead k n (view s) (knows me.0)) (ap line_of may.line)
-    (subst (λ (z : Layout). Steps z lead (line_of (led z.setup (view s).number lead (view s).actor).line) n (view s) (knows me.0)) may.seat.arena.key tells.1)
+steps_at : (r : Arena) (s : Seat) (me : Me ℕ View) (prologue : Prologue) (l : Line) (x : WordStep) (n : ℕ) → MayStep r s prologue l x → Tells r.table.shared.key prologue s.token.me n me → Steps r.plan prologue l n (view s) (knows me.0)
+steps_at r s me prologue l x n may tells =
+    subst (λ (k : Line). Steps r.plan prologue k n (view s) (knows me.0)) (ap line_or_first may.line)
+    (subst (λ (z : Layout). Steps z prologue (line_or_first (after_prologue z.setup (view s).number prologue (view s).actor).line) n (view s) (knows me.0)) may.seat.arena.key tells.1)
 
 -- the seat after its step, which counts what the step added
-module _ (r : Arena) (s : Seat) (t : Token ℕ Knowing) (lead : Lead) (l : Line) (x : PlaceStep) (n : ℕ) (may : MayStep r s lead l x) (same : t.table_id ≡ s.token.table_id) (tells : Tells r.table.shared.key lead s.token.me n t.me) where
-  abbrev steps : Steps r.plan lead l n (view s) (knows t.me.0)
-  steps = told_at r s t.me lead l x n may tells
+module _ (r : Arena) (s : Seat) (t : Token ℕ Knowing) (prologue : Prologue) (l : Line) (x : WordStep) (n : ℕ) (may : MayStep r s prologue l x) (same : t.table_id ≡ s.token.table_id) (tells : Tells r.table.shared.key prologue s.token.me n t.me) where
+  abbrev steps : Steps r.plan prologue l n (view s) (knows t.me.0)
+  steps = steps_at r s t.me prologue l x n may tells
 
   abbrev a : Actor
-  a = led r.plan.setup (view s).number lead (view s).actor
+  a = after_prologue r.plan.setup (view s).number prologue (view s).actor
 
   abbrev es : List Entry
   es = entries_at r.plan.setup steps.was (view s).number a l
 
-  did : (u : Seat) → u.token ≡ t → u.number ≡ s.number → u.role ≡ s.role → u.pocket ≡ s.pocket → u.failed ≡ s.failed → u.pushes ≡ s.pushes + count_by is_push es → u.pops ≡ s.pops + count_by is_pop es → DidStep r s u lead l n
+  did : (u : Seat) → u.token ≡ t → u.number ≡ s.number → u.role ≡ s.role → u.pocket ≡ s.pocket → u.failed ≡ s.failed → u.pushes ≡ s.pushes + count_by is_push es → u.pops ≡ s.pops + count_by is_pop es → DidStep r s u prologue l n
   did u token number role pocket failed pushes pops = record {
     seat = record {
       arena = may.seat.arena;
@@ -80,42 +80,42 @@ module _ (r : Arena) (s : Seat) (t : Token ℕ Knowing) (lead : Lead) (l : Line)
       };
     };
     stored = record { number = number; role = role; pocket = pocket; failed = failed };
-    told = subst (λ y. Steps r.plan lead l n (view s) (knows y.me.0)) (sym token) steps;
+    told = subst (λ y. Steps r.plan prologue l n (view s) (knows y.me.0)) (sym token) steps;
   }
 
   abbrev stepped : Seat
   stepped = record s { token = t }
 
-  did_nothing : es ≡ [] → DidStep r s stepped lead l n
+  did_nothing : es ≡ [] → DidStep r s stepped prologue l n
   did_nothing e = did stepped refl refl refl refl refl (let h : count_by is_push es ≡ 0 = ap (count_by is_push) e in omega arith) (let h : count_by is_pop es ≡ 0 = ap (count_by is_pop) e in omega arith)
 
-  did_counted : Counts l es → DidStep r s (counting stepped l) lead l n
+  did_counted : Counts l es → DidStep r s (counting stepped l) prologue l n
   did_counted c = did (counting stepped l) refl refl refl refl refl (ap (λ k. s.pushes + k) (sym c.pushes)) (ap (λ k. s.pops + k) (sym c.pops))
 
 -- the seat's actor, as it stands before the step
-abbrev led_actor : Arena → Seat → Lead → Actor
-led_actor r s lead = led r.plan.setup (view s).number lead (view s).actor
+abbrev led_actor : Arena → Seat → Prologue → Actor
+led_actor r s prologue = after_prologue r.plan.setup (view s).number prologue (view s).actor
 
 -- what a load, a fetch_and, a store, and an exchange that is won or lost answer
-pub loaded : (r : Arena) (s : Seat) (t : Token ℕ Knowing) (lead : Lead) (l : Line) (p n : ℕ) → MayStep r s lead l (load_at p) → (t.table_id ≡ s.token.table_id) × (t.id ≡ s.token.id) × Tells r.table.shared.key lead s.token.me n t.me → DidStep r s (record s { token = t }) lead l n
-loaded r s t lead l p n may told = did_nothing r s t lead l (load_at p) n may told.0 told.2 (loads_nothing r.plan.setup (view s).number (led_actor r s lead) l p _ may.access)
+pub loaded : (r : Arena) (s : Seat) (t : Token ℕ Knowing) (prologue : Prologue) (l : Line) (p n : ℕ) → MayStep r s prologue l (load_at p) → (t.table_id ≡ s.token.table_id) × (t.id ≡ s.token.id) × Tells r.table.shared.key prologue s.token.me n t.me → DidStep r s (record s { token = t }) prologue l n
+loaded r s t prologue l p n may told = did_nothing r s t prologue l (load_at p) n may told.0 told.2 (loads_nothing r.plan.setup (view s).number (led_actor r s prologue) l p _ may.access)
 
-pub cleared : (r : Arena) (s : Seat) (t : Token ℕ Knowing) (lead : Lead) (l : Line) (p mask n : ℕ) → MayStep r s lead l (and_at p mask) → (t.table_id ≡ s.token.table_id) × (t.id ≡ s.token.id) × Tells r.table.shared.key lead s.token.me n t.me → DidStep r s (record s { token = t }) lead l n
-cleared r s t lead l p mask n may told = did_nothing r s t lead l (and_at p mask) n may told.0 told.2 (clears_nothing r.plan.setup (view s).number (led_actor r s lead) l p mask _ may.access)
+pub cleared : (r : Arena) (s : Seat) (t : Token ℕ Knowing) (prologue : Prologue) (l : Line) (p mask n : ℕ) → MayStep r s prologue l (and_at p mask) → (t.table_id ≡ s.token.table_id) × (t.id ≡ s.token.id) × Tells r.table.shared.key prologue s.token.me n t.me → DidStep r s (record s { token = t }) prologue l n
+cleared r s t prologue l p mask n may told = did_nothing r s t prologue l (and_at p mask) n may told.0 told.2 (clears_nothing r.plan.setup (view s).number (led_actor r s prologue) l p mask _ may.access)
 
-pub stored : (r : Arena) (s : Seat) (t : Token ℕ Knowing) (lead : Lead) (l : Line) (p n : ℕ) → MayStep r s lead l (store_at p n) → (t.table_id ≡ s.token.table_id) × (t.id ≡ s.token.id) × TellsNothing r.table.shared.key lead s.token.me t.me → DidSome r s (counting (record s { token = t }) l) lead l
-stored r s t lead l p n may told = (told.2.0, did_counted r s t lead l (store_at p n) told.2.0 may told.0 told.2.1 (stores_counted r.plan.setup (view s).number (led_actor r s lead) l p n _ may.access))
+pub stored : (r : Arena) (s : Seat) (t : Token ℕ Knowing) (prologue : Prologue) (l : Line) (p n : ℕ) → MayStep r s prologue l (store_at p n) → (t.table_id ≡ s.token.table_id) × (t.id ≡ s.token.id) × TellsNothing r.table.shared.key prologue s.token.me t.me → DidSome r s (counting (record s { token = t }) l) prologue l
+stored r s t prologue l p n may told = (told.2.0, did_counted r s t prologue l (store_at p n) told.2.0 may told.0 told.2.1 (stores_counted r.plan.setup (view s).number (led_actor r s prologue) l p n _ may.access))
 
-module _ (r : Arena) (s : Seat) (t : Token ℕ Knowing) (lead : Lead) (l : Line) (p old new n : ℕ) (may : MayStep r s lead l (exchange_at p old new)) (told : (t.table_id ≡ s.token.table_id) × (t.id ≡ s.token.id) × Tells r.table.shared.key lead s.token.me n t.me) where
-  abbrev at : Steps r.plan lead l n (view s) (knows t.me.0)
-  at = told_at r s t.me lead l (exchange_at p old new) n may told.2
+module _ (r : Arena) (s : Seat) (t : Token ℕ Knowing) (prologue : Prologue) (l : Line) (p old new n : ℕ) (may : MayStep r s prologue l (exchange_at p old new)) (told : (t.table_id ≡ s.token.table_id) × (t.id ≡ s.token.id) × Tells r.table.shared.key prologue s.token.me n t.me) where
+  abbrev at : Steps r.plan prologue l n (view s) (knows t.me.0)
+  at = steps_at r s t.me prologue l (exchange_at p old new) n may told.2
 
-  pub won : n ≡ old → DidStep r s (counting (record s { token = t }) l) lead l n
-  won e = did_counted r s t lead l (exchange_at p old new) n may told.0 told.2
-      (subst (λ z. place_step (action z (view s).number (led_actor r s lead) l) ≡ exchange_at p old new → number_at z at.was (view s).number (led_actor r s lead) l ≡ old → Counts l (entries_at z at.was (view s).number (led_actor r s lead) l)) at.setup
-      (wins_counted at.was (view s).number (led_actor r s lead) p old new at.reached at.before l at.line) may.access (sym at.found ∙ e))
+  pub won : n ≡ old → DidStep r s (counting (record s { token = t }) l) prologue l n
+  won e = did_counted r s t prologue l (exchange_at p old new) n may told.0 told.2
+      (subst (λ z. word_step (action z (view s).number (led_actor r s prologue) l) ≡ exchange_at p old new → number_at z at.was (view s).number (led_actor r s prologue) l ≡ old → Counts l (entries_at z at.was (view s).number (led_actor r s prologue) l)) at.setup
+      (wins_counted at.was (view s).number (led_actor r s prologue) p old new at.reached at.before l at.line) may.access (sym at.found ∙ e))
 
-  pub lost : n ≢ old → DidStep r s (record s { token = t }) lead l n
-  lost ne = did_nothing r s t lead l (exchange_at p old new) n may told.0 told.2
-      (subst (λ z. place_step (action z (view s).number (led_actor r s lead) l) ≡ exchange_at p old new → number_at z at.was (view s).number (led_actor r s lead) l ≢ old → entries_at z at.was (view s).number (led_actor r s lead) l ≡ []) at.setup
-      (loses_nothing at.was (view s).number (led_actor r s lead) p old new at.reached at.before l at.line) may.access (λ e. ne (at.found ∙ e)))
+  pub lost : n ≢ old → DidStep r s (record s { token = t }) prologue l n
+  lost ne = did_nothing r s t prologue l (exchange_at p old new) n may told.0 told.2
+      (subst (λ z. word_step (action z (view s).number (led_actor r s prologue) l) ≡ exchange_at p old new → number_at z at.was (view s).number (led_actor r s prologue) l ≢ old → entries_at z at.was (view s).number (led_actor r s prologue) l ≡ []) at.setup
+      (loses_nothing at.was (view s).number (led_actor r s prologue) p old new at.reached at.before l at.line) may.access (λ e. ne (at.found ∙ e)))

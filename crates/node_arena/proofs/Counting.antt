@@ -12,7 +12,7 @@ use Rattle.line_steps.specs.Memory.{Word, Head, Next, Content, content, Found, s
 use Rattle.line_steps.specs.Lines.{action}
 use Rattle.step_machine.specs.Words.{encoded}
 use Rattle.step_machine.specs.Machine.{actor_of}
-use Rattle.step_machine.specs.Tables.{PlaceStep, load_at, store_at, and_at, exchange_at, place_step, ContentFits, ActionFits}
+use Rattle.step_machine.specs.Tables.{WordStep, load_at, store_at, and_at, exchange_at, word_step, ContentFits, ActionFits}
 use Rattle.step_machine.proofs.Tables.{same_content}
 use Rattle.step_machine.proofs.Fits.{shared_fits, access_fits}
 use Rattle.step_machine.proofs.Reached.{reached_in_range}
@@ -27,7 +27,7 @@ pub record Counts (l : Line) (es : List Entry) : Type 0 where
   pub pops : count_by is_pop es ≡ pops_at l
 
 -- a load adds nothing
-pub loads_nothing : (s : Setup) (me : ℕ) (a : Actor) (l : Line) (p : ℕ) (c : Found (action s me a l)) → place_step (action s me a l) ≡ load_at p → entries_of s me a l c ≡ []
+pub loads_nothing : (s : Setup) (me : ℕ) (a : Actor) (l : Line) (p : ℕ) (c : Found (action s me a l)) → word_step (action s me a l) ≡ load_at p → entries_of s me a l c ≡ []
 loads_nothing s me a E9 p c e = cc
 loads_nothing s me a D13 p c e = cc
 loads_nothing s me a A5 p c e = cc
@@ -35,7 +35,7 @@ loads_nothing s me a B5 p c e = cc
 loads_nothing s me a _ p c e = refl
 
 -- a fetch_and adds nothing
-pub clears_nothing : (s : Setup) (me : ℕ) (a : Actor) (l : Line) (p mask : ℕ) (c : Found (action s me a l)) → place_step (action s me a l) ≡ and_at p mask → entries_of s me a l c ≡ []
+pub clears_nothing : (s : Setup) (me : ℕ) (a : Actor) (l : Line) (p mask : ℕ) (c : Found (action s me a l)) → word_step (action s me a l) ≡ and_at p mask → entries_of s me a l c ≡ []
 clears_nothing s me a E9 p mask c e = cc
 clears_nothing s me a D13 p mask c e = cc
 clears_nothing s me a A5 p mask c e = cc
@@ -43,7 +43,7 @@ clears_nothing s me a B5 p mask c e = cc
 clears_nothing s me a _ p mask c e = refl
 
 -- a store adds what its line counts
-pub stores_counted : (s : Setup) (me : ℕ) (a : Actor) (l : Line) (p n : ℕ) (c : Found (action s me a l)) → place_step (action s me a l) ≡ store_at p n → Counts l (entries_of s me a l c)
+pub stores_counted : (s : Setup) (me : ℕ) (a : Actor) (l : Line) (p n : ℕ) (c : Found (action s me a l)) → word_step (action s me a l) ≡ store_at p n → Counts l (entries_of s me a l c)
 stores_counted s me a E9 p n c e = cc
 stores_counted s me a D13 p n c e = cc
 stores_counted s me a A5 p n c e = record { pushes = refl; pops = refl }
@@ -51,7 +51,7 @@ stores_counted s me a B5 p n c e = record { pushes = refl; pops = refl }
 stores_counted s me a _ p n c e = record { pushes = refl; pops = refl }
 
 -- the number that an exchange compares with
-old_of : PlaceStep → ℕ
+old_of : WordStep → ℕ
 old_of (load_at p) = 0
 old_of (store_at p n) = 0
 old_of (and_at p mask) = 0
@@ -69,16 +69,16 @@ module _ (t : Traced) (me : ℕ) (a : Actor) (p old new : ℕ) (r : IsTraced t) 
   given : (l : Line) → a.line ≡ Some l → ActionFits (action t.world.setup me a l)
   given l here = access_fits t.world me a l (reached_in_range t.world (traced_reached t r)) at here
 
-  won_e9 : a.line ≡ Some E9 → place_step (action t.world.setup me a E9) ≡ exchange_at p old new → same_ref (content (Next a.tail.node) t.world.shared) a.next ≡ nat_eq (number_at t.world.setup t me a E9) old
+  won_e9 : a.line ≡ Some E9 → word_step (action t.world.setup me a E9) ≡ exchange_at p old new → same_ref (content (Next a.tail.node) t.world.shared) a.next ≡ nat_eq (number_at t.world.setup t me a E9) old
   unfolding old_of
   won_e9 here e = won_is E9 (Next a.tail.node) (content (Next a.tail.node) t.world.shared) a.next (fits (Next a.tail.node)) (given E9 here).0 (ap old_of e)
 
-  won_d13 : a.line ≡ Some D13 → place_step (action t.world.setup me a D13) ≡ exchange_at p old new → same_ref t.world.shared.head a.head ≡ nat_eq (number_at t.world.setup t me a D13) old
+  won_d13 : a.line ≡ Some D13 → word_step (action t.world.setup me a D13) ≡ exchange_at p old new → same_ref t.world.shared.head a.head ≡ nat_eq (number_at t.world.setup t me a D13) old
   unfolding old_of
   won_d13 here e = won_is D13 Head t.world.shared.head a.head (fits Head) (given D13 here).0 (ap old_of e)
 
   -- an exchange that is won adds what its line counts
-  pub wins_counted : (l : Line) → a.line ≡ Some l → place_step (action t.world.setup me a l) ≡ exchange_at p old new → number_at t.world.setup t me a l ≡ old → Counts l (entries_at t.world.setup t me a l)
+  pub wins_counted : (l : Line) → a.line ≡ Some l → word_step (action t.world.setup me a l) ≡ exchange_at p old new → number_at t.world.setup t me a l ≡ old → Counts l (entries_at t.world.setup t me a l)
   wins_counted E9 here e n = subst (λ b. Counts E9 (if b then Push me a.val.body ∷ [] else [])) (sym (won_e9 here e ∙ eq-eqb _ _ n)) (record { pushes = refl; pops = refl })
   wins_counted D13 here e n = subst (λ b. Counts D13 (if b then Pop me a.val ∷ [] else [])) (sym (won_d13 here e ∙ eq-eqb _ _ n)) (record { pushes = refl; pops = refl })
   wins_counted A5 here e n = cc
@@ -86,7 +86,7 @@ module _ (t : Traced) (me : ℕ) (a : Actor) (p old new : ℕ) (r : IsTraced t) 
   wins_counted _ here e n = record { pushes = refl; pops = refl }
 
   -- an exchange that is lost adds nothing
-  pub loses_nothing : (l : Line) → a.line ≡ Some l → place_step (action t.world.setup me a l) ≡ exchange_at p old new → number_at t.world.setup t me a l ≢ old → entries_at t.world.setup t me a l ≡ []
+  pub loses_nothing : (l : Line) → a.line ≡ Some l → word_step (action t.world.setup me a l) ≡ exchange_at p old new → number_at t.world.setup t me a l ≢ old → entries_at t.world.setup t me a l ≡ []
   loses_nothing E9 here e n = ap (λ b. if b then Push me a.val.body ∷ [] else []) (won_e9 here e ∙ ne_eqb _ _ n)
   loses_nothing D13 here e n = ap (λ b. if b then Pop me a.val ∷ [] else []) (won_d13 here e ∙ ne_eqb _ _ n)
   loses_nothing A5 here e n = cc

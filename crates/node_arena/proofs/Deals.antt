@@ -13,21 +13,21 @@ use Rattle.node_arena.specs.declared.views.Knowing.{Knowing}
 use Rattle.atomic_table.proofs.Lists.{at_set}
 use Rattle.line_steps.specs.declared.actors.Setup.{Setup}
 use Rattle.line_steps.specs.Memory.{blank}
-use Rattle.step_machine.specs.Words.{words_of, node_words}
+use Rattle.step_machine.specs.Words.{memory_words, node_words}
 use Rattle.step_machine.specs.Machine.{World, idle, actor_of, IsSized}
 use Rattle.step_machine.specs.Machine as machine
 use Rattle.node_arena.specs.declared.seats.Seat.{Seat}
 use Rattle.node_arena.specs.Traces.{Traced, first_trace, changed}
 use Rattle.node_arena.specs.declared.arena.Arena.{Arena}
-use Rattle.node_arena.specs.Leads.{at_rest}
+use Rattle.node_arena.specs.Prologues.{at_rest}
 use Rattle.history.specs.Entries.{is_push, is_pop}
 use Rattle.node_arena.specs.Seats.{IsArena}
-use Rattle.node_arena.specs.Seeing.{Knows, View, keeper, seated, members, knows, new_seat, dealt_left, dealt_right}
-use Rattle.node_arena.specs.Plans.{Layout, IsPlanned, IsPermitted, IsTable}
+use Rattle.node_arena.specs.Seeing.{SeatView, View, keeper, seated, members, knows, new_seat, dealt_left, dealt_right}
+use Rattle.node_arena.specs.Plans.{Layout, IsPlanned, RolesPermit, IsTable}
 use Rattle.node_arena.specs.Rule.{Fits, Holds, Fitted, first_view}
-use Rattle.node_arena.specs.Making.{first_words, IsDealt, AreDealt, IsNewSeat}
+use Rattle.node_arena.specs.Making.{first_memory_words, IsDealt, AreDealt, IsNewSeat}
 use Rattle.node_arena.proofs.Tracing.{changed_here, changed_else}
-use Rattle.node_arena.proofs.Keeps.{one_of}
+use Rattle.node_arena.proofs.StepsPreserve.{one_of}
 
 pub at_end : {A : Type 0} (l : List A) (a b : A) (j : ℕ) → get_elem? (l ++ a ∷ []) j ≡ some b → (get_elem? l j ≡ some b) ⊎ ((j ≡ length l) × (a ≡ b))
 at_end [] a b zero e = inr (refl, some-injective a b e)
@@ -50,7 +50,7 @@ blank_words (suc k) zero e = absurd (omega arith)
 blank_words (suc k) (suc zero) e = absurd (omega arith)
 blank_words (suc k) (suc (suc m)) e = ap (λ ws. 0 ∷ 0 ∷ ws) (blank_words k m (omega arith))
 
-opening_words : (s : Setup) (actors : ℕ) → first_words s.size ≡ words_of (machine.opening s actors).shared
+opening_words : (s : Setup) (actors : ℕ) → first_memory_words s.size ≡ memory_words (machine.opening s actors).shared
 opening_words s actors = ap (λ ws. 1 ∷ 0 ∷ 1 ∷ 1 ∷ 0 ∷ 0 ∷ ws) (sym (blank_words s.size (2 * s.size) refl))
 
 idle_at : (n k : ℕ) → k < n → slice_get (replicate n idle) k ≡ Some idle
@@ -62,7 +62,7 @@ idle_actor : (s : Setup) (n k : ℕ) → 1 ≤ k → k ≤ n → actor_of (machi
 idle_actor s n k from_one few = ap (λ b. if b then None else slice_get (replicate n idle) (k - 1)) (ne_eqb k 0 (omega arith)) ∙ idle_at n (k - 1) (omega arith)
 
 -- the rule holds of a new table, whose words are the first ones
-pub opens : (z : Layout) (words : List ℕ) → IsPlanned z → words ≡ first_words z.setup.size → Holds z (opening {S = ℕ} words [] (first_view z))
+pub opens : (z : Layout) (words : List ℕ) → IsPlanned z → words ≡ first_memory_words z.setup.size → Holds z (opening {S = ℕ} words [] (first_view z))
 opens z words size e =
     let t : Traced = first_trace z.setup (length z.roles) in
     record {
@@ -87,18 +87,18 @@ deals z id n few s h mine =
     let k = h.kept id n mine in
     let l : ℕ = length (set s.views id (keeper (n + 1))) in
     let own : ℕ → ℕ × ℕ = changed h.owner n (l, 0) in
-    let P : ℕ → ℕ → Knows → Type 0 = λ j i o. Fits h.trace o × (own o.number ≡ (j, i)) × (o.number < n + 1) in
+    let P : ℕ → ℕ → SeatView → Type 0 = λ j i o. Fits h.trace o × (own o.number ≡ (j, i)) × (o.number < n + 1) in
     let fresh = h.undealt n (let e = k.1 in omega arith) few in
     let new : P l 0 (new_seat n) = (record { actor = fresh.actor; path = fresh.path; rest = h.trace.history; begins = refl; own = fresh.own; known = refl }, changed_here h.owner n (l, 0), omega arith) in
-    let old : (j i : ℕ) (u : View) (o : Knows) → get_elem? s.views j ≡ some u → get_elem? (members u) i ≡ some o → P j i o = λ j i u o a b.
+    let old : (j i : ℕ) (u : View) (o : SeatView) → get_elem? s.views j ≡ some u → get_elem? (members u) i ≡ some o → P j i o = λ j i u o a b.
     let t = h.owned j i u o a b in let lt : o.number < n = let x = t.1 in let e = k.1 in omega arith in (h.fits j i u o a b, changed_else h.owner n (l, 0) o.number (λ e. omega arith) ∙ t.0, omega arith) in
-    let all : (j i : ℕ) (u : View) (o : Knows) → get_elem? (set s.views id (keeper (n + 1)) ++ seated (new_seat n) ∷ []) j ≡ some u → get_elem? (members u) i ≡ some o → P j i o = λ j i u o a b.
+    let all : (j i : ℕ) (u : View) (o : SeatView) → get_elem? (set s.views id (keeper (n + 1)) ++ seated (new_seat n) ∷ []) j ≡ some u → get_elem? (members u) i ≡ some o → P j i o = λ j i u o a b.
     ⊎_elim
     (λ (t : get_elem? (set s.views id (keeper (n + 1))) j ≡ some u).
     ⊎_elim (λ (q : (j ≡ id) × (keeper (n + 1) ≡ u)). subst (λ x. P x i o) (sym q.0) (old id i (keeper n) o mine (ap (λ (y : View). get_elem? (members y) i) q.1 ∙ b)))
     (λ (q : (j ≢ id) × (get_elem? s.views j ≡ some u)). old j i u o q.1 b)
     (at_set s.views id j (keeper (n + 1)) u t))
-    (λ (t : (j ≡ l) × (seated (new_seat n) ≡ u)). let q = one_of (new_seat n) o i (ap (λ (y : View). get_elem? (members y) i) t.1 ∙ b) in subst (λ (y : ℕ × ℕ × Knows). P y.0 y.1 y.2) (λ c. (sym t.0 c, sym q.0 c, q.1 c)) new)
+    (λ (t : (j ≡ l) × (seated (new_seat n) ≡ u)). let q = one_of (new_seat n) o i (ap (λ (y : View). get_elem? (members y) i) t.1 ∙ b) in subst (λ (y : ℕ × ℕ × SeatView). P y.0 y.1 y.2) (λ c. (sym t.0 c, sym q.0 c, q.1 c)) new)
     (at_end (set s.views id (keeper (n + 1))) (seated (new_seat n)) u j a) in
     record {
       sized = h.sized;
@@ -150,10 +150,10 @@ new_seats r seats arena all k s got =
     }
 
 -- a table of the first words, made about a plan, is laid out for it
-pub laid : (z about : Layout) (t : TableId) → IsPlanned z → about ≡ z → t.words ≡ length (first_words z.setup.size) → t.slots ≡ 0 → IsTable z about t
+pub laid : (z about : Layout) (t : TableId) → IsPlanned z → about ≡ z → t.words ≡ length (first_memory_words z.setup.size) → t.slots ≡ 0 → IsTable z about t
 laid z about t sized key words slots =
     let e : length (replicate {A = ℕ} (2 * z.setup.size) 0) ≡ 2 * z.setup.size = length-replicate {A = ℕ} (2 * z.setup.size) 0 in
-    record { sized = sized; key = key; words = words ∙ (let h : length (first_words z.setup.size) ≡ 6 + 2 * z.setup.size = omega arith in h); slots = slots }
+    record { sized = sized; key = key; words = words ∙ (let h : length (first_memory_words z.setup.size) ≡ 6 + 2 * z.setup.size = omega arith in h); slots = slots }
 
 -- a new seat fits to the world in which nothing happened yet
 newly : (z : Layout) (n : ℕ) → IsPlanned z → 1 ≤ n → n ≤ length z.roles → Fitted z (new_seat n)
@@ -162,7 +162,7 @@ newly z n sized least few =
       trace = first_trace z.setup (length z.roles);
       reached = record { actors = length z.roles; moves = []; sized = sized; led = refl };
       setup = refl;
-      permitted = All-nil (IsPermitted z.roles);
+      permitted = All-nil (RolesPermit z.roles);
       fits = record { actor = idle_actor z.setup (length z.roles) n least few; path = refl; rest = []; begins = refl; own = refl; known = refl };
     }
 
@@ -177,8 +177,8 @@ dealt z t n role k sized least few permits table me =
         seat = me ∙ ap (λ v. (seated v, [])) (sym is);
         number = sym (ap (λ v. v.number) is);
         role = permits;
-        pushes = ap (λ (v : Knows). count_by is_push v.mine) (sym is);
-        pops = ap (λ (v : Knows). count_by is_pop v.mine) (sym is);
+        pushes = ap (λ (v : SeatView). count_by is_push v.mine) (sym is);
+        pops = ap (λ (v : SeatView). count_by is_pop v.mine) (sym is);
         fitted = subst (Fitted z) (sym is) (newly z n sized least few);
       };
       view = is;

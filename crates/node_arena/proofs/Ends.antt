@@ -21,7 +21,7 @@ use Rattle.history.proofs.Sums.{AreApart, closes}
 use Rattle.line_steps.specs.declared.actors.Node.{Node}
 use Rattle.line_steps.specs.Memory.{Shared, Head, Next, Value_of, node_at}
 use Rattle.step_machine.specs.Machine.{World, IsReached}
-use Rattle.step_machine.specs.Words.{node_words, words_of}
+use Rattle.step_machine.specs.Words.{node_words, memory_words}
 use Rattle.step_machine.specs.Tables.{SharedFits}
 use Rattle.step_machine.specs.Range.{WorldInRange}
 use Rattle.step_machine.specs.Places.{IsChain}
@@ -32,13 +32,13 @@ use Rattle.step_machine.proofs.Fits.{shared_fits}
 use Rattle.step_machine.proofs.Words.{reading}
 use Rattle.step_machine.proofs.Chains.{chain_some}
 use Rattle.step_machine.proofs.PlaceOf.{few}
-use Rattle.step_machine.proofs.TwoLockSound as two_lock
-use Rattle.step_machine.proofs.NonBlockingSound as non_blocking
+use Rattle.step_machine.proofs.TwoLockInvariant as two_lock
+use Rattle.step_machine.proofs.NonBlockingInvariant as non_blocking
 use Rattle.node_arena.specs.declared.arena.Arena.{Arena}
 use Rattle.node_arena.specs.declared.seats.Seat.{Seat}
 use Rattle.node_arena.specs.Traces.{Traced, IsTraced}
 use Rattle.node_arena.specs.Seeing.{View, gathered}
-use Rattle.node_arena.specs.Plans.{Layout, IsPermitted}
+use Rattle.node_arena.specs.Plans.{Layout, RolesPermit}
 use Rattle.node_arena.specs.Rule.{Fits, Holds}
 use Rattle.node_arena.specs.Seats.{IsReady, view, known_of, permits_of}
 use Rattle.node_arena.specs.Closing.{HasToken, CountsItsOwn}
@@ -55,38 +55,38 @@ length-node_words (n ∷ ns) = omega (arith, length-node_words ns)
 
 -- the words of a memory whose contents fit
 module _ (m : Shared) (fits : SharedFits m) where
-  long : length (words_of m) ≡ 6 + 2 * length m.nodes
+  long : length (memory_words m) ≡ 6 + 2 * length m.nodes
   long = omega (arith, length-node_words m.nodes)
 
-  head_is : ref_at (words_of m) 2 ≡ m.head
-  head_is = (read_back m.head (slice_index (words_of m) 2) (fits Head) refl).0
+  head_is : ref_at (memory_words m) 2 ≡ m.head
+  head_is = (read_back m.head (slice_index (memory_words m) 2) (fits Head) refl).0
 
-  has_head : HasRef (words_of m) 2
-  has_head = record { there = omega (arith, long); named = (read_back m.head (slice_index (words_of m) 2) (fits Head) refl).1 }
+  has_head : HasRef (memory_words m) 2
+  has_head = record { there = omega (arith, long); named = (read_back m.head (slice_index (memory_words m) 2) (fits Head) refl).1 }
 
   module _ (n : ℕ) (low : 1 ≤ n) (high : n ≤ length m.nodes) where
-    next_is : ref_at (words_of m) (4 + 2 * n) ≡ (node_at m n).next
-    next_is = (read_back (node_at m n).next (slice_index (words_of m) (4 + 2 * n)) (fits (Next n)) (reading m (Next n) (low, high))).0
+    next_is : ref_at (memory_words m) (4 + 2 * n) ≡ (node_at m n).next
+    next_is = (read_back (node_at m n).next (slice_index (memory_words m) (4 + 2 * n)) (fits (Next n)) (reading m (Next n) (low, high))).0
 
-    has_node : HasNode (words_of m) n
+    has_node : HasNode (memory_words m) n
     has_node =
         record {
-          next = record { there = omega (arith, long, high); named = (read_back (node_at m n).next (slice_index (words_of m) (4 + 2 * n)) (fits (Next n)) (reading m (Next n) (low, high))).1 };
+          next = record { there = omega (arith, long, high); named = (read_back (node_at m n).next (slice_index (memory_words m) (4 + 2 * n)) (fits (Next n)) (reading m (Next n) (low, high))).1 };
           value = omega (arith, long, high);
         }
 
-    value_is : (node_at m n).value ≡ value_of (slice_index (words_of m) (5 + 2 * n))
+    value_is : (node_at m n).value ≡ value_of (slice_index (memory_words m) (5 + 2 * n))
     value_is =
-        let p = value_parts (node_at m n).value (slice_index (words_of m) (5 + 2 * n)) (fits (Value_of n)) (reading m (Value_of n) (low, high)) in
+        let p = value_parts (node_at m n).value (slice_index (memory_words m) (5 + 2 * n)) (fits (Value_of n)) (reading m (Value_of n) (low, high)) in
         λ i. record { from = p.0 i; body = p.1 i }
 
   -- the nodes of a chain have their values
-  chain_values : (ns : List ℕ) (n : ℕ) → IsChain m.nodes n ns → HaveValues (words_of m) n (values_of m ns)
+  chain_values : (ns : List ℕ) (n : ℕ) → IsChain m.nodes n ns → HaveValues (memory_words m) n (values_of m ns)
   chain_values [] n c = c
   chain_values (k ∷ ks) n c =
-      let more : HaveValues (words_of m) (ref_at (words_of m) (4 + 2 * k)).node (values_of m ks) =
-      subst (λ (r : Ref). HaveValues (words_of m) r.node (values_of m ks)) (sym (next_is k c.1 c.2)) (chain_values ks (node_at m k).next.node c.3) in
-      subst (λ j. HaveValues (words_of m) j (values_of m (k ∷ ks))) (sym c.0) (c.1, has_node k c.1 c.2, value_is k c.1 c.2, more)
+      let more : HaveValues (memory_words m) (ref_at (memory_words m) (4 + 2 * k)).node (values_of m ks) =
+      subst (λ (r : Ref). HaveValues (memory_words m) r.node (values_of m ks)) (sym (next_is k c.1 c.2)) (chain_values ks (node_at m k).next.node c.3) in
+      subst (λ j. HaveValues (memory_words m) j (values_of m (k ∷ ks))) (sym c.0) (c.1, has_node k c.1 c.2, value_is k c.1 c.2, more)
 
 -- Head names a node
 head_some : (w : World) → IsReached w → 1 ≤ w.shared.head.node
@@ -95,7 +95,7 @@ head_some w r = go w.setup.kind refl
     go : (k : Kind) → w.setup.kind ≡ k → 1 ≤ w.shared.head.node
     go TwoLock e = two_lock.head_some w r e
     go NonBlocking e =
-        let p : non_blocking.Proved (λ w q. Unit {0}) (λ w k. Unit {0}) w = non_blocking.reached_sound w r e in
+        let p : non_blocking.ReachedInvariant (λ w q. Unit {0}) (λ w k. Unit {0}) w = non_blocking.reached_invariant w r e in
         let c = p.sound.words.shape.queue_chain in
         subst (λ n. 1 ≤ n) (sym c.0) c.1
 
@@ -103,11 +103,11 @@ head_some w r = go w.setup.kind refl
 record Left (w : World) : Type 0 where
   queue : List ℕ
   chain : IsChain w.shared.nodes w.shared.head.node queue
-  head : HasRef (words_of w.shared) 2
-  dummy : HasNode (words_of w.shared) (ref_at (words_of w.shared) 2).node
-  values : AreLeft (words_of w.shared) (queue_values w.shared queue)
+  head : HasRef (memory_words w.shared) 2
+  dummy : HasNode (memory_words w.shared) (ref_at (memory_words w.shared) 2).node
+  values : AreLeft (memory_words w.shared) (queue_values w.shared queue)
   few : length (queue_values w.shared queue) ≤ w.setup.size
-  long : length (words_of w.shared) ≡ 6 + 2 * w.setup.size
+  long : length (memory_words w.shared) ≡ 6 + 2 * w.setup.size
 
 left_in : (w : World) → IsReached w → Left w
 left_in w r =
@@ -122,14 +122,14 @@ left_in w r =
     let used : length p.0 ≤ m.fresh = few w p.0 p.1 p.2 1 (omega arith) in
     let at = chain_some m.nodes m.head.node p.0 low p.2.queue_chain in
     let c : IsChain m.nodes m.head.node (m.head.node ∷ at.0) = subst (IsChain m.nodes m.head.node) at.1 p.2.queue_chain in
-    let front : front_of (words_of m) ≡ (node_at m m.head.node).next.node =
-    ap (λ (x : Ref). (ref_at (words_of m) (4 + 2 * x.node)).node) (head_is m fits) ∙ ap (λ (x : Ref). x.node) (next_is m fits m.head.node low high) in
+    let front : front_of (memory_words m) ≡ (node_at m m.head.node).next.node =
+    ap (λ (x : Ref). (ref_at (memory_words m) (4 + 2 * x.node)).node) (head_is m fits) ∙ ap (λ (x : Ref). x.node) (next_is m fits m.head.node low high) in
     record {
       queue = m.head.node ∷ at.0;
       chain = c;
       head = has_head m fits;
-      dummy = subst (λ (x : Ref). HasNode (words_of m) x.node) (sym (head_is m fits)) (has_node m fits m.head.node low high);
-      values = subst (λ n. HaveValues (words_of m) n (values_of m at.0)) (sym front) (chain_values m fits at.0 (node_at m m.head.node).next.node c.3);
+      dummy = subst (λ (x : Ref). HasNode (memory_words m) x.node) (sym (head_is m fits)) (has_node m fits m.head.node low high);
+      values = subst (λ n. HaveValues (memory_words m) n (values_of m at.0)) (sym front) (chain_values m fits at.0 (node_at m m.head.node).next.node c.3);
       few = omega (arith, used, fresh, ap length at.1, length-map at.0 (λ n. (node_at m n).value));
       long = omega (arith, long m fits, all);
     }
@@ -139,8 +139,8 @@ pub record Ends (z : Layout) (seats : List Seat) (words : List ℕ) : Type 0 whe
   pub trace : Traced
   pub reached : IsTraced trace
   pub setup : trace.world.setup ≡ z.setup
-  pub words_are : words ≡ words_of trace.world.shared
-  pub permitted : All (IsPermitted z.roles) trace.history
+  pub words_are : words ≡ memory_words trace.world.shared
+  pub permitted : All (RolesPermit z.roles) trace.history
   pub fits : (k : ℕ) (s : Seat) → slice_get seats k ≡ Some s → Fits trace (view s)
   pub apart : (k l : ℕ) (s t : Seat) → slice_get seats k ≡ Some s → slice_get seats l ≡ Some t → (view s).number ≡ (view t).number → k ≡ l
 
@@ -211,10 +211,10 @@ pub closes_at_end : (r : Arena) (seats : List Seat) (words : List ℕ) (pushes p
 closes_at_end r seats words pushes pops rest e pushed popped h =
     let t : Traced = e.trace in
     let l : Left t.world = left_in t.world (traced_reached t e.reached) in
-    let told : AreLeft (words_of t.world.shared) (left_of rest) = subst (λ ws. AreLeft ws (left_of rest)) e.words_are h.left in
-    let same : queue_values t.world.shared l.queue ≡ left_of rest = same_values (words_of t.world.shared) (front_of (words_of t.world.shared)) _ _ l.values told in
+    let told : AreLeft (memory_words t.world.shared) (left_of rest) = subst (λ ws. AreLeft ws (left_of rest)) e.words_are h.left in
+    let same : queue_values t.world.shared l.queue ≡ left_of rest = same_values (memory_words t.world.shared) (front_of (memory_words t.world.shared)) _ _ l.values told in
     let leads : LeadsTo t.history (left_of rest) = subst (λ vs. Plays empty t.history (record { values = vs })) same (history_plays t e.reached l.queue l.chain) in
-    let head : ref_at (words_of t.world.shared) 2 ≡ t.world.shared.head = head_is t.world.shared (shared_fits t.world (reached_in_range t.world (traced_reached t e.reached))) in
+    let head : ref_at (memory_words t.world.shared) 2 ≡ t.world.shared.head = head_is t.world.shared (shared_fits t.world (reached_in_range t.world (traced_reached t e.reached))) in
     let counted : taken_of rest ≡ count_by is_pop t.history = h.taken ∙ ap (λ ws. (ref_at ws 2).count) e.words_are ∙ ap (λ (x : Ref). x.count) head ∙ counts_pops t e.reached in
     closes (permits_of r) (map known_of seats) rest t.history leads e.permitted (own_each t seats e.fits) (numbers_apart r.plan seats words e) counted
     (λ w. let x = h.whole.0 w in (sym popped ∙ x.0, sym pushed ∙ x.1), λ x. h.whole.1 (popped ∙ x.0, pushed ∙ x.1))

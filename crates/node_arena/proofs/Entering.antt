@@ -8,7 +8,7 @@ use Rattle.line_table.specs.declared.lines.Line.TheVariants.{E9, D13, A5, B5}
 use Rattle.history.specs.declared.operations.Taken.{Taken}
 use Rattle.history.specs.declared.operations.Entry.{Entry}
 use Rattle.history.specs.declared.operations.Entry.TheVariants.{Push, Pop}
-use Rattle.history.specs.Entries.{maker, own_entries}
+use Rattle.history.specs.Entries.{seat_of, own_entries}
 use Rattle.history.specs.Seats.{Allows}
 use Rattle.line_steps.specs.declared.actors.Setup.{Setup}
 use Rattle.line_steps.specs.declared.actors.Actor.{Actor}
@@ -16,7 +16,7 @@ use Rattle.line_steps.specs.Memory.{Found, found}
 use Rattle.line_steps.specs.Lines.{action}
 use Rattle.node_arena.specs.declared.roles.Role.{Role}
 use Rattle.node_arena.specs.Traces.{Traced, entries_of, entries_at}
-use Rattle.node_arena.specs.Plans.{PermitsLine, IsPermitted, permit_of, permits_by}
+use Rattle.node_arena.specs.Plans.{PermitsLine, RolesPermit, permit_of, permits_by}
 
 push_own : (me body : ℕ) → own_entries me (Push me body ∷ []) ≡ Push me body ∷ []
 push_own me body = ap (λ b. cond b (Push me body ∷ []) []) (eq-eqb me me refl)
@@ -81,24 +81,24 @@ permits-at [] k r at = absurd (let e : None ≡ Some r = at in cc)
 permits-at (x ∷ xs) zero r at = ap (λ o. Some (permit_of o)) (same_Some x r at)
 permits-at (x ∷ xs) (suc k) r at = permits-at xs k r at
 
-permitted_one : (roles : List Role) (r : Role) (e : Entry) → 1 ≤ maker e → slice_get roles (maker e - 1) ≡ Some r → Allows (permit_of r) e → IsPermitted roles e
-permitted_one roles r e least at p = (least, subst (λ o. IsSomeAnd o (λ x. Allows x e)) (sym (permits-at roles (maker e - 1) r at)) p)
+permitted_one : (roles : List Role) (r : Role) (e : Entry) → 1 ≤ seat_of e → slice_get roles (seat_of e - 1) ≡ Some r → Allows (permit_of r) e → RolesPermit roles e
+permitted_one roles r e least at p = (least, subst (λ o. IsSomeAnd o (λ x. Allows x e)) (sym (permits-at roles (seat_of e - 1) r at)) p)
 
-permitted_of : (s : Setup) (roles : List Role) (me : ℕ) (a : Actor) (l : Line) (r : Role) (c : Found (action s me a l)) → 1 ≤ me → slice_get roles (me - 1) ≡ Some r → PermitsLine r l → All (IsPermitted roles) (entries_of s me a l c)
+permitted_of : (s : Setup) (roles : List Role) (me : ℕ) (a : Actor) (l : Line) (r : Role) (c : Found (action s me a l)) → 1 ≤ me → slice_get roles (me - 1) ≡ Some r → PermitsLine r l → All (RolesPermit roles) (entries_of s me a l c)
 permitted_of s roles me a E9 r c least at p = go (same_ref c a.next)
   where
-    go : (b : Bool) → All (IsPermitted roles) (if b then Push me a.val.body ∷ [] else [])
-    go true = all_one (IsPermitted roles) (Push me a.val.body) (permitted_one roles r (Push me a.val.body) least at p)
-    go false = all_none (IsPermitted roles)
+    go : (b : Bool) → All (RolesPermit roles) (if b then Push me a.val.body ∷ [] else [])
+    go true = all_one (RolesPermit roles) (Push me a.val.body) (permitted_one roles r (Push me a.val.body) least at p)
+    go false = all_none (RolesPermit roles)
 permitted_of s roles me a D13 r c least at p = go (same_ref c a.head)
   where
-    go : (b : Bool) → All (IsPermitted roles) (if b then Pop me a.val ∷ [] else [])
-    go true = all_one (IsPermitted roles) (Pop me a.val) (permitted_one roles r (Pop me a.val) least at p)
-    go false = all_none (IsPermitted roles)
-permitted_of s roles me a A5 r c least at p = all_one (IsPermitted roles) (Push me a.val.body) (permitted_one roles r (Push me a.val.body) least at p)
-permitted_of s roles me a B5 r c least at p = all_one (IsPermitted roles) (Pop me a.val) (permitted_one roles r (Pop me a.val) least at p)
-permitted_of s roles me a _ r c least at p = all_none (IsPermitted roles)
+    go : (b : Bool) → All (RolesPermit roles) (if b then Pop me a.val ∷ [] else [])
+    go true = all_one (RolesPermit roles) (Pop me a.val) (permitted_one roles r (Pop me a.val) least at p)
+    go false = all_none (RolesPermit roles)
+permitted_of s roles me a A5 r c least at p = all_one (RolesPermit roles) (Push me a.val.body) (permitted_one roles r (Push me a.val.body) least at p)
+permitted_of s roles me a B5 r c least at p = all_one (RolesPermit roles) (Pop me a.val) (permitted_one roles r (Pop me a.val) least at p)
+permitted_of s roles me a _ r c least at p = all_none (RolesPermit roles)
 
 -- what a step adds is permitted, where the actor's role permits the line
-pub permitted_added : (s : Setup) (roles : List Role) (t : Traced) (me : ℕ) (a : Actor) (l : Line) (r : Role) → 1 ≤ me → slice_get roles (me - 1) ≡ Some r → PermitsLine r l → All (IsPermitted roles) (entries_at s t me a l)
+pub permitted_added : (s : Setup) (roles : List Role) (t : Traced) (me : ℕ) (a : Actor) (l : Line) (r : Role) → 1 ≤ me → slice_get roles (me - 1) ≡ Some r → PermitsLine r l → All (RolesPermit roles) (entries_at s t me a l)
 permitted_added s roles t me a l r least at p = permitted_of s roles me a l r (found (action s me a l) t.world.shared) least at p

@@ -10,7 +10,7 @@ use Rattle.atomic_table.proofs.Lists.{at_set, set_else}
 use Rattle.node_arena.specs.declared.views.Knowing.{Knowing}
 use Rattle.node_arena.specs.declared.seats.Seat.{Seat}
 use Rattle.node_arena.specs.Traces.{changed}
-use Rattle.node_arena.specs.Seeing.{Knows, View, keeper, gathered, seated, spent, members, both_of}
+use Rattle.node_arena.specs.Seeing.{SeatView, View, keeper, gathered, seated, spent, members, both_of}
 use Rattle.node_arena.specs.Plans.{Layout}
 use Rattle.node_arena.specs.Rule.{Fits, Holds, Opens}
 use Rattle.node_arena.specs.Seats.{view}
@@ -20,15 +20,15 @@ use Rattle.node_arena.proofs.Deals.{at_end}
 use Rattle.node_arena.proofs.Meets.{views_now, no_one}
 
 -- a token that gathers takes in one of a seat
-gathers : (z : Layout) (id other : ℕ) (vs : List Knows) (w : Knows) → Joins {S = ℕ} (Holds z) id (gathered vs) other (seated w) (gathered (vs ++ w ∷ [])) spent
+gathers : (z : Layout) (id other : ℕ) (vs : List SeatView) (w : SeatView) → Joins {S = ℕ} (Holds z) id (gathered vs) other (seated w) (gathered (vs ++ w ∷ [])) spent
 gathers z id other vs w s h at_id ne at_other =
     let all : View = gathered (vs ++ w ∷ []) in
     let there : get_elem? s.views other ≡ some (seated w) = sym (set_else s.views id other all ne) ∙ at_other in
     let l : ℕ = length vs in
     let own : ℕ → ℕ × ℕ = changed h.owner w.number (id, l) in
     let ow = h.owned other 0 (seated w) w there refl in
-    let P : ℕ → ℕ → Knows → Type 0 = λ j i o. Fits h.trace o × (own o.number ≡ (j, i)) × (o.number < h.dealt) in
-    let old : (j i : ℕ) (u : View) (o : Knows) → j ≢ other → get_elem? s.views j ≡ some u → get_elem? (members u) i ≡ some o → P j i o = λ j i u o far a b.
+    let P : ℕ → ℕ → SeatView → Type 0 = λ j i o. Fits h.trace o × (own o.number ≡ (j, i)) × (o.number < h.dealt) in
+    let old : (j i : ℕ) (u : View) (o : SeatView) → j ≢ other → get_elem? s.views j ≡ some u → get_elem? (members u) i ≡ some o → P j i o = λ j i u o far a b.
     let k = h.owned j i u o a b in (h.fits j i u o a b, changed_else h.owner w.number (id, l) o.number (λ e. far (ap (λ (y : ℕ × ℕ). y.0) (sym k.0 ∙ (ap h.owner e ∙ ow.0)))) ∙ k.0, k.1) in
     let new : P id l w = (h.fits other 0 (seated w) w there refl, changed_here h.owner w.number (id, l), ow.1) in
     views_now z s h s.words (set (set s.views id all) other spent) own refl
@@ -37,7 +37,7 @@ gathers z id other vs w s h at_id ne at_other =
     (λ (t : (j ≢ other) × (get_elem? (set s.views id all) j ≡ some u)). ⊎_elim
     (λ (q : (j ≡ id) × (all ≡ u)). subst (λ x. P x i o) (sym q.0) (⊎_elim
     (λ (y : get_elem? vs i ≡ some o). old id i (gathered vs) o (λ e. ne (sym e)) at_id y)
-    (λ (y : (i ≡ l) × (w ≡ o)). subst (λ (x : ℕ × Knows). P id x.0 x.1) (λ c. (sym y.0 c, y.1 c)) new)
+    (λ (y : (i ≡ l) × (w ≡ o)). subst (λ (x : ℕ × SeatView). P id x.0 x.1) (λ c. (sym y.0 c, y.1 c)) new)
     (at_end vs w o i (ap (λ (y : View). get_elem? (members y) i) q.1 ∙ b))))
     (λ (q : (j ≢ id) × (get_elem? s.views j ≡ some u)). old j i u o t.0 q.1 b)
     (at_set s.views id j all u t.1))
@@ -66,7 +66,7 @@ enters key slots s h none fit = (
 )
 
 -- the same at the names of a call
-pub gathers_at : (key : Layout) (id other : ℕ) (vs : List Knows) (me him : Me ℕ View) (w : Knows) → me ≡ (gathered vs, []) → him ≡ (seated w, []) → Joins {S = ℕ} (Holds key) id me.0 other him.0 (both_of me.0 him.0) spent
+pub gathers_at : (key : Layout) (id other : ℕ) (vs : List SeatView) (me him : Me ℕ View) (w : SeatView) → me ≡ (gathered vs, []) → him ≡ (seated w, []) → Joins {S = ℕ} (Holds key) id me.0 other him.0 (both_of me.0 him.0) spent
 gathers_at key id other vs me him w is his = subst (λ (y : Me ℕ View × Me ℕ View). Joins {S = ℕ} (Holds key) id y.0.0 other y.1.0 (both_of y.0.0 y.1.0) spent) (λ i. (sym is i, sym his i)) (gathers key id other vs w)
 
 -- a token that took in one more
@@ -74,5 +74,5 @@ pub took_in : (t : TableId) (k k' : Token ℕ Knowing) (seats : List Seat) (s : 
 took_in t k k' seats s g has same is =
     record {
       table = same ∙ g.table;
-      seat = is ∙ (λ i. (both_of (g.seat i).0 (has.seat i).0, (g.seat i).1)) ∙ ap (λ (l : List Knows). (gathered l, [])) (sym (map-append view seats (s ∷ [])));
+      seat = is ∙ (λ i. (both_of (g.seat i).0 (has.seat i).0, (g.seat i).1)) ∙ ap (λ (l : List SeatView). (gathered l, [])) (sym (map-append view seats (s ∷ [])));
     }

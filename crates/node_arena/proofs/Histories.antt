@@ -16,12 +16,12 @@ use Rattle.history.specs.declared.operations.Entry.TheVariants.{Push, Pop}
 use Rattle.history.specs.declared.operations.Taken.{Taken}
 use Rattle.history.specs.Queue.{empty}
 use Rattle.history.specs.Entries.{is_pop, Plays}
-use Rattle.history.specs.History.{rising}
+use Rattle.history.specs.History.{by_point}
 use Rattle.line_steps.specs.declared.actors.Setup.{Setup}
 use Rattle.line_steps.specs.declared.actors.Actor.{Actor}
 use Rattle.line_steps.specs.declared.actors.Outcome.{Outcome}
 use Rattle.line_steps.specs.Memory.{Found, found}
-use Rattle.line_steps.specs.Lines.{action, outcome, goes, ends, effect, takes, lets_go, sets_aside, freed, unlocked, busy_or, gives_up}
+use Rattle.line_steps.specs.Lines.{action, outcome, goes, ends, effect, fills_hand, empties_hand, sets_aside, freed, unlocked, busy_or, gives_up}
 use Rattle.line_steps.specs.Calling.{is_call, begun}
 use Rattle.step_machine.specs.declared.actors.Move.TheVariants.{Begin, Step, Give}
 use Rattle.step_machine.specs.Machine.{World, actor_of, rested, with_actor, begins, steps, given, gives, may_rest, rests, moved, rest_of, AnyMove, made, Rest, next_any, IsReached}
@@ -30,9 +30,9 @@ use Rattle.step_machine.specs.Chains.{queue_values}
 use Rattle.step_machine.specs.Stamps.{makers}
 use Rattle.step_machine.proofs.Fixed.{Pushes, Runs}
 use Rattle.step_machine.proofs.Reached.{some_of, reached_next}
-use Rattle.step_machine.proofs.Gains.{gained, booked}
+use Rattle.step_machine.proofs.Gains.{gained, completion_entries}
 use Rattle.step_machine.proofs.LegalMoves.{kept_reached, book_begun, book_rested}
-use Rattle.step_machine.proofs.Promises.{entries_booked}
+use Rattle.step_machine.proofs.Completion.{entries_booked}
 use Rattle.step_machine.proofs.Pops.{head_counts_pops}
 use Rattle.step_machine.proofs.EachEntry.{each_step_gains, each_give_gains, each_call, plays_to_the_values}
 use Rattle.node_arena.specs.Traces.{Traced, entries_of, traced_at, traced_step, traced_move, traced_next, traced_on, trace, first_trace, IsTraced, PlaysToItsValues, CountsItsPops}
@@ -101,51 +101,51 @@ is_effect B5 = true
 is_effect _ = false
 
 -- an outcome of a line where no call has its effect adds nothing
-quiet : (s : Setup) (now me : ℕ) (a : Actor) (l : Line) (c : Found (action s me a l)) → is_effect l ≡ false → AddsNothing me a.op (outcome s now me a l c)
-quiet s now me a N2 c e = both _ _ (is_null c) _ _ (both _ _ (nat_lt a.f s.size) _ _ record { none = refl } record { none = refl }) (both _ _ (nat_eq c.count s.limit) _ _ record { none = refl } record { none = refl })
-quiet s now me a N4 c e = both _ _ (same_ref c a.top) _ _ record { none = refl } record { none = refl }
-quiet s now me a N5 c e = both _ _ (nat_eq c a.f) _ _ record { none = refl } record { none = refl }
-quiet s now me a F1 c e = both _ _ (nat_eq c.count s.limit) _ _ (aside_adds _ _ s.kind now a.due (record a { top = c })) record { none = refl }
-quiet s now me a F3 c e = both _ _ (same_ref c a.top) _ _ (freed_adds _ _ s.kind now a.due (lets_go a)) record { none = refl }
-quiet s now me a E3 c e = both _ _ (nat_eq c.count s.limit) _ _ record { none = refl } record { none = refl }
-quiet s now me a E7 c e =
+stutters : (s : Setup) (now me : ℕ) (a : Actor) (l : Line) (c : Found (action s me a l)) → is_effect l ≡ false → AddsNothing me a.op (outcome s now me a l c)
+stutters s now me a N2 c e = both _ _ (is_null c) _ _ (both _ _ (nat_lt a.f s.size) _ _ record { none = refl } record { none = refl }) (both _ _ (nat_eq c.count s.limit) _ _ record { none = refl } record { none = refl })
+stutters s now me a N4 c e = both _ _ (same_ref c a.top) _ _ record { none = refl } record { none = refl }
+stutters s now me a N5 c e = both _ _ (nat_eq c a.f) _ _ record { none = refl } record { none = refl }
+stutters s now me a F1 c e = both _ _ (nat_eq c.count s.limit) _ _ (aside_adds _ _ s.kind now a.due (record a { top = c })) record { none = refl }
+stutters s now me a F3 c e = both _ _ (same_ref c a.top) _ _ (freed_adds _ _ s.kind now a.due (empties_hand a)) record { none = refl }
+stutters s now me a E3 c e = both _ _ (nat_eq c.count s.limit) _ _ record { none = refl } record { none = refl }
+stutters s now me a E7 c e =
     both _ _ (same_ref c a.tail) _ _ (both _ _ (is_null a.next) _ _ record { none = refl } (both _ _ (nat_eq a.tail.count s.limit) _ _ record { none = refl } record { none = refl }))
     record { none = refl }
-quiet s now me a E9 c e = absurd (let h : true ≡ false = e in cc)
-quiet s now me a D5 c e =
+stutters s now me a E9 c e = absurd (let h : true ≡ false = e in cc)
+stutters s now me a D5 c e =
     both _ _ (same_ref c a.head) _ _
     (both _ _ (nat_eq a.head.node a.tail.node) _ _ (both _ _ (is_null a.next) _ _ record { none = refl } (both _ _ (nat_eq a.tail.count s.limit) _ _ record { none = refl } record { none = refl })) record { none = refl })
     record { none = refl }
-quiet s now me a D12 c e = both _ _ (nat_eq a.head.count s.limit) _ _ record { none = refl } record { none = refl }
-quiet s now me a D13 c e = absurd (let h : true ≡ false = e in cc)
-quiet s now me a A3 c e = both _ _ (nat_eq c 0) _ _ record { none = refl } record { none = refl }
-quiet s now me a A5 c e = absurd (let h : true ≡ false = e in cc)
-quiet s now me a B1 c e = both _ _ (nat_eq c 0) _ _ record { none = refl } record { none = refl }
-quiet s now me a B3 c e = both _ _ (is_null c) _ _ record { none = refl } record { none = refl }
-quiet s now me a B4 c e = both _ _ (nat_eq a.head.count s.limit) _ _ record { none = refl } record { none = refl }
-quiet s now me a B5 c e = absurd (let h : true ≡ false = e in cc)
-quiet s now me a B6 c e = unlocked_adds _ _ now a.due a
-quiet s now me a _ c e = record { none = refl }
+stutters s now me a D12 c e = both _ _ (nat_eq a.head.count s.limit) _ _ record { none = refl } record { none = refl }
+stutters s now me a D13 c e = absurd (let h : true ≡ false = e in cc)
+stutters s now me a A3 c e = both _ _ (nat_eq c 0) _ _ record { none = refl } record { none = refl }
+stutters s now me a A5 c e = absurd (let h : true ≡ false = e in cc)
+stutters s now me a B1 c e = both _ _ (nat_eq c 0) _ _ record { none = refl } record { none = refl }
+stutters s now me a B3 c e = both _ _ (is_null c) _ _ record { none = refl } record { none = refl }
+stutters s now me a B4 c e = both _ _ (nat_eq a.head.count s.limit) _ _ record { none = refl } record { none = refl }
+stutters s now me a B5 c e = absurd (let h : true ≡ false = e in cc)
+stutters s now me a B6 c e = unlocked_adds _ _ now a.due a
+stutters s now me a _ c e = record { none = refl }
 
 -- the outcome of a line adds the entries of the line
 line_gains : (s : Setup) (now me : ℕ) (a : Actor) (l : Line) (c : Found (action s me a l)) → Runs (section_of l) me a.op a.val → gained me a.op (outcome s now me a l c) ≡ entries_of s me a l c
 line_gains s now me a E9 c h = won (same_ref c a.next)
   where
-    linked : (b : Bool) → gained me a.op (effect now (if b then ends now Done (lets_go (record a { due = Some Done })) else goes E17 (lets_go (record a { due = Some Done })))) ≡ Push me a.val.body ∷ []
+    linked : (b : Bool) → gained me a.op (effect now (if b then ends now Done (empties_hand (record a { due = Some Done })) else goes E17 (empties_hand (record a { due = Some Done })))) ≡ Push me a.val.body ∷ []
     linked true = pushed_is me a.op a.val h
     linked false = pushed_is me a.op a.val h
 
-    won : (b : Bool) → gained me a.op (if b then effect now (if nat_eq a.tail.count s.limit then ends now Done (lets_go (record a { due = Some Done })) else goes E17 (lets_go (record a { due = Some Done }))) else goes E5 a) ≡ (if b then Push me a.val.body ∷ [] else [])
+    won : (b : Bool) → gained me a.op (if b then effect now (if nat_eq a.tail.count s.limit then ends now Done (empties_hand (record a { due = Some Done })) else goes E17 (empties_hand (record a { due = Some Done }))) else goes E5 a) ≡ (if b then Push me a.val.body ∷ [] else [])
     won true = linked (nat_eq a.tail.count s.limit)
     won false = refl
 line_gains s now me a D13 c h = won (same_ref c a.head)
   where
-    won : (b : Bool) → gained me a.op (if b then effect now (goes F1 (takes a.head.node a.next.count (record a { due = Some (Value a.val) }))) else goes D2 a) ≡ (if b then Pop me a.val ∷ [] else [])
+    won : (b : Bool) → gained me a.op (if b then effect now (goes F1 (fills_hand a.head.node a.next.count (record a { due = Some (Value a.val) }))) else goes D2 a) ≡ (if b then Pop me a.val ∷ [] else [])
     won true = refl
     won false = refl
 line_gains s now me a A5 c h = pushed_is me a.op a.val h
 line_gains s now me a B5 c h = refl
-line_gains s now me a l c h = (quiet s now me a l c refl).none
+line_gains s now me a l c h = (stutters s now me a l c refl).none
 
 -- the entries that a move adds: those of a step at the line of its actor
 abbrev line_entries : World → (me : ℕ) → Actor → Option Line → List Entry
@@ -179,10 +179,10 @@ history_moved t (Rest me) w = sym (append-nil t.history)
 
 -- a move adds them to the entries of the operations that had their effect
 abbrev Adds : World → List Entry → World → Type 0
-Adds w es v = booked v ≡ booked w ++ es
+Adds w es v = completion_entries v ≡ completion_entries w ++ es
 
-same_book : (w v : World) → booked v ≡ booked w → Adds w [] v
-same_book w v e = e ∙ sym (append-nil (booked w))
+same_book : (w v : World) → completion_entries v ≡ completion_entries w → Adds w [] v
+same_book w v e = e ∙ sym (append-nil (completion_entries w))
 
 begin_adds : (w : World) (me : ℕ) (op : Op) (a : Actor) (l : Option Line) → IsReached w → actor_of w me ≡ Some a → a.line ≡ l → IfSome (begins w me op a l) (Adds w [])
 begin_adds w me op a None r is at = go (is_call op)
@@ -190,14 +190,14 @@ begin_adds w me op a None r is at = go (is_call op)
     go : (b : Bool) → IfSome (if b then Some (with_actor w me (begun w.setup.kind me op a)) else None) (Adds w [])
     go true =
         same_book w (with_actor w me (begun w.setup.kind me op a))
-        (ap (λ os. flat_map entry_of (rising os)) (book_begun (makers r.moves) w me a (begun w.setup.kind me op a) (kept_reached w r) is at))
+        (ap (λ os. flat_map entry_of (by_point os)) (book_begun (makers r.moves) w me a (begun w.setup.kind me op a) (kept_reached w r) is at))
     go false = tt
 begin_adds w me op a (Some l) r is at = tt
 
 step_adds : (w : World) (me : ℕ) (a : Actor) (l : Option Line) → IsReached w → actor_of w me ≡ Some a → a.line ≡ l → IfSome (steps w me a l) (Adds w (line_entries w me a l))
 step_adds w me a None r is at = tt
 step_adds w me a (Some l) r is at =
-    each_step_gains w me a l r is at ∙ ap (λ es. booked w ++ es) (line_gains w.setup (w.steps + 1) me a l (found (action w.setup me a l) w.shared) (each_call w me a l r is at))
+    each_step_gains w me a l r is at ∙ ap (λ es. completion_entries w ++ es) (line_gains w.setup (w.steps + 1) me a l (found (action w.setup me a l) w.shared) (each_call w me a l r is at))
 
 give_adds : (w : World) (me : ℕ) (a : Actor) (l : Option Line) → IsReached w → actor_of w me ≡ Some a → a.line ≡ l → IfSome (gives w me a l) (Adds w [])
 give_adds w me a None r is at = tt
@@ -207,14 +207,14 @@ give_adds w me a (Some l) r is at = go (gives_up (w.steps + 1) a l) refl
     go None e = tt
     go (Some o) e =
         each_give_gains w me a l o r is at e
-        ∙ ap (λ es. booked w ++ es) (let n : AddsNothing me a.op o = some_of (AddsNothing me a.op) (gives_up (w.steps + 1) a l) o e (given_adds me a.op (w.steps + 1) a l) in n.none)
+        ∙ ap (λ es. completion_entries w ++ es) (let n : AddsNothing me a.op o = some_of (AddsNothing me a.op) (gives_up (w.steps + 1) a l) o e (given_adds me a.op (w.steps + 1) a l) in n.none)
 
 rest_adds : (w : World) (me : ℕ) (a : Actor) (l : Option Line) → actor_of w me ≡ Some a → IfSome (rests w me a l) (Adds w [])
 rest_adds w me a None is = tt
 rest_adds w me a (Some l) is = go (may_rest l)
   where
     go : (b : Bool) → IfSome (if b then Some (with_actor w me (rested a)) else None) (Adds w [])
-    go true = same_book w (with_actor w me (rested a)) (ap (λ os. flat_map entry_of (rising os)) (book_rested w me a (rested a) is refl))
+    go true = same_book w (with_actor w me (rested a)) (ap (λ os. flat_map entry_of (by_point os)) (book_rested w me a (rested a) is refl))
     go false = tt
 
 move_adds : (w : World) (m : AnyMove) → IsReached w → IfSome (next_any w m) (Adds w (move_entries w m))
@@ -241,12 +241,12 @@ move_adds w (Rest me) r = go (actor_of w me) refl
 
 -- the history of a trace is that of the book of its world, and stays so
 abbrev IsBooked : Traced → Type 0
-IsBooked t = t.history ≡ booked t.world
+IsBooked t = t.history ≡ completion_entries t.world
 
 moved_booked : (t : Traced) (m : AnyMove) (w : World) → IsReached t.world → next_any t.world m ≡ Some w → IsBooked t → IsBooked (traced_move t m w)
 moved_booked t m w r e h =
     history_moved t m w ∙ ap (λ es. es ++ move_entries t.world m) h
-    ∙ sym (some_of (Adds t.world (move_entries t.world m)) (next_any t.world m) w e (move_adds t.world m r)) ∙ sym (ap booked (world-traced_move t m w))
+    ∙ sym (some_of (Adds t.world (move_entries t.world m)) (next_any t.world m) w e (move_adds t.world m r)) ∙ sym (ap completion_entries (world-traced_move t m w))
 
 traced_booked : (ms : List AnyMove) (t u : Traced) → IsReached t.world → IsBooked t → trace ms t ≡ Some u → IsBooked u
 traced_booked [] t u r h e = subst IsBooked (same_Some t u e) h

@@ -12,13 +12,13 @@ use Rattle.step_machine.specs.Machine.{World, IsReached}
 use Rattle.step_machine.specs.Places.{IsChain}
 use Rattle.step_machine.specs.Chains.{queue_values}
 use Rattle.step_machine.proofs.Chains.{chain_some, chain_none}
-use Rattle.step_machine.proofs.Older.{WasIn}
-use Rattle.step_machine.proofs.TwoLockKnows as two_lock_knows
-use Rattle.step_machine.proofs.TwoLockSound as two_lock_sound
+use Rattle.step_machine.proofs.StaleReferences.{IsCurrentOrStale}
+use Rattle.step_machine.proofs.TwoLockAtLines as two_lock_knows
+use Rattle.step_machine.proofs.TwoLockInvariant as two_lock_sound
 use Rattle.step_machine.proofs.NonBlockingLaws as non_blocking
 use Rattle.node_arena.specs.Traces.{Traced, IsTraced, event_at}
-use Rattle.node_arena.specs.Leads.{goes_on}
-use Rattle.node_arena.specs.Seeing.{Knows}
+use Rattle.node_arena.specs.Prologues.{continues}
+use Rattle.node_arena.specs.Seeing.{SeatView}
 use Rattle.node_arena.specs.Plans.{Layout}
 use Rattle.node_arena.specs.Rule.{Steps}
 use Rattle.node_arena.proofs.Tracing.{traced_reached}
@@ -40,7 +40,7 @@ leaves_nothing t r least null =
     subst (λ vs. Plays empty t.history (record { values = vs })) (no_values t.world p.0 least p.2.queue_chain null) (history_plays t r p.0 p.2.queue_chain)
 
 -- line D5 finds Head as it was, after D4 found null
-module _ (z : Layout) (two : z.setup.kind ≡ NonBlocking) (n4 n5 : ℕ) (v v4 v5 : Knows) (k4 : Steps z goes_on D4 n4 v v4) (k5 : Steps z goes_on D5 n5 v4 v5) where
+module _ (z : Layout) (two : z.setup.kind ≡ NonBlocking) (n4 n5 : ℕ) (v v4 v5 : SeatView) (k4 : Steps z continues D4 n4 v v4) (k5 : Steps z continues D5 n5 v4 v5) where
   abbrev was4 : Traced
   was4 = k4.was
 
@@ -79,12 +79,12 @@ module _ (z : Layout) (two : z.setup.kind ≡ NonBlocking) (n4 n5 : ℕ) (v v4 v
       low = at.nodes.0
 
       head5 : was5.world.shared.head ≡ v.actor.head
-      head5 = sym (read_back was5.world.shared.head n5 (was_fits z goes_on D5 n5 v4 v5 k5 Head) k5.found).0 ∙ same ∙ ap (λ x. x.head) k4.actor
+      head5 = sym (read_back was5.world.shared.head n5 (was_fits z continues D5 n5 v4 v5 k5 Head) k5.found).0 ∙ same ∙ ap (λ x. x.head) k4.actor
 
       null4 : (node_at was4.world.shared v.actor.head.node).next.node ≡ 0
-      null4 = ap (λ (x : Ref). x.node) (sym (read_back (node_at was4.world.shared v.actor.head.node).next n4 (was_fits z goes_on D4 n4 v v4 k4 (Next v.actor.head.node)) k4.found).0) ∙ null
+      null4 = ap (λ (x : Ref). x.node) (sym (read_back (node_at was4.world.shared v.actor.head.node).next n4 (was_fits z continues D4 n4 v v4 k4 (Next v.actor.head.node)) k4.found).0) ∙ null
 
-      go : WasIn was4.world.shared.head v.actor.head → was4.world.shared.head ≡ v.actor.head
+      go : IsCurrentOrStale was4.world.shared.head v.actor.head → was4.world.shared.head ≡ v.actor.head
       go (inl e) = e
       go (inr less) = absurd (let f = rises in let g = ap (λ (x : Ref). x.count) head5 in omega arith)
 
@@ -92,7 +92,7 @@ module _ (z : Layout) (two : z.setup.kind ≡ NonBlocking) (n4 n5 : ℕ) (v v4 v
       is = go at.knows.0
 
 -- line B3 finds null
-pub finds_nothing_locked : (z : Layout) → z.setup.kind ≡ TwoLock → (n : ℕ) (v v' : Knows) → (k : Steps z goes_on B3 n v v') → (ref_of n).node ≡ 0 → Plays empty v'.seen empty
+pub finds_nothing_locked : (z : Layout) → z.setup.kind ≡ TwoLock → (n : ℕ) (v v' : SeatView) → (k : Steps z continues B3 n v v') → (ref_of n).node ≡ 0 → Plays empty v'.seen empty
 finds_nothing_locked z two n v v' k null =
     subst (λ es. Plays empty es empty) (sym (k.whole refl ∙ append-nil k.was.history))
     (leaves_nothing k.was k.reached (subst (λ (x : Ref). 1 ≤ x.node) (sym is) low) (subst (λ (x : Ref). (node_at k.was.world.shared x.node).next.node ≡ 0) (sym is) null3))
@@ -104,10 +104,10 @@ finds_nothing_locked z two n v v' k null =
     e = ap (λ s. s.kind) k.setup ∙ two
 
     is : k.was.world.shared.head ≡ v.actor.head
-    is = subst (two_lock_knows.KnowsAt (λ j. Unit {0}) k.was.world.setup k.was.world.shared _ v.actor) k.line ((two_lock_sound.reached_sound k.was.world r e).sound.actors v.number v.actor k.before).knows
+    is = subst (two_lock_knows.InvariantAt (λ j. Unit {0}) k.was.world.setup k.was.world.shared _ v.actor) k.line ((two_lock_sound.reached_invariant k.was.world r e).sound.actors v.number v.actor k.before).knows
 
     low : 1 ≤ v.actor.head.node
     low = (two_lock_sound.nodes_at k.was.world r e v.number v.actor B3 k.before k.line).1
 
     null3 : (node_at k.was.world.shared v.actor.head.node).next.node ≡ 0
-    null3 = ap (λ (x : Ref). x.node) (sym (read_back (node_at k.was.world.shared v.actor.head.node).next n (was_fits z goes_on B3 n v v' k (Next v.actor.head.node)) k.found).0) ∙ null
+    null3 = ap (λ (x : Ref). x.node) (sym (read_back (node_at k.was.world.shared v.actor.head.node).next n (was_fits z continues B3 n v v' k (Next v.actor.head.node)) k.found).0) ∙ null

@@ -11,7 +11,7 @@ use Rattle.line_steps.specs.declared.actors.Setup.{Setup}
 use Rattle.line_steps.specs.declared.actors.Actor.{Actor}
 use Rattle.line_steps.specs.declared.actors.Outcome.{Outcome}
 use Rattle.line_steps.specs.Memory.{Found}
-use Rattle.line_steps.specs.Lines.{action, outcome, goes, ends, effect, lets_go, sets_aside, freed, unlocked}
+use Rattle.line_steps.specs.Lines.{action, outcome, goes, ends, effect, empties_hand, sets_aside, freed, unlocked}
 use Rattle.node_arena.specs.Rule.{notes_of}
 
 -- a reply isn't an empty one
@@ -63,18 +63,18 @@ not_empty s now me a N2 c h = both (is_null c) _ _ (both (nat_lt a.f s.size) _ _
 not_empty s now me a N4 c h = both (same_ref c a.top) _ _ record { reply = tt } record { reply = tt }
 not_empty s now me a N5 c h = both (nat_eq c a.f) _ _ record { reply = tt } record { reply = tt }
 not_empty s now me a F1 c h = both (nat_eq c.count s.limit) _ _ (aside_not_empty s.kind now a.due (record a { top = c }) h) record { reply = tt }
-not_empty s now me a F3 c h = both (same_ref c a.top) _ _ (freed_not_empty s.kind now a.due (lets_go a) h) record { reply = tt }
+not_empty s now me a F3 c h = both (same_ref c a.top) _ _ (freed_not_empty s.kind now a.due (empties_hand a) h) record { reply = tt }
 not_empty s now me a E3 c h = both (nat_eq c.count s.limit) _ _ record { reply = tt } record { reply = tt }
 not_empty s now me a E7 c h =
     both (same_ref c a.tail) _ _ (both (is_null a.next) _ _ record { reply = tt } (both (nat_eq a.tail.count s.limit) _ _ record { reply = tt } record { reply = tt }))
     record { reply = tt }
 not_empty s now me a E9 c h = won (same_ref c a.next)
   where
-    linked : (b : Bool) → NotEmpty (effect now (if b then ends now Done (lets_go (record a { due = Some Done })) else goes E17 (lets_go (record a { due = Some Done }))))
+    linked : (b : Bool) → NotEmpty (effect now (if b then ends now Done (empties_hand (record a { due = Some Done })) else goes E17 (empties_hand (record a { due = Some Done }))))
     linked true = record { reply = tt }
     linked false = record { reply = tt }
 
-    won : (b : Bool) → NotEmpty (if b then effect now (if nat_eq a.tail.count s.limit then ends now Done (lets_go (record a { due = Some Done })) else goes E17 (lets_go (record a { due = Some Done }))) else goes E5 a)
+    won : (b : Bool) → NotEmpty (if b then effect now (if nat_eq a.tail.count s.limit then ends now Done (empties_hand (record a { due = Some Done })) else goes E17 (empties_hand (record a { due = Some Done }))) else goes E5 a)
     won true = linked (nat_eq a.tail.count s.limit)
     won false = record { reply = tt }
 not_empty s now me a D5 c h = absurd h

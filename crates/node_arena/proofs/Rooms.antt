@@ -5,13 +5,13 @@ use Rattle.atomic_table.specs.declared.shared.Seat.{Seat as Token}
 use Rattle.line_table.specs.declared.lines.Line.{Line}
 use Rattle.line_table.specs.declared.lines.Line.TheVariants.{E9, D13, A5, B5}
 use Rattle.history.specs.declared.operations.Entry.{Entry}
-use Rattle.history.specs.Entries.{is_push, is_pop, maker}
+use Rattle.history.specs.Entries.{is_push, is_pop, seat_of}
 use Rattle.step_machine.proofs.Few.{one_more, count, count_is, both_more, no_fewer, are_few}
 use Rattle.node_arena.specs.declared.views.Knowing.{Knowing}
 use Rattle.node_arena.specs.Traces.{Traced, IsTraced}
 use Rattle.node_arena.specs.declared.arena.Arena.{Arena}
 use Rattle.node_arena.specs.declared.seats.Seat.{Seat}
-use Rattle.node_arena.specs.Seeing.{Knows}
+use Rattle.node_arena.specs.Seeing.{SeatView}
 use Rattle.node_arena.specs.Plans.{Layout}
 use Rattle.node_arena.specs.Rule.{Fitted}
 use Rattle.node_arena.specs.Seats.{IsSeat, HasRoom, view}
@@ -33,9 +33,9 @@ history_few t r =
     subst (λ es. (count_by is_pop es ≤ t.world.setup.limit) × (count_by is_push es < count_by is_pop es + t.world.setup.size)) (sym (history_is t r)) (are_few t.world (traced_reached t r))
 
 -- a seat has made no more of a kind than the history has
-own_fewer : (z : Layout) (v : Knows) (f : Fitted z v) (p : Entry → Bool) → count_by p v.mine ≤ count_by p f.trace.history
+own_fewer : (z : Layout) (v : SeatView) (f : Fitted z v) (p : Entry → Bool) → count_by p v.mine ≤ count_by p f.trace.history
 own_fewer z v f p =
-    let own : count p v.mine ≤ count p f.trace.history = subst (λ es. count p es ≤ count p f.trace.history) f.fits.own (filter_fewer p (λ e. nat_eq (maker e) v.number) f.trace.history) in
+    let own : count p v.mine ≤ count p f.trace.history = subst (λ es. count p es ≤ count p f.trace.history) f.fits.own (filter_fewer p (λ e. nat_eq (seat_of e) v.number) f.trace.history) in
     omega (arith, own, count_is p v.mine, count_is p f.trace.history)
 
 -- so a seat's counters have room for one more, also after its table made the step

@@ -7,7 +7,7 @@ use Rattle.line_table.specs.declared.lines.Line.TheVariants.{E9, D13, A5, B5}
 use Rattle.history.specs.declared.operations.Entry.{Entry}
 use Rattle.history.specs.declared.operations.Entry.TheVariants.{Push, Pop}
 use Rattle.history.specs.Queue.{Queue, empty}
-use Rattle.history.specs.Entries.{Plays, IsLegal, own_entries}
+use Rattle.history.specs.Entries.{Plays, IsQueueRun, own_entries}
 use Rattle.history.specs.Seats.{IsSound}
 use Rattle.line_steps.specs.declared.actors.Setup.{Setup}
 use Rattle.line_steps.specs.declared.actors.Actor.{Actor}
@@ -15,8 +15,8 @@ use Rattle.line_steps.specs.Memory.{Found}
 use Rattle.line_steps.specs.Lines.{action}
 use Rattle.node_arena.specs.Traces.{Traced, IsTraced, entries_of, sees}
 use Rattle.node_arena.specs.Seeing as seeing
-use Rattle.node_arena.specs.Seeing.{Knows}
-use Rattle.node_arena.specs.Plans.{Layout, IsPermitted, permits_by}
+use Rattle.node_arena.specs.Seeing.{SeatView}
+use Rattle.node_arena.specs.Plans.{Layout, RolesPermit, permits_by}
 use Rattle.node_arena.specs.Rule.{Fitted}
 use Rattle.node_arena.proofs.Tracing.{traced_reached}
 use Rattle.node_arena.proofs.Histories.{history_plays}
@@ -74,21 +74,21 @@ plays_first (Push seat body ∷ xs) ys from to h = plays_first xs ys _ to h
 plays_first (Pop seat value ∷ xs) ys from to h = let r = plays_first xs ys _ to h.1 in (r.0, (h.0, r.1))
 
 -- a beginning of a legal history is legal
-pub legal_first : (xs ys : List Entry) → IsLegal (xs ++ ys) → IsLegal xs
+pub legal_first : (xs ys : List Entry) → IsQueueRun (xs ++ ys) → IsQueueRun xs
 legal_first xs ys h = plays_first xs ys empty h.0 h.1
 
 -- the history of a traced world is legal
-pub history_legal : (t : Traced) → IsTraced t → IsLegal t.history
+pub history_legal : (t : Traced) → IsTraced t → IsQueueRun t.history
 history_legal t r = let p = places_of t.world (traced_reached t r) in (_, history_plays t r p.0 p.2.queue_chain)
 
 -- what a seat has seen is legal
-pub seen_legal : (z : Layout) (v : Knows) → Fitted z v → IsLegal v.seen
-seen_legal z v f = legal_first v.seen f.fits.rest (subst IsLegal f.fits.begins (history_legal f.trace f.reached))
+pub seen_legal : (z : Layout) (v : SeatView) → Fitted z v → IsQueueRun v.seen
+seen_legal z v f = legal_first v.seen f.fits.rest (subst IsQueueRun f.fits.begins (history_legal f.trace f.reached))
 
 -- permitted
-pub seen_permitted : (z : Layout) (v : Knows) → Fitted z v → All (IsPermitted z.roles) v.seen
-seen_permitted z v f = All-first (IsPermitted z.roles) v.seen f.fits.rest (subst (All (IsPermitted z.roles)) f.fits.begins f.permitted)
+pub seen_permitted : (z : Layout) (v : SeatView) → Fitted z v → All (RolesPermit z.roles) v.seen
+seen_permitted z v f = All-first (RolesPermit z.roles) v.seen f.fits.rest (subst (All (RolesPermit z.roles)) f.fits.begins f.permitted)
 
 -- and its own entries are just those that it has seen
-pub sound_of : (z : Layout) (v : Knows) → Fitted z v → IsSound (permits_by z.roles) (seeing.known_by v)
+pub sound_of : (z : Layout) (v : SeatView) → Fitted z v → IsSound (permits_by z.roles) (seeing.known_by v)
 sound_of z v f = record { legal = seen_legal z v f; permitted = seen_permitted z v f; own = f.fits.known }

@@ -23,24 +23,24 @@ use Rattle.step_machine.specs.Range.{WorldInRange, ActorInRange}
 use Rattle.step_machine.specs.Places.{IsFree, times, held, in_hand, one_if}
 use Rattle.step_machine.specs.EachQueue.{HasItsPlaces, HasCause, HasCauseFor}
 use Rattle.step_machine.proofs.Reached.{reached_in_range, actor_in_range}
-use Rattle.step_machine.proofs.Accounts.{raised_node}
+use Rattle.step_machine.proofs.LinearizationSteps.{raised_node}
 use Rattle.step_machine.proofs.Fits.{shared_fits}
 use Rattle.step_machine.proofs.Chains.{one_if_same, chain_same, chain_some}
 use Rattle.step_machine.proofs.Counting.{holds as holds_of, held_one}
-use Rattle.step_machine.proofs.StampsKept.{actor_stands}
+use Rattle.step_machine.proofs.StampsInvariants.{actor_stands}
 use Rattle.step_machine.proofs.TwoLockLaws as two_lock
 use Rattle.step_machine.proofs.TwoLockLaws.{contained}
 use Rattle.step_machine.proofs.TwoLockCounts.{count_nothing}
 use Rattle.step_machine.proofs.NonBlockingLaws as non_blocking
 use Rattle.node_arena.specs.Traces.{outcome_at}
-use Rattle.node_arena.specs.Leads.{Lead, led}
-use Rattle.node_arena.specs.Seeing.{Knows}
+use Rattle.node_arena.specs.Prologues.{Prologue, after_prologue}
+use Rattle.node_arena.specs.Seeing.{SeatView}
 use Rattle.node_arena.specs.Plans.{Layout}
 use Rattle.node_arena.specs.Rule.{Steps}
-use Rattle.node_arena.specs.Walks.{HasOwnCause, IsSole}
+use Rattle.node_arena.specs.Paths.{HasOwnCause, IsSole}
 use Rattle.node_arena.proofs.Tracing.{traced_reached}
 
-module _ (z : Layout) (lead : Lead) (l : Line) (n : ℕ) (v v' : Knows) (h : Steps z lead l n v v') where
+module _ (z : Layout) (prologue : Prologue) (l : Line) (n : ℕ) (v v' : SeatView) (h : Steps z prologue l n v v') where
   -- its numbers are in range
   pub was_in_range : WorldInRange h.was.world
   was_in_range = reached_in_range h.was.world (traced_reached h.was h.reached)
@@ -50,16 +50,16 @@ module _ (z : Layout) (lead : Lead) (l : Line) (n : ℕ) (v v' : Knows) (h : Ste
   was_fits = shared_fits h.was.world was_in_range
 
   -- the actor's registers are in range
-  pub actor_was_in_range : ActorInRange h.was.world.setup h.was.world.shared.fresh (length h.was.world.actors) (led z.setup v.number lead v.actor)
-  actor_was_in_range = actor_in_range h.was.world v.number (led z.setup v.number lead v.actor) was_in_range h.before
+  pub actor_was_in_range : ActorInRange h.was.world.setup h.was.world.shared.fresh (length h.was.world.actors) (after_prologue z.setup v.number prologue v.actor)
+  actor_was_in_range = actor_in_range h.was.world v.number (after_prologue z.setup v.number prologue v.actor) was_in_range h.before
 
 -- a step that is refused has its cause in that world, in either queue
-pub has_cause : (z : Layout) (lead : Lead) (l : Line) (n : ℕ) (v v' : Knows) (h : Steps z lead l n v v') (why : Refusal) → (outcome_at z.setup h.was v.number (led z.setup v.number lead v.actor) l).reply ≡ Some (Refused why) → HasCause h.was.world why
-has_cause z lead l n v v' h why e = go h.was.world.setup.kind refl (ap (λ s. (outcome s (h.was.world.steps + 1) v.number (led z.setup v.number lead v.actor) l (found (action s v.number (led z.setup v.number lead v.actor) l) h.was.world.shared)).reply) h.setup ∙ e)
+pub has_cause : (z : Layout) (prologue : Prologue) (l : Line) (n : ℕ) (v v' : SeatView) (h : Steps z prologue l n v v') (why : Refusal) → (outcome_at z.setup h.was v.number (after_prologue z.setup v.number prologue v.actor) l).reply ≡ Some (Refused why) → HasCause h.was.world why
+has_cause z prologue l n v v' h why e = go h.was.world.setup.kind refl (ap (λ s. (outcome s (h.was.world.steps + 1) v.number (after_prologue z.setup v.number prologue v.actor) l (found (action s v.number (after_prologue z.setup v.number prologue v.actor) l) h.was.world.shared)).reply) h.setup ∙ e)
   where
-    go : (k : Kind) → h.was.world.setup.kind ≡ k → (outcome h.was.world.setup (h.was.world.steps + 1) v.number (led z.setup v.number lead v.actor) l (found (action h.was.world.setup v.number (led z.setup v.number lead v.actor) l) h.was.world.shared)).reply ≡ Some (Refused why) → HasCause h.was.world why
-    go TwoLock k reply = subst (HasCauseFor h.was.world) reply (two_lock.refuse_with_cause h.was.world (traced_reached h.was h.reached) k v.number (led z.setup v.number lead v.actor) l h.before h.line)
-    go NonBlocking k reply = subst (HasCauseFor h.was.world) reply (non_blocking.refuse_with_cause h.was.world (traced_reached h.was h.reached) k v.number (led z.setup v.number lead v.actor) l h.before h.line)
+    go : (k : Kind) → h.was.world.setup.kind ≡ k → (outcome h.was.world.setup (h.was.world.steps + 1) v.number (after_prologue z.setup v.number prologue v.actor) l (found (action h.was.world.setup v.number (after_prologue z.setup v.number prologue v.actor) l) h.was.world.shared)).reply ≡ Some (Refused why) → HasCause h.was.world why
+    go TwoLock k reply = subst (HasCauseFor h.was.world) reply (two_lock.refuse_with_cause h.was.world (traced_reached h.was h.reached) k v.number (after_prologue z.setup v.number prologue v.actor) l h.before h.line)
+    go NonBlocking k reply = subst (HasCauseFor h.was.world) reply (non_blocking.refuse_with_cause h.was.world (traced_reached h.was h.reached) k v.number (after_prologue z.setup v.number prologue v.actor) l h.before h.line)
 
 -- no `next` of the queue with locks has a count
 none_counted : (nodes : List Node) (i : ℕ) → All (λ n. n.next.count ≡ 0) nodes → (slice_index_or nodes i blank).next.count ≡ 0
@@ -68,11 +68,11 @@ none_counted (n ∷ ns) zero h = All-head (λ (x : Node). x.next.count ≡ 0) n 
 none_counted (n ∷ ns) (suc i) h = none_counted ns i (All-tail (λ (x : Node). x.next.count ≡ 0) n ns h)
 
 -- and where a `next` is worn out, it is that of the actor's own node
-pub has_own_cause : (z : Layout) (lead : Lead) (l : Line) (n : ℕ) (v v' : Knows) (h : Steps z lead l n v v') (why : Refusal) → (outcome_at z.setup h.was v.number (led z.setup v.number lead v.actor) l).reply ≡ Some (Refused why) → HasOwnCause h.was.world v.number why
-has_own_cause z lead l n v v' h why e = by_cause why e (has_cause z lead l n v v' h why e)
+pub has_own_cause : (z : Layout) (prologue : Prologue) (l : Line) (n : ℕ) (v v' : SeatView) (h : Steps z prologue l n v v') (why : Refusal) → (outcome_at z.setup h.was v.number (after_prologue z.setup v.number prologue v.actor) l).reply ≡ Some (Refused why) → HasOwnCause h.was.world v.number why
+has_own_cause z prologue l n v v' h why e = by_cause why e (has_cause z prologue l n v v' h why e)
   where
     a : Actor
-    a = led z.setup v.number lead v.actor
+    a = after_prologue z.setup v.number prologue v.actor
 
     w : World
     w = h.was.world

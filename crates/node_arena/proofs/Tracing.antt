@@ -7,7 +7,7 @@ use Rattle.line_steps.specs.declared.actors.Actor.{Actor}
 use Rattle.step_machine.specs.declared.actors.Move.TheVariants.{Begin, Step, Give}
 use Rattle.step_machine.specs.Machine.{World, actor_of, moved, steps, stepped, next, AnyMove, made, Rest, next_any, run_on, run, IsSized, IsReached}
 use Rattle.step_machine.proofs.Reached.{setup-next_any, mover_in_range}
-use Rattle.step_machine.proofs.Booking.{actor_same, actor_other}
+use Rattle.step_machine.proofs.CompletionSteps.{actor_same, actor_other}
 use Rattle.node_arena.specs.Traces.{Traced, changed, actor_at, step_at, traced_at, traced_step, traced_move, traced_next, traced_on, trace, first_trace, IsTraced}
 
 world_of : Option Traced → Option World

@@ -6,7 +6,7 @@ use Rattle.atomic_table.specs.declared.shared.Seat.{Seat as Token}
 use Rattle.history.specs.Entries.{is_push, is_pop}
 use Rattle.node_arena.specs.declared.views.Knowing.{Knowing}
 use Rattle.node_arena.specs.declared.seats.Seat.{Seat}
-use Rattle.node_arena.specs.Seeing.{Knows, gathered, seated}
+use Rattle.node_arena.specs.Seeing.{SeatView, gathered, seated}
 use Rattle.node_arena.specs.Seats.{view}
 
 -- a seat's token is one of a table, and knows what its seat knows
@@ -15,7 +15,7 @@ pub record HasToken (t : TableId) (s : Seat) : Type 0 where
   pub seat : s.token.me ≡ (seated (view s), [])
 
 -- a token of a table has taken in those of seats that knew this
-pub record HasGathered (t : TableId) (k : Token ℕ Knowing) (vs : List Knows) : Type 0 where
+pub record HasGathered (t : TableId) (k : Token ℕ Knowing) (vs : List SeatView) : Type 0 where
   pub table : k.table_id ≡ t
   pub seat : k.me ≡ (gathered vs, [])
 

@@ -1,6 +1,6 @@
 pub mod Machine
 pub mod Traces
-pub mod Leads
+pub mod Prologues
 pub mod Seeing
 pub mod Plans
 pub mod Rule
@@ -9,4 +9,4 @@ pub mod Making
 pub mod Remains
 pub mod Closing
 pub mod Turns
-pub mod Walks
+pub mod Paths

@@ -4,11 +4,11 @@ pub use Rattle.line_steps.specs.declared.actors.Held.{Held}
 pub use Rattle.line_steps.specs.declared.actors.Actor.{Actor}
 pub use Rattle.line_steps.specs.declared.actors.Outcome.{Outcome}
 pub use Rattle.line_steps.specs.Memory.{Free as WordFree, Head as WordHead, Tail as WordTail, Next as WordNext, Value_of as WordValue, Shared, Word, Content, node_at, found, word}
-pub use Rattle.line_steps.specs.Lines.{action, outcome, raised, with_node, dequeues, goes, worn, takes, lets_go, freed, sets_aside, unlocked, gives_up, ends, to_pocket, busy_or}
+pub use Rattle.line_steps.specs.Lines.{action, outcome, raised, with_node, dequeues, goes, worn, fills_hand, empties_hand, freed, sets_aside, unlocked, gives_up, ends, to_pocket, busy_or}
 pub use Rattle.line_steps.specs.Calling.{from_pocket}
 pub use Rattle.line_steps.specs.Rooms.{aside_after}
-pub use Rattle.step_machine.specs.Words.{index, words_of}
-pub use Rattle.step_machine.specs.Tables.{PlaceStep, load_at, store_at, and_at, exchange_at, place_of, place_step}
+pub use Rattle.step_machine.specs.Words.{index, memory_words}
+pub use Rattle.step_machine.specs.Tables.{WordStep, load_at, store_at, and_at, exchange_at, word_index, word_step}
 pub use Rattle.step_machine.specs.Machine.{World, actor_of, entry_or, rested, may_rest, IsReached}
 pub use Rattle.step_machine.specs.Places.{IsChain, IsUntouched, IsQueued, IsFree, IsSetAside, set_aside, held, in_hand, in_pocket, one_if}
 pub use Rattle.step_machine.specs.EachQueue.{HasCause}

@@ -16,8 +16,8 @@ use Rattle.node_arena.specs.Plans.{Layout}
 use Rattle.node_arena.specs.Seats.{IsReady, Sits, view, plan_of}
 
 -- the words at the start, in the order of the table: one node was used, the dummy, which Head and Tail name
-abbrev pub first_words : (nodes : ℕ) → List ℕ
-first_words nodes = 1 ∷ 0 ∷ 1 ∷ 1 ∷ 0 ∷ 0 ∷ replicate (2 * nodes) 0
+abbrev pub first_memory_words : (nodes : ℕ) → List ℕ
+first_memory_words nodes = 1 ∷ 0 ∷ 1 ∷ 1 ∷ 0 ∷ 0 ∷ replicate (2 * nodes) 0
 
 -- a plan by its parts
 abbrev pub plan : Kind → (nodes limit : ℕ) → List Role → Layout

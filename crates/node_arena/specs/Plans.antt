@@ -45,8 +45,8 @@ PermitsLine r B5 = IsTrue (may_pop r)
 PermitsLine r l = Unit {0}
 
 -- an entry is permitted by the role of its seat
-abbrev pub IsPermitted : List Role → Entry → Type 0
-IsPermitted roles e = seats.IsPermitted (permits_by roles) e
+abbrev pub RolesPermit : List Role → Entry → Type 0
+RolesPermit roles e = seats.IsPermitted (permits_by roles) e
 
 -- a plan's sizes are in their ranges
 abbrev pub IsPlanned : Layout → Type 0

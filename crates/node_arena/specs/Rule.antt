@@ -10,16 +10,16 @@ use Rattle.history.specs.declared.operations.Entry.{Entry}
 use Rattle.history.specs.declared.operations.Reply.{Reply}
 use Rattle.history.specs.declared.operations.Reply.TheVariants.{Empty}
 use Rattle.history.specs.Entries.{own_entries}
-use Rattle.step_machine.specs.Words.{words_of}
+use Rattle.step_machine.specs.Words.{memory_words}
 use Rattle.step_machine.specs.Machine.{idle, actor_of}
 use Rattle.node_arena.specs.Traces.{Traced, IsTraced, step_at, actor_at, outcome_at, event_at, entries_at, number_at, sees}
-use Rattle.node_arena.specs.Leads.{Lead, led}
-use Rattle.node_arena.specs.Seeing.{Knows, View, keeper, gathered, seated, paired, members, knows}
-use Rattle.node_arena.specs.Plans.{Layout, IsPlanned, IsPermitted}
+use Rattle.node_arena.specs.Prologues.{Prologue, after_prologue}
+use Rattle.node_arena.specs.Seeing.{SeatView, View, keeper, gathered, seated, paired, members, knows}
+use Rattle.node_arena.specs.Plans.{Layout, IsPlanned, RolesPermit}
 
 -- a seat's actor and path are the traced world's, what it has seen is a beginning of the history, and its own entries
 -- are just those of it, and just those that it has seen
-pub record Fits (t : Traced) (v : Knows) : Type 0 where
+pub record Fits (t : Traced) (v : SeatView) : Type 0 where
   pub actor : actor_of t.world v.number ≡ Some v.actor
   pub path : t.paths v.number ≡ v.path
   pub rest : List Entry
@@ -41,13 +41,13 @@ pub record Holds (z : Layout) (s : State ℕ View) : Type 0 where
   pub reached : IsTraced trace
   pub setup : trace.world.setup ≡ z.setup
   pub actors : length trace.world.actors ≡ length z.roles
-  pub words : s.words ≡ words_of trace.world.shared
-  pub permitted : All (IsPermitted z.roles) trace.history
+  pub words : s.words ≡ memory_words trace.world.shared
+  pub permitted : All (RolesPermit z.roles) trace.history
   pub dealt : ℕ
   pub home : ℕ
   pub owner : ℕ → ℕ × ℕ
-  pub fits : (j i : ℕ) (u : View) (v : Knows) → get_elem? s.views j ≡ some u → get_elem? (members u) i ≡ some v → Fits trace v
-  pub owned : (j i : ℕ) (u : View) (v : Knows) → get_elem? s.views j ≡ some u → get_elem? (members u) i ≡ some v → (owner v.number ≡ (j, i)) × (v.number < dealt)
+  pub fits : (j i : ℕ) (u : View) (v : SeatView) → get_elem? s.views j ≡ some u → get_elem? (members u) i ≡ some v → Fits trace v
+  pub owned : (j i : ℕ) (u : View) (v : SeatView) → get_elem? s.views j ≡ some u → get_elem? (members u) i ≡ some v → (owner v.number ≡ (j, i)) × (v.number < dealt)
   pub kept : (j n : ℕ) → get_elem? s.views j ≡ some (keeper n) → (j ≡ home) × (n ≡ dealt)
   pub undealt : (n : ℕ) → dealt ≤ n → n ≤ length z.roles → IsNew trace n
 
@@ -62,55 +62,55 @@ notes_of reply es = []
 
 -- what one step at a line tells of the seat before and after: it was made in a traced world that moves lead to, in
 -- which the seat's actor stood as led there, and it found this number
-pub record Steps (z : Layout) (lead : Lead) (l : Line) (n : ℕ) (v v' : Knows) : Type 0 where
+pub record Steps (z : Layout) (prologue : Prologue) (l : Line) (n : ℕ) (v v' : SeatView) : Type 0 where
   pub sized : IsPlanned z
   pub was : Traced
   pub reached : IsTraced was
   pub setup : was.world.setup ≡ z.setup
-  pub before : actor_of was.world v.number ≡ Some (led z.setup v.number lead v.actor)
-  pub line : (led z.setup v.number lead v.actor).line ≡ Some l
-  pub walked : was.paths v.number ≡ v.path
-  pub reaches : IsTraced (step_at was v.number (led z.setup v.number lead v.actor) l)
-  pub after : actor_of (step_at was v.number (led z.setup v.number lead v.actor) l).world v.number ≡ Some v'.actor
-  pub trod : (step_at was v.number (led z.setup v.number lead v.actor) l).paths v.number ≡ v'.path
-  pub found : n ≡ number_at z.setup was v.number (led z.setup v.number lead v.actor) l
+  pub before : actor_of was.world v.number ≡ Some (after_prologue z.setup v.number prologue v.actor)
+  pub line : (after_prologue z.setup v.number prologue v.actor).line ≡ Some l
+  pub path_before : was.paths v.number ≡ v.path
+  pub reaches : IsTraced (step_at was v.number (after_prologue z.setup v.number prologue v.actor) l)
+  pub after : actor_of (step_at was v.number (after_prologue z.setup v.number prologue v.actor) l).world v.number ≡ Some v'.actor
+  pub path_after : (step_at was v.number (after_prologue z.setup v.number prologue v.actor) l).paths v.number ≡ v'.path
+  pub found : n ≡ number_at z.setup was v.number (after_prologue z.setup v.number prologue v.actor) l
   pub number : v'.number ≡ v.number
-  pub actor : v'.actor ≡ actor_at z.setup was v.number (led z.setup v.number lead v.actor) l
-  pub path : v'.path ≡ v.path ++ event_at z.setup was v.number (led z.setup v.number lead v.actor) l ∷ []
+  pub actor : v'.actor ≡ actor_at z.setup was v.number (after_prologue z.setup v.number prologue v.actor) l
+  pub path : v'.path ≡ v.path ++ event_at z.setup was v.number (after_prologue z.setup v.number prologue v.actor) l ∷ []
   pub rest : List Entry
-  pub seen : v'.seen ≡ (v.seen ++ rest) ++ entries_at z.setup was v.number (led z.setup v.number lead v.actor) l
-  pub whole : sees l ≡ true → v'.seen ≡ (step_at was v.number (led z.setup v.number lead v.actor) l).history
+  pub seen : v'.seen ≡ (v.seen ++ rest) ++ entries_at z.setup was v.number (after_prologue z.setup v.number prologue v.actor) l
+  pub whole : sees l ≡ true → v'.seen ≡ (step_at was v.number (after_prologue z.setup v.number prologue v.actor) l).history
   pub stays : sees l ≡ false → v'.seen ≡ v.seen
-  pub mine : v'.mine ≡ v.mine ++ entries_at z.setup was v.number (led z.setup v.number lead v.actor) l
-  pub notes : v'.notes ≡ v.notes ++ notes_of (outcome_at z.setup was v.number (led z.setup v.number lead v.actor) l).reply v'.seen
-  pub fits : Fits (step_at was v.number (led z.setup v.number lead v.actor) l) v'
-  pub permitted : All (IsPermitted z.roles) (step_at was v.number (led z.setup v.number lead v.actor) l).history
+  pub mine : v'.mine ≡ v.mine ++ entries_at z.setup was v.number (after_prologue z.setup v.number prologue v.actor) l
+  pub notes : v'.notes ≡ v.notes ++ notes_of (outcome_at z.setup was v.number (after_prologue z.setup v.number prologue v.actor) l).reply v'.seen
+  pub fits : Fits (step_at was v.number (after_prologue z.setup v.number prologue v.actor) l) v'
+  pub permitted : All (RolesPermit z.roles) (step_at was v.number (after_prologue z.setup v.number prologue v.actor) l).history
 
 -- the line of an actor in a call
-abbrev pub line_of : Option Line → Line
-line_of None = N1
-line_of (Some l) = l
+abbrev pub line_or_first : Option Line → Line
+line_or_first None = N1
+line_or_first (Some l) = l
 
 -- what a step tells, where the seat's view says at which line it was made
-abbrev pub Tells : Layout → Lead → Me ℕ View → ℕ → Me ℕ View → Type 0
-Tells z lead me n me' =
+abbrev pub Tells : Layout → Prologue → Me ℕ View → ℕ → Me ℕ View → Type 0
+Tells z prologue me n me' =
     (me' ≡ (seated (knows me'.0), [])) ×
-    Steps z lead (line_of (led z.setup (knows me.0).number lead (knows me.0).actor).line) n (knows me.0) (knows me'.0)
+    Steps z prologue (line_or_first (after_prologue z.setup (knows me.0).number prologue (knows me.0).actor).line) n (knows me.0) (knows me'.0)
 
 -- the same of a step that isn't told what it found
-abbrev pub TellsNothing : Layout → Lead → Me ℕ View → Me ℕ View → Type 0
-TellsNothing z lead me me' = (n : ℕ) × Tells z lead me n me'
+abbrev pub TellsNothing : Layout → Prologue → Me ℕ View → Me ℕ View → Type 0
+TellsNothing z prologue me me' = (n : ℕ) × Tells z prologue me n me'
 
 -- there was a traced world, which moves lead to, to which a seat fits, with a history of entries that the roles permit
-pub record Fitted (z : Layout) (v : Knows) : Type 0 where
+pub record Fitted (z : Layout) (v : SeatView) : Type 0 where
   pub trace : Traced
   pub reached : IsTraced trace
   pub setup : trace.world.setup ≡ z.setup
-  pub permitted : All (IsPermitted z.roles) trace.history
+  pub permitted : All (RolesPermit z.roles) trace.history
   pub fits : Fits trace v
 
 -- two seats that are one have seen one history, which begins with what each had seen; nothing else changed
-pub record Met (z : Layout) (v w : Knows) (m : Me ℕ View) : Type 0 where
+pub record Met (z : Layout) (v w : SeatView) (m : Me ℕ View) : Type 0 where
   pub all : List Entry
   pub first_rest : List Entry
   pub second_rest : List Entry

@@ -9,13 +9,13 @@ use Rattle.history.specs.Seats.{Permit, Known, IsSound}
 use Rattle.line_steps.specs.declared.actors.Setup.{Setup}
 use Rattle.line_steps.specs.declared.actors.Held.{Held}
 use Rattle.line_steps.specs.Lines.{action}
-use Rattle.step_machine.specs.Tables.{PlaceStep, place_step}
+use Rattle.step_machine.specs.Tables.{WordStep, word_step}
 use Rattle.atomic_table.specs.Seated.{TableId}
 use Rattle.node_arena.specs.declared.roles.Role.{Role}
 use Rattle.node_arena.specs.declared.arena.Arena.{Arena}
 use Rattle.node_arena.specs.declared.seats.Seat.{Seat}
-use Rattle.node_arena.specs.Leads.{Lead, led, at_rest, CanLead}
-use Rattle.node_arena.specs.Seeing.{Knows, seated, knows, known_by}
+use Rattle.node_arena.specs.Prologues.{Prologue, after_prologue, at_rest, CanStart}
+use Rattle.node_arena.specs.Seeing.{SeatView, seated, knows, known_by}
 use Rattle.node_arena.specs.Plans.{Layout, IsTable, PermitsLine, permits_by}
 use Rattle.node_arena.specs.Rule.{Steps, Fitted}
 
@@ -32,7 +32,7 @@ abbrev pub permits_of : Arena → List Permit
 permits_of r = permits_by r.plan.roles
 
 -- what a seat knows
-abbrev pub view : Seat → Knows
+abbrev pub view : Seat → SeatView
 view s = knows s.token.me.0
 
 -- what a seat knows of its queue
@@ -121,22 +121,22 @@ HasRoom s l = Unit {0}
 
 -- the seat's next move by the rule is this step on a word, at this line, with these moves before it, and the seat's role
 -- permits it
-pub record MayStep (r : Arena) (s : Seat) (lead : Lead) (l : Line) (x : PlaceStep) : Type 0 where
+pub record MayStep (r : Arena) (s : Seat) (prologue : Prologue) (l : Line) (x : WordStep) : Type 0 where
   pub seat : IsSeat r s
-  pub leads : CanLead lead (view s).actor
-  pub line : (led r.plan.setup (view s).number lead (view s).actor).line ≡ Some l
-  pub access : place_step (action r.plan.setup (view s).number (led r.plan.setup (view s).number lead (view s).actor) l) ≡ x
+  pub leads : CanStart prologue (view s).actor
+  pub line : (after_prologue r.plan.setup (view s).number prologue (view s).actor).line ≡ Some l
+  pub access : word_step (action r.plan.setup (view s).number (after_prologue r.plan.setup (view s).number prologue (view s).actor) l) ≡ x
   pub permits : PermitsLine s.role l
 
 -- the seat made that step, and found this number
-pub record DidStep (r : Arena) (s t : Seat) (lead : Lead) (l : Line) (n : ℕ) : Type 0 where
+pub record DidStep (r : Arena) (s t : Seat) (prologue : Prologue) (l : Line) (n : ℕ) : Type 0 where
   pub seat : IsSeat r t
   pub stored : KeepsStored s t
-  pub told : Steps r.plan lead l n (view s) (view t)
+  pub told : Steps r.plan prologue l n (view s) (view t)
 
 -- the seat made that step
-abbrev pub DidSome : Arena → Seat → Seat → Lead → Line → Type 0
-DidSome r s t lead l = (n : ℕ) × DidStep r s t lead l n
+abbrev pub DidSome : Arena → Seat → Seat → Prologue → Line → Type 0
+DidSome r s t prologue l = (n : ℕ) × DidStep r s t prologue l n
 
 -- a seat in no call, or whose actor may give up or rest: its pocket is the one that its actor then has
 pub record IsReady (r : Arena) (s : Seat) : Type 0 where

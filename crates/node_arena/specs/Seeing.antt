@@ -8,7 +8,7 @@ use Rattle.node_arena.specs.Traces.{Event}
 
 -- what a seat knows: its number, its actor with line and registers, its path, a beginning of the history, its own entries,
 -- and its notes: after so many entries it found the queue empty
-pub record Knows : Type 0 where
+pub record SeatView : Type 0 where
   pub number : ℕ
   pub actor : Actor
   pub path : List Event
@@ -17,20 +17,20 @@ pub record Knows : Type 0 where
   pub notes : List ℕ
 
 -- what a seat knows of its queue
-abbrev pub known_by : Knows → Known
+abbrev pub known_by : SeatView → Known
 known_by v = record { number = v.number; seen = v.seen; mine = v.mine; notes = v.notes }
 
 -- the views of the table: the first one deals numbers; one that gathers has what closed seats knew; two seats are one
 -- while they meet; a spent one knows nothing
 pub data View : Type 0 where
   keeper : ℕ → View
-  gathered : List Knows → View
-  seated : Knows → View
-  paired : Knows → Knows → View
+  gathered : List SeatView → View
+  seated : SeatView → View
+  paired : SeatView → SeatView → View
   spent : View
 
 -- the seats that a view speaks of
-abbrev pub members : View → List Knows
+abbrev pub members : View → List SeatView
 members (keeper n) = []
 members (gathered vs) = vs
 members (seated v) = v ∷ []
@@ -38,11 +38,11 @@ members (paired v w) = v ∷ w ∷ []
 members spent = []
 
 -- what a seat knows that was just dealt
-abbrev pub new_seat : ℕ → Knows
+abbrev pub new_seat : ℕ → SeatView
 new_seat n = record { number = n; actor = idle; path = []; seen = []; mine = []; notes = [] }
 
 -- what the first seat of a view knows
-abbrev pub knows : View → Knows
+abbrev pub knows : View → SeatView
 knows (keeper n) = new_seat 0
 knows (gathered vs) = new_seat 0
 knows (seated v) = v
@@ -50,7 +50,7 @@ knows (paired v w) = v
 knows spent = new_seat 0
 
 -- what the second seat of a view knows
-abbrev pub knows_second : View → Knows
+abbrev pub knows_second : View → SeatView
 knows_second (keeper n) = new_seat 0
 knows_second (gathered vs) = new_seat 0
 knows_second (seated v) = v

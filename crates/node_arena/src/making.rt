@@ -2,7 +2,7 @@
 ghost use Rattle.std.specs.Prelude.{◌*◌, ◌^◌, ◌≡◌, ◌<◌, IfOk, IfErr, OnOk};
 ghost use Rattle.line_steps.specs.declared.actors.Setup.{Setup as Setups};
 ghost use Rattle.node_arena.specs.Plans.{IsPlanned};
-ghost use Rattle.node_arena.specs.Making.{first_words, IsMade, NewRefused};
+ghost use Rattle.node_arena.specs.Making.{first_memory_words, IsMade, NewRefused};
 
 use crate::arena::Arena;
 use crate::dealing::deal_all;
@@ -19,7 +19,7 @@ use step_machine::Setup;
 // The words at the start: one node was used, and Head and Tail name it.
 fn words_at_start(alloc: Global, nodes: u32) -> Result<Vec<u64>, AllocError>
     requires { nodes < 2 ^ 24 }
-    ensures { IfOk result (λ v. v.items ≡ first_words nodes) }
+    ensures { IfOk result (λ v. v.items ≡ first_memory_words nodes) }
 {
     let mut words = vec![in alloc; 0u64; 6 + 2 * nodes as usize]?;
     words[0] = 1;

@@ -1,7 +1,7 @@
 //! The atomic steps of a seat, one call for each form.
 ghost use Rattle.std.specs.Prelude.{◌≡◌, ◌≢◌, MatchResult};
 ghost use Rattle.step_machine.specs.Tables.{load_at, store_at, and_at, exchange_at};
-ghost use Rattle.node_arena.specs.Leads.{Lead};
+ghost use Rattle.node_arena.specs.Prologues.{Prologue};
 ghost use Rattle.node_arena.specs.Seats.{MayStep, DidStep, DidSome};
 
 use crate::arena::Arena;
@@ -14,9 +14,9 @@ impl Arena {
     ///
     /// That the step is the seat's next move by the rule is the caller's condition. Takes no memory and doesn't wait.
     pub fn load(&self, seat: &mut Seat, line: Line, word: usize) -> u64
-        ghost lead: { Lead }
-        requires { MayStep self.now seat.old lead line (load_at word) }
-        ensures { DidStep self.now seat.old seat.new lead line result }
+        ghost prologue: { Prologue }
+        requires { MayStep self.now seat.old prologue line (load_at word) }
+        ensures { DidStep self.now seat.old seat.new prologue line result }
     {
         let _ = line;
         self.table.shared.load::<Brand>(&mut seat.token, word)
@@ -26,9 +26,9 @@ impl Arena {
     ///
     /// That the step is the seat's next move by the rule is the caller's condition. Takes no memory and doesn't wait.
     pub fn store(&self, seat: &mut Seat, line: Line, word: usize, value: u64)
-        ghost lead: { Lead }
-        requires { MayStep self.now seat.old lead line (store_at word value) }
-        ensures { DidSome self.now seat.old seat.new lead line }
+        ghost prologue: { Prologue }
+        requires { MayStep self.now seat.old prologue line (store_at word value) }
+        ensures { DidSome self.now seat.old seat.new prologue line }
     {
         self.table
             .shared
@@ -40,9 +40,9 @@ impl Arena {
     ///
     /// That the step is the seat's next move by the rule is the caller's condition. Takes no memory and doesn't wait.
     pub fn fetch_and(&self, seat: &mut Seat, line: Line, word: usize, mask: u64) -> u64
-        ghost lead: { Lead }
-        requires { MayStep self.now seat.old lead line (and_at word mask) }
-        ensures { DidStep self.now seat.old seat.new lead line result }
+        ghost prologue: { Prologue }
+        requires { MayStep self.now seat.old prologue line (and_at word mask) }
+        ensures { DidStep self.now seat.old seat.new prologue line result }
     {
         let _ = line;
         self.table
@@ -62,11 +62,11 @@ impl Arena {
         old: u64,
         new: u64,
     ) -> Result<u64, u64>
-        ghost lead: { Lead }
-        requires { MayStep self.now seat.old lead line (exchange_at word old new) }
+        ghost prologue: { Prologue }
+        requires { MayStep self.now seat.old prologue line (exchange_at word old new) }
         ensures { MatchResult result
-            (λ n. (n ≡ old) × DidStep self.now seat.old seat.new lead line n)
-            (λ n. (n ≢ old) × DidStep self.now seat.old seat.new lead line n) }
+            (λ n. (n ≡ old) × DidStep self.now seat.old seat.new prologue line n)
+            (λ n. (n ≢ old) × DidStep self.now seat.old seat.new prologue line n) }
     {
         let found = self
             .table

@@ -2,7 +2,7 @@
 use Rattle.std.specs.Prelude.{ℕ, List, ◌++◌, map, codes, decimal}
 use Rattle.std.specs.List.{flat_map}
 use Rattle.history.specs.declared.operations.Stamped.{Stamped}
-use Rattle.history.specs.History.{number_of, rising}
+use Rattle.history.specs.History.{point_or_zero, by_point}
 use Rattle.history.specs.HistoryText.{call_text, reply_text}
 use Rattle.report.specs.declared.kinds.Kind.{Kind}
 use Rattle.report.specs.Columns.{right_in, left_in}
@@ -21,7 +21,7 @@ count_text kind number = left_in 10 (kind_text kind) ++ right_in 8 (decimal numb
 
 -- the operations that have a place, each with its number, by rising place, equal ones in the order of the list
 abbrev pub rows_of : List Stamped → List (ℕ × Stamped)
-rows_of ops = map (λ o. (number_of o.at, o)) (rising ops)
+rows_of ops = map (λ o. (point_or_zero o.at, o)) (by_point ops)
 
 -- each kind of all operations with how many there are, in the order in which each kind first occurs
 abbrev pub counts_of : List Stamped → List (Kind × ℕ)

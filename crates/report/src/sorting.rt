@@ -1,6 +1,6 @@
 //! Operations by rising place.
 ghost use Rattle.std.specs.Prelude.{◌≡◌, filter, map, is_some, IfOk, IfErr};
-ghost use Rattle.history.specs.History.{rising};
+ghost use Rattle.history.specs.History.{by_point};
 ghost use Rattle.history.specs.Checking.{shown, numbered};
 
 use history::{Refusal, Stamped};
@@ -11,7 +11,7 @@ pub(crate) fn by_place<'a>(
     alloc: Global,
     history: &'a [Stamped],
 ) -> Result<Vec<(u64, &'a Stamped)>, Refusal>
-    ensures ok { IfOk result (λ placed. map shown placed.items ≡ map numbered (rising history.now)) }
+    ensures ok { IfOk result (λ placed. map shown placed.items ≡ map numbered (by_point history.now)) }
     ensures only_memory { IfErr result (λ why. why ≡ Refusal.Memory) }
 {
     let mut placed = placed_of(alloc, history)?;

@@ -7,7 +7,7 @@ use Rattle.std.proofs.lemmas.List.Elements.{All-nil, All-cons, All-append, All-h
 use Rattle.history.specs.declared.refusals.Refusal.{Refusal}
 use Rattle.history.specs.declared.refusals.Refusal.TheVariants.{Memory, Text}
 use Rattle.text_lines.specs.declared.causes.TextCause.{TextCause}
-use Rattle.text_lines.specs.Grammars.{Grammar, AreDue, state_after, lines_of, IsText, IsFirstFault, IsSound}
+use Rattle.text_lines.specs.Grammars.{Grammar, AreDue, state_after, lines_of, IsText, IsFirstFault, IsSoundGrammar}
 use Rattle.text_lines.specs.Lines.{HasNo, spaced}
 use Rattle.text_lines.proofs.Single.{one_list, no_fault, one_fault}
 use Rattle.schedule_text.specs.declared.schedules.Event.{Event}
@@ -33,8 +33,8 @@ apart : (a b : Said) → schedule_lines.words a ≡ schedule_lines.words b → a
 apart a b same = said_same a b (sym (words_of-said a (spaced (said_words a)) refl) ∙ words_of-said b (spaced (said_words a)) same)
 
 -- the words of a line of a schedule tell what it says, and have no line feed
-IsSound-schedule : IsSound schedule_lines
-IsSound-schedule = record { no_feed = λ due said may. unbroken said; one = λ due a b may may' same. apart a b same }
+IsSoundGrammar-schedule : IsSoundGrammar schedule_lines
+IsSoundGrammar-schedule = record { no_feed = λ due said may. unbroken said; one = λ due a b may may' same. apart a b same }
 
 -- the lines of schedules, whatever their numbers
 abbrev unranged_lines : Grammar Due Said
@@ -46,8 +46,8 @@ unranged_lines = record {
   after = due_after;
 }
 
-IsSound-unranged : IsSound unranged_lines
-IsSound-unranged = record { no_feed = λ due said may. unbroken said; one = λ due a b may may' same. apart a b same }
+IsSoundGrammar-unranged : IsSoundGrammar unranged_lines
+IsSoundGrammar-unranged = record { no_feed = λ due said may. unbroken said; one = λ due a b may may' same. apart a b same }
 
 unranged_events : (count : ℕ) (events : List Event) → length events ≡ count → AreDue unranged_lines (events_left count) (map happens events)
 unranged_events count [] counted = tt
@@ -126,7 +126,7 @@ events_same (a ∷ ps) (b ∷ bs) same =
 -- no two schedules have one text
 pub one_text : (a b : Schedule) → schedule_text a ≡ schedule_text b → a ≡ b
 one_text a b same =
-    let lines : said_by a ≡ said_by b = one_list unranged_lines IsSound-unranged version_due (said_by a) (said_by b) (schedule_text b)
+    let lines : said_by a ≡ said_by b = one_list unranged_lines IsSoundGrammar-unranged version_due (said_by a) (said_by b) (schedule_text b)
     (subst (IsText unranged_lines version_due (said_by a)) same (IsText-unranged a)) (IsText-unranged b) in
     let kind : a.kind ≡ b.kind = cc in
     let nodes : a.nodes ≡ b.nodes = cc in
@@ -144,12 +144,12 @@ IsText-schedule s range =
 
 -- so it has no fault
 pub no_fault_of_schedule : (s : Schedule) (at : ℕ) (cause : TextCause) → IsInRange s → IsFirstFault schedule_lines version_due (schedule_text s) at cause → ⊥
-no_fault_of_schedule s at cause range = no_fault schedule_lines IsSound-schedule version_due (said_by s) (schedule_text s) at cause (IsText-schedule s range)
+no_fault_of_schedule s at cause range = no_fault schedule_lines IsSoundGrammar-schedule version_due (said_by s) (schedule_text s) at cause (IsText-schedule s range)
 
 -- a text has one first fault
 pub one_fault_of_schedule : (text : List ℕ) (at by : ℕ) (c d : TextCause) → IsFirstFault schedule_lines version_due text at c
     → IsFirstFault schedule_lines version_due text by d → (at ≡ by) × (c ≡ d)
-one_fault_of_schedule = one_fault schedule_lines IsSound-schedule version_due
+one_fault_of_schedule = one_fault schedule_lines IsSoundGrammar-schedule version_due
 
 -- what is read of a schedule's text is that schedule
 pub read_back : (text : List ℕ) (answer : Result Schedule Refusal) → IfOk answer (λ t. text ≡ schedule_text t) → IfErr answer (IsRefusedText text)

@@ -1,7 +1,7 @@
 //! The event of a schedule's line.
 ghost use Rattle.std.specs.Prelude.{◌≡◌, ◌≢◌, ℕ, [], ◌∷◌, MatchResult, codes};
 ghost use Rattle.text_lines.specs.Lines.{words_of};
-ghost use Rattle.text_lines.specs.Readings.{IsKept, Reads, ReadsLine, ReadsWords};
+ghost use Rattle.text_lines.specs.Readings.{ReadsBack, Reads, ReadsLine, ReadsWords};
 ghost use Rattle.text_lines.specs.Numerals.{IsWithin};
 ghost use Rattle.text_lines.specs.Wording.{number_words};
 ghost use Rattle.line_table.specs.Names.{name_of};
@@ -53,8 +53,8 @@ fn begin_in(words: Words) -> Result<Option<Event>, TextCause>
 }
 
 fn begin_of(actor: Option<u16>, op: Option<Op>) -> Option<Event>
-    ensures { (a : ℕ) (o : Op) → IsKept IsActor a actor → IsKept IsCallInRange o op
-        → IsKept IsEventInRange (Event.Begin a o) result }
+    ensures { (a : ℕ) (o : Op) → ReadsBack IsActor a actor → ReadsBack IsCallInRange o op
+        → ReadsBack IsEventInRange (Event.Begin a o) result }
 {
     Some(Event::Begin(actor?, op?))
 }
@@ -84,7 +84,7 @@ fn step_in(words: Words) -> Result<Option<Event>, TextCause>
 }
 
 fn step_of(actor: Option<u16>, line: Line) -> Option<Event>
-    ensures { (a : ℕ) → IsKept IsActor a actor → IsKept IsEventInRange (Event.Step a line) result }
+    ensures { (a : ℕ) → ReadsBack IsActor a actor → ReadsBack IsEventInRange (Event.Step a line) result }
 {
     Some(Event::Step(actor?, line))
 }
@@ -112,9 +112,9 @@ fn steps_in(words: Words) -> Result<Option<Event>, TextCause>
 }
 
 fn steps_of(actor: Option<u16>, count: Option<u64>) -> Option<Event>
-    requires { (k : ℕ) × IsKept (IsWithin 1 1000000) k count }
-    ensures { (a k : ℕ) → IsKept IsActor a actor → IsKept (IsWithin 1 1000000) k count
-        → IsKept IsEventInRange (Event.Steps a k) result }
+    requires { (k : ℕ) × ReadsBack (IsWithin 1 1000000) k count }
+    ensures { (a k : ℕ) → ReadsBack IsActor a actor → ReadsBack (IsWithin 1 1000000) k count
+        → ReadsBack IsEventInRange (Event.Steps a k) result }
 {
     Some(Event::Steps(actor?, count? as u32))
 }
@@ -129,7 +129,7 @@ fn give_in(words: Words) -> Result<Option<Event>, TextCause>
 }
 
 fn give_of(actor: Option<u16>) -> Option<Event>
-    ensures { (a : ℕ) → IsKept IsActor a actor → IsKept IsEventInRange (Event.Give a) result }
+    ensures { (a : ℕ) → ReadsBack IsActor a actor → ReadsBack IsEventInRange (Event.Give a) result }
 {
     Some(Event::Give(actor?))
 }
@@ -154,8 +154,8 @@ fn enqueue_in(words: Words) -> Result<Option<Op>, TextCause>
 }
 
 fn enqueue_of(number: Option<u64>) -> Option<Op>
-    ensures { (n : ℕ) → IsKept (IsWithin 0 281474976710655) n number
-        → IsKept IsCallInRange (Op.Enq n) result }
+    ensures { (n : ℕ) → ReadsBack (IsWithin 0 281474976710655) n number
+        → ReadsBack IsCallInRange (Op.Enq n) result }
 {
     Some(Op::Enq(Body::new(number?)?))
 }

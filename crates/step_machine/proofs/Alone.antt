@@ -3,19 +3,19 @@
 use Rattle.std.proofs.Common.{◌≡◌, ◌≢◌, ℕ, suc, ◌+◌, ◌≤◌, Bool, true, false, nat_eq, nat_lt, ◌&&◌, if◌then◌else◌, [], ◌∷◌, length, replicate, Option, Some, None, IfSome, IsSomeAnd, refl, sym, ap, ◌∙◌, subst, arith}
 use Rattle.std.proofs.lemmas.Bool.{eqb-true, eq-eqb, true≢false}
 use Rattle.std.proofs.lemmas.Option.{none-some}
-use Rattle.step_machine.specs.Below.{Ref, is_null, same_ref, Kind, NonBlocking, Line, N1, N2, N3, N4, N5, F1, F2, F3, E2, E3, E5, E6, E7, E9, E13, E17, D2, D3, D4, D5, D10, D12, D13, Op, Enq, Deq, Reply, Done, Setup, Held, Actor, Outcome, Shared, put, found, performed, Tail, action, outcome, raised, goes, ends, effect, lets_go, sets_aside, with_node, dequeues, freed, is_call, from_pocket, begun}
+use Rattle.step_machine.specs.Below.{Ref, is_null, same_ref, Kind, NonBlocking, Line, N1, N2, N3, N4, N5, F1, F2, F3, E2, E3, E5, E6, E7, E9, E13, E17, D2, D3, D4, D5, D10, D12, D13, Op, Enq, Deq, Reply, Done, Setup, Held, Actor, Outcome, Shared, put, found, performed, Tail, action, outcome, raised, goes, ends, effect, empties_hand, sets_aside, with_node, dequeues, freed, is_call, from_pocket, begun}
 use Rattle.step_machine.specs.declared.actors.Move.TheVariants.{Begin, Step}
-use Rattle.step_machine.specs.Machine.{World, actor_of, with_actor, entry_or, settled, stepped, begins, steps, moved, made, next, run, run_on, IsReached}
+use Rattle.step_machine.specs.Machine.{World, actor_of, with_actor, entry_or, after_outcome, stepped, begins, steps, moved, made, next, run, run_on, IsReached}
 use Rattle.step_machine.specs.Calls.{IsIdle}
 use Rattle.step_machine.specs.Places.{IsChain}
 use Rattle.step_machine.specs.Lag.{TailLags}
 use Rattle.step_machine.specs.Solo.{EndsWithin, most_steps, EndsAlone, EachEndsAlone}
 use Rattle.step_machine.specs.NonBlocking.{OfNonBlockingWorlds}
 use Rattle.step_machine.proofs.Choices.{either}
-use Rattle.step_machine.proofs.Accounts.{raised_node}
-use Rattle.step_machine.proofs.Booking.{actor_same}
+use Rattle.step_machine.proofs.LinearizationSteps.{raised_node}
+use Rattle.step_machine.proofs.CompletionSteps.{actor_same}
 use Rattle.step_machine.proofs.Effects.{queued_once}
-use Rattle.step_machine.proofs.NonBlockingKnows.{next_of}
+use Rattle.step_machine.proofs.NonBlockingAtLines.{next_of}
 use Rattle.step_machine.proofs.NonBlockingLag.{behind_tail, one_after, after_not_first}
 use Rattle.step_machine.proofs.NonBlockingLaws.{AtLine, at_line}
 use Rattle.step_machine.proofs.Reached.{some_of, reached_next, setup-next}
@@ -49,7 +49,7 @@ record At (me : ℕ) (w : World) (a : Actor) (l : Line) : Type 0 where
 
 -- from the world after an actor was told an outcome, with these words, its call ends within so many steps
 record Leads (k me : ℕ) (w : World) (a : Actor) (m : Shared) (o : Outcome) : Type 0 where
-  ends_then : IsReached (settled w me a m o) → EndsWithin k (settled w me a m o) me
+  ends_then : IsReached (after_outcome w me a m o) → EndsWithin k (after_outcome w me a m o) me
 
 by_step : (k me : ℕ) (w : World) (a : Actor) (l : Line) → At me w a l → Leads k me w a (performed (action w.setup me a l) w.shared) (outcome w.setup (w.steps + 1) me a l (found (action w.setup me a l) w.shared)) → EndsWithin (k + 1) w me
 by_step k me w a l h leads =
@@ -62,9 +62,9 @@ module _ (me : ℕ) (w : World) (a : Actor) (l : Line) (h : At me w a l) where
   after o = record o.actor { entry = Some (entry_or a.entry (length w.operations)) }
 
   ended : (k : ℕ) (m : Shared) (o : Outcome) → o.actor.line ≡ None → Leads k me w a m o
-  ended k m o none = record { ends_then = λ r. over k me (settled w me a m o) (after o) (actor_same w me a (after o) h.here) none }
+  ended k m o none = record { ends_then = λ r. over k me (after_outcome w me a m o) (after o) (actor_same w me a (after o) h.here) none }
 
-  goes_on : (k : ℕ) (m : Shared) (o : Outcome) (to : Line) → o.actor.line ≡ Some to → (At me (settled w me a m o) (after o) to → EndsWithin k (settled w me a m o) me) → Leads k me w a m o
+  goes_on : (k : ℕ) (m : Shared) (o : Outcome) (to : Line) → o.actor.line ≡ Some to → (At me (after_outcome w me a m o) (after o) to → EndsWithin k (after_outcome w me a m o) me) → Leads k me w a m o
   goes_on k m o to line more =
       record {
         ends_then = λ r. more (record { reached = r; runs = h.runs; here = actor_same w me a (after o) h.here; line = line });
@@ -96,7 +96,7 @@ at_E9 : (me : ℕ) (w : World) (a : Actor) → At me w a E9 → next_of w.shared
 at_E9 me w a h is =
     by_step 1 me w a E9 h
     (won me w a E9 h 1 (same_ref (next_of w.shared a.tail.node) a.next) _ _ _ _ (same_ref-same (next_of w.shared a.tail.node) a.next is)
-    (linked me w a h _ (w.steps + 1) (nat_eq a.tail.count w.setup.limit) (lets_go (record a { due = Some Done }))))
+    (linked me w a h _ (w.steps + 1) (nat_eq a.tail.count w.setup.limit) (empties_hand (record a { due = Some Done }))))
 
 -- an enqueue that finds Tail at the last node
 at_E7_last : (me : ℕ) (w : World) (a : Actor) → At me w a E7 → w.shared.tail ≡ a.tail → next_of w.shared a.tail.node ≡ a.next → a.next.node ≡ 0 → EndsWithin 3 w me

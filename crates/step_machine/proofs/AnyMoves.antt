@@ -3,13 +3,13 @@ use Rattle.std.proofs.Common.{◌≡◌, ℕ, ◌+◌, Bool, true, false, if◌t
 use Rattle.step_machine.specs.Below.{Line, Op, Actor, Outcome, gives_up, is_call, begun}
 use Rattle.step_machine.specs.declared.actors.Move.{Move}
 use Rattle.step_machine.specs.declared.actors.Move.TheVariants.{Begin, Step, Give}
-use Rattle.step_machine.specs.Machine.{World, actor_of, rested, with_actor, settled, stepped, begins, steps, given, gives, may_rest, rests, moved, mover, rest_of, AnyMove, made, Rest, next_any}
+use Rattle.step_machine.specs.Machine.{World, actor_of, rested, with_actor, after_outcome, stepped, begins, steps, given, gives, may_rest, rests, moved, mover, rest_of, AnyMove, made, Rest, next_any}
 
 -- a fact of each move that can be made in a world, and of the world after it
 pub record AfterEach (w : World) (P : AnyMove → World → Type 0) : Type 0 where
   pub began : (me : ℕ) (op : Op) (a : Actor) → actor_of w me ≡ Some a → a.line ≡ None → is_call op ≡ true → P (made (Begin me op)) (with_actor w me (begun w.setup.kind me op a))
   pub step : (me : ℕ) (a : Actor) (l : Line) → actor_of w me ≡ Some a → a.line ≡ Some l → P (made (Step me)) (stepped w me a l)
-  pub gave_up : (me : ℕ) (a : Actor) (l : Line) (o : Outcome) → actor_of w me ≡ Some a → a.line ≡ Some l → gives_up (w.steps + 1) a l ≡ Some o → P (made (Give me)) (settled w me a w.shared o)
+  pub gave_up : (me : ℕ) (a : Actor) (l : Line) (o : Outcome) → actor_of w me ≡ Some a → a.line ≡ Some l → gives_up (w.steps + 1) a l ≡ Some o → P (made (Give me)) (after_outcome w me a w.shared o)
   pub at_rest : (me : ℕ) (a : Actor) (l : Line) → actor_of w me ≡ Some a → a.line ≡ Some l → may_rest l ≡ true → P (Rest me) (with_actor w me (rested a))
 
 module _ (w : World) (P : AnyMove → World → Type 0) (h : AfterEach w P) where

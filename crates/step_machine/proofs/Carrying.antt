@@ -2,14 +2,14 @@
 -- numbers noted where the queue was empty.
 use Rattle.std.proofs.Common.{◌≡◌, ℕ, ◌+◌, true, List, [], ◌∷◌, Some, None}
 use Rattle.step_machine.specs.Below.{Line, Op, Setup, Actor, Outcome, Shared, found, performed, action, outcome, gives_up, begun}
-use Rattle.step_machine.specs.Machine.{World, opening, actor_of, rested, may_rest, with_actor, settled, IsSized, IsReached}
+use Rattle.step_machine.specs.Machine.{World, opening, actor_of, rested, may_rest, with_actor, after_outcome, IsSized, IsReached}
 use Rattle.step_machine.proofs.Reached.{some_of}
 use Rattle.step_machine.proofs.StampsLines.{Turns, turned, given_turned}
-use Rattle.step_machine.proofs.StampsKept.{Does}
+use Rattle.step_machine.proofs.StampsInvariants.{Does}
 use Rattle.step_machine.proofs.Counting.{elsewhere}
-use Rattle.step_machine.proofs.Effects.{Shape, Writes}
+use Rattle.step_machine.proofs.Effects.{Shape, WritesOneNode}
 use Rattle.step_machine.proofs.Fixed.{FixedAt}
-use Rattle.step_machine.proofs.Accounts.{Account}
+use Rattle.step_machine.proofs.LinearizationSteps.{LinearizationStep}
 use Rattle.step_machine.proofs.LegalMoves.{same_op, same_op_given}
 
 -- a step or a giving up of an actor, whichever queue it is of: `front ∷ rest` is the chain from Head before it, and
@@ -22,13 +22,13 @@ pub record NumberedMove (Z : ℕ → Type 0) (w : World) (me : ℕ) (a : Actor) 
   pub at : a.line ≡ Some line
   pub shape : Shape w.shared (elsewhere w) (front ∷ rest) free
   pub fixed : FixedAt w.setup.limit me a (Some line)
-  pub writes : Writes w.shared m' (front ∷ rest) a
-  pub account : Account Z me (w.steps + 1) w.shared m' (front ∷ rest) queue' a o
-  pub stamps : Does (w.steps + 1) line a.due a.noted o
+  pub writes : WritesOneNode w.shared m' (front ∷ rest) a
+  pub linearizes : LinearizationStep Z me (w.steps + 1) w.shared m' (front ∷ rest) queue' a o
+  pub stamps : Does (w.steps + 1) line a.due a.empty_at o
   pub same_call : o.actor.op ≡ a.op
 
 -- the step of an actor is one, and so is its giving up
-pub stepped_move : (Z : ℕ → Type 0) (w : World) (me : ℕ) (a : Actor) (l : Line) (front : ℕ) (rest free queue' : List ℕ) → IsReached w → actor_of w me ≡ Some a → a.line ≡ Some l → Shape w.shared (elsewhere w) (front ∷ rest) free → FixedAt w.setup.limit me a (Some l) → Writes w.shared (performed (action w.setup me a l) w.shared) (front ∷ rest) a → Account Z me (w.steps + 1) w.shared (performed (action w.setup me a l) w.shared) (front ∷ rest) queue' a (outcome w.setup (w.steps + 1) me a l (found (action w.setup me a l) w.shared)) → NumberedMove Z w me a (performed (action w.setup me a l) w.shared) (outcome w.setup (w.steps + 1) me a l (found (action w.setup me a l) w.shared)) front rest queue'
+pub stepped_move : (Z : ℕ → Type 0) (w : World) (me : ℕ) (a : Actor) (l : Line) (front : ℕ) (rest free queue' : List ℕ) → IsReached w → actor_of w me ≡ Some a → a.line ≡ Some l → Shape w.shared (elsewhere w) (front ∷ rest) free → FixedAt w.setup.limit me a (Some l) → WritesOneNode w.shared (performed (action w.setup me a l) w.shared) (front ∷ rest) a → LinearizationStep Z me (w.steps + 1) w.shared (performed (action w.setup me a l) w.shared) (front ∷ rest) queue' a (outcome w.setup (w.steps + 1) me a l (found (action w.setup me a l) w.shared)) → NumberedMove Z w me a (performed (action w.setup me a l) w.shared) (outcome w.setup (w.steps + 1) me a l (found (action w.setup me a l) w.shared)) front rest queue'
 stepped_move Z w me a l front rest free queue' r is at shape fixed writes account =
     record {
       line = l;
@@ -39,12 +39,12 @@ stepped_move Z w me a l front rest free queue' r is at shape fixed writes accoun
       shape = shape;
       fixed = fixed;
       writes = writes;
-      account = account;
+      linearizes = account;
       stamps = λ Q place n p stands. turned Q w.setup (w.steps + 1) me a l (found (action w.setup me a l) w.shared) place n p stands;
       same_call = same_op w.setup (w.steps + 1) me a l (found (action w.setup me a l) w.shared);
     }
 
-pub given_move : (Z : ℕ → Type 0) (w : World) (me : ℕ) (a : Actor) (l : Line) (o : Outcome) (front : ℕ) (rest free queue' : List ℕ) → IsReached w → actor_of w me ≡ Some a → a.line ≡ Some l → gives_up (w.steps + 1) a l ≡ Some o → Shape w.shared (elsewhere w) (front ∷ rest) free → FixedAt w.setup.limit me a (Some l) → Writes w.shared w.shared (front ∷ rest) a → Account Z me (w.steps + 1) w.shared w.shared (front ∷ rest) queue' a o → NumberedMove Z w me a w.shared o front rest queue'
+pub given_move : (Z : ℕ → Type 0) (w : World) (me : ℕ) (a : Actor) (l : Line) (o : Outcome) (front : ℕ) (rest free queue' : List ℕ) → IsReached w → actor_of w me ≡ Some a → a.line ≡ Some l → gives_up (w.steps + 1) a l ≡ Some o → Shape w.shared (elsewhere w) (front ∷ rest) free → FixedAt w.setup.limit me a (Some l) → WritesOneNode w.shared w.shared (front ∷ rest) a → LinearizationStep Z me (w.steps + 1) w.shared w.shared (front ∷ rest) queue' a o → NumberedMove Z w me a w.shared o front rest queue'
 given_move Z w me a l o front rest free queue' r is at given shape fixed writes account =
     record {
       line = l;
@@ -55,7 +55,7 @@ given_move Z w me a l o front rest free queue' r is at given shape fixed writes 
       shape = shape;
       fixed = fixed;
       writes = writes;
-      account = account;
+      linearizes = account;
       stamps = λ Q place n p stands. some_of (Turns Q place) (gives_up (w.steps + 1) a l) o given (given_turned Q (w.steps + 1) a l place n p stands);
       same_call = some_of (λ x. x.actor.op ≡ a.op) (gives_up (w.steps + 1) a l) o given (same_op_given (w.steps + 1) a l);
     }
@@ -68,7 +68,7 @@ pub record Carried (L : World → List ℕ → Type 0) (Z : World → ℕ → Ty
 
 -- the moves carry both facts along
 pub record Carries (L : World → List ℕ → Type 0) (Z : World → ℕ → Type 0) : Type 1 where
-  pub told : (w : World) (me : ℕ) (a : Actor) (m' : Shared) (o : Outcome) (front : ℕ) (rest queue' : List ℕ) → NumberedMove (Z w) w me a m' o front rest queue' → L w (front ∷ rest) → Carried L Z w (settled w me a m' o) rest queue'
+  pub told : (w : World) (me : ℕ) (a : Actor) (m' : Shared) (o : Outcome) (front : ℕ) (rest queue' : List ℕ) → NumberedMove (Z w) w me a m' o front rest queue' → L w (front ∷ rest) → Carried L Z w (after_outcome w me a m' o) rest queue'
   pub began : (w : World) (me : ℕ) (op : Op) (a : Actor) (queue : List ℕ) → IsReached w → actor_of w me ≡ Some a → a.line ≡ None → L w queue → L (with_actor w me (begun w.setup.kind me op a)) queue × ((k : ℕ) → Z w k → Z (with_actor w me (begun w.setup.kind me op a)) k)
   pub at_rest : (w : World) (me : ℕ) (a : Actor) (l : Line) (queue : List ℕ) → IsReached w → actor_of w me ≡ Some a → a.line ≡ Some l → may_rest l ≡ true → L w queue → L (with_actor w me (rested a)) queue × ((k : ℕ) → Z w k → Z (with_actor w me (rested a)) k)
   pub starts : (s : Setup) (actors : ℕ) → IsSized s actors → L (opening s actors) (1 ∷ [])

@@ -6,7 +6,7 @@ use Rattle.std.specs.Prelude.{slice_get}
 use Rattle.std.proofs.lemmas.Option.{none-some, same_Some}
 use Rattle.std.proofs.lemmas.Bool.{leb-true, leb-false, le-leb, lt-leb}
 use Rattle.step_machine.specs.Below.{Actor, Outcome, Shared, aside_after}
-use Rattle.step_machine.specs.Machine.{World, actor_of, settled, entry_or, with_actor}
+use Rattle.step_machine.specs.Machine.{World, actor_of, after_outcome, entry_or, with_actor}
 use Rattle.step_machine.specs.Places.{one_if, in_hand, in_pocket, held, set_aside}
 use Rattle.step_machine.proofs.Reached.{actor_stands}
 use Rattle.step_machine.proofs.Chains.{one_if_tells, one_if_same, one_if_other}
@@ -71,7 +71,7 @@ abbrev pub elsewhere : World → ℕ → ℕ
 elsewhere w n = held n w.actors + set_aside n w.aside
 
 -- after an actor was told an outcome
-pub elsewhere_settled : (w : World) (me : ℕ) (a : Actor) (m : Shared) (o : Outcome) (n : ℕ) → actor_of w me ≡ Some a → 1 ≤ n → IsNew w.aside o.aside → elsewhere (settled w me a m o) n + holds n a ≡ elsewhere w n + holds n o.actor + asides n o.aside
+pub elsewhere_settled : (w : World) (me : ℕ) (a : Actor) (m : Shared) (o : Outcome) (n : ℕ) → actor_of w me ≡ Some a → 1 ≤ n → IsNew w.aside o.aside → elsewhere (after_outcome w me a m o) n + holds n a ≡ elsewhere w n + holds n o.actor + asides n o.aside
 elsewhere_settled w me a m o n is some new =
     omega (arith, held_set n w.actors (me - 1) a (record o.actor { entry = Some (entry_or a.entry (length w.operations)) }) (actor_stands w me a is).1, aside_set n w.aside o.aside some new)
 

@@ -17,14 +17,14 @@ use Rattle.line_steps.specs.Memory.{Shared, found, performed}
 use Rattle.line_steps.specs.Lines.{action, outcome, gives_up}
 use Rattle.line_steps.specs.Calling.{begun}
 use Rattle.step_machine.specs.declared.actors.Move.TheVariants.{Begin, Step, Give}
-use Rattle.step_machine.specs.Machine.{World, opening, actor_of, rested, with_actor, first_settled, told, settled, entry_or, new_operation, AnyMove, made, Rest, run}
+use Rattle.step_machine.specs.Machine.{World, opening, actor_of, rested, with_actor, latest_point, with_outcome, after_outcome, entry_or, new_operation, AnyMove, made, Rest, run}
 use Rattle.step_machine.specs.Stamps.{makers, HasNoEffect, EndedBefore}
 use Rattle.step_machine.specs.TakingEffect.{HasEffect, TookEffect, IsByEffect, ArePlacedByEffect, OfOperations}
-use Rattle.step_machine.specs.Spans.{LiesIn, ComesBeforeNext, IsEffectLineOf, ArePlacedAtTheirLines, EffectsGivePlaces}
+use Rattle.step_machine.specs.Spans.{NumberLiesIn, ComesBeforeNext, IsEffectLineOf, ArePlacedAtTheirLines, EffectsGivePlaces}
 use Rattle.step_machine.proofs.Reached.{some_of}
 use Rattle.step_machine.proofs.StampsLists.{same_or_not}
-use Rattle.step_machine.proofs.StampsLines.{Stands}
-use Rattle.step_machine.proofs.StampsKept.{Kept, Operations, actor_stands}
+use Rattle.step_machine.proofs.StampsLines.{PointAt}
+use Rattle.step_machine.proofs.StampsInvariants.{StampsInvariant, Operations, actor_stands}
 use Rattle.step_machine.proofs.StampsMoves.{idle_got}
 use Rattle.step_machine.proofs.StampsLaws.{apart}
 use Rattle.step_machine.proofs.Fixed.{Pushes, Runs, FixedAt, Fixes, fixed, fixed_given, fixed_entry, fixed_begun}
@@ -35,7 +35,7 @@ use Rattle.step_machine.proofs.EffectsKept.{split_last, placed_by_effect}
 use Rattle.step_machine.proofs.StepTells.{Tells, tells, given_tells}
 use Rattle.step_machine.proofs.RepliesPlaced.{stepper, is_step}
 use Rattle.step_machine.proofs.NumbersLie.{order, ended_out}
-use Rattle.step_machine.proofs.Walking.{walked, kept_after, Telling, telling, stood, each_actor}
+use Rattle.step_machine.proofs.EachMove.{walked, kept_after, Telling, telling, stood, each_actor}
 
 -- a line with an effect is one of the actor's call
 pushes_line : (me : ℕ) (op : Op) (val : Taken) (l : Line) → Pushes me op val → ((body : ℕ) → IsEffectLineOf (Enq body) l) → IsEffectLineOf op l
@@ -50,7 +50,7 @@ effect_line m me a B5 h r = subst (λ op. IsEffectLineOf op B5) (sym r) tt
 effect_line m me a _ h r = absurd h
 
 -- before such a line the operation has no place
-effect_first : (m : Shared) (a : Actor) (l : Line) (at : Option ℕ) → HasEffect m a l → Stands l a.due at (Unit {0}) → at ≡ None
+effect_first : (m : Shared) (a : Actor) (l : Line) (at : Option ℕ) → HasEffect m a l → PointAt l a.due at (Unit {0}) → at ≡ None
 effect_first m a E9 at h stands = stands
 effect_first m a D13 at h stands = stands
 effect_first m a A5 at h stands = stands
@@ -116,11 +116,11 @@ module _ (s : Setup) (n : ℕ) where
             elim (took_last done w m you k led t) [ inl old ↦ subst (PlacedAt w.operations you k) old.1 (h.places you k old.0) | inr new ↦ absurd (let f : false ≡ true = sym none ∙ ap is_step new.0 in cc) ];
       }
 
-  module _ (done : List AnyMove) (w : World) (m : AnyMove) (me : ℕ) (a : Actor) (l : Line) (o : Outcome) (m' : Shared) (looked : Bool) (E : Type 0) (led : run done (opening s n) ≡ Some w) (is : actor_of w me ≡ Some a) (at_line : a.line ≡ Some l) (h : Placing done w) (t : Tells l looked (w.steps + 1) a o) (eff : Effects E (w.steps + 1) o) (first : (at : Option ℕ) → E → Stands l a.due at (Unit {0}) → at ≡ None) (registers : Fixes w.setup.limit me o) (same : o.actor.op ≡ a.op) (by_it : (you k : ℕ) (line : Line) → m ≡ made (Step you) → Now w you k line → (you ≡ me) × (k ≡ w.steps + 1) × (line ≡ l) × E × IsEffectLineOf a.op l) where
-    kept : Kept (Unit {0}) (makers done) w
+  module _ (done : List AnyMove) (w : World) (m : AnyMove) (me : ℕ) (a : Actor) (l : Line) (o : Outcome) (m' : Shared) (looked : Bool) (E : Type 0) (led : run done (opening s n) ≡ Some w) (is : actor_of w me ≡ Some a) (at_line : a.line ≡ Some l) (h : Placing done w) (t : Tells l looked (w.steps + 1) a o) (eff : Effects E (w.steps + 1) o) (first : (at : Option ℕ) → E → PointAt l a.due at (Unit {0}) → at ≡ None) (registers : Fixes w.setup.limit me o) (same : o.actor.op ≡ a.op) (by_it : (you k : ℕ) (line : Line) → m ≡ made (Step you) → Now w you k line → (you ≡ me) × (k ≡ w.steps + 1) × (line ≡ l) × E × IsEffectLineOf a.op l) where
+    kept : StampsInvariant (Unit {0}) (makers done) w
     kept = kept_after s n done w led
 
-    it : Telling (makers done) w me a l o (settled w me a m' o).operations
+    it : Telling (makers done) w me a l o (after_outcome w me a m' o).operations
     it = telling (makers done) w me a l o kept is at_line
 
     -- the operation told is of the actor's call
@@ -132,47 +132,47 @@ module _ (s : Setup) (n : ℕ) where
         go (inr old) = h.calls me it.place a l it.was is at_line old.0 old.1
 
     -- an operation that has a place keeps it
-    place_stays : (k : ℕ) → it.was.at ≡ Some k → first_settled o.at it.was.at ≡ Some k
+    place_stays : (k : ℕ) → it.was.at ≡ Some k → latest_point o.at it.was.at ≡ Some k
     place_stays k had = go o.at refl
       where
         unplaced : (j : ℕ) → o.at ≡ Some j → IsByEffect o.reply ⊎ (it.was.at ≡ None) → it.was.at ≡ None
         unplaced j e (inl may) = first it.was.at (eff.by j e may).1 it.stands
         unplaced j e (inr none) = none
 
-        go : (at : Option ℕ) → o.at ≡ at → first_settled at it.was.at ≡ Some k
+        go : (at : Option ℕ) → o.at ≡ at → latest_point at it.was.at ≡ Some k
         go None e = had
         go (Some j) e = absurd (none-some k (sym (unplaced j e (t.unplaced it.was.at it.stands)) ∙ had))
 
-    old_placed : (you k : ℕ) (line : Line) → PlacedAt w.operations you k line → PlacedAt (settled w me a m' o).operations you k line
+    old_placed : (you k : ℕ) (line : Line) → PlacedAt w.operations you k line → PlacedAt (after_outcome w me a m' o).operations you k line
     old_placed you k line x = go (same_or_not x.place it.place)
       where
-        go : (x.place ≡ it.place) ⊎ (x.place ≢ it.place) → PlacedAt (settled w me a m' o).operations you k line
+        go : (x.place ≡ it.place) ⊎ (x.place ≢ it.place) → PlacedAt (after_outcome w me a m' o).operations you k line
         go (inr other) =
             record { place = x.place; operation = x.operation; there = it.put.others x.place other ∙ x.there; own = x.own; at = x.at; call = x.call }
         go (inl q) =
             let was : it.was ≡ x.operation = stood it x.place x.operation x.there q in
             record {
               place = it.place;
-              operation = told (w.steps + 1) o it.was;
+              operation = with_outcome (w.steps + 1) o it.was;
               there = it.put.here;
               own = ap (λ (z : Stamped). z.actor) was ∙ x.own;
               at = place_stays k (ap (λ (z : Stamped). z.at) was ∙ x.at);
               call = subst (λ (z : Stamped). IsEffectLineOf z.op line) (sym was) x.call;
             }
 
-    new_placed : E → IsEffectLineOf a.op l → PlacedAt (settled w me a m' o).operations me (w.steps + 1) l
+    new_placed : E → IsEffectLineOf a.op l → PlacedAt (after_outcome w me a m' o).operations me (w.steps + 1) l
     new_placed effect line =
         record {
           place = it.place;
-          operation = told (w.steps + 1) o it.was;
+          operation = with_outcome (w.steps + 1) o it.was;
           there = it.put.here;
           own = it.own;
-          at = ap (λ x. first_settled x it.was.at) (eff.gives effect);
+          at = ap (λ x. latest_point x it.was.at) (eff.gives effect);
           call = subst (λ op. IsEffectLineOf op l) (sym op_is) line;
         }
 
     -- a numbered move
-    settled_placing : Placing (done ++ m ∷ []) (settled w me a m' o)
+    settled_placing : Placing (done ++ m ∷ []) (after_outcome w me a m' o)
     settled_placing =
         record {
           registers =
@@ -183,13 +183,13 @@ module _ (s : Setup) (n : ℕ) where
           places = λ you k x. places you k x (took_last done w m you k led x);
         }
       where
-        places : (you k : ℕ) (x : TookEffect s n (done ++ m ∷ []) you k) → ((u : TookEffect s n done you k) × (u.line ≡ x.line)) ⊎ ((m ≡ made (Step you)) × Now w you k x.line) → PlacedAt (settled w me a m' o).operations you k x.line
-        places you k x (inl old) = subst (PlacedAt (settled w me a m' o).operations you k) old.1 (old_placed you k old.0.line (h.places you k old.0))
+        places : (you k : ℕ) (x : TookEffect s n (done ++ m ∷ []) you k) → ((u : TookEffect s n done you k) × (u.line ≡ x.line)) ⊎ ((m ≡ made (Step you)) × Now w you k x.line) → PlacedAt (after_outcome w me a m' o).operations you k x.line
+        places you k x (inl old) = subst (PlacedAt (after_outcome w me a m' o).operations you k) old.1 (old_placed you k old.0.line (h.places you k old.0))
         places you k x (inr new) =
             let b : (you ≡ me) × (k ≡ w.steps + 1) × (x.line ≡ l) × E × IsEffectLineOf a.op l = by_it you k x.line new.0 new.1 in
-            subst (λ j. PlacedAt (settled w me a m' o).operations j k x.line) (sym b.0)
-            (subst (λ j. PlacedAt (settled w me a m' o).operations me j x.line) (sym b.1)
-            (subst (PlacedAt (settled w me a m' o).operations me (w.steps + 1)) (sym b.2) (new_placed b.3 b.4)))
+            subst (λ j. PlacedAt (after_outcome w me a m' o).operations j k x.line) (sym b.0)
+            (subst (λ j. PlacedAt (after_outcome w me a m' o).operations me j x.line) (sym b.1)
+            (subst (PlacedAt (after_outcome w me a m' o).operations me (w.steps + 1)) (sym b.2) (new_placed b.3 b.4)))
 
   -- each move keeps it
   each : (done : List AnyMove) (w : World) → run done (opening s n) ≡ Some w → Placing done w → AfterEach w (λ m v. Placing (done ++ m ∷ []) v)
@@ -249,7 +249,7 @@ begins_before : (o : Stamped) (k : ℕ) → IfSome o.at (λ at. o.first ≤ at) 
 begins_before o k h e = subst (λ at. IfSome at (λ j. o.first ≤ j)) e h
 
 -- the operation of an effect is the one in which its number lies
-same_operation : (K : List ℕ) (ops : List Stamped) (me k i : ℕ) (o : Stamped) (line : Line) → Operations (Unit {0}) K ops → slice_get ops i ≡ Some o → o.actor ≡ me → LiesIn k o → ComesBeforeNext ops k o → PlacedAt ops me k line → o.at ≡ Some k
+same_operation : (K : List ℕ) (ops : List Stamped) (me k i : ℕ) (o : Stamped) (line : Line) → Operations (Unit {0}) K ops → slice_get ops i ≡ Some o → o.actor ≡ me → NumberLiesIn k o → ComesBeforeNext ops k o → PlacedAt ops me k line → o.at ≡ Some k
 same_operation K ops me k i o line h got own lies next x = go (order i x.place)
   where
     starts : x.operation.first ≤ k

@@ -29,22 +29,22 @@ pub record Shape (m : Shared) (E : ℕ → ℕ) (queue free : List ℕ) : Type 0
   pub once : (n : ℕ) → 1 ≤ n → times n queue + times n free + E n ≡ used n m.fresh
 
 -- whose node a step writes: none, one of the actor's, or the `next` of the last one of the queue
-abbrev pub Whose : (m m' : Shared) → List ℕ → Actor → ℕ → Type 0
-Whose m m' queue a k =
+abbrev pub OwnerOf : (m m' : Shared) → List ℕ → Actor → ℕ → Type 0
+OwnerOf m m' queue a k =
     (k ≡ 0) ⊎ ((1 ≤ holds k a) ⊎ ((k ≡ last_node queue) × (1 ≤ k) × ((node_at m' k).value ≡ (node_at m k).value)))
 
 -- a step writes at most one node
-pub record Writes (m m' : Shared) (queue : List ℕ) (a : Actor) : Type 0 where
+pub record WritesOneNode (m m' : Shared) (queue : List ℕ) (a : Actor) : Type 0 where
   pub node : ℕ
   pub others : (n : ℕ) → 1 ≤ n → n ≢ node → node_at m' n ≡ node_at m n
-  pub whose : Whose m m' queue a node
+  pub whose : OwnerOf m m' queue a node
 
 -- what a step of an actor, which was `a` and is `b`, does with the chains and the nodes
 pub record Turn (m m' : Shared) (queue free queue' free' : List ℕ) (a b : Actor) (aside : Option ℕ) : Type 0 where
   pub queue_chain : IsChain m'.nodes m'.head.node queue'
   pub free_chain : IsChain m'.nodes m'.free.node free'
   pub counts : (n : ℕ) → 1 ≤ n → times n queue' + times n free' + holds n b + asides n aside + used n m.fresh ≡ times n queue + times n free + holds n a + used n m'.fresh
-  pub writes : Writes m m' queue a
+  pub writes : WritesOneNode m m' queue a
 
 -- the nodes with one of them given anew
 abbrev pub with_node : Shared → ℕ → Node → Shared
@@ -93,7 +93,7 @@ queued_once m E queue free sh n = go n (null_times m.nodes queue m.head.node sh.
     go (suc n) none = once_queued m E queue free sh (suc n) (omega arith)
 
 -- what is written into no node
-pub writes_none : (m m' : Shared) (queue : List ℕ) (a : Actor) → m'.nodes ≡ m.nodes → Writes m m' queue a
+pub writes_none : (m m' : Shared) (queue : List ℕ) (a : Actor) → m'.nodes ≡ m.nodes → WritesOneNode m m' queue a
 writes_none m m' queue a e = record { node = 0; others = λ n some d. ap (λ ns. node_in ns n) e; whose = inl refl }
 
 -- words other than nodes, Fresh and the starts of the chains
@@ -244,19 +244,19 @@ shape_turned m m' E E' queue free queue' free' a b aside sh t moves =
     }
 
 -- a node that is not the actor's and not the last one of the queue is not written
-stays : (m m' : Shared) (queue : List ℕ) (a : Actor) (n : ℕ) → Writes m m' queue a → 1 ≤ n → holds n a ≡ 0 → n ≢ last_node queue → node_at m' n ≡ node_at m n
+stays : (m m' : Shared) (queue : List ℕ) (a : Actor) (n : ℕ) → WritesOneNode m m' queue a → 1 ≤ n → holds n a ≡ 0 → n ≢ last_node queue → node_at m' n ≡ node_at m n
 stays m m' queue a n w some none other = w.others n some (go w.whose)
   where
-    go : Whose m m' queue a w.node → n ≢ w.node
+    go : OwnerOf m m' queue a w.node → n ≢ w.node
     go (inl z) q = let e : n ≡ 0 = q ∙ z in omega arith
     go (inr (inl mine)) q = let e : holds n a ≡ holds w.node a = ap (λ k. holds k a) q in omega arith
     go (inr (inr last)) q = other (q ∙ last.0)
 
 -- a node that is not the actor's keeps its value
-value_stays : (m m' : Shared) (queue : List ℕ) (a : Actor) (n : ℕ) → Writes m m' queue a → 1 ≤ n → holds n a ≡ 0 → (node_at m' n).value ≡ (node_at m n).value
+value_stays : (m m' : Shared) (queue : List ℕ) (a : Actor) (n : ℕ) → WritesOneNode m m' queue a → 1 ≤ n → holds n a ≡ 0 → (node_at m' n).value ≡ (node_at m n).value
 value_stays m m' queue a n w some none = go w.whose (same_or_not n w.node)
   where
-    go : Whose m m' queue a w.node → (n ≡ w.node) ⊎ (n ≢ w.node) → (node_at m' n).value ≡ (node_at m n).value
+    go : OwnerOf m m' queue a w.node → (n ≡ w.node) ⊎ (n ≢ w.node) → (node_at m' n).value ≡ (node_at m n).value
     go x (inr d) = ap (λ (y : Node). y.value) (w.others n some d)
     go (inl z) (inl q) = absurd (let e : n ≡ 0 = q ∙ z in omega arith)
     go (inr (inl own)) (inl q) = absurd (let e : holds n a ≡ holds w.node a = ap (λ k. holds k a) q in omega arith)
@@ -269,19 +269,19 @@ last_apart m E h rest free sh n some here q =
     omega (arith, sh.once n some, used_most n m.fresh)
 
 -- the nodes of another actor stay as they are
-pub hand_kept : (m m' : Shared) (E : ℕ → ℕ) (h : ℕ) (rest free : List ℕ) (a c : Actor) → Shape m E (h ∷ rest) free → Writes m m' (h ∷ rest) a → ((n : ℕ) → holds n a + holds n c ≤ E n) → (n : ℕ) → 1 ≤ n → 1 ≤ holds n c → node_at m' n ≡ node_at m n
+pub hand_kept : (m m' : Shared) (E : ℕ → ℕ) (h : ℕ) (rest free : List ℕ) (a c : Actor) → Shape m E (h ∷ rest) free → WritesOneNode m m' (h ∷ rest) a → ((n : ℕ) → holds n a + holds n c ≤ E n) → (n : ℕ) → 1 ≤ n → 1 ≤ holds n c → node_at m' n ≡ node_at m n
 hand_kept m m' E h rest free a c sh w both n some here =
     stays m m' (h ∷ rest) a n w some (omega (arith, both n, sh.once n some, used_most n m.fresh))
     (last_apart m E h rest free sh n some (omega (arith, both n)))
 
 -- the free nodes stay as they are
-pub free_kept : (m m' : Shared) (E : ℕ → ℕ) (h : ℕ) (rest free : List ℕ) (a : Actor) → Shape m E (h ∷ rest) free → Writes m m' (h ∷ rest) a → ((n : ℕ) → holds n a ≤ E n) → (n : ℕ) → 1 ≤ n → 1 ≤ times n free → node_at m' n ≡ node_at m n
+pub free_kept : (m m' : Shared) (E : ℕ → ℕ) (h : ℕ) (rest free : List ℕ) (a : Actor) → Shape m E (h ∷ rest) free → WritesOneNode m m' (h ∷ rest) a → ((n : ℕ) → holds n a ≤ E n) → (n : ℕ) → 1 ≤ n → 1 ≤ times n free → node_at m' n ≡ node_at m n
 free_kept m m' E h rest free a sh w mine n some here =
     stays m m' (h ∷ rest) a n w some (omega (arith, mine n, sh.once n some, used_most n m.fresh))
     (last_apart m E h rest free sh n some (omega arith))
 
 -- a node of the queue that another one follows stays as it is
-pub queue_kept : (m m' : Shared) (E : ℕ → ℕ) (h : ℕ) (rest free : List ℕ) (a : Actor) → Shape m E (h ∷ rest) free → Writes m m' (h ∷ rest) a → ((n : ℕ) → holds n a ≤ E n) → (n : ℕ) → 1 ≤ n → 1 ≤ times n (h ∷ rest) → 1 ≤ next_in m.nodes n → node_at m' n ≡ node_at m n
+pub queue_kept : (m m' : Shared) (E : ℕ → ℕ) (h : ℕ) (rest free : List ℕ) (a : Actor) → Shape m E (h ∷ rest) free → WritesOneNode m m' (h ∷ rest) a → ((n : ℕ) → holds n a ≤ E n) → (n : ℕ) → 1 ≤ n → 1 ≤ times n (h ∷ rest) → 1 ≤ next_in m.nodes n → node_at m' n ≡ node_at m n
 queue_kept m m' E h rest free a sh w mine n some here leads =
     stays m m' (h ∷ rest) a n w some (omega (arith, mine n, sh.once n some, used_most n m.fresh)) last
   where
@@ -289,12 +289,12 @@ queue_kept m m' E h rest free a sh w mine n some here leads =
     last q = let e : next_in m.nodes n ≡ 0 = ap (next_in m.nodes) q ∙ last_leads m.nodes h rest m.head.node sh.queue_chain in omega arith
 
 -- each node of the queue keeps its value
-pub value_kept : (m m' : Shared) (E : ℕ → ℕ) (queue free : List ℕ) (a : Actor) → Shape m E queue free → Writes m m' queue a → ((n : ℕ) → holds n a ≤ E n) → (n : ℕ) → 1 ≤ n → 1 ≤ times n queue → (node_at m' n).value ≡ (node_at m n).value
+pub value_kept : (m m' : Shared) (E : ℕ → ℕ) (queue free : List ℕ) (a : Actor) → Shape m E queue free → WritesOneNode m m' queue a → ((n : ℕ) → holds n a ≤ E n) → (n : ℕ) → 1 ≤ n → 1 ≤ times n queue → (node_at m' n).value ≡ (node_at m n).value
 value_kept m m' E queue free a sh w mine n some here =
     value_stays m m' queue a n w some (omega (arith, mine n, sh.once n some, used_most n m.fresh))
 
 -- so the values of nodes that stand in the queue are kept
-pub values_kept : (m m' : Shared) (E : ℕ → ℕ) (queue free : List ℕ) (a : Actor) → Shape m E queue free → Writes m m' queue a → ((n : ℕ) → holds n a ≤ E n) → (ns : List ℕ) → ((n : ℕ) → 1 ≤ times n ns → (1 ≤ n) × (1 ≤ times n queue)) → values_of m' ns ≡ values_of m ns
+pub values_kept : (m m' : Shared) (E : ℕ → ℕ) (queue free : List ℕ) (a : Actor) → Shape m E queue free → WritesOneNode m m' queue a → ((n : ℕ) → holds n a ≤ E n) → (ns : List ℕ) → ((n : ℕ) → 1 ≤ times n ns → (1 ≤ n) × (1 ≤ times n queue)) → values_of m' ns ≡ values_of m ns
 values_kept m m' E queue free a sh w mine [] within = refl
 values_kept m m' E queue free a sh w mine (x ∷ xs) within =
     let here : (1 ≤ x) × (1 ≤ times x queue) = within x (omega (arith, one_if_same x x refl)) in

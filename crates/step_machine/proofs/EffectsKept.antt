@@ -5,13 +5,13 @@ use Rattle.std.specs.List.{AllByRecursion}
 use Rattle.std.proofs.lemmas.Option.{none-some, same_Some, get_or_from_slice_get, IfSome_then}
 use Rattle.step_machine.specs.Below.{Line, E9, D13, A5, B5, Reply, Stamped, Setup, Actor, Outcome, Shared}
 use Rattle.step_machine.specs.declared.actors.Move.TheVariants.{Begin, Step, Give}
-use Rattle.step_machine.specs.Machine.{World, opening, actor_of, new_operation, told, recorded, first_settled, stepped, AnyMove, made, Rest, next_any, run_on, run}
+use Rattle.step_machine.specs.Machine.{World, opening, actor_of, new_operation, with_outcome, with_operation, latest_point, stepped, AnyMove, made, Rest, next_any, run_on, run}
 use Rattle.step_machine.specs.TakingEffect.{HasEffect, TookEffect, IsByEffect, ArePlacedByEffect, HaveTheirEffect, OfOperations, OfOperationsOfCalls, HavePlacesByItsEffects}
 use Rattle.step_machine.proofs.AnyMoves.{after_move}
 use Rattle.step_machine.proofs.Reached.{some_of, if_some}
 use Rattle.step_machine.proofs.StampsLists.{PutAt, put_set, put_end, put_cases, all_of}
-use Rattle.step_machine.proofs.StampsLines.{Stands}
-use Rattle.step_machine.proofs.StampsKept.{Over, Knows, Kept}
+use Rattle.step_machine.proofs.StampsLines.{PointAt}
+use Rattle.step_machine.proofs.StampsInvariants.{Over, OperationAt, StampsInvariant}
 use Rattle.step_machine.proofs.StampsMoves.{May, moves_kept, may_rest_all, calls_rest_never}
 use Rattle.step_machine.proofs.EffectLines.{Effects, line_effects, give_effects}
 
@@ -60,7 +60,7 @@ Now w me number =
     (a : Actor) × (l : Line) × (number ≡ w.steps + 1) × (actor_of w me ≡ Some a) × (a.line ≡ Some l) × HasEffect w.shared a l
 
 -- before a line with an effect the operation has no place
-effect_first : (m : Shared) (a : Actor) (l : Line) (due : Option Reply) (at : Option ℕ) (Noted : Type 0) → HasEffect m a l → Stands l due at Noted → at ≡ None
+effect_first : (m : Shared) (a : Actor) (l : Line) (due : Option Reply) (at : Option ℕ) (Noted : Type 0) → HasEffect m a l → PointAt l due at Noted → at ≡ None
 effect_first m a E9 due at Noted h stands = stands
 effect_first m a D13 due at Noted h stands = stands
 effect_first m a A5 due at Noted h stands = stands
@@ -127,7 +127,7 @@ module _ (Rests : Type 0) (s : Setup) (n : ℕ) where
   still done w m none led h =
       record {
         from = λ i k o got may at. took_more done m o.actor k (h.from i k o got may at);
-        to = λ i k o got told low t. h.to i k o got told low (old o.actor k t);
+        to = λ i k o got with_outcome low t. h.to i k o got with_outcome low (old o.actor k t);
         within = λ me k t. h.within me k (old me k t);
       }
     where
@@ -135,9 +135,9 @@ module _ (Rests : Type 0) (s : Setup) (n : ℕ) where
       old me k t =
           elim (took_last done w m me k led t) [ inl before ↦ before | inr now ↦ absurd (let f : false ≡ true = sym none ∙ ap is_step now.0 in cc) ]
 
-  module _ (done : List AnyMove) (w : World) (m : AnyMove) (me : ℕ) (o : Outcome) (E : Type 0) (K : List ℕ) (led : run done (opening s n) ≡ Some w) (kept : Kept Rests K w) (h : Known done w.operations w.steps) (eff : Effects E (w.steps + 1) o) (took : E → Took (done ++ m ∷ []) me (w.steps + 1)) (by_it : (you k : ℕ) → m ≡ made (Step you) → Now w you k → (you ≡ me) × (k ≡ w.steps + 1) × E) where
+  module _ (done : List AnyMove) (w : World) (m : AnyMove) (me : ℕ) (o : Outcome) (E : Type 0) (K : List ℕ) (led : run done (opening s n) ≡ Some w) (kept : StampsInvariant Rests K w) (h : Known done w.operations w.steps) (eff : Effects E (w.steps + 1) o) (took : E → Took (done ++ m ∷ []) me (w.steps + 1)) (by_it : (you k : ℕ) → m ≡ made (Step you) → Now w you k → (you ≡ me) × (k ≡ w.steps + 1) × E) where
     -- a numbered move, by the operation that it changes or adds
-    put_known : (e : ℕ) (t : Stamped) (opz : List Stamped) → PutAt w.operations opz e (told (w.steps + 1) o t) → t.actor ≡ me → ((k : ℕ) → t.at ≡ Some k → Took done me k) → ((k : ℕ) → t.first ≤ k → Took done me k → (t.at ≡ Some k) ⊎ Rests) → (E → t.at ≡ None) → ((i : ℕ) (p : Stamped) → i ≢ e → slice_get w.operations i ≡ Some p → p.actor ≡ me → Over Rests p) → Known (done ++ m ∷ []) opz (w.steps + 1)
+    put_known : (e : ℕ) (t : Stamped) (opz : List Stamped) → PutAt w.operations opz e (with_outcome (w.steps + 1) o t) → t.actor ≡ me → ((k : ℕ) → t.at ≡ Some k → Took done me k) → ((k : ℕ) → t.first ≤ k → Took done me k → (t.at ≡ Some k) ⊎ Rests) → (E → t.at ≡ None) → ((i : ℕ) (p : Stamped) → i ≢ e → slice_get w.operations i ≡ Some p → p.actor ≡ me → Over Rests p) → Known (done ++ m ∷ []) opz (w.steps + 1)
     put_known e t opz put own t_from t_to first others =
         record {
           from = λ i k p got may at. from i k p may at (put_cases put i p got);
@@ -145,33 +145,33 @@ module _ (Rests : Type 0) (s : Setup) (n : ℕ) where
           within = λ you k x. elim (took_last done w m you k led x) [ inl old ↦ omega (arith, h.within you k old) | inr new ↦ let z : k ≡ w.steps + 1 = (by_it you k new.0 new.1).1 in omega arith ];
         }
       where
-        placed : (k : ℕ) → IsByEffect o.reply → (at : Option ℕ) → o.at ≡ at → first_settled at t.at ≡ Some k → Took (done ++ m ∷ []) t.actor k
+        placed : (k : ℕ) → IsByEffect o.reply → (at : Option ℕ) → o.at ≡ at → latest_point at t.at ≡ Some k → Took (done ++ m ∷ []) t.actor k
         placed k may None is at = subst (λ y. Took (done ++ m ∷ []) y k) (sym own) (took_more done m me k (t_from k at))
         placed k may (Some j) is at =
             let b : (j ≡ w.steps + 1) × E = eff.by j is may in
             subst (λ y. Took (done ++ m ∷ []) y k) (sym own)
             (subst (λ y. Took (done ++ m ∷ []) me y) (sym b.0 ∙ same_Some j k at) (took b.1))
 
-        from : (i k : ℕ) (p : Stamped) → IsByEffect p.reply → p.at ≡ Some k → ((i ≡ e) × (told (w.steps + 1) o t ≡ p)) ⊎ ((i ≢ e) × (slice_get w.operations i ≡ Some p)) → Took (done ++ m ∷ []) p.actor k
+        from : (i k : ℕ) (p : Stamped) → IsByEffect p.reply → p.at ≡ Some k → ((i ≡ e) × (with_outcome (w.steps + 1) o t ≡ p)) ⊎ ((i ≢ e) × (slice_get w.operations i ≡ Some p)) → Took (done ++ m ∷ []) p.actor k
         from i k p may at (inl q) =
             subst (λ (x : Stamped). IsByEffect x.reply → x.at ≡ Some k → Took (done ++ m ∷ []) x.actor k) q.1 (λ may at. placed k may o.at refl at) may at
         from i k p may at (inr q) = took_more done m p.actor k (h.from i k p q.1 may at)
 
-        settled_at : (k : ℕ) → IsByEffect o.reply → (at : Option ℕ) → o.at ≡ at → (t.at ≡ Some k) ⊎ Rests → (first_settled at t.at ≡ Some k) ⊎ Rests
+        settled_at : (k : ℕ) → IsByEffect o.reply → (at : Option ℕ) → o.at ≡ at → (t.at ≡ Some k) ⊎ Rests → (latest_point at t.at ≡ Some k) ⊎ Rests
         settled_at k may None is x = x
         settled_at k may (Some j) is (inl at) = absurd (none-some k (sym (first (eff.by j is may).1) ∙ at))
         settled_at k may (Some j) is (inr rest) = inr rest
 
-        mine : (k : ℕ) → o.reply ≡ None → t.first ≤ k → Took (done ++ m ∷ []) t.actor k → (first_settled o.at t.at ≡ Some k) ⊎ Rests
+        mine : (k : ℕ) → o.reply ≡ None → t.first ≤ k → Took (done ++ m ∷ []) t.actor k → (latest_point o.at t.at ≡ Some k) ⊎ Rests
         mine k none low x = go (took_last done w m me k led (subst (λ y. Took (done ++ m ∷ []) y k) own x))
           where
-            go : Took done me k ⊎ ((m ≡ made (Step me)) × Now w me k) → (first_settled o.at t.at ≡ Some k) ⊎ Rests
+            go : Took done me k ⊎ ((m ≡ made (Step me)) × Now w me k) → (latest_point o.at t.at ≡ Some k) ⊎ Rests
             go (inl old) = settled_at k (subst IsByEffect (sym none) tt) o.at refl (t_to k low old)
             go (inr new) =
                 let b : (me ≡ me) × (k ≡ w.steps + 1) × E = by_it me k new.0 new.1 in
-                inl (ap (λ at. first_settled at t.at) (eff.gives b.2) ∙ ap Some (sym b.1))
+                inl (ap (λ at. latest_point at t.at) (eff.gives b.2) ∙ ap Some (sym b.1))
 
-        to : (i k : ℕ) (p : Stamped) → p.reply ≡ None → p.first ≤ k → Took (done ++ m ∷ []) p.actor k → ((i ≡ e) × (told (w.steps + 1) o t ≡ p)) ⊎ ((i ≢ e) × (slice_get w.operations i ≡ Some p)) → (p.at ≡ Some k) ⊎ Rests
+        to : (i k : ℕ) (p : Stamped) → p.reply ≡ None → p.first ≤ k → Took (done ++ m ∷ []) p.actor k → ((i ≡ e) × (with_outcome (w.steps + 1) o t ≡ p)) ⊎ ((i ≢ e) × (slice_get w.operations i ≡ Some p)) → (p.at ≡ Some k) ⊎ Rests
         to i k p none low x (inl q) =
             subst (λ (y : Stamped). y.reply ≡ None → y.first ≤ k → Took (done ++ m ∷ []) y.actor k → (y.at ≡ Some k) ⊎ Rests) q.1 (mine k) none low x
         to i k p none low x (inr q) = go (took_last done w m p.actor k led x)
@@ -186,7 +186,7 @@ module _ (Rests : Type 0) (s : Setup) (n : ℕ) where
             go (inr new) = over (others i p q.0 q.1 (by_it p.actor k new.0 new.1).0)
 
     -- a numbered move of an actor at a line
-    settled_known : (a : Actor) (l : Line) → ((at : Option ℕ) (Noted : Type 0) → E → Stands l a.due at Noted → at ≡ None) → (entry : Option ℕ) → Knows Rests K w.operations me (Some l) entry a.due a.noted → Known (done ++ m ∷ []) (recorded entry (new_operation me a.op (w.steps + 1)) (told (w.steps + 1) o) w.operations) (w.steps + 1)
+    settled_known : (a : Actor) (l : Line) → ((at : Option ℕ) (Noted : Type 0) → E → PointAt l a.due at Noted → at ≡ None) → (entry : Option ℕ) → OperationAt Rests K w.operations me (Some l) entry a.due a.empty_at → Known (done ++ m ∷ []) (with_operation entry (new_operation me a.op (w.steps + 1)) (with_outcome (w.steps + 1) o) w.operations) (w.steps + 1)
     settled_known a l first None knows =
         put_known (length w.operations) (new_operation me a.op (w.steps + 1)) _ (put_end w.operations _) refl
         (λ k at. absurd (none-some k at))
@@ -194,7 +194,7 @@ module _ (Rests : Type 0) (s : Setup) (n : ℕ) where
         (λ x. refl)
         (λ i p other got own. knows.0 i p got own)
     settled_known a l first (Some e) knows =
-        subst (λ x. Known (done ++ m ∷ []) (set w.operations e (told (w.steps + 1) o x)) (w.steps + 1))
+        subst (λ x. Known (done ++ m ∷ []) (set w.operations e (with_outcome (w.steps + 1) o x)) (w.steps + 1))
         (sym (get_or_from_slice_get w.operations e knows.0 (new_operation me a.op (w.steps + 1)) knows.1.here))
         (put_known e knows.0 _ (put_set w.operations e knows.0 _ knows.1.here) knows.1.own
         (λ k at. subst (λ y. Took done y k) knows.1.own (h.from e k knows.0 knows.1.here (subst IsByEffect (sym knows.1.no_reply) tt) at))
@@ -202,7 +202,7 @@ module _ (Rests : Type 0) (s : Setup) (n : ℕ) where
         (λ x. first knows.0.at _ x knows.2)
         knows.1.others)
 
-  module _ (done : List AnyMove) (w : World) (K : List ℕ) (led : run done (opening s n) ≡ Some w) (kept : Kept Rests K w) (h : Known done w.operations w.steps) where
+  module _ (done : List AnyMove) (w : World) (K : List ℕ) (led : run done (opening s n) ≡ Some w) (kept : StampsInvariant Rests K w) (h : Known done w.operations w.steps) where
     -- what is known after one more move
     abbrev After : AnyMove → World → Type 0
     After m v = Known (done ++ m ∷ []) v.operations v.steps
@@ -221,8 +221,8 @@ module _ (Rests : Type 0) (s : Setup) (n : ℕ) where
         })
         m
       where
-        knows : (me : ℕ) (a : Actor) (l : Line) → actor_of w me ≡ Some a → a.line ≡ Some l → Knows Rests K w.operations me (Some l) a.entry a.due a.noted
-        knows me a l is at = subst (λ x. Knows Rests K w.operations me x a.entry a.due a.noted) at (kept.actors me a is)
+        knows : (me : ℕ) (a : Actor) (l : Line) → actor_of w me ≡ Some a → a.line ≡ Some l → OperationAt Rests K w.operations me (Some l) a.entry a.due a.empty_at
+        knows me a l is at = subst (λ x. OperationAt Rests K w.operations me x a.entry a.due a.empty_at) at (kept.actors me a is)
 
         stepped_known : (me : ℕ) (a : Actor) (l : Line) → actor_of w me ≡ Some a → a.line ≡ Some l → After (made (Step me)) (stepped w me a l)
         stepped_known me a l is at =
@@ -253,7 +253,7 @@ module _ (Rests : Type 0) (s : Setup) (n : ℕ) where
   run_known [] done w before may led h = subst (λ d. Known d w.operations w.steps) (sym (append-nil done)) h
   run_known (m ∷ ms) done w before may led h =
       subst (λ d. IfSome (run_on (run ms) (next_any w m)) (λ v. Known d v.operations v.steps)) (append_assoc done (m ∷ []) ms)
-      (on (next_any w m) refl (next_known done w _ led (some_of (Kept Rests _) (run done (opening s n)) w led (moves_kept Rests s n done before)) h m)
+      (on (next_any w m) refl (next_known done w _ led (some_of (StampsInvariant Rests _) (run done (opening s n)) w led (moves_kept Rests s n done before)) h m)
       (λ v l g. run_known ms (done ++ m ∷ []) v (may_on Rests done m before may.0) may.1 l g))
     where
       on : (o : Option World) → next_any w m ≡ o → IfSome o (λ v. Known (done ++ m ∷ []) v.operations v.steps) → ((v : World) → run (done ++ m ∷ []) (opening s n) ≡ Some v → Known (done ++ m ∷ []) v.operations v.steps → IfSome (run ms v) (λ u. Known ((done ++ m ∷ []) ++ ms) u.operations u.steps)) → IfSome (run_on (run ms) o) (λ u. Known ((done ++ m ∷ []) ++ ms) u.operations u.steps)

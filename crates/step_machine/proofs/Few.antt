@@ -4,11 +4,11 @@ use Rattle.std.specs.List.{count_by, flat_map}
 use Rattle.std.proofs.lemmas.List.{length-map}
 use Rattle.std.proofs.lemmas.List.Recursion.{is_count_by}
 use Rattle.std.specs.Prelude.{is_some}
-use Rattle.step_machine.specs.Below.{Op, Enq, Deq, Taken, Reply, Done, Value, Empty, Refused, Stamped, Entry, Push, Pop, Queue, empty, given, front_of, is_push, is_pop, Plays, number_of, inserted, rising, node_at}
+use Rattle.step_machine.specs.Below.{Op, Enq, Deq, Taken, Reply, Done, Value, Empty, Refused, Stamped, Entry, Push, Pop, Queue, empty, response, front_of, is_push, is_pop, Plays, point_or_zero, inserted, by_point, node_at}
 use Rattle.step_machine.specs.Machine.{World}
 use Rattle.step_machine.specs.Chains.{queue_values}
 use Rattle.step_machine.specs.EachQueue.{HasItsPlaces}
-use Rattle.step_machine.specs.Promises.{promises, is_value}
+use Rattle.step_machine.specs.Completion.{completion, is_value}
 use Rattle.step_machine.specs.Entries.{entry_with, entry_of, entries, AreFew}
 use Rattle.step_machine.specs.Histories.{OfEachWorld}
 use Rattle.step_machine.specs.Range.{WorldInRange}
@@ -34,7 +34,7 @@ plays_count : (es : List Entry) (q r : Queue) → Plays q es r → count is_push
 plays_count [] q r e = ap (λ (x : Queue). 0 + length x.values) e
 plays_count (Push seat body ∷ es) q r h =
     let x : Taken = record { from = seat; body = body } in
-    let ih : count is_push es + length (q.values ++ x ∷ []) ≡ count is_pop es + length r.values = plays_count es (given seat (Enq body) q).after r h in
+    let ih : count is_push es + length (q.values ++ x ∷ []) ≡ count is_pop es + length r.values = plays_count es (response seat (Enq body) q).after r h in
     let more : length (q.values ++ x ∷ []) ≡ length q.values + 1 = length-append q.values (x ∷ []) in
     omega (arith, ih, more)
 plays_count (Pop seat value ∷ es) q r h = go q.values h (λ vs. plays_count es (record { values = vs }) r)
@@ -70,7 +70,7 @@ swapped false false n m e = e
 -- an operation put by its place is one more
 pub values_inserted : (o : Stamped) (ps : List Stamped) → count has_value (inserted o ps) ≡ one_more (is_value o.reply) (count has_value ps)
 values_inserted o [] = refl
-values_inserted o (p ∷ ps) = go (nat_le (number_of o.at) (number_of p.at)) (values_inserted o ps)
+values_inserted o (p ∷ ps) = go (nat_le (point_or_zero o.at) (point_or_zero p.at)) (values_inserted o ps)
   where
     go : (b : Bool) → count has_value (inserted o ps) ≡ one_more (is_value o.reply) (count has_value ps) → count has_value (if b then o ∷ p ∷ ps else p ∷ inserted o ps) ≡ one_more (is_value o.reply) (one_more (is_value p.reply) (count has_value ps))
     go true ih = refl
@@ -85,13 +85,13 @@ no_fewer true n m h = omega (arith, h)
 no_fewer false n m h = h
 
 -- the values of the operations that have a place are no more than those of all
-values_rising : (os : List Stamped) → count has_value (rising os) ≤ count has_value os
+values_rising : (os : List Stamped) → count has_value (by_point os) ≤ count has_value os
 values_rising [] = omega arith
 values_rising (o ∷ os) = go (is_some o.at) (values_rising os)
   where
-    go : (b : Bool) → count has_value (rising os) ≤ (count has_value os) → count has_value (if b then inserted o (rising os) else rising os) ≤ one_more (is_value o.reply) (count has_value os)
-    go true ih = subst (λ n. n ≤ one_more (is_value o.reply) (count has_value os)) (sym (values_inserted o (rising os))) (both_more (is_value o.reply) (count has_value (rising os)) (count has_value os) ih)
-    go false ih = no_fewer (is_value o.reply) (count has_value (rising os)) (count has_value os) ih
+    go : (b : Bool) → count has_value (by_point os) ≤ (count has_value os) → count has_value (if b then inserted o (by_point os) else by_point os) ≤ one_more (is_value o.reply) (count has_value os)
+    go true ih = subst (λ n. n ≤ one_more (is_value o.reply) (count has_value os)) (sym (values_inserted o (by_point os))) (both_more (is_value o.reply) (count has_value (by_point os)) (count has_value os) ih)
+    go false ih = no_fewer (is_value o.reply) (count has_value (by_point os)) (count has_value os) ih
 
 -- a queue has a node more than values
 fewer_values : (w : World) (queue : List ℕ) (most : ℕ) → length queue ≤ most → 1 ≤ most → length (queue_values w.shared queue) + 1 ≤ most
@@ -110,7 +110,7 @@ are_few w r = (pops_few, pushes_few)
 
     taken : count is_pop (entries w) ≤ w.shared.head.count
     taken =
-        omega (arith, pops_are_values (rising (promises w)), values_rising (promises w), count_is has_value (promises w), head_counts_values_taken w r)
+        omega (arith, pops_are_values (by_point (completion w)), values_rising (completion w), count_is has_value (completion w), head_counts_values_taken w r)
 
     pops_few : count_by is_pop (entries w) ≤ w.setup.limit
     pops_few = let c : w.shared.head.count ≤ w.setup.limit = range.shared.head.count in omega (arith, taken, c, count_is is_pop (entries w))

@@ -2,7 +2,7 @@
 -- in its hand, that its pocket is empty, which call it runs, what its call has earned, and which counts were tested.
 use Rattle.std.proofs.Common.{◌≡◌, ◌≢◌, ℕ, ◌+◌, Bool, true, false, nat_eq, nat_lt, if◌then◌else◌, Option, Some, None, IfSome, refl, sym, subst}
 use Rattle.std.proofs.lemmas.Bool.{eqb-false}
-use Rattle.step_machine.specs.Below.{is_null, same_ref, Kind, TwoLock, NonBlocking, Line, N1, N2, N3, N4, N5, F1, F2, F3, E2, E3, E5, E6, E7, E9, E13, E17, D2, D5, D10, D12, D13, A1, A2, A3, A4, A5, A6, A7, B1, B3, B4, B5, B6, Section, section_of, OfHead, WornOut, Op, Enq, Deq, Taken, Reply, Done, Value, Empty, Refused, Setup, Held, Actor, Outcome, Found, action, outcome, goes, ends, effect, sets_aside, takes, lets_go, to_pocket, with_node, freed, unlocked, busy_or, gives_up, from_pocket, begun}
+use Rattle.step_machine.specs.Below.{is_null, same_ref, Kind, TwoLock, NonBlocking, Line, N1, N2, N3, N4, N5, F1, F2, F3, E2, E3, E5, E6, E7, E9, E13, E17, D2, D5, D10, D12, D13, A1, A2, A3, A4, A5, A6, A7, B1, B3, B4, B5, B6, Section, section_of, OfHead, WornOut, Op, Enq, Deq, Taken, Reply, Done, Value, Empty, Refused, Setup, Held, Actor, Outcome, Found, action, outcome, goes, ends, effect, sets_aside, fills_hand, empties_hand, to_pocket, with_node, freed, unlocked, busy_or, gives_up, from_pocket, begun}
 use Rattle.line_table.specs.declared.lines.Section.TheVariants.{NewNode, Free, Enqueue, Dequeue, LockedEnqueue, LockedDequeue}
 use Rattle.step_machine.proofs.Choices.{either, both}
 
@@ -46,29 +46,29 @@ Runs Dequeue me op val = op ≡ Deq
 Runs LockedDequeue me op val = op ≡ Deq
 
 -- what a call has earned that frees a node: nothing yet, or the value taken
-abbrev pub EarnedFreeing : Option Reply → Type 0
-EarnedFreeing None = Unit {0}
-EarnedFreeing (Some (Value v)) = Unit {0}
-EarnedFreeing _ = ⊥
+abbrev pub DecidedFreeing : Option Reply → Type 0
+DecidedFreeing None = Unit {0}
+DecidedFreeing (Some (Value v)) = Unit {0}
+DecidedFreeing _ = ⊥
 
 -- what a call has earned that lets the head lock go: a value, empty, or that Head is worn out
-abbrev pub EarnedUnlocking : Option Reply → Type 0
-EarnedUnlocking None = ⊥
-EarnedUnlocking (Some Done) = ⊥
-EarnedUnlocking (Some (Value v)) = Unit {0}
-EarnedUnlocking (Some Empty) = Unit {0}
-EarnedUnlocking (Some (Refused why)) = why ≡ WornOut OfHead
+abbrev pub DecidedUnlocking : Option Reply → Type 0
+DecidedUnlocking None = ⊥
+DecidedUnlocking (Some Done) = ⊥
+DecidedUnlocking (Some (Value v)) = Unit {0}
+DecidedUnlocking (Some Empty) = Unit {0}
+DecidedUnlocking (Some (Refused why)) = why ≡ WornOut OfHead
 
 -- what a call has earned before a line
-abbrev pub EarnedAt : Line → Option Reply → Type 0
-EarnedAt F1 due = EarnedFreeing due
-EarnedAt F2 due = EarnedFreeing due
-EarnedAt F3 due = EarnedFreeing due
-EarnedAt E17 due = due ≡ Some Done
-EarnedAt A6 due = due ≡ Some Done
-EarnedAt A7 due = due ≡ Some Done
-EarnedAt B6 due = EarnedUnlocking due
-EarnedAt _ due = due ≡ None
+abbrev pub DecidedAt : Line → Option Reply → Type 0
+DecidedAt F1 due = DecidedFreeing due
+DecidedAt F2 due = DecidedFreeing due
+DecidedAt F3 due = DecidedFreeing due
+DecidedAt E17 due = due ≡ Some Done
+DecidedAt A6 due = due ≡ Some Done
+DecidedAt A7 due = due ≡ Some Done
+DecidedAt B6 due = DecidedUnlocking due
+DecidedAt _ due = due ≡ None
 
 -- the counts that were found not to be at the limit
 abbrev pub RoomAt : Line → (limit : ℕ) → Actor → Type 0
@@ -91,7 +91,7 @@ FixedAt limit me a (Some l) =
       pocket : a.pocket ≡ None;
       hand : a.holds ≡ in_hand_at l a.due;
       call : Runs (section_of l) me a.op a.val;
-      earned : EarnedAt l a.due;
+      earned : DecidedAt l a.due;
       room : RoomAt l limit a;
     }
 
@@ -120,15 +120,15 @@ module _ (limit me : ℕ) where
   aside_fixed NonBlocking now None a d p c = record { fixed = record { pocket = p; hand = refl; call = c; earned = d; room = tt } }
   aside_fixed kind now (Some reply) a d p c = record { fixed = refl }
 
-  unlocked_fixed : (now : ℕ) (due : Option Reply) (a : Actor) → a.due ≡ due → a.pocket ≡ None → a.holds ≡ frees_after due → a.op ≡ Deq → EarnedUnlocking due → Fixes limit me (unlocked now due a)
+  unlocked_fixed : (now : ℕ) (due : Option Reply) (a : Actor) → a.due ≡ due → a.pocket ≡ None → a.holds ≡ frees_after due → a.op ≡ Deq → DecidedUnlocking due → Fixes limit me (unlocked now due a)
   unlocked_fixed now None a d p h c e = absurd e
   unlocked_fixed now (Some (Value v)) a d p h c e =
-      record { fixed = record { pocket = p; hand = h; call = c; earned = subst (λ x. EarnedFreeing x) (sym d) tt; room = tt } }
+      record { fixed = record { pocket = p; hand = h; call = c; earned = subst (λ x. DecidedFreeing x) (sym d) tt; room = tt } }
   unlocked_fixed now (Some Done) a d p h c e = absurd e
   unlocked_fixed now (Some Empty) a d p h c e = record { fixed = h }
   unlocked_fixed now (Some (Refused why)) a d p h c e = record { fixed = h }
 
-  ended_or : (b : Bool) (now : ℕ) (a : Actor) → (b ≡ false → a.tail.count ≢ limit) → a.pocket ≡ None → Pushes me a.op a.val → Fixes limit me (effect now (if b then ends now Done (lets_go (record a { due = Some Done })) else goes E17 (lets_go (record a { due = Some Done }))))
+  ended_or : (b : Bool) (now : ℕ) (a : Actor) → (b ≡ false → a.tail.count ≢ limit) → a.pocket ≡ None → Pushes me a.op a.val → Fixes limit me (effect now (if b then ends now Done (empties_hand (record a { due = Some Done })) else goes E17 (empties_hand (record a { due = Some Done }))))
   ended_or true now a r p c = record { fixed = refl }
   ended_or false now a r p c = record { fixed = record { pocket = p; hand = refl; call = c; earned = refl; room = r refl } }
 
@@ -141,10 +141,10 @@ fixed s now me a N2 c h =
     (λ e. record { fixed = record { pocket = h.pocket; hand = h.hand; call = h.call; earned = h.earned; room = eqb-false c.count s.limit e } }))
 fixed s now me a N3 c h = record { fixed = record { pocket = h.pocket; hand = h.hand; call = h.call; earned = h.earned; room = h.room } }
 fixed s now me a N4 c h =
-    both (Fixes s.limit me) (same_ref c a.top) (with_node_fixed s.limit me s.kind (takes a.top.node a.next.count a) h.pocket refl h.call h.earned)
+    both (Fixes s.limit me) (same_ref c a.top) (with_node_fixed s.limit me s.kind (fills_hand a.top.node a.next.count a) h.pocket refl h.call h.earned)
     (record { fixed = record { pocket = h.pocket; hand = h.hand; call = h.call; earned = h.earned; room = tt } })
 fixed s now me a N5 c h =
-    both (Fixes s.limit me) (nat_eq c a.f) (with_node_fixed s.limit me s.kind (takes (a.f + 1) 0 a) h.pocket refl h.call h.earned)
+    both (Fixes s.limit me) (nat_eq c a.f) (with_node_fixed s.limit me s.kind (fills_hand (a.f + 1) 0 a) h.pocket refl h.call h.earned)
     (record { fixed = record { pocket = h.pocket; hand = h.hand; call = h.call; earned = h.earned; room = tt } })
 fixed s now me a F1 c h =
     either (Fixes s.limit me) (nat_eq c.count s.limit)
@@ -152,7 +152,7 @@ fixed s now me a F1 c h =
     (λ e. record { fixed = record { pocket = h.pocket; hand = h.hand; call = h.call; earned = h.earned; room = eqb-false c.count s.limit e } })
 fixed s now me a F2 c h = record { fixed = record { pocket = h.pocket; hand = h.hand; call = h.call; earned = h.earned; room = h.room } }
 fixed s now me a F3 c h =
-    both (Fixes s.limit me) (same_ref c a.top) (freed_fixed s.limit me s.kind now a.due (lets_go a) refl h.pocket refl h.call)
+    both (Fixes s.limit me) (same_ref c a.top) (freed_fixed s.limit me s.kind now a.due (empties_hand a) refl h.pocket refl h.call)
     (record { fixed = record { pocket = h.pocket; hand = h.hand; call = h.call; earned = h.earned; room = tt } })
 fixed s now me a E3 c h =
     both (Fixes s.limit me) (nat_eq c.count s.limit) (record { fixed = refl })

@@ -1,29 +1,29 @@
 -- What an outcome adds to the entries of the operations that had their effect.
 use Rattle.std.proofs.Common.{◌≡◌, ℕ, Bool, true, false, nat_le, if◌then◌else◌, Option, Some, None, List, [], ◌∷◌, ◌++◌, sym, ap, subst}
 use Rattle.std.specs.List.{flat_map}
-use Rattle.step_machine.specs.Below.{Op, Enq, Deq, Taken, Reply, Stamped, Entry, Push, Pop, Queue, given, Plays, inserted, rising, Actor, Outcome}
+use Rattle.step_machine.specs.Below.{Op, Enq, Deq, Taken, Reply, Stamped, Entry, Push, Pop, Queue, response, Plays, inserted, by_point, Actor, Outcome}
 use Rattle.step_machine.specs.Machine.{World}
-use Rattle.step_machine.specs.Promises.{promised_reply}
+use Rattle.step_machine.specs.Completion.{completed_reply}
 use Rattle.step_machine.specs.Entries.{pushed_by, entry_with, entry_of}
 use Rattle.step_machine.proofs.Fixed.{Pushes}
 use Rattle.step_machine.proofs.Replay.{place}
-use Rattle.step_machine.proofs.Booking.{book}
+use Rattle.step_machine.proofs.CompletionSteps.{bare_completion}
 
 -- the entries that an outcome adds: where it gives a place, that of the reply that it tells, or that the call has earned
 abbrev pub gained_at : (me : ℕ) → Op → (at : Option ℕ) → (reply due : Option Reply) → List Entry
 gained_at me op None reply due = []
-gained_at me op (Some n) reply due = entry_with me op (promised_reply reply (Some n) due)
+gained_at me op (Some n) reply due = entry_with me op (completed_reply reply (Some n) due)
 
 abbrev pub gained : (me : ℕ) → Op → Outcome → List Entry
 gained me op o = gained_at me op o.at o.reply o.actor.due
 
 -- the entries of a world's book, by rising place
-abbrev pub booked : World → List Entry
-booked w = flat_map entry_of (rising (book w))
+abbrev pub completion_entries : World → List Entry
+completion_entries w = flat_map entry_of (by_point (bare_completion w))
 
 -- a step adds what its outcome gains
 abbrev pub Gains : World → World → (me : ℕ) → Actor → Outcome → Type 0
-Gains w v me a o = booked v ≡ booked w ++ gained me a.op o
+Gains w v me a o = completion_entries v ≡ completion_entries w ++ gained me a.op o
 
 -- an operation without an entry may be inserted anywhere
 pub nothing_inserted : (y : Stamped) (ps : List Stamped) → entry_of y ≡ [] → flat_map entry_of (inserted y ps) ≡ flat_map entry_of ps
@@ -37,10 +37,10 @@ nothing_inserted y (p ∷ ps) none = go (nat_le (place y) (place p)) (nothing_in
 -- entries after others lead on
 pub plays-append : (q r s : Queue) (es fs : List Entry) → Plays q es r → Plays r fs s → Plays q (es ++ fs) s
 plays-append q r s [] fs h g = subst (λ x. Plays x fs s) (sym h) g
-plays-append q r s (Push seat body ∷ es) fs h g = plays-append (given seat (Enq body) q).after r s es fs h g
-plays-append q r s (Pop seat value ∷ es) fs h g = (h.0, plays-append (given seat Deq q).after r s es fs h.1 g)
+plays-append q r s (Push seat body ∷ es) fs h g = plays-append (response seat (Enq body) q).after r s es fs h g
+plays-append q r s (Pop seat value ∷ es) fs h g = (h.0, plays-append (response seat Deq q).after r s es fs h.1 g)
 
 -- the entry of an enqueue leads to what the queue gives
-pub push_plays : (me : ℕ) (op : Op) (v : Taken) (q r : Queue) → Pushes me op v → (given me op q).after ≡ r → Plays q (pushed_by me op) r
+pub push_plays : (me : ℕ) (op : Op) (v : Taken) (q r : Queue) → Pushes me op v → (response me op q).after ≡ r → Plays q (pushed_by me op) r
 push_plays me (Enq body) v q r h e = e
 push_plays me Deq v q r h e = absurd h

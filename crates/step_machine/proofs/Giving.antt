@@ -4,9 +4,9 @@ use Rattle.std.proofs.lemmas.List.Folds.{sum_by-replicate}
 use Rattle.step_machine.specs.Below.{Kind, TwoLock, NonBlocking, Line, N1, F1, Op, Enq, Deq, Reply, Stamped, Setup, Held, Actor, Outcome, Shared, gives_up, busy_or, with_node, dequeues, is_call, begun, from_pocket, first_memory}
 use Rattle.line_steps.specs.Rooms.{Memory}
 use Rattle.step_machine.specs.declared.actors.Move.TheVariants.{Begin, Give}
-use Rattle.step_machine.specs.Machine.{World, opening, idle, actor_of, with_actor, begins, given, gives, moved, next, settled}
+use Rattle.step_machine.specs.Machine.{World, opening, idle, actor_of, with_actor, begins, given, gives, moved, next, after_outcome}
 use Rattle.step_machine.specs.Calls.{giving_up, giving_up_at}
-use Rattle.step_machine.specs.Views.{seeks, seekers, unrecorded, is_unrecorded}
+use Rattle.step_machine.specs.Views.{wants_node, wanting_node, unrecorded, is_unrecorded}
 
 -- giving up, for an actor before a line
 pub giving_up-at : (w : World) (me : ℕ) (a : Actor) (l : Line) → actor_of w me ≡ Some a → a.line ≡ Some l → giving_up w (actor_of w me) ≡ gives_up (w.steps + 1) a l
@@ -30,7 +30,7 @@ pub giving_up-is : (w : World) (me : ℕ) (a : Actor) (l : Line) (o : Outcome) �
 giving_up-is w me a l o at here up = giving_up-at w me a l at here ∙ up
 
 -- the move of giving up, by its parts
-pub give_move : (w : World) (me : ℕ) (a : Actor) (l : Line) (o : Outcome) → actor_of w me ≡ Some a → a.line ≡ Some l → gives_up (w.steps + 1) a l ≡ Some o → next w (Give me) ≡ Some (settled w me a w.shared o)
+pub give_move : (w : World) (me : ℕ) (a : Actor) (l : Line) (o : Outcome) → actor_of w me ≡ Some a → a.line ≡ Some l → gives_up (w.steps + 1) a l ≡ Some o → next w (Give me) ≡ Some (after_outcome w me a w.shared o)
 give_move w me a l o at here up = ap (moved w (Give me)) at ∙ ap (gives w me a) here ∙ ap (given w me a) up
 
 -- the move of beginning a call, by its parts
@@ -40,23 +40,23 @@ begin_move w me op a at here call =
     ap (λ b. if b then Some (with_actor w me (begun w.setup.kind me op a)) else None) call
 
 -- an actor that begins a call looks for a node at N1 alone
-pub begun_looks : (kind : Kind) (me : ℕ) (op : Op) (a : Actor) → (seeks (begun kind me op a).line ≡ 0) ⊎ ((begun kind me op a).line ≡ Some N1)
+pub begun_looks : (kind : Kind) (me : ℕ) (op : Op) (a : Actor) → (wants_node (begun kind me op a).line ≡ 0) ⊎ ((begun kind me op a).line ≡ Some N1)
 begun_looks kind me (Enq body) a = go kind a.pocket
   where
-    go : (k : Kind) (p : Option Held) → let b = record a { line = Some N1; op = Enq body; val = record { from = me; body = body }; due = None; entry = None } in (seeks (from_pocket (with_node k) p b).line ≡ 0) ⊎ ((from_pocket (with_node k) p b).line ≡ Some N1)
+    go : (k : Kind) (p : Option Held) → let b = record a { line = Some N1; op = Enq body; val = record { from = me; body = body }; due = None; entry = None } in (wants_node (from_pocket (with_node k) p b).line ≡ 0) ⊎ ((from_pocket (with_node k) p b).line ≡ Some N1)
     go k None = inr refl
     go TwoLock (Some held) = inl refl
     go NonBlocking (Some held) = inl refl
 begun_looks kind me Deq a = go kind a.pocket
   where
-    go : (k : Kind) (p : Option Held) → let b = record a { line = Some (dequeues k); op = Deq; due = None; entry = None } in (seeks (from_pocket F1 p b).line ≡ 0) ⊎ ((from_pocket F1 p b).line ≡ Some N1)
+    go : (k : Kind) (p : Option Held) → let b = record a { line = Some (dequeues k); op = Deq; due = None; entry = None } in (wants_node (from_pocket F1 p b).line ≡ 0) ⊎ ((from_pocket F1 p b).line ≡ Some N1)
     go TwoLock None = inl refl
     go NonBlocking None = inl refl
     go k (Some held) = inl refl
 
 -- idle actors look for no node, and have no call without a number
-pub seekers-idle : (n : ℕ) → seekers (replicate n idle) ≡ 0
-seekers-idle n = omega (arith, sum_by-replicate (λ a. seeks a.line) n idle)
+pub wanting_node-idle : (n : ℕ) → wanting_node (replicate n idle) ≡ 0
+wanting_node-idle n = omega (arith, sum_by-replicate (λ a. wants_node a.line) n idle)
 
 pub unrecorded-idle : (n : ℕ) → unrecorded (replicate n idle) ≡ 0
 unrecorded-idle n = omega (arith, sum_by-replicate (λ a. is_unrecorded a.line a.entry) n idle)

@@ -1,13 +1,13 @@
 -- What a step does to the number of nodes used and of actors that look for one, and which node it may set aside.
 use Rattle.std.proofs.Common.{◌≡◌, ℕ, ◌+◌, ◌≤◌, Bool, true, false, nat_eq, nat_lt, if◌then◌else◌, Option, Some, None, IfSome, refl, arith}
 use Rattle.std.proofs.lemmas.Bool.{eqb-true}
-use Rattle.step_machine.specs.Below.{is_null, same_ref, Kind, TwoLock, NonBlocking, Line, N1, N2, N4, N5, F1, F3, E3, E5, E7, E9, E13, E17, D2, D5, D10, D12, D13, A3, B1, B3, B4, B6, Reply, Done, Setup, Actor, Outcome, Shared, Found, found, performed, put, same, content, Free, Head, Tail, Tail_lock, Head_lock, Next, Fresh, action, outcome, freed, unlocked, sets_aside, goes, effect, with_node, ends, lets_go, takes, raised, gives_up, busy_or, to_pocket}
-use Rattle.step_machine.specs.Views.{seeks}
+use Rattle.step_machine.specs.Below.{is_null, same_ref, Kind, TwoLock, NonBlocking, Line, N1, N2, N4, N5, F1, F3, E3, E5, E7, E9, E13, E17, D2, D5, D10, D12, D13, A3, B1, B3, B4, B6, Reply, Done, Setup, Actor, Outcome, Shared, Found, found, performed, put, same, content, Free, Head, Tail, Tail_lock, Head_lock, Next, Fresh, action, outcome, freed, unlocked, sets_aside, goes, effect, with_node, ends, empties_hand, fills_hand, raised, gives_up, busy_or, to_pocket}
+use Rattle.step_machine.specs.Views.{wants_node}
 use Rattle.step_machine.proofs.Choices.{both}
 
 -- the actor of an outcome looks for a node only where the line before did, and the node set aside is this one
 pub record Settles (seek node : ℕ) (o : Outcome) : Type 0 where
-  pub looks : seeks o.actor.line ≤ seek
+  pub looks : wants_node o.actor.line ≤ seek
   pub leaves : IfSome o.aside (λ n. n ≡ node)
 
 freed_settles : (n : ℕ) (k : Kind) (now : ℕ) (due : Option Reply) (a : Actor) → Settles 0 n (freed k now due a)
@@ -32,18 +32,18 @@ weakened : (n : ℕ) (o : Outcome) → Settles 0 n o → Settles 1 n o
 weakened n o h = record { looks = omega (arith, h.looks); leaves = h.leaves }
 
 -- one step, but for a won exchange of Fresh, adds no actor that looks for a node
-pub settles : (s : Setup) (now me : ℕ) (a : Actor) (l : Line) (c : Found (action s me a l)) → Settles (seeks (Some l)) a.node (outcome s now me a l c)
+pub settles : (s : Setup) (now me : ℕ) (a : Actor) (l : Line) (c : Found (action s me a l)) → Settles (wants_node (Some l)) a.node (outcome s now me a l c)
 settles s now me a N2 c =
     both (Settles _ _) (is_null c) (both (Settles _ _) (nat_lt a.f s.size) record { looks = omega arith; leaves = tt } record { looks = omega arith; leaves = tt })
     (both (Settles _ _) (nat_eq c.count s.limit) record { looks = omega arith; leaves = tt } record { looks = omega arith; leaves = tt })
 settles s now me a N4 c =
-    both (Settles _ _) (same_ref c a.top) (weakened _ _ (with_node_settles _ s.kind (takes a.top.node a.next.count a))) record { looks = omega arith; leaves = tt }
+    both (Settles _ _) (same_ref c a.top) (weakened _ _ (with_node_settles _ s.kind (fills_hand a.top.node a.next.count a))) record { looks = omega arith; leaves = tt }
 settles s now me a N5 c =
-    both (Settles _ _) (nat_eq c a.f) (weakened _ _ (with_node_settles _ s.kind (takes (a.f + 1) 0 a))) record { looks = omega arith; leaves = tt }
+    both (Settles _ _) (nat_eq c a.f) (weakened _ _ (with_node_settles _ s.kind (fills_hand (a.f + 1) 0 a))) record { looks = omega arith; leaves = tt }
 settles s now me a F1 c =
     both (Settles _ _) (nat_eq c.count s.limit) (freed_aside s.kind now a.due (record a { top = c })) record { looks = omega arith; leaves = tt }
 settles s now me a F3 c =
-    both (Settles _ _) (same_ref c a.top) (freed_settles _ s.kind now a.due (lets_go a)) record { looks = omega arith; leaves = tt }
+    both (Settles _ _) (same_ref c a.top) (freed_settles _ s.kind now a.due (empties_hand a)) record { looks = omega arith; leaves = tt }
 settles s now me a E3 c =
     both (Settles _ _) (nat_eq c.count s.limit) record { looks = omega arith; leaves = refl } record { looks = omega arith; leaves = tt }
 settles s now me a E7 c =
@@ -51,7 +51,7 @@ settles s now me a E7 c =
 settles s now me a E9 c =
     both (Settles _ _) (same_ref c a.next) (linked (nat_eq a.tail.count s.limit)) record { looks = omega arith; leaves = tt }
   where
-    linked : (b : Bool) → Settles 0 a.node (effect now (if b then ends now Done (lets_go (record a { due = Some Done })) else goes E17 (lets_go (record a { due = Some Done }))))
+    linked : (b : Bool) → Settles 0 a.node (effect now (if b then ends now Done (empties_hand (record a { due = Some Done })) else goes E17 (empties_hand (record a { due = Some Done }))))
     linked true = record { looks = omega arith; leaves = tt }
     linked false = record { looks = omega arith; leaves = tt }
 settles s now me a D5 c =
@@ -73,14 +73,14 @@ if_fresh : (b : Bool) (x y : Shared) → x.fresh ≡ y.fresh → (if b then x el
 if_fresh true x y e = e
 if_fresh false x y e = refl
 
-plus : (m : Shared) (fresh seek : ℕ) (o : Outcome) (node : ℕ) → fresh ≡ m.fresh → Settles seek node o → fresh + seeks o.actor.line ≤ m.fresh + seek
+plus : (m : Shared) (fresh seek : ℕ) (o : Outcome) (node : ℕ) → fresh ≡ m.fresh → Settles seek node o → fresh + wants_node o.actor.line ≤ m.fresh + seek
 plus m fresh seek o node e h = omega (arith, h.looks)
 
 -- a step uses one node more only where its actor looked for one and then no longer does
-pub grows : (s : Setup) (now me : ℕ) (a : Actor) (l : Line) (m : Shared) → (performed (action s me a l) m).fresh + seeks (outcome s now me a l (found (action s me a l) m)).actor.line ≤ m.fresh + seeks (Some l)
+pub grows : (s : Setup) (now me : ℕ) (a : Actor) (l : Line) (m : Shared) → (performed (action s me a l) m).fresh + wants_node (outcome s now me a l (found (action s me a l) m)).actor.line ≤ m.fresh + wants_node (Some l)
 grows s now me a N5 m = go (nat_eq m.fresh a.f) refl s.kind
   where
-    go : (b : Bool) → nat_eq m.fresh a.f ≡ b → (k : Kind) → (if b then put Fresh (a.f + 1) m else m).fresh + seeks (if b then goes (with_node k) (takes (a.f + 1) 0 a) else goes N1 a).actor.line ≤ m.fresh + 1
+    go : (b : Bool) → nat_eq m.fresh a.f ≡ b → (k : Kind) → (if b then put Fresh (a.f + 1) m else m).fresh + wants_node (if b then goes (with_node k) (fills_hand (a.f + 1) 0 a) else goes N1 a).actor.line ≤ m.fresh + 1
     go true e TwoLock = let h : m.fresh ≡ a.f = eqb-true m.fresh a.f e in omega arith
     go true e NonBlocking = let h : m.fresh ≡ a.f = eqb-true m.fresh a.f e in omega arith
     go false e k = omega arith
@@ -100,7 +100,7 @@ busy_or_settles : (now node seek : ℕ) (due : Option Reply) (a : Actor) → IfS
 busy_or_settles now node seek None a = record { looks = omega arith; leaves = tt }
 busy_or_settles now node seek (Some reply) a = record { looks = omega arith; leaves = tt }
 
-pub given_settles : (now : ℕ) (a : Actor) (l : Line) → IfSome (gives_up now a l) (Settles (seeks (Some l)) a.node)
+pub given_settles : (now : ℕ) (a : Actor) (l : Line) → IfSome (gives_up now a l) (Settles (wants_node (Some l)) a.node)
 given_settles now a N1 = record { looks = omega arith; leaves = tt }
 given_settles now a F1 = busy_or_settles now a.node 0 a.due (to_pocket a)
 given_settles now a E5 = record { looks = omega arith; leaves = tt }

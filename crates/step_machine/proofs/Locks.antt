@@ -14,15 +14,15 @@ use Rattle.line_steps.specs.Memory.{Word, Tail, word}
 use Rattle.line_steps.specs.Lines.{action}
 use Rattle.step_machine.specs.Machine.{World, idle, actor_of, IsReached}
 use Rattle.step_machine.specs.Range.{WorldInRange}
-use Rattle.step_machine.specs.Standing.{IsRunBy}
+use Rattle.step_machine.specs.ProgramCounters.{IsRunBy}
 use Rattle.step_machine.specs.TwoLock.{OfTwoLockWorlds}
 use Rattle.step_machine.specs.Locks.{has_tail_lock, has_head_lock, LocksNameTheirHolders, LocksAreOfActors, LeavesTailToItsMover, TakesTheFrontAtB5}
 use Rattle.step_machine.specs.Places.{IsChain}
 use Rattle.step_machine.specs.Chains.{last_node}
 use Rattle.step_machine.proofs.Chains.{next_in, chain_some, second_leads}
 use Rattle.step_machine.proofs.Reached.{reached_in_range}
-use Rattle.step_machine.proofs.TwoLockKnows.{Owns, OwnsAt, KnowsAt, has_tail, has_head}
-use Rattle.step_machine.proofs.TwoLockSound.{Proved, nodes_at, head_some, reached_sound}
+use Rattle.step_machine.proofs.TwoLockAtLines.{Owns, OwnsAt, InvariantAt, has_tail, has_head}
+use Rattle.step_machine.proofs.TwoLockInvariant.{ReachedInvariant, nodes_at, head_some, reached_invariant}
 
 -- the same lines
 tail_lines : (l : Option Line) → has_tail l ≡ has_tail_lock l
@@ -42,7 +42,7 @@ owned lock me false h = (λ e. absurd (h e), λ t. absurd (let f : false ≡ tru
 -- the locks of an actor, by its line
 owns_at : (w : World) (r : IsReached w) (e : w.setup.kind ≡ TwoLock) (me : ℕ) (a : Actor) → actor_of w me ≡ Some a → OwnsAt w.shared me a.line
 owns_at w r e me a is =
-    let p : Proved (λ w q. Unit {0}) (λ w k. Unit {0}) w = reached_sound w r e in (p.sound.actors me a is).owns
+    let p : ReachedInvariant (λ w q. Unit {0}) (λ w k. Unit {0}) w = reached_invariant w r e in (p.sound.actors me a is).owns
 
 pub locks_name_their_holders : OfTwoLockWorlds LocksNameTheirHolders
 locks_name_their_holders w r e me a is =
@@ -104,8 +104,8 @@ leave_tail_to_its_mover w r e me you a b l is at other there here =
 -- at B5 the registers are the front of the queue
 pub front_is_taken : OfTwoLockWorlds TakesTheFrontAtB5
 front_is_taken w r e me a queue is at chain =
-    let p : Proved (λ w q. Unit {0}) (λ w k. Unit {0}) w = reached_sound w r e in
-    let k : KnowsAt (λ k. Unit {0}) w.setup w.shared (last_node p.queue) a (Some B5) = subst (KnowsAt (λ k. Unit {0}) w.setup w.shared (last_node p.queue) a) at (p.sound.actors me a is).knows in
+    let p : ReachedInvariant (λ w q. Unit {0}) (λ w k. Unit {0}) w = reached_invariant w r e in
+    let k : InvariantAt (λ k. Unit {0}) w.setup w.shared (last_node p.queue) a (Some B5) = subst (InvariantAt (λ k. Unit {0}) w.setup w.shared (last_node p.queue) a) at (p.sound.actors me a is).knows in
     let first : (rest : List ℕ) × (queue ≡ w.shared.head.node ∷ rest) = chain_some w.shared.nodes w.shared.head.node queue (head_some w r e) chain in
     let here : w.shared.head.node ≡ a.head.node = ap (λ (x : Ref). x.node) k.0 in
     let second : (others : List ℕ) × (first.0 ≡ a.next.node ∷ others) =

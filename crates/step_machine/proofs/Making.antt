@@ -1,8 +1,8 @@
 -- What the calls of a world need of it, and what they keep: registers that can be used, room, and the list of moves.
 use Rattle.std.proofs.Common.{◌≡◌, ℕ, ◌+◌, ◌-◌, ◌^◌, ◌<◌, ◌≤◌, ◌⊎◌, inl, inr, Option, Some, None, IfSome, List, length, min, set, slice_get, refl, sym, ap, subst, arith}
-use Rattle.step_machine.specs.Below.{Line, N1, Op, Stamped, Setup, Actor, Outcome, gives_up, begun, room_after, IsReady}
-use Rattle.step_machine.specs.Machine.{World, actor_of, recorded, IsMade}
-use Rattle.step_machine.specs.Views.{seeks, unrecorded, HasNodes, HasEntry}
+use Rattle.step_machine.specs.Below.{Line, N1, Op, Stamped, Setup, Actor, Outcome, gives_up, begun, room_after, RegistersFit}
+use Rattle.step_machine.specs.Machine.{World, actor_of, with_operation, IsMade}
+use Rattle.step_machine.specs.Views.{wants_node, unrecorded, HasNodes, HasEntry}
 use Rattle.step_machine.specs.Range.{WorldInRange, ActorInRange}
 use Rattle.step_machine.proofs.Giving.{begun_looks}
 use Rattle.step_machine.proofs.Growth.{Settles, given_settles}
@@ -15,7 +15,7 @@ fresh_room w room h (inl full) = let g : w.shared.fresh ≤ w.setup.size = h.sha
 fresh_room w room h (inr some) = omega arith
 
 -- the registers of an actor of a made world can be used
-pub ready : (w : World) (room me : ℕ) (a : Actor) → IsMade w → actor_of w me ≡ Some a → room ≤ w.setup.size → HasNodes w.setup.size w.shared.fresh room w.actors → IsReady w.setup room a
+pub ready : (w : World) (room me : ℕ) (a : Actor) → IsMade w → actor_of w me ≡ Some a → room ≤ w.setup.size → HasNodes w.setup.size w.shared.fresh room w.actors → RegistersFit w.setup room a
 ready w room me a made at within nodes =
     let h : WorldInRange w = made_in_range w made in
     let some : w.shared.fresh ≤ room = fresh_room w room h nodes in
@@ -39,7 +39,7 @@ ready w room me a made at within nodes =
     }
 
 -- a node set aside by a step has room
-pub aside_room : (s : Setup) (room : ℕ) (a : Actor) (o : Option ℕ) → IsReady s room a → IfSome o (λ n. n ≡ a.node) → IfSome o (λ n. n - 1 < room)
+pub aside_room : (s : Setup) (room : ℕ) (a : Actor) (o : Option ℕ) → RegistersFit s room a → IfSome o (λ n. n ≡ a.node) → IfSome o (λ n. n - 1 < room)
 aside_room s room a None h g = tt
 aside_room s room a (Some n) h g = let few : a.node ≤ room = h.node in let some : 1 ≤ room = h.some in omega arith
 
@@ -52,13 +52,13 @@ pub record Rooms (size fresh room capacity : ℕ) (actors : List Actor) (operati
   pub nodes : HasNodes size fresh room actors
   pub entries : length operations + unrecorded actors ≤ capacity
 
-pub settled_rooms : (w : World) (room capacity more me : ℕ) (a : Actor) (l : Line) (o : Outcome) (fresh e : ℕ) (xs : List Actor) (ops : List Stamped) (new : Stamped) (change : Stamped → Stamped) → actor_of w me ≡ Some a → a.line ≡ Some l → fresh + seeks o.actor.line ≤ w.shared.fresh + seeks (Some l) → xs ≡ set w.actors (me - 1) (record o.actor { entry = Some e }) → ops ≡ recorded a.entry new change w.operations → HasNodes w.setup.size w.shared.fresh room w.actors → length w.operations + unrecorded w.actors ≤ capacity → capacity ≤ more → Rooms w.setup.size fresh room more xs ops
+pub settled_rooms : (w : World) (room capacity more me : ℕ) (a : Actor) (l : Line) (o : Outcome) (fresh e : ℕ) (xs : List Actor) (ops : List Stamped) (new : Stamped) (change : Stamped → Stamped) → actor_of w me ≡ Some a → a.line ≡ Some l → fresh + wants_node o.actor.line ≤ w.shared.fresh + wants_node (Some l) → xs ≡ set w.actors (me - 1) (record o.actor { entry = Some e }) → ops ≡ with_operation a.entry new change w.operations → HasNodes w.setup.size w.shared.fresh room w.actors → length w.operations + unrecorded w.actors ≤ capacity → capacity ≤ more → Rooms w.setup.size fresh room more xs ops
 settled_rooms w room capacity more me a l o fresh e xs ops new change at here grown actors operations nodes entries grows =
     let b : Actor = record o.actor { entry = Some e } in
     let i : slice_get w.actors (me - 1) ≡ Some a = (actor_stands w me a at).1 in
-    let grown : fresh + seeks o.actor.line ≤ w.shared.fresh + seeks a.line = subst (λ k. fresh + seeks o.actor.line ≤ w.shared.fresh + seeks k) (sym here) grown in
+    let grown : fresh + wants_node o.actor.line ≤ w.shared.fresh + wants_node a.line = subst (λ k. fresh + wants_node o.actor.line ≤ w.shared.fresh + wants_node k) (sym here) grown in
     let n : HasNodes w.setup.size fresh room (set w.actors (me - 1) b) = step_nodes w.setup.size w.shared.fresh fresh room w.actors (me - 1) a b i grown nodes in
-    let k : length (recorded a.entry new change w.operations) + unrecorded (set w.actors (me - 1) b) ≤ more =
+    let k : length (with_operation a.entry new change w.operations) + unrecorded (set w.actors (me - 1) b) ≤ more =
     step_entries w.operations new change capacity more w.actors (me - 1) a b l e i here refl entries grows in
     record {
       nodes = subst (HasNodes w.setup.size fresh room) (sym actors) n;
@@ -66,19 +66,19 @@ settled_rooms w room capacity more me a l o fresh e xs ops new change at here gr
     }
 
 -- after an actor gave up the room still serves
-pub given_rooms : (w : World) (room more_room capacity more me now : ℕ) (a : Actor) (l : Line) (o : Outcome) (fresh e : ℕ) (xs : List Actor) (ops : List Stamped) (new : Stamped) (change : Stamped → Stamped) → actor_of w me ≡ Some a → a.line ≡ Some l → gives_up now a l ≡ Some o → fresh ≡ w.shared.fresh → more_room ≡ room → xs ≡ set w.actors (me - 1) (record o.actor { entry = Some e }) → ops ≡ recorded a.entry new change w.operations → HasNodes w.setup.size w.shared.fresh room w.actors → length w.operations + unrecorded w.actors ≤ capacity → capacity ≤ more → Rooms w.setup.size fresh more_room more xs ops
+pub given_rooms : (w : World) (room more_room capacity more me now : ℕ) (a : Actor) (l : Line) (o : Outcome) (fresh e : ℕ) (xs : List Actor) (ops : List Stamped) (new : Stamped) (change : Stamped → Stamped) → actor_of w me ≡ Some a → a.line ≡ Some l → gives_up now a l ≡ Some o → fresh ≡ w.shared.fresh → more_room ≡ room → xs ≡ set w.actors (me - 1) (record o.actor { entry = Some e }) → ops ≡ with_operation a.entry new change w.operations → HasNodes w.setup.size w.shared.fresh room w.actors → length w.operations + unrecorded w.actors ≤ capacity → capacity ≤ more → Rooms w.setup.size fresh more_room more xs ops
 given_rooms w room more_room capacity more me now a l o fresh e xs ops new change at here up same kept actors operations nodes entries grows =
-    let h : IfSome (Some o) (Settles (seeks (Some l)) a.node) = subst (λ p. IfSome p (Settles (seeks (Some l)) a.node)) up (given_settles now a l) in
-    let looks : seeks o.actor.line ≤ seeks (Some l) = h.looks in
+    let h : IfSome (Some o) (Settles (wants_node (Some l)) a.node) = subst (λ p. IfSome p (Settles (wants_node (Some l)) a.node)) up (given_settles now a l) in
+    let looks : wants_node o.actor.line ≤ wants_node (Some l) = h.looks in
     subst (λ n. Rooms w.setup.size fresh n more xs ops) (sym kept)
     (settled_rooms w room capacity more me a l o fresh e xs ops new change at here (omega arith) actors operations nodes entries grows)
 
 -- after an actor began a call there is room for the nodes that it and the others may look for, and for one more entry each
-pub begun_rooms : (w : World) (room more_room enough capacity me : ℕ) (a b : Actor) (fresh : ℕ) (xs : List Actor) (ops : List Stamped) → actor_of w me ≡ Some a → a.line ≡ None → (seeks b.line ≡ 0) ⊎ (enough ≡ w.shared.fresh + length w.actors) → room ≤ w.setup.size → fresh ≡ w.shared.fresh → more_room ≡ room_after w.setup.size enough room → xs ≡ set w.actors (me - 1) b → length ops + length w.actors ≤ capacity → HasNodes w.setup.size w.shared.fresh room w.actors → Rooms w.setup.size fresh more_room capacity xs ops
+pub begun_rooms : (w : World) (room more_room enough capacity me : ℕ) (a b : Actor) (fresh : ℕ) (xs : List Actor) (ops : List Stamped) → actor_of w me ≡ Some a → a.line ≡ None → (wants_node b.line ≡ 0) ⊎ (enough ≡ w.shared.fresh + length w.actors) → room ≤ w.setup.size → fresh ≡ w.shared.fresh → more_room ≡ room_after w.setup.size enough room → xs ≡ set w.actors (me - 1) b → length ops + length w.actors ≤ capacity → HasNodes w.setup.size w.shared.fresh room w.actors → Rooms w.setup.size fresh more_room capacity xs ops
 begun_rooms w room more_room enough capacity me a b fresh xs ops at none looks within same kept actors fits nodes =
     let ys : List Actor = set w.actors (me - 1) b in
     let n : HasNodes w.setup.size w.shared.fresh (room_after w.setup.size enough room) ys =
-    begin_nodes w.setup.size w.shared.fresh room enough w.actors (me - 1) a b within (actor_stands w me a at).1 (ap seeks none) looks nodes in
+    begin_nodes w.setup.size w.shared.fresh room enough w.actors (me - 1) a b within (actor_stands w me a at).1 (ap wants_node none) looks nodes in
     record {
       nodes =
           subst (HasNodes w.setup.size fresh more_room) (sym actors)
@@ -87,10 +87,10 @@ begun_rooms w room more_room enough capacity me a b fresh xs ops at none looks w
     }
 
 -- an actor that began a call looks for no node, or room is wanted for those used and one for each actor
-pub begun_wants : (w : World) (me wanted fresh actors : ℕ) (op : Op) (a b : Actor) → WorldInRange w → b ≡ begun w.setup.kind me op a → fresh ≡ w.shared.fresh → actors ≡ length w.actors → (b.line ≡ Some N1 → wanted ≡ min (fresh + actors) (2 ^ 64 - 1)) → (seeks b.line ≡ 0) ⊎ (wanted ≡ w.shared.fresh + length w.actors)
+pub begun_wants : (w : World) (me wanted fresh actors : ℕ) (op : Op) (a b : Actor) → WorldInRange w → b ≡ begun w.setup.kind me op a → fresh ≡ w.shared.fresh → actors ≡ length w.actors → (b.line ≡ Some N1 → wanted ≡ min (fresh + actors) (2 ^ 64 - 1)) → (wants_node b.line ≡ 0) ⊎ (wanted ≡ w.shared.fresh + length w.actors)
 begun_wants w me wanted fresh actors op a b range made used counted wants =
     let few : w.shared.fresh + length w.actors < 2 ^ 64 - 1 = omega (arith, range.shared.fresh, range.sized.numbered, range.sized.few_actors) in
-    elim (subst (λ c. (seeks c.line ≡ 0) ⊎ (c.line ≡ Some N1)) (sym made) (begun_looks w.setup.kind me op a)) [
+    elim (subst (λ c. (wants_node c.line ≡ 0) ⊎ (c.line ≡ Some N1)) (sym made) (begun_looks w.setup.kind me op a)) [
       | inl none ↦ inl none
       | inr first ↦ inr (let h : wanted ≡ min (fresh + actors) (2 ^ 64 - 1) = wants first in omega (arith, h, few, used, counted))
     ]

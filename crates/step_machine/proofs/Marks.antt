@@ -5,7 +5,7 @@ use Rattle.step_machine.specs.TwoLock.{OfTwoLockWorlds}
 use Rattle.step_machine.specs.NonBlocking.{OfNonBlockingWorlds}
 use Rattle.step_machine.specs.Locks.{MarksAreCounts}
 use Rattle.step_machine.proofs.TwoLockCounts.{Uncounted, uncounted, no_count}
-use Rattle.step_machine.proofs.NonBlockingSound.{Proved, reached_sound}
+use Rattle.step_machine.proofs.NonBlockingInvariant.{ReachedInvariant, reached_invariant}
 
 -- in the two-lock queue both are 0
 pub two_lock_marks : OfTwoLockWorlds MarksAreCounts
@@ -15,5 +15,5 @@ two_lock_marks w r e me a is =
 
 pub non_blocking_marks : OfNonBlockingWorlds MarksAreCounts
 non_blocking_marks w r e me a is =
-    let p : Proved (λ w q. Unit {0}) (λ w k. Unit {0}) w = reached_sound w r e in
+    let p : ReachedInvariant (λ w q. Unit {0}) (λ w k. Unit {0}) w = reached_invariant w r e in
     IfSome_then a.pocket (p.sound.actors me a is).marked.pocket (λ h mark. sym mark.1)

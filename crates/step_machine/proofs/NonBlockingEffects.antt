@@ -4,19 +4,19 @@ use Rattle.std.proofs.lemmas.Bool.{true≢false}
 use Rattle.step_machine.specs.Below.{Ref, Deq, Value, Setup, Node, Actor, Outcome, Shared, node_at, put, Fresh, Free, Head, Tail, Next, raised}
 use Rattle.step_machine.specs.Places.{one_if, times}
 use Rattle.step_machine.specs.Chains.{last_node}
-use Rattle.step_machine.specs.Promises.{earned, promised_reply}
+use Rattle.step_machine.specs.Completion.{decided_reply, completed_reply}
 use Rattle.step_machine.specs.Lag.{TailLags}
 use Rattle.step_machine.proofs.Chains.{last_linked, last_times, last_within, second_leads}
 use Rattle.step_machine.proofs.Counting.{holds, asides}
-use Rattle.step_machine.proofs.Accounts.{Account, popped, raised_count}
-use Rattle.step_machine.proofs.Older.{Rises}
+use Rattle.step_machine.proofs.LinearizationSteps.{LinearizationStep, popped, raised_count}
+use Rattle.step_machine.proofs.StaleReferences.{Rises}
 use Rattle.step_machine.proofs.Effects.{Shape, Turn, Took, with_node, others_stay, written, not_linked, queued_once, turn_words, turn_aside, turn_claim, turn_take, turn_giveback, turn_node, turn_link, turn_pop}
 use Rattle.step_machine.proofs.StampsLists.{same_or_not}
-use Rattle.step_machine.proofs.NonBlockingKnows.{next_of, KnowsAt, Marked, IsMark, Moves}
+use Rattle.step_machine.proofs.NonBlockingAtLines.{next_of, InvariantAt, Marked, IsMark, Guarantee}
 use Rattle.step_machine.proofs.NonBlockingLag.{IsOff, tail_times, behind_tail, nothing_after, tail_is_last, one_after, lag_swung, lag_popped, lag_same, lag_linked, after_not_first}
 
 -- what is known of the shared words; `E` counts how often a node stands outside the chains
-pub record Sound (limit : ℕ) (m : Shared) (E : ℕ → ℕ) (front : ℕ) (rest free : List ℕ) : Type 0 where
+pub record WordsInvariant (limit : ℕ) (m : Shared) (E : ℕ → ℕ) (front : ℕ) (rest free : List ℕ) : Type 0 where
   pub shape : Shape m E (front ∷ rest) free
   pub lag : TailLags m (front ∷ rest)
   pub last_room : (next_of m (last_node (front ∷ rest))).count ≢ limit
@@ -32,12 +32,12 @@ pub record Does (Z : ℕ → Type 0) (me now limit : ℕ) (m m' : Shared) (front
   pub rest' : List ℕ
   pub free' : List ℕ
   pub turn : Turn m m' (front ∷ rest) free (front' ∷ rest') free' a o.actor o.aside
-  pub moves : Moves m m'
+  pub moves : Guarantee m m'
   pub lag : TailLags m' (front' ∷ rest')
   pub last_room : (next_of m' (last_node (front' ∷ rest'))).count ≢ limit
   pub marked : Marked m' o.actor
-  pub knows : KnowsAt (Found rest now) limit m' o.actor o.actor.line
-  pub account : Account Z me now m m' (front ∷ rest) (front' ∷ rest') a o
+  pub knows : InvariantAt (Found rest now) limit m' o.actor o.actor.line
+  pub linearizes : LinearizationStep Z me now m m' (front ∷ rest) (front' ∷ rest') a o
   pub own_aside : IfSome o.aside (λ k. (1 ≤ k) × (1 ≤ holds k a))
 
 -- what an exchange writes rises, where its count is not at the limit
@@ -45,23 +45,23 @@ pub raised_rises : (s : Setup) (old r : Ref) (to : ℕ) → old ≡ r → r.coun
 raised_rises s old r to e d = inr (let up : (raised s r to).count ≡ r.count + 1 = raised_count s r to d in let c : old.count ≡ r.count = ap (λ (x : Ref). x.count) e in omega arith)
 
 -- what each kind of write does with the words, for all actors
-moves_same : (m : Shared) → Moves m m
+moves_same : (m : Shared) → Guarantee m m
 moves_same m = record { free = inl refl; head = inl refl; tail = inl refl; tail_on = inl refl; tail_next = inl refl; off = λ e d. d; counts = λ n some. omega arith }
 
-moves_fresh : (m : Shared) (c : ℕ) → Moves m (put Fresh c m)
+moves_fresh : (m : Shared) (c : ℕ) → Guarantee m (put Fresh c m)
 moves_fresh m c = record { free = inl refl; head = inl refl; tail = inl refl; tail_on = inl refl; tail_next = inl refl; off = λ e d. d; counts = λ n some. omega arith }
 
-moves_free : (m : Shared) (r : Ref) → Rises m.free r → Moves m (put Free r m)
+moves_free : (m : Shared) (r : Ref) → Rises m.free r → Guarantee m (put Free r m)
 moves_free m r up = record { free = up; head = inl refl; tail = inl refl; tail_on = inl refl; tail_next = inl refl; off = λ e d. d; counts = λ n some. omega arith }
 
-moves_head : (m : Shared) (r : Ref) → Rises m.head r → Moves m (put Head r m)
+moves_head : (m : Shared) (r : Ref) → Rises m.head r → Guarantee m (put Head r m)
 moves_head m r up = record { free = inl refl; head = up; tail = inl refl; tail_on = inl refl; tail_next = inl refl; off = λ e d. d; counts = λ n some. omega arith }
 
-moves_tail : (m : Shared) (r : Ref) → Rises m.tail r → 1 ≤ (next_of m m.tail.node).node → r.node ≢ m.head.node → Moves m (put Tail r m)
+moves_tail : (m : Shared) (r : Ref) → Rises m.tail r → 1 ≤ (next_of m m.tail.node).node → r.node ≢ m.head.node → Guarantee m (put Tail r m)
 moves_tail m r up some other = record { free = inl refl; head = inl refl; tail = up; tail_on = inr some; tail_next = inl refl; off = λ e d. other; counts = λ n one. omega arith }
 
 -- a node with the same count in its `next` is written
-moves_node : (m : Shared) (k : ℕ) (x : Node) → 1 ≤ k → k ≤ length m.nodes → 1 ≤ m.tail.node → m.tail.node ≢ k → x.next.count ≡ (next_of m k).count → Moves m (with_node m k x)
+moves_node : (m : Shared) (k : ℕ) (x : Node) → 1 ≤ k → k ≤ length m.nodes → 1 ≤ m.tail.node → m.tail.node ≢ k → x.next.count ≡ (next_of m k).count → Guarantee m (with_node m k x)
 moves_node m k x some low tail other e =
     record {
       free = inl refl;
@@ -80,7 +80,7 @@ moves_node m k x some low tail other e =
         let w : (next_of (with_node m k x) n).count ≡ (next_of m n).count = ap (λ (y : Node). y.next.count) (others_stay m.nodes k n x some one d) in omega arith
 
 -- the `next` of Tail's node, which was null, is written
-moves_link : (m : Shared) (k : ℕ) (r : Ref) → m.tail.node ≡ k → 1 ≤ k → k ≤ length m.nodes → (next_of m k).node ≡ 0 → (next_of m k).count < r.count → Moves m (put (Next k) r m)
+moves_link : (m : Shared) (k : ℕ) (r : Ref) → m.tail.node ≡ k → 1 ≤ k → k ≤ length m.nodes → (next_of m k).node ≡ 0 → (next_of m k).count < r.count → Guarantee m (put (Next k) r m)
 moves_link m k r at some low null up =
     record {
       free = inl refl;
@@ -114,7 +114,7 @@ no_marks m b h p = record { hand = λ e. absurd (true≢false (sym e ∙ h)); po
 pub one_mark : (m : Shared) (b : Actor) → b.pocket ≡ None → IsMark m b.node b.mark → Marked m b
 one_mark m b p h = record { hand = λ e. h; pocket = subst (λ x. IfSome x (λ held. IsMark m held.node held.mark)) (sym p) tt }
 
-module _ (s : Setup) (m : Shared) (E : ℕ → ℕ) (front : ℕ) (rest free : List ℕ) (w : Sound s.limit m E front rest free) where
+module _ (s : Setup) (m : Shared) (E : ℕ → ℕ) (front : ℕ) (rest free : List ℕ) (w : WordsInvariant s.limit m E front rest free) where
   -- the first node of the queue is Head's
   pub first : m.head.node ≡ front
   first = w.shape.queue_chain.0
@@ -135,7 +135,7 @@ module _ (s : Setup) (m : Shared) (E : ℕ → ℕ) (front : ℕ) (rest free : L
 
   module _ (Z : ℕ → Type 0) (me now : ℕ) (a : Actor) (o : Outcome) where
     -- no word is written
-    pub does_nothing : ((n : ℕ) → holds n o.actor ≡ holds n a) → o.aside ≡ None → Marked m o.actor → KnowsAt (Found rest now) s.limit m o.actor o.actor.line → Account Z me now m m (front ∷ rest) (front ∷ rest) a o → Does Z me now s.limit m m front rest free a o
+    pub does_nothing : ((n : ℕ) → holds n o.actor ≡ holds n a) → o.aside ≡ None → Marked m o.actor → InvariantAt (Found rest now) s.limit m o.actor o.actor.line → LinearizationStep Z me now m m (front ∷ rest) (front ∷ rest) a o → Does Z me now s.limit m m front rest free a o
     does_nothing same none marked knows account =
         record {
           front' = front;
@@ -147,12 +147,12 @@ module _ (s : Setup) (m : Shared) (E : ℕ → ℕ) (front : ℕ) (rest free : L
           last_room = w.last_room;
           marked = marked;
           knows = knows;
-          account = account;
+          linearizes = account;
           own_aside = subst (λ x. IfSome x (λ k. (1 ≤ k) × (1 ≤ holds k a))) (sym none) tt;
         }
 
     -- the node in hand is set aside
-    pub does_aside : (k : ℕ) → 1 ≤ k → 1 ≤ holds k a → ((n : ℕ) → holds n o.actor + one_if (nat_eq n k) ≡ holds n a) → o.aside ≡ Some k → Marked m o.actor → KnowsAt (Found rest now) s.limit m o.actor o.actor.line → Account Z me now m m (front ∷ rest) (front ∷ rest) a o → Does Z me now s.limit m m front rest free a o
+    pub does_aside : (k : ℕ) → 1 ≤ k → 1 ≤ holds k a → ((n : ℕ) → holds n o.actor + one_if (nat_eq n k) ≡ holds n a) → o.aside ≡ Some k → Marked m o.actor → InvariantAt (Found rest now) s.limit m o.actor o.actor.line → LinearizationStep Z me now m m (front ∷ rest) (front ∷ rest) a o → Does Z me now s.limit m m front rest free a o
     does_aside k some here away put_there marked knows account =
         record {
           front' = front;
@@ -164,12 +164,12 @@ module _ (s : Setup) (m : Shared) (E : ℕ → ℕ) (front : ℕ) (rest free : L
           last_room = w.last_room;
           marked = marked;
           knows = knows;
-          account = account;
+          linearizes = account;
           own_aside = subst (λ x. IfSome x (λ k. (1 ≤ k) × (1 ≤ holds k a))) (sym put_there) (some, here);
         }
 
     -- a node that was never used comes into the hand
-    pub does_claim : (c : ℕ) → m.fresh + 1 ≡ c → ((n : ℕ) → holds n o.actor ≡ holds n a + one_if (nat_eq n c)) → o.aside ≡ None → Marked (put Fresh c m) o.actor → KnowsAt (Found rest now) s.limit (put Fresh c m) o.actor o.actor.line → Account Z me now m (put Fresh c m) (front ∷ rest) (front ∷ rest) a o → Does Z me now s.limit m (put Fresh c m) front rest free a o
+    pub does_claim : (c : ℕ) → m.fresh + 1 ≡ c → ((n : ℕ) → holds n o.actor ≡ holds n a + one_if (nat_eq n c)) → o.aside ≡ None → Marked (put Fresh c m) o.actor → InvariantAt (Found rest now) s.limit (put Fresh c m) o.actor o.actor.line → LinearizationStep Z me now m (put Fresh c m) (front ∷ rest) (front ∷ rest) a o → Does Z me now s.limit m (put Fresh c m) front rest free a o
     does_claim c e more none marked knows account =
         record {
           front' = front;
@@ -183,12 +183,12 @@ module _ (s : Setup) (m : Shared) (E : ℕ → ℕ) (front : ℕ) (rest free : L
           last_room = w.last_room;
           marked = marked;
           knows = knows;
-          account = account;
+          linearizes = account;
           own_aside = subst (λ x. IfSome x (λ k. (1 ≤ k) × (1 ≤ holds k a))) (sym none) tt;
         }
 
     -- the first free node comes into the hand
-    pub does_take : (r : Ref) → 1 ≤ m.free.node → Rises m.free r → r.node ≡ (next_of m m.free.node).node → ((n : ℕ) → holds n o.actor ≡ holds n a + one_if (nat_eq n m.free.node)) → o.aside ≡ None → Marked (put Free r m) o.actor → KnowsAt (Found rest now) s.limit (put Free r m) o.actor o.actor.line → Account Z me now m (put Free r m) (front ∷ rest) (front ∷ rest) a o → Does Z me now s.limit m (put Free r m) front rest free a o
+    pub does_take : (r : Ref) → 1 ≤ m.free.node → Rises m.free r → r.node ≡ (next_of m m.free.node).node → ((n : ℕ) → holds n o.actor ≡ holds n a + one_if (nat_eq n m.free.node)) → o.aside ≡ None → Marked (put Free r m) o.actor → InvariantAt (Found rest now) s.limit (put Free r m) o.actor o.actor.line → LinearizationStep Z me now m (put Free r m) (front ∷ rest) (front ∷ rest) a o → Does Z me now s.limit m (put Free r m) front rest free a o
     does_take r some up e more none marked knows account =
         record {
           front' = front;
@@ -200,7 +200,7 @@ module _ (s : Setup) (m : Shared) (E : ℕ → ℕ) (front : ℕ) (rest free : L
           last_room = w.last_room;
           marked = marked;
           knows = knows;
-          account = account;
+          linearizes = account;
           own_aside = subst (λ x. IfSome x (λ k. (1 ≤ k) × (1 ≤ holds k a))) (sym none) tt;
         }
       where
@@ -208,7 +208,7 @@ module _ (s : Setup) (m : Shared) (E : ℕ → ℕ) (front : ℕ) (rest free : L
         took = turn_take m E (front ∷ rest) free a o.actor r w.shape some e more
 
     -- the node in hand goes before the free ones
-    pub does_giveback : (r : Ref) → 1 ≤ r.node → r.node ≤ length m.nodes → Rises m.free r → (next_of m r.node).node ≡ m.free.node → ((n : ℕ) → holds n o.actor + one_if (nat_eq n r.node) ≡ holds n a) → o.aside ≡ None → Marked (put Free r m) o.actor → KnowsAt (Found rest now) s.limit (put Free r m) o.actor o.actor.line → Account Z me now m (put Free r m) (front ∷ rest) (front ∷ rest) a o → Does Z me now s.limit m (put Free r m) front rest free a o
+    pub does_giveback : (r : Ref) → 1 ≤ r.node → r.node ≤ length m.nodes → Rises m.free r → (next_of m r.node).node ≡ m.free.node → ((n : ℕ) → holds n o.actor + one_if (nat_eq n r.node) ≡ holds n a) → o.aside ≡ None → Marked (put Free r m) o.actor → InvariantAt (Found rest now) s.limit (put Free r m) o.actor o.actor.line → LinearizationStep Z me now m (put Free r m) (front ∷ rest) (front ∷ rest) a o → Does Z me now s.limit m (put Free r m) front rest free a o
     does_giveback r some low up leads away none marked knows account =
         record {
           front' = front;
@@ -222,12 +222,12 @@ module _ (s : Setup) (m : Shared) (E : ℕ → ℕ) (front : ℕ) (rest free : L
           last_room = w.last_room;
           marked = marked;
           knows = knows;
-          account = account;
+          linearizes = account;
           own_aside = subst (λ x. IfSome x (λ k. (1 ≤ k) × (1 ≤ holds k a))) (sym none) tt;
         }
 
     -- a word of the node in hand is written, and the node may be set aside
-    pub does_write : (k : ℕ) (x : Node) → ((n : ℕ) → holds n a ≤ E n) → 1 ≤ k → k ≤ length m.nodes → 1 ≤ holds k a → x.next.count ≡ (next_of m k).count → ((n : ℕ) → holds n o.actor + asides n o.aside ≡ holds n a) → IfSome o.aside (λ j. (1 ≤ j) × (1 ≤ holds j a)) → Marked (with_node m k x) o.actor → KnowsAt (Found rest now) s.limit (with_node m k x) o.actor o.actor.line → Account Z me now m (with_node m k x) (front ∷ rest) (front ∷ rest) a o → Does Z me now s.limit m (with_node m k x) front rest free a o
+    pub does_write : (k : ℕ) (x : Node) → ((n : ℕ) → holds n a ≤ E n) → 1 ≤ k → k ≤ length m.nodes → 1 ≤ holds k a → x.next.count ≡ (next_of m k).count → ((n : ℕ) → holds n o.actor + asides n o.aside ≡ holds n a) → IfSome o.aside (λ j. (1 ≤ j) × (1 ≤ holds j a)) → Marked (with_node m k x) o.actor → InvariantAt (Found rest now) s.limit (with_node m k x) o.actor o.actor.line → LinearizationStep Z me now m (with_node m k x) (front ∷ rest) (front ∷ rest) a o → Does Z me now s.limit m (with_node m k x) front rest free a o
     does_write k x mine some low here e away own marked knows account =
         record {
           front' = front;
@@ -248,7 +248,7 @@ module _ (s : Setup) (m : Shared) (E : ℕ → ℕ) (front : ℕ) (rest free : L
               w.last_room;
           marked = marked;
           knows = knows;
-          account = account;
+          linearizes = account;
           own_aside = own;
         }
       where
@@ -259,7 +259,7 @@ module _ (s : Setup) (m : Shared) (E : ℕ → ℕ) (front : ℕ) (rest free : L
         last_some = (last_within m.nodes front rest m.head.node w.shape.queue_chain).0
 
     -- Tail goes on to the node behind its own
-    pub does_swing : (r : Ref) → 1 ≤ r.node → (next_of m m.tail.node).node ≡ r.node → r.count ≡ m.tail.count + 1 → ((n : ℕ) → holds n o.actor ≡ holds n a) → o.aside ≡ None → Marked (put Tail r m) o.actor → KnowsAt (Found rest now) s.limit (put Tail r m) o.actor o.actor.line → Account Z me now m (put Tail r m) (front ∷ rest) (front ∷ rest) a o → Does Z me now s.limit m (put Tail r m) front rest free a o
+    pub does_swing : (r : Ref) → 1 ≤ r.node → (next_of m m.tail.node).node ≡ r.node → r.count ≡ m.tail.count + 1 → ((n : ℕ) → holds n o.actor ≡ holds n a) → o.aside ≡ None → Marked (put Tail r m) o.actor → InvariantAt (Found rest now) s.limit (put Tail r m) o.actor o.actor.line → LinearizationStep Z me now m (put Tail r m) (front ∷ rest) (front ∷ rest) a o → Does Z me now s.limit m (put Tail r m) front rest free a o
     does_swing r some leads up same none marked knows account =
         record {
           front' = front;
@@ -273,7 +273,7 @@ module _ (s : Setup) (m : Shared) (E : ℕ → ℕ) (front : ℕ) (rest free : L
           last_room = w.last_room;
           marked = marked;
           knows = knows;
-          account = account;
+          linearizes = account;
           own_aside = subst (λ x. IfSome x (λ k. (1 ≤ k) × (1 ≤ holds k a))) (sym none) tt;
         }
       where
@@ -281,7 +281,7 @@ module _ (s : Setup) (m : Shared) (E : ℕ → ℕ) (front : ℕ) (rest free : L
         one = one_after m (front ∷ rest) m.head.node r.node w.shape.queue_chain w.lag leads some
 
     -- the node in hand goes behind the last one of the queue
-    pub does_link : (k x : ℕ) (r : Ref) → ((n : ℕ) → holds n a ≤ E n) → m.tail.node ≡ k → (next_of m k).node ≡ 0 → 1 ≤ x → x ≤ length m.nodes → 1 ≤ holds x a → (next_of m x).node ≡ 0 → (next_of m x).count ≢ s.limit → r.node ≡ x → (next_of m k).count < r.count → ((n : ℕ) → holds n o.actor + one_if (nat_eq n x) ≡ holds n a) → o.aside ≡ None → Marked (put (Next k) r m) o.actor → KnowsAt (Found rest now) s.limit (put (Next k) r m) o.actor o.actor.line → Account Z me now m (put (Next k) r m) (front ∷ rest) (front ∷ rest ++ x ∷ []) a o → Does Z me now s.limit m (put (Next k) r m) front rest free a o
+    pub does_link : (k x : ℕ) (r : Ref) → ((n : ℕ) → holds n a ≤ E n) → m.tail.node ≡ k → (next_of m k).node ≡ 0 → 1 ≤ x → x ≤ length m.nodes → 1 ≤ holds x a → (next_of m x).node ≡ 0 → (next_of m x).count ≢ s.limit → r.node ≡ x → (next_of m k).count < r.count → ((n : ℕ) → holds n o.actor + one_if (nat_eq n x) ≡ holds n a) → o.aside ≡ None → Marked (put (Next k) r m) o.actor → InvariantAt (Found rest now) s.limit (put (Next k) r m) o.actor o.actor.line → LinearizationStep Z me now m (put (Next k) r m) (front ∷ rest) (front ∷ rest ++ x ∷ []) a o → Does Z me now s.limit m (put (Next k) r m) front rest free a o
     does_link k x r mine at null some low here leads room e up away none marked knows account =
         record {
           front' = front;
@@ -298,7 +298,7 @@ module _ (s : Setup) (m : Shared) (E : ℕ → ℕ) (front : ℕ) (rest free : L
               room;
           marked = marked;
           knows = knows;
-          account = account;
+          linearizes = account;
           own_aside = subst (λ y. IfSome y (λ k. (1 ≤ k) × (1 ≤ holds k a))) (sym none) tt;
         }
       where
@@ -315,13 +315,13 @@ module _ (s : Setup) (m : Shared) (E : ℕ → ℕ) (front : ℕ) (rest free : L
         other q = tail_apart x some (omega (arith, mine x)) (at ∙ sym q)
 
     -- the first node comes into the hand, and the one behind it is the first
-    pub does_pop : (r : Ref) → IsOff m front rest → (next_of m front).node ≡ r.node → 1 ≤ r.node → r.count ≡ m.head.count + 1 → ((n : ℕ) → holds n o.actor ≡ holds n a + one_if (nat_eq n front)) → o.aside ≡ None → Marked (put Head r m) o.actor → KnowsAt (Found rest now) s.limit (put Head r m) o.actor o.actor.line → o.at ≡ Some now → promised_reply o.reply (Some now) o.actor.due ≡ Some (Value (node_at m r.node).value) → a.op ≡ Deq → earned a.due ≡ None → Does Z me now s.limit m (put Head r m) front rest free a o
+    pub does_pop : (r : Ref) → IsOff m front rest → (next_of m front).node ≡ r.node → 1 ≤ r.node → r.count ≡ m.head.count + 1 → ((n : ℕ) → holds n o.actor ≡ holds n a + one_if (nat_eq n front)) → o.aside ≡ None → Marked (put Head r m) o.actor → InvariantAt (Found rest now) s.limit (put Head r m) o.actor o.actor.line → o.at ≡ Some now → completed_reply o.reply (Some now) o.actor.due ≡ Some (Value (node_at m r.node).value) → a.op ≡ Deq → decided_reply a.due ≡ None → Does Z me now s.limit m (put Head r m) front rest free a o
     does_pop r away leads some up more none marked knows at earns op u = go rest w second.1 away knows
       where
         second : (others : List ℕ) × (rest ≡ r.node ∷ others)
         second = second_leads m.nodes m.head.node front r.node rest w.shape.queue_chain leads some
 
-        go : (rs : List ℕ) → Sound s.limit m E front rs free → rs ≡ r.node ∷ second.0 → IsOff m front rs → KnowsAt (Found rs now) s.limit (put Head r m) o.actor o.actor.line → Does Z me now s.limit m (put Head r m) front rs free a o
+        go : (rs : List ℕ) → WordsInvariant s.limit m E front rs free → rs ≡ r.node ∷ second.0 → IsOff m front rs → InvariantAt (Found rs now) s.limit (put Head r m) o.actor o.actor.line → Does Z me now s.limit m (put Head r m) front rs free a o
         go rs v e away knows =
             record {
               front' = r.node;
@@ -336,6 +336,6 @@ module _ (s : Setup) (m : Shared) (E : ℕ → ℕ) (front : ℕ) (rest free : L
               last_room = subst (λ ys. (next_of m (last_node (front ∷ ys))).count ≢ s.limit) e v.last_room;
               marked = marked;
               knows = knows;
-              account = popped front r.node second.0 (ap (λ ys. front ∷ ys) e) refl up at earns op u;
+              linearizes = popped front r.node second.0 (ap (λ ys. front ∷ ys) e) refl up at earns op u;
               own_aside = subst (λ y. IfSome y (λ k. (1 ≤ k) × (1 ≤ holds k a))) (sym none) tt;
             }

@@ -4,11 +4,11 @@ use Rattle.std.proofs.Common.{◌≡◌, ◌≢◌, ℕ, zero, suc, ◌+◌, ◌
 use Rattle.std.specs.List.{All}
 use Rattle.std.proofs.lemmas.Bool.{eqb-true, ltb-false}
 use Rattle.std.proofs.lemmas.List.Elements.{All-set, All-append, All-cons, All-nil}
-use Rattle.step_machine.specs.Below.{Ref, is_null, same_ref, Kind, TwoLock, NonBlocking, Line, N1, N2, N3, N4, N5, F1, F2, F3, E2, E3, E5, E6, E7, E9, E13, E17, D2, D3, D4, D5, D10, D12, D13, A3, B1, B5, section_of, OfFree, OfNext, OfTail, OfHead, Refusal, NoNode, WornOut, Reply, Done, Value, Refused, Stamped, Actor, Outcome, Shared, found, performed, Next, action, outcome, goes, lets_go, to_pocket, freed, ends, effect, busy_or, gives_up}
+use Rattle.step_machine.specs.Below.{Ref, is_null, same_ref, Kind, TwoLock, NonBlocking, Line, N1, N2, N3, N4, N5, F1, F2, F3, E2, E3, E5, E6, E7, E9, E13, E17, D2, D3, D4, D5, D10, D12, D13, A3, B1, B5, section_of, OfFree, OfNext, OfTail, OfHead, Refusal, NoNode, WornOut, Reply, Done, Value, Refused, Stamped, Actor, Outcome, Shared, found, performed, Next, action, outcome, goes, empties_hand, to_pocket, freed, ends, effect, busy_or, gives_up}
 use Rattle.counted_ref.proofs.Words.{same_ref-true, equal_refs}
-use Rattle.step_machine.specs.Machine.{World, actor_of, settled, recorded, told, new_operation, IsReached}
+use Rattle.step_machine.specs.Machine.{World, actor_of, after_outcome, with_operation, with_outcome, new_operation, IsReached}
 use Rattle.step_machine.specs.Range.{RegistersInRange, ActorInRange, WorldInRange}
-use Rattle.step_machine.specs.Standing.{IsRunBy, HoldsNodes, Stands, EachRunsItsQueue, EachNamesAWord}
+use Rattle.step_machine.specs.ProgramCounters.{IsRunBy, NonNullAt, IsAtLine, EachRunsItsQueue, EachNamesAWord}
 use Rattle.step_machine.specs.Places.{times, Places}
 use Rattle.step_machine.specs.Chains.{last_node}
 use Rattle.step_machine.specs.Lag.{TailLags}
@@ -20,24 +20,24 @@ use Rattle.step_machine.proofs.Reached.{some_of, reached_in_range, actor_in_rang
 use Rattle.step_machine.proofs.Chains.{chain_same, second_leads}
 use Rattle.step_machine.proofs.Counting.{used_within, used_above, used_most, elsewhere}
 use Rattle.step_machine.proofs.Effects.{Shape, null_times}
-use Rattle.step_machine.proofs.Fixed.{FixedAt, EarnedFreeing}
-use Rattle.step_machine.proofs.Older.{WasIn}
-use Rattle.step_machine.proofs.Naming.{names_a_word, accesses_name_words_two_lock}
+use Rattle.step_machine.proofs.Fixed.{FixedAt, DecidedFreeing}
+use Rattle.step_machine.proofs.StaleReferences.{IsCurrentOrStale}
+use Rattle.step_machine.proofs.AccessesNameWords.{names_a_word, accesses_name_words_two_lock}
 use Rattle.step_machine.proofs.Reaching.{each_reached}
 use Rattle.step_machine.proofs.TwoLockLaws.{contained}
-use Rattle.step_machine.proofs.TwoLockSound.{nodes_at}
-use Rattle.step_machine.proofs.NonBlockingKnows.{next_of, KnowsAt, MayTake}
+use Rattle.step_machine.proofs.TwoLockInvariant.{nodes_at}
+use Rattle.step_machine.proofs.NonBlockingAtLines.{next_of, InvariantAt, MayTake}
 use Rattle.step_machine.proofs.NonBlockingLag.{IsOff, off, off_count, tail_is_last}
-use Rattle.step_machine.proofs.NonBlockingSound.{Knowing, Proved, reached_sound}
+use Rattle.step_machine.proofs.NonBlockingInvariant.{LocalInvariant, ReachedInvariant, reached_invariant}
 
 -- nothing more is carried along
-abbrev pub Plain : World → Type 0
-Plain w = Proved (λ w q. Unit {0}) (λ w k. Unit {0}) w
+abbrev pub Invariant : World → Type 0
+Invariant w = ReachedInvariant (λ w q. Unit {0}) (λ w k. Unit {0}) w
 
 abbrev pub Nothing : ℕ → Type 0
 Nothing k = Unit {0}
 
-places : (w : World) → (p : Plain w) → Places w (p.front ∷ p.rest) p.free
+places : (w : World) → (p : Invariant w) → Places w (p.front ∷ p.rest) p.free
 places w p =
     record {
       queue_chain = p.sound.words.shape.queue_chain;
@@ -47,11 +47,11 @@ places w p =
     }
 
 pub have_their_places : OfNonBlockingWorlds HasItsPlaces
-have_their_places w r e = let p : Plain w = reached_sound w r e in (p.front ∷ p.rest, p.free, places w p)
+have_their_places w r e = let p : Invariant w = reached_invariant w r e in (p.front ∷ p.rest, p.free, places w p)
 
 pub queue_and_free_apart : OfNonBlockingWorlds KeepsQueueAndFreeApart
 queue_and_free_apart w r e n queued free =
-    let p : Plain w = reached_sound w r e in
+    let p : Invariant w = reached_invariant w r e in
     let q : 1 ≤ times n (p.front ∷ p.rest) = subst (λ ns. 1 ≤ times n ns) (chain_same w.shared.nodes queued.0 (p.front ∷ p.rest) w.shared.head.node queued.1 p.sound.words.shape.queue_chain) (contained n queued.0 queued.2.0 queued.2.1 queued.2.2) in
     let f : 1 ≤ times n p.free = subst (λ ns. 1 ≤ times n ns) (chain_same w.shared.nodes free.0 p.free w.shared.free.node free.1 p.sound.words.shape.free_chain) (contained n free.0 free.2.0 free.2.1 free.2.2) in
     go n (p.front ∷ p.rest) p.free q f p.sound.words.shape
@@ -62,12 +62,12 @@ queue_and_free_apart w r e n queued free =
 
 pub tail_lags : OfNonBlockingWorlds TailLagsByOne
 tail_lags w r e queue chain =
-    let p : Plain w = reached_sound w r e in
+    let p : Invariant w = reached_invariant w r e in
     subst (λ ns. TailLags w.shared ns) (chain_same w.shared.nodes (p.front ∷ p.rest) queue w.shared.head.node p.sound.words.shape.queue_chain chain) p.sound.words.lag
 
 pub tail_is_not_behind : OfNonBlockingWorlds TailIsNotBehindHead
 tail_is_not_behind w r e =
-    let p : Plain w = reached_sound w r e in
+    let p : Invariant w = reached_invariant w r e in
     go p.front p.rest p.sound.words.lag.before p.sound.words.lag.after p.sound.words.lag.chain p.sound.words.lag.count p.sound.words.shape.queue_chain.0
   where
     first_of : List ℕ → ℕ
@@ -81,20 +81,20 @@ tail_is_not_behind w r e =
 
 -- what holds of an actor at a line, and of the words
 pub record AtLine (w : World) (me : ℕ) (a : Actor) (l : Line) : Type 0 where
-  pub plain : Plain w
+  pub plain : Invariant w
   pub range : WorldInRange w
   pub registers : RegistersInRange w.setup w.shared.fresh (length w.actors) a
   pub runs : IsRunBy (section_of l) NonBlocking
-  pub nodes : HoldsNodes l a
+  pub nodes : NonNullAt l a
   pub fixes : FixedAt w.setup.limit me a (Some l)
-  pub knows : KnowsAt Nothing w.setup.limit w.shared a (Some l)
+  pub knows : InvariantAt Nothing w.setup.limit w.shared a (Some l)
 
 pub at_line : (w : World) → IsReached w → w.setup.kind ≡ NonBlocking → (me : ℕ) (a : Actor) (l : Line) → actor_of w me ≡ Some a → a.line ≡ Some l → AtLine w me a l
 at_line w r e me a l is at =
-    let p : Plain w = reached_sound w r e in
+    let p : Invariant w = reached_invariant w r e in
     let g : WorldInRange w = reached_in_range w r in
-    let k : Knowing Nothing w.setup w.shared me a = p.sound.actors me a is in
-    let st : IsRunBy (section_of l) w.setup.kind × HoldsNodes l a = subst (Stands w.setup.kind a) at k.stands.line in
+    let k : LocalInvariant Nothing w.setup w.shared me a = p.sound.actors me a is in
+    let st : IsRunBy (section_of l) w.setup.kind × NonNullAt l a = subst (IsAtLine w.setup.kind a) at k.stands.line in
     let c : ActorInRange w.setup w.shared.fresh (length w.actors) a = actor_in_range w me a g is in
     record {
       plain = p;
@@ -103,14 +103,14 @@ at_line w r e me a l is at =
       runs = subst (IsRunBy (section_of l)) e st.0;
       nodes = st.1;
       fixes = subst (FixedAt w.setup.limit me a) at k.fixed;
-      knows = subst (KnowsAt Nothing w.setup.limit w.shared a) at k.knows;
+      knows = subst (InvariantAt Nothing w.setup.limit w.shared a) at k.knows;
     }
 
 -- the `next` that E9 compares with is not worn out
 next_below : (w : World) (me : ℕ) (a : Actor) → AtLine w me a E9 → a.next.count < w.setup.limit
 next_below w me a h = go h.knows.2
   where
-    p : Plain w
+    p : Invariant w
     p = h.plain
 
     low : (next_of w.shared a.tail.node).count ≤ w.setup.limit
@@ -130,10 +130,10 @@ next_below w me a h = go h.knows.2
 head_below : (w : World) (me : ℕ) (a : Actor) (l : Line) → AtLine w me a l → MayTake w.shared a → a.head.count < w.setup.limit
 head_below w me a l h k = go k.0
   where
-    p : Plain w
+    p : Invariant w
     p = h.plain
 
-    go : WasIn w.shared.head a.head → a.head.count < w.setup.limit
+    go : IsCurrentOrStale w.shared.head a.head → a.head.count < w.setup.limit
     go (inr less) = let most : w.shared.head.count ≤ w.setup.limit = h.range.shared.head.count in omega arith
     go (inl was) =
         let first : w.shared.head.node ≡ p.front = p.sound.words.shape.queue_chain.0 in
@@ -174,7 +174,7 @@ WhyReply w a _ = Unit {0}
 record Caused (w : World) (a : Actor) (o : Outcome) : Type 0 where
   cause : WhyReply w a o.reply
 
-freed_caused : (w : World) (a : Actor) (kind : Kind) (now : ℕ) (due : Option Reply) (b : Actor) → EarnedFreeing due → Caused w a (freed kind now due b)
+freed_caused : (w : World) (a : Actor) (kind : Kind) (now : ℕ) (due : Option Reply) (b : Actor) → DecidedFreeing due → Caused w a (freed kind now due b)
 freed_caused w a kind now None b h = record { cause = tt }
 freed_caused w a kind now (Some (Value v)) b h = record { cause = tt }
 freed_caused w a kind now _ b h = absurd h
@@ -202,7 +202,7 @@ caused w now me a F1 h =
     either (Caused w a) (nat_eq w.shared.free.count w.setup.limit)
     (λ b. record { cause = (freed_caused w a w.setup.kind now a.due (record a { top = w.shared.free }) h.fixes.earned).cause }) (λ b. record { cause = tt })
 caused w now me a F2 h = record { cause = tt }
-caused w now me a F3 h = either (Caused w a) (same_ref w.shared.free a.top) (λ b. freed_caused w a w.setup.kind now a.due (lets_go a) h.fixes.earned) (λ b. record { cause = tt })
+caused w now me a F3 h = either (Caused w a) (same_ref w.shared.free a.top) (λ b. freed_caused w a w.setup.kind now a.due (empties_hand a) h.fixes.earned) (λ b. record { cause = tt })
 caused w now me a E2 h = record { cause = tt }
 caused w now me a E3 h =
     either (Caused w a) (nat_eq (next_of w.shared a.node).count w.setup.limit) (λ b. record { cause = eqb-true (next_of w.shared a.node).count w.setup.limit b }) (λ b. record { cause = tt })
@@ -215,7 +215,7 @@ caused w now me a E7 h =
     (λ c. record { cause = ap (λ (x : Ref). x.count) (same_ref-true w.shared.tail a.tail b) ∙ eqb-true a.tail.count w.setup.limit c }) (λ c. record { cause = tt })))
     (λ b. record { cause = tt })
 caused w now me a E9 h =
-    either (Caused w a) (same_ref (next_of w.shared a.tail.node) a.next) (λ b. ended_or w a now (nat_eq a.tail.count w.setup.limit) (lets_go (record a { due = Some Done }))) (λ b. record { cause = tt })
+    either (Caused w a) (same_ref (next_of w.shared a.tail.node) a.next) (λ b. ended_or w a now (nat_eq a.tail.count w.setup.limit) (empties_hand (record a { due = Some Done }))) (λ b. record { cause = tt })
 caused w now me a E13 h = record { cause = tt }
 caused w now me a E17 h = record { cause = tt }
 caused w now me a D2 h = record { cause = tt }
@@ -229,7 +229,7 @@ caused w now me a D5 h =
     (λ c. record { cause = tt }))
     (λ b. record { cause = tt })
   where
-    worn_tail : a.tail.count ≡ w.setup.limit → WasIn w.shared.tail a.tail → w.shared.tail.count ≡ w.setup.limit
+    worn_tail : a.tail.count ≡ w.setup.limit → IsCurrentOrStale w.shared.tail a.tail → w.shared.tail.count ≡ w.setup.limit
     worn_tail worn (inl was) = ap (λ (x : Ref). x.count) was ∙ worn
     worn_tail worn (inr less) = absurd (let most : w.shared.tail.count ≤ w.setup.limit = h.range.shared.tail.count in omega arith)
 caused w now me a D10 h = record { cause = tt }
@@ -266,7 +266,7 @@ head_is_never_worn w r e me a l is at worn = subst (WhyReply w a) worn (why_of w
 abbrev NotForHead : Stamped → Type 0
 NotForHead o = o.reply ≢ Some (Refused (WornOut OfHead))
 
-recorded_all : (entry : Option ℕ) (new : Stamped) (change : Stamped → Stamped) (ops : List Stamped) → All NotForHead ops → ((o : Stamped) → NotForHead (change o)) → All NotForHead (recorded entry new change ops)
+recorded_all : (entry : Option ℕ) (new : Stamped) (change : Stamped → Stamped) (ops : List Stamped) → All NotForHead ops → ((o : Stamped) → NotForHead (change o)) → All NotForHead (with_operation entry new change ops)
 recorded_all None new change ops h each = All-append NotForHead ops (change new ∷ []) h (All-cons NotForHead (change new) [] (each new) (All-nil NotForHead))
 recorded_all (Some e) new change ops h each = All-set NotForHead ops e (change (slice_index_or ops e new)) (each (slice_index_or ops e new)) h
 
@@ -279,7 +279,7 @@ spares : (reply : Option Reply) → SparesHead reply → reply ≢ Some (Refused
 spares reply h e = subst SparesHead e h
 
 -- giving up says no such thing
-gives_free_for_head : (now : ℕ) (due : Option Reply) (a : Actor) → EarnedFreeing due → IfSome (busy_or now due a) (λ o. SparesHead o.reply)
+gives_free_for_head : (now : ℕ) (due : Option Reply) (a : Actor) → DecidedFreeing due → IfSome (busy_or now due a) (λ o. SparesHead o.reply)
 gives_free_for_head now None a f = tt
 gives_free_for_head now (Some (Value v)) a f = tt
 gives_free_for_head now _ a f = absurd f
@@ -293,8 +293,8 @@ gives_for_head now limit me a A3 f = tt
 gives_for_head now limit me a B1 f = tt
 gives_for_head now limit me a _ f = tt
 
-settled_all : (w : World) (me : ℕ) (a : Actor) (m : Shared) (o : Outcome) → NeverRefusedForHead w → o.reply ≢ Some (Refused (WornOut OfHead)) → NeverRefusedForHead (settled w me a m o)
-settled_all w me a m o h g = recorded_all a.entry (new_operation me a.op (w.steps + 1)) (told (w.steps + 1) o) w.operations h (λ x. g)
+settled_all : (w : World) (me : ℕ) (a : Actor) (m : Shared) (o : Outcome) → NeverRefusedForHead w → o.reply ≢ Some (Refused (WornOut OfHead)) → NeverRefusedForHead (after_outcome w me a m o)
+settled_all w me a m o h g = recorded_all a.entry (new_operation me a.op (w.steps + 1)) (with_outcome (w.steps + 1) o) w.operations h (λ x. g)
 
 pub never_for_head : OfNonBlockingWorlds NeverRefusedForHead
 never_for_head =
@@ -334,7 +334,7 @@ each_runs_its_queue w r me a l is at = go w.setup.kind refl
 pub front_is_taken : OfNonBlockingWorlds TakesTheFront
 front_is_taken w r e me a queue is at was chain =
     let h : AtLine w me a D13 = at_line w r e me a D13 is at in
-    let p : Plain w = h.plain in
+    let p : Invariant w = h.plain in
     let first : w.shared.head.node ≡ p.front = p.sound.words.shape.queue_chain.0 in
     let here : p.front ≡ a.head.node = sym first ∙ ap (λ (x : Ref). x.node) was in
     let second : (others : List ℕ) × (p.rest ≡ a.next.node ∷ others) =

@@ -12,16 +12,16 @@ use Rattle.line_steps.specs.Memory.{Shared, found, performed}
 use Rattle.line_steps.specs.Lines.{action, outcome}
 use Rattle.line_steps.specs.Calling.{begun}
 use Rattle.step_machine.specs.declared.actors.Move.TheVariants.{Begin, Step, Give}
-use Rattle.step_machine.specs.Machine.{World, opening, actor_of, rested, with_actor, last_of, told, settled, new_operation, AnyMove, made, Rest, run}
+use Rattle.step_machine.specs.Machine.{World, opening, actor_of, rested, with_actor, last_of, with_outcome, after_outcome, new_operation, AnyMove, made, Rest, run}
 use Rattle.step_machine.specs.Stamps.{makers, numbered_by, IsBy, HasNoEffect, EndedBefore}
 use Rattle.step_machine.specs.TakingEffect.{OfOperations, OfOperationsOfCalls}
-use Rattle.step_machine.specs.Spans.{LiesIn, ComesBeforeNext, IsOfExactlyOne, NumbersLieInOne, NumbersLieInOneBeforeNext}
+use Rattle.step_machine.specs.Spans.{NumberLiesIn, ComesBeforeNext, IsOfExactlyOne, NumbersLieInOne, NumbersLieInOneBeforeNext}
 use Rattle.step_machine.proofs.Reached.{some_of}
 use Rattle.step_machine.proofs.StampsLists.{put_cases, same_or_not, slice_get-append_other, slice_get-append_end, by_within}
-use Rattle.step_machine.proofs.StampsKept.{Kept, Operations}
+use Rattle.step_machine.proofs.StampsInvariants.{StampsInvariant, Operations}
 use Rattle.step_machine.proofs.StampsMoves.{moves_kept, calls_rest_never}
 use Rattle.step_machine.proofs.AnyMoves.{AfterEach}
-use Rattle.step_machine.proofs.Walking.{walked, kept_after, Telling, telling, stood}
+use Rattle.step_machine.proofs.EachMove.{walked, kept_after, Telling, telling, stood}
 
 -- two numbers stand in one of three ways
 pub order : (i j : ℕ) → (i < j) ⊎ ((i ≡ j) ⊎ (j < i))
@@ -56,7 +56,7 @@ pub record Lies (ops : List Stamped) (me k : ℕ) : Type 0 where
   pub operation : Stamped
   pub there : slice_get ops place ≡ Some operation
   pub own : operation.actor ≡ me
-  pub lies : LiesIn k operation
+  pub lies : NumberLiesIn k operation
   pub next : (j : ℕ) (p : Stamped) → place < j → slice_get ops j ≡ Some p → p.actor ≡ me → k < p.first
 
 -- each number that was taken does
@@ -74,32 +74,32 @@ not_after now k None low = tt
 not_after now k (Some reply) low = low
 
 module _ (s : Setup) (n : ℕ) (done : List AnyMove) (w : World) (m : AnyMove) (me : ℕ) (a : Actor) (l : Line) (o : Outcome) (m' : Shared) (takes : numbered_by m ≡ me ∷ []) (led : run done (opening s n) ≡ Some w) (is : actor_of w me ≡ Some a) (at_line : a.line ≡ Some l) (h : EachLies done w) where
-  kept : Kept (Unit {0}) (makers done) w
+  kept : StampsInvariant (Unit {0}) (makers done) w
   kept = kept_after s n done w led
 
-  it : Telling (makers done) w me a l o (settled w me a m' o).operations
+  it : Telling (makers done) w me a l o (after_outcome w me a m' o).operations
   it = telling (makers done) w me a l o kept is at_line
 
   -- the number of this move
-  new_lies : Lies (settled w me a m' o).operations me (w.steps + 1)
+  new_lies : Lies (after_outcome w me a m' o).operations me (w.steps + 1)
   new_lies =
       record {
         place = it.place;
-        operation = told (w.steps + 1) o it.was;
+        operation = with_outcome (w.steps + 1) o it.was;
         there = it.put.here;
         own = it.own;
         lies = (it.low, not_after (w.steps + 1) (w.steps + 1) o.reply (omega arith));
         next = λ j p lt got own. next j p lt own (put_cases it.put j p got);
       }
     where
-      next : (j : ℕ) (p : Stamped) → it.place < j → p.actor ≡ me → ((j ≡ it.place) × (told (w.steps + 1) o it.was ≡ p)) ⊎ ((j ≢ it.place) × (slice_get w.operations j ≡ Some p)) → w.steps + 1 < p.first
+      next : (j : ℕ) (p : Stamped) → it.place < j → p.actor ≡ me → ((j ≡ it.place) × (with_outcome (w.steps + 1) o it.was ≡ p)) ⊎ ((j ≢ it.place) × (slice_get w.operations j ≡ Some p)) → w.steps + 1 < p.first
       next j p lt own (inl q) = absurd (let e : j ≡ it.place = q.0 in omega arith)
       next j p lt own (inr q) = absurd (it.latest j p lt q.1 own)
 
   -- a number taken before
   module _ (k you : ℕ) (low : k ≤ w.steps) (y : Lies w.operations you k) where
     -- a later operation of the actor begins after the number
-    later : (j : ℕ) (p : Stamped) → y.place < j → p.actor ≡ you → ((j ≡ it.place) × (told (w.steps + 1) o it.was ≡ p)) ⊎ ((j ≢ it.place) × (slice_get w.operations j ≡ Some p)) → k < p.first
+    later : (j : ℕ) (p : Stamped) → y.place < j → p.actor ≡ you → ((j ≡ it.place) × (with_outcome (w.steps + 1) o it.was ≡ p)) ⊎ ((j ≢ it.place) × (slice_get w.operations j ≡ Some p)) → k < p.first
     later j p lt own (inl q) = subst (λ (z : Stamped). z.actor ≡ you → k < z.first) q.1 (λ mine. first it.from mine) own
       where
         first : ((a.entry ≡ None) × (it.place ≡ length w.operations) × (it.was ≡ new_operation me a.op (w.steps + 1))) ⊎ ((a.entry ≡ Some it.place) × (slice_get w.operations it.place ≡ Some it.was)) → it.was.actor ≡ you → k < it.was.first
@@ -107,10 +107,10 @@ module _ (s : Setup) (n : ℕ) (done : List AnyMove) (w : World) (m : AnyMove) (
         first (inr old) mine = y.next it.place it.was (let e : j ≡ it.place = q.0 in omega arith) old.1 mine
     later j p lt own (inr q) = y.next j p lt q.1 own
 
-    old_lies : Lies (settled w me a m' o).operations you k
+    old_lies : Lies (after_outcome w me a m' o).operations you k
     old_lies = go (same_or_not y.place it.place)
       where
-        go : (y.place ≡ it.place) ⊎ (y.place ≢ it.place) → Lies (settled w me a m' o).operations you k
+        go : (y.place ≡ it.place) ⊎ (y.place ≢ it.place) → Lies (after_outcome w me a m' o).operations you k
         go (inr other) =
             record {
               place = y.place;
@@ -124,7 +124,7 @@ module _ (s : Setup) (n : ℕ) (done : List AnyMove) (w : World) (m : AnyMove) (
             let was : it.was ≡ y.operation = stood it y.place y.operation y.there same in
             record {
               place = it.place;
-              operation = told (w.steps + 1) o it.was;
+              operation = with_outcome (w.steps + 1) o it.was;
               there = it.put.here;
               own = ap (λ (z : Stamped). z.actor) was ∙ y.own;
               lies = (subst (λ (z : Stamped). z.first ≤ k) (sym was) y.lies.0, not_after (w.steps + 1) k o.reply (omega arith));
@@ -132,14 +132,14 @@ module _ (s : Setup) (n : ℕ) (done : List AnyMove) (w : World) (m : AnyMove) (
             }
 
   -- a numbered move
-  settled_lies : EachLies (done ++ m ∷ []) (settled w me a m' o)
+  settled_lies : EachLies (done ++ m ∷ []) (after_outcome w me a m' o)
   settled_lies k you b = go (by_last (makers done) me k you (subst (λ K. IsBy K k you) (makers_last done m ∙ ap (λ ks. makers done ++ ks) takes) b))
     where
-      go : IsBy (makers done) k you ⊎ ((k ≡ length (makers done) + 1) × (me ≡ you)) → Lies (settled w me a m' o).operations you k
+      go : IsBy (makers done) k you ⊎ ((k ≡ length (makers done) + 1) × (me ≡ you)) → Lies (after_outcome w me a m' o).operations you k
       go (inl old) = old_lies k you (omega (arith, by_within (makers done) k you old, kept.counted)) (h k you old)
       go (inr new) =
           let e : k ≡ w.steps + 1 = omega (arith, new.0, kept.counted) in
-          subst (λ j. Lies (settled w me a m' o).operations you j) (sym e) (subst (λ j. Lies (settled w me a m' o).operations j (w.steps + 1)) new.1 new_lies)
+          subst (λ j. Lies (after_outcome w me a m' o).operations you j) (sym e) (subst (λ j. Lies (after_outcome w me a m' o).operations j (w.steps + 1)) new.1 new_lies)
 
 -- each move keeps it
 each : (s : Setup) (n : ℕ) (done : List AnyMove) (w : World) → run done (opening s n) ≡ Some w → EachLies done w → AfterEach w (λ m v. EachLies (done ++ m ∷ []) v)
@@ -162,7 +162,7 @@ ended_out None first k ended low up = omega arith
 ended_out (Some x) first k ended low up = omega arith
 
 -- of operations by rising first number, this is the only one in which the number lies
-only_before_next : (K : List ℕ) (ops : List Stamped) (me k : ℕ) → Operations (Unit {0}) K ops → Lies ops me k → IsOfExactlyOne ops me (λ o. LiesIn k o × ComesBeforeNext ops k o)
+only_before_next : (K : List ℕ) (ops : List Stamped) (me k : ℕ) → Operations (Unit {0}) K ops → Lies ops me k → IsOfExactlyOne ops me (λ o. NumberLiesIn k o × ComesBeforeNext ops k o)
 only_before_next K ops me k h y =
     record {
       place = y.place;
@@ -180,7 +180,7 @@ only_before_next K ops me k h y =
         absurd (let z : p.first ≡ y.operation.first = ap (λ (q : Stamped). q.first) same in omega arith)
     next i p got own after (inr (inr lt)) = y.next i p lt got (own ∙ y.own)
 
-    only : (i : ℕ) (p : Stamped) → slice_get ops i ≡ Some p → p.actor ≡ me → LiesIn k p × ComesBeforeNext ops k p → (i < y.place) ⊎ ((i ≡ y.place) ⊎ (y.place < i)) → i ≡ y.place
+    only : (i : ℕ) (p : Stamped) → slice_get ops i ≡ Some p → p.actor ≡ me → NumberLiesIn k p × ComesBeforeNext ops k p → (i < y.place) ⊎ ((i ≡ y.place) ⊎ (y.place < i)) → i ≡ y.place
     only i p got own holds (inl lt) =
         let before : p.first < y.operation.first = (h.pairs i y.place p y.operation lt got y.there).0 in
         let out : k < y.operation.first = holds.1 y.place y.operation y.there (y.own ∙ sym own) before in
@@ -191,7 +191,7 @@ only_before_next K ops me k h y =
         absurd (let in_it : p.first ≤ k = holds.0.0 in omega arith)
 
 -- where no actor rests, each operation has ended before the next one of its actor
-only_one : (K : List ℕ) (ops : List Stamped) (me k : ℕ) → Operations ⊥ K ops → Lies ops me k → IsOfExactlyOne ops me (LiesIn k)
+only_one : (K : List ℕ) (ops : List Stamped) (me k : ℕ) → Operations ⊥ K ops → Lies ops me k → IsOfExactlyOne ops me (NumberLiesIn k)
 only_one K ops me k h y =
     record {
       place = y.place;
@@ -206,7 +206,7 @@ only_one K ops me k h y =
     ended p first (inl e) = e
     ended p first (inr r) = absurd r.0
 
-    only : (i : ℕ) (p : Stamped) → slice_get ops i ≡ Some p → p.actor ≡ me → LiesIn k p → (i < y.place) ⊎ ((i ≡ y.place) ⊎ (y.place < i)) → i ≡ y.place
+    only : (i : ℕ) (p : Stamped) → slice_get ops i ≡ Some p → p.actor ≡ me → NumberLiesIn k p → (i < y.place) ⊎ ((i ≡ y.place) ⊎ (y.place < i)) → i ≡ y.place
     only i p got own lies (inl lt) =
         absurd (ended_out p.last y.operation.first k (ended p y.operation.first ((h.pairs i y.place p y.operation lt got y.there).1 (own ∙ sym y.own))) lies.1 y.lies.0)
     only i p got own lies (inr (inl e)) = e
@@ -227,5 +227,5 @@ numbers_lie_in_one s n moves = on (run (map made moves) (opening s n)) refl (eac
     on : (o : Option World) → run (map made moves) (opening s n) ≡ o → IfSome o (EachLies (map made moves)) → IfSome o (λ w. NumbersLieInOne s n (map made moves) w.operations)
     on None e h = tt
     on (Some w) e h =
-        let kept : Kept ⊥ (makers (map made moves)) w = some_of (Kept ⊥ (makers (map made moves))) (run (map made moves) (opening s n)) w e (moves_kept ⊥ s n (map made moves) (calls_rest_never moves)) in
+        let kept : StampsInvariant ⊥ (makers (map made moves)) w = some_of (StampsInvariant ⊥ (makers (map made moves))) (run (map made moves) (opening s n)) w e (moves_kept ⊥ s n (map made moves) (calls_rest_never moves)) in
         λ k me b. only_one (makers (map made moves)) w.operations me k kept.operations (h k me b)

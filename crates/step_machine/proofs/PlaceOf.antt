@@ -7,7 +7,7 @@ use Rattle.step_machine.specs.declared.places.Place.TheVariants.{Untouched, Queu
 use Rattle.step_machine.specs.declared.places.Place.{Place}
 use Rattle.step_machine.specs.Machine.{World, IsMade}
 use Rattle.step_machine.specs.Places.{IsChain, one_if, times, held, set_aside, IsQueued, IsFree, Places}
-use Rattle.step_machine.specs.Placing.{IsAt, Tells, TellsOfChain}
+use Rattle.step_machine.specs.Placing.{IsAt, TellsWhetherThere, TellsOfChain}
 use Rattle.step_machine.specs.EachQueue.{HasItsPlaces}
 use Rattle.step_machine.specs.Histories.{OfEachWorld}
 use Rattle.step_machine.proofs.Reached.{made_reached}
@@ -107,14 +107,14 @@ Walked nodes from at node most walked =
 pub walked_to_null : (nodes : List Node) (from at node most walked : ℕ) → at ≡ 0 → Walked nodes from at node most walked → TellsOfChain false nodes from node most
 walked_to_null nodes from at node most walked null h ns chain low = go (h ns chain low)
   where
-    go : (rest : List ℕ) × IsChain nodes at rest × (length rest + walked ≤ most) × (times node rest ≡ times node ns) → Tells false (times node ns)
+    go : (rest : List ℕ) × IsChain nodes at rest × (length rest + walked ≤ most) × (times node rest ≡ times node ns) → TellsWhetherThere false (times node ns)
     go x = (λ e. absurd (let f : false ≡ true = e in cc), λ e. sym x.3 ∙ ap (times node) (chain_none nodes at x.0 null x.1))
 
 -- at the node it was
 pub walked_to_node : (nodes : List Node) (from at node most walked : ℕ) → at ≢ 0 → at ≡ node → Walked nodes from at node most walked → TellsOfChain true nodes from node most
 walked_to_node nodes from at node most walked some here h ns chain low = go (h ns chain low)
   where
-    go : (rest : List ℕ) × IsChain nodes at rest × (length rest + walked ≤ most) × (times node rest ≡ times node ns) → Tells true (times node ns)
+    go : (rest : List ℕ) × IsChain nodes at rest × (length rest + walked ≤ most) × (times node rest ≡ times node ns) → TellsWhetherThere true (times node ns)
     go x =
         let first : (more : List ℕ) × (x.0 ≡ at ∷ more) = chain_some nodes at x.0 (omega arith) x.1 in
         let one : one_if (nat_eq node at) ≡ 1 = one_if_same node at (sym here) in
@@ -236,7 +236,7 @@ only_place w m n some p here q there =
     let x : HasItsPlaces w = have_places w (made_reached w m) in one_place w x.0 x.1 x.2 n some p q here there
 
 -- what is told of the chain from Head is told of the queue
-told_of : (w : World) (queue free : List ℕ) → Places w queue free → (n : ℕ) → 1 ≤ n → (is_there : Bool) (from most : ℕ) → from ≡ w.shared.head.node → most ≡ w.shared.fresh → TellsOfChain is_there w.shared.nodes from n most → Tells is_there (times n queue)
+told_of : (w : World) (queue free : List ℕ) → Places w queue free → (n : ℕ) → 1 ≤ n → (is_there : Bool) (from most : ℕ) → from ≡ w.shared.head.node → most ≡ w.shared.fresh → TellsOfChain is_there w.shared.nodes from n most → TellsWhetherThere is_there (times n queue)
 told_of w queue free h n some is_there from most head fresh tells =
     tells queue (subst (λ k. IsChain w.shared.nodes k queue) (sym head) h.queue_chain)
     (subst (λ k. length queue ≤ k) (sym fresh) (few w queue free h n some))

@@ -8,10 +8,10 @@ use Rattle.std.proofs.lemmas.Option.{none-some, slice_get_within, get_or_from_sl
 use Rattle.std.specs.List.{All}
 use Rattle.step_machine.specs.Below.{null, Kind, TwoLock, NonBlocking, Line, N1, N5, F1, E2, A1, Op, Enq, Deq, Setup, Held, Actor, Outcome, blank, Shared, word, found, performed, action, dequeues, gives_up, is_call, from_pocket, begun, aside_after}
 use Rattle.step_machine.specs.declared.actors.Move.{Move}
-use Rattle.step_machine.specs.Machine.{World, idle, opening, actor_of, rested, with_actor, settled, stepped, next, AnyMove, made, next_any, run_on, run, IsSized, IsReached, IsMade}
+use Rattle.step_machine.specs.Machine.{World, idle, opening, actor_of, rested, with_actor, after_outcome, stepped, next, AnyMove, made, next_any, run_on, run, IsSized, IsReached, IsMade}
 use Rattle.step_machine.specs.Range.{RefInRange, NodeInRange, SharedInRange, HeldInRange, RegistersInRange, LineInRange, ActorInRange, WorldInRange}
 use Rattle.step_machine.proofs.Range.{content_weakens, registers_weaken, pocket_weakens, actor_weakens, writes, found_in_range, Accessed, performed_in_range}
-use Rattle.step_machine.proofs.Kept.{Kept, Wins, kept, with_held, given_up_kept}
+use Rattle.step_machine.proofs.OutcomesInRange.{OutcomeInRange, Wins, outcome_in_range, with_held, given_up_kept}
 use Rattle.step_machine.proofs.AnyMoves.{after_move}
 
 -- a world of so many actors is in range
@@ -74,7 +74,7 @@ flags_kept : (flags : List Bool) (node : Option ℕ) → length (aside_after fla
 flags_kept flags None = refl
 flags_kept flags (Some n) = length-set flags (n - 1) true
 
-settled_holds : (k : ℕ) (w : World) (me : ℕ) (a : Actor) (m : Shared) (o : Outcome) → Holds k w → SharedInRange w.setup k m → w.shared.fresh ≤ m.fresh → Kept w.setup m.fresh k o → Holds k (settled w me a m o)
+settled_holds : (k : ℕ) (w : World) (me : ℕ) (a : Actor) (m : Shared) (o : Outcome) → Holds k w → SharedInRange w.setup k m → w.shared.fresh ≤ m.fresh → OutcomeInRange w.setup m.fresh k o → Holds k (after_outcome w me a m o)
 settled_holds k w me a m o h g rises c =
     record {
       number = length-set w.actors (me - 1) _ ∙ h.number;
@@ -100,7 +100,7 @@ stepped_holds k w me a l h i g n =
     let x : Accessed w.setup k w.shared (performed (action w.setup me a l) w.shared) =
     performed_in_range w.setup k w.shared (action w.setup me a l) h.shared (writes w.setup k me w.shared a l i g.registers n) in
     settled_holds k w me a (performed (action w.setup me a l) w.shared) _ h x.range x.rises
-    (kept w.setup (performed (action w.setup me a l) w.shared).fresh k (w.steps + 1) me a l _
+    (outcome_in_range w.setup (performed (action w.setup me a l) w.shared).fresh k (w.steps + 1) me a l _
     (registers_weaken w.setup w.shared.fresh _ k a x.rises g.registers)
     (pocket_weakens w.setup.limit w.shared.fresh _ a.pocket x.rises g.pocket)
     (won w.setup me w.shared a l)
@@ -161,7 +161,7 @@ next_any_holds k w m h =
       step = λ me a l is at. stepped_holds k w me a l h (low me a is) (actor me a is) (subst (LineInRange w.setup.size a.f) at (actor me a is).line);
       gave_up = λ me a l o is at given.
           settled_holds k w me a w.shared o h h.shared (omega arith)
-          (some_of (Kept w.setup w.shared.fresh k) (gives_up (w.steps + 1) a l) o given (given_up_kept w.setup w.shared.fresh k (w.steps + 1) a l (actor me a is).registers (actor me a is).pocket));
+          (some_of (OutcomeInRange w.setup w.shared.fresh k) (gives_up (w.steps + 1) a l) o given (given_up_kept w.setup w.shared.fresh k (w.steps + 1) a l (actor me a is).registers (actor me a is).pocket));
       at_rest = λ me a l is at may.
           with_actor_holds k w me (rested a) h
           (record { registers = (actor me a is).registers; pocket = record { node = (actor me a is).registers.node; mark = (actor me a is).registers.mark }; line = tt });

@@ -2,14 +2,14 @@
 -- Each of the four cases is given the world before, that it is reached, and which queue it runs.
 use Rattle.std.proofs.Common.{◌≡◌, ℕ, ◌+◌, true, Some, None, IfSome, List, [], ◌∷◌, refl, ◌∙◌}
 use Rattle.step_machine.specs.Below.{Kind, Line, Op, Setup, Actor, Outcome, gives_up, is_call, begun}
-use Rattle.step_machine.specs.Machine.{World, opening, actor_of, rested, with_actor, settled, stepped, may_rest, AnyMove, next_any, run, IsSized, IsReached}
+use Rattle.step_machine.specs.Machine.{World, opening, actor_of, rested, with_actor, after_outcome, stepped, may_rest, AnyMove, next_any, run, IsSized, IsReached}
 use Rattle.step_machine.proofs.AnyMoves.{after_move}
 use Rattle.step_machine.proofs.Reached.{if_some, some_of, setup-next_any, run_on_if, reached_next}
 
 -- each move of an actor keeps a fact of the worlds of a queue
 pub record EachMoveKeeps (kind : Kind) (P : World → Type 0) : Type 0 where
   pub step : (w : World) (me : ℕ) (a : Actor) (l : Line) → IsReached w → w.setup.kind ≡ kind → actor_of w me ≡ Some a → a.line ≡ Some l → P w → P (stepped w me a l)
-  pub gave_up : (w : World) (me : ℕ) (a : Actor) (l : Line) (o : Outcome) → IsReached w → w.setup.kind ≡ kind → actor_of w me ≡ Some a → a.line ≡ Some l → gives_up (w.steps + 1) a l ≡ Some o → P w → P (settled w me a w.shared o)
+  pub gave_up : (w : World) (me : ℕ) (a : Actor) (l : Line) (o : Outcome) → IsReached w → w.setup.kind ≡ kind → actor_of w me ≡ Some a → a.line ≡ Some l → gives_up (w.steps + 1) a l ≡ Some o → P w → P (after_outcome w me a w.shared o)
   pub began : (w : World) (me : ℕ) (op : Op) (a : Actor) → IsReached w → w.setup.kind ≡ kind → actor_of w me ≡ Some a → a.line ≡ None → is_call op ≡ true → P w → P (with_actor w me (begun w.setup.kind me op a))
   pub at_rest : (w : World) (me : ℕ) (a : Actor) (l : Line) → IsReached w → w.setup.kind ≡ kind → actor_of w me ≡ Some a → a.line ≡ Some l → may_rest l ≡ true → P w → P (with_actor w me (rested a))
 

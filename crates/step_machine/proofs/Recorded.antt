@@ -22,16 +22,16 @@ use Rattle.step_machine.specs.declared.actors.Move.{Move}
 use Rattle.step_machine.specs.declared.actors.Move.TheVariants.{Begin, Step, Give}
 use Rattle.step_machine.specs.declared.actors.Stepped.{Stepped}
 use Rattle.step_machine.specs.declared.actors.Stepped.TheVariants.{Ended}
-use Rattle.step_machine.specs.Machine.{World, opening, actor_of, rested, with_actor, last_of, told, entry_or, settled, new_operation, mover, AnyMove, made, Rest, run}
-use Rattle.step_machine.specs.Calls.{giving_up, giving_up_at, stepped_at, line_of, step_told, reply_of, ended_at, move_told}
+use Rattle.step_machine.specs.Machine.{World, opening, actor_of, rested, with_actor, last_of, with_outcome, entry_or, after_outcome, new_operation, mover, AnyMove, made, Rest, run}
+use Rattle.step_machine.specs.Calls.{giving_up, giving_up_at, stepped_at, line_of, step_answer, reply_of, ended_at, move_answer}
 use Rattle.step_machine.specs.Stamps.{makers, numbered_by}
 use Rattle.step_machine.specs.TakingEffect.{OfOperations}
 use Rattle.step_machine.specs.Recording.{maker, IsFirstOfCall, AreOfCallsBegun, IsEnd, EndAsTold, Ending, TellTheirEnds}
-use Rattle.step_machine.proofs.StampsKept.{actor_stands}
+use Rattle.step_machine.proofs.StampsInvariants.{actor_stands}
 use Rattle.step_machine.proofs.StampsMoves.{idle_got}
 use Rattle.step_machine.proofs.AnyMoves.{AfterEach}
 use Rattle.step_machine.proofs.EffectsKept.{split_last}
-use Rattle.step_machine.proofs.Walking.{walked, kept_after, Telling, telling, stood, each_put, each_actor, all_of, if_some_all}
+use Rattle.step_machine.proofs.EachMove.{walked, kept_after, Telling, telling, stood, each_put, each_actor, all_of, if_some_all}
 
 -- the reply that a move was told, if its call ended
 abbrev said : Option Stepped → Option Reply
@@ -39,7 +39,7 @@ said (Some (Ended l reply)) = Some reply
 said _ = None
 
 abbrev heard : World → AnyMove → Option Reply
-heard w (made m) = said (move_told w m)
+heard w (made m) = said (move_answer w m)
 heard w (Rest me) = None
 
 said_at : (l : Line) (reply : Option Reply) → said (Some (stepped_at l reply)) ≡ reply
@@ -51,13 +51,13 @@ said_ended l None = refl
 said_ended l (Some reply) = refl
 
 -- what a step and a giving up are told
-step_is_told : (w : World) (me : ℕ) (a : Actor) (l : Line) → actor_of w me ≡ Some a → a.line ≡ Some l → move_told w (Step me) ≡ Some (stepped_at l (outcome w.setup (w.steps + 1) me a l (found (action w.setup me a l) w.shared)).reply)
+step_is_told : (w : World) (me : ℕ) (a : Actor) (l : Line) → actor_of w me ≡ Some a → a.line ≡ Some l → move_answer w (Step me) ≡ Some (stepped_at l (outcome w.setup (w.steps + 1) me a l (found (action w.setup me a l) w.shared)).reply)
 step_is_told w me a l is at =
-    ap (step_told w me) is
-    ∙ ap (λ x. step_told w me (Some (record a { line = x }))) at
+    ap (step_answer w me) is
+    ∙ ap (λ x. step_answer w me (Some (record a { line = x }))) at
     ∙ sym (ap (λ x. Some (stepped_at l (outcome w.setup (w.steps + 1) me (record a { line = x }) l (found (action w.setup me (record a { line = x }) l) w.shared)).reply)) at)
 
-give_is_told : (w : World) (me : ℕ) (a : Actor) (l : Line) (o : Outcome) → actor_of w me ≡ Some a → a.line ≡ Some l → gives_up (w.steps + 1) a l ≡ Some o → move_told w (Give me) ≡ ended_at (Some l) o.reply
+give_is_told : (w : World) (me : ℕ) (a : Actor) (l : Line) (o : Outcome) → actor_of w me ≡ Some a → a.line ≡ Some l → gives_up (w.steps + 1) a l ≡ Some o → move_answer w (Give me) ≡ ended_at (Some l) o.reply
 give_is_told w me a l o is at given =
     let line : line_of (actor_of w me) ≡ Some l = ap line_of is ∙ at in
     let reply : reply_of (giving_up w (actor_of w me)) ≡ o.reply = ap (λ x. reply_of (giving_up w x)) is ∙ ap (λ x. reply_of (giving_up_at w a x)) at ∙ ap reply_of given in
@@ -135,7 +135,7 @@ module _ (s : Setup) (n : ℕ) where
           inr (
             ap maker p.1 ∙ e.own,
             e.numbered ∙ ap (λ (u : World). u.steps + 1) same,
-            ap (heard w) p.1 ∙ ap (λ u. said (move_told u e.move)) (sym same) ∙ ap said e.told,
+            ap (heard w) p.1 ∙ ap (λ u. said (move_answer u e.move)) (sym same) ∙ ap said e.told,
           )
       go (inr p) =
           inl record {
@@ -170,8 +170,8 @@ module _ (s : Setup) (n : ℕ) where
         each_end = λ you k reply e. elim (end_last done w m you k reply led e) [ inl old ↦ h.each_end you k reply old | inr new ↦ absurd (none-some reply (sym none ∙ new.2)) ];
       }
 
-  module _ (done : List AnyMove) (w : World) (move : Move) (me : ℕ) (a : Actor) (l : Line) (o : Outcome) (m' : Shared) (takes : numbered_by (made move) ≡ me ∷ []) (own : mover move ≡ me) (led : run done (opening s n) ≡ Some w) (is : actor_of w me ≡ Some a) (at_line : a.line ≡ Some l) (tells : heard w (made move) ≡ o.reply) (as_told : (reply : Reply) → o.reply ≡ Some reply → move_told w move ≡ Some (Ended l reply)) (h : Records done w) where
-    it : Telling (makers done) w me a l o (settled w me a m' o).operations
+  module _ (done : List AnyMove) (w : World) (move : Move) (me : ℕ) (a : Actor) (l : Line) (o : Outcome) (m' : Shared) (takes : numbered_by (made move) ≡ me ∷ []) (own : mover move ≡ me) (led : run done (opening s n) ≡ Some w) (is : actor_of w me ≡ Some a) (at_line : a.line ≡ Some l) (tells : heard w (made move) ≡ o.reply) (as_told : (reply : Reply) → o.reply ≡ Some reply → move_answer w move ≡ Some (Ended l reply)) (h : Records done w) where
+    it : Telling (makers done) w me a l o (after_outcome w me a m' o).operations
     it = telling (makers done) w me a l o (kept_after s n done w led) is at_line
 
     -- the operation told is of the call begun
@@ -217,7 +217,7 @@ module _ (s : Setup) (n : ℕ) where
     elsewhere i last p got ended q = none-some last (sym it.no_last ∙ ap (λ (x : Stamped). x.last) (stood it i p got q) ∙ ended)
 
     -- a numbered move
-    settled_records : Records (done ++ made move ∷ []) (settled w me a m' o)
+    settled_records : Records (done ++ made move ∷ []) (after_outcome w me a m' o)
     settled_records =
         record {
           firsts =
@@ -233,7 +233,7 @@ module _ (s : Setup) (n : ℕ) where
           each_end = λ you k reply e. each_end you k reply (end_last done w (made move) you k reply led e);
         }
       where
-        each_end : (you k : ℕ) (reply : Reply) → IsEnd s n done you k reply ⊎ ((mover move ≡ you) × (k ≡ w.steps + 1) × (heard w (made move) ≡ Some reply)) → Ending (settled w me a m' o).operations you k reply
+        each_end : (you k : ℕ) (reply : Reply) → IsEnd s n done you k reply ⊎ ((mover move ≡ you) × (k ≡ w.steps + 1) × (heard w (made move) ≡ Some reply)) → Ending (after_outcome w me a m' o).operations you k reply
         each_end you k reply (inl old) =
             let x : Ending w.operations you k reply = h.each_end you k reply old in
             record {
@@ -248,7 +248,7 @@ module _ (s : Setup) (n : ℕ) where
             let ended : o.reply ≡ Some reply = sym tells ∙ new.2 in
             record {
               place = it.place;
-              operation = told (w.steps + 1) o it.was;
+              operation = with_outcome (w.steps + 1) o it.was;
               there = it.put.here;
               own = it.own ∙ sym own ∙ new.0;
               last = ap (last_of (w.steps + 1)) ended ∙ ap Some (sym new.1);

@@ -9,12 +9,12 @@ use Rattle.std.specs.Prelude.{slice_get}
 use Rattle.std.specs.List.{AllByRecursion}
 use Rattle.std.proofs.lemmas.Bool.{leb-true, leb-false, le-leb, lt-leb}
 use Rattle.std.proofs.lemmas.Option.{none-some, same_Some}
-use Rattle.step_machine.specs.Below.{Deq, Empty, Stamped, Queue, empty, given, number_of, inserted, rising, answer, Gets, Replays, replayed}
+use Rattle.step_machine.specs.Below.{Deq, Empty, Stamped, Queue, empty, response, point_or_zero, inserted, by_point, answer, AgreesWithQueue, IsSequentialRun, queue_after}
 use Rattle.history.proofs.Rising.{commute}
 
 -- the number of an operation's place
 abbrev pub place : Stamped → ℕ
-place o = number_of o.at
+place o = point_or_zero o.at
 
 -- the operations before the first one whose place isn't below a number, and the others
 abbrev pub before : ℕ → List Stamped → List Stamped
@@ -57,12 +57,12 @@ inserted_all P o (p ∷ ps) h g = go (nat_le (place o) (place p)) (inserted_all 
     go true ih = (h, g)
     go false ih = (g.0, ih)
 
-pub rising_all : (P : Stamped → Type 0) (ops : List Stamped) → ((i : ℕ) (o : Stamped) → slice_get ops i ≡ Some o → is_some o.at ≡ true → P o) → AllByRecursion P (rising ops)
+pub rising_all : (P : Stamped → Type 0) (ops : List Stamped) → ((i : ℕ) (o : Stamped) → slice_get ops i ≡ Some o → is_some o.at ≡ true → P o) → AllByRecursion P (by_point ops)
 rising_all P [] h = tt
 rising_all P (o ∷ os) h = go (is_some o.at) refl (rising_all P os (λ i p got. h (suc i) p got))
   where
-    go : (b : Bool) → is_some o.at ≡ b → AllByRecursion P (rising os) → AllByRecursion P (if b then inserted o (rising os) else rising os)
-    go true e ih = inserted_all P o (rising os) (h 0 o refl e) ih
+    go : (b : Bool) → is_some o.at ≡ b → AllByRecursion P (by_point os) → AllByRecursion P (if b then inserted o (by_point os) else by_point os)
+    go true e ih = inserted_all P o (by_point os) (h 0 o refl e) ih
     go false e ih = ih
 
 -- an operation before others whose order one more is inserted into
@@ -73,33 +73,33 @@ behind p o n xs ys e d same = go p.at refl
     go None f = same
     go (Some k) f =
         ap (inserted p) same
-        ∙ commute p o ys (λ q. d (f ∙ ap Some (sym (ap number_of f) ∙ q ∙ ap number_of e)))
+        ∙ commute p o ys (λ q. d (f ∙ ap Some (sym (ap point_or_zero f) ∙ q ∙ ap point_or_zero e)))
 
 -- an operation that gets a place is inserted
-pub place_given : (n : ℕ) (ops : List Stamped) (i : ℕ) (p o : Stamped) → o.at ≡ Some n → slice_get ops i ≡ Some p → p.at ≡ None → ((j : ℕ) (q : Stamped) → slice_get ops j ≡ Some q → q.at ≢ Some n) → rising (set ops i o) ≡ inserted o (rising ops)
+pub place_given : (n : ℕ) (ops : List Stamped) (i : ℕ) (p o : Stamped) → o.at ≡ Some n → slice_get ops i ≡ Some p → p.at ≡ None → ((j : ℕ) (q : Stamped) → slice_get ops j ≡ Some q → q.at ≢ Some n) → by_point (set ops i o) ≡ inserted o (by_point ops)
 place_given n [] i p o e got none other = absurd (none-some p got)
 place_given n (q ∷ qs) zero p o e got none other =
-    ap (λ (b : Option ℕ). if is_some b then inserted o (rising qs) else rising qs) e
-    ∙ ap (inserted o) (sym (ap (λ (b : Option ℕ). if is_some b then inserted q (rising qs) else rising qs) (ap (λ (x : Stamped). x.at) (same_Some q p got) ∙ none)))
+    ap (λ (b : Option ℕ). if is_some b then inserted o (by_point qs) else by_point qs) e
+    ∙ ap (inserted o) (sym (ap (λ (b : Option ℕ). if is_some b then inserted q (by_point qs) else by_point qs) (ap (λ (x : Stamped). x.at) (same_Some q p got) ∙ none)))
 place_given n (q ∷ qs) (suc i) p o e got none other =
-    behind q o n (rising (set qs i o)) (rising qs) e (other 0 q refl)
+    behind q o n (by_point (set qs i o)) (by_point qs) e (other 0 q refl)
     (place_given n qs i p o e got none (λ j r there. other (suc j) r there))
 
 -- and so is one that is added
-pub place_added : (n : ℕ) (ops : List Stamped) (o : Stamped) → o.at ≡ Some n → ((j : ℕ) (q : Stamped) → slice_get ops j ≡ Some q → q.at ≢ Some n) → rising (ops ++ o ∷ []) ≡ inserted o (rising ops)
+pub place_added : (n : ℕ) (ops : List Stamped) (o : Stamped) → o.at ≡ Some n → ((j : ℕ) (q : Stamped) → slice_get ops j ≡ Some q → q.at ≢ Some n) → by_point (ops ++ o ∷ []) ≡ inserted o (by_point ops)
 place_added n [] o e other = ap (λ (b : Option ℕ). if is_some b then o ∷ [] else []) e
 place_added n (q ∷ qs) o e other =
-    behind q o n (rising (qs ++ o ∷ [])) (rising qs) e (other 0 q refl) (place_added n qs o e (λ j r there. other (suc j) r there))
+    behind q o n (by_point (qs ++ o ∷ [])) (by_point qs) e (other 0 q refl) (place_added n qs o e (λ j r there. other (suc j) r there))
 
 -- an operation that has no place and gets none changes nothing
-pub unplaced_set : (ops : List Stamped) (i : ℕ) (p o : Stamped) → o.at ≡ None → slice_get ops i ≡ Some p → p.at ≡ None → rising (set ops i o) ≡ rising ops
+pub unplaced_set : (ops : List Stamped) (i : ℕ) (p o : Stamped) → o.at ≡ None → slice_get ops i ≡ Some p → p.at ≡ None → by_point (set ops i o) ≡ by_point ops
 unplaced_set [] i p o e got none = absurd (none-some p got)
 unplaced_set (q ∷ qs) zero p o e got none =
-    ap (λ (b : Option ℕ). if is_some b then inserted o (rising qs) else rising qs) e
-    ∙ sym (ap (λ (b : Option ℕ). if is_some b then inserted q (rising qs) else rising qs) (ap (λ (x : Stamped). x.at) (same_Some q p got) ∙ none))
+    ap (λ (b : Option ℕ). if is_some b then inserted o (by_point qs) else by_point qs) e
+    ∙ sym (ap (λ (b : Option ℕ). if is_some b then inserted q (by_point qs) else by_point qs) (ap (λ (x : Stamped). x.at) (same_Some q p got) ∙ none))
 unplaced_set (q ∷ qs) (suc i) p o e got none = ap (λ xs. if is_some q.at then inserted q xs else xs) (unplaced_set qs i p o e got none)
 
-pub unplaced_added : (ops : List Stamped) (o : Stamped) → o.at ≡ None → rising (ops ++ o ∷ []) ≡ rising ops
+pub unplaced_added : (ops : List Stamped) (o : Stamped) → o.at ≡ None → by_point (ops ++ o ∷ []) ≡ by_point ops
 unplaced_added [] o e = ap (λ (b : Option ℕ). if is_some b then o ∷ [] else []) e
 unplaced_added (q ∷ qs) o e = ap (λ xs. if is_some q.at then inserted q xs else xs) (unplaced_added qs o e)
 
@@ -110,24 +110,24 @@ set_same (y ∷ ys) zero x got = ap (λ z. z ∷ ys) (sym (same_Some y x got))
 set_same (y ∷ ys) (suc i) x got = ap (λ zs. y ∷ zs) (set_same ys i x got)
 
 -- replies to operations one after the other
-pub replayed-append : (queue : Queue) (xs ys : List Stamped) → replayed queue (xs ++ ys) ≡ replayed (replayed queue xs) ys
-replayed-append queue [] ys = refl
-replayed-append queue (x ∷ xs) ys = replayed-append (answer queue x x.reply).after xs ys
+pub queue_after-append : (queue : Queue) (xs ys : List Stamped) → queue_after queue (xs ++ ys) ≡ queue_after (queue_after queue xs) ys
+queue_after-append queue [] ys = refl
+queue_after-append queue (x ∷ xs) ys = queue_after-append (answer queue x x.reply).after xs ys
 
-pub replays-append : (queue : Queue) (xs ys : List Stamped) → Replays queue xs → Replays (replayed queue xs) ys → Replays queue (xs ++ ys)
+pub replays-append : (queue : Queue) (xs ys : List Stamped) → IsSequentialRun queue xs → IsSequentialRun (queue_after queue xs) ys → IsSequentialRun queue (xs ++ ys)
 replays-append queue [] ys h g = g
 replays-append queue (x ∷ xs) ys h g = (h.0, replays-append (answer queue x x.reply).after xs ys h.1 g)
 
-pub replays-front : (queue : Queue) (xs ys : List Stamped) → Replays queue (xs ++ ys) → Replays queue xs
+pub replays-front : (queue : Queue) (xs ys : List Stamped) → IsSequentialRun queue (xs ++ ys) → IsSequentialRun queue xs
 replays-front queue [] ys h = tt
 replays-front queue (x ∷ xs) ys h = (h.0, replays-front (answer queue x x.reply).after xs ys h.1)
 
-pub replays-back : (queue : Queue) (xs ys : List Stamped) → Replays queue (xs ++ ys) → Replays (replayed queue xs) ys
+pub replays-back : (queue : Queue) (xs ys : List Stamped) → IsSequentialRun queue (xs ++ ys) → IsSequentialRun (queue_after queue xs) ys
 replays-back queue [] ys h = h
 replays-back queue (x ∷ xs) ys h = replays-back (answer queue x x.reply).after xs ys h.1
 
 -- one more operation at the end
-pub replays_more : (queue : Queue) (xs : List Stamped) (o : Stamped) → Replays queue xs → Gets (replayed queue xs) o o.reply → Replays queue (xs ++ o ∷ [])
+pub replays_more : (queue : Queue) (xs : List Stamped) (o : Stamped) → IsSequentialRun queue xs → AgreesWithQueue (queue_after queue xs) o o.reply → IsSequentialRun queue (xs ++ o ∷ [])
 replays_more queue xs o h g = replays-append queue xs (o ∷ []) h (g, tt)
 
 -- a dequeue that is told that the queue is empty
@@ -135,33 +135,33 @@ pub record IsEmptyReply (o : Stamped) : Type 0 where
   pub op : o.op ≡ Deq
   pub reply : o.reply ≡ Some Empty
 
-gets_empty : (o : Stamped) → IsEmptyReply o → Gets empty o o.reply
-gets_empty o e = subst (λ r. Gets empty o r) (sym e.reply) (subst (λ p. Empty ≡ (given o.actor p empty).reply) (sym e.op) refl)
+gets_empty : (o : Stamped) → IsEmptyReply o → AgreesWithQueue empty o o.reply
+gets_empty o e = subst (λ r. AgreesWithQueue empty o r) (sym e.reply) (subst (λ p. Empty ≡ (response o.actor p empty).reply) (sym e.op) refl)
 
 stays_empty : (o : Stamped) → IsEmptyReply o → (answer empty o o.reply).after ≡ empty
-stays_empty o e = ap (λ r. (answer empty o r).after) e.reply ∙ ap (λ p. (given o.actor p empty).after) e.op
+stays_empty o e = ap (λ r. (answer empty o r).after) e.reply ∙ ap (λ p. (response o.actor p empty).after) e.op
 
 -- it may stand wherever the queue is empty, and changes nothing
-pub empty_between : (xs ys : List Stamped) (o : Stamped) → IsEmptyReply o → replayed empty xs ≡ empty → replayed empty (xs ++ o ∷ ys) ≡ replayed empty (xs ++ ys)
+pub empty_between : (xs ys : List Stamped) (o : Stamped) → IsEmptyReply o → queue_after empty xs ≡ empty → queue_after empty (xs ++ o ∷ ys) ≡ queue_after empty (xs ++ ys)
 empty_between xs ys o e none =
-    replayed-append empty xs (o ∷ ys) ∙ ap (λ q. replayed q (o ∷ ys)) none ∙ ap (λ q. replayed q ys) (stays_empty o e)
-    ∙ sym (replayed-append empty xs ys ∙ ap (λ q. replayed q ys) none)
+    queue_after-append empty xs (o ∷ ys) ∙ ap (λ q. queue_after q (o ∷ ys)) none ∙ ap (λ q. queue_after q ys) (stays_empty o e)
+    ∙ sym (queue_after-append empty xs ys ∙ ap (λ q. queue_after q ys) none)
 
-pub empty_placed : (o : Stamped) (ps : List Stamped) → IsEmptyReply o → replayed empty (before (place o) ps) ≡ empty → Replays empty ps → Replays empty (inserted o ps)
+pub empty_placed : (o : Stamped) (ps : List Stamped) → IsEmptyReply o → queue_after empty (before (place o) ps) ≡ empty → IsSequentialRun empty ps → IsSequentialRun empty (inserted o ps)
 empty_placed o ps e none h =
-    subst (Replays empty) (sym (inserted_split o ps))
+    subst (IsSequentialRun empty) (sym (inserted_split o ps))
     (replays-append empty (before (place o) ps) (o ∷ from (place o) ps)
     (replays-front empty (before (place o) ps) (from (place o) ps) whole)
-    (subst (λ q. Replays q (o ∷ from (place o) ps)) (sym none)
-    (gets_empty o e, subst (λ q. Replays q (from (place o) ps)) (none ∙ sym (stays_empty o e)) (replays-back empty (before (place o) ps) (from (place o) ps) whole))))
+    (subst (λ q. IsSequentialRun q (o ∷ from (place o) ps)) (sym none)
+    (gets_empty o e, subst (λ q. IsSequentialRun q (from (place o) ps)) (none ∙ sym (stays_empty o e)) (replays-back empty (before (place o) ps) (from (place o) ps) whole))))
   where
-    whole : Replays empty (before (place o) ps ++ from (place o) ps)
-    whole = subst (Replays empty) (sym (before-from (place o) ps)) h
+    whole : IsSequentialRun empty (before (place o) ps ++ from (place o) ps)
+    whole = subst (IsSequentialRun empty) (sym (before-from (place o) ps)) h
 
-pub empty_keeps : (o : Stamped) (ps : List Stamped) → IsEmptyReply o → replayed empty (before (place o) ps) ≡ empty → replayed empty (inserted o ps) ≡ replayed empty ps
+pub empty_keeps : (o : Stamped) (ps : List Stamped) → IsEmptyReply o → queue_after empty (before (place o) ps) ≡ empty → queue_after empty (inserted o ps) ≡ queue_after empty ps
 empty_keeps o ps e none =
-    ap (replayed empty) (inserted_split o ps) ∙ empty_between (before (place o) ps) (from (place o) ps) o e none
-    ∙ ap (replayed empty) (before-from (place o) ps)
+    ap (queue_after empty) (inserted_split o ps) ∙ empty_between (before (place o) ps) (from (place o) ps) o e none
+    ∙ ap (queue_after empty) (before-from (place o) ps)
 
 -- the operations before a number, once one is inserted at it or behind it
 pub before_below : (k : ℕ) (o : Stamped) (ps : List Stamped) → k ≤ place o → before k (inserted o ps) ≡ before k ps
@@ -205,19 +205,19 @@ before_twice n k (p ∷ ps) low = go (nat_le k (place p)) refl (before_twice n k
     go false e ih = ap (λ xs. if nat_le n (place p) then [] else p ∷ xs) ih
 
 -- where the queue was empty before a number, it is so once an operation gets a place that isn't below it
-pub still_empty_below : (k : ℕ) (o : Stamped) (ps : List Stamped) → k ≤ place o → replayed empty (before k ps) ≡ empty → replayed empty (before k (inserted o ps)) ≡ empty
-still_empty_below k o ps low none = ap (replayed empty) (before_below k o ps low) ∙ none
+pub still_empty_below : (k : ℕ) (o : Stamped) (ps : List Stamped) → k ≤ place o → queue_after empty (before k ps) ≡ empty → queue_after empty (before k (inserted o ps)) ≡ empty
+still_empty_below k o ps low none = ap (queue_after empty) (before_below k o ps low) ∙ none
 
 -- and once an empty reply gets its place
-pub still_empty : (k : ℕ) (o : Stamped) (ps : List Stamped) → IsEmptyReply o → replayed empty (before (place o) ps) ≡ empty → replayed empty (before k ps) ≡ empty → replayed empty (before k (inserted o ps)) ≡ empty
+pub still_empty : (k : ℕ) (o : Stamped) (ps : List Stamped) → IsEmptyReply o → queue_after empty (before (place o) ps) ≡ empty → queue_after empty (before k ps) ≡ empty → queue_after empty (before k (inserted o ps)) ≡ empty
 still_empty k o ps e here none = go (nat_le k (place o)) refl
   where
-    go : (b : Bool) → nat_le k (place o) ≡ b → replayed empty (before k (inserted o ps)) ≡ empty
+    go : (b : Bool) → nat_le k (place o) ≡ b → queue_after empty (before k (inserted o ps)) ≡ empty
     go true f = still_empty_below k o ps (leb-true k (place o) f) none
     go false f =
         let low : place o < k = leb-false k (place o) f in
-        ap (replayed empty) (before_above k o ps low)
-        ∙ empty_keeps o (before k ps) e (ap (replayed empty) (before_twice (place o) k ps (omega arith)) ∙ here)
+        ap (queue_after empty) (before_above k o ps low)
+        ∙ empty_keeps o (before k ps) e (ap (queue_after empty) (before_twice (place o) k ps (omega arith)) ∙ here)
         ∙ none
 
 -- all are before a number that is above their places

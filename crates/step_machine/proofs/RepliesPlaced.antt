@@ -19,18 +19,18 @@ use Rattle.line_steps.specs.Memory.{Shared, found, performed}
 use Rattle.line_steps.specs.Lines.{action, gives_up}
 use Rattle.line_steps.specs.Calling.{from_pocket, begun}
 use Rattle.step_machine.specs.declared.actors.Move.TheVariants.{Begin, Step, Give}
-use Rattle.step_machine.specs.Machine.{World, opening, actor_of, rested, with_actor, last_of, first_settled, told, entry_or, settled, AnyMove, made, Rest, run}
+use Rattle.step_machine.specs.Machine.{World, opening, actor_of, rested, with_actor, last_of, latest_point, with_outcome, entry_or, after_outcome, AnyMove, made, Rest, run}
 use Rattle.step_machine.specs.Stamps.{makers, IsBy, AfterMoves}
 use Rattle.step_machine.specs.TakingEffect.{OfOperations}
 use Rattle.step_machine.specs.Recording.{IsRefusedAtItsEnd, looks, IsLook, IsLastLook, AreEmptyAtTheirLastLook}
 use Rattle.step_machine.proofs.Reached.{some_of}
 use Rattle.step_machine.proofs.StampsLists.{by_within}
-use Rattle.step_machine.proofs.StampsKept.{Kept, actor_stands}
+use Rattle.step_machine.proofs.StampsInvariants.{StampsInvariant, actor_stands}
 use Rattle.step_machine.proofs.StampsMoves.{idle_got}
 use Rattle.step_machine.proofs.AnyMoves.{AfterEach}
 use Rattle.step_machine.proofs.EffectsKept.{split_last}
 use Rattle.step_machine.proofs.StepTells.{Tells, tells, given_tells}
-use Rattle.step_machine.proofs.Walking.{walked, kept_after, Telling, telling, each_put, each_actor, all_of, if_some_all}
+use Rattle.step_machine.proofs.EachMove.{walked, kept_after, Telling, telling, each_put, each_actor, all_of, if_some_all}
 
 -- who takes a step, and whether a move is one
 abbrev pub stepper : AnyMove → ℕ
@@ -42,11 +42,11 @@ is_step (made (Step me)) = true
 is_step _ = false
 
 -- what a beginning leaves noted
-from_pocket_noted : (l : Line) (pocket : Option Held) (a : Actor) → (from_pocket l pocket a).noted ≡ a.noted
+from_pocket_noted : (l : Line) (pocket : Option Held) (a : Actor) → (from_pocket l pocket a).empty_at ≡ a.empty_at
 from_pocket_noted l None a = refl
 from_pocket_noted l (Some held) a = refl
 
-begun_noted : (kind : Kind) (me : ℕ) (op : Op) (a : Actor) → (begun kind me op a).noted ≡ a.noted
+begun_noted : (kind : Kind) (me : ℕ) (op : Op) (a : Actor) → (begun kind me op a).empty_at ≡ a.empty_at
 begun_noted TwoLock me (Enq body) a = from_pocket_noted A1 a.pocket _
 begun_noted NonBlocking me (Enq body) a = from_pocket_noted E2 a.pocket _
 begun_noted TwoLock me Deq a = from_pocket_noted F1 a.pocket _
@@ -113,7 +113,7 @@ module _ (s : Setup) (n : ℕ) where
   record Placed (done : List AnyMove) (w : World) : Type 0 where
     refused : (i : ℕ) (o : Stamped) → slice_get w.operations i ≡ Some o → IsRefusedAtItsEnd o
     empty : (i k : ℕ) (o : Stamped) → slice_get w.operations i ≡ Some o → o.reply ≡ Some Empty → o.at ≡ Some k → LastOf done o k
-    noted : (me : ℕ) (a : Actor) → actor_of w me ≡ Some a → LastLook done me a.noted
+    empty_at : (me : ℕ) (a : Actor) → actor_of w me ≡ Some a → LastLook done me a.empty_at
     within : (me j : ℕ) → Look done me j → j ≤ w.steps
 
   or_look : (done : List AnyMove) (m : AnyMove) (me k : ℕ) → (k ≡ 0) ⊎ Look done me k → (k ≡ 0) ⊎ Look (done ++ m ∷ []) me k
@@ -121,14 +121,14 @@ module _ (s : Setup) (n : ℕ) where
   or_look done m me k (inr look) = inr (look_more done m me k look)
 
   -- a move that looks for no node and is told nothing
-  still : (done : List AnyMove) (w : World) (m : AnyMove) (me : ℕ) (a b : Actor) → is_step m ≡ false → run done (opening s n) ≡ Some w → actor_of w me ≡ Some a → b.noted ≡ a.noted → Placed done w → Placed (done ++ m ∷ []) (with_actor w me b)
+  still : (done : List AnyMove) (w : World) (m : AnyMove) (me : ℕ) (a b : Actor) → is_step m ≡ false → run done (opening s n) ≡ Some w → actor_of w me ≡ Some a → b.empty_at ≡ a.empty_at → Placed done w → Placed (done ++ m ∷ []) (with_actor w me b)
   still done w m me a b none led is same h =
       record {
         refused = h.refused;
         empty = λ i k o got e at.
             let x : LastOf done o k = h.empty i k o got e at in
             (or_look done m o.actor k x.0, λ j last l t low. x.1 j last l (old o.actor j t) low);
-        noted = each_actor w me a b (λ you c. LastLook (done ++ m ∷ []) you c.noted) is (subst (λ k. LastLook (done ++ m ∷ []) me k) (sym same) (lasts me a.noted (h.noted me a is))) (λ you c other there. lasts you c.noted (h.noted you c there));
+        empty_at = each_actor w me a b (λ you c. LastLook (done ++ m ∷ []) you c.empty_at) is (subst (λ k. LastLook (done ++ m ∷ []) me k) (sym same) (lasts me a.empty_at (h.empty_at me a is))) (λ you c other there. lasts you c.empty_at (h.empty_at you c there));
         within = λ you j t. h.within you j (old you j t);
       }
     where
@@ -139,10 +139,10 @@ module _ (s : Setup) (n : ℕ) where
       lasts you k x = (or_look done m you k x.0, λ j t. x.1 j (old you j t))
 
   module _ (done : List AnyMove) (w : World) (m : AnyMove) (me : ℕ) (a : Actor) (l : Line) (o : Outcome) (m' : Shared) (looked : Bool) (led : run done (opening s n) ≡ Some w) (is : actor_of w me ≡ Some a) (at_line : a.line ≡ Some l) (h : Placed done w) (t : Tells l looked (w.steps + 1) a o) (yes : looked ≡ true → Look (done ++ m ∷ []) me (w.steps + 1)) (only : (you j : ℕ) → m ≡ made (Step you) → Now w you j → (you ≡ me) × (j ≡ w.steps + 1) × (looked ≡ true)) where
-    kept : Kept (Unit {0}) (makers done) w
+    kept : StampsInvariant (Unit {0}) (makers done) w
     kept = kept_after s n done w led
 
-    it : Telling (makers done) w me a l o (settled w me a m' o).operations
+    it : Telling (makers done) w me a l o (after_outcome w me a m' o).operations
     it = telling (makers done) w me a l o kept is at_line
 
     cases : (you j : ℕ) → Look (done ++ m ∷ []) you j → Look done you j ⊎ ((you ≡ me) × (j ≡ w.steps + 1) × (looked ≡ true))
@@ -153,45 +153,45 @@ module _ (s : Setup) (n : ℕ) where
         let by : IsBy (makers done) last p.actor = subst (λ z. IfSome z (λ k. IsBy (makers done) k p.actor)) e (kept.operations.each i p got).last_own in
         omega (arith, by_within (makers done) last p.actor by, kept.counted)
 
-    told_refused : IsRefusedAtItsEnd (told (w.steps + 1) o it.was)
-    told_refused why e = ap (λ x. first_settled x it.was.at) (t.refused why e) ∙ sym (ap (last_of (w.steps + 1)) e)
+    told_refused : IsRefusedAtItsEnd (with_outcome (w.steps + 1) o it.was)
+    told_refused why e = ap (λ x. latest_point x it.was.at) (t.refused why e) ∙ sym (ap (last_of (w.steps + 1)) e)
 
-    told_empty : (k : ℕ) → o.reply ≡ Some Empty → first_settled o.at it.was.at ≡ Some k → LastOf (done ++ m ∷ []) (told (w.steps + 1) o it.was) k
+    told_empty : (k : ℕ) → o.reply ≡ Some Empty → latest_point o.at it.was.at ≡ Some k → LastOf (done ++ m ∷ []) (with_outcome (w.steps + 1) o it.was) k
     told_empty k e at =
-        let noted : a.noted ≡ k = same_Some a.noted k (sym (ap (λ x. first_settled x it.was.at) (t.empty e)) ∙ at) in
-        let x : LastLook done me a.noted = h.noted me a is in (
-          subst (λ y. (k ≡ 0) ⊎ Look (done ++ m ∷ []) y k) (sym it.own) (subst (λ j. (j ≡ 0) ⊎ Look (done ++ m ∷ []) me j) noted (or_look done m me a.noted x.0)),
-          λ j last end look low. go j noted (cases me j (subst (λ y. Look (done ++ m ∷ []) y j) it.own look)),
+        let empty_at : a.empty_at ≡ k = same_Some a.empty_at k (sym (ap (λ x. latest_point x it.was.at) (t.empty e)) ∙ at) in
+        let x : LastLook done me a.empty_at = h.empty_at me a is in (
+          subst (λ y. (k ≡ 0) ⊎ Look (done ++ m ∷ []) y k) (sym it.own) (subst (λ j. (j ≡ 0) ⊎ Look (done ++ m ∷ []) me j) empty_at (or_look done m me a.empty_at x.0)),
+          λ j last end look low. go j empty_at (cases me j (subst (λ y. Look (done ++ m ∷ []) y j) it.own look)),
         )
       where
-        go : (j : ℕ) → a.noted ≡ k → Look done me j ⊎ ((me ≡ me) × (j ≡ w.steps + 1) × (looked ≡ true)) → j ≤ k
-        go j noted (inl old) = let low : j ≤ a.noted = (h.noted me a is).1 j old in omega arith
-        go j noted (inr new) = absurd (none-some Empty (sym (t.notes new.2).1 ∙ e))
+        go : (j : ℕ) → a.empty_at ≡ k → Look done me j ⊎ ((me ≡ me) × (j ≡ w.steps + 1) × (looked ≡ true)) → j ≤ k
+        go j empty_at (inl old) = let low : j ≤ a.empty_at = (h.empty_at me a is).1 j old in omega arith
+        go j empty_at (inr new) = absurd (none-some Empty (sym (t.notes new.2).1 ∙ e))
 
-    lasts : (you : ℕ) (c : Actor) → you ≢ me → LastLook done you c.noted → LastLook (done ++ m ∷ []) you c.noted
-    lasts you c other x = (or_look done m you c.noted x.0, λ j look. go j (cases you j look))
+    lasts : (you : ℕ) (c : Actor) → you ≢ me → LastLook done you c.empty_at → LastLook (done ++ m ∷ []) you c.empty_at
+    lasts you c other x = (or_look done m you c.empty_at x.0, λ j look. go j (cases you j look))
       where
-        go : (j : ℕ) → Look done you j ⊎ ((you ≡ me) × (j ≡ w.steps + 1) × (looked ≡ true)) → j ≤ c.noted
+        go : (j : ℕ) → Look done you j ⊎ ((you ≡ me) × (j ≡ w.steps + 1) × (looked ≡ true)) → j ≤ c.empty_at
         go j (inl old) = x.1 j old
         go j (inr new) = absurd (other new.0)
 
-    mover : LastLook (done ++ m ∷ []) me o.actor.noted
+    mover : LastLook (done ++ m ∷ []) me o.actor.empty_at
     mover = go looked refl
       where
-        seen : (b : Bool) (k j : ℕ) → looked ≡ b → (b ≡ true → k ≡ w.steps + 1) → (b ≡ false → k ≡ a.noted) → Look done me j ⊎ ((me ≡ me) × (j ≡ w.steps + 1) × (looked ≡ true)) → j ≤ k
+        seen : (b : Bool) (k j : ℕ) → looked ≡ b → (b ≡ true → k ≡ w.steps + 1) → (b ≡ false → k ≡ a.empty_at) → Look done me j ⊎ ((me ≡ me) × (j ≡ w.steps + 1) × (looked ≡ true)) → j ≤ k
         seen true k j is_so new old (inl x) = let low : j ≤ w.steps = h.within me j x in omega (arith, new refl)
         seen true k j is_so new old (inr x) = omega (arith, new refl, x.1)
-        seen false k j is_so new old (inl x) = let low : j ≤ a.noted = (h.noted me a is).1 j x in omega (arith, old refl)
+        seen false k j is_so new old (inl x) = let low : j ≤ a.empty_at = (h.empty_at me a is).1 j x in omega (arith, old refl)
         seen false k j is_so new old (inr x) = absurd (let f : false ≡ true = sym is_so ∙ x.2 in cc)
 
-        go : (b : Bool) → looked ≡ b → LastLook (done ++ m ∷ []) me o.actor.noted
+        go : (b : Bool) → looked ≡ b → LastLook (done ++ m ∷ []) me o.actor.empty_at
         go true e = (
           inr (subst (λ k. Look (done ++ m ∷ []) me k) (sym (t.notes e).0) (yes e)),
-          λ j look. seen true o.actor.noted j e (λ x. (t.notes e).0) (λ x. absurd (let f : false ≡ true = sym x in cc)) (cases me j look),
+          λ j look. seen true o.actor.empty_at j e (λ x. (t.notes e).0) (λ x. absurd (let f : false ≡ true = sym x in cc)) (cases me j look),
         )
         go false e = (
-          subst (λ k. (k ≡ 0) ⊎ Look (done ++ m ∷ []) me k) (sym (t.passes e)) (or_look done m me a.noted (h.noted me a is).0),
-          λ j look. seen false o.actor.noted j e (λ x. absurd (let f : false ≡ true = x in cc)) (λ x. t.passes e) (cases me j look),
+          subst (λ k. (k ≡ 0) ⊎ Look (done ++ m ∷ []) me k) (sym (t.passes e)) (or_look done m me a.empty_at (h.empty_at me a is).0),
+          λ j look. seen false o.actor.empty_at j e (λ x. absurd (let f : false ≡ true = x in cc)) (λ x. t.passes e) (cases me j look),
         )
 
     -- another operation
@@ -205,15 +205,15 @@ module _ (s : Setup) (n : ℕ) where
         go x j last end low (inr new) = let within : last ≤ w.steps = ended i last p got end in omega (arith, new.1)
 
     -- a numbered move
-    settled_placed : Placed (done ++ m ∷ []) (settled w me a m' o)
+    settled_placed : Placed (done ++ m ∷ []) (after_outcome w me a m' o)
     settled_placed =
         record {
           refused = each_put it.put (λ i p. IsRefusedAtItsEnd p) told_refused (λ i p other got. h.refused i p got);
           empty = λ i k.
               each_put it.put (λ j p. p.reply ≡ Some Empty → p.at ≡ Some k → LastOf (done ++ m ∷ []) p k) (told_empty k) (λ j p other got. other_empty j k p got) i;
-          noted =
-              each_actor w me a (record o.actor { entry = Some (entry_or a.entry (length w.operations)) }) (λ you c. LastLook (done ++ m ∷ []) you c.noted) is mover
-              (λ you c other there. lasts you c other (h.noted you c there));
+          empty_at =
+              each_actor w me a (record o.actor { entry = Some (entry_or a.entry (length w.operations)) }) (λ you c. LastLook (done ++ m ∷ []) you c.empty_at) is mover
+              (λ you c other there. lasts you c other (h.empty_at you c there));
           within = λ you j look. within you j (cases you j look);
         }
       where
@@ -264,8 +264,8 @@ module _ (s : Setup) (n : ℕ) where
       record {
         refused = λ i o got. absurd (none-some o got);
         empty = λ i k o got e at. absurd (none-some o got);
-        noted = λ me a got. (
-          inl (ap (λ (z : Actor). z.noted) (sym (idle_got n (me - 1) a (actor_stands (opening s n) me a got).1))),
+        empty_at = λ me a got. (
+          inl (ap (λ (z : Actor). z.empty_at) (sym (idle_got n (me - 1) a (actor_stands (opening s n) me a got).1))),
           λ j look. absurd (never me j look),
         );
         within = λ me j look. absurd (never me j look);
@@ -281,7 +281,7 @@ refused_at_the_end s n moves =
 pub empty_at_the_last_look : OfOperations AreEmptyAtTheirLastLook
 empty_at_the_last_look s n moves = on (run moves (opening s n)) refl (walked s n (Placed s n) (each s n) (starts s n) moves)
   where
-    one : (w : World) → Placed s n moves w → Kept (Unit {0}) (makers moves) w → (i : ℕ) (o : Stamped) → slice_get w.operations i ≡ Some o → o.reply ≡ Some Empty → (k : ℕ) → o.at ≡ Some k → IsLastLook s n moves o k
+    one : (w : World) → Placed s n moves w → StampsInvariant (Unit {0}) (makers moves) w → (i : ℕ) (o : Stamped) → slice_get w.operations i ≡ Some o → o.reply ≡ Some Empty → (k : ℕ) → o.at ≡ Some k → IsLastLook s n moves o k
     one w h kept i o got e k at =
         let x : ((k ≡ 0) ⊎ IsLook s n moves o.actor k) × ((j last : ℕ) → o.last ≡ Some last → IsLook s n moves o.actor j → j ≤ last → j ≤ k) = h.empty i k o got e at in
         let by : IsBy (makers moves) k o.actor = subst (λ z. IfSome z (λ j. IsBy (makers moves) j o.actor)) at (kept.operations.each i o got).at_own in

@@ -5,8 +5,8 @@ use Rattle.std.proofs.lemmas.Bool.{ltb-true, ltb-false}
 use Rattle.std.proofs.lemmas.List.Sums.{sum_by-set, sum_by-le, get_or-le-sum_by}
 use Rattle.std.specs.List.{sum_by}
 use Rattle.step_machine.specs.Below.{Line, N1, Stamped, Actor, room_after}
-use Rattle.step_machine.specs.Machine.{recorded}
-use Rattle.step_machine.specs.Views.{seeks, seekers, is_unrecorded, unrecorded, HasNodes, HasEntry}
+use Rattle.step_machine.specs.Machine.{with_operation}
+use Rattle.step_machine.specs.Views.{wants_node, wanting_node, is_unrecorded, unrecorded, HasNodes, HasEntry}
 
 -- an element that a list has at an index
 pub got : {X : Type 0} (xs : List X) (i : ℕ) (x : X) → slice_get xs i ≡ Some x → (i < length xs) × ((d : X) → get_or xs i d ≡ x)
@@ -31,7 +31,7 @@ sum_most : {X : Type 0} (f : X → ℕ) (xs : List X) → ((x : X) → f x ≤ 1
 sum_most f xs h = omega (arith, sum_by-le f 1 xs (λ k d _. h (get_or xs k d)))
 
 -- an actor looks for at most one node
-seeks_most : (l : Option Line) → seeks l ≤ 1
+seeks_most : (l : Option Line) → wants_node l ≤ 1
 seeks_most None = omega arith
 seeks_most (Some N1) = omega arith
 seeks_most (Some _) = omega arith
@@ -47,7 +47,7 @@ recorded_none None e = refl
 recorded_none (Some l) e = refl
 
 -- after a begin there is room for the nodes that its actor and the others may look for
-pub begin_nodes : (size fresh room enough : ℕ) (xs : List Actor) (i : ℕ) (a b : Actor) → room ≤ size → slice_get xs i ≡ Some a → seeks a.line ≡ 0 → (seeks b.line ≡ 0) ⊎ (enough ≡ fresh + length xs) → HasNodes size fresh room xs → HasNodes size fresh (room_after size enough room) (set xs i b)
+pub begin_nodes : (size fresh room enough : ℕ) (xs : List Actor) (i : ℕ) (a b : Actor) → room ≤ size → slice_get xs i ≡ Some a → wants_node a.line ≡ 0 → (wants_node b.line ≡ 0) ⊎ (enough ≡ fresh + length xs) → HasNodes size fresh room xs → HasNodes size fresh (room_after size enough room) (set xs i b)
 begin_nodes size fresh room enough xs i a b within at none why (inl full) = go (nat_lt room enough) (nat_lt room size) refl
   where
     go : (c d : Bool) → nat_lt room size ≡ d → HasNodes size fresh (if c && d then room + 1 else room) (set xs i b)
@@ -56,13 +56,13 @@ begin_nodes size fresh room enough xs i a b within at none why (inl full) = go (
     go false d e = inl full
 begin_nodes size fresh room enough xs i a b within at none why (inr some) = go (nat_lt room enough) (nat_lt room size) refl refl
   where
-    sums : seekers (set xs i b) + seeks a.line ≡ seekers xs + seeks b.line
-    sums = sum_set (λ c. seeks c.line) xs i a b at
+    sums : wanting_node (set xs i b) + wants_node a.line ≡ wanting_node xs + wants_node b.line
+    sums = sum_set (λ c. wants_node c.line) xs i a b at
 
-    most : seekers (set xs i b) ≤ length (set xs i b)
-    most = sum_most (λ c. seeks c.line) (set xs i b) (λ c. seeks_most c.line)
+    most : wanting_node (set xs i b) ≤ length (set xs i b)
+    most = sum_most (λ c. wants_node c.line) (set xs i b) (λ c. seeks_most c.line)
 
-    enough_room : (seeks b.line ≡ 0) ⊎ (enough ≡ fresh + length xs) → enough ≤ room → fresh + seekers (set xs i b) ≤ room
+    enough_room : (wants_node b.line ≡ 0) ⊎ (enough ≡ fresh + length xs) → enough ≤ room → fresh + wanting_node (set xs i b) ≤ room
     enough_room (inl zero_b) h = omega (arith, sums)
     enough_room (inr e) h = omega (arith, most, length-set xs i b)
 
@@ -72,10 +72,10 @@ begin_nodes size fresh room enough xs i a b within at none why (inr some) = go (
     go false d e f = let h : enough ≤ room = ltb-false room enough e in inr (enough_room why h)
 
 -- after a step the room for nodes still serves
-pub step_nodes : (size fresh more room : ℕ) (xs : List Actor) (i : ℕ) (a b : Actor) → slice_get xs i ≡ Some a → more + seeks b.line ≤ fresh + seeks a.line → HasNodes size fresh room xs → HasNodes size more room (set xs i b)
+pub step_nodes : (size fresh more room : ℕ) (xs : List Actor) (i : ℕ) (a b : Actor) → slice_get xs i ≡ Some a → more + wants_node b.line ≤ fresh + wants_node a.line → HasNodes size fresh room xs → HasNodes size more room (set xs i b)
 step_nodes size fresh more room xs i a b at h (inl full) = inl full
 step_nodes size fresh more room xs i a b at h (inr some) =
-    let sums : seekers (set xs i b) + seeks a.line ≡ seekers xs + seeks b.line = sum_set (λ c. seeks c.line) xs i a b at in
+    let sums : wanting_node (set xs i b) + wants_node a.line ≡ wanting_node xs + wants_node b.line = sum_set (λ c. wants_node c.line) xs i a b at in
     inr (omega arith)
 
 -- room for one entry an actor is room for the calls without a number
@@ -94,7 +94,7 @@ has_entry len capacity xs i a l at here h =
     go (Some e) g = tt
 
 -- after a step the room for entries still serves
-pub step_entries : (ops : List Stamped) (new : Stamped) (change : Stamped → Stamped) (capacity more : ℕ) (xs : List Actor) (i : ℕ) (a b : Actor) (l : Line) (e : ℕ) → slice_get xs i ≡ Some a → a.line ≡ Some l → b.entry ≡ Some e → length ops + unrecorded xs ≤ capacity → capacity ≤ more → length (recorded a.entry new change ops) + unrecorded (set xs i b) ≤ more
+pub step_entries : (ops : List Stamped) (new : Stamped) (change : Stamped → Stamped) (capacity more : ℕ) (xs : List Actor) (i : ℕ) (a b : Actor) (l : Line) (e : ℕ) → slice_get xs i ≡ Some a → a.line ≡ Some l → b.entry ≡ Some e → length ops + unrecorded xs ≤ capacity → capacity ≤ more → length (with_operation a.entry new change ops) + unrecorded (set xs i b) ≤ more
 step_entries ops new change capacity more xs i a b l e at here after h g =
     go a.entry sums
   where
@@ -104,7 +104,7 @@ step_entries ops new change capacity more xs i a b l e at here after h g =
         sum_set (λ c. is_unrecorded c.line c.entry) xs i a b at ∙
         ap (λ n. unrecorded xs + n) (ap (is_unrecorded b.line) after ∙ recorded_none b.line e)
 
-    go : (entry : Option ℕ) → unrecorded (set xs i b) + is_unrecorded (Some l) entry ≡ unrecorded xs + 0 → length (recorded entry new change ops) + unrecorded (set xs i b) ≤ more
+    go : (entry : Option ℕ) → unrecorded (set xs i b) + is_unrecorded (Some l) entry ≡ unrecorded xs + 0 → length (with_operation entry new change ops) + unrecorded (set xs i b) ≤ more
     go None s = simp length-append (omega arith)
     go (Some k) s = omega (arith, length-set ops k (change (get_or ops k new)))
 

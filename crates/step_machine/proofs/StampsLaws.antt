@@ -7,7 +7,7 @@ use Rattle.step_machine.specs.Below.{Stamped, IsPlaced, AreApart, Placement}
 use Rattle.step_machine.specs.Machine.{World, opening, AnyMove, made, run}
 use Rattle.step_machine.specs.Stamps.{makers, IsBy, IsStamped, HasNoEffect, BeginsBefore, EndedBefore, DoNotOverlap, DoNotOverlapOrRest, AfterMoves, AfterCalls}
 use Rattle.step_machine.proofs.StampsLists.{by_one, all_of}
-use Rattle.step_machine.proofs.StampsKept.{Precedes, Kept}
+use Rattle.step_machine.proofs.StampsInvariants.{Precedes, StampsInvariant}
 use Rattle.step_machine.proofs.StampsMoves.{moves_kept, may_rest_all, calls_rest_never}
 
 -- a fact of the elements at two places is one of all pairs
@@ -16,12 +16,12 @@ pairs_of R xs h i j d lt low =
     h i j (get_or xs i d) (get_or xs j d) lt (slice_get-get_or xs i d (omega arith)) (slice_get-get_or xs j d low)
 
 -- what holds of each world that any moves lead to
-after_moves : (P : List AnyMove → World → Type 0) → ((moves : List AnyMove) (w : World) → Kept (Unit {0}) (makers moves) w → P moves w) → AfterMoves P
+after_moves : (P : List AnyMove → World → Type 0) → ((moves : List AnyMove) (w : World) → StampsInvariant (Unit {0}) (makers moves) w → P moves w) → AfterMoves P
 after_moves P each s actors moves =
     IfSome_then (run moves (opening s actors)) (moves_kept (Unit {0}) s actors moves (may_rest_all moves)) (each moves)
 
 -- what holds of each world that moves without a rest lead to
-after_calls : (P : World → Type 0) → ((K : List ℕ) (w : World) → Kept ⊥ K w → P w) → AfterCalls P
+after_calls : (P : World → Type 0) → ((K : List ℕ) (w : World) → StampsInvariant ⊥ K w → P w) → AfterCalls P
 after_calls P each s actors moves =
     IfSome_then (run (map made moves) (opening s actors)) (moves_kept ⊥ s actors (map made moves) (calls_rest_never moves)) (each (makers (map made moves)))
 

@@ -10,8 +10,8 @@ use Rattle.step_machine.specs.Machine.{World, idle, opening, actor_of, rested, w
 use Rattle.step_machine.specs.Stamps.{makers, HasNoEffect}
 use Rattle.step_machine.proofs.AnyMoves.{after_move}
 use Rattle.step_machine.proofs.Reached.{some_of, actor_stands}
-use Rattle.step_machine.proofs.StampsLines.{Stands, Turns, turned, given_turned}
-use Rattle.step_machine.proofs.StampsKept.{Over, Idle, Knows, Kept, actor_cases, settled_kept}
+use Rattle.step_machine.proofs.StampsLines.{PointAt, Turns, turned, given_turned}
+use Rattle.step_machine.proofs.StampsInvariants.{Over, Idle, OperationAt, StampsInvariant, actor_cases, settled_kept}
 use Rattle.step_machine.proofs.StampsLists.{same_or_not}
 
 -- the makers after one more move
@@ -27,19 +27,19 @@ May Rests (made m) = Unit {0}
 May Rests (Rest me) = Rests
 
 -- a move without a number, of one actor, keeps what holds
-with_actor_kept : (Rests : Type 0) (K : List ℕ) (w : World) (me : ℕ) (a b : Actor) → Kept Rests K w → actor_of w me ≡ Some a → Knows Rests K w.operations me b.line b.entry b.due b.noted → Kept Rests K (with_actor w me b)
+with_actor_kept : (Rests : Type 0) (K : List ℕ) (w : World) (me : ℕ) (a b : Actor) → StampsInvariant Rests K w → actor_of w me ≡ Some a → OperationAt Rests K w.operations me b.line b.entry b.due b.empty_at → StampsInvariant Rests K (with_actor w me b)
 with_actor_kept Rests K w me a b h is k =
     record { counted = h.counted; operations = h.operations; actors = λ you c got. pick you c (actor_cases w me a b is you c got) }
   where
-    pick : (you : ℕ) (c : Actor) → ((you ≡ me) × (b ≡ c)) ⊎ ((you ≢ me) × (actor_of w you ≡ Some c)) → Knows Rests K w.operations you c.line c.entry c.due c.noted
+    pick : (you : ℕ) (c : Actor) → ((you ≡ me) × (b ≡ c)) ⊎ ((you ≢ me) × (actor_of w you ≡ Some c)) → OperationAt Rests K w.operations you c.line c.entry c.due c.empty_at
     pick you c (inl q) =
-        subst (λ m. Knows Rests K w.operations m c.line c.entry c.due c.noted) (sym q.0)
-        (subst (λ z. Knows Rests K w.operations me z.line z.entry z.due z.noted) q.1 k)
+        subst (λ m. OperationAt Rests K w.operations m c.line c.entry c.due c.empty_at) (sym q.0)
+        (subst (λ z. OperationAt Rests K w.operations me z.line z.entry z.due z.empty_at) q.1 k)
     pick you c (inr q) = h.actors you c q.1
 
 -- what is known of an actor
 abbrev KnowsOf : (Rests : Type 0) (K : List ℕ) (ops : List Stamped) (me : ℕ) → Actor → Type 0
-KnowsOf Rests K ops me a = Knows Rests K ops me a.line a.entry a.due a.noted
+KnowsOf Rests K ops me a = OperationAt Rests K ops me a.line a.entry a.due a.empty_at
 
 -- an actor that begins a call has no operation for it yet
 from_pocket_knows : (Rests : Type 0) (K : List ℕ) (ops : List Stamped) (me : ℕ) (l : Line) (held : Option Held) (a : Actor) → KnowsOf Rests K ops me a → ((h : Held) → KnowsOf Rests K ops me (from_pocket l (Some h) a)) → KnowsOf Rests K ops me (from_pocket l held a)
@@ -53,9 +53,9 @@ begun_knows Rests K ops me TwoLock Deq a over = from_pocket_knows Rests K ops me
 begun_knows Rests K ops me NonBlocking Deq a over = from_pocket_knows Rests K ops me F1 a.pocket _ (over, refl) (λ h. (over, refl))
 
 -- an operation that its actor leaves before its node is used has no place
-left_over : (Rests : Type 0) (K : List ℕ) (ops : List Stamped) (me : ℕ) (due : Option Reply) (noted : ℕ) → Rests → (l : Line) → ((at : Option ℕ) (Noted : Type 0) → Stands l due at Noted → at ≡ None) → (entry : Option ℕ) → Knows Rests K ops me (Some l) entry due noted → Idle Rests ops me
-left_over Rests K ops me due noted rest l none None k = k.0
-left_over Rests K ops me due noted rest l none (Some e) k = λ i p got own. pick i p got own (same_or_not i e)
+left_over : (Rests : Type 0) (K : List ℕ) (ops : List Stamped) (me : ℕ) (due : Option Reply) (empty_at : ℕ) → Rests → (l : Line) → ((at : Option ℕ) (Noted : Type 0) → PointAt l due at Noted → at ≡ None) → (entry : Option ℕ) → OperationAt Rests K ops me (Some l) entry due empty_at → Idle Rests ops me
+left_over Rests K ops me due empty_at rest l none None k = k.0
+left_over Rests K ops me due empty_at rest l none (Some e) k = λ i p got own. pick i p got own (same_or_not i e)
   where
     left : HasNoEffect k.0
     left = record { no_last = k.1.no_last; no_place = none k.0.at _ k.2; no_reply = k.1.no_reply }
@@ -65,19 +65,19 @@ left_over Rests K ops me due noted rest l none (Some e) k = λ i p got own. pick
         subst (λ z. Over Rests z) (same_Some k.0 p (sym k.1.here ∙ ap (λ j. slice_get ops j) (sym q) ∙ got)) (inr (rest, left))
     pick i p got own (inr n) = k.1.others i p n got own
 
-rested_kept : (Rests : Type 0) (K : List ℕ) (w : World) (me : ℕ) (a : Actor) (l : Line) → Rests → Kept Rests K w → actor_of w me ≡ Some a → may_rest l ≡ true → Knows Rests K w.operations me (Some l) a.entry a.due a.noted → Kept Rests K (with_actor w me (rested a))
+rested_kept : (Rests : Type 0) (K : List ℕ) (w : World) (me : ℕ) (a : Actor) (l : Line) → Rests → StampsInvariant Rests K w → actor_of w me ≡ Some a → may_rest l ≡ true → OperationAt Rests K w.operations me (Some l) a.entry a.due a.empty_at → StampsInvariant Rests K (with_actor w me (rested a))
 rested_kept Rests K w me a E2 rest h is may k =
     with_actor_kept Rests K w me a (rested a) h is
-    (left_over Rests K w.operations me a.due a.noted rest E2 (λ at Noted stands. stands) a.entry k)
+    (left_over Rests K w.operations me a.due a.empty_at rest E2 (λ at Noted stands. stands) a.entry k)
 rested_kept Rests K w me a A1 rest h is may k =
     with_actor_kept Rests K w me a (rested a) h is
-    (left_over Rests K w.operations me a.due a.noted rest A1 (λ at Noted stands. stands) a.entry k)
+    (left_over Rests K w.operations me a.due a.empty_at rest A1 (λ at Noted stands. stands) a.entry k)
 rested_kept Rests K w me a _ rest h is may k = cc
 
-next_kept : (Rests : Type 0) (K : List ℕ) (w : World) (m : AnyMove) → May Rests m → Kept Rests K w → IfSome (next_any w m) (Kept Rests (after K m))
+next_kept : (Rests : Type 0) (K : List ℕ) (w : World) (m : AnyMove) → May Rests m → StampsInvariant Rests K w → IfSome (next_any w m) (StampsInvariant Rests (after K m))
 next_kept Rests K w m may h =
     IfSome_then (next_any w m)
-    (after_move w (λ m v. May Rests m → Kept Rests (after K m) v)
+    (after_move w (λ m v. May Rests m → StampsInvariant Rests (after K m) v)
     (record {
       began = λ me op a is e call yes. with_actor_kept Rests K w me a _ h is (begun_knows Rests K w.operations me w.setup.kind op a (knows me a None is e));
       step = λ me a l is at yes.
@@ -91,10 +91,10 @@ next_kept Rests K w m may h =
     m)
     (λ v g. g may)
   where
-    knows : (me : ℕ) (a : Actor) (l : Option Line) → actor_of w me ≡ Some a → a.line ≡ l → Knows Rests K w.operations me l a.entry a.due a.noted
-    knows me a l is at = subst (λ x. Knows Rests K w.operations me x a.entry a.due a.noted) at (h.actors me a is)
+    knows : (me : ℕ) (a : Actor) (l : Option Line) → actor_of w me ≡ Some a → a.line ≡ l → OperationAt Rests K w.operations me l a.entry a.due a.empty_at
+    knows me a l is at = subst (λ x. OperationAt Rests K w.operations me x a.entry a.due a.empty_at) at (h.actors me a is)
 
-run_on_kept : (Rests : Type 0) (K L : List ℕ) (more : World → Option World) (o : Option World) → IfSome o (Kept Rests K) → ((v : World) → Kept Rests K v → IfSome (more v) (Kept Rests L)) → IfSome (run_on more o) (Kept Rests L)
+run_on_kept : (Rests : Type 0) (K L : List ℕ) (more : World → Option World) (o : Option World) → IfSome o (StampsInvariant Rests K) → ((v : World) → StampsInvariant Rests K v → IfSome (more v) (StampsInvariant Rests L)) → IfSome (run_on more o) (StampsInvariant Rests L)
 run_on_kept Rests K L more None h each = tt
 run_on_kept Rests K L more (Some v) h each = each v h
 
@@ -104,10 +104,10 @@ after_makers K (made (Step me)) ms = append_assoc K (me ∷ []) (makers ms)
 after_makers K (made (Give me)) ms = append_assoc K (me ∷ []) (makers ms)
 after_makers K (Rest me) ms = refl
 
-run_kept : (Rests : Type 0) (ms : List AnyMove) (K : List ℕ) (w : World) → AllByRecursion (May Rests) ms → Kept Rests K w → IfSome (run ms w) (Kept Rests (K ++ makers ms))
-run_kept Rests [] K w may h = subst (λ L. Kept Rests L w) (sym (append-nil K)) h
+run_kept : (Rests : Type 0) (ms : List AnyMove) (K : List ℕ) (w : World) → AllByRecursion (May Rests) ms → StampsInvariant Rests K w → IfSome (run ms w) (StampsInvariant Rests (K ++ makers ms))
+run_kept Rests [] K w may h = subst (λ L. StampsInvariant Rests L w) (sym (append-nil K)) h
 run_kept Rests (m ∷ ms) K w may h =
-    subst (λ L. IfSome (run_on (run ms) (next_any w m)) (Kept Rests L)) (after_makers K m ms)
+    subst (λ L. IfSome (run_on (run ms) (next_any w m)) (StampsInvariant Rests L)) (after_makers K m ms)
     (run_on_kept Rests (after K m) (after K m ++ makers ms) (run ms) (next_any w m) (next_kept Rests K w m may.0 h)
     (λ v g. run_kept Rests ms (after K m) v may.1 g))
 
@@ -117,7 +117,7 @@ idle_got zero k a got = absurd (none-some a got)
 idle_got (suc n) zero a got = same_Some idle a got
 idle_got (suc n) (suc k) a got = idle_got n k a got
 
-opening_kept : (Rests : Type 0) (s : Setup) (actors : ℕ) → Kept Rests [] (opening s actors)
+opening_kept : (Rests : Type 0) (s : Setup) (actors : ℕ) → StampsInvariant Rests [] (opening s actors)
 opening_kept Rests s actors =
     record {
       counted = refl;
@@ -130,7 +130,7 @@ opening_kept Rests s actors =
     }
 
 -- what holds after each list of moves
-pub moves_kept : (Rests : Type 0) (s : Setup) (actors : ℕ) (moves : List AnyMove) → AllByRecursion (May Rests) moves → IfSome (run moves (opening s actors)) (Kept Rests (makers moves))
+pub moves_kept : (Rests : Type 0) (s : Setup) (actors : ℕ) (moves : List AnyMove) → AllByRecursion (May Rests) moves → IfSome (run moves (opening s actors)) (StampsInvariant Rests (makers moves))
 moves_kept Rests s actors moves may = run_kept Rests moves [] (opening s actors) may (opening_kept Rests s actors)
 
 -- a list of moves may have rests where actors may rest

@@ -15,18 +15,18 @@ use Rattle.line_steps.specs.declared.actors.Setup.{Setup}
 use Rattle.line_steps.specs.declared.actors.Actor.{Actor}
 use Rattle.line_steps.specs.declared.actors.Outcome.{Outcome}
 use Rattle.line_steps.specs.Memory.{Found}
-use Rattle.line_steps.specs.Lines.{action, outcome, goes, ends, effect, sets_aside, lets_go, to_pocket, freed, unlocked, busy_or, gives_up}
+use Rattle.line_steps.specs.Lines.{action, outcome, goes, ends, effect, sets_aside, empties_hand, to_pocket, freed, unlocked, busy_or, gives_up}
 use Rattle.step_machine.specs.TakingEffect.{IsByEffect}
 use Rattle.step_machine.specs.Recording.{looks}
-use Rattle.step_machine.proofs.StampsLines.{Earned, Stands}
+use Rattle.step_machine.proofs.StampsLines.{PointFits, PointAt}
 
 -- what an outcome at a line tells; `looked` is whether the line looks for a node
 pub record Tells (l : Line) (looked : Bool) (now : ℕ) (a : Actor) (o : Outcome) : Type 0 where
   pub refused : (why : Refusal) → o.reply ≡ Some (Refused why) → o.at ≡ Some now
-  pub empty : o.reply ≡ Some Empty → o.at ≡ Some a.noted
-  pub passes : looked ≡ false → o.actor.noted ≡ a.noted
-  pub notes : looked ≡ true → (o.actor.noted ≡ now) × (o.reply ≡ None)
-  pub unplaced : (at : Option ℕ) → Stands l a.due at (Unit {0}) → IsByEffect o.reply ⊎ (at ≡ None)
+  pub empty : o.reply ≡ Some Empty → o.at ≡ Some a.empty_at
+  pub passes : looked ≡ false → o.actor.empty_at ≡ a.empty_at
+  pub notes : looked ≡ true → (o.actor.empty_at ≡ now) × (o.reply ≡ None)
+  pub unplaced : (at : Option ℕ) → PointAt l a.due at (Unit {0}) → IsByEffect o.reply ⊎ (at ≡ None)
 
 both : {l : Line} {looked : Bool} {now : ℕ} {a : Actor} (b : Bool) (x y : Outcome) → Tells l looked now a x → Tells l looked now a y → Tells l looked now a (if b then x else y)
 both true x y hx hy = hx
@@ -39,7 +39,7 @@ false_true : {X : Type 0} → false ≡ true → X
 false_true e = cc
 
 -- a call that goes on
-goes_on : (l : Line) (now : ℕ) (a : Actor) (o : Outcome) → o.reply ≡ None → o.actor.noted ≡ a.noted → Tells l false now a o
+goes_on : (l : Line) (now : ℕ) (a : Actor) (o : Outcome) → o.reply ≡ None → o.actor.empty_at ≡ a.empty_at → Tells l false now a o
 goes_on l now a o none same =
     record {
       refused = λ why e. not_yet o (Refused why) none e;
@@ -50,18 +50,18 @@ goes_on l now a o none same =
     }
 
 -- one that looks for a node
-looks_on : (l : Line) (now : ℕ) (a : Actor) (o : Outcome) → o.reply ≡ None → o.actor.noted ≡ now → Tells l true now a o
-looks_on l now a o none noted =
+looks_on : (l : Line) (now : ℕ) (a : Actor) (o : Outcome) → o.reply ≡ None → o.actor.empty_at ≡ now → Tells l true now a o
+looks_on l now a o none empty_at =
     record {
       refused = λ why e. not_yet o (Refused why) none e;
       empty = λ e. not_yet o Empty none e;
       passes = λ e. false_true (sym e);
-      notes = λ e. (noted, none);
+      notes = λ e. (empty_at, none);
       unplaced = λ at stands. inl (subst IsByEffect (sym none) tt);
     }
 
 -- one that ends
-ends_with : (l : Line) (now : ℕ) (a : Actor) (reply : Reply) (b : Actor) → b.noted ≡ a.noted → ((at : Option ℕ) → Stands l a.due at (Unit {0}) → IsByEffect (Some reply) ⊎ (at ≡ None)) → Tells l false now a (ends now reply b)
+ends_with : (l : Line) (now : ℕ) (a : Actor) (reply : Reply) (b : Actor) → b.empty_at ≡ a.empty_at → ((at : Option ℕ) → PointAt l a.due at (Unit {0}) → IsByEffect (Some reply) ⊎ (at ≡ None)) → Tells l false now a (ends now reply b)
 ends_with l now a Done b same place =
     record { refused = λ why e. cc; empty = λ e. cc; passes = λ e. same; notes = λ e. false_true e; unplaced = place }
 ends_with l now a (Value v) b same place =
@@ -71,7 +71,7 @@ ends_with l now a Empty b same place =
 ends_with l now a (Refused because) b same place =
     record { refused = λ why e. refl; empty = λ e. cc; passes = λ e. same; notes = λ e. false_true e; unplaced = place }
 
-earned_or : (reply : Reply) (at : Option ℕ) → Earned (Some reply) at (Unit {0}) → IsByEffect (Some reply) ⊎ (at ≡ None)
+earned_or : (reply : Reply) (at : Option ℕ) → PointFits (Some reply) at (Unit {0}) → IsByEffect (Some reply) ⊎ (at ≡ None)
 earned_or Done at h = inl tt
 earned_or (Value v) at h = inl tt
 earned_or Empty at h = inr h.0
@@ -80,25 +80,25 @@ earned_or (Refused why) at h = inr h
 aside_tells : {l : Line} {looked : Bool} {now : ℕ} {a : Actor} (o : Outcome) → Tells l looked now a o → Tells l looked now a (sets_aside o)
 aside_tells o t = record { refused = t.refused; empty = t.empty; passes = t.passes; notes = t.notes; unplaced = t.unplaced }
 
-freed_tells : (l : Line) (kind : Kind) (now : ℕ) (a : Actor) (due : Option Reply) (b : Actor) → b.noted ≡ a.noted → ((at : Option ℕ) → Stands l a.due at (Unit {0}) → Earned due at (Unit {0})) → Tells l false now a (freed kind now due b)
+freed_tells : (l : Line) (kind : Kind) (now : ℕ) (a : Actor) (due : Option Reply) (b : Actor) → b.empty_at ≡ a.empty_at → ((at : Option ℕ) → PointAt l a.due at (Unit {0}) → PointFits due at (Unit {0})) → Tells l false now a (freed kind now due b)
 freed_tells l kind now a None b same earns = goes_on l now a (freed kind now None b) refl same
 freed_tells l kind now a (Some reply) b same earns =
     ends_with l now a reply b same (λ at stands. earned_or reply at (earns at stands))
 
-unlocked_tells : (now : ℕ) (a : Actor) (due : Option Reply) (b : Actor) → b.noted ≡ a.noted → ((at : Option ℕ) → Stands B6 a.due at (Unit {0}) → Earned due at (Unit {0})) → Tells B6 false now a (unlocked now due b)
+unlocked_tells : (now : ℕ) (a : Actor) (due : Option Reply) (b : Actor) → b.empty_at ≡ a.empty_at → ((at : Option ℕ) → PointAt B6 a.due at (Unit {0}) → PointFits due at (Unit {0})) → Tells B6 false now a (unlocked now due b)
 unlocked_tells now a None b same earns = goes_on B6 now a _ refl same
 unlocked_tells now a (Some (Value v)) b same earns = goes_on B6 now a _ refl same
 unlocked_tells now a (Some Done) b same earns = ends_with B6 now a Done b same (λ at stands. inl tt)
 unlocked_tells now a (Some Empty) b same earns = ends_with B6 now a Empty b same (λ at stands. inr (earns at stands).0)
 unlocked_tells now a (Some (Refused why)) b same earns = ends_with B6 now a (Refused why) b same (λ at stands. inr (earns at stands))
 
-pushed_tells : (b : Bool) (now : ℕ) (a c : Actor) → c.noted ≡ a.noted → Tells E9 false now a (effect now (if b then ends now Done c else goes E17 c))
+pushed_tells : (b : Bool) (now : ℕ) (a c : Actor) → c.empty_at ≡ a.empty_at → Tells E9 false now a (effect now (if b then ends now Done c else goes E17 c))
 pushed_tells true now a c same =
     record { refused = λ why e. cc; empty = λ e. cc; passes = λ e. same; notes = λ e. false_true e; unplaced = λ at stands. inl tt }
 pushed_tells false now a c same = goes_on E9 now a _ refl same
 
 -- a refusal before a line at which the call has no place
-refuses : (l : Line) (now : ℕ) (a : Actor) (why : Refusal) (b : Actor) → b.noted ≡ a.noted → ((at : Option ℕ) → Stands l a.due at (Unit {0}) → at ≡ None) → Tells l false now a (ends now (Refused why) b)
+refuses : (l : Line) (now : ℕ) (a : Actor) (why : Refusal) (b : Actor) → b.empty_at ≡ a.empty_at → ((at : Option ℕ) → PointAt l a.due at (Unit {0}) → at ≡ None) → Tells l false now a (ends now (Refused why) b)
 refuses l now a why b same none = ends_with l now a (Refused why) b same (λ at stands. inr (none at stands))
 
 -- the outcome of each line
@@ -114,7 +114,7 @@ tells s now me a F1 c =
     (aside_tells (freed s.kind now a.due (record a { top = c })) (freed_tells F1 s.kind now a a.due (record a { top = c }) refl (λ at h. h)))
     (goes_on F1 now a _ refl refl)
 tells s now me a F3 c =
-    both (same_ref c a.top) _ _ (freed_tells F3 s.kind now a a.due (lets_go a) refl (λ at h. h)) (goes_on F3 now a _ refl refl)
+    both (same_ref c a.top) _ _ (freed_tells F3 s.kind now a a.due (empties_hand a) refl (λ at h. h)) (goes_on F3 now a _ refl refl)
 tells s now me a E3 c =
     both (nat_eq c.count s.limit) _ _
     (aside_tells (ends now (Refused (WornOut OfNext)) (record a { mark = c.count })) (refuses E3 now a (WornOut OfNext) (record a { mark = c.count }) refl (λ at h. h)))
@@ -125,7 +125,7 @@ tells s now me a E7 c =
     (both (nat_eq a.tail.count s.limit) _ _ (refuses E7 now a (WornOut OfTail) (to_pocket a) refl (λ at h. h)) (goes_on E7 now a _ refl refl)))
     (goes_on E7 now a _ refl refl)
 tells s now me a E9 c =
-    both (same_ref c a.next) _ _ (pushed_tells (nat_eq a.tail.count s.limit) now a (lets_go (record a { due = Some Done })) refl) (goes_on E9 now a _ refl refl)
+    both (same_ref c a.next) _ _ (pushed_tells (nat_eq a.tail.count s.limit) now a (empties_hand (record a { due = Some Done })) refl) (goes_on E9 now a _ refl refl)
 tells s now me a E17 c = ends_with E17 now a Done a refl (λ at h. inl tt)
 tells s now me a D4 c = looks_on D4 now a _ refl refl
 tells s now me a D5 c =
@@ -146,7 +146,7 @@ tells s now me a B4 c = both (nat_eq a.head.count s.limit) _ _ (goes_on B4 now a
 tells s now me a B6 c = unlocked_tells now a a.due a refl (λ at h. h)
 tells s now me a _ c = goes_on _ now a _ refl refl
 
-busy_or_tells : (now : ℕ) (a : Actor) (due : Option Reply) → ((at : Option ℕ) → Stands F1 a.due at (Unit {0}) → Earned due at (Unit {0})) → IfSome (busy_or now due (to_pocket a)) (Tells F1 false now a)
+busy_or_tells : (now : ℕ) (a : Actor) (due : Option Reply) → ((at : Option ℕ) → PointAt F1 a.due at (Unit {0}) → PointFits due at (Unit {0})) → IfSome (busy_or now due (to_pocket a)) (Tells F1 false now a)
 busy_or_tells now a None earns = refuses F1 now a Busy (to_pocket a) refl (λ at stands. earns at stands)
 busy_or_tells now a (Some reply) earns =
     ends_with F1 now a reply (to_pocket a) refl (λ at stands. earned_or reply at (earns at stands))

@@ -5,8 +5,8 @@ use Rattle.std.proofs.lemmas.Bool.Decides.{eqb_tells}
 use Rattle.std.specs.List.{All}
 use Rattle.step_machine.specs.Below.{IsRef, count_mask, Taken, Node, blank, Shared, Word, Fresh, Free, Head, Tail, Tail_lock, Head_lock, Next, Value_of, Content, content, put, same, Action, load, store, clear, exchange, word, found}
 use Rattle.counted_ref.proofs.Words.{refs_apart, same_word, cleared_word}
-use Rattle.step_machine.specs.Words.{value_word, encoded, node_words, words_of, index, IsWord}
-use Rattle.step_machine.specs.Tables.{place_of, place_step, ValueFits, ContentFits, SharedFits, ActionFits, IsOneStep}
+use Rattle.step_machine.specs.Words.{value_word, encoded, node_words, memory_words, index, IsWord}
+use Rattle.step_machine.specs.Tables.{word_index, word_step, ValueFits, ContentFits, SharedFits, ActionFits, IsOneStep}
 use Rattle.step_machine.proofs.Words.{reading, writing}
 
 equal_values : (a b : Taken) → a.from ≡ b.from → a.body ≡ b.body → a ≡ b
@@ -45,26 +45,26 @@ same_content (Value_of n) a b ha hb = same_value a b ha hb
 
 exchanged : (s : Shared) (x : Word) (old new : Content x) → IsWord s x → ContentFits x (content x s) → ContentFits x old → IsOneStep s (exchange x old new)
 exchanged s x old new h g f =
-    ap words_of (ap (λ b. if b then put x new s else s) (same_content x (content x s) old g f)) ∙
+    ap memory_words (ap (λ b. if b then put x new s else s) (same_content x (content x s) old g f)) ∙
     pushed (nat_eq (encoded x (content x s)) (encoded x old)) ∙
-    ap (λ c. if nat_eq c (encoded x old) then set (words_of s) (index x) (encoded x new) else words_of s) (sym (reading s x h))
+    ap (λ c. if nat_eq c (encoded x old) then set (memory_words s) (index x) (encoded x new) else memory_words s) (sym (reading s x h))
   where
-    pushed : (b : Bool) → words_of (if b then put x new s else s) ≡ (if b then set (words_of s) (index x) (encoded x new) else words_of s)
+    pushed : (b : Bool) → memory_words (if b then put x new s else s) ≡ (if b then set (memory_words s) (index x) (encoded x new) else memory_words s)
     pushed true = writing s x new h
     pushed false = refl
 
 cleared : (s : Shared) (n : ℕ) → IsWord s (Next n) → IsRef (content (Next n) s) → IsOneStep s (clear n)
 cleared s n h g =
     writing s (Next n) (record (content (Next n) s) { node = 0 }) h ∙
-    ap (set (words_of s) (index (Next n))) (sym (cleared_word (content (Next n) s) g)) ∙
-    ap (λ c. set (words_of s) (index (Next n)) (bit_and c count_mask)) (sym (reading s (Next n) h))
+    ap (set (memory_words s) (index (Next n))) (sym (cleared_word (content (Next n) s) g)) ∙
+    ap (λ c. set (memory_words s) (index (Next n)) (bit_and c count_mask)) (sym (reading s (Next n) h))
 
 -- the step of an access is on the place of the word that it names
-pub place-place_step : (a : Action) → place_of (place_step a) ≡ index (word a)
-place-place_step (load x) = refl
-place-place_step (store x c) = refl
-place-place_step (clear n) = refl
-place-place_step (exchange x old new) = refl
+pub place-word_step : (a : Action) → word_index (word_step a) ≡ index (word a)
+place-word_step (load x) = refl
+place-word_step (store x c) = refl
+place-word_step (clear n) = refl
+place-word_step (exchange x old new) = refl
 
 -- an access is one atomic step on the place of the word that it names
 pub one_step : (s : Shared) (a : Action) → IsWord s (word a) → ContentFits (word a) (found a s) → ActionFits a → IsOneStep s a
@@ -112,7 +112,7 @@ nodes_apart (x ∷ xs) (y ∷ ys) f g e =
     λ i. record { next = n i; value = v i } ∷ r i
 
 -- the table determines what the words hold
-pub words_apart : (a b : Shared) → SharedFits a → SharedFits b → words_of a ≡ words_of b → a ≡ b
+pub words_apart : (a b : Shared) → SharedFits a → SharedFits b → memory_words a ≡ memory_words b → a ≡ b
 words_apart a b f g e =
     let free : a.free ≡ b.free = refs_apart a.free b.free (f Free) (g Free) (ap (λ ws. get_or ws 1 0) e) in
     let head : a.head ≡ b.head = refs_apart a.head b.head (f Head) (g Head) (ap (λ ws. get_or ws 2 0) e) in

@@ -2,16 +2,16 @@
 use Rattle.std.proofs.Common.{◌≡◌, ◌≢◌, ℕ, zero, suc, ◌+◌, ◌-◌, nat_eq, nat_lt, List, [], ◌∷◌, length, get_or, set, Option, Some, None, IfSome, refl, sym, ap, ◌∙◌, subst, arith, ◌⊎◌, inl, inr}
 use Rattle.std.specs.List.{All}
 use Rattle.std.proofs.lemmas.List.Elements.{All-set, All-replicate}
-use Rattle.step_machine.specs.Below.{Ref, is_null, same_ref, Kind, TwoLock, NonBlocking, Line, N1, N2, N3, N4, N5, F1, F2, F3, E2, E5, D2, A1, A2, A3, A4, A5, A6, A7, B1, B2, B3, B4, B5, B6, section_of, Op, Enq, Deq, Reply, Done, Setup, Node, Held, Actor, Outcome, blank, Shared, found, performed, node_at, action, outcome, goes, with_node, takes, freed, unlocked, lets_go, to_pocket, busy_or, gives_up, from_pocket, begun}
-use Rattle.step_machine.specs.Machine.{World, opening, actor_of, rested, with_actor, entry_or, settled, IsReached}
-use Rattle.step_machine.specs.Standing.{IsRunBy}
+use Rattle.step_machine.specs.Below.{Ref, is_null, same_ref, Kind, TwoLock, NonBlocking, Line, N1, N2, N3, N4, N5, F1, F2, F3, E2, E5, D2, A1, A2, A3, A4, A5, A6, A7, B1, B2, B3, B4, B5, B6, section_of, Op, Enq, Deq, Reply, Done, Setup, Node, Held, Actor, Outcome, blank, Shared, found, performed, node_at, action, outcome, goes, with_node, fills_hand, freed, unlocked, empties_hand, to_pocket, busy_or, gives_up, from_pocket, begun}
+use Rattle.step_machine.specs.Machine.{World, opening, actor_of, rested, with_actor, entry_or, after_outcome, IsReached}
+use Rattle.step_machine.specs.ProgramCounters.{IsRunBy}
 use Rattle.step_machine.specs.TwoLock.{OfTwoLockWorlds, CountsNothing}
 use Rattle.step_machine.proofs.Choices.{both}
 use Rattle.step_machine.proofs.Reached.{some_of, actor_stands}
-use Rattle.step_machine.proofs.StampsKept.{actor_cases}
+use Rattle.step_machine.proofs.StampsInvariants.{actor_cases}
 use Rattle.step_machine.proofs.StampsMoves.{idle_got}
 use Rattle.step_machine.proofs.Reaching.{each_reached}
-use Rattle.step_machine.proofs.TwoLockSound.{nodes_at}
+use Rattle.step_machine.proofs.TwoLockInvariant.{nodes_at}
 
 -- the counts of Tail and of each `next` are 0
 pub record NoCounts (m : Shared) : Type 0 where
@@ -72,7 +72,7 @@ unlocked_marks now (Some Done) a g = same _ a g refl refl refl
 unlocked_marks now _ a g = same _ a g refl refl refl
 
 -- an actor that takes a node
-taken : (l : Line) (node mark : ℕ) (a : Actor) → MarksNothing a → mark ≡ 0 → Marks (goes l (takes node mark a))
+taken : (l : Line) (node mark : ℕ) (a : Actor) → MarksNothing a → mark ≡ 0 → Marks (goes l (fills_hand node mark a))
 taken l node mark a g e = record { actor = record { mark = e; next = g.next; pocket = g.pocket } }
 
 marks : (s : Setup) (now me : ℕ) (m : Shared) (a : Actor) (l : Line) → IsRunBy (section_of l) TwoLock → NoCounts m → MarksNothing a → Marks (outcome s now me a l (found (action s me a l) m))
@@ -87,7 +87,7 @@ marks s now me m a F1 r h g =
     (let x : Marks (freed s.kind now a.due (record a { top = m.free })) = freed_marks s.kind now a.due (record a { top = m.free }) g in record { actor = record { mark = x.actor.mark; next = x.actor.next; pocket = x.actor.pocket } })
     (same _ a g refl refl refl)
 marks s now me m a F2 r h g = same _ a g refl refl refl
-marks s now me m a F3 r h g = both Marks (same_ref m.free a.top) (freed_marks s.kind now a.due (lets_go a) g) (same _ a g refl refl refl)
+marks s now me m a F3 r h g = both Marks (same_ref m.free a.top) (freed_marks s.kind now a.due (empties_hand a) g) (same _ a g refl refl refl)
 marks s now me m a A1 r h g = same _ a g refl refl refl
 marks s now me m a A2 r h g = same _ a g refl refl refl
 marks s now me m a A3 r h g = both Marks (nat_eq m.tail_lock 0) (same _ a g refl refl refl) (same _ a g refl refl refl)
@@ -138,7 +138,7 @@ pub record Uncounted (w : World) : Type 0 where
   pub shared : NoCounts w.shared
   pub actors : (me : ℕ) (a : Actor) → actor_of w me ≡ Some a → MarksNothing a
 
-settled_uncounted : (w : World) (me : ℕ) (a : Actor) (m : Shared) (o : Outcome) → actor_of w me ≡ Some a → Uncounted w → NoCounts m → Marks o → Uncounted (settled w me a m o)
+settled_uncounted : (w : World) (me : ℕ) (a : Actor) (m : Shared) (o : Outcome) → actor_of w me ≡ Some a → Uncounted w → NoCounts m → Marks o → Uncounted (after_outcome w me a m o)
 settled_uncounted w me a m o is u h g =
     record { shared = h; actors = λ you c got. pick you c (actor_cases w me a (record o.actor { entry = Some (entry_or a.entry (length w.operations)) }) is you c got) }
   where

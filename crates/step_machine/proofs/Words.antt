@@ -1,7 +1,7 @@
 -- Each access of a word is the access of its place in the table.
 use Rattle.std.proofs.Common.{◌≡◌, ℕ, zero, suc, ◌+◌, ◌-◌, ◌*◌, ◌<◌, ◌≤◌, List, [], ◌∷◌, length, get_or, set, refl, sym, ap, subst, arith}
 use Rattle.step_machine.specs.Below.{Ref, ref_word, Taken, Node, blank, Shared, Word, Next, Value_of, Content, content, put}
-use Rattle.step_machine.specs.Words.{value_word, encoded, node_words, words_of, index, IsWord}
+use Rattle.step_machine.specs.Words.{value_word, encoded, node_words, memory_words, index, IsWord}
 
 next_word : (ns : List Node) (k : ℕ) → k < length ns → get_or (node_words ns) (2 * k) 0 ≡ ref_word (get_or ns k blank).next
 next_word [] k h = absurd (omega arith)
@@ -37,7 +37,7 @@ before s ws =
     s.fresh ∷ ref_word s.free ∷ ref_word s.head ∷ ref_word s.tail ∷ s.tail_lock ∷ s.head_lock ∷ ws
 
 -- reading a word is reading its place of the table
-pub reading : (s : Shared) (x : Word) → IsWord s x → get_or (words_of s) (index x) 0 ≡ encoded x (content x s)
+pub reading : (s : Shared) (x : Word) → IsWord s x → get_or (memory_words s) (index x) 0 ≡ encoded x (content x s)
 reading s (Next zero) h = let some : 1 ≤ 0 = h.0 in absurd (omega arith)
 reading s (Next (suc k)) h =
     let within : suc k ≤ length s.nodes = h.1 in
@@ -53,7 +53,7 @@ reading s (Value_of (suc k)) h =
 reading s _ h = refl
 
 -- writing a word is writing its place of the table
-pub writing : (s : Shared) (x : Word) (c : Content x) → IsWord s x → words_of (put x c s) ≡ set (words_of s) (index x) (encoded x c)
+pub writing : (s : Shared) (x : Word) (c : Content x) → IsWord s x → memory_words (put x c s) ≡ set (memory_words s) (index x) (encoded x c)
 writing s (Next zero) c h = let some : 1 ≤ 0 = h.0 in absurd (omega arith)
 writing s (Next (suc k)) c h =
     let within : suc k ≤ length s.nodes = h.1 in

@@ -16,15 +16,15 @@ use Rattle.line_steps.specs.declared.actors.Setup.{Setup}
 use Rattle.line_steps.specs.declared.actors.Actor.{Actor}
 use Rattle.line_steps.specs.declared.actors.Outcome.{Outcome}
 use Rattle.line_steps.specs.Memory.{Found, Shared, found, performed}
-use Rattle.line_steps.specs.Lines.{action, outcome, goes, takes, lets_go, to_pocket, with_node, freed, unlocked, busy_or, gives_up}
-use Rattle.step_machine.specs.Machine.{World, actor_of, new_operation, told, recorded, settled, IsReached}
-use Rattle.step_machine.specs.Standing.{IsRunBy}
+use Rattle.line_steps.specs.Lines.{action, outcome, goes, fills_hand, empties_hand, to_pocket, with_node, freed, unlocked, busy_or, gives_up}
+use Rattle.step_machine.specs.Machine.{World, actor_of, new_operation, with_outcome, with_operation, after_outcome, IsReached}
+use Rattle.step_machine.specs.ProgramCounters.{IsRunBy}
 use Rattle.step_machine.specs.TwoLock.{OfTwoLockWorlds}
 use Rattle.step_machine.specs.Locks.{IsOfFreeOrHead, FindsFreeOrHeadWornOut, RefusedForFreeOrHead}
 use Rattle.step_machine.proofs.Reached.{some_of}
 use Rattle.step_machine.proofs.Reaching.{each_reached}
-use Rattle.step_machine.proofs.Fixed.{FixedAt, EarnedFreeing, EarnedUnlocking}
-use Rattle.step_machine.proofs.TwoLockSound.{Proved, nodes_at, reached_sound}
+use Rattle.step_machine.proofs.Fixed.{FixedAt, DecidedFreeing, DecidedUnlocking}
+use Rattle.step_machine.proofs.TwoLockInvariant.{ReachedInvariant, nodes_at, reached_invariant}
 
 -- an outcome's reply says of no word but Free and Head that it is worn out
 record Says (o : Outcome) : Type 0 where
@@ -38,7 +38,7 @@ with_node_says : (kind : Kind) (a : Actor) → Says (goes (with_node kind) a)
 with_node_says TwoLock a = record { says = tt }
 with_node_says NonBlocking a = record { says = tt }
 
-freed_says : (kind : Kind) (now : ℕ) (due : Option Reply) (a : Actor) → EarnedFreeing due → IsOfFreeOrHead (freed kind now due a).reply
+freed_says : (kind : Kind) (now : ℕ) (due : Option Reply) (a : Actor) → DecidedFreeing due → IsOfFreeOrHead (freed kind now due a).reply
 freed_says TwoLock now None a h = tt
 freed_says NonBlocking now None a h = tt
 freed_says kind now (Some Done) a h = tt
@@ -46,7 +46,7 @@ freed_says kind now (Some (Value v)) a h = tt
 freed_says kind now (Some Empty) a h = tt
 freed_says kind now (Some (Refused why)) a h = absurd h
 
-unlocked_says : (now : ℕ) (due : Option Reply) (a : Actor) → EarnedUnlocking due → Says (unlocked now due a)
+unlocked_says : (now : ℕ) (due : Option Reply) (a : Actor) → DecidedUnlocking due → Says (unlocked now due a)
 unlocked_says now None a h = record { says = tt }
 unlocked_says now (Some Done) a h = record { says = tt }
 unlocked_says now (Some (Value v)) a h = record { says = tt }
@@ -59,12 +59,12 @@ line_says s now me a N1 c r f = record { says = tt }
 line_says s now me a N2 c r f =
     both (is_null c) _ _ (both (nat_lt a.f s.size) _ _ (record { says = tt }) (record { says = tt })) (both (nat_eq c.count s.limit) _ _ (record { says = tt }) (record { says = tt }))
 line_says s now me a N3 c r f = record { says = tt }
-line_says s now me a N4 c r f = both (same_ref c a.top) _ _ (with_node_says s.kind (takes a.top.node a.next.count a)) (record { says = tt })
-line_says s now me a N5 c r f = both (nat_eq c a.f) _ _ (with_node_says s.kind (takes (a.f + 1) 0 a)) (record { says = tt })
+line_says s now me a N4 c r f = both (same_ref c a.top) _ _ (with_node_says s.kind (fills_hand a.top.node a.next.count a)) (record { says = tt })
+line_says s now me a N5 c r f = both (nat_eq c a.f) _ _ (with_node_says s.kind (fills_hand (a.f + 1) 0 a)) (record { says = tt })
 line_says s now me a F1 c r f =
     both (nat_eq c.count s.limit) _ _ (record { says = freed_says s.kind now a.due (record a { top = c }) f.earned }) (record { says = tt })
 line_says s now me a F2 c r f = record { says = tt }
-line_says s now me a F3 c r f = both (same_ref c a.top) _ _ (record { says = freed_says s.kind now a.due (lets_go a) f.earned }) (record { says = tt })
+line_says s now me a F3 c r f = both (same_ref c a.top) _ _ (record { says = freed_says s.kind now a.due (empties_hand a) f.earned }) (record { says = tt })
 line_says s now me a A1 c r f = record { says = tt }
 line_says s now me a A2 c r f = record { says = tt }
 line_says s now me a A3 c r f = both (nat_eq c 0) _ _ (record { says = tt }) (record { says = tt })
@@ -80,7 +80,7 @@ line_says s now me a B5 c r f = record { says = tt }
 line_says s now me a B6 c r f = unlocked_says now a.due a f.earned
 line_says s now me a _ c r f = absurd r
 
-busy_or_says : (now : ℕ) (due : Option Reply) (a : Actor) → EarnedFreeing due → IfSome (busy_or now due a) Says
+busy_or_says : (now : ℕ) (due : Option Reply) (a : Actor) → DecidedFreeing due → IfSome (busy_or now due a) Says
 busy_or_says now None a h = record { says = tt }
 busy_or_says now (Some Done) a h = record { says = tt }
 busy_or_says now (Some (Value v)) a h = record { says = tt }
@@ -100,7 +100,7 @@ given_says limit now me a _ f = tt
 -- what the registers of an actor have
 fixed_at : (w : World) (r : IsReached w) (e : w.setup.kind ≡ TwoLock) (me : ℕ) (a : Actor) (l : Line) → actor_of w me ≡ Some a → a.line ≡ Some l → FixedAt w.setup.limit me a (Some l)
 fixed_at w r e me a l is at =
-    let p : Proved (λ w q. Unit {0}) (λ w k. Unit {0}) w = reached_sound w r e in
+    let p : ReachedInvariant (λ w q. Unit {0}) (λ w k. Unit {0}) w = reached_invariant w r e in
     subst (FixedAt w.setup.limit me a) at (p.sound.actors me a is).fixed
 
 pub find_free_or_head : OfTwoLockWorlds FindsFreeOrHeadWornOut
@@ -111,12 +111,12 @@ find_free_or_head w r e me a l is at =
 abbrev ForFreeOrHead : Stamped → Type 0
 ForFreeOrHead o = IsOfFreeOrHead o.reply
 
-recorded_all : (entry : Option ℕ) (new : Stamped) (change : Stamped → Stamped) (ops : List Stamped) → All ForFreeOrHead ops → ((o : Stamped) → ForFreeOrHead (change o)) → All ForFreeOrHead (recorded entry new change ops)
+recorded_all : (entry : Option ℕ) (new : Stamped) (change : Stamped → Stamped) (ops : List Stamped) → All ForFreeOrHead ops → ((o : Stamped) → ForFreeOrHead (change o)) → All ForFreeOrHead (with_operation entry new change ops)
 recorded_all None new change ops h each = All-append ForFreeOrHead ops (change new ∷ []) h (All-cons ForFreeOrHead (change new) [] (each new) (All-nil ForFreeOrHead))
 recorded_all (Some e) new change ops h each = All-set ForFreeOrHead ops e (change (slice_index_or ops e new)) (each (slice_index_or ops e new)) h
 
-settled_all : (w : World) (me : ℕ) (a : Actor) (m : Shared) (o : Outcome) → RefusedForFreeOrHead w → IsOfFreeOrHead o.reply → RefusedForFreeOrHead (settled w me a m o)
-settled_all w me a m o h g = recorded_all a.entry (new_operation me a.op (w.steps + 1)) (told (w.steps + 1) o) w.operations h (λ x. g)
+settled_all : (w : World) (me : ℕ) (a : Actor) (m : Shared) (o : Outcome) → RefusedForFreeOrHead w → IsOfFreeOrHead o.reply → RefusedForFreeOrHead (after_outcome w me a m o)
+settled_all w me a m o h g = recorded_all a.entry (new_operation me a.op (w.steps + 1)) (with_outcome (w.steps + 1) o) w.operations h (λ x. g)
 
 pub refused_for_free_or_head : OfTwoLockWorlds RefusedForFreeOrHead
 refused_for_free_or_head =

@@ -19,16 +19,16 @@ pub use Rattle.history.specs.declared.operations.Stamped.{Stamped}
 pub use Rattle.history.specs.declared.operations.Entry.{Entry}
 pub use Rattle.history.specs.declared.operations.Entry.TheVariants.{Push, Pop}
 pub use Rattle.history.specs.Limits.{body_bits, actor_bits}
-pub use Rattle.history.specs.Queue.{empty, Queue, given, front_of}
+pub use Rattle.history.specs.Queue.{empty, Queue, response, front_of}
 pub use Rattle.history.specs.Entries.{is_push, is_pop, Plays}
-pub use Rattle.history.specs.History.{rising, Replays, replayed, IsPlaced, leaves, inserted, Placement, IsLegal, number_of, answer, Gets, AreApart}
+pub use Rattle.history.specs.History.{by_point, IsSequentialRun, queue_after, IsPlaced, leaves, inserted, Placement, IsLegal, point_or_zero, answer, AgreesWithQueue, AreApart}
 pub use Rattle.line_steps.specs.declared.actors.Setup.{Setup}
 pub use Rattle.line_steps.specs.declared.actors.Node.{Node}
 pub use Rattle.line_steps.specs.declared.actors.Held.{Held}
 pub use Rattle.line_steps.specs.declared.actors.Actor.{Actor}
 pub use Rattle.line_steps.specs.declared.actors.Outcome.{Outcome}
 pub use Rattle.line_steps.specs.Memory.{found, Shared, node_at, nobody, performed, blank, word, Word, Fresh, Free, Head, Tail, Tail_lock, Head_lock, Next, Value_of, Content, content, put, Action, load, store, clear, exchange, Found, same}
-pub use Rattle.line_steps.specs.Lines.{action, outcome, gives_up, to_pocket, raised, goes, ends, effect, lets_go, sets_aside, with_node, dequeues, freed, unlocked, busy_or, takes}
+pub use Rattle.line_steps.specs.Lines.{action, outcome, gives_up, to_pocket, raised, goes, ends, effect, empties_hand, sets_aside, with_node, dequeues, freed, unlocked, busy_or, fills_hand}
 pub use Rattle.line_steps.specs.Calling.{is_call, begun, from_pocket}
 pub use Rattle.line_steps.specs.Rooms.{first_words, aside_after, first_memory, room_after}
-pub use Rattle.line_steps.specs.Ready.{IsReady}
+pub use Rattle.line_steps.specs.Ready.{RegistersFit}

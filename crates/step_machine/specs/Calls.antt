@@ -13,8 +13,8 @@ IsUnsized s actors =
     ((s.size < 2) ⊎ (reserved_node ≤ s.size)) ⊎ ((s.limit < 1) ⊎ (2 ^ count_bits ≤ s.limit)) ⊎ ((actors < 1) ⊎ (2 ^ actor_bits ≤ actors))
 
 -- the setup of a machine, by its parts
-abbrev pub setup_of : Kind → (nodes limit : ℕ) → Setup
-setup_of kind nodes limit = record { kind = kind; size = nodes; limit = limit }
+abbrev pub setup_from : Kind → (nodes limit : ℕ) → Setup
+setup_from kind nodes limit = record { kind = kind; size = nodes; limit = limit }
 
 -- a new world is refused for this cause: a size is out of its range, or memory was refused where all are in theirs
 abbrev pub NewRefused : Setup → (actors : ℕ) → Refusal → Type 0
@@ -84,13 +84,13 @@ line_of None = None
 line_of (Some a) = a.line
 
 -- what a step of an actor is told as, where it can be taken
-abbrev pub step_told : World → (me : ℕ) → Option Actor → Option Stepped
-step_told w me None = None
-step_told w me (Some a) = told_at w me a a.line
+abbrev pub step_answer : World → (me : ℕ) → Option Actor → Option Stepped
+step_answer w me None = None
+step_answer w me (Some a) = answer_at w me a a.line
   where
-    told_at : World → ℕ → Actor → Option Line → Option Stepped
-    told_at w me a None = None
-    told_at w me a (Some l) =
+    answer_at : World → ℕ → Actor → Option Line → Option Stepped
+    answer_at w me a None = None
+    answer_at w me a (Some l) =
         Some (stepped_at l (outcome w.setup (w.steps + 1) me a l (found (action w.setup me a l) w.shared)).reply)
 
 -- the reply of an outcome, where there is one
@@ -105,7 +105,7 @@ ended_at (Some l) None = None
 ended_at (Some l) (Some reply) = Some (Ended l reply)
 
 -- what a move is told as, where it can be made
-abbrev pub move_told : World → Move → Option Stepped
-move_told w (Begin me op) = Some Began
-move_told w (Step me) = step_told w me (actor_of w me)
-move_told w (Give me) = ended_at (line_of (actor_of w me)) (reply_of (giving_up w (actor_of w me)))
+abbrev pub move_answer : World → Move → Option Stepped
+move_answer w (Begin me op) = Some Began
+move_answer w (Step me) = step_answer w me (actor_of w me)
+move_answer w (Give me) = ended_at (line_of (actor_of w me)) (reply_of (giving_up w (actor_of w me)))

@@ -1,10 +1,10 @@
 -- What the laws of both queues say of each world.
 use Rattle.std.specs.Prelude.{◌≡◌, ℕ, ◌+◌, ◌<◌, List, [], Option, Some, None, IfSome}
-use Rattle.step_machine.specs.Below.{Ref, Line, N4, F3, E9, E13, E17, D10, D13, B5, WornWord, OfFree, OfNext, OfTail, OfHead, Refusal, NoNode, WornOut, Reply, Refused, empty, rising, Replays, replayed, Actor, node_at, found, action, outcome}
+use Rattle.step_machine.specs.Below.{Ref, Line, N4, F3, E9, E13, E17, D10, D13, B5, WornWord, OfFree, OfNext, OfTail, OfHead, Refusal, NoNode, WornOut, Reply, Refused, empty, by_point, IsSequentialRun, queue_after, Actor, node_at, found, action, outcome}
 use Rattle.step_machine.specs.Machine.{World, actor_of}
 use Rattle.step_machine.specs.Places.{IsChain, IsQueued, IsFree, Places}
 use Rattle.step_machine.specs.Chains.{queue_values}
-use Rattle.step_machine.specs.Promises.{promises, values_taken}
+use Rattle.step_machine.specs.Completion.{completion, values_taken}
 
 -- there are a chain from Head and one from Free, and each node used is in one place, once
 abbrev pub HasItsPlaces : World → Type 0
@@ -60,8 +60,8 @@ RefusesWithCause w =
 abbrev pub ReplaysToItsValues : World → Type 0
 ReplaysToItsValues w =
     (queue : List ℕ) → IsChain w.shared.nodes w.shared.head.node queue →
-    Replays empty (rising (promises w)) × (replayed empty (rising (promises w)) ≡ record { values = queue_values w.shared queue })
+    IsSequentialRun empty (by_point (completion w)) × (queue_after empty (by_point (completion w)) ≡ record { values = queue_values w.shared queue })
 
 -- Head's count is the number of values taken, those of calls under way too
 abbrev pub CountsValuesTaken : World → Type 0
-CountsValuesTaken w = w.shared.head.count ≡ values_taken (promises w)
+CountsValuesTaken w = w.shared.head.count ≡ values_taken (completion w)

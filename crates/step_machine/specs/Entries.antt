@@ -1,11 +1,11 @@
 -- The entries of a world: the pushes and the pops of its operations that had their effect.
 use Rattle.std.specs.Prelude.{ℕ, ◌+◌, ◌<◌, ◌≤◌, List, [], ◌∷◌, Option, Some}
 use Rattle.std.specs.List.{count_by, flat_map}
-use Rattle.step_machine.specs.Below.{Op, Enq, Deq, Reply, Done, Value, Stamped, Entry, Push, Pop, empty, is_push, is_pop, Plays, rising}
+use Rattle.step_machine.specs.Below.{Op, Enq, Deq, Reply, Done, Value, Stamped, Entry, Push, Pop, empty, is_push, is_pop, Plays, by_point}
 use Rattle.step_machine.specs.Machine.{World}
 use Rattle.step_machine.specs.Places.{IsChain}
 use Rattle.step_machine.specs.Chains.{queue_values}
-use Rattle.step_machine.specs.Promises.{promises}
+use Rattle.step_machine.specs.Completion.{completion}
 
 -- the entry of an enqueue that is done
 abbrev pub pushed_by : (me : ℕ) → Op → List Entry
@@ -24,7 +24,7 @@ entry_of o = entry_with o.actor o.op o.reply
 
 -- the entries of all operations that had their effect, by rising place, with the replies that their calls have earned
 abbrev pub entries : World → List Entry
-entries w = flat_map entry_of (rising (promises w))
+entries w = flat_map entry_of (by_point (completion w))
 
 -- the entries lead from the empty queue to the values in the chain from Head
 abbrev pub PlaysToItsValues : World → Type 0

@@ -8,7 +8,7 @@ abbrev pub OfEachWorld : (World → Type 0) → Type 0
 OfEachWorld P = (w : World) → IsReached w → P w
 
 -- a fact holds of each history: of either queue, of any size, limit and number of actors in range, after any list of
--- begins, steps, givings up and rests
+-- begins, steps, give moves and rests
 abbrev pub OfEachHistory : (List Stamped → Type 0) → Type 0
 OfEachHistory P =
     (s : Setup) (actors : ℕ) (moves : List AnyMove) → IsSized s actors → IfSome (run moves (opening s actors)) (λ w. P w.operations)

@@ -28,7 +28,7 @@ idle =
       head = null;
       next = null;
       val = nobody;
-      noted = 0;
+      empty_at = 0;
       due = None;
       holds = false;
       pocket = None;
@@ -65,18 +65,18 @@ last_of now None = None
 last_of now (Some reply) = Some now
 
 -- what is settled now, and else what was settled before
-abbrev pub first_settled : Option ℕ → Option ℕ → Option ℕ
-first_settled None before = before
-first_settled (Some now) before = Some now
+abbrev pub latest_point : Option ℕ → Option ℕ → Option ℕ
+latest_point None before = before
+latest_point (Some now) before = Some now
 
 -- an operation that is told the outcome of a step
-abbrev pub told : (now : ℕ) → Outcome → Stamped → Stamped
-told now o s = record s { last = last_of now o.reply; at = first_settled o.at s.at; reply = o.reply }
+abbrev pub with_outcome : (now : ℕ) → Outcome → Stamped → Stamped
+with_outcome now o s = record s { last = last_of now o.reply; at = latest_point o.at s.at; reply = o.reply }
 
 -- the operations after a step: a call's first step adds its operation, a later one changes it
-abbrev pub recorded : Option ℕ → Stamped → (Stamped → Stamped) → List Stamped → List Stamped
-recorded None new change ops = ops ++ change new ∷ []
-recorded (Some entry) new change ops = slice_set ops entry (change (slice_index_or ops entry new))
+abbrev pub with_operation : Option ℕ → Stamped → (Stamped → Stamped) → List Stamped → List Stamped
+with_operation None new change ops = ops ++ change new ∷ []
+with_operation (Some entry) new change ops = slice_set ops entry (change (slice_index_or ops entry new))
 
 -- where a call's operation stands, which is at the end of the list where it has no number yet
 abbrev pub entry_or : Option ℕ → ℕ → ℕ
@@ -88,21 +88,21 @@ abbrev pub with_actor : World → (me : ℕ) → Actor → World
 with_actor w me a = record w { actors = slice_set w.actors (me - 1) a }
 
 -- the world after an actor, which was `a`, was told an outcome at the next number, with these shared words
-abbrev pub settled : World → (me : ℕ) → (a : Actor) → Shared → Outcome → World
-settled w me a shared o =
+abbrev pub after_outcome : World → (me : ℕ) → (a : Actor) → Shared → Outcome → World
+after_outcome w me a shared o =
     record {
       setup = w.setup;
       steps = w.steps + 1;
       shared = shared;
       actors = slice_set w.actors (me - 1) (record o.actor { entry = Some (entry_or a.entry (length w.operations)) });
       aside = aside_after w.aside o.aside;
-      operations = recorded a.entry (new_operation me a.op (w.steps + 1)) (told (w.steps + 1) o) w.operations;
+      operations = with_operation a.entry (new_operation me a.op (w.steps + 1)) (with_outcome (w.steps + 1) o) w.operations;
     }
 
 -- the world after one step of an actor at a line
 abbrev pub stepped : World → (me : ℕ) → Actor → Line → World
 stepped w me a l =
-    settled w me a (performed (action w.setup me a l) w.shared)
+    after_outcome w me a (performed (action w.setup me a l) w.shared)
     (outcome w.setup (w.steps + 1) me a l (found (action w.setup me a l) w.shared))
 
 -- the world after an actor without a call begins one
@@ -118,7 +118,7 @@ steps w me a (Some l) = Some (stepped w me a l)
 -- the world after an actor gave up with an outcome
 abbrev pub given : World → (me : ℕ) → Actor → Option Outcome → Option World
 given w me a None = None
-given w me a (Some o) = Some (settled w me a w.shared o)
+given w me a (Some o) = Some (after_outcome w me a w.shared o)
 
 -- the world after an actor that has a call gives up
 abbrev pub gives : World → (me : ℕ) → Actor → Option Line → Option World

@@ -15,10 +15,10 @@ IsAt w n Held = IsHeld w n
 IsAt w n SetAside = IsSetAside w n
 
 -- whether something is there is told by how often it is there
-abbrev pub Tells : Bool → ℕ → Type 0
-Tells is_there often = (is_there ≡ true → 1 ≤ often) × (is_there ≡ false → often ≡ 0)
+abbrev pub TellsWhetherThere : Bool → ℕ → Type 0
+TellsWhetherThere is_there often = (is_there ≡ true → 1 ≤ often) × (is_there ≡ false → often ≡ 0)
 
 -- whether a node is in the chain that starts at another one is told, if that chain has no more nodes than these
 abbrev pub TellsOfChain : Bool → List Node → (from node most : ℕ) → Type 0
 TellsOfChain is_there nodes from node most =
-    (ns : List ℕ) → IsChain nodes from ns → length ns ≤ most → Tells is_there (times node ns)
+    (ns : List ℕ) → IsChain nodes from ns → length ns ≤ most → TellsWhetherThere is_there (times node ns)

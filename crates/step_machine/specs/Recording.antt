@@ -15,7 +15,7 @@ use Rattle.step_machine.specs.declared.actors.Move.{Move}
 use Rattle.step_machine.specs.declared.actors.Move.TheVariants.{Begin, Step}
 use Rattle.step_machine.specs.declared.actors.Stepped.TheVariants.{Ended}
 use Rattle.step_machine.specs.Machine.{World, opening, actor_of, mover, AnyMove, made, Rest, run}
-use Rattle.step_machine.specs.Calls.{move_told}
+use Rattle.step_machine.specs.Calls.{move_answer}
 use Rattle.step_machine.specs.Stamps.{numbered_by}
 
 -- an operation that was refused has its place at its last number
@@ -86,7 +86,7 @@ pub record IsEnd (s : Setup) (actors : ℕ) (moves : List AnyMove) (me number : 
   pub led : run before (opening s actors) ≡ Some world
   pub numbered : number ≡ world.steps + 1
   pub own : mover move ≡ me
-  pub told : move_told world move ≡ Some (Ended line reply)
+  pub told : move_answer world move ≡ Some (Ended line reply)
 
 -- each operation that ended has the number and the reply of a move of its actor that ended a call
 abbrev pub EndAsTold : Setup → (actors : ℕ) → List AnyMove → List Stamped → Type 0

@@ -12,8 +12,8 @@ use Rattle.step_machine.specs.Stamps.{makers, IsBy}
 use Rattle.step_machine.specs.TakingEffect.{TookEffect, IsByEffect}
 
 -- a number lies in an operation: it isn't before its first number, nor after its last one
-abbrev pub LiesIn : (number : ℕ) → Stamped → Type 0
-LiesIn number o = (o.first ≤ number) × IfSome o.last (λ last. number ≤ last)
+abbrev pub NumberLiesIn : (number : ℕ) → Stamped → Type 0
+NumberLiesIn number o = (o.first ≤ number) × IfSome o.last (λ last. number ≤ last)
 
 -- a number comes before each operation of an actor that begins after this one
 abbrev pub ComesBeforeNext : List Stamped → (number : ℕ) → Stamped → Type 0
@@ -32,12 +32,12 @@ pub record IsOfExactlyOne (ops : List Stamped) (me : ℕ) (P : Stamped → Type 
 -- each number that an actor's move took lies in exactly one operation of that actor
 abbrev pub NumbersLieInOne : Setup → (actors : ℕ) → List AnyMove → List Stamped → Type 0
 NumbersLieInOne s actors moves ops =
-    (number me : ℕ) → IsBy (makers moves) number me → IsOfExactlyOne ops me (LiesIn number)
+    (number me : ℕ) → IsBy (makers moves) number me → IsOfExactlyOne ops me (NumberLiesIn number)
 
 -- the same where actors may rest: an operation reaches to the next one of its actor at most
 abbrev pub NumbersLieInOneBeforeNext : Setup → (actors : ℕ) → List AnyMove → List Stamped → Type 0
 NumbersLieInOneBeforeNext s actors moves ops =
-    (number me : ℕ) → IsBy (makers moves) number me → IsOfExactlyOne ops me (λ o. LiesIn number o × ComesBeforeNext ops number o)
+    (number me : ℕ) → IsBy (makers moves) number me → IsOfExactlyOne ops me (λ o. NumberLiesIn number o × ComesBeforeNext ops number o)
 
 -- a line is one at which this call has its effect on the queue: E9 or A5 of an enqueue, D13 or B5 of a dequeue
 abbrev pub IsEffectLineOf : Op → Line → Type 0
@@ -60,5 +60,5 @@ ArePlacedAtTheirLines s actors moves ops =
 -- each step that had an effect gave its number as the place to the operation of its actor in which the number lies
 abbrev pub EffectsGivePlaces : Setup → (actors : ℕ) → List AnyMove → List Stamped → Type 0
 EffectsGivePlaces s actors moves ops =
-    (i number : ℕ) (o : Stamped) → slice_get ops i ≡ Some o → LiesIn number o → ComesBeforeNext ops number o →
+    (i number : ℕ) (o : Stamped) → slice_get ops i ≡ Some o → NumberLiesIn number o → ComesBeforeNext ops number o →
     TookEffect s actors moves o.actor number → o.at ≡ Some number

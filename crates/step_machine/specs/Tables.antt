@@ -2,35 +2,35 @@
 use Rattle.std.specs.Prelude.{◌≡◌, ℕ, ◌^◌, ◌<◌, List, nat_eq, Some, slice_index_or, slice_set, bit_and, if◌then◌else◌}
 use Rattle.step_machine.specs.Below.{body_bits, actor_bits, IsRef, count_mask, Line, Taken, Actor, Shared, Word, Fresh, Free, Head, Tail, Tail_lock, Head_lock, Next, Value_of, Content, content, put, Action, load, store, clear, exchange, word, found, performed, action}
 use Rattle.step_machine.specs.Machine.{World, actor_of}
-use Rattle.step_machine.specs.Words.{encoded, words_of, index, IsWord}
+use Rattle.step_machine.specs.Words.{encoded, memory_words, index, IsWord}
 
 -- one atomic step on a place of a table: a load, a store, a fetch_and, or a compare-exchange
-pub data PlaceStep : Type 0 where
-  load_at : (place : ℕ) → PlaceStep
-  store_at : (place word : ℕ) → PlaceStep
-  and_at : (place mask : ℕ) → PlaceStep
-  exchange_at : (place old new : ℕ) → PlaceStep
+pub data WordStep : Type 0 where
+  load_at : (place : ℕ) → WordStep
+  store_at : (place word : ℕ) → WordStep
+  and_at : (place mask : ℕ) → WordStep
+  exchange_at : (place old new : ℕ) → WordStep
 
 -- the place of a step
-abbrev pub place_of : PlaceStep → ℕ
-place_of (load_at p) = p
-place_of (store_at p w) = p
-place_of (and_at p mask) = p
-place_of (exchange_at p old new) = p
+abbrev pub word_index : WordStep → ℕ
+word_index (load_at p) = p
+word_index (store_at p w) = p
+word_index (and_at p mask) = p
+word_index (exchange_at p old new) = p
 
 -- the table after a step
-abbrev pub table_after : PlaceStep → List ℕ → List ℕ
+abbrev pub table_after : WordStep → List ℕ → List ℕ
 table_after (load_at p) ws = ws
 table_after (store_at p w) ws = slice_set ws p w
 table_after (and_at p mask) ws = slice_set ws p (bit_and (slice_index_or ws p 0) mask)
 table_after (exchange_at p old new) ws = if nat_eq (slice_index_or ws p 0) old then slice_set ws p new else ws
 
 -- the step of an access
-abbrev pub place_step : Action → PlaceStep
-place_step (load x) = load_at (index x)
-place_step (store x c) = store_at (index x) (encoded x c)
-place_step (clear n) = and_at (index (Next n)) count_mask
-place_step (exchange x old new) = exchange_at (index x) (encoded x old) (encoded x new)
+abbrev pub word_step : Action → WordStep
+word_step (load x) = load_at (index x)
+word_step (store x c) = store_at (index x) (encoded x c)
+word_step (clear n) = and_at (index (Next n)) count_mask
+word_step (exchange x old new) = exchange_at (index x) (encoded x old) (encoded x new)
 
 -- a value fits a word: its actor 16 bits, its body 48
 pub record ValueFits (v : Taken) : Type 0 where
@@ -67,15 +67,15 @@ pub record AccessFits (s : Shared) (a : Action) : Type 0 where
 
 -- reading the word is reading the number at its place of the table
 abbrev pub IsReadAtItsPlace : Shared → Word → Type 0
-IsReadAtItsPlace s x = slice_index_or (words_of s) (index x) 0 ≡ encoded x (content x s)
+IsReadAtItsPlace s x = slice_index_or (memory_words s) (index x) 0 ≡ encoded x (content x s)
 
 -- writing a content into the word is writing its number at the word's place of the table
 abbrev pub IsWrittenAtItsPlace : Shared → (x : Word) → Content x → Type 0
-IsWrittenAtItsPlace s x c = words_of (put x c s) ≡ slice_set (words_of s) (index x) (encoded x c)
+IsWrittenAtItsPlace s x c = memory_words (put x c s) ≡ slice_set (memory_words s) (index x) (encoded x c)
 
 -- an access makes of the table what its one step on one place makes of it
 abbrev pub IsOneStep : Shared → Action → Type 0
-IsOneStep s a = words_of (performed a s) ≡ table_after (place_step a) (words_of s)
+IsOneStep s a = memory_words (performed a s) ≡ table_after (word_step a) (memory_words s)
 
 -- this is so of the next access of each actor that has a call
 abbrev pub OfEachNextAccess : World → (Action → Type 0) → Type 0

@@ -54,7 +54,7 @@ abbrev pub OfOperations : (Setup → ℕ → List AnyMove → List Stamped → T
 OfOperations P =
     (s : Setup) (actors : ℕ) (moves : List AnyMove) → IfSome (run moves (opening s actors)) (λ w. P s actors moves w.operations)
 
--- a fact holds of the operations after any list of begins, steps and givings up
+-- a fact holds of the operations after any list of begins, steps and give moves
 abbrev pub OfOperationsOfCalls : (Setup → ℕ → List AnyMove → List Stamped → Type 0) → Type 0
 OfOperationsOfCalls P =
     (s : Setup) (actors : ℕ) (moves : List Move) → IfSome (run (map made moves) (opening s actors)) (λ w. P s actors (map made moves) w.operations)

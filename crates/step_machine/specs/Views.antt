@@ -2,20 +2,20 @@
 use Rattle.std.specs.Prelude.{◌≡◌, ℕ, ◌+◌, ◌-◌, ◌<◌, ◌≤◌, ◌⊎◌, List, Option, Some, None, slice_set, slice_get, nat_eq, if◌then◌else◌}
 use Rattle.std.specs.List.{sum_by}
 use Rattle.step_machine.specs.Below.{Line, N1, N2, N3, N4, N5, Op, Stamped, Actor, Outcome}
-use Rattle.step_machine.specs.Machine.{entry_or, new_operation, told, recorded}
+use Rattle.step_machine.specs.Machine.{entry_or, new_operation, with_outcome, with_operation}
 
 -- whether an actor at a line still looks for a node, as a number
-abbrev pub seeks : Option Line → ℕ
-seeks (Some N1) = 1
-seeks (Some N2) = 1
-seeks (Some N3) = 1
-seeks (Some N4) = 1
-seeks (Some N5) = 1
-seeks _ = 0
+abbrev pub wants_node : Option Line → ℕ
+wants_node (Some N1) = 1
+wants_node (Some N2) = 1
+wants_node (Some N3) = 1
+wants_node (Some N4) = 1
+wants_node (Some N5) = 1
+wants_node _ = 0
 
 -- how many actors still look for a node
-abbrev pub seekers : List Actor → ℕ
-seekers actors = sum_by (λ a. seeks a.line) actors
+abbrev pub wanting_node : List Actor → ℕ
+wanting_node actors = sum_by (λ a. wants_node a.line) actors
 
 -- whether an actor has a call without a number, as a number
 abbrev pub is_unrecorded : Option Line → Option ℕ → ℕ
@@ -29,7 +29,7 @@ unrecorded actors = sum_by (λ a. is_unrecorded a.line a.entry) actors
 
 -- there is room for every node, or for those used and one more for each actor that looks for one
 abbrev pub HasNodes : (size fresh room : ℕ) → List Actor → Type 0
-HasNodes size fresh room actors = (room ≡ size) ⊎ (fresh + seekers actors ≤ room)
+HasNodes size fresh room actors = (room ≡ size) ⊎ (fresh + wanting_node actors ≤ room)
 
 -- a call's operation stands in the list already, or there is room for it
 abbrev pub HasEntry : Option ℕ → (len capacity : ℕ) → Type 0
@@ -41,9 +41,9 @@ abbrev pub actor_in : List Actor → ℕ → Option Actor
 actor_in actors me = if nat_eq me 0 then None else slice_get actors (me - 1)
 
 -- the actors after one of them was told an outcome, with its entry in a list of operations that was so long
-abbrev pub actors_told : (me : ℕ) → (entry : Option ℕ) → (len : ℕ) → Outcome → List Actor → List Actor
-actors_told me entry len o actors = slice_set actors (me - 1) (record o.actor { entry = Some (entry_or entry len) })
+abbrev pub actors_after : (me : ℕ) → (entry : Option ℕ) → (len : ℕ) → Outcome → List Actor → List Actor
+actors_after me entry len o actors = slice_set actors (me - 1) (record o.actor { entry = Some (entry_or entry len) })
 
 -- the operations after the call of an actor was told an outcome
-abbrev pub operations_told : (me : ℕ) → Op → (entry : Option ℕ) → (now : ℕ) → Outcome → List Stamped → List Stamped
-operations_told me op entry now o operations = recorded entry (new_operation me op now) (told now o) operations
+abbrev pub operations_after : (me : ℕ) → Op → (entry : Option ℕ) → (now : ℕ) → Outcome → List Stamped → List Stamped
+operations_after me op entry now o operations = with_operation entry (new_operation me op now) (with_outcome now o) operations

@@ -23,8 +23,8 @@ node_words [] = []
 node_words (n ∷ ns) = ref_word n.next ∷ value_word n.value ∷ node_words ns
 
 -- all shared words, in the order of the table
-abbrev pub words_of : Shared → List ℕ
-words_of s =
+abbrev pub memory_words : Shared → List ℕ
+memory_words s =
     s.fresh ∷ ref_word s.free ∷ ref_word s.head ∷ ref_word s.tail ∷ s.tail_lock ∷ s.head_lock ∷ node_words s.nodes
 
 -- the place of a word in the table

@@ -11,7 +11,7 @@ use std::sync::{Mutex, MutexGuard, Wait};
 pub type Bench = Mutex<World>;
 
 /// Locks a bench, and lends its world until the guard is dropped. Whatever other threads did before, the world is one
-/// that begins, steps and givings up led to, so every law of worlds holds of it.
+/// that begins, steps and give moves led to, so every law of worlds holds of it.
 ///
 /// Waits while another thread has the lock. Takes no memory.
 pub fn on_bench<'b, R: Wait>(rt: &R, bench: &'b Bench) -> MutexGuard<'b, World>

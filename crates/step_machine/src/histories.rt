@@ -9,7 +9,7 @@ ghost use Rattle.step_machine.specs.Histories.{OfEachHistory, OfEachWorld};
 ghost use Rattle.step_machine.specs.Entries.{AreFew, PlaysToItsValues};
 
 /// Every history is linearizable: of either queue, of any size, greatest count and number of actors in range, and after
-/// any list of begins, steps, givings up and rests, in any order and with any actor stopped anywhere.
+/// any list of begins, steps, give moves and rests, in any order and with any actor stopped anywhere.
 ///
 /// So there is an order of all completed operations and some pending ones, each once, in which an operation that ended
 /// before another began comes first, and which is a run of one first-in-first-out list that gives every reply given.
@@ -18,7 +18,7 @@ pub fn every_history_is_linearizable()
 {}
 
 /// Every history is placed and legal: of either queue, of any size, greatest count and number of actors in range, and
-/// after any list of begins, steps, givings up and rests, in any order and with any actor stopped anywhere.
+/// after any list of begins, steps, give moves and rests, in any order and with any actor stopped anywhere.
 ///
 /// So all completed operations and some pending ones, each placed at one step between its first and its last, are a
 /// run of one first-in-first-out list that gives every reply given.
@@ -29,7 +29,7 @@ pub fn every_history_is_placed_and_legal()
 
 /// Which operations have a place, and where. One that is done or got a value has it at the number of a step of its own
 /// actor that had an effect on the queue: a successful E9 or D13, or an A5 or B5. A pending one has such a place or
-/// none; after begins, steps and givings up it has one exactly if its actor took such a step since its first number.
+/// none; after begins, steps and give moves it has one exactly if its actor took such a step since its first number.
 pub fn operations_are_placed_by_their_effects()
     ensures places { OfOperations ArePlacedByEffect }
     ensures effects { OfOperationsOfCalls HaveTheirEffect }

@@ -2,10 +2,10 @@
 ghost use Rattle.std.specs.Prelude.{◌≡◌, ◌<◌, ◌≤◌, Some};
 ghost use Rattle.line_steps.specs.Memory.{Shared, Word, Content, Action, word};
 ghost use Rattle.step_machine.specs.Machine.{World, IsReached};
-ghost use Rattle.step_machine.specs.Words.{words_of, index, IsWord};
+ghost use Rattle.step_machine.specs.Words.{memory_words, index, IsWord};
 ghost use Rattle.step_machine.specs.Range.{WorldInRange};
-ghost use Rattle.step_machine.specs.Standing.{EachRunsItsQueue, EachNamesAWord, EachIsOneStep};
-ghost use Rattle.step_machine.specs.Tables.{place_of, place_step, IsOneStep, OfEachNextAccess};
+ghost use Rattle.step_machine.specs.ProgramCounters.{EachRunsItsQueue, EachNamesAWord, EachIsOneStep};
+ghost use Rattle.step_machine.specs.Tables.{word_index, word_step, IsOneStep, OfEachNextAccess};
 ghost use Rattle.step_machine.specs.Tables.{SharedFits, ActionFits, AccessFits};
 ghost use Rattle.step_machine.specs.Tables.{IsReadAtItsPlace, IsWrittenAtItsPlace};
 
@@ -27,12 +27,12 @@ pub fn writing_a_word_is_writing_its_place()
 /// An access of a word of the table, whose contents fit, is one atomic step on the place of that word.
 pub fn an_access_is_one_step_on_its_place()
     ensures step { (s : Shared) (a : Action) → AccessFits s a → IsOneStep s a }
-    ensures place { (a : Action) → place_of (place_step a) ≡ index (word a) }
+    ensures place { (a : Action) → word_index (word_step a) ≡ index (word a) }
 {}
 
 /// Shared words whose contents fit, and whose tables are the same, hold the same.
 pub fn words_determine_contents()
-    ensures { (a b : Shared) → SharedFits a → SharedFits b → words_of a ≡ words_of b → a ≡ b }
+    ensures { (a b : Shared) → SharedFits a → SharedFits b → memory_words a ≡ memory_words b → a ≡ b }
 {}
 
 /// In a world that any moves lead to, what the words hold fits them, and so does what the next access of an actor

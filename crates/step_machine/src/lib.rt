@@ -8,7 +8,7 @@ pub mod laws;
 mod moving;
 pub mod non_blocking_laws;
 mod places;
-mod settling;
+mod committing;
 pub mod solo;
 pub mod stamping;
 pub mod two_lock_laws;

@@ -2,7 +2,7 @@
 ghost use Rattle.std.specs.Prelude.{◌≡◌, ◌^◌, ◌<◌, Some, OnOk, OnErr, IfOk, IfErr};
 ghost use Rattle.step_machine.specs.declared.actors.Move.TheVariants.{Give};
 ghost use Rattle.step_machine.specs.Machine.{next};
-ghost use Rattle.step_machine.specs.Calls.{MoveRefused, move_told};
+ghost use Rattle.step_machine.specs.Calls.{MoveRefused, move_answer};
 
 use crate::actors::{Move, Stepped};
 use crate::world::World;
@@ -16,7 +16,7 @@ use history::Refusal;
 pub fn step_in(world: &mut World, one: Move) -> Result<Stepped, Refusal>
     ensures ok { OnOk result (next world.old one ≡ Some world.new) }
     ensures numbered { OnOk result (world.new.steps < 2 ^ 64) }
-    ensures told { IfOk result (λ s. move_told world.old one ≡ Some s) }
+    ensures told { IfOk result (λ s. move_answer world.old one ≡ Some s) }
     ensures err { OnErr result (world.new ≡ world.old) }
     ensures refused { IfErr result (MoveRefused world.old one) }
 {
@@ -34,7 +34,7 @@ pub fn step_in(world: &mut World, one: Move) -> Result<Stepped, Refusal>
 fn give_in(world: &mut World, actor: u16) -> Result<Stepped, Refusal>
     ensures ok { OnOk result (next world.old (Give actor) ≡ Some world.new) }
     ensures numbered { OnOk result (world.new.steps < 2 ^ 64) }
-    ensures told { IfOk result (λ s. move_told world.old (Give actor) ≡ Some s) }
+    ensures told { IfOk result (λ s. move_answer world.old (Give actor) ≡ Some s) }
     ensures err { OnErr result (world.new ≡ world.old) }
     ensures refused { IfErr result (MoveRefused world.old (Give actor)) }
 {

@@ -1,7 +1,7 @@
 //! Where a node is, and how that is found out.
 ghost use Rattle.std.specs.Prelude.{◌≡◌, ◌+◌};
 ghost use Rattle.step_machine.specs.Places.{in_hand, in_pocket, held};
-ghost use Rattle.step_machine.specs.Placing.{Tells, TellsOfChain};
+ghost use Rattle.step_machine.specs.Placing.{TellsWhetherThere, TellsOfChain};
 
 use line_steps::{Actor, Memory};
 
@@ -39,7 +39,7 @@ pub fn is_in_chain(memory: &Memory, from: u32, node: u32, most: u32) -> bool
 
 /// Whether an actor has a node in its hand or in its pocket.
 fn has(actor: &Actor, node: u32) -> bool
-    ensures { Tells result (in_hand node actor.now + in_pocket node actor.now.pocket) }
+    ensures { TellsWhetherThere result (in_hand node actor.now + in_pocket node actor.now.pocket) }
 {
     if actor.holds && actor.node == node {
         return true;
@@ -52,7 +52,7 @@ fn has(actor: &Actor, node: u32) -> bool
 
 /// Whether an actor has a node.
 pub fn is_held(actors: &Vec<Actor>, node: u32) -> bool
-    ensures { Tells result (held node actors.now.items) }
+    ensures { TellsWhetherThere result (held node actors.now.items) }
 {
     for actor in actors {
         if has(actor, node) {

@@ -1,5 +1,5 @@
 //! Laws of the two-lock queue, over all worlds that any moves lead to: any setup and number of actors in range, and
-//! any list of begins, steps, givings up and rests. Each is the contract of a function that does nothing.
+//! any list of begins, steps, give moves and rests. Each is the contract of a function that does nothing.
 ghost use Rattle.history.specs.History.{IsLegal};
 ghost use Rattle.step_machine.specs.EachQueue.{HasItsPlaces, KeepsQueueAndFreeApart};
 ghost use Rattle.step_machine.specs.EachQueue.{RaisesBelowTheLimit, RefusesWithCause};

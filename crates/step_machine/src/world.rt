@@ -4,11 +4,11 @@ ghost use Rattle.line_steps.specs.Memory.{Fresh, Free, Head, Tail, Next, Value_o
 ghost use Rattle.step_machine.specs.declared.actors.Move.TheVariants.{Begin, Step, Give};
 ghost use Rattle.step_machine.specs.Machine.{opening, next, actor_of, IsSized, IsMade};
 ghost use Rattle.line_table.specs.declared.lines.Line.TheVariants.{N1};
-ghost use Rattle.step_machine.specs.Calls.{setup_of, NewRefused, BeginRefused, StepRefused, GiveRefused, stepped_at, step_told, giving_up, reply_of, line_of};
+ghost use Rattle.step_machine.specs.Calls.{setup_from, NewRefused, BeginRefused, StepRefused, GiveRefused, stepped_at, step_answer, giving_up, reply_of, line_of};
 ghost use Rattle.step_machine.specs.Solo.{EndsAlone};
 
 use crate::actors::{Move, Stepped};
-use crate::settling::{Call, actor_at, idle_actors, put_actor, settle};
+use crate::committing::{Call, actor_at, idle_actors, put_actor, commit};
 use counted_ref::{CountedRef, MOST_COUNT, MOST_NODE};
 use history::{MOST_ACTOR, Op, Refusal, Reply, Stamped, Taken};
 use line_steps::{Actor, Held, Memory, Setup, begun, gives_up, stepped};
@@ -36,15 +36,15 @@ impl Model for World {
 
     ghost Value = { Worlds };
 
-    ghost use Rattle.step_machine.specs.Kept.{world, IsKept};
+    ghost use Rattle.step_machine.specs.Stored.{world, StoredInvariant};
 
     ghost view = { world };
 
-    ghost invariant = { IsKept };
+    ghost invariant = { StoredInvariant };
 }
 
 /// What a step at a line with this reply is told as.
-fn told_at(line: Line, reply: Option<Reply>) -> Stepped
+fn answer_at(line: Line, reply: Option<Reply>) -> Stepped
     ensures { result ≡ stepped_at line reply }
 {
     match reply {
@@ -96,9 +96,9 @@ impl World {
         limit: u64,
         actors: u32,
     ) -> Result<World, Refusal>
-        ensures ok { IfOk result (λ w. w ≡ opening (setup_of kind nodes limit) actors) }
-        ensures sized { OnOk result (IsSized (setup_of kind nodes limit) actors) }
-        ensures refused { IfErr result (NewRefused (setup_of kind nodes limit) actors) }
+        ensures ok { IfOk result (λ w. w ≡ opening (setup_from kind nodes limit) actors) }
+        ensures sized { OnOk result (IsSized (setup_from kind nodes limit) actors) }
+        ensures refused { IfErr result (NewRefused (setup_from kind nodes limit) actors) }
     {
         if nodes < 2 || nodes > MOST_NODE {
             return Err(Refusal::BadSize);
@@ -170,7 +170,7 @@ impl World {
     pub fn step(&mut self, actor: u16) -> Result<Stepped, Refusal>
         ensures ok { OnOk result (next self.old (Step actor) ≡ Some self.new) }
         ensures numbered { OnOk result (self.new.steps < 2 ^ 64) }
-        ensures told { IfOk result (λ s. step_told self.old actor (actor_of self.old actor) ≡ Some s) }
+        ensures told { IfOk result (λ s. step_answer self.old actor (actor_of self.old actor) ≡ Some s) }
         ensures err { OnErr result (self.new ≡ self.old) }
         ensures refused { IfErr result (StepRefused self.old actor) }
     {
@@ -191,8 +191,8 @@ impl World {
             entry: a.entry,
         };
         let outcome = stepped(&mut self.memory, setup, now, actor, *a, line);
-        let told = told_at(line, outcome.reply);
-        settle(
+        let told = answer_at(line, outcome.reply);
+        commit(
             &mut self.memory,
             &mut self.actors,
             &mut self.operations,
@@ -234,7 +234,7 @@ impl World {
         let told = outcome.reply;
         let Some(reply) = told else { unreachable!() };
         let call = Call { actor, op, entry };
-        settle(
+        commit(
             &mut self.memory,
             &mut self.actors,
             &mut self.operations,

@@ -2,6 +2,6 @@ pub mod Numerals
 pub mod Cuts
 pub mod Digits
 pub mod Faults
-pub mod Kept
+pub mod ReadingBack
 pub mod Single
 pub mod Total

@@ -4,7 +4,7 @@ use Rattle.std.proofs.lemmas.List.Elements.{All-head, All-tail}
 use Rattle.text_lines.specs.declared.causes.TextCause.{TextCause}
 use Rattle.text_lines.specs.declared.causes.TextCause.TheVariants.{End, Form, Range, Extra}
 use Rattle.text_lines.specs.Lines.{HasNo, line}
-use Rattle.text_lines.specs.Grammars.{Grammar, AreDue, state_after, lines_of, IsText, IsWrongLine, IsFault, IsFirstFault, IsSound}
+use Rattle.text_lines.specs.Grammars.{Grammar, AreDue, state_after, lines_of, IsText, IsWrongLine, IsFault, IsFirstFault, IsSoundGrammar}
 
 -- the line at the front of a text is one
 front_line : (x y a b : List ℕ) → HasNo 10 x → HasNo 10 y → line x ++ a ≡ line y ++ b → (x ≡ y) × (a ≡ b)
@@ -29,7 +29,7 @@ no_line text x a none split = by x (subst (HasNo 10) split none)
 not_both : (b : Bool) → b ≡ true → b ≡ false → ⊥
 not_both b holds fails = let same : true ≡ false = sym holds ∙ fails in absurd cc
 
-module _ {S R : Type 0} (g : Grammar S R) (sound : IsSound g) where
+module _ {S R : Type 0} (g : Grammar S R) (sound : IsSoundGrammar g) where
   -- how a text ends after the lines read: by nothing more, or by a fault
   Ends : S → List ℕ → Option TextCause → Type 0
   Ends s rest None = (g.is_due s ≡ false) × (rest ≡ [])

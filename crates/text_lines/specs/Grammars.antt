@@ -68,6 +68,6 @@ pub record IsFirstFault {S R : Type 0} (g : Grammar S R) (s : S) (text : List �
   pub fault : IsFault g (state_after g s before) rest cause
 
 -- the words of a line tell what it says, and have no line feed
-pub record IsSound {S R : Type 0} (g : Grammar S R) : Type 0 where
+pub record IsSoundGrammar {S R : Type 0} (g : Grammar S R) : Type 0 where
   pub no_feed : (s : S) (r : R) → g.may_say s r → HasNo 10 (g.words r)
   pub one : (s : S) (r q : R) → g.may_say s r → g.may_say s q → g.words r ≡ g.words q → r ≡ q

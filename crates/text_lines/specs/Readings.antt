@@ -8,19 +8,19 @@ abbrev pub IsSpelled : {V : Type 0} → (V → List ℕ) → List ℕ → V → 
 IsSpelled spelling bytes v = bytes ≡ spelling v
 
 -- a value is kept where it is in range, and else none is
-abbrev pub IsKept : {V : Type 0} → (V → Type 0) → V → Option V → Type 0
-IsKept InRange v kept = MatchOption kept (¬ InRange v) (λ x. (x ≡ v) × InRange v)
+abbrev pub ReadsBack : {V : Type 0} → (V → Type 0) → V → Option V → Type 0
+ReadsBack InRange v kept = MatchOption kept (¬ InRange v) (λ x. (x ≡ v) × InRange v)
 
 -- a value was read, and is kept where it is in range; or there is none to be read
 abbrev pub Reads : {V : Type 0} → (V → Type 0) → (V → Type 0) → Result (Option V) TextCause → Type 0
 Reads {V} IsThere InRange result = MatchResult result
-    (λ kept. (v : V) × IsThere v × IsKept InRange v kept)
+    (λ kept. (v : V) × IsThere v × ReadsBack InRange v kept)
     (λ why. (why ≡ Form) × ((v : V) → ¬ IsThere v))
 
 -- the same at the front of the words of a line, of which others are left
 abbrev pub ReadsWords : {V : Type 0} → (V → List (List ℕ)) → (V → Type 0) → List (List ℕ) → List (List ℕ) → Result (Option V) TextCause → Type 0
 ReadsWords {V} words InRange old new result = MatchResult result
-    (λ kept. (v : V) × (old ≡ words v ++ new) × IsKept InRange v kept)
+    (λ kept. (v : V) × (old ≡ words v ++ new) × ReadsBack InRange v kept)
     (λ why. (why ≡ Form) × ((v : V) (rest : List (List ℕ)) → old ≢ words v ++ rest))
 
 -- what is wrong with a line: it says nothing, or something that is out of range

@@ -1,6 +1,6 @@
 //! Laws of numbers, words and grammars, each the contract of a function that does nothing.
 ghost use Rattle.std.specs.Prelude.{◌≡◌, ◌↔◌, ℕ, List, ◌∷◌, All};
-ghost use Rattle.text_lines.specs.Grammars.{Grammar, IsFirstFault, IsSound, IsText};
+ghost use Rattle.text_lines.specs.Grammars.{Grammar, IsFirstFault, IsSoundGrammar, IsText};
 ghost use Rattle.text_lines.specs.Lines.{HasNo, spaced, words_of};
 ghost use Rattle.text_lines.specs.Numerals.{numeral, IsPlain};
 ghost use Rattle.text_lines.specs.declared.causes.TextCause.{TextCause};
@@ -34,17 +34,17 @@ pub trait LineGrammar {
 
 /// Where the words of a line tell what it says, and have no line feed, a text is the lines of one list at most.
 pub fn a_text_is_of_one_list<G: LineGrammar>()
-    ensures { (s : G.State) (rs qs : List G.Said) (text : List ℕ) → IsSound G.grammar
+    ensures { (s : G.State) (rs qs : List G.Said) (text : List ℕ) → IsSoundGrammar G.grammar
         → IsText G.grammar s rs text → IsText G.grammar s qs text → rs ≡ qs }
 {}
 
 /// There the first faulty line of a text is one, and wrong for one cause, and the lines of a list have none.
 pub fn a_text_has_one_first_fault<G: LineGrammar>()
-    ensures one { (s : G.State) (text : List ℕ) (m n : ℕ) (c d : TextCause) → IsSound G.grammar
+    ensures one { (s : G.State) (text : List ℕ) (m n : ℕ) (c d : TextCause) → IsSoundGrammar G.grammar
         → IsFirstFault G.grammar s text m c → IsFirstFault G.grammar s text n d
         → (m ≡ n) × (c ≡ d) }
     ensures none { (s : G.State) (rs : List G.Said) (text : List ℕ) (n : ℕ) (c : TextCause)
-        → IsSound G.grammar → IsText G.grammar s rs text → ¬ IsFirstFault G.grammar s text n c }
+        → IsSoundGrammar G.grammar → IsText G.grammar s rs text → ¬ IsFirstFault G.grammar s text n c }
 {}
 
 /// In every grammar at all, a text is the lines of a list or has a first faulty line: it can't be that it is neither.

@@ -1,7 +1,7 @@
 //! Decimal numbers of any length.
 ghost use Rattle.std.specs.Prelude.{◌≡◌, ◌≢◌, ℕ, ◌+◌, ◌*◌, ◌≤◌, ◌<◌, MatchResult};
 ghost use Rattle.text_lines.specs.Numerals.{numeral, Shows, IsWithin};
-ghost use Rattle.text_lines.specs.Readings.{IsKept, IsSpelled, Reads};
+ghost use Rattle.text_lines.specs.Readings.{ReadsBack, IsSpelled, Reads};
 
 use crate::causes::TextCause;
 
@@ -37,7 +37,7 @@ fn number_of(word: &[u8]) -> Result<Option<u64>, TextCause>
 
 /// The number, where it lies from `low` to `high`.
 fn ranged(number: Option<u64>, low: u64, high: u64) -> Option<u64>
-    ensures { (n : ℕ) → Shows n number → IsKept (IsWithin low high) n result }
+    ensures { (n : ℕ) → Shows n number → ReadsBack (IsWithin low high) n result }
 {
     match number {
         Some(number) if low <= number && number <= high => Some(number),

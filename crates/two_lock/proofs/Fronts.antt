@@ -13,23 +13,23 @@ use Rattle.history.specs.Queue as queue
 use Rattle.history.specs.Entries.{Plays}
 use Rattle.node_arena.specs.Machine.{Actor, entry_or, unlocked}
 use Rattle.node_arena.specs.Traces.{Event, outcome_at}
-use Rattle.node_arena.specs.Leads.{goes_on}
+use Rattle.node_arena.specs.Prologues.{continues}
 use Rattle.node_arena.specs.Rule.{notes_of}
 use Rattle.node_arena.specs.declared.arena.Arena.{Arena}
 use Rattle.node_arena.specs.declared.seats.Seat.{Seat}
 use Rattle.node_arena.specs.Seats.{KeepsStored, view}
-use Rattle.node_arena.specs.Walks.{Walks, Passes, Acts, HasOwnCause}
+use Rattle.node_arena.specs.Paths.{ExtendsPath, Passes, Acts, HasOwnCause}
 use Rattle.node_arena.proofs.Noting.{IsNotEmpty}
 use Rattle.node_arena.proofs.Noted.{finds_nothing_locked}
 use Rattle.node_arena.proofs.Told.{has_own_cause}
-use Rattle.node_arena.proofs.Walking.{walk_then, then_act, act_then, then_stored, event, walk_on, pass_on, act_on, ended_at}
+use Rattle.node_arena.proofs.Paths.{walk_then, then_act, act_then, then_stored, event, walk_on, pass_on, act_on, ended_at}
 use Rattle.two_lock.specs.Values.{IsTwoLock, value_of}
 use Rattle.two_lock.specs.declared.pop_outcomes.Actor.{Actor as Running}
 use Rattle.two_lock.specs.declared.pop_outcomes.Reply.{Reply}
 use Rattle.two_lock.specs.declared.pop_outcomes.Reply.TheVariants.{Value as IsValue, Empty as IsEmpty, Refused as IsRefused}
 use Rattle.two_lock.specs.declared.pop_outcomes.Outcome.{Outcome}
 use Rattle.two_lock.specs.declared.pop_outcomes.Outcome.TheVariants.{Goes, Empty, Refused}
-use Rattle.two_lock.specs.Pops.{told_by, unlocked_as, Stands, Follows, Fronts}
+use Rattle.two_lock.specs.Pops.{told_by, unlocked_as, CallIsAt, Follows, Fronts}
 use Rattle.two_lock.proofs.PopStands.{stands_next}
 
 actor_or : Running → Outcome → Running
@@ -52,22 +52,22 @@ unfolding line_or
 same_line l k a b e = ap (line_or l) e
 
 -- after B2
-pub to_b3 : (r : Arena) (s t : Seat) (l : Line) (a b : Running) → Stands r s goes_on B2 a → Follows r s t goes_on B2 a (Goes l b) → Stands r t goes_on B3 b
-to_b3 r s t l a b h f = subst (λ k. Stands r t goes_on k b) (same_line l B3 b (record a { head = ref_of f.found }) f.leads_to) (stands_next r s t B2 l a b h f tt)
+pub to_b3 : (r : Arena) (s t : Seat) (l : Line) (a b : Running) → CallIsAt r s continues B2 a → Follows r s t continues B2 a (Goes l b) → CallIsAt r t continues B3 b
+to_b3 r s t l a b h f = subst (λ k. CallIsAt r t continues k b) (same_line l B3 b (record a { head = ref_of f.found }) f.leads_to) (stands_next r s t B2 l a b h f tt)
 
 -- after B3: the end of the queue, or a value behind Head's node
-pub to_b6_empty : (r : Arena) (s t : Seat) (l : Line) (a b : Running) → Stands r s goes_on B3 a → Follows r s t goes_on B3 a (Goes l b) → l ≡ B6 → Stands r t goes_on B6 b
-to_b6_empty r s t l a b h f e = subst (λ k. Stands r t goes_on k b) e (stands_next r s t B3 l a b h f tt)
+pub to_b6_empty : (r : Arena) (s t : Seat) (l : Line) (a b : Running) → CallIsAt r s continues B3 a → Follows r s t continues B3 a (Goes l b) → l ≡ B6 → CallIsAt r t continues B6 b
+to_b6_empty r s t l a b h f e = subst (λ k. CallIsAt r t continues k b) e (stands_next r s t B3 l a b h f tt)
 
-pub to_b4 : (r : Arena) (s t : Seat) (l : Line) (a b : Running) → Stands r s goes_on B3 a → Follows r s t goes_on B3 a (Goes l b) → (l ≡ B6 → ⊥) → Stands r t goes_on B4 b
-to_b4 r s t l a b h f other = subst (λ k. Stands r t goes_on k b) (go (is_null (ref_of f.found)) f.leads_to) (stands_next r s t B3 l a b h f tt)
+pub to_b4 : (r : Arena) (s t : Seat) (l : Line) (a b : Running) → CallIsAt r s continues B3 a → Follows r s t continues B3 a (Goes l b) → (l ≡ B6 → ⊥) → CallIsAt r t continues B4 b
+to_b4 r s t l a b h f other = subst (λ k. CallIsAt r t continues k b) (go (is_null (ref_of f.found)) f.leads_to) (stands_next r s t B3 l a b h f tt)
   where
     go : (p : Bool) → Goes l b ≡ (let c = record a { next = ref_of f.found } in if p then Goes B6 (record c { due = Some IsEmpty }) else Goes B4 c) → l ≡ B4
     go true e = absurd (other (same_line l B6 b _ e))
     go false e = same_line l B4 b _ e
 
 -- what B3 found where it goes to B6
-pub found_null : (r : Arena) (s t : Seat) (l : Line) (a b : Running) → (f : Follows r s t goes_on B3 a (Goes l b)) → l ≡ B6 → ((ref_of f.found).node ≡ 0) × (b.due ≡ Some IsEmpty)
+pub found_null : (r : Arena) (s t : Seat) (l : Line) (a b : Running) → (f : Follows r s t continues B3 a (Goes l b)) → l ≡ B6 → ((ref_of f.found).node ≡ 0) × (b.due ≡ Some IsEmpty)
 found_null r s t l a b f is = go (is_null (ref_of f.found)) refl f.leads_to
   where
     go : (p : Bool) → is_null (ref_of f.found) ≡ p → Goes l b ≡ (let c = record a { next = ref_of f.found } in if p then Goes B6 (record c { due = Some IsEmpty }) else Goes B4 c) → ((ref_of f.found).node ≡ 0) × (b.due ≡ Some IsEmpty)
@@ -75,18 +75,18 @@ found_null r s t l a b f is = go (is_null (ref_of f.found)) refl f.leads_to
     go false null e = absurd (let g : B6 ≡ B4 = sym is ∙ same_line l B4 b _ e in cc)
 
 -- after B4: Head is worn out, or it can be moved
-pub to_b6_worn : (r : Arena) (s t : Seat) (l : Line) (a b : Running) → Stands r s goes_on B4 a → Follows r s t goes_on B4 a (Goes l b) → l ≡ B6 → Stands r t goes_on B6 b
-to_b6_worn r s t l a b h f e = subst (λ k. Stands r t goes_on k b) e (stands_next r s t B4 l a b h f tt)
+pub to_b6_worn : (r : Arena) (s t : Seat) (l : Line) (a b : Running) → CallIsAt r s continues B4 a → Follows r s t continues B4 a (Goes l b) → l ≡ B6 → CallIsAt r t continues B6 b
+to_b6_worn r s t l a b h f e = subst (λ k. CallIsAt r t continues k b) e (stands_next r s t B4 l a b h f tt)
 
-pub to_b5 : (r : Arena) (s t : Seat) (l : Line) (a b : Running) → Stands r s goes_on B4 a → Follows r s t goes_on B4 a (Goes l b) → (l ≡ B6 → ⊥) → Stands r t goes_on B5 b
-to_b5 r s t l a b h f other = subst (λ k. Stands r t goes_on k b) (go (nat_eq a.head.count r.plan.setup.limit) f.leads_to) (stands_next r s t B4 l a b h f tt)
+pub to_b5 : (r : Arena) (s t : Seat) (l : Line) (a b : Running) → CallIsAt r s continues B4 a → Follows r s t continues B4 a (Goes l b) → (l ≡ B6 → ⊥) → CallIsAt r t continues B5 b
+to_b5 r s t l a b h f other = subst (λ k. CallIsAt r t continues k b) (go (nat_eq a.head.count r.plan.setup.limit) f.leads_to) (stands_next r s t B4 l a b h f tt)
   where
     go : (p : Bool) → Goes l b ≡ (let c = record a { val = f.found } in if p then Goes B6 (record c { due = Some (IsRefused (WornOut OfHead)) }) else Goes B5 c) → l ≡ B5
     go true e = absurd (other (same_line l B6 b _ e))
     go false e = same_line l B5 b _ e
 
 -- what is due where B4 goes to B6
-pub found_worn : (r : Arena) (s t : Seat) (l : Line) (a b : Running) → Follows r s t goes_on B4 a (Goes l b) → l ≡ B6 → b.due ≡ Some (IsRefused (WornOut OfHead))
+pub found_worn : (r : Arena) (s t : Seat) (l : Line) (a b : Running) → Follows r s t continues B4 a (Goes l b) → l ≡ B6 → b.due ≡ Some (IsRefused (WornOut OfHead))
 found_worn r s t l a b f is = go (nat_eq a.head.count r.plan.setup.limit) f.leads_to
   where
     go : (p : Bool) → Goes l b ≡ (let c = record a { val = f.found } in if p then Goes B6 (record c { due = Some (IsRefused (WornOut OfHead)) }) else Goes B5 c) → b.due ≡ Some (IsRefused (WornOut OfHead))
@@ -94,13 +94,13 @@ found_worn r s t l a b f is = go (nat_eq a.head.count r.plan.setup.limit) f.lead
     go false e = absurd (let g : B6 ≡ B5 = sym is ∙ same_line l B5 b _ e in cc)
 
 -- after B5
-pub to_b6_value : (r : Arena) (s t : Seat) (l : Line) (a b : Running) → Stands r s goes_on B5 a → Follows r s t goes_on B5 a (Goes l b) → Stands r t goes_on B6 b
-to_b6_value r s t l a b h f = subst (λ k. Stands r t goes_on k b) (same_line l B6 b (record a { node = a.head.node; mark = a.next.count; due = Some (IsValue a.val) }) f.leads_to) (stands_next r s t B5 l a b h f tt)
+pub to_b6_value : (r : Arena) (s t : Seat) (l : Line) (a b : Running) → CallIsAt r s continues B5 a → Follows r s t continues B5 a (Goes l b) → CallIsAt r t continues B6 b
+to_b6_value r s t l a b h f = subst (λ k. CallIsAt r t continues k b) (same_line l B6 b (record a { node = a.head.node; mark = a.next.count; due = Some (IsValue a.val) }) f.leads_to) (stands_next r s t B5 l a b h f tt)
 
 -- the last line, B6
-module _ (r : Arena) (s t : Seat) (a : Running) (out : Outcome) (h : Stands r s goes_on B6 a) (f : Follows r s t goes_on B6 a out) (due : Option Reply) (is : a.due ≡ due) where
+module _ (r : Arena) (s t : Seat) (a : Running) (out : Outcome) (h : CallIsAt r s continues B6 a) (f : Follows r s t continues B6 a out) (due : Option Reply) (is : a.due ≡ due) where
   abbrev pub last : Event
-  last = event r s t goes_on B6 f.found f.did
+  last = event r s t continues B6 f.found f.did
 
   abbrev now : ℕ
   now = f.did.told.was.world.steps + 1
@@ -124,18 +124,18 @@ module _ (r : Arena) (s t : Seat) (a : Running) (out : Outcome) (h : Stands r s 
   not_empty k = subst IsNotEmpty (sym told_of) k
 
 -- the queue was found empty
-pub saw_empty : (r : Arena) (s u t x : Seat) (a b c : Running) (l k : Line) (out : Outcome) → IsTwoLock r → Stands r s goes_on B2 a → Follows r s u goes_on B2 a (Goes l b) → Follows r u t goes_on B3 b (Goes k c) → k ≡ B6 → Follows r t x goes_on B6 c out → Fronts r s x out
+pub saw_empty : (r : Arena) (s u t x : Seat) (a b c : Running) (l k : Line) (out : Outcome) → IsTwoLock r → CallIsAt r s continues B2 a → Follows r s u continues B2 a (Goes l b) → Follows r u t continues B3 b (Goes k c) → k ≡ B6 → Follows r t x continues B6 c out → Fronts r s x out
 saw_empty r s u t x a b c l k out two h f2 f3 is f6 =
     subst (Fronts r s x) (sym (out_is r t x c out at f6 (Some IsEmpty) null.1))
     record {
       seat = f6.did.seat;
       empty = ap (λ y. y.pocket) o ∙ at.before.empty;
       stored = then_stored s t x (then_stored s u t f2.did.stored f3.did.stored) f6.did.stored;
-      lines = event r s u goes_on B2 f2.found f2.did ∷ event r u t goes_on B3 f3.found f3.did ∷ event r t x goes_on B6 f6.found f6.did ∷ [];
+      lines = event r s u continues B2 f2.found f2.did ∷ event r u t continues B3 f3.found f3.did ∷ event r t x continues B6 f6.found f6.did ∷ [];
       never = refl;
       fronted = record {
         over = ap (λ y. y.line) o;
-        path = f6.did.told.path ∙ ap (λ p. p ++ event r t x goes_on B6 f6.found f6.did ∷ []) w.path ∙ append_assoc (view s).path (event r s u goes_on B2 f2.found f2.did ∷ event r u t goes_on B3 f3.found f3.did ∷ []) (event r t x goes_on B6 f6.found f6.did ∷ []);
+        path = f6.did.told.path ∙ ap (λ p. p ++ event r t x continues B6 f6.found f6.did ∷ []) w.path ∙ append_assoc (view s).path (event r s u continues B2 f2.found f2.did ∷ event r u t continues B3 f3.found f3.did ∷ []) (event r t x continues B6 f6.found f6.did ∷ []);
         found = record {
           number = f6.did.told.number ∙ w.number;
           between = w.rest;
@@ -150,72 +150,72 @@ saw_empty r s u t x a b c l k out two h f2 f3 is f6 =
     null : ((ref_of f3.found).node ≡ 0) × (c.due ≡ Some IsEmpty)
     null = found_null r u t k b c f3 is
 
-    at : Stands r t goes_on B6 c
+    at : CallIsAt r t continues B6 c
     at = to_b6_empty r u t k b c (to_b3 r s u l a b h f2) f3 is
 
     o : (view x).actor ≡ left r t x c out at f6 (Some IsEmpty) null.1 (Some reply.Empty)
     o = left_is r t x c out at f6 (Some IsEmpty) null.1
 
-    w : Walks (view s) (view t) (event r s u goes_on B2 f2.found f2.did ∷ event r u t goes_on B3 f3.found f3.did ∷ [])
-    w = walk_then (view s) (view u) (view t) (event r s u goes_on B2 f2.found f2.did ∷ []) (event r u t goes_on B3 f3.found f3.did ∷ []) (walk_on r s u goes_on B2 f2.found f2.did refl tt) (walk_on r u t goes_on B3 f3.found f3.did refl tt)
+    w : ExtendsPath (view s) (view t) (event r s u continues B2 f2.found f2.did ∷ event r u t continues B3 f3.found f3.did ∷ [])
+    w = walk_then (view s) (view u) (view t) (event r s u continues B2 f2.found f2.did ∷ []) (event r u t continues B3 f3.found f3.did ∷ []) (walk_on r s u continues B2 f2.found f2.did refl tt) (walk_on r u t continues B3 f3.found f3.did refl tt)
 
     same : (view x).seen ≡ (view t).seen
     same = f6.did.told.stays refl
 
 -- the lines before B5 or before a refusal
-module _ (r : Arena) (s u t v : Seat) (a b c d : Running) (l k j : Line) (h : Stands r s goes_on B2 a) (f2 : Follows r s u goes_on B2 a (Goes l b)) (f3 : Follows r u t goes_on B3 b (Goes k c)) (more : k ≡ B6 → ⊥) (f4 : Follows r t v goes_on B4 c (Goes j d)) where
+module _ (r : Arena) (s u t v : Seat) (a b c d : Running) (l k j : Line) (h : CallIsAt r s continues B2 a) (f2 : Follows r s u continues B2 a (Goes l b)) (f3 : Follows r u t continues B3 b (Goes k c)) (more : k ≡ B6 → ⊥) (f4 : Follows r t v continues B4 c (Goes j d)) where
   abbrev looks : List Event
-  looks = event r s u goes_on B2 f2.found f2.did ∷ event r u t goes_on B3 f3.found f3.did ∷ event r t v goes_on B4 f4.found f4.did ∷ []
+  looks = event r s u continues B2 f2.found f2.did ∷ event r u t continues B3 f3.found f3.did ∷ event r t v continues B4 f4.found f4.did ∷ []
 
-  pub at_b4 : Stands r t goes_on B4 c
+  pub at_b4 : CallIsAt r t continues B4 c
   at_b4 = to_b4 r u t k b c (to_b3 r s u l a b h f2) f3 more
 
-  pub look_walk : Walks (view s) (view v) looks
+  pub look_walk : ExtendsPath (view s) (view v) looks
   look_walk =
-      walk_then (view s) (view t) (view v) (event r s u goes_on B2 f2.found f2.did ∷ event r u t goes_on B3 f3.found f3.did ∷ []) (event r t v goes_on B4 f4.found f4.did ∷ [])
-      (walk_then (view s) (view u) (view t) (event r s u goes_on B2 f2.found f2.did ∷ []) (event r u t goes_on B3 f3.found f3.did ∷ []) (walk_on r s u goes_on B2 f2.found f2.did refl tt) (walk_on r u t goes_on B3 f3.found f3.did refl tt))
-      (walk_on r t v goes_on B4 f4.found f4.did refl tt)
+      walk_then (view s) (view t) (view v) (event r s u continues B2 f2.found f2.did ∷ event r u t continues B3 f3.found f3.did ∷ []) (event r t v continues B4 f4.found f4.did ∷ [])
+      (walk_then (view s) (view u) (view t) (event r s u continues B2 f2.found f2.did ∷ []) (event r u t continues B3 f3.found f3.did ∷ []) (walk_on r s u continues B2 f2.found f2.did refl tt) (walk_on r u t continues B3 f3.found f3.did refl tt))
+      (walk_on r t v continues B4 f4.found f4.did refl tt)
 
   look_stored : KeepsStored s v
   look_stored = then_stored s t v (then_stored s u t f2.did.stored f3.did.stored) f4.did.stored
 
   -- Head was found worn out
-  pub saw_worn : (x : Seat) (out : Outcome) → j ≡ B6 → Follows r v x goes_on B6 d out → Fronts r s x out
+  pub saw_worn : (x : Seat) (out : Outcome) → j ≡ B6 → Follows r v x continues B6 d out → Fronts r s x out
   saw_worn x out is f6 =
       let due : d.due ≡ Some (IsRefused (WornOut OfHead)) = found_worn r t v j c d f4 is in
-      let at : Stands r v goes_on B6 d = to_b6_worn r t v j c d at_b4 f4 is in
+      let at : CallIsAt r v continues B6 d = to_b6_worn r t v j c d at_b4 f4 is in
       let o = left_is r v x d out at f6 (Some (IsRefused (WornOut OfHead))) due in
       subst (Fronts r s x) (sym (out_is r v x d out at f6 (Some (IsRefused (WornOut OfHead))) due))
       record {
         seat = f6.did.seat;
         empty = ap (λ y. y.pocket) o ∙ at.before.empty;
         stored = then_stored s v x look_stored f6.did.stored;
-        lines = looks ++ event r v x goes_on B6 f6.found f6.did ∷ [];
+        lines = looks ++ event r v x continues B6 f6.found f6.did ∷ [];
         never = refl;
         fronted = record {
           over = ap (λ y. y.line) o;
-          walks = walk_then (view s) (view v) (view x) looks (event r v x goes_on B6 f6.found f6.did ∷ []) look_walk (walk_on r v x goes_on B6 f6.found f6.did refl (not_empty r v x d out at f6 (Some (IsRefused (WornOut OfHead))) due tt));
+          walks = walk_then (view s) (view v) (view x) looks (event r v x continues B6 f6.found f6.did ∷ []) look_walk (walk_on r v x continues B6 f6.found f6.did refl (not_empty r v x d out at f6 (Some (IsRefused (WornOut OfHead))) due tt));
           is = refl;
-          cause = ended_at r v x goes_on B6 f6.found f6.did s looks (λ w. HasOwnCause w (view s).number (WornOut OfHead)) look_walk (has_own_cause r.plan goes_on B6 f6.found (view v) (view x) f6.did.told (WornOut OfHead) (reply_is r v x d out at f6 (Some (IsRefused (WornOut OfHead))) due));
+          cause = ended_at r v x continues B6 f6.found f6.did s looks (λ w. HasOwnCause w (view s).number (WornOut OfHead)) look_walk (has_own_cause r.plan continues B6 f6.found (view v) (view x) f6.did.told (WornOut OfHead) (reply_is r v x d out at f6 (Some (IsRefused (WornOut OfHead))) due));
         };
       }
 
   -- a value was taken
-  pub took : (y x : Seat) (e : Running) (i : Line) (out : Outcome) → (j ≡ B6 → ⊥) → Follows r v y goes_on B5 d (Goes i e) → Follows r y x goes_on B6 e out → Fronts r s x out
+  pub took : (y x : Seat) (e : Running) (i : Line) (out : Outcome) → (j ≡ B6 → ⊥) → Follows r v y continues B5 d (Goes i e) → Follows r y x continues B6 e out → Fronts r s x out
   took y x e i out free f5 f6 =
-      let before : Stands r v goes_on B5 d = to_b5 r t v j c d at_b4 f4 free in
+      let before : CallIsAt r v continues B5 d = to_b5 r t v j c d at_b4 f4 free in
       let e_is : e ≡ record d { node = d.head.node; mark = d.next.count; due = Some (IsValue d.val) } = same_pop i B6 e _ f5.leads_to in
       let same_val : d.val ≡ e.val = sym (ap (λ (z : Running). z.val) e_is) in
       let due : e.due ≡ Some (IsValue d.val) = ap (λ (z : Running). z.due) e_is in
-      let at : Stands r y goes_on B6 e = to_b6_value r v y i d e before f5 in
+      let at : CallIsAt r y continues B6 e = to_b6_value r v y i d e before f5 in
       let o = left_is r y x e out at f6 (Some (IsValue d.val)) due in
-      let five : Event = event r v y goes_on B5 f5.found f5.did in
-      let six : Event = event r y x goes_on B6 f6.found f6.did in
-      let acts : Acts (view v) (view y) (Pop (view v).number (view v).actor.val) (five ∷ []) = act_on r v y goes_on B5 f5.found f5.did (Pop (view v).number (view v).actor.val) refl tt in
+      let five : Event = event r v y continues B5 f5.found f5.did in
+      let six : Event = event r y x continues B6 f6.found f6.did in
+      let acts : Acts (view v) (view y) (Pop (view v).number (view v).actor.val) (five ∷ []) = act_on r v y continues B5 f5.found f5.did (Pop (view v).number (view v).actor.val) refl tt in
       let val : (view v).actor.val ≡ value_of e.val = before.knows.2 ∙ ap value_of same_val in
       let all : Acts (view s) (view y) (Pop (view s).number (value_of e.val)) (looks ++ five ∷ []) =
       then_act (view s) (view v) (view y) (Pop (view v).number (view v).actor.val) (Pop (view s).number (value_of e.val)) looks (five ∷ []) (λ z. Pop (look_walk.number z) (val z)) look_walk acts in
-      let behind : Passes (view y) (view x) (six ∷ []) = pass_on r y x goes_on B6 f6.found f6.did refl (not_empty r y x e out at f6 (Some (IsValue d.val)) due tt) refl in
+      let behind : Passes (view y) (view x) (six ∷ []) = pass_on r y x continues B6 f6.found f6.did refl (not_empty r y x e out at f6 (Some (IsValue d.val)) due tt) refl in
       subst (Fronts r s x) (sym (out_is r y x e out at f6 (Some (IsValue d.val)) due))
       record {
         seat = f6.did.seat;

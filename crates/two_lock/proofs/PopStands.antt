@@ -8,7 +8,7 @@ use Rattle.history.specs.declared.operations.Reply.TheVariants as reply
 use Rattle.history.specs.declared.refusals.Refusal.TheVariants.{WornOut}
 use Rattle.history.specs.declared.refusals.WornWord.TheVariants.{Head as OfHead}
 use Rattle.node_arena.specs.Machine.{Setup, Actor, goes, entry_or}
-use Rattle.node_arena.specs.Leads.{Lead, goes_on, led}
+use Rattle.node_arena.specs.Prologues.{Prologue, continues, after_prologue}
 use Rattle.node_arena.specs.declared.arena.Arena.{Arena}
 use Rattle.node_arena.specs.declared.seats.Seat.{Seat}
 use Rattle.node_arena.specs.Seats.{DidStep, view}
@@ -18,58 +18,58 @@ use Rattle.two_lock.specs.declared.pop_outcomes.Actor.{Actor as Running}
 use Rattle.two_lock.specs.declared.pop_outcomes.Outcome.{Outcome}
 use Rattle.two_lock.specs.declared.pop_outcomes.Outcome.TheVariants.{Goes, Empty, Refused}
 use Rattle.two_lock.specs.declared.pop_outcomes.Reply.TheVariants.{Value as IsValue, Empty as IsEmpty, Refused as IsRefused}
-use Rattle.two_lock.specs.Pops.{IsBefore, Stands, Follows, follow}
+use Rattle.two_lock.specs.Pops.{IsBefore, CallIsAt, Follows, follow}
 use Rattle.two_lock.proofs.PopSteps.{ref_b2, ref_b3, value_b4}
 
 -- where an outcome goes on, the seat stands there
 abbrev pub StandsAt : Arena → Seat → Outcome → Type 0
-StandsAt r t (Goes l a) = Stands r t goes_on l a
+StandsAt r t (Goes l a) = CallIsAt r t continues l a
 StandsAt r t Empty = Unit {0}
 StandsAt r t (Refused why) = Unit {0}
 
 -- a seat that stands where registers say nothing stands there with any registers
-pub stands_b1 : (r : Arena) (t : Seat) (lead : Lead) (a : Running) → IsBefore r t lead B1 → Stands r t lead B1 a
-stands_b1 r t lead a h = record { before = h; knows = tt }
+pub stands_b1 : (r : Arena) (t : Seat) (prologue : Prologue) (a : Running) → IsBefore r t prologue B1 → CallIsAt r t prologue B1 a
+stands_b1 r t prologue a h = record { before = h; knows = tt }
 
-pub stands_b2 : (r : Arena) (t : Seat) (a : Running) → IsBefore r t goes_on B2 → Stands r t goes_on B2 a
+pub stands_b2 : (r : Arena) (t : Seat) (a : Running) → IsBefore r t continues B2 → CallIsAt r t continues B2 a
 stands_b2 r t a h = record { before = h; knows = tt }
 
-module _ (r : Arena) (s t : Seat) (lead : Lead) (n : ℕ) (a : Running) where
+module _ (r : Arena) (s t : Seat) (prologue : Prologue) (n : ℕ) (a : Running) where
   abbrev b : Actor
-  b = led r.plan.setup (view s).number lead (view s).actor
+  b = after_prologue r.plan.setup (view s).number prologue (view s).actor
 
   -- the actor after a step that makes this of it
-  abbrev settled : (l : Line) → DidStep r s t lead l n → Actor → Actor
+  abbrev settled : (l : Line) → DidStep r s t prologue l n → Actor → Actor
   settled l d x = record x { entry = Some (entry_or b.entry (length d.told.was.world.operations)) }
 
   abbrev first : Bool → Actor
   first p = (if p then goes B2 b else goes B1 b).actor
 
   abbrev third : ℕ → Ref → Bool → Actor
-  third now next p = (let x = record b { next = next; noted = now } in if p then goes B6 (record x { due = Some reply.Empty }) else goes B4 x).actor
+  third now next p = (let x = record b { next = next; empty_at = now } in if p then goes B6 (record x { due = Some reply.Empty }) else goes B4 x).actor
 
-  module _ (h : Stands r s lead B1 a) (d : DidStep r s t lead B1 n) where
+  module _ (h : CallIsAt r s prologue B1 a) (d : DidStep r s t prologue B1 n) where
     went : (p : Bool) → nat_eq n 0 ≡ p → (view t).actor ≡ settled B1 d (first p)
     went p e = d.told.actor ∙ ap (λ q. settled B1 d (first q)) (ap (λ k. nat_eq k 0) (sym d.told.found) ∙ e)
 
-    pub won_b1 : nat_eq n 0 ≡ true → IsBefore r t goes_on B2
+    pub won_b1 : nat_eq n 0 ≡ true → IsBefore r t continues B2
     won_b1 e = let o = went true e in record { seat = d.seat; can = tt; line = ap (λ x. x.line) o; empty = ap (λ x. x.pocket) o ∙ h.before.empty }
 
-    pub lost_b1 : nat_eq n 0 ≡ false → IsBefore r t goes_on B1
+    pub lost_b1 : nat_eq n 0 ≡ false → IsBefore r t continues B1
     lost_b1 e = let o = went false e in record { seat = d.seat; can = tt; line = ap (λ x. x.line) o; empty = ap (λ x. x.pocket) o ∙ h.before.empty }
 
-  pub after_b2 : Stands r s lead B2 a → DidStep r s t lead B2 n → Stands r t goes_on B3 (record a { head = ref_of n })
+  pub after_b2 : CallIsAt r s prologue B2 a → DidStep r s t prologue B2 n → CallIsAt r t continues B3 (record a { head = ref_of n })
   after_b2 h d =
       record {
         before = record { seat = d.seat; can = tt; line = ap (λ x. x.line) d.told.actor; empty = ap (λ x. x.pocket) d.told.actor ∙ h.before.empty };
-        knows = ap (λ x. x.head) d.told.actor ∙ sym (ref_b2 r s t lead n d).0;
+        knows = ap (λ x. x.head) d.told.actor ∙ sym (ref_b2 r s t prologue n d).0;
       }
 
-  pub after_b3 : Stands r s lead B3 a → (d : DidStep r s t lead B3 n) → StandsAt r t (follow r.plan.setup a B3 n)
+  pub after_b3 : CallIsAt r s prologue B3 a → (d : DidStep r s t prologue B3 n) → StandsAt r t (follow r.plan.setup a B3 n)
   after_b3 h d = go (is_null (ref_of n)) refl
     where
       went : (p : Bool) → is_null (ref_of n) ≡ p → (view t).actor ≡ settled B3 d (third (d.told.was.world.steps + 1) (ref_of n) p)
-      went p e = d.told.actor ∙ ap (λ x. settled B3 d (third (d.told.was.world.steps + 1) x (is_null x))) (sym (ref_b3 r s t lead n d).0) ∙ ap (λ q. settled B3 d (third (d.told.was.world.steps + 1) (ref_of n) q)) e
+      went p e = d.told.actor ∙ ap (λ x. settled B3 d (third (d.told.was.world.steps + 1) x (is_null x))) (sym (ref_b3 r s t prologue n d).0) ∙ ap (λ q. settled B3 d (third (d.told.was.world.steps + 1) (ref_of n) q)) e
 
       go : (p : Bool) → is_null (ref_of n) ≡ p → StandsAt r t (let c = record a { next = ref_of n } in if p then Goes B6 (record c { due = Some IsEmpty }) else Goes B4 c)
       go true e =
@@ -85,7 +85,7 @@ module _ (r : Arena) (s t : Seat) (lead : Lead) (n : ℕ) (a : Running) where
             knows = (ap (λ x. x.head) o ∙ h.knows, ap (λ x. x.next) o);
           }
 
-  pub after_b4 : Stands r s lead B4 a → (d : DidStep r s t lead B4 n) → StandsAt r t (follow r.plan.setup a B4 n)
+  pub after_b4 : CallIsAt r s prologue B4 a → (d : DidStep r s t prologue B4 n) → StandsAt r t (follow r.plan.setup a B4 n)
   after_b4 h d = go (nat_eq a.head.count r.plan.setup.limit) refl
     where
       fourth : Bool → Actor
@@ -94,7 +94,7 @@ module _ (r : Arena) (s t : Seat) (lead : Lead) (n : ℕ) (a : Running) where
       went : (p : Bool) → nat_eq a.head.count r.plan.setup.limit ≡ p → (view t).actor ≡ settled B4 d (fourth p)
       went p e =
           d.told.actor ∙
-          ap (λ v. settled B4 d (let x = record b { val = v } in if nat_eq b.head.count r.plan.setup.limit then goes B6 (record x { due = Some (reply.Refused (WornOut OfHead)) }) else goes B5 x).actor) (value_b4 r s t lead n d) ∙
+          ap (λ v. settled B4 d (let x = record b { val = v } in if nat_eq b.head.count r.plan.setup.limit then goes B6 (record x { due = Some (reply.Refused (WornOut OfHead)) }) else goes B5 x).actor) (value_b4 r s t prologue n d) ∙
           ap (λ q. settled B4 d (fourth q)) (ap (λ (x : Ref). nat_eq x.count r.plan.setup.limit) h.knows.0 ∙ e)
 
       go : (p : Bool) → nat_eq a.head.count r.plan.setup.limit ≡ p → StandsAt r t (let c = record a { val = n } in if p then Goes B6 (record c { due = Some (IsRefused (WornOut OfHead)) }) else Goes B5 c)
@@ -106,7 +106,7 @@ module _ (r : Arena) (s t : Seat) (lead : Lead) (n : ℕ) (a : Running) where
           }
       go false e =
           let o = went false e in
-          let low = (actor_was_in_range r.plan lead B4 n (view s) (view t) d.told).registers.head.count in
+          let low = (actor_was_in_range r.plan prologue B4 n (view s) (view t) d.told).registers.head.count in
           let unworn : a.head.count ≢ r.plan.setup.limit = eqb-false a.head.count r.plan.setup.limit e in
           let room : a.head.count < r.plan.setup.limit = omega (arith, low, unworn, ap (λ (x : Ref). x.count) h.knows.0, ap (λ (z : Setup). z.limit) d.told.setup) in
           record {
@@ -114,7 +114,7 @@ module _ (r : Arena) (s t : Seat) (lead : Lead) (n : ℕ) (a : Running) where
             knows = (ap (λ x. x.head) o ∙ h.knows.0, ap (λ x. x.next) o ∙ h.knows.1, ap (λ x. x.val) o, room);
           }
 
-  pub after_b5 : Stands r s lead B5 a → DidStep r s t lead B5 n → Stands r t goes_on B6 (record a { node = a.head.node; mark = a.next.count; due = Some (IsValue a.val) })
+  pub after_b5 : CallIsAt r s prologue B5 a → DidStep r s t prologue B5 n → CallIsAt r t continues B6 (record a { node = a.head.node; mark = a.next.count; due = Some (IsValue a.val) })
   after_b5 h d =
       let node : (view t).actor.node ≡ a.head.node = ap (λ x. x.node) d.told.actor ∙ ap (λ (x : Ref). x.node) h.knows.0 in
       let mark : (view t).actor.mark ≡ a.next.count = ap (λ x. x.mark) d.told.actor ∙ ap (λ (x : Ref). x.count) h.knows.1 in
@@ -132,9 +132,9 @@ IsUnderLock B5 = Unit {0}
 IsUnderLock l = ⊥
 
 -- a line under the lock leads on to where its outcome says
-pub stands_next : (r : Arena) (s t : Seat) (l k : Line) (a c : Running) → Stands r s goes_on l a → Follows r s t goes_on l a (Goes k c) → IsUnderLock l → Stands r t goes_on k c
-stands_next r s t B2 k a c h f under = subst (StandsAt r t) (sym f.leads_to) (after_b2 r s t goes_on f.found a h f.did)
-stands_next r s t B3 k a c h f under = subst (StandsAt r t) (sym f.leads_to) (after_b3 r s t goes_on f.found a h f.did)
-stands_next r s t B4 k a c h f under = subst (StandsAt r t) (sym f.leads_to) (after_b4 r s t goes_on f.found a h f.did)
-stands_next r s t B5 k a c h f under = subst (StandsAt r t) (sym f.leads_to) (after_b5 r s t goes_on f.found a h f.did)
+pub stands_next : (r : Arena) (s t : Seat) (l k : Line) (a c : Running) → CallIsAt r s continues l a → Follows r s t continues l a (Goes k c) → IsUnderLock l → CallIsAt r t continues k c
+stands_next r s t B2 k a c h f under = subst (StandsAt r t) (sym f.leads_to) (after_b2 r s t continues f.found a h f.did)
+stands_next r s t B3 k a c h f under = subst (StandsAt r t) (sym f.leads_to) (after_b3 r s t continues f.found a h f.did)
+stands_next r s t B4 k a c h f under = subst (StandsAt r t) (sym f.leads_to) (after_b4 r s t continues f.found a h f.did)
+stands_next r s t B5 k a c h f under = subst (StandsAt r t) (sym f.leads_to) (after_b5 r s t continues f.found a h f.did)
 stands_next r s t _ k a c h f under = absurd under

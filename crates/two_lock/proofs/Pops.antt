@@ -10,22 +10,22 @@ use Rattle.history.specs.Answers.{PopAnswers}
 use Rattle.history.proofs.Learning.{answers_then}
 use Rattle.node_arena.specs.Machine.{Held, Actor, dequeues, from_pocket}
 use Rattle.node_arena.specs.Traces.{Event}
-use Rattle.node_arena.specs.Leads.{goes_on, at_rest, out_of}
+use Rattle.node_arena.specs.Prologues.{continues, at_rest, out_of}
 use Rattle.node_arena.specs.declared.arena.Arena.{Arena}
 use Rattle.node_arena.specs.declared.seats.Seat.{Seat}
 use Rattle.node_arena.specs.Seats.{IsReady, KeepsName, view, known_of, keeping, pocket_of}
 use Rattle.node_arena.specs.Turns.{failed_turns, at_b1}
-use Rattle.node_arena.specs.Walks.{Walks, HadNoEffect, EndsFailed, HasOwnCause, added}
-use Rattle.node_arena.proofs.Walking.{no_walk, walk_then, then_stored, sees_on, added_is, added_path, last_held, ends_failed, ended_behind, failed-append, failed_behind, kept_seat, event, walk_on, to_is, failed_last}
+use Rattle.node_arena.specs.Paths.{ExtendsPath, HadNoEffect, EndsFailed, HasOwnCause, added}
+use Rattle.node_arena.proofs.Paths.{no_walk, walk_then, then_stored, sees_on, added_is, added_path, last_held, ends_failed, ended_behind, failed-append, failed_behind, kept_seat, event, walk_on, to_is, failed_last}
 use Rattle.two_lock.specs.Values.{IsTwoLock}
 use Rattle.two_lock.specs.declared.pop_outcomes.Actor.{Actor as Running}
 use Rattle.two_lock.specs.declared.pop_outcomes.Outcome.{Outcome}
 use Rattle.two_lock.specs.declared.pop_outcomes.Outcome.TheVariants.{Goes, Refused}
-use Rattle.two_lock.specs.Pops.{popping, has_lock, IsBefore, Follows, Fronts, Trying, DrawRefused, Draws, Answers}
+use Rattle.two_lock.specs.Pops.{popping, has_lock, IsBefore, Follows, Fronts, Trying, DrawRefused, Draws, AnswersPop}
 use Rattle.two_lock.proofs.PopStands.{stands_b1, won_b1, lost_b1}
 
 -- lines before a pop, with so many failed turns
-module _ (r : Arena) (s u x : Seat) (es : List Event) (w : Walks (view s) (view u) es) (spent before turns : ℕ) (more : before ≡ spent + failed_turns es) where
+module _ (r : Arena) (s u x : Seat) (es : List Event) (w : ExtendsPath (view s) (view u) es) (spent before turns : ℕ) (more : before ≡ spent + failed_turns es) where
   late : (path : (view x).path ≡ (view u).path ++ added u x) → added s x ≡ es ++ added u x
   late path = added_path s x (es ++ added u x) (path ∙ ap (λ p. p ++ added u x) w.path ∙ append_assoc (view s).path es (added u x))
 
@@ -60,7 +60,7 @@ module _ (r : Arena) (s u x : Seat) (es : List Event) (w : Walks (view s) (view 
 
       refused_by : (o : Result (Option Taken) Refusal) → added s x ≡ es ++ added u x → Draws r u x before turns o → IfErr o (λ why. HadNoEffect s x × DrawRefused r s x spent turns why)
       refused_by (Ok v) e d = tt
-      refused_by (Err why) e d = (subst (Walks (view s) (view x)) (sym e) (walk_then (view s) (view u) (view x) es (added u x) w d.refused.0), late_cause e why d.refused.1)
+      refused_by (Err why) e d = (subst (ExtendsPath (view s) (view x)) (sym e) (walk_then (view s) (view u) (view x) es (added u x) w d.refused.0), late_cause e why d.refused.1)
 
 -- an actor that begins a pop with this pocket
 abbrev set_out : Arena → Seat → Option Held → Actor
@@ -96,16 +96,16 @@ module _ (r : Arena) (s t u : Seat) (n : ℕ) (g : Trying r s t n) (a : Running)
   found_is : (p : Bool) → has_lock out ≡ p → nat_eq f.found 0 ≡ p
   found_is p e = sym (tells (nat_eq f.found 0) refl) ∙ e
 
-  tried : Walks (view s) (view u) (g.lines ++ try ∷ [])
+  tried : ExtendsPath (view s) (view u) (g.lines ++ try ∷ [])
   tried = walk_then (view s) (view t) (view u) g.lines (try ∷ []) g.walks (walk_on r t u (popping n) B1 f.found f.did refl tt)
 
-  pub has_got : has_lock out ≡ true → IsBefore r u goes_on B2
+  pub has_got : has_lock out ≡ true → IsBefore r u continues B2
   has_got e = won_b1 r t u (popping n) f.found a (stands_b1 r t (popping n) a g.before) f.did (found_is true e)
 
   -- a turn failed
   pub pop_again : has_lock out ≡ false → Trying r s u (n + 1)
   pop_again e =
-      let x : IsBefore r u goes_on B1 = lost_b1 r t u (popping n) f.found a (stands_b1 r t (popping n) a g.before) f.did (found_is false e) in
+      let x : IsBefore r u continues B1 = lost_b1 r t u (popping n) f.found a (stands_b1 r t (popping n) a g.before) f.did (found_is false e) in
       let z : at_b1 (view u).actor.line ≡ 1 = ap at_b1 x.line in
       let once : failed_turns (try ∷ []) ≡ 1 = (let y : at_b1 try.to ≡ 1 = ap at_b1 (to_is r t u (popping n) B1 f.found f.did) ∙ z in omega arith) in
       record {
@@ -120,7 +120,7 @@ module _ (r : Arena) (s t u : Seat) (n : ℕ) (g : Trying r s t n) (a : Running)
   -- the lock was got
   pub pop_ends : (x : Seat) (spent turns : ℕ) (o : Result (Option Taken) Refusal) → has_lock out ≡ true → Draws r u x (spent + n) turns o → Draws r s x spent turns o
   pop_ends x spent turns o e d =
-      let y : IsBefore r u goes_on B2 = has_got e in
+      let y : IsBefore r u continues B2 = has_got e in
       let none : failed_turns (try ∷ []) ≡ 0 = (let z : at_b1 try.to ≡ 0 = ap at_b1 (to_is r t u (popping n) B1 f.found f.did ∙ y.line) in omega arith) in
       let name = then_stored s t u g.stored f.did.stored in
       draws_late r s u x (g.lines ++ try ∷ []) tried spent (spent + n) turns (omega (arith, failed-append g.lines (try ∷ []), g.failed, none)) o (record { number = name.number; role = name.role }) d
@@ -137,7 +137,7 @@ pop_gives_up r s t spent turns (suc m) some all g =
       path = g.walks.path ∙ ap (λ p. (view s).path ++ p) (sym e);
       answer = tt;
       refused = (
-        subst (Walks (view s) (view t)) (sym e) g.walks,
+        subst (ExtendsPath (view s) (view t)) (sym e) g.walks,
         ((let c = ap failed_turns e in let f = g.failed in omega arith), ends_failed s (keeping t None turns) g.lines e (g.last some)),
       );
     }
@@ -154,13 +154,13 @@ pop_worn r s t why failed turns f =
       path = k.walks.path ∙ ap (λ p. (view s).path ++ p) (sym e);
       answer = tt;
       refused = (
-        subst (Walks (view s) (view t)) (sym e) k.walks,
+        subst (ExtendsPath (view s) (view t)) (sym e) k.walks,
         subst (DrawRefused r s (keeping t None failed) failed turns) (sym k.is) (last_held r s (keeping t None failed) f.lines _ e k.cause),
       );
     }
 
 -- a pop after a give back
-pub after_give : (r : Arena) (s u x : Seat) (spent turns : ℕ) (out : Result (Option Taken) Refusal) → KeepsName s u → HadNoEffect s u → spent ≡ failed_turns (added s u) → Draws r u x spent turns out → Answers r s x turns out
+pub after_give : (r : Arena) (s u x : Seat) (spent turns : ℕ) (out : Result (Option Taken) Refusal) → KeepsName s u → HadNoEffect s u → spent ≡ failed_turns (added s u) → Draws r u x spent turns out → AnswersPop r s x turns out
 after_give r s u x spent turns out name w f d =
     let all : Draws r s x 0 turns out = draws_late r s u x (added s u) w 0 spent turns (omega (arith, f)) out name d in
     record { ready = all.ready; same = all.same; answer = all.answer; refused = all.refused }

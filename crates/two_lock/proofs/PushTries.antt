@@ -9,19 +9,19 @@ use Rattle.history.specs.declared.operations.Taken.{Taken}
 use Rattle.history.specs.declared.refusals.Refusal.TheVariants.{Busy}
 use Rattle.node_arena.specs.Machine.{Held, Actor, with_node, from_pocket}
 use Rattle.node_arena.specs.Traces.{Event}
-use Rattle.node_arena.specs.Leads.{Lead, begins, goes_on, at_rest, out_of}
+use Rattle.node_arena.specs.Prologues.{Prologue, begins, continues, at_rest, out_of}
 use Rattle.node_arena.specs.declared.arena.Arena.{Arena}
 use Rattle.node_arena.specs.declared.seats.Seat.{Seat}
 use Rattle.node_arena.specs.Seats.{IsReady, view, keeping}
 use Rattle.node_arena.specs.Turns.{failed_turns, at_a3}
-use Rattle.node_arena.specs.Walks.{Walks, Acts, added}
-use Rattle.node_arena.proofs.Walking.{walk_then, then_act, act_then, pass_then, then_stored, added_is, added_path, failed-append, failed_behind, kept_seat, ends_failed, event, walk_on, pass_on, act_on, to_is, failed_last}
+use Rattle.node_arena.specs.Paths.{ExtendsPath, Acts, added}
+use Rattle.node_arena.proofs.Paths.{walk_then, then_act, act_then, pass_then, then_stored, added_is, added_path, failed-append, failed_behind, kept_seat, ends_failed, event, walk_on, pass_on, act_on, to_is, failed_last}
 use Rattle.two_lock.specs.Values.{IsTwoLock, value_of}
 use Rattle.two_lock.specs.declared.push_outcomes.Actor.{Actor as Running}
 use Rattle.two_lock.specs.declared.push_outcomes.Reply.TheVariants.{Done as IsDone}
 use Rattle.two_lock.specs.declared.push_outcomes.Outcome.{Outcome}
 use Rattle.two_lock.specs.declared.push_outcomes.Outcome.TheVariants.{Goes, Done}
-use Rattle.two_lock.specs.Pushes.{registers_of, has_lock, Stands, Follows, Links, Trying, Puts}
+use Rattle.two_lock.specs.Pushes.{registers_of, has_lock, CallIsAt, Follows, Links, Trying, Puts}
 use Rattle.two_lock.proofs.Values.{value_of-word}
 use Rattle.two_lock.proofs.PushStands.{after_a1, after_a2, won_a3, lost_a3, after_a4, after_a5, after_a6, after_a7}
 
@@ -39,8 +39,8 @@ abbrev set_out : Arena → Seat → ℕ → Option Held → Actor
 set_out r s body p = from_pocket (with_node r.plan.setup.kind) p (record (at_rest (view s).actor) { line = Some N1; op = Enq body; val = record { from = (view s).number; body = body }; due = None; entry = None })
 
 -- a push with a full pocket sets out
-pub pushes_out : (r : Arena) (s : Seat) (h : Held) (from body val : ℕ) (a : Running) → a ≡ registers_of h val → IsReady r s → s.pocket ≡ Some h → IsTwoLock r → body < 2 ^ 48 → from ≡ s.number → val ≡ from * 2 ^ 48 + body → Stands r s (begins (Enq (value_of a.val).body)) A1 a
-pushes_out r s h from body val a is i full two small same word = subst (λ (x : Running). Stands r s (begins (Enq (value_of x.val).body)) A1 x) (sym is) out
+pub pushes_out : (r : Arena) (s : Seat) (h : Held) (from body val : ℕ) (a : Running) → a ≡ registers_of h val → IsReady r s → s.pocket ≡ Some h → IsTwoLock r → body < 2 ^ 48 → from ≡ s.number → val ≡ from * 2 ^ 48 + body → CallIsAt r s (begins (Enq (value_of a.val).body)) A1 a
+pushes_out r s h from body val a is i full two small same word = subst (λ (x : Running). CallIsAt r s (begins (Enq (value_of x.val).body)) A1 x) (sym is) out
   where
     e : (at_rest (view s).actor).pocket ≡ Some h
     e = sym i.pocket ∙ full
@@ -51,7 +51,7 @@ pushes_out r s h from body val a is i full two small same word = subst (λ (x : 
     low : (value_of val).body < 2 ^ 48
     low = omega arith
 
-    out : Stands r s (begins (Enq (value_of val).body)) A1 (registers_of h val)
+    out : CallIsAt r s (begins (Enq (value_of val).body)) A1 (registers_of h val)
     out =
         record {
           seat = i.seat;
@@ -65,33 +65,33 @@ pushes_out r s h from body val a is i full two small same word = subst (λ (x : 
         }
 
 -- after A1
-pub to_a2 : (r : Arena) (s t : Seat) (lead : Lead) (l : Line) (a b : Running) → Stands r s lead A1 a → Follows r s t lead A1 a (Goes l b) → Stands r t goes_on A2 b × (b ≡ a)
-to_a2 r s t lead l a b h f = let e : b ≡ a = same_push l A2 b a f.leads_to in (subst (Stands r t goes_on A2) (sym e) (after_a1 r s t lead f.found a h f.did), e)
+pub to_a2 : (r : Arena) (s t : Seat) (prologue : Prologue) (l : Line) (a b : Running) → CallIsAt r s prologue A1 a → Follows r s t prologue A1 a (Goes l b) → CallIsAt r t continues A2 b × (b ≡ a)
+to_a2 r s t prologue l a b h f = let e : b ≡ a = same_push l A2 b a f.leads_to in (subst (CallIsAt r t continues A2) (sym e) (after_a1 r s t prologue f.found a h f.did), e)
 
 -- after A2
-pub to_a3 : (r : Arena) (s t : Seat) (l : Line) (a b : Running) → Stands r s goes_on A2 a → Follows r s t goes_on A2 a (Goes l b) → Stands r t goes_on A3 b × (b ≡ a)
-to_a3 r s t l a b h f = let e : b ≡ a = same_push l A3 b a f.leads_to in (subst (Stands r t goes_on A3) (sym e) (after_a2 r s t goes_on f.found a h f.did), e)
+pub to_a3 : (r : Arena) (s t : Seat) (l : Line) (a b : Running) → CallIsAt r s continues A2 a → Follows r s t continues A2 a (Goes l b) → CallIsAt r t continues A3 b × (b ≡ a)
+to_a3 r s t l a b h f = let e : b ≡ a = same_push l A3 b a f.leads_to in (subst (CallIsAt r t continues A3) (sym e) (after_a2 r s t continues f.found a h f.did), e)
 
 -- before its first try of the lock
-pub first_try : (r : Arena) (s u t : Seat) (lead : Lead) (h : Held) (val spent : ℕ) (l k : Line) (a b c : Running) → a ≡ registers_of h val → Stands r s lead A1 a → Follows r s u lead A1 a (Goes l b) → Follows r u t goes_on A2 b (Goes k c) → Trying r s t h val spent spent
-first_try r s u t lead h val spent l k a b c is st f g =
-    let one : Event = event r s u lead A1 f.found f.did in
-    let two : Event = event r u t goes_on A2 g.found g.did in
-    let to : Stands r u goes_on A2 b × (b ≡ a) = to_a2 r s u lead l a b st f in
-    let on : Stands r t goes_on A3 c × (c ≡ b) = to_a3 r u t k b c to.0 g in
+pub first_try : (r : Arena) (s u t : Seat) (prologue : Prologue) (h : Held) (val spent : ℕ) (l k : Line) (a b c : Running) → a ≡ registers_of h val → CallIsAt r s prologue A1 a → Follows r s u prologue A1 a (Goes l b) → Follows r u t continues A2 b (Goes k c) → Trying r s t h val spent spent
+first_try r s u t prologue h val spent l k a b c is st f g =
+    let one : Event = event r s u prologue A1 f.found f.did in
+    let two : Event = event r u t continues A2 g.found g.did in
+    let to : CallIsAt r u continues A2 b × (b ≡ a) = to_a2 r s u prologue l a b st f in
+    let on : CallIsAt r t continues A3 c × (c ≡ b) = to_a3 r u t k b c to.0 g in
     record {
-      stands = subst (Stands r t goes_on A3) (on.1 ∙ to.1 ∙ is) on.0;
+      stands = subst (CallIsAt r t continues A3) (on.1 ∙ to.1 ∙ is) on.0;
       stored = then_stored s u t f.did.stored g.did.stored;
       lines = one ∷ two ∷ [];
-      walks = walk_then (view s) (view u) (view t) (one ∷ []) (two ∷ []) (walk_on r s u lead A1 f.found f.did refl tt) (walk_on r u t goes_on A2 g.found g.did refl tt);
+      walks = walk_then (view s) (view u) (view t) (one ∷ []) (two ∷ []) (walk_on r s u prologue A1 f.found f.did refl tt) (walk_on r u t continues A2 g.found g.did refl tt);
       failed = omega arith;
       last = λ less. absurd (omega arith);
     }
 
 -- a try of the lock that got it, and one that failed
-module _ (r : Arena) (t u : Seat) (a : Running) (out : Outcome) (h : Stands r t goes_on A3 a) (f : Follows r t u goes_on A3 a out) where
+module _ (r : Arena) (t u : Seat) (a : Running) (out : Outcome) (h : CallIsAt r t continues A3 a) (f : Follows r t u continues A3 a out) where
   abbrev try : Event
-  try = event r t u goes_on A3 f.found f.did
+  try = event r t u continues A3 f.found f.did
 
   tells : (p : Bool) → nat_eq f.found 0 ≡ p → has_lock out ≡ p
   tells true e = ap has_lock (f.leads_to ∙ ap (λ q. if q then Goes A4 a else Goes A3 a) e)
@@ -100,79 +100,79 @@ module _ (r : Arena) (t u : Seat) (a : Running) (out : Outcome) (h : Stands r t 
   found_is : (p : Bool) → has_lock out ≡ p → nat_eq f.found 0 ≡ p
   found_is p e = sym (tells (nat_eq f.found 0) refl) ∙ e
 
-  pub try_walk : Walks (view t) (view u) (try ∷ [])
-  try_walk = walk_on r t u goes_on A3 f.found f.did refl tt
+  pub try_walk : ExtendsPath (view t) (view u) (try ∷ [])
+  try_walk = walk_on r t u continues A3 f.found f.did refl tt
 
-  pub got : has_lock out ≡ true → Stands r u goes_on A4 a × (failed_turns (try ∷ []) ≡ 0)
+  pub got : has_lock out ≡ true → CallIsAt r u continues A4 a × (failed_turns (try ∷ []) ≡ 0)
   got e =
-      let x = won_a3 r t u goes_on f.found a h f.did (found_is true e) in
-      (x, (let z : at_a3 try.to ≡ 0 = ap at_a3 (to_is r t u goes_on A3 f.found f.did ∙ x.line) in omega arith))
+      let x = won_a3 r t u continues f.found a h f.did (found_is true e) in
+      (x, (let z : at_a3 try.to ≡ 0 = ap at_a3 (to_is r t u continues A3 f.found f.did ∙ x.line) in omega arith))
 
-  pub lost : has_lock out ≡ false → Stands r u goes_on A3 a
-  lost e = lost_a3 r t u goes_on f.found a h f.did (found_is false e)
+  pub lost : has_lock out ≡ false → CallIsAt r u continues A3 a
+  lost e = lost_a3 r t u continues f.found a h f.did (found_is false e)
 
 -- a turn failed
-pub next_try : (r : Arena) (s t u : Seat) (h : Held) (val spent n : ℕ) (a : Running) (out : Outcome) → a ≡ registers_of h val → Trying r s t h val spent n → Follows r t u goes_on A3 a out → has_lock out ≡ false → Trying r s u h val spent (n + 1)
+pub next_try : (r : Arena) (s t u : Seat) (h : Held) (val spent n : ℕ) (a : Running) (out : Outcome) → a ≡ registers_of h val → Trying r s t h val spent n → Follows r t u continues A3 a out → has_lock out ≡ false → Trying r s u h val spent (n + 1)
 next_try r s t u h val spent n a out is g follows e =
-    let f : Follows r t u goes_on A3 (registers_of h val) out = subst (λ x. Follows r t u goes_on A3 x out) is follows in
-    let try : Event = event r t u goes_on A3 f.found f.did in
-    let x : Stands r u goes_on A3 (registers_of h val) = lost r t u (registers_of h val) out g.stands f e in
+    let f : Follows r t u continues A3 (registers_of h val) out = subst (λ x. Follows r t u continues A3 x out) is follows in
+    let try : Event = event r t u continues A3 f.found f.did in
+    let x : CallIsAt r u continues A3 (registers_of h val) = lost r t u (registers_of h val) out g.stands f e in
     let z : at_a3 (view u).actor.line ≡ 1 = ap at_a3 x.line in
-    let once : failed_turns (try ∷ []) ≡ 1 = (let y : at_a3 try.to ≡ 1 = ap at_a3 (to_is r t u goes_on A3 f.found f.did) ∙ z in omega arith) in
+    let once : failed_turns (try ∷ []) ≡ 1 = (let y : at_a3 try.to ≡ 1 = ap at_a3 (to_is r t u continues A3 f.found f.did) ∙ z in omega arith) in
     record {
       stands = x;
       stored = then_stored s t u g.stored f.did.stored;
       lines = g.lines ++ try ∷ [];
       walks = walk_then (view s) (view t) (view u) g.lines (try ∷ []) g.walks (try_walk r t u (registers_of h val) out g.stands f);
       failed = omega (arith, failed-append g.lines (try ∷ []), g.failed, once);
-      last = λ less. failed_behind g.lines (try ∷ []) (failed_last r t u goes_on A3 f.found f.did [] z);
+      last = λ less. failed_behind g.lines (try ∷ []) (failed_last r t u continues A3 f.found f.did [] z);
     }
 
 -- after A4
-pub to_a5 : (r : Arena) (s u : Seat) (a b : Running) (l : Line) → Stands r s goes_on A4 a → Follows r s u goes_on A4 a (Goes l b) → Stands r u goes_on A5 b
-to_a5 r s u a b l h f = subst (Stands r u goes_on A5) (sym (same_push l A5 b (record a { tail = ref_of f.found }) f.leads_to)) (after_a4 r s u goes_on f.found a h f.did)
+pub to_a5 : (r : Arena) (s u : Seat) (a b : Running) (l : Line) → CallIsAt r s continues A4 a → Follows r s u continues A4 a (Goes l b) → CallIsAt r u continues A5 b
+to_a5 r s u a b l h f = subst (CallIsAt r u continues A5) (sym (same_push l A5 b (record a { tail = ref_of f.found }) f.leads_to)) (after_a4 r s u continues f.found a h f.did)
 
 -- after A5
-pub to_a6 : (r : Arena) (s u : Seat) (a b : Running) (l : Line) → Stands r s goes_on A5 a → Follows r s u goes_on A5 a (Goes l b) → Stands r u goes_on A6 b
-to_a6 r s u a b l h f = subst (Stands r u goes_on A6) (sym (same_push l A6 b (record a { due = Some IsDone }) f.leads_to)) (after_a5 r s u goes_on f.found a h f.did)
+pub to_a6 : (r : Arena) (s u : Seat) (a b : Running) (l : Line) → CallIsAt r s continues A5 a → Follows r s u continues A5 a (Goes l b) → CallIsAt r u continues A6 b
+to_a6 r s u a b l h f = subst (CallIsAt r u continues A6) (sym (same_push l A6 b (record a { due = Some IsDone }) f.leads_to)) (after_a5 r s u continues f.found a h f.did)
 
 -- after A6
-pub to_a7 : (r : Arena) (s u : Seat) (a b : Running) (l : Line) → Stands r s goes_on A6 a → Follows r s u goes_on A6 a (Goes l b) → Stands r u goes_on A7 b
-to_a7 r s u a b l h f = subst (Stands r u goes_on A7) (sym (same_push l A7 b a f.leads_to)) (after_a6 r s u goes_on f.found a h f.did)
+pub to_a7 : (r : Arena) (s u : Seat) (a b : Running) (l : Line) → CallIsAt r s continues A6 a → Follows r s u continues A6 a (Goes l b) → CallIsAt r u continues A7 b
+to_a7 r s u a b l h f = subst (CallIsAt r u continues A7) (sym (same_push l A7 b a f.leads_to)) (after_a6 r s u continues f.found a h f.did)
 
 -- the node is linked: A4 to A7
-module _ (r : Arena) (s u t x y : Seat) (a b c d : Running) (j k l : Line) (last : Outcome) (h : Stands r s goes_on A4 a) (f : Follows r s u goes_on A4 a (Goes j b)) (g : Follows r u t goes_on A5 b (Goes k c)) (m : Follows r t x goes_on A6 c (Goes l d)) (o : Follows r x y goes_on A7 d last) where
-  at_a5 : Stands r u goes_on A5 b
+module _ (r : Arena) (s u t x y : Seat) (a b c d : Running) (j k l : Line) (last : Outcome) (h : CallIsAt r s continues A4 a) (f : Follows r s u continues A4 a (Goes j b)) (g : Follows r u t continues A5 b (Goes k c)) (m : Follows r t x continues A6 c (Goes l d)) (o : Follows r x y continues A7 d last) where
+  at_a5 : CallIsAt r u continues A5 b
   at_a5 = to_a5 r s u a b j h f
 
-  at_a7 : Stands r x goes_on A7 d
+  at_a7 : CallIsAt r x continues A7 d
   at_a7 = to_a7 r t x c d l (to_a6 r u t b c k at_a5 g) m
 
   abbrev four : Event
-  four = event r s u goes_on A4 f.found f.did
+  four = event r s u continues A4 f.found f.did
 
   abbrev five : Event
-  five = event r u t goes_on A5 g.found g.did
+  five = event r u t continues A5 g.found g.did
 
   abbrev six : Event
-  six = event r t x goes_on A6 m.found m.did
+  six = event r t x continues A6 m.found m.did
 
   abbrev seven : Event
-  seven = event r x y goes_on A7 o.found o.did
+  seven = event r x y continues A7 o.found o.did
 
   body_is : (view u).actor.val.body ≡ (value_of a.val).body
   body_is = ap (λ (v : Taken). v.body) (at_a5.val ∙ ap (λ (z : Running). value_of z.val) (same_push j A5 b (record a { tail = ref_of f.found }) f.leads_to))
 
   acts : Acts (view u) (view t) (Push (view u).number (view u).actor.val.body) (five ∷ [])
-  acts = act_on r u t goes_on A5 g.found g.did (Push (view u).number (view u).actor.val.body) refl tt
+  acts = act_on r u t continues A5 g.found g.did (Push (view u).number (view u).actor.val.body) refl tt
 
   pub links : Links r s y a
   links =
-      let w = walk_on r s u goes_on A4 f.found f.did refl tt in
-      let over = after_a7 r x y goes_on o.found d at_a7 o.did in
+      let w = walk_on r s u continues A4 f.found f.did refl tt in
+      let over = after_a7 r x y continues o.found d at_a7 o.did in
       let before : Acts (view s) (view t) (Push (view s).number (value_of a.val).body) (four ∷ five ∷ []) =
       then_act (view s) (view u) (view t) (Push (view u).number (view u).actor.val.body) (Push (view s).number (value_of a.val).body) (four ∷ []) (five ∷ []) (λ i. Push (w.number i) (body_is i)) w acts in
-      let behind = pass_then (view t) (view x) (view y) (six ∷ []) (seven ∷ []) (pass_on r t x goes_on A6 m.found m.did refl tt refl) (pass_on r x y goes_on A7 o.found o.did refl tt refl) in
+      let behind = pass_then (view t) (view x) (view y) (six ∷ []) (seven ∷ []) (pass_on r t x continues A6 m.found m.did refl tt refl) (pass_on r x y continues A7 o.found o.did refl tt refl) in
       record {
         seat = o.did.seat;
         over = over.0;
@@ -184,15 +184,15 @@ module _ (r : Arena) (s u t x y : Seat) (a b c d : Running) (j k l : Line) (last
       }
 
 -- the body was pushed
-pub puts_it : (r : Arena) (s t u x : Seat) (h : Held) (val : ℕ) (a b : Running) (out : Outcome) (from body spent n turns : ℕ) → a ≡ registers_of h val → b ≡ registers_of h val → Trying r s t h val spent n → Follows r t u goes_on A3 a out → has_lock out ≡ true → Links r u x b → body < 2 ^ 48 → val ≡ from * 2 ^ 48 + body → n < turns → Puts r s (keeping x None n) h body spent turns (Ok tt)
+pub puts_it : (r : Arena) (s t u x : Seat) (h : Held) (val : ℕ) (a b : Running) (out : Outcome) (from body spent n turns : ℕ) → a ≡ registers_of h val → b ≡ registers_of h val → Trying r s t h val spent n → Follows r t u continues A3 a out → has_lock out ≡ true → Links r u x b → body < 2 ^ 48 → val ≡ from * 2 ^ 48 + body → n < turns → Puts r s (keeping x None n) h body spent turns (Ok tt)
 puts_it r s t u x h val a b out from body spent n turns is same g follows won linked small word less =
-    let f : Follows r t u goes_on A3 (registers_of h val) out = subst (λ x. Follows r t u goes_on A3 x out) is follows in
+    let f : Follows r t u continues A3 (registers_of h val) out = subst (λ x. Follows r t u continues A3 x out) is follows in
     let k : Links r u x (registers_of h val) = subst (Links r u x) same linked in
     let bodies : (value_of val).body ≡ body = ap (λ (v : Taken). v.body) (value_of-word val from body small word) in
-    let try : Event = event r t u goes_on A3 f.found f.did in
+    let try : Event = event r t u continues A3 f.found f.did in
     let one = got r t u (registers_of h val) out g.stands f won in
     let before : List Event = g.lines ++ try ∷ [] in
-    let w : Walks (view s) (view u) before = walk_then (view s) (view t) (view u) g.lines (try ∷ []) g.walks (try_walk r t u (registers_of h val) out g.stands f) in
+    let w : ExtendsPath (view s) (view u) before = walk_then (view s) (view t) (view u) g.lines (try ∷ []) g.walks (try_walk r t u (registers_of h val) out g.stands f) in
     let es : List Event = before ++ k.lines in
     let acts : Acts (view s) (view x) (Push (view s).number body) es = then_act (view s) (view u) (view x) (Push (view u).number (value_of val).body) (Push (view s).number body) before k.lines (λ i. Push (w.number i) (bodies i)) w k.acts in
     let e : added s x ≡ es = added_path s x es acts.path in
@@ -224,5 +224,5 @@ gives_up_put r s t h val body spent turns less g =
       same = record { number = g.stored.number; role = g.stored.role };
       pocket = refl;
       pushed = tt;
-      refused = (refl, subst (Walks (view s) (view t)) (sym e) g.walks, ap (λ es. spent + failed_turns es) e ∙ g.failed, ends_failed s (keeping t (Some h) turns) g.lines e (g.last less));
+      refused = (refl, subst (ExtendsPath (view s) (view t)) (sym e) g.walks, ap (λ es. spent + failed_turns es) e ∙ g.failed, ends_failed s (keeping t (Some h) turns) g.lines e (g.last less));
     }

@@ -9,8 +9,8 @@ use Rattle.node_arena.specs.declared.arena.Arena.{Arena}
 use Rattle.node_arena.specs.declared.seats.Seat.{Seat}
 use Rattle.node_arena.specs.Seats as seats
 use Rattle.node_arena.specs.Seats.{IsReady, KeepsName, Sees, view, known_of}
-use Rattle.node_arena.specs.Walks.{added}
-use Rattle.node_arena.proofs.Walking.{sees_on}
+use Rattle.node_arena.specs.Paths.{added}
+use Rattle.node_arena.proofs.Paths.{sees_on}
 use Rattle.two_lock.specs.Pushes as pushes
 use Rattle.two_lock.specs.Pushes.{PushRefused}
 use Rattle.two_lock.specs.Pops as pops
@@ -27,19 +27,19 @@ why_pushed r s t turns Busy h = tt
 why_pushed r s t turns _ h = absurd h
 
 module _ (r : Arena) (s t : Seat) {body turns : ℕ} where
-  pub push_done : (out : Result (Unit {0}) Refusal) → pushes.Answers r s t body turns out → OnOk out (Pushed (known_of s) body (known_of t))
+  pub push_done : (out : Result (Unit {0}) Refusal) → pushes.AnswersPush r s t body turns out → OnOk out (Pushed (known_of s) body (known_of t))
   push_done (Ok u) h = h.pushed.0.adds
   push_done (Err why) h = tt
 
-  pub push_refused : (out : Result (Unit {0}) Refusal) → pushes.Answers r s t body turns out → OnErr out (SeesMore (known_of s) (known_of t))
+  pub push_refused : (out : Result (Unit {0}) Refusal) → pushes.AnswersPush r s t body turns out → OnErr out (SeesMore (known_of s) (known_of t))
   push_refused (Ok u) h = tt
   push_refused (Err why) h = sees_on (view s) (view t) (added s t) h.refused.0
 
-  pub push_why : (out : Result (Unit {0}) Refusal) → pushes.Answers r s t body turns out → IfErr out StopsPush
+  pub push_why : (out : Result (Unit {0}) Refusal) → pushes.AnswersPush r s t body turns out → IfErr out StopsPush
   push_why (Ok u) h = tt
   push_why (Err why) h = why_pushed r s t turns why h.refused.1
 
-  pub push_caused : (out : Result (Unit {0}) Refusal) → pushes.Answers r s t body turns out → IfErr out (PushRefused r s t turns)
+  pub push_caused : (out : Result (Unit {0}) Refusal) → pushes.AnswersPush r s t body turns out → IfErr out (PushRefused r s t turns)
   push_caused (Ok u) h = tt
   push_caused (Err why) h = h.refused.1
 
@@ -49,15 +49,15 @@ why_popped r s t turns Busy h = tt
 why_popped r s t turns _ h = absurd h
 
 module _ (r : Arena) (s t : Seat) {turns : ℕ} where
-  pub pop_refused : (out : Result (Option Taken) Refusal) → pops.Answers r s t turns out → OnErr out (SeesMore (known_of s) (known_of t))
+  pub pop_refused : (out : Result (Option Taken) Refusal) → pops.AnswersPop r s t turns out → OnErr out (SeesMore (known_of s) (known_of t))
   pop_refused (Ok u) h = tt
   pop_refused (Err why) h = sees_on (view s) (view t) (added s t) h.refused.0
 
-  pub pop_why : (out : Result (Option Taken) Refusal) → pops.Answers r s t turns out → IfErr out StopsPop
+  pub pop_why : (out : Result (Option Taken) Refusal) → pops.AnswersPop r s t turns out → IfErr out StopsPop
   pop_why (Ok u) h = tt
   pop_why (Err why) h = why_popped r s t turns why h.refused.1
 
-  pub pop_caused : (out : Result (Option Taken) Refusal) → pops.Answers r s t turns out → IfErr out (PopRefused r s t turns)
+  pub pop_caused : (out : Result (Option Taken) Refusal) → pops.AnswersPop r s t turns out → IfErr out (PopRefused r s t turns)
   pop_caused (Ok u) h = tt
   pop_caused (Err why) h = h.refused.1
 

@@ -14,13 +14,13 @@ use Rattle.history.specs.declared.refusals.WornWord.TheVariants.{Head as OfHead}
 use Rattle.history.specs.Answers.{FoundEmpty, PopAnswers}
 use Rattle.node_arena.specs.Machine.{Setup, Actor}
 use Rattle.node_arena.specs.Traces.{Event}
-use Rattle.node_arena.specs.Leads.{Lead, begins, goes_on, led, CanLead}
+use Rattle.node_arena.specs.Prologues.{Prologue, begins, continues, after_prologue, CanStart}
 use Rattle.node_arena.specs.declared.arena.Arena.{Arena}
 use Rattle.node_arena.specs.declared.seats.Seat.{Seat}
 use Rattle.node_arena.specs.Seeing.{known_by}
 use Rattle.node_arena.specs.Seats.{IsSeat, IsReady, KeepsStored, KeepsName, DidStep, view, known_of}
 use Rattle.node_arena.specs.Turns.{failed_turns}
-use Rattle.node_arena.specs.Walks.{Walks, Acts, HadNoEffect, FailedAt, EndsFailed, EndedAt, MetCause, HasOwnCause, added}
+use Rattle.node_arena.specs.Paths.{ExtendsPath, Acts, HadNoEffect, FailedAt, EndsFailed, EndedAt, MetCause, HasOwnCause, added}
 use Rattle.two_lock.specs.Values.{value_of}
 use Rattle.two_lock.specs.declared.pop_outcomes.Actor.{Actor as Running}
 use Rattle.two_lock.specs.declared.pop_outcomes.Reply.{Reply}
@@ -29,9 +29,9 @@ use Rattle.two_lock.specs.declared.pop_outcomes.Outcome.{Outcome}
 use Rattle.two_lock.specs.declared.pop_outcomes.Outcome.TheVariants.{Goes, Empty, Refused}
 
 -- how a pop sets out: its first turn begins a dequeue, and a later one goes on
-abbrev pub popping : ℕ → Lead
+abbrev pub popping : ℕ → Prologue
 popping zero = begins Deq
-popping (suc n) = goes_on
+popping (suc n) = continues
 
 -- where a pop goes once the lock was let go: a value's node is freed, and else the call ends
 abbrev pub unlocked_as : Option Reply → Running → Outcome
@@ -73,29 +73,29 @@ pub record KnowsDue (b : Actor) (a : Running) (due : Option Reply) : Type 0 wher
   pub mark : (word : ℕ) → due ≡ Some (IsValue word) → b.mark ≡ a.mark
 
 -- what a running pop knows of its actor's registers before a line
-abbrev pub KnowsAt : Setup → Line → Actor → Running → Type 0
-KnowsAt z B3 b a = b.head ≡ a.head
-KnowsAt z B4 b a = (b.head ≡ a.head) × (b.next ≡ a.next)
-KnowsAt z B5 b a = (b.head ≡ a.head) × (b.next ≡ a.next) × (b.val ≡ value_of a.val) × (a.head.count < z.limit)
-KnowsAt z B6 b a = KnowsDue b a a.due
-KnowsAt z l b a = Unit {0}
+abbrev pub AgreesAt : Setup → Line → Actor → Running → Type 0
+AgreesAt z B3 b a = b.head ≡ a.head
+AgreesAt z B4 b a = (b.head ≡ a.head) × (b.next ≡ a.next)
+AgreesAt z B5 b a = (b.head ≡ a.head) × (b.next ≡ a.next) × (b.val ≡ value_of a.val) × (a.head.count < z.limit)
+AgreesAt z B6 b a = KnowsDue b a a.due
+AgreesAt z l b a = Unit {0}
 
 -- a seat's actor, led there, stands before a line of a pop with an empty pocket
-pub record IsBefore (r : Arena) (s : Seat) (lead : Lead) (l : Line) : Type 0 where
+pub record IsBefore (r : Arena) (s : Seat) (prologue : Prologue) (l : Line) : Type 0 where
   pub seat : IsSeat r s
-  pub can : CanLead lead (view s).actor
-  pub line : (led r.plan.setup (view s).number lead (view s).actor).line ≡ Some l
-  pub empty : (led r.plan.setup (view s).number lead (view s).actor).pocket ≡ None
+  pub can : CanStart prologue (view s).actor
+  pub line : (after_prologue r.plan.setup (view s).number prologue (view s).actor).line ≡ Some l
+  pub empty : (after_prologue r.plan.setup (view s).number prologue (view s).actor).pocket ≡ None
 
 -- and the call knows its registers
-pub record Stands (r : Arena) (s : Seat) (lead : Lead) (l : Line) (a : Running) : Type 0 where
-  pub before : IsBefore r s lead l
-  pub knows : KnowsAt r.plan.setup l (led r.plan.setup (view s).number lead (view s).actor) a
+pub record CallIsAt (r : Arena) (s : Seat) (prologue : Prologue) (l : Line) (a : Running) : Type 0 where
+  pub before : IsBefore r s prologue l
+  pub knows : AgreesAt r.plan.setup l (after_prologue r.plan.setup (view s).number prologue (view s).actor) a
 
 -- the seat made its step at a line, and the call made of the number found what the line says
-pub record Follows (r : Arena) (s t : Seat) (lead : Lead) (l : Line) (a : Running) (out : Outcome) : Type 0 where
+pub record Follows (r : Arena) (s t : Seat) (prologue : Prologue) (l : Line) (a : Running) (out : Outcome) : Type 0 where
   pub found : ℕ
-  pub did : DidStep r s t lead l found
+  pub did : DidStep r s t prologue l found
   pub leads_to : out ≡ follow r.plan.setup a l found
 
 -- a value was taken, and the node that comes free is in the hand
@@ -115,7 +115,7 @@ pub record SawEmpty (s t : Seat) (es : List Event) : Type 0 where
 -- Head was found worn out
 pub record SawWorn (r : Arena) (s t : Seat) (es : List Event) (why : Refusal) : Type 0 where
   pub over : (view t).actor.line ≡ None
-  pub walks : Walks (view s) (view t) es
+  pub walks : ExtendsPath (view s) (view t) es
   pub is : why ≡ WornOut OfHead
   pub cause : EndedAt r s es (λ w. HasOwnCause w (view s).number (WornOut OfHead))
 
@@ -139,7 +139,7 @@ pub record Trying (r : Arena) (s t : Seat) (n : ℕ) : Type 0 where
   pub before : IsBefore r t (popping n) B1
   pub stored : KeepsStored s t
   pub lines : List Event
-  pub walks : Walks (view s) (view t) lines
+  pub walks : ExtendsPath (view s) (view t) lines
   pub failed : failed_turns lines ≡ n
   pub last : 1 ≤ n → FailedAt lines
 
@@ -163,7 +163,7 @@ abbrev pub PopRefused : Arena → Seat → Seat → (turns : ℕ) → Refusal �
 PopRefused r s t turns why = DrawRefused r s t 0 turns why
 
 -- what a pop answers
-pub record Answers (r : Arena) (s t : Seat) (turns : ℕ) (out : Result (Option Taken) Refusal) : Type 0 where
+pub record AnswersPop (r : Arena) (s t : Seat) (turns : ℕ) (out : Result (Option Taken) Refusal) : Type 0 where
   pub ready : IsReady r t
   pub same : KeepsName s t
   pub answer : IfOk out (λ o. PopAnswers (known_of s) o (known_of t))

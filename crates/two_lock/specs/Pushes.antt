@@ -8,12 +8,12 @@ use Rattle.history.specs.declared.refusals.Refusal.{Refusal}
 use Rattle.history.specs.declared.refusals.Refusal.TheVariants.{Busy}
 use Rattle.node_arena.specs.Machine.{Setup, Held, Actor}
 use Rattle.node_arena.specs.Traces.{Event}
-use Rattle.node_arena.specs.Leads.{Lead, goes_on, led, CanLead}
+use Rattle.node_arena.specs.Prologues.{Prologue, continues, after_prologue, CanStart}
 use Rattle.node_arena.specs.declared.arena.Arena.{Arena}
 use Rattle.node_arena.specs.declared.seats.Seat.{Seat}
 use Rattle.node_arena.specs.Seats.{IsSeat, IsReady, KeepsStored, KeepsName, DidStep, view, pocket_of}
 use Rattle.node_arena.specs.Turns.{failed_turns}
-use Rattle.node_arena.specs.Walks.{Walks, Acts, HadNoEffect, FailedAt, EndsFailed, added}
+use Rattle.node_arena.specs.Paths.{ExtendsPath, Acts, HadNoEffect, FailedAt, EndsFailed, added}
 use Rattle.free_list.specs.Takes.{TakeRefused}
 use Rattle.two_lock.specs.Values.{value_of}
 use Rattle.two_lock.specs.declared.push_outcomes.Actor.{Actor as Running}
@@ -42,26 +42,26 @@ has_lock (Goes A4 a) = true
 has_lock outcome = false
 
 -- what a running push knows beside node, mark and value before a line
-abbrev pub KnowsAt : Setup → Line → Actor → Running → Type 0
-KnowsAt z A5 b a = (b.tail ≡ a.tail) × (a.node ≤ z.size)
-KnowsAt z A6 b a = a.node ≤ z.size
-KnowsAt z l b a = Unit {0}
+abbrev pub AgreesAt : Setup → Line → Actor → Running → Type 0
+AgreesAt z A5 b a = (b.tail ≡ a.tail) × (a.node ≤ z.size)
+AgreesAt z A6 b a = a.node ≤ z.size
+AgreesAt z l b a = Unit {0}
 
 -- a seat's actor, led there, stands before a line of a push with an empty pocket, and the call knows its registers
-pub record Stands (r : Arena) (s : Seat) (lead : Lead) (l : Line) (a : Running) : Type 0 where
+pub record CallIsAt (r : Arena) (s : Seat) (prologue : Prologue) (l : Line) (a : Running) : Type 0 where
   pub seat : IsSeat r s
-  pub can : CanLead lead (view s).actor
-  pub line : (led r.plan.setup (view s).number lead (view s).actor).line ≡ Some l
-  pub empty : (led r.plan.setup (view s).number lead (view s).actor).pocket ≡ None
-  pub node : (led r.plan.setup (view s).number lead (view s).actor).node ≡ a.node
-  pub mark : (led r.plan.setup (view s).number lead (view s).actor).mark ≡ a.mark
-  pub val : (led r.plan.setup (view s).number lead (view s).actor).val ≡ value_of a.val
-  pub knows : KnowsAt r.plan.setup l (led r.plan.setup (view s).number lead (view s).actor) a
+  pub can : CanStart prologue (view s).actor
+  pub line : (after_prologue r.plan.setup (view s).number prologue (view s).actor).line ≡ Some l
+  pub empty : (after_prologue r.plan.setup (view s).number prologue (view s).actor).pocket ≡ None
+  pub node : (after_prologue r.plan.setup (view s).number prologue (view s).actor).node ≡ a.node
+  pub mark : (after_prologue r.plan.setup (view s).number prologue (view s).actor).mark ≡ a.mark
+  pub val : (after_prologue r.plan.setup (view s).number prologue (view s).actor).val ≡ value_of a.val
+  pub knows : AgreesAt r.plan.setup l (after_prologue r.plan.setup (view s).number prologue (view s).actor) a
 
 -- the seat made its step at a line, and the call made of the number found what the line says
-pub record Follows (r : Arena) (s t : Seat) (lead : Lead) (l : Line) (a : Running) (out : Outcome) : Type 0 where
+pub record Follows (r : Arena) (s t : Seat) (prologue : Prologue) (l : Line) (a : Running) (out : Outcome) : Type 0 where
   pub found : ℕ
-  pub did : DidStep r s t lead l found
+  pub did : DidStep r s t prologue l found
   pub leads_to : out ≡ follow a l found
 
 -- the node was linked, and the call is over
@@ -76,10 +76,10 @@ pub record Links (r : Arena) (s t : Seat) (a : Running) : Type 0 where
 
 -- a push that has its node, after so many failed turns of its call, `spent` of them before it had the node
 pub record Trying (r : Arena) (s t : Seat) (h : Held) (val spent n : ℕ) : Type 0 where
-  pub stands : Stands r t goes_on A3 (registers_of h val)
+  pub stands : CallIsAt r t continues A3 (registers_of h val)
   pub stored : KeepsStored s t
   pub lines : List Event
-  pub walks : Walks (view s) (view t) lines
+  pub walks : ExtendsPath (view s) (view t) lines
   pub failed : spent + failed_turns lines ≡ n
   pub last : spent < n → FailedAt lines
 
@@ -100,7 +100,7 @@ abbrev pub PushRefused : Arena → Seat → Seat → (turns : ℕ) → Refusal �
 PushRefused r s t turns why = TakeRefused r s t turns why
 
 -- what a push answers
-pub record Answers (r : Arena) (s t : Seat) (body turns : ℕ) (out : Result (Unit {0}) Refusal) : Type 0 where
+pub record AnswersPush (r : Arena) (s t : Seat) (body turns : ℕ) (out : Result (Unit {0}) Refusal) : Type 0 where
   pub ready : IsReady r t
   pub same : KeepsName s t
   pub pushed : OnOk out (DidPush s t body × (pocket_of t ≡ None) × (failed_turns (added s t) < turns))

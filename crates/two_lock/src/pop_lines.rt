@@ -1,12 +1,12 @@
 //! The lines of a pop, each a row of the line table on the words of an arena.
 ghost use Rattle.std.specs.Prelude.{IsTrue};
 ghost use Rattle.line_table.specs.declared.lines.Line.TheVariants as lines;
-ghost use Rattle.node_arena.specs.Leads.{Lead, goes_on};
+ghost use Rattle.node_arena.specs.Prologues.{Prologue, continues};
 ghost use Rattle.node_arena.specs.Plans.{may_pop};
 ghost use Rattle.node_arena.specs.Seats.{role_of};
-ghost use Rattle.two_lock.specs.Pops.{Stands, Follows};
+ghost use Rattle.two_lock.specs.Pops.{CallIsAt, Follows};
 
-use crate::pop_outcomes::{Actor, Outcome, Reply, Untold, effect, goes, raised, takes, unlocked};
+use crate::pop_outcomes::{Actor, Outcome, Reply, Untold, effect, goes, raised, fills_hand, unlocked};
 use history::{Refusal, WornWord};
 use line_table::{Line, line_table};
 use node_arena::{Arena, Seat, exchanged, reference, stored};
@@ -47,9 +47,9 @@ macro_rules! row {
 
 /// `index` turns of this call failed since it began.
 pub(crate) fn b1(arena: &Arena, seat: &mut Seat, a: Actor, index: u32) -> Outcome
-    ghost lead: { Lead }
-    requires { Stands arena.now seat.old lead lines.B1 a }
-    ensures { Follows arena.now seat.old seat.new lead lines.B1 a result }
+    ghost prologue: { Prologue }
+    requires { CallIsAt arena.now seat.old prologue lines.B1 a }
+    ensures { Follows arena.now seat.old seat.new prologue lines.B1 a result }
 {
     let _ = index;
     let me = seat.number();
@@ -57,39 +57,39 @@ pub(crate) fn b1(arena: &Arena, seat: &mut Seat, a: Actor, index: u32) -> Outcom
 }
 
 pub(crate) fn b2(arena: &Arena, seat: &mut Seat, a: Actor) -> Outcome
-    requires { Stands arena.now seat.old goes_on lines.B2 a }
-    ensures { Follows arena.now seat.old seat.new goes_on lines.B2 a result }
+    requires { CallIsAt arena.now seat.old continues lines.B2 a }
+    ensures { Follows arena.now seat.old seat.new continues lines.B2 a result }
 {
     line_table!(B2 (setup NOW NOW a found) row (arena seat found))
 }
 
 pub(crate) fn b3(arena: &Arena, seat: &mut Seat, a: Actor) -> Outcome
-    requires { Stands arena.now seat.old goes_on lines.B3 a }
-    ensures { Follows arena.now seat.old seat.new goes_on lines.B3 a result }
+    requires { CallIsAt arena.now seat.old continues lines.B3 a }
+    ensures { Follows arena.now seat.old seat.new continues lines.B3 a result }
 {
     line_table!(B3 (setup NOW NOW a found) row (arena seat found))
 }
 
 pub(crate) fn b4(arena: &Arena, seat: &mut Seat, a: Actor) -> Outcome
-    requires { Stands arena.now seat.old goes_on lines.B4 a }
-    ensures { Follows arena.now seat.old seat.new goes_on lines.B4 a result }
+    requires { CallIsAt arena.now seat.old continues lines.B4 a }
+    ensures { Follows arena.now seat.old seat.new continues lines.B4 a result }
 {
     let setup = arena.setup();
     line_table!(B4 (setup NOW NOW a found) row (arena seat found))
 }
 
 pub(crate) fn b5(arena: &Arena, seat: &mut Seat, a: Actor) -> Outcome
-    requires stands { Stands arena.now seat.old goes_on lines.B5 a }
+    requires stands { CallIsAt arena.now seat.old continues lines.B5 a }
     requires role { IsTrue (may_pop (role_of seat.old)) }
-    ensures { Follows arena.now seat.old seat.new goes_on lines.B5 a result }
+    ensures { Follows arena.now seat.old seat.new continues lines.B5 a result }
 {
     let setup = arena.setup();
     line_table!(B5 (setup NOW NOW a found) row (arena seat found))
 }
 
 pub(crate) fn b6(arena: &Arena, seat: &mut Seat, a: Actor) -> Outcome
-    requires { Stands arena.now seat.old goes_on lines.B6 a }
-    ensures { Follows arena.now seat.old seat.new goes_on lines.B6 a result }
+    requires { CallIsAt arena.now seat.old continues lines.B6 a }
+    ensures { Follows arena.now seat.old seat.new continues lines.B6 a result }
 {
     line_table!(B6 (setup NOW NOW a found) row (arena seat found))
 }

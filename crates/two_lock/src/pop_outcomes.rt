@@ -24,7 +24,7 @@ pub(crate) struct Actor {
     pub(crate) node: u32,
     pub(crate) mark: u64,
     pub(crate) due: Option<Reply>,
-    pub(crate) noted: Untold,
+    pub(crate) empty_at: Untold,
 }
 
 /// What a pop that ends is told.
@@ -57,7 +57,7 @@ pub(crate) fn blank() -> Actor {
         node: 0,
         mark: 0,
         due: None,
-        noted: Untold,
+        empty_at: Untold,
     }
 }
 
@@ -87,7 +87,7 @@ pub(crate) fn effect(now: Untold, outcome: Outcome) -> Outcome
     outcome
 }
 
-pub(crate) fn takes(node: u32, mark: u64, a: Actor) -> Actor
+pub(crate) fn fills_hand(node: u32, mark: u64, a: Actor) -> Actor
     ensures { result ≡ record a { node = node; mark = mark } }
 {
     Actor { node, mark, ..a }

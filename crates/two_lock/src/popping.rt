@@ -1,11 +1,11 @@
 //! Takes the value at the front.
 ghost use Rattle.std.specs.Prelude.{◌≡◌, ◌≤◌, ◌<◌, IsTrue, None};
 ghost use Rattle.line_table.specs.declared.lines.Line.TheVariants as lines;
-ghost use Rattle.node_arena.specs.Leads.{goes_on};
+ghost use Rattle.node_arena.specs.Prologues.{continues};
 ghost use Rattle.node_arena.specs.Plans.{may_pop};
 ghost use Rattle.node_arena.specs.Seats.{IsReady, role_of, pocket_of};
 ghost use Rattle.two_lock.specs.Values.{IsTwoLock};
-ghost use Rattle.two_lock.specs.Pops.{Stands, IsBefore, Fronts, Draws, Answers};
+ghost use Rattle.two_lock.specs.Pops.{CallIsAt, IsBefore, Fronts, Draws, AnswersPop};
 
 use crate::pop_lines::{b1, b2, b3, b4, b5, b6};
 use crate::pop_outcomes::{Actor, Outcome, blank, got_lock, value};
@@ -16,7 +16,7 @@ use node_arena::{Arena, Held, Seat};
 
 // With the lock: the value after Head's node is taken where there is one, and the lock is let go.
 fn front(arena: &Arena, seat: &mut Seat, a: Actor) -> Outcome
-    requires stands { Stands arena.now seat.old goes_on lines.B2 a }
+    requires stands { CallIsAt arena.now seat.old continues lines.B2 a }
     requires two_lock { IsTwoLock arena.now }
     requires role { IsTrue (may_pop (role_of seat.old)) }
     ensures { Fronts arena.now seat.old seat.new result }
@@ -44,7 +44,7 @@ fn front(arena: &Arena, seat: &mut Seat, a: Actor) -> Outcome
 
 // With the lock, where so many turns failed before: a node that comes free is given back with the turns that are left.
 fn end(arena: &Arena, seat: &mut Seat, failed: u32, turns: u32) -> Result<Option<Taken>, Refusal>
-    requires before { IsBefore arena.now seat.old goes_on lines.B2 }
+    requires before { IsBefore arena.now seat.old continues lines.B2 }
     requires two_lock { IsTwoLock arena.now }
     requires role { IsTrue (may_pop (role_of seat.old)) }
     requires turns { failed < turns }
@@ -99,7 +99,7 @@ pub(crate) fn try_pop(arena: &Arena, seat: &mut Seat, turns: u32) -> Result<Opti
     requires two_lock { IsTwoLock arena.now }
     requires role { IsTrue (may_pop (role_of seat.old)) }
     requires turns { 1 ≤ turns }
-    ensures { Answers arena.now seat.old seat.new turns result }
+    ensures { AnswersPop arena.now seat.old seat.new turns result }
 {
     if seat.pocket().is_none() {
         return draw(arena, seat, 0, turns);

@@ -1,12 +1,12 @@
 //! The lines of a push, each a row of the line table on the words of an arena.
 ghost use Rattle.std.specs.Prelude.{IsTrue};
 ghost use Rattle.line_table.specs.declared.lines.Line.TheVariants as lines;
-ghost use Rattle.node_arena.specs.Leads.{Lead, goes_on};
+ghost use Rattle.node_arena.specs.Prologues.{Prologue, continues};
 ghost use Rattle.node_arena.specs.Plans.{may_push};
 ghost use Rattle.node_arena.specs.Seats.{role_of};
-ghost use Rattle.two_lock.specs.Pushes.{Stands, Follows};
+ghost use Rattle.two_lock.specs.Pushes.{CallIsAt, Follows};
 
-use crate::push_outcomes::{Actor, Outcome, Reply, Untold, effect, ends, goes, lets_go};
+use crate::push_outcomes::{Actor, Outcome, Reply, Untold, effect, ends, goes, empties_hand};
 use counted_ref::CountedRef;
 use line_table::{Line, line_table};
 use node_arena::{Arena, Seat, exchanged, masked, reference, stored};
@@ -49,53 +49,53 @@ macro_rules! row {
 }
 
 pub(crate) fn a1(arena: &Arena, seat: &mut Seat, a: Actor) -> Outcome
-    ghost lead: { Lead }
-    requires { Stands arena.now seat.old lead lines.A1 a }
-    ensures { Follows arena.now seat.old seat.new lead lines.A1 a result }
+    ghost prologue: { Prologue }
+    requires { CallIsAt arena.now seat.old prologue lines.A1 a }
+    ensures { Follows arena.now seat.old seat.new prologue lines.A1 a result }
 {
     line_table!(A1 (setup NOW NOW a found) row (arena seat found))
 }
 
 pub(crate) fn a2(arena: &Arena, seat: &mut Seat, a: Actor) -> Outcome
-    requires { Stands arena.now seat.old goes_on lines.A2 a }
-    ensures { Follows arena.now seat.old seat.new goes_on lines.A2 a result }
+    requires { CallIsAt arena.now seat.old continues lines.A2 a }
+    ensures { Follows arena.now seat.old seat.new continues lines.A2 a result }
 {
     line_table!(A2 (setup NOW NOW a found) row (arena seat found))
 }
 
 pub(crate) fn a3(arena: &Arena, seat: &mut Seat, a: Actor) -> Outcome
-    requires { Stands arena.now seat.old goes_on lines.A3 a }
-    ensures { Follows arena.now seat.old seat.new goes_on lines.A3 a result }
+    requires { CallIsAt arena.now seat.old continues lines.A3 a }
+    ensures { Follows arena.now seat.old seat.new continues lines.A3 a result }
 {
     let me = seat.number();
     line_table!(A3 (setup NOW me a found) row (arena seat found))
 }
 
 pub(crate) fn a4(arena: &Arena, seat: &mut Seat, a: Actor) -> Outcome
-    requires { Stands arena.now seat.old goes_on lines.A4 a }
-    ensures { Follows arena.now seat.old seat.new goes_on lines.A4 a result }
+    requires { CallIsAt arena.now seat.old continues lines.A4 a }
+    ensures { Follows arena.now seat.old seat.new continues lines.A4 a result }
 {
     line_table!(A4 (setup NOW NOW a found) row (arena seat found))
 }
 
 pub(crate) fn a5(arena: &Arena, seat: &mut Seat, a: Actor) -> Outcome
-    requires stands { Stands arena.now seat.old goes_on lines.A5 a }
+    requires stands { CallIsAt arena.now seat.old continues lines.A5 a }
     requires role { IsTrue (may_push (role_of seat.old)) }
-    ensures { Follows arena.now seat.old seat.new goes_on lines.A5 a result }
+    ensures { Follows arena.now seat.old seat.new continues lines.A5 a result }
 {
     line_table!(A5 (setup NOW NOW a found) row (arena seat found))
 }
 
 pub(crate) fn a6(arena: &Arena, seat: &mut Seat, a: Actor) -> Outcome
-    requires { Stands arena.now seat.old goes_on lines.A6 a }
-    ensures { Follows arena.now seat.old seat.new goes_on lines.A6 a result }
+    requires { CallIsAt arena.now seat.old continues lines.A6 a }
+    ensures { Follows arena.now seat.old seat.new continues lines.A6 a result }
 {
     line_table!(A6 (setup NOW NOW a found) row (arena seat found))
 }
 
 pub(crate) fn a7(arena: &Arena, seat: &mut Seat, a: Actor) -> Outcome
-    requires { Stands arena.now seat.old goes_on lines.A7 a }
-    ensures { Follows arena.now seat.old seat.new goes_on lines.A7 a result }
+    requires { CallIsAt arena.now seat.old continues lines.A7 a }
+    ensures { Follows arena.now seat.old seat.new continues lines.A7 a result }
 {
     line_table!(A7 (setup NOW NOW a found) row (arena seat found))
 }

@@ -77,7 +77,7 @@ pub(crate) fn effect(now: Untold, outcome: Outcome) -> Outcome
     outcome
 }
 
-pub(crate) fn lets_go(a: Actor) -> Actor
+pub(crate) fn empties_hand(a: Actor) -> Actor
     ensures { result ≡ a }
 {
     a

@@ -1,11 +1,11 @@
 //! Pushes a body.
 ghost use Rattle.std.specs.Prelude.{◌≡◌, ◌≤◌, ◌<◌, IsTrue, Some};
 ghost use Rattle.line_table.specs.declared.lines.Line.TheVariants as lines;
-ghost use Rattle.node_arena.specs.Leads.{goes_on};
+ghost use Rattle.node_arena.specs.Prologues.{continues};
 ghost use Rattle.node_arena.specs.Plans.{may_push};
 ghost use Rattle.node_arena.specs.Seats.{IsReady, role_of, pocket_of};
 ghost use Rattle.two_lock.specs.Values.{IsTwoLock};
-ghost use Rattle.two_lock.specs.Pushes.{Stands, Links, Puts, Answers};
+ghost use Rattle.two_lock.specs.Pushes.{CallIsAt, Links, Puts, AnswersPush};
 
 use crate::push_lines::{a1, a2, a3, a4, a5, a6, a7};
 use crate::push_outcomes::{Actor, Outcome, got_lock, registers, word_of};
@@ -15,7 +15,7 @@ use node_arena::{Arena, Held, Seat};
 
 // The node is linked behind the last one, Tail goes on to it, and the lock is let go.
 fn link(arena: &Arena, seat: &mut Seat, a: Actor)
-    requires stands { Stands arena.now seat.old goes_on lines.A4 a }
+    requires stands { CallIsAt arena.now seat.old continues lines.A4 a }
     requires role { IsTrue (may_push (role_of seat.old)) }
     ensures { Links arena.now seat.old seat.new a }
 {
@@ -79,7 +79,7 @@ pub(crate) fn try_push(
     requires two_lock { IsTwoLock arena.now }
     requires role { IsTrue (may_push (role_of seat.old)) }
     requires turns { 1 ≤ turns }
-    ensures { Answers arena.now seat.old seat.new body turns result }
+    ensures { AnswersPush arena.now seat.old seat.new body turns result }
 {
     if let Some(held) = seat.pocket() {
         return put(arena, seat, held, body, 0, turns);

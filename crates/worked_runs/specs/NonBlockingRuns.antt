@@ -1,4 +1,4 @@
--- Worked runs of the queue without locks.
+-- Worked runs of the non-blocking queue.
 use Rattle.std.specs.Prelude.{List, [], ◌∷◌, ◌++◌, Some, None}
 use Rattle.counted_ref.specs.Ref.{ref, ref_word}
 use Rattle.line_table.specs.declared.lines.Kind.TheVariants.{NonBlocking}

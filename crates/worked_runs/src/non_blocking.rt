@@ -1,4 +1,4 @@
-//! Runs of the queue without locks.
+//! Runs of the non-blocking queue.
 ghost use Rattle.std.specs.Prelude.{[], ◌∷◌};
 ghost use Rattle.history.specs.declared.operations.Op.TheVariants.{Deq};
 ghost use Rattle.worked_runs.specs.Seen.{Shows, GoesThrough, IsStopped, begin, many, give};

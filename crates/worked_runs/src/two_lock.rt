@@ -1,4 +1,4 @@
-//! Runs of the queue with two locks.
+//! Runs of the two-lock queue.
 ghost use Rattle.worked_runs.specs.Seen.{Shows, GoesThrough};
 ghost use Rattle.worked_runs.specs.TwoLockRuns.{first_run, lines_of_first_run, locks_passed, lock_waited_for, tail_behind, lock_holder_stopped, worn_head};
 

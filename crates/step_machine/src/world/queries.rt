@@ -7,7 +7,7 @@ ghost use Rattle.line_steps.specs.Memory.{Free, Head, Tail, Next, Value_of, cont
 ghost use Rattle.step_machine.specs.Machine.{actor_of, IsMade, IsReached};
 ghost use Rattle.step_machine.specs.TakingEffect.{HavePlacesByItsEffects};
 
-use crate::settling::actor_at;
+use crate::committing::actor_at;
 use crate::world::World;
 use counted_ref::CountedRef;
 use history::{Refusal, Stamped, Taken};
@@ -72,7 +72,7 @@ impl World {
         self.actors.len()
     }
 
-    /// How many step numbers were given. The world is one that begins, steps and givings up led to, so every law of worlds
+    /// How many step numbers were given. The world is one that begins, steps and give moves led to, so every law of worlds
     /// holds of it.
     pub fn steps(&self) -> u64
         ensures value { result ≡ self.now.steps }

@@ -1,4 +1,4 @@
-//! Worked runs of the queue without locks, by one actor after another.
+//! Worked runs of the non-blocking queue, by one actor after another.
 use super::events::Event::{Begin, Free, Fresh, Head, Next, Refused, Steps, Tail};
 use super::expected::{complete, enq, value};
 use super::trials::{NON_BLOCKING, Sizes, run};

@@ -1,4 +1,4 @@
-//! Worked runs of the queue without locks in which two actors' calls overlap.
+//! Worked runs of the non-blocking queue in which two actors' calls overlap.
 use super::events::Event::{At, Begin, Free, Give, Head, Next, Refused, Steps, Tail};
 use super::expected::{complete, effective, enq, value};
 use super::trials::{NON_BLOCKING, run};

@@ -19,7 +19,7 @@ pub struct Sizes {
     pub actors: u16,
 }
 
-/// The sizes of most runs of the queue without locks.
+/// The sizes of most runs of the non-blocking queue.
 pub const NON_BLOCKING: Sizes = Sizes {
     kind: Kind::NonBlocking,
     nodes: 3,
@@ -27,7 +27,7 @@ pub const NON_BLOCKING: Sizes = Sizes {
     actors: 2,
 };
 
-/// The sizes of most runs of the queue with two locks.
+/// The sizes of most runs of the two-lock queue.
 pub const TWO_LOCK: Sizes = Sizes {
     kind: Kind::TwoLock,
     nodes: 3,

@@ -1,4 +1,4 @@
-//! Worked runs of the queue with two locks.
+//! Worked runs of the two-lock queue.
 use super::events::Event::{At, Begin, Free, Give, Head, Next, Steps, Tail, Taken};
 use super::expected::{complete, enq, started, value};
 use super::trials::{Sizes, TWO_LOCK, run};

@@ -1,5 +1,5 @@
 use Rattle.free_list.specs.Runs.{giving}
-use Rattle.free_list.proofs.Backs.{at_f1_with, aside_turn, to_f2, to_f3, last_turn}
+use Rattle.free_list.proofs.GiveBack.{at_f1_with, aside_turn, to_f2, to_f3, last_turn}
 use Rattle.free_list.proofs.giving.give_turn.Goals as goal
 
 pub f1-requires : goal.f1-requires

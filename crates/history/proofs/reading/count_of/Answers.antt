@@ -1,8 +1,8 @@
 use Rattle.std.proofs.lemmas.Result.{err_from_is_err_and}
 use Rattle.text_lines.specs.Lines.{words_of}
-use Rattle.text_lines.proofs.Kept.{ReadsLine-kept}
+use Rattle.text_lines.proofs.ReadingBack.{ReadsLine-kept}
 use Rattle.history.specs.HistoryReading.{AreOfCount, SaysCount, IsCount}
-use Rattle.history.proofs.Said.{SaysCount-from_words, AreOfCount-said}
+use Rattle.history.proofs.LineReaders.{SaysCount-from_words, AreOfCount-said}
 use Rattle.history.proofs.reading.count_of.Goals as goal
 
 pub returns-in_err-count_in : goal.returns-in_err-count_in

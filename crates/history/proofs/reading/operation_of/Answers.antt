@@ -1,9 +1,9 @@
 use Rattle.std.proofs.lemmas.Result.{err_from_is_err_and}
 use Rattle.text_lines.specs.Lines.{words_of}
-use Rattle.text_lines.proofs.Kept.{ReadsLine-kept}
+use Rattle.text_lines.proofs.ReadingBack.{ReadsLine-kept}
 use Rattle.history.specs.HistoryReading.{AreOfOperation, SaysOperation}
 use Rattle.history.specs.HistoryLines.{IsOperationInRange}
-use Rattle.history.proofs.Said.{SaysOperation-from_words, AreOfOperation-said}
+use Rattle.history.proofs.LineReaders.{SaysOperation-from_words, AreOfOperation-said}
 use Rattle.history.proofs.reading.operation_of.Goals as goal
 
 pub returns-in_err-parts_of : goal.returns-in_err-parts_of

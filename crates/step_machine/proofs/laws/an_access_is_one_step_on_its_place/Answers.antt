@@ -1,6 +1,6 @@
 -- The two lemmas are the law.
-use Rattle.step_machine.proofs.Tables.{one_step, place-place_step}
+use Rattle.step_machine.proofs.Tables.{one_step, place-word_step}
 use Rattle.step_machine.proofs.laws.an_access_is_one_step_on_its_place.Goals as goal
 
 pub returns : goal.returns
-returns c = record { step = λ s a h. one_step s a h.names h.held h.given; place = place-place_step }
+returns c = record { step = λ s a h. one_step s a h.names h.held h.given; place = place-word_step }

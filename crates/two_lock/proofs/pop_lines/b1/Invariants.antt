@@ -1,4 +1,4 @@
 use Rattle.two_lock.proofs.pop_lines.b1.Given as goal
 
 abbrev pub ghost-exchange : goal.ghost-exchange
-ghost-exchange g a = g.lead
+ghost-exchange g a = g.prologue

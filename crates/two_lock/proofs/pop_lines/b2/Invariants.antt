@@ -1,5 +1,5 @@
-use Rattle.node_arena.specs.Leads.{goes_on}
+use Rattle.node_arena.specs.Prologues.{continues}
 use Rattle.two_lock.proofs.pop_lines.b2.Given as goal
 
 abbrev pub ghost-load : goal.ghost-load
-ghost-load a = goes_on
+ghost-load a = continues

@@ -1,4 +1,4 @@
 use Rattle.two_lock.proofs.push_lines.a1.Given as goal
 
 abbrev pub ghost-store : goal.ghost-store
-ghost-store g a = g.lead
+ghost-store g a = g.prologue

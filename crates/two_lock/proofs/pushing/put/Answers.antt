@@ -1,6 +1,6 @@
 use Rattle.std.proofs.Common.{◌≡◌, ℕ, None, Ok, ◌∙◌, sym, subst, arith}
 use Rattle.history.specs.declared.operations.Op.TheVariants.{Enq}
-use Rattle.node_arena.specs.Leads.{begins}
+use Rattle.node_arena.specs.Prologues.{begins}
 use Rattle.two_lock.specs.Values.{value_of}
 use Rattle.node_arena.specs.Seats.{keeping}
 use Rattle.two_lock.specs.Pushes.{Trying, Puts}

@@ -1,5 +1,5 @@
 use Rattle.history.specs.declared.operations.Op.TheVariants.{Enq}
-use Rattle.node_arena.specs.Leads.{begins}
+use Rattle.node_arena.specs.Prologues.{begins}
 use Rattle.two_lock.specs.Values.{value_of}
 use Rattle.two_lock.specs.Pushes.{Trying}
 use Rattle.two_lock.proofs.pushing.put.Given as goal

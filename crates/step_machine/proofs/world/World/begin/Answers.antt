@@ -3,9 +3,9 @@ use Rattle.std.proofs.Common.{◌≡◌, ◌+◌, ◌-◌, ◌≤◌, ◌⊎◌,
 use Rattle.step_machine.specs.Below.{begun, room_after}
 use Rattle.step_machine.specs.declared.actors.Move.TheVariants.{Begin}
 use Rattle.step_machine.specs.Machine.{next, with_actor}
-use Rattle.step_machine.specs.Views.{seeks}
+use Rattle.step_machine.specs.Views.{wants_node}
 use Rattle.step_machine.specs.Range.{WorldInRange}
-use Rattle.step_machine.specs.Kept.{world}
+use Rattle.step_machine.specs.Stored.{world}
 use Rattle.step_machine.proofs.Giving.{begin_move, same_world, none_of}
 use Rattle.step_machine.proofs.Making.{Rooms, begun_rooms, begun_wants}
 use Rattle.step_machine.proofs.Rooms.{room_after_within}
@@ -26,7 +26,7 @@ moves c =
     (ap (λ m. m.words) c.in-Ok-grow.ensures.ok)
     (c.put_actor.ensures.items ∙ ap (set w.actors (c.args.actor - 1)) c.begun-begun.ensures.actor) (ap (λ m. m.aside) c.in-Ok-grow.ensures.ok) c.reserve.ensures.items))
 
-looks : (c : goal.After-put_actor) → (seeks c.begun-begun.result.line ≡ 0) ⊎ (c.nodes_wanted-enough.result ≡ c.self.inside.memory.words.fresh + length c.self.inside.actors.items)
+looks : (c : goal.After-put_actor) → (wants_node c.begun-begun.result.line ≡ 0) ⊎ (c.nodes_wanted-enough.result ≡ c.self.inside.memory.words.fresh + length c.self.inside.actors.items)
 looks c =
     begun_wants _ c.args.actor _ c.fresh.result c.len-actors.result c.args.op c.in-Some.a.now _ (made_in_range _ c.self.invariant.made) c.begun-begun.ensures.actor
     c.fresh.ensures (omega (arith, c.len-actors.ensures, c.self.inside.actors.ok.0)) c.nodes_wanted-enough.ensures.looks

@@ -2,10 +2,10 @@
 use Rattle.std.proofs.Common.{◌≡◌, ◌+◌, ◌≤◌, Some, IsSome, vec_capacity, arith, refl, sym, ap, subst, ◌∙◌}
 use Rattle.line_steps.specs.Lines.{gives_up}
 use Rattle.step_machine.specs.declared.actors.Move.TheVariants.{Give}
-use Rattle.step_machine.specs.Machine.{next, actor_of, recorded, new_operation, told, settled}
+use Rattle.step_machine.specs.Machine.{next, actor_of, with_operation, new_operation, with_outcome, after_outcome}
 use Rattle.step_machine.specs.Calls.{giving_up, reply_of}
 use Rattle.step_machine.specs.Views.{HasEntry}
-use Rattle.step_machine.specs.Kept.{world}
+use Rattle.step_machine.specs.Stored.{world}
 use Rattle.step_machine.proofs.Giving.{giving_up-is, may_give_up, give_move, same_world}
 use Rattle.step_machine.proofs.Making.{entry_room, Rooms, given_rooms}
 use Rattle.step_machine.proofs.Reached.{made_next}
@@ -16,8 +16,8 @@ returns-then-self-clause-refused c =
     subst (λ v. IsSome (giving_up v (actor_of v c.args.actor)) × (v.steps ≡ 18446744073709551615)) c.self.view_is
     (may_give_up (world c.self.inside) c.args.actor _ c.in-Some.a.now c.in-Some-line.line c.in-Some.ensures.there c.in-Some-line.is (subst IsSome c.in-Some-gives_up.ensures refl), c.if-self.true)
 
-pub settle-requires-clause-entry : goal.settle-requires-clause-entry
-settle-requires-clause-entry c =
+pub commit-requires-clause-entry : goal.commit-requires-clause-entry
+commit-requires-clause-entry c =
     subst (λ n. HasEntry c.in-Some.a.now.entry n (vec_capacity c.self.inside.operations)) (sym c.self.inside.operations.ok.0)
     (entry_room (world c.self.inside) _ c.args.actor c.in-Some.a.now c.in-Some-line.line c.in-Some.ensures.there c.in-Some-line.is c.self.invariant.entries)
 
@@ -27,21 +27,21 @@ now_is c = omega (arith, c.saturating_add-now.ensures, c.if-self.false, c.self.i
 up_is : (c : goal.After-self-1) → gives_up (c.self.inside.steps + 1) c.in-Some.a.now c.in-Some-line.line ≡ Some c.in-Some-gives_up.outcome
 up_is c = ap (λ n. gives_up n c.in-Some.a.now c.in-Some-line.line) (sym (now_is c)) ∙ sym c.in-Some-gives_up.ensures
 
-moves : (c : goal.After-self-1) → next (world c.self.inside) (Give c.args.actor) ≡ Some (world (record { setup = c.self.inside.setup; steps = c.saturating_add-now.result; memory = c.settle.new.memory; actors = c.settle.new.actors; operations = c.settle.new.operations }))
+moves : (c : goal.After-self-1) → next (world c.self.inside) (Give c.args.actor) ≡ Some (world (record { setup = c.self.inside.setup; steps = c.saturating_add-now.result; memory = c.commit.new.memory; actors = c.commit.new.actors; operations = c.commit.new.operations }))
 moves c =
     give_move (world c.self.inside) c.args.actor c.in-Some.a.now c.in-Some-line.line c.in-Some-gives_up.outcome c.in-Some.ensures.there c.in-Some-line.is (up_is c) ∙
     ap Some
     (sym
-    (same_world _ (settled (world c.self.inside) c.args.actor c.in-Some.a.now c.self.inside.memory.words c.in-Some-gives_up.outcome) refl (now_is c)
-    (ap (λ m. m.words) c.settle.ensures.memory) c.settle.ensures.actors (ap (λ m. m.aside) c.settle.ensures.memory)
-    (subst (λ n. c.settle.new.operations.items ≡ recorded c.in-Some.a.now.entry (new_operation c.args.actor c.in-Some.a.now.op n) (told n c.in-Some-gives_up.outcome) c.self.inside.operations.items) (now_is c) c.settle.ensures.operations)))
+    (same_world _ (after_outcome (world c.self.inside) c.args.actor c.in-Some.a.now c.self.inside.memory.words c.in-Some-gives_up.outcome) refl (now_is c)
+    (ap (λ m. m.words) c.commit.ensures.memory) c.commit.ensures.actors (ap (λ m. m.aside) c.commit.ensures.memory)
+    (subst (λ n. c.commit.new.operations.items ≡ with_operation c.in-Some.a.now.entry (new_operation c.args.actor c.in-Some.a.now.op n) (with_outcome n c.in-Some-gives_up.outcome) c.self.inside.operations.items) (now_is c) c.commit.ensures.operations)))
 
 pub invariant_of-self : goal.invariant_of-self
 invariant_of-self c =
-    let room : c.settle.new.memory.room ≡ c.self.inside.memory.room = ap (λ m. m.room) c.settle.ensures.memory in
-    let rooms : Rooms c.self.inside.setup.size c.settle.new.memory.words.fresh c.settle.new.memory.room _ c.settle.new.actors.items c.settle.new.operations.items =
+    let room : c.commit.new.memory.room ≡ c.self.inside.memory.room = ap (λ m. m.room) c.commit.ensures.memory in
+    let rooms : Rooms c.self.inside.setup.size c.commit.new.memory.words.fresh c.commit.new.memory.room _ c.commit.new.actors.items c.commit.new.operations.items =
     given_rooms (world c.self.inside) _ _ _ _ c.args.actor _ c.in-Some.a.now c.in-Some-line.line c.in-Some-gives_up.outcome _ _ _ _ _ _ c.in-Some.ensures.there c.in-Some-line.is (up_is c)
-    (ap (λ m. m.words.fresh) c.settle.ensures.memory) room c.settle.ensures.actors c.settle.ensures.operations c.self.invariant.nodes c.self.invariant.entries c.settle.ensures.room in
+    (ap (λ m. m.words.fresh) c.commit.ensures.memory) room c.commit.ensures.actors c.commit.ensures.operations c.self.invariant.nodes c.self.invariant.entries c.commit.ensures.room in
     record {
       made = made_next (world c.self.inside) _ (Give c.args.actor) c.self.invariant.made (moves c);
       numbers = omega (arith, now_is c, c.if-self.false, c.self.invariant.numbers);

@@ -3,7 +3,7 @@ use Rattle.std.proofs.Common.{rules, ◌≡◌, sym, subst}
 use Rattle.history.specs.History.{Placement, IsLegal}
 use Rattle.history.specs.Linearizability.{IsLinearizable}
 use Rattle.step_machine.specs.TakingEffect.{HavePlacesByItsEffects}
-use Rattle.step_machine.specs.Kept.{world}
+use Rattle.step_machine.specs.Stored.{world}
 use Rattle.step_machine.proofs.EachHistory.{made_placed, made_legal, made_linearizable}
 use Rattle.step_machine.proofs.EffectsKept.{made_effects}
 use Rattle.step_machine.proofs.world.World.history.Goals as goal

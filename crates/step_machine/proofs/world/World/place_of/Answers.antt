@@ -4,7 +4,7 @@ use Rattle.step_machine.specs.declared.places.Place.{Place}
 use Rattle.step_machine.specs.declared.places.Place.TheVariants.{Untouched, Queue, Free, Held, SetAside}
 use Rattle.step_machine.specs.Places.{one_if, set_aside}
 use Rattle.step_machine.specs.Placing.{IsAt}
-use Rattle.step_machine.specs.Kept.{world}
+use Rattle.step_machine.specs.Stored.{world}
 use Rattle.step_machine.proofs.PlaceOf.{only_place, queue_place, free_place}
 use Rattle.step_machine.proofs.world.World.place_of.Goals as goal
 

@@ -1,0 +1,205 @@
+-- The lines of a call, one after another: what they add to a seat's path, and what its last step tells.
+use Rattle.std.proofs.Common.{◌≡◌, ℕ, ◌+◌, ◌≤◌, true, false, Option, List, [], ◌∷◌, ◌++◌, length, drop, sym, refl, ap, ◌∙◌, subst, append-nil, append_assoc, arith}
+use Rattle.std.proofs.lemmas.List.Sums.{sum_by-append}
+use Rattle.std.proofs.Math.Seq.{drop-append_seam}
+use Rattle.line_table.specs.declared.lines.Line.{Line}
+use Rattle.history.specs.declared.operations.Entry.{Entry}
+use Rattle.history.specs.Answers.{SeesMore}
+use Rattle.history.proofs.Learning.{adds_then}
+use Rattle.node_arena.specs.Machine.{Held, Actor, World, actor_of, action, found}
+use Rattle.node_arena.specs.Traces.{Event, Traced, entries_at, event_at, outcome_at, sees, step_at}
+use Rattle.node_arena.specs.Prologues.{Prologue, after_prologue}
+use Rattle.node_arena.specs.Seeing.{SeatView, known_by}
+use Rattle.node_arena.specs.declared.arena.Arena.{Arena}
+use Rattle.node_arena.specs.declared.seats.Seat.{Seat}
+use Rattle.node_arena.specs.Rule.{notes_of}
+use Rattle.node_arena.specs.Seats.{IsSeat, KeepsStored, DidStep, view, keeping}
+use Rattle.node_arena.specs.Turns.{failed_at, failed_turns}
+use Rattle.node_arena.specs.Paths.{ExtendsPath, Passes, Acts, added, EndedAt, FailedAt, EndsFailed, LastHeld, NowHolds, IsSole}
+use Rattle.node_arena.proofs.Tracing.{traced_reached}
+use Rattle.node_arena.proofs.Told.{sole}
+use Rattle.node_arena.proofs.Noting.{AnswersNoEmpty, notes_nothing}
+
+-- no line
+pub no_walk : (v : SeatView) → ExtendsPath v v []
+no_walk v = record { number = refl; path = sym (append-nil v.path); mine = refl; notes = refl; rest = []; seen = sym (append-nil v.seen) }
+
+-- some lines and then others
+pub walk_then : (v w x : SeatView) (es fs : List Event) → ExtendsPath v w es → ExtendsPath w x fs → ExtendsPath v x (es ++ fs)
+walk_then v w x es fs f g =
+    record {
+      number = g.number ∙ f.number;
+      path = g.path ∙ ap (λ p. p ++ fs) f.path ∙ append_assoc v.path es fs;
+      mine = g.mine ∙ f.mine;
+      notes = g.notes ∙ f.notes;
+      rest = f.rest ++ g.rest;
+      seen = g.seen ∙ ap (λ p. p ++ g.rest) f.seen ∙ append_assoc v.seen f.rest g.rest;
+    }
+
+-- the same where the seat sees nothing
+pub no_pass : (v : SeatView) → Passes v v []
+no_pass v = record { walks = no_walk v; same = refl }
+
+pub pass_then : (v w x : SeatView) (es fs : List Event) → Passes v w es → Passes w x fs → Passes v x (es ++ fs)
+pass_then v w x es fs f g = record { walks = walk_then v w x es fs f.walks g.walks; same = g.same ∙ f.same }
+
+-- a seat that went through lines sees no less
+pub sees_on : (v w : SeatView) (es : List Event) → ExtendsPath v w es → SeesMore (known_by v) (known_by w)
+sees_on v w es f = record { number = f.number; between = f.rest; seen = f.seen; mine = f.mine; notes = f.notes }
+
+-- lines before those of an effect
+pub then_act : (v w x : SeatView) (e e' : Entry) (es fs : List Event) → e ≡ e' → ExtendsPath v w es → Acts w x e fs → Acts v x e' (es ++ fs)
+then_act v w x e e' es fs same f g =
+    record {
+      path = g.path ∙ ap (λ p. p ++ fs) f.path ∙ append_assoc v.path es fs;
+      adds = adds_then (known_by v) (known_by w) (known_by x) e e' same (sees_on v w es f) g.adds;
+    }
+
+-- lines after those of an effect, where the seat sees nothing
+pub act_then : (v w x : SeatView) (e : Entry) (es fs : List Event) → Acts v w e es → Passes w x fs → Acts v x e (es ++ fs)
+act_then v w x e es fs f g =
+    record {
+      path = g.walks.path ∙ ap (λ p. p ++ fs) f.path ∙ append_assoc v.path es fs;
+      adds = record {
+        number = g.walks.number ∙ f.adds.number;
+        between = f.adds.between;
+        seen = g.same ∙ f.adds.seen;
+        mine = g.walks.mine ∙ f.adds.mine;
+        notes = g.walks.notes ∙ f.adds.notes;
+      };
+    }
+
+-- what a seat stores stays, and then again
+pub then_stored : (s t u : Seat) → KeepsStored s t → KeepsStored t u → KeepsStored s u
+then_stored s t u f g = record { number = g.number ∙ f.number; role = g.role ∙ f.role; pocket = g.pocket ∙ f.pocket; failed = g.failed ∙ f.failed }
+
+-- what a seat's path has more is what was added
+pub added_path : (s t : Seat) (es : List Event) → (view t).path ≡ (view s).path ++ es → added s t ≡ es
+added_path s t es e = ap (drop (length (view s).path)) e ∙ drop-append_seam (view s).path es
+
+pub added_is : (s t : Seat) (es : List Event) → ExtendsPath (view s) (view t) es → added s t ≡ es
+added_is s t es w = added_path s t es w.path
+
+-- what held before the last of some lines held at a call's last step
+pub last_held : (r : Arena) (s t : Seat) (es : List Event) (P : World → Type 0) → added s t ≡ es → EndedAt r s es P → LastHeld r s t P
+last_held r s t es P e h = record { was = h.was; reached = h.reached; setup = h.setup; before = h.before; last = h.last; path = e ∙ h.path; within = h.within; held = h.held }
+
+-- and so where that line was a failed turn
+pub ends_failed : (s t : Seat) (es : List Event) → added s t ≡ es → FailedAt es → EndsFailed s t
+ends_failed s t es e h = record { before = h.before; last = h.last; path = e ∙ h.path; failed = h.failed }
+
+-- lines behind others
+pub ended_behind : (r : Arena) (s t : Seat) (es fs : List Event) (P : World → Type 0) → ExtendsPath (view s) (view t) es → EndedAt r t fs P → EndedAt r s (es ++ fs) P
+ended_behind r s t es fs P w h =
+    record {
+      was = h.was;
+      reached = h.reached;
+      setup = h.setup;
+      before = es ++ h.before;
+      last = h.last;
+      path = ap (λ x. es ++ x) h.path ∙ sym (append_assoc es h.before (h.last ∷ []));
+      within = ap h.was.paths (sym w.number) ∙ h.within ∙ ap (λ p. p ++ h.before) w.path ∙ append_assoc (view s).path es h.before;
+      held = h.held;
+    }
+
+pub failed_behind : (es fs : List Event) → FailedAt fs → FailedAt (es ++ fs)
+failed_behind es fs h = record { before = es ++ h.before; last = h.last; path = ap (λ x. es ++ x) h.path ∙ sym (append_assoc es h.before (h.last ∷ [])); failed = h.failed }
+
+pub failed-append : (es fs : List Event) → failed_turns (es ++ fs) ≡ failed_turns es + failed_turns fs
+failed-append es fs = sum_by-append (λ e. failed_at e.line e.to) es fs
+
+-- a seat that keeps another pocket is still the arena's
+pub kept_seat : (r : Arena) (t : Seat) (p : Option Held) (n : ℕ) → IsSeat r t → IsSeat r (keeping t p n)
+kept_seat r t p n h = record { arena = h.arena; sits = record { table = h.sits.table; seat = h.sits.seat; number = h.sits.number; role = h.sits.role; pushes = h.sits.pushes; pops = h.sits.pops; fitted = h.sits.fitted } }
+
+pub now_kept : (r : Arena) (t : Seat) (p : Option Held) (n : ℕ) (P : World → Type 0) → NowHolds r t P → NowHolds r (keeping t p n) P
+now_kept r t p n P h = record { now = h.now; reached = h.reached; setup = h.setup; actor = h.actor; path = h.path; holds = h.holds }
+
+-- one line more on a path
+pub failed_snoc : (es : List Event) (e : Event) → failed_turns (es ++ e ∷ []) ≡ failed_turns es + failed_at e.line e.to
+failed_snoc es e = sum_by-append (λ x. failed_at x.line x.to) es (e ∷ []) ∙ (let z : 0 + failed_at e.line e.to ≡ failed_at e.line e.to = omega arith in ap (λ k. failed_turns es + k) z)
+
+-- one step
+module _ (r : Arena) (s t : Seat) (prologue : Prologue) (l : Line) (n : ℕ) (d : DidStep r s t prologue l n) where
+  abbrev pub b : Actor
+  b = after_prologue r.plan.setup (view s).number prologue (view s).actor
+
+  abbrev pub event : Event
+  event = event_at r.plan.setup d.told.was (view s).number b l
+
+  abbrev pub after : Traced
+  after = step_at d.told.was (view s).number b l
+
+  -- it added no entry and noted nothing
+  pub walk_one : entries_at r.plan.setup d.told.was (view s).number b l ≡ [] → notes_of (outcome_at r.plan.setup d.told.was (view s).number b l).reply (view t).seen ≡ [] → ExtendsPath (view s) (view t) (event ∷ [])
+  walk_one none quiet =
+      record {
+        number = d.told.number;
+        path = d.told.path;
+        mine = d.told.mine ∙ ap (λ es. (view s).mine ++ es) none ∙ append-nil (view s).mine;
+        notes = d.told.notes ∙ ap (λ ks. (view s).notes ++ ks) quiet ∙ append-nil (view s).notes;
+        rest = d.told.rest;
+        seen = d.told.seen ∙ ap (λ es. ((view s).seen ++ d.told.rest) ++ es) none ∙ append-nil ((view s).seen ++ d.told.rest);
+      }
+
+  -- the same at a line where the call doesn't answer empty
+  pub walk_on : entries_at r.plan.setup d.told.was (view s).number b l ≡ [] → AnswersNoEmpty b l → ExtendsPath (view s) (view t) (event ∷ [])
+  walk_on none other = walk_one none (notes_nothing r.plan.setup (d.told.was.world.steps + 1) (view s).number b l (found (action r.plan.setup (view s).number b l) d.told.was.world.shared) (view t).seen other)
+
+  -- and where the seat sees nothing
+  pub pass_on : entries_at r.plan.setup d.told.was (view s).number b l ≡ [] → AnswersNoEmpty b l → sees l ≡ false → Passes (view s) (view t) (event ∷ [])
+  pass_on none other blind = record { walks = walk_on none other; same = d.told.stays blind }
+
+  -- it had its effect: it added this entry
+  pub act_on : (e : Entry) → entries_at r.plan.setup d.told.was (view s).number b l ≡ e ∷ [] → AnswersNoEmpty b l → Acts (view s) (view t) e (event ∷ [])
+  act_on e one other =
+      record {
+        path = d.told.path;
+        adds = record {
+          number = d.told.number;
+          between = d.told.rest;
+          seen = d.told.seen ∙ ap (λ es. ((view s).seen ++ d.told.rest) ++ es) one;
+          mine = d.told.mine ∙ ap (λ es. (view s).mine ++ es) one;
+          notes = d.told.notes ∙ ap (λ ks. (view s).notes ++ ks) (notes_nothing r.plan.setup (d.told.was.world.steps + 1) (view s).number b l (found (action r.plan.setup (view s).number b l) d.told.was.world.shared) (view t).seen other) ∙ append-nil (view s).notes;
+        };
+      }
+
+  -- the step went where the actor now stands
+  pub to_is : event.to ≡ (view t).actor.line
+  to_is = sym (ap (λ a. a.line) d.told.actor)
+
+  -- what held of the world before the step
+  pub ended_at : (o : Seat) (before : List Event) (P : World → Type 0) → ExtendsPath (view o) (view s) before → P d.told.was.world → EndedAt r o (before ++ event ∷ []) P
+  ended_at o before P w p =
+      record {
+        was = d.told.was;
+        reached = d.told.reached;
+        setup = d.told.setup;
+        before = before;
+        last = event;
+        path = refl;
+        within = ap d.told.was.paths (sym w.number) ∙ d.told.path_before ∙ w.path;
+        held = p;
+      }
+
+  pub failed_last : (before : List Event) → failed_at l (view t).actor.line ≡ 1 → FailedAt (before ++ event ∷ [])
+  failed_last before e = record { before = before; last = event; path = refl; failed = ap (failed_at l) to_is ∙ e }
+
+  -- what holds of the world after the step
+  pub now_holds : (P : World → Type 0) → P after.world → NowHolds r t P
+  now_holds P p =
+      record {
+        now = after;
+        reached = d.told.reaches;
+        setup = d.told.setup;
+        actor = ap (λ k. actor_of after.world k) d.told.number ∙ d.told.after;
+        path = ap after.paths d.told.number ∙ d.told.path_after;
+        holds = p;
+      }
+
+  -- the node in the actor's hand is this seat's alone
+  pub now_sole : (node : ℕ) → (view t).actor.holds ≡ true → (view t).actor.node ≡ node → 1 ≤ node → NowHolds r t (λ w. IsSole w (view t).number node)
+  now_sole node holds is some =
+      now_holds (λ w. IsSole w (view t).number node)
+      (subst (IsSole after.world (view t).number) is
+      (sole after.world (view t).number (view t).actor (traced_reached after d.told.reaches) (ap (λ k. actor_of after.world k) d.told.number ∙ d.told.after) holds (subst (λ k. 1 ≤ k) (sym is) some)))

@@ -1,0 +1,256 @@
+-- Each step of a seat at a line keeps the rule: one lemma for all lines and all forms of access.
+use Rattle.std.proofs.Common.{◌≡◌, ◌≢◌, ℕ, ◌-◌, ◌<◌, Bool, true, false, if◌then◌else◌, nat_eq, bit_and, Some, List, [], ◌∷◌, ◌++◌, zero, suc, length, get_or, set, slice_get, sym, refl, ap, ◌∙◌, subst, ⊎_elim, arith, append-nil, append_assoc}
+use Rattle.std.specs.List.{All}
+use Rattle.std.proofs.lemmas.List.{set-get_or}
+use Rattle.std.proofs.lemmas.List.Elements.{All-append, filter-append}
+use mathlib.Core.Option.{some, some-injective, some-ne-none}
+use prog.Atomic.{either}
+use lib.ListN.{get_elem?}
+use Rattle.atomic_table.specs.Table.{State, Me, keeps, Allows}
+use Rattle.atomic_table.proofs.Lists.{at_set}
+use Rattle.line_table.specs.declared.lines.Line.{Line}
+use Rattle.history.specs.declared.operations.Entry.{Entry}
+use Rattle.history.specs.Entries.{seat_of, own_entries}
+use Rattle.line_steps.specs.declared.actors.Actor.{Actor}
+use Rattle.line_steps.specs.Memory.{word, found}
+use Rattle.line_steps.specs.Lines.{action}
+use Rattle.step_machine.specs.Words.{memory_words, IsWord}
+use Rattle.step_machine.specs.Tables.{WordStep, load_at, store_at, and_at, exchange_at, word_index, word_step, table_after}
+use Rattle.step_machine.specs.Machine.{actor_of}
+use Rattle.step_machine.proofs.Words.{reading}
+use Rattle.step_machine.proofs.Reached.{mover_in_range}
+use Rattle.step_machine.proofs.Tables.{place-word_step}
+use Rattle.step_machine.proofs.AccessesNameWords.{accesses_are_one_step}
+use Rattle.step_machine.proofs.NonBlockingLaws.{each_access_names_a_word}
+use Rattle.node_arena.specs.declared.roles.Role.{Role}
+use Rattle.node_arena.specs.Traces.{Traced, IsTraced, step_at, actor_at, outcome_at, event_at, entries_at, number_at, sees}
+use Rattle.node_arena.specs.Prologues.{Prologue, after_prologue, CanStart}
+use Rattle.node_arena.specs.Seeing.{SeatView, View, keeper, seated, members, knows}
+use Rattle.node_arena.specs.Plans.{Layout, RolesPermit, PermitsLine}
+use Rattle.node_arena.specs.Rule.{Fits, IsNew, Holds, notes_of, Steps, Tells, line_or_first}
+use Rattle.node_arena.proofs.Tracing.{traced_reached, step_traced, step_here, step_else, step_count, changed_here, changed_else}
+use Rattle.node_arena.proofs.PrologueTraces.{Led, prologue_traced}
+use Rattle.node_arena.proofs.Entering.{own_added, none_added, permitted_added}
+use Rattle.node_arena.proofs.Seens.{silent, later, begins_by, between, seen_is, whole_by, stays_by, known_by}
+
+-- what a word becomes by a step on its place, where it was n
+abbrev pub becomes : WordStep → ℕ → ℕ
+becomes (load_at p) n = n
+becomes (store_at p w) n = w
+becomes (and_at p mask) n = bit_and n mask
+becomes (exchange_at p old new) n = either (nat_eq n old) new n
+
+table_after-set : (x : WordStep) (ws : List ℕ) → table_after x ws ≡ set ws (word_index x) (becomes x (get_or ws (word_index x) 0))
+table_after-set (load_at p) ws = sym (set-get_or ws p 0)
+table_after-set (store_at p w) ws = refl
+table_after-set (and_at p mask) ws = refl
+table_after-set (exchange_at p old new) ws = go (nat_eq (get_or ws p 0) old)
+  where
+    go : (b : Bool) → (if b then set ws p new else ws) ≡ set ws p (either b new (get_or ws p 0))
+    go true = refl
+    go false = sym (set-get_or ws p 0)
+
+pub one_of : (v u : SeatView) (i : ℕ) → get_elem? (v ∷ []) i ≡ some u → (i ≡ 0) × (v ≡ u)
+one_of v u zero e = (refl, some-injective v u e)
+one_of v u (suc i) e = absurd (some-ne-none u (sym e))
+
+apart : (z : Layout) (s : State ℕ View) (h : Holds z s) (id : ℕ) (v : SeatView) → get_elem? s.views id ≡ some (seated v)
+    → (j i : ℕ) (u : View) (o : SeatView) → j ≢ id → get_elem? s.views j ≡ some u → get_elem? (members u) i ≡ some o → o.number ≢ v.number
+apart z s h id v mine j i u o ne there which same = ne (ap (λ (y : ℕ × ℕ). y.0) (sym (h.owned j i u o there which).0 ∙ (ap h.owner same ∙ (h.owned id 0 (seated v) v mine refl).0)))
+
+-- one seat's view goes from v to v', and the traced world to t
+pub record Goes (z : Layout) (s : State ℕ View) (h : Holds z s) (v v' : SeatView) (words : List ℕ) (t : Traced) : Type 0 where
+  pub reached : IsTraced t
+  pub setup : t.world.setup ≡ z.setup
+  pub actors : length t.world.actors ≡ length z.roles
+  pub words' : words ≡ memory_words t.world.shared
+  pub permitted : All (RolesPermit z.roles) t.history
+  pub number : v'.number ≡ v.number
+  pub me : Fits t v'
+  pub others : (o : SeatView) → o.number ≢ v.number → Fits h.trace o → Fits t o
+  pub new : (n : ℕ) → n ≢ v.number → IsNew h.trace n → IsNew t n
+
+pub one_seat : (z : Layout) (s : State ℕ View) (h : Holds z s) (id : ℕ) (v v' : SeatView) (words : List ℕ) (t : Traced) → get_elem? s.views id ≡ some (seated v) → Goes z s h v v' words t
+    → Holds z record { words = words; homes = s.homes; views = set s.views id (seated v') }
+one_seat z s h id v v' words t mine g =
+    let P : ℕ → ℕ → SeatView → Type 0 = λ j i u. Fits t u × (h.owner u.number ≡ (j, i)) × (u.number < h.dealt) in
+    let here : P id 0 v' = let o = h.owned id 0 (seated v) v mine refl in (g.me, ap h.owner g.number ∙ o.0, subst (λ (k : ℕ). k < h.dealt) (sym g.number) o.1) in
+    let all : (j i : ℕ) (u : View) (o : SeatView) → get_elem? (set s.views id (seated v')) j ≡ some u → get_elem? (members u) i ≡ some o → P j i o = λ j i u o there which.
+    ⊎_elim
+    (λ (q : (j ≡ id) × (seated v' ≡ u)).
+    let one = one_of v' o i (ap (λ (y : View). get_elem? (members y) i) q.1 ∙ which) in subst (λ (y : ℕ × ℕ × SeatView). P y.0 y.1 y.2) (λ c. (sym q.0 c, sym one.0 c, one.1 c)) here)
+    (λ (q : (j ≢ id) × (get_elem? s.views j ≡ some u)).
+    let own = h.owned j i u o q.1 which in (g.others o (apart z s h id v mine j i u o q.0 q.1 which) (h.fits j i u o q.1 which), own.0, own.1))
+    (at_set s.views id j (seated v') u there) in
+    record {
+      sized = h.sized;
+      trace = t;
+      reached = g.reached;
+      setup = g.setup;
+      actors = g.actors;
+      words = g.words';
+      permitted = g.permitted;
+      dealt = h.dealt;
+      home = h.home;
+      owner = h.owner;
+      fits = λ j i u o a b. (all j i u o a b).0;
+      owned = λ j i u o a b. let q = all j i u o a b in (q.1, q.2);
+      kept = λ j n there. ⊎_elim (λ (q : (j ≡ id) × (seated v' ≡ keeper n)). cc) (λ (q : (j ≢ id) × (get_elem? s.views j ≡ some (keeper n))). h.kept j n q.1) (at_set s.views id j (seated v') (keeper n) there);
+      undealt = λ n over within. g.new n (λ e. let lt = (h.owned id 0 (seated v) v mine refl).1 in omega arith) (h.undealt n over within);
+    }
+
+-- the seat's step at a line, where its actor is led there
+module _ (z : Layout) (s : State ℕ View) (h : Holds z s) (id : ℕ) (v : SeatView) (mine : get_elem? s.views id ≡ some (seated v)) (prologue : Prologue) (l : Line)
+    (can : CanStart prologue v.actor) (line : (after_prologue z.setup v.number prologue v.actor).line ≡ Some l) (role : Role) (its : slice_get z.roles (v.number - 1) ≡ Some role) (permits : PermitsLine role l) where
+  abbrev a : Actor
+  a = after_prologue z.setup v.number prologue v.actor
+
+  abbrev fit : Fits h.trace v
+  fit = h.fits id 0 (seated v) v mine refl
+
+  abbrev led_there : (u : Traced) × IsTraced u × Led h.trace u v.number a
+  led_there = let g = prologue_traced h.trace v.number v.actor prologue h.reached fit.actor can in (g.0, g.1, subst (λ x. Led h.trace g.0 v.number (after_prologue x v.number prologue v.actor)) h.setup g.2)
+
+  abbrev u : Traced
+  u = led_there.0
+
+  abbrev f : Led h.trace u v.number a
+  f = led_there.2
+
+  abbrev t : Traced
+  t = step_at u v.number a l
+
+  setup : u.world.setup ≡ z.setup
+  setup = f.setup ∙ h.setup
+
+  abbrev es : List Entry
+  es = entries_at z.setup u v.number a l
+
+  history_is : t.history ≡ h.trace.history ++ es
+  history_is = (λ i. f.history i ++ entries_at (setup i) u v.number a l)
+
+  abbrev v' : SeatView
+  v' = record { number = v.number; actor = actor_at z.setup u v.number a l; path = v.path ++ event_at z.setup u v.number a l ∷ []; seen = if sees l then t.history else v.seen; mine = v.mine ++ es; notes = v.notes ++ notes_of (outcome_at z.setup u v.number a l).reply (if sees l then t.history else v.seen) }
+
+  reached : IsTraced t
+  reached = step_traced u v.number a l led_there.1 f.here line
+
+  here : actor_of t.world v.number ≡ Some v'.actor
+  here = step_here u v.number a l f.here ∙ ap (λ x. Some (actor_at x u v.number a l)) setup
+
+  path_before : u.paths v.number ≡ v.path
+  path_before = ap (λ p. p v.number) f.paths ∙ fit.path
+
+  quiet : sees l ≡ false → es ≡ []
+  quiet = silent z.setup v.number a l (found (action z.setup v.number a l) u.world.shared)
+
+  parts : t.history ≡ (v.seen ++ fit.rest) ++ es
+  parts = history_is ∙ ap (λ hs. hs ++ es) fit.begins
+
+  own : own_entries v.number t.history ≡ v.mine ++ es
+  own = ap (own_entries v.number) history_is ∙ (filter-append (λ e. nat_eq (seat_of e) v.number) h.trace.history es ∙ (λ i. fit.own i ++ own_added z.setup u v.number a l i))
+
+  me : Fits t v'
+  me = record {
+    actor = here;
+    path = changed_here u.paths v.number _ ∙ (λ i. path_before i ++ event_at (setup i) u v.number a l ∷ []);
+    rest = later v.seen fit.rest es t.history parts (sees l);
+    begins = begins_by v.seen fit.rest es t.history parts (sees l);
+    own = own;
+    known = known_by v.seen fit.rest es t.history parts v.number v.mine (sees l) quiet own fit.known;
+  }
+
+  others : (o : SeatView) → o.number ≢ v.number → Fits h.trace o → Fits t o
+  others o ne g = record {
+    actor = step_else u v.number a l o.number f.here ne ∙ (f.others o.number ne ∙ g.actor);
+    path = changed_else u.paths v.number _ o.number ne ∙ (ap (λ p. p o.number) f.paths ∙ g.path);
+    rest = g.rest ++ es;
+    begins = history_is ∙ (ap (λ hs. hs ++ es) g.begins ∙ append_assoc o.seen g.rest es);
+    own = ap (own_entries o.number) history_is ∙ (filter-append (λ e. nat_eq (seat_of e) o.number) h.trace.history es ∙ (ap (λ ys. own_entries o.number h.trace.history ++ ys) (none_added z.setup u v.number o.number a l ne) ∙ (append-nil (own_entries o.number h.trace.history) ∙ g.own)));
+    known = g.known;
+  }
+
+  new : (n : ℕ) → n ≢ v.number → IsNew h.trace n → IsNew t n
+  new n ne g = record {
+    actor = step_else u v.number a l n f.here ne ∙ (f.others n ne ∙ g.actor);
+    path = changed_else u.paths v.number _ n ne ∙ (ap (λ p. p n) f.paths ∙ g.path);
+    own = ap (own_entries n) history_is ∙ (filter-append (λ e. nat_eq (seat_of e) n) h.trace.history es ∙ (λ i. g.own i ++ none_added z.setup u v.number n a l ne i));
+  }
+
+  permitted : All (RolesPermit z.roles) t.history
+  permitted = subst (All (RolesPermit z.roles)) (sym history_is) (All-append (RolesPermit z.roles) h.trace.history es h.permitted (permitted_added z.setup z.roles u v.number a l role (mover_in_range u.world v.number a f.here).0 its permits))
+
+  same_words : memory_words u.world.shared ≡ s.words
+  same_words = ap memory_words f.shared ∙ sym h.words
+
+  words_after : (x : WordStep) → word_step (action z.setup v.number a l) ≡ x → memory_words t.world.shared ≡ set s.words (word_index x) (becomes x (get_or s.words (word_index x) 0))
+  words_after x is =
+      accesses_are_one_step u.world (traced_reached u led_there.1) (each_access_names_a_word u.world (traced_reached u led_there.1)) v.number a l f.here line ∙
+      (λ i. table_after (word_step (action (setup i) v.number a l)) (same_words i)) ∙
+      ap (λ y. table_after y s.words) is ∙
+      table_after-set x s.words
+
+  goes : (x : WordStep) → word_step (action z.setup v.number a l) ≡ x → Goes z s h v v' (set s.words (word_index x) (becomes x (get_or s.words (word_index x) 0))) t
+  goes x is = record {
+    reached = reached;
+    setup = setup;
+    actors = step_count u v.number a l ∙ (f.count ∙ h.actors);
+    words' = sym (words_after x is);
+    permitted = permitted;
+    number = refl;
+    me = me;
+    others = others;
+    new = new;
+  }
+
+  -- what was found is what the actor's access finds
+  found_is : (x : WordStep) → word_step (action z.setup v.number a l) ≡ x → get_or s.words (word_index x) 0 ≡ number_at z.setup u v.number a l
+  found_is x is =
+      (λ i. get_or (sym same_words i) (word_index (sym is i)) 0) ∙
+      ap (λ p. get_or (memory_words u.world.shared) p 0) (place-word_step (action z.setup v.number a l)) ∙
+      reading u.world.shared (word (action z.setup v.number a l)) (subst (λ y. IsWord u.world.shared (word (action y v.number a l))) setup (each_access_names_a_word u.world (traced_reached u led_there.1) v.number a l f.here line))
+
+  steps_told : (x : WordStep) → word_step (action z.setup v.number a l) ≡ x → Steps z prologue l (get_or s.words (word_index x) 0) v v'
+  steps_told x is = record {
+    sized = h.sized;
+    was = u;
+    reached = led_there.1;
+    setup = setup;
+    before = f.here;
+    line = line;
+    path_before = path_before;
+    reaches = reached;
+    after = here;
+    path_after = me.path;
+    found = found_is x is;
+    number = refl;
+    actor = refl;
+    path = refl;
+    rest = between v.seen fit.rest es t.history parts (sees l);
+    seen = seen_is v.seen fit.rest es t.history parts (sees l) quiet;
+    whole = whole_by v.seen fit.rest es t.history parts (sees l);
+    stays = stays_by v.seen fit.rest es t.history parts (sees l);
+    mine = refl;
+    notes = refl;
+    fits = me;
+    permitted = permitted;
+  }
+
+-- every line and every form of access at once
+allows_seated : (z : Layout) (id : ℕ) (v : SeatView) (prologue : Prologue) (l : Line) (x : WordStep) (role : Role) → CanStart prologue v.actor → (after_prologue z.setup v.number prologue v.actor).line ≡ Some l → slice_get z.roles (v.number - 1) ≡ Some role → PermitsLine role l → word_step (action z.setup v.number (after_prologue z.setup v.number prologue v.actor) l) ≡ x
+    → Allows {S = ℕ} (Holds z) 0 id (seated v, []) (word_index x) (becomes x) (λ n m. Tells z prologue (seated v, []) n m)
+allows_seated z id v prologue l x role can line its permits is s h empty mine small = (
+  seated (v' z s h id v mine prologue l can line role its permits),
+  keeps,
+  tt,
+  one_seat z s h id v (v' z s h id v mine prologue l can line role its permits) (set s.words (word_index x) (becomes x (get_or s.words (word_index x) 0))) (t z s h id v mine prologue l can line role its permits) mine (goes z s h id v mine prologue l can line role its permits x is),
+  (refl, subst (λ (k : Line). Steps z prologue k (get_or s.words (word_index x) 0) v (v' z s h id v mine prologue l can line role its permits)) (sym (ap line_or_first line)) (steps_told z s h id v mine prologue l can line role its permits x is)),
+)
+
+-- the same at the names of a call: its table says the number of slots, and its seat the view
+pub allows : (z key : Layout) (slots id : ℕ) (me : Me ℕ View) (prologue : Prologue) (l : Line) (x : WordStep) (role : Role) → key ≡ z → slots ≡ 0 → me ≡ (seated (knows me.0), [])
+    → CanStart prologue (knows me.0).actor → (after_prologue z.setup (knows me.0).number prologue (knows me.0).actor).line ≡ Some l → slice_get z.roles ((knows me.0).number - 1) ≡ Some role → PermitsLine role l → word_step (action z.setup (knows me.0).number (after_prologue z.setup (knows me.0).number prologue (knows me.0).actor) l) ≡ x
+    → Allows {S = ℕ} (Holds key) slots id me (word_index x) (becomes x) (λ n m. Tells key prologue me n m)
+allows z key slots id me prologue l x role same none is can line its permits acts =
+    let P : Layout × ℕ × Me ℕ View → Type 0 = λ y. Allows {S = ℕ} (Holds y.0) y.1 id y.2 (word_index x) (becomes x) (λ n m. Tells y.0 prologue y.2 n m) in
+    subst P (λ i. (sym same i, sym none i, sym is i)) (allows_seated z id (knows me.0) prologue l x role can line its permits acts)

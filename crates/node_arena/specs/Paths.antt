@@ -1,0 +1,113 @@
+-- What a call adds to what its seat knows.
+use Rattle.std.specs.Prelude.{◌≡◌, ℕ, List, [], ◌∷◌, ◌++◌, length, drop, Some, IsSomeAnd}
+use Rattle.history.specs.declared.operations.Entry.{Entry}
+use Rattle.history.specs.declared.refusals.Refusal.{Refusal}
+use Rattle.history.specs.declared.refusals.Refusal.TheVariants.{WornOut}
+use Rattle.history.specs.declared.refusals.WornWord.TheVariants.{Next as OfNext}
+use Rattle.history.specs.Answers.{Adds}
+use Rattle.line_steps.specs.Memory.{node_at}
+use Rattle.step_machine.specs.Machine.{World, actor_of}
+use Rattle.step_machine.specs.Places.{IsQueued, IsFree, held, in_hand}
+use Rattle.step_machine.specs.EachQueue.{HasCause}
+use Rattle.node_arena.specs.declared.arena.Arena.{Arena}
+use Rattle.node_arena.specs.declared.seats.Seat.{Seat}
+use Rattle.node_arena.specs.Traces.{Event, Traced, IsTraced}
+use Rattle.node_arena.specs.Seeing.{SeatView, known_by}
+use Rattle.node_arena.specs.Seats.{view}
+use Rattle.node_arena.specs.Turns.{failed_at}
+
+-- a seat went through these lines: its path has them more, its own entries and its notes are as they were, and what it has
+-- seen is only longer
+pub record ExtendsPath (v v' : SeatView) (added : List Event) : Type 0 where
+  pub number : v'.number ≡ v.number
+  pub path : v'.path ≡ v.path ++ added
+  pub mine : v'.mine ≡ v.mine
+  pub notes : v'.notes ≡ v.notes
+  pub rest : List Entry
+  pub seen : v'.seen ≡ v.seen ++ rest
+
+-- a seat went through these lines, and what it has seen is as it was
+pub record Passes (v v' : SeatView) (added : List Event) : Type 0 where
+  pub walks : ExtendsPath v v' added
+  pub same : v'.seen ≡ v.seen
+
+-- a seat went through these lines, and its call had its effect at one of them: what the seat has seen goes on and ends with
+-- this entry, which is one more of its own
+pub record Acts (v v' : SeatView) (e : Entry) (lines : List Event) : Type 0 where
+  pub path : v'.path ≡ v.path ++ lines
+  pub adds : Adds (known_by v) e (known_by v')
+
+-- what a call added to its seat's path
+abbrev pub added : Seat → Seat → List Event
+added s t = drop (length (view s).path) (view t).path
+
+-- a call had no effect: its seat's path has the lines added, its own entries and its notes are as they were, and what it
+-- has seen is only longer
+abbrev pub HadNoEffect : Seat → Seat → Type 0
+HadNoEffect s t = ExtendsPath (view s) (view t) (added s t)
+
+-- what a seat has seen is as it was
+abbrev pub SeesNoMore : Seat → Seat → Type 0
+SeesNoMore s t = (view t).seen ≡ (view s).seen
+
+-- the last of some lines was a failed turn
+pub record FailedAt (es : List Event) : Type 0 where
+  pub before : List Event
+  pub last : Event
+  pub path : es ≡ before ++ last ∷ []
+  pub failed : failed_at last.line last.to ≡ 1
+
+-- a call's last step was a failed turn
+pub record EndsFailed (s t : Seat) : Type 0 where
+  pub before : List Event
+  pub last : Event
+  pub path : added s t ≡ before ++ last ∷ []
+  pub failed : failed_at last.line last.to ≡ 1
+
+-- a node is in this seat's hand, held by nobody else, and neither in the queue nor free
+pub record IsSole (w : World) (me node : ℕ) : Type 0 where
+  pub holder : IsSomeAnd (actor_of w me) (λ a. in_hand node a ≡ 1)
+  pub once : held node w.actors ≡ 1
+  pub not_queued : ¬ IsQueued w node
+  pub not_free : ¬ IsFree w node
+
+-- the moment after a call's last step: a traced world, which moves lead to, in which the seat's actor and path are as
+-- the seat knows them, and of which this holds
+pub record NowHolds (r : Arena) (t : Seat) (P : World → Type 0) : Type 0 where
+  pub now : Traced
+  pub reached : IsTraced now
+  pub setup : now.world.setup ≡ r.plan.setup
+  pub actor : actor_of now.world (view t).number ≡ Some (view t).actor
+  pub path : now.paths (view t).number ≡ (view t).path
+  pub holds : P now.world
+
+-- the end of some lines: what held before the last of them, of a world with the path so far
+pub record EndedAt (r : Arena) (s : Seat) (es : List Event) (P : World → Type 0) : Type 0 where
+  pub was : Traced
+  pub reached : IsTraced was
+  pub setup : was.world.setup ≡ r.plan.setup
+  pub before : List Event
+  pub last : Event
+  pub path : es ≡ before ++ last ∷ []
+  pub within : was.paths (view s).number ≡ (view s).path ++ before
+  pub held : P was.world
+
+-- at a call's last step this held before it: of a traced world, which moves lead to, with the path of the call so far
+pub record LastHeld (r : Arena) (s t : Seat) (P : World → Type 0) : Type 0 where
+  pub was : Traced
+  pub reached : IsTraced was
+  pub setup : was.world.setup ≡ r.plan.setup
+  pub before : List Event
+  pub last : Event
+  pub path : added s t ≡ before ++ last ∷ []
+  pub within : was.paths (view s).number ≡ (view s).path ++ before
+  pub held : P was.world
+
+-- a world has the cause for an actor's step to refuse; where a `next` is worn out, it is that of the actor's own node
+abbrev pub HasOwnCause : World → (me : ℕ) → Refusal → Type 0
+HasOwnCause w me (WornOut OfNext) = IsSomeAnd (actor_of w me) (λ a. (node_at w.shared a.node).next.count ≡ w.setup.limit)
+HasOwnCause w me why = HasCause w why
+
+-- a call's last step met a refusal's cause
+abbrev pub MetCause : Arena → Seat → Seat → Refusal → Type 0
+MetCause r s t why = LastHeld r s t (λ w. HasOwnCause w (view s).number why)

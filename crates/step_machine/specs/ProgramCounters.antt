@@ -1,0 +1,87 @@
+-- Before which lines the actors of a world stand, and which registers hold nodes there.
+use Rattle.std.specs.Prelude.{◌≡◌, ℕ, ◌≤◌, Option, Some, None, IfSome}
+use Rattle.step_machine.specs.Below.{Kind, TwoLock, NonBlocking, Line, N1, N2, N3, N4, N5, F1, F2, F3, E2, E3, E5, E6, E7, E9, E13, E17, D2, D3, D4, D5, D10, D12, D13, A1, A2, A3, A4, A5, A6, A7, B1, B2, B3, B4, B5, B6, Section, section_of, Reply, Value, Actor, word}
+use Rattle.line_table.specs.declared.lines.Section.TheVariants.{NewNode, Free, Enqueue, Dequeue, LockedEnqueue, LockedDequeue}
+use Rattle.step_machine.specs.Words.{IsWord}
+use Rattle.step_machine.specs.Machine.{World, actor_of}
+use Rattle.step_machine.specs.Tables.{IsOneStep, OfEachNextAccess}
+
+-- a section of the line table is one that a queue runs
+abbrev pub IsRunBy : Section → Kind → Type 0
+IsRunBy NewNode kind = Unit {0}
+IsRunBy Free kind = Unit {0}
+IsRunBy Enqueue NonBlocking = Unit {0}
+IsRunBy Enqueue TwoLock = ⊥
+IsRunBy Dequeue NonBlocking = Unit {0}
+IsRunBy Dequeue TwoLock = ⊥
+IsRunBy LockedEnqueue NonBlocking = ⊥
+IsRunBy LockedEnqueue TwoLock = Unit {0}
+IsRunBy LockedDequeue NonBlocking = ⊥
+IsRunBy LockedDequeue TwoLock = Unit {0}
+
+-- a call that lets the head lock go has a node to free, unless its reply is settled and no value
+abbrev pub HasNodeToFree : Option Reply → (node : ℕ) → Type 0
+HasNodeToFree None node = 1 ≤ node
+HasNodeToFree (Some (Value v)) node = 1 ≤ node
+HasNodeToFree _ node = Unit {0}
+
+-- the registers that hold nodes before a line, and not null
+abbrev pub NonNullAt : Line → Actor → Type 0
+NonNullAt N1 a = Unit {0}
+NonNullAt N2 a = Unit {0}
+NonNullAt N3 a = 1 ≤ a.top.node
+NonNullAt N4 a = 1 ≤ a.top.node
+NonNullAt N5 a = Unit {0}
+NonNullAt F1 a = 1 ≤ a.node
+NonNullAt F2 a = 1 ≤ a.node
+NonNullAt F3 a = 1 ≤ a.node
+NonNullAt E2 a = 1 ≤ a.node
+NonNullAt E3 a = 1 ≤ a.node
+NonNullAt E5 a = 1 ≤ a.node
+NonNullAt E6 a = (1 ≤ a.node) × (1 ≤ a.tail.node)
+NonNullAt E7 a = (1 ≤ a.node) × (1 ≤ a.tail.node)
+NonNullAt E9 a = (1 ≤ a.node) × (1 ≤ a.tail.node)
+NonNullAt E13 a = (1 ≤ a.node) × (1 ≤ a.tail.node) × (1 ≤ a.next.node)
+NonNullAt E17 a = (1 ≤ a.node) × (1 ≤ a.tail.node)
+NonNullAt D2 a = Unit {0}
+NonNullAt D3 a = 1 ≤ a.head.node
+NonNullAt D4 a = (1 ≤ a.head.node) × (1 ≤ a.tail.node)
+NonNullAt D5 a = (1 ≤ a.head.node) × (1 ≤ a.tail.node)
+NonNullAt D10 a = (1 ≤ a.tail.node) × (1 ≤ a.next.node)
+NonNullAt D12 a = (1 ≤ a.head.node) × (1 ≤ a.next.node)
+NonNullAt D13 a = (1 ≤ a.head.node) × (1 ≤ a.next.node)
+NonNullAt A1 a = 1 ≤ a.node
+NonNullAt A2 a = 1 ≤ a.node
+NonNullAt A3 a = 1 ≤ a.node
+NonNullAt A4 a = 1 ≤ a.node
+NonNullAt A5 a = (1 ≤ a.node) × (1 ≤ a.tail.node)
+NonNullAt A6 a = 1 ≤ a.node
+NonNullAt A7 a = Unit {0}
+NonNullAt B1 a = Unit {0}
+NonNullAt B2 a = Unit {0}
+NonNullAt B3 a = 1 ≤ a.head.node
+NonNullAt B4 a = (1 ≤ a.head.node) × (1 ≤ a.next.node)
+NonNullAt B5 a = (1 ≤ a.head.node) × (1 ≤ a.next.node)
+NonNullAt B6 a = HasNodeToFree a.due a.node
+
+-- an actor's next line is one of its queue, and the registers that it uses as nodes hold nodes
+abbrev pub IsAtLine : Kind → Actor → Option Line → Type 0
+IsAtLine kind a None = Unit {0}
+IsAtLine kind a (Some l) = IsRunBy (section_of l) kind × NonNullAt l a
+
+-- an actor's pocket is empty or has a node, and it stands at its line
+abbrev pub PcIsValid : Kind → Actor → Type 0
+PcIsValid kind a = record { pocket : IfSome a.pocket (λ held. 1 ≤ held.node); line : IsAtLine kind a a.line }
+
+-- each actor that has a call stands before a line of its queue
+abbrev pub EachRunsItsQueue : World → Type 0
+EachRunsItsQueue w =
+    (me : ℕ) (a : Actor) (l : Line) → actor_of w me ≡ Some a → a.line ≡ Some l → IsRunBy (section_of l) w.setup.kind
+
+-- the next access of each actor names a word of the table
+abbrev pub EachNamesAWord : World → Type 0
+EachNamesAWord w = OfEachNextAccess w (λ a. IsWord w.shared (word a))
+
+-- the next access of each actor is one atomic step on the place of its word
+abbrev pub EachIsOneStep : World → Type 0
+EachIsOneStep w = OfEachNextAccess w (IsOneStep w.shared)

@@ -1,0 +1,25 @@
+-- What the fields of a world stand for, and what holds of each world.
+use Rattle.std.specs.Prelude.{◌+◌, ◌^◌, ◌<◌, ◌≤◌, length, vec_capacity}
+use Rattle.step_machine.specs.Machine.{World, IsMade}
+use Rattle.step_machine.specs.Views.{HasNodes, unrecorded}
+use Rattle.step_machine.specs.declared.world.World.TheInside.{Inside}
+
+-- the world that these fields stand for
+abbrev pub world : Inside → World
+world w =
+    record {
+      setup = w.setup;
+      steps = w.steps;
+      shared = w.memory.words;
+      actors = w.actors.items;
+      aside = w.memory.aside;
+      operations = w.operations.items;
+    }
+
+-- the world is one that calls lead to, and has room for the nodes and entries that its calls may still need
+pub record StoredInvariant (w : Inside) : Type 0 where
+  pub made : IsMade (world w)
+  pub numbers : w.steps < 2 ^ 64
+  pub within : w.memory.room ≤ w.setup.size
+  pub nodes : HasNodes w.setup.size w.memory.words.fresh w.memory.room w.actors.items
+  pub entries : length w.operations.items + unrecorded w.actors.items ≤ vec_capacity w.operations

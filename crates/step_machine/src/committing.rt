@@ -1,0 +1,164 @@
+//! What a step leaves in the lists of a world: its actor, and its operation.
+ghost use Rattle.std.specs.Prelude.{◌≡◌, ◌+◌, ◌-◌, ◌<◌, ◌≤◌, Some, None, IfOk, IfSome, IsNone, replicate, if◌then◌else◌, slice_set, slice_get, nat_eq, length, vec_len, vec_capacity};
+ghost use Rattle.line_steps.specs.Rooms.{aside_after};
+ghost use Rattle.step_machine.specs.Machine as machine;
+ghost use Rattle.step_machine.specs.Machine.{with_operation, new_operation, with_outcome, entry_or};
+ghost use Rattle.step_machine.specs.Views.{HasEntry, actor_in, actors_after, operations_after};
+
+use counted_ref::CountedRef;
+use history::{Op, Stamped};
+use line_steps::{Actor, Memory, Outcome, nobody_value};
+use std::alloc::{AllocError, Global};
+
+/// A call under way: whose it is, what it does, and where its operation stands.
+#[derive(Clone, Copy, Debug, PartialEq, Eq)]
+pub struct Call {
+    pub actor: u16,
+    pub op: Op,
+    pub entry: Option<usize>,
+}
+
+/// An actor that never had a call.
+pub fn idle() -> Actor
+    ensures { result ≡ machine.idle }
+{
+    let null = CountedRef::new(0, 0);
+    Actor {
+        line: None,
+        op: Op::Deq,
+        f: 0,
+        top: null,
+        node: 0,
+        mark: 0,
+        tail: null,
+        head: null,
+        next: null,
+        val: nobody_value(),
+        empty_at: 0,
+        due: None,
+        holds: false,
+        pocket: None,
+        entry: None,
+    }
+}
+
+/// Actors that never had a call.
+pub fn idle_actors(alloc: Global, actors: usize) -> Result<Vec<Actor>, AllocError>
+    ensures { IfOk result (λ v. v.items ≡ replicate actors machine.idle) }
+{
+    // The call is named here too, since the checker finds the modules of `Op` by the names that a body writes.
+    let idle = Actor {
+        op: Op::Deq,
+        ..idle()
+    };
+    vec![in alloc; idle; actors]
+}
+
+/// The actor of a number; none for 0 and above the number of actors.
+#[inline(always)]
+pub fn actor_at(actors: &Vec<Actor>, me: u16) -> Option<&Actor>
+    ensures there { IfSome result (λ a. actor_in actors.now.items me ≡ Some a.now) }
+    ensures none { IsNone result → actor_in actors.now.items me ≡ None }
+{
+    if me == 0 {
+        return None;
+    }
+    actors.get(me as usize - 1)
+}
+
+pub fn put_actor(actors: &mut Vec<Actor>, me: u16, actor: Actor)
+    ensures items { actors.new.items ≡ slice_set actors.old.items (me - 1) actor }
+{
+    if let Some(place) = actors.get_mut(me.saturating_sub(1) as usize) {
+        *place = actor;
+    }
+}
+
+/// Puts an actor in its place, whose operation stands at `entry`.
+#[inline(always)]
+fn put_entered(actors: &mut Vec<Actor>, me: u16, entry: usize, actor: Actor)
+    ensures items { actors.new.items ≡
+        slice_set actors.old.items (me - 1) (record actor { entry = Some entry }) }
+{
+    if let Some(place) = actors.get_mut(me.saturating_sub(1) as usize) {
+        *place = actor;
+        place.entry = Some(entry);
+    }
+}
+
+/// Tells an operation the outcome of a step.
+#[inline(always)]
+fn record_outcome(now: u64, outcome: &Outcome, stamped: &mut Stamped)
+    ensures { stamped.new ≡ with_outcome now outcome.now stamped.old }
+{
+    stamped.last = if outcome.reply.is_some() {
+        Some(now)
+    } else {
+        None
+    };
+    if outcome.at.is_some() {
+        stamped.at = outcome.at;
+    }
+    stamped.reply = outcome.reply;
+}
+
+fn first_stamp(call: Call, now: u64) -> Stamped
+    ensures { result ≡ new_operation call.actor call.op now }
+{
+    Stamped {
+        actor: call.actor,
+        op: call.op,
+        first: now,
+        last: None,
+        at: None,
+        reply: None,
+    }
+}
+
+/// The operations after an outcome: a call's first step adds its operation, a later one changes it.
+#[inline(always)]
+fn put_operation(operations: &mut Vec<Stamped>, call: Call, now: u64, outcome: &Outcome)
+    requires { HasEntry call.entry (vec_len operations.old) (vec_capacity operations.old) }
+    ensures items { operations.new.items ≡
+        operations_after call.actor call.op call.entry now outcome.now operations.old.items }
+    ensures room { vec_capacity operations.old ≤ vec_capacity operations.new }
+{
+    match call.entry {
+        None => {
+            let mut new = first_stamp(call, now);
+            record_outcome(now, outcome, &mut new);
+            let _ = operations.push(new);
+        }
+        Some(place) => {
+            if let Some(stamped) = operations.get_mut(place) {
+                record_outcome(now, outcome, stamped);
+            }
+        }
+    }
+}
+
+/// What an outcome leaves of its actor, its operation and the nodes set aside.
+#[inline(always)]
+pub fn commit(
+    memory: &mut Memory,
+    actors: &mut Vec<Actor>,
+    operations: &mut Vec<Stamped>,
+    call: Call,
+    now: u64,
+    outcome: Outcome,
+)
+    requires entry { HasEntry call.entry (vec_len operations.old) (vec_capacity operations.old) }
+    requires aside { IfSome outcome.aside (λ n. n - 1 < memory.old.room) }
+    ensures memory { memory.new ≡ record memory.old { aside = aside_after memory.old.aside outcome.aside } }
+    ensures actors { actors.new.items ≡
+        actors_after call.actor call.entry (length operations.old.items) outcome actors.old.items }
+    ensures operations { operations.new.items ≡
+        operations_after call.actor call.op call.entry now outcome operations.old.items }
+    ensures room { vec_capacity operations.old ≤ vec_capacity operations.new }
+{
+    let place = call.entry.unwrap_or(operations.len());
+    let me = call.actor;
+    put_operation(operations, call, now, &outcome);
+    memory.set_aside(outcome.aside);
+    put_entered(actors, me, place, outcome.actor);
+}
