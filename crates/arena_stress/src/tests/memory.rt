@@ -41,18 +41,14 @@ fn arenas_have_their_sizes_and_a_seat_for_each_role(rt: HostRuntime) -> Result<(
             let (arena, seats) = arena_of(rt.alloc(), kind, nodes, limit, &all[..roles])?;
             let setup = arena.setup();
             assert_eq!(rt;
-                (setup.kind, setup.size, setup.limit),
-                (kind, nodes, limit),
-                "the setup"
+                (setup.kind, setup.size, setup.limit, seats.len()),
+                (kind, nodes, limit, roles),
+                "the setup, and a seat for each role"
             );
-            assert_eq!(rt; seats.len(), roles, "a seat for each role");
             for (seat, seated) in seats.iter().zip(expected) {
-                assert_eq!(rt;
-                    (seat.number(), seat.may_push(), seat.may_pop()),
-                    seated,
-                    "a seat of {roles}"
-                );
-                assert_eq!(rt; (seat.pocket(), seat.failed()), (None, 0), "a new seat");
+                let calls = (seat.number(), seat.may_push(), seat.may_pop());
+                let found = (calls, seat.pocket(), seat.failed());
+                assert_eq!(rt; found, (seated, None, 0), "a new seat of {roles}");
             }
         }
     }

@@ -79,13 +79,13 @@ fn a_node_is_used_until_its_count_is_the_greatest(rt: HostRuntime) -> Result<(),
 #[test]
 fn a_second_seat_finds_no_node(rt: HostRuntime) -> Result<(), Fail> {
     let (arena, mut one, mut other) = two_seats(rt.alloc(), 2, 3).expect(&rt, "an arena");
-    assert_eq!(rt; (one.number(), other.number()), (1, 2), "the numbers");
-    assert_eq!(rt; take(&arena, &mut one, 8), Ok(Held { node: 2, mark: 0 }));
-    assert_eq!(rt; take(&arena, &mut other, 8), Err(Refusal::NoNode));
+    let numbers = (one.number(), other.number());
+    let taken = (take(&arena, &mut one, 8), take(&arena, &mut other, 8));
+    let held = Held { node: 2, mark: 0 };
     assert_eq!(rt;
-        one.pocket(),
-        Some(Held { node: 2, mark: 0 }),
-        "the first pocket"
+        (numbers, taken, one.pocket()),
+        ((1, 2), (Ok(held), Err(Refusal::NoNode)), Some(held)),
+        "the numbers, the answers and the first pocket"
     );
     Ok(())
 }
@@ -95,14 +95,16 @@ fn a_second_seat_finds_no_node(rt: HostRuntime) -> Result<(), Fail> {
 fn seats_that_met_go_on(rt: HostRuntime) -> Result<(), Fail> {
     let (arena, mut one, mut other) = two_seats(rt.alloc(), 3, 3).expect(&rt, "an arena");
     arena.meet(&mut one, &mut other);
-    assert_eq!(rt; take(&arena, &mut one, 8), Ok(Held { node: 2, mark: 0 }));
+    let first = take(&arena, &mut one, 8);
     arena.meet(&mut other, &mut one);
+    let pockets = (one.pocket(), other.pocket());
+    let second = take(&arena, &mut other, 8);
+    let (two, three) = (Held { node: 2, mark: 0 }, Held { node: 3, mark: 0 });
     assert_eq!(rt;
-        (one.pocket(), other.pocket()),
-        (Some(Held { node: 2, mark: 0 }), None),
-        "the pockets"
+        (first, pockets, second),
+        (Ok(two), (Some(two), None), Ok(three)),
+        "the nodes taken, and the pockets between"
     );
-    assert_eq!(rt; take(&arena, &mut other, 8), Ok(Held { node: 3, mark: 0 }));
     Ok(())
 }
 

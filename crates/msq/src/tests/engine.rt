@@ -63,6 +63,13 @@ struct Done {
     complained: Vec<u8>,
 }
 
+impl Done {
+    // The status, what was written, and the line at a fault.
+    fn told(&self) -> (u8, &[u8], &[u8]) {
+        (self.status, &self.written, &self.complained)
+    }
+}
+
 // What the program does with a schedule that comes in pieces of this size, and goes in such ones.
 fn done_with(alloc: Global, text: &[u8], piece: usize) -> Result<Done, AllocError>
     requires { 0 < piece }
@@ -84,13 +91,8 @@ fn writes_each_history_whatever_the_pieces(rt: HostRuntime) -> Result<(), Fail> 
     for (text, want) in &WORKED {
         for piece in [1, 7, 4096] {
             let done = done_with(rt.alloc(), text.as_bytes(), piece)?;
-            assert_eq!(rt;
-                done.written.as_slice(),
-                want.as_bytes(),
-                "by {piece}: {text}"
-            );
-            assert_eq!(rt; done.status, 0, "by {piece}: {text}");
-            assert!(rt; done.complained.is_empty(), "by {piece}: {text}");
+            let want = (0, want.as_bytes(), b"".as_slice());
+            assert_eq!(rt; done.told(), want, "by {piece}: {text}");
         }
     }
     Ok(())
@@ -124,9 +126,8 @@ fn tells_the_first_faulty_line_or_refused_event(rt: HostRuntime) -> Result<(), F
     for (number, line, want) in cases {
         let text = text_with(rt.alloc(), number, line)?;
         let done = done_with(rt.alloc(), &text, 4096)?;
-        assert_eq!(rt; done.complained.as_slice(), want.as_bytes(), "{line}");
-        assert_eq!(rt; done.status, 1, "{line}");
-        assert!(rt; done.written.is_empty(), "{line}");
+        let want = (1, b"".as_slice(), want.as_bytes());
+        assert_eq!(rt; done.told(), want, "{line}");
     }
     Ok(())
 }
@@ -153,9 +154,8 @@ fn tells_faults_of_whole_texts(rt: HostRuntime) -> Result<(), Fail> {
     ];
     for (text, want) in &cases {
         let done = done_with(rt.alloc(), text, 7)?;
-        assert_eq!(rt; done.complained.as_slice(), want.as_bytes());
-        assert_eq!(rt; done.status, 1, "{want}");
-        assert!(rt; done.written.is_empty(), "{want}");
+        let want = (1, b"".as_slice(), want.as_bytes());
+        assert_eq!(rt; done.told(), want);
     }
     Ok(())
 }
@@ -168,12 +168,8 @@ fn tells_that_a_long_number_is_out_of_range(rt: HostRuntime) -> Result<(), Fail>
     }
     let text = text_with(rt.alloc(), 3, line.as_str())?;
     let done = done_with(rt.alloc(), &text, 4096)?;
-    assert_eq!(rt;
-        done.complained.as_slice(),
-        b"fault 10 Text line 3 Range\n".as_slice()
-    );
-    assert_eq!(rt; done.status, 1);
-    assert!(rt; done.written.is_empty());
+    let line = b"fault 10 Text line 3 Range\n".as_slice();
+    assert_eq!(rt; done.told(), (1, b"".as_slice(), line));
     Ok(())
 }
 
@@ -187,8 +183,8 @@ fn tells_the_end_of_each_cut_schedule(rt: HostRuntime) -> Result<(), Fail> {
             let mut writer = Script::writer(rt.alloc(), 1000, 4096)?;
             let outcome = run(rt.alloc(), &mut reader, &mut writer);
             let want = Err(Fault::from(Refusal::Text(line, TextCause::End)));
-            assert_eq!(rt; outcome, want, "before byte {place}");
-            assert!(rt; writer.written().is_empty(), "before byte {place}");
+            let found = (outcome, writer.written().len());
+            assert_eq!(rt; found, (want, 0), "before byte {place}");
             if *byte == b'\n' {
                 line = line.saturating_add(1);
             }
@@ -207,8 +203,8 @@ fn writes_nothing_where_a_read_fails(rt: HostRuntime) -> Result<(), Fail> {
             let mut writer = Script::writer(rt.alloc(), 1000, 7)?;
             let outcome = run(rt.alloc(), &mut reader, &mut writer);
             let want = Err(Fault::from(Refusal::Read));
-            assert_eq!(rt; outcome, want, "at call {call}: {text}");
-            assert!(rt; writer.written().is_empty(), "at call {call}: {text}");
+            let found = (outcome, writer.written().len());
+            assert_eq!(rt; found, (want, 0), "at call {call}: {text}");
         }
     }
     Ok(())
@@ -226,9 +222,9 @@ fn writes_a_beginning_where_a_write_fails(rt: HostRuntime) -> Result<(), Fail> {
                 let mut writer = writer.with(trouble, call);
                 let outcome = run(rt.alloc(), &mut reader, &mut writer);
                 let refusal = Err(Fault::from(Refusal::Write));
-                assert_eq!(rt; outcome, refusal, "at call {call}: {text}");
-                let begun = &history.as_bytes()[..want];
-                assert_eq!(rt; writer.written(), begun, "at call {call}: {text}");
+                let begun = history.as_bytes().get(..want);
+                let found = (outcome, Some(writer.written()));
+                assert_eq!(rt; found, (refusal, begun), "at call {call}: {text}");
             }
         }
     }

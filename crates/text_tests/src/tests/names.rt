@@ -43,8 +43,10 @@ const NAMED: [(Line, &str); 36] = [
 #[test]
 fn each_line_has_its_name(rt: HostRuntime) {
     for (line, name) in NAMED {
-        assert_eq!(rt; line.name(), name, "at {line:?}");
-        assert_eq!(rt; Line::of_name(name.as_bytes()), Some(line), "at {line:?}");
+        assert_eq!(rt;
+            (line.name(), Line::of_name(name.as_bytes())),
+            (name, Some(line))
+        );
     }
 }
 

@@ -10,20 +10,13 @@ fn packs_and_unpacks_the_words_of_the_format(rt: HostRuntime) {
         (16_777_214, 1_099_511_627_775, 18_446_744_073_709_551_614),
     ] {
         let reference = CountedRef::new(node, count);
-        assert_eq!(rt; reference.word(), word, "the word of <{node},{count}>");
+        let found = CountedRef::from_word(word);
+        let parts = found.map(|it| (it.node(), it.count(), it.same(reference)));
         assert_eq!(rt;
-            reference.is_null(),
-            node == 0,
-            "whether <{node},{count}> is null"
+            (reference.word(), reference.is_null(), parts),
+            (word, node == 0, Some((node, count, true))),
+            "<{node},{count}>"
         );
-        match CountedRef::from_word(word) {
-            Some(found) => {
-                assert_eq!(rt; found.node(), node, "the node of {word}");
-                assert_eq!(rt; found.count(), count, "the count of {word}");
-                assert!(rt; found.same(reference), "the reference of {word}");
-            }
-            None => assert!(rt; false, "no reference of {word}"),
-        }
     }
 }
 
@@ -37,8 +30,8 @@ fn finds_no_reference_at_the_reserved_node(rt: HostRuntime) {
 #[test]
 fn raises_below_the_limit_alone(rt: HostRuntime) {
     let once = CountedRef::new(1, 0).raised(7, 1);
-    assert_eq!(rt; once, Some(CountedRef::new(7, 1)));
-    assert_eq!(rt; CountedRef::new(2, 1).raised(7, 1), None);
+    let twice = CountedRef::new(2, 1).raised(7, 1);
+    assert_eq!(rt; (once, twice), (Some(CountedRef::new(7, 1)), None));
 }
 
 #[test]
@@ -49,7 +42,7 @@ fn tells_references_apart_by_node_and_by_count(rt: HostRuntime) {
         (CountedRef::new(3, 1), false),
         (CountedRef::new(2, 0), false),
     ] {
-        assert_eq!(rt; reference.same(other), want, "as {other:?}");
-        assert_eq!(rt; reference == other, want, "== {other:?}");
+        let answers = (reference.same(other), reference == other);
+        assert_eq!(rt; answers, (want, want), "as {other:?}");
     }
 }

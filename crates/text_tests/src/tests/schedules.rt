@@ -331,7 +331,7 @@ fn prints_each_schedule_as_it_was_read(rt: HostRuntime) -> Result<(), Fail> {
     for text in texts {
         let schedule = parse(rt.alloc(), text.as_bytes())?;
         let mut writer = Script::writer(rt.alloc(), 1000, 7)?;
-        assert_eq!(rt; print(&schedule, &mut writer), Ok(()));
+        print(&schedule, &mut writer)?;
         assert_eq!(rt; writer.written(), text.as_bytes());
     }
     Ok(())
@@ -340,10 +340,15 @@ fn prints_each_schedule_as_it_was_read(rt: HostRuntime) -> Result<(), Fail> {
 #[test]
 fn reads_each_event(rt: HostRuntime) -> Result<(), Fail> {
     let schedule = parse(rt.alloc(), WIDEST.as_bytes())?;
-    assert_eq!(rt; schedule.kind, Kind::NonBlocking);
-    assert_eq!(rt; schedule.nodes, 16_777_214);
-    assert_eq!(rt; schedule.limit, 1_099_511_627_775);
-    assert_eq!(rt; schedule.actors, 65_535);
+    assert_eq!(rt;
+        (
+            schedule.kind,
+            schedule.nodes,
+            schedule.limit,
+            schedule.actors
+        ),
+        (Kind::NonBlocking, 16_777_214, 1_099_511_627_775, 65_535)
+    );
     let body = Body::new(281_474_976_710_655).ok_or("a body")?;
     let events = [
         Event::Begin(65_535, Op::Enq(body)),
@@ -368,7 +373,7 @@ fn prints_a_schedule_made_by_hand(rt: HostRuntime) -> Result<(), Fail> {
         events,
     };
     let mut writer = Script::writer(rt.alloc(), 1000, 1000)?;
-    assert_eq!(rt; print(&schedule, &mut writer), Ok(()));
+    print(&schedule, &mut writer)?;
     let text =
         "msq schedule 1\nqueue two-lock\nnodes 2\nlimit 100\nactors 1\nevents 2\nbegin 1 deq\ngive 1\n";
     assert_eq!(rt; writer.written(), text.as_bytes());

@@ -38,7 +38,7 @@ fn dequeue(actor: u16, from: u16, number: u64, first: u64, at: u64) -> Result<St
 
 fn writes(rt: &impl Abort, alloc: Global, history: &[Stamped], table: &[u8]) -> Result<(), Fail> {
     let mut writer = Script::writer(alloc, 1000, 7)?;
-    assert_eq!(rt; history_table(alloc, history, &mut writer), Ok(()));
+    history_table(alloc, history, &mut writer)?;
     assert_eq!(rt; writer.written(), table);
     Ok(())
 }
