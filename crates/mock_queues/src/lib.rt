@@ -2,5 +2,7 @@
 #![tactic(auto)]
 
 mod full;
+mod planned;
 
 pub use full::{FullQueue, FullSeat};
+pub use planned::{Plan, Planned};

@@ -140,11 +140,17 @@ pub fn met<R: Threads + Wait + Sync, Q: Fifo + Sync + Drop>(
 ) -> Result<Run, Refusal>
     requires { All (Q.is_seat queue) seats.items }
 {
-    let (Some(one), Some(other)) = (last(&queue, &mut seats), last(&queue, &mut seats)) else {
+    let Some(other) = last(&queue, &mut seats) else {
         return Err(Refusal::BadSize);
     };
-    let (Ok((mut one, first)), Ok((mut other, second))) = two(rt, alloc, &queue, one, other, MOST)
-    else {
+    let Some(one) = last(&queue, &mut seats) else {
+        return Err(Refusal::BadSize);
+    };
+    let (one, other) = two(rt, alloc, &queue, one, other, MOST);
+    let Ok((mut one, first)) = one else {
+        return Err(Refusal::Lost);
+    };
+    let Ok((mut other, second)) = other else {
         return Err(Refusal::Lost);
     };
     queue.meet(&mut one, &mut other);

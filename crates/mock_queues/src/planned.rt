@@ -1,0 +1,98 @@
+//! A queue that goes by a plan: each call is first put to the plan, which may refuse it, and else handed on.
+ghost use Rattle.std.specs.Prelude.{IfOk, IfErr, IsTrue};
+
+use history::{Body, Fifo, Refusal, Rest, Taken};
+use std::alloc::Global;
+
+/// What becomes of the calls of a queue. A plan may take its time, as by turning until another call was made.
+pub trait Plan {
+    /// What a push is refused, before it is handed on; none where it is to be handed on.
+    fn push_refusal(&self) -> Option<Refusal>;
+
+    /// What a pop is refused, before it is handed on; none where it is to be handed on.
+    fn pop_refusal(&self) -> Option<Refusal>;
+
+    /// A pop that was handed on found the queue empty.
+    fn finds_empty(&self);
+}
+
+/// A queue that goes by a plan.
+#[derive(Drop)]
+pub struct Planned<Q: Drop, P: Drop> {
+    queue: Q,
+    plan: P,
+}
+
+impl<Q: Fifo + Drop, P: Plan + Drop> Planned<Q, P> {
+    ghost use Rattle.std.specs.Prelude.{◌≡◌};
+    ghost use Rattle.mock_queues.specs.Plans.{queue_of};
+
+    /// This queue, by this plan. Takes no memory.
+    pub fn new(queue: Q, plan: P) -> Planned<Q, P>
+        ensures { queue_of result ≡ queue }
+    {
+        Planned { queue, plan }
+    }
+}
+
+impl<Q: Fifo + Drop, P: Plan + Drop> Fifo for Planned<Q, P> {
+    ghost use Rattle.std.specs.Prelude.{◌≡◌, map};
+    ghost use Rattle.std.specs.List.{All};
+    ghost use Rattle.history.specs.Closing.{Closes};
+    ghost use Rattle.mock_queues.specs.Plans.{queue_of};
+
+    type Seat = Q::Seat;
+
+    ghost is_seat = { λ q s. Q.is_seat (queue_of q) s };
+
+    ghost permits = { λ q. Q.permits (queue_of q) };
+
+    ghost known = { λ s. Q.known s };
+
+    ghost sound = { λ q s h. Q.sound (queue_of q) s h };
+
+    fn try_push(&self, seat: &mut Q::Seat, body: Body, turns: u32) -> Result<(), Refusal> {
+        match self.plan.push_refusal() {
+            Some(Refusal::NoNode) => Err(Refusal::NoNode),
+            Some(Refusal::WornOut(word)) => Err(Refusal::WornOut(word)),
+            Some(Refusal::Busy) => Err(Refusal::Busy),
+            _ => self.queue.try_push(seat, body, turns),
+        }
+    }
+
+    fn try_pop(&self, seat: &mut Q::Seat, turns: u32) -> Result<Option<Taken>, Refusal> {
+        match self.plan.pop_refusal() {
+            Some(Refusal::WornOut(word)) => return Err(Refusal::WornOut(word)),
+            Some(Refusal::Busy) => return Err(Refusal::Busy),
+            _ => {}
+        }
+        match self.queue.try_pop(seat, turns) {
+            Ok(Some(taken)) => Ok(Some(taken)),
+            Ok(None) => {
+                self.plan.finds_empty();
+                Ok(None)
+            }
+            Err(why) => Err(why),
+        }
+    }
+
+    fn meet(&self, one: &mut Q::Seat, other: &mut Q::Seat) {
+        self.queue.meet(one, other);
+    }
+
+    fn may_push(&self, seat: &Q::Seat) -> bool {
+        self.queue.may_push(seat)
+    }
+
+    fn may_pop(&self, seat: &Q::Seat) -> bool {
+        self.queue.may_pop(seat)
+    }
+
+    fn close(self, alloc: Global, seats: Vec<Q::Seat>) -> Result<Rest, Refusal>
+        requires { All (Q.is_seat self.queue) seats.items }
+        ensures rest { IfOk result (λ rest. Closes (Q.permits self.queue) (map Q.known seats.items) rest) }
+        ensures only_memory { IfErr result (λ why. why ≡ Refusal.Memory) }
+    {
+        self.queue.close(alloc, seats)
+    }
+}
