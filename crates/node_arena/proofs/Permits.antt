@@ -1,5 +1,5 @@
 -- What a seat's role says of what its number permits.
-use Rattle.std.proofs.Common.{◌≡◌, ◌-◌, ◌↔◌, IsTrue, Some, IsSomeAnd, slice_get, sym, ap, subst, ◌∙◌}
+use Rattle.std.proofs.Common.{◌≡◌, ◌-◌, ◌↔◌, IsTrue, Some, IsSomeAnd, slice_get, sym, subst}
 use Rattle.history.specs.Seats.{Permit, MayPush, MayPop}
 use Rattle.step_machine.proofs.Reached.{mover_in_range}
 use Rattle.node_arena.specs.declared.arena.Arena.{Arena}

@@ -1,5 +1,5 @@
 -- Seats that may make every call of their queue.
-use Rattle.std.specs.Prelude.{ℕ, List}
+use Rattle.std.specs.Prelude.{List}
 use Rattle.history.specs.Seats.{Permit, Known, MayPush, MayPop}
 use Rattle.queue_stress.specs.declared.seating.Four.{Four}
 

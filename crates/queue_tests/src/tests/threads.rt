@@ -66,7 +66,10 @@ fn two<R: Threads + Wait + Sync, Q: Fifo + Sync>(
     one: Q::Seat,
     other: Q::Seat,
     most: u64,
-) -> (Result<(Q::Seat, Popped), Refusal>, Result<(Q::Seat, Popped), Refusal>)
+) -> (
+    Result<(Q::Seat, Popped), Refusal>,
+    Result<(Q::Seat, Popped), Refusal>,
+)
     requires one { MayBegin Q.is_seat Q.permits Q.known queue.now one }
     requires other { MayBegin Q.is_seat Q.permits Q.known queue.now other }
     ensures one { IfOk result.0 (λ r. Q.is_seat queue.now r.0) }

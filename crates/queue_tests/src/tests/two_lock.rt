@@ -98,7 +98,11 @@ fn one_seat_pops_what_it_pushed(rt: HostRuntime) -> Result<(), Fail> {
     let mut seat = last(&queue, &mut seats)?;
     for number in 1..=10_000 {
         assert_eq!(rt; push(&queue, &mut seat, number), Ok(()), "push of {number}");
-        assert_eq!(rt; pop(&queue, &mut seat), Ok(Some((1, number))), "pop of {number}");
+        assert_eq!(rt;
+            pop(&queue, &mut seat),
+            Ok(Some((1, number))),
+            "pop of {number}"
+        );
     }
     let mut rest = closed(rt.alloc(), queue, seat)?;
     assert_eq!(rt; rest.taken(), 10_000);
@@ -124,5 +128,26 @@ fn two_threads_pop_each_value_once(rt: HostRuntime) -> Result<(), Fail> {
         };
         assert_eq!(rt; run, wanted, "with both: {with_both}");
     }
+    Ok(())
+}
+
+// A queue of three nodes that is closed with one value: how many were taken, the value left, and whether it is whole.
+fn made_and_closed(alloc: Global) -> Result<(u64, Option<(u16, u64)>, bool), Refusal> {
+    let (queue, mut seats) = queue_of(alloc, 3, 100, &[Role::Both])?;
+    let mut seat = last(&queue, &mut seats)?;
+    push(&queue, &mut seat, 7)?;
+    let mut rest = closed(alloc, queue, seat)?;
+    let left = rest.next().map(parts);
+    Ok((rest.taken(), left, rest.whole()))
+}
+
+/// Where one allocation is refused, `new` or `close` answers `Memory`, and the next queue is made and closed.
+#[test]
+fn a_refused_allocation_is_told_once(rt: HostRuntime) -> Result<(), Fail> {
+    let answer = match made_and_closed(rt.alloc()) {
+        Err(Refusal::Memory) => made_and_closed(rt.alloc()),
+        answer => answer,
+    };
+    assert_eq!(rt; answer, Ok((0, Some((1, 7)), true)));
     Ok(())
 }
