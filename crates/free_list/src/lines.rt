@@ -5,7 +5,7 @@ ghost use Rattle.node_arena.specs.Prologues.{Prologue, continues};
 ghost use Rattle.free_list.specs.Runs.{CallIsAt, Follows};
 
 use crate::outcomes::{
-    Actor, Outcome, Reply, Untold, ends, freed, goes, empties_hand, raised, sets_aside, fills_hand,
+    Actor, Outcome, Reply, Untold, empties_hand, ends, fills_hand, freed, goes, raised, sets_aside,
     with_node, worn,
 };
 use counted_ref::CountedRef;

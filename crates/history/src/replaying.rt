@@ -10,7 +10,10 @@ use std::collections::VecDeque;
 
 // Applies an operation to the queue. The result is whether the queue gives the reply that the
 // operation was told.
-pub(crate) fn agrees_with_queue(queue: &mut VecDeque<Taken>, operation: &Stamped) -> Result<bool, Refusal>
+pub(crate) fn agrees_with_queue(
+    queue: &mut VecDeque<Taken>,
+    operation: &Stamped,
+) -> Result<bool, Refusal>
     ensures told { IfOk result (λ told.
         told ≡ rule.agrees_with_queue (queue_of queue.old.items) operation.now operation.now.reply) }
     ensures after { OnOk result (queue_of queue.new.items

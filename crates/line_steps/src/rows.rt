@@ -6,8 +6,8 @@ ghost use Rattle.line_steps.specs.Steps.{MayStep, Stepped};
 use crate::actors::{Actor, Outcome, Setup};
 use crate::memory::Memory;
 use crate::outcomes::{
-    effect, ends, freed, goes, empties_hand, raised, sets_aside, fills_hand, to_pocket, unlocked, with_node,
-    worn,
+    effect, empties_hand, ends, fills_hand, freed, goes, raised, sets_aside, to_pocket, unlocked,
+    with_node, worn,
 };
 use counted_ref::CountedRef;
 use history::{Refusal, Reply, WornWord};

@@ -3,12 +3,12 @@
 
 mod actors;
 mod benches;
+mod committing;
 pub mod histories;
 pub mod laws;
 mod moving;
 pub mod non_blocking_laws;
 mod places;
-mod committing;
 pub mod solo;
 pub mod stamping;
 pub mod two_lock_laws;

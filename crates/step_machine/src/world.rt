@@ -8,7 +8,7 @@ ghost use Rattle.step_machine.specs.Calls.{setup_from, NewRefused, BeginRefused,
 ghost use Rattle.step_machine.specs.Solo.{EndsAlone};
 
 use crate::actors::{Move, Stepped};
-use crate::committing::{Call, actor_at, idle_actors, put_actor, commit};
+use crate::committing::{Call, actor_at, commit, idle_actors, put_actor};
 use counted_ref::{CountedRef, MOST_COUNT, MOST_NODE};
 use history::{MOST_ACTOR, Op, Refusal, Reply, Stamped, Taken};
 use line_steps::{Actor, Held, Memory, Setup, begun, gives_up, stepped};

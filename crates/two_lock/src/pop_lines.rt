@@ -6,7 +6,9 @@ ghost use Rattle.node_arena.specs.Plans.{may_pop};
 ghost use Rattle.node_arena.specs.Seats.{role_of};
 ghost use Rattle.two_lock.specs.Pops.{CallIsAt, Follows};
 
-use crate::pop_outcomes::{Actor, Outcome, Reply, Untold, effect, goes, raised, fills_hand, unlocked};
+use crate::pop_outcomes::{
+    Actor, Outcome, Reply, Untold, effect, fills_hand, goes, raised, unlocked,
+};
 use history::{Refusal, WornWord};
 use line_table::{Line, line_table};
 use node_arena::{Arena, Seat, exchanged, reference, stored};

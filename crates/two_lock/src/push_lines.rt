@@ -6,7 +6,7 @@ ghost use Rattle.node_arena.specs.Plans.{may_push};
 ghost use Rattle.node_arena.specs.Seats.{role_of};
 ghost use Rattle.two_lock.specs.Pushes.{CallIsAt, Follows};
 
-use crate::push_outcomes::{Actor, Outcome, Reply, Untold, effect, ends, goes, empties_hand};
+use crate::push_outcomes::{Actor, Outcome, Reply, Untold, effect, empties_hand, ends, goes};
 use counted_ref::CountedRef;
 use line_table::{Line, line_table};
 use node_arena::{Arena, Seat, exchanged, masked, reference, stored};
