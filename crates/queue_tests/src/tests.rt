@@ -1,4 +1,4 @@
 //! Runs of queues, with the answers of runs worked out by hand.
 mod calls;
 mod threads;
-mod two_lock;
+mod two_lock_runs;

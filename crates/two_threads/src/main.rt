@@ -8,8 +8,8 @@ use node_arena::Role;
 use std::io;
 use two_lock::TwoLockQueue;
 
-/// The nodes of the queue: room for 63 values, and one node more.
-const NODES: u32 = 64;
+/// The nodes of the queue: room for 1,023 values, and one node more.
+const NODES: u32 = 1024;
 
 /// The greatest count: so many values can be taken before Head is worn out.
 const LIMIT: u64 = 1_000_000;
