@@ -43,8 +43,8 @@ fn ends_with_a_status_and_a_line_where_there_is_a_fault(rt: HostRuntime) -> Resu
     ];
     for (outcome, status, want) in cases {
         let mut writer = Script::writer(rt.alloc(), 100, 7)?;
-        let found = end_of(outcome, &mut writer);
-        assert_eq!(rt; (found, writer.written()), (status, want.as_bytes()));
+        assert_eq!(rt; end_of(outcome, &mut writer), status, "{want}");
+        assert_eq!(rt; writer.written(), want.as_bytes());
     }
     Ok(())
 }
@@ -54,7 +54,7 @@ fn ends_with_the_status_where_the_line_cannot_be_written(rt: HostRuntime) -> Res
     let writer = Script::writer(rt.alloc(), 100, 7)?;
     let mut writer = writer.with(Trouble::Failure, 2);
     let outcome = Err(Fault::from(Refusal::Read));
-    let found = end_of(outcome, &mut writer);
-    assert_eq!(rt; (found, writer.written()), (1, b"fault 1".as_slice()));
+    assert_eq!(rt; end_of(outcome, &mut writer), 1);
+    assert_eq!(rt; writer.written(), b"fault 1".as_slice());
     Ok(())
 }
