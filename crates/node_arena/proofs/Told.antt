@@ -135,3 +135,9 @@ names_next w me a r there line =
 -- a raised reference names the other node, below the limit
 pub raised_names : (s : Setup) (x : Ref) (to : ℕ) → x.count ≢ s.limit → (raised s x to).node ≡ to
 raised_names = raised_node
+
+-- no step of the non-blocking queue is refused since Head is worn out
+pub head_is_not_worn : (z : Layout) (prologue : Prologue) (l : Line) (n : ℕ) (v v' : SeatView) → z.setup.kind ≡ NonBlocking → (h : Steps z prologue l n v v') → (outcome_at z.setup h.was v.number (after_prologue z.setup v.number prologue v.actor) l).reply ≢ Some (Refused (WornOut OfHead))
+head_is_not_worn z prologue l n v v' kind h worn =
+    non_blocking.head_is_never_worn h.was.world (traced_reached h.was h.reached) (ap (λ s. s.kind) h.setup ∙ kind) v.number (after_prologue z.setup v.number prologue v.actor) l h.before h.line
+    (ap (λ s. (outcome s (h.was.world.steps + 1) v.number (after_prologue z.setup v.number prologue v.actor) l (found (action s v.number (after_prologue z.setup v.number prologue v.actor) l) h.was.world.shared)).reply) h.setup ∙ worn)

@@ -1,0 +1,11 @@
+pub mod Values
+pub mod PushSteps
+pub mod PushStands
+pub mod PushTurns
+pub mod PushTries
+pub mod Pushes
+pub mod PopSteps
+pub mod PopStands
+pub mod PopTurns
+pub mod Pops
+pub mod Queues

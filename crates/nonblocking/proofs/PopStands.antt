@@ -1,0 +1,223 @@
+-- Where each line of a pop leads.
+use Rattle.std.proofs.Common.{◌≡◌, ◌≢◌, ℕ, ◌+◌, ◌<◌, Bool, true, false, nat_eq, if◌then◌else◌, Some, None, length, [], ◌∷◌, sym, refl, ap, ◌∙◌, arith}
+use Rattle.std.proofs.lemmas.Bool.{eqb-true, eqb-false}
+use Rattle.counted_ref.specs.Ref.{Ref, ref_of, is_null, same_ref}
+use Rattle.counted_ref.proofs.Words.{same_ref-true}
+use Rattle.line_table.specs.declared.lines.Line.{Line}
+use Rattle.line_table.specs.declared.lines.Line.TheVariants.{D2, D3, D4, D5, D10, D12, D13, F1}
+use Rattle.history.specs.declared.operations.Entry.TheVariants.{Pop}
+use Rattle.history.specs.declared.operations.Reply.TheVariants as reply
+use Rattle.history.specs.declared.refusals.Refusal.{Refusal}
+use Rattle.history.specs.declared.refusals.Refusal.TheVariants.{WornOut}
+use Rattle.history.specs.declared.refusals.WornWord.TheVariants.{Head as OfHead, Tail as OfTail}
+use Rattle.node_arena.specs.Machine.{Setup, Actor, Outcome as MachineOutcome, goes, ends, worn, fills_hand, entry_or}
+use Rattle.node_arena.specs.Traces.{outcome_at, entries_at}
+use Rattle.node_arena.specs.Prologues.{Prologue, continues, after_prologue}
+use Rattle.node_arena.specs.declared.arena.Arena.{Arena}
+use Rattle.node_arena.specs.declared.seats.Seat.{Seat}
+use Rattle.node_arena.specs.Seats.{DidStep, view}
+use Rattle.node_arena.proofs.Told.{actor_was_in_range, head_is_not_worn}
+use Rattle.nonblocking.specs.Values.{IsNonBlocking, value_of}
+use Rattle.nonblocking.specs.declared.pop_outcomes.Actor.{Actor as Running}
+use Rattle.nonblocking.specs.declared.pop_outcomes.Outcome.{Outcome}
+use Rattle.nonblocking.specs.declared.pop_outcomes.Outcome.TheVariants.{Goes, Empty, Refused}
+use Rattle.nonblocking.specs.Pops.{IsBefore, CallIsAt}
+use Rattle.nonblocking.proofs.PopSteps.{ref_d2, ref_d3, ref_d4, ref_d5, value_d12, ref_d13}
+
+-- a pop that is about to read Head knows nothing of its registers
+pub stands_d2 : (r : Arena) (t : Seat) (prologue : Prologue) (a : Running) → IsBefore r t prologue D2 → CallIsAt r t prologue D2 a
+stands_d2 r t prologue a h = record { before = h; knows = tt }
+
+module _ (r : Arena) (s t : Seat) (prologue : Prologue) (n : ℕ) (a : Running) where
+  abbrev b : Actor
+  b = after_prologue r.plan.setup (view s).number prologue (view s).actor
+
+  -- what the machine makes of the step
+  abbrev out_at : (l : Line) → DidStep r s t prologue l n → MachineOutcome
+  out_at l d = outcome_at r.plan.setup d.told.was (view s).number b l
+
+  -- the actor after a step with this outcome
+  settled_as : (l : Line) (d : DidStep r s t prologue l n) (o : MachineOutcome) → out_at l d ≡ o → (view t).actor ≡ record o.actor { entry = Some (entry_or b.entry (length d.told.was.world.operations)) }
+  settled_as l d o e = d.told.actor ∙ ap (λ (p : MachineOutcome). record p.actor { entry = Some (entry_or b.entry (length d.told.was.world.operations)) }) e
+
+  pub after_d2 : CallIsAt r s prologue D2 a → DidStep r s t prologue D2 n → CallIsAt r t continues D3 (record a { head = ref_of n })
+  after_d2 h d =
+      record {
+        before = record { seat = d.seat; can = tt; line = ap (λ x. x.line) d.told.actor; empty = ap (λ x. x.pocket) d.told.actor ∙ h.before.empty };
+        knows = ap (λ x. x.head) d.told.actor ∙ sym (ref_d2 r s t prologue n d).0;
+      }
+
+  pub after_d3 : CallIsAt r s prologue D3 a → DidStep r s t prologue D3 n → CallIsAt r t continues D4 (record a { tail = ref_of n })
+  after_d3 h d =
+      record {
+        before = record { seat = d.seat; can = tt; line = ap (λ x. x.line) d.told.actor; empty = ap (λ x. x.pocket) d.told.actor ∙ h.before.empty };
+        knows = (ap (λ x. x.head) d.told.actor ∙ h.knows, ap (λ x. x.tail) d.told.actor ∙ sym (ref_d3 r s t prologue n d).0);
+      }
+
+  pub after_d4 : CallIsAt r s prologue D4 a → DidStep r s t prologue D4 n → CallIsAt r t continues D5 (record a { next = ref_of n })
+  after_d4 h d =
+      record {
+        before = record { seat = d.seat; can = tt; line = ap (λ x. x.line) d.told.actor; empty = ap (λ x. x.pocket) d.told.actor ∙ h.before.empty };
+        knows = (ap (λ x. x.head) d.told.actor ∙ h.knows.0, ap (λ x. x.tail) d.told.actor ∙ h.knows.1, ap (λ x. x.next) d.told.actor ∙ sym (ref_d4 r s t prologue n d).0);
+      }
+
+  -- after D5: the turn goes on, in silence
+  pub record On (d : DidStep r s t prologue D5 n) (l : Line) (c : Running) : Type 0 where
+    pub stands : CallIsAt r t continues l c
+    pub same : c ≡ a
+    pub quiet : (out_at D5 d).reply ≡ None
+
+  -- or the queue was empty
+  pub record FoundNull (d : DidStep r s t prologue D5 n) : Type 0 where
+    pub over : (view t).actor.line ≡ None
+    pub empty : (view t).actor.pocket ≡ None
+    pub replies : (out_at D5 d).reply ≡ Some reply.Empty
+    pub head : ref_of n ≡ a.head
+    pub null : a.next.node ≡ 0
+
+  -- or Tail was worn out
+  pub record FoundWorn (d : DidStep r s t prologue D5 n) (why : Refusal) : Type 0 where
+    pub over : (view t).actor.line ≡ None
+    pub empty : (view t).actor.pocket ≡ None
+    pub replies : (out_at D5 d).reply ≡ Some (reply.Refused (WornOut OfTail))
+    pub is : why ≡ WornOut OfTail
+
+  abbrev pub Fifth : DidStep r s t prologue D5 n → Outcome → Type 0
+  Fifth d (Goes D2 c) = On d D2 c
+  Fifth d (Goes D10 c) = On d D10 c
+  Fifth d (Goes D12 c) = On d D12 c
+  Fifth d (Goes l c) = ⊥
+  Fifth d Empty = FoundNull d
+  Fifth d (Refused why) = FoundWorn d why
+
+  abbrev fifth_outcome : (now : ℕ) → (p q u w : Bool) → MachineOutcome
+  fifth_outcome now p q u w =
+      if p
+      then if q then if u then ends now reply.Empty b else if w then worn now OfTail b else goes D10 b else goes D12 b
+      else goes D2 b
+
+  abbrev fifth : (p q u w : Bool) → Outcome
+  fifth p q u w =
+      if p
+      then if q then if u then Empty else if w then Refused (WornOut OfTail) else Goes D10 a else Goes D12 a
+      else Goes D2 a
+
+  module _ (h : CallIsAt r s prologue D5 a) (d : DidStep r s t prologue D5 n) where
+    fifth_is : (p q u w : Bool) → same_ref (ref_of n) a.head ≡ p → nat_eq a.head.node a.tail.node ≡ q → is_null a.next ≡ u → nat_eq a.tail.count r.plan.setup.limit ≡ w → out_at D5 d ≡ fifth_outcome (d.told.was.world.steps + 1) p q u w
+    fifth_is p q u w e f g k =
+        (λ i. fifth_outcome (d.told.was.world.steps + 1) (same_ref (sym (ref_d5 r s t prologue n d).0 i) (h.knows.0 i)) (nat_eq (h.knows.0 i).node (h.knows.1 i).node) (is_null (h.knows.2 i)) (nat_eq (h.knows.1 i).count r.plan.setup.limit)) ∙
+        (λ i. fifth_outcome (d.told.was.world.steps + 1) (e i) (f i) (g i) (k i))
+
+    pub after_d5 : Fifth d (fifth (same_ref (ref_of n) a.head) (nat_eq a.head.node a.tail.node) (is_null a.next) (nat_eq a.tail.count r.plan.setup.limit))
+    after_d5 = go (same_ref (ref_of n) a.head) (nat_eq a.head.node a.tail.node) (is_null a.next) (nat_eq a.tail.count r.plan.setup.limit) refl refl refl refl
+      where
+        go : (p q u w : Bool) → same_ref (ref_of n) a.head ≡ p → nat_eq a.head.node a.tail.node ≡ q → is_null a.next ≡ u → nat_eq a.tail.count r.plan.setup.limit ≡ w → Fifth d (fifth p q u w)
+        go false q u w e f g k =
+            let is = fifth_is false q u w e f g k in
+            let o = settled_as D5 d (fifth_outcome (d.told.was.world.steps + 1) false q u w) is in
+            record {
+              stands = record { before = record { seat = d.seat; can = tt; line = ap (λ x. x.line) o; empty = ap (λ x. x.pocket) o ∙ h.before.empty }; knows = tt };
+              same = refl;
+              quiet = ap (λ x. x.reply) is;
+            }
+        go true false u w e f g k =
+            let is = fifth_is true false u w e f g k in
+            let o = settled_as D5 d (fifth_outcome (d.told.was.world.steps + 1) true false u w) is in
+            record {
+              stands = record {
+                before = record { seat = d.seat; can = tt; line = ap (λ x. x.line) o; empty = ap (λ x. x.pocket) o ∙ h.before.empty };
+                knows = (ap (λ x. x.head) o ∙ h.knows.0, ap (λ x. x.next) o ∙ h.knows.2);
+              };
+              same = refl;
+              quiet = ap (λ x. x.reply) is;
+            }
+        go true true true w e f g k =
+            let is = fifth_is true true true w e f g k in
+            let o = settled_as D5 d (fifth_outcome (d.told.was.world.steps + 1) true true true w) is in
+            record { over = ap (λ x. x.line) o; empty = ap (λ x. x.pocket) o ∙ h.before.empty; replies = ap (λ x. x.reply) is; head = same_ref-true (ref_of n) a.head e; null = eqb-true a.next.node 0 g }
+        go true true false true e f g k =
+            let is = fifth_is true true false true e f g k in
+            let o = settled_as D5 d (fifth_outcome (d.told.was.world.steps + 1) true true false true) is in
+            record { over = ap (λ x. x.line) o; empty = ap (λ x. x.pocket) o ∙ h.before.empty; replies = ap (λ x. x.reply) is; is = refl }
+        go true true false false e f g k =
+            let is = fifth_is true true false false e f g k in
+            let o = settled_as D5 d (fifth_outcome (d.told.was.world.steps + 1) true true false false) is in
+            let low = (actor_was_in_range r.plan prologue D5 n (view s) (view t) d.told).registers.tail.count in
+            let unworn : a.tail.count ≢ r.plan.setup.limit = eqb-false a.tail.count r.plan.setup.limit k in
+            let room : a.tail.count < r.plan.setup.limit = omega (arith, low, unworn, ap (λ (x : Ref). x.count) h.knows.1, ap (λ (z : Setup). z.limit) d.told.setup) in
+            record {
+              stands = record {
+                before = record { seat = d.seat; can = tt; line = ap (λ x. x.line) o; empty = ap (λ x. x.pocket) o ∙ h.before.empty };
+                knows = (ap (λ x. x.tail) o ∙ h.knows.1, ap (λ x. x.next) o ∙ h.knows.2, room);
+              };
+              same = refl;
+              quiet = ap (λ x. x.reply) is;
+            }
+
+  pub after_d10 : CallIsAt r s prologue D10 a → DidStep r s t prologue D10 n → IsBefore r t continues D2
+  after_d10 h d = record { seat = d.seat; can = tt; line = ap (λ x. x.line) d.told.actor; empty = ap (λ x. x.pocket) d.told.actor ∙ h.before.empty }
+
+  module _ (h : CallIsAt r s prologue D12 a) (d : DidStep r s t prologue D12 n) where
+    abbrev twelfth : Bool → MachineOutcome
+    twelfth p = let x = record b { val = value_of n } in if p then worn (d.told.was.world.steps + 1) OfHead x else goes D13 x
+
+    twelfth_is : (p : Bool) → nat_eq a.head.count r.plan.setup.limit ≡ p → out_at D12 d ≡ twelfth p
+    twelfth_is p e =
+        ap (λ v. let x = record b { val = v } in if nat_eq b.head.count r.plan.setup.limit then worn (d.told.was.world.steps + 1) OfHead x else goes D13 x) (value_d12 r s t prologue n d) ∙
+        ap twelfth (ap (λ (x : Ref). nat_eq x.count r.plan.setup.limit) h.knows.0 ∙ e)
+
+    -- Head isn't worn out there
+    pub never_d12 : IsNonBlocking r → nat_eq a.head.count r.plan.setup.limit ≡ true → ⊥
+    never_d12 kind e = head_is_not_worn r.plan prologue D12 n (view s) (view t) kind d.told (ap (λ x. x.reply) (twelfth_is true e))
+
+    pub after_d12 : nat_eq a.head.count r.plan.setup.limit ≡ false → CallIsAt r t continues D13 (record a { val = n })
+    after_d12 e =
+        let o = settled_as D12 d (twelfth false) (twelfth_is false e) in
+        let low = (actor_was_in_range r.plan prologue D12 n (view s) (view t) d.told).registers.head.count in
+        let unworn : a.head.count ≢ r.plan.setup.limit = eqb-false a.head.count r.plan.setup.limit e in
+        let room : a.head.count < r.plan.setup.limit = omega (arith, low, unworn, ap (λ (x : Ref). x.count) h.knows.0, ap (λ (z : Setup). z.limit) d.told.setup) in
+        record {
+          before = record { seat = d.seat; can = tt; line = ap (λ x. x.line) o; empty = ap (λ x. x.pocket) o ∙ h.before.empty };
+          knows = (ap (λ x. x.head) o ∙ h.knows.0, ap (λ x. x.next) o ∙ h.knows.1, ap (λ x. x.val) o, room);
+        }
+
+  -- after a won D13
+  pub record Won (d : DidStep r s t prologue D13 n) : Type 0 where
+    pub over : (view t).actor.line ≡ Some F1
+    pub empty : (view t).actor.pocket ≡ None
+    pub due : (view t).actor.due ≡ Some (reply.Value (value_of a.val))
+    pub node : (view t).actor.node ≡ a.head.node
+    pub mark : (view t).actor.mark ≡ a.next.count
+    pub adds : entries_at r.plan.setup d.told.was (view s).number b D13 ≡ Pop (view s).number b.val ∷ []
+
+  -- after a lost one
+  pub record Lost (d : DidStep r s t prologue D13 n) : Type 0 where
+    pub before : IsBefore r t continues D2
+    pub adds : entries_at r.plan.setup d.told.was (view s).number b D13 ≡ []
+
+  module _ (h : CallIsAt r s prologue D13 a) (d : DidStep r s t prologue D13 n) where
+    abbrev thirteenth : Bool → MachineOutcome
+    thirteenth p = if p then record (goes F1 (fills_hand b.head.node b.next.count (record b { due = Some (reply.Value b.val) }))) { at = Some (d.told.was.world.steps + 1) } else goes D2 b
+
+    same : (p : Bool) → same_ref (ref_of n) a.head ≡ p → same_ref d.told.was.world.shared.head b.head ≡ p
+    same p e = (λ i. same_ref (sym (ref_d13 r s t prologue n d).0 i) (h.knows.0 i)) ∙ e
+
+    pub won_d13 : same_ref (ref_of n) a.head ≡ true → Won d
+    won_d13 e =
+        let o = settled_as D13 d (thirteenth true) (ap thirteenth (same true e)) in
+        record {
+          over = ap (λ x. x.line) o;
+          empty = ap (λ x. x.pocket) o ∙ h.before.empty;
+          due = ap (λ x. x.due) o ∙ ap (λ v. Some (reply.Value v)) h.knows.2;
+          node = ap (λ x. x.node) o ∙ ap (λ (x : Ref). x.node) h.knows.0;
+          mark = ap (λ x. x.mark) o ∙ ap (λ (x : Ref). x.count) h.knows.1;
+          adds = ap (λ p. if p then Pop (view s).number b.val ∷ [] else []) (same true e);
+        }
+
+    pub lost_d13 : same_ref (ref_of n) a.head ≡ false → Lost d
+    lost_d13 e =
+        let o = settled_as D13 d (thirteenth false) (ap thirteenth (same false e)) in
+        record {
+          before = record { seat = d.seat; can = tt; line = ap (λ x. x.line) o; empty = ap (λ x. x.pocket) o ∙ h.before.empty };
+          adds = ap (λ p. if p then Pop (view s).number b.val ∷ [] else []) (same false e);
+        }

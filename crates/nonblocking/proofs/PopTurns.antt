@@ -1,0 +1,261 @@
+-- The turns of a pop: D2 to D5, and then D10, or D12 and D13, or the end of the call.
+use Rattle.std.proofs.Common.{◌≡◌, ℕ, Bool, true, false, if◌then◌else◌, nat_eq, Option, Some, None, List, [], ◌∷◌, ◌++◌, length, sym, refl, ap, ◌∙◌, subst, arith, append-nil, append_assoc}
+use Rattle.counted_ref.specs.Ref.{ref_of, same_ref}
+use Rattle.line_table.specs.declared.lines.Line.{Line}
+use Rattle.line_table.specs.declared.lines.Line.TheVariants.{D2, D3, D4, D5, D10, D12, D13, F1}
+use Rattle.history.specs.declared.operations.Entry.TheVariants.{Pop}
+use Rattle.history.specs.declared.operations.Reply as replies
+use Rattle.history.specs.declared.operations.Reply.TheVariants as reply
+use Rattle.history.specs.declared.refusals.Refusal.TheVariants.{WornOut}
+use Rattle.history.specs.declared.refusals.WornWord.TheVariants.{Head as OfHead, Tail as OfTail}
+use Rattle.history.proofs.Learning.{answers_then}
+use Rattle.node_arena.specs.Traces.{Event, outcome_at}
+use Rattle.node_arena.specs.Prologues.{Prologue, continues}
+use Rattle.node_arena.specs.Rule.{notes_of}
+use Rattle.node_arena.specs.declared.arena.Arena.{Arena}
+use Rattle.node_arena.specs.declared.seats.Seat.{Seat}
+use Rattle.node_arena.specs.Seats.{KeepsStored, DidStep, view, known_of}
+use Rattle.node_arena.specs.Turns.{failed_at, failed_turns, at_d2}
+use Rattle.node_arena.specs.Paths.{ExtendsPath, HasOwnCause}
+use Rattle.node_arena.proofs.Noted.{finds_nothing}
+use Rattle.node_arena.proofs.Told.{has_own_cause}
+use Rattle.node_arena.proofs.Paths.{no_walk, walk_then, then_act, then_stored, sees_on, ended_behind, failed_behind, failed-append, failed_snoc, event, walk_one, walk_on, act_on, to_is, ended_at, failed_last}
+use Rattle.nonblocking.specs.Values.{IsNonBlocking, value_of}
+use Rattle.nonblocking.specs.declared.pop_outcomes.Actor.{Actor as Running}
+use Rattle.nonblocking.specs.declared.pop_outcomes.Reply.TheVariants.{Value as IsValue}
+use Rattle.nonblocking.specs.declared.pop_outcomes.Outcome.{Outcome}
+use Rattle.nonblocking.specs.declared.pop_outcomes.Outcome.TheVariants.{Goes, Empty, Refused}
+use Rattle.nonblocking.specs.declared.pop_outcomes.Turn.{Turn}
+use Rattle.nonblocking.specs.declared.pop_outcomes.Turn.TheVariants as turn
+use Rattle.nonblocking.specs.Pops.{turn_of, IsBefore, CallIsAt, Follows, Fell, Looked, Looks, Turned, Turns}
+use Rattle.nonblocking.proofs.PopStands.{stands_d2, after_d2, after_d3, after_d4, Fifth, after_d5, after_d10, never_d12, after_d12, Won, won_d13, Lost, lost_d13}
+
+actor_or : Running → Outcome → Running
+actor_or d (Goes l a) = a
+actor_or d Empty = d
+actor_or d (Refused why) = d
+
+-- outcomes that are the same go on with the same registers
+pub same_pop : (l k : Line) (a b : Running) → Goes l a ≡ Goes k b → a ≡ b
+unfolding actor_or
+same_pop l k a b e = ap (actor_or a) e
+
+-- after D2, D3 and D4
+pub to_d3 : (r : Arena) (s t : Seat) (prologue : Prologue) (l : Line) (a b : Running) → IsBefore r s prologue D2 → Follows r s t prologue D2 a (Goes l b) → CallIsAt r t continues D3 b
+to_d3 r s t prologue l a b h f = subst (CallIsAt r t continues D3) (sym (same_pop l D3 b (record a { head = ref_of f.found }) f.leads_to)) (after_d2 r s t prologue f.found a (stands_d2 r s prologue a h) f.did)
+
+pub to_d4 : (r : Arena) (s t : Seat) (l : Line) (a b : Running) → CallIsAt r s continues D3 a → Follows r s t continues D3 a (Goes l b) → CallIsAt r t continues D4 b
+to_d4 r s t l a b h f = subst (CallIsAt r t continues D4) (sym (same_pop l D4 b (record a { tail = ref_of f.found }) f.leads_to)) (after_d3 r s t continues f.found a h f.did)
+
+pub to_d5 : (r : Arena) (s t : Seat) (l : Line) (a b : Running) → CallIsAt r s continues D4 a → Follows r s t continues D4 a (Goes l b) → CallIsAt r t continues D5 b
+to_d5 r s t l a b h f = subst (CallIsAt r t continues D5) (sym (same_pop l D5 b (record a { next = ref_of f.found }) f.leads_to)) (after_d4 r s t continues f.found a h f.did)
+
+-- a line whose step goes back to D2 fails its turn
+module _ (r : Arena) (s t x : Seat) (l : Line) (n : ℕ) (d : DidStep r t x continues l n) (before : List Event) (w : ExtendsPath (view s) (view t) before) (never : failed_turns before ≡ 0) (q : (o : Option Line) → failed_at l o ≡ at_d2 o) where
+  abbrev last : Event
+  last = event r t x continues l n d
+
+  -- it failed
+  pub fell : ExtendsPath (view t) (view x) (last ∷ []) → IsBefore r x continues D2 → Fell r s x (before ++ last ∷ [])
+  fell one h =
+      let e : failed_at l (view x).actor.line ≡ 1 = q (view x).actor.line ∙ ap at_d2 h.line in
+      record {
+        before = h;
+        walks = walk_then (view s) (view t) (view x) before (last ∷ []) w one;
+        once = (let f = failed_snoc before last in let z = ap (failed_at l) (to_is r t x continues l n d) ∙ e in omega arith);
+        last = failed_last r t x continues l n d before e;
+      }
+
+  -- it went elsewhere
+  pub not_failed : (o : Option Line) → (view x).actor.line ≡ o → at_d2 o ≡ 0 → failed_turns (before ++ last ∷ []) ≡ 0
+  not_failed o e none = let f = failed_snoc before last in let z = q last.to ∙ ap at_d2 (to_is r t x continues l n d ∙ e) ∙ none in omega arith
+
+-- the lines D2 to D5
+module _ (r : Arena) (s u t v x : Seat) (prologue : Prologue) (a b c d : Running) (l k j : Line) (out : Outcome) (kind : IsNonBlocking r) (h : IsBefore r s prologue D2) (f2 : Follows r s u prologue D2 a (Goes l b)) (f3 : Follows r u t continues D3 b (Goes k c)) (f4 : Follows r t v continues D4 c (Goes j d)) (f5 : Follows r v x continues D5 d out) where
+  abbrev two : Event
+  two = event r s u prologue D2 f2.found f2.did
+
+  abbrev three : Event
+  three = event r u t continues D3 f3.found f3.did
+
+  abbrev four : Event
+  four = event r t v continues D4 f4.found f4.did
+
+  abbrev five : Event
+  five = event r v x continues D5 f5.found f5.did
+
+  abbrev reads : List Event
+  reads = two ∷ three ∷ four ∷ []
+
+  at_d5 : CallIsAt r v continues D5 d
+  at_d5 = to_d5 r t v j c d (to_d4 r u t k b c (to_d3 r s u prologue l a b h f2) f3) f4
+
+  walked : ExtendsPath (view s) (view v) reads
+  walked =
+      walk_then (view s) (view t) (view v) (two ∷ three ∷ []) (four ∷ [])
+      (walk_then (view s) (view u) (view t) (two ∷ []) (three ∷ []) (walk_on r s u prologue D2 f2.found f2.did refl tt) (walk_on r u t continues D3 f3.found f3.did refl tt))
+      (walk_on r t v continues D4 f4.found f4.did refl tt)
+
+  abbrev replied : Option replies.Reply
+  replied = (outcome_at r.plan.setup f5.did.told.was (view v).number (view v).actor D5).reply
+
+  -- D5 notes nothing where it doesn't find the queue empty
+  five_walk : (q : Option replies.Reply) → replied ≡ q → notes_of q (view x).seen ≡ [] → ExtendsPath (view v) (view x) (five ∷ [])
+  five_walk q e none = walk_one r v x continues D5 f5.found f5.did refl (ap (λ p. notes_of p (view x).seen) e ∙ none)
+
+  on_walk : (q : Option replies.Reply) → replied ≡ q → notes_of q (view x).seen ≡ [] → ExtendsPath (view s) (view x) (reads ++ five ∷ [])
+  on_walk q e none = walk_then (view s) (view v) (view x) reads (five ∷ []) walked (five_walk q e none)
+
+  none_failed : (o : Option Line) → (view x).actor.line ≡ o → at_d2 o ≡ 0 → failed_turns (reads ++ five ∷ []) ≡ 0
+  none_failed = not_failed r s v x D5 f5.found f5.did reads walked refl (λ o. refl)
+
+  by_outcome : (o : Outcome) → Fifth r v x continues f5.found d f5.did o → ((view x).actor.pocket ≡ None) × Looked r s x (reads ++ five ∷ []) o
+  by_outcome (Goes D2 e) f = (f.stands.before.empty, fell r s v x D5 f5.found f5.did reads walked refl (λ o. refl) (five_walk None f.quiet refl) f.stands.before)
+  by_outcome (Goes D10 e) f = (f.stands.before.empty, record { stands = f.stands; walks = on_walk None f.quiet refl; never = none_failed (Some D10) f.stands.before.line refl })
+  by_outcome (Goes D12 e) f = (f.stands.before.empty, record { stands = f.stands; walks = on_walk None f.quiet refl; never = none_failed (Some D12) f.stands.before.line refl })
+  by_outcome (Goes _ e) f = absurd f
+  by_outcome Empty f =
+      let is : d ≡ record c { next = ref_of f4.found } = same_pop j D5 d (record c { next = ref_of f4.found }) f4.leads_to in
+      let null : (ref_of f4.found).node ≡ 0 = sym (ap (λ (z : Running). z.next.node) is) ∙ f.null in (
+        f.empty,
+        record {
+          over = f.over;
+          path = f5.did.told.path ∙ ap (λ p. p ++ five ∷ []) walked.path ∙ append_assoc (view s).path reads (five ∷ []);
+          never = none_failed None f.over refl;
+          found = record {
+            number = f5.did.told.number ∙ walked.number;
+            between = walked.rest;
+            seen = f5.did.told.stays refl ∙ walked.seen;
+            empty = finds_nothing r.plan kind f4.found f5.found (view t) (view v) (view x) f4.did.told f5.did.told null (f.head ∙ sym at_d5.knows.0);
+            mine = f5.did.told.mine ∙ append-nil (view v).mine ∙ walked.mine;
+            notes = f5.did.told.notes ∙ ap (λ q. (view v).notes ++ notes_of q (view x).seen) f.replies ∙ ap (λ ns. ns ++ length (view x).seen ∷ []) walked.notes;
+          };
+        },
+      )
+  by_outcome (Refused why) f = (
+    f.empty,
+    record {
+      over = f.over;
+      walks = on_walk (Some (reply.Refused (WornOut OfTail))) f.replies refl;
+      never = none_failed None f.over refl;
+      is = f.is;
+      cause = ended_at r v x continues D5 f5.found f5.did s reads (λ w. HasOwnCause w (view s).number (WornOut OfTail)) walked (has_own_cause r.plan continues D5 f5.found (view v) (view x) f5.did.told (WornOut OfTail) f.replies);
+    },
+  )
+
+  pub looks : Looks r s x out
+  looks =
+      let all = by_outcome out (subst (Fifth r v x continues f5.found d f5.did) (sym f5.leads_to) (after_d5 r v x continues f5.found d at_d5 f5.did)) in
+      record {
+        seat = f5.did.seat;
+        empty = all.0;
+        stored = then_stored s v x (then_stored s t v (then_stored s u t f2.did.stored f3.did.stored) f4.did.stored) f5.did.stored;
+        lines = reads ++ five ∷ [];
+        looked = all.1;
+      }
+
+-- Tail is moved, and the turn failed
+pub moves_tail : (r : Arena) (s t : Seat) (a : Running) (out : Outcome) → CallIsAt r s continues D10 a → Follows r s t continues D10 a out → Turns r s t (turn_of out)
+moves_tail r s t a out h f =
+    let before : IsBefore r t continues D2 = after_d10 r s t continues f.found a h f.did in
+    subst (λ o. Turns r s t (turn_of o)) (sym f.leads_to)
+    record {
+      seat = f.did.seat;
+      empty = before.empty;
+      stored = f.did.stored;
+      lines = event r s t continues D10 f.found f.did ∷ [];
+      turned = fell r s s t D10 f.found f.did [] (no_walk (view s)) refl (λ o. refl) (walk_on r s t continues D10 f.found f.did refl tt) before;
+    }
+
+-- Head is never worn out at D12
+pub never_worn : (r : Arena) (s t : Seat) (a : Running) (out : Outcome) → IsNonBlocking r → CallIsAt r s continues D12 a → Follows r s t continues D12 a out → ((l : Line) (b : Running) → out ≡ Goes l b → ⊥) → ⊥
+never_worn r s t a out kind h f other = go (nat_eq a.head.count r.plan.setup.limit) refl f.leads_to
+  where
+    go : (p : Bool) → nat_eq a.head.count r.plan.setup.limit ≡ p → out ≡ (if p then Refused (WornOut OfHead) else Goes D13 (record a { val = f.found })) → ⊥
+    go true e q = never_d12 r s t continues f.found a h f.did kind e
+    go false e q = other D13 (record a { val = f.found }) q
+
+-- the lines D12 and D13
+module _ (r : Arena) (s t : Seat) (a b : Running) (l : Line) (h : CallIsAt r s continues D12 a) (f : Follows r s t continues D12 a (Goes l b)) where
+  pub to_d13 : CallIsAt r t continues D13 b
+  to_d13 = go (nat_eq a.head.count r.plan.setup.limit) refl f.leads_to
+    where
+      go : (p : Bool) → nat_eq a.head.count r.plan.setup.limit ≡ p → Goes l b ≡ (if p then Refused (WornOut OfHead) else Goes D13 (record a { val = f.found })) → CallIsAt r t continues D13 b
+      go true e q = absurd (let g : Goes l b ≡ Refused (WornOut OfHead) = q in cc)
+      go false e q = subst (CallIsAt r t continues D13) (sym (same_pop l D13 b (record a { val = f.found }) q)) (after_d12 r s t continues f.found a h f.did e)
+
+  abbrev twelve : Event
+  twelve = event r s t continues D12 f.found f.did
+
+  read_walk : ExtendsPath (view s) (view t) (twelve ∷ [])
+  read_walk = walk_on r s t continues D12 f.found f.did refl tt
+
+  pub moves_head : (x : Seat) (out : Outcome) → Follows r t x continues D13 b out → Turns r s x (turn_of out)
+  moves_head x out g =
+      let all = go (same_ref (ref_of g.found) b.head) refl in
+      record {
+        seat = g.did.seat;
+        empty = all.0;
+        stored = then_stored s t x f.did.stored g.did.stored;
+        lines = twelve ∷ last ∷ [];
+        turned = subst (λ o. Turned r s x (twelve ∷ last ∷ []) (turn_of o)) (sym g.leads_to) all.1;
+      }
+    where
+      last : Event
+      last = event r t x continues D13 g.found g.did
+
+      go : (p : Bool) → same_ref (ref_of g.found) b.head ≡ p → ((view x).actor.pocket ≡ None) × Turned r s x (twelve ∷ event r t x continues D13 g.found g.did ∷ []) (turn_of (if p then Goes F1 (record b { node = b.head.node; mark = b.next.count; due = Some (IsValue b.val) }) else Goes D2 b))
+      go true e =
+          let w : Won r t x continues g.found b g.did = won_d13 r t x continues g.found b to_d13 g.did e in (
+            w.empty,
+            record {
+              over = w.over;
+              due = w.due;
+              node = w.node;
+              mark = w.mark;
+              acts = then_act (view s) (view t) (view x) (Pop (view t).number (view t).actor.val) (Pop (view s).number (value_of b.val)) (twelve ∷ []) (event r t x continues D13 g.found g.did ∷ []) (λ i. Pop (read_walk.number i) (to_d13.knows.2 i)) read_walk
+                  (act_on r t x continues D13 g.found g.did (Pop (view t).number (view t).actor.val) w.adds tt);
+              never = not_failed r s t x D13 g.found g.did (twelve ∷ []) read_walk refl (λ o. refl) (Some F1) w.over refl;
+            },
+          )
+      go false e =
+          let w : Lost r t x continues g.found b g.did = lost_d13 r t x continues g.found b to_d13 g.did e in
+          (w.before.empty, fell r s t x D13 g.found g.did (twelve ∷ []) read_walk refl (λ o. refl) (walk_on r t x continues D13 g.found g.did w.adds tt) w.before)
+
+-- lines of a turn before its last ones
+module _ (r : Arena) (s t x : Seat) (es : List Event) (stored : KeepsStored s t) (w : ExtendsPath (view s) (view t) es) (never : failed_turns es ≡ 0) where
+  behind : (out : Turn) (fs : List Event) → Turned r t x fs out → Turned r s x (es ++ fs) out
+  behind (turn.Took word h) fs k =
+      record {
+        over = k.over;
+        due = k.due;
+        node = k.node;
+        mark = k.mark;
+        acts = then_act (view s) (view t) (view x) (Pop (view t).number (value_of word)) (Pop (view s).number (value_of word)) es fs (λ i. Pop (w.number i) (value_of word)) w k.acts;
+        never = omega (arith, failed-append es fs, never, k.never);
+      }
+  behind turn.Failed fs k =
+      record {
+        before = k.before;
+        walks = walk_then (view s) (view t) (view x) es fs w k.walks;
+        once = omega (arith, failed-append es fs, never, k.once);
+        last = failed_behind es fs k.last;
+      }
+  behind turn.Empty fs k =
+      record {
+        over = k.over;
+        path = k.path ∙ ap (λ p. p ++ fs) w.path ∙ append_assoc (view s).path es fs;
+        never = omega (arith, failed-append es fs, never, k.never);
+        found = answers_then (known_of s) (known_of t) (known_of x) None (sees_on (view s) (view t) es w) k.found;
+      }
+  behind (turn.Refused why) fs k =
+      record {
+        over = k.over;
+        walks = walk_then (view s) (view t) (view x) es fs w k.walks;
+        never = omega (arith, failed-append es fs, never, k.never);
+        is = k.is;
+        cause = ended_behind r s t es fs (λ v. HasOwnCause v (view s).number (WornOut OfTail)) w k.cause;
+      }
+
+  pub turn_behind : (out : Turn) → Turns r t x out → Turns r s x out
+  turn_behind out d = record { seat = d.seat; empty = d.empty; stored = then_stored s t x stored d.stored; lines = es ++ d.lines; turned = behind out d.lines d.turned }

@@ -1,0 +1,228 @@
+-- A push that has its node: it sets out, its turns one after another, and what it answers.
+use Rattle.std.proofs.Common.{◌≡◌, ℕ, ◌+◌, ◌*◌, ◌^◌, ◌<◌, List, [], ◌++◌, Option, Some, None, Ok, Err, Result, sym, refl, ap, subst, ◌∙◌, arith, lt-ltb}
+use Rattle.line_table.specs.declared.lines.Line.{Line}
+use Rattle.line_table.specs.declared.lines.Line.TheVariants.{N1, E2, E5}
+use Rattle.history.specs.declared.operations.Entry.TheVariants.{Push}
+use Rattle.history.specs.declared.operations.Op.TheVariants.{Enq}
+use Rattle.history.specs.declared.operations.Taken.{Taken}
+use Rattle.history.specs.declared.refusals.Refusal.{Refusal}
+use Rattle.history.specs.declared.refusals.Refusal.TheVariants.{WornOut, Busy}
+use Rattle.history.specs.declared.refusals.WornWord.TheVariants.{Next as OfNext, Tail as OfTail}
+use Rattle.node_arena.specs.Machine.{Held, Actor, World, with_node, from_pocket}
+use Rattle.node_arena.specs.Traces.{Event}
+use Rattle.node_arena.specs.Prologues.{begins, continues, at_rest, out_of}
+use Rattle.node_arena.specs.declared.arena.Arena.{Arena}
+use Rattle.node_arena.specs.declared.seats.Seat.{Seat}
+use Rattle.node_arena.specs.Seats.{IsReady, KeepsName, view, keeping}
+use Rattle.node_arena.specs.Turns.{failed_turns}
+use Rattle.node_arena.specs.Paths.{ExtendsPath, Acts, LastHeld, HasOwnCause, added}
+use Rattle.node_arena.proofs.Paths.{no_walk, walk_then, then_act, then_stored, added_is, added_path, failed-append, failed_behind, ended_behind, last_held, kept_seat, ends_failed}
+use Rattle.nonblocking.specs.Values.{IsNonBlocking, value_of}
+use Rattle.nonblocking.specs.declared.push_outcomes.Actor.{Actor as Running}
+use Rattle.nonblocking.specs.declared.push_outcomes.Outcome.{Outcome}
+use Rattle.nonblocking.specs.declared.push_outcomes.Outcome.TheVariants.{Goes, Refused}
+use Rattle.nonblocking.specs.declared.push_outcomes.Turn.{Turn}
+use Rattle.nonblocking.specs.declared.push_outcomes.Turn.TheVariants.{Pushed, Failed, Refused as TurnRefused}
+use Rattle.nonblocking.specs.Pushes.{registers_of, in_hand, CallIsAt, Filled, Fills, FoundWorn, Turns, Trying, Puts, PutRefused}
+use Rattle.nonblocking.proofs.Values.{value_of-word}
+
+-- an actor that begins a push with this pocket
+abbrev set_out : Arena → Seat → ℕ → Option Held → Actor
+set_out r s body p = from_pocket (with_node r.plan.setup.kind) p (record (at_rest (view s).actor) { line = Some N1; op = Enq body; val = record { from = (view s).number; body = body }; due = None; entry = None })
+
+-- a push with a full pocket sets out
+pub pushes_out : (r : Arena) (s : Seat) (h : Held) (from body val : ℕ) (a : Running) → a ≡ registers_of h val → IsReady r s → s.pocket ≡ Some h → IsNonBlocking r → body < 2 ^ 48 → from ≡ s.number → val ≡ from * 2 ^ 48 + body → CallIsAt r s (begins (Enq (value_of a.val).body)) E2 a
+pushes_out r s h from body val a is i full kind small same word = subst (λ (x : Running). CallIsAt r s (begins (Enq (value_of x.val).body)) E2 x) (sym is) out
+  where
+    e : (at_rest (view s).actor).pocket ≡ Some h
+    e = sym i.pocket ∙ full
+
+    parts : value_of val ≡ record { from = from; body = body }
+    parts = value_of-word val from body small word
+
+    low : (value_of val).body < 2 ^ 48
+    low = omega arith
+
+    out : CallIsAt r s (begins (Enq (value_of val).body)) E2 (registers_of h val)
+    out =
+        record {
+          seat = i.seat;
+          can = (lt-ltb (value_of val).body (2 ^ 48) low, i.free);
+          line = ap (λ p. (set_out r s (value_of val).body p).line) e ∙ ap (λ k. Some (with_node k)) kind;
+          empty = ap (λ p. (set_out r s (value_of val).body p).pocket) e;
+          node = ap (λ p. (set_out r s (value_of val).body p).node) e;
+          mark = ap (λ p. (set_out r s (value_of val).body p).mark) e;
+          val = ap (λ p. (set_out r s (value_of val).body p).val) e ∙ ap (λ (k : ℕ). record { from = k; body = (value_of val).body }) (sym (same ∙ i.seat.sits.number) ∙ sym (ap (λ (v : Taken). v.from) parts));
+          knows = tt;
+        }
+
+-- a push whose node is ready, before its first turn
+pub first_try : (r : Arena) (s : Seat) (h : Held) (val spent : ℕ) → CallIsAt r s continues E5 (registers_of h val) → Trying r s s (registers_of h val) spent spent
+first_try r s h val spent st =
+    record {
+      stands = st;
+      stored = record { number = refl; role = refl; pocket = refl; failed = refl };
+      lines = [];
+      walks = no_walk (view s);
+      failed = omega arith;
+      last = λ less. absurd (omega arith);
+    }
+
+-- what held at the last step of some lines held at that of more lines before them
+last_behind : (r : Arena) (s t u : Seat) (es : List Event) (P : World → Type 0) → ExtendsPath (view s) (view t) es → added s u ≡ es ++ added t u → LastHeld r t u P → LastHeld r s u P
+last_behind r s t u es P w e h =
+    last_held r s u (es ++ added t u) P e
+    (ended_behind r s t es (added t u) P w record { was = h.was; reached = h.reached; setup = h.setup; before = h.before; last = h.last; path = h.path; within = h.within; held = h.held })
+
+-- a push behind other lines of its call
+pub put_behind : (r : Arena) (s t u : Seat) (es : List Event) → ExtendsPath (view s) (view t) es → KeepsName s t → (node body spent all turns : ℕ) (out : Result (Unit {0}) Refusal) → spent + failed_turns es ≡ all → Puts r t u node body all turns out → Puts r s u node body spent turns out
+put_behind r s t u es w name node body spent all turns (Ok x) f k =
+    let both : List Event = es ++ added t u in
+    let acts : Acts (view s) (view u) (Push (view s).number body) both = then_act (view s) (view t) (view u) (Push (view t).number body) (Push (view s).number body) es (added t u) (λ i. Push (w.number i) body) w k.pushed.0 in
+    let e : added s u ≡ both = added_path s u both acts.path in
+    record {
+      ready = k.ready;
+      same = record { number = k.same.number ∙ name.number; role = k.same.role ∙ name.role };
+      pushed = (
+        subst (Acts (view s) (view u) (Push (view s).number body)) (sym e) acts,
+        k.pushed.1,
+        (let c = ap failed_turns e in let g = k.pushed.2 in omega (arith, failed-append es (added t u), c, f, g)),
+      );
+      refused = tt;
+    }
+put_behind r s t u es w name node body spent all turns (Err why) f k =
+    let both : List Event = es ++ added t u in
+    let walks : ExtendsPath (view s) (view u) both = walk_then (view s) (view t) (view u) es (added t u) w k.refused.0 in
+    let e : added s u ≡ both = added_is s u both walks in
+    record {
+      ready = k.ready;
+      same = record { number = k.same.number ∙ name.number; role = k.same.role ∙ name.role };
+      pushed = tt;
+      refused = (subst (ExtendsPath (view s) (view u)) (sym e) walks, by_cause e why k.refused.1);
+    }
+  where
+    by_cause : added s u ≡ es ++ added t u → (why : Refusal) → PutRefused r t u node all turns why → PutRefused r s u node spent turns why
+    by_cause e Busy x = (
+      (let c = ap failed_turns e in let g = x.0 in omega (arith, failed-append es (added t u), c, f, g)),
+      ends_failed s u (es ++ added t u) e (failed_behind es (added t u) (record { before = x.1.before; last = x.1.last; path = x.1.path; failed = x.1.failed })),
+      x.2,
+    )
+    by_cause e (WornOut OfTail) x = (last_behind r s t u es _ w e x.0, x.1)
+    by_cause e (WornOut OfNext) x = (subst (λ me. LastHeld r s u (λ v. HasOwnCause v me (WornOut OfNext))) w.number (last_behind r s t u es _ w e x.0), x.1)
+    by_cause e (WornOut _) x = absurd x
+    by_cause e _ x = absurd x
+
+-- the node's own next is worn out
+pub fill_worn : (r : Arena) (s t : Seat) (a : Running) (out : Outcome) (why : Refusal) (node body spent turns : ℕ) → out ≡ Refused why → Fills r s t a out → Puts r s (keeping t None spent) node body spent turns (Err why)
+fill_worn r s t a out why node body spent turns is f =
+    let k : FoundWorn r s t None f.lines OfNext why = subst (Filled r s t a f.lines) is f.filled in
+    let e : added s t ≡ f.lines = added_is s t f.lines f.walks in
+    let rest : at_rest (view t).actor ≡ (view t).actor = ap (out_of (view t).actor) k.over in
+    record {
+      ready = record { seat = kept_seat r t None spent k.seat; free = ap (λ b. b.line) rest ∙ k.over; pocket = sym (ap (λ b. b.pocket) rest ∙ k.pocket) };
+      same = record { number = f.stored.number; role = f.stored.role };
+      pushed = tt;
+      refused = (
+        subst (ExtendsPath (view s) (view t)) (sym e) f.walks,
+        subst (PutRefused r s (keeping t None spent) node spent turns) (sym k.is) (last_held r s (keeping t None spent) f.lines _ e k.cause, refl),
+      );
+    }
+
+-- the node is ready
+module _ (r : Arena) (s t : Seat) (a : Running) (out : Outcome) (l : Line) (c : Running) (is : out ≡ Goes l c) (f : Fills r s t a out) where
+  ready_at : (l : Line) → Filled r s t a f.lines (Goes l c) → CallIsAt r t continues E5 c × (c.node ≡ a.node) × (c.val ≡ a.val) × (failed_turns f.lines ≡ 0)
+  ready_at E5 k = k
+  ready_at _ k = absurd k
+
+  k : CallIsAt r t continues E5 c × (c.node ≡ a.node) × (c.val ≡ a.val) × (failed_turns f.lines ≡ 0)
+  k = ready_at l (subst (Filled r s t a f.lines) is f.filled)
+
+  pub fill_ready : (val : ℕ) → a.val ≡ val → CallIsAt r t continues E5 (registers_of (in_hand c) val)
+  fill_ready val e =
+      record { seat = k.0.seat; can = tt; line = k.0.line; empty = k.0.empty; node = k.0.node; mark = k.0.mark; val = k.0.val ∙ ap value_of (k.2 ∙ e); knows = tt }
+
+  pub fill_then : (u : Seat) (node body spent turns : ℕ) (o : Result (Unit {0}) Refusal) → a.node ≡ node → Puts r t u c.node body spent turns o → Puts r s u node body spent turns o
+  fill_then u node body spent turns o e g =
+      put_behind r s t u f.lines f.walks (record { number = f.stored.number; role = f.stored.role }) node body spent spent turns o (let z = k.3 in omega arith) (subst (λ n. Puts r t u n body spent turns o) (k.1 ∙ e) g)
+
+-- turns
+module _ (r : Arena) (s t u : Seat) (h : Held) (val spent n turns : ℕ) (a : Running) (out : Turn) (is : a ≡ registers_of h val) (g : Trying r s t (registers_of h val) spent n) (m : Turns r t u a out) where
+  abbrev b : Running
+  b = registers_of h val
+
+  turn : Turns r t u b out
+  turn = subst (λ x. Turns r t u x out) is m
+
+  turned_as : (o : Turn) → out ≡ o → Turns r t u b o
+  turned_as o e = subst (Turns r t u b) e turn
+
+  -- a turn failed
+  pub next_try : out ≡ Failed → Trying r s u b spent (n + 1)
+  next_try e =
+      let k : Turns r t u b Failed = turned_as Failed e in
+      record {
+        stands = k.turned.1.stands;
+        stored = then_stored s t u g.stored k.stored;
+        lines = g.lines ++ k.lines;
+        walks = walk_then (view s) (view t) (view u) g.lines k.lines g.walks k.turned.0;
+        failed = omega (arith, failed-append g.lines k.lines, g.failed, k.turned.1.once);
+        last = λ less. failed_behind g.lines k.lines k.turned.1.last;
+      }
+
+  -- a turn pushed
+  pub puts_it : n < turns → out ≡ Pushed → Puts r s (keeping u None n) h.node (value_of val).body spent turns (Ok tt)
+  puts_it less e =
+      let k : Turns r t u b Pushed = turned_as Pushed e in
+      let es : List Event = g.lines ++ k.lines in
+      let acts : Acts (view s) (view u) (Push (view s).number (value_of val).body) es = then_act (view s) (view t) (view u) (Push (view t).number (value_of val).body) (Push (view s).number (value_of val).body) g.lines k.lines (λ i. Push (g.walks.number i) (value_of val).body) g.walks k.turned.acts in
+      let e : added s u ≡ es = added_path s u es acts.path in
+      let name = then_stored s t u g.stored k.stored in
+      let rest : at_rest (view u).actor ≡ (view u).actor = ap (out_of (view u).actor) k.turned.over in
+      record {
+        ready = record { seat = kept_seat r u None n k.turned.seat; free = ap (λ b. b.line) rest ∙ k.turned.over; pocket = sym (ap (λ b. b.pocket) rest ∙ k.turned.empty) };
+        same = record { number = name.number; role = name.role };
+        pushed = (
+          subst (Acts (view s) (view u) (Push (view s).number (value_of val).body)) (sym e) acts,
+          refl,
+          (let c = ap failed_turns e in omega (arith, failed-append g.lines k.lines, g.failed, k.turned.never, c)),
+        );
+        refused = tt;
+      }
+
+  -- a turn was refused
+  pub refused_put : (why : Refusal) → out ≡ TurnRefused why → Puts r s (keeping u (Some h) n) h.node (value_of val).body spent turns (Err why)
+  refused_put why e =
+      let k : Turns r t u b (TurnRefused why) = turned_as (TurnRefused why) e in
+      let es : List Event = g.lines ++ k.lines in
+      let w : ExtendsPath (view s) (view u) es = walk_then (view s) (view t) (view u) g.lines k.lines g.walks k.turned.0 in
+      let name = then_stored s t u g.stored k.stored in
+      let f = k.turned.1 in
+      let e : added s u ≡ es = added_is s u es w in
+      let rest : at_rest (view u).actor ≡ (view u).actor = ap (out_of (view u).actor) f.over in
+      record {
+        ready = record { seat = kept_seat r u (Some h) n f.seat; free = ap (λ b. b.line) rest ∙ f.over; pocket = sym (ap (λ b. b.pocket) rest ∙ f.pocket) };
+        same = record { number = name.number; role = name.role };
+        pushed = tt;
+        refused = (
+          subst (ExtendsPath (view s) (view u)) (sym e) w,
+          subst (PutRefused r s (keeping u (Some h) n) h.node spent turns) (sym f.is)
+              (last_held r s (keeping u (Some h) n) es _ e (ended_behind r s t g.lines k.lines _ g.walks f.cause), refl),
+        );
+      }
+
+-- all turns failed
+pub gives_up_put : (r : Arena) (s t : Seat) (h : Held) (val spent turns : ℕ) → spent < turns → Trying r s t (registers_of h val) spent turns → Puts r s (keeping t (Some h) turns) h.node (value_of val).body spent turns (Err Busy)
+gives_up_put r s t h val spent turns less g =
+    let e : added s t ≡ g.lines = added_is s t g.lines g.walks in
+    let k = g.stands in
+    let rest = ap (out_of (view t).actor) k.line in
+    record {
+      ready = record {
+        seat = kept_seat r t (Some h) turns k.seat;
+        free = ap (λ b. b.line) rest;
+        pocket = sym (ap (λ b. b.pocket) rest ∙ (λ i. Some (record { node = k.node i; mark = k.mark i })));
+      };
+      same = record { number = g.stored.number; role = g.stored.role };
+      pushed = tt;
+      refused = (subst (ExtendsPath (view s) (view t)) (sym e) g.walks, (ap (λ es. spent + failed_turns es) e ∙ g.failed, ends_failed s (keeping t (Some h) turns) g.lines e (g.last less), refl));
+    }

@@ -1,0 +1,303 @@
+-- A turn of a push: E5 to E7, and then E9 and E17, or E13, or none.
+use Rattle.std.proofs.Common.{◌≡◌, ℕ, Option, Some, None, List, [], ◌∷◌, ◌++◌, sym, refl, ap, subst, ◌∙◌, arith}
+use Rattle.counted_ref.specs.Ref.{ref_of}
+use Rattle.line_table.specs.declared.lines.Line.{Line}
+use Rattle.line_table.specs.declared.lines.Line.TheVariants.{E2, E3, E5, E6, E7, E9, E13, E17}
+use Rattle.history.specs.declared.operations.Entry.TheVariants.{Push}
+use Rattle.history.specs.declared.operations.Taken.{Taken}
+use Rattle.history.specs.declared.refusals.Refusal.{Refusal}
+use Rattle.history.specs.declared.refusals.Refusal.TheVariants.{WornOut}
+use Rattle.history.specs.declared.refusals.WornWord.{WornWord}
+use Rattle.history.specs.declared.refusals.WornWord.TheVariants.{Next as OfNext, Tail as OfTail}
+use Rattle.node_arena.specs.Machine.{Held}
+use Rattle.node_arena.specs.Traces.{Event, entries_at}
+use Rattle.node_arena.specs.Prologues.{Prologue, continues}
+use Rattle.node_arena.specs.declared.arena.Arena.{Arena}
+use Rattle.node_arena.specs.declared.seats.Seat.{Seat}
+use Rattle.node_arena.specs.Seats.{DidStep, view}
+use Rattle.node_arena.specs.Turns.{failed_at, failed_turns, at_e5}
+use Rattle.node_arena.specs.Paths.{ExtendsPath, Acts, HasOwnCause}
+use Rattle.node_arena.proofs.Paths.{walk_then, then_act, act_then, then_stored, failed_snoc, failed-append, failed_behind, ended_behind, event, walk_on, pass_on, act_on, to_is, ended_at, failed_last}
+use Rattle.nonblocking.specs.Values.{value_of}
+use Rattle.nonblocking.specs.declared.push_outcomes.Actor.{Actor as Running}
+use Rattle.nonblocking.specs.declared.push_outcomes.Outcome.{Outcome}
+use Rattle.nonblocking.specs.declared.push_outcomes.Outcome.TheVariants.{Goes, Done, Refused}
+use Rattle.nonblocking.specs.declared.push_outcomes.Turn.{Turn}
+use Rattle.nonblocking.specs.declared.push_outcomes.Turn.TheVariants.{Pushed, Failed, Refused as TurnRefused}
+use Rattle.nonblocking.specs.Pushes.{in_hand, follow, CallIsAt, Follows, Comes, Slipped, FoundWorn, Filled, Fills, Looked, Looks, Turned, Turns}
+use Rattle.nonblocking.proofs.PushStands.{after_e2, after_e5, after_e6, after_e13, after_e17, Worn, Third, after_e3, Seventh, after_e7, Ninth, after_e9}
+
+actor_or : Running → Outcome → Running
+actor_or d (Goes l a) = a
+actor_or d Done = d
+actor_or d (Refused why) = d
+
+-- outcomes that are the same go on with the same registers
+pub same_push : (l k : Line) (a b : Running) → Goes l a ≡ Goes k b → a ≡ b
+unfolding actor_or
+same_push l k a b e = ap (actor_or a) e
+
+-- after E2
+pub to_e3 : (r : Arena) (s t : Seat) (prologue : Prologue) (l : Line) (a b : Running) → CallIsAt r s prologue E2 a → Follows r s t prologue E2 a (Goes l b) → CallIsAt r t continues E3 b × (b ≡ a)
+to_e3 r s t prologue l a b h f = let e : b ≡ a = same_push l E3 b a f.leads_to in (subst (CallIsAt r t continues E3) (sym e) (after_e2 r s t prologue f.found a h f.did), e)
+
+-- a word was found worn out at the last of some lines, no turn having failed
+module _ (r : Arena) (s u t : Seat) (l : Line) (n : ℕ) (a : Running) (h : CallIsAt r u continues l a) (d : DidStep r u t continues l n) (before : List Event) (w : ExtendsPath (view s) (view u) before) where
+  found_worn : (p : Option Held) (word : WornWord) (why : Refusal) → failed_turns (before ++ event r u t continues l n d ∷ []) ≡ 0 → Worn r u t continues l n a h d p word why → FoundWorn r s t p (before ++ event r u t continues l n d ∷ []) word why
+  found_worn p word why never k =
+      record {
+        seat = d.seat;
+        over = k.over;
+        pocket = k.pocket;
+        never = never;
+        is = k.is;
+        cause = ended_at r u t continues l n d s before (λ w. HasOwnCause w (view s).number (WornOut word)) w (subst (λ me. HasOwnCause d.told.was.world me (WornOut word)) w.number k.cause);
+      }
+
+-- E2 and E3
+module _ (r : Arena) (s u t : Seat) (prologue : Prologue) (l : Line) (a b : Running) (out : Outcome) (h : CallIsAt r s prologue E2 a) (f : Follows r s u prologue E2 a (Goes l b)) (g : Follows r u t continues E3 b out) where
+  abbrev one : Event
+  one = event r s u prologue E2 f.found f.did
+
+  abbrev two : Event
+  two = event r u t continues E3 g.found g.did
+
+  first : ExtendsPath (view s) (view u) (one ∷ [])
+  first = walk_on r s u prologue E2 f.found f.did refl tt
+
+  at : CallIsAt r u continues E3 b × (b ≡ a)
+  at = to_e3 r s u prologue l a b h f
+
+  filled : (o : Outcome) → Third r u t continues g.found b at.0 g.did o → Filled r s t a (one ∷ two ∷ []) o
+  filled (Goes E5 c) k = (k.0, k.1 ∙ ap (λ (x : Running). x.node) at.1, k.2 ∙ ap (λ (x : Running). x.val) at.1, refl)
+  filled (Goes _ c) k = absurd k
+  filled Done k = absurd k
+  filled (Refused why) k = found_worn r s u t E3 g.found b at.0 g.did (one ∷ []) first None OfNext why refl k
+
+  pub fills : Fills r s t a out
+  fills =
+      record {
+        stored = then_stored s u t f.did.stored g.did.stored;
+        lines = one ∷ two ∷ [];
+        walks = walk_then (view s) (view u) (view t) (one ∷ []) (two ∷ []) first (walk_on r u t continues E3 g.found g.did refl tt);
+        filled = subst (Filled r s t a (one ∷ two ∷ [])) (sym g.leads_to) (filled (follow r.plan.setup b E3 g.found) (after_e3 r u t continues g.found b at.0 g.did));
+      }
+
+-- after E5
+pub to_e6 : (r : Arena) (s t : Seat) (l : Line) (a b : Running) → CallIsAt r s continues E5 a → Follows r s t continues E5 a (Goes l b) → CallIsAt r t continues E6 b × (in_hand b ≡ in_hand a) × (b.val ≡ a.val)
+to_e6 r s t l a b h f =
+    let e = same_push l E6 b (record a { tail = ref_of f.found }) f.leads_to in
+    (subst (CallIsAt r t continues E6) (sym e) (after_e5 r s t continues f.found a h f.did), ap in_hand e, ap (λ (x : Running). x.val) e)
+
+-- after E6
+pub to_e7 : (r : Arena) (s t : Seat) (l : Line) (a b : Running) → CallIsAt r s continues E6 a → Follows r s t continues E6 a (Goes l b) → CallIsAt r t continues E7 b × (in_hand b ≡ in_hand a) × (b.val ≡ a.val)
+to_e7 r s t l a b h f =
+    let e = same_push l E7 b (record a { next = ref_of f.found }) f.leads_to in
+    (subst (CallIsAt r t continues E7) (sym e) (after_e6 r s t continues f.found a h f.did), ap in_hand e, ap (λ (x : Running). x.val) e)
+
+-- a push before E5 stands there with any registers of the same node, mark and value
+stands_e5 : (r : Arena) (t : Seat) (a c : Running) → in_hand c ≡ in_hand a → c.val ≡ a.val → CallIsAt r t continues E5 c → CallIsAt r t continues E5 a
+stands_e5 r t a c hand val h =
+    record {
+      seat = h.seat;
+      can = tt;
+      line = h.line;
+      empty = h.empty;
+      node = h.node ∙ ap (λ (x : Held). x.node) hand;
+      mark = h.mark ∙ ap (λ (x : Held). x.mark) hand;
+      val = h.val ∙ ap value_of val;
+      knows = tt;
+    }
+
+-- a line whose turn failed
+module _ (r : Arena) (s t : Seat) (l : Line) (n : ℕ) (d : DidStep r s t continues l n) (before : List Event) (never : failed_turns before ≡ 0) (q : (o : Option Line) → failed_at l o ≡ at_e5 o) where
+  slips : (a : Running) → CallIsAt r t continues E5 a → Slipped r t a (before ++ event r s t continues l n d ∷ [])
+  slips a h =
+      let e : failed_at l (view t).actor.line ≡ 1 = q (view t).actor.line ∙ ap at_e5 h.line in
+      record {
+        stands = h;
+        once = (let f = failed_snoc before (event r s t continues l n d) in let z = ap (failed_at l) (to_is r s t continues l n d) ∙ e in omega arith);
+        last = failed_last r s t continues l n d before e;
+      }
+
+  -- and one whose turn went on
+  went_on : (o : Option Line) → (view t).actor.line ≡ o → at_e5 o ≡ 0 → failed_turns (before ++ event r s t continues l n d ∷ []) ≡ 0
+  went_on o e z = let f = failed_snoc before (event r s t continues l n d) in let g = ap (failed_at l) (to_is r s t continues l n d ∙ e) ∙ q o ∙ z in omega arith
+
+-- E5 to E7
+module _ (r : Arena) (s u v t : Seat) (l k : Line) (a b c : Running) (out : Outcome) (h : CallIsAt r s continues E5 a) (f : Follows r s u continues E5 a (Goes l b)) (g : Follows r u v continues E6 b (Goes k c)) (m : Follows r v t continues E7 c out) where
+  abbrev five : Event
+  five = event r s u continues E5 f.found f.did
+
+  abbrev six : Event
+  six = event r u v continues E6 g.found g.did
+
+  abbrev seven : Event
+  seven = event r v t continues E7 m.found m.did
+
+  abbrev before : List Event
+  before = five ∷ six ∷ []
+
+  two_lines : ExtendsPath (view s) (view v) before
+  two_lines = walk_then (view s) (view u) (view v) (five ∷ []) (six ∷ []) (walk_on r s u continues E5 f.found f.did refl tt) (walk_on r u v continues E6 g.found g.did refl tt)
+
+  at6 : CallIsAt r u continues E6 b × (in_hand b ≡ in_hand a) × (b.val ≡ a.val)
+  at6 = to_e6 r s u l a b h f
+
+  at7 : CallIsAt r v continues E7 c × (in_hand c ≡ in_hand b) × (c.val ≡ b.val)
+  at7 = to_e7 r u v k b c at6.0 g
+
+  hand : in_hand c ≡ in_hand a
+  hand = at7.1 ∙ at6.1
+
+  val : c.val ≡ a.val
+  val = at7.2 ∙ at6.2
+
+  no_turn : (o : Option Line) → (view t).actor.line ≡ o → at_e5 o ≡ 0 → failed_turns (before ++ seven ∷ []) ≡ 0
+  no_turn o e z = went_on r v t E7 m.found m.did before refl (λ q. refl) o e z
+
+  looked : (o : Outcome) → Seventh r v t continues m.found c at7.0 m.did o → Looked r s t a (before ++ seven ∷ []) o
+  looked (Goes E9 x) y = record { stands = y.0; hand = ap in_hand y.1 ∙ hand; val = ap (λ (z : Running). z.val) y.1 ∙ val; never = no_turn (Some E9) y.0.line refl }
+  looked (Goes E13 x) y = record { stands = y.0; hand = ap in_hand y.1 ∙ hand; val = ap (λ (z : Running). z.val) y.1 ∙ val; never = no_turn (Some E13) y.0.line refl }
+  looked (Goes E5 x) y = slips r v t E7 m.found m.did before refl (λ o. refl) a (stands_e5 r t a x (ap in_hand y.1 ∙ hand) (ap (λ (z : Running). z.val) y.1 ∙ val) y.0)
+  looked (Goes _ x) y = absurd y
+  looked Done y = absurd y
+  looked (Refused why) y =
+      subst (λ p. FoundWorn r s t (Some p) (before ++ seven ∷ []) OfTail why) hand
+      (found_worn r s v t E7 m.found c at7.0 m.did before two_lines (Some (in_hand c)) OfTail why (no_turn None y.over refl) y)
+
+  pub looks : Looks r s t a out
+  looks =
+      record {
+        stored = then_stored s v t (then_stored s u v f.did.stored g.did.stored) m.did.stored;
+        lines = before ++ seven ∷ [];
+        walks = walk_then (view s) (view v) (view t) before (seven ∷ []) two_lines (walk_on r v t continues E7 m.found m.did refl tt);
+        looked = subst (Looked r s t a (before ++ seven ∷ [])) (sym m.leads_to) (looked (follow r.plan.setup c E7 m.found) (after_e7 r v t continues m.found c at7.0 m.did));
+      }
+
+-- E9, and E17 where it is to be made
+module _ (r : Arena) (s t : Seat) (a : Running) (out : Outcome) (h : CallIsAt r s continues E9 a) (f : Follows r s t continues E9 a out) where
+  abbrev nine : Event
+  nine = event r s t continues E9 f.found f.did
+
+  ninth : Ninth r s t continues f.found a h f.did out
+  ninth = subst (Ninth r s t continues f.found a h f.did) (sym f.leads_to) (after_e9 r s t continues f.found a h f.did)
+
+  at_ninth : (o : Outcome) → out ≡ o → Ninth r s t continues f.found a h f.did o
+  at_ninth o e = subst (Ninth r s t continues f.found a h f.did) e ninth
+
+  acts : entries_at r.plan.setup f.did.told.was (view s).number (view s).actor E9 ≡ Push (view s).number (view s).actor.val.body ∷ [] → Acts (view s) (view t) (Push (view s).number (value_of a.val).body) (nine ∷ [])
+  acts won = act_on r s t continues E9 f.found f.did (Push (view s).number (value_of a.val).body) (won ∙ ap (λ (v : Taken). Push (view s).number v.body ∷ []) h.val) tt
+
+  -- it was the last line, since Tail is worn out
+  pub links_last : out ≡ Done → Turns r s t a Pushed
+  links_last e =
+      let k = at_ninth Done e in
+      record {
+        stored = f.did.stored;
+        lines = nine ∷ [];
+        turned = record { seat = f.did.seat; over = k.0; empty = k.1; never = went_on r s t E9 f.found f.did [] refl (λ o. refl) None k.0 refl; acts = acts k.2 };
+      }
+
+  -- it was lost
+  pub links_not : (l : Line) (b : Running) → out ≡ Goes l b → (l ≡ E17 → ⊥) → Turns r s t a Failed
+  links_not l b e other = go l other (at_ninth (Goes l b) e)
+    where
+      go : (l : Line) → (l ≡ E17 → ⊥) → Ninth r s t continues f.found a h f.did (Goes l b) → Turns r s t a Failed
+      go E17 other k = absurd (other refl)
+      go E5 other k =
+          record {
+            stored = f.did.stored;
+            lines = nine ∷ [];
+            turned = (
+              walk_on r s t continues E9 f.found f.did k.2 tt,
+              slips r s t E9 f.found f.did [] refl (λ o. refl) a (subst (CallIsAt r t continues E5) k.1 k.0),
+            );
+          }
+      go _ other k = absurd k
+
+  pub to_e17 : (l : Line) (b : Running) → out ≡ Goes l b → l ≡ E17 → CallIsAt r t continues E17 b
+  to_e17 l b e is = (at_ninth (Goes E17 b) (e ∙ ap (λ k. Goes k b) is)).0
+
+  -- it was won, and E17 was made
+  pub links : (u : Seat) (l : Line) (b : Running) (last : Outcome) → out ≡ Goes l b → l ≡ E17 → Follows r t u continues E17 b last → Turns r s u a Pushed
+  links u l b last e is g =
+      let k = at_ninth (Goes E17 b) (e ∙ ap (λ k. Goes k b) is) in
+      let over = after_e17 r t u continues g.found b k.0 g.did in
+      record {
+        stored = then_stored s t u f.did.stored g.did.stored;
+        lines = nine ∷ event r t u continues E17 g.found g.did ∷ [];
+        turned = record {
+          seat = g.did.seat;
+          over = over.0;
+          empty = over.1;
+          never = (let z : at_e5 nine.to ≡ 0 = ap at_e5 (to_is r s t continues E9 f.found f.did ∙ k.0.line) in omega arith);
+          acts = act_then (view s) (view t) (view u) (Push (view s).number (value_of a.val).body) (nine ∷ []) (event r t u continues E17 g.found g.did ∷ []) (acts k.1) (pass_on r t u continues E17 g.found g.did refl tt refl);
+        };
+      }
+
+-- a whole turn
+module _ (r : Arena) (s t : Seat) (a : Running) (out : Outcome) (f : Looks r s t a out) where
+  looked_as : (o : Outcome) → out ≡ o → Looked r s t a f.lines o
+  looked_as o e = subst (Looked r s t a f.lines) e f.looked
+
+  -- Tail was swung
+  pub turn_swings : (u : Seat) (l : Line) (c : Running) (last : Outcome) → out ≡ Goes l c → l ≡ E13 → Follows r t u continues E13 c last → Turns r s u a Failed
+  turn_swings u l c last e is g =
+      let k = looked_as (Goes E13 c) (e ∙ ap (λ k. Goes k c) is) in
+      let at = after_e13 r t u continues g.found c k.stands g.did in
+      record {
+        stored = then_stored s t u f.stored g.did.stored;
+        lines = f.lines ++ event r t u continues E13 g.found g.did ∷ [];
+        turned = (
+          walk_then (view s) (view t) (view u) f.lines (event r t u continues E13 g.found g.did ∷ []) f.walks (walk_on r t u continues E13 g.found g.did refl tt),
+          slips r t u E13 g.found g.did f.lines k.never (λ o. refl) a (stands_e5 r u a c k.hand k.val at),
+        );
+      }
+
+  -- E9 was made
+  pub turn_links : (u : Seat) (l : Line) (c : Running) (last : Turn) → out ≡ Goes l c → l ≡ E9 → Turns r t u c last → Turns r s u a last
+  turn_links u l c last e is g =
+      record {
+        stored = then_stored s t u f.stored g.stored;
+        lines = f.lines ++ g.lines;
+        turned = go last g.turned;
+      }
+    where
+      k : Comes r t E9 a c f.lines
+      k = looked_as (Goes E9 c) (e ∙ ap (λ k. Goes k c) is)
+
+      body : (value_of c.val).body ≡ (value_of a.val).body
+      body = ap (λ (n : ℕ). (value_of n).body) k.val
+
+      none : (m : ℕ) → failed_turns g.lines ≡ m → failed_turns (f.lines ++ g.lines) ≡ m
+      none m z = let x = failed-append f.lines g.lines in let y = k.never in omega arith
+
+      go : (o : Turn) → Turned r t u c g.lines o → Turned r s u a (f.lines ++ g.lines) o
+      go Pushed y =
+          record {
+            seat = y.seat;
+            over = y.over;
+            empty = y.empty;
+            never = none 0 y.never;
+            acts = then_act (view s) (view t) (view u) (Push (view t).number (value_of c.val).body) (Push (view s).number (value_of a.val).body) f.lines g.lines (λ i. Push (f.walks.number i) (body i)) f.walks y.acts;
+          }
+      go Failed y = (
+        walk_then (view s) (view t) (view u) f.lines g.lines f.walks y.0,
+        record {
+          stands = stands_e5 r u a c k.hand k.val y.1.stands;
+          once = none 1 y.1.once;
+          last = failed_behind f.lines g.lines y.1.last;
+        },
+      )
+      go (TurnRefused why) y = (
+        walk_then (view s) (view t) (view u) f.lines g.lines f.walks y.0,
+        record {
+          seat = y.1.seat;
+          over = y.1.over;
+          pocket = y.1.pocket ∙ ap (λ h. Some h) k.hand;
+          never = none 0 y.1.never;
+          is = y.1.is;
+          cause = ended_behind r s t f.lines g.lines _ f.walks y.1.cause;
+        },
+      )

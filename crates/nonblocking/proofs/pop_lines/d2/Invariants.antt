@@ -1,0 +1,4 @@
+use Rattle.nonblocking.proofs.pop_lines.d2.Given as goal
+
+abbrev pub ghost-load : goal.ghost-load
+ghost-load g a = g.prologue

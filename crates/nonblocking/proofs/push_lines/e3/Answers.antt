@@ -1,0 +1,6 @@
+use Rattle.node_arena.specs.Prologues.{continues}
+use Rattle.nonblocking.proofs.PushSteps.{ref_e3}
+use Rattle.nonblocking.proofs.push_lines.e3.Goals as goal
+
+pub reference-found-requires : goal.reference-found-requires
+reference-found-requires c = (ref_e3 c.args.arena.now c.args.seat.now _ continues _ c.masked.ensures).1

@@ -1,0 +1,7 @@
+use Rattle.history.specs.declared.operations.Op.TheVariants.{Enq}
+use Rattle.node_arena.specs.Prologues.{begins}
+use Rattle.nonblocking.specs.Values.{value_of}
+use Rattle.nonblocking.proofs.pushing.put.Given as goal
+
+abbrev pub ghost-fill : goal.ghost-fill
+ghost-fill a = begins (Enq (value_of a.a.val).body)

@@ -1,0 +1,4 @@
+pub mod Values
+pub mod Pushes
+pub mod Pops
+pub mod Queues

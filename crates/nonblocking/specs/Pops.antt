@@ -1,0 +1,212 @@
+-- A running pop: what it remembers before each line, and what it answers.
+use Rattle.std.specs.Prelude.{◌≡◌, ℕ, zero, suc, ◌+◌, ◌≤◌, ◌<◌, if◌then◌else◌, nat_eq, List, ◌++◌, Option, Some, None, Result, IfOk, IfErr, OnOk}
+use Rattle.counted_ref.specs.Ref.{ref_of, is_null, same_ref}
+use Rattle.line_table.specs.declared.lines.Line.{Line}
+use Rattle.line_table.specs.declared.lines.Line.TheVariants.{D2, D3, D4, D5, D10, D12, D13, F1}
+use Rattle.history.specs.declared.operations.Entry.TheVariants.{Pop}
+use Rattle.history.specs.declared.operations.Op.TheVariants.{Deq}
+use Rattle.history.specs.declared.operations.Reply.TheVariants as reply
+use Rattle.history.specs.declared.operations.Taken.{Taken}
+use Rattle.history.specs.declared.refusals.Refusal.{Refusal}
+use Rattle.history.specs.declared.refusals.Refusal.TheVariants.{WornOut, Busy}
+use Rattle.history.specs.declared.refusals.WornWord.TheVariants.{Head as OfHead, Tail as OfTail}
+use Rattle.history.specs.Answers.{FoundEmpty, PopAnswers}
+use Rattle.node_arena.specs.Machine.{Setup, Held, Actor}
+use Rattle.node_arena.specs.Traces.{Event}
+use Rattle.node_arena.specs.Prologues.{Prologue, begins, continues, after_prologue, CanStart}
+use Rattle.node_arena.specs.declared.arena.Arena.{Arena}
+use Rattle.node_arena.specs.declared.seats.Seat.{Seat}
+use Rattle.node_arena.specs.Seeing.{known_by}
+use Rattle.node_arena.specs.Seats.{IsSeat, IsReady, KeepsStored, KeepsName, DidStep, view, known_of}
+use Rattle.node_arena.specs.Turns.{failed_turns}
+use Rattle.node_arena.specs.Paths.{ExtendsPath, Acts, HadNoEffect, FailedAt, EndsFailed, EndedAt, MetCause, HasOwnCause, added}
+use Rattle.nonblocking.specs.Values.{value_of}
+use Rattle.nonblocking.specs.declared.pop_outcomes.Actor.{Actor as Running}
+use Rattle.nonblocking.specs.declared.pop_outcomes.Reply.{Reply}
+use Rattle.nonblocking.specs.declared.pop_outcomes.Reply.TheVariants.{Value as IsValue, Empty as IsEmpty}
+use Rattle.nonblocking.specs.declared.pop_outcomes.Outcome.{Outcome}
+use Rattle.nonblocking.specs.declared.pop_outcomes.Outcome.TheVariants.{Goes, Empty, Refused}
+use Rattle.nonblocking.specs.declared.pop_outcomes.Turn.{Turn}
+use Rattle.nonblocking.specs.declared.pop_outcomes.Turn.TheVariants as turn
+
+-- how a pop sets out: its first turn begins a dequeue, and a later one goes on
+abbrev pub popping : ℕ → Prologue
+popping zero = begins Deq
+popping (suc n) = continues
+
+-- where a pop goes that has its reply: a value's node is freed, and else the call ends
+abbrev pub ended_as : Reply → Running → Outcome
+ended_as (IsValue word) a = Goes F1 a
+ended_as IsEmpty a = Empty
+
+-- what a running pop makes of the number found at a line
+abbrev pub follow : Setup → Running → Line → ℕ → Outcome
+follow z a D2 n = Goes D3 (record a { head = ref_of n })
+follow z a D3 n = Goes D4 (record a { tail = ref_of n })
+follow z a D4 n = Goes D5 (record a { next = ref_of n })
+follow z a D5 n =
+    if same_ref (ref_of n) a.head
+    then if nat_eq a.head.node a.tail.node
+    then if is_null a.next then Empty
+    else if nat_eq a.tail.count z.limit then Refused (WornOut OfTail)
+    else Goes D10 a
+    else Goes D12 a
+    else Goes D2 a
+follow z a D10 n = Goes D2 a
+follow z a D12 n =
+    if nat_eq a.head.count z.limit then Refused (WornOut OfHead) else Goes D13 (record a { val = n })
+follow z a D13 n =
+    if same_ref (ref_of n) a.head
+    then Goes F1 (record a { node = a.head.node; mark = a.next.count; due = Some (IsValue a.val) })
+    else Goes D2 a
+follow z a l n = Goes l a
+
+-- the node in the hand of a running pop, with its mark
+abbrev pub in_hand : Running → Held
+in_hand a = record { node = a.node; mark = a.mark }
+
+-- the turn that ends so: a value was taken where its node is to be freed, and the turn failed where it goes on elsewhere
+abbrev pub turn_of : Outcome → Turn
+turn_of (Goes F1 a) = turn.Took a.val (in_hand a)
+turn_of (Goes l a) = turn.Failed
+turn_of Empty = turn.Empty
+turn_of (Refused why) = turn.Refused why
+
+-- what a running pop knows of its actor's registers before a line
+abbrev pub AgreesAt : Setup → Line → Actor → Running → Type 0
+AgreesAt z D3 b a = b.head ≡ a.head
+AgreesAt z D4 b a = (b.head ≡ a.head) × (b.tail ≡ a.tail)
+AgreesAt z D5 b a = (b.head ≡ a.head) × (b.tail ≡ a.tail) × (b.next ≡ a.next)
+AgreesAt z D10 b a = (b.tail ≡ a.tail) × (b.next ≡ a.next) × (a.tail.count < z.limit)
+AgreesAt z D12 b a = (b.head ≡ a.head) × (b.next ≡ a.next)
+AgreesAt z D13 b a = (b.head ≡ a.head) × (b.next ≡ a.next) × (b.val ≡ value_of a.val) × (a.head.count < z.limit)
+AgreesAt z l b a = Unit {0}
+
+-- a seat's actor, led there, stands before a line of a pop with an empty pocket
+pub record IsBefore (r : Arena) (s : Seat) (prologue : Prologue) (l : Line) : Type 0 where
+  pub seat : IsSeat r s
+  pub can : CanStart prologue (view s).actor
+  pub line : (after_prologue r.plan.setup (view s).number prologue (view s).actor).line ≡ Some l
+  pub empty : (after_prologue r.plan.setup (view s).number prologue (view s).actor).pocket ≡ None
+
+-- and the call knows its registers
+pub record CallIsAt (r : Arena) (s : Seat) (prologue : Prologue) (l : Line) (a : Running) : Type 0 where
+  pub before : IsBefore r s prologue l
+  pub knows : AgreesAt r.plan.setup l (after_prologue r.plan.setup (view s).number prologue (view s).actor) a
+
+-- the seat made its step at a line, and the call made of the number found what the line says
+pub record Follows (r : Arena) (s t : Seat) (prologue : Prologue) (l : Line) (a : Running) (out : Outcome) : Type 0 where
+  pub found : ℕ
+  pub did : DidStep r s t prologue l found
+  pub leads_to : out ≡ follow r.plan.setup a l found
+
+-- a value was taken, and the node that comes free is in the hand
+pub record Took (r : Arena) (s t : Seat) (es : List Event) (word : ℕ) (h : Held) : Type 0 where
+  pub over : (view t).actor.line ≡ Some F1
+  pub due : (view t).actor.due ≡ Some (reply.Value (value_of word))
+  pub node : (view t).actor.node ≡ h.node
+  pub mark : (view t).actor.mark ≡ h.mark
+  pub acts : Acts (view s) (view t) (Pop (view s).number (value_of word)) es
+  pub never : failed_turns es ≡ 0
+
+-- a turn that failed
+pub record Fell (r : Arena) (s t : Seat) (es : List Event) : Type 0 where
+  pub before : IsBefore r t continues D2
+  pub walks : ExtendsPath (view s) (view t) es
+  pub once : failed_turns es ≡ 1
+  pub last : FailedAt es
+
+-- the queue was found empty
+pub record SawEmpty (s t : Seat) (es : List Event) : Type 0 where
+  pub over : (view t).actor.line ≡ None
+  pub path : (view t).path ≡ (view s).path ++ es
+  pub never : failed_turns es ≡ 0
+  pub found : FoundEmpty (known_by (view s)) (known_by (view t))
+
+-- Tail was found worn out
+pub record SawWorn (r : Arena) (s t : Seat) (es : List Event) (why : Refusal) : Type 0 where
+  pub over : (view t).actor.line ≡ None
+  pub walks : ExtendsPath (view s) (view t) es
+  pub never : failed_turns es ≡ 0
+  pub is : why ≡ WornOut OfTail
+  pub cause : EndedAt r s es (λ w. HasOwnCause w (view s).number (WornOut OfTail))
+
+-- the turn goes on at a line
+pub record GoesOn (r : Arena) (s t : Seat) (es : List Event) (l : Line) (a : Running) : Type 0 where
+  pub stands : CallIsAt r t continues l a
+  pub walks : ExtendsPath (view s) (view t) es
+  pub never : failed_turns es ≡ 0
+
+-- what the lines D2 to D5 come to
+abbrev pub Looked : Arena → Seat → Seat → List Event → Outcome → Type 0
+Looked r s t es (Goes D2 a) = Fell r s t es
+Looked r s t es (Goes D10 a) = GoesOn r s t es D10 a
+Looked r s t es (Goes D12 a) = GoesOn r s t es D12 a
+Looked r s t es (Goes l a) = ⊥
+Looked r s t es Empty = SawEmpty s t es
+Looked r s t es (Refused why) = SawWorn r s t es why
+
+-- the lines D2 to D5
+pub record Looks (r : Arena) (s t : Seat) (out : Outcome) : Type 0 where
+  pub seat : IsSeat r t
+  pub empty : (view t).actor.pocket ≡ None
+  pub stored : KeepsStored s t
+  pub lines : List Event
+  pub looked : Looked r s t lines out
+
+-- what the lines of a turn come to
+abbrev pub Turned : Arena → Seat → Seat → List Event → Turn → Type 0
+Turned r s t es (turn.Took word h) = Took r s t es word h
+Turned r s t es turn.Failed = Fell r s t es
+Turned r s t es turn.Empty = SawEmpty s t es
+Turned r s t es (turn.Refused why) = SawWorn r s t es why
+
+-- lines of a turn, to its end
+pub record Turns (r : Arena) (s t : Seat) (out : Turn) : Type 0 where
+  pub seat : IsSeat r t
+  pub empty : (view t).actor.pocket ≡ None
+  pub stored : KeepsStored s t
+  pub lines : List Event
+  pub turned : Turned r s t lines out
+
+-- a pop after so many failed turns since it began
+pub record Trying (r : Arena) (s t : Seat) (n : ℕ) : Type 0 where
+  pub before : IsBefore r t (popping n) D2
+  pub stored : KeepsStored s t
+  pub lines : List Event
+  pub walks : ExtendsPath (view s) (view t) lines
+  pub failed : failed_turns lines ≡ n
+  pub last : 1 ≤ n → FailedAt lines
+
+-- the cause of each refusal: so many turns failed, the last one at the last step, or at the last step Tail's count was the
+-- greatest one
+abbrev pub DrawRefused : Arena → Seat → Seat → (spent turns : ℕ) → Refusal → Type 0
+DrawRefused r s t spent turns Busy = (spent + failed_turns (added s t) ≡ turns) × EndsFailed s t
+DrawRefused r s t spent turns (WornOut OfTail) = MetCause r s t (WornOut OfTail)
+DrawRefused r s t spent turns _ = ⊥
+
+-- what a pop answers that has an empty pocket, where so many turns failed before
+pub record Draws (r : Arena) (s t : Seat) (spent turns : ℕ) (out : Result (Option Taken) Refusal) : Type 0 where
+  pub ready : IsReady r t
+  pub same : KeepsName s t
+  pub path : (view t).path ≡ (view s).path ++ added s t
+  pub answer : IfOk out (λ o. PopAnswers (known_of s) o (known_of t))
+  pub few : OnOk out (spent + failed_turns (added s t) ≤ turns)
+  pub refused : IfErr out (λ why. HadNoEffect s t × DrawRefused r s t spent turns why)
+
+-- what one turn of a pop comes to: it failed, or the pop answers
+abbrev pub Tries : Arena → Seat → Seat → (spent turns : ℕ) → Option (Result (Option Taken) Refusal) → Type 0
+Tries r s t spent turns None = Turns r s t turn.Failed
+Tries r s t spent turns (Some out) = Draws r s t spent turns out
+
+-- why a pop is refused
+abbrev pub PopRefused : Arena → Seat → Seat → (turns : ℕ) → Refusal → Type 0
+PopRefused r s t turns why = DrawRefused r s t 0 turns why
+
+-- what a pop answers
+pub record AnswersPop (r : Arena) (s t : Seat) (turns : ℕ) (out : Result (Option Taken) Refusal) : Type 0 where
+  pub ready : IsReady r t
+  pub same : KeepsName s t
+  pub answer : IfOk out (λ o. PopAnswers (known_of s) o (known_of t))
+  pub few : OnOk out (failed_turns (added s t) ≤ turns)
+  pub refused : IfErr out (λ why. HadNoEffect s t × PopRefused r s t turns why)

@@ -1,0 +1,200 @@
+-- A running push: what it remembers before each line, and what it answers.
+use Rattle.std.specs.Prelude.{◌≡◌, ℕ, ◌+◌, ◌≤◌, ◌<◌, if◌then◌else◌, nat_eq, List, Option, Some, None, IsSome, IsSomeAnd, Result, OnOk, IfErr}
+use Rattle.counted_ref.specs.Ref.{ref, ref_of, is_null, same_ref}
+use Rattle.line_table.specs.declared.lines.Line.{Line}
+use Rattle.line_table.specs.declared.lines.Line.TheVariants.{E2, E3, E5, E6, E7, E9, E13, E17}
+use Rattle.history.specs.declared.operations.Entry.TheVariants.{Push}
+use Rattle.history.specs.declared.refusals.Refusal.{Refusal}
+use Rattle.history.specs.declared.refusals.Refusal.TheVariants.{WornOut, Busy}
+use Rattle.history.specs.declared.refusals.WornWord.{WornWord}
+use Rattle.history.specs.declared.refusals.WornWord.TheVariants.{Next as OfNext, Tail as OfTail}
+use Rattle.node_arena.specs.Machine.{Setup, Held, Actor}
+use Rattle.node_arena.specs.Traces.{Event}
+use Rattle.node_arena.specs.Prologues.{Prologue, continues, after_prologue, CanStart}
+use Rattle.node_arena.specs.declared.arena.Arena.{Arena}
+use Rattle.node_arena.specs.declared.seats.Seat.{Seat}
+use Rattle.node_arena.specs.Seats.{IsSeat, IsReady, KeepsStored, KeepsName, DidStep, view, pocket_of}
+use Rattle.node_arena.specs.Turns.{failed_turns}
+use Rattle.node_arena.specs.Paths.{ExtendsPath, Acts, HadNoEffect, FailedAt, EndsFailed, EndedAt, MetCause, HasOwnCause, added}
+use Rattle.free_list.specs.Takes.{TakeRefused}
+use Rattle.nonblocking.specs.Values.{value_of}
+use Rattle.nonblocking.specs.declared.push_outcomes.Actor.{Actor as Running}
+use Rattle.nonblocking.specs.declared.push_outcomes.Reply.TheVariants.{Done as IsDone}
+use Rattle.nonblocking.specs.declared.push_outcomes.Outcome.{Outcome}
+use Rattle.nonblocking.specs.declared.push_outcomes.Outcome.TheVariants.{Goes, Done, Refused}
+use Rattle.nonblocking.specs.declared.push_outcomes.Turn.{Turn}
+use Rattle.nonblocking.specs.declared.push_outcomes.Turn.TheVariants.{Pushed, Failed, Refused as TurnRefused}
+
+-- the registers of a push that has this node and this word of a value
+abbrev pub registers_of : Held → ℕ → Running
+registers_of h val = record { node = h.node; mark = h.mark; val = val; tail = ref 0 0; next = ref 0 0; due = None }
+
+-- the node of a running push, with its mark
+abbrev pub in_hand : Running → Held
+in_hand a = record { node = a.node; mark = a.mark }
+
+-- what a running push makes of the number found at a line
+abbrev pub follow : Setup → Running → Line → ℕ → Outcome
+follow z a E2 n = Goes E3 a
+follow z a E3 n =
+    let b = record a { mark = (ref_of n).count } in
+    if nat_eq (ref_of n).count z.limit then Refused (WornOut OfNext) else Goes E5 b
+follow z a E5 n = Goes E6 (record a { tail = ref_of n })
+follow z a E6 n = Goes E7 (record a { next = ref_of n })
+follow z a E7 n =
+    if same_ref (ref_of n) a.tail
+    then if is_null a.next then Goes E9 a
+    else if nat_eq a.tail.count z.limit then Refused (WornOut OfTail)
+    else Goes E13 a
+    else Goes E5 a
+follow z a E9 n =
+    let b = record a { due = Some IsDone } in
+    if same_ref (ref_of n) a.next
+    then if nat_eq a.tail.count z.limit then Done else Goes E17 b
+    else Goes E5 a
+follow z a E13 n = Goes E5 a
+follow z a E17 n = Done
+follow z a l n = Goes l a
+
+-- what a running push knows beside node, mark and value before a line
+abbrev pub AgreesAt : Setup → Line → Actor → Running → Type 0
+AgreesAt z E6 b a = b.tail ≡ a.tail
+AgreesAt z E7 b a = (b.tail ≡ a.tail) × (b.next ≡ a.next)
+AgreesAt z E9 b a = (b.tail ≡ a.tail) × (b.next ≡ a.next) × (a.next.count < z.limit) × (a.node ≤ z.size)
+AgreesAt z E13 b a = (b.tail ≡ a.tail) × (b.next ≡ a.next) × (a.tail.count < z.limit)
+AgreesAt z E17 b a = (b.tail ≡ a.tail) × (a.tail.count < z.limit) × (a.node ≤ z.size)
+AgreesAt z l b a = Unit {0}
+
+-- a seat's actor, led there, stands before a line of a push with an empty pocket, and the call knows its registers
+pub record CallIsAt (r : Arena) (s : Seat) (prologue : Prologue) (l : Line) (a : Running) : Type 0 where
+  pub seat : IsSeat r s
+  pub can : CanStart prologue (view s).actor
+  pub line : (after_prologue r.plan.setup (view s).number prologue (view s).actor).line ≡ Some l
+  pub empty : (after_prologue r.plan.setup (view s).number prologue (view s).actor).pocket ≡ None
+  pub node : (after_prologue r.plan.setup (view s).number prologue (view s).actor).node ≡ a.node
+  pub mark : (after_prologue r.plan.setup (view s).number prologue (view s).actor).mark ≡ a.mark
+  pub val : (after_prologue r.plan.setup (view s).number prologue (view s).actor).val ≡ value_of a.val
+  pub knows : AgreesAt r.plan.setup l (after_prologue r.plan.setup (view s).number prologue (view s).actor) a
+
+-- the seat made its step at a line, and the call made of the number found what the line says
+pub record Follows (r : Arena) (s t : Seat) (prologue : Prologue) (l : Line) (a : Running) (out : Outcome) : Type 0 where
+  pub found : ℕ
+  pub did : DidStep r s t prologue l found
+  pub leads_to : out ≡ follow r.plan.setup a l found
+
+-- a push stands before a line with the same node, mark and value, and no turn failed
+pub record Comes (r : Arena) (t : Seat) (l : Line) (a c : Running) (es : List Event) : Type 0 where
+  pub stands : CallIsAt r t continues l c
+  pub hand : in_hand c ≡ in_hand a
+  pub val : c.val ≡ a.val
+  pub never : failed_turns es ≡ 0
+
+-- a turn failed
+pub record Slipped (r : Arena) (t : Seat) (a : Running) (es : List Event) : Type 0 where
+  pub stands : CallIsAt r t continues E5 a
+  pub once : failed_turns es ≡ 1
+  pub last : FailedAt es
+
+-- the call is over, with this pocket, since a word was found worn out
+pub record FoundWorn (r : Arena) (s t : Seat) (p : Option Held) (es : List Event) (word : WornWord) (why : Refusal) : Type 0 where
+  pub seat : IsSeat r t
+  pub over : (view t).actor.line ≡ None
+  pub pocket : (view t).actor.pocket ≡ p
+  pub never : failed_turns es ≡ 0
+  pub is : why ≡ WornOut word
+  pub cause : EndedAt r s es (λ w. HasOwnCause w (view s).number (WornOut word))
+
+-- the body was pushed, and the call is over
+pub record Linked (r : Arena) (s t : Seat) (a : Running) (es : List Event) : Type 0 where
+  pub seat : IsSeat r t
+  pub over : (view t).actor.line ≡ None
+  pub empty : (view t).actor.pocket ≡ None
+  pub never : failed_turns es ≡ 0
+  pub acts : Acts (view s) (view t) (Push (view s).number (value_of a.val).body) es
+
+-- what E2 and E3 come to: the node is ready, or set aside
+abbrev pub Filled : Arena → Seat → Seat → Running → List Event → Outcome → Type 0
+Filled r s t a es (Goes E5 c) = CallIsAt r t continues E5 c × (c.node ≡ a.node) × (c.val ≡ a.val) × (failed_turns es ≡ 0)
+Filled r s t a es (Goes l c) = ⊥
+Filled r s t a es Done = ⊥
+Filled r s t a es (Refused why) = FoundWorn r s t None es OfNext why
+
+-- the value is written into the node, and its next is cleared: E2 and E3
+pub record Fills (r : Arena) (s t : Seat) (a : Running) (out : Outcome) : Type 0 where
+  pub stored : KeepsStored s t
+  pub lines : List Event
+  pub walks : ExtendsPath (view s) (view t) lines
+  pub filled : Filled r s t a lines out
+
+-- what E5 to E7 come to
+abbrev pub Looked : Arena → Seat → Seat → Running → List Event → Outcome → Type 0
+Looked r s t a es (Goes E9 c) = Comes r t E9 a c es
+Looked r s t a es (Goes E13 c) = Comes r t E13 a c es
+Looked r s t a es (Goes E5 c) = Slipped r t a es
+Looked r s t a es (Goes l c) = ⊥
+Looked r s t a es Done = ⊥
+Looked r s t a es (Refused why) = FoundWorn r s t (Some (in_hand a)) es OfTail why
+
+-- Tail was read, and what follows its node: E5 to E7
+pub record Looks (r : Arena) (s t : Seat) (a : Running) (out : Outcome) : Type 0 where
+  pub stored : KeepsStored s t
+  pub lines : List Event
+  pub walks : ExtendsPath (view s) (view t) lines
+  pub looked : Looked r s t a lines out
+
+-- what a turn comes to
+abbrev pub Turned : Arena → Seat → Seat → Running → List Event → Turn → Type 0
+Turned r s t a es Pushed = Linked r s t a es
+Turned r s t a es Failed = ExtendsPath (view s) (view t) es × Slipped r t a es
+Turned r s t a es (TurnRefused why) = ExtendsPath (view s) (view t) es × FoundWorn r s t (Some (in_hand a)) es OfTail why
+
+-- a turn of a push, or the end of one
+pub record Turns (r : Arena) (s t : Seat) (a : Running) (out : Turn) : Type 0 where
+  pub stored : KeepsStored s t
+  pub lines : List Event
+  pub turned : Turned r s t a lines out
+
+-- a push whose node is ready, after so many failed turns of its call, `spent` of them before
+pub record Trying (r : Arena) (s t : Seat) (a : Running) (spent n : ℕ) : Type 0 where
+  pub stands : CallIsAt r t continues E5 a
+  pub stored : KeepsStored s t
+  pub lines : List Event
+  pub walks : ExtendsPath (view s) (view t) lines
+  pub failed : spent + failed_turns lines ≡ n
+  pub last : spent < n → FailedAt lines
+
+-- a call pushed a body
+abbrev pub DidPush : (s t : Seat) → (body : ℕ) → Type 0
+DidPush s t body = Acts (view s) (view t) (Push (view s).number body) (added s t)
+
+-- a node is in a seat's pocket
+abbrev pub KeepsNode : Seat → ℕ → Type 0
+KeepsNode t node = IsSomeAnd (pocket_of t) (λ h. h.node ≡ node)
+
+-- why a push that has its node is refused, and where the node then is
+abbrev pub PutRefused : Arena → Seat → Seat → (node spent turns : ℕ) → Refusal → Type 0
+PutRefused r s t node spent turns Busy = (spent + failed_turns (added s t) ≡ turns) × EndsFailed s t × KeepsNode t node
+PutRefused r s t node spent turns (WornOut OfTail) = MetCause r s t (WornOut OfTail) × KeepsNode t node
+PutRefused r s t node spent turns (WornOut OfNext) = MetCause r s t (WornOut OfNext) × (pocket_of t ≡ None)
+PutRefused r s t node spent turns _ = ⊥
+
+-- what a push answers that has its node, where so many turns failed before
+pub record Puts (r : Arena) (s t : Seat) (node body spent turns : ℕ) (out : Result (Unit {0}) Refusal) : Type 0 where
+  pub ready : IsReady r t
+  pub same : KeepsName s t
+  pub pushed : OnOk out (DidPush s t body × (pocket_of t ≡ None) × (spent + failed_turns (added s t) < turns))
+  pub refused : IfErr out (λ why. HadNoEffect s t × PutRefused r s t node spent turns why)
+
+-- the cause of each refusal: Tail's count was the greatest one at the last step, and the node is in the pocket; or that of
+-- the node's own next, and the pocket is empty; or that of a take; or so many turns failed, the last one at the last step
+abbrev pub PushRefused : Arena → Seat → Seat → (turns : ℕ) → Refusal → Type 0
+PushRefused r s t turns (WornOut OfTail) = MetCause r s t (WornOut OfTail) × IsSome (pocket_of t)
+PushRefused r s t turns (WornOut OfNext) = MetCause r s t (WornOut OfNext) × (pocket_of t ≡ None)
+PushRefused r s t turns why = TakeRefused r s t turns why
+
+-- what a push answers
+pub record AnswersPush (r : Arena) (s t : Seat) (body turns : ℕ) (out : Result (Unit {0}) Refusal) : Type 0 where
+  pub ready : IsReady r t
+  pub same : KeepsName s t
+  pub pushed : OnOk out (DidPush s t body × (pocket_of t ≡ None) × (failed_turns (added s t) < turns))
+  pub refused : IfErr out (λ why. HadNoEffect s t × PushRefused r s t turns why)

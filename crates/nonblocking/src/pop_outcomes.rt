@@ -1,0 +1,157 @@
+//! What a running pop remembers, and the words of the line table's third column for it.
+ghost use Rattle.std.specs.Prelude.{◌≡◌, ◌<◌, ◌^◌};
+ghost use Rattle.counted_ref.specs.Ref.{reserved_node, count_bits};
+ghost use Rattle.history.specs.declared.refusals.Refusal.TheVariants.{WornOut};
+ghost use Rattle.node_arena.specs.Machine as machine;
+ghost use Rattle.nonblocking.specs.Values.{value_of};
+ghost use Rattle.nonblocking.specs.Pops.{ended_as, turn_of};
+
+use counted_ref::CountedRef;
+use history::{Body, Refusal, Taken, WornWord};
+use line_table::Line;
+use node_arena::{Held, Setup};
+
+/// What the machine knows and a running pop doesn't: step numbers.
+#[derive(Clone, Copy)]
+pub(crate) struct Untold;
+
+/// The registers of a running pop.
+#[derive(Clone, Copy)]
+pub(crate) struct Actor {
+    pub(crate) head: CountedRef,
+    pub(crate) tail: CountedRef,
+    pub(crate) next: CountedRef,
+    /// The word of the value that it takes.
+    pub(crate) val: u64,
+    pub(crate) node: u32,
+    pub(crate) mark: u64,
+    pub(crate) due: Option<Reply>,
+    pub(crate) empty_at: Untold,
+}
+
+/// What a pop is told.
+#[derive(Clone, Copy)]
+pub(crate) enum Reply {
+    /// The value of this word.
+    Value(u64),
+    Empty,
+}
+
+/// What a line leads to.
+#[derive(Drop)]
+pub(crate) enum Outcome {
+    /// The call goes on at a line.
+    Goes(Line, Actor),
+    /// The queue was empty.
+    Empty,
+    /// The call ends with a refusal.
+    Refused(Refusal),
+}
+
+/// What a turn comes to.
+#[derive(Drop)]
+pub(crate) enum Turn {
+    /// The value of this word was taken, and the node that comes free is in the hand.
+    Took(u64, Held),
+    /// The turn failed.
+    Failed,
+    /// The queue was empty.
+    Empty,
+    /// The call ends with a refusal.
+    Refused(Refusal),
+}
+
+/// Registers that hold nothing yet.
+pub(crate) fn blank() -> Actor {
+    let null = CountedRef::new(0, 0);
+    Actor {
+        head: null,
+        tail: null,
+        next: null,
+        val: 0,
+        node: 0,
+        mark: 0,
+        due: None,
+        empty_at: Untold,
+    }
+}
+
+/// The value of a word.
+pub(crate) fn value(word: u64) -> Taken
+    ensures { result ≡ value_of word }
+{
+    let Some(body) = Body::new(word % 281_474_976_710_656) else {
+        unreachable!()
+    };
+    Taken {
+        from: (word / 281_474_976_710_656) as u16,
+        body,
+    }
+}
+
+pub(crate) fn goes(line: Line, a: Actor) -> Outcome
+    ensures { result ≡ Outcome.Goes line a }
+{
+    Outcome::Goes(line, a)
+}
+
+pub(crate) fn effect(now: Untold, outcome: Outcome) -> Outcome
+    ensures { result ≡ outcome }
+{
+    let _ = now;
+    outcome
+}
+
+pub(crate) fn ends(now: Untold, reply: Reply, a: Actor) -> Outcome
+    ensures { result ≡ ended_as reply a }
+{
+    let _ = now;
+    match reply {
+        Reply::Value(_) => Outcome::Goes(Line::F1, a),
+        Reply::Empty => Outcome::Empty,
+    }
+}
+
+pub(crate) fn worn(now: Untold, word: WornWord, a: Actor) -> Outcome
+    ensures { result ≡ Outcome.Refused (WornOut word) }
+{
+    let _ = (now, a);
+    Outcome::Refused(Refusal::WornOut(word))
+}
+
+pub(crate) fn fills_hand(node: u32, mark: u64, a: Actor) -> Actor
+    ensures { result ≡ record a { node = node; mark = mark } }
+{
+    Actor { node, mark, ..a }
+}
+
+/// The reference that names another node, with its count raised.
+pub(crate) fn raised(setup: Setup, from: CountedRef, to: u32) -> CountedRef
+    requires to { to < reserved_node }
+    requires count { from.count < setup.limit }
+    requires limit { setup.limit < 2 ^ count_bits }
+    ensures { result ≡ machine.raised setup from to }
+{
+    match from.raised(to, setup.limit) {
+        Some(reference) => reference,
+        None => unreachable!(),
+    }
+}
+
+/// The turn that ends so.
+pub(crate) fn turned(outcome: Outcome) -> Turn
+    ensures { result ≡ turn_of outcome }
+{
+    match outcome {
+        Outcome::Goes(Line::F1, a) => Turn::Took(
+            a.val,
+            Held {
+                node: a.node,
+                mark: a.mark,
+            },
+        ),
+        Outcome::Goes(..) => Turn::Failed,
+        Outcome::Empty => Turn::Empty,
+        Outcome::Refused(why) => Turn::Refused(why),
+    }
+}

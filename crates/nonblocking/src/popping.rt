@@ -1,0 +1,134 @@
+//! Takes the value at the front.
+ghost use Rattle.std.specs.Prelude.{◌≡◌, ◌≤◌, ◌<◌, IsTrue, None};
+ghost use Rattle.line_table.specs.declared.lines.Line.TheVariants as lines;
+ghost use Rattle.node_arena.specs.Prologues.{continues};
+ghost use Rattle.node_arena.specs.Plans.{may_pop};
+ghost use Rattle.node_arena.specs.Seats.{IsReady, role_of, pocket_of};
+ghost use Rattle.nonblocking.specs.Values.{IsNonBlocking};
+ghost use Rattle.nonblocking.specs.Pops.{popping, CallIsAt, IsBefore, Looks, Turns, Tries, Draws, AnswersPop};
+
+use crate::pop_lines::{d2, d3, d4, d5, d10, d12, d13};
+use crate::pop_outcomes::{Actor, Outcome, Turn, blank, turned, value};
+use free_list::give_back;
+use history::{Refusal, Taken};
+use line_table::Line;
+use node_arena::{Arena, Seat};
+
+// The lines D2 to D5, where `index` turns of this pop failed before: Head, Tail, the node after Head's, and Head again.
+fn look(arena: &Arena, seat: &mut Seat, index: u32) -> Outcome
+    requires before { IsBefore arena.now seat.old (popping index) lines.D2 }
+    requires non_blocking { IsNonBlocking arena.now }
+    ensures { Looks arena.now seat.old seat.new result }
+{
+    let Outcome::Goes(_, a) = d2(arena, seat, blank(), index) else {
+        unreachable!()
+    };
+    let Outcome::Goes(_, a) = d3(arena, seat, a) else {
+        unreachable!()
+    };
+    let Outcome::Goes(_, a) = d4(arena, seat, a) else {
+        unreachable!()
+    };
+    d5(arena, seat, a)
+}
+
+// The lines D12 and D13: the value of the node after Head's, and then Head is moved to that node.
+fn move_head(arena: &Arena, seat: &mut Seat, a: Actor) -> Turn
+    requires stands { CallIsAt arena.now seat.old continues lines.D12 a }
+    requires non_blocking { IsNonBlocking arena.now }
+    requires role { IsTrue (may_pop (role_of seat.old)) }
+    ensures { Turns arena.now seat.old seat.new result }
+{
+    let Outcome::Goes(_, a) = d12(arena, seat, a) else {
+        unreachable!()
+    };
+    turned(d13(arena, seat, a))
+}
+
+// One turn, where `index` turns of this pop failed before.
+fn turn(arena: &Arena, seat: &mut Seat, index: u32) -> Turn
+    requires before { IsBefore arena.now seat.old (popping index) lines.D2 }
+    requires non_blocking { IsNonBlocking arena.now }
+    requires role { IsTrue (may_pop (role_of seat.old)) }
+    ensures { Turns arena.now seat.old seat.new result }
+{
+    match look(arena, seat, index) {
+        Outcome::Goes(Line::D10, a) => turned(d10(arena, seat, a)),
+        Outcome::Goes(Line::D12, a) => move_head(arena, seat, a),
+        Outcome::Goes(..) => Turn::Failed,
+        Outcome::Empty => Turn::Empty,
+        Outcome::Refused(why) => Turn::Refused(why),
+    }
+}
+
+// One turn and, where it ends the pop, the answer: a node that comes free is given back with the turns that are left.
+// Before it `index` turns of this pop failed, and `failed` of its call.
+fn attempt(
+    arena: &Arena,
+    seat: &mut Seat,
+    index: u32,
+    failed: u32,
+    turns: u32,
+) -> Option<Result<Option<Taken>, Refusal>>
+    requires before { IsBefore arena.now seat.old (popping index) lines.D2 }
+    requires non_blocking { IsNonBlocking arena.now }
+    requires role { IsTrue (may_pop (role_of seat.old)) }
+    requires turns { failed < turns }
+    ensures { Tries arena.now seat.old seat.new failed turns result }
+{
+    match turn(arena, seat, index) {
+        Turn::Took(word, held) => {
+            let taken = value(word);
+            seat.keep(Some(held), failed);
+            let _ = give_back(arena, seat, turns - failed);
+            Some(Ok(Some(taken)))
+        }
+        Turn::Failed => None,
+        Turn::Empty => {
+            seat.keep(None, failed);
+            Some(Ok(None))
+        }
+        Turn::Refused(why) => {
+            seat.keep(None, failed);
+            Some(Err(why))
+        }
+    }
+}
+
+// The pop with an empty pocket, where `spent` turns of this call failed before.
+fn draw(arena: &Arena, seat: &mut Seat, spent: u32, turns: u32) -> Result<Option<Taken>, Refusal>
+    requires ready { IsReady arena.now seat.old }
+    requires non_blocking { IsNonBlocking arena.now }
+    requires role { IsTrue (may_pop (role_of seat.old)) }
+    requires empty { pocket_of seat.old ≡ None }
+    requires turns { spent < turns }
+    ensures { Draws arena.now seat.old seat.new spent turns result }
+{
+    for index in 0..turns - spent {
+        if let Some(answer) = attempt(arena, seat, index, spent + index, turns) {
+            return answer;
+        }
+    }
+    seat.keep(None, turns);
+    Err(Refusal::Busy)
+}
+
+/// Takes the value at the front, after it gives back the node in the seat's pocket, if there is one; none where the queue
+/// was empty.
+///
+/// Refusals: `WornOut(Tail)` where Tail's count was the greatest one, and `Busy` where each of so many turns failed. The
+/// node that comes free is given back with the turns that are left, and else stays in the pocket. Takes no memory and
+/// doesn't wait.
+pub(crate) fn try_pop(arena: &Arena, seat: &mut Seat, turns: u32) -> Result<Option<Taken>, Refusal>
+    requires ready { IsReady arena.now seat.old }
+    requires non_blocking { IsNonBlocking arena.now }
+    requires role { IsTrue (may_pop (role_of seat.old)) }
+    requires turns { 1 ≤ turns }
+    ensures { AnswersPop arena.now seat.old seat.new turns result }
+{
+    if seat.pocket().is_none() {
+        return draw(arena, seat, 0, turns);
+    }
+    give_back(arena, seat, turns)?;
+    draw(arena, seat, seat.failed(), turns)
+}

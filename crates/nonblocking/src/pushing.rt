@@ -1,0 +1,168 @@
+//! Pushes a body.
+ghost use Rattle.std.specs.Prelude.{◌≡◌, ◌≤◌, ◌<◌, IsTrue, Some};
+ghost use Rattle.line_table.specs.declared.lines.Line.TheVariants as lines;
+ghost use Rattle.node_arena.specs.Prologues.{Prologue, continues};
+ghost use Rattle.node_arena.specs.Plans.{may_push};
+ghost use Rattle.node_arena.specs.Seats.{IsReady, role_of, pocket_of};
+ghost use Rattle.nonblocking.specs.Values.{IsNonBlocking, value_of};
+ghost use Rattle.nonblocking.specs.Pushes.{registers_of, CallIsAt, Fills, Looks, Turns, Puts, AnswersPush};
+
+use crate::push_lines::{e2, e3, e5, e6, e7, e9, e13, e17};
+use crate::push_outcomes::{Actor, Outcome, Turn, registers, word_of};
+use free_list::take;
+use history::{Body, Refusal};
+use line_table::Line;
+use node_arena::{Arena, Held, Seat};
+
+// The value is written into the node, and its next is cleared; the count found there is the mark.
+fn fill(arena: &Arena, seat: &mut Seat, a: Actor) -> Outcome
+    ghost prologue: { Prologue }
+    requires { CallIsAt arena.now seat.old prologue lines.E2 a }
+    ensures { Fills arena.now seat.old seat.new a result }
+{
+    let Outcome::Goes(_, a) = e2(arena, seat, a) else {
+        unreachable!()
+    };
+    e3(arena, seat, a)
+}
+
+// Tail is read, what follows its node, and Tail again.
+fn look(arena: &Arena, seat: &mut Seat, a: Actor) -> Outcome
+    requires { CallIsAt arena.now seat.old continues lines.E5 a }
+    ensures { Looks arena.now seat.old seat.new a result }
+{
+    let Outcome::Goes(_, a) = e5(arena, seat, a) else {
+        unreachable!()
+    };
+    let Outcome::Goes(_, a) = e6(arena, seat, a) else {
+        unreachable!()
+    };
+    e7(arena, seat, a)
+}
+
+// The node is linked behind the last one, and Tail goes on to it unless another seat was there first.
+fn link(arena: &Arena, seat: &mut Seat, a: Actor) -> Turn
+    requires stands { CallIsAt arena.now seat.old continues lines.E9 a }
+    requires role { IsTrue (may_push (role_of seat.old)) }
+    ensures { Turns arena.now seat.old seat.new a result }
+{
+    match e9(arena, seat, a) {
+        Outcome::Goes(next, a) => match next {
+            Line::E17 => {
+                e17(arena, seat, a);
+                Turn::Pushed
+            }
+            _ => Turn::Failed,
+        },
+        Outcome::Done => Turn::Pushed,
+        Outcome::Refused(_) => unreachable!(),
+    }
+}
+
+// One turn, from E5 to its end.
+fn push_turn(arena: &Arena, seat: &mut Seat, a: Actor) -> Turn
+    requires stands { CallIsAt arena.now seat.old continues lines.E5 a }
+    requires role { IsTrue (may_push (role_of seat.old)) }
+    ensures { Turns arena.now seat.old seat.new a result }
+{
+    match look(arena, seat, a) {
+        Outcome::Goes(next, a) => match next {
+            Line::E9 => link(arena, seat, a),
+            Line::E13 => {
+                e13(arena, seat, a);
+                Turn::Failed
+            }
+            _ => Turn::Failed,
+        },
+        Outcome::Refused(why) => Turn::Refused(why),
+        Outcome::Done => unreachable!(),
+    }
+}
+
+// Turns with a node that is ready, until one pushes or is refused, or all failed. `spent` turns of this call failed
+// before.
+fn push_within(
+    arena: &Arena,
+    seat: &mut Seat,
+    held: Held,
+    val: u64,
+    spent: u32,
+    turns: u32,
+) -> Result<(), Refusal>
+    requires stands { CallIsAt arena.now seat.old continues lines.E5 (registers_of held val) }
+    requires role { IsTrue (may_push (role_of seat.old)) }
+    requires turns { spent < turns }
+    ensures { Puts arena.now seat.old seat.new held.node (value_of val).body spent turns result }
+{
+    for index in spent..turns {
+        match push_turn(arena, seat, registers(held, val)) {
+            Turn::Pushed => {
+                seat.keep(None, index);
+                return Ok(());
+            }
+            Turn::Refused(why) => {
+                seat.keep(Some(held), index);
+                return Err(why);
+            }
+            Turn::Failed => {}
+        }
+    }
+    seat.keep(Some(held), turns);
+    Err(Refusal::Busy)
+}
+
+// The push with the node in the pocket, where `spent` turns of this call failed before.
+fn put(
+    arena: &Arena,
+    seat: &mut Seat,
+    held: Held,
+    body: Body,
+    spent: u32,
+    turns: u32,
+) -> Result<(), Refusal>
+    requires ready { IsReady arena.now seat.old }
+    requires non_blocking { IsNonBlocking arena.now }
+    requires role { IsTrue (may_push (role_of seat.old)) }
+    requires full { pocket_of seat.old ≡ Some held }
+    requires turns { spent < turns }
+    ensures { Puts arena.now seat.old seat.new held.node body spent turns result }
+{
+    let val = word_of(seat.number(), body.number());
+    match fill(arena, seat, registers(held, val)) {
+        Outcome::Goes(_, a) => {
+            let node = a.node;
+            let mark = a.mark;
+            push_within(arena, seat, Held { node, mark }, val, spent, turns)
+        }
+        Outcome::Refused(why) => {
+            seat.keep(None, spent);
+            Err(why)
+        }
+        Outcome::Done => unreachable!(),
+    }
+}
+
+/// Pushes a body at the back, by the node in the seat's pocket, or else by one that it takes.
+///
+/// Refusals: those of a take, `WornOut(Next)` where the count of the node's own next was the greatest one,
+/// `WornOut(Tail)` where Tail's was and Tail had to be swung first, and `Busy` where each of so many turns failed. The
+/// node is set aside for good where its own next is worn out; else one that the call got stays in the pocket. Takes no
+/// memory and doesn't wait.
+pub(crate) fn try_push(
+    arena: &Arena,
+    seat: &mut Seat,
+    body: Body,
+    turns: u32,
+) -> Result<(), Refusal>
+    requires ready { IsReady arena.now seat.old }
+    requires non_blocking { IsNonBlocking arena.now }
+    requires role { IsTrue (may_push (role_of seat.old)) }
+    requires turns { 1 ≤ turns }
+    ensures { AnswersPush arena.now seat.old seat.new body turns result }
+{
+    if let Some(held) = seat.pocket() {
+        return put(arena, seat, held, body, 0, turns);
+    }
+    let held = take(arena, seat, turns)?;
+    put(arena, seat, held, body, seat.failed(), turns)
+}

@@ -1,0 +1,128 @@
+//! The queue: its arena, and its calls.
+ghost use Rattle.std.specs.Prelude.{◌≡◌, ◌≤◌, IfOk, IfErr, OnOk, OnErr};
+ghost use Rattle.line_table.specs.declared.lines.Kind.TheVariants.{NonBlocking};
+ghost use Rattle.node_arena.specs.Plans.{IsPlanned};
+ghost use Rattle.node_arena.specs.Making.{plan, NewRefused};
+ghost use Rattle.nonblocking.specs.Values.{IsNonBlocking};
+
+use crate::popping::try_pop;
+use crate::pushing::try_push;
+use history::{Body, Fifo, Refusal, Rest, Taken};
+use line_table::Kind;
+use node_arena::{Arena, Role, Seat};
+use std::alloc::Global;
+
+/// The non-blocking queue. Threads share it by reference, each with a seat of its own.
+#[derive(Drop)]
+pub struct MsQueue {
+    arena: Arena,
+    ghost non_blocking: { IsNonBlocking arena },
+}
+
+impl MsQueue {
+    ghost use Rattle.std.specs.Prelude.{map};
+    ghost use Rattle.std.specs.List.{All};
+    ghost use Rattle.history.specs.Openings.{AreNew};
+    ghost use Rattle.node_arena.specs.Plans.{permits_by};
+    ghost use Rattle.node_arena.specs.Seats.{known_of};
+    ghost use Rattle.nonblocking.specs.Queues.{permits_of, IsQueueSeat, IsQueueMade};
+
+    /// A queue with so many nodes, 2 to 16,777,214, the greatest count `limit`, 1 to 1,099,511,627,775, and a seat for
+    /// each role, 1 to 65,535 of them, in their order. One node is always in the queue.
+    ///
+    /// Refusals: `BadSize` where one of them is out of its range, else `Memory`. Takes memory for two words a node, the
+    /// seats and their roles, and doesn't wait.
+    pub fn new(
+        alloc: Global,
+        nodes: u32,
+        limit: u64,
+        roles: &[Role],
+    ) -> Result<(MsQueue, Vec<Seat>), Refusal>
+        ensures ok { IfOk result (λ r. IsQueueMade nodes limit roles.now r.0 r.1.items) }
+        ensures permits { IfOk result (λ r. permits_of r.0 ≡ permits_by roles.now) }
+        ensures seats { IfOk result (λ r. All (IsQueueSeat r.0) r.1.items) }
+        ensures unused { IfOk result (λ r. AreNew (permits_of r.0) (map known_of r.1.items)) }
+        ensures sized { OnOk result (IsPlanned (plan NonBlocking nodes limit roles.now)) }
+        ensures refused { IfErr result (NewRefused (plan NonBlocking nodes limit roles.now)) }
+    {
+        let (arena, seats) = Arena::new(alloc, Kind::NonBlocking, nodes, limit, roles)?;
+        Ok((MsQueue { arena }, seats))
+    }
+}
+
+impl Fifo for MsQueue {
+    ghost use Rattle.std.specs.Prelude.{map};
+    ghost use Rattle.std.specs.List.{All};
+    ghost use Rattle.history.specs.Seats.{MayPush, MayPop};
+    ghost use Rattle.history.specs.Answers.{Pushed, PopAnswers, SeesMore, StopsPush, StopsPop};
+    ghost use Rattle.history.specs.Closing.{Closes};
+    ghost use Rattle.node_arena.specs.Seats.{known_of, view};
+    ghost use Rattle.node_arena.proofs.Seens.{sound_of};
+    ghost use Rattle.nonblocking.specs.Pushes.{PushRefused};
+    ghost use Rattle.nonblocking.specs.Pops.{PopRefused};
+    ghost use Rattle.nonblocking.specs.Queues.{arena_of, permits_of, IsQueueSeat};
+
+    type Seat = Seat;
+
+    ghost is_seat = { IsQueueSeat };
+
+    ghost permits = { permits_of };
+
+    ghost known = { known_of };
+
+    ghost sound = { λ q s h. sound_of (arena_of q).plan (view s) h.seat.sits.fitted };
+
+    /// Refusals: `NoNode` where at one step all nodes were used and none was free, `WornOut(Free)` where at one step
+    /// Free's count was the greatest one, `WornOut(Next)` where the count of the node's own next was it, `WornOut(Tail)`
+    /// where Tail's was it, and `Busy` where each of so many turns failed. A node that the call got stays in the seat's
+    /// pocket, for its next push; at `WornOut(Next)` it is set aside. Takes no memory and doesn't wait.
+    fn try_push(&self, seat: &mut Seat, body: Body, turns: u32) -> Result<(), Refusal>
+        requires seat { IsQueueSeat self.now seat.old }
+        requires role { MayPush (permits_of self.now) (known_of seat.old).number }
+        requires turns { 1 ≤ turns }
+        ensures seat { IsQueueSeat self.now seat.new }
+        ensures number { (known_of seat.new).number ≡ (known_of seat.old).number }
+        ensures pushed { OnOk result (Pushed (known_of seat.old) body (known_of seat.new)) }
+        ensures refused { OnErr result (SeesMore (known_of seat.old) (known_of seat.new)) }
+        ensures why { IfErr result StopsPush }
+        ensures caused { IfErr result (PushRefused (arena_of self.now) seat.old seat.new turns) }
+    {
+        try_push(&self.arena, seat, body, turns)
+    }
+
+    /// Refusals: `WornOut(Tail)` where at one step Tail's count was the greatest one, and `Busy` where each of so many
+    /// turns failed. Takes no memory and doesn't wait.
+    fn try_pop(&self, seat: &mut Seat, turns: u32) -> Result<Option<Taken>, Refusal>
+        requires seat { IsQueueSeat self.now seat.old }
+        requires role { MayPop (permits_of self.now) (known_of seat.old).number }
+        requires turns { 1 ≤ turns }
+        ensures seat { IsQueueSeat self.now seat.new }
+        ensures number { (known_of seat.new).number ≡ (known_of seat.old).number }
+        ensures answer { IfOk result (λ o. PopAnswers (known_of seat.old) o (known_of seat.new)) }
+        ensures refused { OnErr result (SeesMore (known_of seat.old) (known_of seat.new)) }
+        ensures why { IfErr result StopsPop }
+        ensures caused { IfErr result (PopRefused (arena_of self.now) seat.old seat.new turns) }
+    {
+        try_pop(&self.arena, seat, turns)
+    }
+
+    fn meet(&self, one: &mut Seat, other: &mut Seat) {
+        self.arena.meet(one, other);
+    }
+
+    fn may_push(&self, seat: &Seat) -> bool {
+        seat.may_push()
+    }
+
+    fn may_pop(&self, seat: &Seat) -> bool {
+        seat.may_pop()
+    }
+
+    fn close(self, alloc: Global, seats: Vec<Seat>) -> Result<Rest, Refusal>
+        requires { All (IsQueueSeat self) seats.items }
+        ensures rest { IfOk result (λ r. Closes (permits_of self) (map known_of seats.items) r) }
+        ensures only_memory { IfErr result (λ why. why ≡ Refusal.Memory) }
+    {
+        self.arena.close(alloc, seats)
+    }
+}
