@@ -10,3 +10,4 @@ pub mod Remains
 pub mod Closing
 pub mod Turns
 pub mod Paths
+pub mod Moments

@@ -3,6 +3,15 @@ ghost use Rattle.std.specs.Prelude.{◌≡◌};
 ghost use Rattle.step_machine.specs.Entries.{entries};
 ghost use Rattle.node_arena.specs.Traces.{Traced, IsTraced, PlaysToItsValues, CountsItsPops, KeepsWhatD4Found};
 ghost use Rattle.node_arena.specs.Seats.{EachSeatIsSound};
+ghost use Rattle.node_arena.specs.Moments.{EachMomentIsLinearizable};
+
+/// Between any two atomic steps of any threads, whichever of them stopped and also where nodes are used again: a list of
+/// begins, steps, give moves and rests leads from the opening world of the arena's setup to one with exactly the shared
+/// words, in which each seat's actor stands as the seat says. The history of that world is placed and legal, and so
+/// linearizable.
+pub fn every_moment_is_linearizable()
+    ensures { EachMomentIsLinearizable }
+{}
 
 /// The history of a traced world has just the entries of that world's operations that had their effect, by rising place:
 /// the push of each enqueue that is done or has earned it, and the pop of each dequeue that got a value or has earned it.

@@ -47,7 +47,7 @@ reached_placed w r =
     some_of (λ v. Placement v.operations) (run r.moves (opening w.setup r.actors)) w r.led (histories_are_placed w.setup r.actors r.moves)
 
 -- and legal, so it is linearizable
-reached_linearizable : OfEachWorld (λ w. IsLinearizable w.operations)
+pub reached_linearizable : OfEachWorld (λ w. IsLinearizable w.operations)
 reached_linearizable w r = placed_linearizes w.operations (reached_placed w r) (histories_are_legal w r)
 
 -- so each history is

@@ -1,0 +1,31 @@
+-- What the rule of the table says of one moment, in words of the machine.
+use Rattle.std.specs.Prelude.{◌≡◌, ℕ, List, length, Option, Some}
+use mathlib.Core.Option.{some}
+use lib.ListN.{get_elem?}
+use Rattle.atomic_table.specs.Table.{State}
+use Rattle.history.specs.History.{Placement, IsLegal}
+use Rattle.history.specs.Linearizability.{IsLinearizable}
+use Rattle.step_machine.specs.Words.{memory_words}
+use Rattle.step_machine.specs.Machine.{World, AnyMove, run, opening, actor_of, IsSized}
+use Rattle.node_arena.specs.Seeing.{SeatView, View, members}
+use Rattle.node_arena.specs.Plans.{Layout}
+use Rattle.node_arena.specs.Rule.{Holds}
+
+-- a list of moves leads from the opening world to one with exactly these words, in which the actor of each seat is as the
+-- seat says; its history is placed and legal, and linearizable
+pub record IsLinearizableMoment (z : Layout) (s : State ℕ View) : Type 0 where
+  pub actors : ℕ
+  pub sized : IsSized z.setup actors
+  pub moves : List AnyMove
+  pub world : World
+  pub led : run moves (opening z.setup actors) ≡ Some world
+  pub count : length world.actors ≡ length z.roles
+  pub words : s.words ≡ memory_words world.shared
+  pub seats : (j i : ℕ) (u : View) (v : SeatView) → get_elem? s.views j ≡ some u → get_elem? (members u) i ≡ some v → actor_of world v.number ≡ Some v.actor
+  pub placed : Placement world.operations
+  pub legal : IsLegal world.operations
+  pub linearizable : IsLinearizable world.operations
+
+-- whatever the rule holds of is such a moment
+abbrev pub EachMomentIsLinearizable : Type 0
+EachMomentIsLinearizable = (z : Layout) (s : State ℕ View) → Holds z s → IsLinearizableMoment z s
