@@ -111,7 +111,8 @@ fn count_left(mut rest: Rest, most: u64) -> u64 {
     most
 }
 
-/// One thread pushes 1, 2 and so on, another pops as often. Then the queue is closed. None where memory is refused.
+/// One thread pushes 1, 2 and so on, another pops as often. Then the queue is closed. None where memory is refused. Where
+/// no thread can be made the pushes come first, so the queue needs room for all of them.
 pub fn run<R: Threads + Wait + Sync, Q: Fifo + Sync + Drop>(
     rt: &R,
     alloc: Global,
@@ -122,16 +123,16 @@ pub fn run<R: Threads + Wait + Sync, Q: Fifo + Sync + Drop>(
 ) -> Option<Outcome>
     requires { IsPair Q.is_seat Q.permits Q.known queue giver taker }
 {
-    let (mut giver, (mut taker, sum)) = join(
+    let ((mut taker, sum), mut giver) = join(
         rt,
-        || -> Q::Seat
-            requires { Q.is_seat queue giver × MayPush (Q.permits queue) (Q.known giver).number }
-            ensures { Q.is_seat queue result }
-        { push_all(rt, &queue, giver, most) },
         || -> (Q::Seat, u64)
             requires { Q.is_seat queue taker × MayPop (Q.permits queue) (Q.known taker).number }
             ensures { Q.is_seat queue result.0 }
         { pop_all(rt, &queue, taker, most) },
+        || -> Q::Seat
+            requires { Q.is_seat queue giver × MayPush (Q.permits queue) (Q.known giver).number }
+            ensures { Q.is_seat queue result }
+        { push_all(rt, &queue, giver, most) },
     );
     queue.meet(&mut giver, &mut taker);
     let mut seats = Vec::new(alloc);

@@ -1,0 +1,30 @@
+//! A pool of workers: jobs go through one queue to three threads, and their results come together at the end.
+#![tactic(auto)]
+
+mod jobs;
+mod working;
+
+use crate::working::{run, team_of};
+use node_arena::Role;
+use nonblocking::MsQueue;
+use std::io;
+
+/// The nodes of the queue: room for all jobs and for the three values that end the workers.
+const NODES: u32 = 1024;
+
+/// The greatest count: so many values can be pushed before Tail is worn out.
+const LIMIT: u64 = 1_000_000;
+
+/// The jobs are the numbers from 1 to this one.
+const MOST: u64 = 999;
+
+fn main(rt: HostRuntime) -> io::Result<()> {
+    let roles = [Role::Giver, Role::Taker, Role::Taker, Role::Taker];
+    let Ok((queue, seats)) = MsQueue::new(rt.alloc(), NODES, LIMIT, &roles) else {
+        return println!(rt; "no memory");
+    };
+    let Some(team) = team_of(&queue, seats) else {
+        return println!(rt; "no seats");
+    };
+    println!(rt; "{:?}", run(&rt, &queue, team, MOST))
+}
