@@ -8,6 +8,7 @@ mod dealing;
 pub mod laws;
 mod making;
 mod meeting;
+mod peeking;
 mod plans;
 mod remains;
 mod roles;

@@ -1,5 +1,5 @@
 //! The queue: its arena, and its calls.
-ghost use Rattle.std.specs.Prelude.{◌≡◌, ◌≤◌, IfOk, IfErr, OnOk, OnErr};
+ghost use Rattle.std.specs.Prelude.{◌≡◌, ◌+◌, ◌*◌, ◌≤◌, ◌↔◌, IsNone, IfOk, IfErr, OnOk, OnErr};
 ghost use Rattle.line_table.specs.declared.lines.Kind.TheVariants.{TwoLock};
 ghost use Rattle.node_arena.specs.Plans.{IsPlanned};
 ghost use Rattle.node_arena.specs.Making.{plan, NewRefused};
@@ -24,8 +24,8 @@ impl TwoLockQueue {
     ghost use Rattle.std.specs.List.{All};
     ghost use Rattle.history.specs.Openings.{AreNew};
     ghost use Rattle.node_arena.specs.Plans.{permits_by};
-    ghost use Rattle.node_arena.specs.Seats.{known_of};
-    ghost use Rattle.two_lock.specs.Queues.{permits_of, IsQueueSeat, IsQueueMade};
+    ghost use Rattle.node_arena.specs.Seats.{known_of, setup_of};
+    ghost use Rattle.two_lock.specs.Queues.{arena_of, permits_of, IsQueueSeat, IsQueueMade};
 
     /// A queue with so many nodes, 2 to 16,777,214, the greatest count `limit`, 1 to 1,099,511,627,775, and a seat for
     /// each role, 1 to 65,535 of them, in their order. One node is always in the queue.
@@ -47,6 +47,14 @@ impl TwoLockQueue {
     {
         let (arena, seats) = Arena::new(alloc, Kind::TwoLock, nodes, limit, roles)?;
         Ok((TwoLockQueue { arena }, seats))
+    }
+
+    /// What a word of the queue's arena holds, by one load of one moment, for inspection; none exactly where there is no
+    /// such word. It tells nothing of what a seat has seen. Takes no memory and doesn't wait.
+    pub fn peek(&self, word: usize) -> Option<u64>
+        ensures { IsNone result ↔ (6 + 2 * (setup_of (arena_of self.now)).size ≤ word) }
+    {
+        self.arena.peek(word)
     }
 }
 
