@@ -1,4 +1,6 @@
 //! Runs of queues, with the answers of runs worked out by hand.
 mod calls;
+mod nonblocking_runs;
+mod runs;
 mod threads;
 mod two_lock_runs;

@@ -11,7 +11,10 @@ use std::sync::Wait;
 use std::thread::{Threads, join};
 
 /// How many bodies each of the two threads pushes.
-const MOST: u64 = 1000;
+pub const MOST: u64 = 1000;
+
+/// How many bodies both push.
+const ALL: usize = 2000;
 
 /// What a thread popped, as pushers and bodies, in its order.
 type Popped = Vec<(u16, u64)>;
@@ -103,19 +106,19 @@ fn rises(popped: &[(u16, u64)]) -> bool {
 
 // Whether both lists together have each body from 1 to 1,000 of pushers 1 and 2 just once.
 fn are_each_once(one: &[(u16, u64)], other: &[(u16, u64)]) -> bool {
-    let mut found = [0u8; 2000];
+    let mut found = [0u8; ALL];
     for (from, body) in one.iter().chain(other.iter()) {
         let place = usize::from(*from)
             .wrapping_sub(1)
-            .wrapping_mul(1000)
+            .wrapping_mul(MOST as usize)
             .wrapping_add(*body as usize)
             .wrapping_sub(1);
-        if place >= 2000 || found[place] != 0 {
+        if place >= ALL || found[place] != 0 {
             return false;
         }
         found[place] = 1;
     }
-    one.len().wrapping_add(other.len()) == 2000
+    one.len().wrapping_add(other.len()) == ALL
 }
 
 // The last of these seats, where it may push and pop.

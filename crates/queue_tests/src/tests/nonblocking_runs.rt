@@ -1,0 +1,128 @@
+//! Runs of the non-blocking queue.
+ghost use Rattle.std.specs.Prelude.{IfOk};
+ghost use Rattle.std.specs.List.{All};
+ghost use Rattle.nonblocking.specs.Queues.{IsQueueSeat};
+
+use super::runs::{
+    AMPLE_COUNT, GREATEST_COUNT, Left, ROUNDS_COUNT, Told, a_rest_is_whole_by_its_pusher,
+    closed_with_one, goes, last, leaves, left_one, one_seat_pops_what_it_pushed,
+    two_threads_pop_each_value_once, values_come_in_their_order,
+};
+use history::{Refusal, WornWord};
+use node_arena::{Held, Role, Seat};
+use nonblocking::MsQueue;
+use std::alloc::Global;
+use std::test::Fail;
+
+/// Where Free stands among the words.
+const FREE_WORD: usize = 1;
+
+/// The reference to node 4 with the count 1.
+const NODE_4_COUNT_1: u64 = 4 + (1 << 24);
+
+// A queue of so many nodes and this greatest count, with a seat for each role.
+fn queue_of(
+    alloc: Global,
+    nodes: u32,
+    limit: u64,
+    roles: &[Role],
+) -> Result<(MsQueue, Vec<Seat>), Refusal>
+    ensures { IfOk result (λ r. All (IsQueueSeat r.0) r.1.items) }
+{
+    match MsQueue::new(alloc, nodes, limit, roles) {
+        Ok(made) => Ok(made),
+        Err(why) => Err(why),
+    }
+}
+
+/// One node is always in the queue, so two nodes have room for one value. A push that finds no node keeps none.
+#[test]
+fn two_nodes_have_room_for_one_value(rt: HostRuntime) -> Result<(), Fail> {
+    let (queue, mut seats) = queue_of(rt.alloc(), 2, AMPLE_COUNT, &[Role::Giver])?;
+    let mut seat = last(&queue, &mut seats)?;
+    let calls = [Told::Push(1, Ok(())), Told::Push(2, Err(Refusal::NoNode))];
+    goes(&rt, &queue, &mut seat, &calls);
+    assert_eq!(rt; seat.pocket(), None);
+    Ok(())
+}
+
+/// With the greatest count 1 the second push leaves Tail behind, and the third one can't swing it: it keeps its node, which
+/// the next pop frees first. Free is then worn out too, so that pop sets the old dummy aside. Tail stays behind, so one
+/// value can be taken.
+#[test]
+fn a_worn_tail_refuses_pushes_and_pops(rt: HostRuntime) -> Result<(), Fail> {
+    let (queue, mut seats) = queue_of(rt.alloc(), 4, 1, &[Role::Both])?;
+    let mut seat = last(&queue, &mut seats)?;
+    let worn = Refusal::WornOut(WornWord::Tail);
+    let pushes = [
+        Told::Push(1, Ok(())),
+        Told::Push(2, Ok(())),
+        Told::Push(3, Err(worn)),
+    ];
+    goes(&rt, &queue, &mut seat, &pushes);
+    assert_eq!(rt; seat.pocket(), Some(Held { node: 4, mark: 0 }));
+    let later = [Told::Push(3, Err(worn)), Told::Pop(Ok(Some((1, 1))))];
+    goes(&rt, &queue, &mut seat, &later);
+    let free = queue.peek(FREE_WORD);
+    assert_eq!(rt; (free, seat.pocket()), (Some(NODE_4_COUNT_1), None));
+    goes(&rt, &queue, &mut seat, &[Told::Pop(Err(worn))]);
+    let wanted = Left {
+        taken: 1,
+        first: Some((1, 2)),
+        second: None,
+        whole: true,
+    };
+    leaves(&rt, rt.alloc(), queue, seat, wanted)
+}
+
+/// The first value pushed comes first, and the second one is left.
+#[test]
+fn first_pushed_first_popped(rt: HostRuntime) -> Result<(), Fail> {
+    let (queue, seats) = queue_of(rt.alloc(), 4, AMPLE_COUNT, &[Role::Both])?;
+    values_come_in_their_order(&rt, rt.alloc(), queue, seats)
+}
+
+/// Seat 1 pushes and seat 2 makes no call: the rest is whole where seat 1 is handed in, and not where seat 2 is.
+#[test]
+fn whole_where_the_pusher_is_handed_in(rt: HostRuntime) -> Result<(), Fail> {
+    for by_pusher in [true, false] {
+        let (queue, seats) = queue_of(rt.alloc(), 4, AMPLE_COUNT, &[Role::Both, Role::Both])?;
+        a_rest_is_whole_by_its_pusher(&rt, rt.alloc(), queue, seats, by_pusher)?;
+    }
+    Ok(())
+}
+
+/// One seat alone is never Busy, and pops what it just pushed; ten thousand times over, on three nodes.
+#[test]
+fn one_seat_alone(rt: HostRuntime) -> Result<(), Fail> {
+    let (queue, seats) = queue_of(rt.alloc(), 3, ROUNDS_COUNT, &[Role::Both])?;
+    one_seat_pops_what_it_pushed(&rt, rt.alloc(), queue, seats)
+}
+
+/// Two threads push and pop 1,000 times each.
+#[test]
+fn two_threads(rt: HostRuntime) -> Result<(), Fail> {
+    for with_both in [true, false] {
+        let roles = [Role::Both, Role::Both];
+        let (queue, seats) = queue_of(rt.alloc(), 16, GREATEST_COUNT, &roles)?;
+        two_threads_pop_each_value_once(&rt, rt.alloc(), queue, seats, with_both)?;
+    }
+    Ok(())
+}
+
+// A queue of three nodes that is closed with one value.
+fn made_and_closed(alloc: Global) -> Result<Left, Refusal> {
+    let (queue, seats) = queue_of(alloc, 3, AMPLE_COUNT, &[Role::Both])?;
+    closed_with_one(alloc, queue, seats)
+}
+
+/// Where one allocation is refused, `new` or `close` answers `Memory`, and the next queue is made and closed.
+#[test]
+fn a_refused_allocation_is_told_once(rt: HostRuntime) -> Result<(), Fail> {
+    let answer = match made_and_closed(rt.alloc()) {
+        Err(Refusal::Memory) => made_and_closed(rt.alloc()),
+        answer => answer,
+    };
+    left_one(&rt, answer);
+    Ok(())
+}

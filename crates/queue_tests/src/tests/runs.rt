@@ -1,0 +1,218 @@
+//! Runs of any queue: what its calls answer, and what it leaves.
+ghost use Rattle.std.specs.Prelude.{IfOk};
+ghost use Rattle.std.specs.List.{All};
+
+use super::calls::{parts, pop, push};
+use super::threads::{MOST, Run, met};
+use history::{Fifo, Refusal};
+use std::alloc::Global;
+use std::process::Abort;
+use std::sync::Wait;
+use std::test::Fail;
+use std::thread::Threads;
+
+/// The greatest count that a queue can have.
+pub const GREATEST_COUNT: u64 = 1_099_511_627_775;
+
+/// A greatest count that no short run gets near.
+pub const AMPLE_COUNT: u64 = 100;
+
+/// How often one seat pushes and pops alone.
+pub const ROUNDS: u64 = 10_000;
+
+/// A greatest count that so many rounds don't reach, on few nodes.
+pub const ROUNDS_COUNT: u64 = 100_000;
+
+/// A call, with what it answers.
+#[derive(Clone, Copy, Debug, PartialEq, Eq)]
+pub enum Told {
+    Push(u64, Result<(), Refusal>),
+    Pop(Result<Option<(u16, u64)>, Refusal>),
+}
+
+/// What a closed queue leaves: how many values were taken, the next two of those left, and whether it is whole.
+#[derive(Clone, Copy, Debug, PartialEq, Eq)]
+pub struct Left {
+    pub taken: u64,
+    pub first: Option<(u16, u64)>,
+    pub second: Option<(u16, u64)>,
+    pub whole: bool,
+}
+
+/// The last of these seats, taken from them.
+pub fn last<Q: Fifo>(queue: &Q, seats: &mut Vec<Q::Seat>) -> Result<Q::Seat, Refusal>
+    requires { All (Q.is_seat queue.now) seats.old.items }
+    ensures { IfOk result (λ s. Q.is_seat queue.now s × All (Q.is_seat queue.now) seats.new.items) }
+{
+    let _ = queue;
+    match seats.pop() {
+        Some(seat) => Ok(seat),
+        None => Err(Refusal::BadSize),
+    }
+}
+
+/// Makes these calls by one seat; each answers as it says.
+pub fn goes<Q: Fifo>(rt: &impl Abort, queue: &Q, seat: &mut Q::Seat, calls: &[Told])
+    requires { Q.is_seat queue.now seat.old }
+    ensures { Q.is_seat queue.now seat.new }
+{
+    for call in calls {
+        let found = match *call {
+            Told::Push(body, _) => Told::Push(body, push(queue, seat, body)),
+            Told::Pop(_) => Told::Pop(pop(queue, seat)),
+        };
+        assert_eq!(rt; found, *call);
+    }
+}
+
+// Ends a queue with this seat alone handed in.
+fn closed<Q: Fifo + Drop>(alloc: Global, queue: Q, seat: Q::Seat) -> Result<Left, Refusal>
+    requires { Q.is_seat queue seat }
+{
+    let mut seats = Vec::new(alloc);
+    let Ok(()) = seats.push(seat) else {
+        return Err(Refusal::Memory);
+    };
+    let mut rest = queue.close(alloc, seats)?;
+    Ok(Left {
+        taken: rest.taken(),
+        first: rest.next().map(parts),
+        second: rest.next().map(parts),
+        whole: rest.whole(),
+    })
+}
+
+/// Ends a queue with this seat alone handed in; it leaves what is said.
+pub fn leaves<Q: Fifo + Drop>(
+    rt: &impl Abort,
+    alloc: Global,
+    queue: Q,
+    seat: Q::Seat,
+    wanted: Left,
+) -> Result<(), Fail>
+    requires { Q.is_seat queue seat }
+{
+    let found = closed(alloc, queue, seat)?;
+    assert_eq!(rt; found, wanted);
+    Ok(())
+}
+
+/// The first value pushed comes first, and the second one is left. The queue has four nodes and one seat, which may push
+/// and pop.
+pub fn values_come_in_their_order<Q: Fifo + Drop>(
+    rt: &impl Abort,
+    alloc: Global,
+    queue: Q,
+    mut seats: Vec<Q::Seat>,
+) -> Result<(), Fail>
+    requires { All (Q.is_seat queue) seats.items }
+{
+    let mut seat = last(&queue, &mut seats)?;
+    let calls = [
+        Told::Push(1, Ok(())),
+        Told::Push(2, Ok(())),
+        Told::Pop(Ok(Some((1, 1)))),
+    ];
+    goes(rt, &queue, &mut seat, &calls);
+    let wanted = Left {
+        taken: 1,
+        first: Some((1, 2)),
+        second: None,
+        whole: true,
+    };
+    leaves(rt, alloc, queue, seat, wanted)
+}
+
+/// Seat 1 pushes and seat 2 makes no call: the rest is whole where seat 1 is handed in, and not where seat 2 is. The queue
+/// has these two seats.
+pub fn a_rest_is_whole_by_its_pusher<Q: Fifo + Drop>(
+    rt: &impl Abort,
+    alloc: Global,
+    queue: Q,
+    mut seats: Vec<Q::Seat>,
+    by_pusher: bool,
+) -> Result<(), Fail>
+    requires { All (Q.is_seat queue) seats.items }
+{
+    let second = last(&queue, &mut seats)?;
+    let mut first = last(&queue, &mut seats)?;
+    goes(rt, &queue, &mut first, &[Told::Push(1, Ok(()))]);
+    let handed = if by_pusher { first } else { second };
+    let wanted = Left {
+        taken: 0,
+        first: Some((1, 1)),
+        second: None,
+        whole: by_pusher,
+    };
+    leaves(rt, alloc, queue, handed, wanted)
+}
+
+/// One seat alone is never Busy, and pops what it just pushed.
+pub fn one_seat_pops_what_it_pushed<Q: Fifo + Drop>(
+    rt: &impl Abort,
+    alloc: Global,
+    queue: Q,
+    mut seats: Vec<Q::Seat>,
+) -> Result<(), Fail>
+    requires { All (Q.is_seat queue) seats.items }
+{
+    let mut seat = last(&queue, &mut seats)?;
+    for number in 1..=ROUNDS {
+        let calls = [Told::Push(number, Ok(())), Told::Pop(Ok(Some((1, number))))];
+        goes(rt, &queue, &mut seat, &calls);
+    }
+    let wanted = Left {
+        taken: ROUNDS,
+        first: None,
+        second: None,
+        whole: true,
+    };
+    leaves(rt, alloc, queue, seat, wanted)
+}
+
+/// Two threads push and pop: no pop finds the queue empty, each value is popped once, and the bodies of each pusher rise.
+/// The rest is whole where both seats are handed in, and not where one alone is.
+pub fn two_threads_pop_each_value_once<R: Threads + Wait + Sync + Abort, Q: Fifo + Sync + Drop>(
+    rt: &R,
+    alloc: Global,
+    queue: Q,
+    seats: Vec<Q::Seat>,
+    with_both: bool,
+) -> Result<(), Fail>
+    requires { All (Q.is_seat queue) seats.items }
+{
+    let run = met(rt, alloc, queue, seats, with_both)?;
+    let wanted = Run {
+        in_order: true,
+        each_once: true,
+        taken: 2 * MOST,
+        empty: true,
+        whole: with_both,
+    };
+    assert_eq!(rt; run, wanted);
+    Ok(())
+}
+
+/// What a queue leaves that is closed with one value, or why it wasn't made or closed.
+pub fn closed_with_one<Q: Fifo + Drop>(
+    alloc: Global,
+    queue: Q,
+    mut seats: Vec<Q::Seat>,
+) -> Result<Left, Refusal>
+    requires { All (Q.is_seat queue) seats.items }
+{
+    let mut seat = last(&queue, &mut seats)?;
+    push(&queue, &mut seat, 7)?;
+    closed(alloc, queue, seat)
+}
+
+/// It leaves one value, of seat 1.
+pub fn left_one(rt: &impl Abort, found: Result<Left, Refusal>) {
+    let wanted = Left {
+        taken: 0,
+        first: Some((1, 7)),
+        second: None,
+        whole: true,
+    };
+    assert_eq!(rt; found, Ok(wanted));
+}
