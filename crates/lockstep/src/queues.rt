@@ -1,0 +1,71 @@
+//! The queues that can be looked into.
+ghost use Rattle.std.specs.Prelude.{IfOk};
+ghost use Rattle.std.specs.List.{All};
+
+use history::{Fifo, Refusal};
+use line_table::Kind;
+use node_arena::{Held, Role, Seat};
+use nonblocking::MsQueue;
+use std::alloc::Global;
+use two_lock::TwoLockQueue;
+
+/// Both seats may push and pop.
+const ROLES: [Role; 2] = [Role::Both; 2];
+
+/// A queue with words and pockets to compare.
+pub trait Watched: Fifo {
+    /// Which queue it is.
+    fn kind() -> Kind;
+
+    /// A queue of so many nodes and this greatest count, with its seats 1 and 2.
+    fn made(alloc: Global, nodes: u32, limit: u64) -> Result<(Self, Vec<Self::Seat>), Refusal>
+        ensures { IfOk result (λ r. All (Self.is_seat r.0) r.1.items) };
+
+    /// What a word holds; none where there is no such word.
+    fn peek(&self, word: usize) -> Option<u64>;
+
+    /// The node in a seat's pocket.
+    fn pocket(seat: &Self::Seat) -> Option<Held>;
+}
+
+impl Watched for TwoLockQueue {
+    fn kind() -> Kind {
+        Kind::TwoLock
+    }
+
+    fn made(alloc: Global, nodes: u32, limit: u64) -> Result<(TwoLockQueue, Vec<Seat>), Refusal> {
+        match TwoLockQueue::new(alloc, nodes, limit, &ROLES) {
+            Ok(made) => Ok(made),
+            Err(why) => Err(why),
+        }
+    }
+
+    fn peek(&self, word: usize) -> Option<u64> {
+        self.peek(word)
+    }
+
+    fn pocket(seat: &Seat) -> Option<Held> {
+        seat.pocket()
+    }
+}
+
+impl Watched for MsQueue {
+    fn kind() -> Kind {
+        Kind::NonBlocking
+    }
+
+    fn made(alloc: Global, nodes: u32, limit: u64) -> Result<(MsQueue, Vec<Seat>), Refusal> {
+        match MsQueue::new(alloc, nodes, limit, &ROLES) {
+            Ok(made) => Ok(made),
+            Err(why) => Err(why),
+        }
+    }
+
+    fn peek(&self, word: usize) -> Option<u64> {
+        self.peek(word)
+    }
+
+    fn pocket(seat: &Seat) -> Option<Held> {
+        seat.pocket()
+    }
+}
