@@ -1,5 +1,5 @@
 //! The packed word, and the calls that make, read and raise it.
-ghost use Rattle.std.specs.Prelude.{◌≡◌, ◌+◌, ◌%◌, ◌^◌, ◌<◌, ◌≤◌, ◌↔◌, IsNone, IfSome};
+ghost use Rattle.std.specs.Prelude.{◌≡◌, ◌≢◌, ◌+◌, ◌%◌, ◌^◌, ◌<◌, ◌≤◌, ◌↔◌, IsNone, IfSome};
 ghost use Rattle.counted_ref.specs.Ref.{IsRef, node_bits, count_bits, reserved_node, ref, is_null, same_ref, ref_word, ref_of};
 
 use std::marker::Model;
@@ -129,6 +129,19 @@ impl CountedRef {
         } else {
             Some(CountedRef { word })
         }
+    }
+
+    /// The reference of a word whose low 24 bits aren't the reserved number, with no test. Takes no memory.
+    ///
+    /// ```
+    /// assert!(CountedRef::of_word(16_777_218) == CountedRef::new(2, 1));
+    /// ```
+    pub fn of_word(word: u64) -> CountedRef
+        requires { word % 2 ^ node_bits ≢ reserved_node }
+        ensures value { result ≡ ref_of word }
+        ensures same_word { ref_word result ≡ word }
+    {
+        CountedRef { word }
     }
 
     /// The reference of the node `to` with a count one higher; none exactly where the count is the

@@ -42,8 +42,5 @@ pub fn reference(word: u64) -> CountedRef
     requires { word % 2 ^ node_bits ≢ reserved_node }
     ensures { result ≡ ref_of word }
 {
-    match CountedRef::from_word(word) {
-        Some(reference) => reference,
-        None => unreachable!(),
-    }
+    CountedRef::of_word(word)
 }

@@ -32,6 +32,7 @@ pub struct Works {
 }
 
 // Pushes a body, and waits where there is no node; nothing where a word is worn out.
+#[inline(always)]
 fn push<R: Wait, Q: Fifo>(rt: &R, queue: &Q, seat: &mut Q::Seat, body: Body)
     requires { MayCall Q.is_seat Q.permits Q.known queue.now seat.old }
     ensures { MayCall Q.is_seat Q.permits Q.known queue.now seat.new }
@@ -47,6 +48,7 @@ fn push<R: Wait, Q: Fifo>(rt: &R, queue: &Q, seat: &mut Q::Seat, body: Body)
 }
 
 // Pops a body, and waits where the queue is empty; nothing where a word is worn out.
+#[inline(always)]
 fn pop<R: Wait, Q: Fifo>(rt: &R, queue: &Q, seat: &mut Q::Seat)
     requires { MayCall Q.is_seat Q.permits Q.known queue.now seat.old }
     ensures { MayCall Q.is_seat Q.permits Q.known queue.now seat.new }

@@ -52,3 +52,11 @@ after_take r s t u h body spent turns (Err why) name w f k =
             (ends_failed s u es e (failed_behind (added s t) (added t u) (record { before = z.before; last = z.last; path = z.path; failed = z.failed }))),
       );
     }
+
+-- the push of a seat whose pocket was full
+pub put_at_once : (r : Arena) (s v x : Seat) (h : Held) (body n turns : ℕ) (out : Result (Unit {0}) Refusal) → v ≡ s → n ≡ 0 → Puts r v x h body n turns out → AnswersPush r s x body turns out
+put_at_once r s v x h body n turns out e f p = at_once r s x h body turns out (subst (λ u. Puts r u x h body 0 turns out) e (subst (λ m. Puts r v x h body m turns out) f p))
+
+-- the push of a seat that first took a node
+pub put_after_take : (r : Arena) (s u v x : Seat) (h : Held) (body spent n turns : ℕ) (out : Result (Unit {0}) Refusal) → v ≡ u → n ≡ spent → KeepsName s u → HadNoEffect s u → spent ≡ failed_turns (added s u) → Puts r v x h body n turns out → AnswersPush r s x body turns out
+put_after_take r s u v x h body spent n turns out e f name w g p = after_take r s u x h body spent turns out name w g (subst (λ y. Puts r y x h body spent turns out) e (subst (λ m. Puts r v x h body m turns out) f p))

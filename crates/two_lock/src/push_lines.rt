@@ -33,7 +33,7 @@ macro_rules! access {
         stored($arena, $seat, Line::$line, 4, $new)
     };
     ($arena:ident $seat:ident $line:ident clear Next($node:expr)) => {
-        reference(masked($arena, $seat, Line::$line, 4 + 2 * $node as usize, COUNT_MASK))
+        masked($arena, $seat, Line::$line, 4 + 2 * $node as usize, COUNT_MASK)
     };
     ($arena:ident $seat:ident $line:ident exchange TailLock ($old:expr, $new:expr)) => {
         exchanged($arena, $seat, Line::$line, 4, $old, u64::from($new))
