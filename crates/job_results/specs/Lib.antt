@@ -1,0 +1,4 @@
+pub mod Jobs
+pub mod Results
+pub mod Gathering
+pub mod Gathers
