@@ -1,0 +1,110 @@
+//! A thread for each worker.
+ghost use Rattle.std.specs.Prelude.{◌≡◌, ◌<◌, ◌⊎◌, ◌↔◌, true, map, length, IfOk, IfErr, Err};
+ghost use Rattle.std.specs.Cmp.Lexicographic.{pointwise};
+ghost use Rattle.std.specs.List.{All};
+ghost use Rattle.job_results.specs.Jobs.{same_job, job_rows};
+ghost use Rattle.job_results.specs.Results.{row_of, job_in};
+ghost use Rattle.dispatcher.specs.Workers.{IsTaker, IsGiver};
+
+use crate::gate::Gate;
+use crate::running::{Signals, work};
+use crate::submitting::submit;
+use history::{Fifo, Refusal};
+use job_results::{Gather, Job, JobResult};
+use std::alloc::Global;
+use std::sync::Wait;
+use std::thread;
+use std::thread::{Scope, Threads};
+
+/// The greatest number of jobs.
+pub const MOST_JOBS: usize = 1_000_000;
+
+// Starts a worker for each taker, submits the jobs, and gathers the results. All that can be refused comes before the first
+// worker is started, or after the last one was told to stop: the scope waits for each of them.
+fn run<'s, 'a: 's, E, R: Threads + Wait + Sync, Q: Fifo + Sync, G: Gate + Sync>(
+    scope: &Scope<'s, E>,
+    rt: &'s R,
+    alloc: Global,
+    queue: &'s Q,
+    giver: Q::Seat,
+    takers: Vec<Q::Seat>,
+    jobs: &'a [Job],
+    gate: &'s G,
+    signals: &'s Signals,
+) -> Result<Vec<JobResult<'a>>, Refusal>
+    requires giver { IsGiver Q.is_seat Q.permits Q.known queue.now giver }
+    requires takers { All (IsTaker Q.is_seat Q.permits Q.known queue.now) takers.items }
+    ensures rows { IfOk result (λ results. map row_of results.items ≡ job_rows 1 jobs.now) }
+    ensures same { IfOk result (λ results. pointwise same_job (map job_in results.items) jobs.now ≡ true) }
+    ensures why { IfErr result (λ why. (why ≡ Refusal.Lost) ⊎ (why ≡ Refusal.Memory)) }
+{
+    let mut gather = Gather::new(alloc, jobs)?;
+    let workers = takers.len();
+    let mut handles = Vec::new(alloc);
+    if handles.reserve(workers).is_err() {
+        return Err(Refusal::Memory);
+    }
+    for seat in takers {
+        let worker = scope.spawn(move || -> Vec<JobResult>
+            requires { IsTaker Q.is_seat Q.permits Q.known queue.now seat }
+        {
+            work(rt, alloc, queue, seat, jobs, gate, signals)
+        });
+        match worker {
+            Ok(handle) => handles.push_reserved(handle),
+            Err(_) => signals.end_one(),
+        }
+    }
+    if submit(rt, queue, giver, jobs.len(), workers, signals).is_err() {
+        signals.give_up();
+    }
+    for handle in handles {
+        for result in handle.join(rt) {
+            // A result that is refused changes nothing: its job has one, or is still missing.
+            let _ = gather.add(result);
+        }
+    }
+    gather.finish()
+}
+
+/// Does all jobs, with a thread for each taker, started before the first push; the results, in the order of the jobs.
+///
+/// The seats are the queue's, and given up: the giver's may push, the takers' may pop. Refusals: `BadSize` where there is no
+/// taker or more than `MOST_JOBS` jobs, before anything else; `Memory`; `Lost` where a job has no result, since a worker or
+/// the submitter was refused. Takes memory for two results a job and a handle a taker, and each thread for its results;
+/// waits.
+pub fn dispatch<'a, R: Threads + Wait + Sync, Q: Fifo + Sync, G: Gate + Sync>(
+    rt: &R,
+    alloc: Global,
+    queue: &Q,
+    giver: Q::Seat,
+    takers: Vec<Q::Seat>,
+    jobs: &'a [Job],
+    gate: &G,
+) -> Result<Vec<JobResult<'a>>, Refusal>
+    requires giver { IsGiver Q.is_seat Q.permits Q.known queue.now giver }
+    requires takers { All (IsTaker Q.is_seat Q.permits Q.known queue.now) takers.items }
+    ensures rows { IfOk result (λ results. map row_of results.items ≡ job_rows 1 jobs.now) }
+    ensures same { IfOk result (λ results. pointwise same_job (map job_in results.items) jobs.now ≡ true) }
+    ensures sized { (result ≡ Err Refusal.BadSize) ↔ ((length takers.items ≡ 0) ⊎ (MOST_JOBS < length jobs.now)) }
+    ensures why { IfErr result (λ why. (why ≡ Refusal.BadSize) ⊎ ((why ≡ Refusal.Lost) ⊎ (why ≡ Refusal.Memory))) }
+{
+    if takers.is_empty() || jobs.len() > MOST_JOBS {
+        return Err(Refusal::BadSize);
+    }
+    let signals = Signals::new();
+    let told = &signals;
+    thread::scope(
+        thread::scope_env(),
+        rt,
+        |scope| -> Result<Vec<JobResult>, Refusal>
+            requires giver { IsGiver Q.is_seat Q.permits Q.known queue.now giver }
+            requires takers { All (IsTaker Q.is_seat Q.permits Q.known queue.now) takers.items }
+            ensures rows { IfOk result (λ results. map row_of results.items ≡ job_rows 1 jobs.entry.now) }
+            ensures same { IfOk result (λ results. pointwise same_job (map job_in results.items) jobs.entry.now ≡ true) }
+            ensures why { IfErr result (λ why. (why ≡ Refusal.Lost) ⊎ (why ≡ Refusal.Memory)) }
+        {
+            run(scope, rt, alloc, queue, giver, takers, jobs, gate, told)
+        },
+    )
+}
