@@ -45,11 +45,11 @@ fn run<'s, 'a: 's, E, R: Threads + Wait + Sync, Q: Fifo + Sync, G: Gate + Sync>(
         return Err(Refusal::Memory);
     }
     for seat in takers {
-        let worker = scope.spawn(move || -> Vec<JobResult>
-            requires { IsTaker Q.is_seat Q.permits Q.known queue.now seat }
-        {
-            work(rt, alloc, queue, seat, jobs, gate, signals)
-        });
+        let worker = scope.spawn(
+            move || -> Vec<JobResult>
+                requires { IsTaker Q.is_seat Q.permits Q.known queue.now seat }
+            { work(rt, alloc, queue, seat, jobs, gate, signals) },
+        );
         match worker {
             Ok(handle) => handles.push_reserved(handle),
             Err(_) => signals.end_one(),
@@ -103,8 +103,6 @@ pub fn dispatch<'a, R: Threads + Wait + Sync, Q: Fifo + Sync, G: Gate + Sync>(
             ensures rows { IfOk result (λ results. map row_of results.items ≡ job_rows 1 jobs.entry.now) }
             ensures same { IfOk result (λ results. pointwise same_job (map job_in results.items) jobs.entry.now ≡ true) }
             ensures why { IfErr result (λ why. (why ≡ Refusal.Lost) ⊎ (why ≡ Refusal.Memory)) }
-        {
-            run(scope, rt, alloc, queue, giver, takers, jobs, gate, told)
-        },
+        { run(scope, rt, alloc, queue, giver, takers, jobs, gate, told) },
     )
 }

@@ -1,5 +1,4 @@
-use Rattle.std.proofs.Common.{◌≡◌, refl, ◌∙◌, sym, ap, arith, length, Some, [], ◌∷◌, ◌++◌, slice_index_or}
-use Rattle.std.specs.List.{slice_get}
+use Rattle.std.proofs.Common.{refl, ◌∙◌, sym, ap, arith, length, Some, [], ◌∷◌, ◌++◌}
 use Rattle.std.proofs.lemmas.Option.{slice_get_read}
 use Rattle.dispatcher.proofs.working.work_one.Goals as goal
 
