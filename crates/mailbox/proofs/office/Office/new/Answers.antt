@@ -1,0 +1,11 @@
+use Rattle.std.proofs.Common.{arith, ◌≡◌, map}
+use Rattle.std.proofs.lemmas.Grind.{common_steps}
+use Rattle.mailbox.proofs.Openings.{senders_of-seats}
+use Rattle.mailbox.proofs.office.Office.new.Goals as goal
+
+pub returns-clause-senders : goal.returns-clause-senders
+returns-clause-senders g c =
+    let steps = c.in-None.ensures.steps in
+    let kept = c.loop-seat.invariant in
+    let same : map (λ s. s.seat) c.loop-seat.all.items ≡ c.args.senders.items = grind (arith, common_steps) in
+    senders_of-seats _ _ _ _ c.args.senders.items c.loop-seat.all.items same c.requires.senders

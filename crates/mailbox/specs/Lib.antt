@@ -1,0 +1,3 @@
+pub mod Deliveries
+pub mod Offices
+pub mod Openings

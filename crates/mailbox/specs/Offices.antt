@@ -1,0 +1,126 @@
+-- What an office, its senders and its receiver do.
+use Rattle.std.specs.Prelude.{◌≡◌, ◌≤◌, ◌^◌, ℕ, List, Bool, true, false, Option, Some, None, String, string_bytes}
+use Rattle.boxcar.specs.Table.{Shows, Where}
+use Rattle.history.specs.Limits.{body_bits}
+use Rattle.history.specs.declared.operations.Taken.{Taken}
+use Rattle.history.specs.declared.refusals.Refusal.{Refusal}
+use Rattle.history.specs.declared.refusals.Refusal.TheVariants.{NoNode, WornOut, Busy, Memory, BadSize, Lost}
+use Rattle.history.specs.Seats.{Permit, Known, MayPush, MayPop}
+use Rattle.history.specs.Answers.{Pushed, Popped, SeesMore, FoundEmpty}
+use Rattle.mailbox.specs.Deliveries.{OnlyPops}
+use Rattle.mailbox.specs.declared.office.Office.{Office}
+use Rattle.mailbox.specs.declared.sender.Sender.{Sender}
+use Rattle.mailbox.specs.declared.receiver.Receiver.{Receiver}
+use Rattle.mailbox.specs.declared.receiver.Letter.{Letter}
+
+-- what the receiver knows of the queue
+abbrev pub receiver_knows : {Q S : Type 0} → (S → Known) → Receiver Q S → Known
+receiver_knows known r = known r.seat
+
+-- whether the receiver has lost a letter
+abbrev pub has_lost : {Q S : Type 0} → Receiver Q S → Bool
+has_lost r = r.lost
+
+-- a sender of an office: its seat is the queue's, is in no call, and may push
+pub record IsSender {Q S : Type 0} (is_seat : Q → S → Type 0) (permits : Q → List Permit) (known : S → Known) (o : Office Q S) (s : Sender Q S) : Type 0 where
+  pub seat : is_seat o.queue s.seat
+  pub role : MayPush (permits o.queue) (known s.seat).number
+
+-- the receiver of an office: its seat is the queue's, is in no call, and alone may pop
+pub record IsReceiver {Q S : Type 0} (is_seat : Q → S → Type 0) (permits : Q → List Permit) (known : S → Known) (o : Office Q S) (r : Receiver Q S) : Type 0 where
+  pub seat : is_seat o.queue r.seat
+  pub role : MayPop (permits o.queue) (known r.seat).number
+  pub only : OnlyPops (permits o.queue) (known r.seat).number
+
+-- a token shows that an office holds this text at this index
+pub record ShowsText {Q S T : Type 0} (bytes : T → List ℕ) (o : Office Q S) (token : Option (Where T)) (index : ℕ) (text : List ℕ) : Type 0 where
+  pub shown : Where T
+  pub is : token ≡ Some shown
+  pub here : Shows o.letters shown
+  pub at : shown.index ≡ index
+  pub reads : bytes shown.value ≡ text
+
+-- the last letter that a sender stored is this text, at this index
+abbrev pub Stored : {Q S : Type 0} → Office Q S → Sender Q S → (index : ℕ) → (text : List ℕ) → Type 0
+Stored o s index text = ShowsText string_bytes o s.last index text
+
+-- the last letter that the receiver took is this text, at this index
+abbrev pub Read : {Q S : Type 0} → Office Q S → Receiver Q S → (index : ℕ) → (text : List ℕ) → Type 0
+Read o r index text = ShowsText string_bytes o r.last index text
+
+-- an index, a text stored there and a text read there
+pub record TextsAt : Type 0 where
+  pub index : ℕ
+  pub stored : List ℕ
+  pub read : List ℕ
+
+-- a letter was sent: its text is stored, and its index was pushed
+pub record Sent {Q S Z : Type 0} (known : S → Known) (o : Office Q S) (s s' : Sender Q S) (text : String Z) : Type 0 where
+  pub index : ℕ
+  pub pushed : Pushed (known s.seat) index (known s'.seat)
+  pub stored : Stored o s' index (string_bytes text)
+
+-- nothing was sent: the sender may have seen more, and all else that it knows is as before
+abbrev pub SentNothing : {Q S : Type 0} → (S → Known) → (s s' : Sender Q S) → Type 0
+SentNothing known s s' = SeesMore (known s.seat) (known s'.seat)
+
+-- a letter was stored, at an index that is no body
+pub record HasNoBody {Q S Z : Type 0} (o : Office Q S) (s s' : Sender Q S) (text : String Z) : Type 0 where
+  pub seat : s'.seat ≡ s.seat
+  pub index : ℕ
+  pub large : 2 ^ body_bits ≤ index
+  pub stored : Stored o s' index (string_bytes text)
+
+-- a letter can't be stored: there is no memory for it, or no body
+abbrev pub StopsStore : Refusal → Type 0
+StopsStore Memory = Unit {0}
+StopsStore BadSize = Unit {0}
+StopsStore _ = ⊥
+
+-- a send may be refused so: there was no memory or no body for the letter, or its push was refused
+abbrev pub StopsSend : Refusal → Type 0
+StopsSend NoNode = Unit {0}
+StopsSend (WornOut word) = Unit {0}
+StopsSend Busy = Unit {0}
+StopsSend Memory = Unit {0}
+StopsSend BadSize = Unit {0}
+StopsSend _ = ⊥
+
+-- a take may be refused so: its pop was refused, or a letter is lost
+abbrev pub StopsTake : Refusal → Type 0
+StopsTake (WornOut word) = Unit {0}
+StopsTake Busy = Unit {0}
+StopsTake Lost = Unit {0}
+StopsTake _ = ⊥
+
+-- a letter was taken: one value was popped, which this sender pushed, and this is the text at its body
+pub record TookText {Q S : Type 0} (known : S → Known) (o : Office Q S) (r : Receiver Q S) (from : ℕ) (text : List ℕ) (r' : Receiver Q S) : Type 0 where
+  pub value : Taken
+  pub popped : Popped (known r.seat) value (known r'.seat)
+  pub sender : value.from ≡ from
+  pub read : Read o r' value.body text
+  pub kept : r'.lost ≡ false
+
+-- there was no letter: the queue was found empty
+pub record FoundNone {Q S : Type 0} (known : S → Known) (r r' : Receiver Q S) : Type 0 where
+  pub empty : FoundEmpty (known r.seat) (known r'.seat)
+  pub last : r'.last ≡ r.last
+  pub kept : r'.lost ≡ false
+
+-- what a take answers: a letter, or that there is none
+abbrev pub TakeAnswers : {Q S : Type 0} → (S → Known) → Office Q S → Receiver Q S → Option Letter → Receiver Q S → Type 0
+TakeAnswers known o r None r' = FoundNone known r r'
+TakeAnswers known o r (Some letter) r' = TookText known o r letter.from letter.text.now r'
+
+-- a take was refused without a loss: nothing was taken
+pub record TookNothing {Q S : Type 0} (known : S → Known) (r r' : Receiver Q S) : Type 0 where
+  pub nothing : SeesMore (known r.seat) (known r'.seat)
+  pub last : r'.last ≡ r.last
+  pub was : r.lost ≡ false
+  pub kept : r'.lost ≡ false
+
+-- a letter is lost: one value was popped where none was lost before, and else nothing was done
+pub record Loses {Q S : Type 0} (known : S → Known) (r r' : Receiver Q S) : Type 0 where
+  pub first : r.lost ≡ false → (value : Taken) × Popped (known r.seat) value (known r'.seat)
+  pub later : r.lost ≡ true → r' ≡ r
+  pub lost : r'.lost ≡ true

@@ -1,0 +1,25 @@
+-- What a new office is.
+use Rattle.std.specs.Prelude.{◌≡◌, List, map, false, Option, None}
+use Rattle.history.specs.Seats.{Permit, Known, MayPush, MayPop}
+use Rattle.mailbox.specs.Deliveries.{OnlyPops}
+use Rattle.mailbox.specs.declared.office.Office.{Office}
+use Rattle.mailbox.specs.declared.sender.Sender.{Sender}
+use Rattle.mailbox.specs.declared.receiver.Receiver.{Receiver}
+
+-- a seat of the queue, in no call, that may push
+pub record CanSend {Q S : Type 0} (is_seat : Q → S → Type 0) (permits : Q → List Permit) (known : S → Known) (q : Q) (s : S) : Type 0 where
+  pub seat : is_seat q s
+  pub role : MayPush (permits q) (known s).number
+
+-- a seat of the queue, in no call, that alone may pop
+pub record CanReceive {Q S : Type 0} (is_seat : Q → S → Type 0) (permits : Q → List Permit) (known : S → Known) (q : Q) (s : S) : Type 0 where
+  pub seat : is_seat q s
+  pub role : MayPop (permits q) (known s).number
+  pub only : OnlyPops (permits q) (known s).number
+
+-- the office has the queue, the senders have these seats, in order, and the receiver has its seat; it has lost no letter
+pub record Opens {Q S : Type 0} (queue : Q) (seats : List S) (seat : S) (o : Office Q S) (ss : List (Sender Q S)) (r : Receiver Q S) : Type 0 where
+  pub queue_is : o.queue ≡ queue
+  pub senders : map (λ s. s.seat) ss ≡ seats
+  pub receiver : r.seat ≡ seat
+  pub kept : r.lost ≡ false

@@ -1,0 +1,102 @@
+//! The receiver of letters.
+ghost use Rattle.std.specs.Prelude.{◌≡◌, ◌≤◌, ◌≢◌, true, Err, IfErr, IfOk};
+ghost use Rattle.history.specs.declared.refusals.Refusal.TheVariants.{Busy, Lost};
+ghost use Rattle.mailbox.specs.Deliveries.{InOrder};
+ghost use Rattle.mailbox.specs.Offices.{IsReceiver, receiver_knows, has_lost};
+ghost use Rattle.mailbox.specs.Offices.{TakeAnswers, TookNothing, Loses, StopsTake};
+
+use crate::office::Office;
+use boxcar::Pushed;
+use crossbeam_utils::Backoff;
+use history::{Fifo, Refusal};
+use std::sync::Wait;
+
+/// How many turns a waiting call takes before it lets others go on.
+const TURNS: u32 = 8;
+
+/// A letter taken: the number of its sender's seat, and its text.
+#[derive(Clone, Copy, Debug)]
+pub struct Letter<'a> {
+    pub from: u16,
+    pub text: &'a str,
+}
+
+/// The seat that takes letters, what shows the last letter that it took, and whether one was lost.
+#[derive(Drop)]
+pub struct Receiver<Q: Fifo + Drop> {
+    pub(crate) seat: Q::Seat,
+    pub(crate) last: Option<Pushed<String>>,
+    pub(crate) lost: bool,
+}
+
+impl<Q: Fifo + Drop> Receiver<Q> {
+    /// Takes the letter that is due, in so many turns at most, 1 or more; none where there was none. The office is the one
+    /// that the receiver was made with.
+    ///
+    /// Refusals: `WornOut` and `Busy` of the queue, and nothing is then taken; `Lost` where the office shows no text for
+    /// what was taken, and from then on always. Takes no memory and doesn't wait.
+    pub fn try_take<'a>(
+        &mut self,
+        office: &'a Office<Q>,
+        turns: u32,
+    ) -> Result<Option<Letter<'a>>, Refusal>
+        requires office { IsReceiver Q.is_seat Q.permits Q.known office.now self.old }
+        requires turns { 1 ≤ turns }
+        ensures office { IsReceiver Q.is_seat Q.permits Q.known office.now self.new }
+        ensures answer { IfOk result (λ taken. TakeAnswers Q.known office.now self.old taken self.new) }
+        ensures order { InOrder (receiver_knows Q.known self.new) }
+        ensures refused { IfErr result (λ why. why ≢ Lost → TookNothing Q.known self.old self.new) }
+        ensures lost { result ≡ Err Lost → Loses Q.known self.old self.new }
+        ensures stays_lost { has_lost self.old ≡ true → result ≡ Err Lost }
+        ensures why { IfErr result StopsTake }
+    {
+        if self.lost {
+            return Err(Refusal::Lost);
+        }
+        let Some(value) = office.queue.try_pop(&mut self.seat, turns)? else {
+            return Ok(None);
+        };
+        let Some(shown) = office.letters.witness(value.body.number() as usize) else {
+            self.lost = true;
+            return Err(Refusal::Lost);
+        };
+        let text = office.letters.value(&shown);
+        self.last = Some(shown);
+        Ok(Some(Letter {
+            from: value.from,
+            text: text.as_str(),
+        }))
+    }
+
+    /// Takes the letter that is due, and tries again while others are in the way; none where there was none.
+    ///
+    /// Refusals as those of `try_take`, but never `Busy`. Takes no memory, and waits.
+    pub fn take<'a, R: Wait>(
+        &mut self,
+        rt: &R,
+        office: &'a Office<Q>,
+    ) -> Result<Option<Letter<'a>>, Refusal>
+        requires office { IsReceiver Q.is_seat Q.permits Q.known office.now self.old }
+        ensures office { IsReceiver Q.is_seat Q.permits Q.known office.now self.new }
+        ensures answer { IfOk result (λ taken. TakeAnswers Q.known office.now self.old taken self.new) }
+        ensures order { InOrder (receiver_knows Q.known self.new) }
+        ensures refused { IfErr result (λ why. why ≢ Lost → TookNothing Q.known self.old self.new) }
+        ensures lost { result ≡ Err Lost → Loses Q.known self.old self.new }
+        ensures stays_lost { has_lost self.old ≡ true → result ≡ Err Lost }
+        ensures why { IfErr result StopsTake }
+        ensures never_busy { result ≢ Err Busy }
+    {
+        if self.lost {
+            return Err(Refusal::Lost);
+        }
+        let backoff = Backoff::new();
+        for _ in rt.forever() {
+            match self.try_take(office, TURNS) {
+                Ok(letter) => return Ok(letter),
+                Err(Refusal::Busy) => backoff.snooze(),
+                Err(why) => return Err(why),
+            }
+        }
+        unreachable!()
+    }
+}

@@ -1,0 +1,79 @@
+//! Senders of letters.
+ghost use Rattle.std.specs.Prelude.{◌≡◌, ◌≤◌, ◌≢◌, Err, OnOk, OnErr, IfOk, IfErr, string_bytes};
+ghost use Rattle.mailbox.specs.Offices.{IsSender, Stored, StopsStore};
+ghost use Rattle.mailbox.specs.Offices.{Sent, SentNothing, HasNoBody, StopsSend};
+
+use crate::office::Office;
+use boxcar::Pushed;
+use history::{Body, Fifo, Refusal};
+use std::sync::Wait;
+
+/// A seat that sends letters, and what shows the last letter that it stored.
+#[derive(Drop)]
+pub struct Sender<Q: Fifo + Drop> {
+    pub(crate) seat: Q::Seat,
+    pub(crate) last: Option<Pushed<String>>,
+}
+
+impl<Q: Fifo + Drop> Sender<Q> {
+    // Stores a letter; its index as a body.
+    fn store<R: Wait>(&mut self, rt: &R, office: &Office<Q>, text: String) -> Result<Body, Refusal>
+        ensures seat { self.new.seat ≡ self.old.seat }
+        ensures stored { IfOk result (λ body. Stored office.now self.new body (string_bytes text)) }
+        ensures memory { result ≡ Err Refusal.Memory → self.new ≡ self.old }
+        ensures no_body { result ≡ Err Refusal.BadSize → HasNoBody office.now self.old self.new text }
+        ensures why { IfErr result StopsStore }
+    {
+        let Ok(pushed) = office.letters.push_shown(rt, text) else {
+            return Err(Refusal::Memory);
+        };
+        let index = pushed.index() as u64;
+        self.last = Some(pushed);
+        match Body::new(index) {
+            Some(body) => Ok(body),
+            None => Err(Refusal::BadSize),
+        }
+    }
+
+    /// Sends a letter, in so many turns at most, 1 or more. The office is the one that the sender was made with.
+    ///
+    /// Refusals, in this order: `Memory`, where the letter can't be stored; `BadSize`, where 2^48 letters or more were
+    /// stored; `NoNode`, `WornOut` and `Busy` of the queue. Nothing is then sent, and the text is given up. Takes memory
+    /// for the letter, and may wait for another thread that makes room for letters.
+    pub fn try_send<R: Wait>(
+        &mut self,
+        rt: &R,
+        office: &Office<Q>,
+        text: String,
+        turns: u32,
+    ) -> Result<(), Refusal>
+        requires office { IsSender Q.is_seat Q.permits Q.known office.now self.old }
+        requires turns { 1 ≤ turns }
+        ensures office { IsSender Q.is_seat Q.permits Q.known office.now self.new }
+        ensures sent { OnOk result (Sent Q.known office.now self.old self.new text) }
+        ensures refused { OnErr result (SentNothing Q.known self.old self.new) }
+        ensures memory { result ≡ Err Refusal.Memory → self.new ≡ self.old }
+        ensures no_body { result ≡ Err Refusal.BadSize → HasNoBody office.now self.old self.new text }
+        ensures why { IfErr result StopsSend }
+    {
+        let body = self.store(rt, office, text)?;
+        office.queue.try_push(&mut self.seat, body, turns)
+    }
+
+    /// Sends a letter, and tries again while others are in the way. The letter is stored once.
+    ///
+    /// Refusals as those of `try_send`, but never `Busy`. Takes memory for the letter, and waits.
+    pub fn send<R: Wait>(&mut self, rt: &R, office: &Office<Q>, text: String) -> Result<(), Refusal>
+        requires office { IsSender Q.is_seat Q.permits Q.known office.now self.old }
+        ensures office { IsSender Q.is_seat Q.permits Q.known office.now self.new }
+        ensures sent { OnOk result (Sent Q.known office.now self.old self.new text) }
+        ensures refused { OnErr result (SentNothing Q.known self.old self.new) }
+        ensures memory { result ≡ Err Refusal.Memory → self.new ≡ self.old }
+        ensures no_body { result ≡ Err Refusal.BadSize → HasNoBody office.now self.old self.new text }
+        ensures why { IfErr result StopsSend }
+        ensures never_busy { result ≢ Err Refusal.Busy }
+    {
+        let body = self.store(rt, office, text)?;
+        office.queue.push(rt, &mut self.seat, body)
+    }
+}
