@@ -1,3 +1,4 @@
 pub mod Order
 pub mod Taking
 pub mod Openings
+pub mod Delivering

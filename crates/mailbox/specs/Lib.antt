@@ -1,3 +1,5 @@
 pub mod Deliveries
+pub mod Refusals
 pub mod Offices
 pub mod Openings
+pub mod Posting

@@ -3,8 +3,6 @@ use Rattle.std.specs.Prelude.{◌≡◌, ◌≤◌, ◌^◌, ℕ, List, Bool, tr
 use Rattle.boxcar.specs.Table.{Shows, Where}
 use Rattle.history.specs.Limits.{body_bits}
 use Rattle.history.specs.declared.operations.Taken.{Taken}
-use Rattle.history.specs.declared.refusals.Refusal.{Refusal}
-use Rattle.history.specs.declared.refusals.Refusal.TheVariants.{NoNode, WornOut, Busy, Memory, BadSize, Lost}
 use Rattle.history.specs.Seats.{Permit, Known, MayPush, MayPop}
 use Rattle.history.specs.Answers.{Pushed, Popped, SeesMore, FoundEmpty}
 use Rattle.mailbox.specs.Deliveries.{OnlyPops}
@@ -70,28 +68,6 @@ pub record HasNoBody {Q S Z : Type 0} (o : Office Q S) (s s' : Sender Q S) (text
   pub index : ℕ
   pub large : 2 ^ body_bits ≤ index
   pub stored : Stored o s' index (string_bytes text)
-
--- a letter can't be stored: there is no memory for it, or no body
-abbrev pub StopsStore : Refusal → Type 0
-StopsStore Memory = Unit {0}
-StopsStore BadSize = Unit {0}
-StopsStore _ = ⊥
-
--- a send may be refused so: there was no memory or no body for the letter, or its push was refused
-abbrev pub StopsSend : Refusal → Type 0
-StopsSend NoNode = Unit {0}
-StopsSend (WornOut word) = Unit {0}
-StopsSend Busy = Unit {0}
-StopsSend Memory = Unit {0}
-StopsSend BadSize = Unit {0}
-StopsSend _ = ⊥
-
--- a take may be refused so: its pop was refused, or a letter is lost
-abbrev pub StopsTake : Refusal → Type 0
-StopsTake (WornOut word) = Unit {0}
-StopsTake Busy = Unit {0}
-StopsTake Lost = Unit {0}
-StopsTake _ = ⊥
 
 -- a letter was taken: one value was popped, which this sender pushed, and this is the text at its body
 pub record TookText {Q S : Type 0} (known : S → Known) (o : Office Q S) (r : Receiver Q S) (from : ℕ) (text : List ℕ) (r' : Receiver Q S) : Type 0 where

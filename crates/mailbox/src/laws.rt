@@ -6,5 +6,4 @@ ghost use Rattle.mailbox.specs.Deliveries.{OnlyPops, InOrder};
 /// Where one seat alone may pop, what it took of each sender is a prefix of what that sender sent, in order, each once.
 pub fn each_sender_is_taken_in_order()
     ensures { (ps : List Permit) (k : Known) → IsSound ps k → OnlyPops ps k.number → InOrder k }
-{
-}
+{}

@@ -1,11 +1,14 @@
 //! Letters between threads, over any queue.
 #![tactic(auto)]
 
+mod ending;
 pub mod laws;
 mod office;
+mod posting;
 mod receiver;
 mod sender;
 
 pub use office::Office;
+pub use posting::{Task, post};
 pub use receiver::{Letter, Receiver};
 pub use sender::Sender;

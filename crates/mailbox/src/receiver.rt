@@ -1,9 +1,10 @@
 //! The receiver of letters.
 ghost use Rattle.std.specs.Prelude.{◌≡◌, ◌≤◌, ◌≢◌, true, Err, IfErr, IfOk};
-ghost use Rattle.history.specs.declared.refusals.Refusal.TheVariants.{Busy, Lost};
+ghost use Rattle.history.specs.declared.refusals.Refusal.TheVariants.{Lost};
 ghost use Rattle.mailbox.specs.Deliveries.{InOrder};
 ghost use Rattle.mailbox.specs.Offices.{IsReceiver, receiver_knows, has_lost};
-ghost use Rattle.mailbox.specs.Offices.{TakeAnswers, TookNothing, Loses, StopsTake};
+ghost use Rattle.mailbox.specs.Offices.{TakeAnswers, TookNothing, Loses};
+ghost use Rattle.mailbox.specs.Refusals.{StopsTake, EndsTake};
 
 use crate::office::Office;
 use boxcar::Pushed;
@@ -83,8 +84,7 @@ impl<Q: Fifo + Drop> Receiver<Q> {
         ensures refused { IfErr result (λ why. why ≢ Lost → TookNothing Q.known self.old self.new) }
         ensures lost { result ≡ Err Lost → Loses Q.known self.old self.new }
         ensures stays_lost { has_lost self.old ≡ true → result ≡ Err Lost }
-        ensures why { IfErr result StopsTake }
-        ensures never_busy { result ≢ Err Busy }
+        ensures why { IfErr result EndsTake }
     {
         if self.lost {
             return Err(Refusal::Lost);

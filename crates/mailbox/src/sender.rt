@@ -1,7 +1,7 @@
 //! Senders of letters.
-ghost use Rattle.std.specs.Prelude.{◌≡◌, ◌≤◌, ◌≢◌, Err, OnOk, OnErr, IfOk, IfErr, string_bytes};
-ghost use Rattle.mailbox.specs.Offices.{IsSender, Stored, StopsStore};
-ghost use Rattle.mailbox.specs.Offices.{Sent, SentNothing, HasNoBody, StopsSend};
+ghost use Rattle.std.specs.Prelude.{◌≡◌, ◌≤◌, Err, OnOk, OnErr, IfOk, IfErr, string_bytes};
+ghost use Rattle.mailbox.specs.Refusals.{StopsStore, StopsSend, EndsSend};
+ghost use Rattle.mailbox.specs.Offices.{IsSender, Stored, Sent, SentNothing, HasNoBody};
 
 use crate::office::Office;
 use boxcar::Pushed;
@@ -70,8 +70,7 @@ impl<Q: Fifo + Drop> Sender<Q> {
         ensures refused { OnErr result (SentNothing Q.known self.old self.new) }
         ensures memory { result ≡ Err Refusal.Memory → self.new ≡ self.old }
         ensures no_body { result ≡ Err Refusal.BadSize → HasNoBody office.now self.old self.new text }
-        ensures why { IfErr result StopsSend }
-        ensures never_busy { result ≢ Err Refusal.Busy }
+        ensures why { IfErr result EndsSend }
     {
         let body = self.store(rt, office, text)?;
         office.queue.push(rt, &mut self.seat, body)

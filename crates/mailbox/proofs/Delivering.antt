@@ -1,0 +1,39 @@
+-- Letters that are taken one after another.
+use Rattle.std.proofs.Common.{◌≡◌, ◌∙◌, refl, sym, ap, ℕ, List, [], ◌∷◌, ◌++◌, map, append-nil, append_assoc, Some, None}
+use Rattle.std.proofs.lemmas.List.{map-append}
+use Rattle.std.proofs.lemmas.Grind.{flat_map-append}
+use Rattle.history.specs.declared.operations.Entry.TheVariants.{Pop}
+use Rattle.history.specs.declared.operations.Taken.{Taken}
+use Rattle.history.specs.Seats.{Known}
+use Rattle.mailbox.specs.declared.office.Office.{Office}
+use Rattle.mailbox.specs.declared.receiver.Receiver.{Receiver}
+use Rattle.mailbox.specs.declared.receiver.Letter.{Letter}
+use Rattle.mailbox.specs.Deliveries.{popped, popped_by}
+use Rattle.mailbox.specs.Offices.{TakeAnswers}
+use Rattle.mailbox.specs.Posting.{Delivered}
+
+module _ {Q S : Type 0} (known : S → Known) (r : Receiver Q S) where
+  -- no letters were taken by doing nothing
+  pub delivered_none : (letters : List Letter) → letters ≡ [] → Delivered known r letters r
+  delivered_none letters none = record { values = []; popped_them = sym (append-nil _); senders = ap (map (λ l. l.from)) none }
+
+  -- letters, and then none
+  pub delivered-then_none : (office : Office Q S) (letters : List Letter) (a b : Receiver Q S) → Delivered known r letters a → TakeAnswers known office a None b → Delivered known r letters b
+  delivered-then_none office letters a b h g =
+      record { values = h.values; popped_them = ap popped g.empty.mine ∙ h.popped_them; senders = h.senders }
+
+  -- letters, and then one more
+  pub delivered-then_letter : (office : Office Q S) (letters : List Letter) (letter : Letter) (a b : Receiver Q S) → Delivered known r letters a → TakeAnswers known office a (Some letter) b → Delivered known r (letters ++ letter ∷ []) b
+  delivered-then_letter office letters letter a b h g =
+      record {
+        values = h.values ++ g.value ∷ [];
+        popped_them =
+            ap popped g.popped.mine
+            ∙ flat_map-append popped_by (known a.seat).mine (Pop (known a.seat).number g.value ∷ [])
+            ∙ ap (λ vs. vs ++ g.value ∷ []) h.popped_them
+            ∙ append_assoc (popped (known r.seat).mine) h.values (g.value ∷ []);
+        senders =
+            map-append (λ l. l.from) letters (letter ∷ [])
+            ∙ (λ i. h.senders i ++ sym g.sender i ∷ [])
+            ∙ sym (map-append (λ v. v.from) h.values (g.value ∷ []));
+      }

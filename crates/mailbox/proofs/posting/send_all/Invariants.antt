@@ -1,0 +1,9 @@
+use Rattle.mailbox.specs.Offices.{IsSender}
+use Rattle.mailbox.proofs.posting.send_all.Given as goal
+
+abbrev pub invariant-loop-text : goal.invariant-loop-text
+invariant-loop-text g l = record {
+  can : (goal.iterator-loop-text g).can_next l.text-iterator;
+  finite : (goal.iterator-loop-text g).is_finite l.text-iterator;
+  office : IsSender g.Q.Fifo.is_seat g.Q.Fifo.permits g.Q.Fifo.known l.fn.office l.sender;
+}

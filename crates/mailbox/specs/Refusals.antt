@@ -1,0 +1,59 @@
+-- What calls may be refused.
+use Rattle.std.specs.Prelude.{Bool, true, false, IsTrue, Option, Some, None}
+use Rattle.history.specs.declared.refusals.Refusal.{Refusal}
+use Rattle.history.specs.declared.refusals.Refusal.TheVariants.{NoNode, WornOut, Busy, Memory, BadSize, Lost}
+
+-- a letter can't be stored: there is no memory for it, or no body
+abbrev pub StopsStore : Refusal → Type 0
+StopsStore Memory = Unit {0}
+StopsStore BadSize = Unit {0}
+StopsStore _ = ⊥
+
+-- a send may be refused so: there was no memory or no body for the letter, or its push was refused
+abbrev pub StopsSend : Refusal → Type 0
+StopsSend NoNode = Unit {0}
+StopsSend (WornOut word) = Unit {0}
+StopsSend Busy = Unit {0}
+StopsSend Memory = Unit {0}
+StopsSend BadSize = Unit {0}
+StopsSend _ = ⊥
+
+-- whether a send that waits may be refused so: there was no memory or no body for the letter, no node, or a word was worn out
+abbrev pub ends_send : Refusal → Bool
+ends_send NoNode = true
+ends_send (WornOut word) = true
+ends_send Memory = true
+ends_send BadSize = true
+ends_send _ = false
+
+-- a send that waits may be refused so
+abbrev pub EndsSend : Refusal → Type 0
+EndsSend why = IsTrue (ends_send why)
+
+-- whether a sender may end so: all was sent, or a send that waits was refused
+abbrev pub may_end : Option Refusal → Bool
+may_end None = true
+may_end (Some why) = ends_send why
+
+-- a take may be refused so: its pop was refused, or a letter is lost
+abbrev pub StopsTake : Refusal → Type 0
+StopsTake (WornOut word) = Unit {0}
+StopsTake Busy = Unit {0}
+StopsTake Lost = Unit {0}
+StopsTake _ = ⊥
+
+-- a take that waits may be refused so: a word was worn out, or a letter is lost
+abbrev pub EndsTake : Refusal → Type 0
+EndsTake (WornOut word) = Unit {0}
+EndsTake Lost = Unit {0}
+EndsTake _ = ⊥
+
+-- letters with a thread for each sender may be refused so: a send or a take was refused, there was no memory, or a letter
+-- is missing
+abbrev pub EndsPost : Refusal → Type 0
+EndsPost NoNode = Unit {0}
+EndsPost (WornOut word) = Unit {0}
+EndsPost Memory = Unit {0}
+EndsPost BadSize = Unit {0}
+EndsPost Lost = Unit {0}
+EndsPost _ = ⊥

@@ -1,0 +1,217 @@
+//! A thread for each sender, and the calling thread for the receiver.
+ghost use Rattle.std.specs.Prelude.{◌≡◌, ◌≤◌, [], length, vec_capacity, IfOk, IfErr, IfSome};
+ghost use Rattle.std.specs.List.{All};
+ghost use Rattle.mailbox.specs.Deliveries.{InOrder};
+ghost use Rattle.mailbox.specs.Offices.{IsSender, IsReceiver, receiver_knows};
+ghost use Rattle.mailbox.specs.Posting.{IsTask, Delivered, letters_of};
+ghost use Rattle.mailbox.specs.Refusals.{EndsTake, EndsPost};
+
+use crate::ending::Ended;
+use crate::office::Office;
+use crate::receiver::{Letter, Receiver};
+use crate::sender::Sender;
+use crossbeam_utils::Backoff;
+use history::{Fifo, Refusal};
+use std::alloc::Global;
+use std::sync::Wait;
+use std::sync::atomic::{AtomicUsize, Ordering};
+use std::thread;
+use std::thread::{JoinHandle, Scope, Threads};
+
+/// A sender, and the texts that it is to send, in order.
+#[derive(Drop)]
+pub struct Task<Q: Fifo + Drop> {
+    pub sender: Sender<Q>,
+    pub texts: Vec<String>,
+}
+
+// Sends the texts in order, up to the first refusal, and then counts the sender as ended.
+fn send_all<R: Wait, Q: Fifo + Drop>(
+    rt: &R,
+    office: &Office<Q>,
+    task: Task<Q>,
+    ended: &AtomicUsize,
+) -> Ended
+    requires { IsTask Q.is_seat Q.permits Q.known office.now task }
+{
+    let Task { mut sender, texts } = task;
+    let mut end = Ended::well();
+    for text in texts {
+        if let Err(why) = sender.send(rt, office, text) {
+            end = Ended::refused(why);
+            break;
+        }
+    }
+    ended.fetch_add(1, Ordering::SeqCst);
+    end
+}
+
+// Starts a sender's thread; none where no thread can be made, and the sender then counts as ended.
+fn start<'s, E, R: Threads + Wait + Sync, Q: Fifo + Sync + Drop>(
+    scope: &Scope<'s, E>,
+    rt: &'s R,
+    office: &'s Office<Q>,
+    task: Task<Q>,
+    ended: &'s AtomicUsize,
+) -> Option<JoinHandle<Ended>>
+    requires { IsTask Q.is_seat Q.permits Q.known office.now task }
+{
+    let started = scope.spawn(
+        move || -> Ended
+            requires { IsTask Q.is_seat Q.permits Q.known office.now task }
+        { send_all(rt, office, task, ended) },
+    );
+    match started {
+        Ok(handle) => Some(handle),
+        Err(_) => {
+            ended.fetch_add(1, Ordering::SeqCst);
+            None
+        }
+    }
+}
+
+// Takes letters until so many are there, or until all senders had ended before there was none.
+fn take_all<'a, R: Wait, Q: Fifo + Drop>(
+    rt: &R,
+    office: &'a Office<Q>,
+    receiver: &mut Receiver<Q>,
+    mut letters: Vec<Letter<'a>>,
+    due: usize,
+    senders: usize,
+    ended: &AtomicUsize,
+) -> Result<Vec<Letter<'a>>, Refusal>
+    requires office { IsReceiver Q.is_seat Q.permits Q.known office.now receiver.old }
+    requires none { letters.items ≡ [] }
+    requires room { due ≤ vec_capacity letters }
+    ensures office { IsReceiver Q.is_seat Q.permits Q.known office.now receiver.new }
+    ensures order { InOrder (receiver_knows Q.known receiver.new) }
+    ensures delivered { IfOk result (λ v. Delivered Q.known receiver.old v.items receiver.new) }
+    ensures most { IfOk result (λ v. length v.items ≤ due) }
+    ensures why { IfErr result EndsTake }
+{
+    let backoff = Backoff::new();
+    for _ in rt.forever() {
+        if letters.len() >= due {
+            return Ok(letters);
+        }
+        let all_ended = ended.load(Ordering::SeqCst) >= senders;
+        match receiver.take(rt, office)? {
+            Some(letter) => letters.push_reserved(letter),
+            None if all_ended => return Ok(letters),
+            None => backoff.snooze(),
+        }
+    }
+    unreachable!()
+}
+
+// Waits for the senders' threads; the refusal of the first sender that was refused.
+fn join_all<R: Threads + Wait>(rt: &R, threads: Vec<Option<JoinHandle<Ended>>>) -> Option<Refusal>
+    ensures { IfSome result EndsPost }
+{
+    let mut first = None;
+    for thread in threads {
+        let refusal = match thread {
+            Some(handle) => handle.join(rt).refusal(),
+            None => Some(Refusal::Memory),
+        };
+        if first.is_none() {
+            first = refusal;
+        }
+    }
+    first
+}
+
+// How many letters these are; none where it is no number of letters that memory could hold.
+fn count_letters<Q: Fifo + Drop>(tasks: &[Task<Q>]) -> Option<usize>
+    ensures { IfSome result (λ n. n ≡ letters_of tasks.now) }
+{
+    let mut count = 0usize;
+    for task in tasks {
+        count = count.checked_add(task.texts.len())?;
+    }
+    Some(count)
+}
+
+// Starts the senders' threads, takes the letters, and waits for the threads. All room is made before the first thread.
+fn run<'s, 'a: 's, E, R: Threads + Wait + Sync, Q: Fifo + Sync + Drop>(
+    scope: &Scope<'s, E>,
+    rt: &'s R,
+    alloc: Global,
+    office: &'a Office<Q>,
+    tasks: Vec<Task<Q>>,
+    receiver: &mut Receiver<Q>,
+    ended: &'s AtomicUsize,
+) -> Result<Vec<Letter<'a>>, Refusal>
+    requires tasks { All (IsTask Q.is_seat Q.permits Q.known office.now) tasks.items }
+    requires receiver { IsReceiver Q.is_seat Q.permits Q.known office.now receiver.old }
+    ensures receiver { IsReceiver Q.is_seat Q.permits Q.known office.now receiver.new }
+    ensures order { InOrder (receiver_knows Q.known receiver.new) }
+    ensures delivered { IfOk result (λ v. Delivered Q.known receiver.old v.items receiver.new) }
+    ensures all { IfOk result (λ v. length v.items ≡ letters_of tasks.items) }
+    ensures why { IfErr result EndsPost }
+{
+    let senders = tasks.len();
+    let Some(due) = count_letters(&tasks) else {
+        return Err(Refusal::Memory);
+    };
+    let mut letters = Vec::new(alloc);
+    let Ok(()) = letters.reserve(due) else {
+        return Err(Refusal::Memory);
+    };
+    let mut threads = Vec::new(alloc);
+    let Ok(()) = threads.reserve(senders) else {
+        return Err(Refusal::Memory);
+    };
+    for task in tasks {
+        threads.push_reserved(start(scope, rt, office, task, ended));
+    }
+    let taken = take_all(rt, office, receiver, letters, due, senders, ended);
+    let refused = join_all(rt, threads);
+    let letters = taken?;
+    if letters.len() < due {
+        return Err(refused.unwrap_or(Refusal::Lost));
+    }
+    Ok(letters)
+}
+
+/// Sends the letters of each task in a thread of its own, and takes them in the calling thread. The receiver comes back.
+///
+/// The letters come in the order in which they were taken. A sender ends at its first refusal. Refusals: `Memory`, before
+/// any thread, where there is no room for the letters and threads; then that of a take; else, where letters are missing,
+/// the refusal of the first task whose sender was refused (`Memory` where its thread could not be made); else `Lost`.
+/// Takes memory for the letters and the threads, and waits for all of them.
+pub fn post<'a, R: Threads + Wait + Sync, Q: Fifo + Sync + Drop>(
+    rt: &R,
+    alloc: Global,
+    office: &'a Office<Q>,
+    tasks: Vec<Task<Q>>,
+    receiver: Receiver<Q>,
+) -> (Receiver<Q>, Result<Vec<Letter<'a>>, Refusal>)
+    requires tasks { All (IsTask Q.is_seat Q.permits Q.known office.now) tasks.items }
+    requires receiver { IsReceiver Q.is_seat Q.permits Q.known office.now receiver }
+    ensures receiver { IsReceiver Q.is_seat Q.permits Q.known office.now result.0 }
+    ensures order { InOrder (receiver_knows Q.known result.0) }
+    ensures delivered { IfOk result.1 (λ v. Delivered Q.known receiver v.items result.0) }
+    ensures all { IfOk result.1 (λ v. length v.items ≡ letters_of tasks.items) }
+    ensures why { IfErr result.1 EndsPost }
+{
+    let counter = AtomicUsize::new(0);
+    let ended = &counter;
+    thread::scope(
+        thread::scope_env(),
+        rt,
+        |scope| -> (Receiver<Q>, Result<Vec<Letter>, Refusal>)
+            requires tasks { All (IsTask Q.is_seat Q.permits Q.known office.now) tasks.items }
+            requires receiver { IsReceiver Q.is_seat Q.permits Q.known office.now receiver }
+            ensures receiver { IsReceiver Q.is_seat Q.permits Q.known office.entry.now result.0 }
+            ensures order { InOrder (receiver_knows Q.known result.0) }
+            ensures delivered { IfOk result.1 (λ v. Delivered Q.known receiver v.items result.0) }
+            ensures all { IfOk result.1 (λ v. length v.items ≡ letters_of tasks.items) }
+            ensures why { IfErr result.1 EndsPost }
+        {
+            let mut receiver = receiver;
+            let letters = run(scope, rt, alloc, office, tasks, &mut receiver, ended);
+            (receiver, letters)
+        },
+    )
+}
