@@ -1,5 +1,5 @@
 -- What a receiver did in one call and then in another.
-use Rattle.std.proofs.Common.{◌≡◌, ◌∙◌, sym, ap, true, false, Option, Some, None}
+use Rattle.std.proofs.Common.{◌≡◌, ◌∙◌, sym, ap, subst, true, false, inl, inr, ◌⊎◌, Option, Some, None}
 use Rattle.std.proofs.lemmas.Bool.{true≢false}
 use Rattle.history.proofs.Learning.{sees_then, adds_then, empty_then}
 use Rattle.history.specs.declared.operations.Entry.TheVariants.{Pop}
@@ -15,9 +15,18 @@ use Rattle.mailbox.specs.Offices.{TakeAnswers, TookNothing, Loses}
 pub popped_then : (a b c : Known) (value : Taken) → SeesMore a b → Popped b value c → Popped a value c
 popped_then a b c value f g = adds_then a b c (Pop b.number value) (Pop a.number value) (ap (λ n. Pop n value) f.number) f g
 
+-- a receiver that made no call yet, or was refused without a loss
+abbrev pub Waited : {Q S : Type 0} → (S → Known) → (a b : Receiver Q S) → Type 0
+Waited known a b = (b ≡ a) ⊎ TookNothing known a b
+
+-- a receiver that waited has lost a letter where it had lost one before
+pub waited-lost : {Q S : Type 0} (known : S → Known) (a b : Receiver Q S) → Waited known a b → a.lost ≡ true → b.lost ≡ true
+waited-lost known a b (inl same) lost = ap (λ x. x.lost) same ∙ lost
+waited-lost known a b (inr h) lost = absurd (true≢false (sym lost ∙ h.was))
+
 module _ {Q S : Type 0} (known : S → Known) (a b c : Receiver Q S) (h : TookNothing known a b) where
   -- nothing, and then nothing
-  pub nothing-then_nothing : TookNothing known b c → TookNothing known a c
+  nothing-then_nothing : TookNothing known b c → TookNothing known a c
   nothing-then_nothing g = record {
     nothing = sees_then _ _ _ h.nothing g.nothing;
     last = g.last ∙ h.last;
@@ -26,15 +35,31 @@ module _ {Q S : Type 0} (known : S → Known) (a b c : Receiver Q S) (h : TookNo
   }
 
   -- nothing, and then an answer
-  pub nothing-then_answer : (office : Office Q S) (taken : Option Letter) → TakeAnswers known office b taken c → TakeAnswers known office a taken c
+  nothing-then_answer : (office : Office Q S) (taken : Option Letter) → TakeAnswers known office b taken c → TakeAnswers known office a taken c
   nothing-then_answer office None g = record { empty = empty_then _ _ _ h.nothing g.empty; last = g.last ∙ h.last; kept = g.kept }
   nothing-then_answer office (Some letter) g =
       record { value = g.value; popped = popped_then _ _ _ g.value h.nothing g.popped; sender = g.sender; read = g.read; kept = g.kept }
 
   -- nothing, and then a loss
-  pub nothing-then_loss : Loses known b c → Loses known a c
+  nothing-then_loss : Loses known b c → Loses known a c
   nothing-then_loss g = record {
     first = λ was. let first = g.first h.kept in (first.0, popped_then _ _ _ first.0 h.nothing first.1);
     later = λ lost. absurd (true≢false (sym lost ∙ h.was));
     lost = g.lost;
   }
+
+module _ {Q S : Type 0} (known : S → Known) (a b c : Receiver Q S) where
+  -- after waiting, an answer
+  pub waited-then_answer : Waited known a b → (office : Office Q S) (taken : Option Letter) → TakeAnswers known office b taken c → TakeAnswers known office a taken c
+  waited-then_answer (inl same) office taken g = subst (λ x. TakeAnswers known office x taken c) same g
+  waited-then_answer (inr h) office taken g = nothing-then_answer known a b c h office taken g
+
+  -- after waiting, nothing
+  pub waited-then_nothing : Waited known a b → TookNothing known b c → TookNothing known a c
+  waited-then_nothing (inl same) g = subst (λ x. TookNothing known x c) same g
+  waited-then_nothing (inr h) g = nothing-then_nothing known a b c h g
+
+  -- after waiting, a loss
+  pub waited-then_loss : Waited known a b → Loses known b c → Loses known a c
+  waited-then_loss (inl same) g = subst (λ x. Loses known x c) same g
+  waited-then_loss (inr h) g = nothing-then_loss known a b c h g

@@ -1,5 +1,5 @@
 //! How a sender's thread ended.
-ghost use Rattle.std.specs.Prelude.{◌≡◌, true, IfSome};
+ghost use Rattle.std.specs.Prelude.{◌≡◌, true, Some, None, IfSome};
 ghost use Rattle.mailbox.specs.Refusals.{EndsSend, may_end};
 
 use history::Refusal;
@@ -13,20 +13,24 @@ pub(crate) struct Ended {
 
 impl Ended {
     /// Its texts were all sent.
-    pub(crate) fn well() -> Ended {
+    pub(crate) fn well() -> Ended
+        ensures { result.refusal ≡ None }
+    {
         Ended { refusal: None }
     }
 
     /// A waiting send was refused.
     pub(crate) fn refused(why: Refusal) -> Ended
         requires { EndsSend why }
+        ensures { result.refusal ≡ Some why }
     {
         Ended { refusal: Some(why) }
     }
 
     /// Its refusal, where it was refused.
     pub(crate) fn refusal(self) -> Option<Refusal>
-        ensures { IfSome result EndsSend }
+        ensures same { result ≡ self.refusal }
+        ensures why { IfSome result EndsSend }
     {
         self.refusal
     }

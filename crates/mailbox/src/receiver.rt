@@ -86,9 +86,6 @@ impl<Q: Fifo + Drop> Receiver<Q> {
         ensures stays_lost { has_lost self.old ≡ true → result ≡ Err Lost }
         ensures why { IfErr result EndsTake }
     {
-        if self.lost {
-            return Err(Refusal::Lost);
-        }
         let backoff = Backoff::new();
         for _ in rt.forever() {
             match self.try_take(office, TURNS) {

@@ -1,15 +1,27 @@
-use Rattle.mailbox.proofs.Order.{in_order}
-use Rattle.mailbox.proofs.Taking.{nothing-then_answer, nothing-then_nothing, nothing-then_loss}
+use Rattle.std.proofs.Common.{sym, subst, ◌∙◌, inr}
+use Rattle.mailbox.specs.Refusals.{EndsTake}
+use Rattle.mailbox.proofs.Taking.{waited-then_answer, waited-then_nothing, waited-then_loss, waited-lost}
 use Rattle.mailbox.proofs.receiver.Receiver.take.Goals as goal
 
-pub returns-then-self-clause-order : goal.returns-then-self-clause-order
-returns-then-self-clause-order g c = in_order _ _ (g.met.Q.Fifo.sound _ _ c.requires.office.seat) c.requires.office.only
-
 pub returns-in-Ok-clause-answer : goal.returns-in-Ok-clause-answer
-returns-in-Ok-clause-answer g c = nothing-then_answer _ _ _ _ c.loop.invariant.nothing _ c.in-Ok.letter c.in-Ok.ensures.answer
+returns-in-Ok-clause-answer g c = waited-then_answer _ _ _ _ c.loop.invariant.waited _ c.in-Ok.letter c.in-Ok.ensures.answer
+
+pub returns-in-Ok-clause-stays_lost : goal.returns-in-Ok-clause-stays_lost
+returns-in-Ok-clause-stays_lost g c lost = c.in-Ok.ensures.stays_lost (waited-lost g.Q.Fifo.known _ _ c.loop.invariant.waited lost)
 
 pub returns-in-Err-clause-refused : goal.returns-in-Err-clause-refused
-returns-in-Err-clause-refused g c other = nothing-then_nothing _ _ _ _ c.loop.invariant.nothing (c.in-Err.ensures.refused other)
+returns-in-Err-clause-refused g c other = waited-then_nothing _ _ _ _ c.loop.invariant.waited (c.in-Err.ensures.refused other)
 
 pub returns-in-Err-clause-lost : goal.returns-in-Err-clause-lost
-returns-in-Err-clause-lost g c same = nothing-then_loss _ _ _ _ c.loop.invariant.nothing (c.in-Err.ensures.lost same)
+returns-in-Err-clause-lost g c same = waited-then_loss _ _ _ _ c.loop.invariant.waited (c.in-Err.ensures.lost same)
+
+pub returns-in-Err-clause-stays_lost : goal.returns-in-Err-clause-stays_lost
+returns-in-Err-clause-stays_lost g c lost = c.in-Err.ensures.stays_lost (waited-lost g.Q.Fifo.known _ _ c.loop.invariant.waited lost)
+
+pub loop-preserved : goal.loop-preserved
+loop-preserved g c = record {
+  can = tt;
+  finite = tt;
+  office = c.try_take.ensures.office;
+  waited = inr (waited-then_nothing _ _ _ _ c.loop.invariant.waited (c.in-Err-Busy.ensures.refused (λ same. subst EndsTake (sym same ∙ c.in-Err-Busy.field-0-is) tt)));
+}
