@@ -1,5 +1,5 @@
 //! The two-lock queue of the crate `two_lock`, written plainly: the same words, lines, turns and limit tests, and no proof.
-//! Beside it a `VecDeque` behind one lock.
+//! Beside it a `VecDeque` behind one lock. The bench of the non-blocking queue takes the parts of both from here.
 //!
 //! `plain QUEUE WORK COUNT` prints how many nanoseconds WORK took on `two-lock` or `mutex`, each thread COUNT times:
 //! `one` (one thread pushes and pops), `four` (four threads do), `pair` (one thread pushes and one pops), `two` (two push
@@ -10,75 +10,81 @@ use std::sync::atomic::{AtomicU64, Ordering::SeqCst};
 use std::thread;
 use std::time::Instant;
 
-const SPAN: u64 = 1 << 24;
+pub const SPAN: u64 = 1 << 24;
 const NODES: u64 = 65;
-const LIMIT: u64 = (1 << 40) - 1;
-const TURNS: u32 = 8;
+pub const LIMIT: u64 = (1 << 40) - 1;
+pub const TURNS: u32 = 8;
 
 const FRESH: usize = 0;
 const FREE: usize = 1;
-const HEAD: usize = 2;
-const TAIL: usize = 3;
+pub const HEAD: usize = 2;
+pub const TAIL: usize = 3;
 const TAIL_LOCK: usize = 4;
 const HEAD_LOCK: usize = 5;
 
 #[derive(Clone, Copy)]
-struct Held {
-    node: u64,
-    mark: u64,
+pub struct Held {
+    pub node: u64,
+    pub mark: u64,
 }
 
-enum Refusal {
+pub enum Refusal {
     NoNode,
     WornOut,
     Busy,
 }
 
-struct Seat {
-    number: u64,
-    pocket: Option<Held>,
-    failed: u32,
+pub struct Seat {
+    pub number: u64,
+    pub pocket: Option<Held>,
+    pub failed: u32,
 }
 
-trait Queue: Sync {
+pub trait Queue: Sync {
     fn try_push(&self, seat: &mut Seat, body: u64) -> Result<(), Refusal>;
     fn try_pop(&self, seat: &mut Seat) -> Result<Option<(u64, u64)>, Refusal>;
 }
 
-struct TwoLock {
+/// The shared words of a queue.
+pub struct Arena {
     words: Vec<AtomicU64>,
 }
 
-fn next_of(node: u64) -> usize {
+pub fn next_of(node: u64) -> usize {
     (4 + 2 * node) as usize
 }
 
-fn value_of(node: u64) -> usize {
+pub fn value_of(node: u64) -> usize {
     (5 + 2 * node) as usize
 }
 
-impl TwoLock {
-    fn new() -> TwoLock {
+impl Arena {
+    pub fn new() -> Arena {
         let words: Vec<AtomicU64> = (0..6 + 2 * NODES).map(|_| AtomicU64::new(0)).collect();
         for word in [FRESH, HEAD, TAIL] {
             words[word].store(1, SeqCst);
         }
-        TwoLock { words }
+        Arena { words }
     }
 
-    fn load(&self, word: usize) -> u64 {
+    pub fn load(&self, word: usize) -> u64 {
         self.words[word].load(SeqCst)
     }
 
-    fn store(&self, word: usize, value: u64) {
+    pub fn store(&self, word: usize, value: u64) {
         self.words[word].store(value, SeqCst);
     }
 
-    fn exchange(&self, word: usize, old: u64, new: u64) -> bool {
+    pub fn exchange(&self, word: usize, old: u64, new: u64) -> bool {
         self.words[word].compare_exchange(old, new, SeqCst, SeqCst).is_ok()
     }
 
-    fn take(&self, seat: &mut Seat, turns: u32) -> Result<Held, Refusal> {
+    /// Leaves the count alone; the word found is the answer.
+    pub fn clear_node(&self, word: usize) -> u64 {
+        self.words[word].fetch_and(!(SPAN - 1), SeqCst)
+    }
+
+    pub fn take(&self, seat: &mut Seat, turns: u32) -> Result<Held, Refusal> {
         for index in 0..turns {
             let fresh = self.load(FRESH);
             let top = self.load(FREE);
@@ -107,7 +113,7 @@ impl TwoLock {
         Err(Refusal::Busy)
     }
 
-    fn give_back(&self, seat: &mut Seat, held: Held, turns: u32) -> Result<(), Refusal> {
+    pub fn give_back(&self, seat: &mut Seat, held: Held, turns: u32) -> Result<(), Refusal> {
         for index in 0..turns {
             let top = self.load(FREE);
             let won = top / SPAN == LIMIT || {
@@ -123,16 +129,22 @@ impl TwoLock {
         seat.failed = turns;
         Err(Refusal::Busy)
     }
+}
 
+struct TwoLock {
+    arena: Arena,
+}
+
+impl TwoLock {
     fn put(&self, seat: &mut Seat, held: Held, body: u64, spent: u32) -> Result<(), Refusal> {
-        self.store(value_of(held.node), (seat.number << 48) + body);
-        self.words[next_of(held.node)].fetch_and(!(SPAN - 1), SeqCst);
+        self.arena.store(value_of(held.node), (seat.number << 48) + body);
+        self.arena.clear_node(next_of(held.node));
         for index in spent..TURNS {
-            if self.exchange(TAIL_LOCK, 0, seat.number) {
-                let tail = self.load(TAIL);
-                self.store(next_of(tail % SPAN), held.node);
-                self.store(TAIL, held.node);
-                self.store(TAIL_LOCK, 0);
+            if self.arena.exchange(TAIL_LOCK, 0, seat.number) {
+                let tail = self.arena.load(TAIL);
+                self.arena.store(next_of(tail % SPAN), held.node);
+                self.arena.store(TAIL, held.node);
+                self.arena.store(TAIL_LOCK, 0);
                 seat.pocket = None;
                 seat.failed = index;
                 return Ok(());
@@ -145,25 +157,25 @@ impl TwoLock {
 
     fn draw(&self, seat: &mut Seat, spent: u32) -> Result<Option<(u64, u64)>, Refusal> {
         for index in spent..TURNS {
-            if !self.exchange(HEAD_LOCK, 0, seat.number) {
+            if !self.arena.exchange(HEAD_LOCK, 0, seat.number) {
                 continue;
             }
-            let head = self.load(HEAD);
-            let next = self.load(next_of(head % SPAN));
+            let head = self.arena.load(HEAD);
+            let next = self.arena.load(next_of(head % SPAN));
             if next % SPAN == 0 {
-                self.store(HEAD_LOCK, 0);
+                self.arena.store(HEAD_LOCK, 0);
                 return Ok(None);
             }
-            let value = self.load(value_of(next % SPAN));
+            let value = self.arena.load(value_of(next % SPAN));
             if head / SPAN == LIMIT {
-                self.store(HEAD_LOCK, 0);
+                self.arena.store(HEAD_LOCK, 0);
                 return Err(Refusal::WornOut);
             }
-            self.store(HEAD, (head / SPAN + 1) * SPAN + next % SPAN);
-            self.store(HEAD_LOCK, 0);
+            self.arena.store(HEAD, (head / SPAN + 1) * SPAN + next % SPAN);
+            self.arena.store(HEAD_LOCK, 0);
             let held = Held { node: head % SPAN, mark: next / SPAN };
             seat.pocket = Some(held);
-            let _ = self.give_back(seat, held, TURNS - index);
+            let _ = self.arena.give_back(seat, held, TURNS - index);
             return Ok(Some((value >> 48, value & ((1 << 48) - 1))));
         }
         seat.failed = TURNS;
@@ -177,7 +189,7 @@ impl Queue for TwoLock {
         if let Some(held) = seat.pocket {
             return self.put(seat, held, body, 0);
         }
-        let held = self.take(seat, TURNS)?;
+        let held = self.arena.take(seat, TURNS)?;
         let spent = seat.failed;
         self.put(seat, held, body, spent)
     }
@@ -187,14 +199,20 @@ impl Queue for TwoLock {
         let Some(held) = seat.pocket else {
             return self.draw(seat, 0);
         };
-        self.give_back(seat, held, TURNS)?;
+        self.arena.give_back(seat, held, TURNS)?;
         let spent = seat.failed;
         self.draw(seat, spent)
     }
 }
 
-struct Locked {
+pub struct Locked {
     values: Mutex<VecDeque<(u64, u64)>>,
+}
+
+impl Locked {
+    pub fn new() -> Locked {
+        Locked { values: Mutex::new(VecDeque::with_capacity(NODES as usize)) }
+    }
 }
 
 impl Queue for Locked {
@@ -214,14 +232,35 @@ impl Queue for Locked {
     }
 }
 
-// As crossbeam's Backoff: spins longer each time, and then yields.
-#[derive(Default)]
-struct Backoff {
+/// How a call waits before it tries again.
+#[derive(Clone, Copy, PartialEq)]
+pub enum Waiting {
+    /// With a backoff of its own.
+    Anew,
+    /// With the backoff of the thread's call before.
+    Kept,
+    /// Not at all.
+    Never,
+}
+
+/// As crossbeam's Backoff: spins longer each time, and then yields.
+pub struct Backoff {
     step: u32,
+    waiting: Waiting,
 }
 
 impl Backoff {
+    /// For a call that begins.
+    fn begins(&mut self) {
+        if self.waiting == Waiting::Anew {
+            self.step = 0;
+        }
+    }
+
     fn snooze(&mut self) {
+        if self.waiting == Waiting::Never {
+            return;
+        }
         if self.step <= 6 {
             for _ in 0..1 << self.step {
                 std::hint::spin_loop();
@@ -235,8 +274,8 @@ impl Backoff {
     }
 }
 
-fn push<Q: Queue>(queue: &Q, seat: &mut Seat) {
-    let mut backoff = Backoff::default();
+fn push<Q: Queue>(queue: &Q, seat: &mut Seat, backoff: &mut Backoff) {
+    backoff.begins();
     loop {
         match queue.try_push(seat, 1) {
             Ok(()) | Err(Refusal::WornOut) => return,
@@ -245,8 +284,8 @@ fn push<Q: Queue>(queue: &Q, seat: &mut Seat) {
     }
 }
 
-fn pop<Q: Queue>(queue: &Q, seat: &mut Seat) {
-    let mut backoff = Backoff::default();
+fn pop<Q: Queue>(queue: &Q, seat: &mut Seat, backoff: &mut Backoff) {
+    backoff.begins();
     loop {
         match queue.try_pop(seat) {
             Ok(Some(_)) | Err(Refusal::WornOut | Refusal::NoNode) => return,
@@ -256,38 +295,50 @@ fn pop<Q: Queue>(queue: &Q, seat: &mut Seat) {
 }
 
 #[derive(Clone, Copy)]
-enum Work {
+pub enum Work {
     Pairs,
     Pushes,
     Pops,
 }
 
-fn toil<Q: Queue>(queue: &Q, number: u64, work: Work, count: u64) {
+fn toil<Q: Queue>(queue: &Q, number: u64, waiting: Waiting, work: Work, count: u64) {
     let mut seat = Seat { number, pocket: None, failed: 0 };
+    let mut backoff = Backoff { step: 0, waiting };
     for _ in 0..count {
         match work {
             Work::Pairs => {
-                push(queue, &mut seat);
-                pop(queue, &mut seat);
+                push(queue, &mut seat, &mut backoff);
+                pop(queue, &mut seat, &mut backoff);
             }
-            Work::Pushes => push(queue, &mut seat),
-            Work::Pops => pop(queue, &mut seat),
+            Work::Pushes => push(queue, &mut seat, &mut backoff),
+            Work::Pops => pop(queue, &mut seat, &mut backoff),
         }
     }
 }
 
-fn measure<Q: Queue>(queue: &Q, works: &[Work], count: u64) {
+/// Prints how many nanoseconds the works took, each so many times.
+pub fn measure<Q: Queue>(queue: &Q, waiting: Waiting, works: &[Work], count: u64) {
     let start = Instant::now();
     if let [work] = works {
-        toil(queue, 1, *work, count);
+        toil(queue, 1, waiting, *work, count);
     } else {
         thread::scope(|scope| {
             for (number, work) in (1..).zip(works) {
-                scope.spawn(move || toil(queue, number, *work, count));
+                scope.spawn(move || toil(queue, number, waiting, *work, count));
             }
         });
     }
     println!("{}", start.elapsed().as_nanos());
+}
+
+/// What the threads do, by its name.
+pub fn works_of(name: &str) -> &'static [Work] {
+    match name {
+        "one" => &[Work::Pairs],
+        "four" => &[Work::Pairs; 4],
+        "pair" => &[Work::Pushes, Work::Pops],
+        _ => &[Work::Pushes, Work::Pushes, Work::Pops, Work::Pops],
+    }
 }
 
 fn main() {
@@ -297,15 +348,11 @@ fn main() {
         return;
     };
     let count: u64 = count.parse().expect("a count");
-    let works: &[Work] = match work.as_str() {
-        "one" => &[Work::Pairs],
-        "four" => &[Work::Pairs; 4],
-        "pair" => &[Work::Pushes, Work::Pops],
-        _ => &[Work::Pushes, Work::Pushes, Work::Pops, Work::Pops],
-    };
+    let works = works_of(work);
+    let waiting = Waiting::Anew;
     if queue == "mutex" {
-        measure(&Locked { values: Mutex::new(VecDeque::with_capacity(NODES as usize)) }, works, count);
+        measure(&Locked::new(), waiting, works, count);
     } else {
-        measure(&TwoLock::new(), works, count);
+        measure(&TwoLock { arena: Arena::new() }, waiting, works, count);
     }
 }
