@@ -180,7 +180,17 @@ few_of (Ok v) d = let n = d.few in omega arith
 few_of (Err why) d = tt
 
 -- a pop after a give back
-pub after_give : (r : Arena) (s u x : Seat) (spent turns : ℕ) (out : Result (Option Taken) Refusal) → KeepsName s u → HadNoEffect s u → spent ≡ failed_turns (added s u) → Draws r u x spent turns out → AnswersPop r s x turns out
+after_give : (r : Arena) (s u x : Seat) (spent turns : ℕ) (out : Result (Option Taken) Refusal) → KeepsName s u → HadNoEffect s u → spent ≡ failed_turns (added s u) → Draws r u x spent turns out → AnswersPop r s x turns out
 after_give r s u x spent turns out name w f d =
     let all : Draws r s x 0 turns out = draws_late r s u x (added s u) w 0 spent turns (omega (arith, f)) out name d in
     record { ready = all.ready; same = all.same; answer = all.answer; few = few_of out all; refused = all.refused }
+
+-- the pop of a seat whose pocket was empty
+pub drawn_at_once : (r : Arena) (s v x : Seat) (n turns : ℕ) (out : Result (Option Taken) Refusal) → v ≡ s → n ≡ 0 → Draws r v x n turns out → AnswersPop r s x turns out
+drawn_at_once r s v x n turns out e f d =
+    let all : Draws r s x 0 turns out = subst (λ u. Draws r u x 0 turns out) e (subst (λ m. Draws r v x m turns out) f d) in
+    record { ready = all.ready; same = all.same; answer = all.answer; few = few_of out all; refused = all.refused }
+
+-- the pop of a seat that first gave its node back
+pub drawn_after_give : (r : Arena) (s u v x : Seat) (spent n turns : ℕ) (out : Result (Option Taken) Refusal) → v ≡ u → n ≡ spent → KeepsName s u → HadNoEffect s u → spent ≡ failed_turns (added s u) → Draws r v x n turns out → AnswersPop r s x turns out
+drawn_after_give r s u v x spent n turns out e f name w g d = after_give r s u x spent turns out name w g (subst (λ y. Draws r y x spent turns out) e (subst (λ m. Draws r v x m turns out) f d))

@@ -126,9 +126,12 @@ pub(crate) fn try_pop(arena: &Arena, seat: &mut Seat, turns: u32) -> Result<Opti
     requires turns { 1 ≤ turns }
     ensures { AnswersPop arena.now seat.old seat.new turns result }
 {
-    if seat.pocket().is_none() {
-        return draw(arena, seat, 0, turns);
-    }
-    give_back(arena, seat, turns)?;
-    draw(arena, seat, seat.failed(), turns)
+    let spent = match seat.pocket() {
+        None => 0,
+        Some(_) => {
+            give_back(arena, seat, turns)?;
+            seat.failed()
+        }
+    };
+    draw(arena, seat, spent, turns)
 }

@@ -160,9 +160,9 @@ pub(crate) fn try_push(
     requires turns { 1 ≤ turns }
     ensures { AnswersPush arena.now seat.old seat.new body turns result }
 {
-    if let Some(held) = seat.pocket() {
-        return put(arena, seat, held, body, 0, turns);
-    }
-    let held = take(arena, seat, turns)?;
-    put(arena, seat, held, body, seat.failed(), turns)
+    let (held, spent) = match seat.pocket() {
+        Some(held) => (held, 0),
+        None => (take(arena, seat, turns)?, seat.failed()),
+    };
+    put(arena, seat, held, body, spent, turns)
 }

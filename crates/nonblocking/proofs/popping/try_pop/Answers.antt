@@ -1,6 +1,12 @@
 use Rattle.std.proofs.Common.{◌∙◌}
-use Rattle.nonblocking.proofs.Pops.{after_give}
+use Rattle.nonblocking.proofs.Pops.{drawn_at_once, drawn_after_give}
+use Rattle.nonblocking.proofs.popping.try_pop.Goals.{in-None, in-Some+in_ok-give_back-in-Some}
 use Rattle.nonblocking.proofs.popping.try_pop.Goals as goal
 
 pub returns : goal.returns
-returns c = after_give c.args.arena.now c.args.seat.now c.give_back.new.seat c.draw-2.new.seat c.failed.result c.args.turns c.draw-2.result c.give_back.ensures.same c.give_back.ensures.lines (c.failed.ensures ∙ c.give_back.ensures.failed) c.draw-2.ensures
+returns c =
+    elim c.match-pocket.branch [
+      in-None w ↦ drawn_at_once c.args.arena.now c.args.seat.now _ c.draw.new.seat _ c.args.turns c.draw.result w.seat-is w.spent-is c.draw.ensures
+    | in-Some+in_ok-give_back-in-Some w ↦
+      drawn_after_give c.args.arena.now c.args.seat.now w.give_back.new.seat _ c.draw.new.seat w.failed-spent.result _ c.args.turns c.draw.result w.seat-is w.spent-is w.give_back.ensures.same w.give_back.ensures.lines (w.failed-spent.ensures ∙ w.give_back.ensures.failed) c.draw.ensures
+    ]
