@@ -1,6 +1,9 @@
 -- Seats of workers and of the submitter.
-use Rattle.std.specs.Prelude.{List}
+use Rattle.std.specs.Prelude.{◌≡◌, ◌<◌, ◌⊎◌, List, length}
+use Rattle.history.specs.declared.refusals.Refusal.{Refusal}
+use Rattle.history.specs.declared.refusals.Refusal.TheVariants.{BadSize, Lost, Memory}
 use Rattle.history.specs.Seats.{Permit, Known, MayPush, MayPop}
+use Rattle.job_results.specs.declared.jobs.Job.{Job}
 
 -- a seat is the queue's, in no call, and may pop
 abbrev pub IsTaker : {Q S : Type 0} → (Q → S → Type 0) → (Q → List Permit) → (S → Known) → Q → S → Type 0
@@ -9,3 +12,18 @@ IsTaker is_seat permits known queue seat = is_seat queue seat × MayPop (permits
 -- a seat is the queue's, in no call, and may push
 abbrev pub IsGiver : {Q S : Type 0} → (Q → S → Type 0) → (Q → List Permit) → (S → Known) → Q → S → Type 0
 IsGiver is_seat permits known queue seat = is_seat queue seat × MayPush (permits queue) (known seat).number
+
+-- there is no taker, or there are more than 1,000,000 jobs
+abbrev pub IsBadSize : {S : Type 0} → (takers : List S) → List Job → Type 0
+IsBadSize takers jobs = (length takers ≡ 0) ⊎ (1000000 < length jobs)
+
+-- workers that were started may end so: a job has no result, or memory was refused
+abbrev pub StopsWorkers : Refusal → Type 0
+StopsWorkers Lost = Unit {0}
+StopsWorkers Memory = Unit {0}
+StopsWorkers _ = ⊥
+
+-- a list of jobs may be refused so: a size is out of its range, a job has no result, or memory was refused
+abbrev pub StopsDispatch : Refusal → Type 0
+StopsDispatch BadSize = Unit {0}
+StopsDispatch why = StopsWorkers why

@@ -1,10 +1,9 @@
 //! A thread for each worker.
 ghost use Rattle.std.specs.Prelude.{◌≡◌, ◌<◌, ◌⊎◌, ◌↔◌, true, map, length, IfOk, IfErr, Err};
-ghost use Rattle.std.specs.Cmp.Lexicographic.{pointwise};
 ghost use Rattle.std.specs.List.{All};
-ghost use Rattle.job_results.specs.Jobs.{same_job, job_rows};
-ghost use Rattle.job_results.specs.Results.{row_of, job_in};
-ghost use Rattle.dispatcher.specs.Workers.{IsTaker, IsGiver};
+ghost use Rattle.job_results.specs.Jobs.{job_rows};
+ghost use Rattle.job_results.specs.Results.{row_of, HaveJobs};
+ghost use Rattle.dispatcher.specs.Workers.{IsTaker, IsGiver, IsBadSize, StopsDispatch, StopsWorkers};
 
 use crate::gate::Gate;
 use crate::running::{Signals, work};
@@ -35,8 +34,8 @@ fn run<'s, 'a: 's, E, R: Threads + Wait + Sync, Q: Fifo + Sync, G: Gate + Sync>(
     requires giver { IsGiver Q.is_seat Q.permits Q.known queue.now giver }
     requires takers { All (IsTaker Q.is_seat Q.permits Q.known queue.now) takers.items }
     ensures rows { IfOk result (λ results. map row_of results.items ≡ job_rows 1 jobs.now) }
-    ensures same { IfOk result (λ results. pointwise same_job (map job_in results.items) jobs.now ≡ true) }
-    ensures why { IfErr result (λ why. (why ≡ Refusal.Lost) ⊎ (why ≡ Refusal.Memory)) }
+    ensures same { IfOk result (λ results. HaveJobs results.items jobs.now) }
+    ensures why { IfErr result StopsWorkers }
 {
     let mut gather = Gather::new(alloc, jobs)?;
     let workers = takers.len();
@@ -85,9 +84,9 @@ pub fn dispatch<'a, R: Threads + Wait + Sync, Q: Fifo + Sync, G: Gate + Sync>(
     requires giver { IsGiver Q.is_seat Q.permits Q.known queue.now giver }
     requires takers { All (IsTaker Q.is_seat Q.permits Q.known queue.now) takers.items }
     ensures rows { IfOk result (λ results. map row_of results.items ≡ job_rows 1 jobs.now) }
-    ensures same { IfOk result (λ results. pointwise same_job (map job_in results.items) jobs.now ≡ true) }
-    ensures sized { (result ≡ Err Refusal.BadSize) ↔ ((length takers.items ≡ 0) ⊎ (MOST_JOBS < length jobs.now)) }
-    ensures why { IfErr result (λ why. (why ≡ Refusal.BadSize) ⊎ ((why ≡ Refusal.Lost) ⊎ (why ≡ Refusal.Memory))) }
+    ensures same { IfOk result (λ results. HaveJobs results.items jobs.now) }
+    ensures sized { (result ≡ Err Refusal.BadSize) ↔ IsBadSize takers.items jobs.now }
+    ensures why { IfErr result StopsDispatch }
 {
     if takers.is_empty() || jobs.len() > MOST_JOBS {
         return Err(Refusal::BadSize);
@@ -100,9 +99,10 @@ pub fn dispatch<'a, R: Threads + Wait + Sync, Q: Fifo + Sync, G: Gate + Sync>(
         |scope| -> Result<Vec<JobResult>, Refusal>
             requires giver { IsGiver Q.is_seat Q.permits Q.known queue.now giver }
             requires takers { All (IsTaker Q.is_seat Q.permits Q.known queue.now) takers.items }
-            ensures rows { IfOk result (λ results. map row_of results.items ≡ job_rows 1 jobs.entry.now) }
-            ensures same { IfOk result (λ results. pointwise same_job (map job_in results.items) jobs.entry.now ≡ true) }
-            ensures why { IfErr result (λ why. (why ≡ Refusal.Lost) ⊎ (why ≡ Refusal.Memory)) }
+            ensures rows { IfOk result (λ results.
+                map row_of results.items ≡ job_rows 1 jobs.entry.now) }
+            ensures same { IfOk result (λ results. HaveJobs results.items jobs.entry.now) }
+            ensures why { IfErr result StopsWorkers }
         { run(scope, rt, alloc, queue, giver, takers, jobs, gate, told) },
     )
 }

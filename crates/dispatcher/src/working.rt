@@ -37,7 +37,8 @@ pub fn work_one<'a, Q: Fifo, G: Gate>(
     requires turns { 1 ≤ turns }
     ensures seat { Q.is_seat queue.now seat.new }
     ensures number { (Q.known seat.new).number ≡ (Q.known seat.old).number }
-    ensures worked { IfOk result (Works jobs.now (Q.known seat.old) (Q.known seat.new) out.old.items out.new.items) }
+    ensures worked { IfOk result
+        (Works jobs.now (Q.known seat.old) (Q.known seat.new) out.old.items out.new.items) }
     ensures why { IfErr result (WorksNot jobs.now (Q.known seat.old) (Q.known seat.new)) }
     ensures refused { OnErr result (out.new.items ≡ out.old.items) }
 {

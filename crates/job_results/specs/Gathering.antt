@@ -32,16 +32,16 @@ abbrev pub IsThere : List (Option JobResult) → JobResult → Type 0
 IsThere found r = IsSomeAnd (slice_get found (number_in r - 1)) (λ o. IsSome o)
 
 -- a result of a listed job that had none was added, and nothing else changed
-pub record Adds (jobs : List Job) (found : List (Option JobResult)) (r : JobResult) (found' : List (Option JobResult)) : Type 0 where
+pub record AddsResult (jobs : List Job) (found : List (Option JobResult)) (r : JobResult) (found' : List (Option JobResult)) : Type 0 where
   pub listed : IsListed jobs r
   pub missing : slice_get found (number_in r - 1) ≡ Some None
   pub put : found' ≡ slice_set found (number_in r - 1) (Some r)
 
 -- why a result is not added: its job isn't in the list under its number, or else that job has a result
-abbrev pub IsNotAdded : List Job → List (Option JobResult) → JobResult → Refusal → Type 0
-IsNotAdded jobs found r Stranger = ¬ (IsListed jobs r)
-IsNotAdded jobs found r Double = IsListed jobs r × IsThere found r
-IsNotAdded jobs found r _ = ⊥
+abbrev pub RefusesResult : List Job → List (Option JobResult) → JobResult → Refusal → Type 0
+RefusesResult jobs found r Stranger = ¬ (IsListed jobs r)
+RefusesResult jobs found r Double = IsListed jobs r × IsThere found r
+RefusesResult jobs found r _ = ⊥
 
 -- a job has no result
 abbrev pub MissesOne : List (Option JobResult) → Type 0

@@ -1,9 +1,10 @@
 -- The result of a job.
-use Rattle.std.specs.Prelude.{ℕ}
+use Rattle.std.specs.Prelude.{ℕ, IsTrue, List, map}
+use Rattle.std.specs.Cmp.Lexicographic.{pointwise}
 use Rattle.job_results.specs.declared.jobs.Job.{Job}
 use Rattle.job_results.specs.declared.jobs.Value.{Value}
 use Rattle.job_results.specs.declared.results.JobResult.{JobResult}
-use Rattle.job_results.specs.Jobs.{kind_of, Row}
+use Rattle.job_results.specs.Jobs.{kind_of, same_job, Row}
 
 -- the number of a result's job
 abbrev pub number_in : JobResult → ℕ
@@ -20,3 +21,7 @@ value_in r = r.value
 -- what is told of a result
 abbrev pub row_of : JobResult → Row
 row_of r = record { number = number_in r; kind = kind_of (job_in r); value = value_in r }
+
+-- the jobs of these results are the same as these jobs, one by one
+abbrev pub HaveJobs : List JobResult → List Job → Type 0
+HaveJobs results jobs = IsTrue (pointwise same_job (map job_in results) jobs)

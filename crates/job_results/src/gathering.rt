@@ -1,10 +1,9 @@
 //! Gathering the results of a list of jobs.
 ghost use Rattle.std.specs.Prelude.{◌≡◌, ◌+◌, ◌<◌, ◌⊎◌, ◌↔◌, true, map, length, vec_len, replicate, is_none, IfOk, IfErr, IfSome, IfNone, OnOk, OnSome, OnErr, Some, None, Err};
-ghost use Rattle.std.specs.Cmp.Lexicographic.{pointwise};
 ghost use Rattle.std.specs.List.{filter_map, list_any};
-ghost use Rattle.job_results.specs.Jobs.{same_job, job_rows};
-ghost use Rattle.job_results.specs.Results.{row_of, job_in};
-ghost use Rattle.job_results.specs.Gathering.{are_found, Names, Adds, IsNotAdded, MissesOne};
+ghost use Rattle.job_results.specs.Jobs.{job_rows};
+ghost use Rattle.job_results.specs.Results.{row_of, HaveJobs};
+ghost use Rattle.job_results.specs.Gathering.{are_found, Names, MissesOne};
 
 use crate::jobs::Job;
 use crate::results::JobResult;
@@ -22,7 +21,7 @@ pub struct Gather<'a> {
 }
 
 impl<'a> Gather<'a> {
-    ghost use Rattle.job_results.specs.Gathers.{jobs_in, found_in};
+    ghost use Rattle.job_results.specs.Gathers.{jobs_in, found_in, Adds, RefusesToAdd};
 
     /// No results yet.
     ///
@@ -59,9 +58,9 @@ impl<'a> Gather<'a> {
     /// that job has a result. All is then as before. Takes no memory.
     pub fn add(&mut self, added: JobResult<'a>) -> Result<(), Refusal>
         ensures jobs { jobs_in self.new ≡ jobs_in self.old }
-        ensures added { OnOk result (Adds (jobs_in self.old) (found_in self.old) added.entry (found_in self.new)) }
+        ensures added { OnOk result (Adds self.old added.entry self.new) }
         ensures refused { OnErr result (self.new ≡ self.old) }
-        ensures why { IfErr result (IsNotAdded (jobs_in self.old) (found_in self.old) added.entry) }
+        ensures why { IfErr result (RefusesToAdd self.old added.entry) }
     {
         let Some(place) = self.place_of(added.number(), added.job()) else {
             return Err(Refusal::Stranger);
@@ -77,8 +76,9 @@ impl<'a> Gather<'a> {
     ///
     /// Refusals: `Lost` where a job has no result, then `Memory`. Takes memory for the list of results.
     pub fn finish(self) -> Result<Vec<JobResult<'a>>, Refusal>
-        ensures rows { IfOk result (λ results. map row_of results.items ≡ job_rows 1 (jobs_in self.entry)) }
-        ensures same { IfOk result (λ results. pointwise same_job (map job_in results.items) (jobs_in self.entry) ≡ true) }
+        ensures rows { IfOk result (λ results.
+            map row_of results.items ≡ job_rows 1 (jobs_in self.entry)) }
+        ensures same { IfOk result (λ results. HaveJobs results.items (jobs_in self.entry)) }
         ensures all { IfOk result (λ results. map Some results.items ≡ found_in self.entry) }
         ensures lost { (result ≡ Err Refusal.Lost) ↔ MissesOne (found_in self.entry) }
         ensures why { IfErr result (λ why. (why ≡ Refusal.Lost) ⊎ (why ≡ Refusal.Memory)) }
