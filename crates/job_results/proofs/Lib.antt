@@ -1,2 +1,5 @@
 pub mod Same
 pub mod Found
+pub mod JobLines
+pub mod JobSteps
+pub mod OneJobText

@@ -5,3 +5,5 @@ pub mod SameKind
 pub mod KindCounts
 pub mod UnderWay
 pub mod TableRows
+pub mod SameJobKind
+pub mod ResultRows

@@ -2,3 +2,5 @@ pub mod Columns
 pub mod Kinds
 pub mod Counts
 pub mod HistoryTable
+pub mod JobKinds
+pub mod ResultsTable

@@ -5,3 +5,4 @@ pub mod Faults
 pub mod ReadingBack
 pub mod Single
 pub mod Total
+pub mod Listings

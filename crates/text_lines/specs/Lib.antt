@@ -4,3 +4,5 @@ pub mod Numerals
 pub mod Readings
 pub mod Grammars
 pub mod Wording
+pub mod Listings
+pub mod Printable

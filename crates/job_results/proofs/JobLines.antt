@@ -1,0 +1,120 @@
+-- The lines of jobs and their words.
+use Rattle.std.proofs.Common.{◌≡◌, ◌≢◌, ℕ, List, [], ◌∷◌, ◌++◌, Option, Some, None, true, false, ◌==◌, get_or, refl, sym, ap, subst, ◌∙◌, arith, codes, append_assoc, inl}
+use Rattle.std.specs.Option.{option_zip, ok_or}
+use Rattle.std.proofs.lemmas.Bool.{eq-eqb}
+use Rattle.std.proofs.lemmas.List.Elements.{All-nil, All-cons}
+use Rattle.text_lines.specs.declared.causes.TextCause.TheVariants.{Range}
+use Rattle.text_lines.specs.Lines.{HasNo, spaced, words_of}
+use Rattle.text_lines.specs.Numerals.{numeral}
+use Rattle.text_lines.specs.Printable.{IsPrintable}
+use Rattle.text_lines.specs.Readings.{ReadsBack}
+use Rattle.text_lines.proofs.Numerals.{HasNo-numeral}
+use Rattle.text_lines.proofs.Cuts.{HasNo-tested, words_of_more, words_of_some, spaced-words_of, words_of-spaced}
+use Rattle.job_results.specs.declared.reading.ReadJob.{ReadJob}
+use Rattle.job_results.specs.JobTexts.{SaidJob, Add, Mul, Div, Len, two_numbers, job_line, IsJobInRange, IsNumber}
+use Rattle.job_results.specs.JobReading.{job_words, AreTwo, AreBoth, AreOfJob, AreOfCount, SaysJob, SaysCount, KeepsJob, ReadsJob}
+
+-- a number has no space
+no_space-numeral : (n : ℕ) → HasNo 32 (numeral n)
+no_space-numeral n = HasNo-numeral 32 n (inl (omega arith))
+
+-- a word, and two numbers behind it
+three_words : (word : List ℕ) (a b : ℕ) → HasNo 32 word → words_of (spaced (word ∷ numeral a ∷ numeral b ∷ [])) ≡ word ∷ numeral a ∷ numeral b ∷ []
+three_words word a b none =
+    words_of-spaced word (numeral a ∷ numeral b ∷ [])
+    (All-cons (HasNo 32) word (numeral a ∷ numeral b ∷ []) none
+    (All-cons (HasNo 32) (numeral a) (numeral b ∷ []) (no_space-numeral a) (All-cons (HasNo 32) (numeral b) [] (no_space-numeral b) (All-nil (HasNo 32)))))
+
+-- a word, and one number behind it
+two_words : (word : List ℕ) (n : ℕ) → HasNo 32 word → words_of (spaced (word ∷ numeral n ∷ [])) ≡ word ∷ numeral n ∷ []
+two_words word n none =
+    words_of-spaced word (numeral n ∷ []) (All-cons (HasNo 32) word (numeral n ∷ []) none (All-cons (HasNo 32) (numeral n) [] (no_space-numeral n) (All-nil (HasNo 32))))
+
+-- a word before others
+spaced-more : (word : List ℕ) (words : List (List ℕ)) → words ≢ [] → spaced (word ∷ words) ≡ word ++ 32 ∷ spaced words
+spaced-more word [] some = absurd (some refl)
+spaced-more word (next ∷ words) some = refl
+
+-- two numbers behind the letters of a word
+numbers-spaced : (front : List ℕ) (a b : ℕ) → front ++ (32 ∷ numeral a ++ (32 ∷ numeral b)) ≡ front ++ (32 ∷ two_numbers a b)
+numbers-spaced front a b = ap (λ (later : List ℕ). front ++ (32 ∷ later)) (sym (append_assoc (numeral a) (codes " ") (numeral b)))
+
+-- the words of a job are its line
+pub spaced-job : (job : SaidJob) → spaced (job_words job) ≡ job_line job
+spaced-job (Add a b) = numbers-spaced (codes "add") a b
+spaced-job (Mul a b) = numbers-spaced (codes "mul") a b
+spaced-job (Div a b) = numbers-spaced (codes "div") a b
+spaced-job (Len text) =
+    spaced-more (codes "len") (words_of text) (words_of_some text) ∙ ap (λ (later : List ℕ). codes "len " ++ later) (spaced-words_of text)
+
+-- and the line's words are those of the job
+pub words_of-job : (job : SaidJob) → words_of (job_line job) ≡ job_words job
+words_of-job (Add a b) = ap words_of (sym (spaced-job (Add a b))) ∙ three_words (codes "add") a b (HasNo-tested 32 (codes "add") refl)
+words_of-job (Mul a b) = ap words_of (sym (spaced-job (Mul a b))) ∙ three_words (codes "mul") a b (HasNo-tested 32 (codes "mul") refl)
+words_of-job (Div a b) = ap words_of (sym (spaced-job (Div a b))) ∙ three_words (codes "div") a b (HasNo-tested 32 (codes "div") refl)
+words_of-job (Len text) = words_of_more (codes "len") text (HasNo-tested 32 (codes "len") refl)
+
+-- a line of the words of a job says it
+pub SaysJob-from_words : (says : List ℕ) (job : SaidJob) → AreOfJob (words_of says) job → SaysJob says job
+SaysJob-from_words says job there = (there.0, sym (spaced-words_of says) ∙ ap spaced there.1 ∙ spaced-job job)
+
+-- and the other way round
+pub AreOfJob-said : (says : List ℕ) (job : SaidJob) → SaysJob says job → AreOfJob (words_of says) job
+AreOfJob-said says job said = (said.0, ap words_of said.1 ∙ words_of-job job)
+
+-- the same of the first line
+pub SaysCount-from_words : (says : List ℕ) (count : ℕ) → AreOfCount (words_of says) count → SaysCount says count
+SaysCount-from_words says count there = sym (spaced-words_of says) ∙ ap spaced there
+
+pub AreOfCount-said : (says : List ℕ) (count : ℕ) → SaysCount says count → AreOfCount (words_of says) count
+AreOfCount-said says count said = ap words_of said ∙ two_words (codes "jobs") count (HasNo-tested 32 (codes "jobs") refl)
+
+-- what follows the first of two words
+pub second_of_two : (words : List (List ℕ)) (a b c : List ℕ) (later : List (List ℕ)) → words ≡ a ∷ later → words ≡ b ∷ c ∷ [] → later ≡ c ∷ []
+second_of_two words a b c later first both = cc
+
+-- two numbers are kept together where both are in range
+pub keeps_two : (two : ℕ × ℕ) (a b : Option ℕ) → ReadsBack IsNumber two.0 a → ReadsBack IsNumber two.1 b
+    → ReadsBack AreBoth two (option_zip a b)
+keeps_two two None b none b' = λ range. none range.0
+keeps_two two (Some x) None a none = λ range. none range.1
+keeps_two two (Some x) (Some y) a b = ((λ i. (a.0 i, b.0 i)), (a.1, b.1))
+
+-- the first byte of the first word
+abbrev first_byte : List (List ℕ) → ℕ
+first_byte words = get_or (get_or words 0 []) 0 0
+
+-- words that begin with other bytes are others
+pub apart : (ws vs : List (List ℕ)) → (first_byte ws == first_byte vs) ≡ false → ws ≢ vs
+apart ws vs other same =
+    let one : (first_byte ws == first_byte vs) ≡ true = eq-eqb (first_byte ws) (first_byte vs) (ap first_byte same) in
+    let both : true ≡ false = sym one ∙ other in
+    absurd cc
+
+-- words behind the first one that are no two numbers are no job's, unless the first one is that of a text
+pub no_numbers : (words : List (List ℕ)) (word : List ℕ) (later : List (List ℕ)) → words ≡ word ∷ later → word ≢ codes "len"
+    → ((two : ℕ × ℕ) → ¬ AreTwo later two) → (job : SaidJob) → ¬ AreOfJob words job
+no_numbers words word later split other none (Add a b) there = none (a, b) cc
+no_numbers words word later split other none (Mul a b) there = none (a, b) cc
+no_numbers words word later split other none (Div a b) there = none (a, b) cc
+no_numbers words word later split other none (Len text) there = other cc
+
+-- where the rest behind the word of a text isn't printable, the words are no job's
+pub no_text : (words : List (List ℕ)) (text : List ℕ) → words ≡ codes "len" ∷ words_of text → ¬ IsPrintable text → (job : SaidJob) → ¬ AreOfJob words job
+no_text words text split none (Add a b) there = apart _ _ refl (sym split ∙ there.1)
+no_text words text split none (Mul a b) there = apart _ _ refl (sym split ∙ there.1)
+no_text words text split none (Div a b) there = apart _ _ refl (sym split ∙ there.1)
+no_text words text split none (Len other) there =
+    let both : codes "len" ∷ words_of text ≡ codes "len" ∷ words_of other = sym split ∙ there.1 in
+    let words : words_of text ≡ words_of other = cc in
+    none (subst IsPrintable (sym (spaced-words_of other) ∙ ap spaced (sym words) ∙ spaced-words_of text) there.0)
+
+-- the words of numbers are not that of a text
+pub not_len : (word other : List ℕ) → word ≡ other → (first_byte (other ∷ []) == 108) ≡ false → word ≢ codes "len"
+not_len word other is differs len = apart (other ∷ []) (codes "len" ∷ []) differs (ap (λ (word : List ℕ). word ∷ []) (sym is ∙ len))
+
+-- the job of a line by what was kept of it
+pub ReadsJob-kept : (says : List ℕ) (job : SaidJob) → AreOfJob (words_of says) job → (kept : Option ReadJob) → KeepsJob job kept → ReadsJob says (ok_or kept Range)
+ReadsJob-kept says job there None out = (job, SaysJob-from_words says job there, out)
+ReadsJob-kept says job there (Some read) kept =
+    (subst (SaysJob says) (sym kept.0) (SaysJob-from_words says job there), subst IsJobInRange (sym kept.0) kept.1)

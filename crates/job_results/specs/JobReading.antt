@@ -1,0 +1,92 @@
+-- What the readers of the parts of a job's line look for.
+use Rattle.std.specs.Prelude.{◌≡◌, ℕ, List, [], ◌∷◌, ◌++◌, Option, Result, MatchOption, MatchResult, codes, map}
+use Rattle.std.specs.Borrow.{Bor}
+use Rattle.text_lines.specs.declared.causes.TextCause.{TextCause}
+use Rattle.text_lines.specs.declared.causes.TextCause.TheVariants.{Form}
+use Rattle.text_lines.specs.Lines.{line, words_of}
+use Rattle.text_lines.specs.Numerals.{numeral}
+use Rattle.text_lines.specs.Readings.{IsWrong}
+use Rattle.text_lines.specs.Printable.{IsShort}
+use Rattle.text_lines.specs.Listings.{SaysItem, SaysHeader}
+use Rattle.history.specs.declared.refusals.Refusal.{Refusal}
+use Rattle.history.specs.declared.refusals.Refusal.TheVariants.{Text, Memory}
+use Rattle.job_results.specs.declared.jobs.Job.{Job}
+use Rattle.job_results.specs.declared.reading.ReadJob.{ReadJob}
+use Rattle.job_results.specs.declared.reading.ReadJob.TheVariants.{Add as AddRead, Mul as MulRead, Div as DivRead, Len as LenRead}
+use Rattle.job_results.specs.JobTexts.{SaidJob, Add, Mul, Div, Len, said_job, count_line, jobs_listing, IsJob, IsJobInRange, IsCount, AreNumbers}
+
+-- what was read of a job's line
+abbrev pub said_of : ReadJob → SaidJob
+said_of (AddRead a b) = Add a b
+said_of (MulRead a b) = Mul a b
+said_of (DivRead a b) = Div a b
+said_of (LenRead text) = Len text.now
+
+-- the words of a job
+abbrev pub job_words : SaidJob → List (List ℕ)
+job_words (Add a b) = codes "add" ∷ numeral a ∷ numeral b ∷ []
+job_words (Mul a b) = codes "mul" ∷ numeral a ∷ numeral b ∷ []
+job_words (Div a b) = codes "div" ∷ numeral a ∷ numeral b ∷ []
+job_words (Len text) = codes "len" ∷ words_of text
+
+-- these are the words of two numbers
+abbrev pub AreTwo : List (List ℕ) → ℕ × ℕ → Type 0
+AreTwo words two = words ≡ numeral two.0 ∷ numeral two.1 ∷ []
+
+-- both numbers have 64 bits
+abbrev pub AreBoth : ℕ × ℕ → Type 0
+AreBoth two = AreNumbers two.0 two.1
+
+-- these are the words of a job
+abbrev pub AreOfJob : List (List ℕ) → SaidJob → Type 0
+AreOfJob words job = IsJob job × (words ≡ job_words job)
+
+-- these are the words of the first line
+abbrev pub AreOfCount : List (List ℕ) → ℕ → Type 0
+AreOfCount words count = words ≡ codes "jobs" ∷ numeral count ∷ []
+
+-- a line says a job
+abbrev pub SaysJob : List ℕ → SaidJob → Type 0
+SaysJob says job = SaysItem jobs_listing says job
+
+-- a line says how many jobs there are
+abbrev pub SaysCount : List ℕ → ℕ → Type 0
+SaysCount says count = SaysHeader jobs_listing says count
+
+-- a text is kept where it is not too long, and else none is
+abbrev pub KeepsText : List ℕ → Option (Bor (List ℕ)) → Type 0
+KeepsText bytes kept = MatchOption kept (¬ IsShort 200 bytes) (λ text. (text.now ≡ bytes) × IsShort 200 bytes)
+
+-- what was read of a job is kept where the job is in range, and else none is
+abbrev pub KeepsJob : SaidJob → Option ReadJob → Type 0
+KeepsJob job kept = MatchOption kept (¬ IsJobInRange job) (λ read. (said_of read ≡ job) × IsJobInRange job)
+
+-- the job of these words was read, and is kept where it is in range; or they are no job's
+abbrev pub ReadsWordsOfJob : List (List ℕ) → Result (Option ReadJob) TextCause → Type 0
+ReadsWordsOfJob words result = MatchResult result
+    (λ kept. (job : SaidJob) × AreOfJob words job × KeepsJob job kept)
+    (λ why. (why ≡ Form) × ((job : SaidJob) → ¬ AreOfJob words job))
+
+-- a job was read from a line, and is in range; or the line is wrong for this cause
+abbrev pub ReadsJob : List ℕ → Result ReadJob TextCause → Type 0
+ReadsJob says result = MatchResult result
+    (λ read. SaysJob says (said_of read) × IsJobInRange (said_of read))
+    (IsWrong (SaysJob says) IsJobInRange)
+
+-- the first line of a text says how many jobs there are, and the rest follows it
+abbrev pub IsAfterFirst : List ℕ → ℕ → List ℕ → Type 0
+IsAfterFirst text count rest = IsCount count × (text ≡ line (count_line count) ++ rest)
+
+-- what the lines of some jobs say
+abbrev pub said_jobs : List Job → List SaidJob
+said_jobs jobs = map said_job jobs
+
+-- the job that a line says, in range, is added to a list
+abbrev pub AddsJob : List Job → List Job → List ℕ → Type 0
+AddsJob old new says = (job : Job) × SaysJob says (said_job job) × IsJobInRange (said_job job) × (new ≡ old ++ job ∷ [])
+
+-- the line of this number says no job, or one that is out of range; or there was no room
+abbrev pub IsWrongJob : ℕ → List ℕ → Refusal → Type 0
+IsWrongJob number says (Text at cause) = (at ≡ number) × IsWrong (SaysJob says) IsJobInRange cause
+IsWrongJob number says Memory = Unit {0}
+IsWrongJob number says _ = ⊥

@@ -1,0 +1,13 @@
+use Rattle.std.proofs.Common.{◌≡◌, ◌++◌}
+use Rattle.std.specs.List.{flat_map}
+use Rattle.report.specs.ResultsTable.{job_count_text}
+use Rattle.report.proofs.UnderWay.{IsUnderWay}
+use Rattle.report.proofs.result_tables.put_job_counts.Given as goal
+
+abbrev pub invariant-loop-kind : goal.invariant-loop-kind
+invariant-loop-kind g l = record {
+  sends : IsUnderWay (g.W.Sink.contents l.fn.writer) (g.W.Sink.contents l.writer)
+      (l.fn.block ++ flat_map (λ e. job_count_text e.0 e.1) l.fn.counts.entries) l.block
+      (flat_map (λ e. job_count_text e.0 e.1) l.kind-iterator);
+  quiet : g.W.Sink.failures l.writer ≡ g.W.Sink.failures l.fn.writer;
+}

@@ -1,0 +1,17 @@
+use Rattle.std.proofs.Common.{rules, subst, OnOk, OnErr}
+use Rattle.std.specs.Io.KnownBytes.{Appends}
+use Rattle.history.specs.Blocks.{TakesBeginning}
+use Rattle.report.proofs.ResultRows.{results-counted}
+use Rattle.report.proofs.result_tables.results_table.Goals as goal
+
+pub returns-clause-ok : goal.returns-clause-ok
+returns-clause-ok g c =
+    subst (λ text. OnOk c.write_results.result (Appends (g.W.Sink.contents c.args.writer.now) (g.W.Sink.contents c.write_results.new.writer) text))
+    (results-counted c.args.results.now c.in_ok-counts.counts.entries c.in_ok-counts.ensures.ok) c.write_results.ensures.ok
+
+pub returns-clause-beginning : goal.returns-clause-beginning
+returns-clause-beginning g c =
+    let beginning =
+    subst (λ text. OnErr c.write_results.result (TakesBeginning (g.W.Sink.contents c.args.writer.now) (g.W.Sink.contents c.write_results.new.writer) text))
+    (results-counted c.args.results.now c.in_ok-counts.counts.entries c.in_ok-counts.ensures.ok) c.write_results.ensures.beginning in
+    search rules

@@ -1,0 +1,84 @@
+//! The lines of a results table.
+ghost use Rattle.std.specs.Prelude.{◌≡◌, ◌+◌, ◌≤◌, ◌++◌, length, decimal};
+ghost use Rattle.job_results.specs.Results.{row_of};
+ghost use Rattle.report.specs.ResultsTable.{value_text, results_header_text, result_text, job_count_text};
+
+use crate::columns::{push_left, push_right};
+use crate::job_kinds::name_of_job;
+use history::{LINE_ROOM, Line};
+use job_results::{JobKind, JobResult, Value};
+
+// How many digits a number of 128 bits has at most.
+const MOST_DIGITS: usize = 39;
+
+// The first line.
+#[tactic(auto, unfolding(crate::specs::ResultsTable::results_header_text))]
+pub(crate) fn results_header_line(count: u64) -> Line
+    ensures { result ≡ results_header_text count }
+{
+    let mut line = Line::new();
+    line.push(b"results ");
+    line.push_number(count);
+    line.push(b"\n");
+    line
+}
+
+// The line of a result.
+#[tactic(auto, unfolding(crate::specs::ResultsTable::result_text))]
+pub(crate) fn result_line(told: &JobResult) -> Line
+    ensures { result ≡ result_text (row_of told.now) }
+{
+    let mut line = Line::new();
+    push_right(&mut line, 8, told.number());
+    line.push(b" ");
+    line.push(name_of_job(told.job().kind()));
+    line.push(b" ");
+    push_value(&mut line, told.value());
+    line.push(b"\n");
+    line
+}
+
+// The line of a kind with its number.
+#[tactic(auto, unfolding(crate::specs::ResultsTable::job_count_text))]
+pub(crate) fn job_count_line(kind: JobKind, number: u64) -> Line
+    ensures { result ≡ job_count_text kind number }
+{
+    let mut line = Line::new();
+    push_left(&mut line, 10, name_of_job(kind));
+    push_right(&mut line, 8, number);
+    line.push(b"\n");
+    line
+}
+
+// Puts a value at the end of a line: a number in decimal, or `by-zero`.
+fn push_value(line: &mut Line, value: Value)
+    requires { length line.old + MOST_DIGITS ≤ LINE_ROOM }
+    ensures text { line.new ≡ line.old ++ value_text value }
+    ensures short { length line.new ≤ length line.old + MOST_DIGITS }
+{
+    match value {
+        Value::Number(number) => push_wide_number(line, number),
+        Value::ByZero => line.push(b"by-zero"),
+    }
+}
+
+// Puts a number of 128 bits in decimal at the end of a line.
+fn push_wide_number(line: &mut Line, number: u128)
+    requires { length line.old + MOST_DIGITS ≤ LINE_ROOM }
+    ensures digits { line.new ≡ line.old ++ decimal number }
+    ensures short { length line.new ≤ length line.old + MOST_DIGITS }
+{
+    push_digits(line, number);
+}
+
+fn push_digits(line: &mut Line, number: u128)
+    requires { length line.old + length (decimal number) ≤ LINE_ROOM }
+    ensures { line.new ≡ line.old ++ decimal number }
+{
+    if number < 10 {
+        line.push(&[b'0' + number as u8]);
+    } else {
+        push_digits(line, number / 10);
+        line.push(&[b'0' + (number % 10) as u8]);
+    }
+}

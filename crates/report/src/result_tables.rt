@@ -1,0 +1,106 @@
+//! The table of the results of jobs.
+ghost use Rattle.std.specs.Prelude.{◌≡◌, ◌++◌, ◌⊎◌, OnOk, IfErr, OnErr, length, map};
+ghost use Rattle.std.specs.Io.KnownBytes.{Appends};
+ghost use Rattle.std.specs.List.{flat_map};
+ghost use Rattle.history.specs.Blocks.{Sends, TakesBeginning, GivesUp};
+ghost use Rattle.job_results.specs.Results.{row_of};
+ghost use Rattle.report.specs.ResultsTable.{result_text, job_count_text, results_parts_text, results_text};
+
+use crate::job_kinds::job_counts_of;
+use crate::result_rows::{job_count_line, result_line, results_header_line};
+use history::{Block, Refusal, Sink};
+use indexmap::IndexMap;
+use job_results::{JobKind, JobResult};
+use std::alloc::Global;
+
+/// Writes the table of results: `results` and their number, a line for each result in the order of the
+/// list, and a line for each kind of job with how many there are of it.
+///
+/// A result's line has its job's number, the job's kind, and the value in decimal or `by-zero`. Kinds
+/// come in the order in which each first occurs in the list. It takes memory for the counts alone, of
+/// four kinds at most, and time in proportion to the list; whether it waits is up to the writer. It is
+/// refused by `Memory` before the first byte is written, and else by `Write` where a call of the writer
+/// fails or takes nothing; a beginning of the table is written then.
+pub fn results_table<W: Sink>(
+    alloc: Global,
+    results: &[JobResult],
+    writer: &mut W,
+) -> Result<(), Refusal>
+    ensures ok { OnOk result (Appends (W.contents writer.old) (W.contents writer.new)
+        (results_text (map row_of results.now))) }
+    ensures quiet { OnOk result (W.failures writer.new ≡ W.failures writer.old) }
+    ensures only { IfErr result (λ why. (why ≡ Refusal.Memory) ⊎ (why ≡ Refusal.Write)) }
+    ensures unwritten { IfErr result (λ why. why ≡ Refusal.Memory → writer.new ≡ writer.old) }
+    ensures beginning { IfErr result (λ why. why ≡ Refusal.Write
+        → TakesBeginning (W.contents writer.old) (W.contents writer.new)
+        (results_text (map row_of results.now))) }
+    ensures cause { IfErr result (λ why. why ≡ Refusal.Write
+        → GivesUp (W.failures writer.old) (W.failures writer.new) (W.is_full writer.new)) }
+{
+    let counts = job_counts_of(alloc, results)?;
+    write_results(results, &counts, writer)
+}
+
+// Writes the first line, the lines of the results, and those of the counts.
+fn write_results<W: Sink>(
+    results: &[JobResult],
+    counts: &IndexMap<JobKind, u64>,
+    writer: &mut W,
+) -> Result<(), Refusal>
+    ensures ok { OnOk result (Appends (W.contents writer.old) (W.contents writer.new)
+        (results_parts_text (length results.now) (map row_of results.now) counts.now.entries)) }
+    ensures quiet { OnOk result (W.failures writer.new ≡ W.failures writer.old) }
+    ensures only_write { IfErr result (λ why. why ≡ Refusal.Write) }
+    ensures beginning { OnErr result (TakesBeginning (W.contents writer.old) (W.contents writer.new)
+        (results_parts_text (length results.now) (map row_of results.now) counts.now.entries)) }
+    ensures cause { OnErr result (GivesUp (W.failures writer.old) (W.failures writer.new)
+        (W.is_full writer.new)) }
+{
+    let mut block = Block::new();
+    block.put(writer, results_header_line(results.len() as u64).as_slice())?;
+    put_results(&mut block, writer, results)?;
+    put_job_counts(&mut block, writer, counts)?;
+    block.finish(writer)
+}
+
+// Puts the lines of results.
+fn put_results<W: Sink>(
+    block: &mut Block,
+    writer: &mut W,
+    results: &[JobResult],
+) -> Result<(), Refusal>
+    ensures ok { OnOk result (Sends (W.contents writer.old) (W.contents writer.new)
+        (block.old ++ flat_map result_text (map row_of results.now)) block.new) }
+    ensures quiet { OnOk result (W.failures writer.new ≡ W.failures writer.old) }
+    ensures only_write { IfErr result (λ why. why ≡ Refusal.Write) }
+    ensures beginning { OnErr result (TakesBeginning (W.contents writer.old) (W.contents writer.new)
+        (block.old ++ flat_map result_text (map row_of results.now))) }
+    ensures cause { OnErr result (GivesUp (W.failures writer.old) (W.failures writer.new)
+        (W.is_full writer.new)) }
+{
+    for told in results {
+        block.put(writer, result_line(told).as_slice())?;
+    }
+    Ok(())
+}
+
+// Puts the lines of the counts.
+fn put_job_counts<W: Sink>(
+    block: &mut Block,
+    writer: &mut W,
+    counts: &IndexMap<JobKind, u64>,
+) -> Result<(), Refusal>
+    ensures ok { OnOk result (Sends (W.contents writer.old) (W.contents writer.new)
+        (block.old ++ flat_map (λ e. job_count_text e.0 e.1) counts.now.entries) block.new) }
+    ensures quiet { OnOk result (W.failures writer.new ≡ W.failures writer.old) }
+    ensures only_write { IfErr result (λ why. why ≡ Refusal.Write) }
+    ensures beginning { OnErr result (TakesBeginning (W.contents writer.old) (W.contents writer.new)
+        (block.old ++ flat_map (λ e. job_count_text e.0 e.1) counts.now.entries)) }
+    ensures cause { OnErr result (GivesUp (W.failures writer.old) (W.failures writer.new)
+        (W.is_full writer.new)) }
+{
+    for (kind, number) in counts {
+        block.put(writer, job_count_line(*kind, *number).as_slice())?;
+    }
+    Ok(())
+}
