@@ -32,7 +32,7 @@ impl<Q: Fifo + Drop> Office<Q> {
         requires senders { All (CanSend Q.is_seat Q.permits Q.known queue) senders.items }
         requires receiver { CanReceive Q.is_seat Q.permits Q.known queue receiver }
         ensures opens { IfOk result (λ r. Opens queue senders.items receiver r.0 r.1.items r.2) }
-        ensures senders { IfOk result (λ r. All (IsSender Q.is_seat Q.permits Q.known r.0) r.1.items) }
+        ensures each { IfOk result (λ r. All (IsSender Q.is_seat Q.permits Q.known r.0) r.1.items) }
         ensures receiver { IfOk result (λ r. IsReceiver Q.is_seat Q.permits Q.known r.0 r.2) }
         ensures only_memory { IfErr result (λ why. why ≡ Refusal.Memory) }
     {

@@ -44,7 +44,7 @@ impl<Q: Fifo + Drop> Receiver<Q> {
         requires office { IsReceiver Q.is_seat Q.permits Q.known office.now self.old }
         requires turns { 1 ≤ turns }
         ensures office { IsReceiver Q.is_seat Q.permits Q.known office.now self.new }
-        ensures answer { IfOk result (λ taken. TakeAnswers Q.known office.now self.old taken self.new) }
+        ensures answer { IfOk result (λ v. TakeAnswers Q.known office.now self.old v self.new) }
         ensures order { InOrder (receiver_knows Q.known self.new) }
         ensures refused { IfErr result (λ why. why ≢ Lost → TookNothing Q.known self.old self.new) }
         ensures lost { result ≡ Err Lost → Loses Q.known self.old self.new }
@@ -79,7 +79,7 @@ impl<Q: Fifo + Drop> Receiver<Q> {
     ) -> Result<Option<Letter<'a>>, Refusal>
         requires office { IsReceiver Q.is_seat Q.permits Q.known office.now self.old }
         ensures office { IsReceiver Q.is_seat Q.permits Q.known office.now self.new }
-        ensures answer { IfOk result (λ taken. TakeAnswers Q.known office.now self.old taken self.new) }
+        ensures answer { IfOk result (λ v. TakeAnswers Q.known office.now self.old v self.new) }
         ensures order { InOrder (receiver_knows Q.known self.new) }
         ensures refused { IfErr result (λ why. why ≢ Lost → TookNothing Q.known self.old self.new) }
         ensures lost { result ≡ Err Lost → Loses Q.known self.old self.new }

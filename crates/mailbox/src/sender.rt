@@ -1,5 +1,6 @@
 //! Senders of letters.
 ghost use Rattle.std.specs.Prelude.{◌≡◌, ◌≤◌, Err, OnOk, OnErr, IfOk, IfErr, string_bytes};
+ghost use Rattle.history.specs.declared.refusals.Refusal.TheVariants.{Memory, BadSize};
 ghost use Rattle.mailbox.specs.Refusals.{StopsStore, StopsSend, EndsSend};
 ghost use Rattle.mailbox.specs.Offices.{IsSender, Stored, Sent, SentNothing, HasNoBody};
 
@@ -20,8 +21,8 @@ impl<Q: Fifo + Drop> Sender<Q> {
     fn store<R: Wait>(&mut self, rt: &R, office: &Office<Q>, text: String) -> Result<Body, Refusal>
         ensures seat { self.new.seat ≡ self.old.seat }
         ensures stored { IfOk result (λ body. Stored office.now self.new body (string_bytes text)) }
-        ensures memory { result ≡ Err Refusal.Memory → self.new ≡ self.old }
-        ensures no_body { result ≡ Err Refusal.BadSize → HasNoBody office.now self.old self.new text }
+        ensures memory { result ≡ Err Memory → self.new ≡ self.old }
+        ensures no_body { result ≡ Err BadSize → HasNoBody office.now self.old self.new text }
         ensures why { IfErr result StopsStore }
     {
         let Ok(pushed) = office.letters.push_shown(rt, text) else {
@@ -52,8 +53,8 @@ impl<Q: Fifo + Drop> Sender<Q> {
         ensures office { IsSender Q.is_seat Q.permits Q.known office.now self.new }
         ensures sent { OnOk result (Sent Q.known office.now self.old self.new text) }
         ensures refused { OnErr result (SentNothing Q.known self.old self.new) }
-        ensures memory { result ≡ Err Refusal.Memory → self.new ≡ self.old }
-        ensures no_body { result ≡ Err Refusal.BadSize → HasNoBody office.now self.old self.new text }
+        ensures memory { result ≡ Err Memory → self.new ≡ self.old }
+        ensures no_body { result ≡ Err BadSize → HasNoBody office.now self.old self.new text }
         ensures why { IfErr result StopsSend }
     {
         let body = self.store(rt, office, text)?;
@@ -68,8 +69,8 @@ impl<Q: Fifo + Drop> Sender<Q> {
         ensures office { IsSender Q.is_seat Q.permits Q.known office.now self.new }
         ensures sent { OnOk result (Sent Q.known office.now self.old self.new text) }
         ensures refused { OnErr result (SentNothing Q.known self.old self.new) }
-        ensures memory { result ≡ Err Refusal.Memory → self.new ≡ self.old }
-        ensures no_body { result ≡ Err Refusal.BadSize → HasNoBody office.now self.old self.new text }
+        ensures memory { result ≡ Err Memory → self.new ≡ self.old }
+        ensures no_body { result ≡ Err BadSize → HasNoBody office.now self.old self.new text }
         ensures why { IfErr result EndsSend }
     {
         let body = self.store(rt, office, text)?;

@@ -3,8 +3,8 @@ use Rattle.std.proofs.lemmas.Grind.{common_steps}
 use Rattle.mailbox.proofs.Openings.{senders_of-seats}
 use Rattle.mailbox.proofs.office.Office.new.Goals as goal
 
-pub returns-clause-senders : goal.returns-clause-senders
-returns-clause-senders g c =
+pub returns-clause-each : goal.returns-clause-each
+returns-clause-each g c =
     let steps = c.in-None.ensures.steps in
     let kept = c.loop-seat.invariant in
     let same : map (λ s. s.seat) c.loop-seat.all.items ≡ c.args.senders.items = grind (arith, common_steps) in
