@@ -1,0 +1,2 @@
+pub mod MailLines
+pub mod MailSteps

@@ -1,0 +1,2 @@
+pub mod MailTexts
+pub mod MailReading

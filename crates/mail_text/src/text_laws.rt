@@ -1,0 +1,26 @@
+//! Laws of texts of mail, each the contract of a function that does nothing.
+ghost use Rattle.std.specs.Prelude.{◌≡◌, ◌≢◌, ℕ, List};
+ghost use Rattle.text_lines.specs.declared.causes.TextCause.{TextCause};
+ghost use Rattle.mail_text.specs.MailTexts.{SaidLetter, mail_text, IsMailInRange, HasFirstFault};
+
+/// A text is that of one number of senders and one list of letters at most.
+pub fn a_text_is_of_one_mail()
+    ensures { (s t : ℕ) (a b : List SaidLetter) → IsMailInRange s a → IsMailInRange t b
+        → mail_text s a ≡ mail_text t b → (s ≡ t) × (a ≡ b) }
+{}
+
+/// The first faulty line of a text is one, and wrong for one cause; the text of mail in range has none.
+pub fn a_text_has_one_first_fault()
+    ensures one { (text : List ℕ) (m n : ℕ) (c d : TextCause)
+        → HasFirstFault text m c → HasFirstFault text n d → (m ≡ n) × (c ≡ d) }
+    ensures none { (senders : ℕ) (letters : List SaidLetter) (n : ℕ) (c : TextCause)
+        → IsMailInRange senders letters → ¬ HasFirstFault (mail_text senders letters) n c }
+{}
+
+/// Every text is that of mail in range or has a first faulty line: it can't be that it is neither.
+pub fn a_text_is_of_mail_or_faulty()
+    ensures { (text : List ℕ)
+        → ((senders : ℕ) (letters : List SaidLetter) → IsMailInRange senders letters
+        → text ≢ mail_text senders letters)
+        → ¬ ((n : ℕ) (c : TextCause) → ¬ HasFirstFault text n c) }
+{}
