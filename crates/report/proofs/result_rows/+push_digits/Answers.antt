@@ -1,4 +1,4 @@
-use Rattle.std.proofs.Common.{◌+◌, ◌<◌, ◌^◌, ◌++◌, [], ◌∷◌, ◌/◌, ◌%◌, decimal, length, arith, ap, ◌∙◌, sym, append_assoc, length-append}
+use Rattle.std.proofs.Common.{◌+◌, ◌<◌, ◌++◌, [], ◌∷◌, ◌/◌, ◌%◌, decimal, length, arith, ap, ◌∙◌, sym, append_assoc, length-append}
 use Rattle.std.proofs.lemmas.Fmt.{decimal_digit, decimal_step_wide, decimal_is_IsNumeral_wide}
 use Rattle.report.proofs.result_rows.+push_digits.Goals as goal
 
