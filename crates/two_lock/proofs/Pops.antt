@@ -1,5 +1,5 @@
 -- Pops: turns at the lock, one after another, and what they answer.
-use Rattle.std.proofs.Common.{◌≡◌, ℕ, zero, suc, ◌+◌, ◌≤◌, Bool, true, false, nat_eq, if◌then◌else◌, List, [], ◌∷◌, ◌++◌, Option, Some, None, Result, Ok, Err, IfOk, IfErr, sym, refl, ap, subst, ◌∙◌, arith, add-one, append_assoc}
+use Rattle.std.proofs.Common.{◌≡◌, ℕ, zero, suc, ◌+◌, ◌≤◌, Bool, true, false, nat_eq, if◌then◌else◌, List, [], ◌∷◌, ◌++◌, Option, Some, None, Result, Ok, Err, IfOk, OnOk, IfErr, sym, refl, ap, subst, ◌∙◌, arith, add-one, append_assoc}
 use Rattle.line_table.specs.declared.lines.Line.TheVariants.{B1, B2, F1}
 use Rattle.history.specs.declared.operations.Op.TheVariants.{Deq}
 use Rattle.history.specs.declared.operations.Taken.{Taken}
@@ -21,7 +21,7 @@ use Rattle.two_lock.specs.Values.{IsTwoLock}
 use Rattle.two_lock.specs.declared.pop_outcomes.Actor.{Actor as Running}
 use Rattle.two_lock.specs.declared.pop_outcomes.Outcome.{Outcome}
 use Rattle.two_lock.specs.declared.pop_outcomes.Outcome.TheVariants.{Goes, Refused}
-use Rattle.two_lock.specs.Pops.{popping, has_lock, IsBefore, Follows, Fronts, Trying, DrawRefused, Draws, AnswersPop}
+use Rattle.two_lock.specs.Pops.{popping, has_lock, IsBefore, Follows, Fronts, Trying, FailsFew, DrawRefused, Draws, AnswersPop}
 use Rattle.two_lock.proofs.PopStands.{stands_b1, won_b1, lost_b1}
 
 -- lines before a pop, with so many failed turns
@@ -51,12 +51,17 @@ module _ (r : Arena) (s u x : Seat) (es : List Event) (w : ExtendsPath (view s) 
         same = record { number = d.same.number ∙ name.number; role = d.same.role ∙ name.role };
         path = d.path ∙ ap (λ p. p ++ added u x) w.path ∙ append_assoc (view s).path es (added u x) ∙ ap (λ p. (view s).path ++ p) (sym e);
         answer = answered out d;
+        few = few_of out e d;
         refused = refused_by out e d;
       }
     where
       answered : (o : Result (Option Taken) Refusal) → Draws r u x before turns o → IfOk o (λ v. PopAnswers (known_of s) v (known_of x))
       answered (Ok v) d = answers_then (known_of s) (known_of u) (known_of x) v (sees_on (view s) (view u) es w) d.answer
       answered (Err why) d = tt
+
+      few_of : (o : Result (Option Taken) Refusal) → added s x ≡ es ++ added u x → Draws r u x before turns o → OnOk o (spent + failed_turns (added s x) ≤ turns)
+      few_of (Ok v) e d = (let c = ap failed_turns e in let n = d.few in omega (arith, failed-append es (added u x), c, n, more))
+      few_of (Err why) e d = tt
 
       refused_by : (o : Result (Option Taken) Refusal) → added s x ≡ es ++ added u x → Draws r u x before turns o → IfErr o (λ why. HadNoEffect s x × DrawRefused r s x spent turns why)
       refused_by (Ok v) e d = tt
@@ -136,6 +141,7 @@ pop_gives_up r s t spent turns (suc m) some all g =
       same = record { number = g.stored.number; role = g.stored.role };
       path = g.walks.path ∙ ap (λ p. (view s).path ++ p) (sym e);
       answer = tt;
+      few = tt;
       refused = (
         subst (ExtendsPath (view s) (view t)) (sym e) g.walks,
         ((let c = ap failed_turns e in let f = g.failed in omega arith), ends_failed s (keeping t None turns) g.lines e (g.last some)),
@@ -153,23 +159,29 @@ pop_worn r s t why failed turns f =
       same = record { number = f.stored.number; role = f.stored.role };
       path = k.walks.path ∙ ap (λ p. (view s).path ++ p) (sym e);
       answer = tt;
+      few = tt;
       refused = (
         subst (ExtendsPath (view s) (view t)) (sym e) k.walks,
         subst (DrawRefused r s (keeping t None failed) failed turns) (sym k.is) (last_held r s (keeping t None failed) f.lines _ e k.cause),
       );
     }
 
+-- with no failed turn before
+few_of_all : (s x : Seat) (turns : ℕ) (out : Result (Option Taken) Refusal) → OnOk out (0 + failed_turns (added s x) ≤ turns) → OnOk out (FailsFew s x turns)
+few_of_all s x turns (Ok v) h = (let f = h in omega arith)
+few_of_all s x turns (Err why) h = tt
+
 -- a pop after a give back
 pub after_give : (r : Arena) (s u x : Seat) (spent turns : ℕ) (out : Result (Option Taken) Refusal) → KeepsName s u → HadNoEffect s u → spent ≡ failed_turns (added s u) → Draws r u x spent turns out → AnswersPop r s x turns out
 after_give r s u x spent turns out name w f d =
     let all : Draws r s x 0 turns out = draws_late r s u x (added s u) w 0 spent turns (omega (arith, f)) out name d in
-    record { ready = all.ready; same = all.same; answer = all.answer; refused = all.refused }
+    record { ready = all.ready; same = all.same; answer = all.answer; few = few_of_all s x turns out all.few; refused = all.refused }
 
 -- the pop of a seat whose pocket was empty
 pub drawn_at_once : (r : Arena) (s v x : Seat) (n turns : ℕ) (out : Result (Option Taken) Refusal) → v ≡ s → n ≡ 0 → Draws r v x n turns out → AnswersPop r s x turns out
 drawn_at_once r s v x n turns out e f d =
     let all : Draws r s x 0 turns out = subst (λ u. Draws r u x 0 turns out) e (subst (λ m. Draws r v x m turns out) f d) in
-    record { ready = all.ready; same = all.same; answer = all.answer; refused = all.refused }
+    record { ready = all.ready; same = all.same; answer = all.answer; few = few_of_all s x turns out all.few; refused = all.refused }
 
 -- the pop of a seat that first gave its node back
 pub drawn_after_give : (r : Arena) (s u v x : Seat) (spent n turns : ℕ) (out : Result (Option Taken) Refusal) → v ≡ u → n ≡ spent → KeepsName s u → HadNoEffect s u → spent ≡ failed_turns (added s u) → Draws r v x n turns out → AnswersPop r s x turns out

@@ -1,5 +1,5 @@
 -- A running pop: what it remembers before each line, and what it answers.
-use Rattle.std.specs.Prelude.{◌≡◌, ℕ, zero, suc, ◌+◌, ◌≤◌, ◌<◌, Bool, true, false, if◌then◌else◌, nat_eq, List, ◌++◌, Option, Some, None, Result, IfOk, IfErr}
+use Rattle.std.specs.Prelude.{◌≡◌, ℕ, zero, suc, ◌+◌, ◌≤◌, ◌<◌, Bool, true, false, if◌then◌else◌, nat_eq, List, ◌++◌, Option, Some, None, Result, IfOk, OnOk, IfErr}
 use Rattle.counted_ref.specs.Ref.{ref_of, is_null}
 use Rattle.line_table.specs.declared.lines.Line.{Line}
 use Rattle.line_table.specs.declared.lines.Line.TheVariants.{B1, B2, B3, B4, B5, B6, F1}
@@ -150,12 +150,17 @@ DrawRefused r s t spent turns Busy = (spent + failed_turns (added s t) ≡ turns
 DrawRefused r s t spent turns (WornOut OfHead) = MetCause r s t (WornOut OfHead)
 DrawRefused r s t spent turns _ = ⊥
 
+-- of a call at most so many turns failed, with those of the give backs before and after its pop
+abbrev pub FailsFew : Seat → Seat → (turns : ℕ) → Type 0
+FailsFew s t turns = failed_turns (added s t) ≤ turns
+
 -- what a pop answers that has an empty pocket, where so many turns failed before
 pub record Draws (r : Arena) (s t : Seat) (spent turns : ℕ) (out : Result (Option Taken) Refusal) : Type 0 where
   pub ready : IsReady r t
   pub same : KeepsName s t
   pub path : (view t).path ≡ (view s).path ++ added s t
   pub answer : IfOk out (λ o. PopAnswers (known_of s) o (known_of t))
+  pub few : OnOk out (spent + failed_turns (added s t) ≤ turns)
   pub refused : IfErr out (λ why. HadNoEffect s t × DrawRefused r s t spent turns why)
 
 -- why a pop is refused
@@ -167,4 +172,5 @@ pub record AnswersPop (r : Arena) (s t : Seat) (turns : ℕ) (out : Result (Opti
   pub ready : IsReady r t
   pub same : KeepsName s t
   pub answer : IfOk out (λ o. PopAnswers (known_of s) o (known_of t))
+  pub few : OnOk out (FailsFew s t turns)
   pub refused : IfErr out (λ why. HadNoEffect s t × PopRefused r s t turns why)
