@@ -185,6 +185,10 @@ DrawRefused r s t spent turns Busy = (spent + failed_turns (added s t) ≡ turns
 DrawRefused r s t spent turns (WornOut OfTail) = MetCause r s t (WornOut OfTail)
 DrawRefused r s t spent turns _ = ⊥
 
+-- of a call at most so many turns failed, with those of the give backs before and after its pop
+abbrev pub FailsFew : Seat → Seat → (turns : ℕ) → Type 0
+FailsFew s t turns = failed_turns (added s t) ≤ turns
+
 -- what a pop answers that has an empty pocket, where so many turns failed before
 pub record Draws (r : Arena) (s t : Seat) (spent turns : ℕ) (out : Result (Option Taken) Refusal) : Type 0 where
   pub ready : IsReady r t
@@ -208,5 +212,5 @@ pub record AnswersPop (r : Arena) (s t : Seat) (turns : ℕ) (out : Result (Opti
   pub ready : IsReady r t
   pub same : KeepsName s t
   pub answer : IfOk out (λ o. PopAnswers (known_of s) o (known_of t))
-  pub few : OnOk out (failed_turns (added s t) ≤ turns)
+  pub few : OnOk out (FailsFew s t turns)
   pub refused : IfErr out (λ why. HadNoEffect s t × PopRefused r s t turns why)

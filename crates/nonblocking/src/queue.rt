@@ -67,7 +67,7 @@ impl Fifo for MsQueue {
     ghost use Rattle.node_arena.specs.Seats.{known_of, view};
     ghost use Rattle.node_arena.proofs.Seens.{sound_of};
     ghost use Rattle.nonblocking.specs.Pushes.{PushRefused};
-    ghost use Rattle.nonblocking.specs.Pops.{PopRefused};
+    ghost use Rattle.nonblocking.specs.Pops.{FailsFew, PopRefused};
     ghost use Rattle.nonblocking.specs.Queues.{arena_of, permits_of, IsQueueSeat};
 
     type Seat = Seat;
@@ -107,6 +107,7 @@ impl Fifo for MsQueue {
         ensures seat { IsQueueSeat self.now seat.new }
         ensures number { (known_of seat.new).number ≡ (known_of seat.old).number }
         ensures answer { IfOk result (λ o. PopAnswers (known_of seat.old) o (known_of seat.new)) }
+        ensures few { OnOk result (FailsFew seat.old seat.new turns) }
         ensures refused { OnErr result (SeesMore (known_of seat.old) (known_of seat.new)) }
         ensures why { IfErr result StopsPop }
         ensures caused { IfErr result (PopRefused (arena_of self.now) seat.old seat.new turns) }
