@@ -6,7 +6,7 @@ use Rattle.nonblocking.proofs.popping.try_pop.Goals as goal
 pub returns : goal.returns
 returns c =
     elim c.match-pocket.branch [
-      in-None w ↦ drawn_at_once c.args.arena.now c.args.seat.now _ c.draw.new.seat _ c.args.turns c.draw.result w.seat-is w.spent-is c.draw.ensures
-    | in-Some+in_ok-give_back-in-Some w ↦
-      drawn_after_give c.args.arena.now c.args.seat.now w.give_back.new.seat _ c.draw.new.seat w.failed-spent.result _ c.args.turns c.draw.result w.seat-is w.spent-is w.give_back.ensures.same w.give_back.ensures.lines (w.failed-spent.ensures ∙ w.give_back.ensures.failed) c.draw.ensures
+      | in-None w ↦ drawn_at_once c.args.arena.now c.args.seat.now _ c.draw.new.seat _ c.args.turns c.draw.result w.seat-is w.spent-is c.draw.ensures
+      | in-Some+in_ok-give_back-in-Some w ↦
+          drawn_after_give c.args.arena.now c.args.seat.now w.give_back.new.seat _ c.draw.new.seat w.failed-spent.result _ c.args.turns c.draw.result w.seat-is w.spent-is w.give_back.ensures.same w.give_back.ensures.lines (w.failed-spent.ensures ∙ w.give_back.ensures.failed) c.draw.ensures
     ]
