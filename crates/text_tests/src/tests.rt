@@ -1,6 +1,8 @@
 //! Words, lines, devices, verdicts, tables and texts, each against what was typed from outside.
 mod devices;
 mod histories;
+mod jobs;
+mod mail;
 mod names;
 mod references;
 mod schedule_faults;
