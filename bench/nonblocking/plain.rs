@@ -50,6 +50,7 @@ impl NonBlocking {
             if arena.load(TAIL) == tail {
                 if next % SPAN == 0 {
                     if arena.exchange(next_of(tail % SPAN), next, raised(next, node)) {
+                        seat.pushes += 1;
                         if tail / SPAN != LIMIT {
                             arena.exchange(TAIL, tail, raised(tail, node));
                         }
@@ -85,6 +86,7 @@ impl NonBlocking {
                         return Err(Refusal::WornOut);
                     }
                     if arena.exchange(HEAD, head, raised(head, next % SPAN)) {
+                        seat.pops += 1;
                         let held = Held { node: head % SPAN, mark: next / SPAN };
                         seat.pocket = Some(held);
                         let _ = arena.give_back(seat, held, TURNS - index);

@@ -38,6 +38,9 @@ pub struct Seat {
     pub number: u64,
     pub pocket: Option<Held>,
     pub failed: u32,
+    /// How many pushes and pops it made, as whoever closes the queue asks.
+    pub pushes: u64,
+    pub pops: u64,
 }
 
 pub trait Queue: Sync {
@@ -143,6 +146,7 @@ impl TwoLock {
             if self.arena.exchange(TAIL_LOCK, 0, seat.number) {
                 let tail = self.arena.load(TAIL);
                 self.arena.store(next_of(tail % SPAN), held.node);
+                seat.pushes += 1;
                 self.arena.store(TAIL, held.node);
                 self.arena.store(TAIL_LOCK, 0);
                 seat.pocket = None;
@@ -172,6 +176,7 @@ impl TwoLock {
                 return Err(Refusal::WornOut);
             }
             self.arena.store(HEAD, (head / SPAN + 1) * SPAN + next % SPAN);
+            seat.pops += 1;
             self.arena.store(HEAD_LOCK, 0);
             let held = Held { node: head % SPAN, mark: next / SPAN };
             seat.pocket = Some(held);
@@ -302,7 +307,7 @@ pub enum Work {
 }
 
 fn toil<Q: Queue>(queue: &Q, number: u64, waiting: Waiting, work: Work, count: u64) {
-    let mut seat = Seat { number, pocket: None, failed: 0 };
+    let mut seat = Seat { number, pocket: None, failed: 0, pushes: 0, pops: 0 };
     let mut backoff = Backoff { step: 0, waiting };
     for _ in 0..count {
         match work {
@@ -314,6 +319,7 @@ fn toil<Q: Queue>(queue: &Q, number: u64, waiting: Waiting, work: Work, count: u
             Work::Pops => pop(queue, &mut seat, &mut backoff),
         }
     }
+    std::hint::black_box(&seat);
 }
 
 /// Prints how many nanoseconds the works took, each so many times.
