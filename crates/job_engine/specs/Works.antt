@@ -1,0 +1,65 @@
+-- What work on the text of jobs reads and writes, and what it may be refused.
+use Rattle.std.specs.Prelude.{◌≡◌, ℕ, ◌+◌, ◌<◌, ◌≤◌, ◌⊎◌, Bool, List, Option, Some, None, Result, Err, ⊤}
+use Rattle.std.specs.Io.KnownBytes.{Appends}
+use Rattle.history.specs.Blocks.{TakesBeginning}
+use Rattle.history.specs.declared.refusals.Refusal.{Refusal}
+use Rattle.history.specs.declared.refusals.Refusal.TheVariants.{Memory, BadSize, Text, Read, Write, Lost}
+use Rattle.job_results.specs.declared.jobs.Job.{Job}
+use Rattle.job_results.specs.Jobs.{job_rows}
+use Rattle.job_results.specs.JobTexts.{jobs_text, AreJobsInRange, IsFirstFaultOfJobs}
+use Rattle.job_results.specs.JobReading.{said_jobs}
+use Rattle.report.specs.ResultsTable.{results_text}
+use Rattle.source_text.specs.Readings.{WereAll, EndsReadingFor}
+
+-- there are not 1 to 64 workers, or not so many nodes: 3 more than workers, to 16,777,214
+abbrev pub IsBadSize : (workers nodes : ℕ) → Type 0
+IsBadSize workers nodes = (workers ≡ 0) ⊎ ((64 < workers) ⊎ ((nodes < workers + 3) ⊎ (16777214 < nodes)))
+
+-- there are 1 to 64 workers, and so many nodes: 3 more than workers, to 16,777,214
+pub record AreSized (workers nodes : ℕ) : Type 0 where
+  pub some_workers : 1 ≤ workers
+  pub few_workers : workers ≤ 64
+  pub room : workers + 3 ≤ nodes
+  pub few_nodes : nodes ≤ 16777214
+
+-- known bytes were the text of these jobs, which are in range
+pub record IsTextOf (given : Option (List ℕ)) (jobs : List Job) : Type 0 where
+  pub in_range : AreJobsInRange (said_jobs jobs)
+  pub read : WereAll given (jobs_text (said_jobs jobs))
+
+-- known bytes were the text of jobs, and the table of their results was written, each job's once and in their order
+pub record WritesResults (given old new : Option (List ℕ)) : Type 0 where
+  pub jobs : List Job
+  pub text : IsTextOf given jobs
+  pub written : Appends old new (results_text (job_rows 1 jobs))
+
+-- known bytes were the text of jobs, and a beginning of the table of their results was written
+pub record BeginsResults (given old new : Option (List ℕ)) : Type 0 where
+  pub jobs : List Job
+  pub text : IsTextOf given jobs
+  pub begun : TakesBeginning old new (results_text (job_rows 1 jobs))
+
+-- where known bytes are refused as a text, that is their first faulty line as jobs, and what is wrong with it
+abbrev pub TellsFirstFault : (given : Option (List ℕ)) → Refusal → Type 0
+TellsFirstFault None why = ⊤
+TellsFirstFault (Some text) (Text number cause) = IsFirstFaultOfJobs text (Text number cause)
+TellsFirstFault (Some text) _ = ⊤
+
+-- what the reading of jobs may be refused
+abbrev pub IsReadingRefusal : Refusal → Type 0
+IsReadingRefusal Memory = Unit {0}
+IsReadingRefusal (Text number cause) = Unit {0}
+IsReadingRefusal Read = Unit {0}
+IsReadingRefusal _ = ⊥
+
+-- what work on a text of jobs may be refused
+abbrev pub IsWorkRefusal : Refusal → Type 0
+IsWorkRefusal BadSize = Unit {0}
+IsWorkRefusal Lost = Unit {0}
+IsWorkRefusal Write = Unit {0}
+IsWorkRefusal why = IsReadingRefusal why
+
+-- how the reading behind an answer ended, by what is answered: nothing was read where a size is out of its range
+abbrev pub EndsReadingOrUnread : {A : Type 0} → Result A Refusal → (old_failures new_failures : ℕ) → (has_ended : Bool) → Type 0
+EndsReadingOrUnread (Err BadSize) old new ended = new ≡ old
+EndsReadingOrUnread result old new ended = EndsReadingFor result old new ended

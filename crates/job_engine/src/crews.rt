@@ -1,0 +1,95 @@
+//! A queue of either kind, with a seat for each worker and one for the submitter.
+ghost use Rattle.std.specs.Prelude.{◌≡◌, ◌≤◌, length, map, IfErr, IfOk};
+ghost use Rattle.job_results.specs.Jobs.{job_rows};
+ghost use Rattle.job_results.specs.Results.{row_of};
+ghost use Rattle.dispatcher.specs.Workers.{StopsWorkers};
+ghost use Rattle.job_engine.specs.Crews.{crew_roles, IsCrew};
+ghost use Rattle.job_engine.specs.Works.{AreSized};
+
+use dispatcher::{Gate, dispatch};
+use history::{Fifo, Refusal};
+use job_results::{Job, JobResult};
+use line_table::Kind;
+use node_arena::Role;
+use nonblocking::MsQueue;
+use std::alloc::Global;
+use std::sync::Wait;
+use std::thread::Threads;
+use two_lock::TwoLockQueue;
+
+/// The greatest count of all.
+const GREATEST_COUNT: u64 = 1_099_511_627_775;
+
+/// A gate that does nothing.
+#[derive(Drop)]
+struct Open;
+
+impl Gate for Open {
+    fn before(&self, _number: u64) {}
+
+    fn after(&self, _number: u64) {}
+}
+
+/// The results of jobs, in their order, by so many workers over a queue of this kind and with so many nodes.
+///
+/// Refused by `Memory`, and by `Lost` where a job has no result. Takes memory, starts threads, and waits.
+pub(crate) fn results_by<'a, R: Threads + Wait + Sync>(
+    rt: &R,
+    alloc: Global,
+    workers: u32,
+    kind: Kind,
+    nodes: u32,
+    jobs: &'a [Job],
+) -> Result<Vec<JobResult<'a>>, Refusal>
+    requires sizes { AreSized workers nodes }
+    requires few { length jobs.now ≤ 1000000 }
+    ensures rows { IfOk result (λ results. map row_of results.items ≡ job_rows 1 jobs.now) }
+    ensures why { IfErr result StopsWorkers }
+{
+    let roles = roles_of(alloc, workers)?;
+    match kind {
+        Kind::TwoLock => {
+            let (queue, seats) = TwoLockQueue::new(alloc, nodes, GREATEST_COUNT, &roles)?;
+            results_over(rt, alloc, &queue, workers, seats, jobs)
+        }
+        Kind::NonBlocking => {
+            let (queue, seats) = MsQueue::new(alloc, nodes, GREATEST_COUNT, &roles)?;
+            results_over(rt, alloc, &queue, workers, seats, jobs)
+        }
+    }
+}
+
+// A role for each worker, and the submitter's.
+fn roles_of(alloc: Global, workers: u32) -> Result<Vec<Role>, Refusal>
+    ensures roles { IfOk result (λ roles. roles.items ≡ crew_roles workers) }
+    ensures only_memory { IfErr result (λ why. why ≡ Refusal.Memory) }
+{
+    let Ok(mut roles) = vec![in alloc; Role::Taker; workers as usize] else {
+        return Err(Refusal::Memory);
+    };
+    match roles.push(Role::Giver) {
+        Ok(()) => Ok(roles),
+        Err(_) => Err(Refusal::Memory),
+    }
+}
+
+// The results of jobs over any queue, by a worker for each of its seats but the last, which is the submitter's.
+fn results_over<'a, R: Threads + Wait + Sync, Q: Fifo + Sync>(
+    rt: &R,
+    alloc: Global,
+    queue: &Q,
+    workers: u32,
+    mut seats: Vec<Q::Seat>,
+    jobs: &'a [Job],
+) -> Result<Vec<JobResult<'a>>, Refusal>
+    requires some { 1 ≤ workers }
+    requires crew { IsCrew Q.is_seat Q.permits Q.known queue.now workers seats.items }
+    requires few { length jobs.now ≤ 1000000 }
+    ensures rows { IfOk result (λ results. map row_of results.items ≡ job_rows 1 jobs.now) }
+    ensures why { IfErr result StopsWorkers }
+{
+    let Some(giver) = seats.pop() else {
+        unreachable!()
+    };
+    dispatch(rt, alloc, queue, giver, seats, jobs, &Open)
+}

@@ -1,0 +1,7 @@
+//! The engine of `msq work`: from the text of jobs to the table of their results.
+#![tactic(auto)]
+
+mod crews;
+mod working;
+
+pub use working::work_text;

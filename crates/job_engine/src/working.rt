@@ -1,0 +1,88 @@
+//! Reads the text of jobs, has workers do them, and writes the table of their results.
+ghost use Rattle.std.specs.Prelude.{◌≡◌, ◌≢◌, ◌↔◌, IfErr, IfOk, OnErr, OnOk, IsTrue, Err};
+ghost use Rattle.history.specs.Blocks.{GivesUp};
+ghost use Rattle.source_text.specs.Readings.{EndsReadingFor};
+ghost use Rattle.job_engine.specs.Works.{AreSized, IsBadSize, IsTextOf, WritesResults, BeginsResults, TellsFirstFault, IsReadingRefusal, IsWorkRefusal, EndsReadingOrUnread};
+
+use crate::crews::results_by;
+use history::{Refusal, Sink, Source};
+use job_results::{Job, parse_jobs};
+use line_table::Kind;
+use report::results_table;
+use source_text::read_all;
+use std::alloc::Global;
+use std::sync::Wait;
+use std::thread::Threads;
+
+/// The greatest number of workers.
+const MOST_WORKERS: u32 = 64;
+
+/// The greatest number of nodes.
+const MOST_NODES: u32 = 16_777_214;
+
+/// How many nodes more than workers there are at least.
+const SPARE_NODES: u32 = 3;
+
+/// Does the jobs whose text the reader gives, by so many workers, 1 to 64, each in a thread of its own, over a queue of
+/// this kind and with so many nodes, 3 more than workers to 16,777,214; and writes the table of their results.
+///
+/// Refusals: `BadSize` where a size is out of its range, before a byte is read; then `Memory`, as soon as a growth is
+/// refused; `Read` where a call of the reader fails; `Text` where the bytes are no jobs; `Lost` where a job has no result,
+/// since a worker or the submitter was refused memory or met a worn word; `Write` where a call of the writer fails or takes
+/// nothing. The greatest count is the greatest of all. Takes memory, starts threads, and waits.
+pub fn work_text<T: Threads + Wait + Sync, R: Source, W: Sink>(
+    rt: &T,
+    alloc: Global,
+    reader: &mut R,
+    writer: &mut W,
+    workers: u32,
+    kind: Kind,
+    nodes: u32,
+) -> Result<(), Refusal>
+    // The table of the results of the jobs that were read is written, and nothing else.
+    ensures ok { OnOk result (WritesResults (R.remaining reader.old) (W.contents writer.old)
+        (W.contents writer.new)) }
+    ensures quiet { OnOk result (W.failures writer.new ≡ W.failures writer.old) }
+    // A size out of its range is refused before anything is read.
+    ensures sized { (result ≡ Err Refusal.BadSize) ↔ IsBadSize workers nodes }
+    ensures unread { IfErr result (λ why. why ≡ Refusal.BadSize → reader.new ≡ reader.old) }
+    // A text is refused by its first faulty line.
+    ensures text { IfErr result (TellsFirstFault (R.remaining reader.old)) }
+    // Where writing fails, a beginning of the table is written.
+    ensures beginning { IfErr result (λ why. why ≡ Refusal.Write
+        → BeginsResults (R.remaining reader.old) (W.contents writer.old) (W.contents writer.new)) }
+    ensures write { IfErr result (λ why. why ≡ Refusal.Write
+        → GivesUp (W.failures writer.old) (W.failures writer.new) (W.is_full writer.new)) }
+    // At any other refusal nothing is.
+    ensures unwritten { IfErr result (λ why. why ≢ Refusal.Write → writer.new ≡ writer.old) }
+    ensures refusal { IfErr result IsWorkRefusal }
+    ensures reader { EndsReadingOrUnread result (R.failures reader.old) (R.failures reader.new)
+        (R.has_ended reader.new) }
+{
+    if !are_sized(workers, nodes) {
+        return Err(Refusal::BadSize);
+    }
+    let jobs = jobs_in(alloc, reader)?;
+    let results = results_by(rt, alloc, workers, kind, nodes, &jobs)?;
+    results_table(alloc, &results, writer)
+}
+
+/// Whether both sizes are in their ranges.
+fn are_sized(workers: u32, nodes: u32) -> bool
+    ensures sized { IsTrue result ↔ AreSized workers nodes }
+    ensures outside { ¬ IsTrue result ↔ IsBadSize workers nodes }
+{
+    1 <= workers && workers <= MOST_WORKERS && workers + SPARE_NODES <= nodes && nodes <= MOST_NODES
+}
+
+/// The jobs whose text a source gives.
+fn jobs_in<R: Source>(alloc: Global, reader: &mut R) -> Result<Vec<Job>, Refusal>
+    ensures ok { IfOk result (λ jobs. IsTextOf (R.remaining reader.old) jobs.items) }
+    ensures text { IfErr result (TellsFirstFault (R.remaining reader.old)) }
+    ensures refusal { IfErr result IsReadingRefusal }
+    ensures reader { EndsReadingFor result (R.failures reader.old) (R.failures reader.new)
+        (R.has_ended reader.new) }
+{
+    let text = read_all(alloc, reader)?;
+    parse_jobs(alloc, &text)
+}

@@ -1,0 +1,6 @@
+//! All bytes that a source gives.
+#![tactic(auto)]
+
+mod input;
+
+pub use input::read_all;
