@@ -1,42 +1,55 @@
--- What clap's reading of the words says of the file.
-use Rattle.std.proofs.Common.{◌≡◌, ◌==◌, ℕ, List, [], ◌∷◌, length, map, Option, Some, None, Bool, true, false, refl, ap, ◌∙◌, codes, option_map, Bor}
+-- What clap's reading of the words says of the file and the task.
+use Rattle.std.proofs.Common.{◌≡◌, ◌==◌, ℕ, List, [], ◌∷◌, length, map, Option, Some, None, Bool, true, false, not, ◌&&◌, refl, inl, inr, ap, ◌∙◌, codes, option_map, Bor}
 use Rattle.std.specs.Prelude.{unwrap_or, nat_eq}
 use Rattle.std.specs.Cmp.Lexicographic.{pointwise}
+use Rattle.std.specs.Prelude.{Result, Ok, Err, if◌then◌else◌}
+use Rattle.std.specs.Str.Parse.{ParsesUnsigned}
+use Rattle.clap.specs.Matches.{ReadsOne}
+use Rattle.line_table.specs.declared.lines.Kind.{Kind}
+use Rattle.line_table.specs.declared.lines.Kind.TheVariants.{TwoLock, NonBlocking}
 use Rattle.clap.specs.Words.{App, Row, Text, fault_of, first_of, is_simple, is_simple_and_free, subcommand_of}
 use Rattle.clap.proofs.OnLiterals.{clap_on_literals}
-use Rattle.msq.specs.Commands.{asked_file, asks_check, check_met, command_line_app, faults_in, file_met}
+use Rattle.msq.specs.Commands.{command_line_app, faults_in, file_met, kind_named, met_in, SaysNumber, TextRow}
 
--- no words name no file
-pub asked_file-nil : asked_file [] ≡ codes "-"
-unfolding clap_on_literals asked_file
-asked_file-nil = refl
+module _ (queues : TextRow) where
+  -- no words meet no command
+  pub met_in-nil : met_in queues [] ≡ None
+  unfolding clap_on_literals met_in
+  met_in-nil = refl
 
--- no words ask for no check
-pub asks_check-nil : asks_check [] ≡ false
-unfolding clap_on_literals asks_check
-asks_check-nil = refl
+  -- clap tells the matches of this command line
+  pub is_simple-command_line : is_simple (command_line_app queues) ≡ true
+  unfolding clap_on_literals
+  is_simple-command_line = refl
 
--- clap tells the matches of this command line
-pub is_simple-command_line : is_simple command_line_app ≡ true
-unfolding clap_on_literals
-is_simple-command_line = refl
+  -- clap tells the faults of this command line
+  pub is_free-command_line : is_simple_and_free (command_line_app queues) ≡ true
+  unfolding clap_on_literals
+  is_free-command_line = refl
 
--- clap tells the faults of this command line
-pub is_free-command_line : is_simple_and_free command_line_app ≡ true
-unfolding clap_on_literals
-is_free-command_line = refl
+  -- no words have no fault
+  pub faults_in-nil : faults_in queues [] ≡ []
+  unfolding faults_in
+  faults_in-nil = refl
 
--- no words have no fault
-pub faults_in-nil : faults_in [] ≡ []
-unfolding faults_in
-faults_in-nil = refl
+  -- the faults of words are those that clap tells of this command line
+  pub faults_in-words : {A : Type 0} (f : A → Text) (words : List A) (is_empty : Bool) (app : App) → app ≡ command_line_app queues → is_empty ≡ (length words == 0) → is_empty ≡ false
+      → fault_of app (map f words) ≡ faults_in queues (map f words)
+  unfolding faults_in
+  faults_in-words f [] is_empty app same is some = absurd cc
+  faults_in-words f (word ∷ words) is_empty app same is some = ap (λ (a : App). fault_of a (f word ∷ map f words)) same
 
--- the faults of words are those that clap tells of this command line
-pub faults_in-words : {A : Type 0} (f : A → Text) (words : List A) (is_empty : Bool) (app : App) → app ≡ command_line_app → is_empty ≡ (length words == 0) → is_empty ≡ false
-    → fault_of app (map f words) ≡ faults_in (map f words)
-unfolding faults_in
-faults_in-words f [] is_empty app same is some = absurd cc
-faults_in-words f (word ∷ words) is_empty app same is some = ap (λ (a : App). fault_of a (f word ∷ map f words)) same
+  -- the command that clap meets among the words
+  pub met_in-words : (app : App) (words : List Text) → app ≡ command_line_app queues → subcommand_of app words ≡ met_in queues words
+  unfolding met_in
+  met_in-words app words same = ap (λ (a : App). subcommand_of a words) same
+
+-- a plain command has no global argument
+pub plain_local : (a b has_globals d : Bool) → (a && (b && (not has_globals && d))) ≡ true → has_globals ≡ false
+plain_local a b false d e = refl
+plain_local true true true d e = absurd cc
+plain_local true false true d e = absurd cc
+plain_local false b true d e = absurd cc
 
 -- the file of the command that was met
 pub file_met-rows : (met : Option (Text × List Row)) (rows : List Row) → option_map (λ p. p.1) met ≡ Some rows → file_met met ≡ first_of (codes "FILE") rows
@@ -48,23 +61,18 @@ pub unwrap_or-now : (o : Option (Bor (List ℕ))) (d : Bor (List ℕ)) → (unwr
 unwrap_or-now None d = refl
 unwrap_or-now (Some file) d = refl
 
--- the file of the matches that clap tells of the words
-pub asked_file-met : (met : Option (Text × List Row)) (words : List Text) (o : Option (Bor (List ℕ))) (d file : Bor (List ℕ)) → met ≡ subcommand_of command_line_app words
-    → option_map (λ file. file.now) o ≡ file_met met → file ≡ unwrap_or o d → d.now ≡ codes "-" → file.now ≡ asked_file words
-unfolding asked_file
-asked_file-met met words o d file told is chosen dash = rw (chosen, unwrap_or-now o d, is, told, dash) refl
+-- the kind of the queue that a name in an option names
+pub kind_named-some : (o : Option (Bor Text)) (found : Option Text) (name : Bor Text) (b : Bool) → option_map (λ s. s.now) o ≡ found → o ≡ Some name → b ≡ pointwise nat_eq name.now (codes "two-lock")
+    → kind_named found ≡ (if b then TwoLock else NonBlocking)
+kind_named-some o found name b told is same = rw (← told, is, same) refl
 
--- what the name of the command that was met says of the words
-pub asks_check-met : (met : Option (Text × List Row)) (words : List Text) (b : Bool) → met ≡ subcommand_of command_line_app words → b ≡ check_met met → b ≡ asks_check words
-unfolding asks_check
-asks_check-met met words b told is = is ∙ ap check_met told
+-- no option names the usual queue
+pub kind_named-none : (o : Option (Bor Text)) (found : Option Text) → option_map (λ s. s.now) o ≡ found → o ≡ None → kind_named found ≡ NonBlocking
+kind_named-none o found told is = rw (← told, is) refl
 
--- the name of the command that was met, where its rows are told apart from it
-pub check_met-name : {B : Type 0} (name : Text) (f : B → Text) (g : B → List Row) (o : Option B) → Some name ≡ option_map f o → pointwise nat_eq name (codes "check") ≡ check_met (option_map (λ b. (f b, g b)) o)
-check_met-name name f g None e = absurd cc
-check_met-name name f g (Some b) e = let same : name ≡ f b = cc in ap (λ n. pointwise nat_eq n (codes "check")) same
-
--- where no command was met none is a check
-pub check_met-none : {B : Type 0} (f : B → Text) (g : B → List Row) (o : Option B) → None ≡ option_map f o → false ≡ check_met (option_map (λ b. (f b, g b)) o)
-check_met-none f g None e = refl
-check_met-none f g (Some b) e = absurd cc
+-- the number that was read of an option, or another one
+pub SaysNumber-read : {E : Type 0} (gives : List ℕ → Result ℕ E → Type 0) → ((t : List ℕ) (r : Result ℕ E) → gives t r → ParsesUnsigned 32 10 t r) → (o : Option Text) (r : Option ℕ) (other : ℕ)
+    → (o ≡ None → r ≡ None) → ((t : List ℕ) → o ≡ Some t → ReadsOne gives t r) → SaysNumber o other (unwrap_or r other)
+SaysNumber-read gives parses None r other none value = rw (none refl) refl
+SaysNumber-read gives parses (Some t) None other none value = let read = value t refl in inr (parses t (Err read.0) read.1, refl)
+SaysNumber-read gives parses (Some t) (Some n) other none value = inl (parses t (Ok n) (value t refl))

@@ -13,7 +13,7 @@ use Rattle.history.specs.declared.operations.Verdict.TheVariants.{Yes, No}
 use Rattle.history.specs.declared.refusals.Refusal.{Refusal}
 use Rattle.history.specs.declared.refusals.Refusal.TheVariants.{Text}
 use Rattle.report.specs.HistoryTable.{history_table_text}
-use Rattle.msq.specs.Runs.{WereAll, EndsReadingAt}
+use Rattle.source_text.specs.Readings.{WereAll}
 
 -- the name of what is wrong with an operation
 abbrev pub cause_name : Cause → List ℕ
@@ -56,9 +56,3 @@ abbrev pub TellsFirstFault : (given : Option (List ℕ)) → Refusal → Type 0
 TellsFirstFault None why = ⊤
 TellsFirstFault (Some text) (Text number cause) = IsFirstFaultOfHistory text (Text number cause)
 TellsFirstFault (Some text) _ = ⊤
-
--- how the reading behind an answer ends: a call failed where the answer is refused so, and else none did; where memory
--- wasn't refused the end was told
-abbrev pub EndsReadingFor : {A : Type 0} → Result A Refusal → (old_failures new_failures : ℕ) → (has_ended : Bool) → Type 0
-EndsReadingFor (Ok answer) old new ended = (new ≡ old) × (ended ≡ true)
-EndsReadingFor (Err why) old new ended = EndsReadingAt why old new ended

@@ -1,21 +1,37 @@
 -- What the words after the program's name ask for.
-use Rattle.std.specs.Prelude.{◌≡◌, ◌⊎◌, ℕ, Bool, true, false, nat_eq, List, [], ◌∷◌, codes, Option, Some, None, string_bytes, unwrap_or}
+use Rattle.std.specs.Prelude.{◌≡◌, ◌⊎◌, ℕ, ◌<◌, ◌^◌, Bool, true, false, nat_eq, if◌then◌else◌, List, [], ◌∷◌, codes, map, Option, Some, None, string_bytes, unwrap_or}
+use Rattle.std.specs.Borrow.{Bor}
 use Rattle.std.specs.Cmp.Lexicographic.{pointwise}
-use Rattle.clap.specs.Words.{App, IsAmong, Kinds, Row, Rule, Text, fault_of, first_of, new_app, new_rule, subcommand_of, with_rule, with_subcommand}
+use Rattle.std.specs.Str.Parse.{IsNumeral, digits_value, without_leading_plus}
+use Rattle.clap.specs.Words.{App, IsAmong, Kinds, Row, Rule, Text, fault_of, first_of, one_of, new_app, new_rule, subcommand_of, takes, with_rule, with_subcommand}
+use Rattle.clap.specs.declared.builder.value_parser.ValueParser.{ValueParser}
+use Rattle.clap.specs.declared.builder.value_parser.ValueParser.TheVariants.{Names, Unsigned}
 use Rattle.clap.specs.declared.error.kind.ErrorKind.{ErrorKind}
 use Rattle.clap.specs.declared.error.kind.ErrorKind.TheVariants.{DisplayHelp, DisplayVersion, OutOfMemory}
+use Rattle.line_table.specs.declared.lines.Kind.{Kind}
+use Rattle.line_table.specs.declared.lines.Kind.TheVariants.{TwoLock, NonBlocking}
 use Rattle.msq.specs.declared.commands.Command.{Command}
-use Rattle.msq.specs.declared.commands.Command.TheVariants.{Run, Check}
+use Rattle.msq.specs.declared.commands.Crew.{Crew}
+use Rattle.msq.specs.declared.commands.Task.{Task}
+use Rattle.msq.specs.declared.commands.Task.TheVariants.{Run, Check, Work}
 
--- the file of a command, as its bytes
-abbrev pub file_of : Command → List ℕ
-file_of (Run file) = string_bytes file
-file_of (Check file) = string_bytes file
+-- whether a task judges a history
+abbrev pub is_check : Task → Bool
+is_check Check = true
+is_check _ = false
 
--- whether a command judges a history
-abbrev pub is_check : Command → Bool
-is_check (Run file) = false
-is_check (Check file) = true
+-- whether a task does jobs
+abbrev pub is_work : Task → Bool
+is_work (Work crew) = true
+is_work _ = false
+
+-- texts in a row, where they lie
+abbrev pub TextRow : Type 0
+TextRow = Bor (List (Bor Text))
+
+-- these are the names of the queues
+abbrev pub AreQueues : TextRow → Type 0
+AreQueues queues = map (λ (name : Bor Text). name.now) queues.now ≡ codes "two-lock" ∷ codes "nonblocking" ∷ []
 
 -- the required argument FILE
 abbrev pub file_rule : Rule
@@ -24,6 +40,22 @@ file_rule = record (new_rule (codes "FILE")) { required = true }
 -- a command of this name, with a FILE
 abbrev pub file_app : Text → App
 file_app name = with_rule (new_app name) file_rule
+
+-- an option with a number in a range, and what it is where it isn't given
+abbrev pub number_rule : (id long : Text) → (least most : ℕ) → (other : Text) → Rule
+number_rule id long least most other =
+    record (new_rule id) { long = Some long; parser = Some (Unsigned least most); defaults = other ∷ [] }
+
+-- the option with one of the names of queues
+abbrev pub queue_rule : TextRow → Rule
+queue_rule queues =
+    record (new_rule (codes "QUEUE")) { long = Some (codes "queue"); parser = Some (Names queues); defaults = codes "nonblocking" ∷ [] }
+
+-- the command `work`, with a FILE, so many workers, a queue, and so many nodes
+abbrev pub work_app : TextRow → App
+work_app queues =
+    with_rule (with_rule (with_rule (file_app (codes "work")) (number_rule (codes "WORKERS") (codes "workers") 1 64 (codes "4")))
+    (queue_rule queues)) (number_rule (codes "NODES") (codes "nodes") 2 16777214 (codes "1024"))
 
 -- the program's command before its commands are added: it has a version, and its words begin with the command's
 abbrev pub bare_app : App
@@ -34,31 +66,78 @@ bare_app =
     }
 
 -- the program's command line, as clap reads it
-abbrev pub command_line_app : App
-command_line_app = with_subcommand (with_subcommand bare_app (file_app (codes "run")).top) (file_app (codes "check")).top
+abbrev pub command_line_app : TextRow → App
+command_line_app queues =
+    with_subcommand (with_subcommand (with_subcommand bare_app (file_app (codes "run")).top) (file_app (codes "check")).top) (work_app queues).top
 
 -- the FILE among the matches of a command
 abbrev pub file_met : Option (Text × List Row) → Option Text
 file_met None = None
 file_met (Some command) = first_of (codes "FILE") command.1
 
--- whether the command that was met is `check`
-abbrev pub check_met : Option (Text × List Row) → Bool
-check_met None = false
-check_met (Some command) = pointwise nat_eq command.0 (codes "check")
+-- whether the command that was met has this name
+abbrev pub is_met : Text → Option (Text × List Row) → Bool
+is_met name None = false
+is_met name (Some command) = pointwise nat_eq command.0 name
 
--- whether the words ask for a check; no words ask for a run
-unfoldable pub asks_check : List Text → Bool
-asks_check words = check_met (subcommand_of command_line_app words)
+-- a text says a number of 32 bits
+abbrev pub IsNumberText : Text → Type 0
+IsNumberText text = IsNumeral 10 (without_leading_plus text) × (digits_value 10 (without_leading_plus text) < 2 ^ 32)
 
--- the file that the words name, and `-` where they name none
-unfoldable pub asked_file : List Text → List ℕ
-asked_file words = unwrap_or (file_met (subcommand_of command_line_app words)) (codes "-")
+-- a number is what the text of an option says, and another one where there is no option, or it says no number
+abbrev pub SaysNumber : Option Text → (other number : ℕ) → Type 0
+SaysNumber None other number = number ≡ other
+SaysNumber (Some text) other number =
+    (IsNumberText text × (number ≡ digits_value 10 (without_leading_plus text))) ⊎ ((¬ IsNumberText text) × (number ≡ other))
+
+-- the kind of the queue with this name
+abbrev pub kind_named : Option Text → Kind
+kind_named None = NonBlocking
+kind_named (Some name) = if pointwise nat_eq name (codes "two-lock") then TwoLock else NonBlocking
+
+-- the workers, the queue and the nodes that a command's options say
+pub record IsCrewOf (options : List Row) (crew : Crew) : Type 0 where
+  pub many : SaysNumber (one_of (codes "WORKERS") options) 4 crew.workers
+  pub queue : crew.kind ≡ kind_named (first_of (codes "QUEUE") options)
+  pub room : SaysNumber (one_of (codes "NODES") options) 1024 crew.nodes
+
+-- the options of the command that was met are those of a task
+abbrev pub HasOptions : Option (Text × List Row) → Task → Type 0
+HasOptions (Some command) (Work crew) = IsCrewOf command.1 crew
+HasOptions None (Work crew) = ⊥
+HasOptions met task = Unit {0}
+
+-- the task is that of the command that was met, with its options; no command is a run
+pub record IsTask (met : Option (Text × List Row)) (task : Task) : Type 0 where
+  pub check : is_check task ≡ is_met (codes "check") met
+  pub work : is_work task ≡ is_met (codes "work") met
+  pub options : HasOptions met task
+
+-- the command among the words, with its options
+unfoldable pub met_in : TextRow → List Text → Option (Text × List Row)
+met_in queues words = subcommand_of (command_line_app queues) words
 
 -- what clap may find wrong with the words; nothing where there are none, which ask for a run
-unfoldable pub faults_in : List Text → Kinds
-faults_in [] = []
-faults_in (word ∷ words) = fault_of command_line_app (word ∷ words)
+unfoldable pub faults_in : TextRow → List Text → Kinds
+faults_in queues [] = []
+faults_in queues (word ∷ words) = fault_of (command_line_app queues) (word ∷ words)
+
+-- a command is what the words ask for: the FILE that they name, and `-` where they name none; the task with its options.
+-- Clap finds no fault in them
+pub record IsAsked (queues : TextRow) (words : List Text) (command : Command) : Type 0 where
+  pub file : string_bytes command.file ≡ unwrap_or (file_met (met_in queues words)) (codes "-")
+  pub task : IsTask (met_in queues words) command.task
+  pub taken : faults_in queues words ≡ []
+
+-- the same, of names of queues that lie somewhere
+pub record IsAskedSomewhere (words : List Text) (command : Command) : Type 0 where
+  pub queues : TextRow
+  pub named : AreQueues queues
+  pub asked : IsAsked queues words command
+
+-- words are a command line, wherever the names of queues lie
+abbrev pub AreTaken : List Text → Type 0
+AreTaken words = (queues : TextRow) → AreQueues queues → takes (command_line_app queues) words ≡ true
 
 -- the exit status for what clap says: 0 with help and the version, 1 where memory was refused, 2 with all else
 abbrev pub status_at : ErrorKind → ℕ
@@ -70,3 +149,9 @@ status_at _ = 2
 -- the status is that of something which clap may find wrong, or 1, where memory was refused
 abbrev pub IsStatusAmong : Kinds → ℕ → Type 0
 IsStatusAmong kinds status = (status ≡ 1) ⊎ ((kind : ErrorKind) × IsAmong kind kinds × (status ≡ status_at kind))
+
+-- the same, of what clap may find wrong with the words, for names of queues that lie somewhere
+pub record IsStatusOf (words : List Text) (status : ℕ) : Type 0 where
+  pub queues : TextRow
+  pub named : AreQueues queues
+  pub among : IsStatusAmong (faults_in queues words) status

@@ -17,6 +17,7 @@ use Rattle.schedule_text.specs.declared.schedules.Event.{Event}
 use Rattle.schedule_text.specs.declared.schedules.Event.TheVariants.{Begin, Step as StepAt, Steps, Give}
 use Rattle.schedule_text.specs.Schedules.{Schedule, moves_of, moves_of_event}
 use Rattle.schedule_text.specs.Texts.{schedule_lines, schedule_text, version_due, IsInRange}
+use Rattle.source_text.specs.Readings.{WereAll, EndsReadingAt}
 use Rattle.msq.specs.declared.faults.Fault.{Fault}
 
 -- the world after these moves; none where one of them can't be made
@@ -82,11 +83,6 @@ pub record EventsRefused (w : World) (events : List Event) (line : ℕ) (why : R
   pub world : World
   pub led : EventsLead w before world
   pub refused : EventRefused world event why
-
--- known bytes were these and no others
-abbrev pub WereAll : Option (List ℕ) → List ℕ → Type 0
-WereAll None text = ⊤
-WereAll (Some bytes) text = bytes ≡ text
 
 -- known bytes were the text of a schedule in range, all its events can be made, and the operations are those of the world
 -- that they lead to
@@ -162,33 +158,6 @@ IsMoveRefusal ActorBusy = Unit {0}
 IsMoveRefusal NotHere = Unit {0}
 IsMoveRefusal NoSuchActor = Unit {0}
 IsMoveRefusal _ = ⊥
-
--- bytes that were given are added to a text
-pub record AddsGiven (old new : Option (List ℕ)) (text longer : List ℕ) : Type 0 where
-  pub bytes : List ℕ
-  pub given : Consumes old new bytes
-  pub added : longer ≡ text ++ bytes
-
--- a call that gives bytes fails where it reads, and not where memory is refused
-abbrev pub ReadsOrFails : {A : Type 0} → Result A Refusal → (old_failures new_failures : ℕ) → Type 0
-ReadsOrFails (Ok count) old new = new ≡ old
-ReadsOrFails (Err Memory) old new = new ≡ old
-ReadsOrFails (Err Read) old new = new ≡ old + 1
-ReadsOrFails (Err _) old new = ⊥
-
--- how a reading of all bytes ends: no call failed where the end was told or memory was refused, and else the last one
-abbrev pub ReadsAll : {A : Type 0} → Result A Refusal → (old_failures new_failures : ℕ) → (has_ended : Bool) → Type 0
-ReadsAll (Ok text) old new ended = (new ≡ old) × (ended ≡ true)
-ReadsAll (Err Memory) old new ended = new ≡ old
-ReadsAll (Err Read) old new ended = new ≡ old + 1
-ReadsAll (Err _) old new ended = ⊥
-
--- how the reading behind a run ends: a call failed where the run is refused so, and else none did; where memory wasn't
--- refused the end was told
-abbrev pub EndsReadingAt : Refusal → (old_failures new_failures : ℕ) → (has_ended : Bool) → Type 0
-EndsReadingAt Memory old new ended = new ≡ old
-EndsReadingAt Read old new ended = new ≡ old + 1
-EndsReadingAt _ old new ended = (new ≡ old) × (ended ≡ true)
 
 -- how the reading behind a run ends, by what the run answers
 abbrev pub EndsReading : {A : Type 0} → Result A Fault → (old_failures new_failures : ℕ) → (has_ended : Bool) → Type 0

@@ -1,11 +1,22 @@
 //! The words after the program's name.
-ghost use Rattle.std.specs.Prelude.{◌≡◌, ◌⊎◌, [], IfErr, IfOk, map, option_map, string_bytes, true};
-ghost use Rattle.clap.specs.Words.{HasKind, app_of, kind_of, subcommand_rows_of, takes, with_subcommand};
-ghost use Rattle.msq.specs.Commands.{asked_file, asks_check, check_met, command_line_app, faults_in, file_app, file_met, file_of, is_check, status_at, IsStatusAmong};
+ghost use Rattle.std.specs.Prelude.{◌≡◌, ◌⊎◌, [], IfErr, IfOk, map, option_map, string_bytes, codes, true, false};
+ghost use Rattle.clap.specs.Words.{HasKind, app_of, first_of, found_of, kind_of, one_of, rows_of, rule_of, subcommand_rows_of, takes, with_subcommand};
+ghost use Rattle.msq.specs.Commands.{command_line_app, faults_in, file_app, file_met, kind_named, number_rule, status_at, work_app, AreQueues, AreTaken, IsAsked, IsAskedSomewhere, IsCrewOf, IsStatusOf, IsTask, SaysNumber};
 
+use clap::builder::ValueParser;
 use clap::error::ErrorKind;
 use clap::{Arg, ArgMatches};
+use line_table::Kind;
 use std::alloc::{AllocError, Global};
+
+/// The names of the queues.
+static QUEUES: [&str; 2] = ["two-lock", "nonblocking"];
+
+/// How many workers there are where the words don't say it.
+const USUAL_WORKERS: u32 = 4;
+
+/// How many nodes there are where the words don't say it.
+const USUAL_NODES: u32 = 1024;
 
 /// What the program's help says at its end.
 const AFTER_HELP: &str = "With no words at all it runs the schedule on standard input.
@@ -16,24 +27,34 @@ Exit statuses:
   2  the words were refused
   3  check said no";
 
-/// What the program is asked to do.
-#[derive(Debug, Drop)]
-pub enum Command {
-    /// Runs the schedule in this file; `-` is standard input.
-    Run { file: String },
-    /// Judges the history in this file; `-` is standard input.
-    Check { file: String },
+/// How `work` does jobs.
+#[derive(Clone, Copy, Debug)]
+pub struct Crew {
+    /// How many workers there are.
+    pub workers: u32,
+    /// Over which queue.
+    pub kind: Kind,
+    /// How many nodes the queue has.
+    pub nodes: u32,
 }
 
-impl Command {
-    /// The file's name. Takes no memory.
-    pub fn file(&self) -> &str
-        ensures { result.now ≡ file_of self.now }
-    {
-        match self {
-            Command::Run { file } | Command::Check { file } => file.as_str(),
-        }
-    }
+/// What is done with a file.
+#[derive(Clone, Copy, Debug)]
+pub enum Task {
+    /// Runs the schedule in it.
+    Run,
+    /// Judges the history in it.
+    Check,
+    /// Does the jobs in it.
+    Work(Crew),
+}
+
+/// What the program is asked to do.
+#[derive(Debug, Drop)]
+pub struct Command {
+    pub task: Task,
+    /// The file's name; `-` is standard input.
+    pub file: String,
 }
 
 /// The command that the words after the program's name ask for; no words ask for `run -`.
@@ -42,20 +63,16 @@ impl Command {
 /// goes to standard output, 2 for words that are refused, and 1 with no text where memory was
 /// refused. Takes memory, and doesn't wait.
 pub fn read_words(alloc: Global, words: &[String]) -> Result<Command, (u8, String)>
-    // At `Ok` it takes the file that the words name, and `-` where they name none.
-    ensures file { IfOk result (λ command. file_of command ≡ asked_file (map string_bytes words.now)) }
-    ensures check { IfOk result (λ command. is_check command ≡ asks_check (map string_bytes words.now)) }
-    // It is `Ok` only where clap finds no fault in the words.
-    ensures taken { IfOk result (λ _. faults_in (map string_bytes words.now) ≡ []) }
+    // At `Ok` it is what the words ask for, and clap finds no fault in them.
+    ensures asked { IfOk result (IsAskedSomewhere (map string_bytes words.now)) }
     // Words that are a command line, and no words, are refused only where memory is.
-    ensures passes { IfErr result (λ e. takes command_line_app (map string_bytes words.now) ≡ true
-        → e.0 ≡ 1) }
+    ensures passes { IfErr result (λ e. AreTaken (map string_bytes words.now) → e.0 ≡ 1) }
     ensures none { words.now ≡ [] → IfErr result (λ e. e.0 ≡ 1) }
     // The status is that of what clap says, or 1 where memory is refused.
-    ensures status { IfErr result (λ e. IsStatusAmong (faults_in (map string_bytes words.now)) e.0) }
+    ensures status { IfErr result (λ e. IsStatusOf (map string_bytes words.now) e.0) }
     ensures memory { IfErr result (λ e. e.0 ≡ 1 → string_bytes e.1 ≡ []) }
 {
-    match asked(alloc, words) {
+    match asked(alloc, QUEUES.as_slice(), words) {
         Ok(command) => Ok(command),
         Err(error) => Err(told(alloc, &error)),
     }
@@ -72,17 +89,73 @@ fn with_command<'a>(
     ensures { IfOk result (λ more.
         app_of more ≡ with_subcommand (app_of program.entry) (file_app name.entry.now).top) }
 {
-    let file = Arg::new(alloc, "FILE").help(file).required(true);
-    let command = clap::Command::new(alloc, name).about(about).arg(file)?;
-    program.subcommand(command)
+    program.subcommand(command_on(alloc, name, about, file)?)
 }
 
-/// The command line: `run` and `check` with a FILE, help and the version.
-fn command_line<'a>(alloc: Global) -> Result<clap::Command<'a>, AllocError>
-    ensures { IfOk result (λ command. app_of command ≡ command_line_app) }
+/// A command of this name, with a FILE.
+fn command_on<'a>(
+    alloc: Global,
+    name: &'a str,
+    about: &'a str,
+    file: &'a str,
+) -> Result<clap::Command<'a>, AllocError>
+    ensures { IfOk result (λ command. app_of command ≡ file_app name.entry.now) }
+{
+    let file = Arg::new(alloc, "FILE").help(file).required(true);
+    clap::Command::new(alloc, name).about(about).arg(file)
+}
+
+/// An option with a number in this range, and what it is where it isn't given.
+fn number_option<'a>(
+    alloc: Global,
+    id: &'a str,
+    long: &'a str,
+    range: (u64, u64),
+    other: &'a str,
+) -> Arg<'a>
+    ensures rule { rule_of result
+        ≡ number_rule id.entry.now long.entry.now range.0 range.1 other.entry.now }
+    ensures local { result.global ≡ false }
+{
+    Arg::new(alloc, id)
+        .long(long)
+        .value_parser(ValueParser::unsigned(range.0, range.1))
+        .default_value(other)
+}
+
+/// The command `work`, with the names of the queues.
+fn work_command<'a>(
+    alloc: Global,
+    queues: &'a [&'a str],
+) -> Result<clap::Command<'a>, AllocError>
+    ensures { IfOk result (λ command. app_of command ≡ work_app queues.entry) }
+{
+    let command = command_on(
+        alloc,
+        "work",
+        "Does jobs by workers over a queue, and writes the table of their results",
+        "The jobs; - is standard input",
+    )?;
+    let workers = number_option(alloc, "WORKERS", "workers", (1, 64), "4");
+    let command = command.arg(workers.help("How many workers there are, each a thread, 1 to 64"))?;
+    let queue = Arg::new(alloc, "QUEUE")
+        .long("queue")
+        .value_parser(queues)
+        .default_value("nonblocking");
+    let command = command.arg(queue.help("The queue"))?;
+    let nodes = number_option(alloc, "NODES", "nodes", (2, 16_777_214), "1024");
+    command.arg(nodes.help("How many nodes the queue has, 3 more than workers to 16777214"))
+}
+
+/// The command line: `run`, `check` and `work` with a FILE, help and the version.
+fn command_line<'a>(
+    alloc: Global,
+    queues: &'a [&'a str],
+) -> Result<clap::Command<'a>, AllocError>
+    ensures { IfOk result (λ command. app_of command ≡ command_line_app queues.entry) }
 {
     let program = clap::Command::new(alloc, "msq")
-        .about("Runs concurrent queues one atomic line at a time, and judges histories")
+        .about("Runs concurrent queues one atomic line at a time, judges histories, and does jobs")
         .version("0.1.0")
         .after_help(AFTER_HELP)
         .no_binary_name(true)
@@ -101,25 +174,29 @@ fn command_line<'a>(alloc: Global) -> Result<clap::Command<'a>, AllocError>
         "Judges a history: writes its table, or what is wrong with it",
         "The history; - is standard input",
     )?;
+    let program = program.subcommand(work_command(alloc, queues)?)?;
     program.bin_name("msq")
 }
 
 /// The command, or what clap says instead.
-fn asked(alloc: Global, words: &[String]) -> Result<Command, clap::Error>
-    ensures file { IfOk result (λ command. file_of command ≡ asked_file (map string_bytes words.now)) }
-    ensures check { IfOk result (λ command. is_check command ≡ asks_check (map string_bytes words.now)) }
-    ensures taken { IfOk result (λ _. faults_in (map string_bytes words.now) ≡ []) }
-    ensures kinds { IfErr result (HasKind (faults_in (map string_bytes words.now))) }
-    ensures passes { IfErr result (λ e. takes command_line_app (map string_bytes words.now) ≡ true
+fn asked(
+    alloc: Global,
+    queues: &'static [&'static str],
+    words: &[String],
+) -> Result<Command, clap::Error>
+    ensures asked { IfOk result (IsAsked queues.entry (map string_bytes words.now)) }
+    ensures kinds { IfErr result (HasKind (faults_in queues.entry (map string_bytes words.now))) }
+    ensures passes { IfErr result (λ e.
+        takes (command_line_app queues.entry) (map string_bytes words.now) ≡ true
         → kind_of e ≡ ErrorKind.OutOfMemory) }
     ensures none { words.now ≡ [] → IfErr result (λ e. kind_of e ≡ ErrorKind.OutOfMemory) }
 {
     if words.is_empty() {
-        return Ok(command_of(alloc, false, "-")?);
+        return Ok(command_of(alloc, Task::Run, "-")?);
     }
-    let matches = command_line(alloc)?.try_get_matches_from(words)?;
+    let matches = command_line(alloc, queues)?.try_get_matches_from(words)?;
     let file = file_in(&matches).unwrap_or("-");
-    Ok(command_of(alloc, met_check(&matches), file)?)
+    Ok(command_of(alloc, task_in(&matches), file)?)
 }
 
 /// The FILE of the command that clap met.
@@ -130,26 +207,59 @@ fn file_in<'a>(matches: &ArgMatches<'a>) -> Option<&'a str>
     options.get_str("FILE")
 }
 
-/// Whether the command that clap met is `check`.
-fn met_check(matches: &ArgMatches<'_>) -> bool
-    ensures { result ≡ check_met (subcommand_rows_of matches.now) }
+/// The task of the command that clap met.
+fn task_in(matches: &ArgMatches<'_>) -> Task
+    ensures { IsTask (subcommand_rows_of matches.now) result }
 {
-    match matches.subcommand() {
-        Some((name, _options)) => name == "check",
-        None => false,
+    let Some((name, options)) = matches.subcommand() else {
+        return Task::Run;
+    };
+    if name == "check" {
+        Task::Check
+    } else if name == "work" {
+        Task::Work(crew_in(options))
+    } else {
+        Task::Run
     }
 }
 
-fn command_of(alloc: Global, checks: bool, file: &str) -> Result<Command, AllocError>
-    ensures file { IfOk result (λ command. file_of command ≡ file.now) }
-    ensures check { IfOk result (λ command. is_check command ≡ checks) }
+/// The workers, the queue and the nodes among the options of `work`.
+fn crew_in(options: &ArgMatches<'_>) -> Crew
+    ensures { IsCrewOf (rows_of (found_of options.now)) result }
+{
+    Crew {
+        workers: number_in(options, "WORKERS", USUAL_WORKERS),
+        kind: kind_in(options),
+        nodes: number_in(options, "NODES", USUAL_NODES),
+    }
+}
+
+/// The number of this option, and another one where there is none.
+fn number_in(options: &ArgMatches<'_>, id: &str, other: u32) -> u32
+    ensures { SaysNumber (one_of id.now (rows_of (found_of options.now))) other result }
+{
+    match options.get_one::<u32>(id) {
+        Some(number) => number,
+        None => other,
+    }
+}
+
+/// The kind of the queue that is named.
+fn kind_in(options: &ArgMatches<'_>) -> Kind
+    ensures { result ≡ kind_named (first_of (codes "QUEUE") (rows_of (found_of options.now))) }
+{
+    match options.get_str("QUEUE") {
+        Some(name) if name == "two-lock" => Kind::TwoLock,
+        _ => Kind::NonBlocking,
+    }
+}
+
+fn command_of(alloc: Global, task: Task, file: &str) -> Result<Command, AllocError>
+    ensures file { IfOk result (λ command. string_bytes command.file ≡ file.now) }
+    ensures task { IfOk result (λ command. command.task ≡ task) }
 {
     let file = String::from_str(alloc, file)?;
-    Ok(if checks {
-        Command::Check { file }
-    } else {
-        Command::Run { file }
-    })
+    Ok(Command { task, file })
 }
 
 /// The status and the text of what clap says.

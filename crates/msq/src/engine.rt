@@ -4,10 +4,10 @@ ghost use Rattle.msq.specs.Runs.{BeginsRun, WritesRun, EndsReading, IsRunFault, 
 ghost use Rattle.history.specs.Blocks.{GivesUp};
 
 use crate::faults::Fault;
-use crate::input::read_all;
 use crate::running::world_of_schedule;
 use history::{Refusal, Sink, Source, Stamped, print_history};
 use schedule_text::parse;
+use source_text::read_all;
 use std::alloc::Global;
 
 /// The history of the schedule whose text a source gives.

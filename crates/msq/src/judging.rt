@@ -3,12 +3,13 @@ ghost use Rattle.std.specs.Prelude.{◌≡◌, ◌≢◌, ◌≤◌, ◌⊎◌, 
 ghost use Rattle.std.specs.Io.KnownBytes.{Appends};
 ghost use Rattle.history.specs.Blocks.{TakesBeginning, GivesUp};
 ghost use Rattle.msq.specs.Runs.{IsRunRefusal};
-ghost use Rattle.msq.specs.Checks.{cause_name, no_text, verdict_text, IsTextOf, TellsVerdict, BeginsVerdict, TellsFirstFault, EndsReadingFor};
+ghost use Rattle.msq.specs.Checks.{cause_name, no_text, verdict_text, IsTextOf, TellsVerdict, BeginsVerdict, TellsFirstFault};
+ghost use Rattle.source_text.specs.Readings.{EndsReadingFor};
 
-use crate::input::read_all;
 use crate::sending::send;
 use history::{Cause, Line, Refusal, Sink, Source, Stamped, Verdict, check, parse_history};
 use report::history_table;
+use source_text::read_all;
 use std::alloc::Global;
 
 /// Judges the history whose text the reader gives, and writes the verdict: for Yes the table of the

@@ -5,7 +5,6 @@ mod commands;
 mod endings;
 mod engine;
 mod faults;
-mod input;
 mod judging;
 mod program;
 mod running;

@@ -1,19 +1,22 @@
 //! The program: its words, its files and its exit status.
-use crate::commands::{Command, read_words};
+use crate::commands::{Command, Task, read_words};
 use crate::endings::end_of;
 use crate::engine::run;
 use crate::faults::Fault;
 use crate::judging::check_text;
 use history::{ReaderSource, Refusal, Source, Verdict, WriterSink};
+use job_engine::work_text;
 use std::fs::File;
 use std::rt::Runtime;
+use std::sync::Wait;
+use std::thread::Threads;
 use std::{env, io};
 
 /// Does what the program's words ask for, and answers the exit status: 0 where it is done or help
 /// was asked for, 1 where it was refused, 2 where the words were, 3 where a history was judged No.
 ///
 /// A refusal is one line on standard error.
-pub fn run_program<R: Runtime + AllocGlobal>(rt: &R) -> u8 {
+pub fn run_program<R: Runtime + AllocGlobal + Threads + Wait + Sync>(rt: &R) -> u8 {
     let words = match words_of(rt) {
         Ok(words) => words,
         Err(error) if error.kind() == io::ErrorKind::InvalidData => {
@@ -39,8 +42,11 @@ fn words_of<R: Runtime + AllocGlobal>(rt: &R) -> io::Result<Vec<String>> {
 }
 
 /// Obeys a command on its file, or on standard input for `-`, and writes to standard output.
-fn outcome_of<R: Runtime + AllocGlobal>(rt: &R, command: &Command) -> Result<Verdict, Fault> {
-    let file = command.file();
+fn outcome_of<R: Runtime + AllocGlobal + Threads + Wait + Sync>(
+    rt: &R,
+    command: &Command,
+) -> Result<Verdict, Fault> {
+    let file = command.file.as_str();
     if file == "-" {
         return outcome_on(rt, command, ReaderSource::new(rt.reader()));
     }
@@ -50,20 +56,32 @@ fn outcome_of<R: Runtime + AllocGlobal>(rt: &R, command: &Command) -> Result<Ver
     }
 }
 
-/// Obeys a command on what a source gives. A run that is done has the verdict Yes.
-fn outcome_on<R: Runtime + AllocGlobal, S: Source + Drop>(
+/// Obeys a command on what a source gives. A run, and jobs, that are done have the verdict Yes.
+fn outcome_on<R: Runtime + AllocGlobal + Threads + Wait + Sync, S: Source + Drop>(
     rt: &R,
     command: &Command,
     source: S,
 ) -> Result<Verdict, Fault> {
     let mut reader = source;
     let mut writer = WriterSink::new(io::writer(rt));
-    match command {
-        Command::Run { .. } => {
+    match command.task {
+        Task::Run => {
             run(rt.alloc(), &mut reader, &mut writer)?;
             Ok(Verdict::Yes)
         }
-        Command::Check { .. } => Ok(check_text(rt.alloc(), &mut reader, &mut writer)?),
+        Task::Check => Ok(check_text(rt.alloc(), &mut reader, &mut writer)?),
+        Task::Work(crew) => {
+            work_text(
+                rt,
+                rt.alloc(),
+                &mut reader,
+                &mut writer,
+                crew.workers,
+                crew.kind,
+                crew.nodes,
+            )?;
+            Ok(Verdict::Yes)
+        }
     }
 }
 

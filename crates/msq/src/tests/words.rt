@@ -1,4 +1,5 @@
-use crate::commands::{Command, read_words};
+use crate::commands::{Crew, Task, read_words};
+use line_table::Kind;
 use std::alloc::{AllocError, Global};
 use std::test::Fail;
 
@@ -10,39 +11,48 @@ fn strings(alloc: Global, words: &[&str]) -> Result<Vec<String>, AllocError> {
     Ok(strings)
 }
 
-#[test]
-fn reads_the_file_to_run(rt: HostRuntime) -> Result<(), Fail> {
-    let cases: [(&[&str], &str); 6] = [
-        (&[], "-"),
-        (&["run", "-"], "-"),
-        (&["run", "row.schedule"], "row.schedule"),
-        (&["run", ""], ""),
-        (&["run", "two words"], "two words"),
-        (&["run", "--", "--help"], "--help"),
-    ];
-    for (words, want) in &cases {
-        let words = strings(rt.alloc(), words)?;
-        match read_words(rt.alloc(), &words) {
-            Ok(Command::Run { file }) => assert_eq!(rt; file.as_str(), *want),
-            Ok(command) => panic!(rt; "{words:?} gave {command:?}"),
-            Err((status, text)) => panic!(rt; "{words:?} gave {status}, {text}"),
-        }
+/// What a task's words ask for: 1 for a run, 2 for a check, 3 for work; the workers, the queue and the nodes.
+fn told(task: Task) -> (u8, u32, u8, u32) {
+    match task {
+        Task::Run => (1, 0, 0, 0),
+        Task::Check => (2, 0, 0, 0),
+        Task::Work(Crew {
+            workers,
+            kind,
+            nodes,
+        }) => (3, workers, if kind == Kind::TwoLock { 1 } else { 2 }, nodes),
     }
-    Ok(())
 }
 
 #[test]
-fn reads_the_file_to_check(rt: HostRuntime) -> Result<(), Fail> {
-    let cases: [(&[&str], &str); 3] = [
-        (&["check", "-"], "-"),
-        (&["check", "row.history"], "row.history"),
-        (&["check", ""], ""),
+fn reads_what_to_do_with_which_file(rt: HostRuntime) -> Result<(), Fail> {
+    let cases: [(&[&str], (u8, u32, u8, u32), &str); 14] = [
+        (&[], (1, 0, 0, 0), "-"),
+        (&["run", "-"], (1, 0, 0, 0), "-"),
+        (&["run", "row.schedule"], (1, 0, 0, 0), "row.schedule"),
+        (&["run", ""], (1, 0, 0, 0), ""),
+        (&["run", "two words"], (1, 0, 0, 0), "two words"),
+        (&["run", "--", "--help"], (1, 0, 0, 0), "--help"),
+        (&["check", "-"], (2, 0, 0, 0), "-"),
+        (&["check", "row.history"], (2, 0, 0, 0), "row.history"),
+        (&["work", "a"], (3, 4, 2, 1024), "a"),
+        (&["work", "a", "--workers", "1"], (3, 1, 2, 1024), "a"),
+        (&["work", "--workers=64", "a"], (3, 64, 2, 1024), "a"),
+        (&["work", "-", "--queue", "two-lock"], (3, 4, 1, 1024), "-"),
+        (&["work", "a", "--queue", "nonblocking"], (3, 4, 2, 1024), "a"),
+        (
+            &["work", "a", "--nodes", "16777214", "--workers", "2"],
+            (3, 2, 2, 16_777_214),
+            "a",
+        ),
     ];
-    for (words, want) in &cases {
+    for (words, task, file) in &cases {
         let words = strings(rt.alloc(), words)?;
         match read_words(rt.alloc(), &words) {
-            Ok(Command::Check { file }) => assert_eq!(rt; file.as_str(), *want),
-            Ok(command) => panic!(rt; "{words:?} gave {command:?}"),
+            Ok(command) => {
+                let got = (told(command.task), command.file.as_str());
+                assert_eq!(rt; got, (*task, *file), "{words:?}");
+            }
             Err((status, text)) => panic!(rt; "{words:?} gave {status}, {text}"),
         }
     }
@@ -51,12 +61,21 @@ fn reads_the_file_to_check(rt: HostRuntime) -> Result<(), Fail> {
 
 #[test]
 fn refuses_other_words(rt: HostRuntime) -> Result<(), Fail> {
-    let cases: [(&[&str], u8); 11] = [
+    let cases: [(&[&str], u8); 20] = [
         (&["run"], 2),
         (&["run", "a", "b"], 2),
         (&["run", "--fast", "a"], 2),
         (&["check"], 2),
-        (&["work", "a"], 2),
+        (&["work"], 2),
+        (&["work", "a", "b"], 2),
+        (&["work", "a", "--workers", "0"], 2),
+        (&["work", "a", "--workers", "65"], 2),
+        (&["work", "a", "--nodes", "1"], 2),
+        (&["work", "a", "--nodes", "16777215"], 2),
+        (&["work", "a", "--queue", "non-blocking"], 2),
+        (&["work", "a", "--workers", "2", "--workers", "2"], 2),
+        (&["run", "a", "--workers", "2"], 2),
+        (&["work", "--help"], 0),
         (&["post", "a"], 2),
         (&["-"], 2),
         (&["Run", "a"], 2),

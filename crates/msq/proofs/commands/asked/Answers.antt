@@ -1,31 +1,29 @@
-use Rattle.std.proofs.Common.{◌∙◌, sym, ap, map, refl, subst, List, Global}
-use Rattle.std.specs.Prelude.{string_bytes}
+use Rattle.std.proofs.Common.{◌≡◌, ◌∙◌, sym, ap, map, refl, subst, codes, List, Option, None, Global}
+use Rattle.std.specs.Prelude.{string_bytes, unwrap_or, option_map}
 use Rattle.std.proofs.lemmas.Bool.{eqb-true}
 use Rattle.std.proofs.lemmas.List.{nil_from_length}
 use Rattle.std.proofs.lemmas.Result.{err_from_is_err_and}
-use Rattle.clap.specs.Words.{App, HasKind, Kinds, Text, is_simple, is_simple_and_free, takes, subcommand_of}
-use Rattle.msq.proofs.Words.{asked_file-nil, asks_check-nil, asked_file-met, asks_check-met, faults_in-nil, faults_in-words, is_free-command_line, is_simple-command_line}
+use Rattle.clap.specs.Words.{App, HasKind, Kinds, Row, Text, is_simple, is_simple_and_free, takes, subcommand_of, subcommand_rows_of}
+use Rattle.msq.specs.declared.commands.Task.TheVariants.{Run}
+use Rattle.msq.specs.Commands.{file_met, met_in, IsTask}
+use Rattle.msq.proofs.Words.{faults_in-nil, faults_in-words, is_free-command_line, is_simple-command_line, met_in-nil, met_in-words, unwrap_or-now}
 use Rattle.msq.proofs.commands.asked.Goals as goal
 
-pub returns-then-is_empty-clause-file : goal.returns-then-is_empty-clause-file
-returns-then-is_empty-clause-file c =
+pub returns-then-is_empty-clause-asked : goal.returns-then-is_empty-clause-asked
+returns-then-is_empty-clause-asked c =
     let empty = nil_from_length c.args.words.now (eqb-true _ _ (sym c.is_empty.ensures ∙ c.if-is_empty.true)) in
-    rw empty (c.in_ok-command_of.ensures.file ∙ sym asked_file-nil)
-
-pub returns-then-is_empty-clause-check : goal.returns-then-is_empty-clause-check
-returns-then-is_empty-clause-check c =
-    let empty = nil_from_length c.args.words.now (eqb-true _ _ (sym c.is_empty.ensures ∙ c.if-is_empty.true)) in
-    rw empty (c.in_ok-command_of.ensures.check ∙ sym asks_check-nil)
-
-pub returns-then-is_empty-clause-taken : goal.returns-then-is_empty-clause-taken
-returns-then-is_empty-clause-taken c =
-    let empty = nil_from_length c.args.words.now (eqb-true _ _ (sym c.is_empty.ensures ∙ c.if-is_empty.true)) in
-    rw empty faults_in-nil
+    let queues = c.args.queues in
+    let none : IsTask None Run = record { check = refl; work = refl; options = tt } in
+    rw empty (record {
+      file = c.in_ok-command_of.ensures.file ∙ ap (λ met. unwrap_or (file_met met) (codes "-")) (sym (met_in-nil queues));
+      task = subst (λ met. IsTask met c.in_ok-command_of.field-0.task) (sym (met_in-nil queues)) (rw c.in_ok-command_of.ensures.task none);
+      taken = faults_in-nil queues;
+    })
 
 pub returns-in_err-matches-clause-kinds : goal.returns-in_err-matches-clause-kinds
 returns-in_err-matches-clause-kinds c =
-    let free = ap is_simple_and_free c.in_ok-command_line.ensures ∙ is_free-command_line in
-    let faults = faults_in-words _ c.args.words.now _ _ c.in_ok-command_line.ensures c.is_empty.ensures c.if-is_empty.false in
+    let free = ap is_simple_and_free c.in_ok-command_line.ensures ∙ is_free-command_line c.args.queues in
+    let faults = faults_in-words c.args.queues _ c.args.words.now _ _ c.in_ok-command_line.ensures c.is_empty.ensures c.if-is_empty.false in
     let p = err_from_is_err_and c.from_residual-in_err-matches.result c.from_residual-in_err-matches.ensures.1 in
     rw (p.1, p.2) (subst (λ (kinds : Kinds). HasKind kinds c.in_err-matches.field-0.0) faults (c.in_err-matches.ensures.kinds free))
 
@@ -36,23 +34,17 @@ returns-in_err-matches-clause-passes c =
     rw (p.1, p.2)
     (λ taken. c.in_err-matches.ensures.passes (ap (λ (a : App). takes a words) c.in_ok-command_line.ensures ∙ taken))
 
-pub returns-clause-file : goal.returns-clause-file
-returns-clause-file c =
+pub returns-clause-asked : goal.returns-clause-asked
+returns-clause-asked c =
     let words : List Text = map (string_bytes {Z = Global}) c.args.words.now in
-    let simple = ap is_simple c.in_ok-command_line.ensures ∙ is_simple-command_line in
-    let told = (c.in_ok-matches.ensures.matches simple).1 in
-    c.in_ok-command_of-2.ensures.file
-    ∙ asked_file-met _ words c.file_in.result _ c.unwrap_or-file.result (told ∙ ap (λ (a : App). subcommand_of a words) c.in_ok-command_line.ensures) c.file_in.ensures c.unwrap_or-file.ensures refl
-
-pub returns-clause-check : goal.returns-clause-check
-returns-clause-check c =
-    let words : List Text = map (string_bytes {Z = Global}) c.args.words.now in
-    let simple = ap is_simple c.in_ok-command_line.ensures ∙ is_simple-command_line in
-    let told = (c.in_ok-matches.ensures.matches simple).1 in
-    c.in_ok-command_of-2.ensures.check
-    ∙ asks_check-met _ words _ (told ∙ ap (λ (a : App). subcommand_of a words) c.in_ok-command_line.ensures) c.met_check.ensures
-
-pub returns-clause-taken : goal.returns-clause-taken
-returns-clause-taken c =
-    let free = ap is_simple_and_free c.in_ok-command_line.ensures ∙ is_free-command_line in
-    sym (faults_in-words _ c.args.words.now _ _ c.in_ok-command_line.ensures c.is_empty.ensures c.if-is_empty.false) ∙ c.in_ok-matches.ensures.kinds free
+    let queues = c.args.queues in
+    let line = c.in_ok-command_line.ensures in
+    let free = ap is_simple_and_free line ∙ is_free-command_line queues in
+    let simple = ap is_simple line ∙ is_simple-command_line queues in
+    let met : subcommand_rows_of c.in_ok-matches.matches ≡ met_in queues words = (c.in_ok-matches.ensures.matches simple).1 ∙ met_in-words queues _ words line in
+    record {
+      file = c.in_ok-command_of-2.ensures.file ∙ ap (λ file. file.now) c.unwrap_or-file.ensures ∙ unwrap_or-now c.file_in.result _
+      ∙ ap (λ o. unwrap_or o (codes "-")) (c.file_in.ensures ∙ ap file_met met);
+      task = rw c.in_ok-command_of-2.ensures.task (subst (λ (o : Option (Text × List Row)). IsTask o c.task_in.result) met c.task_in.ensures);
+      taken = sym (faults_in-words queues _ c.args.words.now _ _ line c.is_empty.ensures c.if-is_empty.false) ∙ c.in_ok-matches.ensures.kinds free;
+    }

@@ -1,8 +1,9 @@
-use Rattle.std.proofs.Common.{◌≡◌, ap, ◌∙◌, codes, true}
+use Rattle.std.proofs.Common.{◌≡◌, ap, ap₂, ◌∙◌, codes, true}
 use Rattle.std.proofs.lemmas.Result.{IfOk-weaker}
 use Rattle.clap.specs.Words.{App, app_of, with_subcommand}
 use Rattle.clap.specs.Simple.{app_of_fields}
-use Rattle.msq.specs.Commands.{bare_app, command_line_app, file_app}
+use Rattle.msq.specs.Commands.{bare_app, command_line_app, file_app, work_app}
+use Rattle.msq.proofs.Words.{plain_local}
 use Rattle.msq.proofs.commands.command_line.Goals as goal
 
 -- the program's command, from a new one
@@ -15,6 +16,8 @@ returns c =
     rw (c.subcommand_required-program.ensures, c.no_binary_name.ensures, c.after_help.ensures, c.version.ensures, c.about.ensures) (ap bare_of c.new.ensures.app) in
     let run_is : app_of c.in_ok-program.program ≡ with_subcommand bare_app (file_app (codes "run")).top =
     c.in_ok-program.ensures ∙ ap (λ (a : App). with_subcommand a (file_app (codes "run")).top) bare_is in
-    let check_is : app_of c.in_ok-program-2.program ≡ command_line_app =
+    let check_is : app_of c.in_ok-program-2.program ≡ with_subcommand (with_subcommand bare_app (file_app (codes "run")).top) (file_app (codes "check")).top =
     c.in_ok-program-2.ensures ∙ ap (λ (a : App). with_subcommand a (file_app (codes "check")).top) run_is in
-    IfOk-weaker c.bin_name.result _ _ (λ r h. ap app_of_fields h.0 ∙ check_is) c.bin_name.ensures
+    let work_is : app_of c.in_ok-program-3.program ≡ command_line_app c.args.queues =
+    c.in_ok-program-3.ensures.shape (plain_local _ _ _ _ (ap (λ (a : App). a.top.is_plain) c.in_ok-work_command.ensures)) ∙ ap₂ (λ (a b : App). with_subcommand a b.top) check_is c.in_ok-work_command.ensures in
+    IfOk-weaker c.bin_name.result _ _ (λ r h. ap app_of_fields h.0 ∙ work_is) c.bin_name.ensures
