@@ -1,0 +1,6 @@
+pub mod Rows
+pub mod Tasks
+pub mod Pieces
+pub mod Within
+pub mod Told
+pub mod Shares

@@ -1,0 +1,42 @@
+-- Queues whose last seat receives and whose other seats send.
+use Rattle.std.specs.Prelude.{◌≡◌, ℕ, true, false, List, [], ◌∷◌, ◌++◌, length, map, replicate}
+use Rattle.std.specs.List.{All}
+use Rattle.history.specs.declared.refusals.Refusal.{Refusal}
+use Rattle.history.specs.declared.refusals.Refusal.TheVariants.{Memory, BadSize}
+use Rattle.history.specs.Seats.{Permit, Known}
+use Rattle.history.specs.Openings.{AreNew}
+use Rattle.node_arena.specs.declared.roles.Role.{Role}
+use Rattle.node_arena.specs.declared.roles.Role.TheVariants.{Giver, Taker}
+use Rattle.node_arena.specs.Plans.{Layout}
+use Rattle.node_arena.specs.Making.{NewRefused}
+use Rattle.mailbox.specs.Openings.{CanSend, CanReceive}
+
+-- who may push, and not pop
+abbrev pub giver : Permit
+giver = record { pushes = true; pops = false }
+
+-- who may pop, and not push
+abbrev pub taker : Permit
+taker = record { pushes = false; pops = true }
+
+-- so many seats that may push, and then one that may pop
+abbrev pub givers_and_taker : ℕ → List Permit
+givers_and_taker n = replicate n giver ++ taker ∷ []
+
+-- their roles
+abbrev pub giver_and_taker_roles : ℕ → List Role
+giver_and_taker_roles n = replicate n Giver ++ Taker ∷ []
+
+-- a new queue has a seat for each of so many senders, and then one for their receiver, and no others
+pub record IsOpened {Q S : Type 0} (is_seat : Q → S → Type 0) (permits : Q → List Permit) (known : S → Known) (n : ℕ) (queue : Q) (senders : List S) (receiver : S) : Type 0 where
+  pub permitted : permits queue ≡ givers_and_taker n
+  pub new : AreNew (permits queue) (map known (senders ++ receiver ∷ []))
+  pub count : length senders ≡ n
+  pub each : All (CanSend is_seat permits known queue) senders
+  pub last : CanReceive is_seat permits known queue receiver
+
+-- a new queue is refused for this cause: a size is out of its range, or there was no memory
+abbrev pub OpenRefused : Layout → Refusal → Type 0
+OpenRefused z BadSize = NewRefused z BadSize
+OpenRefused z Memory = Unit {0}
+OpenRefused z _ = ⊥

@@ -1,0 +1,141 @@
+//! Reads the text of mail, sends its letters, and writes the letters taken.
+ghost use Rattle.std.specs.Prelude.{◌≡◌, ◌≢◌, length, IfErr, IfOk, OnOk};
+ghost use Rattle.std.specs.List.{All};
+ghost use Rattle.history.specs.Blocks.{GivesUp};
+ghost use Rattle.mail_text.specs.MailTexts.{said_letters, IsMailInRange};
+ghost use Rattle.source_text.specs.Readings.{EndsReadingFor};
+ghost use Rattle.mail_engine.specs.Rows.{IsOpened};
+ghost use Rattle.mail_engine.specs.Posts.{IsTextOf, ArePosted, AreTaken, WritesLetters, BeginsLetters, TellsFirstFault, IsReadingRefusal, IsSendingRefusal, IsPostRefusal};
+
+use crate::opening::{non_blocking_seats, two_lock_seats};
+use crate::sharing::tasks_of;
+use crate::telling::tell;
+use history::{Fifo, Refusal, Sink, Source};
+use line_table::Kind;
+use mail_text::{Mail, parse_mail};
+use mailbox::{Office, post};
+use source_text::read_all;
+use std::alloc::Global;
+use std::sync::Wait;
+use std::thread::Threads;
+
+/// The greatest count of all.
+const GREATEST_COUNT: u64 = 1_099_511_627_775;
+
+/// How many nodes more than letters and senders there are.
+const SPARE_NODES: u32 = 2;
+
+/// Sends the letters whose text the reader gives, each sender's in a thread of its own, over a queue of this kind; takes
+/// them, and writes how many they are and a line for each: by rising sender, those of one sender in the order taken.
+///
+/// The queue has as many nodes as there are letters and senders, and two more, and the greatest count of all. Refusals, in
+/// this order: `Memory`, as soon as a growth is refused; `Read` where a call of the reader fails; `Text` where the bytes
+/// are no mail; then what `mailbox::post` is refused: `NoNode`, `WornOut`, `Memory` (also where a thread can't be made),
+/// `BadSize` where a letter has no body, and `Lost` where a letter is missing; `Write` where a call of the writer fails or
+/// takes nothing. Takes memory and time `n * log n` for `n` letters, starts threads, and waits.
+pub fn post_text<T: Threads + Wait + Sync, R: Source, W: Sink>(
+    rt: &T,
+    alloc: Global,
+    reader: &mut R,
+    writer: &mut W,
+    kind: Kind,
+) -> Result<(), Refusal>
+    // As many letters as were read were taken, and their text is written, and nothing else.
+    ensures ok { OnOk result (WritesLetters (ArePosted (R.remaining reader.old))
+        (W.contents writer.old) (W.contents writer.new)) }
+    ensures quiet { OnOk result (W.failures writer.new ≡ W.failures writer.old) }
+    // A text is refused by its first faulty line.
+    ensures text { IfErr result (TellsFirstFault (R.remaining reader.old)) }
+    // Where writing fails, a beginning of the text is written.
+    ensures beginning { IfErr result (λ why. why ≡ Refusal.Write
+        → BeginsLetters (ArePosted (R.remaining reader.old)) (W.contents writer.old)
+        (W.contents writer.new)) }
+    ensures write { IfErr result (λ why. why ≡ Refusal.Write
+        → GivesUp (W.failures writer.old) (W.failures writer.new) (W.is_full writer.new)) }
+    // At any other refusal nothing is.
+    ensures unwritten { IfErr result (λ why. why ≢ Refusal.Write → writer.new ≡ writer.old) }
+    ensures refusal { IfErr result IsPostRefusal }
+    ensures reader { EndsReadingFor result (R.failures reader.old) (R.failures reader.new)
+        (R.has_ended reader.new) }
+{
+    let mail = mail_in(alloc, reader)?;
+    post_mail(rt, alloc, mail, writer, kind)
+}
+
+/// The mail whose text a source gives.
+fn mail_in<R: Source>(alloc: Global, reader: &mut R) -> Result<Mail, Refusal>
+    ensures ok { IfOk result (λ mail.
+        IsTextOf (R.remaining reader.old) mail.senders (said_letters mail.letters.items)) }
+    ensures text { IfErr result (TellsFirstFault (R.remaining reader.old)) }
+    ensures refusal { IfErr result IsReadingRefusal }
+    ensures reader { EndsReadingFor result (R.failures reader.old) (R.failures reader.new)
+        (R.has_ended reader.new) }
+{
+    let text = read_all(alloc, reader)?;
+    parse_mail(alloc, &text)
+}
+
+// Sends letters over a queue of this kind, and writes those taken.
+fn post_mail<T: Threads + Wait + Sync, W: Sink>(
+    rt: &T,
+    alloc: Global,
+    mail: Mail,
+    writer: &mut W,
+    kind: Kind,
+) -> Result<(), Refusal>
+    requires { IsMailInRange mail.senders (said_letters mail.letters.items) }
+    ensures ok { OnOk result (WritesLetters (AreTaken mail.senders (length mail.letters.items))
+        (W.contents writer.old) (W.contents writer.new)) }
+    ensures quiet { OnOk result (W.failures writer.new ≡ W.failures writer.old) }
+    ensures beginning { IfErr result (λ why. why ≡ Refusal.Write
+        → BeginsLetters (AreTaken mail.senders (length mail.letters.items))
+        (W.contents writer.old) (W.contents writer.new)) }
+    ensures write { IfErr result (λ why. why ≡ Refusal.Write
+        → GivesUp (W.failures writer.old) (W.failures writer.new) (W.is_full writer.new)) }
+    ensures unwritten { IfErr result (λ why. why ≢ Refusal.Write → writer.new ≡ writer.old) }
+    ensures refusal { IfErr result IsSendingRefusal }
+{
+    let senders = mail.senders;
+    let nodes = mail.letters.len() as u32 + u32::from(senders) + SPARE_NODES;
+    match kind {
+        Kind::TwoLock => {
+            let (queue, seats, receiver) =
+                two_lock_seats(alloc, nodes, GREATEST_COUNT, senders)?;
+            post_over(rt, alloc, queue, seats, receiver, mail, writer)
+        }
+        Kind::NonBlocking => {
+            let (queue, seats, receiver) =
+                non_blocking_seats(alloc, nodes, GREATEST_COUNT, senders)?;
+            post_over(rt, alloc, queue, seats, receiver, mail, writer)
+        }
+    }
+}
+
+// Sends letters over a new queue with these seats, and writes those taken.
+fn post_over<T: Threads + Wait + Sync, Q: Fifo + Sync + Drop, W: Sink>(
+    rt: &T,
+    alloc: Global,
+    queue: Q,
+    seats: Vec<Q::Seat>,
+    receiver: Q::Seat,
+    mail: Mail,
+    writer: &mut W,
+) -> Result<(), Refusal>
+    requires mail { IsMailInRange mail.senders (said_letters mail.letters.items) }
+    requires opened { IsOpened Q.is_seat Q.permits Q.known mail.senders queue seats.items receiver }
+    ensures ok { OnOk result (WritesLetters (AreTaken mail.senders (length mail.letters.items))
+        (W.contents writer.old) (W.contents writer.new)) }
+    ensures quiet { OnOk result (W.failures writer.new ≡ W.failures writer.old) }
+    ensures beginning { IfErr result (λ why. why ≡ Refusal.Write
+        → BeginsLetters (AreTaken mail.senders (length mail.letters.items))
+        (W.contents writer.old) (W.contents writer.new)) }
+    ensures write { IfErr result (λ why. why ≡ Refusal.Write
+        → GivesUp (W.failures writer.old) (W.failures writer.new) (W.is_full writer.new)) }
+    ensures unwritten { IfErr result (λ why. why ≢ Refusal.Write → writer.new ≡ writer.old) }
+    ensures refusal { IfErr result IsSendingRefusal }
+{
+    let (office, senders, receiver) = Office::new(alloc, queue, seats, receiver)?;
+    let tasks = tasks_of(alloc, senders, mail.letters)?;
+    let (_receiver, letters) = post(rt, alloc, &office, tasks, receiver);
+    tell(letters?, writer)
+}

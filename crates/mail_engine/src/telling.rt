@@ -1,0 +1,114 @@
+//! The text of letters taken, by rising sender.
+ghost use Rattle.std.specs.Prelude.{◌≡◌, ◌++◌, ◌⊎◌, OnOk, OnErr, IfOk, IfErr};
+ghost use Rattle.std.specs.Io.KnownBytes.{Appends};
+ghost use Rattle.std.specs.List.{flat_map};
+ghost use Rattle.history.specs.Blocks.{Sends, TakesBeginning, GivesUp};
+ghost use Rattle.mail_engine.specs.Posts.{count_text, sender_text, letter_text, letters_text, AreBySender, WritesLetters, BeginsLetters};
+
+use history::{Block, Line, Refusal, Sink};
+use mailbox::Letter;
+
+/// Writes how many letters there are, and a line for each: by rising sender, those of one sender in their order.
+///
+/// Refused by `Memory` before the first byte is written, and else by `Write` where a call of the writer fails or takes
+/// nothing. Takes memory for the sort, and time `n * log n` for `n` letters; whether it waits is up to the writer.
+pub(crate) fn tell<W: Sink>(letters: Vec<Letter>, writer: &mut W) -> Result<(), Refusal>
+    ensures ok { OnOk result (WritesLetters (AreBySender letters.entry.items)
+        (W.contents writer.old) (W.contents writer.new)) }
+    ensures quiet { OnOk result (W.failures writer.new ≡ W.failures writer.old) }
+    ensures only { IfErr result (λ why. (why ≡ Refusal.Memory) ⊎ (why ≡ Refusal.Write)) }
+    ensures unwritten { IfErr result (λ why. why ≡ Refusal.Memory → writer.new ≡ writer.old) }
+    ensures beginning { IfErr result (λ why. why ≡ Refusal.Write
+        → BeginsLetters (AreBySender letters.entry.items) (W.contents writer.old) (W.contents writer.new)) }
+    ensures cause { IfErr result (λ why. why ≡ Refusal.Write
+        → GivesUp (W.failures writer.old) (W.failures writer.new) (W.is_full writer.new)) }
+{
+    let sorted = by_sender(letters)?;
+    write_letters(&sorted, writer)
+}
+
+// The letters by rising sender, those of one sender in their order.
+fn by_sender<'a>(mut letters: Vec<Letter<'a>>) -> Result<Vec<Letter<'a>>, Refusal>
+    ensures ok { IfOk result (λ told. AreBySender letters.entry.items told.items) }
+    ensures only_memory { IfErr result (λ why. why ≡ Refusal.Memory) }
+{
+    match letters.sort_by_key(|letter| letter.from) {
+        Ok(()) => Ok(letters),
+        Err(_) => Err(Refusal::Memory),
+    }
+}
+
+// Writes the text of letters, in their order.
+fn write_letters<W: Sink>(letters: &[Letter], writer: &mut W) -> Result<(), Refusal>
+    ensures ok { OnOk result (Appends (W.contents writer.old) (W.contents writer.new)
+        (letters_text letters.now)) }
+    ensures quiet { OnOk result (W.failures writer.new ≡ W.failures writer.old) }
+    ensures only_write { IfErr result (λ why. why ≡ Refusal.Write) }
+    ensures beginning { OnErr result (TakesBeginning (W.contents writer.old) (W.contents writer.new)
+        (letters_text letters.now)) }
+    ensures cause { OnErr result (GivesUp (W.failures writer.old) (W.failures writer.new)
+        (W.is_full writer.new)) }
+{
+    let mut block = Block::new();
+    block.put(writer, count_line(letters.len()).as_slice())?;
+    put_letters(&mut block, writer, letters)?;
+    block.finish(writer)
+}
+
+// Puts the lines of letters.
+fn put_letters<W: Sink>(
+    block: &mut Block,
+    writer: &mut W,
+    letters: &[Letter],
+) -> Result<(), Refusal>
+    ensures ok { OnOk result (Sends (W.contents writer.old) (W.contents writer.new)
+        (block.old ++ flat_map letter_text letters.now) block.new) }
+    ensures quiet { OnOk result (W.failures writer.new ≡ W.failures writer.old) }
+    ensures only_write { IfErr result (λ why. why ≡ Refusal.Write) }
+    ensures beginning { OnErr result (TakesBeginning (W.contents writer.old) (W.contents writer.new)
+        (block.old ++ flat_map letter_text letters.now)) }
+    ensures cause { OnErr result (GivesUp (W.failures writer.old) (W.failures writer.new)
+        (W.is_full writer.new)) }
+{
+    for letter in letters {
+        put_letter(block, writer, *letter)?;
+    }
+    Ok(())
+}
+
+// Puts the line of a letter. It is longer than a `Line` may be, so it goes in three parts.
+fn put_letter<W: Sink>(block: &mut Block, writer: &mut W, letter: Letter) -> Result<(), Refusal>
+    ensures ok { OnOk result (Sends (W.contents writer.old) (W.contents writer.new)
+        (block.old ++ letter_text letter.entry) block.new) }
+    ensures quiet { OnOk result (W.failures writer.new ≡ W.failures writer.old) }
+    ensures only_write { IfErr result (λ why. why ≡ Refusal.Write) }
+    ensures beginning { OnErr result (TakesBeginning (W.contents writer.old) (W.contents writer.new)
+        (block.old ++ letter_text letter.entry)) }
+    ensures cause { OnErr result (GivesUp (W.failures writer.old) (W.failures writer.new)
+        (W.is_full writer.new)) }
+{
+    block.put(writer, sender_part(letter.from).as_slice())?;
+    block.put(writer, letter.text.as_bytes())?;
+    block.put(writer, b"\n")
+}
+
+#[tactic(auto, unfolding(crate::specs::Posts::count_text))]
+fn count_line(count: usize) -> Line
+    ensures { result ≡ count_text count }
+{
+    let mut line = Line::new();
+    line.push(b"letters ");
+    line.push_number(count as u64);
+    line.push(b"\n");
+    line
+}
+
+#[tactic(auto, unfolding(crate::specs::Posts::sender_text))]
+fn sender_part(from: u16) -> Line
+    ensures { result ≡ sender_text from }
+{
+    let mut line = Line::new();
+    line.push_number(u64::from(from));
+    line.push(b" ");
+    line
+}
