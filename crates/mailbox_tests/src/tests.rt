@@ -1,0 +1,6 @@
+//! Runs of letters, with the answers worked out by hand.
+mod letters;
+mod nonblocking_runs;
+mod plans;
+mod posts;
+mod two_lock_runs;

@@ -1,0 +1,52 @@
+//! Letters over the non-blocking queue.
+use super::letters::{a_loss_is_told_from_then_on, letters_come_in_the_order_sent};
+use super::posts::{Load, posted};
+use history::Refusal;
+use mail_engine::non_blocking_seats;
+use std::alloc::Global;
+use std::sync::Wait;
+use std::test::Fail;
+use std::thread::Threads;
+
+/// The greatest count of all.
+const GREATEST_COUNT: u64 = 1_099_511_627_775;
+
+/// Three letters of two senders come in the order in which they were sent; then there is none.
+#[test]
+fn in_the_order_sent(rt: HostRuntime) -> Result<(), Fail> {
+    let (queue, seats, receiver) = non_blocking_seats(rt.alloc(), 7, 100, 2)?;
+    letters_come_in_the_order_sent(&rt, rt.alloc(), queue, seats, receiver)
+}
+
+/// A body that is no letter's index is lost, and then each take is.
+#[test]
+fn lost_from_then_on(rt: HostRuntime) -> Result<(), Fail> {
+    let (queue, seats, receiver) = non_blocking_seats(rt.alloc(), 7, 100, 2)?;
+    a_loss_is_told_from_then_on(&rt, rt.alloc(), queue, seats, receiver)
+}
+
+// Posts the letters of so many senders, on 4,006 nodes: how many came, where each sender's came in order.
+fn came<R: Threads + Wait + Sync>(
+    rt: &R,
+    alloc: Global,
+    senders: u16,
+    load: Load,
+) -> Result<Option<usize>, Refusal> {
+    let (queue, seats, receiver) = non_blocking_seats(alloc, 4006, GREATEST_COUNT, senders)?;
+    posted(rt, alloc, queue, seats, receiver, load)
+}
+
+/// All letters come, and each sender's in their order; also where there are no letters, or no senders.
+#[test]
+fn each_senders_letters_come_in_order(rt: HostRuntime) -> Result<(), Fail> {
+    for (senders, count) in [(4, 1000), (1, 1), (3, 0), (0, 0)] {
+        let load = Load {
+            first: count,
+            others: count,
+        };
+        let found = came(&rt, rt.alloc(), senders, load);
+        let wanted = Ok(Some(usize::from(senders) * count));
+        assert_eq!(rt; found, wanted, "{senders} senders of {count} letters");
+    }
+    Ok(())
+}

@@ -1,0 +1,128 @@
+//! Letters over the two-lock queue, also where it refuses.
+use super::letters::{
+    a_loss_is_told_from_then_on, last_seat, letters_come_in_the_order_sent, push_stray,
+};
+use super::plans::Trouble;
+use super::posts::{Load, posted};
+use history::{Refusal, WornWord};
+use mail_engine::two_lock_seats;
+use mock_queues::Planned;
+use std::alloc::Global;
+use std::sync::Wait;
+use std::test::Fail;
+use std::thread::Threads;
+
+/// The greatest count of all.
+const GREATEST_COUNT: u64 = 1_099_511_627_775;
+
+/// How often sender 1 and sender 2 try to be the first.
+const TRIES: u32 = 100;
+
+/// Three letters of two senders come in the order in which they were sent; then there is none.
+#[test]
+fn in_the_order_sent(rt: HostRuntime) -> Result<(), Fail> {
+    let (queue, seats, receiver) = two_lock_seats(rt.alloc(), 7, 100, 2)?;
+    letters_come_in_the_order_sent(&rt, rt.alloc(), queue, seats, receiver)
+}
+
+/// A body that is no letter's index is lost, and then each take is.
+#[test]
+fn lost_from_then_on(rt: HostRuntime) -> Result<(), Fail> {
+    let (queue, seats, receiver) = two_lock_seats(rt.alloc(), 7, 100, 2)?;
+    a_loss_is_told_from_then_on(&rt, rt.alloc(), queue, seats, receiver)
+}
+
+// Posts the letters of so many senders, on 4,006 nodes: how many came, where each sender's came in order.
+fn came<R: Threads + Wait + Sync>(
+    rt: &R,
+    alloc: Global,
+    senders: u16,
+    load: Load,
+) -> Result<Option<usize>, Refusal> {
+    let (queue, seats, receiver) = two_lock_seats(alloc, 4006, GREATEST_COUNT, senders)?;
+    posted(rt, alloc, queue, seats, receiver, load)
+}
+
+/// All letters come, and each sender's in their order; also where there are no letters, or no senders.
+#[test]
+fn each_senders_letters_come_in_order(rt: HostRuntime) -> Result<(), Fail> {
+    for (senders, count) in [(4, 1000), (1, 1), (3, 0), (0, 0)] {
+        let load = Load {
+            first: count,
+            others: count,
+        };
+        let found = came(&rt, rt.alloc(), senders, load);
+        let wanted = Ok(Some(usize::from(senders) * count));
+        assert_eq!(rt; found, wanted, "{senders} senders of {count} letters");
+    }
+    Ok(())
+}
+
+/// Where one allocation is refused, the answer is the usual one or `Memory`, and the next post gives all letters.
+#[test]
+fn a_refused_allocation_is_told_once(rt: HostRuntime) -> Result<(), Fail> {
+    let load = Load {
+        first: 2,
+        others: 2,
+    };
+    let found = match came(&rt, rt.alloc(), 2, load) {
+        Err(Refusal::Memory) => came(&rt, rt.alloc(), 2, load),
+        found => found,
+    };
+    assert_eq!(rt; found, Ok(Some(4)));
+    Ok(())
+}
+
+// Posts two letters of sender 1 and one of sender 2 on a queue in trouble, perhaps behind a body that is no letter's index.
+fn troubled<R: Threads + Wait + Sync>(
+    rt: &R,
+    alloc: Global,
+    trouble: Trouble,
+    stray: bool,
+) -> Result<Option<usize>, Refusal> {
+    let (queue, mut seats, receiver) = two_lock_seats(alloc, 16, GREATEST_COUNT, 3)?;
+    let queue = Planned::new(queue, trouble);
+    let mut third = last_seat(&queue, &mut seats)?;
+    if stray {
+        push_stray(&queue, &mut third)?;
+    }
+    let load = Load {
+        first: 2,
+        others: 1,
+    };
+    posted(rt, alloc, queue, seats, receiver, load)
+}
+
+/// The receiver's refusal is answered, and not a sender's: that of a pop, and that a letter is lost.
+#[test]
+fn the_receivers_refusal_comes_first(rt: HostRuntime) -> Result<(), Fail> {
+    let worn = troubled(&rt, rt.alloc(), Trouble::new(false, true), false);
+    let lost = troubled(&rt, rt.alloc(), Trouble::new(false, false), true);
+    let head = Refusal::WornOut(WornWord::Head);
+    assert_eq!(rt; (worn, lost), (Err(head), Err(Refusal::Lost)));
+    Ok(())
+}
+
+// Whether `Free` was answered before so many other answers.
+fn free_is_answered<R: Threads + Wait + Sync>(rt: &R, alloc: Global) -> Result<bool, Refusal> {
+    for _ in 0..TRIES {
+        match troubled(rt, alloc, Trouble::new(true, false), false) {
+            Err(Refusal::WornOut(WornWord::Free)) => return Ok(true),
+            Err(Refusal::WornOut(WornWord::Tail)) => {}
+            Err(why) => return Err(why),
+            Ok(_) => return Ok(false),
+        }
+    }
+    Ok(false)
+}
+
+/// Of two senders that are refused, sender 1 is answered, though it was refused after sender 2.
+///
+/// The first push is sent, and waits for the second, which is another sender's and is refused by `Tail`. Where sender 1 was
+/// the first, its second letter is then refused by `Free`. Where it was not, it alone is refused, and they try again.
+#[test]
+fn the_first_senders_refusal_is_answered(rt: HostRuntime) -> Result<(), Fail> {
+    let found = free_is_answered(&rt, rt.alloc());
+    assert_eq!(rt; found, Ok(true));
+    Ok(())
+}
