@@ -5,15 +5,19 @@
 mod answers;
 mod comparing;
 mod drawing;
+mod halting;
 mod pairing;
 mod queues;
 mod stepping;
 mod stopping;
+mod stops;
 
 use crate::answers::Answers;
+use crate::halting::halted;
 use crate::pairing::rounds;
 use crate::queues::Watched;
 use crate::stopping::runs;
+use line_table::Kind;
 use nonblocking::MsQueue;
 use std::alloc::Global;
 use std::io;
@@ -36,6 +40,16 @@ fn main(rt: HostRuntime) -> io::Result<()> {
             "non-blocking, seats {seats}: {calls} calls the same, each answer came: {all}"
         )?;
     }
+    let before = (
+        halted(rt.alloc(), Kind::NonBlocking),
+        halted(rt.alloc(), Kind::TwoLock),
+    );
+    let (Some(non_blocking), Some(two_lock)) = before else {
+        return println!(rt; "a world wasn't made");
+    };
+    println!(rt;
+        "stopped before each line, as it is to be: non-blocking {non_blocking} of 23, two-lock {two_lock} of 21"
+    )?;
     let Some(stopped) = runs(rt.alloc()) else {
         return println!(rt; "a run didn't end");
     };

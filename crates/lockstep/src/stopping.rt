@@ -16,13 +16,13 @@ const LIMIT: u64 = 100;
 const ACTORS: u32 = 3;
 
 /// How often the actor that goes on enqueues and dequeues.
-const PAIRS: u32 = 10;
+pub const PAIRS: u32 = 10;
 
 /// How many steps an enqueue takes at most where no other actor takes any.
-const ENQUEUE_STEPS: u32 = 15;
+pub const ENQUEUE_STEPS: u32 = 15;
 
 /// The same of a dequeue.
-const DEQUEUE_STEPS: u32 = 17;
+pub const DEQUEUE_STEPS: u32 = 17;
 
 /// What all runs came to.
 #[derive(Clone, Copy)]
@@ -55,16 +55,21 @@ impl Stopped {
     }
 }
 
-// The line before which an actor stands; none where it has no call or isn't there.
-fn line_of(world: &World, actor: u16) -> Option<Line> {
+/// The line before which an actor stands; none where it has no call or isn't there.
+pub fn line_of(world: &World, actor: u16) -> Option<Line> {
     if actor == 0 || usize::from(actor) > world.actors() {
         return None;
     }
     world.line(actor)
 }
 
-// Actor 3 enqueues and stops before E17, so that Tail lags.
-fn lags(world: &mut World) -> Option<()> {
+/// A world of the sizes of all these runs; none where memory is refused.
+pub fn world_of(alloc: Global, kind: Kind) -> Option<World> {
+    World::new(alloc, kind, NODES, LIMIT, ACTORS).ok()
+}
+
+/// Actor 3 enqueues and stops before E17, so that Tail lags.
+pub fn lags(world: &mut World) -> Option<()> {
     world.begin(3, Op::Enq(Body::new(0)?)).ok()?;
     for _ in 0..MOST_STEPS {
         if line_of(world, 3) == Some(Line::E17) {
@@ -105,7 +110,7 @@ fn stops(world: &mut World, draws: &mut Draws) -> Option<()> {
 
 // One run; none where memory is refused, or a call that meets no other doesn't end.
 fn run(alloc: Global, draws: &mut Draws, stopped: &mut Stopped) -> Option<()> {
-    let mut world = World::new(alloc, Kind::NonBlocking, NODES, LIMIT, ACTORS).ok()?;
+    let mut world = world_of(alloc, Kind::NonBlocking)?;
     stops(&mut world, draws)?;
     if let Some(line) = line_of(&world, 1) {
         stopped.adds(line);
