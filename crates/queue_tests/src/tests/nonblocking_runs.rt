@@ -75,6 +75,24 @@ fn a_worn_tail_refuses_pushes_and_pops(rt: HostRuntime) -> Result<(), Fail> {
     leaves(&rt, rt.alloc(), queue, seat, wanted)
 }
 
+/// With the greatest count 2 Tail can be swung twice. The third push leaves it behind, and the pop that would have to
+/// swing it is refused.
+#[test]
+fn a_worn_tail_refuses_a_pop(rt: HostRuntime) -> Result<(), Fail> {
+    let (queue, mut seats) = queue_of(rt.alloc(), 3, 2, &[Role::Both])?;
+    let mut seat = last(&queue, &mut seats)?;
+    let calls = [
+        Told::Push(1, Ok(())),
+        Told::Pop(Ok(Some((1, 1)))),
+        Told::Push(2, Ok(())),
+        Told::Pop(Ok(Some((1, 2)))),
+        Told::Push(3, Ok(())),
+        Told::Pop(Err(Refusal::WornOut(WornWord::Tail))),
+    ];
+    goes(&rt, &queue, &mut seat, &calls);
+    Ok(())
+}
+
 /// The first value pushed comes first, and the second one is left.
 #[test]
 fn first_pushed_first_popped(rt: HostRuntime) -> Result<(), Fail> {

@@ -8,7 +8,7 @@ use super::runs::{
     closed_with_one, goes, last, left_one, one_seat_pops_what_it_pushed,
     two_threads_pop_each_value_once, values_come_in_their_order,
 };
-use history::Refusal;
+use history::{Refusal, WornWord};
 use node_arena::{Role, Seat};
 use std::alloc::Global;
 use std::test::Fail;
@@ -37,6 +37,21 @@ fn two_nodes_have_room_for_one_value(rt: HostRuntime) -> Result<(), Fail> {
     let calls = [Told::Push(1, Ok(())), Told::Push(2, Err(Refusal::NoNode))];
     goes(&rt, &queue, &mut seat, &calls);
     assert_eq!(rt; seat.pocket(), None);
+    Ok(())
+}
+
+/// With the greatest count 1 one value can be taken; the next pop finds Head worn out.
+#[test]
+fn a_worn_head_refuses_pops(rt: HostRuntime) -> Result<(), Fail> {
+    let (queue, mut seats) = queue_of(rt.alloc(), 4, 1, &[Role::Both])?;
+    let mut seat = last(&queue, &mut seats)?;
+    let calls = [
+        Told::Push(1, Ok(())),
+        Told::Push(2, Ok(())),
+        Told::Pop(Ok(Some((1, 1)))),
+        Told::Pop(Err(Refusal::WornOut(WornWord::Head))),
+    ];
+    goes(&rt, &queue, &mut seat, &calls);
     Ok(())
 }
 
