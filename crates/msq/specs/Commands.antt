@@ -13,7 +13,7 @@ use Rattle.line_table.specs.declared.lines.Kind.TheVariants.{TwoLock, NonBlockin
 use Rattle.msq.specs.declared.commands.Command.{Command}
 use Rattle.msq.specs.declared.commands.Crew.{Crew}
 use Rattle.msq.specs.declared.commands.Task.{Task}
-use Rattle.msq.specs.declared.commands.Task.TheVariants.{Run, Check, Work}
+use Rattle.msq.specs.declared.commands.Task.TheVariants.{Run, Check, Work, Post}
 
 -- whether a task judges a history
 abbrev pub is_check : Task → Bool
@@ -24,6 +24,11 @@ is_check _ = false
 abbrev pub is_work : Task → Bool
 is_work (Work crew) = true
 is_work _ = false
+
+-- whether a task posts letters
+abbrev pub is_post : Task → Bool
+is_post (Post kind) = true
+is_post _ = false
 
 -- texts in a row, where they lie
 abbrev pub TextRow : Type 0
@@ -57,6 +62,10 @@ work_app queues =
     with_rule (with_rule (with_rule (file_app (codes "work")) (number_rule (codes "WORKERS") (codes "workers") 1 64 (codes "4")))
     (queue_rule queues)) (number_rule (codes "NODES") (codes "nodes") 2 16777214 (codes "1024"))
 
+-- the command `post`, with a FILE and a queue
+abbrev pub post_app : TextRow → App
+post_app queues = with_rule (file_app (codes "post")) (queue_rule queues)
+
 -- the program's command before its commands are added: it has a version, and its words begin with the command's
 abbrev pub bare_app : App
 bare_app =
@@ -68,7 +77,8 @@ bare_app =
 -- the program's command line, as clap reads it
 abbrev pub command_line_app : TextRow → App
 command_line_app queues =
-    with_subcommand (with_subcommand (with_subcommand bare_app (file_app (codes "run")).top) (file_app (codes "check")).top) (work_app queues).top
+    with_subcommand (with_subcommand (with_subcommand (with_subcommand bare_app (file_app (codes "run")).top)
+    (file_app (codes "check")).top) (work_app queues).top) (post_app queues).top
 
 -- the FILE among the matches of a command
 abbrev pub file_met : Option (Text × List Row) → Option Text
@@ -104,13 +114,16 @@ pub record IsCrewOf (options : List Row) (crew : Crew) : Type 0 where
 -- the options of the command that was met are those of a task
 abbrev pub HasOptions : Option (Text × List Row) → Task → Type 0
 HasOptions (Some command) (Work crew) = IsCrewOf command.1 crew
+HasOptions (Some command) (Post kind) = kind ≡ kind_named (first_of (codes "QUEUE") command.1)
 HasOptions None (Work crew) = ⊥
+HasOptions None (Post kind) = ⊥
 HasOptions met task = Unit {0}
 
 -- the task is that of the command that was met, with its options; no command is a run
 pub record IsTask (met : Option (Text × List Row)) (task : Task) : Type 0 where
   pub check : is_check task ≡ is_met (codes "check") met
   pub work : is_work task ≡ is_met (codes "work") met
+  pub post : is_post task ≡ is_met (codes "post") met
   pub options : HasOptions met task
 
 -- the command among the words, with its options

@@ -1,7 +1,7 @@
 //! The words after the program's name.
 ghost use Rattle.std.specs.Prelude.{◌≡◌, ◌⊎◌, [], IfErr, IfOk, map, option_map, string_bytes, codes, true, false};
 ghost use Rattle.clap.specs.Words.{HasKind, app_of, first_of, found_of, kind_of, one_of, rows_of, rule_of, subcommand_rows_of, takes, with_subcommand};
-ghost use Rattle.msq.specs.Commands.{command_line_app, faults_in, file_app, file_met, kind_named, number_rule, status_at, work_app, AreQueues, AreTaken, IsAsked, IsAskedSomewhere, IsCrewOf, IsStatusOf, IsTask, SaysNumber};
+ghost use Rattle.msq.specs.Commands.{command_line_app, faults_in, file_app, file_met, kind_named, number_rule, post_app, queue_rule, status_at, work_app, AreQueues, AreTaken, IsAsked, IsAskedSomewhere, IsCrewOf, IsStatusOf, IsTask, SaysNumber};
 
 use clap::builder::ValueParser;
 use clap::error::ErrorKind;
@@ -47,6 +47,8 @@ pub enum Task {
     Check,
     /// Does the jobs in it.
     Work(Crew),
+    /// Posts the letters in it, over a queue of this kind.
+    Post(Kind),
 }
 
 /// What the program is asked to do.
@@ -123,6 +125,18 @@ fn number_option<'a>(
         .default_value(other)
 }
 
+/// The option with one of the names of the queues.
+fn queue_option<'a>(alloc: Global, queues: &'a [&'a str]) -> Arg<'a>
+    ensures rule { rule_of result ≡ queue_rule queues.entry }
+    ensures local { result.global ≡ false }
+{
+    Arg::new(alloc, "QUEUE")
+        .long("queue")
+        .value_parser(queues)
+        .default_value("nonblocking")
+        .help("The queue")
+}
+
 /// The command `work`, with the names of the queues.
 fn work_command<'a>(
     alloc: Global,
@@ -138,16 +152,28 @@ fn work_command<'a>(
     )?;
     let workers = number_option(alloc, "WORKERS", "workers", (1, 64), "4");
     let command = command.arg(workers.help("How many workers there are, each a thread, 1 to 64"))?;
-    let queue = Arg::new(alloc, "QUEUE")
-        .long("queue")
-        .value_parser(queues)
-        .default_value("nonblocking");
-    let command = command.arg(queue.help("The queue"))?;
+    let command = command.arg(queue_option(alloc, queues))?;
     let nodes = number_option(alloc, "NODES", "nodes", (2, 16_777_214), "1024");
     command.arg(nodes.help("How many nodes the queue has, 3 more than workers to 16777214"))
 }
 
-/// The command line: `run`, `check` and `work` with a FILE, help and the version.
+/// The command `post`, with the names of the queues.
+fn post_command<'a>(
+    alloc: Global,
+    queues: &'a [&'a str],
+) -> Result<clap::Command<'a>, AllocError>
+    ensures { IfOk result (λ command. app_of command ≡ post_app queues.entry) }
+{
+    let command = command_on(
+        alloc,
+        "post",
+        "Sends letters, each sender's in a thread, over a queue to one receiver, and writes them",
+        "The letters; - is standard input",
+    )?;
+    command.arg(queue_option(alloc, queues))
+}
+
+/// The command line: `run`, `check`, `work` and `post` with a FILE, help and the version.
 fn command_line<'a>(
     alloc: Global,
     queues: &'a [&'a str],
@@ -155,7 +181,7 @@ fn command_line<'a>(
     ensures { IfOk result (λ command. app_of command ≡ command_line_app queues.entry) }
 {
     let program = clap::Command::new(alloc, "msq")
-        .about("Runs concurrent queues one atomic line at a time, judges histories, and does jobs")
+        .about("Runs concurrent queues one atomic line at a time, judges histories, does jobs, posts letters")
         .version("0.1.0")
         .after_help(AFTER_HELP)
         .no_binary_name(true)
@@ -175,6 +201,7 @@ fn command_line<'a>(
         "The history; - is standard input",
     )?;
     let program = program.subcommand(work_command(alloc, queues)?)?;
+    let program = program.subcommand(post_command(alloc, queues)?)?;
     program.bin_name("msq")
 }
 
@@ -218,6 +245,8 @@ fn task_in(matches: &ArgMatches<'_>) -> Task
         Task::Check
     } else if name == "work" {
         Task::Work(crew_in(options))
+    } else if name == "post" {
+        Task::Post(kind_in(options))
     } else {
         Task::Run
     }

@@ -6,6 +6,7 @@ use crate::faults::Fault;
 use crate::judging::check_text;
 use history::{ReaderSource, Refusal, Source, Verdict, WriterSink};
 use job_engine::work_text;
+use mail_engine::post_text;
 use std::fs::File;
 use std::rt::Runtime;
 use std::sync::Wait;
@@ -56,7 +57,7 @@ fn outcome_of<R: Runtime + AllocGlobal + Threads + Wait + Sync>(
     }
 }
 
-/// Obeys a command on what a source gives. A run, and jobs, that are done have the verdict Yes.
+/// Obeys a command on what a source gives. What is done and judges nothing has the verdict Yes.
 fn outcome_on<R: Runtime + AllocGlobal + Threads + Wait + Sync, S: Source + Drop>(
     rt: &R,
     command: &Command,
@@ -80,6 +81,10 @@ fn outcome_on<R: Runtime + AllocGlobal + Threads + Wait + Sync, S: Source + Drop
                 crew.kind,
                 crew.nodes,
             )?;
+            Ok(Verdict::Yes)
+        }
+        Task::Post(kind) => {
+            post_text(rt, rt.alloc(), &mut reader, &mut writer, kind)?;
             Ok(Verdict::Yes)
         }
     }

@@ -11,7 +11,7 @@ fn strings(alloc: Global, words: &[&str]) -> Result<Vec<String>, AllocError> {
     Ok(strings)
 }
 
-/// What a task's words ask for: 1 for a run, 2 for a check, 3 for work; the workers, the queue and the nodes.
+/// What a task's words ask for: 1 for a run, 2 for a check, 3 for work, 4 for posting; the workers, the queue and the nodes.
 fn told(task: Task) -> (u8, u32, u8, u32) {
     match task {
         Task::Run => (1, 0, 0, 0),
@@ -20,13 +20,22 @@ fn told(task: Task) -> (u8, u32, u8, u32) {
             workers,
             kind,
             nodes,
-        }) => (3, workers, if kind == Kind::TwoLock { 1 } else { 2 }, nodes),
+        }) => (3, workers, number_of(kind), nodes),
+        Task::Post(kind) => (4, 0, number_of(kind), 0),
+    }
+}
+
+/// The number of a queue's kind.
+fn number_of(kind: Kind) -> u8 {
+    match kind {
+        Kind::TwoLock => 1,
+        Kind::NonBlocking => 2,
     }
 }
 
 #[test]
 fn reads_what_to_do_with_which_file(rt: HostRuntime) -> Result<(), Fail> {
-    let cases: [(&[&str], (u8, u32, u8, u32), &str); 14] = [
+    let cases: [(&[&str], (u8, u32, u8, u32), &str); 17] = [
         (&[], (1, 0, 0, 0), "-"),
         (&["run", "-"], (1, 0, 0, 0), "-"),
         (&["run", "row.schedule"], (1, 0, 0, 0), "row.schedule"),
@@ -45,6 +54,9 @@ fn reads_what_to_do_with_which_file(rt: HostRuntime) -> Result<(), Fail> {
             (3, 2, 2, 16_777_214),
             "a",
         ),
+        (&["post", "a"], (4, 0, 2, 0), "a"),
+        (&["post", "--queue=two-lock", "-"], (4, 0, 1, 0), "-"),
+        (&["post", "a", "--queue", "nonblocking"], (4, 0, 2, 0), "a"),
     ];
     for (words, task, file) in &cases {
         let words = strings(rt.alloc(), words)?;
@@ -61,7 +73,7 @@ fn reads_what_to_do_with_which_file(rt: HostRuntime) -> Result<(), Fail> {
 
 #[test]
 fn refuses_other_words(rt: HostRuntime) -> Result<(), Fail> {
-    let cases: [(&[&str], u8); 20] = [
+    let cases: [(&[&str], u8); 24] = [
         (&["run"], 2),
         (&["run", "a", "b"], 2),
         (&["run", "--fast", "a"], 2),
@@ -76,7 +88,11 @@ fn refuses_other_words(rt: HostRuntime) -> Result<(), Fail> {
         (&["work", "a", "--workers", "2", "--workers", "2"], 2),
         (&["run", "a", "--workers", "2"], 2),
         (&["work", "--help"], 0),
-        (&["post", "a"], 2),
+        (&["post"], 2),
+        (&["post", "a", "b"], 2),
+        (&["post", "a", "--workers", "2"], 2),
+        (&["post", "a", "--queue", "two_lock"], 2),
+        (&["post", "--help"], 0),
         (&["-"], 2),
         (&["Run", "a"], 2),
         (&["--help"], 0),

@@ -18,6 +18,8 @@ returns c =
     c.in_ok-program.ensures ∙ ap (λ (a : App). with_subcommand a (file_app (codes "run")).top) bare_is in
     let check_is : app_of c.in_ok-program-2.program ≡ with_subcommand (with_subcommand bare_app (file_app (codes "run")).top) (file_app (codes "check")).top =
     c.in_ok-program-2.ensures ∙ ap (λ (a : App). with_subcommand a (file_app (codes "check")).top) run_is in
-    let work_is : app_of c.in_ok-program-3.program ≡ command_line_app c.args.queues =
+    let work_is : app_of c.in_ok-program-3.program ≡ with_subcommand (with_subcommand (with_subcommand bare_app (file_app (codes "run")).top) (file_app (codes "check")).top) (work_app c.args.queues).top =
     c.in_ok-program-3.ensures.shape (plain_local _ _ _ _ (ap (λ (a : App). a.top.is_plain) c.in_ok-work_command.ensures)) ∙ ap₂ (λ (a b : App). with_subcommand a b.top) check_is c.in_ok-work_command.ensures in
-    IfOk-weaker c.bin_name.result _ _ (λ r h. ap app_of_fields h.0 ∙ work_is) c.bin_name.ensures
+    let post_is : app_of c.in_ok-program-4.program ≡ command_line_app c.args.queues =
+    c.in_ok-program-4.ensures.shape (plain_local _ _ _ _ (ap (λ (a : App). a.top.is_plain) c.in_ok-post_command.ensures)) ∙ ap₂ (λ (a b : App). with_subcommand a b.top) work_is c.in_ok-post_command.ensures in
+    IfOk-weaker c.bin_name.result _ _ (λ r h. ap app_of_fields h.0 ∙ post_is) c.bin_name.ensures

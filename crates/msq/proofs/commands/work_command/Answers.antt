@@ -10,8 +10,8 @@ returns c =
     let nodes = number_rule (codes "NODES") (codes "nodes") 2 16777214 (codes "1024") in
     let queue = queue_rule c.args.queues in
     let workers_are : rule_of c.help.result ≡ workers = ap rule_of c.help.ensures ∙ c.number_option-workers.ensures.rule in
-    let nodes_are : rule_of c.help-3.result ≡ nodes = ap rule_of c.help-3.ensures ∙ c.number_option-nodes.ensures.rule in
-    let queue_is : rule_of c.help-2.result ≡ queue = search rules in
+    let nodes_are : rule_of c.help-2.result ≡ nodes = ap rule_of c.help-2.ensures ∙ c.number_option-nodes.ensures.rule in
+    let queue_is : rule_of c.queue_option.result ≡ queue = c.queue_option.ensures.rule in
     let one : app_of c.in_ok-command-2.command ≡ with_rule (file_app (codes "work")) workers =
     c.in_ok-command-2.ensures.shape (search rules) ∙ ap₂ with_rule c.in_ok-command.ensures workers_are in
     let two : app_of c.in_ok-command-3.command ≡ with_rule (with_rule (file_app (codes "work")) workers) queue =
