@@ -8,6 +8,7 @@ mod running;
 mod seating;
 mod tallies;
 
+use crate::closing::Verdict;
 use crate::measuring::{Work, Works};
 use crate::queues::{Sizes, Which, stressed, worked};
 use std::alloc::Global;
@@ -27,13 +28,15 @@ const LONG: Sizes = Sizes {
 const FEW_PAIRS: u32 = 100;
 
 /// The words that the program understands.
-const USAGE: &str = "queue_stress [two-lock|non-blocking [one|four|pair|two COUNT]]";
+const USAGE: &str =
+    "queue_stress [two-lock|non-blocking [one|four|pair|strict|two COUNT | run NODES LIMIT PAIRS]]";
 
 // The works of a kind, by its name.
 fn works_of(name: &str) -> Works {
     let (one, two, three, four) = match name {
         "one" => (Some(Work::Pairs), None, None, None),
         "pair" => (Some(Work::Pushes), None, Some(Work::Pops), None),
+        "strict" => (Some(Work::Pairs), None, Some(Work::Strict), None),
         "two" => (
             Some(Work::Pushes),
             Some(Work::Pops),
@@ -77,6 +80,23 @@ fn is_good<R: Threads + Wait + Sync>(
     }
 }
 
+// A run of the sizes that these words are; none where one of them is no number, or memory is refused.
+fn run_of<R: Threads + Wait + Sync>(
+    rt: &R,
+    alloc: Global,
+    which: Which,
+    nodes: &str,
+    limit: &str,
+    pairs: &str,
+) -> Option<Verdict> {
+    let sizes = Sizes {
+        nodes: nodes.parse().ok()?,
+        limit: limit.parse().ok()?,
+        pairs: pairs.parse().ok()?,
+    };
+    stressed(rt, alloc, which, sizes)
+}
+
 fn main(rt: HostRuntime) -> io::Result<()> {
     let mut words = env::args(&rt)?;
     words.next();
@@ -89,6 +109,11 @@ fn main(rt: HostRuntime) -> io::Result<()> {
         return println!(rt; "{USAGE}");
     }
     if let (Some(which), Some(kind), Some(count)) = (asked, words.next(), words.next()) {
+        if let (Some(limit), Some(pairs)) = (words.next(), words.next()) {
+            let (nodes, limit, pairs) = (count.as_str(), limit.as_str(), pairs.as_str());
+            let verdict = run_of(&rt, rt.alloc(), which, nodes, limit, pairs);
+            return println!(rt; "{verdict:?}");
+        }
         let pairs = count.as_str().parse().unwrap_or(LONG.pairs);
         let works = works_of(kind.as_str());
         let start = Instant::now(&rt)?;

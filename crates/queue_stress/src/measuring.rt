@@ -20,6 +20,8 @@ pub enum Work {
     Pushes,
     /// Pops a body.
     Pops,
+    /// Pushes a body and pops one, each within two turns; where one doesn't, the thread never ends.
+    Strict,
 }
 
 /// What four threads do; two or three of them may do nothing.
@@ -63,6 +65,19 @@ fn pop<R: Wait, Q: Fifo>(rt: &R, queue: &Q, seat: &mut Q::Seat)
     }
 }
 
+// Pushes a body and pops one, each within two turns; it never ends where one doesn't.
+fn strict_pair<R: Wait, Q: Fifo>(rt: &R, queue: &Q, seat: &mut Q::Seat, body: Body)
+    requires { MayCall Q.is_seat Q.permits Q.known queue.now seat.old }
+    ensures { MayCall Q.is_seat Q.permits Q.known queue.now seat.new }
+{
+    let pushed = queue.try_push(seat, body, 2).is_ok();
+    let popped = matches!(queue.try_pop(seat, 2), Ok(Some(_)));
+    if pushed && popped {
+        return;
+    }
+    for _ in rt.forever() {}
+}
+
 // One thread's work.
 fn toils<R: Wait, Q: Fifo>(rt: &R, queue: &Q, mut seat: Q::Seat, work: Option<Work>, count: u32)
     requires { MayCall Q.is_seat Q.permits Q.known queue.now seat }
@@ -78,6 +93,7 @@ fn toils<R: Wait, Q: Fifo>(rt: &R, queue: &Q, mut seat: Q::Seat, work: Option<Wo
             }
             Work::Pushes => push(rt, queue, &mut seat, body),
             Work::Pops => pop(rt, queue, &mut seat),
+            Work::Strict => strict_pair(rt, queue, &mut seat, body),
         }
     }
 }
