@@ -2,5 +2,5 @@
 mod letters;
 mod nonblocking_runs;
 mod plans;
-mod posts;
+mod texts;
 mod two_lock_runs;

@@ -1,9 +1,10 @@
 //! Letters over the non-blocking queue.
 use super::letters::{a_loss_is_told_from_then_on, letters_come_in_the_order_sent};
-use super::posts::{Load, posted};
 use history::Refusal;
 use mail_engine::non_blocking_seats;
+use numbered_letters::{Load, posted};
 use std::alloc::Global;
+use std::rt::Clock;
 use std::sync::Wait;
 use std::test::Fail;
 use std::thread::Threads;
@@ -26,14 +27,14 @@ fn lost_from_then_on(rt: HostRuntime) -> Result<(), Fail> {
 }
 
 // Posts the letters of so many senders, on 4,006 nodes: how many came, where each sender's came in order.
-fn came<R: Threads + Wait + Sync>(
+fn came<R: Threads + Wait + Clock + Sync>(
     rt: &R,
     alloc: Global,
     senders: u16,
     load: Load,
 ) -> Result<Option<usize>, Refusal> {
     let (queue, seats, receiver) = non_blocking_seats(alloc, 4006, GREATEST_COUNT, senders)?;
-    posted(rt, alloc, queue, seats, receiver, load)
+    Ok(posted(rt, alloc, queue, seats, receiver, load)?.in_order)
 }
 
 /// All letters come, and each sender's in their order; also where there are no letters, or no senders.

@@ -4,7 +4,7 @@ use mock_queues::Plan;
 use std::sync::atomic::{AtomicU64, Ordering};
 use std::thread;
 
-/// How often the first push looks whether there is a second one.
+/// How often a push that is held looks whether it may go on.
 const MOST_TURNS: u32 = 1_000_000;
 
 /// The first push is handed on, the second one is refused `WornOut(Tail)`, and each later one `WornOut(Free)`.
@@ -61,4 +61,46 @@ impl Plan for Trouble {
     }
 
     fn finds_empty(&self) {}
+}
+
+/// How long the first pop that finds none is held: so often it lets other threads go on.
+const LATE_TURNS: u32 = 20_000;
+
+/// Pushes are held until a pop found none. That pop is held so long that the push is made, and its sender ends.
+#[derive(Drop)]
+pub struct Late {
+    empty: AtomicU64,
+}
+
+impl Late {
+    /// A plan with no calls yet.
+    pub fn new() -> Late {
+        Late {
+            empty: AtomicU64::new(0),
+        }
+    }
+}
+
+impl Plan for Late {
+    fn push_refusal(&self) -> Option<Refusal> {
+        for _ in 0..MOST_TURNS {
+            if self.empty.load(Ordering::SeqCst) > 0 {
+                return None;
+            }
+            thread::yield_now();
+        }
+        None
+    }
+
+    fn pop_refusal(&self) -> Option<Refusal> {
+        None
+    }
+
+    fn finds_empty(&self) {
+        if self.empty.fetch_add(1, Ordering::SeqCst) == 0 {
+            for _ in 0..LATE_TURNS {
+                thread::yield_now();
+            }
+        }
+    }
 }

@@ -2,12 +2,13 @@
 use super::letters::{
     a_loss_is_told_from_then_on, last_seat, letters_come_in_the_order_sent, push_stray,
 };
-use super::plans::Trouble;
-use super::posts::{Load, posted};
+use super::plans::{Late, Trouble};
 use history::{Refusal, WornWord};
 use mail_engine::two_lock_seats;
 use mock_queues::Planned;
+use numbered_letters::{Load, posted};
 use std::alloc::Global;
+use std::rt::Clock;
 use std::sync::Wait;
 use std::test::Fail;
 use std::thread::Threads;
@@ -33,14 +34,14 @@ fn lost_from_then_on(rt: HostRuntime) -> Result<(), Fail> {
 }
 
 // Posts the letters of so many senders, on 4,006 nodes: how many came, where each sender's came in order.
-fn came<R: Threads + Wait + Sync>(
+fn came<R: Threads + Wait + Clock + Sync>(
     rt: &R,
     alloc: Global,
     senders: u16,
     load: Load,
 ) -> Result<Option<usize>, Refusal> {
     let (queue, seats, receiver) = two_lock_seats(alloc, 4006, GREATEST_COUNT, senders)?;
-    posted(rt, alloc, queue, seats, receiver, load)
+    Ok(posted(rt, alloc, queue, seats, receiver, load)?.in_order)
 }
 
 /// All letters come, and each sender's in their order; also where there are no letters, or no senders.
@@ -74,7 +75,7 @@ fn a_refused_allocation_is_told_once(rt: HostRuntime) -> Result<(), Fail> {
 }
 
 // Posts two letters of sender 1 and one of sender 2 on a queue in trouble, perhaps behind a body that is no letter's index.
-fn troubled<R: Threads + Wait + Sync>(
+fn troubled<R: Threads + Wait + Clock + Sync>(
     rt: &R,
     alloc: Global,
     trouble: Trouble,
@@ -90,7 +91,7 @@ fn troubled<R: Threads + Wait + Sync>(
         first: 2,
         others: 1,
     };
-    posted(rt, alloc, queue, seats, receiver, load)
+    Ok(posted(rt, alloc, queue, seats, receiver, load)?.in_order)
 }
 
 /// The receiver's refusal is answered, and not a sender's: that of a pop, and that a letter is lost.
@@ -103,8 +104,25 @@ fn the_receivers_refusal_comes_first(rt: HostRuntime) -> Result<(), Fail> {
     Ok(())
 }
 
+/// A letter that is sent just after a take found none comes: whether its sender had ended is looked at before the take.
+#[test]
+fn a_letter_comes_that_is_sent_after_a_take_found_none(rt: HostRuntime) -> Result<(), Fail> {
+    let (queue, seats, receiver) = two_lock_seats(rt.alloc(), 4, GREATEST_COUNT, 1)?;
+    let queue = Planned::new(queue, Late::new());
+    let load = Load {
+        first: 1,
+        others: 1,
+    };
+    let came = posted(&rt, rt.alloc(), queue, seats, receiver, load)?;
+    assert_eq!(rt; came.in_order, Some(1));
+    Ok(())
+}
+
 // Whether `Free` was answered before so many other answers.
-fn free_is_answered<R: Threads + Wait + Sync>(rt: &R, alloc: Global) -> Result<bool, Refusal> {
+fn free_is_answered<R: Threads + Wait + Clock + Sync>(
+    rt: &R,
+    alloc: Global,
+) -> Result<bool, Refusal> {
     for _ in 0..TRIES {
         match troubled(rt, alloc, Trouble::new(true, false), false) {
             Err(Refusal::WornOut(WornWord::Free)) => return Ok(true),

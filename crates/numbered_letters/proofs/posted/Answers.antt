@@ -1,5 +1,5 @@
 use Rattle.mail_engine.proofs.Tasks.{tasks_of-senders}
-use Rattle.mailbox_tests.proofs.tests.posts.posted.Goals as goal
+use Rattle.numbered_letters.proofs.posted.Goals as goal
 
 pub post-receiver-requires-clause-tasks : goal.post-receiver-requires-clause-tasks
 post-receiver-requires-clause-tasks g c κs within =

@@ -1,4 +1,5 @@
-//! Letters of senders with a thread each, over any queue.
+//! Letters whose texts are numbers, of senders with a thread each, over any queue.
+#![tactic(auto)]
 ghost use Rattle.std.specs.Prelude.{◌≡◌, map, IfOk};
 ghost use Rattle.std.specs.List.{All};
 ghost use Rattle.mailbox.specs.Openings.{CanSend, CanReceive};
@@ -6,17 +7,28 @@ ghost use Rattle.mailbox.specs.Openings.{CanSend, CanReceive};
 use history::{Fifo, Refusal};
 use mailbox::{Letter, Office, Sender, Task, post};
 use std::alloc::Global;
+use std::rt::Clock;
 use std::sync::Wait;
 use std::thread::Threads;
+use std::time::{Duration, Instant};
 
-/// The most senders of a run.
-const SENDERS: usize = 4;
+/// The most senders whose order is looked at.
+const SENDERS: usize = 64;
 
 /// How many letters the first sender sends, and how many each other one.
 #[derive(Clone, Copy, Debug)]
 pub struct Load {
     pub first: usize,
     pub others: usize,
+}
+
+/// What came of letters that were posted.
+#[derive(Clone, Copy, Debug)]
+pub struct Came {
+    /// How many came; none where a sender's were out of order.
+    pub in_order: Option<usize>,
+    /// How long it took to send and take them, where the clock told.
+    pub time: Option<Duration>,
 }
 
 // The texts `0`, `1` and so on, so many.
@@ -66,20 +78,29 @@ fn in_order(letters: &[Letter]) -> Option<usize> {
     Some(letters.len())
 }
 
-/// Posts the letters of a sender for each of these seats: how many came, where each sender's came in order.
-pub fn posted<R: Threads + Wait + Sync, Q: Fifo + Sync + Drop>(
+/// Posts the letters of a sender for each of these seats: texts `0`, `1` and so on. There are at most 64 senders, or no
+/// order is told. Refusals as those of `Office::new` and `post`. Takes memory, starts threads, and waits.
+pub fn posted<R: Threads + Wait + Clock + Sync, Q: Fifo + Sync + Drop>(
     rt: &R,
     alloc: Global,
     queue: Q,
     seats: Vec<Q::Seat>,
     receiver: Q::Seat,
     load: Load,
-) -> Result<Option<usize>, Refusal>
+) -> Result<Came, Refusal>
     requires senders { All (CanSend Q.is_seat Q.permits Q.known queue) seats.items }
     requires receiver { CanReceive Q.is_seat Q.permits Q.known queue receiver }
 {
     let (office, senders, receiver) = Office::new(alloc, queue, seats, receiver)?;
     let tasks = tasks(alloc, senders, load)?;
+    let start = Instant::now(rt);
     let (_receiver, letters) = post(rt, alloc, &office, tasks, receiver);
-    Ok(in_order(&letters?))
+    let time = match start {
+        Ok(start) => start.elapsed(rt).ok(),
+        Err(_) => None,
+    };
+    Ok(Came {
+        in_order: in_order(&letters?),
+        time,
+    })
 }

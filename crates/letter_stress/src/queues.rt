@@ -1,0 +1,66 @@
+//! The queues that letters go over.
+use history::Refusal;
+use line_table::Kind;
+use mail_engine::{non_blocking_seats, two_lock_seats};
+use numbered_letters::{Came, Load, posted};
+use std::alloc::Global;
+use std::rt::Clock;
+use std::sync::Wait;
+use std::thread::Threads;
+
+/// The greatest count of all.
+const GREATEST_COUNT: u64 = 1_099_511_627_775;
+
+/// The most nodes of a queue.
+const MOST_NODES: usize = 16_777_214;
+
+/// Both queues, by their names on the command line.
+pub const KINDS: [(&str, Kind); 2] = [
+    ("two-lock", Kind::TwoLock),
+    ("non-blocking", Kind::NonBlocking),
+];
+
+/// The queue of this name.
+pub fn kind_of(name: &str) -> Option<Kind> {
+    for (its, kind) in &KINDS {
+        if *its == name {
+            return Some(*kind);
+        }
+    }
+    None
+}
+
+// A node for each letter and each sender, and two more; the most there may be, where there are more.
+fn nodes_for(senders: u16, load: Load) -> u32 {
+    let senders = usize::from(senders);
+    let letters = load
+        .others
+        .saturating_mul(senders)
+        .saturating_add(load.first);
+    letters
+        .saturating_add(senders)
+        .saturating_add(2)
+        .min(MOST_NODES) as u32
+}
+
+/// What came of the letters of so many senders over a new queue.
+pub fn came<R: Threads + Wait + Clock + Sync>(
+    rt: &R,
+    alloc: Global,
+    kind: Kind,
+    senders: u16,
+    load: Load,
+) -> Result<Came, Refusal> {
+    let nodes = nodes_for(senders, load);
+    match kind {
+        Kind::TwoLock => {
+            let (queue, seats, receiver) = two_lock_seats(alloc, nodes, GREATEST_COUNT, senders)?;
+            posted(rt, alloc, queue, seats, receiver, load)
+        }
+        Kind::NonBlocking => {
+            let (queue, seats, receiver) =
+                non_blocking_seats(alloc, nodes, GREATEST_COUNT, senders)?;
+            posted(rt, alloc, queue, seats, receiver, load)
+        }
+    }
+}
