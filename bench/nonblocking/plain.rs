@@ -9,8 +9,7 @@
 mod two_lock;
 
 use two_lock::{
-    Arena, HEAD, Held, LIMIT, Locked, Queue, Refusal, SPAN, Seat, TAIL, TURNS, Waiting, measure, next_of, value_of,
-    works_of,
+    Arena, HEAD, Held, Locked, Queue, Refusal, SPAN, Seat, TAIL, Waiting, Worn, measure, next_of, value_of, works_of,
 };
 
 struct NonBlocking {
@@ -34,34 +33,34 @@ impl NonBlocking {
         }
     }
 
-    fn put(&self, seat: &mut Seat, held: Held, body: u64, spent: u32) -> Result<(), Refusal> {
+    fn put(&self, seat: &mut Seat, held: Held, body: u64, spent: u32, turns: u32) -> Result<(), Refusal> {
         let arena = &self.arena;
         let node = held.node;
         arena.store(value_of(node), (seat.number << 48) + body);
         let mark = arena.clear_node(next_of(node)) / SPAN;
-        if mark == LIMIT {
+        if mark == arena.limit {
             seat.pocket = None;
             seat.failed = spent;
-            return Err(Refusal::WornOut);
+            return Err(Refusal::WornOut(Worn::Next));
         }
-        for index in spent..TURNS {
+        for index in spent..turns {
             let tail = arena.load(TAIL);
             let next = arena.load(next_of(tail % SPAN));
             if arena.load(TAIL) == tail {
                 if next % SPAN == 0 {
                     if arena.exchange(next_of(tail % SPAN), next, raised(next, node)) {
                         seat.pushes += 1;
-                        if tail / SPAN != LIMIT {
+                        if tail / SPAN != arena.limit {
                             arena.exchange(TAIL, tail, raised(tail, node));
                         }
                         seat.pocket = None;
                         seat.failed = index;
                         return Ok(());
                     }
-                } else if tail / SPAN == LIMIT {
+                } else if tail / SPAN == arena.limit {
                     seat.pocket = Some(Held { node, mark });
                     seat.failed = index;
-                    return Err(Refusal::WornOut);
+                    return Err(Refusal::WornOut(Worn::Tail));
                 } else {
                     arena.exchange(TAIL, tail, raised(tail, next % SPAN));
                 }
@@ -69,63 +68,66 @@ impl NonBlocking {
             self.spin(index);
         }
         seat.pocket = Some(Held { node, mark });
-        seat.failed = TURNS;
+        seat.failed = turns;
         Err(Refusal::Busy)
     }
 
-    fn draw(&self, seat: &mut Seat, spent: u32) -> Result<Option<(u64, u64)>, Refusal> {
+    fn draw(&self, seat: &mut Seat, spent: u32, turns: u32) -> Result<Option<(u64, u64)>, Refusal> {
         let arena = &self.arena;
-        for index in spent..TURNS {
+        for index in spent..turns {
             let head = arena.load(HEAD);
             let tail = arena.load(TAIL);
             let next = arena.load(next_of(head % SPAN));
             if arena.load(HEAD) == head {
                 if head % SPAN != tail % SPAN {
                     let value = arena.load(value_of(next % SPAN));
-                    if head / SPAN == LIMIT {
-                        return Err(Refusal::WornOut);
+                    if head / SPAN == arena.limit {
+                        seat.failed = index;
+                        return Err(Refusal::WornOut(Worn::Head));
                     }
                     if arena.exchange(HEAD, head, raised(head, next % SPAN)) {
                         seat.pops += 1;
                         let held = Held { node: head % SPAN, mark: next / SPAN };
                         seat.pocket = Some(held);
-                        let _ = arena.give_back(seat, held, TURNS - index);
+                        let _ = arena.give_back(seat, held, turns - index);
                         return Ok(Some((value >> 48, value & ((1 << 48) - 1))));
                     }
                 } else if next % SPAN == 0 {
+                    seat.failed = index;
                     return Ok(None);
-                } else if tail / SPAN == LIMIT {
-                    return Err(Refusal::WornOut);
+                } else if tail / SPAN == arena.limit {
+                    seat.failed = index;
+                    return Err(Refusal::WornOut(Worn::Tail));
                 } else {
                     arena.exchange(TAIL, tail, raised(tail, next % SPAN));
                 }
             }
             self.spin(index);
         }
-        seat.failed = TURNS;
+        seat.failed = turns;
         Err(Refusal::Busy)
     }
 }
 
 impl Queue for NonBlocking {
     #[inline(never)]
-    fn try_push(&self, seat: &mut Seat, body: u64) -> Result<(), Refusal> {
+    fn try_push(&self, seat: &mut Seat, body: u64, turns: u32) -> Result<(), Refusal> {
         if let Some(held) = seat.pocket {
-            return self.put(seat, held, body, 0);
+            return self.put(seat, held, body, 0, turns);
         }
-        let held = self.arena.take(seat, TURNS)?;
+        let held = self.arena.take(seat, turns)?;
         let spent = seat.failed;
-        self.put(seat, held, body, spent)
+        self.put(seat, held, body, spent, turns)
     }
 
     #[inline(never)]
-    fn try_pop(&self, seat: &mut Seat) -> Result<Option<(u64, u64)>, Refusal> {
+    fn try_pop(&self, seat: &mut Seat, turns: u32) -> Result<Option<(u64, u64)>, Refusal> {
         let Some(held) = seat.pocket else {
-            return self.draw(seat, 0);
+            return self.draw(seat, 0, turns);
         };
-        self.arena.give_back(seat, held, TURNS)?;
+        self.arena.give_back(seat, held, turns)?;
         let spent = seat.failed;
-        self.draw(seat, spent)
+        self.draw(seat, spent, turns)
     }
 }
 
@@ -146,6 +148,6 @@ fn main() {
         measure(&Locked::new(), waiting, works, count);
     } else {
         let spins = queue == "spins";
-        measure(&NonBlocking { arena: Arena::new(), spins }, waiting, works, count);
+        measure(&NonBlocking { arena: Arena::measured(), spins }, waiting, works, count);
     }
 }

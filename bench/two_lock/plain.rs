@@ -5,15 +5,19 @@
 //! `one` (one thread pushes and pops), `four` (four threads do), `pair` (one thread pushes and one pops), `two` (two push
 //! and two pop).
 use std::collections::VecDeque;
+use std::hint::black_box;
 use std::sync::Mutex;
 use std::sync::atomic::{AtomicU64, Ordering::SeqCst};
 use std::thread;
 use std::time::Instant;
 
 pub const SPAN: u64 = 1 << 24;
+/// How many nodes the measured queues have.
 const NODES: u64 = 65;
-pub const LIMIT: u64 = (1 << 40) - 1;
-pub const TURNS: u32 = 8;
+/// Their greatest count.
+const LIMIT: u64 = (1 << 40) - 1;
+/// How many turns a measured call takes at most.
+const TURNS: u32 = 8;
 
 const FRESH: usize = 0;
 const FREE: usize = 1;
@@ -28,9 +32,18 @@ pub struct Held {
     pub mark: u64,
 }
 
+/// The word whose count is the greatest one.
+#[derive(Clone, Copy)]
+pub enum Worn {
+    Free,
+    Next,
+    Tail,
+    Head,
+}
+
 pub enum Refusal {
     NoNode,
-    WornOut,
+    WornOut(Worn),
     Busy,
 }
 
@@ -44,13 +57,16 @@ pub struct Seat {
 }
 
 pub trait Queue: Sync {
-    fn try_push(&self, seat: &mut Seat, body: u64) -> Result<(), Refusal>;
-    fn try_pop(&self, seat: &mut Seat) -> Result<Option<(u64, u64)>, Refusal>;
+    fn try_push(&self, seat: &mut Seat, body: u64, turns: u32) -> Result<(), Refusal>;
+    fn try_pop(&self, seat: &mut Seat, turns: u32) -> Result<Option<(u64, u64)>, Refusal>;
 }
 
 /// The shared words of a queue.
 pub struct Arena {
     words: Vec<AtomicU64>,
+    nodes: u64,
+    /// The greatest count.
+    pub limit: u64,
 }
 
 pub fn next_of(node: u64) -> usize {
@@ -62,12 +78,17 @@ pub fn value_of(node: u64) -> usize {
 }
 
 impl Arena {
-    pub fn new() -> Arena {
-        let words: Vec<AtomicU64> = (0..6 + 2 * NODES).map(|_| AtomicU64::new(0)).collect();
+    pub fn new(nodes: u64, limit: u64) -> Arena {
+        let words: Vec<AtomicU64> = (0..6 + 2 * nodes).map(|_| AtomicU64::new(0)).collect();
         for word in [FRESH, HEAD, TAIL] {
             words[word].store(1, SeqCst);
         }
-        Arena { words }
+        Arena { words, nodes, limit }
+    }
+
+    /// The arena that is measured. Its sizes come from outside, as those of a library's queue do.
+    pub fn measured() -> Arena {
+        Arena::new(black_box(NODES), black_box(LIMIT))
     }
 
     pub fn load(&self, word: usize) -> u64 {
@@ -92,14 +113,14 @@ impl Arena {
             let fresh = self.load(FRESH);
             let top = self.load(FREE);
             let held = if top % SPAN == 0 {
-                if fresh >= NODES {
+                if fresh >= self.nodes {
                     seat.failed = index;
                     return Err(Refusal::NoNode);
                 }
                 self.exchange(FRESH, fresh, fresh + 1).then_some(Held { node: fresh + 1, mark: 0 })
-            } else if top / SPAN == LIMIT {
+            } else if top / SPAN == self.limit {
                 seat.failed = index;
-                return Err(Refusal::WornOut);
+                return Err(Refusal::WornOut(Worn::Free));
             } else {
                 let node = top % SPAN;
                 let next = self.load(next_of(node));
@@ -119,7 +140,7 @@ impl Arena {
     pub fn give_back(&self, seat: &mut Seat, held: Held, turns: u32) -> Result<(), Refusal> {
         for index in 0..turns {
             let top = self.load(FREE);
-            let won = top / SPAN == LIMIT || {
+            let won = top / SPAN == self.limit || {
                 self.store(next_of(held.node), held.mark * SPAN + top % SPAN);
                 self.exchange(FREE, top, (top / SPAN + 1) * SPAN + held.node)
             };
@@ -139,10 +160,10 @@ struct TwoLock {
 }
 
 impl TwoLock {
-    fn put(&self, seat: &mut Seat, held: Held, body: u64, spent: u32) -> Result<(), Refusal> {
+    fn put(&self, seat: &mut Seat, held: Held, body: u64, spent: u32, turns: u32) -> Result<(), Refusal> {
         self.arena.store(value_of(held.node), (seat.number << 48) + body);
         self.arena.clear_node(next_of(held.node));
-        for index in spent..TURNS {
+        for index in spent..turns {
             if self.arena.exchange(TAIL_LOCK, 0, seat.number) {
                 let tail = self.arena.load(TAIL);
                 self.arena.store(next_of(tail % SPAN), held.node);
@@ -155,12 +176,12 @@ impl TwoLock {
             }
         }
         seat.pocket = Some(held);
-        seat.failed = TURNS;
+        seat.failed = turns;
         Err(Refusal::Busy)
     }
 
-    fn draw(&self, seat: &mut Seat, spent: u32) -> Result<Option<(u64, u64)>, Refusal> {
-        for index in spent..TURNS {
+    fn draw(&self, seat: &mut Seat, spent: u32, turns: u32) -> Result<Option<(u64, u64)>, Refusal> {
+        for index in spent..turns {
             if !self.arena.exchange(HEAD_LOCK, 0, seat.number) {
                 continue;
             }
@@ -168,45 +189,47 @@ impl TwoLock {
             let next = self.arena.load(next_of(head % SPAN));
             if next % SPAN == 0 {
                 self.arena.store(HEAD_LOCK, 0);
+                seat.failed = index;
                 return Ok(None);
             }
             let value = self.arena.load(value_of(next % SPAN));
-            if head / SPAN == LIMIT {
+            if head / SPAN == self.arena.limit {
                 self.arena.store(HEAD_LOCK, 0);
-                return Err(Refusal::WornOut);
+                seat.failed = index;
+                return Err(Refusal::WornOut(Worn::Head));
             }
             self.arena.store(HEAD, (head / SPAN + 1) * SPAN + next % SPAN);
             seat.pops += 1;
             self.arena.store(HEAD_LOCK, 0);
             let held = Held { node: head % SPAN, mark: next / SPAN };
             seat.pocket = Some(held);
-            let _ = self.arena.give_back(seat, held, TURNS - index);
+            let _ = self.arena.give_back(seat, held, turns - index);
             return Ok(Some((value >> 48, value & ((1 << 48) - 1))));
         }
-        seat.failed = TURNS;
+        seat.failed = turns;
         Err(Refusal::Busy)
     }
 }
 
 impl Queue for TwoLock {
     #[inline(never)]
-    fn try_push(&self, seat: &mut Seat, body: u64) -> Result<(), Refusal> {
+    fn try_push(&self, seat: &mut Seat, body: u64, turns: u32) -> Result<(), Refusal> {
         if let Some(held) = seat.pocket {
-            return self.put(seat, held, body, 0);
+            return self.put(seat, held, body, 0, turns);
         }
-        let held = self.arena.take(seat, TURNS)?;
+        let held = self.arena.take(seat, turns)?;
         let spent = seat.failed;
-        self.put(seat, held, body, spent)
+        self.put(seat, held, body, spent, turns)
     }
 
     #[inline(never)]
-    fn try_pop(&self, seat: &mut Seat) -> Result<Option<(u64, u64)>, Refusal> {
+    fn try_pop(&self, seat: &mut Seat, turns: u32) -> Result<Option<(u64, u64)>, Refusal> {
         let Some(held) = seat.pocket else {
-            return self.draw(seat, 0);
+            return self.draw(seat, 0, turns);
         };
-        self.arena.give_back(seat, held, TURNS)?;
+        self.arena.give_back(seat, held, turns)?;
         let spent = seat.failed;
-        self.draw(seat, spent)
+        self.draw(seat, spent, turns)
     }
 }
 
@@ -222,7 +245,7 @@ impl Locked {
 
 impl Queue for Locked {
     #[inline(never)]
-    fn try_push(&self, seat: &mut Seat, body: u64) -> Result<(), Refusal> {
+    fn try_push(&self, seat: &mut Seat, body: u64, _turns: u32) -> Result<(), Refusal> {
         let mut values = self.values.lock().unwrap();
         if values.len() as u64 >= NODES - 1 {
             return Err(Refusal::NoNode);
@@ -232,7 +255,7 @@ impl Queue for Locked {
     }
 
     #[inline(never)]
-    fn try_pop(&self, _seat: &mut Seat) -> Result<Option<(u64, u64)>, Refusal> {
+    fn try_pop(&self, _seat: &mut Seat, _turns: u32) -> Result<Option<(u64, u64)>, Refusal> {
         Ok(self.values.lock().unwrap().pop_front())
     }
 }
@@ -279,21 +302,21 @@ impl Backoff {
     }
 }
 
-fn push<Q: Queue>(queue: &Q, seat: &mut Seat, backoff: &mut Backoff) {
+fn push<Q: Queue>(queue: &Q, seat: &mut Seat, turns: u32, backoff: &mut Backoff) {
     backoff.begins();
     loop {
-        match queue.try_push(seat, 1) {
-            Ok(()) | Err(Refusal::WornOut) => return,
+        match queue.try_push(seat, 1, turns) {
+            Ok(()) | Err(Refusal::WornOut(_)) => return,
             Err(Refusal::Busy | Refusal::NoNode) => backoff.snooze(),
         }
     }
 }
 
-fn pop<Q: Queue>(queue: &Q, seat: &mut Seat, backoff: &mut Backoff) {
+fn pop<Q: Queue>(queue: &Q, seat: &mut Seat, turns: u32, backoff: &mut Backoff) {
     backoff.begins();
     loop {
-        match queue.try_pop(seat) {
-            Ok(Some(_)) | Err(Refusal::WornOut | Refusal::NoNode) => return,
+        match queue.try_pop(seat, turns) {
+            Ok(Some(_)) | Err(Refusal::WornOut(_) | Refusal::NoNode) => return,
             Ok(None) | Err(Refusal::Busy) => backoff.snooze(),
         }
     }
@@ -309,17 +332,18 @@ pub enum Work {
 fn toil<Q: Queue>(queue: &Q, number: u64, waiting: Waiting, work: Work, count: u64) {
     let mut seat = Seat { number, pocket: None, failed: 0, pushes: 0, pops: 0 };
     let mut backoff = Backoff { step: 0, waiting };
+    let turns = black_box(TURNS);
     for _ in 0..count {
         match work {
             Work::Pairs => {
-                push(queue, &mut seat, &mut backoff);
-                pop(queue, &mut seat, &mut backoff);
+                push(queue, &mut seat, turns, &mut backoff);
+                pop(queue, &mut seat, turns, &mut backoff);
             }
-            Work::Pushes => push(queue, &mut seat, &mut backoff),
-            Work::Pops => pop(queue, &mut seat, &mut backoff),
+            Work::Pushes => push(queue, &mut seat, turns, &mut backoff),
+            Work::Pops => pop(queue, &mut seat, turns, &mut backoff),
         }
     }
-    std::hint::black_box(&seat);
+    black_box(&seat);
 }
 
 /// Prints how many nanoseconds the works took, each so many times.
@@ -359,6 +383,6 @@ fn main() {
     if queue == "mutex" {
         measure(&Locked::new(), waiting, works, count);
     } else {
-        measure(&TwoLock { arena: Arena::new() }, waiting, works, count);
+        measure(&TwoLock { arena: Arena::measured() }, waiting, works, count);
     }
 }
