@@ -4,7 +4,6 @@ use Rattle.std.specs.Borrow.{Bor}
 use Rattle.std.specs.Cmp.Lexicographic.{pointwise}
 use Rattle.std.specs.Str.Parse.{IsNumeral, digits_value, without_leading_plus}
 use Rattle.clap.specs.Words.{App, IsAmong, Kinds, Row, Rule, Text, fault_of, first_of, one_of, new_app, new_rule, subcommand_of, takes, with_rule, with_subcommand}
-use Rattle.clap.specs.declared.builder.value_parser.ValueParser.{ValueParser}
 use Rattle.clap.specs.declared.builder.value_parser.ValueParser.TheVariants.{Names, Unsigned}
 use Rattle.clap.specs.declared.error.kind.ErrorKind.{ErrorKind}
 use Rattle.clap.specs.declared.error.kind.ErrorKind.TheVariants.{DisplayHelp, DisplayVersion, OutOfMemory}
@@ -13,7 +12,7 @@ use Rattle.line_table.specs.declared.lines.Kind.TheVariants.{TwoLock, NonBlockin
 use Rattle.msq.specs.declared.commands.Command.{Command}
 use Rattle.msq.specs.declared.commands.Crew.{Crew}
 use Rattle.msq.specs.declared.commands.Task.{Task}
-use Rattle.msq.specs.declared.commands.Task.TheVariants.{Run, Check, Work, Post}
+use Rattle.msq.specs.declared.commands.Task.TheVariants.{Check, Work, Post}
 
 -- whether a task judges a history
 abbrev pub is_check : Task → Bool

@@ -138,10 +138,7 @@ fn queue_option<'a>(alloc: Global, queues: &'a [&'a str]) -> Arg<'a>
 }
 
 /// The command `work`, with the names of the queues.
-fn work_command<'a>(
-    alloc: Global,
-    queues: &'a [&'a str],
-) -> Result<clap::Command<'a>, AllocError>
+fn work_command<'a>(alloc: Global, queues: &'a [&'a str]) -> Result<clap::Command<'a>, AllocError>
     ensures { IfOk result (λ command. app_of command ≡ work_app queues.entry) }
 {
     let command = command_on(
@@ -158,10 +155,7 @@ fn work_command<'a>(
 }
 
 /// The command `post`, with the names of the queues.
-fn post_command<'a>(
-    alloc: Global,
-    queues: &'a [&'a str],
-) -> Result<clap::Command<'a>, AllocError>
+fn post_command<'a>(alloc: Global, queues: &'a [&'a str]) -> Result<clap::Command<'a>, AllocError>
     ensures { IfOk result (λ command. app_of command ≡ post_app queues.entry) }
 {
     let command = command_on(
@@ -174,14 +168,11 @@ fn post_command<'a>(
 }
 
 /// The command line: `run`, `check`, `work` and `post` with a FILE, help and the version.
-fn command_line<'a>(
-    alloc: Global,
-    queues: &'a [&'a str],
-) -> Result<clap::Command<'a>, AllocError>
+fn command_line<'a>(alloc: Global, queues: &'a [&'a str]) -> Result<clap::Command<'a>, AllocError>
     ensures { IfOk result (λ command. app_of command ≡ command_line_app queues.entry) }
 {
     let program = clap::Command::new(alloc, "msq")
-        .about("Runs concurrent queues one atomic line at a time, judges histories, does jobs, posts letters")
+        .about("Runs concurrent queues line by line, judges histories, does jobs, posts letters")
         .version("0.1.0")
         .after_help(AFTER_HELP)
         .no_binary_name(true)

@@ -1,4 +1,4 @@
-use crate::commands::{Crew, Task, read_words};
+use crate::commands::{Task, read_words};
 use line_table::Kind;
 use std::alloc::{AllocError, Global};
 use std::test::Fail;
@@ -16,11 +16,7 @@ fn told(task: Task) -> (u8, u32, u8, u32) {
     match task {
         Task::Run => (1, 0, 0, 0),
         Task::Check => (2, 0, 0, 0),
-        Task::Work(Crew {
-            workers,
-            kind,
-            nodes,
-        }) => (3, workers, number_of(kind), nodes),
+        Task::Work(crew) => (3, crew.workers, number_of(crew.kind), crew.nodes),
         Task::Post(kind) => (4, 0, number_of(kind), 0),
     }
 }
@@ -48,7 +44,11 @@ fn reads_what_to_do_with_which_file(rt: HostRuntime) -> Result<(), Fail> {
         (&["work", "a", "--workers", "1"], (3, 1, 2, 1024), "a"),
         (&["work", "--workers=64", "a"], (3, 64, 2, 1024), "a"),
         (&["work", "-", "--queue", "two-lock"], (3, 4, 1, 1024), "-"),
-        (&["work", "a", "--queue", "nonblocking"], (3, 4, 2, 1024), "a"),
+        (
+            &["work", "a", "--queue", "nonblocking"],
+            (3, 4, 2, 1024),
+            "a",
+        ),
         (
             &["work", "a", "--nodes", "16777214", "--workers", "2"],
             (3, 2, 2, 16_777_214),

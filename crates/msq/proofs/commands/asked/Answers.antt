@@ -1,9 +1,9 @@
 use Rattle.std.proofs.Common.{◌≡◌, ◌∙◌, sym, ap, map, refl, subst, codes, List, Option, None, Global}
-use Rattle.std.specs.Prelude.{string_bytes, unwrap_or, option_map}
+use Rattle.std.specs.Prelude.{string_bytes, unwrap_or}
 use Rattle.std.proofs.lemmas.Bool.{eqb-true}
 use Rattle.std.proofs.lemmas.List.{nil_from_length}
 use Rattle.std.proofs.lemmas.Result.{err_from_is_err_and}
-use Rattle.clap.specs.Words.{App, HasKind, Kinds, Row, Text, is_simple, is_simple_and_free, takes, subcommand_of, subcommand_rows_of}
+use Rattle.clap.specs.Words.{App, HasKind, Kinds, Row, Text, is_simple, is_simple_and_free, takes, subcommand_rows_of}
 use Rattle.msq.specs.declared.commands.Task.TheVariants.{Run}
 use Rattle.msq.specs.Commands.{file_met, met_in, IsTask}
 use Rattle.msq.proofs.Words.{faults_in-nil, faults_in-words, is_free-command_line, is_simple-command_line, met_in-nil, met_in-words, unwrap_or-now}
@@ -44,7 +44,7 @@ returns-clause-asked c =
     let met : subcommand_rows_of c.in_ok-matches.matches ≡ met_in queues words = (c.in_ok-matches.ensures.matches simple).1 ∙ met_in-words queues _ words line in
     record {
       file = c.in_ok-command_of-2.ensures.file ∙ ap (λ file. file.now) c.unwrap_or-file.ensures ∙ unwrap_or-now c.file_in.result _
-      ∙ ap (λ o. unwrap_or o (codes "-")) (c.file_in.ensures ∙ ap file_met met);
+          ∙ ap (λ o. unwrap_or o (codes "-")) (c.file_in.ensures ∙ ap file_met met);
       task = rw c.in_ok-command_of-2.ensures.task (subst (λ (o : Option (Text × List Row)). IsTask o c.task_in.result) met c.task_in.ensures);
       taken = sym (faults_in-words queues _ c.args.words.now _ _ line c.is_empty.ensures c.if-is_empty.false) ∙ c.in_ok-matches.ensures.kinds free;
     }

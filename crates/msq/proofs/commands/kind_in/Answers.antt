@@ -1,4 +1,4 @@
-use Rattle.std.proofs.Common.{◌∙◌, sym, ap, codes, true, false}
+use Rattle.std.proofs.Common.{◌∙◌, sym, codes, true, false}
 use Rattle.clap.specs.Words.{found_of}
 use Rattle.clap.proofs.WalkLemmas.{first_value-rows}
 use Rattle.msq.proofs.Words.{kind_named-none, kind_named-some}
