@@ -1,4 +1,1 @@
-pub mod Runs
 pub mod Commands
-pub mod Checks
-pub mod Endings

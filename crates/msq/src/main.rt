@@ -2,14 +2,7 @@
 #![tactic(auto)]
 
 mod commands;
-mod endings;
-mod engine;
-mod faults;
-mod judging;
 mod program;
-mod running;
-mod sending;
-mod spelling;
 #[cfg(test)]
 mod tests;
 

@@ -1,12 +1,11 @@
 //! The program: its words, its files and its exit status.
 use crate::commands::{Command, Task, read_words};
-use crate::endings::end_of;
-use crate::engine::run;
-use crate::faults::Fault;
-use crate::judging::check_text;
+use check_engine::check_text;
+use engine_faults::{Fault, end_of};
 use history::{ReaderSource, Refusal, Source, Verdict, WriterSink};
 use job_engine::work_text;
 use mail_engine::post_text;
+use run_engine::run_text;
 use std::fs::File;
 use std::rt::Runtime;
 use std::sync::Wait;
@@ -67,7 +66,7 @@ fn outcome_on<R: Runtime + AllocGlobal + Threads + Wait + Sync, S: Source + Drop
     let mut writer = WriterSink::new(io::writer(rt));
     match command.task {
         Task::Run => {
-            run(rt.alloc(), &mut reader, &mut writer)?;
+            run_text(rt.alloc(), &mut reader, &mut writer)?;
             Ok(Verdict::Yes)
         }
         Task::Check => Ok(check_text(rt.alloc(), &mut reader, &mut writer)?),

@@ -1,7 +1,1 @@
-mod endings;
-mod engine;
-mod faults;
-mod judging;
-mod schedules;
-mod tables;
 mod words;

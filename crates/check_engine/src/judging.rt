@@ -1,0 +1,109 @@
+//! The engine of `check`: from the bytes of a history to the verdict on it.
+ghost use Rattle.std.specs.Prelude.{◌≡◌, ◌≢◌, ◌≤◌, ◌⊎◌, IfErr, IfOk, OnOk, length};
+ghost use Rattle.std.specs.Io.KnownBytes.{Appends};
+ghost use Rattle.history.specs.Blocks.{TakesBeginning, GivesUp};
+ghost use Rattle.engine_faults.specs.Faults.{IsRunRefusal};
+ghost use Rattle.check_engine.specs.Checks.{cause_name, no_text, verdict_text, IsTextOf, TellsVerdict, BeginsVerdict, TellsFirstFault};
+ghost use Rattle.source_text.specs.Readings.{EndsReadingFor};
+
+use history::{Cause, Line, Refusal, Sink, Source, Stamped, Verdict, check, parse_history};
+use report::history_table;
+use sink_text::send;
+use source_text::read_all;
+use std::alloc::Global;
+
+/// Judges the history whose text the reader gives, and writes the verdict: for Yes the table of the
+/// history, and else one line, `no` with the operation's place in the list and what is wrong with it.
+///
+/// It is refused, in this order, by `Memory`, as soon as a growth is refused; `Read`, where a call of
+/// the reader fails; `Text`, where the bytes are no history; `Write`, where a call of the writer fails
+/// or takes nothing. It takes memory; whether it waits is up to the reader and the writer.
+pub fn check_text<R: Source, W: Sink>(
+    alloc: Global,
+    reader: &mut R,
+    writer: &mut W,
+) -> Result<Verdict, Refusal>
+    // The verdict is that on the history read, and the text that tells it is written and nothing else.
+    ensures ok { IfOk result (TellsVerdict (R.remaining reader.old) (W.contents writer.old)
+        (W.contents writer.new)) }
+    ensures quiet { OnOk result (W.failures writer.new ≡ W.failures writer.old) }
+    // A text is refused by its first faulty line.
+    ensures text { IfErr result (TellsFirstFault (R.remaining reader.old)) }
+    // Where writing fails, a beginning of the text that tells the verdict is written.
+    ensures beginning { IfErr result (λ why. why ≡ Refusal.Write
+        → BeginsVerdict (R.remaining reader.old) (W.contents writer.old) (W.contents writer.new)) }
+    ensures write { IfErr result (λ why. why ≡ Refusal.Write
+        → GivesUp (W.failures writer.old) (W.failures writer.new) (W.is_full writer.new)) }
+    // At any other refusal nothing is.
+    ensures unwritten { IfErr result (λ why. why ≢ Refusal.Write → writer.new ≡ writer.old) }
+    ensures refusal { IfErr result IsRunRefusal }
+    ensures reader { EndsReadingFor result (R.failures reader.old) (R.failures reader.new)
+        (R.has_ended reader.new) }
+{
+    let history = history_in(alloc, reader)?;
+    let verdict = check(alloc, &history)?;
+    tell(alloc, &history, verdict, writer)?;
+    Ok(verdict)
+}
+
+/// The history whose text a source gives.
+fn history_in<R: Source>(alloc: Global, reader: &mut R) -> Result<Vec<Stamped>, Refusal>
+    ensures ok { IfOk result (λ history. IsTextOf (R.remaining reader.old) history.items) }
+    ensures text { IfErr result (TellsFirstFault (R.remaining reader.old)) }
+    ensures unwritten { IfErr result (λ why. why ≢ Refusal.Write) }
+    ensures refusal { IfErr result IsRunRefusal }
+    ensures reader { EndsReadingFor result (R.failures reader.old) (R.failures reader.new)
+        (R.has_ended reader.new) }
+{
+    let text = read_all(alloc, reader)?;
+    parse_history(alloc, &text)
+}
+
+/// Writes the text that tells a verdict on a history.
+fn tell<W: Sink>(
+    alloc: Global,
+    history: &[Stamped],
+    verdict: Verdict,
+    writer: &mut W,
+) -> Result<(), Refusal>
+    ensures ok { OnOk result (Appends (W.contents writer.old) (W.contents writer.new)
+        (verdict_text history.now verdict)) }
+    ensures quiet { OnOk result (W.failures writer.new ≡ W.failures writer.old) }
+    ensures only { IfErr result (λ why. (why ≡ Refusal.Memory) ⊎ (why ≡ Refusal.Write)) }
+    ensures unwritten { IfErr result (λ why. why ≡ Refusal.Memory → writer.new ≡ writer.old) }
+    ensures beginning { IfErr result (λ why. why ≡ Refusal.Write
+        → TakesBeginning (W.contents writer.old) (W.contents writer.new)
+        (verdict_text history.now verdict)) }
+    ensures cause { IfErr result (λ why. why ≡ Refusal.Write
+        → GivesUp (W.failures writer.old) (W.failures writer.new) (W.is_full writer.new)) }
+{
+    match verdict {
+        Verdict::Yes => history_table(alloc, history, writer),
+        Verdict::No { place, cause } => send(no_line(place, cause).as_slice(), writer),
+    }
+}
+
+#[tactic(auto, unfolding(crate::specs::Checks::no_text))]
+fn no_line(place: u64, cause: Cause) -> Line
+    ensures { result ≡ no_text place cause }
+{
+    let mut line = Line::new();
+    line.push(b"no ");
+    line.push_number(place);
+    line.push(b" ");
+    line.push(name_of(cause));
+    line.push(b"\n");
+    line
+}
+
+fn name_of(cause: Cause) -> &'static [u8]
+    ensures text { result.now ≡ cause_name cause }
+    ensures short { length result.now ≤ 6 }
+{
+    match cause {
+        Cause::Shape => b"Shape",
+        Cause::Span => b"Span",
+        Cause::Shared => b"Shared",
+        Cause::Reply => b"Reply",
+    }
+}

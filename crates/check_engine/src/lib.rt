@@ -1,0 +1,6 @@
+//! The engine of `msq check`: from the text of a history to the verdict on it.
+#![tactic(auto)]
+
+mod judging;
+
+pub use judging::check_text;

@@ -1,0 +1,6 @@
+mod endings;
+mod engine;
+mod faults;
+mod judging;
+mod schedules;
+mod tables;

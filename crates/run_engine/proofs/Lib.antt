@@ -1,0 +1,4 @@
+mod Told
+mod Moves
+mod Leading
+mod Stops

@@ -1,0 +1,65 @@
+//! The engine of `run`: from a reader's bytes to a writer's.
+ghost use Rattle.std.specs.Prelude.{◌≡◌, ◌≢◌, IfErr, IfOk, IfSome, OnOk};
+ghost use Rattle.run_engine.specs.Runs.{BeginsRun, WritesRun, EndsReading, IsRunFault, IsRunOf, RunRefused, TellsFaultyLine};
+ghost use Rattle.history.specs.Blocks.{GivesUp};
+
+use crate::running::world_of_schedule;
+use engine_faults::Fault;
+use history::{Refusal, Sink, Source, Stamped, print_history};
+use schedule_text::parse;
+use source_text::read_all;
+use std::alloc::Global;
+
+/// The history of the schedule whose text a source gives.
+fn history_of<R: Source>(alloc: Global, reader: &mut R) -> Result<Vec<Stamped>, Fault>
+    ensures ok { IfOk result (λ history. IsRunOf (R.remaining reader.old) history.items) }
+    ensures text { IfErr result (λ fault. TellsFaultyLine (R.remaining reader.old) fault.refusal) }
+    ensures fault { IfErr result (λ fault. IsRunFault fault.refusal fault.line) }
+    ensures refused { IfErr result (λ fault. IfSome fault.line (λ line.
+        RunRefused (R.remaining reader.old) line fault.refusal)) }
+    ensures unwritten { IfErr result (λ fault. fault.refusal ≢ Refusal.Write) }
+    ensures reader { EndsReading result (R.failures reader.old) (R.failures reader.new)
+        (R.has_ended reader.new) }
+{
+    let text = read_all(alloc, reader)?;
+    let schedule = parse(alloc, &text)?;
+    let world = world_of_schedule(alloc, &schedule)?;
+    let history = world.history(alloc)?;
+    Ok(history)
+}
+
+/// Runs the schedule whose text the reader gives, and writes the text of its history.
+///
+/// A fault is, in this order: `Memory`, as soon as a growth is refused; `Read`, where a call of the
+/// reader fails; `Text`, where the bytes are no schedule; the refusal of the first event that is
+/// refused, with its line; `Write`, where a call of the writer fails or takes nothing. It takes
+/// memory; whether it waits is up to the reader and the writer.
+pub fn run_text<R: Source, W: Sink>(
+    alloc: Global,
+    reader: &mut R,
+    writer: &mut W,
+) -> Result<(), Fault>
+    // The text of the schedule's history is written, and nothing else.
+    ensures ok { OnOk result (WritesRun (R.remaining reader.old) (W.contents writer.old)
+        (W.contents writer.new)) }
+    ensures quiet { OnOk result (W.failures writer.new ≡ W.failures writer.old) }
+    // Where writing fails, a beginning of that text is written.
+    ensures beginning { IfErr result (λ fault. fault.refusal ≡ Refusal.Write
+        → BeginsRun (R.remaining reader.old) (W.contents writer.old) (W.contents writer.new)) }
+    ensures write { IfErr result (λ fault. fault.refusal ≡ Refusal.Write
+        → GivesUp (W.failures writer.old) (W.failures writer.new) (W.is_full writer.new)) }
+    // At any other fault nothing is.
+    ensures unwritten { IfErr result (λ fault. fault.refusal ≢ Refusal.Write → writer.new ≡ writer.old) }
+    ensures fault { IfErr result (λ fault. IsRunFault fault.refusal fault.line) }
+    // A text that is no schedule is refused by its first faulty line.
+    ensures text { IfErr result (λ fault. TellsFaultyLine (R.remaining reader.old) fault.refusal) }
+    // A line is that of the first event that is refused, and the refusal is that event's.
+    ensures refused { IfErr result (λ fault. IfSome fault.line (λ line.
+        RunRefused (R.remaining reader.old) line fault.refusal)) }
+    ensures reader { EndsReading result (R.failures reader.old) (R.failures reader.new)
+        (R.has_ended reader.new) }
+{
+    let history = history_of(alloc, reader)?;
+    print_history(&history, writer)?;
+    Ok(())
+}

@@ -1,0 +1,7 @@
+//! The engine of `msq run`: from the text of a schedule to the text of its history.
+#![tactic(auto)]
+
+mod engine;
+mod running;
+
+pub use engine::run_text;

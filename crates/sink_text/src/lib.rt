@@ -1,0 +1,6 @@
+//! Hands a sink a text whole.
+#![tactic(auto)]
+
+mod sending;
+
+pub use sending::send;
