@@ -85,10 +85,12 @@ fn main(rt: HostRuntime) -> io::Result<()> {
             return println!(rt; "{USAGE}");
         };
         return match one_run(&rt, rt.alloc(), kind, senders, letters) {
-            Ok(Came {
-                in_order: Some(_),
-                time: Some(time),
-            }) => println!(rt; "{}", time.as_nanos()),
+            Ok(
+                Came {
+                    in_order: Some(_),
+                    time: Some(time),
+                },
+            ) => println!(rt; "{}", time.as_nanos()),
             other => println!(rt; "{other:?}"),
         };
     }
@@ -97,9 +99,7 @@ fn main(rt: HostRuntime) -> io::Result<()> {
             let good = good_runs(&rt, rt.alloc(), *kind, *runs);
             println!(rt;
                 "{name}, {} senders of {} letters: {good} of {} runs",
-                runs.senders,
-                runs.letters,
-                runs.times
+                runs.senders, runs.letters, runs.times
             )?;
         }
     }

@@ -58,8 +58,12 @@ pub fn came<R: Threads + Wait + Clock + Sync>(
             posted(rt, alloc, queue, seats, receiver, load)
         }
         Kind::NonBlocking => {
-            let (queue, seats, receiver) =
-                non_blocking_seats(alloc, nodes, GREATEST_COUNT, senders)?;
+            let (queue, seats, receiver) = non_blocking_seats(
+                alloc,
+                nodes,
+                GREATEST_COUNT,
+                senders,
+            )?;
             posted(rt, alloc, queue, seats, receiver, load)
         }
     }

@@ -99,13 +99,16 @@ fn post_mail<T: Threads + Wait + Sync, W: Sink>(
     let nodes = mail.letters.len() as u32 + u32::from(senders) + SPARE_NODES;
     match kind {
         Kind::TwoLock => {
-            let (queue, seats, receiver) =
-                two_lock_seats(alloc, nodes, GREATEST_COUNT, senders)?;
+            let (queue, seats, receiver) = two_lock_seats(alloc, nodes, GREATEST_COUNT, senders)?;
             post_over(rt, alloc, queue, seats, receiver, mail, writer)
         }
         Kind::NonBlocking => {
-            let (queue, seats, receiver) =
-                non_blocking_seats(alloc, nodes, GREATEST_COUNT, senders)?;
+            let (queue, seats, receiver) = non_blocking_seats(
+                alloc,
+                nodes,
+                GREATEST_COUNT,
+                senders,
+            )?;
             post_over(rt, alloc, queue, seats, receiver, mail, writer)
         }
     }

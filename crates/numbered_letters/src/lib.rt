@@ -1,5 +1,6 @@
 //! Letters whose texts are numbers, of senders with a thread each, over any queue.
 #![tactic(auto)]
+
 ghost use Rattle.std.specs.Prelude.{◌≡◌, map, IfOk};
 ghost use Rattle.std.specs.List.{All};
 ghost use Rattle.mailbox.specs.Openings.{CanSend, CanReceive};

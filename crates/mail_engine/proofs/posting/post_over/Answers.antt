@@ -29,7 +29,7 @@ returns-clause-ok g c =
     let row = ap g.Q.Fifo.permits c.in_ok-office.ensures.opens.queue_is ∙ c.requires.opened.permitted in
     let here = g.met.Q.Fifo g.world.𝓛 g.world.𝓜 g.world.𝓡 ((λ s x. x), (λ x. x), (λ x. x), λ x. x) in
     let from = senders_within (g.Q.Fifo.permits c.in_ok-office.office.queue) g.Q.Fifo.known c.args.mail.senders c.in_ok-office.receiver
-        c.in_ok-letters.field-0.items c.post-receiver.result.0 row (here.sound _ _ c.post-receiver.ensures.receiver.seat) told in
+    c.in_ok-letters.field-0.items c.post-receiver.result.0 row (here.sound _ _ c.post-receiver.ensures.receiver.seat) told in
     on_ok_weaker c.tell.result
     (λ w. writes_taken c.args.mail.senders (length c.args.mail.letters.items) c.in_ok-letters.field-0.items (all ∙ c.in_ok-tasks.ensures.all) from _ _ w)
     c.tell.ensures.ok
@@ -41,7 +41,7 @@ returns-clause-beginning g c =
     let row = ap g.Q.Fifo.permits c.in_ok-office.ensures.opens.queue_is ∙ c.requires.opened.permitted in
     let here = g.met.Q.Fifo g.world.𝓛 g.world.𝓜 g.world.𝓡 ((λ s x. x), (λ x. x), (λ x. x), λ x. x) in
     let from = senders_within (g.Q.Fifo.permits c.in_ok-office.office.queue) g.Q.Fifo.known c.args.mail.senders c.in_ok-office.receiver
-        c.in_ok-letters.field-0.items c.post-receiver.result.0 row (here.sound _ _ c.post-receiver.ensures.receiver.seat) told in
+    c.in_ok-letters.field-0.items c.post-receiver.result.0 row (here.sound _ _ c.post-receiver.ensures.receiver.seat) told in
     IfErr-weaker c.tell.result _ _
     (λ why h e. begins_taken c.args.mail.senders (length c.args.mail.letters.items) c.in_ok-letters.field-0.items (all ∙ c.in_ok-tasks.ensures.all) from _ _ (h e))
     c.tell.ensures.beginning

@@ -18,7 +18,7 @@ loop-letter-preserved g c =
     let number : c.in-Some.letter.from ≡ (c.from-place.result - 1) + 1 = let low = (all 0 c.in-Some.letter (omega arith)).0 in let same = c.from-place.ensures in omega (arith, low, same) in
     let texts = subst (λ (r : List Outgoing). HaveBut c.loop-letter.tasks.items r c.args.letters.items) split was.texts in
     let kept : length c.add_text.new.tasks.items ≡ length c.loop-letter.tasks.items =
-        sym (length-map c.add_text.new.tasks.items (λ t. t.sender)) ∙ ap length c.add_text.ensures.senders ∙ length-map c.loop-letter.tasks.items (λ t. t.sender) in
+    sym (length-map c.add_text.new.tasks.items (λ t. t.sender)) ∙ ap length c.add_text.ensures.senders ∙ length-map c.loop-letter.tasks.items (λ t. t.sender) in
     record {
       senders = c.add_text.ensures.senders ∙ was.senders;
       texts = have_more _ _ (c.from-place.result - 1) c.in-Some.letter _ _ texts c.in_ok-add_text.ensures.text number kept;
