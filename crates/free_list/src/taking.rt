@@ -66,6 +66,7 @@ fn take_within(arena: &Arena, seat: &mut Seat, turns: u32) -> Result<Held, Refus
 /// Refusals: `NoNode` where at one step all nodes were used and none was free, `WornOut(Free)` where at one step Free's
 /// count was the greatest one, and `Busy` where each of so many turns failed, 1 or more: each met a changed word. The
 /// pocket is then empty. Takes no memory and doesn't wait.
+#[inline(always)]
 pub fn take(arena: &Arena, seat: &mut Seat, turns: u32) -> Result<Held, Refusal>
     requires ready { IsReady arena.now seat.old }
     requires empty { pocket_of seat.old ≡ None }

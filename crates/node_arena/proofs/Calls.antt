@@ -18,7 +18,7 @@ use Rattle.node_arena.specs.Seeing.{View, seated, knows}
 use Rattle.node_arena.specs.Plans.{Layout}
 use Rattle.node_arena.specs.Rule.{Holds, Steps, Fitted, Tells, TellsNothing, line_or_first}
 use Rattle.history.specs.Entries.{is_push, is_pop}
-use Rattle.node_arena.specs.Seats.{MayStep, DidStep, DidSome, view, counting}
+use Rattle.node_arena.specs.Seats.{MayStep, DidStep, DidSome, view, pocket_of, counting}
 use Rattle.node_arena.proofs.There.{stood, place_within}
 use Rattle.node_arena.proofs.StepsPreserve.{becomes, allows}
 use Rattle.node_arena.proofs.Counting.{Counts, loads_nothing, clears_nothing, stores_counted, wins_counted, loses_nothing}
@@ -65,7 +65,7 @@ module _ (r : Arena) (s : Seat) (t : Token ℕ Knowing) (prologue : Prologue) (l
   abbrev es : List Entry
   es = entries_at r.plan.setup steps.was (view s).number a l
 
-  did : (u : Seat) → u.token ≡ t → u.number ≡ s.number → u.role ≡ s.role → u.pocket ≡ s.pocket → u.failed ≡ s.failed → u.pushes ≡ s.pushes + count_by is_push es → u.pops ≡ s.pops + count_by is_pop es → DidStep r s u prologue l n
+  did : (u : Seat) → u.token ≡ t → u.number ≡ s.number → u.role ≡ s.role → pocket_of u ≡ pocket_of s → u.failed ≡ s.failed → u.pushes ≡ s.pushes + count_by is_push es → u.pops ≡ s.pops + count_by is_pop es → DidStep r s u prologue l n
   did u token number role pocket failed pushes pops = record {
     seat = record {
       arena = may.seat.arena;

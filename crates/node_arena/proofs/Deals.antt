@@ -1,5 +1,5 @@
 -- The opening keeps the rule, and so does a seat that is dealt.
-use Rattle.std.proofs.Common.{◌≡◌, ◌≢◌, ◌⊎◌, ℕ, ◌+◌, ◌-◌, ◌*◌, ◌<◌, ◌≤◌, if◌then◌else◌, List, [], ◌∷◌, ◌++◌, zero, suc, length, replicate, set, sym, refl, ap, ◌∙◌, subst, ⊎_elim, inl, inr, arith, slice_get, Some, None, ne_eqb}
+use Rattle.std.proofs.Common.{false, ◌≡◌, ◌≢◌, ◌⊎◌, ℕ, ◌+◌, ◌-◌, ◌*◌, ◌<◌, ◌≤◌, if◌then◌else◌, List, [], ◌∷◌, ◌++◌, zero, suc, length, replicate, set, sym, refl, ap, ◌∙◌, subst, ⊎_elim, inl, inr, arith, slice_get, Some, None, ne_eqb}
 use Rattle.std.specs.List.{count_by}
 use Rattle.std.proofs.lemmas.List.Elements.{All-nil}
 use Rattle.std.proofs.Math.ListN.{length-replicate}
@@ -168,7 +168,7 @@ newly z n sized least few =
 
 -- a seat with the token of a number that was dealt
 pub dealt : (z : Layout) (t : TableId) (n : ℕ) (role : Role) (k : Token ℕ Knowing) → IsPlanned z → 1 ≤ n → n ≤ length z.roles → slice_get z.roles (n - 1) ≡ Some role → k.table_id ≡ t → k.me ≡ (seated (new_seat n), [])
-    → IsDealt z t n record { token = k; number = n; role = role; pocket = None; failed = 0; pushes = 0; pops = 0 }
+    → IsDealt z t n record { token = k; number = n; role = role; full = false; held = record { node = 0; mark = 0 }; failed = 0; pushes = 0; pops = 0 }
 dealt z t n role k sized least few permits table me =
     let is : knows k.me.0 ≡ new_seat n = ap (λ (y : Me ℕ View). knows y.0) me in
     record {

@@ -13,7 +13,7 @@ use Rattle.node_arena.specs.declared.arena.Arena.{Arena}
 use Rattle.node_arena.specs.declared.seats.Seat.{Seat}
 use Rattle.node_arena.specs.Seeing.{keeper, new_seat}
 use Rattle.node_arena.specs.Plans.{Layout}
-use Rattle.node_arena.specs.Seats.{IsReady, Sits, view, plan_of}
+use Rattle.node_arena.specs.Seats.{IsReady, Sits, view, pocket_of, plan_of}
 
 -- the words at the start, in the order of the table: one node was used, the dummy, which Head and Tail name
 abbrev pub first_memory_words : (nodes : ℕ) → List ℕ
@@ -33,7 +33,7 @@ pub record IsDealt (z : Layout) (t : TableId) (n : ℕ) (s : Seat) : Type 0 wher
   pub seat : Sits z t s
   pub view : view s ≡ new_seat n
   pub number : s.number ≡ n
-  pub pocket : s.pocket ≡ None
+  pub pocket : pocket_of s ≡ None
   pub failed : s.failed ≡ 0
 
 -- seats that were just dealt, numbered from 1
@@ -45,7 +45,7 @@ pub record IsNewSeat (r : Arena) (n : ℕ) (s : Seat) : Type 0 where
   pub ready : IsReady r s
   pub view : view s ≡ new_seat n
   pub number : s.number ≡ n
-  pub pocket : s.pocket ≡ None
+  pub pocket : pocket_of s ≡ None
   pub failed : s.failed ≡ 0
 
 -- a new arena of a plan, with a new seat for each role, numbered from 1

@@ -1,6 +1,7 @@
 -- What clauses say of an arena and its seats.
-use Rattle.std.specs.Prelude.{◌≡◌, ℕ, ◌+◌, ◌-◌, ◌^◌, ◌<◌, List, [], ◌++◌, Option, Some, None, slice_get}
+use Rattle.std.specs.Prelude.{◌≡◌, ℕ, ◌+◌, ◌-◌, ◌^◌, ◌<◌, List, [], ◌++◌, Option, Some, None, slice_get, Bool, true, false}
 use Rattle.std.specs.List.{count_by}
+use Rattle.std.specs.Option.{is_some, unwrap_or}
 use Rattle.line_table.specs.declared.lines.Line.{Line}
 use Rattle.line_table.specs.declared.lines.Line.TheVariants.{E9, D13, A5, B5}
 use Rattle.history.specs.declared.operations.Entry.{Entry}
@@ -47,17 +48,23 @@ number_of s = s.number
 abbrev pub role_of : Seat → Role
 role_of s = s.role
 
+-- a pocket that holds a node, or an empty one
+abbrev pub some_if : Bool → Held → Option Held
+some_if true h = Some h
+some_if false h = None
+
 -- the node in a seat's pocket, as the seat stores it
 abbrev pub pocket_of : Seat → Option Held
-pocket_of s = s.pocket
+pocket_of s = some_if s.full s.held
 
 -- the failed turns of a seat's last call, as the seat stores them
 abbrev pub failed_of : Seat → ℕ
 failed_of s = s.failed
 
--- a seat that keeps another pocket and another number of failed turns
+-- a seat that keeps another pocket and another number of failed turns: an emptied one still has the node's number, which
+-- then means nothing
 abbrev pub keeping : Seat → Option Held → ℕ → Seat
-keeping s pocket failed = record s { pocket = pocket; failed = failed }
+keeping s pocket failed = record s { full = is_some pocket; held = unwrap_or pocket s.held; failed = failed }
 
 -- the arena's table is laid out for its plan
 abbrev pub IsArena : Arena → Type 0
@@ -87,7 +94,7 @@ EachSeatIsSound = (r : Arena) (s : Seat) → IsSeat r s → IsSound (permits_of 
 pub record KeepsStored (s t : Seat) : Type 0 where
   pub number : t.number ≡ s.number
   pub role : t.role ≡ s.role
-  pub pocket : t.pocket ≡ s.pocket
+  pub pocket : pocket_of t ≡ pocket_of s
   pub failed : t.failed ≡ s.failed
 
 -- a seat is the same one by its number and its role
@@ -142,7 +149,7 @@ DidSome r s t prologue l = (n : ℕ) × DidStep r s t prologue l n
 pub record IsReady (r : Arena) (s : Seat) : Type 0 where
   pub seat : IsSeat r s
   pub free : (at_rest (view s).actor).line ≡ None
-  pub pocket : s.pocket ≡ (at_rest (view s).actor).pocket
+  pub pocket : pocket_of s ≡ (at_rest (view s).actor).pocket
 
 -- a seat stores and knows the same as before, but that it has now seen this, which begins with what it had seen
 pub record Sees (s t : Seat) (all : List Entry) : Type 0 where

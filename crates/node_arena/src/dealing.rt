@@ -8,6 +8,7 @@ use crate::roles::Role;
 use crate::seats::Seat;
 use crate::views::{Deal, SeatToken, WordTable};
 use std::alloc::{AllocError, Global};
+use step_machine::Held;
 
 // The seat of a number.
 fn deal(table: &WordTable, keeper: &mut SeatToken, plan: &Plan, number: u16, role: Role) -> Seat
@@ -25,7 +26,8 @@ fn deal(table: &WordTable, keeper: &mut SeatToken, plan: &Plan, number: u16, rol
         token,
         number,
         role,
-        pocket: None,
+        full: false,
+        held: Held { node: 0, mark: 0 },
         failed: 0,
         pushes: 0,
         pops: 0,

@@ -12,7 +12,9 @@ pub struct Seat {
     pub(crate) token: SeatToken,
     pub(crate) number: u16,
     pub(crate) role: Role,
-    pub(crate) pocket: Option<Held>,
+    // Whether the pocket holds a node: to empty it is to store this alone.
+    pub(crate) full: bool,
+    pub(crate) held: Held,
     pub(crate) failed: u32,
     pub(crate) pushes: u64,
     pub(crate) pops: u64,
@@ -65,7 +67,7 @@ impl Seat {
     pub fn pocket(&self) -> Option<Held>
         ensures { result ≡ pocket_of self.now }
     {
-        self.pocket
+        if self.full { Some(self.held) } else { None }
     }
 
     /// How many turns of the seat's last take or give back failed.
@@ -79,7 +81,13 @@ impl Seat {
     pub fn keep(&mut self, pocket: Option<Held>, failed: u32)
         ensures { self.new ≡ keeping self.old pocket failed }
     {
-        self.pocket = pocket;
+        match pocket {
+            Some(held) => {
+                self.full = true;
+                self.held = held;
+            }
+            None => self.full = false,
+        }
         self.failed = failed;
     }
 }

@@ -6,7 +6,7 @@ use Rattle.history.specs.declared.refusals.WornWord.TheVariants.{Next as OfNext,
 use Rattle.node_arena.specs.Machine.{Held}
 use Rattle.node_arena.specs.declared.arena.Arena.{Arena}
 use Rattle.node_arena.specs.declared.seats.Seat.{Seat}
-use Rattle.node_arena.specs.Seats.{KeepsName}
+use Rattle.node_arena.specs.Seats.{KeepsName, pocket_of}
 use Rattle.node_arena.specs.Turns.{failed_turns}
 use Rattle.node_arena.specs.Paths.{HadNoEffect, added}
 use Rattle.nonblocking.specs.Pushes.{PutRefused, PushRefused, Puts, AnswersPush}
@@ -23,7 +23,7 @@ at_once r s t node body turns (Err why) k = record { ready = k.ready; same = k.s
   where
     by_cause : (why : Refusal) → PutRefused r s t node 0 turns why → PushRefused r s t turns why
     by_cause Busy x = ((let f = x.0 in omega arith), x.1)
-    by_cause (WornOut OfTail) x = (x.0, some_of (λ h. h.node ≡ node) t.pocket x.1)
+    by_cause (WornOut OfTail) x = (x.0, some_of (λ h. h.node ≡ node) (pocket_of t) x.1)
     by_cause (WornOut OfNext) x = x
     by_cause (WornOut _) x = absurd x
     by_cause _ x = absurd x

@@ -12,7 +12,7 @@ use Rattle.node_arena.specs.Traces.{Event}
 use Rattle.node_arena.specs.Prologues.{Prologue, begins, continues, at_rest, out_of}
 use Rattle.node_arena.specs.declared.arena.Arena.{Arena}
 use Rattle.node_arena.specs.declared.seats.Seat.{Seat}
-use Rattle.node_arena.specs.Seats.{IsReady, view, keeping}
+use Rattle.node_arena.specs.Seats.{IsReady, view, pocket_of, keeping}
 use Rattle.node_arena.specs.Turns.{failed_turns, at_a3}
 use Rattle.node_arena.specs.Paths.{ExtendsPath, Acts, added}
 use Rattle.node_arena.proofs.Paths.{walk_then, then_act, act_then, pass_then, then_stored, added_is, added_path, failed-append, failed_behind, kept_seat, ends_failed, event, walk_on, pass_on, act_on, to_is, failed_last}
@@ -39,7 +39,7 @@ abbrev set_out : Arena → Seat → ℕ → Option Held → Actor
 set_out r s body p = from_pocket (with_node r.plan.setup.kind) p (record (at_rest (view s).actor) { line = Some N1; op = Enq body; val = record { from = (view s).number; body = body }; due = None; entry = None })
 
 -- a push with a full pocket sets out
-pub pushes_out : (r : Arena) (s : Seat) (h : Held) (from body val : ℕ) (a : Running) → a ≡ registers_of h val → IsReady r s → s.pocket ≡ Some h → IsTwoLock r → body < 2 ^ 48 → from ≡ s.number → val ≡ from * 2 ^ 48 + body → CallIsAt r s (begins (Enq (value_of a.val).body)) A1 a
+pub pushes_out : (r : Arena) (s : Seat) (h : Held) (from body val : ℕ) (a : Running) → a ≡ registers_of h val → IsReady r s → pocket_of s ≡ Some h → IsTwoLock r → body < 2 ^ 48 → from ≡ s.number → val ≡ from * 2 ^ 48 + body → CallIsAt r s (begins (Enq (value_of a.val).body)) A1 a
 pushes_out r s h from body val a is i full two small same word = subst (λ (x : Running). CallIsAt r s (begins (Enq (value_of x.val).body)) A1 x) (sym is) out
   where
     e : (at_rest (view s).actor).pocket ≡ Some h
