@@ -1,13 +1,17 @@
-/* Runs a program of threads, one of which stops for good: stopping STEPS MILLISECONDS PROGRAM WORD..
-   The thread that the program's first thread makes takes so many machine instructions, while all others stand. Then the
-   others go on. The status is 0 where they come to their end, or to wait for it; 1 where they don't in the time given; 2 where
-   the thread ended before it took as many; 3 where the program can't be run so. For Linux on x86-64. */
+/* Runs a program of threads, one of which stops for good: stopping PLAN MILLISECONDS PROGRAM WORD..
+   The program makes a thread, which makes the one that stops, and then another one, which goes on. PLAN says what these two do
+   while all others stand, in words with a space between: S120, the one that stops takes 120 machine instructions; S3x, it comes
+   to stand right before the third compare-and-exchange, from here on, of the program's own code; G120 and G3x, the one that goes
+   on. Then all others go on. The status is 0 where they come to their end, or to wait for it; 1 where they don't in the time
+   given; 2 where a thread ended before it did what the plan says; 3 where the program can't be run so. For Linux on x86-64. */
 #define _GNU_SOURCE
 #include <fcntl.h>
 #include <signal.h>
 #include <stdio.h>
 #include <stdlib.h>
+#include <string.h>
 #include <sys/ptrace.h>
+#include <sys/user.h>
 #include <sys/wait.h>
 #include <time.h>
 #include <unistd.h>
@@ -41,10 +45,64 @@ static pid_t made_by(pid_t thread) {
     return waitpid((pid_t)made, &status, __WALL) < 0 || !WIFSTOPPED(status) ? 0 : (pid_t)made;
 }
 
-/* Whether the main thread and its first one come to wait, it for that one, and that one for the stopped one, with each
-   other thread ended, in so many milliseconds. */
+/* Where the code of the program lies that a process runs. */
+struct code { unsigned long from, to; };
+
+static struct code code_of(pid_t process) {
+    char path[64], line[512], name[256] = "", here[256] = "", rights[8];
+    struct code code = {0, 0};
+    snprintf(path, sizeof path, "/proc/%d/exe", process);
+    if (readlink(path, name, sizeof name - 1) < 0) return code;
+    snprintf(path, sizeof path, "/proc/%d/maps", process);
+    FILE *maps = fopen(path, "r");
+    unsigned long from, to;
+    while (maps && fgets(line, sizeof line, maps)) {
+        if (sscanf(line, "%lx-%lx %7s %*s %*s %*s %255s", &from, &to, rights, here) == 4 && rights[2] == 'x' && !strcmp(here, name)) {
+            code = (struct code){from, to};
+        }
+    }
+    if (maps) fclose(maps);
+    return code;
+}
+
+/* Whether a thread that stands is right before a compare-and-exchange of 64 bits in this code: the bytes f0 48..4f 0f b1. */
+static int is_before_exchange(pid_t thread, struct code code) {
+    struct user_regs_struct registers;
+    if (ptrace(PTRACE_GETREGS, thread, 0, &registers) < 0 || registers.rip < code.from || registers.rip >= code.to) return 0;
+    unsigned long bytes = (unsigned long)ptrace(PTRACE_PEEKTEXT, thread, registers.rip, 0);
+    return (bytes & 0xfffff8ff) == 0xb10f48f0;
+}
+
+/* Whether a thread that stands takes one instruction and stands again. */
+static int steps(pid_t thread) {
+    int status;
+    return ptrace(PTRACE_SINGLESTEP, thread, 0, 0) == 0 && waitpid(thread, &status, __WALL) >= 0 && WIFSTOPPED(status);
+}
+
+/* Whether the two threads do what the plan says. */
+static int goes_by(const char *plan, pid_t stopped, pid_t going, struct code code) {
+    for (const char *at = plan; *at;) {
+        char *end;
+        pid_t thread = *at == 'S' ? stopped : going;
+        long count = strtol(at + 1, &end, 10);
+        if (*end == 'x') {
+            for (end++; count > 0; count -= is_before_exchange(thread, code)) {
+                if (!steps(thread)) return 0;
+            }
+        } else {
+            for (; count > 0; count--) {
+                if (!steps(thread)) return 0;
+            }
+        }
+        at = end + (*end == ' ');
+    }
+    return 1;
+}
+
+/* Whether the main thread and its first one come to wait, it for that one, and that one for the stopped one, with the one
+   that goes on and each later one ended, in so many milliseconds. */
 static int all_go_on(pid_t top, pid_t first, pid_t stopped, double patience) {
-    int others = 0, status;
+    int others = 1, status;
     for (double end = milliseconds() + patience; milliseconds() < end;) {
         pid_t told = waitpid(-1, &status, __WALL | WNOHANG);
         if (told < 0) return 0;
@@ -74,12 +132,10 @@ int main(int argc, char **argv) {
     }
     if (waitpid(top, &status, 0) < 0 || !WIFSTOPPED(status)) return 3;
     ptrace(PTRACE_SETOPTIONS, top, 0, PTRACE_O_TRACECLONE | PTRACE_O_EXITKILL);
-    pid_t first = made_by(top), stopped = first ? made_by(first) : 0;
-    if (!stopped) return 3;
-    for (long steps = atol(argv[1]); steps > 0; steps--) {
-        if (ptrace(PTRACE_SINGLESTEP, stopped, 0, 0) < 0 || waitpid(stopped, &status, __WALL) < 0) return 3;
-        if (!WIFSTOPPED(status)) return 2;
-    }
+    pid_t first = made_by(top), stopped = first ? made_by(first) : 0, going = stopped ? made_by(top) : 0;
+    if (!going) return 3;
+    if (!goes_by(argv[1], stopped, going, code_of(top))) return 2;
+    ptrace(PTRACE_CONT, going, 0, 0);
     ptrace(PTRACE_CONT, first, 0, 0);
     ptrace(PTRACE_CONT, top, 0, 0);
     return all_go_on(top, first, stopped, atof(argv[2])) ? 0 : 1;

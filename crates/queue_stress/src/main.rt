@@ -29,7 +29,7 @@ const FEW_PAIRS: u32 = 100;
 
 /// The words that the program understands.
 const USAGE: &str =
-    "queue_stress [two-lock|non-blocking [one|four|pair|strict|two COUNT | run NODES LIMIT PAIRS]]";
+    "queue_stress [two-lock|non-blocking [one|four|pair|strict|taker|two COUNT | run NODES LIMIT PAIRS]]";
 
 // The works of a kind, by its name.
 fn works_of(name: &str) -> Works {
@@ -37,6 +37,7 @@ fn works_of(name: &str) -> Works {
         "one" => (Some(Work::Pairs), None, None, None),
         "pair" => (Some(Work::Pushes), None, Some(Work::Pops), None),
         "strict" => (Some(Work::Pairs), None, Some(Work::Strict), None),
+        "taker" => (Some(Work::Pops), None, Some(Work::Strict), None),
         "two" => (
             Some(Work::Pushes),
             Some(Work::Pops),
