@@ -4,3 +4,4 @@ mod faults;
 mod judging;
 mod schedules;
 mod tables;
+mod words;

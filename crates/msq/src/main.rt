@@ -1,10 +1,7 @@
 //! Runs a schedule of queue calls, one atomic line at a time, and writes the history of its calls.
 #![tactic(auto)]
 
-mod commands;
 mod program;
-#[cfg(test)]
-mod tests;
 
 use std::process::ExitCode;
 

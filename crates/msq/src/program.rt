@@ -1,6 +1,6 @@
 //! The program: its words, its files and its exit status.
-use crate::commands::{Command, Task, read_words};
 use check_engine::check_text;
+use command_line::{Command, Task, read_words};
 use engine_faults::{Fault, end_of};
 use history::{ReaderSource, Refusal, Source, Verdict, WriterSink};
 use job_engine::work_text;

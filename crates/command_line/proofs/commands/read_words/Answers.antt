@@ -1,5 +1,5 @@
 use Rattle.std.proofs.Common.{rules}
-use Rattle.msq.proofs.commands.read_words.Goals as goal
+use Rattle.command_line.proofs.commands.read_words.Goals as goal
 
 pub returns-in-Err-clause-passes : goal.returns-in-Err-clause-passes
 returns-in-Err-clause-passes c = λ taken. c.told.ensures.refused (c.in-Err.ensures.passes (taken c.as_slice.result (search rules)))

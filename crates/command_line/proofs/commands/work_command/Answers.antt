@@ -1,8 +1,8 @@
 use Rattle.std.proofs.Common.{◌≡◌, ap, ap₂, ◌∙◌, codes, rules}
 use Rattle.std.proofs.lemmas.Result.{IfOk-weaker}
 use Rattle.clap.specs.Words.{app_of, rule_of, with_rule}
-use Rattle.msq.specs.Commands.{file_app, number_rule, queue_rule}
-use Rattle.msq.proofs.commands.work_command.Goals as goal
+use Rattle.command_line.specs.Commands.{file_app, number_rule, queue_rule}
+use Rattle.command_line.proofs.commands.work_command.Goals as goal
 
 pub returns : goal.returns
 returns c =

@@ -1,7 +1,7 @@
 use Rattle.std.proofs.Common.{ap₂, ◌∙◌, rules}
 use Rattle.std.proofs.lemmas.Result.{IfOk-weaker}
 use Rattle.clap.specs.Words.{with_rule}
-use Rattle.msq.proofs.commands.post_command.Goals as goal
+use Rattle.command_line.proofs.commands.post_command.Goals as goal
 
 pub returns : goal.returns
 returns c =

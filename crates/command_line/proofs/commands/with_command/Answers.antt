@@ -1,8 +1,8 @@
 use Rattle.std.proofs.Common.{ap, ◌∙◌}
 use Rattle.std.proofs.lemmas.Result.{IfOk-weaker}
 use Rattle.clap.specs.Words.{App, app_of, with_subcommand}
-use Rattle.msq.proofs.Words.{plain_local}
-use Rattle.msq.proofs.commands.with_command.Goals as goal
+use Rattle.command_line.proofs.Words.{plain_local}
+use Rattle.command_line.proofs.commands.with_command.Goals as goal
 
 pub returns : goal.returns
 returns c =

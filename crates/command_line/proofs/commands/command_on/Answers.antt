@@ -2,8 +2,8 @@ use Rattle.std.proofs.Common.{◌≡◌, ap, ap₂, ◌∙◌, rules}
 use Rattle.std.proofs.lemmas.Result.{IfOk-weaker}
 use Rattle.clap.specs.Words.{app_of, new_app, rule_of, with_rule}
 use Rattle.clap.specs.Simple.{app_of_fields}
-use Rattle.msq.specs.Commands.{file_rule}
-use Rattle.msq.proofs.commands.command_on.Goals as goal
+use Rattle.command_line.specs.Commands.{file_rule}
+use Rattle.command_line.proofs.commands.command_on.Goals as goal
 
 pub returns : goal.returns
 returns c =

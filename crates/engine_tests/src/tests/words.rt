@@ -1,4 +1,4 @@
-use crate::commands::{Task, read_words};
+use command_line::{Task, read_words};
 use line_table::Kind;
 use std::alloc::{AllocError, Global};
 use std::test::Fail;

@@ -1,7 +1,7 @@
 //! The words after the program's name.
 ghost use Rattle.std.specs.Prelude.{◌≡◌, ◌⊎◌, [], IfErr, IfOk, map, option_map, string_bytes, codes, true, false};
 ghost use Rattle.clap.specs.Words.{HasKind, app_of, first_of, found_of, kind_of, one_of, rows_of, rule_of, subcommand_rows_of, takes, with_subcommand};
-ghost use Rattle.msq.specs.Commands.{command_line_app, faults_in, file_app, file_met, kind_named, number_rule, post_app, queue_rule, status_at, work_app, AreQueues, AreTaken, IsAsked, IsAskedSomewhere, IsCrewOf, IsStatusOf, IsTask, SaysNumber};
+ghost use Rattle.command_line.specs.Commands.{command_line_app, faults_in, file_app, file_met, kind_named, number_rule, post_app, queue_rule, status_at, work_app, AreQueues, AreTaken, IsAsked, IsAskedSomewhere, IsCrewOf, IsStatusOf, IsTask, SaysNumber};
 
 use clap::builder::ValueParser;
 use clap::error::ErrorKind;

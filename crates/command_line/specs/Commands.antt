@@ -9,10 +9,10 @@ use Rattle.clap.specs.declared.error.kind.ErrorKind.{ErrorKind}
 use Rattle.clap.specs.declared.error.kind.ErrorKind.TheVariants.{DisplayHelp, DisplayVersion, OutOfMemory}
 use Rattle.line_table.specs.declared.lines.Kind.{Kind}
 use Rattle.line_table.specs.declared.lines.Kind.TheVariants.{TwoLock, NonBlocking}
-use Rattle.msq.specs.declared.commands.Command.{Command}
-use Rattle.msq.specs.declared.commands.Crew.{Crew}
-use Rattle.msq.specs.declared.commands.Task.{Task}
-use Rattle.msq.specs.declared.commands.Task.TheVariants.{Check, Work, Post}
+use Rattle.command_line.specs.declared.commands.Command.{Command}
+use Rattle.command_line.specs.declared.commands.Crew.{Crew}
+use Rattle.command_line.specs.declared.commands.Task.{Task}
+use Rattle.command_line.specs.declared.commands.Task.TheVariants.{Check, Work, Post}
 
 -- whether a task judges a history
 abbrev pub is_check : Task → Bool

@@ -4,10 +4,10 @@ use Rattle.std.proofs.lemmas.Bool.{eqb-true}
 use Rattle.std.proofs.lemmas.List.{nil_from_length}
 use Rattle.std.proofs.lemmas.Result.{err_from_is_err_and}
 use Rattle.clap.specs.Words.{App, HasKind, Kinds, Row, Text, is_simple, is_simple_and_free, takes, subcommand_rows_of}
-use Rattle.msq.specs.declared.commands.Task.TheVariants.{Run}
-use Rattle.msq.specs.Commands.{file_met, met_in, IsTask}
-use Rattle.msq.proofs.Words.{faults_in-nil, faults_in-words, is_free-command_line, is_simple-command_line, met_in-nil, met_in-words, unwrap_or-now}
-use Rattle.msq.proofs.commands.asked.Goals as goal
+use Rattle.command_line.specs.declared.commands.Task.TheVariants.{Run}
+use Rattle.command_line.specs.Commands.{file_met, met_in, IsTask}
+use Rattle.command_line.proofs.Words.{faults_in-nil, faults_in-words, is_free-command_line, is_simple-command_line, met_in-nil, met_in-words, unwrap_or-now}
+use Rattle.command_line.proofs.commands.asked.Goals as goal
 
 pub returns-then-is_empty-clause-asked : goal.returns-then-is_empty-clause-asked
 returns-then-is_empty-clause-asked c =

@@ -2,9 +2,9 @@ use Rattle.std.proofs.Common.{◌≡◌, ap, ap₂, ◌∙◌, codes, true}
 use Rattle.std.proofs.lemmas.Result.{IfOk-weaker}
 use Rattle.clap.specs.Words.{App, app_of, with_subcommand}
 use Rattle.clap.specs.Simple.{app_of_fields}
-use Rattle.msq.specs.Commands.{bare_app, command_line_app, file_app, work_app}
-use Rattle.msq.proofs.Words.{plain_local}
-use Rattle.msq.proofs.commands.command_line.Goals as goal
+use Rattle.command_line.specs.Commands.{bare_app, command_line_app, file_app, work_app}
+use Rattle.command_line.proofs.Words.{plain_local}
+use Rattle.command_line.proofs.commands.command_line.Goals as goal
 
 -- the program's command, from a new one
 abbrev bare_of : App → App

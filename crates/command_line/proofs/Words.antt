@@ -8,7 +8,7 @@ use Rattle.clap.specs.Matches.{ReadsOne}
 use Rattle.line_table.specs.declared.lines.Kind.TheVariants.{TwoLock, NonBlocking}
 use Rattle.clap.specs.Words.{App, Row, Text, fault_of, first_of, is_simple, is_simple_and_free, subcommand_of}
 use Rattle.clap.proofs.OnLiterals.{clap_on_literals}
-use Rattle.msq.specs.Commands.{command_line_app, faults_in, file_met, kind_named, met_in, SaysNumber, TextRow}
+use Rattle.command_line.specs.Commands.{command_line_app, faults_in, file_met, kind_named, met_in, SaysNumber, TextRow}
 
 module _ (queues : TextRow) where
   -- no words meet no command

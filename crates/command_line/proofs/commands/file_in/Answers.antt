@@ -1,8 +1,8 @@
 use Rattle.std.proofs.Common.{◌∙◌, sym, codes}
 use Rattle.clap.specs.Words.{found_of, rows_of, subcommand_rows_of}
 use Rattle.clap.proofs.WalkLemmas.{first_value-rows}
-use Rattle.msq.proofs.Words.{file_met-rows}
-use Rattle.msq.proofs.commands.file_in.Goals as goal
+use Rattle.command_line.proofs.Words.{file_met-rows}
+use Rattle.command_line.proofs.commands.file_in.Goals as goal
 
 pub returns : goal.returns
 returns c =

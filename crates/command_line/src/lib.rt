@@ -1,0 +1,6 @@
+//! The command line: what the words after the program's name ask for.
+#![tactic(auto)]
+
+mod commands;
+
+pub use commands::{Command, Crew, Task, read_words};
