@@ -39,11 +39,13 @@ pub record BeginsResults (given old new : Option (List ℕ)) : Type 0 where
   pub text : IsTextOf given jobs
   pub begun : TakesBeginning old new (results_text (job_rows 1 jobs))
 
--- where known bytes are refused as a text, that is their first faulty line as jobs, and what is wrong with it
-abbrev pub TellsFirstFault : (given : Option (List ℕ)) → Refusal → Type 0
-TellsFirstFault None why = ⊤
-TellsFirstFault (Some text) (Text number cause) = IsFirstFaultOfJobs text (Text number cause)
-TellsFirstFault (Some text) _ = ⊤
+-- what a refusal tells of known bytes: their first faulty line as jobs, and what is wrong with it; or, where a job has no
+-- result, that they are the text of jobs
+abbrev pub TellsOfText : (given : Option (List ℕ)) → Refusal → Type 0
+TellsOfText None why = ⊤
+TellsOfText (Some text) (Text number cause) = IsFirstFaultOfJobs text (Text number cause)
+TellsOfText (Some text) Lost = (jobs : List Job) × IsTextOf (Some text) jobs
+TellsOfText (Some text) _ = ⊤
 
 -- what the reading of jobs may be refused
 abbrev pub IsReadingRefusal : Refusal → Type 0

@@ -2,7 +2,7 @@
 ghost use Rattle.std.specs.Prelude.{◌≡◌, ◌≢◌, ◌↔◌, IfErr, IfOk, OnErr, OnOk, IsTrue, Err};
 ghost use Rattle.history.specs.Blocks.{GivesUp};
 ghost use Rattle.source_text.specs.Readings.{EndsReadingFor};
-ghost use Rattle.job_engine.specs.Works.{AreSized, IsBadSize, IsTextOf, WritesResults, BeginsResults, TellsFirstFault, IsReadingRefusal, IsWorkRefusal, EndsReadingOrUnread};
+ghost use Rattle.job_engine.specs.Works.{AreSized, IsBadSize, IsTextOf, WritesResults, BeginsResults, TellsOfText, IsReadingRefusal, IsWorkRefusal, EndsReadingOrUnread};
 
 use crate::crews::results_by;
 use history::{Refusal, Sink, Source};
@@ -46,8 +46,8 @@ pub fn work_text<T: Threads + Wait + Sync, R: Source, W: Sink>(
     // A size out of its range is refused before anything is read.
     ensures sized { (result ≡ Err Refusal.BadSize) ↔ IsBadSize workers nodes }
     ensures unread { IfErr result (λ why. why ≡ Refusal.BadSize → reader.new ≡ reader.old) }
-    // A text is refused by its first faulty line.
-    ensures text { IfErr result (TellsFirstFault (R.remaining reader.old)) }
+    // A text is refused by its first faulty line. Where jobs are lost, it was the text of jobs.
+    ensures text { IfErr result (TellsOfText (R.remaining reader.old)) }
     // Where writing fails, a beginning of the table is written.
     ensures beginning { IfErr result (λ why. why ≡ Refusal.Write
         → BeginsResults (R.remaining reader.old) (W.contents writer.old) (W.contents writer.new)) }
@@ -78,7 +78,7 @@ fn are_sized(workers: u32, nodes: u32) -> bool
 /// The jobs whose text a source gives.
 fn jobs_in<R: Source>(alloc: Global, reader: &mut R) -> Result<Vec<Job>, Refusal>
     ensures ok { IfOk result (λ jobs. IsTextOf (R.remaining reader.old) jobs.items) }
-    ensures text { IfErr result (TellsFirstFault (R.remaining reader.old)) }
+    ensures text { IfErr result (TellsOfText (R.remaining reader.old)) }
     ensures refusal { IfErr result IsReadingRefusal }
     ensures reader { EndsReadingFor result (R.failures reader.old) (R.failures reader.new)
         (R.has_ended reader.new) }
