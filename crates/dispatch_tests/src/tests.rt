@@ -1,6 +1,8 @@
 //! Runs of workers, with the answers worked out by hand.
 mod gates;
 mod plans;
+mod queues;
 mod runs;
 mod seats;
+mod texts;
 mod turns;

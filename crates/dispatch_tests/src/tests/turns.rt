@@ -1,10 +1,14 @@
 //! Turns of one worker, on one thread.
+ghost use Rattle.std.specs.List.{All};
+
 use super::gates::Open;
-use super::runs::queue_of;
+use super::queues::{non_blocking_of, two_lock_of};
 use super::seats::{giver_of, sums, taker_of};
 use dispatcher::{Worked, work_one};
 use history::{Body, Fifo, Refusal};
 use job_results::{Job, JobResult};
+use std::alloc::Global;
+use std::process::Abort;
 use std::test::Fail;
 
 /// How many turns each call has.
@@ -40,14 +44,19 @@ fn turn<'a, Q: Fifo>(
     work_one(queue, seat, jobs, &Open, out, TURNS)
 }
 
-/// A worker alone takes one value a turn, and does its job: it is never busy.
-#[test]
-fn a_worker_takes_one_value_a_turn(rt: HostRuntime) -> Result<(), Fail> {
-    let jobs = sums(rt.alloc(), 2)?;
-    let (queue, mut seats) = queue_of(rt.alloc(), 16, 1)?;
-    let mut giver = giver_of(&queue, &mut seats)?;
-    let mut taker = taker_of(&queue, &mut seats)?;
-    let mut out = Vec::new(rt.alloc());
+// A worker alone takes one value a turn, and does its job: it is never busy. Two seats: one that pops, and one that pushes.
+fn takes_one_value_a_turn<Q: Fifo>(
+    rt: &impl Abort,
+    alloc: Global,
+    queue: &Q,
+    mut seats: Vec<Q::Seat>,
+) -> Result<(), Fail>
+    requires { All (Q.is_seat queue.now) seats.items }
+{
+    let jobs = sums(alloc, 2)?;
+    let mut giver = giver_of(queue, &mut seats)?;
+    let mut taker = taker_of(queue, &mut seats)?;
+    let mut out = Vec::new(alloc);
     let turns = [
         (2, Ok(Worked::Did(2))),
         (0, Ok(Worked::Stop)),
@@ -55,11 +64,20 @@ fn a_worker_takes_one_value_a_turn(rt: HostRuntime) -> Result<(), Fail> {
         (1, Ok(Worked::Did(1))),
     ];
     for (body, wanted) in turns {
-        push(&queue, &mut giver, body)?;
-        let worked = turn(&queue, &mut taker, &jobs, &mut out);
+        push(queue, &mut giver, body)?;
+        let worked = turn(queue, &mut taker, &jobs, &mut out);
         assert_eq!(rt; worked, wanted, "body {body}");
     }
-    let worked = turn(&queue, &mut taker, &jobs, &mut out);
+    let worked = turn(queue, &mut taker, &jobs, &mut out);
     assert_eq!(rt; (worked, out.len()), (Ok(Worked::Empty), 2));
     Ok(())
+}
+
+/// A worker alone takes one value a turn, on either queue.
+#[test]
+fn a_worker_takes_one_value_a_turn(rt: HostRuntime) -> Result<(), Fail> {
+    let (queue, seats) = two_lock_of(rt.alloc(), 16, 1)?;
+    takes_one_value_a_turn(&rt, rt.alloc(), &queue, seats)?;
+    let (queue, seats) = non_blocking_of(rt.alloc(), 16, 1)?;
+    takes_one_value_a_turn(&rt, rt.alloc(), &queue, seats)
 }

@@ -1,0 +1,93 @@
+//! Texts of jobs that are done over both queues, from any source to any sink.
+use super::queues::KINDS;
+use history::{Refusal, Script, Trouble};
+use job_engine::work_text;
+use std::test::Fail;
+
+const FOUR: &[u8] = b"jobs 4
+add 2 3
+mul 4 5
+div 7 0
+len abc
+";
+
+// 153 bytes.
+const FOUR_TOLD: &[u8] = b"results 4
+       1 add 5
+       2 mul 20
+       3 div by-zero
+       4 len 3
+add              1
+mul              1
+div              1
+len              1
+";
+
+// Texts that are empty, or look like other lines.
+const THREE: &[u8] = b"jobs 3
+len add 1 1
+div 7 2
+len\x20
+";
+
+const THREE_TOLD: &[u8] = b"results 3
+       1 len 7
+       2 div 3
+       3 len 0
+len              2
+div              1
+";
+
+#[test]
+fn each_jobs_result_is_told_in_order(rt: HostRuntime) -> Result<(), Fail> {
+    let rows: [(&[u8], &[u8]); 3] = [
+        (FOUR, FOUR_TOLD),
+        (THREE, THREE_TOLD),
+        (b"jobs 0\n", b"results 0\n"),
+    ];
+    for (text, told) in &rows {
+        for kind in KINDS {
+            for piece in [1, 7, 4096] {
+                let mut reader = Script::reader(rt.alloc(), text, piece)?;
+                let mut writer = Script::writer(rt.alloc(), 1000, piece)?;
+                let answer = work_text(&rt, rt.alloc(), &mut reader, &mut writer, 2, kind, 5);
+                assert_eq!(rt;
+                    (answer, writer.written()),
+                    (Ok(()), *told),
+                    "{piece} of {kind:?}"
+                );
+            }
+        }
+    }
+    Ok(())
+}
+
+/// Nine calls write 153 bytes in pieces of 17. Three read 39 of them, and a fourth tells the end.
+#[test]
+fn a_call_that_fails_ends_it(rt: HostRuntime) -> Result<(), Fail> {
+    for kind in KINDS {
+        for call in 1..=9u64 {
+            for trouble in [Trouble::Failure, Trouble::Standstill] {
+                let mut reader = Script::reader(rt.alloc(), FOUR, 17)?;
+                let mut writer = Script::writer(rt.alloc(), 1000, 17)?.with(trouble, call);
+                let answer = work_text(&rt, rt.alloc(), &mut reader, &mut writer, 2, kind, 5);
+                let told = (call as usize - 1) * 17;
+                assert!(rt; told <= FOUR_TOLD.len());
+                assert_eq!(rt;
+                    (answer, writer.written()),
+                    (Err(Refusal::Write), &FOUR_TOLD[..told])
+                );
+            }
+        }
+        for call in 1..=4u64 {
+            let mut reader = Script::reader(rt.alloc(), FOUR, 17)?.with(Trouble::Failure, call);
+            let mut writer = Script::writer(rt.alloc(), 1000, 17)?;
+            let answer = work_text(&rt, rt.alloc(), &mut reader, &mut writer, 2, kind, 5);
+            assert_eq!(rt;
+                (answer, writer.written()),
+                (Err(Refusal::Read), b"".as_slice())
+            );
+        }
+    }
+    Ok(())
+}
