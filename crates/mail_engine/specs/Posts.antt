@@ -61,11 +61,14 @@ WritesLetters P old new = (told : List Letter) × P told × Appends old new (let
 abbrev pub BeginsLetters : (List Letter → Type 0) → (old new : Option (List ℕ)) → Type 0
 BeginsLetters P old new = (told : List Letter) × P told × TakesBeginning old new (letters_text told)
 
--- where known bytes are refused as a text, that is their first faulty line as mail, and what is wrong with it
-abbrev pub TellsFirstFault : (given : Option (List ℕ)) → Refusal → Type 0
-TellsFirstFault None why = ⊤
-TellsFirstFault (Some text) (Text number cause) = IsFirstFaultOfMail text (Text number cause)
-TellsFirstFault (Some text) _ = ⊤
+-- what a refusal tells of known bytes: nothing where memory or reading is refused; their first faulty line as mail, and
+-- what is wrong with it; and else that they were the text of mail
+abbrev pub TellsOfText : (given : Option (List ℕ)) → Refusal → Type 0
+TellsOfText None why = ⊤
+TellsOfText (Some text) Memory = ⊤
+TellsOfText (Some text) Read = ⊤
+TellsOfText (Some text) (Text number cause) = IsFirstFaultOfMail text (Text number cause)
+TellsOfText (Some text) _ = (senders : ℕ) × (letters : List SaidLetter) × IsTextOf (Some text) senders letters
 
 -- what the reading of mail may be refused
 abbrev pub IsReadingRefusal : Refusal → Type 0

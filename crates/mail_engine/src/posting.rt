@@ -5,7 +5,7 @@ ghost use Rattle.history.specs.Blocks.{GivesUp};
 ghost use Rattle.mail_text.specs.MailTexts.{said_letters, IsMailInRange};
 ghost use Rattle.source_text.specs.Readings.{EndsReadingFor};
 ghost use Rattle.mail_engine.specs.Rows.{IsOpened};
-ghost use Rattle.mail_engine.specs.Posts.{IsTextOf, ArePosted, AreTaken, WritesLetters, BeginsLetters, TellsFirstFault, IsReadingRefusal, IsSendingRefusal, IsPostRefusal};
+ghost use Rattle.mail_engine.specs.Posts.{IsTextOf, ArePosted, AreTaken, WritesLetters, BeginsLetters, TellsOfText, IsReadingRefusal, IsSendingRefusal, IsPostRefusal};
 
 use crate::opening::{non_blocking_seats, two_lock_seats};
 use crate::sharing::tasks_of;
@@ -44,8 +44,8 @@ pub fn post_text<T: Threads + Wait + Sync, R: Source, W: Sink>(
     ensures ok { OnOk result (WritesLetters (ArePosted (R.remaining reader.old))
         (W.contents writer.old) (W.contents writer.new)) }
     ensures quiet { OnOk result (W.failures writer.new ≡ W.failures writer.old) }
-    // A text is refused by its first faulty line.
-    ensures text { IfErr result (TellsFirstFault (R.remaining reader.old)) }
+    // A text is refused by its first faulty line. Where sending or writing is refused, it was the text of mail.
+    ensures text { IfErr result (TellsOfText (R.remaining reader.old)) }
     // Where writing fails, a beginning of the text is written.
     ensures beginning { IfErr result (λ why. why ≡ Refusal.Write
         → BeginsLetters (ArePosted (R.remaining reader.old)) (W.contents writer.old)
@@ -66,7 +66,7 @@ pub fn post_text<T: Threads + Wait + Sync, R: Source, W: Sink>(
 fn mail_in<R: Source>(alloc: Global, reader: &mut R) -> Result<Mail, Refusal>
     ensures ok { IfOk result (λ mail.
         IsTextOf (R.remaining reader.old) mail.senders (said_letters mail.letters.items)) }
-    ensures text { IfErr result (TellsFirstFault (R.remaining reader.old)) }
+    ensures text { IfErr result (TellsOfText (R.remaining reader.old)) }
     ensures refusal { IfErr result IsReadingRefusal }
     ensures reader { EndsReadingFor result (R.failures reader.old) (R.failures reader.new)
         (R.has_ended reader.new) }
