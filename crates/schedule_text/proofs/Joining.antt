@@ -22,7 +22,7 @@ state_after-append g s [] qs = refl
 state_after-append g s (r ∷ rs) qs = state_after-append g (g.after s r) rs qs
 
 -- lines that are due, and then others
-AreDue-append : {S R : Type 0} (g : Grammar S R) (s : S) (rs qs : List R) → AreDue g s rs → AreDue g (state_after g s rs) qs → AreDue g s (rs ++ qs)
+pub AreDue-append : {S R : Type 0} (g : Grammar S R) (s : S) (rs qs : List R) → AreDue g s rs → AreDue g (state_after g s rs) qs → AreDue g s (rs ++ qs)
 AreDue-append g s [] qs due more = more
 AreDue-append g s (r ∷ rs) qs due more = (due.0, due.1, due.2, AreDue-append g (g.after s r) rs qs due.3 more)
 

@@ -1,8 +1,15 @@
 pub mod Absent
 pub mod Parts
+pub mod Shortening
+pub mod Holding
+pub mod Streams
+pub mod SameForm
+pub mod Verdicts
+pub mod StreamedLines
 pub mod Spelling
 pub mod Refusing
 pub mod Joining
 pub mod Distinct
 pub mod OneText
+pub mod EventStreams
 mod ReadOrFaulty

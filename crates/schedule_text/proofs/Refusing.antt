@@ -17,7 +17,7 @@ use Rattle.schedule_text.specs.Reading.{IsFront, IsRefusedAfter}
 use Rattle.schedule_text.proofs.Spelling.{words_of-said, spaced-said}
 
 -- a line that is wrong by its words is wrong, where the line that is due says just such things
-wrong_line : {V : Type 0} (said : V → Said) (due : Due) (says : List ℕ) → ((r : Said) → MaySay due r → (v : V) × (r ≡ said v))
+pub wrong_line : {V : Type 0} (said : V → Said) (due : Due) (says : List ℕ) → ((r : Said) → MaySay due r → (v : V) × (r ≡ said v))
     → ((v : V) → MaySay due (said v)) → (cause : TextCause)
     → IsWrong (λ (v : V). words_of says ≡ said_words (said v)) (λ v. IsSaidInRange (said v)) cause
     → IsWrong (Says schedule_lines due says) IsSaidInRange cause

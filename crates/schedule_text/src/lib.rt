@@ -1,13 +1,20 @@
 //! Schedules of what the actors of a queue do, and their texts.
 #![tactic(auto)]
 
+mod ahead;
+mod event_stream;
 mod events;
 mod fields;
+mod held;
 pub mod laws;
 mod parsing;
 mod printing;
+mod reading;
 mod schedules;
+mod streaming;
 
-pub use parsing::parse;
+pub use event_stream::EventStream;
+pub use parsing::{Header, parse};
 pub use printing::print;
+pub use reading::read_schedule;
 pub use schedules::{Event, Schedule};

@@ -15,9 +15,9 @@ use std::alloc::Global;
 use text_lines::{TextCause, line_at};
 
 /// The number of lines before the events.
-const HEADER_LINES: u64 = 6;
+pub const HEADER_LINES: u64 = 6;
 
-/// What the header says.
+/// What the header of a schedule says.
 #[derive(Drop)]
 pub struct Header {
     pub kind: Kind,
@@ -51,7 +51,7 @@ fn after_version(text: &[u8]) -> Result<&[u8], Refusal>
     }
 }
 
-fn is_version(line: &[u8]) -> bool
+pub fn is_version(line: &[u8]) -> bool
     ensures { MatchBool result (line.now ≡ codes "msq schedule 1")
         (line.now ≢ codes "msq schedule 1") }
 {
@@ -101,7 +101,7 @@ fn push_event<'a>(events: &mut Vec<Event>, before: u64, text: &'a [u8]) -> Resul
     }
 }
 
-fn keep(events: &mut Vec<Event>, event: Event) -> Result<(), Refusal>
+pub fn keep(events: &mut Vec<Event>, event: Event) -> Result<(), Refusal>
     ensures ok { OnOk result (events.new.items ≡ events.old.items ++ event ∷ []) }
     ensures err { IfErr result (λ why. why ≡ Refusal.Memory) }
 {

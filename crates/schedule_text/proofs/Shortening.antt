@@ -1,0 +1,160 @@
+-- Lines whose long numbers are cut short, and their words.
+use Rattle.std.proofs.Common.{◌≡◌, ◌≢◌, ℕ, zero, suc, ◌≤◌, ◌<◌, inl, inr, List, [], ◌∷◌, ◌++◌, length, get_or, All, Bool, refl, sym, ap, ◌∙◌, arith, ◌==◌}
+use Rattle.std.specs.List.{onto_first, AllZip}
+use Rattle.std.proofs.lemmas.Bool.{cases_lt, cases_eq, ne_eqb, eq-eqb}
+use Rattle.std.proofs.lemmas.List.Elements.{All-cons, All-head, All-tail}
+use Rattle.std.proofs.lemmas.List.Splits.{slice_split-cons_yes, slice_split-cons_no}
+use Rattle.text_lines.specs.Lines.{words_of}
+use Rattle.text_lines.specs.Numerals.{numeral, IsPlain}
+use Rattle.text_lines.proofs.Numerals.{IsPlain-numeral}
+use Rattle.text_lines.proofs.Digits.{plain_or_number}
+use Rattle.schedule_text.specs.Shortening.{IsDigit, Shortens, nothing, space, early, digit, other}
+
+-- more bytes of a line
+pub Shortens-append : {r m q : ℕ} {s k t l : List ℕ} → Shortens r s k m → Shortens m t l q → Shortens r (s ++ t) (k ++ l) q
+Shortens-append nothing later = later
+Shortens-append (space is more) later = space is (Shortens-append more later)
+Shortens-append (early is more) later = early is (Shortens-append more later)
+Shortens-append (digit is more) later = digit is (Shortens-append more later)
+Shortens-append (other is not more) later = other is not (Shortens-append more later)
+
+-- what is kept of one byte, whichever it is
+pub Shortens-byte : (r b : ℕ) → (k : List ℕ) × (q : ℕ) × Shortens r (b ∷ []) k q
+Shortens-byte r b = elim (cases_eq b 32) [ inl is ↦ (b ∷ [], 21, space is nothing) | inr is ↦ by r is ]
+  where
+    behind : b ≢ 32 → (k : List ℕ) × (q : ℕ) × Shortens 0 (b ∷ []) k q
+    behind is =
+        elim (cases_lt b 48) [
+          | inl low ↦ (b ∷ [], 0, other is (λ d. omega (arith, d.0, low)) nothing)
+          | inr low ↦ elim (cases_lt 57 b) [
+            | inl high ↦ (b ∷ [], 0, other is (λ d. omega (arith, d.1, high)) nothing)
+            | inr high ↦ ([], 0, digit (low, high) nothing)
+          ]
+        ]
+
+    by : (r : ℕ) → b ≢ 32 → (k : List ℕ) × (q : ℕ) × Shortens r (b ∷ []) k q
+    by zero is = behind is
+    by (suc r) is = (b ∷ [], r, early is nothing)
+
+-- the same of the bytes of one word
+pub data CutWord : ℕ → List ℕ → List ℕ → Type 0 where
+  end : {room : ℕ} → CutWord room [] []
+  first : {room byte : ℕ} {word kept : List ℕ} → CutWord room word kept → CutWord (suc room) (byte ∷ word) (byte ∷ kept)
+  dropped : {byte : ℕ} {word kept : List ℕ} → IsDigit byte → CutWord 0 word kept → CutWord 0 (byte ∷ word) kept
+  held : {byte : ℕ} {word kept : List ℕ} → ¬ IsDigit byte → CutWord 0 word kept → CutWord 0 (byte ∷ word) (byte ∷ kept)
+
+-- a word of which little is kept is kept whole
+pub CutWord-whole : {r : ℕ} {w k : List ℕ} → CutWord r w k → length k < r → w ≡ k
+CutWord-whole end short = refl
+CutWord-whole (first {byte = b} more) short = ap (λ (l : List ℕ). b ∷ l) (CutWord-whole more (omega arith))
+CutWord-whole (dropped is more) short = absurd (omega (arith, short))
+CutWord-whole (held is more) short = absurd (omega (arith, short))
+
+-- a short word is kept whole
+pub CutWord-short : {r : ℕ} {w k : List ℕ} → CutWord r w k → length w ≤ r → k ≡ w
+CutWord-short end short = refl
+CutWord-short (first {byte = b} more) short = ap (λ (l : List ℕ). b ∷ l) (CutWord-short more (omega arith))
+CutWord-short (dropped is more) short = absurd (omega (arith, short))
+CutWord-short (held is more) short = absurd (omega (arith, short))
+
+-- of digits no more are kept than there is room for
+pub CutWord-digits : {r : ℕ} {w k : List ℕ} → CutWord r w k → All IsDigit w → All IsDigit k × (length k ≤ r)
+CutWord-digits end all = (all, omega arith)
+CutWord-digits (first {byte = b} {word = w} {kept = k} more) all =
+    let rest = CutWord-digits more (All-tail IsDigit b w all) in
+    (All-cons IsDigit b k (All-head IsDigit b w all) rest.0, omega (arith, rest.1))
+CutWord-digits (dropped {byte = b} {word = w} is more) all = CutWord-digits more (All-tail IsDigit b w all)
+CutWord-digits (held {byte = b} {word = w} is more) all = absurd (is (All-head IsDigit b w all))
+
+-- where digits alone are kept, all are digits
+pub CutWord-back : {r : ℕ} {w k : List ℕ} → CutWord r w k → All IsDigit k → All IsDigit w
+CutWord-back end all = all
+CutWord-back (first {byte = b} {word = w} {kept = k} more) all =
+    All-cons IsDigit b w (All-head IsDigit b k all) (CutWord-back more (All-tail IsDigit b k all))
+CutWord-back (dropped {byte = b} {word = w} is more) all = All-cons IsDigit b w is (CutWord-back more all)
+CutWord-back (held {byte = b} {kept = k} is more) all = absurd (is (All-head IsDigit b k all))
+
+-- the first byte is kept
+record KeepsFirst (w k : List ℕ) : Type 0 where
+  same : get_or k 0 0 ≡ get_or w 0 0
+  forth : 0 < length w → 0 < length k
+  back : 0 < length k → 0 < length w
+
+CutWord-first : (r : ℕ) {w k : List ℕ} → CutWord (suc r) w k → KeepsFirst w k
+CutWord-first r end = record { same = refl; forth = λ some. some; back = λ some. some }
+CutWord-first r (first more) = record { same = refl; forth = λ some. omega arith; back = λ some. omega arith }
+
+-- what is kept of a number is a number
+IsPlain-cut : (w k : List ℕ) → CutWord 21 w k → IsPlain w → IsPlain k
+IsPlain-cut w k cut plain =
+    let begins = CutWord-first 20 cut in
+    record {
+      some = begins.forth plain.some;
+      digits = (CutWord-digits cut plain.digits).0;
+      first = λ zero. let one : length w ≡ 1 = plain.first (sym begins.same ∙ zero) in ap length (CutWord-short cut (omega (arith, one))) ∙ one;
+    }
+
+-- and of nothing else
+IsPlain-whole : (w k : List ℕ) → CutWord 21 w k → IsPlain k → IsPlain w
+IsPlain-whole w k cut plain =
+    let begins = CutWord-first 20 cut in
+    record {
+      some = begins.back plain.some;
+      digits = CutWord-back cut plain.digits;
+      first = λ zero. let one : length k ≡ 1 = plain.first (begins.same ∙ zero) in ap length (CutWord-whole cut (omega (arith, one))) ∙ one;
+    }
+
+pub numeral-cut : (n : ℕ) (k : List ℕ) → CutWord 21 (numeral n) k → (m : ℕ) × (k ≡ numeral m)
+numeral-cut n k cut = (plain_or_number k).0 (IsPlain-cut (numeral n) k cut (IsPlain-numeral n))
+
+pub numeral-whole : (m : ℕ) (w : List ℕ) → CutWord 21 w (numeral m) → (n : ℕ) × (w ≡ numeral n)
+numeral-whole m w cut = (plain_or_number w).0 (IsPlain-whole w (numeral m) cut (IsPlain-numeral m))
+
+-- at most 21 digits of a number are kept
+pub length-numeral-cut : (n : ℕ) (k : List ℕ) → CutWord 21 (numeral n) k → length k ≤ 21
+length-numeral-cut n k cut = (CutWord-digits cut (IsPlain-numeral n).digits).1
+
+-- the words of a line, and those of what is kept of it, where the first one begins with so much room
+abbrev CutWords : ℕ → List (List ℕ) → List (List ℕ) → Type 0
+CutWords r [] ks = ⊥
+CutWords r (w ∷ ws) [] = ⊥
+CutWords r (w ∷ ws) (k ∷ ks) = CutWord r w k × AllZip (CutWord 21) ws ks
+
+CutWords-all : (ws ks : List (List ℕ)) → CutWords 21 ws ks → AllZip (CutWord 21) ws ks
+CutWords-all [] ks cut = absurd cut
+CutWords-all (w ∷ ws) [] cut = absurd cut
+CutWords-all (w ∷ ws) (k ∷ ks) cut = cut
+
+CutWords-first : (r b : ℕ) (ws ks : List (List ℕ)) → CutWords r ws ks → CutWords (suc r) (onto_first b ws) (onto_first b ks)
+CutWords-first r b [] ks cut = absurd cut
+CutWords-first r b (w ∷ ws) [] cut = absurd cut
+CutWords-first r b (w ∷ ws) (k ∷ ks) cut = (first cut.0, cut.1)
+
+CutWords-dropped : (b : ℕ) (ws ks : List (List ℕ)) → IsDigit b → CutWords 0 ws ks → CutWords 0 (onto_first b ws) ks
+CutWords-dropped b [] ks is cut = absurd cut
+CutWords-dropped b (w ∷ ws) [] is cut = absurd cut
+CutWords-dropped b (w ∷ ws) (k ∷ ks) is cut = (dropped is cut.0, cut.1)
+
+CutWords-held : (b : ℕ) (ws ks : List (List ℕ)) → ¬ IsDigit b → CutWords 0 ws ks → CutWords 0 (onto_first b ws) (onto_first b ks)
+CutWords-held b [] ks is cut = absurd cut
+CutWords-held b (w ∷ ws) [] is cut = absurd cut
+CutWords-held b (w ∷ ws) (k ∷ ks) is cut = (held is cut.0, cut.1)
+
+abbrev at_space : ℕ → Bool
+at_space b = b == 32
+
+words_from : {r q : ℕ} {s k : List ℕ} → Shortens r s k q → CutWords r (words_of s) (words_of k)
+words_from nothing = (end, tt)
+words_from (space {byte = b} {says = s} {kept = k} is more) =
+    rw (slice_split-cons_yes at_space b s (eq-eqb b 32 is), slice_split-cons_yes at_space b k (eq-eqb b 32 is)) (end, CutWords-all (words_of s) (words_of k) (words_from more))
+words_from (early {room = r} {byte = b} {says = s} {kept = k} is more) =
+    rw (slice_split-cons_no at_space b s (ne_eqb b 32 is), slice_split-cons_no at_space b k (ne_eqb b 32 is)) (CutWords-first r b (words_of s) (words_of k) (words_from more))
+words_from (digit {byte = b} {says = s} {kept = k} is more) =
+    let plain : b ≢ 32 = λ e. omega (arith, e, is.0) in
+    rw (slice_split-cons_no at_space b s (ne_eqb b 32 plain)) (CutWords-dropped b (words_of s) (words_of k) is (words_from more))
+words_from (other {byte = b} {says = s} {kept = k} is not more) =
+    rw (slice_split-cons_no at_space b s (ne_eqb b 32 is), slice_split-cons_no at_space b k (ne_eqb b 32 is)) (CutWords-held b (words_of s) (words_of k) not (words_from more))
+
+-- the words of what is kept of a line are what is kept of its words
+pub words_cut : (s k : List ℕ) (q : ℕ) → Shortens 21 s k q → AllZip (CutWord 21) (words_of s) (words_of k)
+words_cut s k q cut = CutWords-all (words_of s) (words_of k) (words_from cut)

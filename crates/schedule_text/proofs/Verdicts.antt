@@ -1,0 +1,173 @@
+-- A line is judged as what is kept of it.
+use Rattle.std.proofs.Common.{◌≡◌, ℕ, ◌^◌, ◌≤◌, ◌<◌, List, [], ◌∷◌, ◌++◌, length, codes, refl, sym, ap, ap₂, subst, ◌∙◌, arith, length-append}
+use Rattle.std.specs.List.{AllZip}
+use Rattle.std.specs.Fmt.{decimal}
+use Rattle.std.proofs.lemmas.Fmt.{length-decimal-le}
+use Rattle.history.specs.declared.operations.Op.{Op}
+use Rattle.history.specs.declared.operations.Op.TheVariants.{Enq, Deq}
+use Rattle.line_table.specs.Names.{name_of}
+use Rattle.text_lines.specs.declared.causes.TextCause.{TextCause}
+use Rattle.text_lines.specs.declared.causes.TextCause.TheVariants.{End, Form, Range, Extra}
+use Rattle.text_lines.specs.Grammars.{Says}
+use Rattle.text_lines.specs.Lines.{spaced, words_of}
+use Rattle.text_lines.specs.Numerals.{numeral}
+use Rattle.text_lines.specs.Readings.{IsWrong}
+use Rattle.text_lines.proofs.Cuts.{spaced-words_of}
+use Rattle.text_lines.proofs.Numerals.{IsPlain-numeral, numeral_decimal}
+use Rattle.schedule_text.specs.declared.schedules.Event.{Event}
+use Rattle.schedule_text.specs.declared.schedules.Event.TheVariants.{Begin, Step, Steps, Give}
+use Rattle.schedule_text.specs.declared.fields.Field.{Field}
+use Rattle.schedule_text.specs.declared.fields.Field.TheVariants.{Nodes, Limit, Actors, Events}
+use Rattle.schedule_text.specs.Texts.{Said, version, queue, number, happens, Due, said_words, call_words, event_words, field_name, greatest, IsCallInRange, IsEventInRange, IsSaidInRange, schedule_lines}
+use Rattle.schedule_text.specs.Shortening.{Shortens}
+use Rattle.schedule_text.proofs.Distinct.{said_same}
+use Rattle.schedule_text.proofs.Spelling.{words_of-said, spaced-said}
+use Rattle.schedule_text.proofs.Shortening.{CutWord, CutWord-whole, CutWord-short, CutWord-digits, CutWord-back, numeral-cut, numeral-whole, words_cut}
+use Rattle.schedule_text.proofs.SameForm.{SaysToo, says_too, length-name_of, length-kind_name, length-field_name}
+
+-- each of a list holds
+abbrev Each : (List ℕ → Type 0) → List (List ℕ) → Type 0
+Each P [] = Unit {0}
+Each P (w ∷ ws) = P w × Each P ws
+
+-- a word has at most 20 bytes
+record IsBrief (word : List ℕ) : Type 0 where
+  short : length word < 21
+
+brief_number : (n : ℕ) → n < 2 ^ 64 → IsBrief (numeral n)
+brief_number n small =
+    let same : length (numeral n) ≡ length (decimal n) = ap length (numeral_decimal n small) in
+    record { short = omega (arith, same, length-decimal-le 20 n (omega arith) (omega arith) small) }
+
+brief_call : (op : Op) → IsCallInRange op → Each IsBrief (call_words op)
+brief_call (Enq body) range = (record { short = omega arith }, (brief_number body (omega arith), tt))
+brief_call Deq range = (record { short = omega arith }, tt)
+
+brief_event : (e : Event) → IsEventInRange e → Each IsBrief (event_words e)
+brief_event (Begin actor op) range = (record { short = omega arith }, (brief_number actor (omega (arith, range.0.1)), brief_call op range.1))
+brief_event (Step actor line) range =
+    (record { short = omega arith }, (brief_number actor (omega (arith, range.1)), (record { short = omega (arith, length-name_of line) }, tt)))
+brief_event (Steps actor count) range =
+    (record { short = omega arith }, (brief_number actor (omega (arith, range.0.1)), (brief_number count (omega (arith, range.1.1)), tt)))
+brief_event (Give actor) range = (record { short = omega arith }, (brief_number actor (omega (arith, range.1)), tt))
+
+greatest_small : (f : Field) → greatest f < 2 ^ 64
+greatest_small Nodes = omega arith
+greatest_small Limit = omega arith
+greatest_small Actors = omega arith
+greatest_small Events = omega arith
+
+-- in range, each word is brief
+brief_said : (r : Said) → IsSaidInRange r → Each IsBrief (said_words r)
+brief_said version range = (record { short = omega arith }, (record { short = omega arith }, (record { short = omega arith }, tt)))
+brief_said (queue kind) range = (record { short = omega arith }, (record { short = omega (arith, length-kind_name kind) }, tt))
+brief_said (number field value) range =
+    (record { short = omega (arith, length-field_name field) }, (brief_number value (omega (arith, greatest_small field, range.1)), tt))
+brief_said (happens e) range = brief_event e range
+
+-- brief words are kept whole
+whole_words : (ws ks : List (List ℕ)) → AllZip (CutWord 21) ws ks → Each IsBrief ks → ws ≡ ks
+whole_words [] [] cut brief = refl
+whole_words [] (k ∷ ks) cut brief = absurd cut
+whole_words (w ∷ ws) [] cut brief = absurd cut
+whole_words (w ∷ ws) (k ∷ ks) cut brief = ap₂ (λ (x : List ℕ) (xs : List (List ℕ)). x ∷ xs) (CutWord-whole cut.0 brief.0.short) (whole_words ws ks cut.1 brief.1)
+
+short_words : (ws ks : List (List ℕ)) → AllZip (CutWord 21) ws ks → Each IsBrief ws → ks ≡ ws
+short_words [] [] cut brief = refl
+short_words [] (k ∷ ks) cut brief = absurd cut
+short_words (w ∷ ws) [] cut brief = absurd cut
+short_words (w ∷ ws) (k ∷ ks) cut brief =
+    ap₂ (λ (x : List ℕ) (xs : List (List ℕ)). x ∷ xs) (CutWord-short cut.0 (let short = brief.0.short in omega (arith, short))) (short_words ws ks cut.1 brief.1)
+
+-- the relation the other way round
+abbrev IsCutOf : List ℕ → List ℕ → Type 0
+IsCutOf k w = CutWord 21 w k
+
+turned : (ws ks : List (List ℕ)) → AllZip (CutWord 21) ws ks → AllZip IsCutOf ks ws
+turned [] [] cut = tt
+turned [] (k ∷ ks) cut = absurd cut
+turned (w ∷ ws) [] cut = absurd cut
+turned (w ∷ ws) (k ∷ ks) cut = (cut.0, turned ws ks cut.1)
+
+kept_says : (r : Said) (ks : List (List ℕ)) → AllZip (CutWord 21) (said_words r) ks → SaysToo r ks
+kept_says r ks cut = says_too (CutWord 21) (λ w k short cut. CutWord-short cut (omega (arith, short))) numeral-cut r ks cut
+
+whole_says : (r : Said) (ws : List (List ℕ)) → AllZip (CutWord 21) ws (said_words r) → SaysToo r ws
+whole_says r ws cut =
+    says_too IsCutOf (λ k w short cut. CutWord-whole cut short) (λ m w cut. numeral-whole m w cut) r ws (turned ws (said_words r) cut)
+
+-- each word is what is kept of one
+record IsKeptWord (kept : List ℕ) : Type 0 where
+  word : List ℕ
+  cut : CutWord 21 word kept
+
+kept_words : (ws ks : List (List ℕ)) → AllZip (CutWord 21) ws ks → Each IsKeptWord ks
+kept_words [] [] cut = tt
+kept_words [] (k ∷ ks) cut = absurd cut
+kept_words (w ∷ ws) [] cut = absurd cut
+kept_words (w ∷ ws) (k ∷ ks) cut = (record { word = w; cut = cut.0 }, kept_words ws ks cut.1)
+
+kept_number : (m : ℕ) → IsKeptWord (numeral m) → length (numeral m) ≤ 21
+kept_number m kept = (CutWord-digits kept.cut (CutWord-back kept.cut (IsPlain-numeral m).digits)).1
+
+-- what is kept of a line that says something has at most 64 bytes
+kept_short : (r : Said) → Each IsKeptWord (said_words r) → length (spaced (said_words r)) ≤ 64
+kept_short version kept = omega arith
+kept_short (queue kind) kept = omega (arith, length-kind_name kind)
+kept_short (number field value) kept =
+    let digits = kept_number value kept.1.0 in omega (arith, length-append (field_name field) (32 ∷ numeral value), length-field_name field, digits)
+kept_short (happens (Begin actor (Enq body))) kept =
+    let a = kept_number actor kept.1.0 in
+    let b = kept_number body kept.1.1.1.0 in
+    omega (arith, length-append (numeral actor) (32 ∷ codes "enq" ++ 32 ∷ numeral body), a, b)
+kept_short (happens (Begin actor Deq)) kept =
+    let a = kept_number actor kept.1.0 in omega (arith, length-append (numeral actor) (32 ∷ codes "deq"), a)
+kept_short (happens (Step actor line)) kept =
+    let a = kept_number actor kept.1.0 in omega (arith, length-append (numeral actor) (32 ∷ name_of line), length-name_of line, a)
+kept_short (happens (Steps actor count)) kept =
+    let a = kept_number actor kept.1.0 in
+    let b = kept_number count kept.1.1.0 in
+    omega (arith, length-append (numeral actor) (32 ∷ numeral count), a, b)
+kept_short (happens (Give actor)) kept = let a = kept_number actor kept.1.0 in omega (arith, a)
+
+-- a line that is too long when its long numbers are cut short says nothing
+pub line_long : (due : Due) (says kept : List ℕ) (q : ℕ) → Shortens 21 says kept q → 64 < length kept → (r : Said) → ¬ Says schedule_lines due says r
+line_long due says kept q cut long r is =
+    let words : words_of says ≡ said_words r = words_of-said r says is.spelled in
+    let cuts = words_cut says kept q cut in
+    let from : AllZip (CutWord 21) (said_words r) (words_of kept) = rw words at cuts in
+    let too = kept_says r (words_of kept) from in
+    let each = kept_words (said_words r) (words_of kept) from in
+    let mine : Each IsKeptWord (said_words too.other) = rw too.same at each in
+    let same : kept ≡ spaced (said_words too.other) = sym (spaced-words_of kept) ∙ ap spaced too.same in
+    omega (arith, ap length same, kept_short too.other mine, long)
+
+-- a line says what is kept of it, where that is in range
+pub line_good : (due : Due) (says kept : List ℕ) (q : ℕ) (r : Said) → Shortens 21 says kept q → words_of kept ≡ said_words r → IsSaidInRange r → words_of says ≡ said_words r
+line_good due says kept q r cut same range =
+    let cuts = words_cut says kept q cut in
+    let to : AllZip (CutWord 21) (words_of says) (said_words r) = rw same at cuts in
+    whole_words (words_of says) (said_words r) to (brief_said r range)
+
+-- a line is wrong for the cause for which what is kept of it is wrong
+pub line_wrong : (due : Due) (says kept : List ℕ) (q : ℕ) (cause : TextCause) → Shortens 21 says kept q → IsWrong (Says schedule_lines due kept) IsSaidInRange cause
+    → IsWrong (Says schedule_lines due says) IsSaidInRange cause
+line_wrong due says kept q End cut wrong = absurd wrong
+line_wrong due says kept q Form cut none = λ r is.
+    let words : words_of says ≡ said_words r = words_of-said r says is.spelled in
+    let cuts = words_cut says kept q cut in
+    let from : AllZip (CutWord 21) (said_words r) (words_of kept) = rw words at cuts in
+    let too = kept_says r (words_of kept) from in
+    none too.other (record { may = too.may due is.may; spelled = spaced-said too.other kept too.same })
+line_wrong due says kept q Range cut wrong =
+    let words : words_of kept ≡ said_words wrong.0 = words_of-said wrong.0 kept wrong.1.spelled in
+    let cuts = words_cut says kept q cut in
+    let to : AllZip (CutWord 21) (words_of says) (said_words wrong.0) = rw words at cuts in
+    let too = whole_says wrong.0 (words_of says) to in
+    let back : IsSaidInRange too.other → IsSaidInRange wrong.0 = λ range.
+    let from : AllZip (CutWord 21) (said_words too.other) (said_words wrong.0) = rw too.same at to in
+    let same : said_words wrong.0 ≡ said_words too.other = short_words (said_words too.other) (said_words wrong.0) from (brief_said too.other range) in
+    subst IsSaidInRange (sym (said_same wrong.0 too.other same)) range
+    in
+    (too.other, record { may = too.may due wrong.1.may; spelled = spaced-said too.other says too.same }, λ range. wrong.2 (back range))
+line_wrong due says kept q Extra cut wrong = absurd wrong

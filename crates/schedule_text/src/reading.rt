@@ -1,0 +1,57 @@
+//! The schedule whose text a source gives.
+ghost use Rattle.std.specs.Prelude.{◌≡◌, ◌⊎◌, Some, IfOk, IfErr, IfSome, MatchResult, OnOk, true};
+ghost use Rattle.schedule_text.specs.EventStreams.{IsRefusedReading};
+ghost use Rattle.schedule_text.specs.Schedules.{Schedule};
+ghost use Rattle.schedule_text.specs.Texts.{schedule_text, IsInRange};
+
+use crate::event_stream::EventStream;
+use crate::parsing::keep;
+use crate::schedules::Schedule;
+use history::{Refusal, Source};
+use std::alloc::Global;
+
+/// The schedule whose text a source gives, whole; the text isn't held.
+///
+/// It is refused with `Memory`, with `Read` where a call of the source fails, and with `Text` as
+/// `parse` refuses the text that the source gives, however it is cut in pieces. The source is read to
+/// its end but where memory is refused or a call fails. It takes memory as the events come; whether
+/// it waits is up to the source.
+pub fn read_schedule<R: Source>(alloc: Global, reader: &mut R) -> Result<Schedule, Refusal>
+    ensures text { IfOk result (λ schedule. IfSome (R.remaining reader.old)
+        (λ text. text ≡ schedule_text schedule)) }
+    ensures range { IfOk result IsInRange }
+    ensures end { OnOk result ((R.failures reader.new ≡ R.failures reader.old)
+        × (R.has_ended reader.new ≡ true)) }
+    ensures err { IfErr result (IsRefusedReading (R.remaining reader.old) (R.failures reader.old)
+        (R.failures reader.new) (R.has_ended reader.new)) }
+    // The text of a schedule in range is read as that schedule, unless memory is refused or a call fails.
+    ensures back { (s : Schedule) → IsInRange s → R.remaining reader.old ≡ Some (schedule_text s)
+        → MatchResult result (λ schedule. schedule ≡ s)
+        (λ why. (why ≡ Refusal.Memory) ⊎ (why ≡ Refusal.Read)) }
+{
+    schedule_from(alloc, reader)
+}
+
+fn schedule_from<R: Source>(alloc: Global, reader: &mut R) -> Result<Schedule, Refusal>
+    ensures text { IfOk result (λ schedule. IfSome (R.remaining reader.old)
+        (λ text. text ≡ schedule_text schedule)) }
+    ensures range { IfOk result IsInRange }
+    ensures end { OnOk result ((R.failures reader.new ≡ R.failures reader.old)
+        × (R.has_ended reader.new ≡ true)) }
+    ensures err { IfErr result (IsRefusedReading (R.remaining reader.old) (R.failures reader.old)
+        (R.failures reader.new) (R.has_ended reader.new)) }
+{
+    let mut stream = EventStream::start(reader)?;
+    let mut events = Vec::new(alloc);
+    while let Some(event) = stream.next(reader)? {
+        keep(&mut events, event)?;
+    }
+    let header = stream.header();
+    Ok(Schedule {
+        kind: header.kind,
+        nodes: header.nodes,
+        limit: header.limit,
+        actors: header.actors,
+        events,
+    })
+}
