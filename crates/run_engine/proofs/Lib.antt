@@ -2,3 +2,5 @@ mod Told
 mod Moves
 mod Leading
 mod Stops
+mod Streamed
+mod Rest

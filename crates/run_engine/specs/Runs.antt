@@ -1,11 +1,11 @@
 -- What the run of a schedule reads, does and writes, and what it may be refused.
-use Rattle.std.specs.Prelude.{◌≡◌, ◌≢◌, ℕ, ◌+◌, ◌<◌, ◌≤◌, Bool, true, List, [], ◌∷◌, ◌++◌, length, replicate, Option, Some, None, Result, Ok, Err, map, ⊤}
+use Rattle.std.specs.Prelude.{◌≡◌, ◌≢◌, ℕ, ◌+◌, ◌<◌, ◌≤◌, Bool, true, List, [], ◌∷◌, ◌++◌, length, replicate, Option, Some, None, Result, Ok, Err, map, ⊤, IfSome}
 use Rattle.std.specs.Io.KnownBytes.{Appends}
 use Rattle.history.specs.Blocks.{TakesBeginning}
 use Rattle.history.specs.HistoryText.{history_text}
 use Rattle.history.specs.declared.operations.Stamped.{Stamped}
 use Rattle.history.specs.declared.refusals.Refusal.{Refusal}
-use Rattle.history.specs.declared.refusals.Refusal.TheVariants.{BadSize, IdleActor, NotHere, NoSuchActor, Text}
+use Rattle.history.specs.declared.refusals.Refusal.TheVariants.{BadSize, IdleActor, NotHere, NoSuchActor, Text, Write}
 use Rattle.line_table.specs.declared.lines.Line.{Line}
 use Rattle.text_lines.specs.Grammars.{IsFirstFault}
 use Rattle.text_lines.specs.declared.causes.TextCause.{TextCause}
@@ -134,3 +134,11 @@ IsRunFault why (Some line) = IsEventRefusal why × (7 ≤ line)
 abbrev pub EndsReading : {A : Type 0} → Result A Fault → (old_failures new_failures : ℕ) → (has_ended : Bool) → Type 0
 EndsReading (Ok done) old new ended = (new ≡ old) × (ended ≡ true)
 EndsReading (Err fault) old new ended = EndsReadingAt fault.refusal old new ended
+
+-- a run stops before anything is written, for this cause and at this line of an event, if at one
+pub record StopsRun (given : Option (List ℕ)) (old_failures new_failures : ℕ) (has_ended : Bool) (why : Refusal) (line : Option ℕ) : Type 0 where
+  pub fault : IsRunFault why line
+  pub text : TellsFaultyLine given why
+  pub refused : IfSome line (λ line. RunRefused given line why)
+  pub unwritten : why ≢ Write
+  pub reader : EndsReadingAt why old_failures new_failures has_ended

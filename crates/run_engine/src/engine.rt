@@ -3,11 +3,9 @@ ghost use Rattle.std.specs.Prelude.{◌≡◌, ◌≢◌, IfErr, IfOk, IfSome, O
 ghost use Rattle.run_engine.specs.Runs.{BeginsRun, WritesRun, EndsReading, IsRunFault, IsRunOf, RunRefused, TellsFaultyLine};
 ghost use Rattle.history.specs.Blocks.{GivesUp};
 
-use crate::running::world_of_schedule;
+use crate::streaming::world_of_text;
 use engine_faults::Fault;
 use history::{Refusal, Sink, Source, Stamped, print_history};
-use schedule_text::parse;
-use source_text::read_all;
 use std::alloc::Global;
 
 /// The history of the schedule whose text a source gives.
@@ -21,9 +19,7 @@ fn history_of<R: Source>(alloc: Global, reader: &mut R) -> Result<Vec<Stamped>, 
     ensures reader { EndsReading result (R.failures reader.old) (R.failures reader.new)
         (R.has_ended reader.new) }
 {
-    let text = read_all(alloc, reader)?;
-    let schedule = parse(alloc, &text)?;
-    let world = world_of_schedule(alloc, &schedule)?;
+    let world = world_of_text(alloc, reader)?;
     let history = world.history(alloc)?;
     Ok(history)
 }

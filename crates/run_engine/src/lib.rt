@@ -3,5 +3,6 @@
 
 mod engine;
 mod running;
+mod streaming;
 
 pub use engine::run_text;

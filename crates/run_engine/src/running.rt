@@ -1,21 +1,16 @@
-//! Makes the events of a schedule on a world.
-ghost use Rattle.std.specs.Prelude.{◌≡◌, ◌+◌, ◌*◌, ◌^◌, ◌<◌, ◌≤◌, All, IfOk, IfErr, OnOk, IfSome, Some, length, replicate};
+//! Makes an event of a schedule on a world.
+ghost use Rattle.std.specs.Prelude.{◌≡◌, ◌+◌, ◌^◌, ◌<◌, ◌≤◌, IfOk, IfErr, OnOk, Some, replicate};
 ghost use Rattle.step_machine.specs.Calls.{line_of, GiveRefused, StepRefused};
 ghost use Rattle.step_machine.specs.Machine.{actor_of, next};
 ghost use Rattle.step_machine.specs.declared.actors.Move.TheVariants.{Give, Step};
-ghost use Rattle.schedule_text.specs.Texts.{IsEventInRange, IsInRange};
-ghost use Rattle.run_engine.specs.Runs.{world_after, world_of, opening_of, EventLeads, EventsLead, StepsRefused, StepAtRefused, EventRefused, EventsRefused};
-ghost use Rattle.engine_faults.specs.Faults.{IsEventFault, IsMoveRefusal};
+ghost use Rattle.schedule_text.specs.Texts.{IsEventInRange};
+ghost use Rattle.run_engine.specs.Runs.{world_after, EventLeads, StepsRefused, StepAtRefused, EventRefused};
+ghost use Rattle.engine_faults.specs.Faults.{IsMoveRefusal};
 
-use engine_faults::Fault;
 use history::{Refusal, Reply};
 use line_table::Line;
-use schedule_text::{Event, Schedule};
-use std::alloc::Global;
+use schedule_text::Event;
 use step_machine::{Stepped, World};
-
-/// The line of a schedule's first event.
-const FIRST_EVENT_LINE: u64 = 7;
 
 /// Takes one step of an actor, and answers the line at which it was taken.
 fn take_step(world: &mut World, actor: u16) -> Result<Line, Refusal>
@@ -77,7 +72,7 @@ fn give_up(world: &mut World, actor: u16) -> Result<(), Refusal>
 }
 
 /// Makes the moves of an event. Where the event is refused, the world is whatever its moves left.
-fn make(world: &mut World, event: Event) -> Result<(), Refusal>
+pub(crate) fn make(world: &mut World, event: Event) -> Result<(), Refusal>
     requires range { IsEventInRange event }
     requires left { world.old.steps + 1000001 < 2 ^ 64 }
     ensures ok { OnOk result (EventLeads world.old event world.new) }
@@ -91,37 +86,4 @@ fn make(world: &mut World, event: Event) -> Result<(), Refusal>
         Event::Steps(actor, count) => take_steps(world, actor, count),
         Event::Give(actor) => give_up(world, actor),
     }
-}
-
-/// Makes the moves of the events, in their order.
-fn make_all(world: &mut World, events: &[Event]) -> Result<(), Fault>
-    requires range { All IsEventInRange events.now }
-    requires left { world.old.steps + length events.now * 1000000 + 1000001 < 2 ^ 64 }
-    ensures ok { OnOk result (EventsLead world.old events.now world.new) }
-    ensures kind { IfErr result (λ fault. IsEventFault fault.refusal fault.line) }
-    ensures refused { IfErr result (λ fault. IfSome fault.line (λ line.
-        EventsRefused world.old events.now line fault.refusal)) }
-{
-    for (place, event) in events.iter().enumerate() {
-        if let Err(refusal) = make(world, *event) {
-            return Err(Fault::at(FIRST_EVENT_LINE + place as u64, refusal));
-        }
-    }
-    Ok(())
-}
-
-/// The world that a schedule leads to.
-pub(crate) fn world_of_schedule(alloc: Global, schedule: &Schedule) -> Result<World, Fault>
-    requires { IsInRange schedule.now }
-    ensures ok { IfOk result (λ world.
-        EventsLead (opening_of schedule.now) schedule.now.events world) }
-    ensures moves { IfOk result (λ world. world_of schedule.now ≡ Some world) }
-    ensures kind { IfErr result (λ fault. IsEventFault fault.refusal fault.line) }
-    ensures refused { IfErr result (λ fault. IfSome fault.line (λ line.
-        EventsRefused (opening_of schedule.now) schedule.now.events line fault.refusal)) }
-{
-    let actors = u32::from(schedule.actors);
-    let mut world = World::new(alloc, schedule.kind, schedule.nodes, schedule.limit, actors)?;
-    make_all(&mut world, &schedule.events)?;
-    Ok(world)
 }
