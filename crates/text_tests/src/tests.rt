@@ -7,5 +7,6 @@ mod names;
 mod references;
 mod schedule_faults;
 mod schedules;
+mod streams;
 mod tables;
 mod verdicts;

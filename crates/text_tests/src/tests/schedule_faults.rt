@@ -18,8 +18,56 @@ const LINES: [&str; 10] = [
     "steps 2 9",
 ];
 
-// The lines above, with another one in the place of one of them, from 1.
-fn text_with(alloc: Global, number: u64, other: &str) -> Result<Vec<u8>, AllocError> {
+/// Lines that are faulty in the place of one of `LINES`, and for what.
+pub const FAULTS: [(u64, &str, TextCause); 44] = [
+    (1, "msq schedule 2", TextCause::Form),
+    (1, "msq schedule 1 ", TextCause::Form),
+    (1, "msq  schedule 1", TextCause::Form),
+    (2, "queue two_lock", TextCause::Form),
+    (2, "queue nonblocking\r", TextCause::Form),
+    (2, "queue Nonblocking", TextCause::Form),
+    (3, "nodes 1", TextCause::Range),
+    (3, "nodes 16777215", TextCause::Range),
+    (3, "nodes 0x3", TextCause::Form),
+    (3, "nodes 3\r", TextCause::Form),
+    (3, "nodes  3", TextCause::Form),
+    (3, "nodes", TextCause::Form),
+    (3, "nodes ", TextCause::Form),
+    (3, "nodes 3 ", TextCause::Form),
+    (3, "limit 3", TextCause::Form),
+    (4, "limit 0", TextCause::Range),
+    (4, "limit 1099511627776", TextCause::Range),
+    (4, "limit 18446744073709551616", TextCause::Range),
+    (4, "limit 00", TextCause::Form),
+    (5, "actors 0", TextCause::Range),
+    (5, "actors 65536", TextCause::Range),
+    (5, "actors +2", TextCause::Form),
+    (6, "events 1000001", TextCause::Range),
+    (7, "begin 1 enq 007", TextCause::Form),
+    (7, "begin 1  enq 7", TextCause::Form),
+    (7, "begin 1 enq", TextCause::Form),
+    (7, "begin 1 deq 1", TextCause::Form),
+    (7, "begin 1 enq 281474976710656", TextCause::Range),
+    (7, "begin 0 deq", TextCause::Range),
+    (7, "begin 65536 deq", TextCause::Range),
+    (7, "begin 0 pop", TextCause::Form),
+    (8, "step 1 E4", TextCause::Form),
+    (8, "step 0 E4", TextCause::Form),
+    (8, "step 0 E9", TextCause::Range),
+    (8, "step 1 e9", TextCause::Form),
+    (8, "step 1 E", TextCause::Form),
+    (8, "step 1", TextCause::Form),
+    (8, "steps 1 0", TextCause::Range),
+    (8, "steps 1 1000001", TextCause::Range),
+    (8, "steps 0 1 1", TextCause::Form),
+    (8, "steps 1 E9", TextCause::Form),
+    (8, "give 0", TextCause::Range),
+    (8, "give 1 1", TextCause::Form),
+    (8, "", TextCause::Form),
+];
+
+/// `LINES`, with another one in the place of one of them, from 1.
+pub fn text_with(alloc: Global, number: u64, other: &str) -> Result<Vec<u8>, AllocError> {
     let mut text = Vec::new(alloc);
     let mut at = 0u64;
     for line in &LINES {
@@ -37,53 +85,7 @@ fn refusal_of(alloc: Global, text: &[u8]) -> Option<Refusal> {
 
 #[test]
 fn tells_the_first_faulty_line(rt: HostRuntime) -> Result<(), Fail> {
-    let cases = [
-        (1, "msq schedule 2", TextCause::Form),
-        (1, "msq schedule 1 ", TextCause::Form),
-        (1, "msq  schedule 1", TextCause::Form),
-        (2, "queue two_lock", TextCause::Form),
-        (2, "queue nonblocking\r", TextCause::Form),
-        (2, "queue Nonblocking", TextCause::Form),
-        (3, "nodes 1", TextCause::Range),
-        (3, "nodes 16777215", TextCause::Range),
-        (3, "nodes 0x3", TextCause::Form),
-        (3, "nodes 3\r", TextCause::Form),
-        (3, "nodes  3", TextCause::Form),
-        (3, "nodes", TextCause::Form),
-        (3, "nodes ", TextCause::Form),
-        (3, "nodes 3 ", TextCause::Form),
-        (3, "limit 3", TextCause::Form),
-        (4, "limit 0", TextCause::Range),
-        (4, "limit 1099511627776", TextCause::Range),
-        (4, "limit 18446744073709551616", TextCause::Range),
-        (4, "limit 00", TextCause::Form),
-        (5, "actors 0", TextCause::Range),
-        (5, "actors 65536", TextCause::Range),
-        (5, "actors +2", TextCause::Form),
-        (6, "events 1000001", TextCause::Range),
-        (7, "begin 1 enq 007", TextCause::Form),
-        (7, "begin 1  enq 7", TextCause::Form),
-        (7, "begin 1 enq", TextCause::Form),
-        (7, "begin 1 deq 1", TextCause::Form),
-        (7, "begin 1 enq 281474976710656", TextCause::Range),
-        (7, "begin 0 deq", TextCause::Range),
-        (7, "begin 65536 deq", TextCause::Range),
-        (7, "begin 0 pop", TextCause::Form),
-        (8, "step 1 E4", TextCause::Form),
-        (8, "step 0 E4", TextCause::Form),
-        (8, "step 0 E9", TextCause::Range),
-        (8, "step 1 e9", TextCause::Form),
-        (8, "step 1 E", TextCause::Form),
-        (8, "step 1", TextCause::Form),
-        (8, "steps 1 0", TextCause::Range),
-        (8, "steps 1 1000001", TextCause::Range),
-        (8, "steps 0 1 1", TextCause::Form),
-        (8, "steps 1 E9", TextCause::Form),
-        (8, "give 0", TextCause::Range),
-        (8, "give 1 1", TextCause::Form),
-        (8, "", TextCause::Form),
-    ];
-    for (number, line, cause) in cases {
+    for (number, line, cause) in FAULTS {
         let text = text_with(rt.alloc(), number, line)?;
         let want = Some(Refusal::Text(number, cause));
         assert_eq!(rt; refusal_of(rt.alloc(), &text), want, "{line}");

@@ -1,0 +1,117 @@
+//! Schedules from sources that give few bytes a call, or fail.
+use crate::tests::schedule_faults::{FAULTS, text_with};
+use crate::tests::schedules::SHIPPED;
+use history::{Body, Op, Refusal, Script, Trouble};
+use schedule_text::{Event, EventStream, print, read_schedule};
+use std::test::Fail;
+use text_lines::TextCause;
+
+const PIECES: [usize; 3] = [1, 7, 4096];
+
+const LATE_FAULT: &str = "msq schedule 1
+queue nonblocking
+nodes 3
+limit 100
+actors 2
+events 3
+begin 1 enq 5
+steps 1 11
+begin 1 enq 007
+";
+
+#[test]
+fn pieces_of_any_length_have_the_same_faults(rt: HostRuntime) -> Result<(), Fail> {
+    for (number, line, cause) in FAULTS {
+        let text = text_with(rt.alloc(), number, line)?;
+        for piece in PIECES {
+            let mut reader = Script::reader(rt.alloc(), &text, piece)?;
+            let told = read_schedule(rt.alloc(), &mut reader).err();
+            let want = Some(Refusal::Text(number, cause));
+            assert_eq!(rt; told, want, "{line} by {piece}");
+        }
+    }
+    Ok(())
+}
+
+#[test]
+fn reads_each_schedule_from_pieces(rt: HostRuntime) -> Result<(), Fail> {
+    for text in SHIPPED {
+        for piece in PIECES {
+            let mut reader = Script::reader(rt.alloc(), text.as_bytes(), piece)?;
+            let schedule = read_schedule(rt.alloc(), &mut reader)?;
+            let mut writer = Script::writer(rt.alloc(), 1000, 4096)?;
+            print(&schedule, &mut writer)?;
+            assert_eq!(rt; writer.written(), text.as_bytes(), "by {piece}");
+        }
+    }
+    Ok(())
+}
+
+#[test]
+fn long_lines_are_judged_whole(rt: HostRuntime) -> Result<(), Fail> {
+    let cases = [
+        ("nodes ", "9", TextCause::Range),
+        ("nodes 3", " ", TextCause::Form),
+        ("nodes 0", "0", TextCause::Form),
+        ("", "x", TextCause::Form),
+    ];
+    for (start, more, cause) in cases {
+        let mut line = String::from_str(rt.alloc(), start)?;
+        for _ in 0..10_000 {
+            line.push_str(more)?;
+        }
+        let text = text_with(rt.alloc(), 3, line.as_str())?;
+        let mut reader = Script::reader(rt.alloc(), &text, 4096)?;
+        let told = read_schedule(rt.alloc(), &mut reader).err();
+        assert_eq!(rt; told, Some(Refusal::Text(3, cause)), "{start}");
+    }
+    Ok(())
+}
+
+#[test]
+fn a_late_fault_is_answered_again(rt: HostRuntime) -> Result<(), Fail> {
+    let body = Body::new(5).ok_or("a body")?;
+    let events = [Event::Begin(1, Op::Enq(body)), Event::Steps(1, 11)];
+    for piece in PIECES {
+        let mut reader = Script::reader(rt.alloc(), LATE_FAULT.as_bytes(), piece)?;
+        let mut stream = EventStream::start(&mut reader)?;
+        for event in &events {
+            assert_eq!(rt; stream.next(&mut reader)?, Some(*event), "by {piece}");
+        }
+        for _ in 0..2 {
+            let want = Some(Refusal::Text(9, TextCause::Form));
+            assert_eq!(rt; stream.next(&mut reader).err(), want, "by {piece}");
+        }
+    }
+    Ok(())
+}
+
+#[test]
+fn tells_what_follows_the_last_event(rt: HostRuntime) -> Result<(), Fail> {
+    let extra = Some(Refusal::Text(11, TextCause::Extra));
+    for (more, want) in [("", None), ("x", extra), ("\n", extra)] {
+        let mut text = text_with(rt.alloc(), 0, "")?;
+        text.extend_from_slice(more.as_bytes())?;
+        let mut reader = Script::reader(rt.alloc(), &text, 7)?;
+        let mut stream = EventStream::start(&mut reader)?;
+        for _ in 0..4 {
+            stream.next(&mut reader)?;
+        }
+        for _ in 0..2 {
+            assert_eq!(rt; stream.next(&mut reader).err(), want, "{more:?}");
+        }
+    }
+    Ok(())
+}
+
+// The text has 110 bytes: 16 calls of 7 bytes, and one that tells the end.
+#[test]
+fn a_call_that_fails_is_told_in_place_of_a_fault(rt: HostRuntime) -> Result<(), Fail> {
+    for call in 1..=17u64 {
+        let reader = Script::reader(rt.alloc(), LATE_FAULT.as_bytes(), 7)?;
+        let mut reader = reader.with(Trouble::Failure, call);
+        let told = read_schedule(rt.alloc(), &mut reader).err();
+        assert_eq!(rt; told, Some(Refusal::Read), "at call {call}");
+    }
+    Ok(())
+}
