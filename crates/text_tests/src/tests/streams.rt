@@ -86,24 +86,6 @@ fn a_late_fault_is_answered_again(rt: HostRuntime) -> Result<(), Fail> {
     Ok(())
 }
 
-#[test]
-fn tells_what_follows_the_last_event(rt: HostRuntime) -> Result<(), Fail> {
-    let extra = Some(Refusal::Text(11, TextCause::Extra));
-    for (more, want) in [("", None), ("x", extra), ("\n", extra)] {
-        let mut text = text_with(rt.alloc(), 0, "")?;
-        text.extend_from_slice(more.as_bytes())?;
-        let mut reader = Script::reader(rt.alloc(), &text, 7)?;
-        let mut stream = EventStream::start(&mut reader)?;
-        for _ in 0..4 {
-            stream.next(&mut reader)?;
-        }
-        for _ in 0..2 {
-            assert_eq!(rt; stream.next(&mut reader).err(), want, "{more:?}");
-        }
-    }
-    Ok(())
-}
-
 // The text has 110 bytes: 16 calls of 7 bytes, and one that tells the end.
 #[test]
 fn a_call_that_fails_is_told_in_place_of_a_fault(rt: HostRuntime) -> Result<(), Fail> {
