@@ -31,11 +31,12 @@ pub record HasMade (s : EventStream) (w : World) (line : ℕ) (first mid : Strea
   pub counted : line ≡ 7 + length events
 
 -- none was read
-pub HasMade-started : (s : EventStream) (w : World) (first mid : Stream) → IsStarted s first mid
-    → w ≡ opening (setup_from s.header.kind s.header.nodes s.header.limit) s.header.actors → HasMade s w 7 first mid
-HasMade-started s w first mid started is =
+pub HasMade-started : (s : EventStream) (h : Header) (w : World) (first mid : Stream) → IsStarted s first mid → h ≡ s.header
+    → w ≡ opening (setup_from h.kind h.nodes h.limit) h.actors → HasMade s w 7 first mid
+HasMade-started s h w first mid started same is =
     let none : w.steps ≡ 0 = ap (λ (v : World). v.steps) is in
-    record { events = []; read = HasRead-started s [] first mid refl started; led = sym is; steps = omega (arith, none); counted = refl }
+    let led = subst (λ (g : Header). w ≡ opening (setup_from g.kind g.nodes g.limit) g.actors) same is in
+    record { events = []; read = HasRead-started s [] first mid refl started; led = sym led; steps = omega (arith, none); counted = refl }
 
 -- one more was
 pub HasMade-event : (s t : EventStream) (w v : World) (line : ℕ) (event : Event) (first mid new : Stream) → HasMade s w line first mid

@@ -1,17 +1,12 @@
-use Rattle.std.proofs.Common.{◌≡◌, subst}
 use Rattle.std.proofs.lemmas.Result.{err_from_is_err_and}
 use Rattle.schedule_text.proofs.EventStreams.{gave_event, gave_all}
 use Rattle.schedule_text.specs.Streams.{Stream, stream}
-use Rattle.schedule_text.specs.declared.parsing.Header.{Header}
-use Rattle.step_machine.specs.Calls.{setup_from}
-use Rattle.step_machine.specs.Machine.{opening}
 use Rattle.run_engine.proofs.Streamed.{HasMade-started, HasMade-event, ran, stopped_next, stopped_rest, stopped_at}
 use Rattle.run_engine.proofs.streaming.world_of_text.Goals as goal
 
 pub loop-world-init : goal.loop-world-init
 loop-world-init g c =
-    HasMade-started c.in_ok-stream.stream c.in_ok-world.world _ _ c.in_ok-stream.ensures.ok
-    (subst (λ (h : Header). c.in_ok-world.world ≡ opening (setup_from h.kind h.nodes h.limit) h.actors) c.header.ensures c.in_ok-world.ensures.ok)
+    HasMade-started c.in_ok-stream.stream _ c.in_ok-world.world _ _ c.in_ok-stream.ensures.ok c.header.ensures c.in_ok-world.ensures.ok
 
 pub returns-in_err-event-clause-err : goal.returns-in_err-event-clause-err
 returns-in_err-event-clause-err g c =
