@@ -1,5 +1,5 @@
 -- Schedules that are read event by event.
-use Rattle.std.proofs.Common.{◌≡◌, ℕ, ◌+◌, List, [], ◌∷◌, ◌++◌, length, map, All, Option, None, Some, true, IfSome, Bool, ◌⊎◌, inl, inr, refl, sym, ap, subst, ◌∙◌, arith, append_assoc, length-append}
+use Rattle.std.proofs.Common.{◌≡◌, ℕ, ◌+◌, List, [], ◌∷◌, ◌++◌, length, map, Option, None, Some, true, IfSome, Bool, ◌⊎◌, inl, inr, refl, sym, ap, subst, ◌∙◌, arith, append_assoc, length-append}
 use Rattle.std.specs.Prelude.{Result, Ok, Err, IfOk, IfErr, MatchResult}
 use Rattle.std.proofs.lemmas.Bool.{lt-ltb}
 use Rattle.std.proofs.lemmas.List.{append-nil, map-append, length-map}
@@ -9,11 +9,10 @@ use Rattle.history.specs.declared.refusals.Refusal.{Refusal}
 use Rattle.history.specs.declared.refusals.Refusal.TheVariants.{Memory, Text, Read}
 use Rattle.text_lines.specs.Grammars.{AreDue, state_after, lines_of}
 use Rattle.text_lines.specs.Lines.{line, spaced}
-use Rattle.schedule_text.specs.declared.event_stream.Stage.TheVariants.{Going}
 use Rattle.schedule_text.specs.declared.parsing.Header.{Header}
 use Rattle.schedule_text.specs.declared.schedules.Event.{Event}
 use Rattle.schedule_text.specs.EventStreams.{EventStream, IsRefused, IsStarted, GaveEvent, GaveAll, IsNext, IsRefusedNext, IsRefusedReading, lines_given, HasRead, HasReadAll, schedule_with}
-use Rattle.schedule_text.specs.Reading.{IsHeaderInRange, said_in}
+use Rattle.schedule_text.specs.Reading.{said_in}
 use Rattle.schedule_text.specs.Schedules.{Schedule}
 use Rattle.schedule_text.specs.Streaming.{GaveLines, GaveSaid, IsFirstFaultFrom}
 use Rattle.schedule_text.specs.Streams.{Stream, stream}

@@ -6,6 +6,7 @@ pub mod Streams
 pub mod SameForm
 pub mod Verdicts
 pub mod StreamedLines
+pub mod WholeLines
 pub mod Spelling
 pub mod Refusing
 pub mod Joining

@@ -1,6 +1,6 @@
 -- Bytes that are read ahead, and lines that come byte by byte.
-use Rattle.std.proofs.Common.{◌≡◌, ◌≢◌, ℕ, suc, ◌+◌, ◌-◌, ◌≤◌, ◌<◌, List, [], ◌∷◌, ◌++◌, length, take, drop, get_or, slice_range, Option, None, Some, Bool, true, MatchOption, refl, sym, ap, subst, ◌∙◌, arith, append_assoc, drop-cons}
-use Rattle.std.proofs.lemmas.List.{append-nil}
+use Rattle.std.proofs.Common.{◌≡◌, ◌≢◌, ℕ, suc, ◌+◌, ◌-◌, ◌≤◌, ◌<◌, List, [], ◌∷◌, ◌++◌, length, take, drop, get_or, slice_range, Option, None, Some, Bool, true, MatchOption, refl, sym, ap, subst, ◌∙◌, arith, append_assoc, drop-cons, drop-drop, length-take}
+use Rattle.std.proofs.lemmas.List.{append-nil, drop-take}
 use Rattle.std.proofs.lemmas.List.Elements.{All-nil, All-cons, All-append}
 use Rattle.std.specs.Io.KnownBytes.{Consumes, IsAtEnd, prepend_known}
 use Rattle.text_lines.specs.Lines.{HasNo}
@@ -19,6 +19,14 @@ range_first xs s e some within =
 -- a range of no byte
 pub range_none : (xs : List ℕ) (s e : ℕ) → s ≡ e → slice_range xs s e ≡ []
 range_none xs s e same = let none : e - s ≡ 0 = omega arith in ap (λ k. take k (drop s xs)) none
+
+-- a range without its first bytes
+pub range_rest : (xs : List ℕ) (s n e : ℕ) → n ≤ length (slice_range xs s e) → slice_range xs (s + n) e ≡ drop n (slice_range xs s e)
+range_rest xs s n e within =
+    let m = e - (s + n) in
+    let some : n ≤ e - s = omega (arith, length-take (e - s) (drop s xs)) in
+    let whole : n + m ≡ e - s = omega arith in
+    ap (take m) (sym (drop-drop n s xs)) ∙ sym (drop-take n m (drop s xs)) ∙ ap (λ k. drop n (take k (drop s xs))) whole
 
 -- nothing in front of known bytes
 pub prepend-nothing : (known : Option (List ℕ)) → prepend_known [] known ≡ known

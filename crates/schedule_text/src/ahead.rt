@@ -1,11 +1,13 @@
 //! A source's bytes, one by one and line by line.
-ghost use Rattle.std.specs.Prelude.{◌≡◌, ◌+◌, ◌≤◌, ◌∷◌, [], length, IfOk, MatchOption, OnOk, take, true};
+ghost use Rattle.std.specs.Prelude.{◌≡◌, ◌+◌, ◌≤◌, ◌<◌, ◌++◌, ◌∷◌, [], length, IfOk, IfSome, MatchOption, OnOk, drop, take, true};
 ghost use Rattle.std.specs.Io.KnownBytes.{Consumes, IsAtEnd};
+ghost use Rattle.text_lines.specs.Lines.{HasNo, line};
 ghost use Rattle.schedule_text.specs.Streams.{stream, GaveByte, GaveLine, EndedInLine, IsOver, HasFailed, WasRead};
 
 use crate::held::HeldLine;
 use history::{Refusal, Source};
 use std::marker::Model;
+use text_lines::line_at;
 
 /// How many bytes are read ahead at most.
 const AHEAD: usize = 4096;
@@ -108,6 +110,23 @@ impl Ahead {
         self.end = 0;
         self.end = read_into(reader, &mut self.bytes)?;
         Ok(())
+    }
+
+    /// The next line and what was read ahead behind it; none where not all of the line was read ahead.
+    pub fn whole_line(&self) -> Option<(&[u8], &[u8])>
+        ensures line { MatchOption result (HasNo 10 self.now) (λ found. HasNo 10 found.0.now
+            × (self.now ≡ line found.0.now ++ found.1.now)) }
+        ensures bound { IfSome result (λ found. length found.0.now < 4096) }
+    {
+        line_at(&self.bytes[self.start..self.end])
+    }
+
+    /// Goes over so many of the bytes read ahead.
+    pub fn skip(&mut self, count: usize)
+        requires { count ≤ length self.old }
+        ensures { self.new ≡ drop count self.old }
+    {
+        self.start += count;
     }
 
     /// What is held of the next line; none where the bytes end before its line feed.

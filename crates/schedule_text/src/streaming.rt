@@ -104,8 +104,8 @@ fn number_from<R: Source>(
     }
 }
 
-// The event that the line behind so many says, where so many events are left.
-fn event_from<R: Source>(ahead: &mut Ahead, reader: &mut R, before: u64) -> Result<Event, Refusal>
+// The event that the line behind so many says, by what is held of it.
+fn held_event<R: Source>(ahead: &mut Ahead, reader: &mut R, before: u64) -> Result<Event, Refusal>
     requires { before ≤ 1000006 }
     ensures ok { IfOk result (λ event. (left : ℕ) → GaveSaid (events_left left) (happens event)
         (stream ahead.old (R.remaining reader.old) (R.failures reader.old)
@@ -121,6 +121,30 @@ fn event_from<R: Source>(ahead: &mut Ahead, reader: &mut R, before: u64) -> Resu
         return Err(Refusal::Text(before + 1, TextCause::Form));
     };
     match event_in(line) {
+        Ok(event) => Ok(event),
+        Err(cause) => Err(Refusal::Text(before + 1, cause)),
+    }
+}
+
+// The event that the line behind so many says.
+fn event_from<R: Source>(ahead: &mut Ahead, reader: &mut R, before: u64) -> Result<Event, Refusal>
+    requires { before ≤ 1000006 }
+    ensures ok { IfOk result (λ event. (left : ℕ) → GaveSaid (events_left left) (happens event)
+        (stream ahead.old (R.remaining reader.old) (R.failures reader.old)
+        (R.budget reader.old) (R.has_ended reader.old))
+        (stream ahead.new (R.remaining reader.new) (R.failures reader.new)
+        (R.budget reader.new) (R.has_ended reader.new))) }
+    ensures err { IfErr result (λ why. (left : ℕ) → 0 < left → IsStopped before (events_left left)
+        (prepend_known ahead.old (R.remaining reader.old)) (R.failures reader.old)
+        (R.failures reader.new) (R.has_ended reader.new) why) }
+{
+    let Some((line, _)) = ahead.whole_line() else {
+        return held_event(ahead, reader, before);
+    };
+    let count = line.len() + 1;
+    let event = event_in(line);
+    ahead.skip(count);
+    match event {
         Ok(event) => Ok(event),
         Err(cause) => Err(Refusal::Text(before + 1, cause)),
     }

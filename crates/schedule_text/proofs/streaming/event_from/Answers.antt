@@ -1,20 +1,16 @@
-use Rattle.std.proofs.Common.{refl}
-use Rattle.std.proofs.lemmas.Bool.{lt-ltb}
-use Rattle.schedule_text.specs.Texts.{happens, events_left}
-use Rattle.schedule_text.proofs.StreamedLines.{given_said, stopped_long, stopped_event}
+use Rattle.std.proofs.Common.{arith, ap, length, length-append}
+use Rattle.schedule_text.proofs.WholeLines.{said_ahead, stopped_ahead}
 use Rattle.schedule_text.proofs.streaming.event_from.Goals as goal
 
-pub returns-in_default-clause-err : goal.returns-in_default-clause-err
-returns-in_default-clause-err g c = λ left some.
-    stopped_long c.args.before _ _ _ c.in_ok-held.ensures.ok (events_left left) (lt-ltb 0 left some) c.in_default.ensures
+pub skip-requires : goal.skip-requires
+skip-requires g c = omega (arith, simp length-append at (ap length c.in-Some.ensures.line.1))
 
 pub returns-in-Ok-clause-ok : goal.returns-in-Ok-clause-ok
 returns-in-Ok-clause-ok g c = λ left.
-    let one = given_said c.args.before _ _ _ c.in_ok-held.ensures.ok (events_left 1) refl (happens c.in-Ok.event) c.in-Some.line.now c.in-Some.ensures.0
-    c.in-Some.ensures.1 tt c.in-Ok.ensures.0 c.in-Ok.ensures.1 in
-    record { may = tt; range = one.range; given = one.given; quiet = one.quiet }
+    said_ahead left c.in-Ok.event c.in-Some.line.now _ c.args.ahead.now c.skip.new.self _ _ _ _ c.in-Some.ensures.line.1 c.skip.ensures c.in-Ok.ensures.0
+    c.in-Ok.ensures.1
 
 pub returns-in-Err-clause-err : goal.returns-in-Err-clause-err
 returns-in-Err-clause-err g c = λ left some.
-    stopped_event c.args.before _ _ _ c.in_ok-held.ensures.ok left some c.in-Some.line.now c.in-Err.cause c.in-Some.ensures.0 c.in-Some.ensures.1
+    stopped_ahead c.args.before left c.in-Some.line.now _ c.args.ahead.now _ _ _ c.in-Err.cause c.in-Some.ensures.line.0 c.in-Some.ensures.line.1 some
     c.in-Err.ensures

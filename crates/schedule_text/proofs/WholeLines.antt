@@ -1,0 +1,59 @@
+-- A line that was read ahead whole.
+use Rattle.std.proofs.Common.{◌≡◌, ℕ, ◌+◌, ◌<◌, List, [], ◌∷◌, ◌++◌, Option, None, Some, Bool, length, drop, refl, sym, ap, subst, ◌∙◌, append_assoc, drop_at, length-append}
+use Rattle.std.specs.Io.KnownBytes.{Consumes, prepend_known}
+use Rattle.text_lines.specs.declared.causes.TextCause.{TextCause}
+use Rattle.text_lines.specs.declared.causes.TextCause.TheVariants.{End}
+use Rattle.text_lines.specs.Lines.{HasNo, line, words_of}
+use Rattle.text_lines.specs.Readings.{IsWrong}
+use Rattle.history.specs.declared.refusals.Refusal.TheVariants.{Text}
+use Rattle.schedule_text.specs.declared.schedules.Event.{Event}
+use Rattle.schedule_text.specs.Texts.{happens, events_left, said_words, IsSaidInRange}
+use Rattle.schedule_text.specs.Streams.{stream}
+use Rattle.schedule_text.specs.Streaming.{IsFirstFaultFrom, IsStopped, GaveSaid}
+use Rattle.schedule_text.proofs.Refusing.{refused_event}
+use Rattle.schedule_text.proofs.Spelling.{spaced-said}
+
+-- bytes in front of known ones
+Consumes-front : (known : Option (List ℕ)) (bytes rest : List ℕ) → Consumes (prepend_known (bytes ++ rest) known) (prepend_known rest known) bytes
+Consumes-front None bytes rest = tt
+Consumes-front (Some left) bytes rest = append_assoc bytes rest left
+
+-- what is left of the bytes read ahead behind their first line
+behind_line : (says rest old new : List ℕ) → old ≡ line says ++ rest → new ≡ drop (length says + 1) old → new ≡ rest
+behind_line says rest old new front gone =
+    gone ∙ ap (λ (l : List ℕ). drop (length says + 1) l) front ∙ drop_at (line says) rest (length says + 1) (length-append says (10 ∷ []))
+
+-- the first line of the bytes read ahead says an event: they are gone over to its end, and the source isn't called
+pub said_ahead : (left : ℕ) (event : Event) (says rest old new : List ℕ) (known : Option (List ℕ)) (failures budget : ℕ) (ended : Bool)
+    → old ≡ line says ++ rest → new ≡ drop (length says + 1) old → words_of says ≡ said_words (happens event) → IsSaidInRange (happens event)
+    → GaveSaid (events_left left) (happens event) (stream old known failures budget ended) (stream new known failures budget ended)
+said_ahead left event says rest old new known failures budget ended front gone words range =
+    let is : new ≡ rest = behind_line says rest old new front gone in
+    let given : Consumes (prepend_known old known) (prepend_known new known) (line says) =
+    subst (λ (l : List ℕ). Consumes (prepend_known l known) (prepend_known new known) (line says)) (sym front)
+    (subst (λ (l : List ℕ). Consumes (prepend_known (line says ++ rest) known) (prepend_known l known) (line says)) (sym is)
+    (Consumes-front known (line says) rest)) in
+    record {
+      may = tt;
+      range = range;
+      given = subst (λ (l : List ℕ). Consumes (prepend_known old known) (prepend_known new known) (line l)) (spaced-said (happens event) says words) given;
+      quiet = refl;
+    }
+
+-- it is wrong
+pub stopped_ahead : (before left : ℕ) (says rest old : List ℕ) (known : Option (List ℕ)) (failures : ℕ) (ended : Bool) (cause : TextCause)
+    → HasNo 10 says → old ≡ line says ++ rest → 0 < left
+    → IsWrong (λ (event : Event). words_of says ≡ said_words (happens event)) (λ event. IsSaidInRange (happens event)) cause
+    → IsStopped before (events_left left) (prepend_known old known) failures failures ended (Text (before + 1) cause)
+stopped_ahead before left says rest old known failures ended cause whole front some wrong = (
+  by known,
+  refl,
+  λ (ends : cause ≡ End).
+      absurd (subst (λ (k : TextCause). IsWrong (λ (event : Event). words_of says ≡ said_words (happens event)) (λ event. IsSaidInRange (happens event)) k) ends wrong),
+)
+  where
+    by : (bytes : Option (List ℕ)) → IsFirstFaultFrom before (events_left left) (prepend_known old bytes) (before + 1) cause
+    by None = tt
+    by (Some more) =
+        refused_event before left (old ++ more) says (rest ++ more) cause some whole
+        (ap (λ (l : List ℕ). l ++ more) front ∙ append_assoc (line says) rest more) wrong
