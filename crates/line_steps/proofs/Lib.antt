@@ -1,3 +1,4 @@
 pub mod Padding
+pub mod Tables
 pub mod Seen
 pub mod ByAccess

@@ -6,6 +6,7 @@ mod memory;
 mod outcomes;
 mod rows;
 mod steps;
+mod words;
 
 pub use actors::{Actor, Held, Node, Outcome, Setup};
 pub use memory::{Memory, nobody_value};

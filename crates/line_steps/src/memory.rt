@@ -1,54 +1,49 @@
 //! The shared words in plain memory, and one access of one word.
-ghost use Rattle.std.specs.Prelude.{◌≡◌, ◌+◌, ◌-◌, ◌^◌, ◌<◌, ◌≤◌, ◌++◌, ◌∷◌, [], length, slice_set, slice_index_or, false, vec_len, vec_capacity, Some, None, IfOk, IfSome, OnErr, OnOk};
-ghost use Rattle.line_steps.specs.Memory.{Fresh, Free, Head, Tail, Tail_lock, Head_lock, Next, Value_of, content, store, exchange, clear, blank, nobody, node_at};
-ghost use Rattle.line_steps.specs.Rooms.{first_words, aside_after, first_memory, grown, accessed};
+ghost use Rattle.std.specs.Prelude.{◌≡◌, ◌+◌, ◌-◌, ◌*◌, ◌<◌, ◌≤◌, ◌↔◌, ◌++◌, ◌∷◌, [], length, slice_set, slice_index_or, false, Some, None, IsNone, IfOk, IfSome, OnErr, OnOk};
+ghost use Rattle.line_steps.specs.Memory.{Fresh, Free, Head, Tail, Tail_lock, Head_lock, Next, Value_of, content, store, exchange, clear, nobody};
+ghost use Rattle.line_steps.specs.Rooms.{first_words, aside_after, first_memory, accessed};
+ghost use Rattle.line_steps.specs.Rooms as rooms;
 
-use crate::actors::Node;
+use crate::words::{next_place, push_blank, set_word, value_of, value_word, word_at};
 use counted_ref::CountedRef;
 use history::{Body, Taken};
 use std::alloc::{AllocError, Global};
 use std::marker::Model;
 
-/// The shared words, and which nodes were set aside. Nodes that have no room yet are blank.
+// The places of the words before those of the nodes.
+const FRESH: usize = 0;
+
+const FREE: usize = 1;
+
+const HEAD: usize = 2;
+
+const TAIL: usize = 3;
+
+const TAIL_LOCK: usize = 4;
+
+const HEAD_LOCK: usize = 5;
+
+/// The shared words in one table of numbers, and which nodes were set aside. Nodes that have no room yet are blank.
 ///
+/// The table has Fresh, Free, Head, Tail, the lock of Tail and the lock of Head, and then `next` and value of each node.
 /// Nodes are numbered from 1 on. `new` and `grow` take memory; no other call does, and none waits.
 #[derive(Drop)]
 pub struct Memory {
     size: u32,
-    fresh: u32,
-    free: CountedRef,
-    head: CountedRef,
-    tail: CountedRef,
-    tail_lock: u16,
-    head_lock: u16,
-    nodes: Vec<Node>,
+    words: Vec<u64>,
     aside: Vec<bool>,
 }
 
 impl Model for Memory {
-    ghost use Rattle.std.specs.Prelude.{◌≡◌, ◌≤◌, false, vec_len};
-    ghost use Rattle.line_steps.specs.Memory.{blank};
-    ghost use Rattle.line_steps.specs.Rooms.{Memory as Words, padded};
+    ghost use Rattle.line_steps.specs.Rooms.{Memory as Words};
 
     ghost Value = { Words };
 
-    ghost view = { λ m.
-        record {
-          words =
-              record {
-                fresh = m.fresh;
-                free = m.free;
-                head = m.head;
-                tail = m.tail;
-                tail_lock = m.tail_lock;
-                head_lock = m.head_lock;
-                nodes = padded m.size blank m.nodes.items;
-              };
-          aside = padded m.size false m.aside.items;
-          room = vec_len m.nodes;
-        } };
+    ghost use Rattle.line_steps.specs.Stored.{memory, StoredInvariant};
 
-    ghost invariant = { λ m. (vec_len m.aside ≡ vec_len m.nodes) × (vec_len m.nodes ≤ m.size) };
+    ghost view = { memory };
+
+    ghost invariant = { StoredInvariant };
 }
 
 /// The value of nobody, which a node holds before it is used. Takes no memory.
@@ -58,32 +53,6 @@ pub fn nobody_value() -> Taken
     Taken {
         from: 0,
         body: Body::new(0).unwrap(),
-    }
-}
-
-/// A node that was never used.
-fn blank_node() -> Node
-    ensures { result ≡ blank }
-{
-    Node {
-        next: CountedRef::new(0, 0),
-        value: nobody_value(),
-    }
-}
-
-/// One blank node more, for which there is room.
-fn push_blank(nodes: &mut Vec<Node>)
-    requires { vec_len nodes.old < vec_capacity nodes.old }
-    ensures { nodes.new.items ≡ nodes.old.items ++ blank ∷ [] }
-{
-    let _ = nodes.push(blank_node());
-}
-
-fn set_node(nodes: &mut Vec<Node>, node: u32, new: Node)
-    ensures { nodes.new.items ≡ slice_set nodes.old.items (node - 1) new }
-{
-    if let Some(place) = nodes.get_mut(node.saturating_sub(1) as usize) {
-        *place = new;
     }
 }
 
@@ -105,29 +74,38 @@ impl Memory {
         requires { 1 ≤ size }
         ensures { IfOk result (λ m. m ≡ first_memory size) }
     {
-        let first = CountedRef::new(1, 0);
+        let null = CountedRef::new(0, 0).word();
+        let first = CountedRef::new(1, 0).word();
         Ok(Memory {
             size,
-            fresh: 1,
-            free: CountedRef::new(0, 0),
-            head: first,
-            tail: first,
-            tail_lock: 0,
-            head_lock: 0,
-            nodes: vec![in alloc; blank_node(); 1]?,
+            words: Vec::from_array(alloc, [1, null, first, first, 0, 0, 0, 0])?,
             aside: vec![in alloc; false; 1]?,
         })
+    }
+
+    /// How many nodes there are.
+    fn nodes(&self) -> usize
+        ensures { result ≡ length self.now.words.nodes }
+    {
+        self.size as usize
+    }
+
+    /// For how many nodes there is room.
+    fn room(&self) -> usize
+        ensures { result ≡ self.now.room }
+    {
+        self.aside.len()
     }
 
     /// Makes room for one node more, where there is room for fewer than `enough` and a node is left.
     ///
     /// Fails where memory is refused, and then changes nothing. Takes memory for one node.
     pub fn grow(&mut self, enough: usize) -> Result<(), AllocError>
-        ensures ok { OnOk result (self.new ≡ grown enough self.old) }
+        ensures ok { OnOk result (self.new ≡ rooms.grown enough self.old) }
         ensures err { OnErr result (self.new ≡ self.old) }
     {
-        let room = self.nodes.len();
-        if room < enough && room < self.size as usize {
+        let room = self.room();
+        if room < enough && room < self.nodes() {
             return self.add_node();
         }
         Ok(())
@@ -139,9 +117,9 @@ impl Memory {
         ensures ok { OnOk result (self.new ≡ record self.old { room = self.old.room + 1 }) }
         ensures err { OnErr result (self.new ≡ self.old) }
     {
-        self.nodes.reserve(1)?;
+        self.words.reserve(2)?;
         self.aside.push(false)?;
-        push_blank(&mut self.nodes);
+        push_blank(&mut self.words);
         Ok(())
     }
 
@@ -151,16 +129,6 @@ impl Memory {
         ensures { self.new ≡ record self.old { aside = aside_after self.old.aside node } }
     {
         set_flag(&mut self.aside, node);
-    }
-
-    /// A node, which is blank where it has no room yet.
-    fn node_of(&self, node: u32) -> Node
-        ensures { result ≡ node_at self.now.words node }
-    {
-        match self.nodes.get(node.saturating_sub(1) as usize) {
-            Some(node) => *node,
-            None => blank_node(),
-        }
     }
 
     /// Whether a node was set aside; false of a number that no node has.
@@ -177,42 +145,56 @@ impl Memory {
     pub fn fresh(&self) -> u32
         ensures { result ≡ content Fresh self.now.words }
     {
-        self.fresh
+        self.words[FRESH] as u32
     }
 
     /// The word Free: the first node of the free list.
     pub fn free(&self) -> CountedRef
         ensures { result ≡ content Free self.now.words }
     {
-        self.free
+        CountedRef::of_word(self.words[FREE])
     }
 
     /// The word Head: the dummy, before the first value.
     pub fn head(&self) -> CountedRef
         ensures { result ≡ content Head self.now.words }
     {
-        self.head
+        CountedRef::of_word(self.words[HEAD])
     }
 
     /// The word Tail.
     pub fn tail(&self) -> CountedRef
         ensures { result ≡ content Tail self.now.words }
     {
-        self.tail
+        CountedRef::of_word(self.words[TAIL])
+    }
+
+    /// The lock of Tail: 0, or the number of an actor.
+    fn tail_lock(&self) -> u16
+        ensures { result ≡ content Tail_lock self.now.words }
+    {
+        self.words[TAIL_LOCK] as u16
+    }
+
+    /// The lock of Head: 0, or the number of an actor.
+    fn head_lock(&self) -> u16
+        ensures { result ≡ content Head_lock self.now.words }
+    {
+        self.words[HEAD_LOCK] as u16
     }
 
     /// The `next` of a node, which is null where the node has no room yet.
     pub fn next_of(&self, node: u32) -> CountedRef
         ensures { result ≡ content (Next node) self.now.words }
     {
-        self.node_of(node).next
+        CountedRef::of_word(word_at(&self.words, next_place(node)))
     }
 
     /// The value of a node, which is nobody's where the node has no room yet.
     pub fn value_of(&self, node: u32) -> Taken
         ensures { result ≡ content (Value_of node) self.now.words }
     {
-        self.node_of(node).value
+        value_of(word_at(&self.words, next_place(node) + 1))
     }
 
     /// Answers what the number of nodes used held, and writes `new` there where that was `old`.
@@ -220,9 +202,9 @@ impl Memory {
         ensures found { result ≡ content Fresh self.old.words }
         ensures after { self.new ≡ accessed (exchange Fresh old new) self.old }
     {
-        let found = self.fresh;
+        let found = self.fresh();
         if found == old {
-            self.fresh = new;
+            self.store_fresh(new);
         }
         found
     }
@@ -232,9 +214,9 @@ impl Memory {
         ensures found { result ≡ content Tail_lock self.old.words }
         ensures after { self.new ≡ accessed (exchange Tail_lock old new) self.old }
     {
-        let found = self.tail_lock;
+        let found = self.tail_lock();
         if found == old {
-            self.tail_lock = new;
+            self.store_tail_lock(new);
         }
         found
     }
@@ -244,9 +226,9 @@ impl Memory {
         ensures found { result ≡ content Head_lock self.old.words }
         ensures after { self.new ≡ accessed (exchange Head_lock old new) self.old }
     {
-        let found = self.head_lock;
+        let found = self.head_lock();
         if found == old {
-            self.head_lock = new;
+            self.store_head_lock(new);
         }
         found
     }
@@ -256,9 +238,9 @@ impl Memory {
         ensures found { result ≡ content Free self.old.words }
         ensures after { self.new ≡ accessed (exchange Free old new) self.old }
     {
-        let found = self.free;
+        let found = self.free();
         if found.same(old) {
-            self.free = new;
+            self.store_free(new);
         }
         found
     }
@@ -268,9 +250,9 @@ impl Memory {
         ensures found { result ≡ content Head self.old.words }
         ensures after { self.new ≡ accessed (exchange Head old new) self.old }
     {
-        let found = self.head;
+        let found = self.head();
         if found.same(old) {
-            self.head = new;
+            self.store_head(new);
         }
         found
     }
@@ -280,9 +262,9 @@ impl Memory {
         ensures found { result ≡ content Tail self.old.words }
         ensures after { self.new ≡ accessed (exchange Tail old new) self.old }
     {
-        let found = self.tail;
+        let found = self.tail();
         if found.same(old) {
-            self.tail = new;
+            self.store_tail(new);
         }
         found
     }
@@ -311,20 +293,54 @@ impl Memory {
         found
     }
 
+    /// Writes how many nodes were used.
+    fn store_fresh(&mut self, new: u32)
+        ensures { self.new ≡ accessed (store Fresh new) self.old }
+    {
+        self.words[FRESH] = u64::from(new);
+    }
+
+    /// Writes Free.
+    fn store_free(&mut self, new: CountedRef)
+        ensures { self.new ≡ accessed (store Free new) self.old }
+    {
+        self.words[FREE] = new.word();
+    }
+
+    /// Writes Head.
+    pub fn store_head(&mut self, new: CountedRef)
+        ensures { self.new ≡ accessed (store Head new) self.old }
+    {
+        self.words[HEAD] = new.word();
+    }
+
+    /// Writes Tail.
+    pub fn store_tail(&mut self, new: CountedRef)
+        ensures { self.new ≡ accessed (store Tail new) self.old }
+    {
+        self.words[TAIL] = new.word();
+    }
+
+    /// Writes the tail lock: 0, or the number of an actor.
+    pub fn store_tail_lock(&mut self, new: u16)
+        ensures { self.new ≡ accessed (store Tail_lock new) self.old }
+    {
+        self.words[TAIL_LOCK] = u64::from(new);
+    }
+
+    /// Writes the head lock: 0, or the number of an actor.
+    pub fn store_head_lock(&mut self, new: u16)
+        ensures { self.new ≡ accessed (store Head_lock new) self.old }
+    {
+        self.words[HEAD_LOCK] = u64::from(new);
+    }
+
     /// Writes the `next` of a node, for which there is room.
     pub fn store_next(&mut self, node: u32, new: CountedRef)
         requires { node - 1 < self.old.room }
         ensures { self.new ≡ accessed (store (Next node) new) self.old }
     {
-        let before = self.node_of(node);
-        set_node(
-            &mut self.nodes,
-            node,
-            Node {
-                next: new,
-                ..before
-            },
-        );
+        set_word(&mut self.words, next_place(node), new.word());
     }
 
     /// Writes the value of a node, for which there is room.
@@ -332,42 +348,6 @@ impl Memory {
         requires { node - 1 < self.old.room }
         ensures { self.new ≡ accessed (store (Value_of node) new) self.old }
     {
-        let before = self.node_of(node);
-        set_node(
-            &mut self.nodes,
-            node,
-            Node {
-                value: new,
-                ..before
-            },
-        );
-    }
-
-    /// Writes Head.
-    pub fn store_head(&mut self, new: CountedRef)
-        ensures { self.new ≡ accessed (store Head new) self.old }
-    {
-        self.head = new;
-    }
-
-    /// Writes Tail.
-    pub fn store_tail(&mut self, new: CountedRef)
-        ensures { self.new ≡ accessed (store Tail new) self.old }
-    {
-        self.tail = new;
-    }
-
-    /// Writes the tail lock: 0, or the number of an actor.
-    pub fn store_tail_lock(&mut self, new: u16)
-        ensures { self.new ≡ accessed (store Tail_lock new) self.old }
-    {
-        self.tail_lock = new;
-    }
-
-    /// Writes the head lock: 0, or the number of an actor.
-    pub fn store_head_lock(&mut self, new: u16)
-        ensures { self.new ≡ accessed (store Head_lock new) self.old }
-    {
-        self.head_lock = new;
+        set_word(&mut self.words, next_place(node) + 1, value_word(new));
     }
 }

@@ -1,20 +1,30 @@
--- One more blank node and one more flag change nothing that is seen.
-use Rattle.std.proofs.Common.{◌≡◌, ◌+◌, ◌<◌, ◌++◌, ◌∷◌, [], length, refl, sym, arith, ◌∙◌, ap, subst, length-append}
-use Rattle.line_steps.specs.Memory.{blank}
-use Rattle.line_steps.proofs.Padding.{short-padded}
-use Rattle.line_steps.proofs.Seen.{grown}
+-- The words of one more blank node and one more flag change nothing that is seen.
+use Rattle.std.proofs.Common.{◌≡◌, ℕ, ◌+◌, ◌*◌, ◌<◌, ◌++◌, ◌∷◌, [], List, length, length-append, vec_len, refl, sym, arith, ◌∙◌, ap, subst}
+use Rattle.line_steps.specs.Words.{IsTable}
+use Rattle.line_steps.proofs.Tables.{table-push}
+use Rattle.line_steps.proofs.Seen.{grown, room_left}
 use Rattle.line_steps.proofs.memory.Memory.add_node.Goals as goal
+
+more : (c : goal.After-push_blank) → c.push_blank.new.words.items ≡ c.self.inside.words.items ++ 0 ∷ 0 ∷ []
+more c = c.push_blank.ensures ∙ ap (λ ws. ws ++ 0 ∷ 0 ∷ []) c.reserve.ensures.items
+
+left : (c : goal.After-push_blank) → vec_len c.self.inside.aside < c.self.inside.size
+left c = room_left _ _ c.self.view_is c.self.inside.size c.self.inside.words.items refl c.self.invariant.words c.requires
+
+longer : (ws : List ℕ) (n : ℕ) → length ws ≡ 6 + 2 * n → length (ws ++ 0 ∷ 0 ∷ []) ≡ 6 + 2 * (n + 1)
+longer ws n e = omega (arith, length-append ws (0 ∷ 0 ∷ []))
+
+pub invariant_of-self-2 : goal.invariant_of-self-2
+invariant_of-self-2 c =
+    let room : vec_len c.push.new.self ≡ vec_len c.self.inside.aside + 1 = c.in_ok-push.ensures.len in
+    let less : vec_len c.self.inside.aside < c.self.inside.size = left c in
+    record {
+      table = subst IsTable (sym (more c)) (table-push c.self.inside.words.items c.self.invariant.table);
+      words = ap length (more c) ∙ longer c.self.inside.words.items _ c.self.invariant.words ∙ ap (λ n. 6 + 2 * n) (sym room);
+      few = omega arith;
+    }
 
 pub returns-clause-ok : goal.returns-clause-ok
 returns-clause-ok c =
-    let nodes = c.self.inside.nodes in
-    let more : c.push_blank.new.nodes.items ≡ nodes.items ++ blank ∷ [] =
-    c.push_blank.ensures ∙ ap (λ xs. xs ++ blank ∷ []) c.reserve.ensures.items in
-    let one : length c.push_blank.new.nodes.items ≡ length nodes.items + 1 = ap length more ∙ simp length-append (omega arith) in
-    let within : nodes.len < length c.args.self.now.words.nodes =
-    subst (λ r. r < length c.args.self.now.words.nodes) (ap (λ m. m.room) (sym c.self.view_is)) c.requires in
-    let within : length nodes.items < c.self.inside.size =
-    short-padded c.self.inside.size blank nodes.items (subst (λ r. r) (ap (λ m. length nodes.items < length m.words.nodes) (sym c.self.view_is)) (omega (arith, within, nodes.ok.0))) in
-    grown _ _ c.self.view_is c.self.inside.size nodes.items c.push_blank.new.nodes.items c.self.inside.aside.items
-    c.push.new.self.items _ refl refl nodes.ok.0 (sym c.self.inside.aside.ok.0 ∙ c.self.invariant.0 ∙ nodes.ok.0) within
-    (c.push_blank.new.nodes.ok.0 ∙ one ∙ ap (λ n. n + 1) (sym nodes.ok.0)) more c.in_ok-push.ensures.items
+    grown _ _ c.self.view_is c.self.inside.size c.self.inside.words.items _ c.self.inside.aside.items c.push.new.self.items _ refl refl
+    c.self.invariant.words (sym c.self.inside.aside.ok.0) (left c) (more c) c.in_ok-push.ensures.items c.in_ok-push.ensures.len

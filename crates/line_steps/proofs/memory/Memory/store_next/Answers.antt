@@ -1,10 +1,9 @@
--- The node is set among those that are kept, and so among all.
-use Rattle.std.proofs.Common.{◌-◌, set, refl, ap, ◌∙◌}
-use Rattle.line_steps.proofs.Seen.{node_set}
+-- The word is written among those that are kept, and so the `next` of the node that they stand for.
+use Rattle.std.proofs.Common.{refl}
+use Rattle.line_steps.proofs.Seen.{next_stored}
 use Rattle.line_steps.proofs.memory.Memory.store_next.Goals as goal
 
 pub returns : goal.returns
 returns c =
-    node_set _ _ c.self.view_is c.self.inside.size c.self.inside.nodes.items c.set_node.new.nodes.items _ (c.args.node - 1) _ refl
-    c.self.inside.nodes.ok.0 c.set_node.new.nodes.ok.0 c.requires
-    (c.set_node.ensures ∙ ap (λ b. set c.self.inside.nodes.items (c.args.node - 1) (record b { next = c.args.new })) c.node_of-before.ensures)
+    next_stored _ _ c.self.view_is c.self.inside.size c.args.node c.next_place.result c.word.result c.self.inside.words.items _ c.args.new refl
+    c.self.invariant.words c.requires c.next_place.ensures c.word.ensures.value c.word.ensures.in_range c.set_word.ensures
