@@ -1,10 +1,11 @@
 //! The shared words in plain memory, and one access of one word.
-ghost use Rattle.std.specs.Prelude.{◌≡◌, ◌+◌, ◌-◌, ◌*◌, ◌<◌, ◌≤◌, ◌↔◌, ◌++◌, ◌∷◌, [], length, slice_set, slice_index_or, false, Some, None, IsNone, IfOk, IfSome, OnErr, OnOk};
+ghost use Rattle.std.specs.Prelude.{◌≡◌, ◌+◌, ◌-◌, ◌*◌, ◌<◌, ◌≤◌, ◌↔◌, ◌++◌, ◌∷◌, [], length, slice_set, slice_get, slice_index_or, false, Some, None, IsNone, IfOk, IfSome, OnErr, OnOk};
 ghost use Rattle.line_steps.specs.Memory.{Fresh, Free, Head, Tail, Tail_lock, Head_lock, Next, Value_of, content, store, exchange, clear, nobody};
 ghost use Rattle.line_steps.specs.Rooms.{first_words, aside_after, first_memory, accessed};
 ghost use Rattle.line_steps.specs.Rooms as rooms;
+ghost use Rattle.line_steps.specs.Words as specs;
 
-use crate::words::{next_place, push_blank, set_word, value_of, value_word, word_at};
+use crate::words::{FIRST_WORDS, next_place, push_blank, set_word, value_of, value_word, word_at};
 use counted_ref::CountedRef;
 use history::{Body, Taken};
 use std::alloc::{AllocError, Global};
@@ -138,6 +139,18 @@ impl Memory {
         match self.aside.get(node.saturating_sub(1) as usize) {
             Some(flag) => *flag,
             None => false,
+        }
+    }
+
+    /// The word at an index of the table, in the table's order; none behind the words of the last node. 0 where the node has
+    /// no room yet.
+    pub fn word(&self, index: usize) -> Option<u64>
+        ensures { result ≡ slice_get (specs.memory_words self.now.words) index }
+    {
+        if index < FIRST_WORDS + 2 * self.size as usize {
+            Some(word_at(&self.words, index))
+        } else {
+            None
         }
     }
 

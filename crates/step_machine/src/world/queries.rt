@@ -1,10 +1,11 @@
 //! What can be asked of a world. No query takes memory but `history`.
-ghost use Rattle.std.specs.Prelude.{◌≡◌, ◌≤◌, ◌<◌, ◌^◌, IfOk, IfErr, IfSome, IsSome, length};
+ghost use Rattle.std.specs.Prelude.{◌≡◌, ◌≤◌, ◌<◌, ◌^◌, IfOk, IfErr, IfSome, IsSome, length, slice_get};
 ghost use Rattle.history.specs.declared.refusals.Refusal.TheVariants.{Memory};
 ghost use Rattle.history.specs.History.{Placement, IsLegal};
 ghost use Rattle.history.specs.Linearizability.{IsLinearizable};
 ghost use Rattle.line_steps.specs.Memory.{Free, Head, Tail, Next, Value_of, content};
 ghost use Rattle.step_machine.specs.Machine.{actor_of, IsMade, IsReached};
+ghost use Rattle.step_machine.specs.Words.{memory_words};
 ghost use Rattle.step_machine.specs.TakingEffect.{HavePlacesByItsEffects};
 
 use crate::committing::actor_at;
@@ -108,6 +109,14 @@ impl World {
         ensures { result ≡ content Tail self.now.shared }
     {
         self.memory.tail()
+    }
+
+    /// The shared word at an index: 0 Fresh, 1 Free, 2 Head, 3 Tail, 4 the lock of Tail, 5 the lock of Head, and of node n its
+    /// `next` at 4 + 2n and its value at 5 + 2n. None above 5 + 2N, where N is the number of nodes; 0 for a node never used.
+    pub fn word(&self, index: usize) -> Option<u64>
+        ensures { result ≡ slice_get (memory_words self.now.shared) index }
+    {
+        self.memory.word(index)
     }
 
     /// The `next` of a node, 1 to the number of nodes.
