@@ -12,4 +12,5 @@ mod places;
 mod refusals;
 mod trials;
 mod two_lock;
+mod words;
 mod worn;

@@ -104,6 +104,14 @@ impl Trial {
         Ok(())
     }
 
+    /// Its words are these, and there are no more.
+    pub fn tells(&self, rt: &impl Abort, words: &[u64]) {
+        for (index, word) in words.iter().enumerate() {
+            assert_eq!(rt; self.world.word(index), Some(*word));
+        }
+        assert_eq!(rt; self.world.word(words.len()), None);
+    }
+
     // Does what an event says, or looks at what it names; answers what was found, as an event.
     fn found(&mut self, event: &Event) -> Event {
         match *event {
