@@ -7,6 +7,7 @@ mod events;
 mod fields;
 mod held;
 pub mod laws;
+mod owned_events;
 mod parsing;
 mod printing;
 mod reading;
@@ -14,6 +15,7 @@ mod schedules;
 mod streaming;
 
 pub use event_stream::EventStream;
+pub use owned_events::Events;
 pub use parsing::{Header, parse};
 pub use printing::print;
 pub use reading::read_schedule;

@@ -1,0 +1,68 @@
+//! The events of a schedule, with the source that gives its text.
+ghost use Rattle.std.specs.Prelude.{◌≡◌, ℕ, Bool, [], IfOk, IfErr, None, Ok, Err};
+ghost use Rattle.schedule_text.specs.EventStreams.{IsNext, IsRefused, IsStarted};
+ghost use Rattle.schedule_text.specs.Streams.{stream};
+ghost use Rattle.schedule_text.specs.Texts.{version_due};
+ghost use Rattle.schedule_text.specs.declared.event_stream.Stage.{Stage};
+
+use crate::event_stream::{EventStream, Stage};
+use crate::parsing::Header;
+use crate::schedules::Event;
+use history::{Refusal, Source};
+
+/// The events of a schedule, with the source that gives its text: an `EventStream` that keeps its source.
+#[derive(Drop)]
+pub struct Events<R> {
+    stream: EventStream,
+    reader: R,
+}
+
+impl<R: Source + Drop> Events<R> {
+    /// Reads the six lines of the header, as `EventStream::start` does.
+    ///
+    /// At a refusal the source is dropped. A caller that has to know what became of it, or that needs
+    /// it back, uses an `EventStream`.
+    pub fn start(reader: R) -> Result<Events<R>, Refusal>
+        ensures ok { IfOk result (λ events. IsStarted events.stream
+            (stream [] (R.remaining reader) (R.failures reader) (R.budget reader) (R.has_ended reader))
+            (stream events.stream.ahead (R.remaining events.reader) (R.failures events.reader)
+            (R.budget events.reader) (R.has_ended events.reader))) }
+        ensures err { IfErr result (λ why. (failures : ℕ) × (ended : Bool) × IsRefused 0 version_due
+            (R.remaining reader) (R.failures reader) failures ended why) }
+    {
+        let mut reader = reader;
+        let stream = EventStream::start(&mut reader)?;
+        Ok(Events { stream, reader })
+    }
+}
+
+impl<R: Source> Events<R> {
+    /// What the header says.
+    pub fn header(&self) -> &Header
+        ensures { result.now ≡ self.now.stream.header }
+    {
+        self.stream.header()
+    }
+
+    /// The next event, as `EventStream::next` tells it.
+    pub fn next(&mut self) -> Result<Option<Event>, Refusal>
+        ensures next { self.old.stream.stage ≡ Stage.Going → IsNext self.old.stream self.new.stream
+            (stream self.old.stream.ahead (R.remaining self.old.reader) (R.failures self.old.reader)
+            (R.budget self.old.reader) (R.has_ended self.old.reader))
+            (stream self.new.stream.ahead (R.remaining self.new.reader) (R.failures self.new.reader)
+            (R.budget self.new.reader) (R.has_ended self.new.reader)) result }
+        ensures ended { self.old.stream.stage ≡ Stage.Ended → (result ≡ Ok None) × (self.new ≡ self.old) }
+        ensures refused { (why : Refusal) → self.old.stream.stage ≡ Stage.Refused why
+            → (result ≡ Err why) × (self.new ≡ self.old) }
+    {
+        self.stream.next(&mut self.reader)
+    }
+
+    /// The source, as it is after the calls so far: up to 4,096 bytes of it may have been read ahead.
+    pub fn into_source(self) -> R
+        ensures { result ≡ self.reader }
+    {
+        let Events { stream: _, reader } = self;
+        reader
+    }
+}
