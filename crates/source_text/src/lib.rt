@@ -1,6 +1,10 @@
-//! All bytes that a source gives.
+//! Texts that sources give, parsed without keeping what follows a fault.
 #![tactic(auto)]
 
 mod input;
+mod parsers;
+mod parsing;
 
 pub use input::read_all;
+pub use parsers::Parser;
+pub use parsing::parse_source;
