@@ -6,10 +6,11 @@ ghost use Rattle.engine_faults.specs.Faults.{IsRunRefusal};
 ghost use Rattle.check_engine.specs.Checks.{cause_name, no_text, verdict_text, IsTextOf, TellsVerdict, BeginsVerdict, TellsFirstFault};
 ghost use Rattle.source_text.specs.Readings.{EndsReadingFor};
 
-use history::{Cause, Line, Refusal, Sink, Source, Stamped, Verdict, check, parse_history};
+use crate::texts::HistoryTexts;
+use history::{Cause, Line, Refusal, Sink, Source, Stamped, Verdict, check};
 use report::history_table;
 use sink_text::send;
-use source_text::read_all;
+use source_text::parse_source;
 use std::alloc::Global;
 
 /// Judges the history whose text the reader gives, and writes the verdict: for Yes the table of the
@@ -55,8 +56,7 @@ fn history_in<R: Source>(alloc: Global, reader: &mut R) -> Result<Vec<Stamped>, 
     ensures reader { EndsReadingFor result (R.failures reader.old) (R.failures reader.new)
         (R.has_ended reader.new) }
 {
-    let text = read_all(alloc, reader)?;
-    parse_history(alloc, &text)
+    parse_source::<HistoryTexts, R>(alloc, reader)
 }
 
 /// Writes the text that tells a verdict on a history.

@@ -2,5 +2,6 @@
 #![tactic(auto)]
 
 mod judging;
+mod texts;
 
 pub use judging::check_text;

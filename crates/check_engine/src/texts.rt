@@ -1,0 +1,30 @@
+//! Texts of histories, as they are parsed.
+use history::{Refusal, Stamped, parse_history};
+use source_text::Parser;
+use std::alloc::Global;
+
+/// Texts of histories.
+pub struct HistoryTexts;
+
+impl Parser for HistoryTexts {
+    ghost use Rattle.history.specs.HistoryLines.{First, HistoryDue, HistoryLine, IsHistoryInRange, history_grammar};
+    ghost use Rattle.history.specs.HistoryText.{history_text};
+
+    type Parsed = Vec<Stamped>;
+
+    ghost State = { HistoryDue };
+
+    ghost Said = { HistoryLine };
+
+    ghost grammar = { history_grammar };
+
+    ghost first = { First };
+
+    ghost text_of = { λ history. history_text history.items };
+
+    ghost in_range = { λ history. IsHistoryInRange history.items };
+
+    fn parse(alloc: Global, text: &[u8]) -> Result<Vec<Stamped>, Refusal> {
+        parse_history(alloc, text)
+    }
+}
