@@ -2,6 +2,7 @@
 #![tactic(auto)]
 
 mod crews;
+mod texts;
 mod working;
 
 pub use working::work_text;

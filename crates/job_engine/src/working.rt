@@ -5,11 +5,12 @@ ghost use Rattle.source_text.specs.Readings.{EndsReadingFor};
 ghost use Rattle.job_engine.specs.Works.{AreSized, IsBadSize, IsTextOf, WritesResults, BeginsResults, TellsOfText, IsReadingRefusal, IsWorkRefusal, EndsReadingOrUnread};
 
 use crate::crews::results_by;
+use crate::texts::JobTexts;
 use history::{Refusal, Sink, Source};
-use job_results::{Job, parse_jobs};
+use job_results::Job;
 use line_table::Kind;
 use report::results_table;
-use source_text::read_all;
+use source_text::parse_source;
 use std::alloc::Global;
 use std::sync::Wait;
 use std::thread::Threads;
@@ -83,6 +84,5 @@ fn jobs_in<R: Source>(alloc: Global, reader: &mut R) -> Result<Vec<Job>, Refusal
     ensures reader { EndsReadingFor result (R.failures reader.old) (R.failures reader.new)
         (R.has_ended reader.new) }
 {
-    let text = read_all(alloc, reader)?;
-    parse_jobs(alloc, &text)
+    parse_source::<JobTexts, R>(alloc, reader)
 }
