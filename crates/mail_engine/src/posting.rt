@@ -10,11 +10,12 @@ ghost use Rattle.mail_engine.specs.Posts.{IsTextOf, ArePosted, AreTaken, WritesL
 use crate::opening::{non_blocking_seats, two_lock_seats};
 use crate::sharing::tasks_of;
 use crate::telling::tell;
+use crate::texts::MailTexts;
 use history::{Fifo, Refusal, Sink, Source};
 use line_table::Kind;
-use mail_text::{Mail, parse_mail};
+use mail_text::Mail;
 use mailbox::{Office, post};
-use source_text::read_all;
+use source_text::parse_source;
 use std::alloc::Global;
 use std::sync::Wait;
 use std::thread::Threads;
@@ -71,8 +72,7 @@ fn mail_in<R: Source>(alloc: Global, reader: &mut R) -> Result<Mail, Refusal>
     ensures reader { EndsReadingFor result (R.failures reader.old) (R.failures reader.new)
         (R.has_ended reader.new) }
 {
-    let text = read_all(alloc, reader)?;
-    parse_mail(alloc, &text)
+    parse_source::<MailTexts, R>(alloc, reader)
 }
 
 // Sends letters over a queue of this kind, and writes those taken.
