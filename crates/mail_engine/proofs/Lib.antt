@@ -4,3 +4,4 @@ pub mod Pieces
 pub mod Within
 pub mod Told
 pub mod Shares
+pub mod Brought

@@ -7,7 +7,8 @@ use Rattle.std.proofs.lemmas.List.{get_or-set_same, get_or-set_other, get_or_def
 use Rattle.std.proofs.Math.ListN.{set}
 use Rattle.mail_text.specs.declared.letters.Outgoing.{Outgoing}
 use Rattle.mailbox.specs.declared.posting.Task.{Task}
-use Rattle.mail_engine.specs.Shares.{texts_from, texts_in, HaveTexts, AddsText}
+use Rattle.mailbox.specs.Posting.{texts_in}
+use Rattle.mail_engine.specs.Shares.{texts_from, HaveTexts, AddsText}
 
 module _ {Q S : Type 0} where
   -- a task is put in place of one with one text fewer

@@ -1,7 +1,7 @@
 -- What posting the text of mail reads and writes, and what it may be refused.
-use Rattle.std.specs.Prelude.{◌≡◌, ℕ, List, ◌++◌, length, Option, Some, None, codes, decimal, ⊤}
+use Rattle.std.specs.Prelude.{◌≡◌, ℕ, List, ◌++◌, length, map, nat_eq, Option, Some, None, codes, decimal, ⊤}
 use Rattle.std.specs.Io.KnownBytes.{Appends}
-use Rattle.std.specs.List.{All, flat_map}
+use Rattle.std.specs.List.{All, filter, flat_map}
 use Rattle.std.specs.List.Sorted.{IsPermutation, IsNonDecreasingBy, IsStableByKey}
 use Rattle.std.specs.Ordering.{nat_cmp}
 use Rattle.text_lines.specs.Numerals.{IsWithin}
@@ -10,6 +10,7 @@ use Rattle.history.specs.declared.refusals.Refusal.{Refusal}
 use Rattle.history.specs.declared.refusals.Refusal.TheVariants.{NoNode, WornOut, Memory, BadSize, Text, Read, Write, Lost}
 use Rattle.mail_text.specs.MailTexts.{SaidLetter, mail_text, IsMailInRange, IsFirstFaultOfMail}
 use Rattle.mailbox.specs.declared.receiver.Letter.{Letter}
+use Rattle.mailbox.specs.Posting.{texts_of}
 use Rattle.source_text.specs.Readings.{WereAll}
 
 -- the line that says how many letters there are
@@ -34,11 +35,17 @@ pub record AreBySender (taken told : List Letter) : Type 0 where
   pub rising : IsNonDecreasingBy (λ (l : Letter). l.from) told
   pub stable : IsStableByKey (λ (l : Letter). l.from) nat_cmp taken told
 
--- so many letters were taken, each of one of so many senders, and these are they, by sender
-pub record AreTaken (senders count : ℕ) (told : List Letter) : Type 0 where
+-- the texts of one sender's letters, in their order
+abbrev pub said_by : (sender : ℕ) → List SaidLetter → List (List ℕ)
+said_by sender letters = map (λ (l : SaidLetter). l.text) (filter (λ (l : SaidLetter). nat_eq l.from sender) letters)
+
+-- as many letters as these were taken, each of one of so many senders, with the texts of each sender in its order; and these
+-- are they, by sender
+pub record AreTaken (senders : ℕ) (letters : List SaidLetter) (told : List Letter) : Type 0 where
   pub taken : List Letter
-  pub count_is : length taken ≡ count
+  pub count_is : length taken ≡ length letters
   pub from : All (λ (l : Letter). IsWithin 1 senders l.from) taken
+  pub texts : (sender : ℕ) → IsWithin 1 senders sender → texts_of sender taken ≡ said_by sender letters
   pub order : AreBySender taken told
 
 -- known bytes were the text of these letters of so many senders, which are in range
@@ -46,12 +53,12 @@ pub record IsTextOf (given : Option (List ℕ)) (senders : ℕ) (letters : List 
   pub in_range : IsMailInRange senders letters
   pub read : WereAll given (mail_text senders letters)
 
--- known bytes were the text of letters, and as many were taken, each of one of its senders; these are they, by sender
+-- known bytes were the text of letters, and those were taken; these are they, by sender
 pub record ArePosted (given : Option (List ℕ)) (told : List Letter) : Type 0 where
   pub senders : ℕ
   pub letters : List SaidLetter
   pub text : IsTextOf given senders letters
-  pub taken : AreTaken senders (length letters) told
+  pub taken : AreTaken senders letters told
 
 -- the text of such letters was written
 abbrev pub WritesLetters : (List Letter → Type 0) → (old new : Option (List ℕ)) → Type 0

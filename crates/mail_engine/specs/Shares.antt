@@ -3,14 +3,11 @@ use Rattle.std.specs.Prelude.{◌≡◌, ◌≢◌, ℕ, ◌+◌, ◌<◌, List,
 use Rattle.std.specs.List.{filter}
 use Rattle.mail_text.specs.declared.letters.Outgoing.{Outgoing}
 use Rattle.mailbox.specs.declared.posting.Task.{Task}
+use Rattle.mailbox.specs.Posting.{texts_in}
 
 -- the texts of one sender's letters, in their order
 abbrev pub texts_from : (sender : ℕ) → List Outgoing → List (List ℕ)
 texts_from sender letters = map (λ (l : Outgoing). string_bytes l.text) (filter (λ (l : Outgoing). nat_eq l.from sender) letters)
-
--- the texts of a task
-abbrev pub texts_in : {Q S : Type 0} → Task Q S → List (List ℕ)
-texts_in task = map string_bytes task.texts.items
 
 -- each task has the texts of its sender's letters, in their order; the tasks are those of the senders from number 1 on
 abbrev pub HaveTexts : {Q S : Type 0} → List (Task Q S) → List Outgoing → Type 0

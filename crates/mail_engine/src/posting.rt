@@ -41,7 +41,7 @@ pub fn post_text<T: Threads + Wait + Sync, R: Source, W: Sink>(
     writer: &mut W,
     kind: Kind,
 ) -> Result<(), Refusal>
-    // As many letters as were read were taken, and their text is written, and nothing else.
+    // The letters that were read were taken, each sender's in its order; their text is written, and nothing else.
     ensures ok { OnOk result (WritesLetters (ArePosted (R.remaining reader.old))
         (W.contents writer.old) (W.contents writer.new)) }
     ensures quiet { OnOk result (W.failures writer.new ≡ W.failures writer.old) }
@@ -84,11 +84,11 @@ fn post_mail<T: Threads + Wait + Sync, W: Sink>(
     kind: Kind,
 ) -> Result<(), Refusal>
     requires { IsMailInRange mail.senders (said_letters mail.letters.items) }
-    ensures ok { OnOk result (WritesLetters (AreTaken mail.senders (length mail.letters.items))
+    ensures ok { OnOk result (WritesLetters (AreTaken mail.senders (said_letters mail.letters.items))
         (W.contents writer.old) (W.contents writer.new)) }
     ensures quiet { OnOk result (W.failures writer.new ≡ W.failures writer.old) }
     ensures beginning { IfErr result (λ why. why ≡ Refusal.Write
-        → BeginsLetters (AreTaken mail.senders (length mail.letters.items))
+        → BeginsLetters (AreTaken mail.senders (said_letters mail.letters.items))
         (W.contents writer.old) (W.contents writer.new)) }
     ensures write { IfErr result (λ why. why ≡ Refusal.Write
         → GivesUp (W.failures writer.old) (W.failures writer.new) (W.is_full writer.new)) }
@@ -126,11 +126,11 @@ fn post_over<T: Threads + Wait + Sync, Q: Fifo + Sync + Drop, W: Sink>(
 ) -> Result<(), Refusal>
     requires mail { IsMailInRange mail.senders (said_letters mail.letters.items) }
     requires opened { IsOpened Q.is_seat Q.permits Q.known mail.senders queue seats.items receiver }
-    ensures ok { OnOk result (WritesLetters (AreTaken mail.senders (length mail.letters.items))
+    ensures ok { OnOk result (WritesLetters (AreTaken mail.senders (said_letters mail.letters.items))
         (W.contents writer.old) (W.contents writer.new)) }
     ensures quiet { OnOk result (W.failures writer.new ≡ W.failures writer.old) }
     ensures beginning { IfErr result (λ why. why ≡ Refusal.Write
-        → BeginsLetters (AreTaken mail.senders (length mail.letters.items))
+        → BeginsLetters (AreTaken mail.senders (said_letters mail.letters.items))
         (W.contents writer.old) (W.contents writer.new)) }
     ensures write { IfErr result (λ why. why ≡ Refusal.Write
         → GivesUp (W.failures writer.old) (W.failures writer.new) (W.is_full writer.new)) }
@@ -139,6 +139,7 @@ fn post_over<T: Threads + Wait + Sync, Q: Fifo + Sync + Drop, W: Sink>(
 {
     let (office, senders, receiver) = Office::new(alloc, queue, seats, receiver)?;
     let tasks = tasks_of(alloc, senders, mail.letters)?;
-    let (_receiver, letters) = post(rt, alloc, &office, tasks, receiver);
+    let planned = office.for_tasks(alloc, &tasks)?;
+    let (_receiver, letters) = post(rt, alloc, &planned, tasks, receiver);
     tell(letters?, writer)
 }

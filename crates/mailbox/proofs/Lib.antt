@@ -1,3 +1,6 @@
+pub mod Codes
+pub mod Plans
+pub mod Counting
 pub mod Order
 pub mod Taking
 pub mod Openings

@@ -1,17 +1,16 @@
 -- A queue gives each sender's values in the order in which that sender pushed them.
-use Rattle.std.proofs.Common.{cond, suc, ◌≡◌, ◌∙◌, sym, refl, ap, subst, ℕ, List, [], ◌∷◌, ◌++◌, length, append_assoc, nat_eq, true, false, Bool, map, arith, Some, None, Option}
+use Rattle.std.proofs.Common.{cond, suc, ◌≡◌, ◌∙◌, sym, refl, ap, subst, ℕ, List, [], ◌∷◌, ◌++◌, append_assoc, nat_eq, true, false, Bool, map, arith}
 use Rattle.std.proofs.lemmas.List.{append-nil, map-append}
 use Rattle.std.proofs.lemmas.List.Elements.{filter-append}
 use Rattle.std.proofs.lemmas.Bool.{eq-eqb}
-use Rattle.std.specs.List.{All, filter, flat_map}
-use mathlib.Core.List.{IsPrefix}
+use Rattle.std.specs.List.{All}
 use Rattle.history.specs.declared.operations.Entry.{Entry}
 use Rattle.history.specs.declared.operations.Entry.TheVariants.{Push, Pop}
 use Rattle.history.specs.declared.operations.Taken.{Taken}
 use Rattle.history.specs.declared.operations.Reply.{Reply}
 use Rattle.history.specs.declared.operations.Reply.TheVariants.{Done, Value, Empty, Refused}
-use Rattle.history.specs.Queue.{Queue, front_of, empty}
-use Rattle.history.specs.Entries.{Plays, own_entries, seat_of}
+use Rattle.history.specs.Queue.{Queue, front_of}
+use Rattle.history.specs.Entries.{Plays, own_entries}
 use Rattle.history.specs.Seats.{Permit, Known, IsSound, IsPermitted}
 use Rattle.mailbox.specs.Deliveries.{pushed, popped, bodies_from, OnlyPops, InOrder}
 

@@ -1,5 +1,5 @@
 -- What a receiver did in one call and then in another.
-use Rattle.std.proofs.Common.{◌≡◌, ◌∙◌, sym, ap, subst, true, false, inl, inr, ◌⊎◌, Option, Some, None}
+use Rattle.std.proofs.Common.{◌≡◌, ◌∙◌, sym, ap, subst, true, inl, inr, ◌⊎◌, Option, Some, None}
 use Rattle.std.proofs.lemmas.Bool.{true≢false}
 use Rattle.history.proofs.Learning.{sees_then, adds_then, empty_then}
 use Rattle.history.specs.declared.operations.Entry.TheVariants.{Pop}

@@ -1,4 +1,5 @@
 pub mod Deliveries
+pub mod Plans
 pub mod Refusals
 pub mod Offices
 pub mod Openings

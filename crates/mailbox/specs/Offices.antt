@@ -1,15 +1,18 @@
 -- What an office, its senders and its receiver do.
-use Rattle.std.specs.Prelude.{◌≡◌, ◌≤◌, ◌^◌, ℕ, List, Bool, true, false, Option, Some, None, String, string_bytes}
+use Rattle.std.specs.Prelude.{◌≡◌, ◌≤◌, ◌^◌, ℕ, List, Bool, true, false, Option, Some, None, IfSome, String, string_bytes}
 use Rattle.boxcar.specs.Table.{Shows, Where}
 use Rattle.history.specs.Limits.{body_bits}
 use Rattle.history.specs.declared.operations.Taken.{Taken}
 use Rattle.history.specs.Seats.{Permit, Known, MayPush, MayPop}
 use Rattle.history.specs.Answers.{Pushed, Popped, SeesMore, FoundEmpty}
 use Rattle.mailbox.specs.Deliveries.{OnlyPops}
+use Rattle.mailbox.specs.Plans.{Fits}
 use Rattle.mailbox.specs.declared.office.Office.{Office}
 use Rattle.mailbox.specs.declared.sender.Sender.{Sender}
 use Rattle.mailbox.specs.declared.receiver.Receiver.{Receiver}
 use Rattle.mailbox.specs.declared.receiver.Letter.{Letter}
+use Rattle.mailbox.specs.declared.parcels.Due.{Due}
+use Rattle.mailbox.specs.declared.parcels.Parcel.{Parcel}
 
 -- what the receiver knows of the queue
 abbrev pub receiver_knows : {Q S : Type 0} → (S → Known) → Receiver Q S → Known
@@ -18,6 +21,10 @@ receiver_knows known r = known r.seat
 -- whether the receiver has lost a letter
 abbrev pub has_lost : {Q S : Type 0} → Receiver Q S → Bool
 has_lost r = r.lost
+
+-- the numbers that the office's store is marked with
+abbrev pub marks : {Q S : Type 0} → Office Q S → List ℕ
+marks o = o.letters.tag
 
 -- a sender of an office: its seat is the queue's, is in no call, and may push
 pub record IsSender {Q S : Type 0} (is_seat : Q → S → Type 0) (permits : Q → List Permit) (known : S → Known) (o : Office Q S) (s : Sender Q S) : Type 0 where
@@ -40,11 +47,19 @@ pub record ShowsText {Q S T : Type 0} (bytes : T → List ℕ) (o : Office Q S) 
 
 -- the last letter that a sender stored is this text, at this index
 abbrev pub Stored : {Q S : Type 0} → Office Q S → Sender Q S → (index : ℕ) → (text : List ℕ) → Type 0
-Stored o s index text = ShowsText string_bytes o s.last index text
+Stored o s index text = ShowsText (λ (p : Parcel). string_bytes p.text) o s.last index text
 
 -- the last letter that the receiver took is this text, at this index
 abbrev pub Read : {Q S : Type 0} → Office Q S → Receiver Q S → (index : ℕ) → (text : List ℕ) → Type 0
-Read o r index text = ShowsText string_bytes o r.last index text
+Read o r index text = ShowsText (λ (p : Parcel). string_bytes p.text) o r.last index text
+
+-- what shows the last letter that the receiver took shows it in this office
+abbrev pub ShowsLast : {Q S : Type 0} → Office Q S → Receiver Q S → Type 0
+ShowsLast o r = IfSome r.last (Shows o.letters)
+
+-- the last letter that the receiver took, whatever its text is, is this one of those due
+abbrev pub LastIs : {Q S : Type 0} → Office Q S → Receiver Q S → Option Due → Type 0
+LastIs o r due = (index : ℕ) (text : List ℕ) → Read o r index text → Fits (marks o) due text
 
 -- an index, a text stored there and a text read there
 pub record TextsAt : Type 0 where

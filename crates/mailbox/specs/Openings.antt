@@ -1,5 +1,5 @@
 -- What a new office is.
-use Rattle.std.specs.Prelude.{◌≡◌, List, map, false, Option, None}
+use Rattle.std.specs.Prelude.{◌≡◌, List, map, false}
 use Rattle.history.specs.Seats.{Permit, Known, MayPush, MayPop}
 use Rattle.mailbox.specs.Deliveries.{OnlyPops}
 use Rattle.mailbox.specs.declared.office.Office.{Office}

@@ -4,6 +4,8 @@
 mod ending;
 pub mod laws;
 mod office;
+mod parcels;
+mod planning;
 mod posting;
 mod receiver;
 mod sender;

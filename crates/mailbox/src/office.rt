@@ -4,9 +4,10 @@ ghost use Rattle.std.specs.List.{All};
 ghost use Rattle.mailbox.specs.Openings.{CanSend, CanReceive, Opens};
 ghost use Rattle.mailbox.specs.Offices.{IsSender, IsReceiver, TextsAt, Stored, Read};
 
+use crate::parcels::Letters;
 use crate::receiver::Receiver;
 use crate::sender::Sender;
-use boxcar::Vec as Letters;
+use boxcar::tag::Tag;
 use history::{Fifo, Refusal};
 use std::alloc::Global;
 
@@ -14,7 +15,7 @@ use std::alloc::Global;
 #[derive(Drop)]
 pub struct Office<Q: Fifo + Drop> {
     pub(crate) queue: Q,
-    pub(crate) letters: Letters<String, Global>,
+    pub(crate) letters: Letters,
 }
 
 impl<Q: Fifo + Drop> Office<Q> {
@@ -36,7 +37,7 @@ impl<Q: Fifo + Drop> Office<Q> {
         ensures receiver { IfOk result (λ r. IsReceiver Q.is_seat Q.permits Q.known r.0 r.2) }
         ensures only_memory { IfErr result (λ why. why ≡ Refusal.Memory) }
     {
-        let Ok(letters) = Letters::new(alloc) else {
+        let Ok(letters) = Letters::with_rule(alloc, Tag::empty()) else {
             return Err(Refusal::Memory);
         };
         let mut all = Vec::new(alloc);

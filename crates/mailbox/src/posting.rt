@@ -1,13 +1,14 @@
 //! A thread for each sender, and the calling thread for the receiver.
-ghost use Rattle.std.specs.Prelude.{◌≡◌, ◌≤◌, [], length, vec_capacity, IfOk, IfErr, IfSome};
+ghost use Rattle.std.specs.Prelude.{◌≡◌, ◌≤◌, true, [], length, map, replicate, vec_capacity, IfOk, IfErr, IfSome};
 ghost use Rattle.std.specs.List.{All};
 ghost use Rattle.mailbox.specs.Deliveries.{InOrder};
-ghost use Rattle.mailbox.specs.Offices.{IsSender, IsReceiver, receiver_knows};
-ghost use Rattle.mailbox.specs.Posting.{IsTask, Delivered, letters_of};
+ghost use Rattle.mailbox.specs.Offices.{IsReceiver, receiver_knows};
+ghost use Rattle.mailbox.specs.Posting.{IsTask, IsTaskAt, IsNext, Plans, BringTexts, AreThoseDue, Delivered, letters_of, texts_in};
 ghost use Rattle.mailbox.specs.Refusals.{EndsTake, EndsPost};
 
 use crate::ending::Ended;
 use crate::office::Office;
+use crate::parcels::Due;
 use crate::receiver::{Letter, Receiver};
 use crate::sender::Sender;
 use crossbeam_utils::Backoff;
@@ -25,41 +26,49 @@ pub struct Task<Q: Fifo + Drop> {
     pub texts: Vec<String>,
 }
 
-// Sends the texts in order, up to the first refusal, and then counts the sender as ended.
+// Sends the texts of the task of this number in order, up to the first refusal, and then counts the sender as ended.
 fn send_all<R: Wait, Q: Fifo + Drop>(
     rt: &R,
     office: &Office<Q>,
+    number: usize,
     task: Task<Q>,
     ended: &AtomicUsize,
 ) -> Ended
-    requires { IsTask Q.is_seat Q.permits Q.known office.now task }
+    requires { IsTaskAt Q.is_seat Q.permits Q.known office.now number task }
 {
     let Task { mut sender, texts } = task;
     let mut end = Ended::well();
+    let mut place = 0;
     for text in texts {
-        if let Err(why) = sender.send(rt, office, text) {
+        let due = Due {
+            task: number,
+            place,
+        };
+        if let Err(why) = sender.send_due(rt, office, text, Some(due)) {
             end = Ended::refused(why);
             break;
         }
+        place += 1;
     }
     ended.fetch_add(1, Ordering::SeqCst);
     end
 }
 
-// Starts a sender's thread; none where no thread can be made, and the sender then counts as ended.
+// Starts the thread of a task's sender; none where no thread can be made, and the sender then counts as ended.
 fn start<'s, E, R: Threads + Wait + Sync, Q: Fifo + Sync + Drop>(
     scope: &Scope<'s, E>,
     rt: &'s R,
     office: &'s Office<Q>,
+    number: usize,
     task: Task<Q>,
     ended: &'s AtomicUsize,
 ) -> Option<JoinHandle<Ended>>
-    requires { IsTask Q.is_seat Q.permits Q.known office.now task }
+    requires { IsTaskAt Q.is_seat Q.permits Q.known office.now number task }
 {
     let started = scope.spawn(
         move || -> Ended
-            requires { IsTask Q.is_seat Q.permits Q.known office.now task }
-        { send_all(rt, office, task, ended) },
+            requires { IsTaskAt Q.is_seat Q.permits Q.known office.now number task }
+        { send_all(rt, office, number, task, ended) },
     );
     match started {
         Ok(handle) => Some(handle),
@@ -70,23 +79,42 @@ fn start<'s, E, R: Threads + Wait + Sync, Q: Fifo + Sync + Drop>(
     }
 }
 
-// Takes letters until so many are there, or until all senders had ended before there was none.
+// Whether a letter of this sender is the next one of its task, so many of each being there already; it is then counted. The
+// sender of task 0 is number 1, and so on.
+fn is_next(counts: &mut [usize], from: u16, due: Due) -> bool
+    ensures { result ≡ true → IsNext counts.old from due counts.new }
+{
+    let Due { task, place } = due;
+    if task >= counts.len() || usize::from(from) != task + 1 || counts[task] != place {
+        return false;
+    }
+    let Some(count) = place.checked_add(1) else {
+        return false;
+    };
+    counts[task] = count;
+    true
+}
+
+// Takes letters until so many are there, or until all senders had ended before there was none. There is a count for each
+// sender.
 fn take_all<'a, R: Wait, Q: Fifo + Drop>(
     rt: &R,
     office: &'a Office<Q>,
     receiver: &mut Receiver<Q>,
     mut letters: Vec<Letter<'a>>,
     due: usize,
-    senders: usize,
+    mut counts: Vec<usize>,
     ended: &AtomicUsize,
 ) -> Result<Vec<Letter<'a>>, Refusal>
     requires office { IsReceiver Q.is_seat Q.permits Q.known office.now receiver.old }
     requires none { letters.items ≡ [] }
     requires room { due ≤ vec_capacity letters }
+    requires zero { counts.items ≡ replicate (length counts.items) 0 }
     ensures office { IsReceiver Q.is_seat Q.permits Q.known office.now receiver.new }
     ensures order { InOrder (receiver_knows Q.known receiver.new) }
     ensures delivered { IfOk result (λ v. Delivered Q.known receiver.old v.items receiver.new) }
     ensures most { IfOk result (λ v. length v.items ≤ due) }
+    ensures texts { IfOk result (λ v. AreThoseDue office.now (length counts.items) v.items) }
     ensures why { IfErr result EndsTake }
 {
     let backoff = Backoff::new();
@@ -94,9 +122,17 @@ fn take_all<'a, R: Wait, Q: Fifo + Drop>(
         if letters.len() >= due {
             return Ok(letters);
         }
-        let all_ended = ended.load(Ordering::SeqCst) >= senders;
+        let all_ended = ended.load(Ordering::SeqCst) >= counts.len();
         match receiver.take(rt, office)? {
-            Some(letter) => letters.push_reserved(letter),
+            Some(letter) => {
+                let Some(place) = receiver.last_due(office) else {
+                    return Err(Refusal::Lost);
+                };
+                if !is_next(&mut counts, letter.from, place) {
+                    return Err(Refusal::Lost);
+                }
+                letters.push_reserved(letter);
+            }
             None if all_ended => return Ok(letters),
             None => backoff.snooze(),
         }
@@ -143,11 +179,13 @@ fn run<'s, 'a: 's, E, R: Threads + Wait + Sync, Q: Fifo + Sync + Drop>(
     ended: &'s AtomicUsize,
 ) -> Result<Vec<Letter<'a>>, Refusal>
     requires tasks { All (IsTask Q.is_seat Q.permits Q.known office.now) tasks.items }
+    requires plan { Plans office.now tasks.items }
     requires receiver { IsReceiver Q.is_seat Q.permits Q.known office.now receiver.old }
     ensures receiver { IsReceiver Q.is_seat Q.permits Q.known office.now receiver.new }
     ensures order { InOrder (receiver_knows Q.known receiver.new) }
     ensures delivered { IfOk result (λ v. Delivered Q.known receiver.old v.items receiver.new) }
     ensures all { IfOk result (λ v. length v.items ≡ letters_of tasks.items) }
+    ensures texts { IfOk result (λ v. BringTexts (map texts_in tasks.items) v.items) }
     ensures why { IfErr result EndsPost }
 {
     let senders = tasks.len();
@@ -158,14 +196,18 @@ fn run<'s, 'a: 's, E, R: Threads + Wait + Sync, Q: Fifo + Sync + Drop>(
     let Ok(()) = letters.reserve(due) else {
         return Err(Refusal::Memory);
     };
+    let Ok(counts) = vec![in alloc; 0usize; senders] else {
+        return Err(Refusal::Memory);
+    };
     let mut threads = Vec::new(alloc);
     let Ok(()) = threads.reserve(senders) else {
         return Err(Refusal::Memory);
     };
     for task in tasks {
-        threads.push_reserved(start(scope, rt, office, task, ended));
+        let number = threads.len();
+        threads.push_reserved(start(scope, rt, office, number, task, ended));
     }
-    let taken = take_all(rt, office, receiver, letters, due, senders, ended);
+    let taken = take_all(rt, office, receiver, letters, due, counts, ended);
     let refused = join_all(rt, threads);
     let letters = taken?;
     if letters.len() < due {
@@ -176,10 +218,11 @@ fn run<'s, 'a: 's, E, R: Threads + Wait + Sync, Q: Fifo + Sync + Drop>(
 
 /// Sends the letters of each task in a thread of its own, and takes them in the calling thread. The receiver comes back.
 ///
-/// The letters come in the order in which they were taken. A sender ends at its first refusal. Refusals: `Memory`, before
-/// any thread, where there is no room for the letters and threads; then that of a take; else, where letters are missing,
-/// the refusal of the first task whose sender was refused (`Memory` where its thread could not be made); else `Lost`.
-/// Takes memory for the letters and the threads, and waits for all of them.
+/// The office was made for these tasks, by `Office::for_tasks`, and their seats are numbered from 1 on, in order. The letters
+/// come in the order in which they were taken. A sender ends at its first refusal. Refusals: `Memory`, before any thread,
+/// where there is no room for the letters and threads; then that of a take, or `Lost` where a letter isn't the next one of
+/// its sender's; else, where letters are missing, the refusal of the first task whose sender was refused (`Memory` where its
+/// thread could not be made); else `Lost`. Takes memory for the letters and the threads, and waits for all of them.
 pub fn post<'a, R: Threads + Wait + Sync, Q: Fifo + Sync + Drop>(
     rt: &R,
     alloc: Global,
@@ -188,11 +231,13 @@ pub fn post<'a, R: Threads + Wait + Sync, Q: Fifo + Sync + Drop>(
     receiver: Receiver<Q>,
 ) -> (Receiver<Q>, Result<Vec<Letter<'a>>, Refusal>)
     requires tasks { All (IsTask Q.is_seat Q.permits Q.known office.now) tasks.items }
+    requires plan { Plans office.now tasks.items }
     requires receiver { IsReceiver Q.is_seat Q.permits Q.known office.now receiver }
     ensures receiver { IsReceiver Q.is_seat Q.permits Q.known office.now result.0 }
     ensures order { InOrder (receiver_knows Q.known result.0) }
     ensures delivered { IfOk result.1 (λ v. Delivered Q.known receiver v.items result.0) }
     ensures all { IfOk result.1 (λ v. length v.items ≡ letters_of tasks.items) }
+    ensures texts { IfOk result.1 (λ v. BringTexts (map texts_in tasks.items) v.items) }
     ensures why { IfErr result.1 EndsPost }
 {
     let counter = AtomicUsize::new(0);
@@ -202,11 +247,13 @@ pub fn post<'a, R: Threads + Wait + Sync, Q: Fifo + Sync + Drop>(
         rt,
         |scope| -> (Receiver<Q>, Result<Vec<Letter>, Refusal>)
             requires tasks { All (IsTask Q.is_seat Q.permits Q.known office.now) tasks.items }
+            requires plan { Plans office.now tasks.items }
             requires receiver { IsReceiver Q.is_seat Q.permits Q.known office.now receiver }
             ensures receiver { IsReceiver Q.is_seat Q.permits Q.known office.entry.now result.0 }
             ensures order { InOrder (receiver_knows Q.known result.0) }
             ensures delivered { IfOk result.1 (λ v. Delivered Q.known receiver v.items result.0) }
             ensures all { IfOk result.1 (λ v. length v.items ≡ letters_of tasks.items) }
+            ensures texts { IfOk result.1 (λ v. BringTexts (map texts_in tasks.items) v.items) }
             ensures why { IfErr result.1 EndsPost }
         {
             let mut receiver = receiver;

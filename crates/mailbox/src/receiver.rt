@@ -2,12 +2,12 @@
 ghost use Rattle.std.specs.Prelude.{◌≡◌, ◌≤◌, ◌≢◌, true, Err, IfErr, IfOk};
 ghost use Rattle.history.specs.declared.refusals.Refusal.TheVariants.{Lost};
 ghost use Rattle.mailbox.specs.Deliveries.{InOrder};
-ghost use Rattle.mailbox.specs.Offices.{IsReceiver, receiver_knows, has_lost};
+ghost use Rattle.mailbox.specs.Offices.{IsReceiver, receiver_knows, has_lost, ShowsLast, LastIs};
 ghost use Rattle.mailbox.specs.Offices.{TakeAnswers, TookNothing, Loses};
 ghost use Rattle.mailbox.specs.Refusals.{StopsTake, EndsTake};
 
 use crate::office::Office;
-use boxcar::Pushed;
+use crate::parcels::{Due, Shown, parcel_at};
 use crossbeam_utils::Backoff;
 use history::{Fifo, Refusal};
 use std::sync::Wait;
@@ -26,7 +26,7 @@ pub struct Letter<'a> {
 #[derive(Drop)]
 pub struct Receiver<Q: Fifo + Drop> {
     pub(crate) seat: Q::Seat,
-    pub(crate) last: Option<Pushed<String>>,
+    pub(crate) last: Option<Shown>,
     pub(crate) lost: bool,
 }
 
@@ -61,11 +61,11 @@ impl<Q: Fifo + Drop> Receiver<Q> {
             self.lost = true;
             return Err(Refusal::Lost);
         };
-        let text = office.letters.value(&shown);
+        let parcel = parcel_at(&office.letters, &shown);
         self.last = Some(shown);
         Ok(Some(Letter {
             from: value.from,
-            text: text.as_str(),
+            text: parcel.text.as_str(),
         }))
     }
 
@@ -95,5 +95,16 @@ impl<Q: Fifo + Drop> Receiver<Q> {
             }
         }
         unreachable!()
+    }
+
+    /// Which of the texts due the letter is that was taken last; none where it is of no task.
+    pub(crate) fn last_due(&self, office: &Office<Q>) -> Option<Due>
+        requires shown { ShowsLast office.now self.now }
+        ensures { LastIs office.now self.now result }
+    {
+        match &self.last {
+            Some(shown) => parcel_at(&office.letters, shown).due,
+            None => None,
+        }
     }
 }

@@ -2,10 +2,11 @@
 ghost use Rattle.std.specs.Prelude.{◌≡◌, ◌≤◌, Err, OnOk, OnErr, IfOk, IfErr, string_bytes};
 ghost use Rattle.history.specs.declared.refusals.Refusal.TheVariants.{Memory, BadSize};
 ghost use Rattle.mailbox.specs.Refusals.{StopsStore, StopsSend, EndsSend};
-ghost use Rattle.mailbox.specs.Offices.{IsSender, Stored, Sent, SentNothing, HasNoBody};
+ghost use Rattle.mailbox.specs.Plans.{Fits};
+ghost use Rattle.mailbox.specs.Offices.{IsSender, marks, Stored, Sent, SentNothing, HasNoBody};
 
 use crate::office::Office;
-use boxcar::Pushed;
+use crate::parcels::{Due, Parcel, Shown};
 use history::{Body, Fifo, Refusal};
 use std::sync::Wait;
 
@@ -13,19 +14,26 @@ use std::sync::Wait;
 #[derive(Drop)]
 pub struct Sender<Q: Fifo + Drop> {
     pub(crate) seat: Q::Seat,
-    pub(crate) last: Option<Pushed<String>>,
+    pub(crate) last: Option<Shown>,
 }
 
 impl<Q: Fifo + Drop> Sender<Q> {
-    // Stores a letter; its index as a body.
-    fn store<R: Wait>(&mut self, rt: &R, office: &Office<Q>, text: String) -> Result<Body, Refusal>
+    // Stores a letter, which may be one of those due; its index as a body.
+    fn store<R: Wait>(
+        &mut self,
+        rt: &R,
+        office: &Office<Q>,
+        text: String,
+        due: Option<Due>,
+    ) -> Result<Body, Refusal>
+        requires { Fits (marks office.now) due (string_bytes text) }
         ensures seat { self.new.seat ≡ self.old.seat }
         ensures stored { IfOk result (λ body. Stored office.now self.new body (string_bytes text)) }
         ensures memory { result ≡ Err Memory → self.new ≡ self.old }
         ensures no_body { result ≡ Err BadSize → HasNoBody office.now self.old self.new text }
         ensures why { IfErr result StopsStore }
     {
-        let Ok(pushed) = office.letters.push_shown(rt, text) else {
+        let Ok(pushed) = office.letters.push_shown(rt, Parcel { due, text }) else {
             return Err(Refusal::Memory);
         };
         let index = pushed.index() as u64;
@@ -57,7 +65,7 @@ impl<Q: Fifo + Drop> Sender<Q> {
         ensures no_body { result ≡ Err BadSize → HasNoBody office.now self.old self.new text }
         ensures why { IfErr result StopsSend }
     {
-        let body = self.store(rt, office, text)?;
+        let body = self.store(rt, office, text, None)?;
         office.queue.try_push(&mut self.seat, body, turns)
     }
 
@@ -73,7 +81,27 @@ impl<Q: Fifo + Drop> Sender<Q> {
         ensures no_body { result ≡ Err BadSize → HasNoBody office.now self.old self.new text }
         ensures why { IfErr result EndsSend }
     {
-        let body = self.store(rt, office, text)?;
+        self.send_due(rt, office, text, None)
+    }
+
+    /// As `send`, of a letter that may be one of those due.
+    pub(crate) fn send_due<R: Wait>(
+        &mut self,
+        rt: &R,
+        office: &Office<Q>,
+        text: String,
+        due: Option<Due>,
+    ) -> Result<(), Refusal>
+        requires office { IsSender Q.is_seat Q.permits Q.known office.now self.old }
+        requires due { Fits (marks office.now) due (string_bytes text) }
+        ensures office { IsSender Q.is_seat Q.permits Q.known office.now self.new }
+        ensures sent { OnOk result (Sent Q.known office.now self.old self.new text) }
+        ensures refused { OnErr result (SentNothing Q.known self.old self.new) }
+        ensures memory { result ≡ Err Memory → self.new ≡ self.old }
+        ensures no_body { result ≡ Err BadSize → HasNoBody office.now self.old self.new text }
+        ensures why { IfErr result EndsSend }
+    {
+        let body = self.store(rt, office, text, due)?;
         office.queue.push(rt, &mut self.seat, body)
     }
 }

@@ -94,8 +94,9 @@ pub fn posted<R: Threads + Wait + Clock + Sync, Q: Fifo + Sync + Drop>(
 {
     let (office, senders, receiver) = Office::new(alloc, queue, seats, receiver)?;
     let tasks = tasks(alloc, senders, load)?;
+    let planned = office.for_tasks(alloc, &tasks)?;
     let start = Instant::now(rt);
-    let (_receiver, letters) = post(rt, alloc, &office, tasks, receiver);
+    let (_receiver, letters) = post(rt, alloc, &planned, tasks, receiver);
     let time = match start {
         Ok(start) => start.elapsed(rt).ok(),
         Err(_) => None,

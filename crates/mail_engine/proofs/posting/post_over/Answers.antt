@@ -1,7 +1,9 @@
 use Rattle.std.proofs.Common.{arith, ◌≡◌, ◌∙◌, sym, ap, length}
 use Rattle.std.proofs.lemmas.List.{length-map}
 use Rattle.std.proofs.lemmas.Result.{on_ok_weaker, IfErr-weaker}
-use Rattle.mail_text.specs.MailTexts.{said_letter, IsLetter, IsLetterInRange}
+use Rattle.mailbox.proofs.Plans.{receiver_of-same}
+use Rattle.mail_engine.proofs.Brought.{brought}
+use Rattle.mail_text.specs.MailTexts.{said_letter, said_letters, IsLetter, IsLetterInRange}
 use Rattle.mail_engine.proofs.Tasks.{all_before-map, tasks_of-senders}
 use Rattle.mail_engine.proofs.Told.{writes_taken, begins_taken}
 use Rattle.mail_engine.proofs.Within.{senders_within}
@@ -17,31 +19,40 @@ tasks_of-requires-after_bounds g c κs within = λ k d short.
     let high = is.1.0.1 in
     (low, omega (arith, high, a, b, e))
 
-pub post-receiver-requires-clause-tasks : goal.post-receiver-requires-clause-tasks
-post-receiver-requires-clause-tasks g c κs within =
+pub for_tasks-requires-after_bounds : goal.for_tasks-requires-after_bounds
+for_tasks-requires-after_bounds g c κs within =
     tasks_of-senders g.Q.Fifo.is_seat g.Q.Fifo.permits g.Q.Fifo.known c.in_ok-office.office c.in_ok-office.senders.items c.in_ok-tasks.tasks.items
     c.in_ok-tasks.ensures.senders c.in_ok-office.ensures.each
+
+pub post-receiver-requires-clause-receiver : goal.post-receiver-requires-clause-receiver
+post-receiver-requires-clause-receiver g c κs within =
+    receiver_of-same g.Q.Fifo.is_seat g.Q.Fifo.permits g.Q.Fifo.known c.in_ok-office.office c.in_ok-planned.planned c.in_ok-planned.ensures.queue
+    c.in_ok-office.receiver c.in_ok-office.ensures.receiver
 
 pub returns-clause-ok : goal.returns-clause-ok
 returns-clause-ok g c =
     let told = rw c.in_ok-letters.was at c.post-receiver.ensures.delivered in
-    let all = rw c.in_ok-letters.was at c.post-receiver.ensures.all in
-    let row = ap g.Q.Fifo.permits c.in_ok-office.ensures.opens.queue_is ∙ c.requires.opened.permitted in
+    let row = ap g.Q.Fifo.permits (c.in_ok-planned.ensures.queue ∙ c.in_ok-office.ensures.opens.queue_is) ∙ c.requires.opened.permitted in
+    let count = (rw c.in_ok-letters.was at c.post-receiver.ensures.all) ∙ c.in_ok-tasks.ensures.all ∙ sym (length-map c.args.mail.letters.items said_letter) in
+    let many = sym (length-map c.in_ok-tasks.tasks.items (λ t. t.sender)) ∙ ap length c.in_ok-tasks.ensures.senders ∙ sym (length-map c.in_ok-office.senders.items (λ s. s.seat)) ∙ ap length c.in_ok-office.ensures.opens.senders ∙ c.requires.opened.count in
+    let texts = brought c.args.mail.senders c.in_ok-tasks.tasks.items c.args.mail.letters.items c.in_ok-letters.field-0.items many c.in_ok-tasks.ensures.texts (rw c.in_ok-letters.was at c.post-receiver.ensures.texts) in
     let here = g.met.Q.Fifo g.world.𝓛 g.world.𝓜 g.world.𝓡 ((λ s x. x), (λ x. x), (λ x. x), λ x. x) in
-    let from = senders_within (g.Q.Fifo.permits c.in_ok-office.office.queue) g.Q.Fifo.known c.args.mail.senders c.in_ok-office.receiver
+    let from = senders_within (g.Q.Fifo.permits c.in_ok-planned.planned.queue) g.Q.Fifo.known c.args.mail.senders c.in_ok-office.receiver
     c.in_ok-letters.field-0.items c.post-receiver.result.0 row (here.sound _ _ c.post-receiver.ensures.receiver.seat) told in
     on_ok_weaker c.tell.result
-    (λ w. writes_taken c.args.mail.senders (length c.args.mail.letters.items) c.in_ok-letters.field-0.items (all ∙ c.in_ok-tasks.ensures.all) from _ _ w)
+    (λ w. writes_taken c.args.mail.senders (said_letters c.args.mail.letters.items) c.in_ok-letters.field-0.items count from texts _ _ w)
     c.tell.ensures.ok
 
 pub returns-clause-beginning : goal.returns-clause-beginning
 returns-clause-beginning g c =
     let told = rw c.in_ok-letters.was at c.post-receiver.ensures.delivered in
-    let all = rw c.in_ok-letters.was at c.post-receiver.ensures.all in
-    let row = ap g.Q.Fifo.permits c.in_ok-office.ensures.opens.queue_is ∙ c.requires.opened.permitted in
+    let row = ap g.Q.Fifo.permits (c.in_ok-planned.ensures.queue ∙ c.in_ok-office.ensures.opens.queue_is) ∙ c.requires.opened.permitted in
+    let count = (rw c.in_ok-letters.was at c.post-receiver.ensures.all) ∙ c.in_ok-tasks.ensures.all ∙ sym (length-map c.args.mail.letters.items said_letter) in
+    let many = sym (length-map c.in_ok-tasks.tasks.items (λ t. t.sender)) ∙ ap length c.in_ok-tasks.ensures.senders ∙ sym (length-map c.in_ok-office.senders.items (λ s. s.seat)) ∙ ap length c.in_ok-office.ensures.opens.senders ∙ c.requires.opened.count in
+    let texts = brought c.args.mail.senders c.in_ok-tasks.tasks.items c.args.mail.letters.items c.in_ok-letters.field-0.items many c.in_ok-tasks.ensures.texts (rw c.in_ok-letters.was at c.post-receiver.ensures.texts) in
     let here = g.met.Q.Fifo g.world.𝓛 g.world.𝓜 g.world.𝓡 ((λ s x. x), (λ x. x), (λ x. x), λ x. x) in
-    let from = senders_within (g.Q.Fifo.permits c.in_ok-office.office.queue) g.Q.Fifo.known c.args.mail.senders c.in_ok-office.receiver
+    let from = senders_within (g.Q.Fifo.permits c.in_ok-planned.planned.queue) g.Q.Fifo.known c.args.mail.senders c.in_ok-office.receiver
     c.in_ok-letters.field-0.items c.post-receiver.result.0 row (here.sound _ _ c.post-receiver.ensures.receiver.seat) told in
     IfErr-weaker c.tell.result _ _
-    (λ why h e. begins_taken c.args.mail.senders (length c.args.mail.letters.items) c.in_ok-letters.field-0.items (all ∙ c.in_ok-tasks.ensures.all) from _ _ (h e))
+    (λ why h e. begins_taken c.args.mail.senders (said_letters c.args.mail.letters.items) c.in_ok-letters.field-0.items count from texts _ _ (h e))
     c.tell.ensures.beginning

@@ -27,7 +27,7 @@ returns-clause-answer g c = record {
     is = refl;
     here = c.in-Some-witness.ensures.0;
     at = c.in-Some-witness.ensures.1 ∙ c.number.ensures.value;
-    reads = ap string_bytes (sym c.value-text.ensures) ∙ sym c.as_str.ensures.value;
+    reads = ap (λ p. string_bytes p.text) (sym c.parcel_at-parcel.ensures.value) ∙ sym c.as_str.ensures.value;
   };
   kept = c.if-self.false;
 }

@@ -7,7 +7,7 @@ returns-in-Some-clause-stored g c = record {
   is = refl;
   here = c.in-Ok.ensures.0.0;
   at = sym c.index-index.ensures ∙ sym c.in-Some.ensures.value;
-  reads = ap string_bytes c.in-Ok.ensures.0.1;
+  reads = ap (λ p. string_bytes p.text) c.in-Ok.ensures.0.1;
 }
 
 pub returns-in-None-clause-no_body : goal.returns-in-None-clause-no_body
@@ -20,6 +20,6 @@ returns-in-None-clause-no_body g c _ = record {
     is = refl;
     here = c.in-Ok.ensures.0.0;
     at = sym c.index-index.ensures;
-    reads = ap string_bytes c.in-Ok.ensures.0.1;
+    reads = ap (λ p. string_bytes p.text) c.in-Ok.ensures.0.1;
   };
 }

@@ -1,0 +1,39 @@
+//! The texts that are due, fixed before the first letter is sent.
+ghost use Rattle.std.specs.Prelude.{◌≡◌, map, IfOk, IfErr};
+ghost use Rattle.std.specs.List.{All};
+ghost use Rattle.mailbox.specs.Plans.{plan_numbers};
+ghost use Rattle.mailbox.specs.Posting.{IsTask, Plans, HasQueueOf, texts_in};
+
+use crate::office::Office;
+use crate::parcels::Letters;
+use crate::posting::Task;
+use boxcar::tag::{Names, Tag};
+use history::{Fifo, Refusal};
+use std::alloc::Global;
+
+// How a store is marked with the texts of tasks.
+pub(crate) struct TextsOf;
+
+impl<Q: Fifo + Drop> Names<Vec<Task<Q>>> for TextsOf {
+    ghost numbers = { λ tasks. plan_numbers (map texts_in tasks.items) };
+}
+
+impl<Q: Fifo + Drop> Office<Q> {
+    /// The same office where the texts of these tasks are due, so that `post` can send them. Letters sent before are given
+    /// up.
+    ///
+    /// Refused by `Memory` alone; the office is then given up. Takes memory for a table of letters, and doesn't wait.
+    pub fn for_tasks(self, alloc: Global, tasks: &Vec<Task<Q>>) -> Result<Office<Q>, Refusal>
+        requires { All (IsTask Q.is_seat Q.permits Q.known self) tasks.now.items }
+        ensures queue { IfOk result (λ o. HasQueueOf self o) }
+        ensures tasks { IfOk result (λ o. All (IsTask Q.is_seat Q.permits Q.known o) tasks.now.items) }
+        ensures plan { IfOk result (λ o. Plans o tasks.now.items) }
+        ensures only_memory { IfErr result (λ why. why ≡ Refusal.Memory) }
+    {
+        let Office { queue, letters: _ } = self;
+        match Letters::with_rule(alloc, Tag::of::<Vec<Task<Q>>, TextsOf>(tasks)) {
+            Ok(letters) => Ok(Office { queue, letters }),
+            Err(_) => Err(Refusal::Memory),
+        }
+    }
+}
