@@ -1,4 +1,5 @@
 //! Words, lines, devices, verdicts, tables and texts, each against what was typed from outside.
+mod comparing;
 mod devices;
 mod histories;
 mod jobs;

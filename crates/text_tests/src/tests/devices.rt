@@ -1,4 +1,5 @@
 //! What no clause says: the texts as they stand in a file, the messages, and calls that succeed.
+use crate::tests::comparing::same;
 use history::{
     Body, Op, ReaderSource, Refusal, Reply, Script, Sink, Source, Stamped, Taken, TextCause,
     Trouble, WornWord, WriterSink, print_history,
@@ -54,12 +55,13 @@ fn dequeue(at: Option<u64>, reply: Option<Reply>) -> Stamped {
 fn prints_two_operations_in_pieces_of_any_size(rt: HostRuntime) -> Result<(), Fail> {
     for piece in [1, 7, 4096] {
         let mut writer = Script::writer(rt.alloc(), 1000, piece)?;
-        assert_eq!(rt;
+        same(
+            &rt,
             print_history(&two_operations()?, &mut writer),
             Ok(()),
-            "by {piece}"
+            piece,
         );
-        assert_eq!(rt; writer.written(), TWO, "by {piece}");
+        same(&rt, writer.written(), TWO, piece);
     }
     Ok(())
 }
@@ -101,11 +103,13 @@ fn prints_each_reply(rt: HostRuntime) -> Result<(), Fail> {
         text.extend_from_slice(*words)?;
         text.push(b'\n')?;
         let mut writer = Script::writer(rt.alloc(), 1000, 1000)?;
-        assert_eq!(rt;
+        same(
+            &rt,
             print_history(&[dequeue(Some(9), *reply)], &mut writer),
-            Ok(())
+            Ok(()),
+            "",
         );
-        assert_eq!(rt; writer.written(), text.as_slice());
+        same(&rt, writer.written(), text.as_slice(), "");
     }
     Ok(())
 }
@@ -113,10 +117,10 @@ fn prints_each_reply(rt: HostRuntime) -> Result<(), Fail> {
 #[test]
 fn prints_no_operations(rt: HostRuntime) -> Result<(), Fail> {
     let mut writer = WriterSink::new(Vec::new(rt.alloc()));
-    assert_eq!(rt; print_history(&[], &mut writer), Ok(()));
+    same(&rt, print_history(&[], &mut writer), Ok(()), "");
     let mut writer = Script::writer(rt.alloc(), 1000, 1000)?;
-    assert_eq!(rt; print_history(&[], &mut writer), Ok(()));
-    assert_eq!(rt; writer.written(), b"history 0\n".as_slice());
+    same(&rt, print_history(&[], &mut writer), Ok(()), "");
+    same(&rt, writer.written(), b"history 0\n".as_slice(), "");
     Ok(())
 }
 
@@ -127,10 +131,10 @@ fn stops_at_a_call_that_fails_or_takes_nothing(rt: HostRuntime) -> Result<(), Fa
         for call in 1..=11u64 {
             let mut writer = Script::writer(rt.alloc(), 1000, 9)?.with(trouble, call);
             let answer = print_history(&history, &mut writer);
-            assert_eq!(rt; answer, Err(Refusal::Write), "at call {call}");
+            same(&rt, answer, Err(Refusal::Write), call);
             let count = (call as usize - 1) * 9;
             assert!(rt; count <= TWO.len());
-            assert_eq!(rt; writer.written(), &TWO[..count], "at call {call}");
+            same(&rt, writer.written(), &TWO[..count], call);
         }
     }
     Ok(())
@@ -140,14 +144,14 @@ fn stops_at_a_call_that_fails_or_takes_nothing(rt: HostRuntime) -> Result<(), Fa
 fn a_script_gives_its_bytes_in_pieces(rt: HostRuntime) -> Result<(), Fail> {
     let mut reader = Script::reader(rt.alloc(), b"abcde", 2)?.with(Trouble::Failure, 2);
     let mut into = [0u8; 3];
-    assert_eq!(rt; reader.read(&mut into)?, 2);
-    assert_eq!(rt; into, *b"ab\0");
+    same(&rt, reader.read(&mut into)?, 2, "");
+    same(&rt, into, *b"ab\0", "");
     assert!(rt; reader.read(&mut into).is_err());
-    assert_eq!(rt; reader.left(), b"cde".as_slice());
-    assert_eq!(rt; reader.read(&mut into)?, 2);
-    assert_eq!(rt; reader.read(&mut into)?, 1);
-    assert_eq!(rt; into, *b"ed\0");
-    assert_eq!(rt; reader.read(&mut into)?, 0);
+    same(&rt, reader.left(), b"cde".as_slice(), "");
+    same(&rt, reader.read(&mut into)?, 2, "");
+    same(&rt, reader.read(&mut into)?, 1, "");
+    same(&rt, into, *b"ed\0", "");
+    same(&rt, reader.read(&mut into)?, 0, "");
     Ok(())
 }
 
@@ -155,13 +159,13 @@ fn a_script_gives_its_bytes_in_pieces(rt: HostRuntime) -> Result<(), Fail> {
 fn a_reader_source_fails_past_its_limit(rt: HostRuntime) -> Result<(), Fail> {
     let mut source = ReaderSource::limited(b"abcde".as_slice(), 4);
     let mut into = [0u8; 3];
-    assert_eq!(rt; source.read(&mut into)?, 3);
-    assert_eq!(rt; source.read(&mut into)?, 1);
-    assert_eq!(rt; into, *b"dbc");
+    same(&rt, source.read(&mut into)?, 3, "");
+    same(&rt, source.read(&mut into)?, 1, "");
+    same(&rt, into, *b"dbc", "");
     assert!(rt; source.read(&mut into).is_err());
     let mut source = ReaderSource::new(b"abc".as_slice());
-    assert_eq!(rt; source.read(&mut into)?, 3);
-    assert_eq!(rt; source.read(&mut into)?, 0);
+    same(&rt, source.read(&mut into)?, 3, "");
+    same(&rt, source.read(&mut into)?, 0, "");
     Ok(())
 }
 
@@ -169,50 +173,52 @@ fn a_reader_source_fails_past_its_limit(rt: HostRuntime) -> Result<(), Fail> {
 fn a_writer_sink_hands_its_bytes_on(rt: HostRuntime) -> Result<(), Fail> {
     let mut bytes = Vec::new(rt.alloc());
     let mut sink = WriterSink::new(&mut bytes);
-    assert_eq!(rt; sink.write(b"ab")?, 2);
-    assert_eq!(rt; sink.write(b"c")?, 1);
-    assert_eq!(rt; bytes.as_slice(), b"abc".as_slice());
+    same(&rt, sink.write(b"ab")?, 2, "");
+    same(&rt, sink.write(b"c")?, 1, "");
+    same(&rt, bytes.as_slice(), b"abc".as_slice(), "");
     Ok(())
 }
 
+/// Each refusal, with its line.
+const LINES: [(Refusal, &str); 22] = [
+    (Refusal::NoNode, "fault 1 NoNode"),
+    (Refusal::WornOut(WornWord::Free), "fault 2 WornOut Free"),
+    (Refusal::WornOut(WornWord::Next), "fault 2 WornOut Next"),
+    (Refusal::WornOut(WornWord::Tail), "fault 2 WornOut Tail"),
+    (Refusal::WornOut(WornWord::Head), "fault 2 WornOut Head"),
+    (Refusal::Busy, "fault 3 Busy"),
+    (Refusal::Memory, "fault 4 Memory"),
+    (Refusal::BadSize, "fault 5 BadSize"),
+    (Refusal::IdleActor, "fault 6 IdleActor"),
+    (Refusal::ActorBusy, "fault 7 ActorBusy"),
+    (Refusal::NotHere, "fault 8 NotHere"),
+    (Refusal::NoSuchActor, "fault 9 NoSuchActor"),
+    (Refusal::Text(8, TextCause::End), "fault 10 Text line 8 End"),
+    (
+        Refusal::Text(8, TextCause::Form),
+        "fault 10 Text line 8 Form",
+    ),
+    (
+        Refusal::Text(8, TextCause::Range),
+        "fault 10 Text line 8 Range",
+    ),
+    (
+        Refusal::Text(8, TextCause::Extra),
+        "fault 10 Text line 8 Extra",
+    ),
+    (Refusal::Read, "fault 11 Read"),
+    (Refusal::Write, "fault 12 Write"),
+    (Refusal::Stranger, "fault 13 Stranger"),
+    (Refusal::Double, "fault 14 Double"),
+    (Refusal::Lost, "fault 15 Lost"),
+    (Refusal::Closed, "fault 16 Closed"),
+];
+
 #[test]
 fn each_refusal_has_its_line(rt: HostRuntime) -> Result<(), Fail> {
-    let rows = [
-        (Refusal::NoNode, "fault 1 NoNode"),
-        (Refusal::WornOut(WornWord::Free), "fault 2 WornOut Free"),
-        (Refusal::WornOut(WornWord::Next), "fault 2 WornOut Next"),
-        (Refusal::WornOut(WornWord::Tail), "fault 2 WornOut Tail"),
-        (Refusal::WornOut(WornWord::Head), "fault 2 WornOut Head"),
-        (Refusal::Busy, "fault 3 Busy"),
-        (Refusal::Memory, "fault 4 Memory"),
-        (Refusal::BadSize, "fault 5 BadSize"),
-        (Refusal::IdleActor, "fault 6 IdleActor"),
-        (Refusal::ActorBusy, "fault 7 ActorBusy"),
-        (Refusal::NotHere, "fault 8 NotHere"),
-        (Refusal::NoSuchActor, "fault 9 NoSuchActor"),
-        (Refusal::Text(8, TextCause::End), "fault 10 Text line 8 End"),
-        (
-            Refusal::Text(8, TextCause::Form),
-            "fault 10 Text line 8 Form",
-        ),
-        (
-            Refusal::Text(8, TextCause::Range),
-            "fault 10 Text line 8 Range",
-        ),
-        (
-            Refusal::Text(8, TextCause::Extra),
-            "fault 10 Text line 8 Extra",
-        ),
-        (Refusal::Read, "fault 11 Read"),
-        (Refusal::Write, "fault 12 Write"),
-        (Refusal::Stranger, "fault 13 Stranger"),
-        (Refusal::Double, "fault 14 Double"),
-        (Refusal::Lost, "fault 15 Lost"),
-        (Refusal::Closed, "fault 16 Closed"),
-    ];
-    for (refusal, line) in &rows {
+    for (refusal, line) in &LINES {
         let text = format!(in rt.alloc(); "{refusal}")?;
-        assert_eq!(rt; text.as_str(), *line);
+        same(&rt, text.as_str(), *line, "");
     }
     Ok(())
 }

@@ -1,4 +1,5 @@
 //! What no clause says: that texts are read where memory is there, and the faults of known texts.
+use crate::tests::comparing::same;
 use history::{
     Body, Op, Refusal, Reply, Script, Stamped, Taken, TextCause, parse_history, print_history,
 };
@@ -30,9 +31,11 @@ fn reads_two_operations(rt: HostRuntime) -> Result<(), Fail> {
         from: 1,
         body: five,
     });
-    assert_eq!(rt;
+    same(
+        &rt,
         (read.len(), pushed, taken),
-        (2, Some((Op::Enq(five), Some(8))), Some(Some(value)))
+        (2, Some((Op::Enq(five), Some(8))), Some(Some(value))),
+        "",
     );
     Ok(())
 }
@@ -43,7 +46,7 @@ fn prints_what_it_read(rt: HostRuntime) -> Result<(), Fail> {
         let read = parse_history(rt.alloc(), text)?;
         let mut writer = Script::writer(rt.alloc(), 1000, 7)?;
         print_history(read.as_slice(), &mut writer)?;
-        assert_eq!(rt; writer.written(), text);
+        same(&rt, writer.written(), text, "");
     }
     Ok(())
 }
@@ -54,11 +57,7 @@ fn tells_the_end_of_each_cut_text(rt: HostRuntime) {
         let mut number = 1;
         for (cut, byte) in text.iter().enumerate() {
             let fault = parse_history(rt.alloc(), &text[..cut]).err();
-            assert_eq!(rt;
-                fault,
-                Some(Refusal::Text(number, TextCause::End)),
-                "before {cut}"
-            );
+            same(&rt, fault, Some(Refusal::Text(number, TextCause::End)), cut);
             if *byte == 10 && number < 9 {
                 number += 1;
             }
@@ -70,21 +69,29 @@ fn refusal_of(alloc: Global, text: &[u8]) -> Option<Refusal> {
     parse_history(alloc, text).err()
 }
 
+/// Texts that are faulty from their first line on: the line, and for what.
+const FIRST_LINES: [(&[u8], u64, TextCause); 9] = [
+    (b"", 1, TextCause::End),
+    (b"history 1000001\n", 1, TextCause::Range),
+    (b"history 00\n", 1, TextCause::Form),
+    (b"history  0\n", 1, TextCause::Form),
+    (b"history 0\r\n", 1, TextCause::Form),
+    (b"History 0\n", 1, TextCause::Form),
+    (b"history +0\n", 1, TextCause::Form),
+    (b"history 0\n\n", 2, TextCause::Extra),
+    (b"history 0\nx", 2, TextCause::Extra),
+];
+
 #[test]
 fn tells_what_is_wrong_with_the_first_line(rt: HostRuntime) {
-    for (text, number, cause) in [
-        (b"".as_slice(), 1, TextCause::End),
-        (b"history 1000001\n", 1, TextCause::Range),
-        (b"history 00\n", 1, TextCause::Form),
-        (b"history  0\n", 1, TextCause::Form),
-        (b"history 0\r\n", 1, TextCause::Form),
-        (b"History 0\n", 1, TextCause::Form),
-        (b"history +0\n", 1, TextCause::Form),
-        (b"history 0\n\n", 2, TextCause::Extra),
-        (b"history 0\nx", 2, TextCause::Extra),
-    ] {
-        let want = Some(Refusal::Text(number, cause));
-        assert_eq!(rt; refusal_of(rt.alloc(), text), want, "{number} {cause}");
+    for (text, number, cause) in &FIRST_LINES {
+        let want = Some(Refusal::Text(*number, *cause));
+        same(
+            &rt,
+            refusal_of(rt.alloc(), text),
+            want,
+            format_args!("{number} {cause}"),
+        );
     }
 }
 
@@ -97,46 +104,48 @@ fn text_of(alloc: Global, line: &[u8]) -> Result<Vec<u8>, AllocError> {
     Ok(text)
 }
 
+/// Lines that are faulty in the place of an operation, and for what.
+const OPERATIONS: [(&str, TextCause); 14] = [
+    ("1 enq 1 first 0 last 4 at 3 reply done", TextCause::Range),
+    (
+        "1 enq 1 first 1 last 4 at 3 reply refused 2",
+        TextCause::Form,
+    ),
+    (
+        "1 enq 1 first 1 last 4 at 3 reply refused 4",
+        TextCause::Form,
+    ),
+    (
+        "0 enq 1 first 1 last 4 at 3 reply refused 4",
+        TextCause::Form,
+    ),
+    ("65536 deq first 1 last - at - reply -", TextCause::Range),
+    (
+        "1 enq 281474976710656 first 1 last - at - reply -",
+        TextCause::Range,
+    ),
+    (
+        "1 deq first 18446744073709551616 last - at - reply -",
+        TextCause::Range,
+    ),
+    (
+        "1 deq first 1 last - at - reply value 0 1",
+        TextCause::Range,
+    ),
+    ("1 deq first 1 last 007 at - reply -", TextCause::Form),
+    ("1 enq 007 first 1 last - at - reply -", TextCause::Form),
+    ("1 deq  first 1 last - at - reply -", TextCause::Form),
+    ("1 deq first 1 last - at - reply - ", TextCause::Form),
+    ("1 deq first 1 last - at - reply -\r", TextCause::Form),
+    ("1 deq first 1 last 0 at - reply -\nx", TextCause::Range),
+];
+
 #[test]
 fn tells_what_is_wrong_with_an_operation(rt: HostRuntime) -> Result<(), Fail> {
-    let cases: [(&str, TextCause); 14] = [
-        ("1 enq 1 first 0 last 4 at 3 reply done", TextCause::Range),
-        (
-            "1 enq 1 first 1 last 4 at 3 reply refused 2",
-            TextCause::Form,
-        ),
-        (
-            "1 enq 1 first 1 last 4 at 3 reply refused 4",
-            TextCause::Form,
-        ),
-        (
-            "0 enq 1 first 1 last 4 at 3 reply refused 4",
-            TextCause::Form,
-        ),
-        ("65536 deq first 1 last - at - reply -", TextCause::Range),
-        (
-            "1 enq 281474976710656 first 1 last - at - reply -",
-            TextCause::Range,
-        ),
-        (
-            "1 deq first 18446744073709551616 last - at - reply -",
-            TextCause::Range,
-        ),
-        (
-            "1 deq first 1 last - at - reply value 0 1",
-            TextCause::Range,
-        ),
-        ("1 deq first 1 last 007 at - reply -", TextCause::Form),
-        ("1 enq 007 first 1 last - at - reply -", TextCause::Form),
-        ("1 deq  first 1 last - at - reply -", TextCause::Form),
-        ("1 deq first 1 last - at - reply - ", TextCause::Form),
-        ("1 deq first 1 last - at - reply -\r", TextCause::Form),
-        ("1 deq first 1 last 0 at - reply -\nx", TextCause::Range),
-    ];
-    for (line, cause) in &cases {
+    for (line, cause) in &OPERATIONS {
         let text = text_of(rt.alloc(), line.as_bytes())?;
         let want = Some(Refusal::Text(2, *cause));
-        assert_eq!(rt; refusal_of(rt.alloc(), &text), want, "{line}");
+        same(&rt, refusal_of(rt.alloc(), &text), want, line);
     }
     Ok(())
 }
@@ -150,6 +159,6 @@ fn finds_a_hundred_thousand_digits_out_of_range(rt: HostRuntime) -> Result<(), F
     }
     text.push(b'\n')?;
     let fault = parse_history(rt.alloc(), text.as_slice()).err();
-    assert_eq!(rt; fault, Some(Refusal::Text(1, TextCause::Range)));
+    same(&rt, fault, Some(Refusal::Text(1, TextCause::Range)), "");
     Ok(())
 }

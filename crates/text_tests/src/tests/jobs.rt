@@ -1,4 +1,5 @@
 //! What no clause says: that texts of jobs are read where memory is there, tables of results as they stand in a file, and the faults of known texts.
+use crate::tests::comparing::same;
 use history::{Refusal, Script, TextCause};
 use job_results::{Job, JobResult, parse_jobs};
 use report::results_table;
@@ -58,18 +59,21 @@ fn results_of(alloc: Global, jobs: &[Job]) -> Result<Vec<JobResult<'_>>, AllocEr
     Ok(results)
 }
 
+/// Texts of jobs, and the tables of their results.
+const TABLES: [(&[u8], &[u8]); 3] = [
+    (FOUR, FOUR_TABLE),
+    (WIDE, WIDE_TABLE),
+    (b"jobs 0\n", b"results 0\n"),
+];
+
 #[test]
 fn tables_the_results_of_the_jobs_it_read(rt: HostRuntime) -> Result<(), Fail> {
-    for (text, table) in [
-        (FOUR, FOUR_TABLE),
-        (WIDE, WIDE_TABLE),
-        (b"jobs 0\n".as_slice(), b"results 0\n".as_slice()),
-    ] {
+    for (text, table) in &TABLES {
         let jobs = parse_jobs(rt.alloc(), text)?;
         let results = results_of(rt.alloc(), &jobs)?;
         let mut writer = Script::writer(rt.alloc(), 1000, 1)?;
         results_table(rt.alloc(), &results, &mut writer)?;
-        assert_eq!(rt; writer.written(), table);
+        same(&rt, writer.written(), *table, "");
     }
     Ok(())
 }
@@ -79,11 +83,7 @@ fn tells_the_end_of_each_cut_text_of_jobs(rt: HostRuntime) {
     let mut number = 1u64;
     for (cut, byte) in FOUR.iter().enumerate() {
         let fault = parse_jobs(rt.alloc(), &FOUR[..cut]).err();
-        assert_eq!(rt;
-            fault,
-            Some(Refusal::Text(number, TextCause::End)),
-            "before {cut}"
-        );
+        same(&rt, fault, Some(Refusal::Text(number, TextCause::End)), cut);
         if *byte == 10 {
             number = number.saturating_add(1);
         }
@@ -99,34 +99,37 @@ fn text_of(alloc: Global, line: &[u8]) -> Result<Vec<u8>, AllocError> {
     Ok(text)
 }
 
+/// Lines that are faulty in the place of a job, and for what.
+const JOBS: [(&[u8], TextCause); 16] = [
+    (b"len", TextCause::Form),
+    (b"len \xc8", TextCause::Form),
+    (b"len a\x7f", TextCause::Form),
+    (b"len a\r", TextCause::Form),
+    (b"add 1", TextCause::Form),
+    (b"add 1 2 3", TextCause::Form),
+    (b"add 1 02", TextCause::Form),
+    (b"add  1 2", TextCause::Form),
+    (b"add 1 2 ", TextCause::Form),
+    (b"sub 1 2", TextCause::Form),
+    (b"Add 1 2", TextCause::Form),
+    (b"div 18446744073709551616 x", TextCause::Form),
+    (b"", TextCause::Form),
+    (b"add 1 18446744073709551616", TextCause::Range),
+    (b"mul 18446744073709551616 1", TextCause::Range),
+    (b"div 1 2\nx", TextCause::Extra),
+];
+
 #[test]
 fn tells_what_is_wrong_with_a_job(rt: HostRuntime) -> Result<(), Fail> {
-    let cases: [(&[u8], TextCause); 16] = [
-        (b"len", TextCause::Form),
-        (b"len \xc8", TextCause::Form),
-        (b"len a\x7f", TextCause::Form),
-        (b"len a\r", TextCause::Form),
-        (b"add 1", TextCause::Form),
-        (b"add 1 2 3", TextCause::Form),
-        (b"add 1 02", TextCause::Form),
-        (b"add  1 2", TextCause::Form),
-        (b"add 1 2 ", TextCause::Form),
-        (b"sub 1 2", TextCause::Form),
-        (b"Add 1 2", TextCause::Form),
-        (b"div 18446744073709551616 x", TextCause::Form),
-        (b"", TextCause::Form),
-        (b"add 1 18446744073709551616", TextCause::Range),
-        (b"mul 18446744073709551616 1", TextCause::Range),
-        (b"div 1 2\nx", TextCause::Extra),
-    ];
-    for (line, cause) in &cases {
+    for (line, cause) in &JOBS {
         let text = text_of(rt.alloc(), line)?;
         let number = if *cause == TextCause::Extra { 3 } else { 2 };
         let fault = parse_jobs(rt.alloc(), &text).err();
-        assert_eq!(rt;
+        same(
+            &rt,
             fault,
             Some(Refusal::Text(number, *cause)),
-            "{number} {cause}"
+            format_args!("{number} {cause}"),
         );
     }
     Ok(())
@@ -144,34 +147,41 @@ fn long_text(alloc: Global, letters: usize, last: u8) -> Result<Vec<u8>, AllocEr
     Ok(text)
 }
 
+/// Numbers of letters, with a last one, and what is wrong with such a text.
+const LENGTHS: [(usize, u8, Option<Refusal>); 3] = [
+    (199, b'a', None),
+    (200, b'a', Some(Refusal::Text(2, TextCause::Range))),
+    (200, 200, Some(Refusal::Text(2, TextCause::Form))),
+];
+
 #[test]
 fn takes_200_bytes_and_no_more(rt: HostRuntime) -> Result<(), Fail> {
-    for (letters, last, fault) in [
-        (199, b'a', None),
-        (200, b'a', Some(Refusal::Text(2, TextCause::Range))),
-        (200, 200, Some(Refusal::Text(2, TextCause::Form))),
-    ] {
-        let text = long_text(rt.alloc(), letters, last)?;
-        assert_eq!(rt; parse_jobs(rt.alloc(), &text).err(), fault, "{letters}");
+    for (letters, last, fault) in &LENGTHS {
+        let text = long_text(rt.alloc(), *letters, *last)?;
+        same(&rt, parse_jobs(rt.alloc(), &text).err(), *fault, *letters);
     }
     Ok(())
 }
 
+/// Texts that are faulty from their first line on: the line, and for what.
+const FIRST_LINES: [(&[u8], u64, TextCause); 6] = [
+    (b"", 1, TextCause::End),
+    (b"jobs 1000001\n", 1, TextCause::Range),
+    (b"jobs 00\n", 1, TextCause::Form),
+    (b"jobs\n", 1, TextCause::Form),
+    (b"Jobs 0\n", 1, TextCause::Form),
+    (b"jobs 0\n\n", 2, TextCause::Extra),
+];
+
 #[test]
 fn tells_what_is_wrong_with_the_number_of_jobs(rt: HostRuntime) {
-    for (text, number, cause) in [
-        (b"".as_slice(), 1, TextCause::End),
-        (b"jobs 1000001\n", 1, TextCause::Range),
-        (b"jobs 00\n", 1, TextCause::Form),
-        (b"jobs\n", 1, TextCause::Form),
-        (b"Jobs 0\n", 1, TextCause::Form),
-        (b"jobs 0\n\n", 2, TextCause::Extra),
-    ] {
+    for (text, number, cause) in &FIRST_LINES {
         let fault = parse_jobs(rt.alloc(), text).err();
-        assert_eq!(rt;
+        same(
+            &rt,
             fault,
-            Some(Refusal::Text(number, cause)),
-            "{number} {cause}"
+            Some(Refusal::Text(*number, *cause)),
+            format_args!("{number} {cause}"),
         );
     }
 }

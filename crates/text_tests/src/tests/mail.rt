@@ -1,4 +1,5 @@
 //! What no clause says: that texts of mail are read where memory is there, and the faults of known texts.
+use crate::tests::comparing::same;
 use history::{Refusal, TextCause};
 use mail_text::{Outgoing, parse_mail};
 use std::alloc::Global;
@@ -32,17 +33,19 @@ fn reads_letters_in_the_order_of_the_lines(rt: HostRuntime) -> Result<(), Fail> 
         && is(three.letters.get(2), 1, "again")
         && is(spaces.letters.first(), 64, "")
         && is(spaces.letters.get(1), 7, " a ~ ");
-    assert_eq!(rt;
+    same(
+        &rt,
         (
             right,
             three.senders,
             three.letters.len(),
             spaces.senders,
-            spaces.letters.len()
+            spaces.letters.len(),
         ),
-        (true, 2, 3, 64, 2)
+        (true, 2, 3, 64, 2),
+        "",
     );
-    assert_eq!(rt; (none.senders, none.letters.len()), (1, 0));
+    same(&rt, (none.senders, none.letters.len()), (1, 0), "");
     Ok(())
 }
 
@@ -51,45 +54,44 @@ fn tells_the_end_of_each_cut_text_of_mail(rt: HostRuntime) {
     let mut number = 1u64;
     for (cut, byte) in THREE.iter().enumerate() {
         let fault = refusal_of(rt.alloc(), &THREE[..cut]);
-        assert_eq!(rt;
-            fault,
-            Some(Refusal::Text(number, TextCause::End)),
-            "before {cut}"
-        );
+        same(&rt, fault, Some(Refusal::Text(number, TextCause::End)), cut);
         if *byte == 10 {
             number = number.saturating_add(1);
         }
     }
 }
 
+/// Faulty texts: the line, and for what.
+const FAULTS: [(&[u8], u64, TextCause); 18] = [
+    (b"", 1, TextCause::End),
+    (b"mail 65 0\n", 1, TextCause::Range),
+    (b"mail 0 0\n", 1, TextCause::Range),
+    (b"mail 1 100001\n", 1, TextCause::Range),
+    (b"mail 1\n", 1, TextCause::Form),
+    (b"mail 01 0\n", 1, TextCause::Form),
+    (b"mail 65 x\n", 1, TextCause::Form),
+    (b"mail 2 1\n3 hello\n", 2, TextCause::Range),
+    (b"mail 2 1\n0 hello\n", 2, TextCause::Range),
+    (b"mail 2 1\n1\n", 2, TextCause::Form),
+    (b"mail 2 1\n01 hello\n", 2, TextCause::Form),
+    (b"mail 2 1\n hello\n", 2, TextCause::Form),
+    (b"mail 2 1\nhello\n", 2, TextCause::Form),
+    (b"mail 2 1\n3 hello\r\n", 2, TextCause::Form),
+    (b"mail 2 1\n1 hell\xc8\n", 2, TextCause::Form),
+    (b"mail 2 2\n1 hello\n3 hi\n", 3, TextCause::Range),
+    (b"mail 2 1\n1 hello\n1 hi\n", 3, TextCause::Extra),
+    (b"mail 1 0\nx", 2, TextCause::Extra),
+];
+
 #[test]
 fn tells_what_is_wrong_with_a_text_of_mail(rt: HostRuntime) {
-    let cases: [(&[u8], u64, TextCause); 18] = [
-        (b"", 1, TextCause::End),
-        (b"mail 65 0\n", 1, TextCause::Range),
-        (b"mail 0 0\n", 1, TextCause::Range),
-        (b"mail 1 100001\n", 1, TextCause::Range),
-        (b"mail 1\n", 1, TextCause::Form),
-        (b"mail 01 0\n", 1, TextCause::Form),
-        (b"mail 65 x\n", 1, TextCause::Form),
-        (b"mail 2 1\n3 hello\n", 2, TextCause::Range),
-        (b"mail 2 1\n0 hello\n", 2, TextCause::Range),
-        (b"mail 2 1\n1\n", 2, TextCause::Form),
-        (b"mail 2 1\n01 hello\n", 2, TextCause::Form),
-        (b"mail 2 1\n hello\n", 2, TextCause::Form),
-        (b"mail 2 1\nhello\n", 2, TextCause::Form),
-        (b"mail 2 1\n3 hello\r\n", 2, TextCause::Form),
-        (b"mail 2 1\n1 hell\xc8\n", 2, TextCause::Form),
-        (b"mail 2 2\n1 hello\n3 hi\n", 3, TextCause::Range),
-        (b"mail 2 1\n1 hello\n1 hi\n", 3, TextCause::Extra),
-        (b"mail 1 0\nx", 2, TextCause::Extra),
-    ];
-    for (text, number, cause) in &cases {
+    for (text, number, cause) in &FAULTS {
         let fault = refusal_of(rt.alloc(), text);
-        assert_eq!(rt;
+        same(
+            &rt,
             fault,
             Some(Refusal::Text(*number, *cause)),
-            "{number} {cause}"
+            format_args!("{number} {cause}"),
         );
     }
 }

@@ -1,4 +1,5 @@
 //! The names as the lines are known by, and texts that name no line.
+use crate::tests::comparing::same;
 use line_table::Line;
 
 const NAMED: [(Line, &str); 36] = [
@@ -42,20 +43,25 @@ const NAMED: [(Line, &str); 36] = [
 
 #[test]
 fn each_line_has_its_name(rt: HostRuntime) {
-    for (line, name) in NAMED {
-        assert_eq!(rt;
+    for (line, name) in &NAMED {
+        same(
+            &rt,
             (line.name(), Line::of_name(name.as_bytes())),
-            (name, Some(line))
+            (*name, Some(*line)),
+            "",
         );
     }
 }
 
+/// Texts that name no line.
+const NAMELESS: [&str; 16] = [
+    "", "n1", "N", "N1 ", " N1", "N01", "E4", "E8", "E90", "E1", "D15", "D20", "A8", "B7", "F4",
+    "N6",
+];
+
 #[test]
 fn other_texts_name_no_line(rt: HostRuntime) {
-    for text in [
-        "", "n1", "N", "N1 ", " N1", "N01", "E4", "E8", "E90", "E1", "D15", "D20", "A8", "B7",
-        "F4", "N6",
-    ] {
-        assert_eq!(rt; Line::of_name(text.as_bytes()), None, "at {text}");
+    for text in &NAMELESS {
+        same(&rt, Line::of_name(text.as_bytes()), None, text);
     }
 }

@@ -1,4 +1,5 @@
 //! Words and answers typed from the table of the format, and what the derives write.
+use crate::tests::comparing::same;
 use counted_ref::CountedRef;
 
 #[test]
@@ -12,10 +13,11 @@ fn packs_and_unpacks_the_words_of_the_format(rt: HostRuntime) {
         let reference = CountedRef::new(node, count);
         let found = CountedRef::from_word(word);
         let parts = found.map(|it| (it.node(), it.count(), it.same(reference)));
-        assert_eq!(rt;
+        same(
+            &rt,
             (reference.word(), reference.is_null(), parts),
             (word, node == 0, Some((node, count, true))),
-            "<{node},{count}>"
+            format_args!("<{node},{count}>"),
         );
     }
 }
@@ -23,7 +25,7 @@ fn packs_and_unpacks_the_words_of_the_format(rt: HostRuntime) {
 #[test]
 fn finds_no_reference_at_the_reserved_node(rt: HostRuntime) {
     for word in [16_777_215, 33_554_431, 18_446_744_073_709_551_615] {
-        assert_eq!(rt; CountedRef::from_word(word), None, "of {word}");
+        same(&rt, CountedRef::from_word(word), None, word);
     }
 }
 
@@ -31,7 +33,7 @@ fn finds_no_reference_at_the_reserved_node(rt: HostRuntime) {
 fn raises_below_the_limit_alone(rt: HostRuntime) {
     let once = CountedRef::new(1, 0).raised(7, 1);
     let twice = CountedRef::new(2, 1).raised(7, 1);
-    assert_eq!(rt; (once, twice), (Some(CountedRef::new(7, 1)), None));
+    same(&rt, (once, twice), (Some(CountedRef::new(7, 1)), None), "");
 }
 
 #[test]
@@ -43,6 +45,6 @@ fn tells_references_apart_by_node_and_by_count(rt: HostRuntime) {
         (CountedRef::new(2, 0), false),
     ] {
         let answers = (reference.same(other), reference == other);
-        assert_eq!(rt; answers, (want, want), "as {other:?}");
+        same(&rt, answers, (want, want), format_args!("as {other:?}"));
     }
 }

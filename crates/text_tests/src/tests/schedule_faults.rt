@@ -1,3 +1,4 @@
+use crate::tests::comparing::same;
 use crate::tests::schedules::SHIPPED;
 use history::Refusal;
 use schedule_text::parse;
@@ -85,22 +86,22 @@ fn refusal_of(alloc: Global, text: &[u8]) -> Option<Refusal> {
 
 #[test]
 fn tells_the_first_faulty_line(rt: HostRuntime) -> Result<(), Fail> {
-    for (number, line, cause) in FAULTS {
-        let text = text_with(rt.alloc(), number, line)?;
-        let want = Some(Refusal::Text(number, cause));
-        assert_eq!(rt; refusal_of(rt.alloc(), &text), want, "{line}");
+    for (number, line, cause) in &FAULTS {
+        let text = text_with(rt.alloc(), *number, line)?;
+        let want = Some(Refusal::Text(*number, *cause));
+        same(&rt, refusal_of(rt.alloc(), &text), want, line);
     }
     Ok(())
 }
 
 #[test]
 fn a_text_that_is_cut_ends_too_early(rt: HostRuntime) -> Result<(), Fail> {
-    for text in SHIPPED {
+    for text in &SHIPPED {
         let text = text.as_bytes();
         let mut feeds = 0u64;
         for (place, byte) in text.iter().enumerate() {
             let want = Some(Refusal::Text(feeds.saturating_add(1), TextCause::End));
-            assert_eq!(rt; refusal_of(rt.alloc(), &text[..place]), want, "at {place}");
+            same(&rt, refusal_of(rt.alloc(), &text[..place]), want, place);
             if *byte == b'\n' {
                 feeds = feeds.saturating_add(1);
             }
@@ -115,7 +116,12 @@ fn further_bytes_are_extra(rt: HostRuntime) -> Result<(), Fail> {
         let mut text = text_with(rt.alloc(), 0, "")?;
         text.extend_from_slice(more.as_bytes())?;
         let want = Some(Refusal::Text(11, TextCause::Extra));
-        assert_eq!(rt; refusal_of(rt.alloc(), &text), want, "{more:?}");
+        same(
+            &rt,
+            refusal_of(rt.alloc(), &text),
+            want,
+            format_args!("{more:?}"),
+        );
     }
     Ok(())
 }
@@ -128,6 +134,6 @@ fn a_number_of_any_length_has_the_form(rt: HostRuntime) -> Result<(), Fail> {
     }
     let text = text_with(rt.alloc(), 3, line.as_str())?;
     let want = Some(Refusal::Text(3, TextCause::Range));
-    assert_eq!(rt; refusal_of(rt.alloc(), &text), want);
+    same(&rt, refusal_of(rt.alloc(), &text), want, "");
     Ok(())
 }

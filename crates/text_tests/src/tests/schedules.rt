@@ -1,3 +1,4 @@
+use crate::tests::comparing::same;
 use history::{Body, Op, Script};
 use line_table::{Kind, Line};
 use schedule_text::{Event, Schedule, parse, print};
@@ -303,36 +304,38 @@ pub const SHIPPED: [&str; 9] = [
     WORN_COUNTS,
 ];
 
+/// All of these schedules.
+const PRINTED: [&str; 21] = [
+    FIRST_RUN,
+    NOTHING,
+    ENQUEUE,
+    ENQUEUE_AND_DEQUEUE,
+    NODE_USED_AGAIN,
+    EMPTY,
+    STALE_REFERENCE,
+    LAGGING_TAIL,
+    OLD_EMPTY_REPLY,
+    NO_NODE,
+    WORN_FREE,
+    WORN_TAIL,
+    WORN_NEXT,
+    GIVEN_UP,
+    LOCK_HELD,
+    NO_CALLS,
+    STALE_HEAD,
+    STOPPED_HOLDER,
+    WORN_COUNTS,
+    WIDEST,
+    LEAST,
+];
+
 #[test]
 fn prints_each_schedule_as_it_was_read(rt: HostRuntime) -> Result<(), Fail> {
-    let texts = [
-        FIRST_RUN,
-        NOTHING,
-        ENQUEUE,
-        ENQUEUE_AND_DEQUEUE,
-        NODE_USED_AGAIN,
-        EMPTY,
-        STALE_REFERENCE,
-        LAGGING_TAIL,
-        OLD_EMPTY_REPLY,
-        NO_NODE,
-        WORN_FREE,
-        WORN_TAIL,
-        WORN_NEXT,
-        GIVEN_UP,
-        LOCK_HELD,
-        NO_CALLS,
-        STALE_HEAD,
-        STOPPED_HOLDER,
-        WORN_COUNTS,
-        WIDEST,
-        LEAST,
-    ];
-    for text in texts {
+    for text in &PRINTED {
         let schedule = parse(rt.alloc(), text.as_bytes())?;
         let mut writer = Script::writer(rt.alloc(), 1000, 7)?;
         print(&schedule, &mut writer)?;
-        assert_eq!(rt; writer.written(), text.as_bytes());
+        same(&rt, writer.written(), text.as_bytes(), "");
     }
     Ok(())
 }
@@ -340,14 +343,16 @@ fn prints_each_schedule_as_it_was_read(rt: HostRuntime) -> Result<(), Fail> {
 #[test]
 fn reads_each_event(rt: HostRuntime) -> Result<(), Fail> {
     let schedule = parse(rt.alloc(), WIDEST.as_bytes())?;
-    assert_eq!(rt;
+    same(
+        &rt,
         (
             schedule.kind,
             schedule.nodes,
             schedule.limit,
-            schedule.actors
+            schedule.actors,
         ),
-        (Kind::NonBlocking, 16_777_214, 1_099_511_627_775, 65_535)
+        (Kind::NonBlocking, 16_777_214, 1_099_511_627_775, 65_535),
+        "",
     );
     let body = Body::new(281_474_976_710_655).ok_or("a body")?;
     let events = [
@@ -356,7 +361,7 @@ fn reads_each_event(rt: HostRuntime) -> Result<(), Fail> {
         Event::Steps(65_535, 1_000_000),
         Event::Give(65_535),
     ];
-    assert_eq!(rt; schedule.events.as_slice(), events.as_slice());
+    same(&rt, schedule.events.as_slice(), events.as_slice(), "");
     Ok(())
 }
 
@@ -376,6 +381,6 @@ fn prints_a_schedule_made_by_hand(rt: HostRuntime) -> Result<(), Fail> {
     print(&schedule, &mut writer)?;
     let text =
         "msq schedule 1\nqueue two-lock\nnodes 2\nlimit 100\nactors 1\nevents 2\nbegin 1 deq\ngive 1\n";
-    assert_eq!(rt; writer.written(), text.as_bytes());
+    same(&rt, writer.written(), text.as_bytes(), "");
     Ok(())
 }

@@ -1,4 +1,5 @@
 //! Schedules from sources that give few bytes a call, or fail.
+use crate::tests::comparing::same;
 use crate::tests::schedule_faults::{FAULTS, text_with};
 use crate::tests::schedules::SHIPPED;
 use history::{Body, Op, Refusal, Script, Trouble};
@@ -21,13 +22,13 @@ begin 1 enq 007
 
 #[test]
 fn pieces_of_any_length_have_the_same_faults(rt: HostRuntime) -> Result<(), Fail> {
-    for (number, line, cause) in FAULTS {
-        let text = text_with(rt.alloc(), number, line)?;
+    for (number, line, cause) in &FAULTS {
+        let text = text_with(rt.alloc(), *number, line)?;
         for piece in PIECES {
             let mut reader = Script::reader(rt.alloc(), &text, piece)?;
             let told = read_schedule(rt.alloc(), &mut reader).err();
-            let want = Some(Refusal::Text(number, cause));
-            assert_eq!(rt; told, want, "{line} by {piece}");
+            let want = Some(Refusal::Text(*number, *cause));
+            same(&rt, told, want, format_args!("{line} by {piece}"));
         }
     }
     Ok(())
@@ -35,13 +36,13 @@ fn pieces_of_any_length_have_the_same_faults(rt: HostRuntime) -> Result<(), Fail
 
 #[test]
 fn reads_each_schedule_from_pieces(rt: HostRuntime) -> Result<(), Fail> {
-    for text in SHIPPED {
+    for text in &SHIPPED {
         for piece in PIECES {
             let mut reader = Script::reader(rt.alloc(), text.as_bytes(), piece)?;
             let schedule = read_schedule(rt.alloc(), &mut reader)?;
             let mut writer = Script::writer(rt.alloc(), 1000, 4096)?;
             print(&schedule, &mut writer)?;
-            assert_eq!(rt; writer.written(), text.as_bytes(), "by {piece}");
+            same(&rt, writer.written(), text.as_bytes(), piece);
         }
     }
     Ok(())
@@ -63,7 +64,7 @@ fn long_lines_are_judged_whole(rt: HostRuntime) -> Result<(), Fail> {
         let text = text_with(rt.alloc(), 3, line.as_str())?;
         let mut reader = Script::reader(rt.alloc(), &text, 4096)?;
         let told = read_schedule(rt.alloc(), &mut reader).err();
-        assert_eq!(rt; told, Some(Refusal::Text(3, cause)), "{start}");
+        same(&rt, told, Some(Refusal::Text(3, cause)), start);
     }
     Ok(())
 }
@@ -76,11 +77,11 @@ fn a_late_fault_is_answered_again(rt: HostRuntime) -> Result<(), Fail> {
         let mut reader = Script::reader(rt.alloc(), LATE_FAULT.as_bytes(), piece)?;
         let mut stream = EventStream::start(&mut reader)?;
         for event in &events {
-            assert_eq!(rt; stream.next(&mut reader)?, Some(*event), "by {piece}");
+            same(&rt, stream.next(&mut reader)?, Some(*event), piece);
         }
         for _ in 0..2 {
             let want = Some(Refusal::Text(9, TextCause::Form));
-            assert_eq!(rt; stream.next(&mut reader).err(), want, "by {piece}");
+            same(&rt, stream.next(&mut reader).err(), want, piece);
         }
     }
     Ok(())
@@ -93,7 +94,7 @@ fn a_call_that_fails_is_told_in_place_of_a_fault(rt: HostRuntime) -> Result<(), 
         let reader = Script::reader(rt.alloc(), LATE_FAULT.as_bytes(), 7)?;
         let mut reader = reader.with(Trouble::Failure, call);
         let told = read_schedule(rt.alloc(), &mut reader).err();
-        assert_eq!(rt; told, Some(Refusal::Read), "at call {call}");
+        same(&rt, told, Some(Refusal::Read), call);
     }
     Ok(())
 }

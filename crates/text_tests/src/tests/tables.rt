@@ -1,4 +1,5 @@
 //! What no clause says: tables as they stand in a file, and a call that succeeds.
+use crate::tests::comparing::same;
 use history::{Body, Op, Refusal, Reply, Script, Stamped, Taken};
 use report::history_table;
 use std::alloc::Global;
@@ -39,7 +40,7 @@ fn dequeue(actor: u16, from: u16, number: u64, first: u64, at: u64) -> Result<St
 fn writes(rt: &impl Abort, alloc: Global, history: &[Stamped], table: &[u8]) -> Result<(), Fail> {
     let mut writer = Script::writer(alloc, 1000, 7)?;
     history_table(alloc, history, &mut writer)?;
-    assert_eq!(rt; writer.written(), table);
+    same(rt, writer.written(), table, "");
     Ok(())
 }
 

@@ -1,4 +1,5 @@
 //! Calls that succeed: each verdict with its place, on histories that were judged by hand.
+use crate::tests::comparing::same;
 use history::{Body, Cause, Op, Refusal, Reply, Stamped, Taken, Verdict, check};
 use std::test::Fail;
 
@@ -49,14 +50,19 @@ fn judges_one_operation(rt: HostRuntime) -> Result<(), Fail> {
         (without_effect, Verdict::Yes),
     ];
     for (only, verdict) in &rows {
-        assert_eq!(rt; check(rt.alloc(), &[*only]), Ok(*verdict), "on {only:?}");
+        same(
+            &rt,
+            check(rt.alloc(), &[*only]),
+            Ok(*verdict),
+            format_args!("on {only:?}"),
+        );
     }
     Ok(())
 }
 
 #[test]
 fn judges_no_operations(rt: HostRuntime) -> Result<(), Fail> {
-    assert_eq!(rt; check(rt.alloc(), &[]), Ok(Verdict::Yes));
+    same(&rt, check(rt.alloc(), &[]), Ok(Verdict::Yes), "");
     Ok(())
 }
 
@@ -66,7 +72,12 @@ fn names_the_later_of_two_at_one_place(rt: HostRuntime) -> Result<(), Fail> {
         operation(1, enqueue(1)?, (1, Some(4), Some(3)), Some(Reply::Done)),
         operation(2, enqueue(2)?, (2, Some(5), Some(3)), Some(Reply::Done)),
     ];
-    assert_eq!(rt; check(rt.alloc(), &history), Ok(no(2, Cause::Shared)));
+    same(
+        &rt,
+        check(rt.alloc(), &history),
+        Ok(no(2, Cause::Shared)),
+        "",
+    );
     Ok(())
 }
 
@@ -76,7 +87,12 @@ fn names_an_empty_reply_that_comes_after_a_push(rt: HostRuntime) -> Result<(), F
         operation(1, enqueue(1)?, (1, Some(4), Some(2)), Some(Reply::Done)),
         operation(2, Op::Deq, (5, Some(9), Some(6)), Some(Reply::Empty)),
     ];
-    assert_eq!(rt; check(rt.alloc(), &history), Ok(no(2, Cause::Reply)));
+    same(
+        &rt,
+        check(rt.alloc(), &history),
+        Ok(no(2, Cause::Reply)),
+        "",
+    );
     Ok(())
 }
 
@@ -85,7 +101,7 @@ fn places_an_empty_reply_where_it_was_seen(rt: HostRuntime) -> Result<(), Fail> 
     let pushed = operation(2, enqueue(9)?, (4, Some(13), Some(12)), Some(Reply::Done));
     for (at, verdict) in [(3, Verdict::Yes), (14, no(1, Cause::Reply))] {
         let seen = operation(1, Op::Deq, (1, Some(14), Some(at)), Some(Reply::Empty));
-        assert_eq!(rt; check(rt.alloc(), &[seen, pushed]), Ok(verdict), "at {at}");
+        same(&rt, check(rt.alloc(), &[seen, pushed]), Ok(verdict), at);
     }
     Ok(())
 }
@@ -100,6 +116,6 @@ fn judges_refused_and_unfinished_operations(rt: HostRuntime) -> Result<(), Fail>
         operation(1, enqueue(2)?, (22, None, Some(31)), None),
         operation(2, Op::Deq, (23, Some(40), Some(32)), value(1, 2)?),
     ];
-    assert_eq!(rt; check(rt.alloc(), &history), Ok(Verdict::Yes));
+    same(&rt, check(rt.alloc(), &history), Ok(Verdict::Yes), "");
     Ok(())
 }
