@@ -56,6 +56,18 @@ const EMPTY_TOO_SOON: &str = "history 2
 2 deq first 5 last 9 at 6 reply empty
 ";
 
+// Two lines of 64 bytes together, the first of a history of 9,999 operations.
+const FIRST_TWO: &str = "history 9999
+1 enq 1234567890123 first 1 last 2 at 2 reply done
+";
+
+// Lines of 64 bytes, one right and one wrong, and a wrong one of 65.
+const RIGHT: &str = "1 enq 123456789012345 first 100000 last 200000 at 20 reply done\n";
+
+const WRONG: &str = "1 enq 123456789012345 first 100000 last 200000 at 20 reply dnoe\n";
+
+const WRONG_LONGER: &str = "1 enq 123456789012345 first 100000 last 200000 at 20 reply dnoee\n";
+
 const NO_REPLY: &str = "history 1
 1 deq first 1 last 4 at 3 reply -
 ";
@@ -187,6 +199,42 @@ fn tells_the_first_faulty_line(rt: HostRuntime) -> Result<(), Fail> {
         let done = done_with(rt.alloc(), text.as_bytes(), 4096)?;
         let want = (1, b"".as_slice(), want.as_bytes());
         assert_eq!(rt; done.told(), want, "{text}");
+    }
+    Ok(())
+}
+
+// A text of 250,000 bytes, some 4 blocks, with another line in the place of that of this number.
+fn long_text(alloc: Global, number: u64, other: &str) -> Result<Vec<u8>, AllocError> {
+    let mut text = Vec::from_slice(alloc, FIRST_TWO.as_bytes())?;
+    for line in 3..3908 {
+        let said = if line == number { other } else { RIGHT };
+        text.extend_from_slice(said.as_bytes())?;
+    }
+    Ok(text)
+}
+
+#[test]
+fn tells_a_fault_in_any_block_once_all_is_read(rt: HostRuntime) -> Result<(), Fail> {
+    let never = 1000;
+    let fault = |line| Err(Refusal::Text(line, TextCause::Form));
+    let cases = [
+        (3, "\n", never, fault(3)),
+        // The first block ends behind line 1025.
+        (1025, WRONG, never, fault(1025)),
+        (1025, WRONG_LONGER, never, fault(1025)),
+        (1026, "\n", never, fault(1026)),
+        (3907, WRONG, never, fault(3907)),
+        (3, "\n", 20, Err(Refusal::Read)),
+        (3, "\n", 63, Err(Refusal::Read)),
+    ];
+    for (number, other, call, want) in cases {
+        let text = long_text(rt.alloc(), number, other)?;
+        let reader = Script::reader(rt.alloc(), &text, 4096)?;
+        let reader = reader.with(Trouble::Failure, call);
+        let writer = Script::writer(rt.alloc(), 1000, 4096)?;
+        let (outcome, written) = answer(rt.alloc(), reader, writer)?;
+        let found = (outcome, written.len());
+        assert_eq!(rt; found, (want, 0), "line {number}, call {call}");
     }
     Ok(())
 }
