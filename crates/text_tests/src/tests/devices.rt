@@ -107,9 +107,9 @@ fn prints_each_reply(rt: HostRuntime) -> Result<(), Fail> {
             &rt,
             print_history(&[dequeue(Some(9), *reply)], &mut writer),
             Ok(()),
-            "",
+            "what printing answers",
         );
-        same(&rt, writer.written(), text.as_slice(), "");
+        same(&rt, writer.written(), text.as_slice(), "the text");
     }
     Ok(())
 }
@@ -117,10 +117,10 @@ fn prints_each_reply(rt: HostRuntime) -> Result<(), Fail> {
 #[test]
 fn prints_no_operations(rt: HostRuntime) -> Result<(), Fail> {
     let mut writer = WriterSink::new(Vec::new(rt.alloc()));
-    same(&rt, print_history(&[], &mut writer), Ok(()), "");
+    same(&rt, print_history(&[], &mut writer), Ok(()), "a vector");
     let mut writer = Script::writer(rt.alloc(), 1000, 1000)?;
-    same(&rt, print_history(&[], &mut writer), Ok(()), "");
-    same(&rt, writer.written(), b"history 0\n".as_slice(), "");
+    same(&rt, print_history(&[], &mut writer), Ok(()), "a script");
+    same(&rt, writer.written(), b"history 0\n".as_slice(), "the text");
     Ok(())
 }
 
@@ -144,14 +144,14 @@ fn stops_at_a_call_that_fails_or_takes_nothing(rt: HostRuntime) -> Result<(), Fa
 fn a_script_gives_its_bytes_in_pieces(rt: HostRuntime) -> Result<(), Fail> {
     let mut reader = Script::reader(rt.alloc(), b"abcde", 2)?.with(Trouble::Failure, 2);
     let mut into = [0u8; 3];
-    same(&rt, reader.read(&mut into)?, 2, "");
-    same(&rt, into, *b"ab\0", "");
+    same(&rt, reader.read(&mut into)?, 2, "the first call");
+    same(&rt, into, *b"ab\0", "after the first call");
     assert!(rt; reader.read(&mut into).is_err());
-    same(&rt, reader.left(), b"cde".as_slice(), "");
-    same(&rt, reader.read(&mut into)?, 2, "");
-    same(&rt, reader.read(&mut into)?, 1, "");
-    same(&rt, into, *b"ed\0", "");
-    same(&rt, reader.read(&mut into)?, 0, "");
+    same(&rt, reader.left(), b"cde".as_slice(), "after the call that fails");
+    same(&rt, reader.read(&mut into)?, 2, "the third call");
+    same(&rt, reader.read(&mut into)?, 1, "the fourth call");
+    same(&rt, into, *b"ed\0", "after the fourth call");
+    same(&rt, reader.read(&mut into)?, 0, "the fifth call");
     Ok(())
 }
 
@@ -159,13 +159,13 @@ fn a_script_gives_its_bytes_in_pieces(rt: HostRuntime) -> Result<(), Fail> {
 fn a_reader_source_fails_past_its_limit(rt: HostRuntime) -> Result<(), Fail> {
     let mut source = ReaderSource::limited(b"abcde".as_slice(), 4);
     let mut into = [0u8; 3];
-    same(&rt, source.read(&mut into)?, 3, "");
-    same(&rt, source.read(&mut into)?, 1, "");
-    same(&rt, into, *b"dbc", "");
+    same(&rt, source.read(&mut into)?, 3, "the first call");
+    same(&rt, source.read(&mut into)?, 1, "the second call");
+    same(&rt, into, *b"dbc", "after the second call");
     assert!(rt; source.read(&mut into).is_err());
     let mut source = ReaderSource::new(b"abc".as_slice());
-    same(&rt, source.read(&mut into)?, 3, "");
-    same(&rt, source.read(&mut into)?, 0, "");
+    same(&rt, source.read(&mut into)?, 3, "with no limit");
+    same(&rt, source.read(&mut into)?, 0, "at the end");
     Ok(())
 }
 
@@ -173,9 +173,9 @@ fn a_reader_source_fails_past_its_limit(rt: HostRuntime) -> Result<(), Fail> {
 fn a_writer_sink_hands_its_bytes_on(rt: HostRuntime) -> Result<(), Fail> {
     let mut bytes = Vec::new(rt.alloc());
     let mut sink = WriterSink::new(&mut bytes);
-    same(&rt, sink.write(b"ab")?, 2, "");
-    same(&rt, sink.write(b"c")?, 1, "");
-    same(&rt, bytes.as_slice(), b"abc".as_slice(), "");
+    same(&rt, sink.write(b"ab")?, 2, "two bytes");
+    same(&rt, sink.write(b"c")?, 1, "one byte");
+    same(&rt, bytes.as_slice(), b"abc".as_slice(), "the bytes");
     Ok(())
 }
 
