@@ -147,7 +147,12 @@ fn a_script_gives_its_bytes_in_pieces(rt: HostRuntime) -> Result<(), Fail> {
     same(&rt, reader.read(&mut into)?, 2, "the first call");
     same(&rt, into, *b"ab\0", "after the first call");
     assert!(rt; reader.read(&mut into).is_err());
-    same(&rt, reader.left(), b"cde".as_slice(), "after the call that fails");
+    same(
+        &rt,
+        reader.left(),
+        b"cde".as_slice(),
+        "after the call that fails",
+    );
     same(&rt, reader.read(&mut into)?, 2, "the third call");
     same(&rt, reader.read(&mut into)?, 1, "the fourth call");
     same(&rt, into, *b"ed\0", "after the fourth call");
