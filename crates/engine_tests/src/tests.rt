@@ -1,7 +1,9 @@
+mod comparing;
 mod endings;
 mod engine;
 mod faults;
 mod judging;
 mod schedules;
 mod tables;
+mod trials;
 mod words;

@@ -1,9 +1,7 @@
-ghost use Rattle.std.specs.Prelude.{◌<◌};
-
 use crate::tests::schedules::WORKED;
-use engine_faults::{Fault, end_of};
-use history::{Refusal, Script, TextCause, Trouble, Verdict};
-use run_engine::run_text;
+use crate::tests::trials::{
+    Engine, does, does_by_any_piece, tells_each_end, writes_a_beginning, writes_nothing,
+};
 use std::alloc::{AllocError, Global};
 use std::test::Fail;
 
@@ -54,79 +52,52 @@ fn text_with(alloc: Global, number: u64, other: &str) -> Result<Vec<u8>, AllocEr
     Ok(text)
 }
 
-// What the program does with a schedule.
-#[derive(Drop)]
-struct Done {
-    status: u8,
-    written: Vec<u8>,
-    complained: Vec<u8>,
-}
-
-impl Done {
-    // The status, what was written, and the line at a fault.
-    fn told(&self) -> (u8, &[u8], &[u8]) {
-        (self.status, &self.written, &self.complained)
-    }
-}
-
-// What the program does with a schedule that comes in pieces of this size, and goes in such ones.
-fn done_with(alloc: Global, text: &[u8], piece: usize) -> Result<Done, AllocError>
-    requires { 0 < piece }
-{
-    let mut reader = Script::reader(alloc, text, piece)?;
-    let mut writer = Script::writer(alloc, 1000, piece)?;
-    let mut complaints = Script::writer(alloc, 100, piece)?;
-    let outcome = run_text(alloc, &mut reader, &mut writer);
-    let status = end_of(outcome.map(|_| Verdict::Yes), &mut complaints);
-    Ok(Done {
-        status,
-        written: Vec::from_slice(alloc, writer.written())?,
-        complained: Vec::from_slice(alloc, complaints.written())?,
-    })
-}
-
 #[test]
 fn writes_each_history_whatever_the_pieces(rt: HostRuntime) -> Result<(), Fail> {
     for (text, want) in &WORKED {
-        for piece in [1, 7, 4096] {
-            let done = done_with(rt.alloc(), text.as_bytes(), piece)?;
-            let want = (0, want.as_bytes(), b"".as_slice());
-            assert_eq!(rt; done.told(), want, "by {piece}: {text}");
-        }
+        does_by_any_piece(&rt, rt.alloc(), Engine::Run, text, 0, want)?;
     }
     Ok(())
 }
 
+/// Numbers of lines, what stands there, and the line at the fault.
+const FAULTS: [(u64, &str, &str); 21] = [
+    (1, "msq schedule 2", "fault 10 Text line 1 Form\n"),
+    (3, "nodes 1", "fault 10 Text line 3 Range\n"),
+    (3, "nodes 0x3", "fault 10 Text line 3 Form\n"),
+    (3, "nodes 3\r", "fault 10 Text line 3 Form\n"),
+    (6, "events 1000001", "fault 10 Text line 6 Range\n"),
+    (7, "begin 0 deq", "fault 10 Text line 7 Range\n"),
+    (7, "begin 1 enq 007", "fault 10 Text line 7 Form\n"),
+    (8, "step 1 E4", "fault 10 Text line 8 Form\n"),
+    (8, "steps 1  10", "fault 10 Text line 8 Form\n"),
+    (8, "steps 1 11", "fault 6 IdleActor line 8\n"),
+    (7, "begin 2 enq 5", "fault 6 IdleActor line 8\n"),
+    (8, "step 2 N1", "fault 6 IdleActor line 8\n"),
+    (8, "step 1 N1", "fault 6 IdleActor line 10\n"),
+    (9, "give 1", "fault 6 IdleActor line 9\n"),
+    (8, "begin 1 deq", "fault 7 ActorBusy line 8\n"),
+    (8, "step 1 N2", "fault 8 NotHere line 8\n"),
+    (8, "step 1 A1", "fault 8 NotHere line 8\n"),
+    (7, "begin 3 enq 5", "fault 9 NoSuchActor line 7\n"),
+    (8, "step 3 N1", "fault 9 NoSuchActor line 8\n"),
+    (10, "steps 3 1", "fault 9 NoSuchActor line 10\n"),
+    (10, "give 3", "fault 9 NoSuchActor line 10\n"),
+];
+
 #[test]
 fn tells_the_first_faulty_line_or_refused_event(rt: HostRuntime) -> Result<(), Fail> {
-    let cases = [
-        (1, "msq schedule 2", "fault 10 Text line 1 Form\n"),
-        (3, "nodes 1", "fault 10 Text line 3 Range\n"),
-        (3, "nodes 0x3", "fault 10 Text line 3 Form\n"),
-        (3, "nodes 3\r", "fault 10 Text line 3 Form\n"),
-        (6, "events 1000001", "fault 10 Text line 6 Range\n"),
-        (7, "begin 0 deq", "fault 10 Text line 7 Range\n"),
-        (7, "begin 1 enq 007", "fault 10 Text line 7 Form\n"),
-        (8, "step 1 E4", "fault 10 Text line 8 Form\n"),
-        (8, "steps 1  10", "fault 10 Text line 8 Form\n"),
-        (8, "steps 1 11", "fault 6 IdleActor line 8\n"),
-        (7, "begin 2 enq 5", "fault 6 IdleActor line 8\n"),
-        (8, "step 2 N1", "fault 6 IdleActor line 8\n"),
-        (8, "step 1 N1", "fault 6 IdleActor line 10\n"),
-        (9, "give 1", "fault 6 IdleActor line 9\n"),
-        (8, "begin 1 deq", "fault 7 ActorBusy line 8\n"),
-        (8, "step 1 N2", "fault 8 NotHere line 8\n"),
-        (8, "step 1 A1", "fault 8 NotHere line 8\n"),
-        (7, "begin 3 enq 5", "fault 9 NoSuchActor line 7\n"),
-        (8, "step 3 N1", "fault 9 NoSuchActor line 8\n"),
-        (10, "steps 3 1", "fault 9 NoSuchActor line 10\n"),
-        (10, "give 3", "fault 9 NoSuchActor line 10\n"),
-    ];
-    for (number, line, want) in cases {
-        let text = text_with(rt.alloc(), number, line)?;
-        let done = done_with(rt.alloc(), &text, 4096)?;
-        let want = (1, b"".as_slice(), want.as_bytes());
-        assert_eq!(rt; done.told(), want, "{line}");
+    for (number, line, want) in &FAULTS {
+        let text = text_with(rt.alloc(), *number, line)?;
+        does(
+            &rt,
+            rt.alloc(),
+            Engine::Run,
+            &text,
+            4096,
+            (1, "", want),
+            line,
+        )?;
     }
     Ok(())
 }
@@ -152,9 +123,7 @@ fn tells_faults_of_whole_texts(rt: HostRuntime) -> Result<(), Fail> {
         (ONE_STEP_TOO_MANY.as_bytes(), "fault 6 IdleActor line 8\n"),
     ];
     for (text, want) in &cases {
-        let done = done_with(rt.alloc(), text, 7)?;
-        let want = (1, b"".as_slice(), want.as_bytes());
-        assert_eq!(rt; done.told(), want);
+        does(&rt, rt.alloc(), Engine::Run, text, 7, (1, "", want), "")?;
     }
     Ok(())
 }
@@ -166,28 +135,15 @@ fn tells_that_a_long_number_is_out_of_range(rt: HostRuntime) -> Result<(), Fail>
         line.push('9')?;
     }
     let text = text_with(rt.alloc(), 3, line.as_str())?;
-    let done = done_with(rt.alloc(), &text, 4096)?;
-    let line = b"fault 10 Text line 3 Range\n".as_slice();
-    assert_eq!(rt; done.told(), (1, b"".as_slice(), line));
+    let want = (1, "", "fault 10 Text line 3 Range\n");
+    does(&rt, rt.alloc(), Engine::Run, &text, 4096, want, "")?;
     Ok(())
 }
 
 #[test]
 fn tells_the_end_of_each_cut_schedule(rt: HostRuntime) -> Result<(), Fail> {
     for (text, _) in &WORKED {
-        let text = text.as_bytes();
-        let mut line = 1u64;
-        for (place, byte) in text.iter().enumerate() {
-            let mut reader = Script::reader(rt.alloc(), &text[..place], 4096)?;
-            let mut writer = Script::writer(rt.alloc(), 1000, 4096)?;
-            let outcome = run_text(rt.alloc(), &mut reader, &mut writer);
-            let want = Err(Fault::from(Refusal::Text(line, TextCause::End)));
-            let found = (outcome, writer.written().len());
-            assert_eq!(rt; found, (want, 0), "before byte {place}");
-            if *byte == b'\n' {
-                line = line.saturating_add(1);
-            }
-        }
+        tells_each_end(&rt, rt.alloc(), Engine::Run, text.as_bytes())?;
     }
     Ok(())
 }
@@ -195,16 +151,7 @@ fn tells_the_end_of_each_cut_schedule(rt: HostRuntime) -> Result<(), Fail> {
 #[test]
 fn writes_nothing_where_a_read_fails(rt: HostRuntime) -> Result<(), Fail> {
     for (text, _) in &WORKED {
-        let calls = text.len().div_ceil(7) as u64;
-        for call in 1..calls.saturating_add(2) {
-            let reader = Script::reader(rt.alloc(), text.as_bytes(), 7)?;
-            let mut reader = reader.with(Trouble::Failure, call);
-            let mut writer = Script::writer(rt.alloc(), 1000, 7)?;
-            let outcome = run_text(rt.alloc(), &mut reader, &mut writer);
-            let want = Err(Fault::from(Refusal::Read));
-            let found = (outcome, writer.written().len());
-            assert_eq!(rt; found, (want, 0), "at call {call}: {text}");
-        }
+        writes_nothing(&rt, rt.alloc(), Engine::Run, text)?;
     }
     Ok(())
 }
@@ -212,20 +159,7 @@ fn writes_nothing_where_a_read_fails(rt: HostRuntime) -> Result<(), Fail> {
 #[test]
 fn writes_a_beginning_where_a_write_fails(rt: HostRuntime) -> Result<(), Fail> {
     for (text, history) in &WORKED {
-        for trouble in [Trouble::Failure, Trouble::Standstill] {
-            let mut call = 0u64;
-            for want in (0..history.len()).step_by(7) {
-                call = call.saturating_add(1);
-                let mut reader = Script::reader(rt.alloc(), text.as_bytes(), 4096)?;
-                let writer = Script::writer(rt.alloc(), 1000, 7)?;
-                let mut writer = writer.with(trouble, call);
-                let outcome = run_text(rt.alloc(), &mut reader, &mut writer);
-                let refusal = Err(Fault::from(Refusal::Write));
-                let begun = history.as_bytes().get(..want);
-                let found = (outcome, Some(writer.written()));
-                assert_eq!(rt; found, (refusal, begun), "at call {call}: {text}");
-            }
-        }
+        writes_a_beginning(&rt, rt.alloc(), Engine::Run, text, history.as_bytes())?;
     }
     Ok(())
 }

@@ -1,18 +1,71 @@
+use crate::tests::comparing::same;
 use command_line::{Task, read_words};
 use line_table::Kind;
 use std::alloc::{AllocError, Global};
+use std::process::Abort;
 use std::test::Fail;
 
-fn strings(alloc: Global, words: &[&str]) -> Result<Vec<String>, AllocError> {
-    let mut strings = Vec::new(alloc);
-    for word in words {
-        strings.push(String::from_str(alloc, word)?)?;
-    }
-    Ok(strings)
-}
-
 /// What a task's words ask for: 1 for a run, 2 for a check, 3 for work, 4 for posting; the workers, the queue and the nodes.
-fn told(task: Task) -> (u8, u32, u8, u32) {
+type Told = (u8, u32, u8, u32);
+
+/// Words, what they ask for, and the file.
+const COMMANDS: [(&[&str], Told, &str); 17] = [
+    (&[], (1, 0, 0, 0), "-"),
+    (&["run", "-"], (1, 0, 0, 0), "-"),
+    (&["run", "row.schedule"], (1, 0, 0, 0), "row.schedule"),
+    (&["run", ""], (1, 0, 0, 0), ""),
+    (&["run", "two words"], (1, 0, 0, 0), "two words"),
+    (&["run", "--", "--help"], (1, 0, 0, 0), "--help"),
+    (&["check", "-"], (2, 0, 0, 0), "-"),
+    (&["check", "row.history"], (2, 0, 0, 0), "row.history"),
+    (&["work", "a"], (3, 4, 2, 1024), "a"),
+    (&["work", "a", "--workers", "1"], (3, 1, 2, 1024), "a"),
+    (&["work", "--workers=64", "a"], (3, 64, 2, 1024), "a"),
+    (&["work", "-", "--queue", "two-lock"], (3, 4, 1, 1024), "-"),
+    (
+        &["work", "a", "--queue", "nonblocking"],
+        (3, 4, 2, 1024),
+        "a",
+    ),
+    (
+        &["work", "a", "--nodes", "16777214", "--workers", "2"],
+        (3, 2, 2, 16_777_214),
+        "a",
+    ),
+    (&["post", "a"], (4, 0, 2, 0), "a"),
+    (&["post", "--queue=two-lock", "-"], (4, 0, 1, 0), "-"),
+    (&["post", "a", "--queue", "nonblocking"], (4, 0, 2, 0), "a"),
+];
+
+/// Words that ask for no command, and the status.
+const OTHERS: [(&[&str], u8); 24] = [
+    (&["run"], 2),
+    (&["run", "a", "b"], 2),
+    (&["run", "--fast", "a"], 2),
+    (&["check"], 2),
+    (&["work"], 2),
+    (&["work", "a", "b"], 2),
+    (&["work", "a", "--workers", "0"], 2),
+    (&["work", "a", "--workers", "65"], 2),
+    (&["work", "a", "--nodes", "1"], 2),
+    (&["work", "a", "--nodes", "16777215"], 2),
+    (&["work", "a", "--queue", "non-blocking"], 2),
+    (&["work", "a", "--workers", "2", "--workers", "2"], 2),
+    (&["run", "a", "--workers", "2"], 2),
+    (&["work", "--help"], 0),
+    (&["post"], 2),
+    (&["post", "a", "b"], 2),
+    (&["post", "a", "--workers", "2"], 2),
+    (&["post", "a", "--queue", "two_lock"], 2),
+    (&["post", "--help"], 0),
+    (&["-"], 2),
+    (&["Run", "a"], 2),
+    (&["--help"], 0),
+    (&["check", "--help"], 0),
+    (&["--version"], 0),
+];
+
+fn told(task: Task) -> Told {
     match task {
         Task::Run => (1, 0, 0, 0),
         Task::Check => (2, 0, 0, 0),
@@ -29,85 +82,43 @@ fn number_of(kind: Kind) -> u8 {
     }
 }
 
+fn strings(alloc: Global, words: &[&str]) -> Result<Vec<String>, AllocError> {
+    let mut strings = Vec::new(alloc);
+    for word in words {
+        strings.push(String::from_str(alloc, word)?)?;
+    }
+    Ok(strings)
+}
+
+/// The words ask for this task with this file; else their status is this one, and there is a text.
+fn answers(
+    rt: &impl Abort,
+    alloc: Global,
+    words: &[&str],
+    want: Result<(Told, &str), u8>,
+) -> Result<(), AllocError> {
+    let answer = read_words(alloc, &strings(alloc, words)?);
+    let found = match &answer {
+        Ok(command) => Ok((told(command.task), command.file.as_str())),
+        Err((status, text)) => Err((*status, text.is_empty())),
+    };
+    let want = want.map_err(|status| (status, false));
+    same(rt, found, want, format_args!("{words:?} gave {answer:?}"));
+    Ok(())
+}
+
 #[test]
 fn reads_what_to_do_with_which_file(rt: HostRuntime) -> Result<(), Fail> {
-    let cases: [(&[&str], (u8, u32, u8, u32), &str); 17] = [
-        (&[], (1, 0, 0, 0), "-"),
-        (&["run", "-"], (1, 0, 0, 0), "-"),
-        (&["run", "row.schedule"], (1, 0, 0, 0), "row.schedule"),
-        (&["run", ""], (1, 0, 0, 0), ""),
-        (&["run", "two words"], (1, 0, 0, 0), "two words"),
-        (&["run", "--", "--help"], (1, 0, 0, 0), "--help"),
-        (&["check", "-"], (2, 0, 0, 0), "-"),
-        (&["check", "row.history"], (2, 0, 0, 0), "row.history"),
-        (&["work", "a"], (3, 4, 2, 1024), "a"),
-        (&["work", "a", "--workers", "1"], (3, 1, 2, 1024), "a"),
-        (&["work", "--workers=64", "a"], (3, 64, 2, 1024), "a"),
-        (&["work", "-", "--queue", "two-lock"], (3, 4, 1, 1024), "-"),
-        (
-            &["work", "a", "--queue", "nonblocking"],
-            (3, 4, 2, 1024),
-            "a",
-        ),
-        (
-            &["work", "a", "--nodes", "16777214", "--workers", "2"],
-            (3, 2, 2, 16_777_214),
-            "a",
-        ),
-        (&["post", "a"], (4, 0, 2, 0), "a"),
-        (&["post", "--queue=two-lock", "-"], (4, 0, 1, 0), "-"),
-        (&["post", "a", "--queue", "nonblocking"], (4, 0, 2, 0), "a"),
-    ];
-    for (words, task, file) in &cases {
-        let words = strings(rt.alloc(), words)?;
-        match read_words(rt.alloc(), &words) {
-            Ok(command) => {
-                let got = (told(command.task), command.file.as_str());
-                assert_eq!(rt; got, (*task, *file), "{words:?}");
-            }
-            Err((status, text)) => panic!(rt; "{words:?} gave {status}, {text}"),
-        }
+    for (words, task, file) in &COMMANDS {
+        answers(&rt, rt.alloc(), words, Ok((*task, *file)))?;
     }
     Ok(())
 }
 
 #[test]
 fn refuses_other_words(rt: HostRuntime) -> Result<(), Fail> {
-    let cases: [(&[&str], u8); 24] = [
-        (&["run"], 2),
-        (&["run", "a", "b"], 2),
-        (&["run", "--fast", "a"], 2),
-        (&["check"], 2),
-        (&["work"], 2),
-        (&["work", "a", "b"], 2),
-        (&["work", "a", "--workers", "0"], 2),
-        (&["work", "a", "--workers", "65"], 2),
-        (&["work", "a", "--nodes", "1"], 2),
-        (&["work", "a", "--nodes", "16777215"], 2),
-        (&["work", "a", "--queue", "non-blocking"], 2),
-        (&["work", "a", "--workers", "2", "--workers", "2"], 2),
-        (&["run", "a", "--workers", "2"], 2),
-        (&["work", "--help"], 0),
-        (&["post"], 2),
-        (&["post", "a", "b"], 2),
-        (&["post", "a", "--workers", "2"], 2),
-        (&["post", "a", "--queue", "two_lock"], 2),
-        (&["post", "--help"], 0),
-        (&["-"], 2),
-        (&["Run", "a"], 2),
-        (&["--help"], 0),
-        (&["check", "--help"], 0),
-        (&["--version"], 0),
-    ];
-    for (words, want) in &cases {
-        let words = strings(rt.alloc(), words)?;
-        match read_words(rt.alloc(), &words) {
-            Ok(command) => panic!(rt; "{words:?} gave {command:?}"),
-            Err((status, text)) => {
-                assert_eq!(rt; status, *want, "{words:?}");
-                assert!(rt; !text.is_empty(), "{words:?}");
-            }
-        }
+    for (words, want) in &OTHERS {
+        answers(&rt, rt.alloc(), words, Err(*want))?;
     }
     Ok(())
 }
