@@ -1,5 +1,7 @@
 //! Runs of letters, with the answers worked out by hand.
+mod comparing;
 mod letters;
+mod loads;
 mod nonblocking_runs;
 mod plans;
 mod texts;

@@ -2,14 +2,14 @@
 ghost use Rattle.std.specs.Prelude.{IfOk};
 ghost use Rattle.std.specs.List.{All};
 ghost use Rattle.mailbox.specs.Openings.{CanSend, CanReceive};
-ghost use Rattle.mailbox.specs.Offices.{IsSender};
+ghost use Rattle.mailbox.specs.Offices.{IsSender, IsReceiver};
 
+use super::comparing::same;
 use history::{Body, Fifo, Refusal};
-use mailbox::{Letter, Office, Sender};
+use mailbox::{Letter, Office, Receiver, Sender};
 use std::alloc::Global;
 use std::process::Abort;
 use std::sync::Wait;
-use std::test::Fail;
 
 /// How many turns each call has.
 const TURNS: u32 = 3;
@@ -30,21 +30,8 @@ fn last<Q: Fifo + Drop>(
     }
 }
 
-/// The last of these seats, taken from them.
-pub fn last_seat<Q: Fifo>(queue: &Q, seats: &mut Vec<Q::Seat>) -> Result<Q::Seat, Refusal>
-    requires { All (CanSend Q.is_seat Q.permits Q.known queue.now) seats.old.items }
-    ensures last { IfOk result (CanSend Q.is_seat Q.permits Q.known queue.now) }
-    ensures rest { All (CanSend Q.is_seat Q.permits Q.known queue.now) seats.new.items }
-{
-    let _ = queue;
-    match seats.pop() {
-        Some(seat) => Ok(seat),
-        None => Err(Refusal::BadSize),
-    }
-}
-
-/// A body that is no letter's index, pushed by this seat.
-pub fn push_stray<Q: Fifo>(queue: &Q, seat: &mut Q::Seat) -> Result<(), Refusal>
+// A body that is no letter's index, pushed by this seat.
+fn push_stray<Q: Fifo>(queue: &Q, seat: &mut Q::Seat) -> Result<(), Refusal>
     requires { CanSend Q.is_seat Q.permits Q.known queue.now seat.old }
 {
     match Body::new(5) {
@@ -53,9 +40,89 @@ pub fn push_stray<Q: Fifo>(queue: &Q, seat: &mut Q::Seat) -> Result<(), Refusal>
     }
 }
 
+/// Takes the last of these seats from them. Perhaps it first pushes a body that is no letter's index.
+pub fn take_last<Q: Fifo>(queue: &Q, seats: &mut Vec<Q::Seat>, stray: bool) -> Result<(), Refusal>
+    requires { All (CanSend Q.is_seat Q.permits Q.known queue.now) seats.old.items }
+    ensures { All (CanSend Q.is_seat Q.permits Q.known queue.now) seats.new.items }
+{
+    let Some(mut seat) = seats.pop() else {
+        return Err(Refusal::BadSize);
+    };
+    if stray {
+        push_stray(queue, &mut seat)
+    } else {
+        Ok(())
+    }
+}
+
 // The sender and the text of a letter.
 fn parts<'a>(letter: Letter<'a>) -> (u16, &'a str) {
     (letter.from, letter.text)
+}
+
+// Sends a letter, in a few turns.
+fn sends<R: Wait, Q: Fifo + Drop>(
+    rt: &R,
+    alloc: Global,
+    office: &Office<Q>,
+    sender: &mut Sender<Q>,
+    text: &str,
+) -> Result<(), Refusal>
+    requires { IsSender Q.is_seat Q.permits Q.known office.now sender.old }
+    ensures { IsSender Q.is_seat Q.permits Q.known office.now sender.new }
+{
+    match String::from_str(alloc, text) {
+        Ok(text) => sender.try_send(rt, office, text, TURNS),
+        Err(_) => Err(Refusal::Memory),
+    }
+}
+
+// The letter that is taken in a few turns is of this sender, and has this text.
+fn takes<Q: Fifo + Drop>(
+    rt: &impl Abort,
+    office: &Office<Q>,
+    receiver: &mut Receiver<Q>,
+    from: u16,
+    text: &str,
+) -> Result<(), Refusal>
+    requires { IsReceiver Q.is_seat Q.permits Q.known office.now receiver.old }
+    ensures { IsReceiver Q.is_seat Q.permits Q.known office.now receiver.new }
+{
+    let letter = receiver.try_take(office, TURNS)?;
+    same(rt, letter.map(parts), Some((from, text)), "");
+    Ok(())
+}
+
+// Two letters of the first of two senders, with one of the second between them.
+fn sends_three<R: Wait, Q: Fifo + Drop>(
+    rt: &R,
+    alloc: Global,
+    office: &Office<Q>,
+    senders: &mut Vec<Sender<Q>>,
+) -> Result<(), Refusal>
+    requires { All (IsSender Q.is_seat Q.permits Q.known office.now) senders.old.items }
+{
+    let mut second = last(office, senders)?;
+    let mut first = last(office, senders)?;
+    sends(rt, alloc, office, &mut first, "hello")?;
+    sends(rt, alloc, office, &mut second, "hi")?;
+    sends(rt, alloc, office, &mut first, "again")
+}
+
+// Those letters are taken, in that order; then there is none.
+fn takes_three<R: Wait + Abort, Q: Fifo + Drop>(
+    rt: &R,
+    office: &Office<Q>,
+    receiver: &mut Receiver<Q>,
+) -> Result<(), Refusal>
+    requires { IsReceiver Q.is_seat Q.permits Q.known office.now receiver.old }
+{
+    takes(rt, office, receiver, 1, "hello")?;
+    takes(rt, office, receiver, 2, "hi")?;
+    takes(rt, office, receiver, 1, "again")?;
+    let letter = receiver.take(rt, office)?;
+    same(rt, letter.map(parts), None, "");
+    Ok(())
 }
 
 /// Three letters of two senders come in the order in which they were sent; then there is none. The queue has seven nodes.
@@ -65,32 +132,35 @@ pub fn letters_come_in_the_order_sent<R: Wait + Abort, Q: Fifo + Drop>(
     queue: Q,
     seats: Vec<Q::Seat>,
     receiver: Q::Seat,
-) -> Result<(), Fail>
+) -> Result<(), Refusal>
     requires senders { All (CanSend Q.is_seat Q.permits Q.known queue) seats.items }
     requires receiver { CanReceive Q.is_seat Q.permits Q.known queue receiver }
 {
     let (office, mut senders, mut receiver) = Office::new(alloc, queue, seats, receiver)?;
-    let mut second = last(&office, &mut senders)?;
-    let mut first = last(&office, &mut senders)?;
-    let hello = String::from_str(alloc, "hello")?;
-    let hi = String::from_str(alloc, "hi")?;
-    let again = String::from_str(alloc, "again")?;
-    first.try_send(rt, &office, hello, TURNS)?;
-    second.try_send(rt, &office, hi, TURNS)?;
-    first.try_send(rt, &office, again, TURNS)?;
-    let one = receiver.try_take(&office, TURNS)?.map(parts);
-    let two = receiver.try_take(&office, TURNS)?.map(parts);
-    let three = receiver.try_take(&office, TURNS)?.map(parts);
-    let none = receiver.take(rt, &office)?.map(parts);
-    assert_eq!(rt;
-        (one, two, three, none),
-        (
-            Some((1, "hello")),
-            Some((2, "hi")),
-            Some((1, "again")),
-            None
-        )
-    );
+    sends_three(rt, alloc, &office, &mut senders)?;
+    takes_three(rt, &office, &mut receiver)
+}
+
+// A letter is sent behind a body that is no letter's index: no take gives it, and each says that one is lost.
+fn loses<R: Wait + Abort, Q: Fifo + Drop>(
+    rt: &R,
+    alloc: Global,
+    office: &Office<Q>,
+    senders: &mut Vec<Sender<Q>>,
+    receiver: &mut Receiver<Q>,
+) -> Result<(), Refusal>
+    requires senders { All (IsSender Q.is_seat Q.permits Q.known office.now) senders.old.items }
+    requires receiver { IsReceiver Q.is_seat Q.permits Q.known office.now receiver.old }
+{
+    let Ok(hello) = String::from_str(alloc, "hello") else {
+        return Err(Refusal::Memory);
+    };
+    let mut sender = last(office, senders)?;
+    sender.send(rt, office, hello)?;
+    let first = receiver.try_take(office, TURNS).err();
+    let second = receiver.take(rt, office).err();
+    let lost = Some(Refusal::Lost);
+    same(rt, (first, second), (lost, lost), "");
     Ok(())
 }
 
@@ -101,18 +171,11 @@ pub fn a_loss_is_told_from_then_on<R: Wait + Abort, Q: Fifo + Drop>(
     queue: Q,
     mut seats: Vec<Q::Seat>,
     receiver: Q::Seat,
-) -> Result<(), Fail>
+) -> Result<(), Refusal>
     requires senders { All (CanSend Q.is_seat Q.permits Q.known queue) seats.items }
     requires receiver { CanReceive Q.is_seat Q.permits Q.known queue receiver }
 {
-    let mut stray = last_seat(&queue, &mut seats)?;
-    push_stray(&queue, &mut stray)?;
+    take_last(&queue, &mut seats, true)?;
     let (office, mut senders, mut receiver) = Office::new(alloc, queue, seats, receiver)?;
-    let mut sender = last(&office, &mut senders)?;
-    let hello = String::from_str(alloc, "hello")?;
-    sender.send(rt, &office, hello)?;
-    let first = receiver.try_take(&office, TURNS).err();
-    let second = receiver.take(rt, &office).err();
-    assert_eq!(rt; (first, second), (Some(Refusal::Lost), Some(Refusal::Lost)));
-    Ok(())
+    loses(rt, alloc, &office, &mut senders, &mut receiver)
 }

@@ -1,5 +1,7 @@
 //! Letters over the non-blocking queue.
+use super::comparing::same;
 use super::letters::{a_loss_is_told_from_then_on, letters_come_in_the_order_sent};
+use super::loads::LOADS;
 use history::Refusal;
 use mail_engine::non_blocking_seats;
 use numbered_letters::{Load, posted};
@@ -16,14 +18,16 @@ const GREATEST_COUNT: u64 = 1_099_511_627_775;
 #[test]
 fn in_the_order_sent(rt: HostRuntime) -> Result<(), Fail> {
     let (queue, seats, receiver) = non_blocking_seats(rt.alloc(), 7, 100, 2)?;
-    letters_come_in_the_order_sent(&rt, rt.alloc(), queue, seats, receiver)
+    letters_come_in_the_order_sent(&rt, rt.alloc(), queue, seats, receiver)?;
+    Ok(())
 }
 
 /// A body that is no letter's index is lost, and then each take is.
 #[test]
 fn lost_from_then_on(rt: HostRuntime) -> Result<(), Fail> {
     let (queue, seats, receiver) = non_blocking_seats(rt.alloc(), 7, 100, 2)?;
-    a_loss_is_told_from_then_on(&rt, rt.alloc(), queue, seats, receiver)
+    a_loss_is_told_from_then_on(&rt, rt.alloc(), queue, seats, receiver)?;
+    Ok(())
 }
 
 // Posts the letters of so many senders, on 4,006 nodes: how many came, where each sender's came in order.
@@ -40,14 +44,14 @@ fn came<R: Threads + Wait + Clock + Sync>(
 /// All letters come, and each sender's in their order; also where there are no letters, or no senders.
 #[test]
 fn each_senders_letters_come_in_order(rt: HostRuntime) -> Result<(), Fail> {
-    for (senders, count) in [(4, 1000), (1, 1), (3, 0), (0, 0)] {
+    for (senders, count, all) in &LOADS {
         let load = Load {
-            first: count,
-            others: count,
+            first: *count,
+            others: *count,
         };
-        let found = came(&rt, rt.alloc(), senders, load);
-        let wanted = Ok(Some(usize::from(senders) * count));
-        assert_eq!(rt; found, wanted, "{senders} senders of {count} letters");
+        let found = came(&rt, rt.alloc(), *senders, load);
+        let tried = format_args!("{senders} senders of {count} letters");
+        same(&rt, found, Ok(Some(*all)), tried);
     }
     Ok(())
 }

@@ -1,7 +1,7 @@
 //! Letters over the two-lock queue, also where it refuses.
-use super::letters::{
-    a_loss_is_told_from_then_on, last_seat, letters_come_in_the_order_sent, push_stray,
-};
+use super::comparing::same;
+use super::letters::{a_loss_is_told_from_then_on, letters_come_in_the_order_sent, take_last};
+use super::loads::LOADS;
 use super::plans::{Late, Trouble};
 use history::{Refusal, WornWord};
 use mail_engine::two_lock_seats;
@@ -23,14 +23,16 @@ const TRIES: u32 = 100;
 #[test]
 fn in_the_order_sent(rt: HostRuntime) -> Result<(), Fail> {
     let (queue, seats, receiver) = two_lock_seats(rt.alloc(), 7, 100, 2)?;
-    letters_come_in_the_order_sent(&rt, rt.alloc(), queue, seats, receiver)
+    letters_come_in_the_order_sent(&rt, rt.alloc(), queue, seats, receiver)?;
+    Ok(())
 }
 
 /// A body that is no letter's index is lost, and then each take is.
 #[test]
 fn lost_from_then_on(rt: HostRuntime) -> Result<(), Fail> {
     let (queue, seats, receiver) = two_lock_seats(rt.alloc(), 7, 100, 2)?;
-    a_loss_is_told_from_then_on(&rt, rt.alloc(), queue, seats, receiver)
+    a_loss_is_told_from_then_on(&rt, rt.alloc(), queue, seats, receiver)?;
+    Ok(())
 }
 
 // Posts the letters of so many senders, on 4,006 nodes: how many came, where each sender's came in order.
@@ -47,14 +49,14 @@ fn came<R: Threads + Wait + Clock + Sync>(
 /// All letters come, and each sender's in their order; also where there are no letters, or no senders.
 #[test]
 fn each_senders_letters_come_in_order(rt: HostRuntime) -> Result<(), Fail> {
-    for (senders, count) in [(4, 1000), (1, 1), (3, 0), (0, 0)] {
+    for (senders, count, all) in &LOADS {
         let load = Load {
-            first: count,
-            others: count,
+            first: *count,
+            others: *count,
         };
-        let found = came(&rt, rt.alloc(), senders, load);
-        let wanted = Ok(Some(usize::from(senders) * count));
-        assert_eq!(rt; found, wanted, "{senders} senders of {count} letters");
+        let found = came(&rt, rt.alloc(), *senders, load);
+        let tried = format_args!("{senders} senders of {count} letters");
+        same(&rt, found, Ok(Some(*all)), tried);
     }
     Ok(())
 }
@@ -70,7 +72,7 @@ fn a_refused_allocation_is_told_once(rt: HostRuntime) -> Result<(), Fail> {
         Err(Refusal::Memory) => came(&rt, rt.alloc(), 2, load),
         found => found,
     };
-    assert_eq!(rt; found, Ok(Some(4)));
+    same(&rt, found, Ok(Some(4)), "");
     Ok(())
 }
 
@@ -83,10 +85,7 @@ fn troubled<R: Threads + Wait + Clock + Sync>(
 ) -> Result<Option<usize>, Refusal> {
     let (queue, mut seats, receiver) = two_lock_seats(alloc, 16, GREATEST_COUNT, 3)?;
     let queue = Planned::new(queue, trouble);
-    let mut third = last_seat(&queue, &mut seats)?;
-    if stray {
-        push_stray(&queue, &mut third)?;
-    }
+    take_last(&queue, &mut seats, stray)?;
     let load = Load {
         first: 2,
         others: 1,
@@ -100,7 +99,7 @@ fn the_receivers_refusal_comes_first(rt: HostRuntime) -> Result<(), Fail> {
     let worn = troubled(&rt, rt.alloc(), Trouble::new(false, true), false);
     let lost = troubled(&rt, rt.alloc(), Trouble::new(false, false), true);
     let head = Refusal::WornOut(WornWord::Head);
-    assert_eq!(rt; (worn, lost), (Err(head), Err(Refusal::Lost)));
+    same(&rt, (worn, lost), (Err(head), Err(Refusal::Lost)), "");
     Ok(())
 }
 
@@ -114,7 +113,7 @@ fn a_letter_comes_that_is_sent_after_a_take_found_none(rt: HostRuntime) -> Resul
         others: 1,
     };
     let came = posted(&rt, rt.alloc(), queue, seats, receiver, load)?;
-    assert_eq!(rt; came.in_order, Some(1));
+    same(&rt, came.in_order, Some(1), "");
     Ok(())
 }
 
@@ -141,6 +140,6 @@ fn free_is_answered<R: Threads + Wait + Clock + Sync>(
 #[test]
 fn the_first_senders_refusal_is_answered(rt: HostRuntime) -> Result<(), Fail> {
     let found = free_is_answered(&rt, rt.alloc());
-    assert_eq!(rt; found, Ok(true));
+    same(&rt, found, Ok(true), "");
     Ok(())
 }
