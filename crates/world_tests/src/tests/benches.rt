@@ -1,6 +1,9 @@
 //! Two threads that share a world.
-use super::expected::{enq, value};
-use history::{Op, Refusal, Reply, Stamped, Verdict, check};
+use super::comparing::same;
+use super::expected::Answer::Value;
+use super::expected::Call::{self, Deq, Enq};
+use super::expected::{op, reply};
+use history::{Refusal, Reply, Stamped, Verdict, check};
 use line_table::Kind;
 use std::alloc::Global;
 use std::sync::{Mutex, Wait};
@@ -13,8 +16,8 @@ const MOST_STEPS: u32 = 20;
 
 /// Begins a call of an actor and takes its steps until it ends, each move under a lock of its own. Answers how many
 /// steps it took.
-fn whole_call(rt: &impl Wait, bench: &Bench, actor: u16, op: Op) -> Result<u32, Refusal> {
-    step_in(&mut on_bench(rt, bench), Move::Begin(actor, op))?;
+fn whole_call(rt: &impl Wait, bench: &Bench, actor: u16, call: Call) -> Result<u32, Refusal> {
+    step_in(&mut on_bench(rt, bench), Move::Begin(actor, op(call)))?;
     for before in 0..MOST_STEPS {
         let stepped = step_in(&mut on_bench(rt, bench), Move::Step(actor))?;
         if let Stepped::Ended(_, _) = stepped {
@@ -33,9 +36,9 @@ fn seen_on(rt: &impl Wait, alloc: Global, bench: &Bench) -> Result<(Vec<Stamped>
 // Whether an operation is the push or the pop, and a pop of so many steps: 4 where it finds nothing, and else 9.
 fn is_either(operation: &Stamped, popped: u32) -> bool {
     let expected = match (operation.actor, popped) {
-        (1, _) => (enq(5), Reply::Done),
-        (_, 4) => (Op::Deq, Reply::Empty),
-        _ => (Op::Deq, value(1, 5)),
+        (1, _) => (op(Enq(5)), Reply::Done),
+        (_, 4) => (op(Deq), Reply::Empty),
+        _ => (op(Deq), reply(Value(1, 5))),
     };
     (operation.op, operation.reply) == (expected.0, Some(expected.1))
 }
@@ -45,22 +48,18 @@ fn two_threads_share_a_world(rt: HostRuntime) -> Result<(), Fail> {
     let bench = Mutex::new(World::new(rt.alloc(), Kind::TwoLock, 3, 100, 2)?);
     let (pushed, popped) = join(
         &rt,
-        || whole_call(&rt, &bench, 1, enq(5)),
-        || whole_call(&rt, &bench, 2, Op::Deq),
+        || whole_call(&rt, &bench, 1, Enq(5)),
+        || whole_call(&rt, &bench, 2, Deq),
     );
     let (history, steps) = seen_on(&rt, rt.alloc(), &bench)?;
     let popped = popped?;
-    assert_eq!(rt;
-        (pushed?, history.len(), steps),
-        (10, 2, u64::from(popped) + 10)
-    );
-    assert!(rt; popped == 4 || popped == 9, "{popped} steps");
-    assert_eq!(rt; check(rt.alloc(), &history)?, Verdict::Yes);
+    let found = (pushed?, history.len(), steps);
+    same(&rt, found, (10, 2, u64::from(popped) + 10), popped);
+    same(&rt, popped == 4 || popped == 9, true, popped);
+    same(&rt, check(rt.alloc(), &history)?, Verdict::Yes, "");
     for operation in &history {
-        assert!(rt;
-            is_either(operation, popped),
-            "{operation:?} and {popped} steps"
-        );
+        let is_expected = is_either(operation, popped);
+        same(&rt, is_expected, true, (*operation, popped));
     }
     Ok(())
 }

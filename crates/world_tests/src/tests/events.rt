@@ -1,23 +1,39 @@
-//! What a test does with a world, and what it expects to see there.
-use history::{Op, Refusal, Taken};
+//! What a test does with a world, and what it expects to see there: constants, so with bodies as numbers.
+use super::expected::{Answer, Call};
+use history::Refusal;
 use line_table::Line;
-use step_machine::{Held, Move, Place, Stepped};
+use step_machine::{Held, Place};
+
+/// A move of a world.
+#[derive(Clone, Copy, Debug)]
+pub enum Act {
+    Begin(u16, Call),
+    Step(u16),
+    Give(u16),
+}
+
+/// What `step_in` tells of a move.
+#[derive(Clone, Copy, Debug)]
+pub enum Telling {
+    Began,
+    Went(Line),
+    Ended(Line, Answer),
+    Refused(Refusal),
+}
 
 /// What is done with a world, or what stands there. References are told by their node and count.
-#[derive(Clone, Copy, Debug, PartialEq, Eq)]
+#[derive(Clone, Copy, Debug)]
 pub enum Event {
     /// An actor begins a call.
-    Begin(u16, Op),
+    Begin(u16, Call),
     /// An actor takes some steps.
     Steps(u16, u32),
     /// An actor gives up.
     Give(u16),
-    /// A call begins by `step_in`, which says that it began.
-    Begun(u16, Op),
-    /// A step is taken by `step_in`, which tells this.
-    Went(u16, Stepped),
     /// A move is refused.
-    Refused(Move, Refusal),
+    Refused(Act, Refusal),
+    /// A move is made by `step_in`, which tells this.
+    Told(Act, Telling),
     /// What Free, Head and Tail name.
     Free(u32, u64),
     Head(u32, u64),
@@ -34,10 +50,6 @@ pub enum Event {
     Next(u32, u32, u64),
     /// Where a node is.
     Placed(u32, Place),
-    /// The value of a node.
-    Value(u32, Taken),
-    /// Found in the place of another event: a move was refused.
-    Stopped(Refusal),
-    /// Found so: what the event names isn't there, or a move did what it was not to do.
-    Missing,
+    /// The value of a node: the actor that pushed it, and its body.
+    Value(u32, u16, u32),
 }

@@ -1,7 +1,33 @@
-//! Operations, as a history is to show them.
-use history::{Body, Op, Reply, Stamped, Taken};
+//! Operations, as a history is to show them: constants, with bodies as numbers below 2^32.
+use history::{Body, Op, Refusal, Reply, Stamped, Taken};
 
-/// A body below 2^32.
+/// A call, with the number of its body.
+#[derive(Clone, Copy, Debug)]
+pub enum Call {
+    Enq(u32),
+    Deq,
+}
+
+/// What a call is answered; a value with the actor that pushed it and its body.
+#[derive(Clone, Copy, Debug)]
+pub enum Answer {
+    Done,
+    Value(u16, u32),
+    Empty,
+    Refused(Refusal),
+}
+
+/// An operation of an actor, with the number of its first step.
+#[derive(Clone, Copy, Debug)]
+pub enum Shown {
+    /// It took no effect yet.
+    Started(u16, Call, u64),
+    /// It took effect at this number, and isn't complete.
+    Effective(u16, Call, u64, u64),
+    /// It is complete: its first and its last number, and the one at which it took effect.
+    Complete(u16, Call, (u64, u64, u64), Answer),
+}
+
 fn body(number: u32) -> Body {
     match Body::new(u64::from(number)) {
         Some(body) => body,
@@ -9,8 +35,12 @@ fn body(number: u32) -> Body {
     }
 }
 
-pub fn enq(number: u32) -> Op {
-    Op::Enq(body(number))
+/// The operation of a queue that is this call.
+pub fn op(call: Call) -> Op {
+    match call {
+        Call::Enq(number) => Op::Enq(body(number)),
+        Call::Deq => Op::Deq,
+    }
 }
 
 /// A value, with the actor that pushed it.
@@ -21,36 +51,34 @@ pub fn taken(from: u16, number: u32) -> Taken {
     }
 }
 
-/// The reply of a dequeue that took what an actor pushed.
-pub fn value(from: u16, number: u32) -> Reply {
-    Reply::Value(taken(from, number))
+/// The reply of a queue that is this answer.
+pub fn reply(answer: Answer) -> Reply {
+    match answer {
+        Answer::Done => Reply::Done,
+        Answer::Value(from, number) => Reply::Value(taken(from, number)),
+        Answer::Empty => Reply::Empty,
+        Answer::Refused(why) => Reply::Refused(why),
+    }
 }
 
-/// An operation that took no effect yet.
-pub fn started(actor: u16, op: Op, first: u64) -> Stamped {
+/// The operation as it stands in a history.
+pub fn stamped(shown: Shown) -> Stamped {
+    let (actor, call, first) = match shown {
+        Shown::Started(actor, call, first) => (actor, call, first),
+        Shown::Effective(actor, call, first, _) => (actor, call, first),
+        Shown::Complete(actor, call, (first, _, _), _) => (actor, call, first),
+    };
+    let (last, at, answer) = match shown {
+        Shown::Started(..) => (None, None, None),
+        Shown::Effective(_, _, _, at) => (None, Some(at), None),
+        Shown::Complete(_, _, (_, last, at), answer) => (Some(last), Some(at), Some(reply(answer))),
+    };
     Stamped {
         actor,
-        op,
+        op: op(call),
         first,
-        last: None,
-        at: None,
-        reply: None,
-    }
-}
-
-/// An operation that took effect, and isn't complete.
-pub fn effective(actor: u16, op: Op, first: u64, at: u64) -> Stamped {
-    Stamped {
-        at: Some(at),
-        ..started(actor, op, first)
-    }
-}
-
-/// A complete operation: its first and its last number, and the one at which it took effect.
-pub fn complete(actor: u16, op: Op, (first, last, at): (u64, u64, u64), reply: Reply) -> Stamped {
-    Stamped {
-        last: Some(last),
-        reply: Some(reply),
-        ..effective(actor, op, first, at)
+        last,
+        at,
+        reply: answer,
     }
 }

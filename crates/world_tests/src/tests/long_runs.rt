@@ -1,8 +1,11 @@
 //! One long run in the greatest queue: no call says that memory is refused where it is there.
-use super::expected::{complete, enq, value};
+use super::comparing::same;
+use super::expected::Answer::{Done, Value};
+use super::expected::Call::{Deq, Enq};
+use super::expected::Shown::Complete;
+use super::expected::stamped;
 use super::moves::{begin, steps};
-use history::Op::Deq;
-use history::{Refusal, Reply, Stamped, Verdict, check};
+use history::{Refusal, Stamped, Verdict, check};
 use line_table::Kind;
 use std::alloc::Global;
 use std::test::Fail;
@@ -18,7 +21,7 @@ const PUSHED: u64 = 1_000_000;
 fn pushed_and_popped(alloc: Global) -> Result<World, Refusal> {
     let mut world = World::new(alloc, Kind::TwoLock, 16_777_214, 1_099_511_627_775, 65_535)?;
     for number in 0..CALLS {
-        begin(&mut world, 1, enq(number))?;
+        begin(&mut world, 1, Enq(number))?;
         steps(&mut world, 1, 10)?;
     }
     for _ in 0..CALLS {
@@ -33,22 +36,22 @@ fn operation(place: u32) -> Stamped {
     if place < CALLS {
         let before = u64::from(place) * 10;
         let stamps = (before + 1, before + 10, before + 8);
-        return complete(1, enq(place), stamps, Reply::Done);
+        return stamped(Complete(1, Enq(place), stamps, Done));
     }
     let number = place - CALLS;
     let before = PUSHED + u64::from(number) * 9;
     let stamps = (before + 1, before + 9, before + 5);
-    complete(1, Deq, stamps, value(1, number))
+    stamped(Complete(1, Deq, stamps, Value(1, number)))
 }
 
 #[test]
 fn a_long_run_has_the_memory_that_it_takes(rt: HostRuntime) -> Result<(), Fail> {
     let world = pushed_and_popped(rt.alloc())?;
     let history = world.history(rt.alloc())?;
-    assert_eq!(rt; history.len(), 200_000);
+    same(&rt, history.len(), 200_000, "");
     for (place, found) in (0..200_000).zip(&history) {
-        assert_eq!(rt; *found, operation(place), "operation {place}");
+        same(&rt, *found, operation(place), place);
     }
-    assert_eq!(rt; check(rt.alloc(), &history)?, Verdict::Yes);
+    same(&rt, check(rt.alloc(), &history)?, Verdict::Yes, "");
     Ok(())
 }

@@ -1,8 +1,11 @@
 //! Refused memory: the call says so, changes nothing, and succeeds once there is memory.
-use super::expected::{complete, enq, value};
+use super::expected::Answer::{Done, Value};
+use super::expected::Call::{self, Deq, Enq};
+use super::expected::Shown::{self, Complete};
+use super::expected::op;
 use super::moves::steps;
-use history::Op::Deq;
-use history::{Op, Refusal, Reply, Stamped};
+use super::trials::are;
+use history::{Refusal, Stamped};
 use line_table::Kind;
 use std::alloc::Global;
 use std::process::Abort;
@@ -24,33 +27,32 @@ fn history_of(alloc: Global, world: &World) -> Result<Vec<Stamped>, Refusal> {
 }
 
 /// Begins a call, again where memory was refused; a refused begin leaves the actor idle.
-fn begin(rt: &impl Abort, world: &mut World, actor: u16, op: Op) -> Result<(), Refusal> {
-    let answer = world.begin(actor, op);
+fn begin(rt: &impl Abort, world: &mut World, actor: u16, call: Call) -> Result<(), Refusal> {
+    let answer = world.begin(actor, op(call));
     let is_refused = matches!(answer, Err(Refusal::Memory));
     if is_refused {
         assert!(rt; matches!(steps(world, actor, 1), Err(Refusal::IdleActor)));
-        return world.begin(actor, op);
+        return world.begin(actor, op(call));
     }
     answer
 }
 
+/// An actor, its call, and how many steps that takes.
+const CALLS: [(u16, Call, u32); 3] = [(1, Enq(5), 10), (1, Enq(6), 10), (2, Deq, 9)];
+
+const EXPECTED: [Shown; 3] = [
+    Complete(1, Enq(5), (1, 10, 9), Done),
+    Complete(1, Enq(6), (11, 20, 19), Done),
+    Complete(2, Deq, (21, 29, 26), Value(1, 5)),
+];
+
 #[test]
 fn refused_memory_is_told_and_changes_nothing(rt: HostRuntime) -> Result<(), Fail> {
     let mut world = world_of_two_actors(rt.alloc())?;
-    begin(&rt, &mut world, 1, enq(5))?;
-    steps(&mut world, 1, 10)?;
-    begin(&rt, &mut world, 1, enq(6))?;
-    steps(&mut world, 1, 10)?;
-    begin(&rt, &mut world, 2, Deq)?;
-    steps(&mut world, 2, 9)?;
-    let expected = [
-        complete(1, enq(5), (1, 10, 9), Reply::Done),
-        complete(1, enq(6), (11, 20, 19), Reply::Done),
-        complete(2, Deq, (21, 29, 26), value(1, 5)),
-    ];
-    assert_eq!(rt;
-        history_of(rt.alloc(), &world)?.as_slice(),
-        expected.as_slice()
-    );
+    for (actor, call, count) in &CALLS {
+        begin(&rt, &mut world, *actor, *call)?;
+        steps(&mut world, *actor, *count)?;
+    }
+    are(&rt, "", &history_of(rt.alloc(), &world)?, &EXPECTED);
     Ok(())
 }

@@ -1,28 +1,19 @@
-//! Calls of a world, which keep its sizes.
-ghost use Rattle.world_tests.specs.Sizes.{SameSizes};
+//! Moves of a world.
+use super::events::Act;
+use super::expected::{Call, op};
+use history::Refusal;
+use step_machine::{Move, World};
 
-use super::events::Event;
-use history::{Op, Refusal};
-use step_machine::{Move, Stepped, World, step_in};
-
-pub fn begin(world: &mut World, actor: u16, op: Op) -> Result<(), Refusal>
-    ensures { SameSizes world.old world.new }
-{
-    world.begin(actor, op)
+pub fn begin(world: &mut World, actor: u16, call: Call) -> Result<(), Refusal> {
+    world.begin(actor, op(call))
 }
 
-pub fn give(world: &mut World, actor: u16) -> Result<(), Refusal>
-    ensures { SameSizes world.old world.new }
-{
-    match world.give(actor) {
-        Ok(_) => Ok(()),
-        Err(why) => Err(why),
-    }
+pub fn give(world: &mut World, actor: u16) -> Result<(), Refusal> {
+    world.give(actor)?;
+    Ok(())
 }
 
-fn step(world: &mut World, actor: u16) -> Result<(), Refusal>
-    ensures { SameSizes world.old world.new }
-{
+fn step(world: &mut World, actor: u16) -> Result<(), Refusal> {
     match world.step(actor) {
         Ok(_) => Ok(()),
         Err(why) => Err(why),
@@ -30,37 +21,27 @@ fn step(world: &mut World, actor: u16) -> Result<(), Refusal>
 }
 
 /// Some steps of one actor; stops at the first that is refused.
-pub fn steps(world: &mut World, actor: u16, count: u32) -> Result<(), Refusal>
-    ensures { SameSizes world.old world.new }
-{
+pub fn steps(world: &mut World, actor: u16, count: u32) -> Result<(), Refusal> {
     for _ in 0..count {
         step(world, actor)?;
     }
     Ok(())
 }
 
-/// The moves of an event, each by its own call; none where the event only looks.
-pub fn play(world: &mut World, event: &Event) -> Result<(), Refusal>
-    ensures { SameSizes world.old world.new }
-{
-    match *event {
-        Event::Begin(actor, op) => begin(world, actor, op),
-        Event::Steps(actor, count) => steps(world, actor, count),
-        Event::Give(actor) => give(world, actor),
-        _ => Ok(()),
+/// A move by its own call.
+pub fn play(world: &mut World, act: Act) -> Result<(), Refusal> {
+    match act {
+        Act::Begin(actor, call) => begin(world, actor, call),
+        Act::Step(actor) => step(world, actor),
+        Act::Give(actor) => give(world, actor),
     }
 }
 
-/// A begin, by the call for all moves.
-pub fn begun(world: &mut World, actor: u16, op: Op) -> Result<Stepped, Refusal>
-    ensures { SameSizes world.old world.new }
-{
-    step_in(world, Move::Begin(actor, op))
-}
-
-/// A step, by the call for all moves.
-pub fn stepped(world: &mut World, actor: u16) -> Result<Stepped, Refusal>
-    ensures { SameSizes world.old world.new }
-{
-    step_in(world, Move::Step(actor))
+/// A move, for the call for all moves.
+pub fn move_of(act: Act) -> Move {
+    match act {
+        Act::Begin(actor, call) => Move::Begin(actor, op(call)),
+        Act::Step(actor) => Move::Step(actor),
+        Act::Give(actor) => Move::Give(actor),
+    }
 }

@@ -1,32 +1,34 @@
 //! What the calls refuse, and that a refused call changes nothing that can be seen.
+use super::comparing::same;
+use super::events::Act::{self, Give, Step};
 use super::events::Event::{At, Begin, Refused, Steps};
-use super::expected::{enq, started};
+use super::expected::Call::{Deq, Enq};
+use super::expected::Shown::{self, Started};
 use super::trials::{NON_BLOCKING, Trial};
-use history::Op::Deq;
 use history::Refusal;
 use line_table::{Kind, Line};
-use std::alloc::Global;
 use std::test::Fail;
-use step_machine::{Move, World};
+use step_machine::World;
 
-// Why a new world of these sizes is refused, if it is.
-fn refused(alloc: Global, kind: Kind, (nodes, limit, actors): (u32, u64, u32)) -> Option<Refusal> {
-    World::new(alloc, kind, nodes, limit, actors).err()
-}
+/// Numbers of nodes, greatest counts and numbers of actors, of which one is out of its range.
+const OUT_OF_RANGE: [(u32, u64, u32); 7] = [
+    (0, 100, 2),
+    (1, 100, 2),
+    (16_777_215, 100, 2),
+    (3, 0, 2),
+    (3, 1_099_511_627_776, 2),
+    (3, 100, 0),
+    (3, 100, 65_536),
+];
 
 #[test]
 fn sizes_out_of_range_are_refused(rt: HostRuntime) {
-    for sizes in [
-        (0, 100, 2),
-        (1, 100, 2),
-        (16_777_215, 100, 2),
-        (3, 0, 2),
-        (3, 1_099_511_627_776, 2),
-        (3, 100, 0),
-        (3, 100, 65_536),
-    ] {
-        let found = [Kind::TwoLock, Kind::NonBlocking].map(|kind| refused(rt.alloc(), kind, sizes));
-        assert_eq!(rt; found, [Some(Refusal::BadSize); 2], "{sizes:?}");
+    for sizes in &OUT_OF_RANGE {
+        let (nodes, limit, actors) = *sizes;
+        for kind in [Kind::TwoLock, Kind::NonBlocking] {
+            let found = World::new(rt.alloc(), kind, nodes, limit, actors).err();
+            same(&rt, found, Some(Refusal::BadSize), (kind, *sizes));
+        }
     }
 }
 
@@ -39,7 +41,7 @@ fn the_greatest_sizes_are_accepted(rt: HostRuntime) -> Result<(), Fail> {
         1_099_511_627_775,
         65_535,
     )?;
-    assert_eq!(rt; world.fresh(), 1);
+    same(&rt, world.fresh(), 1, "");
     Ok(())
 }
 
@@ -54,32 +56,36 @@ fn numbers(world: &World) -> [u64; 5] {
     ]
 }
 
+const HISTORY: [Shown; 1] = [Started(1, Enq(7), 1)];
+
+/// Moves after two steps of an enqueue of actor 1, and why they are refused.
+const REFUSED: [(Act, Refusal); 11] = [
+    (Act::Begin(0, Deq), Refusal::NoSuchActor),
+    (Act::Begin(3, Deq), Refusal::NoSuchActor),
+    (Act::Begin(1, Deq), Refusal::ActorBusy),
+    (Act::Begin(1, Enq(7)), Refusal::ActorBusy),
+    (Step(0), Refusal::NoSuchActor),
+    (Step(3), Refusal::NoSuchActor),
+    (Step(2), Refusal::IdleActor),
+    (Give(0), Refusal::NoSuchActor),
+    (Give(65_535), Refusal::NoSuchActor),
+    (Give(2), Refusal::IdleActor),
+    (Give(1), Refusal::NotHere),
+];
+
 #[test]
 fn refused_moves_change_nothing(rt: HostRuntime) -> Result<(), Fail> {
-    let mut trial = Trial::new(rt.alloc(), NON_BLOCKING)?;
-    let history = [started(1, enq(7), 1)];
-    trial.goes(&rt, &[Begin(1, enq(7)), Steps(1, 2)]);
-    trial.shows(&rt, rt.alloc(), &history)?;
+    let mut trial = Trial::new(rt.alloc(), "", NON_BLOCKING)?;
+    trial.goes(&rt, &[Begin(1, Enq(7)), Steps(1, 2)]);
+    trial.shows(&rt, rt.alloc(), &HISTORY)?;
     let before = numbers(&trial.world);
-    for (one, why) in [
-        (Move::Begin(0, Deq), Refusal::NoSuchActor),
-        (Move::Begin(3, Deq), Refusal::NoSuchActor),
-        (Move::Begin(1, Deq), Refusal::ActorBusy),
-        (Move::Begin(1, enq(7)), Refusal::ActorBusy),
-        (Move::Step(0), Refusal::NoSuchActor),
-        (Move::Step(3), Refusal::NoSuchActor),
-        (Move::Step(2), Refusal::IdleActor),
-        (Move::Give(0), Refusal::NoSuchActor),
-        (Move::Give(65_535), Refusal::NoSuchActor),
-        (Move::Give(2), Refusal::IdleActor),
-        (Move::Give(1), Refusal::NotHere),
-    ] {
+    for (act, why) in &REFUSED {
         trial.goes(
             &rt,
-            &[Refused(one, why), At(1, Some(Line::N5)), At(2, None)],
+            &[Refused(*act, *why), At(1, Some(Line::N5)), At(2, None)],
         );
-        trial.shows(&rt, rt.alloc(), &history)?;
-        assert_eq!(rt; numbers(&trial.world), before, "at {one:?}");
+        trial.shows(&rt, rt.alloc(), &HISTORY)?;
+        same(&rt, numbers(&trial.world), before, *act);
     }
     Ok(())
 }

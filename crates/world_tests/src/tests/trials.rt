@@ -1,14 +1,15 @@
-//! A world that is led through a list of events, and what can be asked of it with no condition.
-ghost use Rattle.std.specs.Prelude.{◌≡◌, length};
-
-use super::events::Event;
-use super::moves::{begun, play, stepped};
+//! A world that is led through a list of events, and compared with each.
+use super::comparing::same;
+use super::events::{Event, Telling};
+use super::expected::{Shown, reply, stamped, taken};
+use super::moves::{begin, give, move_of, play, steps};
+use super::queries::{line_of, next_of, parts, place_of, pocket_of, value_of};
 use history::{Refusal, Stamped, Verdict, check};
-use line_table::{Kind, Line};
+use line_table::Kind;
 use std::alloc::Global;
 use std::process::Abort;
 use std::test::Fail;
-use step_machine::{Held, Move, Stepped, World};
+use step_machine::{Stepped, World, step_in};
 
 /// What a world is made of.
 #[derive(Clone, Copy)]
@@ -35,41 +36,52 @@ pub const TWO_LOCK: Sizes = Sizes {
     actors: 2,
 };
 
-/// A world, with the numbers of its nodes and actors.
-#[derive(Drop)]
-pub struct Trial {
-    pub world: World,
-    nodes: u32,
-    actors: u16,
-    ghost nodes_there: { world.setup.size ≡ nodes },
-    ghost actors_there: { length world.actors ≡ actors },
+/// A worked run: what a new world goes through, and the history that it then has.
+#[derive(Clone, Copy)]
+pub struct Run {
+    pub name: &'static str,
+    pub sizes: Sizes,
+    pub events: &'static [Event],
+    pub expected: &'static [Shown],
 }
 
-/// A new world goes through these events, and its history is then this list.
-pub fn run(
-    rt: &impl Abort,
-    alloc: Global,
-    sizes: Sizes,
-    events: &[Event],
-    expected: &[Stamped],
-) -> Result<(), Fail> {
-    let mut trial = Trial::new(alloc, sizes)?;
-    trial.goes(rt, events);
-    trial.shows(rt, alloc, expected)?;
+/// A world, with a name for what is tried on it.
+#[derive(Drop)]
+pub struct Trial {
+    name: &'static str,
+    pub world: World,
+}
+
+/// Each of these runs is as it says.
+pub fn all_go(rt: &impl Abort, alloc: Global, runs: &[Run]) -> Result<(), Fail> {
+    for one in runs {
+        let mut trial = Trial::new(alloc, one.name, one.sizes)?;
+        trial.goes(rt, one.events);
+        trial.shows(rt, alloc, one.expected)?;
+    }
     Ok(())
 }
 
-// The event that is this move.
-fn event_of(one: &Move) -> Event {
-    match *one {
-        Move::Begin(actor, op) => Event::Begin(actor, op),
-        Move::Step(actor) => Event::Steps(actor, 1),
-        Move::Give(actor) => Event::Give(actor),
+/// A history is this list.
+pub fn are(rt: &impl Abort, name: &str, history: &[Stamped], expected: &[Shown]) {
+    same(rt, history.len(), expected.len(), (name, history));
+    for (found, shown) in history.iter().zip(expected) {
+        same(rt, *found, stamped(*shown), name);
+    }
+}
+
+// What `step_in` answers that tells this.
+fn answer_of(telling: Telling) -> Result<Stepped, Refusal> {
+    match telling {
+        Telling::Began => Ok(Stepped::Began),
+        Telling::Went(line) => Ok(Stepped::Went(line)),
+        Telling::Ended(line, answer) => Ok(Stepped::Ended(line, reply(answer))),
+        Telling::Refused(why) => Err(why),
     }
 }
 
 impl Trial {
-    pub fn new(alloc: Global, sizes: Sizes) -> Result<Trial, Refusal> {
+    pub fn new(alloc: Global, name: &'static str, sizes: Sizes) -> Result<Trial, Refusal> {
         let Sizes {
             kind,
             nodes,
@@ -77,121 +89,72 @@ impl Trial {
             actors,
         } = sizes;
         let world = World::new(alloc, kind, nodes, limit, u32::from(actors))?;
-        Ok(Trial {
-            world,
-            nodes,
-            actors,
-        })
+        Ok(Trial { name, world })
     }
 
     /// Each of these events is as it says.
     pub fn goes(&mut self, rt: &impl Abort, events: &[Event]) {
         for event in events {
-            assert_eq!(rt; self.found(event), *event);
+            self.goes_through(rt, *event);
         }
     }
 
     /// Its history is this list, and is one of a queue by the verdict.
-    pub fn shows(
-        &self,
-        rt: &impl Abort,
-        alloc: Global,
-        expected: &[Stamped],
-    ) -> Result<(), Refusal> {
+    pub fn shows(&self, rt: &impl Abort, alloc: Global, expected: &[Shown]) -> Result<(), Refusal> {
         let history = self.world.history(alloc)?;
-        assert_eq!(rt; history.as_slice(), expected);
-        assert_eq!(rt; check(alloc, &history)?, Verdict::Yes);
+        are(rt, self.name, &history, expected);
+        same(rt, check(alloc, &history)?, Verdict::Yes, self.name);
         Ok(())
     }
 
     /// Its words are these, and there are no more.
     pub fn tells(&self, rt: &impl Abort, words: &[u64]) {
         for (index, word) in words.iter().enumerate() {
-            assert_eq!(rt; self.world.word(index), Some(*word));
+            same(rt, self.world.word(index), Some(*word), (self.name, index));
         }
-        assert_eq!(rt; self.world.word(words.len()), None);
+        same(rt, self.world.word(words.len()), None, self.name);
     }
 
-    // Does what an event says, or looks at what it names; answers what was found, as an event.
-    fn found(&mut self, event: &Event) -> Event {
-        match *event {
-            Event::Begin(..) | Event::Steps(..) | Event::Give(_) => match self.play(event) {
-                Ok(()) => *event,
-                Err(why) => Event::Stopped(why),
-            },
-            Event::Begun(actor, op) => match begun(&mut self.world, actor, op) {
-                Ok(Stepped::Began) => *event,
-                Ok(_) => Event::Missing,
-                Err(why) => Event::Stopped(why),
-            },
-            Event::Went(actor, _) => match stepped(&mut self.world, actor) {
-                Ok(told) => Event::Went(actor, told),
-                Err(why) => Event::Stopped(why),
-            },
-            Event::Refused(ref one, _) => self.refused(one),
-            _ => self.seen(event),
-        }
-    }
-
-    fn play(&mut self, event: &Event) -> Result<(), Refusal> {
-        play(&mut self.world, event)
-    }
-
-    // Why a move is refused, if it is.
-    fn refused(&mut self, one: &Move) -> Event {
-        match self.play(&event_of(one)) {
-            Ok(()) => Event::Missing,
-            Err(why) => Event::Refused(*one, why),
-        }
-    }
-
-    // What stands at the place that an event names.
-    fn seen(&self, event: &Event) -> Event {
-        let world = &self.world;
-        match *event {
-            Event::Free(..) => Event::Free(world.free().node(), world.free().count()),
-            Event::Head(..) => Event::Head(world.head().node(), world.head().count()),
-            Event::Tail(..) => Event::Tail(world.tail().node(), world.tail().count()),
-            Event::Fresh(_) => Event::Fresh(world.fresh()),
-            Event::Taken(_) => Event::Taken(world.steps()),
-            Event::At(actor, _) => Event::At(actor, self.line(actor)),
-            Event::Pocket(actor, _) => Event::Pocket(actor, self.pocket(actor)),
-            Event::Next(node, ..) => self.node_seen(event, node),
-            Event::Placed(node, _) => self.node_seen(event, node),
-            Event::Value(node, _) => self.node_seen(event, node),
-            _ => Event::Missing,
-        }
-    }
-
-    // What is seen of a node.
-    fn node_seen(&self, event: &Event, node: u32) -> Event {
-        if node < 1 || node > self.nodes {
-            return Event::Missing;
-        }
-        match *event {
-            Event::Next(..) => {
-                let next = self.world.next_of(node);
-                Event::Next(node, next.node(), next.count())
+    // Makes the move of an event, or looks at what it names: it is as the event says.
+    fn goes_through(&mut self, rt: &impl Abort, event: Event) {
+        let world = &mut self.world;
+        let tried = (self.name, event);
+        match event {
+            Event::Begin(actor, call) => same(rt, begin(world, actor, call), Ok(()), tried),
+            Event::Steps(actor, count) => same(rt, steps(world, actor, count), Ok(()), tried),
+            Event::Give(actor) => same(rt, give(world, actor), Ok(()), tried),
+            Event::Refused(act, why) => same(rt, play(world, act), Err(why), tried),
+            Event::Told(act, telling) => {
+                same(rt, step_in(world, move_of(act)), answer_of(telling), tried);
             }
-            Event::Placed(..) => Event::Placed(node, self.world.place_of(node)),
-            Event::Value(..) => Event::Value(node, self.world.value_of_node(node)),
-            _ => Event::Missing,
+            _ => self.sees(rt, event),
         }
     }
 
-    /// The line of an actor; none where it has no call or isn't there.
-    pub fn line(&self, actor: u16) -> Option<Line> {
-        if actor < 1 || actor > self.actors {
-            return None;
+    // What an event looks at is as it says; one that moves looks at nothing.
+    fn sees(&self, rt: &impl Abort, event: Event) {
+        let world = &self.world;
+        let tried = (self.name, event);
+        match event {
+            Event::Free(node, count) => same(rt, parts(world.free()), (node, count), tried),
+            Event::Head(node, count) => same(rt, parts(world.head()), (node, count), tried),
+            Event::Tail(node, count) => same(rt, parts(world.tail()), (node, count), tried),
+            Event::Fresh(count) => same(rt, world.fresh(), count, tried),
+            Event::Taken(count) => same(rt, world.steps(), count, tried),
+            Event::At(actor, line) => same(rt, line_of(world, actor), line, tried),
+            Event::Pocket(actor, held) => same(rt, pocket_of(world, actor), held, tried),
+            Event::Next(node, next, count) => {
+                same(rt, next_of(world, node), Some((next, count)), tried);
+            }
+            Event::Placed(node, place) => same(rt, place_of(world, node), Some(place), tried),
+            Event::Value(node, from, number) => {
+                same(rt, value_of(world, node), Some(taken(from, number)), tried);
+            }
+            Event::Begin(..)
+            | Event::Steps(..)
+            | Event::Give(_)
+            | Event::Refused(..)
+            | Event::Told(..) => (),
         }
-        self.world.line(actor)
-    }
-
-    /// The pocket of an actor; none where it is empty or the actor isn't there.
-    fn pocket(&self, actor: u16) -> Option<Held> {
-        if actor < 1 || actor > self.actors {
-            return None;
-        }
-        self.world.pocket(actor)
     }
 }

@@ -1,63 +1,60 @@
 //! The shared words as one table of numbers.
-use super::events::Event::{Begin, Steps};
-use super::expected::enq;
-use super::trials::{NON_BLOCKING, TWO_LOCK, Trial};
-use history::Op;
+use super::events::Event::{self, Begin, Steps};
+use super::expected::Call::{Deq, Enq};
+use super::trials::{NON_BLOCKING, Sizes, TWO_LOCK, Trial};
 use std::test::Fail;
 
-#[test]
-fn a_two_lock_world_tells_its_words(rt: HostRuntime) -> Result<(), Fail> {
-    let mut trial = Trial::new(rt.alloc(), TWO_LOCK)?;
-    trial.tells(&rt, &[1, 0, 1, 1, 0, 0, 0, 0, 0, 0, 0, 0]);
-    let events = [
-        Begin(1, enq(5)),
-        Steps(1, 10),
-        Begin(2, Op::Deq),
-        Steps(2, 9),
-    ];
-    trial.goes(&rt, &events);
-    let words = [
-        2,
-        16_777_217,
-        16_777_218,
-        2,
-        0,
-        0,
-        0,
-        0,
-        0,
-        281_474_976_710_661,
-        0,
-        0,
-    ];
-    trial.tells(&rt, &words);
-    Ok(())
-}
+const PUSH_AND_POP: [Event; 4] = [Begin(1, Enq(5)), Steps(1, 10), Begin(2, Deq), Steps(2, 9)];
+
+const AT_FIRST: [u64; 12] = [1, 0, 1, 1, 0, 0, 0, 0, 0, 0, 0, 0];
+
+const OF_TWO_LOCK: [u64; 12] = [
+    2,
+    16_777_217,
+    16_777_218,
+    2,
+    0,
+    0,
+    0,
+    0,
+    0,
+    281_474_976_710_661,
+    0,
+    0,
+];
+
+const OF_NON_BLOCKING: [u64; 12] = [
+    2,
+    16_777_217,
+    16_777_218,
+    16_777_218,
+    0,
+    0,
+    16_777_216,
+    0,
+    0,
+    281_474_976_710_661,
+    0,
+    0,
+];
+
+const WORDS: [(&str, Sizes, &[Event], &[u64]); 3] = [
+    ("two-lock, at first", TWO_LOCK, &[], &AT_FIRST),
+    ("two-lock", TWO_LOCK, &PUSH_AND_POP, &OF_TWO_LOCK),
+    (
+        "non-blocking",
+        NON_BLOCKING,
+        &PUSH_AND_POP,
+        &OF_NON_BLOCKING,
+    ),
+];
 
 #[test]
-fn a_non_blocking_world_tells_its_words(rt: HostRuntime) -> Result<(), Fail> {
-    let mut trial = Trial::new(rt.alloc(), NON_BLOCKING)?;
-    let events = [
-        Begin(1, enq(5)),
-        Steps(1, 10),
-        Begin(2, Op::Deq),
-        Steps(2, 9),
-    ];
-    trial.goes(&rt, &events);
-    let words = [
-        2,
-        16_777_217,
-        16_777_218,
-        16_777_218,
-        0,
-        0,
-        16_777_216,
-        0,
-        0,
-        281_474_976_710_661,
-        0,
-        0,
-    ];
-    trial.tells(&rt, &words);
+fn a_world_tells_its_words(rt: HostRuntime) -> Result<(), Fail> {
+    for (name, sizes, events, words) in &WORDS {
+        let mut trial = Trial::new(rt.alloc(), name, *sizes)?;
+        trial.goes(&rt, events);
+        trial.tells(&rt, words);
+    }
     Ok(())
 }
