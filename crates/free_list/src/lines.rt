@@ -5,8 +5,7 @@ ghost use Rattle.node_arena.specs.Prologues.{Prologue, continues};
 ghost use Rattle.free_list.specs.Runs.{CallIsAt, Follows};
 
 use crate::outcomes::{
-    Actor, Outcome, Reply, Untold, empties_hand, ends, fills_hand, freed, goes, raised, sets_aside,
-    with_node, worn,
+    Actor, Outcome, Reply, Untold, ends, freed, goes, raised, sets_aside, with_node, worn,
 };
 use counted_ref::CountedRef;
 use history::{Refusal, WornWord};
@@ -43,7 +42,7 @@ macro_rules! row {
 }
 
 /// `index` turns of this call failed before.
-pub(crate) fn n1(arena: &Arena, seat: &mut Seat, a: Actor, index: u32) -> Outcome
+pub(crate) fn n1(arena: &Arena, seat: &mut Seat, mut a: Actor, index: u32) -> Outcome
     ghost prologue: { Prologue }
     requires { CallIsAt arena.now seat.old prologue lines.N1 a }
     ensures { Follows arena.now seat.old seat.new prologue lines.N1 a result }
@@ -52,7 +51,7 @@ pub(crate) fn n1(arena: &Arena, seat: &mut Seat, a: Actor, index: u32) -> Outcom
     line_table!(N1 (setup NOW NOW a found) row (arena seat found))
 }
 
-pub(crate) fn n2(arena: &Arena, seat: &mut Seat, a: Actor) -> Outcome
+pub(crate) fn n2(arena: &Arena, seat: &mut Seat, mut a: Actor) -> Outcome
     requires { CallIsAt arena.now seat.old continues lines.N2 a }
     ensures { Follows arena.now seat.old seat.new continues lines.N2 a result }
 {
@@ -60,14 +59,14 @@ pub(crate) fn n2(arena: &Arena, seat: &mut Seat, a: Actor) -> Outcome
     line_table!(N2 (setup NOW NOW a found) row (arena seat found))
 }
 
-pub(crate) fn n3(arena: &Arena, seat: &mut Seat, a: Actor) -> Outcome
+pub(crate) fn n3(arena: &Arena, seat: &mut Seat, mut a: Actor) -> Outcome
     requires { CallIsAt arena.now seat.old continues lines.N3 a }
     ensures { Follows arena.now seat.old seat.new continues lines.N3 a result }
 {
     line_table!(N3 (setup NOW NOW a found) row (arena seat found))
 }
 
-pub(crate) fn n4(arena: &Arena, seat: &mut Seat, a: Actor) -> Outcome
+pub(crate) fn n4(arena: &Arena, seat: &mut Seat, mut a: Actor) -> Outcome
     requires { CallIsAt arena.now seat.old continues lines.N4 a }
     ensures { Follows arena.now seat.old seat.new continues lines.N4 a result }
 {
@@ -75,7 +74,7 @@ pub(crate) fn n4(arena: &Arena, seat: &mut Seat, a: Actor) -> Outcome
     line_table!(N4 (setup NOW NOW a found) row (arena seat found))
 }
 
-pub(crate) fn n5(arena: &Arena, seat: &mut Seat, a: Actor) -> Outcome
+pub(crate) fn n5(arena: &Arena, seat: &mut Seat, mut a: Actor) -> Outcome
     requires { CallIsAt arena.now seat.old continues lines.N5 a }
     ensures { Follows arena.now seat.old seat.new continues lines.N5 a result }
 {
@@ -84,7 +83,7 @@ pub(crate) fn n5(arena: &Arena, seat: &mut Seat, a: Actor) -> Outcome
 }
 
 /// `index` turns of this call failed before.
-pub(crate) fn f1(arena: &Arena, seat: &mut Seat, a: Actor, index: u32) -> Outcome
+pub(crate) fn f1(arena: &Arena, seat: &mut Seat, mut a: Actor, index: u32) -> Outcome
     ghost prologue: { Prologue }
     requires { CallIsAt arena.now seat.old prologue lines.F1 a }
     ensures { Follows arena.now seat.old seat.new prologue lines.F1 a result }
@@ -101,7 +100,7 @@ pub(crate) fn f2(arena: &Arena, seat: &mut Seat, a: Actor) -> Outcome
     line_table!(F2 (setup NOW NOW a found) row (arena seat found))
 }
 
-pub(crate) fn f3(arena: &Arena, seat: &mut Seat, a: Actor) -> Outcome
+pub(crate) fn f3(arena: &Arena, seat: &mut Seat, mut a: Actor) -> Outcome
     requires { CallIsAt arena.now seat.old continues lines.F3 a }
     ensures { Follows arena.now seat.old seat.new continues lines.F3 a result }
 {

@@ -109,10 +109,19 @@ pub(crate) fn with_node(kind: Kind) -> Line
     }
 }
 
-pub(crate) fn fills_hand(node: u32, mark: u64, a: Actor) -> Actor
-    ensures { result ≡ record a { node = node; mark = mark } }
-{
-    Actor { node, mark, ..a }
+impl Actor {
+    pub(crate) fn fills_hand(&mut self, node: u32, mark: u64)
+        ensures { self.new ≡ record self.old { node = node; mark = mark } }
+    {
+        self.node = node;
+        self.mark = mark;
+    }
+
+    pub(crate) fn empties_hand(&mut self)
+        ensures { self.new ≡ self.old }
+    {
+        let _ = self;
+    }
 }
 
 /// The reference that names another node, with its count raised.
@@ -126,12 +135,6 @@ pub(crate) fn raised(setup: Setup, from: CountedRef, to: u32) -> CountedRef
     CountedRef::new(to, from.count() + 1)
 }
 
-pub(crate) fn empties_hand(a: Actor) -> Actor
-    ensures { result ≡ a }
-{
-    a
-}
-
 pub(crate) fn freed(kind: Kind, now: Untold, due: Untold, a: Actor) -> Outcome
     ensures { result ≡ Outcome.Freed }
 {
@@ -139,9 +142,10 @@ pub(crate) fn freed(kind: Kind, now: Untold, due: Untold, a: Actor) -> Outcome
     Outcome::Freed
 }
 
-pub(crate) fn sets_aside(outcome: Outcome) -> Outcome
+pub(crate) fn sets_aside(node: u32, outcome: Outcome) -> Outcome
     ensures { result ≡ outcome }
 {
+    let _ = node;
     outcome
 }
 

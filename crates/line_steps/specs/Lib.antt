@@ -1,4 +1,5 @@
 pub mod Memory
+pub mod Outcomes
 pub mod Lines
 pub mod Rooms
 pub mod Stored

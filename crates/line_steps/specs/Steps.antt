@@ -3,7 +3,8 @@ use Rattle.std.specs.Prelude.{ℕ, ◌≡◌}
 use Rattle.line_table.specs.declared.lines.Line.{Line}
 use Rattle.line_steps.specs.declared.actors.Setup.{Setup}
 use Rattle.line_steps.specs.declared.actors.Actor.{Actor}
-use Rattle.line_steps.specs.declared.actors.Outcome.{Outcome}
+use Rattle.line_steps.specs.declared.actors.Told.{Told}
+use Rattle.line_steps.specs.Outcomes.{Outcome, settled}
 use Rattle.line_steps.specs.Memory.{Shared, found}
 use Rattle.line_steps.specs.Lines.{action, outcome}
 use Rattle.line_steps.specs.Rooms.{Memory, accessed}
@@ -18,7 +19,8 @@ pub record MayStep (s : Setup) (room : ℕ) (a : Actor) : Type 0 where
 unfoldable pub outcome_on : Setup → (now me : ℕ) → Actor → Line → Shared → Outcome
 outcome_on s now me a l words = outcome s now me a l (found (action s me a l) words)
 
--- a step at a line was taken: the outcome is that of the line, and the memory is the one after the line's access
-pub record Stepped (s : Setup) (now me : ℕ) (a : Actor) (l : Line) (old new : Memory) (o : Outcome) : Type 0 where
-  pub outcome : o ≡ outcome_on s now me a l old.words
+-- a step at a line was taken: actor and what is told are the line's outcome, and the memory is the one after the line's
+-- access
+pub record Stepped (s : Setup) (now me : ℕ) (l : Line) (old : Memory) (a : Actor) (new : Memory) (b : Actor) (t : Told) : Type 0 where
+  pub outcome : settled b t ≡ outcome_on s now me a l old.words
   pub memory : new ≡ accessed (action s me a l) old

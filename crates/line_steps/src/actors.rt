@@ -50,10 +50,9 @@ pub struct Actor {
     pub entry: Option<usize>,
 }
 
-/// What one step makes of its actor and of its operation.
+/// What a step tells beside what it makes of its actor.
 #[derive(Clone, Copy, Debug, PartialEq, Eq)]
-pub struct Outcome {
-    pub actor: Actor,
+pub struct Told {
     /// The number at which the operation takes effect, where this step settles it.
     pub at: Option<u64>,
     /// The reply, where the call ends.

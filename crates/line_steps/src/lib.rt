@@ -8,7 +8,7 @@ mod rows;
 mod steps;
 mod words;
 
-pub use actors::{Actor, Held, Node, Outcome, Setup};
+pub use actors::{Actor, Held, Node, Setup, Told};
 pub use memory::{Memory, nobody_value};
-pub use outcomes::{begun, gives_up};
+pub use outcomes::{begin, give_up};
 pub use steps::stepped;

@@ -1,112 +1,99 @@
 //! What a step makes of its actor, by the words of the line table.
-ghost use Rattle.std.specs.Prelude.{◌≡◌, ◌<◌, ◌≤◌, ◌^◌, Some, None, true};
+ghost use Rattle.std.specs.Prelude.{◌≡◌, ◌<◌, ◌≤◌, ◌^◌, Some, None, IfSome, IsNone, true};
 ghost use Rattle.counted_ref.specs.Ref.{reserved_node, count_bits};
 ghost use Rattle.line_steps.specs.Lines as lines;
 ghost use Rattle.line_steps.specs.Calling as calling;
+ghost use Rattle.line_steps.specs.Outcomes.{told_of, settled};
 
-use crate::actors::{Actor, Held, Outcome, Setup};
+use crate::actors::{Actor, Held, Setup, Told};
 use counted_ref::CountedRef;
 use history::{Op, Refusal, Reply, Taken, WornWord};
 use line_table::{Kind, Line};
 
-pub fn goes(line: Line, actor: Actor) -> Outcome
-    ensures { result ≡ lines.goes line actor }
+pub fn goes(line: Line, actor: &mut Actor) -> Told
+    ensures actor { actor.new ≡ (lines.goes line actor.old).actor }
+    ensures told { result ≡ told_of (lines.goes line actor.old) }
 {
-    Outcome {
-        actor: Actor {
-            line: Some(line),
-            ..actor
-        },
+    actor.line = Some(line);
+    Told {
         at: None,
         reply: None,
         aside: None,
     }
 }
 
-/// The call ends, and takes effect at this number, if it did not before.
-fn ended(at: Option<u64>, reply: Reply, actor: Actor) -> Outcome
-    ensures { result ≡ calling.ended at reply actor }
+/// The number at which an operation takes effect that ends so, where it didn't before.
+fn effect_at_end(now: u64, actor: &Actor, reply: &Reply) -> Option<u64>
+    ensures { result ≡ lines.effect_at_end now actor.now reply.now }
 {
-    Outcome {
-        actor: Actor {
-            line: None,
-            ..actor
-        },
+    match reply {
+        Reply::Done | Reply::Value(_) => None,
+        Reply::Empty => Some(actor.empty_at),
+        Reply::Refused(_) => Some(now),
+    }
+}
+
+pub fn ends(now: u64, reply: Reply, actor: &mut Actor) -> Told
+    ensures actor { actor.new ≡ (lines.ends now reply actor.old).actor }
+    ensures told { result ≡ told_of (lines.ends now reply actor.old) }
+{
+    let at = effect_at_end(now, actor, &reply);
+    actor.line = None;
+    Told {
         at,
         reply: Some(reply),
         aside: None,
     }
 }
 
-pub fn ends(now: u64, reply: Reply, actor: Actor) -> Outcome
-    ensures { result ≡ lines.ends now reply actor }
-{
-    let empty_at = actor.empty_at;
-    match reply {
-        Reply::Done => ended(None, Reply::Done, actor),
-        Reply::Value(value) => ended(None, Reply::Value(value), actor),
-        Reply::Empty => ended(Some(empty_at), Reply::Empty, actor),
-        Reply::Refused(why) => ended(Some(now), Reply::Refused(why), actor),
-    }
-}
-
-pub fn worn(now: u64, word: WornWord, actor: Actor) -> Outcome
-    ensures { result ≡ lines.worn now word actor }
+pub fn worn(now: u64, word: WornWord, actor: &mut Actor) -> Told
+    ensures actor { actor.new ≡ (lines.worn now word actor.old).actor }
+    ensures told { result ≡ told_of (lines.worn now word actor.old) }
 {
     ends(now, Reply::Refused(Refusal::WornOut(word)), actor)
 }
 
-pub fn effect(now: u64, outcome: Outcome) -> Outcome
-    ensures { result ≡ lines.effect now outcome }
+pub fn effect(now: u64, told: Told) -> Told
+    ensures { result ≡ record told { at = Some now } }
 {
-    Outcome {
+    Told {
         at: Some(now),
-        ..outcome
+        ..told
     }
 }
 
-pub fn sets_aside(outcome: Outcome) -> Outcome
-    ensures { result ≡ lines.sets_aside outcome }
+pub fn sets_aside(node: u32, told: Told) -> Told
+    ensures { result ≡ record told { aside = Some node } }
 {
-    let node = outcome.actor.node;
-    let actor = empties_hand(outcome.actor);
-    Outcome {
-        actor,
+    Told {
         aside: Some(node),
-        ..outcome
+        ..told
     }
 }
 
-pub fn fills_hand(node: u32, mark: u64, actor: Actor) -> Actor
-    ensures { result ≡ lines.fills_hand node mark actor }
-{
-    Actor {
-        node,
-        mark,
-        holds: true,
-        ..actor
+impl Actor {
+    pub(crate) fn fills_hand(&mut self, node: u32, mark: u64)
+        ensures { self.new ≡ lines.fills_hand node mark self.old }
+    {
+        self.node = node;
+        self.mark = mark;
+        self.holds = true;
     }
-}
 
-pub fn empties_hand(actor: Actor) -> Actor
-    ensures { result ≡ lines.empties_hand actor }
-{
-    Actor {
-        holds: false,
-        ..actor
+    pub(crate) fn empties_hand(&mut self)
+        ensures { self.new ≡ lines.empties_hand self.old }
+    {
+        self.holds = false;
     }
-}
 
-pub fn to_pocket(actor: Actor) -> Actor
-    ensures { result ≡ lines.to_pocket actor }
-{
-    Actor {
-        holds: false,
-        pocket: Some(Held {
-            node: actor.node,
-            mark: actor.mark,
-        }),
-        ..actor
+    pub(crate) fn to_pocket(&mut self)
+        ensures { self.new ≡ lines.to_pocket self.old }
+    {
+        self.holds = false;
+        self.pocket = Some(Held {
+            node: self.node,
+            mark: self.mark,
+        });
     }
 }
 
@@ -128,8 +115,9 @@ pub fn dequeues(kind: Kind) -> Line
     }
 }
 
-pub fn freed(kind: Kind, now: u64, due: Option<Reply>, actor: Actor) -> Outcome
-    ensures { result ≡ lines.freed kind now due actor }
+pub fn freed(kind: Kind, now: u64, due: Option<Reply>, actor: &mut Actor) -> Told
+    ensures actor { actor.new ≡ (lines.freed kind now due actor.old).actor }
+    ensures told { result ≡ told_of (lines.freed kind now due actor.old) }
 {
     match due {
         None => goes(dequeues(kind), actor),
@@ -146,8 +134,9 @@ pub fn raised(setup: Setup, old: CountedRef, to: u32) -> CountedRef
     old.raised(to, setup.limit).unwrap_or(old)
 }
 
-pub fn unlocked(now: u64, due: Option<Reply>, actor: Actor) -> Outcome
-    ensures { result ≡ lines.unlocked now due actor }
+pub fn unlocked(now: u64, due: Option<Reply>, actor: &mut Actor) -> Told
+    ensures actor { actor.new ≡ (lines.unlocked now due actor.old).actor }
+    ensures told { result ≡ told_of (lines.unlocked now due actor.old) }
 {
     match due {
         None | Some(Reply::Value(_)) => goes(Line::F1, actor),
@@ -155,81 +144,59 @@ pub fn unlocked(now: u64, due: Option<Reply>, actor: Actor) -> Outcome
     }
 }
 
-fn from_pocket(line: Line, pocket: Option<Held>, actor: Actor) -> Actor
-    ensures { result ≡ calling.from_pocket line pocket actor }
+/// The node in a full pocket comes into the hand, and the call begins at this line.
+fn from_pocket(line: Line, actor: &mut Actor)
+    ensures { actor.new ≡ calling.from_pocket line actor.old.pocket actor.old }
 {
-    match pocket {
-        None => actor,
-        Some(held) => Actor {
-            line: Some(line),
-            pocket: None,
-            ..fills_hand(held.node, held.mark, actor)
-        },
+    if let Some(held) = actor.pocket {
+        actor.fills_hand(held.node, held.mark);
+        actor.line = Some(line);
+        actor.pocket = None;
     }
 }
 
-/// An actor that begins a call: `me` is its number, from 1 on. The node in its pocket comes into its hand.
+/// An actor begins a call: `me` is its number, from 1 on. The node in its pocket comes into its hand.
 ///
 /// Takes no memory.
-pub fn begun(kind: Kind, me: u16, op: Op, actor: Actor) -> Actor
-    ensures actor { result ≡ calling.begun kind me op actor }
+pub fn begin(kind: Kind, me: u16, op: Op, actor: &mut Actor)
+    ensures actor { actor.new ≡ calling.begun kind me op actor.old }
     ensures call { calling.is_call op ≡ true }
 {
+    actor.due = None;
+    actor.entry = None;
     match op {
         Op::Enq(body) => {
             let _in_range = body.number();
-            from_pocket(
-                with_node(kind),
-                actor.pocket,
-                Actor {
-                    line: Some(Line::N1),
-                    op: Op::Enq(body),
-                    val: Taken { from: me, body },
-                    due: None,
-                    entry: None,
-                    ..actor
-                },
-            )
+            actor.op = Op::Enq(body);
+            actor.line = Some(Line::N1);
+            actor.val = Taken { from: me, body };
+            from_pocket(with_node(kind), actor);
         }
-        Op::Deq => from_pocket(
-            Line::F1,
-            actor.pocket,
-            Actor {
-                line: Some(dequeues(kind)),
-                op: Op::Deq,
-                due: None,
-                entry: None,
-                ..actor
-            },
-        ),
+        Op::Deq => {
+            actor.op = Op::Deq;
+            actor.line = Some(dequeues(kind));
+            from_pocket(Line::F1, actor);
+        }
     }
 }
 
-fn busy(now: u64, actor: Actor) -> Option<Outcome>
-    ensures { result ≡ lines.busy now actor }
-{
-    Some(ends(now, Reply::Refused(Refusal::Busy), actor))
-}
-
-fn busy_or(now: u64, due: Option<Reply>, actor: Actor) -> Option<Outcome>
-    ensures { result ≡ lines.busy_or now due actor }
-{
-    match due {
-        None => busy(now, actor),
-        Some(reply) => Some(ends(now, reply, actor)),
-    }
-}
-
-/// What becomes of an actor that gives up before a line at the step number `now`; none where no turn begins there.
+/// What becomes of an actor that gives up before a line at the step number `now`; none, and the actor stays, where no turn
+/// begins there.
 ///
 /// Takes no memory.
-pub fn gives_up(now: u64, actor: Actor, line: Line) -> Option<Outcome>
-    ensures { result ≡ lines.gives_up now actor line }
+pub fn give_up(now: u64, actor: &mut Actor, line: Line) -> Option<Told>
+    ensures some { IfSome result (λ t. lines.gives_up now actor.old line ≡ Some (settled actor.new t)) }
+    ensures none { IsNone result → lines.gives_up now actor.old line ≡ None }
+    ensures same { IsNone result → actor.new ≡ actor.old }
 {
     match line {
-        Line::N1 | Line::D2 | Line::B1 => busy(now, actor),
-        Line::E5 | Line::A3 => busy(now, to_pocket(actor)),
-        Line::F1 => busy_or(now, actor.due, to_pocket(actor)),
-        _ => None,
+        Line::N1 | Line::D2 | Line::B1 => {}
+        Line::E5 | Line::A3 | Line::F1 => actor.to_pocket(),
+        _ => return None,
     }
+    let reply = match line {
+        Line::F1 => actor.due.unwrap_or(Reply::Refused(Refusal::Busy)),
+        _ => Reply::Refused(Refusal::Busy),
+    };
+    Some(ends(now, reply, actor))
 }

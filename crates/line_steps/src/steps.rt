@@ -2,10 +2,11 @@
 ghost use Rattle.std.specs.Prelude.{◌≡◌};
 ghost use Rattle.line_steps.specs.Memory.{found};
 ghost use Rattle.line_steps.specs.Lines.{action, outcome};
+ghost use Rattle.line_steps.specs.Outcomes.{settled};
 ghost use Rattle.line_steps.specs.Rooms.{accessed};
 ghost use Rattle.line_steps.specs.Ready.{RegistersFit, IsCounted};
 
-use crate::actors::{Actor, Outcome, Setup};
+use crate::actors::{Actor, Setup, Told};
 use crate::memory::Memory;
 use crate::rows;
 use line_table::Line;
@@ -23,21 +24,21 @@ macro_rules! rows_of {
 ///
 /// `now` is the step's number and `me` the actor's, from 1 on. The setup's sizes fit a reference's parts: `size` is at
 /// most 16,777,214 and `limit` at most 1,099,511,627,775. The actor's registers name nodes for which there is room, their
-/// counts are at most `limit`, and `f` is at most `size`. Answers what becomes of the actor and of its operation. Takes
-/// no memory.
+/// counts are at most `limit`, and `f` is at most `size`. Answers what becomes of the actor's operation. Takes no memory.
 #[tactic(auto, using(crate::proofs::ByAccess::outcome_by_access))]
 pub fn stepped(
     memory: &mut Memory,
     setup: Setup,
     now: u64,
     me: u16,
-    a: Actor,
+    a: &mut Actor,
     line: Line,
-) -> Outcome
+) -> Told
     requires counted { IsCounted setup }
-    requires ready { RegistersFit setup memory.old.room a }
-    ensures outcome { result ≡ outcome setup now me a line (found (action setup me a line) memory.old.words) }
-    ensures memory { memory.new ≡ accessed (action setup me a line) memory.old }
+    requires ready { RegistersFit setup memory.old.room a.old }
+    ensures outcome { settled a.new result ≡
+        outcome setup now me a.old line (found (action setup me a.old line) memory.old.words) }
+    ensures memory { memory.new ≡ accessed (action setup me a.old line) memory.old }
 {
     rows_of!(line (memory, setup, now, me, a)
         N1 n1 N2 n2 N3 n3 N4 n4 N5 n5

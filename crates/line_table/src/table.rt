@@ -15,34 +15,38 @@ macro_rules! line_table {
     // A new node, in both queues.
     (N1 ($setup:ident $now:ident $me:ident $a:ident $found:ident) $each:ident $given:tt) => {
         $each! { $given N1 { load Fresh } {
-            goes(Line::N2, Actor { f: $found, ..$a })
+            $a.f = $found;
+            goes(Line::N2, $a)
         } }
     };
     (N2 ($setup:ident $now:ident $me:ident $a:ident $found:ident) $each:ident $given:tt) => {
         $each! { $given N2 { load Free } {
-            let a = Actor { top: $found, ..$a };
-            if a.top.is_null() {
-                if a.f < $setup.size {
-                    goes(Line::N5, a)
+            $a.top = $found;
+            if $a.top.is_null() {
+                if $a.f < $setup.size {
+                    goes(Line::N5, $a)
                 } else {
-                    ends($now, Reply::Refused(Refusal::NoNode), a)
+                    ends($now, Reply::Refused(Refusal::NoNode), $a)
                 }
-            } else if a.top.count() == $setup.limit {
-                worn($now, WornWord::Free, a)
+            } else if $a.top.count() == $setup.limit {
+                worn($now, WornWord::Free, $a)
             } else {
-                goes(Line::N3, a)
+                goes(Line::N3, $a)
             }
         } }
     };
     (N3 ($setup:ident $now:ident $me:ident $a:ident $found:ident) $each:ident $given:tt) => {
         $each! { $given N3 { load Next($a.top.node()) } {
-            goes(Line::N4, Actor { next: $found, ..$a })
+            $a.next = $found;
+            goes(Line::N4, $a)
         } }
     };
     (N4 ($setup:ident $now:ident $me:ident $a:ident $found:ident) $each:ident $given:tt) => {
         $each! { $given N4 { exchange Free ($a.top, raised($setup, $a.top, $a.next.node())) } {
             if $found.same($a.top) {
-                goes(with_node($setup.kind), fills_hand($a.top.node(), $a.next.count(), $a))
+                let (node, mark) = ($a.top.node(), $a.next.count());
+                $a.fills_hand(node, mark);
+                goes(with_node($setup.kind), $a)
             } else {
                 goes(Line::N1, $a)
             }
@@ -51,7 +55,9 @@ macro_rules! line_table {
     (N5 ($setup:ident $now:ident $me:ident $a:ident $found:ident) $each:ident $given:tt) => {
         $each! { $given N5 { exchange Fresh ($a.f, $a.f + 1) } {
             if $found == $a.f {
-                goes(with_node($setup.kind), fills_hand($a.f + 1, 0, $a))
+                let node = $a.f + 1;
+                $a.fills_hand(node, 0);
+                goes(with_node($setup.kind), $a)
             } else {
                 goes(Line::N1, $a)
             }
@@ -60,11 +66,12 @@ macro_rules! line_table {
     // A node goes to the free list, in both queues.
     (F1 ($setup:ident $now:ident $me:ident $a:ident $found:ident) $each:ident $given:tt) => {
         $each! { $given F1 { load Free } {
-            let a = Actor { top: $found, ..$a };
+            $a.top = $found;
             if $found.count() == $setup.limit {
-                sets_aside(freed($setup.kind, $now, a.due, a))
+                $a.empties_hand();
+                sets_aside($a.node, freed($setup.kind, $now, $a.due, $a))
             } else {
-                goes(Line::F2, a)
+                goes(Line::F2, $a)
             }
         } }
     };
@@ -76,7 +83,8 @@ macro_rules! line_table {
     (F3 ($setup:ident $now:ident $me:ident $a:ident $found:ident) $each:ident $given:tt) => {
         $each! { $given F3 { exchange Free ($a.top, raised($setup, $a.top, $a.node)) } {
             if $found.same($a.top) {
-                freed($setup.kind, $now, $a.due, empties_hand($a))
+                $a.empties_hand();
+                freed($setup.kind, $now, $a.due, $a)
             } else {
                 goes(Line::F1, $a)
             }
@@ -90,22 +98,25 @@ macro_rules! line_table {
     };
     (E3 ($setup:ident $now:ident $me:ident $a:ident $found:ident) $each:ident $given:tt) => {
         $each! { $given E3 { clear Next($a.node) } {
-            let a = Actor { mark: $found.count(), ..$a };
-            if a.mark == $setup.limit {
-                sets_aside(worn($now, WornWord::Next, a))
+            $a.mark = $found.count();
+            if $a.mark == $setup.limit {
+                $a.empties_hand();
+                sets_aside($a.node, worn($now, WornWord::Next, $a))
             } else {
-                goes(Line::E5, a)
+                goes(Line::E5, $a)
             }
         } }
     };
     (E5 ($setup:ident $now:ident $me:ident $a:ident $found:ident) $each:ident $given:tt) => {
         $each! { $given E5 { load Tail } {
-            goes(Line::E6, Actor { tail: $found, ..$a })
+            $a.tail = $found;
+            goes(Line::E6, $a)
         } }
     };
     (E6 ($setup:ident $now:ident $me:ident $a:ident $found:ident) $each:ident $given:tt) => {
         $each! { $given E6 { load Next($a.tail.node()) } {
-            goes(Line::E7, Actor { next: $found, ..$a })
+            $a.next = $found;
+            goes(Line::E7, $a)
         } }
     };
     (E7 ($setup:ident $now:ident $me:ident $a:ident $found:ident) $each:ident $given:tt) => {
@@ -114,7 +125,8 @@ macro_rules! line_table {
                 if $a.next.is_null() {
                     goes(Line::E9, $a)
                 } else if $a.tail.count() == $setup.limit {
-                    worn($now, WornWord::Tail, to_pocket($a))
+                    $a.to_pocket();
+                    worn($now, WornWord::Tail, $a)
                 } else {
                     goes(Line::E13, $a)
                 }
@@ -126,11 +138,12 @@ macro_rules! line_table {
     (E9 ($setup:ident $now:ident $me:ident $a:ident $found:ident) $each:ident $given:tt) => {
         $each! { $given E9 { exchange Next($a.tail.node()) ($a.next, raised($setup, $a.next, $a.node)) } {
             if $found.same($a.next) {
-                let a = empties_hand(Actor { due: Some(Reply::Done), ..$a });
-                if a.tail.count() == $setup.limit {
-                    effect($now, ends($now, Reply::Done, a))
+                $a.due = Some(Reply::Done);
+                $a.empties_hand();
+                if $a.tail.count() == $setup.limit {
+                    effect($now, ends($now, Reply::Done, $a))
                 } else {
-                    effect($now, goes(Line::E17, a))
+                    effect($now, goes(Line::E17, $a))
                 }
             } else {
                 goes(Line::E5, $a)
@@ -150,17 +163,21 @@ macro_rules! line_table {
     // The dequeue of the non-blocking queue.
     (D2 ($setup:ident $now:ident $me:ident $a:ident $found:ident) $each:ident $given:tt) => {
         $each! { $given D2 { load Head } {
-            goes(Line::D3, Actor { head: $found, ..$a })
+            $a.head = $found;
+            goes(Line::D3, $a)
         } }
     };
     (D3 ($setup:ident $now:ident $me:ident $a:ident $found:ident) $each:ident $given:tt) => {
         $each! { $given D3 { load Tail } {
-            goes(Line::D4, Actor { tail: $found, ..$a })
+            $a.tail = $found;
+            goes(Line::D4, $a)
         } }
     };
     (D4 ($setup:ident $now:ident $me:ident $a:ident $found:ident) $each:ident $given:tt) => {
         $each! { $given D4 { load Next($a.head.node()) } {
-            goes(Line::D5, Actor { next: $found, empty_at: $now, ..$a })
+            $a.next = $found;
+            $a.empty_at = $now;
+            goes(Line::D5, $a)
         } }
     };
     (D5 ($setup:ident $now:ident $me:ident $a:ident $found:ident) $each:ident $given:tt) => {
@@ -189,19 +206,21 @@ macro_rules! line_table {
     };
     (D12 ($setup:ident $now:ident $me:ident $a:ident $found:ident) $each:ident $given:tt) => {
         $each! { $given D12 { load Value($a.next.node()) } {
-            let a = Actor { val: $found, ..$a };
-            if a.head.count() == $setup.limit {
-                worn($now, WornWord::Head, a)
+            $a.val = $found;
+            if $a.head.count() == $setup.limit {
+                worn($now, WornWord::Head, $a)
             } else {
-                goes(Line::D13, a)
+                goes(Line::D13, $a)
             }
         } }
     };
     (D13 ($setup:ident $now:ident $me:ident $a:ident $found:ident) $each:ident $given:tt) => {
         $each! { $given D13 { exchange Head ($a.head, raised($setup, $a.head, $a.next.node())) } {
             if $found.same($a.head) {
-                let a = Actor { due: Some(Reply::Value($a.val)), ..$a };
-                effect($now, goes(Line::F1, fills_hand(a.head.node(), a.next.count(), a)))
+                $a.due = Some(Reply::Value($a.val));
+                let (node, mark) = ($a.head.node(), $a.next.count());
+                $a.fills_hand(node, mark);
+                effect($now, goes(Line::F1, $a))
             } else {
                 goes(Line::D2, $a)
             }
@@ -229,12 +248,15 @@ macro_rules! line_table {
     };
     (A4 ($setup:ident $now:ident $me:ident $a:ident $found:ident) $each:ident $given:tt) => {
         $each! { $given A4 { load Tail } {
-            goes(Line::A5, Actor { tail: $found, ..$a })
+            $a.tail = $found;
+            goes(Line::A5, $a)
         } }
     };
     (A5 ($setup:ident $now:ident $me:ident $a:ident $found:ident) $each:ident $given:tt) => {
         $each! { $given A5 { store Next($a.tail.node()) (CountedRef::new($a.node, 0)) } {
-            effect($now, goes(Line::A6, empties_hand(Actor { due: Some(Reply::Done), ..$a })))
+            $a.due = Some(Reply::Done);
+            $a.empties_hand();
+            effect($now, goes(Line::A6, $a))
         } }
     };
     (A6 ($setup:ident $now:ident $me:ident $a:ident $found:ident) $each:ident $given:tt) => {
@@ -259,34 +281,39 @@ macro_rules! line_table {
     };
     (B2 ($setup:ident $now:ident $me:ident $a:ident $found:ident) $each:ident $given:tt) => {
         $each! { $given B2 { load Head } {
-            goes(Line::B3, Actor { head: $found, ..$a })
+            $a.head = $found;
+            goes(Line::B3, $a)
         } }
     };
     (B3 ($setup:ident $now:ident $me:ident $a:ident $found:ident) $each:ident $given:tt) => {
         $each! { $given B3 { load Next($a.head.node()) } {
-            let a = Actor { next: $found, empty_at: $now, ..$a };
+            $a.next = $found;
+            $a.empty_at = $now;
             if $found.is_null() {
-                goes(Line::B6, Actor { due: Some(Reply::Empty), ..a })
+                $a.due = Some(Reply::Empty);
+                goes(Line::B6, $a)
             } else {
-                goes(Line::B4, a)
+                goes(Line::B4, $a)
             }
         } }
     };
     (B4 ($setup:ident $now:ident $me:ident $a:ident $found:ident) $each:ident $given:tt) => {
         $each! { $given B4 { load Value($a.next.node()) } {
-            let a = Actor { val: $found, ..$a };
-            if a.head.count() == $setup.limit {
-                let reply = Reply::Refused(Refusal::WornOut(WornWord::Head));
-                goes(Line::B6, Actor { due: Some(reply), ..a })
+            $a.val = $found;
+            if $a.head.count() == $setup.limit {
+                $a.due = Some(Reply::Refused(Refusal::WornOut(WornWord::Head)));
+                goes(Line::B6, $a)
             } else {
-                goes(Line::B5, a)
+                goes(Line::B5, $a)
             }
         } }
     };
     (B5 ($setup:ident $now:ident $me:ident $a:ident $found:ident) $each:ident $given:tt) => {
         $each! { $given B5 { store Head (raised($setup, $a.head, $a.next.node())) } {
-            let a = Actor { due: Some(Reply::Value($a.val)), ..$a };
-            effect($now, goes(Line::B6, fills_hand(a.head.node(), a.next.count(), a)))
+            $a.due = Some(Reply::Value($a.val));
+            let (node, mark) = ($a.head.node(), $a.next.count());
+            $a.fills_hand(node, mark);
+            effect($now, goes(Line::B6, $a))
         } }
     };
     (B6 ($setup:ident $now:ident $me:ident $a:ident $found:ident) $each:ident $given:tt) => {

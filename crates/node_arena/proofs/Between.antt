@@ -18,7 +18,7 @@ use Rattle.history.specs.Queue.{empty}
 use Rattle.history.specs.Entries.{is_pop, Plays}
 use Rattle.line_steps.specs.declared.actors.Actor.{Actor}
 use Rattle.line_steps.specs.declared.actors.Held.{Held}
-use Rattle.line_steps.specs.declared.actors.Outcome.{Outcome}
+use Rattle.line_steps.specs.Outcomes.{Outcome}
 use Rattle.line_steps.specs.Memory.{node_at}
 use Rattle.line_steps.specs.Lines.{with_node, dequeues, gives_up, busy_or, to_pocket}
 use Rattle.line_steps.specs.Calling.{is_call, begun, from_pocket}

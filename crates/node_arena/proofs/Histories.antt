@@ -19,7 +19,7 @@ use Rattle.history.specs.Entries.{is_pop, Plays}
 use Rattle.history.specs.History.{by_point}
 use Rattle.line_steps.specs.declared.actors.Setup.{Setup}
 use Rattle.line_steps.specs.declared.actors.Actor.{Actor}
-use Rattle.line_steps.specs.declared.actors.Outcome.{Outcome}
+use Rattle.line_steps.specs.Outcomes.{Outcome}
 use Rattle.line_steps.specs.Memory.{Found, found}
 use Rattle.line_steps.specs.Lines.{action, outcome, goes, ends, effect, fills_hand, empties_hand, sets_aside, freed, unlocked, busy_or, gives_up}
 use Rattle.line_steps.specs.Calling.{is_call, begun}

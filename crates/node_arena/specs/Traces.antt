@@ -10,7 +10,7 @@ use Rattle.history.specs.Entries.{is_pop, Plays}
 use Rattle.counted_ref.specs.Ref.{same_ref}
 use Rattle.line_steps.specs.declared.actors.Setup.{Setup}
 use Rattle.line_steps.specs.declared.actors.Actor.{Actor}
-use Rattle.line_steps.specs.declared.actors.Outcome.{Outcome}
+use Rattle.line_steps.specs.Outcomes.{Outcome}
 use Rattle.line_steps.specs.Memory.{word, Found, found}
 use Rattle.line_steps.specs.Lines.{action, outcome}
 use Rattle.step_machine.specs.declared.actors.Move.TheVariants.{Begin, Step, Give}

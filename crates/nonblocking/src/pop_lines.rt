@@ -6,9 +6,7 @@ ghost use Rattle.node_arena.specs.Plans.{may_pop};
 ghost use Rattle.node_arena.specs.Seats.{role_of};
 ghost use Rattle.nonblocking.specs.Pops.{CallIsAt, Follows};
 
-use crate::pop_outcomes::{
-    Actor, Outcome, Reply, Untold, effect, ends, fills_hand, goes, raised, worn,
-};
+use crate::pop_outcomes::{Actor, Outcome, Reply, Untold, effect, ends, goes, raised, worn};
 use history::WornWord;
 use line_table::{Line, line_table};
 use node_arena::{Arena, Seat, exchanged, reference};
@@ -43,7 +41,7 @@ macro_rules! row {
 }
 
 /// `index` turns of this call failed since it began.
-pub(crate) fn d2(arena: &Arena, seat: &mut Seat, a: Actor, index: u32) -> Outcome
+pub(crate) fn d2(arena: &Arena, seat: &mut Seat, mut a: Actor, index: u32) -> Outcome
     ghost prologue: { Prologue }
     requires { CallIsAt arena.now seat.old prologue lines.D2 a }
     ensures { Follows arena.now seat.old seat.new prologue lines.D2 a result }
@@ -52,14 +50,14 @@ pub(crate) fn d2(arena: &Arena, seat: &mut Seat, a: Actor, index: u32) -> Outcom
     line_table!(D2 (setup NOW NOW a found) row (arena seat found))
 }
 
-pub(crate) fn d3(arena: &Arena, seat: &mut Seat, a: Actor) -> Outcome
+pub(crate) fn d3(arena: &Arena, seat: &mut Seat, mut a: Actor) -> Outcome
     requires { CallIsAt arena.now seat.old continues lines.D3 a }
     ensures { Follows arena.now seat.old seat.new continues lines.D3 a result }
 {
     line_table!(D3 (setup NOW NOW a found) row (arena seat found))
 }
 
-pub(crate) fn d4(arena: &Arena, seat: &mut Seat, a: Actor) -> Outcome
+pub(crate) fn d4(arena: &Arena, seat: &mut Seat, mut a: Actor) -> Outcome
     requires { CallIsAt arena.now seat.old continues lines.D4 a }
     ensures { Follows arena.now seat.old seat.new continues lines.D4 a result }
 {
@@ -82,7 +80,7 @@ pub(crate) fn d10(arena: &Arena, seat: &mut Seat, a: Actor) -> Outcome
     line_table!(D10 (setup NOW NOW a found) row (arena seat found))
 }
 
-pub(crate) fn d12(arena: &Arena, seat: &mut Seat, a: Actor) -> Outcome
+pub(crate) fn d12(arena: &Arena, seat: &mut Seat, mut a: Actor) -> Outcome
     requires { CallIsAt arena.now seat.old continues lines.D12 a }
     ensures { Follows arena.now seat.old seat.new continues lines.D12 a result }
 {
@@ -90,7 +88,7 @@ pub(crate) fn d12(arena: &Arena, seat: &mut Seat, a: Actor) -> Outcome
     line_table!(D12 (setup NOW NOW a found) row (arena seat found))
 }
 
-pub(crate) fn d13(arena: &Arena, seat: &mut Seat, a: Actor) -> Outcome
+pub(crate) fn d13(arena: &Arena, seat: &mut Seat, mut a: Actor) -> Outcome
     requires stands { CallIsAt arena.now seat.old continues lines.D13 a }
     requires role { IsTrue (may_pop (role_of seat.old)) }
     ensures { Follows arena.now seat.old seat.new continues lines.D13 a result }

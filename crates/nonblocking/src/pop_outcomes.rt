@@ -119,10 +119,13 @@ pub(crate) fn worn(now: Untold, word: WornWord, a: Actor) -> Outcome
     Outcome::Refused(Refusal::WornOut(word))
 }
 
-pub(crate) fn fills_hand(node: u32, mark: u64, a: Actor) -> Actor
-    ensures { result ≡ record a { node = node; mark = mark } }
-{
-    Actor { node, mark, ..a }
+impl Actor {
+    pub(crate) fn fills_hand(&mut self, node: u32, mark: u64)
+        ensures { self.new ≡ record self.old { node = node; mark = mark } }
+    {
+        self.node = node;
+        self.mark = mark;
+    }
 }
 
 /// The reference that names another node, with its count raised.

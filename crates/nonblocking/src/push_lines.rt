@@ -7,8 +7,7 @@ ghost use Rattle.node_arena.specs.Seats.{role_of};
 ghost use Rattle.nonblocking.specs.Pushes.{CallIsAt, Follows};
 
 use crate::push_outcomes::{
-    Actor, Outcome, Reply, Untold, effect, empties_hand, ends, goes, raised, sets_aside, to_pocket,
-    worn,
+    Actor, Outcome, Reply, Untold, effect, ends, goes, raised, sets_aside, worn,
 };
 use history::WornWord;
 use line_table::{Line, line_table};
@@ -56,7 +55,7 @@ pub(crate) fn e2(arena: &Arena, seat: &mut Seat, a: Actor) -> Outcome
     line_table!(E2 (setup NOW NOW a found) row (arena seat found))
 }
 
-pub(crate) fn e3(arena: &Arena, seat: &mut Seat, a: Actor) -> Outcome
+pub(crate) fn e3(arena: &Arena, seat: &mut Seat, mut a: Actor) -> Outcome
     requires { CallIsAt arena.now seat.old continues lines.E3 a }
     ensures { Follows arena.now seat.old seat.new continues lines.E3 a result }
 {
@@ -64,21 +63,21 @@ pub(crate) fn e3(arena: &Arena, seat: &mut Seat, a: Actor) -> Outcome
     line_table!(E3 (setup NOW NOW a found) row (arena seat found))
 }
 
-pub(crate) fn e5(arena: &Arena, seat: &mut Seat, a: Actor) -> Outcome
+pub(crate) fn e5(arena: &Arena, seat: &mut Seat, mut a: Actor) -> Outcome
     requires { CallIsAt arena.now seat.old continues lines.E5 a }
     ensures { Follows arena.now seat.old seat.new continues lines.E5 a result }
 {
     line_table!(E5 (setup NOW NOW a found) row (arena seat found))
 }
 
-pub(crate) fn e6(arena: &Arena, seat: &mut Seat, a: Actor) -> Outcome
+pub(crate) fn e6(arena: &Arena, seat: &mut Seat, mut a: Actor) -> Outcome
     requires { CallIsAt arena.now seat.old continues lines.E6 a }
     ensures { Follows arena.now seat.old seat.new continues lines.E6 a result }
 {
     line_table!(E6 (setup NOW NOW a found) row (arena seat found))
 }
 
-pub(crate) fn e7(arena: &Arena, seat: &mut Seat, a: Actor) -> Outcome
+pub(crate) fn e7(arena: &Arena, seat: &mut Seat, mut a: Actor) -> Outcome
     requires { CallIsAt arena.now seat.old continues lines.E7 a }
     ensures { Follows arena.now seat.old seat.new continues lines.E7 a result }
 {
@@ -86,7 +85,7 @@ pub(crate) fn e7(arena: &Arena, seat: &mut Seat, a: Actor) -> Outcome
     line_table!(E7 (setup NOW NOW a found) row (arena seat found))
 }
 
-pub(crate) fn e9(arena: &Arena, seat: &mut Seat, a: Actor) -> Outcome
+pub(crate) fn e9(arena: &Arena, seat: &mut Seat, mut a: Actor) -> Outcome
     requires stands { CallIsAt arena.now seat.old continues lines.E9 a }
     requires role { IsTrue (may_push (role_of seat.old)) }
     ensures { Follows arena.now seat.old seat.new continues lines.E9 a result }

@@ -104,22 +104,25 @@ pub(crate) fn effect(now: Untold, outcome: Outcome) -> Outcome
     outcome
 }
 
-pub(crate) fn sets_aside(outcome: Outcome) -> Outcome
+pub(crate) fn sets_aside(node: u32, outcome: Outcome) -> Outcome
     ensures { result ≡ outcome }
 {
+    let _ = node;
     outcome
 }
 
-pub(crate) fn empties_hand(a: Actor) -> Actor
-    ensures { result ≡ a }
-{
-    a
-}
+impl Actor {
+    pub(crate) fn empties_hand(&mut self)
+        ensures { self.new ≡ self.old }
+    {
+        let _ = self;
+    }
 
-pub(crate) fn to_pocket(a: Actor) -> Actor
-    ensures { result ≡ a }
-{
-    a
+    pub(crate) fn to_pocket(&mut self)
+        ensures { self.new ≡ self.old }
+    {
+        let _ = self;
+    }
 }
 
 /// The reference that names another node, with its count raised.

@@ -8,7 +8,7 @@ use Rattle.line_table.specs.declared.lines.Line.{Line}
 use Rattle.history.specs.declared.operations.Stamped.{Stamped}
 use Rattle.line_steps.specs.declared.actors.Setup.{Setup}
 use Rattle.line_steps.specs.declared.actors.Actor.{Actor}
-use Rattle.line_steps.specs.declared.actors.Outcome.{Outcome}
+use Rattle.line_steps.specs.Outcomes.{Outcome}
 use Rattle.step_machine.specs.Machine.{World, opening, actor_of, with_actor, new_operation, with_outcome, with_operation, AnyMove, next_any, run_on, run}
 use Rattle.step_machine.specs.Stamps.{makers}
 use Rattle.step_machine.proofs.AnyMoves.{AfterEach, after_move}

@@ -3,8 +3,8 @@ use Rattle.std.proofs.Common.{◌≡◌, ℕ, ◌+◌, ◌⊎◌, inl, inr, Bool
 use Rattle.std.proofs.lemmas.List.Folds.{sum_by-replicate}
 use Rattle.step_machine.specs.Below.{Kind, TwoLock, NonBlocking, Line, N1, F1, Op, Enq, Deq, Reply, Stamped, Setup, Held, Actor, Outcome, Shared, gives_up, busy_or, with_node, dequeues, is_call, begun, from_pocket, first_memory}
 use Rattle.line_steps.specs.Rooms.{Memory}
-use Rattle.step_machine.specs.declared.actors.Move.TheVariants.{Begin, Give}
-use Rattle.step_machine.specs.Machine.{World, opening, idle, actor_of, with_actor, begins, given, gives, moved, next, after_outcome}
+use Rattle.step_machine.specs.declared.actors.Move.TheVariants.{Begin, Step, Give}
+use Rattle.step_machine.specs.Machine.{World, opening, idle, actor_of, with_actor, begins, stepped, steps, given, gives, moved, next, after_outcome}
 use Rattle.step_machine.specs.Calls.{giving_up, giving_up_at}
 use Rattle.step_machine.specs.Views.{wants_node, wanting_node, unrecorded, is_unrecorded}
 
@@ -28,6 +28,10 @@ may_give_up w me now a l at here h = subst IsSome (sym (giving_up-at w me a l at
 -- the outcome of giving up in a world is that of the actor's line
 pub giving_up-is : (w : World) (me : ℕ) (a : Actor) (l : Line) (o : Outcome) → actor_of w me ≡ Some a → a.line ≡ Some l → gives_up (w.steps + 1) a l ≡ Some o → giving_up w (actor_of w me) ≡ Some o
 giving_up-is w me a l o at here up = giving_up-at w me a l at here ∙ up
+
+-- the move of a step, by its parts
+pub step_move : (w : World) (me : ℕ) (a : Actor) (l : Line) → actor_of w me ≡ Some a → a.line ≡ Some l → next w (Step me) ≡ Some (stepped w me a l)
+step_move w me a l at here = ap (moved w (Step me)) at ∙ ap (steps w me a) here
 
 -- the move of giving up, by its parts
 pub give_move : (w : World) (me : ℕ) (a : Actor) (l : Line) (o : Outcome) → actor_of w me ≡ Some a → a.line ≡ Some l → gives_up (w.steps + 1) a l ≡ Some o → next w (Give me) ≡ Some (after_outcome w me a w.shared o)

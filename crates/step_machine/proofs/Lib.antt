@@ -3,6 +3,7 @@ pub mod AnyMoves
 pub mod Growth
 pub mod Rooms
 pub mod Making
+pub mod Stepping
 pub mod Giving
 pub mod Range
 pub mod OutcomesInRange

@@ -51,6 +51,10 @@ actor_stands w me a e = go (nat_eq me 0) refl e
     go true z f = absurd (none-some a f)
     go false z f = let ne : ¬ (me ≡ 0) = eqb-false me 0 z in (omega arith, f)
 
+-- an actor that a place of the list lends is the one of its number
+pub same_actor : (w : World) (me : ℕ) (a b : Actor) → actor_of w me ≡ Some a → b ≡ get_or w.actors (me - 1) b → b ≡ a
+same_actor w me a b at value = value ∙ get_or_from_slice_get w.actors (me - 1) a b (actor_stands w me a at).1
+
 -- the number of an actor that is there is from 1 up to the number of actors
 pub mover_in_range : (w : World) (me : ℕ) (a : Actor) → actor_of w me ≡ Some a → (1 ≤ me) × (me ≤ length w.actors)
 mover_in_range w me a e =

@@ -13,7 +13,7 @@ use Rattle.history.specs.declared.operations.Reply.{Reply}
 use Rattle.history.specs.declared.operations.Reply.TheVariants.{Done, Value, Empty, Refused}
 use Rattle.line_steps.specs.declared.actors.Setup.{Setup}
 use Rattle.line_steps.specs.declared.actors.Actor.{Actor}
-use Rattle.line_steps.specs.declared.actors.Outcome.{Outcome}
+use Rattle.line_steps.specs.Outcomes.{Outcome}
 use Rattle.line_steps.specs.Memory.{Found}
 use Rattle.line_steps.specs.Lines.{action, outcome, goes, ends, effect, sets_aside, empties_hand, to_pocket, freed, unlocked, busy_or, gives_up}
 use Rattle.step_machine.specs.TakingEffect.{IsByEffect}

@@ -14,7 +14,7 @@ use Rattle.history.specs.declared.operations.Reply.TheVariants.{Done, Value, Emp
 use Rattle.history.specs.declared.operations.Stamped.{Stamped}
 use Rattle.line_steps.specs.declared.actors.Setup.{Setup}
 use Rattle.line_steps.specs.declared.actors.Actor.{Actor}
-use Rattle.line_steps.specs.declared.actors.Outcome.{Outcome}
+use Rattle.line_steps.specs.Outcomes.{Outcome}
 use Rattle.line_steps.specs.Memory.{Found, Shared, found, performed}
 use Rattle.line_steps.specs.Lines.{action, outcome, goes, fills_hand, empties_hand, to_pocket, with_node, freed, unlocked, busy_or, gives_up}
 use Rattle.step_machine.specs.Machine.{World, actor_of, new_operation, with_outcome, with_operation, after_outcome, IsReached}

@@ -1,13 +1,16 @@
 //! What a step leaves in the lists of a world: its actor, and its operation.
 ghost use Rattle.std.specs.Prelude.{◌≡◌, ◌+◌, ◌-◌, ◌<◌, ◌≤◌, Some, None, IfOk, IfSome, IsNone, replicate, if◌then◌else◌, slice_set, slice_get, nat_eq, length, vec_len, vec_capacity};
+ghost use Rattle.line_steps.specs.Outcomes.{settled};
+ghost use Rattle.line_steps.specs.Ready.{IsCounted, RegistersFit};
 ghost use Rattle.line_steps.specs.Rooms.{aside_after};
 ghost use Rattle.step_machine.specs.Machine as machine;
 ghost use Rattle.step_machine.specs.Machine.{with_operation, new_operation, with_outcome, entry_or};
-ghost use Rattle.step_machine.specs.Views.{HasEntry, actor_in, actors_after, operations_after};
+ghost use Rattle.step_machine.specs.Views.{HasEntry, actor_in, actors_after, operations_after, with_told, TookStep};
 
 use counted_ref::CountedRef;
-use history::{Op, Stamped};
-use line_steps::{Actor, Memory, Outcome, nobody_value};
+use history::{Op, Reply, Stamped};
+use line_steps::{Actor, Memory, Setup, Told, nobody_value, stepped};
+use line_table::Line;
 use std::alloc::{AllocError, Global};
 
 /// A call under way: whose it is, what it does, and where its operation stands.
@@ -74,32 +77,20 @@ pub fn put_actor(actors: &mut Vec<Actor>, me: u16, actor: Actor)
     }
 }
 
-/// Puts an actor in its place, whose operation stands at `entry`.
-#[inline(always)]
-fn put_entered(actors: &mut Vec<Actor>, me: u16, entry: usize, actor: Actor)
-    ensures items { actors.new.items ≡
-        slice_set actors.old.items (me - 1) (record actor { entry = Some entry }) }
-{
-    if let Some(place) = actors.get_mut(me.saturating_sub(1) as usize) {
-        *place = actor;
-        place.entry = Some(entry);
-    }
-}
-
 /// Tells an operation the outcome of a step.
 #[inline(always)]
-fn record_outcome(now: u64, outcome: &Outcome, stamped: &mut Stamped)
-    ensures { stamped.new ≡ with_outcome now outcome.now stamped.old }
+fn record_outcome(now: u64, told: &Told, stamped: &mut Stamped)
+    ensures { stamped.new ≡ with_told now told.now stamped.old }
 {
-    stamped.last = if outcome.reply.is_some() {
+    stamped.last = if told.reply.is_some() {
         Some(now)
     } else {
         None
     };
-    if outcome.at.is_some() {
-        stamped.at = outcome.at;
+    if told.at.is_some() {
+        stamped.at = told.at;
     }
-    stamped.reply = outcome.reply;
+    stamped.reply = told.reply;
 }
 
 fn first_stamp(call: Call, now: u64) -> Stamped
@@ -117,48 +108,79 @@ fn first_stamp(call: Call, now: u64) -> Stamped
 
 /// The operations after an outcome: a call's first step adds its operation, a later one changes it.
 #[inline(always)]
-fn put_operation(operations: &mut Vec<Stamped>, call: Call, now: u64, outcome: &Outcome)
+fn put_operation(operations: &mut Vec<Stamped>, call: Call, now: u64, told: &Told)
     requires { HasEntry call.entry (vec_len operations.old) (vec_capacity operations.old) }
     ensures items { operations.new.items ≡
-        operations_after call.actor call.op call.entry now outcome.now operations.old.items }
+        with_operation call.entry (new_operation call.actor call.op now) (with_told now told.now) operations.old.items }
     ensures room { vec_capacity operations.old ≤ vec_capacity operations.new }
 {
     match call.entry {
         None => {
             let mut new = first_stamp(call, now);
-            record_outcome(now, outcome, &mut new);
+            record_outcome(now, told, &mut new);
             let _ = operations.push(new);
         }
         Some(place) => {
             if let Some(stamped) = operations.get_mut(place) {
-                record_outcome(now, outcome, stamped);
+                record_outcome(now, told, stamped);
             }
         }
     }
 }
 
 /// What an outcome leaves of its actor, its operation and the nodes set aside.
-#[inline(always)]
 pub fn commit(
     memory: &mut Memory,
     actors: &mut Vec<Actor>,
     operations: &mut Vec<Stamped>,
     call: Call,
     now: u64,
-    outcome: Outcome,
+    actor: Actor,
+    told: Told,
 )
     requires entry { HasEntry call.entry (vec_len operations.old) (vec_capacity operations.old) }
-    requires aside { IfSome outcome.aside (λ n. n - 1 < memory.old.room) }
-    ensures memory { memory.new ≡ record memory.old { aside = aside_after memory.old.aside outcome.aside } }
+    requires aside { IfSome told.aside (λ n. n - 1 < memory.old.room) }
+    ensures memory { memory.new ≡ record memory.old { aside = aside_after memory.old.aside told.aside } }
     ensures actors { actors.new.items ≡
-        actors_after call.actor call.entry (length operations.old.items) outcome actors.old.items }
+        actors_after call.actor call.entry (length operations.old.items) (settled actor told) actors.old.items }
     ensures operations { operations.new.items ≡
-        operations_after call.actor call.op call.entry now outcome operations.old.items }
+        operations_after call.actor call.op call.entry now (settled actor told) operations.old.items }
     ensures room { vec_capacity operations.old ≤ vec_capacity operations.new }
 {
-    let place = call.entry.unwrap_or(operations.len());
+    let entry = Some(call.entry.unwrap_or(operations.len()));
     let me = call.actor;
-    put_operation(operations, call, now, &outcome);
-    memory.set_aside(outcome.aside);
-    put_entered(actors, me, place, outcome.actor);
+    put_operation(operations, call, now, &told);
+    memory.set_aside(told.aside);
+    put_actor(actors, me, Actor { entry, ..actor });
+}
+
+/// Takes a step of an actor at a line, and puts down what it leaves: its registers, its operation and the node set aside.
+/// Answers the reply, where the call ends.
+#[inline(always)]
+pub fn take_step(
+    memory: &mut Memory,
+    a: &mut Actor,
+    operations: &mut Vec<Stamped>,
+    setup: Setup,
+    now: u64,
+    me: u16,
+    line: Line,
+) -> Option<Reply>
+    requires counted { IsCounted setup }
+    requires ready { RegistersFit setup memory.old.room a.old }
+    requires entry { HasEntry a.old.entry (vec_len operations.old) (vec_capacity operations.old) }
+    ensures took { TookStep setup now me line memory.old operations.old.items a.old
+        memory.new operations.new.items a.new result }
+    ensures room { vec_capacity operations.old ≤ vec_capacity operations.new }
+{
+    let call = Call {
+        actor: me,
+        op: a.op,
+        entry: a.entry,
+    };
+    let told = stepped(memory, setup, now, me, a, line);
+    a.entry = Some(call.entry.unwrap_or(operations.len()));
+    put_operation(operations, call, now, &told);
+    memory.set_aside(told.aside);
+    told.reply
 }

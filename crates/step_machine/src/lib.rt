@@ -16,7 +16,7 @@ mod world;
 
 pub use actors::{Move, Stepped};
 pub use benches::{Bench, on_bench};
-pub use line_steps::{Actor, Held, Node, Outcome, Setup};
+pub use line_steps::{Actor, Held, Node, Setup, Told};
 pub use moving::step_in;
 pub use places::Place;
 pub use world::World;

@@ -8,10 +8,10 @@ ghost use Rattle.step_machine.specs.Calls.{setup_from, NewRefused, BeginRefused,
 ghost use Rattle.step_machine.specs.Solo.{EndsAlone};
 
 use crate::actors::{Move, Stepped};
-use crate::committing::{Call, actor_at, commit, idle_actors, put_actor};
+use crate::committing::{Call, actor_at, commit, idle_actors, put_actor, take_step};
 use counted_ref::{CountedRef, MOST_COUNT, MOST_NODE};
 use history::{MOST_ACTOR, Op, Refusal, Reply, Stamped, Taken};
-use line_steps::{Actor, Held, Memory, Setup, begun, gives_up, stepped};
+use line_steps::{Actor, Held, Memory, Setup, begin, give_up};
 use line_table::{Kind, Line};
 use std::alloc::Global;
 use std::marker::Model;
@@ -151,7 +151,8 @@ impl World {
         }
         let actors = self.actors.len();
         let kind = self.setup.kind;
-        let begun = begun(kind, actor, op, *a);
+        let mut begun = *a;
+        begin(kind, actor, op, &mut begun);
         let enough = nodes_wanted(begun.line, self.memory.fresh(), actors);
         let Ok(()) = self.operations.reserve(actors) else {
             return Err(Refusal::Memory);
@@ -185,23 +186,20 @@ impl World {
         }
         let now = self.steps + 1;
         let setup = self.setup;
-        let call = Call {
-            actor,
-            op: a.op,
-            entry: a.entry,
+        let Some(a) = self.actors.get_mut(actor as usize - 1) else {
+            unreachable!()
         };
-        let outcome = stepped(&mut self.memory, setup, now, actor, *a, line);
-        let told = answer_at(line, outcome.reply);
-        commit(
+        let reply = take_step(
             &mut self.memory,
-            &mut self.actors,
+            a,
             &mut self.operations,
-            call,
+            setup,
             now,
-            outcome,
+            actor,
+            line,
         );
         self.steps = now;
-        Ok(told)
+        Ok(answer_at(line, reply))
     }
 
     /// Gives up the actor's call, 1 to 65,535, which stands at the start of a turn, and takes the next step number. Answers
@@ -223,24 +221,28 @@ impl World {
             return Err(Refusal::IdleActor);
         };
         let now = self.steps.saturating_add(1);
-        let op = a.op;
-        let entry = a.entry;
-        let Some(outcome) = gives_up(now, *a, line) else {
+        let call = Call {
+            actor,
+            op: a.op,
+            entry: a.entry,
+        };
+        let mut left = *a;
+        let Some(told) = give_up(now, &mut left, line) else {
             return Err(Refusal::NotHere);
         };
         if self.steps == u64::MAX {
             return Err(Refusal::BadSize);
         }
-        let told = outcome.reply;
-        let Some(reply) = told else { unreachable!() };
-        let call = Call { actor, op, entry };
+        let reply = told.reply;
+        let Some(reply) = reply else { unreachable!() };
         commit(
             &mut self.memory,
             &mut self.actors,
             &mut self.operations,
             call,
             now,
-            outcome,
+            left,
+            told,
         );
         self.steps = now;
         Ok(reply)

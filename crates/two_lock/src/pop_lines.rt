@@ -6,9 +6,7 @@ ghost use Rattle.node_arena.specs.Plans.{may_pop};
 ghost use Rattle.node_arena.specs.Seats.{role_of};
 ghost use Rattle.two_lock.specs.Pops.{CallIsAt, Follows};
 
-use crate::pop_outcomes::{
-    Actor, Outcome, Reply, Untold, effect, fills_hand, goes, raised, unlocked,
-};
+use crate::pop_outcomes::{Actor, Outcome, Reply, Untold, effect, goes, raised, unlocked};
 use history::{Refusal, WornWord};
 use line_table::{Line, line_table};
 use node_arena::{Arena, Seat, exchanged, reference, stored};
@@ -58,21 +56,21 @@ pub(crate) fn b1(arena: &Arena, seat: &mut Seat, a: Actor, index: u32) -> Outcom
     line_table!(B1 (setup NOW me a found) row (arena seat found))
 }
 
-pub(crate) fn b2(arena: &Arena, seat: &mut Seat, a: Actor) -> Outcome
+pub(crate) fn b2(arena: &Arena, seat: &mut Seat, mut a: Actor) -> Outcome
     requires { CallIsAt arena.now seat.old continues lines.B2 a }
     ensures { Follows arena.now seat.old seat.new continues lines.B2 a result }
 {
     line_table!(B2 (setup NOW NOW a found) row (arena seat found))
 }
 
-pub(crate) fn b3(arena: &Arena, seat: &mut Seat, a: Actor) -> Outcome
+pub(crate) fn b3(arena: &Arena, seat: &mut Seat, mut a: Actor) -> Outcome
     requires { CallIsAt arena.now seat.old continues lines.B3 a }
     ensures { Follows arena.now seat.old seat.new continues lines.B3 a result }
 {
     line_table!(B3 (setup NOW NOW a found) row (arena seat found))
 }
 
-pub(crate) fn b4(arena: &Arena, seat: &mut Seat, a: Actor) -> Outcome
+pub(crate) fn b4(arena: &Arena, seat: &mut Seat, mut a: Actor) -> Outcome
     requires { CallIsAt arena.now seat.old continues lines.B4 a }
     ensures { Follows arena.now seat.old seat.new continues lines.B4 a result }
 {
@@ -80,7 +78,7 @@ pub(crate) fn b4(arena: &Arena, seat: &mut Seat, a: Actor) -> Outcome
     line_table!(B4 (setup NOW NOW a found) row (arena seat found))
 }
 
-pub(crate) fn b5(arena: &Arena, seat: &mut Seat, a: Actor) -> Outcome
+pub(crate) fn b5(arena: &Arena, seat: &mut Seat, mut a: Actor) -> Outcome
     requires stands { CallIsAt arena.now seat.old continues lines.B5 a }
     requires role { IsTrue (may_pop (role_of seat.old)) }
     ensures { Follows arena.now seat.old seat.new continues lines.B5 a result }

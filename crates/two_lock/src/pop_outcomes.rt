@@ -87,10 +87,13 @@ pub(crate) fn effect(now: Untold, outcome: Outcome) -> Outcome
     outcome
 }
 
-pub(crate) fn fills_hand(node: u32, mark: u64, a: Actor) -> Actor
-    ensures { result ≡ record a { node = node; mark = mark } }
-{
-    Actor { node, mark, ..a }
+impl Actor {
+    pub(crate) fn fills_hand(&mut self, node: u32, mark: u64)
+        ensures { self.new ≡ record self.old { node = node; mark = mark } }
+    {
+        self.node = node;
+        self.mark = mark;
+    }
 }
 
 pub(crate) fn unlocked(now: Untold, due: Option<Reply>, a: Actor) -> Outcome

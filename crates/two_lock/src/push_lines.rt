@@ -6,7 +6,7 @@ ghost use Rattle.node_arena.specs.Plans.{may_push};
 ghost use Rattle.node_arena.specs.Seats.{role_of};
 ghost use Rattle.two_lock.specs.Pushes.{CallIsAt, Follows};
 
-use crate::push_outcomes::{Actor, Outcome, Reply, Untold, effect, empties_hand, ends, goes};
+use crate::push_outcomes::{Actor, Outcome, Reply, Untold, effect, ends, goes};
 use counted_ref::CountedRef;
 use line_table::{Line, line_table};
 use node_arena::{Arena, Seat, exchanged, masked, reference, stored};
@@ -71,14 +71,14 @@ pub(crate) fn a3(arena: &Arena, seat: &mut Seat, a: Actor) -> Outcome
     line_table!(A3 (setup NOW me a found) row (arena seat found))
 }
 
-pub(crate) fn a4(arena: &Arena, seat: &mut Seat, a: Actor) -> Outcome
+pub(crate) fn a4(arena: &Arena, seat: &mut Seat, mut a: Actor) -> Outcome
     requires { CallIsAt arena.now seat.old continues lines.A4 a }
     ensures { Follows arena.now seat.old seat.new continues lines.A4 a result }
 {
     line_table!(A4 (setup NOW NOW a found) row (arena seat found))
 }
 
-pub(crate) fn a5(arena: &Arena, seat: &mut Seat, a: Actor) -> Outcome
+pub(crate) fn a5(arena: &Arena, seat: &mut Seat, mut a: Actor) -> Outcome
     requires stands { CallIsAt arena.now seat.old continues lines.A5 a }
     requires role { IsTrue (may_push (role_of seat.old)) }
     ensures { Follows arena.now seat.old seat.new continues lines.A5 a result }

@@ -77,10 +77,12 @@ pub(crate) fn effect(now: Untold, outcome: Outcome) -> Outcome
     outcome
 }
 
-pub(crate) fn empties_hand(a: Actor) -> Actor
-    ensures { result ≡ a }
-{
-    a
+impl Actor {
+    pub(crate) fn empties_hand(&mut self)
+        ensures { self.new ≡ self.old }
+    {
+        let _ = self;
+    }
 }
 
 /// Whether a try of the lock got it.

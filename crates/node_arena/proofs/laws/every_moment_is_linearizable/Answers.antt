@@ -1,5 +1,5 @@
 -- The world of the rule's trace is reached by moves.
-use Rattle.std.proofs.Common.{◌≡◌, sym, subst, Some}
+use Rattle.std.proofs.Common.{◌≡◌, subst, Some}
 use Rattle.step_machine.specs.Machine.{IsReached, IsSized, run, opening}
 use Rattle.step_machine.proofs.EachHistory.{reached_placed, reached_linearizable, histories_are_legal}
 use Rattle.node_arena.specs.Moments.{EachMomentIsLinearizable}

@@ -19,16 +19,16 @@ no_call c = none_of c.in-Some.a.now.line (sym c.is_some.ensures ∙ c.if-is_some
 moves : (c : goal.After-put_actor) → next (world c.self.inside) (Begin c.args.actor c.args.op) ≡ Some (world (record { setup = c.self.inside.setup; steps = c.self.inside.steps; memory = c.grow.new.self; actors = c.put_actor.new.actors; operations = c.reserve.new.self }))
 moves c =
     let w = world c.self.inside in
-    begin_move w c.args.actor c.args.op c.in-Some.a.now c.in-Some.ensures.there (no_call c) c.begun-begun.ensures.call ∙
+    begin_move w c.args.actor c.args.op c.in-Some.a.now c.in-Some.ensures.there (no_call c) c.begin.ensures.call ∙
     ap Some
     (sym
     (same_world _ (with_actor w c.args.actor (begun w.setup.kind c.args.actor c.args.op c.in-Some.a.now)) refl refl
     (ap (λ m. m.words) c.in-Ok-grow.ensures.ok)
-    (c.put_actor.ensures.items ∙ ap (set w.actors (c.args.actor - 1)) c.begun-begun.ensures.actor) (ap (λ m. m.aside) c.in-Ok-grow.ensures.ok) c.reserve.ensures.items))
+    (c.put_actor.ensures.items ∙ ap (set w.actors (c.args.actor - 1)) c.begin.ensures.actor) (ap (λ m. m.aside) c.in-Ok-grow.ensures.ok) c.reserve.ensures.items))
 
-looks : (c : goal.After-put_actor) → (wants_node c.begun-begun.result.line ≡ 0) ⊎ (c.nodes_wanted-enough.result ≡ c.self.inside.memory.words.fresh + length c.self.inside.actors.items)
+looks : (c : goal.After-put_actor) → (wants_node c.begin.new.actor.line ≡ 0) ⊎ (c.nodes_wanted-enough.result ≡ c.self.inside.memory.words.fresh + length c.self.inside.actors.items)
 looks c =
-    begun_wants _ c.args.actor _ c.fresh.result c.len-actors.result c.args.op c.in-Some.a.now _ (made_in_range _ c.self.invariant.made) c.begun-begun.ensures.actor
+    begun_wants _ c.args.actor _ c.fresh.result c.len-actors.result c.args.op c.in-Some.a.now _ (made_in_range _ c.self.invariant.made) c.begin.ensures.actor
     c.fresh.ensures (omega (arith, c.len-actors.ensures, c.self.inside.actors.ok.0)) c.nodes_wanted-enough.ensures.looks
 
 pub invariant_of-self-2 : goal.invariant_of-self-2
@@ -39,7 +39,7 @@ invariant_of-self-2 c =
     let room : c.grow.new.self.room ≡ room_after w.setup.size c.nodes_wanted-enough.result c.self.inside.memory.room =
     ap (λ m. m.room) c.in-Ok-grow.ensures.ok ∙ ap (λ n. room_after n c.nodes_wanted-enough.result c.self.inside.memory.room) size in
     let rooms : Rooms w.setup.size c.grow.new.self.words.fresh c.grow.new.self.room (vec_capacity c.reserve.new.self) c.put_actor.new.actors.items c.reserve.new.self.items =
-    begun_rooms w c.self.inside.memory.room _ c.nodes_wanted-enough.result _ c.args.actor c.in-Some.a.now c.begun-begun.result _ _ _ c.in-Some.ensures.there (no_call c) (looks c)
+    begun_rooms w c.self.inside.memory.room _ c.nodes_wanted-enough.result _ c.args.actor c.in-Some.a.now c.begin.new.actor _ _ _ c.in-Some.ensures.there (no_call c) (looks c)
     c.self.invariant.within (ap (λ m. m.words.fresh) c.in-Ok-grow.ensures.ok) room c.put_actor.ensures.items
     (omega (arith, c.in-Ok.ensures.ok, c.reserve.new.self.ok.0, c.len-actors.ensures, c.self.inside.actors.ok.0)) c.self.invariant.nodes in
     record {

@@ -1,56 +1,59 @@
 -- A step leads from a made world to a made world, and keeps its room.
-use Rattle.std.proofs.Common.{◌≡◌, ◌+◌, ◌-◌, ◌<◌, ◌≤◌, Some, IfSome, rules, vec_capacity, arith, sym, ap, subst, ◌∙◌}
-use Rattle.step_machine.specs.Below.{performed, action, RegistersFit}
+use Rattle.std.proofs.Common.{◌≡◌, ◌+◌, ◌-◌, Some, slice_set, rules, vec_len, vec_capacity, arith, refl, sym, ap, subst, ◌∙◌}
+use Rattle.std.specs.Vec.{with_item}
+use Rattle.step_machine.specs.Below.{RegistersFit}
 use Rattle.step_machine.specs.declared.actors.Move.TheVariants.{Step}
-use Rattle.step_machine.specs.Views.{wants_node, HasEntry, HasNodes}
+use Rattle.step_machine.specs.Machine.{next, stepped}
+use Rattle.step_machine.specs.Views.{HasEntry, TookStep}
 use Rattle.step_machine.specs.Stored.{world}
-use Rattle.step_machine.proofs.Growth.{settles, grows}
-use Rattle.step_machine.proofs.Making.{ready, aside_room, entry_room, Rooms, settled_rooms}
-use Rattle.step_machine.proofs.Reached.{made_next}
+use Rattle.step_machine.proofs.Giving.{step_move, same_world}
+use Rattle.step_machine.proofs.Making.{ready, entry_room}
+use Rattle.step_machine.proofs.Reached.{made_next, same_actor}
+use Rattle.step_machine.proofs.Stepping.{took_rooms}
 use Rattle.step_machine.proofs.world.World.step.Goals as goal
 
-pub stepped-outcome-requires-clause-ready : goal.stepped-outcome-requires-clause-ready
-stepped-outcome-requires-clause-ready c =
-    ready (world c.self.inside) c.self.inside.memory.room c.args.actor _ c.self.invariant.made c.in-Some.ensures.there c.self.invariant.within
-    c.self.invariant.nodes
+pub take_step-reply-requires-clause-ready : goal.take_step-reply-requires-clause-ready
+take_step-reply-requires-clause-ready c =
+    subst (RegistersFit c.self.inside.setup c.self.inside.memory.room) (sym (same_actor (world c.self.inside) c.args.actor _ _ c.in-Some.ensures.there c.in-Some-get_mut.ensures.value))
+    (ready (world c.self.inside) c.self.inside.memory.room c.args.actor _ c.self.invariant.made c.in-Some.ensures.there c.self.invariant.within c.self.invariant.nodes)
 
-pub commit-requires-clause-entry : goal.commit-requires-clause-entry
-commit-requires-clause-entry c =
-    subst (λ n. HasEntry c.in-Some.a.now.entry n (vec_capacity c.self.inside.operations)) (sym c.self.inside.operations.ok.0)
-    (entry_room (world c.self.inside) _ c.args.actor c.in-Some.a.now c.in-Some-line.line c.in-Some.ensures.there c.in-Some-line.is c.self.invariant.entries)
+pub take_step-reply-requires-clause-entry : goal.take_step-reply-requires-clause-entry
+take_step-reply-requires-clause-entry c =
+    subst (λ a. HasEntry a.entry (vec_len c.self.inside.operations) (vec_capacity c.self.inside.operations)) (sym (same_actor (world c.self.inside) c.args.actor _ _ c.in-Some.ensures.there c.in-Some-get_mut.ensures.value))
+    (subst (λ n. HasEntry c.in-Some.a.now.entry n (vec_capacity c.self.inside.operations)) (sym c.self.inside.operations.ok.0)
+    (entry_room (world c.self.inside) _ c.args.actor c.in-Some.a.now c.in-Some-line.line c.in-Some.ensures.there c.in-Some-line.is c.self.invariant.entries))
 
-pub commit-requires-clause-aside : goal.commit-requires-clause-aside
-commit-requires-clause-aside c =
-    let a = c.in-Some.a.now in
+-- what the step left, by the actor that its number names
+left : (c : goal.After-answer_at) → TookStep c.self.inside.setup (c.self.inside.steps + 1) c.args.actor c.in-Some-line.line c.self.inside.memory c.self.inside.operations.items c.in-Some.a.now c.take_step-reply.new.memory c.take_step-reply.new.operations.items c.take_step-reply.new.a c.take_step-reply.result
+left c =
+    let t = c.take_step-reply in
+    subst (λ a. TookStep c.self.inside.setup (c.self.inside.steps + 1) c.args.actor c.in-Some-line.line c.self.inside.memory c.self.inside.operations.items a t.new.memory t.new.operations.items t.new.a t.result)
+    (same_actor (world c.self.inside) c.args.actor _ _ c.in-Some.ensures.there c.in-Some-get_mut.ensures.value) t.ensures.took
+
+moves : (c : goal.After-answer_at) → next (world c.self.inside) (Step c.args.actor) ≡ Some (world (record { setup = c.self.inside.setup; steps = c.self.inside.steps + 1; memory = c.take_step-reply.new.memory; actors = with_item c.self.inside.actors (c.args.actor - 1) c.take_step-reply.new.a; operations = c.take_step-reply.new.operations }))
+moves c =
+    let h = left c in
     let w = world c.self.inside in
-    let can : RegistersFit w.setup c.self.inside.memory.room a =
-    ready w _ c.args.actor a c.self.invariant.made c.in-Some.ensures.there c.self.invariant.within c.self.invariant.nodes in
-    subst (λ m. IfSome c.stepped-outcome.result.aside (λ n. n - 1 < m.room)) (sym c.stepped-outcome.ensures.memory)
-    (aside_room w.setup _ a c.stepped-outcome.result.aside can
-    (subst (λ o. IfSome o.aside (λ n. n ≡ a.node)) (sym c.stepped-outcome.ensures.outcome) (settles w.setup (w.steps + 1) c.args.actor a c.in-Some-line.line _).leaves))
+    step_move w c.args.actor c.in-Some.a.now c.in-Some-line.line c.in-Some.ensures.there c.in-Some-line.is ∙
+    ap Some
+    (sym
+    (same_world _ (stepped w c.args.actor c.in-Some.a.now c.in-Some-line.line) refl refl (ap (λ m. m.words) h.memory)
+    (ap (λ a. slice_set w.actors (c.args.actor - 1) a) h.actor) (ap (λ m. m.aside) h.memory) h.operations))
 
 pub invariant_of-self : goal.invariant_of-self
 invariant_of-self c =
-    let w = world c.self.inside in
-    let a = c.in-Some.a.now in
-    let l = c.in-Some-line.line in
-    let o = c.stepped-outcome.result in
-    let after = c.commit.new.memory in
-    let room : after.room ≡ c.self.inside.memory.room =
-    ap (λ m. m.room) c.commit.ensures.memory ∙ ap (λ m. m.room) c.stepped-outcome.ensures.memory in
-    let fresh : after.words.fresh ≡ (performed (action w.setup c.args.actor a l) w.shared).fresh =
-    ap (λ m. m.words.fresh) c.commit.ensures.memory ∙ ap (λ m. m.words.fresh) c.stepped-outcome.ensures.memory in
-    let grown : after.words.fresh + wants_node o.actor.line ≤ w.shared.fresh + wants_node (Some l) =
-    subst (λ n. n + wants_node o.actor.line ≤ w.shared.fresh + wants_node (Some l)) (sym fresh)
-    (subst (λ p. (performed (action w.setup c.args.actor a l) w.shared).fresh + wants_node p.actor.line ≤ w.shared.fresh + wants_node (Some l)) (sym c.stepped-outcome.ensures.outcome)
-    (grows w.setup (w.steps + 1) c.args.actor a l w.shared)) in
-    let rooms : Rooms w.setup.size after.words.fresh c.self.inside.memory.room _ c.commit.new.actors.items c.commit.new.operations.items =
-    settled_rooms w c.self.inside.memory.room _ _ c.args.actor a l o after.words.fresh _ _ _ _ _ c.in-Some.ensures.there c.in-Some-line.is grown c.commit.ensures.actors
-    c.commit.ensures.operations c.self.invariant.nodes c.self.invariant.entries c.commit.ensures.room in
+    let h = left c in
+    let rooms = took_rooms c.self.inside _ c.args.actor _ _ _ _ _ _ c.in-Some.ensures.there c.in-Some-line.is h c.self.invariant.nodes c.self.invariant.entries c.take_step-reply.ensures.room in
     record {
-      made = made_next w _ (Step c.args.actor) c.self.invariant.made (search rules);
+      made = made_next (world c.self.inside) _ (Step c.args.actor) c.self.invariant.made (moves c);
       numbers = omega (arith, c.if-self.false, c.self.invariant.numbers);
-      within = subst (λ n. n ≤ w.setup.size) (sym room) c.self.invariant.within;
-      nodes = subst (λ n. HasNodes w.setup.size after.words.fresh n c.commit.new.actors.items) (sym room) rooms.nodes;
+      within = omega (arith, ap (λ m. m.room) h.memory, c.self.invariant.within);
+      nodes = rooms.nodes;
       entries = rooms.entries;
     }
+
+pub returns-clause-ok : goal.returns-clause-ok
+returns-clause-ok c = ap (λ v. next v (Step c.args.actor)) (sym c.self.view_is) ∙ moves c
+
+pub returns-clause-told : goal.returns-clause-told
+returns-clause-told c = let r = (left c).reply in search rules
