@@ -5,8 +5,8 @@
 /// `line_table!(N4 (setup now me a found) each given)` becomes `each! { given N4 {access} {then} }`, the row of N4: the
 /// line, its one access of one shared word, and what the actor does with what the access found. The two columns read
 /// the identifiers handed in: `setup` (the kind, the number of nodes and the greatest count), `now` (the number of the
-/// step), `me` (the actor's number), `a` (its registers) and `found` (what the access found). All other names are
-/// looked up where the macro is used.
+/// step), `me` (the actor's number), `a` (its registers, which the second column assigns) and `found` (what the access
+/// found). All other names are looked up where the macro is used.
 ///
 /// `line_table!(each given [section ..])` becomes `each! { given N1 N2 .. }` with the lines of the sections named, in
 /// their order. The sections are `new_node`, `free`, `enqueue`, `dequeue`, `locked_enqueue` and `locked_dequeue`.
