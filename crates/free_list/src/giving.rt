@@ -4,13 +4,61 @@ ghost use Rattle.history.specs.Seats.{IsSound};
 ghost use Rattle.node_arena.specs.Seats.{IsReady, KeepsName, permits_of, known_of, pocket_of, failed_of};
 ghost use Rattle.node_arena.specs.Turns.{failed_turns};
 ghost use Rattle.node_arena.specs.Paths.{HadNoEffect, SeesNoMore, added};
-ghost use Rattle.free_list.specs.Runs.{StartsGive, giving};
+ghost use Rattle.line_table.specs.declared.lines.Line.TheVariants as lines;
+ghost use Rattle.node_arena.specs.Prologues.{Prologue, continues};
+ghost use Rattle.free_list.specs.Runs.{CallIsAt, Follows, StartsGive, giving};
 ghost use Rattle.free_list.specs.Gives.{GiveTurns, GiveAnswers, IsGivenBack, GiveBackRefused};
 
-use crate::lines::{f1, f2, f3};
-use crate::outcomes::{Gave, Outcome, given, registers};
+use crate::outcomes::{Actor, Gave, Outcome, frees, frees_aside, given, goes, registers};
+use counted_ref::CountedRef;
 use history::Refusal;
-use node_arena::{Arena, Held, Seat};
+use line_table::{Line, line_table};
+use node_arena::{Arena, Held, Seat, exchanged, raised, reference, stored};
+
+// The access of a line, as one step call.
+macro_rules! access {
+    ($arena:ident $seat:ident $line:ident load Free) => { reference($arena.load($seat, Line::$line, 1)) };
+    ($arena:ident $seat:ident $line:ident store Next($node:expr) ($new:expr)) => {
+        stored($arena, $seat, Line::$line, 4 + 2 * $node as usize, $new.word())
+    };
+    ($arena:ident $seat:ident $line:ident exchange Free ($old:expr, $new:expr)) => {
+        reference(exchanged($arena, $seat, Line::$line, 1, $old.word(), $new.word()))
+    };
+}
+
+// One row: its access, and then its third column.
+macro_rules! row {
+    (($arena:ident $seat:ident $found:ident) $line:ident {$($access:tt)*} {$($then:tt)*}) => {{
+        let $found = access!($arena $seat $line $($access)*);
+        $($then)*
+    }};
+}
+
+/// `index` turns of this call failed before.
+fn f1(arena: &Arena, seat: &mut Seat, mut a: Actor, index: u32) -> Outcome
+    ghost prologue: { Prologue }
+    requires { CallIsAt arena.now seat.old prologue lines.F1 a }
+    ensures { Follows arena.now seat.old seat.new prologue lines.F1 a result }
+{
+    let _ = index;
+    let setup = arena.setup();
+    line_table!(F1 (setup me a found) row (arena seat found))
+}
+
+fn f2(arena: &Arena, seat: &mut Seat, a: Actor) -> Outcome
+    requires { CallIsAt arena.now seat.old continues lines.F2 a }
+    ensures { Follows arena.now seat.old seat.new continues lines.F2 a result }
+{
+    line_table!(F2 (setup me a found) row (arena seat found))
+}
+
+fn f3(arena: &Arena, seat: &mut Seat, a: Actor) -> Outcome
+    requires { CallIsAt arena.now seat.old continues lines.F3 a }
+    ensures { Follows arena.now seat.old seat.new continues lines.F3 a result }
+{
+    let setup = arena.setup();
+    line_table!(F3 (setup me a found) row (arena seat found))
+}
 
 // One turn, where `index` turns of this call failed before.
 fn give_turn(arena: &Arena, seat: &mut Seat, held: Held, index: u32) -> Gave

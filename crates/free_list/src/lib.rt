@@ -2,7 +2,6 @@
 #![tactic(auto)]
 
 mod giving;
-mod lines;
 mod outcomes;
 mod taking;
 

@@ -1,6 +1,5 @@
 //! What a running call remembers, and the words of the line table's third column for it.
-ghost use Rattle.std.specs.Prelude.{◌≡◌, ◌<◌, ◌^◌};
-ghost use Rattle.counted_ref.specs.Ref.{reserved_node, count_bits};
+ghost use Rattle.std.specs.Prelude.{◌≡◌};
 ghost use Rattle.history.specs.declared.refusals.Refusal.TheVariants.{WornOut};
 ghost use Rattle.node_arena.specs.Machine as machine;
 ghost use Rattle.free_list.specs.Runs.{told_by, turn_of, gave_of};
@@ -8,11 +7,7 @@ ghost use Rattle.free_list.specs.Runs.{told_by, turn_of, gave_of};
 use counted_ref::CountedRef;
 use history::{Refusal, WornWord};
 use line_table::{Kind, Line};
-use node_arena::{Held, Setup};
-
-/// What the machine knows and a running call doesn't: step numbers, and what is due.
-#[derive(Clone, Copy)]
-pub(crate) struct Untold;
+use node_arena::Held;
 
 /// The registers of a running call.
 #[derive(Clone, Copy)]
@@ -22,7 +17,6 @@ pub(crate) struct Actor {
     pub(crate) next: CountedRef,
     pub(crate) node: u32,
     pub(crate) mark: u64,
-    pub(crate) due: Untold,
 }
 
 /// What a call that ends is told.
@@ -74,7 +68,6 @@ pub(crate) fn registers(node: u32, mark: u64) -> Actor
         next: null,
         node,
         mark,
-        due: Untold,
     }
 }
 
@@ -84,19 +77,19 @@ pub(crate) fn goes(line: Line, a: Actor) -> Outcome
     Outcome::Goes(line, a)
 }
 
-pub(crate) fn ends(now: Untold, reply: Reply, a: Actor) -> Outcome
+pub(crate) fn ends(reply: Reply, a: Actor) -> Outcome
     ensures { result ≡ told_by reply }
 {
-    let _ = (now, a);
+    let _ = a;
     match reply {
         Reply::Refused(why) => Outcome::Ends(why),
     }
 }
 
-pub(crate) fn worn(now: Untold, word: WornWord, a: Actor) -> Outcome
+pub(crate) fn worn(word: WornWord, a: Actor) -> Outcome
     ensures { result ≡ Outcome.Ends (WornOut word) }
 {
-    let _ = (now, a);
+    let _ = a;
     Outcome::Ends(Refusal::WornOut(word))
 }
 
@@ -116,37 +109,19 @@ impl Actor {
         self.node = node;
         self.mark = mark;
     }
-
-    pub(crate) fn empties_hand(&mut self)
-        ensures { self.new ≡ self.old }
-    {
-        let _ = self;
-    }
 }
 
-/// The reference that names another node, with its count raised.
-pub(crate) fn raised(setup: Setup, from: CountedRef, to: u32) -> CountedRef
-    requires to { to < reserved_node }
-    requires count { from.count < setup.limit }
-    requires limit { setup.limit < 2 ^ count_bits }
-    ensures { result ≡ machine.raised setup from to }
-{
-    let _ = setup;
-    CountedRef::new(to, from.count() + 1)
-}
-
-pub(crate) fn freed(kind: Kind, now: Untold, due: Untold, a: Actor) -> Outcome
+pub(crate) fn frees(kind: Kind, a: Actor) -> Outcome
     ensures { result ≡ Outcome.Freed }
 {
-    let _ = (kind, now, due, a);
+    let _ = (kind, a);
     Outcome::Freed
 }
 
-pub(crate) fn sets_aside(node: u32, outcome: Outcome) -> Outcome
-    ensures { result ≡ outcome }
+pub(crate) fn frees_aside(kind: Kind, a: Actor) -> Outcome
+    ensures { result ≡ Outcome.Freed }
 {
-    let _ = node;
-    outcome
+    frees(kind, a)
 }
 
 /// The turn of a take that ends so.

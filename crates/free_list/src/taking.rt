@@ -4,14 +4,81 @@ ghost use Rattle.history.specs.Seats.{IsSound};
 ghost use Rattle.node_arena.specs.Seats.{IsReady, KeepsName, permits_of, known_of, pocket_of, failed_of};
 ghost use Rattle.node_arena.specs.Turns.{failed_turns};
 ghost use Rattle.node_arena.specs.Paths.{HadNoEffect, SeesNoMore, added};
-ghost use Rattle.free_list.specs.Runs.{StartsTake, taking};
+ghost use Rattle.line_table.specs.declared.lines.Line.TheVariants as lines;
+ghost use Rattle.node_arena.specs.Prologues.{Prologue, continues};
+ghost use Rattle.free_list.specs.Runs.{CallIsAt, Follows, StartsTake, taking};
 ghost use Rattle.free_list.specs.Takes.{Turns, AnswersTake, IsTaken, TakeRefused, FailsFewer};
 
-use crate::lines::{n1, n2, n3, n4, n5};
-use crate::outcomes::{Outcome, Turn, registers, turned};
-use history::Refusal;
-use line_table::Line;
-use node_arena::{Arena, Held, Seat};
+use crate::outcomes::{
+    Actor, Outcome, Reply, Turn, ends, goes, registers, turned, with_node, worn,
+};
+use history::{Refusal, WornWord};
+use line_table::{Line, line_table};
+use node_arena::{Arena, Held, Seat, exchanged, raised, reference};
+
+// The access of a line, as one step call.
+macro_rules! access {
+    ($arena:ident $seat:ident $line:ident load Fresh) => { $arena.load($seat, Line::$line, 0) as u32 };
+    ($arena:ident $seat:ident $line:ident load Free) => { reference($arena.load($seat, Line::$line, 1)) };
+    ($arena:ident $seat:ident $line:ident load Next($node:expr)) => {
+        reference($arena.load($seat, Line::$line, 4 + 2 * $node as usize))
+    };
+    ($arena:ident $seat:ident $line:ident exchange Fresh ($old:expr, $new:expr)) => {
+        exchanged($arena, $seat, Line::$line, 0, u64::from($old), u64::from($new)) as u32
+    };
+    ($arena:ident $seat:ident $line:ident exchange Free ($old:expr, $new:expr)) => {
+        reference(exchanged($arena, $seat, Line::$line, 1, $old.word(), $new.word()))
+    };
+}
+
+// One row: its access, and then its third column.
+macro_rules! row {
+    (($arena:ident $seat:ident $found:ident) $line:ident {$($access:tt)*} {$($then:tt)*}) => {{
+        let $found = access!($arena $seat $line $($access)*);
+        $($then)*
+    }};
+}
+
+/// `index` turns of this call failed before.
+fn n1(arena: &Arena, seat: &mut Seat, mut a: Actor, index: u32) -> Outcome
+    ghost prologue: { Prologue }
+    requires { CallIsAt arena.now seat.old prologue lines.N1 a }
+    ensures { Follows arena.now seat.old seat.new prologue lines.N1 a result }
+{
+    let _ = index;
+    line_table!(N1 (setup me a found) row (arena seat found))
+}
+
+fn n2(arena: &Arena, seat: &mut Seat, mut a: Actor) -> Outcome
+    requires { CallIsAt arena.now seat.old continues lines.N2 a }
+    ensures { Follows arena.now seat.old seat.new continues lines.N2 a result }
+{
+    let setup = arena.setup();
+    line_table!(N2 (setup me a found) row (arena seat found))
+}
+
+fn n3(arena: &Arena, seat: &mut Seat, mut a: Actor) -> Outcome
+    requires { CallIsAt arena.now seat.old continues lines.N3 a }
+    ensures { Follows arena.now seat.old seat.new continues lines.N3 a result }
+{
+    line_table!(N3 (setup me a found) row (arena seat found))
+}
+
+fn n4(arena: &Arena, seat: &mut Seat, mut a: Actor) -> Outcome
+    requires { CallIsAt arena.now seat.old continues lines.N4 a }
+    ensures { Follows arena.now seat.old seat.new continues lines.N4 a result }
+{
+    let setup = arena.setup();
+    line_table!(N4 (setup me a found) row (arena seat found))
+}
+
+fn n5(arena: &Arena, seat: &mut Seat, mut a: Actor) -> Outcome
+    requires { CallIsAt arena.now seat.old continues lines.N5 a }
+    ensures { Follows arena.now seat.old seat.new continues lines.N5 a result }
+{
+    let setup = arena.setup();
+    line_table!(N5 (setup me a found) row (arena seat found))
+}
 
 // One turn, where `index` turns of this call failed before.
 fn take_turn(arena: &Arena, seat: &mut Seat, index: u32) -> Turn

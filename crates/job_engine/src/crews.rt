@@ -10,15 +10,12 @@ use dispatcher::{Gate, dispatch};
 use history::{Fifo, Refusal};
 use job_results::{Job, JobResult};
 use line_table::Kind;
-use node_arena::Role;
+use node_arena::{MOST_COUNT, Role};
 use nonblocking::MsQueue;
 use std::alloc::Global;
 use std::sync::Wait;
 use std::thread::Threads;
 use two_lock::TwoLockQueue;
-
-/// The greatest count of all.
-const GREATEST_COUNT: u64 = 1_099_511_627_775;
 
 /// A gate that does nothing.
 #[derive(Drop)]
@@ -49,11 +46,11 @@ pub(crate) fn results_by<'a, R: Threads + Wait + Sync>(
     let roles = roles_of(alloc, workers)?;
     match kind {
         Kind::TwoLock => {
-            let (queue, seats) = TwoLockQueue::new(alloc, nodes, GREATEST_COUNT, &roles)?;
+            let (queue, seats) = TwoLockQueue::new(alloc, nodes, MOST_COUNT, &roles)?;
             results_over(rt, alloc, &queue, workers, seats, jobs)
         }
         Kind::NonBlocking => {
-            let (queue, seats) = MsQueue::new(alloc, nodes, GREATEST_COUNT, &roles)?;
+            let (queue, seats) = MsQueue::new(alloc, nodes, MOST_COUNT, &roles)?;
             results_over(rt, alloc, &queue, workers, seats, jobs)
         }
     }

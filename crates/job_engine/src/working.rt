@@ -9,6 +9,7 @@ use crate::texts::JobTexts;
 use history::{Refusal, Sink, Source};
 use job_results::Job;
 use line_table::Kind;
+use node_arena::MOST_NODE;
 use report::results_table;
 use source_text::parse_source;
 use std::alloc::Global;
@@ -17,9 +18,6 @@ use std::thread::Threads;
 
 /// The greatest number of workers.
 const MOST_WORKERS: u32 = 64;
-
-/// The greatest number of nodes.
-const MOST_NODES: u32 = 16_777_214;
 
 /// How many nodes more than workers there are at least.
 const SPARE_NODES: u32 = 3;
@@ -73,7 +71,7 @@ fn are_sized(workers: u32, nodes: u32) -> bool
     ensures sized { IsTrue result ↔ AreSized workers nodes }
     ensures outside { ¬ IsTrue result ↔ IsBadSize workers nodes }
 {
-    1 <= workers && workers <= MOST_WORKERS && workers + SPARE_NODES <= nodes && nodes <= MOST_NODES
+    1 <= workers && workers <= MOST_WORKERS && workers + SPARE_NODES <= nodes && nodes <= MOST_NODE
 }
 
 /// The jobs whose text a source gives.

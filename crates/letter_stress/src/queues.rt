@@ -2,17 +2,12 @@
 use history::Refusal;
 use line_table::Kind;
 use mail_engine::{non_blocking_seats, two_lock_seats};
+use node_arena::{MOST_COUNT, MOST_NODE};
 use numbered_letters::{Came, Load, posted};
 use std::alloc::Global;
 use std::rt::Clock;
 use std::sync::Wait;
 use std::thread::Threads;
-
-/// The greatest count of all.
-const GREATEST_COUNT: u64 = 1_099_511_627_775;
-
-/// The most nodes of a queue.
-const MOST_NODES: usize = 16_777_214;
 
 /// Both queues, by their names on the command line.
 pub const KINDS: [(&str, Kind); 2] = [
@@ -40,7 +35,7 @@ fn nodes_for(senders: u16, load: Load) -> u32 {
     letters
         .saturating_add(senders)
         .saturating_add(2)
-        .min(MOST_NODES) as u32
+        .min(MOST_NODE as usize) as u32
 }
 
 /// What came of the letters of so many senders over a new queue.
@@ -54,16 +49,11 @@ pub fn came<R: Threads + Wait + Clock + Sync>(
     let nodes = nodes_for(senders, load);
     match kind {
         Kind::TwoLock => {
-            let (queue, seats, receiver) = two_lock_seats(alloc, nodes, GREATEST_COUNT, senders)?;
+            let (queue, seats, receiver) = two_lock_seats(alloc, nodes, MOST_COUNT, senders)?;
             posted(rt, alloc, queue, seats, receiver, load)
         }
         Kind::NonBlocking => {
-            let (queue, seats, receiver) = non_blocking_seats(
-                alloc,
-                nodes,
-                GREATEST_COUNT,
-                senders,
-            )?;
+            let (queue, seats, receiver) = non_blocking_seats(alloc, nodes, MOST_COUNT, senders)?;
             posted(rt, alloc, queue, seats, receiver, load)
         }
     }

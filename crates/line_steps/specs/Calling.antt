@@ -6,10 +6,8 @@ use Rattle.line_table.specs.declared.lines.Line.{Line}
 use Rattle.line_table.specs.declared.lines.Line.TheVariants.{N1, F1}
 use Rattle.history.specs.declared.operations.Op.{Op}
 use Rattle.history.specs.declared.operations.Op.TheVariants.{Enq, Deq}
-use Rattle.history.specs.declared.operations.Reply.{Reply}
 use Rattle.line_steps.specs.declared.actors.Held.{Held}
 use Rattle.line_steps.specs.declared.actors.Actor.{Actor}
-use Rattle.line_steps.specs.Outcomes.{Outcome}
 use Rattle.line_steps.specs.Lines.{fills_hand, with_node, dequeues}
 
 -- whether a call can be made: a body is below 2^48
@@ -29,7 +27,3 @@ begun kind me (Enq body) a =
     (record a { line = Some N1; op = Enq body; val = record { from = me; body = body }; due = None; entry = None })
 begun kind me Deq a =
     from_pocket F1 a.pocket (record a { line = Some (dequeues kind); op = Deq; due = None; entry = None })
-
--- a call that ends with a reply, and takes effect at this number where it did not before
-abbrev pub ended : (at : Option ℕ) → Reply → Actor → Outcome
-ended at reply a = record { actor = record a { line = None }; at = at; reply = Some reply; aside = None }

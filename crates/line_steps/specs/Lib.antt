@@ -1,6 +1,7 @@
 pub mod Memory
 pub mod Outcomes
 pub mod Lines
+pub mod Said
 pub mod Rooms
 pub mod Stored
 pub mod Words

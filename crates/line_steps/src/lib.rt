@@ -12,3 +12,4 @@ pub use actors::{Actor, Held, Node, Setup, Told};
 pub use memory::{Memory, nobody_value};
 pub use outcomes::{begin, give_up};
 pub use steps::stepped;
+pub use words::value_of;

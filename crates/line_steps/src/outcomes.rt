@@ -1,73 +1,146 @@
 //! What a step makes of its actor, by the words of the line table.
-ghost use Rattle.std.specs.Prelude.{◌≡◌, ◌<◌, ◌≤◌, ◌^◌, Some, None, IfSome, IsNone, true};
+ghost use Rattle.std.specs.Prelude.{◌≡◌, ◌<◌, ◌≤◌, ◌^◌, Some, None, IfSome, IsNone, true, false};
 ghost use Rattle.counted_ref.specs.Ref.{reserved_node, count_bits};
 ghost use Rattle.line_steps.specs.Lines as lines;
 ghost use Rattle.line_steps.specs.Calling as calling;
-ghost use Rattle.line_steps.specs.Outcomes.{told_of, settled};
+ghost use Rattle.history.specs.declared.operations.Reply.TheVariants.{Done, Refused};
+ghost use Rattle.history.specs.declared.refusals.Refusal.TheVariants.{WornOut};
+ghost use Rattle.line_steps.specs.Outcomes.{settled};
+ghost use Rattle.line_steps.specs.Said as outcomes;
+ghost use Rattle.line_steps.specs.Said.{numbered, nothing, end_of, freed_actor, freed_said, unlocked_actor, unlocked_said};
 
 use crate::actors::{Actor, Held, Setup, Told};
 use counted_ref::CountedRef;
 use history::{Op, Refusal, Reply, Taken, WornWord};
 use line_table::{Kind, Line};
 
-pub fn goes(line: Line, actor: &mut Actor) -> Told
-    ensures actor { actor.new ≡ (lines.goes line actor.old).actor }
-    ensures told { result ≡ told_of (lines.goes line actor.old) }
+/// When an operation takes effect, as a row says it, which knows no numbers of steps.
+#[derive(Clone, Copy)]
+pub enum When {
+    /// This step settles nothing.
+    Open,
+    /// Here.
+    Here,
+    /// Here, if the queue turns out to be empty: the actor notes the number of the step.
+    Noted,
+    /// Where the actor noted.
+    AsNoted,
+}
+
+/// What a row says beside what it makes of its actor.
+#[derive(Clone, Copy)]
+pub struct Said {
+    pub effect: When,
+    /// The reply, where the call ends.
+    pub reply: Option<Reply>,
+    /// The node set aside.
+    pub aside: Option<u32>,
+}
+
+/// Puts the number of the step to what a row said.
+#[inline(always)]
+pub fn settle(now: u64, actor: &mut Actor, said: Said) -> Told
+    ensures { settled actor.new result ≡ numbered now actor.old said }
+{
+    let at = match said.effect {
+        When::Open => None,
+        When::Here => Some(now),
+        When::Noted => {
+            actor.empty_at = now;
+            None
+        }
+        When::AsNoted => Some(actor.empty_at),
+    };
+    Told {
+        at,
+        reply: said.reply,
+        aside: said.aside,
+    }
+}
+
+pub fn goes(line: Line, actor: &mut Actor) -> Said
+    ensures actor { actor.new ≡ record actor.old { line = Some line } }
+    ensures said { result ≡ nothing }
 {
     actor.line = Some(line);
-    Told {
-        at: None,
+    Said {
+        effect: When::Open,
         reply: None,
         aside: None,
     }
 }
 
-/// The number at which an operation takes effect that ends so, where it didn't before.
-fn effect_at_end(now: u64, actor: &Actor, reply: &Reply) -> Option<u64>
-    ensures { result ≡ lines.effect_at_end now actor.now reply.now }
+/// Where a call takes effect that ends with this reply.
+fn effect_of(reply: &Reply) -> When
+    ensures { result ≡ outcomes.effect_of reply.now }
 {
     match reply {
-        Reply::Done | Reply::Value(_) => None,
-        Reply::Empty => Some(actor.empty_at),
-        Reply::Refused(_) => Some(now),
+        Reply::Done | Reply::Value(_) => When::Open,
+        Reply::Empty => When::AsNoted,
+        Reply::Refused(_) => When::Here,
     }
 }
 
-pub fn ends(now: u64, reply: Reply, actor: &mut Actor) -> Told
-    ensures actor { actor.new ≡ (lines.ends now reply actor.old).actor }
-    ensures told { result ≡ told_of (lines.ends now reply actor.old) }
+pub fn ends(reply: Reply, actor: &mut Actor) -> Said
+    ensures actor { actor.new ≡ record actor.old { line = None } }
+    ensures said { result ≡ end_of reply }
 {
-    let at = effect_at_end(now, actor, &reply);
+    let effect = effect_of(&reply);
     actor.line = None;
-    Told {
-        at,
+    Said {
+        effect,
         reply: Some(reply),
         aside: None,
     }
 }
 
-pub fn worn(now: u64, word: WornWord, actor: &mut Actor) -> Told
-    ensures actor { actor.new ≡ (lines.worn now word actor.old).actor }
-    ensures told { result ≡ told_of (lines.worn now word actor.old) }
+pub fn worn(word: WornWord, actor: &mut Actor) -> Said
+    ensures actor { actor.new ≡ record actor.old { line = None } }
+    ensures said { result ≡ end_of (Refused (WornOut word)) }
 {
-    ends(now, Reply::Refused(Refusal::WornOut(word)), actor)
+    ends(Reply::Refused(Refusal::WornOut(word)), actor)
 }
 
-pub fn effect(now: u64, told: Told) -> Told
-    ensures { result ≡ record told { at = Some now } }
+/// The node in hand goes to the pocket, and a word is worn out.
+pub fn worn_with_node(word: WornWord, actor: &mut Actor) -> Said
+    ensures actor { actor.new ≡ record (lines.to_pocket actor.old) { line = None } }
+    ensures said { result ≡ end_of (Refused (WornOut word)) }
 {
-    Told {
-        at: Some(now),
-        ..told
+    actor.to_pocket();
+    worn(word, actor)
+}
+
+/// The node in hand is set aside, and a word is worn out.
+pub fn worn_aside(word: WornWord, actor: &mut Actor) -> Said
+    ensures actor { actor.new ≡ record actor.old { line = None; holds = false } }
+    ensures said { result ≡ record (end_of (Refused (WornOut word))) { aside = Some actor.old.node } }
+{
+    let node = actor.node;
+    actor.empties_hand();
+    let said = worn(word, actor);
+    Said {
+        aside: Some(node),
+        ..said
     }
 }
 
-pub fn sets_aside(node: u32, told: Told) -> Told
-    ensures { result ≡ record told { aside = Some node } }
+/// The operation takes effect here.
+pub fn effect(said: Said) -> Said
+    ensures { result ≡ record said { effect = When.Here } }
 {
-    Told {
-        aside: Some(node),
-        ..told
+    Said {
+        effect: When::Here,
+        ..said
+    }
+}
+
+/// The operation takes effect here, if the queue turns out to be empty.
+pub fn notes(said: Said) -> Said
+    ensures { result ≡ record said { effect = When.Noted } }
+{
+    Said {
+        effect: When::Noted,
+        ..said
     }
 }
 
@@ -83,6 +156,14 @@ impl Actor {
     pub(crate) fn empties_hand(&mut self)
         ensures { self.new ≡ lines.empties_hand self.old }
     {
+        self.holds = false;
+    }
+
+    /// The node in hand is in the queue.
+    pub(crate) fn links(&mut self)
+        ensures { self.new ≡ record self.old { due = Some Done; holds = false } }
+    {
+        self.due = Some(Reply::Done);
         self.holds = false;
     }
 
@@ -115,13 +196,28 @@ pub fn dequeues(kind: Kind) -> Line
     }
 }
 
-pub fn freed(kind: Kind, now: u64, due: Option<Reply>, actor: &mut Actor) -> Told
-    ensures actor { actor.new ≡ (lines.freed kind now due actor.old).actor }
-    ensures told { result ≡ told_of (lines.freed kind now due actor.old) }
+/// The node in hand is free: a call with a reply ends, a dequeue that freed its pocket first begins.
+pub fn frees(kind: Kind, actor: &mut Actor) -> Said
+    ensures actor { actor.new ≡ freed_actor kind actor.old }
+    ensures said { result ≡ freed_said actor.old.due }
 {
-    match due {
+    actor.empties_hand();
+    match actor.due {
         None => goes(dequeues(kind), actor),
-        Some(reply) => ends(now, reply, actor),
+        Some(reply) => ends(reply, actor),
+    }
+}
+
+/// The same where the node in hand is set aside.
+pub fn frees_aside(kind: Kind, actor: &mut Actor) -> Said
+    ensures actor { actor.new ≡ freed_actor kind actor.old }
+    ensures said { result ≡ record (freed_said actor.old.due) { aside = Some actor.old.node } }
+{
+    let node = actor.node;
+    let said = frees(kind, actor);
+    Said {
+        aside: Some(node),
+        ..said
     }
 }
 
@@ -134,13 +230,14 @@ pub fn raised(setup: Setup, old: CountedRef, to: u32) -> CountedRef
     old.raised(to, setup.limit).unwrap_or(old)
 }
 
-pub fn unlocked(now: u64, due: Option<Reply>, actor: &mut Actor) -> Told
-    ensures actor { actor.new ≡ (lines.unlocked now due actor.old).actor }
-    ensures told { result ≡ told_of (lines.unlocked now due actor.old) }
+/// The lock of the head is free: a call that took a value frees the node, any other one ends with its reply.
+pub fn unlocked(actor: &mut Actor) -> Said
+    ensures actor { actor.new ≡ unlocked_actor actor.old }
+    ensures said { result ≡ unlocked_said actor.old.due }
 {
-    match due {
+    match actor.due {
         None | Some(Reply::Value(_)) => goes(Line::F1, actor),
-        Some(reply) => ends(now, reply, actor),
+        Some(reply) => ends(reply, actor),
     }
 }
 
@@ -198,5 +295,6 @@ pub fn give_up(now: u64, actor: &mut Actor, line: Line) -> Option<Told>
         Line::F1 => actor.due.unwrap_or(Reply::Refused(Refusal::Busy)),
         _ => Reply::Refused(Refusal::Busy),
     };
-    Some(ends(now, reply, actor))
+    let said = ends(reply, actor);
+    Some(settle(now, actor, said))
 }

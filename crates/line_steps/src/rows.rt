@@ -5,7 +5,10 @@ ghost use Rattle.line_steps.specs.Steps.{MayStep, Stepped};
 
 use crate::actors::{Actor, Setup, Told};
 use crate::memory::Memory;
-use crate::outcomes::{effect, ends, freed, goes, raised, sets_aside, unlocked, with_node, worn};
+use crate::outcomes::{
+    effect, ends, frees, frees_aside, goes, notes, raised, settle, unlocked, with_node, worn,
+    worn_aside, worn_with_node,
+};
 use counted_ref::CountedRef;
 use history::{Refusal, Reply, WornWord};
 use line_table::{Line, line_table};
@@ -34,11 +37,12 @@ macro_rules! access {
     ($memory:ident exchange Next($node:expr) ($old:expr, $new:expr)) => { $memory.exchange_next($node, $old, $new) };
 }
 
-// One row: its access, and then what the actor does with what was found.
+// One row: its access, then what the actor does with what was found, and then the number of the step.
 macro_rules! made {
-    (($memory:ident $found:ident) $line:ident {$($access:tt)*} {$($then:tt)*}) => {{
+    (($memory:ident $now:ident $a:ident $found:ident) $line:ident {$($access:tt)*} {$($then:tt)*}) => {{
         let $found = access!($memory $($access)*);
-        $($then)*
+        let said = { $($then)* };
+        settle($now, $a, said)
     }};
 }
 
@@ -48,58 +52,60 @@ pub(crate) fn n1(memory: &mut Memory, setup: Setup, now: u64, me: u16, a: &mut A
     requires { MayStep setup memory.old.room a.old }
     ensures { Stepped setup now me Line.N1 memory.old a.old memory.new a.new result }
 {
-    line_table!(N1 (setup now me a found) made (memory found))
+    line_table!(N1 (setup me a found) made (memory now a found))
 }
 
 pub(crate) fn n2(memory: &mut Memory, setup: Setup, now: u64, me: u16, a: &mut Actor) -> Told
     requires { MayStep setup memory.old.room a.old }
     ensures { Stepped setup now me Line.N2 memory.old a.old memory.new a.new result }
 {
-    line_table!(N2 (setup now me a found) made (memory found))
+    line_table!(N2 (setup me a found) made (memory now a found))
 }
 
 pub(crate) fn n3(memory: &mut Memory, setup: Setup, now: u64, me: u16, a: &mut Actor) -> Told
     requires { MayStep setup memory.old.room a.old }
     ensures { Stepped setup now me Line.N3 memory.old a.old memory.new a.new result }
 {
-    line_table!(N3 (setup now me a found) made (memory found))
+    line_table!(N3 (setup me a found) made (memory now a found))
 }
 
 pub(crate) fn n4(memory: &mut Memory, setup: Setup, now: u64, me: u16, a: &mut Actor) -> Told
     requires { MayStep setup memory.old.room a.old }
     ensures { Stepped setup now me Line.N4 memory.old a.old memory.new a.new result }
 {
-    line_table!(N4 (setup now me a found) made (memory found))
+    line_table!(N4 (setup me a found) made (memory now a found))
 }
 
 pub(crate) fn n5(memory: &mut Memory, setup: Setup, now: u64, me: u16, a: &mut Actor) -> Told
     requires { MayStep setup memory.old.room a.old }
     ensures { Stepped setup now me Line.N5 memory.old a.old memory.new a.new result }
 {
-    line_table!(N5 (setup now me a found) made (memory found))
+    line_table!(N5 (setup me a found) made (memory now a found))
 }
 
 // A node goes to the free list, in both queues.
 
+#[tactic(auto, unfolding(crate::specs::Steps::outcome_on), using(crate::proofs::Freeing::aside_numbered))]
 pub(crate) fn f1(memory: &mut Memory, setup: Setup, now: u64, me: u16, a: &mut Actor) -> Told
     requires { MayStep setup memory.old.room a.old }
     ensures { Stepped setup now me Line.F1 memory.old a.old memory.new a.new result }
 {
-    line_table!(F1 (setup now me a found) made (memory found))
+    line_table!(F1 (setup me a found) made (memory now a found))
 }
 
 pub(crate) fn f2(memory: &mut Memory, setup: Setup, now: u64, me: u16, a: &mut Actor) -> Told
     requires { MayStep setup memory.old.room a.old }
     ensures { Stepped setup now me Line.F2 memory.old a.old memory.new a.new result }
 {
-    line_table!(F2 (setup now me a found) made (memory found))
+    line_table!(F2 (setup me a found) made (memory now a found))
 }
 
+#[tactic(auto, unfolding(crate::specs::Steps::outcome_on), using(crate::proofs::Freeing::freed_numbered))]
 pub(crate) fn f3(memory: &mut Memory, setup: Setup, now: u64, me: u16, a: &mut Actor) -> Told
     requires { MayStep setup memory.old.room a.old }
     ensures { Stepped setup now me Line.F3 memory.old a.old memory.new a.new result }
 {
-    line_table!(F3 (setup now me a found) made (memory found))
+    line_table!(F3 (setup me a found) made (memory now a found))
 }
 
 // The enqueue of the non-blocking queue.
@@ -108,56 +114,56 @@ pub(crate) fn e2(memory: &mut Memory, setup: Setup, now: u64, me: u16, a: &mut A
     requires { MayStep setup memory.old.room a.old }
     ensures { Stepped setup now me Line.E2 memory.old a.old memory.new a.new result }
 {
-    line_table!(E2 (setup now me a found) made (memory found))
+    line_table!(E2 (setup me a found) made (memory now a found))
 }
 
 pub(crate) fn e3(memory: &mut Memory, setup: Setup, now: u64, me: u16, a: &mut Actor) -> Told
     requires { MayStep setup memory.old.room a.old }
     ensures { Stepped setup now me Line.E3 memory.old a.old memory.new a.new result }
 {
-    line_table!(E3 (setup now me a found) made (memory found))
+    line_table!(E3 (setup me a found) made (memory now a found))
 }
 
 pub(crate) fn e5(memory: &mut Memory, setup: Setup, now: u64, me: u16, a: &mut Actor) -> Told
     requires { MayStep setup memory.old.room a.old }
     ensures { Stepped setup now me Line.E5 memory.old a.old memory.new a.new result }
 {
-    line_table!(E5 (setup now me a found) made (memory found))
+    line_table!(E5 (setup me a found) made (memory now a found))
 }
 
 pub(crate) fn e6(memory: &mut Memory, setup: Setup, now: u64, me: u16, a: &mut Actor) -> Told
     requires { MayStep setup memory.old.room a.old }
     ensures { Stepped setup now me Line.E6 memory.old a.old memory.new a.new result }
 {
-    line_table!(E6 (setup now me a found) made (memory found))
+    line_table!(E6 (setup me a found) made (memory now a found))
 }
 
 pub(crate) fn e7(memory: &mut Memory, setup: Setup, now: u64, me: u16, a: &mut Actor) -> Told
     requires { MayStep setup memory.old.room a.old }
     ensures { Stepped setup now me Line.E7 memory.old a.old memory.new a.new result }
 {
-    line_table!(E7 (setup now me a found) made (memory found))
+    line_table!(E7 (setup me a found) made (memory now a found))
 }
 
 pub(crate) fn e9(memory: &mut Memory, setup: Setup, now: u64, me: u16, a: &mut Actor) -> Told
     requires { MayStep setup memory.old.room a.old }
     ensures { Stepped setup now me Line.E9 memory.old a.old memory.new a.new result }
 {
-    line_table!(E9 (setup now me a found) made (memory found))
+    line_table!(E9 (setup me a found) made (memory now a found))
 }
 
 pub(crate) fn e13(memory: &mut Memory, setup: Setup, now: u64, me: u16, a: &mut Actor) -> Told
     requires { MayStep setup memory.old.room a.old }
     ensures { Stepped setup now me Line.E13 memory.old a.old memory.new a.new result }
 {
-    line_table!(E13 (setup now me a found) made (memory found))
+    line_table!(E13 (setup me a found) made (memory now a found))
 }
 
 pub(crate) fn e17(memory: &mut Memory, setup: Setup, now: u64, me: u16, a: &mut Actor) -> Told
     requires { MayStep setup memory.old.room a.old }
     ensures { Stepped setup now me Line.E17 memory.old a.old memory.new a.new result }
 {
-    line_table!(E17 (setup now me a found) made (memory found))
+    line_table!(E17 (setup me a found) made (memory now a found))
 }
 
 // The dequeue of the non-blocking queue.
@@ -166,49 +172,49 @@ pub(crate) fn d2(memory: &mut Memory, setup: Setup, now: u64, me: u16, a: &mut A
     requires { MayStep setup memory.old.room a.old }
     ensures { Stepped setup now me Line.D2 memory.old a.old memory.new a.new result }
 {
-    line_table!(D2 (setup now me a found) made (memory found))
+    line_table!(D2 (setup me a found) made (memory now a found))
 }
 
 pub(crate) fn d3(memory: &mut Memory, setup: Setup, now: u64, me: u16, a: &mut Actor) -> Told
     requires { MayStep setup memory.old.room a.old }
     ensures { Stepped setup now me Line.D3 memory.old a.old memory.new a.new result }
 {
-    line_table!(D3 (setup now me a found) made (memory found))
+    line_table!(D3 (setup me a found) made (memory now a found))
 }
 
 pub(crate) fn d4(memory: &mut Memory, setup: Setup, now: u64, me: u16, a: &mut Actor) -> Told
     requires { MayStep setup memory.old.room a.old }
     ensures { Stepped setup now me Line.D4 memory.old a.old memory.new a.new result }
 {
-    line_table!(D4 (setup now me a found) made (memory found))
+    line_table!(D4 (setup me a found) made (memory now a found))
 }
 
 pub(crate) fn d5(memory: &mut Memory, setup: Setup, now: u64, me: u16, a: &mut Actor) -> Told
     requires { MayStep setup memory.old.room a.old }
     ensures { Stepped setup now me Line.D5 memory.old a.old memory.new a.new result }
 {
-    line_table!(D5 (setup now me a found) made (memory found))
+    line_table!(D5 (setup me a found) made (memory now a found))
 }
 
 pub(crate) fn d10(memory: &mut Memory, setup: Setup, now: u64, me: u16, a: &mut Actor) -> Told
     requires { MayStep setup memory.old.room a.old }
     ensures { Stepped setup now me Line.D10 memory.old a.old memory.new a.new result }
 {
-    line_table!(D10 (setup now me a found) made (memory found))
+    line_table!(D10 (setup me a found) made (memory now a found))
 }
 
 pub(crate) fn d12(memory: &mut Memory, setup: Setup, now: u64, me: u16, a: &mut Actor) -> Told
     requires { MayStep setup memory.old.room a.old }
     ensures { Stepped setup now me Line.D12 memory.old a.old memory.new a.new result }
 {
-    line_table!(D12 (setup now me a found) made (memory found))
+    line_table!(D12 (setup me a found) made (memory now a found))
 }
 
 pub(crate) fn d13(memory: &mut Memory, setup: Setup, now: u64, me: u16, a: &mut Actor) -> Told
     requires { MayStep setup memory.old.room a.old }
     ensures { Stepped setup now me Line.D13 memory.old a.old memory.new a.new result }
 {
-    line_table!(D13 (setup now me a found) made (memory found))
+    line_table!(D13 (setup me a found) made (memory now a found))
 }
 
 // The enqueue of the two-lock queue.
@@ -217,49 +223,49 @@ pub(crate) fn a1(memory: &mut Memory, setup: Setup, now: u64, me: u16, a: &mut A
     requires { MayStep setup memory.old.room a.old }
     ensures { Stepped setup now me Line.A1 memory.old a.old memory.new a.new result }
 {
-    line_table!(A1 (setup now me a found) made (memory found))
+    line_table!(A1 (setup me a found) made (memory now a found))
 }
 
 pub(crate) fn a2(memory: &mut Memory, setup: Setup, now: u64, me: u16, a: &mut Actor) -> Told
     requires { MayStep setup memory.old.room a.old }
     ensures { Stepped setup now me Line.A2 memory.old a.old memory.new a.new result }
 {
-    line_table!(A2 (setup now me a found) made (memory found))
+    line_table!(A2 (setup me a found) made (memory now a found))
 }
 
 pub(crate) fn a3(memory: &mut Memory, setup: Setup, now: u64, me: u16, a: &mut Actor) -> Told
     requires { MayStep setup memory.old.room a.old }
     ensures { Stepped setup now me Line.A3 memory.old a.old memory.new a.new result }
 {
-    line_table!(A3 (setup now me a found) made (memory found))
+    line_table!(A3 (setup me a found) made (memory now a found))
 }
 
 pub(crate) fn a4(memory: &mut Memory, setup: Setup, now: u64, me: u16, a: &mut Actor) -> Told
     requires { MayStep setup memory.old.room a.old }
     ensures { Stepped setup now me Line.A4 memory.old a.old memory.new a.new result }
 {
-    line_table!(A4 (setup now me a found) made (memory found))
+    line_table!(A4 (setup me a found) made (memory now a found))
 }
 
 pub(crate) fn a5(memory: &mut Memory, setup: Setup, now: u64, me: u16, a: &mut Actor) -> Told
     requires { MayStep setup memory.old.room a.old }
     ensures { Stepped setup now me Line.A5 memory.old a.old memory.new a.new result }
 {
-    line_table!(A5 (setup now me a found) made (memory found))
+    line_table!(A5 (setup me a found) made (memory now a found))
 }
 
 pub(crate) fn a6(memory: &mut Memory, setup: Setup, now: u64, me: u16, a: &mut Actor) -> Told
     requires { MayStep setup memory.old.room a.old }
     ensures { Stepped setup now me Line.A6 memory.old a.old memory.new a.new result }
 {
-    line_table!(A6 (setup now me a found) made (memory found))
+    line_table!(A6 (setup me a found) made (memory now a found))
 }
 
 pub(crate) fn a7(memory: &mut Memory, setup: Setup, now: u64, me: u16, a: &mut Actor) -> Told
     requires { MayStep setup memory.old.room a.old }
     ensures { Stepped setup now me Line.A7 memory.old a.old memory.new a.new result }
 {
-    line_table!(A7 (setup now me a found) made (memory found))
+    line_table!(A7 (setup me a found) made (memory now a found))
 }
 
 // The dequeue of the two-lock queue.
@@ -268,40 +274,41 @@ pub(crate) fn b1(memory: &mut Memory, setup: Setup, now: u64, me: u16, a: &mut A
     requires { MayStep setup memory.old.room a.old }
     ensures { Stepped setup now me Line.B1 memory.old a.old memory.new a.new result }
 {
-    line_table!(B1 (setup now me a found) made (memory found))
+    line_table!(B1 (setup me a found) made (memory now a found))
 }
 
 pub(crate) fn b2(memory: &mut Memory, setup: Setup, now: u64, me: u16, a: &mut Actor) -> Told
     requires { MayStep setup memory.old.room a.old }
     ensures { Stepped setup now me Line.B2 memory.old a.old memory.new a.new result }
 {
-    line_table!(B2 (setup now me a found) made (memory found))
+    line_table!(B2 (setup me a found) made (memory now a found))
 }
 
 pub(crate) fn b3(memory: &mut Memory, setup: Setup, now: u64, me: u16, a: &mut Actor) -> Told
     requires { MayStep setup memory.old.room a.old }
     ensures { Stepped setup now me Line.B3 memory.old a.old memory.new a.new result }
 {
-    line_table!(B3 (setup now me a found) made (memory found))
+    line_table!(B3 (setup me a found) made (memory now a found))
 }
 
 pub(crate) fn b4(memory: &mut Memory, setup: Setup, now: u64, me: u16, a: &mut Actor) -> Told
     requires { MayStep setup memory.old.room a.old }
     ensures { Stepped setup now me Line.B4 memory.old a.old memory.new a.new result }
 {
-    line_table!(B4 (setup now me a found) made (memory found))
+    line_table!(B4 (setup me a found) made (memory now a found))
 }
 
 pub(crate) fn b5(memory: &mut Memory, setup: Setup, now: u64, me: u16, a: &mut Actor) -> Told
     requires { MayStep setup memory.old.room a.old }
     ensures { Stepped setup now me Line.B5 memory.old a.old memory.new a.new result }
 {
-    line_table!(B5 (setup now me a found) made (memory found))
+    line_table!(B5 (setup me a found) made (memory now a found))
 }
 
+#[tactic(auto, unfolding(crate::specs::Steps::outcome_on), using(crate::proofs::Freeing::unlocked_numbered))]
 pub(crate) fn b6(memory: &mut Memory, setup: Setup, now: u64, me: u16, a: &mut Actor) -> Told
     requires { MayStep setup memory.old.room a.old }
     ensures { Stepped setup now me Line.B6 memory.old a.old memory.new a.new result }
 {
-    line_table!(B6 (setup now me a found) made (memory found))
+    line_table!(B6 (setup me a found) made (memory now a found))
 }

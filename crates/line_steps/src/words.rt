@@ -19,7 +19,9 @@ pub fn value_word(value: Taken) -> u64
     u64::from(value.from) * BODY_SPAN + value.body.number()
 }
 
-/// The value of a word.
+/// The value of a word: who pushed it stands in the high 16 bits, its body in the low 48.
+///
+/// Takes no memory.
 pub fn value_of(word: u64) -> Taken
     ensures { result ≡ specs.value_of word }
 {

@@ -2,46 +2,47 @@
 
 /// Hands the row of a line, or the names of the lines of a section, to a macro.
 ///
-/// `line_table!(N4 (setup now me a found) each given)` becomes `each! { given N4 {access} {then} }`, the row of N4: the
+/// `line_table!(N4 (setup me a found) each given)` becomes `each! { given N4 {access} {then} }`, the row of N4: the
 /// line, its one access of one shared word, and what the actor does with what the access found. The two columns read
-/// the identifiers handed in: `setup` (the kind, the number of nodes and the greatest count), `now` (the number of the
-/// step), `me` (the actor's number), `a` (its registers, which the second column assigns) and `found` (what the access
-/// found). All other names are looked up where the macro is used.
+/// the identifiers handed in: `setup` (the kind, the number of nodes and the greatest count), `me` (the actor's number),
+/// `a` (its registers, which the second column assigns) and `found` (what the access found). All other names are looked
+/// up where the macro is used. A row knows no number of its step: `effect` says that the operation takes effect there,
+/// and `notes` that it does if the queue turns out to be empty.
 ///
 /// `line_table!(each given [section ..])` becomes `each! { given N1 N2 .. }` with the lines of the sections named, in
 /// their order. The sections are `new_node`, `free`, `enqueue`, `dequeue`, `locked_enqueue` and `locked_dequeue`.
 #[macro_export]
 macro_rules! line_table {
     // A new node, in both queues.
-    (N1 ($setup:ident $now:ident $me:ident $a:ident $found:ident) $each:ident $given:tt) => {
+    (N1 ($setup:ident $me:ident $a:ident $found:ident) $each:ident $given:tt) => {
         $each! { $given N1 { load Fresh } {
             $a.f = $found;
             goes(Line::N2, $a)
         } }
     };
-    (N2 ($setup:ident $now:ident $me:ident $a:ident $found:ident) $each:ident $given:tt) => {
+    (N2 ($setup:ident $me:ident $a:ident $found:ident) $each:ident $given:tt) => {
         $each! { $given N2 { load Free } {
             $a.top = $found;
             if $a.top.is_null() {
                 if $a.f < $setup.size {
                     goes(Line::N5, $a)
                 } else {
-                    ends($now, Reply::Refused(Refusal::NoNode), $a)
+                    ends(Reply::Refused(Refusal::NoNode), $a)
                 }
             } else if $a.top.count() == $setup.limit {
-                worn($now, WornWord::Free, $a)
+                worn(WornWord::Free, $a)
             } else {
                 goes(Line::N3, $a)
             }
         } }
     };
-    (N3 ($setup:ident $now:ident $me:ident $a:ident $found:ident) $each:ident $given:tt) => {
+    (N3 ($setup:ident $me:ident $a:ident $found:ident) $each:ident $given:tt) => {
         $each! { $given N3 { load Next($a.top.node()) } {
             $a.next = $found;
             goes(Line::N4, $a)
         } }
     };
-    (N4 ($setup:ident $now:ident $me:ident $a:ident $found:ident) $each:ident $given:tt) => {
+    (N4 ($setup:ident $me:ident $a:ident $found:ident) $each:ident $given:tt) => {
         $each! { $given N4 { exchange Free ($a.top, raised($setup, $a.top, $a.next.node())) } {
             if $found.same($a.top) {
                 let (node, mark) = ($a.top.node(), $a.next.count());
@@ -52,7 +53,7 @@ macro_rules! line_table {
             }
         } }
     };
-    (N5 ($setup:ident $now:ident $me:ident $a:ident $found:ident) $each:ident $given:tt) => {
+    (N5 ($setup:ident $me:ident $a:ident $found:ident) $each:ident $given:tt) => {
         $each! { $given N5 { exchange Fresh ($a.f, $a.f + 1) } {
             if $found == $a.f {
                 let node = $a.f + 1;
@@ -64,69 +65,65 @@ macro_rules! line_table {
         } }
     };
     // A node goes to the free list, in both queues.
-    (F1 ($setup:ident $now:ident $me:ident $a:ident $found:ident) $each:ident $given:tt) => {
+    (F1 ($setup:ident $me:ident $a:ident $found:ident) $each:ident $given:tt) => {
         $each! { $given F1 { load Free } {
             $a.top = $found;
             if $found.count() == $setup.limit {
-                $a.empties_hand();
-                sets_aside($a.node, freed($setup.kind, $now, $a.due, $a))
+                frees_aside($setup.kind, $a)
             } else {
                 goes(Line::F2, $a)
             }
         } }
     };
-    (F2 ($setup:ident $now:ident $me:ident $a:ident $found:ident) $each:ident $given:tt) => {
+    (F2 ($setup:ident $me:ident $a:ident $found:ident) $each:ident $given:tt) => {
         $each! { $given F2 { store Next($a.node) (CountedRef::new($a.top.node(), $a.mark)) } {
             goes(Line::F3, $a)
         } }
     };
-    (F3 ($setup:ident $now:ident $me:ident $a:ident $found:ident) $each:ident $given:tt) => {
+    (F3 ($setup:ident $me:ident $a:ident $found:ident) $each:ident $given:tt) => {
         $each! { $given F3 { exchange Free ($a.top, raised($setup, $a.top, $a.node)) } {
             if $found.same($a.top) {
-                $a.empties_hand();
-                freed($setup.kind, $now, $a.due, $a)
+                frees($setup.kind, $a)
             } else {
                 goes(Line::F1, $a)
             }
         } }
     };
     // The enqueue of the non-blocking queue.
-    (E2 ($setup:ident $now:ident $me:ident $a:ident $found:ident) $each:ident $given:tt) => {
+    (E2 ($setup:ident $me:ident $a:ident $found:ident) $each:ident $given:tt) => {
         $each! { $given E2 { store Value($a.node) ($a.val) } {
             goes(Line::E3, $a)
         } }
     };
-    (E3 ($setup:ident $now:ident $me:ident $a:ident $found:ident) $each:ident $given:tt) => {
+    (E3 ($setup:ident $me:ident $a:ident $found:ident) $each:ident $given:tt) => {
         $each! { $given E3 { clear Next($a.node) } {
             $a.mark = $found.count();
             if $a.mark == $setup.limit {
-                $a.empties_hand();
-                sets_aside($a.node, worn($now, WornWord::Next, $a))
+                worn_aside(WornWord::Next, $a)
             } else {
                 goes(Line::E5, $a)
             }
         } }
     };
-    (E5 ($setup:ident $now:ident $me:ident $a:ident $found:ident) $each:ident $given:tt) => {
+    (E5 ($setup:ident $me:ident $a:ident $found:ident) $each:ident $given:tt) => {
         $each! { $given E5 { load Tail } {
             $a.tail = $found;
             goes(Line::E6, $a)
         } }
     };
-    (E6 ($setup:ident $now:ident $me:ident $a:ident $found:ident) $each:ident $given:tt) => {
+    (E6 ($setup:ident $me:ident $a:ident $found:ident) $each:ident $given:tt) => {
         $each! { $given E6 { load Next($a.tail.node()) } {
             $a.next = $found;
             goes(Line::E7, $a)
         } }
     };
-    (E7 ($setup:ident $now:ident $me:ident $a:ident $found:ident) $each:ident $given:tt) => {
+    (E7 ($setup:ident $me:ident $a:ident $found:ident) $each:ident $given:tt) => {
         $each! { $given E7 { load Tail } {
             if $found.same($a.tail) {
                 if $a.next.is_null() {
                     goes(Line::E9, $a)
                 } else if $a.tail.count() == $setup.limit {
-                    $a.to_pocket();
-                    worn($now, WornWord::Tail, $a)
+                    worn_with_node(WornWord::Tail, $a)
                 } else {
                     goes(Line::E13, $a)
                 }
@@ -135,59 +132,57 @@ macro_rules! line_table {
             }
         } }
     };
-    (E9 ($setup:ident $now:ident $me:ident $a:ident $found:ident) $each:ident $given:tt) => {
+    (E9 ($setup:ident $me:ident $a:ident $found:ident) $each:ident $given:tt) => {
         $each! { $given E9 { exchange Next($a.tail.node()) ($a.next, raised($setup, $a.next, $a.node)) } {
             if $found.same($a.next) {
-                $a.due = Some(Reply::Done);
-                $a.empties_hand();
+                $a.links();
                 if $a.tail.count() == $setup.limit {
-                    effect($now, ends($now, Reply::Done, $a))
+                    effect(ends(Reply::Done, $a))
                 } else {
-                    effect($now, goes(Line::E17, $a))
+                    effect(goes(Line::E17, $a))
                 }
             } else {
                 goes(Line::E5, $a)
             }
         } }
     };
-    (E13 ($setup:ident $now:ident $me:ident $a:ident $found:ident) $each:ident $given:tt) => {
+    (E13 ($setup:ident $me:ident $a:ident $found:ident) $each:ident $given:tt) => {
         $each! { $given E13 { exchange Tail ($a.tail, raised($setup, $a.tail, $a.next.node())) } {
             goes(Line::E5, $a)
         } }
     };
-    (E17 ($setup:ident $now:ident $me:ident $a:ident $found:ident) $each:ident $given:tt) => {
+    (E17 ($setup:ident $me:ident $a:ident $found:ident) $each:ident $given:tt) => {
         $each! { $given E17 { exchange Tail ($a.tail, raised($setup, $a.tail, $a.node)) } {
-            ends($now, Reply::Done, $a)
+            ends(Reply::Done, $a)
         } }
     };
     // The dequeue of the non-blocking queue.
-    (D2 ($setup:ident $now:ident $me:ident $a:ident $found:ident) $each:ident $given:tt) => {
+    (D2 ($setup:ident $me:ident $a:ident $found:ident) $each:ident $given:tt) => {
         $each! { $given D2 { load Head } {
             $a.head = $found;
             goes(Line::D3, $a)
         } }
     };
-    (D3 ($setup:ident $now:ident $me:ident $a:ident $found:ident) $each:ident $given:tt) => {
+    (D3 ($setup:ident $me:ident $a:ident $found:ident) $each:ident $given:tt) => {
         $each! { $given D3 { load Tail } {
             $a.tail = $found;
             goes(Line::D4, $a)
         } }
     };
-    (D4 ($setup:ident $now:ident $me:ident $a:ident $found:ident) $each:ident $given:tt) => {
+    (D4 ($setup:ident $me:ident $a:ident $found:ident) $each:ident $given:tt) => {
         $each! { $given D4 { load Next($a.head.node()) } {
             $a.next = $found;
-            $a.empty_at = $now;
-            goes(Line::D5, $a)
+            notes(goes(Line::D5, $a))
         } }
     };
-    (D5 ($setup:ident $now:ident $me:ident $a:ident $found:ident) $each:ident $given:tt) => {
+    (D5 ($setup:ident $me:ident $a:ident $found:ident) $each:ident $given:tt) => {
         $each! { $given D5 { load Head } {
             if $found.same($a.head) {
                 if $a.head.node() == $a.tail.node() {
                     if $a.next.is_null() {
-                        ends($now, Reply::Empty, $a)
+                        ends(Reply::Empty, $a)
                     } else if $a.tail.count() == $setup.limit {
-                        worn($now, WornWord::Tail, $a)
+                        worn(WornWord::Tail, $a)
                     } else {
                         goes(Line::D10, $a)
                     }
@@ -199,45 +194,45 @@ macro_rules! line_table {
             }
         } }
     };
-    (D10 ($setup:ident $now:ident $me:ident $a:ident $found:ident) $each:ident $given:tt) => {
+    (D10 ($setup:ident $me:ident $a:ident $found:ident) $each:ident $given:tt) => {
         $each! { $given D10 { exchange Tail ($a.tail, raised($setup, $a.tail, $a.next.node())) } {
             goes(Line::D2, $a)
         } }
     };
-    (D12 ($setup:ident $now:ident $me:ident $a:ident $found:ident) $each:ident $given:tt) => {
+    (D12 ($setup:ident $me:ident $a:ident $found:ident) $each:ident $given:tt) => {
         $each! { $given D12 { load Value($a.next.node()) } {
             $a.val = $found;
             if $a.head.count() == $setup.limit {
-                worn($now, WornWord::Head, $a)
+                worn(WornWord::Head, $a)
             } else {
                 goes(Line::D13, $a)
             }
         } }
     };
-    (D13 ($setup:ident $now:ident $me:ident $a:ident $found:ident) $each:ident $given:tt) => {
+    (D13 ($setup:ident $me:ident $a:ident $found:ident) $each:ident $given:tt) => {
         $each! { $given D13 { exchange Head ($a.head, raised($setup, $a.head, $a.next.node())) } {
             if $found.same($a.head) {
                 $a.due = Some(Reply::Value($a.val));
                 let (node, mark) = ($a.head.node(), $a.next.count());
                 $a.fills_hand(node, mark);
-                effect($now, goes(Line::F1, $a))
+                effect(goes(Line::F1, $a))
             } else {
                 goes(Line::D2, $a)
             }
         } }
     };
     // The enqueue of the two-lock queue.
-    (A1 ($setup:ident $now:ident $me:ident $a:ident $found:ident) $each:ident $given:tt) => {
+    (A1 ($setup:ident $me:ident $a:ident $found:ident) $each:ident $given:tt) => {
         $each! { $given A1 { store Value($a.node) ($a.val) } {
             goes(Line::A2, $a)
         } }
     };
-    (A2 ($setup:ident $now:ident $me:ident $a:ident $found:ident) $each:ident $given:tt) => {
+    (A2 ($setup:ident $me:ident $a:ident $found:ident) $each:ident $given:tt) => {
         $each! { $given A2 { clear Next($a.node) } {
             goes(Line::A3, $a)
         } }
     };
-    (A3 ($setup:ident $now:ident $me:ident $a:ident $found:ident) $each:ident $given:tt) => {
+    (A3 ($setup:ident $me:ident $a:ident $found:ident) $each:ident $given:tt) => {
         $each! { $given A3 { exchange TailLock (0, $me) } {
             if $found == 0 {
                 goes(Line::A4, $a)
@@ -246,31 +241,30 @@ macro_rules! line_table {
             }
         } }
     };
-    (A4 ($setup:ident $now:ident $me:ident $a:ident $found:ident) $each:ident $given:tt) => {
+    (A4 ($setup:ident $me:ident $a:ident $found:ident) $each:ident $given:tt) => {
         $each! { $given A4 { load Tail } {
             $a.tail = $found;
             goes(Line::A5, $a)
         } }
     };
-    (A5 ($setup:ident $now:ident $me:ident $a:ident $found:ident) $each:ident $given:tt) => {
+    (A5 ($setup:ident $me:ident $a:ident $found:ident) $each:ident $given:tt) => {
         $each! { $given A5 { store Next($a.tail.node()) (CountedRef::new($a.node, 0)) } {
-            $a.due = Some(Reply::Done);
-            $a.empties_hand();
-            effect($now, goes(Line::A6, $a))
+            $a.links();
+            effect(goes(Line::A6, $a))
         } }
     };
-    (A6 ($setup:ident $now:ident $me:ident $a:ident $found:ident) $each:ident $given:tt) => {
+    (A6 ($setup:ident $me:ident $a:ident $found:ident) $each:ident $given:tt) => {
         $each! { $given A6 { store Tail (CountedRef::new($a.node, 0)) } {
             goes(Line::A7, $a)
         } }
     };
-    (A7 ($setup:ident $now:ident $me:ident $a:ident $found:ident) $each:ident $given:tt) => {
+    (A7 ($setup:ident $me:ident $a:ident $found:ident) $each:ident $given:tt) => {
         $each! { $given A7 { store TailLock (0) } {
-            ends($now, Reply::Done, $a)
+            ends(Reply::Done, $a)
         } }
     };
     // The dequeue of the two-lock queue.
-    (B1 ($setup:ident $now:ident $me:ident $a:ident $found:ident) $each:ident $given:tt) => {
+    (B1 ($setup:ident $me:ident $a:ident $found:ident) $each:ident $given:tt) => {
         $each! { $given B1 { exchange HeadLock (0, $me) } {
             if $found == 0 {
                 goes(Line::B2, $a)
@@ -279,25 +273,24 @@ macro_rules! line_table {
             }
         } }
     };
-    (B2 ($setup:ident $now:ident $me:ident $a:ident $found:ident) $each:ident $given:tt) => {
+    (B2 ($setup:ident $me:ident $a:ident $found:ident) $each:ident $given:tt) => {
         $each! { $given B2 { load Head } {
             $a.head = $found;
             goes(Line::B3, $a)
         } }
     };
-    (B3 ($setup:ident $now:ident $me:ident $a:ident $found:ident) $each:ident $given:tt) => {
+    (B3 ($setup:ident $me:ident $a:ident $found:ident) $each:ident $given:tt) => {
         $each! { $given B3 { load Next($a.head.node()) } {
             $a.next = $found;
-            $a.empty_at = $now;
             if $found.is_null() {
                 $a.due = Some(Reply::Empty);
-                goes(Line::B6, $a)
+                notes(goes(Line::B6, $a))
             } else {
-                goes(Line::B4, $a)
+                notes(goes(Line::B4, $a))
             }
         } }
     };
-    (B4 ($setup:ident $now:ident $me:ident $a:ident $found:ident) $each:ident $given:tt) => {
+    (B4 ($setup:ident $me:ident $a:ident $found:ident) $each:ident $given:tt) => {
         $each! { $given B4 { load Value($a.next.node()) } {
             $a.val = $found;
             if $a.head.count() == $setup.limit {
@@ -308,17 +301,17 @@ macro_rules! line_table {
             }
         } }
     };
-    (B5 ($setup:ident $now:ident $me:ident $a:ident $found:ident) $each:ident $given:tt) => {
+    (B5 ($setup:ident $me:ident $a:ident $found:ident) $each:ident $given:tt) => {
         $each! { $given B5 { store Head (raised($setup, $a.head, $a.next.node())) } {
             $a.due = Some(Reply::Value($a.val));
             let (node, mark) = ($a.head.node(), $a.next.count());
             $a.fills_hand(node, mark);
-            effect($now, goes(Line::B6, $a))
+            effect(goes(Line::B6, $a))
         } }
     };
-    (B6 ($setup:ident $now:ident $me:ident $a:ident $found:ident) $each:ident $given:tt) => {
+    (B6 ($setup:ident $me:ident $a:ident $found:ident) $each:ident $given:tt) => {
         $each! { $given B6 { store HeadLock (0) } {
-            unlocked($now, $a.due, $a)
+            unlocked($a)
         } }
     };
     // The lines of sections.

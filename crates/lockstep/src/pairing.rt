@@ -8,6 +8,7 @@ use crate::drawing::Draws;
 use crate::queues::Watched;
 use crate::stepping::{CHOICES, MOST_STEPS, call_of, told};
 use history::{Op, Reply};
+use node_arena::MOST_COUNT;
 use std::alloc::Global;
 use step_machine::World;
 
@@ -16,9 +17,6 @@ const ROUNDS: u64 = 400;
 
 /// How many calls are made then.
 const CALLS: u64 = 25;
-
-/// A greatest count that no round reaches.
-const AMPLE_COUNT: u64 = 1_099_511_627_775;
 
 /// What all rounds came to.
 #[derive(Clone, Copy)]
@@ -125,7 +123,7 @@ fn round<Q: Watched + Drop>(
 ) -> Option<u64> {
     let nodes = 2 + draws.below(4) as u32;
     let limit = match draws.below(7) {
-        0 => AMPLE_COUNT,
+        0 => MOST_COUNT,
         limit => limit,
     };
     let (queue, mut dealt) = Q::made(alloc, nodes, limit).ok()?;

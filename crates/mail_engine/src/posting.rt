@@ -15,13 +15,11 @@ use history::{Fifo, Refusal, Sink, Source};
 use line_table::Kind;
 use mail_text::Mail;
 use mailbox::{Office, post};
+use node_arena::MOST_COUNT;
 use source_text::parse_source;
 use std::alloc::Global;
 use std::sync::Wait;
 use std::thread::Threads;
-
-/// The greatest count of all.
-const GREATEST_COUNT: u64 = 1_099_511_627_775;
 
 /// How many nodes more than letters and senders there are.
 const SPARE_NODES: u32 = 2;
@@ -99,16 +97,11 @@ fn post_mail<T: Threads + Wait + Sync, W: Sink>(
     let nodes = mail.letters.len() as u32 + u32::from(senders) + SPARE_NODES;
     match kind {
         Kind::TwoLock => {
-            let (queue, seats, receiver) = two_lock_seats(alloc, nodes, GREATEST_COUNT, senders)?;
+            let (queue, seats, receiver) = two_lock_seats(alloc, nodes, MOST_COUNT, senders)?;
             post_over(rt, alloc, queue, seats, receiver, mail, writer)
         }
         Kind::NonBlocking => {
-            let (queue, seats, receiver) = non_blocking_seats(
-                alloc,
-                nodes,
-                GREATEST_COUNT,
-                senders,
-            )?;
+            let (queue, seats, receiver) = non_blocking_seats(alloc, nodes, MOST_COUNT, senders)?;
             post_over(rt, alloc, queue, seats, receiver, mail, writer)
         }
     }

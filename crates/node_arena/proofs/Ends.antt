@@ -42,7 +42,8 @@ use Rattle.node_arena.specs.Plans.{Layout, RolesPermit}
 use Rattle.node_arena.specs.Rule.{Fits, Holds}
 use Rattle.node_arena.specs.Seats.{IsReady, view, known_of, permits_of}
 use Rattle.node_arena.specs.Closing.{HasToken, CountsItsOwn}
-use Rattle.node_arena.specs.Remains.{value_of, ref_at, front_of, HasRef, HasNode, HaveValues, AreLeft, IsQueue}
+use Rattle.line_steps.specs.Words.{value_of}
+use Rattle.node_arena.specs.Remains.{ref_at, front_of, HasRef, HasNode, HaveValues, AreLeft, IsQueue}
 use Rattle.node_arena.proofs.Tracing.{traced_reached}
 use Rattle.node_arena.proofs.Histories.{history_plays, counts_pops}
 use Rattle.node_arena.proofs.Told.{places_of}

@@ -3,7 +3,8 @@ use Rattle.std.proofs.Common.{◌≡◌, ◌≢◌, ℕ, ◌+◌, ◌*◌, ◌�
 use mathlib.Core.Option.{some, some-injective, some-ne-none}
 use lib.ListN.{get_elem?}
 use Rattle.history.specs.declared.operations.Taken.{Taken}
-use Rattle.node_arena.specs.Remains.{value_of, ref_at, HasNode, HaveValues, HasValues}
+use Rattle.line_steps.specs.Words.{value_of}
+use Rattle.node_arena.specs.Remains.{ref_at, HasNode, HaveValues, HasValues}
 
 pub got_word : (words : List ℕ) (place word : ℕ) → get_elem? words place ≡ some word → get_or words place 0 ≡ word
 got_word [] place word e = absurd (some-ne-none word (sym e))

@@ -21,3 +21,4 @@ pub mod Noted
 pub mod Between
 pub mod Permits
 pub mod Openings
+pub mod Values

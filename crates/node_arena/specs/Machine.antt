@@ -7,6 +7,7 @@ pub use Rattle.line_steps.specs.Memory.{Free as WordFree, Head as WordHead, Tail
 pub use Rattle.line_steps.specs.Lines.{action, outcome, raised, with_node, dequeues, goes, worn, fills_hand, empties_hand, freed, sets_aside, unlocked, gives_up, ends, to_pocket, busy_or}
 pub use Rattle.line_steps.specs.Calling.{from_pocket}
 pub use Rattle.line_steps.specs.Rooms.{aside_after}
+pub use Rattle.line_steps.specs.Words.{value_of}
 pub use Rattle.step_machine.specs.Words.{index, memory_words}
 pub use Rattle.step_machine.specs.Tables.{WordStep, load_at, store_at, and_at, exchange_at, word_index, word_step}
 pub use Rattle.step_machine.specs.Machine.{World, actor_of, entry_or, rested, may_rest, IsReached}

@@ -1,11 +1,8 @@
 -- What is left of a queue, by the words of its table.
-use Rattle.std.specs.Prelude.{◌≡◌, ◌≢◌, ℕ, ◌+◌, ◌*◌, ◌/◌, ◌%◌, ◌^◌, ◌<◌, ◌≤◌, List, [], ◌∷◌, length, slice_index}
+use Rattle.std.specs.Prelude.{◌≡◌, ◌≢◌, ℕ, ◌+◌, ◌*◌, ◌%◌, ◌^◌, ◌<◌, ◌≤◌, List, [], ◌∷◌, length, slice_index}
 use Rattle.counted_ref.specs.Ref.{Ref, ref_of, node_bits, reserved_node}
 use Rattle.history.specs.declared.operations.Taken.{Taken}
-
--- the value of a word: the seat is in its upper bits, and the body in the 48 lower ones
-abbrev pub value_of : ℕ → Taken
-value_of word = record { from = word / 2 ^ 48; body = word % 2 ^ 48 }
+use Rattle.line_steps.specs.Words.{value_of}
 
 -- the reference in the word at a place
 abbrev pub ref_at : List ℕ → ℕ → Ref

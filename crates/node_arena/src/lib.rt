@@ -1,7 +1,6 @@
 //! The shared words of a queue, with a seat for each actor, under the rule that words and seats are a world's.
 #![tactic(auto)]
 
-mod accessing;
 mod arena;
 mod closing;
 mod dealing;
@@ -15,11 +14,15 @@ mod roles;
 mod seats;
 mod stepping;
 mod views;
+mod words;
 
-pub use accessing::{exchanged, masked, reference, stored};
 pub use arena::Arena;
+pub use counted_ref::{MOST_COUNT, MOST_NODE};
+pub use line_steps::value_of;
 pub use plans::Plan;
 pub use roles::Role;
 pub use seats::Seat;
 pub use step_machine::{Held, Setup};
+pub use stepping::{exchanged, masked, stored};
 pub use views::{Knowing, SeatToken, WordRule, WordTable};
+pub use words::{COUNT_MASK, raised, reference, word_of};

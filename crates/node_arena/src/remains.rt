@@ -3,14 +3,15 @@ ghost use Rattle.std.specs.Prelude.{◌≡◌, ◌↔◌, ◌+◌, ◌*◌, ◌<
 ghost use Rattle.std.specs.Prelude.{slice_index, vec_capacity};
 ghost use Rattle.std.specs.Slots.{slots_items, IsFull};
 ghost use Rattle.history.specs.Rests.{left_of, taken_of, whole_of};
-ghost use Rattle.node_arena.specs.Remains as remains;
+ghost use Rattle.line_steps.specs.Words as words;
 ghost use Rattle.node_arena.specs.Remains.{ref_at, HasRef, HasNode, HaveValues, HasValues};
 ghost use Rattle.node_arena.specs.Remains.{AreLeft, IsQueue};
 
-use crate::accessing::reference;
+use crate::words::reference;
 use atomic_table::Closed;
 use counted_ref::CountedRef;
-use history::{Body, Rest, Taken};
+use history::{Rest, Taken};
+use line_steps::value_of;
 use std::alloc::Global;
 
 /// The table of an arena, once no thread shares it any more.
@@ -48,19 +49,12 @@ fn next_of(closed: &ClosedTable, node: u32) -> u32
     reference_at(closed, 4 + 2 * node as usize).node()
 }
 
-fn value_of(closed: &ClosedTable, node: u32) -> Taken
+fn value_at(closed: &ClosedTable, node: u32) -> Taken
     requires full { IsFull closed.now.words }
     requires there { HasNode (slots_items closed.now.words) node }
-    ensures { result ≡ remains.value_of (slice_index (slots_items closed.now.words) (5 + 2 * node)) }
+    ensures { result ≡ words.value_of (slice_index (slots_items closed.now.words) (5 + 2 * node)) }
 {
-    let word = word_at(closed, 5 + 2 * node as usize);
-    let Some(body) = Body::new(word % 281_474_976_710_656) else {
-        unreachable!()
-    };
-    Taken {
-        from: (word / 281_474_976_710_656) as u16,
-        body,
-    }
+    value_of(word_at(closed, 5 + 2 * node as usize))
 }
 
 // The values from a node on, put into an empty list that has room for them.
@@ -72,7 +66,7 @@ fn values_from(closed: &ClosedTable, first: u32, mut values: Vec<Taken>) -> Vec<
 {
     let mut node = first;
     while node != 0 {
-        values.push(value_of(closed, node)).unwrap();
+        values.push(value_at(closed, node)).unwrap();
         node = next_of(closed, node);
     }
     values

@@ -17,7 +17,8 @@ use Rattle.node_arena.specs.declared.arena.Arena.{Arena}
 use Rattle.node_arena.specs.declared.seats.Seat.{Seat}
 use Rattle.node_arena.specs.Seats.{DidStep, view}
 use Rattle.node_arena.proofs.Told.{actor_was_in_range, head_is_not_worn}
-use Rattle.nonblocking.specs.Values.{IsNonBlocking, value_of}
+use Rattle.nonblocking.specs.Values.{IsNonBlocking}
+use Rattle.node_arena.specs.Machine.{value_of}
 use Rattle.nonblocking.specs.declared.pop_outcomes.Actor.{Actor as Running}
 use Rattle.nonblocking.specs.declared.pop_outcomes.Outcome.{Outcome}
 use Rattle.nonblocking.specs.declared.pop_outcomes.Outcome.TheVariants.{Goes, Empty, Refused}

@@ -20,7 +20,8 @@ use Rattle.node_arena.specs.Paths.{ExtendsPath, HasOwnCause}
 use Rattle.node_arena.proofs.Noted.{finds_nothing}
 use Rattle.node_arena.proofs.Told.{has_own_cause}
 use Rattle.node_arena.proofs.Paths.{no_walk, walk_then, then_act, then_stored, sees_on, ended_behind, failed_behind, failed-append, failed_snoc, event, walk_one, walk_on, act_on, to_is, ended_at, failed_last}
-use Rattle.nonblocking.specs.Values.{IsNonBlocking, value_of}
+use Rattle.nonblocking.specs.Values.{IsNonBlocking}
+use Rattle.node_arena.specs.Machine.{value_of}
 use Rattle.nonblocking.specs.declared.pop_outcomes.Actor.{Actor as Running}
 use Rattle.nonblocking.specs.declared.pop_outcomes.Reply.TheVariants.{Value as IsValue}
 use Rattle.nonblocking.specs.declared.pop_outcomes.Outcome.{Outcome}

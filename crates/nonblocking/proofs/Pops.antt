@@ -19,7 +19,8 @@ use Rattle.node_arena.specs.Turns.{failed_turns}
 use Rattle.node_arena.specs.Paths.{ExtendsPath, Acts, HadNoEffect, EndsFailed, HasOwnCause, added}
 use Rattle.free_list.specs.Gives.{GiveAnswers}
 use Rattle.node_arena.proofs.Paths.{no_walk, walk_then, act_then, then_stored, sees_on, added_is, added_path, last_held, ends_failed, ended_behind, failed-append, failed_behind, kept_seat}
-use Rattle.nonblocking.specs.Values.{IsNonBlocking, value_of}
+use Rattle.nonblocking.specs.Values.{IsNonBlocking}
+use Rattle.node_arena.specs.Machine.{value_of}
 use Rattle.nonblocking.specs.declared.pop_outcomes.Turn.TheVariants as turn
 use Rattle.nonblocking.specs.Pops.{Turns, Trying, DrawRefused, Draws, AnswersPop}
 

@@ -18,7 +18,7 @@ use Rattle.node_arena.specs.Seats.{DidStep, view}
 use Rattle.node_arena.specs.Paths.{HasOwnCause}
 use Rattle.node_arena.proofs.Told.{was_in_range, actor_was_in_range, has_own_cause}
 use Rattle.node_arena.proofs.There.{stood, raise_room}
-use Rattle.nonblocking.specs.Values.{value_of}
+use Rattle.node_arena.specs.Machine.{value_of}
 use Rattle.nonblocking.specs.declared.push_outcomes.Actor.{Actor as Running}
 use Rattle.nonblocking.specs.declared.push_outcomes.Reply.TheVariants.{Done as IsDone}
 use Rattle.nonblocking.specs.declared.push_outcomes.Outcome.{Outcome}

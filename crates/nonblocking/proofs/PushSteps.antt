@@ -14,7 +14,7 @@ use Rattle.node_arena.proofs.Told.{was_fits}
 use Rattle.node_arena.proofs.Reading.{read_back}
 use Rattle.nonblocking.specs.declared.push_outcomes.Actor.{Actor as Running}
 use Rattle.nonblocking.specs.Pushes.{CallIsAt}
-use Rattle.nonblocking.proofs.Values.{word_of-value_of}
+use Rattle.node_arena.proofs.Values.{word_of-value_of}
 
 module _ (r : Arena) (s : Seat) (prologue : Prologue) where
   abbrev b : Actor

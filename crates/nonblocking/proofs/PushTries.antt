@@ -17,14 +17,15 @@ use Rattle.node_arena.specs.Seats.{IsReady, KeepsName, view, pocket_of, keeping}
 use Rattle.node_arena.specs.Turns.{failed_turns}
 use Rattle.node_arena.specs.Paths.{ExtendsPath, Acts, LastHeld, HasOwnCause, added}
 use Rattle.node_arena.proofs.Paths.{no_walk, walk_then, then_act, then_stored, added_is, added_path, failed-append, failed_behind, ended_behind, last_held, kept_seat, ends_failed}
-use Rattle.nonblocking.specs.Values.{IsNonBlocking, value_of}
+use Rattle.nonblocking.specs.Values.{IsNonBlocking}
+use Rattle.node_arena.specs.Machine.{value_of}
 use Rattle.nonblocking.specs.declared.push_outcomes.Actor.{Actor as Running}
 use Rattle.nonblocking.specs.declared.push_outcomes.Outcome.{Outcome}
 use Rattle.nonblocking.specs.declared.push_outcomes.Outcome.TheVariants.{Goes, Refused}
 use Rattle.nonblocking.specs.declared.push_outcomes.Turn.{Turn}
 use Rattle.nonblocking.specs.declared.push_outcomes.Turn.TheVariants.{Pushed, Failed, Refused as TurnRefused}
 use Rattle.nonblocking.specs.Pushes.{registers_of, in_hand, CallIsAt, Filled, Fills, FoundWorn, Turns, Trying, Puts, PutRefused}
-use Rattle.nonblocking.proofs.Values.{value_of-word}
+use Rattle.node_arena.proofs.Values.{value_of-word}
 
 -- an actor that begins a push with this pocket
 abbrev set_out : Arena → Seat → ℕ → Option Held → Actor

@@ -18,7 +18,7 @@ use Rattle.node_arena.specs.Seats.{DidStep, view}
 use Rattle.node_arena.specs.Turns.{failed_at, failed_turns, at_e5}
 use Rattle.node_arena.specs.Paths.{ExtendsPath, Acts, HasOwnCause}
 use Rattle.node_arena.proofs.Paths.{walk_then, then_act, act_then, then_stored, failed_snoc, failed-append, failed_behind, ended_behind, event, walk_on, pass_on, act_on, to_is, ended_at, failed_last}
-use Rattle.nonblocking.specs.Values.{value_of}
+use Rattle.node_arena.specs.Machine.{value_of}
 use Rattle.nonblocking.specs.declared.push_outcomes.Actor.{Actor as Running}
 use Rattle.nonblocking.specs.declared.push_outcomes.Outcome.{Outcome}
 use Rattle.nonblocking.specs.declared.push_outcomes.Outcome.TheVariants.{Goes, Done, Refused}

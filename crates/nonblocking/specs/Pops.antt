@@ -20,7 +20,7 @@ use Rattle.node_arena.specs.Seeing.{known_by}
 use Rattle.node_arena.specs.Seats.{IsSeat, IsReady, KeepsStored, KeepsName, DidStep, view, known_of}
 use Rattle.node_arena.specs.Turns.{failed_turns}
 use Rattle.node_arena.specs.Paths.{ExtendsPath, Acts, HadNoEffect, FailedAt, EndsFailed, EndedAt, MetCause, HasOwnCause, added}
-use Rattle.nonblocking.specs.Values.{value_of}
+use Rattle.node_arena.specs.Machine.{value_of}
 use Rattle.nonblocking.specs.declared.pop_outcomes.Actor.{Actor as Running}
 use Rattle.nonblocking.specs.declared.pop_outcomes.Reply.{Reply}
 use Rattle.nonblocking.specs.declared.pop_outcomes.Reply.TheVariants.{Value as IsValue, Empty as IsEmpty}

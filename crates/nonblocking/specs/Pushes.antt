@@ -17,7 +17,7 @@ use Rattle.node_arena.specs.Seats.{IsSeat, IsReady, KeepsStored, KeepsName, DidS
 use Rattle.node_arena.specs.Turns.{failed_turns}
 use Rattle.node_arena.specs.Paths.{ExtendsPath, Acts, HadNoEffect, FailedAt, EndsFailed, EndedAt, MetCause, HasOwnCause, added}
 use Rattle.free_list.specs.Takes.{TakeRefused}
-use Rattle.nonblocking.specs.Values.{value_of}
+use Rattle.node_arena.specs.Machine.{value_of}
 use Rattle.nonblocking.specs.declared.push_outcomes.Actor.{Actor as Running}
 use Rattle.nonblocking.specs.declared.push_outcomes.Reply.TheVariants.{Done as IsDone}
 use Rattle.nonblocking.specs.declared.push_outcomes.Outcome.{Outcome}

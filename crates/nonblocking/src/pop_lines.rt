@@ -6,13 +6,10 @@ ghost use Rattle.node_arena.specs.Plans.{may_pop};
 ghost use Rattle.node_arena.specs.Seats.{role_of};
 ghost use Rattle.nonblocking.specs.Pops.{CallIsAt, Follows};
 
-use crate::pop_outcomes::{Actor, Outcome, Reply, Untold, effect, ends, goes, raised, worn};
+use crate::pop_outcomes::{Actor, Outcome, Reply, effect, ends, goes, notes, worn};
 use history::WornWord;
 use line_table::{Line, line_table};
-use node_arena::{Arena, Seat, exchanged, reference};
-
-/// What a running call gives for the number of a step.
-const NOW: Untold = Untold;
+use node_arena::{Arena, Seat, exchanged, raised, reference};
 
 // The access of a line, as one step call.
 macro_rules! access {
@@ -47,21 +44,21 @@ pub(crate) fn d2(arena: &Arena, seat: &mut Seat, mut a: Actor, index: u32) -> Ou
     ensures { Follows arena.now seat.old seat.new prologue lines.D2 a result }
 {
     let _ = index;
-    line_table!(D2 (setup NOW NOW a found) row (arena seat found))
+    line_table!(D2 (setup me a found) row (arena seat found))
 }
 
 pub(crate) fn d3(arena: &Arena, seat: &mut Seat, mut a: Actor) -> Outcome
     requires { CallIsAt arena.now seat.old continues lines.D3 a }
     ensures { Follows arena.now seat.old seat.new continues lines.D3 a result }
 {
-    line_table!(D3 (setup NOW NOW a found) row (arena seat found))
+    line_table!(D3 (setup me a found) row (arena seat found))
 }
 
 pub(crate) fn d4(arena: &Arena, seat: &mut Seat, mut a: Actor) -> Outcome
     requires { CallIsAt arena.now seat.old continues lines.D4 a }
     ensures { Follows arena.now seat.old seat.new continues lines.D4 a result }
 {
-    line_table!(D4 (setup NOW NOW a found) row (arena seat found))
+    line_table!(D4 (setup me a found) row (arena seat found))
 }
 
 pub(crate) fn d5(arena: &Arena, seat: &mut Seat, a: Actor) -> Outcome
@@ -69,7 +66,7 @@ pub(crate) fn d5(arena: &Arena, seat: &mut Seat, a: Actor) -> Outcome
     ensures { Follows arena.now seat.old seat.new continues lines.D5 a result }
 {
     let setup = arena.setup();
-    line_table!(D5 (setup NOW NOW a found) row (arena seat found))
+    line_table!(D5 (setup me a found) row (arena seat found))
 }
 
 pub(crate) fn d10(arena: &Arena, seat: &mut Seat, a: Actor) -> Outcome
@@ -77,7 +74,7 @@ pub(crate) fn d10(arena: &Arena, seat: &mut Seat, a: Actor) -> Outcome
     ensures { Follows arena.now seat.old seat.new continues lines.D10 a result }
 {
     let setup = arena.setup();
-    line_table!(D10 (setup NOW NOW a found) row (arena seat found))
+    line_table!(D10 (setup me a found) row (arena seat found))
 }
 
 pub(crate) fn d12(arena: &Arena, seat: &mut Seat, mut a: Actor) -> Outcome
@@ -85,7 +82,7 @@ pub(crate) fn d12(arena: &Arena, seat: &mut Seat, mut a: Actor) -> Outcome
     ensures { Follows arena.now seat.old seat.new continues lines.D12 a result }
 {
     let setup = arena.setup();
-    line_table!(D12 (setup NOW NOW a found) row (arena seat found))
+    line_table!(D12 (setup me a found) row (arena seat found))
 }
 
 pub(crate) fn d13(arena: &Arena, seat: &mut Seat, mut a: Actor) -> Outcome
@@ -94,5 +91,5 @@ pub(crate) fn d13(arena: &Arena, seat: &mut Seat, mut a: Actor) -> Outcome
     ensures { Follows arena.now seat.old seat.new continues lines.D13 a result }
 {
     let setup = arena.setup();
-    line_table!(D13 (setup NOW NOW a found) row (arena seat found))
+    line_table!(D13 (setup me a found) row (arena seat found))
 }

@@ -1,19 +1,12 @@
 //! What a running pop remembers, and the words of the line table's third column for it.
-ghost use Rattle.std.specs.Prelude.{◌≡◌, ◌<◌, ◌^◌};
-ghost use Rattle.counted_ref.specs.Ref.{reserved_node, count_bits};
+ghost use Rattle.std.specs.Prelude.{◌≡◌};
 ghost use Rattle.history.specs.declared.refusals.Refusal.TheVariants.{WornOut};
-ghost use Rattle.node_arena.specs.Machine as machine;
-ghost use Rattle.nonblocking.specs.Values.{value_of};
 ghost use Rattle.nonblocking.specs.Pops.{ended_as, turn_of};
 
 use counted_ref::CountedRef;
-use history::{Body, Refusal, Taken, WornWord};
+use history::{Refusal, WornWord};
 use line_table::Line;
-use node_arena::{Held, Setup};
-
-/// What the machine knows and a running pop doesn't: step numbers.
-#[derive(Clone, Copy)]
-pub(crate) struct Untold;
+use node_arena::Held;
 
 /// The registers of a running pop.
 #[derive(Clone, Copy)]
@@ -26,7 +19,6 @@ pub(crate) struct Actor {
     pub(crate) node: u32,
     pub(crate) mark: u64,
     pub(crate) due: Option<Reply>,
-    pub(crate) empty_at: Untold,
 }
 
 /// What a pop is told.
@@ -72,20 +64,6 @@ pub(crate) fn blank() -> Actor {
         node: 0,
         mark: 0,
         due: None,
-        empty_at: Untold,
-    }
-}
-
-/// The value of a word.
-pub(crate) fn value(word: u64) -> Taken
-    ensures { result ≡ value_of word }
-{
-    let Some(body) = Body::new(word % 281_474_976_710_656) else {
-        unreachable!()
-    };
-    Taken {
-        from: (word / 281_474_976_710_656) as u16,
-        body,
     }
 }
 
@@ -95,27 +73,33 @@ pub(crate) fn goes(line: Line, a: Actor) -> Outcome
     Outcome::Goes(line, a)
 }
 
-pub(crate) fn effect(now: Untold, outcome: Outcome) -> Outcome
+/// The pop takes effect here.
+pub(crate) fn effect(outcome: Outcome) -> Outcome
     ensures { result ≡ outcome }
 {
-    let _ = now;
     outcome
 }
 
-pub(crate) fn ends(now: Untold, reply: Reply, a: Actor) -> Outcome
+/// The pop takes effect here, if the queue turns out to be empty.
+pub(crate) fn notes(outcome: Outcome) -> Outcome
+    ensures { result ≡ outcome }
+{
+    outcome
+}
+
+pub(crate) fn ends(reply: Reply, a: Actor) -> Outcome
     ensures { result ≡ ended_as reply a }
 {
-    let _ = now;
     match reply {
         Reply::Value(_) => Outcome::Goes(Line::F1, a),
         Reply::Empty => Outcome::Empty,
     }
 }
 
-pub(crate) fn worn(now: Untold, word: WornWord, a: Actor) -> Outcome
+pub(crate) fn worn(word: WornWord, a: Actor) -> Outcome
     ensures { result ≡ Outcome.Refused (WornOut word) }
 {
-    let _ = (now, a);
+    let _ = a;
     Outcome::Refused(Refusal::WornOut(word))
 }
 
@@ -126,17 +110,6 @@ impl Actor {
         self.node = node;
         self.mark = mark;
     }
-}
-
-/// The reference that names another node, with its count raised.
-pub(crate) fn raised(setup: Setup, from: CountedRef, to: u32) -> CountedRef
-    requires to { to < reserved_node }
-    requires count { from.count < setup.limit }
-    requires limit { setup.limit < 2 ^ count_bits }
-    ensures { result ≡ machine.raised setup from to }
-{
-    let _ = setup;
-    CountedRef::new(to, from.count() + 1)
 }
 
 /// The turn that ends so.

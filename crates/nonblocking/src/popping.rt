@@ -8,11 +8,11 @@ ghost use Rattle.nonblocking.specs.Values.{IsNonBlocking};
 ghost use Rattle.nonblocking.specs.Pops.{popping, CallIsAt, IsBefore, Looks, Turns, Tries, Draws, AnswersPop};
 
 use crate::pop_lines::{d2, d3, d4, d5, d10, d12, d13};
-use crate::pop_outcomes::{Actor, Outcome, Turn, blank, turned, value};
+use crate::pop_outcomes::{Actor, Outcome, Turn, blank, turned};
 use free_list::give_back;
 use history::{Refusal, Taken};
 use line_table::Line;
-use node_arena::{Arena, Seat};
+use node_arena::{Arena, Seat, value_of};
 
 // The lines D2 to D5, where `index` turns of this pop failed before: Head, Tail, the node after Head's, and Head again.
 fn look(arena: &Arena, seat: &mut Seat, index: u32) -> Outcome
@@ -78,7 +78,7 @@ fn attempt(
 {
     match turn(arena, seat, index) {
         Turn::Took(word, held) => {
-            let taken = value(word);
+            let taken = value_of(word);
             seat.keep(Some(held), failed);
             let _ = give_back(arena, seat, turns - failed);
             Some(Ok(Some(taken)))

@@ -7,17 +7,11 @@ ghost use Rattle.node_arena.specs.Seats.{role_of};
 ghost use Rattle.nonblocking.specs.Pushes.{CallIsAt, Follows};
 
 use crate::push_outcomes::{
-    Actor, Outcome, Reply, Untold, effect, ends, goes, raised, sets_aside, worn,
+    Actor, Outcome, Reply, effect, ends, goes, worn, worn_aside, worn_with_node,
 };
 use history::WornWord;
 use line_table::{Line, line_table};
-use node_arena::{Arena, Seat, exchanged, masked, reference};
-
-/// What a running call gives for the number of a step.
-const NOW: Untold = Untold;
-
-/// The bits of a word that hold the count.
-const COUNT_MASK: u64 = 18_446_744_073_692_774_400;
+use node_arena::{Arena, COUNT_MASK, Seat, exchanged, masked, raised, reference};
 
 // The access of a line, as one step call.
 macro_rules! access {
@@ -52,7 +46,7 @@ pub(crate) fn e2(arena: &Arena, seat: &mut Seat, a: Actor) -> Outcome
     requires { CallIsAt arena.now seat.old prologue lines.E2 a }
     ensures { Follows arena.now seat.old seat.new prologue lines.E2 a result }
 {
-    line_table!(E2 (setup NOW NOW a found) row (arena seat found))
+    line_table!(E2 (setup me a found) row (arena seat found))
 }
 
 pub(crate) fn e3(arena: &Arena, seat: &mut Seat, mut a: Actor) -> Outcome
@@ -60,21 +54,21 @@ pub(crate) fn e3(arena: &Arena, seat: &mut Seat, mut a: Actor) -> Outcome
     ensures { Follows arena.now seat.old seat.new continues lines.E3 a result }
 {
     let setup = arena.setup();
-    line_table!(E3 (setup NOW NOW a found) row (arena seat found))
+    line_table!(E3 (setup me a found) row (arena seat found))
 }
 
 pub(crate) fn e5(arena: &Arena, seat: &mut Seat, mut a: Actor) -> Outcome
     requires { CallIsAt arena.now seat.old continues lines.E5 a }
     ensures { Follows arena.now seat.old seat.new continues lines.E5 a result }
 {
-    line_table!(E5 (setup NOW NOW a found) row (arena seat found))
+    line_table!(E5 (setup me a found) row (arena seat found))
 }
 
 pub(crate) fn e6(arena: &Arena, seat: &mut Seat, mut a: Actor) -> Outcome
     requires { CallIsAt arena.now seat.old continues lines.E6 a }
     ensures { Follows arena.now seat.old seat.new continues lines.E6 a result }
 {
-    line_table!(E6 (setup NOW NOW a found) row (arena seat found))
+    line_table!(E6 (setup me a found) row (arena seat found))
 }
 
 pub(crate) fn e7(arena: &Arena, seat: &mut Seat, mut a: Actor) -> Outcome
@@ -82,7 +76,7 @@ pub(crate) fn e7(arena: &Arena, seat: &mut Seat, mut a: Actor) -> Outcome
     ensures { Follows arena.now seat.old seat.new continues lines.E7 a result }
 {
     let setup = arena.setup();
-    line_table!(E7 (setup NOW NOW a found) row (arena seat found))
+    line_table!(E7 (setup me a found) row (arena seat found))
 }
 
 pub(crate) fn e9(arena: &Arena, seat: &mut Seat, mut a: Actor) -> Outcome
@@ -91,7 +85,7 @@ pub(crate) fn e9(arena: &Arena, seat: &mut Seat, mut a: Actor) -> Outcome
     ensures { Follows arena.now seat.old seat.new continues lines.E9 a result }
 {
     let setup = arena.setup();
-    line_table!(E9 (setup NOW NOW a found) row (arena seat found))
+    line_table!(E9 (setup me a found) row (arena seat found))
 }
 
 pub(crate) fn e13(arena: &Arena, seat: &mut Seat, a: Actor) -> Outcome
@@ -99,7 +93,7 @@ pub(crate) fn e13(arena: &Arena, seat: &mut Seat, a: Actor) -> Outcome
     ensures { Follows arena.now seat.old seat.new continues lines.E13 a result }
 {
     let setup = arena.setup();
-    line_table!(E13 (setup NOW NOW a found) row (arena seat found))
+    line_table!(E13 (setup me a found) row (arena seat found))
 }
 
 pub(crate) fn e17(arena: &Arena, seat: &mut Seat, a: Actor) -> Outcome
@@ -107,5 +101,5 @@ pub(crate) fn e17(arena: &Arena, seat: &mut Seat, a: Actor) -> Outcome
     ensures { Follows arena.now seat.old seat.new continues lines.E17 a result }
 {
     let setup = arena.setup();
-    line_table!(E17 (setup NOW NOW a found) row (arena seat found))
+    line_table!(E17 (setup me a found) row (arena seat found))
 }

@@ -1,18 +1,12 @@
 //! What a running push remembers, and the words of the line table's third column for it.
-ghost use Rattle.std.specs.Prelude.{◌≡◌, ◌+◌, ◌*◌, ◌^◌, ◌<◌};
-ghost use Rattle.counted_ref.specs.Ref.{reserved_node, count_bits};
+ghost use Rattle.std.specs.Prelude.{◌≡◌, Some};
 ghost use Rattle.history.specs.declared.refusals.Refusal.TheVariants.{WornOut};
-ghost use Rattle.node_arena.specs.Machine as machine;
 ghost use Rattle.nonblocking.specs.Pushes.{registers_of};
 
 use counted_ref::CountedRef;
 use history::{Refusal, WornWord};
 use line_table::Line;
-use node_arena::{Held, Setup};
-
-/// What the machine knows and a running push doesn't: step numbers.
-#[derive(Clone, Copy)]
-pub(crate) struct Untold;
+use node_arena::Held;
 
 /// The registers of a running push.
 #[derive(Clone, Copy)]
@@ -54,14 +48,6 @@ pub(crate) enum Turn {
     Refused(Refusal),
 }
 
-/// The word of the value of this seat and body.
-pub(crate) fn word_of(from: u16, body: u64) -> u64
-    requires { body < 2 ^ 48 }
-    ensures { result ≡ from * 2 ^ 48 + body }
-{
-    u64::from(from) * 281_474_976_710_656 + body
-}
-
 /// Registers with this node and this word of a value.
 pub(crate) fn registers(held: Held, val: u64) -> Actor
     ensures { result ≡ registers_of held val }
@@ -83,55 +69,46 @@ pub(crate) fn goes(line: Line, a: Actor) -> Outcome
     Outcome::Goes(line, a)
 }
 
-pub(crate) fn ends(now: Untold, reply: Reply, a: Actor) -> Outcome
+pub(crate) fn ends(reply: Reply, a: Actor) -> Outcome
     ensures { result ≡ Outcome.Done }
 {
-    let _ = (now, reply, a);
+    let _ = (reply, a);
     Outcome::Done
 }
 
-pub(crate) fn worn(now: Untold, word: WornWord, a: Actor) -> Outcome
+pub(crate) fn worn(word: WornWord, a: Actor) -> Outcome
     ensures { result ≡ Outcome.Refused (WornOut word) }
 {
-    let _ = (now, a);
+    let _ = a;
     Outcome::Refused(Refusal::WornOut(word))
 }
 
-pub(crate) fn effect(now: Untold, outcome: Outcome) -> Outcome
-    ensures { result ≡ outcome }
+/// The same where the call keeps its node.
+pub(crate) fn worn_with_node(word: WornWord, a: Actor) -> Outcome
+    ensures { result ≡ Outcome.Refused (WornOut word) }
 {
-    let _ = now;
-    outcome
+    worn(word, a)
 }
 
-pub(crate) fn sets_aside(node: u32, outcome: Outcome) -> Outcome
+/// The same where the node is set aside.
+pub(crate) fn worn_aside(word: WornWord, a: Actor) -> Outcome
+    ensures { result ≡ Outcome.Refused (WornOut word) }
+{
+    worn(word, a)
+}
+
+/// The push takes effect here.
+pub(crate) fn effect(outcome: Outcome) -> Outcome
     ensures { result ≡ outcome }
 {
-    let _ = node;
     outcome
 }
 
 impl Actor {
-    pub(crate) fn empties_hand(&mut self)
-        ensures { self.new ≡ self.old }
+    /// The node is in the queue.
+    pub(crate) fn links(&mut self)
+        ensures { self.new ≡ record self.old { due = Some Reply.Done } }
     {
-        let _ = self;
+        self.due = Some(Reply::Done);
     }
-
-    pub(crate) fn to_pocket(&mut self)
-        ensures { self.new ≡ self.old }
-    {
-        let _ = self;
-    }
-}
-
-/// The reference that names another node, with its count raised.
-pub(crate) fn raised(setup: Setup, from: CountedRef, to: u32) -> CountedRef
-    requires to { to < reserved_node }
-    requires count { from.count < setup.limit }
-    requires limit { setup.limit < 2 ^ count_bits }
-    ensures { result ≡ machine.raised setup from to }
-{
-    let _ = setup;
-    CountedRef::new(to, from.count() + 1)
 }

@@ -4,15 +4,16 @@ ghost use Rattle.line_table.specs.declared.lines.Line.TheVariants as lines;
 ghost use Rattle.node_arena.specs.Prologues.{Prologue, continues};
 ghost use Rattle.node_arena.specs.Plans.{may_push};
 ghost use Rattle.node_arena.specs.Seats.{IsReady, role_of, pocket_of};
-ghost use Rattle.nonblocking.specs.Values.{IsNonBlocking, value_of};
+ghost use Rattle.nonblocking.specs.Values.{IsNonBlocking};
+ghost use Rattle.node_arena.specs.Machine.{value_of};
 ghost use Rattle.nonblocking.specs.Pushes.{registers_of, CallIsAt, Fills, Looks, Turns, Puts, AnswersPush};
 
 use crate::push_lines::{e2, e3, e5, e6, e7, e9, e13, e17};
-use crate::push_outcomes::{Actor, Outcome, Turn, registers, word_of};
+use crate::push_outcomes::{Actor, Outcome, Turn, registers};
 use free_list::take;
 use history::{Body, Refusal};
 use line_table::Line;
-use node_arena::{Arena, Held, Seat};
+use node_arena::{Arena, Held, Seat, word_of};
 
 // The value is written into the node, and its next is cleared; the count found there is the mark.
 fn fill(arena: &Arena, seat: &mut Seat, a: Actor) -> Outcome

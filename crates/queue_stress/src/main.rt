@@ -11,6 +11,7 @@ mod tallies;
 use crate::closing::Verdict;
 use crate::measuring::{Work, Works};
 use crate::queues::{Sizes, Which, stressed, worked};
+use node_arena::MOST_COUNT;
 use std::alloc::Global;
 use std::sync::Wait;
 use std::thread::Threads;
@@ -20,7 +21,7 @@ use std::{env, io};
 /// The long run: the dummy and 64 more nodes, and counts that are far from the greatest one.
 const LONG: Sizes = Sizes {
     nodes: 65,
-    limit: 1_099_511_627_775,
+    limit: MOST_COUNT,
     pairs: 500_000,
 };
 

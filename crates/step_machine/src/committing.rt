@@ -82,15 +82,17 @@ pub fn put_actor(actors: &mut Vec<Actor>, me: u16, actor: Actor)
 fn record_outcome(now: u64, told: &Told, stamped: &mut Stamped)
     ensures { stamped.new ≡ with_told now told.now stamped.old }
 {
-    stamped.last = if told.reply.is_some() {
-        Some(now)
-    } else {
-        None
-    };
     if told.at.is_some() {
         stamped.at = told.at;
     }
-    stamped.reply = told.reply;
+    // Most steps end no call: a whole reply is then not copied.
+    if told.reply.is_some() {
+        stamped.last = Some(now);
+        stamped.reply = told.reply;
+    } else {
+        stamped.last = None;
+        stamped.reply = None;
+    }
 }
 
 fn first_stamp(call: Call, now: u64) -> Stamped

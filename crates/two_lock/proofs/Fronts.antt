@@ -23,7 +23,8 @@ use Rattle.node_arena.proofs.Noting.{IsNotEmpty}
 use Rattle.node_arena.proofs.Noted.{finds_nothing_locked}
 use Rattle.node_arena.proofs.Told.{has_own_cause}
 use Rattle.node_arena.proofs.Paths.{walk_then, then_act, act_then, then_stored, event, walk_on, pass_on, act_on, ended_at}
-use Rattle.two_lock.specs.Values.{IsTwoLock, value_of}
+use Rattle.two_lock.specs.Values.{IsTwoLock}
+use Rattle.node_arena.specs.Machine.{value_of}
 use Rattle.two_lock.specs.declared.pop_outcomes.Actor.{Actor as Running}
 use Rattle.two_lock.specs.declared.pop_outcomes.Reply.{Reply}
 use Rattle.two_lock.specs.declared.pop_outcomes.Reply.TheVariants.{Value as IsValue, Empty as IsEmpty, Refused as IsRefused}

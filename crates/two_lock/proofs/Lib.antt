@@ -1,4 +1,3 @@
-pub mod Values
 pub mod PushSteps
 pub mod PushStands
 pub mod PushTries

@@ -13,7 +13,7 @@ use Rattle.node_arena.specs.declared.arena.Arena.{Arena}
 use Rattle.node_arena.specs.declared.seats.Seat.{Seat}
 use Rattle.node_arena.specs.Seats.{DidStep, view}
 use Rattle.node_arena.proofs.Told.{actor_was_in_range}
-use Rattle.two_lock.specs.Values.{value_of}
+use Rattle.node_arena.specs.Machine.{value_of}
 use Rattle.two_lock.specs.declared.pop_outcomes.Actor.{Actor as Running}
 use Rattle.two_lock.specs.declared.pop_outcomes.Outcome.{Outcome}
 use Rattle.two_lock.specs.declared.pop_outcomes.Outcome.TheVariants.{Goes, Empty, Refused}

@@ -12,7 +12,7 @@ use Rattle.node_arena.specs.Plans.{PermitsLine, may_pop}
 use Rattle.node_arena.specs.Seats.{MayStep, DidStep, view}
 use Rattle.node_arena.proofs.Told.{was_fits}
 use Rattle.node_arena.proofs.Reading.{read_back, value_parts}
-use Rattle.two_lock.specs.Values.{value_of}
+use Rattle.node_arena.specs.Machine.{value_of}
 use Rattle.two_lock.specs.declared.pop_outcomes.Actor.{Actor as Running}
 use Rattle.two_lock.specs.Pops.{CallIsAt}
 

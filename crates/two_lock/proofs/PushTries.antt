@@ -16,13 +16,14 @@ use Rattle.node_arena.specs.Seats.{IsReady, view, pocket_of, keeping}
 use Rattle.node_arena.specs.Turns.{failed_turns, at_a3}
 use Rattle.node_arena.specs.Paths.{ExtendsPath, Acts, added}
 use Rattle.node_arena.proofs.Paths.{walk_then, then_act, act_then, pass_then, then_stored, added_is, added_path, failed-append, failed_behind, kept_seat, ends_failed, event, walk_on, pass_on, act_on, to_is, failed_last}
-use Rattle.two_lock.specs.Values.{IsTwoLock, value_of}
+use Rattle.two_lock.specs.Values.{IsTwoLock}
+use Rattle.node_arena.specs.Machine.{value_of}
 use Rattle.two_lock.specs.declared.push_outcomes.Actor.{Actor as Running}
 use Rattle.two_lock.specs.declared.push_outcomes.Reply.TheVariants.{Done as IsDone}
 use Rattle.two_lock.specs.declared.push_outcomes.Outcome.{Outcome}
 use Rattle.two_lock.specs.declared.push_outcomes.Outcome.TheVariants.{Goes, Done}
 use Rattle.two_lock.specs.Pushes.{registers_of, has_lock, CallIsAt, Follows, Links, Trying, Puts}
-use Rattle.two_lock.proofs.Values.{value_of-word}
+use Rattle.node_arena.proofs.Values.{value_of-word}
 use Rattle.two_lock.proofs.PushStands.{after_a1, after_a2, won_a3, lost_a3, after_a4, after_a5, after_a6, after_a7}
 
 actor_or : Running → Outcome → Running

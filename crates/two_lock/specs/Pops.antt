@@ -21,7 +21,7 @@ use Rattle.node_arena.specs.Seeing.{known_by}
 use Rattle.node_arena.specs.Seats.{IsSeat, IsReady, KeepsStored, KeepsName, DidStep, view, known_of}
 use Rattle.node_arena.specs.Turns.{failed_turns}
 use Rattle.node_arena.specs.Paths.{ExtendsPath, Acts, HadNoEffect, FailedAt, EndsFailed, EndedAt, MetCause, HasOwnCause, added}
-use Rattle.two_lock.specs.Values.{value_of}
+use Rattle.node_arena.specs.Machine.{value_of}
 use Rattle.two_lock.specs.declared.pop_outcomes.Actor.{Actor as Running}
 use Rattle.two_lock.specs.declared.pop_outcomes.Reply.{Reply}
 use Rattle.two_lock.specs.declared.pop_outcomes.Reply.TheVariants.{Value as IsValue, Empty as IsEmpty, Refused as IsRefused}

@@ -15,7 +15,7 @@ use Rattle.node_arena.specs.Seats.{IsSeat, IsReady, KeepsStored, KeepsName, DidS
 use Rattle.node_arena.specs.Turns.{failed_turns}
 use Rattle.node_arena.specs.Paths.{ExtendsPath, Acts, HadNoEffect, FailedAt, EndsFailed, added}
 use Rattle.free_list.specs.Takes.{TakeRefused}
-use Rattle.two_lock.specs.Values.{value_of}
+use Rattle.node_arena.specs.Machine.{value_of}
 use Rattle.two_lock.specs.declared.push_outcomes.Actor.{Actor as Running}
 use Rattle.two_lock.specs.declared.push_outcomes.Reply.TheVariants.{Done as IsDone}
 use Rattle.two_lock.specs.declared.push_outcomes.Outcome.{Outcome}

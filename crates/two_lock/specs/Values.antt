@@ -1,13 +1,8 @@
 -- What pushes and pops of the two-lock queue share.
-use Rattle.std.specs.Prelude.{◌≡◌, ℕ, ◌/◌, ◌%◌, ◌^◌}
+use Rattle.std.specs.Prelude.{◌≡◌}
 use Rattle.line_table.specs.declared.lines.Kind.TheVariants.{TwoLock}
-use Rattle.history.specs.declared.operations.Taken.{Taken}
 use Rattle.node_arena.specs.declared.arena.Arena.{Arena}
 
 -- an arena of the two-lock queue
 abbrev pub IsTwoLock : Arena → Type 0
 IsTwoLock r = r.plan.setup.kind ≡ TwoLock
-
--- the value of a word: the seat is in its upper bits, and the body in the 48 lower ones
-abbrev pub value_of : ℕ → Taken
-value_of n = record { from = n / 2 ^ 48; body = n % 2 ^ 48 }

@@ -6,13 +6,10 @@ ghost use Rattle.node_arena.specs.Plans.{may_pop};
 ghost use Rattle.node_arena.specs.Seats.{role_of};
 ghost use Rattle.two_lock.specs.Pops.{CallIsAt, Follows};
 
-use crate::pop_outcomes::{Actor, Outcome, Reply, Untold, effect, goes, raised, unlocked};
+use crate::pop_outcomes::{Actor, Outcome, Reply, effect, goes, notes, unlocked};
 use history::{Refusal, WornWord};
 use line_table::{Line, line_table};
-use node_arena::{Arena, Seat, exchanged, reference, stored};
-
-/// What a running call gives for the number of a step.
-const NOW: Untold = Untold;
+use node_arena::{Arena, Seat, exchanged, raised, reference, stored};
 
 // The access of a line, as one step call.
 macro_rules! access {
@@ -53,21 +50,21 @@ pub(crate) fn b1(arena: &Arena, seat: &mut Seat, a: Actor, index: u32) -> Outcom
 {
     let _ = index;
     let me = seat.number();
-    line_table!(B1 (setup NOW me a found) row (arena seat found))
+    line_table!(B1 (setup me a found) row (arena seat found))
 }
 
 pub(crate) fn b2(arena: &Arena, seat: &mut Seat, mut a: Actor) -> Outcome
     requires { CallIsAt arena.now seat.old continues lines.B2 a }
     ensures { Follows arena.now seat.old seat.new continues lines.B2 a result }
 {
-    line_table!(B2 (setup NOW NOW a found) row (arena seat found))
+    line_table!(B2 (setup me a found) row (arena seat found))
 }
 
 pub(crate) fn b3(arena: &Arena, seat: &mut Seat, mut a: Actor) -> Outcome
     requires { CallIsAt arena.now seat.old continues lines.B3 a }
     ensures { Follows arena.now seat.old seat.new continues lines.B3 a result }
 {
-    line_table!(B3 (setup NOW NOW a found) row (arena seat found))
+    line_table!(B3 (setup me a found) row (arena seat found))
 }
 
 pub(crate) fn b4(arena: &Arena, seat: &mut Seat, mut a: Actor) -> Outcome
@@ -75,7 +72,7 @@ pub(crate) fn b4(arena: &Arena, seat: &mut Seat, mut a: Actor) -> Outcome
     ensures { Follows arena.now seat.old seat.new continues lines.B4 a result }
 {
     let setup = arena.setup();
-    line_table!(B4 (setup NOW NOW a found) row (arena seat found))
+    line_table!(B4 (setup me a found) row (arena seat found))
 }
 
 pub(crate) fn b5(arena: &Arena, seat: &mut Seat, mut a: Actor) -> Outcome
@@ -84,12 +81,12 @@ pub(crate) fn b5(arena: &Arena, seat: &mut Seat, mut a: Actor) -> Outcome
     ensures { Follows arena.now seat.old seat.new continues lines.B5 a result }
 {
     let setup = arena.setup();
-    line_table!(B5 (setup NOW NOW a found) row (arena seat found))
+    line_table!(B5 (setup me a found) row (arena seat found))
 }
 
 pub(crate) fn b6(arena: &Arena, seat: &mut Seat, a: Actor) -> Outcome
     requires { CallIsAt arena.now seat.old continues lines.B6 a }
     ensures { Follows arena.now seat.old seat.new continues lines.B6 a result }
 {
-    line_table!(B6 (setup NOW NOW a found) row (arena seat found))
+    line_table!(B6 (setup me a found) row (arena seat found))
 }

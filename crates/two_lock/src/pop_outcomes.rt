@@ -1,18 +1,10 @@
 //! What a running pop remembers, and the words of the line table's third column for it.
-ghost use Rattle.std.specs.Prelude.{◌≡◌, ◌+◌, ◌<◌, ◌^◌};
-ghost use Rattle.counted_ref.specs.Ref.{reserved_node, count_bits};
-ghost use Rattle.node_arena.specs.Machine as machine;
-ghost use Rattle.two_lock.specs.Values.{value_of};
+ghost use Rattle.std.specs.Prelude.{◌≡◌};
 ghost use Rattle.two_lock.specs.Pops.{has_lock, unlocked_as};
 
 use counted_ref::CountedRef;
-use history::{Body, Refusal, Taken};
+use history::Refusal;
 use line_table::Line;
-use node_arena::Setup;
-
-/// What the machine knows and a running pop doesn't: step numbers.
-#[derive(Clone, Copy)]
-pub(crate) struct Untold;
 
 /// The registers of a running pop.
 #[derive(Clone, Copy)]
@@ -24,7 +16,6 @@ pub(crate) struct Actor {
     pub(crate) node: u32,
     pub(crate) mark: u64,
     pub(crate) due: Option<Reply>,
-    pub(crate) empty_at: Untold,
 }
 
 /// What a pop that ends is told.
@@ -57,20 +48,6 @@ pub(crate) fn blank() -> Actor {
         node: 0,
         mark: 0,
         due: None,
-        empty_at: Untold,
-    }
-}
-
-/// The value of a word.
-pub(crate) fn value(word: u64) -> Taken
-    ensures { result ≡ value_of word }
-{
-    let Some(body) = Body::new(word % 281_474_976_710_656) else {
-        unreachable!()
-    };
-    Taken {
-        from: (word / 281_474_976_710_656) as u16,
-        body,
     }
 }
 
@@ -80,10 +57,17 @@ pub(crate) fn goes(line: Line, a: Actor) -> Outcome
     Outcome::Goes(line, a)
 }
 
-pub(crate) fn effect(now: Untold, outcome: Outcome) -> Outcome
+/// The pop takes effect here.
+pub(crate) fn effect(outcome: Outcome) -> Outcome
     ensures { result ≡ outcome }
 {
-    let _ = now;
+    outcome
+}
+
+/// The pop takes effect here, if the queue turns out to be empty.
+pub(crate) fn notes(outcome: Outcome) -> Outcome
+    ensures { result ≡ outcome }
+{
     outcome
 }
 
@@ -96,26 +80,14 @@ impl Actor {
     }
 }
 
-pub(crate) fn unlocked(now: Untold, due: Option<Reply>, a: Actor) -> Outcome
-    ensures { result ≡ unlocked_as due a }
+pub(crate) fn unlocked(a: Actor) -> Outcome
+    ensures { result ≡ unlocked_as a.due a }
 {
-    let _ = now;
-    match due {
+    match a.due {
         None | Some(Reply::Value(_)) => Outcome::Goes(Line::F1, a),
         Some(Reply::Empty) => Outcome::Empty,
         Some(Reply::Refused(why)) => Outcome::Refused(why),
     }
-}
-
-/// The reference that names another node, with its count raised.
-pub(crate) fn raised(setup: Setup, from: CountedRef, to: u32) -> CountedRef
-    requires to { to < reserved_node }
-    requires count { from.count < setup.limit }
-    requires limit { setup.limit < 2 ^ count_bits }
-    ensures { result ≡ machine.raised setup from to }
-{
-    let _ = setup;
-    CountedRef::new(to, from.count() + 1)
 }
 
 /// Whether a try of the lock got it.

@@ -8,11 +8,11 @@ ghost use Rattle.two_lock.specs.Values.{IsTwoLock};
 ghost use Rattle.two_lock.specs.Pops.{CallIsAt, IsBefore, Fronts, Draws, AnswersPop};
 
 use crate::pop_lines::{b1, b2, b3, b4, b5, b6};
-use crate::pop_outcomes::{Actor, Outcome, blank, got_lock, value};
+use crate::pop_outcomes::{Actor, Outcome, blank, got_lock};
 use free_list::give_back;
 use history::{Refusal, Taken};
 use line_table::Line;
-use node_arena::{Arena, Held, Seat};
+use node_arena::{Arena, Held, Seat, value_of};
 
 // With the lock: the value after Head's node is taken where there is one, and the lock is let go.
 fn front(arena: &Arena, seat: &mut Seat, a: Actor) -> Outcome
@@ -54,7 +54,7 @@ fn end(arena: &Arena, seat: &mut Seat, failed: u32, turns: u32) -> Result<Option
         Outcome::Goes(_, a) => {
             let node = a.node;
             let mark = a.mark;
-            let taken = value(a.val);
+            let taken = value_of(a.val);
             seat.keep(Some(Held { node, mark }), failed);
             let _ = give_back(arena, seat, turns - failed);
             Ok(Some(taken))

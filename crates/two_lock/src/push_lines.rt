@@ -6,16 +6,10 @@ ghost use Rattle.node_arena.specs.Plans.{may_push};
 ghost use Rattle.node_arena.specs.Seats.{role_of};
 ghost use Rattle.two_lock.specs.Pushes.{CallIsAt, Follows};
 
-use crate::push_outcomes::{Actor, Outcome, Reply, Untold, effect, ends, goes};
+use crate::push_outcomes::{Actor, Outcome, Reply, effect, ends, goes};
 use counted_ref::CountedRef;
 use line_table::{Line, line_table};
-use node_arena::{Arena, Seat, exchanged, masked, reference, stored};
-
-/// What a running call gives for the number of a step.
-const NOW: Untold = Untold;
-
-/// The bits of a word that hold the count.
-const COUNT_MASK: u64 = 18_446_744_073_692_774_400;
+use node_arena::{Arena, COUNT_MASK, Seat, exchanged, masked, reference, stored};
 
 // The access of a line, as one step call.
 macro_rules! access {
@@ -53,14 +47,14 @@ pub(crate) fn a1(arena: &Arena, seat: &mut Seat, a: Actor) -> Outcome
     requires { CallIsAt arena.now seat.old prologue lines.A1 a }
     ensures { Follows arena.now seat.old seat.new prologue lines.A1 a result }
 {
-    line_table!(A1 (setup NOW NOW a found) row (arena seat found))
+    line_table!(A1 (setup me a found) row (arena seat found))
 }
 
 pub(crate) fn a2(arena: &Arena, seat: &mut Seat, a: Actor) -> Outcome
     requires { CallIsAt arena.now seat.old continues lines.A2 a }
     ensures { Follows arena.now seat.old seat.new continues lines.A2 a result }
 {
-    line_table!(A2 (setup NOW NOW a found) row (arena seat found))
+    line_table!(A2 (setup me a found) row (arena seat found))
 }
 
 pub(crate) fn a3(arena: &Arena, seat: &mut Seat, a: Actor) -> Outcome
@@ -68,14 +62,14 @@ pub(crate) fn a3(arena: &Arena, seat: &mut Seat, a: Actor) -> Outcome
     ensures { Follows arena.now seat.old seat.new continues lines.A3 a result }
 {
     let me = seat.number();
-    line_table!(A3 (setup NOW me a found) row (arena seat found))
+    line_table!(A3 (setup me a found) row (arena seat found))
 }
 
 pub(crate) fn a4(arena: &Arena, seat: &mut Seat, mut a: Actor) -> Outcome
     requires { CallIsAt arena.now seat.old continues lines.A4 a }
     ensures { Follows arena.now seat.old seat.new continues lines.A4 a result }
 {
-    line_table!(A4 (setup NOW NOW a found) row (arena seat found))
+    line_table!(A4 (setup me a found) row (arena seat found))
 }
 
 pub(crate) fn a5(arena: &Arena, seat: &mut Seat, mut a: Actor) -> Outcome
@@ -83,19 +77,19 @@ pub(crate) fn a5(arena: &Arena, seat: &mut Seat, mut a: Actor) -> Outcome
     requires role { IsTrue (may_push (role_of seat.old)) }
     ensures { Follows arena.now seat.old seat.new continues lines.A5 a result }
 {
-    line_table!(A5 (setup NOW NOW a found) row (arena seat found))
+    line_table!(A5 (setup me a found) row (arena seat found))
 }
 
 pub(crate) fn a6(arena: &Arena, seat: &mut Seat, a: Actor) -> Outcome
     requires { CallIsAt arena.now seat.old continues lines.A6 a }
     ensures { Follows arena.now seat.old seat.new continues lines.A6 a result }
 {
-    line_table!(A6 (setup NOW NOW a found) row (arena seat found))
+    line_table!(A6 (setup me a found) row (arena seat found))
 }
 
 pub(crate) fn a7(arena: &Arena, seat: &mut Seat, a: Actor) -> Outcome
     requires { CallIsAt arena.now seat.old continues lines.A7 a }
     ensures { Follows arena.now seat.old seat.new continues lines.A7 a result }
 {
-    line_table!(A7 (setup NOW NOW a found) row (arena seat found))
+    line_table!(A7 (setup me a found) row (arena seat found))
 }

@@ -1,14 +1,10 @@
 //! What a running push remembers, and the words of the line table's third column for it.
-ghost use Rattle.std.specs.Prelude.{◌≡◌, ◌+◌, ◌*◌, ◌^◌, ◌<◌};
+ghost use Rattle.std.specs.Prelude.{◌≡◌, Some};
 ghost use Rattle.two_lock.specs.Pushes.{registers_of, has_lock};
 
 use counted_ref::CountedRef;
 use line_table::Line;
 use node_arena::Held;
-
-/// What the machine knows and a running push doesn't: step numbers.
-#[derive(Clone, Copy)]
-pub(crate) struct Untold;
 
 /// The registers of a running push.
 #[derive(Clone, Copy)]
@@ -36,14 +32,6 @@ pub(crate) enum Outcome {
     Done,
 }
 
-/// The word of the value of this seat and body.
-pub(crate) fn word_of(from: u16, body: u64) -> u64
-    requires { body < 2 ^ 48 }
-    ensures { result ≡ from * 2 ^ 48 + body }
-{
-    u64::from(from) * 281_474_976_710_656 + body
-}
-
 /// Registers with this node and this word of a value.
 pub(crate) fn registers(held: Held, val: u64) -> Actor
     ensures { result ≡ registers_of held val }
@@ -63,25 +51,26 @@ pub(crate) fn goes(line: Line, a: Actor) -> Outcome
     Outcome::Goes(line, a)
 }
 
-pub(crate) fn ends(now: Untold, reply: Reply, a: Actor) -> Outcome
+pub(crate) fn ends(reply: Reply, a: Actor) -> Outcome
     ensures { result ≡ Outcome.Done }
 {
-    let _ = (now, reply, a);
+    let _ = (reply, a);
     Outcome::Done
 }
 
-pub(crate) fn effect(now: Untold, outcome: Outcome) -> Outcome
+/// The push takes effect here.
+pub(crate) fn effect(outcome: Outcome) -> Outcome
     ensures { result ≡ outcome }
 {
-    let _ = now;
     outcome
 }
 
 impl Actor {
-    pub(crate) fn empties_hand(&mut self)
-        ensures { self.new ≡ self.old }
+    /// The node is in the queue.
+    pub(crate) fn links(&mut self)
+        ensures { self.new ≡ record self.old { due = Some Reply.Done } }
     {
-        let _ = self;
+        self.due = Some(Reply::Done);
     }
 }
 

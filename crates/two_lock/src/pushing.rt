@@ -8,10 +8,10 @@ ghost use Rattle.two_lock.specs.Values.{IsTwoLock};
 ghost use Rattle.two_lock.specs.Pushes.{CallIsAt, Links, Puts, AnswersPush};
 
 use crate::push_lines::{a1, a2, a3, a4, a5, a6, a7};
-use crate::push_outcomes::{Actor, Outcome, got_lock, registers, word_of};
+use crate::push_outcomes::{Actor, Outcome, got_lock, registers};
 use free_list::take;
 use history::{Body, Refusal};
-use node_arena::{Arena, Held, Seat};
+use node_arena::{Arena, Held, Seat, word_of};
 
 // The node is linked behind the last one, Tail goes on to it, and the lock is let go.
 fn link(arena: &Arena, seat: &mut Seat, a: Actor)

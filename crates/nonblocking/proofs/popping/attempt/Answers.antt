@@ -7,7 +7,7 @@ pub returns-in-Took : goal.returns-in-Took
 returns-in-Took c =
     let g = c.give_back.ensures in
     let gave : GiveAnswers c.args.arena.now c.keep.new.self c.give_back.new.seat (c.args.turns - c.args.failed) c.give_back.result = record { ready = g.ready; same = g.same; pocket = g.pocket; lines = g.lines; seen = g.seen; back = g.back; refused = g.refused; failed = g.failed; fewer = g.fewer } in
-    rw c.value-taken.ensures
+    rw c.value_of-taken.ensures
     (pop_took c.args.arena.now c.args.seat.now c.turn.new.seat c.give_back.new.seat c.in-Took.word c.in-Took.held c.args.failed c.args.turns c.give_back.result c.requires.turns c.in-Took.ensures
     (subst (λ y. GiveAnswers c.args.arena.now y c.give_back.new.seat (c.args.turns - c.args.failed) c.give_back.result) c.keep.ensures gave))
 

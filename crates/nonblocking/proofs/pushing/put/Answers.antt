@@ -1,9 +1,9 @@
 use Rattle.std.proofs.Common.{ap, subst}
 use Rattle.history.specs.declared.operations.Taken.{Taken}
-use Rattle.nonblocking.specs.Values.{value_of}
+use Rattle.node_arena.specs.Machine.{value_of}
 use Rattle.nonblocking.specs.declared.push_outcomes.Actor.{Actor as Running}
 use Rattle.nonblocking.specs.Pushes.{Puts}
-use Rattle.nonblocking.proofs.Values.{value_of-word}
+use Rattle.node_arena.proofs.Values.{value_of-word}
 use Rattle.nonblocking.proofs.PushTries.{pushes_out, fill_worn, fill_ready, fill_then}
 use Rattle.nonblocking.proofs.pushing.put.Goals as goal
 

@@ -1,7 +1,7 @@
 use Rattle.std.proofs.Common.{◌≡◌, ℕ, None, Ok, ◌∙◌, sym, subst, arith}
 use Rattle.history.specs.declared.operations.Op.TheVariants.{Enq}
 use Rattle.node_arena.specs.Prologues.{begins}
-use Rattle.two_lock.specs.Values.{value_of}
+use Rattle.node_arena.specs.Machine.{value_of}
 use Rattle.node_arena.specs.Seats.{keeping}
 use Rattle.two_lock.specs.Pushes.{Trying, Puts}
 use Rattle.two_lock.proofs.PushTries.{pushes_out, to_a2, first_try, next_try, puts_it, gives_up_put}

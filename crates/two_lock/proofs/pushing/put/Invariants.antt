@@ -1,6 +1,6 @@
 use Rattle.history.specs.declared.operations.Op.TheVariants.{Enq}
 use Rattle.node_arena.specs.Prologues.{begins}
-use Rattle.two_lock.specs.Values.{value_of}
+use Rattle.node_arena.specs.Machine.{value_of}
 use Rattle.two_lock.specs.Pushes.{Trying}
 use Rattle.two_lock.proofs.pushing.put.Given as goal
 

@@ -1,6 +1,0 @@
-use Rattle.node_arena.specs.Prologues.{continues}
-use Rattle.free_list.proofs.Steps.{ref_f3}
-use Rattle.free_list.proofs.lines.f3.Goals as goal
-
-pub reference-found-requires : goal.reference-found-requires
-reference-found-requires c = (ref_f3 c.args.arena.now c.args.seat.now _ continues _ c.exchanged.ensures).1

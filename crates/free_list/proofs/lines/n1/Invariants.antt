@@ -1,4 +1,0 @@
-use Rattle.free_list.proofs.lines.n1.Given as goal
-
-abbrev pub ghost-load : goal.ghost-load
-ghost-load g a = g.prologue

@@ -1,6 +1,0 @@
-use Rattle.node_arena.specs.Prologues.{continues}
-use Rattle.free_list.proofs.Steps.{ref_n2}
-use Rattle.free_list.proofs.lines.n2.Goals as goal
-
-pub reference-found-requires : goal.reference-found-requires
-reference-found-requires c = (ref_n2 c.args.arena.now c.args.seat.now _ continues _ c.load.ensures).1
