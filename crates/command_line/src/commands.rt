@@ -6,6 +6,7 @@ ghost use Rattle.command_line.specs.Commands.{command_line_app, faults_in, file_
 use clap::builder::ValueParser;
 use clap::error::ErrorKind;
 use clap::{Arg, ArgMatches};
+use counted_ref::MOST_NODE;
 use line_table::Kind;
 use std::alloc::{AllocError, Global};
 
@@ -150,7 +151,7 @@ fn work_command<'a>(alloc: Global, queues: &'a [&'a str]) -> Result<clap::Comman
     let workers = number_option(alloc, "WORKERS", "workers", (1, 64), "4");
     let command = command.arg(workers.help("How many workers there are, each a thread, 1 to 64"))?;
     let command = command.arg(queue_option(alloc, queues))?;
-    let nodes = number_option(alloc, "NODES", "nodes", (2, 16_777_214), "1024");
+    let nodes = number_option(alloc, "NODES", "nodes", (2, MOST_NODE as u64), "1024");
     command.arg(nodes.help("How many nodes the queue has, 3 more than workers to 16777214"))
 }
 

@@ -3,7 +3,5 @@ mod endings;
 mod engine;
 mod faults;
 mod judging;
-mod schedules;
-mod tables;
 mod trials;
 mod words;

@@ -106,8 +106,8 @@ empty_queue =
     }
 
 -- an actor stopped before its E9, while its tail was freed
-abbrev pub stale_before : Run
-stale_before =
+abbrev pub reused_node_before : Run
+reused_node_before =
     record {
       setup = record { kind = NonBlocking; size = 3; limit = 100 };
       actors = 2;
@@ -121,8 +121,8 @@ stale_before =
     }
 
 -- the stale E9 fails by the count alone
-abbrev pub stale_fails : Run
-stale_fails =
+abbrev pub reused_node_lost : Run
+reused_node_lost =
     record {
       setup = record { kind = NonBlocking; size = 3; limit = 100 };
       actors = 2;
@@ -136,8 +136,8 @@ stale_fails =
     }
 
 -- after a stale E9 the push starts again and ends
-abbrev pub stale_reference : Run
-stale_reference =
+abbrev pub reused_node : Run
+reused_node =
     record {
       setup = record { kind = NonBlocking; size = 3; limit = 100 };
       actors = 2;
@@ -150,9 +150,26 @@ stale_reference =
       facts = holds (Next 3) (ref_word (ref 2 1)) ∷ holds Tail (ref_word (ref 2 2)) ∷ [];
     }
 
+-- a D13 that slept while its dummy was used again is lost by the count alone
+abbrev pub stale_head : Run
+stale_head =
+    record {
+      setup = record { kind = NonBlocking; size = 3; limit = 100 };
+      actors = 2;
+      moves = begin 1 (Enq 5) ++ many 1 10 ++ begin 2 Deq ++ many 2 5 ++ begin 1 Deq ++ many 1 9 ++ begin 1 (Enq 6) ++ many 1 11 ++ begin 1 Deq ++ many 1 9 ++ many 2 1 ++ many 2 4;
+      history =
+          record { actor = 1; op = Enq 5; first = 1; last = Some 10; at = Some 9; reply = Some Done } ∷
+          record { actor = 2; op = Deq; first = 11; last = Some 49; at = Some 48; reply = Some Empty } ∷
+          record { actor = 1; op = Deq; first = 16; last = Some 24; at = Some 21; reply = Some (Value (record { from = 1; body = 5 })) } ∷
+          record { actor = 1; op = Enq 6; first = 25; last = Some 35; at = Some 34; reply = Some Done } ∷
+          record { actor = 1; op = Deq; first = 36; last = Some 44; at = Some 41; reply = Some (Value (record { from = 1; body = 6 })) } ∷
+          [];
+      facts = [];
+    }
+
 -- a pop swings the tail that an unfinished push left behind, and takes its value
-abbrev pub lagging_tail : Run
-lagging_tail =
+abbrev pub swung_by_a_pop : Run
+swung_by_a_pop =
     record {
       setup = record { kind = NonBlocking; size = 3; limit = 100 };
       actors = 2;
@@ -165,12 +182,12 @@ lagging_tail =
     }
 
 -- the lines that it goes through
-abbrev pub lines_of_lagging_tail : List Line
-lines_of_lagging_tail = N1 ∷ N2 ∷ N5 ∷ E2 ∷ E3 ∷ E5 ∷ E6 ∷ E7 ∷ E9 ∷ D2 ∷ D3 ∷ D4 ∷ D5 ∷ D10 ∷ D2 ∷ D3 ∷ D4 ∷ D5 ∷ D12 ∷ D13 ∷ F1 ∷ F2 ∷ F3 ∷ []
+abbrev pub lines_of_swung_by_a_pop : List Line
+lines_of_swung_by_a_pop = N1 ∷ N2 ∷ N5 ∷ E2 ∷ E3 ∷ E5 ∷ E6 ∷ E7 ∷ E9 ∷ D2 ∷ D3 ∷ D4 ∷ D5 ∷ D10 ∷ D2 ∷ D3 ∷ D4 ∷ D5 ∷ D12 ∷ D13 ∷ F1 ∷ F2 ∷ F3 ∷ []
 
 -- the late swing of the tail is lost, and the push is done
-abbrev pub lost_swing : Run
-lost_swing =
+abbrev pub lagging_tail : Run
+lagging_tail =
     record {
       setup = record { kind = NonBlocking; size = 3; limit = 100 };
       actors = 2;
@@ -332,8 +349,8 @@ longest_pop =
     }
 
 -- with a worn tail that lags a pop is refused too
-abbrev pub worn_tail_pop : Run
-worn_tail_pop =
+abbrev pub worn_counts : Run
+worn_counts =
     record {
       setup = record { kind = NonBlocking; size = 3; limit = 2 };
       actors = 1;

@@ -11,6 +11,17 @@ use Rattle.history.specs.declared.refusals.WornWord.TheVariants.{Head as OfHead}
 use Rattle.line_steps.specs.Memory.{Free, Head, Tail, Tail_lock, Next}
 use Rattle.worked_runs.specs.Seen.{Run, begin, many, give, holds, stands}
 
+-- no calls
+abbrev pub empty : Run
+empty =
+    record {
+      setup = record { kind = TwoLock; size = 3; limit = 100 };
+      actors = 2;
+      moves = [];
+      history = [];
+      facts = [];
+    }
+
 -- a push, then a pop by another actor
 abbrev pub first_run : Run
 first_run =
@@ -30,8 +41,8 @@ abbrev pub lines_of_first_run : List Line
 lines_of_first_run = N1 ∷ N2 ∷ N5 ∷ A1 ∷ A2 ∷ A3 ∷ A4 ∷ A5 ∷ A6 ∷ A7 ∷ B1 ∷ B2 ∷ B3 ∷ B4 ∷ B5 ∷ B6 ∷ F1 ∷ F2 ∷ F3 ∷ []
 
 -- three actors pass both locks, and a freed dummy is still named by Tail for a while
-abbrev pub locks_passed : Run
-locks_passed =
+abbrev pub lock_held : Run
+lock_held =
     record {
       setup = record { kind = TwoLock; size = 3; limit = 100 };
       actors = 3;
@@ -76,8 +87,8 @@ tail_behind =
     }
 
 -- an actor stopped with the tail lock: a push gives up, and a pop finds the queue empty
-abbrev pub lock_holder_stopped : Run
-lock_holder_stopped =
+abbrev pub stopped_holder : Run
+stopped_holder =
     record {
       setup = record { kind = TwoLock; size = 3; limit = 100 };
       actors = 2;

@@ -2,7 +2,7 @@
 ghost use Rattle.std.specs.Prelude.{[], ◌∷◌};
 ghost use Rattle.history.specs.declared.operations.Op.TheVariants.{Deq};
 ghost use Rattle.worked_runs.specs.Seen.{Shows, GoesThrough, IsStopped, begin, many, give};
-ghost use Rattle.worked_runs.specs.NonBlockingRuns.{no_moves, push, lines_of_push, push_and_pop, lines_of_push_and_pop, reuse_cleared, reuse, lines_of_reuse, empty_queue, stale_before, stale_fails, stale_reference, lagging_tail, lines_of_lagging_tail, lost_swing, old_empty, no_node, worn_free, swing_skipped, worn_tail, value_kept, worn_next, push_given_up, longest_push, longest_pop, worn_tail_pop};
+ghost use Rattle.worked_runs.specs.NonBlockingRuns.{no_moves, push, lines_of_push, push_and_pop, lines_of_push_and_pop, reuse_cleared, reuse, lines_of_reuse, empty_queue, reused_node_before, reused_node_lost, reused_node, stale_head, swung_by_a_pop, lines_of_swung_by_a_pop, lagging_tail, old_empty, no_node, worn_free, swing_skipped, worn_tail, value_kept, worn_next, push_given_up, longest_push, longest_pop, worn_counts};
 
 /// Each run's moves can be made, and lead to the history and the words written down for it.
 pub fn non_blocking_runs()
@@ -15,12 +15,13 @@ pub fn non_blocking_runs()
     ensures reuse { Shows reuse }
     ensures lines_of_reuse { GoesThrough reuse lines_of_reuse }
     ensures empty_queue { Shows empty_queue }
-    ensures stale_before { Shows stale_before }
-    ensures stale_fails { Shows stale_fails }
-    ensures stale_reference { Shows stale_reference }
+    ensures reused_node_before { Shows reused_node_before }
+    ensures reused_node_lost { Shows reused_node_lost }
+    ensures reused_node { Shows reused_node }
+    ensures stale_head { Shows stale_head }
+    ensures swung_by_a_pop { Shows swung_by_a_pop }
+    ensures lines_of_swung_by_a_pop { GoesThrough swung_by_a_pop lines_of_swung_by_a_pop }
     ensures lagging_tail { Shows lagging_tail }
-    ensures lines_of_lagging_tail { GoesThrough lagging_tail lines_of_lagging_tail }
-    ensures lost_swing { Shows lost_swing }
     ensures old_empty { Shows old_empty }
     ensures no_node { Shows no_node }
     ensures worn_free { Shows worn_free }
@@ -31,15 +32,15 @@ pub fn non_blocking_runs()
     ensures push_given_up { Shows push_given_up }
     ensures longest_push { Shows longest_push }
     ensures longest_pop { Shows longest_pop }
-    ensures worn_tail_pop { Shows worn_tail_pop }
+    ensures worn_counts { Shows worn_counts }
 {}
 
 /// Moves that can't be made after a run: a step of an idle actor, a begin of one that has a call, a giving up where no
 /// turn begins, and a move of an actor that isn't there.
 pub fn non_blocking_moves_refused()
     ensures idle { IsStopped push (many 1 1) }
-    ensures busy { IsStopped stale_before (begin 1 Deq) }
-    ensures not_here { IsStopped stale_before (give 1) }
+    ensures busy { IsStopped reused_node_before (begin 1 Deq) }
+    ensures not_here { IsStopped reused_node_before (give 1) }
     ensures nobody { IsStopped no_moves (begin 3 Deq) }
     ensures number_0 { IsStopped no_moves (begin 0 Deq) }
 {}

@@ -1,9 +1,9 @@
-use crate::tests::schedules::WORKED;
 use crate::tests::trials::{
     Engine, does, does_by_any_piece, tells_each_end, writes_a_beginning, writes_nothing,
 };
 use std::alloc::{AllocError, Global};
 use std::test::Fail;
+use worked_texts::RUNS;
 
 const LINES: [&str; 10] = [
     "msq schedule 1",
@@ -54,8 +54,8 @@ fn text_with(alloc: Global, number: u64, other: &str) -> Result<Vec<u8>, AllocEr
 
 #[test]
 fn writes_each_history_whatever_the_pieces(rt: HostRuntime) -> Result<(), Fail> {
-    for (text, want) in &WORKED {
-        does_by_any_piece(&rt, rt.alloc(), Engine::Run, text, 0, want)?;
+    for run in &RUNS {
+        does_by_any_piece(&rt, rt.alloc(), Engine::Run, run.schedule, 0, run.history)?;
     }
     Ok(())
 }
@@ -142,24 +142,30 @@ fn tells_that_a_long_number_is_out_of_range(rt: HostRuntime) -> Result<(), Fail>
 
 #[test]
 fn tells_the_end_of_each_cut_schedule(rt: HostRuntime) -> Result<(), Fail> {
-    for (text, _) in &WORKED {
-        tells_each_end(&rt, rt.alloc(), Engine::Run, text.as_bytes())?;
+    for run in &RUNS {
+        tells_each_end(&rt, rt.alloc(), Engine::Run, run.schedule.as_bytes())?;
     }
     Ok(())
 }
 
 #[test]
 fn writes_nothing_where_a_read_fails(rt: HostRuntime) -> Result<(), Fail> {
-    for (text, _) in &WORKED {
-        writes_nothing(&rt, rt.alloc(), Engine::Run, text)?;
+    for run in &RUNS {
+        writes_nothing(&rt, rt.alloc(), Engine::Run, run.schedule)?;
     }
     Ok(())
 }
 
 #[test]
 fn writes_a_beginning_where_a_write_fails(rt: HostRuntime) -> Result<(), Fail> {
-    for (text, history) in &WORKED {
-        writes_a_beginning(&rt, rt.alloc(), Engine::Run, text, history.as_bytes())?;
+    for run in &RUNS {
+        writes_a_beginning(
+            &rt,
+            rt.alloc(),
+            Engine::Run,
+            run.schedule,
+            run.history.as_bytes(),
+        )?;
     }
     Ok(())
 }

@@ -1,11 +1,10 @@
-use crate::tests::schedules::WORKED;
-use crate::tests::tables::TABLES;
 use crate::tests::trials::{
     Engine, answers, does, does_by_any_piece, tells_each_end, writes_a_beginning, writes_nothing,
 };
 use history::{Cause, Refusal, Script, TextCause, Trouble, Verdict};
 use std::alloc::{AllocError, Global};
 use std::test::Fail;
+use worked_texts::RUNS;
 
 const FOUR: &str = "history 4
 1 enq 1 first 1 last 10 at 9 reply done
@@ -85,8 +84,8 @@ const JUDGED: [(&str, u8, &str); 8] = [
 
 #[test]
 fn tables_each_history_whatever_the_pieces(rt: HostRuntime) -> Result<(), Fail> {
-    for ((_, text), table) in WORKED.iter().zip(TABLES.iter()) {
-        does_by_any_piece(&rt, rt.alloc(), Engine::Check, text, 0, table)?;
+    for run in &RUNS {
+        does_by_any_piece(&rt, rt.alloc(), Engine::Check, run.history, 0, run.table)?;
     }
     Ok(())
 }
@@ -239,8 +238,8 @@ fn tells_a_fault_in_any_block_once_all_is_read(rt: HostRuntime) -> Result<(), Fa
 
 #[test]
 fn tells_the_end_of_each_cut_history(rt: HostRuntime) -> Result<(), Fail> {
-    for (_, text) in &WORKED {
-        tells_each_end(&rt, rt.alloc(), Engine::Check, text.as_bytes())?;
+    for run in &RUNS {
+        tells_each_end(&rt, rt.alloc(), Engine::Check, run.history.as_bytes())?;
     }
     Ok(())
 }

@@ -1,10 +1,10 @@
 use crate::tests::comparing::same;
-use crate::tests::schedules::SHIPPED;
 use history::Refusal;
 use schedule_text::parse;
 use std::alloc::{AllocError, Global};
 use std::test::Fail;
 use text_lines::TextCause;
+use worked_texts::RUNS;
 
 const LINES: [&str; 10] = [
     "msq schedule 1",
@@ -96,8 +96,8 @@ fn tells_the_first_faulty_line(rt: HostRuntime) -> Result<(), Fail> {
 
 #[test]
 fn a_text_that_is_cut_ends_too_early(rt: HostRuntime) -> Result<(), Fail> {
-    for text in &SHIPPED {
-        let text = text.as_bytes();
+    for run in &RUNS {
+        let text = run.schedule.as_bytes();
         let mut feeds = 0u64;
         for (place, byte) in text.iter().enumerate() {
             let want = Some(Refusal::Text(feeds.saturating_add(1), TextCause::End));

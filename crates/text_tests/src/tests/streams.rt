@@ -1,11 +1,11 @@
 //! Schedules from sources that give few bytes a call, or fail.
 use crate::tests::comparing::same;
 use crate::tests::schedule_faults::{FAULTS, text_with};
-use crate::tests::schedules::SHIPPED;
 use history::{Body, Op, Refusal, Script, Trouble};
 use schedule_text::{Event, EventStream, print, read_schedule};
 use std::test::Fail;
 use text_lines::TextCause;
+use worked_texts::RUNS;
 
 const PIECES: [usize; 3] = [1, 7, 4096];
 
@@ -36,13 +36,14 @@ fn pieces_of_any_length_have_the_same_faults(rt: HostRuntime) -> Result<(), Fail
 
 #[test]
 fn reads_each_schedule_from_pieces(rt: HostRuntime) -> Result<(), Fail> {
-    for text in &SHIPPED {
+    for run in &RUNS {
+        let text = run.schedule.as_bytes();
         for piece in PIECES {
-            let mut reader = Script::reader(rt.alloc(), text.as_bytes(), piece)?;
+            let mut reader = Script::reader(rt.alloc(), text, piece)?;
             let schedule = read_schedule(rt.alloc(), &mut reader)?;
             let mut writer = Script::writer(rt.alloc(), 1000, 4096)?;
             print(&schedule, &mut writer)?;
-            same(&rt, writer.written(), text.as_bytes(), piece);
+            same(&rt, writer.written(), text, piece);
         }
     }
     Ok(())

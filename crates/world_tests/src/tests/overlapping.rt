@@ -11,7 +11,7 @@ use std::test::Fail;
 
 const RUNS: [Run; 7] = [
     Run {
-        name: "stale_reference",
+        name: "reused_node",
         sizes: NON_BLOCKING,
         events: &[
             Begin(1, Enq(7)),
@@ -37,7 +37,7 @@ const RUNS: [Run; 7] = [
         ],
     },
     Run {
-        name: "lagging_tail",
+        name: "swung_by_a_pop",
         sizes: NON_BLOCKING,
         events: &[
             Begin(1, Enq(5)),
@@ -53,7 +53,7 @@ const RUNS: [Run; 7] = [
     },
     // The late swing of the tail is lost, and the push is done.
     Run {
-        name: "lost_swing",
+        name: "lagging_tail",
         sizes: NON_BLOCKING,
         events: &[
             Begin(1, Enq(5)),

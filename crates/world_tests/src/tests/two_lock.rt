@@ -28,7 +28,7 @@ const RUNS: [Run; 3] = [
         ],
     },
     Run {
-        name: "locks_passed",
+        name: "lock_held",
         sizes: Sizes {
             actors: 3,
             ..TWO_LOCK
@@ -60,7 +60,7 @@ const RUNS: [Run; 3] = [
         ],
     },
     Run {
-        name: "lock_holder_stopped",
+        name: "stopped_holder",
         sizes: TWO_LOCK,
         events: &[
             Begin(1, Enq(5)),

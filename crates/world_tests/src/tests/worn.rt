@@ -142,7 +142,7 @@ const RUNS: [Run; 7] = [
         ],
     },
     Run {
-        name: "worn_tail_pop",
+        name: "worn_counts",
         sizes: Sizes {
             limit: 2,
             actors: 1,

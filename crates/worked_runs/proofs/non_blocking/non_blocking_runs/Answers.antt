@@ -11,20 +11,23 @@ returns-clause-reuse_cleared c = ((refl, (refl, (refl, tt))), refl)
 pub returns-clause-reuse : goal.returns-clause-reuse
 returns-clause-reuse c = ((refl, (refl, (refl, (refl, tt)))), refl)
 
-pub returns-clause-stale_before : goal.returns-clause-stale_before
-returns-clause-stale_before c = ((refl, (refl, (refl, tt))), refl)
+pub returns-clause-reused_node_before : goal.returns-clause-reused_node_before
+returns-clause-reused_node_before c = ((refl, (refl, (refl, tt))), refl)
 
-pub returns-clause-stale_fails : goal.returns-clause-stale_fails
-returns-clause-stale_fails c = ((refl, (refl, tt)), refl)
+pub returns-clause-reused_node_lost : goal.returns-clause-reused_node_lost
+returns-clause-reused_node_lost c = ((refl, (refl, tt)), refl)
 
-pub returns-clause-stale_reference : goal.returns-clause-stale_reference
-returns-clause-stale_reference c = ((refl, (refl, (refl, tt))), refl)
+pub returns-clause-reused_node : goal.returns-clause-reused_node
+returns-clause-reused_node c = ((refl, (refl, (refl, tt))), refl)
+
+pub returns-clause-stale_head : goal.returns-clause-stale_head
+returns-clause-stale_head c = ((refl, tt), refl)
+
+pub returns-clause-swung_by_a_pop : goal.returns-clause-swung_by_a_pop
+returns-clause-swung_by_a_pop c = ((refl, tt), refl)
 
 pub returns-clause-lagging_tail : goal.returns-clause-lagging_tail
 returns-clause-lagging_tail c = ((refl, tt), refl)
-
-pub returns-clause-lost_swing : goal.returns-clause-lost_swing
-returns-clause-lost_swing c = ((refl, tt), refl)
 
 pub returns-clause-no_node : goal.returns-clause-no_node
 returns-clause-no_node c = ((refl, tt), refl)
@@ -50,5 +53,5 @@ returns-clause-longest_push c = ((refl, (refl, (refl, tt))), refl)
 pub returns-clause-longest_pop : goal.returns-clause-longest_pop
 returns-clause-longest_pop c = ((refl, (refl, (refl, tt))), refl)
 
-pub returns-clause-worn_tail_pop : goal.returns-clause-worn_tail_pop
-returns-clause-worn_tail_pop c = ((refl, tt), refl)
+pub returns-clause-worn_counts : goal.returns-clause-worn_counts
+returns-clause-worn_counts c = ((refl, tt), refl)
