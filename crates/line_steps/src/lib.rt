@@ -10,6 +10,6 @@ mod words;
 
 pub use actors::{Actor, Held, Node, Setup, Told};
 pub use memory::{Memory, nobody_value};
-pub use outcomes::{begin, give_up};
+pub use outcomes::{begin, give_up, put_down};
 pub use steps::stepped;
 pub use words::value_of;

@@ -1,17 +1,19 @@
 //! What a step makes of its actor, by the words of the line table.
-ghost use Rattle.std.specs.Prelude.{◌≡◌, ◌<◌, ◌≤◌, ◌^◌, Some, None, IfSome, IsNone, true, false};
+ghost use Rattle.std.specs.Prelude.{◌≡◌, ◌-◌, ◌<◌, ◌≤◌, ◌^◌, Some, None, IfSome, IsNone, true, false};
 ghost use Rattle.counted_ref.specs.Ref.{reserved_node, count_bits};
 ghost use Rattle.line_steps.specs.Lines as lines;
 ghost use Rattle.line_steps.specs.Calling as calling;
 ghost use Rattle.history.specs.declared.operations.Reply.TheVariants.{Done, Refused};
 ghost use Rattle.history.specs.declared.refusals.Refusal.TheVariants.{WornOut};
-ghost use Rattle.line_steps.specs.Outcomes.{settled};
+ghost use Rattle.line_steps.specs.Outcomes.{settled, with_told};
+ghost use Rattle.line_steps.specs.Rooms.{aside_after};
 ghost use Rattle.line_steps.specs.Said as outcomes;
 ghost use Rattle.line_steps.specs.Said.{numbered, nothing, end_of, freed_actor, freed_said, unlocked_actor, unlocked_said};
 
 use crate::actors::{Actor, Held, Setup, Told};
+use crate::memory::Memory;
 use counted_ref::CountedRef;
-use history::{Op, Refusal, Reply, Taken, WornWord};
+use history::{Op, Refusal, Reply, Stamped, Taken, WornWord};
 use line_table::{Kind, Line};
 
 /// When an operation takes effect, as a row says it, which knows no numbers of steps.
@@ -56,6 +58,38 @@ pub fn settle(now: u64, actor: &mut Actor, said: Said) -> Told
         reply: said.reply,
         aside: said.aside,
     }
+}
+
+/// Tells an operation what became of a step.
+#[inline(always)]
+fn tell(now: u64, told: &Told, operation: &mut Stamped)
+    ensures { operation.new ≡ with_told now told.now operation.old }
+{
+    if told.at.is_some() {
+        operation.at = told.at;
+    }
+    // Most steps end no call, and find an operation that has no reply yet: nothing is then written.
+    if told.reply.is_some() {
+        operation.last = Some(now);
+        operation.reply = told.reply;
+    } else if operation.last.is_some() || operation.reply.is_some() {
+        operation.last = None;
+        operation.reply = None;
+    }
+}
+
+/// Puts down what a step told: its operation, and the node set aside, for which there is room. Answers the reply, where the
+/// call ends. Takes no memory.
+#[inline(always)]
+pub fn put_down(memory: &mut Memory, now: u64, operation: &mut Stamped, told: Told) -> Option<Reply>
+    requires { IfSome told.aside (λ n. n - 1 < memory.old.room) }
+    ensures memory { memory.new ≡ record memory.old { aside = aside_after memory.old.aside told.aside } }
+    ensures operation { operation.new ≡ with_told now told operation.old }
+    ensures reply { result ≡ told.reply }
+{
+    tell(now, &told, operation);
+    memory.set_aside(told.aside);
+    told.reply
 }
 
 pub fn goes(line: Line, actor: &mut Actor) -> Said

@@ -1,46 +1,54 @@
-//! One step at a line, on the shared words and its actor: the function of the line's row.
+//! One step at a line, on the shared words, its actor and its operation: the function of the line's row.
 ghost use Rattle.std.specs.Prelude.{◌≡◌};
-ghost use Rattle.line_steps.specs.Memory.{found};
-ghost use Rattle.line_steps.specs.Lines.{action, outcome};
-ghost use Rattle.line_steps.specs.Outcomes.{settled};
-ghost use Rattle.line_steps.specs.Rooms.{accessed};
-ghost use Rattle.line_steps.specs.Ready.{RegistersFit, IsCounted};
+ghost use Rattle.line_steps.specs.Lines.{action};
+ghost use Rattle.line_steps.specs.Outcomes.{with_outcome};
+ghost use Rattle.line_steps.specs.Ready.{IsCounted, RegistersFit};
+ghost use Rattle.line_steps.specs.Steps.{memory_after, outcome_on};
 
-use crate::actors::{Actor, Setup, Told};
+use crate::actors::{Actor, Setup};
 use crate::memory::Memory;
+use crate::outcomes::put_down;
 use crate::rows;
+use history::{Reply, Stamped};
 use line_table::Line;
 
-// A match of a line with a call of each row's function.
+// A match of a line with a call of each row's function. What a row told is put down where it was told, before the arms meet:
+// most rows tell nothing, and then nothing is carried on.
 macro_rules! rows_of {
-    ($line:ident $given:tt $($name:ident $row:ident)*) => {
+    ($line:ident $given:tt ($memory:ident $now:ident $operation:ident) $($name:ident $row:ident)*) => {
         match $line {
-            $(Line::$name => rows::$row $given,)*
+            $(Line::$name => {
+                let told = rows::$row $given;
+                put_down($memory, $now, $operation, told)
+            })*
         }
     };
 }
 
-/// One step at a line.
+/// One step at a line. Answers the reply, where the call ends.
 ///
 /// `now` is the step's number and `me` the actor's, from 1 on. The setup's sizes fit a reference's parts: `size` is at
 /// most 16,777,214 and `limit` at most 1,099,511,627,775. The actor's registers name nodes for which there is room, their
-/// counts are at most `limit`, and `f` is at most `size`. Answers what becomes of the actor's operation. Takes no memory.
-#[tactic(auto, using(crate::proofs::ByAccess::outcome_by_access))]
+/// counts are at most `limit`, and `f` is at most `size`. `operation` is told what becomes of it. Takes no memory.
 pub fn stepped(
     memory: &mut Memory,
     setup: Setup,
     now: u64,
     me: u16,
     a: &mut Actor,
+    operation: &mut Stamped,
     line: Line,
-) -> Told
+) -> Option<Reply>
     requires counted { IsCounted setup }
     requires ready { RegistersFit setup memory.old.room a.old }
-    ensures outcome { settled a.new result ≡
-        outcome setup now me a.old line (found (action setup me a.old line) memory.old.words) }
-    ensures memory { memory.new ≡ accessed (action setup me a.old line) memory.old }
+    ensures actor { a.new ≡ (outcome_on setup now me a.old line memory.old.words).actor }
+    ensures operation { operation.new ≡
+        with_outcome now (outcome_on setup now me a.old line memory.old.words) operation.old }
+    ensures reply { result ≡ (outcome_on setup now me a.old line memory.old.words).reply }
+    ensures memory { memory.new ≡
+        memory_after (action setup me a.old line) (outcome_on setup now me a.old line memory.old.words) memory.old }
 {
-    rows_of!(line (memory, setup, now, me, a)
+    rows_of!(line (memory, setup, now, me, a) (memory now operation)
         N1 n1 N2 n2 N3 n3 N4 n4 N5 n5
         F1 f1 F2 f2 F3 f3
         E2 e2 E3 e3 E5 e5 E6 e6 E7 e7 E9 e9 E13 e13 E17 e17

@@ -1,9 +1,13 @@
 -- What the calls of a world need of it, and what they keep: registers that can be used, room, and the list of moves.
-use Rattle.std.proofs.Common.{◌≡◌, ℕ, ◌+◌, ◌-◌, ◌^◌, ◌<◌, ◌≤◌, ◌⊎◌, inl, inr, Option, Some, None, IfSome, List, length, min, set, slice_get, refl, sym, ap, subst, arith}
-use Rattle.step_machine.specs.Below.{Line, N1, Op, Stamped, Setup, Actor, Outcome, gives_up, begun, room_after, RegistersFit}
-use Rattle.step_machine.specs.Machine.{World, actor_of, with_operation, IsMade}
+use Rattle.std.proofs.Common.{◌≡◌, ℕ, ◌+◌, ◌-◌, ◌^◌, ◌<◌, ◌≤◌, ◌⊎◌, inl, inr, Option, Some, None, IfSome, List, length, map, min, set, slice_get, refl, sym, ap, subst, arith}
+use Rattle.std.proofs.lemmas.Option.{slice_get_within}
+use Rattle.step_machine.specs.Below.{Line, N1, Op, Stamped, Actor, Outcome, gives_up, begun, room_after, RegistersFit}
+use Rattle.step_machine.specs.Machine.{World, actor_of, with_operation, IsMade, made as made_by}
 use Rattle.step_machine.specs.Views.{wants_node, unrecorded, HasNodes, HasEntry}
 use Rattle.step_machine.specs.Range.{WorldInRange, ActorInRange}
+use Rattle.step_machine.specs.Stamps.{makers}
+use Rattle.step_machine.proofs.EachMove.{kept_after}
+use Rattle.step_machine.proofs.StampsInvariants.{StampsInvariant, OperationAt}
 use Rattle.step_machine.proofs.Giving.{begun_looks}
 use Rattle.step_machine.proofs.Growth.{Settles, given_settles}
 use Rattle.step_machine.proofs.Reached.{actor_in_range, made_in_range, actor_stands}
@@ -38,14 +42,20 @@ ready w room me a made at within nodes =
       next_count = r.registers.next.count;
     }
 
--- a node set aside by a step has room
-pub aside_room : (s : Setup) (room : ℕ) (a : Actor) (o : Option ℕ) → RegistersFit s room a → IfSome o (λ n. n ≡ a.node) → IfSome o (λ n. n - 1 < room)
-aside_room s room a None h g = tt
-aside_room s room a (Some n) h g = let few : a.node ≤ room = h.node in let some : 1 ≤ room = h.some in omega arith
+-- where an actor's operation stands, there is one
+entry_within : (w : World) (me : ℕ) (a : Actor) (l : Line) → IsMade w → actor_of w me ≡ Some a → a.line ≡ Some l → IfSome a.entry (λ e. e < length w.operations)
+entry_within w me a l made at here =
+    let K : List ℕ = makers (map made_by made.moves) in
+    let h : StampsInvariant (Unit {0}) K w = kept_after w.setup made.actors (map made_by made.moves) w made.led in
+    go a.entry (subst (λ o. OperationAt (Unit {0}) K w.operations me o a.entry a.due a.empty_at) here (h.actors me a at))
+  where
+    go : (entry : Option ℕ) → OperationAt (Unit {0}) (makers (map made_by made.moves)) w.operations me (Some l) entry a.due a.empty_at → IfSome entry (λ e. e < length w.operations)
+    go None k = tt
+    go (Some e) k = slice_get_within w.operations e k.0 k.1.here
 
 -- there is room for the entry of an actor that has a call
-pub entry_room : (w : World) (capacity me : ℕ) (a : Actor) (l : Line) → actor_of w me ≡ Some a → a.line ≡ Some l → length w.operations + unrecorded w.actors ≤ capacity → HasEntry a.entry (length w.operations) capacity
-entry_room w capacity me a l at here h = has_entry (length w.operations) capacity w.actors (me - 1) a l (actor_stands w me a at).1 here h
+pub entry_room : (w : World) (capacity me : ℕ) (a : Actor) (l : Line) → IsMade w → actor_of w me ≡ Some a → a.line ≡ Some l → length w.operations + unrecorded w.actors ≤ capacity → HasEntry a.entry (length w.operations) capacity
+entry_room w capacity me a l made at here h = has_entry (length w.operations) capacity w.actors (me - 1) a l (actor_stands w me a at).1 here (entry_within w me a l made at here) h
 
 -- the room still serves after an actor was told an outcome
 pub record Rooms (size fresh room capacity : ℕ) (actors : List Actor) (operations : List Stamped) : Type 0 where

@@ -1,5 +1,5 @@
 -- The room that a world keeps for nodes and entries, over a begin and over a step.
-use Rattle.std.proofs.Common.{◌≡◌, ℕ, zero, suc, ◌+◌, ◌<◌, ◌≤◌, ◌⊎◌, inl, inr, Bool, true, false, ◌&&◌, nat_lt, if◌then◌else◌, Option, Some, None, List, [], ◌∷◌, length, get_or, set, slice_get, refl, sym, ap, subst, ◌∙◌, arith, length-append}
+use Rattle.std.proofs.Common.{◌≡◌, ℕ, zero, suc, ◌+◌, ◌<◌, ◌≤◌, ◌⊎◌, inl, inr, Bool, true, false, ◌&&◌, nat_lt, if◌then◌else◌, Option, Some, None, List, [], ◌∷◌, length, get_or, set, slice_get, refl, sym, ap, subst, ◌∙◌, arith, length-append, IfSome}
 use Rattle.std.proofs.Math.ListN.{length-set}
 use Rattle.std.proofs.lemmas.Bool.{ltb-true, ltb-false}
 use Rattle.std.proofs.lemmas.List.Sums.{sum_by-set, sum_by-le, get_or-le-sum_by}
@@ -85,13 +85,13 @@ begin_entries len capacity xs i b h =
     omega (arith, length-set xs i b)
 
 -- a call that has no number yet has room for its entry
-pub has_entry : (len capacity : ℕ) (xs : List Actor) (i : ℕ) (a : Actor) (l : Line) → slice_get xs i ≡ Some a → a.line ≡ Some l → len + unrecorded xs ≤ capacity → HasEntry a.entry len capacity
-has_entry len capacity xs i a l at here h =
-    go a.entry (subst (λ n. n ≤ unrecorded xs) (ap (λ o. is_unrecorded o a.entry) here) (item_most (λ c. is_unrecorded c.line c.entry) xs i a at))
+pub has_entry : (len capacity : ℕ) (xs : List Actor) (i : ℕ) (a : Actor) (l : Line) → slice_get xs i ≡ Some a → a.line ≡ Some l → IfSome a.entry (λ e. e < len) → len + unrecorded xs ≤ capacity → HasEntry a.entry len capacity
+has_entry len capacity xs i a l at here stands h =
+    go a.entry stands (subst (λ n. n ≤ unrecorded xs) (ap (λ o. is_unrecorded o a.entry) here) (item_most (λ c. is_unrecorded c.line c.entry) xs i a at))
   where
-    go : (entry : Option ℕ) → is_unrecorded (Some l) entry ≤ unrecorded xs → HasEntry entry len capacity
-    go None g = omega arith
-    go (Some e) g = tt
+    go : (entry : Option ℕ) → IfSome entry (λ e. e < len) → is_unrecorded (Some l) entry ≤ unrecorded xs → HasEntry entry len capacity
+    go None k g = omega arith
+    go (Some e) k g = k
 
 -- after a step the room for entries still serves
 pub step_entries : (ops : List Stamped) (new : Stamped) (change : Stamped → Stamped) (capacity more : ℕ) (xs : List Actor) (i : ℕ) (a b : Actor) (l : Line) (e : ℕ) → slice_get xs i ≡ Some a → a.line ≡ Some l → b.entry ≡ Some e → length ops + unrecorded xs ≤ capacity → capacity ≤ more → length (with_operation a.entry new change ops) + unrecorded (set xs i b) ≤ more

@@ -1,13 +1,51 @@
--- After a step the room that a world keeps still serves.
-use Rattle.std.proofs.Common.{◌≡◌, ℕ, ◌+◌, ◌-◌, ◌≤◌, List, Option, Some, length, slice_set, vec_capacity, sym, ap, subst}
+-- What a step puts down in the lists of a world, and that the room that the world keeps then still serves.
+use Rattle.std.proofs.Common.{◌≡◌, ℕ, ◌+◌, ◌-◌, ◌<◌, ◌≤◌, List, [], ◌∷◌, ◌++◌, Option, Some, None, length, get_or, slice_get, slice_set, vec_capacity, refl, sym, ap, subst, ◌∙◌}
+use Rattle.std.proofs.lemmas.Option.{get_or_from_slice_get, slice_get-get_or}
+use Rattle.std.proofs.Math.Seq.{set-append_seam, get_or-append_seam}
 use Rattle.line_steps.specs.Rooms.{Memory}
-use Rattle.step_machine.specs.Below.{Line, Reply, Stamped, Actor, Outcome, performed, action}
-use Rattle.step_machine.specs.Machine.{actor_of}
-use Rattle.step_machine.specs.Views.{wants_node, HasNodes, unrecorded, entered, led, TookStep}
+use Rattle.line_steps.specs.Steps.{outcome_on}
+use Rattle.step_machine.specs.Below.{Line, Reply, Stamped, Setup, Actor, Outcome, performed, action, memory_after}
+use Rattle.step_machine.specs.Machine.{actor_of, entry_or, new_operation, with_operation, with_outcome}
+use Rattle.step_machine.specs.Views.{wants_node, HasNodes, unrecorded, entered, led, listed, TookStep}
 use Rattle.step_machine.specs.Stored.{world}
 use Rattle.step_machine.specs.declared.world.World.TheInside.{Inside}
 use Rattle.step_machine.proofs.Growth.{grows}
 use Rattle.step_machine.proofs.Making.{Rooms, settled_rooms}
+
+-- an operation that is changed where it stands, once it is in the list
+pub changed_where_listed : (entry : Option ℕ) (place : ℕ) (new was : Stamped) (change : Stamped → Stamped) (ops : List Stamped) → place ≡ entry_or entry (length ops) → place < length (listed entry new ops) → was ≡ get_or (listed entry new ops) place was → slice_set (listed entry new ops) place (change was) ≡ with_operation entry new change ops
+changed_where_listed None place new was change ops at there is =
+    let same : was ≡ new = is ∙ ap (λ n. get_or (ops ++ new ∷ []) n was) at ∙ get_or-append_seam ops new [] was in
+    ap (λ n. slice_set (ops ++ new ∷ []) n (change was)) at ∙ ap (λ s. slice_set (ops ++ new ∷ []) (length ops) (change s)) same ∙ set-append_seam ops new [] (change new)
+changed_where_listed (Some e) place new was change ops at there is =
+    let here : slice_get ops place ≡ Some (get_or ops place was) = slice_get-get_or ops place was there in
+    let same : was ≡ get_or ops place new = is ∙ sym (get_or_from_slice_get ops place (get_or ops place was) new here) in
+    ap (λ s. slice_set ops place (change s)) same ∙ ap (λ n. slice_set ops n (change (get_or ops n new))) at
+
+-- the outcome that a step had is the one that it leads to
+led_on : (s : Setup) (now me : ℕ) (a : Actor) (l : Line) (m : Memory) → outcome_on s now me a l m.words ≡ led s now me a l m
+unfolding outcome_on
+led_on s now me a l m = refl
+
+-- what a step at a line makes of its actor and its operation, and where they stand
+pub took : (s : Setup) (now me : ℕ) (l : Line) (old new : Memory) (a b : Actor) (was is : Stamped) (ops : List Stamped) (place : ℕ) (r : Option Reply) → b ≡ (outcome_on s now me a l old.words).actor → is ≡ with_outcome now (outcome_on s now me a l old.words) was → r ≡ (outcome_on s now me a l old.words).reply → new ≡ memory_after (action s me a l) (outcome_on s now me a l old.words) old → place ≡ entry_or a.entry (length ops) → place < length (listed a.entry (new_operation me a.op now) ops) → was ≡ get_or (listed a.entry (new_operation me a.op now) ops) place was → TookStep s now me l old ops a new (slice_set (listed a.entry (new_operation me a.op now) ops) place is) (record b { entry = Some place }) r
+took s now me l old new a b was is ops place r actor operation reply memory at there here =
+    let o : Outcome = led s now me a l old in
+    let same : outcome_on s now me a l old.words ≡ o = led_on s now me a l old in
+    let new_one : Stamped = new_operation me a.op now in
+    record {
+      memory = memory ∙ ap (λ p. memory_after (action s me a l) p old) same;
+      actor =
+          let mine : b ≡ o.actor = actor ∙ ap (λ p. p.actor) same in
+          let entered_at : (c : Actor) → Actor = λ c. record c { entry = Some place } in
+          let placed : (n : ℕ) → Actor = λ n. record o.actor { entry = Some n } in
+          ap entered_at mine ∙ ap placed at;
+      operations =
+          let told : is ≡ with_outcome now o was = operation ∙ ap (λ p. with_outcome now p was) same in
+          ap (λ x. slice_set (listed a.entry new_one ops) place x) told ∙
+          changed_where_listed a.entry place new_one was (with_outcome now o) ops at there here;
+      reply = reply ∙ ap (λ p. p.reply) same;
+    }
 
 pub took_rooms : (i : Inside) (more me : ℕ) (a b : Actor) (l : Line) (after : Memory) (listed : List Stamped) (reply : Option Reply) → actor_of (world i) me ≡ Some a → a.line ≡ Some l → TookStep i.setup (i.steps + 1) me l i.memory i.operations.items a after listed b reply → HasNodes i.setup.size i.memory.words.fresh i.memory.room i.actors.items → length i.operations.items + unrecorded i.actors.items ≤ vec_capacity i.operations → vec_capacity i.operations ≤ more → Rooms i.setup.size after.words.fresh after.room more (slice_set i.actors.items (me - 1) b) listed
 took_rooms i more me a b l after listed reply at here took nodes entries enough =

@@ -27,7 +27,8 @@ pub use Rattle.line_steps.specs.declared.actors.Node.{Node}
 pub use Rattle.line_steps.specs.declared.actors.Held.{Held}
 pub use Rattle.line_steps.specs.declared.actors.Actor.{Actor}
 pub use Rattle.line_steps.specs.declared.actors.Told.{Told}
-pub use Rattle.line_steps.specs.Outcomes.{Outcome, settled}
+pub use Rattle.line_steps.specs.Outcomes.{Outcome, settled, with_told}
+pub use Rattle.line_steps.specs.Steps.{memory_after}
 pub use Rattle.line_steps.specs.Memory.{found, Shared, node_at, nobody, performed, blank, word, Word, Fresh, Free, Head, Tail, Tail_lock, Head_lock, Next, Value_of, Content, content, put, Action, load, store, clear, exchange, Found, same}
 pub use Rattle.line_steps.specs.Lines.{action, outcome, gives_up, to_pocket, raised, goes, ends, effect, empties_hand, sets_aside, with_node, dequeues, freed, unlocked, busy_or, fills_hand}
 pub use Rattle.line_steps.specs.Calling.{is_call, begun, from_pocket}

@@ -1,6 +1,7 @@
 -- The machine: worlds, their moves, and what a list of moves leads to.
 use Rattle.std.specs.Prelude.{◌≡◌, ℕ, ◌+◌, ◌-◌, ◌^◌, ◌<◌, ◌≤◌, Bool, List, [], ◌∷◌, ◌++◌, length, map, replicate, Option, Some, None, slice_get, slice_index_or, slice_set, nat_eq, if◌then◌else◌, true, false}
-use Rattle.step_machine.specs.Below.{reserved_node, count_bits, actor_bits, null, Line, E2, A1, Op, Deq, Reply, Stamped, Setup, Actor, Outcome, nobody, Shared, found, performed, action, outcome, gives_up, to_pocket, is_call, begun, first_words, aside_after}
+use Rattle.step_machine.specs.Below.{reserved_node, count_bits, actor_bits, null, Line, E2, A1, Op, Deq, Stamped, Setup, Actor, Outcome, nobody, Shared, found, performed, action, outcome, gives_up, to_pocket, is_call, begun, first_words, aside_after}
+pub use Rattle.line_steps.specs.Outcomes.{last_of, latest_point, with_outcome}
 use Rattle.step_machine.specs.declared.actors.Move.{Move}
 use Rattle.step_machine.specs.declared.actors.Move.TheVariants.{Begin, Step, Give}
 
@@ -58,20 +59,6 @@ rested a = record (to_pocket a) { line = None }
 -- an operation with its first number
 abbrev pub new_operation : (me : ℕ) → Op → (now : ℕ) → Stamped
 new_operation me op now = record { actor = me; op = op; first = now; last = None; at = None; reply = None }
-
--- the last number of an operation that ends now, where it has a reply
-abbrev pub last_of : (now : ℕ) → Option Reply → Option ℕ
-last_of now None = None
-last_of now (Some reply) = Some now
-
--- what is settled now, and else what was settled before
-abbrev pub latest_point : Option ℕ → Option ℕ → Option ℕ
-latest_point None before = before
-latest_point (Some now) before = Some now
-
--- an operation that is told the outcome of a step
-abbrev pub with_outcome : (now : ℕ) → Outcome → Stamped → Stamped
-with_outcome now o s = record s { last = last_of now o.reply; at = latest_point o.at s.at; reply = o.reply }
 
 -- the operations after a step: a call's first step adds its operation, a later one changes it
 abbrev pub with_operation : Option ℕ → Stamped → (Stamped → Stamped) → List Stamped → List Stamped

@@ -1,9 +1,9 @@
 -- The room that a world keeps for nodes and operations, and its lists after an outcome was told.
-use Rattle.std.specs.Prelude.{◌≡◌, ℕ, ◌+◌, ◌-◌, ◌<◌, ◌≤◌, ◌⊎◌, List, length, Option, Some, None, slice_set, slice_get, nat_eq, if◌then◌else◌}
+use Rattle.std.specs.Prelude.{◌≡◌, ℕ, ◌+◌, ◌-◌, ◌<◌, ◌≤◌, ◌⊎◌, List, [], ◌∷◌, ◌++◌, length, Option, Some, None, slice_set, slice_get, nat_eq, if◌then◌else◌}
 use Rattle.std.specs.List.{sum_by}
-use Rattle.line_steps.specs.Rooms.{Memory, accessed}
-use Rattle.step_machine.specs.Below.{Line, N1, N2, N3, N4, N5, Op, Reply, Stamped, Setup, Actor, Told, Outcome, settled, Action, action, outcome, found, aside_after}
-use Rattle.step_machine.specs.Machine.{entry_or, idle, new_operation, with_outcome, with_operation}
+use Rattle.line_steps.specs.Rooms.{Memory}
+use Rattle.step_machine.specs.Below.{Line, N1, N2, N3, N4, N5, Op, Reply, Stamped, Setup, Actor, Outcome, action, outcome, found, memory_after}
+use Rattle.step_machine.specs.Machine.{entry_or, new_operation, with_outcome, with_operation}
 
 -- whether an actor at a line still looks for a node, as a number
 abbrev pub wants_node : Option Line → ℕ
@@ -35,7 +35,7 @@ HasNodes size fresh room actors = (room ≡ size) ⊎ (fresh + wanting_node acto
 -- a call's operation stands in the list already, or there is room for it
 abbrev pub HasEntry : Option ℕ → (len capacity : ℕ) → Type 0
 HasEntry None len capacity = len < capacity
-HasEntry (Some entry) len capacity = Unit {0}
+HasEntry (Some entry) len capacity = entry < len
 
 -- the actor of a number in a list of actors; none for 0 and above their number
 abbrev pub actor_in : List Actor → ℕ → Option Actor
@@ -49,9 +49,10 @@ entered entry len o = record o.actor { entry = Some (entry_or entry len) }
 abbrev pub actors_after : (me : ℕ) → (entry : Option ℕ) → (len : ℕ) → Outcome → List Actor → List Actor
 actors_after me entry len o actors = slice_set actors (me - 1) (entered entry len o)
 
--- an operation after its call was told this
-abbrev pub with_told : (now : ℕ) → Told → Stamped → Stamped
-with_told now t s = with_outcome now (settled idle t) s
+-- the operations once that of a call stands in their list: its first step adds it
+abbrev pub listed : (entry : Option ℕ) → Stamped → List Stamped → List Stamped
+listed None new ops = ops ++ new ∷ []
+listed (Some entry) new ops = ops
 
 -- the operations after the call of an actor was told an outcome
 abbrev pub operations_after : (me : ℕ) → Op → (entry : Option ℕ) → (now : ℕ) → Outcome → List Stamped → List Stamped
@@ -61,13 +62,9 @@ operations_after me op entry now o operations = with_operation entry (new_operat
 abbrev pub led : Setup → (now me : ℕ) → Actor → Line → Memory → Outcome
 led s now me a l m = outcome s now me a l (found (action s me a l) m.words)
 
--- a memory after the access of a line and what its outcome sets aside
-abbrev pub memory_after : Action → Outcome → Memory → Memory
-memory_after x o m = let n = accessed x m in record n { aside = aside_after n.aside o.aside }
-
 -- what a step at a line left: the memory, the operations, its actor and the reply
-pub record TookStep (s : Setup) (now me : ℕ) (l : Line) (old : Memory) (ops : List Stamped) (a : Actor) (new : Memory) (listed : List Stamped) (b : Actor) (r : Option Reply) : Type 0 where
+pub record TookStep (s : Setup) (now me : ℕ) (l : Line) (old : Memory) (ops : List Stamped) (a : Actor) (new : Memory) (told : List Stamped) (b : Actor) (r : Option Reply) : Type 0 where
   pub memory : new ≡ memory_after (action s me a l) (led s now me a l old) old
   pub actor : b ≡ entered a.entry (length ops) (led s now me a l old)
-  pub operations : listed ≡ operations_after me a.op a.entry now (led s now me a l old) ops
+  pub operations : told ≡ operations_after me a.op a.entry now (led s now me a l old) ops
   pub reply : r ≡ (led s now me a l old).reply

@@ -4,12 +4,12 @@ ghost use Rattle.line_steps.specs.Outcomes.{settled};
 ghost use Rattle.line_steps.specs.Ready.{IsCounted, RegistersFit};
 ghost use Rattle.line_steps.specs.Rooms.{aside_after};
 ghost use Rattle.step_machine.specs.Machine as machine;
-ghost use Rattle.step_machine.specs.Machine.{with_operation, new_operation, with_outcome, entry_or};
-ghost use Rattle.step_machine.specs.Views.{HasEntry, actor_in, actors_after, operations_after, with_told, TookStep};
+ghost use Rattle.step_machine.specs.Machine.{new_operation, entry_or};
+ghost use Rattle.step_machine.specs.Views.{HasEntry, actor_in, actors_after, listed, operations_after, TookStep};
 
 use counted_ref::CountedRef;
 use history::{Op, Reply, Stamped};
-use line_steps::{Actor, Memory, Setup, Told, nobody_value, stepped};
+use line_steps::{Actor, Memory, Setup, Told, nobody_value, put_down, stepped};
 use line_table::Line;
 use std::alloc::{AllocError, Global};
 
@@ -77,55 +77,33 @@ pub fn put_actor(actors: &mut Vec<Actor>, me: u16, actor: Actor)
     }
 }
 
-/// Tells an operation the outcome of a step.
+/// Where the operation of a call stands in the list, to which a call's first step adds it.
 #[inline(always)]
-fn record_outcome(now: u64, told: &Told, stamped: &mut Stamped)
-    ensures { stamped.new ≡ with_told now told.now stamped.old }
-{
-    if told.at.is_some() {
-        stamped.at = told.at;
-    }
-    // Most steps end no call: a whole reply is then not copied.
-    if told.reply.is_some() {
-        stamped.last = Some(now);
-        stamped.reply = told.reply;
-    } else {
-        stamped.last = None;
-        stamped.reply = None;
-    }
-}
-
-fn first_stamp(call: Call, now: u64) -> Stamped
-    ensures { result ≡ new_operation call.actor call.op now }
-{
-    Stamped {
-        actor: call.actor,
-        op: call.op,
-        first: now,
-        last: None,
-        at: None,
-        reply: None,
-    }
-}
-
-/// The operations after an outcome: a call's first step adds its operation, a later one changes it.
-#[inline(always)]
-fn put_operation(operations: &mut Vec<Stamped>, call: Call, now: u64, told: &Told)
+fn list_operation(operations: &mut Vec<Stamped>, call: Call, now: u64) -> usize
     requires { HasEntry call.entry (vec_len operations.old) (vec_capacity operations.old) }
+    ensures place { result ≡ entry_or call.entry (length operations.old.items) }
+    ensures there { result < length operations.new.items }
     ensures items { operations.new.items ≡
-        with_operation call.entry (new_operation call.actor call.op now) (with_told now told.now) operations.old.items }
+        listed call.entry (new_operation call.actor call.op now) operations.old.items }
     ensures room { vec_capacity operations.old ≤ vec_capacity operations.new }
 {
     match call.entry {
+        Some(place) => place,
         None => {
-            let mut new = first_stamp(call, now);
-            record_outcome(now, told, &mut new);
-            let _ = operations.push(new);
-        }
-        Some(place) => {
-            if let Some(stamped) = operations.get_mut(place) {
-                record_outcome(now, told, stamped);
-            }
+            let place = operations.len();
+            // The call and its reply are named here, since the checker finds the modules of their types by the names that a body
+            // writes.
+            let op: Op = call.op;
+            let reply: Option<Reply> = None;
+            let _ = operations.push(Stamped {
+                actor: call.actor,
+                op,
+                first: now,
+                last: None,
+                at: None,
+                reply,
+            });
+            place
         }
     }
 }
@@ -149,10 +127,13 @@ pub fn commit(
         operations_after call.actor call.op call.entry now (settled actor told) operations.old.items }
     ensures room { vec_capacity operations.old ≤ vec_capacity operations.new }
 {
-    let entry = Some(call.entry.unwrap_or(operations.len()));
     let me = call.actor;
-    put_operation(operations, call, now, &told);
-    memory.set_aside(told.aside);
+    let place = list_operation(operations, call, now);
+    let Some(operation) = operations.get_mut(place) else {
+        unreachable!()
+    };
+    let _ = put_down(memory, now, operation, told);
+    let entry = Some(place);
     put_actor(actors, me, Actor { entry, ..actor });
 }
 
@@ -180,9 +161,11 @@ pub fn take_step(
         op: a.op,
         entry: a.entry,
     };
-    let told = stepped(memory, setup, now, me, a, line);
-    a.entry = Some(call.entry.unwrap_or(operations.len()));
-    put_operation(operations, call, now, &told);
-    memory.set_aside(told.aside);
-    told.reply
+    let place = list_operation(operations, call, now);
+    let Some(operation) = operations.get_mut(place) else {
+        unreachable!()
+    };
+    let reply = stepped(memory, setup, now, me, a, operation, line);
+    a.entry = Some(place);
+    reply
 }

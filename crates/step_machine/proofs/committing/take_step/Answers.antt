@@ -1,13 +1,18 @@
--- A node that a step sets aside has room.
-use Rattle.std.proofs.Common.{◌≡◌, ◌-◌, ◌<◌, IfSome, sym, subst}
-use Rattle.step_machine.proofs.Growth.{settles}
-use Rattle.step_machine.proofs.Making.{aside_room}
+-- A step puts its outcome down where its actor and its operation stand.
+use Rattle.std.proofs.Common.{◌≡◌, ◌<◌, Some, length, get_or, slice_set, sym, subst}
+use Rattle.step_machine.specs.Views.{TookStep}
+use Rattle.step_machine.proofs.Stepping.{took}
 use Rattle.step_machine.proofs.committing.take_step.Goals as goal
 
-pub set_aside-requires : goal.set_aside-requires
-set_aside-requires c =
+pub returns-clause-took : goal.returns-clause-took
+returns-clause-took c =
     let a = c.args.a.now in
-    let told = c.stepped-told.result in
-    subst (λ m. IfSome told.aside (λ n. n - 1 < m.room)) (sym c.stepped-told.ensures.memory)
-    (aside_room c.args.setup _ a told.aside c.requires.ready
-    (subst (λ o. IfSome o.aside (λ n. n ≡ a.node)) (sym c.stepped-told.ensures.outcome) (settles c.args.setup c.args.now c.args.me a c.args.line _).leaves))
+    let step = c.stepped-reply in
+    let at = c.list_operation-place.ensures in
+    let place = c.list_operation-place.result in
+    subst (λ ops. TookStep c.args.setup c.args.now c.args.me c.args.line c.args.memory.now c.args.operations.now.items a step.new.memory (slice_set ops place step.new.operation) (record step.new.a { entry = Some place }) step.result)
+    (sym at.items)
+    (took c.args.setup c.args.now c.args.me c.args.line c.args.memory.now step.new.memory a step.new.a c.in-Some.operation.now step.new.operation c.args.operations.now.items place step.result
+    step.ensures.actor step.ensures.operation step.ensures.reply step.ensures.memory at.place
+    (subst (λ ops. place < length ops) at.items at.there)
+    (subst (λ ops. c.in-Some.operation.now ≡ get_or ops place c.in-Some.operation.now) at.items c.in-Some.ensures.value))

@@ -13,7 +13,7 @@ use Rattle.step_machine.proofs.world.World.give.Goals as goal
 pub commit-requires-clause-entry : goal.commit-requires-clause-entry
 commit-requires-clause-entry c =
     subst (λ n. HasEntry c.in-Some.a.now.entry n (vec_capacity c.self.inside.operations)) (sym c.self.inside.operations.ok.0)
-    (entry_room (world c.self.inside) _ c.args.actor c.in-Some.a.now c.in-Some-line.line c.in-Some.ensures.there c.in-Some-line.is c.self.invariant.entries)
+    (entry_room (world c.self.inside) _ c.args.actor c.in-Some.a.now c.in-Some-line.line c.self.invariant.made c.in-Some.ensures.there c.in-Some-line.is c.self.invariant.entries)
 
 -- what the call came to
 abbrev left : goal.After-self-1 → Outcome

@@ -21,7 +21,7 @@ pub take_step-reply-requires-clause-entry : goal.take_step-reply-requires-clause
 take_step-reply-requires-clause-entry c =
     subst (λ a. HasEntry a.entry (vec_len c.self.inside.operations) (vec_capacity c.self.inside.operations)) (sym (same_actor (world c.self.inside) c.args.actor _ _ c.in-Some.ensures.there c.in-Some-get_mut.ensures.value))
     (subst (λ n. HasEntry c.in-Some.a.now.entry n (vec_capacity c.self.inside.operations)) (sym c.self.inside.operations.ok.0)
-    (entry_room (world c.self.inside) _ c.args.actor c.in-Some.a.now c.in-Some-line.line c.in-Some.ensures.there c.in-Some-line.is c.self.invariant.entries))
+    (entry_room (world c.self.inside) _ c.args.actor c.in-Some.a.now c.in-Some-line.line c.self.invariant.made c.in-Some.ensures.there c.in-Some-line.is c.self.invariant.entries))
 
 -- what the step left, by the actor that its number names
 left : (c : goal.After-answer_at) → TookStep c.self.inside.setup (c.self.inside.steps + 1) c.args.actor c.in-Some-line.line c.self.inside.memory c.self.inside.operations.items c.in-Some.a.now c.take_step-reply.new.memory c.take_step-reply.new.operations.items c.take_step-reply.new.a c.take_step-reply.result
