@@ -10,13 +10,13 @@ use Rattle.history.specs.declared.refusals.Refusal.{Refusal}
 use Rattle.history.specs.declared.refusals.Refusal.TheVariants.{NoNode, WornOut}
 use Rattle.history.specs.declared.operations.Reply.{Reply}
 use Rattle.history.specs.declared.operations.Reply.TheVariants.{Refused}
-use Rattle.node_arena.specs.Machine.{Actor, Outcome as MachineOutcome, actor_of, entry_or, with_node, dequeues, goes, ends, worn, fills_hand, empties_hand, freed, sets_aside, HasCause, IsFree}
+use Rattle.node_arena.specs.Machine.{Actor, Outcome as MachineOutcome, actor_of, entry_or, with_node, dequeues, goes, ends, worn, fills_hand, empties_hand, freed, sets_aside, IsFree}
 use Rattle.node_arena.specs.Traces.{step_at, outcome_at}
 use Rattle.node_arena.specs.Prologues.{Prologue, continues, after_prologue}
 use Rattle.node_arena.specs.declared.arena.Arena.{Arena}
 use Rattle.node_arena.specs.declared.seats.Seat.{Seat}
 use Rattle.node_arena.specs.Seats.{IsSeat, DidStep, view}
-use Rattle.node_arena.proofs.Told.{was_in_range, actor_was_in_range, has_cause, first_is_free, names_next}
+use Rattle.node_arena.proofs.Told.{was_in_range, actor_was_in_range, first_is_free, names_next}
 use Rattle.node_arena.proofs.Tracing.{traced_reached}
 use Rattle.free_list.specs.declared.outcomes.Actor.{Actor as Running}
 use Rattle.free_list.specs.declared.outcomes.Outcome.{Outcome}
@@ -44,7 +44,7 @@ module _ (r : Arena) (s t : Seat) (prologue : Prologue) (a : Running) (n : ℕ) 
   pub record Ended (d : DidStep r s t prologue N2 n) (why : Refusal) : Type 0 where
     pub over : (view t).actor.line ≡ None
     pub empty : (view t).actor.pocket ≡ None
-    pub cause : HasCause d.told.was.world why
+    pub replies : (outcome_at r.plan.setup d.told.was (view s).number b N2).reply ≡ Some (Refused why)
     pub possible : IsRefusedBy why
 
   abbrev pub Second : DidStep r s t prologue N2 n → Outcome → Type 0
@@ -81,11 +81,11 @@ module _ (r : Arena) (s t : Seat) (prologue : Prologue) (a : Running) (n : ℕ) 
       go true false u x y w =
           let e = is true false u x y w in
           let o = settled_as N2 d (second_outcome (d.told.was.world.steps + 1) d.told.was.world.shared.free true false u) e in
-          record { over = ap (λ c. c.line) o.1; empty = ap (λ c. c.pocket) o.1 ∙ h.empty; cause = has_cause r.plan prologue N2 n (view s) (view t) d.told NoNode (ap (λ c. c.reply) e); possible = inl refl }
+          record { over = ap (λ c. c.line) o.1; empty = ap (λ c. c.pocket) o.1 ∙ h.empty; replies = ap (λ c. c.reply) e; possible = inl refl }
       go false q true x y w =
           let e = is false q true x y w in
           let o = settled_as N2 d (second_outcome (d.told.was.world.steps + 1) d.told.was.world.shared.free false q true) e in
-          record { over = ap (λ c. c.line) o.1; empty = ap (λ c. c.pocket) o.1 ∙ h.empty; cause = has_cause r.plan prologue N2 n (view s) (view t) d.told (WornOut OfFree) (ap (λ c. c.reply) e); possible = inr refl }
+          record { over = ap (λ c. c.line) o.1; empty = ap (λ c. c.pocket) o.1 ∙ h.empty; replies = ap (λ c. c.reply) e; possible = inr refl }
       go false q false x y w =
           let o = settled_as N2 d (second_outcome (d.told.was.world.steps + 1) d.told.was.world.shared.free false q false) (is false q false x y w) in
           let range = (was_in_range r.plan prologue N2 n (view s) (view t) d.told).shared in

@@ -6,16 +6,16 @@ use Rattle.line_table.specs.declared.lines.Line.TheVariants.{N1}
 use Rattle.history.specs.declared.operations.Op.TheVariants.{Enq}
 use Rattle.history.specs.declared.refusals.Refusal.{Refusal}
 use Rattle.history.specs.declared.refusals.Refusal.TheVariants.{Busy}
-use Rattle.node_arena.specs.Machine.{Held, Actor, HasCause, with_node, from_pocket, rested}
+use Rattle.node_arena.specs.Machine.{Held, Actor, with_node, from_pocket, rested}
 use Rattle.node_arena.specs.Traces.{Event}
 use Rattle.node_arena.specs.Prologues.{at_rest, out_of}
 use Rattle.node_arena.specs.declared.arena.Arena.{Arena}
 use Rattle.node_arena.specs.declared.seats.Seat.{Seat}
 use Rattle.node_arena.specs.Seats.{IsReady, view, keeping, pocket_of}
 use Rattle.node_arena.specs.Turns.{failed_turns}
-use Rattle.node_arena.specs.Paths.{ExtendsPath, Passes, added, LastHeld}
+use Rattle.node_arena.specs.Paths.{ExtendsPath, Passes, added, MetCause}
 use Rattle.free_list.specs.declared.outcomes.Turn.TheVariants.{Took, Failed, Refused}
-use Rattle.node_arena.proofs.Paths.{no_pass, pass_then, then_stored, added_is, last_held, ends_failed, ended_behind, failed_behind, failed-append, kept_seat, now_kept}
+use Rattle.node_arena.proofs.Paths.{no_pass, pass_then, then_stored, added_is, last_held, ends_failed, ended_behind, stopped_behind, failed_behind, failed-append, kept_seat, now_kept}
 use Rattle.free_list.specs.Takes.{IsRefusedBy, TakeRefused, Turns, Trying, AnswersTake}
 
 -- an actor that just got a node rests
@@ -106,14 +106,14 @@ module _ (r : Arena) (s t : Seat) (n : ℕ) (h : Trying r s t n) where
         lines = subst (ExtendsPath (view s) (view x)) (sym e) p.walks;
         seen = p.same;
         taken = tt;
-        refused = by_cause x turns why d.turned.possible (last_held r s (keeping x None n) es _ e (ended_behind r s t h.lines d.lines _ h.walks.walks d.turned.cause));
+        refused = by_cause x turns why d.turned.possible (last_held r s (keeping x None n) es _ e (stopped_behind r s t h.lines d.lines why h.walks.walks d.turned.cause));
         failed = sym (ap failed_turns e ∙ all);
         fewer = λ other. less;
       }
     where
-      by_cause : (x : Seat) (turns : ℕ) (why : Refusal) → IsRefusedBy why → LastHeld r s (keeping x None n) (λ w. HasCause w why) → TakeRefused r s (keeping x None n) turns why
-      by_cause x turns why (inl e) c = subst (TakeRefused r s (keeping x None n) turns) (sym e) (subst (λ y. LastHeld r s (keeping x None n) (λ w. HasCause w y)) e c)
-      by_cause x turns why (inr e) c = subst (TakeRefused r s (keeping x None n) turns) (sym e) (subst (λ y. LastHeld r s (keeping x None n) (λ w. HasCause w y)) e c)
+      by_cause : (x : Seat) (turns : ℕ) (why : Refusal) → IsRefusedBy why → MetCause r s (keeping x None n) why → TakeRefused r s (keeping x None n) turns why
+      by_cause x turns why (inl e) c = subst (TakeRefused r s (keeping x None n) turns) (sym e) (subst (MetCause r s (keeping x None n)) e c)
+      by_cause x turns why (inr e) c = subst (TakeRefused r s (keeping x None n) turns) (sym e) (subst (MetCause r s (keeping x None n)) e c)
 
 -- all turns failed
 pub gave_up : (r : Arena) (s t : Seat) (turns : ℕ) → 1 ≤ turns → Trying r s t turns → AnswersTake r s (keeping t None turns) turns (Err Busy)

@@ -14,7 +14,7 @@ use Rattle.node_arena.specs.declared.seats.Seat.{Seat}
 use Rattle.node_arena.specs.Seats.{KeepsStored, DidStep, view}
 use Rattle.node_arena.specs.Turns.{failed_at, failed_turns, at_n1}
 use Rattle.node_arena.specs.Paths.{ExtendsPath, Passes}
-use Rattle.node_arena.proofs.Paths.{pass_then, then_stored, failed_snoc, event, walk_on, pass_on, to_is, ended_at, failed_last, now_sole}
+use Rattle.node_arena.proofs.Paths.{pass_then, then_stored, failed_snoc, event, walk_on, pass_on, to_is, ended_at, stopped_at, failed_last, now_sole}
 use Rattle.free_list.specs.declared.outcomes.Actor.{Actor as Running}
 use Rattle.free_list.specs.declared.outcomes.Outcome.{Outcome}
 use Rattle.free_list.specs.declared.outcomes.Outcome.TheVariants.{Goes, Ends, Freed}
@@ -110,7 +110,7 @@ module _ (r : Arena) (s u t : Seat) (prologue : Prologue) (a a1 : Running) (l1 :
         stored = look_stored;
         lines = looks;
         walks = look_walk;
-        turned = record { seat = g.did.seat; over = o.over; empty = o.empty; never = refl; cause = ended_at r u t continues N2 g.found g.did s (one ∷ []) _ (walk_on r s u prologue N1 f.found f.did refl tt) o.cause; possible = o.possible };
+        turned = record { seat = g.did.seat; over = o.over; empty = o.empty; never = refl; cause = stopped_at r u t continues N2 g.found g.did s (one ∷ []) why (walk_on r s u prologue N1 f.found f.did refl tt) o.replies; possible = o.possible };
       }
 
   pub to_n5 : (k : Line) (b : Running) → out ≡ Goes k b → k ≡ N5 → CallIsAt r t continues N5 b

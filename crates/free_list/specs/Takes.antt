@@ -3,14 +3,14 @@ use Rattle.std.specs.Prelude.{◌≡◌, ℕ, ◌<◌, ◌≤◌, ◌⊎◌, Lis
 use Rattle.history.specs.declared.refusals.WornWord.TheVariants.{Free as OfFree}
 use Rattle.history.specs.declared.refusals.Refusal.{Refusal}
 use Rattle.history.specs.declared.refusals.Refusal.TheVariants.{NoNode, WornOut, Busy}
-use Rattle.node_arena.specs.Machine.{Held, World, IsFree, IsUntouched, HasCause, with_node}
+use Rattle.node_arena.specs.Machine.{Held, World, IsFree, IsUntouched, with_node}
 use Rattle.node_arena.specs.Traces.{Event}
 use Rattle.node_arena.specs.Prologues.{continues}
 use Rattle.node_arena.specs.declared.arena.Arena.{Arena}
 use Rattle.node_arena.specs.declared.seats.Seat.{Seat}
 use Rattle.node_arena.specs.Seats.{IsSeat, IsReady, KeepsStored, KeepsName, view, pocket_of, failed_of}
 use Rattle.node_arena.specs.Turns.{failed_turns}
-use Rattle.node_arena.specs.Paths.{Passes, HadNoEffect, SeesNoMore, added, EndedAt, FailedAt, LastHeld, NowHolds, MetCause, EndsFailed, IsSole}
+use Rattle.node_arena.specs.Paths.{Passes, HadNoEffect, SeesNoMore, added, EndedAt, FailedAt, LastHeld, NowHolds, IsRefusedAt, MetCause, EndsFailed, IsSole}
 use Rattle.free_list.specs.declared.outcomes.Turn.{Turn}
 use Rattle.free_list.specs.declared.outcomes.Turn.TheVariants.{Took, Failed, Refused}
 use Rattle.free_list.specs.Runs.{StartsTake, taking}
@@ -22,11 +22,11 @@ WasThere node w = IsFree w node ⊎ IsUntouched w node
 -- at its last step a take took a node that was free or never used, and now the node is this seat's alone, and in no
 -- chain
 pub record IsTaken (r : Arena) (s t : Seat) (node : ℕ) : Type 0 where
-  pub there : LastHeld r s t (WasThere node)
+  pub there : LastHeld r s t (λ was a l. WasThere node was.world)
   pub sole : NowHolds r t (λ w. IsSole w (view t).number node)
 
--- the cause of each refusal: all nodes used and none free, or Free's count at the limit, at the last step of the call;
--- or so many turns failed, the last one at the last step
+-- the cause of each refusal: all nodes used and none free, or Free's count at the limit, at the last step of the call,
+-- which was refused so; or so many turns failed, the last one at the last step
 abbrev pub TakeRefused : Arena → Seat → Seat → (turns : ℕ) → Refusal → Type 0
 TakeRefused r s t turns NoNode = MetCause r s t NoNode
 TakeRefused r s t turns (WornOut OfFree) = MetCause r s t (WornOut OfFree)
@@ -49,7 +49,7 @@ pub record Got (r : Arena) (s t : Seat) (es : List Event) (h : Held) : Type 0 wh
   pub node : (view t).actor.node ≡ h.node
   pub mark : (view t).actor.mark ≡ h.mark
   pub never : failed_turns es ≡ 0
-  pub there : EndedAt r s es (WasThere h.node)
+  pub there : EndedAt r s es (λ was a l. WasThere h.node was.world)
   pub sole : NowHolds r t (λ w. IsSole w (view t).number h.node)
 
 -- a turn that failed
@@ -64,7 +64,7 @@ pub record Refuses (r : Arena) (s t : Seat) (es : List Event) (why : Refusal) : 
   pub over : (view t).actor.line ≡ None
   pub empty : (view t).actor.pocket ≡ None
   pub never : failed_turns es ≡ 0
-  pub cause : EndedAt r s es (λ w. HasCause w why)
+  pub cause : EndedAt r s es (IsRefusedAt r.plan.setup (view s).number why)
   pub possible : IsRefusedBy why
 
 -- what a turn leads to

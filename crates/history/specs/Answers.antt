@@ -71,6 +71,15 @@ abbrev pub EndsPop : Refusal → Type 0
 EndsPop (WornOut word) = Unit {0}
 EndsPop _ = ⊥
 
+-- a call that waits ended by a try of its own, from what the seat then was to what it is now: it had seen no less than before
+-- the call, and the try, of so many turns, had this cause to be refused
+pub record EndsByTry {Q S : Type 0} (is_seat : Q → S → Type 0) (known : S → Known) (cause : Q → S → S → ℕ → Refusal → Type 0)
+    (queue : Q) (before after : S) (turns : ℕ) (why : Refusal) : Type 0 where
+  pub last : S
+  pub seat : is_seat queue last
+  pub more : SeesMore (known before) (known last)
+  pub caused : cause queue last after turns why
+
 -- two seats met: both have seen one history, which begins with what each had seen
 pub record Meets (one other one' other' : Known) : Type 0 where
   pub same : other'.seen ≡ one'.seen

@@ -1,5 +1,6 @@
 -- What is left of a queue that was closed.
-use Rattle.std.specs.Prelude.{◌≡◌, ℕ, Bool, List, [], ◌∷◌, Option, Some, None}
+use Rattle.std.specs.Prelude.{◌≡◌, ℕ, Bool, List, Option}
+use Rattle.std.specs.Iterator.{YieldsFirst}
 use Rattle.history.specs.declared.operations.Taken.{Taken}
 use Rattle.history.specs.declared.rests.Rest.{Rest}
 
@@ -15,7 +16,6 @@ taken_of r = r.taken
 abbrev pub whole_of : Rest → Bool
 whole_of r = r.whole
 
--- the front value was given, and the others are left; or none was left
-abbrev pub GivesFront : (left left' : List Taken) → Option Taken → Type 0
-GivesFront left left' None = (left ≡ []) × (left' ≡ [])
-GivesFront left left' (Some value) = left ≡ value ∷ left'
+-- the front value was given, and the others are left; or none was left; and all else is as before
+abbrev pub GivesNext : Rest → Option Taken → Rest → Type 0
+GivesNext r front r' = YieldsFirst left_of r front r' × (taken_of r' ≡ taken_of r) × (whole_of r' ≡ whole_of r)

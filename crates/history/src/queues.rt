@@ -1,8 +1,8 @@
 //! What every queue promises, whichever it is.
-ghost use Rattle.std.specs.Prelude.{◌≡◌, ◌≤◌, ◌↔◌, IsTrue, List, map, IfErr, IfOk, OnOk, OnErr};
+ghost use Rattle.std.specs.Prelude.{◌≡◌, ℕ, ◌≤◌, ◌↔◌, IsTrue, List, map, IfErr, IfOk, OnOk, OnErr};
 ghost use Rattle.std.specs.List.{All};
 ghost use Rattle.history.specs.Seats.{Known, Permit, IsSound, MayPush, MayPop};
-ghost use Rattle.history.specs.Answers.{Pushed, PopAnswers, SeesMore, Meets, StopsPush, StopsPop, EndsPush, EndsPop};
+ghost use Rattle.history.specs.Answers.{Pushed, PopAnswers, SeesMore, Meets, StopsPush, StopsPop, EndsPush, EndsPop, EndsByTry};
 ghost use Rattle.history.specs.Closing.{Closes};
 
 use crate::operations::{Body, Taken};
@@ -20,6 +20,8 @@ const TURNS: u32 = 8;
 /// A seat belongs to the queue that gave it. There is one history of pushes and pops in the order in which they had their
 /// effect. Each seat has seen a beginning of it, and each call tells its seat more.
 pub trait Fifo {
+    ghost use Rattle.history.specs.declared.refusals.Refusal.{Refusal};
+
     /// What a thread holds in order to call the queue.
     type Seat: Send + Drop;
 
@@ -31,6 +33,12 @@ pub trait Fifo {
 
     // What a seat knows.
     ghost known: { Self.Seat → Known };
+
+    // What tells, of a push of so many turns and its seat before and after, that it had cause for its refusal.
+    ghost push_cause: { Self → Self.Seat → Self.Seat → ℕ → Refusal → Type 0 };
+
+    // The same of a pop.
+    ghost pop_cause: { Self → Self.Seat → Self.Seat → ℕ → Refusal → Type 0 };
 
     /// Pushes a body at the back, in so many turns at most, 1 or more. The seat may push.
     ///
@@ -44,7 +52,8 @@ pub trait Fifo {
         ensures number { (known seat.new).number ≡ (known seat.old).number }
         ensures pushed { OnOk result (Pushed (known seat.old) body (known seat.new)) }
         ensures refused { OnErr result (SeesMore (known seat.old) (known seat.new)) }
-        ensures why { IfErr result StopsPush };
+        ensures why { IfErr result StopsPush }
+        ensures caused { IfErr result (push_cause self.now seat.old seat.new turns) };
 
     /// Takes the value at the front, in so many turns at most, 1 or more; none where the queue was empty. The seat may
     /// pop.
@@ -58,7 +67,8 @@ pub trait Fifo {
         ensures number { (known seat.new).number ≡ (known seat.old).number }
         ensures answer { IfOk result (λ taken. PopAnswers (known seat.old) taken (known seat.new)) }
         ensures refused { OnErr result (SeesMore (known seat.old) (known seat.new)) }
-        ensures why { IfErr result StopsPop };
+        ensures why { IfErr result StopsPop }
+        ensures caused { IfErr result (pop_cause self.now seat.old seat.new turns) };
 
     /// Afterwards both seats have seen one history, which begins with what each had seen. Takes no memory and doesn't
     /// wait.
@@ -91,7 +101,7 @@ pub trait Fifo {
     // What a seat of the queue knows is sound.
     ghost sound: { (queue : Self) (seat : Self.Seat) → is_seat queue seat → IsSound (permits queue) (known seat) };
 
-    /// Pushes a body at the back, and tries again while others are in the way. The seat may push.
+    /// Pushes a body at the back, by tries of 8 turns each, and tries again while others are in the way. The seat may push.
     ///
     /// Refusals: `NoNode` and `WornOut`; the queue is then as if the call had not been. Takes no memory, and waits.
     final fn push<R: Wait>(&self, rt: &R, seat: &mut Self::Seat, body: Body) -> Result<(), Refusal>
@@ -102,6 +112,7 @@ pub trait Fifo {
         ensures pushed { OnOk result (Pushed (known seat.old) body (known seat.new)) }
         ensures refused { OnErr result (SeesMore (known seat.old) (known seat.new)) }
         ensures why { IfErr result EndsPush }
+        ensures caused { IfErr result (EndsByTry is_seat known push_cause self.now seat.old seat.new 8) }
     {
         let backoff = Backoff::new();
         for _ in rt.forever() {
@@ -114,8 +125,8 @@ pub trait Fifo {
         unreachable!()
     }
 
-    /// Takes the value at the front, and tries again while others are in the way; none where the queue was empty. The seat
-    /// may pop.
+    /// Takes the value at the front, by tries of 8 turns each, and tries again while others are in the way; none where the
+    /// queue was empty. The seat may pop.
     ///
     /// Refused by `WornOut` alone; the queue is then as if the call had not been. Takes no memory, and waits.
     final fn pop<R: Wait>(&self, rt: &R, seat: &mut Self::Seat) -> Result<Option<Taken>, Refusal>
@@ -126,6 +137,7 @@ pub trait Fifo {
         ensures answer { IfOk result (λ taken. PopAnswers (known seat.old) taken (known seat.new)) }
         ensures refused { OnErr result (SeesMore (known seat.old) (known seat.new)) }
         ensures why { IfErr result EndsPop }
+        ensures caused { IfErr result (EndsByTry is_seat known pop_cause self.now seat.old seat.new 8) }
     {
         let backoff = Backoff::new();
         for _ in rt.forever() {

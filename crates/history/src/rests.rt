@@ -1,11 +1,11 @@
 //! What is left of a queue that was closed.
 ghost use Rattle.std.specs.Prelude.{◌≡◌};
-ghost use Rattle.history.specs.Rests.{left_of, taken_of, whole_of, GivesFront};
+ghost use Rattle.history.specs.Rests.{left_of, taken_of, whole_of};
 
 use crate::operations::Taken;
 use std::vec::IntoIter;
 
-/// The values left in a queue that was closed, and what was done with it before.
+/// The values left in a queue that was closed, from the front, as an iterator; and what was done with the queue before.
 #[derive(Drop)]
 pub struct Rest {
     left: IntoIter<Taken>,
@@ -28,15 +28,6 @@ impl Rest {
         }
     }
 
-    /// The next value left, from the front; none where all were given. Takes no memory.
-    pub fn next(&mut self) -> Option<Taken>
-        ensures front { GivesFront (left_of self.old) (left_of self.new) result }
-        ensures taken { taken_of self.new ≡ taken_of self.old }
-        ensures whole { whole_of self.new ≡ whole_of self.old }
-    {
-        self.left.next()
-    }
-
     /// How many values were taken. Takes no memory.
     pub fn taken(&self) -> u64
         ensures { result ≡ taken_of self.now }
@@ -49,5 +40,21 @@ impl Rest {
         ensures { result ≡ whole_of self.now }
     {
         self.whole
+    }
+}
+
+/// The values left, from the front. Takes no memory.
+impl Iterator for Rest {
+    ghost use Rattle.std.specs.Iterator.{item_count};
+    ghost use Rattle.history.specs.Rests.{GivesNext};
+
+    type Item = Taken;
+
+    ghost next_gives = { GivesNext };
+
+    ghost remaining = { item_count left_of };
+
+    fn next(&mut self) -> Option<Taken> {
+        self.left.next()
     }
 }

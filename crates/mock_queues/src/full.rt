@@ -27,6 +27,7 @@ impl FullQueue {
 
 impl Fifo for FullQueue {
     ghost use Rattle.std.specs.Prelude.{◌≡◌, map};
+    ghost use Rattle.history.specs.declared.refusals.Refusal.TheVariants.{NoNode, Busy};
     ghost use Rattle.history.specs.Closing.{Closes};
     ghost use Rattle.mock_queues.specs.Full.{IsFullSeat, one_permit, knows_empties, empties_are_sound};
 
@@ -37,6 +38,10 @@ impl Fifo for FullQueue {
     ghost permits = { λ _. one_permit };
 
     ghost known = { knows_empties };
+
+    ghost push_cause = { λ _ _ _ _ why. why ≡ NoNode };
+
+    ghost pop_cause = { λ _ _ _ _ why. why ≡ Busy };
 
     ghost sound = { λ _ seat _. empties_are_sound seat };
 

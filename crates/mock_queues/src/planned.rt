@@ -49,6 +49,10 @@ impl<Q: Fifo + Drop, P: Plan + Drop> Fifo for Planned<Q, P> {
 
     ghost known = { λ s. Q.known s };
 
+    ghost push_cause = { λ _ _ _ _ _. Unit {0} };
+
+    ghost pop_cause = { λ _ _ _ _ _. Unit {0} };
+
     ghost sound = { λ q s h. Q.sound (queue_of q) s h };
 
     fn try_push(&self, seat: &mut Q::Seat, body: Body, turns: u32) -> Result<(), Refusal> {

@@ -44,7 +44,7 @@ unfolding last_of
 last_of-snoc d [] e = refl
 last_of-snoc d (x ∷ es) e = last_of-snoc x es e
 
-same_last : (es fs : List Event) (e f : Event) → es ++ e ∷ [] ≡ fs ++ f ∷ [] → e ≡ f
+pub same_last : (es fs : List Event) (e f : Event) → es ++ e ∷ [] ≡ fs ++ f ∷ [] → e ≡ f
 same_last es fs e f h = sym (last_of-snoc e es e) ∙ ap (last_of e) h ∙ last_of-snoc e fs f
 
 -- an actor has the same registers `head` and `next`

@@ -1,5 +1,5 @@
 -- A token that gathers those of seats that are closed. No move of the world is made.
-use Rattle.std.proofs.Common.{◌≡◌, ◌≢◌, ℕ, ◌<◌, List, [], ◌∷◌, ◌++◌, length, map, set, sym, refl, ap, ◌∙◌, subst, ⊎_elim}
+use Rattle.std.proofs.Common.{◌≡◌, ◌≢◌, ℕ, ◌<◌, List, [], ◌∷◌, ◌++◌, length, map, set, slice_index, sym, refl, ap, ◌∙◌, subst, ⊎_elim}
 use mathlib.Core.Option.{some}
 use mathlib.Core.List.{map-append}
 use lib.ListN.{get_elem?}
@@ -13,6 +13,7 @@ use Rattle.node_arena.specs.Traces.{changed}
 use Rattle.node_arena.specs.Seeing.{SeatView, View, keeper, gathered, seated, spent, members, both_of}
 use Rattle.node_arena.specs.Plans.{Layout}
 use Rattle.node_arena.specs.Rule.{Fits, Holds, Opens}
+use Rattle.node_arena.specs.Moments.{WasWord}
 use Rattle.node_arena.specs.Seats.{view}
 use Rattle.node_arena.specs.Closing.{HasToken, HasGathered}
 use Rattle.node_arena.proofs.Tracing.{changed_here, changed_else}
@@ -50,8 +51,8 @@ gathers z id other vs w s h at_id ne at_other =
     (at_set (set s.views id all) other j spent (keeper m) a))
 
 -- a new token gathers
-pub enters : (key : Layout) (slots : ℕ) → Enters {S = ℕ} (Holds key) slots 0 (λ n w. Opens (w, []))
-enters key slots s h none fit = (
+pub enters : (key : Layout) (slots word : ℕ) → Enters {S = ℕ} (Holds key) slots word (λ n w. Opens (w, []))
+enters key slots word s h none fit = (
   gathered [],
   views_now key s h s.words (s.views ++ gathered [] ∷ []) h.owner refl
       (λ j i u o a b. ⊎_elim
@@ -64,6 +65,12 @@ enters key slots s h none fit = (
       (at_end s.views (gathered []) (keeper n) j a)),
   refl,
 )
+
+-- a new token for a look at a word, which then is one of a world
+pub peeks : (key : Layout) (slots word : ℕ) → Enters {S = ℕ} (Holds key) slots word (λ n w. WasWord key word n)
+peeks key slots word s h none fit =
+    let new = enters key slots word s h none fit in
+    (new.0, new.1, record { was = h.trace; reached = h.reached; setup = h.setup; peopled = h.actors; held = ap (λ ws. slice_index ws word) h.words })
 
 -- the same at the names of a call
 pub gathers_at : (key : Layout) (id other : ℕ) (vs : List SeatView) (me him : Me ℕ View) (w : SeatView) → me ≡ (gathered vs, []) → him ≡ (seated w, []) → Joins {S = ℕ} (Holds key) id me.0 other him.0 (both_of me.0 him.0) spent

@@ -19,6 +19,7 @@ pub mod Lefts
 pub mod Ends
 pub mod Noted
 pub mod Between
+pub mod Causes
 pub mod Permits
 pub mod Openings
 pub mod Values

@@ -1,9 +1,11 @@
 -- The lines of a call, one after another: what they add to a seat's path, and what its last step tells.
-use Rattle.std.proofs.Common.{◌≡◌, ℕ, ◌+◌, ◌≤◌, true, false, Option, List, [], ◌∷◌, ◌++◌, length, drop, sym, refl, ap, ◌∙◌, subst, append-nil, append_assoc, arith}
+use Rattle.std.proofs.Common.{◌≡◌, ℕ, ◌+◌, ◌≤◌, true, false, Option, List, [], ◌∷◌, ◌++◌, length, drop, sym, refl, ap, ◌∙◌, subst, append-nil, append_assoc, arith, Some}
 use Rattle.std.proofs.lemmas.List.Sums.{sum_by-append}
 use Rattle.std.proofs.Math.Seq.{drop-append_seam}
 use Rattle.line_table.specs.declared.lines.Line.{Line}
 use Rattle.history.specs.declared.operations.Entry.{Entry}
+use Rattle.history.specs.declared.operations.Reply.TheVariants.{Refused}
+use Rattle.history.specs.declared.refusals.Refusal.{Refusal}
 use Rattle.history.specs.Answers.{SeesMore}
 use Rattle.history.proofs.Learning.{adds_then}
 use Rattle.node_arena.specs.Machine.{Held, Actor, World, actor_of, action, found}
@@ -15,9 +17,9 @@ use Rattle.node_arena.specs.declared.seats.Seat.{Seat}
 use Rattle.node_arena.specs.Rule.{notes_of}
 use Rattle.node_arena.specs.Seats.{IsSeat, KeepsStored, DidStep, view, keeping}
 use Rattle.node_arena.specs.Turns.{failed_at, failed_turns}
-use Rattle.node_arena.specs.Paths.{ExtendsPath, Passes, Acts, added, EndedAt, FailedAt, EndsFailed, LastHeld, NowHolds, IsSole}
-use Rattle.node_arena.proofs.Tracing.{traced_reached}
-use Rattle.node_arena.proofs.Told.{sole}
+use Rattle.node_arena.specs.Paths.{ExtendsPath, Passes, Acts, added, EndedAt, FailedAt, EndsFailed, IsRefusedAt, LastHeld, MetCause, NowHolds, IsSole}
+use Rattle.node_arena.proofs.Tracing.{step_count, traced_reached}
+use Rattle.node_arena.proofs.Told.{has_own_cause, sole}
 use Rattle.node_arena.proofs.Noting.{AnswersNoEmpty, notes_nothing}
 
 -- no line
@@ -81,26 +83,40 @@ pub added_is : (s t : Seat) (es : List Event) → ExtendsPath (view s) (view t) 
 added_is s t es w = added_path s t es w.path
 
 -- what held before the last of some lines held at a call's last step
-pub last_held : (r : Arena) (s t : Seat) (es : List Event) (P : World → Type 0) → added s t ≡ es → EndedAt r s es P → LastHeld r s t P
-last_held r s t es P e h = record { was = h.was; reached = h.reached; setup = h.setup; before = h.before; last = h.last; path = e ∙ h.path; within = h.within; held = h.held }
+pub last_held : (r : Arena) (s t : Seat) (es : List Event) (P : Traced → Actor → Line → Type 0) → added s t ≡ es → EndedAt r s es P → LastHeld r s t P
+last_held r s t es P e h = subst (λ fs. EndedAt r s fs P) (sym e) h
 
 -- and so where that line was a failed turn
 pub ends_failed : (s t : Seat) (es : List Event) → added s t ≡ es → FailedAt es → EndsFailed s t
-ends_failed s t es e h = record { before = h.before; last = h.last; path = e ∙ h.path; failed = h.failed }
+ends_failed s t es e h = subst FailedAt (sym e) h
 
 -- lines behind others
-pub ended_behind : (r : Arena) (s t : Seat) (es fs : List Event) (P : World → Type 0) → ExtendsPath (view s) (view t) es → EndedAt r t fs P → EndedAt r s (es ++ fs) P
+pub ended_behind : (r : Arena) (s t : Seat) (es fs : List Event) (P : Traced → Actor → Line → Type 0) → ExtendsPath (view s) (view t) es → EndedAt r t fs P → EndedAt r s (es ++ fs) P
 ended_behind r s t es fs P w h =
     record {
       was = h.was;
       reached = h.reached;
       setup = h.setup;
+      peopled = h.peopled;
       before = es ++ h.before;
-      last = h.last;
-      path = ap (λ x. es ++ x) h.path ∙ sym (append_assoc es h.before (h.last ∷ []));
+      actor = h.actor;
+      line = h.line;
+      stands = ap (actor_of h.was.world) (sym w.number) ∙ h.stands;
+      at = h.at;
+      path =
+          ap (λ x. es ++ x) h.path ∙ sym (append_assoc es h.before (event_at r.plan.setup h.was (view t).number h.actor h.line ∷ []))
+          ∙ ap (λ me. (es ++ h.before) ++ event_at r.plan.setup h.was me h.actor h.line ∷ []) w.number;
       within = ap h.was.paths (sym w.number) ∙ h.within ∙ ap (λ p. p ++ h.before) w.path ∙ append_assoc (view s).path es h.before;
       held = h.held;
     }
+
+pub stopped_behind : (r : Arena) (s t : Seat) (es fs : List Event) (why : Refusal) → ExtendsPath (view s) (view t) es → EndedAt r t fs (IsRefusedAt r.plan.setup (view t).number why) → EndedAt r s (es ++ fs) (IsRefusedAt r.plan.setup (view s).number why)
+stopped_behind r s t es fs why w h =
+    ended_behind r s t es fs (IsRefusedAt r.plan.setup (view s).number why) w (subst (λ me. EndedAt r t fs (IsRefusedAt r.plan.setup me why)) w.number h)
+
+-- a cause that a call met behind other lines
+pub met_behind : (r : Arena) (s t u : Seat) (es : List Event) (why : Refusal) → ExtendsPath (view s) (view t) es → added s u ≡ es ++ added t u → MetCause r t u why → MetCause r s u why
+met_behind r s t u es why w e h = last_held r s u (es ++ added t u) (IsRefusedAt r.plan.setup (view s).number why) e (stopped_behind r s t es (added t u) why w h)
 
 pub failed_behind : (es fs : List Event) → FailedAt fs → FailedAt (es ++ fs)
 failed_behind es fs h = record { before = es ++ h.before; last = h.last; path = ap (λ x. es ++ x) h.path ∙ sym (append_assoc es h.before (h.last ∷ [])); failed = h.failed }
@@ -113,7 +129,7 @@ pub kept_seat : (r : Arena) (t : Seat) (p : Option Held) (n : ℕ) → IsSeat r 
 kept_seat r t p n h = record { arena = h.arena; sits = record { table = h.sits.table; seat = h.sits.seat; number = h.sits.number; role = h.sits.role; pushes = h.sits.pushes; pops = h.sits.pops; fitted = h.sits.fitted } }
 
 pub now_kept : (r : Arena) (t : Seat) (p : Option Held) (n : ℕ) (P : World → Type 0) → NowHolds r t P → NowHolds r (keeping t p n) P
-now_kept r t p n P h = record { now = h.now; reached = h.reached; setup = h.setup; actor = h.actor; path = h.path; holds = h.holds }
+now_kept r t p n P h = record { now = h.now; reached = h.reached; setup = h.setup; peopled = h.peopled; actor = h.actor; path = h.path; holds = h.holds }
 
 -- one line more on a path
 pub failed_snoc : (es : List Event) (e : Event) → failed_turns (es ++ e ∷ []) ≡ failed_turns es + failed_at e.line e.to
@@ -169,18 +185,28 @@ module _ (r : Arena) (s t : Seat) (prologue : Prologue) (l : Line) (n : ℕ) (d 
   to_is = sym (ap (λ a. a.line) d.told.actor)
 
   -- what held of the world before the step
-  pub ended_at : (o : Seat) (before : List Event) (P : World → Type 0) → ExtendsPath (view o) (view s) before → P d.told.was.world → EndedAt r o (before ++ event ∷ []) P
+  pub ended_at : (o : Seat) (before : List Event) (P : Traced → Actor → Line → Type 0) → ExtendsPath (view o) (view s) before → P d.told.was b l → EndedAt r o (before ++ event ∷ []) P
   ended_at o before P w p =
       record {
         was = d.told.was;
         reached = d.told.reached;
         setup = d.told.setup;
+        peopled = d.told.peopled;
         before = before;
-        last = event;
-        path = refl;
+        actor = b;
+        line = l;
+        stands = ap (actor_of d.told.was.world) (sym w.number) ∙ d.told.before;
+        at = d.told.line;
+        path = ap (λ me. before ++ event_at r.plan.setup d.told.was me b l ∷ []) w.number;
         within = ap d.told.was.paths (sym w.number) ∙ d.told.path_before ∙ w.path;
         held = p;
       }
+
+  -- it was refused
+  pub stopped_at : (o : Seat) (before : List Event) (why : Refusal) → ExtendsPath (view o) (view s) before → (outcome_at r.plan.setup d.told.was (view s).number b l).reply ≡ Some (Refused why) → EndedAt r o (before ++ event ∷ []) (IsRefusedAt r.plan.setup (view o).number why)
+  stopped_at o before why w e =
+      ended_at o before (IsRefusedAt r.plan.setup (view o).number why) w
+      (subst (λ me. IsRefusedAt r.plan.setup me why d.told.was b l) w.number (e, has_own_cause r.plan prologue l n (view s) (view t) d.told why e))
 
   pub failed_last : (before : List Event) → failed_at l (view t).actor.line ≡ 1 → FailedAt (before ++ event ∷ [])
   failed_last before e = record { before = before; last = event; path = refl; failed = ap (failed_at l) to_is ∙ e }
@@ -192,6 +218,7 @@ module _ (r : Arena) (s t : Seat) (prologue : Prologue) (l : Line) (n : ℕ) (d 
         now = after;
         reached = d.told.reaches;
         setup = d.told.setup;
+        peopled = step_count d.told.was (view s).number b l ∙ d.told.peopled;
         actor = ap (λ k. actor_of after.world k) d.told.number ∙ d.told.after;
         path = ap after.paths d.told.number ∙ d.told.path_after;
         holds = p;

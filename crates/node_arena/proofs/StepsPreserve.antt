@@ -216,6 +216,7 @@ module _ (z : Layout) (s : State ℕ View) (h : Holds z s) (id : ℕ) (v : SeatV
     was = u;
     reached = led_there.1;
     setup = setup;
+    peopled = f.count ∙ h.actors;
     before = f.here;
     line = line;
     path_before = path_before;

@@ -11,3 +11,4 @@ pub mod Closing
 pub mod Turns
 pub mod Paths
 pub mod Moments
+pub mod Causes

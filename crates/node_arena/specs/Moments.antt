@@ -1,5 +1,5 @@
 -- What the rule of the table says of one moment, in words of the machine.
-use Rattle.std.specs.Prelude.{◌≡◌, ℕ, List, length, Some}
+use Rattle.std.specs.Prelude.{◌≡◌, ℕ, List, length, slice_index, Some}
 use mathlib.Core.Option.{some}
 use lib.ListN.{get_elem?}
 use Rattle.atomic_table.specs.Table.{State}
@@ -7,6 +7,7 @@ use Rattle.history.specs.History.{Placement, IsLegal}
 use Rattle.history.specs.Linearizability.{IsLinearizable}
 use Rattle.step_machine.specs.Words.{memory_words}
 use Rattle.step_machine.specs.Machine.{World, AnyMove, run, opening, actor_of, IsSized}
+use Rattle.node_arena.specs.Traces.{Traced, IsTraced}
 use Rattle.node_arena.specs.Seeing.{SeatView, View, members}
 use Rattle.node_arena.specs.Plans.{Layout}
 use Rattle.node_arena.specs.Rule.{Holds}
@@ -25,6 +26,14 @@ pub record IsLinearizableMoment (z : Layout) (s : State ℕ View) : Type 0 where
   pub placed : Placement world.operations
   pub legal : IsLegal world.operations
   pub linearizable : IsLinearizable world.operations
+
+-- a word of the table held this number at some moment: in a traced world of the arena, which moves lead to
+pub record WasWord (z : Layout) (word n : ℕ) : Type 0 where
+  pub was : Traced
+  pub reached : IsTraced was
+  pub setup : was.world.setup ≡ z.setup
+  pub peopled : length was.world.actors ≡ length z.roles
+  pub held : n ≡ slice_index (memory_words was.world.shared) word
 
 -- whatever the rule holds of is such a moment
 abbrev pub EachMomentIsLinearizable : Type 0

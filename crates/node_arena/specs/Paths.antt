@@ -1,17 +1,21 @@
 -- What a call adds to what its seat knows.
 use Rattle.std.specs.Prelude.{◌≡◌, ℕ, List, [], ◌∷◌, ◌++◌, length, drop, Some, IsSomeAnd}
+use Rattle.line_table.specs.declared.lines.Line.{Line}
 use Rattle.history.specs.declared.operations.Entry.{Entry}
+use Rattle.history.specs.declared.operations.Reply.TheVariants.{Refused}
 use Rattle.history.specs.declared.refusals.Refusal.{Refusal}
 use Rattle.history.specs.declared.refusals.Refusal.TheVariants.{WornOut}
 use Rattle.history.specs.declared.refusals.WornWord.TheVariants.{Next as OfNext}
 use Rattle.history.specs.Answers.{Adds}
+use Rattle.line_steps.specs.declared.actors.Setup.{Setup}
+use Rattle.line_steps.specs.declared.actors.Actor.{Actor}
 use Rattle.line_steps.specs.Memory.{node_at}
 use Rattle.step_machine.specs.Machine.{World, actor_of}
 use Rattle.step_machine.specs.Places.{IsQueued, IsFree, held, in_hand}
 use Rattle.step_machine.specs.EachQueue.{HasCause}
 use Rattle.node_arena.specs.declared.arena.Arena.{Arena}
 use Rattle.node_arena.specs.declared.seats.Seat.{Seat}
-use Rattle.node_arena.specs.Traces.{Event, Traced, IsTraced}
+use Rattle.node_arena.specs.Traces.{Event, Traced, IsTraced, event_at, outcome_at}
 use Rattle.node_arena.specs.Seeing.{SeatView, known_by}
 use Rattle.node_arena.specs.Seats.{view}
 use Rattle.node_arena.specs.Turns.{failed_at}
@@ -58,11 +62,8 @@ pub record FailedAt (es : List Event) : Type 0 where
   pub failed : failed_at last.line last.to ≡ 1
 
 -- a call's last step was a failed turn
-pub record EndsFailed (s t : Seat) : Type 0 where
-  pub before : List Event
-  pub last : Event
-  pub path : added s t ≡ before ++ last ∷ []
-  pub failed : failed_at last.line last.to ≡ 1
+abbrev pub EndsFailed : Seat → Seat → Type 0
+EndsFailed s t = FailedAt (added s t)
 
 -- a node is in this seat's hand, held by nobody else, and neither in the queue nor free
 pub record IsSole (w : World) (me node : ℕ) : Type 0 where
@@ -71,43 +72,46 @@ pub record IsSole (w : World) (me node : ℕ) : Type 0 where
   pub not_queued : ¬ IsQueued w node
   pub not_free : ¬ IsFree w node
 
--- the moment after a call's last step: a traced world, which moves lead to, in which the seat's actor and path are as
--- the seat knows them, and of which this holds
+-- the moment after a call's last step: a traced world of the arena, which moves lead to, in which the seat's actor and path
+-- are as the seat knows them, and of which this holds
 pub record NowHolds (r : Arena) (t : Seat) (P : World → Type 0) : Type 0 where
   pub now : Traced
   pub reached : IsTraced now
   pub setup : now.world.setup ≡ r.plan.setup
+  pub peopled : length now.world.actors ≡ length r.plan.roles
   pub actor : actor_of now.world (view t).number ≡ Some (view t).actor
   pub path : now.paths (view t).number ≡ (view t).path
   pub holds : P now.world
 
--- the end of some lines: what held before the last of them, of a world with the path so far
-pub record EndedAt (r : Arena) (s : Seat) (es : List Event) (P : World → Type 0) : Type 0 where
+-- the last of some lines was a step of the seat's actor: in a traced world of the arena, which moves lead to, with the path
+-- so far; the line tells what that step made of that world, and this held of the world, the actor and the line
+pub record EndedAt (r : Arena) (s : Seat) (es : List Event) (P : Traced → Actor → Line → Type 0) : Type 0 where
   pub was : Traced
   pub reached : IsTraced was
   pub setup : was.world.setup ≡ r.plan.setup
+  pub peopled : length was.world.actors ≡ length r.plan.roles
   pub before : List Event
-  pub last : Event
-  pub path : es ≡ before ++ last ∷ []
+  pub actor : Actor
+  pub line : Line
+  pub stands : actor_of was.world (view s).number ≡ Some actor
+  pub at : actor.line ≡ Some line
+  pub path : es ≡ before ++ event_at r.plan.setup was (view s).number actor line ∷ []
   pub within : was.paths (view s).number ≡ (view s).path ++ before
-  pub held : P was.world
+  pub held : P was actor line
 
--- at a call's last step this held before it: of a traced world, which moves lead to, with the path of the call so far
-pub record LastHeld (r : Arena) (s t : Seat) (P : World → Type 0) : Type 0 where
-  pub was : Traced
-  pub reached : IsTraced was
-  pub setup : was.world.setup ≡ r.plan.setup
-  pub before : List Event
-  pub last : Event
-  pub path : added s t ≡ before ++ last ∷ []
-  pub within : was.paths (view s).number ≡ (view s).path ++ before
-  pub held : P was.world
+-- at a call's last step this held before it
+abbrev pub LastHeld : Arena → Seat → Seat → (Traced → Actor → Line → Type 0) → Type 0
+LastHeld r s t P = EndedAt r s (added s t) P
 
 -- a world has the cause for an actor's step to refuse; where a `next` is worn out, it is that of the actor's own node
 abbrev pub HasOwnCause : World → (me : ℕ) → Refusal → Type 0
 HasOwnCause w me (WornOut OfNext) = IsSomeAnd (actor_of w me) (λ a. (node_at w.shared a.node).next.count ≡ w.setup.limit)
 HasOwnCause w me why = HasCause w why
 
--- a call's last step met a refusal's cause
+-- an actor's step at a line is refused so: its reply says that, and the world before it has the cause
+abbrev pub IsRefusedAt : Setup → (me : ℕ) → Refusal → Traced → Actor → Line → Type 0
+IsRefusedAt z me why t a l = ((outcome_at z t me a l).reply ≡ Some (Refused why)) × HasOwnCause t.world me why
+
+-- a call's last step was refused so, and met the cause
 abbrev pub MetCause : Arena → Seat → Seat → Refusal → Type 0
-MetCause r s t why = LastHeld r s t (λ w. HasOwnCause w (view s).number why)
+MetCause r s t why = LastHeld r s t (IsRefusedAt r.plan.setup (view s).number why)

@@ -67,6 +67,7 @@ pub record Steps (z : Layout) (prologue : Prologue) (l : Line) (n : ℕ) (v v' :
   pub was : Traced
   pub reached : IsTraced was
   pub setup : was.world.setup ≡ z.setup
+  pub peopled : length was.world.actors ≡ length z.roles
   pub before : actor_of was.world v.number ≡ Some (after_prologue z.setup v.number prologue v.actor)
   pub line : (after_prologue z.setup v.number prologue v.actor).line ≡ Some l
   pub path_before : was.paths v.number ≡ v.path

@@ -4,6 +4,7 @@ ghost use Rattle.step_machine.specs.Entries.{entries};
 ghost use Rattle.node_arena.specs.Traces.{Traced, IsTraced, PlaysToItsValues, CountsItsPops, KeepsWhatD4Found};
 ghost use Rattle.node_arena.specs.Seats.{EachSeatIsSound};
 ghost use Rattle.node_arena.specs.Moments.{EachMomentIsLinearizable};
+ghost use Rattle.node_arena.specs.Causes.{TakersMeetNoCause};
 
 /// Between any two atomic steps of any threads, whichever of them stopped and also where nodes are used again: a list of
 /// begins, steps, give moves and rests leads from the opening world of the arena's setup to one with exactly the shared
@@ -41,4 +42,10 @@ pub fn what_d4_found_stays_noted()
 /// that it has seen.
 pub fn what_a_seat_knows_is_sound()
     ensures { EachSeatIsSound }
+{}
+
+/// The cause of a refusal is that of the call's last step: a call whose last step was the exchange that takes a node, won
+/// or lost, doesn't meet the cause of NoNode, whatever other worlds have its path.
+pub fn a_step_that_takes_a_node_is_not_refused()
+    ensures { TakersMeetNoCause }
 {}

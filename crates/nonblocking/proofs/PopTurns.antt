@@ -16,10 +16,9 @@ use Rattle.node_arena.specs.declared.arena.Arena.{Arena}
 use Rattle.node_arena.specs.declared.seats.Seat.{Seat}
 use Rattle.node_arena.specs.Seats.{KeepsStored, DidStep, view, known_of}
 use Rattle.node_arena.specs.Turns.{failed_at, failed_turns, at_d2}
-use Rattle.node_arena.specs.Paths.{ExtendsPath, HasOwnCause}
+use Rattle.node_arena.specs.Paths.{ExtendsPath}
 use Rattle.node_arena.proofs.Noted.{finds_nothing}
-use Rattle.node_arena.proofs.Told.{has_own_cause}
-use Rattle.node_arena.proofs.Paths.{no_walk, walk_then, then_act, then_stored, sees_on, ended_behind, failed_behind, failed-append, failed_snoc, event, walk_one, walk_on, act_on, to_is, ended_at, failed_last}
+use Rattle.node_arena.proofs.Paths.{no_walk, walk_then, then_act, then_stored, sees_on, stopped_behind, failed_behind, failed-append, failed_snoc, event, walk_one, walk_on, act_on, to_is, stopped_at, failed_last}
 use Rattle.nonblocking.specs.Values.{IsNonBlocking}
 use Rattle.node_arena.specs.Machine.{value_of}
 use Rattle.nonblocking.specs.declared.pop_outcomes.Actor.{Actor as Running}
@@ -140,7 +139,7 @@ module _ (r : Arena) (s u t v x : Seat) (prologue : Prologue) (a b c d : Running
       walks = on_walk (Some (reply.Refused (WornOut OfTail))) f.replies refl;
       never = none_failed None f.over refl;
       is = f.is;
-      cause = ended_at r v x continues D5 f5.found f5.did s reads (λ w. HasOwnCause w (view s).number (WornOut OfTail)) walked (has_own_cause r.plan continues D5 f5.found (view v) (view x) f5.did.told (WornOut OfTail) f.replies);
+      cause = stopped_at r v x continues D5 f5.found f5.did s reads (WornOut OfTail) walked f.replies;
     },
   )
 
@@ -255,7 +254,7 @@ module _ (r : Arena) (s t x : Seat) (es : List Event) (stored : KeepsStored s t)
         walks = walk_then (view s) (view t) (view x) es fs w k.walks;
         never = omega (arith, failed-append es fs, never, k.never);
         is = k.is;
-        cause = ended_behind r s t es fs (λ v. HasOwnCause v (view s).number (WornOut OfTail)) w k.cause;
+        cause = stopped_behind r s t es fs (WornOut OfTail) w k.cause;
       }
 
   pub turn_behind : (out : Turn) → Turns r t x out → Turns r s x out

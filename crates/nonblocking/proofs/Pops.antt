@@ -1,5 +1,5 @@
 -- Pops: turns one after another, and what they answer.
-use Rattle.std.proofs.Common.{◌≡◌, ℕ, zero, suc, ◌+◌, ◌-◌, ◌<◌, ◌≤◌, List, [], ◌++◌, Option, Some, None, Result, Ok, Err, IfOk, IfErr, OnOk, sym, refl, ap, subst, ◌∙◌, arith, add-one, append_assoc}
+use Rattle.std.proofs.Common.{◌≡◌, ℕ, zero, suc, ◌+◌, ◌-◌, ◌<◌, ◌≤◌, List, [], ◌++◌, Option, Some, None, Result, Ok, Err, IfOk, IfErr, OnOk, sym, refl, ap, subst, ◌∙◌, arith, add-one, append_assoc, ⊎_elim, inl, inr}
 use Rattle.line_table.specs.declared.lines.Line.TheVariants.{F1}
 use Rattle.history.specs.declared.operations.Entry.TheVariants.{Pop}
 use Rattle.history.specs.declared.operations.Op.TheVariants.{Deq}
@@ -16,13 +16,13 @@ use Rattle.node_arena.specs.declared.arena.Arena.{Arena}
 use Rattle.node_arena.specs.declared.seats.Seat.{Seat}
 use Rattle.node_arena.specs.Seats.{IsReady, KeepsName, view, known_of, keeping, pocket_of, failed_of}
 use Rattle.node_arena.specs.Turns.{failed_turns}
-use Rattle.node_arena.specs.Paths.{ExtendsPath, Acts, HadNoEffect, EndsFailed, HasOwnCause, added}
+use Rattle.node_arena.specs.Paths.{ExtendsPath, Acts, HadNoEffect, added}
 use Rattle.free_list.specs.Gives.{GiveAnswers}
-use Rattle.node_arena.proofs.Paths.{no_walk, walk_then, act_then, then_stored, sees_on, added_is, added_path, last_held, ends_failed, ended_behind, failed-append, failed_behind, kept_seat}
+use Rattle.node_arena.proofs.Paths.{no_walk, walk_then, act_then, then_stored, sees_on, added_is, added_path, last_held, ends_failed, met_behind, failed-append, failed_behind, kept_seat}
 use Rattle.nonblocking.specs.Values.{IsNonBlocking}
 use Rattle.node_arena.specs.Machine.{value_of}
 use Rattle.nonblocking.specs.declared.pop_outcomes.Turn.TheVariants as turn
-use Rattle.nonblocking.specs.Pops.{Turns, Trying, DrawRefused, Draws, AnswersPop}
+use Rattle.nonblocking.specs.Pops.{Turns, Trying, EmptiesPocket, FreesItsNode, DrawRefused, Draws, AnswersPop}
 
 -- lines before a pop, with so many failed turns
 module _ (r : Arena) (s u x : Seat) (es : List Event) (w : ExtendsPath (view s) (view u) es) (spent before turns : ℕ) (more : before ≡ spent + failed_turns es) where
@@ -30,14 +30,11 @@ module _ (r : Arena) (s u x : Seat) (es : List Event) (w : ExtendsPath (view s) 
   late path = added_path s x (es ++ added u x) (path ∙ ap (λ p. p ++ added u x) w.path ∙ append_assoc (view s).path es (added u x))
 
   late_cause : (e : added s x ≡ es ++ added u x) (why : Refusal) → DrawRefused r u x before turns why → DrawRefused r s x spent turns why
-  late_cause e Busy f =
-      let z : EndsFailed u x = f.1 in (
-        (let c = ap failed_turns e in let n = f.0 in omega (arith, failed-append es (added u x), c, n, more)),
-        ends_failed s x (es ++ added u x) e (failed_behind es (added u x) (record { before = z.before; last = z.last; path = z.path; failed = z.failed })),
-      )
-  late_cause e (WornOut OfTail) f =
-      last_held r s x (es ++ added u x) _ e
-      (ended_behind r s u es (added u x) (λ v. HasOwnCause v (view s).number (WornOut OfTail)) w (record { was = f.was; reached = f.reached; setup = f.setup; before = f.before; last = f.last; path = f.path; within = f.within; held = f.held }))
+  late_cause e Busy f = (
+    (let c = ap failed_turns e in let n = f.0 in omega (arith, failed-append es (added u x), c, n, more)),
+    ends_failed s x (es ++ added u x) e (failed_behind es (added u x) f.1),
+  )
+  late_cause e (WornOut OfTail) f = met_behind r s u x es (WornOut OfTail) w e f
   late_cause e (WornOut OfFree) f = absurd f
   late_cause e (WornOut OfNext) f = absurd f
   late_cause e (WornOut OfHead) f = absurd f
@@ -52,6 +49,7 @@ module _ (r : Arena) (s u x : Seat) (es : List Event) (w : ExtendsPath (view s) 
         path = d.path ∙ ap (λ p. p ++ added u x) w.path ∙ append_assoc (view s).path es (added u x) ∙ ap (λ p. (view s).path ++ p) (sym e);
         answer = answered out d;
         few = fewer out e d;
+        freed = freed_of out e d;
         refused = refused_by out e d;
       }
     where
@@ -62,6 +60,10 @@ module _ (r : Arena) (s u x : Seat) (es : List Event) (w : ExtendsPath (view s) 
       fewer : (o : Result (Option Taken) Refusal) → added s x ≡ es ++ added u x → Draws r u x before turns o → OnOk o (spent + failed_turns (added s x) ≤ turns)
       fewer (Ok v) e d = let c = ap failed_turns e in let n = d.few in omega (arith, failed-append es (added u x), c, n, more)
       fewer (Err why) e d = tt
+
+      freed_of : (o : Result (Option Taken) Refusal) → added s x ≡ es ++ added u x → Draws r u x before turns o → OnOk o (EmptiesPocket s x spent turns)
+      freed_of (Ok v) e d = ⊎_elim (λ none. inl none) (λ all. inr (let c = ap failed_turns e in omega (arith, failed-append es (added u x), c, all, more))) d.freed
+      freed_of (Err why) e d = tt
 
       refused_by : (o : Result (Option Taken) Refusal) → added s x ≡ es ++ added u x → Draws r u x before turns o → IfErr o (λ why. HadNoEffect s x × DrawRefused r s x spent turns why)
       refused_by (Ok v) e d = tt
@@ -118,6 +120,7 @@ pop_gives_up r s t spent turns (suc m) some all g =
       path = g.walks.path ∙ ap (λ p. (view s).path ++ p) (sym e);
       answer = tt;
       few = tt;
+      freed = tt;
       refused = (
         subst (ExtendsPath (view s) (view t)) (sym e) g.walks,
         ((let c = ap failed_turns e in let f = g.failed in omega arith), ends_failed s (keeping t None turns) g.lines e (g.last some)),
@@ -136,6 +139,7 @@ pop_worn r s t why failed turns f =
       path = k.walks.path ∙ ap (λ p. (view s).path ++ p) (sym e);
       answer = tt;
       few = tt;
+      freed = tt;
       refused = (
         subst (ExtendsPath (view s) (view t)) (sym e) k.walks,
         subst (DrawRefused r s (keeping t None failed) failed turns) (sym k.is) (last_held r s (keeping t None failed) f.lines _ e k.cause),
@@ -147,16 +151,22 @@ pub pop_took : (r : Arena) (s t x : Seat) (word : ℕ) (h : Held) (failed turns 
 pop_took r s t x word h failed turns out less f g =
     let acts : Acts (view s) (view x) (Pop (view s).number (value_of word)) (f.lines ++ added t x) = act_then (view s) (view t) (view x) (Pop (view s).number (value_of word)) f.lines (added t x) f.turned.acts (record { walks = g.lines; same = g.seen }) in
     let e : added s x ≡ f.lines ++ added t x = added_path s x (f.lines ++ added t x) acts.path in
+    let all : failed_turns (added s x) ≡ failed_turns (added t x) = (let c = ap failed_turns e in let z = f.turned.never in omega (arith, failed-append f.lines (added t x), z, c)) in
     let most : failed_turns (added t x) ≤ turns - failed = spends out g in
     record {
       ready = g.ready;
       same = record { number = g.same.number ∙ f.stored.number; role = g.same.role ∙ f.stored.role };
       path = acts.path ∙ ap (λ p. (view s).path ++ p) (sym e);
       answer = acts.adds;
-      few = (let c = ap failed_turns e in let z = f.turned.never in omega (arith, failed-append f.lines (added t x), z, most, less, c));
+      few = omega (arith, all, most, less);
+      freed = gave out all g;
       refused = tt;
     }
   where
+    gave : (o : Result (Unit {0}) Refusal) → failed_turns (added s x) ≡ failed_turns (added t x) → GiveAnswers r (keeping t (Some h) failed) x (turns - failed) o → EmptiesPocket s x failed turns
+    gave (Ok u) all g = inl g.pocket
+    gave (Err why) all g = inr (let n : failed_turns (added t x) ≡ turns - failed = g.refused.1 in omega (arith, all, n, less))
+
     spends : (o : Result (Unit {0}) Refusal) → GiveAnswers r (keeping t (Some h) failed) x (turns - failed) o → failed_turns (added t x) ≤ turns - failed
     spends (Ok u) g = let n : failed_of x ≡ failed_turns (added t x) = g.failed in let k = g.fewer in omega arith
     spends (Err why) g = let n : failed_turns (added t x) ≡ turns - failed = g.refused.1 in omega arith
@@ -173,6 +183,7 @@ pop_empty r s t failed turns less f =
       path = k.path ∙ ap (λ p. (view s).path ++ p) (sym e);
       answer = k.found;
       few = (let c = ap failed_turns e in omega (arith, k.never, less, c));
+      freed = inl refl;
       refused = tt;
     }
 
@@ -180,17 +191,21 @@ few_of : {r : Arena} {s x : Seat} {turns : ℕ} (out : Result (Option Taken) Ref
 few_of (Ok v) d = let n = d.few in omega arith
 few_of (Err why) d = tt
 
+freed_of_all : {r : Arena} {s x : Seat} {turns : ℕ} (out : Result (Option Taken) Refusal) → Draws r s x 0 turns out → OnOk out (FreesItsNode s x turns)
+freed_of_all (Ok v) d = ⊎_elim (λ none. inl none) (λ all. inr (let f = all in omega arith)) d.freed
+freed_of_all (Err why) d = tt
+
 -- a pop after a give back
 after_give : (r : Arena) (s u x : Seat) (spent turns : ℕ) (out : Result (Option Taken) Refusal) → KeepsName s u → HadNoEffect s u → spent ≡ failed_turns (added s u) → Draws r u x spent turns out → AnswersPop r s x turns out
 after_give r s u x spent turns out name w f d =
     let all : Draws r s x 0 turns out = draws_late r s u x (added s u) w 0 spent turns (omega (arith, f)) out name d in
-    record { ready = all.ready; same = all.same; answer = all.answer; few = few_of out all; refused = all.refused }
+    record { ready = all.ready; same = all.same; answer = all.answer; few = few_of out all; freed = freed_of_all out all; refused = all.refused }
 
 -- the pop of a seat whose pocket was empty
 pub drawn_at_once : (r : Arena) (s v x : Seat) (n turns : ℕ) (out : Result (Option Taken) Refusal) → v ≡ s → n ≡ 0 → Draws r v x n turns out → AnswersPop r s x turns out
 drawn_at_once r s v x n turns out e f d =
     let all : Draws r s x 0 turns out = subst (λ u. Draws r u x 0 turns out) e (subst (λ m. Draws r v x m turns out) f d) in
-    record { ready = all.ready; same = all.same; answer = all.answer; few = few_of out all; refused = all.refused }
+    record { ready = all.ready; same = all.same; answer = all.answer; few = few_of out all; freed = freed_of_all out all; refused = all.refused }
 
 -- the pop of a seat that first gave its node back
 pub drawn_after_give : (r : Arena) (s u v x : Seat) (spent n turns : ℕ) (out : Result (Option Taken) Refusal) → v ≡ u → n ≡ spent → KeepsName s u → HadNoEffect s u → spent ≡ failed_turns (added s u) → Draws r v x n turns out → AnswersPop r s x turns out

@@ -10,13 +10,13 @@ use Rattle.history.specs.declared.refusals.Refusal.TheVariants.{WornOut}
 use Rattle.history.specs.declared.refusals.WornWord.{WornWord}
 use Rattle.history.specs.declared.refusals.WornWord.TheVariants.{Next as OfNext, Tail as OfTail}
 use Rattle.node_arena.specs.Machine.{Setup, Held, Actor, Outcome as MachineOutcome, node_at, entry_or, goes, ends, worn, empties_hand, sets_aside, to_pocket}
+use Rattle.history.specs.declared.operations.Reply.TheVariants as reply
 use Rattle.node_arena.specs.Traces.{outcome_at, entries_at}
 use Rattle.node_arena.specs.Prologues.{Prologue, continues, after_prologue}
 use Rattle.node_arena.specs.declared.arena.Arena.{Arena}
 use Rattle.node_arena.specs.declared.seats.Seat.{Seat}
 use Rattle.node_arena.specs.Seats.{DidStep, view}
-use Rattle.node_arena.specs.Paths.{HasOwnCause}
-use Rattle.node_arena.proofs.Told.{was_in_range, actor_was_in_range, has_own_cause}
+use Rattle.node_arena.proofs.Told.{was_in_range, actor_was_in_range}
 use Rattle.node_arena.proofs.There.{stood, raise_room}
 use Rattle.node_arena.specs.Machine.{value_of}
 use Rattle.nonblocking.specs.declared.push_outcomes.Actor.{Actor as Running}
@@ -59,7 +59,7 @@ module _ (r : Arena) (s t : Seat) (prologue : Prologue) (l : Line) (n : ℕ) (a 
     pub over : (view t).actor.line ≡ None
     pub pocket : (view t).actor.pocket ≡ p
     pub is : why ≡ WornOut word
-    pub cause : HasOwnCause d.told.was.world (view s).number (WornOut word)
+    pub replies : (outcome_at r.plan.setup d.told.was (view s).number b l).reply ≡ Some (reply.Refused (WornOut word))
 
   -- the node is one of the arena's
   pub small_node : a.node ≤ r.plan.setup.size
@@ -111,7 +111,7 @@ module _ (r : Arena) (s t : Seat) (prologue : Prologue) (n : ℕ) (a : Running) 
               over = ap (λ c. c.line) x.1;
               pocket = ap (λ c. c.pocket) x.1 ∙ h.empty;
               is = refl;
-              cause = has_own_cause r.plan prologue E3 n (view s) (view t) d.told (WornOut OfNext) (ap (λ c. c.reply) (o true e));
+              replies = ap (λ c. c.reply) (o true e);
             }
         go false e =
             let x = settled_as r s t prologue E3 n a h d (third (d.told.was.world.steps + 1) (ref_of n) false) (o false e) in (
@@ -172,7 +172,7 @@ module _ (r : Arena) (s t : Seat) (prologue : Prologue) (n : ℕ) (a : Running) 
               over = ap (λ c. c.line) k.1;
               pocket = ap (λ c. c.pocket) k.1 ∙ (λ i. Some (record { node = h.node i; mark = h.mark i }));
               is = refl;
-              cause = has_own_cause r.plan prologue E7 n (view s) (view t) d.told (WornOut OfTail) (ap (λ c. c.reply) e);
+              replies = ap (λ c. c.reply) e;
             }
         go true false false x y w =
             let k = settled_as r s t prologue E7 n a h d (seventh now true false false) (o true false false x y w) in

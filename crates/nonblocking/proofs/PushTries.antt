@@ -8,15 +8,15 @@ use Rattle.history.specs.declared.operations.Taken.{Taken}
 use Rattle.history.specs.declared.refusals.Refusal.{Refusal}
 use Rattle.history.specs.declared.refusals.Refusal.TheVariants.{WornOut, Busy}
 use Rattle.history.specs.declared.refusals.WornWord.TheVariants.{Next as OfNext, Tail as OfTail}
-use Rattle.node_arena.specs.Machine.{Held, Actor, World, with_node, from_pocket}
+use Rattle.node_arena.specs.Machine.{Held, Actor, with_node, from_pocket}
 use Rattle.node_arena.specs.Traces.{Event}
 use Rattle.node_arena.specs.Prologues.{begins, continues, at_rest, out_of}
 use Rattle.node_arena.specs.declared.arena.Arena.{Arena}
 use Rattle.node_arena.specs.declared.seats.Seat.{Seat}
 use Rattle.node_arena.specs.Seats.{IsReady, KeepsName, view, pocket_of, keeping}
 use Rattle.node_arena.specs.Turns.{failed_turns}
-use Rattle.node_arena.specs.Paths.{ExtendsPath, Acts, LastHeld, HasOwnCause, added}
-use Rattle.node_arena.proofs.Paths.{no_walk, walk_then, then_act, then_stored, added_is, added_path, failed-append, failed_behind, ended_behind, last_held, kept_seat, ends_failed}
+use Rattle.node_arena.specs.Paths.{ExtendsPath, Acts, added}
+use Rattle.node_arena.proofs.Paths.{no_walk, walk_then, then_act, then_stored, added_is, added_path, failed-append, failed_behind, met_behind, stopped_behind, last_held, kept_seat, ends_failed}
 use Rattle.nonblocking.specs.Values.{IsNonBlocking}
 use Rattle.node_arena.specs.Machine.{value_of}
 use Rattle.nonblocking.specs.declared.push_outcomes.Actor.{Actor as Running}
@@ -69,12 +69,6 @@ first_try r s h val spent st =
       last = λ less. absurd (omega arith);
     }
 
--- what held at the last step of some lines held at that of more lines before them
-last_behind : (r : Arena) (s t u : Seat) (es : List Event) (P : World → Type 0) → ExtendsPath (view s) (view t) es → added s u ≡ es ++ added t u → LastHeld r t u P → LastHeld r s u P
-last_behind r s t u es P w e h =
-    last_held r s u (es ++ added t u) P e
-    (ended_behind r s t es (added t u) P w record { was = h.was; reached = h.reached; setup = h.setup; before = h.before; last = h.last; path = h.path; within = h.within; held = h.held })
-
 -- a push behind other lines of its call
 pub put_behind : (r : Arena) (s t u : Seat) (es : List Event) → ExtendsPath (view s) (view t) es → KeepsName s t → (node body spent all turns : ℕ) (out : Result (Unit {0}) Refusal) → spent + failed_turns es ≡ all → Puts r t u node body all turns out → Puts r s u node body spent turns out
 put_behind r s t u es w name node body spent all turns (Ok x) f k =
@@ -105,11 +99,11 @@ put_behind r s t u es w name node body spent all turns (Err why) f k =
     by_cause : added s u ≡ es ++ added t u → (why : Refusal) → PutRefused r t u node all turns why → PutRefused r s u node spent turns why
     by_cause e Busy x = (
       (let c = ap failed_turns e in let g = x.0 in omega (arith, failed-append es (added t u), c, f, g)),
-      ends_failed s u (es ++ added t u) e (failed_behind es (added t u) (record { before = x.1.before; last = x.1.last; path = x.1.path; failed = x.1.failed })),
+      ends_failed s u (es ++ added t u) e (failed_behind es (added t u) x.1),
       x.2,
     )
-    by_cause e (WornOut OfTail) x = (last_behind r s t u es _ w e x.0, x.1)
-    by_cause e (WornOut OfNext) x = (subst (λ me. LastHeld r s u (λ v. HasOwnCause v me (WornOut OfNext))) w.number (last_behind r s t u es _ w e x.0), x.1)
+    by_cause e (WornOut OfTail) x = (met_behind r s t u es (WornOut OfTail) w e x.0, x.1)
+    by_cause e (WornOut OfNext) x = (met_behind r s t u es (WornOut OfNext) w e x.0, x.1)
     by_cause e (WornOut _) x = absurd x
     by_cause e _ x = absurd x
 
@@ -207,7 +201,7 @@ module _ (r : Arena) (s t u : Seat) (h : Held) (val spent n turns : ℕ) (a : Ru
         refused = (
           subst (ExtendsPath (view s) (view u)) (sym e) w,
           subst (PutRefused r s (keeping u (Some h) n) h.node spent turns) (sym f.is)
-              (last_held r s (keeping u (Some h) n) es _ e (ended_behind r s t g.lines k.lines _ g.walks f.cause), refl),
+              (last_held r s (keeping u (Some h) n) es _ e (stopped_behind r s t g.lines k.lines (WornOut OfTail) g.walks f.cause), refl),
         );
       }
 

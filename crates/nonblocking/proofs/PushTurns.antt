@@ -16,8 +16,8 @@ use Rattle.node_arena.specs.declared.arena.Arena.{Arena}
 use Rattle.node_arena.specs.declared.seats.Seat.{Seat}
 use Rattle.node_arena.specs.Seats.{DidStep, view}
 use Rattle.node_arena.specs.Turns.{failed_at, failed_turns, at_e5}
-use Rattle.node_arena.specs.Paths.{ExtendsPath, Acts, HasOwnCause}
-use Rattle.node_arena.proofs.Paths.{walk_then, then_act, act_then, then_stored, failed_snoc, failed-append, failed_behind, ended_behind, event, walk_on, pass_on, act_on, to_is, ended_at, failed_last}
+use Rattle.node_arena.specs.Paths.{ExtendsPath, Acts}
+use Rattle.node_arena.proofs.Paths.{walk_then, then_act, act_then, then_stored, failed_snoc, failed-append, failed_behind, stopped_behind, event, walk_on, pass_on, act_on, to_is, stopped_at, failed_last}
 use Rattle.node_arena.specs.Machine.{value_of}
 use Rattle.nonblocking.specs.declared.push_outcomes.Actor.{Actor as Running}
 use Rattle.nonblocking.specs.declared.push_outcomes.Outcome.{Outcome}
@@ -51,7 +51,7 @@ module _ (r : Arena) (s u t : Seat) (l : Line) (n : ℕ) (a : Running) (h : Call
         pocket = k.pocket;
         never = never;
         is = k.is;
-        cause = ended_at r u t continues l n d s before (λ w. HasOwnCause w (view s).number (WornOut word)) w (subst (λ me. HasOwnCause d.told.was.world me (WornOut word)) w.number k.cause);
+        cause = stopped_at r u t continues l n d s before (WornOut word) w k.replies;
       }
 
 -- E2 and E3
@@ -298,6 +298,6 @@ module _ (r : Arena) (s t : Seat) (a : Running) (out : Outcome) (f : Looks r s t
           pocket = y.1.pocket ∙ ap (λ h. Some h) k.hand;
           never = none 0 y.1.never;
           is = y.1.is;
-          cause = ended_behind r s t f.lines g.lines _ f.walks y.1.cause;
+          cause = stopped_behind r s t f.lines g.lines (WornOut OfTail) f.walks y.1.cause;
         },
       )

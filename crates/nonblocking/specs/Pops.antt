@@ -1,5 +1,5 @@
 -- A running pop: what it remembers before each line, and what it answers.
-use Rattle.std.specs.Prelude.{◌≡◌, ℕ, zero, suc, ◌+◌, ◌≤◌, ◌<◌, if◌then◌else◌, nat_eq, List, ◌++◌, Option, Some, None, Result, IfOk, IfErr, OnOk}
+use Rattle.std.specs.Prelude.{◌≡◌, ℕ, zero, suc, ◌+◌, ◌≤◌, ◌<◌, ◌⊎◌, if◌then◌else◌, nat_eq, List, ◌++◌, Option, Some, None, Result, IfOk, IfErr, OnOk}
 use Rattle.counted_ref.specs.Ref.{ref_of, is_null, same_ref}
 use Rattle.line_table.specs.declared.lines.Line.{Line}
 use Rattle.line_table.specs.declared.lines.Line.TheVariants.{D2, D3, D4, D5, D10, D12, D13, F1}
@@ -17,9 +17,9 @@ use Rattle.node_arena.specs.Prologues.{Prologue, begins, continues, after_prolog
 use Rattle.node_arena.specs.declared.arena.Arena.{Arena}
 use Rattle.node_arena.specs.declared.seats.Seat.{Seat}
 use Rattle.node_arena.specs.Seeing.{known_by}
-use Rattle.node_arena.specs.Seats.{IsSeat, IsReady, KeepsStored, KeepsName, DidStep, view, known_of}
+use Rattle.node_arena.specs.Seats.{IsSeat, IsReady, KeepsStored, KeepsName, DidStep, view, known_of, pocket_of}
 use Rattle.node_arena.specs.Turns.{failed_turns}
-use Rattle.node_arena.specs.Paths.{ExtendsPath, Acts, HadNoEffect, FailedAt, EndsFailed, EndedAt, MetCause, HasOwnCause, added}
+use Rattle.node_arena.specs.Paths.{ExtendsPath, Acts, HadNoEffect, FailedAt, EndsFailed, EndedAt, IsRefusedAt, MetCause, added}
 use Rattle.node_arena.specs.Machine.{value_of}
 use Rattle.nonblocking.specs.declared.pop_outcomes.Actor.{Actor as Running}
 use Rattle.nonblocking.specs.declared.pop_outcomes.Reply.{Reply}
@@ -129,7 +129,7 @@ pub record SawWorn (r : Arena) (s t : Seat) (es : List Event) (why : Refusal) : 
   pub walks : ExtendsPath (view s) (view t) es
   pub never : failed_turns es ≡ 0
   pub is : why ≡ WornOut OfTail
-  pub cause : EndedAt r s es (λ w. HasOwnCause w (view s).number (WornOut OfTail))
+  pub cause : EndedAt r s es (IsRefusedAt r.plan.setup (view s).number (WornOut OfTail))
 
 -- the turn goes on at a line
 pub record GoesOn (r : Arena) (s t : Seat) (es : List Event) (l : Line) (a : Running) : Type 0 where
@@ -189,6 +189,10 @@ DrawRefused r s t spent turns _ = ⊥
 abbrev pub FailsFew : Seat → Seat → (turns : ℕ) → Type 0
 FailsFew s t turns = failed_turns (added s t) ≤ turns
 
+-- a seat's pocket is empty, or each turn of its call failed, where so many failed before
+abbrev pub EmptiesPocket : Seat → Seat → (spent turns : ℕ) → Type 0
+EmptiesPocket s t spent turns = (pocket_of t ≡ None) ⊎ (spent + failed_turns (added s t) ≡ turns)
+
 -- what a pop answers that has an empty pocket, where so many turns failed before
 pub record Draws (r : Arena) (s t : Seat) (spent turns : ℕ) (out : Result (Option Taken) Refusal) : Type 0 where
   pub ready : IsReady r t
@@ -196,12 +200,17 @@ pub record Draws (r : Arena) (s t : Seat) (spent turns : ℕ) (out : Result (Opt
   pub path : (view t).path ≡ (view s).path ++ added s t
   pub answer : IfOk out (λ o. PopAnswers (known_of s) o (known_of t))
   pub few : OnOk out (spent + failed_turns (added s t) ≤ turns)
+  pub freed : OnOk out (EmptiesPocket s t spent turns)
   pub refused : IfErr out (λ why. HadNoEffect s t × DrawRefused r s t spent turns why)
 
 -- what one turn of a pop comes to: it failed, or the pop answers
 abbrev pub Tries : Arena → Seat → Seat → (spent turns : ℕ) → Option (Result (Option Taken) Refusal) → Type 0
 Tries r s t spent turns None = Turns r s t turn.Failed
 Tries r s t spent turns (Some out) = Draws r s t spent turns out
+
+-- after a pop its seat's pocket is empty, or each of so many turns failed
+abbrev pub FreesItsNode : Seat → Seat → (turns : ℕ) → Type 0
+FreesItsNode s t turns = (pocket_of t ≡ None) ⊎ (failed_turns (added s t) ≡ turns)
 
 -- why a pop is refused
 abbrev pub PopRefused : Arena → Seat → Seat → (turns : ℕ) → Refusal → Type 0
@@ -213,4 +222,5 @@ pub record AnswersPop (r : Arena) (s t : Seat) (turns : ℕ) (out : Result (Opti
   pub same : KeepsName s t
   pub answer : IfOk out (λ o. PopAnswers (known_of s) o (known_of t))
   pub few : OnOk out (FailsFew s t turns)
+  pub freed : OnOk out (FreesItsNode s t turns)
   pub refused : IfErr out (λ why. HadNoEffect s t × PopRefused r s t turns why)

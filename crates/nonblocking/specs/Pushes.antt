@@ -15,7 +15,7 @@ use Rattle.node_arena.specs.declared.arena.Arena.{Arena}
 use Rattle.node_arena.specs.declared.seats.Seat.{Seat}
 use Rattle.node_arena.specs.Seats.{IsSeat, IsReady, KeepsStored, KeepsName, DidStep, view, pocket_of}
 use Rattle.node_arena.specs.Turns.{failed_turns}
-use Rattle.node_arena.specs.Paths.{ExtendsPath, Acts, HadNoEffect, FailedAt, EndsFailed, EndedAt, MetCause, HasOwnCause, added}
+use Rattle.node_arena.specs.Paths.{ExtendsPath, Acts, HadNoEffect, FailedAt, EndsFailed, EndedAt, IsRefusedAt, MetCause, added}
 use Rattle.free_list.specs.Takes.{TakeRefused}
 use Rattle.node_arena.specs.Machine.{value_of}
 use Rattle.nonblocking.specs.declared.push_outcomes.Actor.{Actor as Running}
@@ -102,7 +102,7 @@ pub record FoundWorn (r : Arena) (s t : Seat) (p : Option Held) (es : List Event
   pub pocket : (view t).actor.pocket ≡ p
   pub never : failed_turns es ≡ 0
   pub is : why ≡ WornOut word
-  pub cause : EndedAt r s es (λ w. HasOwnCause w (view s).number (WornOut word))
+  pub cause : EndedAt r s es (IsRefusedAt r.plan.setup (view s).number (WornOut word))
 
 -- the body was pushed, and the call is over
 pub record Linked (r : Arena) (s t : Seat) (a : Running) (es : List Event) : Type 0 where
@@ -192,9 +192,13 @@ PushRefused r s t turns (WornOut OfTail) = MetCause r s t (WornOut OfTail) × Is
 PushRefused r s t turns (WornOut OfNext) = MetCause r s t (WornOut OfNext) × (pocket_of t ≡ None)
 PushRefused r s t turns why = TakeRefused r s t turns why
 
+-- fewer turns than allowed failed
+abbrev pub FailsFewer : Seat → Seat → (turns : ℕ) → Type 0
+FailsFewer s t turns = failed_turns (added s t) < turns
+
 -- what a push answers
 pub record AnswersPush (r : Arena) (s t : Seat) (body turns : ℕ) (out : Result (Unit {0}) Refusal) : Type 0 where
   pub ready : IsReady r t
   pub same : KeepsName s t
-  pub pushed : OnOk out (DidPush s t body × (pocket_of t ≡ None) × (failed_turns (added s t) < turns))
+  pub pushed : OnOk out (DidPush s t body × (pocket_of t ≡ None) × FailsFewer s t turns)
   pub refused : IfErr out (λ why. HadNoEffect s t × PushRefused r s t turns why)

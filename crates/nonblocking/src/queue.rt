@@ -1,5 +1,5 @@
 //! The queue: its arena, and its calls.
-ghost use Rattle.std.specs.Prelude.{◌≡◌, ◌+◌, ◌*◌, ◌≤◌, ◌↔◌, IsNone, IfOk, IfErr, OnOk, OnErr};
+ghost use Rattle.std.specs.Prelude.{◌≡◌, ◌+◌, ◌*◌, ◌≤◌, ◌↔◌, IsNone, IfSome, IfOk, IfErr, OnOk, OnErr, None};
 ghost use Rattle.line_table.specs.declared.lines.Kind.TheVariants.{NonBlocking};
 ghost use Rattle.node_arena.specs.Plans.{IsPlanned};
 ghost use Rattle.node_arena.specs.Making.{plan, NewRefused};
@@ -24,7 +24,8 @@ impl MsQueue {
     ghost use Rattle.std.specs.List.{All};
     ghost use Rattle.history.specs.Openings.{AreNew};
     ghost use Rattle.node_arena.specs.Plans.{permits_by};
-    ghost use Rattle.node_arena.specs.Seats.{known_of, setup_of};
+    ghost use Rattle.node_arena.specs.Moments.{WasWord};
+    ghost use Rattle.node_arena.specs.Seats.{known_of, plan_of, setup_of};
     ghost use Rattle.nonblocking.specs.Queues.{arena_of, permits_of, IsQueueSeat, IsQueueMade};
 
     /// A queue with so many nodes, 2 to 16,777,214, the greatest count `limit`, 1 to 1,099,511,627,775, and a seat for
@@ -52,7 +53,8 @@ impl MsQueue {
     /// What a word of the queue's arena holds, by one load of one moment, for inspection; none exactly where there is no
     /// such word. It tells nothing of what a seat has seen. Takes no memory and doesn't wait.
     pub fn peek(&self, word: usize) -> Option<u64>
-        ensures { IsNone result ↔ (6 + 2 * (setup_of (arena_of self.now)).size ≤ word) }
+        ensures none { IsNone result ↔ (6 + 2 * (setup_of (arena_of self.now)).size ≤ word) }
+        ensures held { IfSome result (WasWord (plan_of (arena_of self.now)) word) }
     {
         self.arena.peek(word)
     }
@@ -64,10 +66,10 @@ impl Fifo for MsQueue {
     ghost use Rattle.history.specs.Seats.{MayPush, MayPop};
     ghost use Rattle.history.specs.Answers.{Pushed, PopAnswers, SeesMore, StopsPush, StopsPop};
     ghost use Rattle.history.specs.Closing.{Closes};
-    ghost use Rattle.node_arena.specs.Seats.{known_of, view};
+    ghost use Rattle.node_arena.specs.Seats.{known_of, pocket_of, view};
     ghost use Rattle.node_arena.proofs.Seens.{sound_of};
-    ghost use Rattle.nonblocking.specs.Pushes.{PushRefused};
-    ghost use Rattle.nonblocking.specs.Pops.{FailsFew, PopRefused};
+    ghost use Rattle.nonblocking.specs.Pushes.{FailsFewer, PushRefused};
+    ghost use Rattle.nonblocking.specs.Pops.{FailsFew, FreesItsNode, PopRefused};
     ghost use Rattle.nonblocking.specs.Queues.{arena_of, permits_of, IsQueueSeat};
 
     type Seat = Seat;
@@ -77,6 +79,10 @@ impl Fifo for MsQueue {
     ghost permits = { permits_of };
 
     ghost known = { known_of };
+
+    ghost push_cause = { λ q. PushRefused (arena_of q) };
+
+    ghost pop_cause = { λ q. PopRefused (arena_of q) };
 
     ghost sound = { λ q s h. sound_of (arena_of q).plan (view s) h.seat.sits.fitted };
 
@@ -91,6 +97,8 @@ impl Fifo for MsQueue {
         ensures seat { IsQueueSeat self.now seat.new }
         ensures number { (known_of seat.new).number ≡ (known_of seat.old).number }
         ensures pushed { OnOk result (Pushed (known_of seat.old) body (known_of seat.new)) }
+        ensures few { OnOk result (FailsFewer seat.old seat.new turns) }
+        ensures pocket { OnOk result (pocket_of seat.new ≡ None) }
         ensures refused { OnErr result (SeesMore (known_of seat.old) (known_of seat.new)) }
         ensures why { IfErr result StopsPush }
         ensures caused { IfErr result (PushRefused (arena_of self.now) seat.old seat.new turns) }
@@ -108,6 +116,7 @@ impl Fifo for MsQueue {
         ensures number { (known_of seat.new).number ≡ (known_of seat.old).number }
         ensures answer { IfOk result (λ o. PopAnswers (known_of seat.old) o (known_of seat.new)) }
         ensures few { OnOk result (FailsFew seat.old seat.new turns) }
+        ensures freed { OnOk result (FreesItsNode seat.old seat.new turns) }
         ensures refused { OnErr result (SeesMore (known_of seat.old) (known_of seat.new)) }
         ensures why { IfErr result StopsPop }
         ensures caused { IfErr result (PopRefused (arena_of self.now) seat.old seat.new turns) }

@@ -4,3 +4,4 @@ mod nonblocking_runs;
 mod runs;
 mod threads;
 mod two_lock_runs;
+mod waiting;

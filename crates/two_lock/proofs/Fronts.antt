@@ -18,11 +18,10 @@ use Rattle.node_arena.specs.Rule.{notes_of}
 use Rattle.node_arena.specs.declared.arena.Arena.{Arena}
 use Rattle.node_arena.specs.declared.seats.Seat.{Seat}
 use Rattle.node_arena.specs.Seats.{KeepsStored, view}
-use Rattle.node_arena.specs.Paths.{ExtendsPath, Passes, Acts, HasOwnCause}
+use Rattle.node_arena.specs.Paths.{ExtendsPath, Passes, Acts}
 use Rattle.node_arena.proofs.Noting.{IsNotEmpty}
 use Rattle.node_arena.proofs.Noted.{finds_nothing_locked}
-use Rattle.node_arena.proofs.Told.{has_own_cause}
-use Rattle.node_arena.proofs.Paths.{walk_then, then_act, act_then, then_stored, event, walk_on, pass_on, act_on, ended_at}
+use Rattle.node_arena.proofs.Paths.{walk_then, then_act, act_then, then_stored, event, walk_on, pass_on, act_on, stopped_at}
 use Rattle.two_lock.specs.Values.{IsTwoLock}
 use Rattle.node_arena.specs.Machine.{value_of}
 use Rattle.two_lock.specs.declared.pop_outcomes.Actor.{Actor as Running}
@@ -197,7 +196,7 @@ module _ (r : Arena) (s u t v : Seat) (a b c d : Running) (l k j : Line) (h : Ca
           over = ap (λ y. y.line) o;
           walks = walk_then (view s) (view v) (view x) looks (event r v x continues B6 f6.found f6.did ∷ []) look_walk (walk_on r v x continues B6 f6.found f6.did refl (not_empty r v x d out at f6 (Some (IsRefused (WornOut OfHead))) due tt));
           is = refl;
-          cause = ended_at r v x continues B6 f6.found f6.did s looks (λ w. HasOwnCause w (view s).number (WornOut OfHead)) look_walk (has_own_cause r.plan continues B6 f6.found (view v) (view x) f6.did.told (WornOut OfHead) (reply_is r v x d out at f6 (Some (IsRefused (WornOut OfHead))) due));
+          cause = stopped_at r v x continues B6 f6.found f6.did s looks (WornOut OfHead) look_walk (reply_is r v x d out at f6 (Some (IsRefused (WornOut OfHead))) due);
         };
       }
 

@@ -1,6 +1,8 @@
 -- Pops: turns at the lock, one after another, and what they answer.
-use Rattle.std.proofs.Common.{◌≡◌, ℕ, zero, suc, ◌+◌, ◌≤◌, Bool, true, false, nat_eq, if◌then◌else◌, List, [], ◌∷◌, ◌++◌, Option, Some, None, Result, Ok, Err, IfOk, OnOk, IfErr, sym, refl, ap, subst, ◌∙◌, arith, add-one, append_assoc}
+use Rattle.std.proofs.Common.{◌≡◌, ℕ, zero, suc, ◌+◌, ◌≤◌, Bool, true, false, nat_eq, if◌then◌else◌, List, [], ◌∷◌, ◌++◌, Option, Some, None, Result, Ok, Err, IfOk, OnOk, IfErr, sym, refl, ap, subst, ◌∙◌, arith, add-one, append_assoc, ⊎_elim, inl, inr, ◌-◌, ◌<◌}
+use Rattle.line_table.specs.declared.lines.Line.{Line}
 use Rattle.line_table.specs.declared.lines.Line.TheVariants.{B1, B2, F1}
+use Rattle.history.specs.declared.operations.Entry.TheVariants.{Pop}
 use Rattle.history.specs.declared.operations.Op.TheVariants.{Deq}
 use Rattle.history.specs.declared.operations.Taken.{Taken}
 use Rattle.history.specs.declared.refusals.Refusal.{Refusal}
@@ -8,20 +10,21 @@ use Rattle.history.specs.declared.refusals.Refusal.TheVariants.{WornOut, Busy}
 use Rattle.history.specs.declared.refusals.WornWord.TheVariants.{Free as OfFree, Next as OfNext, Tail as OfTail, Head as OfHead}
 use Rattle.history.specs.Answers.{PopAnswers}
 use Rattle.history.proofs.Learning.{answers_then}
-use Rattle.node_arena.specs.Machine.{Held, Actor, dequeues, from_pocket}
+use Rattle.node_arena.specs.Machine.{Held, Actor, dequeues, from_pocket, value_of}
 use Rattle.node_arena.specs.Traces.{Event}
 use Rattle.node_arena.specs.Prologues.{continues, at_rest, out_of}
 use Rattle.node_arena.specs.declared.arena.Arena.{Arena}
 use Rattle.node_arena.specs.declared.seats.Seat.{Seat}
-use Rattle.node_arena.specs.Seats.{IsReady, KeepsName, view, known_of, keeping, pocket_of}
+use Rattle.node_arena.specs.Seats.{IsReady, KeepsName, view, known_of, keeping, pocket_of, failed_of}
 use Rattle.node_arena.specs.Turns.{failed_turns, at_b1}
-use Rattle.node_arena.specs.Paths.{ExtendsPath, HadNoEffect, EndsFailed, HasOwnCause, added}
-use Rattle.node_arena.proofs.Paths.{no_walk, walk_then, then_stored, sees_on, added_is, added_path, last_held, ends_failed, ended_behind, failed-append, failed_behind, kept_seat, event, walk_on, to_is, failed_last}
+use Rattle.node_arena.specs.Paths.{ExtendsPath, Acts, HadNoEffect, added}
+use Rattle.free_list.specs.Gives.{GiveAnswers}
+use Rattle.node_arena.proofs.Paths.{no_walk, walk_then, act_then, then_stored, sees_on, added_is, added_path, last_held, ends_failed, met_behind, failed-append, failed_behind, kept_seat, event, walk_on, to_is, failed_last}
 use Rattle.two_lock.specs.Values.{IsTwoLock}
 use Rattle.two_lock.specs.declared.pop_outcomes.Actor.{Actor as Running}
 use Rattle.two_lock.specs.declared.pop_outcomes.Outcome.{Outcome}
-use Rattle.two_lock.specs.declared.pop_outcomes.Outcome.TheVariants.{Goes, Refused}
-use Rattle.two_lock.specs.Pops.{popping, has_lock, IsBefore, Follows, Fronts, Trying, FailsFew, DrawRefused, Draws, AnswersPop}
+use Rattle.two_lock.specs.declared.pop_outcomes.Outcome.TheVariants.{Goes, Empty, Refused}
+use Rattle.two_lock.specs.Pops.{popping, has_lock, IsBefore, Follows, Fronts, Trying, FailsFew, EmptiesPocket, FreesItsNode, DrawRefused, Draws, AnswersPop}
 use Rattle.two_lock.proofs.PopStands.{stands_b1, won_b1, lost_b1}
 
 -- lines before a pop, with so many failed turns
@@ -30,14 +33,11 @@ module _ (r : Arena) (s u x : Seat) (es : List Event) (w : ExtendsPath (view s) 
   late path = added_path s x (es ++ added u x) (path ∙ ap (λ p. p ++ added u x) w.path ∙ append_assoc (view s).path es (added u x))
 
   late_cause : (e : added s x ≡ es ++ added u x) (why : Refusal) → DrawRefused r u x before turns why → DrawRefused r s x spent turns why
-  late_cause e Busy f =
-      let z : EndsFailed u x = f.1 in (
-        (let c = ap failed_turns e in let n = f.0 in omega (arith, failed-append es (added u x), c, n, more)),
-        ends_failed s x (es ++ added u x) e (failed_behind es (added u x) (record { before = z.before; last = z.last; path = z.path; failed = z.failed })),
-      )
-  late_cause e (WornOut OfHead) f =
-      last_held r s x (es ++ added u x) _ e
-      (ended_behind r s u es (added u x) (λ v. HasOwnCause v (view s).number (WornOut OfHead)) w (record { was = f.was; reached = f.reached; setup = f.setup; before = f.before; last = f.last; path = f.path; within = f.within; held = f.held }))
+  late_cause e Busy f = (
+    (let c = ap failed_turns e in let n = f.0 in omega (arith, failed-append es (added u x), c, n, more)),
+    ends_failed s x (es ++ added u x) e (failed_behind es (added u x) f.1),
+  )
+  late_cause e (WornOut OfHead) f = met_behind r s u x es (WornOut OfHead) w e f
   late_cause e (WornOut OfFree) f = absurd f
   late_cause e (WornOut OfNext) f = absurd f
   late_cause e (WornOut OfTail) f = absurd f
@@ -52,6 +52,7 @@ module _ (r : Arena) (s u x : Seat) (es : List Event) (w : ExtendsPath (view s) 
         path = d.path ∙ ap (λ p. p ++ added u x) w.path ∙ append_assoc (view s).path es (added u x) ∙ ap (λ p. (view s).path ++ p) (sym e);
         answer = answered out d;
         few = few_of out e d;
+        freed = freed_of out e d;
         refused = refused_by out e d;
       }
     where
@@ -62,6 +63,10 @@ module _ (r : Arena) (s u x : Seat) (es : List Event) (w : ExtendsPath (view s) 
       few_of : (o : Result (Option Taken) Refusal) → added s x ≡ es ++ added u x → Draws r u x before turns o → OnOk o (spent + failed_turns (added s x) ≤ turns)
       few_of (Ok v) e d = (let c = ap failed_turns e in let n = d.few in omega (arith, failed-append es (added u x), c, n, more))
       few_of (Err why) e d = tt
+
+      freed_of : (o : Result (Option Taken) Refusal) → added s x ≡ es ++ added u x → Draws r u x before turns o → OnOk o (EmptiesPocket s x spent turns)
+      freed_of (Ok v) e d = ⊎_elim (λ none. inl none) (λ all. inr (let c = ap failed_turns e in omega (arith, failed-append es (added u x), c, all, more))) d.freed
+      freed_of (Err why) e d = tt
 
       refused_by : (o : Result (Option Taken) Refusal) → added s x ≡ es ++ added u x → Draws r u x before turns o → IfErr o (λ why. HadNoEffect s x × DrawRefused r s x spent turns why)
       refused_by (Ok v) e d = tt
@@ -142,6 +147,7 @@ pop_gives_up r s t spent turns (suc m) some all g =
       path = g.walks.path ∙ ap (λ p. (view s).path ++ p) (sym e);
       answer = tt;
       few = tt;
+      freed = tt;
       refused = (
         subst (ExtendsPath (view s) (view t)) (sym e) g.walks,
         ((let c = ap failed_turns e in let f = g.failed in omega arith), ends_failed s (keeping t None turns) g.lines e (g.last some)),
@@ -160,10 +166,52 @@ pop_worn r s t why failed turns f =
       path = k.walks.path ∙ ap (λ p. (view s).path ++ p) (sym e);
       answer = tt;
       few = tt;
+      freed = tt;
       refused = (
         subst (ExtendsPath (view s) (view t)) (sym e) k.walks,
         subst (DrawRefused r s (keeping t None failed) failed turns) (sym k.is) (last_held r s (keeping t None failed) f.lines _ e k.cause),
       );
+    }
+
+-- the node that comes free is given back, or stays in the pocket
+pub pop_took : (r : Arena) (s t x : Seat) (l : Line) (a : Running) (h : Held) (failed turns : ℕ) (out : Result (Unit {0}) Refusal) → failed < turns → Fronts r s t (Goes l a) → GiveAnswers r (keeping t (Some h) failed) x (turns - failed) out → Draws r s x failed turns (Ok (Some (value_of a.val)))
+pop_took r s t x l a h failed turns out less f g =
+    let acts : Acts (view s) (view x) (Pop (view s).number (value_of a.val)) (f.lines ++ added t x) = act_then (view s) (view t) (view x) (Pop (view s).number (value_of a.val)) f.lines (added t x) f.fronted.acts (record { walks = g.lines; same = g.seen }) in
+    let e : added s x ≡ f.lines ++ added t x = added_path s x (f.lines ++ added t x) acts.path in
+    let all : failed_turns (added s x) ≡ failed_turns (added t x) = (let c = ap failed_turns e in let z = f.never in omega (arith, failed-append f.lines (added t x), z, c)) in
+    let most : failed_turns (added t x) ≤ turns - failed = spends out g in
+    record {
+      ready = g.ready;
+      same = record { number = g.same.number ∙ f.stored.number; role = g.same.role ∙ f.stored.role };
+      path = acts.path ∙ ap (λ p. (view s).path ++ p) (sym e);
+      answer = acts.adds;
+      few = omega (arith, all, most, less);
+      freed = gave out all g;
+      refused = tt;
+    }
+  where
+    spends : (o : Result (Unit {0}) Refusal) → GiveAnswers r (keeping t (Some h) failed) x (turns - failed) o → failed_turns (added t x) ≤ turns - failed
+    spends (Ok u) g = let n : failed_of x ≡ failed_turns (added t x) = g.failed in let k = g.fewer in omega arith
+    spends (Err why) g = let n : failed_turns (added t x) ≡ turns - failed = g.refused.1 in omega arith
+
+    gave : (o : Result (Unit {0}) Refusal) → failed_turns (added s x) ≡ failed_turns (added t x) → GiveAnswers r (keeping t (Some h) failed) x (turns - failed) o → EmptiesPocket s x failed turns
+    gave (Ok u) all g = inl g.pocket
+    gave (Err why) all g = inr (let n : failed_turns (added t x) ≡ turns - failed = g.refused.1 in omega (arith, all, n, less))
+
+-- the queue was found empty
+pub pop_empty : (r : Arena) (s t : Seat) (failed turns : ℕ) → failed < turns → Fronts r s t Empty → Draws r s (keeping t None failed) failed turns (Ok None)
+pop_empty r s t failed turns less f =
+    let k = f.fronted in
+    let e : added s t ≡ f.lines = added_path s t f.lines k.path in
+    let rest : at_rest (view t).actor ≡ (view t).actor = ap (out_of (view t).actor) k.over in
+    record {
+      ready = record { seat = kept_seat r t None failed f.seat; free = ap (λ b. b.line) rest ∙ k.over; pocket = sym (ap (λ b. b.pocket) rest ∙ f.empty) };
+      same = record { number = f.stored.number; role = f.stored.role };
+      path = k.path ∙ ap (λ p. (view s).path ++ p) (sym e);
+      answer = k.found;
+      few = (let c = ap failed_turns e in omega (arith, f.never, less, c));
+      freed = inl refl;
+      refused = tt;
     }
 
 -- with no failed turn before
@@ -171,17 +219,21 @@ few_of_all : (s x : Seat) (turns : ℕ) (out : Result (Option Taken) Refusal) �
 few_of_all s x turns (Ok v) h = (let f = h in omega arith)
 few_of_all s x turns (Err why) h = tt
 
+freed_of_all : (s x : Seat) (turns : ℕ) (out : Result (Option Taken) Refusal) → OnOk out (EmptiesPocket s x 0 turns) → OnOk out (FreesItsNode s x turns)
+freed_of_all s x turns (Ok v) h = ⊎_elim (λ none. inl none) (λ all. inr (let f = all in omega arith)) h
+freed_of_all s x turns (Err why) h = tt
+
 -- a pop after a give back
 pub after_give : (r : Arena) (s u x : Seat) (spent turns : ℕ) (out : Result (Option Taken) Refusal) → KeepsName s u → HadNoEffect s u → spent ≡ failed_turns (added s u) → Draws r u x spent turns out → AnswersPop r s x turns out
 after_give r s u x spent turns out name w f d =
     let all : Draws r s x 0 turns out = draws_late r s u x (added s u) w 0 spent turns (omega (arith, f)) out name d in
-    record { ready = all.ready; same = all.same; answer = all.answer; few = few_of_all s x turns out all.few; refused = all.refused }
+    record { ready = all.ready; same = all.same; answer = all.answer; few = few_of_all s x turns out all.few; freed = freed_of_all s x turns out all.freed; refused = all.refused }
 
 -- the pop of a seat whose pocket was empty
 pub drawn_at_once : (r : Arena) (s v x : Seat) (n turns : ℕ) (out : Result (Option Taken) Refusal) → v ≡ s → n ≡ 0 → Draws r v x n turns out → AnswersPop r s x turns out
 drawn_at_once r s v x n turns out e f d =
     let all : Draws r s x 0 turns out = subst (λ u. Draws r u x 0 turns out) e (subst (λ m. Draws r v x m turns out) f d) in
-    record { ready = all.ready; same = all.same; answer = all.answer; few = few_of_all s x turns out all.few; refused = all.refused }
+    record { ready = all.ready; same = all.same; answer = all.answer; few = few_of_all s x turns out all.few; freed = freed_of_all s x turns out all.freed; refused = all.refused }
 
 -- the pop of a seat that first gave its node back
 pub drawn_after_give : (r : Arena) (s u v x : Seat) (spent n turns : ℕ) (out : Result (Option Taken) Refusal) → v ≡ u → n ≡ spent → KeepsName s u → HadNoEffect s u → spent ≡ failed_turns (added s u) → Draws r v x n turns out → AnswersPop r s x turns out

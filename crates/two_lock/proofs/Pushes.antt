@@ -41,7 +41,6 @@ after_take r s t u h body spent turns (Err why) name w f k =
     let es : List Event = added s t ++ added t u in
     let both : ExtendsPath (view s) (view u) es = walk_then (view s) (view t) (view u) (added s t) (added t u) w k.refused.1 in
     let e : added s u ≡ es = added_is s u es both in
-    let z : EndsFailed t u = k.refused.3 in
     record {
       ready = k.ready;
       same = record { number = k.same.number ∙ name.number; role = k.same.role ∙ name.role };
@@ -49,7 +48,7 @@ after_take r s t u h body spent turns (Err why) name w f k =
       refused = (
         subst (ExtendsPath (view s) (view u)) (sym e) both,
         busy r s u turns why k.refused.0 (let c = ap failed_turns e in let g = k.refused.2 in omega (arith, failed-append (added s t) (added t u), c, f, g))
-            (ends_failed s u es e (failed_behind (added s t) (added t u) (record { before = z.before; last = z.last; path = z.path; failed = z.failed }))),
+            (ends_failed s u es e (failed_behind (added s t) (added t u) k.refused.3)),
       );
     }
 

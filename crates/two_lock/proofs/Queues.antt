@@ -1,5 +1,5 @@
 -- What the calls of the queue tell, in words of its seats.
-use Rattle.std.proofs.Common.{◌≡◌, ℕ, List, Option, Result, Ok, Err, IfErr, OnOk, OnErr, sym, ap, ◌∙◌}
+use Rattle.std.proofs.Common.{◌≡◌, ℕ, List, Option, None, Result, Ok, Err, IfErr, OnOk, OnErr, sym, ap, ◌∙◌}
 use Rattle.history.specs.declared.operations.Entry.{Entry}
 use Rattle.history.specs.declared.operations.Taken.{Taken}
 use Rattle.history.specs.declared.refusals.Refusal.{Refusal}
@@ -8,11 +8,11 @@ use Rattle.history.specs.Answers.{Pushed, SeesMore, Meets, StopsPush, StopsPop}
 use Rattle.node_arena.specs.declared.arena.Arena.{Arena}
 use Rattle.node_arena.specs.declared.seats.Seat.{Seat}
 use Rattle.node_arena.specs.Seats as seats
-use Rattle.node_arena.specs.Seats.{IsReady, KeepsName, Sees, view, known_of}
+use Rattle.node_arena.specs.Seats.{IsReady, KeepsName, Sees, view, known_of, pocket_of}
 use Rattle.node_arena.specs.Paths.{added}
 use Rattle.node_arena.proofs.Paths.{sees_on}
 use Rattle.two_lock.specs.Pushes as pushes
-use Rattle.two_lock.specs.Pushes.{PushRefused}
+use Rattle.two_lock.specs.Pushes.{FailsFewer, PushRefused}
 use Rattle.two_lock.specs.Pops as pops
 use Rattle.two_lock.specs.Pops.{PopRefused}
 
@@ -30,6 +30,14 @@ module _ (r : Arena) (s t : Seat) {body turns : ℕ} where
   pub push_done : (out : Result (Unit {0}) Refusal) → pushes.AnswersPush r s t body turns out → OnOk out (Pushed (known_of s) body (known_of t))
   push_done (Ok u) h = h.pushed.0.adds
   push_done (Err why) h = tt
+
+  pub push_few : (out : Result (Unit {0}) Refusal) → pushes.AnswersPush r s t body turns out → OnOk out (FailsFewer s t turns)
+  push_few (Ok u) h = h.pushed.2
+  push_few (Err why) h = tt
+
+  pub push_empties : (out : Result (Unit {0}) Refusal) → pushes.AnswersPush r s t body turns out → OnOk out (pocket_of t ≡ None)
+  push_empties (Ok u) h = h.pushed.1
+  push_empties (Err why) h = tt
 
   pub push_refused : (out : Result (Unit {0}) Refusal) → pushes.AnswersPush r s t body turns out → OnErr out (SeesMore (known_of s) (known_of t))
   push_refused (Ok u) h = tt

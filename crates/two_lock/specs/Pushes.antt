@@ -99,9 +99,13 @@ pub record Puts (r : Arena) (s t : Seat) (h : Held) (body spent turns : ℕ) (ou
 abbrev pub PushRefused : Arena → Seat → Seat → (turns : ℕ) → Refusal → Type 0
 PushRefused r s t turns why = TakeRefused r s t turns why
 
+-- fewer turns than allowed failed
+abbrev pub FailsFewer : Seat → Seat → (turns : ℕ) → Type 0
+FailsFewer s t turns = failed_turns (added s t) < turns
+
 -- what a push answers
 pub record AnswersPush (r : Arena) (s t : Seat) (body turns : ℕ) (out : Result (Unit {0}) Refusal) : Type 0 where
   pub ready : IsReady r t
   pub same : KeepsName s t
-  pub pushed : OnOk out (DidPush s t body × (pocket_of t ≡ None) × (failed_turns (added s t) < turns))
+  pub pushed : OnOk out (DidPush s t body × (pocket_of t ≡ None) × FailsFewer s t turns)
   pub refused : IfErr out (λ why. HadNoEffect s t × PushRefused r s t turns why)

@@ -8,6 +8,7 @@ use super::runs::{
     closed_with_one, goes, last, left_one, one_seat_pops_what_it_pushed,
     two_threads_pop_each_value_once, values_come_in_their_order,
 };
+use super::waiting::waiting_calls_go_on;
 use history::{Refusal, WornWord};
 use node_arena::{Role, Seat};
 use std::alloc::Global;
@@ -53,6 +54,24 @@ fn a_worn_head_refuses_pops(rt: HostRuntime) -> Result<(), Fail> {
     ];
     goes(&rt, &queue, &mut seat, &calls);
     Ok(())
+}
+
+/// A pop that nothing disturbs gives its node back: the pocket is empty after it.
+#[test]
+fn a_pop_gives_its_node_back(rt: HostRuntime) -> Result<(), Fail> {
+    let (queue, mut seats) = queue_of(rt.alloc(), 3, AMPLE_COUNT, &[Role::Both])?;
+    let mut seat = last(&queue, &mut seats)?;
+    let calls = [Told::Push(1, Ok(())), Told::Pop(Ok(Some((1, 1))))];
+    goes(&rt, &queue, &mut seat, &calls);
+    assert_eq!(rt; seat.pocket(), None);
+    Ok(())
+}
+
+/// Calls that wait try again where they are busy.
+#[test]
+fn calls_that_wait_try_again(rt: HostRuntime) -> Result<(), Fail> {
+    let (queue, seats) = queue_of(rt.alloc(), 2, AMPLE_COUNT, &[Role::Both])?;
+    waiting_calls_go_on(&rt, queue, seats)
 }
 
 /// The first value pushed comes first, and the second one is left.

@@ -6,7 +6,7 @@ use Rattle.node_arena.proofs.Ends.{ends, queue_at_end, closes_at_end}
 use Rattle.node_arena.proofs.arena.Arena.close.Goals as goal
 
 pub load_new_seat-requires : goal.load_new_seat-requires
-load_new_seat-requires c = let w = c.args.self.laid_out.words in (omega arith, enters _ _)
+load_new_seat-requires c = let w = c.args.self.laid_out.words in (omega arith, enters _ _ _)
 
 pub rest_of-rest-requires-clause-queue : goal.rest_of-rest-requires-clause-queue
 rest_of-rest-requires-clause-queue c =
