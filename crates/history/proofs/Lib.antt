@@ -14,6 +14,7 @@ mod TwoOrders
 mod SmallOrders
 mod Tallying
 mod Unplaced
+mod OwnOrders
 pub mod Learning
 pub mod Sums
 mod NoSpaces

@@ -1,5 +1,5 @@
--- Linearizable histories, as Herlihy and Wing define them: no place of an operation is read.
-use Rattle.std.specs.Prelude.{◌≡◌, ◌≤◌, List, [], ◌∷◌, ◌++◌, map, None, Some, IfSome}
+-- Linearizable histories, as Herlihy and Wing define them where no actor's operations overlap: no place is read.
+use Rattle.std.specs.Prelude.{◌≡◌, ◌<◌, ◌≤◌, ◌⊎◌, List, [], ◌∷◌, ◌++◌, map, None, Some, IfSome, IsSomeAnd, AllPairs}
 use Rattle.std.specs.List.{AllByRecursion}
 use Rattle.std.specs.List.Sorted.{IsPermutation}
 use Rattle.history.specs.declared.operations.Reply.{Reply}
@@ -58,3 +58,16 @@ pub record DifferInPlace (o p : Stamped) : Type 0 where
   pub first : p.first ≡ o.first
   pub last : p.last ≡ o.last
   pub reply : p.reply ≡ o.reply
+
+-- an operation ended before another began
+abbrev pub EndsBefore : Stamped → Stamped → Type 0
+EndsBefore o p = IsSomeAnd o.last (λ last. last < p.first)
+
+-- No actor's operations overlap: of any two of one actor, one ended before the other began. Herlihy and Wing ask it of
+-- each history; whether one is linearizable is asked here without it.
+abbrev pub IsOneAtATime : List Stamped → Type 0
+IsOneAtATime ops = AllPairs (λ o p. o.actor ≡ p.actor → EndsBefore o p ⊎ EndsBefore p o) ops
+
+-- each actor's operations stand in a list in the order in which it made them: each ended before the next began
+abbrev pub KeepsOwnOrders : List Stamped → Type 0
+KeepsOwnOrders ops = AllPairs (λ o p. o.actor ≡ p.actor → EndsBefore o p) ops

@@ -44,3 +44,7 @@ pending_push_taken = pending_push 1 ∷ pop 2 2 3 (Value five) ∷ []
 -- a pop that began before the push of 5 ended finds the queue empty
 abbrev pub overlapping_pop_is_empty : List Stamped
 overlapping_pop_is_empty = push 1 3 ∷ pop 2 2 4 Empty ∷ []
+
+-- an actor pops while its own push of 5 goes on, and finds the queue empty
+abbrev pub own_pop_during_push : List Stamped
+own_pop_during_push = push 1 3 ∷ pop 1 2 4 Empty ∷ []

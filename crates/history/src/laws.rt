@@ -1,5 +1,5 @@
 //! Laws of the verdict on a history and of its text, each the contract of a function that does nothing.
-ghost use Rattle.std.specs.Prelude.{◌≡◌, ◌≢◌, ◌↔◌, ◌≤◌, ℕ, List, map, is_some};
+ghost use Rattle.std.specs.Prelude.{◌≡◌, ◌≢◌, ◌↔◌, ◌≤◌, ◌++◌, ℕ, List, map, is_some};
 ghost use Rattle.std.specs.List.{filter};
 ghost use Rattle.std.specs.List.Sorted.{IsPermutation};
 ghost use Rattle.history.specs.declared.operations.Stamped.{Stamped};
@@ -9,9 +9,9 @@ ghost use Rattle.history.specs.declared.operations.Cause.TheVariants.{Shape, Spa
 ghost use Rattle.history.specs.History.{Placement, IsLegal, by_point, verdict};
 ghost use Rattle.history.specs.Faults.{FirstIsMisshapen, FirstIsOutside, FirstIsShared, FirstIsWrong};
 ghost use Rattle.history.specs.Order.{Rises};
-ghost use Rattle.history.specs.Linearizability.{IsLinearizable, DifferInPlace};
+ghost use Rattle.history.specs.Linearizability.{IsLinearizable, DifferInPlace, operations_of, IsOneAtATime, KeepsOwnOrders};
 ghost use Rattle.history.specs.Tallies.{takes, pushes};
-ghost use Rattle.history.specs.SmallHistories.{taken_too_early, push_lost, taken_twice, pending_push_taken, overlapping_pop_is_empty};
+ghost use Rattle.history.specs.SmallHistories.{taken_too_early, push_lost, taken_twice, pending_push_taken, overlapping_pop_is_empty, own_pop_during_push};
 ghost use Rattle.text_lines.specs.declared.causes.TextCause.{TextCause};
 ghost use Rattle.history.specs.HistoryText.{history_text};
 ghost use Rattle.history.specs.HistoryLines.{IsHistoryInRange, HasFirstFault};
@@ -59,6 +59,14 @@ pub fn linearizable_reads_no_places()
         → IsLinearizable ops → IsLinearizable (map f ops) }
 {}
 
+/// Where no actor's operations overlap, each order that shows a history to be linearizable has each actor's operations in
+/// the order in which the actor made them; one that is left out is its actor's last. So the definition is there that of
+/// Herlihy and Wing, who ask the first of each history and the second of each order.
+pub fn an_order_keeps_each_actors_own()
+    ensures { (ops : List Stamped) (shown : IsLinearizable ops) → IsOneAtATime ops
+        → KeepsOwnOrders (operations_of shown.order ++ shown.left_out) }
+{}
+
 /// In a linearizable history no value is taken more often than it was pushed, by operations that were not refused.
 pub fn a_value_is_taken_at_most_as_often_as_pushed()
     ensures { (ops : List Stamped) (v : Taken) → IsLinearizable ops → takes v ops ≤ pushes v ops }
@@ -76,6 +84,12 @@ pub fn wrong_histories_are_not_linearizable()
 pub fn overlaps_are_linearizable()
     ensures pending { IsLinearizable pending_push_taken }
     ensures overlapping { IsLinearizable overlapping_pop_is_empty }
+{}
+
+/// Whether an actor's own operations overlap is not asked of a linearizable history: one in which they do may be.
+pub fn own_overlaps_are_not_asked()
+    ensures linearizable { IsLinearizable own_pop_during_push }
+    ensures overlapping { ¬ IsOneAtATime own_pop_during_push }
 {}
 
 /// A text is that of one history in range at most.

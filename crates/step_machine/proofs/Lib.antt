@@ -13,6 +13,7 @@ pub mod StampsLines
 pub mod StampsInvariants
 pub mod StampsMoves
 pub mod StampsLaws
+mod OneAtATime
 pub mod Words
 pub mod Tables
 pub mod Few

@@ -1,5 +1,5 @@
 -- What the stamps of operations name: numbers of their actors' own moves, one operation of an actor after the other.
-use Rattle.std.specs.Prelude.{◌≡◌, ℕ, ◌-◌, ◌<◌, ◌≤◌, ◌⊎◌, List, [], ◌∷◌, ◌++◌, map, Some, None, IfSome, IsSomeAnd, slice_get}
+use Rattle.std.specs.Prelude.{◌≡◌, ℕ, ◌-◌, ◌<◌, ◌≤◌, ◌⊎◌, Bool, ◌||◌, is_some, List, [], ◌∷◌, ◌++◌, map, Some, None, IfSome, IsSomeAnd, slice_get}
 use Rattle.step_machine.specs.Below.{Stamped, IsPlaced, Setup}
 use Rattle.step_machine.specs.declared.actors.Move.{Move}
 use Rattle.step_machine.specs.declared.actors.Move.TheVariants.{Begin, Step, Give}
@@ -44,6 +44,10 @@ pub record HasNoEffect (o : Stamped) : Type 0 where
   pub no_last : o.last ≡ None
   pub no_place : o.at ≡ None
   pub no_reply : o.reply ≡ None
+
+-- whether an operation ended or took effect
+abbrev pub has_trace : Stamped → Bool
+has_trace o = is_some o.last || is_some o.at
 
 -- the first of two operations has ended before the other begins, if one actor made both
 abbrev pub DoNotOverlap : Stamped → Stamped → Type 0

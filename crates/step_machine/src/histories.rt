@@ -1,6 +1,8 @@
 //! Laws of all histories, of both queues at once. Each is the contract of a function that does nothing.
+ghost use Rattle.std.specs.List.{filter};
 ghost use Rattle.history.specs.History.{Placement, IsLegal};
-ghost use Rattle.history.specs.Linearizability.{IsLinearizable};
+ghost use Rattle.history.specs.Linearizability.{IsLinearizable, IsOneAtATime};
+ghost use Rattle.step_machine.specs.Stamps.{has_trace, AfterMoves, AfterCalls};
 ghost use Rattle.step_machine.specs.EachQueue.{ReplaysToItsValues};
 ghost use Rattle.step_machine.specs.TakingEffect.{ArePlacedByEffect, HaveTheirEffect};
 ghost use Rattle.step_machine.specs.TakingEffect.{OfOperations, OfOperationsOfCalls};
@@ -15,6 +17,13 @@ ghost use Rattle.step_machine.specs.Entries.{AreFew, PlaysToItsValues};
 /// before another began comes first, and which is a run of one first-in-first-out list that gives every reply given.
 pub fn every_history_is_linearizable()
     ensures { OfEachHistory IsLinearizable }
+{}
+
+/// In a history of calls no actor's operations overlap, as Herlihy and Wing ask of each history: of any two of one actor,
+/// one ended before the other began. After rests the same holds of all operations that ended or took effect.
+pub fn no_actors_operations_overlap()
+    ensures calls { AfterCalls (λ w. IsOneAtATime w.operations) }
+    ensures with_rests { AfterMoves (λ moves w. IsOneAtATime (filter has_trace w.operations)) }
 {}
 
 /// Every history is placed and legal: of either queue, of any size, greatest count and number of actors in range, and
