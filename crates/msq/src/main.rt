@@ -1,4 +1,4 @@
-//! Runs a schedule of queue calls, one atomic line at a time, and writes the history of its calls.
+//! The program `msq`: it runs schedules, judges histories, does jobs and posts letters, as its words ask for.
 #![tactic(auto)]
 
 mod program;
