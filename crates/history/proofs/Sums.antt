@@ -1,6 +1,7 @@
 -- The entries of some seats in a history: they are at most all, and they are all where no entry is another's.
 use Rattle.std.proofs.Common.{◌≡◌, ◌≢◌, ◌↔◌, ℕ, ◌+◌, ◌-◌, ◌<◌, ◌≤◌, zero, suc, Bool, true, false, cond, nat_eq, IsTrue, Option, Some, None, IsSomeAnd, slice_get, slice_index_or, List, [], ◌∷◌, ◌++◌, length, length-append, sym, refl, ap, ◌∙◌, arith, eq-eqb, eqb-true, ne_eqb}
 use Rattle.std.specs.List.{All, count_by, sum_by}
+use mathlib.Core.List.{IsPrefix}
 use Rattle.std.proofs.lemmas.List.Elements.{All-nil, All-cons, All-head, All-tail}
 use Rattle.std.proofs.lemmas.List.Sums.{sum_by-cons}
 use Rattle.std.proofs.lemmas.List.Recursion.{is_count_by}
@@ -208,14 +209,15 @@ module _ (ks : List Known) (es : List Entry) (apart : AreApart ks) (own : All (�
       omega (arith, made_is p ks es own, by_seat-is p ks es, by_entry-whole p ks apart es each, count-is p es)
 
 -- a queue is closed by seats with numbers apart, where its rest is whole exactly if they made all pushes and pops
-pub closes : (permits : List Permit) (ks : List Known) (rest : Rest) (es : List Entry) → LeadsTo es (left_of rest) → All (IsPermitted permits) es → All (λ k. own_entries k.number es ≡ k.mine) ks → AreApart ks → taken_of rest ≡ count_by is_pop es
+pub closes : (permits : List Permit) (ks : List Known) (rest : Rest) (es : List Entry) → LeadsTo es (left_of rest) → All (IsPermitted permits) es → All (λ k. IsPrefix k.seen es) ks → All (λ k. own_entries k.number es ≡ k.mine) ks → AreApart ks → taken_of rest ≡ count_by is_pop es
     → (IsTrue (whole_of rest) ↔ ((pops_of ks ≡ taken_of rest) × (pushes_of ks ≡ taken_of rest + length (left_of rest)))) → Closes permits ks rest
-closes permits ks rest es leads permitted own apart counted whole =
+closes permits ks rest es leads permitted begins own apart counted whole =
     let pushed = pushes-LeadsTo es (left_of rest) leads in
     record {
       history = es;
       leads = leads;
       permitted = permitted;
+      begins = begins;
       own = own;
       counted = counted;
       whole = whole;

@@ -1,6 +1,7 @@
 -- What is known of a queue that was closed.
 use Rattle.std.specs.Prelude.{◌≡◌, ◌↔◌, ℕ, ◌+◌, ◌≤◌, IsTrue, List, length, IsSomeAnd, slice_get}
 use Rattle.std.specs.List.{All, count_by, sum_by}
+use mathlib.Core.List.{IsPrefix}
 use Rattle.history.specs.declared.operations.Entry.{Entry}
 use Rattle.history.specs.declared.rests.Rest.{Rest}
 use Rattle.history.specs.Entries.{is_push, is_pop, seat_of, own_entries, LeadsTo}
@@ -23,13 +24,15 @@ IsOfOne seats e = (n : ℕ) × IsSomeAnd (slice_get seats n) (λ k. seat_of e �
 abbrev pub AreAll : List Permit → List Known → Type 0
 AreAll permits seats = (n : ℕ) → 1 ≤ n → n ≤ length permits → (i : ℕ) × IsSomeAnd (slice_get seats i) (λ k. k.number ≡ n)
 
--- a queue was closed by these seats: a legal history that has just their own entries as theirs leads to the values left, and
--- its pops were counted; it is whole exactly where these seats made that many pops, and pushes for those and the values left,
--- and then it has their entries and no others; where each seat is handed in, it is whole
+-- a queue was closed by these seats: a legal history that begins with what each of them had seen, and has just their own
+-- entries as theirs, leads to the values left, and its pops were counted; it is whole exactly where these seats made that
+-- many pops, and pushes for those and the values left, and then it has their entries and no others; where each seat is
+-- handed in, it is whole
 pub record Closes (permits : List Permit) (seats : List Known) (rest : Rest) : Type 0 where
   pub history : List Entry
   pub leads : LeadsTo history (left_of rest)
   pub permitted : All (IsPermitted permits) history
+  pub begins : All (λ k. IsPrefix k.seen history) seats
   pub own : All (λ k. own_entries k.number history ≡ k.mine) seats
   pub counted : taken_of rest ≡ count_by is_pop history
   pub whole : IsTrue (whole_of rest) ↔ ((pops_of seats ≡ taken_of rest) × (pushes_of seats ≡ taken_of rest + length (left_of rest)))

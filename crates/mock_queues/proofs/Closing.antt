@@ -1,6 +1,7 @@
 -- What is known of a queue with no room that was closed.
 use Rattle.std.proofs.Common.{◌≡◌, true, IsTrue, List, [], ◌∷◌, length, map, sym, refl, ap, ◌∙◌, arith}
 use Rattle.std.specs.List.{All}
+use mathlib.Core.List.{IsPrefix}
 use Rattle.std.proofs.lemmas.List.Elements.{All-nil, All-cons}
 use Rattle.history.specs.declared.rests.Rest.{Rest}
 use Rattle.history.specs.Entries.{own_entries}
@@ -14,6 +15,11 @@ use Rattle.mock_queues.specs.Full.{one_permit, knows_empties}
 own_none : (seats : List FullSeat) → All (λ k. own_entries k.number [] ≡ k.mine) (map knows_empties seats)
 own_none [] = All-nil (λ k. own_entries k.number [] ≡ k.mine)
 own_none (s ∷ ss) = All-cons (λ (k : Known). own_entries k.number [] ≡ k.mine) (knows_empties s) (map knows_empties ss) refl (own_none ss)
+
+-- and have seen nothing
+begin_none : (seats : List FullSeat) → All (λ k. IsPrefix k.seen []) (map knows_empties seats)
+begin_none [] = All-nil (λ k. IsPrefix k.seen [])
+begin_none (s ∷ ss) = All-cons (λ (k : Known). IsPrefix k.seen []) (knows_empties s) (map knows_empties ss) ([], refl) (begin_none ss)
 
 pushes_none : (seats : List FullSeat) → pushes_of (map knows_empties seats) ≡ 0
 pushes_none [] = refl
@@ -32,6 +38,7 @@ closes_empty seats rest left taken whole =
       history = [];
       leads = λ i. record { values = sym left i };
       permitted = All-nil (IsPermitted one_permit);
+      begins = begin_none seats;
       own = own_none seats;
       counted = taken;
       whole = (λ _. (pops_none seats ∙ sym taken, (let p = pushes_none seats in omega arith)), λ _. is_whole);

@@ -5,6 +5,7 @@ use Rattle.std.proofs.lemmas.List.{length-map}
 use Rattle.std.proofs.lemmas.List.Elements.{All-nil, All-cons, All-head, All-tail, All-weaker}
 use Rattle.std.proofs.lemmas.List.Sums.{sum_by-cons}
 use Rattle.std.proofs.lemmas.Option.{none-some, same_Some}
+use mathlib.Core.List.{IsPrefix}
 use mathlib.Core.Option.{some}
 use lib.ListN.{get_elem?}
 use Rattle.atomic_table.specs.Table.{Me, Final, Seen}
@@ -190,6 +191,11 @@ own_each : (t : Traced) (seats : List Seat) → ((k : ℕ) (s : Seat) → slice_
 own_each t [] f = All-nil (λ (k : Known). own_entries k.number t.history ≡ k.mine)
 own_each t (s ∷ ss) f = All-cons (λ (k : Known). own_entries k.number t.history ≡ k.mine) (known_of s) (map known_of ss) (f 0 s refl).own (own_each t ss (λ k. f (suc k)))
 
+-- and begin the history with what they have seen
+begins_each : (t : Traced) (seats : List Seat) → ((k : ℕ) (s : Seat) → slice_get seats k ≡ Some s → Fits t (view s)) → All (λ k. IsPrefix k.seen t.history) (map known_of seats)
+begins_each t [] f = All-nil (λ (k : Known). IsPrefix k.seen t.history)
+begins_each t (s ∷ ss) f = All-cons (λ (k : Known). IsPrefix k.seen t.history) (known_of s) (map known_of ss) ((f 0 s refl).rest, sym (f 0 s refl).begins) (begins_each t ss (λ k. f (suc k)))
+
 seat_at : (seats : List Seat) (i : ℕ) (k : Known) → slice_get (map known_of seats) i ≡ Some k → (s : Seat) × (slice_get seats i ≡ Some s) × (known_of s ≡ k)
 seat_at [] i k e = absurd (none-some k e)
 seat_at (s ∷ ss) zero k e = (s, refl, same_Some (known_of s) k e)
@@ -217,7 +223,7 @@ closes_at_end r seats words pushes pops rest e pushed popped h =
     let leads : LeadsTo t.history (left_of rest) = subst (λ vs. Plays empty t.history (record { values = vs })) same (history_plays t e.reached l.queue l.chain) in
     let head : ref_at (memory_words t.world.shared) 2 ≡ t.world.shared.head = head_is t.world.shared (shared_fits t.world (reached_in_range t.world (traced_reached t e.reached))) in
     let counted : taken_of rest ≡ count_by is_pop t.history = h.taken ∙ ap (λ ws. (ref_at ws 2).count) e.words_are ∙ ap (λ (x : Ref). x.count) head ∙ counts_pops t e.reached in
-    closes (permits_of r) (map known_of seats) rest t.history leads e.permitted (own_each t seats e.fits) (numbers_apart r.plan seats words e) counted
+    closes (permits_of r) (map known_of seats) rest t.history leads e.permitted (begins_each t seats e.fits) (own_each t seats e.fits) (numbers_apart r.plan seats words e) counted
     (λ w. let x = h.whole.0 w in (sym popped ∙ x.0, sym pushed ∙ x.1), λ x. h.whole.1 (popped ∙ x.0, pushed ∙ x.1))
 
 -- each seat of an arena brings a token of its table, and its own counts
