@@ -1,11 +1,14 @@
 -- What the rule of the table says of one moment, in words of the machine.
 use Rattle.std.specs.Prelude.{◌≡◌, ℕ, List, length, slice_index, Some}
+use mathlib.Core.List.{IsPrefix}
 use mathlib.Core.Option.{some}
 use lib.ListN.{get_elem?}
 use Rattle.atomic_table.specs.Table.{State}
+use Rattle.history.specs.Entries.{own_entries}
 use Rattle.history.specs.History.{Placement, IsLegal}
 use Rattle.history.specs.Linearizability.{IsLinearizable}
 use Rattle.step_machine.specs.Words.{memory_words}
+use Rattle.step_machine.specs.Entries.{entries}
 use Rattle.step_machine.specs.Machine.{World, AnyMove, run, opening, actor_of, IsSized}
 use Rattle.node_arena.specs.Traces.{Traced, IsTraced}
 use Rattle.node_arena.specs.Seeing.{SeatView, View, members}
@@ -13,7 +16,8 @@ use Rattle.node_arena.specs.Plans.{Layout}
 use Rattle.node_arena.specs.Rule.{Holds}
 
 -- a list of moves leads from the opening world to one with exactly these words, in which the actor of each seat is as the
--- seat says; its history is placed and legal, and linearizable
+-- seat says; of the pushes and pops of its operations a seat has seen the first ones, and just those by its actor are the
+-- seat's own; its history is placed and legal, and linearizable
 pub record IsLinearizableMoment (z : Layout) (s : State ℕ View) : Type 0 where
   pub actors : ℕ
   pub sized : IsSized z.setup actors
@@ -23,6 +27,8 @@ pub record IsLinearizableMoment (z : Layout) (s : State ℕ View) : Type 0 where
   pub count : length world.actors ≡ length z.roles
   pub words : s.words ≡ memory_words world.shared
   pub seats : (j i : ℕ) (u : View) (v : SeatView) → get_elem? s.views j ≡ some u → get_elem? (members u) i ≡ some v → actor_of world v.number ≡ Some v.actor
+  pub own : (j i : ℕ) (u : View) (v : SeatView) → get_elem? s.views j ≡ some u → get_elem? (members u) i ≡ some v → own_entries v.number (entries world) ≡ v.mine
+  pub begins : (j i : ℕ) (u : View) (v : SeatView) → get_elem? s.views j ≡ some u → get_elem? (members u) i ≡ some v → IsPrefix v.seen (entries world)
   pub placed : Placement world.operations
   pub legal : IsLegal world.operations
   pub linearizable : IsLinearizable world.operations

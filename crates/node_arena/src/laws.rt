@@ -8,8 +8,9 @@ ghost use Rattle.node_arena.specs.Causes.{TakersMeetNoCause};
 
 /// Between any two atomic steps of any threads, whichever of them stopped and also where nodes are used again: a list of
 /// begins, steps, give moves and rests leads from the opening world of the arena's setup to one with exactly the shared
-/// words, in which each seat's actor stands as the seat says. The history of that world is placed and legal, and so
-/// linearizable.
+/// words, in which each seat's actor stands as the seat says. Of the pushes and pops of that world's operations, by rising
+/// place, each seat has seen the first ones, and just those by its actor are the seat's own. The history of that world is
+/// placed and legal, and so linearizable.
 pub fn every_moment_is_linearizable()
     ensures { EachMomentIsLinearizable }
 {}
