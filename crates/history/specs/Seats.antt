@@ -1,9 +1,9 @@
 -- What a seat of a queue may do, and what it knows.
-use Rattle.std.specs.Prelude.{◌≡◌, ℕ, ◌-◌, ◌≤◌, Bool, IsTrue, List, IsSomeAnd, slice_get}
+use Rattle.std.specs.Prelude.{◌≡◌, ℕ, ◌-◌, ◌≤◌, Bool, IsTrue, List, [], length, take, IsSomeAnd, slice_get}
 use Rattle.std.specs.List.{All}
 use Rattle.history.specs.declared.operations.Entry.{Entry}
 use Rattle.history.specs.declared.operations.Entry.TheVariants.{Push, Pop}
-use Rattle.history.specs.Entries.{seat_of, own_entries, IsQueueRun}
+use Rattle.history.specs.Entries.{seat_of, own_entries, LeadsTo, IsQueueRun}
 
 -- what a seat may do: push, pop, both or neither
 pub record Permit : Type 0 where
@@ -35,8 +35,14 @@ pub record Known : Type 0 where
   pub mine : List Entry
   pub notes : List ℕ
 
--- what a seat knows is sound: what it has seen is legal and permitted, and its own entries are just those that it has seen
+-- so many of these entries, the first ones, leave the queue empty
+abbrev pub IsNoted : (seen : List Entry) → ℕ → Type 0
+IsNoted seen n = (n ≤ length seen) × LeadsTo (take n seen) []
+
+-- what a seat knows is sound: what it has seen is legal and permitted, its own entries are just those that it has seen, and
+-- the queue was empty after as many of these as each of its notes says
 pub record IsSound (permits : List Permit) (k : Known) : Type 0 where
   pub legal : IsQueueRun k.seen
   pub permitted : All (IsPermitted permits) k.seen
   pub own : own_entries k.number k.seen ≡ k.mine
+  pub noted : All (IsNoted k.seen) k.notes

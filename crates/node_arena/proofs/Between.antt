@@ -127,7 +127,7 @@ all_first : (es : List Entry) → take (length es) es ≡ es
 all_first es = ap (take (length es)) (sym (append-nil es)) ∙ take-append_seam es []
 
 -- D4 reads what follows the node of its register; where Head is that register still, this is the whole queue
-at_d4 : (t : Traced) (me : ℕ) (a : Actor) → IsTraced t → actor_of t.world me ≡ Some a → a.line ≡ Some D4 → (actor_at t.world.setup t me a D4).next.node ≡ 0
+pub at_d4 : (t : Traced) (me : ℕ) (a : Actor) → IsTraced t → actor_of t.world me ≡ Some a → a.line ≡ Some D4 → (actor_at t.world.setup t me a D4).next.node ≡ 0
     → LeftNothing (step_at t me a D4) (actor_at t.world.setup t me a D4) (event_at t.world.setup t me a D4).entries
 at_d4 t me a r is here null = record { some = omega arith; since = runs t.world.setup.kind refl }
   where

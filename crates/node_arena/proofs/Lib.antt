@@ -20,6 +20,7 @@ pub mod Ends
 pub mod Noted
 pub mod Between
 pub mod Causes
+pub mod Empties
 pub mod Permits
 pub mod Openings
 pub mod Values

@@ -1,16 +1,18 @@
 -- Seats that meet. No move of the world is made.
-use Rattle.std.proofs.Common.{◌≡◌, ◌≢◌, ℕ, ◌<◌, List, [], ◌∷◌, ◌++◌, zero, suc, length, get_or, set, sym, refl, ap, ◌∙◌, subst, ⊎_elim, ◌⊎◌, inl, inr, arith, append-nil}
+use Rattle.std.proofs.Common.{◌≡◌, ◌≢◌, ℕ, ◌<◌, None, List, [], ◌∷◌, ◌++◌, zero, suc, length, get_or, set, sym, refl, ap, ◌∙◌, subst, ⊎_elim, ◌⊎◌, inl, inr, arith, append-nil}
 use Rattle.std.proofs.lemmas.List.{set-get_or}
 use mathlib.Core.Option.{some, some-injective, some-ne-none}
 use lib.ListN.{get_elem?}
 use Rattle.atomic_table.specs.Table.{State, Me, Splits, Joins, Allows, keeps}
 use Rattle.atomic_table.proofs.Lists.{at_set, set_else, set_again}
 use Rattle.history.specs.Entries.{is_push, is_pop}
+use Rattle.history.specs.Seats.{IsNoted}
 use Rattle.node_arena.specs.Traces.{Traced, changed}
 use Rattle.node_arena.specs.Seeing.{SeatView, View, keeper, seated, paired, spent, members, knows, knows_second, both_of, first_of, second_of}
 use Rattle.node_arena.specs.Plans.{Layout}
 use Rattle.node_arena.specs.Rule.{Fits, Holds, Fitted, Met}
-use Rattle.std.specs.List.{count_by}
+use Rattle.std.specs.List.{All, count_by}
+use Rattle.std.proofs.lemmas.List.Elements.{All-weaker}
 use Rattle.atomic_table.specs.declared.shared.Seat.{Seat as Token}
 use Rattle.node_arena.specs.declared.views.Knowing.{Knowing}
 use Rattle.node_arena.specs.declared.arena.Arena.{Arena}
@@ -19,6 +21,7 @@ use Rattle.node_arena.specs.Prologues.{at_rest}
 use Rattle.node_arena.specs.Seats.{IsReady, Meets, view}
 use Rattle.node_arena.proofs.Tracing.{changed_here, changed_else}
 use Rattle.node_arena.proofs.StepsPreserve.{one_of}
+use Rattle.node_arena.proofs.Empties.{noted_more, saw_at_rest}
 use Rattle.node_arena.proofs.Deals.{at_end}
 
 -- the views change, and each actor that they speak of keeps its place in `own`
@@ -124,20 +127,30 @@ spares z id v s h at_id =
 abbrev learned : Traced → SeatView → SeatView
 learned t v = record v { seen = t.history }
 
-learns : (t : Traced) (v : SeatView) → Fits t v → Fits t (learned t v)
-learns t v f = record { actor = f.actor; path = f.path; rest = []; begins = sym (append-nil t.history); own = f.own; known = f.own }
+learns : (t : Traced) (v : SeatView) → (at_rest v.actor).line ≡ None → Fits t v → Fits t (learned t v)
+learns t v free f =
+    record {
+      actor = f.actor;
+      path = f.path;
+      rest = [];
+      begins = sym (append-nil t.history);
+      own = f.own;
+      known = f.own;
+      noted = subst (λ es. All (IsNoted es) v.notes) (sym f.begins) (All-weaker (IsNoted v.seen) (IsNoted (v.seen ++ f.rest)) (noted_more v.seen f.rest) v.notes f.noted);
+      saw = saw_at_rest t t.history v.actor v.actor.line refl free;
+    }
 
 -- a load of the word 0 by two seats that are one: both have seen the whole history
-pub meets : (z : Layout) (id : ℕ) (v w : SeatView) → Allows {S = ℕ} (Holds z) 0 id (paired v w, []) 0 (λ n. n) (λ n m. Met z v w m)
-meets z id v w s h none at_id fit =
+pub meets : (z : Layout) (id : ℕ) (v w : SeatView) → (at_rest v.actor).line ≡ None → (at_rest w.actor).line ≡ None → Allows {S = ℕ} (Holds z) 0 id (paired v w, []) 0 (λ n. n) (λ n m. Met z v w m)
+meets z id v w vf wf s h none at_id fit =
     let u : Traced = h.trace in
     let fv = h.fits id 0 (paired v w) v at_id refl in
     let fw = h.fits id 1 (paired v w) w at_id refl in
     let v' = learned u v in
     let w' = learned u w in
     let P : ℕ → ℕ → SeatView → Type 0 = λ j i o. Fits h.trace o × (h.owner o.number ≡ (j, i)) × (o.number < h.dealt) in
-    let first : P id 0 v' = let k = h.owned id 0 (paired v w) v at_id refl in (learns u v fv, k.0, k.1) in
-    let second : P id 1 w' = let k = h.owned id 1 (paired v w) w at_id refl in (learns u w fw, k.0, k.1) in (
+    let first : P id 0 v' = let k = h.owned id 0 (paired v w) v at_id refl in (learns u v vf fv, k.0, k.1) in
+    let second : P id 1 w' = let k = h.owned id 1 (paired v w) w at_id refl in (learns u w wf fw, k.0, k.1) in (
       paired v' w',
       keeps,
       tt,
@@ -161,8 +174,8 @@ spares_at key id me v is = subst (λ (y : Me ℕ View). Splits {S = ℕ} (Holds 
 pub pairs_at : (key : Layout) (id other : ℕ) (me him : Me ℕ View) (v w : SeatView) → me ≡ (seated v, []) → him ≡ (seated w, []) → Joins {S = ℕ} (Holds key) id me.0 other him.0 (both_of me.0 him.0) spent
 pairs_at key id other me him v w is his = subst (λ (y : Me ℕ View × Me ℕ View). Joins {S = ℕ} (Holds key) id y.0.0 other y.1.0 (both_of y.0.0 y.1.0) spent) (λ i. (sym is i, sym his i)) (pairs key id other v w)
 
-pub meets_at : (key : Layout) (slots id : ℕ) (me : Me ℕ View) (v w : SeatView) → slots ≡ 0 → me ≡ (paired v w, []) → Allows {S = ℕ} (Holds key) slots id me 0 (λ n. n) (λ n m. Met key (knows me.0) (knows_second me.0) m)
-meets_at key slots id me v w none is = subst (λ (y : ℕ × Me ℕ View). Allows {S = ℕ} (Holds key) y.0 id y.1 0 (λ n. n) (λ n m. Met key (knows y.1.0) (knows_second y.1.0) m)) (λ i. (sym none i, sym is i)) (meets key id v w)
+pub meets_at : (key : Layout) (slots id : ℕ) (me : Me ℕ View) (v w : SeatView) → slots ≡ 0 → (at_rest v.actor).line ≡ None → (at_rest w.actor).line ≡ None → me ≡ (paired v w, []) → Allows {S = ℕ} (Holds key) slots id me 0 (λ n. n) (λ n m. Met key (knows me.0) (knows_second me.0) m)
+meets_at key slots id me v w none vf wf is = subst (λ (y : ℕ × Me ℕ View). Allows {S = ℕ} (Holds key) y.0 id y.1 0 (λ n. n) (λ n m. Met key (knows y.1.0) (knows_second y.1.0) m)) (λ i. (sym none i, sym is i)) (meets key id v w vf wf)
 
 pub parts_at : (key : Layout) (id : ℕ) (me : Me ℕ View) (v w : SeatView) → me ≡ (paired v w, []) → Splits {S = ℕ} (Holds key) id me.0 (first_of me.0) (second_of me.0)
 parts_at key id me v w is = subst (λ (y : Me ℕ View). Splits {S = ℕ} (Holds key) id y.0 (first_of y.0) (second_of y.0)) (sym is) (parts key id v w)

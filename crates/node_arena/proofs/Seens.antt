@@ -89,6 +89,6 @@ seen_legal z v f = legal_first v.seen f.fits.rest (subst IsQueueRun f.fits.begin
 pub seen_permitted : (z : Layout) (v : SeatView) → Fitted z v → All (RolesPermit z.roles) v.seen
 seen_permitted z v f = All-first (RolesPermit z.roles) v.seen f.fits.rest (subst (All (RolesPermit z.roles)) f.fits.begins f.permitted)
 
--- and its own entries are just those that it has seen
+-- its own entries are just those that it has seen, and the queue was empty where it noted that
 pub sound_of : (z : Layout) (v : SeatView) → Fitted z v → IsSound (permits_by z.roles) (seeing.known_by v)
-sound_of z v f = record { legal = seen_legal z v f; permitted = seen_permitted z v f; own = f.fits.known }
+sound_of z v f = record { legal = seen_legal z v f; permitted = seen_permitted z v f; own = f.fits.known; noted = f.fits.noted }

@@ -1,8 +1,9 @@
 -- Each step of a seat at a line keeps the rule: one lemma for all lines and all forms of access.
-use Rattle.std.proofs.Common.{◌≡◌, ◌≢◌, ℕ, ◌-◌, ◌<◌, Bool, true, false, if◌then◌else◌, nat_eq, bit_and, Some, List, [], ◌∷◌, ◌++◌, zero, suc, length, get_or, set, slice_get, sym, refl, ap, ◌∙◌, subst, ⊎_elim, arith, append-nil, append_assoc}
-use Rattle.std.specs.List.{All}
+use Rattle.std.proofs.Common.{◌≡◌, ◌≢◌, ℕ, ◌-◌, ◌<◌, ◌≤◌, Bool, true, false, if◌then◌else◌, nat_eq, bit_and, Option, Some, List, [], ◌∷◌, ◌++◌, zero, suc, length, get_or, set, slice_get, sym, refl, ap, ◌∙◌, subst, ⊎_elim, arith, append-nil, append_assoc}
+use Rattle.std.specs.List.{All, count_by}
 use Rattle.std.proofs.lemmas.List.{set-get_or}
-use Rattle.std.proofs.lemmas.List.Elements.{All-append, filter-append}
+use Rattle.std.proofs.lemmas.List.Elements.{All-append, All-weaker, filter-append}
+use Rattle.std.proofs.lemmas.List.Sums.{sum_by-append}
 use mathlib.Core.Option.{some, some-injective, some-ne-none}
 use prog.Atomic.{either}
 use lib.ListN.{get_elem?}
@@ -10,7 +11,8 @@ use Rattle.atomic_table.specs.Table.{State, Me, keeps, Allows}
 use Rattle.atomic_table.proofs.Lists.{at_set}
 use Rattle.line_table.specs.declared.lines.Line.{Line}
 use Rattle.history.specs.declared.operations.Entry.{Entry}
-use Rattle.history.specs.Entries.{seat_of, own_entries}
+use Rattle.history.specs.Entries.{seat_of, own_entries, is_pop}
+use Rattle.history.specs.Seats.{IsNoted}
 use Rattle.line_steps.specs.declared.actors.Actor.{Actor}
 use Rattle.line_steps.specs.Memory.{word, found}
 use Rattle.line_steps.specs.Lines.{action}
@@ -27,9 +29,11 @@ use Rattle.node_arena.specs.Traces.{Traced, IsTraced, step_at, actor_at, outcome
 use Rattle.node_arena.specs.Prologues.{Prologue, after_prologue, CanStart}
 use Rattle.node_arena.specs.Seeing.{SeatView, View, keeper, seated, members, knows}
 use Rattle.node_arena.specs.Plans.{Layout, RolesPermit, PermitsLine}
-use Rattle.node_arena.specs.Rule.{Fits, IsNew, Holds, notes_of, Steps, Tells, line_or_first}
+use Rattle.node_arena.specs.Rule.{SawAt, Fits, IsNew, Holds, notes_of, Steps, Tells, line_or_first}
 use Rattle.node_arena.proofs.Tracing.{traced_reached, step_traced, step_here, step_else, step_count, changed_here, changed_else}
 use Rattle.node_arena.proofs.PrologueTraces.{Led, prologue_traced}
+use Rattle.node_arena.proofs.Histories.{counts_pops}
+use Rattle.node_arena.proofs.Empties.{noted_more, saw_later, saw_led, saw_after, noted_after}
 use Rattle.node_arena.proofs.Entering.{own_added, none_added, permitted_added}
 use Rattle.node_arena.proofs.Seens.{silent, later, begins_by, between, seen_is, whole_by, stays_by, known_by}
 
@@ -150,6 +154,25 @@ module _ (z : Layout) (s : State ℕ View) (h : Holds z s) (id : ℕ) (v : SeatV
   own : own_entries v.number t.history ≡ v.mine ++ es
   own = ap (own_entries v.number) history_is ∙ (filter-append (λ e. nat_eq (seat_of e) v.number) h.trace.history es ∙ (λ i. fit.own i ++ own_added z.setup u v.number a l i))
 
+  whole : sees l ≡ true → v'.seen ≡ t.history
+  whole = whole_by v.seen fit.rest es t.history parts (sees l)
+
+  stays : sees l ≡ false → v'.seen ≡ v.seen
+  stays = stays_by v.seen fit.rest es t.history parts (sees l)
+
+  seen : v'.seen ≡ v.seen ++ (between v.seen fit.rest es t.history parts (sees l) ++ es)
+  seen = seen_is v.seen fit.rest es t.history parts (sees l) quiet ∙ append_assoc v.seen (between v.seen fit.rest es t.history parts (sees l)) es
+
+  -- what the actor saw so before its step, its seat has seen
+  saw : sees l ≡ false → SawAt u v'.seen a (Some l) a.due
+  saw e = subst (λ (y : List Entry × Option Line). SawAt u y.0 a y.1 a.due) (λ i. (sym (stays e) i, line i)) (saw_led h.trace u v.seen z.setup v.number prologue v.actor (let c = ap (λ m. m.head.count) f.shared in omega arith) fit.saw)
+
+  noted : All (IsNoted v'.seen) v'.notes
+  noted =
+      All-append (IsNoted v'.seen) v.notes _
+      (subst (λ es. All (IsNoted es) v.notes) (sym seen) (All-weaker (IsNoted v.seen) _ (noted_more v.seen _) v.notes fit.noted))
+      (subst (λ s. All (IsNoted v'.seen) (notes_of (outcome_at s u v.number a l).reply v'.seen)) setup (noted_after u v.number a v'.seen l led_there.1 f.here line saw))
+
   me : Fits t v'
   me = record {
     actor = here;
@@ -158,7 +181,13 @@ module _ (z : Layout) (s : State ℕ View) (h : Holds z s) (id : ℕ) (v : SeatV
     begins = begins_by v.seen fit.rest es t.history parts (sees l);
     own = own;
     known = known_by v.seen fit.rest es t.history parts v.number v.mine (sees l) quiet own fit.known;
+    noted = noted;
+    saw = subst (λ s. SawAt t v'.seen (actor_at s u v.number a l) (actor_at s u v.number a l).line (actor_at s u v.number a l).due) setup (saw_after u v.number a l led_there.1 f.here line v'.seen whole);
   }
+
+  -- Head's count doesn't fall
+  rises : h.trace.world.shared.head.count ≤ t.world.shared.head.count
+  rises = omega (arith, counts_pops h.trace h.reached, counts_pops t reached, ap (count_by is_pop) history_is, sum_by-append (λ e. if is_pop e then 1 else 0) h.trace.history es)
 
   others : (o : SeatView) → o.number ≢ v.number → Fits h.trace o → Fits t o
   others o ne g = record {
@@ -168,6 +197,8 @@ module _ (z : Layout) (s : State ℕ View) (h : Holds z s) (id : ℕ) (v : SeatV
     begins = history_is ∙ (ap (λ hs. hs ++ es) g.begins ∙ append_assoc o.seen g.rest es);
     own = ap (own_entries o.number) history_is ∙ (filter-append (λ e. nat_eq (seat_of e) o.number) h.trace.history es ∙ (ap (λ ys. own_entries o.number h.trace.history ++ ys) (none_added z.setup u v.number o.number a l ne) ∙ (append-nil (own_entries o.number h.trace.history) ∙ g.own)));
     known = g.known;
+    noted = g.noted;
+    saw = saw_later h.trace t o.seen o.actor o.actor.line o.actor.due rises g.saw;
   }
 
   new : (n : ℕ) → n ≢ v.number → IsNew h.trace n → IsNew t n
@@ -229,8 +260,8 @@ module _ (z : Layout) (s : State ℕ View) (h : Holds z s) (id : ℕ) (v : SeatV
     path = refl;
     rest = between v.seen fit.rest es t.history parts (sees l);
     seen = seen_is v.seen fit.rest es t.history parts (sees l) quiet;
-    whole = whole_by v.seen fit.rest es t.history parts (sees l);
-    stays = stays_by v.seen fit.rest es t.history parts (sees l);
+    whole = whole;
+    stays = stays;
     mine = refl;
     notes = refl;
     fits = me;

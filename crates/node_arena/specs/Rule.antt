@@ -1,15 +1,17 @@
 -- The rule of the table: words and seats are those of a traced world that moves lead to.
-use Rattle.std.specs.Prelude.{◌≡◌, ℕ, ◌<◌, ◌≤◌, true, false, List, [], ◌∷◌, ◌++◌, length, Option, Some, None}
+use Rattle.std.specs.Prelude.{◌≡◌, ◌⊎◌, ℕ, ◌<◌, ◌≤◌, true, false, List, [], ◌∷◌, ◌++◌, length, Option, Some, None}
 use Rattle.std.specs.List.{All}
 use mathlib.Core.Option.{some}
 use lib.ListN.{get_elem?}
 use Rattle.atomic_table.specs.Table.{State, Me}
 use Rattle.line_table.specs.declared.lines.Line.{Line}
-use Rattle.line_table.specs.declared.lines.Line.TheVariants.{N1}
+use Rattle.line_table.specs.declared.lines.Line.TheVariants.{N1, D5, B6}
 use Rattle.history.specs.declared.operations.Entry.{Entry}
 use Rattle.history.specs.declared.operations.Reply.{Reply}
 use Rattle.history.specs.declared.operations.Reply.TheVariants.{Empty}
-use Rattle.history.specs.Entries.{own_entries}
+use Rattle.history.specs.Entries.{own_entries, LeadsTo}
+use Rattle.history.specs.Seats.{IsNoted}
+use Rattle.line_steps.specs.declared.actors.Actor.{Actor}
 use Rattle.step_machine.specs.Words.{memory_words}
 use Rattle.step_machine.specs.Machine.{idle, actor_of}
 use Rattle.node_arena.specs.Traces.{Traced, IsTraced, step_at, actor_at, outcome_at, event_at, entries_at, number_at, sees}
@@ -17,8 +19,17 @@ use Rattle.node_arena.specs.Prologues.{Prologue, after_prologue}
 use Rattle.node_arena.specs.Seeing.{SeatView, View, keeper, gathered, seated, paired, members, knows}
 use Rattle.node_arena.specs.Plans.{Layout, IsPlanned, RolesPermit}
 
+-- what an actor found before a line at which its call may answer empty: before D5, where it read null, what its seat has
+-- seen leaves the queue empty, or Head's count is above the one that it read; before B6, where an empty reply is due, what
+-- its seat has seen leaves the queue empty
+abbrev pub SawAt : Traced → (seen : List Entry) → Actor → Option Line → (due : Option Reply) → Type 0
+SawAt t seen a (Some D5) due = a.next.node ≡ 0 → (a.head.count < t.world.shared.head.count) ⊎ LeadsTo seen []
+SawAt t seen a (Some B6) (Some Empty) = LeadsTo seen []
+SawAt t seen a line due = Unit {0}
+
 -- a seat's actor and path are the traced world's, what it has seen is a beginning of the history, and its own entries
--- are just those of it, and just those that it has seen
+-- are just those of it, and just those that it has seen; the queue was empty after as many of these as each note says, and
+-- what its actor found that it may note next is so
 pub record Fits (t : Traced) (v : SeatView) : Type 0 where
   pub actor : actor_of t.world v.number ≡ Some v.actor
   pub path : t.paths v.number ≡ v.path
@@ -26,6 +37,8 @@ pub record Fits (t : Traced) (v : SeatView) : Type 0 where
   pub begins : t.history ≡ v.seen ++ rest
   pub own : own_entries v.number t.history ≡ v.mine
   pub known : own_entries v.number v.seen ≡ v.mine
+  pub noted : All (IsNoted v.seen) v.notes
+  pub saw : SawAt t v.seen v.actor v.actor.line v.actor.due
 
 -- nothing was done by a number
 pub record IsNew (t : Traced) (n : ℕ) : Type 0 where

@@ -40,7 +40,7 @@ pub fn what_d4_found_stays_noted()
 
 /// What a seat of an arena knows is sound, before and after each call: what it has seen is the history of a
 /// first-in-first-out list, each entry of it is permitted by its maker's role, and the seat's own entries are just those
-/// that it has seen.
+/// that it has seen. After as many of them as each of its notes says the queue was empty.
 pub fn what_a_seat_knows_is_sound()
     ensures { EachSeatIsSound }
 {}

@@ -1,8 +1,7 @@
 -- Where each line of a pop leads.
 use Rattle.std.proofs.Common.{◌≡◌, ◌≢◌, ℕ, ◌+◌, ◌<◌, Bool, true, false, nat_eq, if◌then◌else◌, Some, None, length, [], ◌∷◌, sym, refl, ap, ◌∙◌, arith}
-use Rattle.std.proofs.lemmas.Bool.{eqb-true, eqb-false}
+use Rattle.std.proofs.lemmas.Bool.{eqb-false}
 use Rattle.counted_ref.specs.Ref.{Ref, ref_of, is_null, same_ref}
-use Rattle.counted_ref.proofs.Words.{same_ref-true}
 use Rattle.line_table.specs.declared.lines.Line.{Line}
 use Rattle.line_table.specs.declared.lines.Line.TheVariants.{D2, D3, D4, D5, D10, D12, D13, F1}
 use Rattle.history.specs.declared.operations.Entry.TheVariants.{Pop}
@@ -73,8 +72,6 @@ module _ (r : Arena) (s t : Seat) (prologue : Prologue) (n : ℕ) (a : Running) 
     pub over : (view t).actor.line ≡ None
     pub empty : (view t).actor.pocket ≡ None
     pub replies : (out_at D5 d).reply ≡ Some reply.Empty
-    pub head : ref_of n ≡ a.head
-    pub null : a.next.node ≡ 0
 
   -- or Tail was worn out
   pub record FoundWorn (d : DidStep r s t prologue D5 n) (why : Refusal) : Type 0 where
@@ -135,7 +132,7 @@ module _ (r : Arena) (s t : Seat) (prologue : Prologue) (n : ℕ) (a : Running) 
         go true true true w e f g k =
             let is = fifth_is true true true w e f g k in
             let o = settled_as D5 d (fifth_outcome (d.told.was.world.steps + 1) true true true w) is in
-            record { over = ap (λ x. x.line) o; empty = ap (λ x. x.pocket) o ∙ h.before.empty; replies = ap (λ x. x.reply) is; head = same_ref-true (ref_of n) a.head e; null = eqb-true a.next.node 0 g }
+            record { over = ap (λ x. x.line) o; empty = ap (λ x. x.pocket) o ∙ h.before.empty; replies = ap (λ x. x.reply) is }
         go true true false true e f g k =
             let is = fifth_is true true false true e f g k in
             let o = settled_as D5 d (fifth_outcome (d.told.was.world.steps + 1) true true false true) is in

@@ -17,7 +17,7 @@ use Rattle.node_arena.specs.declared.seats.Seat.{Seat}
 use Rattle.node_arena.specs.Seats.{KeepsStored, DidStep, view, known_of}
 use Rattle.node_arena.specs.Turns.{failed_at, failed_turns, at_d2}
 use Rattle.node_arena.specs.Paths.{ExtendsPath}
-use Rattle.node_arena.proofs.Noted.{finds_nothing}
+use Rattle.node_arena.proofs.Empties.{empty_where_noted}
 use Rattle.node_arena.proofs.Paths.{no_walk, walk_then, then_act, then_stored, sees_on, stopped_behind, failed_behind, failed-append, failed_snoc, event, walk_one, walk_on, act_on, to_is, stopped_at, failed_last}
 use Rattle.nonblocking.specs.Values.{IsNonBlocking}
 use Rattle.node_arena.specs.Machine.{value_of}
@@ -71,7 +71,7 @@ module _ (r : Arena) (s t x : Seat) (l : Line) (n : ℕ) (d : DidStep r t x cont
   not_failed o e none = let f = failed_snoc before last in let z = q last.to ∙ ap at_d2 (to_is r t x continues l n d ∙ e) ∙ none in omega arith
 
 -- the lines D2 to D5
-module _ (r : Arena) (s u t v x : Seat) (prologue : Prologue) (a b c d : Running) (l k j : Line) (out : Outcome) (kind : IsNonBlocking r) (h : IsBefore r s prologue D2) (f2 : Follows r s u prologue D2 a (Goes l b)) (f3 : Follows r u t continues D3 b (Goes k c)) (f4 : Follows r t v continues D4 c (Goes j d)) (f5 : Follows r v x continues D5 d out) where
+module _ (r : Arena) (s u t v x : Seat) (prologue : Prologue) (a b c d : Running) (l k j : Line) (out : Outcome) (h : IsBefore r s prologue D2) (f2 : Follows r s u prologue D2 a (Goes l b)) (f3 : Follows r u t continues D3 b (Goes k c)) (f4 : Follows r t v continues D4 c (Goes j d)) (f5 : Follows r v x continues D5 d out) where
   abbrev two : Event
   two = event r s u prologue D2 f2.found f2.did
 
@@ -115,8 +115,7 @@ module _ (r : Arena) (s u t v x : Seat) (prologue : Prologue) (a b c d : Running
   by_outcome (Goes D12 e) f = (f.stands.before.empty, record { stands = f.stands; walks = on_walk None f.quiet refl; never = none_failed (Some D12) f.stands.before.line refl })
   by_outcome (Goes _ e) f = absurd f
   by_outcome Empty f =
-      let is : d ≡ record c { next = ref_of f4.found } = same_pop j D5 d (record c { next = ref_of f4.found }) f4.leads_to in
-      let null : (ref_of f4.found).node ≡ 0 = sym (ap (λ (z : Running). z.next.node) is) ∙ f.null in (
+      let notes : (view x).notes ≡ (view v).notes ++ length (view x).seen ∷ [] = f5.did.told.notes ∙ ap (λ q. (view v).notes ++ notes_of q (view x).seen) f.replies in (
         f.empty,
         record {
           over = f.over;
@@ -126,9 +125,9 @@ module _ (r : Arena) (s u t v x : Seat) (prologue : Prologue) (a b c d : Running
             number = f5.did.told.number ∙ walked.number;
             between = walked.rest;
             seen = f5.did.told.stays refl ∙ walked.seen;
-            empty = finds_nothing r.plan kind f4.found f5.found (view t) (view v) (view x) f4.did.told f5.did.told null (f.head ∙ sym at_d5.knows.0);
+            empty = empty_where_noted (view x).seen (view v).notes (view x).notes notes f5.did.told.fits.noted;
             mine = f5.did.told.mine ∙ append-nil (view v).mine ∙ walked.mine;
-            notes = f5.did.told.notes ∙ ap (λ q. (view v).notes ++ notes_of q (view x).seen) f.replies ∙ ap (λ ns. ns ++ length (view x).seen ∷ []) walked.notes;
+            notes = notes ∙ ap (λ ns. ns ++ length (view x).seen ∷ []) walked.notes;
           };
         },
       )

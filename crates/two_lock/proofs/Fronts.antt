@@ -9,8 +9,6 @@ use Rattle.history.specs.declared.operations.Reply as replies
 use Rattle.history.specs.declared.operations.Reply.TheVariants as reply
 use Rattle.history.specs.declared.refusals.Refusal.TheVariants.{WornOut}
 use Rattle.history.specs.declared.refusals.WornWord.TheVariants.{Head as OfHead}
-use Rattle.history.specs.Queue as queue
-use Rattle.history.specs.Entries.{Plays}
 use Rattle.node_arena.specs.Machine.{Actor, entry_or, unlocked}
 use Rattle.node_arena.specs.Traces.{Event, outcome_at}
 use Rattle.node_arena.specs.Prologues.{continues}
@@ -20,9 +18,8 @@ use Rattle.node_arena.specs.declared.seats.Seat.{Seat}
 use Rattle.node_arena.specs.Seats.{KeepsStored, view}
 use Rattle.node_arena.specs.Paths.{ExtendsPath, Passes, Acts}
 use Rattle.node_arena.proofs.Noting.{IsNotEmpty}
-use Rattle.node_arena.proofs.Noted.{finds_nothing_locked}
+use Rattle.node_arena.proofs.Empties.{empty_where_noted}
 use Rattle.node_arena.proofs.Paths.{walk_then, then_act, act_then, then_stored, event, walk_on, pass_on, act_on, stopped_at}
-use Rattle.two_lock.specs.Values.{IsTwoLock}
 use Rattle.node_arena.specs.Machine.{value_of}
 use Rattle.two_lock.specs.declared.pop_outcomes.Actor.{Actor as Running}
 use Rattle.two_lock.specs.declared.pop_outcomes.Reply.{Reply}
@@ -124,8 +121,8 @@ module _ (r : Arena) (s t : Seat) (a : Running) (out : Outcome) (h : CallIsAt r 
   not_empty k = subst IsNotEmpty (sym told_of) k
 
 -- the queue was found empty
-pub saw_empty : (r : Arena) (s u t x : Seat) (a b c : Running) (l k : Line) (out : Outcome) → IsTwoLock r → CallIsAt r s continues B2 a → Follows r s u continues B2 a (Goes l b) → Follows r u t continues B3 b (Goes k c) → k ≡ B6 → Follows r t x continues B6 c out → Fronts r s x out
-saw_empty r s u t x a b c l k out two h f2 f3 is f6 =
+pub saw_empty : (r : Arena) (s u t x : Seat) (a b c : Running) (l k : Line) (out : Outcome) → CallIsAt r s continues B2 a → Follows r s u continues B2 a (Goes l b) → Follows r u t continues B3 b (Goes k c) → k ≡ B6 → Follows r t x continues B6 c out → Fronts r s x out
+saw_empty r s u t x a b c l k out h f2 f3 is f6 =
     subst (Fronts r s x) (sym (out_is r t x c out at f6 (Some IsEmpty) null.1))
     record {
       seat = f6.did.seat;
@@ -140,9 +137,9 @@ saw_empty r s u t x a b c l k out two h f2 f3 is f6 =
           number = f6.did.told.number ∙ w.number;
           between = w.rest;
           seen = same ∙ w.seen;
-          empty = subst (λ es. Plays queue.empty es queue.empty) (sym same) (finds_nothing_locked r.plan two f3.found (view u) (view t) f3.did.told null.0);
+          empty = empty_where_noted (view x).seen (view t).notes (view x).notes notes f6.did.told.fits.noted;
           mine = f6.did.told.mine ∙ append-nil (view t).mine ∙ w.mine;
-          notes = f6.did.told.notes ∙ ap (λ q. (view t).notes ++ notes_of q (view x).seen) (reply_is r t x c out at f6 (Some IsEmpty) null.1) ∙ ap (λ ns. ns ++ length (view x).seen ∷ []) w.notes;
+          notes = notes ∙ ap (λ ns. ns ++ length (view x).seen ∷ []) w.notes;
         };
       };
     }
@@ -161,6 +158,9 @@ saw_empty r s u t x a b c l k out two h f2 f3 is f6 =
 
     same : (view x).seen ≡ (view t).seen
     same = f6.did.told.stays refl
+
+    notes : (view x).notes ≡ (view t).notes ++ length (view x).seen ∷ []
+    notes = f6.did.told.notes ∙ ap (λ q. (view t).notes ++ notes_of q (view x).seen) (reply_is r t x c out at f6 (Some IsEmpty) null.1)
 
 -- the lines before B5 or before a refusal
 module _ (r : Arena) (s u t v : Seat) (a b c d : Running) (l k j : Line) (h : CallIsAt r s continues B2 a) (f2 : Follows r s u continues B2 a (Goes l b)) (f3 : Follows r u t continues B3 b (Goes k c)) (more : k ≡ B6 → ⊥) (f4 : Follows r t v continues B4 c (Goes j d)) where

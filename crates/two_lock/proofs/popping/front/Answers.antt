@@ -10,7 +10,7 @@ pub b6-requires : goal.b6-requires
 b6-requires c = to_b6_empty c.args.arena.now c.b2.new.seat c.b3.new.seat c.in-Goes-b3.next c.in-Goes.a c.in-Goes-b3.a (to_b3 c.args.arena.now c.args.seat.now c.b2.new.seat c.in-Goes.field-0 c.args.a c.in-Goes.a c.requires.stands c.in-Goes.ensures) c.in-Goes-b3.ensures c.in-B6.is
 
 pub returns-in-B6 : goal.returns-in-B6
-returns-in-B6 c = saw_empty c.args.arena.now c.args.seat.now c.b2.new.seat c.b3.new.seat c.b6.new.seat c.args.a c.in-Goes.a c.in-Goes-b3.a c.in-Goes.field-0 c.in-Goes-b3.next c.b6.result c.requires.two_lock c.requires.stands c.in-Goes.ensures c.in-Goes-b3.ensures c.in-B6.is c.b6.ensures
+returns-in-B6 c = saw_empty c.args.arena.now c.args.seat.now c.b2.new.seat c.b3.new.seat c.b6.new.seat c.args.a c.in-Goes.a c.in-Goes-b3.a c.in-Goes.field-0 c.in-Goes-b3.next c.b6.result c.requires.stands c.in-Goes.ensures c.in-Goes-b3.ensures c.in-B6.is c.b6.ensures
 
 pub b4-requires : goal.b4-requires
 b4-requires c = to_b4 c.args.arena.now c.b2.new.seat c.b3.new.seat c.in-Goes-b3.next c.in-Goes.a c.in-Goes-b3.a (to_b3 c.args.arena.now c.args.seat.now c.b2.new.seat c.in-Goes.field-0 c.args.a c.in-Goes.a c.requires.stands c.in-Goes.ensures) c.in-Goes-b3.ensures c.in_default-next.not-B6

@@ -24,7 +24,7 @@ pub load-requires : goal.load-requires
 load-requires c =
     let a = c.requires.one.seat.arena.words in
     let two = ap (λ t. t.me) c.replace-token.ensures.value ∙ (c.split_seat-spare.ensures.2 ∙ c.requires.other.seat.sits.seat) in
-    (c.join_seat.ensures.0 ∙ c.requires.one.seat.sits.table, omega arith, meets_at _ _ _ _ _ _ c.requires.one.seat.arena.slots (joined_is _ _ _ _ _ c.requires.one.seat.sits.seat two c.join_seat.ensures.2))
+    (c.join_seat.ensures.0 ∙ c.requires.one.seat.sits.table, omega arith, meets_at _ _ _ _ _ _ c.requires.one.seat.arena.slots c.requires.one.free c.requires.other.free (joined_is _ _ _ _ _ c.requires.one.seat.sits.seat two c.join_seat.ensures.2))
 
 pub split_seat-requires : goal.split_seat-requires
 split_seat-requires c = let a = c.requires.one.seat.arena.words in let h = c.load.ensures.2 in (c.load.ensures.0 ∙ (c.join_seat.ensures.0 ∙ c.requires.one.seat.sits.table), omega arith, parts_at _ _ _ _ _ h.seats)
