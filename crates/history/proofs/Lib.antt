@@ -17,6 +17,7 @@ mod Unplaced
 mod OwnOrders
 pub mod Learning
 pub mod Sums
+pub mod Values
 mod NoSpaces
 mod LineReaders
 mod Texts

@@ -2,6 +2,7 @@ pub mod Limits
 pub mod Queue
 pub mod Entries
 pub mod Seats
+pub mod Values
 pub mod Answers
 pub mod Rests
 pub mod Closing

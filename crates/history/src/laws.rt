@@ -1,7 +1,9 @@
-//! Laws of the verdict on a history and of its text, each the contract of a function that does nothing.
+//! Laws of the verdict on a history, of its text, and of what is pushed and popped, each the contract of a function that
+//! does nothing.
 ghost use Rattle.std.specs.Prelude.{◌≡◌, ◌≢◌, ◌↔◌, ◌≤◌, ◌++◌, ℕ, List, map, is_some};
 ghost use Rattle.std.specs.List.{filter};
 ghost use Rattle.std.specs.List.Sorted.{IsPermutation};
+ghost use Rattle.history.specs.declared.operations.Entry.{Entry};
 ghost use Rattle.history.specs.declared.operations.Stamped.{Stamped};
 ghost use Rattle.history.specs.declared.operations.Taken.{Taken};
 ghost use Rattle.history.specs.declared.operations.Verdict.TheVariants.{Yes, No};
@@ -11,6 +13,9 @@ ghost use Rattle.history.specs.Faults.{FirstIsMisshapen, FirstIsOutside, FirstIs
 ghost use Rattle.history.specs.Order.{Rises};
 ghost use Rattle.history.specs.Linearizability.{IsLinearizable, DifferInPlace, operations_of, IsOneAtATime, KeepsOwnOrders};
 ghost use Rattle.history.specs.Tallies.{takes, pushes};
+ghost use Rattle.history.specs.Entries.{LeadsTo};
+ghost use Rattle.history.specs.Seats.{Permit, Known, IsSound};
+ghost use Rattle.history.specs.Values.{pushed, popped, OnlyPushes, OnlyPops};
 ghost use Rattle.history.specs.SmallHistories.{taken_too_early, push_lost, taken_twice, pending_push_taken, overlapping_pop_is_empty, own_pop_during_push};
 ghost use Rattle.text_lines.specs.declared.causes.TextCause.{TextCause};
 ghost use Rattle.history.specs.HistoryText.{history_text};
@@ -90,6 +95,21 @@ pub fn overlaps_are_linearizable()
 pub fn own_overlaps_are_not_asked()
     ensures linearizable { IsLinearizable own_pop_during_push }
     ensures overlapping { ¬ IsOneAtATime own_pop_during_push }
+{}
+
+/// What was pushed on a queue is what was popped, and then what is left: the values come in the order in which they were
+/// pushed, each once.
+pub fn pushed_is_popped_and_then_left()
+    ensures { (es : List Entry) (left : List Taken) → LeadsTo es left → pushed es ≡ popped es ++ left }
+{}
+
+/// A seat that alone may pop popped all that it has seen popped, and one that alone may push pushed all that it has seen
+/// pushed.
+pub fn who_alone_may_did_all()
+    ensures pops { (ps : List Permit) (k : Known) → IsSound ps k → OnlyPops ps k.number
+        → popped k.mine ≡ popped k.seen }
+    ensures pushes { (ps : List Permit) (k : Known) → IsSound ps k → OnlyPushes ps k.number
+        → pushed k.mine ≡ pushed k.seen }
 {}
 
 /// A text is that of one history in range at most.

@@ -7,8 +7,8 @@ use Rattle.std.proofs.lemmas.List.{length-map, length-replicate, get_or_append_l
 use Rattle.std.proofs.Math.Seq.{get_or-append_seam}
 use Rattle.std.proofs.lemmas.Option.{slice_get-map, slice_get-get_or}
 use Rattle.history.specs.Seats.{Permit, Known, MayPush, MayPop}
+use Rattle.history.specs.Values.{OnlyPops}
 use Rattle.history.specs.Openings.{AreNew, newcomer}
-use Rattle.mailbox.specs.Deliveries.{OnlyPops}
 use Rattle.mailbox.specs.Openings.{CanSend, CanReceive}
 use Rattle.node_arena.specs.declared.roles.Role.{Role}
 use Rattle.node_arena.specs.declared.roles.Role.TheVariants.{Giver, Taker}

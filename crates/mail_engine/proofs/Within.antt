@@ -10,11 +10,11 @@ use Rattle.history.specs.declared.operations.Entry.TheVariants.{Push, Pop}
 use Rattle.history.specs.declared.operations.Taken.{Taken}
 use Rattle.history.specs.Entries.{own_entries}
 use Rattle.history.specs.Seats.{Permit, Known, IsSound, IsPermitted, MayPush}
+use Rattle.history.specs.Values.{pushed, popped}
+use Rattle.history.proofs.Values.{pushed-LeadsTo}
 use Rattle.mailbox.specs.declared.receiver.Receiver.{Receiver}
 use Rattle.mailbox.specs.declared.receiver.Letter.{Letter}
-use Rattle.mailbox.specs.Deliveries.{pushed, popped}
 use Rattle.mailbox.specs.Posting.{Delivered}
-use Rattle.mailbox.proofs.Order.{popped-then_left}
 use Rattle.mail_engine.specs.Rows.{givers_and_taker}
 use Rattle.mail_engine.proofs.Tasks.{all_before-map}
 
@@ -74,7 +74,7 @@ own_popped P me (Pop seat value ∷ es) all =
 taken_of-pushers : (permits : List Permit) (k : Known) → IsSound permits k → All (λ (v : Taken). MayPush permits v.from) (popped k.mine)
 taken_of-pushers permits k sound =
     let P : Taken → Type 0 = λ v. MayPush permits v.from in
-    let plays = popped-then_left [] k.seen sound.legal.0 sound.legal.1 in
+    let plays = pushed-LeadsTo k.seen sound.legal.0.values sound.legal.1 in
     let seen : All P (popped k.seen) = first_part P (popped k.seen) sound.legal.0.values (subst (All P) plays (pushers permits k.seen sound.permitted)) in
     subst (λ es. All P (popped es)) sound.own (own_popped P k.number k.seen seen)
 

@@ -4,10 +4,10 @@ use Rattle.std.proofs.lemmas.List.{map-append}
 use Rattle.std.proofs.lemmas.Grind.{flat_map-append}
 use Rattle.history.specs.declared.operations.Entry.TheVariants.{Pop}
 use Rattle.history.specs.Seats.{Known}
+use Rattle.history.specs.Values.{popped, popped_by}
 use Rattle.mailbox.specs.declared.office.Office.{Office}
 use Rattle.mailbox.specs.declared.receiver.Receiver.{Receiver}
 use Rattle.mailbox.specs.declared.receiver.Letter.{Letter}
-use Rattle.mailbox.specs.Deliveries.{popped, popped_by}
 use Rattle.mailbox.specs.Offices.{TakeAnswers}
 use Rattle.mailbox.specs.Posting.{Delivered}
 

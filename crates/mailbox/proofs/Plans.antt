@@ -6,9 +6,9 @@ use Rattle.std.proofs.lemmas.List.Sums.{sum_by-cons}
 use Rattle.std.proofs.lemmas.List.{length-map}
 use Rattle.std.proofs.lemmas.List.Elements.{All-head, All-tail}
 use Rattle.history.specs.Seats.{Permit, Known, MayPush, MayPop}
+use Rattle.history.specs.Values.{OnlyPops}
 use Rattle.mailbox.specs.declared.office.Office.{Office}
 use Rattle.mailbox.specs.declared.receiver.Receiver.{Receiver}
-use Rattle.mailbox.specs.Deliveries.{OnlyPops}
 use Rattle.mailbox.specs.declared.posting.Task.{Task}
 use Rattle.mailbox.specs.Plans.{plan_numbers, IsDue, AreDue}
 use Rattle.mailbox.specs.Offices.{IsReceiver}

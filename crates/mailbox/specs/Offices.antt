@@ -5,7 +5,7 @@ use Rattle.history.specs.Limits.{body_bits}
 use Rattle.history.specs.declared.operations.Taken.{Taken}
 use Rattle.history.specs.Seats.{Permit, Known, MayPush, MayPop}
 use Rattle.history.specs.Answers.{Pushed, Popped, SeesMore, FoundEmpty}
-use Rattle.mailbox.specs.Deliveries.{OnlyPops}
+use Rattle.history.specs.Values.{OnlyPops}
 use Rattle.mailbox.specs.Plans.{Fits}
 use Rattle.mailbox.specs.declared.office.Office.{Office}
 use Rattle.mailbox.specs.declared.sender.Sender.{Sender}

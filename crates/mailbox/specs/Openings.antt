@@ -1,7 +1,7 @@
 -- What a new office is.
 use Rattle.std.specs.Prelude.{◌≡◌, List, map, false}
 use Rattle.history.specs.Seats.{Permit, Known, MayPush, MayPop}
-use Rattle.mailbox.specs.Deliveries.{OnlyPops}
+use Rattle.history.specs.Values.{OnlyPops}
 use Rattle.mailbox.specs.declared.office.Office.{Office}
 use Rattle.mailbox.specs.declared.sender.Sender.{Sender}
 use Rattle.mailbox.specs.declared.receiver.Receiver.{Receiver}

@@ -3,7 +3,7 @@ use Rattle.std.specs.Prelude.{◌≡◌, ◌<◌, ℕ, ◌+◌, List, [], ◌++�
 use Rattle.std.specs.List.{filter, sum_by}
 use Rattle.history.specs.declared.operations.Taken.{Taken}
 use Rattle.history.specs.Seats.{Permit, Known}
-use Rattle.mailbox.specs.Deliveries.{popped}
+use Rattle.history.specs.Values.{popped}
 use Rattle.mailbox.specs.Plans.{plan_numbers, AreDue}
 use Rattle.mailbox.specs.Offices.{IsSender, marks}
 use Rattle.mailbox.specs.declared.office.Office.{Office}

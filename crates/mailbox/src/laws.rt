@@ -1,7 +1,8 @@
 //! The law of all queues that letters rest on.
 ghost use Rattle.std.specs.Prelude.{List};
 ghost use Rattle.history.specs.Seats.{Permit, Known, IsSound};
-ghost use Rattle.mailbox.specs.Deliveries.{OnlyPops, InOrder};
+ghost use Rattle.history.specs.Values.{OnlyPops};
+ghost use Rattle.mailbox.specs.Deliveries.{InOrder};
 
 /// Where one seat alone may pop, what it took of each sender is a prefix of what that sender sent, in order, each once.
 pub fn each_sender_is_taken_in_order()

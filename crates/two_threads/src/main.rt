@@ -1,32 +1,36 @@
-//! Two threads and one queue: one pushes numbers, the other takes them and adds them up.
+//! Two threads and one queue: one pushes the numbers from 1 on, the other takes them, in that order.
 #![tactic(auto)]
 
+mod making;
 mod running;
 
-use crate::running::{pair_of, run};
-use node_arena::Role;
+use crate::making::{on_ms_queue, on_two_lock_queue};
+use history::{Refusal, Taken};
 use std::io;
-use two_lock::TwoLockQueue;
-
-/// The nodes of the queue: room for 1,023 values, and one node more.
-const NODES: u32 = 1024;
-
-/// The greatest count: so many values can be taken before Head is worn out.
-const LIMIT: u64 = 1_000_000;
 
 /// How many numbers are pushed.
 const MOST: u64 = 1000;
 
 fn main(rt: HostRuntime) -> io::Result<()> {
-    let roles = [Role::Giver, Role::Taker];
-    let Ok((queue, seats)) = TwoLockQueue::new(rt.alloc(), NODES, LIMIT, &roles) else {
-        return println!(rt; "no memory");
+    tell(&rt, "non-blocking", on_ms_queue(&rt, rt.alloc(), MOST))?;
+    tell(&rt, "two-lock", on_two_lock_queue(&rt, rt.alloc(), MOST))
+}
+
+// Prints how many values were taken from a queue, the first and the last; or why they weren't.
+fn tell(
+    rt: &HostRuntime,
+    queue: &str,
+    taken: Result<Vec<Taken>, Refusal>,
+) -> io::Result<()> {
+    let values = match taken {
+        Ok(values) => values,
+        Err(why) => return println!(rt; "{queue}: {why}"),
     };
-    let Some((giver, taker)) = pair_of(&queue, seats) else {
-        return println!(rt; "no seats");
-    };
-    match run(&rt, rt.alloc(), queue, giver, taker, MOST) {
-        Some(outcome) => println!(rt; "{outcome:?}"),
-        None => println!(rt; "no memory"),
-    }
+    let (first, last) = (number(values.first()), number(values.last()));
+    println!(rt; "{queue}: {} values, from {first} to {last}", values.len())
+}
+
+// The number of a value; 0 where there is none.
+fn number(value: Option<&Taken>) -> u64 {
+    value.map_or(0, |taken| taken.body.number())
 }

@@ -1,118 +1,147 @@
 //! A queue of any kind, and two threads that call it.
-ghost use Rattle.std.specs.Prelude.{IfSome};
-ghost use Rattle.std.specs.List.{All};
+ghost use Rattle.std.specs.Prelude.{◌≡◌, IfOk, IfErr, OnOk};
+ghost use Rattle.history.specs.declared.operations.Entry.TheVariants.{Push, Pop};
+ghost use Rattle.history.specs.Answers.{EndsPop};
 ghost use Rattle.history.specs.Seats.{MayPush, MayPop};
-ghost use Rattle.two_threads.specs.Pairs.{IsPair};
+ghost use Rattle.two_threads.specs.Duos.{IsDuo, IsOnePusher, IsOnePopper, IsOneMore, HasPushed, HasPopped, EndsRun, values_to};
 
 use crossbeam_utils::Backoff;
-use history::{Body, Fifo, Refusal, Rest};
+use history::{Body, Fifo, Refusal, Taken};
 use std::alloc::Global;
 use std::sync::Wait;
 use std::thread::{Threads, join};
 
-/// What came of a run.
-#[derive(Clone, Copy, Debug)]
-pub struct Outcome {
-    /// The sum of the numbers that were taken.
-    pub sum: u64,
-    /// How many numbers were taken.
-    pub taken: u64,
-    /// How many were left in the queue.
-    pub left: u64,
-    /// Whether the two seats made all pushes and pops.
-    pub whole: bool,
-}
-
-/// A seat that may push and one that may pop: the last two of these.
-pub fn pair_of<Q: Fifo>(queue: &Q, mut seats: Vec<Q::Seat>) -> Option<(Q::Seat, Q::Seat)>
-    requires { All (Q.is_seat queue.now) seats.items }
-    ensures { IfSome result (λ pair. IsPair Q.is_seat Q.permits Q.known queue.now pair.0 pair.1) }
-{
-    let taker = seats.pop()?;
-    let giver = seats.pop()?;
-    if queue.may_push(&giver) && queue.may_pop(&taker) {
-        Some((giver, taker))
-    } else {
-        None
-    }
-}
-
-// Pushes a number, and waits while there is no node for it. A push is refused otherwise where a word is worn out.
-fn push_one<R: Wait, Q: Fifo>(rt: &R, queue: &Q, seat: &mut Q::Seat, body: Body)
+// Pushes a number, and waits while there is no node for it.
+fn push_one<R: Wait, Q: Fifo>(
+    rt: &R,
+    queue: &Q,
+    seat: &mut Q::Seat,
+    body: Body,
+) -> Result<(), Refusal>
     requires seat { Q.is_seat queue.now seat.old }
     requires role { MayPush (Q.permits queue.now) (Q.known seat.old).number }
     ensures seat { Q.is_seat queue.now seat.new }
-    ensures role { MayPush (Q.permits queue.now) (Q.known seat.new).number }
+    ensures number { (Q.known seat.new).number ≡ (Q.known seat.old).number }
+    ensures pushed { OnOk result (IsOneMore (Q.known seat.old)
+        (Push (Q.known seat.old).number body) (Q.known seat.new)) }
+    ensures why { IfErr result EndsPop }
 {
     let backoff = Backoff::new();
     for _ in rt.forever() {
         match queue.push(rt, seat, body) {
-            Ok(()) => return,
+            Ok(()) => return Ok(()),
             Err(Refusal::NoNode) => backoff.snooze(),
-            Err(_) => return,
+            Err(why) => return Err(why),
         }
     }
+    unreachable!()
 }
 
 // Pushes 1, 2 and so on to `most`.
-fn push_all<R: Wait, Q: Fifo>(rt: &R, queue: &Q, mut seat: Q::Seat, most: u64) -> Q::Seat
-    requires seat { Q.is_seat queue.now seat }
-    requires role { MayPush (Q.permits queue.now) (Q.known seat).number }
-    ensures { Q.is_seat queue.now result }
+fn push_all<R: Wait, Q: Fifo>(
+    rt: &R,
+    queue: &Q,
+    mut seat: Q::Seat,
+    most: u64,
+) -> Result<Q::Seat, Refusal>
+    requires { IsOnePusher Q.is_seat Q.permits Q.known queue.now seat }
+    ensures pushed { IfOk result (HasPushed Q.is_seat Q.known queue.now seat most) }
+    ensures why { IfErr result (EndsRun most) }
 {
-    for number in 1..=most {
-        if let Some(body) = Body::new(number) {
-            push_one(rt, queue, &mut seat, body);
-        }
+    for count in 0..most {
+        let Some(body) = Body::new(count + 1) else {
+            return Err(Refusal::BadSize);
+        };
+        push_one(rt, queue, &mut seat, body)?;
     }
-    seat
+    Ok(seat)
 }
 
-// Takes a number, and waits while none is there. A pop is refused where a word is worn out.
-fn pop_one<R: Wait, Q: Fifo>(rt: &R, queue: &Q, seat: &mut Q::Seat) -> Option<u64>
+// Takes a value, and waits while none is there.
+fn pop_one<R: Wait, Q: Fifo>(rt: &R, queue: &Q, seat: &mut Q::Seat) -> Result<Taken, Refusal>
     requires seat { Q.is_seat queue.now seat.old }
     requires role { MayPop (Q.permits queue.now) (Q.known seat.old).number }
     ensures seat { Q.is_seat queue.now seat.new }
-    ensures role { MayPop (Q.permits queue.now) (Q.known seat.new).number }
+    ensures number { (Q.known seat.new).number ≡ (Q.known seat.old).number }
+    ensures popped { IfOk result (λ value. IsOneMore (Q.known seat.old)
+        (Pop (Q.known seat.old).number value) (Q.known seat.new)) }
+    ensures why { IfErr result EndsPop }
 {
     let backoff = Backoff::new();
     for _ in rt.forever() {
         match queue.pop(rt, seat) {
-            Ok(Some(taken)) => return Some(taken.body.number()),
+            Ok(Some(taken)) => return Ok(taken),
             Ok(None) => backoff.snooze(),
-            Err(_) => return None,
+            Err(why) => return Err(why),
         }
     }
-    None
+    unreachable!()
 }
 
-// Takes so many numbers; their sum.
-fn pop_all<R: Wait, Q: Fifo>(rt: &R, queue: &Q, mut seat: Q::Seat, most: u64) -> (Q::Seat, u64)
-    requires seat { Q.is_seat queue.now seat }
-    requires role { MayPop (Q.permits queue.now) (Q.known seat).number }
-    ensures { Q.is_seat queue.now result.0 }
+// Takes so many values.
+fn pop_all<R: Wait, Q: Fifo>(
+    rt: &R,
+    alloc: Global,
+    queue: &Q,
+    mut seat: Q::Seat,
+    most: u64,
+) -> Result<(Q::Seat, Vec<Taken>), Refusal>
+    requires { IsOnePopper Q.is_seat Q.permits Q.known queue.now seat }
+    ensures popped { IfOk result (λ r.
+        HasPopped Q.is_seat Q.known queue.now seat most r.0 r.1.items) }
+    ensures why { IfErr result (EndsRun most) }
 {
-    let mut sum = 0u64;
-    for _ in 0..most {
-        if let Some(number) = pop_one(rt, queue, &mut seat) {
-            sum = sum.wrapping_add(number);
-        }
+    let mut taken = Vec::new(alloc);
+    for count in 0..most {
+        let value = pop_one(rt, queue, &mut seat)?;
+        let Ok(()) = taken.push(value) else {
+            return Err(Refusal::Memory);
+        };
     }
-    (seat, sum)
+    Ok((seat, taken))
 }
 
-// How many values are left, so many at most.
-fn count_left(mut rest: Rest, most: u64) -> u64 {
-    for left in 0..most {
-        if rest.next().is_none() {
-            return left;
-        }
-    }
-    most
+// The two threads: the values that the one took, and the seat of the other.
+fn both<R: Threads + Wait + Sync, Q: Fifo + Sync>(
+    rt: &R,
+    alloc: Global,
+    queue: &Q,
+    giver: Q::Seat,
+    taker: Q::Seat,
+    most: u64,
+) -> (
+    Result<(Q::Seat, Vec<Taken>), Refusal>,
+    Result<Q::Seat, Refusal>,
+)
+    requires giver { IsOnePusher Q.is_seat Q.permits Q.known queue.now giver }
+    requires taker { IsOnePopper Q.is_seat Q.permits Q.known queue.now taker }
+    ensures taken { IfOk result.0 (λ r.
+        HasPopped Q.is_seat Q.known queue.now taker most r.0 r.1.items) }
+    ensures untaken { IfErr result.0 (EndsRun most) }
+    ensures pushed { IfOk result.1 (HasPushed Q.is_seat Q.known queue.now giver most) }
+    ensures unpushed { IfErr result.1 (EndsRun most) }
+{
+    join(
+        rt,
+        || -> Result<(Q::Seat, Vec<Taken>), Refusal>
+            requires { IsOnePopper Q.is_seat Q.permits Q.known queue.now taker }
+            ensures taken { IfOk result (λ r.
+                HasPopped Q.is_seat Q.known queue.entry.now taker most r.0 r.1.items) }
+            ensures why { IfErr result (EndsRun most) }
+        { pop_all(rt, alloc, queue, taker, most) },
+        || -> Result<Q::Seat, Refusal>
+            requires { IsOnePusher Q.is_seat Q.permits Q.known queue.now giver }
+            ensures pushed { IfOk result (HasPushed Q.is_seat Q.known queue.entry.now giver most) }
+            ensures why { IfErr result (EndsRun most) }
+        { push_all(rt, queue, giver, most) },
+    )
 }
 
-/// One thread pushes 1, 2 and so on, another pops as often. Then the queue is closed. None where memory is refused. Where
-/// no thread can be made the pushes come first, so the queue needs room for all of them.
+/// One thread pushes 1, 2 and so on to `most`, another takes as many values: these, in that order.
+///
+/// Refusals: `Memory`, `WornOut`, and `BadSize` where `most` is no body's number; a push waits for a node and a pop for a
+/// value. Where no thread can be made the pushes come first, so the queue needs room for all of them. Takes memory for the
+/// values.
 pub fn run<R: Threads + Wait + Sync, Q: Fifo + Sync + Drop>(
     rt: &R,
     alloc: Global,
@@ -120,29 +149,14 @@ pub fn run<R: Threads + Wait + Sync, Q: Fifo + Sync + Drop>(
     giver: Q::Seat,
     taker: Q::Seat,
     most: u64,
-) -> Option<Outcome>
-    requires { IsPair Q.is_seat Q.permits Q.known queue giver taker }
+) -> Result<Vec<Taken>, Refusal>
+    requires { IsDuo Q.is_seat Q.permits Q.known queue giver taker }
+    ensures taken { IfOk result (λ values. values.items ≡ values_to (Q.known giver).number most) }
+    ensures why { IfErr result (EndsRun most) }
 {
-    let ((mut taker, sum), mut giver) = join(
-        rt,
-        || -> (Q::Seat, u64)
-            requires { Q.is_seat queue taker × MayPop (Q.permits queue) (Q.known taker).number }
-            ensures { Q.is_seat queue result.0 }
-        { pop_all(rt, &queue, taker, most) },
-        || -> Q::Seat
-            requires { Q.is_seat queue giver × MayPush (Q.permits queue) (Q.known giver).number }
-            ensures { Q.is_seat queue result }
-        { push_all(rt, &queue, giver, most) },
-    );
+    let (taken, pushed) = both(rt, alloc, &queue, giver, taker, most);
+    let (mut taker, values) = taken?;
+    let mut giver = pushed?;
     queue.meet(&mut giver, &mut taker);
-    let mut seats = Vec::new(alloc);
-    seats.push(giver).ok()?;
-    seats.push(taker).ok()?;
-    let rest = queue.close(alloc, seats).ok()?;
-    Some(Outcome {
-        sum,
-        taken: rest.taken(),
-        whole: rest.whole(),
-        left: count_left(rest, most),
-    })
+    Ok(values)
 }

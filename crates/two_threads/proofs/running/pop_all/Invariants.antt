@@ -1,8 +1,6 @@
-use Rattle.history.specs.Seats.{MayPop}
+use Rattle.std.specs.Prelude.{◌≡◌}
+use Rattle.two_threads.specs.Duos.{HasPopped}
 use Rattle.two_threads.proofs.running.pop_all.Given as goal
 
-abbrev pub invariant-loop : goal.invariant-loop
-invariant-loop g l = record {
-  seat : g.Q.Fifo.is_seat l.fn.queue l.seat;
-  role : MayPop (g.Q.Fifo.permits l.fn.queue) (g.Q.Fifo.known l.seat).number;
-}
+abbrev pub invariant-loop-count : goal.invariant-loop-count
+invariant-loop-count g l = HasPopped g.Q.Fifo.is_seat g.Q.Fifo.known l.fn.queue l.initial.seat l.count l.seat l.taken.items

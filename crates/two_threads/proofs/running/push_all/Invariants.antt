@@ -1,8 +1,6 @@
-use Rattle.history.specs.Seats.{MayPush}
+use Rattle.std.specs.Prelude.{◌≡◌}
+use Rattle.two_threads.specs.Duos.{HasPushed}
 use Rattle.two_threads.proofs.running.push_all.Given as goal
 
-abbrev pub invariant-loop-number : goal.invariant-loop-number
-invariant-loop-number g l = record {
-  seat : g.Q.Fifo.is_seat l.fn.queue l.seat;
-  role : MayPush (g.Q.Fifo.permits l.fn.queue) (g.Q.Fifo.known l.seat).number;
-}
+abbrev pub invariant-loop-count : goal.invariant-loop-count
+invariant-loop-count g l = HasPushed g.Q.Fifo.is_seat g.Q.Fifo.known l.fn.queue l.initial.seat l.count l.seat

@@ -1,4 +1,4 @@
-use Rattle.history.specs.Seats.{MayPush}
+use Rattle.std.specs.Prelude.{◌≡◌}
 use Rattle.two_threads.proofs.running.push_one.Given as goal
 
 abbrev pub invariant-loop : goal.invariant-loop
@@ -6,5 +6,6 @@ invariant-loop g l = record {
   can : (goal.iterator-loop g).can_next l.iterator';
   finite : (goal.iterator-loop g).is_finite l.iterator';
   seat : g.Q.Fifo.is_seat l.fn.queue l.seat;
-  role : MayPush (g.Q.Fifo.permits l.fn.queue) (g.Q.Fifo.known l.seat).number;
+  number : (g.Q.Fifo.known l.seat).number ≡ (g.Q.Fifo.known l.initial.seat).number;
+  mine : (g.Q.Fifo.known l.seat).mine ≡ (g.Q.Fifo.known l.initial.seat).mine;
 }

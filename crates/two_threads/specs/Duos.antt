@@ -1,0 +1,82 @@
+-- One seat that pushes the numbers from 1 on, and one that pops.
+use Rattle.std.specs.Prelude.{◌≡◌, ◌≤◌, ◌^◌, ℕ, zero, suc, true, false, List, [], ◌∷◌, ◌++◌, length, map}
+use Rattle.std.specs.List.{All}
+use Rattle.history.specs.declared.operations.Entry.{Entry}
+use Rattle.history.specs.declared.operations.Entry.TheVariants.{Push, Pop}
+use Rattle.history.specs.declared.operations.Taken.{Taken}
+use Rattle.history.specs.declared.refusals.Refusal.{Refusal}
+use Rattle.history.specs.declared.refusals.Refusal.TheVariants.{Memory, WornOut, BadSize}
+use Rattle.history.specs.Limits.{body_bits}
+use Rattle.history.specs.Openings.{AreNew}
+use Rattle.history.specs.Seats.{Permit, Known, MayPush, MayPop}
+use Rattle.history.specs.Values.{OnlyPushes, OnlyPops}
+
+-- the pushes of 1 and so on by a seat
+abbrev pub pushes_to : (seat : ℕ) → ℕ → List Entry
+pushes_to seat zero = []
+pushes_to seat (suc n) = pushes_to seat n ++ Push seat (suc n) ∷ []
+
+-- the values 1 and so on of a seat
+abbrev pub values_to : (seat : ℕ) → ℕ → List Taken
+values_to seat zero = []
+values_to seat (suc n) = values_to seat n ++ record { from = seat; body = suc n } ∷ []
+
+-- the pops of these values by a seat
+abbrev pub pops_of : (seat : ℕ) → List Taken → List Entry
+pops_of seat [] = []
+pops_of seat (v ∷ vs) = Pop seat v ∷ pops_of seat vs
+
+-- one seat may push, the next one may pop
+abbrev pub giver_and_taker : List Permit
+giver_and_taker = record { pushes = true; pops = false } ∷ record { pushes = false; pops = true } ∷ []
+
+-- a run may be refused so: memory was refused, a word was worn out, or the last number is no body's
+abbrev pub EndsRun : (most : ℕ) → Refusal → Type 0
+EndsRun most Memory = Unit {0}
+EndsRun most (WornOut word) = Unit {0}
+EndsRun most BadSize = 2 ^ body_bits ≤ most
+EndsRun most _ = ⊥
+
+-- a seat has this entry more of its own, at the end
+abbrev pub IsOneMore : Known → Entry → Known → Type 0
+IsOneMore k e k' = k'.mine ≡ k.mine ++ e ∷ []
+
+module _ {Q S : Type 0} (is_seat : Q → S → Type 0) (permits : Q → List Permit) (known : S → Known) where
+  -- a seat that may push and has done nothing
+  pub record IsOnePusher (q : Q) (s : S) : Type 0 where
+    pub seat : is_seat q s
+    pub may : MayPush (permits q) (known s).number
+    pub unused : (known s).mine ≡ []
+
+  -- a seat that may pop and has done nothing
+  pub record IsOnePopper (q : Q) (s : S) : Type 0 where
+    pub seat : is_seat q s
+    pub may : MayPop (permits q) (known s).number
+    pub unused : (known s).mine ≡ []
+
+  -- the one seat alone may push, the other alone may pop, and neither has done anything
+  pub record IsDuo (q : Q) (giver taker : S) : Type 0 where
+    pub gives : IsOnePusher q giver
+    pub takes : IsOnePopper q taker
+    pub pushes : OnlyPushes (permits q) (known giver).number
+    pub pops : OnlyPops (permits q) (known taker).number
+
+  -- these are the two seats of a new queue: the first may push, the second may pop
+  pub record AreDuo (q : Q) (seats : List S) : Type 0 where
+    pub permitted : permits q ≡ giver_and_taker
+    pub each : All (is_seat q) seats
+    pub new : AreNew (permits q) (map known seats)
+
+module _ {Q S : Type 0} (is_seat : Q → S → Type 0) (known : S → Known) where
+  -- the seat pushed the numbers from 1 to this one, and did nothing else
+  pub record HasPushed (q : Q) (s : S) (most : ℕ) (t : S) : Type 0 where
+    pub seat : is_seat q t
+    pub number : (known t).number ≡ (known s).number
+    pub mine : (known t).mine ≡ pushes_to (known s).number most
+
+  -- the seat popped so many values, and did nothing else
+  pub record HasPopped (q : Q) (s : S) (most : ℕ) (t : S) (values : List Taken) : Type 0 where
+    pub seat : is_seat q t
+    pub number : (known t).number ≡ (known s).number
+    pub mine : (known t).mine ≡ pops_of (known s).number values
+    pub count : length values ≡ most
