@@ -1,10 +1,9 @@
 -- The two seats of a new queue.
-use Rattle.std.proofs.Common.{◌≡◌, ℕ, zero, suc, ◌-◌, IsTrue, List, [], ◌∷◌, ◌++◌, length, map, IsSomeAnd, slice_get, sym, ap, refl, ◌∙◌, subst, arith}
-use Rattle.std.specs.List.{All}
+use Rattle.std.proofs.Common.{◌≡◌, ℕ, zero, suc, ◌-◌, IsTrue, List, [], ◌∷◌, ◌++◌, length, IsSomeAnd, slice_get, sym, ap, refl, ◌∙◌, subst, arith}
 use Rattle.std.proofs.lemmas.Bool.{false≢true}
 use Rattle.std.proofs.lemmas.List.{length-append, length-map}
 use Rattle.history.specs.Seats.{Permit, Known, MayPush, MayPop}
-use Rattle.history.specs.Openings.{AreNew, newcomer}
+use Rattle.history.specs.Openings.{newcomer}
 use Rattle.two_threads.specs.Duos.{giver_and_taker, AreDuo, IsDuo}
 
 -- two that are left of a list, the last one first, are the list

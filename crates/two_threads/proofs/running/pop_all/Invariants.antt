@@ -1,4 +1,3 @@
-use Rattle.std.specs.Prelude.{◌≡◌}
 use Rattle.two_threads.specs.Duos.{HasPopped}
 use Rattle.two_threads.proofs.running.pop_all.Given as goal
 

@@ -1,4 +1,3 @@
-use Rattle.std.specs.Prelude.{◌≡◌}
 use Rattle.two_threads.specs.Duos.{HasPushed}
 use Rattle.two_threads.proofs.running.push_all.Given as goal
 

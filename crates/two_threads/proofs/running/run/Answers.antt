@@ -2,8 +2,8 @@ use Rattle.std.proofs.Common.{◌∙◌}
 use Rattle.two_threads.proofs.Orders.{in_order}
 use Rattle.two_threads.proofs.running.run.Goals as goal
 
-pub returns : goal.returns
-returns g c =
+pub returns-clause-taken : goal.returns-clause-taken
+returns-clause-taken g c =
     let here = g.met.Q.Fifo g.world.𝓛 g.world.𝓜 g.world.𝓡 ((λ s x. x), (λ x. x), (λ x. x), λ x. x) in
     let met = c.meet.ensures.meets in
     let took = rw c.in_ok-taker.was at c.both-taken.ensures.taken in
