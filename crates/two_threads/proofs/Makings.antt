@@ -51,21 +51,23 @@ module _ {Q S : Type 0} (is_seat : Q → S → Type 0) (permits : Q → List Per
       let one : known a ≡ newcomer 1 = duo.new.each 0 (known a) refl in
       let two : known b ≡ newcomer 2 = duo.new.each 1 (known b) refl in
       let na = ap (λ (k : Known). k.number) one in
-      let nb = ap (λ (k : Known). k.number) two in
-      (na, record {
-        gives = record {
-          seat = duo.each 0 a (omega arith);
-          may = subst (λ n. MayPush (permits q) n) (sym na) (subst (λ ps. MayPush ps 1) (sym duo.permitted) (omega arith, refl));
-          unused = ap (λ (k : Known). k.mine) one;
-        };
-        takes = record {
-          seat = duo.each 1 b (omega arith);
-          may = subst (λ n. MayPop (permits q) n) (sym nb) (subst (λ ps. MayPop ps 2) (sym duo.permitted) (omega arith, refl));
-          unused = ap (λ (k : Known). k.mine) two;
-        };
-        pushes = λ n h. pushes_alone n (subst (λ ps. MayPush ps n) duo.permitted h) ∙ sym na;
-        pops = λ n h. pops_alone n (subst (λ ps. MayPop ps n) duo.permitted h) ∙ sym nb;
-      })
+      let nb = ap (λ (k : Known). k.number) two in (
+        na,
+        record {
+          gives = record {
+            seat = duo.each 0 a (omega arith);
+            may = subst (λ n. MayPush (permits q) n) (sym na) (subst (λ ps. MayPush ps 1) (sym duo.permitted) (omega arith, refl));
+            unused = ap (λ (k : Known). k.mine) one;
+          };
+          takes = record {
+            seat = duo.each 1 b (omega arith);
+            may = subst (λ n. MayPop (permits q) n) (sym nb) (subst (λ ps. MayPop ps 2) (sym duo.permitted) (omega arith, refl));
+            unused = ap (λ (k : Known). k.mine) two;
+          };
+          pushes = λ n h. pushes_alone n (subst (λ ps. MayPush ps n) duo.permitted h) ∙ sym na;
+          pops = λ n h. pops_alone n (subst (λ ps. MayPop ps n) duo.permitted h) ∙ sym nb;
+        },
+      )
 
   -- the same of two seats that are the last one and the one before it
   pub duo_in : (xs ys zs : List S) (a b : S) → xs ≡ ys ++ b ∷ [] → ys ≡ zs ++ a ∷ [] → AreDuo is_seat permits known q xs → ((known a).number ≡ 1) × IsDuo is_seat permits known q a b

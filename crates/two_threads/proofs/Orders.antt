@@ -54,9 +54,9 @@ pub in_order :
 in_order permits g t giver taker n vs gs ts same pushes pops gn tn gm tm count =
     let left = gs.legal.0.values in
     let all_pushed : values_to giver n ≡ pushed g.seen =
-        sym (pushed-pushes_to giver n) ∙ ap pushed (sym gm) ∙ pushed-alone permits g gs (λ m may. pushes m may ∙ sym gn) in
+    sym (pushed-pushes_to giver n) ∙ ap pushed (sym gm) ∙ pushed-alone permits g gs (λ m may. pushes m may ∙ sym gn) in
     let all_popped : vs ≡ popped g.seen =
-        sym (popped-pops_of taker vs) ∙ ap popped (sym tm) ∙ popped-alone permits t ts (λ m may. pops m may ∙ sym tn) ∙ ap popped same in
+    sym (popped-pops_of taker vs) ∙ ap popped (sym tm) ∙ popped-alone permits t ts (λ m may. pops m may ∙ sym tn) ∙ ap popped same in
     all_of vs left (values_to giver n)
     (all_pushed ∙ pushed-LeadsTo g.seen left gs.legal.1 ∙ ap (λ x. x ++ left) (sym all_popped))
     (count ∙ sym (length-values_to giver n))

@@ -17,11 +17,7 @@ fn main(rt: HostRuntime) -> io::Result<()> {
 }
 
 // Prints how many values were taken from a queue, the first and the last; or why they weren't.
-fn tell(
-    rt: &HostRuntime,
-    queue: &str,
-    taken: Result<Vec<Taken>, Refusal>,
-) -> io::Result<()> {
+fn tell(rt: &HostRuntime, queue: &str, taken: Result<Vec<Taken>, Refusal>) -> io::Result<()> {
     let values = match taken {
         Ok(values) => values,
         Err(why) => return println!(rt; "{queue}: {why}"),

@@ -1,4 +1,5 @@
 //! The jobs: how many steps of "halve it where it is even, else triple it and add one" lead from a number to 1.
+ghost use Rattle.std.specs.Prelude.{◌≡◌, ◌+◌, ◌-◌, ◌^◌, min};
 
 /// How many steps are tried.
 const MOST_STEPS: u32 = 1000;
@@ -16,7 +17,9 @@ pub struct Found {
 
 impl Found {
     /// Nothing yet.
-    pub fn nothing() -> Found {
+    pub fn nothing() -> Found
+        ensures { result.jobs ≡ 0 }
+    {
         Found {
             number: 0,
             steps: 0,
@@ -25,7 +28,9 @@ impl Found {
     }
 
     /// What is found in the job of this number alone.
-    pub fn of(number: u64) -> Found {
+    pub fn of(number: u64) -> Found
+        ensures { result.jobs ≡ 1 }
+    {
         Found {
             number,
             steps: steps_of(number),
@@ -34,10 +39,13 @@ impl Found {
     }
 
     /// What both together found.
-    pub fn with(self, other: Found) -> Found {
+    pub fn with(self, other: Found) -> Found
+        ensures { result.jobs ≡ min (self.jobs + other.jobs) (2 ^ 64 - 1) }
+    {
         let jobs = self.jobs.saturating_add(other.jobs);
         let before = self.steps == other.steps && self.number <= other.number;
-        let best = if other.jobs == 0 || self.steps > other.steps || before {
+        let first = self.jobs > 0 && (self.steps > other.steps || before);
+        let best = if other.jobs == 0 || first {
             self
         } else {
             other

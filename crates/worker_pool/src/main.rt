@@ -4,7 +4,7 @@
 mod jobs;
 mod working;
 
-use crate::working::{run, team_of};
+use crate::working::run;
 use node_arena::Role;
 use nonblocking::MsQueue;
 use std::io;
@@ -20,11 +20,12 @@ const MOST: u64 = 999;
 
 fn main(rt: HostRuntime) -> io::Result<()> {
     let roles = [Role::Giver, Role::Taker, Role::Taker, Role::Taker];
-    let Ok((queue, seats)) = MsQueue::new(rt.alloc(), NODES, LIMIT, &roles) else {
-        return println!(rt; "no memory");
+    let found = match MsQueue::new(rt.alloc(), NODES, LIMIT, &roles) {
+        Ok((queue, seats)) => run(&rt, rt.alloc(), queue, seats, MOST),
+        Err(why) => Err(why),
     };
-    let Some(team) = team_of(&queue, seats) else {
-        return println!(rt; "no seats");
-    };
-    println!(rt; "{:?}", run(&rt, &queue, team, MOST))
+    match found {
+        Ok(found) => println!(rt; "{found:?}"),
+        Err(why) => println!(rt; "no result: {why}"),
+    }
 }

@@ -1,13 +1,15 @@
 //! A queue of any kind, one thread that hands out jobs, and three that do them.
-ghost use Rattle.std.specs.Prelude.{IfSome};
-ghost use Rattle.std.specs.List.{All};
+ghost use Rattle.std.specs.Prelude.{◌≡◌, ◌<◌, ◌^◌, ◌++◌, ◌∷◌, [], IfOk, OnOk};
 ghost use Rattle.std.specs.Thread.{IsSync};
-ghost use Rattle.history.specs.Seats.{MayPush, MayPop};
-ghost use Rattle.worker_pool.specs.Teams.{IsGiver, IsTaker, AreTakers, AreLeaders, IsTeam};
+ghost use Rattle.history.specs.declared.operations.Entry.TheVariants.{Push};
+ghost use Rattle.history.specs.Limits.{body_bits};
+ghost use Rattle.history.specs.Seats.{MayPush};
+ghost use Rattle.worker_pool.specs.Teams.{IsGiver, IsTaker, AreTakers, AreLeaders, AreSeats, IsTeam, IsOneMore, HasSubmitted, HasWorked, HaveWorked, seats_in};
 
 use crate::jobs::Found;
 use crossbeam_utils::Backoff;
 use history::{Body, Fifo, Refusal};
+use std::alloc::Global;
 use std::sync::Wait;
 use std::thread::{Threads, join};
 
@@ -26,81 +28,99 @@ pub struct Team<S: Drop> {
     three: S,
 }
 
-/// The last four of these seats, where the first of them may push and the others may pop.
-pub fn team_of<Q: Fifo>(queue: &Q, mut seats: Vec<Q::Seat>) -> Option<Team<Q::Seat>>
-    requires { All (Q.is_seat queue.now) seats.items }
-    ensures { IfSome result (IsTeam Q.is_seat Q.permits Q.known queue.now) }
+// The seats of a new queue as a team.
+fn team_of<Q: Fifo>(queue: &Q, mut seats: Vec<Q::Seat>) -> Team<Q::Seat>
+    requires { AreSeats Q.is_seat Q.permits Q.known queue.now seats.items }
+    ensures { IsTeam Q.is_seat Q.permits Q.known queue.now result }
 {
-    let three = seats.pop()?;
-    let two = seats.pop()?;
-    let one = seats.pop()?;
-    let giver = seats.pop()?;
-    let take = queue.may_pop(&one) && queue.may_pop(&two) && queue.may_pop(&three);
-    if take && queue.may_push(&giver) {
-        Some(Team {
-            giver,
-            one,
-            two,
-            three,
-        })
-    } else {
-        None
+    let (Some(three), Some(two), Some(one), Some(giver)) = (
+        seats.pop(),
+        seats.pop(),
+        seats.pop(),
+        seats.pop(),
+    ) else {
+        unreachable!()
+    };
+    Team {
+        giver,
+        one,
+        two,
+        three,
     }
 }
 
-// Pushes a body, and waits while there is no node for it; whether it was pushed. It isn't where a word is worn out.
-fn push_one<R: Wait, Q: Fifo>(rt: &R, queue: &Q, seat: &mut Q::Seat, body: Body) -> bool
-    requires { IsGiver Q.is_seat Q.permits Q.known queue.now seat.old }
-    ensures { IsGiver Q.is_seat Q.permits Q.known queue.now seat.new }
+// Pushes a body, and waits while there is no node for it.
+fn push_one<R: Wait, Q: Fifo>(
+    rt: &R,
+    queue: &Q,
+    seat: &mut Q::Seat,
+    body: Body,
+) -> Result<(), Refusal>
+    requires seat { Q.is_seat queue.now seat.old }
+    requires role { MayPush (Q.permits queue.now) (Q.known seat.old).number }
+    ensures seat { Q.is_seat queue.now seat.new }
+    ensures number { (Q.known seat.new).number ≡ (Q.known seat.old).number }
+    ensures pushed { OnOk result (IsOneMore (Q.known seat.old)
+        (Push (Q.known seat.old).number body) (Q.known seat.new)) }
 {
     let backoff = Backoff::new();
     for _ in rt.forever() {
         match queue.push(rt, seat, body) {
-            Ok(()) => return true,
+            Ok(()) => return Ok(()),
             Err(Refusal::NoNode) => backoff.snooze(),
-            Err(_) => return false,
+            Err(why) => return Err(why),
         }
     }
-    false
+    unreachable!()
 }
 
 // Pushes each job, and then for each worker the body that ends it.
-fn submit<R: Wait, Q: Fifo>(rt: &R, queue: &Q, mut seat: Q::Seat, most: u64)
-    requires { IsGiver Q.is_seat Q.permits Q.known queue.now seat }
+fn submit<R: Wait, Q: Fifo>(
+    rt: &R,
+    queue: &Q,
+    mut seat: Q::Seat,
+    most: u64,
+) -> Result<Q::Seat, Refusal>
+    requires giver { IsGiver Q.is_seat Q.permits Q.known queue.now seat }
+    requires bodies { most < 2 ^ body_bits }
+    ensures { IfOk result (HasSubmitted Q.is_seat Q.known queue.now seat most) }
 {
-    for number in 1..=most {
-        if let Some(body) = Body::new(number) {
-            push_one(rt, queue, &mut seat, body);
-        }
+    for count in 0..most {
+        let Some(body) = Body::new(count + 1) else {
+            unreachable!()
+        };
+        push_one(rt, queue, &mut seat, body)?;
     }
-    for _ in 0..WORKERS {
-        if let Some(body) = Body::new(STOP) {
-            push_one(rt, queue, &mut seat, body);
-        }
+    let Some(stop) = Body::new(STOP) else {
+        unreachable!()
+    };
+    for count in 0..WORKERS {
+        push_one(rt, queue, &mut seat, stop)?;
     }
+    Ok(seat)
 }
 
-// Does jobs until one ends it; what it found. It ends too where a word is worn out.
-fn work<R: Wait, Q: Fifo>(rt: &R, queue: &Q, mut seat: Q::Seat) -> Found
+// Does jobs until one ends it; what it found.
+fn work<R: Wait, Q: Fifo>(rt: &R, queue: &Q, mut seat: Q::Seat) -> Result<(Q::Seat, Found), Refusal>
     requires { IsTaker Q.is_seat Q.permits Q.known queue.now seat }
+    ensures { IfOk result (λ r. HasWorked Q.is_seat Q.known queue.now seat r.0 r.1) }
 {
     let mut found = Found::nothing();
     let backoff = Backoff::new();
     for _ in rt.forever() {
-        match queue.pop(rt, &mut seat) {
-            Ok(Some(taken)) => {
+        match queue.pop(rt, &mut seat)? {
+            Some(taken) => {
                 let number = taken.body.number();
                 if number == STOP {
-                    return found;
+                    return Ok((seat, found));
                 }
                 found = found.with(Found::of(number));
                 backoff.reset();
             }
-            Ok(None) => backoff.snooze(),
-            Err(_) => return found,
+            None => backoff.snooze(),
         }
     }
-    found
+    unreachable!()
 }
 
 // The work of two threads.
@@ -109,20 +129,25 @@ fn work_both<R: Threads + Wait + Sync, Q: Fifo + Sync>(
     queue: &Q,
     one: Q::Seat,
     other: Q::Seat,
-) -> Found
-    requires one { IsTaker Q.is_seat Q.permits Q.known queue.now one }
-    requires other { IsTaker Q.is_seat Q.permits Q.known queue.now other }
+) -> (
+    Result<(Q::Seat, Found), Refusal>,
+    Result<(Q::Seat, Found), Refusal>,
+)
+    requires { AreTakers Q.is_seat Q.permits Q.known queue.now one other }
+    ensures one { IfOk result.0 (λ r. HasWorked Q.is_seat Q.known queue.now one r.0 r.1) }
+    ensures other { IfOk result.1 (λ r. HasWorked Q.is_seat Q.known queue.now other r.0 r.1) }
 {
-    let (first, second) = join(
+    join(
         rt,
-        || -> Found
+        || -> Result<(Q::Seat, Found), Refusal>
             requires { IsTaker Q.is_seat Q.permits Q.known queue.now one }
+            ensures { IfOk result (λ r. HasWorked Q.is_seat Q.known queue.entry.now one r.0 r.1) }
         { work(rt, queue, one) },
-        || -> Found
+        || -> Result<(Q::Seat, Found), Refusal>
             requires { IsTaker Q.is_seat Q.permits Q.known queue.now other }
+            ensures { IfOk result (λ r. HasWorked Q.is_seat Q.known queue.entry.now other r.0 r.1) }
         { work(rt, queue, other) },
-    );
-    first.with(second)
+    )
 }
 
 // Hands out the jobs, and does some of them in another thread.
@@ -132,31 +157,36 @@ fn lead<R: Threads + Wait + Sync, Q: Fifo + Sync>(
     giver: Q::Seat,
     taker: Q::Seat,
     most: u64,
-) -> Found
-    requires giver { IsGiver Q.is_seat Q.permits Q.known queue.now giver }
-    requires taker { IsTaker Q.is_seat Q.permits Q.known queue.now taker }
+) -> (Result<(Q::Seat, Found), Refusal>, Result<Q::Seat, Refusal>)
+    requires seats { AreLeaders Q.is_seat Q.permits Q.known queue.now giver taker }
+    requires bodies { most < 2 ^ body_bits }
+    ensures taker { IfOk result.0 (λ r. HasWorked Q.is_seat Q.known queue.now taker r.0 r.1) }
+    ensures giver { IfOk result.1 (HasSubmitted Q.is_seat Q.known queue.now giver most) }
 {
-    let (found, ()) = join(
+    join(
         rt,
-        || -> Found
+        || -> Result<(Q::Seat, Found), Refusal>
             requires { IsTaker Q.is_seat Q.permits Q.known queue.now taker }
+            ensures { IfOk result (λ r. HasWorked Q.is_seat Q.known queue.entry.now taker r.0 r.1) }
         { work(rt, queue, taker) },
-        || -> ()
-            requires { IsGiver Q.is_seat Q.permits Q.known queue.now giver }
+        || -> Result<Q::Seat, Refusal>
+            requires giver { IsGiver Q.is_seat Q.permits Q.known queue.now giver }
+            requires bodies { most < 2 ^ body_bits }
+            ensures { IfOk result (HasSubmitted Q.is_seat Q.known queue.entry.now giver most) }
         { submit(rt, queue, giver, most) },
-    );
-    found
+    )
 }
 
-/// Hands out the jobs from 1 to `most`, does them in three threads, and answers what they found. Where a thread can't be
-/// made its part is done after the others, so the queue needs room for all jobs and for three bodies more.
-pub fn run<R: Threads + Wait + Sync, Q: Fifo + Sync>(
+// Hands out the jobs from 1 to `most` and does them, in four threads: the seats, and what was found.
+fn worked<R: Threads + Wait + Sync, Q: Fifo + Sync>(
     rt: &R,
     queue: &Q,
     team: Team<Q::Seat>,
     most: u64,
-) -> Found
-    requires { IsTeam Q.is_seat Q.permits Q.known queue.now team }
+) -> Result<(Team<Q::Seat>, Found), Refusal>
+    requires team { IsTeam Q.is_seat Q.permits Q.known queue.now team }
+    requires bodies { most < 2 ^ body_bits }
+    ensures { IfOk result (λ r. HaveWorked Q.is_seat Q.known queue.now team most r.0 r.1) }
 {
     let Team {
         giver,
@@ -164,14 +194,78 @@ pub fn run<R: Threads + Wait + Sync, Q: Fifo + Sync>(
         two,
         three,
     } = team;
-    let (some, others) = join(
+    let ((one, two), (three, giver)) = join(
         rt,
-        || -> Found
+        || -> (
+            Result<(Q::Seat, Found), Refusal>,
+            Result<(Q::Seat, Found), Refusal>,
+        )
             requires { IsSync R.row × AreTakers Q.is_seat Q.permits Q.known queue.now one two }
+            ensures one { IfOk result.0 (λ r. HasWorked Q.is_seat Q.known queue.entry.now one r.0 r.1) }
+            ensures other { IfOk result.1 (λ r. HasWorked Q.is_seat Q.known queue.entry.now two r.0 r.1) }
         { work_both(rt, queue, one, two) },
-        || -> Found
-            requires { IsSync R.row × AreLeaders Q.is_seat Q.permits Q.known queue.now giver three }
+        || -> (Result<(Q::Seat, Found), Refusal>, Result<Q::Seat, Refusal>)
+            requires seats { IsSync R.row × AreLeaders Q.is_seat Q.permits Q.known queue.now giver three }
+            requires bodies { most < 2 ^ body_bits }
+            ensures taker { IfOk result.0 (λ r. HasWorked Q.is_seat Q.known queue.entry.now three r.0 r.1) }
+            ensures giver { IfOk result.1 (HasSubmitted Q.is_seat Q.known queue.entry.now giver most) }
         { lead(rt, queue, giver, three, most) },
     );
-    some.with(others)
+    let (one, first) = one?;
+    let (two, second) = two?;
+    let (three, third) = three?;
+    let giver = giver?;
+    let team = Team {
+        giver,
+        one,
+        two,
+        three,
+    };
+    Ok((team, first.with(second).with(third)))
+}
+
+// The seats of a team, in their order.
+fn seats_of<S: Drop>(alloc: Global, team: Team<S>) -> Result<Vec<S>, Refusal>
+    ensures { IfOk result (λ seats. seats.items ≡ seats_in team) }
+{
+    let mut seats = Vec::new(alloc);
+    put(&mut seats, team.giver)?;
+    put(&mut seats, team.one)?;
+    put(&mut seats, team.two)?;
+    put(&mut seats, team.three)?;
+    Ok(seats)
+}
+
+// Puts a seat behind others.
+fn put<S: Drop>(seats: &mut Vec<S>, seat: S) -> Result<(), Refusal>
+    ensures { OnOk result (seats.new.items ≡ seats.old.items ++ seat ∷ []) }
+{
+    match seats.push(seat) {
+        Ok(()) => Ok(()),
+        Err(_) => Err(Refusal::Memory),
+    }
+}
+
+/// Hands out the jobs from 1 to `most` on a new queue, does them in three threads, and answers what they found: as many
+/// jobs were done as were handed out.
+///
+/// Refusals: `Memory` and `WornOut`; where a word is worn out before the bodies that end the workers are pushed, these wait
+/// for good. Where a thread can't be made its part is done after the others, so the queue needs room for all jobs and for
+/// three bodies more. Takes memory for the seats and for what `close` takes.
+pub fn run<R: Threads + Wait + Sync, Q: Fifo + Sync + Drop>(
+    rt: &R,
+    alloc: Global,
+    queue: Q,
+    seats: Vec<Q::Seat>,
+    most: u64,
+) -> Result<Found, Refusal>
+    requires seats { AreSeats Q.is_seat Q.permits Q.known queue seats.items }
+    requires bodies { most < 2 ^ body_bits }
+    ensures { IfOk result (λ found. found.jobs ≡ most) }
+{
+    let team = team_of(&queue, seats);
+    let (team, found) = worked(rt, &queue, team, most)?;
+    let seats = seats_of(alloc, team)?;
+    let _rest = queue.close(alloc, seats)?;
+    Ok(found)
 }

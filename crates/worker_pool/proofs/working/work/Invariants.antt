@@ -1,9 +1,14 @@
-use Rattle.worker_pool.specs.Teams.{IsTaker}
+use Rattle.std.specs.Prelude.{◌≡◌, ◌-◌, ◌^◌, min}
+use Rattle.std.specs.List.{count_by}
+use Rattle.worker_pool.specs.Teams.{is_job, is_stop}
 use Rattle.worker_pool.proofs.working.work.Given as goal
 
 abbrev pub invariant-loop : goal.invariant-loop
 invariant-loop g l = record {
   can : (goal.iterator-loop g).can_next l.iterator';
   finite : (goal.iterator-loop g).is_finite l.iterator';
-  taker : IsTaker g.Q.Fifo.is_seat g.Q.Fifo.permits g.Q.Fifo.known l.fn.queue l.seat;
+  seat : g.Q.Fifo.is_seat l.fn.queue l.seat;
+  number : (g.Q.Fifo.known l.seat).number ≡ (g.Q.Fifo.known l.initial.seat).number;
+  unstopped : count_by is_stop (g.Q.Fifo.known l.seat).mine ≡ 0;
+  jobs : l.found.jobs ≡ min (count_by is_job (g.Q.Fifo.known l.seat).mine) (2 ^ 64 - 1);
 }
