@@ -1,4 +1,5 @@
 //! Runs of workers, with the answers worked out by hand.
+mod comparing;
 mod gates;
 mod plans;
 mod queues;

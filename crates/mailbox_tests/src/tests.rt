@@ -1,6 +1,7 @@
 //! Runs of letters, with the answers worked out by hand.
 mod comparing;
 mod letters;
+mod listed_runs;
 mod loads;
 mod nonblocking_runs;
 mod plans;

@@ -2,7 +2,9 @@
 #![tactic(auto)]
 
 mod full;
+mod listed;
 mod planned;
 
 pub use full::{FullQueue, FullSeat};
+pub use listed::Listed;
 pub use planned::{Plan, Planned};

@@ -6,14 +6,17 @@ use std::alloc::Global;
 
 /// What becomes of the calls of a queue. A plan may take its time, as by turning until another call was made.
 pub trait Plan {
-    /// What a push is refused, before it is handed on; none where it is to be handed on.
-    fn push_refusal(&self) -> Option<Refusal>;
+    /// What a push of so many turns is refused, before it is handed on; none where it is to be handed on.
+    fn push_refusal(&self, turns: u32) -> Option<Refusal>;
 
-    /// What a pop is refused, before it is handed on; none where it is to be handed on.
-    fn pop_refusal(&self) -> Option<Refusal>;
+    /// What a pop of so many turns is refused, before it is handed on; none where it is to be handed on.
+    fn pop_refusal(&self, turns: u32) -> Option<Refusal>;
 
     /// A pop that was handed on found the queue empty.
     fn finds_empty(&self);
+
+    /// A pop that was handed on was refused.
+    fn finds_trouble(&self) {}
 }
 
 /// A queue that goes by a plan.
@@ -56,7 +59,7 @@ impl<Q: Fifo + Drop, P: Plan + Drop> Fifo for Planned<Q, P> {
     ghost sound = { λ q s h. Q.sound (queue_of q) s h };
 
     fn try_push(&self, seat: &mut Q::Seat, body: Body, turns: u32) -> Result<(), Refusal> {
-        match self.plan.push_refusal() {
+        match self.plan.push_refusal(turns) {
             Some(Refusal::NoNode) => Err(Refusal::NoNode),
             Some(Refusal::WornOut(word)) => Err(Refusal::WornOut(word)),
             Some(Refusal::Busy) => Err(Refusal::Busy),
@@ -65,7 +68,7 @@ impl<Q: Fifo + Drop, P: Plan + Drop> Fifo for Planned<Q, P> {
     }
 
     fn try_pop(&self, seat: &mut Q::Seat, turns: u32) -> Result<Option<Taken>, Refusal> {
-        match self.plan.pop_refusal() {
+        match self.plan.pop_refusal(turns) {
             Some(Refusal::WornOut(word)) => return Err(Refusal::WornOut(word)),
             Some(Refusal::Busy) => return Err(Refusal::Busy),
             _ => {}
@@ -76,7 +79,10 @@ impl<Q: Fifo + Drop, P: Plan + Drop> Fifo for Planned<Q, P> {
                 self.plan.finds_empty();
                 Ok(None)
             }
-            Err(why) => Err(why),
+            Err(why) => {
+                self.plan.finds_trouble();
+                Err(why)
+            }
         }
     }
 

@@ -4,8 +4,11 @@ use mock_queues::Plan;
 use std::sync::atomic::{AtomicU64, Ordering};
 use std::thread;
 
-/// How often a push that is held looks whether it may go on.
+/// How often a call that is held looks whether it may go on.
 const MOST_TURNS: u32 = 1_000_000;
+
+/// How long the submitter has to set the flag, once its push is refused: so often it is let go on.
+const LATE_TURNS: u32 = 20_000;
 
 /// Which calls of a queue are refused or held, counted over all threads.
 #[derive(Clone, Copy, Debug)]
@@ -14,10 +17,13 @@ pub enum Rule {
     Busy(u64),
     /// Each push after so many is refused `WornOut`.
     GoodPushes(u64),
-    /// So many first pops are refused `WornOut`.
-    WornPops(u64),
+    /// Pops are held until there were so many pushes. Behind so many that took a value, so many are refused `WornOut`.
+    WornPops { pushes: u64, good: u64, worn: u64 },
     /// Each push is held until so many pops found none.
     Empties(u64),
+    /// Pushes are held until a pop found none, and each after so many is refused `WornOut`. That pop is held until the
+    /// submitter was refused, and set the flag.
+    LatePushes(u64),
 }
 
 /// A rule, and how many calls there were.
@@ -25,8 +31,20 @@ pub enum Rule {
 pub struct Trouble {
     rule: Rule,
     pushes: AtomicU64,
+    /// Those that may take a value: they took one, or aren't answered.
     pops: AtomicU64,
+    worn: AtomicU64,
     empties: AtomicU64,
+}
+
+// Turns until a count is so great, for so many turns at most.
+fn hold(count: &AtomicU64, least: u64) {
+    for _ in 0..MOST_TURNS {
+        if count.load(Ordering::SeqCst) >= least {
+            return;
+        }
+        thread::yield_now();
+    }
 }
 
 impl Trouble {
@@ -36,45 +54,71 @@ impl Trouble {
             rule,
             pushes: AtomicU64::new(0),
             pops: AtomicU64::new(0),
+            worn: AtomicU64::new(0),
             empties: AtomicU64::new(0),
         }
     }
 
-    // Turns until so many pops found none, for so many turns at most.
-    fn hold(&self, least: u64) {
-        for _ in 0..MOST_TURNS {
-            if self.empties.load(Ordering::SeqCst) >= least {
-                return;
-            }
-            thread::yield_now();
+    // What a pop is refused where so many may take a value, and behind them so many are refused.
+    fn worn_pop(&self, good: u64, worn: u64) -> Option<Refusal> {
+        let before = self.pops.load(Ordering::SeqCst);
+        if before >= good {
+            return (self.worn.fetch_add(1, Ordering::SeqCst) < worn).then_some(Refusal::WornOut(
+                WornWord::Head,
+            ));
         }
+        let counted = self
+            .pops
+            .compare_exchange(before, before + 1, Ordering::SeqCst, Ordering::SeqCst);
+        counted.err().map(|_| Refusal::Busy)
     }
 }
 
 impl Plan for Trouble {
-    fn push_refusal(&self) -> Option<Refusal> {
+    fn push_refusal(&self, _turns: u32) -> Option<Refusal> {
         let before = self.pushes.fetch_add(1, Ordering::SeqCst);
         match self.rule {
-            Rule::Busy(most) if before < most => Some(Refusal::Busy),
-            Rule::GoodPushes(most) if before >= most => Some(Refusal::WornOut(WornWord::Free)),
-            Rule::Empties(least) => {
-                self.hold(least);
-                None
+            Rule::Busy(most) if before < most => return Some(Refusal::Busy),
+            Rule::Empties(least) => hold(&self.empties, least),
+            Rule::LatePushes(_) => hold(&self.empties, 1),
+            _ => {}
+        }
+        match self.rule {
+            Rule::GoodPushes(most) | Rule::LatePushes(most) if before >= most => {
+                Some(Refusal::WornOut(WornWord::Free))
             }
             _ => None,
         }
     }
 
-    fn pop_refusal(&self) -> Option<Refusal> {
-        let before = self.pops.fetch_add(1, Ordering::SeqCst);
+    fn pop_refusal(&self, _turns: u32) -> Option<Refusal> {
         match self.rule {
-            Rule::Busy(most) if before < most => Some(Refusal::Busy),
-            Rule::WornPops(most) if before < most => Some(Refusal::WornOut(WornWord::Head)),
+            Rule::Busy(most) => {
+                let before = self.pops.fetch_add(1, Ordering::SeqCst);
+                (before < most).then_some(Refusal::Busy)
+            }
+            Rule::WornPops { pushes, good, worn } => {
+                hold(&self.pushes, pushes);
+                self.worn_pop(good, worn)
+            }
             _ => None,
         }
     }
 
+    fn finds_trouble(&self) {
+        self.pops.fetch_sub(1, Ordering::SeqCst);
+    }
+
     fn finds_empty(&self) {
-        self.empties.fetch_add(1, Ordering::SeqCst);
+        self.pops.fetch_sub(1, Ordering::SeqCst);
+        if self.empties.fetch_add(1, Ordering::SeqCst) > 0 {
+            return;
+        }
+        if let Rule::LatePushes(most) = self.rule {
+            hold(&self.pushes, most.saturating_add(1));
+            for _ in 0..LATE_TURNS {
+                thread::yield_now();
+            }
+        }
     }
 }

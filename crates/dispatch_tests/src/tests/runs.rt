@@ -1,6 +1,7 @@
 //! Runs of `dispatch` on both queues.
 ghost use Rattle.std.specs.List.{All};
 
+use super::comparing::same;
 use super::gates::{Logged, Open, SecondFirst};
 use super::plans::{Rule, Trouble};
 use super::queues::{KINDS, non_blocking_of, two_lock_of};
@@ -130,6 +131,15 @@ fn the_gate_is_called_before_and_after_each_job(rt: HostRuntime) -> Result<(), F
     Ok(())
 }
 
+// So many first pops are refused.
+fn worn_pops(worn: u64) -> Rule {
+    Rule::WornPops {
+        pushes: 0,
+        good: 0,
+        worn,
+    }
+}
+
 /// A queue that is busy a hundred times does all jobs, and so does one that is found empty four times before the first push.
 /// Where pushes are refused, or each worker's pop, jobs are lost, and the workers end; where one worker's pop is refused, the
 /// others do all.
@@ -140,8 +150,8 @@ fn workers_end_where_the_queue_is_worn_out(rt: HostRuntime) -> Result<(), Fail> 
         (Rule::Empties(4), Ok(1000)),
         (Rule::GoodPushes(0), Err(Refusal::Lost)),
         (Rule::GoodPushes(10), Err(Refusal::Lost)),
-        (Rule::WornPops(1), Ok(1000)),
-        (Rule::WornPops(u64::MAX), Err(Refusal::Lost)),
+        (worn_pops(1), Ok(1000)),
+        (worn_pops(u64::MAX), Err(Refusal::Lost)),
     ];
     for (rule, wanted) in cases {
         for kind in KINDS {
@@ -149,6 +159,106 @@ fn workers_end_where_the_queue_is_worn_out(rt: HostRuntime) -> Result<(), Fail> 
             load.rule = Some(rule);
             let results = done(&rt, rt.alloc(), kind, load, &Open);
             assert_eq!(rt; results, wanted, "{rule:?}, {kind:?}");
+        }
+    }
+    Ok(())
+}
+
+// How many results workers give of jobs, on a queue of 16 nodes of this kind, by this rule.
+fn done_by<R: Threads + Wait + Sync, G: Gate + Sync>(
+    rt: &R,
+    alloc: Global,
+    kind: Kind,
+    (workers, count): (usize, u64),
+    rule: Rule,
+    gate: &G,
+) -> Result<usize, Refusal> {
+    let mut load = Load::new(workers, 16, count);
+    load.rule = Some(rule);
+    done(rt, alloc, kind, load, gate)
+}
+
+/// Workers are refused behind so many pops that took a value: all from then on, or one. What they did before is kept. So all
+/// of four jobs are done where four values were taken, or another worker takes them; else they are lost.
+#[test]
+fn results_before_a_refusal_are_kept(rt: HostRuntime) -> Result<(), Fail> {
+    for kind in KINDS {
+        for (workers, worn, least) in [(1, 1, 4), (1, u64::MAX, 4), (2, u64::MAX, 4), (2, 1, 0)] {
+            for good in 0..=6 {
+                let rule = Rule::WornPops {
+                    pushes: 4 + workers,
+                    good,
+                    worn,
+                };
+                let found = done_by(&rt, rt.alloc(), kind, (workers as usize, 4), rule, &Open);
+                let wanted = if good < least {
+                    Err(Refusal::Lost)
+                } else {
+                    Ok(4)
+                };
+                same(
+                    &rt,
+                    found,
+                    wanted,
+                    format_args!("{workers} workers, {rule:?}, {kind:?}"),
+                );
+            }
+        }
+    }
+    Ok(())
+}
+
+/// Of two workers that did a job each, one or both are refused after it: both jobs are done.
+#[test]
+fn the_result_of_a_worker_refused_after_its_first_job_is_kept(rt: HostRuntime) -> Result<(), Fail> {
+    for kind in KINDS {
+        for worn in [1, 2] {
+            let gate = SecondFirst::new();
+            let rule = Rule::WornPops {
+                pushes: 4,
+                good: 2,
+                worn,
+            };
+            let found = done_by(&rt, rt.alloc(), kind, (2, 2), rule, &gate);
+            same(
+                &rt,
+                (found, gate.opened()),
+                (Ok(2), true),
+                format_args!("{worn}, {kind:?}"),
+            );
+        }
+    }
+    Ok(())
+}
+
+/// The submitter is refused behind so many pushes: where these are the jobs, or more, all are done.
+#[test]
+fn jobs_pushed_before_a_refusal_are_done(rt: HostRuntime) -> Result<(), Fail> {
+    for kind in KINDS {
+        for good in 0..=6 {
+            let rule = Rule::GoodPushes(good);
+            let found = done_by(&rt, rt.alloc(), kind, (2, 4), rule, &Open);
+            let wanted = if good < 4 { Err(Refusal::Lost) } else { Ok(4) };
+            same(&rt, found, wanted, format_args!("{rule:?}, {kind:?}"));
+        }
+    }
+    Ok(())
+}
+
+/// A worker finds the queue empty. Before it goes on, jobs are pushed, and the submitter is refused and gives up: the worker
+/// looked before whether it had, and so does those jobs.
+#[test]
+fn jobs_pushed_after_a_pop_found_none_are_done(rt: HostRuntime) -> Result<(), Fail> {
+    for kind in KINDS {
+        for count in [1, 3] {
+            let rule = Rule::LatePushes(count);
+            let found = done_by(&rt, rt.alloc(), kind, (1, count), rule, &Open);
+            same(
+                &rt,
+                found,
+                Ok(count as usize),
+                format_args!("{rule:?}, {kind:?}"),
+            );
         }
     }
     Ok(())

@@ -1,18 +1,30 @@
 //! Turns of one worker, on one thread.
 ghost use Rattle.std.specs.List.{All};
 
+use super::comparing::same;
 use super::gates::Open;
 use super::queues::{non_blocking_of, two_lock_of};
 use super::seats::{giver_of, sums, taker_of};
 use dispatcher::{Worked, work_one};
-use history::{Body, Fifo, Refusal};
+use history::{Body, Fifo, Refusal, WornWord};
 use job_results::{Job, JobResult};
+use mock_queues::{FullQueue, Listed, Planned};
 use std::alloc::Global;
 use std::process::Abort;
 use std::test::Fail;
 
-/// How many turns each call has.
+/// How many turns each call of a worker alone has.
 const TURNS: u32 = 3;
+
+/// Pops of many numbers of turns, refused or not.
+const POPS: [(u32, Option<Refusal>); 6] = [
+    (1, Some(Refusal::Busy)),
+    (2, None),
+    (7, Some(Refusal::WornOut(WornWord::Head))),
+    (8, Some(Refusal::Busy)),
+    (1000, None),
+    (u32::MAX, Some(Refusal::Busy)),
+];
 
 // Pushes a small body, by a seat that may push. Else `BadSize`, which no queue answers.
 fn push<Q: Fifo>(queue: &Q, seat: &mut Q::Seat, body: u64) -> Result<(), Refusal>
@@ -28,20 +40,21 @@ fn push<Q: Fifo>(queue: &Q, seat: &mut Q::Seat, body: u64) -> Result<(), Refusal
     queue.try_push(seat, body, TURNS)
 }
 
-// A turn of a worker whose seat may pop. Else `BadSize`, which `work_one` never answers.
+// A turn of a worker whose seat may pop, in one turn of the queue or more. Else `BadSize`, which `work_one` never answers.
 fn turn<'a, Q: Fifo>(
     queue: &Q,
     seat: &mut Q::Seat,
     jobs: &'a [Job],
     out: &mut Vec<JobResult<'a>>,
+    turns: u32,
 ) -> Result<Worked, Refusal>
     requires { Q.is_seat queue.now seat.old }
     ensures { Q.is_seat queue.now seat.new }
 {
-    if !queue.may_pop(seat) {
+    if !queue.may_pop(seat) || turns == 0 {
         return Err(Refusal::BadSize);
     }
-    work_one(queue, seat, jobs, &Open, out, TURNS)
+    work_one(queue, seat, jobs, &Open, out, turns)
 }
 
 // A worker alone takes one value a turn, and does its job: it is never busy. Two seats: one that pops, and one that pushes.
@@ -65,10 +78,10 @@ fn takes_one_value_a_turn<Q: Fifo>(
     ];
     for (body, wanted) in turns {
         push(queue, &mut giver, body)?;
-        let worked = turn(queue, &mut taker, &jobs, &mut out);
+        let worked = turn(queue, &mut taker, &jobs, &mut out, TURNS);
         assert_eq!(rt; worked, wanted, "body {body}");
     }
-    let worked = turn(queue, &mut taker, &jobs, &mut out);
+    let worked = turn(queue, &mut taker, &jobs, &mut out, TURNS);
     assert_eq!(rt; (worked, out.len()), (Ok(Worked::Empty), 2));
     Ok(())
 }
@@ -80,4 +93,21 @@ fn a_worker_takes_one_value_a_turn(rt: HostRuntime) -> Result<(), Fail> {
     takes_one_value_a_turn(&rt, rt.alloc(), &queue, seats)?;
     let (queue, seats) = non_blocking_of(rt.alloc(), 16, 1)?;
     takes_one_value_a_turn(&rt, rt.alloc(), &queue, seats)
+}
+
+/// A worker's turn is one pop, in just the turns handed in, and is refused as it is.
+#[test]
+fn a_workers_turn_is_one_pop_in_these_turns(rt: HostRuntime) -> Result<(), Fail> {
+    let (queue, mut seat) = FullQueue::new();
+    let queue = Planned::new(queue, Listed::new(&POPS));
+    let mut out = Vec::new(rt.alloc());
+    for (turns, refusal) in &POPS {
+        let worked = turn(&queue, &mut seat, &[], &mut out, *turns);
+        let wanted = match refusal {
+            Some(why) => Err(*why),
+            None => Ok(Worked::Empty),
+        };
+        same(&rt, worked, wanted, turns);
+    }
+    Ok(())
 }

@@ -11,11 +11,11 @@ use std::alloc::Global;
 use std::process::Abort;
 use std::sync::Wait;
 
-/// How many turns each call has.
+/// How many turns each call on a queue with room has.
 const TURNS: u32 = 3;
 
-// The last of these senders, taken from them.
-fn last<Q: Fifo + Drop>(
+/// The last of these senders, taken from them.
+pub fn last<Q: Fifo + Drop>(
     office: &Office<Q>,
     senders: &mut Vec<Sender<Q>>,
 ) -> Result<Sender<Q>, Refusal>
@@ -55,24 +55,28 @@ pub fn take_last<Q: Fifo>(queue: &Q, seats: &mut Vec<Q::Seat>, stray: bool) -> R
     }
 }
 
-// The sender and the text of a letter.
-fn parts<'a>(letter: Letter<'a>) -> (u16, &'a str) {
+/// The sender and the text of a letter.
+pub fn parts<'a>(letter: Letter<'a>) -> (u16, &'a str) {
     (letter.from, letter.text)
 }
 
-// Sends a letter, in a few turns.
-fn sends<R: Wait, Q: Fifo + Drop>(
+/// Sends a letter, in so many turns, 1 or more. Else `BadSize`.
+pub fn sends<R: Wait, Q: Fifo + Drop>(
     rt: &R,
     alloc: Global,
     office: &Office<Q>,
     sender: &mut Sender<Q>,
     text: &str,
+    turns: u32,
 ) -> Result<(), Refusal>
     requires { IsSender Q.is_seat Q.permits Q.known office.now sender.old }
     ensures { IsSender Q.is_seat Q.permits Q.known office.now sender.new }
 {
+    if turns == 0 {
+        return Err(Refusal::BadSize);
+    }
     match String::from_str(alloc, text) {
-        Ok(text) => sender.try_send(rt, office, text, TURNS),
+        Ok(text) => sender.try_send(rt, office, text, turns),
         Err(_) => Err(Refusal::Memory),
     }
 }
@@ -104,9 +108,9 @@ fn sends_three<R: Wait, Q: Fifo + Drop>(
 {
     let mut second = last(office, senders)?;
     let mut first = last(office, senders)?;
-    sends(rt, alloc, office, &mut first, "hello")?;
-    sends(rt, alloc, office, &mut second, "hi")?;
-    sends(rt, alloc, office, &mut first, "again")
+    sends(rt, alloc, office, &mut first, "hello", TURNS)?;
+    sends(rt, alloc, office, &mut second, "hi", TURNS)?;
+    sends(rt, alloc, office, &mut first, "again", TURNS)
 }
 
 // Those letters are taken, in that order; then there is none.

@@ -39,7 +39,7 @@ impl Trouble {
 }
 
 impl Plan for Trouble {
-    fn push_refusal(&self) -> Option<Refusal> {
+    fn push_refusal(&self, _turns: u32) -> Option<Refusal> {
         match self.pushes.fetch_add(1, Ordering::SeqCst) {
             0 => {
                 if self.holds {
@@ -52,7 +52,7 @@ impl Plan for Trouble {
         }
     }
 
-    fn pop_refusal(&self) -> Option<Refusal> {
+    fn pop_refusal(&self, _turns: u32) -> Option<Refusal> {
         if self.worn_pops {
             Some(Refusal::WornOut(WornWord::Head))
         } else {
@@ -82,7 +82,7 @@ impl Late {
 }
 
 impl Plan for Late {
-    fn push_refusal(&self) -> Option<Refusal> {
+    fn push_refusal(&self, _turns: u32) -> Option<Refusal> {
         for _ in 0..MOST_TURNS {
             if self.empty.load(Ordering::SeqCst) > 0 {
                 return None;
@@ -92,7 +92,7 @@ impl Plan for Late {
         None
     }
 
-    fn pop_refusal(&self) -> Option<Refusal> {
+    fn pop_refusal(&self, _turns: u32) -> Option<Refusal> {
         None
     }
 
