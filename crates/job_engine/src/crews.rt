@@ -1,9 +1,14 @@
 //! A queue of either kind, with a seat for each worker and one for the submitter.
-ghost use Rattle.std.specs.Prelude.{◌≡◌, ◌≤◌, length, map, IfErr, IfOk};
+ghost use Rattle.std.specs.Prelude.{◌≡◌, ◌≤◌, length, map, IfErr, IfOk, OnOk};
+ghost use Rattle.std.specs.List.{All};
 ghost use Rattle.job_results.specs.Jobs.{job_rows};
 ghost use Rattle.job_results.specs.Results.{row_of};
-ghost use Rattle.dispatcher.specs.Workers.{StopsWorkers};
-ghost use Rattle.job_engine.specs.Crews.{crew_roles, IsCrew};
+ghost use Rattle.dispatcher.specs.Workers.{IsTaker, IsGiver, StopsWorkers};
+ghost use Rattle.node_arena.specs.declared.arena.Arena.{Arena};
+ghost use Rattle.node_arena.specs.Seats.{plan_of};
+ghost use Rattle.two_lock.specs.Queues as two_lock;
+ghost use Rattle.nonblocking.specs.Queues as nonblocking;
+ghost use Rattle.job_engine.specs.Crews.{crew_roles, crew_plan, IsCrew, HasQueue};
 ghost use Rattle.job_engine.specs.Works.{AreSized};
 
 use dispatcher::{Gate, dispatch};
@@ -27,6 +32,20 @@ impl Gate for Open {
     fn after(&self, _number: u64) {}
 }
 
+/// A queue on shared words.
+trait OnWords: Fifo {
+    // The words.
+    ghost words: { Self → Arena };
+}
+
+impl OnWords for TwoLockQueue {
+    ghost words = { two_lock.arena_of };
+}
+
+impl OnWords for MsQueue {
+    ghost words = { nonblocking.arena_of };
+}
+
 /// The results of jobs, in their order, by so many workers over a queue of this kind and with so many nodes.
 ///
 /// Refused by `Memory`, and by `Lost` where a job has no result. Takes memory, starts threads, and waits.
@@ -41,17 +60,18 @@ pub(crate) fn results_by<'a, R: Threads + Wait + Sync>(
     requires sizes { AreSized workers nodes }
     requires few { length jobs.now ≤ 1000000 }
     ensures rows { IfOk result (λ results. map row_of results.items ≡ job_rows 1 jobs.now) }
+    ensures over { OnOk result (HasQueue (crew_plan kind nodes workers)) }
     ensures why { IfErr result StopsWorkers }
 {
     let roles = roles_of(alloc, workers)?;
     match kind {
         Kind::TwoLock => {
             let (queue, seats) = TwoLockQueue::new(alloc, nodes, MOST_COUNT, &roles)?;
-            results_over(rt, alloc, &queue, workers, seats, jobs)
+            results_over(rt, alloc, &queue, workers, kind, nodes, seats, jobs)
         }
         Kind::NonBlocking => {
             let (queue, seats) = MsQueue::new(alloc, nodes, MOST_COUNT, &roles)?;
-            results_over(rt, alloc, &queue, workers, seats, jobs)
+            results_over(rt, alloc, &queue, workers, kind, nodes, seats, jobs)
         }
     }
 }
@@ -71,22 +91,47 @@ fn roles_of(alloc: Global, workers: u32) -> Result<Vec<Role>, Refusal>
 }
 
 // The results of jobs over any queue, by a worker for each of its seats but the last, which is the submitter's.
-fn results_over<'a, R: Threads + Wait + Sync, Q: Fifo + Sync>(
+fn results_over<'a, R: Threads + Wait + Sync, Q: OnWords + Sync>(
     rt: &R,
     alloc: Global,
     queue: &Q,
     workers: u32,
+    kind: Kind,
+    nodes: u32,
     mut seats: Vec<Q::Seat>,
     jobs: &'a [Job],
 ) -> Result<Vec<JobResult<'a>>, Refusal>
     requires some { 1 ≤ workers }
+    requires made { plan_of (Q.words queue.now) ≡ crew_plan kind nodes workers }
     requires crew { IsCrew Q.is_seat Q.permits Q.known queue.now workers seats.items }
     requires few { length jobs.now ≤ 1000000 }
     ensures rows { IfOk result (λ results. map row_of results.items ≡ job_rows 1 jobs.now) }
+    ensures over { OnOk result (HasQueue (crew_plan kind nodes workers)) }
     ensures why { IfErr result StopsWorkers }
 {
     let Some(giver) = seats.pop() else {
         unreachable!()
     };
-    dispatch(rt, alloc, queue, giver, seats, jobs, &Open)
+    results_with(rt, alloc, queue, workers, giver, seats, jobs)
+}
+
+// The results of jobs by so many workers, each with one of these seats; the giver submits the jobs.
+fn results_with<'a, R: Threads + Wait + Sync, Q: Fifo + Sync>(
+    rt: &R,
+    alloc: Global,
+    queue: &Q,
+    workers: u32,
+    giver: Q::Seat,
+    takers: Vec<Q::Seat>,
+    jobs: &'a [Job],
+) -> Result<Vec<JobResult<'a>>, Refusal>
+    requires some { 1 ≤ workers }
+    requires each { length takers.items ≡ workers }
+    requires giver { IsGiver Q.is_seat Q.permits Q.known queue.now giver }
+    requires takers { All (IsTaker Q.is_seat Q.permits Q.known queue.now) takers.items }
+    requires few { length jobs.now ≤ 1000000 }
+    ensures rows { IfOk result (λ results. map row_of results.items ≡ job_rows 1 jobs.now) }
+    ensures why { IfErr result StopsWorkers }
+{
+    dispatch(rt, alloc, queue, giver, takers, jobs, &Open)
 }

@@ -2,6 +2,7 @@
 ghost use Rattle.std.specs.Prelude.{◌≡◌, ◌≢◌, ◌↔◌, IfErr, IfOk, OnErr, OnOk, IsTrue, Err};
 ghost use Rattle.history.specs.Blocks.{GivesUp};
 ghost use Rattle.source_text.specs.Readings.{EndsReadingFor};
+ghost use Rattle.job_engine.specs.Crews.{crew_plan, HasQueue};
 ghost use Rattle.job_engine.specs.Works.{AreSized, IsBadSize, IsTextOf, WritesResults, BeginsResults, TellsOfText, IsReadingRefusal, IsWorkRefusal, EndsReadingOrUnread};
 
 use crate::crews::results_by;
@@ -42,6 +43,8 @@ pub fn work_text<T: Threads + Wait + Sync, R: Source, W: Sink>(
     ensures ok { OnOk result (WritesResults (R.remaining reader.old) (W.contents writer.old)
         (W.contents writer.new)) }
     ensures quiet { OnOk result (W.failures writer.new ≡ W.failures writer.old) }
+    // A queue of this kind was made for it, with so many nodes, the greatest count of all, and a seat for each worker.
+    ensures over { OnOk result (HasQueue (crew_plan kind nodes workers)) }
     // A size out of its range is refused before anything is read.
     ensures sized { (result ≡ Err Refusal.BadSize) ↔ IsBadSize workers nodes }
     ensures unread { IfErr result (λ why. why ≡ Refusal.BadSize → reader.new ≡ reader.old) }
