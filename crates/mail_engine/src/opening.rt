@@ -1,6 +1,7 @@
 //! A new queue of either kind, with a seat for each sender and one for their receiver.
-ghost use Rattle.std.specs.Prelude.{◌≡◌, IfOk, IfErr, OnOk};
+ghost use Rattle.std.specs.Prelude.{◌≡◌, [], ◌∷◌, ◌++◌, IfOk, IfErr, OnOk};
 ghost use Rattle.line_table.specs.declared.lines.Kind.TheVariants.{TwoLock, NonBlocking};
+ghost use Rattle.node_arena.specs.declared.arena.Arena.{Arena};
 ghost use Rattle.node_arena.specs.Making.{plan};
 ghost use Rattle.node_arena.specs.Plans.{IsPlanned};
 ghost use Rattle.node_arena.specs.Seats.{known_of};
@@ -8,11 +9,25 @@ ghost use Rattle.two_lock.specs.Queues as two_lock;
 ghost use Rattle.nonblocking.specs.Queues as nonblocking;
 ghost use Rattle.mail_engine.specs.Rows.{giver_and_taker_roles, IsOpened, OpenRefused};
 
-use history::Refusal;
+use history::{Fifo, Refusal};
 use node_arena::{Role, Seat};
 use nonblocking::MsQueue;
 use std::alloc::Global;
 use two_lock::TwoLockQueue;
+
+/// A queue on shared words.
+pub(crate) trait OnWords: Fifo {
+    // The words.
+    ghost words: { Self → Arena };
+}
+
+impl OnWords for TwoLockQueue {
+    ghost words = { two_lock.arena_of };
+}
+
+impl OnWords for MsQueue {
+    ghost words = { nonblocking.arena_of };
+}
 
 /// A two-lock queue with so many nodes and this greatest count, a seat for each of so many senders, and their receiver's.
 ///
@@ -24,6 +39,8 @@ pub fn two_lock_seats(
     limit: u64,
     senders: u16,
 ) -> Result<(TwoLockQueue, Vec<Seat>, Seat), Refusal>
+    ensures made { IfOk result (λ r. two_lock.IsQueueMade nodes limit (giver_and_taker_roles senders)
+        r.0 (r.1.items ++ r.2 ∷ [])) }
     ensures opened { IfOk result (λ r. IsOpened two_lock.IsQueueSeat two_lock.permits_of known_of
         senders r.0 r.1.items r.2) }
     ensures sized { OnOk result (IsPlanned (plan TwoLock nodes limit (giver_and_taker_roles senders))) }
@@ -49,6 +66,8 @@ pub fn non_blocking_seats(
     limit: u64,
     senders: u16,
 ) -> Result<(MsQueue, Vec<Seat>, Seat), Refusal>
+    ensures made { IfOk result (λ r. nonblocking.IsQueueMade nodes limit
+        (giver_and_taker_roles senders) r.0 (r.1.items ++ r.2 ∷ [])) }
     ensures opened { IfOk result (λ r. IsOpened nonblocking.IsQueueSeat nonblocking.permits_of known_of
         senders r.0 r.1.items r.2) }
     ensures sized { OnOk result (IsPlanned

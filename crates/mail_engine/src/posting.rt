@@ -4,14 +4,15 @@ ghost use Rattle.std.specs.List.{All};
 ghost use Rattle.history.specs.Blocks.{GivesUp};
 ghost use Rattle.mail_text.specs.MailTexts.{said_letters, IsMailInRange};
 ghost use Rattle.source_text.specs.Readings.{EndsReadingFor};
-ghost use Rattle.mail_engine.specs.Rows.{IsOpened};
+ghost use Rattle.node_arena.specs.Seats.{plan_of};
+ghost use Rattle.mail_engine.specs.Rows.{mail_plan, IsOpened};
 ghost use Rattle.mail_engine.specs.Posts.{IsTextOf, ArePosted, AreTaken, WritesLetters, BeginsLetters, TellsOfText, IsReadingRefusal, IsSendingRefusal, IsPostRefusal};
 
-use crate::opening::{non_blocking_seats, two_lock_seats};
+use crate::opening::{OnWords, non_blocking_seats, two_lock_seats};
 use crate::sharing::tasks_of;
 use crate::telling::tell;
 use crate::texts::MailTexts;
-use history::{Fifo, Refusal, Sink, Source};
+use history::{Refusal, Sink, Source};
 use line_table::Kind;
 use mail_text::Mail;
 use mailbox::{Office, post};
@@ -39,15 +40,16 @@ pub fn post_text<T: Threads + Wait + Sync, R: Source, W: Sink>(
     writer: &mut W,
     kind: Kind,
 ) -> Result<(), Refusal>
-    // The letters that were read were taken, each sender's in its order; their text is written, and nothing else.
-    ensures ok { OnOk result (WritesLetters (ArePosted (R.remaining reader.old))
+    // The letters that were read were taken, each sender's in its order, and a queue of this kind was made for them, with as
+    // many nodes as there are letters and senders, and two more; their text is written, and nothing else.
+    ensures ok { OnOk result (WritesLetters (ArePosted kind (R.remaining reader.old))
         (W.contents writer.old) (W.contents writer.new)) }
     ensures quiet { OnOk result (W.failures writer.new ≡ W.failures writer.old) }
     // A text is refused by its first faulty line. Where sending or writing is refused, it was the text of mail.
     ensures text { IfErr result (TellsOfText (R.remaining reader.old)) }
     // Where writing fails, a beginning of the text is written.
     ensures beginning { IfErr result (λ why. why ≡ Refusal.Write
-        → BeginsLetters (ArePosted (R.remaining reader.old)) (W.contents writer.old)
+        → BeginsLetters (ArePosted kind (R.remaining reader.old)) (W.contents writer.old)
         (W.contents writer.new)) }
     ensures write { IfErr result (λ why. why ≡ Refusal.Write
         → GivesUp (W.failures writer.old) (W.failures writer.new) (W.is_full writer.new)) }
@@ -82,11 +84,11 @@ fn post_mail<T: Threads + Wait + Sync, W: Sink>(
     kind: Kind,
 ) -> Result<(), Refusal>
     requires { IsMailInRange mail.senders (said_letters mail.letters.items) }
-    ensures ok { OnOk result (WritesLetters (AreTaken mail.senders (said_letters mail.letters.items))
+    ensures ok { OnOk result (WritesLetters (AreTaken kind mail.senders (said_letters mail.letters.items))
         (W.contents writer.old) (W.contents writer.new)) }
     ensures quiet { OnOk result (W.failures writer.new ≡ W.failures writer.old) }
     ensures beginning { IfErr result (λ why. why ≡ Refusal.Write
-        → BeginsLetters (AreTaken mail.senders (said_letters mail.letters.items))
+        → BeginsLetters (AreTaken kind mail.senders (said_letters mail.letters.items))
         (W.contents writer.old) (W.contents writer.new)) }
     ensures write { IfErr result (λ why. why ≡ Refusal.Write
         → GivesUp (W.failures writer.old) (W.failures writer.new) (W.is_full writer.new)) }
@@ -98,19 +100,20 @@ fn post_mail<T: Threads + Wait + Sync, W: Sink>(
     match kind {
         Kind::TwoLock => {
             let (queue, seats, receiver) = two_lock_seats(alloc, nodes, MOST_COUNT, senders)?;
-            post_over(rt, alloc, queue, seats, receiver, mail, writer)
+            post_over(rt, alloc, kind, queue, seats, receiver, mail, writer)
         }
         Kind::NonBlocking => {
             let (queue, seats, receiver) = non_blocking_seats(alloc, nodes, MOST_COUNT, senders)?;
-            post_over(rt, alloc, queue, seats, receiver, mail, writer)
+            post_over(rt, alloc, kind, queue, seats, receiver, mail, writer)
         }
     }
 }
 
 // Sends letters over a new queue with these seats, and writes those taken.
-fn post_over<T: Threads + Wait + Sync, Q: Fifo + Sync + Drop, W: Sink>(
+fn post_over<T: Threads + Wait + Sync, Q: OnWords + Sync + Drop, W: Sink>(
     rt: &T,
     alloc: Global,
+    kind: Kind,
     queue: Q,
     seats: Vec<Q::Seat>,
     receiver: Q::Seat,
@@ -119,11 +122,13 @@ fn post_over<T: Threads + Wait + Sync, Q: Fifo + Sync + Drop, W: Sink>(
 ) -> Result<(), Refusal>
     requires mail { IsMailInRange mail.senders (said_letters mail.letters.items) }
     requires opened { IsOpened Q.is_seat Q.permits Q.known mail.senders queue seats.items receiver }
-    ensures ok { OnOk result (WritesLetters (AreTaken mail.senders (said_letters mail.letters.items))
+    requires made { plan_of (Q.words queue)
+        ≡ mail_plan kind (length (said_letters mail.letters.items)) mail.senders }
+    ensures ok { OnOk result (WritesLetters (AreTaken kind mail.senders (said_letters mail.letters.items))
         (W.contents writer.old) (W.contents writer.new)) }
     ensures quiet { OnOk result (W.failures writer.new ≡ W.failures writer.old) }
     ensures beginning { IfErr result (λ why. why ≡ Refusal.Write
-        → BeginsLetters (AreTaken mail.senders (said_letters mail.letters.items))
+        → BeginsLetters (AreTaken kind mail.senders (said_letters mail.letters.items))
         (W.contents writer.old) (W.contents writer.new)) }
     ensures write { IfErr result (λ why. why ≡ Refusal.Write
         → GivesUp (W.failures writer.old) (W.failures writer.new) (W.is_full writer.new)) }
