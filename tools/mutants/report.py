@@ -1,0 +1,50 @@
+"""The report: a line for each edit as it is judged, and the counts."""
+import dataclasses
+import threading
+
+from mutants.edits import Edit
+
+
+@dataclasses.dataclass(frozen=True)
+class Verdict:
+    """What a try says of an edit: the goal that refused it, or why it counts as not refused."""
+
+    edit: Edit
+    goal: str = ""
+    why: str = ""
+
+
+class Report:
+    """What the tries of a run say, which may come from several threads."""
+
+    def __init__(self) -> None:
+        self.printing = threading.Lock()
+        self.passed = self.failed = 0
+        self.verdicts: list[Verdict] = []
+        # Edits that the record has as refused, by their labels: where one isn't refused, the record is false.
+        self.recorded: set[str] = set()
+
+    def note(self, text: str) -> None:
+        with self.printing:
+            print(text, flush=True)
+
+    def count(self, passed: bool, text: str) -> None:
+        """Counts what passed or failed, and prints its line."""
+        with self.printing:
+            print(text, flush=True)
+            self.passed, self.failed = self.passed + passed, self.failed + (not passed)
+
+    def judge(self, verdict: Verdict) -> None:
+        """Counts an edit that was tried, and prints its line."""
+        label = verdict.edit.label()
+        self.verdicts.append(verdict)
+        if verdict.goal:
+            self.count(True, f"{label}: refused, {verdict.goal}")
+        else:
+            is_false = label in self.recorded
+            self.count(False, f"{label}: {verdict.why}{'. THE RECORD IS FALSE: it has this edit as refused' if is_false else ''}")
+
+    def end(self) -> int:
+        """Prints the last line, and returns the run's exit status."""
+        print(f"{self.passed} passed, {self.failed} failed")
+        return 1 if self.failed else 0
