@@ -1,4 +1,4 @@
-"""The run: which edits are tried, side by side."""
+"""The run: which edits are tried, side by side, and what becomes of the record."""
 import argparse
 import functools
 import os
@@ -6,7 +6,9 @@ from collections.abc import Callable, Iterable
 from concurrent.futures import FIRST_COMPLETED, Future, ThreadPoolExecutor, wait
 
 from mutants.edits import edits_in
+from mutants.keys import digest, keys_of, units_of
 from mutants.kit import Kit, have_libraries, stop
+from mutants.record import Record, commit_at, is_due
 from mutants.report import Report
 from mutants.trials import Trials
 
@@ -34,36 +36,102 @@ def words_told(head: str) -> argparse.Namespace:
     told.add_argument("--groups", action="store_true", help="only show which edits are tried together")
     told.add_argument("--true-bodies", action="store_true", help="check the functions without their edits, which must be proved")
     told.add_argument("--over-out", action="store_true", help="over what rt check kept in out/")
+    told.add_argument("--all", action="store_true", help="try those too that the record has as refused")
+    told.add_argument("--new", action="store_true", help="try only what the record doesn't have")
+    told.add_argument("--record", action="store_true", help="write into the record what this run saw")
     told.add_argument("--jobs", type=int, metavar="N", help="so many checks at a time (one a processor)")
-    return told.parse_args()
+    words = told.parse_args()
+    if words.record and (words.groups or words.true_bodies or words.over_out):
+        told.error("--record goes with none of --groups, --true-bodies and --over-out: the record is of edits tried from nothing")
+    return words
 
 
-def trials_told(kit: Kit, words: argparse.Namespace) -> list[Trials]:
-    """Returns the crates whose edits the command names."""
-    crates = kit.crates(os.getcwd())
-    if words.alone:
-        files = [os.path.abspath(it) for it in words.names]
-        chosen = {it.folder: [e for e in files if os.path.dirname(os.path.dirname(e)) == it.folder] for it in crates}
-    else:
-        unknown = {*words.names} - {it.name for it in crates}
-        if unknown:
-            stop(f"no crate is named {', '.join(sorted(unknown))}")
-        chosen = {it.folder: edits_in(it.folder) for it in crates if not words.names or it.name in words.names}
-    return [Trials(kit, it, chosen[it.folder], words.over_out) for it in crates if chosen.get(it.folder)]
+class Recorded:
+    """The crates whose edits the command names, with the keys of their edits and their records."""
+
+    def __init__(self, kit: Kit, words: argparse.Namespace):
+        self.kit, self.words, self.top = kit, words, os.getcwd()
+        crates = kit.crates(self.top)
+        if words.alone:
+            files = [os.path.abspath(it) for it in words.names]
+            chosen = {it.folder: [e for e in files if os.path.dirname(os.path.dirname(e)) == it.folder] for it in crates}
+        else:
+            unknown = {*words.names} - {it.name for it in crates}
+            if unknown:
+                stop(f"no crate is named {', '.join(sorted(unknown))}")
+            chosen = {it.folder: edits_in(it.folder) for it in crates if not words.names or it.name in words.names}
+        self.trials = [Trials(kit, it, chosen[it.folder], words.over_out) for it in crates if chosen.get(it.folder)]
+        self.records = {it.name: Record(it.folder) for it in crates if it.folder in chosen and (chosen[it.folder] or not words.alone)}
+        self.folders = {it.name: it.folder for it in crates}
+        self.keys = {} if words.groups or words.true_bodies else self.keys_now()
+        self.untried = 0
+
+    def keys_now(self) -> dict[str, str]:
+        """Returns the keys of the edits as all stands now, by their labels."""
+        units_of.cache_clear()
+        keys = {it.crate.name: keys_of(self.kit, it.crate, self.top) for it in self.trials}
+        return {edit.label(): keys[it.crate.name].of(edit) for it in self.trials for edit in it.edits}
+
+    def choose(self, report: Report) -> None:
+        """Leaves the edits that are to be tried: those that the record doesn't have with their present keys, and those whose turn it is."""
+        seed = commit_at(self.top) or digest(sorted(self.keys.items()))
+        for it in self.trials:
+            record = self.records[it.crate.name]
+            known = {e.label() for e in it.edits if not e.why_bad and record.has(e.name, self.keys[e.label()])}
+            report.recorded |= known
+            if not self.words.all and not self.words.alone:
+                spared = {label for label in known if self.words.new or not is_due(seed, label)}
+                it.edits = [e for e in it.edits if e.label() not in spared]
+                self.untried += len(spared)
+        self.trials = [it for it in self.trials if it.edits]
+
+    def tell_gone(self, report: Report) -> None:
+        """Names the lines of the record whose edit is gone: a fault, unless this run mends the record."""
+        for name, record in self.records.items():
+            for gone in record.gone(self.names(name)):
+                line = f"record {name}/{gone}: there is no such edit"
+                if self.words.record:
+                    report.note(f"{line}: its line is taken away")
+                elif not self.words.alone:
+                    report.count(False, f"{line}: tools/wrong_bodies --record {name} takes its line away")
+
+    def names(self, crate: str) -> list[str]:
+        return [os.path.basename(it).removesuffix(".edit") for it in edits_in(self.folders[crate])]
+
+    def mend(self, report: Report) -> None:
+        """Writes into the record what this run saw."""
+        judged: dict[str, dict[str, tuple[str, str]]] = {name: {} for name in self.records}
+        keys = self.keys_now()
+        for it in report.verdicts:
+            label = it.edit.label()
+            if keys.get(label) == self.keys[label]:
+                judged[it.edit.crate][it.edit.name] = self.keys[label], it.goal
+            else:
+                report.note(f"{label}: not recorded: its crate, or one below, changed under this run")
+        for name, record in self.records.items():
+            record.mend(self.names(name), judged[name])
 
 
 def main(head: str) -> int:
     """Runs the command. Its head is what --help says first."""
     words = words_told(head)
     kit = Kit()
-    tried = trials_told(kit, words)
+    recorded, report = Recorded(kit, words), Report()
     if words.groups:
-        for it in tried:
+        for it in recorded.trials:
             for group in it.groups():
                 print(f"{it.crate.name}: {' '.join(e.name for e in group)}")
         return 0
-    have_libraries(kit, [it.crate for it in tried])
-    report = Report()
+    is_recorded = not words.true_bodies
+    if is_recorded:
+        recorded.choose(report)
+        recorded.tell_gone(report)
+    have_libraries(kit, [it.crate for it in recorded.trials])
     way = Trials.try_alone if words.alone else Trials.try_true if words.true_bodies else Trials.try_all
-    side_by_side(kit, [(kit.need(it.crate), functools.partial(way, it, report)) for it in tried], words.jobs or kit.processors())
+    tasks = [(kit.need(it.crate), functools.partial(way, it, report)) for it in recorded.trials]
+    side_by_side(kit, tasks, words.jobs or kit.processors())
+    if words.record:
+        recorded.mend(report)
+    if is_recorded and not words.alone:
+        print(f"wrong bodies: {len(report.verdicts)} tried, {recorded.untried} as recorded")
     return report.end()

@@ -1,0 +1,63 @@
+"""The record: which edits were refused, by their keys, and whose turn it is to be tried all the same.
+
+It is a file crates/NAME/wrong/RECORD with one line an edit, sorted: its name, its key (keys.py), and the goal that refused it.
+Where two branches were merged an edit may have two lines; each is what some run saw, and at most one has the edit's present key.
+"""
+import hashlib
+import os
+import subprocess
+from collections.abc import Iterable, Mapping
+
+from mutants.edits import FOLDER
+
+TURNS = 16
+
+
+def number(*words: str) -> int:
+    return int(hashlib.sha256("\n".join(words).encode()).hexdigest(), 16)
+
+
+class Record:
+    """The record of a crate."""
+
+    def __init__(self, folder: str):
+        self.path = f"{folder}/{FOLDER}/RECORD"
+        # (name, key, goal)
+        self.lines: set[tuple[str, str, str]] = set()
+        if os.path.isfile(self.path):
+            with open(self.path, encoding="utf-8", errors="replace") as it:
+                parts = [f"{line}  ".split(" ", 2) for line in it.read().split("\n") if line]
+            self.lines = {(name, key, goal.rstrip()) for name, key, goal in parts}
+
+    def has(self, name: str, key: str) -> bool:
+        """Returns whether an edit was refused with this key."""
+        return any(it[:2] == (name, key) and it[2] for it in self.lines)
+
+    def gone(self, names: Iterable[str]) -> list[str]:
+        """Returns the names of lines that are none of these edits'."""
+        return sorted({it[0] for it in self.lines} - {*names})
+
+    def mend(self, names: Iterable[str], judged: Mapping[str, tuple[str, str]]) -> None:
+        """Takes away the lines of edits that are gone, and of those judged now, (key, goal) by name; and writes lines for those that have a goal."""
+        kept = {it for it in self.lines if it[0] in {*names} and it[0] not in judged}
+        self.lines = kept | {(name, key, goal) for name, (key, goal) in judged.items() if goal}
+        if self.lines:
+            with open(self.path, "w", encoding="utf-8") as it:
+                it.write("".join(f"{' '.join(line)}\n" for line in sorted(self.lines)))
+        elif os.path.isfile(self.path):
+            os.remove(self.path)
+
+
+def commit_at(top: str) -> str:
+    """Returns the commit that is checked out in a folder, or nothing."""
+    how = {"cwd": top, "stdin": subprocess.DEVNULL, "stdout": subprocess.PIPE, "stderr": subprocess.DEVNULL}
+    try:
+        ran = subprocess.run(["git", "rev-parse", "--verify", "-q", "HEAD"], text=True, **how)
+    except OSError:
+        return ""
+    return ran.stdout.strip() if not ran.returncode else ""
+
+
+def is_due(seed: str, label: str) -> bool:
+    """Returns whether it is an edit's turn, though it is recorded: that of one in sixteen, and of others at another commit."""
+    return number(seed, label) % TURNS == 0
