@@ -10,6 +10,7 @@ LibraryOfRt name each part that is used; another kit has to keep these, or this 
     a crate's folder, name, rlib, said, deps      where it and its built library are, and what its line of crates.txt says
     a crate's below(), words(flags, keeps)        the libraries below it, each after those that it uses, and a check's words
     a crate's out, build_rlib(flags, anew)        where it prints, and the build of its library
+    a crate's has_tests()                         whether it has tests
     out/rlib/stamp, out/incremental               the stamp of a library that rt built, and what rt check keeps
 
 and of the command line: rt version, rt check and rt test (tools/changed). What the checker prints is read in goals.py.
@@ -49,6 +50,8 @@ class LibraryOfRt(Protocol):
     def words(self, flags: list[str], tests: bool = False, keeps: bool = True) -> list[str]: ...
 
     def build_rlib(self, flags: list[str], anew: bool) -> int: ...
+
+    def has_tests(self) -> bool: ...
 
 
 def loaded() -> ModuleType:
