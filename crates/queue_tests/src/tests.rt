@@ -1,5 +1,6 @@
 //! Runs of queues, with the answers of runs worked out by hand.
 mod calls;
+mod comparing;
 mod nonblocking_runs;
 mod runs;
 mod threads;

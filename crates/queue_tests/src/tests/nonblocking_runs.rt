@@ -3,10 +3,11 @@ ghost use Rattle.std.specs.Prelude.{IfOk};
 ghost use Rattle.std.specs.List.{All};
 ghost use Rattle.nonblocking.specs.Queues.{IsQueueSeat};
 
+use super::comparing::same;
 use super::runs::{
-    AMPLE_COUNT, GREATEST_COUNT, Left, ROUNDS_COUNT, Told, a_rest_is_whole_by_its_pusher,
-    closed_with_one, goes, last, leaves, left_one, one_seat_pops_what_it_pushed,
-    two_threads_pop_each_value_once, values_come_in_their_order,
+    AMPLE_COUNT, GREATEST_COUNT, Left, ROOM_FOR_ONE, ROUNDS_COUNT, Told,
+    a_rest_is_whole_by_its_pusher, closed_with_one, goes, last, leaves, left_one,
+    one_seat_pops_what_it_pushed, two_threads_pop_each_value_once, values_come_in_their_order,
 };
 use super::waiting::waiting_calls_go_on;
 use history::{Refusal, WornWord};
@@ -20,6 +21,28 @@ const FREE_WORD: usize = 1;
 
 /// The reference to node 4 with the count 1.
 const NODE_4_COUNT_1: u64 = 4 + (1 << 24);
+
+const WORN: Refusal = Refusal::WornOut(WornWord::Tail);
+
+/// With the greatest count 1: the third push is refused.
+const TAIL_WORN: [Told; 3] = [
+    Told::Push(1, Ok(())),
+    Told::Push(2, Ok(())),
+    Told::Push(3, Err(WORN)),
+];
+
+/// Then the same push is refused again, and the first value is popped.
+const STILL_WORN: [Told; 2] = [Told::Push(3, Err(WORN)), Told::Pop(Ok(Some((1, 1))))];
+
+/// With the greatest count 2: two values go through, and the third one can't be popped.
+const TAIL_WORN_LATER: [Told; 6] = [
+    Told::Push(1, Ok(())),
+    Told::Pop(Ok(Some((1, 1)))),
+    Told::Push(2, Ok(())),
+    Told::Pop(Ok(Some((1, 2)))),
+    Told::Push(3, Ok(())),
+    Told::Pop(Err(WORN)),
+];
 
 // A queue of so many nodes and this greatest count, with a seat for each role.
 fn queue_of(
@@ -41,9 +64,8 @@ fn queue_of(
 fn two_nodes_have_room_for_one_value(rt: HostRuntime) -> Result<(), Fail> {
     let (queue, mut seats) = queue_of(rt.alloc(), 2, AMPLE_COUNT, &[Role::Giver])?;
     let mut seat = last(&queue, &mut seats)?;
-    let calls = [Told::Push(1, Ok(())), Told::Push(2, Err(Refusal::NoNode))];
-    goes(&rt, &queue, &mut seat, &calls);
-    assert_eq!(rt; seat.pocket(), None);
+    goes(&rt, &queue, &mut seat, &ROOM_FOR_ONE);
+    same(&rt, seat.pocket(), None, "");
     Ok(())
 }
 
@@ -54,19 +76,12 @@ fn two_nodes_have_room_for_one_value(rt: HostRuntime) -> Result<(), Fail> {
 fn a_worn_tail_refuses_pushes_and_pops(rt: HostRuntime) -> Result<(), Fail> {
     let (queue, mut seats) = queue_of(rt.alloc(), 4, 1, &[Role::Both])?;
     let mut seat = last(&queue, &mut seats)?;
-    let worn = Refusal::WornOut(WornWord::Tail);
-    let pushes = [
-        Told::Push(1, Ok(())),
-        Told::Push(2, Ok(())),
-        Told::Push(3, Err(worn)),
-    ];
-    goes(&rt, &queue, &mut seat, &pushes);
-    assert_eq!(rt; seat.pocket(), Some(Held { node: 4, mark: 0 }));
-    let later = [Told::Push(3, Err(worn)), Told::Pop(Ok(Some((1, 1))))];
-    goes(&rt, &queue, &mut seat, &later);
+    goes(&rt, &queue, &mut seat, &TAIL_WORN);
+    same(&rt, seat.pocket(), Some(Held { node: 4, mark: 0 }), "");
+    goes(&rt, &queue, &mut seat, &STILL_WORN);
     let free = queue.peek(FREE_WORD);
-    assert_eq!(rt; (free, seat.pocket()), (Some(NODE_4_COUNT_1), None));
-    goes(&rt, &queue, &mut seat, &[Told::Pop(Err(worn))]);
+    same(&rt, (free, seat.pocket()), (Some(NODE_4_COUNT_1), None), "");
+    goes(&rt, &queue, &mut seat, &[Told::Pop(Err(WORN))]);
     let wanted = Left {
         taken: 1,
         first: Some((1, 2)),
@@ -82,15 +97,7 @@ fn a_worn_tail_refuses_pushes_and_pops(rt: HostRuntime) -> Result<(), Fail> {
 fn a_worn_tail_refuses_a_pop(rt: HostRuntime) -> Result<(), Fail> {
     let (queue, mut seats) = queue_of(rt.alloc(), 3, 2, &[Role::Both])?;
     let mut seat = last(&queue, &mut seats)?;
-    let calls = [
-        Told::Push(1, Ok(())),
-        Told::Pop(Ok(Some((1, 1)))),
-        Told::Push(2, Ok(())),
-        Told::Pop(Ok(Some((1, 2)))),
-        Told::Push(3, Ok(())),
-        Told::Pop(Err(Refusal::WornOut(WornWord::Tail))),
-    ];
-    goes(&rt, &queue, &mut seat, &calls);
+    goes(&rt, &queue, &mut seat, &TAIL_WORN_LATER);
     Ok(())
 }
 

@@ -3,6 +3,7 @@ ghost use Rattle.std.specs.Prelude.{IfOk};
 ghost use Rattle.std.specs.List.{All};
 
 use super::calls::{parts, pop, push};
+use super::comparing::same;
 use super::threads::{MOST, Run, met};
 use history::{Fifo, Refusal};
 use std::alloc::Global;
@@ -29,6 +30,16 @@ pub enum Told {
     Push(u64, Result<(), Refusal>),
     Pop(Result<Option<(u16, u64)>, Refusal>),
 }
+
+/// On two nodes, of which one is always in the queue: room for one value.
+pub const ROOM_FOR_ONE: [Told; 2] = [Told::Push(1, Ok(())), Told::Push(2, Err(Refusal::NoNode))];
+
+/// Two pushes, and a pop of the first value.
+const TWO_PUSHED_ONE_POPPED: [Told; 3] = [
+    Told::Push(1, Ok(())),
+    Told::Push(2, Ok(())),
+    Told::Pop(Ok(Some((1, 1)))),
+];
 
 /// What a closed queue leaves: how many values were taken, the next two of those left, and whether it is whole.
 #[derive(Clone, Copy, Debug, PartialEq, Eq)]
@@ -61,7 +72,7 @@ pub fn goes<Q: Fifo>(rt: &impl Abort, queue: &Q, seat: &mut Q::Seat, calls: &[To
             Told::Push(body, _) => Told::Push(body, push(queue, seat, body)),
             Told::Pop(_) => Told::Pop(pop(queue, seat)),
         };
-        assert_eq!(rt; found, *call);
+        same(rt, found, *call, "");
     }
 }
 
@@ -93,7 +104,7 @@ pub fn leaves<Q: Fifo + Drop>(
     requires { Q.is_seat queue seat }
 {
     let found = closed(alloc, queue, seat)?;
-    assert_eq!(rt; found, wanted);
+    same(rt, found, wanted, "");
     Ok(())
 }
 
@@ -108,12 +119,7 @@ pub fn values_come_in_their_order<Q: Fifo + Drop>(
     requires { All (Q.is_seat queue) seats.items }
 {
     let mut seat = last(&queue, &mut seats)?;
-    let calls = [
-        Told::Push(1, Ok(())),
-        Told::Push(2, Ok(())),
-        Told::Pop(Ok(Some((1, 1)))),
-    ];
-    goes(rt, &queue, &mut seat, &calls);
+    goes(rt, &queue, &mut seat, &TWO_PUSHED_ONE_POPPED);
     let wanted = Left {
         taken: 1,
         first: Some((1, 2)),
@@ -189,7 +195,7 @@ pub fn two_threads_pop_each_value_once<R: Threads + Wait + Sync + Abort, Q: Fifo
         empty: true,
         whole: with_both,
     };
-    assert_eq!(rt; run, wanted);
+    same(rt, run, wanted, "");
     Ok(())
 }
 
@@ -214,5 +220,5 @@ pub fn left_one(rt: &impl Abort, found: Result<Left, Refusal>) {
         second: None,
         whole: true,
     };
-    assert_eq!(rt; found, Ok(wanted));
+    same(rt, found, Ok(wanted), "");
 }

@@ -3,10 +3,11 @@ ghost use Rattle.std.specs.Prelude.{IfOk};
 ghost use Rattle.std.specs.List.{All};
 ghost use Rattle.two_lock.specs.Queues.{IsQueueSeat};
 
+use super::comparing::same;
 use super::runs::{
-    AMPLE_COUNT, GREATEST_COUNT, Left, ROUNDS_COUNT, Told, a_rest_is_whole_by_its_pusher,
-    closed_with_one, goes, last, left_one, one_seat_pops_what_it_pushed,
-    two_threads_pop_each_value_once, values_come_in_their_order,
+    AMPLE_COUNT, GREATEST_COUNT, Left, ROOM_FOR_ONE, ROUNDS_COUNT, Told,
+    a_rest_is_whole_by_its_pusher, closed_with_one, goes, last, left_one,
+    one_seat_pops_what_it_pushed, two_threads_pop_each_value_once, values_come_in_their_order,
 };
 use super::waiting::waiting_calls_go_on;
 use history::{Refusal, WornWord};
@@ -14,6 +15,14 @@ use node_arena::{Role, Seat};
 use std::alloc::Global;
 use std::test::Fail;
 use two_lock::TwoLockQueue;
+
+/// With the greatest count 1: one value is taken, and not the next one.
+const HEAD_WORN: [Told; 4] = [
+    Told::Push(1, Ok(())),
+    Told::Push(2, Ok(())),
+    Told::Pop(Ok(Some((1, 1)))),
+    Told::Pop(Err(Refusal::WornOut(WornWord::Head))),
+];
 
 // A queue of so many nodes and this greatest count, with a seat for each role.
 fn queue_of(
@@ -35,9 +44,8 @@ fn queue_of(
 fn two_nodes_have_room_for_one_value(rt: HostRuntime) -> Result<(), Fail> {
     let (queue, mut seats) = queue_of(rt.alloc(), 2, AMPLE_COUNT, &[Role::Giver])?;
     let mut seat = last(&queue, &mut seats)?;
-    let calls = [Told::Push(1, Ok(())), Told::Push(2, Err(Refusal::NoNode))];
-    goes(&rt, &queue, &mut seat, &calls);
-    assert_eq!(rt; seat.pocket(), None);
+    goes(&rt, &queue, &mut seat, &ROOM_FOR_ONE);
+    same(&rt, seat.pocket(), None, "");
     Ok(())
 }
 
@@ -46,13 +54,7 @@ fn two_nodes_have_room_for_one_value(rt: HostRuntime) -> Result<(), Fail> {
 fn a_worn_head_refuses_pops(rt: HostRuntime) -> Result<(), Fail> {
     let (queue, mut seats) = queue_of(rt.alloc(), 4, 1, &[Role::Both])?;
     let mut seat = last(&queue, &mut seats)?;
-    let calls = [
-        Told::Push(1, Ok(())),
-        Told::Push(2, Ok(())),
-        Told::Pop(Ok(Some((1, 1)))),
-        Told::Pop(Err(Refusal::WornOut(WornWord::Head))),
-    ];
-    goes(&rt, &queue, &mut seat, &calls);
+    goes(&rt, &queue, &mut seat, &HEAD_WORN);
     Ok(())
 }
 
