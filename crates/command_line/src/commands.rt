@@ -10,6 +10,9 @@ use counted_ref::MOST_NODE;
 use line_table::Kind;
 use std::alloc::{AllocError, Global};
 
+/// The version that the program tells, the first one of CHANGELOG.md.
+const VERSION: &str = "0.3.0";
+
 /// The names of the queues.
 static QUEUES: [&str; 2] = ["two-lock", "nonblocking"];
 
@@ -174,7 +177,7 @@ fn command_line<'a>(alloc: Global, queues: &'a [&'a str]) -> Result<clap::Comman
 {
     let program = clap::Command::new(alloc, "msq")
         .about("Runs concurrent queues line by line, judges histories, does jobs, posts letters")
-        .version("0.1.0")
+        .version(VERSION)
         .after_help(AFTER_HELP)
         .no_binary_name(true)
         .subcommand_required(true);
