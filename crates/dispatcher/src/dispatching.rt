@@ -72,6 +72,12 @@ fn run<'s, 'a: 's, E, R: Threads + Wait + Sync, Q: Fifo + Sync, G: Gate + Sync>(
 /// taker or more than `MOST_JOBS` jobs, before anything else; `Memory`; `Lost` where a job has no result, since a worker or
 /// the submitter was refused. Takes memory for two results a job and a handle a taker, and each thread for its results;
 /// waits.
+///
+/// ```rust
+/// let jobs = [Job::Add(2, 3), Job::Mul(4, 5)];
+/// let results = dispatch(rt, alloc, &queue, giver, takers, &jobs, &gate)?;
+/// assert!(results.len() == 2 && results[1].number() == 2);
+/// ```
 pub fn dispatch<'a, R: Threads + Wait + Sync, Q: Fifo + Sync, G: Gate + Sync>(
     rt: &R,
     alloc: Global,

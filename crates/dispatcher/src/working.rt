@@ -24,6 +24,13 @@ pub enum Worked {
 /// Refusals: `Memory` where `out` can't grow, before anything is taken; `WornOut` and `Busy` of the pop, with nothing taken;
 /// `Stranger` where the number taken is above that of the jobs. `out` is then as before. Calls `gate.before` once the value
 /// is taken, and `gate.after` once the result is in `out`. Takes memory for one more result, and doesn't wait.
+///
+/// ```rust
+/// let jobs = [Job::Add(2, 3), Job::Mul(4, 5)];
+/// // The body at the front is 2.
+/// let worked = work_one(&queue, &mut taker, &jobs, &gate, &mut results, 8)?;
+/// assert!(worked == Worked::Did(2));
+/// ```
 pub fn work_one<'a, Q: Fifo, G: Gate>(
     queue: &Q,
     seat: &mut Q::Seat,

@@ -17,6 +17,28 @@ use std::collections::{BTreeMap, VecDeque};
 /// A No tells where the operation stands in the list, from 1. The call takes memory for the
 /// operations that have a place, and time `n * log n` for `n` operations; it doesn't wait. It is
 /// refused by `Memory` alone.
+///
+/// ```rust
+/// let push = Stamped {
+///     actor: 1,
+///     op: Op::Enq(body),
+///     first: 1,
+///     last: Some(10),
+///     at: Some(8),
+///     reply: Some(Reply::Done),
+/// };
+/// assert!(check(alloc, &[push])? == Verdict::Yes);
+/// // The queue was not empty at 13.
+/// let empty = Stamped {
+///     actor: 2,
+///     op: Op::Deq,
+///     first: 11,
+///     last: Some(14),
+///     at: Some(13),
+///     reply: Some(Reply::Empty),
+/// };
+/// assert!(check(alloc, &[push, empty])? != Verdict::Yes);
+/// ```
 pub fn check(alloc: Global, history: &[Stamped]) -> Result<Verdict, Refusal>
     ensures ok { IfOk result (λ answer. answer ≡ verdict history.now) }
     ensures only_memory { IfErr result (λ why. why ≡ Refusal.Memory) }

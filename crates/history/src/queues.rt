@@ -44,6 +44,13 @@ pub trait Fifo {
     ///
     /// Refusals: `NoNode`, `WornOut` and `Busy`; the queue is then as if the call had not been. Takes no memory and
     /// doesn't wait.
+    ///
+    /// ```rust
+    /// match queue.try_push(&mut giver, body, 8) {
+    ///     Err(Refusal::Busy) | Err(Refusal::NoNode) => backoff.snooze(),
+    ///     done => return done,
+    /// }
+    /// ```
     fn try_push(&self, seat: &mut Self::Seat, body: Body, turns: u32) -> Result<(), Refusal>
         requires seat { is_seat self.now seat.old }
         requires role { MayPush (permits self.now) (known seat.old).number }
@@ -59,6 +66,12 @@ pub trait Fifo {
     /// pop.
     ///
     /// Refusals: `WornOut` and `Busy`; the queue is then as if the call had not been. Takes no memory and doesn't wait.
+    ///
+    /// ```rust
+    /// if let Some(taken) = queue.try_pop(&mut taker, 8)? {
+    ///     last = Some(taken.body);
+    /// }
+    /// ```
     fn try_pop(&self, seat: &mut Self::Seat, turns: u32) -> Result<Option<Taken>, Refusal>
         requires seat { is_seat self.now seat.old }
         requires role { MayPop (permits self.now) (known seat.old).number }
@@ -72,6 +85,12 @@ pub trait Fifo {
 
     /// Afterwards both seats have seen one history, which begins with what each had seen. Takes no memory and doesn't
     /// wait.
+    ///
+    /// ```rust
+    /// queue.push(rt, &mut giver, body)?;
+    /// // From here on the taker has seen that push too.
+    /// queue.meet(&mut giver, &mut taker);
+    /// ```
     fn meet(&self, one: &mut Self::Seat, other: &mut Self::Seat)
         requires one { is_seat self.now one.old }
         requires other { is_seat self.now other.old }
@@ -80,11 +99,23 @@ pub trait Fifo {
         ensures meets { Meets (known one.old) (known other.old) (known one.new) (known other.new) };
 
     /// Whether the seat may push. Takes no memory and doesn't wait.
+    ///
+    /// ```rust
+    /// if queue.may_push(&giver) {
+    ///     queue.push(rt, &mut giver, body)?;
+    /// }
+    /// ```
     fn may_push(&self, seat: &Self::Seat) -> bool
         requires { is_seat self.now seat.now }
         ensures { IsTrue result ↔ MayPush (permits self.now) (known seat.now).number };
 
     /// Whether the seat may pop. Takes no memory and doesn't wait.
+    ///
+    /// ```rust
+    /// if queue.may_pop(&taker) {
+    ///     last = queue.pop(rt, &mut taker)?;
+    /// }
+    /// ```
     fn may_pop(&self, seat: &Self::Seat) -> bool
         requires { is_seat self.now seat.now }
         ensures { IsTrue result ↔ MayPop (permits self.now) (known seat.now).number };
@@ -93,6 +124,11 @@ pub trait Fifo {
     /// pushes and pops.
     ///
     /// Refused by `Memory` alone; the queue is then given up. Takes memory for the values left, and doesn't wait.
+    ///
+    /// ```rust
+    /// let mut rest = queue.close(alloc, seats)?;
+    /// let front = rest.next();
+    /// ```
     fn close(self, alloc: Global, seats: Vec<Self::Seat>) -> Result<Rest, Refusal>
         requires { All (is_seat self) seats.items }
         ensures rest { IfOk result (λ rest. Closes (permits self) (map known seats.items) rest) }
@@ -104,6 +140,14 @@ pub trait Fifo {
     /// Pushes a body at the back, by tries of 8 turns each, and tries again while others are in the way. The seat may push.
     ///
     /// Refusals: `NoNode` and `WornOut`; the queue is then as if the call had not been. Takes no memory, and waits.
+    ///
+    /// ```rust
+    /// match queue.push(rt, &mut giver, body) {
+    ///     // The queue is full until others pop.
+    ///     Err(Refusal::NoNode) => backoff.snooze(),
+    ///     done => return done,
+    /// }
+    /// ```
     final fn push<R: Wait>(&self, rt: &R, seat: &mut Self::Seat, body: Body) -> Result<(), Refusal>
         requires seat { is_seat self.now seat.old }
         requires role { MayPush (permits self.now) (known seat.old).number }
@@ -129,6 +173,13 @@ pub trait Fifo {
     /// queue was empty. The seat may pop.
     ///
     /// Refused by `WornOut` alone; the queue is then as if the call had not been. Takes no memory, and waits.
+    ///
+    /// ```rust
+    /// match queue.pop(rt, &mut taker)? {
+    ///     Some(taken) => last = Some(taken.body),
+    ///     None => backoff.snooze(),
+    /// }
+    /// ```
     final fn pop<R: Wait>(&self, rt: &R, seat: &mut Self::Seat) -> Result<Option<Taken>, Refusal>
         requires seat { is_seat self.now seat.old }
         requires role { MayPop (permits self.now) (known seat.old).number }

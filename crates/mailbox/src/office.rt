@@ -24,6 +24,10 @@ impl<Q: Fifo + Drop> Office<Q> {
     /// Each sender's seat may push. The receiver's may pop, and no other seat of the queue may. Refused by `Memory`
     /// alone; the queue and the seats are then given up. Takes memory for the senders and for a table of letters, and
     /// doesn't wait.
+    ///
+    /// ```rust
+    /// let (office, senders, receiver) = Office::new(alloc, queue, givers, taker)?;
+    /// ```
     pub fn new(
         alloc: Global,
         queue: Q,
@@ -56,6 +60,12 @@ impl<Q: Fifo + Drop> Office<Q> {
 
     /// The last letter that a sender stored and the last one that the receiver took, where they stand at one index, are
     /// one text. Takes no memory and doesn't wait.
+    ///
+    /// ```rust
+    /// sender.send(rt, &office, text)?;
+    /// let letter = receiver.take(rt, &office)?;
+    /// office.shows_one_text(&sender, &receiver);
+    /// ```
     pub fn shows_one_text(&self, sender: &Sender<Q>, receiver: &Receiver<Q>)
         ghost texts: { TextsAt }
         requires sender { Stored self.now sender.now texts.index texts.stored }

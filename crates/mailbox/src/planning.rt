@@ -23,6 +23,11 @@ impl<Q: Fifo + Drop> Office<Q> {
     /// up.
     ///
     /// Refused by `Memory` alone; the office is then given up. Takes memory for a table of letters, and doesn't wait.
+    ///
+    /// ```rust
+    /// let office = office.for_tasks(alloc, &tasks)?;
+    /// let (receiver, posted) = post(rt, alloc, &office, tasks, receiver);
+    /// ```
     pub fn for_tasks(self, alloc: Global, tasks: &Vec<Task<Q>>) -> Result<Office<Q>, Refusal>
         requires { All (IsTask Q.is_seat Q.permits Q.known self) tasks.now.items }
         ensures queue { IfOk result (λ o. HasQueueOf self o) }

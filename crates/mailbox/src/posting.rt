@@ -223,6 +223,12 @@ fn run<'s, 'a: 's, E, R: Threads + Wait + Sync, Q: Fifo + Sync + Drop>(
 /// where there is no room for the letters and threads; then that of a take, or `Lost` where a letter isn't the next one of
 /// its sender's; else, where letters are missing, the refusal of the first task whose sender was refused (`Memory` where its
 /// thread could not be made); else `Lost`. Takes memory for the letters and the threads, and waits for all of them.
+///
+/// ```rust
+/// let office = office.for_tasks(alloc, &tasks)?;
+/// let (receiver, posted) = post(rt, alloc, &office, tasks, receiver);
+/// let letters = posted?;
+/// ```
 pub fn post<'a, R: Threads + Wait + Sync, Q: Fifo + Sync + Drop>(
     rt: &R,
     alloc: Global,

@@ -36,6 +36,12 @@ impl<Q: Fifo + Drop> Receiver<Q> {
     ///
     /// Refusals: `WornOut` and `Busy` of the queue, and nothing is then taken; `Lost` where the office shows no text for
     /// what was taken, and from then on always. Takes no memory and doesn't wait.
+    ///
+    /// ```rust
+    /// if let Some(letter) = receiver.try_take(&office, 8)? {
+    ///     last = Some(letter.text);
+    /// }
+    /// ```
     pub fn try_take<'a>(
         &mut self,
         office: &'a Office<Q>,
@@ -72,6 +78,13 @@ impl<Q: Fifo + Drop> Receiver<Q> {
     /// Takes the letter that is due, and tries again while others are in the way; none where there was none.
     ///
     /// Refusals as those of `try_take`, but never `Busy`. Takes no memory, and waits.
+    ///
+    /// ```rust
+    /// match receiver.take(rt, &office)? {
+    ///     Some(letter) => last = Some(letter.text),
+    ///     None => backoff.snooze(),
+    /// }
+    /// ```
     pub fn take<'a, R: Wait>(
         &mut self,
         rt: &R,

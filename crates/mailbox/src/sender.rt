@@ -49,6 +49,10 @@ impl<Q: Fifo + Drop> Sender<Q> {
     /// Refusals, in this order: `Memory`, where the letter can't be stored; `BadSize`, where 2^48 letters or more were
     /// stored; `NoNode`, `WornOut` and `Busy` of the queue. Nothing is then sent, and the text is given up. Takes memory
     /// for the letter, and may wait for another thread that makes room for letters.
+    ///
+    /// ```rust
+    /// sender.try_send(rt, &office, text, 8)?;
+    /// ```
     pub fn try_send<R: Wait>(
         &mut self,
         rt: &R,
@@ -72,6 +76,10 @@ impl<Q: Fifo + Drop> Sender<Q> {
     /// Sends a letter, and tries again while others are in the way. The letter is stored once.
     ///
     /// Refusals as those of `try_send`, but never `Busy`. Takes memory for the letter, and waits.
+    ///
+    /// ```rust
+    /// sender.send(rt, &office, text)?;
+    /// ```
     pub fn send<R: Wait>(&mut self, rt: &R, office: &Office<Q>, text: String) -> Result<(), Refusal>
         requires office { IsSender Q.is_seat Q.permits Q.known office.now self.old }
         ensures office { IsSender Q.is_seat Q.permits Q.known office.now self.new }

@@ -14,6 +14,11 @@ pub type Bench = Mutex<World>;
 /// that begins, steps and give moves led to, so every law of worlds holds of it.
 ///
 /// Waits while another thread has the lock. Takes no memory.
+///
+/// ```rust
+/// let mut world = on_bench(rt, &bench);
+/// let told = step_in(&mut world, Move::Step(1))?;
+/// ```
 pub fn on_bench<'b, R: Wait>(rt: &R, bench: &'b Bench) -> MutexGuard<'b, World>
     ensures made { IsMade (mutex_guard_value result) }
     ensures reached { IsReached (mutex_guard_value result) }

@@ -13,6 +13,11 @@ use history::Refusal;
 ///
 /// Refusals are those of `World::begin`, `World::step` and `World::give`; a refused move leaves the world as it was. Only a
 /// begin takes memory.
+///
+/// ```rust
+/// let told = step_in(&mut world, Move::Begin(1, Op::Deq))?;
+/// assert!(told == Stepped::Began);
+/// ```
 pub fn step_in(world: &mut World, one: Move) -> Result<Stepped, Refusal>
     ensures ok { OnOk result (next world.old one ≡ Some world.new) }
     ensures numbered { OnOk result (world.new.steps < 2 ^ 64) }

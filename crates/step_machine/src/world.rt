@@ -89,6 +89,11 @@ impl World {
     ///
     /// Refusals: `BadSize` where one of them is out of its range, else `Memory`. Takes memory for the actors and for
     /// one node.
+    ///
+    /// ```rust
+    /// let world = World::new(alloc, Kind::TwoLock, 3, 100, 2)?;
+    /// assert!(world.steps() == 0);
+    /// ```
     pub fn new(
         alloc: Global,
         kind: Kind,
@@ -136,6 +141,11 @@ impl World {
     ///
     /// Refusals, in this order: `NoSuchActor`, `ActorBusy`, `Memory`. Makes room for the call's operation and, of an
     /// enqueue, for one node more, so that steps take no memory.
+    ///
+    /// ```rust
+    /// world.begin(1, Op::Enq(body))?;
+    /// assert!(world.begin(1, Op::Deq) == Err(Refusal::ActorBusy));
+    /// ```
     pub fn begin(&mut self, actor: u16, op: Op) -> Result<(), Refusal>
         ensures ok { OnOk result (next self.old (Begin actor op) ≡ Some self.new) }
         ensures numbered { OnOk result (self.new.steps < 2 ^ 64) }
@@ -168,6 +178,11 @@ impl World {
     ///
     /// Refusals, in this order: `NoSuchActor`, `IdleActor`, `BadSize` where all 2^64 - 1 step numbers are used. Takes no
     /// memory.
+    ///
+    /// ```rust
+    /// world.begin(1, Op::Enq(body))?;
+    /// assert!(world.step(1) == Ok(Stepped::Went(Line::N1)));
+    /// ```
     pub fn step(&mut self, actor: u16) -> Result<Stepped, Refusal>
         ensures ok { OnOk result (next self.old (Step actor) ≡ Some self.new) }
         ensures numbered { OnOk result (self.new.steps < 2 ^ 64) }
@@ -207,6 +222,12 @@ impl World {
     ///
     /// Refusals, in this order: `NoSuchActor`, `IdleActor`, `NotHere` where no turn begins at its line, `BadSize` where all
     /// 2^64 - 1 step numbers are used. Takes no memory.
+    ///
+    /// ```rust
+    /// // Actor 2 stands before B1, where a turn begins.
+    /// world.begin(2, Op::Deq)?;
+    /// assert!(world.give(2) == Ok(Reply::Refused(Refusal::Busy)));
+    /// ```
     pub fn give(&mut self, actor: u16) -> Result<Reply, Refusal>
         ensures ok { OnOk result (next self.old (Give actor) ≡ Some self.new) }
         ensures numbered { OnOk result (self.new.steps < 2 ^ 64) }

@@ -33,6 +33,11 @@ impl TwoLockQueue {
     ///
     /// Refusals: `BadSize` where one of them is out of its range, else `Memory`. Takes memory for two words a node, the
     /// seats and their roles, and doesn't wait.
+    ///
+    /// ```rust
+    /// let roles = [Role::Giver, Role::Taker];
+    /// let (queue, seats) = TwoLockQueue::new(alloc, 1024, MOST_COUNT, &roles)?;
+    /// ```
     pub fn new(
         alloc: Global,
         nodes: u32,
@@ -52,6 +57,11 @@ impl TwoLockQueue {
 
     /// What a word of the queue's arena holds, by one load of one moment, for inspection; none exactly where there is no
     /// such word. It tells nothing of what a seat has seen. Takes no memory and doesn't wait.
+    ///
+    /// ```rust
+    /// // Word 2 is Head. In a new queue it names node 1, with count 0.
+    /// assert!(queue.peek(2) == Some(1));
+    /// ```
     pub fn peek(&self, word: usize) -> Option<u64>
         ensures none { IsNone result ↔ (6 + 2 * (setup_of (arena_of self.now)).size ≤ word) }
         ensures held { IfSome result (WasWord (plan_of (arena_of self.now)) word) }

@@ -8,6 +8,11 @@ use crate::world::World;
 impl World {
     /// Where a node is, 1 to the number of nodes. It takes no memory and doesn't wait; the time it takes is linear in
     /// the number of nodes used and of actors.
+    ///
+    /// ```rust
+    /// let world = World::new(alloc, Kind::TwoLock, 3, 100, 2)?;
+    /// assert!(world.place_of(1) == Place::Queue && world.place_of(2) == Place::Untouched);
+    /// ```
     pub fn place_of(&self, node: u32) -> Place
         requires some { 1 ≤ node }
         requires within { node ≤ self.now.setup.size }

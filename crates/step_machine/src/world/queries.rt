@@ -22,6 +22,12 @@ impl World {
     /// completed, or where its E9, D13, A5 or B5 has succeeded.
     ///
     /// Refusal: `Memory`. Takes memory for the list.
+    ///
+    /// ```rust
+    /// // Actor 1 enqueued in ten steps, and linked its node in the eighth.
+    /// let history = world.history(alloc)?;
+    /// assert!(history[0].last == Some(10) && history[0].at == Some(8));
+    /// ```
     pub fn history(&self, alloc: Global) -> Result<Vec<Stamped>, Refusal>
         ensures ok { IfOk result (λ v. v.items ≡ self.now.operations) }
         ensures made { IsMade self.now }
@@ -38,6 +44,11 @@ impl World {
     }
 
     /// The line before which an actor stands, 1 to the number of actors; none where it has no call.
+    ///
+    /// ```rust
+    /// world.begin(1, Op::Enq(body))?;
+    /// assert!(world.line(1) == Some(Line::N1) && world.line(2).is_none());
+    /// ```
     pub fn line(&self, actor: u16) -> Option<Line>
         requires { IsSome (actor_of self.now actor) }
         ensures { IfSome (actor_of self.now actor) (λ a. result ≡ a.line) }
@@ -49,6 +60,11 @@ impl World {
     }
 
     /// The node in the pocket of an actor, 1 to the number of actors, with its mark.
+    ///
+    /// ```rust
+    /// let world = World::new(alloc, Kind::TwoLock, 3, 100, 2)?;
+    /// assert!(world.pocket(1).is_none());
+    /// ```
     pub fn pocket(&self, actor: u16) -> Option<Held>
         requires { IsSome (actor_of self.now actor) }
         ensures { IfSome (actor_of self.now actor) (λ a. result ≡ a.pocket) }
@@ -60,6 +76,11 @@ impl World {
     }
 
     /// The kind of queue, the number of nodes and the greatest count, as `new` was given them.
+    ///
+    /// ```rust
+    /// let world = World::new(alloc, Kind::TwoLock, 3, 100, 2)?;
+    /// assert!(world.setup().size == 3 && world.setup().limit == 100);
+    /// ```
     pub fn setup(&self) -> Setup
         ensures { result ≡ self.now.setup }
     {
@@ -67,6 +88,11 @@ impl World {
     }
 
     /// How many actors there are, numbered from 1.
+    ///
+    /// ```rust
+    /// let world = World::new(alloc, Kind::TwoLock, 3, 100, 2)?;
+    /// assert!(world.actors() == 2);
+    /// ```
     pub fn actors(&self) -> usize
         ensures { result ≡ length self.now.actors }
     {
@@ -75,6 +101,11 @@ impl World {
 
     /// How many step numbers were given. The world is one that begins, steps and give moves led to, so every law of worlds
     /// holds of it.
+    ///
+    /// ```rust
+    /// let world = World::new(alloc, Kind::TwoLock, 3, 100, 2)?;
+    /// assert!(world.steps() == 0);
+    /// ```
     pub fn steps(&self) -> u64
         ensures value { result ≡ self.now.steps }
         ensures made { IsMade self.now }
@@ -84,6 +115,11 @@ impl World {
     }
 
     /// How many nodes were ever used, from 1 on.
+    ///
+    /// ```rust
+    /// let world = World::new(alloc, Kind::TwoLock, 3, 100, 2)?;
+    /// assert!(world.fresh() == 1);
+    /// ```
     pub fn fresh(&self) -> u32
         ensures { result ≡ self.now.shared.fresh }
     {
@@ -91,6 +127,11 @@ impl World {
     }
 
     /// The first node of the free list.
+    ///
+    /// ```rust
+    /// let world = World::new(alloc, Kind::TwoLock, 3, 100, 2)?;
+    /// assert!(world.free().is_null());
+    /// ```
     pub fn free(&self) -> CountedRef
         ensures { result ≡ content Free self.now.shared }
     {
@@ -98,6 +139,11 @@ impl World {
     }
 
     /// The first node of the queue, the dummy.
+    ///
+    /// ```rust
+    /// let world = World::new(alloc, Kind::TwoLock, 3, 100, 2)?;
+    /// assert!(world.head() == CountedRef::new(1, 0));
+    /// ```
     pub fn head(&self) -> CountedRef
         ensures { result ≡ content Head self.now.shared }
     {
@@ -105,6 +151,11 @@ impl World {
     }
 
     /// The node that is taken for the last one of the queue.
+    ///
+    /// ```rust
+    /// let world = World::new(alloc, Kind::TwoLock, 3, 100, 2)?;
+    /// assert!(world.tail() == CountedRef::new(1, 0));
+    /// ```
     pub fn tail(&self) -> CountedRef
         ensures { result ≡ content Tail self.now.shared }
     {
@@ -113,6 +164,11 @@ impl World {
 
     /// The shared word at an index: 0 Fresh, 1 Free, 2 Head, 3 Tail, 4 the lock of Tail, 5 the lock of Head, and of node n its
     /// `next` at 4 + 2n and its value at 5 + 2n. None above 5 + 2N, where N is the number of nodes; 0 for a node never used.
+    ///
+    /// ```rust
+    /// let world = World::new(alloc, Kind::TwoLock, 3, 100, 2)?;
+    /// assert!(world.word(0) == Some(1) && world.word(12).is_none());
+    /// ```
     pub fn word(&self, index: usize) -> Option<u64>
         ensures { result ≡ slice_get (memory_words self.now.shared) index }
     {
@@ -120,6 +176,11 @@ impl World {
     }
 
     /// The `next` of a node, 1 to the number of nodes.
+    ///
+    /// ```rust
+    /// let world = World::new(alloc, Kind::TwoLock, 3, 100, 2)?;
+    /// assert!(world.next_of(1).is_null());
+    /// ```
     pub fn next_of(&self, node: u32) -> CountedRef
         requires some { 1 ≤ node }
         requires within { node ≤ self.now.setup.size }
@@ -129,6 +190,11 @@ impl World {
     }
 
     /// The value of a node, 1 to the number of nodes.
+    ///
+    /// ```rust
+    /// // Actor 1 enqueued `body` in node 2.
+    /// assert!(world.value_of_node(2) == Taken { from: 1, body });
+    /// ```
     pub fn value_of_node(&self, node: u32) -> Taken
         requires some { 1 ≤ node }
         requires within { node ≤ self.now.setup.size }
