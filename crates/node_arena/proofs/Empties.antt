@@ -1,5 +1,5 @@
--- What an actor saw of an empty queue, and what its steps note of it: an empty reply comes only where what its seat has seen
--- leaves the queue empty.
+-- What an actor found before a line at which its call may answer empty (`SawAt`), and what its steps note: an empty reply
+-- comes only where what its seat has seen leaves the queue empty.
 use Rattle.std.proofs.Common.{◌≡◌, ℕ, ◌+◌, ◌<◌, ◌≤◌, Bool, true, false, if◌then◌else◌, nat_eq, nat_lt, Option, Some, None, List, [], ◌∷◌, ◌++◌, length, take, refl, sym, ap, subst, ◌∙◌, arith, append-nil, length-append, eqb-true, take_all, le_refl, ⊎_elim, inl, inr, ◌⊎◌}
 use Rattle.std.specs.List.{All}
 use Rattle.std.proofs.lemmas.Option.{none-some}
@@ -44,7 +44,7 @@ use Rattle.node_arena.proofs.Between.{at_d4}
 pub noted_more : (seen more : List Entry) (n : ℕ) → IsNoted seen n → IsNoted (seen ++ more) n
 noted_more seen more n h = (omega (arith, h.0, length-append seen more), subst (λ es. LeadsTo es []) (sym (take-append-le n seen more h.0)) h.1)
 
--- all that was seen leaves the queue empty
+-- a note of all that was seen, where this leaves the queue empty
 noted_all : (seen : List Entry) → LeadsTo seen [] → IsNoted seen (length seen)
 noted_all seen h = (omega arith, subst (λ es. LeadsTo es []) (sym (take_all (length seen) seen (le_refl (length seen)))) h)
 
@@ -57,14 +57,14 @@ pub empty_where_noted : (seen : List Entry) (ns notes : List ℕ) → notes ≡ 
 empty_where_noted seen ns notes is h =
     subst (λ es. LeadsTo es []) (take_all (length seen) seen (le_refl (length seen))) (all_last (IsNoted seen) ns (length seen) (subst (All (IsNoted seen)) is h)).1
 
--- what an actor saw stays so while Head's count only rises
+-- what an actor found stays so while Head's count only rises
 pub saw_later : (t u : Traced) (seen : List Entry) (a : Actor) (line : Option Line) (due : Option Reply) → t.world.shared.head.count ≤ u.world.shared.head.count → SawAt t seen a line due → SawAt u seen a line due
 saw_later t u seen a (Some D5) due up h =
     λ null. ⊎_elim (λ (less : a.head.count < t.world.shared.head.count). inl (omega arith)) (λ (e : LeadsTo seen []). inr e) (h null)
 saw_later t u seen a (Some B6) (Some Empty) up h = h
 saw_later t u seen a _ _ up h = tt
 
--- no actor saw so that begins a call
+-- an actor that begins a call stands before no such line
 saw_begun : (t : Traced) (seen : List Entry) (kind : Kind) (me : ℕ) (op : Op) (a : Actor) → SawAt t seen (begun kind me op a) (begun kind me op a).line (begun kind me op a).due
 saw_begun t seen kind me (Enq body) a = go a.pocket kind
   where
@@ -79,25 +79,25 @@ saw_begun t seen kind me Deq a = go a.pocket kind
     go None NonBlocking = tt
     go (Some held) k = tt
 
--- nor does it change before a step
+-- what an actor found stays so while it sets out for a step
 pub saw_led : (t u : Traced) (seen : List Entry) (s : Setup) (me : ℕ) (prologue : Prologue) (a : Actor) → t.world.shared.head.count ≤ u.world.shared.head.count → SawAt t seen a a.line a.due
     → SawAt u seen (after_prologue s me prologue a) (after_prologue s me prologue a).line (after_prologue s me prologue a).due
 saw_led t u seen s me continues a up h = saw_later t u seen a a.line a.due up h
 saw_led t u seen s me (begins op) a up h = saw_begun u seen s.kind me op (at_rest a)
 
--- an actor that may rest or give up saw nothing so
+-- an actor that may rest or give up stands before no such line, whatever its seat has then seen
 pub saw_at_rest : (t : Traced) (seen : List Entry) (a : Actor) (line : Option Line) → a.line ≡ line → (out_of a line).line ≡ None → SawAt t seen a line a.due
 saw_at_rest t seen a (Some D5) e h = absurd (none-some D5 (sym h ∙ e))
 saw_at_rest t seen a (Some B6) e h = absurd (none-some B6 (sym h ∙ e))
 saw_at_rest t seen a _ e h = tt
 
--- D4 and B3 alone lead to where an actor saw so
+-- D4 and B3 alone lead before such a line
 abbrev LooksAway : Line → Type 0
 LooksAway D4 = ⊥
 LooksAway B3 = ⊥
 LooksAway l = Unit {0}
 
--- an outcome after which its actor saw nothing so
+-- an outcome that leads before no such line, or has no empty reply due there
 record SeesNothing (t : Traced) (seen : List Entry) (o : Outcome) : Type 0 where
   saw : (b : Actor) → SawAt t seen b o.actor.line o.actor.due
 
@@ -180,7 +180,7 @@ after_b3 now a next b =
     let c : Actor = record a { next = next; empty_at = now } in
     if b then goes B6 (record c { due = Some Empty }) else goes B4 c
 
--- what an actor saw after its step, where its seat has then seen the whole history if it looked
+-- what an actor found at its step, where its seat has then seen the whole history if the line is one that sees it
 pub saw_after : (t : Traced) (me : ℕ) (a : Actor) (l : Line) → IsTraced t → actor_of t.world me ≡ Some a → a.line ≡ Some l → (seen : List Entry) → (sees l ≡ true → seen ≡ (step_at t me a l).history)
     → SawAt (step_at t me a l) seen (actor_at t.world.setup t me a l) (actor_at t.world.setup t me a l).line (actor_at t.world.setup t me a l).due
 saw_after t me a D4 r is here seen whole = λ null.
@@ -194,14 +194,15 @@ saw_after t me a B3 r is here seen whole = go (is_null (node_at t.world.shared a
     go false some = tt
 saw_after t me a l r is here seen whole = (sees_nothing (step_at t me a l) seen t.world.setup (t.world.steps + 1) me a l (found (action t.world.setup me a l) t.world.shared) tt).saw (actor_at t.world.setup t me a l)
 
--- a call that frees a node has no empty reply due
-due_at : (t : Traced) (me : ℕ) (a : Actor) (l : Line) → IsTraced t → actor_of t.world me ≡ Some a → a.line ≡ Some l → FixedAt t.world.setup.limit me a (Some l)
-due_at t me a l traced is here = runs t.world.setup.kind refl
+-- what an actor's registers have before its line, in either queue
+fixed_at : (t : Traced) (me : ℕ) (a : Actor) (l : Line) → IsTraced t → actor_of t.world me ≡ Some a → a.line ≡ Some l → FixedAt t.world.setup.limit me a (Some l)
+fixed_at t me a l traced is here = runs t.world.setup.kind refl
   where
     runs : (k : Kind) → t.world.setup.kind ≡ k → FixedAt t.world.setup.limit me a (Some l)
     runs TwoLock k = subst (FixedAt t.world.setup.limit me a) here ((two_lock_sound.reached_invariant t.world (traced_reached t traced) k).sound.actors me a is).fixed
     runs NonBlocking k = (non_blocking.at_line t.world (traced_reached t traced) k me a l is here).fixes
 
+-- a call that frees a node has no empty reply due
 not_empty_freeing : (due : Option Reply) → DecidedFreeing due → IsNotEmpty due
 not_empty_freeing None h = tt
 not_empty_freeing (Some Done) h = tt
@@ -234,8 +235,8 @@ module _ (t : Traced) (me : ℕ) (a : Actor) (seen : List Entry) where
       go true true false false same null = All-nil (IsNoted seen)
       go true false n w same null = All-nil (IsNoted seen)
       go false q n w same null = All-nil (IsNoted seen)
-  noted_after F1 r is here saw = none_noted F1 (not_empty_freeing a.due (due_at t me a F1 r is here).earned)
-  noted_after F3 r is here saw = none_noted F3 (not_empty_freeing a.due (due_at t me a F3 r is here).earned)
+  noted_after F1 r is here saw = none_noted F1 (not_empty_freeing a.due (fixed_at t me a F1 r is here).earned)
+  noted_after F3 r is here saw = none_noted F3 (not_empty_freeing a.due (fixed_at t me a F3 r is here).earned)
   noted_after B6 r is here saw = go a.due (saw refl)
     where
       go : (due : Option Reply) → SawAt t seen a (Some B6) due → Notes (unlocked (t.world.steps + 1) due a).reply

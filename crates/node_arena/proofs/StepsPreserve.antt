@@ -163,7 +163,7 @@ module _ (z : Layout) (s : State ℕ View) (h : Holds z s) (id : ℕ) (v : SeatV
   seen : v'.seen ≡ v.seen ++ (between v.seen fit.rest es t.history parts (sees l) ++ es)
   seen = seen_is v.seen fit.rest es t.history parts (sees l) quiet ∙ append_assoc v.seen (between v.seen fit.rest es t.history parts (sees l)) es
 
-  -- what the actor saw so before its step, its seat has seen
+  -- what the actor found before its step, in what its seat has seen after it
   saw : sees l ≡ false → SawAt u v'.seen a (Some l) a.due
   saw e = subst (λ (y : List Entry × Option Line). SawAt u y.0 a y.1 a.due) (λ i. (sym (stays e) i, line i)) (saw_led h.trace u v.seen z.setup v.number prologue v.actor (let c = ap (λ m. m.head.count) f.shared in omega arith) fit.saw)
 
