@@ -22,13 +22,6 @@ ReadsOrFails (Err Memory) old new = new ≡ old
 ReadsOrFails (Err Read) old new = new ≡ old + 1
 ReadsOrFails (Err _) old new = ⊥
 
--- how a reading of all bytes ends: no call failed where the end was told or memory was refused, and else the last one
-abbrev pub ReadsAll : {A : Type 0} → Result A Refusal → (old_failures new_failures : ℕ) → (has_ended : Bool) → Type 0
-ReadsAll (Ok text) old new ended = (new ≡ old) × (ended ≡ true)
-ReadsAll (Err Memory) old new ended = new ≡ old
-ReadsAll (Err Read) old new ended = new ≡ old + 1
-ReadsAll (Err _) old new ended = ⊥
-
 -- how the reading behind a refusal ended: a call failed where it is refused so, and else none did; where memory wasn't
 -- refused the end was told
 abbrev pub EndsReadingAt : Refusal → (old_failures new_failures : ℕ) → (has_ended : Bool) → Type 0

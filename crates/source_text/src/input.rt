@@ -1,7 +1,7 @@
 //! Reads from a source, to its end or to a number of bytes.
 ghost use Rattle.std.specs.Prelude.{◌≡◌, ◌+◌, ◌<◌, ◌≤◌, IfOk, IfErr, OnOk, IsTrue, length, take, vec_len, true};
 ghost use Rattle.std.specs.Io.KnownBytes.{Consumes, IsAtEnd};
-ghost use Rattle.source_text.specs.Readings.{AddsGiven, EndsReadingFor, ReadsAll, ReadsOrFails, WereAll};
+ghost use Rattle.source_text.specs.Readings.{AddsGiven, EndsReadingFor, ReadsOrFails};
 
 use history::{Refusal, Source};
 use std::alloc::Global;
@@ -92,19 +92,4 @@ pub(crate) fn read_rest<R: Source>(reader: &mut R, block: &mut [u8]) -> Result<(
 {
     while read_block(reader, block)? > 0 {}
     Ok(())
-}
-
-/// All bytes that a source gives, to its end.
-///
-/// It is refused with `Memory`, and with `Read` where a call of the source fails. Takes memory;
-/// whether it waits is up to the source.
-pub fn read_all<R: Source>(alloc: Global, reader: &mut R) -> Result<Vec<u8>, Refusal>
-    ensures text { IfOk result (λ text. WereAll (R.remaining reader.old) text.items) }
-    ensures reader { ReadsAll result (R.failures reader.old) (R.failures reader.new)
-        (R.has_ended reader.new) }
-{
-    let mut text = Vec::new(alloc);
-    let mut block = block_of(alloc, BLOCK)?;
-    while read_more(reader, &mut block, &mut text)? > 0 {}
-    Ok(text)
 }

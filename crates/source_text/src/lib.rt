@@ -5,6 +5,5 @@ mod input;
 mod parsers;
 mod parsing;
 
-pub use input::read_all;
 pub use parsers::Parser;
 pub use parsing::parse_source;
