@@ -10,7 +10,7 @@ use Rattle.line_table.specs.declared.lines.Line.TheVariants.{F1, F2, F3}
 use Rattle.history.specs.declared.operations.Op.TheVariants.{Deq}
 use Rattle.history.specs.declared.operations.Reply.{Reply}
 use Rattle.history.specs.declared.refusals.Refusal.TheVariants.{Busy}
-use Rattle.node_arena.specs.Machine.{Held, Actor, World, IsFree, IsSetAside, dequeues, from_pocket, raised, one_if, aside_after, sets_aside, freed, goes, busy_or, to_pocket}
+use Rattle.node_arena.specs.Machine.{Setup, Held, Actor, World, IsFree, IsSetAside, dequeues, from_pocket, raised, one_if, aside_after, sets_aside, freed, goes, busy_or, to_pocket}
 use Rattle.node_arena.specs.Traces.{Event}
 use Rattle.node_arena.specs.Prologues.{Prologue, continues, at_rest, out_of, gave_up, after_prologue}
 use Rattle.node_arena.specs.declared.arena.Arena.{Arena}
@@ -21,6 +21,7 @@ use Rattle.node_arena.specs.Paths.{ExtendsPath, Passes, added, NowHolds}
 use Rattle.node_arena.proofs.Tracing.{traced_reached}
 use Rattle.node_arena.proofs.Noting.{none_due}
 use Rattle.node_arena.proofs.Paths.{no_pass, pass_then, then_stored, added_is, ends_failed, failed_behind, failed-append, kept_seat, now_kept, event, after, pass_on, to_is, failed_last, now_holds}
+use Rattle.node_arena.proofs.Known.{known_before, empty_before}
 use Rattle.node_arena.proofs.Told.{was_in_range, actor_was_in_range, first_is_free, raised_names}
 use Rattle.free_list.specs.declared.outcomes.Actor.{Actor as Running}
 use Rattle.free_list.specs.declared.outcomes.Outcome.{Outcome}
@@ -29,7 +30,7 @@ use Rattle.free_list.specs.declared.outcomes.Gave.TheVariants.{Back, Again}
 use Rattle.free_list.specs.Runs.{gave_of, Frees, CallIsAt, StartsGive, Follows}
 use Rattle.free_list.specs.Gives.{IsBack, GiveTurned, GiveTurns, Giving, GiveAnswers}
 use Rattle.free_list.proofs.Steps.{ref_f1, ref_f3}
-use Rattle.free_list.proofs.Standing.{Shelved, after_f1, after_f2, after_f3}
+use Rattle.free_list.proofs.Standing.{after_f1, after_f2, after_f3}
 use Rattle.free_list.proofs.Turning.{same_actor}
 
 none_at_dequeue : (k : Kind) (o : Option Line) → o ≡ Some (dequeues k) → at_f1 o ≡ 0
@@ -39,7 +40,7 @@ none_at_dequeue NonBlocking o e = ap at_f1 e
 -- registers with the node that is given back
 pub at_f1_with : (r : Arena) (s : Seat) (prologue : Prologue) (h : Held) (a : Running) → StartsGive r s prologue h → a.node ≡ h.node → a.mark ≡ h.mark → CallIsAt r s prologue F1 a
 at_f1_with r s prologue h a st n m =
-    record { seat = st.seat; can = st.can; line = st.line; empty = st.empty; knows = subst (Frees (after_prologue r.plan.setup (view s).number prologue (view s).actor)) (λ i. record { node = sym n i; mark = sym m i }) st.frees }
+    record { before = st.before; knows = subst (Frees (after_prologue r.plan.setup (view s).number prologue (view s).actor)) (λ i. record { node = sym n i; mark = sym m i }) st.frees }
 
 -- the flags of nodes set aside, after F1
 abbrev aside_if : World → Actor → Bool → Option Reply → List Bool
@@ -66,10 +67,12 @@ front_back r s t prologue a n h d won =
     let w : World = d.told.was.world in
     let v : World = (after r s t prologue F3 n d).world in
     let free_is : v.shared.free ≡ raised w.setup b.top b.node = ap (λ p. (if p then record w.shared { free = raised w.setup b.top b.node } else w.shared).free) won in
-    let unworn : b.top.count ≢ w.setup.limit = (λ e. let q = h.knows.1.room in let t = ap (λ x. x.count) h.knows.1.top in let z = ap (λ z. z.limit) d.told.setup in omega arith) in
-    let is : v.shared.free.node ≡ a.node = ap (λ x. x.node) free_is ∙ raised_names w.setup b.top b.node unworn ∙ h.knows.0.frees.node in
+    let k = known_before r s prologue F3 h.before in
+    let unworn : b.top.count ≢ w.setup.limit = subst (λ (z : Setup). b.top.count ≢ z.limit) (sym d.told.setup) k.fixed.room in
+    let same : b.node ≡ a.node = h.knows.0.node in
+    let is : v.shared.free.node ≡ a.node = ap (λ x. x.node) free_is ∙ raised_names w.setup b.top b.node unworn ∙ same in
     now_holds r s t prologue F3 n d (IsBack a.node)
-    (inl (subst (IsFree v) is (first_is_free v (traced_reached (after r s t prologue F3 n d) d.told.reaches) (let q = h.knows.0.some in omega arith))))
+    (inl (subst (IsFree v) is (first_is_free v (traced_reached (after r s t prologue F3 n d) d.told.reaches) (let q = k.some in omega arith))))
 
 -- F1 ends the turn where Free is worn
 pub aside_turn : (r : Arena) (s t : Seat) (prologue : Prologue) (h : Held) (a : Running) (out : Outcome) → a.node ≡ h.node → CallIsAt r s prologue F1 a → Follows r s t prologue F1 a out → ((l : Line) (c : Running) → out ≡ Goes l c → ⊥) → GiveTurns r s t h Back
@@ -77,15 +80,13 @@ aside_turn r s t prologue h a out n st f stays = go (nat_eq (ref_of f.found).cou
   where
     go : (p : Bool) → nat_eq (ref_of f.found).count r.plan.setup.limit ≡ p → GiveTurns r s t h Back
     go true e =
-        let o : Shelved r s t prologue a f.found F1 f.did = (after_f1 r s t prologue a f.found st f.did).0 e in
         record {
           stored = f.did.stored;
           lines = event r s t prologue F1 f.found f.did ∷ [];
           walks = pass_on r s t prologue F1 f.found f.did refl (none_due (after_prologue r.plan.setup (view s).number prologue (view s).actor) st.knows.early) refl;
           turned = record {
             seat = f.did.seat;
-            over = o.over;
-            empty = o.empty;
+            over = (after_f1 r s t prologue a f.found st f.did).0 e;
             never = refl;
             back = subst (λ k. NowHolds r t (IsBack k)) n (aside_back r s t prologue a f.found st f.did (ap (λ x. nat_eq x.count r.plan.setup.limit) (sym (ref_f1 r s t prologue f.found f.did).0) ∙ e));
           };
@@ -133,23 +134,22 @@ module _ (r : Arena) (s u t x : Seat) (prologue : Prologue) (h : Held) (a b c : 
   walked = pass_then (view s) (view u) (view t) (one ∷ []) (two ∷ []) (pass_on r s u prologue F1 f.found f.did refl (none_due (after_prologue r.plan.setup (view s).number prologue (view s).actor) st.knows.early) refl) (pass_on r u t continues F2 g.found g.did refl tt refl)
 
   same_top : (p : Bool) → same_ref (ref_of k.found) c.top ≡ p → same_ref k.did.told.was.world.shared.free (after_prologue r.plan.setup (view t).number continues (view t).actor).top ≡ p
-  same_top p e = (λ i. same_ref (sym (ref_f3 r t x continues k.found k.did).0 i) (stands.knows.1.top i)) ∙ e
+  same_top p e = (λ i. same_ref (sym (ref_f3 r t x continues k.found k.did).0 i) (stands.knows.1 i)) ∙ e
 
   turned : (p : Bool) → same_ref (ref_of k.found) c.top ≡ p → GiveTurned r x (one ∷ two ∷ three ∷ []) h (gave_of (if p then Freed else Goes F1 c))
   turned true e =
-      let o : Shelved r t x continues c k.found F3 k.did = (after_f3 r t x continues c k.found stands k.did).0 e in
+      let over = (after_f3 r t x continues c k.found stands k.did).0 e in
       record {
         seat = k.did.seat;
-        over = o.over;
-        empty = o.empty;
-        never = (let z = none_at_dequeue r.plan.setup.kind three.to (to_is r t x continues F3 k.found k.did ∙ o.over) in omega arith);
+        over = over;
+        never = (let z = none_at_dequeue r.plan.setup.kind three.to (to_is r t x continues F3 k.found k.did ∙ over) in omega arith);
         back = subst (λ y. NowHolds r x (IsBack y)) node_is (front_back r t x continues c k.found stands k.did (same_top true e));
       }
   turned false e =
       let back = (after_f3 r t x continues c k.found stands k.did).1 e in
-      let y : failed_at F3 (view x).actor.line ≡ 1 = ap at_f1 back.line in
+      let y : failed_at F3 (view x).actor.line ≡ 1 = ap at_f1 back.before.line in
       record {
-        stands = record { seat = back.seat; can = back.can; line = back.line; empty = back.empty; frees = subst (Frees (view x).actor) (λ i. record { node = node_is i; mark = mark_is i }) back.knows };
+        stands = record { before = back.before; frees = subst (Frees (view x).actor) (λ i. record { node = node_is i; mark = mark_is i }) back.knows };
         once = (let z : at_f1 three.to ≡ 1 = ap at_f1 (to_is r t x continues F3 k.found k.did) ∙ y in omega arith);
         last = failed_last r t x continues F3 k.found k.did (one ∷ two ∷ []) y;
       }
@@ -159,7 +159,7 @@ module _ (r : Arena) (s u t x : Seat) (prologue : Prologue) (h : Held) (a b c : 
       record {
         stored = then_stored s t x (then_stored s u t f.did.stored g.did.stored) k.did.stored;
         lines = one ∷ two ∷ three ∷ [];
-        walks = pass_then (view s) (view t) (view x) (one ∷ two ∷ []) (three ∷ []) walked (pass_on r t x continues F3 k.found k.did refl (none_due (view t).actor stands.knows.0.frees.early) refl);
+        walks = pass_then (view s) (view t) (view x) (one ∷ two ∷ []) (three ∷ []) walked (pass_on r t x continues F3 k.found k.did refl (none_due (view t).actor stands.knows.0.early) refl);
         turned = subst (λ o. GiveTurned r x (one ∷ two ∷ three ∷ []) h (gave_of o)) (sym k.leads_to) (turned (same_ref (ref_of k.found) c.top) refl);
       }
 
@@ -173,11 +173,8 @@ sets_forth r s h ready full =
     let e : (at_rest (view s).actor).pocket ≡ Some h = sym ready.pocket ∙ full in
     record {
       stands = record {
-        seat = ready.seat;
-        can = (refl, ready.free);
-        line = ap (λ p. (set_out r s p).line) e;
-        empty = ap (λ p. (set_out r s p).pocket) e;
-        frees = record { node = ap (λ p. (set_out r s p).node) e; mark = ap (λ p. (set_out r s p).mark) e; held = ap (λ p. (set_out r s p).holds) e; early = ap (λ p. (set_out r s p).due) e };
+        before = record { seat = ready.seat; can = (refl, ready.free); line = ap (λ p. (set_out r s p).line) e };
+        frees = record { node = ap (λ p. (set_out r s p).node) e; mark = ap (λ p. (set_out r s p).mark) e; early = ap (λ p. (set_out r s p).due) e };
       };
       stored = record { number = refl; role = refl; pocket = refl; failed = refl };
       lines = [];
@@ -218,7 +215,7 @@ module _ (r : Arena) (s t : Seat) (g : Held) (n : ℕ) (h : Giving r s t g n) wh
       let rest = rests_before r.plan.setup.kind (view x).actor d.turned.over in
       let name = then_stored s t x h.stored d.stored in
       record {
-        ready = record { seat = kept_seat r x None n d.turned.seat; free = ap (λ a. a.line) rest; pocket = sym (ap (λ a. a.pocket) rest ∙ d.turned.empty) };
+        ready = record { seat = kept_seat r x None n d.turned.seat; free = ap (λ a. a.line) rest; pocket = sym (ap (λ a. a.pocket) rest ∙ empty_before r x continues (dequeues r.plan.setup.kind) record { seat = d.turned.seat; can = tt; line = d.turned.over }) };
         same = record { number = name.number; role = name.role };
         pocket = refl;
         lines = subst (ExtendsPath (view s) (view x)) (sym e) p.walks;
@@ -235,9 +232,9 @@ kept_it r s t g zero some full h = absurd (omega arith)
 kept_it r s t g (suc m) some full h =
     let e : added s t ≡ h.lines = added_is s t h.lines h.walks.walks in
     let at = h.stands in
-    let rest = rests_at_f1 (view t).actor at.line at.frees.early in
+    let rest = rests_at_f1 (view t).actor at.before.line at.frees.early in
     record {
-      ready = record { seat = kept_seat r t (Some g) (suc m) at.seat; free = ap (λ b. b.line) rest; pocket = (λ i. Some (record { node = sym at.frees.node i; mark = sym at.frees.mark i })) ∙ sym (ap (λ b. b.pocket) rest) };
+      ready = record { seat = kept_seat r t (Some g) (suc m) at.before.seat; free = ap (λ b. b.line) rest; pocket = (λ i. Some (record { node = sym at.frees.node i; mark = sym at.frees.mark i })) ∙ sym (ap (λ b. b.pocket) rest) };
       same = record { number = h.stored.number; role = h.stored.role };
       pocket = sym full;
       lines = subst (ExtendsPath (view s) (view t)) (sym e) h.walks.walks;

@@ -1,6 +1,6 @@
 -- Where each line leads: before which line the seat's actor then stands, and what the call knows there.
-use Rattle.std.proofs.Common.{◌≡◌, ◌≢◌, inl, inr, ℕ, ◌+◌, ◌<◌, ◌≤◌, Bool, true, false, if◌then◌else◌, nat_eq, nat_lt, length, Option, Some, None, sym, refl, ap, ◌∙◌, subst, arith}
-use Rattle.std.proofs.lemmas.Bool.{eqb-true, eqb-false, ltb-true}
+use Rattle.std.proofs.Common.{◌≡◌, inl, inr, ℕ, ◌+◌, ◌<◌, ◌≤◌, Bool, true, false, if◌then◌else◌, nat_eq, nat_lt, length, Option, Some, None, sym, refl, ap, ◌∙◌, subst, arith}
+use Rattle.std.proofs.lemmas.Bool.{eqb-true}
 use Rattle.counted_ref.specs.Ref.{Ref, ref_of, is_null, same_ref}
 use Rattle.counted_ref.proofs.Words.{same_ref-true}
 use Rattle.line_table.specs.declared.lines.Line.{Line}
@@ -10,23 +10,24 @@ use Rattle.history.specs.declared.refusals.Refusal.{Refusal}
 use Rattle.history.specs.declared.refusals.Refusal.TheVariants.{NoNode, WornOut}
 use Rattle.history.specs.declared.operations.Reply.{Reply}
 use Rattle.history.specs.declared.operations.Reply.TheVariants.{Refused}
-use Rattle.node_arena.specs.Machine.{Actor, Outcome as MachineOutcome, actor_of, entry_or, with_node, dequeues, goes, ends, worn, fills_hand, empties_hand, freed, sets_aside, IsFree}
-use Rattle.node_arena.specs.Traces.{step_at, outcome_at}
+use Rattle.node_arena.specs.Machine.{Actor, Outcome as MachineOutcome, entry_or, with_node, dequeues, goes, ends, worn, fills_hand, empties_hand, freed, sets_aside, IsFree}
+use Rattle.node_arena.specs.Traces.{outcome_at}
 use Rattle.node_arena.specs.Prologues.{Prologue, continues, after_prologue}
 use Rattle.node_arena.specs.declared.arena.Arena.{Arena}
 use Rattle.node_arena.specs.declared.seats.Seat.{Seat}
 use Rattle.node_arena.specs.Seats.{IsSeat, DidStep, view}
-use Rattle.node_arena.proofs.Told.{was_in_range, actor_was_in_range, first_is_free, names_next}
+use Rattle.node_arena.proofs.Known.{known_before, empty_before}
+use Rattle.node_arena.proofs.Told.{first_is_free}
 use Rattle.node_arena.proofs.Tracing.{traced_reached}
 use Rattle.free_list.specs.declared.outcomes.Actor.{Actor as Running}
 use Rattle.free_list.specs.declared.outcomes.Outcome.{Outcome}
 use Rattle.free_list.specs.declared.outcomes.Outcome.TheVariants.{Goes, Ends, Freed}
-use Rattle.free_list.specs.Runs.{in_hand, follow, HasNode, AgreesAt, CallIsAt}
+use Rattle.free_list.specs.Runs.{follow, AgreesAt, CallIsAt}
 use Rattle.free_list.specs.Takes.{WasThere, IsRefusedBy}
 use Rattle.free_list.proofs.Steps.{ref_n2, ref_n3, ref_n4, ref_f1, ref_f3}
 
-stands_on : (r : Arena) (t : Seat) (l : Line) (a : Running) → IsSeat r t → (view t).actor.line ≡ Some l → (view t).actor.pocket ≡ None → AgreesAt r.plan.setup l (view t).actor a → CallIsAt r t continues l a
-stands_on r t l a seat line empty knows = record { seat = seat; can = tt; line = line; empty = empty; knows = knows }
+stands_on : (r : Arena) (t : Seat) (l : Line) (a : Running) → IsSeat r t → (view t).actor.line ≡ Some l → AgreesAt l (view t).actor a → CallIsAt r t continues l a
+stands_on r t l a seat line knows = record { before = record { seat = seat; can = tt; line = line }; knows = knows }
 
 module _ (r : Arena) (s t : Seat) (prologue : Prologue) (a : Running) (n : ℕ) where
   abbrev b : Actor
@@ -38,7 +39,7 @@ module _ (r : Arena) (s t : Seat) (prologue : Prologue) (a : Running) (n : ℕ) 
 
   -- N1
   pub after_n1 : CallIsAt r s prologue N1 a → DidStep r s t prologue N1 n → CallIsAt r t continues N2 (record a { f = n })
-  after_n1 h d = stands_on r t N2 (record a { f = n }) d.seat (ap (λ x. x.line) d.told.actor) (ap (λ x. x.pocket) d.told.actor ∙ h.empty) (ap (λ x. x.f) d.told.actor ∙ sym d.told.found)
+  after_n1 h d = stands_on r t N2 (record a { f = n }) d.seat (ap (λ x. x.line) d.told.actor) (ap (λ x. x.f) d.told.actor ∙ sym d.told.found)
 
   -- N2
   pub record Ended (d : DidStep r s t prologue N2 n) (why : Refusal) : Type 0 where
@@ -77,39 +78,30 @@ module _ (r : Arena) (s t : Seat) (prologue : Prologue) (a : Running) (n : ℕ) 
       go : (p q u : Bool) → is_null d.told.was.world.shared.free ≡ p → nat_lt a.f r.plan.setup.size ≡ q → nat_eq d.told.was.world.shared.free.count r.plan.setup.limit ≡ u → Second d (second d.told.was.world.shared.free p q u)
       go true true u x y w =
           let o = settled_as N2 d (second_outcome (d.told.was.world.steps + 1) d.told.was.world.shared.free true true u) (is true true u x y w) in
-          stands_on r t N5 (record a { top = d.told.was.world.shared.free }) d.seat (ap (λ c. c.line) o.1) (ap (λ c. c.pocket) o.1 ∙ h.empty) (ap (λ c. c.f) o.1 ∙ h.knows, ltb-true a.f r.plan.setup.size y)
+          stands_on r t N5 (record a { top = d.told.was.world.shared.free }) d.seat (ap (λ c. c.line) o.1) (ap (λ c. c.f) o.1 ∙ h.knows)
       go true false u x y w =
           let e = is true false u x y w in
           let o = settled_as N2 d (second_outcome (d.told.was.world.steps + 1) d.told.was.world.shared.free true false u) e in
-          record { over = ap (λ c. c.line) o.1; empty = ap (λ c. c.pocket) o.1 ∙ h.empty; replies = ap (λ c. c.reply) e; possible = inl refl }
+          record { over = ap (λ c. c.line) o.1; empty = ap (λ c. c.pocket) o.1 ∙ empty_before r s prologue N2 h.before; replies = ap (λ c. c.reply) e; possible = inl refl }
       go false q true x y w =
           let e = is false q true x y w in
           let o = settled_as N2 d (second_outcome (d.told.was.world.steps + 1) d.told.was.world.shared.free false q true) e in
-          record { over = ap (λ c. c.line) o.1; empty = ap (λ c. c.pocket) o.1 ∙ h.empty; replies = ap (λ c. c.reply) e; possible = inr refl }
+          record { over = ap (λ c. c.line) o.1; empty = ap (λ c. c.pocket) o.1 ∙ empty_before r s prologue N2 h.before; replies = ap (λ c. c.reply) e; possible = inr refl }
       go false q false x y w =
           let o = settled_as N2 d (second_outcome (d.told.was.world.steps + 1) d.told.was.world.shared.free false q false) (is false q false x y w) in
-          let range = (was_in_range r.plan prologue N2 n (view s) (view t) d.told).shared in
-          let free = range.free in
-          let c = free.count in
-          let m = free.node in
-          let f = range.fresh in
-          let zs = ap (λ z. z.size) d.told.setup in
-          let zl = ap (λ z. z.limit) d.told.setup in
-          let some : d.told.was.world.shared.free.node ≢ 0 = eqb-false d.told.was.world.shared.free.node 0 x in
-          let unworn : d.told.was.world.shared.free.count ≢ r.plan.setup.limit = eqb-false d.told.was.world.shared.free.count r.plan.setup.limit w in
-          stands_on r t N3 (record a { top = d.told.was.world.shared.free }) d.seat (ap (λ c. c.line) o.1) (ap (λ c. c.pocket) o.1 ∙ h.empty)
-          (record { top = record { top = ap (λ c. c.top) o.1; room = omega arith }; some = omega arith; inside = omega arith })
+          stands_on r t N3 (record a { top = d.told.was.world.shared.free }) d.seat (ap (λ c. c.line) o.1) (ap (λ c. c.top) o.1)
 
   -- N3
   pub after_n3 : CallIsAt r s prologue N3 a → (d : DidStep r s t prologue N3 n) → CallIsAt r t continues N4 (record a { next = ref_of n })
-  after_n3 h d = stands_on r t N4 (record a { next = ref_of n }) d.seat (ap (λ x. x.line) d.told.actor) (ap (λ x. x.pocket) d.told.actor ∙ h.empty)
-      (record { top = record { top = ap (λ x. x.top) d.told.actor ∙ h.knows.top.top; room = h.knows.top.room }; some = h.knows.some; inside = h.knows.inside }, ap (λ x. x.next) d.told.actor ∙ sym (ref_n3 r s t prologue n d).0)
+  after_n3 h d = stands_on r t N4 (record a { next = ref_of n }) d.seat (ap (λ x. x.line) d.told.actor) (ap (λ x. x.top) d.told.actor ∙ h.knows, ap (λ x. x.next) d.told.actor ∙ sym (ref_n3 r s t prologue n d).0)
 
   -- a node came into the hand, or the turn failed
   pub record Holding (l : Line) (d : DidStep r s t prologue l n) (a' : Running) : Type 0 where
     pub over : (view t).actor.line ≡ Some (with_node r.plan.setup.kind)
-    pub empty : (view t).actor.pocket ≡ None
-    pub node : HasNode r.plan.setup (view t).actor (in_hand a')
+    pub node : (view t).actor.node ≡ a'.node
+    pub mark : (view t).actor.mark ≡ a'.mark
+    pub held : (view t).actor.holds ≡ true
+    pub some : 1 ≤ a'.node
     pub there : WasThere a'.node d.told.was.world
 
   abbrev fourth : Bool → MachineOutcome
@@ -129,106 +121,87 @@ module _ (r : Arena) (s t : Seat) (prologue : Prologue) (a : Running) (n : ℕ) 
   after_n4 h d = (won, lost)
     where
       same : (p : Bool) → same_ref (ref_of n) a.top ≡ p → same_ref d.told.was.world.shared.free b.top ≡ p
-      same p e = (λ i. same_ref (sym (ref_n4 r s t prologue n d).0 i) (h.knows.0.top.top i)) ∙ e
+      same p e = (λ i. same_ref (sym (ref_n4 r s t prologue n d).0 i) (h.knows.0 i)) ∙ e
 
       won : same_ref (ref_of n) a.top ≡ true → Holding N4 d (record a { node = a.top.node; mark = a.next.count })
       won e =
           let o = settled_as N4 d (fourth true) (ap fourth (same true e)) in
-          let is : d.told.was.world.shared.free ≡ a.top = same_ref-true d.told.was.world.shared.free b.top (same true e) ∙ h.knows.0.top.top in
-          let low = (actor_was_in_range r.plan prologue N4 n (view s) (view t) d.told).registers.next.count in
-          let zl = ap (λ z. z.limit) d.told.setup in
-          let nx = ap (λ x. x.count) h.knows.1 in
+          let is : d.told.was.world.shared.free ≡ a.top = same_ref-true d.told.was.world.shared.free b.top (same true e) ∙ h.knows.0 in
+          let some : 1 ≤ a.top.node = subst (λ (x : Ref). 1 ≤ x.node) h.knows.0 (known_before r s prologue N4 h.before).some in
           record {
             over = ap (λ c. c.line) o.1;
-            empty = ap (λ c. c.pocket) o.1 ∙ h.empty;
-            node = record { node = ap (λ c. c.node) o.1 ∙ ap (λ x. x.node) h.knows.0.top.top; mark = ap (λ c. c.mark) o.1 ∙ nx; held = ap (λ c. c.holds) o.1; some = h.knows.0.some; inside = h.knows.0.inside; small = omega arith };
-            there = inl (subst (IsFree d.told.was.world) (ap (λ x. x.node) is) (first_is_free d.told.was.world (traced_reached d.told.was d.told.reached) (subst (λ k. 1 ≤ k) (sym (ap (λ x. x.node) is)) h.knows.0.some)));
+            node = ap (λ c. c.node) o.1 ∙ ap (λ x. x.node) h.knows.0;
+            mark = ap (λ c. c.mark) o.1 ∙ ap (λ x. x.count) h.knows.1;
+            held = ap (λ c. c.holds) o.1;
+            some = some;
+            there = inl (subst (IsFree d.told.was.world) (ap (λ x. x.node) is) (first_is_free d.told.was.world (traced_reached d.told.was d.told.reached) (subst (λ (x : Ref). 1 ≤ x.node) (sym is) some)));
           }
 
       lost : same_ref (ref_of n) a.top ≡ false → CallIsAt r t continues N1 a
       lost e =
           let o = settled_as N4 d (fourth false) (ap fourth (same false e)) in
-          stands_on r t N1 a d.seat (ap (λ c. c.line) o.1) (ap (λ c. c.pocket) o.1 ∙ h.empty) tt
+          stands_on r t N1 a d.seat (ap (λ c. c.line) o.1) tt
 
   -- N5
   pub after_n5 : CallIsAt r s prologue N5 a → (d : DidStep r s t prologue N5 n) → (nat_eq n a.f ≡ true → Holding N5 d (record a { node = a.f + 1; mark = 0 })) × (nat_eq n a.f ≡ false → CallIsAt r t continues N1 a)
   after_n5 h d = (won, lost)
     where
       same : (p : Bool) → nat_eq n a.f ≡ p → nat_eq d.told.was.world.shared.fresh b.f ≡ p
-      same p e = (λ i. nat_eq (sym d.told.found i) (h.knows.0 i)) ∙ e
+      same p e = (λ i. nat_eq (sym d.told.found i) (h.knows i)) ∙ e
 
       won : nat_eq n a.f ≡ true → Holding N5 d (record a { node = a.f + 1; mark = 0 })
       won e =
           let o = settled_as N5 d (fifth true) (ap fifth (same true e)) in
           let is : n ≡ a.f = eqb-true n a.f e in
           let f = d.told.found in
-          let low = h.knows.1 in
           record {
             over = ap (λ c. c.line) o.1;
-            empty = ap (λ c. c.pocket) o.1 ∙ h.empty;
-            node = record { node = ap (λ c. c.node) o.1 ∙ ap (λ k. k + 1) h.knows.0; mark = ap (λ c. c.mark) o.1; held = ap (λ c. c.holds) o.1; some = omega arith; inside = omega arith; small = omega arith };
+            node = ap (λ c. c.node) o.1 ∙ ap (λ k. k + 1) h.knows;
+            mark = ap (λ c. c.mark) o.1;
+            held = ap (λ c. c.holds) o.1;
+            some = omega arith;
             there = inr (let u : d.told.was.world.shared.fresh < a.f + 1 = omega arith in u);
           }
 
       lost : nat_eq n a.f ≡ false → CallIsAt r t continues N1 a
       lost e =
           let o = settled_as N5 d (fifth false) (ap fifth (same false e)) in
-          stands_on r t N1 a d.seat (ap (λ c. c.line) o.1) (ap (λ c. c.pocket) o.1 ∙ h.empty) tt
+          stands_on r t N1 a d.seat (ap (λ c. c.line) o.1) tt
+
+  -- the node left the hand
+  abbrev pub IsShelved : Type 0
+  IsShelved = (view t).actor.line ≡ Some (dequeues r.plan.setup.kind)
 
   -- F1
-  pub record Shelved (l : Line) (d : DidStep r s t prologue l n) : Type 0 where
-    pub over : (view t).actor.line ≡ Some (dequeues r.plan.setup.kind)
-    pub empty : (view t).actor.pocket ≡ None
-
-  pub after_f1 : CallIsAt r s prologue F1 a → (d : DidStep r s t prologue F1 n) → (nat_eq (ref_of n).count r.plan.setup.limit ≡ true → Shelved F1 d) × (nat_eq (ref_of n).count r.plan.setup.limit ≡ false → CallIsAt r t continues F2 (record a { top = ref_of n }))
-  after_f1 h d = (aside, on)
+  pub after_f1 : CallIsAt r s prologue F1 a → (d : DidStep r s t prologue F1 n) → (nat_eq (ref_of n).count r.plan.setup.limit ≡ true → IsShelved) × (nat_eq (ref_of n).count r.plan.setup.limit ≡ false → CallIsAt r t continues F2 (record a { top = ref_of n }))
+  after_f1 h d = (λ e. ap (λ c. c.line) (went true e).1, on)
     where
       same : (p : Bool) → nat_eq (ref_of n).count r.plan.setup.limit ≡ p → nat_eq d.told.was.world.shared.free.count r.plan.setup.limit ≡ p
       same p e = ap (λ x. nat_eq x.count r.plan.setup.limit) (sym (ref_f1 r s t prologue n d).0) ∙ e
 
-      aside : nat_eq (ref_of n).count r.plan.setup.limit ≡ true → Shelved F1 d
-      aside e =
-          let o = settled_as F1 d (first (d.told.was.world.steps + 1) d.told.was.world.shared.free true None) (λ i. first (d.told.was.world.steps + 1) d.told.was.world.shared.free (same true e i) (h.knows.early i)) in
-          record { over = ap (λ c. c.line) o.1; empty = ap (λ c. c.pocket) o.1 ∙ h.empty }
+      went : (p : Bool) → nat_eq (ref_of n).count r.plan.setup.limit ≡ p → (x : Option ℕ) × ((view t).actor ≡ record (first (d.told.was.world.steps + 1) d.told.was.world.shared.free p None).actor { entry = x })
+      went p e = settled_as F1 d (first (d.told.was.world.steps + 1) d.told.was.world.shared.free p None) (λ i. first (d.told.was.world.steps + 1) d.told.was.world.shared.free (same p e i) (h.knows.early i))
 
       on : nat_eq (ref_of n).count r.plan.setup.limit ≡ false → CallIsAt r t continues F2 (record a { top = ref_of n })
       on e =
-          let o = settled_as F1 d (first (d.told.was.world.steps + 1) d.told.was.world.shared.free false None) (λ i. first (d.told.was.world.steps + 1) d.told.was.world.shared.free (same false e i) (h.knows.early i)) in
-          let range = (was_in_range r.plan prologue F1 n (view s) (view t) d.told).shared.free.count in
-          let zl = ap (λ z. z.limit) d.told.setup in
-          let rf = ap (λ x. x.count) (ref_f1 r s t prologue n d).0 in
-          let unworn : (ref_of n).count ≢ r.plan.setup.limit = eqb-false (ref_of n).count r.plan.setup.limit e in
-          let reg = (actor_was_in_range r.plan prologue F1 n (view s) (view t) d.told).registers.mark in
-          let next = names_next (step_at d.told.was (view s).number b F1).world (view t).number (view t).actor (traced_reached (step_at d.told.was (view s).number b F1) d.told.reaches) (ap (λ k. actor_of (step_at d.told.was (view s).number b F1).world k) d.told.number ∙ d.told.after) (ap (λ c. c.line) o.1) in
-          let nd : (view t).actor.node ≡ a.node = ap (λ c. c.node) o.1 ∙ h.knows.node in
-          let zs = ap (λ z. z.size) d.told.setup in
-          let mk = h.knows.mark in
-          stands_on r t F2 (record a { top = ref_of n }) d.seat (ap (λ c. c.line) o.1) (ap (λ c. c.pocket) o.1 ∙ h.empty) (
-            record { frees = record { node = nd; mark = ap (λ c. c.mark) o.1 ∙ h.knows.mark; held = ap (λ c. c.holds) o.1 ∙ h.knows.held; early = ap (λ c. c.due) o.1 ∙ h.knows.early }; some = (let x = next.0 in omega arith); inside = (let x = next.1 in omega arith); small = omega arith },
-            record { top = ap (λ c. c.top) o.1 ∙ sym (ref_f1 r s t prologue n d).0; room = omega arith },
-          )
+          let o = went false e in
+          stands_on r t F2 (record a { top = ref_of n }) d.seat (ap (λ c. c.line) o.1)
+          (record { node = ap (λ c. c.node) o.1 ∙ h.knows.node; mark = ap (λ c. c.mark) o.1 ∙ h.knows.mark; early = ap (λ c. c.due) o.1 ∙ h.knows.early }, ap (λ c. c.top) o.1 ∙ sym (ref_f1 r s t prologue n d).0)
 
   -- F2
   pub after_f2 : CallIsAt r s prologue F2 a → (d : DidStep r s t prologue F2 n) → CallIsAt r t continues F3 a
-  after_f2 h d = stands_on r t F3 a d.seat (ap (λ x. x.line) d.told.actor) (ap (λ x. x.pocket) d.told.actor ∙ h.empty) (
-    record { frees = record { node = ap (λ c. c.node) d.told.actor ∙ h.knows.0.frees.node; mark = ap (λ c. c.mark) d.told.actor ∙ h.knows.0.frees.mark; held = ap (λ c. c.holds) d.told.actor ∙ h.knows.0.frees.held; early = ap (λ c. c.due) d.told.actor ∙ h.knows.0.frees.early }; some = h.knows.0.some; inside = h.knows.0.inside; small = h.knows.0.small },
-    record { top = ap (λ c. c.top) d.told.actor ∙ h.knows.1.top; room = h.knows.1.room },
-  )
+  after_f2 h d = stands_on r t F3 a d.seat (ap (λ x. x.line) d.told.actor)
+      (record { node = ap (λ c. c.node) d.told.actor ∙ h.knows.0.node; mark = ap (λ c. c.mark) d.told.actor ∙ h.knows.0.mark; early = ap (λ c. c.due) d.told.actor ∙ h.knows.0.early }, ap (λ c. c.top) d.told.actor ∙ h.knows.1)
 
   -- F3
-  pub after_f3 : CallIsAt r s prologue F3 a → (d : DidStep r s t prologue F3 n) → (same_ref (ref_of n) a.top ≡ true → Shelved F3 d) × (same_ref (ref_of n) a.top ≡ false → CallIsAt r t continues F1 a)
-  after_f3 h d = (won, lost)
+  pub after_f3 : CallIsAt r s prologue F3 a → (d : DidStep r s t prologue F3 n) → (same_ref (ref_of n) a.top ≡ true → IsShelved) × (same_ref (ref_of n) a.top ≡ false → CallIsAt r t continues F1 a)
+  after_f3 h d = (λ e. ap (λ c. c.line) (went true e).1, lost)
     where
-      same : (p : Bool) → same_ref (ref_of n) a.top ≡ p → same_ref d.told.was.world.shared.free b.top ≡ p
-      same p e = (λ i. same_ref (sym (ref_f3 r s t prologue n d).0 i) (h.knows.1.top i)) ∙ e
-
-      won : same_ref (ref_of n) a.top ≡ true → Shelved F3 d
-      won e =
-          let o = settled_as F3 d (third (d.told.was.world.steps + 1) true None) (λ i. third (d.told.was.world.steps + 1) (same true e i) (h.knows.0.frees.early i)) in
-          record { over = ap (λ c. c.line) o.1; empty = ap (λ c. c.pocket) o.1 ∙ h.empty }
+      went : (p : Bool) → same_ref (ref_of n) a.top ≡ p → (x : Option ℕ) × ((view t).actor ≡ record (third (d.told.was.world.steps + 1) p None).actor { entry = x })
+      went p e = settled_as F3 d (third (d.told.was.world.steps + 1) p None) (λ i. third (d.told.was.world.steps + 1) (((λ j. same_ref (sym (ref_f3 r s t prologue n d).0 j) (h.knows.1 j)) ∙ e) i) (h.knows.0.early i))
 
       lost : same_ref (ref_of n) a.top ≡ false → CallIsAt r t continues F1 a
       lost e =
-          let o = settled_as F3 d (third (d.told.was.world.steps + 1) false None) (λ i. third (d.told.was.world.steps + 1) (same false e i) (h.knows.0.frees.early i)) in
-          stands_on r t F1 a d.seat (ap (λ c. c.line) o.1) (ap (λ c. c.pocket) o.1 ∙ h.empty)
-          (record { node = ap (λ c. c.node) o.1 ∙ h.knows.0.frees.node; mark = ap (λ c. c.mark) o.1 ∙ h.knows.0.frees.mark; held = ap (λ c. c.holds) o.1 ∙ h.knows.0.frees.held; early = ap (λ c. c.due) o.1 ∙ h.knows.0.frees.early })
+          let o = went false e in
+          stands_on r t F1 a d.seat (ap (λ c. c.line) o.1)
+          (record { node = ap (λ c. c.node) o.1 ∙ h.knows.0.node; mark = ap (λ c. c.mark) o.1 ∙ h.knows.0.mark; early = ap (λ c. c.due) o.1 ∙ h.knows.0.early })

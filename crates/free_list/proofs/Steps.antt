@@ -1,54 +1,36 @@
--- What each line asks of its step call, and the number that it finds there.
-use Rattle.std.proofs.Common.{◌≡◌, ◌≢◌, ℕ, ◌+◌, ◌*◌, ◌%◌, ◌^◌, ◌≤◌, sym, refl, ap, ◌∙◌, arith}
-use Rattle.counted_ref.specs.Ref.{ref, ref_word, ref_of, reserved_node, node_bits}
-use Rattle.line_table.specs.declared.lines.Line.{Line}
+-- The bounds of what the lines write, and the numbers that they find.
+use Rattle.std.proofs.Common.{◌≡◌, ◌≢◌, ℕ, ◌+◌, ◌%◌, ◌^◌, ◌<◌, ◌≤◌, ap, arith}
+use Rattle.counted_ref.specs.Ref.{Ref, ref_of, reserved_node, node_bits, count_bits}
 use Rattle.line_table.specs.declared.lines.Line.TheVariants.{N1, N2, N3, N4, N5, F1, F2, F3}
-use Rattle.node_arena.specs.Machine.{Actor, node_at, raised, WordStep, load_at, store_at, exchange_at, word_step, action}
-use Rattle.node_arena.specs.Machine.{WordFree, WordNext}
-use Rattle.node_arena.specs.Prologues.{Prologue, after_prologue}
+use Rattle.node_arena.specs.Machine.{Setup, node_at, WordFree, WordNext}
+use Rattle.node_arena.specs.Prologues.{Prologue, continues, after_prologue}
 use Rattle.node_arena.specs.declared.arena.Arena.{Arena}
 use Rattle.node_arena.specs.declared.seats.Seat.{Seat}
-use Rattle.node_arena.specs.Plans.{PermitsLine}
-use Rattle.node_arena.specs.Seats.{MayStep, DidStep, view}
+use Rattle.node_arena.specs.Seats.{DidStep, view}
 use Rattle.node_arena.proofs.Told.{was_in_range, was_fits}
+use Rattle.node_arena.proofs.Known.{known_before}
 use Rattle.node_arena.proofs.Reading.{read_back}
 use Rattle.free_list.specs.declared.outcomes.Actor.{Actor as Running}
 use Rattle.free_list.specs.Runs.{CallIsAt}
 
-module _ (r : Arena) (s : Seat) (prologue : Prologue) where
-  abbrev b : Actor
-  b = after_prologue r.plan.setup (view s).number prologue (view s).actor
+module _ (r : Arena) (s : Seat) (a : Running) where
+  -- the counts that N4 and F3 raise have room
+  pub room_n4 : (z : Setup) → z ≡ r.plan.setup → CallIsAt r s continues N4 a → a.top.count < z.limit
+  room_n4 z e h = omega (arith, (known_before r s continues N4 h.before).room, ap (λ (x : Ref). x.count) h.knows.0, ap (λ (y : Setup). y.limit) e)
 
-  -- a step may be made where its access is this one
-  may : (l : Line) (a : Running) (x : WordStep) → CallIsAt r s prologue l a → word_step (action r.plan.setup (view s).number b l) ≡ x → PermitsLine s.role l → MayStep r s prologue l x
-  may l a x h access permits = record { seat = h.seat; leads = h.can; line = h.line; access = access; permits = permits }
+  pub room_f3 : (z : Setup) → z ≡ r.plan.setup → CallIsAt r s continues F3 a → a.top.count < z.limit
+  room_f3 z e h = omega (arith, (known_before r s continues F3 h.before).room, ap (λ (x : Ref). x.count) h.knows.1, ap (λ (y : Setup). y.limit) e)
 
-  pub may_n1 : (a : Running) → CallIsAt r s prologue N1 a → MayStep r s prologue N1 (load_at 0)
-  may_n1 a h = may N1 a (load_at 0) h refl tt
+  -- a node is left at N5
+  pub left_n5 : CallIsAt r s continues N5 a → a.f + 1 < reserved_node
+  left_n5 h = omega (arith, (known_before r s continues N5 h.before).left, h.knows, h.before.seat.arena.sized.numbered)
 
-  pub may_n2 : (a : Running) → CallIsAt r s prologue N2 a → MayStep r s prologue N2 (load_at 1)
-  may_n2 a h = may N2 a (load_at 1) h refl tt
+  -- the mark that F2 writes, and the node that F3 does
+  pub mark_f2 : CallIsAt r s continues F2 a → a.mark < 2 ^ count_bits
+  mark_f2 h = omega (arith, (known_before r s continues F2 h.before).registers.mark, h.knows.0.mark, h.before.seat.arena.sized.counted)
 
-  pub may_n3 : (a : Running) (n : ℕ) → CallIsAt r s prologue N3 a → n ≡ a.top.node → MayStep r s prologue N3 (load_at (4 + 2 * n))
-  may_n3 a n h e = may N3 a (load_at (4 + 2 * n)) h (ap (λ t. load_at (4 + 2 * t)) (ap (λ t. t.node) h.knows.top.top ∙ sym e)) tt
-
-  pub may_n4 : (a : Running) (old new : ℕ) → CallIsAt r s prologue N4 a → old ≡ ref_word a.top → new ≡ ref_word (raised r.plan.setup a.top a.next.node) → MayStep r s prologue N4 (exchange_at 1 old new)
-  may_n4 a old new h e f = may N4 a (exchange_at 1 old new) h
-      ((λ i. exchange_at 1 (ref_word (h.knows.0.top.top i)) (ref_word (raised r.plan.setup (h.knows.0.top.top i) (h.knows.1 i).node))) ∙ (λ i. exchange_at 1 (sym e i) (sym f i))) tt
-
-  pub may_n5 : (a : Running) → CallIsAt r s prologue N5 a → MayStep r s prologue N5 (exchange_at 0 a.f (a.f + 1))
-  may_n5 a h = may N5 a (exchange_at 0 a.f (a.f + 1)) h (ap (λ f. exchange_at 0 f (f + 1)) h.knows.0) tt
-
-  pub may_f1 : (a : Running) → CallIsAt r s prologue F1 a → MayStep r s prologue F1 (load_at 1)
-  may_f1 a h = may F1 a (load_at 1) h refl tt
-
-  pub may_f2 : (a : Running) (new : ℕ) → CallIsAt r s prologue F2 a → new ≡ ref_word (ref a.top.node a.mark) → MayStep r s prologue F2 (store_at (4 + 2 * a.node) new)
-  may_f2 a new h e = may F2 a (store_at (4 + 2 * a.node) new) h
-      ((λ i. store_at (4 + 2 * h.knows.0.frees.node i) (ref_word (ref (h.knows.1.top i).node (h.knows.0.frees.mark i)))) ∙ (λ i. store_at (4 + 2 * a.node) (sym e i))) tt
-
-  pub may_f3 : (a : Running) (old new : ℕ) → CallIsAt r s prologue F3 a → old ≡ ref_word a.top → new ≡ ref_word (raised r.plan.setup a.top a.node) → MayStep r s prologue F3 (exchange_at 1 old new)
-  may_f3 a old new h e f = may F3 a (exchange_at 1 old new) h
-      ((λ i. exchange_at 1 (ref_word (h.knows.1.top i)) (ref_word (raised r.plan.setup (h.knows.1.top i) (h.knows.0.frees.node i)))) ∙ (λ i. exchange_at 1 (sym e i) (sym f i))) tt
+  pub node_f3 : CallIsAt r s continues F3 a → a.node < reserved_node
+  node_f3 h = let k = known_before r s continues F3 h.before in omega (arith, k.within, k.registers.node, h.knows.0.node, h.before.seat.arena.sized.numbered)
 
 module _ (r : Arena) (s t : Seat) (prologue : Prologue) (n : ℕ) where
   pub fresh_small : DidStep r s t prologue N1 n → n ≤ r.plan.setup.size

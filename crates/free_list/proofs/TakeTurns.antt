@@ -8,7 +8,7 @@ use Rattle.history.specs.declared.refusals.Refusal.{Refusal}
 use Rattle.history.specs.declared.refusals.Refusal.TheVariants.{Busy}
 use Rattle.node_arena.specs.Machine.{Held, Actor, with_node, from_pocket, rested}
 use Rattle.node_arena.specs.Traces.{Event}
-use Rattle.node_arena.specs.Prologues.{at_rest, out_of}
+use Rattle.node_arena.specs.Prologues.{continues, at_rest, out_of}
 use Rattle.node_arena.specs.declared.arena.Arena.{Arena}
 use Rattle.node_arena.specs.declared.seats.Seat.{Seat}
 use Rattle.node_arena.specs.Seats.{IsReady, view, keeping, pocket_of}
@@ -16,6 +16,7 @@ use Rattle.node_arena.specs.Turns.{failed_turns}
 use Rattle.node_arena.specs.Paths.{ExtendsPath, Passes, added, MetCause}
 use Rattle.free_list.specs.declared.outcomes.Turn.TheVariants.{Took, Failed, Refused}
 use Rattle.node_arena.proofs.Paths.{no_pass, pass_then, then_stored, added_is, last_held, ends_failed, ended_behind, stopped_behind, failed_behind, failed-append, kept_seat, now_kept}
+use Rattle.node_arena.proofs.Known.{empty_before}
 use Rattle.free_list.specs.Takes.{IsRefusedBy, TakeRefused, Turns, Trying, AnswersTake}
 
 -- an actor that just got a node rests
@@ -30,14 +31,8 @@ set_out r s p = from_pocket (with_node r.plan.setup.kind) p (record (at_rest (vi
 -- a take that sets out
 pub sets_out : (r : Arena) (s : Seat) → IsReady r s → pocket_of s ≡ None → Trying r s s 0
 sets_out r s h none =
-    let empty : (at_rest (view s).actor).pocket ≡ None = sym h.pocket ∙ none in
     record {
-      stands = record {
-        seat = h.seat;
-        can = (refl, h.free);
-        line = ap (λ p. (set_out r s p).line) empty;
-        empty = ap (λ p. (set_out r s p).pocket) empty ∙ empty;
-      };
+      before = record { seat = h.seat; can = (refl, h.free); line = ap (λ p. (set_out r s p).line) (sym h.pocket ∙ none) };
       stored = record { number = refl; role = refl; pocket = refl; failed = refl };
       lines = [];
       walks = no_pass (view s);
@@ -50,7 +45,7 @@ module _ (r : Arena) (s t : Seat) (n : ℕ) (h : Trying r s t n) where
   pub again : (x : Seat) → Turns r t x Failed → Trying r s x (n + 1)
   again x d =
       record {
-        stands = rw add-one d.turned.stands;
+        before = rw add-one d.turned.before;
         stored = then_stored s t x h.stored d.stored;
         lines = h.lines ++ d.lines;
         walks = pass_then (view s) (view t) (view x) h.lines d.lines h.walks d.walks;
@@ -120,13 +115,12 @@ pub gave_up : (r : Arena) (s t : Seat) (turns : ℕ) → 1 ≤ turns → Trying 
 gave_up r s t zero some h = absurd (omega arith)
 gave_up r s t (suc m) some h =
     let e : added s t ≡ h.lines = added_is s t h.lines h.walks.walks in
-    let at = h.stands in
-    let rest : at_rest (view t).actor ≡ record (view t).actor { line = None } = ap (out_of (view t).actor) at.line in
+    let rest : at_rest (view t).actor ≡ record (view t).actor { line = None } = ap (out_of (view t).actor) h.before.line in
     record {
       ready = record {
-        seat = kept_seat r t None (suc m) at.seat;
+        seat = kept_seat r t None (suc m) h.before.seat;
         free = ap (λ b. b.line) rest;
-        pocket = sym (ap (λ b. b.pocket) rest ∙ at.empty);
+        pocket = sym (ap (λ b. b.pocket) rest ∙ empty_before r t continues N1 h.before);
       };
       same = record { number = h.stored.number; role = h.stored.role };
       pocket = refl;

@@ -11,7 +11,7 @@ use Rattle.node_arena.specs.Traces.{Event}
 use Rattle.node_arena.specs.Prologues.{Prologue, continues}
 use Rattle.node_arena.specs.declared.arena.Arena.{Arena}
 use Rattle.node_arena.specs.declared.seats.Seat.{Seat}
-use Rattle.node_arena.specs.Seats.{KeepsStored, DidStep, view}
+use Rattle.node_arena.specs.Seats.{IsBefore, KeepsStored, DidStep, view}
 use Rattle.node_arena.specs.Turns.{failed_at, failed_turns, at_n1}
 use Rattle.node_arena.specs.Paths.{ExtendsPath, Passes}
 use Rattle.node_arena.proofs.Paths.{pass_then, then_stored, failed_snoc, event, walk_on, pass_on, to_is, ended_at, stopped_at, failed_last, now_sole}
@@ -19,7 +19,7 @@ use Rattle.free_list.specs.declared.outcomes.Actor.{Actor as Running}
 use Rattle.free_list.specs.declared.outcomes.Outcome.{Outcome}
 use Rattle.free_list.specs.declared.outcomes.Outcome.TheVariants.{Goes, Ends, Freed}
 use Rattle.free_list.specs.declared.outcomes.Turn.TheVariants.{Refused}
-use Rattle.free_list.specs.Runs.{in_hand, turn_of, CallIsAt, StartsTake, Follows}
+use Rattle.free_list.specs.Runs.{in_hand, turn_of, CallIsAt, Follows}
 use Rattle.free_list.specs.Takes.{Got, Fell, Turned, Turns}
 use Rattle.free_list.proofs.Standing.{after_n1, Ended, Second, after_n2, after_n3, Holding, after_n4, after_n5}
 
@@ -34,11 +34,8 @@ unfolding actor_or
 same_actor l k a b e = ap (actor_or a) e
 
 -- at the start of a turn a call knows nothing of its registers
-pub any_registers : (r : Arena) (t : Seat) (prologue : Prologue) (a : Running) → StartsTake r t prologue → CallIsAt r t prologue N1 a
-any_registers r t prologue a h = record { seat = h.seat; can = h.can; line = h.line; empty = h.empty; knows = tt }
-
-starts : (r : Arena) (t : Seat) (prologue : Prologue) (a : Running) → CallIsAt r t prologue N1 a → StartsTake r t prologue
-starts r t prologue a h = record { seat = h.seat; can = h.can; line = h.line; empty = h.empty }
+pub any_registers : (r : Arena) (t : Seat) (prologue : Prologue) (a : Running) → IsBefore r t prologue N1 → CallIsAt r t prologue N1 a
+any_registers r t prologue a h = record { before = h; knows = tt }
 
 none_with_node : (k : Kind) (o : Option Line) → o ≡ Some (with_node k) → at_n1 o ≡ 0
 none_with_node TwoLock o e = ap at_n1 e
@@ -55,20 +52,19 @@ module _ (r : Arena) (s t x : Seat) (l : Line) (n : ℕ) (d : DidStep r t x cont
       record {
         seat = d.seat;
         over = o.over;
-        empty = o.empty;
-        node = o.node.node;
-        mark = o.node.mark;
+        node = o.node;
+        mark = o.mark;
         never = (let f = failed_snoc before (event r t x continues l n d) in let z = q (event r t x continues l n d).to ∙ none_with_node r.plan.setup.kind (event r t x continues l n d).to (to_is r t x continues l n d ∙ o.over) in omega arith);
         there = ended_at r t x continues l n d s before _ w o.there;
-        sole = now_sole r t x continues l n d h.node o.node.held o.node.node o.node.some;
+        sole = now_sole r t x continues l n d h.node o.held o.node o.some;
       }
 
   -- it failed
   pub fell : (a : Running) → CallIsAt r x continues N1 a → Fell r x lines
   fell a h =
-      let e : failed_at l (view x).actor.line ≡ 1 = q (view x).actor.line ∙ ap at_n1 h.line in
+      let e : failed_at l (view x).actor.line ≡ 1 = q (view x).actor.line ∙ ap at_n1 h.before.line in
       record {
-        stands = starts r x continues a h;
+        before = h.before;
         once = (let f = failed_snoc before (event r t x continues l n d) in let z = ap (failed_at l) (to_is r t x continues l n d) ∙ e in omega arith);
         last = failed_last r t x continues l n d before e;
       }

@@ -22,7 +22,6 @@ IsBack node w = IsFree w node ⊎ (IsSetAside w node × (w.shared.free.count ≡
 pub record LetGo (r : Arena) (t : Seat) (es : List Event) (node : ℕ) : Type 0 where
   pub seat : IsSeat r t
   pub over : (view t).actor.line ≡ Some (dequeues r.plan.setup.kind)
-  pub empty : (view t).actor.pocket ≡ None
   pub never : failed_turns es ≡ 0
   pub back : NowHolds r t (IsBack node)
 

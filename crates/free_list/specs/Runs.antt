@@ -1,16 +1,16 @@
 -- A running call: what it remembers agrees with its seat's actor, line by line.
-use Rattle.std.specs.Prelude.{◌≡◌, ℕ, ◌+◌, ◌<◌, ◌≤◌, true, if◌then◌else◌, nat_eq, nat_lt, Some, None, zero, suc}
+use Rattle.std.specs.Prelude.{◌≡◌, ℕ, ◌+◌, if◌then◌else◌, nat_eq, nat_lt, None, zero, suc}
 use Rattle.counted_ref.specs.Ref.{ref_of, same_ref, is_null}
 use Rattle.line_table.specs.declared.lines.Line.{Line}
-use Rattle.line_table.specs.declared.lines.Line.TheVariants.{N1, N2, N3, N4, N5, F1, F2, F3, E2, A1}
+use Rattle.line_table.specs.declared.lines.Line.TheVariants.{N1, N2, N3, N4, N5, F1, F2, F3}
 use Rattle.history.specs.declared.refusals.WornWord.TheVariants.{Free as OfFree}
 use Rattle.history.specs.declared.refusals.Refusal.TheVariants.{NoNode, WornOut}
 use Rattle.history.specs.declared.operations.Op.TheVariants.{Enq, Deq}
 use Rattle.node_arena.specs.Machine.{Setup, Held, Actor, with_node}
-use Rattle.node_arena.specs.Prologues.{Prologue, continues, begins, after_prologue, CanStart}
+use Rattle.node_arena.specs.Prologues.{Prologue, continues, begins, after_prologue}
 use Rattle.node_arena.specs.declared.arena.Arena.{Arena}
 use Rattle.node_arena.specs.declared.seats.Seat.{Seat}
-use Rattle.node_arena.specs.Seats.{IsSeat, DidStep, view}
+use Rattle.node_arena.specs.Seats.{IsBefore, DidStep, view}
 use Rattle.free_list.specs.declared.outcomes.Actor.{Actor as Running}
 use Rattle.free_list.specs.declared.outcomes.Reply.{Reply}
 use Rattle.free_list.specs.declared.outcomes.Reply.TheVariants.{Refused as IsRefused}
@@ -70,74 +70,31 @@ gave_of Freed = Back
 gave_of (Goes l a) = Again
 gave_of (Ends why) = Again
 
--- a node in hand, with its mark
-pub record HasNode (z : Setup) (b : Actor) (h : Held) : Type 0 where
-  pub node : b.node ≡ h.node
-  pub mark : b.mark ≡ h.mark
-  pub held : b.holds ≡ true
-  pub some : 1 ≤ h.node
-  pub inside : h.node ≤ z.size
-  pub small : h.mark ≤ z.limit
-
--- a reference to the first free node that can be changed
-pub record HasTop (z : Setup) (b : Actor) (a : Running) : Type 0 where
-  pub top : b.top ≡ a.top
-  pub room : a.top.count < z.limit
-
--- the same where there is a free node
-pub record HasFree (z : Setup) (b : Actor) (a : Running) : Type 0 where
-  pub top : HasTop z b a
-  pub some : 1 ≤ a.top.node
-  pub inside : a.top.node ≤ z.size
-
 -- an actor that frees the node in its hand, before a dequeue
 pub record Frees (b : Actor) (h : Held) : Type 0 where
   pub node : b.node ≡ h.node
   pub mark : b.mark ≡ h.mark
-  pub held : b.holds ≡ true
   pub early : b.due ≡ None
 
--- the same where node and mark are known to be in range
-pub record FreesOne (z : Setup) (b : Actor) (h : Held) : Type 0 where
-  pub frees : Frees b h
-  pub some : 1 ≤ h.node
-  pub inside : h.node ≤ z.size
-  pub small : h.mark ≤ z.limit
+-- which of its actor's registers a running call has before a line
+abbrev pub AgreesAt : Line → Actor → Running → Type 0
+AgreesAt N2 b a = b.f ≡ a.f
+AgreesAt N3 b a = b.top ≡ a.top
+AgreesAt N4 b a = (b.top ≡ a.top) × (b.next ≡ a.next)
+AgreesAt N5 b a = b.f ≡ a.f
+AgreesAt F1 b a = Frees b (in_hand a)
+AgreesAt F2 b a = Frees b (in_hand a) × (b.top ≡ a.top)
+AgreesAt F3 b a = Frees b (in_hand a) × (b.top ≡ a.top)
+AgreesAt l b a = Unit {0}
 
--- what a running call knows of its actor's registers before a line
-abbrev pub AgreesAt : Setup → Line → Actor → Running → Type 0
-AgreesAt z N2 b a = b.f ≡ a.f
-AgreesAt z N3 b a = HasFree z b a
-AgreesAt z N4 b a = HasFree z b a × (b.next ≡ a.next)
-AgreesAt z N5 b a = (b.f ≡ a.f) × (a.f < z.size)
-AgreesAt z F1 b a = Frees b (in_hand a)
-AgreesAt z F2 b a = FreesOne z b (in_hand a) × HasTop z b a
-AgreesAt z F3 b a = FreesOne z b (in_hand a) × HasTop z b a
-AgreesAt z E2 b a = HasNode z b (in_hand a)
-AgreesAt z A1 b a = HasNode z b (in_hand a)
-AgreesAt z l b a = Unit {0}
-
--- a seat's actor, led there, stands before a line with an empty pocket, and the call knows its registers
+-- a seat's actor, led there, stands before a line, and the call has its registers
 pub record CallIsAt (r : Arena) (s : Seat) (prologue : Prologue) (l : Line) (a : Running) : Type 0 where
-  pub seat : IsSeat r s
-  pub can : CanStart prologue (view s).actor
-  pub line : (after_prologue r.plan.setup (view s).number prologue (view s).actor).line ≡ Some l
-  pub empty : (after_prologue r.plan.setup (view s).number prologue (view s).actor).pocket ≡ None
-  pub knows : AgreesAt r.plan.setup l (after_prologue r.plan.setup (view s).number prologue (view s).actor) a
-
--- a seat's actor, led there, stands at the start of a take's turn
-pub record StartsTake (r : Arena) (s : Seat) (prologue : Prologue) : Type 0 where
-  pub seat : IsSeat r s
-  pub can : CanStart prologue (view s).actor
-  pub line : (after_prologue r.plan.setup (view s).number prologue (view s).actor).line ≡ Some N1
-  pub empty : (after_prologue r.plan.setup (view s).number prologue (view s).actor).pocket ≡ None
+  pub before : IsBefore r s prologue l
+  pub knows : AgreesAt l (after_prologue r.plan.setup (view s).number prologue (view s).actor) a
 
 -- a seat's actor, led there, stands at the start of a give back's turn, with its node
 pub record StartsGive (r : Arena) (s : Seat) (prologue : Prologue) (h : Held) : Type 0 where
-  pub seat : IsSeat r s
-  pub can : CanStart prologue (view s).actor
-  pub line : (after_prologue r.plan.setup (view s).number prologue (view s).actor).line ≡ Some F1
-  pub empty : (after_prologue r.plan.setup (view s).number prologue (view s).actor).pocket ≡ None
+  pub before : IsBefore r s prologue F1
   pub frees : Frees (after_prologue r.plan.setup (view s).number prologue (view s).actor) h
 
 -- the seat made its step at a line, and the call made of the number found what the line says

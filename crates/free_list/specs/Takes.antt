@@ -1,5 +1,6 @@
 -- What a turn of a take leads to, and what a take answers.
 use Rattle.std.specs.Prelude.{◌≡◌, ℕ, ◌<◌, ◌≤◌, ◌⊎◌, List, Some, None, Result, Err, MatchResult, IfOk, IfErr}
+use Rattle.line_table.specs.declared.lines.Line.TheVariants.{N1}
 use Rattle.history.specs.declared.refusals.WornWord.TheVariants.{Free as OfFree}
 use Rattle.history.specs.declared.refusals.Refusal.{Refusal}
 use Rattle.history.specs.declared.refusals.Refusal.TheVariants.{NoNode, WornOut, Busy}
@@ -8,12 +9,12 @@ use Rattle.node_arena.specs.Traces.{Event}
 use Rattle.node_arena.specs.Prologues.{continues}
 use Rattle.node_arena.specs.declared.arena.Arena.{Arena}
 use Rattle.node_arena.specs.declared.seats.Seat.{Seat}
-use Rattle.node_arena.specs.Seats.{IsSeat, IsReady, KeepsStored, KeepsName, view, pocket_of, failed_of}
+use Rattle.node_arena.specs.Seats.{IsSeat, IsBefore, IsReady, KeepsStored, KeepsName, view, pocket_of, failed_of}
 use Rattle.node_arena.specs.Turns.{failed_turns}
 use Rattle.node_arena.specs.Paths.{Passes, HadNoEffect, SeesNoMore, added, EndedAt, FailedAt, LastHeld, NowHolds, IsRefusedAt, MetCause, EndsFailed, IsSole}
 use Rattle.free_list.specs.declared.outcomes.Turn.{Turn}
 use Rattle.free_list.specs.declared.outcomes.Turn.TheVariants.{Took, Failed, Refused}
-use Rattle.free_list.specs.Runs.{StartsTake, taking}
+use Rattle.free_list.specs.Runs.{taking}
 
 -- a node was free or was never used
 abbrev pub WasThere : ℕ → World → Type 0
@@ -45,7 +46,6 @@ IsRefusedBy why = (why ≡ NoNode) ⊎ (why ≡ WornOut OfFree)
 pub record Got (r : Arena) (s t : Seat) (es : List Event) (h : Held) : Type 0 where
   pub seat : IsSeat r t
   pub over : (view t).actor.line ≡ Some (with_node r.plan.setup.kind)
-  pub empty : (view t).actor.pocket ≡ None
   pub node : (view t).actor.node ≡ h.node
   pub mark : (view t).actor.mark ≡ h.mark
   pub never : failed_turns es ≡ 0
@@ -54,7 +54,7 @@ pub record Got (r : Arena) (s t : Seat) (es : List Event) (h : Held) : Type 0 wh
 
 -- a turn that failed
 pub record Fell (r : Arena) (t : Seat) (es : List Event) : Type 0 where
-  pub stands : StartsTake r t continues
+  pub before : IsBefore r t continues N1
   pub once : failed_turns es ≡ 1
   pub last : FailedAt es
 
@@ -82,7 +82,7 @@ pub record Turns (r : Arena) (s t : Seat) (out : Turn) : Type 0 where
 
 -- a take after so many failed turns
 pub record Trying (r : Arena) (s t : Seat) (n : ℕ) : Type 0 where
-  pub stands : StartsTake r t (taking n)
+  pub before : IsBefore r t (taking n) N1
   pub stored : KeepsStored s t
   pub lines : List Event
   pub walks : Passes (view s) (view t) lines

@@ -1,12 +1,12 @@
 //! Takes a node.
 ghost use Rattle.std.specs.Prelude.{◌≡◌, ◌≤◌, Some, None, MatchResult, IfOk, IfErr};
 ghost use Rattle.history.specs.Seats.{IsSound};
-ghost use Rattle.node_arena.specs.Seats.{IsReady, KeepsName, permits_of, known_of, pocket_of, failed_of};
+ghost use Rattle.node_arena.specs.Seats.{IsBefore, IsReady, KeepsName, permits_of, known_of, pocket_of, failed_of};
 ghost use Rattle.node_arena.specs.Turns.{failed_turns};
 ghost use Rattle.node_arena.specs.Paths.{HadNoEffect, SeesNoMore, added};
 ghost use Rattle.line_table.specs.declared.lines.Line.TheVariants as lines;
 ghost use Rattle.node_arena.specs.Prologues.{Prologue, continues};
-ghost use Rattle.free_list.specs.Runs.{CallIsAt, Follows, StartsTake, taking};
+ghost use Rattle.free_list.specs.Runs.{CallIsAt, Follows, taking};
 ghost use Rattle.free_list.specs.Takes.{Turns, AnswersTake, IsTaken, TakeRefused, FailsFewer};
 
 use crate::outcomes::{
@@ -82,7 +82,7 @@ fn n5(arena: &Arena, seat: &mut Seat, mut a: Actor) -> Outcome
 
 // One turn, where `index` turns of this call failed before.
 fn take_turn(arena: &Arena, seat: &mut Seat, index: u32) -> Turn
-    requires { StartsTake arena.now seat.old (taking index) }
+    requires { IsBefore arena.now seat.old (taking index) lines.N1 }
     ensures { Turns arena.now seat.old seat.new result }
 {
     let Outcome::Goes(_, a) = n1(arena, seat, registers(0, 0), index) else {

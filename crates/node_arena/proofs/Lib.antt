@@ -8,6 +8,7 @@ pub mod Paths
 pub mod Reading
 pub mod Seens
 pub mod There
+pub mod Known
 pub mod Rooms
 pub mod StepsPreserve
 pub mod Counting

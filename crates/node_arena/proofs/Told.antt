@@ -7,7 +7,6 @@ use Rattle.line_table.specs.declared.lines.Kind.{Kind}
 use Rattle.line_table.specs.declared.lines.Kind.TheVariants.{TwoLock, NonBlocking}
 use Rattle.counted_ref.specs.Ref.{Ref}
 use Rattle.line_table.specs.declared.lines.Line.{Line}
-use Rattle.line_table.specs.declared.lines.Line.TheVariants.{F2}
 use Rattle.history.specs.declared.refusals.Refusal.{Refusal}
 use Rattle.history.specs.declared.refusals.Refusal.TheVariants.{WornOut}
 use Rattle.history.specs.declared.refusals.WornWord.TheVariants.{Free as OfFree, Next as OfNext, Tail as OfTail, Head as OfHead}
@@ -123,14 +122,6 @@ first_is_free w r some =
     let p : HasItsPlaces w = places_of w r in
     let c = chain_some w.shared.nodes w.shared.free.node p.1 some p.2.free_chain in
     (p.1, p.2.free_chain, subst (λ ns. Contains ns w.shared.free.node) (sym c.1) (0, omega arith, refl))
-
--- an actor before F2 has one of the nodes
-pub names_next : (w : World) (me : ℕ) (a : Actor) → IsReached w → actor_of w me ≡ Some a → a.line ≡ Some F2 → (1 ≤ a.node) × (a.node ≤ w.setup.size)
-names_next w me a r there line =
-    let named = non_blocking.each_access_names_a_word w r me a F2 there line in
-    let h = (reached_in_range w r).shared.all_nodes in
-    let low = named.1 in
-    (named.0, omega arith)
 
 -- a raised reference names the other node, below the limit
 pub raised_names : (s : Setup) (x : Ref) (to : ℕ) → x.count ≢ s.limit → (raised s x to).node ≡ to

@@ -126,6 +126,12 @@ HasRoom s D13 = s.pops + 1 < 2 ^ 64
 HasRoom s B5 = s.pops + 1 < 2 ^ 64
 HasRoom s l = Unit {0}
 
+-- a seat's actor, led there, stands before a line
+pub record IsBefore (r : Arena) (s : Seat) (prologue : Prologue) (l : Line) : Type 0 where
+  pub seat : IsSeat r s
+  pub can : CanStart prologue (view s).actor
+  pub line : (after_prologue r.plan.setup (view s).number prologue (view s).actor).line ≡ Some l
+
 -- the seat's next move by the rule is this step on a word, at this line, with these moves before it, and the seat's role
 -- permits it
 pub record MayStep (r : Arena) (s : Seat) (prologue : Prologue) (l : Line) (x : WordStep) : Type 0 where

@@ -1,0 +1,5 @@
+use Rattle.free_list.proofs.Steps.{mark_f2}
+use Rattle.free_list.proofs.giving.f2.Goals as goal
+
+pub line_table-new-requires-clause-count : goal.line_table-new-requires-clause-count
+line_table-new-requires-clause-count c = mark_f2 c.args.arena.now c.args.seat.now c.args.a c.requires

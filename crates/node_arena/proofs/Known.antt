@@ -1,0 +1,75 @@
+-- What the machine's invariant has of a seat's actor before a line, in either queue: a call that runs needn't carry it.
+use Rattle.std.proofs.Common.{◌≡◌, ℕ, ◌≤◌, ◌<◌, Some, None, IfSome, length, refl, subst}
+use Rattle.line_table.specs.declared.lines.Kind.{Kind}
+use Rattle.line_table.specs.declared.lines.Kind.TheVariants.{TwoLock, NonBlocking}
+use Rattle.line_table.specs.declared.lines.Line.{Line}
+use Rattle.line_steps.specs.declared.actors.Setup.{Setup}
+use Rattle.line_steps.specs.declared.actors.Actor.{Actor}
+use Rattle.step_machine.specs.Machine.{World, IsReached, actor_of}
+use Rattle.step_machine.specs.Range.{RegistersInRange, LineInRange, ActorInRange, WorldInRange}
+use Rattle.step_machine.specs.ProgramCounters.{NonNullAt, IsAtLine}
+use Rattle.step_machine.specs.EachQueue.{raised_at}
+use Rattle.step_machine.proofs.Reached.{reached_in_range, actor_in_range}
+use Rattle.step_machine.proofs.Fixed.{FixedAt}
+use Rattle.step_machine.proofs.TwoLockInvariant as two_lock
+use Rattle.step_machine.proofs.TwoLockLaws as two_lock_laws
+use Rattle.step_machine.proofs.NonBlockingInvariant as non_blocking
+use Rattle.step_machine.proofs.NonBlockingLaws as non_blocking_laws
+use Rattle.node_arena.specs.Prologues.{Prologue, after_prologue}
+use Rattle.node_arena.specs.declared.arena.Arena.{Arena}
+use Rattle.node_arena.specs.declared.seats.Seat.{Seat}
+use Rattle.node_arena.specs.Seats.{IsBefore, view}
+use Rattle.node_arena.proofs.Tracing.{traced_reached}
+use Rattle.node_arena.proofs.There.{Stood, stood}
+
+-- hand, pocket and what is due, the registers that hold nodes, the count that may be raised, and the ranges
+pub record Known (z : Setup) (me : ℕ) (a : Actor) (l : Line) : Type 0 where
+  pub fixed : FixedAt z.limit me a (Some l)
+  pub some : NonNullAt l a
+  pub room : IfSome (raised_at l a) (λ r. r.count < z.limit)
+  pub used : ℕ
+  pub actors : ℕ
+  pub within : used ≤ z.size
+  pub registers : RegistersInRange z used actors a
+  pub left : LineInRange z.size a.f (Some l)
+
+module _ (w : World) (r : IsReached w) (me : ℕ) (a : Actor) (l : Line) (is : actor_of w me ≡ Some a) (at : a.line ≡ Some l) where
+  abbrev FromQueue : Type 0
+  FromQueue = FixedAt w.setup.limit me a (Some l) × NonNullAt l a × IfSome (raised_at l a) (λ x. x.count < w.setup.limit)
+
+  from_queue : (k : Kind) → w.setup.kind ≡ k → FromQueue
+  from_queue TwoLock e =
+      let p : two_lock.ReachedInvariant (λ w q. Unit {0}) (λ w k. Unit {0}) w = two_lock.reached_invariant w r e in
+      (subst (FixedAt w.setup.limit me a) at (p.sound.actors me a is).fixed, (two_lock.nodes_at w r e me a l is at).1, two_lock_laws.raise_below_the_limit w r e me a l is at)
+  from_queue NonBlocking e =
+      let p : non_blocking.ReachedInvariant (λ w q. Unit {0}) (λ w k. Unit {0}) w = non_blocking.reached_invariant w r e in
+      let here : IsAtLine w.setup.kind a (Some l) = subst (IsAtLine w.setup.kind a) at (p.sound.actors me a is).stands.line in
+      (subst (FixedAt w.setup.limit me a) at (p.sound.actors me a is).fixed, here.1, non_blocking_laws.raise_below_the_limit w r e me a l is at)
+
+  -- in a reached world
+  pub known : Known w.setup me a l
+  known =
+      let q : FromQueue = from_queue w.setup.kind refl in
+      let all : WorldInRange w = reached_in_range w r in
+      let own : ActorInRange w.setup w.shared.fresh (length w.actors) a = actor_in_range w me a all is in
+      record {
+        fixed = q.0;
+        some = q.1;
+        room = q.2;
+        used = w.shared.fresh;
+        actors = length w.actors;
+        within = all.shared.fresh;
+        registers = own.registers;
+        left = subst (LineInRange w.setup.size a.f) at own.line;
+      }
+
+-- of the actor of a seat that stands before a line
+pub known_before : (r : Arena) (s : Seat) (prologue : Prologue) (l : Line) → IsBefore r s prologue l → Known r.plan.setup (view s).number (after_prologue r.plan.setup (view s).number prologue (view s).actor) l
+known_before r s prologue l h =
+    let b : Actor = after_prologue r.plan.setup (view s).number prologue (view s).actor in
+    let d : Stood r.plan (view s).number b l = stood r.plan (view s) prologue l h.seat.sits.fitted h.can h.line in
+    subst (λ (x : Setup). Known x (view s).number b l) d.setup (known d.trace.world (traced_reached d.trace d.reached) (view s).number b l d.here d.line)
+
+-- its pocket is empty
+pub empty_before : (r : Arena) (s : Seat) (prologue : Prologue) (l : Line) → IsBefore r s prologue l → (after_prologue r.plan.setup (view s).number prologue (view s).actor).pocket ≡ None
+empty_before r s prologue l h = (known_before r s prologue l h).fixed.pocket
