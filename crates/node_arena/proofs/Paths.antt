@@ -8,14 +8,14 @@ use Rattle.history.specs.declared.operations.Reply.TheVariants.{Refused}
 use Rattle.history.specs.declared.refusals.Refusal.{Refusal}
 use Rattle.history.specs.Answers.{SeesMore}
 use Rattle.history.proofs.Learning.{adds_then}
-use Rattle.node_arena.specs.Machine.{Held, Actor, World, actor_of, action, found}
+use Rattle.node_arena.specs.Machine.{Held, Actor, Outcome, World, actor_of, entry_or, action, found}
 use Rattle.node_arena.specs.Traces.{Event, Traced, entries_at, event_at, outcome_at, sees, step_at}
-use Rattle.node_arena.specs.Prologues.{Prologue, after_prologue}
+use Rattle.node_arena.specs.Prologues.{Prologue, continues, after_prologue}
 use Rattle.node_arena.specs.Seeing.{SeatView, known_by}
 use Rattle.node_arena.specs.declared.arena.Arena.{Arena}
 use Rattle.node_arena.specs.declared.seats.Seat.{Seat}
 use Rattle.node_arena.specs.Rule.{notes_of}
-use Rattle.node_arena.specs.Seats.{IsSeat, KeepsStored, DidStep, view, keeping}
+use Rattle.node_arena.specs.Seats.{IsSeat, IsBefore, KeepsStored, DidStep, view, keeping}
 use Rattle.node_arena.specs.Turns.{failed_at, failed_turns}
 use Rattle.node_arena.specs.Paths.{ExtendsPath, Passes, Acts, added, EndedAt, FailedAt, EndsFailed, IsRefusedAt, LastHeld, MetCause, NowHolds, IsSole}
 use Rattle.node_arena.proofs.Tracing.{step_count, traced_reached}
@@ -145,6 +145,16 @@ module _ (r : Arena) (s t : Seat) (prologue : Prologue) (l : Line) (n : ℕ) (d 
 
   abbrev pub after : Traced
   after = step_at d.told.was (view s).number b l
+
+  -- what is so of its outcome's actor, whichever operation that is in, is so of the seat's actor
+  pub settled : (o : Outcome) → outcome_at r.plan.setup d.told.was (view s).number b l ≡ o → (P : Actor → Type 0) → ((x : Option ℕ) → P (record o.actor { entry = x })) → P (view t).actor
+  settled o e P p =
+      let x : Option ℕ = Some (entry_or b.entry (length d.told.was.world.operations)) in
+      subst P (sym (d.told.actor ∙ ap (λ (q : Outcome). record q.actor { entry = x }) e)) (p x)
+
+  -- where that actor goes on at a line, the seat stands before it
+  pub goes_on : (o : Outcome) → outcome_at r.plan.setup d.told.was (view s).number b l ≡ o → (k : Line) → o.actor.line ≡ Some k → IsBefore r t continues k
+  goes_on o e k line = record { seat = d.seat; can = tt; line = settled o e (λ a. a.line ≡ Some k) (λ x. line) }
 
   -- it added no entry and noted nothing
   pub walk_one : entries_at r.plan.setup d.told.was (view s).number b l ≡ [] → notes_of (outcome_at r.plan.setup d.told.was (view s).number b l).reply (view t).seen ≡ [] → ExtendsPath (view s) (view t) (event ∷ [])

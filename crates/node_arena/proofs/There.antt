@@ -1,7 +1,5 @@
 -- The access of a seat's next step names a word of its table.
-use Rattle.std.proofs.Common.{◌≡◌, ℕ, ◌+◌, ◌*◌, ◌<◌, length, Some, IfSome, refl, ap, subst, ◌∙◌, arith}
-use Rattle.line_table.specs.declared.lines.Kind.{Kind}
-use Rattle.line_table.specs.declared.lines.Kind.TheVariants.{TwoLock, NonBlocking}
+use Rattle.std.proofs.Common.{◌≡◌, ℕ, ◌+◌, ◌*◌, ◌<◌, length, Some, ap, subst, ◌∙◌, arith}
 use Rattle.line_table.specs.declared.lines.Line.{Line}
 use Rattle.line_steps.specs.declared.actors.Setup.{Setup}
 use Rattle.line_steps.specs.declared.actors.Actor.{Actor}
@@ -10,11 +8,8 @@ use Rattle.line_steps.specs.Lines.{action}
 use Rattle.step_machine.specs.Words.{index, IsWord}
 use Rattle.step_machine.specs.Tables.{word_index, word_step}
 use Rattle.step_machine.specs.Machine.{actor_of}
-use Rattle.step_machine.specs.EachQueue.{raised_at}
 use Rattle.step_machine.proofs.Tables.{place-word_step}
 use Rattle.step_machine.proofs.Reached.{reached_in_range}
-use Rattle.step_machine.proofs.TwoLockLaws as two_lock
-use Rattle.step_machine.proofs.NonBlockingLaws as non_blocking
 use Rattle.step_machine.proofs.NonBlockingLaws.{each_access_names_a_word}
 use Rattle.node_arena.specs.Traces.{Traced, IsTraced}
 use Rattle.node_arena.specs.Prologues.{Prologue, after_prologue, CanStart}
@@ -59,11 +54,3 @@ place_within z me a l s =
     let less : index (word (action z.setup me a l)) < 6 + 2 * length w.shared.nodes = within w.shared (word (action z.setup me a l)) named in
     let at : word_index (word_step (action z.setup me a l)) ≡ index (word (action z.setup me a l)) = place-word_step (action z.setup me a l) in
     omega arith
-
--- a count that the line may raise is below the limit
-pub raise_room : (z : Layout) (me : ℕ) (a : Actor) (l : Line) → Stood z me a l → IfSome (raised_at l a) (λ r. r.count < z.setup.limit)
-raise_room z me a l s = subst (λ (x : Setup). IfSome (raised_at l a) (λ r. r.count < x.limit)) s.setup (below s.trace.world.setup.kind refl)
-  where
-    below : (k : Kind) → s.trace.world.setup.kind ≡ k → IfSome (raised_at l a) (λ r. r.count < s.trace.world.setup.limit)
-    below TwoLock k = two_lock.raise_below_the_limit s.trace.world (traced_reached s.trace s.reached) k me a l s.here s.line
-    below NonBlocking k = non_blocking.raise_below_the_limit s.trace.world (traced_reached s.trace s.reached) k me a l s.here s.line

@@ -1,6 +1,5 @@
 -- Where each line of a pop leads.
-use Rattle.std.proofs.Common.{◌≡◌, ◌≢◌, ℕ, ◌+◌, ◌<◌, Bool, true, false, nat_eq, if◌then◌else◌, Some, None, length, [], ◌∷◌, sym, refl, ap, ◌∙◌, arith}
-use Rattle.std.proofs.lemmas.Bool.{eqb-false}
+use Rattle.std.proofs.Common.{◌≡◌, ℕ, ◌+◌, Bool, true, false, nat_eq, if◌then◌else◌, Option, Some, None, [], ◌∷◌, sym, refl, ap, ◌∙◌}
 use Rattle.counted_ref.specs.Ref.{Ref, ref_of, is_null, same_ref}
 use Rattle.line_table.specs.declared.lines.Line.{Line}
 use Rattle.line_table.specs.declared.lines.Line.TheVariants.{D2, D3, D4, D5, D10, D12, D13, F1}
@@ -9,19 +8,21 @@ use Rattle.history.specs.declared.operations.Reply.TheVariants as reply
 use Rattle.history.specs.declared.refusals.Refusal.{Refusal}
 use Rattle.history.specs.declared.refusals.Refusal.TheVariants.{WornOut}
 use Rattle.history.specs.declared.refusals.WornWord.TheVariants.{Head as OfHead, Tail as OfTail}
-use Rattle.node_arena.specs.Machine.{Setup, Actor, Outcome as MachineOutcome, goes, ends, worn, fills_hand, entry_or}
+use Rattle.node_arena.specs.Machine.{Actor, Outcome as MachineOutcome, goes, ends, worn, fills_hand}
 use Rattle.node_arena.specs.Traces.{outcome_at, entries_at}
 use Rattle.node_arena.specs.Prologues.{Prologue, continues, after_prologue}
 use Rattle.node_arena.specs.declared.arena.Arena.{Arena}
 use Rattle.node_arena.specs.declared.seats.Seat.{Seat}
-use Rattle.node_arena.specs.Seats.{DidStep, view}
-use Rattle.node_arena.proofs.Told.{actor_was_in_range, head_is_not_worn}
+use Rattle.node_arena.specs.Seats.{IsBefore, DidStep, view}
+use Rattle.node_arena.proofs.Known.{empty_before}
+use Rattle.node_arena.proofs.Paths.{settled, goes_on}
+use Rattle.node_arena.proofs.Told.{head_is_not_worn}
 use Rattle.nonblocking.specs.Values.{IsNonBlocking}
 use Rattle.node_arena.specs.Machine.{value_of}
 use Rattle.nonblocking.specs.declared.pop_outcomes.Actor.{Actor as Running}
 use Rattle.nonblocking.specs.declared.pop_outcomes.Outcome.{Outcome}
 use Rattle.nonblocking.specs.declared.pop_outcomes.Outcome.TheVariants.{Goes, Empty, Refused}
-use Rattle.nonblocking.specs.Pops.{IsBefore, CallIsAt}
+use Rattle.nonblocking.specs.Pops.{AgreesAt, CallIsAt}
 use Rattle.nonblocking.proofs.PopSteps.{ref_d2, ref_d3, ref_d4, ref_d5, value_d12, ref_d13}
 
 -- a pop that is about to read Head knows nothing of its registers
@@ -36,30 +37,22 @@ module _ (r : Arena) (s t : Seat) (prologue : Prologue) (n : ℕ) (a : Running) 
   abbrev out_at : (l : Line) → DidStep r s t prologue l n → MachineOutcome
   out_at l d = outcome_at r.plan.setup d.told.was (view s).number b l
 
-  -- the actor after a step with this outcome
-  settled_as : (l : Line) (d : DidStep r s t prologue l n) (o : MachineOutcome) → out_at l d ≡ o → (view t).actor ≡ record o.actor { entry = Some (entry_or b.entry (length d.told.was.world.operations)) }
-  settled_as l d o e = d.told.actor ∙ ap (λ (p : MachineOutcome). record p.actor { entry = Some (entry_or b.entry (length d.told.was.world.operations)) }) e
+  -- a step with this outcome leads on to a line
+  leads : (l : Line) (d : DidStep r s t prologue l n) (o : MachineOutcome) → out_at l d ≡ o → (k : Line) (c : Running) → o.actor.line ≡ Some k → ((x : Option ℕ) → AgreesAt k (record o.actor { entry = x }) c) → CallIsAt r t continues k c
+  leads l d o e k c line knows = record { before = goes_on r s t prologue l n d o e k line; knows = settled r s t prologue l n d o e (λ x. AgreesAt k x c) knows }
+
+  -- a call that ends has an empty pocket, where its outcome keeps that of its actor
+  over : (l : Line) → CallIsAt r s prologue l a → (d : DidStep r s t prologue l n) (o : MachineOutcome) → out_at l d ≡ o → o.actor.line ≡ None → o.actor.pocket ≡ b.pocket → ((view t).actor.line ≡ None) × ((view t).actor.pocket ≡ None)
+  over l h d o e line pocket = settled r s t prologue l n d o e (λ x. (x.line ≡ None) × (x.pocket ≡ None)) (λ x. (line, pocket ∙ empty_before r s prologue l h.before))
 
   pub after_d2 : CallIsAt r s prologue D2 a → DidStep r s t prologue D2 n → CallIsAt r t continues D3 (record a { head = ref_of n })
-  after_d2 h d =
-      record {
-        before = record { seat = d.seat; can = tt; line = ap (λ x. x.line) d.told.actor; empty = ap (λ x. x.pocket) d.told.actor ∙ h.before.empty };
-        knows = ap (λ x. x.head) d.told.actor ∙ sym (ref_d2 r s t prologue n d).0;
-      }
+  after_d2 h d = leads D2 d (out_at D2 d) refl D3 (record a { head = ref_of n }) refl (λ x. sym (ref_d2 r s t prologue n d).0)
 
   pub after_d3 : CallIsAt r s prologue D3 a → DidStep r s t prologue D3 n → CallIsAt r t continues D4 (record a { tail = ref_of n })
-  after_d3 h d =
-      record {
-        before = record { seat = d.seat; can = tt; line = ap (λ x. x.line) d.told.actor; empty = ap (λ x. x.pocket) d.told.actor ∙ h.before.empty };
-        knows = (ap (λ x. x.head) d.told.actor ∙ h.knows, ap (λ x. x.tail) d.told.actor ∙ sym (ref_d3 r s t prologue n d).0);
-      }
+  after_d3 h d = leads D3 d (out_at D3 d) refl D4 (record a { tail = ref_of n }) refl (λ x. (h.knows, sym (ref_d3 r s t prologue n d).0))
 
   pub after_d4 : CallIsAt r s prologue D4 a → DidStep r s t prologue D4 n → CallIsAt r t continues D5 (record a { next = ref_of n })
-  after_d4 h d =
-      record {
-        before = record { seat = d.seat; can = tt; line = ap (λ x. x.line) d.told.actor; empty = ap (λ x. x.pocket) d.told.actor ∙ h.before.empty };
-        knows = (ap (λ x. x.head) d.told.actor ∙ h.knows.0, ap (λ x. x.tail) d.told.actor ∙ h.knows.1, ap (λ x. x.next) d.told.actor ∙ sym (ref_d4 r s t prologue n d).0);
-      }
+  after_d4 h d = leads D4 d (out_at D4 d) refl D5 (record a { next = ref_of n }) refl (λ x. (h.knows.0, h.knows.1, sym (ref_d4 r s t prologue n d).0))
 
   -- after D5: the turn goes on, in silence
   pub record On (d : DidStep r s t prologue D5 n) (l : Line) (c : Running) : Type 0 where
@@ -109,51 +102,30 @@ module _ (r : Arena) (s t : Seat) (prologue : Prologue) (n : ℕ) (a : Running) 
     pub after_d5 : Fifth d (fifth (same_ref (ref_of n) a.head) (nat_eq a.head.node a.tail.node) (is_null a.next) (nat_eq a.tail.count r.plan.setup.limit))
     after_d5 = go (same_ref (ref_of n) a.head) (nat_eq a.head.node a.tail.node) (is_null a.next) (nat_eq a.tail.count r.plan.setup.limit) refl refl refl refl
       where
+        now : ℕ
+        now = d.told.was.world.steps + 1
+
         go : (p q u w : Bool) → same_ref (ref_of n) a.head ≡ p → nat_eq a.head.node a.tail.node ≡ q → is_null a.next ≡ u → nat_eq a.tail.count r.plan.setup.limit ≡ w → Fifth d (fifth p q u w)
         go false q u w e f g k =
             let is = fifth_is false q u w e f g k in
-            let o = settled_as D5 d (fifth_outcome (d.told.was.world.steps + 1) false q u w) is in
-            record {
-              stands = record { before = record { seat = d.seat; can = tt; line = ap (λ x. x.line) o; empty = ap (λ x. x.pocket) o ∙ h.before.empty }; knows = tt };
-              same = refl;
-              quiet = ap (λ x. x.reply) is;
-            }
+            record { stands = leads D5 d (fifth_outcome now false q u w) is D2 a refl (λ x. tt); same = refl; quiet = ap (λ x. x.reply) is }
         go true false u w e f g k =
             let is = fifth_is true false u w e f g k in
-            let o = settled_as D5 d (fifth_outcome (d.told.was.world.steps + 1) true false u w) is in
-            record {
-              stands = record {
-                before = record { seat = d.seat; can = tt; line = ap (λ x. x.line) o; empty = ap (λ x. x.pocket) o ∙ h.before.empty };
-                knows = (ap (λ x. x.head) o ∙ h.knows.0, ap (λ x. x.next) o ∙ h.knows.2);
-              };
-              same = refl;
-              quiet = ap (λ x. x.reply) is;
-            }
+            record { stands = leads D5 d (fifth_outcome now true false u w) is D12 a refl (λ x. (h.knows.0, h.knows.2)); same = refl; quiet = ap (λ x. x.reply) is }
         go true true true w e f g k =
             let is = fifth_is true true true w e f g k in
-            let o = settled_as D5 d (fifth_outcome (d.told.was.world.steps + 1) true true true w) is in
-            record { over = ap (λ x. x.line) o; empty = ap (λ x. x.pocket) o ∙ h.before.empty; replies = ap (λ x. x.reply) is }
+            let o = over D5 h d (fifth_outcome now true true true w) is refl refl in
+            record { over = o.0; empty = o.1; replies = ap (λ x. x.reply) is }
         go true true false true e f g k =
             let is = fifth_is true true false true e f g k in
-            let o = settled_as D5 d (fifth_outcome (d.told.was.world.steps + 1) true true false true) is in
-            record { over = ap (λ x. x.line) o; empty = ap (λ x. x.pocket) o ∙ h.before.empty; replies = ap (λ x. x.reply) is; is = refl }
+            let o = over D5 h d (fifth_outcome now true true false true) is refl refl in
+            record { over = o.0; empty = o.1; replies = ap (λ x. x.reply) is; is = refl }
         go true true false false e f g k =
             let is = fifth_is true true false false e f g k in
-            let o = settled_as D5 d (fifth_outcome (d.told.was.world.steps + 1) true true false false) is in
-            let low = (actor_was_in_range r.plan prologue D5 n (view s) (view t) d.told).registers.tail.count in
-            let unworn : a.tail.count ≢ r.plan.setup.limit = eqb-false a.tail.count r.plan.setup.limit k in
-            let room : a.tail.count < r.plan.setup.limit = omega (arith, low, unworn, ap (λ (x : Ref). x.count) h.knows.1, ap (λ (z : Setup). z.limit) d.told.setup) in
-            record {
-              stands = record {
-                before = record { seat = d.seat; can = tt; line = ap (λ x. x.line) o; empty = ap (λ x. x.pocket) o ∙ h.before.empty };
-                knows = (ap (λ x. x.tail) o ∙ h.knows.1, ap (λ x. x.next) o ∙ h.knows.2, room);
-              };
-              same = refl;
-              quiet = ap (λ x. x.reply) is;
-            }
+            record { stands = leads D5 d (fifth_outcome now true true false false) is D10 a refl (λ x. (h.knows.1, h.knows.2)); same = refl; quiet = ap (λ x. x.reply) is }
 
   pub after_d10 : CallIsAt r s prologue D10 a → DidStep r s t prologue D10 n → IsBefore r t continues D2
-  after_d10 h d = record { seat = d.seat; can = tt; line = ap (λ x. x.line) d.told.actor; empty = ap (λ x. x.pocket) d.told.actor ∙ h.before.empty }
+  after_d10 h d = goes_on r s t prologue D10 n d (out_at D10 d) refl D2 refl
 
   module _ (h : CallIsAt r s prologue D12 a) (d : DidStep r s t prologue D12 n) where
     abbrev twelfth : Bool → MachineOutcome
@@ -169,23 +141,15 @@ module _ (r : Arena) (s t : Seat) (prologue : Prologue) (n : ℕ) (a : Running) 
     never_d12 kind e = head_is_not_worn r.plan prologue D12 n (view s) (view t) kind d.told (ap (λ x. x.reply) (twelfth_is true e))
 
     pub after_d12 : nat_eq a.head.count r.plan.setup.limit ≡ false → CallIsAt r t continues D13 (record a { val = n })
-    after_d12 e =
-        let o = settled_as D12 d (twelfth false) (twelfth_is false e) in
-        let low = (actor_was_in_range r.plan prologue D12 n (view s) (view t) d.told).registers.head.count in
-        let unworn : a.head.count ≢ r.plan.setup.limit = eqb-false a.head.count r.plan.setup.limit e in
-        let room : a.head.count < r.plan.setup.limit = omega (arith, low, unworn, ap (λ (x : Ref). x.count) h.knows.0, ap (λ (z : Setup). z.limit) d.told.setup) in
-        record {
-          before = record { seat = d.seat; can = tt; line = ap (λ x. x.line) o; empty = ap (λ x. x.pocket) o ∙ h.before.empty };
-          knows = (ap (λ x. x.head) o ∙ h.knows.0, ap (λ x. x.next) o ∙ h.knows.1, ap (λ x. x.val) o, room);
-        }
+    after_d12 e = leads D12 d (twelfth false) (twelfth_is false e) D13 (record a { val = n }) refl (λ x. (h.knows.0, h.knows.1, refl))
+
+  -- what an actor has that took a value
+  abbrev pub HasTaken : Actor → Type 0
+  HasTaken x = record { over : x.line ≡ Some F1; empty : x.pocket ≡ None; due : x.due ≡ Some (reply.Value (value_of a.val)); node : x.node ≡ a.head.node; mark : x.mark ≡ a.next.count }
 
   -- after a won D13
   pub record Won (d : DidStep r s t prologue D13 n) : Type 0 where
-    pub over : (view t).actor.line ≡ Some F1
-    pub empty : (view t).actor.pocket ≡ None
-    pub due : (view t).actor.due ≡ Some (reply.Value (value_of a.val))
-    pub node : (view t).actor.node ≡ a.head.node
-    pub mark : (view t).actor.mark ≡ a.next.count
+    pub has : HasTaken (view t).actor
     pub adds : entries_at r.plan.setup d.told.was (view s).number b D13 ≡ Pop (view s).number b.val ∷ []
 
   -- after a lost one
@@ -202,20 +166,15 @@ module _ (r : Arena) (s t : Seat) (prologue : Prologue) (n : ℕ) (a : Running) 
 
     pub won_d13 : same_ref (ref_of n) a.head ≡ true → Won d
     won_d13 e =
-        let o = settled_as D13 d (thirteenth true) (ap thirteenth (same true e)) in
         record {
-          over = ap (λ x. x.line) o;
-          empty = ap (λ x. x.pocket) o ∙ h.before.empty;
-          due = ap (λ x. x.due) o ∙ ap (λ v. Some (reply.Value v)) h.knows.2;
-          node = ap (λ x. x.node) o ∙ ap (λ (x : Ref). x.node) h.knows.0;
-          mark = ap (λ x. x.mark) o ∙ ap (λ (x : Ref). x.count) h.knows.1;
+          has = settled r s t prologue D13 n d (thirteenth true) (ap thirteenth (same true e)) HasTaken
+              (λ x. record { over = refl; empty = empty_before r s prologue D13 h.before; due = ap (λ v. Some (reply.Value v)) h.knows.2; node = ap (λ (y : Ref). y.node) h.knows.0; mark = ap (λ (y : Ref). y.count) h.knows.1 });
           adds = ap (λ p. if p then Pop (view s).number b.val ∷ [] else []) (same true e);
         }
 
     pub lost_d13 : same_ref (ref_of n) a.head ≡ false → Lost d
     lost_d13 e =
-        let o = settled_as D13 d (thirteenth false) (ap thirteenth (same false e)) in
         record {
-          before = record { seat = d.seat; can = tt; line = ap (λ x. x.line) o; empty = ap (λ x. x.pocket) o ∙ h.before.empty };
+          before = goes_on r s t prologue D13 n d (thirteenth false) (ap thirteenth (same false e)) D2 refl;
           adds = ap (λ p. if p then Pop (view s).number b.val ∷ [] else []) (same false e);
         }

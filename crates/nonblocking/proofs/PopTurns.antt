@@ -14,9 +14,10 @@ use Rattle.node_arena.specs.Prologues.{Prologue, continues}
 use Rattle.node_arena.specs.Rule.{notes_of}
 use Rattle.node_arena.specs.declared.arena.Arena.{Arena}
 use Rattle.node_arena.specs.declared.seats.Seat.{Seat}
-use Rattle.node_arena.specs.Seats.{KeepsStored, DidStep, view, known_of}
+use Rattle.node_arena.specs.Seats.{IsBefore, KeepsStored, DidStep, view, known_of}
 use Rattle.node_arena.specs.Turns.{failed_at, failed_turns, at_d2}
 use Rattle.node_arena.specs.Paths.{ExtendsPath}
+use Rattle.node_arena.proofs.Known.{empty_before}
 use Rattle.node_arena.proofs.Empties.{empty_where_noted}
 use Rattle.node_arena.proofs.Paths.{no_walk, walk_then, then_act, then_stored, sees_on, stopped_behind, failed_behind, failed-append, failed_snoc, event, walk_one, walk_on, act_on, to_is, stopped_at, failed_last}
 use Rattle.nonblocking.specs.Values.{IsNonBlocking}
@@ -27,7 +28,7 @@ use Rattle.nonblocking.specs.declared.pop_outcomes.Outcome.{Outcome}
 use Rattle.nonblocking.specs.declared.pop_outcomes.Outcome.TheVariants.{Goes, Empty, Refused}
 use Rattle.nonblocking.specs.declared.pop_outcomes.Turn.{Turn}
 use Rattle.nonblocking.specs.declared.pop_outcomes.Turn.TheVariants as turn
-use Rattle.nonblocking.specs.Pops.{turn_of, IsBefore, CallIsAt, Follows, Fell, Looked, Looks, Turned, Turns}
+use Rattle.nonblocking.specs.Pops.{turn_of, CallIsAt, Follows, Fell, Looked, Looks, Turned, Turns}
 use Rattle.nonblocking.proofs.PopStands.{stands_d2, after_d2, after_d3, after_d4, Fifth, after_d5, after_d10, never_d12, after_d12, Won, won_d13, Lost, lost_d13}
 
 actor_or : Running → Outcome → Running
@@ -110,9 +111,9 @@ module _ (r : Arena) (s u t v x : Seat) (prologue : Prologue) (a b c d : Running
   none_failed = not_failed r s v x D5 f5.found f5.did reads walked refl (λ o. refl)
 
   by_outcome : (o : Outcome) → Fifth r v x continues f5.found d f5.did o → ((view x).actor.pocket ≡ None) × Looked r s x (reads ++ five ∷ []) o
-  by_outcome (Goes D2 e) f = (f.stands.before.empty, fell r s v x D5 f5.found f5.did reads walked refl (λ o. refl) (five_walk None f.quiet refl) f.stands.before)
-  by_outcome (Goes D10 e) f = (f.stands.before.empty, record { stands = f.stands; walks = on_walk None f.quiet refl; never = none_failed (Some D10) f.stands.before.line refl })
-  by_outcome (Goes D12 e) f = (f.stands.before.empty, record { stands = f.stands; walks = on_walk None f.quiet refl; never = none_failed (Some D12) f.stands.before.line refl })
+  by_outcome (Goes D2 e) f = (empty_before r x continues D2 f.stands.before, fell r s v x D5 f5.found f5.did reads walked refl (λ o. refl) (five_walk None f.quiet refl) f.stands.before)
+  by_outcome (Goes D10 e) f = (empty_before r x continues D10 f.stands.before, record { stands = f.stands; walks = on_walk None f.quiet refl; never = none_failed (Some D10) f.stands.before.line refl })
+  by_outcome (Goes D12 e) f = (empty_before r x continues D12 f.stands.before, record { stands = f.stands; walks = on_walk None f.quiet refl; never = none_failed (Some D12) f.stands.before.line refl })
   by_outcome (Goes _ e) f = absurd f
   by_outcome Empty f =
       let notes : (view x).notes ≡ (view v).notes ++ length (view x).seen ∷ [] = f5.did.told.notes ∙ ap (λ q. (view v).notes ++ notes_of q (view x).seen) f.replies in (
@@ -160,7 +161,7 @@ moves_tail r s t a out h f =
     subst (λ o. Turns r s t (turn_of o)) (sym f.leads_to)
     record {
       seat = f.did.seat;
-      empty = before.empty;
+      empty = empty_before r t continues D2 before;
       stored = f.did.stored;
       lines = event r s t continues D10 f.found f.did ∷ [];
       turned = fell r s s t D10 f.found f.did [] (no_walk (view s)) refl (λ o. refl) (walk_on r s t continues D10 f.found f.did refl tt) before;
@@ -206,20 +207,20 @@ module _ (r : Arena) (s t : Seat) (a b : Running) (l : Line) (h : CallIsAt r s c
       go : (p : Bool) → same_ref (ref_of g.found) b.head ≡ p → ((view x).actor.pocket ≡ None) × Turned r s x (twelve ∷ event r t x continues D13 g.found g.did ∷ []) (turn_of (if p then Goes F1 (record b { node = b.head.node; mark = b.next.count; due = Some (IsValue b.val) }) else Goes D2 b))
       go true e =
           let w : Won r t x continues g.found b g.did = won_d13 r t x continues g.found b to_d13 g.did e in (
-            w.empty,
+            w.has.empty,
             record {
-              over = w.over;
-              due = w.due;
-              node = w.node;
-              mark = w.mark;
+              over = w.has.over;
+              due = w.has.due;
+              node = w.has.node;
+              mark = w.has.mark;
               acts = then_act (view s) (view t) (view x) (Pop (view t).number (view t).actor.val) (Pop (view s).number (value_of b.val)) (twelve ∷ []) (event r t x continues D13 g.found g.did ∷ []) (λ i. Pop (read_walk.number i) (to_d13.knows.2 i)) read_walk
                   (act_on r t x continues D13 g.found g.did (Pop (view t).number (view t).actor.val) w.adds tt);
-              never = not_failed r s t x D13 g.found g.did (twelve ∷ []) read_walk refl (λ o. refl) (Some F1) w.over refl;
+              never = not_failed r s t x D13 g.found g.did (twelve ∷ []) read_walk refl (λ o. refl) (Some F1) w.has.over refl;
             },
           )
       go false e =
           let w : Lost r t x continues g.found b g.did = lost_d13 r t x continues g.found b to_d13 g.did e in
-          (w.before.empty, fell r s t x D13 g.found g.did (twelve ∷ []) read_walk refl (λ o. refl) (walk_on r t x continues D13 g.found g.did w.adds tt) w.before)
+          (empty_before r x continues D2 w.before, fell r s t x D13 g.found g.did (twelve ∷ []) read_walk refl (λ o. refl) (walk_on r t x continues D13 g.found g.did w.adds tt) w.before)
 
 -- lines of a turn before its last ones
 module _ (r : Arena) (s t x : Seat) (es : List Event) (stored : KeepsStored s t) (w : ExtendsPath (view s) (view t) es) (never : failed_turns es ≡ 0) where

@@ -1,6 +1,6 @@
 -- Pops: turns one after another, and what they answer.
 use Rattle.std.proofs.Common.{◌≡◌, ℕ, zero, suc, ◌+◌, ◌-◌, ◌<◌, ◌≤◌, List, [], ◌++◌, Option, Some, None, Result, Ok, Err, IfOk, IfErr, OnOk, sym, refl, ap, subst, ◌∙◌, arith, add-one, append_assoc, ⊎_elim, inl, inr}
-use Rattle.line_table.specs.declared.lines.Line.TheVariants.{F1}
+use Rattle.line_table.specs.declared.lines.Line.TheVariants.{D2, F1}
 use Rattle.history.specs.declared.operations.Entry.TheVariants.{Pop}
 use Rattle.history.specs.declared.operations.Op.TheVariants.{Deq}
 use Rattle.history.specs.declared.operations.Taken.{Taken}
@@ -10,7 +10,7 @@ use Rattle.history.specs.declared.refusals.WornWord.TheVariants.{Free as OfFree,
 use Rattle.history.specs.Answers.{PopAnswers}
 use Rattle.history.proofs.Learning.{answers_then}
 use Rattle.node_arena.specs.Machine.{Held, Actor, dequeues, from_pocket}
-use Rattle.node_arena.specs.Prologues.{at_rest, out_of}
+use Rattle.node_arena.specs.Prologues.{continues, at_rest, out_of}
 use Rattle.node_arena.specs.Traces.{Event}
 use Rattle.node_arena.specs.declared.arena.Arena.{Arena}
 use Rattle.node_arena.specs.declared.seats.Seat.{Seat}
@@ -18,6 +18,7 @@ use Rattle.node_arena.specs.Seats.{IsReady, KeepsName, view, known_of, keeping, 
 use Rattle.node_arena.specs.Turns.{failed_turns}
 use Rattle.node_arena.specs.Paths.{ExtendsPath, Acts, HadNoEffect, added}
 use Rattle.free_list.specs.Gives.{GiveAnswers}
+use Rattle.node_arena.proofs.Known.{empty_before}
 use Rattle.node_arena.proofs.Paths.{no_walk, walk_then, act_then, then_stored, sees_on, added_is, added_path, last_held, ends_failed, met_behind, failed-append, failed_behind, kept_seat}
 use Rattle.nonblocking.specs.Values.{IsNonBlocking}
 use Rattle.node_arena.specs.Machine.{value_of}
@@ -76,14 +77,8 @@ set_out r s p = from_pocket F1 p (record (at_rest (view s).actor) { line = Some 
 -- a pop with an empty pocket sets out
 pub pops_out : (r : Arena) (s : Seat) → IsReady r s → pocket_of s ≡ None → IsNonBlocking r → Trying r s s 0
 pops_out r s h none kind =
-    let empty : (at_rest (view s).actor).pocket ≡ None = sym h.pocket ∙ none in
     record {
-      before = record {
-        seat = h.seat;
-        can = (refl, h.free);
-        line = ap (λ p. (set_out r s p).line) empty ∙ ap (λ k. Some (dequeues k)) kind;
-        empty = ap (λ p. (set_out r s p).pocket) empty ∙ empty;
-      };
+      before = record { seat = h.seat; can = (refl, h.free); line = ap (λ p. (set_out r s p).line) (sym h.pocket ∙ none) ∙ ap (λ k. Some (dequeues k)) kind };
       stored = record { number = refl; role = refl; pocket = refl; failed = refl };
       lines = [];
       walks = no_walk (view s);
@@ -115,7 +110,7 @@ pop_gives_up r s t spent turns (suc m) some all g =
     let e : added s t ≡ g.lines = added_is s t g.lines g.walks in
     let rest : at_rest (view t).actor ≡ record (view t).actor { line = None } = ap (out_of (view t).actor) g.before.line in
     record {
-      ready = record { seat = kept_seat r t None turns g.before.seat; free = ap (λ b. b.line) rest; pocket = sym (ap (λ b. b.pocket) rest ∙ g.before.empty) };
+      ready = record { seat = kept_seat r t None turns g.before.seat; free = ap (λ b. b.line) rest; pocket = sym (ap (λ b. b.pocket) rest ∙ empty_before r t continues D2 g.before) };
       same = record { number = g.stored.number; role = g.stored.role };
       path = g.walks.path ∙ ap (λ p. (view s).path ++ p) (sym e);
       answer = tt;

@@ -47,13 +47,12 @@ pushes_out r s h from body val a is i full kind small same word = subst (λ (x :
     out : CallIsAt r s (begins (Enq (value_of val).body)) E2 (registers_of h val)
     out =
         record {
-          seat = i.seat;
-          can = (lt-ltb (value_of val).body (2 ^ 48) low, i.free);
-          line = ap (λ p. (set_out r s (value_of val).body p).line) e ∙ ap (λ k. Some (with_node k)) kind;
-          empty = ap (λ p. (set_out r s (value_of val).body p).pocket) e;
-          node = ap (λ p. (set_out r s (value_of val).body p).node) e;
-          mark = ap (λ p. (set_out r s (value_of val).body p).mark) e;
-          val = ap (λ p. (set_out r s (value_of val).body p).val) e ∙ ap (λ (k : ℕ). record { from = k; body = (value_of val).body }) (sym (same ∙ i.seat.sits.number) ∙ sym (ap (λ (v : Taken). v.from) parts));
+          before = record { seat = i.seat; can = (lt-ltb (value_of val).body (2 ^ 48) low, i.free); line = ap (λ p. (set_out r s (value_of val).body p).line) e ∙ ap (λ k. Some (with_node k)) kind };
+          hand = record {
+            node = ap (λ p. (set_out r s (value_of val).body p).node) e;
+            mark = ap (λ p. (set_out r s (value_of val).body p).mark) e;
+            val = ap (λ p. (set_out r s (value_of val).body p).val) e ∙ ap (λ (k : ℕ). record { from = k; body = (value_of val).body }) (sym (same ∙ i.seat.sits.number) ∙ sym (ap (λ (v : Taken). v.from) parts));
+          };
           knows = tt;
         }
 
@@ -134,7 +133,7 @@ module _ (r : Arena) (s t : Seat) (a : Running) (out : Outcome) (l : Line) (c : 
 
   pub fill_ready : (val : ℕ) → a.val ≡ val → CallIsAt r t continues E5 (registers_of (in_hand c) val)
   fill_ready val e =
-      record { seat = k.0.seat; can = tt; line = k.0.line; empty = k.0.empty; node = k.0.node; mark = k.0.mark; val = k.0.val ∙ ap value_of (k.2 ∙ e); knows = tt }
+      record { before = k.0.before; hand = record { node = k.0.hand.node; mark = k.0.hand.mark; val = k.0.hand.val ∙ ap value_of (k.2 ∙ e) }; knows = tt }
 
   pub fill_then : (u : Seat) (node body spent turns : ℕ) (o : Result (Unit {0}) Refusal) → a.node ≡ node → Puts r t u c.node body spent turns o → Puts r s u node body spent turns o
   fill_then u node body spent turns o e g =
@@ -210,12 +209,12 @@ pub gives_up_put : (r : Arena) (s t : Seat) (h : Held) (val spent turns : ℕ) �
 gives_up_put r s t h val spent turns less g =
     let e : added s t ≡ g.lines = added_is s t g.lines g.walks in
     let k = g.stands in
-    let rest = ap (out_of (view t).actor) k.line in
+    let rest = ap (out_of (view t).actor) k.before.line in
     record {
       ready = record {
-        seat = kept_seat r t (Some h) turns k.seat;
+        seat = kept_seat r t (Some h) turns k.before.seat;
         free = ap (λ b. b.line) rest;
-        pocket = sym (ap (λ b. b.pocket) rest ∙ (λ i. Some (record { node = k.node i; mark = k.mark i })));
+        pocket = sym (ap (λ b. b.pocket) rest ∙ (λ i. Some (record { node = k.hand.node i; mark = k.hand.mark i })));
       };
       same = record { number = g.stored.number; role = g.stored.role };
       pushed = tt;

@@ -99,13 +99,8 @@ to_e7 r s t l a b h f =
 stands_e5 : (r : Arena) (t : Seat) (a c : Running) → in_hand c ≡ in_hand a → c.val ≡ a.val → CallIsAt r t continues E5 c → CallIsAt r t continues E5 a
 stands_e5 r t a c hand val h =
     record {
-      seat = h.seat;
-      can = tt;
-      line = h.line;
-      empty = h.empty;
-      node = h.node ∙ ap (λ (x : Held). x.node) hand;
-      mark = h.mark ∙ ap (λ (x : Held). x.mark) hand;
-      val = h.val ∙ ap value_of val;
+      before = h.before;
+      hand = record { node = h.hand.node ∙ ap (λ (x : Held). x.node) hand; mark = h.hand.mark ∙ ap (λ (x : Held). x.mark) hand; val = h.hand.val ∙ ap value_of val };
       knows = tt;
     }
 
@@ -113,7 +108,7 @@ stands_e5 r t a c hand val h =
 module _ (r : Arena) (s t : Seat) (l : Line) (n : ℕ) (d : DidStep r s t continues l n) (before : List Event) (never : failed_turns before ≡ 0) (q : (o : Option Line) → failed_at l o ≡ at_e5 o) where
   slips : (a : Running) → CallIsAt r t continues E5 a → Slipped r t a (before ++ event r s t continues l n d ∷ [])
   slips a h =
-      let e : failed_at l (view t).actor.line ≡ 1 = q (view t).actor.line ∙ ap at_e5 h.line in
+      let e : failed_at l (view t).actor.line ≡ 1 = q (view t).actor.line ∙ ap at_e5 h.before.line in
       record {
         stands = h;
         once = (let f = failed_snoc before (event r s t continues l n d) in let z = ap (failed_at l) (to_is r s t continues l n d) ∙ e in omega arith);
@@ -157,8 +152,8 @@ module _ (r : Arena) (s u v t : Seat) (l k : Line) (a b c : Running) (out : Outc
   no_turn o e z = went_on r v t E7 m.found m.did before refl (λ q. refl) o e z
 
   looked : (o : Outcome) → Seventh r v t continues m.found c at7.0 m.did o → Looked r s t a (before ++ seven ∷ []) o
-  looked (Goes E9 x) y = record { stands = y.0; hand = ap in_hand y.1 ∙ hand; val = ap (λ (z : Running). z.val) y.1 ∙ val; never = no_turn (Some E9) y.0.line refl }
-  looked (Goes E13 x) y = record { stands = y.0; hand = ap in_hand y.1 ∙ hand; val = ap (λ (z : Running). z.val) y.1 ∙ val; never = no_turn (Some E13) y.0.line refl }
+  looked (Goes E9 x) y = record { stands = y.0; hand = ap in_hand y.1 ∙ hand; val = ap (λ (z : Running). z.val) y.1 ∙ val; never = no_turn (Some E9) y.0.before.line refl }
+  looked (Goes E13 x) y = record { stands = y.0; hand = ap in_hand y.1 ∙ hand; val = ap (λ (z : Running). z.val) y.1 ∙ val; never = no_turn (Some E13) y.0.before.line refl }
   looked (Goes E5 x) y = slips r v t E7 m.found m.did before refl (λ o. refl) a (stands_e5 r t a x (ap in_hand y.1 ∙ hand) (ap (λ (z : Running). z.val) y.1 ∙ val) y.0)
   looked (Goes _ x) y = absurd y
   looked Done y = absurd y
@@ -187,7 +182,7 @@ module _ (r : Arena) (s t : Seat) (a : Running) (out : Outcome) (h : CallIsAt r 
   at_ninth o e = subst (Ninth r s t continues f.found a h f.did) e ninth
 
   acts : entries_at r.plan.setup f.did.told.was (view s).number (view s).actor E9 ≡ Push (view s).number (view s).actor.val.body ∷ [] → Acts (view s) (view t) (Push (view s).number (value_of a.val).body) (nine ∷ [])
-  acts won = act_on r s t continues E9 f.found f.did (Push (view s).number (value_of a.val).body) (won ∙ ap (λ (v : Taken). Push (view s).number v.body ∷ []) h.val) tt
+  acts won = act_on r s t continues E9 f.found f.did (Push (view s).number (value_of a.val).body) (won ∙ ap (λ (v : Taken). Push (view s).number v.body ∷ []) h.hand.val) tt
 
   -- it was the last line, since Tail is worn out
   pub links_last : out ≡ Done → Turns r s t a Pushed
@@ -231,7 +226,7 @@ module _ (r : Arena) (s t : Seat) (a : Running) (out : Outcome) (h : CallIsAt r 
           seat = g.did.seat;
           over = over.0;
           empty = over.1;
-          never = (let z : at_e5 nine.to ≡ 0 = ap at_e5 (to_is r s t continues E9 f.found f.did ∙ k.0.line) in omega arith);
+          never = (let z : at_e5 nine.to ≡ 0 = ap at_e5 (to_is r s t continues E9 f.found f.did ∙ k.0.before.line) in omega arith);
           acts = act_then (view s) (view t) (view u) (Push (view s).number (value_of a.val).body) (nine ∷ []) (event r t u continues E17 g.found g.did ∷ []) (acts k.1) (pass_on r t u continues E17 g.found g.did refl tt refl);
         };
       }

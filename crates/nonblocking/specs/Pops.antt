@@ -1,5 +1,5 @@
 -- A running pop: what it remembers before each line, and what it answers.
-use Rattle.std.specs.Prelude.{◌≡◌, ℕ, zero, suc, ◌+◌, ◌≤◌, ◌<◌, ◌⊎◌, if◌then◌else◌, nat_eq, List, ◌++◌, Option, Some, None, Result, IfOk, IfErr, OnOk}
+use Rattle.std.specs.Prelude.{◌≡◌, ℕ, zero, suc, ◌+◌, ◌≤◌, ◌⊎◌, if◌then◌else◌, nat_eq, List, ◌++◌, Option, Some, None, Result, IfOk, IfErr, OnOk}
 use Rattle.counted_ref.specs.Ref.{ref_of, is_null, same_ref}
 use Rattle.line_table.specs.declared.lines.Line.{Line}
 use Rattle.line_table.specs.declared.lines.Line.TheVariants.{D2, D3, D4, D5, D10, D12, D13, F1}
@@ -13,11 +13,11 @@ use Rattle.history.specs.declared.refusals.WornWord.TheVariants.{Head as OfHead,
 use Rattle.history.specs.Answers.{FoundEmpty, PopAnswers}
 use Rattle.node_arena.specs.Machine.{Setup, Held, Actor}
 use Rattle.node_arena.specs.Traces.{Event}
-use Rattle.node_arena.specs.Prologues.{Prologue, begins, continues, after_prologue, CanStart}
+use Rattle.node_arena.specs.Prologues.{Prologue, begins, continues, after_prologue}
 use Rattle.node_arena.specs.declared.arena.Arena.{Arena}
 use Rattle.node_arena.specs.declared.seats.Seat.{Seat}
 use Rattle.node_arena.specs.Seeing.{known_by}
-use Rattle.node_arena.specs.Seats.{IsSeat, IsReady, KeepsStored, KeepsName, DidStep, view, known_of, pocket_of}
+use Rattle.node_arena.specs.Seats.{IsSeat, IsBefore, IsReady, KeepsStored, KeepsName, DidStep, view, known_of, pocket_of}
 use Rattle.node_arena.specs.Turns.{failed_turns}
 use Rattle.node_arena.specs.Paths.{ExtendsPath, Acts, HadNoEffect, FailedAt, EndsFailed, EndedAt, IsRefusedAt, MetCause, added}
 use Rattle.node_arena.specs.Machine.{value_of}
@@ -72,27 +72,20 @@ turn_of (Goes l a) = turn.Failed
 turn_of Empty = turn.Empty
 turn_of (Refused why) = turn.Refused why
 
--- what a running pop knows of its actor's registers before a line
-abbrev pub AgreesAt : Setup → Line → Actor → Running → Type 0
-AgreesAt z D3 b a = b.head ≡ a.head
-AgreesAt z D4 b a = (b.head ≡ a.head) × (b.tail ≡ a.tail)
-AgreesAt z D5 b a = (b.head ≡ a.head) × (b.tail ≡ a.tail) × (b.next ≡ a.next)
-AgreesAt z D10 b a = (b.tail ≡ a.tail) × (b.next ≡ a.next) × (a.tail.count < z.limit)
-AgreesAt z D12 b a = (b.head ≡ a.head) × (b.next ≡ a.next)
-AgreesAt z D13 b a = (b.head ≡ a.head) × (b.next ≡ a.next) × (b.val ≡ value_of a.val) × (a.head.count < z.limit)
-AgreesAt z l b a = Unit {0}
+-- which of its actor's registers a running pop has before a line
+abbrev pub AgreesAt : Line → Actor → Running → Type 0
+AgreesAt D3 b a = b.head ≡ a.head
+AgreesAt D4 b a = (b.head ≡ a.head) × (b.tail ≡ a.tail)
+AgreesAt D5 b a = (b.head ≡ a.head) × (b.tail ≡ a.tail) × (b.next ≡ a.next)
+AgreesAt D10 b a = (b.tail ≡ a.tail) × (b.next ≡ a.next)
+AgreesAt D12 b a = (b.head ≡ a.head) × (b.next ≡ a.next)
+AgreesAt D13 b a = (b.head ≡ a.head) × (b.next ≡ a.next) × (b.val ≡ value_of a.val)
+AgreesAt l b a = Unit {0}
 
--- a seat's actor, led there, stands before a line of a pop with an empty pocket
-pub record IsBefore (r : Arena) (s : Seat) (prologue : Prologue) (l : Line) : Type 0 where
-  pub seat : IsSeat r s
-  pub can : CanStart prologue (view s).actor
-  pub line : (after_prologue r.plan.setup (view s).number prologue (view s).actor).line ≡ Some l
-  pub empty : (after_prologue r.plan.setup (view s).number prologue (view s).actor).pocket ≡ None
-
--- and the call knows its registers
+-- a seat's actor, led there, stands before a line of a pop, and the call has its registers
 pub record CallIsAt (r : Arena) (s : Seat) (prologue : Prologue) (l : Line) (a : Running) : Type 0 where
   pub before : IsBefore r s prologue l
-  pub knows : AgreesAt r.plan.setup l (after_prologue r.plan.setup (view s).number prologue (view s).actor) a
+  pub knows : AgreesAt l (after_prologue r.plan.setup (view s).number prologue (view s).actor) a
 
 -- the seat made its step at a line, and the call made of the number found what the line says
 pub record Follows (r : Arena) (s t : Seat) (prologue : Prologue) (l : Line) (a : Running) (out : Outcome) : Type 0 where

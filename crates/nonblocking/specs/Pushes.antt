@@ -1,5 +1,5 @@
 -- A running push: what it remembers before each line, and what it answers.
-use Rattle.std.specs.Prelude.{◌≡◌, ℕ, ◌+◌, ◌≤◌, ◌<◌, if◌then◌else◌, nat_eq, List, Option, Some, None, IsSome, IsSomeAnd, Result, OnOk, IfErr}
+use Rattle.std.specs.Prelude.{◌≡◌, ℕ, ◌+◌, ◌<◌, if◌then◌else◌, nat_eq, List, Option, Some, None, IsSome, IsSomeAnd, Result, OnOk, IfErr}
 use Rattle.counted_ref.specs.Ref.{ref, ref_of, is_null, same_ref}
 use Rattle.line_table.specs.declared.lines.Line.{Line}
 use Rattle.line_table.specs.declared.lines.Line.TheVariants.{E2, E3, E5, E6, E7, E9, E13, E17}
@@ -10,10 +10,10 @@ use Rattle.history.specs.declared.refusals.WornWord.{WornWord}
 use Rattle.history.specs.declared.refusals.WornWord.TheVariants.{Next as OfNext, Tail as OfTail}
 use Rattle.node_arena.specs.Machine.{Setup, Held, Actor}
 use Rattle.node_arena.specs.Traces.{Event}
-use Rattle.node_arena.specs.Prologues.{Prologue, continues, after_prologue, CanStart}
+use Rattle.node_arena.specs.Prologues.{Prologue, continues, after_prologue}
 use Rattle.node_arena.specs.declared.arena.Arena.{Arena}
 use Rattle.node_arena.specs.declared.seats.Seat.{Seat}
-use Rattle.node_arena.specs.Seats.{IsSeat, IsReady, KeepsStored, KeepsName, DidStep, view, pocket_of}
+use Rattle.node_arena.specs.Seats.{IsSeat, IsBefore, IsReady, KeepsStored, KeepsName, DidStep, view, pocket_of}
 use Rattle.node_arena.specs.Turns.{failed_turns}
 use Rattle.node_arena.specs.Paths.{ExtendsPath, Acts, HadNoEffect, FailedAt, EndsFailed, EndedAt, IsRefusedAt, MetCause, added}
 use Rattle.free_list.specs.Takes.{TakeRefused}
@@ -56,25 +56,24 @@ follow z a E13 n = Goes E5 a
 follow z a E17 n = Done
 follow z a l n = Goes l a
 
--- what a running push knows beside node, mark and value before a line
-abbrev pub AgreesAt : Setup → Line → Actor → Running → Type 0
-AgreesAt z E6 b a = b.tail ≡ a.tail
-AgreesAt z E7 b a = (b.tail ≡ a.tail) × (b.next ≡ a.next)
-AgreesAt z E9 b a = (b.tail ≡ a.tail) × (b.next ≡ a.next) × (a.next.count < z.limit) × (a.node ≤ z.size)
-AgreesAt z E13 b a = (b.tail ≡ a.tail) × (b.next ≡ a.next) × (a.tail.count < z.limit)
-AgreesAt z E17 b a = (b.tail ≡ a.tail) × (a.tail.count < z.limit) × (a.node ≤ z.size)
-AgreesAt z l b a = Unit {0}
+-- a running push has the node in its actor's hand, with its mark, and the word of the value
+abbrev pub HasNode : Actor → Running → Type 0
+HasNode b a = record { node : b.node ≡ a.node; mark : b.mark ≡ a.mark; val : b.val ≡ value_of a.val }
 
--- a seat's actor, led there, stands before a line of a push with an empty pocket, and the call knows its registers
+-- and beside them these registers before a line
+abbrev pub AgreesAt : Line → Actor → Running → Type 0
+AgreesAt E6 b a = b.tail ≡ a.tail
+AgreesAt E7 b a = (b.tail ≡ a.tail) × (b.next ≡ a.next)
+AgreesAt E9 b a = (b.tail ≡ a.tail) × (b.next ≡ a.next)
+AgreesAt E13 b a = (b.tail ≡ a.tail) × (b.next ≡ a.next)
+AgreesAt E17 b a = b.tail ≡ a.tail
+AgreesAt l b a = Unit {0}
+
+-- a seat's actor, led there, stands before a line of a push, and the call has its registers
 pub record CallIsAt (r : Arena) (s : Seat) (prologue : Prologue) (l : Line) (a : Running) : Type 0 where
-  pub seat : IsSeat r s
-  pub can : CanStart prologue (view s).actor
-  pub line : (after_prologue r.plan.setup (view s).number prologue (view s).actor).line ≡ Some l
-  pub empty : (after_prologue r.plan.setup (view s).number prologue (view s).actor).pocket ≡ None
-  pub node : (after_prologue r.plan.setup (view s).number prologue (view s).actor).node ≡ a.node
-  pub mark : (after_prologue r.plan.setup (view s).number prologue (view s).actor).mark ≡ a.mark
-  pub val : (after_prologue r.plan.setup (view s).number prologue (view s).actor).val ≡ value_of a.val
-  pub knows : AgreesAt r.plan.setup l (after_prologue r.plan.setup (view s).number prologue (view s).actor) a
+  pub before : IsBefore r s prologue l
+  pub hand : HasNode (after_prologue r.plan.setup (view s).number prologue (view s).actor) a
+  pub knows : AgreesAt l (after_prologue r.plan.setup (view s).number prologue (view s).actor) a
 
 -- the seat made its step at a line, and the call made of the number found what the line says
 pub record Follows (r : Arena) (s t : Seat) (prologue : Prologue) (l : Line) (a : Running) (out : Outcome) : Type 0 where

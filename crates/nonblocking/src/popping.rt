@@ -3,9 +3,9 @@ ghost use Rattle.std.specs.Prelude.{◌≡◌, ◌≤◌, ◌<◌, IsTrue, None}
 ghost use Rattle.line_table.specs.declared.lines.Line.TheVariants as lines;
 ghost use Rattle.node_arena.specs.Prologues.{continues};
 ghost use Rattle.node_arena.specs.Plans.{may_pop};
-ghost use Rattle.node_arena.specs.Seats.{IsReady, role_of, pocket_of};
+ghost use Rattle.node_arena.specs.Seats.{IsReady, IsBefore, role_of, pocket_of};
 ghost use Rattle.nonblocking.specs.Values.{IsNonBlocking};
-ghost use Rattle.nonblocking.specs.Pops.{popping, CallIsAt, IsBefore, Looks, Turns, Tries, Draws, AnswersPop};
+ghost use Rattle.nonblocking.specs.Pops.{popping, CallIsAt, Looks, Turns, Tries, Draws, AnswersPop};
 
 use crate::pop_lines::{d2, d3, d4, d5, d10, d12, d13};
 use crate::pop_outcomes::{Actor, Outcome, Turn, blank, turned};
