@@ -18,6 +18,7 @@ use Rattle.node_arena.specs.declared.seats.Seat.{Seat}
 use Rattle.node_arena.specs.Seats.{KeepsStored, view}
 use Rattle.node_arena.specs.Paths.{ExtendsPath, Passes, Acts}
 use Rattle.node_arena.proofs.Noting.{IsNotEmpty}
+use Rattle.node_arena.proofs.Known.{empty_before}
 use Rattle.node_arena.proofs.Empties.{empty_where_noted}
 use Rattle.node_arena.proofs.Paths.{walk_then, then_act, act_then, then_stored, event, walk_on, pass_on, act_on, stopped_at}
 use Rattle.node_arena.specs.Machine.{value_of}
@@ -126,7 +127,7 @@ saw_empty r s u t x a b c l k out h f2 f3 is f6 =
     subst (Fronts r s x) (sym (out_is r t x c out at f6 (Some IsEmpty) null.1))
     record {
       seat = f6.did.seat;
-      empty = ap (λ y. y.pocket) o ∙ at.before.empty;
+      empty = ap (λ y. y.pocket) o ∙ empty_before r t continues B6 at.before;
       stored = then_stored s t x (then_stored s u t f2.did.stored f3.did.stored) f6.did.stored;
       lines = event r s u continues B2 f2.found f2.did ∷ event r u t continues B3 f3.found f3.did ∷ event r t x continues B6 f6.found f6.did ∷ [];
       never = refl;
@@ -188,7 +189,7 @@ module _ (r : Arena) (s u t v : Seat) (a b c d : Running) (l k j : Line) (h : Ca
       subst (Fronts r s x) (sym (out_is r v x d out at f6 (Some (IsRefused (WornOut OfHead))) due))
       record {
         seat = f6.did.seat;
-        empty = ap (λ y. y.pocket) o ∙ at.before.empty;
+        empty = ap (λ y. y.pocket) o ∙ empty_before r v continues B6 at.before;
         stored = then_stored s v x look_stored f6.did.stored;
         lines = looks ++ event r v x continues B6 f6.found f6.did ∷ [];
         never = refl;
@@ -219,7 +220,7 @@ module _ (r : Arena) (s u t v : Seat) (a b c d : Running) (l k j : Line) (h : Ca
       subst (Fronts r s x) (sym (out_is r y x e out at f6 (Some (IsValue d.val)) due))
       record {
         seat = f6.did.seat;
-        empty = ap (λ z. z.pocket) o ∙ at.before.empty;
+        empty = ap (λ z. z.pocket) o ∙ empty_before r y continues B6 at.before;
         stored = then_stored s y x (then_stored s v y look_stored f5.did.stored) f6.did.stored;
         lines = (looks ++ five ∷ []) ++ six ∷ [];
         never = refl;

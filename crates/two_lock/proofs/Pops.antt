@@ -15,16 +15,17 @@ use Rattle.node_arena.specs.Traces.{Event}
 use Rattle.node_arena.specs.Prologues.{continues, at_rest, out_of}
 use Rattle.node_arena.specs.declared.arena.Arena.{Arena}
 use Rattle.node_arena.specs.declared.seats.Seat.{Seat}
-use Rattle.node_arena.specs.Seats.{IsReady, KeepsName, view, known_of, keeping, pocket_of, failed_of}
+use Rattle.node_arena.specs.Seats.{IsReady, IsBefore, KeepsName, view, known_of, keeping, pocket_of, failed_of}
 use Rattle.node_arena.specs.Turns.{failed_turns, at_b1}
 use Rattle.node_arena.specs.Paths.{ExtendsPath, Acts, HadNoEffect, added}
 use Rattle.free_list.specs.Gives.{GiveAnswers}
+use Rattle.node_arena.proofs.Known.{empty_before}
 use Rattle.node_arena.proofs.Paths.{no_walk, walk_then, act_then, then_stored, sees_on, added_is, added_path, last_held, ends_failed, met_behind, failed-append, failed_behind, kept_seat, event, walk_on, to_is, failed_last}
 use Rattle.two_lock.specs.Values.{IsTwoLock}
 use Rattle.two_lock.specs.declared.pop_outcomes.Actor.{Actor as Running}
 use Rattle.two_lock.specs.declared.pop_outcomes.Outcome.{Outcome}
 use Rattle.two_lock.specs.declared.pop_outcomes.Outcome.TheVariants.{Goes, Empty, Refused}
-use Rattle.two_lock.specs.Pops.{popping, has_lock, IsBefore, Follows, Fronts, Trying, FailsFew, EmptiesPocket, FreesItsNode, DrawRefused, Draws, AnswersPop}
+use Rattle.two_lock.specs.Pops.{popping, has_lock, Follows, Fronts, Trying, FailsFew, EmptiesPocket, FreesItsNode, DrawRefused, Draws, AnswersPop}
 use Rattle.two_lock.proofs.PopStands.{stands_b1, won_b1, lost_b1}
 
 -- lines before a pop, with so many failed turns
@@ -79,14 +80,8 @@ set_out r s p = from_pocket F1 p (record (at_rest (view s).actor) { line = Some 
 -- a pop with an empty pocket sets out
 pub pops_out : (r : Arena) (s : Seat) → IsReady r s → pocket_of s ≡ None → IsTwoLock r → Trying r s s 0
 pops_out r s h none two =
-    let empty : (at_rest (view s).actor).pocket ≡ None = sym h.pocket ∙ none in
     record {
-      before = record {
-        seat = h.seat;
-        can = (refl, h.free);
-        line = ap (λ p. (set_out r s p).line) empty ∙ ap (λ k. Some (dequeues k)) two;
-        empty = ap (λ p. (set_out r s p).pocket) empty ∙ empty;
-      };
+      before = record { seat = h.seat; can = (refl, h.free); line = ap (λ p. (set_out r s p).line) (sym h.pocket ∙ none) ∙ ap (λ k. Some (dequeues k)) two };
       stored = record { number = refl; role = refl; pocket = refl; failed = refl };
       lines = [];
       walks = no_walk (view s);
@@ -142,7 +137,7 @@ pop_gives_up r s t spent turns (suc m) some all g =
     let e : added s t ≡ g.lines = added_is s t g.lines g.walks in
     let rest : at_rest (view t).actor ≡ record (view t).actor { line = None } = ap (out_of (view t).actor) g.before.line in
     record {
-      ready = record { seat = kept_seat r t None turns g.before.seat; free = ap (λ b. b.line) rest; pocket = sym (ap (λ b. b.pocket) rest ∙ g.before.empty) };
+      ready = record { seat = kept_seat r t None turns g.before.seat; free = ap (λ b. b.line) rest; pocket = sym (ap (λ b. b.pocket) rest ∙ empty_before r t continues B1 g.before) };
       same = record { number = g.stored.number; role = g.stored.role };
       path = g.walks.path ∙ ap (λ p. (view s).path ++ p) (sym e);
       answer = tt;

@@ -55,13 +55,12 @@ pushes_out r s h from body val a is i full two small same word = subst (λ (x : 
     out : CallIsAt r s (begins (Enq (value_of val).body)) A1 (registers_of h val)
     out =
         record {
-          seat = i.seat;
-          can = (lt-ltb (value_of val).body (2 ^ 48) low, i.free);
-          line = ap (λ p. (set_out r s (value_of val).body p).line) e ∙ ap (λ k. Some (with_node k)) two;
-          empty = ap (λ p. (set_out r s (value_of val).body p).pocket) e;
-          node = ap (λ p. (set_out r s (value_of val).body p).node) e;
-          mark = ap (λ p. (set_out r s (value_of val).body p).mark) e;
-          val = ap (λ p. (set_out r s (value_of val).body p).val) e ∙ ap (λ (k : ℕ). record { from = k; body = (value_of val).body }) (sym (same ∙ i.seat.sits.number) ∙ sym (ap (λ (v : Taken). v.from) parts));
+          before = record { seat = i.seat; can = (lt-ltb (value_of val).body (2 ^ 48) low, i.free); line = ap (λ p. (set_out r s (value_of val).body p).line) e ∙ ap (λ k. Some (with_node k)) two };
+          hand = record {
+            node = ap (λ p. (set_out r s (value_of val).body p).node) e;
+            mark = ap (λ p. (set_out r s (value_of val).body p).mark) e;
+            val = ap (λ p. (set_out r s (value_of val).body p).val) e ∙ ap (λ (k : ℕ). record { from = k; body = (value_of val).body }) (sym (same ∙ i.seat.sits.number) ∙ sym (ap (λ (v : Taken). v.from) parts));
+          };
           knows = tt;
         }
 
@@ -107,7 +106,7 @@ module _ (r : Arena) (t u : Seat) (a : Running) (out : Outcome) (h : CallIsAt r 
   pub got : has_lock out ≡ true → CallIsAt r u continues A4 a × (failed_turns (try ∷ []) ≡ 0)
   got e =
       let x = won_a3 r t u continues f.found a h f.did (found_is true e) in
-      (x, (let z : at_a3 try.to ≡ 0 = ap at_a3 (to_is r t u continues A3 f.found f.did ∙ x.line) in omega arith))
+      (x, (let z : at_a3 try.to ≡ 0 = ap at_a3 (to_is r t u continues A3 f.found f.did ∙ x.before.line) in omega arith))
 
   pub lost : has_lock out ≡ false → CallIsAt r u continues A3 a
   lost e = lost_a3 r t u continues f.found a h f.did (found_is false e)
@@ -118,7 +117,7 @@ next_try r s t u h val spent n a out is g follows e =
     let f : Follows r t u continues A3 (registers_of h val) out = subst (λ x. Follows r t u continues A3 x out) is follows in
     let try : Event = event r t u continues A3 f.found f.did in
     let x : CallIsAt r u continues A3 (registers_of h val) = lost r t u (registers_of h val) out g.stands f e in
-    let z : at_a3 (view u).actor.line ≡ 1 = ap at_a3 x.line in
+    let z : at_a3 (view u).actor.line ≡ 1 = ap at_a3 x.before.line in
     let once : failed_turns (try ∷ []) ≡ 1 = (let y : at_a3 try.to ≡ 1 = ap at_a3 (to_is r t u continues A3 f.found f.did) ∙ z in omega arith) in
     record {
       stands = x;
@@ -162,7 +161,7 @@ module _ (r : Arena) (s u t x y : Seat) (a b c d : Running) (j k l : Line) (last
   seven = event r x y continues A7 o.found o.did
 
   body_is : (view u).actor.val.body ≡ (value_of a.val).body
-  body_is = ap (λ (v : Taken). v.body) (at_a5.val ∙ ap (λ (z : Running). value_of z.val) (same_push j A5 b (record a { tail = ref_of f.found }) f.leads_to))
+  body_is = ap (λ (v : Taken). v.body) (at_a5.hand.val ∙ ap (λ (z : Running). value_of z.val) (same_push j A5 b (record a { tail = ref_of f.found }) f.leads_to))
 
   acts : Acts (view u) (view t) (Push (view u).number (view u).actor.val.body) (five ∷ [])
   acts = act_on r u t continues A5 g.found g.did (Push (view u).number (view u).actor.val.body) refl tt
@@ -215,12 +214,12 @@ pub gives_up_put : (r : Arena) (s t : Seat) (h : Held) (val body spent turns : �
 gives_up_put r s t h val body spent turns less g =
     let e : added s t ≡ g.lines = added_is s t g.lines g.walks in
     let k = g.stands in
-    let rest = ap (out_of (view t).actor) k.line in
+    let rest = ap (out_of (view t).actor) k.before.line in
     record {
       ready = record {
-        seat = kept_seat r t (Some h) turns k.seat;
+        seat = kept_seat r t (Some h) turns k.before.seat;
         free = ap (λ b. b.line) rest;
-        pocket = sym (ap (λ b. b.pocket) rest ∙ (λ i. Some (record { node = k.node i; mark = k.mark i })));
+        pocket = sym (ap (λ b. b.pocket) rest ∙ (λ i. Some (record { node = k.hand.node i; mark = k.hand.mark i })));
       };
       same = record { number = g.stored.number; role = g.stored.role };
       pocket = refl;

@@ -1,5 +1,5 @@
 -- A running pop: what it remembers before each line, and what it answers.
-use Rattle.std.specs.Prelude.{◌≡◌, ℕ, zero, suc, ◌+◌, ◌≤◌, ◌<◌, ◌⊎◌, Bool, true, false, if◌then◌else◌, nat_eq, List, ◌++◌, Option, Some, None, Result, IfOk, OnOk, IfErr}
+use Rattle.std.specs.Prelude.{◌≡◌, ℕ, zero, suc, ◌+◌, ◌≤◌, ◌⊎◌, Bool, true, false, if◌then◌else◌, nat_eq, List, ◌++◌, Option, Some, None, Result, IfOk, OnOk, IfErr}
 use Rattle.counted_ref.specs.Ref.{ref_of, is_null}
 use Rattle.line_table.specs.declared.lines.Line.{Line}
 use Rattle.line_table.specs.declared.lines.Line.TheVariants.{B1, B2, B3, B4, B5, B6, F1}
@@ -14,11 +14,11 @@ use Rattle.history.specs.declared.refusals.WornWord.TheVariants.{Head as OfHead}
 use Rattle.history.specs.Answers.{FoundEmpty, PopAnswers}
 use Rattle.node_arena.specs.Machine.{Setup, Actor}
 use Rattle.node_arena.specs.Traces.{Event}
-use Rattle.node_arena.specs.Prologues.{Prologue, begins, continues, after_prologue, CanStart}
+use Rattle.node_arena.specs.Prologues.{Prologue, begins, continues, after_prologue}
 use Rattle.node_arena.specs.declared.arena.Arena.{Arena}
 use Rattle.node_arena.specs.declared.seats.Seat.{Seat}
 use Rattle.node_arena.specs.Seeing.{known_by}
-use Rattle.node_arena.specs.Seats.{IsSeat, IsReady, KeepsStored, KeepsName, DidStep, view, known_of, pocket_of}
+use Rattle.node_arena.specs.Seats.{IsSeat, IsBefore, IsReady, KeepsStored, KeepsName, DidStep, view, known_of, pocket_of}
 use Rattle.node_arena.specs.Turns.{failed_turns}
 use Rattle.node_arena.specs.Paths.{ExtendsPath, Acts, HadNoEffect, FailedAt, EndsFailed, EndedAt, IsRefusedAt, MetCause, added}
 use Rattle.node_arena.specs.Machine.{value_of}
@@ -72,25 +72,18 @@ pub record KnowsDue (b : Actor) (a : Running) (due : Option Reply) : Type 0 wher
   pub node : (word : ℕ) → due ≡ Some (IsValue word) → b.node ≡ a.node
   pub mark : (word : ℕ) → due ≡ Some (IsValue word) → b.mark ≡ a.mark
 
--- what a running pop knows of its actor's registers before a line
-abbrev pub AgreesAt : Setup → Line → Actor → Running → Type 0
-AgreesAt z B3 b a = b.head ≡ a.head
-AgreesAt z B4 b a = (b.head ≡ a.head) × (b.next ≡ a.next)
-AgreesAt z B5 b a = (b.head ≡ a.head) × (b.next ≡ a.next) × (b.val ≡ value_of a.val) × (a.head.count < z.limit)
-AgreesAt z B6 b a = KnowsDue b a a.due
-AgreesAt z l b a = Unit {0}
+-- which of its actor's registers a running pop has before a line
+abbrev pub AgreesAt : Line → Actor → Running → Type 0
+AgreesAt B3 b a = b.head ≡ a.head
+AgreesAt B4 b a = (b.head ≡ a.head) × (b.next ≡ a.next)
+AgreesAt B5 b a = (b.head ≡ a.head) × (b.next ≡ a.next) × (b.val ≡ value_of a.val)
+AgreesAt B6 b a = KnowsDue b a a.due
+AgreesAt l b a = Unit {0}
 
--- a seat's actor, led there, stands before a line of a pop with an empty pocket
-pub record IsBefore (r : Arena) (s : Seat) (prologue : Prologue) (l : Line) : Type 0 where
-  pub seat : IsSeat r s
-  pub can : CanStart prologue (view s).actor
-  pub line : (after_prologue r.plan.setup (view s).number prologue (view s).actor).line ≡ Some l
-  pub empty : (after_prologue r.plan.setup (view s).number prologue (view s).actor).pocket ≡ None
-
--- and the call knows its registers
+-- a seat's actor, led there, stands before a line of a pop, and the call has its registers
 pub record CallIsAt (r : Arena) (s : Seat) (prologue : Prologue) (l : Line) (a : Running) : Type 0 where
   pub before : IsBefore r s prologue l
-  pub knows : AgreesAt r.plan.setup l (after_prologue r.plan.setup (view s).number prologue (view s).actor) a
+  pub knows : AgreesAt l (after_prologue r.plan.setup (view s).number prologue (view s).actor) a
 
 -- the seat made its step at a line, and the call made of the number found what the line says
 pub record Follows (r : Arena) (s t : Seat) (prologue : Prologue) (l : Line) (a : Running) (out : Outcome) : Type 0 where

@@ -1,17 +1,17 @@
 -- A running push: what it remembers before each line, and what it answers.
-use Rattle.std.specs.Prelude.{◌≡◌, ℕ, ◌+◌, ◌≤◌, ◌<◌, Bool, true, false, if◌then◌else◌, nat_eq, List, Some, None, Result, MatchResult, OnOk, IfErr}
+use Rattle.std.specs.Prelude.{◌≡◌, ℕ, ◌+◌, ◌<◌, Bool, true, false, if◌then◌else◌, nat_eq, List, Some, None, Result, MatchResult, OnOk, IfErr}
 use Rattle.counted_ref.specs.Ref.{ref, ref_of}
 use Rattle.line_table.specs.declared.lines.Line.{Line}
 use Rattle.line_table.specs.declared.lines.Line.TheVariants.{A1, A2, A3, A4, A5, A6, A7}
 use Rattle.history.specs.declared.operations.Entry.TheVariants.{Push}
 use Rattle.history.specs.declared.refusals.Refusal.{Refusal}
 use Rattle.history.specs.declared.refusals.Refusal.TheVariants.{Busy}
-use Rattle.node_arena.specs.Machine.{Setup, Held, Actor}
+use Rattle.node_arena.specs.Machine.{Held, Actor}
 use Rattle.node_arena.specs.Traces.{Event}
-use Rattle.node_arena.specs.Prologues.{Prologue, continues, after_prologue, CanStart}
+use Rattle.node_arena.specs.Prologues.{Prologue, continues, after_prologue}
 use Rattle.node_arena.specs.declared.arena.Arena.{Arena}
 use Rattle.node_arena.specs.declared.seats.Seat.{Seat}
-use Rattle.node_arena.specs.Seats.{IsSeat, IsReady, KeepsStored, KeepsName, DidStep, view, pocket_of}
+use Rattle.node_arena.specs.Seats.{IsSeat, IsBefore, IsReady, KeepsStored, KeepsName, DidStep, view, pocket_of}
 use Rattle.node_arena.specs.Turns.{failed_turns}
 use Rattle.node_arena.specs.Paths.{ExtendsPath, Acts, HadNoEffect, FailedAt, EndsFailed, added}
 use Rattle.free_list.specs.Takes.{TakeRefused}
@@ -41,22 +41,20 @@ abbrev pub has_lock : Outcome → Bool
 has_lock (Goes A4 a) = true
 has_lock outcome = false
 
--- what a running push knows beside node, mark and value before a line
-abbrev pub AgreesAt : Setup → Line → Actor → Running → Type 0
-AgreesAt z A5 b a = (b.tail ≡ a.tail) × (a.node ≤ z.size)
-AgreesAt z A6 b a = a.node ≤ z.size
-AgreesAt z l b a = Unit {0}
+-- a running push has the node in its actor's hand, with its mark, and the word of the value
+abbrev pub HasNode : Actor → Running → Type 0
+HasNode b a = record { node : b.node ≡ a.node; mark : b.mark ≡ a.mark; val : b.val ≡ value_of a.val }
 
--- a seat's actor, led there, stands before a line of a push with an empty pocket, and the call knows its registers
+-- and beside them these registers before a line
+abbrev pub AgreesAt : Line → Actor → Running → Type 0
+AgreesAt A5 b a = b.tail ≡ a.tail
+AgreesAt l b a = Unit {0}
+
+-- a seat's actor, led there, stands before a line of a push, and the call has its registers
 pub record CallIsAt (r : Arena) (s : Seat) (prologue : Prologue) (l : Line) (a : Running) : Type 0 where
-  pub seat : IsSeat r s
-  pub can : CanStart prologue (view s).actor
-  pub line : (after_prologue r.plan.setup (view s).number prologue (view s).actor).line ≡ Some l
-  pub empty : (after_prologue r.plan.setup (view s).number prologue (view s).actor).pocket ≡ None
-  pub node : (after_prologue r.plan.setup (view s).number prologue (view s).actor).node ≡ a.node
-  pub mark : (after_prologue r.plan.setup (view s).number prologue (view s).actor).mark ≡ a.mark
-  pub val : (after_prologue r.plan.setup (view s).number prologue (view s).actor).val ≡ value_of a.val
-  pub knows : AgreesAt r.plan.setup l (after_prologue r.plan.setup (view s).number prologue (view s).actor) a
+  pub before : IsBefore r s prologue l
+  pub hand : HasNode (after_prologue r.plan.setup (view s).number prologue (view s).actor) a
+  pub knows : AgreesAt l (after_prologue r.plan.setup (view s).number prologue (view s).actor) a
 
 -- the seat made its step at a line, and the call made of the number found what the line says
 pub record Follows (r : Arena) (s t : Seat) (prologue : Prologue) (l : Line) (a : Running) (out : Outcome) : Type 0 where
