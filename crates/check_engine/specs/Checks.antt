@@ -1,10 +1,10 @@
 -- What judging the text of a history reads, answers and writes, and what it may be refused.
 use Rattle.std.specs.Prelude.{◌≡◌, ◌↔◌, ℕ, List, ◌++◌, Option, Some, None, ⊤, codes, decimal}
 use Rattle.std.specs.Io.KnownBytes.{Appends}
-use Rattle.history.specs.Blocks.{TakesBeginning}
+use Rattle.text_io.specs.Blocks.{TakesBeginning}
 use Rattle.history.specs.History.{Placement, IsLegal, verdict}
-use Rattle.history.specs.HistoryLines.{IsHistoryInRange, IsFirstFaultOfHistory}
-use Rattle.history.specs.HistoryText.{history_text}
+use Rattle.history_text.specs.HistoryLines.{IsHistoryInRange, IsFirstFaultOfHistory}
+use Rattle.history_text.specs.HistoryText.{history_text}
 use Rattle.history.specs.declared.operations.Cause.{Cause}
 use Rattle.history.specs.declared.operations.Cause.TheVariants.{Shape, Span, Shared, Reply}
 use Rattle.history.specs.declared.operations.Stamped.{Stamped}
@@ -13,7 +13,7 @@ use Rattle.history.specs.declared.operations.Verdict.TheVariants.{Yes, No}
 use Rattle.history.specs.declared.refusals.Refusal.{Refusal}
 use Rattle.history.specs.declared.refusals.Refusal.TheVariants.{Text}
 use Rattle.report.specs.HistoryTable.{history_table_text}
-use Rattle.source_text.specs.Readings.{WereAll}
+use Rattle.text_io.specs.Readings.{WereAll}
 
 -- the name of what is wrong with an operation
 abbrev pub cause_name : Cause → List ℕ

@@ -1,17 +1,16 @@
 //! The engine of `check`: from the bytes of a history to the verdict on it.
 ghost use Rattle.std.specs.Prelude.{◌≡◌, ◌≢◌, ◌≤◌, ◌⊎◌, IfErr, IfOk, OnOk, length};
 ghost use Rattle.std.specs.Io.KnownBytes.{Appends};
-ghost use Rattle.history.specs.Blocks.{TakesBeginning, GivesUp};
+ghost use Rattle.text_io.specs.Blocks.{TakesBeginning, GivesUp};
 ghost use Rattle.engine_faults.specs.Faults.{IsRunRefusal};
 ghost use Rattle.check_engine.specs.Checks.{cause_name, no_text, verdict_text, IsTextOf, TellsVerdict, BeginsVerdict, TellsFirstFault};
-ghost use Rattle.source_text.specs.Readings.{EndsReadingFor};
+ghost use Rattle.text_io.specs.Readings.{EndsReadingFor};
 
 use crate::texts::HistoryTexts;
-use history::{Cause, Line, Refusal, Sink, Source, Stamped, Verdict, check};
+use history::{Cause, Refusal, Stamped, Verdict, check};
 use report::history_table;
-use sink_text::send;
-use source_text::parse_source;
 use std::alloc::Global;
+use text_io::{Line, Sink, Source, parse_source, send};
 
 /// Judges the history whose text the reader gives, and writes the verdict: for Yes the table of the
 /// history, and else one line, `no` with the operation's place in the list and what is wrong with it.

@@ -1,14 +1,15 @@
 //! Texts of histories, as they are parsed.
-use history::{Refusal, Stamped, parse_history};
-use source_text::Parser;
+use history::{Refusal, Stamped};
+use history_text::parse_history;
 use std::alloc::Global;
+use text_io::Parser;
 
 /// Texts of histories.
 pub struct HistoryTexts;
 
 impl Parser for HistoryTexts {
-    ghost use Rattle.history.specs.HistoryLines.{First, HistoryDue, HistoryLine, IsHistoryInRange, history_grammar};
-    ghost use Rattle.history.specs.HistoryText.{history_text};
+    ghost use Rattle.history_text.specs.HistoryLines.{First, HistoryDue, HistoryLine, IsHistoryInRange, history_grammar};
+    ghost use Rattle.history_text.specs.HistoryText.{history_text};
 
     type Parsed = Vec<Stamped>;
 

@@ -1,7 +1,7 @@
 -- Exit statuses, and the line that tells of a fault.
 use Rattle.std.specs.Prelude.{◌≡◌, ◌⊎◌, ℕ, List, Bool, Option, Result, Ok, Err}
 use Rattle.std.specs.Io.KnownBytes.{Appends}
-use Rattle.history.specs.Blocks.{TakesBeginning, GivesUp}
+use Rattle.text_io.specs.Blocks.{TakesBeginning, GivesUp}
 use Rattle.text_lines.specs.Lines.{HasNo, line}
 use Rattle.history.specs.declared.operations.Verdict.{Verdict}
 use Rattle.history.specs.declared.operations.Verdict.TheVariants.{Yes, No}

@@ -4,8 +4,8 @@ ghost use Rattle.engine_faults.specs.Endings.{status_of, TakesLine};
 
 use crate::faults::Fault;
 use crate::spelling::line_of;
-use history::{Sink, Verdict};
-use sink_text::send;
+use history::Verdict;
+use text_io::{Sink, send};
 
 /// The exit status: 0 where all is well, 3 where a history was judged No, and 1 at a fault, whose line
 /// is written.

@@ -2,9 +2,9 @@
 ghost use Rattle.std.specs.Prelude.{◌≡◌, ◌<◌, ℕ, List, length};
 ghost use Rattle.text_lines.specs.Lines.{HasNo, line as line_saying};
 
-use history::{LINE_ROOM, Line};
 use std::fmt;
 use std::fmt::Write;
+use text_io::{LINE_ROOM, Line};
 
 /// How many bytes of a text are kept, so that a line feed has room behind them.
 const MOST: usize = LINE_ROOM - 1;

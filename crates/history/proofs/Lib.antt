@@ -1,5 +1,3 @@
-pub mod Sending
-pub mod Rows
 pub mod Rising
 pub mod Placing
 pub mod Judging
@@ -18,8 +16,3 @@ mod OwnOrders
 pub mod Learning
 pub mod Sums
 pub mod Values
-mod NoSpaces
-mod LineReaders
-mod Texts
-mod Steps
-mod OneReading

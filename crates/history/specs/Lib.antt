@@ -1,4 +1,5 @@
 pub mod Limits
+pub mod WornWords
 pub mod Queue
 pub mod Entries
 pub mod Seats
@@ -14,11 +15,3 @@ pub mod Order
 pub mod Linearizability
 pub mod SmallHistories
 pub mod Tallies
-pub mod Devices
-pub mod Scripts
-pub mod Readers
-pub mod Writers
-pub mod Blocks
-pub mod HistoryText
-pub mod HistoryLines
-pub mod HistoryReading

@@ -1,6 +1,5 @@
-//! Laws of the verdict on a history, of its text, and of what is pushed and popped, each the contract of a function that
-//! does nothing.
-ghost use Rattle.std.specs.Prelude.{◌≡◌, ◌≢◌, ◌↔◌, ◌≤◌, ◌++◌, ℕ, List, map, is_some};
+//! Laws of the verdict on a history, and of what is pushed and popped, each the contract of a function that does nothing.
+ghost use Rattle.std.specs.Prelude.{◌≡◌, ◌↔◌, ◌≤◌, ◌++◌, ℕ, List, map, is_some};
 ghost use Rattle.std.specs.List.{filter};
 ghost use Rattle.std.specs.List.Sorted.{IsPermutation};
 ghost use Rattle.history.specs.declared.operations.Entry.{Entry};
@@ -17,9 +16,6 @@ ghost use Rattle.history.specs.Entries.{LeadsTo};
 ghost use Rattle.history.specs.Seats.{Permit, Known, IsSound};
 ghost use Rattle.history.specs.Values.{pushed, popped, OnlyPushes, OnlyPops};
 ghost use Rattle.history.specs.SmallHistories.{taken_too_early, push_lost, taken_twice, pending_push_taken, overlapping_pop_is_empty, own_pop_during_push};
-ghost use Rattle.text_lines.specs.declared.causes.TextCause.{TextCause};
-ghost use Rattle.history.specs.HistoryText.{history_text};
-ghost use Rattle.history.specs.HistoryLines.{IsHistoryInRange, HasFirstFault};
 
 /// A history is judged `Yes` exactly where it is well placed and legal.
 pub fn yes_is_placed_and_legal()
@@ -110,25 +106,4 @@ pub fn who_alone_may_did_all()
         → popped k.mine ≡ popped k.seen }
     ensures pushes { (ps : List Permit) (k : Known) → IsSound ps k → OnlyPushes ps k.number
         → pushed k.mine ≡ pushed k.seen }
-{}
-
-/// A text is that of one history in range at most.
-pub fn a_text_is_of_one_history()
-    ensures { (a b : List Stamped) → IsHistoryInRange a → IsHistoryInRange b
-        → history_text a ≡ history_text b → a ≡ b }
-{}
-
-/// The first faulty line of a text is one, and wrong for one cause; the text of a history in range has none.
-pub fn a_text_has_one_first_fault()
-    ensures one { (text : List ℕ) (m n : ℕ) (c d : TextCause)
-        → HasFirstFault text m c → HasFirstFault text n d → (m ≡ n) × (c ≡ d) }
-    ensures none { (ops : List Stamped) (n : ℕ) (c : TextCause)
-        → IsHistoryInRange ops → ¬ HasFirstFault (history_text ops) n c }
-{}
-
-/// Every text is that of a history in range or has a first faulty line: it can't be that it is neither.
-pub fn a_text_is_a_history_or_faulty()
-    ensures { (text : List ℕ)
-        → ((ops : List Stamped) → IsHistoryInRange ops → text ≢ history_text ops)
-        → ¬ ((n : ℕ) (c : TextCause) → ¬ HasFirstFault text n c) }
 {}

@@ -18,7 +18,7 @@ pub enum WornWord {
 
 impl fmt::Display for WornWord {
     ghost use Rattle.std.specs.Prelude.{Some};
-    ghost use Rattle.history.specs.HistoryText.{word_text};
+    ghost use Rattle.history.specs.WornWords.{word_text};
 
     ghost output = { λ word. Some (word_text word) };
 

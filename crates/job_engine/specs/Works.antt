@@ -1,7 +1,7 @@
 -- What work on the text of jobs reads and writes, and what it may be refused.
 use Rattle.std.specs.Prelude.{◌≡◌, ℕ, ◌+◌, ◌<◌, ◌≤◌, ◌⊎◌, Bool, List, Option, Some, None, Result, Err, ⊤}
 use Rattle.std.specs.Io.KnownBytes.{Appends}
-use Rattle.history.specs.Blocks.{TakesBeginning}
+use Rattle.text_io.specs.Blocks.{TakesBeginning}
 use Rattle.history.specs.declared.refusals.Refusal.{Refusal}
 use Rattle.history.specs.declared.refusals.Refusal.TheVariants.{Memory, BadSize, Text, Read, Write, Lost}
 use Rattle.job_results.specs.declared.jobs.Job.{Job}
@@ -9,7 +9,7 @@ use Rattle.job_results.specs.Jobs.{job_rows}
 use Rattle.job_results.specs.JobTexts.{jobs_text, AreJobsInRange, IsFirstFaultOfJobs}
 use Rattle.job_results.specs.JobReading.{said_jobs}
 use Rattle.report.specs.ResultsTable.{results_text}
-use Rattle.source_text.specs.Readings.{WereAll, EndsReadingFor}
+use Rattle.text_io.specs.Readings.{WereAll, EndsReadingFor}
 
 -- there are not 1 to 64 workers, or not so many nodes: 3 more than workers, to 16,777,214
 abbrev pub IsBadSize : (workers nodes : ℕ) → Type 0

@@ -1,8 +1,8 @@
 //! Texts of jobs, as they are parsed.
 use history::Refusal;
 use job_results::{Job, parse_jobs};
-use source_text::Parser;
 use std::alloc::Global;
+use text_io::Parser;
 
 /// Texts of jobs.
 pub struct JobTexts;

@@ -1,21 +1,21 @@
 //! Reads the text of jobs, has workers do them, and writes the table of their results.
 ghost use Rattle.std.specs.Prelude.{◌≡◌, ◌≢◌, ◌↔◌, IfErr, IfOk, OnErr, OnOk, IsTrue, Err};
-ghost use Rattle.history.specs.Blocks.{GivesUp};
-ghost use Rattle.source_text.specs.Readings.{EndsReadingFor};
+ghost use Rattle.text_io.specs.Blocks.{GivesUp};
+ghost use Rattle.text_io.specs.Readings.{EndsReadingFor};
 ghost use Rattle.job_engine.specs.Crews.{crew_plan, HasQueue};
 ghost use Rattle.job_engine.specs.Works.{AreSized, IsBadSize, IsTextOf, WritesResults, BeginsResults, TellsOfText, IsReadingRefusal, IsWorkRefusal, EndsReadingOrUnread};
 
 use crate::crews::results_by;
 use crate::texts::JobTexts;
-use history::{Refusal, Sink, Source};
+use history::Refusal;
 use job_results::Job;
 use line_table::Kind;
 use node_arena::MOST_NODE;
 use report::results_table;
-use source_text::parse_source;
 use std::alloc::Global;
 use std::sync::Wait;
 use std::thread::Threads;
+use text_io::{Sink, Source, parse_source};
 
 /// The greatest number of workers.
 const MOST_WORKERS: u32 = 64;

@@ -4,7 +4,7 @@ use Rattle.std.proofs.Math.Seq.{drop-cons}
 use Rattle.std.specs.List.{flat_map}
 use Rattle.std.proofs.lemmas.List.Concat.{flat_map-cons}
 use Rattle.std.specs.Io.KnownBytes.{Appends}
-use Rattle.history.specs.Blocks.{Sends, TakesBeginning}
+use Rattle.text_io.specs.Blocks.{Sends, TakesBeginning}
 use Rattle.report.proofs.UnderWay.{IsUnderWay, under_way_first, under_way_more, under_way_stops, under_way_done, under_way_ends, under_way_stops_last}
 
 module _ (h x y z : List ℕ) where

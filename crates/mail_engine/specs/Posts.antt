@@ -6,13 +6,13 @@ use Rattle.std.specs.List.Sorted.{IsPermutation, IsNonDecreasingBy, IsStableByKe
 use Rattle.std.specs.Ordering.{nat_cmp}
 use Rattle.line_table.specs.declared.lines.Kind.{Kind}
 use Rattle.text_lines.specs.Numerals.{IsWithin}
-use Rattle.history.specs.Blocks.{TakesBeginning}
+use Rattle.text_io.specs.Blocks.{TakesBeginning}
 use Rattle.history.specs.declared.refusals.Refusal.{Refusal}
 use Rattle.history.specs.declared.refusals.Refusal.TheVariants.{NoNode, WornOut, Memory, BadSize, Text, Read, Write, Lost}
 use Rattle.mail_text.specs.MailTexts.{SaidLetter, mail_text, IsMailInRange, IsFirstFaultOfMail}
 use Rattle.mailbox.specs.declared.receiver.Letter.{Letter}
 use Rattle.mailbox.specs.Posting.{texts_of}
-use Rattle.source_text.specs.Readings.{WereAll}
+use Rattle.text_io.specs.Readings.{WereAll}
 use Rattle.mail_engine.specs.Rows.{mail_plan, HasQueue}
 
 -- the line that says how many letters there are

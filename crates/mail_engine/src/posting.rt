@@ -1,9 +1,9 @@
 //! Reads the text of mail, sends its letters, and writes the letters taken.
 ghost use Rattle.std.specs.Prelude.{◌≡◌, ◌≢◌, length, IfErr, IfOk, OnOk};
 ghost use Rattle.std.specs.List.{All};
-ghost use Rattle.history.specs.Blocks.{GivesUp};
+ghost use Rattle.text_io.specs.Blocks.{GivesUp};
 ghost use Rattle.mail_text.specs.MailTexts.{said_letters, IsMailInRange};
-ghost use Rattle.source_text.specs.Readings.{EndsReadingFor};
+ghost use Rattle.text_io.specs.Readings.{EndsReadingFor};
 ghost use Rattle.node_arena.specs.Seats.{plan_of};
 ghost use Rattle.mail_engine.specs.Rows.{mail_plan, IsOpened};
 ghost use Rattle.mail_engine.specs.Posts.{IsTextOf, ArePosted, AreTaken, WritesLetters, BeginsLetters, TellsOfText, IsReadingRefusal, IsSendingRefusal, IsPostRefusal};
@@ -12,15 +12,15 @@ use crate::opening::{OnWords, non_blocking_seats, two_lock_seats};
 use crate::sharing::tasks_of;
 use crate::telling::tell;
 use crate::texts::MailTexts;
-use history::{Refusal, Sink, Source};
+use history::Refusal;
 use line_table::Kind;
 use mail_text::Mail;
 use mailbox::{Office, post};
 use node_arena::MOST_COUNT;
-use source_text::parse_source;
 use std::alloc::Global;
 use std::sync::Wait;
 use std::thread::Threads;
+use text_io::{Sink, Source, parse_source};
 
 /// How many nodes more than letters and senders there are.
 const SPARE_NODES: u32 = 2;

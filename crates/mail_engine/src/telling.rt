@@ -2,11 +2,12 @@
 ghost use Rattle.std.specs.Prelude.{◌≡◌, ◌++◌, ◌⊎◌, OnOk, OnErr, IfOk, IfErr};
 ghost use Rattle.std.specs.Io.KnownBytes.{Appends};
 ghost use Rattle.std.specs.List.{flat_map};
-ghost use Rattle.history.specs.Blocks.{Sends, TakesBeginning, GivesUp};
+ghost use Rattle.text_io.specs.Blocks.{Sends, TakesBeginning, GivesUp};
 ghost use Rattle.mail_engine.specs.Posts.{count_text, sender_text, letter_text, letters_text, AreBySender, WritesLetters, BeginsLetters};
 
-use history::{Block, Line, Refusal, Sink};
+use history::Refusal;
 use mailbox::Letter;
+use text_io::{Block, Line, Sink};
 
 /// Writes how many letters there are, and a line for each: by rising sender, those of one sender in their order.
 ///

@@ -1,8 +1,8 @@
 //! Texts of mail, as they are parsed.
 use history::Refusal;
 use mail_text::{Mail, parse_mail};
-use source_text::Parser;
 use std::alloc::Global;
+use text_io::Parser;
 
 /// Texts of mail.
 pub struct MailTexts;

@@ -2,7 +2,7 @@
 use check_engine::check_text;
 use command_line::{Command, Task, read_words};
 use engine_faults::{Fault, end_of};
-use history::{ReaderSource, Refusal, Source, Verdict, WriterSink};
+use history::{Refusal, Verdict};
 use job_engine::work_text;
 use mail_engine::post_text;
 use run_engine::run_text;
@@ -11,6 +11,7 @@ use std::rt::Runtime;
 use std::sync::Wait;
 use std::thread::Threads;
 use std::{env, io};
+use text_io::{ReaderSource, Source, WriterSink};
 
 /// Does what the program's words ask for, and answers the exit status: 0 where it is done or help
 /// was asked for, 1 where it was refused, 2 where the words were, 3 where a history was judged No.

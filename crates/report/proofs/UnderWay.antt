@@ -1,8 +1,8 @@
 -- A text on its way to a sink, piece by piece.
 use Rattle.std.proofs.Common.{◌≡◌, ℕ, List, [], ◌++◌, Option, refl, sym, subst, ◌∙◌, append_assoc, append-nil}
 use Rattle.std.specs.Io.KnownBytes.{Appends}
-use Rattle.history.specs.Blocks.{Sends, TakesBeginning}
-use Rattle.history.proofs.Sending.{Sends-none, Sends-more, Sends-trans, Appends-Sends, TakesBeginning-longer, TakesBeginning-trans, TakesBeginning-held}
+use Rattle.text_io.specs.Blocks.{Sends, TakesBeginning}
+use Rattle.text_io.proofs.Sends.{Sends-none, Sends-more, Sends-trans, Appends-Sends, TakesBeginning-longer, TakesBeginning-trans, TakesBeginning-held}
 
 -- of a whole text, a sink took a front, some is held back, and the rest is still to come
 pub record IsUnderWay (old new : Option (List ℕ)) (whole held rest : List ℕ) : Type 0 where

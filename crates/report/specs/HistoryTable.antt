@@ -3,7 +3,7 @@ use Rattle.std.specs.Prelude.{ℕ, List, ◌++◌, map, codes, decimal}
 use Rattle.std.specs.List.{flat_map}
 use Rattle.history.specs.declared.operations.Stamped.{Stamped}
 use Rattle.history.specs.History.{point_or_zero, by_point}
-use Rattle.history.specs.HistoryText.{call_text, reply_text}
+use Rattle.history_text.specs.HistoryText.{call_text, reply_text}
 use Rattle.report.specs.declared.kinds.Kind.{Kind}
 use Rattle.report.specs.Columns.{right_in, left_in}
 use Rattle.report.specs.Kinds.{kind_of, kind_text, same_kind}

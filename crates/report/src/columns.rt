@@ -2,7 +2,7 @@
 ghost use Rattle.std.specs.Prelude.{◌≡◌, ◌+◌, ◌≤◌, ◌++◌, length, decimal, replicate};
 ghost use Rattle.report.specs.Columns.{right_in, left_in};
 
-use history::{LINE_ROOM, Line};
+use text_io::{LINE_ROOM, Line};
 
 /// How many places a column has at most; a number of 64 bits has no more digits.
 const WIDEST: usize = 20;

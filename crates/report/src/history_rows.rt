@@ -4,7 +4,9 @@ ghost use Rattle.report.specs.HistoryTable.{row_text, count_text};
 
 use crate::columns::{push_left, push_right};
 use crate::kinds::{Kind, name_of};
-use history::{Line, Stamped, push_call, push_reply};
+use history::Stamped;
+use history_text::{push_call, push_reply};
+use text_io::Line;
 
 // The line of an operation with this place.
 #[tactic(auto, unfolding(crate::specs::HistoryTable::row_text))]

@@ -2,7 +2,7 @@
 ghost use Rattle.std.specs.Prelude.{◌≡◌, ◌++◌, ◌⊎◌, OnOk, IfErr, OnErr, map};
 ghost use Rattle.std.specs.Io.KnownBytes.{Appends};
 ghost use Rattle.std.specs.List.{flat_map};
-ghost use Rattle.history.specs.Blocks.{Sends, TakesBeginning, GivesUp};
+ghost use Rattle.text_io.specs.Blocks.{Sends, TakesBeginning, GivesUp};
 ghost use Rattle.history.specs.Checking.{shown};
 ghost use Rattle.report.specs.HistoryTable.{row_text, count_text, table_text, history_table_text};
 
@@ -10,9 +10,10 @@ use crate::counting::counts_of;
 use crate::history_rows::{count_line, row_line};
 use crate::kinds::Kind;
 use crate::sorting::by_place;
-use history::{Block, Refusal, Sink, Stamped};
+use history::{Refusal, Stamped};
 use indexmap::IndexMap;
 use std::alloc::Global;
+use text_io::{Block, Sink};
 
 /// Writes the table of a history: `yes`, a line for each operation that has a place, by rising place,
 /// and a line for each kind of operation with how many there are of it.

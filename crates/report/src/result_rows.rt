@@ -5,8 +5,8 @@ ghost use Rattle.report.specs.ResultsTable.{value_text, results_header_text, res
 
 use crate::columns::{push_left, push_right};
 use crate::job_kinds::name_of_job;
-use history::{LINE_ROOM, Line};
 use job_results::{JobKind, JobResult, Value};
+use text_io::{LINE_ROOM, Line};
 
 // How many digits a number of 128 bits has at most.
 const MOST_DIGITS: usize = 39;

@@ -2,16 +2,17 @@
 ghost use Rattle.std.specs.Prelude.{◌≡◌, ◌++◌, ◌⊎◌, OnOk, IfErr, OnErr, length, map};
 ghost use Rattle.std.specs.Io.KnownBytes.{Appends};
 ghost use Rattle.std.specs.List.{flat_map};
-ghost use Rattle.history.specs.Blocks.{Sends, TakesBeginning, GivesUp};
+ghost use Rattle.text_io.specs.Blocks.{Sends, TakesBeginning, GivesUp};
 ghost use Rattle.job_results.specs.Results.{row_of};
 ghost use Rattle.report.specs.ResultsTable.{result_text, job_count_text, results_parts_text, results_text};
 
 use crate::job_kinds::job_counts_of;
 use crate::result_rows::{job_count_line, result_line, results_header_line};
-use history::{Block, Refusal, Sink};
+use history::Refusal;
 use indexmap::IndexMap;
 use job_results::{JobKind, JobResult};
 use std::alloc::Global;
+use text_io::{Block, Sink};
 
 /// Writes the table of results: `results` and their number, a line for each result in the order of the
 /// list, and a line for each kind of job with how many there are of it.

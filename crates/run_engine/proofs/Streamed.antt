@@ -14,7 +14,7 @@ use Rattle.schedule_text.specs.declared.parsing.Header.{Header}
 use Rattle.schedule_text.specs.declared.schedules.Event.{Event}
 use Rattle.schedule_text.proofs.EventStreams.{HasRead-started, HasRead-event, HasRead-refused, HasRead-all, refused_reading}
 use Rattle.schedule_text.proofs.Streams.{prepend-nothing}
-use Rattle.source_text.specs.Readings.{WereAll, EndsReadingAt}
+use Rattle.text_io.specs.Readings.{WereAll, EndsReadingAt}
 use Rattle.step_machine.specs.Calls.{setup_from}
 use Rattle.step_machine.specs.Machine.{World, opening}
 use Rattle.text_lines.specs.declared.causes.TextCause.{TextCause}

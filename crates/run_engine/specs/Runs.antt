@@ -1,8 +1,8 @@
 -- What the run of a schedule reads, does and writes, and what it may be refused.
 use Rattle.std.specs.Prelude.{◌≡◌, ◌≢◌, ℕ, ◌+◌, ◌<◌, ◌≤◌, Bool, true, List, [], ◌∷◌, ◌++◌, length, replicate, Option, Some, None, Result, Ok, Err, map, ⊤, IfSome}
 use Rattle.std.specs.Io.KnownBytes.{Appends}
-use Rattle.history.specs.Blocks.{TakesBeginning}
-use Rattle.history.specs.HistoryText.{history_text}
+use Rattle.text_io.specs.Blocks.{TakesBeginning}
+use Rattle.history_text.specs.HistoryText.{history_text}
 use Rattle.history.specs.declared.operations.Stamped.{Stamped}
 use Rattle.history.specs.declared.refusals.Refusal.{Refusal}
 use Rattle.history.specs.declared.refusals.Refusal.TheVariants.{BadSize, IdleActor, NotHere, NoSuchActor, Text, Write}
@@ -17,7 +17,7 @@ use Rattle.schedule_text.specs.declared.schedules.Event.{Event}
 use Rattle.schedule_text.specs.declared.schedules.Event.TheVariants.{Begin, Step as StepAt, Steps, Give}
 use Rattle.schedule_text.specs.Schedules.{Schedule, moves_of, moves_of_event}
 use Rattle.schedule_text.specs.Texts.{schedule_lines, schedule_text, version_due, IsInRange}
-use Rattle.source_text.specs.Readings.{WereAll, EndsReadingAt}
+use Rattle.text_io.specs.Readings.{WereAll, EndsReadingAt}
 use Rattle.engine_faults.specs.Faults.{IsEventRefusal, IsRunRefusal}
 use Rattle.engine_faults.specs.declared.faults.Fault.{Fault}
 

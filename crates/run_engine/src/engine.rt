@@ -1,12 +1,14 @@
 //! The engine of `run`: from a reader's bytes to a writer's.
 ghost use Rattle.std.specs.Prelude.{◌≡◌, ◌≢◌, IfErr, IfOk, IfSome, OnOk};
 ghost use Rattle.run_engine.specs.Runs.{BeginsRun, WritesRun, EndsReading, IsRunFault, IsRunOf, RunRefused, TellsFaultyLine};
-ghost use Rattle.history.specs.Blocks.{GivesUp};
+ghost use Rattle.text_io.specs.Blocks.{GivesUp};
 
 use crate::streaming::world_of_text;
 use engine_faults::Fault;
-use history::{Refusal, Sink, Source, Stamped, print_history};
+use history::{Refusal, Stamped};
+use history_text::print_history;
 use std::alloc::Global;
+use text_io::{Sink, Source};
 
 /// The history of the schedule whose text a source gives.
 fn history_of<R: Source>(alloc: Global, reader: &mut R) -> Result<Vec<Stamped>, Fault>

@@ -13,10 +13,11 @@ ghost use Rattle.step_machine.specs.Machine.{opening};
 
 use crate::running::make;
 use engine_faults::Fault;
-use history::{Refusal, Source};
+use history::Refusal;
 use schedule_text::{EventStream, Header};
 use std::alloc::Global;
 use step_machine::World;
+use text_io::Source;
 
 /// The line of a schedule's first event.
 const FIRST_EVENT_LINE: u64 = 7;

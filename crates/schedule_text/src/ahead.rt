@@ -5,8 +5,9 @@ ghost use Rattle.text_lines.specs.Lines.{HasNo, line};
 ghost use Rattle.schedule_text.specs.Streams.{stream, GaveByte, GaveLine, EndedInLine, IsOver, HasFailed, WasRead};
 
 use crate::held::HeldLine;
-use history::{Refusal, Source};
+use history::Refusal;
 use std::marker::Model;
+use text_io::Source;
 use text_lines::line_at;
 
 /// How many bytes are read ahead at most.

@@ -9,8 +9,9 @@ use crate::ahead::Ahead;
 use crate::parsing::{HEADER_LINES, Header};
 use crate::schedules::Event;
 use crate::streaming::{due_from, header_from};
-use history::{Refusal, Source};
+use history::Refusal;
 use std::marker::Model;
+use text_io::Source;
 use text_lines::TextCause;
 
 /// What further calls of an `EventStream` answer.

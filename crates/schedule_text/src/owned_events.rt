@@ -8,7 +8,8 @@ ghost use Rattle.schedule_text.specs.declared.event_stream.Stage.{Stage};
 use crate::event_stream::{EventStream, Stage};
 use crate::parsing::Header;
 use crate::schedules::Event;
-use history::{Refusal, Source};
+use history::Refusal;
+use text_io::Source;
 
 /// The events of a schedule, with the source that gives its text: an `EventStream` that keeps its source.
 #[derive(Drop)]

@@ -2,14 +2,15 @@
 ghost use Rattle.std.specs.Prelude.{◌≡◌, ◌+◌, ◌≤◌, ◌++◌, ◌∷◌, length, OnOk, IfErr, OnErr};
 ghost use Rattle.std.specs.Io.KnownBytes.{Appends};
 ghost use Rattle.std.specs.List.{flat_map};
-ghost use Rattle.history.specs.Blocks.{TakesBeginning, GivesUp};
+ghost use Rattle.text_io.specs.Blocks.{TakesBeginning, GivesUp};
 ghost use Rattle.text_lines.specs.Lines.{spaced};
 ghost use Rattle.text_lines.specs.Numerals.{numeral};
 ghost use Rattle.schedule_text.specs.Texts.{kind_name, call_words, event_words, event_text, header_text, schedule_text};
 
 use crate::schedules::{Event, Schedule};
-use history::{Block, LINE_ROOM, Line, Op, Refusal, Sink};
+use history::{Op, Refusal};
 use line_table::Kind;
+use text_io::{Block, LINE_ROOM, Line, Sink};
 
 /// Writes the text of a schedule: six header lines, then a line for each event, in their order.
 ///

@@ -7,8 +7,9 @@ ghost use Rattle.schedule_text.specs.Texts.{schedule_text, IsInRange};
 use crate::event_stream::EventStream;
 use crate::parsing::keep;
 use crate::schedules::Schedule;
-use history::{Refusal, Source};
+use history::Refusal;
 use std::alloc::Global;
+use text_io::Source;
 
 /// The schedule whose text a source gives, whole; the text isn't held.
 ///

@@ -12,8 +12,9 @@ use crate::fields::{Field, kind_in, number_of};
 use crate::held::HeldLine;
 use crate::parsing::{Header, is_version};
 use crate::schedules::Event;
-use history::{Refusal, Source};
+use history::Refusal;
 use line_table::Kind;
+use text_io::Source;
 use text_lines::TextCause;
 
 // What is held of the line behind so many, which is due.

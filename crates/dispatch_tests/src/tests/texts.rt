@@ -1,8 +1,9 @@
 //! Texts of jobs that are done over both queues, from any source to any sink.
 use super::queues::KINDS;
-use history::{Refusal, Script, Trouble};
+use history::Refusal;
 use job_engine::work_text;
 use std::test::Fail;
+use text_io::{Script, Trouble};
 
 const FOUR: &[u8] = b"jobs 4
 add 2 3

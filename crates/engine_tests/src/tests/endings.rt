@@ -1,8 +1,9 @@
 use crate::tests::comparing::same;
 use engine_faults::{Fault, end_of};
-use history::{Cause, Refusal, Script, TextCause, Trouble, Verdict, WornWord};
+use history::{Cause, Refusal, TextCause, Verdict, WornWord};
 use std::process::Abort;
 use std::test::Fail;
+use text_io::{Script, Trouble};
 
 /// Outcomes, the refusals among them with the lines that they are told of; the status, and what is written.
 const ENDS: [(Result<Verdict, (Refusal, Option<u64>)>, u8, &str); 12] = [

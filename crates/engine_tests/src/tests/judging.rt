@@ -1,9 +1,10 @@
 use crate::tests::trials::{
     Engine, answers, does, does_by_any_piece, tells_each_end, writes_a_beginning, writes_nothing,
 };
-use history::{Cause, Refusal, Script, TextCause, Trouble, Verdict};
+use history::{Cause, Refusal, TextCause, Verdict};
 use std::alloc::{AllocError, Global};
 use std::test::Fail;
+use text_io::{Script, Trouble};
 use worked_texts::RUNS;
 
 const FOUR: &str = "history 4

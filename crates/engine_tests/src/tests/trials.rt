@@ -4,12 +4,13 @@ ghost use Rattle.std.specs.Prelude.{◌<◌};
 use crate::tests::comparing::same;
 use check_engine::check_text;
 use engine_faults::{Fault, end_of};
-use history::{Refusal, Script, TextCause, Trouble, Verdict};
+use history::{Refusal, TextCause, Verdict};
 use run_engine::run_text;
 use std::alloc::Global;
 use std::fmt::Display;
 use std::process::Abort;
 use std::test::Fail;
+use text_io::{Script, Trouble};
 
 /// The engine of a command.
 #[derive(Clone, Copy)]

@@ -1,6 +1,6 @@
 //! Texts of mail that are posted over both queues, from any source to any sink.
 use super::comparing::same;
-use history::{Refusal, Script, Trouble};
+use history::Refusal;
 use line_table::Kind;
 use mail_engine::post_text;
 use std::alloc::Global;
@@ -8,6 +8,7 @@ use std::process::Abort;
 use std::sync::Wait;
 use std::test::Fail;
 use std::thread::Threads;
+use text_io::{Script, Trouble};
 
 const KINDS: [Kind; 2] = [Kind::TwoLock, Kind::NonBlocking];
 

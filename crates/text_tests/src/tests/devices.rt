@@ -1,10 +1,9 @@
 //! What no clause says: the texts as they stand in a file, the messages, and calls that succeed.
 use crate::tests::comparing::same;
-use history::{
-    Body, Op, ReaderSource, Refusal, Reply, Script, Sink, Source, Stamped, Taken, TextCause,
-    Trouble, WornWord, WriterSink, print_history,
-};
+use history::{Body, Op, Refusal, Reply, Stamped, Taken, TextCause, WornWord};
+use history_text::print_history;
 use std::test::Fail;
+use text_io::{ReaderSource, Script, Sink, Source, Trouble, WriterSink};
 
 fn body(number: u64) -> Result<Body, Fail> {
     Ok(Body::new(number).ok_or("not a body")?)

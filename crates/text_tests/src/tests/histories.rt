@@ -1,10 +1,10 @@
 //! What no clause says: that texts are read where memory is there, and the faults of known texts.
 use crate::tests::comparing::same;
-use history::{
-    Body, Op, Refusal, Reply, Script, Stamped, Taken, TextCause, parse_history, print_history,
-};
+use history::{Body, Op, Refusal, Reply, Stamped, Taken, TextCause};
+use history_text::{parse_history, print_history};
 use std::alloc::{AllocError, Global};
 use std::test::Fail;
+use text_io::Script;
 
 const TWO: &[u8] = b"history 2
 1 enq 5 first 1 last 10 at 8 reply done

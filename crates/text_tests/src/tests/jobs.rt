@@ -1,10 +1,11 @@
 //! What no clause says: that texts of jobs are read where memory is there, tables of results as they stand in a file, and the faults of known texts.
 use crate::tests::comparing::same;
-use history::{Refusal, Script, TextCause};
+use history::{Refusal, TextCause};
 use job_results::{Job, JobResult, parse_jobs};
 use report::results_table;
 use std::alloc::{AllocError, Global};
 use std::test::Fail;
+use text_io::Script;
 
 const FOUR: &[u8] = b"jobs 4
 add 2 3

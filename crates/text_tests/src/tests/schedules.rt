@@ -1,10 +1,11 @@
 use crate::tests::comparing::same;
-use history::{Body, Op, Script};
+use history::{Body, Op};
 use line_table::{Kind, Line};
 use schedule_text::{Event, Schedule, parse, print};
 use std::alloc::Global;
 use std::process::Abort;
 use std::test::Fail;
+use text_io::Script;
 use worked_texts::RUNS;
 
 const WIDEST: &str = "msq schedule 1

@@ -1,9 +1,10 @@
 //! Schedules from sources that give few bytes a call, or fail.
 use crate::tests::comparing::same;
 use crate::tests::schedule_faults::{FAULTS, text_with};
-use history::{Body, Op, Refusal, Script, Trouble};
+use history::{Body, Op, Refusal};
 use schedule_text::{Event, EventStream, print, read_schedule};
 use std::test::Fail;
+use text_io::{Script, Trouble};
 use text_lines::TextCause;
 use worked_texts::RUNS;
 

@@ -1,10 +1,11 @@
 //! What no clause says: tables as they stand in a file, and a call that succeeds.
 use crate::tests::comparing::same;
-use history::{Body, Op, Refusal, Reply, Script, Stamped, Taken};
+use history::{Body, Op, Refusal, Reply, Stamped, Taken};
 use report::history_table;
 use std::alloc::Global;
 use std::process::Abort;
 use std::test::Fail;
+use text_io::Script;
 
 fn body(number: u64) -> Result<Body, Fail> {
     Ok(Body::new(number).ok_or("not a body")?)

@@ -1,6 +1,6 @@
 use Rattle.std.proofs.Common.{rules, subst, OnOk, OnErr}
 use Rattle.std.specs.Io.KnownBytes.{Appends}
-use Rattle.history.specs.Blocks.{TakesBeginning}
+use Rattle.text_io.specs.Blocks.{TakesBeginning}
 use Rattle.report.proofs.ResultRows.{results-counted}
 use Rattle.report.proofs.result_tables.results_table.Goals as goal
 

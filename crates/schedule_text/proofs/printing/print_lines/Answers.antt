@@ -1,8 +1,8 @@
 use Rattle.std.proofs.Common.{◌+◌, drop, ◌∙◌}
 use Rattle.std.specs.List.{flat_map}
 use Rattle.std.proofs.lemmas.Result.{err_from_is_err_and, on_err_weaker}
-use Rattle.history.proofs.Sending.{Sends-trans, TakesBeginning-longer, TakesBeginning-trans, TakesBeginning-held}
-use Rattle.history.proofs.Rows.{rows_more, rows_rest, rows_all}
+use Rattle.text_io.proofs.Sends.{Sends-trans, TakesBeginning-longer, TakesBeginning-trans, TakesBeginning-held}
+use Rattle.text_io.proofs.Rows.{rows_more, rows_rest, rows_all}
 use Rattle.schedule_text.specs.Texts.{event_text}
 use Rattle.schedule_text.proofs.printing.print_lines.Goals as goal
 

@@ -1,6 +1,6 @@
 use Rattle.std.proofs.Common.{◌≡◌, ◌++◌, take}
 use Rattle.std.specs.List.{flat_map}
-use Rattle.history.specs.Blocks.{Sends}
+use Rattle.text_io.specs.Blocks.{Sends}
 use Rattle.schedule_text.specs.Texts.{event_text}
 use Rattle.schedule_text.proofs.printing.print_lines.Given as goal
 

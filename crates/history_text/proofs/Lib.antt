@@ -1,0 +1,5 @@
+mod NoSpaces
+mod LineReaders
+mod Texts
+mod Steps
+mod OneReading

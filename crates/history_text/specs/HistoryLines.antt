@@ -1,0 +1,174 @@
+-- The grammar of histories: what each line may say, in which words, and which of this is in range.
+use Rattle.std.specs.Prelude.{◌≡◌, ◌≤◌, ◌-◌, ◌^◌, ℕ, zero, suc, List, [], ◌∷◌, ◌++◌, Option, Some, None, Bool, true, false, length, codes, map, All}
+use Rattle.text_lines.specs.declared.causes.TextCause.{TextCause}
+use Rattle.text_lines.specs.Lines.{spaced}
+use Rattle.text_lines.specs.Numerals.{numeral, IsWithin}
+use Rattle.history.specs.Limits.{body_bits, actor_bits}
+use Rattle.text_lines.specs.Grammars.{Grammar, IsFirstFault}
+use Rattle.history.specs.declared.refusals.Refusal.{Refusal}
+use Rattle.history.specs.declared.refusals.Refusal.TheVariants.{WornOut, Memory, Text}
+use Rattle.history.specs.declared.operations.Op.{Op}
+use Rattle.history.specs.declared.operations.Op.TheVariants.{Enq, Deq}
+use Rattle.history.specs.declared.operations.Taken.{Taken}
+use Rattle.history.specs.declared.operations.Reply.{Reply}
+use Rattle.history.specs.declared.operations.Reply.TheVariants.{Done, Value, Empty, Refused}
+use Rattle.history.specs.declared.operations.Stamped.{Stamped}
+use Rattle.history.specs.History.{leaves}
+use Rattle.history.specs.WornWords.{word_text}
+use Rattle.history_text.specs.HistoryText.{refusal_text}
+
+-- what a line of a history says: how many operations there are, or one of them
+pub data HistoryLine : Type 0 where
+  Count : ℕ → HistoryLine
+  Operation : Stamped → HistoryLine
+
+-- what is due: the first line, or so many operations
+pub data HistoryDue : Type 0 where
+  First : HistoryDue
+  Operations : ℕ → HistoryDue
+
+-- a call: `enq` and the body, or `deq`
+abbrev pub call_words : Op → List (List ℕ)
+call_words (Enq body) = codes "enq" ∷ numeral body ∷ []
+call_words Deq = codes "deq" ∷ []
+
+-- the number of a step, or a dash where there is none
+abbrev pub step_word : Option ℕ → List ℕ
+step_word None = codes "-"
+step_word (Some step) = numeral step
+
+-- a refusal: its number, and for a worn word the word's name
+abbrev pub refusal_words : Refusal → List (List ℕ)
+refusal_words (WornOut word) = codes "2" ∷ word_text word ∷ []
+refusal_words why = refusal_text why ∷ []
+
+-- a value: the number of the actor that pushed it, and the body
+abbrev pub value_words : Taken → List (List ℕ)
+value_words value = numeral value.from ∷ numeral value.body ∷ []
+
+-- a reply, or a dash where there is none
+abbrev pub reply_words : Option Reply → List (List ℕ)
+reply_words None = codes "-" ∷ []
+reply_words (Some Done) = codes "done" ∷ []
+reply_words (Some (Value value)) = codes "value" ∷ value_words value
+reply_words (Some Empty) = codes "empty" ∷ []
+reply_words (Some (Refused why)) = codes "refused" ∷ refusal_words why
+
+-- the words of an operation behind those of its call
+abbrev pub stamp_words : Stamped → List (List ℕ)
+stamp_words o =
+    codes "first" ∷ numeral o.first ∷ codes "last" ∷ step_word o.last ∷ codes "at" ∷ step_word o.at ∷ codes "reply" ∷ reply_words o.reply
+
+-- the words of an operation
+abbrev pub operation_words : Stamped → List (List ℕ)
+operation_words o = numeral o.actor ∷ call_words o.op ++ stamp_words o
+
+-- the words of a line
+abbrev pub line_words : HistoryLine → List (List ℕ)
+line_words (Count count) = codes "history" ∷ numeral count ∷ []
+line_words (Operation o) = operation_words o
+
+-- a reply is none, or one that a queue may give
+abbrev pub IsQueueReply : Option Reply → Type 0
+IsQueueReply None = Unit {0}
+IsQueueReply (Some Done) = Unit {0}
+IsQueueReply (Some (Value value)) = Unit {0}
+IsQueueReply (Some Empty) = Unit {0}
+IsQueueReply (Some (Refused why)) = leaves why ≡ true
+
+-- the number of an actor
+abbrev pub IsActor : ℕ → Type 0
+IsActor actor = IsWithin 1 (2 ^ actor_bits - 1) actor
+
+-- the number of a body
+abbrev pub IsBody : ℕ → Type 0
+IsBody body = IsWithin 0 (2 ^ body_bits - 1) body
+
+-- the number of a step
+abbrev pub IsStep : ℕ → Type 0
+IsStep step = IsWithin 1 18446744073709551615 step
+
+-- the body of an enqueue is in range
+abbrev pub IsCallInRange : Op → Type 0
+IsCallInRange (Enq body) = IsBody body
+IsCallInRange Deq = Unit {0}
+
+-- the number of a step is in range where there is one
+abbrev pub IsStepInRange : Option ℕ → Type 0
+IsStepInRange None = Unit {0}
+IsStepInRange (Some step) = IsStep step
+
+-- the numbers of a value are in range
+abbrev pub IsValueInRange : Taken → Type 0
+IsValueInRange value = IsActor value.from × IsBody value.body
+
+-- the numbers of a reply are in range
+abbrev pub IsReplyInRange : Option Reply → Type 0
+IsReplyInRange (Some (Value value)) = IsValueInRange value
+IsReplyInRange _ = Unit {0}
+
+-- the numbers of an operation are in range
+pub record IsOperationInRange (o : Stamped) : Type 0 where
+  pub actor : IsActor o.actor
+  pub op : IsCallInRange o.op
+  pub first : IsStep o.first
+  pub last : IsStepInRange o.last
+  pub at : IsStepInRange o.at
+  pub reply : IsReplyInRange o.reply
+
+-- an operation is one that a line of a history may say
+abbrev pub IsReadable : Stamped → Type 0
+IsReadable o = IsQueueReply o.reply × IsOperationInRange o
+
+-- a history that a text can hold: at most 1,000,000 operations, each of which a line may say
+pub record IsHistoryInRange (ops : List Stamped) : Type 0 where
+  pub count : length ops ≤ 1000000
+  pub each : All IsReadable ops
+
+-- whether a line is due
+abbrev pub is_line_due : HistoryDue → Bool
+is_line_due First = true
+is_line_due (Operations zero) = false
+is_line_due (Operations (suc left)) = true
+
+-- what a line may say: first how many operations there are, then an operation
+abbrev pub MaySay : HistoryDue → HistoryLine → Type 0
+MaySay First (Count count) = Unit {0}
+MaySay First (Operation o) = ⊥
+MaySay (Operations left) (Count count) = ⊥
+MaySay (Operations left) (Operation o) = IsQueueReply o.reply
+
+-- there are at most 1,000,000 operations, and the numbers of each are in range
+abbrev pub IsLineInRange : HistoryLine → Type 0
+IsLineInRange (Count count) = count ≤ 1000000
+IsLineInRange (Operation o) = IsOperationInRange o
+
+-- what is due after a line
+abbrev pub due_after : HistoryDue → HistoryLine → HistoryDue
+due_after First (Count count) = Operations count
+due_after First (Operation o) = First
+due_after (Operations left) said = Operations (left - 1)
+
+-- the grammar of histories
+abbrev pub history_grammar : Grammar HistoryDue HistoryLine
+history_grammar = record {
+  is_due = is_line_due;
+  may_say = MaySay;
+  in_range = λ due said. IsLineInRange said;
+  words = λ said. spaced (line_words said);
+  after = due_after;
+}
+
+-- the lines of a history: how many operations there are, and each of them
+abbrev pub history_lines : List Stamped → List HistoryLine
+history_lines ops = Count (length ops) ∷ map (λ o. Operation o) ops
+
+-- the first faulty line of a text, as one of a history, has this number, and is wrong for this cause
+abbrev pub HasFirstFault : List ℕ → ℕ → TextCause → Type 0
+HasFirstFault text number cause = IsFirstFault history_grammar First text number cause
+
+-- the refusal of a text that is no history's: its first faulty line and what is wrong with it, or no room
+abbrev pub IsFirstFaultOfHistory : List ℕ → Refusal → Type 0
+IsFirstFaultOfHistory text (Text number cause) = HasFirstFault text number cause
+IsFirstFaultOfHistory text Memory = Unit {0}
+IsFirstFaultOfHistory text _ = ⊥

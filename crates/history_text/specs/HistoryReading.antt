@@ -1,0 +1,76 @@
+-- What the readers of the parts of an operation's line look for.
+use Rattle.std.specs.Prelude.{◌≡◌, ◌≤◌, ℕ, List, [], ◌∷◌, ◌++◌, Option, Some, codes}
+use Rattle.text_lines.specs.Lines.{line, spaced}
+use Rattle.text_lines.specs.Numerals.{numeral}
+use Rattle.text_lines.specs.Readings.{IsWrong}
+use Rattle.history.specs.declared.refusals.WornWord.{WornWord}
+use Rattle.history.specs.declared.refusals.Refusal.{Refusal}
+use Rattle.history.specs.declared.refusals.Refusal.TheVariants.{Text, Memory}
+use Rattle.history.specs.declared.operations.Taken.{Taken}
+use Rattle.history.specs.declared.operations.Reply.{Reply}
+use Rattle.history.specs.declared.operations.Reply.TheVariants.{Refused}
+use Rattle.history.specs.declared.operations.Stamped.{Stamped}
+use Rattle.history.specs.WornWords.{word_text}
+use Rattle.history_text.specs.HistoryLines.{step_word, value_words, refusal_words, reply_words, operation_words, IsQueueReply, IsOperationInRange}
+
+-- a word and the number behind it
+abbrev pub labelled_number : List ℕ → ℕ → List (List ℕ)
+labelled_number label n = label ∷ numeral n ∷ []
+
+-- a word and the step behind it, or a dash
+abbrev pub labelled_step : List ℕ → Option ℕ → List (List ℕ)
+labelled_step label step = label ∷ step_word step ∷ []
+
+-- these are the words of a reply that a queue may give
+abbrev pub AreOfReply : List (List ℕ) → Option Reply → Type 0
+AreOfReply words reply = IsQueueReply reply × (words ≡ reply_words reply)
+
+-- these are the words of a refusal that a queue may give
+abbrev pub AreOfRefusal : List (List ℕ) → Refusal → Type 0
+AreOfRefusal words why = IsQueueReply (Some (Refused why)) × (words ≡ refusal_words why)
+
+-- these are the words of a value
+abbrev pub AreOfValue : List (List ℕ) → Taken → Type 0
+AreOfValue words value = words ≡ value_words value
+
+-- this is the one word that names a counted word
+abbrev pub AreOfWord : List (List ℕ) → WornWord → Type 0
+AreOfWord words word = words ≡ word_text word ∷ []
+
+-- these are the words of an operation
+abbrev pub AreOfOperation : List (List ℕ) → Stamped → Type 0
+AreOfOperation words o = IsQueueReply o.reply × (words ≡ operation_words o)
+
+-- a line says an operation
+abbrev pub SaysOperation : List ℕ → Stamped → Type 0
+SaysOperation says o = IsQueueReply o.reply × (says ≡ spaced (operation_words o))
+
+-- these are the words of the first line
+abbrev pub AreOfCount : List (List ℕ) → ℕ → Type 0
+AreOfCount words count = words ≡ labelled_number (codes "history") count
+
+-- a line says how many operations there are
+abbrev pub SaysCount : List ℕ → ℕ → Type 0
+SaysCount says count = says ≡ spaced (labelled_number (codes "history") count)
+
+-- there are at most 1,000,000 operations
+abbrev pub IsCount : ℕ → Type 0
+IsCount count = count ≤ 1000000
+
+-- the first line of a text says how many operations there are, and the rest follows it
+abbrev pub IsAfterFirst : List ℕ → ℕ → List ℕ → Type 0
+IsAfterFirst text count rest = IsCount count × (text ≡ line (spaced (labelled_number (codes "history") count)) ++ rest)
+
+-- the operation that a line says, with its numbers in range, is added to a list
+abbrev pub AddsOperation : List Stamped → List Stamped → List ℕ → Type 0
+AddsOperation old new says = (o : Stamped) × SaysOperation says o × IsOperationInRange o × (new ≡ old ++ o ∷ [])
+
+-- the line of this number says no operation, or one that is out of range; or there was no room
+abbrev pub IsWrongOperation : ℕ → List ℕ → Refusal → Type 0
+IsWrongOperation number says (Text at cause) = (at ≡ number) × IsWrong (SaysOperation says) IsOperationInRange cause
+IsWrongOperation number says Memory = Unit {0}
+IsWrongOperation number says _ = ⊥
+
+-- a reply of one word
+abbrev pub IsPlainReply : List ℕ → Option Reply → Type 0
+IsPlainReply word reply = (word ∷ [] ≡ reply_words reply) × IsQueueReply reply

@@ -1,0 +1,3 @@
+pub mod HistoryText
+pub mod HistoryLines
+pub mod HistoryReading

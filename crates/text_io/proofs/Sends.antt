@@ -1,0 +1,74 @@
+-- Lemmas on texts that reach a sink in several calls.
+use Rattle.std.proofs.Common.{◌≡◌, ℕ, List, [], ◌++◌, None, Some, Option, refl, sym, ap, ◌∙◌, append_assoc, append-nil, subst}
+use Rattle.std.specs.Io.KnownBytes.{Appends}
+use Rattle.text_io.specs.Blocks.{Sends, TakesBeginning}
+
+-- a sink that took xs and then ys took both
+pub Appends-trans : (a b c : Option (List ℕ)) (xs ys : List ℕ) → Appends a b xs → Appends b c ys → Appends a c (xs ++ ys)
+Appends-trans None b c xs ys p q = tt
+Appends-trans (Some x) None c xs ys p q = absurd p
+Appends-trans (Some x) (Some y) None xs ys p q = absurd q
+Appends-trans (Some x) (Some y) (Some z) xs ys p q = q ∙ ap (λ l. l ++ ys) p ∙ append_assoc x xs ys
+
+pub Appends-nil : (a : Option (List ℕ)) → Appends a a []
+Appends-nil None = tt
+Appends-nil (Some x) = sym (append-nil x)
+
+-- before the first call all of the text is held back
+pub Sends-none : (a : Option (List ℕ)) (text : List ℕ) → Sends a a text text
+Sends-none a text = record { sent = []; taken = Appends-nil a; whole = refl }
+
+-- the sink took the front of what was held back
+pub Sends-more : (a b c : Option (List ℕ)) (text held front rest : List ℕ) → Sends a b text held → Appends b c front → held ≡ front ++ rest → Sends a c text rest
+Sends-more a b c text held front rest s p e = record {
+  sent = s.sent ++ front;
+  taken = Appends-trans a b c s.sent front s.taken p;
+  whole = append_assoc s.sent front rest ∙ ap (λ l. s.sent ++ l) (sym e) ∙ s.whole;
+}
+
+-- nothing is held back, so the sink took the whole text
+pub Appends-Sends : (a b : Option (List ℕ)) (text : List ℕ) → Sends a b text [] → Appends a b text
+Appends-Sends a b text s = subst (Appends a b) (sym (append-nil s.sent) ∙ s.whole) s.taken
+
+-- the text grew by more, of which and of what was held back the sink took a front
+pub Sends-trans : (a b c : Option (List ℕ)) (text held more rest : List ℕ) → Sends a b text held → Sends b c (held ++ more) rest → Sends a c (text ++ more) rest
+Sends-trans a b c text held more rest s t = record {
+  sent = s.sent ++ t.sent;
+  taken = Appends-trans a b c s.sent t.sent s.taken t.taken;
+  whole = append_assoc s.sent t.sent rest ∙ ap (λ l. s.sent ++ l) t.whole ∙ sym (append_assoc s.sent held more) ∙ ap (λ l. l ++ more) s.whole;
+}
+
+-- the text grows by more that is held back
+pub Sends-held : (a b : Option (List ℕ)) (text held more : List ℕ) → Sends a b text held → Sends a b (text ++ more) (held ++ more)
+Sends-held a b text held more s = record {
+  sent = s.sent;
+  taken = s.taken;
+  whole = sym (append_assoc s.sent held more) ∙ ap (λ l. l ++ more) s.whole;
+}
+
+-- a beginning of a text is one of a longer text
+pub TakesBeginning-longer : (a b : Option (List ℕ)) (text more : List ℕ) → TakesBeginning a b text → TakesBeginning a b (text ++ more)
+TakesBeginning-longer a b text more t = (t.0 ++ more, Sends-held a b text t.0 more t.1)
+
+-- the sink gave up within what was held back and more
+pub TakesBeginning-trans : (a b c : Option (List ℕ)) (text held more : List ℕ) → Sends a b text held → TakesBeginning b c (held ++ more) → TakesBeginning a c (text ++ more)
+TakesBeginning-trans a b c text held more s t = (t.0, Sends-trans a b c text held more t.0 s t.1)
+
+-- the sink took the whole text, and nothing is held back
+pub Sends-all : (a b : Option (List ℕ)) (text held : List ℕ) → held ≡ [] → Appends a b text → Sends a b text held
+Sends-all a b text held e p = record { sent = text; taken = p; whole = ap (λ l. text ++ l) e ∙ append-nil text }
+
+-- the sink gave up within what was held back of a text
+pub TakesBeginning-held : (a b c : Option (List ℕ)) (text held : List ℕ) → Sends a b text held → TakesBeginning b c held → TakesBeginning a c text
+TakesBeginning-held a b c text held s t = (
+  t.0,
+  record {
+    sent = s.sent ++ t.1.sent;
+    taken = Appends-trans a b c s.sent t.1.sent s.taken t.1.taken;
+    whole = append_assoc s.sent t.1.sent t.0 ∙ ap (λ l. s.sent ++ l) t.1.whole ∙ s.whole;
+  },
+)
+
+-- the sink took a front, and then what was held
+pub Appends-both : (a b c : Option (List ℕ)) (text held : List ℕ) → Sends a b text held → Appends b c held → Appends a c text
+Appends-both a b c text held s p = Appends-Sends a c text (Sends-more a b c text held held [] s p (sym (append-nil held)))

@@ -1,0 +1,12 @@
+use Rattle.std.proofs.Common.{◌≡◌, length}
+use Rattle.text_io.specs.Blocks.{Sends}
+use Rattle.text_io.proofs.blocks.write_all.Given as goal
+
+abbrev pub invariant-loop-rest : goal.invariant-loop-rest
+invariant-loop-rest g l = record {
+  sends : Sends (g.W.Sink.contents l.initial.sink) (g.W.Sink.contents l.sink) l.bytes l.rest;
+  quiet : g.W.Sink.failures l.sink ≡ g.W.Sink.failures l.initial.sink;
+}
+
+abbrev pub decreases-loop-rest : goal.decreases-loop-rest
+decreases-loop-rest g l = length l.rest

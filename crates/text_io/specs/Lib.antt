@@ -1,0 +1,7 @@
+pub mod Devices
+pub mod Scripts
+pub mod Readers
+pub mod Writers
+pub mod Blocks
+pub mod Readings
+pub mod Beginnings

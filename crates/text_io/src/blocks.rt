@@ -1,0 +1,130 @@
+//! A block of bytes on its way to a sink, so that a writer makes few calls and takes no memory.
+ghost use Rattle.std.specs.Prelude.{◌≡◌, ◌+◌, ◌≤◌, ◌++◌, [], length, OnOk, IfErr, OnErr};
+ghost use Rattle.std.specs.Io.KnownBytes.{Appends};
+ghost use Rattle.text_io.specs.Blocks.{Sends, TakesBeginning, GivesUp};
+
+use crate::devices::Sink;
+use history::Refusal;
+use std::marker::Model;
+
+/// How many bytes a block holds back.
+pub const BLOCK: usize = 4096;
+
+/// The bytes that were put and that the sink has not been handed yet. They lie in an array.
+///
+/// Each call is handed the same sink. A block that isn't finished drops the bytes that it holds.
+#[derive(Drop)]
+pub struct Block {
+    bytes: [u8; BLOCK],
+    len: usize,
+}
+
+impl Model for Block {
+    ghost use Rattle.std.specs.Prelude.{ℕ, List, take, ◌≤◌};
+
+    ghost Value = { List ℕ };
+
+    ghost view = { λ b. take b.len b.bytes };
+
+    ghost invariant = { λ b. b.len ≤ 4096 };
+}
+
+impl Block {
+    /// A block that holds nothing. It takes no memory.
+    pub fn new() -> Block
+        ensures { result ≡ [] }
+    {
+        Block {
+            bytes: [0; BLOCK],
+            len: 0,
+        }
+    }
+
+    /// Puts bytes behind those held, and hands the sink what there is no room for.
+    ///
+    /// It takes no memory. It is refused by `Write` where a call of the sink fails or takes nothing; the
+    /// block is then of no further use.
+    pub fn put<W: Sink>(&mut self, sink: &mut W, bytes: &[u8]) -> Result<(), Refusal>
+        ensures ok { OnOk result (Sends (W.contents sink.old) (W.contents sink.new)
+            (self.old ++ bytes.now) self.new) }
+        ensures quiet { OnOk result (W.failures sink.new ≡ W.failures sink.old) }
+        ensures only_write { IfErr result (λ why. why ≡ Refusal.Write) }
+        ensures beginning { OnErr result (TakesBeginning (W.contents sink.old) (W.contents sink.new)
+            (self.old ++ bytes.now)) }
+        ensures cause { OnErr result (GivesUp (W.failures sink.old) (W.failures sink.new)
+            (W.is_full sink.new)) }
+    {
+        if bytes.len() > BLOCK - self.len {
+            self.empty(sink)?;
+            if bytes.len() > BLOCK {
+                return write_all(sink, bytes);
+            }
+        }
+        self.keep(bytes);
+        Ok(())
+    }
+
+    /// Hands the sink all that is held.
+    pub fn finish<W: Sink>(self, sink: &mut W) -> Result<(), Refusal>
+        ensures ok { OnOk result (Appends (W.contents sink.old) (W.contents sink.new) self) }
+        ensures quiet { OnOk result (W.failures sink.new ≡ W.failures sink.old) }
+        ensures only_write { IfErr result (λ why. why ≡ Refusal.Write) }
+        ensures beginning { OnErr result (TakesBeginning (W.contents sink.old) (W.contents sink.new) self) }
+        ensures cause { OnErr result (GivesUp (W.failures sink.old) (W.failures sink.new)
+            (W.is_full sink.new)) }
+    {
+        let rest = self.held();
+        write_all(sink, rest)
+    }
+
+    fn held(&self) -> &[u8]
+        ensures { result.now ≡ self.now }
+    {
+        &self.bytes[..self.len]
+    }
+
+    // Hands the sink all that is held, and then holds nothing.
+    fn empty<W: Sink>(&mut self, sink: &mut W) -> Result<(), Refusal>
+        ensures ok { OnOk result (Appends (W.contents sink.old) (W.contents sink.new) self.old) }
+        ensures emptied { OnOk result (self.new ≡ []) }
+        ensures quiet { OnOk result (W.failures sink.new ≡ W.failures sink.old) }
+        ensures only_write { IfErr result (λ why. why ≡ Refusal.Write) }
+        ensures beginning { OnErr result (TakesBeginning (W.contents sink.old) (W.contents sink.new)
+            self.old) }
+        ensures cause { OnErr result (GivesUp (W.failures sink.old) (W.failures sink.new)
+            (W.is_full sink.new)) }
+    {
+        write_all(sink, self.held())?;
+        self.len = 0;
+        Ok(())
+    }
+
+    fn keep(&mut self, bytes: &[u8])
+        requires { length self.old + length bytes.now ≤ 4096 }
+        ensures { self.new ≡ self.old ++ bytes.now }
+    {
+        let end = self.len + bytes.len();
+        self.bytes[self.len..end].copy_from_slice(bytes);
+        self.len = end;
+    }
+}
+
+// Hands a sink all these bytes, in as many calls as it takes.
+fn write_all<W: Sink>(sink: &mut W, bytes: &[u8]) -> Result<(), Refusal>
+    ensures ok { OnOk result (Appends (W.contents sink.old) (W.contents sink.new) bytes.now) }
+    ensures quiet { OnOk result (W.failures sink.new ≡ W.failures sink.old) }
+    ensures only_write { IfErr result (λ why. why ≡ Refusal.Write) }
+    ensures beginning { OnErr result (TakesBeginning (W.contents sink.old) (W.contents sink.new)
+        bytes.now) }
+    ensures cause { OnErr result (GivesUp (W.failures sink.old) (W.failures sink.new)
+        (W.is_full sink.new)) }
+{
+    let mut rest = bytes;
+    while !rest.is_empty() {
+        match sink.write(rest) {
+            Ok(0) | Err(_) => return Err(Refusal::Write),
+            Ok(count) => rest = &rest[count..],
+        }
+    }
+    Ok(())
+}
