@@ -1,6 +1,7 @@
 -- What judging the text of a history reads, answers and writes, and what it may be refused.
 use Rattle.std.specs.Prelude.{◌≡◌, ◌↔◌, ℕ, List, ◌++◌, Option, Some, None, ⊤, codes, decimal}
 use Rattle.std.specs.Io.KnownBytes.{Appends}
+use Rattle.text_io.specs.Devices.{SinkState}
 use Rattle.text_io.specs.Blocks.{TakesBeginning}
 use Rattle.history.specs.History.{Placement, IsLegal, verdict}
 use Rattle.history_text.specs.HistoryLines.{IsHistoryInRange, IsFirstFaultOfHistory}
@@ -38,18 +39,18 @@ pub record IsTextOf (given : Option (List ℕ)) (operations : List Stamped) : Ty
 
 -- known bytes were the text of a history, the answer is the verdict on it, which is yes exactly where it is well placed
 -- and legal, and the text that tells this verdict was written
-pub record TellsVerdict (given old new : Option (List ℕ)) (answer : Verdict) : Type 0 where
+pub record TellsVerdict (given : Option (List ℕ)) (old new : SinkState) (answer : Verdict) : Type 0 where
   pub operations : List Stamped
   pub history : IsTextOf given operations
   pub judged : answer ≡ verdict operations
   pub yes : (answer ≡ Yes) ↔ (Placement operations × IsLegal operations)
-  pub written : Appends old new (verdict_text operations answer)
+  pub written : Appends old.contents new.contents (verdict_text operations answer)
 
 -- known bytes were the text of a history, and a beginning of the text that tells the verdict on it was written
-pub record BeginsVerdict (given old new : Option (List ℕ)) : Type 0 where
+pub record BeginsVerdict (given : Option (List ℕ)) (old new : SinkState) : Type 0 where
   pub operations : List Stamped
   pub history : IsTextOf given operations
-  pub begun : TakesBeginning old new (verdict_text operations (verdict operations))
+  pub begun : TakesBeginning old.contents new.contents (verdict_text operations (verdict operations))
 
 -- where known bytes are refused as a text, that is their first faulty line as a history, and what is wrong with it
 abbrev pub TellsFirstFault : (given : Option (List ℕ)) → Refusal → Type 0

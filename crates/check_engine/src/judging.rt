@@ -24,21 +24,20 @@ pub fn check_text<R: Source, W: Sink>(
     writer: &mut W,
 ) -> Result<Verdict, Refusal>
     // The verdict is that on the history read, and the text that tells it is written and nothing else.
-    ensures ok { IfOk result (TellsVerdict (R.remaining reader.old) (W.contents writer.old)
-        (W.contents writer.new)) }
-    ensures quiet { OnOk result (W.failures writer.new ≡ W.failures writer.old) }
+    ensures ok { IfOk result (TellsVerdict (R.state reader.old).left (W.state writer.old)
+        (W.state writer.new)) }
+    ensures quiet { OnOk result ((W.state writer.new).failures ≡ (W.state writer.old).failures) }
     // A text is refused by its first faulty line.
-    ensures text { IfErr result (TellsFirstFault (R.remaining reader.old)) }
+    ensures text { IfErr result (TellsFirstFault (R.state reader.old).left) }
     // Where writing fails, a beginning of the text that tells the verdict is written.
     ensures beginning { IfErr result (λ why. why ≡ Refusal.Write
-        → BeginsVerdict (R.remaining reader.old) (W.contents writer.old) (W.contents writer.new)) }
+        → BeginsVerdict (R.state reader.old).left (W.state writer.old) (W.state writer.new)) }
     ensures write { IfErr result (λ why. why ≡ Refusal.Write
-        → GivesUp (W.failures writer.old) (W.failures writer.new) (W.is_full writer.new)) }
+        → GivesUp (W.state writer.old) (W.state writer.new)) }
     // At any other refusal nothing is.
     ensures unwritten { IfErr result (λ why. why ≢ Refusal.Write → writer.new ≡ writer.old) }
     ensures refusal { IfErr result IsRunRefusal }
-    ensures reader { EndsReadingFor result (R.failures reader.old) (R.failures reader.new)
-        (R.has_ended reader.new) }
+    ensures reader { EndsReadingFor result (R.state reader.old) (R.state reader.new) }
 {
     let history = history_in(alloc, reader)?;
     let verdict = check(alloc, &history)?;
@@ -48,12 +47,11 @@ pub fn check_text<R: Source, W: Sink>(
 
 /// The history whose text a source gives.
 fn history_in<R: Source>(alloc: Global, reader: &mut R) -> Result<Vec<Stamped>, Refusal>
-    ensures ok { IfOk result (λ history. IsTextOf (R.remaining reader.old) history.items) }
-    ensures text { IfErr result (TellsFirstFault (R.remaining reader.old)) }
+    ensures ok { IfOk result (λ history. IsTextOf (R.state reader.old).left history.items) }
+    ensures text { IfErr result (TellsFirstFault (R.state reader.old).left) }
     ensures unwritten { IfErr result (λ why. why ≢ Refusal.Write) }
     ensures refusal { IfErr result IsRunRefusal }
-    ensures reader { EndsReadingFor result (R.failures reader.old) (R.failures reader.new)
-        (R.has_ended reader.new) }
+    ensures reader { EndsReadingFor result (R.state reader.old) (R.state reader.new) }
 {
     parse_source::<HistoryTexts, R>(alloc, reader)
 }
@@ -65,16 +63,16 @@ fn tell<W: Sink>(
     verdict: Verdict,
     writer: &mut W,
 ) -> Result<(), Refusal>
-    ensures ok { OnOk result (Appends (W.contents writer.old) (W.contents writer.new)
+    ensures ok { OnOk result (Appends (W.state writer.old).contents (W.state writer.new).contents
         (verdict_text history.now verdict)) }
-    ensures quiet { OnOk result (W.failures writer.new ≡ W.failures writer.old) }
+    ensures quiet { OnOk result ((W.state writer.new).failures ≡ (W.state writer.old).failures) }
     ensures only { IfErr result (λ why. (why ≡ Refusal.Memory) ⊎ (why ≡ Refusal.Write)) }
     ensures unwritten { IfErr result (λ why. why ≡ Refusal.Memory → writer.new ≡ writer.old) }
     ensures beginning { IfErr result (λ why. why ≡ Refusal.Write
-        → TakesBeginning (W.contents writer.old) (W.contents writer.new)
+        → TakesBeginning (W.state writer.old).contents (W.state writer.new).contents
         (verdict_text history.now verdict)) }
     ensures cause { IfErr result (λ why. why ≡ Refusal.Write
-        → GivesUp (W.failures writer.old) (W.failures writer.new) (W.is_full writer.new)) }
+        → GivesUp (W.state writer.old) (W.state writer.new)) }
 {
     match verdict {
         Verdict::Yes => history_table(alloc, history, writer),

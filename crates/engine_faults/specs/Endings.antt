@@ -1,6 +1,7 @@
 -- Exit statuses, and the line that tells of a fault.
-use Rattle.std.specs.Prelude.{◌≡◌, ◌⊎◌, ℕ, List, Bool, Option, Result, Ok, Err}
+use Rattle.std.specs.Prelude.{◌≡◌, ◌⊎◌, ℕ, List, Result, Ok, Err}
 use Rattle.std.specs.Io.KnownBytes.{Appends}
+use Rattle.text_io.specs.Devices.{SinkState}
 use Rattle.text_io.specs.Blocks.{TakesBeginning, GivesUp}
 use Rattle.text_lines.specs.Lines.{HasNo, line}
 use Rattle.history.specs.declared.operations.Verdict.{Verdict}
@@ -14,7 +15,7 @@ status_of (Ok (No place cause)) = 3
 status_of (Err fault) = 1
 
 -- a sink took one line, whose one line feed is its last byte, and no call failed, or it gave up within it
-abbrev pub TakesLine : (old new : Option (List ℕ)) → (old_failures new_failures : ℕ) → (is_full : Bool) → Type 0
-TakesLine old new old_failures new_failures is_full =
-    (text : List ℕ) × HasNo 10 text × ((Appends old new (line text) × (new_failures ≡ old_failures))
-    ⊎ (TakesBeginning old new (line text) × GivesUp old_failures new_failures is_full))
+abbrev pub TakesLine : (old new : SinkState) → Type 0
+TakesLine old new =
+    (text : List ℕ) × HasNo 10 text × ((Appends old.contents new.contents (line text) × (new.failures ≡ old.failures))
+    ⊎ (TakesBeginning old.contents new.contents (line text) × GivesUp old new))

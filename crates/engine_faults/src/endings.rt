@@ -15,8 +15,7 @@ use text_io::{Sink, send};
 pub fn end_of<W: Sink>(outcome: Result<Verdict, Fault>, writer: &mut W) -> u8
     ensures status { result ≡ status_of outcome }
     ensures silent { OnOk outcome (writer.new ≡ writer.old) }
-    ensures line { OnErr outcome (TakesLine (W.contents writer.old) (W.contents writer.new)
-        (W.failures writer.old) (W.failures writer.new) (W.is_full writer.new)) }
+    ensures line { OnErr outcome (TakesLine (W.state writer.old) (W.state writer.new)) }
 {
     match outcome {
         Ok(Verdict::Yes) => 0,

@@ -1,7 +1,6 @@
 //! The text of a history.
-ghost use Rattle.std.specs.Prelude.{◌≡◌, ◌+◌, ◌≤◌, ◌++◌, length, OnOk, IfErr, OnErr};
-ghost use Rattle.std.specs.Io.KnownBytes.{Appends};
-ghost use Rattle.text_io.specs.Blocks.{TakesBeginning, GivesUp};
+ghost use Rattle.std.specs.Prelude.{◌≡◌, ◌+◌, ◌≤◌, ◌++◌, length};
+ghost use Rattle.text_io.specs.Blocks.{Writes};
 ghost use Rattle.history_text.specs.HistoryText.{call_text, step_text, refusal_text, reply_text};
 ghost use Rattle.history_text.specs.HistoryText.{operation_text, header_text, history_text};
 
@@ -15,14 +14,7 @@ use text_io::{Block, LINE_ROOM, Line, Sink};
 /// beginning of the text is written then. A reader takes the text back where each actor is 1 or more,
 /// each step is, and each refusal is one that a queue answers.
 pub fn print_history<W: Sink>(history: &[Stamped], writer: &mut W) -> Result<(), Refusal>
-    ensures ok { OnOk result (Appends (W.contents writer.old) (W.contents writer.new)
-        (history_text history.now)) }
-    ensures quiet { OnOk result (W.failures writer.new ≡ W.failures writer.old) }
-    ensures only_write { IfErr result (λ why. why ≡ Refusal.Write) }
-    ensures beginning { OnErr result (TakesBeginning (W.contents writer.old) (W.contents writer.new)
-        (history_text history.now)) }
-    ensures cause { OnErr result (GivesUp (W.failures writer.old) (W.failures writer.new)
-        (W.is_full writer.new)) }
+    ensures { Writes (W.state writer.old) (W.state writer.new) (history_text history.now) result }
 {
     let mut block = Block::new();
     block.put(writer, header_line(history.len() as u64).as_slice())?;

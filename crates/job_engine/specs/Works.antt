@@ -1,5 +1,5 @@
 -- What work on the text of jobs reads and writes, and what it may be refused.
-use Rattle.std.specs.Prelude.{◌≡◌, ℕ, ◌+◌, ◌<◌, ◌≤◌, ◌⊎◌, Bool, List, Option, Some, None, Result, Err, ⊤}
+use Rattle.std.specs.Prelude.{◌≡◌, ℕ, ◌+◌, ◌<◌, ◌≤◌, ◌⊎◌, List, Option, Some, None, Result, Err, ⊤}
 use Rattle.std.specs.Io.KnownBytes.{Appends}
 use Rattle.text_io.specs.Blocks.{TakesBeginning}
 use Rattle.history.specs.declared.refusals.Refusal.{Refusal}
@@ -9,6 +9,7 @@ use Rattle.job_results.specs.Jobs.{job_rows}
 use Rattle.job_results.specs.JobTexts.{jobs_text, AreJobsInRange, IsFirstFaultOfJobs}
 use Rattle.job_results.specs.JobReading.{said_jobs}
 use Rattle.report.specs.ResultsTable.{results_text}
+use Rattle.text_io.specs.Devices.{SourceState, SinkState}
 use Rattle.text_io.specs.Readings.{WereAll, EndsReadingFor}
 
 -- there are not 1 to 64 workers, or not so many nodes: 3 more than workers, to 16,777,214
@@ -28,16 +29,16 @@ pub record IsTextOf (given : Option (List ℕ)) (jobs : List Job) : Type 0 where
   pub read : WereAll given (jobs_text (said_jobs jobs))
 
 -- known bytes were the text of jobs, and the table of their results was written, each job's once and in their order
-pub record WritesResults (given old new : Option (List ℕ)) : Type 0 where
+pub record WritesResults (given : Option (List ℕ)) (old new : SinkState) : Type 0 where
   pub jobs : List Job
   pub text : IsTextOf given jobs
-  pub written : Appends old new (results_text (job_rows 1 jobs))
+  pub written : Appends old.contents new.contents (results_text (job_rows 1 jobs))
 
 -- known bytes were the text of jobs, and a beginning of the table of their results was written
-pub record BeginsResults (given old new : Option (List ℕ)) : Type 0 where
+pub record BeginsResults (given : Option (List ℕ)) (old new : SinkState) : Type 0 where
   pub jobs : List Job
   pub text : IsTextOf given jobs
-  pub begun : TakesBeginning old new (results_text (job_rows 1 jobs))
+  pub begun : TakesBeginning old.contents new.contents (results_text (job_rows 1 jobs))
 
 -- what a refusal tells of known bytes: their first faulty line as jobs, and what is wrong with it; or, where a job has no
 -- result, that they are the text of jobs
@@ -62,6 +63,6 @@ IsWorkRefusal Write = Unit {0}
 IsWorkRefusal why = IsReadingRefusal why
 
 -- how the reading behind an answer ended, by what is answered: nothing was read where a size is out of its range
-abbrev pub EndsReadingOrUnread : {A : Type 0} → Result A Refusal → (old_failures new_failures : ℕ) → (has_ended : Bool) → Type 0
-EndsReadingOrUnread (Err BadSize) old new ended = new ≡ old
-EndsReadingOrUnread result old new ended = EndsReadingFor result old new ended
+abbrev pub EndsReadingOrUnread : {A : Type 0} → Result A Refusal → (old new : SourceState) → Type 0
+EndsReadingOrUnread (Err BadSize) old new = new.failures ≡ old.failures
+EndsReadingOrUnread result old new = EndsReadingFor result old new

@@ -1,5 +1,5 @@
 //! Reads the text of jobs, has workers do them, and writes the table of their results.
-ghost use Rattle.std.specs.Prelude.{◌≡◌, ◌≢◌, ◌↔◌, IfErr, IfOk, OnErr, OnOk, IsTrue, Err};
+ghost use Rattle.std.specs.Prelude.{◌≡◌, ◌≢◌, ◌↔◌, IfErr, IfOk, OnOk, IsTrue, Err};
 ghost use Rattle.text_io.specs.Blocks.{GivesUp};
 ghost use Rattle.text_io.specs.Readings.{EndsReadingFor};
 ghost use Rattle.job_engine.specs.Crews.{crew_plan, HasQueue};
@@ -40,26 +40,25 @@ pub fn work_text<T: Threads + Wait + Sync, R: Source, W: Sink>(
     nodes: u32,
 ) -> Result<(), Refusal>
     // The table of the results of the jobs that were read is written, and nothing else.
-    ensures ok { OnOk result (WritesResults (R.remaining reader.old) (W.contents writer.old)
-        (W.contents writer.new)) }
-    ensures quiet { OnOk result (W.failures writer.new ≡ W.failures writer.old) }
+    ensures ok { OnOk result (WritesResults (R.state reader.old).left (W.state writer.old)
+        (W.state writer.new)) }
+    ensures quiet { OnOk result ((W.state writer.new).failures ≡ (W.state writer.old).failures) }
     // A queue of this kind was made for it, with so many nodes, the greatest count of all, and a seat for each worker.
     ensures over { OnOk result (HasQueue (crew_plan kind nodes workers)) }
     // A size out of its range is refused before anything is read.
     ensures sized { (result ≡ Err Refusal.BadSize) ↔ IsBadSize workers nodes }
     ensures unread { IfErr result (λ why. why ≡ Refusal.BadSize → reader.new ≡ reader.old) }
     // A text is refused by its first faulty line. Where jobs are lost, it was the text of jobs.
-    ensures text { IfErr result (TellsOfText (R.remaining reader.old)) }
+    ensures text { IfErr result (TellsOfText (R.state reader.old).left) }
     // Where writing fails, a beginning of the table is written.
     ensures beginning { IfErr result (λ why. why ≡ Refusal.Write
-        → BeginsResults (R.remaining reader.old) (W.contents writer.old) (W.contents writer.new)) }
+        → BeginsResults (R.state reader.old).left (W.state writer.old) (W.state writer.new)) }
     ensures write { IfErr result (λ why. why ≡ Refusal.Write
-        → GivesUp (W.failures writer.old) (W.failures writer.new) (W.is_full writer.new)) }
+        → GivesUp (W.state writer.old) (W.state writer.new)) }
     // At any other refusal nothing is.
     ensures unwritten { IfErr result (λ why. why ≢ Refusal.Write → writer.new ≡ writer.old) }
     ensures refusal { IfErr result IsWorkRefusal }
-    ensures reader { EndsReadingOrUnread result (R.failures reader.old) (R.failures reader.new)
-        (R.has_ended reader.new) }
+    ensures reader { EndsReadingOrUnread result (R.state reader.old) (R.state reader.new) }
 {
     if !are_sized(workers, nodes) {
         return Err(Refusal::BadSize);
@@ -79,11 +78,10 @@ fn are_sized(workers: u32, nodes: u32) -> bool
 
 /// The jobs whose text a source gives.
 fn jobs_in<R: Source>(alloc: Global, reader: &mut R) -> Result<Vec<Job>, Refusal>
-    ensures ok { IfOk result (λ jobs. IsTextOf (R.remaining reader.old) jobs.items) }
-    ensures text { IfErr result (TellsOfText (R.remaining reader.old)) }
+    ensures ok { IfOk result (λ jobs. IsTextOf (R.state reader.old).left jobs.items) }
+    ensures text { IfErr result (TellsOfText (R.state reader.old).left) }
     ensures refusal { IfErr result IsReadingRefusal }
-    ensures reader { EndsReadingFor result (R.failures reader.old) (R.failures reader.new)
-        (R.has_ended reader.new) }
+    ensures reader { EndsReadingFor result (R.state reader.old) (R.state reader.new) }
 {
     parse_source::<JobTexts, R>(alloc, reader)
 }

@@ -1,28 +1,19 @@
 -- The parts of a text that are put into a block one after another.
-use Rattle.std.proofs.Common.{◌≡◌, ℕ, ◌+◌, ◌<◌, List, [], ◌∷◌, ◌++◌, length, drop, get_or, Option, refl, sym, subst, ap, ◌∙◌, append-nil, add-one}
+use Rattle.std.proofs.Common.{◌≡◌, ℕ, ◌+◌, ◌<◌, List, [], ◌∷◌, ◌++◌, length, drop, get_or, Option, refl, sym, subst, ap, ◌∙◌, append_assoc, append-nil, add-one}
 use Rattle.std.proofs.Math.Seq.{drop-cons}
 use Rattle.std.specs.List.{flat_map}
 use Rattle.std.proofs.lemmas.List.Concat.{flat_map-cons}
-use Rattle.std.specs.Io.KnownBytes.{Appends}
-use Rattle.text_io.specs.Blocks.{Sends, TakesBeginning}
-use Rattle.report.proofs.UnderWay.{IsUnderWay, under_way_first, under_way_more, under_way_stops, under_way_done, under_way_ends, under_way_stops_last}
+use Rattle.std.specs.Prelude.{Result}
+use Rattle.history.specs.declared.refusals.Refusal.{Refusal}
+use Rattle.text_io.specs.Devices.{SinkState}
+use Rattle.text_io.specs.Blocks.{Sends, TakesBeginning, Puts}
+use Rattle.text_io.proofs.Sends.{Sends-trans, Puts-more}
+use Rattle.report.proofs.UnderWay.{IsUnderWay, under_way_first, under_way_more, under_way_stops, under_way_done}
 
 module _ (h x y z : List ℕ) where
   -- the first of three parts was handed on
   after_first : (a b : Option (List ℕ)) (i : List ℕ) → Sends a b (h ++ x) i → IsUnderWay a b (h ++ (x ++ (y ++ z))) i (y ++ z)
   after_first a b i s = under_way_more a a b (h ++ (x ++ (y ++ z))) h x (y ++ z) i (under_way_first a h (x ++ (y ++ z))) s
-
-  -- and the second
-  after_second : (a b c : Option (List ℕ)) (i j : List ℕ) → Sends a b (h ++ x) i → Sends b c (i ++ y) j → IsUnderWay a c (h ++ (x ++ (y ++ z))) j (z ++ [])
-  after_second a b c i j s t =
-      subst (IsUnderWay a c (h ++ (x ++ (y ++ z))) j) (sym (append-nil z))
-      (under_way_more a b c (h ++ (x ++ (y ++ z))) i y z j (after_first a b i s) t)
-
-  -- all three were
-  pub sends_three : (a b c d : Option (List ℕ)) (i j k : List ℕ) → Sends a b (h ++ x) i → Sends b c (i ++ y) j → Sends c d (j ++ z) k → Sends a d (h ++ (x ++ (y ++ z))) k
-  sends_three a b c d i j k s t u =
-      under_way_done a d (h ++ (x ++ (y ++ z))) k
-      (under_way_more a c d (h ++ (x ++ (y ++ z))) j z [] k (after_second a b c i j s t) u)
 
   -- the sink gave up within the first
   pub stops_at_first : (a b : Option (List ℕ)) → TakesBeginning a b (h ++ x) → TakesBeginning a b (h ++ (x ++ (y ++ z)))
@@ -32,9 +23,12 @@ module _ (h x y z : List ℕ) where
   pub stops_at_second : (a b c : Option (List ℕ)) (i : List ℕ) → Sends a b (h ++ x) i → TakesBeginning b c (i ++ y) → TakesBeginning a c (h ++ (x ++ (y ++ z)))
   stops_at_second a b c i s t = under_way_stops a b c (h ++ (x ++ (y ++ z))) i y z (after_first a b i s) t
 
-  -- within the third
-  pub stops_at_third : (a b c d : Option (List ℕ)) (i j : List ℕ) → Sends a b (h ++ x) i → Sends b c (i ++ y) j → TakesBeginning c d (j ++ z) → TakesBeginning a d (h ++ (x ++ (y ++ z)))
-  stops_at_third a b c d i j s t u = under_way_stops a c d (h ++ (x ++ (y ++ z))) j z [] (after_second a b c i j s t) u
+  -- behind the first two comes what the putting of the third answers
+  pub puts_three : {A : Type 0} (a b c d : SinkState) (i j k : List ℕ) (result : Result A Refusal) → Sends a.contents b.contents (h ++ x) i
+      → Sends b.contents c.contents (i ++ y) j → c.failures ≡ a.failures → Puts c d (j ++ z) k result → Puts a d (h ++ (x ++ (y ++ z))) k result
+  puts_three a b c d i j k result s t quiet puts =
+      subst (λ text. Puts a d text k result) (append_assoc (h ++ x) y z ∙ append_assoc h x (y ++ z))
+      (Puts-more a c d quiet (h ++ x ++ y) j z k result (Sends-trans a.contents b.contents c.contents (h ++ x) i y j s t) puts)
 
 module _ (x y : List ℕ) where
   -- of a first line and the others, the first was handed on
@@ -54,13 +48,9 @@ module _ (x y : List ℕ) where
   all_lines : (a b c : Option (List ℕ)) (i j : List ℕ) → Sends a b x i → Sends b c (i ++ y) j → IsUnderWay a c (x ++ y) j []
   all_lines a b c i j s t = under_way_more a b c (x ++ y) i y [] j (after_line a b i s) t
 
-  -- within what was held of them at the end
-  pub stops_at_end : (a b c d : Option (List ℕ)) (i j : List ℕ) → Sends a b x i → Sends b c (i ++ y) j → TakesBeginning c d j → TakesBeginning a d (x ++ y)
-  stops_at_end a b c d i j s t u = under_way_stops_last a c d (x ++ y) j (all_lines a b c i j s t) u
-
-  -- the sink took all of them
-  pub takes_all : (a b c d : Option (List ℕ)) (i j : List ℕ) → Sends a b x i → Sends b c (i ++ y) j → Appends c d j → Appends a d (x ++ y)
-  takes_all a b c d i j s t p = under_way_ends a c d (x ++ y) j (all_lines a b c i j s t) p
+  -- all of them were handed on
+  pub lines_done : (a b c : Option (List ℕ)) (i j : List ℕ) → Sends a b x i → Sends b c (i ++ y) j → Sends a c (x ++ y) j
+  lines_done a b c i j s t = under_way_done a c (x ++ y) j (all_lines a b c i j s t)
 
 -- the line of the element at a place, and those after it
 lines_from : {X : Type 0} (f : X → List ℕ) (xs : List X) (i : ℕ) (d : X) → i < length xs → flat_map f (drop i xs) ≡ f (get_or xs i d) ++ flat_map f (drop (i + 1) xs)

@@ -6,6 +6,7 @@ use Rattle.std.specs.List.Sorted.{IsPermutation, IsNonDecreasingBy, IsStableByKe
 use Rattle.std.specs.Ordering.{nat_cmp}
 use Rattle.line_table.specs.declared.lines.Kind.{Kind}
 use Rattle.text_lines.specs.Numerals.{IsWithin}
+use Rattle.text_io.specs.Devices.{SinkState}
 use Rattle.text_io.specs.Blocks.{TakesBeginning}
 use Rattle.history.specs.declared.refusals.Refusal.{Refusal}
 use Rattle.history.specs.declared.refusals.Refusal.TheVariants.{NoNode, WornOut, Memory, BadSize, Text, Read, Write, Lost}
@@ -65,12 +66,12 @@ pub record ArePosted (kind : Kind) (given : Option (List ℕ)) (told : List Lett
   pub taken : AreTaken kind senders letters told
 
 -- the text of such letters was written
-abbrev pub WritesLetters : (List Letter → Type 0) → (old new : Option (List ℕ)) → Type 0
-WritesLetters P old new = (told : List Letter) × P told × Appends old new (letters_text told)
+abbrev pub WritesLetters : (List Letter → Type 0) → (old new : SinkState) → Type 0
+WritesLetters P old new = (told : List Letter) × P told × Appends old.contents new.contents (letters_text told)
 
 -- a beginning of the text of such letters was written
-abbrev pub BeginsLetters : (List Letter → Type 0) → (old new : Option (List ℕ)) → Type 0
-BeginsLetters P old new = (told : List Letter) × P told × TakesBeginning old new (letters_text told)
+abbrev pub BeginsLetters : (List Letter → Type 0) → (old new : SinkState) → Type 0
+BeginsLetters P old new = (told : List Letter) × P told × TakesBeginning old.contents new.contents (letters_text told)
 
 -- what a refusal tells of known bytes: nothing where memory or reading is refused; their first faulty line as mail, and
 -- what is wrong with it; and else that they were the text of mail

@@ -1,6 +1,5 @@
 //! Reads the text of mail, sends its letters, and writes the letters taken.
 ghost use Rattle.std.specs.Prelude.{◌≡◌, ◌≢◌, length, IfErr, IfOk, OnOk};
-ghost use Rattle.std.specs.List.{All};
 ghost use Rattle.text_io.specs.Blocks.{GivesUp};
 ghost use Rattle.mail_text.specs.MailTexts.{said_letters, IsMailInRange};
 ghost use Rattle.text_io.specs.Readings.{EndsReadingFor};
@@ -42,22 +41,21 @@ pub fn post_text<T: Threads + Wait + Sync, R: Source, W: Sink>(
 ) -> Result<(), Refusal>
     // The letters that were read were taken, each sender's in its order, and a queue of this kind was made for them, with as
     // many nodes as there are letters and senders, and two more; their text is written, and nothing else.
-    ensures ok { OnOk result (WritesLetters (ArePosted kind (R.remaining reader.old))
-        (W.contents writer.old) (W.contents writer.new)) }
-    ensures quiet { OnOk result (W.failures writer.new ≡ W.failures writer.old) }
+    ensures ok { OnOk result (WritesLetters (ArePosted kind (R.state reader.old).left)
+        (W.state writer.old) (W.state writer.new)) }
+    ensures quiet { OnOk result ((W.state writer.new).failures ≡ (W.state writer.old).failures) }
     // A text is refused by its first faulty line. Where sending or writing is refused, it was the text of mail.
-    ensures text { IfErr result (TellsOfText (R.remaining reader.old)) }
+    ensures text { IfErr result (TellsOfText (R.state reader.old).left) }
     // Where writing fails, a beginning of the text is written.
     ensures beginning { IfErr result (λ why. why ≡ Refusal.Write
-        → BeginsLetters (ArePosted kind (R.remaining reader.old)) (W.contents writer.old)
-        (W.contents writer.new)) }
+        → BeginsLetters (ArePosted kind (R.state reader.old).left) (W.state writer.old)
+        (W.state writer.new)) }
     ensures write { IfErr result (λ why. why ≡ Refusal.Write
-        → GivesUp (W.failures writer.old) (W.failures writer.new) (W.is_full writer.new)) }
+        → GivesUp (W.state writer.old) (W.state writer.new)) }
     // At any other refusal nothing is.
     ensures unwritten { IfErr result (λ why. why ≢ Refusal.Write → writer.new ≡ writer.old) }
     ensures refusal { IfErr result IsPostRefusal }
-    ensures reader { EndsReadingFor result (R.failures reader.old) (R.failures reader.new)
-        (R.has_ended reader.new) }
+    ensures reader { EndsReadingFor result (R.state reader.old) (R.state reader.new) }
 {
     let mail = mail_in(alloc, reader)?;
     post_mail(rt, alloc, mail, writer, kind)
@@ -66,11 +64,10 @@ pub fn post_text<T: Threads + Wait + Sync, R: Source, W: Sink>(
 /// The mail whose text a source gives.
 fn mail_in<R: Source>(alloc: Global, reader: &mut R) -> Result<Mail, Refusal>
     ensures ok { IfOk result (λ mail.
-        IsTextOf (R.remaining reader.old) mail.senders (said_letters mail.letters.items)) }
-    ensures text { IfErr result (TellsOfText (R.remaining reader.old)) }
+        IsTextOf (R.state reader.old).left mail.senders (said_letters mail.letters.items)) }
+    ensures text { IfErr result (TellsOfText (R.state reader.old).left) }
     ensures refusal { IfErr result IsReadingRefusal }
-    ensures reader { EndsReadingFor result (R.failures reader.old) (R.failures reader.new)
-        (R.has_ended reader.new) }
+    ensures reader { EndsReadingFor result (R.state reader.old) (R.state reader.new) }
 {
     parse_source::<MailTexts, R>(alloc, reader)
 }
@@ -85,13 +82,13 @@ fn post_mail<T: Threads + Wait + Sync, W: Sink>(
 ) -> Result<(), Refusal>
     requires { IsMailInRange mail.senders (said_letters mail.letters.items) }
     ensures ok { OnOk result (WritesLetters (AreTaken kind mail.senders (said_letters mail.letters.items))
-        (W.contents writer.old) (W.contents writer.new)) }
-    ensures quiet { OnOk result (W.failures writer.new ≡ W.failures writer.old) }
+        (W.state writer.old) (W.state writer.new)) }
+    ensures quiet { OnOk result ((W.state writer.new).failures ≡ (W.state writer.old).failures) }
     ensures beginning { IfErr result (λ why. why ≡ Refusal.Write
         → BeginsLetters (AreTaken kind mail.senders (said_letters mail.letters.items))
-        (W.contents writer.old) (W.contents writer.new)) }
+        (W.state writer.old) (W.state writer.new)) }
     ensures write { IfErr result (λ why. why ≡ Refusal.Write
-        → GivesUp (W.failures writer.old) (W.failures writer.new) (W.is_full writer.new)) }
+        → GivesUp (W.state writer.old) (W.state writer.new)) }
     ensures unwritten { IfErr result (λ why. why ≢ Refusal.Write → writer.new ≡ writer.old) }
     ensures refusal { IfErr result IsSendingRefusal }
 {
@@ -125,13 +122,13 @@ fn post_over<T: Threads + Wait + Sync, Q: OnWords + Sync + Drop, W: Sink>(
     requires made { plan_of (Q.words queue)
         ≡ mail_plan kind (length (said_letters mail.letters.items)) mail.senders }
     ensures ok { OnOk result (WritesLetters (AreTaken kind mail.senders (said_letters mail.letters.items))
-        (W.contents writer.old) (W.contents writer.new)) }
-    ensures quiet { OnOk result (W.failures writer.new ≡ W.failures writer.old) }
+        (W.state writer.old) (W.state writer.new)) }
+    ensures quiet { OnOk result ((W.state writer.new).failures ≡ (W.state writer.old).failures) }
     ensures beginning { IfErr result (λ why. why ≡ Refusal.Write
         → BeginsLetters (AreTaken kind mail.senders (said_letters mail.letters.items))
-        (W.contents writer.old) (W.contents writer.new)) }
+        (W.state writer.old) (W.state writer.new)) }
     ensures write { IfErr result (λ why. why ≡ Refusal.Write
-        → GivesUp (W.failures writer.old) (W.failures writer.new) (W.is_full writer.new)) }
+        → GivesUp (W.state writer.old) (W.state writer.new)) }
     ensures unwritten { IfErr result (λ why. why ≢ Refusal.Write → writer.new ≡ writer.old) }
     ensures refusal { IfErr result IsSendingRefusal }
 {

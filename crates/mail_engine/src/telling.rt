@@ -1,8 +1,7 @@
 //! The text of letters taken, by rising sender.
-ghost use Rattle.std.specs.Prelude.{◌≡◌, ◌++◌, ◌⊎◌, OnOk, OnErr, IfOk, IfErr};
-ghost use Rattle.std.specs.Io.KnownBytes.{Appends};
+ghost use Rattle.std.specs.Prelude.{◌≡◌, ◌++◌, ◌⊎◌, OnOk, IfOk, IfErr};
 ghost use Rattle.std.specs.List.{flat_map};
-ghost use Rattle.text_io.specs.Blocks.{Sends, TakesBeginning, GivesUp};
+ghost use Rattle.text_io.specs.Blocks.{GivesUp, Puts, Writes};
 ghost use Rattle.mail_engine.specs.Posts.{count_text, sender_text, letter_text, letters_text, AreBySender, WritesLetters, BeginsLetters};
 
 use history::Refusal;
@@ -15,14 +14,14 @@ use text_io::{Block, Line, Sink};
 /// nothing. Takes memory for the sort, and time `n * log n` for `n` letters; whether it waits is up to the writer.
 pub(crate) fn tell<W: Sink>(letters: Vec<Letter>, writer: &mut W) -> Result<(), Refusal>
     ensures ok { OnOk result (WritesLetters (AreBySender letters.entry.items)
-        (W.contents writer.old) (W.contents writer.new)) }
-    ensures quiet { OnOk result (W.failures writer.new ≡ W.failures writer.old) }
+        (W.state writer.old) (W.state writer.new)) }
+    ensures quiet { OnOk result ((W.state writer.new).failures ≡ (W.state writer.old).failures) }
     ensures only { IfErr result (λ why. (why ≡ Refusal.Memory) ⊎ (why ≡ Refusal.Write)) }
     ensures unwritten { IfErr result (λ why. why ≡ Refusal.Memory → writer.new ≡ writer.old) }
     ensures beginning { IfErr result (λ why. why ≡ Refusal.Write
-        → BeginsLetters (AreBySender letters.entry.items) (W.contents writer.old) (W.contents writer.new)) }
+        → BeginsLetters (AreBySender letters.entry.items) (W.state writer.old) (W.state writer.new)) }
     ensures cause { IfErr result (λ why. why ≡ Refusal.Write
-        → GivesUp (W.failures writer.old) (W.failures writer.new) (W.is_full writer.new)) }
+        → GivesUp (W.state writer.old) (W.state writer.new)) }
 {
     let sorted = by_sender(letters)?;
     write_letters(&sorted, writer)
@@ -41,14 +40,7 @@ fn by_sender<'a>(mut letters: Vec<Letter<'a>>) -> Result<Vec<Letter<'a>>, Refusa
 
 // Writes the text of letters, in their order.
 fn write_letters<W: Sink>(letters: &[Letter], writer: &mut W) -> Result<(), Refusal>
-    ensures ok { OnOk result (Appends (W.contents writer.old) (W.contents writer.new)
-        (letters_text letters.now)) }
-    ensures quiet { OnOk result (W.failures writer.new ≡ W.failures writer.old) }
-    ensures only_write { IfErr result (λ why. why ≡ Refusal.Write) }
-    ensures beginning { OnErr result (TakesBeginning (W.contents writer.old) (W.contents writer.new)
-        (letters_text letters.now)) }
-    ensures cause { OnErr result (GivesUp (W.failures writer.old) (W.failures writer.new)
-        (W.is_full writer.new)) }
+    ensures { Writes (W.state writer.old) (W.state writer.new) (letters_text letters.now) result }
 {
     let mut block = Block::new();
     block.put(writer, count_line(letters.len()).as_slice())?;
@@ -62,14 +54,8 @@ fn put_letters<W: Sink>(
     writer: &mut W,
     letters: &[Letter],
 ) -> Result<(), Refusal>
-    ensures ok { OnOk result (Sends (W.contents writer.old) (W.contents writer.new)
-        (block.old ++ flat_map letter_text letters.now) block.new) }
-    ensures quiet { OnOk result (W.failures writer.new ≡ W.failures writer.old) }
-    ensures only_write { IfErr result (λ why. why ≡ Refusal.Write) }
-    ensures beginning { OnErr result (TakesBeginning (W.contents writer.old) (W.contents writer.new)
-        (block.old ++ flat_map letter_text letters.now)) }
-    ensures cause { OnErr result (GivesUp (W.failures writer.old) (W.failures writer.new)
-        (W.is_full writer.new)) }
+    ensures { Puts (W.state writer.old) (W.state writer.new)
+        (block.old ++ flat_map letter_text letters.now) block.new result }
 {
     for letter in letters {
         put_letter(block, writer, *letter)?;
@@ -79,14 +65,8 @@ fn put_letters<W: Sink>(
 
 // Puts the line of a letter. It is longer than a `Line` may be, so it goes in three parts.
 fn put_letter<W: Sink>(block: &mut Block, writer: &mut W, letter: Letter) -> Result<(), Refusal>
-    ensures ok { OnOk result (Sends (W.contents writer.old) (W.contents writer.new)
-        (block.old ++ letter_text letter.entry) block.new) }
-    ensures quiet { OnOk result (W.failures writer.new ≡ W.failures writer.old) }
-    ensures only_write { IfErr result (λ why. why ≡ Refusal.Write) }
-    ensures beginning { OnErr result (TakesBeginning (W.contents writer.old) (W.contents writer.new)
-        (block.old ++ letter_text letter.entry)) }
-    ensures cause { OnErr result (GivesUp (W.failures writer.old) (W.failures writer.new)
-        (W.is_full writer.new)) }
+    ensures { Puts (W.state writer.old) (W.state writer.new)
+        (block.old ++ letter_text letter.entry) block.new result }
 {
     block.put(writer, sender_part(letter.from).as_slice())?;
     block.put(writer, letter.text.as_bytes())?;

@@ -1,8 +1,7 @@
 -- A text on its way to a sink, piece by piece.
 use Rattle.std.proofs.Common.{◌≡◌, ℕ, List, [], ◌++◌, Option, refl, sym, subst, ◌∙◌, append_assoc, append-nil}
-use Rattle.std.specs.Io.KnownBytes.{Appends}
 use Rattle.text_io.specs.Blocks.{Sends, TakesBeginning}
-use Rattle.text_io.proofs.Sends.{Sends-none, Sends-more, Sends-trans, Appends-Sends, TakesBeginning-longer, TakesBeginning-trans, TakesBeginning-held}
+use Rattle.text_io.proofs.Sends.{Sends-none, Sends-trans, TakesBeginning-longer, TakesBeginning-trans}
 
 -- of a whole text, a sink took a front, some is held back, and the rest is still to come
 pub record IsUnderWay (old new : Option (List ℕ)) (whole held rest : List ℕ) : Type 0 where
@@ -31,16 +30,6 @@ under_way_stops a b c whole held piece rest u t =
 -- nothing is to come any more
 pub under_way_done : (a b : Option (List ℕ)) (whole held : List ℕ) → IsUnderWay a b whole held [] → Sends a b whole held
 under_way_done a b whole held u = subst (λ t. Sends a b t held) (sym (append-nil u.text) ∙ u.all) u.sends
-
--- the sink took all that was held
-pub under_way_ends : (a b c : Option (List ℕ)) (whole held : List ℕ) → IsUnderWay a b whole held [] → Appends b c held → Appends a c whole
-under_way_ends a b c whole held u p =
-    Appends-Sends a c whole
-    (Sends-more a b c whole held held [] (under_way_done a b whole held u) p (sym (append-nil held)))
-
--- the sink gave up within what was held
-pub under_way_stops_last : (a b c : Option (List ℕ)) (whole held : List ℕ) → IsUnderWay a b whole held [] → TakesBeginning b c held → TakesBeginning a c whole
-under_way_stops_last a b c whole held u t = TakesBeginning-held a b c whole held (under_way_done a b whole held u) t
 
 -- a text of three pieces, of which the first was handed on
 pieces_first : (a b : Option (List ℕ)) (x y z h : List ℕ) → Sends a b x h → IsUnderWay a b (x ++ y ++ z) h (y ++ z)
@@ -71,10 +60,6 @@ pieces_stop_at_second a b c x y z h s t = under_way_stops a b c (x ++ y ++ z) h 
 pub pieces_stop_at_third : (a b c d : Option (List ℕ)) (x y z h i : List ℕ) → Sends a b x h → Sends b c (h ++ y) i → TakesBeginning c d (i ++ z) → TakesBeginning a d (x ++ y ++ z)
 pieces_stop_at_third a b c d x y z h i s t u = under_way_stops a c d (x ++ y ++ z) i z [] (pieces_second a b c x y z h i s t) u
 
--- the sink took all three pieces
-pub pieces_end : (a b c d e : Option (List ℕ)) (x y z h i j : List ℕ) → Sends a b x h → Sends b c (h ++ y) i → Sends c d (i ++ z) j → Appends d e j → Appends a e (x ++ y ++ z)
-pieces_end a b c d e x y z h i j s t u p = under_way_ends a d e (x ++ y ++ z) j (pieces_third a b c d x y z h i j s t u) p
-
--- it gave up within what was held of them at the end
-pub pieces_stop_at_end : (a b c d e : Option (List ℕ)) (x y z h i j : List ℕ) → Sends a b x h → Sends b c (h ++ y) i → Sends c d (i ++ z) j → TakesBeginning d e j → TakesBeginning a e (x ++ y ++ z)
-pieces_stop_at_end a b c d e x y z h i j s t u v = under_way_stops_last a d e (x ++ y ++ z) j (pieces_third a b c d x y z h i j s t u) v
+-- all three were handed on
+pub pieces_done : (a b c d : Option (List ℕ)) (x y z h i j : List ℕ) → Sends a b x h → Sends b c (h ++ y) i → Sends c d (i ++ z) j → Sends a d (x ++ y ++ z) j
+pieces_done a b c d x y z h i j s t u = under_way_done a d (x ++ y ++ z) j (pieces_third a b c d x y z h i j s t u)

@@ -1,8 +1,8 @@
 //! The table of a history.
-ghost use Rattle.std.specs.Prelude.{◌≡◌, ◌++◌, ◌⊎◌, OnOk, IfErr, OnErr, map};
+ghost use Rattle.std.specs.Prelude.{◌≡◌, ◌++◌, ◌⊎◌, OnOk, IfErr, map};
 ghost use Rattle.std.specs.Io.KnownBytes.{Appends};
 ghost use Rattle.std.specs.List.{flat_map};
-ghost use Rattle.text_io.specs.Blocks.{Sends, TakesBeginning, GivesUp};
+ghost use Rattle.text_io.specs.Blocks.{TakesBeginning, GivesUp, Puts, Writes};
 ghost use Rattle.history.specs.Checking.{shown};
 ghost use Rattle.report.specs.HistoryTable.{row_text, count_text, table_text, history_table_text};
 
@@ -28,16 +28,16 @@ pub fn history_table<W: Sink>(
     history: &[Stamped],
     writer: &mut W,
 ) -> Result<(), Refusal>
-    ensures ok { OnOk result (Appends (W.contents writer.old) (W.contents writer.new)
+    ensures ok { OnOk result (Appends (W.state writer.old).contents (W.state writer.new).contents
         (history_table_text history.now)) }
-    ensures quiet { OnOk result (W.failures writer.new ≡ W.failures writer.old) }
+    ensures quiet { OnOk result ((W.state writer.new).failures ≡ (W.state writer.old).failures) }
     ensures only { IfErr result (λ why. (why ≡ Refusal.Memory) ⊎ (why ≡ Refusal.Write)) }
     ensures unwritten { IfErr result (λ why. why ≡ Refusal.Memory → writer.new ≡ writer.old) }
     ensures beginning { IfErr result (λ why. why ≡ Refusal.Write
-        → TakesBeginning (W.contents writer.old) (W.contents writer.new)
+        → TakesBeginning (W.state writer.old).contents (W.state writer.new).contents
         (history_table_text history.now)) }
     ensures cause { IfErr result (λ why. why ≡ Refusal.Write
-        → GivesUp (W.failures writer.old) (W.failures writer.new) (W.is_full writer.new)) }
+        → GivesUp (W.state writer.old) (W.state writer.new)) }
 {
     let placed = by_place(alloc, history)?;
     let counts = counts_of(alloc, history)?;
@@ -50,14 +50,8 @@ fn write_table<W: Sink>(
     counts: &IndexMap<Kind, u64>,
     writer: &mut W,
 ) -> Result<(), Refusal>
-    ensures ok { OnOk result (Appends (W.contents writer.old) (W.contents writer.new)
-        (table_text (map shown placed.now) counts.now.entries)) }
-    ensures quiet { OnOk result (W.failures writer.new ≡ W.failures writer.old) }
-    ensures only_write { IfErr result (λ why. why ≡ Refusal.Write) }
-    ensures beginning { OnErr result (TakesBeginning (W.contents writer.old) (W.contents writer.new)
-        (table_text (map shown placed.now) counts.now.entries)) }
-    ensures cause { OnErr result (GivesUp (W.failures writer.old) (W.failures writer.new)
-        (W.is_full writer.new)) }
+    ensures { Writes (W.state writer.old) (W.state writer.new)
+        (table_text (map shown placed.now) counts.now.entries) result }
 {
     let mut block = Block::new();
     block.put(writer, b"yes\n")?;
@@ -72,14 +66,8 @@ fn put_rows<W: Sink>(
     writer: &mut W,
     placed: &[(u64, &Stamped)],
 ) -> Result<(), Refusal>
-    ensures ok { OnOk result (Sends (W.contents writer.old) (W.contents writer.new)
-        (block.old ++ flat_map (λ e. row_text e.0 e.1) (map shown placed.now)) block.new) }
-    ensures quiet { OnOk result (W.failures writer.new ≡ W.failures writer.old) }
-    ensures only_write { IfErr result (λ why. why ≡ Refusal.Write) }
-    ensures beginning { OnErr result (TakesBeginning (W.contents writer.old) (W.contents writer.new)
-        (block.old ++ flat_map (λ e. row_text e.0 e.1) (map shown placed.now))) }
-    ensures cause { OnErr result (GivesUp (W.failures writer.old) (W.failures writer.new)
-        (W.is_full writer.new)) }
+    ensures { Puts (W.state writer.old) (W.state writer.new)
+        (block.old ++ flat_map (λ e. row_text e.0 e.1) (map shown placed.now)) block.new result }
 {
     for (at, operation) in placed {
         block.put(writer, row_line(*at, *operation).as_slice())?;
@@ -93,14 +81,8 @@ fn put_counts<W: Sink>(
     writer: &mut W,
     counts: &IndexMap<Kind, u64>,
 ) -> Result<(), Refusal>
-    ensures ok { OnOk result (Sends (W.contents writer.old) (W.contents writer.new)
-        (block.old ++ flat_map (λ e. count_text e.0 e.1) counts.now.entries) block.new) }
-    ensures quiet { OnOk result (W.failures writer.new ≡ W.failures writer.old) }
-    ensures only_write { IfErr result (λ why. why ≡ Refusal.Write) }
-    ensures beginning { OnErr result (TakesBeginning (W.contents writer.old) (W.contents writer.new)
-        (block.old ++ flat_map (λ e. count_text e.0 e.1) counts.now.entries)) }
-    ensures cause { OnErr result (GivesUp (W.failures writer.old) (W.failures writer.new)
-        (W.is_full writer.new)) }
+    ensures { Puts (W.state writer.old) (W.state writer.new)
+        (block.old ++ flat_map (λ e. count_text e.0 e.1) counts.now.entries) block.new result }
 {
     for (kind, number) in counts {
         block.put(writer, count_line(*kind, *number).as_slice())?;

@@ -1,8 +1,8 @@
 //! The table of the results of jobs.
-ghost use Rattle.std.specs.Prelude.{◌≡◌, ◌++◌, ◌⊎◌, OnOk, IfErr, OnErr, length, map};
+ghost use Rattle.std.specs.Prelude.{◌≡◌, ◌++◌, ◌⊎◌, OnOk, IfErr, length, map};
 ghost use Rattle.std.specs.Io.KnownBytes.{Appends};
 ghost use Rattle.std.specs.List.{flat_map};
-ghost use Rattle.text_io.specs.Blocks.{Sends, TakesBeginning, GivesUp};
+ghost use Rattle.text_io.specs.Blocks.{TakesBeginning, GivesUp, Puts, Writes};
 ghost use Rattle.job_results.specs.Results.{row_of};
 ghost use Rattle.report.specs.ResultsTable.{result_text, job_count_text, results_parts_text, results_text};
 
@@ -27,16 +27,16 @@ pub fn results_table<W: Sink>(
     results: &[JobResult],
     writer: &mut W,
 ) -> Result<(), Refusal>
-    ensures ok { OnOk result (Appends (W.contents writer.old) (W.contents writer.new)
+    ensures ok { OnOk result (Appends (W.state writer.old).contents (W.state writer.new).contents
         (results_text (map row_of results.now))) }
-    ensures quiet { OnOk result (W.failures writer.new ≡ W.failures writer.old) }
+    ensures quiet { OnOk result ((W.state writer.new).failures ≡ (W.state writer.old).failures) }
     ensures only { IfErr result (λ why. (why ≡ Refusal.Memory) ⊎ (why ≡ Refusal.Write)) }
     ensures unwritten { IfErr result (λ why. why ≡ Refusal.Memory → writer.new ≡ writer.old) }
     ensures beginning { IfErr result (λ why. why ≡ Refusal.Write
-        → TakesBeginning (W.contents writer.old) (W.contents writer.new)
+        → TakesBeginning (W.state writer.old).contents (W.state writer.new).contents
         (results_text (map row_of results.now))) }
     ensures cause { IfErr result (λ why. why ≡ Refusal.Write
-        → GivesUp (W.failures writer.old) (W.failures writer.new) (W.is_full writer.new)) }
+        → GivesUp (W.state writer.old) (W.state writer.new)) }
 {
     let counts = job_counts_of(alloc, results)?;
     write_results(results, &counts, writer)
@@ -48,14 +48,8 @@ fn write_results<W: Sink>(
     counts: &IndexMap<JobKind, u64>,
     writer: &mut W,
 ) -> Result<(), Refusal>
-    ensures ok { OnOk result (Appends (W.contents writer.old) (W.contents writer.new)
-        (results_parts_text (length results.now) (map row_of results.now) counts.now.entries)) }
-    ensures quiet { OnOk result (W.failures writer.new ≡ W.failures writer.old) }
-    ensures only_write { IfErr result (λ why. why ≡ Refusal.Write) }
-    ensures beginning { OnErr result (TakesBeginning (W.contents writer.old) (W.contents writer.new)
-        (results_parts_text (length results.now) (map row_of results.now) counts.now.entries)) }
-    ensures cause { OnErr result (GivesUp (W.failures writer.old) (W.failures writer.new)
-        (W.is_full writer.new)) }
+    ensures { Writes (W.state writer.old) (W.state writer.new)
+        (results_parts_text (length results.now) (map row_of results.now) counts.now.entries) result }
 {
     let mut block = Block::new();
     block.put(writer, results_header_line(results.len() as u64).as_slice())?;
@@ -70,14 +64,8 @@ fn put_results<W: Sink>(
     writer: &mut W,
     results: &[JobResult],
 ) -> Result<(), Refusal>
-    ensures ok { OnOk result (Sends (W.contents writer.old) (W.contents writer.new)
-        (block.old ++ flat_map result_text (map row_of results.now)) block.new) }
-    ensures quiet { OnOk result (W.failures writer.new ≡ W.failures writer.old) }
-    ensures only_write { IfErr result (λ why. why ≡ Refusal.Write) }
-    ensures beginning { OnErr result (TakesBeginning (W.contents writer.old) (W.contents writer.new)
-        (block.old ++ flat_map result_text (map row_of results.now))) }
-    ensures cause { OnErr result (GivesUp (W.failures writer.old) (W.failures writer.new)
-        (W.is_full writer.new)) }
+    ensures { Puts (W.state writer.old) (W.state writer.new)
+        (block.old ++ flat_map result_text (map row_of results.now)) block.new result }
 {
     for told in results {
         block.put(writer, result_line(told).as_slice())?;
@@ -91,14 +79,8 @@ fn put_job_counts<W: Sink>(
     writer: &mut W,
     counts: &IndexMap<JobKind, u64>,
 ) -> Result<(), Refusal>
-    ensures ok { OnOk result (Sends (W.contents writer.old) (W.contents writer.new)
-        (block.old ++ flat_map (λ e. job_count_text e.0 e.1) counts.now.entries) block.new) }
-    ensures quiet { OnOk result (W.failures writer.new ≡ W.failures writer.old) }
-    ensures only_write { IfErr result (λ why. why ≡ Refusal.Write) }
-    ensures beginning { OnErr result (TakesBeginning (W.contents writer.old) (W.contents writer.new)
-        (block.old ++ flat_map (λ e. job_count_text e.0 e.1) counts.now.entries)) }
-    ensures cause { OnErr result (GivesUp (W.failures writer.old) (W.failures writer.new)
-        (W.is_full writer.new)) }
+    ensures { Puts (W.state writer.old) (W.state writer.new)
+        (block.old ++ flat_map (λ e. job_count_text e.0 e.1) counts.now.entries) block.new result }
 {
     for (kind, number) in counts {
         block.put(writer, job_count_line(*kind, *number).as_slice())?;

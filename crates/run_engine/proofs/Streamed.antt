@@ -1,5 +1,5 @@
 -- Events that are made as a source gives them.
-use Rattle.std.proofs.Common.{◌≡◌, ℕ, ◌+◌, ◌*◌, ◌^◌, ◌<◌, ◌≤◌, List, [], ◌∷◌, ◌++◌, length, Option, None, Some, Bool, true, refl, sym, ap, subst, arith, zero-add, length-append}
+use Rattle.std.proofs.Common.{◌≡◌, ℕ, ◌+◌, ◌*◌, ◌^◌, ◌<◌, ◌≤◌, List, [], ◌∷◌, ◌++◌, length, Option, None, Some, true, refl, sym, ap, subst, arith, zero-add, length-append}
 use Rattle.std.specs.Prelude.{IfSome}
 use Rattle.std.specs.Io.KnownBytes.{prepend_known}
 use Rattle.engine_faults.specs.Faults.{IsEventFault, IsMoveRefusal}
@@ -8,13 +8,14 @@ use Rattle.history.specs.declared.refusals.Refusal.TheVariants.{Memory, Text, Re
 use Rattle.schedule_text.specs.EventStreams.{EventStream, IsStarted, GaveEvent, GaveAll, IsRefused, IsRefusedNext, IsRefusedReading, HasRead, HasReadAll, schedule_with}
 use Rattle.schedule_text.specs.Schedules.{Schedule}
 use Rattle.schedule_text.specs.Streaming.{IsFirstFaultFrom}
-use Rattle.schedule_text.specs.Streams.{Stream, stream}
+use Rattle.schedule_text.specs.Streams.{stream}
 use Rattle.schedule_text.specs.Texts.{version_due, schedule_text}
 use Rattle.schedule_text.specs.declared.parsing.Header.{Header}
 use Rattle.schedule_text.specs.declared.schedules.Event.{Event}
 use Rattle.schedule_text.proofs.EventStreams.{HasRead-started, HasRead-event, HasRead-refused, HasRead-all, refused_reading}
 use Rattle.schedule_text.proofs.Streams.{prepend-nothing}
-use Rattle.text_io.specs.Readings.{WereAll, EndsReadingAt}
+use Rattle.text_io.specs.Devices.{SourceState}
+use Rattle.text_io.specs.Readings.{WereAll, ReachesEnd, EndsReadingAt}
 use Rattle.step_machine.specs.Calls.{setup_from}
 use Rattle.step_machine.specs.Machine.{World, opening}
 use Rattle.text_lines.specs.declared.causes.TextCause.{TextCause}
@@ -23,7 +24,7 @@ use Rattle.run_engine.proofs.Leading.{EventsLead-one_more, world_after-moves_of}
 use Rattle.run_engine.proofs.Stops.{EventsRefused_behind}
 
 -- the events that were read were made, and the next one stands in this line
-pub record HasMade (s : EventStream) (w : World) (line : ℕ) (first mid : Stream) : Type 0 where
+pub record HasMade (s : EventStream) (w : World) (line : ℕ) (first mid : SourceState) : Type 0 where
   pub events : List Event
   pub read : HasRead s events first mid
   pub led : EventsLead (opening_of (schedule_with s.header events)) events w
@@ -31,7 +32,7 @@ pub record HasMade (s : EventStream) (w : World) (line : ℕ) (first mid : Strea
   pub counted : line ≡ 7 + length events
 
 -- none was read
-pub HasMade-started : (s : EventStream) (h : Header) (w : World) (first mid : Stream) → IsStarted s first mid → h ≡ s.header
+pub HasMade-started : (s : EventStream) (h : Header) (w : World) (first mid : SourceState) → IsStarted s first mid → h ≡ s.header
     → w ≡ opening (setup_from h.kind h.nodes h.limit) h.actors → HasMade s w 7 first mid
 HasMade-started s h w first mid started same is =
     let none : w.steps ≡ 0 = ap (λ (v : World). v.steps) is in
@@ -39,7 +40,7 @@ HasMade-started s h w first mid started same is =
     record { events = []; read = HasRead-started s [] first mid refl started; led = sym led; steps = omega (arith, none); counted = refl }
 
 -- one more was
-pub HasMade-event : (s t : EventStream) (w v : World) (line : ℕ) (event : Event) (first mid new : Stream) → HasMade s w line first mid
+pub HasMade-event : (s t : EventStream) (w v : World) (line : ℕ) (event : Event) (first mid new : SourceState) → HasMade s w line first mid
     → GaveEvent event s t mid new → EventLeads w event v → v.steps ≤ w.steps + 1000000 → HasMade t v (line + 1) first new
 HasMade-event s t w v line event first mid new made gave leads few =
     let events = made.events in
@@ -54,10 +55,10 @@ HasMade-event s t w v line event first mid new made gave leads few =
     }
 
 -- few step numbers are used then, and few lines were read
-pub HasMade-few : (s : EventStream) (w : World) (line : ℕ) (first mid : Stream) → HasMade s w line first mid → w.steps + 1000001 < 2 ^ 64
+pub HasMade-few : (s : EventStream) (w : World) (line : ℕ) (first mid : SourceState) → HasMade s w line first mid → w.steps + 1000001 < 2 ^ 64
 HasMade-few s w line first mid made = omega (arith, made.steps, made.read.counted, made.read.range.events)
 
-pub HasMade-line : (s : EventStream) (w : World) (line : ℕ) (first mid : Stream) → HasMade s w line first mid → (7 ≤ line) × (line ≤ 1000007)
+pub HasMade-line : (s : EventStream) (w : World) (line : ℕ) (first mid : SourceState) → HasMade s w line first mid → (7 ≤ line) × (line ≤ 1000007)
 HasMade-line s w line first mid made = (omega (arith, made.counted), omega (arith, made.counted, made.read.counted, made.read.range.events))
 
 -- the bytes that a source gives were those of a text
@@ -77,30 +78,30 @@ no_text : (known : Option (List ℕ)) (why : Refusal) → IsMoveRefusal why → 
 no_text known (Text at cause) kind = absurd kind
 no_text known _ kind = tt
 
-ends_at : (old new : ℕ) (ended : Bool) (why : Refusal) → IsMoveRefusal why → new ≡ old → ended ≡ true → EndsReadingAt why old new ended
-ends_at old new ended Memory kind quiet told = quiet
-ends_at old new ended Read kind quiet told = absurd kind
-ends_at old new ended _ kind quiet told = (quiet, told)
+ends_at : (old new : SourceState) (why : Refusal) → IsMoveRefusal why → ReachesEnd old new → EndsReadingAt why old new
+ends_at old new Memory kind end = end.0
+ends_at old new Read kind end = absurd kind
+ends_at old new _ kind end = end
 
 run_fault : (why : Refusal) (line : Option ℕ) → IsEventFault why line → IsRunFault why line
 run_fault why None fault = rw fault tt
 run_fault why (Some line) fault = fault
 
 -- a source is read from its first byte on
-module _ (known : Option (List ℕ)) (failures budget : ℕ) (ended : Bool) where
-  abbrev first : Stream
-  first = stream [] known failures budget ended
+module _ (old : SourceState) where
+  abbrev first : SourceState
+  first = stream [] old
 
   -- where all was read, the world is that of the schedule
-  pub ran : (s t : EventStream) (w : World) (line : ℕ) (mid new : Stream) → HasMade s w line first mid → GaveAll s t mid new
-      → IsRunOf known w.operations × (new.failures ≡ failures) × (new.has_ended ≡ true)
+  pub ran : (s t : EventStream) (w : World) (line : ℕ) (mid new : SourceState) → HasMade s w line first mid → GaveAll s t mid new
+      → IsRunOf old.left w.operations × (new.failures ≡ old.failures) × (new.has_ended ≡ true)
   ran s t w line mid new made gave =
       let all = HasRead-all s t made.events first mid new made.read gave in
       let schedule : Schedule = schedule_with s.header made.events in (
         record {
           schedule = schedule;
           in_range = all.range;
-          read = all_of known (schedule_text schedule) all.text;
+          read = all_of old.left (schedule_text schedule) all.text;
           world = w;
           led = made.led;
           made = world_after-moves_of made.events (opening_of schedule) w made.led;
@@ -111,73 +112,76 @@ module _ (known : Option (List ℕ)) (failures budget : ℕ) (ended : Bool) wher
       )
 
   -- where the reading is refused, nothing is run
-  pub stopped_reading : (new : ℕ) (over : Bool) (why : Refusal) → IsRefusedReading known failures new over why → StopsRun known failures new over why None
-  stopped_reading new over Memory refused = record { fault = tt; text = tt; refused = tt; unwritten = λ e. absurd cc; reader = refused }
-  stopped_reading new over Read refused = record { fault = tt; text = tt; refused = tt; unwritten = λ e. absurd cc; reader = refused }
-  stopped_reading new over (Text at cause) refused =
-      record { fault = tt; text = faulty_at known at cause refused.0; refused = tt; unwritten = λ e. absurd cc; reader = (refused.1, refused.2) }
-  stopped_reading new over _ refused = absurd refused
+  pub stopped_reading : (new : SourceState) (why : Refusal) → IsRefusedReading old new why → StopsRun old new why None
+  stopped_reading new Memory refused = record { fault = tt; text = tt; refused = tt; unwritten = λ e. absurd cc; reader = refused }
+  stopped_reading new Read refused = record { fault = tt; text = tt; refused = tt; unwritten = λ e. absurd cc; reader = refused }
+  stopped_reading new (Text at cause) refused =
+      record { fault = tt; text = faulty_at old.left at cause refused.0; refused = tt; unwritten = λ e. absurd cc; reader = (refused.1, refused.2) }
+  stopped_reading new _ refused = absurd refused
 
   -- at the header, at its queue's memory, and behind it
-  pub stopped_start : (new : ℕ) (over : Bool) (why : Refusal) → IsRefused 0 version_due known failures new over why → StopsRun known failures new over why None
-  stopped_start new over Memory refused = absurd refused
-  stopped_start new over Read refused = stopped_reading new over Read refused
-  stopped_start new over (Text at cause) refused = stopped_reading new over (Text at cause) refused
-  stopped_start new over _ refused = absurd refused
+  pub stopped_start : (new : SourceState) (why : Refusal) → IsRefused 0 version_due old new why → StopsRun old new why None
+  stopped_start new Memory refused = absurd refused
+  stopped_start new Read refused = stopped_reading new Read refused
+  stopped_start new (Text at cause) refused = stopped_reading new (Text at cause) refused
+  stopped_start new _ refused = absurd refused
 
-  pub stopped_opening : (s : EventStream) (mid : Stream) (over : Bool) → IsStarted s first mid → StopsRun known failures mid.failures over Memory None
-  stopped_opening s mid over started = stopped_reading mid.failures over Memory started.lines.quiet
+  pub stopped_opening : (s : EventStream) (new : SourceState) → IsStarted s first (stream s.ahead new) → StopsRun old new Memory None
+  stopped_opening s new started = stopped_reading new Memory started.lines.quiet
 
-  pub stopped_next : (s t : EventStream) (w : World) (at : ℕ) (mid next : Stream) (why : Refusal) → HasMade s w at first mid → IsRefusedNext why s t mid next
-      → StopsRun known failures next.failures next.has_ended why None
-  stopped_next s t w at mid next why made refused =
-      stopped_reading next.failures next.has_ended why
-      (refused_reading known failures next.failures next.has_ended why (HasRead-refused s t made.events first mid next made.read why refused))
+  pub stopped_next : (s t : EventStream) (w : World) (at : ℕ) (mid new : SourceState) (why : Refusal) → HasMade s w at first mid
+      → IsRefusedNext why s t mid (stream t.ahead new) → StopsRun old new why None
+  stopped_next s t w at mid new why made refused =
+      stopped_reading new why
+      (refused_reading old new t.ahead why (HasRead-refused s t made.events first mid (stream t.ahead new) made.read why refused))
 
   -- where an event is refused, the rest is read
-  module _ (s t : EventStream) (w : World) (at : ℕ) (event : Event) (mid next : Stream) (made : HasMade s w at first mid) (gave : GaveEvent event s t mid next) where
+  module _ (s t : EventStream) (w : World) (at : ℕ) (event : Event) (mid later : SourceState) (made : HasMade s w at first mid) (gave : GaveEvent event s t mid (stream t.ahead later)) where
     abbrev given : List Event
     given = made.events ++ event ∷ []
+
+    abbrev next : SourceState
+    next = stream t.ahead later
 
     pub read_so_far : HasRead t given first next
     read_so_far = HasRead-event s t made.events first mid next made.read event given refl gave
 
-    pub stopped_memory : (over : Bool) → StopsRun known failures next.failures over Memory None
-    stopped_memory over = stopped_reading next.failures over Memory read_so_far.lines.quiet
+    pub stopped_memory : StopsRun old later Memory None
+    stopped_memory = stopped_reading later Memory read_so_far.lines.quiet
 
-    pub stopped_rest : (new : ℕ) (over : Bool) (why : Refusal)
-        → ((events : List Event) (begun : Stream) → HasRead t events begun next → IsRefused 0 version_due begun.left begun.failures new over why)
-        → StopsRun known failures new over why None
-    stopped_rest new over why rest = stopped_reading new over why (refused_reading known failures new over why (rest given first read_so_far))
+    pub stopped_rest : (new : SourceState) (ahead : List ℕ) (why : Refusal)
+        → ((events : List Event) (begun : SourceState) → HasRead t events begun next → IsRefused 0 version_due begun (stream ahead new) why)
+        → StopsRun old new why None
+    stopped_rest new ahead why rest = stopped_reading new why (refused_reading old new ahead why (rest given first read_so_far))
 
-    run_refused : (later : List Event) (new : Stream) (why : Refusal) → HasReadAll (schedule_with t.header (given ++ later)) first new → EventRefused w event why
-        → RunRefused known at why
-    run_refused later new why all refused =
-        let schedule : Schedule = schedule_with t.header (given ++ later) in
+    run_refused : (more : List Event) (new : SourceState) (why : Refusal) → HasReadAll (schedule_with t.header (given ++ more)) first new → EventRefused w event why
+        → RunRefused old.left at why
+    run_refused more new why all refused =
+        let schedule : Schedule = schedule_with t.header (given ++ more) in
         let led = subst (λ (h : Header). EventsLead (opening_of (schedule_with h made.events)) made.events w) (sym gave.header) made.led in
         record {
           schedule = schedule;
           in_range = all.range;
-          read = all_of known (schedule_text schedule) all.text;
-          refused = EventsRefused_behind made.events later event at (opening_of schedule) w why made.counted led refused;
+          read = all_of old.left (schedule_text schedule) all.text;
+          refused = EventsRefused_behind made.events more event at (opening_of schedule) w why made.counted led refused;
         }
 
-    refused_in : (later : List Event) (new : Stream) (why : Refusal) (line : Option ℕ) → HasReadAll (schedule_with t.header (given ++ later)) first new
-        → EventRefused w event why → IfSome line (λ told. told ≡ at) → IfSome line (λ told. RunRefused known told why)
-    refused_in later new why None all refused is = tt
-    refused_in later new why (Some told) all refused is = rw is (run_refused later new why all refused)
+    refused_in : (more : List Event) (new : SourceState) (why : Refusal) (line : Option ℕ) → HasReadAll (schedule_with t.header (given ++ more)) first new
+        → EventRefused w event why → IfSome line (λ told. told ≡ at) → IfSome line (λ told. RunRefused old.left told why)
+    refused_in more new why None all refused is = tt
+    refused_in more new why (Some told) all refused is = rw is (run_refused more new why all refused)
 
-    pub stopped_at : (new : Stream) (why told : Refusal) (line : Option ℕ)
-        → ((events : List Event) (begun : Stream) → HasRead t events begun next → (later : List Event) × HasReadAll (schedule_with t.header (events ++ later)) begun new)
+    pub stopped_at : (new : SourceState) (ahead : List ℕ) (why told : Refusal) (line : Option ℕ)
+        → ((events : List Event) (begun : SourceState) → HasRead t events begun next → (more : List Event) × HasReadAll (schedule_with t.header (events ++ more)) begun (stream ahead new))
         → IsMoveRefusal why → EventRefused w event why → told ≡ why → (7 ≤ at → IsEventFault told line) → IfSome line (λ l. l ≡ at)
-        → StopsRun known failures new.failures new.has_ended told line
-    stopped_at new why told line rest kind refused same fault is =
+        → StopsRun old new told line
+    stopped_at new ahead why told line rest kind refused same fault is =
         let all = rest given first read_so_far in
         let told_kind = subst (λ (r : Refusal). IsMoveRefusal r) (sym same) kind in
         record {
           fault = run_fault told line (fault (HasMade-line s w at first mid made).0);
-          text = no_text known told told_kind;
-          refused = refused_in all.0 new told line all.1 (subst (λ (r : Refusal). EventRefused w event r) (sym same) refused) is;
+          text = no_text old.left told told_kind;
+          refused = refused_in all.0 (stream ahead new) told line all.1 (subst (λ (r : Refusal). EventRefused w event r) (sym same) refused) is;
           unwritten = λ e. subst (λ (r : Refusal). IsMoveRefusal r) e told_kind;
-          reader = ends_at failures new.failures new.has_ended told told_kind all.1.quiet all.1.ended;
+          reader = ends_at old new told told_kind (all.1.quiet, all.1.ended);
         }

@@ -1,5 +1,5 @@
 -- What the run of a schedule reads, does and writes, and what it may be refused.
-use Rattle.std.specs.Prelude.{◌≡◌, ◌≢◌, ℕ, ◌+◌, ◌<◌, ◌≤◌, Bool, true, List, [], ◌∷◌, ◌++◌, length, replicate, Option, Some, None, Result, Ok, Err, map, ⊤, IfSome}
+use Rattle.std.specs.Prelude.{◌≡◌, ◌≢◌, ℕ, ◌+◌, ◌<◌, ◌≤◌, List, [], ◌∷◌, ◌++◌, length, replicate, Option, Some, None, Result, Ok, Err, map, ⊤, IfSome}
 use Rattle.std.specs.Io.KnownBytes.{Appends}
 use Rattle.text_io.specs.Blocks.{TakesBeginning}
 use Rattle.history_text.specs.HistoryText.{history_text}
@@ -17,7 +17,8 @@ use Rattle.schedule_text.specs.declared.schedules.Event.{Event}
 use Rattle.schedule_text.specs.declared.schedules.Event.TheVariants.{Begin, Step as StepAt, Steps, Give}
 use Rattle.schedule_text.specs.Schedules.{Schedule, moves_of, moves_of_event}
 use Rattle.schedule_text.specs.Texts.{schedule_lines, schedule_text, version_due, IsInRange}
-use Rattle.text_io.specs.Readings.{WereAll, EndsReadingAt}
+use Rattle.text_io.specs.Devices.{SourceState, SinkState}
+use Rattle.text_io.specs.Readings.{WereAll, ReachesEnd, EndsReadingAt}
 use Rattle.engine_faults.specs.Faults.{IsEventRefusal, IsRunRefusal}
 use Rattle.engine_faults.specs.declared.faults.Fault.{Fault}
 
@@ -97,16 +98,16 @@ pub record IsRunOf (given : Option (List ℕ)) (operations : List Stamped) : Typ
   pub told : operations ≡ world.operations
 
 -- known bytes were the text of a schedule, and the text of its run's history was written
-pub record WritesRun (given old new : Option (List ℕ)) : Type 0 where
+pub record WritesRun (given : Option (List ℕ)) (old new : SinkState) : Type 0 where
   pub operations : List Stamped
   pub run : IsRunOf given operations
-  pub written : Appends old new (history_text operations)
+  pub written : Appends old.contents new.contents (history_text operations)
 
 -- known bytes were the text of a schedule, and a beginning of the text of its run's history was written
-pub record BeginsRun (given old new : Option (List ℕ)) : Type 0 where
+pub record BeginsRun (given : Option (List ℕ)) (old new : SinkState) : Type 0 where
   pub operations : List Stamped
   pub run : IsRunOf given operations
-  pub begun : TakesBeginning old new (history_text operations)
+  pub begun : TakesBeginning old.contents new.contents (history_text operations)
 
 -- known bytes were the text of a schedule in range, and its events are refused at the one in this line
 pub record RunRefused (given : Option (List ℕ)) (line : ℕ) (why : Refusal) : Type 0 where
@@ -131,14 +132,14 @@ IsRunFault why None = IsRunRefusal why
 IsRunFault why (Some line) = IsEventRefusal why × (7 ≤ line)
 
 -- how the reading behind a run ends, by what the run answers
-abbrev pub EndsReading : {A : Type 0} → Result A Fault → (old_failures new_failures : ℕ) → (has_ended : Bool) → Type 0
-EndsReading (Ok done) old new ended = (new ≡ old) × (ended ≡ true)
-EndsReading (Err fault) old new ended = EndsReadingAt fault.refusal old new ended
+abbrev pub EndsReading : {A : Type 0} → Result A Fault → (old new : SourceState) → Type 0
+EndsReading (Ok done) old new = ReachesEnd old new
+EndsReading (Err fault) old new = EndsReadingAt fault.refusal old new
 
 -- a run stops before anything is written, for this cause and at this line of an event, if at one
-pub record StopsRun (given : Option (List ℕ)) (old_failures new_failures : ℕ) (has_ended : Bool) (why : Refusal) (line : Option ℕ) : Type 0 where
+pub record StopsRun (old new : SourceState) (why : Refusal) (line : Option ℕ) : Type 0 where
   pub fault : IsRunFault why line
-  pub text : TellsFaultyLine given why
-  pub refused : IfSome line (λ line. RunRefused given line why)
+  pub text : TellsFaultyLine old.left why
+  pub refused : IfSome line (λ line. RunRefused old.left line why)
   pub unwritten : why ≢ Write
-  pub reader : EndsReadingAt why old_failures new_failures has_ended
+  pub reader : EndsReadingAt why old new

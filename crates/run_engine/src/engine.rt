@@ -12,14 +12,13 @@ use text_io::{Sink, Source};
 
 /// The history of the schedule whose text a source gives.
 fn history_of<R: Source>(alloc: Global, reader: &mut R) -> Result<Vec<Stamped>, Fault>
-    ensures ok { IfOk result (λ history. IsRunOf (R.remaining reader.old) history.items) }
-    ensures text { IfErr result (λ fault. TellsFaultyLine (R.remaining reader.old) fault.refusal) }
+    ensures ok { IfOk result (λ history. IsRunOf (R.state reader.old).left history.items) }
+    ensures text { IfErr result (λ fault. TellsFaultyLine (R.state reader.old).left fault.refusal) }
     ensures fault { IfErr result (λ fault. IsRunFault fault.refusal fault.line) }
     ensures refused { IfErr result (λ fault. IfSome fault.line (λ line.
-        RunRefused (R.remaining reader.old) line fault.refusal)) }
+        RunRefused (R.state reader.old).left line fault.refusal)) }
     ensures unwritten { IfErr result (λ fault. fault.refusal ≢ Refusal.Write) }
-    ensures reader { EndsReading result (R.failures reader.old) (R.failures reader.new)
-        (R.has_ended reader.new) }
+    ensures reader { EndsReading result (R.state reader.old) (R.state reader.new) }
 {
     let world = world_of_text(alloc, reader)?;
     let history = world.history(alloc)?;
@@ -38,24 +37,23 @@ pub fn run_text<R: Source, W: Sink>(
     writer: &mut W,
 ) -> Result<(), Fault>
     // The text of the schedule's history is written, and nothing else.
-    ensures ok { OnOk result (WritesRun (R.remaining reader.old) (W.contents writer.old)
-        (W.contents writer.new)) }
-    ensures quiet { OnOk result (W.failures writer.new ≡ W.failures writer.old) }
+    ensures ok { OnOk result (WritesRun (R.state reader.old).left (W.state writer.old)
+        (W.state writer.new)) }
+    ensures quiet { OnOk result ((W.state writer.new).failures ≡ (W.state writer.old).failures) }
     // Where writing fails, a beginning of that text is written.
     ensures beginning { IfErr result (λ fault. fault.refusal ≡ Refusal.Write
-        → BeginsRun (R.remaining reader.old) (W.contents writer.old) (W.contents writer.new)) }
+        → BeginsRun (R.state reader.old).left (W.state writer.old) (W.state writer.new)) }
     ensures write { IfErr result (λ fault. fault.refusal ≡ Refusal.Write
-        → GivesUp (W.failures writer.old) (W.failures writer.new) (W.is_full writer.new)) }
+        → GivesUp (W.state writer.old) (W.state writer.new)) }
     // At any other fault nothing is.
     ensures unwritten { IfErr result (λ fault. fault.refusal ≢ Refusal.Write → writer.new ≡ writer.old) }
     ensures fault { IfErr result (λ fault. IsRunFault fault.refusal fault.line) }
     // A text that is no schedule is refused by its first faulty line.
-    ensures text { IfErr result (λ fault. TellsFaultyLine (R.remaining reader.old) fault.refusal) }
+    ensures text { IfErr result (λ fault. TellsFaultyLine (R.state reader.old).left fault.refusal) }
     // A line is that of the first event that is refused, and the refusal is that event's.
     ensures refused { IfErr result (λ fault. IfSome fault.line (λ line.
-        RunRefused (R.remaining reader.old) line fault.refusal)) }
-    ensures reader { EndsReading result (R.failures reader.old) (R.failures reader.new)
-        (R.has_ended reader.new) }
+        RunRefused (R.state reader.old).left line fault.refusal)) }
+    ensures reader { EndsReading result (R.state reader.old) (R.state reader.new) }
 {
     let history = history_of(alloc, reader)?;
     print_history(&history, writer)?;

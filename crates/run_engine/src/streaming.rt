@@ -1,10 +1,12 @@
 //! Makes the events of a schedule as a source gives them.
-ghost use Rattle.std.specs.Prelude.{◌≡◌, ◌++◌, List, IfErr, IfOk, OnOk, true};
+ghost use Rattle.std.specs.Prelude.{◌≡◌, ◌++◌, List, IfErr, IfOk, OnOk};
 ghost use Rattle.history.specs.declared.refusals.Refusal.TheVariants.{Memory};
 ghost use Rattle.run_engine.specs.Runs.{IsRunOf, StopsRun};
+ghost use Rattle.text_io.specs.Devices.{SourceState};
+ghost use Rattle.text_io.specs.Readings.{ReachesEnd};
 ghost use Rattle.schedule_text.specs.EventStreams.{HasRead, HasReadAll, IsRefused, schedule_with};
 ghost use Rattle.schedule_text.specs.Reading.{IsHeaderInRange};
-ghost use Rattle.schedule_text.specs.Streams.{Stream, stream};
+ghost use Rattle.schedule_text.specs.Streams.{stream};
 ghost use Rattle.schedule_text.specs.Texts.{version_due};
 ghost use Rattle.schedule_text.specs.declared.event_stream.Stage.TheVariants.{Going};
 ghost use Rattle.schedule_text.specs.declared.schedules.Event.{Event};
@@ -36,17 +38,13 @@ fn opening_world(alloc: Global, header: &Header) -> Result<World, Refusal>
 /// Reads the rest of a schedule, to the end of its source, and makes none of its events.
 fn read_rest<R: Source>(events: &mut EventStream, reader: &mut R) -> Result<(), Refusal>
     requires { events.old.stage ≡ Going }
-    ensures ok { OnOk result ((given : List Event) (first : Stream)
-        → HasRead events.old given first (stream events.old.ahead (R.remaining reader.old)
-        (R.failures reader.old) (R.budget reader.old) (R.has_ended reader.old))
+    ensures ok { OnOk result ((given : List Event) (first : SourceState)
+        → HasRead events.old given first (stream events.old.ahead (R.state reader.old))
         → (later : List Event) × HasReadAll (schedule_with events.old.header (given ++ later)) first
-        (stream events.new.ahead (R.remaining reader.new) (R.failures reader.new)
-        (R.budget reader.new) (R.has_ended reader.new))) }
-    ensures err { IfErr result (λ why. (given : List Event) (first : Stream)
-        → HasRead events.old given first (stream events.old.ahead (R.remaining reader.old)
-        (R.failures reader.old) (R.budget reader.old) (R.has_ended reader.old))
-        → IsRefused 0 version_due first.left first.failures (R.failures reader.new)
-        (R.has_ended reader.new) why) }
+        (stream events.new.ahead (R.state reader.new))) }
+    ensures err { IfErr result (λ why. (given : List Event) (first : SourceState)
+        → HasRead events.old given first (stream events.old.ahead (R.state reader.old))
+        → IsRefused 0 version_due first (stream events.new.ahead (R.state reader.new)) why) }
 {
     while events.next(reader)?.is_some() {}
     Ok(())
@@ -56,11 +54,10 @@ fn read_rest<R: Source>(events: &mut EventStream, reader: &mut R) -> Result<(), 
 ///
 /// Where an event is refused, the rest of the text is read first, since a fault there is told in its place.
 pub(crate) fn world_of_text<R: Source>(alloc: Global, reader: &mut R) -> Result<World, Fault>
-    ensures ok { IfOk result (λ world. IsRunOf (R.remaining reader.old) world.operations) }
-    ensures end { OnOk result ((R.failures reader.new ≡ R.failures reader.old)
-        × (R.has_ended reader.new ≡ true)) }
-    ensures err { IfErr result (λ fault. StopsRun (R.remaining reader.old) (R.failures reader.old)
-        (R.failures reader.new) (R.has_ended reader.new) fault.refusal fault.line) }
+    ensures ok { IfOk result (λ world. IsRunOf (R.state reader.old).left world.operations) }
+    ensures end { OnOk result (ReachesEnd (R.state reader.old) (R.state reader.new)) }
+    ensures err { IfErr result (λ fault. StopsRun (R.state reader.old) (R.state reader.new)
+        fault.refusal fault.line) }
 {
     let mut stream = EventStream::start(reader)?;
     let mut world = opening_world(alloc, stream.header())?;

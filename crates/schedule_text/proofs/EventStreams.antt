@@ -1,10 +1,10 @@
 -- Schedules that are read event by event.
-use Rattle.std.proofs.Common.{◌≡◌, ℕ, ◌+◌, List, [], ◌∷◌, ◌++◌, length, map, Option, None, Some, true, IfSome, Bool, ◌⊎◌, inl, inr, refl, sym, ap, subst, ◌∙◌, arith, append_assoc, length-append}
+use Rattle.std.proofs.Common.{◌≡◌, ℕ, ◌+◌, List, [], ◌∷◌, ◌++◌, length, map, Option, None, Some, true, IfSome, ◌⊎◌, inl, inr, refl, sym, ap, subst, ◌∙◌, arith, append_assoc, length-append}
 use Rattle.std.specs.Prelude.{Result, Ok, Err, IfOk, IfErr, MatchResult}
 use Rattle.std.proofs.lemmas.Bool.{lt-ltb}
 use Rattle.std.proofs.lemmas.List.{append-nil, map-append, length-map}
 use Rattle.std.proofs.lemmas.List.Elements.{All-nil, All-cons, All-append}
-use Rattle.std.specs.Io.KnownBytes.{Consumes, IsAtEnd, prepend_known}
+use Rattle.std.specs.Io.KnownBytes.{Consumes, IsAtEnd}
 use Rattle.history.specs.declared.refusals.Refusal.{Refusal}
 use Rattle.history.specs.declared.refusals.Refusal.TheVariants.{Memory, Text, Read}
 use Rattle.text_lines.specs.Grammars.{AreDue, state_after, lines_of}
@@ -15,7 +15,8 @@ use Rattle.schedule_text.specs.EventStreams.{EventStream, IsRefused, IsStarted, 
 use Rattle.schedule_text.specs.Reading.{said_in}
 use Rattle.schedule_text.specs.Schedules.{Schedule}
 use Rattle.schedule_text.specs.Streaming.{GaveLines, GaveSaid, IsFirstFaultFrom}
-use Rattle.schedule_text.specs.Streams.{Stream, stream}
+use Rattle.text_io.specs.Devices.{SourceState}
+use Rattle.schedule_text.specs.Streams.{stream}
 use Rattle.schedule_text.specs.Texts.{Said, happens, Due, version_due, events_left, is_due, said_words, schedule_lines, schedule_text, IsEventInRange, IsInRange}
 use Rattle.schedule_text.proofs.Joining.{AreDue-append, refused_behind, state_after-append, state_after-happens}
 use Rattle.schedule_text.proofs.OneText.{one_text, no_fault_of_schedule}
@@ -23,7 +24,7 @@ use Rattle.schedule_text.proofs.Parts.{lines_of-append}
 use Rattle.schedule_text.proofs.Streams.{Consumes-more, prepend-nothing}
 
 -- one more line behind others
-GaveLines-more : (due later : Due) (saids : List Said) (said : Said) (old mid new : Stream) → GaveLines due saids old mid → state_after schedule_lines due saids ≡ later
+GaveLines-more : (due later : Due) (saids : List Said) (said : Said) (old mid new : SourceState) → GaveLines due saids old mid → state_after schedule_lines due saids ≡ later
     → is_due later ≡ true → GaveSaid later said mid new → GaveLines due (saids ++ said ∷ []) old new
 GaveLines-more due later saids said old mid new lines state more gave =
     let one : List ℕ = line (spaced (said_words said)) in
@@ -39,11 +40,10 @@ GaveLines-more due later saids said old mid new lines state more gave =
     }
 
 -- what is refused behind lines is refused before them
-refused_behind_lines : (before : ℕ) (due later : Due) (saids : List Said) (old mid : Stream) (new : ℕ) (ended : Bool) (why : Refusal) → GaveLines due saids old mid
-    → state_after schedule_lines due saids ≡ later → IsRefused (before + length saids) later mid.left mid.failures new ended why
-    → IsRefused before due old.left old.failures new ended why
-refused_behind_lines before due later saids old mid new ended Read lines state refused = refused ∙ ap (λ (n : ℕ). n + 1) lines.quiet
-refused_behind_lines before due later saids old mid new ended (Text at cause) lines state refused =
+refused_behind_lines : (before : ℕ) (due later : Due) (saids : List Said) (old mid new : SourceState) (why : Refusal) → GaveLines due saids old mid
+    → state_after schedule_lines due saids ≡ later → IsRefused (before + length saids) later mid new why → IsRefused before due old new why
+refused_behind_lines before due later saids old mid new Read lines state refused = refused ∙ ap (λ (n : ℕ). n + 1) lines.quiet
+refused_behind_lines before due later saids old mid new (Text at cause) lines state refused =
     (by old.left mid.left lines.given refused.0, refused.1 ∙ lines.quiet, refused.2)
   where
     by : (first second : Option (List ℕ)) → Consumes first second (lines_of schedule_lines saids) → IsFirstFaultFrom (before + length saids) later second at cause
@@ -52,10 +52,10 @@ refused_behind_lines before due later saids old mid new ended (Text at cause) li
     by (Some text) None given fault = absurd given
     by (Some text) (Some rest) given fault =
         refused_behind before due later saids text rest (Text at cause) (record { due = lines.due_each; spelled = given }) state fault
-refused_behind_lines before due later saids old mid new ended _ lines state refused = refused
+refused_behind_lines before due later saids old mid new _ lines state refused = refused
 
 -- the header alone
-pub HasRead-started : (s : EventStream) (events : List Event) (old new : Stream) → events ≡ [] → IsStarted s old new → HasRead s events old new
+pub HasRead-started : (s : EventStream) (events : List Event) (old new : SourceState) → events ≡ [] → IsStarted s old new → HasRead s events old new
 HasRead-started s events old new none started =
     rw none (record {
       lines = subst (λ (rs : List Said). GaveLines version_due rs old new) (sym (append-nil (said_in s.header))) started.lines;
@@ -66,7 +66,7 @@ HasRead-started s events old new none started =
     })
 
 -- what is due then
-module _ (s t : EventStream) (events : List Event) (old mid new : Stream) (so_far : HasRead s events old mid) where
+module _ (s t : EventStream) (events : List Event) (old mid new : SourceState) (so_far : HasRead s events old mid) where
   abbrev saids : List Said
   saids = said_in s.header ++ map happens events
 
@@ -93,10 +93,10 @@ module _ (s t : EventStream) (events : List Event) (old mid new : Stream) (so_fa
       })
 
   -- a refusal is one of the whole
-  pub HasRead-refused : (why : Refusal) → IsRefusedNext why s t mid new → IsRefused 0 version_due old.left old.failures new.failures new.has_ended why
+  pub HasRead-refused : (why : Refusal) → IsRefusedNext why s t mid new → IsRefused 0 version_due old new why
   HasRead-refused why refused =
-      refused_behind_lines 0 version_due (events_left s.left) saids old mid new.failures new.has_ended why so_far.lines state
-      (subst (λ (n : ℕ). IsRefused n (events_left s.left) mid.left mid.failures new.failures new.has_ended why) count refused.refused)
+      refused_behind_lines 0 version_due (events_left s.left) saids old mid new why so_far.lines state
+      (subst (λ (n : ℕ). IsRefused n (events_left s.left) mid new why) count refused.refused)
 
   -- at the end the text is the schedule's
   pub HasRead-whole : GaveAll s t mid new
@@ -131,14 +131,14 @@ module _ (s t : EventStream) (events : List Event) (old mid new : Stream) (so_fa
   }
 
 -- what is read of a schedule's text from a source is that schedule
-pub read_back_from : (known : Option (List ℕ)) (old new : ℕ) (ended : Bool) (answer : Result Schedule Refusal)
-    → IfOk answer (λ t. IfSome known (λ text. text ≡ schedule_text t)) → IfErr answer (IsRefusedReading known old new ended)
-    → (s : Schedule) → IsInRange s → known ≡ Some (schedule_text s) → MatchResult answer (λ t. t ≡ s) (λ why. (why ≡ Memory) ⊎ (why ≡ Read))
-read_back_from known old new ended (Ok t) told refused s range same =
+pub read_back_from : (old new : SourceState) (answer : Result Schedule Refusal)
+    → IfOk answer (λ t. IfSome old.left (λ text. text ≡ schedule_text t)) → IfErr answer (IsRefusedReading old new)
+    → (s : Schedule) → IsInRange s → old.left ≡ Some (schedule_text s) → MatchResult answer (λ t. t ≡ s) (λ why. (why ≡ Memory) ⊎ (why ≡ Read))
+read_back_from old new (Ok t) told refused s range same =
     one_text t s (sym (subst (λ (k : Option (List ℕ)). IfSome k (λ text. text ≡ schedule_text t)) same told))
-read_back_from known old new ended (Err why) told refused s range same = unread why refused
+read_back_from old new (Err why) told refused s range same = unread why refused
   where
-    unread : (why : Refusal) → IsRefusedReading known old new ended why → (why ≡ Memory) ⊎ (why ≡ Read)
+    unread : (why : Refusal) → IsRefusedReading old new why → (why ≡ Memory) ⊎ (why ≡ Read)
     unread Memory refused = inl refl
     unread Read refused = inr refl
     unread (Text at cause) refused =
@@ -147,28 +147,31 @@ read_back_from known old new ended (Err why) told refused s range same = unread 
     unread _ refused = absurd refused
 
 -- what a call answers, by what it answers
-pub gave_event : (s t : EventStream) (old new : Stream) (next : Option Event) (event : Event) → next ≡ Some event → IsNext s t old new (Ok next) → GaveEvent event s t old new
+pub gave_event : (s t : EventStream) (old new : SourceState) (next : Option Event) (event : Event) → next ≡ Some event → IsNext s t old new (Ok next) → GaveEvent event s t old new
 gave_event s t old new next event is told = subst (λ (n : Option Event). IsNext s t old new (Ok n)) is told
 
-pub gave_all : (s t : EventStream) (old new : Stream) (next : Option Event) → next ≡ None → IsNext s t old new (Ok next) → GaveAll s t old new
+pub gave_all : (s t : EventStream) (old new : SourceState) (next : Option Event) → next ≡ None → IsNext s t old new (Ok next) → GaveAll s t old new
 gave_all s t old new next is told = subst (λ (n : Option Event). IsNext s t old new (Ok n)) is told
 
--- what is refused from a source's first byte on
-pub refused_reading : (known : Option (List ℕ)) (old new : ℕ) (ended : Bool) (why : Refusal) → IsRefused 0 version_due (prepend_known [] known) old new ended why
-    → IsRefusedReading known old new ended why
-refused_reading known old new ended why refused = by why (subst (λ (k : Option (List ℕ)). IsRefused 0 version_due k old new ended why) (prepend-nothing known) refused)
-  where
-    by : (why : Refusal) → IsRefused 0 version_due known old new ended why → IsRefusedReading known old new ended why
-    by Memory refused = absurd refused
-    by Read refused = refused
-    by (Text at cause) refused = refused
-    by _ refused = refused
+-- what is refused from a source's first byte on, whatever was read ahead behind it
+pub refused_source : (old new : SourceState) (ahead : List ℕ) (why : Refusal) → IsRefused 0 version_due (stream [] old) (stream ahead new) why
+    → IsRefused 0 version_due old new why
+refused_source old new ahead Read refused = refused
+refused_source old new ahead (Text at cause) refused =
+    (subst (λ (k : Option (List ℕ)). IsFirstFaultFrom 0 version_due k at cause) (prepend-nothing old.left) refused.0, refused.1, refused.2)
+refused_source old new ahead _ refused = refused
+
+pub refused_reading : (old new : SourceState) (ahead : List ℕ) (why : Refusal) → IsRefused 0 version_due (stream [] old) (stream ahead new) why
+    → IsRefusedReading old new why
+refused_reading old new ahead Memory refused = absurd refused
+refused_reading old new ahead Read refused = refused
+refused_reading old new ahead (Text at cause) refused = refused_source old new ahead (Text at cause) refused
+refused_reading old new ahead _ refused = refused
 
 -- what was read from a source's first byte on
-pub whole_reading : (s t : EventStream) (h : Header) (events : List Event) (known : Option (List ℕ)) (failures budget : ℕ) (ended : Bool) (mid new : Stream)
-    → HasRead s events (stream [] known failures budget ended) mid → GaveAll s t mid new → h ≡ t.header
-    → IfSome known (λ text. text ≡ schedule_text (schedule_with h events))
-whole_reading s t h events known failures budget ended mid new so_far gave is =
+pub whole_reading : (s t : EventStream) (h : Header) (events : List Event) (old mid new : SourceState) → HasRead s events (stream [] old) mid → GaveAll s t mid new
+    → h ≡ t.header → IfSome old.left (λ text. text ≡ schedule_text (schedule_with h events))
+whole_reading s t h events old mid new so_far gave is =
     rw (is ∙ gave.header)
     (subst (λ (k : Option (List ℕ)). IfSome k (λ text. text ≡ schedule_text (schedule_with s.header events)))
-    (prepend-nothing known) (HasRead-whole s t events (stream [] known failures budget ended) mid new so_far gave))
+    (prepend-nothing old.left) (HasRead-whole s t events (stream [] old) mid new so_far gave))

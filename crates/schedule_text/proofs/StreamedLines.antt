@@ -16,7 +16,8 @@ use Rattle.schedule_text.specs.declared.schedules.Event.{Event}
 use Rattle.schedule_text.specs.declared.fields.Field.{Field}
 use Rattle.schedule_text.specs.Texts.{Said, version, queue, number, happens, Due, version_due, queue_due, number_due, events_left, said_words, is_due, due_after, MaySay, IsSaidInRange, schedule_lines}
 use Rattle.schedule_text.specs.Shortening.{Held, IsHeldBy, Shortens}
-use Rattle.schedule_text.specs.Streams.{Stream, GaveByte, GaveLine, EndedInLine}
+use Rattle.text_io.specs.Devices.{SourceState}
+use Rattle.schedule_text.specs.Streams.{GaveByte, GaveLine, EndedInLine}
 use Rattle.schedule_text.specs.Streaming.{IsFaultOf, IsFirstFaultFrom, IsStopped, GaveSaid, GaveLines}
 use Rattle.schedule_text.proofs.Spelling.{spaced-said}
 use Rattle.schedule_text.proofs.Joining.{refused_later}
@@ -37,7 +38,7 @@ fault_line due (Some rest) (Some later) says Range more given whole wrong =
 fault_line due (Some rest) (Some later) says Extra more given whole wrong = absurd wrong
 
 -- the end before a line feed
-pub fault_end : (due : Due) (old new : Stream) → is_due due ≡ true → EndedInLine old new → IsFaultOf due old.left End
+pub fault_end : (due : Due) (old new : SourceState) → is_due due ≡ true → EndedInLine old new → IsFaultOf due old.left End
 fault_end due old new more ended = by old.left new.left ended.given ended.empty
   where
     by : (before after : Option (List ℕ)) → Consumes before after ended.says → IsAtEnd after → IsFaultOf due before End
@@ -48,7 +49,7 @@ fault_end due old new more ended = by old.left new.left ended.given ended.empty
         (more, subst (HasNo 10) (sym same) ended.unbroken)
 
 -- a byte where no line is due
-pub fault_extra : (due : Due) (old new : Stream) (b : ℕ) → is_due due ≡ false → GaveByte b old new → IsFaultOf due old.left Extra
+pub fault_extra : (due : Due) (old new : SourceState) (b : ℕ) → is_due due ≡ false → GaveByte b old new → IsFaultOf due old.left Extra
 fault_extra due old new b done gave = by old.left new.left gave.given
   where
     by : (before after : Option (List ℕ)) → Consumes before after (b ∷ []) → IsFaultOf due before Extra
@@ -57,7 +58,7 @@ fault_extra due old new b done gave = by old.left new.left gave.given
     by (Some rest) (Some later) given = (done, λ none. let long : length rest ≡ 0 = ap length none in omega (arith, long, ap length given))
 
 -- what is held of a line is judged as the line
-module _ (due : Due) (held : Held) (old new : Stream) (more : is_due due ≡ true) (gave : GaveLine held old new) where
+module _ (due : Due) (held : Held) (old new : SourceState) (more : is_due due ≡ true) (gave : GaveLine held old new) where
   kept : held.is_over ≡ false → Shortens 21 gave.says held.bytes held.room
   kept fits = by held.is_over fits gave.kept
     where
@@ -90,8 +91,8 @@ module _ (due : Due) (held : Held) (old new : Stream) (more : is_due due ≡ tru
       by false over is = absurd cc
 
 -- a fault of the next line is the first one
-pub stopped_by : (before : ℕ) (due : Due) (old new : Stream) (at : ℕ) (cause : TextCause) → at ≡ before + 1 → IsFaultOf due old.left cause
-    → new.failures ≡ old.failures → (cause ≡ End → new.has_ended ≡ true) → IsStopped before due old.left old.failures new.failures new.has_ended (Text at cause)
+pub stopped_by : (before : ℕ) (due : Due) (old new : SourceState) (at : ℕ) (cause : TextCause) → at ≡ before + 1 → IsFaultOf due old.left cause
+    → new.failures ≡ old.failures → (cause ≡ End → new.has_ended ≡ true) → IsStopped before due old new (Text at cause)
 stopped_by before due old new at cause next fault quiet over = (by old.left fault, quiet, over)
   where
     by : (known : Option (List ℕ)) → IsFaultOf due known cause → IsFirstFaultFrom before due known at cause
@@ -141,36 +142,36 @@ wrong_event left says cause wrong = wrong_line happens (events_left left) says o
     only (happens event) may = (event, refl)
 
 -- what the line behind so many is refused for, by what is held of it
-module _ (before : ℕ) (held : Held) (old new : Stream) (gave : GaveLine held old new) where
-  pub stopped_long : (due : Due) → is_due due ≡ true → held.is_over ≡ true → IsStopped before due old.left old.failures new.failures new.has_ended (Text (before + 1) Form)
+module _ (before : ℕ) (held : Held) (old new : SourceState) (gave : GaveLine held old new) where
+  pub stopped_long : (due : Due) → is_due due ≡ true → held.is_over ≡ true → IsStopped before due old new (Text (before + 1) Form)
   stopped_long due more over =
       stopped_by before due old new (before + 1) Form refl (long due held old new more gave over) gave.quiet
       (λ (ends : Form ≡ End). absurd cc)
 
   pub stopped_line : (due : Due) → is_due due ≡ true → (line : List ℕ) (cause : TextCause) → held.is_over ≡ false → line ≡ held.bytes
-      → IsWrong (Says schedule_lines due line) IsSaidInRange cause → IsStopped before due old.left old.failures new.failures new.has_ended (Text (before + 1) cause)
+      → IsWrong (Says schedule_lines due line) IsSaidInRange cause → IsStopped before due old new (Text (before + 1) cause)
   stopped_line due more line cause fits same is =
       stopped_by before due old new (before + 1) cause refl
       (wrong due held old new more gave cause fits (subst (λ (l : List ℕ). IsWrong (Says schedule_lines due l) IsSaidInRange cause) same is)) gave.quiet
       (λ (ends : cause ≡ End). absurd (subst (λ (k : TextCause). IsWrong (Says schedule_lines due line) IsSaidInRange k) ends is))
 
   pub stopped_version : (line : List ℕ) → held.is_over ≡ false → line ≡ held.bytes → line ≢ codes "msq schedule 1"
-      → IsStopped before version_due old.left old.failures new.failures new.has_ended (Text (before + 1) Form)
+      → IsStopped before version_due old new (Text (before + 1) Form)
   stopped_version line fits same other = stopped_line version_due refl line Form fits same (wrong_version line other)
 
   pub stopped_kind : (line : List ℕ) (cause : TextCause) → held.is_over ≡ false → line ≡ held.bytes
       → IsWrong (λ (kind : Kind). words_of line ≡ said_words (queue kind)) (λ kind. IsSaidInRange (queue kind)) cause
-      → IsStopped before queue_due old.left old.failures new.failures new.has_ended (Text (before + 1) cause)
+      → IsStopped before queue_due old new (Text (before + 1) cause)
   stopped_kind line cause fits same is = stopped_line queue_due refl line cause fits same (wrong_kind line cause is)
 
   pub stopped_number : (field : Field) (line : List ℕ) (cause : TextCause) → held.is_over ≡ false → line ≡ held.bytes
       → IsWrong (λ (value : ℕ). words_of line ≡ said_words (number field value)) (λ value. IsSaidInRange (number field value)) cause
-      → IsStopped before (number_due field) old.left old.failures new.failures new.has_ended (Text (before + 1) cause)
+      → IsStopped before (number_due field) old new (Text (before + 1) cause)
   stopped_number field line cause fits same is = stopped_line (number_due field) refl line cause fits same (wrong_number field line cause is)
 
   pub stopped_event : (left : ℕ) → 0 < left → (line : List ℕ) (cause : TextCause) → held.is_over ≡ false → line ≡ held.bytes
       → IsWrong (λ (event : Event). words_of line ≡ said_words (happens event)) (λ event. IsSaidInRange (happens event)) cause
-      → IsStopped before (events_left left) old.left old.failures new.failures new.has_ended (Text (before + 1) cause)
+      → IsStopped before (events_left left) old new (Text (before + 1) cause)
   stopped_event left some line cause fits same is = stopped_line (events_left left) (lt-ltb 0 left some) line cause fits same (wrong_event left line cause is)
 
   -- what it says
@@ -179,10 +180,10 @@ module _ (before : ℕ) (held : Held) (old new : Stream) (gave : GaveLine held o
   given_said due more said line fits same may words range = good due held old new more gave said fits may (ap words_of (sym same) ∙ words) range
 
 -- what is refused behind a line is refused before it
-pub stopped_later : (before : ℕ) (due : Due) (said : Said) (old mid : Stream) (new : ℕ) (ended : Bool) (why : Refusal) → is_due due ≡ true → GaveSaid due said old mid
-    → IsStopped (before + 1) (due_after due said) mid.left mid.failures new ended why → IsStopped before due old.left old.failures new ended why
-stopped_later before due said old mid new ended Read more gave stopped = stopped ∙ ap (λ (n : ℕ). n + 1) gave.quiet
-stopped_later before due said old mid new ended (Text at cause) more gave stopped =
+pub stopped_later : (before : ℕ) (due : Due) (said : Said) (old mid new : SourceState) (why : Refusal) → is_due due ≡ true → GaveSaid due said old mid
+    → IsStopped (before + 1) (due_after due said) mid new why → IsStopped before due old new why
+stopped_later before due said old mid new Read more gave stopped = stopped ∙ ap (λ (n : ℕ). n + 1) gave.quiet
+stopped_later before due said old mid new (Text at cause) more gave stopped =
     (by old.left mid.left gave.given stopped.0, stopped.1 ∙ gave.quiet, stopped.2)
   where
     by : (first second : Option (List ℕ)) → Consumes first second (line (spaced (said_words said))) → IsFirstFaultFrom (before + 1) (due_after due said) second at cause
@@ -191,13 +192,13 @@ stopped_later before due said old mid new ended (Text at cause) more gave stoppe
     by (Some rest) None given fault = absurd given
     by (Some rest) (Some later) given fault =
         refused_later before due said rest later (Text at cause) more (record { may = gave.may; range = gave.range; spelled = given }) fault
-stopped_later before due said old mid new ended _ more gave stopped = stopped
+stopped_later before due said old mid new _ more gave stopped = stopped
 
 -- no line, and one more in front of others
-pub GaveLines-none : (due : Due) (s : Stream) → GaveLines due [] s s
+pub GaveLines-none : (due : Due) (s : SourceState) → GaveLines due [] s s
 GaveLines-none due s = record { due_each = tt; given = Consumes-nothing s.left; quiet = refl }
 
-pub GaveLines-front : (due : Due) (said : Said) (rs : List Said) (old mid new : Stream) → is_due due ≡ true → GaveSaid due said old mid
+pub GaveLines-front : (due : Due) (said : Said) (rs : List Said) (old mid new : SourceState) → is_due due ≡ true → GaveSaid due said old mid
     → GaveLines (due_after due said) rs mid new → GaveLines due (said ∷ rs) old new
 GaveLines-front due said rs old mid new more gave others = record {
   due_each = (more, gave.may, gave.range, others.due_each);

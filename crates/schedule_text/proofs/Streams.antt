@@ -1,11 +1,13 @@
 -- Bytes that are read ahead, and lines that come byte by byte.
-use Rattle.std.proofs.Common.{◌≡◌, ◌≢◌, ℕ, suc, ◌+◌, ◌-◌, ◌≤◌, ◌<◌, List, [], ◌∷◌, ◌++◌, length, take, drop, get_or, slice_range, Option, None, Some, Bool, true, MatchOption, refl, sym, ap, subst, ◌∙◌, arith, append_assoc, drop-cons, drop-drop, length-take}
+use Rattle.std.proofs.Common.{◌≡◌, ◌≢◌, ℕ, suc, ◌+◌, ◌-◌, ◌≤◌, ◌<◌, List, [], ◌∷◌, ◌++◌, length, take, drop, get_or, slice_range, Option, None, Some, MatchOption, refl, sym, ap, subst, ◌∙◌, arith, append_assoc, drop-cons, drop-drop, length-take}
 use Rattle.std.proofs.lemmas.List.{append-nil, drop-take}
 use Rattle.std.proofs.lemmas.List.Elements.{All-nil, All-cons, All-append}
 use Rattle.std.specs.Io.KnownBytes.{Consumes, IsAtEnd, prepend_known}
 use Rattle.text_lines.specs.Lines.{HasNo}
 use Rattle.schedule_text.specs.Shortening.{Held, IsHeld}
-use Rattle.schedule_text.specs.Streams.{Stream, stream, GaveByte, GaveLine, EndedInLine, IsOver}
+use Rattle.text_io.specs.Devices.{SourceState}
+use Rattle.text_io.specs.Readings.{HasEnded}
+use Rattle.schedule_text.specs.Streams.{stream, GaveByte, GaveLine, EndedInLine, IsOver}
 
 -- the first byte of a range, and the others
 pub range_first : (xs : List ℕ) (s e : ℕ) → s < e → e ≤ length xs → slice_range xs s e ≡ get_or xs s 0 ∷ slice_range xs (s + 1) e
@@ -45,40 +47,39 @@ Consumes-read (Some left) None b bytes given = absurd given
 Consumes-read (Some left) (Some later) b bytes given = given
 
 -- the next byte is one that was read ahead
-pub GaveByte-held : (old new : List ℕ) (b : ℕ) (known : Option (List ℕ)) (failures budget : ℕ) (ended : Bool) → old ≡ b ∷ new
-    → GaveByte b (stream old known failures budget ended) (stream new known failures budget ended)
-GaveByte-held old new b known failures budget ended same = record {
-  given = subst (λ l. Consumes (prepend_known l known) (prepend_known new known) (b ∷ [])) (sym same) (Consumes-first known b new);
+pub GaveByte-held : (old new : List ℕ) (b : ℕ) (source : SourceState) → old ≡ b ∷ new → GaveByte b (stream old source) (stream new source)
+GaveByte-held old new b source same = record {
+  given = subst (λ l. Consumes (prepend_known l source.left) (prepend_known new source.left) (b ∷ [])) (sym same) (Consumes-first source.left b new);
   fewer = omega (arith, ap length same);
   quiet = refl;
 }
 
 -- where nothing was read ahead, what one call of the source gives decides
-module _ (known left : Option (List ℕ)) (failures later budget after : ℕ) (ended end : Bool) (got new : List ℕ)
-    (given : Consumes known left got) (over : got ≡ [] → IsAtEnd left × (end ≡ true)) (spent : after + length got ≡ budget) (quiet : later ≡ failures) where
-  abbrev before : Stream
-  before = stream [] known failures budget ended
+module _ (old later : SourceState) (got new : List ℕ)
+    (given : Consumes old.left later.left got) (over : got ≡ [] → HasEnded later) (spent : later.budget + length got ≡ old.budget) (quiet : later.failures ≡ old.failures) where
+  abbrev before : SourceState
+  before = stream [] old
 
-  abbrev behind : Stream
-  behind = stream new left later after end
+  abbrev behind : SourceState
+  behind = stream new later
 
   gave : (b : ℕ) → got ≡ b ∷ new → GaveByte b before behind
   gave b same = record {
     given =
-        subst (λ k. Consumes k (prepend_known new left) (b ∷ [])) (sym (prepend-nothing known))
-        (Consumes-read known left b new (subst (λ l. Consumes known left l) same given));
+        subst (λ k. Consumes k (prepend_known new later.left) (b ∷ [])) (sym (prepend-nothing old.left))
+        (Consumes-read old.left later.left b new (subst (λ l. Consumes old.left later.left l) same given));
     fewer = omega (arith, ap length same, spent);
     quiet = quiet;
   }
 
   none : got ≡ [] → new ≡ [] → IsOver before behind
   none empty gone =
-      let at_end : IsAtEnd left = (over empty).0 in
-      let same : prepend_known new left ≡ left = ap (λ l. prepend_known l left) gone ∙ prepend-nothing left in
+      let at_end : IsAtEnd later.left = (over empty).0 in
+      let same : prepend_known new later.left ≡ later.left = ap (λ l. prepend_known l later.left) gone ∙ prepend-nothing later.left in
       record {
         given =
-            subst (λ k. Consumes k (prepend_known new left) []) (sym (prepend-nothing known))
-            (subst (λ k. Consumes known k []) (sym same) (subst (λ l. Consumes known left l) empty given));
+            subst (λ k. Consumes k (prepend_known new later.left) []) (sym (prepend-nothing old.left))
+            (subst (λ k. Consumes old.left k []) (sym same) (subst (λ l. Consumes old.left later.left l) empty given));
         empty = subst IsAtEnd (sym same) at_end;
         ended = (over empty).1;
         quiet = quiet;
@@ -101,7 +102,7 @@ Consumes-nothing None = tt
 Consumes-nothing (Some bytes) = refl
 
 -- so far a line without a line feed was given, and this is held of it
-pub record IsInLine (held : Held) (old new : Stream) : Type 0 where
+pub record IsInLine (held : Held) (old new : SourceState) : Type 0 where
   pub says : List ℕ
   pub unbroken : HasNo 10 says
   pub given : Consumes old.left new.left says
@@ -109,7 +110,7 @@ pub record IsInLine (held : Held) (old new : Stream) : Type 0 where
   pub quiet : new.failures ≡ old.failures
 
 -- one more byte, that is no line feed
-pub IsInLine-more : (held longer : Held) (b : ℕ) (old mid new : Stream) → IsInLine held old mid → GaveByte b mid new → b ≢ 10
+pub IsInLine-more : (held longer : Held) (b : ℕ) (old mid new : SourceState) → IsInLine held old mid → GaveByte b mid new → b ≢ 10
     → ((says : List ℕ) → IsHeld says held → IsHeld (says ++ b ∷ []) longer) → IsInLine longer old new
 IsInLine-more held longer b old mid new inside gave other push = record {
   says = inside.says ++ b ∷ [];
@@ -120,7 +121,7 @@ IsInLine-more held longer b old mid new inside gave other push = record {
 }
 
 -- the line feed
-pub GaveLine-whole : (held : Held) (b : ℕ) (old mid new : Stream) → IsInLine held old mid → GaveByte b mid new → b ≡ 10 → GaveLine held old new
+pub GaveLine-whole : (held : Held) (b : ℕ) (old mid new : SourceState) → IsInLine held old mid → GaveByte b mid new → b ≡ 10 → GaveLine held old new
 GaveLine-whole held b old mid new inside gave is = record {
   says = inside.says;
   whole = inside.unbroken;
@@ -130,7 +131,7 @@ GaveLine-whole held b old mid new inside gave is = record {
 }
 
 -- the end before it
-pub EndedInLine-over : (held : Held) (old mid new : Stream) → IsInLine held old mid → IsOver mid new → EndedInLine old new
+pub EndedInLine-over : (held : Held) (old mid new : SourceState) → IsInLine held old mid → IsOver mid new → EndedInLine old new
 EndedInLine-over held old mid new inside over = record {
   says = inside.says;
   unbroken = inside.unbroken;

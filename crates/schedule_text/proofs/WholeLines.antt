@@ -1,5 +1,5 @@
 -- A line that was read ahead whole.
-use Rattle.std.proofs.Common.{◌≡◌, ℕ, ◌+◌, ◌<◌, List, [], ◌∷◌, ◌++◌, Option, None, Some, Bool, length, drop, refl, sym, ap, subst, ◌∙◌, append_assoc, drop_at, length-append}
+use Rattle.std.proofs.Common.{◌≡◌, ℕ, ◌+◌, ◌<◌, List, [], ◌∷◌, ◌++◌, Option, None, Some, length, drop, refl, sym, ap, subst, ◌∙◌, append_assoc, drop_at, length-append}
 use Rattle.std.specs.Io.KnownBytes.{Consumes, prepend_known}
 use Rattle.text_lines.specs.declared.causes.TextCause.{TextCause}
 use Rattle.text_lines.specs.declared.causes.TextCause.TheVariants.{End}
@@ -8,6 +8,7 @@ use Rattle.text_lines.specs.Readings.{IsWrong}
 use Rattle.history.specs.declared.refusals.Refusal.TheVariants.{Text}
 use Rattle.schedule_text.specs.declared.schedules.Event.{Event}
 use Rattle.schedule_text.specs.Texts.{happens, events_left, said_words, IsSaidInRange}
+use Rattle.text_io.specs.Devices.{SourceState}
 use Rattle.schedule_text.specs.Streams.{stream}
 use Rattle.schedule_text.specs.Streaming.{IsFirstFaultFrom, IsStopped, GaveSaid}
 use Rattle.schedule_text.proofs.Refusing.{refused_event}
@@ -24,10 +25,10 @@ behind_line says rest old new front gone =
     gone ∙ ap (λ (l : List ℕ). drop (length says + 1) l) front ∙ drop_at (line says) rest (length says + 1) (length-append says (10 ∷ []))
 
 -- the first line of the bytes read ahead says an event: they are gone over to its end, and the source isn't called
-pub said_ahead : (left : ℕ) (event : Event) (says rest old new : List ℕ) (known : Option (List ℕ)) (failures budget : ℕ) (ended : Bool)
-    → old ≡ line says ++ rest → new ≡ drop (length says + 1) old → words_of says ≡ said_words (happens event) → IsSaidInRange (happens event)
-    → GaveSaid (events_left left) (happens event) (stream old known failures budget ended) (stream new known failures budget ended)
-said_ahead left event says rest old new known failures budget ended front gone words range =
+pub said_ahead : (left : ℕ) (event : Event) (says rest old new : List ℕ) (source : SourceState) → old ≡ line says ++ rest → new ≡ drop (length says + 1) old → words_of says ≡ said_words (happens event) → IsSaidInRange (happens event)
+    → GaveSaid (events_left left) (happens event) (stream old source) (stream new source)
+said_ahead left event says rest old new source front gone words range =
+    let known = source.left in
     let is : new ≡ rest = behind_line says rest old new front gone in
     let given : Consumes (prepend_known old known) (prepend_known new known) (line says) =
     subst (λ (l : List ℕ). Consumes (prepend_known l known) (prepend_known new known) (line says)) (sym front)
@@ -41,12 +42,12 @@ said_ahead left event says rest old new known failures budget ended front gone w
     }
 
 -- it is wrong
-pub stopped_ahead : (before left : ℕ) (says rest old : List ℕ) (known : Option (List ℕ)) (failures : ℕ) (ended : Bool) (cause : TextCause)
+pub stopped_ahead : (before left : ℕ) (says rest old new : List ℕ) (source : SourceState) (cause : TextCause)
     → HasNo 10 says → old ≡ line says ++ rest → 0 < left
     → IsWrong (λ (event : Event). words_of says ≡ said_words (happens event)) (λ event. IsSaidInRange (happens event)) cause
-    → IsStopped before (events_left left) (prepend_known old known) failures failures ended (Text (before + 1) cause)
-stopped_ahead before left says rest old known failures ended cause whole front some wrong = (
-  by known,
+    → IsStopped before (events_left left) (stream old source) (stream new source) (Text (before + 1) cause)
+stopped_ahead before left says rest old new source cause whole front some wrong = (
+  by source.left,
   refl,
   λ (ends : cause ≡ End).
       absurd (subst (λ (k : TextCause). IsWrong (λ (event : Event). words_of says ≡ said_words (happens event)) (λ event. IsSaidInRange (happens event)) k) ends wrong),

@@ -1,5 +1,5 @@
 -- The events of a schedule, as they come from a source one call after another.
-use Rattle.std.specs.Prelude.{◌≡◌, ℕ, ◌+◌, ◌-◌, ◌++◌, length, map, All, Bool, true, List, Option, None, Some, Result, Ok, Err, IfSome}
+use Rattle.std.specs.Prelude.{◌≡◌, ℕ, ◌+◌, ◌-◌, ◌++◌, length, map, All, true, List, Option, None, Some, Result, Ok, Err, IfSome}
 use Rattle.history.specs.declared.refusals.Refusal.{Refusal}
 use Rattle.history.specs.declared.refusals.Refusal.TheVariants.{Memory, Text, Read}
 use Rattle.schedule_text.specs.declared.event_stream.Stage.{Stage}
@@ -9,7 +9,8 @@ use Rattle.schedule_text.specs.declared.schedules.Event.{Event}
 use Rattle.schedule_text.specs.Reading.{IsHeaderInRange, said_in}
 use Rattle.schedule_text.specs.Schedules.{Schedule}
 use Rattle.schedule_text.specs.Texts.{Due, happens, version_due, events_left, schedule_text, IsEventInRange, IsInRange}
-use Rattle.schedule_text.specs.Streams.{Stream, IsOver}
+use Rattle.text_io.specs.Devices.{SourceState}
+use Rattle.schedule_text.specs.Streams.{IsOver}
 use Rattle.schedule_text.specs.Streaming.{GaveLines, GaveSaid, IsFirstFaultFrom}
 
 -- how far a schedule was read: the bytes read ahead, what its header says, how many events are left, and what further calls answer
@@ -23,52 +24,53 @@ pub record EventStream : Type 0 where
 abbrev pub lines_given : EventStream → ℕ
 lines_given s = 6 + (s.header.events - s.left)
 
--- the reading of known bytes behind so many lines is refused, by how many calls failed before and by now, and whether the end was told: one failed, or none did, the first faulty line is told, and all was read
-abbrev pub IsRefused : (before : ℕ) → Due → (known : Option (List ℕ)) → (old_failures new_failures : ℕ) → (has_ended : Bool) → Refusal → Type 0
-IsRefused before due known old new ended Read = new ≡ old + 1
-IsRefused before due known old new ended (Text at cause) = IsFirstFaultFrom before due known at cause × (new ≡ old) × (ended ≡ true)
-IsRefused before due known old new ended _ = ⊥
+-- the reading of a source behind so many lines is refused: one call failed, or none did, the first faulty line is told, and all was read
+abbrev pub IsRefused : (before : ℕ) → Due → (old new : SourceState) → Refusal → Type 0
+IsRefused before due old new Read = new.failures ≡ old.failures + 1
+IsRefused before due old new (Text at cause) =
+    IsFirstFaultFrom before due old.left at cause × (new.failures ≡ old.failures) × (new.has_ended ≡ true)
+IsRefused before due old new _ = ⊥
 
 -- the header was given, and all its events are left
-pub record IsStarted (s : EventStream) (old new : Stream) : Type 0 where
+pub record IsStarted (s : EventStream) (old new : SourceState) : Type 0 where
   pub lines : GaveLines version_due (said_in s.header) old new
   pub range : IsHeaderInRange s.header
   pub left : s.left ≡ s.header.events
   pub going : s.stage ≡ Going
 
 -- the line of an event was given
-pub record GaveEvent (event : Event) (s t : EventStream) (old new : Stream) : Type 0 where
+pub record GaveEvent (event : Event) (s t : EventStream) (old new : SourceState) : Type 0 where
   pub line : GaveSaid (events_left s.left) (happens event) old new
   pub fewer : s.left ≡ t.left + 1
   pub header : t.header ≡ s.header
   pub going : t.stage ≡ Going
 
 -- all events were given, and nothing follows
-pub record GaveAll (s t : EventStream) (old new : Stream) : Type 0 where
+pub record GaveAll (s t : EventStream) (old new : SourceState) : Type 0 where
   pub none : s.left ≡ 0
   pub over : IsOver old new
   pub header : t.header ≡ s.header
   pub ended : t.stage ≡ Ended
 
 -- a call is refused, and so is each further one
-pub record IsRefusedNext (why : Refusal) (s t : EventStream) (old new : Stream) : Type 0 where
-  pub refused : IsRefused (lines_given s) (events_left s.left) old.left old.failures new.failures new.has_ended why
+pub record IsRefusedNext (why : Refusal) (s t : EventStream) (old new : SourceState) : Type 0 where
+  pub refused : IsRefused (lines_given s) (events_left s.left) old new why
   pub header : t.header ≡ s.header
   pub stays : t.stage ≡ Refused why
 
 -- what a call answers where none before it told the end or was refused
-abbrev pub IsNext : (s t : EventStream) (old new : Stream) → Result (Option Event) Refusal → Type 0
+abbrev pub IsNext : (s t : EventStream) (old new : SourceState) → Result (Option Event) Refusal → Type 0
 IsNext s t old new (Ok (Some event)) = GaveEvent event s t old new
 IsNext s t old new (Ok None) = GaveAll s t old new
 IsNext s t old new (Err why) = IsRefusedNext why s t old new
 
 -- the reading of a whole schedule is refused: memory is and no call failed, or a call failed, or the first faulty line is told
-abbrev pub IsRefusedReading : (known : Option (List ℕ)) → (old_failures new_failures : ℕ) → (has_ended : Bool) → Refusal → Type 0
-IsRefusedReading known old new ended Memory = new ≡ old
-IsRefusedReading known old new ended why = IsRefused 0 version_due known old new ended why
+abbrev pub IsRefusedReading : (old new : SourceState) → Refusal → Type 0
+IsRefusedReading old new Memory = new.failures ≡ old.failures
+IsRefusedReading old new why = IsRefused 0 version_due old new why
 
 -- the header and these events were given, and the others are left
-pub record HasRead (s : EventStream) (events : List Event) (old new : Stream) : Type 0 where
+pub record HasRead (s : EventStream) (events : List Event) (old new : SourceState) : Type 0 where
   pub lines : GaveLines version_due (said_in s.header ++ map happens events) old new
   pub range : IsHeaderInRange s.header
   pub counted : length events + s.left ≡ s.header.events
@@ -80,7 +82,7 @@ abbrev pub schedule_with : Header → List Event → Schedule
 schedule_with h events = record { kind = h.kind; nodes = h.nodes; limit = h.limit; actors = h.actors; events = events }
 
 -- a whole schedule was given, and nothing follows
-pub record HasReadAll (schedule : Schedule) (old new : Stream) : Type 0 where
+pub record HasReadAll (schedule : Schedule) (old new : SourceState) : Type 0 where
   pub text : IfSome old.left (λ text. text ≡ schedule_text schedule)
   pub range : IsInRange schedule
   pub ended : new.has_ended ≡ true

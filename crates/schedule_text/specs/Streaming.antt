@@ -1,5 +1,5 @@
 -- What the reader of a schedule's lines answers, one line after another.
-use Rattle.std.specs.Prelude.{◌≡◌, ℕ, ◌+◌, List, Option, None, Some, ⊤, Bool, true}
+use Rattle.std.specs.Prelude.{◌≡◌, ℕ, ◌+◌, List, Option, None, Some, ⊤, true}
 use Rattle.std.specs.Io.KnownBytes.{Consumes}
 use Rattle.history.specs.declared.refusals.Refusal.{Refusal}
 use Rattle.history.specs.declared.refusals.Refusal.TheVariants.{Text, Read}
@@ -8,7 +8,7 @@ use Rattle.text_lines.specs.declared.causes.TextCause.TheVariants.{End}
 use Rattle.text_lines.specs.Grammars.{AreDue, lines_of, IsFault, IsFirstFault}
 use Rattle.text_lines.specs.Lines.{line, spaced}
 use Rattle.schedule_text.specs.Texts.{Said, Due, said_words, IsSaidInRange, MaySay, schedule_lines}
-use Rattle.schedule_text.specs.Streams.{Stream}
+use Rattle.text_io.specs.Devices.{SourceState}
 
 -- known bytes are wrong for this cause, where such a line is due
 abbrev pub IsFaultOf : Due → Option (List ℕ) → TextCause → Type 0
@@ -16,7 +16,7 @@ IsFaultOf due None cause = ⊤
 IsFaultOf due (Some rest) cause = IsFault schedule_lines due rest cause
 
 -- a line was given that is due, and says this in range
-pub record GaveSaid (due : Due) (said : Said) (old new : Stream) : Type 0 where
+pub record GaveSaid (due : Due) (said : Said) (old new : SourceState) : Type 0 where
   pub may : MaySay due said
   pub range : IsSaidInRange said
   pub given : Consumes old.left new.left (line (spaced (said_words said)))
@@ -27,14 +27,15 @@ abbrev pub IsFirstFaultFrom : (before : ℕ) → Due → Option (List ℕ) → (
 IsFirstFaultFrom before due None at cause = ⊤
 IsFirstFaultFrom before due (Some rest) at cause = (n : ℕ) × (at ≡ before + n) × IsFirstFault schedule_lines due rest n cause
 
--- the reading of known bytes behind so many lines stops, by how many calls failed before and by now, and whether the end was told: one failed, or none did and the first faulty line is told; where it ends too early, the end was told
-abbrev pub IsStopped : (before : ℕ) → Due → (known : Option (List ℕ)) → (old_failures new_failures : ℕ) → (has_ended : Bool) → Refusal → Type 0
-IsStopped before due known old new ended Read = new ≡ old + 1
-IsStopped before due known old new ended (Text at cause) = IsFirstFaultFrom before due known at cause × (new ≡ old) × (cause ≡ End → ended ≡ true)
-IsStopped before due known old new ended _ = ⊥
+-- the reading of a source behind so many lines stops: one call failed, or none did and the first faulty line is told; where it ends too early, the end was told
+abbrev pub IsStopped : (before : ℕ) → Due → (old new : SourceState) → Refusal → Type 0
+IsStopped before due old new Read = new.failures ≡ old.failures + 1
+IsStopped before due old new (Text at cause) =
+    IsFirstFaultFrom before due old.left at cause × (new.failures ≡ old.failures) × (cause ≡ End → new.has_ended ≡ true)
+IsStopped before due old new _ = ⊥
 
 -- lines were given that are due, one after another, and say this in range
-pub record GaveLines (due : Due) (saids : List Said) (old new : Stream) : Type 0 where
+pub record GaveLines (due : Due) (saids : List Said) (old new : SourceState) : Type 0 where
   pub due_each : AreDue schedule_lines due saids
   pub given : Consumes old.left new.left (lines_of schedule_lines saids)
   pub quiet : new.failures ≡ old.failures

@@ -1,6 +1,7 @@
 //! A source's bytes, one by one and line by line.
-ghost use Rattle.std.specs.Prelude.{◌≡◌, ◌+◌, ◌≤◌, ◌<◌, ◌++◌, ◌∷◌, [], length, IfOk, IfSome, MatchOption, OnOk, drop, take, true};
-ghost use Rattle.std.specs.Io.KnownBytes.{Consumes, IsAtEnd};
+ghost use Rattle.std.specs.Prelude.{◌≡◌, ◌+◌, ◌≤◌, ◌<◌, ◌++◌, ◌∷◌, [], length, IfOk, IfSome, MatchOption, OnOk, drop, take};
+ghost use Rattle.std.specs.Io.KnownBytes.{Consumes};
+ghost use Rattle.text_io.specs.Readings.{HasEnded, ReachesEnd};
 ghost use Rattle.text_lines.specs.Lines.{HasNo, line};
 ghost use Rattle.schedule_text.specs.Streams.{stream, GaveByte, GaveLine, EndedInLine, IsOver, HasFailed, WasRead};
 
@@ -39,12 +40,12 @@ impl Model for Ahead {
 fn read_into<R: Source>(reader: &mut R, bytes: &mut [u8; AHEAD]) -> Result<usize, Refusal>
     ensures bound { IfOk result (λ count. count ≤ 4096) }
     ensures given { IfOk result (λ count.
-        Consumes (R.remaining reader.old) (R.remaining reader.new) (take count bytes.new)) }
-    ensures end { IfOk result (λ count. count ≡ 0 → IsAtEnd (R.remaining reader.new)
-        × (R.has_ended reader.new ≡ true)) }
-    ensures budget { IfOk result (λ count. R.budget reader.new + count ≡ R.budget reader.old) }
-    ensures quiet { OnOk result (R.failures reader.new ≡ R.failures reader.old) }
-    ensures err { HasFailed result (R.failures reader.old) (R.failures reader.new) }
+        Consumes (R.state reader.old).left (R.state reader.new).left (take count bytes.new)) }
+    ensures end { IfOk result (λ count. count ≡ 0 → HasEnded (R.state reader.new)) }
+    ensures budget { IfOk result (λ count.
+        (R.state reader.new).budget + count ≡ (R.state reader.old).budget) }
+    ensures quiet { OnOk result ((R.state reader.new).failures ≡ (R.state reader.old).failures) }
+    ensures err { HasFailed result (R.state reader.old) (R.state reader.new) }
 {
     match reader.read(bytes) {
         Ok(count) => Ok(count),
@@ -67,15 +68,11 @@ impl Ahead {
     /// The next byte; none at the end.
     fn next_byte<R: Source>(&mut self, reader: &mut R) -> Result<Option<u8>, Refusal>
         ensures next { IfOk result (λ next. MatchOption next
-            (IsOver (stream self.old (R.remaining reader.old) (R.failures reader.old)
-            (R.budget reader.old) (R.has_ended reader.old))
-            (stream self.new (R.remaining reader.new) (R.failures reader.new)
-            (R.budget reader.new) (R.has_ended reader.new)))
-            (λ byte. GaveByte byte (stream self.old (R.remaining reader.old) (R.failures reader.old)
-            (R.budget reader.old) (R.has_ended reader.old))
-            (stream self.new (R.remaining reader.new) (R.failures reader.new)
-            (R.budget reader.new) (R.has_ended reader.new)))) }
-        ensures err { HasFailed result (R.failures reader.old) (R.failures reader.new) }
+            (IsOver (stream self.old (R.state reader.old))
+            (stream self.new (R.state reader.new)))
+            (λ byte. GaveByte byte (stream self.old (R.state reader.old))
+            (stream self.new (R.state reader.new)))) }
+        ensures err { HasFailed result (R.state reader.old) (R.state reader.new) }
     {
         if let Some(byte) = self.pop() {
             return Ok(Some(byte));
@@ -100,12 +97,14 @@ impl Ahead {
 
     // Reads ahead once, in place of what was read ahead before.
     fn read_more<R: Source>(&mut self, reader: &mut R) -> Result<(), Refusal>
-        ensures given { OnOk result (Consumes (R.remaining reader.old) (R.remaining reader.new) self.new) }
-        ensures end { OnOk result (self.new ≡ [] → IsAtEnd (R.remaining reader.new)
-            × (R.has_ended reader.new ≡ true)) }
-        ensures budget { OnOk result (R.budget reader.new + length self.new ≡ R.budget reader.old) }
-        ensures quiet { OnOk result (R.failures reader.new ≡ R.failures reader.old) }
-        ensures err { HasFailed result (R.failures reader.old) (R.failures reader.new) }
+        ensures given { OnOk result
+            (Consumes (R.state reader.old).left (R.state reader.new).left self.new) }
+        ensures end { OnOk result (self.new ≡ [] → HasEnded (R.state reader.new)) }
+        ensures budget { OnOk result
+            ((R.state reader.new).budget + length self.new ≡ (R.state reader.old).budget) }
+        ensures quiet { OnOk result
+            ((R.state reader.new).failures ≡ (R.state reader.old).failures) }
+        ensures err { HasFailed result (R.state reader.old) (R.state reader.new) }
     {
         self.start = 0;
         self.end = 0;
@@ -133,15 +132,11 @@ impl Ahead {
     /// What is held of the next line; none where the bytes end before its line feed.
     pub fn next_line<R: Source>(&mut self, reader: &mut R) -> Result<Option<HeldLine>, Refusal>
         ensures next { IfOk result (λ next. MatchOption next
-            (EndedInLine (stream self.old (R.remaining reader.old) (R.failures reader.old)
-            (R.budget reader.old) (R.has_ended reader.old))
-            (stream self.new (R.remaining reader.new) (R.failures reader.new)
-            (R.budget reader.new) (R.has_ended reader.new)))
-            (λ held. GaveLine held (stream self.old (R.remaining reader.old) (R.failures reader.old)
-            (R.budget reader.old) (R.has_ended reader.old))
-            (stream self.new (R.remaining reader.new) (R.failures reader.new)
-            (R.budget reader.new) (R.has_ended reader.new)))) }
-        ensures err { HasFailed result (R.failures reader.old) (R.failures reader.new) }
+            (EndedInLine (stream self.old (R.state reader.old))
+            (stream self.new (R.state reader.new)))
+            (λ held. GaveLine held (stream self.old (R.state reader.old))
+            (stream self.new (R.state reader.new)))) }
+        ensures err { HasFailed result (R.state reader.old) (R.state reader.new) }
     {
         let mut held = HeldLine::new();
         while let Some(byte) = self.next_byte(reader)? {
@@ -155,20 +150,17 @@ impl Ahead {
 
     /// Whether a byte follows, which is then gone over.
     pub fn has_more<R: Source>(&mut self, reader: &mut R) -> Result<bool, Refusal>
-        ensures next { IfOk result (WasRead (stream self.old (R.remaining reader.old) (R.failures reader.old)
-            (R.budget reader.old) (R.has_ended reader.old))
-            (stream self.new (R.remaining reader.new) (R.failures reader.new)
-            (R.budget reader.new) (R.has_ended reader.new))) }
-        ensures err { HasFailed result (R.failures reader.old) (R.failures reader.new) }
+        ensures next { IfOk result (WasRead (stream self.old (R.state reader.old))
+            (stream self.new (R.state reader.new))) }
+        ensures err { HasFailed result (R.state reader.old) (R.state reader.new) }
     {
         Ok(self.next_byte(reader)?.is_some())
     }
 
     /// Goes over all that is left.
     pub fn drain<R: Source>(&mut self, reader: &mut R) -> Result<(), Refusal>
-        ensures quiet { OnOk result (R.failures reader.new ≡ R.failures reader.old) }
-        ensures ended { OnOk result (R.has_ended reader.new ≡ true) }
-        ensures err { HasFailed result (R.failures reader.old) (R.failures reader.new) }
+        ensures ok { OnOk result (ReachesEnd (R.state reader.old) (R.state reader.new)) }
+        ensures err { HasFailed result (R.state reader.old) (R.state reader.new) }
     {
         while self.next_byte(reader)?.is_some() {}
         Ok(())

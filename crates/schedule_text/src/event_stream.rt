@@ -1,5 +1,6 @@
 //! The events of a schedule whose text a source gives.
-ghost use Rattle.std.specs.Prelude.{◌≡◌, ℕ, List, [], Option, IfOk, IfErr, None, Ok, Err};
+ghost use Rattle.std.specs.Prelude.{◌≡◌, ℕ, [], Option, IfOk, IfErr, None, Ok, Err};
+ghost use Rattle.text_io.specs.Devices.{SourceState};
 ghost use Rattle.schedule_text.specs.EventStreams.{IsNext, IsRefused, IsStarted};
 ghost use Rattle.schedule_text.specs.Streaming.{IsStopped};
 ghost use Rattle.schedule_text.specs.Streams.{stream};
@@ -52,9 +53,9 @@ impl Model for EventStream {
 // The refusal to be answered: at a text's fault the source is read to its end, where it wasn't yet, and
 // where that fails `Read` stands in place of the fault.
 fn told<R: Source>(ahead: &mut Ahead, reader: &mut R, why: Refusal) -> Refusal
-    ensures { (before : ℕ) (due : Due) (known : Option (List ℕ)) (failures : ℕ)
-        → IsStopped before due known failures (R.failures reader.old) (R.has_ended reader.old) why
-        → IsRefused before due known failures (R.failures reader.new) (R.has_ended reader.new) result }
+    ensures { (before : ℕ) (due : Due) (first : SourceState)
+        → IsStopped before due first (stream ahead.old (R.state reader.old)) why
+        → IsRefused before due first (stream ahead.new (R.state reader.new)) result }
 {
     match why {
         Refusal::Text(_, TextCause::End) => why,
@@ -75,12 +76,9 @@ impl EventStream {
     /// fails behind a fault. It takes no memory; whether it waits is up to the source.
     pub fn start<R: Source>(reader: &mut R) -> Result<EventStream, Refusal>
         ensures ok { IfOk result (λ events. IsStarted events
-            (stream [] (R.remaining reader.old) (R.failures reader.old)
-            (R.budget reader.old) (R.has_ended reader.old))
-            (stream events.ahead (R.remaining reader.new) (R.failures reader.new)
-            (R.budget reader.new) (R.has_ended reader.new))) }
-        ensures err { IfErr result (IsRefused 0 version_due (R.remaining reader.old)
-            (R.failures reader.old) (R.failures reader.new) (R.has_ended reader.new)) }
+            (stream [] (R.state reader.old)) (stream events.ahead (R.state reader.new))) }
+        ensures err { IfErr result (IsRefused 0 version_due (R.state reader.old)
+            (R.state reader.new)) }
     {
         let mut ahead = Ahead::new();
         match header_from(&mut ahead, reader) {
@@ -109,10 +107,8 @@ impl EventStream {
     /// the source.
     pub fn next<R: Source>(&mut self, reader: &mut R) -> Result<Option<Event>, Refusal>
         ensures next { self.old.stage ≡ Stage.Going → IsNext self.old self.new
-            (stream self.old.ahead (R.remaining reader.old) (R.failures reader.old)
-            (R.budget reader.old) (R.has_ended reader.old))
-            (stream self.new.ahead (R.remaining reader.new) (R.failures reader.new)
-            (R.budget reader.new) (R.has_ended reader.new)) result }
+            (stream self.old.ahead (R.state reader.old))
+            (stream self.new.ahead (R.state reader.new)) result }
         ensures ended { self.old.stage ≡ Stage.Ended
             → (result ≡ Ok None) × (self.new ≡ self.old) × (reader.new ≡ reader.old) }
         ensures refused { (why : Refusal) → self.old.stage ≡ Stage.Refused why
@@ -129,10 +125,8 @@ impl EventStream {
     fn go_on<R: Source>(&mut self, reader: &mut R) -> Result<Option<Event>, Refusal>
         requires { self.old.stage ≡ Stage.Going }
         ensures { IsNext self.old self.new
-            (stream self.old.ahead (R.remaining reader.old) (R.failures reader.old)
-            (R.budget reader.old) (R.has_ended reader.old))
-            (stream self.new.ahead (R.remaining reader.new) (R.failures reader.new)
-            (R.budget reader.new) (R.has_ended reader.new)) result }
+            (stream self.old.ahead (R.state reader.old))
+            (stream self.new.ahead (R.state reader.new)) result }
     {
         let before = HEADER_LINES + (self.header.events - self.left);
         match due_from(&mut self.ahead, reader, before, self.left) {

@@ -1,5 +1,6 @@
 //! The events of a schedule, with the source that gives its text.
-ghost use Rattle.std.specs.Prelude.{◌≡◌, ℕ, Bool, [], IfOk, IfErr, None, Ok, Err};
+ghost use Rattle.std.specs.Prelude.{◌≡◌, [], IfOk, IfErr, None, Ok, Err};
+ghost use Rattle.text_io.specs.Devices.{SourceState};
 ghost use Rattle.schedule_text.specs.EventStreams.{IsNext, IsRefused, IsStarted};
 ghost use Rattle.schedule_text.specs.Streams.{stream};
 ghost use Rattle.schedule_text.specs.Texts.{version_due};
@@ -25,11 +26,9 @@ impl<R: Source + Drop> Events<R> {
     /// it back, uses an `EventStream`.
     pub fn start(reader: R) -> Result<Events<R>, Refusal>
         ensures ok { IfOk result (λ events. IsStarted events.stream
-            (stream [] (R.remaining reader) (R.failures reader) (R.budget reader) (R.has_ended reader))
-            (stream events.stream.ahead (R.remaining events.reader) (R.failures events.reader)
-            (R.budget events.reader) (R.has_ended events.reader))) }
-        ensures err { IfErr result (λ why. (failures : ℕ) × (ended : Bool) × IsRefused 0 version_due
-            (R.remaining reader) (R.failures reader) failures ended why) }
+            (stream [] (R.state reader)) (stream events.stream.ahead (R.state events.reader))) }
+        ensures err { IfErr result (λ why. (last : SourceState)
+            × IsRefused 0 version_due (R.state reader) last why) }
     {
         let mut reader = reader;
         let stream = EventStream::start(&mut reader)?;
@@ -48,10 +47,8 @@ impl<R: Source> Events<R> {
     /// The next event, as `EventStream::next` tells it.
     pub fn next(&mut self) -> Result<Option<Event>, Refusal>
         ensures next { self.old.stream.stage ≡ Stage.Going → IsNext self.old.stream self.new.stream
-            (stream self.old.stream.ahead (R.remaining self.old.reader) (R.failures self.old.reader)
-            (R.budget self.old.reader) (R.has_ended self.old.reader))
-            (stream self.new.stream.ahead (R.remaining self.new.reader) (R.failures self.new.reader)
-            (R.budget self.new.reader) (R.has_ended self.new.reader)) result }
+            (stream self.old.stream.ahead (R.state self.old.reader))
+            (stream self.new.stream.ahead (R.state self.new.reader)) result }
         ensures ended { self.old.stream.stage ≡ Stage.Ended → (result ≡ Ok None) × (self.new ≡ self.old) }
         ensures refused { (why : Refusal) → self.old.stream.stage ≡ Stage.Refused why
             → (result ≡ Err why) × (self.new ≡ self.old) }

@@ -1,8 +1,7 @@
 //! The text of a schedule.
-ghost use Rattle.std.specs.Prelude.{◌≡◌, ◌+◌, ◌≤◌, ◌++◌, ◌∷◌, length, OnOk, IfErr, OnErr};
-ghost use Rattle.std.specs.Io.KnownBytes.{Appends};
+ghost use Rattle.std.specs.Prelude.{◌≡◌, ◌+◌, ◌≤◌, ◌++◌, length};
 ghost use Rattle.std.specs.List.{flat_map};
-ghost use Rattle.text_io.specs.Blocks.{TakesBeginning, GivesUp};
+ghost use Rattle.text_io.specs.Blocks.{Writes};
 ghost use Rattle.text_lines.specs.Lines.{spaced};
 ghost use Rattle.text_lines.specs.Numerals.{numeral};
 ghost use Rattle.schedule_text.specs.Texts.{kind_name, call_words, event_words, event_text, header_text, schedule_text};
@@ -18,28 +17,15 @@ use text_io::{Block, LINE_ROOM, Line, Sink};
 /// the writer fails or takes nothing; a beginning of the text is written then. `parse` takes the text
 /// back where each number is in its range.
 pub fn print<W: Sink>(schedule: &Schedule, writer: &mut W) -> Result<(), Refusal>
-    ensures ok { OnOk result (Appends (W.contents writer.old) (W.contents writer.new)
-        (schedule_text schedule.now)) }
-    ensures quiet { OnOk result (W.failures writer.new ≡ W.failures writer.old) }
-    ensures only_write { IfErr result (λ why. why ≡ Refusal.Write) }
-    ensures beginning { OnErr result (TakesBeginning (W.contents writer.old) (W.contents writer.new)
-        (schedule_text schedule.now)) }
-    ensures cause { OnErr result (GivesUp (W.failures writer.old) (W.failures writer.new)
-        (W.is_full writer.new)) }
+    ensures { Writes (W.state writer.old) (W.state writer.new) (schedule_text schedule.now) result }
 {
     print_lines(header_lines(schedule), &schedule.events, writer)
 }
 
 // Writes the header lines, and then a line for each event.
 fn print_lines<W: Sink>(header: Line, events: &[Event], writer: &mut W) -> Result<(), Refusal>
-    ensures ok { OnOk result (Appends (W.contents writer.old) (W.contents writer.new)
-        (header ++ flat_map event_text events.now)) }
-    ensures quiet { OnOk result (W.failures writer.new ≡ W.failures writer.old) }
-    ensures only_write { IfErr result (λ why. why ≡ Refusal.Write) }
-    ensures beginning { OnErr result (TakesBeginning (W.contents writer.old) (W.contents writer.new)
-        (header ++ flat_map event_text events.now)) }
-    ensures cause { OnErr result (GivesUp (W.failures writer.old) (W.failures writer.new)
-        (W.is_full writer.new)) }
+    ensures { Writes (W.state writer.old) (W.state writer.new)
+        (header ++ flat_map event_text events.now) result }
 {
     let mut block = Block::new();
     block.put(writer, header.as_slice())?;

@@ -1,5 +1,6 @@
 //! The schedule whose text a source gives.
-ghost use Rattle.std.specs.Prelude.{◌≡◌, ◌⊎◌, Some, IfOk, IfErr, IfSome, MatchResult, OnOk, true};
+ghost use Rattle.std.specs.Prelude.{◌≡◌, ◌⊎◌, Some, IfOk, IfErr, IfSome, MatchResult, OnOk};
+ghost use Rattle.text_io.specs.Readings.{ReachesEnd};
 ghost use Rattle.schedule_text.specs.EventStreams.{IsRefusedReading};
 ghost use Rattle.schedule_text.specs.Schedules.{Schedule};
 ghost use Rattle.schedule_text.specs.Texts.{schedule_text, IsInRange};
@@ -18,15 +19,13 @@ use text_io::Source;
 /// its end but where memory is refused or a call fails. It takes memory as the events come; whether
 /// it waits is up to the source.
 pub fn read_schedule<R: Source>(alloc: Global, reader: &mut R) -> Result<Schedule, Refusal>
-    ensures text { IfOk result (λ schedule. IfSome (R.remaining reader.old)
+    ensures text { IfOk result (λ schedule. IfSome (R.state reader.old).left
         (λ text. text ≡ schedule_text schedule)) }
     ensures range { IfOk result IsInRange }
-    ensures end { OnOk result ((R.failures reader.new ≡ R.failures reader.old)
-        × (R.has_ended reader.new ≡ true)) }
-    ensures err { IfErr result (IsRefusedReading (R.remaining reader.old) (R.failures reader.old)
-        (R.failures reader.new) (R.has_ended reader.new)) }
+    ensures end { OnOk result (ReachesEnd (R.state reader.old) (R.state reader.new)) }
+    ensures err { IfErr result (IsRefusedReading (R.state reader.old) (R.state reader.new)) }
     // The text of a schedule in range is read as that schedule, unless memory is refused or a call fails.
-    ensures back { (s : Schedule) → IsInRange s → R.remaining reader.old ≡ Some (schedule_text s)
+    ensures back { (s : Schedule) → IsInRange s → (R.state reader.old).left ≡ Some (schedule_text s)
         → MatchResult result (λ schedule. schedule ≡ s)
         (λ why. (why ≡ Refusal.Memory) ⊎ (why ≡ Refusal.Read)) }
 {
@@ -34,13 +33,11 @@ pub fn read_schedule<R: Source>(alloc: Global, reader: &mut R) -> Result<Schedul
 }
 
 fn schedule_from<R: Source>(alloc: Global, reader: &mut R) -> Result<Schedule, Refusal>
-    ensures text { IfOk result (λ schedule. IfSome (R.remaining reader.old)
+    ensures text { IfOk result (λ schedule. IfSome (R.state reader.old).left
         (λ text. text ≡ schedule_text schedule)) }
     ensures range { IfOk result IsInRange }
-    ensures end { OnOk result ((R.failures reader.new ≡ R.failures reader.old)
-        × (R.has_ended reader.new ≡ true)) }
-    ensures err { IfErr result (IsRefusedReading (R.remaining reader.old) (R.failures reader.old)
-        (R.failures reader.new) (R.has_ended reader.new)) }
+    ensures end { OnOk result (ReachesEnd (R.state reader.old) (R.state reader.new)) }
+    ensures err { IfErr result (IsRefusedReading (R.state reader.old) (R.state reader.new)) }
 {
     let mut stream = EventStream::start(reader)?;
     let mut events = Vec::new(alloc);

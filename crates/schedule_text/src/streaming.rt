@@ -1,6 +1,5 @@
 //! The lines of a schedule, as they come from a source.
 ghost use Rattle.std.specs.Prelude.{◌≡◌, ◌≤◌, ◌<◌, ℕ, IfOk, IfErr, MatchOption, OnOk, true};
-ghost use Rattle.std.specs.Io.KnownBytes.{prepend_known};
 ghost use Rattle.schedule_text.specs.Streams.{stream, GaveLine, IsOver};
 ghost use Rattle.schedule_text.specs.Streaming.{GaveLines, GaveSaid, IsStopped};
 ghost use Rattle.schedule_text.specs.Reading.{IsHeaderInRange, said_in};
@@ -21,13 +20,9 @@ use text_lines::TextCause;
 fn held_line<R: Source>(ahead: &mut Ahead, reader: &mut R, before: u64) -> Result<HeldLine, Refusal>
     requires { before ≤ 1000006 }
     ensures ok { IfOk result (λ held. GaveLine held
-        (stream ahead.old (R.remaining reader.old) (R.failures reader.old)
-        (R.budget reader.old) (R.has_ended reader.old))
-        (stream ahead.new (R.remaining reader.new) (R.failures reader.new)
-        (R.budget reader.new) (R.has_ended reader.new))) }
+        (stream ahead.old (R.state reader.old)) (stream ahead.new (R.state reader.new))) }
     ensures err { IfErr result (λ why. (due : Due) → is_due due ≡ true → IsStopped before due
-        (prepend_known ahead.old (R.remaining reader.old)) (R.failures reader.old)
-        (R.failures reader.new) (R.has_ended reader.new) why) }
+        (stream ahead.old (R.state reader.old)) (stream ahead.new (R.state reader.new)) why) }
 {
     match ahead.next_line(reader)? {
         Some(held) => Ok(held),
@@ -38,13 +33,9 @@ fn held_line<R: Source>(ahead: &mut Ahead, reader: &mut R, before: u64) -> Resul
 // Reads the line of the version.
 fn version_from<R: Source>(ahead: &mut Ahead, reader: &mut R) -> Result<(), Refusal>
     ensures ok { OnOk result (GaveSaid version_due version
-        (stream ahead.old (R.remaining reader.old) (R.failures reader.old)
-        (R.budget reader.old) (R.has_ended reader.old))
-        (stream ahead.new (R.remaining reader.new) (R.failures reader.new)
-        (R.budget reader.new) (R.has_ended reader.new))) }
+        (stream ahead.old (R.state reader.old)) (stream ahead.new (R.state reader.new))) }
     ensures err { IfErr result (IsStopped 0 version_due
-        (prepend_known ahead.old (R.remaining reader.old)) (R.failures reader.old)
-        (R.failures reader.new) (R.has_ended reader.new)) }
+        (stream ahead.old (R.state reader.old)) (stream ahead.new (R.state reader.new))) }
 {
     let held = held_line(ahead, reader, 0)?;
     let Some(line) = held.line() else {
@@ -60,13 +51,9 @@ fn version_from<R: Source>(ahead: &mut Ahead, reader: &mut R) -> Result<(), Refu
 // The queue that the line behind the version names.
 fn kind_from<R: Source>(ahead: &mut Ahead, reader: &mut R) -> Result<Kind, Refusal>
     ensures ok { IfOk result (λ kind. GaveSaid queue_due (queue kind)
-        (stream ahead.old (R.remaining reader.old) (R.failures reader.old)
-        (R.budget reader.old) (R.has_ended reader.old))
-        (stream ahead.new (R.remaining reader.new) (R.failures reader.new)
-        (R.budget reader.new) (R.has_ended reader.new))) }
+        (stream ahead.old (R.state reader.old)) (stream ahead.new (R.state reader.new))) }
     ensures err { IfErr result (IsStopped 1 queue_due
-        (prepend_known ahead.old (R.remaining reader.old)) (R.failures reader.old)
-        (R.failures reader.new) (R.has_ended reader.new)) }
+        (stream ahead.old (R.state reader.old)) (stream ahead.new (R.state reader.new))) }
 {
     let held = held_line(ahead, reader, 1)?;
     let Some(line) = held.line() else {
@@ -87,13 +74,9 @@ fn number_from<R: Source>(
 ) -> Result<u64, Refusal>
     requires { before ≤ 1000006 }
     ensures ok { IfOk result (λ value. GaveSaid (number_due field) (number field value)
-        (stream ahead.old (R.remaining reader.old) (R.failures reader.old)
-        (R.budget reader.old) (R.has_ended reader.old))
-        (stream ahead.new (R.remaining reader.new) (R.failures reader.new)
-        (R.budget reader.new) (R.has_ended reader.new))) }
+        (stream ahead.old (R.state reader.old)) (stream ahead.new (R.state reader.new))) }
     ensures err { IfErr result (IsStopped before (number_due field)
-        (prepend_known ahead.old (R.remaining reader.old)) (R.failures reader.old)
-        (R.failures reader.new) (R.has_ended reader.new)) }
+        (stream ahead.old (R.state reader.old)) (stream ahead.new (R.state reader.new))) }
 {
     let held = held_line(ahead, reader, before)?;
     let Some(line) = held.line() else {
@@ -109,13 +92,9 @@ fn number_from<R: Source>(
 fn held_event<R: Source>(ahead: &mut Ahead, reader: &mut R, before: u64) -> Result<Event, Refusal>
     requires { before ≤ 1000006 }
     ensures ok { IfOk result (λ event. (left : ℕ) → GaveSaid (events_left left) (happens event)
-        (stream ahead.old (R.remaining reader.old) (R.failures reader.old)
-        (R.budget reader.old) (R.has_ended reader.old))
-        (stream ahead.new (R.remaining reader.new) (R.failures reader.new)
-        (R.budget reader.new) (R.has_ended reader.new))) }
+        (stream ahead.old (R.state reader.old)) (stream ahead.new (R.state reader.new))) }
     ensures err { IfErr result (λ why. (left : ℕ) → 0 < left → IsStopped before (events_left left)
-        (prepend_known ahead.old (R.remaining reader.old)) (R.failures reader.old)
-        (R.failures reader.new) (R.has_ended reader.new) why) }
+        (stream ahead.old (R.state reader.old)) (stream ahead.new (R.state reader.new)) why) }
 {
     let held = held_line(ahead, reader, before)?;
     let Some(line) = held.line() else {
@@ -131,13 +110,9 @@ fn held_event<R: Source>(ahead: &mut Ahead, reader: &mut R, before: u64) -> Resu
 fn event_from<R: Source>(ahead: &mut Ahead, reader: &mut R, before: u64) -> Result<Event, Refusal>
     requires { before ≤ 1000006 }
     ensures ok { IfOk result (λ event. (left : ℕ) → GaveSaid (events_left left) (happens event)
-        (stream ahead.old (R.remaining reader.old) (R.failures reader.old)
-        (R.budget reader.old) (R.has_ended reader.old))
-        (stream ahead.new (R.remaining reader.new) (R.failures reader.new)
-        (R.budget reader.new) (R.has_ended reader.new))) }
+        (stream ahead.old (R.state reader.old)) (stream ahead.new (R.state reader.new))) }
     ensures err { IfErr result (λ why. (left : ℕ) → 0 < left → IsStopped before (events_left left)
-        (prepend_known ahead.old (R.remaining reader.old)) (R.failures reader.old)
-        (R.failures reader.new) (R.has_ended reader.new) why) }
+        (stream ahead.old (R.state reader.old)) (stream ahead.new (R.state reader.new)) why) }
 {
     let Some((line, _)) = ahead.whole_line() else {
         return held_event(ahead, reader, before);
@@ -154,13 +129,10 @@ fn event_from<R: Source>(ahead: &mut Ahead, reader: &mut R, before: u64) -> Resu
 // Whether nothing follows the last event, behind so many lines.
 fn end_from<R: Source>(ahead: &mut Ahead, reader: &mut R, before: u64) -> Result<(), Refusal>
     requires { before ≤ 1000006 }
-    ensures ok { OnOk result (IsOver (stream ahead.old (R.remaining reader.old) (R.failures reader.old)
-        (R.budget reader.old) (R.has_ended reader.old))
-        (stream ahead.new (R.remaining reader.new) (R.failures reader.new)
-        (R.budget reader.new) (R.has_ended reader.new))) }
+    ensures ok { OnOk result (IsOver (stream ahead.old (R.state reader.old))
+        (stream ahead.new (R.state reader.new))) }
     ensures err { IfErr result (IsStopped before (events_left 0)
-        (prepend_known ahead.old (R.remaining reader.old)) (R.failures reader.old)
-        (R.failures reader.new) (R.has_ended reader.new)) }
+        (stream ahead.old (R.state reader.old)) (stream ahead.new (R.state reader.new))) }
 {
     if ahead.has_more(reader)? {
         Err(Refusal::Text(before + 1, TextCause::Extra))
@@ -178,18 +150,12 @@ pub fn due_from<R: Source>(
 ) -> Result<Option<Event>, Refusal>
     requires { before ≤ 1000006 }
     ensures ok { IfOk result (λ next. MatchOption next
-        ((left ≡ 0) × IsOver (stream ahead.old (R.remaining reader.old) (R.failures reader.old)
-        (R.budget reader.old) (R.has_ended reader.old))
-        (stream ahead.new (R.remaining reader.new) (R.failures reader.new)
-        (R.budget reader.new) (R.has_ended reader.new)))
+        ((left ≡ 0) × IsOver (stream ahead.old (R.state reader.old))
+        (stream ahead.new (R.state reader.new)))
         (λ event. (0 < left) × GaveSaid (events_left left) (happens event)
-        (stream ahead.old (R.remaining reader.old) (R.failures reader.old)
-        (R.budget reader.old) (R.has_ended reader.old))
-        (stream ahead.new (R.remaining reader.new) (R.failures reader.new)
-        (R.budget reader.new) (R.has_ended reader.new)))) }
+        (stream ahead.old (R.state reader.old)) (stream ahead.new (R.state reader.new)))) }
     ensures err { IfErr result (IsStopped before (events_left left)
-        (prepend_known ahead.old (R.remaining reader.old)) (R.failures reader.old)
-        (R.failures reader.new) (R.has_ended reader.new)) }
+        (stream ahead.old (R.state reader.old)) (stream ahead.new (R.state reader.new))) }
 {
     if left == 0 {
         end_from(ahead, reader, before)?;
@@ -202,14 +168,10 @@ pub fn due_from<R: Source>(
 /// The header.
 pub fn header_from<R: Source>(ahead: &mut Ahead, reader: &mut R) -> Result<Header, Refusal>
     ensures ok { IfOk result (λ header. GaveLines version_due (said_in header)
-        (stream ahead.old (R.remaining reader.old) (R.failures reader.old)
-        (R.budget reader.old) (R.has_ended reader.old))
-        (stream ahead.new (R.remaining reader.new) (R.failures reader.new)
-        (R.budget reader.new) (R.has_ended reader.new))) }
+        (stream ahead.old (R.state reader.old)) (stream ahead.new (R.state reader.new))) }
     ensures range { IfOk result IsHeaderInRange }
     ensures err { IfErr result (IsStopped 0 version_due
-        (prepend_known ahead.old (R.remaining reader.old)) (R.failures reader.old)
-        (R.failures reader.new) (R.has_ended reader.new)) }
+        (stream ahead.old (R.state reader.old)) (stream ahead.new (R.state reader.new))) }
 {
     version_from(ahead, reader)?;
     let kind = kind_from(ahead, reader)?;

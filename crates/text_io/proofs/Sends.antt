@@ -1,7 +1,11 @@
 -- Lemmas on texts that reach a sink in several calls.
-use Rattle.std.proofs.Common.{◌≡◌, ℕ, List, [], ◌++◌, None, Some, Option, refl, sym, ap, ◌∙◌, append_assoc, append-nil, subst}
+use Rattle.std.proofs.Common.{◌≡◌, ℕ, ◌+◌, List, [], ◌++◌, None, Some, Option, inl, inr, refl, sym, ap, ◌∙◌, append_assoc, append-nil, subst}
+use Rattle.std.specs.Prelude.{Result, Err}
+use Rattle.std.proofs.lemmas.Result.{on_ok_weaker, on_err_weaker}
 use Rattle.std.specs.Io.KnownBytes.{Appends}
-use Rattle.text_io.specs.Blocks.{Sends, TakesBeginning}
+use Rattle.history.specs.declared.refusals.Refusal.{Refusal}
+use Rattle.text_io.specs.Devices.{SinkState}
+use Rattle.text_io.specs.Blocks.{Sends, TakesBeginning, GivesUp, Puts, Writes}
 
 -- a sink that took xs and then ys took both
 pub Appends-trans : (a b c : Option (List ℕ)) (xs ys : List ℕ) → Appends a b xs → Appends b c ys → Appends a c (xs ++ ys)
@@ -72,3 +76,49 @@ TakesBeginning-held a b c text held s t = (
 -- the sink took a front, and then what was held
 pub Appends-both : (a b c : Option (List ℕ)) (text held : List ℕ) → Sends a b text held → Appends b c held → Appends a c text
 Appends-both a b c text held s p = Appends-Sends a c text (Sends-more a b c text held held [] s p (sym (append-nil held)))
+
+-- the calls before the one at which a writer gave up didn't fail
+GivesUp-behind : (a b c : SinkState) → b.failures ≡ a.failures → GivesUp b c → GivesUp a c
+GivesUp-behind a b c quiet (inl failed) = inl (failed ∙ ap (λ (n : ℕ). n + 1) quiet)
+GivesUp-behind a b c quiet (inr full) = inr (full.0 ∙ quiet, full.1)
+
+module _ {A : Type 0} (a b c : SinkState) (quiet : b.failures ≡ a.failures) where
+  -- what was held is written behind what was sent of a text
+  pub Writes-held : (text held : List ℕ) (result : Result A Refusal) → Sends a.contents b.contents text held → Writes b c held result → Writes a c text result
+  Writes-held text held result sends writes = record {
+    ok = on_ok_weaker result (λ p. Appends-both a.contents b.contents c.contents text held sends p) writes.ok;
+    quiet = on_ok_weaker result (λ e. e ∙ quiet) writes.quiet;
+    only_write = writes.only_write;
+    beginning = on_err_weaker result (λ t. TakesBeginning-held a.contents b.contents c.contents text held sends t) writes.beginning;
+    cause = on_err_weaker result (λ u. GivesUp-behind a b c quiet u) writes.cause;
+  }
+
+  -- behind what was sent of a text, one more piece is put
+  pub Puts-more : (text held piece after : List ℕ) (result : Result A Refusal) → Sends a.contents b.contents text held → Puts b c (held ++ piece) after result
+      → Puts a c (text ++ piece) after result
+  Puts-more text held piece after result sends puts = record {
+    ok = on_ok_weaker result (λ s. Sends-trans a.contents b.contents c.contents text held piece after sends s) puts.ok;
+    quiet = on_ok_weaker result (λ e. e ∙ quiet) puts.quiet;
+    only_write = puts.only_write;
+    beginning = on_err_weaker result (λ t. TakesBeginning-trans a.contents b.contents c.contents text held piece sends t) puts.beginning;
+    cause = on_err_weaker result (λ u. GivesUp-behind a b c quiet u) puts.cause;
+  }
+
+-- what is written whole is put, and nothing is held back
+pub Puts-written : {A : Type 0} (a b : SinkState) (text held : List ℕ) (result : Result A Refusal) → held ≡ [] → Writes a b text result → Puts a b text held result
+Puts-written a b text held result none writes = record {
+  ok = on_ok_weaker result (λ p. Sends-all a.contents b.contents text held none p) writes.ok;
+  quiet = writes.quiet;
+  only_write = writes.only_write;
+  beginning = writes.beginning;
+  cause = writes.cause;
+}
+
+module _ {A B : Type 0} (a b c : SinkState) (quiet : b.failures ≡ a.failures) (text held whole : List ℕ) (why : Refusal) (puts : Puts {A = A} b c text held (Err why)) (beginning : TakesBeginning a.contents c.contents whole) where
+  -- where a putting is refused, so is the writing of the whole
+  pub Writes-refused : Writes {A = B} a c whole (Err why)
+  Writes-refused = record { ok = tt; quiet = tt; only_write = puts.only_write; beginning = beginning; cause = GivesUp-behind a b c quiet puts.cause }
+
+  -- and the putting of it
+  pub Puts-refused : (after : List ℕ) → Puts {A = B} a c whole after (Err why)
+  Puts-refused after = record { ok = tt; quiet = tt; only_write = puts.only_write; beginning = beginning; cause = GivesUp-behind a b c quiet puts.cause }

@@ -1,7 +1,6 @@
 //! A block of bytes on its way to a sink, so that a writer makes few calls and takes no memory.
-ghost use Rattle.std.specs.Prelude.{◌≡◌, ◌+◌, ◌≤◌, ◌++◌, [], length, OnOk, IfErr, OnErr};
-ghost use Rattle.std.specs.Io.KnownBytes.{Appends};
-ghost use Rattle.text_io.specs.Blocks.{Sends, TakesBeginning, GivesUp};
+ghost use Rattle.std.specs.Prelude.{◌≡◌, ◌+◌, ◌≤◌, ◌++◌, [], length, OnOk};
+ghost use Rattle.text_io.specs.Blocks.{Puts, Writes};
 
 use crate::devices::Sink;
 use history::Refusal;
@@ -45,14 +44,8 @@ impl Block {
     /// It takes no memory. It is refused by `Write` where a call of the sink fails or takes nothing; the
     /// block is then of no further use.
     pub fn put<W: Sink>(&mut self, sink: &mut W, bytes: &[u8]) -> Result<(), Refusal>
-        ensures ok { OnOk result (Sends (W.contents sink.old) (W.contents sink.new)
-            (self.old ++ bytes.now) self.new) }
-        ensures quiet { OnOk result (W.failures sink.new ≡ W.failures sink.old) }
-        ensures only_write { IfErr result (λ why. why ≡ Refusal.Write) }
-        ensures beginning { OnErr result (TakesBeginning (W.contents sink.old) (W.contents sink.new)
-            (self.old ++ bytes.now)) }
-        ensures cause { OnErr result (GivesUp (W.failures sink.old) (W.failures sink.new)
-            (W.is_full sink.new)) }
+        ensures { Puts (W.state sink.old) (W.state sink.new)
+            (self.old ++ bytes.now) self.new result }
     {
         if bytes.len() > BLOCK - self.len {
             self.empty(sink)?;
@@ -66,12 +59,7 @@ impl Block {
 
     /// Hands the sink all that is held.
     pub fn finish<W: Sink>(self, sink: &mut W) -> Result<(), Refusal>
-        ensures ok { OnOk result (Appends (W.contents sink.old) (W.contents sink.new) self) }
-        ensures quiet { OnOk result (W.failures sink.new ≡ W.failures sink.old) }
-        ensures only_write { IfErr result (λ why. why ≡ Refusal.Write) }
-        ensures beginning { OnErr result (TakesBeginning (W.contents sink.old) (W.contents sink.new) self) }
-        ensures cause { OnErr result (GivesUp (W.failures sink.old) (W.failures sink.new)
-            (W.is_full sink.new)) }
+        ensures { Writes (W.state sink.old) (W.state sink.new) self result }
     {
         let rest = self.held();
         write_all(sink, rest)
@@ -85,14 +73,8 @@ impl Block {
 
     // Hands the sink all that is held, and then holds nothing.
     fn empty<W: Sink>(&mut self, sink: &mut W) -> Result<(), Refusal>
-        ensures ok { OnOk result (Appends (W.contents sink.old) (W.contents sink.new) self.old) }
+        ensures written { Writes (W.state sink.old) (W.state sink.new) self.old result }
         ensures emptied { OnOk result (self.new ≡ []) }
-        ensures quiet { OnOk result (W.failures sink.new ≡ W.failures sink.old) }
-        ensures only_write { IfErr result (λ why. why ≡ Refusal.Write) }
-        ensures beginning { OnErr result (TakesBeginning (W.contents sink.old) (W.contents sink.new)
-            self.old) }
-        ensures cause { OnErr result (GivesUp (W.failures sink.old) (W.failures sink.new)
-            (W.is_full sink.new)) }
     {
         write_all(sink, self.held())?;
         self.len = 0;
@@ -111,13 +93,7 @@ impl Block {
 
 // Hands a sink all these bytes, in as many calls as it takes.
 fn write_all<W: Sink>(sink: &mut W, bytes: &[u8]) -> Result<(), Refusal>
-    ensures ok { OnOk result (Appends (W.contents sink.old) (W.contents sink.new) bytes.now) }
-    ensures quiet { OnOk result (W.failures sink.new ≡ W.failures sink.old) }
-    ensures only_write { IfErr result (λ why. why ≡ Refusal.Write) }
-    ensures beginning { OnErr result (TakesBeginning (W.contents sink.old) (W.contents sink.new)
-        bytes.now) }
-    ensures cause { OnErr result (GivesUp (W.failures sink.old) (W.failures sink.new)
-        (W.is_full sink.new)) }
+    ensures { Writes (W.state sink.old) (W.state sink.new) bytes.now result }
 {
     let mut rest = bytes;
     while !rest.is_empty() {

@@ -1,7 +1,7 @@
 //! Reads from a source, to its end or to a number of bytes.
 ghost use Rattle.std.specs.Prelude.{◌≡◌, ◌+◌, ◌<◌, ◌≤◌, IfOk, IfErr, OnOk, IsTrue, length, take, vec_len, true};
-ghost use Rattle.std.specs.Io.KnownBytes.{Consumes, IsAtEnd};
-ghost use Rattle.text_io.specs.Readings.{AddsGiven, EndsReadingFor, ReadsOrFails};
+ghost use Rattle.std.specs.Io.KnownBytes.{Consumes};
+ghost use Rattle.text_io.specs.Readings.{AddsGiven, EndsReadingFor, HasEnded, ReadsOrFails};
 
 use crate::devices::Source;
 use history::Refusal;
@@ -25,13 +25,13 @@ pub(crate) fn block_of(alloc: Global, len: usize) -> Result<Vec<u8>, Refusal>
 fn read_block<R: Source>(reader: &mut R, block: &mut [u8]) -> Result<usize, Refusal>
     requires { 0 < length block.old }
     ensures bound { IfOk result (λ count. count ≤ length block.new) }
-    ensures bytes { IfOk result (λ count. Consumes (R.remaining reader.old) (R.remaining reader.new)
+    ensures bytes { IfOk result (λ count. Consumes (R.state reader.old).left (R.state reader.new).left
         (take count block.new)) }
-    ensures end { IfOk result (λ count. count ≡ 0 → IsAtEnd (R.remaining reader.new)
-        × (R.has_ended reader.new ≡ true)) }
-    ensures budget { IfOk result (λ count. R.budget reader.new + count ≡ R.budget reader.old) }
+    ensures end { IfOk result (λ count. count ≡ 0 → HasEnded (R.state reader.new)) }
+    ensures budget { IfOk result (λ count.
+        (R.state reader.new).budget + count ≡ (R.state reader.old).budget) }
     ensures only_read { IfErr result (λ why. why ≡ Refusal.Read) }
-    ensures failures { ReadsOrFails result (R.failures reader.old) (R.failures reader.new) }
+    ensures failures { ReadsOrFails result (R.state reader.old) (R.state reader.new) }
 {
     match reader.read(block) {
         Ok(count) => Ok(count),
@@ -46,12 +46,12 @@ fn read_more<R: Source>(
     text: &mut Vec<u8>,
 ) -> Result<usize, Refusal>
     requires { 0 < length block.old }
-    ensures text { OnOk result (AddsGiven (R.remaining reader.old) (R.remaining reader.new)
+    ensures text { OnOk result (AddsGiven (R.state reader.old) (R.state reader.new)
         text.old.items text.new.items) }
-    ensures end { IfOk result (λ count. count ≡ 0 → IsAtEnd (R.remaining reader.new)
-        × (R.has_ended reader.new ≡ true)) }
-    ensures budget { IfOk result (λ count. R.budget reader.new + count ≡ R.budget reader.old) }
-    ensures err { ReadsOrFails result (R.failures reader.old) (R.failures reader.new) }
+    ensures end { IfOk result (λ count. count ≡ 0 → HasEnded (R.state reader.new)) }
+    ensures budget { IfOk result (λ count.
+        (R.state reader.new).budget + count ≡ (R.state reader.old).budget) }
+    ensures err { ReadsOrFails result (R.state reader.old) (R.state reader.new) }
 {
     let count = read_block(reader, block)?;
     match text.extend_from_slice(&block[..count]) {
@@ -68,13 +68,12 @@ pub(crate) fn read_to<R: Source>(
     most: usize,
 ) -> Result<bool, Refusal>
     requires { 0 < length block.old }
-    ensures text { OnOk result (AddsGiven (R.remaining reader.old) (R.remaining reader.new)
+    ensures text { OnOk result (AddsGiven (R.state reader.old) (R.state reader.new)
         text.old.items text.new.items) }
-    ensures end { IfOk result (λ ended. IsTrue ended → IsAtEnd (R.remaining reader.new)
-        × (R.has_ended reader.new ≡ true)) }
+    ensures end { IfOk result (λ ended. IsTrue ended → HasEnded (R.state reader.new)) }
     ensures budget { IfOk result (λ ended. ¬ IsTrue ended
-        → R.budget reader.new < R.budget reader.old) }
-    ensures err { ReadsOrFails result (R.failures reader.old) (R.failures reader.new) }
+        → (R.state reader.new).budget < (R.state reader.old).budget) }
+    ensures err { ReadsOrFails result (R.state reader.old) (R.state reader.new) }
 {
     while read_more(reader, block, text)? > 0 {
         if most <= text.len() {
@@ -88,8 +87,7 @@ pub(crate) fn read_to<R: Source>(
 pub(crate) fn read_rest<R: Source>(reader: &mut R, block: &mut [u8]) -> Result<(), Refusal>
     requires { 0 < length block.old }
     ensures only_read { IfErr result (λ why. why ≡ Refusal.Read) }
-    ensures reader { EndsReadingFor result (R.failures reader.old) (R.failures reader.new)
-        (R.has_ended reader.new) }
+    ensures reader { EndsReadingFor result (R.state reader.old) (R.state reader.new) }
 {
     while read_block(reader, block)? > 0 {}
     Ok(())

@@ -46,11 +46,10 @@ pub fn parse_source<P: Parser, R: Source>(
     alloc: Global,
     reader: &mut R,
 ) -> Result<P::Parsed, Refusal>
-    ensures text { IfOk result (λ parsed. WereAll (R.remaining reader.old) (P.text_of parsed)) }
+    ensures text { IfOk result (λ parsed. WereAll (R.state reader.old).left (P.text_of parsed)) }
     ensures range { IfOk result P.in_range }
-    ensures err { IfErr result (IsRefusedReading P.grammar P.first (R.remaining reader.old)) }
-    ensures reader { EndsReadingFor result (R.failures reader.old) (R.failures reader.new)
-        (R.has_ended reader.new) }
+    ensures err { IfErr result (IsRefusedReading P.grammar P.first (R.state reader.old).left) }
+    ensures reader { EndsReadingFor result (R.state reader.old) (R.state reader.new) }
 {
     let mut text = Vec::new(alloc);
     let mut block = block_of(alloc, BLOCK)?;

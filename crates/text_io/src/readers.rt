@@ -44,13 +44,12 @@ impl<R> ReaderSource<R> {
 impl<R: Read> Source for ReaderSource<R> {
     ghost use Rattle.text_io.specs.Devices.{known_below};
 
-    ghost remaining = { λ s. known_below s.failures (R.remaining s.inner) };
-
-    ghost failures = { λ s. s.failures };
-
-    ghost budget = { λ s. s.budget };
-
-    ghost has_ended = { λ s. s.ended };
+    ghost state = { λ s. record {
+      left = known_below s.failures (R.remaining s.inner);
+      failures = s.failures;
+      budget = s.budget;
+      has_ended = s.ended;
+    } };
 
     fn read(&mut self, into: &mut [u8]) -> io::Result<usize> {
         let answer = if self.failures == u64::MAX {

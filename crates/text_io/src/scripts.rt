@@ -180,13 +180,12 @@ impl Source for Script {
     ghost use Rattle.std.specs.Prelude.{Some, length};
     ghost use Rattle.text_io.specs.Scripts.{unread_of, failures_of};
 
-    ghost remaining = { λ s. Some (unread_of s) };
-
-    ghost failures = { failures_of };
-
-    ghost budget = { λ s. length (unread_of s) };
-
-    ghost has_ended = { λ s. s.ended };
+    ghost state = { λ s. record {
+      left = Some (unread_of s);
+      failures = failures_of s;
+      budget = length (unread_of s);
+      has_ended = s.ended;
+    } };
 
     fn read(&mut self, into: &mut [u8]) -> io::Result<usize> {
         if self.meets() == Some(Trouble::Failure) {
@@ -205,11 +204,11 @@ impl Sink for Script {
     ghost use Rattle.std.specs.Prelude.{Some};
     ghost use Rattle.text_io.specs.Scripts.{written_of, failures_of};
 
-    ghost contents = { λ s. Some (written_of s) };
-
-    ghost failures = { failures_of };
-
-    ghost is_full = { λ s. s.full };
+    ghost state = { λ s. record {
+      contents = Some (written_of s);
+      failures = failures_of s;
+      is_full = s.full;
+    } };
 
     fn write(&mut self, bytes: &[u8]) -> io::Result<usize> {
         let count = match self.meets() {

@@ -1,7 +1,5 @@
 //! Hands a sink a short text whole.
-ghost use Rattle.std.specs.Prelude.{◌≡◌, OnOk, IfErr, OnErr};
-ghost use Rattle.std.specs.Io.KnownBytes.{Appends};
-ghost use Rattle.text_io.specs.Blocks.{TakesBeginning, GivesUp};
+ghost use Rattle.text_io.specs.Blocks.{Writes};
 
 use crate::blocks::Block;
 use crate::devices::Sink;
@@ -12,13 +10,7 @@ use history::Refusal;
 /// It is refused by `Write` where a call of the sink fails or takes nothing; a beginning of the bytes
 /// is written then.
 pub fn send<W: Sink>(text: &[u8], sink: &mut W) -> Result<(), Refusal>
-    ensures ok { OnOk result (Appends (W.contents sink.old) (W.contents sink.new) text.now) }
-    ensures quiet { OnOk result (W.failures sink.new ≡ W.failures sink.old) }
-    ensures only_write { IfErr result (λ why. why ≡ Refusal.Write) }
-    ensures beginning { OnErr result (TakesBeginning (W.contents sink.old) (W.contents sink.new)
-        text.now) }
-    ensures cause { OnErr result (GivesUp (W.failures sink.old) (W.failures sink.new)
-        (W.is_full sink.new)) }
+    ensures { Writes (W.state sink.old) (W.state sink.new) text.now result }
 {
     let mut block = Block::new();
     block.put(sink, text)?;

@@ -30,11 +30,11 @@ impl<W> WriterSink<W> {
 }
 
 impl<W: Write> Sink for WriterSink<W> {
-    ghost contents = { λ s. W.contents s.inner };
-
-    ghost failures = { λ s. s.failures };
-
-    ghost is_full = { λ s. s.full };
+    ghost state = { λ s. record {
+      contents = W.contents s.inner;
+      failures = s.failures;
+      is_full = s.full;
+    } };
 
     fn write(&mut self, bytes: &[u8]) -> io::Result<usize> {
         let answer = if self.failures == u64::MAX {

@@ -6,7 +6,7 @@ use Rattle.history_text.proofs.printing.print_history.Given as goal
 
 abbrev pub invariant-loop-operation : goal.invariant-loop-operation
 invariant-loop-operation g l = record {
-  sends : Sends (g.W.Sink.contents l.fn.writer) (g.W.Sink.contents l.writer)
+  sends : Sends (g.W.Sink.state l.fn.writer).contents (g.W.Sink.state l.writer).contents
       (header_text (length l.history) ++ flat_map operation_text (take l.operation-index l.history)) l.block;
-  quiet : g.W.Sink.failures l.writer ≡ g.W.Sink.failures l.fn.writer;
+  quiet : (g.W.Sink.state l.writer).failures ≡ (g.W.Sink.state l.fn.writer).failures;
 }

@@ -1,15 +1,16 @@
-use Rattle.std.proofs.Common.{◌≡◌, ◌∙◌}
+use Rattle.std.proofs.Common.{◌∙◌}
 use Rattle.std.proofs.lemmas.Result.{err_from_is_err_and}
+use Rattle.text_io.proofs.Sends.{Puts-refused}
 use Rattle.mail_engine.specs.Posts.{letter_text}
 use Rattle.mail_engine.proofs.Pieces.{more_lines, stops_at_lines}
 use Rattle.mail_engine.proofs.telling.put_letters.Goals as goal
 
-pub returns-in_err-put_letter-clause-beginning : goal.returns-in_err-put_letter-clause-beginning
-returns-in_err-put_letter-clause-beginning g c =
+pub returns-in_err-put_letter : goal.returns-in_err-put_letter
+returns-in_err-put_letter g c =
     let p = err_from_is_err_and c.from_residual.result c.from_residual.ensures.1 in
-    rw p.1
-    (stops_at_lines letter_text c.args.letters.now c.loop-letter.letter-index _ _ _ _ _ _ c.loop-letter-test.true c.loop-letter.invariant.sends
-    c.in_err-put_letter.ensures.beginning)
+    let beginning = stops_at_lines letter_text c.args.letters.now c.loop-letter.letter-index _ _ _ _ _ _ c.loop-letter-test.true
+    c.loop-letter.invariant.sends c.in_err-put_letter.ensures.beginning in
+    rw (p.1, p.2) (Puts-refused _ _ _ c.loop-letter.invariant.quiet _ _ _ _ c.in_err-put_letter.ensures beginning _)
 
 pub loop-letter-preserved : goal.loop-letter-preserved
 loop-letter-preserved g c = record {

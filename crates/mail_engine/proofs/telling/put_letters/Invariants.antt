@@ -6,7 +6,7 @@ use Rattle.mail_engine.proofs.telling.put_letters.Given as goal
 
 abbrev pub invariant-loop-letter : goal.invariant-loop-letter
 invariant-loop-letter g l = record {
-  sends : IsUnderWay (g.W.Sink.contents l.fn.writer) (g.W.Sink.contents l.writer) (l.fn.block ++ flat_map letter_text l.fn.letters)
+  sends : IsUnderWay (g.W.Sink.state l.fn.writer).contents (g.W.Sink.state l.writer).contents (l.fn.block ++ flat_map letter_text l.fn.letters)
       l.block (flat_map letter_text (drop l.letter-index l.letters));
-  quiet : g.W.Sink.failures l.writer ≡ g.W.Sink.failures l.fn.writer;
+  quiet : (g.W.Sink.state l.writer).failures ≡ (g.W.Sink.state l.fn.writer).failures;
 }

@@ -6,8 +6,8 @@ use Rattle.report.proofs.history_tables.put_counts.Given as goal
 
 abbrev pub invariant-loop-kind : goal.invariant-loop-kind
 invariant-loop-kind g l = record {
-  sends : IsUnderWay (g.W.Sink.contents l.fn.writer) (g.W.Sink.contents l.writer)
+  sends : IsUnderWay (g.W.Sink.state l.fn.writer).contents (g.W.Sink.state l.writer).contents
       (l.fn.block ++ flat_map (λ e. count_text e.0 e.1) l.fn.counts.entries) l.block
       (flat_map (λ e. count_text e.0 e.1) l.kind-iterator);
-  quiet : g.W.Sink.failures l.writer ≡ g.W.Sink.failures l.fn.writer;
+  quiet : (g.W.Sink.state l.writer).failures ≡ (g.W.Sink.state l.fn.writer).failures;
 }

@@ -7,8 +7,8 @@ use Rattle.report.proofs.history_tables.put_rows.Given as goal
 
 abbrev pub invariant-loop-at : goal.invariant-loop-at
 invariant-loop-at g l = record {
-  sends : IsUnderWay (g.W.Sink.contents l.fn.writer) (g.W.Sink.contents l.writer)
+  sends : IsUnderWay (g.W.Sink.state l.fn.writer).contents (g.W.Sink.state l.writer).contents
       (l.fn.block ++ flat_map (λ e. row_text e.0 e.1) (map shown l.placed)) l.block
       (flat_map (λ e. row_text e.0 e.1) (map shown (drop l.at-index l.placed)));
-  quiet : g.W.Sink.failures l.writer ≡ g.W.Sink.failures l.fn.writer;
+  quiet : (g.W.Sink.state l.writer).failures ≡ (g.W.Sink.state l.fn.writer).failures;
 }

@@ -7,8 +7,8 @@ use Rattle.report.proofs.result_tables.put_results.Given as goal
 
 abbrev pub invariant-loop-told : goal.invariant-loop-told
 invariant-loop-told g l = record {
-  sends : IsUnderWay (g.W.Sink.contents l.fn.writer) (g.W.Sink.contents l.writer)
+  sends : IsUnderWay (g.W.Sink.state l.fn.writer).contents (g.W.Sink.state l.writer).contents
       (l.fn.block ++ flat_map result_text (map row_of l.results)) l.block
       (flat_map result_text (map row_of (drop l.told-index l.results)));
-  quiet : g.W.Sink.failures l.writer ≡ g.W.Sink.failures l.fn.writer;
+  quiet : (g.W.Sink.state l.writer).failures ≡ (g.W.Sink.state l.fn.writer).failures;
 }

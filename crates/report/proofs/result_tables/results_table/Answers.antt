@@ -6,12 +6,12 @@ use Rattle.report.proofs.result_tables.results_table.Goals as goal
 
 pub returns-clause-ok : goal.returns-clause-ok
 returns-clause-ok g c =
-    subst (λ text. OnOk c.write_results.result (Appends (g.W.Sink.contents c.args.writer.now) (g.W.Sink.contents c.write_results.new.writer) text))
+    subst (λ text. OnOk c.write_results.result (Appends (g.W.Sink.state c.args.writer.now).contents (g.W.Sink.state c.write_results.new.writer).contents text))
     (results-counted c.args.results.now c.in_ok-counts.counts.entries c.in_ok-counts.ensures.ok) c.write_results.ensures.ok
 
 pub returns-clause-beginning : goal.returns-clause-beginning
 returns-clause-beginning g c =
     let beginning =
-    subst (λ text. OnErr c.write_results.result (TakesBeginning (g.W.Sink.contents c.args.writer.now) (g.W.Sink.contents c.write_results.new.writer) text))
+    subst (λ text. OnErr c.write_results.result (TakesBeginning (g.W.Sink.state c.args.writer.now).contents (g.W.Sink.state c.write_results.new.writer).contents text))
     (results-counted c.args.results.now c.in_ok-counts.counts.entries c.in_ok-counts.ensures.ok) c.write_results.ensures.beginning in
     search rules

@@ -4,9 +4,7 @@ use Rattle.run_engine.proofs.streaming.read_rest.Given as goal
 
 abbrev pub invariant-loop : goal.invariant-loop
 invariant-loop g l =
-    IsReadOn l.fn.events l.events
-    (stream l.fn.events.ahead (g.R.Source.remaining l.fn.reader) (g.R.Source.failures l.fn.reader) (g.R.Source.budget l.fn.reader) (g.R.Source.has_ended l.fn.reader))
-    (stream l.events.ahead (g.R.Source.remaining l.reader) (g.R.Source.failures l.reader) (g.R.Source.budget l.reader) (g.R.Source.has_ended l.reader))
+    IsReadOn l.fn.events l.events (stream l.fn.events.ahead (g.R.Source.state l.fn.reader)) (stream l.events.ahead (g.R.Source.state l.reader))
 
 abbrev pub decreases-loop : goal.decreases-loop
 decreases-loop g l = l.events.left

@@ -1,6 +1,5 @@
 use Rattle.std.proofs.lemmas.Result.{err_from_is_err_and}
 use Rattle.schedule_text.proofs.EventStreams.{gave_event, gave_all}
-use Rattle.schedule_text.specs.Streams.{Stream, stream}
 use Rattle.run_engine.proofs.Streamed.{HasMade-started, HasMade-event, ran, stopped_next, stopped_rest, stopped_at}
 use Rattle.run_engine.proofs.streaming.world_of_text.Goals as goal
 
@@ -10,12 +9,9 @@ loop-world-init g c =
 
 pub returns-in_err-event-clause-err : goal.returns-in_err-event-clause-err
 returns-in_err-event-clause-err g c =
-    let r = c.next.new.reader in
-    let next : Stream = stream c.next.new.self.ahead (g.R.Source.remaining r) (g.R.Source.failures r) (g.R.Source.budget r) (g.R.Source.has_ended r) in
     let p = err_from_is_err_and c.from_residual-in_err-event.result c.from_residual-in_err-event.ensures.1 in
     rw (p.1, p.2)
-    (stopped_next (g.R.Source.remaining c.args.reader.now) (g.R.Source.failures c.args.reader.now) (g.R.Source.budget c.args.reader.now)
-    (g.R.Source.has_ended c.args.reader.now) c.loop-world.stream c.next.new.self c.loop-world.world c.loop-world.line _ next _ c.loop-world.invariant
+    (stopped_next (g.R.Source.state c.args.reader.now) c.loop-world.stream c.next.new.self c.loop-world.world c.loop-world.line _ _ _ c.loop-world.invariant
     (c.in_err-event.ensures.next c.loop-world.invariant.read.going))
 
 pub loop-world-preserved : goal.loop-world-preserved
@@ -30,30 +26,24 @@ returns-in_err-read_rest-in-Err g c =
       ok = tt;
       end = tt;
       err =
-          stopped_rest (g.R.Source.remaining c.args.reader.now) (g.R.Source.failures c.args.reader.now) (g.R.Source.budget c.args.reader.now)
-          (g.R.Source.has_ended c.args.reader.now) c.loop-world.stream c.next.new.self c.loop-world.world c.loop-world.line c.in-Some.event _ _
-          c.loop-world.invariant (gave_event _ _ _ _ _ _ c.in-Some.is (c.in_ok-event.ensures.next c.loop-world.invariant.read.going)) _ _ _
-          c.in_err-read_rest-in-Err.ensures.err;
+          stopped_rest (g.R.Source.state c.args.reader.now) c.loop-world.stream c.next.new.self c.loop-world.world c.loop-world.line c.in-Some.event _ _
+          c.loop-world.invariant (gave_event _ _ _ _ _ _ c.in-Some.is (c.in_ok-event.ensures.next c.loop-world.invariant.read.going))
+          (g.R.Source.state c.read_rest.new.reader) c.read_rest.new.events.ahead _ c.in_err-read_rest-in-Err.ensures.err;
     })
 
 pub returns-in-Err : goal.returns-in-Err
 returns-in-Err g c =
-    let r = c.read_rest.new.reader in
-    let new : Stream =
-    stream c.read_rest.new.events.ahead (g.R.Source.remaining r) (g.R.Source.failures r) (g.R.Source.budget r) (g.R.Source.has_ended r) in
     record {
       ok = tt;
       end = tt;
       err =
-          stopped_at (g.R.Source.remaining c.args.reader.now) (g.R.Source.failures c.args.reader.now) (g.R.Source.budget c.args.reader.now)
-          (g.R.Source.has_ended c.args.reader.now) c.loop-world.stream c.next.new.self c.loop-world.world c.loop-world.line c.in-Some.event _ _
-          c.loop-world.invariant (gave_event _ _ _ _ _ _ c.in-Some.is (c.in_ok-event.ensures.next c.loop-world.invariant.read.going)) new
+          stopped_at (g.R.Source.state c.args.reader.now) c.loop-world.stream c.next.new.self c.loop-world.world c.loop-world.line c.in-Some.event _ _
+          c.loop-world.invariant (gave_event _ _ _ _ _ _ c.in-Some.is (c.in_ok-event.ensures.next c.loop-world.invariant.read.going)) _ _
           c.in-Err.refusal c.at.result.refusal c.at.result.line c.in_ok-read_rest-in-Err.ensures.ok c.in-Err.ensures.kind c.in-Err.ensures.refused
           c.at.ensures.refusal c.at.ensures.kind c.at.ensures.line;
     }
 
 pub returns-clause-ok : goal.returns-clause-ok
 returns-clause-ok g c =
-    (ran (g.R.Source.remaining c.args.reader.now) (g.R.Source.failures c.args.reader.now) (g.R.Source.budget c.args.reader.now)
-    (g.R.Source.has_ended c.args.reader.now) c.loop-world.stream c.next.new.self c.loop-world.world c.loop-world.line _ _ c.loop-world.invariant
+    (ran (g.R.Source.state c.args.reader.now) c.loop-world.stream c.next.new.self c.loop-world.world c.loop-world.line _ _ c.loop-world.invariant
     (gave_all _ _ _ _ _ c.in_default.is (c.in_ok-event.ensures.next c.loop-world.invariant.read.going))).0

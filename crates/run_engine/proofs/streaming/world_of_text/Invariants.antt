@@ -5,9 +5,7 @@ use Rattle.run_engine.proofs.streaming.world_of_text.Given as goal
 
 abbrev pub invariant-loop-world : goal.invariant-loop-world
 invariant-loop-world g l =
-    HasMade l.stream l.world l.line
-    (stream [] (g.R.Source.remaining l.fn.reader) (g.R.Source.failures l.fn.reader) (g.R.Source.budget l.fn.reader) (g.R.Source.has_ended l.fn.reader))
-    (stream l.stream.ahead (g.R.Source.remaining l.reader) (g.R.Source.failures l.reader) (g.R.Source.budget l.reader) (g.R.Source.has_ended l.reader))
+    HasMade l.stream l.world l.line (stream [] (g.R.Source.state l.fn.reader)) (stream l.stream.ahead (g.R.Source.state l.reader))
 
 abbrev pub decreases-loop-world : goal.decreases-loop-world
 decreases-loop-world g l = l.stream.left

@@ -6,7 +6,7 @@ use Rattle.schedule_text.proofs.printing.print_lines.Given as goal
 
 abbrev pub invariant-loop-event : goal.invariant-loop-event
 invariant-loop-event g l = record {
-  sends : Sends (g.W.Sink.contents l.fn.writer) (g.W.Sink.contents l.writer)
+  sends : Sends (g.W.Sink.state l.fn.writer).contents (g.W.Sink.state l.writer).contents
       (l.fn.header ++ flat_map event_text (take l.event-index l.events)) l.block;
-  quiet : g.W.Sink.failures l.writer ≡ g.W.Sink.failures l.fn.writer;
+  quiet : (g.W.Sink.state l.writer).failures ≡ (g.W.Sink.state l.fn.writer).failures;
 }

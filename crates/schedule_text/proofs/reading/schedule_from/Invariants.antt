@@ -5,9 +5,7 @@ use Rattle.schedule_text.proofs.reading.schedule_from.Given as goal
 
 abbrev pub invariant-loop-events : goal.invariant-loop-events
 invariant-loop-events g l =
-    HasRead l.stream l.events.items
-    (stream [] (g.R.Source.remaining l.fn.reader) (g.R.Source.failures l.fn.reader) (g.R.Source.budget l.fn.reader) (g.R.Source.has_ended l.fn.reader))
-    (stream l.stream.ahead (g.R.Source.remaining l.reader) (g.R.Source.failures l.reader) (g.R.Source.budget l.reader) (g.R.Source.has_ended l.reader))
+    HasRead l.stream l.events.items (stream [] (g.R.Source.state l.fn.reader)) (stream l.stream.ahead (g.R.Source.state l.reader))
 
 abbrev pub decreases-loop-events : goal.decreases-loop-events
 decreases-loop-events g l = l.stream.left

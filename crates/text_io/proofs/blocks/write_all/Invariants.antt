@@ -4,8 +4,8 @@ use Rattle.text_io.proofs.blocks.write_all.Given as goal
 
 abbrev pub invariant-loop-rest : goal.invariant-loop-rest
 invariant-loop-rest g l = record {
-  sends : Sends (g.W.Sink.contents l.initial.sink) (g.W.Sink.contents l.sink) l.bytes l.rest;
-  quiet : g.W.Sink.failures l.sink ≡ g.W.Sink.failures l.initial.sink;
+  sends : Sends (g.W.Sink.state l.initial.sink).contents (g.W.Sink.state l.sink).contents l.bytes l.rest;
+  quiet : (g.W.Sink.state l.sink).failures ≡ (g.W.Sink.state l.initial.sink).failures;
 }
 
 abbrev pub decreases-loop-rest : goal.decreases-loop-rest

@@ -4,8 +4,8 @@ use Rattle.text_io.proofs.input.read_rest.Given as goal
 abbrev pub invariant-loop : goal.invariant-loop
 invariant-loop g l = record {
   room : 0 < length l.block;
-  calls : g.R.Source.failures l.reader ≡ g.R.Source.failures l.fn.reader;
+  calls : (g.R.Source.state l.reader).failures ≡ (g.R.Source.state l.fn.reader).failures;
 }
 
 abbrev pub decreases-loop : goal.decreases-loop
-decreases-loop g l = g.R.Source.budget l.reader
+decreases-loop g l = (g.R.Source.state l.reader).budget

@@ -5,10 +5,10 @@ use Rattle.text_io.proofs.input.read_to.Given as goal
 abbrev pub invariant-loop-text : goal.invariant-loop-text
 invariant-loop-text g l = record {
   room : 0 < length l.block;
-  gave : AddsGiven (g.R.Source.remaining l.fn.reader) (g.R.Source.remaining l.reader) l.fn.text.items l.text.items;
-  calls : g.R.Source.failures l.reader ≡ g.R.Source.failures l.fn.reader;
-  spent : g.R.Source.budget l.reader ≤ g.R.Source.budget l.fn.reader;
+  gave : AddsGiven (g.R.Source.state l.fn.reader) (g.R.Source.state l.reader) l.fn.text.items l.text.items;
+  calls : (g.R.Source.state l.reader).failures ≡ (g.R.Source.state l.fn.reader).failures;
+  spent : (g.R.Source.state l.reader).budget ≤ (g.R.Source.state l.fn.reader).budget;
 }
 
 abbrev pub decreases-loop-text : goal.decreases-loop-text
-decreases-loop-text g l = g.R.Source.budget l.reader
+decreases-loop-text g l = (g.R.Source.state l.reader).budget

@@ -5,9 +5,7 @@ use Rattle.schedule_text.proofs.ahead.Ahead.next_line.Given as goal
 
 abbrev pub invariant-loop-byte : goal.invariant-loop-byte
 invariant-loop-byte g l =
-    IsInLine l.held
-    (stream l.fn.self (g.R.Source.remaining l.fn.reader) (g.R.Source.failures l.fn.reader) (g.R.Source.budget l.fn.reader) (g.R.Source.has_ended l.fn.reader))
-    (stream l.self (g.R.Source.remaining l.reader) (g.R.Source.failures l.reader) (g.R.Source.budget l.reader) (g.R.Source.has_ended l.reader))
+    IsInLine l.held (stream l.fn.self (g.R.Source.state l.fn.reader)) (stream l.self (g.R.Source.state l.reader))
 
 abbrev pub decreases-loop-byte : goal.decreases-loop-byte
-decreases-loop-byte g l = g.R.Source.budget l.reader + length l.self
+decreases-loop-byte g l = (g.R.Source.state l.reader).budget + length l.self

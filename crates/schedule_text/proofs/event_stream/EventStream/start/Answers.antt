@@ -1,14 +1,14 @@
-use Rattle.std.proofs.Common.{ℕ, List, Option, ap, ◌∙◌, subst}
-use Rattle.std.specs.Io.KnownBytes.{prepend_known}
+use Rattle.std.proofs.Common.{ℕ, List, subst}
 use Rattle.schedule_text.specs.EventStreams.{IsRefused}
+use Rattle.schedule_text.specs.Streams.{stream}
 use Rattle.schedule_text.specs.Texts.{version_due}
-use Rattle.schedule_text.proofs.Streams.{prepend-nothing}
+use Rattle.schedule_text.proofs.EventStreams.{refused_source}
 use Rattle.schedule_text.proofs.event_stream.EventStream.start.Goals as goal
 
 pub returns-in-Err-clause-err : goal.returns-in-Err-clause-err
 returns-in-Err-clause-err g c =
-    let known = g.R.Source.remaining c.args.reader.now in
-    subst (λ (k : Option (List ℕ)). IsRefused 0 version_due k (g.R.Source.failures c.args.reader.now) (g.R.Source.failures c.told.new.reader)
-    (g.R.Source.has_ended c.told.new.reader) c.told.result)
-    (ap (λ (ahead : List ℕ). prepend_known ahead known) c.new-ahead.ensures ∙ prepend-nothing known)
-    (c.told.ensures 0 version_due _ _ c.in-Err.ensures.err)
+    let first = g.R.Source.state c.args.reader.now in
+    let last = stream c.told.new.ahead (g.R.Source.state c.told.new.reader) in
+    refused_source first (g.R.Source.state c.told.new.reader) c.told.new.ahead c.told.result
+    (subst (λ (ahead : List ℕ). IsRefused 0 version_due (stream ahead first) last c.told.result) c.new-ahead.ensures
+    (c.told.ensures 0 version_due (stream c.new-ahead.result first) c.in-Err.ensures.err))
