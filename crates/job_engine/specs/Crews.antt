@@ -2,11 +2,9 @@
 use Rattle.std.specs.Prelude.{◌≡◌, ℕ, ◌+◌, ◌<◌, List, [], ◌∷◌, ◌++◌, length, replicate, Some, slice_get}
 use Rattle.line_table.specs.declared.lines.Kind.{Kind}
 use Rattle.history.specs.Seats.{Permit, Known}
-use Rattle.node_arena.specs.declared.arena.Arena.{Arena}
 use Rattle.node_arena.specs.declared.roles.Role.{Role}
 use Rattle.node_arena.specs.declared.roles.Role.TheVariants.{Giver, Taker}
 use Rattle.node_arena.specs.Plans.{Layout}
-use Rattle.node_arena.specs.Seats.{plan_of}
 use Rattle.node_arena.specs.Making.{plan}
 use Rattle.dispatcher.specs.Workers.{IsTaker, IsGiver}
 
@@ -23,8 +21,3 @@ pub record IsCrew {Q S : Type 0} (is_seat : Q → S → Type 0) (permits : Q →
 -- what a queue is made for that hands out jobs: its kind, so many nodes, the greatest count of all, and the crew's roles
 abbrev pub crew_plan : Kind → (nodes workers : ℕ) → Layout
 crew_plan kind nodes workers = plan kind nodes 1099511627775 (crew_roles workers)
-
--- there are the words of a queue that was made for this plan
-pub record HasQueue (z : Layout) : Type 0 where
-  pub words : Arena
-  pub made : plan_of words ≡ z

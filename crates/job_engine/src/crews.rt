@@ -4,23 +4,21 @@ ghost use Rattle.std.specs.List.{All};
 ghost use Rattle.job_results.specs.Jobs.{job_rows};
 ghost use Rattle.job_results.specs.Results.{row_of};
 ghost use Rattle.dispatcher.specs.Workers.{IsTaker, IsGiver, StopsWorkers};
-ghost use Rattle.node_arena.specs.declared.arena.Arena.{Arena};
-ghost use Rattle.node_arena.specs.Seats.{plan_of};
-ghost use Rattle.two_lock.specs.Queues as two_lock;
-ghost use Rattle.nonblocking.specs.Queues as nonblocking;
-ghost use Rattle.job_engine.specs.Crews.{crew_roles, crew_plan, IsCrew, HasQueue};
+ghost use Rattle.arena_queue.specs.Queues.{HasQueue};
+ghost use Rattle.job_engine.specs.Crews.{crew_roles, crew_plan, IsCrew};
 ghost use Rattle.job_engine.specs.Works.{AreSized};
 
+use arena_queue::{Algorithm, ArenaQueue};
 use dispatcher::{Gate, dispatch};
 use history::{Fifo, Refusal};
 use job_results::{Job, JobResult};
 use line_table::Kind;
 use node_arena::{MOST_COUNT, Role};
-use nonblocking::MsQueue;
+use nonblocking::NonBlockingAlgorithm;
 use std::alloc::Global;
 use std::sync::Wait;
 use std::thread::Threads;
-use two_lock::TwoLockQueue;
+use two_lock::TwoLockAlgorithm;
 
 /// A gate that does nothing.
 #[derive(Drop)]
@@ -30,20 +28,6 @@ impl Gate for Open {
     fn before(&self, _number: u64) {}
 
     fn after(&self, _number: u64) {}
-}
-
-/// A queue on shared words.
-trait OnWords: Fifo {
-    // The words.
-    ghost words: { Self → Arena };
-}
-
-impl OnWords for TwoLockQueue {
-    ghost words = { two_lock.arena_of };
-}
-
-impl OnWords for MsQueue {
-    ghost words = { nonblocking.arena_of };
 }
 
 /// The results of jobs, in their order, by so many workers over a queue of this kind and with so many nodes.
@@ -63,16 +47,11 @@ pub(crate) fn results_by<'a, R: Threads + Wait + Sync>(
     ensures over { OnOk result (HasQueue (crew_plan kind nodes workers)) }
     ensures why { IfErr result StopsWorkers }
 {
-    let roles = roles_of(alloc, workers)?;
     match kind {
-        Kind::TwoLock => {
-            let (queue, seats) = TwoLockQueue::new(alloc, nodes, MOST_COUNT, &roles)?;
-            results_over(rt, alloc, &queue, workers, kind, nodes, seats, jobs)
-        }
-        Kind::NonBlocking => {
-            let (queue, seats) = MsQueue::new(alloc, nodes, MOST_COUNT, &roles)?;
-            results_over(rt, alloc, &queue, workers, kind, nodes, seats, jobs)
-        }
+        Kind::TwoLock => results_over::<TwoLockAlgorithm, R>(rt, alloc, workers, nodes, jobs),
+        Kind::NonBlocking => results_over::<NonBlockingAlgorithm, R>(
+            rt, alloc, workers, nodes, jobs,
+        ),
     }
 }
 
@@ -90,33 +69,48 @@ fn roles_of(alloc: Global, workers: u32) -> Result<Vec<Role>, Refusal>
     }
 }
 
+// The results of jobs over a new queue of this algorithm, whose last seat is the submitter's.
+fn results_over<'a, A: Algorithm + Sync, R: Threads + Wait + Sync>(
+    rt: &R,
+    alloc: Global,
+    workers: u32,
+    nodes: u32,
+    jobs: &'a [Job],
+) -> Result<Vec<JobResult<'a>>, Refusal>
+    requires sizes { AreSized workers nodes }
+    requires few { length jobs.now ≤ 1000000 }
+    ensures rows { IfOk result (λ results. map row_of results.items ≡ job_rows 1 jobs.now) }
+    ensures over { OnOk result (HasQueue (crew_plan A.kind nodes workers)) }
+    ensures why { IfErr result StopsWorkers }
+{
+    let roles = roles_of(alloc, workers)?;
+    let (queue, seats) = ArenaQueue::<A>::new(alloc, nodes, MOST_COUNT, &roles)?;
+    results_with(rt, alloc, &queue, workers, seats, jobs)
+}
+
 // The results of jobs over any queue, by a worker for each of its seats but the last, which is the submitter's.
-fn results_over<'a, R: Threads + Wait + Sync, Q: OnWords + Sync>(
+fn results_with<'a, R: Threads + Wait + Sync, Q: Fifo + Sync>(
     rt: &R,
     alloc: Global,
     queue: &Q,
     workers: u32,
-    kind: Kind,
-    nodes: u32,
     mut seats: Vec<Q::Seat>,
     jobs: &'a [Job],
 ) -> Result<Vec<JobResult<'a>>, Refusal>
     requires some { 1 ≤ workers }
-    requires made { plan_of (Q.words queue.now) ≡ crew_plan kind nodes workers }
     requires crew { IsCrew Q.is_seat Q.permits Q.known queue.now workers seats.items }
     requires few { length jobs.now ≤ 1000000 }
     ensures rows { IfOk result (λ results. map row_of results.items ≡ job_rows 1 jobs.now) }
-    ensures over { OnOk result (HasQueue (crew_plan kind nodes workers)) }
     ensures why { IfErr result StopsWorkers }
 {
     let Some(giver) = seats.pop() else {
         unreachable!()
     };
-    results_with(rt, alloc, queue, workers, giver, seats, jobs)
+    submit(rt, alloc, queue, workers, giver, seats, jobs)
 }
 
 // The results of jobs by so many workers, each with one of these seats; the giver submits the jobs.
-fn results_with<'a, R: Threads + Wait + Sync, Q: Fifo + Sync>(
+fn submit<'a, R: Threads + Wait + Sync, Q: Fifo + Sync>(
     rt: &R,
     alloc: Global,
     queue: &Q,

@@ -2,7 +2,8 @@
 ghost use Rattle.std.specs.Prelude.{◌≡◌, ◌≢◌, ◌↔◌, IfErr, IfOk, OnOk, IsTrue, Err};
 ghost use Rattle.text_io.specs.Blocks.{GivesUp};
 ghost use Rattle.text_io.specs.Readings.{EndsReadingFor};
-ghost use Rattle.job_engine.specs.Crews.{crew_plan, HasQueue};
+ghost use Rattle.arena_queue.specs.Queues.{HasQueue};
+ghost use Rattle.job_engine.specs.Crews.{crew_plan};
 ghost use Rattle.job_engine.specs.Works.{AreSized, IsBadSize, IsTextOf, WritesResults, BeginsResults, TellsOfText, IsReadingRefusal, IsWorkRefusal, EndsReadingOrUnread};
 
 use crate::crews::results_by;

@@ -1,13 +1,15 @@
 //! The queues that letters go over.
 use history::Refusal;
 use line_table::Kind;
-use mail_engine::{non_blocking_seats, two_lock_seats};
+use mail_engine::mail_queue;
 use node_arena::{MOST_COUNT, MOST_NODE};
+use nonblocking::NonBlockingAlgorithm;
 use numbered_letters::{Came, Load, posted};
 use std::alloc::Global;
 use std::rt::Clock;
 use std::sync::Wait;
 use std::thread::Threads;
+use two_lock::TwoLockAlgorithm;
 
 /// Both queues, by their names on the command line.
 pub const KINDS: [(&str, Kind); 2] = [
@@ -49,11 +51,15 @@ pub fn came<R: Threads + Wait + Clock + Sync>(
     let nodes = nodes_for(senders, load);
     match kind {
         Kind::TwoLock => {
-            let (queue, seats, receiver) = two_lock_seats(alloc, nodes, MOST_COUNT, senders)?;
+            let (queue, seats, receiver) = mail_queue::<TwoLockAlgorithm>(
+                alloc, nodes, MOST_COUNT, senders,
+            )?;
             posted(rt, alloc, queue, seats, receiver, load)
         }
         Kind::NonBlocking => {
-            let (queue, seats, receiver) = non_blocking_seats(alloc, nodes, MOST_COUNT, senders)?;
+            let (queue, seats, receiver) = mail_queue::<NonBlockingAlgorithm>(
+                alloc, nodes, MOST_COUNT, senders,
+            )?;
             posted(rt, alloc, queue, seats, receiver, load)
         }
     }

@@ -2,12 +2,11 @@
 ghost use Rattle.std.specs.Prelude.{IfOk};
 ghost use Rattle.std.specs.List.{All};
 
+use arena_queue::{Algorithm, ArenaQueue};
 use history::{Fifo, Refusal};
 use line_table::Kind;
 use node_arena::{Held, Role, Seat};
-use nonblocking::MsQueue;
 use std::alloc::Global;
-use two_lock::TwoLockQueue;
 
 /// Both seats may push and pop.
 const ROLES: [Role; 2] = [Role::Both; 2];
@@ -28,34 +27,13 @@ pub trait Watched: Fifo {
     fn pocket(seat: &Self::Seat) -> Option<Held>;
 }
 
-impl Watched for TwoLockQueue {
+impl<A: Algorithm> Watched for ArenaQueue<A> {
     fn kind() -> Kind {
-        Kind::TwoLock
+        A::kind()
     }
 
-    fn made(alloc: Global, nodes: u32, limit: u64) -> Result<(TwoLockQueue, Vec<Seat>), Refusal> {
-        match TwoLockQueue::new(alloc, nodes, limit, &ROLES) {
-            Ok(made) => Ok(made),
-            Err(why) => Err(why),
-        }
-    }
-
-    fn peek(&self, word: usize) -> Option<u64> {
-        self.peek(word)
-    }
-
-    fn pocket(seat: &Seat) -> Option<Held> {
-        seat.pocket()
-    }
-}
-
-impl Watched for MsQueue {
-    fn kind() -> Kind {
-        Kind::NonBlocking
-    }
-
-    fn made(alloc: Global, nodes: u32, limit: u64) -> Result<(MsQueue, Vec<Seat>), Refusal> {
-        match MsQueue::new(alloc, nodes, limit, &ROLES) {
+    fn made(alloc: Global, nodes: u32, limit: u64) -> Result<(ArenaQueue<A>, Vec<Seat>), Refusal> {
+        match ArenaQueue::<A>::new(alloc, nodes, limit, &ROLES) {
             Ok(made) => Ok(made),
             Err(why) => Err(why),
         }

@@ -1,7 +1,6 @@
 -- The letters that were brought are those that were said.
 use Rattle.std.proofs.Common.{◌≡◌, ◌∙◌, ◌+◌, ◌-◌, ◌<◌, refl, sym, ap, subst, ℕ, Bool, true, false, cond, nat_eq, List, [], ◌∷◌, length, map, get_or, arith}
 use Rattle.std.specs.Prelude.{string_bytes}
-use Rattle.std.specs.List.{filter}
 use Rattle.std.proofs.lemmas.List.{get_or-map, length-map}
 use Rattle.text_lines.specs.Numerals.{IsWithin}
 use Rattle.mail_text.specs.declared.letters.Outgoing.{Outgoing}

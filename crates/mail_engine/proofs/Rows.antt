@@ -1,5 +1,5 @@
 -- The seats of a queue whose last seat receives and whose other seats send.
-use Rattle.std.proofs.Common.{◌≡◌, ◌∙◌, ◌+◌, ◌-◌, ◌<◌, ◌≤◌, refl, sym, ap, subst, ℕ, zero, suc, true, false, IsTrue, List, [], ◌∷◌, ◌++◌, length, map, replicate, Option, Some, None, get_or, arith, length-append}
+use Rattle.std.proofs.Common.{◌≡◌, ◌∙◌, ◌+◌, ◌-◌, ◌<◌, refl, sym, ap, subst, ℕ, zero, suc, IsTrue, List, [], ◌∷◌, ◌++◌, length, map, replicate, Option, Some, None, get_or, arith, length-append}
 use Rattle.std.specs.Prelude.{slice_get, IsSomeAnd}
 use Rattle.std.specs.List.{All}
 use Rattle.std.proofs.lemmas.Bool.{false≢true}
@@ -8,10 +8,8 @@ use Rattle.std.proofs.Math.Seq.{get_or-append_seam}
 use Rattle.std.proofs.lemmas.Option.{slice_get-map, slice_get-get_or}
 use Rattle.history.specs.Seats.{Permit, Known, MayPush, MayPop}
 use Rattle.history.specs.Values.{OnlyPops}
-use Rattle.history.specs.Openings.{AreNew, newcomer}
+use Rattle.history.specs.Openings.{AreNew}
 use Rattle.mailbox.specs.Openings.{CanSend, CanReceive}
-use Rattle.node_arena.specs.declared.roles.Role.{Role}
-use Rattle.node_arena.specs.declared.roles.Role.TheVariants.{Giver, Taker}
 use Rattle.node_arena.specs.Plans.{permits_by}
 use Rattle.mail_engine.specs.Rows.{giver, taker, givers_and_taker, giver_and_taker_roles, IsOpened}
 

@@ -1,5 +1,5 @@
 -- The tasks of the senders of an office.
-use Rattle.std.proofs.Common.{◌≡◌, ◌<◌, sym, subst, ℕ, List, map, length}
+use Rattle.std.proofs.Common.{◌≡◌, ◌<◌, sym, subst, List, map}
 use Rattle.std.proofs.lemmas.List.{get_or-map, length-map}
 use Rattle.std.specs.List.{All}
 use Rattle.history.specs.Seats.{Permit, Known}

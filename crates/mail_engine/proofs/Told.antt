@@ -8,7 +8,8 @@ use Rattle.mailbox.specs.declared.receiver.Letter.{Letter}
 use Rattle.mailbox.specs.Posting.{texts_of}
 use Rattle.text_io.specs.Devices.{SinkState}
 use Rattle.mail_engine.specs.Posts.{said_by, AreBySender, AreTaken, WritesLetters, BeginsLetters}
-use Rattle.mail_engine.specs.Rows.{mail_plan, HasQueue}
+use Rattle.arena_queue.specs.Queues.{HasQueue}
+use Rattle.mail_engine.specs.Rows.{mail_plan}
 
 module _ (kind : Kind) (senders : ℕ) (letters : List SaidLetter) (taken : List Letter) (few : length taken ≡ length letters) (from : All (λ (l : Letter). IsWithin 1 senders l.from) taken) (texts : (sender : ℕ) → IsWithin 1 senders sender → texts_of sender taken ≡ said_by sender letters) (over : HasQueue (mail_plan kind (length letters) senders)) (a b : SinkState) where
   -- the text of letters that were taken is written

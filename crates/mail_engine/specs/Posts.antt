@@ -14,7 +14,8 @@ use Rattle.mail_text.specs.MailTexts.{SaidLetter, mail_text, IsMailInRange, IsFi
 use Rattle.mailbox.specs.declared.receiver.Letter.{Letter}
 use Rattle.mailbox.specs.Posting.{texts_of}
 use Rattle.text_io.specs.Readings.{WereAll}
-use Rattle.mail_engine.specs.Rows.{mail_plan, HasQueue}
+use Rattle.arena_queue.specs.Queues.{HasQueue}
+use Rattle.mail_engine.specs.Rows.{mail_plan}
 
 -- the line that says how many letters there are
 unfoldable pub count_text : ℕ → List ℕ

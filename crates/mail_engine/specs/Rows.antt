@@ -8,9 +8,7 @@ use Rattle.history.specs.Seats.{Permit, Known}
 use Rattle.history.specs.Openings.{AreNew}
 use Rattle.node_arena.specs.declared.roles.Role.{Role}
 use Rattle.node_arena.specs.declared.roles.Role.TheVariants.{Giver, Taker}
-use Rattle.node_arena.specs.declared.arena.Arena.{Arena}
 use Rattle.node_arena.specs.Plans.{Layout}
-use Rattle.node_arena.specs.Seats.{plan_of}
 use Rattle.node_arena.specs.Making.{plan, NewRefused}
 use Rattle.mailbox.specs.Openings.{CanSend, CanReceive}
 
@@ -42,11 +40,6 @@ pub record IsOpened {Q S : Type 0} (is_seat : Q → S → Type 0) (permits : Q �
 -- and two more, the greatest count of all, and the roles of the senders and their receiver
 abbrev pub mail_plan : Kind → (letters senders : ℕ) → Layout
 mail_plan kind letters senders = plan kind (letters + senders + 2) 1099511627775 (giver_and_taker_roles senders)
-
--- there are the words of a queue that was made for this plan
-pub record HasQueue (z : Layout) : Type 0 where
-  pub words : Arena
-  pub made : plan_of words ≡ z
 
 -- a new queue is refused for this cause: a size is out of its range, or there was no memory
 abbrev pub OpenRefused : Layout → Refusal → Type 0

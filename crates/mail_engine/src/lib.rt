@@ -7,5 +7,5 @@ mod sharing;
 mod telling;
 mod texts;
 
-pub use opening::{non_blocking_seats, two_lock_seats};
+pub use opening::mail_queue;
 pub use posting::post_text;

@@ -3,23 +3,26 @@ ghost use Rattle.std.specs.Prelude.{◌≡◌, ◌≢◌, length, IfErr, IfOk, O
 ghost use Rattle.text_io.specs.Blocks.{GivesUp};
 ghost use Rattle.mail_text.specs.MailTexts.{said_letters, IsMailInRange};
 ghost use Rattle.text_io.specs.Readings.{EndsReadingFor};
-ghost use Rattle.node_arena.specs.Seats.{plan_of};
+ghost use Rattle.arena_queue.specs.Queues.{HasQueue};
 ghost use Rattle.mail_engine.specs.Rows.{mail_plan, IsOpened};
 ghost use Rattle.mail_engine.specs.Posts.{IsTextOf, ArePosted, AreTaken, WritesLetters, BeginsLetters, TellsOfText, IsReadingRefusal, IsSendingRefusal, IsPostRefusal};
 
-use crate::opening::{OnWords, non_blocking_seats, two_lock_seats};
+use crate::opening::mail_queue;
 use crate::sharing::tasks_of;
 use crate::telling::tell;
 use crate::texts::MailTexts;
-use history::Refusal;
+use arena_queue::Algorithm;
+use history::{Fifo, Refusal};
 use line_table::Kind;
 use mail_text::Mail;
 use mailbox::{Office, post};
 use node_arena::MOST_COUNT;
+use nonblocking::NonBlockingAlgorithm;
 use std::alloc::Global;
 use std::sync::Wait;
 use std::thread::Threads;
 use text_io::{Sink, Source, parse_source};
+use two_lock::TwoLockAlgorithm;
 
 /// How many nodes more than letters and senders there are.
 const SPARE_NODES: u32 = 2;
@@ -92,22 +95,39 @@ fn post_mail<T: Threads + Wait + Sync, W: Sink>(
     ensures unwritten { IfErr result (λ why. why ≢ Refusal.Write → writer.new ≡ writer.old) }
     ensures refusal { IfErr result IsSendingRefusal }
 {
-    let senders = mail.senders;
-    let nodes = mail.letters.len() as u32 + u32::from(senders) + SPARE_NODES;
     match kind {
-        Kind::TwoLock => {
-            let (queue, seats, receiver) = two_lock_seats(alloc, nodes, MOST_COUNT, senders)?;
-            post_over(rt, alloc, kind, queue, seats, receiver, mail, writer)
-        }
-        Kind::NonBlocking => {
-            let (queue, seats, receiver) = non_blocking_seats(alloc, nodes, MOST_COUNT, senders)?;
-            post_over(rt, alloc, kind, queue, seats, receiver, mail, writer)
-        }
+        Kind::TwoLock => post_by::<TwoLockAlgorithm, T, W>(rt, alloc, mail, writer),
+        Kind::NonBlocking => post_by::<NonBlockingAlgorithm, T, W>(rt, alloc, mail, writer),
     }
 }
 
+// Sends letters over a queue of this algorithm, and writes those taken.
+fn post_by<A: Algorithm + Sync + Drop, T: Threads + Wait + Sync, W: Sink>(
+    rt: &T,
+    alloc: Global,
+    mail: Mail,
+    writer: &mut W,
+) -> Result<(), Refusal>
+    requires { IsMailInRange mail.senders (said_letters mail.letters.items) }
+    ensures ok { OnOk result (WritesLetters (AreTaken A.kind mail.senders (said_letters mail.letters.items))
+        (W.state writer.old) (W.state writer.new)) }
+    ensures quiet { OnOk result ((W.state writer.new).failures ≡ (W.state writer.old).failures) }
+    ensures beginning { IfErr result (λ why. why ≡ Refusal.Write
+        → BeginsLetters (AreTaken A.kind mail.senders (said_letters mail.letters.items))
+        (W.state writer.old) (W.state writer.new)) }
+    ensures write { IfErr result (λ why. why ≡ Refusal.Write
+        → GivesUp (W.state writer.old) (W.state writer.new)) }
+    ensures unwritten { IfErr result (λ why. why ≢ Refusal.Write → writer.new ≡ writer.old) }
+    ensures refusal { IfErr result IsSendingRefusal }
+{
+    let senders = mail.senders;
+    let nodes = mail.letters.len() as u32 + u32::from(senders) + SPARE_NODES;
+    let (queue, seats, receiver) = mail_queue::<A>(alloc, nodes, MOST_COUNT, senders)?;
+    post_over(rt, alloc, A::kind(), queue, seats, receiver, mail, writer)
+}
+
 // Sends letters over a new queue with these seats, and writes those taken.
-fn post_over<T: Threads + Wait + Sync, Q: OnWords + Sync + Drop, W: Sink>(
+fn post_over<T: Threads + Wait + Sync, Q: Fifo + Sync + Drop, W: Sink>(
     rt: &T,
     alloc: Global,
     kind: Kind,
@@ -119,8 +139,7 @@ fn post_over<T: Threads + Wait + Sync, Q: OnWords + Sync + Drop, W: Sink>(
 ) -> Result<(), Refusal>
     requires mail { IsMailInRange mail.senders (said_letters mail.letters.items) }
     requires opened { IsOpened Q.is_seat Q.permits Q.known mail.senders queue seats.items receiver }
-    requires made { plan_of (Q.words queue)
-        ≡ mail_plan kind (length (said_letters mail.letters.items)) mail.senders }
+    requires over { HasQueue (mail_plan kind (length (said_letters mail.letters.items)) mail.senders) }
     ensures ok { OnOk result (WritesLetters (AreTaken kind mail.senders (said_letters mail.letters.items))
         (W.state writer.old) (W.state writer.new)) }
     ensures quiet { OnOk result ((W.state writer.new).failures ≡ (W.state writer.old).failures) }

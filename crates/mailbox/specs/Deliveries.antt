@@ -1,5 +1,5 @@
 -- What was sent and what was taken, by sender.
-use Rattle.std.specs.Prelude.{◌≡◌, ℕ, List, map, nat_eq}
+use Rattle.std.specs.Prelude.{ℕ, List, map, nat_eq}
 use Rattle.std.specs.List.{filter}
 use mathlib.Core.List.{IsPrefix}
 use Rattle.history.specs.declared.operations.Entry.{Entry}

@@ -2,9 +2,7 @@ pub mod PushSteps
 pub mod PushStands
 pub mod PushTurns
 pub mod PushTries
-pub mod Pushes
 pub mod PopSteps
 pub mod PopStands
 pub mod PopTurns
 pub mod Pops
-pub mod Queues

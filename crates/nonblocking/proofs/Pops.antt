@@ -1,74 +1,28 @@
 -- Pops: turns one after another, and what they answer.
-use Rattle.std.proofs.Common.{◌≡◌, ℕ, zero, suc, ◌+◌, ◌-◌, ◌<◌, ◌≤◌, List, [], ◌++◌, Option, Some, None, Result, Ok, Err, IfOk, IfErr, OnOk, sym, refl, ap, subst, ◌∙◌, arith, add-one, append_assoc, ⊎_elim, inl, inr}
+use Rattle.std.proofs.Common.{◌≡◌, ℕ, zero, suc, ◌+◌, ◌-◌, ◌<◌, ◌≤◌, [], ◌++◌, Option, Some, None, Result, Ok, Err, sym, refl, ap, subst, ◌∙◌, arith, add-one}
 use Rattle.line_table.specs.declared.lines.Line.TheVariants.{D2, F1}
-use Rattle.history.specs.declared.operations.Entry.TheVariants.{Pop}
 use Rattle.history.specs.declared.operations.Op.TheVariants.{Deq}
 use Rattle.history.specs.declared.operations.Taken.{Taken}
 use Rattle.history.specs.declared.refusals.Refusal.{Refusal}
-use Rattle.history.specs.declared.refusals.Refusal.TheVariants.{WornOut, Busy}
-use Rattle.history.specs.declared.refusals.WornWord.TheVariants.{Free as OfFree, Next as OfNext, Tail as OfTail, Head as OfHead}
-use Rattle.history.specs.Answers.{PopAnswers}
-use Rattle.history.proofs.Learning.{answers_then}
+use Rattle.history.specs.declared.refusals.Refusal.TheVariants.{Busy}
+use Rattle.history.specs.declared.refusals.WornWord.TheVariants.{Tail as OfTail}
 use Rattle.node_arena.specs.Machine.{Held, Actor, dequeues, from_pocket}
 use Rattle.node_arena.specs.Prologues.{continues, at_rest, out_of}
-use Rattle.node_arena.specs.Traces.{Event}
 use Rattle.node_arena.specs.declared.arena.Arena.{Arena}
 use Rattle.node_arena.specs.declared.seats.Seat.{Seat}
-use Rattle.node_arena.specs.Seats.{IsReady, KeepsName, view, known_of, keeping, pocket_of, failed_of}
+use Rattle.node_arena.specs.Seats.{IsReady, view, keeping, pocket_of}
 use Rattle.node_arena.specs.Turns.{failed_turns}
-use Rattle.node_arena.specs.Paths.{ExtendsPath, Acts, HadNoEffect, added}
+use Rattle.node_arena.specs.Paths.{ExtendsPath, added}
 use Rattle.free_list.specs.Gives.{GiveAnswers}
 use Rattle.node_arena.proofs.Known.{empty_before}
-use Rattle.node_arena.proofs.Paths.{no_walk, walk_then, act_then, then_stored, sees_on, added_is, added_path, last_held, ends_failed, met_behind, failed-append, failed_behind, kept_seat}
+use Rattle.node_arena.proofs.Paths.{no_walk, walk_then, then_stored, added_is, ends_failed, failed-append, failed_behind, kept_seat}
+use Rattle.arena_queue.specs.Answers.{Draws}
+use Rattle.arena_queue.proofs.Pops.{draws_late, draws_worn, draws_taken, draws_empty}
 use Rattle.nonblocking.specs.Values.{IsNonBlocking}
 use Rattle.node_arena.specs.Machine.{value_of}
 use Rattle.nonblocking.specs.declared.pop_outcomes.Turn.TheVariants as turn
-use Rattle.nonblocking.specs.Pops.{Turns, Trying, EmptiesPocket, FreesItsNode, DrawRefused, Draws, AnswersPop}
-
--- lines before a pop, with so many failed turns
-module _ (r : Arena) (s u x : Seat) (es : List Event) (w : ExtendsPath (view s) (view u) es) (spent before turns : ℕ) (more : before ≡ spent + failed_turns es) where
-  late : (path : (view x).path ≡ (view u).path ++ added u x) → added s x ≡ es ++ added u x
-  late path = added_path s x (es ++ added u x) (path ∙ ap (λ p. p ++ added u x) w.path ∙ append_assoc (view s).path es (added u x))
-
-  late_cause : (e : added s x ≡ es ++ added u x) (why : Refusal) → DrawRefused r u x before turns why → DrawRefused r s x spent turns why
-  late_cause e Busy f = (
-    (let c = ap failed_turns e in let n = f.0 in omega (arith, failed-append es (added u x), c, n, more)),
-    ends_failed s x (es ++ added u x) e (failed_behind es (added u x) f.1),
-  )
-  late_cause e (WornOut OfTail) f = met_behind r s u x es (WornOut OfTail) w e f
-  late_cause e (WornOut OfFree) f = absurd f
-  late_cause e (WornOut OfNext) f = absurd f
-  late_cause e (WornOut OfHead) f = absurd f
-  late_cause e _ f = absurd f
-
-  pub draws_late : (out : Result (Option Taken) Refusal) → KeepsName s u → Draws r u x before turns out → Draws r s x spent turns out
-  draws_late out name d =
-      let e = late d.path in
-      record {
-        ready = d.ready;
-        same = record { number = d.same.number ∙ name.number; role = d.same.role ∙ name.role };
-        path = d.path ∙ ap (λ p. p ++ added u x) w.path ∙ append_assoc (view s).path es (added u x) ∙ ap (λ p. (view s).path ++ p) (sym e);
-        answer = answered out d;
-        few = fewer out e d;
-        freed = freed_of out e d;
-        refused = refused_by out e d;
-      }
-    where
-      answered : (o : Result (Option Taken) Refusal) → Draws r u x before turns o → IfOk o (λ v. PopAnswers (known_of s) v (known_of x))
-      answered (Ok v) d = answers_then (known_of s) (known_of u) (known_of x) v (sees_on (view s) (view u) es w) d.answer
-      answered (Err why) d = tt
-
-      fewer : (o : Result (Option Taken) Refusal) → added s x ≡ es ++ added u x → Draws r u x before turns o → OnOk o (spent + failed_turns (added s x) ≤ turns)
-      fewer (Ok v) e d = let c = ap failed_turns e in let n = d.few in omega (arith, failed-append es (added u x), c, n, more)
-      fewer (Err why) e d = tt
-
-      freed_of : (o : Result (Option Taken) Refusal) → added s x ≡ es ++ added u x → Draws r u x before turns o → OnOk o (EmptiesPocket s x spent turns)
-      freed_of (Ok v) e d = ⊎_elim (λ none. inl none) (λ all. inr (let c = ap failed_turns e in omega (arith, failed-append es (added u x), c, all, more))) d.freed
-      freed_of (Err why) e d = tt
-
-      refused_by : (o : Result (Option Taken) Refusal) → added s x ≡ es ++ added u x → Draws r u x before turns o → IfErr o (λ why. HadNoEffect s x × DrawRefused r s x spent turns why)
-      refused_by (Ok v) e d = tt
-      refused_by (Err why) e d = (subst (ExtendsPath (view s) (view x)) (sym e) (walk_then (view s) (view u) (view x) es (added u x) w d.refused.0), late_cause e why d.refused.1)
+use Rattle.nonblocking.specs.Pops.{Turns, Trying}
+use Rattle.nonblocking.specs.Worn.{pop_worn}
 
 -- an actor that begins a pop with this pocket
 abbrev set_out : Arena → Seat → Option Held → Actor
@@ -100,11 +54,11 @@ module _ (r : Arena) (s t x : Seat) (n : ℕ) (g : Trying r s t n) where
       }
 
   -- a turn ended the pop
-  pub pop_ends : (spent turns : ℕ) (o : Result (Option Taken) Refusal) → Draws r t x (spent + n) turns o → Draws r s x spent turns o
-  pop_ends spent turns o d = draws_late r s t x g.lines g.walks spent (spent + n) turns (omega (arith, g.failed)) o (record { number = g.stored.number; role = g.stored.role }) d
+  pub pop_ends : (spent turns : ℕ) (o : Result (Option Taken) Refusal) → Draws pop_worn r t x (spent + n) turns o → Draws pop_worn r s x spent turns o
+  pop_ends spent turns o d = draws_late pop_worn r s t x g.lines g.walks spent (spent + n) turns (omega (arith, g.failed)) o (record { number = g.stored.number; role = g.stored.role }) d
 
 -- all turns failed
-pub pop_gives_up : (r : Arena) (s t : Seat) (spent turns n : ℕ) → 1 ≤ n → spent + n ≡ turns → Trying r s t n → Draws r s (keeping t None turns) spent turns (Err Busy)
+pub pop_gives_up : (r : Arena) (s t : Seat) (spent turns n : ℕ) → 1 ≤ n → spent + n ≡ turns → Trying r s t n → Draws pop_worn r s (keeping t None turns) spent turns (Err Busy)
 pop_gives_up r s t spent turns zero some all g = absurd (omega arith)
 pop_gives_up r s t spent turns (suc m) some all g =
     let e : added s t ≡ g.lines = added_is s t g.lines g.walks in
@@ -122,86 +76,13 @@ pop_gives_up r s t spent turns (suc m) some all g =
       );
     }
 
--- Tail was found worn out
-pub pop_worn : (r : Arena) (s t : Seat) (why : Refusal) (failed turns : ℕ) → Turns r s t (turn.Refused why) → Draws r s (keeping t None failed) failed turns (Err why)
-pop_worn r s t why failed turns f =
-    let k = f.turned in
-    let e : added s t ≡ f.lines = added_is s t f.lines k.walks in
-    let rest : at_rest (view t).actor ≡ (view t).actor = ap (out_of (view t).actor) k.over in
-    record {
-      ready = record { seat = kept_seat r t None failed f.seat; free = ap (λ b. b.line) rest ∙ k.over; pocket = sym (ap (λ b. b.pocket) rest ∙ f.empty) };
-      same = record { number = f.stored.number; role = f.stored.role };
-      path = k.walks.path ∙ ap (λ p. (view s).path ++ p) (sym e);
-      answer = tt;
-      few = tt;
-      freed = tt;
-      refused = (
-        subst (ExtendsPath (view s) (view t)) (sym e) k.walks,
-        subst (DrawRefused r s (keeping t None failed) failed turns) (sym k.is) (last_held r s (keeping t None failed) f.lines _ e k.cause),
-      );
-    }
+-- a turn ended the pop
+module _ (r : Arena) (s t : Seat) (failed turns : ℕ) where
+  pub pop_worn_out : (why : Refusal) → Turns r s t (turn.Refused why) → Draws pop_worn r s (keeping t None failed) failed turns (Err why)
+  pop_worn_out why f = let k = f.turned in draws_worn pop_worn r s t why OfTail failed turns f.lines f.seat k.over f.empty f.stored k.walks k.is k.cause tt
 
--- the node that comes free is given back, or stays in the pocket
-pub pop_took : (r : Arena) (s t x : Seat) (word : ℕ) (h : Held) (failed turns : ℕ) (out : Result (Unit {0}) Refusal) → failed < turns → Turns r s t (turn.Took word h) → GiveAnswers r (keeping t (Some h) failed) x (turns - failed) out → Draws r s x failed turns (Ok (Some (value_of word)))
-pop_took r s t x word h failed turns out less f g =
-    let acts : Acts (view s) (view x) (Pop (view s).number (value_of word)) (f.lines ++ added t x) = act_then (view s) (view t) (view x) (Pop (view s).number (value_of word)) f.lines (added t x) f.turned.acts (record { walks = g.lines; same = g.seen }) in
-    let e : added s x ≡ f.lines ++ added t x = added_path s x (f.lines ++ added t x) acts.path in
-    let all : failed_turns (added s x) ≡ failed_turns (added t x) = (let c = ap failed_turns e in let z = f.turned.never in omega (arith, failed-append f.lines (added t x), z, c)) in
-    let most : failed_turns (added t x) ≤ turns - failed = spends out g in
-    record {
-      ready = g.ready;
-      same = record { number = g.same.number ∙ f.stored.number; role = g.same.role ∙ f.stored.role };
-      path = acts.path ∙ ap (λ p. (view s).path ++ p) (sym e);
-      answer = acts.adds;
-      few = omega (arith, all, most, less);
-      freed = gave out all g;
-      refused = tt;
-    }
-  where
-    gave : (o : Result (Unit {0}) Refusal) → failed_turns (added s x) ≡ failed_turns (added t x) → GiveAnswers r (keeping t (Some h) failed) x (turns - failed) o → EmptiesPocket s x failed turns
-    gave (Ok u) all g = inl g.pocket
-    gave (Err why) all g = inr (let n : failed_turns (added t x) ≡ turns - failed = g.refused.1 in omega (arith, all, n, less))
+  pub pop_took : (x : Seat) (word : ℕ) (h : Held) (out : Result (Unit {0}) Refusal) → failed < turns → Turns r s t (turn.Took word h) → GiveAnswers r (keeping t (Some h) failed) x (turns - failed) out → Draws pop_worn r s x failed turns (Ok (Some (value_of word)))
+  pop_took x word h out less f g = draws_taken pop_worn r s t x word h failed turns out f.lines less f.stored f.turned.acts f.turned.never g
 
-    spends : (o : Result (Unit {0}) Refusal) → GiveAnswers r (keeping t (Some h) failed) x (turns - failed) o → failed_turns (added t x) ≤ turns - failed
-    spends (Ok u) g = let n : failed_of x ≡ failed_turns (added t x) = g.failed in let k = g.fewer in omega arith
-    spends (Err why) g = let n : failed_turns (added t x) ≡ turns - failed = g.refused.1 in omega arith
-
--- the queue was found empty
-pub pop_empty : (r : Arena) (s t : Seat) (failed turns : ℕ) → failed < turns → Turns r s t turn.Empty → Draws r s (keeping t None failed) failed turns (Ok None)
-pop_empty r s t failed turns less f =
-    let k = f.turned in
-    let e : added s t ≡ f.lines = added_path s t f.lines k.path in
-    let rest : at_rest (view t).actor ≡ (view t).actor = ap (out_of (view t).actor) k.over in
-    record {
-      ready = record { seat = kept_seat r t None failed f.seat; free = ap (λ b. b.line) rest ∙ k.over; pocket = sym (ap (λ b. b.pocket) rest ∙ f.empty) };
-      same = record { number = f.stored.number; role = f.stored.role };
-      path = k.path ∙ ap (λ p. (view s).path ++ p) (sym e);
-      answer = k.found;
-      few = (let c = ap failed_turns e in omega (arith, k.never, less, c));
-      freed = inl refl;
-      refused = tt;
-    }
-
-few_of : {r : Arena} {s x : Seat} {turns : ℕ} (out : Result (Option Taken) Refusal) → Draws r s x 0 turns out → OnOk out (failed_turns (added s x) ≤ turns)
-few_of (Ok v) d = let n = d.few in omega arith
-few_of (Err why) d = tt
-
-freed_of_all : {r : Arena} {s x : Seat} {turns : ℕ} (out : Result (Option Taken) Refusal) → Draws r s x 0 turns out → OnOk out (FreesItsNode s x turns)
-freed_of_all (Ok v) d = ⊎_elim (λ none. inl none) (λ all. inr (let f = all in omega arith)) d.freed
-freed_of_all (Err why) d = tt
-
--- a pop after a give back
-after_give : (r : Arena) (s u x : Seat) (spent turns : ℕ) (out : Result (Option Taken) Refusal) → KeepsName s u → HadNoEffect s u → spent ≡ failed_turns (added s u) → Draws r u x spent turns out → AnswersPop r s x turns out
-after_give r s u x spent turns out name w f d =
-    let all : Draws r s x 0 turns out = draws_late r s u x (added s u) w 0 spent turns (omega (arith, f)) out name d in
-    record { ready = all.ready; same = all.same; answer = all.answer; few = few_of out all; freed = freed_of_all out all; refused = all.refused }
-
--- the pop of a seat whose pocket was empty
-pub drawn_at_once : (r : Arena) (s v x : Seat) (n turns : ℕ) (out : Result (Option Taken) Refusal) → v ≡ s → n ≡ 0 → Draws r v x n turns out → AnswersPop r s x turns out
-drawn_at_once r s v x n turns out e f d =
-    let all : Draws r s x 0 turns out = subst (λ u. Draws r u x 0 turns out) e (subst (λ m. Draws r v x m turns out) f d) in
-    record { ready = all.ready; same = all.same; answer = all.answer; few = few_of out all; freed = freed_of_all out all; refused = all.refused }
-
--- the pop of a seat that first gave its node back
-pub drawn_after_give : (r : Arena) (s u v x : Seat) (spent n turns : ℕ) (out : Result (Option Taken) Refusal) → v ≡ u → n ≡ spent → KeepsName s u → HadNoEffect s u → spent ≡ failed_turns (added s u) → Draws r v x n turns out → AnswersPop r s x turns out
-drawn_after_give r s u v x spent n turns out e f name w g d = after_give r s u x spent turns out name w g (subst (λ y. Draws r y x spent turns out) e (subst (λ m. Draws r v x m turns out) f d))
+  pub pop_empty : failed < turns → Turns r s t turn.Empty → Draws pop_worn r s (keeping t None failed) failed turns (Ok None)
+  pop_empty less f = let k = f.turned in draws_empty pop_worn r s t failed turns f.lines less f.seat k.over f.empty f.stored k.path k.never k.found

@@ -13,10 +13,10 @@ use Rattle.node_arena.specs.Traces.{Event}
 use Rattle.node_arena.specs.Prologues.{begins, continues, at_rest, out_of}
 use Rattle.node_arena.specs.declared.arena.Arena.{Arena}
 use Rattle.node_arena.specs.declared.seats.Seat.{Seat}
-use Rattle.node_arena.specs.Seats.{IsReady, KeepsName, view, pocket_of, keeping}
+use Rattle.node_arena.specs.Seats.{IsReady, view, pocket_of, keeping}
 use Rattle.node_arena.specs.Turns.{failed_turns}
 use Rattle.node_arena.specs.Paths.{ExtendsPath, Acts, added}
-use Rattle.node_arena.proofs.Paths.{no_walk, walk_then, then_act, then_stored, added_is, added_path, failed-append, failed_behind, met_behind, stopped_behind, last_held, kept_seat, ends_failed}
+use Rattle.node_arena.proofs.Paths.{no_walk, walk_then, then_act, then_stored, added_is, added_path, failed-append, failed_behind, stopped_behind, last_held, kept_seat, ends_failed}
 use Rattle.nonblocking.specs.Values.{IsNonBlocking}
 use Rattle.node_arena.specs.Machine.{value_of}
 use Rattle.nonblocking.specs.declared.push_outcomes.Actor.{Actor as Running}
@@ -24,7 +24,10 @@ use Rattle.nonblocking.specs.declared.push_outcomes.Outcome.{Outcome}
 use Rattle.nonblocking.specs.declared.push_outcomes.Outcome.TheVariants.{Goes, Refused}
 use Rattle.nonblocking.specs.declared.push_outcomes.Turn.{Turn}
 use Rattle.nonblocking.specs.declared.push_outcomes.Turn.TheVariants.{Pushed, Failed, Refused as TurnRefused}
-use Rattle.nonblocking.specs.Pushes.{registers_of, in_hand, CallIsAt, Filled, Fills, FoundWorn, Turns, Trying, Puts, PutRefused}
+use Rattle.nonblocking.specs.Pushes.{registers_of, in_hand, CallIsAt, Filled, Fills, FoundWorn, Turns, Trying}
+use Rattle.nonblocking.specs.Worn.{push_worn}
+use Rattle.arena_queue.specs.Answers.{PutRefused, Puts}
+use Rattle.arena_queue.proofs.Pushes.{put_behind}
 use Rattle.node_arena.proofs.Values.{value_of-word}
 
 -- an actor that begins a push with this pocket
@@ -68,46 +71,8 @@ first_try r s h val spent st =
       last = λ less. absurd (omega arith);
     }
 
--- a push behind other lines of its call
-pub put_behind : (r : Arena) (s t u : Seat) (es : List Event) → ExtendsPath (view s) (view t) es → KeepsName s t → (node body spent all turns : ℕ) (out : Result (Unit {0}) Refusal) → spent + failed_turns es ≡ all → Puts r t u node body all turns out → Puts r s u node body spent turns out
-put_behind r s t u es w name node body spent all turns (Ok x) f k =
-    let both : List Event = es ++ added t u in
-    let acts : Acts (view s) (view u) (Push (view s).number body) both = then_act (view s) (view t) (view u) (Push (view t).number body) (Push (view s).number body) es (added t u) (λ i. Push (w.number i) body) w k.pushed.0 in
-    let e : added s u ≡ both = added_path s u both acts.path in
-    record {
-      ready = k.ready;
-      same = record { number = k.same.number ∙ name.number; role = k.same.role ∙ name.role };
-      pushed = (
-        subst (Acts (view s) (view u) (Push (view s).number body)) (sym e) acts,
-        k.pushed.1,
-        (let c = ap failed_turns e in let g = k.pushed.2 in omega (arith, failed-append es (added t u), c, f, g)),
-      );
-      refused = tt;
-    }
-put_behind r s t u es w name node body spent all turns (Err why) f k =
-    let both : List Event = es ++ added t u in
-    let walks : ExtendsPath (view s) (view u) both = walk_then (view s) (view t) (view u) es (added t u) w k.refused.0 in
-    let e : added s u ≡ both = added_is s u both walks in
-    record {
-      ready = k.ready;
-      same = record { number = k.same.number ∙ name.number; role = k.same.role ∙ name.role };
-      pushed = tt;
-      refused = (subst (ExtendsPath (view s) (view u)) (sym e) walks, by_cause e why k.refused.1);
-    }
-  where
-    by_cause : added s u ≡ es ++ added t u → (why : Refusal) → PutRefused r t u node all turns why → PutRefused r s u node spent turns why
-    by_cause e Busy x = (
-      (let c = ap failed_turns e in let g = x.0 in omega (arith, failed-append es (added t u), c, f, g)),
-      ends_failed s u (es ++ added t u) e (failed_behind es (added t u) x.1),
-      x.2,
-    )
-    by_cause e (WornOut OfTail) x = (met_behind r s t u es (WornOut OfTail) w e x.0, x.1)
-    by_cause e (WornOut OfNext) x = (met_behind r s t u es (WornOut OfNext) w e x.0, x.1)
-    by_cause e (WornOut _) x = absurd x
-    by_cause e _ x = absurd x
-
 -- the node's own next is worn out
-pub fill_worn : (r : Arena) (s t : Seat) (a : Running) (out : Outcome) (why : Refusal) (node body spent turns : ℕ) → out ≡ Refused why → Fills r s t a out → Puts r s (keeping t None spent) node body spent turns (Err why)
+pub fill_worn : (r : Arena) (s t : Seat) (a : Running) (out : Outcome) (why : Refusal) (node body spent turns : ℕ) → out ≡ Refused why → Fills r s t a out → Puts push_worn r s (keeping t None spent) node body spent turns (Err why)
 fill_worn r s t a out why node body spent turns is f =
     let k : FoundWorn r s t None f.lines OfNext why = subst (Filled r s t a f.lines) is f.filled in
     let e : added s t ≡ f.lines = added_is s t f.lines f.walks in
@@ -118,7 +83,7 @@ fill_worn r s t a out why node body spent turns is f =
       pushed = tt;
       refused = (
         subst (ExtendsPath (view s) (view t)) (sym e) f.walks,
-        subst (PutRefused r s (keeping t None spent) node spent turns) (sym k.is) (last_held r s (keeping t None spent) f.lines _ e k.cause, refl),
+        subst (PutRefused push_worn r s (keeping t None spent) node spent turns) (sym k.is) (last_held r s (keeping t None spent) f.lines _ e k.cause, refl, tt),
       );
     }
 
@@ -135,9 +100,9 @@ module _ (r : Arena) (s t : Seat) (a : Running) (out : Outcome) (l : Line) (c : 
   fill_ready val e =
       record { before = k.0.before; hand = record { node = k.0.hand.node; mark = k.0.hand.mark; val = k.0.hand.val ∙ ap value_of (k.2 ∙ e) }; knows = tt }
 
-  pub fill_then : (u : Seat) (node body spent turns : ℕ) (o : Result (Unit {0}) Refusal) → a.node ≡ node → Puts r t u c.node body spent turns o → Puts r s u node body spent turns o
+  pub fill_then : (u : Seat) (node body spent turns : ℕ) (o : Result (Unit {0}) Refusal) → a.node ≡ node → Puts push_worn r t u c.node body spent turns o → Puts push_worn r s u node body spent turns o
   fill_then u node body spent turns o e g =
-      put_behind r s t u f.lines f.walks (record { number = f.stored.number; role = f.stored.role }) node body spent spent turns o (let z = k.3 in omega arith) (subst (λ n. Puts r t u n body spent turns o) (k.1 ∙ e) g)
+      put_behind push_worn r s t u f.lines f.walks (record { number = f.stored.number; role = f.stored.role }) node body spent spent turns o (let z = k.3 in omega arith) (subst (λ n. Puts push_worn r t u n body spent turns o) (k.1 ∙ e) g)
 
 -- turns
 module _ (r : Arena) (s t u : Seat) (h : Held) (val spent n turns : ℕ) (a : Running) (out : Turn) (is : a ≡ registers_of h val) (g : Trying r s t (registers_of h val) spent n) (m : Turns r t u a out) where
@@ -164,7 +129,7 @@ module _ (r : Arena) (s t u : Seat) (h : Held) (val spent n turns : ℕ) (a : Ru
       }
 
   -- a turn pushed
-  pub puts_it : n < turns → out ≡ Pushed → Puts r s (keeping u None n) h.node (value_of val).body spent turns (Ok tt)
+  pub puts_it : n < turns → out ≡ Pushed → Puts push_worn r s (keeping u None n) h.node (value_of val).body spent turns (Ok tt)
   puts_it less e =
       let k : Turns r t u b Pushed = turned_as Pushed e in
       let es : List Event = g.lines ++ k.lines in
@@ -184,7 +149,7 @@ module _ (r : Arena) (s t u : Seat) (h : Held) (val spent n turns : ℕ) (a : Ru
       }
 
   -- a turn was refused
-  pub refused_put : (why : Refusal) → out ≡ TurnRefused why → Puts r s (keeping u (Some h) n) h.node (value_of val).body spent turns (Err why)
+  pub refused_put : (why : Refusal) → out ≡ TurnRefused why → Puts push_worn r s (keeping u (Some h) n) h.node (value_of val).body spent turns (Err why)
   refused_put why e =
       let k : Turns r t u b (TurnRefused why) = turned_as (TurnRefused why) e in
       let es : List Event = g.lines ++ k.lines in
@@ -199,13 +164,13 @@ module _ (r : Arena) (s t u : Seat) (h : Held) (val spent n turns : ℕ) (a : Ru
         pushed = tt;
         refused = (
           subst (ExtendsPath (view s) (view u)) (sym e) w,
-          subst (PutRefused r s (keeping u (Some h) n) h.node spent turns) (sym f.is)
-              (last_held r s (keeping u (Some h) n) es _ e (stopped_behind r s t g.lines k.lines (WornOut OfTail) g.walks f.cause), refl),
+          subst (PutRefused push_worn r s (keeping u (Some h) n) h.node spent turns) (sym f.is)
+              (last_held r s (keeping u (Some h) n) es _ e (stopped_behind r s t g.lines k.lines (WornOut OfTail) g.walks f.cause), refl, refl),
         );
       }
 
 -- all turns failed
-pub gives_up_put : (r : Arena) (s t : Seat) (h : Held) (val spent turns : ℕ) → spent < turns → Trying r s t (registers_of h val) spent turns → Puts r s (keeping t (Some h) turns) h.node (value_of val).body spent turns (Err Busy)
+pub gives_up_put : (r : Arena) (s t : Seat) (h : Held) (val spent turns : ℕ) → spent < turns → Trying r s t (registers_of h val) spent turns → Puts push_worn r s (keeping t (Some h) turns) h.node (value_of val).body spent turns (Err Busy)
 gives_up_put r s t h val spent turns less g =
     let e : added s t ≡ g.lines = added_is s t g.lines g.walks in
     let k = g.stands in

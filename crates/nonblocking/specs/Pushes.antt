@@ -1,11 +1,11 @@
--- A running push: what it remembers before each line, and what it answers.
-use Rattle.std.specs.Prelude.{◌≡◌, ℕ, ◌+◌, ◌<◌, if◌then◌else◌, nat_eq, List, Option, Some, None, IsSome, IsSomeAnd, Result, OnOk, IfErr}
+-- A running push: what it remembers before each line, and what its turns come to.
+use Rattle.std.specs.Prelude.{◌≡◌, ℕ, ◌+◌, ◌<◌, if◌then◌else◌, nat_eq, List, Option, Some, None}
 use Rattle.counted_ref.specs.Ref.{ref, ref_of, is_null, same_ref}
 use Rattle.line_table.specs.declared.lines.Line.{Line}
 use Rattle.line_table.specs.declared.lines.Line.TheVariants.{E2, E3, E5, E6, E7, E9, E13, E17}
 use Rattle.history.specs.declared.operations.Entry.TheVariants.{Push}
 use Rattle.history.specs.declared.refusals.Refusal.{Refusal}
-use Rattle.history.specs.declared.refusals.Refusal.TheVariants.{WornOut, Busy}
+use Rattle.history.specs.declared.refusals.Refusal.TheVariants.{WornOut}
 use Rattle.history.specs.declared.refusals.WornWord.{WornWord}
 use Rattle.history.specs.declared.refusals.WornWord.TheVariants.{Next as OfNext, Tail as OfTail}
 use Rattle.node_arena.specs.Machine.{Setup, Held, Actor}
@@ -13,10 +13,9 @@ use Rattle.node_arena.specs.Traces.{Event}
 use Rattle.node_arena.specs.Prologues.{Prologue, continues, after_prologue}
 use Rattle.node_arena.specs.declared.arena.Arena.{Arena}
 use Rattle.node_arena.specs.declared.seats.Seat.{Seat}
-use Rattle.node_arena.specs.Seats.{IsSeat, IsBefore, IsReady, KeepsStored, KeepsName, DidStep, view, pocket_of}
+use Rattle.node_arena.specs.Seats.{IsSeat, IsBefore, KeepsStored, DidStep, view}
 use Rattle.node_arena.specs.Turns.{failed_turns}
-use Rattle.node_arena.specs.Paths.{ExtendsPath, Acts, HadNoEffect, FailedAt, EndsFailed, EndedAt, IsRefusedAt, MetCause, added}
-use Rattle.free_list.specs.Takes.{TakeRefused}
+use Rattle.node_arena.specs.Paths.{ExtendsPath, Acts, FailedAt, EndedAt, IsRefusedAt}
 use Rattle.node_arena.specs.Machine.{value_of}
 use Rattle.nonblocking.specs.declared.push_outcomes.Actor.{Actor as Running}
 use Rattle.nonblocking.specs.declared.push_outcomes.Reply.TheVariants.{Done as IsDone}
@@ -161,43 +160,3 @@ pub record Trying (r : Arena) (s t : Seat) (a : Running) (spent n : ℕ) : Type 
   pub walks : ExtendsPath (view s) (view t) lines
   pub failed : spent + failed_turns lines ≡ n
   pub last : spent < n → FailedAt lines
-
--- a call pushed a body
-abbrev pub DidPush : (s t : Seat) → (body : ℕ) → Type 0
-DidPush s t body = Acts (view s) (view t) (Push (view s).number body) (added s t)
-
--- a node is in a seat's pocket
-abbrev pub KeepsNode : Seat → ℕ → Type 0
-KeepsNode t node = IsSomeAnd (pocket_of t) (λ h. h.node ≡ node)
-
--- why a push that has its node is refused, and where the node then is
-abbrev pub PutRefused : Arena → Seat → Seat → (node spent turns : ℕ) → Refusal → Type 0
-PutRefused r s t node spent turns Busy = (spent + failed_turns (added s t) ≡ turns) × EndsFailed s t × KeepsNode t node
-PutRefused r s t node spent turns (WornOut OfTail) = MetCause r s t (WornOut OfTail) × KeepsNode t node
-PutRefused r s t node spent turns (WornOut OfNext) = MetCause r s t (WornOut OfNext) × (pocket_of t ≡ None)
-PutRefused r s t node spent turns _ = ⊥
-
--- what a push answers that has its node, where so many turns failed before
-pub record Puts (r : Arena) (s t : Seat) (node body spent turns : ℕ) (out : Result (Unit {0}) Refusal) : Type 0 where
-  pub ready : IsReady r t
-  pub same : KeepsName s t
-  pub pushed : OnOk out (DidPush s t body × (pocket_of t ≡ None) × (spent + failed_turns (added s t) < turns))
-  pub refused : IfErr out (λ why. HadNoEffect s t × PutRefused r s t node spent turns why)
-
--- the cause of each refusal: Tail's count was the greatest one at the last step, and the node is in the pocket; or that of
--- the node's own next, and the pocket is empty; or that of a take; or so many turns failed, the last one at the last step
-abbrev pub PushRefused : Arena → Seat → Seat → (turns : ℕ) → Refusal → Type 0
-PushRefused r s t turns (WornOut OfTail) = MetCause r s t (WornOut OfTail) × IsSome (pocket_of t)
-PushRefused r s t turns (WornOut OfNext) = MetCause r s t (WornOut OfNext) × (pocket_of t ≡ None)
-PushRefused r s t turns why = TakeRefused r s t turns why
-
--- fewer turns than allowed failed
-abbrev pub FailsFewer : Seat → Seat → (turns : ℕ) → Type 0
-FailsFewer s t turns = failed_turns (added s t) < turns
-
--- what a push answers
-pub record AnswersPush (r : Arena) (s t : Seat) (body turns : ℕ) (out : Result (Unit {0}) Refusal) : Type 0 where
-  pub ready : IsReady r t
-  pub same : KeepsName s t
-  pub pushed : OnOk out (DidPush s t body × (pocket_of t ≡ None) × FailsFewer s t turns)
-  pub refused : IfErr out (λ why. HadNoEffect s t × PushRefused r s t turns why)

@@ -1,11 +1,13 @@
 //! Takes the value at the front.
-ghost use Rattle.std.specs.Prelude.{◌≡◌, ◌≤◌, ◌<◌, IsTrue, None};
+ghost use Rattle.std.specs.Prelude.{◌≡◌, ◌<◌, IsTrue, None};
 ghost use Rattle.line_table.specs.declared.lines.Line.TheVariants as lines;
 ghost use Rattle.node_arena.specs.Prologues.{continues};
 ghost use Rattle.node_arena.specs.Plans.{may_pop};
 ghost use Rattle.node_arena.specs.Seats.{IsReady, IsBefore, role_of, pocket_of};
 ghost use Rattle.nonblocking.specs.Values.{IsNonBlocking};
-ghost use Rattle.nonblocking.specs.Pops.{popping, CallIsAt, Looks, Turns, Tries, Draws, AnswersPop};
+ghost use Rattle.nonblocking.specs.Pops.{popping, CallIsAt, Looks, Turns, Tries};
+ghost use Rattle.nonblocking.specs.Worn.{pop_worn};
+ghost use Rattle.arena_queue.specs.Answers.{Draws};
 
 use crate::pop_lines::{d2, d3, d4, d5, d10, d12, d13};
 use crate::pop_outcomes::{Actor, Outcome, Turn, blank, turned};
@@ -96,13 +98,18 @@ fn attempt(
 }
 
 // The pop with an empty pocket, where `spent` turns of this call failed before.
-fn draw(arena: &Arena, seat: &mut Seat, spent: u32, turns: u32) -> Result<Option<Taken>, Refusal>
+pub(crate) fn draw(
+    arena: &Arena,
+    seat: &mut Seat,
+    spent: u32,
+    turns: u32,
+) -> Result<Option<Taken>, Refusal>
     requires ready { IsReady arena.now seat.old }
     requires non_blocking { IsNonBlocking arena.now }
     requires role { IsTrue (may_pop (role_of seat.old)) }
     requires empty { pocket_of seat.old ≡ None }
     requires turns { spent < turns }
-    ensures { Draws arena.now seat.old seat.new spent turns result }
+    ensures { Draws pop_worn arena.now seat.old seat.new spent turns result }
 {
     for index in 0..turns - spent {
         if let Some(answer) = attempt(arena, seat, index, spent + index, turns) {
@@ -111,27 +118,4 @@ fn draw(arena: &Arena, seat: &mut Seat, spent: u32, turns: u32) -> Result<Option
     }
     seat.keep(None, turns);
     Err(Refusal::Busy)
-}
-
-/// Takes the value at the front, after it gives back the node in the seat's pocket, if there is one; none where the queue
-/// was empty.
-///
-/// Refusals: `WornOut(Tail)` where Tail's count was the greatest one, and `Busy` where each of so many turns failed. The
-/// node that comes free is given back with the turns that are left, and else stays in the pocket. Takes no memory and
-/// doesn't wait.
-pub(crate) fn try_pop(arena: &Arena, seat: &mut Seat, turns: u32) -> Result<Option<Taken>, Refusal>
-    requires ready { IsReady arena.now seat.old }
-    requires non_blocking { IsNonBlocking arena.now }
-    requires role { IsTrue (may_pop (role_of seat.old)) }
-    requires turns { 1 ≤ turns }
-    ensures { AnswersPop arena.now seat.old seat.new turns result }
-{
-    let spent = match seat.pocket() {
-        None => 0,
-        Some(_) => {
-            give_back(arena, seat, turns)?;
-            seat.failed()
-        }
-    };
-    draw(arena, seat, spent, turns)
 }

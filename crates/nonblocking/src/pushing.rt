@@ -1,16 +1,17 @@
 //! Pushes a body.
-ghost use Rattle.std.specs.Prelude.{◌≡◌, ◌≤◌, ◌<◌, IsTrue, Some};
+ghost use Rattle.std.specs.Prelude.{◌≡◌, ◌<◌, IsTrue, Some};
 ghost use Rattle.line_table.specs.declared.lines.Line.TheVariants as lines;
 ghost use Rattle.node_arena.specs.Prologues.{Prologue, continues};
 ghost use Rattle.node_arena.specs.Plans.{may_push};
 ghost use Rattle.node_arena.specs.Seats.{IsReady, role_of, pocket_of};
 ghost use Rattle.nonblocking.specs.Values.{IsNonBlocking};
 ghost use Rattle.node_arena.specs.Machine.{value_of};
-ghost use Rattle.nonblocking.specs.Pushes.{registers_of, CallIsAt, Fills, Looks, Turns, Puts, AnswersPush};
+ghost use Rattle.nonblocking.specs.Pushes.{registers_of, CallIsAt, Fills, Looks, Turns};
+ghost use Rattle.nonblocking.specs.Worn.{push_worn};
+ghost use Rattle.arena_queue.specs.Answers.{Puts};
 
 use crate::push_lines::{e2, e3, e5, e6, e7, e9, e13, e17};
 use crate::push_outcomes::{Actor, Outcome, Turn, registers};
-use free_list::take;
 use history::{Body, Refusal};
 use line_table::Line;
 use node_arena::{Arena, Held, Seat, word_of};
@@ -93,7 +94,8 @@ fn push_within(
     requires stands { CallIsAt arena.now seat.old continues lines.E5 (registers_of held val) }
     requires role { IsTrue (may_push (role_of seat.old)) }
     requires turns { spent < turns }
-    ensures { Puts arena.now seat.old seat.new held.node (value_of val).body spent turns result }
+    ensures { Puts push_worn arena.now seat.old seat.new
+        held.node (value_of val).body spent turns result }
 {
     for index in spent..turns {
         match push_turn(arena, seat, registers(held, val)) {
@@ -113,7 +115,7 @@ fn push_within(
 }
 
 // The push with the node in the pocket, where `spent` turns of this call failed before.
-fn put(
+pub(crate) fn put(
     arena: &Arena,
     seat: &mut Seat,
     held: Held,
@@ -126,7 +128,7 @@ fn put(
     requires role { IsTrue (may_push (role_of seat.old)) }
     requires full { pocket_of seat.old ≡ Some held }
     requires turns { spent < turns }
-    ensures { Puts arena.now seat.old seat.new held.node body spent turns result }
+    ensures { Puts push_worn arena.now seat.old seat.new held.node body spent turns result }
 {
     let val = word_of(seat.number(), body.number());
     match fill(arena, seat, registers(held, val)) {
@@ -141,29 +143,4 @@ fn put(
         }
         Outcome::Done => unreachable!(),
     }
-}
-
-/// Pushes a body at the back, by the node in the seat's pocket, or else by one that it takes.
-///
-/// Refusals: those of a take, `WornOut(Next)` where the count of the node's own next was the greatest one,
-/// `WornOut(Tail)` where Tail's was and Tail had to be swung first, and `Busy` where each of so many turns failed. The
-/// node is set aside for good where its own next is worn out; else one that the call got stays in the pocket. Takes no
-/// memory and doesn't wait.
-pub(crate) fn try_push(
-    arena: &Arena,
-    seat: &mut Seat,
-    body: Body,
-    turns: u32,
-) -> Result<(), Refusal>
-    requires ready { IsReady arena.now seat.old }
-    requires non_blocking { IsNonBlocking arena.now }
-    requires role { IsTrue (may_push (role_of seat.old)) }
-    requires turns { 1 ≤ turns }
-    ensures { AnswersPush arena.now seat.old seat.new body turns result }
-{
-    let (held, spent) = match seat.pocket() {
-        Some(held) => (held, 0),
-        None => (take(arena, seat, turns)?, seat.failed()),
-    };
-    put(arena, seat, held, body, spent, turns)
 }

@@ -1,9 +1,7 @@
 pub mod PushSteps
 pub mod PushStands
 pub mod PushTries
-pub mod Pushes
 pub mod PopSteps
 pub mod PopStands
 pub mod Fronts
 pub mod Pops
-pub mod Queues

@@ -22,7 +22,9 @@ use Rattle.two_lock.specs.declared.push_outcomes.Actor.{Actor as Running}
 use Rattle.two_lock.specs.declared.push_outcomes.Reply.TheVariants.{Done as IsDone}
 use Rattle.two_lock.specs.declared.push_outcomes.Outcome.{Outcome}
 use Rattle.two_lock.specs.declared.push_outcomes.Outcome.TheVariants.{Goes, Done}
-use Rattle.two_lock.specs.Pushes.{registers_of, has_lock, CallIsAt, Follows, Links, Trying, Puts}
+use Rattle.two_lock.specs.Pushes.{registers_of, has_lock, CallIsAt, Follows, Links, Trying}
+use Rattle.two_lock.specs.Worn.{push_worn}
+use Rattle.arena_queue.specs.Answers.{Puts}
 use Rattle.node_arena.proofs.Values.{value_of-word}
 use Rattle.two_lock.proofs.PushStands.{after_a1, after_a2, won_a3, lost_a3, after_a4, after_a5, after_a6, after_a7}
 
@@ -184,7 +186,7 @@ module _ (r : Arena) (s u t x y : Seat) (a b c d : Running) (j k l : Line) (last
       }
 
 -- the body was pushed
-pub puts_it : (r : Arena) (s t u x : Seat) (h : Held) (val : ℕ) (a b : Running) (out : Outcome) (from body spent n turns : ℕ) → a ≡ registers_of h val → b ≡ registers_of h val → Trying r s t h val spent n → Follows r t u continues A3 a out → has_lock out ≡ true → Links r u x b → body < 2 ^ 48 → val ≡ from * 2 ^ 48 + body → n < turns → Puts r s (keeping x None n) h body spent turns (Ok tt)
+pub puts_it : (r : Arena) (s t u x : Seat) (h : Held) (val : ℕ) (a b : Running) (out : Outcome) (from body spent n turns : ℕ) → a ≡ registers_of h val → b ≡ registers_of h val → Trying r s t h val spent n → Follows r t u continues A3 a out → has_lock out ≡ true → Links r u x b → body < 2 ^ 48 → val ≡ from * 2 ^ 48 + body → n < turns → Puts push_worn r s (keeping x None n) h.node body spent turns (Ok tt)
 puts_it r s t u x h val a b out from body spent n turns is same g follows won linked small word less =
     let f : Follows r t u continues A3 (registers_of h val) out = subst (λ x. Follows r t u continues A3 x out) is follows in
     let k : Links r u x (registers_of h val) = subst (Links r u x) same linked in
@@ -201,16 +203,16 @@ puts_it r s t u x h val a b out from body spent n turns is same g follows won li
     record {
       ready = record { seat = kept_seat r x None n k.seat; free = ap (λ b. b.line) rest ∙ k.over; pocket = sym (ap (λ b. b.pocket) rest ∙ k.empty) };
       same = record { number = name.number; role = name.role };
-      pocket = refl;
       pushed = (
         subst (Acts (view s) (view x) (Push (view s).number body)) (sym e) acts,
+        refl,
         (let c = ap failed_turns e in omega (arith, failed-append before k.lines, failed-append g.lines (try ∷ []), g.failed, one.1, k.never, c)),
       );
       refused = tt;
     }
 
 -- all turns failed
-pub gives_up_put : (r : Arena) (s t : Seat) (h : Held) (val body spent turns : ℕ) → spent < turns → Trying r s t h val spent turns → Puts r s (keeping t (Some h) turns) h body spent turns (Err Busy)
+pub gives_up_put : (r : Arena) (s t : Seat) (h : Held) (val body spent turns : ℕ) → spent < turns → Trying r s t h val spent turns → Puts push_worn r s (keeping t (Some h) turns) h.node body spent turns (Err Busy)
 gives_up_put r s t h val body spent turns less g =
     let e : added s t ≡ g.lines = added_is s t g.lines g.walks in
     let k = g.stands in
@@ -222,7 +224,6 @@ gives_up_put r s t h val body spent turns less g =
         pocket = sym (ap (λ b. b.pocket) rest ∙ (λ i. Some (record { node = k.hand.node i; mark = k.hand.mark i })));
       };
       same = record { number = g.stored.number; role = g.stored.role };
-      pocket = refl;
       pushed = tt;
-      refused = (refl, subst (ExtendsPath (view s) (view t)) (sym e) g.walks, ap (λ es. spent + failed_turns es) e ∙ g.failed, ends_failed s (keeping t (Some h) turns) g.lines e (g.last less));
+      refused = (subst (ExtendsPath (view s) (view t)) (sym e) g.walks, (ap (λ es. spent + failed_turns es) e ∙ g.failed, ends_failed s (keeping t (Some h) turns) g.lines e (g.last less), refl));
     }

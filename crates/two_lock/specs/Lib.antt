@@ -1,3 +1,4 @@
+pub mod Worn
 pub mod Values
 pub mod Pushes
 pub mod Pops

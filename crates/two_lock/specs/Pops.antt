@@ -1,5 +1,5 @@
--- A running pop: what it remembers before each line, and what it answers.
-use Rattle.std.specs.Prelude.{◌≡◌, ℕ, zero, suc, ◌+◌, ◌≤◌, ◌⊎◌, Bool, true, false, if◌then◌else◌, nat_eq, List, ◌++◌, Option, Some, None, Result, IfOk, OnOk, IfErr}
+-- A running pop: what it remembers before each line, and what its turns come to.
+use Rattle.std.specs.Prelude.{◌≡◌, ℕ, zero, suc, ◌≤◌, Bool, true, false, if◌then◌else◌, nat_eq, List, ◌++◌, Option, Some, None}
 use Rattle.counted_ref.specs.Ref.{ref_of, is_null}
 use Rattle.line_table.specs.declared.lines.Line.{Line}
 use Rattle.line_table.specs.declared.lines.Line.TheVariants.{B1, B2, B3, B4, B5, B6, F1}
@@ -7,20 +7,19 @@ use Rattle.history.specs.declared.operations.Entry.TheVariants.{Pop}
 use Rattle.history.specs.declared.operations.Op.TheVariants.{Deq}
 use Rattle.history.specs.declared.operations.Reply as replies
 use Rattle.history.specs.declared.operations.Reply.TheVariants as reply
-use Rattle.history.specs.declared.operations.Taken.{Taken}
 use Rattle.history.specs.declared.refusals.Refusal.{Refusal}
-use Rattle.history.specs.declared.refusals.Refusal.TheVariants.{WornOut, Busy}
+use Rattle.history.specs.declared.refusals.Refusal.TheVariants.{WornOut}
 use Rattle.history.specs.declared.refusals.WornWord.TheVariants.{Head as OfHead}
-use Rattle.history.specs.Answers.{FoundEmpty, PopAnswers}
+use Rattle.history.specs.Answers.{FoundEmpty}
 use Rattle.node_arena.specs.Machine.{Setup, Actor}
 use Rattle.node_arena.specs.Traces.{Event}
 use Rattle.node_arena.specs.Prologues.{Prologue, begins, continues, after_prologue}
 use Rattle.node_arena.specs.declared.arena.Arena.{Arena}
 use Rattle.node_arena.specs.declared.seats.Seat.{Seat}
 use Rattle.node_arena.specs.Seeing.{known_by}
-use Rattle.node_arena.specs.Seats.{IsSeat, IsBefore, IsReady, KeepsStored, KeepsName, DidStep, view, known_of, pocket_of}
+use Rattle.node_arena.specs.Seats.{IsSeat, IsBefore, KeepsStored, DidStep, view}
 use Rattle.node_arena.specs.Turns.{failed_turns}
-use Rattle.node_arena.specs.Paths.{ExtendsPath, Acts, HadNoEffect, FailedAt, EndsFailed, EndedAt, IsRefusedAt, MetCause, added}
+use Rattle.node_arena.specs.Paths.{ExtendsPath, Acts, FailedAt, EndedAt, IsRefusedAt}
 use Rattle.node_arena.specs.Machine.{value_of}
 use Rattle.two_lock.specs.declared.pop_outcomes.Actor.{Actor as Running}
 use Rattle.two_lock.specs.declared.pop_outcomes.Reply.{Reply}
@@ -135,45 +134,3 @@ pub record Trying (r : Arena) (s t : Seat) (n : ℕ) : Type 0 where
   pub walks : ExtendsPath (view s) (view t) lines
   pub failed : failed_turns lines ≡ n
   pub last : 1 ≤ n → FailedAt lines
-
--- the cause of each refusal: so many turns failed, the last one at the last step, or at the last step Head's count was the
--- greatest one
-abbrev pub DrawRefused : Arena → Seat → Seat → (spent turns : ℕ) → Refusal → Type 0
-DrawRefused r s t spent turns Busy = (spent + failed_turns (added s t) ≡ turns) × EndsFailed s t
-DrawRefused r s t spent turns (WornOut OfHead) = MetCause r s t (WornOut OfHead)
-DrawRefused r s t spent turns _ = ⊥
-
--- of a call at most so many turns failed, with those of the give backs before and after its pop
-abbrev pub FailsFew : Seat → Seat → (turns : ℕ) → Type 0
-FailsFew s t turns = failed_turns (added s t) ≤ turns
-
--- a seat's pocket is empty, or each turn of its call failed, where so many failed before
-abbrev pub EmptiesPocket : Seat → Seat → (spent turns : ℕ) → Type 0
-EmptiesPocket s t spent turns = (pocket_of t ≡ None) ⊎ (spent + failed_turns (added s t) ≡ turns)
-
--- what a pop answers that has an empty pocket, where so many turns failed before
-pub record Draws (r : Arena) (s t : Seat) (spent turns : ℕ) (out : Result (Option Taken) Refusal) : Type 0 where
-  pub ready : IsReady r t
-  pub same : KeepsName s t
-  pub path : (view t).path ≡ (view s).path ++ added s t
-  pub answer : IfOk out (λ o. PopAnswers (known_of s) o (known_of t))
-  pub few : OnOk out (spent + failed_turns (added s t) ≤ turns)
-  pub freed : OnOk out (EmptiesPocket s t spent turns)
-  pub refused : IfErr out (λ why. HadNoEffect s t × DrawRefused r s t spent turns why)
-
--- after a pop its seat's pocket is empty, or each of so many turns failed
-abbrev pub FreesItsNode : Seat → Seat → (turns : ℕ) → Type 0
-FreesItsNode s t turns = (pocket_of t ≡ None) ⊎ (failed_turns (added s t) ≡ turns)
-
--- why a pop is refused
-abbrev pub PopRefused : Arena → Seat → Seat → (turns : ℕ) → Refusal → Type 0
-PopRefused r s t turns why = DrawRefused r s t 0 turns why
-
--- what a pop answers
-pub record AnswersPop (r : Arena) (s t : Seat) (turns : ℕ) (out : Result (Option Taken) Refusal) : Type 0 where
-  pub ready : IsReady r t
-  pub same : KeepsName s t
-  pub answer : IfOk out (λ o. PopAnswers (known_of s) o (known_of t))
-  pub few : OnOk out (FailsFew s t turns)
-  pub freed : OnOk out (FreesItsNode s t turns)
-  pub refused : IfErr out (λ why. HadNoEffect s t × PopRefused r s t turns why)

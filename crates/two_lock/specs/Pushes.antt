@@ -1,20 +1,17 @@
--- A running push: what it remembers before each line, and what it answers.
-use Rattle.std.specs.Prelude.{◌≡◌, ℕ, ◌+◌, ◌<◌, Bool, true, false, if◌then◌else◌, nat_eq, List, Some, None, Result, MatchResult, OnOk, IfErr}
+-- A running push: what it remembers before each line, and what it comes to.
+use Rattle.std.specs.Prelude.{◌≡◌, ℕ, ◌+◌, ◌<◌, Bool, true, false, if◌then◌else◌, nat_eq, List, Some, None}
 use Rattle.counted_ref.specs.Ref.{ref, ref_of}
 use Rattle.line_table.specs.declared.lines.Line.{Line}
 use Rattle.line_table.specs.declared.lines.Line.TheVariants.{A1, A2, A3, A4, A5, A6, A7}
 use Rattle.history.specs.declared.operations.Entry.TheVariants.{Push}
-use Rattle.history.specs.declared.refusals.Refusal.{Refusal}
-use Rattle.history.specs.declared.refusals.Refusal.TheVariants.{Busy}
 use Rattle.node_arena.specs.Machine.{Held, Actor}
 use Rattle.node_arena.specs.Traces.{Event}
 use Rattle.node_arena.specs.Prologues.{Prologue, continues, after_prologue}
 use Rattle.node_arena.specs.declared.arena.Arena.{Arena}
 use Rattle.node_arena.specs.declared.seats.Seat.{Seat}
-use Rattle.node_arena.specs.Seats.{IsSeat, IsBefore, IsReady, KeepsStored, KeepsName, DidStep, view, pocket_of}
+use Rattle.node_arena.specs.Seats.{IsSeat, IsBefore, KeepsStored, DidStep, view}
 use Rattle.node_arena.specs.Turns.{failed_turns}
-use Rattle.node_arena.specs.Paths.{ExtendsPath, Acts, HadNoEffect, FailedAt, EndsFailed, added}
-use Rattle.free_list.specs.Takes.{TakeRefused}
+use Rattle.node_arena.specs.Paths.{ExtendsPath, Acts, FailedAt}
 use Rattle.node_arena.specs.Machine.{value_of}
 use Rattle.two_lock.specs.declared.push_outcomes.Actor.{Actor as Running}
 use Rattle.two_lock.specs.declared.push_outcomes.Reply.TheVariants.{Done as IsDone}
@@ -80,30 +77,3 @@ pub record Trying (r : Arena) (s t : Seat) (h : Held) (val spent n : ℕ) : Type
   pub walks : ExtendsPath (view s) (view t) lines
   pub failed : spent + failed_turns lines ≡ n
   pub last : spent < n → FailedAt lines
-
--- a call pushed a body
-abbrev pub DidPush : (s t : Seat) → (body : ℕ) → Type 0
-DidPush s t body = Acts (view s) (view t) (Push (view s).number body) (added s t)
-
--- what a push answers that has its node, where so many turns failed before
-pub record Puts (r : Arena) (s t : Seat) (h : Held) (body spent turns : ℕ) (out : Result (Unit {0}) Refusal) : Type 0 where
-  pub ready : IsReady r t
-  pub same : KeepsName s t
-  pub pocket : MatchResult out (λ _. pocket_of t ≡ None) (λ _. pocket_of t ≡ Some h)
-  pub pushed : OnOk out (DidPush s t body × (spent + failed_turns (added s t) < turns))
-  pub refused : IfErr out (λ why. (why ≡ Busy) × HadNoEffect s t × (spent + failed_turns (added s t) ≡ turns) × EndsFailed s t)
-
--- the cause of each refusal is that of a take, or so many turns failed, the last one at the last step
-abbrev pub PushRefused : Arena → Seat → Seat → (turns : ℕ) → Refusal → Type 0
-PushRefused r s t turns why = TakeRefused r s t turns why
-
--- fewer turns than allowed failed
-abbrev pub FailsFewer : Seat → Seat → (turns : ℕ) → Type 0
-FailsFewer s t turns = failed_turns (added s t) < turns
-
--- what a push answers
-pub record AnswersPush (r : Arena) (s t : Seat) (body turns : ℕ) (out : Result (Unit {0}) Refusal) : Type 0 where
-  pub ready : IsReady r t
-  pub same : KeepsName s t
-  pub pushed : OnOk out (DidPush s t body × (pocket_of t ≡ None) × FailsFewer s t turns)
-  pub refused : IfErr out (λ why. HadNoEffect s t × PushRefused r s t turns why)

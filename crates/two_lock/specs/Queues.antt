@@ -1,27 +1,13 @@
 -- The two-lock queue as a queue with seats.
 use Rattle.std.specs.Prelude.{ℕ, List}
 use Rattle.line_table.specs.declared.lines.Kind.TheVariants.{TwoLock}
-use Rattle.history.specs.Seats.{Permit}
 use Rattle.node_arena.specs.declared.roles.Role.{Role}
-use Rattle.node_arena.specs.declared.arena.Arena.{Arena}
 use Rattle.node_arena.specs.declared.seats.Seat.{Seat}
-use Rattle.node_arena.specs.Seats as seats
-use Rattle.node_arena.specs.Seats.{IsReady}
-use Rattle.node_arena.specs.Making.{plan, IsMade}
-use Rattle.two_lock.specs.declared.queue.TwoLockQueue.{TwoLockQueue}
-
--- the arena of the queue
-abbrev pub arena_of : TwoLockQueue → Arena
-arena_of q = q.arena
-
--- what each seat of the queue may do
-abbrev pub permits_of : TwoLockQueue → List Permit
-permits_of q = seats.permits_of (arena_of q)
-
--- a seat of the queue, in no call
-abbrev pub IsQueueSeat : TwoLockQueue → Seat → Type 0
-IsQueueSeat q s = IsReady (arena_of q) s
+use Rattle.arena_queue.specs.declared.algorithms.Algorithm.{Ghosts}
+use Rattle.arena_queue.specs.declared.queue.ArenaQueue.{ArenaQueue}
+use Rattle.arena_queue.specs.Queues as queues
+pub use Rattle.arena_queue.specs.Queues.{arena_of, permits_of, IsQueueSeat}
 
 -- a new queue, of so many nodes and this greatest count, with a new seat for each role
-abbrev pub IsQueueMade : (nodes limit : ℕ) → List Role → TwoLockQueue → List Seat → Type 0
-IsQueueMade nodes limit roles q seats = IsMade (plan TwoLock nodes limit roles) (arena_of q) seats
+abbrev pub IsQueueMade : {A : Type 0} {g : Ghosts A} → (nodes limit : ℕ) → List Role → ArenaQueue A g → List Seat → Type 0
+IsQueueMade nodes limit roles q seats = queues.IsQueueMade TwoLock nodes limit roles q seats

@@ -1,12 +1,12 @@
 //! The two-lock queue on shared words: one lock for pushes, and one for pops.
 #![tactic(auto)]
 
+mod algorithm;
 mod pop_lines;
 mod pop_outcomes;
 mod popping;
 mod push_lines;
 mod push_outcomes;
 mod pushing;
-mod queue;
 
-pub use queue::TwoLockQueue;
+pub use algorithm::{TwoLockAlgorithm, TwoLockQueue};

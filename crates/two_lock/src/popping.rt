@@ -1,11 +1,13 @@
 //! Takes the value at the front.
-ghost use Rattle.std.specs.Prelude.{◌≡◌, ◌≤◌, ◌<◌, IsTrue, None};
+ghost use Rattle.std.specs.Prelude.{◌≡◌, ◌<◌, IsTrue, None};
 ghost use Rattle.line_table.specs.declared.lines.Line.TheVariants as lines;
 ghost use Rattle.node_arena.specs.Prologues.{continues};
 ghost use Rattle.node_arena.specs.Plans.{may_pop};
 ghost use Rattle.node_arena.specs.Seats.{IsReady, IsBefore, role_of, pocket_of};
 ghost use Rattle.two_lock.specs.Values.{IsTwoLock};
-ghost use Rattle.two_lock.specs.Pops.{CallIsAt, Fronts, Draws, AnswersPop};
+ghost use Rattle.two_lock.specs.Pops.{CallIsAt, Fronts};
+ghost use Rattle.two_lock.specs.Worn.{pop_worn};
+ghost use Rattle.arena_queue.specs.Answers.{Draws};
 
 use crate::pop_lines::{b1, b2, b3, b4, b5, b6};
 use crate::pop_outcomes::{Actor, Outcome, blank, got_lock};
@@ -48,7 +50,7 @@ fn end(arena: &Arena, seat: &mut Seat, failed: u32, turns: u32) -> Result<Option
     requires two_lock { IsTwoLock arena.now }
     requires role { IsTrue (may_pop (role_of seat.old)) }
     requires turns { failed < turns }
-    ensures { Draws arena.now seat.old seat.new failed turns result }
+    ensures { Draws pop_worn arena.now seat.old seat.new failed turns result }
 {
     match front(arena, seat, blank()) {
         Outcome::Goes(_, a) => {
@@ -71,13 +73,18 @@ fn end(arena: &Arena, seat: &mut Seat, failed: u32, turns: u32) -> Result<Option
 }
 
 // The pop with an empty pocket, where `spent` turns of this call failed before.
-fn draw(arena: &Arena, seat: &mut Seat, spent: u32, turns: u32) -> Result<Option<Taken>, Refusal>
+pub(crate) fn draw(
+    arena: &Arena,
+    seat: &mut Seat,
+    spent: u32,
+    turns: u32,
+) -> Result<Option<Taken>, Refusal>
     requires ready { IsReady arena.now seat.old }
     requires two_lock { IsTwoLock arena.now }
     requires role { IsTrue (may_pop (role_of seat.old)) }
     requires empty { pocket_of seat.old ≡ None }
     requires turns { spent < turns }
-    ensures { Draws arena.now seat.old seat.new spent turns result }
+    ensures { Draws pop_worn arena.now seat.old seat.new spent turns result }
 {
     for index in 0..turns - spent {
         if got_lock(b1(arena, seat, blank(), index)) {
@@ -86,27 +93,4 @@ fn draw(arena: &Arena, seat: &mut Seat, spent: u32, turns: u32) -> Result<Option
     }
     seat.keep(None, turns);
     Err(Refusal::Busy)
-}
-
-/// Takes the value at the front, after it gives back the node in the seat's pocket, if there is one; none where the queue
-/// was empty.
-///
-/// Refusals: `WornOut(Head)` where Head's count was the greatest one, and `Busy` where each of so many turns failed. The
-/// node that comes free is given back with the turns that are left, and else stays in the pocket. Takes no memory and
-/// doesn't wait.
-pub(crate) fn try_pop(arena: &Arena, seat: &mut Seat, turns: u32) -> Result<Option<Taken>, Refusal>
-    requires ready { IsReady arena.now seat.old }
-    requires two_lock { IsTwoLock arena.now }
-    requires role { IsTrue (may_pop (role_of seat.old)) }
-    requires turns { 1 ≤ turns }
-    ensures { AnswersPop arena.now seat.old seat.new turns result }
-{
-    let spent = match seat.pocket() {
-        None => 0,
-        Some(_) => {
-            give_back(arena, seat, turns)?;
-            seat.failed()
-        }
-    };
-    draw(arena, seat, spent, turns)
 }

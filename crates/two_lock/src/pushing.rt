@@ -1,15 +1,16 @@
 //! Pushes a body.
-ghost use Rattle.std.specs.Prelude.{◌≡◌, ◌≤◌, ◌<◌, IsTrue, Some};
+ghost use Rattle.std.specs.Prelude.{◌≡◌, ◌<◌, IsTrue, Some, OnErr};
 ghost use Rattle.line_table.specs.declared.lines.Line.TheVariants as lines;
 ghost use Rattle.node_arena.specs.Prologues.{continues};
 ghost use Rattle.node_arena.specs.Plans.{may_push};
 ghost use Rattle.node_arena.specs.Seats.{IsReady, role_of, pocket_of};
 ghost use Rattle.two_lock.specs.Values.{IsTwoLock};
-ghost use Rattle.two_lock.specs.Pushes.{CallIsAt, Links, Puts, AnswersPush};
+ghost use Rattle.two_lock.specs.Pushes.{CallIsAt, Links};
+ghost use Rattle.two_lock.specs.Worn.{push_worn};
+ghost use Rattle.arena_queue.specs.Answers.{Puts};
 
 use crate::push_lines::{a1, a2, a3, a4, a5, a6, a7};
 use crate::push_outcomes::{Actor, Outcome, got_lock, registers};
-use free_list::take;
 use history::{Body, Refusal};
 use node_arena::{Arena, Held, Seat, word_of};
 
@@ -32,7 +33,7 @@ fn link(arena: &Arena, seat: &mut Seat, a: Actor)
 }
 
 // The push with the node in the pocket, where `spent` turns of this call failed before.
-fn put(
+pub(crate) fn put(
     arena: &Arena,
     seat: &mut Seat,
     held: Held,
@@ -45,7 +46,8 @@ fn put(
     requires role { IsTrue (may_push (role_of seat.old)) }
     requires full { pocket_of seat.old ≡ Some held }
     requires turns { spent < turns }
-    ensures { Puts arena.now seat.old seat.new held body spent turns result }
+    ensures puts { Puts push_worn arena.now seat.old seat.new held.node body spent turns result }
+    ensures pocket { OnErr result (pocket_of seat.new ≡ Some held) }
 {
     let val = word_of(seat.number(), body.number());
     let Outcome::Goes(_, a) = a1(arena, seat, registers(held, val)) else {
@@ -63,27 +65,4 @@ fn put(
     }
     seat.keep(Some(held), turns);
     Err(Refusal::Busy)
-}
-
-/// Pushes a body at the back, by the node in the seat's pocket, or else by one that it takes.
-///
-/// Refusals: those of a take, and `Busy` where each of so many turns failed. A node that the call got stays in the
-/// pocket. Takes no memory and doesn't wait.
-pub(crate) fn try_push(
-    arena: &Arena,
-    seat: &mut Seat,
-    body: Body,
-    turns: u32,
-) -> Result<(), Refusal>
-    requires ready { IsReady arena.now seat.old }
-    requires two_lock { IsTwoLock arena.now }
-    requires role { IsTrue (may_push (role_of seat.old)) }
-    requires turns { 1 ≤ turns }
-    ensures { AnswersPush arena.now seat.old seat.new body turns result }
-{
-    let (held, spent) = match seat.pocket() {
-        Some(held) => (held, 0),
-        None => (take(arena, seat, turns)?, seat.failed()),
-    };
-    put(arena, seat, held, body, spent, turns)
 }

@@ -3,7 +3,8 @@ use super::comparing::same;
 use super::letters::{a_loss_is_told_from_then_on, letters_come_in_the_order_sent};
 use super::loads::LOADS;
 use history::Refusal;
-use mail_engine::non_blocking_seats;
+use mail_engine::mail_queue;
+use nonblocking::NonBlockingAlgorithm;
 use numbered_letters::{Load, posted};
 use std::alloc::Global;
 use std::rt::Clock;
@@ -17,7 +18,7 @@ const GREATEST_COUNT: u64 = 1_099_511_627_775;
 /// Three letters of two senders come in the order in which they were sent; then there is none.
 #[test]
 fn in_the_order_sent(rt: HostRuntime) -> Result<(), Fail> {
-    let (queue, seats, receiver) = non_blocking_seats(rt.alloc(), 7, 100, 2)?;
+    let (queue, seats, receiver) = mail_queue::<NonBlockingAlgorithm>(rt.alloc(), 7, 100, 2)?;
     letters_come_in_the_order_sent(&rt, rt.alloc(), queue, seats, receiver)?;
     Ok(())
 }
@@ -25,7 +26,7 @@ fn in_the_order_sent(rt: HostRuntime) -> Result<(), Fail> {
 /// A body that is no letter's index is lost, and then each take is.
 #[test]
 fn lost_from_then_on(rt: HostRuntime) -> Result<(), Fail> {
-    let (queue, seats, receiver) = non_blocking_seats(rt.alloc(), 7, 100, 2)?;
+    let (queue, seats, receiver) = mail_queue::<NonBlockingAlgorithm>(rt.alloc(), 7, 100, 2)?;
     a_loss_is_told_from_then_on(&rt, rt.alloc(), queue, seats, receiver)?;
     Ok(())
 }
@@ -37,7 +38,12 @@ fn came<R: Threads + Wait + Clock + Sync>(
     senders: u16,
     load: Load,
 ) -> Result<Option<usize>, Refusal> {
-    let (queue, seats, receiver) = non_blocking_seats(alloc, 4006, GREATEST_COUNT, senders)?;
+    let (queue, seats, receiver) = mail_queue::<NonBlockingAlgorithm>(
+        alloc,
+        4006,
+        GREATEST_COUNT,
+        senders,
+    )?;
     Ok(posted(rt, alloc, queue, seats, receiver, load)?.in_order)
 }
 

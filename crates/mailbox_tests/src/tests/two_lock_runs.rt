@@ -4,7 +4,7 @@ use super::letters::{a_loss_is_told_from_then_on, letters_come_in_the_order_sent
 use super::loads::LOADS;
 use super::plans::{Late, Trouble};
 use history::{Refusal, WornWord};
-use mail_engine::two_lock_seats;
+use mail_engine::mail_queue;
 use mock_queues::Planned;
 use numbered_letters::{Load, posted};
 use std::alloc::Global;
@@ -12,6 +12,7 @@ use std::rt::Clock;
 use std::sync::Wait;
 use std::test::Fail;
 use std::thread::Threads;
+use two_lock::TwoLockAlgorithm;
 
 /// The greatest count of all.
 const GREATEST_COUNT: u64 = 1_099_511_627_775;
@@ -22,7 +23,7 @@ const TRIES: u32 = 100;
 /// Three letters of two senders come in the order in which they were sent; then there is none.
 #[test]
 fn in_the_order_sent(rt: HostRuntime) -> Result<(), Fail> {
-    let (queue, seats, receiver) = two_lock_seats(rt.alloc(), 7, 100, 2)?;
+    let (queue, seats, receiver) = mail_queue::<TwoLockAlgorithm>(rt.alloc(), 7, 100, 2)?;
     letters_come_in_the_order_sent(&rt, rt.alloc(), queue, seats, receiver)?;
     Ok(())
 }
@@ -30,7 +31,7 @@ fn in_the_order_sent(rt: HostRuntime) -> Result<(), Fail> {
 /// A body that is no letter's index is lost, and then each take is.
 #[test]
 fn lost_from_then_on(rt: HostRuntime) -> Result<(), Fail> {
-    let (queue, seats, receiver) = two_lock_seats(rt.alloc(), 7, 100, 2)?;
+    let (queue, seats, receiver) = mail_queue::<TwoLockAlgorithm>(rt.alloc(), 7, 100, 2)?;
     a_loss_is_told_from_then_on(&rt, rt.alloc(), queue, seats, receiver)?;
     Ok(())
 }
@@ -42,7 +43,12 @@ fn came<R: Threads + Wait + Clock + Sync>(
     senders: u16,
     load: Load,
 ) -> Result<Option<usize>, Refusal> {
-    let (queue, seats, receiver) = two_lock_seats(alloc, 4006, GREATEST_COUNT, senders)?;
+    let (queue, seats, receiver) = mail_queue::<TwoLockAlgorithm>(
+        alloc,
+        4006,
+        GREATEST_COUNT,
+        senders,
+    )?;
     Ok(posted(rt, alloc, queue, seats, receiver, load)?.in_order)
 }
 
@@ -83,7 +89,12 @@ fn troubled<R: Threads + Wait + Clock + Sync>(
     trouble: Trouble,
     stray: bool,
 ) -> Result<Option<usize>, Refusal> {
-    let (queue, mut seats, receiver) = two_lock_seats(alloc, 16, GREATEST_COUNT, 3)?;
+    let (queue, mut seats, receiver) = mail_queue::<TwoLockAlgorithm>(
+        alloc,
+        16,
+        GREATEST_COUNT,
+        3,
+    )?;
     let queue = Planned::new(queue, trouble);
     take_last(&queue, &mut seats, stray)?;
     let load = Load {
@@ -106,7 +117,12 @@ fn the_receivers_refusal_comes_first(rt: HostRuntime) -> Result<(), Fail> {
 /// A letter that is sent just after a take found none comes: whether its sender had ended is looked at before the take.
 #[test]
 fn a_letter_comes_that_is_sent_after_a_take_found_none(rt: HostRuntime) -> Result<(), Fail> {
-    let (queue, seats, receiver) = two_lock_seats(rt.alloc(), 4, GREATEST_COUNT, 1)?;
+    let (queue, seats, receiver) = mail_queue::<TwoLockAlgorithm>(
+        rt.alloc(),
+        4,
+        GREATEST_COUNT,
+        1,
+    )?;
     let queue = Planned::new(queue, Late::new());
     let load = Load {
         first: 1,

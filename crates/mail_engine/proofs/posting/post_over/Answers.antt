@@ -1,4 +1,4 @@
-use Rattle.std.proofs.Common.{arith, ◌≡◌, ◌∙◌, sym, ap, length}
+use Rattle.std.proofs.Common.{arith, ◌∙◌, sym, ap, length}
 use Rattle.std.proofs.lemmas.List.{length-map}
 use Rattle.std.proofs.lemmas.Result.{on_ok_weaker, IfErr-weaker}
 use Rattle.mailbox.proofs.Plans.{receiver_of-same}
@@ -40,7 +40,7 @@ returns-clause-ok g c =
     let from = senders_within (g.Q.Fifo.permits c.in_ok-planned.planned.queue) g.Q.Fifo.known c.args.mail.senders c.in_ok-office.receiver
     c.in_ok-letters.field-0.items c.post-receiver.result.0 row (here.sound _ _ c.post-receiver.ensures.receiver.seat) told in
     on_ok_weaker c.tell.result
-    (λ w. writes_taken c.args.kind c.args.mail.senders (said_letters c.args.mail.letters.items) c.in_ok-letters.field-0.items count from texts (record { words = g.Q.OnWords.words c.args.queue; made = c.requires.made }) (g.W.Sink.state c.args.writer.now) (g.W.Sink.state c.tell.new.writer) w)
+    (λ w. writes_taken c.args.kind c.args.mail.senders (said_letters c.args.mail.letters.items) c.in_ok-letters.field-0.items count from texts c.requires.over (g.W.Sink.state c.args.writer.now) (g.W.Sink.state c.tell.new.writer) w)
     c.tell.ensures.ok
 
 pub returns-clause-beginning : goal.returns-clause-beginning
@@ -54,5 +54,5 @@ returns-clause-beginning g c =
     let from = senders_within (g.Q.Fifo.permits c.in_ok-planned.planned.queue) g.Q.Fifo.known c.args.mail.senders c.in_ok-office.receiver
     c.in_ok-letters.field-0.items c.post-receiver.result.0 row (here.sound _ _ c.post-receiver.ensures.receiver.seat) told in
     IfErr-weaker c.tell.result _ _
-    (λ why h e. begins_taken c.args.kind c.args.mail.senders (said_letters c.args.mail.letters.items) c.in_ok-letters.field-0.items count from texts (record { words = g.Q.OnWords.words c.args.queue; made = c.requires.made }) (g.W.Sink.state c.args.writer.now) (g.W.Sink.state c.tell.new.writer) (h e))
+    (λ why h e. begins_taken c.args.kind c.args.mail.senders (said_letters c.args.mail.letters.items) c.in_ok-letters.field-0.items count from texts c.requires.over (g.W.Sink.state c.args.writer.now) (g.W.Sink.state c.tell.new.writer) (h e))
     c.tell.ensures.beginning

@@ -1,8 +1,7 @@
-use Rattle.std.proofs.Common.{rules, arith, ◌≡◌, [], ◌∷◌, sym, subst}
+use Rattle.std.proofs.Common.{rules, arith, ◌≡◌, [], sym, subst}
 use Rattle.std.proofs.lemmas.Grind.{common_steps}
 use Rattle.std.proofs.lemmas.List.Elements.{All-nil, All-cons, All-append}
 use Rattle.std.specs.List.{All}
-use Rattle.mailbox.specs.declared.posting.Task.{Task}
 use Rattle.mail_engine.proofs.sharing.idle_tasks.Goals as goal
 
 pub loop-sender-preserved : goal.loop-sender-preserved

@@ -2,7 +2,8 @@ use Rattle.std.proofs.Common.{ap, subst}
 use Rattle.history.specs.declared.operations.Taken.{Taken}
 use Rattle.node_arena.specs.Machine.{value_of}
 use Rattle.nonblocking.specs.declared.push_outcomes.Actor.{Actor as Running}
-use Rattle.nonblocking.specs.Pushes.{Puts}
+use Rattle.arena_queue.specs.Answers.{Puts}
+use Rattle.nonblocking.specs.Worn.{push_worn}
 use Rattle.node_arena.proofs.Values.{value_of-word}
 use Rattle.nonblocking.proofs.PushTries.{pushes_out, fill_worn, fill_ready, fill_then}
 use Rattle.nonblocking.proofs.pushing.put.Goals as goal
@@ -15,8 +16,8 @@ push_within-requires-clause-stands c = fill_ready c.args.arena.now c.args.seat.n
 
 pub returns-in-Goes : goal.returns-in-Goes
 returns-in-Goes c =
-    subst (λ n. Puts c.args.arena.now c.args.seat.now c.push_within.new.seat c.args.held.node n c.args.spent c.args.turns c.push_within.result) c.number-2.ensures.value
-    (subst (λ n. Puts c.args.arena.now c.args.seat.now c.push_within.new.seat c.args.held.node n c.args.spent c.args.turns c.push_within.result)
+    subst (λ n. Puts push_worn c.args.arena.now c.args.seat.now c.push_within.new.seat c.args.held.node n c.args.spent c.args.turns c.push_within.result) c.number-2.ensures.value
+    (subst (λ n. Puts push_worn c.args.arena.now c.args.seat.now c.push_within.new.seat c.args.held.node n c.args.spent c.args.turns c.push_within.result)
     (ap (λ (v : Taken). v.body) (value_of-word c.word_of-val.result c.number.result c.number-2.result c.number-2.ensures.range c.word_of-val.ensures))
     (fill_then c.args.arena.now c.args.seat.now c.fill.new.seat c.registers.result c.fill.result c.in-Goes.field-0 c.in-Goes.a c.in-Goes.is c.fill.ensures c.push_within.new.seat c.args.held.node (value_of c.word_of-val.result).body c.args.spent c.args.turns c.push_within.result (ap (λ (x : Running). x.node) c.registers.ensures) c.push_within.ensures))
 

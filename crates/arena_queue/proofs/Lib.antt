@@ -1,0 +1,3 @@
+pub mod Queues
+pub mod Pushes
+pub mod Pops

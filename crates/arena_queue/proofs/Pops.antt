@@ -1,0 +1,163 @@
+-- The ends of a pop, a pop behind other lines of its call, and a whole pop: with an empty pocket, or after a give back.
+use Rattle.std.proofs.Common.{◌≡◌, ℕ, ◌+◌, ◌-◌, ◌<◌, ◌≤◌, List, ◌++◌, Option, Some, None, Result, Ok, Err, IfOk, IfErr, OnOk, sym, refl, ap, subst, ◌∙◌, arith, append_assoc, ⊎_elim, inl, inr}
+use Rattle.history.specs.declared.operations.Entry.TheVariants.{Pop}
+use Rattle.history.specs.declared.operations.Taken.{Taken}
+use Rattle.history.specs.declared.refusals.Refusal.{Refusal}
+use Rattle.history.specs.declared.refusals.Refusal.TheVariants.{WornOut, Busy}
+use Rattle.history.specs.declared.refusals.WornWord.{WornWord}
+use Rattle.history.specs.Answers.{PopAnswers, FoundEmpty, StopsPop}
+use Rattle.history.proofs.Learning.{answers_then}
+use Rattle.node_arena.specs.Machine.{Held, value_of}
+use Rattle.node_arena.specs.Prologues.{at_rest, out_of}
+use Rattle.node_arena.specs.Traces.{Event}
+use Rattle.node_arena.specs.declared.arena.Arena.{Arena}
+use Rattle.node_arena.specs.declared.seats.Seat.{Seat}
+use Rattle.node_arena.specs.Seeing.{known_by}
+use Rattle.node_arena.specs.Seats.{IsSeat, IsReady, KeepsStored, KeepsName, view, known_of, keeping, failed_of}
+use Rattle.node_arena.specs.Turns.{failed_turns}
+use Rattle.node_arena.specs.Paths.{ExtendsPath, Acts, HadNoEffect, EndedAt, IsRefusedAt, added}
+use Rattle.node_arena.proofs.Paths.{walk_then, act_then, sees_on, added_is, added_path, last_held, ends_failed, met_behind, failed-append, failed_behind, kept_seat}
+use Rattle.free_list.specs.Gives.{GiveAnswers}
+use Rattle.arena_queue.specs.Answers.{EmptiesPocket, DrawRefused, Draws, AnswersPop}
+use Rattle.arena_queue.proofs.Queues.{same_number}
+
+module _ (worn : WornWord → Type 0) where
+  -- lines before a pop, with so many failed turns
+  module _ (r : Arena) (s u x : Seat) (es : List Event) (w : ExtendsPath (view s) (view u) es) (spent before turns : ℕ) (more : before ≡ spent + failed_turns es) where
+    late : (path : (view x).path ≡ (view u).path ++ added u x) → added s x ≡ es ++ added u x
+    late path = added_path s x (es ++ added u x) (path ∙ ap (λ p. p ++ added u x) w.path ∙ append_assoc (view s).path es (added u x))
+
+    late_cause : (e : added s x ≡ es ++ added u x) (why : Refusal) → DrawRefused worn r u x before turns why → DrawRefused worn r s x spent turns why
+    late_cause e Busy f = (
+      (let c = ap failed_turns e in let n = f.0 in omega (arith, failed-append es (added u x), c, n, more)),
+      ends_failed s x (es ++ added u x) e (failed_behind es (added u x) f.1),
+    )
+    late_cause e (WornOut word) f = (met_behind r s u x es (WornOut word) w e f.0, f.1)
+    late_cause e _ f = absurd f
+
+    pub draws_late : (out : Result (Option Taken) Refusal) → KeepsName s u → Draws worn r u x before turns out → Draws worn r s x spent turns out
+    draws_late out name d =
+        let e = late d.path in
+        record {
+          ready = d.ready;
+          same = record { number = d.same.number ∙ name.number; role = d.same.role ∙ name.role };
+          path = d.path ∙ ap (λ p. p ++ added u x) w.path ∙ append_assoc (view s).path es (added u x) ∙ ap (λ p. (view s).path ++ p) (sym e);
+          answer = answered out d;
+          few = fewer out e d;
+          freed = freed_of out e d;
+          refused = refused_by out e d;
+        }
+      where
+        answered : (o : Result (Option Taken) Refusal) → Draws worn r u x before turns o → IfOk o (λ v. PopAnswers (known_of s) v (known_of x))
+        answered (Ok v) d = answers_then (known_of s) (known_of u) (known_of x) v (sees_on (view s) (view u) es w) d.answer
+        answered (Err why) d = tt
+
+        fewer : (o : Result (Option Taken) Refusal) → added s x ≡ es ++ added u x → Draws worn r u x before turns o → OnOk o (spent + failed_turns (added s x) ≤ turns)
+        fewer (Ok v) e d = let c = ap failed_turns e in let n = d.few in omega (arith, failed-append es (added u x), c, n, more)
+        fewer (Err why) e d = tt
+
+        freed_of : (o : Result (Option Taken) Refusal) → added s x ≡ es ++ added u x → Draws worn r u x before turns o → OnOk o (EmptiesPocket s x spent turns)
+        freed_of (Ok v) e d = ⊎_elim (λ none. inl none) (λ all. inr (let c = ap failed_turns e in omega (arith, failed-append es (added u x), c, all, more))) d.freed
+        freed_of (Err why) e d = tt
+
+        refused_by : (o : Result (Option Taken) Refusal) → added s x ≡ es ++ added u x → Draws worn r u x before turns o → IfErr o (λ why. HadNoEffect s x × DrawRefused worn r s x spent turns why)
+        refused_by (Ok v) e d = tt
+        refused_by (Err why) e d = (subst (ExtendsPath (view s) (view x)) (sym e) (walk_then (view s) (view u) (view x) es (added u x) w d.refused.0), late_cause e why d.refused.1)
+
+  -- a word was found worn out, and the call is over
+  pub draws_worn : (r : Arena) (s t : Seat) (why : Refusal) (word : WornWord) (failed turns : ℕ) (es : List Event) → IsSeat r t → (view t).actor.line ≡ None → (view t).actor.pocket ≡ None → KeepsStored s t → ExtendsPath (view s) (view t) es → why ≡ WornOut word → EndedAt r s es (IsRefusedAt r.plan.setup (view s).number (WornOut word)) → worn word → Draws worn r s (keeping t None failed) failed turns (Err why)
+  draws_worn r s t why word failed turns es seat over empty stored w is cause so =
+      let e : added s t ≡ es = added_is s t es w in
+      let rest : at_rest (view t).actor ≡ (view t).actor = ap (out_of (view t).actor) over in
+      record {
+        ready = record { seat = kept_seat r t None failed seat; free = ap (λ b. b.line) rest ∙ over; pocket = sym (ap (λ b. b.pocket) rest ∙ empty) };
+        same = record { number = stored.number; role = stored.role };
+        path = w.path ∙ ap (λ p. (view s).path ++ p) (sym e);
+        answer = tt;
+        few = tt;
+        freed = tt;
+        refused = (
+          subst (ExtendsPath (view s) (view t)) (sym e) w,
+          subst (DrawRefused worn r s (keeping t None failed) failed turns) (sym is) (last_held r s (keeping t None failed) es _ e cause, so),
+        );
+      }
+
+  -- a value was taken, and the node that comes free is given back, or stays in the pocket
+  pub draws_taken : (r : Arena) (s t x : Seat) (word : ℕ) (h : Held) (failed turns : ℕ) (out : Result (Unit {0}) Refusal) (es : List Event) → failed < turns → KeepsStored s t → Acts (view s) (view t) (Pop (view s).number (value_of word)) es → failed_turns es ≡ 0 → GiveAnswers r (keeping t (Some h) failed) x (turns - failed) out → Draws worn r s x failed turns (Ok (Some (value_of word)))
+  draws_taken r s t x word h failed turns out es less stored took never g =
+      let acts : Acts (view s) (view x) (Pop (view s).number (value_of word)) (es ++ added t x) = act_then (view s) (view t) (view x) (Pop (view s).number (value_of word)) es (added t x) took (record { walks = g.lines; same = g.seen }) in
+      let e : added s x ≡ es ++ added t x = added_path s x (es ++ added t x) acts.path in
+      let all : failed_turns (added s x) ≡ failed_turns (added t x) = (let c = ap failed_turns e in omega (arith, failed-append es (added t x), never, c)) in
+      let most : failed_turns (added t x) ≤ turns - failed = spends out g in
+      record {
+        ready = g.ready;
+        same = record { number = g.same.number ∙ stored.number; role = g.same.role ∙ stored.role };
+        path = acts.path ∙ ap (λ p. (view s).path ++ p) (sym e);
+        answer = acts.adds;
+        few = omega (arith, all, most, less);
+        freed = gave out all g;
+        refused = tt;
+      }
+    where
+      gave : (o : Result (Unit {0}) Refusal) → failed_turns (added s x) ≡ failed_turns (added t x) → GiveAnswers r (keeping t (Some h) failed) x (turns - failed) o → EmptiesPocket s x failed turns
+      gave (Ok u) all g = inl g.pocket
+      gave (Err why) all g = inr (let n : failed_turns (added t x) ≡ turns - failed = g.refused.1 in omega (arith, all, n, less))
+
+      spends : (o : Result (Unit {0}) Refusal) → GiveAnswers r (keeping t (Some h) failed) x (turns - failed) o → failed_turns (added t x) ≤ turns - failed
+      spends (Ok u) g = let n : failed_of x ≡ failed_turns (added t x) = g.failed in let k = g.fewer in omega arith
+      spends (Err why) g = let n : failed_turns (added t x) ≡ turns - failed = g.refused.1 in omega arith
+
+  -- the queue was found empty
+  pub draws_empty : (r : Arena) (s t : Seat) (failed turns : ℕ) (es : List Event) → failed < turns → IsSeat r t → (view t).actor.line ≡ None → (view t).actor.pocket ≡ None → KeepsStored s t → (view t).path ≡ (view s).path ++ es → failed_turns es ≡ 0 → FoundEmpty (known_by (view s)) (known_by (view t)) → Draws worn r s (keeping t None failed) failed turns (Ok None)
+  draws_empty r s t failed turns es less seat over empty stored path never found =
+      let e : added s t ≡ es = added_path s t es path in
+      let rest : at_rest (view t).actor ≡ (view t).actor = ap (out_of (view t).actor) over in
+      record {
+        ready = record { seat = kept_seat r t None failed seat; free = ap (λ b. b.line) rest ∙ over; pocket = sym (ap (λ b. b.pocket) rest ∙ empty) };
+        same = record { number = stored.number; role = stored.role };
+        path = path ∙ ap (λ p. (view s).path ++ p) (sym e);
+        answer = found;
+        few = (let c = ap failed_turns e in omega (arith, never, less, c));
+        freed = inl refl;
+        refused = tt;
+      }
+
+  -- a pop with no line of its call before it
+  whole : (r : Arena) (s x : Seat) (turns : ℕ) (out : Result (Option Taken) Refusal) → IsReady r s → Draws worn r s x 0 turns out → AnswersPop worn r s x turns out
+  whole r s x turns (Ok v) h d =
+      record {
+        ready = d.ready;
+        number = same_number r s x h d.ready d.same;
+        answer = d.answer;
+        few = (let n = d.few in omega arith);
+        freed = ⊎_elim (λ none. inl none) (λ all. inr (let f = all in omega arith)) d.freed;
+        refused = tt;
+        why = tt;
+        caused = tt;
+      }
+  whole r s x turns (Err why) h d =
+      record {
+        ready = d.ready;
+        number = same_number r s x h d.ready d.same;
+        answer = tt;
+        few = tt;
+        freed = tt;
+        refused = sees_on (view s) (view x) (added s x) d.refused.0;
+        why = stops why d.refused.1;
+        caused = d.refused.1;
+      }
+    where
+      stops : (why : Refusal) → DrawRefused worn r s x 0 turns why → StopsPop why
+      stops Busy f = tt
+      stops (WornOut word) f = tt
+      stops _ f = absurd f
+
+  -- the pop of a seat whose pocket was empty
+  pub drawn_at_once : (r : Arena) (s v x : Seat) (n turns : ℕ) (out : Result (Option Taken) Refusal) → IsReady r s → v ≡ s → n ≡ 0 → Draws worn r v x n turns out → AnswersPop worn r s x turns out
+  drawn_at_once r s v x n turns out h e f d = whole r s x turns out h (subst (λ u. Draws worn r u x 0 turns out) e (subst (λ m. Draws worn r v x m turns out) f d))
+
+  -- the pop of a seat that first gave its node back
+  pub drawn_after_give : (r : Arena) (s u v x : Seat) (spent n turns : ℕ) (out : Result (Option Taken) Refusal) → IsReady r s → v ≡ u → n ≡ spent → KeepsName s u → HadNoEffect s u → spent ≡ failed_turns (added s u) → Draws worn r v x n turns out → AnswersPop worn r s x turns out
+  drawn_after_give r s u v x spent n turns out h e f name w g d =
+      let k : Draws worn r u x spent turns out = subst (λ y. Draws worn r y x spent turns out) e (subst (λ m. Draws worn r v x m turns out) f d) in
+      whole r s x turns out h (draws_late r s u x (added s u) w 0 spent turns (omega (arith, g)) out name k)

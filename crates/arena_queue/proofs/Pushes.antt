@@ -1,0 +1,103 @@
+-- A push behind other lines of its call, and a whole push: with a full pocket, or after a take.
+use Rattle.std.proofs.Common.{◌≡◌, ℕ, ◌+◌, List, ◌++◌, Option, Result, Ok, Err, sym, ap, subst, ◌∙◌, arith}
+use Rattle.history.specs.declared.operations.Entry.TheVariants.{Push}
+use Rattle.history.specs.declared.refusals.Refusal.{Refusal}
+use Rattle.history.specs.declared.refusals.Refusal.TheVariants.{WornOut, Busy}
+use Rattle.history.specs.declared.refusals.WornWord.{WornWord}
+use Rattle.history.specs.declared.refusals.WornWord.TheVariants.{Free as OfFree, Next as OfNext, Tail as OfTail, Head as OfHead}
+use Rattle.history.specs.Answers.{StopsPush}
+use Rattle.node_arena.specs.Machine.{Held}
+use Rattle.node_arena.specs.Traces.{Event}
+use Rattle.node_arena.specs.declared.arena.Arena.{Arena}
+use Rattle.node_arena.specs.declared.seats.Seat.{Seat}
+use Rattle.node_arena.specs.Seats.{IsReady, KeepsName, view}
+use Rattle.node_arena.specs.Turns.{failed_turns}
+use Rattle.node_arena.specs.Paths.{ExtendsPath, Acts, HadNoEffect, added}
+use Rattle.node_arena.proofs.Paths.{walk_then, then_act, added_is, added_path, sees_on, met_behind, failed-append, failed_behind, ends_failed}
+use Rattle.arena_queue.specs.Answers.{PutRefused, Puts, PushRefused, AnswersPush}
+use Rattle.arena_queue.proofs.Queues.{same_number}
+
+module _ (worn : WornWord → Option Held → Type 0) where
+  -- a push behind other lines of its call
+  pub put_behind : (r : Arena) (s t u : Seat) (es : List Event) → ExtendsPath (view s) (view t) es → KeepsName s t → (node body spent all turns : ℕ) (out : Result (Unit {0}) Refusal) → spent + failed_turns es ≡ all → Puts worn r t u node body all turns out → Puts worn r s u node body spent turns out
+  put_behind r s t u es w name node body spent all turns (Ok x) f k =
+      let both : List Event = es ++ added t u in
+      let acts : Acts (view s) (view u) (Push (view s).number body) both = then_act (view s) (view t) (view u) (Push (view t).number body) (Push (view s).number body) es (added t u) (λ i. Push (w.number i) body) w k.pushed.0 in
+      let e : added s u ≡ both = added_path s u both acts.path in
+      record {
+        ready = k.ready;
+        same = record { number = k.same.number ∙ name.number; role = k.same.role ∙ name.role };
+        pushed = (
+          subst (Acts (view s) (view u) (Push (view s).number body)) (sym e) acts,
+          k.pushed.1,
+          (let c = ap failed_turns e in let g = k.pushed.2 in omega (arith, failed-append es (added t u), c, f, g)),
+        );
+        refused = tt;
+      }
+  put_behind r s t u es w name node body spent all turns (Err why) f k =
+      let both : List Event = es ++ added t u in
+      let walks : ExtendsPath (view s) (view u) both = walk_then (view s) (view t) (view u) es (added t u) w k.refused.0 in
+      let e : added s u ≡ both = added_is s u both walks in
+      record {
+        ready = k.ready;
+        same = record { number = k.same.number ∙ name.number; role = k.same.role ∙ name.role };
+        pushed = tt;
+        refused = (subst (ExtendsPath (view s) (view u)) (sym e) walks, by_cause e why k.refused.1);
+      }
+    where
+      by_cause : added s u ≡ es ++ added t u → (why : Refusal) → PutRefused worn r t u node all turns why → PutRefused worn r s u node spent turns why
+      by_cause e Busy x = (
+        (let c = ap failed_turns e in let g = x.0 in omega (arith, failed-append es (added t u), c, f, g)),
+        ends_failed s u (es ++ added t u) e (failed_behind es (added t u) x.1),
+        x.2,
+      )
+      by_cause e (WornOut word) x = (met_behind r s t u es (WornOut word) w e x.0, x.1, x.2)
+      by_cause e _ x = absurd x
+
+  -- the push of a node that was in the pocket
+  at_once : (r : Arena) (s t : Seat) (node body turns : ℕ) (out : Result (Unit {0}) Refusal) → IsReady r s → Puts worn r s t node body 0 turns out → AnswersPush worn r s t body turns out
+  at_once r s t node body turns (Ok u) h k =
+      record {
+        ready = k.ready;
+        number = same_number r s t h k.ready k.same;
+        pushed = k.pushed.0.adds;
+        few = (let f = k.pushed.2 in omega arith);
+        pocket = k.pushed.1;
+        refused = tt;
+        why = tt;
+        caused = tt;
+      }
+  at_once r s t node body turns (Err why) h k =
+      record {
+        ready = k.ready;
+        number = same_number r s t h k.ready k.same;
+        pushed = tt;
+        few = tt;
+        pocket = tt;
+        refused = sees_on (view s) (view t) (added s t) k.refused.0;
+        why = stops why k.refused.1;
+        caused = by_cause why k.refused.1;
+      }
+    where
+      stops : (why : Refusal) → PutRefused worn r s t node 0 turns why → StopsPush why
+      stops Busy x = tt
+      stops (WornOut word) x = tt
+      stops _ x = absurd x
+
+      by_cause : (why : Refusal) → PutRefused worn r s t node 0 turns why → PushRefused worn r s t turns why
+      by_cause Busy x = ((let f = x.0 in omega arith), x.1)
+      by_cause (WornOut OfFree) x = x.0
+      by_cause (WornOut OfNext) x = (x.0, x.1)
+      by_cause (WornOut OfTail) x = (x.0, x.1)
+      by_cause (WornOut OfHead) x = (x.0, x.1)
+      by_cause _ x = absurd x
+
+  -- the push of a seat whose pocket was full
+  pub put_at_once : (r : Arena) (s v x : Seat) (node body n turns : ℕ) (out : Result (Unit {0}) Refusal) → IsReady r s → v ≡ s → n ≡ 0 → Puts worn r v x node body n turns out → AnswersPush worn r s x body turns out
+  put_at_once r s v x node body n turns out h e f p = at_once r s x node body turns out h (subst (λ u. Puts worn r u x node body 0 turns out) e (subst (λ m. Puts worn r v x node body m turns out) f p))
+
+  -- the push of a seat that first took a node
+  pub put_after_take : (r : Arena) (s u v x : Seat) (node body spent n turns : ℕ) (out : Result (Unit {0}) Refusal) → IsReady r s → v ≡ u → n ≡ spent → KeepsName s u → HadNoEffect s u → spent ≡ failed_turns (added s u) → Puts worn r v x node body n turns out → AnswersPush worn r s x body turns out
+  put_after_take r s u v x node body spent n turns out h e f name w g p =
+      let k : Puts worn r u x node body spent turns out = subst (λ y. Puts worn r y x node body spent turns out) e (subst (λ m. Puts worn r v x node body m turns out) f p) in
+      at_once r s x node body turns out h (put_behind r s u x (added s u) w name node body 0 spent turns out (omega arith) k)

@@ -1,0 +1,110 @@
+-- What the calls of a queue on an arena answer, whatever its algorithm.
+use Rattle.std.specs.Prelude.{◌≡◌, ℕ, ◌+◌, ◌≤◌, ◌<◌, ◌⊎◌, ◌++◌, Option, None, IfSome, IsSomeAnd, Result, OnOk, OnErr, IfOk, IfErr}
+use Rattle.line_table.specs.declared.lines.Kind.{Kind}
+use Rattle.history.specs.declared.operations.Entry.TheVariants.{Push}
+use Rattle.history.specs.declared.operations.Taken.{Taken}
+use Rattle.history.specs.declared.refusals.Refusal.{Refusal}
+use Rattle.history.specs.declared.refusals.Refusal.TheVariants.{WornOut, Busy}
+use Rattle.history.specs.declared.refusals.WornWord.{WornWord}
+use Rattle.history.specs.declared.refusals.WornWord.TheVariants.{Free as OfFree}
+use Rattle.history.specs.Answers.{Pushed, PopAnswers, SeesMore, StopsPush, StopsPop}
+use Rattle.node_arena.specs.Machine.{Held}
+use Rattle.node_arena.specs.declared.arena.Arena.{Arena}
+use Rattle.node_arena.specs.declared.seats.Seat.{Seat}
+use Rattle.node_arena.specs.Seats.{IsReady, KeepsName, view, known_of, pocket_of}
+use Rattle.node_arena.specs.Turns.{failed_turns}
+use Rattle.node_arena.specs.Paths.{Acts, HadNoEffect, EndsFailed, MetCause, added}
+use Rattle.free_list.specs.Takes.{TakeRefused}
+
+-- an arena of this kind of queue
+abbrev pub IsOfKind : Arena → Kind → Type 0
+IsOfKind r kind = r.plan.setup.kind ≡ kind
+
+-- a call pushed a body
+abbrev pub DidPush : (s t : Seat) → (body : ℕ) → Type 0
+DidPush s t body = Acts (view s) (view t) (Push (view s).number body) (added s t)
+
+-- a node is in a seat's pocket
+abbrev pub KeepsNode : Seat → (node : ℕ) → Type 0
+KeepsNode t node = IsSomeAnd (pocket_of t) (λ h. h.node ≡ node)
+
+-- why a push that has its node is refused, where so many turns failed before: all turns failed, the last one at the last
+-- step, and the node is in the pocket; or a word was found worn out at the last step, and the pocket is as `worn` says of
+-- that word, with no other node
+abbrev pub PutRefused : (worn : WornWord → Option Held → Type 0) → Arena → Seat → Seat → (node spent turns : ℕ) → Refusal → Type 0
+PutRefused worn r s t node spent turns Busy = (spent + failed_turns (added s t) ≡ turns) × EndsFailed s t × KeepsNode t node
+PutRefused worn r s t node spent turns (WornOut word) =
+    MetCause r s t (WornOut word) × worn word (pocket_of t) × IfSome (pocket_of t) (λ h. h.node ≡ node)
+PutRefused worn r s t node spent turns _ = ⊥
+
+-- what a push answers that has its node, where so many turns failed before
+pub record Puts (worn : WornWord → Option Held → Type 0) (r : Arena) (s t : Seat) (node body spent turns : ℕ) (out : Result (Unit {0}) Refusal) : Type 0 where
+  pub ready : IsReady r t
+  pub same : KeepsName s t
+  pub pushed : OnOk out (DidPush s t body × (pocket_of t ≡ None) × (spent + failed_turns (added s t) < turns))
+  pub refused : IfErr out (λ why. HadNoEffect s t × PutRefused worn r s t node spent turns why)
+
+-- the cause of each refusal of a push is that of a take, or of the push of the node that it has
+abbrev pub PushRefused : (worn : WornWord → Option Held → Type 0) → Arena → Seat → Seat → (turns : ℕ) → Refusal → Type 0
+PushRefused worn r s t turns (WornOut OfFree) = TakeRefused r s t turns (WornOut OfFree)
+PushRefused worn r s t turns (WornOut word) = MetCause r s t (WornOut word) × worn word (pocket_of t)
+PushRefused worn r s t turns why = TakeRefused r s t turns why
+
+-- fewer turns than allowed failed
+abbrev pub FailsFewer : Seat → Seat → (turns : ℕ) → Type 0
+FailsFewer s t turns = failed_turns (added s t) < turns
+
+-- what a push answers
+pub record AnswersPush (worn : WornWord → Option Held → Type 0) (r : Arena) (s t : Seat) (body turns : ℕ) (out : Result (Unit {0}) Refusal) : Type 0 where
+  pub ready : IsReady r t
+  pub number : (known_of t).number ≡ (known_of s).number
+  pub pushed : OnOk out (Pushed (known_of s) body (known_of t))
+  pub few : OnOk out (FailsFewer s t turns)
+  pub pocket : OnOk out (pocket_of t ≡ None)
+  pub refused : OnErr out (SeesMore (known_of s) (known_of t))
+  pub why : IfErr out StopsPush
+  pub caused : IfErr out (PushRefused worn r s t turns)
+
+-- why a pop with an empty pocket is refused, where so many turns failed before: all turns failed, the last one at the last
+-- step, or a word of which `worn` says so was found worn out at the last step
+abbrev pub DrawRefused : (worn : WornWord → Type 0) → Arena → Seat → Seat → (spent turns : ℕ) → Refusal → Type 0
+DrawRefused worn r s t spent turns Busy = (spent + failed_turns (added s t) ≡ turns) × EndsFailed s t
+DrawRefused worn r s t spent turns (WornOut word) = MetCause r s t (WornOut word) × worn word
+DrawRefused worn r s t spent turns _ = ⊥
+
+-- of a call at most so many turns failed, with those of the give backs before and after its pop
+abbrev pub FailsFew : Seat → Seat → (turns : ℕ) → Type 0
+FailsFew s t turns = failed_turns (added s t) ≤ turns
+
+-- a seat's pocket is empty, or each turn of its call failed, where so many failed before
+abbrev pub EmptiesPocket : Seat → Seat → (spent turns : ℕ) → Type 0
+EmptiesPocket s t spent turns = (pocket_of t ≡ None) ⊎ (spent + failed_turns (added s t) ≡ turns)
+
+-- what a pop answers that has an empty pocket, where so many turns failed before
+pub record Draws (worn : WornWord → Type 0) (r : Arena) (s t : Seat) (spent turns : ℕ) (out : Result (Option Taken) Refusal) : Type 0 where
+  pub ready : IsReady r t
+  pub same : KeepsName s t
+  pub path : (view t).path ≡ (view s).path ++ added s t
+  pub answer : IfOk out (λ o. PopAnswers (known_of s) o (known_of t))
+  pub few : OnOk out (spent + failed_turns (added s t) ≤ turns)
+  pub freed : OnOk out (EmptiesPocket s t spent turns)
+  pub refused : IfErr out (λ why. HadNoEffect s t × DrawRefused worn r s t spent turns why)
+
+-- after a pop its seat's pocket is empty, or each of so many turns failed
+abbrev pub FreesItsNode : Seat → Seat → (turns : ℕ) → Type 0
+FreesItsNode s t turns = (pocket_of t ≡ None) ⊎ (failed_turns (added s t) ≡ turns)
+
+-- why a pop is refused
+abbrev pub PopRefused : (worn : WornWord → Type 0) → Arena → Seat → Seat → (turns : ℕ) → Refusal → Type 0
+PopRefused worn r s t turns why = DrawRefused worn r s t 0 turns why
+
+-- what a pop answers
+pub record AnswersPop (worn : WornWord → Type 0) (r : Arena) (s t : Seat) (turns : ℕ) (out : Result (Option Taken) Refusal) : Type 0 where
+  pub ready : IsReady r t
+  pub number : (known_of t).number ≡ (known_of s).number
+  pub answer : IfOk out (λ o. PopAnswers (known_of s) o (known_of t))
+  pub few : OnOk out (FailsFew s t turns)
+  pub freed : OnOk out (FreesItsNode s t turns)
+  pub refused : OnErr out (SeesMore (known_of s) (known_of t))
+  pub why : IfErr out StopsPop
+  pub caused : IfErr out (PopRefused worn r s t turns)

@@ -1,0 +1,58 @@
+//! What an algorithm of a queue on an arena has to bring.
+ghost use Rattle.std.specs.Prelude.{◌≡◌, ◌<◌, Option, Some, None, IsTrue};
+ghost use Rattle.line_table.specs.declared.lines.Kind.{Kind as TheKind};
+ghost use Rattle.history.specs.declared.refusals.WornWord.{WornWord as TheWornWord};
+ghost use Rattle.node_arena.specs.Machine.{Held as TheHeld};
+ghost use Rattle.node_arena.specs.Plans.{may_push, may_pop};
+ghost use Rattle.node_arena.specs.Seats.{IsReady, role_of, pocket_of};
+ghost use Rattle.arena_queue.specs.Answers.{IsOfKind, Puts, Draws};
+
+use history::{Body, Refusal, Taken};
+use line_table::Kind;
+use node_arena::{Arena, Held, Seat};
+
+/// How a queue on an arena pushes a node that it has, and pops.
+pub trait Algorithm {
+    // The kind of its arenas.
+    ghost kind: { TheKind };
+
+    // Which words stop a push of a node where they are worn out, and what is then in the pocket.
+    ghost push_worn: { TheWornWord → Option TheHeld → Type 0 };
+
+    // Which words stop a pop where they are worn out.
+    ghost pop_worn: { TheWornWord → Type 0 };
+
+    /// The kind of its arenas.
+    fn kind() -> Kind
+        ensures { result ≡ kind };
+
+    /// The push with the node in the pocket, where `spent` turns of this call failed before.
+    fn put(
+        arena: &Arena,
+        seat: &mut Seat,
+        held: Held,
+        body: Body,
+        spent: u32,
+        turns: u32,
+    ) -> Result<(), Refusal>
+        requires ready { IsReady arena.now seat.old }
+        requires kind { IsOfKind arena.now kind }
+        requires role { IsTrue (may_push (role_of seat.old)) }
+        requires full { pocket_of seat.old ≡ Some held }
+        requires turns { spent < turns }
+        ensures { Puts push_worn arena.now seat.old seat.new held.node body spent turns result };
+
+    /// The pop with an empty pocket, where `spent` turns of this call failed before.
+    fn draw(
+        arena: &Arena,
+        seat: &mut Seat,
+        spent: u32,
+        turns: u32,
+    ) -> Result<Option<Taken>, Refusal>
+        requires ready { IsReady arena.now seat.old }
+        requires kind { IsOfKind arena.now kind }
+        requires role { IsTrue (may_pop (role_of seat.old)) }
+        requires empty { pocket_of seat.old ≡ None }
+        requires turns { spent < turns }
+        ensures { Draws pop_worn arena.now seat.old seat.new spent turns result };
+}

@@ -1,0 +1,9 @@
+//! A queue on an arena, whichever of its algorithms it runs.
+#![tactic(auto)]
+
+mod algorithms;
+mod calls;
+mod queue;
+
+pub use algorithms::Algorithm;
+pub use queue::ArenaQueue;

@@ -1,0 +1,163 @@
+//! The queue: its arena, and its calls.
+ghost use Rattle.std.specs.Prelude.{◌≡◌, ◌+◌, ◌*◌, ◌≤◌, ◌↔◌, IsNone, IfSome, IfOk, IfErr, OnOk, OnErr, None};
+ghost use Rattle.node_arena.specs.Plans.{IsPlanned};
+ghost use Rattle.node_arena.specs.Making.{plan, NewRefused};
+ghost use Rattle.arena_queue.specs.Answers.{IsOfKind};
+
+use crate::algorithms::Algorithm;
+use crate::calls::{try_pop, try_push};
+use history::{Body, Fifo, Refusal, Rest, Taken};
+use node_arena::{Arena, Role, Seat};
+use std::alloc::Global;
+use std::marker::PhantomData;
+
+/// A queue that runs an algorithm on its arena. Threads share it by reference, each with a seat of its own.
+#[derive(Drop)]
+pub struct ArenaQueue<A: Algorithm> {
+    arena: Arena,
+    algorithm: PhantomData<A>,
+    ghost runs: { IsOfKind arena A.kind },
+}
+
+impl<A: Algorithm> ArenaQueue<A> {
+    ghost use Rattle.std.specs.Prelude.{map};
+    ghost use Rattle.std.specs.List.{All};
+    ghost use Rattle.history.specs.Openings.{AreNew};
+    ghost use Rattle.node_arena.specs.Plans.{permits_by};
+    ghost use Rattle.node_arena.specs.Moments.{WasWord};
+    ghost use Rattle.node_arena.specs.Seats.{known_of, plan_of, setup_of};
+    ghost use Rattle.arena_queue.specs.Queues.{arena_of, permits_of, IsQueueSeat, IsQueueMade};
+
+    /// A queue with so many nodes, 2 to 16,777,214, the greatest count `limit`, 1 to 1,099,511,627,775, and a seat for
+    /// each role, 1 to 65,535 of them, in their order. One node is always in the queue.
+    ///
+    /// Refusals: `BadSize` where one of them is out of its range, else `Memory`. Takes memory for two words a node, the
+    /// seats and their roles, and doesn't wait.
+    ///
+    /// ```rust
+    /// let roles = [Role::Giver, Role::Taker];
+    /// let (queue, seats) = MsQueue::new(alloc, 1024, MOST_COUNT, &roles)?;
+    /// ```
+    pub fn new(
+        alloc: Global,
+        nodes: u32,
+        limit: u64,
+        roles: &[Role],
+    ) -> Result<(ArenaQueue<A>, Vec<Seat>), Refusal>
+        ensures ok { IfOk result (λ r. IsQueueMade A.kind nodes limit roles.now r.0 r.1.items) }
+        ensures permits { IfOk result (λ r. permits_of r.0 ≡ permits_by roles.now) }
+        ensures seats { IfOk result (λ r. All (IsQueueSeat r.0) r.1.items) }
+        ensures unused { IfOk result (λ r. AreNew (permits_of r.0) (map known_of r.1.items)) }
+        ensures sized { OnOk result (IsPlanned (plan A.kind nodes limit roles.now)) }
+        ensures refused { IfErr result (NewRefused (plan A.kind nodes limit roles.now)) }
+    {
+        let (arena, seats) = Arena::new(alloc, A::kind(), nodes, limit, roles)?;
+        Ok((
+            ArenaQueue {
+                arena,
+                algorithm: PhantomData,
+            },
+            seats,
+        ))
+    }
+
+    /// What a word of the queue's arena holds, by one load of one moment, for inspection; none exactly where there is no
+    /// such word. It tells nothing of what a seat has seen. Takes no memory and doesn't wait.
+    ///
+    /// ```rust
+    /// // Word 2 is Head. In a new queue it names node 1, with count 0.
+    /// assert!(queue.peek(2) == Some(1));
+    /// ```
+    pub fn peek(&self, word: usize) -> Option<u64>
+        ensures none { IsNone result ↔ (6 + 2 * (setup_of (arena_of self.now)).size ≤ word) }
+        ensures held { IfSome result (WasWord (plan_of (arena_of self.now)) word) }
+    {
+        self.arena.peek(word)
+    }
+}
+
+impl<A: Algorithm> Fifo for ArenaQueue<A> {
+    ghost use Rattle.std.specs.Prelude.{map};
+    ghost use Rattle.std.specs.List.{All};
+    ghost use Rattle.history.specs.Seats.{MayPush, MayPop};
+    ghost use Rattle.history.specs.Answers.{Pushed, PopAnswers, SeesMore, StopsPush, StopsPop};
+    ghost use Rattle.history.specs.Closing.{Closes};
+    ghost use Rattle.node_arena.specs.Seats.{known_of, pocket_of, view};
+    ghost use Rattle.node_arena.proofs.Seens.{sound_of};
+    ghost use Rattle.arena_queue.specs.Answers.{FailsFewer, PushRefused, FailsFew, FreesItsNode, PopRefused};
+    ghost use Rattle.arena_queue.specs.Queues.{arena_of, permits_of, IsQueueSeat};
+
+    type Seat = Seat;
+
+    ghost is_seat = { IsQueueSeat };
+
+    ghost permits = { permits_of };
+
+    ghost known = { known_of };
+
+    ghost push_cause = { λ q. PushRefused A.push_worn (arena_of q) };
+
+    ghost pop_cause = { λ q. PopRefused A.pop_worn (arena_of q) };
+
+    ghost sound = { λ q s h. sound_of (arena_of q).plan (view s) h.seat.sits.fitted };
+
+    /// Refusals: `NoNode` where at one step all nodes were used and none was free, `WornOut` where at one step the count
+    /// of Free or of a word that stops the algorithm's pushes was the greatest one, and `Busy` where each of so many turns
+    /// failed. A node that the call got stays in the seat's pocket, for its next push, unless the algorithm says otherwise.
+    /// Takes no memory and doesn't wait.
+    fn try_push(&self, seat: &mut Seat, body: Body, turns: u32) -> Result<(), Refusal>
+        requires seat { IsQueueSeat self.now seat.old }
+        requires role { MayPush (permits_of self.now) (known_of seat.old).number }
+        requires turns { 1 ≤ turns }
+        ensures seat { IsQueueSeat self.now seat.new }
+        ensures number { (known_of seat.new).number ≡ (known_of seat.old).number }
+        ensures pushed { OnOk result (Pushed (known_of seat.old) body (known_of seat.new)) }
+        ensures few { OnOk result (FailsFewer seat.old seat.new turns) }
+        ensures pocket { OnOk result (pocket_of seat.new ≡ None) }
+        ensures refused { OnErr result (SeesMore (known_of seat.old) (known_of seat.new)) }
+        ensures why { IfErr result StopsPush }
+        ensures caused { IfErr result
+            (PushRefused A.push_worn (arena_of self.now) seat.old seat.new turns) }
+    {
+        try_push::<A>(&self.arena, seat, body, turns)
+    }
+
+    /// Refusals: `WornOut` where at one step the count of a word that stops the algorithm's pops was the greatest one, and
+    /// `Busy` where each of so many turns failed. Takes no memory and doesn't wait.
+    fn try_pop(&self, seat: &mut Seat, turns: u32) -> Result<Option<Taken>, Refusal>
+        requires seat { IsQueueSeat self.now seat.old }
+        requires role { MayPop (permits_of self.now) (known_of seat.old).number }
+        requires turns { 1 ≤ turns }
+        ensures seat { IsQueueSeat self.now seat.new }
+        ensures number { (known_of seat.new).number ≡ (known_of seat.old).number }
+        ensures answer { IfOk result (λ o. PopAnswers (known_of seat.old) o (known_of seat.new)) }
+        ensures few { OnOk result (FailsFew seat.old seat.new turns) }
+        ensures freed { OnOk result (FreesItsNode seat.old seat.new turns) }
+        ensures refused { OnErr result (SeesMore (known_of seat.old) (known_of seat.new)) }
+        ensures why { IfErr result StopsPop }
+        ensures caused { IfErr result
+            (PopRefused A.pop_worn (arena_of self.now) seat.old seat.new turns) }
+    {
+        try_pop::<A>(&self.arena, seat, turns)
+    }
+
+    fn meet(&self, one: &mut Seat, other: &mut Seat) {
+        self.arena.meet(one, other);
+    }
+
+    fn may_push(&self, seat: &Seat) -> bool {
+        seat.may_push()
+    }
+
+    fn may_pop(&self, seat: &Seat) -> bool {
+        seat.may_pop()
+    }
+
+    fn close(self, alloc: Global, seats: Vec<Seat>) -> Result<Rest, Refusal>
+        requires { All (IsQueueSeat self) seats.items }
+        ensures rest { IfOk result (λ r. Closes (permits_of self) (map known_of seats.items) r) }
+        ensures only_memory { IfErr result (λ why. why ≡ Refusal.Memory) }
+    {
+        self.arena.close(alloc, seats)
+    }
+}

@@ -1,4 +1,0 @@
-use Rattle.lockstep.proofs.queues.TwoLockQueueWatched.made.Goals as goal
-
-pub returns-in-Ok : goal.returns-in-Ok
-returns-in-Ok c = c.in-Ok.ensures.seats

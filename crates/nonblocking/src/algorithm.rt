@@ -1,0 +1,53 @@
+//! The non-blocking queue as an algorithm on an arena.
+ghost use Rattle.line_table.specs.declared.lines.Kind.TheVariants as kinds;
+ghost use Rattle.nonblocking.specs.Worn.{push_worn, pop_worn};
+
+use crate::{popping, pushing};
+use arena_queue::{Algorithm, ArenaQueue};
+use history::{Body, Refusal, Taken};
+use line_table::Kind;
+use node_arena::{Arena, Held, Seat};
+
+/// The non-blocking queue. Threads share it by reference, each with a seat of its own.
+///
+/// A push is refused `NoNode` where at one step all nodes were used and none was free, `WornOut(Free)` where at one step
+/// Free's count was the greatest one, `WornOut(Next)` where the count of the node's own next was it, `WornOut(Tail)`
+/// where Tail's was it, and `Busy` where each of so many turns failed. A node that the call got stays in the seat's
+/// pocket, for its next push; at `WornOut(Next)` it is set aside. A pop is refused `WornOut(Tail)` or `Busy` so.
+pub type MsQueue = ArenaQueue<NonBlockingAlgorithm>;
+
+/// The algorithm of the non-blocking queue.
+#[derive(Drop)]
+pub struct NonBlockingAlgorithm;
+
+impl Algorithm for NonBlockingAlgorithm {
+    ghost kind = { kinds.NonBlocking };
+
+    ghost push_worn = { push_worn };
+
+    ghost pop_worn = { pop_worn };
+
+    fn kind() -> Kind {
+        Kind::NonBlocking
+    }
+
+    fn put(
+        arena: &Arena,
+        seat: &mut Seat,
+        held: Held,
+        body: Body,
+        spent: u32,
+        turns: u32,
+    ) -> Result<(), Refusal> {
+        pushing::put(arena, seat, held, body, spent, turns)
+    }
+
+    fn draw(
+        arena: &Arena,
+        seat: &mut Seat,
+        spent: u32,
+        turns: u32,
+    ) -> Result<Option<Taken>, Refusal> {
+        popping::draw(arena, seat, spent, turns)
+    }
+}

@@ -1,0 +1,53 @@
+//! The two-lock queue as an algorithm on an arena.
+ghost use Rattle.line_table.specs.declared.lines.Kind.TheVariants as kinds;
+ghost use Rattle.two_lock.specs.Worn.{push_worn, pop_worn};
+
+use crate::{popping, pushing};
+use arena_queue::{Algorithm, ArenaQueue};
+use history::{Body, Refusal, Taken};
+use line_table::Kind;
+use node_arena::{Arena, Held, Seat};
+
+/// The two-lock queue. Threads share it by reference, each with a seat of its own.
+///
+/// A push is refused `NoNode` where at one step all nodes were used and none was free, `WornOut(Free)` where at one step
+/// Free's count was the greatest one, and `Busy` where each of so many turns failed. A node that the call got stays in
+/// the seat's pocket, for its next push. A pop is refused `WornOut(Head)` where at one step Head's count was the greatest
+/// one, and `Busy` so.
+pub type TwoLockQueue = ArenaQueue<TwoLockAlgorithm>;
+
+/// The algorithm of the two-lock queue.
+#[derive(Drop)]
+pub struct TwoLockAlgorithm;
+
+impl Algorithm for TwoLockAlgorithm {
+    ghost kind = { kinds.TwoLock };
+
+    ghost push_worn = { push_worn };
+
+    ghost pop_worn = { pop_worn };
+
+    fn kind() -> Kind {
+        Kind::TwoLock
+    }
+
+    fn put(
+        arena: &Arena,
+        seat: &mut Seat,
+        held: Held,
+        body: Body,
+        spent: u32,
+        turns: u32,
+    ) -> Result<(), Refusal> {
+        pushing::put(arena, seat, held, body, spent, turns)
+    }
+
+    fn draw(
+        arena: &Arena,
+        seat: &mut Seat,
+        spent: u32,
+        turns: u32,
+    ) -> Result<Option<Taken>, Refusal> {
+        popping::draw(arena, seat, spent, turns)
+    }
+}
