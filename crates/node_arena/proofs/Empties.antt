@@ -29,6 +29,7 @@ use Rattle.line_steps.specs.Lines.{action, outcome, goes, ends, worn, effect, em
 use Rattle.line_steps.specs.Calling.{begun, from_pocket}
 use Rattle.step_machine.specs.Machine.{IsReached, actor_of, entry_or}
 use Rattle.step_machine.proofs.Fixed.{FixedAt, DecidedFreeing}
+use Rattle.step_machine.proofs.EitherQueue.{fixed_at as fixed_in}
 use Rattle.step_machine.proofs.TwoLockAtLines as two_lock_knows
 use Rattle.step_machine.proofs.TwoLockInvariant as two_lock_sound
 use Rattle.step_machine.proofs.NonBlockingLaws as non_blocking
@@ -196,11 +197,7 @@ saw_after t me a l r is here seen whole = (sees_nothing (step_at t me a l) seen 
 
 -- what an actor's registers have before its line, in either queue
 fixed_at : (t : Traced) (me : ℕ) (a : Actor) (l : Line) → IsTraced t → actor_of t.world me ≡ Some a → a.line ≡ Some l → FixedAt t.world.setup.limit me a (Some l)
-fixed_at t me a l traced is here = runs t.world.setup.kind refl
-  where
-    runs : (k : Kind) → t.world.setup.kind ≡ k → FixedAt t.world.setup.limit me a (Some l)
-    runs TwoLock k = subst (FixedAt t.world.setup.limit me a) here ((two_lock_sound.reached_invariant t.world (traced_reached t traced) k).sound.actors me a is).fixed
-    runs NonBlocking k = (non_blocking.at_line t.world (traced_reached t traced) k me a l is here).fixes
+fixed_at t me a l traced is here = fixed_in t.world (traced_reached t traced) me a l is here
 
 -- a call that frees a node has no empty reply due
 not_empty_freeing : (due : Option Reply) → DecidedFreeing due → IsNotEmpty due

@@ -33,8 +33,7 @@ use Rattle.step_machine.proofs.Fits.{shared_fits}
 use Rattle.step_machine.proofs.Words.{reading}
 use Rattle.step_machine.proofs.Chains.{chain_some}
 use Rattle.step_machine.proofs.PlaceOf.{few}
-use Rattle.step_machine.proofs.TwoLockInvariant as two_lock
-use Rattle.step_machine.proofs.NonBlockingInvariant as non_blocking
+use Rattle.step_machine.proofs.EitherQueue.{head_some, have_their_places}
 use Rattle.node_arena.specs.declared.arena.Arena.{Arena}
 use Rattle.node_arena.specs.declared.seats.Seat.{Seat}
 use Rattle.node_arena.specs.Traces.{Traced, IsTraced}
@@ -47,7 +46,6 @@ use Rattle.line_steps.specs.Words.{value_of}
 use Rattle.node_arena.specs.Remains.{ref_at, front_of, HasRef, HasNode, HaveValues, AreLeft, IsQueue}
 use Rattle.node_arena.proofs.Tracing.{traced_reached}
 use Rattle.node_arena.proofs.Histories.{history_plays, counts_pops}
-use Rattle.node_arena.proofs.Told.{places_of}
 use Rattle.node_arena.proofs.Reading.{read_back, value_parts}
 use Rattle.node_arena.proofs.Lefts.{same_values}
 
@@ -90,17 +88,6 @@ module _ (m : Shared) (fits : SharedFits m) where
       subst (λ (r : Ref). HaveValues (memory_words m) r.node (values_of m ks)) (sym (next_is k c.1 c.2)) (chain_values ks (node_at m k).next.node c.3) in
       subst (λ j. HaveValues (memory_words m) j (values_of m (k ∷ ks))) (sym c.0) (c.1, has_node k c.1 c.2, value_is k c.1 c.2, more)
 
--- Head names a node
-head_some : (w : World) → IsReached w → 1 ≤ w.shared.head.node
-head_some w r = go w.setup.kind refl
-  where
-    go : (k : Kind) → w.setup.kind ≡ k → 1 ≤ w.shared.head.node
-    go TwoLock e = two_lock.head_some w r e
-    go NonBlocking e =
-        let p : non_blocking.ReachedInvariant (λ w q. Unit {0}) (λ w k. Unit {0}) w = non_blocking.reached_invariant w r e in
-        let c = p.sound.words.shape.queue_chain in
-        subst (λ n. 1 ≤ n) (sym c.0) c.1
-
 -- the words of a world have the values of its queue, of which there are no more than nodes
 record Left (w : World) : Type 0 where
   queue : List ℕ
@@ -120,7 +107,7 @@ left_in w r =
     let fresh : m.fresh ≤ w.setup.size = range.shared.fresh in
     let low : 1 ≤ m.head.node = head_some w r in
     let high : m.head.node ≤ length m.nodes = let h = range.shared.head.node in omega arith in
-    let p : HasItsPlaces w = places_of w r in
+    let p : HasItsPlaces w = have_their_places w r in
     let used : length p.0 ≤ m.fresh = few w p.0 p.1 p.2 1 (omega arith) in
     let at = chain_some m.nodes m.head.node p.0 low p.2.queue_chain in
     let c : IsChain m.nodes m.head.node (m.head.node ∷ at.0) = subst (IsChain m.nodes m.head.node) at.1 p.2.queue_chain in

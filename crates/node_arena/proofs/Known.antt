@@ -11,10 +11,9 @@ use Rattle.step_machine.specs.ProgramCounters.{NonNullAt, IsAtLine}
 use Rattle.step_machine.specs.EachQueue.{raised_at}
 use Rattle.step_machine.proofs.Reached.{reached_in_range, actor_in_range}
 use Rattle.step_machine.proofs.Fixed.{FixedAt}
-use Rattle.step_machine.proofs.TwoLockInvariant as two_lock
-use Rattle.step_machine.proofs.TwoLockLaws as two_lock_laws
-use Rattle.step_machine.proofs.NonBlockingInvariant as non_blocking
-use Rattle.step_machine.proofs.NonBlockingLaws as non_blocking_laws
+use Rattle.step_machine.proofs.EitherQueue.{stands_at, fixed_at}
+use Rattle.step_machine.proofs.TwoLockLaws as two_lock
+use Rattle.step_machine.proofs.NonBlockingLaws as non_blocking
 use Rattle.node_arena.specs.Prologues.{Prologue, after_prologue}
 use Rattle.node_arena.specs.declared.arena.Arena.{Arena}
 use Rattle.node_arena.specs.declared.seats.Seat.{Seat}
@@ -34,28 +33,20 @@ pub record Known (z : Setup) (me : ℕ) (a : Actor) (l : Line) : Type 0 where
   pub left : LineInRange z.size a.f (Some l)
 
 module _ (w : World) (r : IsReached w) (me : ℕ) (a : Actor) (l : Line) (is : actor_of w me ≡ Some a) (at : a.line ≡ Some l) where
-  abbrev FromQueue : Type 0
-  FromQueue = FixedAt w.setup.limit me a (Some l) × NonNullAt l a × IfSome (raised_at l a) (λ x. x.count < w.setup.limit)
-
-  from_queue : (k : Kind) → w.setup.kind ≡ k → FromQueue
-  from_queue TwoLock e =
-      let p : two_lock.ReachedInvariant (λ w q. Unit {0}) (λ w k. Unit {0}) w = two_lock.reached_invariant w r e in
-      (subst (FixedAt w.setup.limit me a) at (p.sound.actors me a is).fixed, (two_lock.nodes_at w r e me a l is at).1, two_lock_laws.raise_below_the_limit w r e me a l is at)
-  from_queue NonBlocking e =
-      let p : non_blocking.ReachedInvariant (λ w q. Unit {0}) (λ w k. Unit {0}) w = non_blocking.reached_invariant w r e in
-      let here : IsAtLine w.setup.kind a (Some l) = subst (IsAtLine w.setup.kind a) at (p.sound.actors me a is).stands.line in
-      (subst (FixedAt w.setup.limit me a) at (p.sound.actors me a is).fixed, here.1, non_blocking_laws.raise_below_the_limit w r e me a l is at)
+  -- what it raises is below the limit
+  raises_below : (k : Kind) → w.setup.kind ≡ k → IfSome (raised_at l a) (λ x. x.count < w.setup.limit)
+  raises_below TwoLock e = two_lock.raise_below_the_limit w r e me a l is at
+  raises_below NonBlocking e = non_blocking.raise_below_the_limit w r e me a l is at
 
   -- in a reached world
   pub known : Known w.setup me a l
   known =
-      let q : FromQueue = from_queue w.setup.kind refl in
       let all : WorldInRange w = reached_in_range w r in
       let own : ActorInRange w.setup w.shared.fresh (length w.actors) a = actor_in_range w me a all is in
       record {
-        fixed = q.0;
-        some = q.1;
-        room = q.2;
+        fixed = fixed_at w r me a l is at;
+        some = (stands_at w r me a l is at).1;
+        room = raises_below w.setup.kind refl;
         used = w.shared.fresh;
         actors = length w.actors;
         within = all.shared.fresh;

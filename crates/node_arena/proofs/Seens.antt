@@ -20,7 +20,7 @@ use Rattle.node_arena.specs.Plans.{Layout, RolesPermit, permits_by}
 use Rattle.node_arena.specs.Rule.{Fitted}
 use Rattle.node_arena.proofs.Tracing.{traced_reached}
 use Rattle.node_arena.proofs.Histories.{history_plays}
-use Rattle.node_arena.proofs.Told.{places_of}
+use Rattle.step_machine.proofs.EitherQueue.{have_their_places}
 
 -- a line at which a seat doesn't see the history adds nothing to it
 pub silent : (s : Setup) (me : ℕ) (a : Actor) (l : Line) (c : Found (action s me a l)) → sees l ≡ false → entries_of s me a l c ≡ []
@@ -79,7 +79,7 @@ legal_first xs ys h = plays_first xs ys empty h.0 h.1
 
 -- the history of a traced world is legal
 pub history_legal : (t : Traced) → IsTraced t → IsQueueRun t.history
-history_legal t r = let p = places_of t.world (traced_reached t r) in (_, history_plays t r p.0 p.2.queue_chain)
+history_legal t r = let p = have_their_places t.world (traced_reached t r) in (_, history_plays t r p.0 p.2.queue_chain)
 
 -- what a seat has seen is legal
 pub seen_legal : (z : Layout) (v : SeatView) → Fitted z v → IsQueueRun v.seen

@@ -22,8 +22,7 @@ use Rattle.step_machine.specs.Machine.{actor_of}
 use Rattle.step_machine.proofs.Words.{reading}
 use Rattle.step_machine.proofs.Reached.{mover_in_range}
 use Rattle.step_machine.proofs.Tables.{place-word_step}
-use Rattle.step_machine.proofs.AccessesNameWords.{accesses_are_one_step}
-use Rattle.step_machine.proofs.NonBlockingLaws.{each_access_names_a_word}
+use Rattle.step_machine.proofs.AccessesNameWords.{accesses_are_one_step, each_access_names_a_word}
 use Rattle.node_arena.specs.declared.roles.Role.{Role}
 use Rattle.node_arena.specs.Traces.{Traced, IsTraced, step_at, actor_at, outcome_at, event_at, entries_at, number_at, sees}
 use Rattle.node_arena.specs.Prologues.{Prologue, after_prologue, CanStart}

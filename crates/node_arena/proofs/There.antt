@@ -10,7 +10,7 @@ use Rattle.step_machine.specs.Tables.{word_index, word_step}
 use Rattle.step_machine.specs.Machine.{actor_of}
 use Rattle.step_machine.proofs.Tables.{place-word_step}
 use Rattle.step_machine.proofs.Reached.{reached_in_range}
-use Rattle.step_machine.proofs.NonBlockingLaws.{each_access_names_a_word}
+use Rattle.step_machine.proofs.AccessesNameWords.{each_access_names_a_word}
 use Rattle.node_arena.specs.Traces.{Traced, IsTraced}
 use Rattle.node_arena.specs.Prologues.{Prologue, after_prologue, CanStart}
 use Rattle.node_arena.specs.Seeing.{SeatView}

@@ -28,7 +28,7 @@ use Rattle.step_machine.proofs.Chains.{one_if_same, chain_same, chain_some}
 use Rattle.step_machine.proofs.Counting.{holds as holds_of, held_one}
 use Rattle.step_machine.proofs.StampsInvariants.{actor_stands}
 use Rattle.step_machine.proofs.TwoLockLaws as two_lock
-use Rattle.step_machine.proofs.TwoLockLaws.{contained}
+use Rattle.step_machine.proofs.EitherQueue.{contained, have_their_places}
 use Rattle.step_machine.proofs.TwoLockCounts.{count_nothing}
 use Rattle.step_machine.proofs.NonBlockingLaws as non_blocking
 use Rattle.node_arena.specs.Traces.{outcome_at}
@@ -87,18 +87,10 @@ has_own_cause z prologue l n v v' h why e = by_cause why e (has_cause z prologue
     by_cause (WornOut OfHead) f c = c
     by_cause _ f c = c
 
--- a reached world has its places, in either queue
-pub places_of : (w : World) → IsReached w → HasItsPlaces w
-places_of w r = go w.setup.kind refl
-  where
-    go : (k : Kind) → w.setup.kind ≡ k → HasItsPlaces w
-    go TwoLock e = two_lock.have_their_places w r e
-    go NonBlocking e = non_blocking.have_their_places w r e
-
 -- a node in an actor's hand is nobody else's, and in no chain
 pub sole : (w : World) (me : ℕ) (a : Actor) → IsReached w → actor_of w me ≡ Some a → a.holds ≡ true → 1 ≤ a.node → IsSole w me a.node
 sole w me a r there holds some =
-    let p : HasItsPlaces w = places_of w r in
+    let p : HasItsPlaces w = have_their_places w r in
     let h : in_hand a.node a ≡ 1 = ap (λ b. if b then one_if (nat_eq a.node a.node) else 0) holds ∙ one_if_same a.node a.node refl in
     let least : holds_of a.node a ≤ held a.node w.actors = held_one a.node w.actors (me - 1) a (actor_stands w me a there).1 in
     let used : a.node ≤ w.shared.fresh = used_node a.node (held a.node w.actors) w.shared.fresh (omega arith) (λ lt. let e = p.2.untouched a.node lt in omega arith) in
@@ -119,7 +111,7 @@ sole w me a r there holds some =
 -- the node that Free names is free
 pub first_is_free : (w : World) → IsReached w → 1 ≤ w.shared.free.node → IsFree w w.shared.free.node
 first_is_free w r some =
-    let p : HasItsPlaces w = places_of w r in
+    let p : HasItsPlaces w = have_their_places w r in
     let c = chain_some w.shared.nodes w.shared.free.node p.1 some p.2.free_chain in
     (p.1, p.2.free_chain, subst (λ ns. Contains ns w.shared.free.node) (sym c.1) (0, omega arith, refl))
 

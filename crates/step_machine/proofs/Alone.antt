@@ -15,7 +15,7 @@ use Rattle.step_machine.proofs.Choices.{either}
 use Rattle.step_machine.proofs.LinearizationSteps.{raised_node}
 use Rattle.step_machine.proofs.CompletionSteps.{actor_same}
 use Rattle.step_machine.proofs.Effects.{queued_once}
-use Rattle.step_machine.proofs.NonBlockingAtLines.{next_of}
+use Rattle.step_machine.proofs.Assertions.{next_of}
 use Rattle.step_machine.proofs.NonBlockingLag.{behind_tail, one_after, after_not_first}
 use Rattle.step_machine.proofs.NonBlockingLaws.{AtLine, at_line}
 use Rattle.step_machine.proofs.Reached.{some_of, reached_next, setup-next}
@@ -123,12 +123,12 @@ record Behind (w : World) (to : ℕ) : Type 0 where
 behind : (me : ℕ) (w : World) (a : Actor) (l : Line) → AtLine w me a l → (to : ℕ) → (next_of w.shared w.shared.tail.node).node ≡ to → 1 ≤ to → Behind w to
 behind me w a l k to leads some =
     let p = k.plain in
-    let chain = p.sound.words.shape.queue_chain in
+    let chain = p.sound.shape.queue_chain in
     let lag : TailLags w.shared (p.front ∷ p.rest) = p.sound.words.lag in
     let one : lag.after ≡ to ∷ [] = one_after w.shared (p.front ∷ p.rest) w.shared.head.node to chain lag leads some in
     record {
       last = (subst (λ ns. IsChain w.shared.nodes (next_of w.shared w.shared.tail.node).node ns) one (behind_tail w.shared (p.front ∷ p.rest) w.shared.head.node chain lag).2).3;
-      not_first = λ e. after_not_first w.shared p.front to p.rest (queued_once w.shared _ (p.front ∷ p.rest) p.free p.sound.words.shape) lag one (e ∙ chain.0);
+      not_first = λ e. after_not_first w.shared p.front to p.rest (queued_once w.shared _ (p.front ∷ p.rest) p.free p.sound.shape) lag one (e ∙ chain.0);
     }
 
 -- an enqueue that swings a lagging Tail finds it at the last node then

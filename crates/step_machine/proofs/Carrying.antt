@@ -3,14 +3,11 @@
 use Rattle.std.proofs.Common.{◌≡◌, ℕ, ◌+◌, true, List, [], ◌∷◌, Some, None}
 use Rattle.step_machine.specs.Below.{Line, Op, Setup, Actor, Outcome, Shared, found, performed, action, outcome, gives_up, begun}
 use Rattle.step_machine.specs.Machine.{World, opening, actor_of, rested, may_rest, with_actor, after_outcome, IsSized, IsReached}
-use Rattle.step_machine.proofs.Reached.{some_of}
-use Rattle.step_machine.proofs.StampsLines.{Turns, turned, given_turned}
 use Rattle.step_machine.proofs.StampsInvariants.{Does}
 use Rattle.step_machine.proofs.Counting.{elsewhere}
 use Rattle.step_machine.proofs.Effects.{Shape, WritesOneNode}
 use Rattle.step_machine.proofs.Fixed.{FixedAt}
 use Rattle.step_machine.proofs.LinearizationSteps.{LinearizationStep}
-use Rattle.step_machine.proofs.LegalMoves.{same_op, same_op_given}
 
 -- a step or a giving up of an actor, whichever queue it is of: `front ∷ rest` is the chain from Head before it, and
 -- `queue'` the one after it
@@ -26,39 +23,6 @@ pub record NumberedMove (Z : ℕ → Type 0) (w : World) (me : ℕ) (a : Actor) 
   pub linearizes : LinearizationStep Z me (w.steps + 1) w.shared m' (front ∷ rest) queue' a o
   pub stamps : Does (w.steps + 1) line a.due a.empty_at o
   pub same_call : o.actor.op ≡ a.op
-
--- the step of an actor is one, and so is its giving up
-pub stepped_move : (Z : ℕ → Type 0) (w : World) (me : ℕ) (a : Actor) (l : Line) (front : ℕ) (rest free queue' : List ℕ) → IsReached w → actor_of w me ≡ Some a → a.line ≡ Some l → Shape w.shared (elsewhere w) (front ∷ rest) free → FixedAt w.setup.limit me a (Some l) → WritesOneNode w.shared (performed (action w.setup me a l) w.shared) (front ∷ rest) a → LinearizationStep Z me (w.steps + 1) w.shared (performed (action w.setup me a l) w.shared) (front ∷ rest) queue' a (outcome w.setup (w.steps + 1) me a l (found (action w.setup me a l) w.shared)) → NumberedMove Z w me a (performed (action w.setup me a l) w.shared) (outcome w.setup (w.steps + 1) me a l (found (action w.setup me a l) w.shared)) front rest queue'
-stepped_move Z w me a l front rest free queue' r is at shape fixed writes account =
-    record {
-      line = l;
-      free = free;
-      reached = r;
-      here = is;
-      at = at;
-      shape = shape;
-      fixed = fixed;
-      writes = writes;
-      linearizes = account;
-      stamps = λ Q place n p stands. turned Q w.setup (w.steps + 1) me a l (found (action w.setup me a l) w.shared) place n p stands;
-      same_call = same_op w.setup (w.steps + 1) me a l (found (action w.setup me a l) w.shared);
-    }
-
-pub given_move : (Z : ℕ → Type 0) (w : World) (me : ℕ) (a : Actor) (l : Line) (o : Outcome) (front : ℕ) (rest free queue' : List ℕ) → IsReached w → actor_of w me ≡ Some a → a.line ≡ Some l → gives_up (w.steps + 1) a l ≡ Some o → Shape w.shared (elsewhere w) (front ∷ rest) free → FixedAt w.setup.limit me a (Some l) → WritesOneNode w.shared w.shared (front ∷ rest) a → LinearizationStep Z me (w.steps + 1) w.shared w.shared (front ∷ rest) queue' a o → NumberedMove Z w me a w.shared o front rest queue'
-given_move Z w me a l o front rest free queue' r is at given shape fixed writes account =
-    record {
-      line = l;
-      free = free;
-      reached = r;
-      here = is;
-      at = at;
-      shape = shape;
-      fixed = fixed;
-      writes = writes;
-      linearizes = account;
-      stamps = λ Q place n p stands. some_of (Turns Q place) (gives_up (w.steps + 1) a l) o given (given_turned Q (w.steps + 1) a l place n p stands);
-      same_call = some_of (λ x. x.actor.op ≡ a.op) (gives_up (w.steps + 1) a l) o given (same_op_given (w.steps + 1) a l);
-    }
 
 -- what such a move leaves of the two facts
 pub record Carried (L : World → List ℕ → Type 0) (Z : World → ℕ → Type 0) (w v : World) (rest queue' : List ℕ) : Type 0 where

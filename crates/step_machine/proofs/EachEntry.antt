@@ -5,40 +5,28 @@ use Rattle.step_machine.specs.Machine.{World, actor_of, after_outcome, stepped, 
 use Rattle.step_machine.specs.Chains.{queue_values}
 use Rattle.step_machine.specs.Histories.{OfEachWorld}
 use Rattle.step_machine.specs.Entries.{PlaysToItsValues}
-use Rattle.step_machine.proofs.Fixed.{Runs, FixedAt}
+use Rattle.step_machine.proofs.Fixed.{Runs}
 use Rattle.step_machine.proofs.Chains.{chain_same}
 use Rattle.step_machine.proofs.Gains.{completion_entries, Gains}
 use Rattle.step_machine.proofs.Legal.{SimulationRelation, WasEmpty, queue_of}
 use Rattle.step_machine.proofs.Completion.{entries_booked}
-use Rattle.step_machine.proofs.Carrying.{Moving}
-use Rattle.step_machine.proofs.TwoLockInvariant as two_lock
-use Rattle.step_machine.proofs.NonBlockingInvariant as non_blocking
+use Rattle.step_machine.proofs.Invariant.{step_moving, give_moving}
+use Rattle.step_machine.proofs.EitherQueue.{queue_of_kind, steps_of_kind, is_of_kind, reached_either, fixed_at}
 use Rattle.step_machine.proofs.EachLegal.{IsSimulated, carried, reached_simulation, moving_gains}
 
 pub each_step_gains : (w : World) (me : ℕ) (a : Actor) (l : Line) → IsReached w → actor_of w me ≡ Some a → a.line ≡ Some l → Gains w (stepped w me a l) me a (outcome w.setup (w.steps + 1) me a l (found (action w.setup me a l) w.shared))
-each_step_gains w me a l r is at = moving_gains w me a (performed (action w.setup me a l) w.shared) _ (go w.setup.kind refl)
-  where
-    go : (k : Kind) → w.setup.kind ≡ k → Moving SimulationRelation WasEmpty w me a (performed (action w.setup me a l) w.shared) (outcome w.setup (w.steps + 1) me a l (found (action w.setup me a l) w.shared))
-    go TwoLock e = two_lock.step_moving SimulationRelation WasEmpty carried w me a l r e is at (two_lock.reached_with SimulationRelation WasEmpty carried w r e)
-    go NonBlocking e = non_blocking.step_moving SimulationRelation WasEmpty carried w me a l r e is at (non_blocking.reached_with SimulationRelation WasEmpty carried w r e)
+each_step_gains w me a l r is at =
+    moving_gains w me a (performed (action w.setup me a l) w.shared) _
+    (step_moving (queue_of_kind w.setup.kind) (steps_of_kind w.setup.kind) SimulationRelation WasEmpty carried w me a l r (is_of_kind w.setup.kind) is at (reached_either SimulationRelation WasEmpty carried w r))
 
 pub each_give_gains : (w : World) (me : ℕ) (a : Actor) (l : Line) (o : Outcome) → IsReached w → actor_of w me ≡ Some a → a.line ≡ Some l → gives_up (w.steps + 1) a l ≡ Some o → Gains w (after_outcome w me a w.shared o) me a o
-each_give_gains w me a l o r is at given = moving_gains w me a w.shared o (go w.setup.kind refl)
-  where
-    go : (k : Kind) → w.setup.kind ≡ k → Moving SimulationRelation WasEmpty w me a w.shared o
-    go TwoLock e = two_lock.give_moving SimulationRelation WasEmpty carried w me a l o r e is at given (two_lock.reached_with SimulationRelation WasEmpty carried w r e)
-    go NonBlocking e = non_blocking.give_moving SimulationRelation WasEmpty carried w me a l o r e is at given (non_blocking.reached_with SimulationRelation WasEmpty carried w r e)
+each_give_gains w me a l o r is at given =
+    moving_gains w me a w.shared o
+    (give_moving (queue_of_kind w.setup.kind) (steps_of_kind w.setup.kind) SimulationRelation WasEmpty carried w me a l o r (is_of_kind w.setup.kind) is at given (reached_either SimulationRelation WasEmpty carried w r))
 
 -- an actor before a line is in the call that the line is of
 pub each_call : (w : World) (me : ℕ) (a : Actor) (l : Line) → IsReached w → actor_of w me ≡ Some a → a.line ≡ Some l → Runs (section_of l) me a.op a.val
-each_call w me a l r is at = go w.setup.kind refl
-  where
-    fixed : FixedAt w.setup.limit me a a.line → Runs (section_of l) me a.op a.val
-    fixed h = let f : FixedAt w.setup.limit me a (Some l) = subst (FixedAt w.setup.limit me a) at h in f.call
-
-    go : (k : Kind) → w.setup.kind ≡ k → Runs (section_of l) me a.op a.val
-    go TwoLock e = fixed (let p : two_lock.ReachedInvariant (λ w q. Unit {0}) (λ w k. Unit {0}) w = two_lock.reached_invariant w r e in (p.sound.actors me a is).fixed)
-    go NonBlocking e = fixed (let p : non_blocking.ReachedInvariant (λ w q. Unit {0}) (λ w k. Unit {0}) w = non_blocking.reached_invariant w r e in (p.sound.actors me a is).fixed)
+each_call w me a l r is at = (fixed_at w r me a l is at).call
 
 -- the entries of each world lead to its values
 pub plays_to_the_values : OfEachWorld PlaysToItsValues

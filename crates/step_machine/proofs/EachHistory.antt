@@ -10,14 +10,6 @@ use Rattle.step_machine.proofs.Reached.{if_some, some_of, setup-next_any, made_r
 use Rattle.step_machine.proofs.StampsLaws.{histories_are_placed}
 pub use Rattle.step_machine.proofs.EachLegal.{histories_are_legal, replay_to_the_values}
 
--- what holds of each world of either queue holds of each world
-pub of_both : (P : World → Type 0) → ((w : World) → IsReached w → w.setup.kind ≡ TwoLock → P w) → ((w : World) → IsReached w → w.setup.kind ≡ NonBlocking → P w) → OfEachWorld P
-of_both P two non w r = go w.setup.kind refl
-  where
-    go : (k : Kind) → w.setup.kind ≡ k → P w
-    go TwoLock e = two w r e
-    go NonBlocking e = non w r e
-
 -- no list of moves changes the setup
 run_setup : (ms : List AnyMove) (w : World) → IfSome (run ms w) (λ v. v.setup ≡ w.setup)
 run_setup [] w = refl

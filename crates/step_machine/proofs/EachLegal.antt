@@ -17,8 +17,8 @@ use Rattle.step_machine.proofs.Gains.{Gains}
 use Rattle.step_machine.proofs.LegalMoves.{calls_settled, kept_reached, simulation_with, book_begun, book_rested, begun_entry}
 use Rattle.step_machine.proofs.Completion.{legal_book, replays_promises, replayed_promises, taken_promises}
 use Rattle.step_machine.proofs.Carrying.{NumberedMove, Carried, Carries, Moving}
-use Rattle.step_machine.proofs.TwoLockInvariant as two_lock
-use Rattle.step_machine.proofs.NonBlockingInvariant as non_blocking
+use Rattle.step_machine.proofs.Invariant.{ReachedInvariant}
+use Rattle.step_machine.proofs.EitherQueue.{queue_of_kind, reached_either}
 
 module _ (w : World) (me : ℕ) (a : Actor) (m' : Shared) (o : Outcome) (front : ℕ) (rest queue' : List ℕ) (n : NumberedMove (WasEmpty w) w me a m' o front rest queue') (ac : SimulationRelation w (front ∷ rest)) where
   kept : StampsInvariant (Unit {0}) (makers n.reached.moves) w
@@ -78,15 +78,9 @@ pub record IsSimulated (w : World) : Type 0 where
 
 -- each world that is reached has both
 pub reached_simulation : OfEachWorld IsSimulated
-reached_simulation w r = go w.setup.kind refl
-  where
-    go : (k : Kind) → w.setup.kind ≡ k → IsSimulated w
-    go TwoLock e =
-        let p : two_lock.ReachedInvariant SimulationRelation WasEmpty w = two_lock.reached_with SimulationRelation WasEmpty carried w r e in
-        record { queue = p.queue; chain = p.sound.shape.queue_chain; fact = p.fact }
-    go NonBlocking e =
-        let p : non_blocking.ReachedInvariant SimulationRelation WasEmpty w = non_blocking.reached_with SimulationRelation WasEmpty carried w r e in
-        record { queue = p.front ∷ p.rest; chain = p.sound.words.shape.queue_chain; fact = p.fact }
+reached_simulation w r =
+    let p : ReachedInvariant (queue_of_kind w.setup.kind) SimulationRelation WasEmpty w = reached_either SimulationRelation WasEmpty carried w r in
+    record { queue = p.front ∷ p.rest; chain = p.sound.shape.queue_chain; fact = p.fact }
 
 pub histories_are_legal : OfEachWorld (λ w. IsLegal w.operations)
 histories_are_legal w r = legal_book w (reached_simulation w r).fact.replays

@@ -14,7 +14,8 @@ use Rattle.step_machine.specs.Histories.{OfEachWorld}
 use Rattle.step_machine.specs.Range.{WorldInRange}
 use Rattle.step_machine.proofs.Reached.{reached_in_range}
 use Rattle.step_machine.proofs.EachEntry.{plays_to_the_values}
-use Rattle.step_machine.proofs.PlaceOf.{have_places, few}
+use Rattle.step_machine.proofs.PlaceOf.{few}
+use Rattle.step_machine.proofs.EitherQueue.{have_their_places}
 use Rattle.step_machine.proofs.EachLegal.{head_counts_values_taken}
 
 -- one more where a test is passed
@@ -106,7 +107,7 @@ are_few w r = (pops_few, pushes_few)
     range = reached_in_range w r
 
     places : HasItsPlaces w
-    places = have_places w r
+    places = have_their_places w r
 
     taken : count is_pop (entries w) ≤ w.shared.head.count
     taken =

@@ -21,8 +21,10 @@ use Rattle.step_machine.specs.Places.{IsChain}
 use Rattle.step_machine.specs.Chains.{last_node}
 use Rattle.step_machine.proofs.Chains.{next_in, chain_some, second_leads}
 use Rattle.step_machine.proofs.Reached.{reached_in_range}
-use Rattle.step_machine.proofs.TwoLockAtLines.{Owns, OwnsAt, InvariantAt, has_tail, has_head}
-use Rattle.step_machine.proofs.TwoLockInvariant.{ReachedInvariant, nodes_at, head_some, reached_invariant}
+use Rattle.step_machine.proofs.Assertions.{Owns, OwnsAt, has_tail, has_head}
+use Rattle.step_machine.proofs.EitherQueue.{head_some}
+use Rattle.step_machine.proofs.TwoLockAtLines.{InvariantAt}
+use Rattle.step_machine.proofs.TwoLockInvariant.{ReachedInvariant, nodes_at, reached_invariant}
 
 -- the same lines
 tail_lines : (l : Option Line) → has_tail l ≡ has_tail_lock l
@@ -105,8 +107,8 @@ leave_tail_to_its_mover w r e me you a b l is at other there here =
 pub front_is_taken : OfTwoLockWorlds TakesTheFrontAtB5
 front_is_taken w r e me a queue is at chain =
     let p : ReachedInvariant (λ w q. Unit {0}) (λ w k. Unit {0}) w = reached_invariant w r e in
-    let k : InvariantAt (λ k. Unit {0}) w.setup w.shared (last_node p.queue) a (Some B5) = subst (InvariantAt (λ k. Unit {0}) w.setup w.shared (last_node p.queue) a) at (p.sound.actors me a is).knows in
-    let first : (rest : List ℕ) × (queue ≡ w.shared.head.node ∷ rest) = chain_some w.shared.nodes w.shared.head.node queue (head_some w r e) chain in
+    let k : InvariantAt (λ k. Unit {0}) w.setup w.shared (last_node (p.front ∷ p.rest)) a (Some B5) = subst (InvariantAt (λ k. Unit {0}) w.setup w.shared (last_node (p.front ∷ p.rest)) a) at (p.sound.actors me a is).knows in
+    let first : (rest : List ℕ) × (queue ≡ w.shared.head.node ∷ rest) = chain_some w.shared.nodes w.shared.head.node queue (head_some w r) chain in
     let here : w.shared.head.node ≡ a.head.node = ap (λ (x : Ref). x.node) k.0 in
     let second : (others : List ℕ) × (first.0 ≡ a.next.node ∷ others) =
     second_leads w.shared.nodes w.shared.head.node w.shared.head.node a.next.node first.0

@@ -1,16 +1,16 @@
--- What an actor of the non-blocking queue knows of the shared words before its line, and that steps of others keep it.
-use Rattle.std.proofs.Common.{◌≡◌, ◌≢◌, ℕ, ◌≤◌, ◌<◌, true, nat_eq, if◌then◌else◌, Option, Some, None, IfSome, refl, sym, ap, ◌∙◌, subst, arith, ◌⊎◌, inl, inr}
-use Rattle.step_machine.specs.Below.{Ref, ref, Line, N1, N3, N4, F3, E3, E5, E6, E7, E9, E13, E17, D3, D4, D5, D10, D12, D13, Node, Held, Actor, Shared, node_at}
-use Rattle.step_machine.specs.Places.{in_hand, in_pocket, one_if}
+-- What an actor of the non-blocking queue knows of the shared words before a line of its own, and that steps of others
+-- keep it.
+use Rattle.std.proofs.Common.{◌≡◌, ◌≢◌, ℕ, ◌≤◌, ◌<◌, true, List, ◌∷◌, Option, Some, None, sym, ap, ◌∙◌, subst, arith, ◌⊎◌, inl, inr}
+use Rattle.step_machine.specs.Below.{Ref, NonBlocking, Line, N1, E3, E5, E6, E7, E9, E13, E17, D3, D4, D5, D10, D12, D13, Node, Actor, Setup, Shared, node_at}
 use Rattle.step_machine.specs.ProgramCounters.{NonNullAt}
-use Rattle.step_machine.proofs.Chains.{one_if_same}
+use Rattle.step_machine.specs.Chains.{last_node}
+use Rattle.step_machine.specs.Lag.{TailLags}
+use Rattle.step_machine.proofs.Chains.{last_times}
 use Rattle.step_machine.proofs.Counting.{holds, holds_own}
 use Rattle.step_machine.proofs.Fixed.{FixedAt}
 use Rattle.step_machine.proofs.StaleReferences.{Rises, IsCurrentOrStale, was_on, still_there}
-
--- the `next` of a node
-abbrev pub next_of : Shared → ℕ → Ref
-next_of m n = (node_at m n).next
+use Rattle.step_machine.proofs.NonBlockingLag.{tail_times, lag_same}
+use Rattle.step_machine.proofs.Assertions.{next_of, has_tail, has_head, Owns, OwnsAt, NodesRely, QueueStays, Queue, Knows}
 
 -- the node in hand has the actor's value and leads to null, and its `next` is not worn out
 abbrev pub Ready : (limit : ℕ) → Shared → Actor → Type 0
@@ -36,57 +36,42 @@ abbrev pub Looked : Shared → Actor → Type 0
 Looked m a =
     (m.head ≡ a.head → (1 ≤ a.next.node → next_of m a.head.node ≡ a.next) × (a.tail.node ≢ a.head.node → (m.tail.node ≢ a.head.node) × (1 ≤ a.next.node)))
 
--- what an actor knows before its line; `Z` is what is known of a number at which the queue was found empty
-abbrev pub InvariantAt : (Z : ℕ → Type 0) (limit : ℕ) → Shared → Actor → Option Line → Type 0
-InvariantAt Z limit m a (Some N3) = IsCurrentOrStale m.free a.top
-InvariantAt Z limit m a (Some N4) = IsCurrentOrStale m.free a.top × (m.free ≡ a.top → next_of m a.top.node ≡ a.next)
-InvariantAt Z limit m a (Some F3) = next_of m a.node ≡ ref a.top.node a.mark
-InvariantAt Z limit m a (Some E3) = (node_at m a.node).value ≡ a.val
-InvariantAt Z limit m a (Some E5) = Ready limit m a
-InvariantAt Z limit m a (Some E6) = Ready limit m a × IsCurrentOrStale m.tail a.tail
-InvariantAt Z limit m a (Some E7) = Ready limit m a × IsCurrentOrStale m.tail a.tail × (m.tail ≡ a.tail → WasNext m a)
-InvariantAt Z limit m a (Some E9) =
-    Ready limit m a × (a.next.node ≡ 0) × ((a.next.count < (next_of m a.tail.node).count) ⊎ ((m.tail ≡ a.tail) × (next_of m a.tail.node ≡ a.next)))
-InvariantAt Z limit m a (Some E13) = Ready limit m a × MayGoOn m a a.next.node
-InvariantAt Z limit m a (Some E17) = MayGoOn m a a.node
-InvariantAt Z limit m a (Some D3) = IsCurrentOrStale m.head a.head
-InvariantAt Z limit m a (Some D4) =
+-- what an actor knows before a line of its own; `Z` is what is known of a number at which the queue was found empty
+abbrev pub OwnAt : (Z : ℕ → Type 0) → Setup → Shared → (last : ℕ) → Actor → Option Line → Type 0
+OwnAt Z s m last a (Some E3) = (node_at m a.node).value ≡ a.val
+OwnAt Z s m last a (Some E5) = Ready s.limit m a
+OwnAt Z s m last a (Some E6) = Ready s.limit m a × IsCurrentOrStale m.tail a.tail
+OwnAt Z s m last a (Some E7) = Ready s.limit m a × IsCurrentOrStale m.tail a.tail × (m.tail ≡ a.tail → WasNext m a)
+OwnAt Z s m last a (Some E9) =
+    Ready s.limit m a × (a.next.node ≡ 0) × ((a.next.count < (next_of m a.tail.node).count) ⊎ ((m.tail ≡ a.tail) × (next_of m a.tail.node ≡ a.next)))
+OwnAt Z s m last a (Some E13) = Ready s.limit m a × MayGoOn m a a.next.node
+OwnAt Z s m last a (Some E17) = MayGoOn m a a.node
+OwnAt Z s m last a (Some D3) = IsCurrentOrStale m.head a.head
+OwnAt Z s m last a (Some D4) =
     IsCurrentOrStale m.head a.head × IsCurrentOrStale m.tail a.tail × (m.head ≡ a.head → a.tail.node ≢ a.head.node → m.tail.node ≢ a.head.node)
-InvariantAt Z limit m a (Some D5) =
+OwnAt Z s m last a (Some D5) =
     IsCurrentOrStale m.head a.head × IsCurrentOrStale m.tail a.tail × Looked m a × (m.head ≡ a.head → a.next.node ≡ 0 → Z a.empty_at)
-InvariantAt Z limit m a (Some D10) = MayGoOn m a a.next.node
-InvariantAt Z limit m a (Some D12) = MayTake m a
-InvariantAt Z limit m a (Some D13) = MayTake m a × (m.head ≡ a.head → (node_at m a.next.node).value ≡ a.val)
-InvariantAt Z limit m a _ = Unit {0}
+OwnAt Z s m last a (Some D10) = MayGoOn m a a.next.node
+OwnAt Z s m last a (Some D12) = MayTake m a
+OwnAt Z s m last a (Some D13) = MayTake m a × (m.head ≡ a.head → (node_at m a.next.node).value ≡ a.val)
+OwnAt Z s m last a _ = Unit {0}
 
 -- where its operation stands says nothing of what an actor knows
-pub knows_entry : (Z : ℕ → Type 0) (limit : ℕ) (m : Shared) (a : Actor) (entry : Option ℕ) (l : Option Line) → InvariantAt Z limit m a l → InvariantAt Z limit m (record a { entry = entry }) l
-knows_entry Z limit m a entry None h = h
-knows_entry Z limit m a entry (Some N1) h = h
-knows_entry Z limit m a entry (Some _) h = h
+pub own_entry : (Z : ℕ → Type 0) (s : Setup) (m : Shared) (last : ℕ) (a : Actor) (entry : Option ℕ) (l : Option Line) → OwnAt Z s m last a l → OwnAt Z s m last (record a { entry = entry }) l
+own_entry Z s m last a entry None h = h
+own_entry Z s m last a entry (Some N1) h = h
+own_entry Z s m last a entry (Some _) h = h
 
 -- so it does where more is known of the number noted
-pub knows_more : (Z Z' : ℕ → Type 0) (limit : ℕ) (m : Shared) (a : Actor) (l : Option Line) → ((k : ℕ) → Z k → Z' k) → InvariantAt Z limit m a l → InvariantAt Z' limit m a l
-knows_more Z Z' limit m a None more h = tt
-knows_more Z Z' limit m a (Some D5) more h = (h.0, h.1, h.2, λ e n. more a.empty_at (h.3 e n))
-knows_more Z Z' limit m a (Some N1) more h = h
-knows_more Z Z' limit m a (Some _) more h = h
-
--- a mark is the count of its node's `next`
-abbrev pub IsMark : Shared → (node mark : ℕ) → Type 0
-IsMark m node mark = (1 ≤ node) × ((next_of m node).count ≡ mark)
-
--- the marks of the nodes that an actor holds
-abbrev pub Marked : Shared → Actor → Type 0
-Marked m a =
-    record {
-      hand : a.holds ≡ true → IsMark m a.node a.mark;
-      pocket : IfSome a.pocket (λ held. IsMark m held.node held.mark);
-    }
+pub own_more : (Y Z : ℕ → Type 0) (s : Setup) (m : Shared) (last : ℕ) (a : Actor) (l : Option Line) → ((k : ℕ) → Y k → Z k) → OwnAt Y s m last a l → OwnAt Z s m last a l
+own_more Y Z s m last a None more h = h
+own_more Y Z s m last a (Some D5) more h = (h.0, h.1, h.2, λ e n. more a.empty_at (h.3 e n))
+own_more Y Z s m last a (Some N1) more h = h
+own_more Y Z s m last a (Some _) more h = h
 
 -- what each step does with the words, for all actors
 pub record Guarantee (m m' : Shared) : Type 0 where
-  pub free : Rises m.free m'.free
+  pub locks : (m'.tail_lock ≡ m.tail_lock) × (m'.head_lock ≡ m.head_lock)
   pub head : Rises m.head m'.head
   pub tail : Rises m.tail m'.tail
   pub tail_on : (m'.tail ≡ m.tail) ⊎ (1 ≤ (next_of m m.tail.node).node)
@@ -94,34 +79,26 @@ pub record Guarantee (m m' : Shared) : Type 0 where
   pub off : m'.head ≡ m.head → m.tail.node ≢ m.head.node → m'.tail.node ≢ m.head.node
   pub counts : (n : ℕ) → 1 ≤ n → (next_of m n).count ≤ (next_of m' n).count
 
--- what steps of others keep for an actor
-pub record Rely (m m' : Shared) (c : Actor) : Type 0 where
-  pub moves : Guarantee m m'
-  pub top : 1 ≤ m.free.node → node_at m' m.free.node ≡ node_at m m.free.node
-  pub hand : (n : ℕ) → 1 ≤ n → 1 ≤ holds n c → node_at m' n ≡ node_at m n
-  pub dummy : 1 ≤ (next_of m m.head.node).node → node_at m' m.head.node ≡ node_at m m.head.node
-  pub front : 1 ≤ (next_of m m.head.node).node → (node_at m' (next_of m m.head.node).node).value ≡ (node_at m (next_of m m.head.node).node).value
-
-module _ (Z : ℕ → Type 0) (limit : ℕ) (m m' : Shared) (c : Actor) (k : Rely m m' c) where
-  same_next : (n : ℕ) → node_at m' n ≡ node_at m n → next_of m' n ≡ next_of m n
-  same_next n e = ap (λ (x : Node). x.next) e
+module _ (s : Setup) (m m' : Shared) (c : Actor) (g : Guarantee m m') (n : NodesRely m m' c) where
+  same_next : (j : ℕ) → node_at m' j ≡ node_at m j → next_of m' j ≡ next_of m j
+  same_next j e = ap (λ (x : Node). x.next) e
 
   -- an actor with a node in its hand has it still as it was
   own : c.holds ≡ true → c.pocket ≡ None → 1 ≤ c.node → node_at m' c.node ≡ node_at m c.node
-  own h p some = k.hand c.node some (let one : holds c.node c ≡ 1 = holds_own c h p in omega arith)
+  own h p some = n.hand c.node some (let one : holds c.node c ≡ 1 = holds_own c h p in omega arith)
 
-  ready : node_at m' c.node ≡ node_at m c.node → Ready limit m c → Ready limit m' c
+  ready : node_at m' c.node ≡ node_at m c.node → Ready s.limit m c → Ready s.limit m' c
   ready e h = (ap (λ (x : Node). x.value) e ∙ h.0, ap (λ (x : Node). x.next.node) e ∙ h.1, h.2)
 
   head_is : IsCurrentOrStale m.head c.head → m'.head ≡ c.head → m'.head ≡ m.head
-  head_is h e = still_there m.head m'.head c.head k.moves.head h e
+  head_is h e = still_there m.head m'.head c.head g.head h e
 
   tail_is : IsCurrentOrStale m.tail c.tail → m'.tail ≡ c.tail → m'.tail ≡ m.tail
-  tail_is h e = still_there m.tail m'.tail c.tail k.moves.tail h e
+  tail_is h e = still_there m.tail m'.tail c.tail g.tail h e
 
   -- what follows Tail's node, where that is not null
   may_go_on : (to : ℕ) → 1 ≤ to → MayGoOn m c to → MayGoOn m' c to
-  may_go_on to some h = (was_on m.tail m'.tail c.tail k.moves.tail h.0, λ e. go (sym (tail_is h.0 e) ∙ e) k.moves.tail_next)
+  may_go_on to some h = (was_on m.tail m'.tail c.tail g.tail h.0, λ e. go (sym (tail_is h.0 e) ∙ e) g.tail_next)
     where
       go : m.tail ≡ c.tail → (next_of m' m.tail.node ≡ next_of m m.tail.node) ⊎ (((next_of m m.tail.node).node ≡ 0) × ((next_of m m.tail.node).count < (next_of m' m.tail.node).count)) → (next_of m' c.tail.node).node ≡ to
       go was (inl same) =
@@ -132,7 +109,7 @@ module _ (Z : ℕ → Type 0) (limit : ℕ) (m m' : Shared) (c : Actor) (k : Rel
   -- the `next` of Head's node stays where it is not null
   next_stays : (r : Ref) → 1 ≤ r.node → m.head ≡ c.head → next_of m c.head.node ≡ r → next_of m' c.head.node ≡ r
   next_stays r some was leads =
-      same_next c.head.node (subst (λ (q : Ref). node_at m' q.node ≡ node_at m q.node) was (k.dummy (follows r some was leads))) ∙ leads
+      same_next c.head.node (subst (λ (q : Ref). node_at m' q.node ≡ node_at m q.node) was (n.dummy (follows r some was leads))) ∙ leads
     where
       follows : (r : Ref) → 1 ≤ r.node → m.head ≡ c.head → next_of m c.head.node ≡ r → 1 ≤ (next_of m m.head.node).node
       follows r some was leads = subst (λ (q : Ref). 1 ≤ (next_of m q.node).node) (sym was) (subst (λ (q : Ref). 1 ≤ q.node) (sym leads) some)
@@ -140,17 +117,17 @@ module _ (Z : ℕ → Type 0) (limit : ℕ) (m m' : Shared) (c : Actor) (k : Rel
   -- Tail stays elsewhere than Head
   off_stays : m'.head ≡ m.head → m.head ≡ c.head → m.tail.node ≢ c.head.node → m'.tail.node ≢ c.head.node
   off_stays same was off =
-      subst (λ (r : Ref). m'.tail.node ≢ r.node) was (k.moves.off same (subst (λ (r : Ref). m.tail.node ≢ r.node) (sym was) off))
+      subst (λ (r : Ref). m'.tail.node ≢ r.node) was (g.off same (subst (λ (r : Ref). m.tail.node ≢ r.node) (sym was) off))
 
   may_take : 1 ≤ c.next.node → MayTake m c → MayTake m' c
   may_take some h = (
-    was_on m.head m'.head c.head k.moves.head h.0,
+    was_on m.head m'.head c.head g.head h.0,
     λ e. let same : m'.head ≡ m.head = head_is h.0 e in let was : m.head ≡ c.head = sym same ∙ e in (next_stays c.next some was (h.1 was).0, off_stays same was (h.1 was).1),
   )
 
   linked_next : (E9_next : Ref) → (a : (E9_next.count < (next_of m c.tail.node).count) ⊎ ((m.tail ≡ c.tail) × (next_of m c.tail.node ≡ E9_next))) → 1 ≤ c.tail.node → E9_next.node ≡ 0 → (E9_next.count < (next_of m' c.tail.node).count) ⊎ ((m'.tail ≡ c.tail) × (next_of m' c.tail.node ≡ E9_next))
-  linked_next r (inl low) some none = inl (let more : (next_of m c.tail.node).count ≤ (next_of m' c.tail.node).count = k.moves.counts c.tail.node some in omega arith)
-  linked_next r (inr was) some none = go k.moves.tail_next k.moves.tail_on
+  linked_next r (inl low) some none = inl (let more : (next_of m c.tail.node).count ≤ (next_of m' c.tail.node).count = g.counts c.tail.node some in omega arith)
+  linked_next r (inr was) some none = go g.tail_next g.tail_on
     where
       null : (next_of m m.tail.node).node ≡ 0
       null = ap (λ (q : Ref). (next_of m q.node).node) was.0 ∙ ap (λ (q : Ref). q.node) was.1 ∙ none
@@ -162,7 +139,7 @@ module _ (Z : ℕ → Type 0) (limit : ℕ) (m m' : Shared) (c : Actor) (k : Rel
       go (inl same) (inr some_next) = absurd (omega (arith, null))
 
   was_next : m.tail ≡ c.tail → WasNext m c → WasNext m' c
-  was_next was (inl here) = go k.moves.tail_next
+  was_next was (inl here) = go g.tail_next
     where
       go : (next_of m' m.tail.node ≡ next_of m m.tail.node) ⊎ (((next_of m m.tail.node).node ≡ 0) × ((next_of m m.tail.node).count < (next_of m' m.tail.node).count)) → WasNext m' c
       go (inl same) = inl (subst (λ (q : Ref). next_of m' q.node ≡ next_of m q.node) was same ∙ here)
@@ -171,7 +148,7 @@ module _ (Z : ℕ → Type 0) (limit : ℕ) (m m' : Shared) (c : Actor) (k : Rel
           let none : (next_of m c.tail.node).node ≡ 0 = subst (λ (q : Ref). (next_of m q.node).node ≡ 0) was more.0 in
           let at : (next_of m c.tail.node).count ≡ c.next.count = ap (λ (q : Ref). q.count) here in
           inr (sym (ap (λ (q : Ref). q.node) here) ∙ none, omega arith)
-  was_next was (inr gone) = go k.moves.tail_next
+  was_next was (inr gone) = go g.tail_next
     where
       go : (next_of m' m.tail.node ≡ next_of m m.tail.node) ⊎ (((next_of m m.tail.node).node ≡ 0) × ((next_of m m.tail.node).count < (next_of m' m.tail.node).count)) → WasNext m' c
       go (inl same) = inr (gone.0, subst (λ (q : Ref). c.next.count < q.count) (sym (subst (λ (q : Ref). next_of m' q.node ≡ next_of m q.node) was same)) gone.1)
@@ -181,48 +158,38 @@ module _ (Z : ℕ → Type 0) (limit : ℕ) (m m' : Shared) (c : Actor) (k : Rel
           inr (gone.0, omega arith)
 
   -- an actor still knows what it knew
-  pub knows_kept : (me : ℕ) (l : Line) → FixedAt limit me c (Some l) → NonNullAt l c → InvariantAt Z limit m c (Some l) → InvariantAt Z limit m' c (Some l)
-  knows_kept me N3 f p h = was_on m.free m'.free c.top k.moves.free h
-  knows_kept me N4 f p h =
-      (was_on m.free m'.free c.top k.moves.free h.0, λ e. go e (still_there m.free m'.free c.top k.moves.free h.0 e))
-    where
-      go : m'.free ≡ c.top → m'.free ≡ m.free → next_of m' c.top.node ≡ c.next
-      go e same =
-          let at : m.free ≡ c.top = sym same ∙ e in
-          let some : 1 ≤ m.free.node = subst (λ (r : Ref). 1 ≤ r.node) (sym at) p in
-          same_next c.top.node (subst (λ (r : Ref). node_at m' r.node ≡ node_at m r.node) at (k.top some)) ∙ h.1 at
-  knows_kept me F3 f p h = same_next c.node (own f.hand f.pocket p) ∙ h
-  knows_kept me E3 f p h = ap (λ (x : Node). x.value) (own f.hand f.pocket p) ∙ h
-  knows_kept me E5 f p h = ready (own f.hand f.pocket p) h
-  knows_kept me E6 f p h = (ready (own f.hand f.pocket p.0) h.0, was_on m.tail m'.tail c.tail k.moves.tail h.1)
-  knows_kept me E7 f p h = (
+  still_knows : (Z : ℕ → Type 0) (last last' me : ℕ) (l : Line) → FixedAt s.limit me c (Some l) → NonNullAt l c → OwnAt Z s m last c (Some l) → OwnAt Z s m' last' c (Some l)
+  still_knows Z last last' me E3 f p h = ap (λ (x : Node). x.value) (own f.hand f.pocket p) ∙ h
+  still_knows Z last last' me E5 f p h = ready (own f.hand f.pocket p) h
+  still_knows Z last last' me E6 f p h = (ready (own f.hand f.pocket p.0) h.0, was_on m.tail m'.tail c.tail g.tail h.1)
+  still_knows Z last last' me E7 f p h = (
     ready (own f.hand f.pocket p.0) h.0,
-    was_on m.tail m'.tail c.tail k.moves.tail h.1,
+    was_on m.tail m'.tail c.tail g.tail h.1,
     λ e. let was : m.tail ≡ c.tail = sym (tail_is h.1 e) ∙ e in was_next was (h.2 was),
   )
-  knows_kept me E9 f p h = (ready (own f.hand f.pocket p.0) h.0, h.1, linked_next c.next h.2 p.1 h.1)
-  knows_kept me E13 f p h = (ready (own f.hand f.pocket p.0) h.0, may_go_on c.next.node p.2 h.1)
-  knows_kept me E17 f p h = may_go_on c.node p.0 h
-  knows_kept me D3 f p h = was_on m.head m'.head c.head k.moves.head h
-  knows_kept me D4 f p h = (
-    was_on m.head m'.head c.head k.moves.head h.0,
-    was_on m.tail m'.tail c.tail k.moves.tail h.1,
+  still_knows Z last last' me E9 f p h = (ready (own f.hand f.pocket p.0) h.0, h.1, linked_next c.next h.2 p.1 h.1)
+  still_knows Z last last' me E13 f p h = (ready (own f.hand f.pocket p.0) h.0, may_go_on c.next.node p.2 h.1)
+  still_knows Z last last' me E17 f p h = may_go_on c.node p.0 h
+  still_knows Z last last' me D3 f p h = was_on m.head m'.head c.head g.head h
+  still_knows Z last last' me D4 f p h = (
+    was_on m.head m'.head c.head g.head h.0,
+    was_on m.tail m'.tail c.tail g.tail h.1,
     λ e d. let same : m'.head ≡ m.head = head_is h.0 e in let was : m.head ≡ c.head = sym same ∙ e in off_stays same was (h.2 was d),
   )
-  knows_kept me D5 f p h = (
-    was_on m.head m'.head c.head k.moves.head h.0,
-    was_on m.tail m'.tail c.tail k.moves.tail h.1,
+  still_knows Z last last' me D5 f p h = (
+    was_on m.head m'.head c.head g.head h.0,
+    was_on m.tail m'.tail c.tail g.tail h.1,
     λ e. let same : m'.head ≡ m.head = head_is h.0 e in let was : m.head ≡ c.head = sym same ∙ e in (
       λ some. next_stays c.next some was ((h.2 was).0 some),
       λ d. (off_stays same was ((h.2 was).1 d).0, ((h.2 was).1 d).1),
     ),
     λ e none. h.3 (sym (head_is h.0 e) ∙ e) none,
   )
-  knows_kept me D10 f p h = may_go_on c.next.node p.1 h
-  knows_kept me D12 f p h = may_take p.1 h
-  knows_kept me D13 f p h = (
+  still_knows Z last last' me D10 f p h = may_go_on c.next.node p.1 h
+  still_knows Z last last' me D12 f p h = may_take p.1 h
+  still_knows Z last last' me D13 f p h = (
     may_take p.1 h.0,
-    λ e. let was : m.head ≡ c.head = sym (head_is h.0.0 e) ∙ e in subst (λ j. (node_at m' j).value ≡ (node_at m j).value) (at was) (k.front (leads was)) ∙ h.1 was,
+    λ e. let was : m.head ≡ c.head = sym (head_is h.0.0 e) ∙ e in subst (λ j. (node_at m' j).value ≡ (node_at m j).value) (at was) (n.front (leads was)) ∙ h.1 was,
   )
     where
       at : m.head ≡ c.head → (next_of m m.head.node).node ≡ c.next.node
@@ -230,22 +197,52 @@ module _ (Z : ℕ → Type 0) (limit : ℕ) (m m' : Shared) (c : Actor) (k : Rel
 
       leads : m.head ≡ c.head → 1 ≤ (next_of m m.head.node).node
       leads was = let e : (next_of m m.head.node).node ≡ c.next.node = at was in let some : 1 ≤ c.next.node = p.1 in omega arith
-  knows_kept me _ f p h = tt
+  still_knows Z last last' me _ f p h = tt
 
-  pocket_kept : (pocket : Option Held) → c.pocket ≡ pocket → IfSome pocket (λ held. IsMark m held.node held.mark) → IfSome pocket (λ held. IsMark m' held.node held.mark)
-  pocket_kept None e h = tt
-  pocket_kept (Some held) e h = (h.0, ap (λ (x : Node). x.next.count) (k.hand held.node h.0 here) ∙ h.1)
-    where
-      here : 1 ≤ holds held.node c
-      here =
-          let one : in_pocket held.node c.pocket ≡ 1 = ap (in_pocket held.node) e ∙ one_if_same held.node held.node refl in
-          omega arith
+-- where Tail is, and that the `next` of the last node is not worn out
+pub record LagsWithRoom (s : Setup) (m : Shared) (queue : List ℕ) : Type 0 where
+  pub lag : TailLags m queue
+  pub last_room : (next_of m (last_node queue)).count ≢ s.limit
 
-  -- the marks of its nodes stay
-  pub marks_kept : Marked m c → Marked m' c
-  marks_kept h = record { hand = in_it; pocket = pocket_kept c.pocket refl h.pocket }
-    where
-      in_it : c.holds ≡ true → IsMark m' c.node c.mark
-      in_it e =
-          let one : in_hand c.node c ≡ 1 = ap (λ b. if b then one_if (nat_eq c.node c.node) else 0) e ∙ one_if_same c.node c.node refl in
-          ((h.hand e).0, ap (λ (x : Node). x.next.count) (k.hand c.node (h.hand e).0 (omega arith)) ∙ (h.hand e).1)
+pub own_kept : (Z : ℕ → Type 0) (s : Setup) (m m' : Shared) (last last' you : ℕ) (c : Actor) (l : Line) → Guarantee m m' → NodesRely m m' c → FixedAt s.limit you c (Some l) → NonNullAt l c → OwnsAt m you (Some l) → OwnAt Z s m last c (Some l) → OwnAt Z s m' last' c (Some l)
+own_kept Z s m m' last last' you c l g n f p o h = still_knows s m m' c g n Z last last' you l f p h
+
+-- the locks stay
+pub locks_kept : (m m' : Shared) (you : ℕ) (l : Option Line) → Guarantee m m' → OwnsAt m you l → OwnsAt m' you l
+locks_kept m m' you l g h = (subst (λ k. Owns k you (has_tail l)) (sym g.locks.0) h.0, subst (λ k. Owns k you (has_head l)) (sym g.locks.1) h.1)
+
+-- a step that changes no word of the queue
+pub moves_nothing : (s : Setup) (m m' : Shared) (front : ℕ) (rest : List ℕ) → QueueStays m m' (front ∷ rest) → LagsWithRoom s m (front ∷ rest) → Guarantee m m'
+moves_nothing s m m' front rest k h =
+    record {
+      locks = (k.tail_lock, k.head_lock);
+      head = inl k.head;
+      tail = inl k.tail;
+      tail_on = inl k.tail;
+      tail_next = inl (ap (λ (x : Node). x.next) (k.nodes m.tail.node (tail_times m (front ∷ rest) h.lag)));
+      off = λ e d. subst (λ (r : Ref). r.node ≢ m.head.node) (sym k.tail) d;
+      counts = k.counts;
+    }
+
+-- what the non-blocking queue asserts alone
+abbrev pub non_blocking : Queue
+non_blocking =
+    record {
+      kind = NonBlocking;
+      Words = LagsWithRoom;
+      OwnAt = OwnAt;
+      Rely = λ m m' last last' you. Guarantee m m';
+      own_entry = own_entry;
+      own_more = own_more;
+      own_kept = own_kept;
+      locks_kept = λ m m' last last' you l g h. locks_kept m m' you l g h;
+      words_stay = λ s m m' front rest k h. record {
+        lag = lag_same m m' (front ∷ rest) k.tail k.head h.lag;
+        last_room = subst (λ (x : Node). x.next.count ≢ s.limit) (sym (k.nodes (last_node (front ∷ rest)) (last_times front rest))) h.last_room;
+      };
+      relies = λ s m m' front rest k h last you. moves_nothing s m m' front rest k h;
+    }
+
+-- what an actor knows before its line
+abbrev pub InvariantAt : (Z : ℕ → Type 0) → Setup → Shared → (last : ℕ) → Actor → Option Line → Type 0
+InvariantAt Z s m last a l = Knows non_blocking Z s m last a l

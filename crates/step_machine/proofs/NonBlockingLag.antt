@@ -5,7 +5,7 @@ use Rattle.step_machine.specs.Places.{IsChain, one_if, times}
 use Rattle.step_machine.specs.Chains.{last_node}
 use Rattle.step_machine.specs.Lag.{TailLags}
 use Rattle.step_machine.proofs.Chains.{next_in, one_if_same, last_linked, times-append}
-use Rattle.step_machine.proofs.NonBlockingAtLines.{next_of}
+use Rattle.step_machine.proofs.Assertions.{next_of}
 
 -- a chain goes on behind each of its nodes
 pub chain_behind : (nodes : List Node) (before : List ℕ) (x : ℕ) (after : List ℕ) (n : ℕ) → IsChain nodes n (before ++ x ∷ after) → (1 ≤ x) × (x ≤ length nodes) × IsChain nodes (next_in nodes x) after

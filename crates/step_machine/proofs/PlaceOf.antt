@@ -14,9 +14,7 @@ use Rattle.step_machine.proofs.Reached.{made_reached}
 use Rattle.step_machine.proofs.Chains.{next_in, one_if_tells, one_if_same, one_if_other, chain_none, chain_some, chain_same}
 use Rattle.step_machine.proofs.Counting.{used, used_within, used_above}
 use Rattle.step_machine.proofs.Effects.{null_times}
-use Rattle.step_machine.proofs.EachHistory.{of_both}
-use Rattle.step_machine.proofs.TwoLockLaws.{contained, have_their_places as places_two_lock}
-use Rattle.step_machine.proofs.NonBlockingLaws.{have_their_places as places_non_blocking}
+use Rattle.step_machine.proofs.EitherQueue.{contained, have_their_places}
 
 -- a number is at most another one, or it is above
 le_or_lt : (n m : ℕ) → (n ≤ m) ⊎ (m < n)
@@ -25,10 +23,6 @@ le_or_lt n m = go (nat_le n m) refl
     go : (b : Bool) → nat_le n m ≡ b → (n ≤ m) ⊎ (m < n)
     go true e = inl (leb-true n m e)
     go false e = inr (leb-false n m e)
-
--- each world has its places
-pub have_places : OfEachWorld HasItsPlaces
-have_places = of_both HasItsPlaces places_two_lock places_non_blocking
 
 -- a list without a number
 abbrev without : ℕ → List ℕ → List ℕ
@@ -233,7 +227,7 @@ module _ (w : World) (queue free : List ℕ) (h : Places w queue free) (n : ℕ)
 -- a node of a world that calls lead to is at no two places
 pub only_place : (w : World) → IsMade w → (n : ℕ) → 1 ≤ n → (p : Place) → IsAt w n p → (q : Place) → IsAt w n q → q ≡ p
 only_place w m n some p here q there =
-    let x : HasItsPlaces w = have_places w (made_reached w m) in one_place w x.0 x.1 x.2 n some p q here there
+    let x : HasItsPlaces w = have_their_places w (made_reached w m) in one_place w x.0 x.1 x.2 n some p q here there
 
 -- what is told of the chain from Head is told of the queue
 told_of : (w : World) (queue free : List ℕ) → Places w queue free → (n : ℕ) → 1 ≤ n → (is_there : Bool) (from most : ℕ) → from ≡ w.shared.head.node → most ≡ w.shared.fresh → TellsOfChain is_there w.shared.nodes from n most → TellsWhetherThere is_there (times n queue)
@@ -244,11 +238,11 @@ told_of w queue free h n some is_there from most head fresh tells =
 -- a node that was found there is in the queue
 pub queue_place : (w : World) → IsMade w → (n : ℕ) → 1 ≤ n → (is_there : Bool) (from most : ℕ) → from ≡ w.shared.head.node → most ≡ w.shared.fresh → TellsOfChain is_there w.shared.nodes from n most → is_there ≡ true → IsAt w n Queue
 queue_place w m n some is_there from most head fresh tells found =
-    let x : HasItsPlaces w = have_places w (made_reached w m) in
+    let x : HasItsPlaces w = have_their_places w (made_reached w m) in
     is_queued w x.0 x.1 x.2 n some ((told_of w x.0 x.1 x.2 n some is_there from most head fresh tells).0 found)
 
 -- one that was used and found nowhere is free
 pub free_place : (w : World) → IsMade w → (n : ℕ) → 1 ≤ n → n ≤ w.shared.fresh → (is_there : Bool) (from most : ℕ) → from ≡ w.shared.head.node → most ≡ w.shared.fresh → TellsOfChain is_there w.shared.nodes from n most → is_there ≡ false → held n w.actors ≡ 0 → set_aside n w.aside ≡ 0 → IsAt w n Free
 free_place w m n some low is_there from most head fresh tells missed =
-    let x : HasItsPlaces w = have_places w (made_reached w m) in
+    let x : HasItsPlaces w = have_their_places w (made_reached w m) in
     is_free w x.0 x.1 x.2 n some low ((told_of w x.0 x.1 x.2 n some is_there from most head fresh tells).1 missed)

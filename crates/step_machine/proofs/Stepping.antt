@@ -27,33 +27,42 @@ led_on : (s : Setup) (now me : ℕ) (a : Actor) (l : Line) (m : Memory) → outc
 unfolding outcome_on
 led_on s now me a l m = refl
 
--- what a step at a line makes of its actor and its operation, and where they stand
-pub took : (s : Setup) (now me : ℕ) (l : Line) (old new : Memory) (a b : Actor) (was is : Stamped) (ops : List Stamped) (place : ℕ) (r : Option Reply) → b ≡ (outcome_on s now me a l old.words).actor → is ≡ with_outcome now (outcome_on s now me a l old.words) was → r ≡ (outcome_on s now me a l old.words).reply → new ≡ memory_after (action s me a l) (outcome_on s now me a l old.words) old → place ≡ entry_or a.entry (length ops) → place < length (listed a.entry (new_operation me a.op now) ops) → was ≡ get_or (listed a.entry (new_operation me a.op now) ops) place was → TookStep s now me l old ops a new (slice_set (listed a.entry (new_operation me a.op now) ops) place is) (record b { entry = Some place }) r
-took s now me l old new a b was is ops place r actor operation reply memory at there here =
-    let o : Outcome = led s now me a l old in
-    let same : outcome_on s now me a l old.words ≡ o = led_on s now me a l old in
-    let new_one : Stamped = new_operation me a.op now in
-    record {
-      memory = memory ∙ ap (λ p. memory_after (action s me a l) p old) same;
-      actor =
-          let mine : b ≡ o.actor = actor ∙ ap (λ p. p.actor) same in
-          let entered_at : (c : Actor) → Actor = λ c. record c { entry = Some place } in
-          let placed : (n : ℕ) → Actor = λ n. record o.actor { entry = Some n } in
-          ap entered_at mine ∙ ap placed at;
-      operations =
-          let told : is ≡ with_outcome now o was = operation ∙ ap (λ p. with_outcome now p was) same in
-          ap (λ x. slice_set (listed a.entry new_one ops) place x) told ∙
-          changed_where_listed a.entry place new_one was (with_outcome now o) ops at there here;
-      reply = reply ∙ ap (λ p. p.reply) same;
-    }
+module _ (s : Setup) (now me : ℕ) (l : Line) (old : Memory) (a : Actor) (ops : List Stamped) where
+  -- the outcome of the step, and the operations with that of its call
+  abbrev pub led_to : Outcome
+  led_to = outcome_on s now me a l old.words
 
-pub took_rooms : (i : Inside) (more me : ℕ) (a b : Actor) (l : Line) (after : Memory) (listed : List Stamped) (reply : Option Reply) → actor_of (world i) me ≡ Some a → a.line ≡ Some l → TookStep i.setup (i.steps + 1) me l i.memory i.operations.items a after listed b reply → HasNodes i.setup.size i.memory.words.fresh i.memory.room i.actors.items → length i.operations.items + unrecorded i.actors.items ≤ vec_capacity i.operations → vec_capacity i.operations ≤ more → Rooms i.setup.size after.words.fresh after.room more (slice_set i.actors.items (me - 1) b) listed
-took_rooms i more me a b l after listed reply at here took nodes entries enough =
-    let w = world i in
-    let o : Outcome = led w.setup (w.steps + 1) me a l i.memory in
-    let fresh : after.words.fresh ≡ (performed (action w.setup me a l) w.shared).fresh = ap (λ n. n.words.fresh) took.memory in
-    let grown : after.words.fresh + wants_node o.actor.line ≤ w.shared.fresh + wants_node (Some l) =
-    subst (λ n. n + wants_node o.actor.line ≤ w.shared.fresh + wants_node (Some l)) (sym fresh) (grows w.setup (w.steps + 1) me a l w.shared) in
-    let actors : slice_set w.actors (me - 1) b ≡ slice_set w.actors (me - 1) (entered a.entry (length w.operations) o) = ap (λ c. slice_set w.actors (me - 1) c) took.actor in
-    subst (λ n. Rooms w.setup.size after.words.fresh n more (slice_set w.actors (me - 1) b) listed) (sym (ap (λ n. n.room) took.memory))
-    (settled_rooms w i.memory.room _ more me a l o after.words.fresh _ _ listed _ _ at here grown actors took.operations nodes entries enough)
+  abbrev pub entries : List Stamped
+  entries = listed a.entry (new_operation me a.op now) ops
+
+  -- what the step makes of its actor and its operation, and where they stand
+  pub took : (new : Memory) (b : Actor) (was is : Stamped) (place : ℕ) (r : Option Reply) → b ≡ led_to.actor → is ≡ with_outcome now led_to was → r ≡ led_to.reply → new ≡ memory_after (action s me a l) led_to old → place ≡ entry_or a.entry (length ops) → place < length entries → was ≡ get_or entries place was → TookStep s now me l old ops a new (slice_set entries place is) (record b { entry = Some place }) r
+  took new b was is place r actor operation reply memory at there here =
+      let o : Outcome = led s now me a l old in
+      let same : led_to ≡ o = led_on s now me a l old in
+      record {
+        memory = memory ∙ ap (λ p. memory_after (action s me a l) p old) same;
+        actor =
+            let mine : b ≡ o.actor = actor ∙ ap (λ p. p.actor) same in
+            let entered_at : (c : Actor) → Actor = λ c. record c { entry = Some place } in
+            let placed : (n : ℕ) → Actor = λ n. record o.actor { entry = Some n } in
+            ap entered_at mine ∙ ap placed at;
+        operations =
+            let told : is ≡ with_outcome now o was = operation ∙ ap (λ p. with_outcome now p was) same in
+            ap (λ x. slice_set entries place x) told ∙
+            changed_where_listed a.entry place (new_operation me a.op now) was (with_outcome now o) ops at there here;
+        reply = reply ∙ ap (λ p. p.reply) same;
+      }
+
+-- the room that the world keeps serves what the step put down
+module _ (i : Inside) (more me : ℕ) (a b : Actor) (l : Line) (after : Memory) (listed : List Stamped) (reply : Option Reply) where
+  pub took_rooms : actor_of (world i) me ≡ Some a → a.line ≡ Some l → TookStep i.setup (i.steps + 1) me l i.memory i.operations.items a after listed b reply → HasNodes i.setup.size i.memory.words.fresh i.memory.room i.actors.items → length i.operations.items + unrecorded i.actors.items ≤ vec_capacity i.operations → vec_capacity i.operations ≤ more → Rooms i.setup.size after.words.fresh after.room more (slice_set i.actors.items (me - 1) b) listed
+  took_rooms at here took nodes entries enough =
+      let w = world i in
+      let o : Outcome = led w.setup (w.steps + 1) me a l i.memory in
+      let fresh : after.words.fresh ≡ (performed (action w.setup me a l) w.shared).fresh = ap (λ n. n.words.fresh) took.memory in
+      let grown : after.words.fresh + wants_node o.actor.line ≤ w.shared.fresh + wants_node (Some l) =
+      subst (λ n. n + wants_node o.actor.line ≤ w.shared.fresh + wants_node (Some l)) (sym fresh) (grows w.setup (w.steps + 1) me a l w.shared) in
+      let actors : slice_set w.actors (me - 1) b ≡ slice_set w.actors (me - 1) (entered a.entry (length w.operations) o) = ap (λ c. slice_set w.actors (me - 1) c) took.actor in
+      subst (λ n. Rooms w.setup.size after.words.fresh n more (slice_set w.actors (me - 1) b) listed) (sym (ap (λ n. n.room) took.memory))
+      (settled_rooms w i.memory.room _ more me a l o after.words.fresh _ _ listed _ _ at here grown actors took.operations nodes entries enough)

@@ -12,7 +12,7 @@ returns-clause-took c =
     let place = c.list_operation-place.result in
     subst (λ ops. TookStep c.args.setup c.args.now c.args.me c.args.line c.args.memory.now c.args.operations.now.items a step.new.memory (slice_set ops place step.new.operation) (record step.new.a { entry = Some place }) step.result)
     (sym at.items)
-    (took c.args.setup c.args.now c.args.me c.args.line c.args.memory.now step.new.memory a step.new.a c.in-Some.operation.now step.new.operation c.args.operations.now.items place step.result
+    (took c.args.setup c.args.now c.args.me c.args.line c.args.memory.now a c.args.operations.now.items step.new.memory step.new.a c.in-Some.operation.now step.new.operation place step.result
     step.ensures.actor step.ensures.operation step.ensures.reply step.ensures.memory at.place
     (subst (λ ops. place < length ops) at.items at.there)
     (subst (λ ops. c.in-Some.operation.now ≡ get_or ops place c.in-Some.operation.now) at.items c.in-Some.ensures.value))

@@ -1,6 +1,5 @@
 -- An access that names a word is one step on its place.
-use Rattle.step_machine.proofs.AccessesNameWords.{accesses_are_one_step}
-use Rattle.step_machine.proofs.NonBlockingLaws.{each_access_names_a_word}
+use Rattle.step_machine.proofs.AccessesNameWords.{accesses_are_one_step, each_access_names_a_word}
 use Rattle.step_machine.proofs.laws.accesses_are_atomic_steps.Goals as goal
 
 pub returns : goal.returns

@@ -1,0 +1,89 @@
+-- What a step keeps of the nodes for other actors, and of those that were never used; for both queues.
+use Rattle.std.proofs.Common.{◌≡◌, ◌≢◌, ℕ, zero, suc, get_or, ◌+◌, ◌-◌, ◌≤◌, ◌<◌, Bool, true, false, nat_eq, nat_le, if◌then◌else◌, List, [], ◌∷◌, length, replicate, Option, Some, None, IfSome, refl, sym, ap, ◌∙◌, subst, arith, ◌⊎◌, inl, inr}
+use Rattle.std.specs.Prelude.{slice_get}
+use Rattle.std.proofs.lemmas.Bool.{leb-true, true≢false}
+use Rattle.std.proofs.Math.ListN.{length-replicate}
+use Rattle.step_machine.specs.Below.{Kind, TwoLock, NonBlocking, Line, E2, A1, F1, section_of, Op, Enq, Deq, Setup, Node, Held, Actor, Outcome, blank, Shared, node_at, word, found, performed, action, outcome, gives_up, is_call, from_pocket, begun}
+use Rattle.step_machine.specs.Machine.{World, idle, opening, actor_of, rested, may_rest, with_actor, entry_or, after_outcome, stepped, IsSized, IsReached}
+use Rattle.step_machine.specs.Range.{WorldInRange, ActorInRange, LineInRange}
+use Rattle.step_machine.specs.ProgramCounters.{IsRunBy, NonNullAt, IsAtLine, PcIsValid}
+use Rattle.step_machine.specs.Places.{one_if, times, in_pocket, held, set_aside}
+use Rattle.step_machine.specs.Chains.{last_node}
+use Rattle.step_machine.proofs.StampsInvariants.{actor_cases}
+use Rattle.step_machine.proofs.StampsMoves.{idle_got}
+use Rattle.step_machine.proofs.Range.{writes, performed_in_range}
+use Rattle.step_machine.proofs.Reached.{some_of, reached_in_range, actor_in_range, mover_in_range, actor_stands}
+use Rattle.step_machine.proofs.ProgramCounters.{EndsHold, found_holds, access_holds, Placed, placed, given_up_placed, still_stands, rested_stands, begun_stands}
+use Rattle.step_machine.proofs.Chains.{one_if_same, one_if_tells, chain_some, second_leads, next_in, last_times}
+use Rattle.step_machine.proofs.Counting.{holds, elsewhere, elsewhere_settled, elsewhere_with, elsewhere_one, elsewhere_two, IsNew, holds_hand, used, used_most, used_within, used_above, held_one}
+use Rattle.step_machine.proofs.Effects.{Shape, WritesOneNode, OwnerOf, shape_turned, hand_kept, free_kept, queue_kept, value_kept}
+use Rattle.step_machine.proofs.Fixed.{FixedAt, Fixes, fixed, fixed_given, fixed_entry, fixed_begun}
+use Rattle.step_machine.proofs.StaleReferences.{Rises}
+use Rattle.step_machine.proofs.Assertions.{next_of, blank_counts, OwnsAt, IsMark, Marked, NodesRely, Queue, Knows, Found, Before, After, AtLine, Steps, knows_entry, knows_more, knows_kept, marks_kept}
+use Rattle.step_machine.proofs.StepEffects.{no_marks, gives, does}
+
+-- a node that counts as used is
+used_some : (n fresh : ℕ) → 1 ≤ used n fresh → n ≤ fresh
+used_some n fresh h = go (nat_le n fresh) refl h
+  where
+    go : (b : Bool) → nat_le n fresh ≡ b → 1 ≤ one_if b → n ≤ fresh
+    go true e g = leb-true n fresh e
+    go false e g = absurd (omega arith)
+
+-- a node that is set aside was not
+pub is_new : (w : World) (me : ℕ) (a : Actor) (queue free : List ℕ) (aside : Option ℕ) → WorldInRange w → actor_of w me ≡ Some a → Shape w.shared (elsewhere w) queue free → IfSome aside (λ k. (1 ≤ k) × (1 ≤ holds k a)) → IsNew w.aside aside
+is_new w me a queue free None g is sh own = tt
+is_new w me a queue free (Some k) g is sh own =
+    let up : w.shared.fresh ≤ w.setup.size = g.shared.fresh in
+    let all : length w.aside ≡ w.setup.size = g.all_flags in
+    let mine : 1 ≤ holds k a = own.1 in
+    let one : times k queue + times k free + (held k w.actors + set_aside k w.aside) ≡ used k w.shared.fresh = sh.once k own.0 in
+    let most : used k w.shared.fresh ≤ 1 = used_most k w.shared.fresh in
+    let there : holds k a ≤ held k w.actors = held_one k w.actors (me - 1) a (actor_stands w me a is).1 in
+    let low : k ≤ w.shared.fresh = used_some k w.shared.fresh (omega arith) in
+    (own.0, omega arith, omega arith)
+
+-- what a step keeps of the nodes for another actor
+pub nodes_kept : (w : World) (me you : ℕ) (a c : Actor) (m' : Shared) (front : ℕ) (rest free : List ℕ) → you ≢ me → 1 ≤ w.shared.head.node → actor_of w me ≡ Some a → actor_of w you ≡ Some c → Shape w.shared (elsewhere w) (front ∷ rest) free → Rises w.shared.free m'.free → WritesOneNode w.shared m' (front ∷ rest) a → NodesRely w.shared m' c
+nodes_kept w me you a c m' front rest free other some is there sh rises writes =
+    record {
+      free = rises;
+      top = λ one. free_kept w.shared m' (elsewhere w) front rest free a sh writes mine w.shared.free.node one (top one);
+      hand = λ n one here. hand_kept w.shared m' (elsewhere w) front rest free a c sh writes (λ i. elsewhere_two w me you a c i (λ q. other (sym q)) is there) n one here;
+      dummy = λ leads. queue_kept w.shared m' (elsewhere w) front rest free a sh writes mine w.shared.head.node some dummy leads;
+      front = λ leads. value_kept w.shared m' (elsewhere w) (front ∷ rest) free a sh writes mine (next_of w.shared w.shared.head.node).node leads (second leads);
+    }
+  where
+    mine : (n : ℕ) → holds n a ≤ elsewhere w n
+    mine n = elsewhere_one w me a n is
+
+    top : 1 ≤ w.shared.free.node → 1 ≤ times w.shared.free.node free
+    top one =
+        let f : (ns : List ℕ) × (free ≡ w.shared.free.node ∷ ns) = chain_some w.shared.nodes w.shared.free.node free one sh.free_chain in
+        subst (λ ns. 1 ≤ times w.shared.free.node ns) (sym f.1) (omega (arith, one_if_same w.shared.free.node w.shared.free.node refl))
+
+    dummy : 1 ≤ times w.shared.head.node (front ∷ rest)
+    dummy = omega (arith, one_if_same w.shared.head.node front sh.queue_chain.0)
+
+    second : 1 ≤ (next_of w.shared w.shared.head.node).node → 1 ≤ times (next_of w.shared w.shared.head.node).node (front ∷ rest)
+    second leads =
+        let x : ℕ = (next_of w.shared w.shared.head.node).node in
+        let f : (ns : List ℕ) × (rest ≡ x ∷ ns) =
+        second_leads w.shared.nodes w.shared.head.node front x rest sh.queue_chain (ap (next_in w.shared.nodes) (sym sh.queue_chain.0)) leads in
+        subst (λ ns. 1 ≤ times x (front ∷ ns)) (sym f.1) (omega (arith, one_if_same x x refl))
+
+-- nodes that were never used stay as they are
+pub unused_kept : (m m' : Shared) (E : ℕ → ℕ) (front : ℕ) (rest free : List ℕ) (a : Actor) → Shape m E (front ∷ rest) free → WritesOneNode m m' (front ∷ rest) a → ((n : ℕ) → holds n a ≤ E n) → (n : ℕ) → m.fresh < n → node_at m' n ≡ node_at m n
+unused_kept m m' E front rest free a sh w mine n above = w.others n (omega arith) (go w.whose)
+  where
+    nowhere : times n (front ∷ rest) + times n free + E n ≡ 0
+    nowhere = sh.once n (omega arith) ∙ used_above n m.fresh above
+
+    go : OwnerOf m m' (front ∷ rest) a w.node → n ≢ w.node
+    go (inl z) q = let e : n ≡ 0 = q ∙ z in omega arith
+    go (inr (inl own)) q =
+        let e : holds n a ≡ holds w.node a = ap (λ k. holds k a) q in
+        omega (arith, mine n, nowhere)
+    go (inr (inr last)) q =
+        let e : 1 ≤ times n (front ∷ rest) = subst (λ k. 1 ≤ times k (front ∷ rest)) (sym (q ∙ last.0)) (last_times front rest) in
+        omega (arith, nowhere)
