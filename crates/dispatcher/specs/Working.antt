@@ -1,5 +1,5 @@
 -- What one turn of a worker does.
-use Rattle.std.specs.Prelude.{◌≡◌, ℕ, ◌-◌, ◌<◌, ◌≤◌, List, [], ◌∷◌, ◌++◌, length, Some, slice_get}
+use Rattle.std.specs.Prelude.{◌≡◌, ℕ, ◌-◌, ◌<◌, ◌≤◌, List, [], ◌∷◌, ◌++◌, length, Option, Some, None, slice_get}
 use Rattle.history.specs.declared.operations.Taken.{Taken}
 use Rattle.history.specs.declared.refusals.Refusal.{Refusal}
 use Rattle.history.specs.declared.refusals.Refusal.TheVariants.{WornOut, Busy, Memory, Stranger}
@@ -17,18 +17,28 @@ pub record Takes (k : Known) (body : ℕ) (k' : Known) : Type 0 where
   pub popped : Popped k value k'
   pub same : value.body ≡ body
 
--- the number of a job was taken, and the result of this job was put at the end, and nothing else
-pub record DoesJob (jobs : List Job) (k k' : Known) (out out' : List JobResult) (number : ℕ) : Type 0 where
-  pub taken : Takes k number k'
+-- what a pop took: nothing, with the queue empty, or one value with this number as its body
+abbrev pub TakesNumber : (k k' : Known) → Option ℕ → Type 0
+TakesNumber k k' None = FoundEmpty k k'
+TakesNumber k k' (Some body) = Takes k body k'
+
+-- why a pop was refused: it took nothing
+abbrev pub TakesNot : (k k' : Known) → Refusal → Type 0
+TakesNot k k' (WornOut word) = SeesMore k k'
+TakesNot k k' Busy = SeesMore k k'
+TakesNot k k' _ = ⊥
+
+-- the result of the job of this number was put at the end, and nothing else
+pub record PutsResult (jobs : List Job) (number : ℕ) (out out' : List JobResult) : Type 0 where
   pub from_one : 1 ≤ number
   pub result : JobResult
   pub numbered : number_in result ≡ number
   pub of : slice_get jobs (number - 1) ≡ Some (job_in result)
   pub added : out' ≡ out ++ result ∷ []
 
--- what a turn did: a job; nothing, with the queue empty; or it took the stop value
+-- what a turn did: it took the number of a job, and did it; nothing, with the queue empty; or it took the stop value
 abbrev pub Works : List Job → (k k' : Known) → (out out' : List JobResult) → Worked → Type 0
-Works jobs k k' out out' (Did number) = DoesJob jobs k k' out out' number
+Works jobs k k' out out' (Did number) = Takes k number k' × PutsResult jobs number out out'
 Works jobs k k' out out' Empty = FoundEmpty k k' × (out' ≡ out)
 Works jobs k k' out out' Stop = Takes k 0 k' × (out' ≡ out)
 

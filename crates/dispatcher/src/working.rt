@@ -1,7 +1,7 @@
 //! One turn of a worker.
-ghost use Rattle.std.specs.Prelude.{◌≡◌, ◌≤◌, IfOk, IfErr, OnErr};
+ghost use Rattle.std.specs.Prelude.{◌≡◌, ◌<◌, ◌≤◌, length, vec_len, vec_capacity, IfOk, IfErr, OnOk, OnErr};
 ghost use Rattle.history.specs.Seats.{MayPop};
-ghost use Rattle.dispatcher.specs.Working.{Works, WorksNot};
+ghost use Rattle.dispatcher.specs.Working.{TakesNumber, TakesNot, PutsResult, Works, WorksNot};
 
 use crate::gate::Gate;
 use history::{Fifo, Refusal};
@@ -16,6 +16,46 @@ pub enum Worked {
     Empty,
     /// It took the stop value, body 0.
     Stop,
+}
+
+// Takes one value, in so many turns at most, 1 or more: the number that its body is; none where the queue was empty.
+fn take_number<Q: Fifo>(queue: &Q, seat: &mut Q::Seat, turns: u32) -> Result<Option<u64>, Refusal>
+    requires seat { Q.is_seat queue.now seat.old }
+    requires role { MayPop (Q.permits queue.now) (Q.known seat.old).number }
+    requires turns { 1 ≤ turns }
+    ensures seat { Q.is_seat queue.now seat.new }
+    ensures number { (Q.known seat.new).number ≡ (Q.known seat.old).number }
+    ensures taken { IfOk result (TakesNumber (Q.known seat.old) (Q.known seat.new)) }
+    ensures why { IfErr result (TakesNot (Q.known seat.old) (Q.known seat.new)) }
+{
+    let Some(taken) = queue.try_pop(seat, turns)? else {
+        return Ok(None);
+    };
+    Ok(Some(taken.body.number()))
+}
+
+// Does the job of this number, 1 or more: its result is put at the end of `out`, which has room. Refused by `Stranger` where
+// the number is above that of the jobs.
+fn do_job<'a, G: Gate>(
+    jobs: &'a [Job],
+    gate: &G,
+    out: &mut Vec<JobResult<'a>>,
+    number: u64,
+) -> Result<(), Refusal>
+    requires from_one { 1 ≤ number }
+    requires room { vec_len out.old < vec_capacity out.old }
+    ensures put { OnOk result (PutsResult jobs.now number out.old.items out.new.items) }
+    ensures why { IfErr result (λ why. why ≡ Refusal.Stranger) }
+    ensures above { OnErr result (length jobs.now < number) }
+    ensures refused { OnErr result (out.new.items ≡ out.old.items) }
+{
+    let Some(job) = jobs.get(number as usize - 1) else {
+        return Err(Refusal::Stranger);
+    };
+    gate.before(number);
+    out.push_reserved(JobResult::new(number, job));
+    gate.after(number);
+    Ok(())
 }
 
 /// Takes one value, in so many turns at most, 1 or more, and does the job of that number: its result is put at the end of
@@ -52,18 +92,11 @@ pub fn work_one<'a, Q: Fifo, G: Gate>(
     if out.reserve(1).is_err() {
         return Err(Refusal::Memory);
     }
-    let Some(taken) = queue.try_pop(seat, turns)? else {
-        return Ok(Worked::Empty);
+    let number = match take_number(queue, seat, turns)? {
+        None => return Ok(Worked::Empty),
+        Some(0) => return Ok(Worked::Stop),
+        Some(number) => number,
     };
-    let number = taken.body.number();
-    if number == 0 {
-        return Ok(Worked::Stop);
-    }
-    let Some(job) = jobs.get(number as usize - 1) else {
-        return Err(Refusal::Stranger);
-    };
-    gate.before(number);
-    out.push_reserved(JobResult::new(number, job));
-    gate.after(number);
+    do_job(jobs, gate, out, number)?;
     Ok(Worked::Did(number))
 }
