@@ -1,9 +1,8 @@
-"""Keys: all that the prover's answer to an edit hangs on, as one digest.
+"""Keys: all that the prover's answer to an edit hangs on, as two digests.
 
-The key of an edit is a digest of
+The key of an edit is a digest of the toolchain's line of identity, behind a point, and before it one of
 - the edit, and the src, specs and proofs of its crate as they stand;
 - the lines of crates.txt of the crate and of the crates below it, and HANDLES;
-- the toolchain's line of identity;
 - the files of this tool, but for the three that only choose, count and write down: main.py, record.py, report.py;
 - of the crates below, what a check of this crate can read.
 
@@ -36,6 +35,7 @@ from mutants.kit import Kit, LibraryOfRt
 from mutants.sources import NO_CODE, Function, blanked, closed, functions_of, homes_of
 
 LENGTH = 16
+LENGTH_OF_TOOLCHAIN = 8
 JUDGE_NOTHING = ("main.py", "record.py", "report.py")
 WORD = re.compile(r"\w+")
 # A file of a crate's specs/ or proofs/, as an import writes it, or an attribute.
@@ -178,7 +178,8 @@ class Keys:
         below = sorted(crate.below(), key=lambda it: it.name)
         parts = {"src": ".rt", "specs": ".antt", "proofs": ".antt"}
         own = {path: text for part, ending in parts.items() for path, text in texts_below(crate.folder, part, ending).items()}
-        self.common = digest([own, crate.said, [it.said for it in below], handles, version, tool_files()])
+        self.common = digest([own, crate.said, [it.said for it in below], handles, tool_files()])
+        self.toolchain = digest([version])[:LENGTH_OF_TOOLCHAIN]
         self.units = [unit for it in below for unit in units_of(it.name, it.folder)]
         self.written = {it for text in own.values() for it in written_in(text, crate.name)}
         self.read = read(self.units, self.written)
@@ -195,7 +196,7 @@ class Keys:
         more, below = written_in(edit.text, edit.crate) - self.written, self.below
         if more & self.names_left:
             below = self.sum_of(read(self.units, self.written | more))
-        return digest([edit.crate, edit.name, edit.text, self.common, below])[:LENGTH]
+        return f"{digest([edit.crate, edit.name, edit.text, self.common, below])[:LENGTH]}.{self.toolchain}"
 
 
 def keys_of(kit: Kit, crate: LibraryOfRt, top: str) -> Keys:

@@ -1,7 +1,8 @@
 """The record: which edits were refused, by their keys, and whose turn it is to be tried all the same.
 
-It is a file crates/NAME/wrong/RECORD with one line an edit, sorted: its name, its key (keys.py), and the goal that refused it.
-Where two branches were merged an edit may have two lines; each is what some run saw, and at most one has the edit's present key.
+It is a file crates/NAME/wrong/RECORD with lines, sorted: an edit's name, its key (keys.py), and the goal that refused it. An edit
+has a line for each toolchain that refused it as it stands: what one says tells nothing of another. Where two branches were merged
+it may have more; each is what some run saw, and at most one has the edit's present key.
 """
 import hashlib
 import os
@@ -15,6 +16,11 @@ TURNS = 16
 
 def number(*words: str) -> int:
     return int(hashlib.sha256("\n".join(words).encode()).hexdigest(), 16)
+
+
+def is_of_another_toolchain(key: str, other: str) -> bool:
+    """Returns whether two keys differ in the toolchain alone."""
+    return key != other and key.partition(".")[0] == other.partition(".")[0] and "." in key
 
 
 class Record:
@@ -38,8 +44,13 @@ class Record:
         return sorted({it[0] for it in self.lines} - {*names})
 
     def mend(self, names: Iterable[str], judged: Mapping[str, tuple[str, str]]) -> None:
-        """Takes away the lines of edits that are gone, and of those judged now, (key, goal) by name; and writes lines for those that have a goal."""
-        kept = {it for it in self.lines if it[0] in {*names} and it[0] not in judged}
+        """Takes away the lines of edits that are gone, and of those judged now, (key, goal) by name, but for lines of other toolchains that differ
+        from the new one in nothing else; and writes lines for those that have a goal."""
+
+        def stays(name: str, key: str) -> bool:
+            return name in {*names} and (name not in judged or is_of_another_toolchain(key, judged[name][0]))
+
+        kept = {it for it in self.lines if stays(it[0], it[1])}
         self.lines = kept | {(name, key, goal) for name, (key, goal) in judged.items() if goal}
         if self.lines:
             with open(self.path, "w", encoding="utf-8") as it:

@@ -6,6 +6,7 @@ from collections.abc import Callable
 
 from mutants.edits import read_edit
 from mutants.keys import Keys
+from mutants.record import is_of_another_toolchain
 from mutants.sources import Texts
 
 # A crate low, and a crate high that stands on it. Each text that a case below changes stands in its file once.
@@ -143,6 +144,9 @@ def test_keys(expect: Callable[[str, bool, str], None]) -> None:
         expect(f"{what}: {'another' if is_other else 'the same'} key", (made != first) == is_other, made)
     for what, made in {"toolchain": key(version="kit 2"), "handles": key(handles="Threads"), "line of crates.txt": key(said="low: std")}.items():
         expect(f"another {what}: another key", made != first, made)
+    kits = key(version="kit 2"), key({"high/src/lib.rt": LOW_AND_HIGH["high/src/lib.rt"].replace("High", "Higher")})
+    expect("another toolchain alone: told from the key", is_of_another_toolchain(kits[0], first), kits[0])
+    expect("another source: told from the key", not is_of_another_toolchain(kits[1], first), kits[1])
     # (what an edit alone names counts too)
     calls = {"high/wrong/adds_none.edit": "file: src/lib.rt\nold: low::one_more(n)\nnew: low::two_more(n)\n"}
     more = calls | {"low/src/lib.rt": LOW_AND_HIGH["low/src/lib.rt"].replace("n + unread 2", "n + unread 3")}
