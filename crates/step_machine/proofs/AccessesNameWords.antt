@@ -1,6 +1,6 @@
 -- In a reached world each access names a word of the table; and an access that does is one step on its place.
 use Rattle.std.proofs.Common.{◌≡◌, ℕ, ◌≤◌, length, arith}
-use Rattle.step_machine.specs.Below.{Line, N3, F2, E2, E3, E6, E9, D4, D5, D12, A1, A2, A5, B3, B4, Setup, Actor, Shared, word, action}
+use Rattle.step_machine.specs.Below.{Line, N3, F2, E2, E3, E6, E9, D4, D12, A1, A2, A5, B3, B4, Setup, Actor, Shared, word, action}
 use Rattle.step_machine.specs.Words.{IsWord}
 use Rattle.step_machine.specs.Machine.{World, IsReached}
 use Rattle.step_machine.specs.Range.{SharedInRange, RegistersInRange, WorldInRange}

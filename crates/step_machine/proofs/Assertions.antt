@@ -1,6 +1,6 @@
 -- What both queues assert of the words, of the actors and of a step, over what each of them asserts alone: a `Queue`.
 -- The lines of the free list assert the same in both.
-use Rattle.std.proofs.Common.{◌≡◌, ◌≢◌, ℕ, zero, suc, get_or, replicate, ◌+◌, ◌≤◌, ◌<◌, Bool, true, false, nat_eq, if◌then◌else◌, List, [], ◌∷◌, length, Option, Some, None, IfSome, refl, sym, ap, ◌∙◌, subst, arith}
+use Rattle.std.proofs.Common.{◌≡◌, ◌≢◌, ℕ, zero, suc, get_or, replicate, ◌≤◌, ◌<◌, Bool, true, false, nat_eq, if◌then◌else◌, List, [], ◌∷◌, length, Option, Some, None, IfSome, refl, sym, ap, ◌∙◌, subst, arith}
 use Rattle.step_machine.specs.Below.{Ref, ref, Kind, Line, N1, N2, N3, N4, N5, F1, F2, F3, E2, D2, A1, A4, A5, A6, A7, B1, B2, B3, B4, B5, B6, Section, section_of, Setup, Node, Held, Actor, Outcome, blank, Shared, node_at, found, performed, action, outcome}
 use Rattle.line_table.specs.declared.lines.Section.TheVariants.{NewNode, Free}
 use Rattle.step_machine.specs.Machine.{opening, IsSized}
@@ -120,6 +120,7 @@ pub record Queue : Type 1 where
   pub words_stay : (s : Setup) (m m' : Shared) (front : ℕ) (rest : List ℕ) → QueueStays m m' (front ∷ rest) → Words s m (front ∷ rest) → Words s m' (front ∷ rest)
   pub relies : (s : Setup) (m m' : Shared) (front : ℕ) (rest : List ℕ) → QueueStays m m' (front ∷ rest) → Words s m (front ∷ rest) → (last you : ℕ) → Rely m m' last last you
 
+-- what an actor knows before its line, by whether the line is one of the queue's own
 abbrev pub KnowsBy : Queue → Bool → (Z : ℕ → Type 0) → Setup → Shared → (last : ℕ) → Actor → Option Line → Type 0
 KnowsBy q true Z s m last a l = q.OwnAt Z s m last a l
 KnowsBy q false Z s m last a l = FreeAt m a l
@@ -187,7 +188,7 @@ pub record Steps (q : Queue) : Type 1 where
   pub found_a_node : (Z : ℕ → Type 0) (s : Setup) (me : ℕ) (m : Shared) (last : ℕ) (a : Actor) (l : Line) → IsRunBy (section_of l) q.kind → Knows q Z s m last a (Some l) → FoundANode s me a l (found (action s me a l) m)
   pub does : (b : Before q) (l : Line) → IsOwnOf (section_of l) q.kind → AtLine q b l → After q b (performed (action b.s b.me b.a l) b.m) (outcome b.s b.now b.me b.a l (found (action b.s b.me b.a l) b.m))
 
--- where its operation stands says nothing of what an actor knows
+-- where its operation stands says nothing of what an actor knows of the free nodes
 free_entry : (m : Shared) (a : Actor) (entry : Option ℕ) (l : Option Line) → FreeAt m a l → FreeAt m (record a { entry = entry }) l
 free_entry m a entry None h = h
 free_entry m a entry (Some N1) h = h
@@ -209,6 +210,7 @@ free_kept limit you m m' c F3 n f p h =
 free_kept limit you m m' c _ n f p h = tt
 
 module _ (q : Queue) where
+  -- where its operation stands says nothing of what an actor knows
   pub knows_entry : (Z : ℕ → Type 0) (s : Setup) (m : Shared) (last : ℕ) (a : Actor) (entry : Option ℕ) (l : Option Line) → Knows q Z s m last a l → Knows q Z s m last (record a { entry = entry }) l
   knows_entry Z s m last a entry l = go (is_own l)
     where

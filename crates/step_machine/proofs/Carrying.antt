@@ -1,7 +1,7 @@
 -- What the moves carry along of a world and its queue's chain, in both queues: a fact of the chain, and one of the
 -- numbers noted where the queue was empty.
 use Rattle.std.proofs.Common.{◌≡◌, ℕ, ◌+◌, true, List, [], ◌∷◌, Some, None}
-use Rattle.step_machine.specs.Below.{Line, Op, Setup, Actor, Outcome, Shared, found, performed, action, outcome, gives_up, begun}
+use Rattle.step_machine.specs.Below.{Line, Op, Setup, Actor, Outcome, Shared, begun}
 use Rattle.step_machine.specs.Machine.{World, opening, actor_of, rested, may_rest, with_actor, after_outcome, IsSized, IsReached}
 use Rattle.step_machine.proofs.StampsInvariants.{Does}
 use Rattle.step_machine.proofs.Counting.{elsewhere}

@@ -1,12 +1,12 @@
 -- Why a step refuses, and what each reply in the operations says, for both queues: the lines of the free list once, and
 -- what is left to a queue's own lines.
-use Rattle.std.proofs.Common.{◌≡◌, ◌≢◌, ℕ, ◌+◌, ◌≤◌, ◌<◌, true, false, nat_eq, nat_lt, List, [], ◌∷◌, length, Option, Some, None, IfSome, refl, arith}
+use Rattle.std.proofs.Common.{◌≡◌, ℕ, ◌+◌, ◌≤◌, ◌<◌, true, false, nat_eq, nat_lt, List, [], ◌∷◌, length, Option, Some, None, IfSome, refl, arith}
 use Rattle.std.specs.Prelude.{slice_index_or}
 use Rattle.std.specs.List.{All}
 use Rattle.std.proofs.lemmas.Bool.{eqb-true, ltb-false}
 use Rattle.std.proofs.lemmas.List.Elements.{All-set, All-append, All-cons, All-nil}
-use Rattle.step_machine.specs.Below.{is_null, same_ref, Kind, TwoLock, NonBlocking, Line, N1, N2, N3, N4, N5, F1, F2, F3, E5, E9, E13, E17, D2, D10, D13, A3, B1, B5, section_of, WornWord, OfFree, Refusal, NoNode, WornOut, Busy, Reply, Value, Refused, Stamped, Taken, Setup, Actor, Outcome, found, action, outcome, goes, empties_hand, fills_hand, to_pocket, with_node, freed, busy_or, gives_up}
-use Rattle.step_machine.specs.Machine.{World, actor_of, after_outcome, with_operation, with_outcome, new_operation, IsReached}
+use Rattle.step_machine.specs.Below.{is_null, same_ref, Kind, Line, N1, N2, N3, N4, N5, F1, F2, F3, E5, E9, E13, E17, D2, D10, D13, A3, B1, B5, section_of, WornWord, OfFree, Refusal, NoNode, WornOut, Busy, Reply, Value, Refused, Stamped, Taken, Setup, Actor, Outcome, found, action, outcome, goes, empties_hand, fills_hand, to_pocket, with_node, freed, busy_or, gives_up}
+use Rattle.step_machine.specs.Machine.{World, actor_of, with_operation, with_outcome, new_operation, IsReached}
 use Rattle.step_machine.specs.Range.{RegistersInRange, WorldInRange}
 use Rattle.step_machine.specs.ProgramCounters.{IsRunBy}
 use Rattle.step_machine.specs.EachQueue.{raised_at}

@@ -1,6 +1,6 @@
 -- Each step of a world that is reached, and each giving up, adds the entries that its outcome gains, in both queues.
-use Rattle.std.proofs.Common.{◌≡◌, ◌+◌, ℕ, Some, refl, sym, subst}
-use Rattle.step_machine.specs.Below.{Kind, TwoLock, NonBlocking, Line, section_of, empty, Plays, Actor, Outcome, found, performed, action, outcome, gives_up}
+use Rattle.std.proofs.Common.{◌≡◌, ◌+◌, ℕ, Some, sym, subst}
+use Rattle.step_machine.specs.Below.{Line, section_of, empty, Plays, Actor, Outcome, found, performed, action, outcome, gives_up}
 use Rattle.step_machine.specs.Machine.{World, actor_of, after_outcome, stepped, IsReached}
 use Rattle.step_machine.specs.Chains.{queue_values}
 use Rattle.step_machine.specs.Histories.{OfEachWorld}

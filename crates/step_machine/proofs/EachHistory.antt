@@ -3,7 +3,7 @@ use Rattle.std.proofs.Common.{◌≡◌, ℕ, List, [], ◌∷◌, Option, Some,
 use Rattle.std.proofs.lemmas.Option.{IfSome_then}
 use Rattle.history.specs.Linearizability.{IsLinearizable}
 use Rattle.history.proofs.Linearizing.{placed_linearizes}
-use Rattle.step_machine.specs.Below.{Kind, TwoLock, NonBlocking, Placement, IsLegal, Setup}
+use Rattle.step_machine.specs.Below.{Placement, IsLegal, Setup}
 use Rattle.step_machine.specs.Machine.{World, opening, AnyMove, next_any, run, run_on, IsSized, IsReached, IsMade}
 use Rattle.step_machine.specs.Histories.{OfEachWorld, OfEachHistory}
 use Rattle.step_machine.proofs.Reached.{if_some, some_of, setup-next_any, made_reached}

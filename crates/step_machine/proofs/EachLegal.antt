@@ -1,7 +1,7 @@
 -- The histories of both queues are legal: the operations of each world by rising place, and Head's count.
-use Rattle.std.proofs.Common.{◌≡◌, ℕ, ◌+◌, ◌≤◌, List, ◌∷◌, refl, sym, ap, ◌∙◌, subst, arith}
+use Rattle.std.proofs.Common.{ℕ, ◌+◌, ◌≤◌, List, ◌∷◌, refl, sym, ap, ◌∙◌, subst, arith}
 use Rattle.std.proofs.lemmas.Option.{none-some}
-use Rattle.step_machine.specs.Below.{Kind, TwoLock, NonBlocking, IsLegal, Actor, Outcome, Shared, begun}
+use Rattle.step_machine.specs.Below.{IsLegal, Actor, Outcome, Shared, begun}
 use Rattle.step_machine.specs.Machine.{World, rested, after_outcome}
 use Rattle.step_machine.specs.Places.{IsChain}
 use Rattle.step_machine.specs.Chains.{queue_values}

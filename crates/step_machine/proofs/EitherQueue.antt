@@ -1,5 +1,5 @@
 -- What holds of each world that is reached, whichever queue it runs.
-use Rattle.std.proofs.Common.{◌≡◌, ℕ, zero, suc, ◌+◌, ◌≤◌, ◌<◌, List, [], ◌∷◌, length, get_or, Some, refl, sym, subst, arith}
+use Rattle.std.proofs.Common.{◌≡◌, ℕ, zero, suc, ◌≤◌, ◌<◌, List, [], ◌∷◌, length, get_or, Some, refl, sym, subst, arith}
 use Rattle.std.proofs.lemmas.Option.{IfSome_then}
 use Rattle.step_machine.specs.Below.{Kind, TwoLock, NonBlocking, Line, section_of, Actor}
 use Rattle.step_machine.specs.Machine.{World, actor_of, IsReached}

@@ -1,30 +1,27 @@
 -- What holds of each world that is reached, and that each move keeps it, for both queues. A further fact of a world and
 -- its queue's chain may be carried along: `Carries`.
-use Rattle.std.proofs.Common.{◌≡◌, ◌≢◌, ℕ, zero, suc, get_or, ◌+◌, ◌-◌, ◌≤◌, ◌<◌, Bool, true, false, nat_eq, nat_le, if◌then◌else◌, List, [], ◌∷◌, length, replicate, Option, Some, None, IfSome, refl, sym, ap, ◌∙◌, subst, arith, ◌⊎◌, inl, inr}
+use Rattle.std.proofs.Common.{◌≡◌, ◌≢◌, ℕ, ◌+◌, ◌-◌, ◌≤◌, ◌<◌, true, false, List, [], ◌∷◌, length, replicate, Option, Some, None, refl, sym, ap, ◌∙◌, subst, arith, ◌⊎◌, inl, inr}
 use Rattle.std.specs.Prelude.{slice_get}
-use Rattle.std.proofs.lemmas.Bool.{leb-true, true≢false}
 use Rattle.std.proofs.Math.ListN.{length-replicate}
-use Rattle.step_machine.specs.Below.{Kind, TwoLock, NonBlocking, Line, E2, A1, F1, section_of, Op, Enq, Deq, Setup, Node, Held, Actor, Outcome, blank, Shared, node_at, word, found, performed, action, outcome, gives_up, is_call, from_pocket, begun}
-use Rattle.step_machine.specs.Machine.{World, idle, opening, actor_of, rested, may_rest, with_actor, entry_or, after_outcome, stepped, IsSized, IsReached}
+use Rattle.step_machine.specs.Below.{Line, section_of, Op, Setup, Node, Actor, Outcome, blank, Shared, word, found, performed, action, outcome, gives_up, is_call, begun}
+use Rattle.step_machine.specs.Machine.{World, idle, opening, actor_of, rested, may_rest, with_actor, entry_or, after_outcome, IsSized, IsReached}
 use Rattle.step_machine.specs.Range.{WorldInRange, ActorInRange, LineInRange}
 use Rattle.step_machine.specs.ProgramCounters.{IsRunBy, NonNullAt, IsAtLine, PcIsValid}
-use Rattle.step_machine.specs.Places.{one_if, times, in_pocket, held, set_aside}
+use Rattle.step_machine.specs.Places.{one_if}
 use Rattle.step_machine.specs.Chains.{last_node}
 use Rattle.step_machine.proofs.StampsInvariants.{Does, actor_cases}
 use Rattle.step_machine.proofs.StampsMoves.{idle_got}
 use Rattle.step_machine.proofs.Range.{writes, performed_in_range}
 use Rattle.step_machine.proofs.Reached.{some_of, reached_in_range, actor_in_range, mover_in_range, actor_stands}
 use Rattle.step_machine.proofs.ProgramCounters.{EndsHold, found_holds, access_holds, Placed, placed, given_up_placed, still_stands, rested_stands, begun_stands}
-use Rattle.step_machine.proofs.Chains.{one_if_same, one_if_tells, chain_some, second_leads, next_in, last_times}
-use Rattle.step_machine.proofs.Counting.{holds, elsewhere, elsewhere_settled, elsewhere_with, elsewhere_one, elsewhere_two, IsNew, holds_hand, used, used_most, used_within, used_above, held_one}
-use Rattle.step_machine.proofs.Effects.{Shape, WritesOneNode, OwnerOf, shape_turned, hand_kept, free_kept, queue_kept, value_kept}
+use Rattle.step_machine.proofs.Counting.{holds, elsewhere, elsewhere_settled, elsewhere_with, elsewhere_one}
+use Rattle.step_machine.proofs.Effects.{Shape, shape_turned}
 use Rattle.step_machine.proofs.Fixed.{FixedAt, Fixes, fixed, fixed_given, fixed_entry, fixed_begun}
-use Rattle.step_machine.proofs.StaleReferences.{Rises}
 use Rattle.step_machine.proofs.Reaching.{each_reached}
 use Rattle.step_machine.proofs.StampsLines.{Turns, turned, given_turned}
 use Rattle.step_machine.proofs.LegalMoves.{same_op, same_op_given}
 use Rattle.step_machine.proofs.Carrying.{NumberedMove, Carried, Carries, Moving}
-use Rattle.step_machine.proofs.Assertions.{next_of, blank_counts, OwnsAt, IsMark, Marked, NodesRely, Queue, Knows, Found, Before, After, AtLine, Steps, knows_entry, knows_more, knows_kept, marks_kept}
+use Rattle.step_machine.proofs.Assertions.{next_of, blank_counts, OwnsAt, Marked, NodesRely, Queue, Knows, Found, Before, After, AtLine, Steps, knows_entry, knows_more, knows_kept, marks_kept}
 use Rattle.step_machine.proofs.StepEffects.{no_marks, gives, does}
 use Rattle.step_machine.proofs.KeptForOthers.{is_new, nodes_kept, unused_kept}
 use Rattle.step_machine.proofs.Beginnings.{Begins, begun_begins, rested_begins, opening_elsewhere, no_flags, blank_leads, first_used}

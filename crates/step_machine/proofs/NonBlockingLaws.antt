@@ -1,24 +1,21 @@
 -- The laws of the non-blocking queue on Tail, counts, refusals and the front.
-use Rattle.std.proofs.Common.{◌≡◌, ◌≢◌, ℕ, zero, suc, ◌+◌, ◌≤◌, ◌<◌, Bool, true, false, nat_eq, nat_lt, if◌then◌else◌, List, [], ◌∷◌, ◌++◌, length, Option, Some, None, IfSome, slice_index_or, refl, sym, ap, ◌∙◌, subst, arith, ◌⊎◌, inl, inr}
-use Rattle.std.specs.List.{All}
-use Rattle.std.proofs.lemmas.Bool.{eqb-true, ltb-false}
-use Rattle.std.proofs.lemmas.List.Elements.{All-set, All-append, All-cons, All-nil}
-use Rattle.step_machine.specs.Below.{Ref, is_null, same_ref, Kind, TwoLock, NonBlocking, Line, N1, N2, N3, N4, N5, F1, F2, F3, E2, E3, E5, E6, E7, E9, E13, E17, D2, D3, D4, D5, D10, D12, D13, A3, B1, B5, section_of, WornWord, OfFree, OfNext, OfTail, OfHead, Refusal, NoNode, WornOut, Reply, Done, Value, Refused, Stamped, Actor, Outcome, Shared, found, performed, Next, action, outcome, goes, empties_hand, to_pocket, freed, ends, effect, busy_or, gives_up}
+use Rattle.std.proofs.Common.{◌≡◌, ◌≢◌, ℕ, ◌+◌, ◌≤◌, ◌<◌, Bool, true, false, nat_eq, if◌then◌else◌, List, [], ◌∷◌, ◌++◌, length, Option, Some, sym, ap, ◌∙◌, subst, arith, ◌⊎◌, inl, inr}
+use Rattle.std.proofs.lemmas.Bool.{eqb-true}
+use Rattle.step_machine.specs.Below.{Ref, is_null, same_ref, NonBlocking, Line, E2, E3, E5, E6, E7, E9, E13, E17, D2, D3, D4, D5, D10, D12, D13, section_of, WornWord, OfFree, OfNext, OfTail, OfHead, NoNode, WornOut, Reply, Done, Refused, Actor, found, Next, action, outcome, goes, empties_hand, ends, effect}
 use Rattle.counted_ref.proofs.Words.{same_ref-true, equal_refs}
-use Rattle.step_machine.specs.Machine.{World, actor_of, after_outcome, with_operation, with_outcome, new_operation, IsReached}
+use Rattle.step_machine.specs.Machine.{World, actor_of, IsReached}
 use Rattle.step_machine.specs.Range.{RegistersInRange, ActorInRange, WorldInRange}
 use Rattle.step_machine.specs.ProgramCounters.{IsRunBy, NonNullAt}
 use Rattle.step_machine.specs.Chains.{last_node}
 use Rattle.step_machine.specs.Lag.{TailLags}
-use Rattle.step_machine.specs.EachQueue.{raised_at, RaisesBelowTheLimit, HasCauseFor, RefusesWithCause}
+use Rattle.step_machine.specs.EachQueue.{RaisesBelowTheLimit, HasCauseFor, RefusesWithCause}
 use Rattle.step_machine.specs.NonBlocking.{OfNonBlockingWorlds, TailLagsByOne, TailIsNotBehindHead, NeverFindsHeadWornOut, FindsItsOwnNextWornOut, NeverRefusedForHead, TakesTheFront}
 use Rattle.step_machine.proofs.Choices.{either}
 use Rattle.step_machine.proofs.Range.{found_in_range}
-use Rattle.step_machine.proofs.Reached.{some_of, reached_in_range, actor_in_range}
+use Rattle.step_machine.proofs.Reached.{reached_in_range, actor_in_range}
 use Rattle.step_machine.proofs.Chains.{chain_same, second_leads}
-use Rattle.step_machine.proofs.Fixed.{FixedAt, DecidedFreeing}
+use Rattle.step_machine.proofs.Fixed.{FixedAt}
 use Rattle.step_machine.proofs.StaleReferences.{IsCurrentOrStale}
-use Rattle.step_machine.proofs.Reaching.{each_reached}
 use Rattle.step_machine.proofs.Assertions.{next_of, IsOwnOf}
 use Rattle.step_machine.proofs.Invariant.{LocalInvariant}
 use Rattle.step_machine.proofs.EitherQueue.{stands_at}

@@ -1,9 +1,8 @@
 -- The step of each line of its own in the non-blocking queue: which effect it has, and what its actor knows then.
-use Rattle.std.proofs.Common.{◌≡◌, ◌≢◌, ℕ, ◌+◌, ◌-◌, ◌≤◌, ◌<◌, Bool, true, false, nat_eq, if◌then◌else◌, List, [], ◌∷◌, ◌++◌, length, set, Option, Some, None, refl, sym, ap, ◌∙◌, subst, arith, ◌⊎◌, inl, inr}
+use Rattle.std.proofs.Common.{◌≡◌, ◌≢◌, ℕ, ◌+◌, ◌-◌, ◌≤◌, ◌<◌, Bool, true, false, nat_eq, if◌then◌else◌, List, [], ◌∷◌, ◌++◌, length, set, Some, None, refl, sym, ap, ◌∙◌, subst, arith, ◌⊎◌, inl, inr}
 use Rattle.std.proofs.lemmas.Bool.{eqb-true, eqb-false}
 use Rattle.step_machine.specs.Below.{Ref, is_null, same_ref, NonBlocking, Line, F1, E2, E3, E5, E6, E7, E9, E13, E17, D2, D3, D4, D5, D10, D12, D13, section_of, OfNext, OfTail, OfHead, WornOut, Done, Value, Setup, Node, Actor, Outcome, Shared, node_at, put, performed, found, Head, Tail, Next, action, outcome, raised, goes, ends, effect, fills_hand, empties_hand}
 use Rattle.counted_ref.proofs.Words.{same_ref-true}
-use Rattle.step_machine.specs.Machine.{opening, IsSized}
 use Rattle.step_machine.specs.ProgramCounters.{IsRunBy}
 use Rattle.step_machine.specs.Completion.{decided_reply, completed_reply}
 use Rattle.step_machine.specs.Chains.{last_node}
@@ -13,12 +12,11 @@ use Rattle.step_machine.proofs.Chains.{node_in, chain_none, last_linked, second_
 use Rattle.step_machine.proofs.Counting.{holds, holds_own}
 use Rattle.step_machine.proofs.Effects.{others_stay, written, queued_once, not_linked, with_node as with_new}
 use Rattle.step_machine.proofs.LinearizationSteps.{KeepsReply, stutters, refused, found_empty, raised_node, raised_count}
-use Rattle.step_machine.proofs.Fixed.{Pushes}
 use Rattle.step_machine.proofs.ProgramCounters.{FoundANode}
 use Rattle.step_machine.proofs.StampsLists.{same_or_not}
-use Rattle.step_machine.proofs.Assertions.{next_of, blank_counts, Marked, OwnsAt, Knows, Before, After, AtLine, IsOwnOf, Steps}
+use Rattle.step_machine.proofs.Assertions.{next_of, blank_counts, Found, Marked, OwnsAt, Knows, Before, AtLine, IsOwnOf, Steps}
 use Rattle.step_machine.proofs.StepEffects.{Goes, Learns, still, on, refuses, writes, writes_aside, writes_word, links, pops, to_pocket_holds, to_pocket_marks}
-use Rattle.step_machine.proofs.NonBlockingAtLines.{Ready, WasNext, MayGoOn, Guarantee, LagsWithRoom, non_blocking}
+use Rattle.step_machine.proofs.NonBlockingAtLines.{WasNext, MayGoOn, Guarantee, non_blocking}
 use Rattle.step_machine.proofs.NonBlockingLag.{IsOff, behind_tail, nothing_after, tail_is_last, one_after, tail_times, lag_swung, lag_popped, lag_linked, after_not_first, off, off_leads}
 
 -- the `next` of Tail's node, which was null, is written
@@ -103,18 +101,35 @@ module _ (b : Before non_blocking) where
       ((behind_tail m (front ∷ rest) m.head.node shape.queue_chain words.lag).0, (behind_tail m (front ∷ rest) m.head.node shape.queue_chain words.lag).1)
 
   -- the node in hand goes behind the last one of the queue
-  links_hand : (o : Outcome) → AtLine non_blocking b E9 → m.tail ≡ a.tail → next_of m a.tail.node ≡ a.next → o.actor.holds ≡ false → o.actor.pocket ≡ None → o.aside ≡ None → Knows non_blocking (λ k. (rest ≡ []) × (k ≡ now)) s (put (Next a.tail.node) (raised s a.next a.node) m) (last_node (front ∷ rest ++ a.node ∷ [])) o.actor o.actor.line → OwnsAt m me o.actor.line → o.at ≡ Some now → completed_reply o.reply (Some now) o.actor.due ≡ Some Done → Goes non_blocking b (put (Next a.tail.node) (raised s a.next a.node) m) o
+  links_hand : (o : Outcome) → AtLine non_blocking b E9 → m.tail ≡ a.tail → next_of m a.tail.node ≡ a.next → o.actor.holds ≡ false → o.actor.pocket ≡ None → o.aside ≡ None → Knows non_blocking (Found rest now) s (put (Next a.tail.node) (raised s a.next a.node) m) (last_node (front ∷ rest ++ a.node ∷ [])) o.actor o.actor.line → OwnsAt m me o.actor.line → o.at ≡ Some now → completed_reply o.reply (Some now) o.actor.due ≡ Some Done → Goes non_blocking b (put (Next a.tail.node) (raised s a.next a.node) m) o
   links_hand o t was next g z none knows owns at earns =
-      links non_blocking b a.tail.node r o (sym (last_is was next null)) t.fixed.hand t.fixed.pocket t.nodes.0 (t.knows.0.0, t.knows.0.1) (raised_node s a.next a.node room) g z none
-      (λ you one other. moves_link m a.tail.node r (ap (λ (x : Ref). x.node) was) (tail_there was).0 (tail_there was).1 (ap (λ (x : Ref). x.node) next ∙ null) up)
+      links non_blocking b a.tail.node r o
       (record {
-        lag = lag_linked m (put (Next a.tail.node) r m) (front ∷ rest) a.node refl refl words.lag (nothing_after m (front ∷ rest) m.head.node shape.queue_chain words.lag (ap (λ (x : Ref). (next_of m x.node).node) was ∙ ap (λ (x : Ref). x.node) next ∙ null));
-        last_room =
-            subst (λ (y : Ref). y.count ≢ s.limit)
-            (sym (ap (next_of (put (Next a.tail.node) r m)) (last_linked front rest a.node) ∙ ap (λ (y : Node). y.next) (others_stay m.nodes a.tail.node a.node (record (node_at m a.tail.node) { next = r }) (tail_there was).0 t.nodes.0 other)))
-            (λ e. t.knows.0.2 (sym (marked.hand t.fixed.hand).1 ∙ e));
+        last = sym (last_is was next null);
+        hand = t.fixed.hand;
+        pocket = t.fixed.pocket;
+        some_node = t.nodes.0;
+        ready = (t.knows.0.0, t.knows.0.1);
+        names = raised_node s a.next a.node room;
+        let_go = g;
+        empty = z;
+        no_aside = none;
+        relies = λ you one other. moves_link m a.tail.node r (ap (λ (x : Ref). x.node) was) (tail_there was).0 (tail_there was).1 (ap (λ (x : Ref). x.node) next ∙ null) up;
+        words_then =
+            record {
+              lag = lag_linked m (put (Next a.tail.node) r m) (front ∷ rest) a.node refl refl words.lag (nothing_after m (front ∷ rest) m.head.node shape.queue_chain words.lag (ap (λ (x : Ref). (next_of m x.node).node) was ∙ ap (λ (x : Ref). x.node) next ∙ null));
+              last_room =
+                  subst (λ (y : Ref). y.count ≢ s.limit)
+                  (sym (ap (next_of (put (Next a.tail.node) r m)) (last_linked front rest a.node) ∙ ap (λ (y : Node). y.next) (others_stay m.nodes a.tail.node a.node (record (node_at m a.tail.node) { next = r }) (tail_there was).0 t.nodes.0 other)))
+                  (λ e. t.knows.0.2 (sym (marked.hand t.fixed.hand).1 ∙ e));
+            };
+        knows = knows;
+        owns = owns;
+        at = at;
+        earns = earns;
+        pushes = t.fixed.call;
+        undecided = ap decided_reply t.fixed.earned;
       })
-      knows owns at earns t.fixed.call (ap decided_reply t.fixed.earned)
     where
       r : Ref
       r = raised s a.next a.node
@@ -146,11 +161,32 @@ module _ (b : Before non_blocking) where
   -- the first node comes into the hand
   takes_front : AtLine non_blocking b D13 → m.head ≡ a.head → Goes non_blocking b (put Head (raised s a.head a.next.node) m) (effect now (goes F1 (fills_hand a.head.node a.next.count (record a { due = Some (Value a.val) }))))
   takes_front t was =
-      pops non_blocking b a.next.node second.0 r _ second.1 (raised_node s a.head a.next.node t.fixed.room) up t.fixed.hand t.fixed.pocket t.nodes.0 (sym (is_first was))
-      (ap (λ k. (next_of m k).count) (is_first was) ∙ ap (λ (x : Ref). x.count) (t.knows.0.1 was).0) refl t.fixed.pocket refl
-      (λ last you other. record { locks = (refl, refl); head = inr (omega (arith, up)); tail = inl refl; tail_on = inl refl; tail_next = inl refl; off = λ e d. d; counts = λ n one. omega arith })
-      (record { lag = lag_popped m front rest r away up; last_room = subst (λ ys. (next_of m (last_node ys)).count ≢ s.limit) (sym second.1) (subst (λ ys. (next_of m (last_node (front ∷ ys))).count ≢ s.limit) second.1 words.last_room) })
-      (λ Y last. tt) t.owns refl (ap (λ v. Some (Value v)) (sym (t.knows.1 was))) t.fixed.call (ap decided_reply t.fixed.earned)
+      pops non_blocking b a.next.node second.0 r _
+      (record {
+        behind = second.1;
+        names = raised_node s a.head a.next.node t.fixed.room;
+        raises = up;
+        hand = t.fixed.hand;
+        pocket = t.fixed.pocket;
+        some_node = t.nodes.0;
+        takes = sym (is_first was);
+        mark = ap (λ k. (next_of m k).count) (is_first was) ∙ ap (λ (x : Ref). x.count) (t.knows.0.1 was).0;
+        full = refl;
+        empty = t.fixed.pocket;
+        no_aside = refl;
+        relies = λ last you other. record { locks = (refl, refl); head = inr (omega (arith, up)); tail = inl refl; tail_on = inl refl; tail_next = inl refl; off = λ e d. d; counts = λ n one. omega arith };
+        words_then =
+            record {
+              lag = lag_popped m front rest r away up;
+              last_room = subst (λ ys. (next_of m (last_node ys)).count ≢ s.limit) (sym second.1) (subst (λ ys. (next_of m (last_node (front ∷ ys))).count ≢ s.limit) second.1 words.last_room);
+            };
+        knows = tt;
+        owns = t.owns;
+        at = refl;
+        earns = ap (λ v. Some (Value v)) (sym (t.knows.1 was));
+        dequeues = t.fixed.call;
+        undecided = ap decided_reply t.fixed.earned;
+      })
     where
       r : Ref
       r = raised s a.head a.next.node

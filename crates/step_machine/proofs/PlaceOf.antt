@@ -9,7 +9,6 @@ use Rattle.step_machine.specs.Machine.{World, IsMade}
 use Rattle.step_machine.specs.Places.{IsChain, one_if, times, held, set_aside, IsQueued, IsFree, Places}
 use Rattle.step_machine.specs.Placing.{IsAt, TellsWhetherThere, TellsOfChain}
 use Rattle.step_machine.specs.EachQueue.{HasItsPlaces}
-use Rattle.step_machine.specs.Histories.{OfEachWorld}
 use Rattle.step_machine.proofs.Reached.{made_reached}
 use Rattle.step_machine.proofs.Chains.{next_in, one_if_tells, one_if_same, one_if_other, chain_none, chain_some, chain_same}
 use Rattle.step_machine.proofs.Counting.{used, used_within, used_above}

@@ -2,7 +2,7 @@
 -- steps of the free list's lines, and each giving up.
 use Rattle.std.proofs.Common.{◌≡◌, ◌≢◌, ℕ, zero, suc, ◌+◌, ◌≤◌, true, false, nat_eq, nat_lt, List, [], ◌∷◌, ◌++◌, length, Option, Some, None, IfSome, refl, sym, ap, ◌∙◌, subst, arith, ◌⊎◌, inl, inr}
 use Rattle.std.proofs.lemmas.Bool.{eqb-true, true≢false}
-use Rattle.step_machine.specs.Below.{Ref, ref, is_null, same_ref, Kind, TwoLock, NonBlocking, Line, N1, N2, N3, N4, N5, F1, F2, F3, E5, D2, A3, B1, section_of, OfFree, Refusal, NoNode, WornOut, Busy, Deq, Reply, Done, Value, Refused, leaves, Node, Actor, Outcome, Setup, Shared, node_at, put, performed, found, Fresh, Free, Head, Next, action, outcome, raised, goes, freed, sets_aside, fills_hand, empties_hand, to_pocket, with_node, busy_or, gives_up}
+use Rattle.step_machine.specs.Below.{Ref, ref, is_null, same_ref, Kind, TwoLock, NonBlocking, Line, N1, N2, N3, N4, N5, F1, F2, F3, E5, D2, A3, B1, OfFree, Refusal, NoNode, WornOut, Busy, Deq, Reply, Done, Value, Refused, leaves, Node, Actor, Outcome, Setup, Shared, node_at, put, performed, found, Fresh, Free, Head, Next, action, outcome, raised, goes, freed, sets_aside, fills_hand, empties_hand, to_pocket, with_node, busy_or, gives_up}
 use Rattle.counted_ref.proofs.Words.{same_ref-true}
 use Rattle.step_machine.specs.Completion.{decided_reply, completed_reply}
 use Rattle.step_machine.specs.Places.{one_if, times}
@@ -240,48 +240,88 @@ module _ (q : Queue) (b : Before q) where
         linearizes = account;
       }
 
-  -- the node in hand goes behind the last one of the queue
-  pub links : (k : ℕ) (r : Ref) (o : Outcome) → k ≡ last_node (front ∷ rest) → a.holds ≡ true → a.pocket ≡ None → 1 ≤ a.node → ((node_at m a.node).value ≡ a.val) × ((next_of m a.node).node ≡ 0) → r.node ≡ a.node → o.actor.holds ≡ false → o.actor.pocket ≡ None → o.aside ≡ None → ((you : ℕ) → 1 ≤ you → you ≢ me → q.Rely m (put (Next k) r m) (last_node (front ∷ rest)) (last_node (front ∷ rest ++ a.node ∷ [])) you) → q.Words s (put (Next k) r m) (front ∷ rest ++ a.node ∷ []) → Knows q (Found rest now) s (put (Next k) r m) (last_node (front ∷ rest ++ a.node ∷ [])) o.actor o.actor.line → OwnsAt m me o.actor.line → o.at ≡ Some now → completed_reply o.reply (Some now) o.actor.due ≡ Some Done → Pushes me a.op a.val → decided_reply a.due ≡ None → Goes (put (Next k) r m) o
-  links k r o last h p some ready to g z none relies wordz knows owns at earns pushes u =
+  -- what holds where the `next` of a node becomes a reference, so that the node in hand is the last one of the queue
+  pub record Links (k : ℕ) (r : Ref) (o : Outcome) : Type 0 where
+    pub last : k ≡ last_node (front ∷ rest)
+    pub hand : a.holds ≡ true
+    pub pocket : a.pocket ≡ None
+    pub some_node : 1 ≤ a.node
+    pub ready : ((node_at m a.node).value ≡ a.val) × ((next_of m a.node).node ≡ 0)
+    pub names : r.node ≡ a.node
+    pub let_go : o.actor.holds ≡ false
+    pub empty : o.actor.pocket ≡ None
+    pub no_aside : o.aside ≡ None
+    pub relies : (you : ℕ) → 1 ≤ you → you ≢ me → q.Rely m (put (Next k) r m) (last_node (front ∷ rest)) (last_node (front ∷ rest ++ a.node ∷ [])) you
+    pub words_then : q.Words s (put (Next k) r m) (front ∷ rest ++ a.node ∷ [])
+    pub knows : Knows q (Found rest now) s (put (Next k) r m) (last_node (front ∷ rest ++ a.node ∷ [])) o.actor o.actor.line
+    pub owns : OwnsAt m me o.actor.line
+    pub at : o.at ≡ Some now
+    pub earns : completed_reply o.reply (Some now) o.actor.due ≡ Some Done
+    pub pushes : Pushes me a.op a.val
+    pub undecided : decided_reply a.due ≡ None
+
+  pub links : (k : ℕ) (r : Ref) (o : Outcome) → Links k r o → Goes (put (Next k) r m) o
+  links k r o h =
       record {
         front' = front;
         rest' = rest ++ a.node ∷ [];
         free' = free;
         turn =
-            turn_none (put (Next k) r m) o front (rest ++ a.node ∷ []) free none
-            (turn_link m E front rest free a o.actor k a.node r shape mine last some low (own h p) ready.1 to (let_go o.actor h p g z));
-        own_aside = none_aside o none;
+            turn_none (put (Next k) r m) o front (rest ++ a.node ∷ []) free h.no_aside
+            (turn_link m E front rest free a o.actor k a.node r shape mine h.last h.some_node low (own h.hand h.pocket) h.ready.1 h.names (let_go o.actor h.hand h.pocket h.let_go h.empty));
+        own_aside = none_aside o h.no_aside;
         rises = inl refl;
-        relies = relies;
-        words = wordz;
-        marked = no_marks (put (Next k) r m) o.actor g z;
-        knows = knows;
-        owns = owns;
-        linearizes = pushed refl refl at earns (next_keeps_value m k r a.node within.0 within.1 some ∙ ready.0) pushes u;
+        relies = h.relies;
+        words = h.words_then;
+        marked = no_marks (put (Next k) r m) o.actor h.let_go h.empty;
+        knows = h.knows;
+        owns = h.owns;
+        linearizes = pushed refl refl h.at h.earns (next_keeps_value m k r a.node within.0 within.1 h.some_node ∙ h.ready.0) h.pushes h.undecided;
       }
     where
       within : (1 ≤ k) × (k ≤ length m.nodes)
-      within = subst (λ j. (1 ≤ j) × (j ≤ length m.nodes)) (sym last) (last_within m.nodes front rest m.head.node shape.queue_chain)
+      within = subst (λ j. (1 ≤ j) × (j ≤ length m.nodes)) (sym h.last) (last_within m.nodes front rest m.head.node shape.queue_chain)
 
-  -- the first node comes into the hand, and the one behind it is the first
-  pub pops : (x : ℕ) (ns : List ℕ) (r : Ref) (o : Outcome) → rest ≡ x ∷ ns → r.node ≡ x → r.count ≡ m.head.count + 1 → a.holds ≡ false → a.pocket ≡ None → 1 ≤ o.actor.node → o.actor.node ≡ front → (next_of m front).count ≡ o.actor.mark → o.actor.holds ≡ true → o.actor.pocket ≡ None → o.aside ≡ None → ((last you : ℕ) → you ≢ me → q.Rely m (put Head r m) last last you) → q.Words s (put Head r m) rest → ((Y : ℕ → Type 0) (last : ℕ) → Knows q Y s (put Head r m) last o.actor o.actor.line) → OwnsAt m me o.actor.line → o.at ≡ Some now → completed_reply o.reply (Some now) o.actor.due ≡ Some (Value (node_at m x).value) → a.op ≡ Deq → decided_reply a.due ≡ None → Goes (put Head r m) o
-  pops x ns r o e to up h p some at mark g z none relies wordz knows owns placed earns op u =
+  -- what holds where Head becomes a reference to the node behind the first one, which comes into the hand
+  pub record Pops (x : ℕ) (ns : List ℕ) (r : Ref) (o : Outcome) : Type 0 where
+    pub behind : rest ≡ x ∷ ns
+    pub names : r.node ≡ x
+    pub raises : r.count ≡ m.head.count + 1
+    pub hand : a.holds ≡ false
+    pub pocket : a.pocket ≡ None
+    pub some_node : 1 ≤ o.actor.node
+    pub takes : o.actor.node ≡ front
+    pub mark : (next_of m front).count ≡ o.actor.mark
+    pub full : o.actor.holds ≡ true
+    pub empty : o.actor.pocket ≡ None
+    pub no_aside : o.aside ≡ None
+    pub relies : (last you : ℕ) → you ≢ me → q.Rely m (put Head r m) last last you
+    pub words_then : q.Words s (put Head r m) rest
+    pub knows : Knows q (Found rest now) s (put Head r m) (last_node (x ∷ ns)) o.actor o.actor.line
+    pub owns : OwnsAt m me o.actor.line
+    pub at : o.at ≡ Some now
+    pub earns : completed_reply o.reply (Some now) o.actor.due ≡ Some (Value (node_at m x).value)
+    pub dequeues : a.op ≡ Deq
+    pub undecided : decided_reply a.due ≡ None
+
+  pub pops : (x : ℕ) (ns : List ℕ) (r : Ref) (o : Outcome) → Pops x ns r o → Goes (put Head r m) o
+  pops x ns r o h =
       record {
         front' = x;
         rest' = ns;
         free' = free;
         turn =
-            turn_none (put Head r m) o x ns free none
-            (subst (λ ys. Turn m (put Head r m) (front ∷ ys) free (x ∷ ns) free a o.actor None) (sym e)
-            (turn_pop m E front x ns free a o.actor r (subst (λ ys. Shape m E (front ∷ ys) free) e shape) to (took o.actor front h p g z at)));
-        own_aside = none_aside o none;
+            turn_none (put Head r m) o x ns free h.no_aside
+            (subst (λ ys. Turn m (put Head r m) (front ∷ ys) free (x ∷ ns) free a o.actor None) (sym h.behind)
+            (turn_pop m E front x ns free a o.actor r (subst (λ ys. Shape m E (front ∷ ys) free) h.behind shape) h.names (took o.actor front h.hand h.pocket h.full h.empty h.takes)));
+        own_aside = none_aside o h.no_aside;
         rises = inl refl;
-        relies = λ you one other. subst (λ n. q.Rely m (put Head r m) n (last_node (x ∷ ns)) you) (sym (ap (λ ys. last_node (front ∷ ys)) e)) (relies (last_node (x ∷ ns)) you other);
-        words = subst (q.Words s (put Head r m)) e wordz;
-        marked = one_mark (put Head r m) o.actor z (some, ap (λ k. (next_of m k).count) at ∙ mark);
-        knows = knows (Found rest now) (last_node (x ∷ ns));
-        owns = owns;
-        linearizes = popped front x ns (ap (λ ys. front ∷ ys) e) refl up placed earns op u;
+        relies = λ you one other. subst (λ n. q.Rely m (put Head r m) n (last_node (x ∷ ns)) you) (sym (ap (λ ys. last_node (front ∷ ys)) h.behind)) (h.relies (last_node (x ∷ ns)) you other);
+        words = subst (q.Words s (put Head r m)) h.behind h.words_then;
+        marked = one_mark (put Head r m) o.actor h.empty (h.some_node, ap (λ k. (next_of m k).count) h.takes ∙ h.mark);
+        knows = h.knows;
+        owns = h.owns;
+        linearizes = popped front x ns (ap (λ ys. front ∷ ys) h.behind) refl h.raises h.at h.earns h.dequeues h.undecided;
       }
 
   -- what an actor holds whose node goes to its pocket

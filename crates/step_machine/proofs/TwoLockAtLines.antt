@@ -5,7 +5,7 @@ use Rattle.step_machine.specs.ProgramCounters.{NonNullAt}
 use Rattle.step_machine.specs.Chains.{last_node}
 use Rattle.step_machine.proofs.Counting.{holds, holds_own}
 use Rattle.step_machine.proofs.Fixed.{FixedAt}
-use Rattle.step_machine.proofs.Assertions.{Owns, OwnsAt, has_tail, has_head, NodesRely, QueueStays, Queue, Knows}
+use Rattle.step_machine.proofs.Assertions.{Owns, OwnsAt, has_tail, has_head, NodesRely, Queue, Knows}
 
 -- the node in hand has the actor's value, and leads to null
 abbrev pub Ready : Shared → Actor → Type 0

@@ -1,22 +1,21 @@
 -- The laws of the two-lock queue on Tail, counts and refusals.
-use Rattle.std.proofs.Common.{◌≡◌, ◌≢◌, ℕ, zero, suc, ◌+◌, ◌-◌, ◌≤◌, ◌<◌, true, false, nat_eq, nat_lt, if◌then◌else◌, List, [], ◌∷◌, length, get_or, Option, Some, None, IfSome, refl, sym, ap, ◌∙◌, subst, arith, ◌⊎◌, inl, inr}
+use Rattle.std.proofs.Common.{◌≡◌, ◌≢◌, ℕ, ◌+◌, ◌-◌, ◌≤◌, nat_eq, if◌then◌else◌, ◌∷◌, length, get_or, Option, Some, None, refl, sym, ap, ◌∙◌, subst, arith, ◌⊎◌, inl, inr}
 use Rattle.std.specs.Prelude.{slice_get}
-use Rattle.std.proofs.lemmas.Bool.{eqb-true, ne_eqb, ltb-false}
+use Rattle.std.proofs.lemmas.Bool.{ne_eqb}
 use Rattle.std.proofs.lemmas.Option.{slice_get-get_or}
-use Rattle.step_machine.specs.Below.{is_null, same_ref, Kind, TwoLock, Line, N1, N2, N3, N4, N5, F1, F2, F3, E9, E13, E17, D10, D13, A1, A2, A3, A4, A5, A6, A7, B1, B2, B3, B4, B5, B6, section_of, WornWord, OfFree, OfNext, OfTail, OfHead, NoNode, WornOut, Reply, Done, Value, Empty, Refused, Setup, Actor, Outcome, node_at, found, action, outcome, goes, with_node, fills_hand, empties_hand, freed, unlocked}
+use Rattle.step_machine.specs.Below.{is_null, TwoLock, Line, A1, A2, A3, A4, A5, A6, A7, B1, B2, B3, B4, B5, B6, section_of, WornWord, OfFree, OfNext, OfTail, OfHead, NoNode, WornOut, Reply, Done, Value, Empty, Refused, Actor, node_at, found, action, outcome, unlocked}
 use Rattle.step_machine.specs.Machine.{World, idle, actor_of, IsReached}
-use Rattle.step_machine.specs.Range.{RegistersInRange, ActorInRange, WorldInRange}
+use Rattle.step_machine.specs.Range.{ActorInRange, WorldInRange}
 use Rattle.step_machine.specs.ProgramCounters.{IsRunBy}
-use Rattle.step_machine.specs.Places.{times}
 use Rattle.step_machine.specs.Chains.{last_node}
-use Rattle.step_machine.specs.EachQueue.{raised_at, RaisesBelowTheLimit, HasCause, HasCauseFor, RefusesWithCause}
+use Rattle.step_machine.specs.EachQueue.{RaisesBelowTheLimit, HasCauseFor, RefusesWithCause}
 use Rattle.step_machine.specs.TwoLock.{OfTwoLockWorlds, HasTailMoved, TailNamesTheLast}
 use Rattle.step_machine.specs.Locks.{IsOfFreeOrHead, FindsFreeOrHeadWornOut, RefusedForFreeOrHead}
 use Rattle.step_machine.proofs.Choices.{either}
 use Rattle.step_machine.proofs.Reached.{reached_in_range, actor_in_range}
 use Rattle.step_machine.proofs.StampsLists.{same_or_not}
 use Rattle.step_machine.proofs.Chains.{chain_same}
-use Rattle.step_machine.proofs.Fixed.{FixedAt, RoomAt, DecidedFreeing, DecidedUnlocking}
+use Rattle.step_machine.proofs.Fixed.{FixedAt, DecidedUnlocking}
 use Rattle.step_machine.proofs.Assertions.{Owns, has_tail, IsOwnOf}
 use Rattle.step_machine.proofs.Invariant.{LocalInvariant}
 use Rattle.step_machine.proofs.EitherQueue.{fixed_at}

@@ -1,7 +1,7 @@
 -- The step of each line of its own in the two-lock queue: which effect it has, and what its actor knows then.
 use Rattle.std.proofs.Common.{◌≡◌, ◌≢◌, ℕ, ◌+◌, ◌-◌, ◌≤◌, true, nat_eq, List, [], ◌∷◌, set, Option, Some, None, refl, sym, ap, ◌∙◌, subst, arith, inl, inr}
 use Rattle.std.proofs.lemmas.Bool.{eqb-true}
-use Rattle.step_machine.specs.Below.{Ref, ref, is_null, TwoLock, Line, D5, A1, A2, A3, A4, A5, A6, A7, B1, B2, B3, B4, B5, B6, section_of, OfHead, WornOut, Reply, Done, Value, Empty, Refused, leaves, Setup, Node, Actor, Outcome, Shared, node_at, put, Head, Tail, Tail_lock, Head_lock, Next, found, performed, action, outcome, raised, goes, ends, unlocked}
+use Rattle.step_machine.specs.Below.{Ref, ref, is_null, TwoLock, Line, D5, A1, A2, A3, A4, A5, A6, A7, B1, B2, B3, B4, B5, B6, section_of, Reply, Value, Empty, Refused, leaves, Setup, Node, Actor, Outcome, Shared, node_at, put, Head, Tail, Tail_lock, Head_lock, Next, found, performed, action, outcome, raised, unlocked}
 use Rattle.step_machine.specs.ProgramCounters.{IsRunBy}
 use Rattle.step_machine.specs.Chains.{last_node}
 use Rattle.step_machine.specs.Completion.{decided_reply}
@@ -13,8 +13,8 @@ use Rattle.step_machine.proofs.Fixed.{DecidedUnlocking}
 use Rattle.step_machine.proofs.LinearizationSteps.{stutters, refused, found_empty, raised_node, raised_count}
 use Rattle.step_machine.proofs.ProgramCounters.{FoundANode}
 use Rattle.step_machine.proofs.Assertions.{Before, After, AtLine, IsOwnOf, Knows, Marked, OwnsAt, Steps}
-use Rattle.step_machine.proofs.StepEffects.{Learns, Means, still, on, writes, writes_word, links, pops}
-use Rattle.step_machine.proofs.TwoLockAtLines.{Unlocks, LocksRely, TailLast, two_lock}
+use Rattle.step_machine.proofs.StepEffects.{Learns, Means, on, writes, writes_word, links, pops}
+use Rattle.step_machine.proofs.TwoLockAtLines.{Unlocks, LocksRely, two_lock}
 
 -- what the holder of the tail lock writes into it, into Tail and behind the last node says nothing to others
 tail_alone : (m m' : Shared) (last last' me you : ℕ) → m.tail_lock ≡ me → you ≢ me → m'.tail_lock ≢ you → m'.head_lock ≡ m.head_lock → m'.head ≡ m.head → LocksRely m m' last last' you
@@ -75,10 +75,26 @@ module _ (b : Before two_lock) where
       (λ e. on two_lock b _ (ap decided_reply t.fixed.earned) refl (λ n. refl) refl marked t.knows t.owns)
   does A4 r t = on two_lock b _ (ap decided_reply t.fixed.earned) refl (λ n. refl) refl marked (t.knows.0, t.knows.1, refl) t.owns
   does A5 r t =
-      links two_lock b a.tail.node (ref a.node 0) _ (sym (t.knows.1 ∙ ap (λ (r : Ref). r.node) t.knows.2)) t.fixed.hand t.fixed.pocket t.nodes.0 t.knows.0 refl refl t.fixed.pocket refl
-      (λ you one other. tail_alone m (put (Next a.tail.node) (ref a.node 0) m) _ _ me you t.owns.0 other (λ e. other (sym e ∙ t.owns.0)) refl refl)
-      (record { tail_last = λ f. absurd (let mine : m.tail_lock ≡ me = t.owns.0 in omega arith) })
-      (last_linked front rest a.node) t.owns refl refl t.fixed.call (ap decided_reply t.fixed.earned)
+      links two_lock b a.tail.node (ref a.node 0) _
+      (record {
+        last = sym (t.knows.1 ∙ ap (λ (r : Ref). r.node) t.knows.2);
+        hand = t.fixed.hand;
+        pocket = t.fixed.pocket;
+        some_node = t.nodes.0;
+        ready = t.knows.0;
+        names = refl;
+        let_go = refl;
+        empty = t.fixed.pocket;
+        no_aside = refl;
+        relies = λ you one other. tail_alone m (put (Next a.tail.node) (ref a.node 0) m) _ _ me you t.owns.0 other (λ e. other (sym e ∙ t.owns.0)) refl refl;
+        words_then = record { tail_last = λ f. absurd (let mine : m.tail_lock ≡ me = t.owns.0 in omega arith) };
+        knows = last_linked front rest a.node;
+        owns = t.owns;
+        at = refl;
+        earns = refl;
+        pushes = t.fixed.call;
+        undecided = ap decided_reply t.fixed.earned;
+      })
   does A6 r t =
       writes_lock (put Tail (ref a.node 0) m) _ refl refl refl refl (λ n. refl) refl
       (λ last you one other. tail_alone m (put Tail (ref a.node 0) m) last last me you t.owns.0 other (λ e. other (sym e ∙ t.owns.0)) refl refl)
@@ -115,12 +131,28 @@ module _ (b : Before two_lock) where
       (λ e. on two_lock b _ (ap decided_reply t.fixed.earned) refl (λ n. refl) refl marked (ap (λ (r : Ref). r.count) t.knows.0 ∙ eqb-true a.head.count s.limit e) t.owns)
       (λ e. on two_lock b _ (ap decided_reply t.fixed.earned) refl (λ n. refl) refl marked (t.knows.0, t.knows.1, refl) t.owns)
   does B5 r t =
-      pops two_lock b a.next.node second.0 (raised s a.head a.next.node) _ second.1 (raised_node s a.head a.next.node t.fixed.room)
-      (raised_count s a.head a.next.node t.fixed.room ∙ ap (λ (r : Ref). r.count + 1) (sym t.knows.0)) t.fixed.hand t.fixed.pocket t.nodes.0 (sym at)
-      (ap (λ k. (node_at m k).next.count) at ∙ ap (λ (r : Ref). r.count) t.knows.1) refl t.fixed.pocket refl
-      (λ last you other. head_alone m (put Head (raised s a.head a.next.node) m) last me you t.owns.1 other (λ e. other (sym e ∙ t.owns.1)) refl refl)
-      (record { tail_last = λ e. sym (ap (λ ys. last_node (front ∷ ys)) second.1 ∙ sym (ap last_node second.1)) ∙ words.tail_last e })
-      (λ Y last. tt) t.owns refl (ap (λ v. Some (Value v)) (sym t.knows.2)) t.fixed.call (ap decided_reply t.fixed.earned)
+      pops two_lock b a.next.node second.0 (raised s a.head a.next.node) _
+      (record {
+        behind = second.1;
+        names = raised_node s a.head a.next.node t.fixed.room;
+        raises = raised_count s a.head a.next.node t.fixed.room ∙ ap (λ (r : Ref). r.count + 1) (sym t.knows.0);
+        hand = t.fixed.hand;
+        pocket = t.fixed.pocket;
+        some_node = t.nodes.0;
+        takes = sym at;
+        mark = ap (λ k. (node_at m k).next.count) at ∙ ap (λ (r : Ref). r.count) t.knows.1;
+        full = refl;
+        empty = t.fixed.pocket;
+        no_aside = refl;
+        relies = λ last you other. head_alone m (put Head (raised s a.head a.next.node) m) last me you t.owns.1 other (λ e. other (sym e ∙ t.owns.1)) refl refl;
+        words_then = record { tail_last = λ e. sym (ap (λ ys. last_node (front ∷ ys)) second.1 ∙ sym (ap last_node second.1)) ∙ words.tail_last e };
+        knows = tt;
+        owns = t.owns;
+        at = refl;
+        earns = ap (λ v. Some (Value v)) (sym t.knows.2);
+        dequeues = t.fixed.call;
+        undecided = ap decided_reply t.fixed.earned;
+      })
     where
       at : front ≡ a.head.node
       at = sym shape.queue_chain.0 ∙ ap (λ (r : Ref). r.node) t.knows.0
