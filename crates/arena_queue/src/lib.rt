@@ -2,7 +2,6 @@
 #![tactic(auto)]
 
 mod algorithms;
-mod calls;
 mod queue;
 
 pub use algorithms::Algorithm;

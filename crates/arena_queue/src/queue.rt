@@ -5,7 +5,7 @@ ghost use Rattle.node_arena.specs.Making.{plan, NewRefused};
 ghost use Rattle.arena_queue.specs.Answers.{IsOfKind};
 
 use crate::algorithms::Algorithm;
-use crate::calls::{try_pop, try_push};
+use free_list::{give_back, take};
 use history::{Body, Fifo, Refusal, Rest, Taken};
 use node_arena::{Arena, Role, Seat};
 use std::alloc::Global;
@@ -119,7 +119,11 @@ impl<A: Algorithm> Fifo for ArenaQueue<A> {
         ensures caused { IfErr result
             (PushRefused A.push_worn (arena_of self.now) seat.old seat.new turns) }
     {
-        try_push::<A>(&self.arena, seat, body, turns)
+        let (held, spent) = match seat.pocket() {
+            Some(held) => (held, 0),
+            None => (take(&self.arena, seat, turns)?, seat.failed()),
+        };
+        A::put(&self.arena, seat, held, body, spent, turns)
     }
 
     /// Refusals: `WornOut` where at one step the count of a word that stops the algorithm's pops was the greatest one, and
@@ -138,7 +142,14 @@ impl<A: Algorithm> Fifo for ArenaQueue<A> {
         ensures caused { IfErr result
             (PopRefused A.pop_worn (arena_of self.now) seat.old seat.new turns) }
     {
-        try_pop::<A>(&self.arena, seat, turns)
+        let spent = match seat.pocket() {
+            None => 0,
+            Some(_) => {
+                give_back(&self.arena, seat, turns)?;
+                seat.failed()
+            }
+        };
+        A::draw(&self.arena, seat, spent, turns)
     }
 
     fn meet(&self, one: &mut Seat, other: &mut Seat) {

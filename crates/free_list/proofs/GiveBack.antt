@@ -23,15 +23,16 @@ use Rattle.node_arena.proofs.Noting.{none_due}
 use Rattle.node_arena.proofs.Paths.{no_pass, pass_then, then_stored, added_is, ends_failed, failed_behind, failed-append, kept_seat, now_kept, event, after, pass_on, to_is, failed_last, now_holds}
 use Rattle.node_arena.proofs.Known.{known_before, empty_before}
 use Rattle.node_arena.proofs.Told.{was_in_range, actor_was_in_range, first_is_free, raised_names}
+use Rattle.arena_lines.specs.declared.outcomes.Outcome.{Outcome}
+use Rattle.arena_lines.specs.declared.outcomes.Outcome.TheVariants.{Goes, Ends}
+use Rattle.arena_lines.specs.declared.outcomes.Reply.TheVariants.{Done}
 use Rattle.free_list.specs.declared.outcomes.Actor.{Actor as Running}
-use Rattle.free_list.specs.declared.outcomes.Outcome.{Outcome}
-use Rattle.free_list.specs.declared.outcomes.Outcome.TheVariants.{Goes, Freed}
 use Rattle.free_list.specs.declared.outcomes.Gave.TheVariants.{Back, Again}
 use Rattle.free_list.specs.Runs.{gave_of, Frees, CallIsAt, StartsGive, Follows}
 use Rattle.free_list.specs.Gives.{IsBack, GiveTurned, GiveTurns, Giving, GiveAnswers}
 use Rattle.free_list.proofs.Steps.{ref_f1, ref_f3}
 use Rattle.free_list.proofs.Standing.{after_f1, after_f2, after_f3}
-use Rattle.free_list.proofs.Turning.{same_actor}
+use Rattle.arena_lines.proofs.Registers.{same_registers}
 
 none_at_dequeue : (k : Kind) (o : Option Line) → o ≡ Some (dequeues k) → at_f1 o ≡ 0
 none_at_dequeue TwoLock o e = ap at_f1 e
@@ -75,7 +76,7 @@ front_back r s t prologue a n h d won =
     (inl (subst (IsFree v) is (first_is_free v (traced_reached (after r s t prologue F3 n d) d.told.reaches) (let q = k.some in omega arith))))
 
 -- F1 ends the turn where Free is worn
-pub aside_turn : (r : Arena) (s t : Seat) (prologue : Prologue) (h : Held) (a : Running) (out : Outcome) → a.node ≡ h.node → CallIsAt r s prologue F1 a → Follows r s t prologue F1 a out → ((l : Line) (c : Running) → out ≡ Goes l c → ⊥) → GiveTurns r s t h Back
+pub aside_turn : (r : Arena) (s t : Seat) (prologue : Prologue) (h : Held) (a : Running) (out : Outcome Running) → a.node ≡ h.node → CallIsAt r s prologue F1 a → Follows r s t prologue F1 a out → ((l : Line) (c : Running) → out ≡ Goes l c → ⊥) → GiveTurns r s t h Back
 aside_turn r s t prologue h a out n st f stays = go (nat_eq (ref_of f.found).count r.plan.setup.limit) refl
   where
     go : (p : Bool) → nat_eq (ref_of f.found).count r.plan.setup.limit ≡ p → GiveTurns r s t h Back
@@ -91,24 +92,24 @@ aside_turn r s t prologue h a out n st f stays = go (nat_eq (ref_of f.found).cou
             back = subst (λ k. NowHolds r t (IsBack k)) n (aside_back r s t prologue a f.found st f.did (ap (λ x. nat_eq x.count r.plan.setup.limit) (sym (ref_f1 r s t prologue f.found f.did).0) ∙ e));
           };
         }
-    go false e = absurd (stays F2 (record a { top = ref_of f.found }) (f.leads_to ∙ ap (λ p. if p then Freed else Goes F2 (record a { top = ref_of f.found })) e))
+    go false e = absurd (stays F2 (record a { top = ref_of f.found }) (f.leads_to ∙ ap (λ p. if p then Ends Done else Goes F2 (record a { top = ref_of f.found })) e))
 
 -- F1 goes on to F2 with the same node
 pub to_f2 : (r : Arena) (s t : Seat) (prologue : Prologue) (a b : Running) (l : Line) → CallIsAt r s prologue F1 a → Follows r s t prologue F1 a (Goes l b) → CallIsAt r t continues F2 b × (b.node ≡ a.node) × (b.mark ≡ a.mark)
 to_f2 r s t prologue a b l st f = go (nat_eq (ref_of f.found).count r.plan.setup.limit) refl
   where
     go : (p : Bool) → nat_eq (ref_of f.found).count r.plan.setup.limit ≡ p → CallIsAt r t continues F2 b × (b.node ≡ a.node) × (b.mark ≡ a.mark)
-    go true e = let x : Goes l b ≡ Freed = f.leads_to ∙ ap (λ p. if p then Freed else Goes F2 (record a { top = ref_of f.found })) e in cc
+    go true e = let x : Goes l b ≡ Ends Done = f.leads_to ∙ ap (λ p. if p then Ends Done else Goes F2 (record a { top = ref_of f.found })) e in cc
     go false e =
-        let x : b ≡ record a { top = ref_of f.found } = same_actor l F2 b (record a { top = ref_of f.found }) (f.leads_to ∙ ap (λ p. if p then Freed else Goes F2 (record a { top = ref_of f.found })) e) in
+        let x : b ≡ record a { top = ref_of f.found } = same_registers l F2 b (record a { top = ref_of f.found }) (f.leads_to ∙ ap (λ p. if p then Ends Done else Goes F2 (record a { top = ref_of f.found })) e) in
         (subst (CallIsAt r t continues F2) (sym x) ((after_f1 r s t prologue a f.found st f.did).1 e), ap (λ c. c.node) x, ap (λ c. c.mark) x)
 
 -- F2 goes on to F3 with the same registers
 pub to_f3 : (r : Arena) (s u t : Seat) (prologue : Prologue) (a b c : Running) (l m : Line) → CallIsAt r s prologue F1 a → Follows r s u prologue F1 a (Goes l b) → Follows r u t continues F2 b (Goes m c) → CallIsAt r t continues F3 c
-to_f3 r s u t prologue a b c l m st f g = subst (CallIsAt r t continues F3) (sym (same_actor m F3 c b g.leads_to)) (after_f2 r u t continues b g.found (to_f2 r s u prologue a b l st f).0 g.did)
+to_f3 r s u t prologue a b c l m st f g = subst (CallIsAt r t continues F3) (sym (same_registers m F3 c b g.leads_to)) (after_f2 r u t continues b g.found (to_f2 r s u prologue a b l st f).0 g.did)
 
 -- the last two lines of a turn
-module _ (r : Arena) (s u t x : Seat) (prologue : Prologue) (h : Held) (a b c : Running) (l m : Line) (last : Outcome) (na : a.node ≡ h.node) (ma : a.mark ≡ h.mark) (st : CallIsAt r s prologue F1 a) (f : Follows r s u prologue F1 a (Goes l b)) (g : Follows r u t continues F2 b (Goes m c)) (k : Follows r t x continues F3 c last) where
+module _ (r : Arena) (s u t x : Seat) (prologue : Prologue) (h : Held) (a b c : Running) (l m : Line) (last : Outcome Running) (na : a.node ≡ h.node) (ma : a.mark ≡ h.mark) (st : CallIsAt r s prologue F1 a) (f : Follows r s u prologue F1 a (Goes l b)) (g : Follows r u t continues F2 b (Goes m c)) (k : Follows r t x continues F3 c last) where
   abbrev one : Event
   one = event r s u prologue F1 f.found f.did
 
@@ -119,7 +120,7 @@ module _ (r : Arena) (s u t x : Seat) (prologue : Prologue) (h : Held) (a b c : 
   three = event r t x continues F3 k.found k.did
 
   same : c ≡ b
-  same = same_actor m F3 c b g.leads_to
+  same = same_registers m F3 c b g.leads_to
 
   stands : CallIsAt r t continues F3 c
   stands = to_f3 r s u t prologue a b c l m st f g
@@ -136,7 +137,7 @@ module _ (r : Arena) (s u t x : Seat) (prologue : Prologue) (h : Held) (a b c : 
   same_top : (p : Bool) → same_ref (ref_of k.found) c.top ≡ p → same_ref k.did.told.was.world.shared.free (after_prologue r.plan.setup (view t).number continues (view t).actor).top ≡ p
   same_top p e = (λ i. same_ref (sym (ref_f3 r t x continues k.found k.did).0 i) (stands.knows.1 i)) ∙ e
 
-  turned : (p : Bool) → same_ref (ref_of k.found) c.top ≡ p → GiveTurned r x (one ∷ two ∷ three ∷ []) h (gave_of (if p then Freed else Goes F1 c))
+  turned : (p : Bool) → same_ref (ref_of k.found) c.top ≡ p → GiveTurned r x (one ∷ two ∷ three ∷ []) h (gave_of (if p then Ends Done else Goes F1 c))
   turned true e =
       let over = (after_f3 r t x continues c k.found stands k.did).0 e in
       record {

@@ -19,9 +19,10 @@ use Rattle.node_arena.specs.Seats.{IsSeat, DidStep, view}
 use Rattle.node_arena.proofs.Known.{known_before, empty_before}
 use Rattle.node_arena.proofs.Told.{first_is_free}
 use Rattle.node_arena.proofs.Tracing.{traced_reached}
+use Rattle.arena_lines.specs.declared.outcomes.Outcome.{Outcome}
+use Rattle.arena_lines.specs.declared.outcomes.Outcome.TheVariants.{Goes, Ends}
+use Rattle.arena_lines.specs.declared.outcomes.Reply.TheVariants.{Refused as IsRefused}
 use Rattle.free_list.specs.declared.outcomes.Actor.{Actor as Running}
-use Rattle.free_list.specs.declared.outcomes.Outcome.{Outcome}
-use Rattle.free_list.specs.declared.outcomes.Outcome.TheVariants.{Goes, Ends, Freed}
 use Rattle.free_list.specs.Runs.{follow, AgreesAt, CallIsAt}
 use Rattle.free_list.specs.Takes.{WasThere, IsRefusedBy}
 use Rattle.free_list.proofs.Steps.{ref_n2, ref_n3, ref_n4, ref_f1, ref_f3}
@@ -48,12 +49,12 @@ module _ (r : Arena) (s t : Seat) (prologue : Prologue) (a : Running) (n : ℕ) 
     pub replies : (outcome_at r.plan.setup d.told.was (view s).number b N2).reply ≡ Some (Refused why)
     pub possible : IsRefusedBy why
 
-  abbrev pub Second : DidStep r s t prologue N2 n → Outcome → Type 0
+  abbrev pub Second : DidStep r s t prologue N2 n → Outcome Running → Type 0
   Second d (Goes N3 a') = CallIsAt r t continues N3 a'
   Second d (Goes N5 a') = CallIsAt r t continues N5 a'
   Second d (Goes l a') = ⊥
-  Second d (Ends why) = Ended d why
-  Second d Freed = ⊥
+  Second d (Ends (IsRefused why)) = Ended d why
+  Second d (Ends reply) = ⊥
 
   abbrev second_outcome : (now : ℕ) → Ref → (p q u : Bool) → MachineOutcome
   second_outcome now top p q u =
@@ -62,11 +63,11 @@ module _ (r : Arena) (s t : Seat) (prologue : Prologue) (a : Running) (n : ℕ) 
       else if u then worn now OfFree (record b { top = top })
       else goes N3 (record b { top = top })
 
-  abbrev second : Ref → (p q u : Bool) → Outcome
+  abbrev second : Ref → (p q u : Bool) → Outcome Running
   second top p q u =
       if p
-      then if q then Goes N5 (record a { top = top }) else Ends NoNode
-      else if u then Ends (WornOut OfFree)
+      then if q then Goes N5 (record a { top = top }) else Ends (IsRefused NoNode)
+      else if u then Ends (IsRefused (WornOut OfFree))
       else Goes N3 (record a { top = top })
 
   pub after_n2 : CallIsAt r s prologue N2 a → (d : DidStep r s t prologue N2 n) → Second d (follow r.plan.setup a N2 n)

@@ -15,23 +15,15 @@ use Rattle.node_arena.specs.Seats.{IsBefore, KeepsStored, DidStep, view}
 use Rattle.node_arena.specs.Turns.{failed_at, failed_turns, at_n1}
 use Rattle.node_arena.specs.Paths.{ExtendsPath, Passes}
 use Rattle.node_arena.proofs.Paths.{pass_then, then_stored, failed_snoc, event, walk_on, pass_on, to_is, ended_at, stopped_at, failed_last, now_sole}
+use Rattle.arena_lines.specs.declared.outcomes.Outcome.{Outcome}
+use Rattle.arena_lines.specs.declared.outcomes.Outcome.TheVariants.{Goes, Ends}
+use Rattle.arena_lines.specs.declared.outcomes.Reply.TheVariants.{Done, Value, Empty, Refused as IsRefused}
 use Rattle.free_list.specs.declared.outcomes.Actor.{Actor as Running}
-use Rattle.free_list.specs.declared.outcomes.Outcome.{Outcome}
-use Rattle.free_list.specs.declared.outcomes.Outcome.TheVariants.{Goes, Ends, Freed}
 use Rattle.free_list.specs.declared.outcomes.Turn.TheVariants.{Refused}
 use Rattle.free_list.specs.Runs.{in_hand, turn_of, CallIsAt, Follows}
 use Rattle.free_list.specs.Takes.{Got, Fell, Turned, Turns}
+use Rattle.arena_lines.proofs.Registers.{same_registers}
 use Rattle.free_list.proofs.Standing.{after_n1, Ended, Second, after_n2, after_n3, Holding, after_n4, after_n5}
-
-actor_or : Running → Outcome → Running
-actor_or d (Goes l a) = a
-actor_or d (Ends why) = d
-actor_or d Freed = d
-
--- outcomes that are the same go on with the same registers
-pub same_actor : (l k : Line) (a b : Running) → Goes l a ≡ Goes k b → a ≡ b
-unfolding actor_or
-same_actor l k a b e = ap (actor_or a) e
 
 -- at the start of a turn a call knows nothing of its registers
 pub any_registers : (r : Arena) (t : Seat) (prologue : Prologue) (a : Running) → IsBefore r t prologue N1 → CallIsAt r t prologue N1 a
@@ -77,9 +69,9 @@ took_at NonBlocking r s x es a g = g
 -- the first two lines of a turn
 module _ (r : Arena) (s u : Seat) (prologue : Prologue) (a a1 : Running) (l : Line) (h : CallIsAt r s prologue N1 a) (f : Follows r s u prologue N1 a (Goes l a1)) where
   pub to_n2 : CallIsAt r u continues N2 a1
-  to_n2 = subst (CallIsAt r u continues N2) (sym (same_actor l N2 a1 (record a { f = f.found }) f.leads_to)) (after_n1 r s u prologue a f.found h f.did)
+  to_n2 = subst (CallIsAt r u continues N2) (sym (same_registers l N2 a1 (record a { f = f.found }) f.leads_to)) (after_n1 r s u prologue a f.found h f.did)
 
-module _ (r : Arena) (s u t : Seat) (prologue : Prologue) (a a1 : Running) (l1 : Line) (out : Outcome) (f : Follows r s u prologue N1 a (Goes l1 a1)) (h : CallIsAt r u continues N2 a1) (g : Follows r u t continues N2 a1 out) where
+module _ (r : Arena) (s u t : Seat) (prologue : Prologue) (a a1 : Running) (l1 : Line) (out : Outcome Running) (f : Follows r s u prologue N1 a (Goes l1 a1)) (h : CallIsAt r u continues N2 a1) (g : Follows r u t continues N2 a1 out) where
   abbrev one : Event
   one = event r s u prologue N1 f.found f.did
 
@@ -99,7 +91,7 @@ module _ (r : Arena) (s u t : Seat) (prologue : Prologue) (a a1 : Running) (l1 :
   second_is = subst (Second r u t continues a1 g.found g.did) (sym g.leads_to) (after_n2 r u t continues a1 g.found h g.did)
 
   -- a turn that is refused
-  pub refused_turn : (why : Refusal) → out ≡ Ends why → Turns r s t (Refused why)
+  refused_turn : (why : Refusal) → out ≡ Ends (IsRefused why) → Turns r s t (Refused why)
   refused_turn why e =
       let o : Ended r u t continues a1 g.found g.did why = subst (Second r u t continues a1 g.found g.did) e second_is in
       record {
@@ -108,6 +100,17 @@ module _ (r : Arena) (s u t : Seat) (prologue : Prologue) (a a1 : Running) (l1 :
         walks = look_walk;
         turned = record { seat = g.did.seat; over = o.over; empty = o.empty; never = refl; cause = stopped_at r u t continues N2 g.found g.did s (one ∷ []) why (walk_on r s u prologue N1 f.found f.did refl tt) o.replies; possible = o.possible };
       }
+
+  -- a turn that goes on nowhere is refused
+  pub ended_turn : ((k : Line) (b : Running) → out ≡ Goes k b → ⊥) → Turns r s t (turn_of out)
+  ended_turn never = go out refl
+    where
+      go : (o : Outcome Running) → out ≡ o → Turns r s t (turn_of o)
+      go (Goes k b) e = absurd (never k b e)
+      go (Ends (IsRefused why)) e = refused_turn why e
+      go (Ends Done) e = absurd (subst (Second r u t continues a1 g.found g.did) e second_is)
+      go (Ends (Value word)) e = absurd (subst (Second r u t continues a1 g.found g.did) e second_is)
+      go (Ends Empty) e = absurd (subst (Second r u t continues a1 g.found g.did) e second_is)
 
   pub to_n5 : (k : Line) (b : Running) → out ≡ Goes k b → k ≡ N5 → CallIsAt r t continues N5 b
   to_n5 k b e is = subst (Second r u t continues a1 g.found g.did) (e ∙ ap (λ j. Goes j b) is) second_is
@@ -121,7 +124,7 @@ module _ (r : Arena) (s u t : Seat) (prologue : Prologue) (a a1 : Running) (l1 :
       go _ other x = absurd x
 
   -- a turn that ends at N5
-  pub fresh_turn : (x : Seat) (k : Line) (b : Running) (last : Outcome) → out ≡ Goes k b → k ≡ N5 → Follows r t x continues N5 b last → Turns r s x (turn_of last)
+  pub fresh_turn : (x : Seat) (k : Line) (b : Running) (last : Outcome Running) → out ≡ Goes k b → k ≡ N5 → Follows r t x continues N5 b last → Turns r s x (turn_of last)
   fresh_turn x k b last e is y =
       record {
         stored = then_stored s t x look_stored y.did.stored;
@@ -135,10 +138,10 @@ module _ (r : Arena) (s u t : Seat) (prologue : Prologue) (a a1 : Running) (l1 :
       go false w = fell r s t x N5 y.found y.did looks look_walk.walks refl (λ o. refl) b ((after_n5 r t x continues b y.found (to_n5 k b e is) y.did).1 w)
 
   pub to_n4 : (k m : Line) (b c : Running) (x : Seat) → out ≡ Goes k b → k ≢ N5 → Follows r t x continues N3 b (Goes m c) → CallIsAt r x continues N4 c
-  to_n4 k m b c x e other y = subst (CallIsAt r x continues N4) (sym (same_actor m N4 c (record b { next = ref_of y.found }) y.leads_to)) (after_n3 r t x continues b y.found (to_n3 k b e other) y.did)
+  to_n4 k m b c x e other y = subst (CallIsAt r x continues N4) (sym (same_registers m N4 c (record b { next = ref_of y.found }) y.leads_to)) (after_n3 r t x continues b y.found (to_n3 k b e other) y.did)
 
   -- a turn that ends at N4
-  pub reuse_turn : (k m : Line) (b c : Running) (x v : Seat) (last : Outcome) → out ≡ Goes k b → k ≢ N5 → Follows r t x continues N3 b (Goes m c) → Follows r x v continues N4 c last → Turns r s v (turn_of last)
+  pub reuse_turn : (k m : Line) (b c : Running) (x v : Seat) (last : Outcome Running) → out ≡ Goes k b → k ≢ N5 → Follows r t x continues N3 b (Goes m c) → Follows r x v continues N4 c last → Turns r s v (turn_of last)
   reuse_turn k m b c x v last e other y z =
       record {
         stored = then_stored s x v (then_stored s t x look_stored y.did.stored) z.did.stored;

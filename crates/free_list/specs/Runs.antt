@@ -11,15 +11,14 @@ use Rattle.node_arena.specs.Prologues.{Prologue, continues, begins, after_prolog
 use Rattle.node_arena.specs.declared.arena.Arena.{Arena}
 use Rattle.node_arena.specs.declared.seats.Seat.{Seat}
 use Rattle.node_arena.specs.Seats.{IsBefore, DidStep, view}
+use Rattle.arena_lines.specs.declared.outcomes.Reply.TheVariants.{Done, Refused as IsRefused}
+use Rattle.arena_lines.specs.declared.outcomes.Outcome.{Outcome}
+use Rattle.arena_lines.specs.declared.outcomes.Outcome.TheVariants.{Goes, Ends}
 use Rattle.free_list.specs.declared.outcomes.Actor.{Actor as Running}
-use Rattle.free_list.specs.declared.outcomes.Reply.{Reply}
-use Rattle.free_list.specs.declared.outcomes.Reply.TheVariants.{Refused as IsRefused}
 use Rattle.free_list.specs.declared.outcomes.Turn.{Turn}
 use Rattle.free_list.specs.declared.outcomes.Turn.TheVariants.{Took, Failed, Refused}
 use Rattle.free_list.specs.declared.outcomes.Gave.{Gave}
 use Rattle.free_list.specs.declared.outcomes.Gave.TheVariants.{Back, Again}
-use Rattle.free_list.specs.declared.outcomes.Outcome.{Outcome}
-use Rattle.free_list.specs.declared.outcomes.Outcome.TheVariants.{Goes, Ends, Freed}
 
 -- how a take sets out: its first turn begins an enqueue, and a later one goes on
 abbrev pub taking : ℕ → Prologue
@@ -31,26 +30,22 @@ abbrev pub giving : ℕ → Prologue
 giving zero = begins Deq
 giving (suc n) = continues
 
--- a call that ends with a reply
-abbrev pub told_by : Reply → Outcome
-told_by (IsRefused why) = Ends why
-
 -- what a running call makes of the number found at a line
-abbrev pub follow : Setup → Running → Line → ℕ → Outcome
+abbrev pub follow : Setup → Running → Line → ℕ → Outcome Running
 follow z a N1 n = Goes N2 (record a { f = n })
 follow z a N2 n =
     let b = record a { top = ref_of n } in
     if is_null (ref_of n)
-    then if nat_lt a.f z.size then Goes N5 b else Ends NoNode
-    else if nat_eq (ref_of n).count z.limit then Ends (WornOut OfFree)
+    then if nat_lt a.f z.size then Goes N5 b else Ends (IsRefused NoNode)
+    else if nat_eq (ref_of n).count z.limit then Ends (IsRefused (WornOut OfFree))
     else Goes N3 b
 follow z a N3 n = Goes N4 (record a { next = ref_of n })
 follow z a N4 n =
     if same_ref (ref_of n) a.top then Goes (with_node z.kind) (record a { node = a.top.node; mark = a.next.count }) else Goes N1 a
 follow z a N5 n = if nat_eq n a.f then Goes (with_node z.kind) (record a { node = a.f + 1; mark = 0 }) else Goes N1 a
-follow z a F1 n = if nat_eq (ref_of n).count z.limit then Freed else Goes F2 (record a { top = ref_of n })
+follow z a F1 n = if nat_eq (ref_of n).count z.limit then Ends Done else Goes F2 (record a { top = ref_of n })
 follow z a F2 n = Goes F3 a
-follow z a F3 n = if same_ref (ref_of n) a.top then Freed else Goes F1 a
+follow z a F3 n = if same_ref (ref_of n) a.top then Ends Done else Goes F1 a
 follow z a l n = Goes l a
 
 -- the node of a running call, with its mark
@@ -58,17 +53,16 @@ abbrev pub in_hand : Running → Held
 in_hand a = record { node = a.node; mark = a.mark }
 
 -- the turn of a take that ends so: it failed where it is back at N1, and else has its node
-abbrev pub turn_of : Outcome → Turn
+abbrev pub turn_of : Outcome Running → Turn
 turn_of (Goes N1 a) = Failed
 turn_of (Goes l a) = Took (in_hand a)
-turn_of (Ends why) = Refused why
-turn_of Freed = Failed
+turn_of (Ends (IsRefused why)) = Refused why
+turn_of (Ends reply) = Failed
 
 -- the turn of a give back that ends so
-abbrev pub gave_of : Outcome → Gave
-gave_of Freed = Back
+abbrev pub gave_of : Outcome Running → Gave
 gave_of (Goes l a) = Again
-gave_of (Ends why) = Again
+gave_of (Ends reply) = Back
 
 -- an actor that frees the node in its hand, before a dequeue
 pub record Frees (b : Actor) (h : Held) : Type 0 where
@@ -98,7 +92,7 @@ pub record StartsGive (r : Arena) (s : Seat) (prologue : Prologue) (h : Held) : 
   pub frees : Frees (after_prologue r.plan.setup (view s).number prologue (view s).actor) h
 
 -- the seat made its step at a line, and the call made of the number found what the line says
-pub record Follows (r : Arena) (s t : Seat) (prologue : Prologue) (l : Line) (a : Running) (out : Outcome) : Type 0 where
+pub record Follows (r : Arena) (s t : Seat) (prologue : Prologue) (l : Line) (a : Running) (out : Outcome Running) : Type 0 where
   pub found : ℕ
   pub did : DidStep r s t prologue l found
   pub leads_to : out ≡ follow r.plan.setup a l found

@@ -9,33 +9,15 @@ ghost use Rattle.node_arena.specs.Prologues.{Prologue, continues};
 ghost use Rattle.free_list.specs.Runs.{CallIsAt, Follows, StartsGive, giving};
 ghost use Rattle.free_list.specs.Gives.{GiveTurns, GiveAnswers, IsGivenBack, GiveBackRefused};
 
-use crate::outcomes::{Actor, Gave, Outcome, frees, frees_aside, given, goes, registers};
+use crate::outcomes::{Actor, Gave, given, registers};
+use arena_lines::{Outcome, access, frees, frees_aside, goes, onward, row};
 use counted_ref::CountedRef;
 use history::Refusal;
 use line_table::{Line, line_table};
-use node_arena::{Arena, Held, Seat, exchanged, raised, reference, stored};
-
-// The access of a line, as one step call.
-macro_rules! access {
-    ($arena:ident $seat:ident $line:ident load Free) => { reference($arena.load($seat, Line::$line, 1)) };
-    ($arena:ident $seat:ident $line:ident store Next($node:expr) ($new:expr)) => {
-        stored($arena, $seat, Line::$line, 4 + 2 * $node as usize, $new.word())
-    };
-    ($arena:ident $seat:ident $line:ident exchange Free ($old:expr, $new:expr)) => {
-        reference(exchanged($arena, $seat, Line::$line, 1, $old.word(), $new.word()))
-    };
-}
-
-// One row: its access, and then its third column.
-macro_rules! row {
-    (($arena:ident $seat:ident $found:ident) $line:ident {$($access:tt)*} {$($then:tt)*}) => {{
-        let $found = access!($arena $seat $line $($access)*);
-        $($then)*
-    }};
-}
+use node_arena::{Arena, Held, Seat, raised};
 
 /// `index` turns of this call failed before.
-fn f1(arena: &Arena, seat: &mut Seat, mut a: Actor, index: u32) -> Outcome
+fn f1(arena: &Arena, seat: &mut Seat, mut a: Actor, index: u32) -> Outcome<Actor>
     ghost prologue: { Prologue }
     requires { CallIsAt arena.now seat.old prologue lines.F1 a }
     ensures { Follows arena.now seat.old seat.new prologue lines.F1 a result }
@@ -45,14 +27,15 @@ fn f1(arena: &Arena, seat: &mut Seat, mut a: Actor, index: u32) -> Outcome
     line_table!(F1 (setup me a found) row (arena seat found))
 }
 
-fn f2(arena: &Arena, seat: &mut Seat, a: Actor) -> Outcome
+fn f2(arena: &Arena, seat: &mut Seat, a: Actor) -> Actor
     requires { CallIsAt arena.now seat.old continues lines.F2 a }
-    ensures { Follows arena.now seat.old seat.new continues lines.F2 a result }
+    ensures { Follows arena.now seat.old seat.new continues lines.F2 a (Outcome.Goes lines.F3 result) }
 {
+    use onward::goes;
     line_table!(F2 (setup me a found) row (arena seat found))
 }
 
-fn f3(arena: &Arena, seat: &mut Seat, a: Actor) -> Outcome
+fn f3(arena: &Arena, seat: &mut Seat, a: Actor) -> Outcome<Actor>
     requires { CallIsAt arena.now seat.old continues lines.F3 a }
     ensures { Follows arena.now seat.old seat.new continues lines.F3 a result }
 {
@@ -68,9 +51,7 @@ fn give_turn(arena: &Arena, seat: &mut Seat, held: Held, index: u32) -> Gave
     let Outcome::Goes(_, a) = f1(arena, seat, registers(held.node, held.mark), index) else {
         return Gave::Back;
     };
-    let Outcome::Goes(_, a) = f2(arena, seat, a) else {
-        unreachable!()
-    };
+    let a = f2(arena, seat, a);
     given(f3(arena, seat, a))
 }
 

@@ -9,47 +9,24 @@ ghost use Rattle.node_arena.specs.Prologues.{Prologue, continues};
 ghost use Rattle.free_list.specs.Runs.{CallIsAt, Follows, taking};
 ghost use Rattle.free_list.specs.Takes.{Turns, AnswersTake, IsTaken, TakeRefused, FailsFewer};
 
-use crate::outcomes::{
-    Actor, Outcome, Reply, Turn, ends, goes, registers, turned, with_node, worn,
-};
+use crate::outcomes::{Actor, Turn, registers, turned};
+use arena_lines::{Outcome, Reply, access, ends, goes, onward, row, with_node, worn};
 use history::{Refusal, WornWord};
 use line_table::{Line, line_table};
-use node_arena::{Arena, Held, Seat, exchanged, raised, reference};
-
-// The access of a line, as one step call.
-macro_rules! access {
-    ($arena:ident $seat:ident $line:ident load Fresh) => { $arena.load($seat, Line::$line, 0) as u32 };
-    ($arena:ident $seat:ident $line:ident load Free) => { reference($arena.load($seat, Line::$line, 1)) };
-    ($arena:ident $seat:ident $line:ident load Next($node:expr)) => {
-        reference($arena.load($seat, Line::$line, 4 + 2 * $node as usize))
-    };
-    ($arena:ident $seat:ident $line:ident exchange Fresh ($old:expr, $new:expr)) => {
-        exchanged($arena, $seat, Line::$line, 0, u64::from($old), u64::from($new)) as u32
-    };
-    ($arena:ident $seat:ident $line:ident exchange Free ($old:expr, $new:expr)) => {
-        reference(exchanged($arena, $seat, Line::$line, 1, $old.word(), $new.word()))
-    };
-}
-
-// One row: its access, and then its third column.
-macro_rules! row {
-    (($arena:ident $seat:ident $found:ident) $line:ident {$($access:tt)*} {$($then:tt)*}) => {{
-        let $found = access!($arena $seat $line $($access)*);
-        $($then)*
-    }};
-}
+use node_arena::{Arena, Held, Seat, raised};
 
 /// `index` turns of this call failed before.
-fn n1(arena: &Arena, seat: &mut Seat, mut a: Actor, index: u32) -> Outcome
+fn n1(arena: &Arena, seat: &mut Seat, mut a: Actor, index: u32) -> Actor
     ghost prologue: { Prologue }
     requires { CallIsAt arena.now seat.old prologue lines.N1 a }
-    ensures { Follows arena.now seat.old seat.new prologue lines.N1 a result }
+    ensures { Follows arena.now seat.old seat.new prologue lines.N1 a (Outcome.Goes lines.N2 result) }
 {
+    use onward::goes;
     let _ = index;
     line_table!(N1 (setup me a found) row (arena seat found))
 }
 
-fn n2(arena: &Arena, seat: &mut Seat, mut a: Actor) -> Outcome
+fn n2(arena: &Arena, seat: &mut Seat, mut a: Actor) -> Outcome<Actor>
     requires { CallIsAt arena.now seat.old continues lines.N2 a }
     ensures { Follows arena.now seat.old seat.new continues lines.N2 a result }
 {
@@ -57,14 +34,15 @@ fn n2(arena: &Arena, seat: &mut Seat, mut a: Actor) -> Outcome
     line_table!(N2 (setup me a found) row (arena seat found))
 }
 
-fn n3(arena: &Arena, seat: &mut Seat, mut a: Actor) -> Outcome
+fn n3(arena: &Arena, seat: &mut Seat, mut a: Actor) -> Actor
     requires { CallIsAt arena.now seat.old continues lines.N3 a }
-    ensures { Follows arena.now seat.old seat.new continues lines.N3 a result }
+    ensures { Follows arena.now seat.old seat.new continues lines.N3 a (Outcome.Goes lines.N4 result) }
 {
+    use onward::goes;
     line_table!(N3 (setup me a found) row (arena seat found))
 }
 
-fn n4(arena: &Arena, seat: &mut Seat, mut a: Actor) -> Outcome
+fn n4(arena: &Arena, seat: &mut Seat, mut a: Actor) -> Outcome<Actor>
     requires { CallIsAt arena.now seat.old continues lines.N4 a }
     ensures { Follows arena.now seat.old seat.new continues lines.N4 a result }
 {
@@ -72,7 +50,7 @@ fn n4(arena: &Arena, seat: &mut Seat, mut a: Actor) -> Outcome
     line_table!(N4 (setup me a found) row (arena seat found))
 }
 
-fn n5(arena: &Arena, seat: &mut Seat, mut a: Actor) -> Outcome
+fn n5(arena: &Arena, seat: &mut Seat, mut a: Actor) -> Outcome<Actor>
     requires { CallIsAt arena.now seat.old continues lines.N5 a }
     ensures { Follows arena.now seat.old seat.new continues lines.N5 a result }
 {
@@ -85,21 +63,16 @@ fn take_turn(arena: &Arena, seat: &mut Seat, index: u32) -> Turn
     requires { IsBefore arena.now seat.old (taking index) lines.N1 }
     ensures { Turns arena.now seat.old seat.new result }
 {
-    let Outcome::Goes(_, a) = n1(arena, seat, registers(0, 0), index) else {
-        unreachable!()
-    };
+    let a = n1(arena, seat, registers(0, 0), index);
     match n2(arena, seat, a) {
         Outcome::Goes(next, a) => match next {
             Line::N5 => turned(n5(arena, seat, a)),
             _ => {
-                let Outcome::Goes(_, a) = n3(arena, seat, a) else {
-                    unreachable!()
-                };
+                let a = n3(arena, seat, a);
                 turned(n4(arena, seat, a))
             }
         },
-        Outcome::Ends(why) => Turn::Refused(why),
-        Outcome::Freed => unreachable!(),
+        ended => turned(ended),
     }
 }
 

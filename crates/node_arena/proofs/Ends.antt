@@ -10,8 +10,6 @@ use mathlib.Core.Option.{some}
 use lib.ListN.{get_elem?}
 use Rattle.atomic_table.specs.Table.{Me, Final, Seen}
 use Rattle.counted_ref.specs.Ref.{Ref}
-use Rattle.line_table.specs.declared.lines.Kind.{Kind}
-use Rattle.line_table.specs.declared.lines.Kind.TheVariants.{TwoLock, NonBlocking}
 use Rattle.history.specs.declared.rests.Rest.{Rest}
 use Rattle.history.specs.Queue.{empty}
 use Rattle.history.specs.Entries.{is_push, is_pop, own_entries, Plays, LeadsTo}

@@ -7,7 +7,7 @@ use Rattle.line_steps.specs.declared.actors.Setup.{Setup}
 use Rattle.line_steps.specs.declared.actors.Actor.{Actor}
 use Rattle.step_machine.specs.Machine.{World, IsReached, actor_of}
 use Rattle.step_machine.specs.Range.{RegistersInRange, LineInRange, ActorInRange, WorldInRange}
-use Rattle.step_machine.specs.ProgramCounters.{NonNullAt, IsAtLine}
+use Rattle.step_machine.specs.ProgramCounters.{NonNullAt}
 use Rattle.step_machine.specs.EachQueue.{raised_at}
 use Rattle.step_machine.proofs.Reached.{reached_in_range, actor_in_range}
 use Rattle.step_machine.proofs.Fixed.{FixedAt}

@@ -23,6 +23,5 @@ pub use plans::Plan;
 pub use roles::Role;
 pub use seats::Seat;
 pub use step_machine::{Held, Setup};
-pub use stepping::{exchanged, masked, stored};
 pub use views::{Knowing, SeatToken, WordRule, WordTable};
 pub use words::{COUNT_MASK, raised, reference, word_of};

@@ -1,7 +1,7 @@
-//! The atomic steps of a seat, one call for each form, and those of a call that is under way.
+//! The atomic steps of a seat, one call for each form.
 ghost use Rattle.std.specs.Prelude.{◌≡◌, ◌≢◌, MatchResult};
 ghost use Rattle.step_machine.specs.Tables.{load_at, store_at, and_at, exchange_at};
-ghost use Rattle.node_arena.specs.Prologues.{Prologue, continues};
+ghost use Rattle.node_arena.specs.Prologues.{Prologue};
 ghost use Rattle.node_arena.specs.Seats.{MayStep, DidStep, DidSome};
 
 use crate::arena::Arena;
@@ -78,32 +78,5 @@ impl Arena {
         } else {
             Err(found)
         }
-    }
-}
-
-/// One store into a word by a call that is under way. Takes no memory and doesn't wait.
-pub fn stored(arena: &Arena, seat: &mut Seat, line: Line, word: usize, value: u64)
-    requires { MayStep arena.now seat.old continues line (store_at word value) }
-    ensures { DidSome arena.now seat.old seat.new continues line }
-{
-    arena.store(seat, line, word, value);
-}
-
-/// One fetch_and of a word with a mask by a call that is under way; the word found is the answer. Takes no memory and doesn't wait.
-pub fn masked(arena: &Arena, seat: &mut Seat, line: Line, word: usize, mask: u64) -> u64
-    requires { MayStep arena.now seat.old continues line (and_at word mask) }
-    ensures { DidStep arena.now seat.old seat.new continues line result }
-{
-    arena.fetch_and(seat, line, word, mask)
-}
-
-/// One compare-exchange of a word by a call that is under way; the word found is the answer, won or lost. Takes no memory and doesn't wait.
-pub fn exchanged(arena: &Arena, seat: &mut Seat, line: Line, word: usize, old: u64, new: u64) -> u64
-    requires { MayStep arena.now seat.old continues line (exchange_at word old new) }
-    ensures { DidStep arena.now seat.old seat.new continues line result }
-{
-    match arena.exchange(seat, line, word, old, new) {
-        Ok(found) => found,
-        Err(found) => found,
     }
 }

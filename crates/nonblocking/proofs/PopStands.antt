@@ -19,9 +19,10 @@ use Rattle.node_arena.proofs.Paths.{settled, goes_on}
 use Rattle.node_arena.proofs.Told.{head_is_not_worn}
 use Rattle.nonblocking.specs.Values.{IsNonBlocking}
 use Rattle.node_arena.specs.Machine.{value_of}
+use Rattle.arena_lines.specs.declared.outcomes.Outcome.{Outcome}
+use Rattle.arena_lines.specs.declared.outcomes.Outcome.TheVariants.{Goes, Ends}
+use Rattle.arena_lines.specs.declared.outcomes.Reply.TheVariants.{Empty as IsEmpty, Refused as IsRefused}
 use Rattle.nonblocking.specs.declared.pop_outcomes.Actor.{Actor as Running}
-use Rattle.nonblocking.specs.declared.pop_outcomes.Outcome.{Outcome}
-use Rattle.nonblocking.specs.declared.pop_outcomes.Outcome.TheVariants.{Goes, Empty, Refused}
 use Rattle.nonblocking.specs.Pops.{AgreesAt, CallIsAt}
 use Rattle.nonblocking.proofs.PopSteps.{ref_d2, ref_d3, ref_d4, ref_d5, value_d12, ref_d13}
 
@@ -73,13 +74,14 @@ module _ (r : Arena) (s t : Seat) (prologue : Prologue) (n : ℕ) (a : Running) 
     pub replies : (out_at D5 d).reply ≡ Some (reply.Refused (WornOut OfTail))
     pub is : why ≡ WornOut OfTail
 
-  abbrev pub Fifth : DidStep r s t prologue D5 n → Outcome → Type 0
+  abbrev pub Fifth : DidStep r s t prologue D5 n → Outcome Running → Type 0
   Fifth d (Goes D2 c) = On d D2 c
   Fifth d (Goes D10 c) = On d D10 c
   Fifth d (Goes D12 c) = On d D12 c
   Fifth d (Goes l c) = ⊥
-  Fifth d Empty = FoundNull d
-  Fifth d (Refused why) = FoundWorn d why
+  Fifth d (Ends IsEmpty) = FoundNull d
+  Fifth d (Ends (IsRefused why)) = FoundWorn d why
+  Fifth d (Ends reply) = ⊥
 
   abbrev fifth_outcome : (now : ℕ) → (p q u w : Bool) → MachineOutcome
   fifth_outcome now p q u w =
@@ -87,10 +89,10 @@ module _ (r : Arena) (s t : Seat) (prologue : Prologue) (n : ℕ) (a : Running) 
       then if q then if u then ends now reply.Empty b else if w then worn now OfTail b else goes D10 b else goes D12 b
       else goes D2 b
 
-  abbrev fifth : (p q u w : Bool) → Outcome
+  abbrev fifth : (p q u w : Bool) → Outcome Running
   fifth p q u w =
       if p
-      then if q then if u then Empty else if w then Refused (WornOut OfTail) else Goes D10 a else Goes D12 a
+      then if q then if u then Ends IsEmpty else if w then Ends (IsRefused (WornOut OfTail)) else Goes D10 a else Goes D12 a
       else Goes D2 a
 
   module _ (h : CallIsAt r s prologue D5 a) (d : DidStep r s t prologue D5 n) where

@@ -22,34 +22,25 @@ use Rattle.node_arena.proofs.Empties.{empty_where_noted}
 use Rattle.node_arena.proofs.Paths.{no_walk, walk_then, then_act, then_stored, sees_on, stopped_behind, failed_behind, failed-append, failed_snoc, event, walk_one, walk_on, act_on, to_is, stopped_at, failed_last}
 use Rattle.nonblocking.specs.Values.{IsNonBlocking}
 use Rattle.node_arena.specs.Machine.{value_of}
+use Rattle.arena_lines.specs.declared.outcomes.Outcome.{Outcome}
+use Rattle.arena_lines.specs.declared.outcomes.Outcome.TheVariants.{Goes, Ends}
+use Rattle.arena_lines.specs.declared.outcomes.Reply.TheVariants.{Done as IsDone, Value as IsValue, Empty as IsEmpty, Refused as IsRefused}
 use Rattle.nonblocking.specs.declared.pop_outcomes.Actor.{Actor as Running}
-use Rattle.nonblocking.specs.declared.pop_outcomes.Reply.TheVariants.{Value as IsValue}
-use Rattle.nonblocking.specs.declared.pop_outcomes.Outcome.{Outcome}
-use Rattle.nonblocking.specs.declared.pop_outcomes.Outcome.TheVariants.{Goes, Empty, Refused}
 use Rattle.nonblocking.specs.declared.pop_outcomes.Turn.{Turn}
 use Rattle.nonblocking.specs.declared.pop_outcomes.Turn.TheVariants as turn
 use Rattle.nonblocking.specs.Pops.{turn_of, CallIsAt, Follows, Fell, Looked, Looks, Turned, Turns}
+use Rattle.arena_lines.proofs.Registers.{same_registers}
 use Rattle.nonblocking.proofs.PopStands.{stands_d2, after_d2, after_d3, after_d4, Fifth, after_d5, after_d10, never_d12, after_d12, Won, won_d13, Lost, lost_d13}
-
-actor_or : Running → Outcome → Running
-actor_or d (Goes l a) = a
-actor_or d Empty = d
-actor_or d (Refused why) = d
-
--- outcomes that are the same go on with the same registers
-pub same_pop : (l k : Line) (a b : Running) → Goes l a ≡ Goes k b → a ≡ b
-unfolding actor_or
-same_pop l k a b e = ap (actor_or a) e
 
 -- after D2, D3 and D4
 pub to_d3 : (r : Arena) (s t : Seat) (prologue : Prologue) (l : Line) (a b : Running) → IsBefore r s prologue D2 → Follows r s t prologue D2 a (Goes l b) → CallIsAt r t continues D3 b
-to_d3 r s t prologue l a b h f = subst (CallIsAt r t continues D3) (sym (same_pop l D3 b (record a { head = ref_of f.found }) f.leads_to)) (after_d2 r s t prologue f.found a (stands_d2 r s prologue a h) f.did)
+to_d3 r s t prologue l a b h f = subst (CallIsAt r t continues D3) (sym (same_registers l D3 b (record a { head = ref_of f.found }) f.leads_to)) (after_d2 r s t prologue f.found a (stands_d2 r s prologue a h) f.did)
 
 pub to_d4 : (r : Arena) (s t : Seat) (l : Line) (a b : Running) → CallIsAt r s continues D3 a → Follows r s t continues D3 a (Goes l b) → CallIsAt r t continues D4 b
-to_d4 r s t l a b h f = subst (CallIsAt r t continues D4) (sym (same_pop l D4 b (record a { tail = ref_of f.found }) f.leads_to)) (after_d3 r s t continues f.found a h f.did)
+to_d4 r s t l a b h f = subst (CallIsAt r t continues D4) (sym (same_registers l D4 b (record a { tail = ref_of f.found }) f.leads_to)) (after_d3 r s t continues f.found a h f.did)
 
 pub to_d5 : (r : Arena) (s t : Seat) (l : Line) (a b : Running) → CallIsAt r s continues D4 a → Follows r s t continues D4 a (Goes l b) → CallIsAt r t continues D5 b
-to_d5 r s t l a b h f = subst (CallIsAt r t continues D5) (sym (same_pop l D5 b (record a { next = ref_of f.found }) f.leads_to)) (after_d4 r s t continues f.found a h f.did)
+to_d5 r s t l a b h f = subst (CallIsAt r t continues D5) (sym (same_registers l D5 b (record a { next = ref_of f.found }) f.leads_to)) (after_d4 r s t continues f.found a h f.did)
 
 -- a line whose step goes back to D2 fails its turn
 module _ (r : Arena) (s t x : Seat) (l : Line) (n : ℕ) (d : DidStep r t x continues l n) (before : List Event) (w : ExtendsPath (view s) (view t) before) (never : failed_turns before ≡ 0) (q : (o : Option Line) → failed_at l o ≡ at_d2 o) where
@@ -72,7 +63,7 @@ module _ (r : Arena) (s t x : Seat) (l : Line) (n : ℕ) (d : DidStep r t x cont
   not_failed o e none = let f = failed_snoc before last in let z = q last.to ∙ ap at_d2 (to_is r t x continues l n d ∙ e) ∙ none in omega arith
 
 -- the lines D2 to D5
-module _ (r : Arena) (s u t v x : Seat) (prologue : Prologue) (a b c d : Running) (l k j : Line) (out : Outcome) (h : IsBefore r s prologue D2) (f2 : Follows r s u prologue D2 a (Goes l b)) (f3 : Follows r u t continues D3 b (Goes k c)) (f4 : Follows r t v continues D4 c (Goes j d)) (f5 : Follows r v x continues D5 d out) where
+module _ (r : Arena) (s u t v x : Seat) (prologue : Prologue) (a b c d : Running) (l k j : Line) (out : Outcome Running) (h : IsBefore r s prologue D2) (f2 : Follows r s u prologue D2 a (Goes l b)) (f3 : Follows r u t continues D3 b (Goes k c)) (f4 : Follows r t v continues D4 c (Goes j d)) (f5 : Follows r v x continues D5 d out) where
   abbrev two : Event
   two = event r s u prologue D2 f2.found f2.did
 
@@ -110,12 +101,14 @@ module _ (r : Arena) (s u t v x : Seat) (prologue : Prologue) (a b c d : Running
   none_failed : (o : Option Line) → (view x).actor.line ≡ o → at_d2 o ≡ 0 → failed_turns (reads ++ five ∷ []) ≡ 0
   none_failed = not_failed r s v x D5 f5.found f5.did reads walked refl (λ o. refl)
 
-  by_outcome : (o : Outcome) → Fifth r v x continues f5.found d f5.did o → ((view x).actor.pocket ≡ None) × Looked r s x (reads ++ five ∷ []) o
+  by_outcome : (o : Outcome Running) → Fifth r v x continues f5.found d f5.did o → ((view x).actor.pocket ≡ None) × Looked r s x (reads ++ five ∷ []) o
   by_outcome (Goes D2 e) f = (empty_before r x continues D2 f.stands.before, fell r s v x D5 f5.found f5.did reads walked refl (λ o. refl) (five_walk None f.quiet refl) f.stands.before)
   by_outcome (Goes D10 e) f = (empty_before r x continues D10 f.stands.before, record { stands = f.stands; walks = on_walk None f.quiet refl; never = none_failed (Some D10) f.stands.before.line refl })
   by_outcome (Goes D12 e) f = (empty_before r x continues D12 f.stands.before, record { stands = f.stands; walks = on_walk None f.quiet refl; never = none_failed (Some D12) f.stands.before.line refl })
   by_outcome (Goes _ e) f = absurd f
-  by_outcome Empty f =
+  by_outcome (Ends IsDone) f = absurd f
+  by_outcome (Ends (IsValue word)) f = absurd f
+  by_outcome (Ends IsEmpty) f =
       let notes : (view x).notes ≡ (view v).notes ++ length (view x).seen ∷ [] = f5.did.told.notes ∙ ap (λ q. (view v).notes ++ notes_of q (view x).seen) f.replies in (
         f.empty,
         record {
@@ -132,7 +125,7 @@ module _ (r : Arena) (s u t v x : Seat) (prologue : Prologue) (a b c d : Running
           };
         },
       )
-  by_outcome (Refused why) f = (
+  by_outcome (Ends (IsRefused why)) f = (
     f.empty,
     record {
       over = f.over;
@@ -155,7 +148,7 @@ module _ (r : Arena) (s u t v x : Seat) (prologue : Prologue) (a b c d : Running
       }
 
 -- Tail is moved, and the turn failed
-pub moves_tail : (r : Arena) (s t : Seat) (a : Running) (out : Outcome) → CallIsAt r s continues D10 a → Follows r s t continues D10 a out → Turns r s t (turn_of out)
+pub moves_tail : (r : Arena) (s t : Seat) (a : Running) (out : Outcome Running) → CallIsAt r s continues D10 a → Follows r s t continues D10 a out → Turns r s t (turn_of out)
 moves_tail r s t a out h f =
     let before : IsBefore r t continues D2 = after_d10 r s t continues f.found a h f.did in
     subst (λ o. Turns r s t (turn_of o)) (sym f.leads_to)
@@ -168,10 +161,10 @@ moves_tail r s t a out h f =
     }
 
 -- Head is never worn out at D12
-pub never_worn : (r : Arena) (s t : Seat) (a : Running) (out : Outcome) → IsNonBlocking r → CallIsAt r s continues D12 a → Follows r s t continues D12 a out → ((l : Line) (b : Running) → out ≡ Goes l b → ⊥) → ⊥
+pub never_worn : (r : Arena) (s t : Seat) (a : Running) (out : Outcome Running) → IsNonBlocking r → CallIsAt r s continues D12 a → Follows r s t continues D12 a out → ((l : Line) (b : Running) → out ≡ Goes l b → ⊥) → ⊥
 never_worn r s t a out kind h f other = go (nat_eq a.head.count r.plan.setup.limit) refl f.leads_to
   where
-    go : (p : Bool) → nat_eq a.head.count r.plan.setup.limit ≡ p → out ≡ (if p then Refused (WornOut OfHead) else Goes D13 (record a { val = f.found })) → ⊥
+    go : (p : Bool) → nat_eq a.head.count r.plan.setup.limit ≡ p → out ≡ (if p then Ends (IsRefused (WornOut OfHead)) else Goes D13 (record a { val = f.found })) → ⊥
     go true e q = never_d12 r s t continues f.found a h f.did kind e
     go false e q = other D13 (record a { val = f.found }) q
 
@@ -180,9 +173,9 @@ module _ (r : Arena) (s t : Seat) (a b : Running) (l : Line) (h : CallIsAt r s c
   pub to_d13 : CallIsAt r t continues D13 b
   to_d13 = go (nat_eq a.head.count r.plan.setup.limit) refl f.leads_to
     where
-      go : (p : Bool) → nat_eq a.head.count r.plan.setup.limit ≡ p → Goes l b ≡ (if p then Refused (WornOut OfHead) else Goes D13 (record a { val = f.found })) → CallIsAt r t continues D13 b
-      go true e q = absurd (let g : Goes l b ≡ Refused (WornOut OfHead) = q in cc)
-      go false e q = subst (CallIsAt r t continues D13) (sym (same_pop l D13 b (record a { val = f.found }) q)) (after_d12 r s t continues f.found a h f.did e)
+      go : (p : Bool) → nat_eq a.head.count r.plan.setup.limit ≡ p → Goes l b ≡ (if p then Ends (IsRefused (WornOut OfHead)) else Goes D13 (record a { val = f.found })) → CallIsAt r t continues D13 b
+      go true e q = absurd (let g : Goes l b ≡ Ends (IsRefused (WornOut OfHead)) = q in cc)
+      go false e q = subst (CallIsAt r t continues D13) (sym (same_registers l D13 b (record a { val = f.found }) q)) (after_d12 r s t continues f.found a h f.did e)
 
   abbrev twelve : Event
   twelve = event r s t continues D12 f.found f.did
@@ -190,7 +183,7 @@ module _ (r : Arena) (s t : Seat) (a b : Running) (l : Line) (h : CallIsAt r s c
   read_walk : ExtendsPath (view s) (view t) (twelve ∷ [])
   read_walk = walk_on r s t continues D12 f.found f.did refl tt
 
-  pub moves_head : (x : Seat) (out : Outcome) → Follows r t x continues D13 b out → Turns r s x (turn_of out)
+  pub moves_head : (x : Seat) (out : Outcome Running) → Follows r t x continues D13 b out → Turns r s x (turn_of out)
   moves_head x out g =
       let all = go (same_ref (ref_of g.found) b.head) refl in
       record {

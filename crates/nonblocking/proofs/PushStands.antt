@@ -18,10 +18,10 @@ use Rattle.node_arena.specs.declared.seats.Seat.{Seat}
 use Rattle.node_arena.specs.Seats.{DidStep, view}
 use Rattle.node_arena.proofs.Known.{empty_before}
 use Rattle.node_arena.proofs.Paths.{settled, goes_on}
+use Rattle.arena_lines.specs.declared.outcomes.Outcome.{Outcome}
+use Rattle.arena_lines.specs.declared.outcomes.Outcome.TheVariants.{Goes, Ends}
+use Rattle.arena_lines.specs.declared.outcomes.Reply.TheVariants.{Done as IsDone, Refused as IsRefused}
 use Rattle.nonblocking.specs.declared.push_outcomes.Actor.{Actor as Running}
-use Rattle.nonblocking.specs.declared.push_outcomes.Reply.TheVariants.{Done as IsDone}
-use Rattle.nonblocking.specs.declared.push_outcomes.Outcome.{Outcome}
-use Rattle.nonblocking.specs.declared.push_outcomes.Outcome.TheVariants.{Goes, Done, Refused}
 use Rattle.nonblocking.specs.Pushes.{in_hand, follow, HasNode, AgreesAt, CallIsAt}
 use Rattle.nonblocking.proofs.PushSteps.{ref_e3, ref_e5, ref_e6, ref_e7, ref_e9}
 
@@ -74,11 +74,11 @@ module _ (r : Arena) (s t : Seat) (prologue : Prologue) (n : ℕ) (a : Running) 
 
   -- E3: the node is ready, or its own next is worn out
   module _ (h : CallIsAt r s prologue E3 a) (d : DidStep r s t prologue E3 n) where
-    abbrev pub Third : Outcome → Type 0
+    abbrev pub Third : Outcome Running → Type 0
     Third (Goes E5 c) = CallIsAt r t continues E5 c × (c.node ≡ a.node) × (c.val ≡ a.val)
     Third (Goes l c) = ⊥
-    Third Done = ⊥
-    Third (Refused why) = Worn r s t prologue E3 n a h d None OfNext why
+    Third (Ends (IsRefused why)) = Worn r s t prologue E3 n a h d None OfNext why
+    Third (Ends reply) = ⊥
 
     abbrev third : ℕ → Ref → Bool → MachineOutcome
     third now x p = let c = record b1 { mark = x.count } in if p then sets_aside (worn now OfNext c) else goes E5 c
@@ -89,7 +89,7 @@ module _ (r : Arena) (s t : Seat) (prologue : Prologue) (n : ℕ) (a : Running) 
         o : (p : Bool) → nat_eq (ref_of n).count r.plan.setup.limit ≡ p → outcome_at r.plan.setup d.told.was (view s).number b1 E3 ≡ third (d.told.was.world.steps + 1) (ref_of n) p
         o p e = ap (λ x. third (d.told.was.world.steps + 1) x (nat_eq x.count r.plan.setup.limit)) (sym (ref_e3 r s t prologue n d).0) ∙ ap (third (d.told.was.world.steps + 1) (ref_of n)) e
 
-        go : (p : Bool) → nat_eq (ref_of n).count r.plan.setup.limit ≡ p → Third (if p then Refused (WornOut OfNext) else Goes E5 (record a { mark = (ref_of n).count }))
+        go : (p : Bool) → nat_eq (ref_of n).count r.plan.setup.limit ≡ p → Third (if p then Ends (IsRefused (WornOut OfNext)) else Goes E5 (record a { mark = (ref_of n).count }))
         go true e =
             let x = over E3 h d (third (d.told.was.world.steps + 1) (ref_of n) true) (o true e) refl refl in
             record { over = x.0; pocket = x.1; is = refl; replies = ap (λ c. c.reply) (o true e) }
@@ -101,19 +101,19 @@ module _ (r : Arena) (s t : Seat) (prologue : Prologue) (n : ℕ) (a : Running) 
 
   -- E7: to E9, to E13, again, or Tail is worn out
   module _ (h : CallIsAt r s prologue E7 a) (d : DidStep r s t prologue E7 n) where
-    abbrev pub Seventh : Outcome → Type 0
+    abbrev pub Seventh : Outcome Running → Type 0
     Seventh (Goes E9 c) = CallIsAt r t continues E9 c × (c ≡ a)
     Seventh (Goes E13 c) = CallIsAt r t continues E13 c × (c ≡ a)
     Seventh (Goes E5 c) = CallIsAt r t continues E5 c × (c ≡ a)
     Seventh (Goes l c) = ⊥
-    Seventh Done = ⊥
-    Seventh (Refused why) = Worn r s t prologue E7 n a h d (Some (in_hand a)) OfTail why
+    Seventh (Ends (IsRefused why)) = Worn r s t prologue E7 n a h d (Some (in_hand a)) OfTail why
+    Seventh (Ends reply) = ⊥
 
     abbrev seventh : ℕ → (p q u : Bool) → MachineOutcome
     seventh now p q u = if p then if q then goes E9 b1 else if u then worn now OfTail (to_pocket b1) else goes E13 b1 else goes E5 b1
 
-    abbrev leads_to : (p q u : Bool) → Outcome
-    leads_to p q u = if p then if q then Goes E9 a else if u then Refused (WornOut OfTail) else Goes E13 a else Goes E5 a
+    abbrev leads_to : (p q u : Bool) → Outcome Running
+    leads_to p q u = if p then if q then Goes E9 a else if u then Ends (IsRefused (WornOut OfTail)) else Goes E13 a else Goes E5 a
 
     pub after_e7 : Seventh (follow r.plan.setup a E7 n)
     after_e7 = go (same_ref (ref_of n) a.tail) (is_null a.next) (nat_eq a.tail.count r.plan.setup.limit) refl refl refl
@@ -144,20 +144,20 @@ module _ (r : Arena) (s t : Seat) (prologue : Prologue) (n : ℕ) (a : Running) 
     abbrev Lost : Type 0
     Lost = entries_at r.plan.setup d.told.was (view s).number b1 E9 ≡ []
 
-    abbrev pub Ninth : Outcome → Type 0
+    abbrev pub Ninth : Outcome Running → Type 0
     Ninth (Goes E17 c) = CallIsAt r t continues E17 c × Won
     Ninth (Goes E5 c) = CallIsAt r t continues E5 c × (c ≡ a) × Lost
     Ninth (Goes l c) = ⊥
-    Ninth Done = ((view t).actor.line ≡ None) × ((view t).actor.pocket ≡ None) × Won
-    Ninth (Refused why) = ⊥
+    Ninth (Ends IsDone) = ((view t).actor.line ≡ None) × ((view t).actor.pocket ≡ None) × Won
+    Ninth (Ends reply) = ⊥
 
     abbrev ninth : ℕ → (p u : Bool) → MachineOutcome
     ninth now p u =
         let c = empties_hand (record b1 { due = Some reply.Done }) in
         if p then record (if u then ends now reply.Done c else goes E17 c) { at = Some now } else goes E5 b1
 
-    abbrev gone : (p u : Bool) → Outcome
-    gone p u = if p then if u then Done else Goes E17 (record a { due = Some IsDone }) else Goes E5 a
+    abbrev gone : (p u : Bool) → Outcome Running
+    gone p u = if p then if u then Ends IsDone else Goes E17 (record a { due = Some IsDone }) else Goes E5 a
 
     pub after_e9 : Ninth (follow r.plan.setup a E9 n)
     after_e9 = go (same_ref (ref_of n) a.next) (nat_eq a.tail.count r.plan.setup.limit) refl refl

@@ -1,5 +1,5 @@
 -- A push that has its node: it sets out, its turns one after another, and what it answers.
-use Rattle.std.proofs.Common.{◌≡◌, ℕ, ◌+◌, ◌*◌, ◌^◌, ◌<◌, List, [], ◌++◌, Option, Some, None, Ok, Err, Result, sym, refl, ap, subst, ◌∙◌, arith, lt-ltb}
+use Rattle.std.proofs.Common.{◌≡◌, ℕ, ◌+◌, ◌*◌, ◌^◌, ◌<◌, List, ◌++◌, Option, Some, None, Ok, Err, Result, sym, refl, ap, subst, ◌∙◌, arith, lt-ltb}
 use Rattle.line_table.specs.declared.lines.Line.{Line}
 use Rattle.line_table.specs.declared.lines.Line.TheVariants.{N1, E2, E5}
 use Rattle.history.specs.declared.operations.Entry.TheVariants.{Push}
@@ -16,18 +16,19 @@ use Rattle.node_arena.specs.declared.seats.Seat.{Seat}
 use Rattle.node_arena.specs.Seats.{IsReady, view, pocket_of, keeping}
 use Rattle.node_arena.specs.Turns.{failed_turns}
 use Rattle.node_arena.specs.Paths.{ExtendsPath, Acts, added}
-use Rattle.node_arena.proofs.Paths.{no_walk, walk_then, then_act, then_stored, added_is, added_path, failed-append, failed_behind, stopped_behind, last_held, kept_seat, ends_failed}
+use Rattle.node_arena.proofs.Paths.{walk_then, then_act, then_stored, added_is, added_path, failed-append, failed_behind, stopped_behind, last_held, kept_seat, ends_failed}
 use Rattle.nonblocking.specs.Values.{IsNonBlocking}
 use Rattle.node_arena.specs.Machine.{value_of}
+use Rattle.arena_lines.specs.declared.outcomes.Outcome.{Outcome}
+use Rattle.arena_lines.specs.declared.outcomes.Outcome.TheVariants.{Goes, Ends}
+use Rattle.arena_lines.specs.declared.outcomes.Reply.{Reply}
+use Rattle.arena_lines.specs.declared.outcomes.Reply.TheVariants.{Done as IsDone, Value as IsValue, Empty as IsEmpty, Refused as IsRefused}
 use Rattle.nonblocking.specs.declared.push_outcomes.Actor.{Actor as Running}
-use Rattle.nonblocking.specs.declared.push_outcomes.Outcome.{Outcome}
-use Rattle.nonblocking.specs.declared.push_outcomes.Outcome.TheVariants.{Goes, Refused}
 use Rattle.nonblocking.specs.declared.push_outcomes.Turn.{Turn}
 use Rattle.nonblocking.specs.declared.push_outcomes.Turn.TheVariants.{Pushed, Failed, Refused as TurnRefused}
 use Rattle.nonblocking.specs.Pushes.{registers_of, in_hand, CallIsAt, Filled, Fills, FoundWorn, Turns, Trying}
 use Rattle.nonblocking.specs.Worn.{push_worn}
 use Rattle.arena_queue.specs.Answers.{PutRefused, Puts}
-use Rattle.arena_queue.proofs.Pushes.{put_behind}
 use Rattle.node_arena.proofs.Values.{value_of-word}
 
 -- an actor that begins a push with this pocket
@@ -59,20 +60,8 @@ pushes_out r s h from body val a is i full kind small same word = subst (λ (x :
           knows = tt;
         }
 
--- a push whose node is ready, before its first turn
-pub first_try : (r : Arena) (s : Seat) (h : Held) (val spent : ℕ) → CallIsAt r s continues E5 (registers_of h val) → Trying r s s (registers_of h val) spent spent
-first_try r s h val spent st =
-    record {
-      stands = st;
-      stored = record { number = refl; role = refl; pocket = refl; failed = refl };
-      lines = [];
-      walks = no_walk (view s);
-      failed = omega arith;
-      last = λ less. absurd (omega arith);
-    }
-
 -- the node's own next is worn out
-pub fill_worn : (r : Arena) (s t : Seat) (a : Running) (out : Outcome) (why : Refusal) (node body spent turns : ℕ) → out ≡ Refused why → Fills r s t a out → Puts push_worn r s (keeping t None spent) node body spent turns (Err why)
+pub fill_worn : (r : Arena) (s t : Seat) (a : Running) (out : Outcome Running) (why : Refusal) (node body spent turns : ℕ) → out ≡ Ends (IsRefused why) → Fills r s t a out → Puts push_worn r s (keeping t None spent) node body spent turns (Err why)
 fill_worn r s t a out why node body spent turns is f =
     let k : FoundWorn r s t None f.lines OfNext why = subst (Filled r s t a f.lines) is f.filled in
     let e : added s t ≡ f.lines = added_is s t f.lines f.walks in
@@ -87,8 +76,18 @@ fill_worn r s t a out why node body spent turns is f =
       );
     }
 
+-- E2 and E3 end in no other way
+pub fill_ends : (r : Arena) (s t : Seat) (a : Running) (out : Outcome Running) (answer : Reply) → out ≡ Ends answer → ((why : Refusal) → answer ≡ IsRefused why → ⊥) → Fills r s t a out → ⊥
+fill_ends r s t a out answer is other f = go answer other (subst (Filled r s t a f.lines) is f.filled)
+  where
+    go : (answer : Reply) → ((why : Refusal) → answer ≡ IsRefused why → ⊥) → Filled r s t a f.lines (Ends answer) → ⊥
+    go IsDone other k = k
+    go (IsValue word) other k = k
+    go IsEmpty other k = k
+    go (IsRefused why) other k = absurd (other why refl)
+
 -- the node is ready
-module _ (r : Arena) (s t : Seat) (a : Running) (out : Outcome) (l : Line) (c : Running) (is : out ≡ Goes l c) (f : Fills r s t a out) where
+module _ (r : Arena) (s t : Seat) (a : Running) (out : Outcome Running) (l : Line) (c : Running) (is : out ≡ Goes l c) (f : Fills r s t a out) where
   ready_at : (l : Line) → Filled r s t a f.lines (Goes l c) → CallIsAt r t continues E5 c × (c.node ≡ a.node) × (c.val ≡ a.val) × (failed_turns f.lines ≡ 0)
   ready_at E5 k = k
   ready_at _ k = absurd k
@@ -96,13 +95,24 @@ module _ (r : Arena) (s t : Seat) (a : Running) (out : Outcome) (l : Line) (c : 
   k : CallIsAt r t continues E5 c × (c.node ≡ a.node) × (c.val ≡ a.val) × (failed_turns f.lines ≡ 0)
   k = ready_at l (subst (Filled r s t a f.lines) is f.filled)
 
-  pub fill_ready : (val : ℕ) → a.val ≡ val → CallIsAt r t continues E5 (registers_of (in_hand c) val)
+  fill_ready : (val : ℕ) → a.val ≡ val → CallIsAt r t continues E5 (registers_of (in_hand c) val)
   fill_ready val e =
       record { before = k.0.before; hand = record { node = k.0.hand.node; mark = k.0.hand.mark; val = k.0.hand.val ∙ ap value_of (k.2 ∙ e) }; knows = tt }
 
-  pub fill_then : (u : Seat) (node body spent turns : ℕ) (o : Result (Unit {0}) Refusal) → a.node ≡ node → Puts push_worn r t u c.node body spent turns o → Puts push_worn r s u node body spent turns o
-  fill_then u node body spent turns o e g =
-      put_behind push_worn r s t u f.lines f.walks (record { number = f.stored.number; role = f.stored.role }) node body spent spent turns o (let z = k.3 in omega arith) (subst (λ n. Puts push_worn r t u n body spent turns o) (k.1 ∙ e) g)
+  pub fill_node : (node : ℕ) → a.node ≡ node → c.node ≡ node
+  fill_node node e = k.1 ∙ e
+
+  -- and no turn was made yet
+  pub first_try : (val spent : ℕ) → a.val ≡ val → Trying r s t (registers_of (in_hand c) val) spent spent
+  first_try val spent e =
+      record {
+        stands = fill_ready val e;
+        stored = f.stored;
+        lines = f.lines;
+        walks = f.walks;
+        failed = (let z = k.3 in omega arith);
+        last = λ less. absurd (omega arith);
+      }
 
 -- turns
 module _ (r : Arena) (s t u : Seat) (h : Held) (val spent n turns : ℕ) (a : Running) (out : Turn) (is : a ≡ registers_of h val) (g : Trying r s t (registers_of h val) spent n) (m : Turns r t u a out) where
@@ -168,6 +178,10 @@ module _ (r : Arena) (s t u : Seat) (h : Held) (val spent n turns : ℕ) (a : Ru
               (last_held r s (keeping u (Some h) n) es _ e (stopped_behind r s t g.lines k.lines (WornOut OfTail) g.walks f.cause), refl, refl),
         );
       }
+
+-- by the node and the body of the call
+pub puts_as : (r : Arena) (s u : Seat) (n node b body spent turns : ℕ) (o : Result (Unit {0}) Refusal) → n ≡ node → b ≡ body → Puts push_worn r s u n b spent turns o → Puts push_worn r s u node body spent turns o
+puts_as r s u n node b body spent turns o e f p = subst (λ x. Puts push_worn r s u node x spent turns o) f (subst (λ x. Puts push_worn r s u x b spent turns o) e p)
 
 -- all turns failed
 pub gives_up_put : (r : Arena) (s t : Seat) (h : Held) (val spent turns : ℕ) → spent < turns → Trying r s t (registers_of h val) spent turns → Puts push_worn r s (keeping t (Some h) turns) h.node (value_of val).body spent turns (Err Busy)

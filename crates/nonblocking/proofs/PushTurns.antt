@@ -19,27 +19,20 @@ use Rattle.node_arena.specs.Turns.{failed_at, failed_turns, at_e5}
 use Rattle.node_arena.specs.Paths.{ExtendsPath, Acts}
 use Rattle.node_arena.proofs.Paths.{walk_then, then_act, act_then, then_stored, failed_snoc, failed-append, failed_behind, stopped_behind, event, walk_on, pass_on, act_on, to_is, stopped_at, failed_last}
 use Rattle.node_arena.specs.Machine.{value_of}
+use Rattle.arena_lines.specs.declared.outcomes.Outcome.{Outcome}
+use Rattle.arena_lines.specs.declared.outcomes.Outcome.TheVariants.{Goes, Ends}
+use Rattle.arena_lines.specs.declared.outcomes.Reply.{Reply}
+use Rattle.arena_lines.specs.declared.outcomes.Reply.TheVariants.{Done as IsDone, Value as IsValue, Empty as IsEmpty, Refused as IsRefused}
 use Rattle.nonblocking.specs.declared.push_outcomes.Actor.{Actor as Running}
-use Rattle.nonblocking.specs.declared.push_outcomes.Outcome.{Outcome}
-use Rattle.nonblocking.specs.declared.push_outcomes.Outcome.TheVariants.{Goes, Done, Refused}
 use Rattle.nonblocking.specs.declared.push_outcomes.Turn.{Turn}
 use Rattle.nonblocking.specs.declared.push_outcomes.Turn.TheVariants.{Pushed, Failed, Refused as TurnRefused}
 use Rattle.nonblocking.specs.Pushes.{in_hand, follow, CallIsAt, Follows, Comes, Slipped, FoundWorn, Filled, Fills, Looked, Looks, Turned, Turns}
+use Rattle.arena_lines.proofs.Registers.{same_registers}
 use Rattle.nonblocking.proofs.PushStands.{after_e2, after_e5, after_e6, after_e13, after_e17, Worn, Third, after_e3, Seventh, after_e7, Ninth, after_e9}
-
-actor_or : Running → Outcome → Running
-actor_or d (Goes l a) = a
-actor_or d Done = d
-actor_or d (Refused why) = d
-
--- outcomes that are the same go on with the same registers
-pub same_push : (l k : Line) (a b : Running) → Goes l a ≡ Goes k b → a ≡ b
-unfolding actor_or
-same_push l k a b e = ap (actor_or a) e
 
 -- after E2
 pub to_e3 : (r : Arena) (s t : Seat) (prologue : Prologue) (l : Line) (a b : Running) → CallIsAt r s prologue E2 a → Follows r s t prologue E2 a (Goes l b) → CallIsAt r t continues E3 b × (b ≡ a)
-to_e3 r s t prologue l a b h f = let e : b ≡ a = same_push l E3 b a f.leads_to in (subst (CallIsAt r t continues E3) (sym e) (after_e2 r s t prologue f.found a h f.did), e)
+to_e3 r s t prologue l a b h f = let e : b ≡ a = same_registers l E3 b a f.leads_to in (subst (CallIsAt r t continues E3) (sym e) (after_e2 r s t prologue f.found a h f.did), e)
 
 -- a word was found worn out at the last of some lines, no turn having failed
 module _ (r : Arena) (s u t : Seat) (l : Line) (n : ℕ) (a : Running) (h : CallIsAt r u continues l a) (d : DidStep r u t continues l n) (before : List Event) (w : ExtendsPath (view s) (view u) before) where
@@ -55,7 +48,7 @@ module _ (r : Arena) (s u t : Seat) (l : Line) (n : ℕ) (a : Running) (h : Call
       }
 
 -- E2 and E3
-module _ (r : Arena) (s u t : Seat) (prologue : Prologue) (l : Line) (a b : Running) (out : Outcome) (h : CallIsAt r s prologue E2 a) (f : Follows r s u prologue E2 a (Goes l b)) (g : Follows r u t continues E3 b out) where
+module _ (r : Arena) (s u t : Seat) (prologue : Prologue) (l : Line) (a b : Running) (out : Outcome Running) (h : CallIsAt r s prologue E2 a) (f : Follows r s u prologue E2 a (Goes l b)) (g : Follows r u t continues E3 b out) where
   abbrev one : Event
   one = event r s u prologue E2 f.found f.did
 
@@ -68,11 +61,13 @@ module _ (r : Arena) (s u t : Seat) (prologue : Prologue) (l : Line) (a b : Runn
   at : CallIsAt r u continues E3 b × (b ≡ a)
   at = to_e3 r s u prologue l a b h f
 
-  filled : (o : Outcome) → Third r u t continues g.found b at.0 g.did o → Filled r s t a (one ∷ two ∷ []) o
+  filled : (o : Outcome Running) → Third r u t continues g.found b at.0 g.did o → Filled r s t a (one ∷ two ∷ []) o
   filled (Goes E5 c) k = (k.0, k.1 ∙ ap (λ (x : Running). x.node) at.1, k.2 ∙ ap (λ (x : Running). x.val) at.1, refl)
   filled (Goes _ c) k = absurd k
-  filled Done k = absurd k
-  filled (Refused why) k = found_worn r s u t E3 g.found b at.0 g.did (one ∷ []) first None OfNext why refl k
+  filled (Ends IsDone) k = absurd k
+  filled (Ends (IsValue word)) k = absurd k
+  filled (Ends IsEmpty) k = absurd k
+  filled (Ends (IsRefused why)) k = found_worn r s u t E3 g.found b at.0 g.did (one ∷ []) first None OfNext why refl k
 
   pub fills : Fills r s t a out
   fills =
@@ -86,13 +81,13 @@ module _ (r : Arena) (s u t : Seat) (prologue : Prologue) (l : Line) (a b : Runn
 -- after E5
 pub to_e6 : (r : Arena) (s t : Seat) (l : Line) (a b : Running) → CallIsAt r s continues E5 a → Follows r s t continues E5 a (Goes l b) → CallIsAt r t continues E6 b × (in_hand b ≡ in_hand a) × (b.val ≡ a.val)
 to_e6 r s t l a b h f =
-    let e = same_push l E6 b (record a { tail = ref_of f.found }) f.leads_to in
+    let e = same_registers l E6 b (record a { tail = ref_of f.found }) f.leads_to in
     (subst (CallIsAt r t continues E6) (sym e) (after_e5 r s t continues f.found a h f.did), ap in_hand e, ap (λ (x : Running). x.val) e)
 
 -- after E6
 pub to_e7 : (r : Arena) (s t : Seat) (l : Line) (a b : Running) → CallIsAt r s continues E6 a → Follows r s t continues E6 a (Goes l b) → CallIsAt r t continues E7 b × (in_hand b ≡ in_hand a) × (b.val ≡ a.val)
 to_e7 r s t l a b h f =
-    let e = same_push l E7 b (record a { next = ref_of f.found }) f.leads_to in
+    let e = same_registers l E7 b (record a { next = ref_of f.found }) f.leads_to in
     (subst (CallIsAt r t continues E7) (sym e) (after_e6 r s t continues f.found a h f.did), ap in_hand e, ap (λ (x : Running). x.val) e)
 
 -- a push before E5 stands there with any registers of the same node, mark and value
@@ -120,7 +115,7 @@ module _ (r : Arena) (s t : Seat) (l : Line) (n : ℕ) (d : DidStep r s t contin
   went_on o e z = let f = failed_snoc before (event r s t continues l n d) in let g = ap (failed_at l) (to_is r s t continues l n d ∙ e) ∙ q o ∙ z in omega arith
 
 -- E5 to E7
-module _ (r : Arena) (s u v t : Seat) (l k : Line) (a b c : Running) (out : Outcome) (h : CallIsAt r s continues E5 a) (f : Follows r s u continues E5 a (Goes l b)) (g : Follows r u v continues E6 b (Goes k c)) (m : Follows r v t continues E7 c out) where
+module _ (r : Arena) (s u v t : Seat) (l k : Line) (a b c : Running) (out : Outcome Running) (h : CallIsAt r s continues E5 a) (f : Follows r s u continues E5 a (Goes l b)) (g : Follows r u v continues E6 b (Goes k c)) (m : Follows r v t continues E7 c out) where
   abbrev five : Event
   five = event r s u continues E5 f.found f.did
 
@@ -151,13 +146,15 @@ module _ (r : Arena) (s u v t : Seat) (l k : Line) (a b c : Running) (out : Outc
   no_turn : (o : Option Line) → (view t).actor.line ≡ o → at_e5 o ≡ 0 → failed_turns (before ++ seven ∷ []) ≡ 0
   no_turn o e z = went_on r v t E7 m.found m.did before refl (λ q. refl) o e z
 
-  looked : (o : Outcome) → Seventh r v t continues m.found c at7.0 m.did o → Looked r s t a (before ++ seven ∷ []) o
+  looked : (o : Outcome Running) → Seventh r v t continues m.found c at7.0 m.did o → Looked r s t a (before ++ seven ∷ []) o
   looked (Goes E9 x) y = record { stands = y.0; hand = ap in_hand y.1 ∙ hand; val = ap (λ (z : Running). z.val) y.1 ∙ val; never = no_turn (Some E9) y.0.before.line refl }
   looked (Goes E13 x) y = record { stands = y.0; hand = ap in_hand y.1 ∙ hand; val = ap (λ (z : Running). z.val) y.1 ∙ val; never = no_turn (Some E13) y.0.before.line refl }
   looked (Goes E5 x) y = slips r v t E7 m.found m.did before refl (λ o. refl) a (stands_e5 r t a x (ap in_hand y.1 ∙ hand) (ap (λ (z : Running). z.val) y.1 ∙ val) y.0)
   looked (Goes _ x) y = absurd y
-  looked Done y = absurd y
-  looked (Refused why) y =
+  looked (Ends IsDone) y = absurd y
+  looked (Ends (IsValue word)) y = absurd y
+  looked (Ends IsEmpty) y = absurd y
+  looked (Ends (IsRefused why)) y =
       subst (λ p. FoundWorn r s t (Some p) (before ++ seven ∷ []) OfTail why) hand
       (found_worn r s v t E7 m.found c at7.0 m.did before two_lines (Some (in_hand c)) OfTail why (no_turn None y.over refl) y)
 
@@ -171,28 +168,34 @@ module _ (r : Arena) (s u v t : Seat) (l k : Line) (a b c : Running) (out : Outc
       }
 
 -- E9, and E17 where it is to be made
-module _ (r : Arena) (s t : Seat) (a : Running) (out : Outcome) (h : CallIsAt r s continues E9 a) (f : Follows r s t continues E9 a out) where
+module _ (r : Arena) (s t : Seat) (a : Running) (out : Outcome Running) (h : CallIsAt r s continues E9 a) (f : Follows r s t continues E9 a out) where
   abbrev nine : Event
   nine = event r s t continues E9 f.found f.did
 
   ninth : Ninth r s t continues f.found a h f.did out
   ninth = subst (Ninth r s t continues f.found a h f.did) (sym f.leads_to) (after_e9 r s t continues f.found a h f.did)
 
-  at_ninth : (o : Outcome) → out ≡ o → Ninth r s t continues f.found a h f.did o
+  at_ninth : (o : Outcome Running) → out ≡ o → Ninth r s t continues f.found a h f.did o
   at_ninth o e = subst (Ninth r s t continues f.found a h f.did) e ninth
 
   acts : entries_at r.plan.setup f.did.told.was (view s).number (view s).actor E9 ≡ Push (view s).number (view s).actor.val.body ∷ [] → Acts (view s) (view t) (Push (view s).number (value_of a.val).body) (nine ∷ [])
   acts won = act_on r s t continues E9 f.found f.did (Push (view s).number (value_of a.val).body) (won ∙ ap (λ (v : Taken). Push (view s).number v.body ∷ []) h.hand.val) tt
 
   -- it was the last line, since Tail is worn out
-  pub links_last : out ≡ Done → Turns r s t a Pushed
+  links_last : out ≡ Ends IsDone → Turns r s t a Pushed
   links_last e =
-      let k = at_ninth Done e in
+      let k = at_ninth (Ends IsDone) e in
       record {
         stored = f.did.stored;
         lines = nine ∷ [];
         turned = record { seat = f.did.seat; over = k.0; empty = k.1; never = went_on r s t E9 f.found f.did [] refl (λ o. refl) None k.0 refl; acts = acts k.2 };
       }
+
+  pub links_ended : (answer : Reply) → out ≡ Ends answer → Turns r s t a Pushed
+  links_ended IsDone e = links_last e
+  links_ended (IsValue word) e = absurd (at_ninth (Ends (IsValue word)) e)
+  links_ended IsEmpty e = absurd (at_ninth (Ends IsEmpty) e)
+  links_ended (IsRefused why) e = absurd (at_ninth (Ends (IsRefused why)) e)
 
   -- it was lost
   pub links_not : (l : Line) (b : Running) → out ≡ Goes l b → (l ≡ E17 → ⊥) → Turns r s t a Failed
@@ -215,7 +218,7 @@ module _ (r : Arena) (s t : Seat) (a : Running) (out : Outcome) (h : CallIsAt r 
   to_e17 l b e is = (at_ninth (Goes E17 b) (e ∙ ap (λ k. Goes k b) is)).0
 
   -- it was won, and E17 was made
-  pub links : (u : Seat) (l : Line) (b : Running) (last : Outcome) → out ≡ Goes l b → l ≡ E17 → Follows r t u continues E17 b last → Turns r s u a Pushed
+  pub links : (u : Seat) (l : Line) (b : Running) (last : Outcome Running) → out ≡ Goes l b → l ≡ E17 → Follows r t u continues E17 b last → Turns r s u a Pushed
   links u l b last e is g =
       let k = at_ninth (Goes E17 b) (e ∙ ap (λ k. Goes k b) is) in
       let over = after_e17 r t u continues g.found b k.0 g.did in
@@ -232,12 +235,27 @@ module _ (r : Arena) (s t : Seat) (a : Running) (out : Outcome) (h : CallIsAt r 
       }
 
 -- a whole turn
-module _ (r : Arena) (s t : Seat) (a : Running) (out : Outcome) (f : Looks r s t a out) where
-  looked_as : (o : Outcome) → out ≡ o → Looked r s t a f.lines o
+module _ (r : Arena) (s t : Seat) (a : Running) (out : Outcome Running) (f : Looks r s t a out) where
+  looked_as : (o : Outcome Running) → out ≡ o → Looked r s t a f.lines o
   looked_as o e = subst (Looked r s t a f.lines) e f.looked
 
+  -- it comes to E9
+  pub turn_at_e9 : (l : Line) (c : Running) → out ≡ Goes l c → l ≡ E9 → CallIsAt r t continues E9 c
+  turn_at_e9 l c e is = (looked_as (Goes E9 c) (e ∙ ap (λ k. Goes k c) is)).stands
+
+  -- Tail was worn out
+  pub turn_worn : (why : Refusal) → out ≡ Ends (IsRefused why) → Turns r s t a (TurnRefused why)
+  turn_worn why e = record { stored = f.stored; lines = f.lines; turned = (f.walks, looked_as (Ends (IsRefused why)) e) }
+
+  -- it ends in no other way
+  pub turn_ended : (answer : Reply) → ((why : Refusal) → answer ≡ IsRefused why → ⊥) → out ≡ Ends answer → Turns r s t a Failed
+  turn_ended IsDone other e = absurd (looked_as (Ends IsDone) e)
+  turn_ended (IsValue word) other e = absurd (looked_as (Ends (IsValue word)) e)
+  turn_ended IsEmpty other e = absurd (looked_as (Ends IsEmpty) e)
+  turn_ended (IsRefused why) other e = absurd (other why refl)
+
   -- Tail was swung
-  pub turn_swings : (u : Seat) (l : Line) (c : Running) (last : Outcome) → out ≡ Goes l c → l ≡ E13 → Follows r t u continues E13 c last → Turns r s u a Failed
+  pub turn_swings : (u : Seat) (l : Line) (c : Running) (last : Outcome Running) → out ≡ Goes l c → l ≡ E13 → Follows r t u continues E13 c last → Turns r s u a Failed
   turn_swings u l c last e is g =
       let k = looked_as (Goes E13 c) (e ∙ ap (λ k. Goes k c) is) in
       let at = after_e13 r t u continues g.found c k.stands g.did in

@@ -23,11 +23,10 @@ use Rattle.node_arena.specs.Paths.{ExtendsPath, Acts, FailedAt, EndedAt, IsRefus
 use Rattle.node_arena.specs.Machine.{value_of}
 use Rattle.arena_queue.specs.Answers.{Draws}
 use Rattle.nonblocking.specs.Worn.{pop_worn}
+use Rattle.arena_lines.specs.declared.outcomes.Outcome.{Outcome}
+use Rattle.arena_lines.specs.declared.outcomes.Outcome.TheVariants.{Goes, Ends}
+use Rattle.arena_lines.specs.declared.outcomes.Reply.TheVariants.{Value as IsValue, Empty as IsEmpty, Refused as IsRefused}
 use Rattle.nonblocking.specs.declared.pop_outcomes.Actor.{Actor as Running}
-use Rattle.nonblocking.specs.declared.pop_outcomes.Reply.{Reply}
-use Rattle.nonblocking.specs.declared.pop_outcomes.Reply.TheVariants.{Value as IsValue, Empty as IsEmpty}
-use Rattle.nonblocking.specs.declared.pop_outcomes.Outcome.{Outcome}
-use Rattle.nonblocking.specs.declared.pop_outcomes.Outcome.TheVariants.{Goes, Empty, Refused}
 use Rattle.nonblocking.specs.declared.pop_outcomes.Turn.{Turn}
 use Rattle.nonblocking.specs.declared.pop_outcomes.Turn.TheVariants as turn
 
@@ -36,27 +35,22 @@ abbrev pub popping : ℕ → Prologue
 popping zero = begins Deq
 popping (suc n) = continues
 
--- where a pop goes that has its reply: a value's node is freed, and else the call ends
-abbrev pub ended_as : Reply → Running → Outcome
-ended_as (IsValue word) a = Goes F1 a
-ended_as IsEmpty a = Empty
-
 -- what a running pop makes of the number found at a line
-abbrev pub follow : Setup → Running → Line → ℕ → Outcome
+abbrev pub follow : Setup → Running → Line → ℕ → Outcome Running
 follow z a D2 n = Goes D3 (record a { head = ref_of n })
 follow z a D3 n = Goes D4 (record a { tail = ref_of n })
 follow z a D4 n = Goes D5 (record a { next = ref_of n })
 follow z a D5 n =
     if same_ref (ref_of n) a.head
     then if nat_eq a.head.node a.tail.node
-    then if is_null a.next then Empty
-    else if nat_eq a.tail.count z.limit then Refused (WornOut OfTail)
+    then if is_null a.next then Ends IsEmpty
+    else if nat_eq a.tail.count z.limit then Ends (IsRefused (WornOut OfTail))
     else Goes D10 a
     else Goes D12 a
     else Goes D2 a
 follow z a D10 n = Goes D2 a
 follow z a D12 n =
-    if nat_eq a.head.count z.limit then Refused (WornOut OfHead) else Goes D13 (record a { val = n })
+    if nat_eq a.head.count z.limit then Ends (IsRefused (WornOut OfHead)) else Goes D13 (record a { val = n })
 follow z a D13 n =
     if same_ref (ref_of n) a.head
     then Goes F1 (record a { node = a.head.node; mark = a.next.count; due = Some (IsValue a.val) })
@@ -68,11 +62,12 @@ abbrev pub in_hand : Running → Held
 in_hand a = record { node = a.node; mark = a.mark }
 
 -- the turn that ends so: a value was taken where its node is to be freed, and the turn failed where it goes on elsewhere
-abbrev pub turn_of : Outcome → Turn
+abbrev pub turn_of : Outcome Running → Turn
 turn_of (Goes F1 a) = turn.Took a.val (in_hand a)
 turn_of (Goes l a) = turn.Failed
-turn_of Empty = turn.Empty
-turn_of (Refused why) = turn.Refused why
+turn_of (Ends IsEmpty) = turn.Empty
+turn_of (Ends (IsRefused why)) = turn.Refused why
+turn_of (Ends reply) = turn.Failed
 
 -- which of its actor's registers a running pop has before a line
 abbrev pub AgreesAt : Line → Actor → Running → Type 0
@@ -90,7 +85,7 @@ pub record CallIsAt (r : Arena) (s : Seat) (prologue : Prologue) (l : Line) (a :
   pub knows : AgreesAt l (after_prologue r.plan.setup (view s).number prologue (view s).actor) a
 
 -- the seat made its step at a line, and the call made of the number found what the line says
-pub record Follows (r : Arena) (s t : Seat) (prologue : Prologue) (l : Line) (a : Running) (out : Outcome) : Type 0 where
+pub record Follows (r : Arena) (s t : Seat) (prologue : Prologue) (l : Line) (a : Running) (out : Outcome Running) : Type 0 where
   pub found : ℕ
   pub did : DidStep r s t prologue l found
   pub leads_to : out ≡ follow r.plan.setup a l found
@@ -133,16 +128,17 @@ pub record GoesOn (r : Arena) (s t : Seat) (es : List Event) (l : Line) (a : Run
   pub never : failed_turns es ≡ 0
 
 -- what the lines D2 to D5 come to
-abbrev pub Looked : Arena → Seat → Seat → List Event → Outcome → Type 0
+abbrev pub Looked : Arena → Seat → Seat → List Event → Outcome Running → Type 0
 Looked r s t es (Goes D2 a) = Fell r s t es
 Looked r s t es (Goes D10 a) = GoesOn r s t es D10 a
 Looked r s t es (Goes D12 a) = GoesOn r s t es D12 a
 Looked r s t es (Goes l a) = ⊥
-Looked r s t es Empty = SawEmpty s t es
-Looked r s t es (Refused why) = SawWorn r s t es why
+Looked r s t es (Ends IsEmpty) = SawEmpty s t es
+Looked r s t es (Ends (IsRefused why)) = SawWorn r s t es why
+Looked r s t es (Ends reply) = ⊥
 
 -- the lines D2 to D5
-pub record Looks (r : Arena) (s t : Seat) (out : Outcome) : Type 0 where
+pub record Looks (r : Arena) (s t : Seat) (out : Outcome Running) : Type 0 where
   pub seat : IsSeat r t
   pub empty : (view t).actor.pocket ≡ None
   pub stored : KeepsStored s t

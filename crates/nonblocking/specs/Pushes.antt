@@ -17,10 +17,10 @@ use Rattle.node_arena.specs.Seats.{IsSeat, IsBefore, KeepsStored, DidStep, view}
 use Rattle.node_arena.specs.Turns.{failed_turns}
 use Rattle.node_arena.specs.Paths.{ExtendsPath, Acts, FailedAt, EndedAt, IsRefusedAt}
 use Rattle.node_arena.specs.Machine.{value_of}
+use Rattle.arena_lines.specs.declared.outcomes.Outcome.{Outcome}
+use Rattle.arena_lines.specs.declared.outcomes.Outcome.TheVariants.{Goes, Ends}
+use Rattle.arena_lines.specs.declared.outcomes.Reply.TheVariants.{Done as IsDone, Refused as IsRefused}
 use Rattle.nonblocking.specs.declared.push_outcomes.Actor.{Actor as Running}
-use Rattle.nonblocking.specs.declared.push_outcomes.Reply.TheVariants.{Done as IsDone}
-use Rattle.nonblocking.specs.declared.push_outcomes.Outcome.{Outcome}
-use Rattle.nonblocking.specs.declared.push_outcomes.Outcome.TheVariants.{Goes, Done, Refused}
 use Rattle.nonblocking.specs.declared.push_outcomes.Turn.{Turn}
 use Rattle.nonblocking.specs.declared.push_outcomes.Turn.TheVariants.{Pushed, Failed, Refused as TurnRefused}
 
@@ -33,26 +33,26 @@ abbrev pub in_hand : Running → Held
 in_hand a = record { node = a.node; mark = a.mark }
 
 -- what a running push makes of the number found at a line
-abbrev pub follow : Setup → Running → Line → ℕ → Outcome
+abbrev pub follow : Setup → Running → Line → ℕ → Outcome Running
 follow z a E2 n = Goes E3 a
 follow z a E3 n =
     let b = record a { mark = (ref_of n).count } in
-    if nat_eq (ref_of n).count z.limit then Refused (WornOut OfNext) else Goes E5 b
+    if nat_eq (ref_of n).count z.limit then Ends (IsRefused (WornOut OfNext)) else Goes E5 b
 follow z a E5 n = Goes E6 (record a { tail = ref_of n })
 follow z a E6 n = Goes E7 (record a { next = ref_of n })
 follow z a E7 n =
     if same_ref (ref_of n) a.tail
     then if is_null a.next then Goes E9 a
-    else if nat_eq a.tail.count z.limit then Refused (WornOut OfTail)
+    else if nat_eq a.tail.count z.limit then Ends (IsRefused (WornOut OfTail))
     else Goes E13 a
     else Goes E5 a
 follow z a E9 n =
     let b = record a { due = Some IsDone } in
     if same_ref (ref_of n) a.next
-    then if nat_eq a.tail.count z.limit then Done else Goes E17 b
+    then if nat_eq a.tail.count z.limit then Ends IsDone else Goes E17 b
     else Goes E5 a
 follow z a E13 n = Goes E5 a
-follow z a E17 n = Done
+follow z a E17 n = Ends IsDone
 follow z a l n = Goes l a
 
 -- a running push has the node in its actor's hand, with its mark, and the word of the value
@@ -75,7 +75,7 @@ pub record CallIsAt (r : Arena) (s : Seat) (prologue : Prologue) (l : Line) (a :
   pub knows : AgreesAt l (after_prologue r.plan.setup (view s).number prologue (view s).actor) a
 
 -- the seat made its step at a line, and the call made of the number found what the line says
-pub record Follows (r : Arena) (s t : Seat) (prologue : Prologue) (l : Line) (a : Running) (out : Outcome) : Type 0 where
+pub record Follows (r : Arena) (s t : Seat) (prologue : Prologue) (l : Line) (a : Running) (out : Outcome Running) : Type 0 where
   pub found : ℕ
   pub did : DidStep r s t prologue l found
   pub leads_to : out ≡ follow r.plan.setup a l found
@@ -111,30 +111,30 @@ pub record Linked (r : Arena) (s t : Seat) (a : Running) (es : List Event) : Typ
   pub acts : Acts (view s) (view t) (Push (view s).number (value_of a.val).body) es
 
 -- what E2 and E3 come to: the node is ready, or set aside
-abbrev pub Filled : Arena → Seat → Seat → Running → List Event → Outcome → Type 0
+abbrev pub Filled : Arena → Seat → Seat → Running → List Event → Outcome Running → Type 0
 Filled r s t a es (Goes E5 c) = CallIsAt r t continues E5 c × (c.node ≡ a.node) × (c.val ≡ a.val) × (failed_turns es ≡ 0)
 Filled r s t a es (Goes l c) = ⊥
-Filled r s t a es Done = ⊥
-Filled r s t a es (Refused why) = FoundWorn r s t None es OfNext why
+Filled r s t a es (Ends (IsRefused why)) = FoundWorn r s t None es OfNext why
+Filled r s t a es (Ends reply) = ⊥
 
 -- the value is written into the node, and its next is cleared: E2 and E3
-pub record Fills (r : Arena) (s t : Seat) (a : Running) (out : Outcome) : Type 0 where
+pub record Fills (r : Arena) (s t : Seat) (a : Running) (out : Outcome Running) : Type 0 where
   pub stored : KeepsStored s t
   pub lines : List Event
   pub walks : ExtendsPath (view s) (view t) lines
   pub filled : Filled r s t a lines out
 
 -- what E5 to E7 come to
-abbrev pub Looked : Arena → Seat → Seat → Running → List Event → Outcome → Type 0
+abbrev pub Looked : Arena → Seat → Seat → Running → List Event → Outcome Running → Type 0
 Looked r s t a es (Goes E9 c) = Comes r t E9 a c es
 Looked r s t a es (Goes E13 c) = Comes r t E13 a c es
 Looked r s t a es (Goes E5 c) = Slipped r t a es
 Looked r s t a es (Goes l c) = ⊥
-Looked r s t a es Done = ⊥
-Looked r s t a es (Refused why) = FoundWorn r s t (Some (in_hand a)) es OfTail why
+Looked r s t a es (Ends (IsRefused why)) = FoundWorn r s t (Some (in_hand a)) es OfTail why
+Looked r s t a es (Ends reply) = ⊥
 
 -- Tail was read, and what follows its node: E5 to E7
-pub record Looks (r : Arena) (s t : Seat) (a : Running) (out : Outcome) : Type 0 where
+pub record Looks (r : Arena) (s t : Seat) (a : Running) (out : Outcome Running) : Type 0 where
   pub stored : KeepsStored s t
   pub lines : List Event
   pub walks : ExtendsPath (view s) (view t) lines

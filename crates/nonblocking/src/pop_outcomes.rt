@@ -1,10 +1,10 @@
-//! What a running pop remembers, and the words of the line table's third column for it.
+//! What a running pop remembers, and what its turns come to.
 ghost use Rattle.std.specs.Prelude.{◌≡◌};
-ghost use Rattle.history.specs.declared.refusals.Refusal.TheVariants.{WornOut};
-ghost use Rattle.nonblocking.specs.Pops.{ended_as, turn_of};
+ghost use Rattle.nonblocking.specs.Pops.{turn_of};
 
+use arena_lines::{Outcome, Reply};
 use counted_ref::CountedRef;
-use history::{Refusal, WornWord};
+use history::Refusal;
 use line_table::Line;
 use node_arena::Held;
 
@@ -19,25 +19,6 @@ pub(crate) struct Actor {
     pub(crate) node: u32,
     pub(crate) mark: u64,
     pub(crate) due: Option<Reply>,
-}
-
-/// What a pop is told.
-#[derive(Clone, Copy)]
-pub(crate) enum Reply {
-    /// The value of this word.
-    Value(u64),
-    Empty,
-}
-
-/// What a line leads to.
-#[derive(Drop)]
-pub(crate) enum Outcome {
-    /// The call goes on at a line.
-    Goes(Line, Actor),
-    /// The queue was empty.
-    Empty,
-    /// The call ends with a refusal.
-    Refused(Refusal),
 }
 
 /// What a turn comes to.
@@ -67,42 +48,6 @@ pub(crate) fn blank() -> Actor {
     }
 }
 
-pub(crate) fn goes(line: Line, a: Actor) -> Outcome
-    ensures { result ≡ Outcome.Goes line a }
-{
-    Outcome::Goes(line, a)
-}
-
-/// The pop takes effect here.
-pub(crate) fn effect(outcome: Outcome) -> Outcome
-    ensures { result ≡ outcome }
-{
-    outcome
-}
-
-/// The pop takes effect here, if the queue turns out to be empty.
-pub(crate) fn notes(outcome: Outcome) -> Outcome
-    ensures { result ≡ outcome }
-{
-    outcome
-}
-
-pub(crate) fn ends(reply: Reply, a: Actor) -> Outcome
-    ensures { result ≡ ended_as reply a }
-{
-    match reply {
-        Reply::Value(_) => Outcome::Goes(Line::F1, a),
-        Reply::Empty => Outcome::Empty,
-    }
-}
-
-pub(crate) fn worn(word: WornWord, a: Actor) -> Outcome
-    ensures { result ≡ Outcome.Refused (WornOut word) }
-{
-    let _ = a;
-    Outcome::Refused(Refusal::WornOut(word))
-}
-
 impl Actor {
     pub(crate) fn fills_hand(&mut self, node: u32, mark: u64)
         ensures { self.new ≡ record self.old { node = node; mark = mark } }
@@ -113,7 +58,7 @@ impl Actor {
 }
 
 /// The turn that ends so.
-pub(crate) fn turned(outcome: Outcome) -> Turn
+pub(crate) fn turned(outcome: Outcome<Actor>) -> Turn
     ensures { result ≡ turn_of outcome }
 {
     match outcome {
@@ -124,8 +69,8 @@ pub(crate) fn turned(outcome: Outcome) -> Turn
                 mark: a.mark,
             },
         ),
-        Outcome::Goes(..) => Turn::Failed,
-        Outcome::Empty => Turn::Empty,
-        Outcome::Refused(why) => Turn::Refused(why),
+        Outcome::Ends(Reply::Empty) => Turn::Empty,
+        Outcome::Ends(Reply::Refused(why)) => Turn::Refused(why),
+        Outcome::Goes(..) | Outcome::Ends(_) => Turn::Failed,
     }
 }

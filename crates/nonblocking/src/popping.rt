@@ -10,27 +10,22 @@ ghost use Rattle.nonblocking.specs.Worn.{pop_worn};
 ghost use Rattle.arena_queue.specs.Answers.{Draws};
 
 use crate::pop_lines::{d2, d3, d4, d5, d10, d12, d13};
-use crate::pop_outcomes::{Actor, Outcome, Turn, blank, turned};
+use crate::pop_outcomes::{Actor, Turn, blank, turned};
+use arena_lines::Outcome;
 use free_list::give_back;
 use history::{Refusal, Taken};
 use line_table::Line;
 use node_arena::{Arena, Seat, value_of};
 
 // The lines D2 to D5, where `index` turns of this pop failed before: Head, Tail, the node after Head's, and Head again.
-fn look(arena: &Arena, seat: &mut Seat, index: u32) -> Outcome
+fn read_front(arena: &Arena, seat: &mut Seat, index: u32) -> Outcome<Actor>
     requires before { IsBefore arena.now seat.old (popping index) lines.D2 }
     requires non_blocking { IsNonBlocking arena.now }
     ensures { Looks arena.now seat.old seat.new result }
 {
-    let Outcome::Goes(_, a) = d2(arena, seat, blank(), index) else {
-        unreachable!()
-    };
-    let Outcome::Goes(_, a) = d3(arena, seat, a) else {
-        unreachable!()
-    };
-    let Outcome::Goes(_, a) = d4(arena, seat, a) else {
-        unreachable!()
-    };
+    let a = d2(arena, seat, blank(), index);
+    let a = d3(arena, seat, a);
+    let a = d4(arena, seat, a);
     d5(arena, seat, a)
 }
 
@@ -48,24 +43,28 @@ fn move_head(arena: &Arena, seat: &mut Seat, a: Actor) -> Turn
 }
 
 // One turn, where `index` turns of this pop failed before.
-fn turn(arena: &Arena, seat: &mut Seat, index: u32) -> Turn
+fn pop_turn(arena: &Arena, seat: &mut Seat, index: u32) -> Turn
     requires before { IsBefore arena.now seat.old (popping index) lines.D2 }
     requires non_blocking { IsNonBlocking arena.now }
     requires role { IsTrue (may_pop (role_of seat.old)) }
     ensures { Turns arena.now seat.old seat.new result }
 {
-    match look(arena, seat, index) {
-        Outcome::Goes(Line::D10, a) => turned(d10(arena, seat, a)),
-        Outcome::Goes(Line::D12, a) => move_head(arena, seat, a),
-        Outcome::Goes(..) => Turn::Failed,
-        Outcome::Empty => Turn::Empty,
-        Outcome::Refused(why) => Turn::Refused(why),
+    match read_front(arena, seat, index) {
+        Outcome::Goes(next, a) => match next {
+            Line::D10 => {
+                d10(arena, seat, a);
+                Turn::Failed
+            }
+            Line::D12 => move_head(arena, seat, a),
+            _ => Turn::Failed,
+        },
+        outcome => turned(outcome),
     }
 }
 
 // One turn and, where it ends the pop, the answer: a node that comes free is given back with the turns that are left.
 // Before it `index` turns of this pop failed, and `failed` of its call.
-fn attempt(
+fn pop_by_turn(
     arena: &Arena,
     seat: &mut Seat,
     index: u32,
@@ -78,7 +77,7 @@ fn attempt(
     requires turns { failed < turns }
     ensures { Tries arena.now seat.old seat.new failed turns result }
 {
-    match turn(arena, seat, index) {
+    match pop_turn(arena, seat, index) {
         Turn::Took(word, held) => {
             let taken = value_of(word);
             seat.keep(Some(held), failed);
@@ -98,7 +97,7 @@ fn attempt(
 }
 
 // The pop with an empty pocket, where `spent` turns of this call failed before.
-pub(crate) fn draw(
+pub(crate) fn pop_with_empty_pocket(
     arena: &Arena,
     seat: &mut Seat,
     spent: u32,
@@ -112,7 +111,7 @@ pub(crate) fn draw(
     ensures { Draws pop_worn arena.now seat.old seat.new spent turns result }
 {
     for index in 0..turns - spent {
-        if let Some(answer) = attempt(arena, seat, index, spent + index, turns) {
+        if let Some(answer) = pop_by_turn(arena, seat, index, spent + index, turns) {
             return answer;
         }
     }

@@ -1,11 +1,10 @@
-//! What a running push remembers, and the words of the line table's third column for it.
+//! What a running push remembers, and what its turns come to.
 ghost use Rattle.std.specs.Prelude.{◌≡◌, Some};
-ghost use Rattle.history.specs.declared.refusals.Refusal.TheVariants.{WornOut};
 ghost use Rattle.nonblocking.specs.Pushes.{registers_of};
 
+use arena_lines::Reply;
 use counted_ref::CountedRef;
-use history::{Refusal, WornWord};
-use line_table::Line;
+use history::Refusal;
 use node_arena::Held;
 
 /// The registers of a running push.
@@ -18,23 +17,6 @@ pub(crate) struct Actor {
     pub(crate) tail: CountedRef,
     pub(crate) next: CountedRef,
     pub(crate) due: Option<Reply>,
-}
-
-/// What a push that ends is told.
-#[derive(Clone, Copy)]
-pub(crate) enum Reply {
-    Done,
-}
-
-/// What a line leads to.
-#[derive(Drop)]
-pub(crate) enum Outcome {
-    /// The call goes on at a line.
-    Goes(Line, Actor),
-    /// The body was pushed.
-    Done,
-    /// The call ends with a refusal.
-    Refused(Refusal),
 }
 
 /// What a turn comes to.
@@ -61,47 +43,6 @@ pub(crate) fn registers(held: Held, val: u64) -> Actor
         next: null,
         due: None,
     }
-}
-
-pub(crate) fn goes(line: Line, a: Actor) -> Outcome
-    ensures { result ≡ Outcome.Goes line a }
-{
-    Outcome::Goes(line, a)
-}
-
-pub(crate) fn ends(reply: Reply, a: Actor) -> Outcome
-    ensures { result ≡ Outcome.Done }
-{
-    let _ = (reply, a);
-    Outcome::Done
-}
-
-pub(crate) fn worn(word: WornWord, a: Actor) -> Outcome
-    ensures { result ≡ Outcome.Refused (WornOut word) }
-{
-    let _ = a;
-    Outcome::Refused(Refusal::WornOut(word))
-}
-
-/// The same where the call keeps its node.
-pub(crate) fn worn_with_node(word: WornWord, a: Actor) -> Outcome
-    ensures { result ≡ Outcome.Refused (WornOut word) }
-{
-    worn(word, a)
-}
-
-/// The same where the node is set aside.
-pub(crate) fn worn_aside(word: WornWord, a: Actor) -> Outcome
-    ensures { result ≡ Outcome.Refused (WornOut word) }
-{
-    worn(word, a)
-}
-
-/// The push takes effect here.
-pub(crate) fn effect(outcome: Outcome) -> Outcome
-    ensures { result ≡ outcome }
-{
-    outcome
 }
 
 impl Actor {

@@ -11,111 +11,61 @@ ghost use Rattle.nonblocking.specs.Worn.{push_worn};
 ghost use Rattle.arena_queue.specs.Answers.{Puts};
 
 use crate::push_lines::{e2, e3, e5, e6, e7, e9, e13, e17};
-use crate::push_outcomes::{Actor, Outcome, Turn, registers};
+use crate::push_outcomes::{Actor, Turn, registers};
+use arena_lines::{Outcome, Reply};
 use history::{Body, Refusal};
 use line_table::Line;
 use node_arena::{Arena, Held, Seat, word_of};
 
 // The value is written into the node, and its next is cleared; the count found there is the mark.
-fn fill(arena: &Arena, seat: &mut Seat, a: Actor) -> Outcome
+fn fill(arena: &Arena, seat: &mut Seat, a: Actor) -> Outcome<Actor>
     ghost prologue: { Prologue }
     requires { CallIsAt arena.now seat.old prologue lines.E2 a }
     ensures { Fills arena.now seat.old seat.new a result }
 {
-    let Outcome::Goes(_, a) = e2(arena, seat, a) else {
-        unreachable!()
-    };
+    let a = e2(arena, seat, a);
     e3(arena, seat, a)
 }
 
 // Tail is read, what follows its node, and Tail again.
-fn look(arena: &Arena, seat: &mut Seat, a: Actor) -> Outcome
+fn read_tail(arena: &Arena, seat: &mut Seat, a: Actor) -> Outcome<Actor>
     requires { CallIsAt arena.now seat.old continues lines.E5 a }
     ensures { Looks arena.now seat.old seat.new a result }
 {
-    let Outcome::Goes(_, a) = e5(arena, seat, a) else {
-        unreachable!()
-    };
-    let Outcome::Goes(_, a) = e6(arena, seat, a) else {
-        unreachable!()
-    };
+    let a = e5(arena, seat, a);
+    let a = e6(arena, seat, a);
     e7(arena, seat, a)
 }
 
-// The node is linked behind the last one, and Tail goes on to it unless another seat was there first.
-fn link(arena: &Arena, seat: &mut Seat, a: Actor) -> Turn
-    requires stands { CallIsAt arena.now seat.old continues lines.E9 a }
-    requires role { IsTrue (may_push (role_of seat.old)) }
-    ensures { Turns arena.now seat.old seat.new a result }
-{
-    match e9(arena, seat, a) {
-        Outcome::Goes(next, a) => match next {
-            Line::E17 => {
-                e17(arena, seat, a);
-                Turn::Pushed
-            }
-            _ => Turn::Failed,
-        },
-        Outcome::Done => Turn::Pushed,
-        Outcome::Refused(_) => unreachable!(),
-    }
-}
-
-// One turn, from E5 to its end.
+// One turn, from E5 to its end. At E9 the node is linked behind the last one, and at E17 Tail goes on to it unless another
+// seat was there first.
 fn push_turn(arena: &Arena, seat: &mut Seat, a: Actor) -> Turn
     requires stands { CallIsAt arena.now seat.old continues lines.E5 a }
     requires role { IsTrue (may_push (role_of seat.old)) }
     ensures { Turns arena.now seat.old seat.new a result }
 {
-    match look(arena, seat, a) {
-        Outcome::Goes(next, a) => match next {
-            Line::E9 => link(arena, seat, a),
-            Line::E13 => {
-                e13(arena, seat, a);
-                Turn::Failed
-            }
-            _ => Turn::Failed,
+    match read_tail(arena, seat, a) {
+        Outcome::Goes(Line::E9, a) => match e9(arena, seat, a) {
+            Outcome::Goes(next, a) => match next {
+                Line::E17 => {
+                    e17(arena, seat, a);
+                    Turn::Pushed
+                }
+                _ => Turn::Failed,
+            },
+            Outcome::Ends(_) => Turn::Pushed,
         },
-        Outcome::Refused(why) => Turn::Refused(why),
-        Outcome::Done => unreachable!(),
-    }
-}
-
-// Turns with a node that is ready, until one pushes or is refused, or all failed. `spent` turns of this call failed
-// before.
-fn push_within(
-    arena: &Arena,
-    seat: &mut Seat,
-    held: Held,
-    val: u64,
-    spent: u32,
-    turns: u32,
-) -> Result<(), Refusal>
-    requires stands { CallIsAt arena.now seat.old continues lines.E5 (registers_of held val) }
-    requires role { IsTrue (may_push (role_of seat.old)) }
-    requires turns { spent < turns }
-    ensures { Puts push_worn arena.now seat.old seat.new
-        held.node (value_of val).body spent turns result }
-{
-    for index in spent..turns {
-        match push_turn(arena, seat, registers(held, val)) {
-            Turn::Pushed => {
-                seat.keep(None, index);
-                return Ok(());
-            }
-            Turn::Refused(why) => {
-                seat.keep(Some(held), index);
-                return Err(why);
-            }
-            Turn::Failed => {}
+        Outcome::Goes(Line::E13, a) => {
+            e13(arena, seat, a);
+            Turn::Failed
         }
+        Outcome::Ends(Reply::Refused(why)) => Turn::Refused(why),
+        Outcome::Goes(..) | Outcome::Ends(_) => Turn::Failed,
     }
-    seat.keep(Some(held), turns);
-    Err(Refusal::Busy)
 }
 
 // The push with the node in the pocket, where `spent` turns of this call failed before.
-pub(crate) fn put(
+pub(crate) fn push_node(
     arena: &Arena,
     seat: &mut Seat,
     held: Held,
@@ -131,16 +81,32 @@ pub(crate) fn put(
     ensures { Puts push_worn arena.now seat.old seat.new held.node body spent turns result }
 {
     let val = word_of(seat.number(), body.number());
-    match fill(arena, seat, registers(held, val)) {
-        Outcome::Goes(_, a) => {
-            let node = a.node;
-            let mark = a.mark;
-            push_within(arena, seat, Held { node, mark }, val, spent, turns)
+    let filled = match fill(arena, seat, registers(held, val)) {
+        Outcome::Goes(_, a) => Held {
+            node: a.node,
+            mark: a.mark,
+        },
+        Outcome::Ends(reply) => match reply {
+            Reply::Refused(why) => {
+                seat.keep(None, spent);
+                return Err(why);
+            }
+            _ => unreachable!(),
+        },
+    };
+    for index in spent..turns {
+        match push_turn(arena, seat, registers(filled, val)) {
+            Turn::Pushed => {
+                seat.keep(None, index);
+                return Ok(());
+            }
+            Turn::Refused(why) => {
+                seat.keep(Some(filled), index);
+                return Err(why);
+            }
+            Turn::Failed => {}
         }
-        Outcome::Refused(why) => {
-            seat.keep(None, spent);
-            Err(why)
-        }
-        Outcome::Done => unreachable!(),
     }
+    seat.keep(Some(filled), turns);
+    Err(Refusal::Busy)
 }

@@ -22,29 +22,20 @@ use Rattle.node_arena.proofs.Known.{empty_before}
 use Rattle.node_arena.proofs.Empties.{empty_where_noted}
 use Rattle.node_arena.proofs.Paths.{walk_then, then_act, act_then, then_stored, event, walk_on, pass_on, act_on, stopped_at}
 use Rattle.node_arena.specs.Machine.{value_of}
+use Rattle.arena_lines.specs.declared.outcomes.Outcome.{Outcome}
+use Rattle.arena_lines.specs.declared.outcomes.Outcome.TheVariants.{Goes, Ends}
+use Rattle.arena_lines.specs.declared.outcomes.Reply.{Reply}
+use Rattle.arena_lines.specs.declared.outcomes.Reply.TheVariants.{Value as IsValue, Empty as IsEmpty, Refused as IsRefused}
 use Rattle.two_lock.specs.declared.pop_outcomes.Actor.{Actor as Running}
-use Rattle.two_lock.specs.declared.pop_outcomes.Reply.{Reply}
-use Rattle.two_lock.specs.declared.pop_outcomes.Reply.TheVariants.{Value as IsValue, Empty as IsEmpty, Refused as IsRefused}
-use Rattle.two_lock.specs.declared.pop_outcomes.Outcome.{Outcome}
-use Rattle.two_lock.specs.declared.pop_outcomes.Outcome.TheVariants.{Goes, Empty, Refused}
 use Rattle.two_lock.specs.Pops.{told_by, unlocked_as, CallIsAt, Follows, Fronts}
+use Rattle.arena_lines.proofs.Registers.{same_registers}
 use Rattle.two_lock.proofs.PopStands.{stands_next}
 
-actor_or : Running → Outcome → Running
-actor_or d (Goes l a) = a
-actor_or d Empty = d
-actor_or d (Refused why) = d
-
-line_or : Line → Outcome → Line
+line_or : Line → Outcome Running → Line
 line_or d (Goes l a) = l
-line_or d Empty = d
-line_or d (Refused why) = d
+line_or d (Ends reply) = d
 
--- outcomes that are the same go on with the same registers, at the same line
-pub same_pop : (l k : Line) (a b : Running) → Goes l a ≡ Goes k b → a ≡ b
-unfolding actor_or
-same_pop l k a b e = ap (actor_or a) e
-
+-- outcomes that are the same go on at the same line
 pub same_line : (l k : Line) (a b : Running) → Goes l a ≡ Goes k b → l ≡ k
 unfolding line_or
 same_line l k a b e = ap (line_or l) e
@@ -69,7 +60,7 @@ pub found_null : (r : Arena) (s t : Seat) (l : Line) (a b : Running) → (f : Fo
 found_null r s t l a b f is = go (is_null (ref_of f.found)) refl f.leads_to
   where
     go : (p : Bool) → is_null (ref_of f.found) ≡ p → Goes l b ≡ (let c = record a { next = ref_of f.found } in if p then Goes B6 (record c { due = Some IsEmpty }) else Goes B4 c) → ((ref_of f.found).node ≡ 0) × (b.due ≡ Some IsEmpty)
-    go true null e = (eqb-true (ref_of f.found).node 0 null, ap (λ (x : Running). x.due) (same_pop l B6 b _ e))
+    go true null e = (eqb-true (ref_of f.found).node 0 null, ap (λ (x : Running). x.due) (same_registers l B6 b _ e))
     go false null e = absurd (let g : B6 ≡ B4 = sym is ∙ same_line l B4 b _ e in cc)
 
 -- after B4: Head is worn out, or it can be moved
@@ -88,7 +79,7 @@ pub found_worn : (r : Arena) (s t : Seat) (l : Line) (a b : Running) → Follows
 found_worn r s t l a b f is = go (nat_eq a.head.count r.plan.setup.limit) f.leads_to
   where
     go : (p : Bool) → Goes l b ≡ (let c = record a { val = f.found } in if p then Goes B6 (record c { due = Some (IsRefused (WornOut OfHead)) }) else Goes B5 c) → b.due ≡ Some (IsRefused (WornOut OfHead))
-    go true e = ap (λ (x : Running). x.due) (same_pop l B6 b _ e)
+    go true e = ap (λ (x : Running). x.due) (same_registers l B6 b _ e)
     go false e = absurd (let g : B6 ≡ B5 = sym is ∙ same_line l B5 b _ e in cc)
 
 -- after B5
@@ -96,7 +87,7 @@ pub to_b6_value : (r : Arena) (s t : Seat) (l : Line) (a b : Running) → CallIs
 to_b6_value r s t l a b h f = subst (λ k. CallIsAt r t continues k b) (same_line l B6 b (record a { node = a.head.node; mark = a.next.count; due = Some (IsValue a.val) }) f.leads_to) (stands_next r s t B5 l a b h f tt)
 
 -- the last line, B6
-module _ (r : Arena) (s t : Seat) (a : Running) (out : Outcome) (h : CallIsAt r s continues B6 a) (f : Follows r s t continues B6 a out) (due : Option Reply) (is : a.due ≡ due) where
+module _ (r : Arena) (s t : Seat) (a : Running) (out : Outcome Running) (h : CallIsAt r s continues B6 a) (f : Follows r s t continues B6 a out) (due : Option Reply) (is : a.due ≡ due) where
   abbrev pub last : Event
   last = event r s t continues B6 f.found f.did
 
@@ -122,7 +113,7 @@ module _ (r : Arena) (s t : Seat) (a : Running) (out : Outcome) (h : CallIsAt r 
   not_empty k = subst IsNotEmpty (sym told_of) k
 
 -- the queue was found empty
-pub saw_empty : (r : Arena) (s u t x : Seat) (a b c : Running) (l k : Line) (out : Outcome) → CallIsAt r s continues B2 a → Follows r s u continues B2 a (Goes l b) → Follows r u t continues B3 b (Goes k c) → k ≡ B6 → Follows r t x continues B6 c out → Fronts r s x out
+pub saw_empty : (r : Arena) (s u t x : Seat) (a b c : Running) (l k : Line) (out : Outcome Running) → CallIsAt r s continues B2 a → Follows r s u continues B2 a (Goes l b) → Follows r u t continues B3 b (Goes k c) → k ≡ B6 → Follows r t x continues B6 c out → Fronts r s x out
 saw_empty r s u t x a b c l k out h f2 f3 is f6 =
     subst (Fronts r s x) (sym (out_is r t x c out at f6 (Some IsEmpty) null.1))
     record {
@@ -181,7 +172,7 @@ module _ (r : Arena) (s u t v : Seat) (a b c d : Running) (l k j : Line) (h : Ca
   look_stored = then_stored s t v (then_stored s u t f2.did.stored f3.did.stored) f4.did.stored
 
   -- Head was found worn out
-  pub saw_worn : (x : Seat) (out : Outcome) → j ≡ B6 → Follows r v x continues B6 d out → Fronts r s x out
+  pub saw_worn : (x : Seat) (out : Outcome Running) → j ≡ B6 → Follows r v x continues B6 d out → Fronts r s x out
   saw_worn x out is f6 =
       let due : d.due ≡ Some (IsRefused (WornOut OfHead)) = found_worn r t v j c d f4 is in
       let at : CallIsAt r v continues B6 d = to_b6_worn r t v j c d at_b4 f4 is in
@@ -202,10 +193,10 @@ module _ (r : Arena) (s u t v : Seat) (a b c d : Running) (l k j : Line) (h : Ca
       }
 
   -- a value was taken
-  pub took : (y x : Seat) (e : Running) (i : Line) (out : Outcome) → (j ≡ B6 → ⊥) → Follows r v y continues B5 d (Goes i e) → Follows r y x continues B6 e out → Fronts r s x out
+  pub took : (y x : Seat) (e : Running) (i : Line) (out : Outcome Running) → (j ≡ B6 → ⊥) → Follows r v y continues B5 d (Goes i e) → Follows r y x continues B6 e out → Fronts r s x out
   took y x e i out free f5 f6 =
       let before : CallIsAt r v continues B5 d = to_b5 r t v j c d at_b4 f4 free in
-      let e_is : e ≡ record d { node = d.head.node; mark = d.next.count; due = Some (IsValue d.val) } = same_pop i B6 e _ f5.leads_to in
+      let e_is : e ≡ record d { node = d.head.node; mark = d.next.count; due = Some (IsValue d.val) } = same_registers i B6 e _ f5.leads_to in
       let same_val : d.val ≡ e.val = sym (ap (λ (z : Running). z.val) e_is) in
       let due : e.due ≡ Some (IsValue d.val) = ap (λ (z : Running). z.due) e_is in
       let at : CallIsAt r y continues B6 e = to_b6_value r v y i d e before f5 in

@@ -15,19 +15,18 @@ use Rattle.node_arena.specs.declared.seats.Seat.{Seat}
 use Rattle.node_arena.specs.Seats.{IsBefore, DidStep, view}
 use Rattle.node_arena.proofs.Paths.{settled, goes_on}
 use Rattle.node_arena.specs.Machine.{value_of}
+use Rattle.arena_lines.specs.declared.outcomes.Outcome.{Outcome}
+use Rattle.arena_lines.specs.declared.outcomes.Outcome.TheVariants.{Goes, Ends}
+use Rattle.arena_lines.specs.declared.outcomes.Reply.{Reply}
+use Rattle.arena_lines.specs.declared.outcomes.Reply.TheVariants.{Value as IsValue, Empty as IsEmpty, Refused as IsRefused}
 use Rattle.two_lock.specs.declared.pop_outcomes.Actor.{Actor as Running}
-use Rattle.two_lock.specs.declared.pop_outcomes.Outcome.{Outcome}
-use Rattle.two_lock.specs.declared.pop_outcomes.Outcome.TheVariants.{Goes, Empty, Refused}
-use Rattle.two_lock.specs.declared.pop_outcomes.Reply.{Reply}
-use Rattle.two_lock.specs.declared.pop_outcomes.Reply.TheVariants.{Value as IsValue, Empty as IsEmpty, Refused as IsRefused}
 use Rattle.two_lock.specs.Pops.{told_by, KnowsDue, AgreesAt, CallIsAt, Follows, follow}
 use Rattle.two_lock.proofs.PopSteps.{ref_b2, ref_b3, value_b4}
 
 -- where an outcome goes on, the seat stands there
-abbrev pub StandsAt : Arena → Seat → Outcome → Type 0
+abbrev pub StandsAt : Arena → Seat → Outcome Running → Type 0
 StandsAt r t (Goes l a) = CallIsAt r t continues l a
-StandsAt r t Empty = Unit {0}
-StandsAt r t (Refused why) = Unit {0}
+StandsAt r t (Ends reply) = Unit {0}
 
 -- a seat that stands where registers say nothing stands there with any registers
 pub stands_b1 : (r : Arena) (t : Seat) (prologue : Prologue) (a : Running) → IsBefore r t prologue B1 → CallIsAt r t prologue B1 a

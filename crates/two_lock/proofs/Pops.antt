@@ -19,9 +19,11 @@ use Rattle.free_list.specs.Gives.{GiveAnswers}
 use Rattle.node_arena.proofs.Known.{empty_before}
 use Rattle.node_arena.proofs.Paths.{no_walk, walk_then, then_stored, added_is, ends_failed, failed-append, failed_behind, kept_seat, event, walk_on, to_is, failed_last}
 use Rattle.two_lock.specs.Values.{IsTwoLock}
+use Rattle.arena_lines.specs.declared.outcomes.Outcome.{Outcome}
+use Rattle.arena_lines.specs.declared.outcomes.Outcome.TheVariants.{Goes, Ends}
+use Rattle.arena_lines.specs.declared.outcomes.Reply.{Reply}
+use Rattle.arena_lines.specs.declared.outcomes.Reply.TheVariants.{Done as IsDone, Value as IsValue, Empty as IsEmpty, Refused as IsRefused}
 use Rattle.two_lock.specs.declared.pop_outcomes.Actor.{Actor as Running}
-use Rattle.two_lock.specs.declared.pop_outcomes.Outcome.{Outcome}
-use Rattle.two_lock.specs.declared.pop_outcomes.Outcome.TheVariants.{Goes, Empty, Refused}
 use Rattle.two_lock.specs.Pops.{popping, has_lock, Follows, Fronts, Trying}
 use Rattle.two_lock.specs.Worn.{pop_worn}
 use Rattle.arena_queue.specs.Answers.{Draws}
@@ -45,7 +47,7 @@ pops_out r s h none two =
     }
 
 -- a try of the lock, which got it or failed
-module _ (r : Arena) (s t u : Seat) (n : ℕ) (g : Trying r s t n) (a : Running) (out : Outcome) (f : Follows r t u (popping n) B1 a out) where
+module _ (r : Arena) (s t u : Seat) (n : ℕ) (g : Trying r s t n) (a : Running) (out : Outcome Running) (f : Follows r t u (popping n) B1 a out) where
   abbrev try : Event
   try = event r t u (popping n) B1 f.found f.did
 
@@ -106,11 +108,18 @@ pop_gives_up r s t spent turns (suc m) some all g =
 
 -- what the lines under the lock came to ends the pop
 module _ (r : Arena) (s t : Seat) (failed turns : ℕ) where
-  pub pop_worn_out : (why : Refusal) → Fronts r s t (Refused why) → Draws pop_worn r s (keeping t None failed) failed turns (Err why)
+  pub pop_worn_out : (why : Refusal) → Fronts r s t (Ends (IsRefused why)) → Draws pop_worn r s (keeping t None failed) failed turns (Err why)
   pop_worn_out why f = let k = f.fronted in draws_worn pop_worn r s t why OfHead failed turns f.lines f.seat k.over f.empty f.stored k.walks k.is k.cause tt
 
   pub pop_took : (x : Seat) (l : Line) (a : Running) (h : Held) (out : Result (Unit {0}) Refusal) → failed < turns → Fronts r s t (Goes l a) → GiveAnswers r (keeping t (Some h) failed) x (turns - failed) out → Draws pop_worn r s x failed turns (Ok (Some (value_of a.val)))
   pop_took x l a h out less f g = draws_taken pop_worn r s t x a.val h failed turns out f.lines less f.stored f.fronted.acts f.never g
 
-  pub pop_empty : failed < turns → Fronts r s t Empty → Draws pop_worn r s (keeping t None failed) failed turns (Ok None)
+  pop_empty : failed < turns → Fronts r s t (Ends IsEmpty) → Draws pop_worn r s (keeping t None failed) failed turns (Ok None)
   pop_empty less f = let k = f.fronted in draws_empty pop_worn r s t failed turns f.lines less f.seat k.over f.empty f.stored k.path f.never k.found
+
+  -- a pop that ends without a refusal found the queue empty
+  pub pop_ended : (answer : Reply) → ((why : Refusal) → answer ≡ IsRefused why → ⊥) → failed < turns → Fronts r s t (Ends answer) → Draws pop_worn r s (keeping t None failed) failed turns (Ok None)
+  pop_ended IsEmpty other less f = pop_empty less f
+  pop_ended (IsRefused why) other less f = absurd (other why refl)
+  pop_ended IsDone other less f = absurd f.fronted
+  pop_ended (IsValue word) other less f = absurd f.fronted

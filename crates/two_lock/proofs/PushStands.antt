@@ -11,8 +11,8 @@ use Rattle.node_arena.specs.declared.seats.Seat.{Seat}
 use Rattle.node_arena.specs.Seats.{DidStep, view}
 use Rattle.node_arena.proofs.Known.{empty_before}
 use Rattle.node_arena.proofs.Paths.{settled, goes_on}
+use Rattle.arena_lines.specs.declared.outcomes.Reply.TheVariants.{Done}
 use Rattle.two_lock.specs.declared.push_outcomes.Actor.{Actor as Running}
-use Rattle.two_lock.specs.declared.push_outcomes.Reply.TheVariants.{Done as IsDone}
 use Rattle.two_lock.specs.Pushes.{HasNode, AgreesAt, CallIsAt}
 use Rattle.two_lock.proofs.PushSteps.{ref_a4}
 
@@ -55,8 +55,8 @@ module _ (r : Arena) (s t : Seat) (prologue : Prologue) (n : ℕ) (a : Running) 
   pub after_a4 : CallIsAt r s prologue A4 a → DidStep r s t prologue A4 n → CallIsAt r t continues A5 (record a { tail = ref_of n })
   after_a4 h d = leads A4 d (out_at A4 d) refl A5 (record a { tail = ref_of n }) refl h.hand (λ x. sym (ref_a4 r s t prologue n d).0)
 
-  pub after_a5 : CallIsAt r s prologue A5 a → DidStep r s t prologue A5 n → CallIsAt r t continues A6 (record a { due = Some IsDone })
-  after_a5 h d = leads A5 d (out_at A5 d) refl A6 (record a { due = Some IsDone }) refl h.hand (λ x. tt)
+  pub after_a5 : CallIsAt r s prologue A5 a → DidStep r s t prologue A5 n → CallIsAt r t continues A6 (record a { due = Some Done })
+  after_a5 h d = leads A5 d (out_at A5 d) refl A6 (record a { due = Some Done }) refl h.hand (λ x. tt)
 
   pub after_a6 : CallIsAt r s prologue A6 a → DidStep r s t prologue A6 n → CallIsAt r t continues A7 a
   after_a6 h d = leads A6 d (out_at A6 d) refl A7 a refl h.hand (λ x. tt)

@@ -18,24 +18,16 @@ use Rattle.node_arena.specs.Paths.{ExtendsPath, Acts, added}
 use Rattle.node_arena.proofs.Paths.{walk_then, then_act, act_then, pass_then, then_stored, added_is, added_path, failed-append, failed_behind, kept_seat, ends_failed, event, walk_on, pass_on, act_on, to_is, failed_last}
 use Rattle.two_lock.specs.Values.{IsTwoLock}
 use Rattle.node_arena.specs.Machine.{value_of}
+use Rattle.arena_lines.specs.declared.outcomes.Outcome.{Outcome}
+use Rattle.arena_lines.specs.declared.outcomes.Outcome.TheVariants.{Goes}
+use Rattle.arena_lines.specs.declared.outcomes.Reply.TheVariants.{Done}
 use Rattle.two_lock.specs.declared.push_outcomes.Actor.{Actor as Running}
-use Rattle.two_lock.specs.declared.push_outcomes.Reply.TheVariants.{Done as IsDone}
-use Rattle.two_lock.specs.declared.push_outcomes.Outcome.{Outcome}
-use Rattle.two_lock.specs.declared.push_outcomes.Outcome.TheVariants.{Goes, Done}
 use Rattle.two_lock.specs.Pushes.{registers_of, has_lock, CallIsAt, Follows, Links, Trying}
 use Rattle.two_lock.specs.Worn.{push_worn}
 use Rattle.arena_queue.specs.Answers.{Puts}
 use Rattle.node_arena.proofs.Values.{value_of-word}
+use Rattle.arena_lines.proofs.Registers.{same_registers}
 use Rattle.two_lock.proofs.PushStands.{after_a1, after_a2, won_a3, lost_a3, after_a4, after_a5, after_a6, after_a7}
-
-actor_or : Running → Outcome → Running
-actor_or d (Goes l a) = a
-actor_or d Done = d
-
--- outcomes that are the same go on with the same registers
-pub same_push : (l k : Line) (a b : Running) → Goes l a ≡ Goes k b → a ≡ b
-unfolding actor_or
-same_push l k a b e = ap (actor_or a) e
 
 -- an actor that begins a push with this pocket
 abbrev set_out : Arena → Seat → ℕ → Option Held → Actor
@@ -68,11 +60,11 @@ pushes_out r s h from body val a is i full two small same word = subst (λ (x : 
 
 -- after A1
 pub to_a2 : (r : Arena) (s t : Seat) (prologue : Prologue) (l : Line) (a b : Running) → CallIsAt r s prologue A1 a → Follows r s t prologue A1 a (Goes l b) → CallIsAt r t continues A2 b × (b ≡ a)
-to_a2 r s t prologue l a b h f = let e : b ≡ a = same_push l A2 b a f.leads_to in (subst (CallIsAt r t continues A2) (sym e) (after_a1 r s t prologue f.found a h f.did), e)
+to_a2 r s t prologue l a b h f = let e : b ≡ a = same_registers l A2 b a f.leads_to in (subst (CallIsAt r t continues A2) (sym e) (after_a1 r s t prologue f.found a h f.did), e)
 
 -- after A2
 pub to_a3 : (r : Arena) (s t : Seat) (l : Line) (a b : Running) → CallIsAt r s continues A2 a → Follows r s t continues A2 a (Goes l b) → CallIsAt r t continues A3 b × (b ≡ a)
-to_a3 r s t l a b h f = let e : b ≡ a = same_push l A3 b a f.leads_to in (subst (CallIsAt r t continues A3) (sym e) (after_a2 r s t continues f.found a h f.did), e)
+to_a3 r s t l a b h f = let e : b ≡ a = same_registers l A3 b a f.leads_to in (subst (CallIsAt r t continues A3) (sym e) (after_a2 r s t continues f.found a h f.did), e)
 
 -- before its first try of the lock
 pub first_try : (r : Arena) (s u t : Seat) (prologue : Prologue) (h : Held) (val spent : ℕ) (l k : Line) (a b c : Running) → a ≡ registers_of h val → CallIsAt r s prologue A1 a → Follows r s u prologue A1 a (Goes l b) → Follows r u t continues A2 b (Goes k c) → Trying r s t h val spent spent
@@ -91,7 +83,7 @@ first_try r s u t prologue h val spent l k a b c is st f g =
     }
 
 -- a try of the lock that got it, and one that failed
-module _ (r : Arena) (t u : Seat) (a : Running) (out : Outcome) (h : CallIsAt r t continues A3 a) (f : Follows r t u continues A3 a out) where
+module _ (r : Arena) (t u : Seat) (a : Running) (out : Outcome Running) (h : CallIsAt r t continues A3 a) (f : Follows r t u continues A3 a out) where
   abbrev try : Event
   try = event r t u continues A3 f.found f.did
 
@@ -114,7 +106,7 @@ module _ (r : Arena) (t u : Seat) (a : Running) (out : Outcome) (h : CallIsAt r 
   lost e = lost_a3 r t u continues f.found a h f.did (found_is false e)
 
 -- a turn failed
-pub next_try : (r : Arena) (s t u : Seat) (h : Held) (val spent n : ℕ) (a : Running) (out : Outcome) → a ≡ registers_of h val → Trying r s t h val spent n → Follows r t u continues A3 a out → has_lock out ≡ false → Trying r s u h val spent (n + 1)
+pub next_try : (r : Arena) (s t u : Seat) (h : Held) (val spent n : ℕ) (a : Running) (out : Outcome Running) → a ≡ registers_of h val → Trying r s t h val spent n → Follows r t u continues A3 a out → has_lock out ≡ false → Trying r s u h val spent (n + 1)
 next_try r s t u h val spent n a out is g follows e =
     let f : Follows r t u continues A3 (registers_of h val) out = subst (λ x. Follows r t u continues A3 x out) is follows in
     let try : Event = event r t u continues A3 f.found f.did in
@@ -132,18 +124,18 @@ next_try r s t u h val spent n a out is g follows e =
 
 -- after A4
 pub to_a5 : (r : Arena) (s u : Seat) (a b : Running) (l : Line) → CallIsAt r s continues A4 a → Follows r s u continues A4 a (Goes l b) → CallIsAt r u continues A5 b
-to_a5 r s u a b l h f = subst (CallIsAt r u continues A5) (sym (same_push l A5 b (record a { tail = ref_of f.found }) f.leads_to)) (after_a4 r s u continues f.found a h f.did)
+to_a5 r s u a b l h f = subst (CallIsAt r u continues A5) (sym (same_registers l A5 b (record a { tail = ref_of f.found }) f.leads_to)) (after_a4 r s u continues f.found a h f.did)
 
 -- after A5
 pub to_a6 : (r : Arena) (s u : Seat) (a b : Running) (l : Line) → CallIsAt r s continues A5 a → Follows r s u continues A5 a (Goes l b) → CallIsAt r u continues A6 b
-to_a6 r s u a b l h f = subst (CallIsAt r u continues A6) (sym (same_push l A6 b (record a { due = Some IsDone }) f.leads_to)) (after_a5 r s u continues f.found a h f.did)
+to_a6 r s u a b l h f = subst (CallIsAt r u continues A6) (sym (same_registers l A6 b (record a { due = Some Done }) f.leads_to)) (after_a5 r s u continues f.found a h f.did)
 
 -- after A6
 pub to_a7 : (r : Arena) (s u : Seat) (a b : Running) (l : Line) → CallIsAt r s continues A6 a → Follows r s u continues A6 a (Goes l b) → CallIsAt r u continues A7 b
-to_a7 r s u a b l h f = subst (CallIsAt r u continues A7) (sym (same_push l A7 b a f.leads_to)) (after_a6 r s u continues f.found a h f.did)
+to_a7 r s u a b l h f = subst (CallIsAt r u continues A7) (sym (same_registers l A7 b a f.leads_to)) (after_a6 r s u continues f.found a h f.did)
 
 -- the node is linked: A4 to A7
-module _ (r : Arena) (s u t x y : Seat) (a b c d : Running) (j k l : Line) (last : Outcome) (h : CallIsAt r s continues A4 a) (f : Follows r s u continues A4 a (Goes j b)) (g : Follows r u t continues A5 b (Goes k c)) (m : Follows r t x continues A6 c (Goes l d)) (o : Follows r x y continues A7 d last) where
+module _ (r : Arena) (s u t x y : Seat) (a b c d : Running) (j k l : Line) (last : Outcome Running) (h : CallIsAt r s continues A4 a) (f : Follows r s u continues A4 a (Goes j b)) (g : Follows r u t continues A5 b (Goes k c)) (m : Follows r t x continues A6 c (Goes l d)) (o : Follows r x y continues A7 d last) where
   at_a5 : CallIsAt r u continues A5 b
   at_a5 = to_a5 r s u a b j h f
 
@@ -163,7 +155,7 @@ module _ (r : Arena) (s u t x y : Seat) (a b c d : Running) (j k l : Line) (last
   seven = event r x y continues A7 o.found o.did
 
   body_is : (view u).actor.val.body ≡ (value_of a.val).body
-  body_is = ap (λ (v : Taken). v.body) (at_a5.hand.val ∙ ap (λ (z : Running). value_of z.val) (same_push j A5 b (record a { tail = ref_of f.found }) f.leads_to))
+  body_is = ap (λ (v : Taken). v.body) (at_a5.hand.val ∙ ap (λ (z : Running). value_of z.val) (same_registers j A5 b (record a { tail = ref_of f.found }) f.leads_to))
 
   acts : Acts (view u) (view t) (Push (view u).number (view u).actor.val.body) (five ∷ [])
   acts = act_on r u t continues A5 g.found g.did (Push (view u).number (view u).actor.val.body) refl tt
@@ -186,7 +178,7 @@ module _ (r : Arena) (s u t x y : Seat) (a b c d : Running) (j k l : Line) (last
       }
 
 -- the body was pushed
-pub puts_it : (r : Arena) (s t u x : Seat) (h : Held) (val : ℕ) (a b : Running) (out : Outcome) (from body spent n turns : ℕ) → a ≡ registers_of h val → b ≡ registers_of h val → Trying r s t h val spent n → Follows r t u continues A3 a out → has_lock out ≡ true → Links r u x b → body < 2 ^ 48 → val ≡ from * 2 ^ 48 + body → n < turns → Puts push_worn r s (keeping x None n) h.node body spent turns (Ok tt)
+pub puts_it : (r : Arena) (s t u x : Seat) (h : Held) (val : ℕ) (a b : Running) (out : Outcome Running) (from body spent n turns : ℕ) → a ≡ registers_of h val → b ≡ registers_of h val → Trying r s t h val spent n → Follows r t u continues A3 a out → has_lock out ≡ true → Links r u x b → body < 2 ^ 48 → val ≡ from * 2 ^ 48 + body → n < turns → Puts push_worn r s (keeping x None n) h.node body spent turns (Ok tt)
 puts_it r s t u x h val a b out from body spent n turns is same g follows won linked small word less =
     let f : Follows r t u continues A3 (registers_of h val) out = subst (λ x. Follows r t u continues A3 x out) is follows in
     let k : Links r u x (registers_of h val) = subst (Links r u x) same linked in

@@ -2,4 +2,3 @@ pub mod Worn
 pub mod Values
 pub mod Pushes
 pub mod Pops
-pub mod Queues

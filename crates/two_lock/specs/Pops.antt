@@ -21,11 +21,11 @@ use Rattle.node_arena.specs.Seats.{IsSeat, IsBefore, KeepsStored, DidStep, view}
 use Rattle.node_arena.specs.Turns.{failed_turns}
 use Rattle.node_arena.specs.Paths.{ExtendsPath, Acts, FailedAt, EndedAt, IsRefusedAt}
 use Rattle.node_arena.specs.Machine.{value_of}
+use Rattle.arena_lines.specs.declared.outcomes.Outcome.{Outcome}
+use Rattle.arena_lines.specs.declared.outcomes.Outcome.TheVariants.{Goes, Ends}
+use Rattle.arena_lines.specs.declared.outcomes.Reply.{Reply}
+use Rattle.arena_lines.specs.declared.outcomes.Reply.TheVariants.{Done as IsDone, Value as IsValue, Empty as IsEmpty, Refused as IsRefused}
 use Rattle.two_lock.specs.declared.pop_outcomes.Actor.{Actor as Running}
-use Rattle.two_lock.specs.declared.pop_outcomes.Reply.{Reply}
-use Rattle.two_lock.specs.declared.pop_outcomes.Reply.TheVariants.{Value as IsValue, Empty as IsEmpty, Refused as IsRefused}
-use Rattle.two_lock.specs.declared.pop_outcomes.Outcome.{Outcome}
-use Rattle.two_lock.specs.declared.pop_outcomes.Outcome.TheVariants.{Goes, Empty, Refused}
 
 -- how a pop sets out: its first turn begins a dequeue, and a later one goes on
 abbrev pub popping : ℕ → Prologue
@@ -33,14 +33,13 @@ popping zero = begins Deq
 popping (suc n) = continues
 
 -- where a pop goes once the lock was let go: a value's node is freed, and else the call ends
-abbrev pub unlocked_as : Option Reply → Running → Outcome
+abbrev pub unlocked_as : Option Reply → Running → Outcome Running
 unlocked_as None a = Goes F1 a
 unlocked_as (Some (IsValue word)) a = Goes F1 a
-unlocked_as (Some IsEmpty) a = Empty
-unlocked_as (Some (IsRefused why)) a = Refused why
+unlocked_as (Some reply) a = Ends reply
 
 -- what a running pop makes of the number found at a line
-abbrev pub follow : Setup → Running → Line → ℕ → Outcome
+abbrev pub follow : Setup → Running → Line → ℕ → Outcome Running
 follow z a B1 n = if nat_eq n 0 then Goes B2 a else Goes B1 a
 follow z a B2 n = Goes B3 (record a { head = ref_of n })
 follow z a B3 n =
@@ -54,13 +53,14 @@ follow z a B6 n = unlocked_as a.due a
 follow z a l n = Goes l a
 
 -- whether a try of the lock got it
-abbrev pub has_lock : Outcome → Bool
+abbrev pub has_lock : Outcome Running → Bool
 has_lock (Goes B2 a) = true
 has_lock outcome = false
 
 -- the reply that is due, in the words of the machine
 abbrev pub told_by : Option Reply → Option replies.Reply
 told_by None = None
+told_by (Some IsDone) = Some reply.Done
 told_by (Some (IsValue word)) = Some (reply.Value (value_of word))
 told_by (Some IsEmpty) = Some reply.Empty
 told_by (Some (IsRefused why)) = Some (reply.Refused why)
@@ -85,7 +85,7 @@ pub record CallIsAt (r : Arena) (s : Seat) (prologue : Prologue) (l : Line) (a :
   pub knows : AgreesAt l (after_prologue r.plan.setup (view s).number prologue (view s).actor) a
 
 -- the seat made its step at a line, and the call made of the number found what the line says
-pub record Follows (r : Arena) (s t : Seat) (prologue : Prologue) (l : Line) (a : Running) (out : Outcome) : Type 0 where
+pub record Follows (r : Arena) (s t : Seat) (prologue : Prologue) (l : Line) (a : Running) (out : Outcome Running) : Type 0 where
   pub found : ℕ
   pub did : DidStep r s t prologue l found
   pub leads_to : out ≡ follow r.plan.setup a l found
@@ -112,13 +112,14 @@ pub record SawWorn (r : Arena) (s t : Seat) (es : List Event) (why : Refusal) : 
   pub cause : EndedAt r s es (IsRefusedAt r.plan.setup (view s).number (WornOut OfHead))
 
 -- what the lines under the lock come to
-abbrev pub Fronted : Arena → Seat → Seat → List Event → Outcome → Type 0
+abbrev pub Fronted : Arena → Seat → Seat → List Event → Outcome Running → Type 0
 Fronted r s t es (Goes l a) = Took r s t es a
-Fronted r s t es Empty = SawEmpty s t es
-Fronted r s t es (Refused why) = SawWorn r s t es why
+Fronted r s t es (Ends IsEmpty) = SawEmpty s t es
+Fronted r s t es (Ends (IsRefused why)) = SawWorn r s t es why
+Fronted r s t es (Ends reply) = ⊥
 
 -- the lines under the lock, from B2 to B6
-pub record Fronts (r : Arena) (s t : Seat) (out : Outcome) : Type 0 where
+pub record Fronts (r : Arena) (s t : Seat) (out : Outcome Running) : Type 0 where
   pub seat : IsSeat r t
   pub empty : (view t).actor.pocket ≡ None
   pub stored : KeepsStored s t

@@ -13,28 +13,28 @@ use Rattle.node_arena.specs.Seats.{IsSeat, IsBefore, KeepsStored, DidStep, view}
 use Rattle.node_arena.specs.Turns.{failed_turns}
 use Rattle.node_arena.specs.Paths.{ExtendsPath, Acts, FailedAt}
 use Rattle.node_arena.specs.Machine.{value_of}
+use Rattle.arena_lines.specs.declared.outcomes.Outcome.{Outcome}
+use Rattle.arena_lines.specs.declared.outcomes.Outcome.TheVariants.{Goes, Ends}
+use Rattle.arena_lines.specs.declared.outcomes.Reply.TheVariants.{Done}
 use Rattle.two_lock.specs.declared.push_outcomes.Actor.{Actor as Running}
-use Rattle.two_lock.specs.declared.push_outcomes.Reply.TheVariants.{Done as IsDone}
-use Rattle.two_lock.specs.declared.push_outcomes.Outcome.{Outcome}
-use Rattle.two_lock.specs.declared.push_outcomes.Outcome.TheVariants.{Goes, Done}
 
 -- the registers of a push that has this node and this word of a value
 abbrev pub registers_of : Held → ℕ → Running
 registers_of h val = record { node = h.node; mark = h.mark; val = val; tail = ref 0 0; due = None }
 
 -- what a running push makes of the number found at a line
-abbrev pub follow : Running → Line → ℕ → Outcome
+abbrev pub follow : Running → Line → ℕ → Outcome Running
 follow a A1 n = Goes A2 a
 follow a A2 n = Goes A3 a
 follow a A3 n = if nat_eq n 0 then Goes A4 a else Goes A3 a
 follow a A4 n = Goes A5 (record a { tail = ref_of n })
-follow a A5 n = Goes A6 (record a { due = Some IsDone })
+follow a A5 n = Goes A6 (record a { due = Some Done })
 follow a A6 n = Goes A7 a
-follow a A7 n = Done
+follow a A7 n = Ends Done
 follow a l n = Goes l a
 
 -- whether a try of the lock got it
-abbrev pub has_lock : Outcome → Bool
+abbrev pub has_lock : Outcome Running → Bool
 has_lock (Goes A4 a) = true
 has_lock outcome = false
 
@@ -54,7 +54,7 @@ pub record CallIsAt (r : Arena) (s : Seat) (prologue : Prologue) (l : Line) (a :
   pub knows : AgreesAt l (after_prologue r.plan.setup (view s).number prologue (view s).actor) a
 
 -- the seat made its step at a line, and the call made of the number found what the line says
-pub record Follows (r : Arena) (s t : Seat) (prologue : Prologue) (l : Line) (a : Running) (out : Outcome) : Type 0 where
+pub record Follows (r : Arena) (s t : Seat) (prologue : Prologue) (l : Line) (a : Running) (out : Outcome Running) : Type 0 where
   pub found : ℕ
   pub did : DidStep r s t prologue l found
   pub leads_to : out ≡ follow a l found

@@ -39,7 +39,7 @@ impl Algorithm for TwoLockAlgorithm {
         spent: u32,
         turns: u32,
     ) -> Result<(), Refusal> {
-        pushing::put(arena, seat, held, body, spent, turns)
+        pushing::push_node(arena, seat, held, body, spent, turns)
     }
 
     fn draw(
@@ -48,6 +48,6 @@ impl Algorithm for TwoLockAlgorithm {
         spent: u32,
         turns: u32,
     ) -> Result<Option<Taken>, Refusal> {
-        popping::draw(arena, seat, spent, turns)
+        popping::pop_with_empty_pocket(arena, seat, spent, turns)
     }
 }

@@ -10,49 +10,47 @@ ghost use Rattle.two_lock.specs.Worn.{pop_worn};
 ghost use Rattle.arena_queue.specs.Answers.{Draws};
 
 use crate::pop_lines::{b1, b2, b3, b4, b5, b6};
-use crate::pop_outcomes::{Actor, Outcome, blank, got_lock};
+use crate::pop_outcomes::{Actor, blank, got_lock};
+use arena_lines::{Outcome, Reply};
 use free_list::give_back;
 use history::{Refusal, Taken};
 use line_table::Line;
 use node_arena::{Arena, Held, Seat, value_of};
 
 // With the lock: the value after Head's node is taken where there is one, and the lock is let go.
-fn front(arena: &Arena, seat: &mut Seat, a: Actor) -> Outcome
+fn read_front(arena: &Arena, seat: &mut Seat, a: Actor) -> Outcome<Actor>
     requires stands { CallIsAt arena.now seat.old continues lines.B2 a }
     requires two_lock { IsTwoLock arena.now }
     requires role { IsTrue (may_pop (role_of seat.old)) }
     ensures { Fronts arena.now seat.old seat.new result }
 {
-    let Outcome::Goes(_, a) = b2(arena, seat, a) else {
-        unreachable!()
-    };
-    let Outcome::Goes(next, a) = b3(arena, seat, a) else {
-        unreachable!()
-    };
+    let a = b2(arena, seat, a);
+    let (next, a) = b3(arena, seat, a);
     if let Line::B6 = next {
         return b6(arena, seat, a);
     }
-    let Outcome::Goes(next, a) = b4(arena, seat, a) else {
-        unreachable!()
-    };
+    let (next, a) = b4(arena, seat, a);
     if let Line::B6 = next {
         return b6(arena, seat, a);
     }
-    let Outcome::Goes(_, a) = b5(arena, seat, a) else {
-        unreachable!()
-    };
+    let a = b5(arena, seat, a);
     b6(arena, seat, a)
 }
 
 // With the lock, where so many turns failed before: a node that comes free is given back with the turns that are left.
-fn end(arena: &Arena, seat: &mut Seat, failed: u32, turns: u32) -> Result<Option<Taken>, Refusal>
+fn pop_locked(
+    arena: &Arena,
+    seat: &mut Seat,
+    failed: u32,
+    turns: u32,
+) -> Result<Option<Taken>, Refusal>
     requires before { IsBefore arena.now seat.old continues lines.B2 }
     requires two_lock { IsTwoLock arena.now }
     requires role { IsTrue (may_pop (role_of seat.old)) }
     requires turns { failed < turns }
     ensures { Draws pop_worn arena.now seat.old seat.new failed turns result }
 {
-    match front(arena, seat, blank()) {
+    match read_front(arena, seat, blank()) {
         Outcome::Goes(_, a) => {
             let node = a.node;
             let mark = a.mark;
@@ -61,19 +59,18 @@ fn end(arena: &Arena, seat: &mut Seat, failed: u32, turns: u32) -> Result<Option
             let _ = give_back(arena, seat, turns - failed);
             Ok(Some(taken))
         }
-        Outcome::Empty => {
+        Outcome::Ends(reply) => {
             seat.keep(None, failed);
-            Ok(None)
-        }
-        Outcome::Refused(why) => {
-            seat.keep(None, failed);
-            Err(why)
+            match reply {
+                Reply::Refused(why) => Err(why),
+                _ => Ok(None),
+            }
         }
     }
 }
 
 // The pop with an empty pocket, where `spent` turns of this call failed before.
-pub(crate) fn draw(
+pub(crate) fn pop_with_empty_pocket(
     arena: &Arena,
     seat: &mut Seat,
     spent: u32,
@@ -88,7 +85,7 @@ pub(crate) fn draw(
 {
     for index in 0..turns - spent {
         if got_lock(b1(arena, seat, blank(), index)) {
-            return end(arena, seat, spent + index, turns);
+            return pop_locked(arena, seat, spent + index, turns);
         }
     }
     seat.keep(None, turns);

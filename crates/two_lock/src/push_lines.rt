@@ -6,58 +6,30 @@ ghost use Rattle.node_arena.specs.Plans.{may_push};
 ghost use Rattle.node_arena.specs.Seats.{role_of};
 ghost use Rattle.two_lock.specs.Pushes.{CallIsAt, Follows};
 
-use crate::push_outcomes::{Actor, Outcome, Reply, effect, ends, goes};
+use crate::push_outcomes::Actor;
+use arena_lines::{Outcome, Reply, access, effect, ends, goes, onward, row};
 use counted_ref::CountedRef;
 use line_table::{Line, line_table};
-use node_arena::{Arena, COUNT_MASK, Seat, exchanged, masked, reference, stored};
+use node_arena::{Arena, Seat};
 
-// The access of a line, as one step call.
-macro_rules! access {
-    ($arena:ident $seat:ident $line:ident load Tail) => { reference($arena.load($seat, Line::$line, 3)) };
-    ($arena:ident $seat:ident $line:ident store Value($node:expr) ($new:expr)) => {
-        $arena.store($seat, Line::$line, 5 + 2 * $node as usize, $new)
-    };
-    ($arena:ident $seat:ident $line:ident store Next($node:expr) ($new:expr)) => {
-        stored($arena, $seat, Line::$line, 4 + 2 * $node as usize, $new.word())
-    };
-    ($arena:ident $seat:ident $line:ident store Tail ($new:expr)) => {
-        stored($arena, $seat, Line::$line, 3, $new.word())
-    };
-    ($arena:ident $seat:ident $line:ident store TailLock ($new:expr)) => {
-        stored($arena, $seat, Line::$line, 4, $new)
-    };
-    ($arena:ident $seat:ident $line:ident clear Next($node:expr)) => {
-        masked($arena, $seat, Line::$line, 4 + 2 * $node as usize, COUNT_MASK)
-    };
-    ($arena:ident $seat:ident $line:ident exchange TailLock ($old:expr, $new:expr)) => {
-        exchanged($arena, $seat, Line::$line, 4, $old, u64::from($new))
-    };
-}
-
-// One row: its access, and then its third column.
-macro_rules! row {
-    (($arena:ident $seat:ident $found:ident) $line:ident {$($access:tt)*} {$($then:tt)*}) => {{
-        let $found = access!($arena $seat $line $($access)*);
-        $($then)*
-    }};
-}
-
-pub(crate) fn a1(arena: &Arena, seat: &mut Seat, a: Actor) -> Outcome
+pub(crate) fn a1(arena: &Arena, seat: &mut Seat, a: Actor) -> Actor
     ghost prologue: { Prologue }
     requires { CallIsAt arena.now seat.old prologue lines.A1 a }
-    ensures { Follows arena.now seat.old seat.new prologue lines.A1 a result }
+    ensures { Follows arena.now seat.old seat.new prologue lines.A1 a (Outcome.Goes lines.A2 result) }
 {
+    use onward::goes;
     line_table!(A1 (setup me a found) row (arena seat found))
 }
 
-pub(crate) fn a2(arena: &Arena, seat: &mut Seat, a: Actor) -> Outcome
+pub(crate) fn a2(arena: &Arena, seat: &mut Seat, a: Actor) -> Actor
     requires { CallIsAt arena.now seat.old continues lines.A2 a }
-    ensures { Follows arena.now seat.old seat.new continues lines.A2 a result }
+    ensures { Follows arena.now seat.old seat.new continues lines.A2 a (Outcome.Goes lines.A3 result) }
 {
+    use onward::goes;
     line_table!(A2 (setup me a found) row (arena seat found))
 }
 
-pub(crate) fn a3(arena: &Arena, seat: &mut Seat, a: Actor) -> Outcome
+pub(crate) fn a3(arena: &Arena, seat: &mut Seat, a: Actor) -> Outcome<Actor>
     requires { CallIsAt arena.now seat.old continues lines.A3 a }
     ensures { Follows arena.now seat.old seat.new continues lines.A3 a result }
 {
@@ -65,29 +37,32 @@ pub(crate) fn a3(arena: &Arena, seat: &mut Seat, a: Actor) -> Outcome
     line_table!(A3 (setup me a found) row (arena seat found))
 }
 
-pub(crate) fn a4(arena: &Arena, seat: &mut Seat, mut a: Actor) -> Outcome
+pub(crate) fn a4(arena: &Arena, seat: &mut Seat, mut a: Actor) -> Actor
     requires { CallIsAt arena.now seat.old continues lines.A4 a }
-    ensures { Follows arena.now seat.old seat.new continues lines.A4 a result }
+    ensures { Follows arena.now seat.old seat.new continues lines.A4 a (Outcome.Goes lines.A5 result) }
 {
+    use onward::goes;
     line_table!(A4 (setup me a found) row (arena seat found))
 }
 
-pub(crate) fn a5(arena: &Arena, seat: &mut Seat, mut a: Actor) -> Outcome
+pub(crate) fn a5(arena: &Arena, seat: &mut Seat, mut a: Actor) -> Actor
     requires stands { CallIsAt arena.now seat.old continues lines.A5 a }
     requires role { IsTrue (may_push (role_of seat.old)) }
-    ensures { Follows arena.now seat.old seat.new continues lines.A5 a result }
+    ensures { Follows arena.now seat.old seat.new continues lines.A5 a (Outcome.Goes lines.A6 result) }
 {
+    use onward::goes;
     line_table!(A5 (setup me a found) row (arena seat found))
 }
 
-pub(crate) fn a6(arena: &Arena, seat: &mut Seat, a: Actor) -> Outcome
+pub(crate) fn a6(arena: &Arena, seat: &mut Seat, a: Actor) -> Actor
     requires { CallIsAt arena.now seat.old continues lines.A6 a }
-    ensures { Follows arena.now seat.old seat.new continues lines.A6 a result }
+    ensures { Follows arena.now seat.old seat.new continues lines.A6 a (Outcome.Goes lines.A7 result) }
 {
+    use onward::goes;
     line_table!(A6 (setup me a found) row (arena seat found))
 }
 
-pub(crate) fn a7(arena: &Arena, seat: &mut Seat, a: Actor) -> Outcome
+pub(crate) fn a7(arena: &Arena, seat: &mut Seat, a: Actor) -> Outcome<Actor>
     requires { CallIsAt arena.now seat.old continues lines.A7 a }
     ensures { Follows arena.now seat.old seat.new continues lines.A7 a result }
 {

@@ -10,30 +10,24 @@ ghost use Rattle.two_lock.specs.Worn.{push_worn};
 ghost use Rattle.arena_queue.specs.Answers.{Puts};
 
 use crate::push_lines::{a1, a2, a3, a4, a5, a6, a7};
-use crate::push_outcomes::{Actor, Outcome, got_lock, registers};
+use crate::push_outcomes::{Actor, got_lock, registers};
 use history::{Body, Refusal};
 use node_arena::{Arena, Held, Seat, word_of};
 
 // The node is linked behind the last one, Tail goes on to it, and the lock is let go.
-fn link(arena: &Arena, seat: &mut Seat, a: Actor)
+fn push_locked(arena: &Arena, seat: &mut Seat, a: Actor)
     requires stands { CallIsAt arena.now seat.old continues lines.A4 a }
     requires role { IsTrue (may_push (role_of seat.old)) }
     ensures { Links arena.now seat.old seat.new a }
 {
-    let Outcome::Goes(_, a) = a4(arena, seat, a) else {
-        unreachable!()
-    };
-    let Outcome::Goes(_, a) = a5(arena, seat, a) else {
-        unreachable!()
-    };
-    let Outcome::Goes(_, a) = a6(arena, seat, a) else {
-        unreachable!()
-    };
+    let a = a4(arena, seat, a);
+    let a = a5(arena, seat, a);
+    let a = a6(arena, seat, a);
     a7(arena, seat, a);
 }
 
 // The push with the node in the pocket, where `spent` turns of this call failed before.
-pub(crate) fn put(
+pub(crate) fn push_node(
     arena: &Arena,
     seat: &mut Seat,
     held: Held,
@@ -50,15 +44,11 @@ pub(crate) fn put(
     ensures pocket { OnErr result (pocket_of seat.new ≡ Some held) }
 {
     let val = word_of(seat.number(), body.number());
-    let Outcome::Goes(_, a) = a1(arena, seat, registers(held, val)) else {
-        unreachable!()
-    };
-    let Outcome::Goes(..) = a2(arena, seat, a) else {
-        unreachable!()
-    };
+    let a = a1(arena, seat, registers(held, val));
+    let _ = a2(arena, seat, a);
     for index in spent..turns {
         if got_lock(a3(arena, seat, registers(held, val))) {
-            link(arena, seat, registers(held, val));
+            push_locked(arena, seat, registers(held, val));
             seat.keep(None, index);
             return Ok(());
         }

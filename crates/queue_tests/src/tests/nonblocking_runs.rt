@@ -1,7 +1,7 @@
 //! Runs of the non-blocking queue.
 ghost use Rattle.std.specs.Prelude.{IfOk};
 ghost use Rattle.std.specs.List.{All};
-ghost use Rattle.nonblocking.specs.Queues.{IsQueueSeat};
+ghost use Rattle.arena_queue.specs.Queues.{IsQueueSeat};
 
 use super::comparing::same;
 use super::runs::{

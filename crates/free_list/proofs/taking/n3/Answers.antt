@@ -2,5 +2,5 @@ use Rattle.node_arena.specs.Prologues.{continues}
 use Rattle.free_list.proofs.Steps.{ref_n3}
 use Rattle.free_list.proofs.taking.n3.Goals as goal
 
-pub reference-found-requires : goal.reference-found-requires
-reference-found-requires c = (ref_n3 c.args.arena.now c.args.seat.now _ continues _ c.load.ensures).1
+pub line_table-reference-found-requires : goal.line_table-reference-found-requires
+line_table-reference-found-requires c = (ref_n3 c.args.arena.now c.args.seat.now _ continues _ c.line_table-loaded.ensures).1

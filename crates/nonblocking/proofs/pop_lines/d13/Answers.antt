@@ -5,5 +5,5 @@ use Rattle.nonblocking.proofs.pop_lines.d13.Goals as goal
 pub line_table-raised-requires-clause-count : goal.line_table-raised-requires-clause-count
 line_table-raised-requires-clause-count c = room_d13 c.args.arena.now c.args.seat.now c.args.a c.setup-setup.result c.setup-setup.ensures c.requires.stands
 
-pub reference-found-requires : goal.reference-found-requires
-reference-found-requires c = (ref_d13 c.args.arena.now c.args.seat.now _ continues _ c.exchanged.ensures).1
+pub line_table-reference-found-requires : goal.line_table-reference-found-requires
+line_table-reference-found-requires c = (ref_d13 c.args.arena.now c.args.seat.now _ continues _ c.line_table-exchanged.ensures).1

@@ -1,0 +1,50 @@
+//! One atomic step of a call that is under way, on a word with a name.
+ghost use Rattle.node_arena.specs.Machine.{load_at, store_at, and_at, exchange_at};
+ghost use Rattle.node_arena.specs.Prologues.{continues};
+ghost use Rattle.node_arena.specs.Seats.{MayStep, DidStep, DidSome};
+ghost use Rattle.arena_lines.specs.Words.{place_of};
+
+use crate::words::Word;
+use line_table::Line;
+use node_arena::{Arena, COUNT_MASK, Seat};
+
+/// One load of a word by a call that is under way. Takes no memory and doesn't wait.
+#[inline(always)]
+pub fn loaded(arena: &Arena, seat: &mut Seat, line: Line, word: Word) -> u64
+    requires { MayStep arena.now seat.old continues line (load_at (place_of word)) }
+    ensures { DidStep arena.now seat.old seat.new continues line result }
+{
+    arena.load(seat, line, word.place())
+}
+
+/// One store into a word by a call that is under way. Takes no memory and doesn't wait.
+#[inline(always)]
+pub fn stored(arena: &Arena, seat: &mut Seat, line: Line, word: Word, value: u64)
+    requires { MayStep arena.now seat.old continues line (store_at (place_of word) value) }
+    ensures { DidSome arena.now seat.old seat.new continues line }
+{
+    arena.store(seat, line, word.place(), value);
+}
+
+/// One fetch_and, by a call that is under way, that leaves the count of the reference in a word; the word found is the
+/// answer. Takes no memory and doesn't wait.
+#[inline(always)]
+pub fn cleared(arena: &Arena, seat: &mut Seat, line: Line, word: Word) -> u64
+    requires { MayStep arena.now seat.old continues line (and_at (place_of word) COUNT_MASK) }
+    ensures { DidStep arena.now seat.old seat.new continues line result }
+{
+    arena.fetch_and(seat, line, word.place(), COUNT_MASK)
+}
+
+/// One compare-exchange of a word by a call that is under way; the word found is the answer, won or lost. Takes no memory
+/// and doesn't wait.
+#[inline(always)]
+pub fn exchanged(arena: &Arena, seat: &mut Seat, line: Line, word: Word, old: u64, new: u64) -> u64
+    requires { MayStep arena.now seat.old continues line (exchange_at (place_of word) old new) }
+    ensures { DidStep arena.now seat.old seat.new continues line result }
+{
+    match arena.exchange(seat, line, word.place(), old, new) {
+        Ok(found) => found,
+        Err(found) => found,
+    }
+}

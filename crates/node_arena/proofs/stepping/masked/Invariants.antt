@@ -1,5 +1,0 @@
-use Rattle.node_arena.specs.Prologues.{continues}
-use Rattle.node_arena.proofs.stepping.masked.Given as goal
-
-abbrev pub ghost-fetch_and : goal.ghost-fetch_and
-ghost-fetch_and a = continues
