@@ -49,3 +49,9 @@ WorksNot jobs k k' (WornOut word) = SeesMore k k'
 WorksNot jobs k k' Busy = SeesMore k k'
 WorksNot jobs k k' Stranger = (body : ℕ) × (length jobs < body) × Takes k body k'
 WorksNot jobs k k' _ = ⊥
+
+-- a refusal that is the queue's has this cause; one that is the turn's own wants none
+abbrev pub HandsOn : (cause : Refusal → Type 0) → Refusal → Type 0
+HandsOn cause (WornOut word) = cause (WornOut word)
+HandsOn cause Busy = cause Busy
+HandsOn cause _ = Unit {0}

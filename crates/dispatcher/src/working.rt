@@ -1,7 +1,7 @@
 //! One turn of a worker.
 ghost use Rattle.std.specs.Prelude.{◌≡◌, ◌<◌, ◌≤◌, length, vec_len, vec_capacity, IfOk, IfErr, OnOk, OnErr};
 ghost use Rattle.history.specs.Seats.{MayPop};
-ghost use Rattle.dispatcher.specs.Working.{TakesNumber, TakesNot, PutsResult, Works, WorksNot};
+ghost use Rattle.dispatcher.specs.Working.{TakesNumber, TakesNot, PutsResult, Works, WorksNot, HandsOn};
 
 use crate::gate::Gate;
 use history::{Fifo, Refusal};
@@ -27,6 +27,7 @@ fn take_number<Q: Fifo>(queue: &Q, seat: &mut Q::Seat, turns: u32) -> Result<Opt
     ensures number { (Q.known seat.new).number ≡ (Q.known seat.old).number }
     ensures taken { IfOk result (TakesNumber (Q.known seat.old) (Q.known seat.new)) }
     ensures why { IfErr result (TakesNot (Q.known seat.old) (Q.known seat.new)) }
+    ensures caused { IfErr result (Q.pop_cause queue.now seat.old seat.new turns) }
 {
     let Some(taken) = queue.try_pop(seat, turns)? else {
         return Ok(None);
@@ -87,6 +88,7 @@ pub fn work_one<'a, Q: Fifo, G: Gate>(
     ensures worked { IfOk result
         (Works jobs.now (Q.known seat.old) (Q.known seat.new) out.old.items out.new.items) }
     ensures why { IfErr result (WorksNot jobs.now (Q.known seat.old) (Q.known seat.new)) }
+    ensures caused { IfErr result (HandsOn (Q.pop_cause queue.now seat.old seat.new turns)) }
     ensures refused { OnErr result (out.new.items ≡ out.old.items) }
 {
     if out.reserve(1).is_err() {

@@ -1,10 +1,11 @@
 -- What an office, its senders and its receiver do.
-use Rattle.std.specs.Prelude.{◌≡◌, ◌≤◌, ◌^◌, ℕ, List, Bool, true, false, Option, Some, None, IfSome, String, string_bytes}
+use Rattle.std.specs.Prelude.{◌≡◌, ◌<◌, ◌≤◌, ◌^◌, ℕ, List, Bool, true, false, Option, Some, None, IfSome, String, string_bytes}
 use Rattle.boxcar.specs.Table.{Shows, Where}
 use Rattle.history.specs.Limits.{body_bits}
 use Rattle.history.specs.declared.operations.Taken.{Taken}
 use Rattle.history.specs.Seats.{Permit, Known, MayPush, MayPop}
-use Rattle.history.specs.Answers.{Pushed, Popped, SeesMore, FoundEmpty}
+use Rattle.history.specs.declared.refusals.Refusal.{Refusal}
+use Rattle.history.specs.Answers.{Pushed, Popped, SeesMore, FoundEmpty, EndsByTry}
 use Rattle.history.specs.Values.{OnlyPops}
 use Rattle.mailbox.specs.Plans.{Fits}
 use Rattle.mailbox.specs.declared.office.Office.{Office}
@@ -77,6 +78,20 @@ pub record Sent {Q S Z : Type 0} (known : S → Known) (o : Office Q S) (s s' : 
 abbrev pub SentNothing : {Q S : Type 0} → (S → Known) → (s s' : Sender Q S) → Type 0
 SentNothing known s s' = SeesMore (known s.seat) (known s'.seat)
 
+-- a letter is stored, at an index that is a body
+pub record HasStored {Q S Z : Type 0} (o : Office Q S) (s' : Sender Q S) (text : String Z) : Type 0 where
+  pub index : ℕ
+  pub body : index < 2 ^ body_bits
+  pub stored : Stored o s' index (string_bytes text)
+
+-- a sender's push of so many turns had this cause for its refusal
+abbrev pub SendHadCause : {Q S : Type 0} → (Q → S → S → ℕ → Refusal → Type 0) → Office Q S → (s s' : Sender Q S) → (turns : ℕ) → Refusal → Type 0
+SendHadCause cause o s s' turns = cause o.queue s.seat s'.seat turns
+
+-- a send that waits ended by a push of so many turns, which had this cause for its refusal
+abbrev pub SendEnded : {Q S : Type 0} → (Q → S → Type 0) → (S → Known) → (Q → S → S → ℕ → Refusal → Type 0) → Office Q S → (s s' : Sender Q S) → (turns : ℕ) → Refusal → Type 0
+SendEnded is_seat known cause o s s' turns = EndsByTry is_seat known cause o.queue s.seat s'.seat turns
+
 -- a letter was stored, at an index that is no body
 pub record HasNoBody {Q S Z : Type 0} (o : Office Q S) (s s' : Sender Q S) (text : String Z) : Type 0 where
   pub seat : s'.seat ≡ s.seat
@@ -109,6 +124,14 @@ pub record TookNothing {Q S : Type 0} (known : S → Known) (r r' : Receiver Q S
   pub last : r'.last ≡ r.last
   pub was : r.lost ≡ false
   pub kept : r'.lost ≡ false
+
+-- the receiver's pop of so many turns had this cause for its refusal
+abbrev pub TakeHadCause : {Q S : Type 0} → (Q → S → S → ℕ → Refusal → Type 0) → Office Q S → (r r' : Receiver Q S) → (turns : ℕ) → Refusal → Type 0
+TakeHadCause cause o r r' turns = cause o.queue r.seat r'.seat turns
+
+-- a take that waits ended by a pop of so many turns, which had this cause for its refusal
+abbrev pub TakeEnded : {Q S : Type 0} → (Q → S → Type 0) → (S → Known) → (Q → S → S → ℕ → Refusal → Type 0) → Office Q S → (r r' : Receiver Q S) → (turns : ℕ) → Refusal → Type 0
+TakeEnded is_seat known cause o r r' turns = EndsByTry is_seat known cause o.queue r.seat r'.seat turns
 
 -- a letter is lost: one value was popped where none was lost before, and else nothing was done
 pub record Loses {Q S : Type 0} (known : S → Known) (r r' : Receiver Q S) : Type 0 where

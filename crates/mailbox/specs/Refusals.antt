@@ -35,6 +35,13 @@ abbrev pub may_end : Option Refusal → Bool
 may_end None = true
 may_end (Some why) = ends_send why
 
+-- a refusal that is the queue's has this cause; one that is the office's own wants none
+abbrev pub HandsOn : (cause : Refusal → Type 0) → Refusal → Type 0
+HandsOn cause NoNode = cause NoNode
+HandsOn cause (WornOut word) = cause (WornOut word)
+HandsOn cause Busy = cause Busy
+HandsOn cause _ = Unit {0}
+
 -- a take may be refused so: its pop was refused, or a letter is lost
 abbrev pub StopsTake : Refusal → Type 0
 StopsTake (WornOut word) = Unit {0}

@@ -3,8 +3,8 @@ ghost use Rattle.std.specs.Prelude.{◌≡◌, ◌≤◌, ◌≢◌, true, Err, 
 ghost use Rattle.history.specs.declared.refusals.Refusal.TheVariants.{Lost};
 ghost use Rattle.mailbox.specs.Deliveries.{InOrder};
 ghost use Rattle.mailbox.specs.Offices.{IsReceiver, receiver_knows, has_lost, ShowsLast, LastIs};
-ghost use Rattle.mailbox.specs.Offices.{TakeAnswers, TookNothing, Loses};
-ghost use Rattle.mailbox.specs.Refusals.{StopsTake, EndsTake};
+ghost use Rattle.mailbox.specs.Offices.{TakeAnswers, TookNothing, Loses, TakeHadCause, TakeEnded};
+ghost use Rattle.mailbox.specs.Refusals.{StopsTake, EndsTake, HandsOn};
 
 use crate::office::Office;
 use crate::parcels::{Due, Shown, parcel_at};
@@ -56,6 +56,8 @@ impl<Q: Fifo + Drop> Receiver<Q> {
         ensures lost { result ≡ Err Lost → Loses Q.known self.old self.new }
         ensures stays_lost { has_lost self.old ≡ true → result ≡ Err Lost }
         ensures why { IfErr result StopsTake }
+        ensures caused { IfErr result
+            (HandsOn (TakeHadCause Q.pop_cause office.now self.old self.new turns)) }
     {
         if self.lost {
             return Err(Refusal::Lost);
@@ -98,6 +100,8 @@ impl<Q: Fifo + Drop> Receiver<Q> {
         ensures lost { result ≡ Err Lost → Loses Q.known self.old self.new }
         ensures stays_lost { has_lost self.old ≡ true → result ≡ Err Lost }
         ensures why { IfErr result EndsTake }
+        ensures caused { IfErr result
+            (HandsOn (TakeEnded Q.is_seat Q.known Q.pop_cause office.now self.old self.new 8)) }
     {
         let backoff = Backoff::new();
         for _ in rt.forever() {

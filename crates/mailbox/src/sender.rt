@@ -1,9 +1,10 @@
 //! Senders of letters.
 ghost use Rattle.std.specs.Prelude.{◌≡◌, ◌≤◌, Err, OnOk, OnErr, IfOk, IfErr, string_bytes};
 ghost use Rattle.history.specs.declared.refusals.Refusal.TheVariants.{Memory, BadSize};
-ghost use Rattle.mailbox.specs.Refusals.{StopsStore, StopsSend, EndsSend};
+ghost use Rattle.mailbox.specs.Refusals.{StopsStore, StopsSend, EndsSend, HandsOn};
 ghost use Rattle.mailbox.specs.Plans.{Fits};
 ghost use Rattle.mailbox.specs.Offices.{IsSender, marks, Stored, Sent, SentNothing, HasNoBody};
+ghost use Rattle.mailbox.specs.Offices.{HasStored, SendHadCause, SendEnded};
 
 use crate::office::Office;
 use crate::parcels::{Due, Parcel, Shown};
@@ -47,8 +48,8 @@ impl<Q: Fifo + Drop> Sender<Q> {
     /// Sends a letter, in so many turns at most, 1 or more. The office is the one that the sender was made with.
     ///
     /// Refusals, in this order: `Memory`, where the letter can't be stored; `BadSize`, where 2^48 letters or more were
-    /// stored; `NoNode`, `WornOut` and `Busy` of the queue. Nothing is then sent, and the text is given up. Takes memory
-    /// for the letter, and may wait for another thread that makes room for letters.
+    /// stored; `NoNode`, `WornOut` and `Busy` of the one push, with the letter stored. Nothing is then sent, and the text
+    /// is given up. Takes memory for the letter, and may wait for another thread that makes room for letters.
     ///
     /// ```rust
     /// sender.try_send(rt, &office, text, 8)?;
@@ -68,6 +69,9 @@ impl<Q: Fifo + Drop> Sender<Q> {
         ensures memory { result ≡ Err Memory → self.new ≡ self.old }
         ensures no_body { result ≡ Err BadSize → HasNoBody office.now self.old self.new text }
         ensures why { IfErr result StopsSend }
+        ensures stored { IfErr result (HandsOn (λ _. HasStored office.now self.new text)) }
+        ensures caused { IfErr result
+            (HandsOn (SendHadCause Q.push_cause office.now self.old self.new turns)) }
     {
         let body = self.store(rt, office, text, None)?;
         office.queue.try_push(&mut self.seat, body, turns)
@@ -88,6 +92,9 @@ impl<Q: Fifo + Drop> Sender<Q> {
         ensures memory { result ≡ Err Memory → self.new ≡ self.old }
         ensures no_body { result ≡ Err BadSize → HasNoBody office.now self.old self.new text }
         ensures why { IfErr result EndsSend }
+        ensures stored { IfErr result (HandsOn (λ _. HasStored office.now self.new text)) }
+        ensures caused { IfErr result
+            (HandsOn (SendEnded Q.is_seat Q.known Q.push_cause office.now self.old self.new 8)) }
     {
         self.send_due(rt, office, text, None)
     }
@@ -108,6 +115,9 @@ impl<Q: Fifo + Drop> Sender<Q> {
         ensures memory { result ≡ Err Memory → self.new ≡ self.old }
         ensures no_body { result ≡ Err BadSize → HasNoBody office.now self.old self.new text }
         ensures why { IfErr result EndsSend }
+        ensures stored { IfErr result (HandsOn (λ _. HasStored office.now self.new text)) }
+        ensures caused { IfErr result
+            (HandsOn (SendEnded Q.is_seat Q.known Q.push_cause office.now self.old self.new 8)) }
     {
         let body = self.store(rt, office, text, due)?;
         office.queue.push(rt, &mut self.seat, body)

@@ -1,8 +1,7 @@
 //! Both queues, with a seat for each worker and, last, one for the submitter.
 ghost use Rattle.std.specs.Prelude.{IfOk};
 ghost use Rattle.std.specs.List.{All};
-ghost use Rattle.two_lock.specs.Queues as two_lock;
-ghost use Rattle.nonblocking.specs.Queues as nonblocking;
+ghost use Rattle.arena_queue.specs.Queues.{IsQueueSeat};
 
 use history::Refusal;
 use line_table::Kind;
@@ -34,7 +33,7 @@ pub fn two_lock_of(
     nodes: u32,
     workers: usize,
 ) -> Result<(TwoLockQueue, Vec<Seat>), Refusal>
-    ensures { IfOk result (λ r. All (two_lock.IsQueueSeat r.0) r.1.items) }
+    ensures { IfOk result (λ r. All (IsQueueSeat r.0) r.1.items) }
 {
     let roles = roles_of(alloc, workers)?;
     match TwoLockQueue::new(alloc, nodes, GREATEST_COUNT, &roles) {
@@ -49,7 +48,7 @@ pub fn non_blocking_of(
     nodes: u32,
     workers: usize,
 ) -> Result<(MsQueue, Vec<Seat>), Refusal>
-    ensures { IfOk result (λ r. All (nonblocking.IsQueueSeat r.0) r.1.items) }
+    ensures { IfOk result (λ r. All (IsQueueSeat r.0) r.1.items) }
 {
     let roles = roles_of(alloc, workers)?;
     match MsQueue::new(alloc, nodes, GREATEST_COUNT, &roles) {
