@@ -30,9 +30,9 @@ fn placed_of<'a>(alloc: Global, history: &'a [Stamped]) -> Result<Vec<(u64, &'a 
     let mut placed = Vec::new(alloc);
     for operation in history {
         if let Some(at) = operation.at {
-            if placed.push((at, operation)).is_err() {
+            let Ok(()) = placed.push((at, operation)) else {
                 return Err(Refusal::Memory);
-            }
+            };
         }
     }
     Ok(placed)
