@@ -80,7 +80,7 @@ class Recorded:
             known = {e.label() for e in it.edits if not e.why_bad and record.has(e.name, self.keys[e.label()])}
             report.recorded |= known
             if not self.words.all and not self.words.alone:
-                spared = {label for label in known if self.words.new or not is_due(seed, label)}
+                spared = {label for label in known if self.words.new or not is_due(seed, it.crate.name, label)}
                 it.edits = [e for e in it.edits if e.label() not in spared]
                 self.untried += len(spared)
         self.trials = [it for it in self.trials if it.edits]

@@ -11,7 +11,7 @@ from collections.abc import Iterable, Mapping
 
 from mutants.edits import FOLDER
 
-TURNS = 16
+TURNS = 4
 
 
 def number(*words: str) -> int:
@@ -69,6 +69,12 @@ def commit_at(top: str) -> str:
     return ran.stdout.strip() if not ran.returncode else ""
 
 
-def is_due(seed: str, label: str) -> bool:
-    """Returns whether it is an edit's turn, though it is recorded: that of one in sixteen, and of others at another commit."""
-    return number(seed, label) % TURNS == 0
+def is_turn(*words: str) -> bool:
+    return number(*words) % TURNS == 0
+
+
+def is_due(seed: str, crate: str, label: str) -> bool:
+    """Returns whether it is an edit's turn, though it is recorded: that of a quarter of a crate's edits where the crate has its
+    turn, as a quarter of the crates have, and of others at another commit. (A group costs a copy of its crate, however few edits
+    it has: a sixteenth in few crates costs less than one in all.)"""
+    return is_turn(seed, crate) and is_turn(seed, label)
