@@ -24,8 +24,14 @@ macro_rules! access {
     ($arena:ident $seat:ident D2 load Head) => {
         $crate::reference($crate::load($arena, $seat, Line::D2, $crate::Word::Head))
     };
+    ($arena:ident $seat:ident S1 load Tail) => {
+        $crate::reference($crate::load($arena, $seat, Line::S1, $crate::Word::Tail))
+    };
     ($arena:ident $seat:ident B1 exchange HeadLock ($old:expr, $new:expr)) => {
         $crate::exchange($arena, $seat, Line::B1, $crate::Word::HeadLock, $old, u64::from($new))
+    };
+    ($arena:ident $seat:ident S6 exchange TailLock ($old:expr, $new:expr)) => {
+        $crate::exchange($arena, $seat, Line::S6, $crate::Word::TailLock, $old, u64::from($new))
     };
     ($arena:ident $seat:ident $line:ident store Value($node:expr) ($new:expr)) => {
         $crate::store($arena, $seat, Line::$line, $crate::Word::Value($node), $new)

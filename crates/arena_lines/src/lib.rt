@@ -10,9 +10,14 @@ mod stepping;
 mod words;
 
 pub use node_arena::reference;
-pub use outcomes::{Outcome, Reply, ends, frees, frees as frees_aside, goes, with_node, worn};
+pub use outcomes::{
+    Outcome, Reply, closed, ends, frees, frees as frees_aside, goes, with_node, worn,
+};
 // Where the table tells a world of more, a running call has nothing to do.
-pub use outcomes::{same as effect, same as notes, worn as worn_aside, worn as worn_with_node};
+pub use outcomes::{
+    closed as closed_with_node, same as effect, same as notes, worn as worn_aside,
+    worn as worn_with_node,
+};
 pub use setting_out::{exchange, load, store};
 pub use stepping::{cleared, exchanged, loaded, stored};
 pub use words::Word;

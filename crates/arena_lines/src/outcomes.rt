@@ -1,6 +1,6 @@
 //! What a line leads to, by the words of the table's third column.
 ghost use Rattle.std.specs.Prelude.{◌≡◌};
-ghost use Rattle.history.specs.declared.refusals.Refusal.TheVariants.{WornOut};
+ghost use Rattle.history.specs.declared.refusals.Refusal.TheVariants.{WornOut, Closed};
 ghost use Rattle.node_arena.specs.Machine as machine;
 
 use history::{Refusal, WornWord};
@@ -9,7 +9,7 @@ use line_table::{Kind, Line};
 /// What a running call is told.
 #[derive(Clone, Copy)]
 pub enum Reply {
-    /// The body was pushed, or the node is free or set aside.
+    /// The body was pushed, the queue was shut, or the node is free or set aside.
     Done,
     /// The value of this word.
     Value(u64),
@@ -46,6 +46,14 @@ pub fn worn<A: Copy>(word: WornWord, a: A) -> Outcome<A>
     ensures { result ≡ Outcome.Ends (Reply.Refused (WornOut word)) }
 {
     ends(Reply::Refused(Refusal::WornOut(word)), a)
+}
+
+/// The queue is shut.
+#[inline(always)]
+pub fn closed<A: Copy>(a: A) -> Outcome<A>
+    ensures { result ≡ Outcome.Ends (Reply.Refused Closed) }
+{
+    ends(Reply::Refused(Refusal::Closed), a)
 }
 
 /// The node in hand is free or set aside: what frees a node is a call of its own.

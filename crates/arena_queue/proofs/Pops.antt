@@ -3,9 +3,9 @@ use Rattle.std.proofs.Common.{◌≡◌, ℕ, ◌+◌, ◌-◌, ◌<◌, ◌≤�
 use Rattle.history.specs.declared.operations.Entry.TheVariants.{Pop}
 use Rattle.history.specs.declared.operations.Taken.{Taken}
 use Rattle.history.specs.declared.refusals.Refusal.{Refusal}
-use Rattle.history.specs.declared.refusals.Refusal.TheVariants.{WornOut, Busy}
+use Rattle.history.specs.declared.refusals.Refusal.TheVariants.{WornOut, Busy, Closed}
 use Rattle.history.specs.declared.refusals.WornWord.{WornWord}
-use Rattle.history.specs.Answers.{PopAnswers, FoundEmpty, StopsPop}
+use Rattle.history.specs.Answers.{PopAnswers, FoundEmpty, StopsPop, PopRefused as RefusedPop}
 use Rattle.history.proofs.Learning.{answers_then}
 use Rattle.node_arena.specs.Machine.{Held, value_of}
 use Rattle.node_arena.specs.Prologues.{at_rest, out_of}
@@ -15,8 +15,8 @@ use Rattle.node_arena.specs.declared.seats.Seat.{Seat}
 use Rattle.node_arena.specs.Seeing.{known_by}
 use Rattle.node_arena.specs.Seats.{IsSeat, IsReady, KeepsStored, KeepsName, view, known_of, keeping, failed_of}
 use Rattle.node_arena.specs.Turns.{failed_turns}
-use Rattle.node_arena.specs.Paths.{ExtendsPath, Acts, HadNoEffect, EndedAt, IsRefusedAt, added}
-use Rattle.node_arena.proofs.Paths.{walk_then, act_then, sees_on, added_is, added_path, last_held, ends_failed, met_behind, failed-append, failed_behind, kept_seat}
+use Rattle.node_arena.specs.Paths.{ExtendsPath, FindsShutEmpty, StopsAPop, Acts, HadNoEffect, EndedAt, IsRefusedAt, added}
+use Rattle.node_arena.proofs.Paths.{walk_then, then_shut_empty, act_then, sees_on, added_is, added_path, last_held, ends_failed, met_behind, failed-append, failed_behind, kept_seat}
 use Rattle.free_list.specs.Gives.{GiveAnswers}
 use Rattle.arena_queue.specs.Answers.{EmptiesPocket, DrawRefused, Draws, AnswersPop}
 use Rattle.arena_queue.proofs.Queues.{same_number}
@@ -27,12 +27,17 @@ module _ (worn : WornWord → Type 0) where
     late : (path : (view x).path ≡ (view u).path ++ added u x) → added s x ≡ es ++ added u x
     late path = added_path s x (es ++ added u x) (path ∙ ap (λ p. p ++ added u x) w.path ∙ append_assoc (view s).path es (added u x))
 
+    late_stop : (e : added s x ≡ es ++ added u x) (why : Refusal) → StopsAPop u x why → StopsAPop s x why
+    late_stop e Closed h = subst (FindsShutEmpty (view s) (view x)) (sym e) (then_shut_empty (view s) (view u) (view x) es (added u x) w h)
+    late_stop e _ h = subst (ExtendsPath (view s) (view x)) (sym e) (walk_then (view s) (view u) (view x) es (added u x) w h)
+
     late_cause : (e : added s x ≡ es ++ added u x) (why : Refusal) → DrawRefused worn r u x before turns why → DrawRefused worn r s x spent turns why
     late_cause e Busy f = (
       (let c = ap failed_turns e in let n = f.0 in omega (arith, failed-append es (added u x), c, n, more)),
       ends_failed s x (es ++ added u x) e (failed_behind es (added u x) f.1),
     )
     late_cause e (WornOut word) f = (met_behind r s u x es (WornOut word) w e f.0, f.1)
+    late_cause e Closed f = met_behind r s u x es Closed w e f
     late_cause e _ f = absurd f
 
     pub draws_late : (out : Result (Option Taken) Refusal) → KeepsName s u → Draws worn r u x before turns out → Draws worn r s x spent turns out
@@ -60,9 +65,9 @@ module _ (worn : WornWord → Type 0) where
         freed_of (Ok v) e d = ⊎_elim (λ none. inl none) (λ all. inr (let c = ap failed_turns e in omega (arith, failed-append es (added u x), c, all, more))) d.freed
         freed_of (Err why) e d = tt
 
-        refused_by : (o : Result (Option Taken) Refusal) → added s x ≡ es ++ added u x → Draws worn r u x before turns o → IfErr o (λ why. HadNoEffect s x × DrawRefused worn r s x spent turns why)
+        refused_by : (o : Result (Option Taken) Refusal) → added s x ≡ es ++ added u x → Draws worn r u x before turns o → IfErr o (λ why. StopsAPop s x why × DrawRefused worn r s x spent turns why)
         refused_by (Ok v) e d = tt
-        refused_by (Err why) e d = (subst (ExtendsPath (view s) (view x)) (sym e) (walk_then (view s) (view u) (view x) es (added u x) w d.refused.0), late_cause e why d.refused.1)
+        refused_by (Err why) e d = (late_stop e why d.refused.0, late_cause e why d.refused.1)
 
   -- a word was found worn out, and the call is over
   pub draws_worn : (r : Arena) (s t : Seat) (why : Refusal) (word : WornWord) (failed turns : ℕ) (es : List Event) → IsSeat r t → (view t).actor.line ≡ None → (view t).actor.pocket ≡ None → KeepsStored s t → ExtendsPath (view s) (view t) es → why ≡ WornOut word → EndedAt r s es (IsRefusedAt r.plan.setup (view s).number (WornOut word)) → worn word → Draws worn r s (keeping t None failed) failed turns (Err why)
@@ -76,10 +81,25 @@ module _ (worn : WornWord → Type 0) where
         answer = tt;
         few = tt;
         freed = tt;
-        refused = (
+        refused = subst (λ y. StopsAPop s (keeping t None failed) y × DrawRefused worn r s (keeping t None failed) failed turns y) (sym is) (
           subst (ExtendsPath (view s) (view t)) (sym e) w,
-          subst (DrawRefused worn r s (keeping t None failed) failed turns) (sym is) (last_held r s (keeping t None failed) es _ e cause, so),
+          (last_held r s (keeping t None failed) es _ e cause, so),
         );
+      }
+
+  -- the queue was found shut and empty, and the call is over
+  pub draws_shut : (r : Arena) (s t : Seat) (failed turns : ℕ) (es : List Event) → IsSeat r t → (view t).actor.line ≡ None → (view t).actor.pocket ≡ None → KeepsStored s t → FindsShutEmpty (view s) (view t) es → EndedAt r s es (IsRefusedAt r.plan.setup (view s).number Closed) → Draws worn r s (keeping t None failed) failed turns (Err Closed)
+  draws_shut r s t failed turns es seat over empty stored finds cause =
+      let e : added s t ≡ es = added_path s t es finds.path in
+      let rest : at_rest (view t).actor ≡ (view t).actor = ap (out_of (view t).actor) over in
+      record {
+        ready = record { seat = kept_seat r t None failed seat; free = ap (λ b. b.line) rest ∙ over; pocket = sym (ap (λ b. b.pocket) rest ∙ empty) };
+        same = record { number = stored.number; role = stored.role };
+        path = finds.path ∙ ap (λ p. (view s).path ++ p) (sym e);
+        answer = tt;
+        few = tt;
+        freed = tt;
+        refused = (subst (FindsShutEmpty (view s) (view t)) (sym e) finds, last_held r s (keeping t None failed) es _ e cause);
       }
 
   -- a value was taken, and the node that comes free is given back, or stays in the pocket
@@ -142,7 +162,7 @@ module _ (worn : WornWord → Type 0) where
         answer = tt;
         few = tt;
         freed = tt;
-        refused = sees_on (view s) (view x) (added s x) d.refused.0;
+        refused = learns why d.refused.0;
         why = stops why d.refused.1;
         caused = d.refused.1;
       }
@@ -150,7 +170,12 @@ module _ (worn : WornWord → Type 0) where
       stops : (why : Refusal) → DrawRefused worn r s x 0 turns why → StopsPop why
       stops Busy f = tt
       stops (WornOut word) f = tt
+      stops Closed f = tt
       stops _ f = absurd f
+
+      learns : (why : Refusal) → StopsAPop s x why → RefusedPop (known_of s) why (known_of x)
+      learns Closed h = h.found
+      learns _ h = sees_on (view s) (view x) (added s x) h
 
   -- the pop of a seat whose pocket was empty
   pub drawn_at_once : (r : Arena) (s v x : Seat) (n turns : ℕ) (out : Result (Option Taken) Refusal) → IsReady r s → v ≡ s → n ≡ 0 → Draws worn r v x n turns out → AnswersPop worn r s x turns out

@@ -1,21 +1,42 @@
 -- A push behind other lines of its call, and a whole push: with a full pocket, or after a take.
-use Rattle.std.proofs.Common.{◌≡◌, ℕ, ◌+◌, List, ◌++◌, Option, Result, Ok, Err, sym, ap, subst, ◌∙◌, arith}
+use Rattle.std.proofs.Common.{◌≡◌, ℕ, ◌+◌, List, ◌++◌, Option, Result, Ok, Err, sym, ap, subst, ◌∙◌, arith, append_assoc}
 use Rattle.history.specs.declared.operations.Entry.TheVariants.{Push}
 use Rattle.history.specs.declared.refusals.Refusal.{Refusal}
-use Rattle.history.specs.declared.refusals.Refusal.TheVariants.{WornOut, Busy}
+use Rattle.history.specs.declared.refusals.Refusal.TheVariants.{WornOut, Busy, Closed}
 use Rattle.history.specs.declared.refusals.WornWord.{WornWord}
 use Rattle.history.specs.declared.refusals.WornWord.TheVariants.{Free as OfFree, Next as OfNext, Tail as OfTail, Head as OfHead}
-use Rattle.history.specs.Answers.{StopsPush}
+use Rattle.history.specs.Answers.{StopsPush, PushRefused as RefusedPush}
 use Rattle.node_arena.specs.Machine.{Held}
 use Rattle.node_arena.specs.Traces.{Event}
 use Rattle.node_arena.specs.declared.arena.Arena.{Arena}
 use Rattle.node_arena.specs.declared.seats.Seat.{Seat}
-use Rattle.node_arena.specs.Seats.{IsReady, KeepsName, view}
+use Rattle.node_arena.specs.Seats.{IsReady, KeepsName, view, known_of}
 use Rattle.node_arena.specs.Turns.{failed_turns}
-use Rattle.node_arena.specs.Paths.{ExtendsPath, Acts, HadNoEffect, added}
-use Rattle.node_arena.proofs.Paths.{walk_then, then_act, added_is, added_path, sees_on, met_behind, failed-append, failed_behind, ends_failed}
+use Rattle.node_arena.specs.Paths.{ExtendsPath, FindsShut, StopsAPush, Acts, HadNoEffect, added}
+use Rattle.free_list.specs.Takes.{TakeRefused}
+use Rattle.node_arena.proofs.Paths.{walk_then, then_act, then_shut, added_path, sees_on, met_behind, failed-append, failed_behind, ends_failed}
 use Rattle.arena_queue.specs.Answers.{PutRefused, Puts, PushRefused, AnswersPush}
 use Rattle.arena_queue.proofs.Queues.{same_number}
+
+-- what a call that was refused added to its seat's path
+refused_path : (s t : Seat) (why : Refusal) → StopsAPush s t why → (view t).path ≡ (view s).path ++ added s t
+refused_path s t Closed h = h.path
+refused_path s t _ h = h.path
+
+-- a call that was refused behind other lines
+stops_behind : (s t u : Seat) (es : List Event) → ExtendsPath (view s) (view t) es → added s u ≡ es ++ added t u → (why : Refusal) → StopsAPush t u why → StopsAPush s u why
+stops_behind s t u es w e Closed h = subst (FindsShut (view s) (view u)) (sym e) (then_shut (view s) (view t) (view u) es (added t u) w h)
+stops_behind s t u es w e _ h = subst (ExtendsPath (view s) (view u)) (sym e) (walk_then (view s) (view t) (view u) es (added t u) w h)
+
+-- what its seat then knows
+pub learns : (s t : Seat) (why : Refusal) → StopsAPush s t why → RefusedPush (known_of s) why (known_of t)
+learns s t Closed h = h.found
+learns s t _ h = sees_on (view s) (view t) (added s t) h
+
+-- and after a take that was refused
+pub learns_of_take : (r : Arena) (s t : Seat) (turns : ℕ) (why : Refusal) → HadNoEffect s t → TakeRefused r s t turns why → RefusedPush (known_of s) why (known_of t)
+learns_of_take r s t turns Closed w h = absurd h
+learns_of_take r s t turns _ w h = sees_on (view s) (view t) (added s t) w
 
 module _ (worn : WornWord → Option Held → Type 0) where
   -- a push behind other lines of its call
@@ -36,13 +57,12 @@ module _ (worn : WornWord → Option Held → Type 0) where
       }
   put_behind r s t u es w name node body spent all turns (Err why) f k =
       let both : List Event = es ++ added t u in
-      let walks : ExtendsPath (view s) (view u) both = walk_then (view s) (view t) (view u) es (added t u) w k.refused.0 in
-      let e : added s u ≡ both = added_is s u both walks in
+      let e : added s u ≡ both = added_path s u both (refused_path t u why k.refused.0 ∙ ap (λ p. p ++ added t u) w.path ∙ append_assoc (view s).path es (added t u)) in
       record {
         ready = k.ready;
         same = record { number = k.same.number ∙ name.number; role = k.same.role ∙ name.role };
         pushed = tt;
-        refused = (subst (ExtendsPath (view s) (view u)) (sym e) walks, by_cause e why k.refused.1);
+        refused = (stops_behind s t u es w e why k.refused.0, by_cause e why k.refused.1);
       }
     where
       by_cause : added s u ≡ es ++ added t u → (why : Refusal) → PutRefused worn r t u node all turns why → PutRefused worn r s u node spent turns why
@@ -52,6 +72,7 @@ module _ (worn : WornWord → Option Held → Type 0) where
         x.2,
       )
       by_cause e (WornOut word) x = (met_behind r s t u es (WornOut word) w e x.0, x.1, x.2)
+      by_cause e Closed x = (met_behind r s t u es Closed w e x.0, x.1)
       by_cause e _ x = absurd x
 
   -- the push of a node that was in the pocket
@@ -74,7 +95,7 @@ module _ (worn : WornWord → Option Held → Type 0) where
         pushed = tt;
         few = tt;
         pocket = tt;
-        refused = sees_on (view s) (view t) (added s t) k.refused.0;
+        refused = learns s t why k.refused.0;
         why = stops why k.refused.1;
         caused = by_cause why k.refused.1;
       }
@@ -82,6 +103,7 @@ module _ (worn : WornWord → Option Held → Type 0) where
       stops : (why : Refusal) → PutRefused worn r s t node 0 turns why → StopsPush why
       stops Busy x = tt
       stops (WornOut word) x = tt
+      stops Closed x = tt
       stops _ x = absurd x
 
       by_cause : (why : Refusal) → PutRefused worn r s t node 0 turns why → PushRefused worn r s t turns why
@@ -90,6 +112,7 @@ module _ (worn : WornWord → Option Held → Type 0) where
       by_cause (WornOut OfNext) x = (x.0, x.1)
       by_cause (WornOut OfTail) x = (x.0, x.1)
       by_cause (WornOut OfHead) x = (x.0, x.1)
+      by_cause Closed x = x.0
       by_cause _ x = absurd x
 
   -- the push of a seat whose pocket was full

@@ -1,19 +1,19 @@
 -- What the calls of a queue on an arena answer, whatever its algorithm.
-use Rattle.std.specs.Prelude.{◌≡◌, ℕ, ◌+◌, ◌≤◌, ◌<◌, ◌⊎◌, ◌++◌, Option, None, IfSome, IsSomeAnd, Result, OnOk, OnErr, IfOk, IfErr}
+use Rattle.std.specs.Prelude.{◌≡◌, ℕ, ◌+◌, ◌≤◌, ◌<◌, ◌⊎◌, ◌++◌, Option, None, IfSome, IsSomeAnd, Result, OnOk, IfOk, IfErr}
 use Rattle.line_table.specs.declared.lines.Kind.{Kind}
-use Rattle.history.specs.declared.operations.Entry.TheVariants.{Push}
+use Rattle.history.specs.declared.operations.Entry.TheVariants.{Push, Shut}
 use Rattle.history.specs.declared.operations.Taken.{Taken}
 use Rattle.history.specs.declared.refusals.Refusal.{Refusal}
-use Rattle.history.specs.declared.refusals.Refusal.TheVariants.{WornOut, Busy}
+use Rattle.history.specs.declared.refusals.Refusal.TheVariants.{WornOut, Busy, Closed}
 use Rattle.history.specs.declared.refusals.WornWord.{WornWord}
 use Rattle.history.specs.declared.refusals.WornWord.TheVariants.{Free as OfFree}
-use Rattle.history.specs.Answers.{Pushed, PopAnswers, SeesMore, StopsPush, StopsPop}
+use Rattle.history.specs.Answers.{Pushed, PopAnswers, PushRefused as RefusedPush, PopRefused as RefusedPop, StopsPush, StopsPop}
 use Rattle.node_arena.specs.Machine.{Held}
 use Rattle.node_arena.specs.declared.arena.Arena.{Arena}
 use Rattle.node_arena.specs.declared.seats.Seat.{Seat}
 use Rattle.node_arena.specs.Seats.{IsReady, KeepsName, view, known_of, pocket_of}
 use Rattle.node_arena.specs.Turns.{failed_turns}
-use Rattle.node_arena.specs.Paths.{Acts, HadNoEffect, EndsFailed, MetCause, added}
+use Rattle.node_arena.specs.Paths.{Acts, StopsAPush, StopsAPop, EndsFailed, MetCause, added}
 use Rattle.free_list.specs.Takes.{TakeRefused}
 
 -- an arena of this kind of queue
@@ -30,11 +30,12 @@ KeepsNode t node = IsSomeAnd (pocket_of t) (λ h. h.node ≡ node)
 
 -- why a push that has its node is refused, where so many turns failed before: all turns failed, the last one at the last
 -- step, and the node is in the pocket; or a word was found worn out at the last step, and the pocket is as `worn` says of
--- that word, with no other node
+-- that word, with no other node; or the queue was found shut at the last step, and the node is in the pocket
 abbrev pub PutRefused : (worn : WornWord → Option Held → Type 0) → Arena → Seat → Seat → (node spent turns : ℕ) → Refusal → Type 0
 PutRefused worn r s t node spent turns Busy = (spent + failed_turns (added s t) ≡ turns) × EndsFailed s t × KeepsNode t node
 PutRefused worn r s t node spent turns (WornOut word) =
     MetCause r s t (WornOut word) × worn word (pocket_of t) × IfSome (pocket_of t) (λ h. h.node ≡ node)
+PutRefused worn r s t node spent turns Closed = MetCause r s t Closed × KeepsNode t node
 PutRefused worn r s t node spent turns _ = ⊥
 
 -- what a push answers that has its node, where so many turns failed before
@@ -42,12 +43,14 @@ pub record Puts (worn : WornWord → Option Held → Type 0) (r : Arena) (s t : 
   pub ready : IsReady r t
   pub same : KeepsName s t
   pub pushed : OnOk out (DidPush s t body × (pocket_of t ≡ None) × (spent + failed_turns (added s t) < turns))
-  pub refused : IfErr out (λ why. HadNoEffect s t × PutRefused worn r s t node spent turns why)
+  pub refused : IfErr out (λ why. StopsAPush s t why × PutRefused worn r s t node spent turns why)
 
--- the cause of each refusal of a push is that of a take, or of the push of the node that it has
+-- the cause of each refusal of a push is that of a take, or of the push of the node that it has: a word worn out, or the queue
+-- shut
 abbrev pub PushRefused : (worn : WornWord → Option Held → Type 0) → Arena → Seat → Seat → (turns : ℕ) → Refusal → Type 0
 PushRefused worn r s t turns (WornOut OfFree) = TakeRefused r s t turns (WornOut OfFree)
 PushRefused worn r s t turns (WornOut word) = MetCause r s t (WornOut word) × worn word (pocket_of t)
+PushRefused worn r s t turns Closed = MetCause r s t Closed
 PushRefused worn r s t turns why = TakeRefused r s t turns why
 
 -- fewer turns than allowed failed
@@ -61,7 +64,7 @@ pub record AnswersPush (worn : WornWord → Option Held → Type 0) (r : Arena) 
   pub pushed : OnOk out (Pushed (known_of s) body (known_of t))
   pub few : OnOk out (FailsFewer s t turns)
   pub pocket : OnOk out (pocket_of t ≡ None)
-  pub refused : OnErr out (SeesMore (known_of s) (known_of t))
+  pub refused : IfErr out (λ why. RefusedPush (known_of s) why (known_of t))
   pub why : IfErr out StopsPush
   pub caused : IfErr out (PushRefused worn r s t turns)
 
@@ -70,6 +73,7 @@ pub record AnswersPush (worn : WornWord → Option Held → Type 0) (r : Arena) 
 abbrev pub DrawRefused : (worn : WornWord → Type 0) → Arena → Seat → Seat → (spent turns : ℕ) → Refusal → Type 0
 DrawRefused worn r s t spent turns Busy = (spent + failed_turns (added s t) ≡ turns) × EndsFailed s t
 DrawRefused worn r s t spent turns (WornOut word) = MetCause r s t (WornOut word) × worn word
+DrawRefused worn r s t spent turns Closed = MetCause r s t Closed
 DrawRefused worn r s t spent turns _ = ⊥
 
 -- of a call at most so many turns failed, with those of the give backs before and after its pop
@@ -88,7 +92,7 @@ pub record Draws (worn : WornWord → Type 0) (r : Arena) (s t : Seat) (spent tu
   pub answer : IfOk out (λ o. PopAnswers (known_of s) o (known_of t))
   pub few : OnOk out (spent + failed_turns (added s t) ≤ turns)
   pub freed : OnOk out (EmptiesPocket s t spent turns)
-  pub refused : IfErr out (λ why. HadNoEffect s t × DrawRefused worn r s t spent turns why)
+  pub refused : IfErr out (λ why. StopsAPop s t why × DrawRefused worn r s t spent turns why)
 
 -- after a pop its seat's pocket is empty, or each of so many turns failed
 abbrev pub FreesItsNode : Seat → Seat → (turns : ℕ) → Type 0
@@ -105,6 +109,27 @@ pub record AnswersPop (worn : WornWord → Type 0) (r : Arena) (s t : Seat) (tur
   pub answer : IfOk out (λ o. PopAnswers (known_of s) o (known_of t))
   pub few : OnOk out (FailsFew s t turns)
   pub freed : OnOk out (FreesItsNode s t turns)
-  pub refused : OnErr out (SeesMore (known_of s) (known_of t))
+  pub refused : IfErr out (λ why. RefusedPop (known_of s) why (known_of t))
   pub why : IfErr out StopsPop
   pub caused : IfErr out (PopRefused worn r s t turns)
+
+-- a call shut the queue
+abbrev pub Shuts : (s t : Seat) → Type 0
+Shuts s t = Acts (view s) (view t) (Shut (view s).number) (added s t)
+
+-- why a shut is refused: all turns failed, the last one at the last step; or a word of which `worn` says so was found worn
+-- out at the last step; or the queue was found shut at the last step
+abbrev pub ShutRefused : (worn : WornWord → Type 0) → Arena → Seat → Seat → (turns : ℕ) → Refusal → Type 0
+ShutRefused worn r s t turns Busy = (failed_turns (added s t) ≡ turns) × EndsFailed s t
+ShutRefused worn r s t turns (WornOut word) = MetCause r s t (WornOut word) × worn word
+ShutRefused worn r s t turns Closed = MetCause r s t Closed
+ShutRefused worn r s t turns _ = ⊥
+
+-- what a shut answers: what is in the pocket stays there
+pub record AnswersShut (worn : WornWord → Type 0) (r : Arena) (s t : Seat) (turns : ℕ) (out : Result (Unit {0}) Refusal) : Type 0 where
+  pub ready : IsReady r t
+  pub same : KeepsName s t
+  pub pocket : pocket_of t ≡ pocket_of s
+  pub shut : OnOk out (Shuts s t)
+  pub few : OnOk out (FailsFewer s t turns)
+  pub refused : IfErr out (λ why. StopsAPush s t why × ShutRefused worn r s t turns why)

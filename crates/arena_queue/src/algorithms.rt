@@ -1,17 +1,17 @@
 //! What an algorithm of a queue on an arena has to bring.
-ghost use Rattle.std.specs.Prelude.{◌≡◌, ◌<◌, Option, Some, None, IsTrue};
+ghost use Rattle.std.specs.Prelude.{◌≡◌, ◌<◌, ◌≤◌, Option, Some, None, IsTrue};
 ghost use Rattle.line_table.specs.declared.lines.Kind.{Kind as TheKind};
 ghost use Rattle.history.specs.declared.refusals.WornWord.{WornWord as TheWornWord};
 ghost use Rattle.node_arena.specs.Machine.{Held as TheHeld};
 ghost use Rattle.node_arena.specs.Plans.{may_push, may_pop};
 ghost use Rattle.node_arena.specs.Seats.{IsReady, role_of, pocket_of};
-ghost use Rattle.arena_queue.specs.Answers.{IsOfKind, Puts, Draws};
+ghost use Rattle.arena_queue.specs.Answers.{IsOfKind, Puts, Draws, AnswersShut};
 
 use history::{Body, Refusal, Taken};
 use line_table::Kind;
 use node_arena::{Arena, Held, Seat};
 
-/// How a queue on an arena pushes a node that it has, and pops.
+/// How a queue on an arena pushes a node that it has, pops, and is shut.
 pub trait Algorithm {
     // The kind of its arenas.
     ghost kind: { TheKind };
@@ -21,6 +21,9 @@ pub trait Algorithm {
 
     // Which words stop a pop where they are worn out.
     ghost pop_worn: { TheWornWord → Type 0 };
+
+    // Which words stop a shut where they are worn out.
+    ghost shut_worn: { TheWornWord → Type 0 };
 
     /// The kind of its arenas.
     fn kind() -> Kind
@@ -55,4 +58,12 @@ pub trait Algorithm {
         requires empty { pocket_of seat.old ≡ None }
         requires turns { spent < turns }
         ensures { Draws pop_worn arena.now seat.old seat.new spent turns result };
+
+    /// The shut, which leaves the pocket alone.
+    fn shut(arena: &Arena, seat: &mut Seat, turns: u32) -> Result<(), Refusal>
+        requires ready { IsReady arena.now seat.old }
+        requires kind { IsOfKind arena.now kind }
+        requires role { IsTrue (may_push (role_of seat.old)) }
+        requires turns { 1 ≤ turns }
+        ensures { AnswersShut shut_worn arena.now seat.old seat.new turns result };
 }

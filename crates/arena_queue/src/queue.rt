@@ -80,11 +80,13 @@ impl<A: Algorithm> Fifo for ArenaQueue<A> {
     ghost use Rattle.std.specs.Prelude.{map};
     ghost use Rattle.std.specs.List.{All};
     ghost use Rattle.history.specs.Seats.{MayPush, MayPop};
-    ghost use Rattle.history.specs.Answers.{Pushed, PopAnswers, SeesMore, StopsPush, StopsPop};
+    ghost use Rattle.history.specs.Answers.{Pushed, PopAnswers, DidShut, StopsPush, StopsPop, StopsShut};
+    ghost use Rattle.history.specs.Answers.{PushRefused as RefusedPush, PopRefused as RefusedPop};
     ghost use Rattle.history.specs.Closing.{Closes};
     ghost use Rattle.node_arena.specs.Seats.{known_of, pocket_of, view};
     ghost use Rattle.node_arena.proofs.Seens.{sound_of};
     ghost use Rattle.arena_queue.specs.Answers.{FailsFewer, PushRefused, FailsFew, FreesItsNode, PopRefused};
+    ghost use Rattle.arena_queue.specs.Answers.{ShutRefused};
     ghost use Rattle.arena_queue.specs.Queues.{arena_of, permits_of, IsQueueSeat};
 
     type Seat = Seat;
@@ -99,12 +101,15 @@ impl<A: Algorithm> Fifo for ArenaQueue<A> {
 
     ghost pop_cause = { λ q. PopRefused A.pop_worn (arena_of q) };
 
+    ghost shut_cause = { λ q. ShutRefused A.shut_worn (arena_of q) };
+
     ghost sound = { λ q s h. sound_of (arena_of q).plan (view s) h.seat.sits.fitted };
 
     /// Refusals: `NoNode` where at one step all nodes were used and none was free, `WornOut` where at one step the count
-    /// of Free or of a word that stops the algorithm's pushes was the greatest one, and `Busy` where each of so many turns
-    /// failed. A node that the call got stays in the seat's pocket, for its next push, unless the algorithm says otherwise.
-    /// Takes no memory and doesn't wait.
+    /// of Free or of a word that stops the algorithm's pushes was the greatest one, `Busy` where each of so many turns
+    /// failed, and `Closed` where at one step the queue was shut. A push that has no node takes one first, and is refused
+    /// `NoNode` also where the queue is shut. A node that the call got stays in the seat's pocket, for its next push, unless
+    /// the algorithm says otherwise. Takes no memory and doesn't wait.
     fn try_push(&self, seat: &mut Seat, body: Body, turns: u32) -> Result<(), Refusal>
         requires seat { IsQueueSeat self.now seat.old }
         requires role { MayPush (permits_of self.now) (known_of seat.old).number }
@@ -114,7 +119,8 @@ impl<A: Algorithm> Fifo for ArenaQueue<A> {
         ensures pushed { OnOk result (Pushed (known_of seat.old) body (known_of seat.new)) }
         ensures few { OnOk result (FailsFewer seat.old seat.new turns) }
         ensures pocket { OnOk result (pocket_of seat.new ≡ None) }
-        ensures refused { OnErr result (SeesMore (known_of seat.old) (known_of seat.new)) }
+        ensures refused { IfErr result
+            (λ why. RefusedPush (known_of seat.old) why (known_of seat.new)) }
         ensures why { IfErr result StopsPush }
         ensures caused { IfErr result
             (PushRefused A.push_worn (arena_of self.now) seat.old seat.new turns) }
@@ -126,8 +132,9 @@ impl<A: Algorithm> Fifo for ArenaQueue<A> {
         A::put(&self.arena, seat, held, body, spent, turns)
     }
 
-    /// Refusals: `WornOut` where at one step the count of a word that stops the algorithm's pops was the greatest one, and
-    /// `Busy` where each of so many turns failed. Takes no memory and doesn't wait.
+    /// Refusals: `WornOut` where at one step the count of a word that stops the algorithm's pops was the greatest one,
+    /// `Busy` where each of so many turns failed, and `Closed` where at one step the queue was shut and empty. Takes no
+    /// memory and doesn't wait.
     fn try_pop(&self, seat: &mut Seat, turns: u32) -> Result<Option<Taken>, Refusal>
         requires seat { IsQueueSeat self.now seat.old }
         requires role { MayPop (permits_of self.now) (known_of seat.old).number }
@@ -137,7 +144,8 @@ impl<A: Algorithm> Fifo for ArenaQueue<A> {
         ensures answer { IfOk result (λ o. PopAnswers (known_of seat.old) o (known_of seat.new)) }
         ensures few { OnOk result (FailsFew seat.old seat.new turns) }
         ensures freed { OnOk result (FreesItsNode seat.old seat.new turns) }
-        ensures refused { OnErr result (SeesMore (known_of seat.old) (known_of seat.new)) }
+        ensures refused { IfErr result
+            (λ why. RefusedPop (known_of seat.old) why (known_of seat.new)) }
         ensures why { IfErr result StopsPop }
         ensures caused { IfErr result
             (PopRefused A.pop_worn (arena_of self.now) seat.old seat.new turns) }
@@ -150,6 +158,27 @@ impl<A: Algorithm> Fifo for ArenaQueue<A> {
             }
         };
         A::draw(&self.arena, seat, spent, turns)
+    }
+
+    /// Refusals: `WornOut` where at one step the count of a word that stops the algorithm's shuts was the greatest one,
+    /// `Busy` where each of so many turns failed, and `Closed` where at one step the queue was shut. Takes no memory and
+    /// doesn't wait.
+    fn try_shut(&self, seat: &mut Seat, turns: u32) -> Result<(), Refusal>
+        requires seat { IsQueueSeat self.now seat.old }
+        requires role { MayPush (permits_of self.now) (known_of seat.old).number }
+        requires turns { 1 ≤ turns }
+        ensures seat { IsQueueSeat self.now seat.new }
+        ensures number { (known_of seat.new).number ≡ (known_of seat.old).number }
+        ensures shut { OnOk result (DidShut (known_of seat.old) (known_of seat.new)) }
+        ensures few { OnOk result (FailsFewer seat.old seat.new turns) }
+        ensures pocket { pocket_of seat.new ≡ pocket_of seat.old }
+        ensures refused { IfErr result
+            (λ why. RefusedPush (known_of seat.old) why (known_of seat.new)) }
+        ensures why { IfErr result StopsShut }
+        ensures caused { IfErr result
+            (ShutRefused A.shut_worn (arena_of self.now) seat.old seat.new turns) }
+    {
+        A::shut(&self.arena, seat, turns)
     }
 
     fn meet(&self, one: &mut Seat, other: &mut Seat) {

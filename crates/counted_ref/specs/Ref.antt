@@ -14,7 +14,7 @@ node_bits = 24
 abbrev pub count_bits : ℕ
 count_bits = 64 - node_bits
 
--- the node number that no reference has: all node bits are set
+-- the number that no node has, and a closed end: all node bits are set
 abbrev pub reserved_node : ℕ
 reserved_node = 2 ^ node_bits - 1
 
@@ -22,9 +22,9 @@ reserved_node = 2 ^ node_bits - 1
 abbrev pub count_mask : ℕ
 count_mask = 2 ^ 64 - 2 ^ node_bits
 
--- a reference is in range: its node is below the reserved one, and its count fits its bits
+-- a reference is in range: its node and its count fit their bits
 pub record IsRef (r : Ref) : Type 0 where
-  pub node : r.node < reserved_node
+  pub node : r.node < 2 ^ node_bits
   pub count : r.count < 2 ^ count_bits
 
 -- the reference of a node with a count
@@ -38,6 +38,14 @@ null = ref 0 0
 -- whether a reference is of no node, whatever its count
 abbrev pub is_null : Ref → Bool
 is_null r = nat_eq r.node 0
+
+-- the closed end with a count: nothing is linked behind it any more
+abbrev pub shut_ref : ℕ → Ref
+shut_ref count = ref reserved_node count
+
+-- whether a reference is a closed end, whatever its count
+abbrev pub is_shut : Ref → Bool
+is_shut r = nat_eq r.node reserved_node
 
 -- whether two references have the same node and the same count
 abbrev pub same_ref : Ref → Ref → Bool

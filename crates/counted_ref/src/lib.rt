@@ -4,4 +4,4 @@
 pub mod laws;
 mod reference;
 
-pub use reference::{CountedRef, MOST_COUNT, MOST_NODE};
+pub use reference::{CountedRef, MOST_COUNT, MOST_NODE, SHUT_NODE};

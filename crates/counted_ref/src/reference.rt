@@ -1,6 +1,6 @@
 //! The packed word, and the calls that make, read and raise it.
-ghost use Rattle.std.specs.Prelude.{◌≡◌, ◌≢◌, ◌+◌, ◌%◌, ◌^◌, ◌<◌, ◌≤◌, ◌↔◌, IsNone, IfSome};
-ghost use Rattle.counted_ref.specs.Ref.{IsRef, node_bits, count_bits, reserved_node, ref, is_null, same_ref, ref_word, ref_of};
+ghost use Rattle.std.specs.Prelude.{◌≡◌, ◌+◌, ◌^◌, ◌<◌, ◌≤◌, ◌↔◌, Some, IsNone, IfSome};
+ghost use Rattle.counted_ref.specs.Ref.{IsRef, node_bits, count_bits, reserved_node, ref, shut_ref, is_null, is_shut, same_ref, ref_word, ref_of};
 
 use std::marker::Model;
 
@@ -10,8 +10,8 @@ const NODE_BITS: u32 = 24;
 /// How many numbers the node bits can hold.
 const NODE_SPAN: u64 = 1 << NODE_BITS;
 
-/// The node number that no reference has: all node bits are set.
-const RESERVED_NODE: u64 = NODE_SPAN - 1;
+/// The number of a closed end, which no node has, 16,777,215.
+pub const SHUT_NODE: u32 = (1 << NODE_BITS) - 1;
 
 /// The greatest number of a node, 16,777,214.
 pub const MOST_NODE: u32 = (1 << NODE_BITS) - 2;
@@ -21,22 +21,20 @@ pub const MOST_COUNT: u64 = (1 << (64 - NODE_BITS)) - 1;
 
 /// A counted reference: a node number in the low 24 bits of one word, and a count in the high 40.
 ///
-/// Node 0 is null, nodes are 1 to 16,777,214, and 16,777,215 is reserved. Counts are 0 to
-/// 1,099,511,627,775. No call takes memory or waits.
+/// Node 0 is null, nodes are 1 to 16,777,214, and 16,777,215 is a closed end, behind which nothing is
+/// linked any more. Counts are 0 to 1,099,511,627,775. No call takes memory or waits.
 #[derive(Clone, Copy, Debug, PartialEq, Eq)]
 pub struct CountedRef {
     word: u64,
 }
 
 impl Model for CountedRef {
-    ghost use Rattle.std.specs.Prelude.{◌≡◌, ◌%◌, ◌^◌, ◌<◌};
-    ghost use Rattle.counted_ref.specs.Ref.{Ref, node_bits, reserved_node, ref_word, ref_of};
+    ghost use Rattle.std.specs.Prelude.{◌≡◌};
+    ghost use Rattle.counted_ref.specs.Ref.{Ref, ref_word, ref_of};
 
     ghost Value = { Ref };
 
     ghost view = { λ r. ref_of r.word };
-
-    ghost invariant = { λ r. r.word % 2 ^ node_bits < reserved_node };
 
     ghost inverse = { λ r. record { word = ref_word r } };
 
@@ -63,14 +61,28 @@ impl CountedRef {
         }
     }
 
-    /// The number of the node, 0 to 16,777,214; 0 is null. Takes no memory.
+    /// The closed end with this count, 0 to 1,099,511,627,775. Takes no memory.
+    ///
+    /// ```
+    /// assert_eq!(CountedRef::shut(1).word(), 33_554_431);
+    /// ```
+    pub fn shut(count: u64) -> CountedRef
+        requires { count < 2 ^ count_bits }
+        ensures { result ≡ shut_ref count }
+    {
+        CountedRef {
+            word: count * NODE_SPAN + u64::from(SHUT_NODE),
+        }
+    }
+
+    /// The number of the node, 0 to 16,777,215; 0 is null, and 16,777,215 a closed end. Takes no memory.
     ///
     /// ```
     /// assert_eq!(CountedRef::new(2, 1).node(), 2);
     /// ```
     pub fn node(&self) -> u32
         ensures value { result ≡ self.now.node }
-        ensures range { result < reserved_node }
+        ensures range { result < 2 ^ node_bits }
     {
         (self.word % NODE_SPAN) as u32
     }
@@ -99,6 +111,18 @@ impl CountedRef {
         self.node() == 0
     }
 
+    /// Whether this is a closed end, whatever the count. Takes no memory.
+    ///
+    /// ```
+    /// assert!(CountedRef::shut(1).is_shut());
+    /// assert!(!CountedRef::new(16_777_214, 1).is_shut());
+    /// ```
+    pub fn is_shut(&self) -> bool
+        ensures { result ≡ is_shut self.now }
+    {
+        self.node() == SHUT_NODE
+    }
+
     /// The word: the count times 16,777,216, and the node. Takes no memory.
     ///
     /// ```
@@ -111,33 +135,25 @@ impl CountedRef {
         self.word
     }
 
-    /// The reference of a word; none exactly where its low 24 bits are the reserved number. Takes no
-    /// memory.
+    /// The reference of a word: some for every word. Takes no memory.
     ///
     /// ```
     /// assert!(CountedRef::from_word(16_777_218) == Some(CountedRef::new(2, 1)));
-    /// assert!(CountedRef::from_word(16_777_215).is_none());
+    /// assert!(CountedRef::from_word(16_777_215) == Some(CountedRef::shut(0)));
     /// ```
     pub fn from_word(word: u64) -> Option<CountedRef>
-        ensures none { IsNone result ↔ (word % 2 ^ node_bits ≡ reserved_node) }
-        ensures value { IfSome result (λ r. r ≡ ref_of word) }
-        ensures same_word { IfSome result (λ r. ref_word r ≡ word) }
-        ensures in_range { IfSome result IsRef }
+        ensures value { result ≡ Some (ref_of word) }
+        ensures same_word { ref_word (ref_of word) ≡ word }
     {
-        if word % NODE_SPAN == RESERVED_NODE {
-            None
-        } else {
-            Some(CountedRef { word })
-        }
+        Some(CountedRef { word })
     }
 
-    /// The reference of a word whose low 24 bits aren't the reserved number, with no test. Takes no memory.
+    /// The reference of a word, not in an option. Takes no memory.
     ///
     /// ```
     /// assert!(CountedRef::of_word(16_777_218) == CountedRef::new(2, 1));
     /// ```
     pub fn of_word(word: u64) -> CountedRef
-        requires { word % 2 ^ node_bits ≢ reserved_node }
         ensures value { result ≡ ref_of word }
         ensures same_word { ref_word result ≡ word }
     {

@@ -1,5 +1,6 @@
 //! Runs of workers, with the answers worked out by hand.
 mod comparing;
+mod ends;
 mod gates;
 mod plans;
 mod queues;

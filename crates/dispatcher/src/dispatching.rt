@@ -95,13 +95,13 @@ fn join_all<'a, R: Threads>(
 }
 
 // Starts the workers, submits the jobs, and gathers the results. All that can be refused comes before the first worker is
-// started, or after the last one was told to stop: the scope waits for each of them.
+// started, or once the queue is shut or the workers are told that it can't be: the scope waits for each of them.
 fn run<'s, 'a: 's, E, R: Threads + Wait + Sync, Q: Fifo + Sync, G: Gate + Sync>(
     scope: &Scope<'s, E>,
     rt: &'s R,
     alloc: Global,
     queue: &'s Q,
-    giver: Q::Seat,
+    mut giver: Q::Seat,
     takers: Vec<Q::Seat>,
     jobs: &'a [Job],
     gate: &'s G,
@@ -116,7 +116,7 @@ fn run<'s, 'a: 's, E, R: Threads + Wait + Sync, Q: Fifo + Sync, G: Gate + Sync>(
     let mut gather = Gather::new(alloc, jobs)?;
     let seats = takers.len();
     let workers = start_all(scope, rt, alloc, queue, takers, jobs, gate, signals)?;
-    if submit(rt, queue, giver, jobs.len(), seats, signals).is_err() {
+    if submit(rt, queue, &mut giver, jobs.len(), seats, signals).is_err() {
         signals.give_up();
     }
     join_all(rt, &mut gather, workers);
@@ -157,7 +157,11 @@ fn run_in_scope<'a, R: Threads + Wait + Sync, Q: Fifo + Sync, G: Gate + Sync>(
 
 /// Does all jobs, with a thread for each taker, started before the first push; the results, in the order of the jobs.
 ///
-/// The seats are the queue's, and given up: the giver's may push, the takers' may pop. Refusals: `BadSize` where there is no
+/// After the last job's push, or where a push is refused, the giver shuts the queue: workers go on until they find it shut
+/// and empty. Where the shut is refused, they go on until they find it empty. The seats are the queue's, and given up: the
+/// giver's may push, the takers' may pop.
+///
+/// Refusals: `BadSize` where there is no
 /// taker or more than `MOST_JOBS` jobs, before anything else; `Memory`; `Lost` where a job has no result, since a worker or
 /// the submitter was refused. Takes memory for two results a job and a handle a taker, and each thread for its results;
 /// waits.

@@ -29,12 +29,12 @@ impl Signals {
         }
     }
 
-    /// The submitter pushes no more.
+    /// The submitter pushes no more, and couldn't shut the queue.
     pub(crate) fn give_up(&self) {
         self.given_up.store(true, Ordering::SeqCst);
     }
 
-    /// Whether the submitter pushes no more.
+    /// Whether the submitter pushes no more, and couldn't shut the queue.
     fn has_given_up(&self) -> bool {
         self.given_up.load(Ordering::SeqCst)
     }
@@ -50,7 +50,7 @@ impl Signals {
     }
 }
 
-/// Does jobs until it takes the stop value, is refused, or finds nothing more after the submitter gave up.
+/// Does jobs until it finds the queue shut and empty, is refused, or finds nothing more after the submitter gave up.
 pub(crate) fn work<'a, R: Wait, Q: Fifo, G: Gate>(
     rt: &R,
     alloc: Global,

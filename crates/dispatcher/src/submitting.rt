@@ -1,6 +1,6 @@
-//! The submitter: it pushes the numbers of the jobs, and then a stop value for each worker.
-ghost use Rattle.std.specs.Prelude.{◌≤◌};
-ghost use Rattle.dispatcher.specs.Workers.{IsGiver};
+//! The submitter: it pushes the numbers of the jobs, and then shuts the queue.
+ghost use Rattle.std.specs.Prelude.{◌≤◌, OnOk};
+ghost use Rattle.dispatcher.specs.Workers.{IsGiver, KnowsShut};
 
 use crate::running::{Signals, TURNS};
 use crossbeam_utils::Backoff;
@@ -36,22 +36,41 @@ fn push_one<R: Wait, Q: Fifo>(
     unreachable!()
 }
 
-/// Pushes 1 and so on to the number of jobs, and then 0 for each worker. Ends at the first push that is refused.
-pub(crate) fn submit<R: Wait, Q: Fifo>(
+// Pushes 1 and so on to the number of jobs. Ends at the first push that is refused.
+fn push_all<R: Wait, Q: Fifo>(
     rt: &R,
     queue: &Q,
-    mut seat: Q::Seat,
+    seat: &mut Q::Seat,
     jobs: usize,
     workers: usize,
     signals: &Signals,
 ) -> Result<(), Refusal>
-    requires { IsGiver Q.is_seat Q.permits Q.known queue.now seat }
+    requires { IsGiver Q.is_seat Q.permits Q.known queue.now seat.old }
+    ensures { IsGiver Q.is_seat Q.permits Q.known queue.now seat.new }
 {
     for number in 1..=jobs as u64 {
-        push_one(rt, queue, &mut seat, number, workers, signals)?;
-    }
-    for _ in 0..workers {
-        push_one(rt, queue, &mut seat, 0, workers, signals)?;
+        push_one(rt, queue, seat, number, workers, signals)?;
     }
     Ok(())
+}
+
+/// Pushes 1 and so on to the number of jobs, up to the first push that is refused, and then shuts the queue, where it isn't
+/// shut yet. Refused where it can't be shut.
+pub(crate) fn submit<R: Wait, Q: Fifo>(
+    rt: &R,
+    queue: &Q,
+    seat: &mut Q::Seat,
+    jobs: usize,
+    workers: usize,
+    signals: &Signals,
+) -> Result<(), Refusal>
+    requires { IsGiver Q.is_seat Q.permits Q.known queue.now seat.old }
+    ensures { OnOk result (KnowsShut (Q.known seat.new)) }
+{
+    // A job that isn't pushed has no result, which says so.
+    let _ = push_all(rt, queue, seat, jobs, workers, signals);
+    match queue.shut(rt, seat) {
+        Ok(()) | Err(Refusal::Closed) => Ok(()),
+        Err(why) => Err(why),
+    }
 }

@@ -1,7 +1,8 @@
 //! One turn of a worker.
 ghost use Rattle.std.specs.Prelude.{◌≡◌, ◌<◌, ◌≤◌, length, vec_len, vec_capacity, IfOk, IfErr, OnOk, OnErr};
 ghost use Rattle.history.specs.Seats.{MayPop};
-ghost use Rattle.dispatcher.specs.Working.{TakesNumber, TakesNot, PutsResult, Works, WorksNot, HandsOn};
+ghost use Rattle.history.specs.Answers.{PopRefused, StopsPop};
+ghost use Rattle.dispatcher.specs.Working.{TakesNumber, IsNoJob, PutsResult, Works, WorksNot, HandsOn};
 
 use crate::gate::Gate;
 use history::{Fifo, Refusal};
@@ -14,7 +15,7 @@ pub enum Worked {
     Did(u64),
     /// It found the queue empty.
     Empty,
-    /// It took the stop value, body 0.
+    /// It found the queue shut and empty: no number comes any more.
     Stop,
 }
 
@@ -26,7 +27,8 @@ fn take_number<Q: Fifo>(queue: &Q, seat: &mut Q::Seat, turns: u32) -> Result<Opt
     ensures seat { Q.is_seat queue.now seat.new }
     ensures number { (Q.known seat.new).number ≡ (Q.known seat.old).number }
     ensures taken { IfOk result (TakesNumber (Q.known seat.old) (Q.known seat.new)) }
-    ensures why { IfErr result (TakesNot (Q.known seat.old) (Q.known seat.new)) }
+    ensures refused { IfErr result (λ why. PopRefused (Q.known seat.old) why (Q.known seat.new)) }
+    ensures why { IfErr result StopsPop }
     ensures caused { IfErr result (Q.pop_cause queue.now seat.old seat.new turns) }
 {
     let Some(taken) = queue.try_pop(seat, turns)? else {
@@ -35,21 +37,23 @@ fn take_number<Q: Fifo>(queue: &Q, seat: &mut Q::Seat, turns: u32) -> Result<Opt
     Ok(Some(taken.body.number()))
 }
 
-// Does the job of this number, 1 or more: its result is put at the end of `out`, which has room. Refused by `Stranger` where
-// the number is above that of the jobs.
+// Does the job of this number: its result is put at the end of `out`, which has room. Refused by `Stranger` where the number
+// is 0, or above that of the jobs.
 fn do_job<'a, G: Gate>(
     jobs: &'a [Job],
     gate: &G,
     out: &mut Vec<JobResult<'a>>,
     number: u64,
 ) -> Result<(), Refusal>
-    requires from_one { 1 ≤ number }
-    requires room { vec_len out.old < vec_capacity out.old }
+    requires { vec_len out.old < vec_capacity out.old }
     ensures put { OnOk result (PutsResult jobs.now number out.old.items out.new.items) }
     ensures why { IfErr result (λ why. why ≡ Refusal.Stranger) }
-    ensures above { OnErr result (length jobs.now < number) }
+    ensures none { OnErr result (IsNoJob jobs.now number) }
     ensures refused { OnErr result (out.new.items ≡ out.old.items) }
 {
+    if number == 0 {
+        return Err(Refusal::Stranger);
+    }
     let Some(job) = jobs.get(number as usize - 1) else {
         return Err(Refusal::Stranger);
     };
@@ -62,15 +66,20 @@ fn do_job<'a, G: Gate>(
 /// Takes one value, in so many turns at most, 1 or more, and does the job of that number: its result is put at the end of
 /// `out`. The seat may pop.
 ///
+/// Where the queue is empty, and where it is shut and empty, it says so; `out` is then as before. Calls `gate.before` once
+/// the value is taken, and `gate.after` once the result is in `out`. Takes memory for one more result, and doesn't wait.
+///
 /// Refusals: `Memory` where `out` can't grow, before anything is taken; `WornOut` and `Busy` of the pop, with nothing taken;
-/// `Stranger` where the number taken is above that of the jobs. `out` is then as before. Calls `gate.before` once the value
-/// is taken, and `gate.after` once the result is in `out`. Takes memory for one more result, and doesn't wait.
+/// `Stranger` where the number taken is 0, or above that of the jobs. `out` is then as before.
 ///
 /// ```rust
 /// let jobs = [Job::Add(2, 3), Job::Mul(4, 5)];
 /// // The body at the front is 2.
 /// let worked = work_one(&queue, &mut taker, &jobs, &gate, &mut results, 8)?;
 /// assert!(worked == Worked::Did(2));
+/// // Nothing is left, and nothing comes any more.
+/// queue.shut(rt, &mut giver)?;
+/// assert!(work_one(&queue, &mut taker, &jobs, &gate, &mut results, 8)? == Worked::Stop);
 /// ```
 pub fn work_one<'a, Q: Fifo, G: Gate>(
     queue: &Q,
@@ -88,16 +97,18 @@ pub fn work_one<'a, Q: Fifo, G: Gate>(
     ensures worked { IfOk result
         (Works jobs.now (Q.known seat.old) (Q.known seat.new) out.old.items out.new.items) }
     ensures why { IfErr result (WorksNot jobs.now (Q.known seat.old) (Q.known seat.new)) }
-    ensures caused { IfErr result (HandsOn (Q.pop_cause queue.now seat.old seat.new turns)) }
+    // `Stop` is a pop that was refused, so it has a cause too.
+    ensures caused { HandsOn (Q.pop_cause queue.now seat.old seat.new turns) result }
     ensures refused { OnErr result (out.new.items ≡ out.old.items) }
 {
     if out.reserve(1).is_err() {
         return Err(Refusal::Memory);
     }
-    let number = match take_number(queue, seat, turns)? {
-        None => return Ok(Worked::Empty),
-        Some(0) => return Ok(Worked::Stop),
-        Some(number) => number,
+    let number = match take_number(queue, seat, turns) {
+        Ok(Some(number)) => number,
+        Ok(None) => return Ok(Worked::Empty),
+        Err(Refusal::Closed) => return Ok(Worked::Stop),
+        Err(why) => return Err(why),
     };
     do_job(jobs, gate, out, number)?;
     Ok(Worked::Did(number))

@@ -6,7 +6,7 @@ use Rattle.counted_ref.specs.Ref.{ref_of, same_ref}
 use Rattle.line_table.specs.declared.lines.Kind.{Kind}
 use Rattle.line_table.specs.declared.lines.Kind.TheVariants.{TwoLock, NonBlocking}
 use Rattle.line_table.specs.declared.lines.Line.{Line}
-use Rattle.line_table.specs.declared.lines.Line.TheVariants.{F1, F2, F3}
+use Rattle.line_table.specs.declared.lines.Line.TheVariants.{F1, F2, F3, D2, B1}
 use Rattle.history.specs.declared.operations.Op.TheVariants.{Deq}
 use Rattle.history.specs.declared.operations.Reply.{Reply}
 use Rattle.history.specs.declared.refusals.Refusal.TheVariants.{Busy}
@@ -15,7 +15,7 @@ use Rattle.node_arena.specs.Traces.{Event}
 use Rattle.node_arena.specs.Prologues.{Prologue, continues, at_rest, out_of, gave_up, after_prologue}
 use Rattle.node_arena.specs.declared.arena.Arena.{Arena}
 use Rattle.node_arena.specs.declared.seats.Seat.{Seat}
-use Rattle.node_arena.specs.Seats.{IsReady, DidStep, view, keeping, pocket_of}
+use Rattle.node_arena.specs.Seats.{IsReady, IsSeat, DidStep, view, keeping, pocket_of}
 use Rattle.node_arena.specs.Turns.{failed_at, failed_turns, at_f1}
 use Rattle.node_arena.specs.Paths.{ExtendsPath, Passes, added, NowHolds}
 use Rattle.node_arena.proofs.Tracing.{traced_reached}
@@ -33,6 +33,11 @@ use Rattle.free_list.specs.Gives.{IsBack, GiveTurned, GiveTurns, Giving, GiveAns
 use Rattle.free_list.proofs.Steps.{ref_f1, ref_f3}
 use Rattle.free_list.proofs.Standing.{after_f1, after_f2, after_f3}
 use Rattle.arena_lines.proofs.Registers.{same_registers}
+
+-- before a pop the pocket is empty, in either queue
+empty_at_pops : (r : Arena) (x : Seat) (kind : Kind) → IsSeat r x → (view x).actor.line ≡ Some (dequeues kind) → (view x).actor.pocket ≡ None
+empty_at_pops r x TwoLock seat line = empty_before r x continues B1 record { seat = seat; can = tt; line = line }
+empty_at_pops r x NonBlocking seat line = empty_before r x continues D2 record { seat = seat; can = tt; line = line }
 
 none_at_dequeue : (k : Kind) (o : Option Line) → o ≡ Some (dequeues k) → at_f1 o ≡ 0
 none_at_dequeue TwoLock o e = ap at_f1 e
@@ -71,7 +76,9 @@ front_back r s t prologue a n h d won =
     let k = known_before r s prologue F3 h.before in
     let unworn : b.top.count ≢ w.setup.limit = subst (λ (z : Setup). b.top.count ≢ z.limit) (sym d.told.setup) k.fixed.room in
     let same : b.node ≡ a.node = h.knows.0.node in
-    let is : v.shared.free.node ≡ a.node = ap (λ x. x.node) free_is ∙ raised_names w.setup b.top b.node unworn ∙ same in
+    let range = was_in_range r.plan prologue F3 n (view s) (view t) d.told in
+    let low = (actor_was_in_range r.plan prologue F3 n (view s) (view t) d.told).registers.node in
+    let is : v.shared.free.node ≡ a.node = ap (λ x. x.node) free_is ∙ raised_names w b.top b.node range low unworn ∙ same in
     now_holds r s t prologue F3 n d (IsBack a.node)
     (inl (subst (IsFree v) is (first_is_free v (traced_reached (after r s t prologue F3 n d) d.told.reaches) (let q = k.some in omega arith))))
 
@@ -89,7 +96,7 @@ aside_turn r s t prologue h a out n st f stays = go (nat_eq (ref_of f.found).cou
             seat = f.did.seat;
             over = (after_f1 r s t prologue a f.found st f.did).0 e;
             never = refl;
-            back = subst (λ k. NowHolds r t (IsBack k)) n (aside_back r s t prologue a f.found st f.did (ap (λ x. nat_eq x.count r.plan.setup.limit) (sym (ref_f1 r s t prologue f.found f.did).0) ∙ e));
+            back = subst (λ k. NowHolds r t (IsBack k)) n (aside_back r s t prologue a f.found st f.did (ap (λ x. nat_eq x.count r.plan.setup.limit) (sym (ref_f1 r s t prologue f.found f.did)) ∙ e));
           };
         }
     go false e = absurd (stays F2 (record a { top = ref_of f.found }) (f.leads_to ∙ ap (λ p. if p then Ends Done else Goes F2 (record a { top = ref_of f.found })) e))
@@ -135,7 +142,7 @@ module _ (r : Arena) (s u t x : Seat) (prologue : Prologue) (h : Held) (a b c : 
   walked = pass_then (view s) (view u) (view t) (one ∷ []) (two ∷ []) (pass_on r s u prologue F1 f.found f.did refl (none_due (after_prologue r.plan.setup (view s).number prologue (view s).actor) st.knows.early) refl) (pass_on r u t continues F2 g.found g.did refl tt refl)
 
   same_top : (p : Bool) → same_ref (ref_of k.found) c.top ≡ p → same_ref k.did.told.was.world.shared.free (after_prologue r.plan.setup (view t).number continues (view t).actor).top ≡ p
-  same_top p e = (λ i. same_ref (sym (ref_f3 r t x continues k.found k.did).0 i) (stands.knows.1 i)) ∙ e
+  same_top p e = (λ i. same_ref (sym (ref_f3 r t x continues k.found k.did) i) (stands.knows.1 i)) ∙ e
 
   turned : (p : Bool) → same_ref (ref_of k.found) c.top ≡ p → GiveTurned r x (one ∷ two ∷ three ∷ []) h (gave_of (if p then Ends Done else Goes F1 c))
   turned true e =
@@ -216,7 +223,7 @@ module _ (r : Arena) (s t : Seat) (g : Held) (n : ℕ) (h : Giving r s t g n) wh
       let rest = rests_before r.plan.setup.kind (view x).actor d.turned.over in
       let name = then_stored s t x h.stored d.stored in
       record {
-        ready = record { seat = kept_seat r x None n d.turned.seat; free = ap (λ a. a.line) rest; pocket = sym (ap (λ a. a.pocket) rest ∙ empty_before r x continues (dequeues r.plan.setup.kind) record { seat = d.turned.seat; can = tt; line = d.turned.over }) };
+        ready = record { seat = kept_seat r x None n d.turned.seat; free = ap (λ a. a.line) rest; pocket = sym (ap (λ a. a.pocket) rest ∙ empty_at_pops r x r.plan.setup.kind d.turned.seat d.turned.over) };
         same = record { number = name.number; role = name.role };
         pocket = refl;
         lines = subst (ExtendsPath (view s) (view x)) (sym e) p.walks;

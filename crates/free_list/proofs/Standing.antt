@@ -71,7 +71,7 @@ module _ (r : Arena) (s t : Seat) (prologue : Prologue) (a : Running) (n : ℕ) 
       else Goes N3 (record a { top = top })
 
   pub after_n2 : CallIsAt r s prologue N2 a → (d : DidStep r s t prologue N2 n) → Second d (follow r.plan.setup a N2 n)
-  after_n2 h d = subst (λ x. Second d (second x (is_null x) (nat_lt a.f r.plan.setup.size) (nat_eq x.count r.plan.setup.limit))) (sym (ref_n2 r s t prologue n d).0) (go (is_null d.told.was.world.shared.free) (nat_lt a.f r.plan.setup.size) (nat_eq d.told.was.world.shared.free.count r.plan.setup.limit) refl refl refl)
+  after_n2 h d = subst (λ x. Second d (second x (is_null x) (nat_lt a.f r.plan.setup.size) (nat_eq x.count r.plan.setup.limit))) (sym (ref_n2 r s t prologue n d)) (go (is_null d.told.was.world.shared.free) (nat_lt a.f r.plan.setup.size) (nat_eq d.told.was.world.shared.free.count r.plan.setup.limit) refl refl refl)
     where
       is : (p q u : Bool) → is_null d.told.was.world.shared.free ≡ p → nat_lt a.f r.plan.setup.size ≡ q → nat_eq d.told.was.world.shared.free.count r.plan.setup.limit ≡ u → outcome_at r.plan.setup d.told.was (view s).number b N2 ≡ second_outcome (d.told.was.world.steps + 1) d.told.was.world.shared.free p q u
       is p q u x y w = λ i. second_outcome (d.told.was.world.steps + 1) d.told.was.world.shared.free (x i) ((ap (λ f. nat_lt f r.plan.setup.size) h.knows ∙ y) i) (w i)
@@ -94,7 +94,7 @@ module _ (r : Arena) (s t : Seat) (prologue : Prologue) (a : Running) (n : ℕ) 
 
   -- N3
   pub after_n3 : CallIsAt r s prologue N3 a → (d : DidStep r s t prologue N3 n) → CallIsAt r t continues N4 (record a { next = ref_of n })
-  after_n3 h d = stands_on r t N4 (record a { next = ref_of n }) d.seat (ap (λ x. x.line) d.told.actor) (ap (λ x. x.top) d.told.actor ∙ h.knows, ap (λ x. x.next) d.told.actor ∙ sym (ref_n3 r s t prologue n d).0)
+  after_n3 h d = stands_on r t N4 (record a { next = ref_of n }) d.seat (ap (λ x. x.line) d.told.actor) (ap (λ x. x.top) d.told.actor ∙ h.knows, ap (λ x. x.next) d.told.actor ∙ sym (ref_n3 r s t prologue n d))
 
   -- a node came into the hand, or the turn failed
   pub record Holding (l : Line) (d : DidStep r s t prologue l n) (a' : Running) : Type 0 where
@@ -122,7 +122,7 @@ module _ (r : Arena) (s t : Seat) (prologue : Prologue) (a : Running) (n : ℕ) 
   after_n4 h d = (won, lost)
     where
       same : (p : Bool) → same_ref (ref_of n) a.top ≡ p → same_ref d.told.was.world.shared.free b.top ≡ p
-      same p e = (λ i. same_ref (sym (ref_n4 r s t prologue n d).0 i) (h.knows.0 i)) ∙ e
+      same p e = (λ i. same_ref (sym (ref_n4 r s t prologue n d) i) (h.knows.0 i)) ∙ e
 
       won : same_ref (ref_of n) a.top ≡ true → Holding N4 d (record a { node = a.top.node; mark = a.next.count })
       won e =
@@ -178,7 +178,7 @@ module _ (r : Arena) (s t : Seat) (prologue : Prologue) (a : Running) (n : ℕ) 
   after_f1 h d = (λ e. ap (λ c. c.line) (went true e).1, on)
     where
       same : (p : Bool) → nat_eq (ref_of n).count r.plan.setup.limit ≡ p → nat_eq d.told.was.world.shared.free.count r.plan.setup.limit ≡ p
-      same p e = ap (λ x. nat_eq x.count r.plan.setup.limit) (sym (ref_f1 r s t prologue n d).0) ∙ e
+      same p e = ap (λ x. nat_eq x.count r.plan.setup.limit) (sym (ref_f1 r s t prologue n d)) ∙ e
 
       went : (p : Bool) → nat_eq (ref_of n).count r.plan.setup.limit ≡ p → (x : Option ℕ) × ((view t).actor ≡ record (first (d.told.was.world.steps + 1) d.told.was.world.shared.free p None).actor { entry = x })
       went p e = settled_as F1 d (first (d.told.was.world.steps + 1) d.told.was.world.shared.free p None) (λ i. first (d.told.was.world.steps + 1) d.told.was.world.shared.free (same p e i) (h.knows.early i))
@@ -187,7 +187,7 @@ module _ (r : Arena) (s t : Seat) (prologue : Prologue) (a : Running) (n : ℕ) 
       on e =
           let o = went false e in
           stands_on r t F2 (record a { top = ref_of n }) d.seat (ap (λ c. c.line) o.1)
-          (record { node = ap (λ c. c.node) o.1 ∙ h.knows.node; mark = ap (λ c. c.mark) o.1 ∙ h.knows.mark; early = ap (λ c. c.due) o.1 ∙ h.knows.early }, ap (λ c. c.top) o.1 ∙ sym (ref_f1 r s t prologue n d).0)
+          (record { node = ap (λ c. c.node) o.1 ∙ h.knows.node; mark = ap (λ c. c.mark) o.1 ∙ h.knows.mark; early = ap (λ c. c.due) o.1 ∙ h.knows.early }, ap (λ c. c.top) o.1 ∙ sym (ref_f1 r s t prologue n d))
 
   -- F2
   pub after_f2 : CallIsAt r s prologue F2 a → (d : DidStep r s t prologue F2 n) → CallIsAt r t continues F3 a
@@ -199,7 +199,7 @@ module _ (r : Arena) (s t : Seat) (prologue : Prologue) (a : Running) (n : ℕ) 
   after_f3 h d = (λ e. ap (λ c. c.line) (went true e).1, lost)
     where
       went : (p : Bool) → same_ref (ref_of n) a.top ≡ p → (x : Option ℕ) × ((view t).actor ≡ record (third (d.told.was.world.steps + 1) p None).actor { entry = x })
-      went p e = settled_as F3 d (third (d.told.was.world.steps + 1) p None) (λ i. third (d.told.was.world.steps + 1) (((λ j. same_ref (sym (ref_f3 r s t prologue n d).0 j) (h.knows.1 j)) ∙ e) i) (h.knows.0.early i))
+      went p e = settled_as F3 d (third (d.told.was.world.steps + 1) p None) (λ i. third (d.told.was.world.steps + 1) (((λ j. same_ref (sym (ref_f3 r s t prologue n d) j) (h.knows.1 j)) ∙ e) i) (h.knows.0.early i))
 
       lost : same_ref (ref_of n) a.top ≡ false → CallIsAt r t continues F1 a
       lost e =

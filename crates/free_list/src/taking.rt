@@ -13,7 +13,7 @@ use crate::outcomes::{Actor, Turn, registers, turned};
 use arena_lines::{Outcome, Reply, access, ends, goes, onward, row, with_node, worn};
 use history::{Refusal, WornWord};
 use line_table::{Line, line_table};
-use node_arena::{Arena, Held, Seat, raised};
+use node_arena::{Arena, Held, Seat, raised_unless_shut as raised};
 
 /// `index` turns of this call failed before.
 fn n1(arena: &Arena, seat: &mut Seat, mut a: Actor, index: u32) -> Actor

@@ -1,5 +1,5 @@
 -- Operations that are placed and legal are judged yes.
-use Rattle.std.proofs.Common.{◌≡◌, ◌≢◌, ℕ, ◌+◌, ◌≤◌, Bool, true, false, not, if◌then◌else◌, Option, Some, None, IfSome, List, [], ◌∷◌, refl, ap, ◌∙◌, subst, arith}
+use Rattle.std.proofs.Common.{◌≡◌, ◌≢◌, ℕ, ◌+◌, ◌≤◌, Bool, true, false, not, ◌&&◌, ◌||◌, inl, inr, if◌then◌else◌, Option, Some, None, IfSome, List, [], ◌∷◌, refl, sym, ap, ◌∙◌, subst, arith}
 use Rattle.std.proofs.lemmas.Bool.{le-leb, eq-eqb, ne_eqb, and_from, or_from}
 use Rattle.std.specs.List.{AllByRecursion}
 use Rattle.history.specs.declared.operations.Reply.{Reply}
@@ -7,8 +7,8 @@ use Rattle.history.specs.declared.operations.Reply.TheVariants.{Done, Value, Emp
 use Rattle.history.specs.declared.operations.Stamped.{Stamped}
 use Rattle.history.specs.declared.operations.Verdict.TheVariants.{Yes}
 use Rattle.history.specs.declared.operations.Cause.TheVariants.{Shape, Span, Shared}
-use Rattle.history.specs.Queue.{Queue, empty}
-use Rattle.history.specs.History.{LiesIn, IsPlaced, AreApart, Placement, by_point, AgreesWithQueue, answer, IsSequentialRun, IsLegal, is_shaped, lies_within, same_point, is_shared, fault_or, first_fault, same_reply, agrees_with_queue, first_wrong, wrong_reply, fault_or_replies, verdict}
+use Rattle.history.specs.Queue.{Queue, empty, response}
+use Rattle.history.specs.History.{leaves, is_closed, refuses, LiesIn, IsPlaced, AreApart, Placement, by_point, AgreesWithQueue, answer, IsSequentialRun, IsLegal, is_shaped, lies_within, same_point, is_shared, fault_or, first_fault, same_reply, agrees_with_queue, first_wrong, wrong_reply, fault_or_replies, verdict}
 
 shape_of : (first : ℕ) (last at : Option ℕ) (reply : Option Reply) → LiesIn first last at reply → is_shaped last at reply ≡ true
 shape_of first None None None h = refl
@@ -74,7 +74,9 @@ no_fault_from_placement ops p = no_fault_in ops [] 1 p.each (alone ops) p.apart
 -- a reply that the queue gives passes the test
 pub got : (queue : Queue) (o : Stamped) (r : Option Reply) → AgreesWithQueue queue o r → agrees_with_queue queue o r ≡ true
 got queue o None h = refl
-got queue o (Some (Refused why)) h = h
+got queue o (Some (Refused why)) (inl h) = ap (λ b. b || is_closed why && refuses (response o.actor o.op queue).reply) h
+got queue o (Some (Refused why)) (inr h) =
+    ap (λ x. leaves x || is_closed x && refuses (response o.actor o.op queue).reply) h.0 ∙ ap refuses (sym h.1)
 got queue o (Some Done) h = subst (λ q. same_reply Done q ≡ true) h refl
 got queue o (Some Empty) h = subst (λ q. same_reply Empty q ≡ true) h refl
 got queue o (Some (Value v)) h = subst (λ q. same_reply (Value v) q ≡ true) h (and_from _ _ (eq-eqb v.from v.from refl) (eq-eqb v.body v.body refl))

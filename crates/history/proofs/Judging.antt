@@ -1,5 +1,5 @@
 -- A verdict of yes says that the operations are placed and legal.
-use Rattle.std.proofs.Common.{◌≡◌, ◌≢◌, ℕ, ◌+◌, Bool, true, false, not, ◌&&◌, nat_le, nat_eq, if◌then◌else◌, Option, Some, None, IfSome, List, [], ◌∷◌, refl, ap}
+use Rattle.std.proofs.Common.{◌≡◌, ◌≢◌, ℕ, ◌+◌, Bool, true, false, not, ◌&&◌, ◌||◌, ◌⊎◌, inl, inr, nat_le, nat_eq, if◌then◌else◌, Option, Some, None, IfSome, List, [], ◌∷◌, refl, sym, ap}
 use Rattle.std.proofs.lemmas.Bool.{leb-true, eqb-true, eqb-false, and_parts, or_parts}
 use Rattle.std.specs.List.{AllByRecursion}
 use Rattle.history.specs.declared.operations.Taken.{Taken}
@@ -10,8 +10,10 @@ use Rattle.history.specs.declared.operations.Verdict.{Verdict}
 use Rattle.history.specs.declared.operations.Verdict.TheVariants.{Yes}
 use Rattle.history.specs.declared.operations.Cause.{Cause}
 use Rattle.history.specs.declared.operations.Cause.TheVariants.{Shape, Span, Shared}
-use Rattle.history.specs.Queue.{Queue, empty}
-use Rattle.history.specs.History.{LiesIn, IsPlaced, AreApart, Placement, by_point, AgreesWithQueue, answer, IsSequentialRun, IsLegal, is_shaped, lies_within, same_point, is_shared, fault_of, fault_or, first_fault, same_reply, agrees_with_queue, first_wrong, wrong_reply, fault_or_replies, verdict}
+use Rattle.history.specs.Queue.{Queue, empty, response}
+use Rattle.history.specs.declared.refusals.Refusal.{Refusal}
+use Rattle.history.specs.declared.refusals.Refusal.TheVariants.{Closed}
+use Rattle.history.specs.History.{leaves, is_closed, refuses, LiesIn, IsPlaced, AreApart, Placement, by_point, AgreesWithQueue, answer, IsSequentialRun, IsLegal, is_shaped, lies_within, same_point, is_shared, fault_of, fault_or, first_fault, same_reply, agrees_with_queue, first_wrong, wrong_reply, fault_or_replies, verdict}
 
 lies : (first : ℕ) (last at : Option ℕ) (reply : Option Reply) → is_shaped last at reply ≡ true → lies_within first last at ≡ true → LiesIn first last at reply
 lies first None None None s w = record { ended = (λ x. x, λ x. x); placed = λ x. x; not_before = tt; not_after = tt }
@@ -90,10 +92,25 @@ same_answer Empty Empty e = refl
 same_answer (Value v) (Value w) e = ap Value (same_value v w e)
 same_answer _ _ e = cc e
 
+-- a refusal that is tested to be that the queue is shut, and a reply that is tested to be it
+closed_is : (why : Refusal) → is_closed why ≡ true → why ≡ Closed
+closed_is Closed e = refl
+closed_is _ e = cc e
+
+refuses_is : (given : Reply) → refuses given ≡ true → Refused Closed ≡ given
+refuses_is (Refused why) e = ap Refused (sym (closed_is why e))
+refuses_is _ e = cc e
+
+refused_right : (b : Bool) (given : Reply) (why : Refusal) → leaves why ≡ b → (b || is_closed why && refuses given) ≡ true → (leaves why ≡ true) ⊎ ((why ≡ Closed) × (Refused Closed ≡ given))
+refused_right true given why is e = inl is
+refused_right false given why is e =
+    let h = and_parts (is_closed why) (refuses given) e in
+    inr (closed_is why h.0, refuses_is given h.1)
+
 -- the queue gives a reply that passes the test
 pub gets_right : (queue : Queue) (o : Stamped) (r : Option Reply) → agrees_with_queue queue o r ≡ true → AgreesWithQueue queue o r
 gets_right queue o None e = tt
-gets_right queue o (Some (Refused why)) e = e
+gets_right queue o (Some (Refused why)) e = refused_right (leaves why) (response o.actor o.op queue).reply why refl e
 gets_right queue o (Some Done) e = same_answer Done _ e
 gets_right queue o (Some (Value v)) e = same_answer (Value v) _ e
 gets_right queue o (Some Empty) e = same_answer Empty _ e

@@ -4,7 +4,9 @@ use Rattle.history.specs.declared.operations.Entry.{Entry}
 use Rattle.history.specs.declared.operations.Entry.TheVariants.{Pop}
 use Rattle.history.specs.declared.operations.Taken.{Taken}
 use Rattle.history.specs.Seats.{Known}
-use Rattle.history.specs.Answers.{Adds, FoundEmpty, SeesMore, PopAnswers}
+use Rattle.history.specs.declared.refusals.Refusal.{Refusal}
+use Rattle.history.specs.declared.refusals.Refusal.TheVariants.{Closed}
+use Rattle.history.specs.Answers.{Adds, FoundEmpty, FoundShut, FoundShutEmpty, SeesMore, PopAnswers, PushRefused, PopRefused}
 
 -- a seat that makes no call sees no less
 pub sees_itself : (k : Known) → SeesMore k k
@@ -43,6 +45,40 @@ empty_then a b c f g =
       mine = g.mine ∙ f.mine;
       notes = g.notes ∙ ap (λ ns. ns ++ length c.seen ∷ []) f.notes;
     }
+
+-- a seat that was refused, and then found the queue shut
+shut_then : (a b c : Known) → SeesMore a b → FoundShut b c → FoundShut a c
+shut_then a b c f g =
+    record {
+      number = g.number ∙ f.number;
+      between = f.between ++ g.between;
+      seen = g.seen ∙ ap (λ es. es ++ g.between) f.seen ∙ append_assoc a.seen f.between g.between;
+      shut = g.shut;
+      mine = g.mine ∙ f.mine;
+      notes = g.notes ∙ ap (λ ns. ns ++ length c.seen ∷ []) f.notes;
+    }
+
+-- or shut and empty
+shut_empty_then : (a b c : Known) → SeesMore a b → FoundShutEmpty b c → FoundShutEmpty a c
+shut_empty_then a b c f g =
+    record {
+      number = g.number ∙ f.number;
+      between = f.between ++ g.between;
+      seen = g.seen ∙ ap (λ es. es ++ g.between) f.seen ∙ append_assoc a.seen f.between g.between;
+      empty = g.empty;
+      mine = g.mine ∙ f.mine;
+      notes = g.notes ∙ ap (λ ns. ns ++ length c.seen ∷ []) f.notes;
+    }
+
+-- a seat that was refused, and then was refused a push
+pub push_refused_then : (a b c : Known) (why : Refusal) → SeesMore a b → PushRefused b why c → PushRefused a why c
+push_refused_then a b c Closed f g = shut_then a b c f g
+push_refused_then a b c _ f g = sees_then a b c f g
+
+-- or a pop
+pub pop_refused_then : (a b c : Known) (why : Refusal) → SeesMore a b → PopRefused b why c → PopRefused a why c
+pop_refused_then a b c Closed f g = shut_empty_then a b c f g
+pop_refused_then a b c _ f g = sees_then a b c f g
 
 -- a seat that was refused, and then was answered by a pop
 pub answers_then : (a b c : Known) (taken : Option Taken) → SeesMore a b → PopAnswers b taken c → PopAnswers a taken c

@@ -1,15 +1,17 @@
 -- What is placed and legal is linearizable: the operations that have a place, by rising place, are an order that shows it.
-use Rattle.std.proofs.Common.{◌≡◌, ℕ, ◌≤◌, Bool, true, false, not, cond, nat_le, if◌then◌else◌, Option, None, Some, IfSome, is_some, List, [], ◌∷◌, ◌++◌, refl, sym, ap, subst, arith}
+use Rattle.std.proofs.Common.{◌≡◌, ℕ, ◌≤◌, Bool, true, false, not, cond, nat_le, if◌then◌else◌, Option, None, Some, IfSome, is_some, inr, ◌∙◌, List, [], ◌∷◌, ◌++◌, refl, sym, ap, subst, arith}
 use Rattle.std.specs.List.{AllByRecursion, filter}
 use Rattle.std.specs.List.Sorted.{IsPermutation}
 use Rattle.std.proofs.lemmas.List.Sorted.{IsPermutation-refl, IsPermutation-sym, IsPermutation-cons, IsPermutation-trans, IsPermutation-middle, IsPermutation-append_left}
 use Rattle.history.specs.declared.operations.Taken.{Taken}
 use Rattle.history.specs.declared.operations.Op.{Op}
-use Rattle.history.specs.declared.operations.Op.TheVariants.{Enq, Deq}
+use Rattle.history.specs.declared.operations.Op.TheVariants.{Enq, Deq, Shut}
 use Rattle.history.specs.declared.operations.Reply.{Reply}
 use Rattle.history.specs.declared.operations.Reply.TheVariants.{Done, Value, Empty, Refused}
 use Rattle.history.specs.declared.operations.Stamped.{Stamped}
-use Rattle.history.specs.Queue.{Queue, empty, response, front_of}
+use Rattle.history.specs.Queue.{Queue, empty, Answer, response, front_of}
+use Rattle.history.specs.declared.refusals.Refusal.{Refusal}
+use Rattle.history.specs.declared.refusals.Refusal.TheVariants.{Closed}
 use Rattle.history.specs.History.{LiesIn, IsPlaced, Placement, point_or_zero, inserted, by_point, AgreesWithQueue, answer, IsSequentialRun, IsLegal}
 use Rattle.history.specs.Linearizability.{Answered, operations_of, IsPending, GivesWhatWasTold, MayComeBefore, KeepsTime, IsRun, IsLinearizable}
 use Rattle.history.specs.Order.{Rises}
@@ -123,32 +125,42 @@ all_told : (queue : Queue) (os : List Stamped) → AllByRecursion GivesWhatWasTo
 all_told queue [] = tt
 all_told queue (o ∷ os) = (gives_told queue o o.reply, all_told (answer queue o o.reply).after os)
 
--- a reply is no refusal
-abbrev IsNoRefusal : Reply → Type 0
-IsNoRefusal (Refused why) = ⊥
-IsNoRefusal Done = Unit {0}
-IsNoRefusal (Value v) = Unit {0}
-IsNoRefusal Empty = Unit {0}
+-- a reply that may be given: a refusal is that the queue is shut, which then stays as it is
+abbrev IsGiven : Queue → Answer → Type 0
+IsGiven queue given = (why : Refusal) → given.reply ≡ Refused why → (why ≡ Closed) × (given.after ≡ queue)
 
-front_is_no_refusal : (values : List Taken) → IsNoRefusal (front_of values).reply
-front_is_no_refusal [] = tt
-front_is_no_refusal (front ∷ rest) = tt
+unless_shut_is_given : (shut : Bool) (queue after : Queue) → IsGiven queue (if shut then record { reply = Refused Closed; after = queue } else record { reply = Done; after = after })
+unless_shut_is_given true queue after why e = (cc, refl)
+unless_shut_is_given false queue after why e = absurd cc
 
-given_is_no_refusal : (actor : ℕ) (op : Op) (queue : Queue) → IsNoRefusal (response actor op queue).reply
-given_is_no_refusal actor (Enq body) queue = tt
-given_is_no_refusal actor Deq queue = front_is_no_refusal queue.values
+none_is_given : (shut : Bool) (queue : Queue) → IsGiven queue (record { reply = if shut then Refused Closed else Empty; after = queue })
+none_is_given true queue why e = (cc, refl)
+none_is_given false queue why e = absurd cc
+
+front_is_given : (queue : Queue) (values : List Taken) → IsGiven queue (front_of queue values)
+front_is_given queue [] why e = none_is_given queue.shut queue why e
+front_is_given queue (front ∷ rest) why e = absurd cc
+
+given_is_given : (actor : ℕ) (op : Op) (queue : Queue) → IsGiven queue (response actor op queue)
+given_is_given actor (Enq body) queue = unless_shut_is_given queue.shut queue _
+given_is_given actor Deq queue = front_is_given queue queue.values
+given_is_given actor Shut queue = unless_shut_is_given queue.shut queue _
 
 -- an operation that is given what the queue gives gets it, and leads where the queue leads
-gets_given : (queue : Queue) (o : Stamped) (reply : Reply) → reply ≡ (response o.actor o.op queue).reply → IsNoRefusal reply → AgreesWithQueue queue o (Some reply) × (answer queue o (Some reply) ≡ response o.actor o.op queue)
-gets_given queue o Done e n = (e, refl)
-gets_given queue o (Value v) e n = (e, refl)
-gets_given queue o Empty e n = (e, refl)
-gets_given queue o (Refused why) e n = absurd n
+gets_given : (queue : Queue) (o : Stamped) (given : Answer) (reply : Reply) → given ≡ response o.actor o.op queue → reply ≡ given.reply → IsGiven queue given → AgreesWithQueue queue o (Some reply) × (answer queue o (Some reply) ≡ response o.actor o.op queue)
+gets_given queue o given Done is e n = (e ∙ ap (λ a. a.reply) is, refl)
+gets_given queue o given (Value v) is e n = (e ∙ ap (λ a. a.reply) is, refl)
+gets_given queue o given Empty is e n = (e ∙ ap (λ a. a.reply) is, refl)
+gets_given queue o given (Refused why) is e n =
+    let h = n why (sym e) in (
+      inr (h.0, ap Refused (sym h.0) ∙ e ∙ ap (λ a. a.reply) is),
+      (λ i. record { reply = e i; after = sym h.1 i }) ∙ is,
+    )
 
 runs_on : (queue : Queue) (o : Stamped) (os : List Stamped) (reply : Option Reply) → AgreesWithQueue queue o reply → IsRun (answer queue o reply).after (answered (answer queue o reply).after os) → AgreesWithQueue queue o (Some (reply_in queue o reply)) × IsRun (answer queue o (Some (reply_in queue o reply))).after (answered (answer queue o reply).after os)
 runs_on queue o os (Some reply) g more = (g, more)
 runs_on queue o os None g more =
-    let h = gets_given queue o (response o.actor o.op queue).reply refl (given_is_no_refusal o.actor o.op queue) in
+    let h = gets_given queue o (response o.actor o.op queue) (response o.actor o.op queue).reply refl refl (given_is_given o.actor o.op queue) in
     (h.0, subst (λ a. IsRun a.after (answered (response o.actor o.op queue).after os)) (sym h.1) more)
 
 runs : (queue : Queue) (os : List Stamped) → IsSequentialRun queue os → IsRun queue (answered queue os)

@@ -1,5 +1,5 @@
 -- The entries of some seats in a history: they are at most all, and they are all where no entry is another's.
-use Rattle.std.proofs.Common.{◌≡◌, ◌≢◌, ◌↔◌, ℕ, ◌+◌, ◌-◌, ◌<◌, ◌≤◌, zero, suc, Bool, true, false, cond, nat_eq, IsTrue, Option, Some, None, IsSomeAnd, slice_get, slice_index_or, List, [], ◌∷◌, ◌++◌, length, length-append, sym, refl, ap, ◌∙◌, arith, eq-eqb, eqb-true, ne_eqb}
+use Rattle.std.proofs.Common.{◌≡◌, ◌≢◌, ◌↔◌, ℕ, ◌+◌, ◌-◌, ◌<◌, ◌≤◌, zero, suc, Bool, true, false, cond, if◌then◌else◌, nat_eq, IsTrue, Option, Some, None, IsSomeAnd, slice_get, slice_index_or, List, [], ◌∷◌, ◌++◌, length, length-append, take, sym, refl, ap, ◌∙◌, arith, eq-eqb, eqb-true, ne_eqb}
 use Rattle.std.specs.List.{All, count_by, sum_by}
 use mathlib.Core.List.{IsPrefix}
 use Rattle.std.proofs.lemmas.List.Elements.{All-nil, All-cons, All-head, All-tail}
@@ -7,16 +7,21 @@ use Rattle.std.proofs.lemmas.List.Sums.{sum_by-cons}
 use Rattle.std.proofs.lemmas.List.Recursion.{is_count_by}
 use Rattle.std.proofs.lemmas.Option.{slice_get_within}
 use Rattle.history.specs.declared.operations.Entry.{Entry}
-use Rattle.history.specs.declared.operations.Entry.TheVariants.{Push, Pop}
-use Rattle.history.specs.declared.operations.Op.TheVariants.{Enq}
+use Rattle.history.specs.declared.operations.Entry.TheVariants.{Push, Pop, Shut}
 use Rattle.history.specs.declared.operations.Taken.{Taken}
-use Rattle.history.specs.declared.operations.Reply.TheVariants.{Value, Empty}
+use Rattle.history.specs.declared.operations.Reply.TheVariants.{Done, Value, Empty, Refused}
+use Rattle.history.specs.declared.refusals.Refusal.TheVariants.{Closed}
 use Rattle.history.specs.declared.rests.Rest.{Rest}
-use Rattle.history.specs.Queue.{Queue, empty, response, front_of}
-use Rattle.history.specs.Entries.{seat_of, own_entries, is_push, is_pop, Plays, LeadsTo}
-use Rattle.history.specs.Seats.{Permit, Known, Allows, IsPermitted}
-use Rattle.history.specs.Rests.{left_of, taken_of, whole_of}
-use Rattle.history.specs.Closing.{pushes_of, pops_of, IsOfOne, AreAll, Closes}
+use Rattle.history.specs.Queue.{Queue}
+use Rattle.history.specs.Entries.{seat_of, own_entries, is_push, is_pop, is_shut, Plays, Leads, IsQueueRun}
+use Rattle.history.specs.Seats.{Permit, Known, Allows, IsPermitted, IsEmptyAfter, IsShutAfter}
+use Rattle.history.specs.Rests.{left_of, taken_of, whole_of, was_shut_of}
+use Rattle.history.specs.Closing.{pushes_of, pops_of, shuts_of, IsOfOne, AreAll, Closes}
+
+-- one where a test is passed
+abbrev one_of : Bool → ℕ
+one_of true = 1
+one_of false = 0
 
 -- one more where a test is passed
 abbrev one_more : Bool → ℕ → ℕ
@@ -156,24 +161,78 @@ module _ (p : Entry → Bool) (ks : List Known) where
       go false ih = omega (arith, ih)
 
 -- the pushes and the values before are as many as the pops and the values after
-plays_count : (es : List Entry) (q r : Queue) → Plays q es r → count is_push es + length q.values ≡ count is_pop es + length r.values
-plays_count [] q r e = ap (λ (x : Queue). 0 + length x.values) e
-plays_count (Push seat body ∷ es) q r h =
+plays_count : (es : List Entry) (shut : Bool) (values : List Taken) (r : Queue) → Plays (record { values = values; shut = shut }) es r → count is_push es + length values ≡ count is_pop es + length r.values
+plays_count [] shut values r e = ap (λ (x : Queue). 0 + length x.values) e
+plays_count (Push seat body ∷ es) false values r h =
     let x : Taken = record { from = seat; body = body } in
-    let ih : count is_push es + length (q.values ++ x ∷ []) ≡ count is_pop es + length r.values = plays_count es (response seat (Enq body) q).after r h in
-    let more : length (q.values ++ x ∷ []) ≡ length q.values + 1 = length-append q.values (x ∷ []) in
+    let ih : count is_push es + length (values ++ x ∷ []) ≡ count is_pop es + length r.values = plays_count es false (values ++ x ∷ []) r h.1 in
+    let more : length (values ++ x ∷ []) ≡ length values + 1 = length-append values (x ∷ []) in
     omega (arith, ih, more)
-plays_count (Pop seat value ∷ es) q r h = go q.values h (λ vs. plays_count es (record { values = vs }) r)
-  where
-    go : (vs : List Taken) → ((front_of vs).reply ≡ Value value) × Plays (front_of vs).after es r → ((us : List Taken) → Plays (record { values = us }) es r → count is_push es + length us ≡ count is_pop es + length r.values) → count is_push es + length vs ≡ (1 + count is_pop es) + length r.values
-    go [] g each = absurd (let e : Empty ≡ Value value = g.0 in cc)
-    go (v ∷ vs) g each =
-        let ih : count is_push es + length vs ≡ count is_pop es + length r.values = each vs g.1 in
-        omega (arith, ih)
+plays_count (Push seat body ∷ es) true values r h = absurd (let e : Refused Closed ≡ Done = h.0 in cc)
+plays_count (Shut seat ∷ es) false values r h = omega (arith, plays_count es true values r h.1)
+plays_count (Shut seat ∷ es) true values r h = absurd (let e : Refused Closed ≡ Done = h.0 in cc)
+plays_count (Pop seat value ∷ es) shut (v ∷ vs) r h = omega (arith, plays_count es shut vs r h.1)
+plays_count (Pop seat value ∷ es) false [] r h = absurd (let e : Empty ≡ Value value = h.0 in cc)
+plays_count (Pop seat value ∷ es) true [] r h = absurd (let e : Refused Closed ≡ Value value = h.0 in cc)
+
+-- there is a shut exactly where the queue is shut after, and wasn't before
+plays_shuts : (es : List Entry) (shut : Bool) (values : List Taken) (r : Queue) → Plays (record { values = values; shut = shut }) es r → count is_shut es + one_of shut ≡ one_of r.shut
+plays_shuts [] shut values r e = let same : one_of shut ≡ one_of r.shut = ap (λ (x : Queue). one_of x.shut) e in omega (arith, same)
+plays_shuts (Push seat body ∷ es) false values r h = plays_shuts es false _ r h.1
+plays_shuts (Push seat body ∷ es) true values r h = absurd (let e : Refused Closed ≡ Done = h.0 in cc)
+plays_shuts (Shut seat ∷ es) false values r h = omega (arith, plays_shuts es true values r h.1)
+plays_shuts (Shut seat ∷ es) true values r h = absurd (let e : Refused Closed ≡ Done = h.0 in cc)
+plays_shuts (Pop seat value ∷ es) shut (v ∷ vs) r h = plays_shuts es shut vs r h.1
+plays_shuts (Pop seat value ∷ es) false [] r h = absurd (let e : Empty ≡ Value value = h.0 in cc)
+plays_shuts (Pop seat value ∷ es) true [] r h = absurd (let e : Refused Closed ≡ Value value = h.0 in cc)
+
+-- on a queue that is shut nothing is pushed, and it isn't shut again
+none_on_shut : (es : List Entry) (values : List Taken) (r : Queue) → Plays (record { values = values; shut = true }) es r → (count is_push es ≡ 0) × (count is_shut es ≡ 0)
+none_on_shut [] values r e = (refl, refl)
+none_on_shut (Push seat body ∷ es) values r h = absurd (let e : Refused Closed ≡ Done = h.0 in cc)
+none_on_shut (Shut seat ∷ es) values r h = absurd (let e : Refused Closed ≡ Done = h.0 in cc)
+none_on_shut (Pop seat value ∷ es) (v ∷ vs) r h = none_on_shut es vs r h.1
+none_on_shut (Pop seat value ∷ es) [] r h = absurd (let e : Refused Closed ≡ Value value = h.0 in cc)
+
+-- nor is it behind a shut
+none_behind : (before es : List Entry) (seat : ℕ) (shut : Bool) (values : List Taken) (r : Queue) → Plays (record { values = values; shut = shut }) (before ++ Shut seat ∷ es) r → (count is_push es ≡ 0) × (count is_shut es ≡ 0)
+none_behind [] es seat false values r h = none_on_shut es values r h.1
+none_behind [] es seat true values r h = absurd (let e : Refused Closed ≡ Done = h.0 in cc)
+none_behind (Push other body ∷ before) es seat false values r h = none_behind before es seat false _ r h.1
+none_behind (Push other body ∷ before) es seat true values r h = absurd (let e : Refused Closed ≡ Done = h.0 in cc)
+none_behind (Shut other ∷ before) es seat false values r h = none_behind before es seat true values r h.1
+none_behind (Shut other ∷ before) es seat true values r h = absurd (let e : Refused Closed ≡ Done = h.0 in cc)
+none_behind (Pop other value ∷ before) es seat shut (v ∷ vs) r h = none_behind before es seat shut vs r h.1
+none_behind (Pop other value ∷ before) es seat false [] r h = absurd (let e : Empty ≡ Value value = h.0 in cc)
+none_behind (Pop other value ∷ before) es seat true [] r h = absurd (let e : Refused Closed ≡ Value value = h.0 in cc)
+
+pub none_behind_a_shut : (before es : List Entry) (seat : ℕ) → IsQueueRun (before ++ Shut seat ∷ es) → (count_by is_push es ≡ 0) × (count_by is_shut es ≡ 0)
+none_behind_a_shut before es seat h =
+    let none = none_behind before es seat false [] h.0 h.1 in
+    (omega (arith, none.0, count-is is_push es), omega (arith, none.1, count-is is_shut es))
 
 -- a history has a push for each pop and each value left
-pub pushes-LeadsTo : (es : List Entry) (left : List Taken) → LeadsTo es left → count_by is_push es ≡ count_by is_pop es + length left
-pushes-LeadsTo es left h = omega (arith, plays_count es empty (record { values = left }) h, count-is is_push es, count-is is_pop es)
+pub pushes-Leads : (es : List Entry) (shut : Bool) (left : List Taken) → Leads es shut left → count_by is_push es ≡ count_by is_pop es + length left
+pushes-Leads es shut left h =
+    omega (arith, plays_count es false [] (record { values = left; shut = shut }) h, count-is is_push es, count-is is_pop es)
+
+-- and one shut where it left the queue shut, and else none
+pub shuts-Leads : (es : List Entry) (shut : Bool) (left : List Taken) → Leads es shut left → count_by is_shut es ≡ one_of shut
+shuts-Leads es shut left h =
+    omega (arith, plays_shuts es false [] (record { values = left; shut = shut }) h, count-is is_shut es)
+
+-- so the queue is shut exactly where there is a shut
+pub shut_by_one : (es : List Entry) (shut : Bool) (left : List Taken) → Leads es shut left → count_by is_shut es ≡ (if shut then 1 else 0)
+shut_by_one es true left h = shuts-Leads es true left h
+shut_by_one es false left h = shuts-Leads es false left h
+
+-- where a note says that a prefix leaves the empty queue, there is no shut in it
+pub no_shut_before : (seen : List Entry) (n : ℕ) → IsEmptyAfter seen n → count_by is_shut (take n seen) ≡ 0
+no_shut_before seen n h = shuts-Leads (take n seen) false [] h.1
+
+-- where it says that a prefix leaves the queue shut, there is one
+pub one_shut_before : (seen : List Entry) (n : ℕ) → IsShutAfter seen n → count_by is_shut (take n seen) ≡ 1
+one_shut_before seen n h = shuts-Leads (take n seen) true h.1.0 h.1.1
 
 -- the maker of an entry that is permitted is one of all seats
 maker_times : (permits : List Permit) (ks : List Known) → AreAll permits ks → (e : Entry) → IsPermitted permits e → 1 ≤ times (seat_of e) ks
@@ -195,12 +254,14 @@ module _ (ks : List Known) (es : List Entry) (apart : AreApart ks) (own : All (�
   made_all : (p : Entry → Bool) → sum_by (λ k. count_by p k.mine) ks ≡ count_by p es → All (Counted p ks) es
   made_all p e = by_entry-all p ks apart es (omega (arith, e, made_is p ks es own, by_seat-is p ks es, count-is p es))
 
-  pub theirs : pops_of ks ≡ count_by is_pop es → pushes_of ks ≡ count_by is_push es → All (IsOfOne ks) es
-  theirs pops pushes k d lt = one (slice_index_or es k d) (made_all is_push pushes k d lt) (made_all is_pop pops k d lt)
+  pub theirs : pops_of ks ≡ count_by is_pop es → pushes_of ks ≡ count_by is_push es → shuts_of ks ≡ count_by is_shut es → All (IsOfOne ks) es
+  theirs pops pushes shuts k d lt =
+      one (slice_index_or es k d) (made_all is_push pushes k d lt) (made_all is_pop pops k d lt) (made_all is_shut shuts k d lt)
     where
-      one : (e : Entry) → Counted is_push ks e → Counted is_pop ks e → IsOfOne ks e
-      one (Push seat body) f g = some_times seat ks (f refl)
-      one (Pop seat value) f g = some_times seat ks (g refl)
+      one : (e : Entry) → Counted is_push ks e → Counted is_pop ks e → Counted is_shut ks e → IsOfOne ks e
+      one (Push seat body) f g h = some_times seat ks (f refl)
+      one (Pop seat value) f g h = some_times seat ks (g refl)
+      one (Shut seat) f g h = some_times seat ks (h refl)
 
   -- where they are all seats, it is as much
   pub made-all : (permits : List Permit) → All (IsPermitted permits) es → AreAll permits ks → (p : Entry → Bool) → sum_by (λ k. count_by p k.mine) ks ≡ count_by p es
@@ -208,11 +269,22 @@ module _ (ks : List Known) (es : List Entry) (apart : AreApart ks) (own : All (�
       let each : All (λ e. 1 ≤ times (seat_of e) ks) es = λ k d lt. maker_times permits ks every (slice_index_or es k d) (permitted k d lt) in
       omega (arith, made_is p ks es own, by_seat-is p ks es, by_entry-whole p ks apart es each, count-is p es)
 
--- a queue is closed by seats with numbers apart, where its rest is whole exactly if they made all pushes and pops
-pub closes : (permits : List Permit) (ks : List Known) (rest : Rest) (es : List Entry) → LeadsTo es (left_of rest) → All (IsPermitted permits) es → All (λ k. IsPrefix k.seen es) ks → All (λ k. own_entries k.number es ≡ k.mine) ks → AreApart ks → taken_of rest ≡ count_by is_pop es
-    → (IsTrue (whole_of rest) ↔ ((pops_of ks ≡ taken_of rest) × (pushes_of ks ≡ taken_of rest + length (left_of rest)))) → Closes permits ks rest
+-- a shut that one of the seats made is the only one
+only_shut : (shut : Bool) (made all : ℕ) → all ≡ one_of shut → made ≤ all → (IsTrue shut → 1 ≤ made) → made ≡ all
+only_shut true made all e low some = omega (arith, e, low, some refl)
+only_shut false made all e low some = omega (arith, e, low)
+
+some_shut : (shut : Bool) (made all : ℕ) → all ≡ one_of shut → made ≡ all → IsTrue shut → 1 ≤ made
+some_shut true made all e same t = omega (arith, e, same)
+some_shut false made all e same t = absurd cc
+
+-- a queue is closed by seats with numbers apart, where its rest is whole exactly if they made all pushes and pops, and the
+-- shut, if there is one
+pub closes : (permits : List Permit) (ks : List Known) (rest : Rest) (es : List Entry) → Leads es (was_shut_of rest) (left_of rest) → All (IsPermitted permits) es → All (λ k. IsPrefix k.seen es) ks → All (λ k. own_entries k.number es ≡ k.mine) ks → AreApart ks → taken_of rest ≡ count_by is_pop es
+    → (IsTrue (whole_of rest) ↔ ((pops_of ks ≡ taken_of rest) × (pushes_of ks ≡ taken_of rest + length (left_of rest)) × (IsTrue (was_shut_of rest) → 1 ≤ shuts_of ks))) → Closes permits ks rest
 closes permits ks rest es leads permitted begins own apart counted whole =
-    let pushed = pushes-LeadsTo es (left_of rest) leads in
+    let pushed = pushes-Leads es (was_shut_of rest) (left_of rest) leads in
+    let one = shuts-Leads es (was_shut_of rest) (left_of rest) leads in
     record {
       history = es;
       leads = leads;
@@ -221,6 +293,10 @@ closes permits ks rest es leads permitted begins own apart counted whole =
       own = own;
       counted = counted;
       whole = whole;
-      theirs = λ t. let h = whole.0 t in theirs ks es apart own (h.0 ∙ counted) (omega (arith, h.1, counted, pushed));
-      all = λ every. whole.1 (made-all ks es apart own permits permitted every is_pop ∙ sym counted, omega (arith, made-all ks es apart own permits permitted every is_push, counted, pushed));
+      theirs = λ t. let h = whole.0 t in theirs ks es apart own (h.0 ∙ counted) (omega (arith, h.1, counted, pushed)) (only_shut (was_shut_of rest) _ _ one (made-le ks es apart own is_shut) h.2);
+      all = λ every. whole.1 (
+        made-all ks es apart own permits permitted every is_pop ∙ sym counted,
+        omega (arith, made-all ks es apart own permits permitted every is_push, counted, pushed),
+        some_shut (was_shut_of rest) _ _ one (made-all ks es apart own permits permitted every is_shut),
+      );
     }

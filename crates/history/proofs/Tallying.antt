@@ -1,10 +1,10 @@
 -- In a linearizable history no value is taken more often than it was pushed.
-use Rattle.std.proofs.Common.{◌≡◌, ℕ, ◌+◌, ◌≤◌, Bool, ◌&&◌, cond, nat_eq, Option, None, Some, IfSome, List, [], ◌∷◌, ◌++◌, refl, sym, ap, subst, arith}
+use Rattle.std.proofs.Common.{◌≡◌, ℕ, ◌+◌, ◌≤◌, Bool, true, false, ◌&&◌, cond, nat_eq, Option, None, Some, IfSome, List, [], ◌∷◌, ◌++◌, refl, sym, ap, subst, arith}
 use Rattle.std.specs.List.{AllByRecursion, sum_by}
 use Rattle.std.proofs.lemmas.List.Sums.{sum_by-cons, sum_by-append}
 use Rattle.std.proofs.lemmas.List.Sorted.{sum_by-IsPermutation}
 use Rattle.history.specs.declared.operations.Op.{Op}
-use Rattle.history.specs.declared.operations.Op.TheVariants.{Enq, Deq}
+use Rattle.history.specs.declared.operations.Op.TheVariants.{Enq, Deq, Shut}
 use Rattle.history.specs.declared.operations.Taken.{Taken}
 use Rattle.history.specs.declared.operations.Reply.{Reply}
 use Rattle.history.specs.declared.operations.Reply.TheVariants.{Done, Value, Empty, Refused}
@@ -39,20 +39,24 @@ copies v values = sum_by (λ w. one_if (nat_eq v.from w.from && nat_eq v.body w.
 
 -- ---- along a run
 
-given_tally : (v : Taken) (actor : ℕ) (op : Op) (values : List Taken) → one_if (same_reply (Value v) (response actor op (record { values = values })).reply) + copies v (response actor op (record { values = values })).after.values ≤ one_if (is_push_of v actor op) + copies v values
-given_tally v actor (Enq body) values =
+given_tally : (v : Taken) (actor : ℕ) (op : Op) (shut : Bool) (values : List Taken) → one_if (same_reply (Value v) (response actor op (record { values = values; shut = shut })).reply) + copies v (response actor op (record { values = values; shut = shut })).after.values ≤ one_if (is_push_of v actor op) + copies v values
+given_tally v actor (Enq body) false values =
     let w : Taken = record { from = actor; body = body } in
     let e = sum_by-append (λ w. one_if (nat_eq v.from w.from && nat_eq v.body w.body)) values (w ∷ []) in
     omega (arith, e)
-given_tally v actor Deq [] = omega arith
-given_tally v actor Deq (front ∷ rest) =
+given_tally v actor (Enq body) true values = omega arith
+given_tally v actor Shut false values = omega arith
+given_tally v actor Shut true values = omega arith
+given_tally v actor Deq false [] = omega arith
+given_tally v actor Deq true [] = omega arith
+given_tally v actor Deq shut (front ∷ rest) =
     let e = sum_by-cons (λ w. one_if (nat_eq v.from w.from && nat_eq v.body w.body)) front rest in
     omega (arith, e)
 
 with_reply : (v : Taken) (queue : Queue) (o : Stamped) (reply : Reply) → reply ≡ (response o.actor o.op queue).reply → one_if (same_reply (Value v) reply) + copies v (response o.actor o.op queue).after.values ≤ one_if (is_push_of v o.actor o.op) + copies v queue.values
 with_reply v queue o reply h =
     subst (λ r. one_if (same_reply (Value v) r) + copies v (response o.actor o.op queue).after.values ≤ one_if (is_push_of v o.actor o.op) + copies v queue.values)
-    (sym h) (given_tally v o.actor o.op queue.values)
+    (sym h) (given_tally v o.actor o.op queue.shut queue.values)
 
 -- what the queue has of a value and what is taken of it is what it had and what is pushed
 step_tally : (v : Taken) (queue : Queue) (o : Stamped) (reply : Reply) → AgreesWithQueue queue o (Some reply) → one_if (same_reply (Value v) reply) + copies v (answer queue o (Some reply)).after.values ≤ one_if (is_not_refused (Some reply) && is_push_of v o.actor o.op) + copies v queue.values

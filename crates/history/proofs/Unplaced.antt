@@ -1,5 +1,5 @@
 -- Whether a history is linearizable doesn't hang on its places.
-use Rattle.std.proofs.Common.{◌≡◌, ◌≤◌, Some, IfSome, List, [], ◌∷◌, ◌++◌, map, refl, sym, ap, ◌∙◌, subst}
+use Rattle.std.proofs.Common.{◌≡◌, ◌≤◌, Some, IfSome, List, [], ◌∷◌, ◌++◌, map, inl, inr, refl, sym, ap, ◌∙◌, subst}
 use Rattle.std.proofs.lemmas.List.{map-append}
 use Rattle.std.specs.List.{AllByRecursion}
 use Rattle.std.specs.List.Sorted.{IsPermutation}
@@ -55,7 +55,8 @@ same_given f same queue o =
     ap (λ a. response a o.op queue) (sym (same o).actor) ∙ ap (λ op. response (f o).actor op queue) (sym (same o).op)
 
 still_gets : (f : Stamped → Stamped) → ChangesPlaces f → (queue : Queue) (o : Stamped) (reply : Reply) → AgreesWithQueue queue o (Some reply) → AgreesWithQueue queue (f o) (Some reply) × (answer queue o (Some reply) ≡ answer queue (f o) (Some reply))
-still_gets f same queue o (Refused why) h = (h, refl)
+still_gets f same queue o (Refused why) (inl h) = (inl h, refl)
+still_gets f same queue o (Refused why) (inr h) = (inr (h.0, h.1 ∙ ap (λ a. a.reply) (same_given f same queue o)), refl)
 still_gets f same queue o Done h =
     (h ∙ ap (λ a. a.reply) (same_given f same queue o), same_given f same queue o)
 still_gets f same queue o (Value v) h =

@@ -1,16 +1,17 @@
 -- What was popped, and then what is left, is what was pushed; and a seat that alone may pop popped all of it.
-use Rattle.std.proofs.Common.{cond, ◌≡◌, ◌∙◌, sym, refl, ap, subst, ℕ, List, [], ◌∷◌, ◌++◌, append_assoc, nat_eq, true, false, Bool}
+use Rattle.std.proofs.Common.{cond, ◌≡◌, ◌∙◌, sym, refl, ap, ℕ, List, [], ◌∷◌, ◌++◌, append_assoc, nat_eq, true, false, Bool}
 use Rattle.std.proofs.lemmas.List.{append-nil}
 use Rattle.std.proofs.lemmas.List.Elements.{All-head, All-tail}
 use Rattle.std.proofs.lemmas.Bool.{eq-eqb}
 use Rattle.std.specs.List.{All}
 use Rattle.history.specs.declared.operations.Entry.{Entry}
-use Rattle.history.specs.declared.operations.Entry.TheVariants.{Push, Pop}
+use Rattle.history.specs.declared.operations.Entry.TheVariants.{Push, Pop, Shut}
 use Rattle.history.specs.declared.operations.Taken.{Taken}
 use Rattle.history.specs.declared.operations.Reply.{Reply}
 use Rattle.history.specs.declared.operations.Reply.TheVariants.{Done, Value, Empty, Refused}
-use Rattle.history.specs.Queue.{Queue, front_of}
-use Rattle.history.specs.Entries.{Plays, LeadsTo, own_entries}
+use Rattle.history.specs.declared.refusals.Refusal.TheVariants.{Closed}
+use Rattle.history.specs.Queue.{Queue}
+use Rattle.history.specs.Entries.{Plays, Leads, own_entries}
 use Rattle.history.specs.Seats.{Permit, Known, IsSound, IsPermitted}
 use Rattle.history.specs.Values.{pushed, popped, OnlyPushes, OnlyPops}
 
@@ -21,30 +22,23 @@ value_or d (Value v) = v
 value_or d Empty = d
 value_or d (Refused why) = d
 
--- no value is answered
-abbrev NoValue : Reply → Type 0
-NoValue Done = Unit {0}
-NoValue (Value v) = ⊥
-NoValue Empty = Unit {0}
-NoValue (Refused why) = Unit {0}
-
--- the front of a queue is the value that it answers
-front_is : (values : List Taken) (v : Taken) → (front_of values).reply ≡ Value v → values ≡ v ∷ (front_of values).after.values
-front_is [] v h = absurd (subst NoValue h tt)
-front_is (x ∷ xs) v h = ap (λ y. y ∷ xs) (ap (value_or x) h)
-
 -- what a queue held and what was pushed is what was popped and what is left
-popped-then_left : (values : List Taken) (es : List Entry) (after : Queue) → Plays (record { values = values }) es after → values ++ pushed es ≡ popped es ++ after.values
-popped-then_left values [] after h = append-nil values ∙ ap (λ q. q.values) h
-popped-then_left values (Push seat body ∷ es) after h =
+popped-then_left : (es : List Entry) (shut : Bool) (values : List Taken) (after : Queue) → Plays (record { values = values; shut = shut }) es after → values ++ pushed es ≡ popped es ++ after.values
+popped-then_left [] shut values after h = append-nil values ∙ ap (λ q. q.values) h
+popped-then_left (Push seat body ∷ es) false values after h =
     let v : Taken = record { from = seat; body = body } in
-    sym (append_assoc values (v ∷ []) (pushed es)) ∙ popped-then_left (values ++ v ∷ []) es after h
-popped-then_left values (Pop seat value ∷ es) after h =
-    ap (λ t. t ++ pushed es) (front_is values value h.0) ∙ ap (λ t. value ∷ t) (popped-then_left (front_of values).after.values es after h.1)
+    sym (append_assoc values (v ∷ []) (pushed es)) ∙ popped-then_left es false (values ++ v ∷ []) after h.1
+popped-then_left (Push seat body ∷ es) true values after h = absurd (let e : Refused Closed ≡ Done = h.0 in cc)
+popped-then_left (Pop seat value ∷ es) shut (v ∷ vs) after h =
+    ap (λ y. y ∷ (vs ++ pushed es)) (ap (value_or v) h.0) ∙ ap (λ t. value ∷ t) (popped-then_left es shut vs after h.1)
+popped-then_left (Pop seat value ∷ es) false [] after h = absurd (let e : Empty ≡ Value value = h.0 in cc)
+popped-then_left (Pop seat value ∷ es) true [] after h = absurd (let e : Refused Closed ≡ Value value = h.0 in cc)
+popped-then_left (Shut seat ∷ es) false values after h = popped-then_left es true values after h.1
+popped-then_left (Shut seat ∷ es) true values after h = absurd (let e : Refused Closed ≡ Done = h.0 in cc)
 
 -- what was pushed is what was popped, and then what is left
-pub pushed-LeadsTo : (es : List Entry) (left : List Taken) → LeadsTo es left → pushed es ≡ popped es ++ left
-pushed-LeadsTo es left h = popped-then_left [] es (record { values = left }) h
+pub pushed-Leads : (es : List Entry) (shut : Bool) (left : List Taken) → Leads es shut left → pushed es ≡ popped es ++ left
+pushed-Leads es shut left h = popped-then_left es false [] (record { values = left; shut = shut }) h
 
 -- a push is no pop, whoever made it
 push_or_not : (b : Bool) (seat body : ℕ) (es : List Entry) → popped (cond b (Push seat body ∷ es) es) ≡ popped es
@@ -56,6 +50,15 @@ pop_or_not : (b : Bool) (seat : ℕ) (value : Taken) (es : List Entry) → pushe
 pop_or_not true seat value es = refl
 pop_or_not false seat value es = refl
 
+-- and a shut is neither
+shut_pops_none : (b : Bool) (seat : ℕ) (es : List Entry) → popped (cond b (Shut seat ∷ es) es) ≡ popped es
+shut_pops_none true seat es = refl
+shut_pops_none false seat es = refl
+
+shut_pushes_none : (b : Bool) (seat : ℕ) (es : List Entry) → pushed (cond b (Shut seat ∷ es) es) ≡ pushed es
+shut_pushes_none true seat es = refl
+shut_pushes_none false seat es = refl
+
 module _ (permits : List Permit) (me : ℕ) where
   abbrev May : List Entry → Type 0
   May es = All (IsPermitted permits) es
@@ -65,6 +68,8 @@ module _ (permits : List Permit) (me : ℕ) where
   popped-own only [] may = refl
   popped-own only (Push seat body ∷ es) may =
       push_or_not (nat_eq seat me) seat body (own_entries me es) ∙ popped-own only es (All-tail (IsPermitted permits) (Push seat body) es may)
+  popped-own only (Shut seat ∷ es) may =
+      shut_pops_none (nat_eq seat me) seat (own_entries me es) ∙ popped-own only es (All-tail (IsPermitted permits) (Shut seat) es may)
   popped-own only (Pop seat value ∷ es) may =
       let mine : nat_eq seat me ≡ true = eq-eqb seat me (only seat (All-head (IsPermitted permits) (Pop seat value) es may)) in
       ap (λ b. popped (cond b (Pop seat value ∷ own_entries me es) (own_entries me es))) mine
@@ -75,6 +80,8 @@ module _ (permits : List Permit) (me : ℕ) where
   pushed-own only [] may = refl
   pushed-own only (Pop seat value ∷ es) may =
       pop_or_not (nat_eq seat me) seat value (own_entries me es) ∙ pushed-own only es (All-tail (IsPermitted permits) (Pop seat value) es may)
+  pushed-own only (Shut seat ∷ es) may =
+      shut_pushes_none (nat_eq seat me) seat (own_entries me es) ∙ pushed-own only es (All-tail (IsPermitted permits) (Shut seat) es may)
   pushed-own only (Push seat body ∷ es) may =
       let mine : nat_eq seat me ≡ true = eq-eqb seat me (only seat (All-head (IsPermitted permits) (Push seat body) es may)) in
       let v : Taken = record { from = seat; body = body } in

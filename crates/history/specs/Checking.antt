@@ -4,7 +4,7 @@ use Rattle.std.specs.BTreeMap.{BTreeMap, values}
 use Rattle.std.specs.Borrow.{Bor}
 use Rattle.history.specs.declared.operations.Stamped.{Stamped}
 use Rattle.history.specs.declared.operations.Cause.{Cause}
-use Rattle.history.specs.declared.operations.Taken.{Taken}
+use Rattle.history.specs.declared.replaying.Replayed.{Replayed}
 use Rattle.history.specs.Queue.{Queue}
 use Rattle.history.specs.History.{point_or_zero, by_point, fault_of}
 
@@ -34,6 +34,6 @@ Judges old new o cause =
     (before : List Stamped) → HoldsThoseWithPoints old before →
     (cause ≡ fault_of before o) × (cause ≡ None → HoldsThoseWithPoints new (before ++ o ∷ []))
 
--- the queue of these values
-abbrev pub queue_of : List Taken → Queue
-queue_of values = record { values = values }
+-- the queue that operations were applied to: its values, and whether it is shut
+abbrev pub queue_of : Replayed → Queue
+queue_of r = record { values = r.values.items; shut = r.shut }

@@ -1,8 +1,8 @@
 -- Histories: where each operation is placed, whether a queue gives the replies, and the verdict.
-use Rattle.std.specs.Prelude.{◌≡◌, ◌≢◌, ℕ, ◌+◌, ◌≤◌, ◌↔◌, Bool, true, false, not, ◌&&◌, ◌||◌, List, [], ◌∷◌, Option, Some, None, IsSome, IfSome, is_some, nat_le, nat_eq, if◌then◌else◌}
+use Rattle.std.specs.Prelude.{◌≡◌, ◌≢◌, ℕ, ◌+◌, ◌≤◌, ◌↔◌, ◌⊎◌, Bool, true, false, not, ◌&&◌, ◌||◌, List, [], ◌∷◌, Option, Some, None, IsSome, IfSome, is_some, nat_le, nat_eq, if◌then◌else◌}
 use Rattle.std.specs.List.{AllByRecursion}
 use Rattle.history.specs.declared.refusals.Refusal.{Refusal}
-use Rattle.history.specs.declared.refusals.Refusal.TheVariants.{NoNode, WornOut, Busy}
+use Rattle.history.specs.declared.refusals.Refusal.TheVariants.{NoNode, WornOut, Busy, Closed}
 use Rattle.history.specs.declared.operations.Reply.{Reply}
 use Rattle.history.specs.declared.operations.Reply.TheVariants.{Done, Value, Empty, Refused}
 use Rattle.history.specs.declared.operations.Stamped.{Stamped}
@@ -56,6 +56,15 @@ leaves (WornOut word) = true
 leaves Busy = true
 leaves _ = false
 
+-- whether a refusal is that the queue is shut
+abbrev pub is_closed : Refusal → Bool
+is_closed Closed = true
+is_closed _ = false
+
+-- whether a refusal is one that a queue may answer
+abbrev pub may_refuse : Refusal → Bool
+may_refuse why = leaves why || is_closed why
+
 -- the answer to an operation by what it was told: a refusal leaves the queue, any other reply and none take what the queue gives
 abbrev pub answer : Queue → Stamped → Option Reply → Answer
 answer queue o (Some (Refused why)) = record { reply = Refused why; after = queue }
@@ -64,9 +73,10 @@ answer queue o (Some (Value v)) = response o.actor o.op queue
 answer queue o (Some Empty) = response o.actor o.op queue
 answer queue o None = response o.actor o.op queue
 
--- the queue gives the reply that an operation was told; a pending one was told nothing
+-- the queue gives the reply that an operation was told: it may refuse by what it doesn't have, and refuses itself where it is
+-- shut; a pending one was told nothing
 abbrev pub AgreesWithQueue : Queue → Stamped → Option Reply → Type 0
-AgreesWithQueue queue o (Some (Refused why)) = leaves why ≡ true
+AgreesWithQueue queue o (Some (Refused why)) = (leaves why ≡ true) ⊎ ((why ≡ Closed) × (Refused Closed ≡ (response o.actor o.op queue).reply))
 AgreesWithQueue queue o (Some Done) = Done ≡ (response o.actor o.op queue).reply
 AgreesWithQueue queue o (Some (Value v)) = Value v ≡ (response o.actor o.op queue).reply
 AgreesWithQueue queue o (Some Empty) = Empty ≡ (response o.actor o.op queue).reply
@@ -130,6 +140,11 @@ abbrev pub first_fault : ℕ → List Stamped → List Stamped → Option Verdic
 first_fault place earlier [] = None
 first_fault place earlier (o ∷ os) = fault_or (fault_of earlier o) place (first_fault (place + 1) (o ∷ earlier) os)
 
+-- whether a reply is that the queue is shut
+abbrev pub refuses : Reply → Bool
+refuses (Refused why) = is_closed why
+refuses _ = false
+
 -- whether two replies are the same
 abbrev pub same_reply : Reply → Reply → Bool
 same_reply Done Done = true
@@ -146,7 +161,7 @@ same_reply told (Refused why) = false
 
 -- whether the queue gives the reply that an operation was told
 abbrev pub agrees_with_queue : Queue → Stamped → Option Reply → Bool
-agrees_with_queue queue o (Some (Refused why)) = leaves why
+agrees_with_queue queue o (Some (Refused why)) = leaves why || is_closed why && refuses (response o.actor o.op queue).reply
 agrees_with_queue queue o (Some Done) = same_reply Done (response o.actor o.op queue).reply
 agrees_with_queue queue o (Some (Value v)) = same_reply (Value v) (response o.actor o.op queue).reply
 agrees_with_queue queue o (Some Empty) = same_reply Empty (response o.actor o.op queue).reply

@@ -2,7 +2,7 @@
 use Rattle.std.specs.Prelude.{ℕ, Bool, true, false, ◌&&◌, nat_eq, List, Option, None, Some}
 use Rattle.std.specs.List.{count_by}
 use Rattle.history.specs.declared.operations.Op.{Op}
-use Rattle.history.specs.declared.operations.Op.TheVariants.{Enq, Deq}
+use Rattle.history.specs.declared.operations.Op.TheVariants.{Enq, Deq, Shut}
 use Rattle.history.specs.declared.operations.Taken.{Taken}
 use Rattle.history.specs.declared.operations.Reply.{Reply}
 use Rattle.history.specs.declared.operations.Reply.TheVariants.{Done, Value, Empty, Refused}
@@ -26,6 +26,7 @@ is_not_refused (Some (Refused why)) = false
 abbrev pub is_push_of : Taken → (actor : ℕ) → Op → Bool
 is_push_of v actor (Enq body) = nat_eq v.from actor && nat_eq v.body body
 is_push_of v actor Deq = false
+is_push_of v actor Shut = false
 
 -- how many operations were told this value
 abbrev pub takes : Taken → List Stamped → ℕ

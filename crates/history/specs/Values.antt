@@ -2,7 +2,7 @@
 use Rattle.std.specs.Prelude.{◌≡◌, ℕ, List, [], ◌∷◌}
 use Rattle.std.specs.List.{flat_map}
 use Rattle.history.specs.declared.operations.Entry.{Entry}
-use Rattle.history.specs.declared.operations.Entry.TheVariants.{Push, Pop}
+use Rattle.history.specs.declared.operations.Entry.TheVariants.{Push, Pop, Shut}
 use Rattle.history.specs.declared.operations.Taken.{Taken}
 use Rattle.history.specs.Seats.{Permit, MayPush, MayPop}
 
@@ -10,11 +10,13 @@ use Rattle.history.specs.Seats.{Permit, MayPush, MayPop}
 abbrev pub pushed_by : Entry → List Taken
 pushed_by (Push seat body) = record { from = seat; body = body } ∷ []
 pushed_by (Pop seat value) = []
+pushed_by (Shut seat) = []
 
 -- the value that an entry pops, if it pops one
 abbrev pub popped_by : Entry → List Taken
 popped_by (Push seat body) = []
 popped_by (Pop seat value) = value ∷ []
+popped_by (Shut seat) = []
 
 -- the values pushed, in order
 abbrev pub pushed : List Entry → List Taken

@@ -7,7 +7,7 @@ ghost use Rattle.history.specs.Checking.{listed, Judges};
 
 use crate::operations::{Cause, Stamped, Verdict};
 use crate::refusals::Refusal;
-use crate::replaying::agrees_with_queue;
+use crate::replaying::{Replayed, agrees_with_queue};
 use std::alloc::Global;
 use std::collections::{BTreeMap, VecDeque};
 
@@ -130,7 +130,10 @@ fn first_wrong(alloc: Global, places: &BTreeMap<u64, &Stamped>) -> Result<Option
     ensures wrong { IfOk result (λ wrong. wrong ≡ rule.first_wrong empty (listed places.now)) }
     ensures only_memory { IfErr result (λ why. why ≡ Refusal.Memory) }
 {
-    let mut queue = VecDeque::new(alloc);
+    let mut queue = Replayed {
+        values: VecDeque::new(alloc),
+        shut: false,
+    };
     for operation in places.values() {
         if !agrees_with_queue(&mut queue, *operation)? {
             return Ok(Some(**operation));

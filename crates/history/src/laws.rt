@@ -1,6 +1,6 @@
 //! Laws of the verdict on a history, and of what is pushed and popped, each the contract of a function that does nothing.
-ghost use Rattle.std.specs.Prelude.{◌≡◌, ◌↔◌, ◌≤◌, ◌++◌, ℕ, List, map, is_some};
-ghost use Rattle.std.specs.List.{filter};
+ghost use Rattle.std.specs.Prelude.{◌≡◌, ◌↔◌, ◌≤◌, ◌++◌, ◌∷◌, ℕ, Bool, List, map, take, is_some, if◌then◌else◌};
+ghost use Rattle.std.specs.List.{filter, count_by};
 ghost use Rattle.std.specs.List.Sorted.{IsPermutation};
 ghost use Rattle.history.specs.declared.operations.Entry.{Entry};
 ghost use Rattle.history.specs.declared.operations.Stamped.{Stamped};
@@ -12,8 +12,9 @@ ghost use Rattle.history.specs.Faults.{FirstIsMisshapen, FirstIsOutside, FirstIs
 ghost use Rattle.history.specs.Order.{Rises};
 ghost use Rattle.history.specs.Linearizability.{IsLinearizable, DifferInPlace, operations_of, IsOneAtATime, KeepsOwnOrders};
 ghost use Rattle.history.specs.Tallies.{takes, pushes};
-ghost use Rattle.history.specs.Entries.{LeadsTo};
-ghost use Rattle.history.specs.Seats.{Permit, Known, IsSound};
+ghost use Rattle.history.specs.declared.operations.Entry.TheVariants.{Shut};
+ghost use Rattle.history.specs.Entries.{Leads, IsQueueRun, is_push, is_shut};
+ghost use Rattle.history.specs.Seats.{Permit, Known, IsSound, IsEmptyAfter, IsShutAfter};
 ghost use Rattle.history.specs.Values.{pushed, popped, OnlyPushes, OnlyPops};
 ghost use Rattle.history.specs.SmallHistories.{taken_too_early, push_lost, taken_twice, pending_push_taken, overlapping_pop_is_empty, own_pop_during_push};
 
@@ -96,7 +97,30 @@ pub fn own_overlaps_are_not_asked()
 /// What was pushed on a queue is what was popped, and then what is left: the values come in the order in which they were
 /// pushed, each once.
 pub fn pushed_is_popped_and_then_left()
-    ensures { (es : List Entry) (left : List Taken) → LeadsTo es left → pushed es ≡ popped es ++ left }
+    ensures { (es : List Entry) (shut : Bool) (left : List Taken)
+        → Leads es shut left → pushed es ≡ popped es ++ left }
+{}
+
+/// Behind a shut nothing is pushed, and there is no second shut.
+pub fn no_push_stands_after_a_shut()
+    ensures { (before after : List Entry) (seat : ℕ) → IsQueueRun (before ++ Shut seat ∷ after)
+        → (count_by is_push after ≡ 0) × (count_by is_shut after ≡ 0) }
+{}
+
+/// A queue is shut exactly where its history has a shut, and then it has one.
+pub fn a_queue_is_shut_by_one_shut()
+    ensures { (es : List Entry) (shut : Bool) (left : List Taken) → Leads es shut left
+        → count_by is_shut es ≡ (if shut then 1 else 0) }
+{}
+
+/// A note that the queue was found empty says that it wasn't shut by then.
+pub fn an_empty_note_says_no_shut_before_it()
+    ensures { (seen : List Entry) (n : ℕ) → IsEmptyAfter seen n → count_by is_shut (take n seen) ≡ 0 }
+{}
+
+/// A note that the queue was found shut says that one shut came before it.
+pub fn a_shut_note_says_one_shut_before_it()
+    ensures { (seen : List Entry) (n : ℕ) → IsShutAfter seen n → count_by is_shut (take n seen) ≡ 1 }
 {}
 
 /// A seat that alone may pop popped all that it has seen popped, and one that alone may push pushed all that it has seen

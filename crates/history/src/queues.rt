@@ -2,7 +2,9 @@
 ghost use Rattle.std.specs.Prelude.{◌≡◌, ℕ, ◌≤◌, ◌↔◌, IsTrue, List, map, IfErr, IfOk, OnOk, OnErr};
 ghost use Rattle.std.specs.List.{All};
 ghost use Rattle.history.specs.Seats.{Known, Permit, IsSound, MayPush, MayPop};
-ghost use Rattle.history.specs.Answers.{Pushed, PopAnswers, SeesMore, Meets, StopsPush, StopsPop, EndsPush, EndsPop, EndsByTry};
+ghost use Rattle.history.specs.Answers.{Pushed, PopAnswers, DidShut, PushRefused, PopRefused, Meets};
+ghost use Rattle.history.specs.Answers.{StopsPush, StopsPop, StopsShut};
+ghost use Rattle.history.specs.Answers.{EndsPush, EndsPop, EndsShut, EndsByTry};
 ghost use Rattle.history.specs.Closing.{Closes};
 
 use crate::operations::{Body, Taken};
@@ -17,8 +19,8 @@ const TURNS: u32 = 8;
 
 /// A first-in-first-out queue that threads share, each with a seat of its own.
 ///
-/// A seat belongs to the queue that gave it. There is one history of pushes and pops in the order in which they had their
-/// effect. Each seat has seen a beginning of it, and each call tells its seat more.
+/// A seat belongs to the queue that gave it. There is one history of pushes, pops and shuts in the order in which they had
+/// their effect. Each seat has seen a beginning of it, and each call tells its seat more.
 pub trait Fifo {
     ghost use Rattle.history.specs.declared.refusals.Refusal.{Refusal};
 
@@ -40,9 +42,13 @@ pub trait Fifo {
     // The same of a pop.
     ghost pop_cause: { Self → Self.Seat → Self.Seat → ℕ → Refusal → Type 0 };
 
+    // The same of a shut.
+    ghost shut_cause: { Self → Self.Seat → Self.Seat → ℕ → Refusal → Type 0 };
+
     /// Pushes a body at the back, in so many turns at most, 1 or more. The seat may push.
     ///
-    /// Refusals: `NoNode`, `WornOut` and `Busy`; the queue is then as if the call had not been. Takes no memory and
+    /// Refusals: `NoNode`, `WornOut`, `Busy`, and `Closed` where the queue is shut; the queue is then as if the call had
+    /// not been. A push that gets no node, or a worn one, is refused so also where the queue is shut. Takes no memory and
     /// doesn't wait.
     ///
     /// ```rust
@@ -58,14 +64,15 @@ pub trait Fifo {
         ensures seat { is_seat self.now seat.new }
         ensures number { (known seat.new).number ≡ (known seat.old).number }
         ensures pushed { OnOk result (Pushed (known seat.old) body (known seat.new)) }
-        ensures refused { OnErr result (SeesMore (known seat.old) (known seat.new)) }
+        ensures refused { IfErr result (λ why. PushRefused (known seat.old) why (known seat.new)) }
         ensures why { IfErr result StopsPush }
         ensures caused { IfErr result (push_cause self.now seat.old seat.new turns) };
 
     /// Takes the value at the front, in so many turns at most, 1 or more; none where the queue was empty. The seat may
     /// pop.
     ///
-    /// Refusals: `WornOut` and `Busy`; the queue is then as if the call had not been. Takes no memory and doesn't wait.
+    /// Refusals: `WornOut`, `Busy`, and `Closed` where the queue is shut and empty; the queue is then as if the call had
+    /// not been. Takes no memory and doesn't wait.
     ///
     /// ```rust
     /// if let Some(taken) = queue.try_pop(&mut taker, 8)? {
@@ -79,9 +86,34 @@ pub trait Fifo {
         ensures seat { is_seat self.now seat.new }
         ensures number { (known seat.new).number ≡ (known seat.old).number }
         ensures answer { IfOk result (λ taken. PopAnswers (known seat.old) taken (known seat.new)) }
-        ensures refused { OnErr result (SeesMore (known seat.old) (known seat.new)) }
+        ensures refused { IfErr result (λ why. PopRefused (known seat.old) why (known seat.new)) }
         ensures why { IfErr result StopsPop }
         ensures caused { IfErr result (pop_cause self.now seat.old seat.new turns) };
+
+    /// Shuts the queue, in so many turns at most, 1 or more: no push stands after it, and what is in the queue stays to
+    /// be popped. The seat may push, and keeps what is in its pocket.
+    ///
+    /// Refusals: `WornOut`, `Busy`, and `Closed` where the queue was shut before; the queue is then as if the call had
+    /// not been. Takes no memory and doesn't wait.
+    ///
+    /// ```rust
+    /// match queue.try_shut(&mut giver, 8) {
+    ///     Err(Refusal::Busy) => backoff.snooze(),
+    ///     // By this call, or by one before.
+    ///     Ok(()) | Err(Refusal::Closed) => return Ok(()),
+    ///     Err(why) => return Err(why),
+    /// }
+    /// ```
+    fn try_shut(&self, seat: &mut Self::Seat, turns: u32) -> Result<(), Refusal>
+        requires seat { is_seat self.now seat.old }
+        requires role { MayPush (permits self.now) (known seat.old).number }
+        requires turns { 1 ≤ turns }
+        ensures seat { is_seat self.now seat.new }
+        ensures number { (known seat.new).number ≡ (known seat.old).number }
+        ensures shut { OnOk result (DidShut (known seat.old) (known seat.new)) }
+        ensures refused { IfErr result (λ why. PushRefused (known seat.old) why (known seat.new)) }
+        ensures why { IfErr result StopsShut }
+        ensures caused { IfErr result (shut_cause self.now seat.old seat.new turns) };
 
     /// Afterwards both seats have seen one history, which begins with what each had seen. Takes no memory and doesn't
     /// wait.
@@ -120,8 +152,9 @@ pub trait Fifo {
         requires { is_seat self.now seat.now }
         ensures { IsTrue result ↔ MayPop (permits self.now) (known seat.now).number };
 
-    /// Ends the queue and the seats handed in: what is left, how many values were taken, and whether these seats made all
-    /// pushes and pops.
+    /// Ends the queue and the seats handed in: what is left, how many values were taken, whether these seats made all
+    /// pushes and pops and, where the queue was shut, the shut, and whether it was. What shuts a queue and leaves it there is
+    /// `try_shut`.
     ///
     /// Refused by `Memory` alone; the queue is then given up. Takes memory for the values left, and doesn't wait.
     ///
@@ -139,7 +172,8 @@ pub trait Fifo {
 
     /// Pushes a body at the back, by tries of 8 turns each, and tries again while others are in the way. The seat may push.
     ///
-    /// Refusals: `NoNode` and `WornOut`; the queue is then as if the call had not been. Takes no memory, and waits.
+    /// Refusals: `NoNode`, `WornOut`, and `Closed` where the queue is shut; the queue is then as if the call had not been.
+    /// Takes no memory, and waits.
     ///
     /// ```rust
     /// match queue.push(rt, &mut giver, body) {
@@ -154,7 +188,7 @@ pub trait Fifo {
         ensures seat { is_seat self.now seat.new }
         ensures number { (known seat.new).number ≡ (known seat.old).number }
         ensures pushed { OnOk result (Pushed (known seat.old) body (known seat.new)) }
-        ensures refused { OnErr result (SeesMore (known seat.old) (known seat.new)) }
+        ensures refused { IfErr result (λ why. PushRefused (known seat.old) why (known seat.new)) }
         ensures why { IfErr result EndsPush }
         ensures caused { IfErr result (EndsByTry is_seat known push_cause self.now seat.old seat.new 8) }
     {
@@ -172,7 +206,8 @@ pub trait Fifo {
     /// Takes the value at the front, by tries of 8 turns each, and tries again while others are in the way; none where the
     /// queue was empty. The seat may pop.
     ///
-    /// Refused by `WornOut` alone; the queue is then as if the call had not been. Takes no memory, and waits.
+    /// Refusals: `WornOut`, and `Closed` where the queue is shut and empty; the queue is then as if the call had not been.
+    /// Takes no memory, and waits.
     ///
     /// ```rust
     /// match queue.pop(rt, &mut taker)? {
@@ -186,7 +221,7 @@ pub trait Fifo {
         ensures seat { is_seat self.now seat.new }
         ensures number { (known seat.new).number ≡ (known seat.old).number }
         ensures answer { IfOk result (λ taken. PopAnswers (known seat.old) taken (known seat.new)) }
-        ensures refused { OnErr result (SeesMore (known seat.old) (known seat.new)) }
+        ensures refused { IfErr result (λ why. PopRefused (known seat.old) why (known seat.new)) }
         ensures why { IfErr result EndsPop }
         ensures caused { IfErr result (EndsByTry is_seat known pop_cause self.now seat.old seat.new 8) }
     {
@@ -194,6 +229,37 @@ pub trait Fifo {
         for _ in rt.forever() {
             match self.try_pop(seat, TURNS) {
                 Ok(taken) => return Ok(taken),
+                Err(Refusal::Busy) => backoff.snooze(),
+                Err(why) => return Err(why),
+            }
+        }
+        unreachable!()
+    }
+
+    /// Shuts the queue, by tries of 8 turns each, and tries again while others are in the way: no push stands after it,
+    /// and what is in the queue stays to be popped. The seat may push, and keeps what is in its pocket.
+    ///
+    /// Refusals: `WornOut`, and `Closed` where the queue was shut before; the queue is then as if the call had not been.
+    /// Takes no memory, and waits.
+    ///
+    /// ```rust
+    /// // The last one that pushes ends the queue, and takers go on until they find it shut and empty.
+    /// queue.shut(rt, &mut giver)?;
+    /// ```
+    final fn shut<R: Wait>(&self, rt: &R, seat: &mut Self::Seat) -> Result<(), Refusal>
+        requires seat { is_seat self.now seat.old }
+        requires role { MayPush (permits self.now) (known seat.old).number }
+        ensures seat { is_seat self.now seat.new }
+        ensures number { (known seat.new).number ≡ (known seat.old).number }
+        ensures shut { OnOk result (DidShut (known seat.old) (known seat.new)) }
+        ensures refused { IfErr result (λ why. PushRefused (known seat.old) why (known seat.new)) }
+        ensures why { IfErr result EndsShut }
+        ensures caused { IfErr result (EndsByTry is_seat known shut_cause self.now seat.old seat.new 8) }
+    {
+        let backoff = Backoff::new();
+        for _ in rt.forever() {
+            match self.try_shut(seat, TURNS) {
+                Ok(()) => return Ok(()),
                 Err(Refusal::Busy) => backoff.snooze(),
                 Err(why) => return Err(why),
             }

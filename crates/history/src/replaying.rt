@@ -1,27 +1,32 @@
 //! Operations applied to a queue, one by one.
-ghost use Rattle.std.specs.Prelude.{◌≡◌, OnOk, IfOk, IfErr};
+ghost use Rattle.std.specs.Prelude.{◌≡◌, ℕ, OnOk, IfOk, IfErr};
 ghost use Rattle.history.specs.History as rule;
 ghost use Rattle.history.specs.Queue as object;
+ghost use Rattle.history.specs.declared.operations.Op.TheVariants.{Enq};
 ghost use Rattle.history.specs.Checking.{queue_of};
 
 use crate::operations::{Op, Reply, Stamped, Taken};
 use crate::refusals::Refusal;
 use std::collections::VecDeque;
 
+/// A queue that operations are applied to.
+#[derive(Drop)]
+pub(crate) struct Replayed {
+    pub(crate) values: VecDeque<Taken>,
+    pub(crate) shut: bool,
+}
+
 // Applies an operation to the queue. The result is whether the queue gives the reply that the
 // operation was told.
-pub(crate) fn agrees_with_queue(
-    queue: &mut VecDeque<Taken>,
-    operation: &Stamped,
-) -> Result<bool, Refusal>
+pub(crate) fn agrees_with_queue(queue: &mut Replayed, operation: &Stamped) -> Result<bool, Refusal>
     ensures told { IfOk result (λ told.
-        told ≡ rule.agrees_with_queue (queue_of queue.old.items) operation.now operation.now.reply) }
-    ensures after { OnOk result (queue_of queue.new.items
-        ≡ (rule.answer (queue_of queue.old.items) operation.now operation.now.reply).after) }
+        told ≡ rule.agrees_with_queue (queue_of queue.old) operation.now operation.now.reply) }
+    ensures after { OnOk result (queue_of queue.new
+        ≡ (rule.answer (queue_of queue.old) operation.now operation.now.reply).after) }
     ensures only_memory { IfErr result (λ why. why ≡ Refusal.Memory) }
 {
     if let Some(Reply::Refused(why)) = operation.reply {
-        return Ok(leaves(why));
+        return Ok(leaves(why) || is_closed(why) && refuses(queue, operation.op));
     }
     let given = given(queue, operation.actor, operation.op)?;
     match operation.reply {
@@ -30,27 +35,70 @@ pub(crate) fn agrees_with_queue(
     }
 }
 
-// What the queue gives an actor's call.
-fn given(queue: &mut VecDeque<Taken>, actor: u16, op: Op) -> Result<Reply, Refusal>
-    ensures reply { IfOk result (λ reply.
-        reply ≡ (object.response actor op (queue_of queue.old.items)).reply) }
-    ensures after { OnOk result (queue_of queue.new.items
-        ≡ (object.response actor op (queue_of queue.old.items)).after) }
-    ensures only_memory { IfErr result (λ why. why ≡ Refusal.Memory) }
+// Whether the queue refuses a call since it is shut.
+fn refuses(queue: &Replayed, op: Op) -> bool
+    ensures { (actor : ℕ) → result ≡ rule.refuses
+        (object.response actor op (queue_of queue.now)).reply }
 {
     match op {
-        Op::Enq(body) => match queue.push_back(Taken { from: actor, body }) {
-            Ok(()) => Ok(Reply::Done),
-            Err(_) => Err(Refusal::Memory),
-        },
-        Op::Deq => match queue.pop_front() {
-            Some(front) => Ok(Reply::Value(front)),
-            None => Ok(Reply::Empty),
-        },
+        Op::Deq => queue.shut && queue.values.is_empty(),
+        _ => queue.shut,
     }
 }
 
-// Whether a queue may answer this refusal.
+// What the queue gives an actor's call.
+fn given(queue: &mut Replayed, actor: u16, op: Op) -> Result<Reply, Refusal>
+    ensures reply { IfOk result (λ reply.
+        reply ≡ (object.response actor op (queue_of queue.old)).reply) }
+    ensures after { OnOk result (queue_of queue.new
+        ≡ (object.response actor op (queue_of queue.old)).after) }
+    ensures only_memory { IfErr result (λ why. why ≡ Refusal.Memory) }
+{
+    match op {
+        Op::Enq(body) => push(queue, Taken { from: actor, body }),
+        Op::Deq => match queue.values.pop_front() {
+            Some(front) => Ok(Reply::Value(front)),
+            None if queue.shut => Ok(Reply::Refused(Refusal::Closed)),
+            None => Ok(Reply::Empty),
+        },
+        Op::Shut => {
+            if queue.shut {
+                return Ok(Reply::Refused(Refusal::Closed));
+            }
+            queue.shut = true;
+            Ok(Reply::Done)
+        }
+    }
+}
+
+// What the queue gives a push of this value.
+fn push(queue: &mut Replayed, value: Taken) -> Result<Reply, Refusal>
+    ensures reply { IfOk result (λ reply.
+        reply ≡ (object.response value.from (Enq value.body) (queue_of queue.old)).reply) }
+    ensures after { OnOk result (queue_of queue.new
+        ≡ (object.response value.from (Enq value.body) (queue_of queue.old)).after) }
+    ensures only_memory { IfErr result (λ why. why ≡ Refusal.Memory) }
+{
+    if queue.shut {
+        return Ok(Reply::Refused(Refusal::Closed));
+    }
+    match queue.values.push_back(value) {
+        Ok(()) => Ok(Reply::Done),
+        Err(_) => Err(Refusal::Memory),
+    }
+}
+
+// Whether this refusal is that the queue is shut.
+fn is_closed(why: Refusal) -> bool
+    ensures { result ≡ rule.is_closed why }
+{
+    match why {
+        Refusal::Closed => true,
+        _ => false,
+    }
+}
+
+// Whether a queue may answer this refusal, and stays as it is.
 fn leaves(why: Refusal) -> bool
     ensures { result ≡ rule.leaves why }
 {

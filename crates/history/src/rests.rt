@@ -1,6 +1,6 @@
 //! What is left of a queue that was closed.
 ghost use Rattle.std.specs.Prelude.{◌≡◌};
-ghost use Rattle.history.specs.Rests.{left_of, taken_of, whole_of};
+ghost use Rattle.history.specs.Rests.{left_of, taken_of, whole_of, was_shut_of};
 
 use crate::operations::Taken;
 use std::vec::IntoIter;
@@ -11,20 +11,23 @@ pub struct Rest {
     left: IntoIter<Taken>,
     taken: u64,
     whole: bool,
+    was_shut: bool,
 }
 
 impl Rest {
-    /// The rest of a queue: the values left, from the front, how many values were taken, and whether the seats handed in
-    /// made all its pushes and pops. Takes no memory.
-    pub fn of(left: Vec<Taken>, taken: u64, whole: bool) -> Rest
+    /// The rest of a queue: the values left, from the front, how many values were taken, whether the seats handed in made
+    /// all its pushes and pops and its shut, and whether it was shut. Takes no memory.
+    pub fn of(left: Vec<Taken>, taken: u64, whole: bool, was_shut: bool) -> Rest
         ensures left { left_of result ≡ left.items }
         ensures taken { taken_of result ≡ taken }
         ensures whole { whole_of result ≡ whole }
+        ensures was_shut { was_shut_of result ≡ was_shut }
     {
         Rest {
             left: left.into_iter(),
             taken,
             whole,
+            was_shut,
         }
     }
 
@@ -35,11 +38,18 @@ impl Rest {
         self.taken
     }
 
-    /// Whether the seats handed in made all pushes and pops. Takes no memory.
+    /// Whether the seats handed in made all pushes and pops and, where the queue was shut, the shut. Takes no memory.
     pub fn whole(&self) -> bool
         ensures { result ≡ whole_of self.now }
     {
         self.whole
+    }
+
+    /// Whether the queue was shut. Takes no memory.
+    pub fn was_shut(&self) -> bool
+        ensures { result ≡ was_shut_of self.now }
+    {
+        self.was_shut
     }
 }
 

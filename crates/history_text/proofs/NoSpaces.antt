@@ -11,14 +11,14 @@ use Rattle.text_lines.proofs.Cuts.{words_of-spaced}
 use Rattle.history.specs.declared.refusals.WornWord.{WornWord}
 use Rattle.history.specs.declared.refusals.WornWord.TheVariants.{Free, Next, Tail, Head}
 use Rattle.history.specs.declared.refusals.Refusal.{Refusal}
-use Rattle.history.specs.declared.refusals.Refusal.TheVariants.{NoNode, WornOut, Busy}
+use Rattle.history.specs.declared.refusals.Refusal.TheVariants.{NoNode, WornOut, Busy, Closed}
 use Rattle.history.specs.declared.operations.Op.{Op}
-use Rattle.history.specs.declared.operations.Op.TheVariants.{Enq, Deq}
+use Rattle.history.specs.declared.operations.Op.TheVariants.{Enq, Deq, Shut}
 use Rattle.history.specs.declared.operations.Reply.{Reply}
 use Rattle.history.specs.declared.operations.Reply.TheVariants.{Done, Value, Empty, Refused}
 use Rattle.history.specs.declared.operations.Stamped.{Stamped}
 use Rattle.history.specs.WornWords.{word_text}
-use Rattle.history.specs.History.{leaves}
+use Rattle.history.specs.History.{may_refuse}
 use Rattle.history_text.specs.HistoryLines.{call_words, step_word, refusal_words, value_words, reply_words, stamp_words, operation_words, IsQueueReply}
 
 -- a word of letters, digits and dashes
@@ -53,15 +53,17 @@ ink-word Head = ink-tested (codes "Head") refl
 ink-call : (op : Op) → All IsInk (call_words op)
 ink-call (Enq body) = more (codes "enq") (numeral body ∷ []) (ink-tested (codes "enq") refl) (one (numeral body) (ink-numeral body))
 ink-call Deq = one (codes "deq") (ink-tested (codes "deq") refl)
+ink-call Shut = one (codes "shut") (ink-tested (codes "shut") refl)
 
 ink-step : (step : Option ℕ) → IsInk (step_word step)
 ink-step None = ink-tested (codes "-") refl
 ink-step (Some step) = ink-numeral step
 
-ink-refusal : (why : Refusal) → leaves why ≡ true → All IsInk (refusal_words why)
+ink-refusal : (why : Refusal) → may_refuse why ≡ true → All IsInk (refusal_words why)
 ink-refusal NoNode e = one (codes "1") (ink-tested (codes "1") refl)
 ink-refusal (WornOut word) e = more (codes "2") (word_text word ∷ []) (ink-tested (codes "2") refl) (one (word_text word) (ink-word word))
 ink-refusal Busy e = one (codes "3") (ink-tested (codes "3") refl)
+ink-refusal Closed e = one (codes "16") (ink-tested (codes "16") refl)
 ink-refusal _ e = absurd cc
 
 ink-reply : (reply : Option Reply) → IsQueueReply reply → All IsInk (reply_words reply)

@@ -13,13 +13,13 @@ use Rattle.text_lines.proofs.Total.{not_neither}
 use Rattle.history.specs.declared.refusals.WornWord.{WornWord}
 use Rattle.history.specs.declared.refusals.WornWord.TheVariants.{Free, Next, Tail, Head}
 use Rattle.history.specs.declared.refusals.Refusal.{Refusal}
-use Rattle.history.specs.declared.refusals.Refusal.TheVariants.{NoNode, WornOut, Busy}
+use Rattle.history.specs.declared.refusals.Refusal.TheVariants.{NoNode, WornOut, Busy, Closed}
 use Rattle.history.specs.declared.operations.Op.{Op}
-use Rattle.history.specs.declared.operations.Op.TheVariants.{Enq, Deq}
+use Rattle.history.specs.declared.operations.Op.TheVariants.{Enq, Deq, Shut}
 use Rattle.history.specs.declared.operations.Reply.{Reply}
 use Rattle.history.specs.declared.operations.Reply.TheVariants.{Done, Value, Empty, Refused}
 use Rattle.history.specs.declared.operations.Stamped.{Stamped}
-use Rattle.history.specs.History.{leaves}
+use Rattle.history.specs.History.{may_refuse}
 use Rattle.history.specs.WornWords.{word_text}
 use Rattle.history_text.specs.HistoryText.{history_text}
 use Rattle.history_text.specs.HistoryLines.{HistoryLine, Count, Operation, HistoryDue, First, Operations, call_words, step_word, refusal_words, reply_words, stamp_words, operation_words, line_words, IsQueueReply, IsReadable, IsHistoryInRange, is_line_due, MaySay, history_grammar, history_lines}
@@ -76,23 +76,32 @@ one-call (Enq m) (Enq n) xs ys e = let body : numeral m ≡ numeral n = cc in (a
 one-call (Enq m) Deq xs ys e = absurd (apart _ _ refl e)
 one-call Deq (Enq n) xs ys e = absurd (apart _ _ refl e)
 one-call Deq Deq xs ys e = (refl, cc)
-
--- the refusals that a queue may give
-given_refusal : (P : Refusal → Type 0) → P NoNode → ((word : WornWord) → P (WornOut word)) → P Busy → (why : Refusal) → leaves why ≡ true → P why
-given_refusal P none worn busy NoNode e = none
-given_refusal P none worn busy (WornOut word) e = worn word
-given_refusal P none worn busy Busy e = busy
-given_refusal P none worn busy _ e = absurd cc
+one-call Shut Shut xs ys e = (refl, cc)
+one-call (Enq m) Shut xs ys e = absurd (apart _ _ refl e)
+one-call Deq Shut xs ys e = absurd (apart _ _ refl e)
+one-call Shut (Enq n) xs ys e = absurd (apart _ _ refl e)
+one-call Shut Deq xs ys e = absurd (apart _ _ refl e)
 
 -- the words of a refusal that a queue may give tell it
-one-refusal : (a b : Refusal) → leaves a ≡ true → leaves b ≡ true → refusal_words a ≡ refusal_words b → a ≡ b
-one-refusal a b may may' =
-    given_refusal (λ a. refusal_words a ≡ refusal_words b → a ≡ b)
-    (given_refusal (λ b. refusal_words NoNode ≡ refusal_words b → NoNode ≡ b) (λ e. refl) (λ word e. absurd (apart _ _ refl e)) (λ e. absurd (apart _ _ refl e)) b may')
-    (λ word. given_refusal (λ b. refusal_words (WornOut word) ≡ refusal_words b → WornOut word ≡ b) (λ e. absurd (apart _ _ refl e))
-    (λ other e. let same : word_text word ≡ word_text other = cc in ap (λ (w : WornWord). WornOut w) (one-word word other same)) (λ e. absurd (apart _ _ refl e)) b may')
-    (given_refusal (λ b. refusal_words Busy ≡ refusal_words b → Busy ≡ b) (λ e. absurd (apart _ _ refl e)) (λ word e. absurd (apart _ _ refl e)) (λ e. refl) b may')
-    a may
+one-refusal : (a b : Refusal) → may_refuse a ≡ true → may_refuse b ≡ true → refusal_words a ≡ refusal_words b → a ≡ b
+one-refusal NoNode NoNode may may' e = refl
+one-refusal NoNode (WornOut other) may may' e = absurd (apart _ _ refl e)
+one-refusal NoNode Busy may may' e = absurd (apart _ _ refl e)
+one-refusal NoNode Closed may may' e = absurd cc
+one-refusal (WornOut word) NoNode may may' e = absurd (apart _ _ refl e)
+one-refusal (WornOut word) (WornOut other) may may' e =
+    let same : word_text word ≡ word_text other = cc in ap (λ (w : WornWord). WornOut w) (one-word word other same)
+one-refusal (WornOut word) Busy may may' e = absurd (apart _ _ refl e)
+one-refusal (WornOut word) Closed may may' e = absurd (apart _ _ refl e)
+one-refusal Busy NoNode may may' e = absurd (apart _ _ refl e)
+one-refusal Busy (WornOut other) may may' e = absurd (apart _ _ refl e)
+one-refusal Busy Busy may may' e = refl
+one-refusal Busy Closed may may' e = absurd (apart _ _ refl e)
+one-refusal Closed NoNode may may' e = absurd cc
+one-refusal Closed (WornOut other) may may' e = absurd (apart _ _ refl e)
+one-refusal Closed Busy may may' e = absurd (apart _ _ refl e)
+one-refusal Closed Closed may may' e = refl
+one-refusal _ _ may may' e = absurd cc
 
 -- the words of a reply that a queue may give tell it
 one-reply : (a b : Option Reply) → IsQueueReply a → IsQueueReply b → reply_words a ≡ reply_words b → a ≡ b

@@ -12,13 +12,13 @@ use Rattle.text_lines.specs.Readings.{IsWrong}
 use Rattle.text_lines.specs.Grammars.{Says, AreDue, state_after, lines_of, IsText}
 use Rattle.text_lines.proofs.Numerals.{numeral_decimal}
 use Rattle.history.specs.declared.refusals.Refusal.{Refusal}
-use Rattle.history.specs.declared.refusals.Refusal.TheVariants.{NoNode, WornOut, Busy}
+use Rattle.history.specs.declared.refusals.Refusal.TheVariants.{NoNode, WornOut, Busy, Closed}
 use Rattle.history.specs.declared.operations.Op.{Op}
-use Rattle.history.specs.declared.operations.Op.TheVariants.{Enq, Deq}
+use Rattle.history.specs.declared.operations.Op.TheVariants.{Enq, Deq, Shut}
 use Rattle.history.specs.declared.operations.Reply.{Reply}
 use Rattle.history.specs.declared.operations.Reply.TheVariants.{Done, Value, Empty, Refused}
 use Rattle.history.specs.declared.operations.Stamped.{Stamped}
-use Rattle.history.specs.History.{leaves}
+use Rattle.history.specs.History.{may_refuse}
 use Rattle.history.specs.WornWords.{word_text}
 use Rattle.history_text.specs.HistoryText.{call_text, step_text, refusal_text, reply_text, operation_text, header_text, history_text}
 use Rattle.history_text.specs.HistoryLines.{HistoryLine, Count, Operation, First, Operations, call_words, step_word, refusal_words, reply_words, stamp_words, operation_words, IsQueueReply, IsCallInRange, IsStepInRange, IsReplyInRange, IsOperationInRange, IsReadable, IsHistoryInRange, is_line_due, history_grammar, history_lines}
@@ -45,16 +45,18 @@ call-spelled : (op : Op) → IsCallInRange op → spaces (call_words op) ≡ 32 
 unfolding spaces
 call-spelled (Enq body) range = ap (λ (later : List ℕ). 32 ∷ codes "enq" ++ (32 ∷ later)) (append-nil (numeral body) ∙ numeral_decimal body (omega (arith, range.1)))
 call-spelled Deq range = refl
+call-spelled Shut range = refl
 
 step-spelled : (step : Option ℕ) → IsStepInRange step → step_word step ≡ step_text step
 step-spelled None range = refl
 step-spelled (Some step) range = numeral_decimal step (omega (arith, range.1))
 
-refusal-spelled : (why : Refusal) → leaves why ≡ true → spaces (refusal_words why) ≡ 32 ∷ refusal_text why
+refusal-spelled : (why : Refusal) → may_refuse why ≡ true → spaces (refusal_words why) ≡ 32 ∷ refusal_text why
 unfolding spaces
 refusal-spelled NoNode e = refl
 refusal-spelled (WornOut word) e = ap (λ (later : List ℕ). 32 ∷ codes "2" ++ (32 ∷ later)) (append-nil (word_text word))
 refusal-spelled Busy e = refl
+refusal-spelled Closed e = refl
 refusal-spelled _ e = absurd cc
 
 value_text : (from body : List ℕ) → 32 ∷ codes "value" ++ (32 ∷ from ++ (32 ∷ body)) ≡ 32 ∷ (codes "value " ++ from ++ codes " " ++ body)

@@ -8,12 +8,12 @@ use Rattle.text_lines.specs.Grammars.{Grammar, IsFirstFault}
 use Rattle.history.specs.declared.refusals.Refusal.{Refusal}
 use Rattle.history.specs.declared.refusals.Refusal.TheVariants.{WornOut, Memory, Text}
 use Rattle.history.specs.declared.operations.Op.{Op}
-use Rattle.history.specs.declared.operations.Op.TheVariants.{Enq, Deq}
+use Rattle.history.specs.declared.operations.Op.TheVariants.{Enq, Deq, Shut}
 use Rattle.history.specs.declared.operations.Taken.{Taken}
 use Rattle.history.specs.declared.operations.Reply.{Reply}
 use Rattle.history.specs.declared.operations.Reply.TheVariants.{Done, Value, Empty, Refused}
 use Rattle.history.specs.declared.operations.Stamped.{Stamped}
-use Rattle.history.specs.History.{leaves}
+use Rattle.history.specs.History.{may_refuse}
 use Rattle.history.specs.WornWords.{word_text}
 use Rattle.history_text.specs.HistoryText.{refusal_text}
 
@@ -27,10 +27,11 @@ pub data HistoryDue : Type 0 where
   First : HistoryDue
   Operations : ℕ → HistoryDue
 
--- a call: `enq` and the body, or `deq`
+-- a call: `enq` and the body, `deq`, or `shut`
 abbrev pub call_words : Op → List (List ℕ)
 call_words (Enq body) = codes "enq" ∷ numeral body ∷ []
 call_words Deq = codes "deq" ∷ []
+call_words Shut = codes "shut" ∷ []
 
 -- the number of a step, or a dash where there is none
 abbrev pub step_word : Option ℕ → List ℕ
@@ -74,7 +75,7 @@ IsQueueReply None = Unit {0}
 IsQueueReply (Some Done) = Unit {0}
 IsQueueReply (Some (Value value)) = Unit {0}
 IsQueueReply (Some Empty) = Unit {0}
-IsQueueReply (Some (Refused why)) = leaves why ≡ true
+IsQueueReply (Some (Refused why)) = may_refuse why ≡ true
 
 -- the number of an actor
 abbrev pub IsActor : ℕ → Type 0
@@ -92,6 +93,7 @@ IsStep step = IsWithin 1 18446744073709551615 step
 abbrev pub IsCallInRange : Op → Type 0
 IsCallInRange (Enq body) = IsBody body
 IsCallInRange Deq = Unit {0}
+IsCallInRange Shut = Unit {0}
 
 -- the number of a step is in range where there is one
 abbrev pub IsStepInRange : Option ℕ → Type 0

@@ -5,15 +5,16 @@ use Rattle.history.specs.WornWords.{word_text}
 use Rattle.history.specs.declared.refusals.Refusal.{Refusal}
 use Rattle.history.specs.declared.refusals.Refusal.TheVariants.{NoNode, WornOut, Busy, Memory, BadSize, IdleActor, ActorBusy, NotHere, NoSuchActor, Text, Read, Write, Stranger, Double, Lost, Closed}
 use Rattle.history.specs.declared.operations.Op.{Op}
-use Rattle.history.specs.declared.operations.Op.TheVariants.{Enq, Deq}
+use Rattle.history.specs.declared.operations.Op.TheVariants.{Enq, Deq, Shut}
 use Rattle.history.specs.declared.operations.Reply.{Reply}
 use Rattle.history.specs.declared.operations.Reply.TheVariants.{Done, Value, Empty, Refused}
 use Rattle.history.specs.declared.operations.Stamped.{Stamped}
 
--- a call: `enq` and the body, or `deq`
+-- a call: `enq` and the body, `deq`, or `shut`
 abbrev pub call_text : Op → List ℕ
 call_text (Enq body) = codes "enq " ++ decimal body
 call_text Deq = codes "deq"
+call_text Shut = codes "shut"
 
 -- the number of a step, or a dash where there is none
 abbrev pub step_text : Option ℕ → List ℕ

@@ -55,7 +55,7 @@ fn operation_line(operation: &Stamped) -> Line
     line
 }
 
-/// Puts a call at the end of a line: `enq` and its body, or `deq`. It takes no memory.
+/// Puts a call at the end of a line: `enq` and its body, `deq`, or `shut`. It takes no memory.
 pub fn push_call(line: &mut Line, op: Op)
     requires { length line.old + 24 ≤ LINE_ROOM }
     ensures text { line.new ≡ line.old ++ call_text op }
@@ -67,6 +67,7 @@ pub fn push_call(line: &mut Line, op: Op)
             line.push_number(body.number());
         }
         Op::Deq => line.push(b"deq"),
+        Op::Shut => line.push(b"shut"),
     }
 }
 

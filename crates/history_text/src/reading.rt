@@ -112,6 +112,9 @@ fn call_of(words: &mut Words) -> Result<Option<Op>, TextCause>
     if word == b"deq".as_slice() {
         return Ok(Some(Op::Deq));
     }
+    if word == b"shut".as_slice() {
+        return Ok(Some(Op::Shut));
+    }
     if word != b"enq".as_slice() {
         return Err(TextCause::Form);
     }

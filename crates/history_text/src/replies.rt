@@ -81,6 +81,8 @@ fn refusal_of(mut words: Words) -> Result<Refusal, TextCause>
         Ok(Refusal::NoNode)
     } else if word == b"3".as_slice() {
         Ok(Refusal::Busy)
+    } else if word == b"16".as_slice() {
+        Ok(Refusal::Closed)
     } else {
         Err(TextCause::Form)
     }

@@ -1,4 +1,4 @@
-//! Letters of many senders over each queue: all come, and each sender's in its order.
+//! Letters of many senders over each queue: all come, each sender's in its order, and the last sender shuts the queue.
 #![tactic(auto)]
 
 mod queues;
@@ -54,7 +54,7 @@ fn one_run<R: Threads + Wait + Clock + Sync>(
     came(rt, alloc, kind, senders, load)
 }
 
-// In how many of these runs all letters came, each sender's in order.
+// In how many of these runs all letters came, each sender's in order, and the queue was shut.
 fn good_runs<R: Threads + Wait + Clock + Sync>(
     rt: &R,
     alloc: Global,
@@ -66,6 +66,7 @@ fn good_runs<R: Threads + Wait + Clock + Sync>(
     for _ in 0..runs.times {
         if let Ok(came) = one_run(rt, alloc, kind, runs.senders, runs.letters)
             && came.in_order == Some(due)
+            && came.shut
         {
             good = good.saturating_add(1);
         }
@@ -89,6 +90,7 @@ fn main(rt: HostRuntime) -> io::Result<()> {
                 Came {
                     in_order: Some(_),
                     time: Some(time),
+                    ..
                 },
             ) => println!(rt; "{}", time.as_nanos()),
             other => println!(rt; "{other:?}"),

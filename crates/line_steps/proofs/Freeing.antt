@@ -4,8 +4,8 @@ use Rattle.line_table.specs.declared.lines.Kind.{Kind}
 use Rattle.history.specs.declared.operations.Reply.{Reply}
 use Rattle.history.specs.declared.operations.Reply.TheVariants.{Done, Value, Empty, Refused}
 use Rattle.line_steps.specs.declared.actors.Actor.{Actor}
-use Rattle.line_steps.specs.Lines.{freed, unlocked, sets_aside, empties_hand}
-use Rattle.line_steps.specs.Said.{numbered, freed_at, freed_said, unlocked_at, unlocked_said}
+use Rattle.line_steps.specs.Lines.{freed, unlocked, left, left_with_node, sets_aside, empties_hand}
+use Rattle.line_steps.specs.Said.{numbered, freed_at, freed_said, unlocked_at, unlocked_said, left_said, left_with_node_at}
 
 freed_due : (kind : Kind) (now : ℕ) (due : Option Reply) (a : Actor) → numbered now (freed_at kind due a) (freed_said due) ≡ freed kind now due (empties_hand a)
 freed_due kind now None a = refl
@@ -37,3 +37,23 @@ aside_numbered kind now a = aside_due kind now a.due a
 
 pub unlocked_numbered : (now : ℕ) (a : Actor) → numbered now (unlocked_at a.due a) (unlocked_said a.due) ≡ unlocked now a.due a
 unlocked_numbered now a = unlocked_due now a.due a
+
+left_due : (now : ℕ) (due : Option Reply) (a : Actor) → numbered now (record a { line = None }) (left_said due) ≡ left now due a
+left_due now None a = refl
+left_due now (Some Done) a = refl
+left_due now (Some (Value v)) a = refl
+left_due now (Some Empty) a = refl
+left_due now (Some (Refused why)) a = refl
+
+left_with_node_due : (now : ℕ) (due : Option Reply) (a : Actor) → numbered now (left_with_node_at due a) (left_said due) ≡ left_with_node now due a
+left_with_node_due now None a = refl
+left_with_node_due now (Some Done) a = refl
+left_with_node_due now (Some (Value v)) a = refl
+left_with_node_due now (Some Empty) a = refl
+left_with_node_due now (Some (Refused why)) a = refl
+
+pub left_numbered : (now : ℕ) (a : Actor) → numbered now (record a { line = None }) (left_said a.due) ≡ left now a.due a
+left_numbered now a = left_due now a.due a
+
+pub left_with_node_numbered : (now : ℕ) (a : Actor) → numbered now (left_with_node_at a.due a) (left_said a.due) ≡ left_with_node now a.due a
+left_with_node_numbered now a = left_with_node_due now a.due a

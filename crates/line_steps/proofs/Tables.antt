@@ -2,7 +2,7 @@
 use Rattle.std.proofs.Common.{◌≡◌, ℕ, zero, suc, ◌+◌, ◌-◌, ◌*◌, ◌^◌, ◌<◌, List, [], ◌∷◌, ◌++◌, length, get_or, set, refl, sym, ap, subst, arith}
 use Rattle.counted_ref.specs.Ref.{ref_of}
 use Rattle.line_steps.specs.Memory.{blank}
-use Rattle.line_steps.specs.Words.{value_of, nodes_of, HoldsRef, IsTable}
+use Rattle.line_steps.specs.Words.{value_of, nodes_of, IsTable}
 
 -- two words more of a blank node are read as those behind the end were
 pub same_behind : (ws : List ℕ) (q : ℕ) → get_or (ws ++ 0 ∷ 0 ∷ []) q 0 ≡ get_or ws q 0
@@ -17,12 +17,8 @@ pub table-push : (ws : List ℕ) → IsTable ws → IsTable (ws ++ 0 ∷ 0 ∷ [
 table-push ws h =
     record {
       fresh = subst (λ n. n < 2 ^ 32) (sym (same_behind ws 0)) h.fresh;
-      free = subst HoldsRef (sym (same_behind ws 1)) h.free;
-      head = subst HoldsRef (sym (same_behind ws 2)) h.head;
-      tail = subst HoldsRef (sym (same_behind ws 3)) h.tail;
       tail_lock = subst (λ n. n < 2 ^ 16) (sym (same_behind ws 4)) h.tail_lock;
       head_lock = subst (λ n. n < 2 ^ 16) (sym (same_behind ws 5)) h.head_lock;
-      nexts = λ k. subst HoldsRef (sym (same_behind ws (6 + 2 * k))) (h.nexts k);
     }
 
 -- there are as many nodes as pairs of words

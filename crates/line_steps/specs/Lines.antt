@@ -1,13 +1,13 @@
 -- The line table: for each line one access of one shared word, and what its actor then does with what was found.
 use Rattle.std.specs.Prelude.{ℕ, ◌+◌, true, false, Option, Some, None, nat_eq, nat_lt, if◌then◌else◌}
-use Rattle.counted_ref.specs.Ref.{Ref, ref, is_null, same_ref}
+use Rattle.counted_ref.specs.Ref.{Ref, ref, null, is_null, shut_ref, is_shut, same_ref, reserved_node}
 use Rattle.line_table.specs.declared.lines.Kind.{Kind}
 use Rattle.line_table.specs.declared.lines.Kind.TheVariants.{TwoLock, NonBlocking}
 use Rattle.line_table.specs.declared.lines.Line.{Line}
-use Rattle.line_table.specs.declared.lines.Line.TheVariants.{N1, N2, N3, N4, N5, F1, F2, F3, E2, E3, E5, E6, E7, E9, E13, E17, D2, D3, D4, D5, D10, D12, D13, A1, A2, A3, A4, A5, A6, A7, B1, B2, B3, B4, B5, B6}
+use Rattle.line_table.specs.declared.lines.Line.TheVariants.{N1, N2, N3, N4, N5, F1, F2, F3, E2, E3, E5, E6, E7, E9, E13, E17, D2, D3, D4, D5, D10, D12, D13, A1, A2, A3, A4, A5, A6, A7, B1, B2, B3, B4, B5, B6, S1, S2, S3, S4, S5, S6, S7, S8, S9}
 use Rattle.history.specs.declared.refusals.WornWord.{WornWord}
 use Rattle.history.specs.declared.refusals.WornWord.TheVariants.{Free as OfFree, Next as OfNext, Tail as OfTail, Head as OfHead}
-use Rattle.history.specs.declared.refusals.Refusal.TheVariants.{NoNode, WornOut, Busy}
+use Rattle.history.specs.declared.refusals.Refusal.TheVariants.{NoNode, WornOut, Busy, Closed}
 use Rattle.history.specs.declared.operations.Reply.{Reply}
 use Rattle.history.specs.declared.operations.Reply.TheVariants.{Done, Value, Empty, Refused}
 use Rattle.line_steps.specs.declared.actors.Setup.{Setup}
@@ -15,9 +15,14 @@ use Rattle.line_steps.specs.declared.actors.Actor.{Actor}
 use Rattle.line_steps.specs.Outcomes.{Outcome}
 use Rattle.line_steps.specs.Memory.{Fresh, Free, Head, Tail, Tail_lock, Head_lock, Next, Value_of, Action, load, store, clear, exchange, Found}
 
--- the reference that names another node, with its count raised; a count at the limit is never raised
+-- the reference that names another node, with its count raised; it stays as it is where its count is at the limit, and
+-- where the number given is that of a closed end
 abbrev pub raised : Setup → Ref → ℕ → Ref
-raised s r to = if nat_eq r.count s.limit then r else ref to (r.count + 1)
+raised s r to = if nat_eq to reserved_node then r else if nat_eq r.count s.limit then r else ref to (r.count + 1)
+
+-- the closed end with the count of a reference raised; a reference whose count is at the limit stays as it is
+abbrev pub raised_end : Setup → Ref → Ref
+raised_end s r = if nat_eq r.count s.limit then r else shut_ref (r.count + 1)
 
 -- the access of each line, by the actor's number and registers
 abbrev pub action : Setup → (me : ℕ) → Actor → Line → Action
@@ -48,7 +53,7 @@ action s me a A1 = store (Value_of a.node) a.val
 action s me a A2 = clear a.node
 action s me a A3 = exchange Tail_lock 0 me
 action s me a A4 = load Tail
-action s me a A5 = store (Next a.tail.node) (ref a.node 0)
+action s me a A5 = exchange (Next a.tail.node) null (ref a.node 0)
 action s me a A6 = store Tail (ref a.node 0)
 action s me a A7 = store Tail_lock 0
 action s me a B1 = exchange Head_lock 0 me
@@ -57,6 +62,15 @@ action s me a B3 = load (Next a.head.node)
 action s me a B4 = load (Value_of a.next.node)
 action s me a B5 = store Head (raised s a.head a.next.node)
 action s me a B6 = store Head_lock 0
+action s me a S1 = load Tail
+action s me a S2 = load (Next a.tail.node)
+action s me a S3 = load Tail
+action s me a S4 = exchange (Next a.tail.node) a.next (raised_end s a.next)
+action s me a S5 = exchange Tail a.tail (raised s a.tail a.next.node)
+action s me a S6 = exchange Tail_lock 0 me
+action s me a S7 = load Tail
+action s me a S8 = exchange (Next a.tail.node) null (shut_ref 0)
+action s me a S9 = store Tail_lock 0
 
 -- the call goes on at a line
 abbrev pub goes : Line → Actor → Outcome
@@ -78,6 +92,10 @@ ends now reply a =
 -- the call ends with a refusal, since a word is worn out
 abbrev pub worn : ℕ → WornWord → Actor → Outcome
 worn now what a = ends now (Refused (WornOut what)) a
+
+-- the call ends with a refusal, since the queue is shut
+abbrev pub closed : ℕ → Actor → Outcome
+closed now a = ends now (Refused Closed) a
 
 -- the operation takes effect at this step
 abbrev pub effect : ℕ → Outcome → Outcome
@@ -109,6 +127,11 @@ abbrev pub dequeues : Kind → Line
 dequeues NonBlocking = D2
 dequeues TwoLock = B1
 
+-- where a shut begins
+abbrev pub shuts : Kind → Line
+shuts NonBlocking = S1
+shuts TwoLock = S6
+
 -- the free lines have ended: a call with a reply ends, a dequeue that freed its pocket first begins
 abbrev pub freed : Kind → ℕ → Option Reply → Actor → Outcome
 freed kind now None a = goes (dequeues kind) a
@@ -121,6 +144,16 @@ unlocked now (Some (Value v)) a = goes F1 a
 unlocked now (Some Done) a = ends now Done a
 unlocked now (Some Empty) a = ends now Empty a
 unlocked now (Some (Refused why)) a = ends now (Refused why) a
+
+-- the tail lock was let go: a shut that found the queue shut is refused, any other one is done
+abbrev pub left : ℕ → Option Reply → Actor → Outcome
+left now (Some (Refused why)) a = ends now (Refused why) a
+left now _ a = ends now Done a
+
+-- the same of an enqueue, whose node goes to the pocket where it is refused
+abbrev pub left_with_node : ℕ → Option Reply → Actor → Outcome
+left_with_node now (Some (Refused why)) a = ends now (Refused why) (to_pocket a)
+left_with_node now _ a = ends now Done a
 
 -- what becomes of the actor and its operation, by what was found
 abbrev pub outcome : (s : Setup) (now me : ℕ) (a : Actor) (l : Line) → Found (action s me a l) → Outcome
@@ -150,6 +183,7 @@ outcome s now me a E6 next = goes E7 (record a { next = next })
 outcome s now me a E7 tail =
     if same_ref tail a.tail
     then if is_null a.next then goes E9 a
+    else if is_shut a.next then closed now (to_pocket a)
     else if nat_eq a.tail.count s.limit then worn now OfTail (to_pocket a)
     else goes E13 a
     else goes E5 a
@@ -167,6 +201,7 @@ outcome s now me a D5 head =
     if same_ref head a.head
     then if nat_eq a.head.node a.tail.node
     then if is_null a.next then ends now Empty a
+    else if is_shut a.next then closed now a
     else if nat_eq a.tail.count s.limit then worn now OfTail a
     else goes D10 a
     else goes D12 a
@@ -182,20 +217,41 @@ outcome s now me a A1 was = goes A2 a
 outcome s now me a A2 was = goes A3 a
 outcome s now me a A3 was = if nat_eq was 0 then goes A4 a else goes A3 a
 outcome s now me a A4 tail = goes A5 (record a { tail = tail })
-outcome s now me a A5 was = effect now (goes A6 (empties_hand (record a { due = Some Done })))
+outcome s now me a A5 was =
+    if same_ref was null
+    then effect now (goes A6 (empties_hand (record a { due = Some Done })))
+    else goes A7 (record a { due = Some (Refused Closed) })
 outcome s now me a A6 was = goes A7 a
-outcome s now me a A7 was = ends now Done a
+outcome s now me a A7 was = left_with_node now a.due a
 outcome s now me a B1 was = if nat_eq was 0 then goes B2 a else goes B1 a
 outcome s now me a B2 head = goes B3 (record a { head = head })
 outcome s now me a B3 next =
     let b = record a { next = next; empty_at = now } in
-    if is_null next then goes B6 (record b { due = Some Empty }) else goes B4 b
+    if is_null next then goes B6 (record b { due = Some Empty })
+    else if is_shut next then goes B6 (record b { due = Some (Refused Closed) })
+    else goes B4 b
 outcome s now me a B4 val =
     let b = record a { val = val } in
     if nat_eq a.head.count s.limit then goes B6 (record b { due = Some (Refused (WornOut OfHead)) }) else goes B5 b
 outcome s now me a B5 was =
     effect now (goes B6 (fills_hand a.head.node a.next.count (record a { due = Some (Value a.val) })))
 outcome s now me a B6 was = unlocked now a.due a
+outcome s now me a S1 tail = goes S2 (record a { tail = tail })
+outcome s now me a S2 next = goes S3 (record a { next = next })
+outcome s now me a S3 tail =
+    if same_ref tail a.tail
+    then if is_null a.next then goes S4 a
+    else if is_shut a.next then closed now a
+    else if nat_eq a.tail.count s.limit then worn now OfTail a
+    else goes S5 a
+    else goes S1 a
+outcome s now me a S4 was = if same_ref was a.next then effect now (ends now Done a) else goes S1 a
+outcome s now me a S5 was = goes S1 a
+outcome s now me a S6 was = if nat_eq was 0 then goes S7 a else goes S6 a
+outcome s now me a S7 tail = goes S8 (record a { tail = tail })
+outcome s now me a S8 was =
+    if same_ref was null then effect now (goes S9 (record a { due = Some Done })) else goes S9 (record a { due = Some (Refused Closed) })
+outcome s now me a S9 was = left now a.due a
 
 -- giving up ends the call with Busy
 abbrev pub busy : ℕ → Actor → Option Outcome
@@ -214,4 +270,6 @@ gives_up now a E5 = busy now (to_pocket a)
 gives_up now a D2 = busy now a
 gives_up now a A3 = busy now (to_pocket a)
 gives_up now a B1 = busy now a
+gives_up now a S1 = busy now a
+gives_up now a S6 = busy now a
 gives_up now a _ = None

@@ -9,7 +9,7 @@ use Rattle.line_steps.specs.declared.outcomes.When.{When}
 use Rattle.line_steps.specs.declared.outcomes.When.TheVariants.{Open, Here, Noted, AsNoted}
 use Rattle.line_steps.specs.declared.outcomes.Said.{Said}
 use Rattle.line_steps.specs.Outcomes.{Outcome}
-use Rattle.line_steps.specs.Lines.{dequeues}
+use Rattle.line_steps.specs.Lines.{dequeues, to_pocket}
 
 -- the number at which an operation takes effect
 abbrev pub number_of : (now : ℕ) → Actor → When → Option ℕ
@@ -55,6 +55,20 @@ freed_at kind (Some reply) a = record a { line = None; holds = false }
 -- by the reply that is due to it
 abbrev pub freed_actor : Kind → Actor → Actor
 freed_actor kind a = freed_at kind a.due a
+
+-- a call that let the lock of the tail go
+abbrev pub left_said : (due : Option Reply) → Said
+left_said (Some (Refused why)) = end_of (Refused why)
+left_said _ = end_of Done
+
+-- the actor of that call, where it has a node that goes to the pocket if the call is refused
+abbrev pub left_with_node_at : (due : Option Reply) → Actor → Actor
+left_with_node_at (Some (Refused why)) a = record (to_pocket a) { line = None }
+left_with_node_at _ a = record a { line = None }
+
+-- by the reply that is due to it
+abbrev pub left_with_node_actor : Actor → Actor
+left_with_node_actor a = left_with_node_at a.due a
 
 -- a call that let the lock of the head go
 abbrev pub unlocked_said : (due : Option Reply) → Said

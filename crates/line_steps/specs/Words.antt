@@ -1,6 +1,6 @@
 -- The shared words in one table of numbers: the layout, and what the numbers of a table stand for.
 use Rattle.std.specs.Prelude.{ℕ, ◌+◌, ◌*◌, ◌/◌, ◌%◌, ◌^◌, ◌<◌, ◌≤◌, List, [], ◌∷◌, length, drop, slice_index_or}
-use Rattle.counted_ref.specs.Ref.{node_bits, reserved_node, ref_word, ref_of}
+use Rattle.counted_ref.specs.Ref.{ref_word, ref_of}
 use Rattle.history.specs.Limits.{body_bits}
 use Rattle.history.specs.declared.operations.Taken.{Taken}
 use Rattle.line_steps.specs.declared.actors.Node.{Node}
@@ -72,16 +72,8 @@ shared_of size words =
       nodes = padded size blank (nodes_of (drop 6 words));
     }
 
--- a word is that of a reference: its node is not the reserved one
-abbrev pub HoldsRef : ℕ → Type 0
-HoldsRef word = word % 2 ^ node_bits < reserved_node
-
--- each word of a table is one of its kind: Fresh has 32 bits, a lock 16, and no reference names the reserved node
+-- each word of a table is one of its kind: Fresh has 32 bits, and a lock 16
 pub record IsTable (words : List ℕ) : Type 0 where
   pub fresh : slice_index_or words 0 0 < 2 ^ 32
-  pub free : HoldsRef (slice_index_or words 1 0)
-  pub head : HoldsRef (slice_index_or words 2 0)
-  pub tail : HoldsRef (slice_index_or words 3 0)
   pub tail_lock : slice_index_or words 4 0 < 2 ^ 16
   pub head_lock : slice_index_or words 5 0 < 2 ^ 16
-  pub nexts : (k : ℕ) → HoldsRef (slice_index_or words (6 + 2 * k) 0)

@@ -2,6 +2,7 @@
 #![tactic(auto)]
 
 mod actors;
+mod calls;
 mod memory;
 mod outcomes;
 mod rows;
@@ -9,7 +10,8 @@ mod steps;
 mod words;
 
 pub use actors::{Actor, Held, Node, Setup, Told};
+pub use calls::{begin, give_up};
 pub use memory::{Memory, nobody_value};
-pub use outcomes::{begin, give_up, put_down};
+pub use outcomes::put_down;
 pub use steps::stepped;
 pub use words::value_of;

@@ -1,19 +1,19 @@
 //! What a step makes of its actor, by the words of the line table.
-ghost use Rattle.std.specs.Prelude.{◌≡◌, ◌-◌, ◌<◌, ◌≤◌, ◌^◌, Some, None, IfSome, IsNone, true, false};
-ghost use Rattle.counted_ref.specs.Ref.{reserved_node, count_bits};
+ghost use Rattle.std.specs.Prelude.{◌≡◌, ◌-◌, ◌<◌, ◌≤◌, ◌^◌, Some, None, IfSome, false};
+ghost use Rattle.counted_ref.specs.Ref.{node_bits, count_bits};
 ghost use Rattle.line_steps.specs.Lines as lines;
-ghost use Rattle.line_steps.specs.Calling as calling;
 ghost use Rattle.history.specs.declared.operations.Reply.TheVariants.{Done, Refused};
-ghost use Rattle.history.specs.declared.refusals.Refusal.TheVariants.{WornOut};
+ghost use Rattle.history.specs.declared.refusals.Refusal.TheVariants.{WornOut, Closed};
 ghost use Rattle.line_steps.specs.Outcomes.{settled, with_told};
 ghost use Rattle.line_steps.specs.Rooms.{aside_after};
 ghost use Rattle.line_steps.specs.Said as outcomes;
 ghost use Rattle.line_steps.specs.Said.{numbered, nothing, end_of, freed_actor, freed_said, unlocked_actor, unlocked_said};
+ghost use Rattle.line_steps.specs.Said.{left_said, left_with_node_actor};
 
 use crate::actors::{Actor, Held, Setup, Told};
 use crate::memory::Memory;
-use counted_ref::CountedRef;
-use history::{Op, Refusal, Reply, Stamped, Taken, WornWord};
+use counted_ref::{CountedRef, SHUT_NODE};
+use history::{Refusal, Reply, Stamped, WornWord};
 use line_table::{Kind, Line};
 
 /// When an operation takes effect, as a row says it, which knows no numbers of steps.
@@ -144,6 +144,48 @@ pub fn worn_with_node(word: WornWord, actor: &mut Actor) -> Said
     worn(word, actor)
 }
 
+/// The queue is shut.
+pub fn closed(actor: &mut Actor) -> Said
+    ensures actor { actor.new ≡ record actor.old { line = None } }
+    ensures said { result ≡ end_of (Refused Closed) }
+{
+    ends(Reply::Refused(Refusal::Closed), actor)
+}
+
+/// The node in hand goes to the pocket, and the queue is shut.
+pub fn closed_with_node(actor: &mut Actor) -> Said
+    ensures actor { actor.new ≡ record (lines.to_pocket actor.old) { line = None } }
+    ensures said { result ≡ end_of (Refused Closed) }
+{
+    actor.to_pocket();
+    closed(actor)
+}
+
+/// The lock of the tail is free: a shut that found the queue shut is refused, any other one is done.
+pub fn left(actor: &mut Actor) -> Said
+    ensures actor { actor.new ≡ record actor.old { line = None } }
+    ensures said { result ≡ left_said actor.old.due }
+{
+    match actor.due {
+        Some(Reply::Refused(why)) => ends(Reply::Refused(why), actor),
+        _ => ends(Reply::Done, actor),
+    }
+}
+
+/// The same of an enqueue, whose node goes to the pocket where it is refused.
+pub fn left_with_node(actor: &mut Actor) -> Said
+    ensures actor { actor.new ≡ left_with_node_actor actor.old }
+    ensures said { result ≡ left_said actor.old.due }
+{
+    match actor.due {
+        Some(Reply::Refused(why)) => {
+            actor.to_pocket();
+            ends(Reply::Refused(why), actor)
+        }
+        _ => ends(Reply::Done, actor),
+    }
+}
+
 /// The node in hand is set aside, and a word is worn out.
 pub fn worn_aside(word: WornWord, actor: &mut Actor) -> Said
     ensures actor { actor.new ≡ record actor.old { line = None; holds = false } }
@@ -230,6 +272,15 @@ pub fn dequeues(kind: Kind) -> Line
     }
 }
 
+pub fn shuts(kind: Kind) -> Line
+    ensures { result ≡ lines.shuts kind }
+{
+    match kind {
+        Kind::NonBlocking => Line::S1,
+        Kind::TwoLock => Line::S6,
+    }
+}
+
 /// The node in hand is free: a call with a reply ends, a dequeue that freed its pocket first begins.
 pub fn frees(kind: Kind, actor: &mut Actor) -> Said
     ensures actor { actor.new ≡ freed_actor kind actor.old }
@@ -256,12 +307,29 @@ pub fn frees_aside(kind: Kind, actor: &mut Actor) -> Said
 }
 
 pub fn raised(setup: Setup, old: CountedRef, to: u32) -> CountedRef
-    requires node { to < reserved_node }
+    requires node { to < 2 ^ node_bits }
     requires limit { setup.limit < 2 ^ count_bits }
     requires count { old.count ≤ setup.limit }
     ensures { result ≡ lines.raised setup old to }
 {
-    old.raised(to, setup.limit).unwrap_or(old)
+    if to == SHUT_NODE {
+        old
+    } else {
+        old.raised(to, setup.limit).unwrap_or(old)
+    }
+}
+
+/// The closed end with the count of a reference raised.
+pub fn raised_end(setup: Setup, old: CountedRef) -> CountedRef
+    requires limit { setup.limit < 2 ^ count_bits }
+    requires count { old.count ≤ setup.limit }
+    ensures { result ≡ lines.raised_end setup old }
+{
+    if old.count() == setup.limit {
+        old
+    } else {
+        CountedRef::shut(old.count() + 1)
+    }
 }
 
 /// The lock of the head is free: a call that took a value frees the node, any other one ends with its reply.
@@ -273,62 +341,4 @@ pub fn unlocked(actor: &mut Actor) -> Said
         None | Some(Reply::Value(_)) => goes(Line::F1, actor),
         Some(reply) => ends(reply, actor),
     }
-}
-
-/// The node in a full pocket comes into the hand, and the call begins at this line.
-fn from_pocket(line: Line, actor: &mut Actor)
-    ensures { actor.new ≡ calling.from_pocket line actor.old.pocket actor.old }
-{
-    if let Some(held) = actor.pocket {
-        actor.fills_hand(held.node, held.mark);
-        actor.line = Some(line);
-        actor.pocket = None;
-    }
-}
-
-/// An actor begins a call: `me` is its number, from 1 on. The node in its pocket comes into its hand.
-///
-/// Takes no memory.
-pub fn begin(kind: Kind, me: u16, op: Op, actor: &mut Actor)
-    ensures actor { actor.new ≡ calling.begun kind me op actor.old }
-    ensures call { calling.is_call op ≡ true }
-{
-    actor.due = None;
-    actor.entry = None;
-    match op {
-        Op::Enq(body) => {
-            let _in_range = body.number();
-            actor.op = Op::Enq(body);
-            actor.line = Some(Line::N1);
-            actor.val = Taken { from: me, body };
-            from_pocket(with_node(kind), actor);
-        }
-        Op::Deq => {
-            actor.op = Op::Deq;
-            actor.line = Some(dequeues(kind));
-            from_pocket(Line::F1, actor);
-        }
-    }
-}
-
-/// What becomes of an actor that gives up before a line at the step number `now`; none, and the actor stays, where no turn
-/// begins there.
-///
-/// Takes no memory.
-pub fn give_up(now: u64, actor: &mut Actor, line: Line) -> Option<Told>
-    ensures some { IfSome result (λ t. lines.gives_up now actor.old line ≡ Some (settled actor.new t)) }
-    ensures none { IsNone result → lines.gives_up now actor.old line ≡ None }
-    ensures same { IsNone result → actor.new ≡ actor.old }
-{
-    match line {
-        Line::N1 | Line::D2 | Line::B1 => {}
-        Line::E5 | Line::A3 | Line::F1 => actor.to_pocket(),
-        _ => return None,
-    }
-    let reply = match line {
-        Line::F1 => actor.due.unwrap_or(Reply::Refused(Refusal::Busy)),
-        _ => Reply::Refused(Refusal::Busy),
-    };
-    let said = ends(reply, actor);
-    Some(settle(now, actor, said))
 }

@@ -1,13 +1,14 @@
 //! A function a line: what a step does at that line, which is the line's row of the table.
 #![tactic(auto, unfolding(crate::specs::Steps::outcome_on))]
 
+ghost use Rattle.std.specs.Prelude.{◌≤◌};
 ghost use Rattle.line_steps.specs.Steps.{MayStep, Stepped};
 
 use crate::actors::{Actor, Setup, Told};
 use crate::memory::Memory;
 use crate::outcomes::{
-    effect, ends, frees, frees_aside, goes, notes, raised, settle, unlocked, with_node, worn,
-    worn_aside, worn_with_node,
+    closed, closed_with_node, effect, ends, frees, frees_aside, goes, left, left_with_node, notes,
+    raised, raised_end, settle, unlocked, with_node, worn, worn_aside, worn_with_node,
 };
 use counted_ref::CountedRef;
 use history::{Refusal, Reply, WornWord};
@@ -204,7 +205,8 @@ pub(crate) fn d10(memory: &mut Memory, setup: Setup, now: u64, me: u16, a: &mut 
 }
 
 pub(crate) fn d12(memory: &mut Memory, setup: Setup, now: u64, me: u16, a: &mut Actor) -> Told
-    requires { MayStep setup memory.old.room a.old }
+    requires ready { MayStep setup memory.old.room a.old }
+    requires node { a.old.next.node ≤ memory.old.room }
     ensures { Stepped setup now me Line.D12 memory.old a.old memory.new a.new result }
 {
     line_table!(D12 (setup me a found) made (memory now a found))
@@ -261,6 +263,7 @@ pub(crate) fn a6(memory: &mut Memory, setup: Setup, now: u64, me: u16, a: &mut A
     line_table!(A6 (setup me a found) made (memory now a found))
 }
 
+#[tactic(auto, unfolding(crate::specs::Steps::outcome_on), using(crate::proofs::Freeing::left_with_node_numbered))]
 pub(crate) fn a7(memory: &mut Memory, setup: Setup, now: u64, me: u16, a: &mut Actor) -> Told
     requires { MayStep setup memory.old.room a.old }
     ensures { Stepped setup now me Line.A7 memory.old a.old memory.new a.new result }
@@ -292,7 +295,8 @@ pub(crate) fn b3(memory: &mut Memory, setup: Setup, now: u64, me: u16, a: &mut A
 }
 
 pub(crate) fn b4(memory: &mut Memory, setup: Setup, now: u64, me: u16, a: &mut Actor) -> Told
-    requires { MayStep setup memory.old.room a.old }
+    requires ready { MayStep setup memory.old.room a.old }
+    requires node { a.old.next.node ≤ memory.old.room }
     ensures { Stepped setup now me Line.B4 memory.old a.old memory.new a.new result }
 {
     line_table!(B4 (setup me a found) made (memory now a found))
@@ -311,4 +315,70 @@ pub(crate) fn b6(memory: &mut Memory, setup: Setup, now: u64, me: u16, a: &mut A
     ensures { Stepped setup now me Line.B6 memory.old a.old memory.new a.new result }
 {
     line_table!(B6 (setup me a found) made (memory now a found))
+}
+
+// A shut, of the non-blocking queue and of the two-lock queue.
+
+pub(crate) fn s1(memory: &mut Memory, setup: Setup, now: u64, me: u16, a: &mut Actor) -> Told
+    requires { MayStep setup memory.old.room a.old }
+    ensures { Stepped setup now me Line.S1 memory.old a.old memory.new a.new result }
+{
+    line_table!(S1 (setup me a found) made (memory now a found))
+}
+
+pub(crate) fn s2(memory: &mut Memory, setup: Setup, now: u64, me: u16, a: &mut Actor) -> Told
+    requires { MayStep setup memory.old.room a.old }
+    ensures { Stepped setup now me Line.S2 memory.old a.old memory.new a.new result }
+{
+    line_table!(S2 (setup me a found) made (memory now a found))
+}
+
+pub(crate) fn s3(memory: &mut Memory, setup: Setup, now: u64, me: u16, a: &mut Actor) -> Told
+    requires { MayStep setup memory.old.room a.old }
+    ensures { Stepped setup now me Line.S3 memory.old a.old memory.new a.new result }
+{
+    line_table!(S3 (setup me a found) made (memory now a found))
+}
+
+pub(crate) fn s4(memory: &mut Memory, setup: Setup, now: u64, me: u16, a: &mut Actor) -> Told
+    requires { MayStep setup memory.old.room a.old }
+    ensures { Stepped setup now me Line.S4 memory.old a.old memory.new a.new result }
+{
+    line_table!(S4 (setup me a found) made (memory now a found))
+}
+
+pub(crate) fn s5(memory: &mut Memory, setup: Setup, now: u64, me: u16, a: &mut Actor) -> Told
+    requires { MayStep setup memory.old.room a.old }
+    ensures { Stepped setup now me Line.S5 memory.old a.old memory.new a.new result }
+{
+    line_table!(S5 (setup me a found) made (memory now a found))
+}
+
+pub(crate) fn s6(memory: &mut Memory, setup: Setup, now: u64, me: u16, a: &mut Actor) -> Told
+    requires { MayStep setup memory.old.room a.old }
+    ensures { Stepped setup now me Line.S6 memory.old a.old memory.new a.new result }
+{
+    line_table!(S6 (setup me a found) made (memory now a found))
+}
+
+pub(crate) fn s7(memory: &mut Memory, setup: Setup, now: u64, me: u16, a: &mut Actor) -> Told
+    requires { MayStep setup memory.old.room a.old }
+    ensures { Stepped setup now me Line.S7 memory.old a.old memory.new a.new result }
+{
+    line_table!(S7 (setup me a found) made (memory now a found))
+}
+
+pub(crate) fn s8(memory: &mut Memory, setup: Setup, now: u64, me: u16, a: &mut Actor) -> Told
+    requires { MayStep setup memory.old.room a.old }
+    ensures { Stepped setup now me Line.S8 memory.old a.old memory.new a.new result }
+{
+    line_table!(S8 (setup me a found) made (memory now a found))
+}
+
+#[tactic(auto, unfolding(crate::specs::Steps::outcome_on), using(crate::proofs::Freeing::left_numbered))]
+pub(crate) fn s9(memory: &mut Memory, setup: Setup, now: u64, me: u16, a: &mut Actor) -> Told
+    requires { MayStep setup memory.old.room a.old }
+    ensures { Stepped setup now me Line.S9 memory.old a.old memory.new a.new result }
+{
+    line_table!(S9 (setup me a found) made (memory now a found))
 }

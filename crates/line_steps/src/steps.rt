@@ -2,7 +2,7 @@
 ghost use Rattle.std.specs.Prelude.{◌≡◌};
 ghost use Rattle.line_steps.specs.Lines.{action};
 ghost use Rattle.line_steps.specs.Outcomes.{with_outcome};
-ghost use Rattle.line_steps.specs.Ready.{IsCounted, RegistersFit};
+ghost use Rattle.line_steps.specs.Ready.{IsCounted, RegistersFit, ReadsFit};
 ghost use Rattle.line_steps.specs.Steps.{memory_after, outcome_on};
 
 use crate::actors::{Actor, Setup};
@@ -41,6 +41,7 @@ pub fn stepped(
 ) -> Option<Reply>
     requires counted { IsCounted setup }
     requires ready { RegistersFit setup memory.old.room a.old }
+    requires reads { ReadsFit line memory.old.room a.old }
     ensures actor { a.new ≡ (outcome_on setup now me a.old line memory.old.words).actor }
     ensures operation { operation.new ≡
         with_outcome now (outcome_on setup now me a.old line memory.old.words) operation.old }
@@ -55,5 +56,6 @@ pub fn stepped(
         D2 d2 D3 d3 D4 d4 D5 d5 D10 d10 D12 d12 D13 d13
         A1 a1 A2 a2 A3 a3 A4 a4 A5 a5 A6 a6 A7 a7
         B1 b1 B2 b2 B3 b3 B4 b4 B5 b5 B6 b6
+        S1 s1 S2 s2 S3 s3 S4 s4 S5 s5 S6 s6 S7 s7 S8 s8 S9 s9
     )
 }

@@ -4,7 +4,7 @@ use Rattle.std.proofs.Common.{◌≡◌, ◌≢◌, ℕ, ◌+◌, ◌<◌, List,
 use Rattle.std.specs.Prelude.{Contains, AllPairs}
 use Rattle.std.proofs.lemmas.Bool.{eqb-true, and_parts}
 use Rattle.line_table.specs.declared.lines.Line.{Line}
-use Rattle.line_table.specs.declared.lines.Line.TheVariants.{N1, N2, N3, N4, N5, F1, F2, F3, E2, E3, E5, E6, E7, E9, E13, E17, D2, D3, D4, D5, D10, D12, D13, A1, A2, A3, A4, A5, A6, A7, B1, B2, B3, B4, B5, B6}
+use Rattle.line_table.specs.declared.lines.Line.TheVariants.{N1, N2, N3, N4, N5, F1, F2, F3, E2, E3, E5, E6, E7, E9, E13, E17, D2, D3, D4, D5, D10, D12, D13, A1, A2, A3, A4, A5, A6, A7, B1, B2, B3, B4, B5, B6, S1, S2, S3, S4, S5, S6, S7, S8, S9}
 use Rattle.line_table.specs.declared.lines.TheConstants.Line.{ALL}
 
 -- the place of a line in the list of all lines
@@ -45,6 +45,15 @@ place_of B3 = 32
 place_of B4 = 33
 place_of B5 = 34
 place_of B6 = 35
+place_of S1 = 36
+place_of S2 = 37
+place_of S3 = 38
+place_of S4 = 39
+place_of S5 = 40
+place_of S6 = 41
+place_of S7 = 42
+place_of S8 = 43
+place_of S9 = 44
 
 -- each line is in the list of all lines
 pub lists_each : (line : Line) → Contains ALL line
@@ -84,6 +93,15 @@ lists_each B3 = (32, lit< tt, refl)
 lists_each B4 = (33, lit< tt, refl)
 lists_each B5 = (34, lit< tt, refl)
 lists_each B6 = (35, lit< tt, refl)
+lists_each S1 = (36, lit< tt, refl)
+lists_each S2 = (37, lit< tt, refl)
+lists_each S3 = (38, lit< tt, refl)
+lists_each S4 = (39, lit< tt, refl)
+lists_each S5 = (40, lit< tt, refl)
+lists_each S6 = (41, lit< tt, refl)
+lists_each S7 = (42, lit< tt, refl)
+lists_each S8 = (43, lit< tt, refl)
+lists_each S9 = (44, lit< tt, refl)
 
 -- whether the lines of a list have the places from this one on
 abbrev counts_from : ℕ → List Line → Bool

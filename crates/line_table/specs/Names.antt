@@ -1,7 +1,7 @@
 -- The names of the lines.
 use Rattle.std.specs.Prelude.{ℕ, List, codes}
 use Rattle.line_table.specs.declared.lines.Line.{Line}
-use Rattle.line_table.specs.declared.lines.Line.TheVariants.{N1, N2, N3, N4, N5, F1, F2, F3, E2, E3, E5, E6, E7, E9, E13, E17, D2, D3, D4, D5, D10, D12, D13, A1, A2, A3, A4, A5, A6, A7, B1, B2, B3, B4, B5, B6}
+use Rattle.line_table.specs.declared.lines.Line.TheVariants.{N1, N2, N3, N4, N5, F1, F2, F3, E2, E3, E5, E6, E7, E9, E13, E17, D2, D3, D4, D5, D10, D12, D13, A1, A2, A3, A4, A5, A6, A7, B1, B2, B3, B4, B5, B6, S1, S2, S3, S4, S5, S6, S7, S8, S9}
 
 -- the name of a line, in bytes
 abbrev pub name_of : Line → List ℕ
@@ -41,3 +41,12 @@ name_of B3 = codes "B3"
 name_of B4 = codes "B4"
 name_of B5 = codes "B5"
 name_of B6 = codes "B6"
+name_of S1 = codes "S1"
+name_of S2 = codes "S2"
+name_of S3 = codes "S3"
+name_of S4 = codes "S4"
+name_of S5 = codes "S5"
+name_of S6 = codes "S6"
+name_of S7 = codes "S7"
+name_of S8 = codes "S8"
+name_of S9 = codes "S9"

@@ -1,8 +1,8 @@
 -- The sections of the line table.
 use Rattle.line_table.specs.declared.lines.Line.{Line}
-use Rattle.line_table.specs.declared.lines.Line.TheVariants.{N1, N2, N3, N4, N5, F1, F2, F3, E2, E3, E5, E6, E7, E9, E13, E17, D2, D3, D4, D5, D10, D12, D13, A1, A2, A3, A4, A5, A6, A7, B1, B2, B3, B4, B5, B6}
+use Rattle.line_table.specs.declared.lines.Line.TheVariants.{N1, N2, N3, N4, N5, F1, F2, F3, E2, E3, E5, E6, E7, E9, E13, E17, D2, D3, D4, D5, D10, D12, D13, A1, A2, A3, A4, A5, A6, A7, B1, B2, B3, B4, B5, B6, S1, S2, S3, S4, S5, S6, S7, S8, S9}
 use Rattle.line_table.specs.declared.lines.Section.{Section}
-use Rattle.line_table.specs.declared.lines.Section.TheVariants.{NewNode, Free, Enqueue, Dequeue, LockedEnqueue, LockedDequeue}
+use Rattle.line_table.specs.declared.lines.Section.TheVariants.{NewNode, Free, Enqueue, Dequeue, LockedEnqueue, LockedDequeue, Shut, LockedShut}
 
 -- the section in which a line stands
 abbrev pub section_of : Line → Section
@@ -42,3 +42,12 @@ section_of B3 = LockedDequeue
 section_of B4 = LockedDequeue
 section_of B5 = LockedDequeue
 section_of B6 = LockedDequeue
+section_of S1 = Shut
+section_of S2 = Shut
+section_of S3 = Shut
+section_of S4 = Shut
+section_of S5 = Shut
+section_of S6 = LockedShut
+section_of S7 = LockedShut
+section_of S8 = LockedShut
+section_of S9 = LockedShut

@@ -3,6 +3,7 @@
 
 pub mod laws;
 mod lines;
+mod shuts;
 mod table;
 
 pub use lines::{Kind, Line, Section};

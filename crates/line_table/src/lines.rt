@@ -56,6 +56,15 @@ pub enum Line {
     B4,
     B5,
     B6,
+    S1,
+    S2,
+    S3,
+    S4,
+    S5,
+    S6,
+    S7,
+    S8,
+    S9,
 }
 
 /// The sections of the line table.
@@ -73,6 +82,10 @@ pub enum Section {
     LockedEnqueue,
     /// The dequeue of the two-lock queue.
     LockedDequeue,
+    /// The shut of the non-blocking queue.
+    Shut,
+    /// The shut of the two-lock queue.
+    LockedShut,
 }
 
 // An array of the lines.
@@ -108,14 +121,14 @@ macro_rules! sections {
 
 impl Line {
     /// Every line, in the order of the table.
-    pub const ALL: [Line; 36] =
-        line_table!(listed () [new_node free enqueue dequeue locked_enqueue locked_dequeue]);
+    pub const ALL: [Line; 45] =
+        line_table!(listed () [new_node free enqueue dequeue locked_enqueue locked_dequeue shut locked_shut]);
 
     /// The name of the line. Takes no memory.
     pub fn name(self) -> &'static str
         ensures { result.now ≡ name_of self }
     {
-        line_table!(names (self) [new_node free enqueue dequeue locked_enqueue locked_dequeue])
+        line_table!(names (self) [new_node free enqueue dequeue locked_enqueue locked_dequeue shut locked_shut])
     }
 
     /// The section of the table in which the line stands. Takes no memory.
@@ -130,6 +143,8 @@ impl Line {
             dequeue Dequeue
             locked_enqueue LockedEnqueue
             locked_dequeue LockedDequeue
+            shut Shut
+            locked_shut LockedShut
         ])
     }
 

@@ -7,10 +7,11 @@
 /// the identifiers handed in: `setup` (the kind, the number of nodes and the greatest count), `me` (the actor's number),
 /// `a` (its registers, which the second column assigns) and `found` (what the access found). All other names are looked
 /// up where the macro is used. A row knows no number of its step: `effect` says that the operation takes effect there,
-/// and `notes` that it does if the queue turns out to be empty.
+/// and `notes` that it does if the queue turns out to be empty. The rows of S1 to S9 stand in `shut_rows!`.
 ///
 /// `line_table!(each given [section ..])` becomes `each! { given N1 N2 .. }` with the lines of the sections named, in
-/// their order. The sections are `new_node`, `free`, `enqueue`, `dequeue`, `locked_enqueue` and `locked_dequeue`.
+/// their order. The sections are `new_node`, `free`, `enqueue`, `dequeue`, `locked_enqueue`, `locked_dequeue`, `shut` and
+/// `locked_shut`.
 #[macro_export]
 macro_rules! line_table {
     // A new node, in both queues.
@@ -122,6 +123,8 @@ macro_rules! line_table {
             if $found.same($a.tail) {
                 if $a.next.is_null() {
                     goes(Line::E9, $a)
+                } else if $a.next.is_shut() {
+                    closed_with_node($a)
                 } else if $a.tail.count() == $setup.limit {
                     worn_with_node(WornWord::Tail, $a)
                 } else {
@@ -181,6 +184,8 @@ macro_rules! line_table {
                 if $a.head.node() == $a.tail.node() {
                     if $a.next.is_null() {
                         ends(Reply::Empty, $a)
+                    } else if $a.next.is_shut() {
+                        closed($a)
                     } else if $a.tail.count() == $setup.limit {
                         worn(WornWord::Tail, $a)
                     } else {
@@ -248,9 +253,14 @@ macro_rules! line_table {
         } }
     };
     (A5 ($setup:ident $me:ident $a:ident $found:ident) $each:ident $given:tt) => {
-        $each! { $given A5 { store Next($a.tail.node()) (CountedRef::new($a.node, 0)) } {
-            $a.links();
-            effect(goes(Line::A6, $a))
+        $each! { $given A5 { exchange Next($a.tail.node()) (CountedRef::new(0, 0), CountedRef::new($a.node, 0)) } {
+            if $found.same(CountedRef::new(0, 0)) {
+                $a.links();
+                effect(goes(Line::A6, $a))
+            } else {
+                $a.due = Some(Reply::Refused(Refusal::Closed));
+                goes(Line::A7, $a)
+            }
         } }
     };
     (A6 ($setup:ident $me:ident $a:ident $found:ident) $each:ident $given:tt) => {
@@ -260,7 +270,7 @@ macro_rules! line_table {
     };
     (A7 ($setup:ident $me:ident $a:ident $found:ident) $each:ident $given:tt) => {
         $each! { $given A7 { store TailLock (0) } {
-            ends(Reply::Done, $a)
+            left_with_node($a)
         } }
     };
     // The dequeue of the two-lock queue.
@@ -284,6 +294,9 @@ macro_rules! line_table {
             $a.next = $found;
             if $found.is_null() {
                 $a.due = Some(Reply::Empty);
+                notes(goes(Line::B6, $a))
+            } else if $found.is_shut() {
+                $a.due = Some(Reply::Refused(Refusal::Closed));
                 notes(goes(Line::B6, $a))
             } else {
                 notes(goes(Line::B4, $a))
@@ -314,6 +327,10 @@ macro_rules! line_table {
             unlocked($a)
         } }
     };
+    // The shuts of both queues.
+    ($line:ident ($setup:ident $me:ident $a:ident $found:ident) $each:ident $given:tt) => {
+        $crate::shut_rows!($line ($setup $me $a $found) $each $given)
+    };
     // The lines of sections.
     ($each:ident $given:tt [$($section:ident)*]) => {
         $crate::line_table!(@names $each $given [$($section)*] [])
@@ -338,5 +355,11 @@ macro_rules! line_table {
     };
     (@names $each:ident $given:tt [locked_dequeue $($section:ident)*] [$($line:ident)*]) => {
         $crate::line_table!(@names $each $given [$($section)*] [$($line)* B1 B2 B3 B4 B5 B6])
+    };
+    (@names $each:ident $given:tt [shut $($section:ident)*] [$($line:ident)*]) => {
+        $crate::line_table!(@names $each $given [$($section)*] [$($line)* S1 S2 S3 S4 S5])
+    };
+    (@names $each:ident $given:tt [locked_shut $($section:ident)*] [$($line:ident)*]) => {
+        $crate::line_table!(@names $each $given [$($section)*] [$($line)* S6 S7 S8 S9])
     };
 }

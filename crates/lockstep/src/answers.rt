@@ -1,5 +1,5 @@
 //! Which answers came.
-use history::{Refusal, Reply, WornWord};
+use history::{Op, Refusal, Reply, WornWord};
 use line_table::Kind;
 
 /// Which answers came. A call that meets no other is never Busy, and no node's next is worn out before Free is.
@@ -12,6 +12,9 @@ pub struct Answers {
     pub worn_free: bool,
     pub worn_head: bool,
     pub worn_tail: bool,
+    pub closed_push: bool,
+    pub closed_pop: bool,
+    pub closed_shut: bool,
     pub other: bool,
 }
 
@@ -26,6 +29,9 @@ impl Answers {
             worn_free: false,
             worn_head: false,
             worn_tail: false,
+            closed_push: false,
+            closed_pop: false,
+            closed_shut: false,
             other: false,
         }
     }
@@ -40,12 +46,15 @@ impl Answers {
             worn_free: true,
             worn_head: kind == Kind::TwoLock,
             worn_tail: kind == Kind::NonBlocking,
+            closed_push: true,
+            closed_pop: true,
+            closed_shut: true,
             other: false,
         }
     }
 
-    /// A reply came.
-    pub fn adds(&mut self, reply: &Reply) {
+    /// A reply to a call came.
+    pub fn adds(&mut self, op: Op, reply: &Reply) {
         match *reply {
             Reply::Done => self.done = true,
             Reply::Value(_) => self.value = true,
@@ -54,6 +63,11 @@ impl Answers {
             Reply::Refused(Refusal::WornOut(WornWord::Free)) => self.worn_free = true,
             Reply::Refused(Refusal::WornOut(WornWord::Head)) => self.worn_head = true,
             Reply::Refused(Refusal::WornOut(WornWord::Tail)) => self.worn_tail = true,
+            Reply::Refused(Refusal::Closed) => match op {
+                Op::Enq(_) => self.closed_push = true,
+                Op::Deq => self.closed_pop = true,
+                Op::Shut => self.closed_shut = true,
+            },
             Reply::Refused(_) => self.other = true,
         }
     }

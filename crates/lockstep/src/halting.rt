@@ -1,6 +1,6 @@
 //! An actor that stops for good right before a line, in the runs of the table, while another one goes on.
 use crate::stepping::{goes, told};
-use crate::stopping::{DEQUEUE_STEPS, ENQUEUE_STEPS, PAIRS, lags, line_of, world_of};
+use crate::stopping::{DEQUEUE_STEPS, ENQUEUE_STEPS, PAIRS, SHUT_STEPS, lags, line_of, world_of};
 use crate::stops::{ALL_END, Before, Call, NON_BLOCKING, NONE, TWO_LOCK, Told};
 use history::{Reply, Verdict, check};
 use line_table::{Kind, Line};
@@ -28,6 +28,7 @@ fn replied(world: &mut World, call: Call) -> Option<Reply> {
     let (most, lock) = match call {
         Call::Enq => (ENQUEUE_STEPS, Line::A3),
         Call::Deq => (DEQUEUE_STEPS, Line::B1),
+        Call::Shut => (SHUT_STEPS, Line::S6),
     };
     if let Some((reply, _)) = told(world, 2, call.op()?, most) {
         return Some(reply);

@@ -16,7 +16,7 @@ use crate::answers::Answers;
 use crate::halting::halted;
 use crate::pairing::rounds;
 use crate::queues::Watched;
-use crate::stopping::runs;
+use crate::stopping::{runs, runs_with_shuts};
 use line_table::Kind;
 use nonblocking::MsQueue;
 use std::alloc::Global;
@@ -48,14 +48,21 @@ fn main(rt: HostRuntime) -> io::Result<()> {
         return println!(rt; "a world wasn't made");
     };
     println!(rt;
-        "stopped before each line, as it is to be: non-blocking {non_blocking} of 23, two-lock {two_lock} of 21"
+        "stopped before each line, as it is to be: non-blocking {non_blocking} of 28, two-lock {two_lock} of 25"
     )?;
-    let Some(stopped) = runs(rt.alloc()) else {
+    let drawn = (runs(rt.alloc()), runs_with_shuts(rt.alloc()));
+    let (Some(stopped), Some((shut, right))) = drawn else {
         return println!(rt; "a run didn't end");
     };
-    let lines = stopped.lines();
     println!(rt;
-        "stopped before {lines} lines: {} enqueues done, {} values taken",
-        stopped.enqueues, stopped.dequeues
+        "stopped before {} lines: {} enqueues done, {} values taken, {} shuts done",
+        stopped.lines(),
+        stopped.enqueues,
+        stopped.dequeues,
+        stopped.shuts
+    )?;
+    println!(rt;
+        "stopped within pushes, pops and shuts: {} calls ended, {right} histories right",
+        shut.ended
     )
 }

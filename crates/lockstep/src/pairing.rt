@@ -6,7 +6,7 @@ use crate::answers::Answers;
 use crate::comparing::{has_pocket, has_words};
 use crate::drawing::Draws;
 use crate::queues::Watched;
-use crate::stepping::{CHOICES, MOST_STEPS, call_of, told};
+use crate::stepping::{CHOICES_WITH_SHUTS, MOST_STEPS, call_of, told};
 use history::{Op, Reply};
 use node_arena::MOST_COUNT;
 use std::alloc::Global;
@@ -26,7 +26,7 @@ pub struct Found {
     pub answers: Answers,
 }
 
-// What a queue answers to a push or a pop; none where the seat may not call it.
+// What a queue answers to a call; none where the seat may not make it.
 fn answered<Q: Watched>(queue: &Q, seat: &mut Q::Seat, op: Op, turns: u32) -> Option<Reply>
     requires seat { Q.is_seat queue.now seat.old }
     requires turns { 1 ≤ turns }
@@ -45,6 +45,10 @@ fn answered<Q: Watched>(queue: &Q, seat: &mut Q::Seat, op: Op, turns: u32) -> Op
             Ok(None) => Reply::Empty,
             Err(why) => Reply::Refused(why),
         },
+        Op::Shut => match queue.try_shut(seat, turns) {
+            Ok(()) => Reply::Done,
+            Err(why) => Reply::Refused(why),
+        },
     };
     Some(reply)
 }
@@ -61,7 +65,7 @@ fn agrees<Q: Watched>(
     requires { Q.is_seat queue.now seat.old }
     ensures { Q.is_seat queue.now seat.new }
 {
-    let drawn = draws.below(CHOICES);
+    let drawn = draws.below(CHOICES_WITH_SHUTS);
     let turns = if draws.below(2) == 0 { 1 } else { 8 };
     let Some(reply) = answered(queue, seat, call_of(drawn), turns) else {
         return false;
@@ -69,7 +73,7 @@ fn agrees<Q: Watched>(
     let Some((wanted, _)) = told(world, actor, call_of(drawn), MOST_STEPS) else {
         return false;
     };
-    answers.adds(&reply);
+    answers.adds(call_of(drawn), &reply);
     reply == wanted
 }
 

@@ -5,14 +5,18 @@ use step_machine::{Stepped, World};
 /// How many steps a call takes at most where no other actor is in a call.
 pub const MOST_STEPS: u32 = 17;
 
-/// How many numbers there are of which each is a call.
+/// How many numbers there are of which each is an enqueue or a dequeue.
 pub const CHOICES: u64 = 2000;
 
-/// The call of a number: an enqueue of a small body, or from 1,000 on a dequeue.
+/// How many there are of which each is a call; few are shuts.
+pub const CHOICES_WITH_SHUTS: u64 = 2040;
+
+/// The call of a number: an enqueue of a small body, from 1,000 on a dequeue, and from 2,000 on a shut.
 pub fn call_of(number: u64) -> Op {
     match Body::new(number) {
         Some(body) if number < CHOICES / 2 => Op::Enq(body),
-        _ => Op::Deq,
+        _ if number < CHOICES => Op::Deq,
+        _ => Op::Shut,
     }
 }
 

@@ -19,6 +19,7 @@ pub enum Before {
 pub enum Call {
     Enq,
     Deq,
+    Shut,
 }
 
 /// What ten enqueues and ten dequeues of actor 2 come to, by turns.
@@ -30,6 +31,8 @@ pub struct Told {
     pub held_enqueues: u32,
     pub values: u32,
     pub empty: u32,
+    /// Calls that are refused since the queue is shut.
+    pub closed: u32,
     /// Dequeues that stay before B1, and give up.
     pub held_dequeues: u32,
 }
@@ -41,6 +44,7 @@ pub const NONE: Told = Told {
     held_enqueues: 0,
     values: 0,
     empty: 0,
+    closed: 0,
     held_dequeues: 0,
 };
 
@@ -66,6 +70,13 @@ const TAIL_HELD_LINKED: Told = Told {
     ..NONE
 };
 
+/// Actor 1 holds Tail's lock, and has shut the queue.
+const TAIL_HELD_SHUT: Told = Told {
+    held_enqueues: 10,
+    closed: 10,
+    ..NONE
+};
+
 /// Actor 1 holds Head's lock. Of six nodes one is the dummy.
 const HEAD_HELD: Told = Told {
     done: 5,
@@ -83,7 +94,7 @@ const HEAD_HELD_VALUE: Told = Told {
 };
 
 /// The lines of the non-blocking queue: the line, what comes before, what actor 1 calls, and how many steps it takes.
-pub const NON_BLOCKING: [(Line, Before, Call, u32); 23] = [
+pub const NON_BLOCKING: [(Line, Before, Call, u32); 28] = [
     (Line::N1, Before::Nothing, Call::Enq, 0),
     (Line::N2, Before::Nothing, Call::Enq, 1),
     (Line::N3, Before::Freed, Call::Enq, 2),
@@ -107,10 +118,15 @@ pub const NON_BLOCKING: [(Line, Before, Call, u32); 23] = [
     (Line::D10, Before::Lag, Call::Deq, 4),
     (Line::D12, Before::Value, Call::Deq, 4),
     (Line::D13, Before::Value, Call::Deq, 5),
+    (Line::S1, Before::Nothing, Call::Shut, 0),
+    (Line::S2, Before::Nothing, Call::Shut, 1),
+    (Line::S3, Before::Nothing, Call::Shut, 2),
+    (Line::S4, Before::Nothing, Call::Shut, 3),
+    (Line::S5, Before::Lag, Call::Shut, 3),
 ];
 
 /// The lines of the two-lock queue, and what then comes of the calls of actor 2.
-pub const TWO_LOCK: [(Line, Before, Call, u32, Told); 21] = [
+pub const TWO_LOCK: [(Line, Before, Call, u32, Told); 25] = [
     (Line::N1, Before::Nothing, Call::Enq, 0, ALL_END),
     (Line::N2, Before::Nothing, Call::Enq, 1, ALL_END),
     (Line::N3, Before::Freed, Call::Enq, 2, ALL_END),
@@ -132,6 +148,10 @@ pub const TWO_LOCK: [(Line, Before, Call, u32, Told); 21] = [
     (Line::B4, Before::Value, Call::Deq, 3, HEAD_HELD_VALUE),
     (Line::B5, Before::Value, Call::Deq, 4, HEAD_HELD_VALUE),
     (Line::B6, Before::Value, Call::Deq, 5, HEAD_HELD_VALUE),
+    (Line::S6, Before::Nothing, Call::Shut, 0, ALL_END),
+    (Line::S7, Before::Nothing, Call::Shut, 1, TAIL_HELD),
+    (Line::S8, Before::Nothing, Call::Shut, 2, TAIL_HELD),
+    (Line::S9, Before::Nothing, Call::Shut, 3, TAIL_HELD_SHUT),
 ];
 
 impl Call {
@@ -140,6 +160,7 @@ impl Call {
         match self {
             Call::Enq => Some(Op::Enq(Body::new(5)?)),
             Call::Deq => Some(Op::Deq),
+            Call::Shut => Some(Op::Shut),
         }
     }
 }
@@ -152,6 +173,7 @@ impl Told {
             (_, Reply::Value(_)) => &mut self.values,
             (_, Reply::Empty) => &mut self.empty,
             (_, Reply::Refused(Refusal::NoNode)) => &mut self.no_node,
+            (_, Reply::Refused(Refusal::Closed)) => &mut self.closed,
             (Call::Enq, Reply::Refused(Refusal::Busy)) => &mut self.held_enqueues,
             (Call::Deq, Reply::Refused(Refusal::Busy)) => &mut self.held_dequeues,
             _ => return,

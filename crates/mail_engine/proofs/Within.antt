@@ -6,12 +6,12 @@ use Rattle.std.proofs.lemmas.Bool.{false≢true}
 use Rattle.std.proofs.lemmas.List.Elements.{All-nil, All-cons, All-map}
 use Rattle.text_lines.specs.Numerals.{IsWithin}
 use Rattle.history.specs.declared.operations.Entry.{Entry}
-use Rattle.history.specs.declared.operations.Entry.TheVariants.{Push, Pop}
+use Rattle.history.specs.declared.operations.Entry.TheVariants.{Push, Pop, Shut}
 use Rattle.history.specs.declared.operations.Taken.{Taken}
 use Rattle.history.specs.Entries.{own_entries}
 use Rattle.history.specs.Seats.{Permit, Known, IsSound, IsPermitted, MayPush}
 use Rattle.history.specs.Values.{pushed, popped}
-use Rattle.history.proofs.Values.{pushed-LeadsTo}
+use Rattle.history.proofs.Values.{pushed-Leads}
 use Rattle.mailbox.specs.declared.receiver.Receiver.{Receiver}
 use Rattle.mailbox.specs.declared.receiver.Letter.{Letter}
 use Rattle.mailbox.specs.Posting.{Delivered}
@@ -54,6 +54,7 @@ pushers permits (Push seat body ∷ es) all =
     (front (IsPermitted permits) (Push seat body) es all)
     (pushers permits es (behind (IsPermitted permits) (Push seat body) es all))
 pushers permits (Pop seat value ∷ es) all = pushers permits es (behind (IsPermitted permits) (Pop seat value) es all)
+pushers permits (Shut seat ∷ es) all = pushers permits es (behind (IsPermitted permits) (Shut seat) es all)
 
 -- what holds of all values popped holds of those that one seat popped
 own_popped : (P : Taken → Type 0) (me : ℕ) (es : List Entry) → All P (popped es) → All P (popped (own_entries me es))
@@ -61,6 +62,11 @@ own_popped P me [] all = All-nil P
 own_popped P me (Push seat body ∷ es) all = go (nat_eq seat me) (own_popped P me es all)
   where
     go : (b : Bool) → All P (popped (own_entries me es)) → All P (popped (cond b (Push seat body ∷ own_entries me es) (own_entries me es)))
+    go true rest = rest
+    go false rest = rest
+own_popped P me (Shut seat ∷ es) all = go (nat_eq seat me) (own_popped P me es all)
+  where
+    go : (b : Bool) → All P (popped (own_entries me es)) → All P (popped (cond b (Shut seat ∷ own_entries me es) (own_entries me es)))
     go true rest = rest
     go false rest = rest
 own_popped P me (Pop seat value ∷ es) all =
@@ -74,7 +80,7 @@ own_popped P me (Pop seat value ∷ es) all =
 taken_of-pushers : (permits : List Permit) (k : Known) → IsSound permits k → All (λ (v : Taken). MayPush permits v.from) (popped k.mine)
 taken_of-pushers permits k sound =
     let P : Taken → Type 0 = λ v. MayPush permits v.from in
-    let plays = pushed-LeadsTo k.seen sound.legal.0.values sound.legal.1 in
+    let plays = pushed-Leads k.seen sound.legal.0.shut sound.legal.0.values sound.legal.1 in
     let seen : All P (popped k.seen) = first_part P (popped k.seen) sound.legal.0.values (subst (All P) plays (pushers permits k.seen sound.permitted)) in
     subst (λ es. All P (popped es)) sound.own (own_popped P k.number k.seen seen)
 

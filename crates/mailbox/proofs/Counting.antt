@@ -9,9 +9,12 @@ use Rattle.std.proofs.lemmas.Bool.{eq-eqb, eqb-true, eqb-false}
 use Rattle.std.proofs.lemmas.List.{append-nil, map-append, length-append, get_or-set_same, get_or-set_other}
 use Rattle.std.proofs.lemmas.List.Elements.{filter-append}
 use Rattle.std.proofs.lemmas.Option.{slice_get_within, get_or_from_slice_get}
+use Rattle.mailbox.specs.declared.office.Office.{Office}
 use Rattle.mailbox.specs.declared.parcels.Due.{Due}
 use Rattle.mailbox.specs.declared.receiver.Letter.{Letter}
-use Rattle.mailbox.specs.Posting.{IsNext, texts_of, BringTexts}
+use Rattle.mailbox.specs.Plans.{plan_numbers}
+use Rattle.mailbox.specs.Offices.{marks}
+use Rattle.mailbox.specs.Posting.{IsNext, AreThoseDue, texts_of, BringTexts}
 
 -- so many letters of each task are there, and they are the first that it is to send
 pub record AreCounted (lists : List (List (List ℕ))) (counts : List ℕ) (letters : List Letter) : Type 0 where
@@ -172,12 +175,17 @@ sum_all (n ∷ ns) (l ∷ ls) same few all (suc k) short =
     sum_all ns ls (omega (arith, same)) (λ j within. few (suc j) (omega (arith, within))) (omega (arith, one, others, all, a, b)) k (omega (arith, short))
 
 -- as many letters as are due are those that are due
-pub counted_all : (lists : List (List (List ℕ))) (counts : List ℕ) (letters : List Letter) → AreCounted lists counts letters → length counts ≡ length lists → length letters ≡ sum_by length lists → BringTexts lists letters
+counted_all : (lists : List (List (List ℕ))) (counts : List ℕ) (letters : List Letter) → AreCounted lists counts letters → length counts ≡ length lists → length letters ≡ sum_by length lists → BringTexts lists letters
 counted_all lists counts letters h same all k short =
     let within : k < length counts = omega (arith, same, short) in
     let total = h.total in
     let full = sum_all counts lists same h.few (omega (arith, total, all)) k within in
     h.first k within ∙ ap (λ m. take m (get_or lists k [])) full ∙ take-length (get_or lists k [])
+
+-- in an office letters that are counted for each sender are those that are due, where there are as many
+pub counted_those : {Q S : Type 0} (o : Office Q S) (counts : List ℕ) (letters : List Letter) (senders : ℕ) → length counts ≡ senders → ((lists : List (List (List ℕ))) → marks o ≡ plan_numbers lists → AreCounted lists counts letters) → AreThoseDue o senders letters
+counted_those o counts letters senders same counted lists plan many all =
+    counted_all lists counts letters (counted lists plan) (omega (arith, same, many)) all
 
 -- numbers that are written over as many are the list afterwards
 pub written_over : (n : ℕ) (new old : List ℕ) → n ≡ length new → take n (new ++ drop (length new) old) ≡ new

@@ -5,7 +5,7 @@ use Rattle.std.proofs.lemmas.List.Elements.{filter-append}
 use Rattle.history.specs.declared.operations.Taken.{Taken}
 use Rattle.history.specs.Seats.{Permit, Known, IsSound}
 use Rattle.history.specs.Values.{popped, OnlyPops}
-use Rattle.history.proofs.Values.{pushed-LeadsTo, popped-alone}
+use Rattle.history.proofs.Values.{pushed-Leads, popped-alone}
 use Rattle.mailbox.specs.Deliveries.{bodies_from, InOrder}
 
 -- the bodies of one seat's values of two lists are those of the one and then those of the other
@@ -16,7 +16,7 @@ bodies_from-append s xs ys = ap (map (λ (v : Taken). v.body)) (filter-append _ 
 pub in_order : (permits : List Permit) (k : Known) → IsSound permits k → OnlyPops permits k.number → InOrder k
 in_order permits k sound only s =
     let left = sound.legal.0.values in
-    let plays = pushed-LeadsTo k.seen left sound.legal.1 in
+    let plays = pushed-Leads k.seen sound.legal.0.shut left sound.legal.1 in
     (bodies_from s left, ap (λ t. bodies_from s t ++ bodies_from s left) (popped-alone permits k sound only) ∙ sym (bodies_from-append s (popped k.seen) left) ∙ ap (bodies_from s) (sym plays))
 
 -- the same after a call

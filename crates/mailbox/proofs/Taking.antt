@@ -1,9 +1,11 @@
 -- What a receiver did in one call and then in another.
 use Rattle.std.proofs.Common.{◌≡◌, ◌∙◌, sym, ap, subst, true, inl, inr, ◌⊎◌, Option, Some, None}
 use Rattle.std.proofs.lemmas.Bool.{true≢false}
-use Rattle.history.proofs.Learning.{sees_then, adds_then, empty_then}
+use Rattle.history.proofs.Learning.{adds_then, empty_then, pop_refused_then}
 use Rattle.history.specs.declared.operations.Entry.TheVariants.{Pop}
 use Rattle.history.specs.declared.operations.Taken.{Taken}
+use Rattle.history.specs.declared.refusals.Refusal.{Refusal}
+use Rattle.history.specs.declared.refusals.Refusal.TheVariants.{Busy}
 use Rattle.history.specs.Seats.{Known}
 use Rattle.history.specs.Answers.{SeesMore, Popped}
 use Rattle.mailbox.specs.declared.office.Office.{Office}
@@ -15,20 +17,20 @@ use Rattle.mailbox.specs.Offices.{TakeAnswers, TookNothing, Loses}
 pub popped_then : (a b c : Known) (value : Taken) → SeesMore a b → Popped b value c → Popped a value c
 popped_then a b c value f g = adds_then a b c (Pop b.number value) (Pop a.number value) (ap (λ n. Pop n value) f.number) f g
 
--- a receiver that made no call yet, or was refused without a loss
+-- a receiver that made no call yet, or was refused as others were in the way
 abbrev pub Waited : {Q S : Type 0} → (S → Known) → (a b : Receiver Q S) → Type 0
-Waited known a b = (b ≡ a) ⊎ TookNothing known a b
+Waited known a b = (b ≡ a) ⊎ TookNothing known a Busy b
 
 -- a receiver that waited has lost a letter where it had lost one before
 pub waited-lost : {Q S : Type 0} (known : S → Known) (a b : Receiver Q S) → Waited known a b → a.lost ≡ true → b.lost ≡ true
 waited-lost known a b (inl same) lost = ap (λ x. x.lost) same ∙ lost
 waited-lost known a b (inr h) lost = absurd (true≢false (sym lost ∙ h.was))
 
-module _ {Q S : Type 0} (known : S → Known) (a b c : Receiver Q S) (h : TookNothing known a b) where
+module _ {Q S : Type 0} (known : S → Known) (a b c : Receiver Q S) (h : TookNothing known a Busy b) where
   -- nothing, and then nothing
-  nothing-then_nothing : TookNothing known b c → TookNothing known a c
-  nothing-then_nothing g = record {
-    nothing = sees_then _ _ _ h.nothing g.nothing;
+  nothing-then_nothing : (why : Refusal) → TookNothing known b why c → TookNothing known a why c
+  nothing-then_nothing why g = record {
+    nothing = pop_refused_then _ _ _ why h.nothing g.nothing;
     last = g.last ∙ h.last;
     was = h.was;
     kept = g.kept;
@@ -55,9 +57,9 @@ module _ {Q S : Type 0} (known : S → Known) (a b c : Receiver Q S) where
   waited-then_answer (inr h) office taken g = nothing-then_answer known a b c h office taken g
 
   -- after waiting, nothing
-  pub waited-then_nothing : Waited known a b → TookNothing known b c → TookNothing known a c
-  waited-then_nothing (inl same) g = subst (λ x. TookNothing known x c) same g
-  waited-then_nothing (inr h) g = nothing-then_nothing known a b c h g
+  pub waited-then_nothing : Waited known a b → (why : Refusal) → TookNothing known b why c → TookNothing known a why c
+  waited-then_nothing (inl same) why g = subst (λ x. TookNothing known x why c) same g
+  waited-then_nothing (inr h) why g = nothing-then_nothing known a b c h why g
 
   -- after waiting, a loss
   pub waited-then_loss : Waited known a b → Loses known b c → Loses known a c

@@ -5,8 +5,8 @@ use Rattle.history.specs.Limits.{body_bits}
 use Rattle.history.specs.declared.operations.Taken.{Taken}
 use Rattle.history.specs.Seats.{Permit, Known, MayPush, MayPop}
 use Rattle.history.specs.declared.refusals.Refusal.{Refusal}
-use Rattle.history.specs.Answers.{Pushed, Popped, SeesMore, FoundEmpty, EndsByTry}
-use Rattle.history.specs.Values.{OnlyPops}
+use Rattle.history.specs.Answers.{Pushed, Popped, DidShut, FoundEmpty, PushRefused, PopRefused, EndsByTry}
+use Rattle.history.specs.Values.{pushed, OnlyPops}
 use Rattle.mailbox.specs.Plans.{Fits}
 use Rattle.mailbox.specs.declared.office.Office.{Office}
 use Rattle.mailbox.specs.declared.sender.Sender.{Sender}
@@ -58,9 +58,13 @@ Read o r index text = ShowsText (λ (p : Parcel). string_bytes p.text) o r.last 
 abbrev pub ShowsLast : {Q S : Type 0} → Office Q S → Receiver Q S → Type 0
 ShowsLast o r = IfSome r.last (Shows o.letters)
 
--- the last letter that the receiver took, whatever its text is, is this one of those due
-abbrev pub LastIs : {Q S : Type 0} → Office Q S → Receiver Q S → Option Due → Type 0
-LastIs o r due = (index : ℕ) (text : List ℕ) → Read o r index text → Fits (marks o) due text
+-- the last letter that the receiver took says that it is this one of those due
+abbrev pub LastIs : {Q S : Type 0} → Receiver Q S → Option Due → Type 0
+LastIs r due = IfSome r.last (λ (w : Where Parcel). due ≡ w.value.due)
+
+-- the text of the last letter that the receiver took, whatever it is, is due there
+abbrev pub LastFits : {Q S : Type 0} → Office Q S → Receiver Q S → Option Due → Type 0
+LastFits o r due = (index : ℕ) (text : List ℕ) → Read o r index text → Fits (marks o) due text
 
 -- an index, a text stored there and a text read there
 pub record TextsAt : Type 0 where
@@ -74,9 +78,19 @@ pub record Sent {Q S Z : Type 0} (known : S → Known) (o : Office Q S) (s s' : 
   pub pushed : Pushed (known s.seat) index (known s'.seat)
   pub stored : Stored o s' index (string_bytes text)
 
--- nothing was sent: the sender may have seen more, and all else that it knows is as before
-abbrev pub SentNothing : {Q S : Type 0} → (S → Known) → (s s' : Sender Q S) → Type 0
-SentNothing known s s' = SeesMore (known s.seat) (known s'.seat)
+-- nothing was sent or shut, for this cause: the sender found the queue shut, or else it may have seen more and all else that it
+-- knows is as before
+abbrev pub SentNothing : {Q S : Type 0} → (S → Known) → (s : Sender Q S) → Refusal → (s' : Sender Q S) → Type 0
+SentNothing known s why s' = PushRefused (known s.seat) why (known s'.seat)
+
+-- the sender shut the queue
+abbrev pub DidShutOffice : {Q S : Type 0} → (S → Known) → (s s' : Sender Q S) → Type 0
+DidShutOffice known s s' = DidShut (known s.seat) (known s'.seat)
+
+-- what a sender has sent is as before, and so is what shows the letter that it stored last
+pub record HasSentTheSame {Q S : Type 0} (known : S → Known) (s s' : Sender Q S) : Type 0 where
+  pub sent : pushed (known s'.seat).mine ≡ pushed (known s.seat).mine
+  pub last : s'.last ≡ s.last
 
 -- a letter is stored, at an index that is a body
 pub record HasStored {Q S Z : Type 0} (o : Office Q S) (s' : Sender Q S) (text : String Z) : Type 0 where
@@ -84,11 +98,11 @@ pub record HasStored {Q S Z : Type 0} (o : Office Q S) (s' : Sender Q S) (text :
   pub body : index < 2 ^ body_bits
   pub stored : Stored o s' index (string_bytes text)
 
--- a sender's push of so many turns had this cause for its refusal
+-- a sender's push, or shut, of so many turns had this cause for its refusal
 abbrev pub SendHadCause : {Q S : Type 0} → (Q → S → S → ℕ → Refusal → Type 0) → Office Q S → (s s' : Sender Q S) → (turns : ℕ) → Refusal → Type 0
 SendHadCause cause o s s' turns = cause o.queue s.seat s'.seat turns
 
--- a send that waits ended by a push of so many turns, which had this cause for its refusal
+-- a send that waits, or a shut, ended by a push of so many turns, or a shut, which had this cause for its refusal
 abbrev pub SendEnded : {Q S : Type 0} → (Q → S → Type 0) → (S → Known) → (Q → S → S → ℕ → Refusal → Type 0) → Office Q S → (s s' : Sender Q S) → (turns : ℕ) → Refusal → Type 0
 SendEnded is_seat known cause o s s' turns = EndsByTry is_seat known cause o.queue s.seat s'.seat turns
 
@@ -118,9 +132,10 @@ abbrev pub TakeAnswers : {Q S : Type 0} → (S → Known) → Office Q S → Rec
 TakeAnswers known o r None r' = FoundNone known r r'
 TakeAnswers known o r (Some letter) r' = TookText known o r letter.from letter.text.now r'
 
--- a take was refused without a loss: nothing was taken
-pub record TookNothing {Q S : Type 0} (known : S → Known) (r r' : Receiver Q S) : Type 0 where
-  pub nothing : SeesMore (known r.seat) (known r'.seat)
+-- a take was refused so, without a loss: nothing was taken, and the queue was found shut and empty, or else all that the
+-- receiver knows is as before, but that it may have seen more
+pub record TookNothing {Q S : Type 0} (known : S → Known) (r : Receiver Q S) (why : Refusal) (r' : Receiver Q S) : Type 0 where
+  pub nothing : PopRefused (known r.seat) why (known r'.seat)
   pub last : r'.last ≡ r.last
   pub was : r.lost ≡ false
   pub kept : r'.lost ≡ false

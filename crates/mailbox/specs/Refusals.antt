@@ -1,7 +1,7 @@
 -- What calls may be refused.
 use Rattle.std.specs.Prelude.{Bool, true, false, IsTrue, Option, Some, None}
 use Rattle.history.specs.declared.refusals.Refusal.{Refusal}
-use Rattle.history.specs.declared.refusals.Refusal.TheVariants.{NoNode, WornOut, Busy, Memory, BadSize, Lost}
+use Rattle.history.specs.declared.refusals.Refusal.TheVariants.{NoNode, WornOut, Busy, Memory, BadSize, Lost, Closed}
 
 -- a letter can't be stored: there is no memory for it, or no body
 abbrev pub StopsStore : Refusal → Type 0
@@ -16,14 +16,17 @@ StopsSend (WornOut word) = Unit {0}
 StopsSend Busy = Unit {0}
 StopsSend Memory = Unit {0}
 StopsSend BadSize = Unit {0}
+StopsSend Closed = Unit {0}
 StopsSend _ = ⊥
 
--- whether a send that waits may be refused so: there was no memory or no body for the letter, no node, or a word was worn out
+-- whether a send that waits may be refused so: there was no memory or no body for the letter, no node, a word was worn out, or
+-- the queue was shut
 abbrev pub ends_send : Refusal → Bool
 ends_send NoNode = true
 ends_send (WornOut word) = true
 ends_send Memory = true
 ends_send BadSize = true
+ends_send Closed = true
 ends_send _ = false
 
 -- a send that waits may be refused so
@@ -40,6 +43,7 @@ abbrev pub HandsOn : (cause : Refusal → Type 0) → Refusal → Type 0
 HandsOn cause NoNode = cause NoNode
 HandsOn cause (WornOut word) = cause (WornOut word)
 HandsOn cause Busy = cause Busy
+HandsOn cause Closed = cause Closed
 HandsOn cause _ = Unit {0}
 
 -- a take may be refused so: its pop was refused, or a letter is lost
@@ -47,16 +51,18 @@ abbrev pub StopsTake : Refusal → Type 0
 StopsTake (WornOut word) = Unit {0}
 StopsTake Busy = Unit {0}
 StopsTake Lost = Unit {0}
+StopsTake Closed = Unit {0}
 StopsTake _ = ⊥
 
--- a take that waits may be refused so: a word was worn out, or a letter is lost
+-- a take that waits may be refused so: a word was worn out, a letter is lost, or the queue was shut and empty
 abbrev pub EndsTake : Refusal → Type 0
 EndsTake (WornOut word) = Unit {0}
 EndsTake Lost = Unit {0}
+EndsTake Closed = Unit {0}
 EndsTake _ = ⊥
 
--- letters with a thread for each sender may be refused so: a send or a take was refused, there was no memory, or a letter
--- is missing
+-- letters with a thread for each sender may be refused so: a send or a take was refused, but not as the queue was shut, there
+-- was no memory, or a letter is missing
 abbrev pub EndsPost : Refusal → Type 0
 EndsPost NoNode = Unit {0}
 EndsPost (WornOut word) = Unit {0}

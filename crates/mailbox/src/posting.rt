@@ -1,12 +1,13 @@
 //! A thread for each sender, and the calling thread for the receiver.
-ghost use Rattle.std.specs.Prelude.{◌≡◌, ◌≤◌, true, [], length, map, replicate, vec_capacity, IfOk, IfErr, IfSome};
+ghost use Rattle.std.specs.Prelude.{◌≡◌, ◌≢◌, ◌≤◌, true, [], length, map, replicate, vec_capacity, IfOk, IfErr, IfSome};
 ghost use Rattle.std.specs.List.{All};
 ghost use Rattle.mailbox.specs.Deliveries.{InOrder};
-ghost use Rattle.mailbox.specs.Offices.{IsReceiver, receiver_knows};
+ghost use Rattle.mailbox.specs.Plans.{AreDue};
+ghost use Rattle.mailbox.specs.Offices.{IsSender, IsReceiver, marks, receiver_knows};
 ghost use Rattle.mailbox.specs.Posting.{IsTask, IsTaskAt, IsNext, Plans, BringTexts, AreThoseDue, Delivered, letters_of, texts_in};
-ghost use Rattle.mailbox.specs.Refusals.{EndsTake, EndsPost};
+ghost use Rattle.mailbox.specs.Refusals.{EndsSend, EndsPost};
 
-use crate::ending::Ended;
+use crate::ending::{EndCounter, Ended};
 use crate::office::Office;
 use crate::parcels::Due;
 use crate::receiver::{Letter, Receiver};
@@ -15,7 +16,6 @@ use crossbeam_utils::Backoff;
 use history::{Fifo, Refusal};
 use std::alloc::Global;
 use std::sync::Wait;
-use std::sync::atomic::{AtomicUsize, Ordering};
 use std::thread;
 use std::thread::{JoinHandle, Scope, Threads};
 
@@ -26,18 +26,18 @@ pub struct Task<Q: Fifo + Drop> {
     pub texts: Vec<String>,
 }
 
-// Sends the texts of the task of this number in order, up to the first refusal, and then counts the sender as ended.
-fn send_all<R: Wait, Q: Fifo + Drop>(
+// Sends the texts of the task of this number in order, up to the first refusal.
+fn send_texts<R: Wait, Q: Fifo + Drop>(
     rt: &R,
     office: &Office<Q>,
     number: usize,
-    task: Task<Q>,
-    ended: &AtomicUsize,
+    sender: &mut Sender<Q>,
+    texts: Vec<String>,
 ) -> Ended
-    requires { IsTaskAt Q.is_seat Q.permits Q.known office.now number task }
+    requires office { IsSender Q.is_seat Q.permits Q.known office.now sender.old }
+    requires due { AreDue (marks office.now) number 0 texts.items }
+    ensures { IsSender Q.is_seat Q.permits Q.known office.now sender.new }
 {
-    let Task { mut sender, texts } = task;
-    let mut end = Ended::well();
     let mut place = 0;
     for text in texts {
         let due = Due {
@@ -45,12 +45,29 @@ fn send_all<R: Wait, Q: Fifo + Drop>(
             place,
         };
         if let Err(why) = sender.send_due(rt, office, text, Some(due)) {
-            end = Ended::refused(why);
-            break;
+            return Ended::refused(why);
         }
         place += 1;
     }
-    ended.fetch_add(1, Ordering::SeqCst);
+    Ended::well()
+}
+
+// Sends the texts of the task of this number, and then counts its sender as ended. The last one shuts the queue.
+fn send_all<R: Wait, Q: Fifo + Drop>(
+    rt: &R,
+    office: &Office<Q>,
+    number: usize,
+    task: Task<Q>,
+    ended: &EndCounter,
+) -> Ended
+    requires { IsTaskAt Q.is_seat Q.permits Q.known office.now number task }
+{
+    let Task { mut sender, texts } = task;
+    let end = send_texts(rt, office, number, &mut sender, texts);
+    if ended.ends_last() {
+        // No other sender sends any more. Where the shut is refused, the receiver ends by the count.
+        let _ = sender.shut(rt, office);
+    }
     end
 }
 
@@ -61,7 +78,7 @@ fn start<'s, E, R: Threads + Wait + Sync, Q: Fifo + Sync + Drop>(
     office: &'s Office<Q>,
     number: usize,
     task: Task<Q>,
-    ended: &'s AtomicUsize,
+    ended: &'s EndCounter,
 ) -> Option<JoinHandle<Ended>>
     requires { IsTaskAt Q.is_seat Q.permits Q.known office.now number task }
 {
@@ -73,7 +90,7 @@ fn start<'s, E, R: Threads + Wait + Sync, Q: Fifo + Sync + Drop>(
     match started {
         Ok(handle) => Some(handle),
         Err(_) => {
-            ended.fetch_add(1, Ordering::SeqCst);
+            ended.ends_last();
             None
         }
     }
@@ -95,8 +112,8 @@ fn is_next(counts: &mut [usize], from: u16, due: Due) -> bool
     true
 }
 
-// Takes letters until so many are there, or until all senders had ended before there was none. There is a count for each
-// sender.
+// Takes letters until so many are there, until the queue is shut and empty, or until all senders had ended before there was
+// none. There is a count for each sender.
 fn take_all<'a, R: Wait, Q: Fifo + Drop>(
     rt: &R,
     office: &'a Office<Q>,
@@ -104,7 +121,7 @@ fn take_all<'a, R: Wait, Q: Fifo + Drop>(
     mut letters: Vec<Letter<'a>>,
     due: usize,
     mut counts: Vec<usize>,
-    ended: &AtomicUsize,
+    ended: &EndCounter,
 ) -> Result<Vec<Letter<'a>>, Refusal>
     requires office { IsReceiver Q.is_seat Q.permits Q.known office.now receiver.old }
     requires none { letters.items ≡ [] }
@@ -115,16 +132,16 @@ fn take_all<'a, R: Wait, Q: Fifo + Drop>(
     ensures delivered { IfOk result (λ v. Delivered Q.known receiver.old v.items receiver.new) }
     ensures most { IfOk result (λ v. length v.items ≤ due) }
     ensures texts { IfOk result (λ v. AreThoseDue office.now (length counts.items) v.items) }
-    ensures why { IfErr result EndsTake }
+    ensures why { IfErr result EndsPost }
 {
     let backoff = Backoff::new();
     for _ in rt.forever() {
         if letters.len() >= due {
             return Ok(letters);
         }
-        let all_ended = ended.load(Ordering::SeqCst) >= counts.len();
-        match receiver.take(rt, office)? {
-            Some(letter) => {
+        let all_ended = ended.all_ended();
+        match receiver.take(rt, office) {
+            Ok(Some(letter)) => {
                 let Some(place) = receiver.last_due(office) else {
                     return Err(Refusal::Lost);
                 };
@@ -133,21 +150,36 @@ fn take_all<'a, R: Wait, Q: Fifo + Drop>(
                 }
                 letters.push_reserved(letter);
             }
-            None if all_ended => return Ok(letters),
-            None => backoff.snooze(),
+            Ok(None) if all_ended => return Ok(letters),
+            Ok(None) => backoff.snooze(),
+            Err(Refusal::Closed) => return Ok(letters),
+            Err(why) => return Err(why),
         }
     }
     unreachable!()
 }
 
-// Waits for the senders' threads; the refusal of the first sender that was refused.
+// What is answered of a sender's refusal: that its letters are lost, where it found the queue shut.
+fn answered(refusal: Option<Refusal>) -> Option<Refusal>
+    requires { IfSome refusal EndsSend }
+    ensures shut { refusal ≡ Some Refusal.Closed → result ≡ Some Refusal.Lost }
+    ensures same { refusal ≢ Some Refusal.Closed → result ≡ refusal }
+    ensures why { IfSome result EndsPost }
+{
+    match refusal {
+        Some(Refusal::Closed) => Some(Refusal::Lost),
+        refusal => refusal,
+    }
+}
+
+// Waits for the senders' threads; what is answered of the first sender that was refused.
 fn join_all<R: Threads + Wait>(rt: &R, threads: Vec<Option<JoinHandle<Ended>>>) -> Option<Refusal>
     ensures { IfSome result EndsPost }
 {
     let mut first = None;
     for thread in threads {
         let refusal = match thread {
-            Some(handle) => handle.join(rt).refusal(),
+            Some(handle) => answered(handle.join(rt).refusal()),
             None => Some(Refusal::Memory),
         };
         if first.is_none() {
@@ -176,7 +208,7 @@ fn run<'s, 'a: 's, E, R: Threads + Wait + Sync, Q: Fifo + Sync + Drop>(
     office: &'a Office<Q>,
     tasks: Vec<Task<Q>>,
     receiver: &mut Receiver<Q>,
-    ended: &'s AtomicUsize,
+    ended: &'s EndCounter,
 ) -> Result<Vec<Letter<'a>>, Refusal>
     requires tasks { All (IsTask Q.is_seat Q.permits Q.known office.now) tasks.items }
     requires plan { Plans office.now tasks.items }
@@ -219,10 +251,12 @@ fn run<'s, 'a: 's, E, R: Threads + Wait + Sync, Q: Fifo + Sync + Drop>(
 /// Sends the letters of each task in a thread of its own, and takes them in the calling thread. The receiver comes back.
 ///
 /// The office was made for these tasks, by `Office::for_tasks`, and their seats are numbered from 1 on, in order. The letters
-/// come in the order in which they were taken. A sender ends at its first refusal. Refusals: `Memory`, before any thread,
-/// where there is no room for the letters and threads; then that of a take, or `Lost` where a letter isn't the next one of
-/// its sender's; else, where letters are missing, the refusal of the first task whose sender was refused (`Memory` where its
-/// thread could not be made); else `Lost`. Takes memory for the letters and the threads, and waits for all of them.
+/// come in the order in which they were taken. A sender ends at its first refusal, and the one that ends last shuts the
+/// queue, unless no thread could be made for it, or the shut is refused. Refusals: `Memory`, before any thread, where there
+/// is no room for the letters and threads; then that of a take, or `Lost` where a letter isn't the next one of its sender's;
+/// else, where letters are missing, the refusal of the first task whose sender was refused (`Memory` where its thread could
+/// not be made, `Lost` where it found the queue shut); else `Lost`. That a take finds the queue shut and empty is none.
+/// Takes memory for the letters and the threads, and waits for all of them.
 ///
 /// ```rust
 /// let office = office.for_tasks(alloc, &tasks)?;
@@ -246,7 +280,7 @@ pub fn post<'a, R: Threads + Wait + Sync, Q: Fifo + Sync + Drop>(
     ensures texts { IfOk result.1 (λ v. BringTexts (map texts_in tasks.items) v.items) }
     ensures why { IfErr result.1 EndsPost }
 {
-    let counter = AtomicUsize::new(0);
+    let counter = EndCounter::new(tasks.len());
     let ended = &counter;
     thread::scope(
         thread::scope_env(),

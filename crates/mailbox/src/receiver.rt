@@ -2,7 +2,8 @@
 ghost use Rattle.std.specs.Prelude.{◌≡◌, ◌≤◌, ◌≢◌, true, Err, IfErr, IfOk};
 ghost use Rattle.history.specs.declared.refusals.Refusal.TheVariants.{Lost};
 ghost use Rattle.mailbox.specs.Deliveries.{InOrder};
-ghost use Rattle.mailbox.specs.Offices.{IsReceiver, receiver_knows, has_lost, ShowsLast, LastIs};
+ghost use Rattle.mailbox.specs.Offices.{IsReceiver, receiver_knows, has_lost};
+ghost use Rattle.mailbox.specs.Offices.{ShowsLast, LastIs, LastFits};
 ghost use Rattle.mailbox.specs.Offices.{TakeAnswers, TookNothing, Loses, TakeHadCause, TakeEnded};
 ghost use Rattle.mailbox.specs.Refusals.{StopsTake, EndsTake, HandsOn};
 
@@ -34,8 +35,8 @@ impl<Q: Fifo + Drop> Receiver<Q> {
     /// Takes the letter that is due, in so many turns at most, 1 or more; none where there was none. The office is the one
     /// that the receiver was made with.
     ///
-    /// Refusals: `WornOut` and `Busy` of the queue, and nothing is then taken; `Lost` where the office shows no text for
-    /// what was taken, and from then on always. Takes no memory and doesn't wait.
+    /// Refusals: `WornOut` and `Busy` of the queue, and `Closed` where it is shut and empty, and nothing is then taken;
+    /// `Lost` where the office shows no text for what was taken, and from then on always. Takes no memory and doesn't wait.
     ///
     /// ```rust
     /// if let Some(letter) = receiver.try_take(&office, 8)? {
@@ -52,7 +53,8 @@ impl<Q: Fifo + Drop> Receiver<Q> {
         ensures office { IsReceiver Q.is_seat Q.permits Q.known office.now self.new }
         ensures answer { IfOk result (λ v. TakeAnswers Q.known office.now self.old v self.new) }
         ensures order { InOrder (receiver_knows Q.known self.new) }
-        ensures refused { IfErr result (λ why. why ≢ Lost → TookNothing Q.known self.old self.new) }
+        ensures refused { IfErr result
+            (λ why. why ≢ Lost → TookNothing Q.known self.old why self.new) }
         ensures lost { result ≡ Err Lost → Loses Q.known self.old self.new }
         ensures stays_lost { has_lost self.old ≡ true → result ≡ Err Lost }
         ensures why { IfErr result StopsTake }
@@ -96,7 +98,8 @@ impl<Q: Fifo + Drop> Receiver<Q> {
         ensures office { IsReceiver Q.is_seat Q.permits Q.known office.now self.new }
         ensures answer { IfOk result (λ v. TakeAnswers Q.known office.now self.old v self.new) }
         ensures order { InOrder (receiver_knows Q.known self.new) }
-        ensures refused { IfErr result (λ why. why ≢ Lost → TookNothing Q.known self.old self.new) }
+        ensures refused { IfErr result
+            (λ why. why ≢ Lost → TookNothing Q.known self.old why self.new) }
         ensures lost { result ≡ Err Lost → Loses Q.known self.old self.new }
         ensures stays_lost { has_lost self.old ≡ true → result ≡ Err Lost }
         ensures why { IfErr result EndsTake }
@@ -117,7 +120,8 @@ impl<Q: Fifo + Drop> Receiver<Q> {
     /// Which of the texts due the letter is that was taken last; none where it is of no task.
     pub(crate) fn last_due(&self, office: &Office<Q>) -> Option<Due>
         requires shown { ShowsLast office.now self.now }
-        ensures { LastIs office.now self.now result }
+        ensures is { LastIs self.now result }
+        ensures fits { LastFits office.now self.now result }
     {
         match &self.last {
             Some(shown) => parcel_at(&office.letters, shown).due,

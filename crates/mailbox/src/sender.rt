@@ -1,10 +1,12 @@
 //! Senders of letters.
-ghost use Rattle.std.specs.Prelude.{◌≡◌, ◌≤◌, Err, OnOk, OnErr, IfOk, IfErr, string_bytes};
+ghost use Rattle.std.specs.Prelude.{◌≡◌, ◌≤◌, Err, OnOk, IfOk, IfErr, string_bytes};
 ghost use Rattle.history.specs.declared.refusals.Refusal.TheVariants.{Memory, BadSize};
+ghost use Rattle.history.specs.Answers.{StopsShut, EndsShut};
 ghost use Rattle.mailbox.specs.Refusals.{StopsStore, StopsSend, EndsSend, HandsOn};
 ghost use Rattle.mailbox.specs.Plans.{Fits};
 ghost use Rattle.mailbox.specs.Offices.{IsSender, marks, Stored, Sent, SentNothing, HasNoBody};
-ghost use Rattle.mailbox.specs.Offices.{HasStored, SendHadCause, SendEnded};
+ghost use Rattle.mailbox.specs.Offices.{HasStored, HasSentTheSame, DidShutOffice};
+ghost use Rattle.mailbox.specs.Offices.{SendHadCause, SendEnded};
 
 use crate::office::Office;
 use crate::parcels::{Due, Parcel, Shown};
@@ -48,8 +50,8 @@ impl<Q: Fifo + Drop> Sender<Q> {
     /// Sends a letter, in so many turns at most, 1 or more. The office is the one that the sender was made with.
     ///
     /// Refusals, in this order: `Memory`, where the letter can't be stored; `BadSize`, where 2^48 letters or more were
-    /// stored; `NoNode`, `WornOut` and `Busy` of the one push, with the letter stored. Nothing is then sent, and the text
-    /// is given up. Takes memory for the letter, and may wait for another thread that makes room for letters.
+    /// stored; `NoNode`, `WornOut`, `Busy` and `Closed` of the one push, with the letter stored. Nothing is then sent, and
+    /// the text is given up. Takes memory for the letter, and may wait for another thread that makes room for letters.
     ///
     /// ```rust
     /// sender.try_send(rt, &office, text, 8)?;
@@ -65,7 +67,7 @@ impl<Q: Fifo + Drop> Sender<Q> {
         requires turns { 1 ≤ turns }
         ensures office { IsSender Q.is_seat Q.permits Q.known office.now self.new }
         ensures sent { OnOk result (Sent Q.known office.now self.old self.new text) }
-        ensures refused { OnErr result (SentNothing Q.known self.old self.new) }
+        ensures refused { IfErr result (λ why. SentNothing Q.known self.old why self.new) }
         ensures memory { result ≡ Err Memory → self.new ≡ self.old }
         ensures no_body { result ≡ Err BadSize → HasNoBody office.now self.old self.new text }
         ensures why { IfErr result StopsSend }
@@ -88,7 +90,7 @@ impl<Q: Fifo + Drop> Sender<Q> {
         requires office { IsSender Q.is_seat Q.permits Q.known office.now self.old }
         ensures office { IsSender Q.is_seat Q.permits Q.known office.now self.new }
         ensures sent { OnOk result (Sent Q.known office.now self.old self.new text) }
-        ensures refused { OnErr result (SentNothing Q.known self.old self.new) }
+        ensures refused { IfErr result (λ why. SentNothing Q.known self.old why self.new) }
         ensures memory { result ≡ Err Memory → self.new ≡ self.old }
         ensures no_body { result ≡ Err BadSize → HasNoBody office.now self.old self.new text }
         ensures why { IfErr result EndsSend }
@@ -111,7 +113,7 @@ impl<Q: Fifo + Drop> Sender<Q> {
         requires due { Fits (marks office.now) due (string_bytes text) }
         ensures office { IsSender Q.is_seat Q.permits Q.known office.now self.new }
         ensures sent { OnOk result (Sent Q.known office.now self.old self.new text) }
-        ensures refused { OnErr result (SentNothing Q.known self.old self.new) }
+        ensures refused { IfErr result (λ why. SentNothing Q.known self.old why self.new) }
         ensures memory { result ≡ Err Memory → self.new ≡ self.old }
         ensures no_body { result ≡ Err BadSize → HasNoBody office.now self.old self.new text }
         ensures why { IfErr result EndsSend }
@@ -121,5 +123,53 @@ impl<Q: Fifo + Drop> Sender<Q> {
     {
         let body = self.store(rt, office, text, due)?;
         office.queue.push(rt, &mut self.seat, body)
+    }
+    /// Shuts the office's queue, in so many turns at most, 1 or more: no letter is sent after it, and those sent before
+    /// stay to be taken. The office is the one that the sender was made with.
+    ///
+    /// Refusals: `WornOut` and `Busy` of the queue, and `Closed` where it was shut before; the queue is then as if the call
+    /// had not been. Takes no memory and doesn't wait.
+    ///
+    /// ```rust
+    /// match sender.try_shut(&office, 8) {
+    ///     Err(Refusal::Busy) => backoff.snooze(),
+    ///     // By this call, or by one before.
+    ///     Ok(()) | Err(Refusal::Closed) => return Ok(()),
+    ///     Err(why) => return Err(why),
+    /// }
+    /// ```
+    pub fn try_shut(&mut self, office: &Office<Q>, turns: u32) -> Result<(), Refusal>
+        requires office { IsSender Q.is_seat Q.permits Q.known office.now self.old }
+        requires turns { 1 ≤ turns }
+        ensures office { IsSender Q.is_seat Q.permits Q.known office.now self.new }
+        ensures shut { OnOk result (DidShutOffice Q.known self.old self.new) }
+        ensures refused { IfErr result (λ why. SentNothing Q.known self.old why self.new) }
+        ensures same { HasSentTheSame Q.known self.old self.new }
+        ensures why { IfErr result StopsShut }
+        ensures caused { IfErr result
+            (SendHadCause Q.shut_cause office.now self.old self.new turns) }
+    {
+        office.queue.try_shut(&mut self.seat, turns)
+    }
+
+    /// Shuts the office's queue, and tries again while others are in the way.
+    ///
+    /// Refusals as those of `try_shut`, but never `Busy`. Takes no memory, and waits.
+    ///
+    /// ```rust
+    /// // The receiver goes on until it has taken what was sent.
+    /// sender.shut(rt, &office)?;
+    /// ```
+    pub fn shut<R: Wait>(&mut self, rt: &R, office: &Office<Q>) -> Result<(), Refusal>
+        requires office { IsSender Q.is_seat Q.permits Q.known office.now self.old }
+        ensures office { IsSender Q.is_seat Q.permits Q.known office.now self.new }
+        ensures shut { OnOk result (DidShutOffice Q.known self.old self.new) }
+        ensures refused { IfErr result (λ why. SentNothing Q.known self.old why self.new) }
+        ensures same { HasSentTheSame Q.known self.old self.new }
+        ensures why { IfErr result EndsShut }
+        ensures caused { IfErr result
+            (SendEnded Q.is_seat Q.known Q.shut_cause office.now self.old self.new 8) }
+    {
+        office.queue.shut(rt, &mut self.seat)
     }
 }

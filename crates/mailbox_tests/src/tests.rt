@@ -5,5 +5,6 @@ mod listed_runs;
 mod loads;
 mod nonblocking_runs;
 mod plans;
+mod shut_offices;
 mod texts;
 mod two_lock_runs;

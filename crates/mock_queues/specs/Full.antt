@@ -1,6 +1,6 @@
 -- A queue with no room.
 use Rattle.std.specs.Prelude.{true, List, [], ◌∷◌, replicate, refl}
-use Rattle.std.proofs.Common.{le_refl}
+use Rattle.std.proofs.Common.{le_refl, inl}
 use Rattle.std.proofs.lemmas.List.Elements.{All-nil, All-replicate}
 use Rattle.history.specs.Queue.{empty}
 use Rattle.history.specs.Seats.{Permit, Known, IsSound, IsPermitted, IsNoted}
@@ -21,4 +21,4 @@ IsFullSeat q s = Unit {0}
 
 -- what the seat knows is sound
 pub empties_are_sound : (s : FullSeat) → IsSound one_permit (knows_empties s)
-empties_are_sound s = record { legal = (empty, refl); permitted = All-nil (IsPermitted one_permit); own = refl; noted = All-replicate (IsNoted []) s.empties 0 (le_refl 0, refl) }
+empties_are_sound s = record { legal = (empty, refl); permitted = All-nil (IsPermitted one_permit); own = refl; noted = All-replicate (IsNoted []) s.empties 0 (inl (le_refl 0, refl)) }

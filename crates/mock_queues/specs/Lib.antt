@@ -1,2 +1,3 @@
 pub mod Full
 pub mod Plans
+pub mod Shut

@@ -1,7 +1,7 @@
-//! A queue with no room: each push is refused, and each pop finds it empty, until its notes can't be counted.
+//! A queue with no room: each push and each shut is refused, and each pop finds it empty, until its notes can't be counted.
 ghost use Rattle.std.specs.Prelude.{IfOk, IfErr};
 
-use history::{Body, Fifo, Refusal, Rest, Taken};
+use history::{Body, Fifo, Refusal, Rest, Taken, WornWord};
 use std::alloc::Global;
 
 /// A queue with no room.
@@ -27,7 +27,8 @@ impl FullQueue {
 
 impl Fifo for FullQueue {
     ghost use Rattle.std.specs.Prelude.{◌≡◌, map};
-    ghost use Rattle.history.specs.declared.refusals.Refusal.TheVariants.{NoNode, Busy};
+    ghost use Rattle.history.specs.declared.refusals.Refusal.TheVariants.{NoNode, WornOut, Busy};
+    ghost use Rattle.history.specs.declared.refusals.WornWord.TheVariants.{Tail};
     ghost use Rattle.history.specs.Closing.{Closes};
     ghost use Rattle.mock_queues.specs.Full.{IsFullSeat, one_permit, knows_empties, empties_are_sound};
 
@@ -43,6 +44,8 @@ impl Fifo for FullQueue {
 
     ghost pop_cause = { λ _ _ _ _ why. why ≡ Busy };
 
+    ghost shut_cause = { λ _ _ _ _ why. why ≡ WornOut Tail };
+
     ghost sound = { λ _ seat _. empties_are_sound seat };
 
     fn try_push(&self, _seat: &mut FullSeat, _body: Body, _turns: u32) -> Result<(), Refusal> {
@@ -55,6 +58,10 @@ impl Fifo for FullQueue {
         }
         seat.empties += 1;
         Ok(None)
+    }
+
+    fn try_shut(&self, _seat: &mut FullSeat, _turns: u32) -> Result<(), Refusal> {
+        Err(Refusal::WornOut(WornWord::Tail))
     }
 
     fn meet(&self, _one: &mut FullSeat, _other: &mut FullSeat) {}
@@ -72,6 +79,6 @@ impl Fifo for FullQueue {
         ensures only_memory { IfErr result (λ why. why ≡ Refusal.Memory) }
     {
         drop(seats);
-        Ok(Rest::of(Vec::new(alloc), 0, true))
+        Ok(Rest::of(Vec::new(alloc), 0, true, false))
     }
 }

@@ -4,7 +4,9 @@
 mod full;
 mod listed;
 mod planned;
+mod shut;
 
 pub use full::{FullQueue, FullSeat};
 pub use listed::Listed;
 pub use planned::{Plan, Planned};
+pub use shut::{ShutQueue, ShutSeat};

@@ -3,8 +3,8 @@ use crate::planned::Plan;
 use history::{Refusal, WornWord};
 use std::sync::atomic::{AtomicUsize, Ordering};
 
-/// Calls in the order in which they are due, pushes or pops: the turns of each, and what it is refused; none where it is to be
-/// handed on. A call that isn't due, or has other turns, is refused `WornOut(Next)`.
+/// Calls in the order in which they are due, pushes, pops or shuts: the turns of each, and what it is refused; none where it
+/// is to be handed on. A call that isn't due, or has other turns, is refused `WornOut(Next)`.
 #[derive(Drop)]
 pub struct Listed<'a> {
     calls: &'a [(u32, Option<Refusal>)],
@@ -35,6 +35,10 @@ impl<'a> Plan for Listed<'a> {
     }
 
     fn pop_refusal(&self, turns: u32) -> Option<Refusal> {
+        self.next_refusal(turns)
+    }
+
+    fn shut_refusal(&self, turns: u32) -> Option<Refusal> {
         self.next_refusal(turns)
     }
 

@@ -12,11 +12,16 @@ pub trait Plan {
     /// What a pop of so many turns is refused, before it is handed on; none where it is to be handed on.
     fn pop_refusal(&self, turns: u32) -> Option<Refusal>;
 
+    /// What a shut of so many turns is refused, before it is handed on; none where it is to be handed on.
+    fn shut_refusal(&self, _turns: u32) -> Option<Refusal> {
+        None
+    }
+
     /// A pop that was handed on found the queue empty.
     fn finds_empty(&self);
 
-    /// A pop that was handed on was refused.
-    fn finds_trouble(&self) {}
+    /// A pop that was handed on was refused so.
+    fn finds_trouble(&self, _why: Refusal) {}
 }
 
 /// A queue that goes by a plan.
@@ -56,6 +61,8 @@ impl<Q: Fifo + Drop, P: Plan + Drop> Fifo for Planned<Q, P> {
 
     ghost pop_cause = { λ _ _ _ _ _. Unit {0} };
 
+    ghost shut_cause = { λ _ _ _ _ _. Unit {0} };
+
     ghost sound = { λ q s h. Q.sound (queue_of q) s h };
 
     fn try_push(&self, seat: &mut Q::Seat, body: Body, turns: u32) -> Result<(), Refusal> {
@@ -80,9 +87,17 @@ impl<Q: Fifo + Drop, P: Plan + Drop> Fifo for Planned<Q, P> {
                 Ok(None)
             }
             Err(why) => {
-                self.plan.finds_trouble();
+                self.plan.finds_trouble(why);
                 Err(why)
             }
+        }
+    }
+
+    fn try_shut(&self, seat: &mut Q::Seat, turns: u32) -> Result<(), Refusal> {
+        match self.plan.shut_refusal(turns) {
+            Some(Refusal::WornOut(word)) => Err(Refusal::WornOut(word)),
+            Some(Refusal::Busy) => Err(Refusal::Busy),
+            _ => self.queue.try_shut(seat, turns),
         }
     }
 

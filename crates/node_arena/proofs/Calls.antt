@@ -1,5 +1,5 @@
 -- What the step calls ask of the table, and what they answer.
-use Rattle.std.proofs.Common.{◌≡◌, ◌≢◌, ℕ, ◌+◌, ◌-◌, ◌<◌, List, [], Some, slice_get, sym, refl, ap, ◌∙◌, subst, arith}
+use Rattle.std.proofs.Common.{◌≡◌, ◌≢◌, ℕ, ◌+◌, ◌-◌, ◌<◌, nat_lt, List, [], Some, slice_get, sym, refl, ap, ◌∙◌, subst, arith}
 use Rattle.std.specs.List.{count_by}
 use Rattle.std.proofs.lemmas.List.Sums.{sum_by-append}
 use Rattle.atomic_table.specs.Table.{Me, Allows}
@@ -17,8 +17,8 @@ use Rattle.node_arena.specs.Prologues.{Prologue, after_prologue}
 use Rattle.node_arena.specs.Seeing.{View, seated, knows}
 use Rattle.node_arena.specs.Plans.{Layout}
 use Rattle.node_arena.specs.Rule.{Holds, Steps, Fitted, Tells, TellsNothing, line_or_first}
-use Rattle.history.specs.Entries.{is_push, is_pop}
-use Rattle.node_arena.specs.Seats.{MayStep, DidStep, DidSome, view, pocket_of, counting}
+use Rattle.history.specs.Entries.{is_push, is_pop, is_shut}
+use Rattle.node_arena.specs.Seats.{MayStep, DidStep, DidSome, view, pocket_of, shut_by, counting}
 use Rattle.node_arena.proofs.There.{stood, place_within}
 use Rattle.node_arena.proofs.StepsPreserve.{becomes, allows}
 use Rattle.node_arena.proofs.Counting.{Counts, loads_nothing, clears_nothing, stores_counted, wins_counted, loses_nothing}
@@ -65,8 +65,8 @@ module _ (r : Arena) (s : Seat) (t : Token ℕ Knowing) (prologue : Prologue) (l
   abbrev es : List Entry
   es = entries_at r.plan.setup steps.was (view s).number a l
 
-  did : (u : Seat) → u.token ≡ t → u.number ≡ s.number → u.role ≡ s.role → pocket_of u ≡ pocket_of s → u.failed ≡ s.failed → u.pushes ≡ s.pushes + count_by is_push es → u.pops ≡ s.pops + count_by is_pop es → DidStep r s u prologue l n
-  did u token number role pocket failed pushes pops = record {
+  did : (u : Seat) → u.token ≡ t → u.number ≡ s.number → u.role ≡ s.role → pocket_of u ≡ pocket_of s → u.failed ≡ s.failed → u.pushes ≡ s.pushes + count_by is_push es → u.pops ≡ s.pops + count_by is_pop es → u.shut ≡ nat_lt 0 (count_by is_shut (view s).mine + count_by is_shut es) → DidStep r s u prologue l n
+  did u token number role pocket failed pushes pops shut = record {
     seat = record {
       arena = may.seat.arena;
       sits = record {
@@ -75,6 +75,7 @@ module _ (r : Arena) (s : Seat) (t : Token ℕ Knowing) (prologue : Prologue) (l
         number = number ∙ (may.seat.sits.number ∙ (sym steps.number ∙ ap (λ y. (knows y.me.0).number) (sym token)));
         role = subst (λ q. slice_get r.plan.roles (q - 1) ≡ Some u.role) (sym number) (may.seat.sits.role ∙ ap (λ y. Some y) (sym role));
         pushes = pushes ∙ (ap (λ k. k + count_by is_push es) may.seat.sits.pushes ∙ (sym (sum_by-append _ (view s).mine es) ∙ (ap (count_by is_push) (sym steps.mine) ∙ ap (λ y. count_by is_push (knows y.me.0).mine) (sym token))));
+        shut = shut ∙ ap (nat_lt 0) (sym (sum_by-append _ (view s).mine es) ∙ (ap (count_by is_shut) (sym steps.mine) ∙ ap (λ y. count_by is_shut (knows y.me.0).mine) (sym token)));
         fitted = subst (λ y. Fitted r.plan (knows y.me.0)) (sym token) (record { trace = step_at steps.was (view s).number a l; reached = steps.reaches; setup = steps.setup; permitted = steps.permitted; fits = steps.fits });
         pops = pops ∙ (ap (λ k. k + count_by is_pop es) may.seat.sits.pops ∙ (sym (sum_by-append _ (view s).mine es) ∙ (ap (count_by is_pop) (sym steps.mine) ∙ ap (λ y. count_by is_pop (knows y.me.0).mine) (sym token))));
       };
@@ -88,9 +89,11 @@ module _ (r : Arena) (s : Seat) (t : Token ℕ Knowing) (prologue : Prologue) (l
 
   did_nothing : es ≡ [] → DidStep r s stepped prologue l n
   did_nothing e = did stepped refl refl refl refl refl (let h : count_by is_push es ≡ 0 = ap (count_by is_push) e in omega arith) (let h : count_by is_pop es ≡ 0 = ap (count_by is_pop) e in omega arith)
+      (may.seat.sits.shut ∙ ap (nat_lt 0) (let h : count_by is_shut es ≡ 0 = ap (count_by is_shut) e in let k : count_by is_shut (view s).mine ≡ count_by is_shut (view s).mine + count_by is_shut es = omega arith in k))
 
   did_counted : Counts l es → DidStep r s (counting stepped l) prologue l n
   did_counted c = did (counting stepped l) refl refl refl refl refl (ap (λ k. s.pushes + k) (sym c.pushes)) (ap (λ k. s.pops + k) (sym c.pops))
+      (ap (shut_by l) may.seat.sits.shut ∙ c.shut (count_by is_shut (view s).mine))
 
 -- the seat's actor, as it stands before the step
 abbrev led_actor : Arena → Seat → Prologue → Actor

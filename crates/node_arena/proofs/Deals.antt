@@ -1,5 +1,5 @@
 -- The opening keeps the rule, and so does a seat that is dealt.
-use Rattle.std.proofs.Common.{false, ◌≡◌, ◌≢◌, ◌⊎◌, ℕ, ◌+◌, ◌-◌, ◌*◌, ◌<◌, ◌≤◌, if◌then◌else◌, List, [], ◌∷◌, ◌++◌, zero, suc, length, replicate, set, sym, refl, ap, ◌∙◌, subst, ⊎_elim, inl, inr, arith, slice_get, Some, None, ne_eqb}
+use Rattle.std.proofs.Common.{false, ◌≡◌, ◌≢◌, ◌⊎◌, ℕ, ◌+◌, ◌-◌, ◌*◌, ◌<◌, ◌≤◌, if◌then◌else◌, List, [], ◌∷◌, ◌++◌, zero, suc, length, replicate, set, sym, refl, ap, ◌∙◌, subst, ⊎_elim, inl, inr, arith, slice_get, Some, None, ne_eqb, nat_lt}
 use Rattle.std.specs.List.{count_by}
 use Rattle.std.proofs.lemmas.List.Elements.{All-nil}
 use Rattle.std.proofs.Math.ListN.{length-replicate}
@@ -14,13 +14,13 @@ use Rattle.atomic_table.proofs.Lists.{at_set}
 use Rattle.line_steps.specs.declared.actors.Setup.{Setup}
 use Rattle.line_steps.specs.Memory.{blank}
 use Rattle.step_machine.specs.Words.{memory_words, node_words}
-use Rattle.step_machine.specs.Machine.{World, idle, actor_of, IsSized}
+use Rattle.step_machine.specs.Machine.{idle, actor_of}
 use Rattle.step_machine.specs.Machine as machine
 use Rattle.node_arena.specs.declared.seats.Seat.{Seat}
 use Rattle.node_arena.specs.Traces.{Traced, first_trace, changed}
 use Rattle.node_arena.specs.declared.arena.Arena.{Arena}
 use Rattle.node_arena.specs.Prologues.{at_rest}
-use Rattle.history.specs.Entries.{is_push, is_pop}
+use Rattle.history.specs.Entries.{is_push, is_pop, is_shut}
 use Rattle.history.specs.Seats.{IsNoted}
 use Rattle.node_arena.specs.Seats.{IsArena}
 use Rattle.node_arena.specs.Seeing.{SeatView, View, keeper, seated, members, knows, new_seat, dealt_left, dealt_right}
@@ -169,7 +169,7 @@ newly z n sized least few =
 
 -- a seat with the token of a number that was dealt
 pub dealt : (z : Layout) (t : TableId) (n : ℕ) (role : Role) (k : Token ℕ Knowing) → IsPlanned z → 1 ≤ n → n ≤ length z.roles → slice_get z.roles (n - 1) ≡ Some role → k.table_id ≡ t → k.me ≡ (seated (new_seat n), [])
-    → IsDealt z t n record { token = k; number = n; role = role; full = false; held = record { node = 0; mark = 0 }; failed = 0; pushes = 0; pops = 0 }
+    → IsDealt z t n record { token = k; number = n; role = role; full = false; held = record { node = 0; mark = 0 }; failed = 0; pushes = 0; pops = 0; shut = false }
 dealt z t n role k sized least few permits table me =
     let is : knows k.me.0 ≡ new_seat n = ap (λ (y : Me ℕ View). knows y.0) me in
     record {
@@ -180,6 +180,7 @@ dealt z t n role k sized least few permits table me =
         role = permits;
         pushes = ap (λ (v : SeatView). count_by is_push v.mine) (sym is);
         pops = ap (λ (v : SeatView). count_by is_pop v.mine) (sym is);
+        shut = ap (λ (v : SeatView). nat_lt 0 (count_by is_shut v.mine)) (sym is);
         fitted = subst (Fitted z) (sym is) (newly z n sized least few);
       };
       view = is;

@@ -1,5 +1,5 @@
 -- The end of an arena: its words are those of a traced world, to which each seat handed in fits.
-use Rattle.std.proofs.Common.{◌≡◌, ℕ, ◌+◌, ◌*◌, ◌≤◌, ◌↔◌, IsTrue, zero, suc, List, [], ◌∷◌, length, map, slice_get, slice_index, Some, refl, sym, ap, subst, ◌∙◌, arith}
+use Rattle.std.proofs.Common.{◌≡◌, ℕ, ◌+◌, ◌*◌, ◌<◌, ◌≤◌, ◌↔◌, IsTrue, zero, suc, List, [], ◌∷◌, length, map, slice_get, slice_index, Some, refl, sym, ap, subst, ◌∙◌, arith, true, false, Bool, nat_lt, nat_eq, inl, inr, if◌then◌else◌}
 use Rattle.std.specs.List.{All, count_by, sum_by}
 use Rattle.std.proofs.lemmas.List.{length-map}
 use Rattle.std.proofs.lemmas.List.Elements.{All-nil, All-cons, All-head, All-tail, All-weaker}
@@ -9,13 +9,14 @@ use mathlib.Core.List.{IsPrefix}
 use mathlib.Core.Option.{some}
 use lib.ListN.{get_elem?}
 use Rattle.atomic_table.specs.Table.{Me, Final, Seen}
-use Rattle.counted_ref.specs.Ref.{Ref}
+use Rattle.counted_ref.specs.Ref.{Ref, reserved_node}
+use Rattle.std.proofs.lemmas.Bool.{ltb-true, ltb-false, lt-ltb}
 use Rattle.history.specs.declared.rests.Rest.{Rest}
 use Rattle.history.specs.Queue.{empty}
-use Rattle.history.specs.Entries.{is_push, is_pop, own_entries, Plays, LeadsTo}
+use Rattle.history.specs.Entries.{is_push, is_pop, is_shut, own_entries, Plays, Leads}
 use Rattle.history.specs.Seats.{Known}
-use Rattle.history.specs.Rests.{left_of, taken_of, whole_of}
-use Rattle.history.specs.Closing.{pushes_of, pops_of, Closes}
+use Rattle.history.specs.Rests.{left_of, taken_of, whole_of, was_shut_of}
+use Rattle.history.specs.Closing.{pushes_of, pops_of, shuts_of, Closes}
 use Rattle.history.proofs.Sums.{AreApart, closes}
 use Rattle.line_steps.specs.declared.actors.Node.{Node}
 use Rattle.line_steps.specs.Memory.{Shared, Head, Next, Value_of, node_at}
@@ -23,13 +24,13 @@ use Rattle.step_machine.specs.Machine.{World, IsReached}
 use Rattle.step_machine.specs.Words.{node_words, memory_words}
 use Rattle.step_machine.specs.Tables.{SharedFits}
 use Rattle.step_machine.specs.Range.{WorldInRange}
-use Rattle.step_machine.specs.Places.{IsChain}
-use Rattle.step_machine.specs.Chains.{values_of, queue_values}
+use Rattle.step_machine.specs.Places.{IsEnd, IsQueueChain}
+use Rattle.step_machine.specs.Chains.{values_of, queue_values, is_shut_chain}
 use Rattle.step_machine.specs.EachQueue.{HasItsPlaces}
-use Rattle.step_machine.proofs.Reached.{reached_in_range}
+use Rattle.step_machine.proofs.Reached.{reached_in_range, few_nodes}
 use Rattle.step_machine.proofs.Fits.{shared_fits}
 use Rattle.step_machine.proofs.Words.{reading}
-use Rattle.step_machine.proofs.Chains.{chain_some}
+use Rattle.step_machine.proofs.Chains.{no_end, chain_some}
 use Rattle.step_machine.proofs.PlaceOf.{few}
 use Rattle.step_machine.proofs.EitherQueue.{head_some, have_their_places}
 use Rattle.node_arena.specs.declared.arena.Arena.{Arena}
@@ -41,7 +42,7 @@ use Rattle.node_arena.specs.Rule.{Fits, Holds}
 use Rattle.node_arena.specs.Seats.{IsReady, view, known_of, permits_of}
 use Rattle.node_arena.specs.Closing.{HasToken, CountsItsOwn}
 use Rattle.line_steps.specs.Words.{value_of}
-use Rattle.node_arena.specs.Remains.{ref_at, front_of, HasRef, HasNode, HaveValues, AreLeft, IsQueue}
+use Rattle.node_arena.specs.Remains.{ref_at, end_of, front_of, HasNode, HaveValues, AreLeft, IsQueue}
 use Rattle.node_arena.proofs.Tracing.{traced_reached}
 use Rattle.node_arena.proofs.Histories.{history_plays, counts_pops}
 use Rattle.node_arena.proofs.Reading.{read_back, value_parts}
@@ -51,48 +52,49 @@ length-node_words : (ns : List Node) → length (node_words ns) ≡ 2 * length n
 length-node_words [] = refl
 length-node_words (n ∷ ns) = omega (arith, length-node_words ns)
 
+-- the number at a chain's end is that by whether it is a closed end
+ended : (n : ℕ) → IsEnd n → n ≡ end_of (nat_eq n reserved_node)
+ended n (inl none) = none ∙ ap (λ k. end_of (nat_eq k reserved_node)) (sym none)
+ended n (inr closed) = closed ∙ ap (λ k. end_of (nat_eq k reserved_node)) (sym closed)
+
 -- the words of a memory whose contents fit
-module _ (m : Shared) (fits : SharedFits m) where
+module _ (m : Shared) (fits : SharedFits m) (few : length m.nodes < reserved_node) where
   long : length (memory_words m) ≡ 6 + 2 * length m.nodes
   long = omega (arith, length-node_words m.nodes)
 
   head_is : ref_at (memory_words m) 2 ≡ m.head
-  head_is = (read_back m.head (slice_index (memory_words m) 2) (fits Head) refl).0
+  head_is = read_back m.head (slice_index (memory_words m) 2) (fits Head) refl
 
-  has_head : HasRef (memory_words m) 2
-  has_head = record { there = omega (arith, long); named = (read_back m.head (slice_index (memory_words m) 2) (fits Head) refl).1 }
+  has_head : 2 < length (memory_words m)
+  has_head = omega (arith, long)
 
   module _ (n : ℕ) (low : 1 ≤ n) (high : n ≤ length m.nodes) where
     next_is : ref_at (memory_words m) (4 + 2 * n) ≡ (node_at m n).next
-    next_is = (read_back (node_at m n).next (slice_index (memory_words m) (4 + 2 * n)) (fits (Next n)) (reading m (Next n) (low, high))).0
+    next_is = read_back (node_at m n).next (slice_index (memory_words m) (4 + 2 * n)) (fits (Next n)) (reading m (Next n) (low, high))
 
     has_node : HasNode (memory_words m) n
-    has_node =
-        record {
-          next = record { there = omega (arith, long, high); named = (read_back (node_at m n).next (slice_index (memory_words m) (4 + 2 * n)) (fits (Next n)) (reading m (Next n) (low, high))).1 };
-          value = omega (arith, long, high);
-        }
+    has_node = omega (arith, long, high)
 
     value_is : (node_at m n).value ≡ value_of (slice_index (memory_words m) (5 + 2 * n))
     value_is =
         let p = value_parts (node_at m n).value (slice_index (memory_words m) (5 + 2 * n)) (fits (Value_of n)) (reading m (Value_of n) (low, high)) in
         λ i. record { from = p.0 i; body = p.1 i }
 
-  -- the nodes of a chain have their values
-  chain_values : (ns : List ℕ) (n : ℕ) → IsChain m.nodes n ns → HaveValues (memory_words m) n (values_of m ns)
-  chain_values [] n c = c
-  chain_values (k ∷ ks) n c =
-      let more : HaveValues (memory_words m) (ref_at (memory_words m) (4 + 2 * k)).node (values_of m ks) =
-      subst (λ (r : Ref). HaveValues (memory_words m) r.node (values_of m ks)) (sym (next_is k c.1 c.2)) (chain_values ks (node_at m k).next.node c.3) in
-      subst (λ j. HaveValues (memory_words m) j (values_of m (k ∷ ks))) (sym c.0) (c.1, has_node k c.1 c.2, value_is k c.1 c.2, more)
+  -- the nodes behind one of the queue's chain have their values, and the chain's end says whether it is shut
+  chain_values : (front : ℕ) (ns : List ℕ) → IsQueueChain m.nodes (node_at m front).next.node ns → HaveValues (memory_words m) (is_shut_chain m (front ∷ ns)) (node_at m front).next.node (values_of m ns)
+  chain_values front [] c = ended (node_at m front).next.node c
+  chain_values front (k ∷ ks) c =
+      let more : HaveValues (memory_words m) (is_shut_chain m (k ∷ ks)) (ref_at (memory_words m) (4 + 2 * k)).node (values_of m ks) =
+      subst (λ (r : Ref). HaveValues (memory_words m) (is_shut_chain m (k ∷ ks)) r.node (values_of m ks)) (sym (next_is k c.1 c.2)) (chain_values k ks c.3) in
+      subst (λ j. HaveValues (memory_words m) (is_shut_chain m (k ∷ ks)) j (values_of m (k ∷ ks))) (sym c.0) (c.1, (let most = c.2 in omega (arith, most, few)), has_node k c.1 c.2, value_is k c.1 c.2, more)
 
 -- the words of a world have the values of its queue, of which there are no more than nodes
 record Left (w : World) : Type 0 where
   queue : List ℕ
-  chain : IsChain w.shared.nodes w.shared.head.node queue
-  head : HasRef (memory_words w.shared) 2
+  chain : IsQueueChain w.shared.nodes w.shared.head.node queue
+  head : 2 < length (memory_words w.shared)
   dummy : HasNode (memory_words w.shared) (ref_at (memory_words w.shared) 2).node
-  values : AreLeft (memory_words w.shared) (queue_values w.shared queue)
+  values : AreLeft (memory_words w.shared) (is_shut_chain w.shared queue) (queue_values w.shared queue)
   few : length (queue_values w.shared queue) ≤ w.setup.size
   long : length (memory_words w.shared) ≡ 6 + 2 * w.setup.size
 
@@ -101,24 +103,25 @@ left_in w r =
     let m : Shared = w.shared in
     let range : WorldInRange w = reached_in_range w r in
     let fits : SharedFits m = shared_fits w range in
+    let small : length m.nodes < reserved_node = few_nodes w r in
     let all : length m.nodes ≡ w.setup.size = range.shared.all_nodes in
     let fresh : m.fresh ≤ w.setup.size = range.shared.fresh in
     let low : 1 ≤ m.head.node = head_some w r in
     let high : m.head.node ≤ length m.nodes = let h = range.shared.head.node in omega arith in
     let p : HasItsPlaces w = have_their_places w r in
     let used : length p.0 ≤ m.fresh = few w p.0 p.1 p.2 1 (omega arith) in
-    let at = chain_some m.nodes m.head.node p.0 low p.2.queue_chain in
-    let c : IsChain m.nodes m.head.node (m.head.node ∷ at.0) = subst (IsChain m.nodes m.head.node) at.1 p.2.queue_chain in
+    let at = chain_some IsEnd m.nodes m.head.node p.0 (no_end m.head.node low (λ e. omega (arith, e, high, small))) p.2.queue_chain in
+    let c : IsQueueChain m.nodes m.head.node (m.head.node ∷ at.0) = subst (IsQueueChain m.nodes m.head.node) at.1 p.2.queue_chain in
     let front : front_of (memory_words m) ≡ (node_at m m.head.node).next.node =
-    ap (λ (x : Ref). (ref_at (memory_words m) (4 + 2 * x.node)).node) (head_is m fits) ∙ ap (λ (x : Ref). x.node) (next_is m fits m.head.node low high) in
+    ap (λ (x : Ref). (ref_at (memory_words m) (4 + 2 * x.node)).node) (head_is m fits small) ∙ ap (λ (x : Ref). x.node) (next_is m fits small m.head.node low high) in
     record {
       queue = m.head.node ∷ at.0;
       chain = c;
-      head = has_head m fits;
-      dummy = subst (λ (x : Ref). HasNode (memory_words m) x.node) (sym (head_is m fits)) (has_node m fits m.head.node low high);
-      values = subst (λ n. HaveValues (memory_words m) n (values_of m at.0)) (sym front) (chain_values m fits at.0 (node_at m m.head.node).next.node c.3);
+      head = has_head m fits small;
+      dummy = subst (λ (x : Ref). HasNode (memory_words m) x.node) (sym (head_is m fits small)) (has_node m fits small m.head.node low high);
+      values = subst (λ n. HaveValues (memory_words m) (is_shut_chain m (m.head.node ∷ at.0)) n (values_of m at.0)) (sym front) (chain_values m fits small m.head.node at.0 c.3);
       few = omega (arith, used, fresh, ap length at.1, length-map at.0 (λ n. (node_at m n).value));
-      long = omega (arith, long m fits, all);
+      long = omega (arith, long m fits small, all);
     }
 
 -- at the end there is a traced world with these words; each seat handed in fits to it, and no two of them have one number
@@ -164,6 +167,7 @@ queue_at_end z seats words most room e =
       head = l.head;
       dummy = l.dummy;
       behind = record {
+        shut = is_shut_chain e.trace.world.shared l.queue;
         values = queue_values e.trace.world.shared l.queue;
         chain = l.values;
         room = omega (arith, l.few, ap (λ x. x.size) e.setup, room);
@@ -193,30 +197,32 @@ numbers_apart z seats words e i j k l a b same =
     e.apart i j s.0 t.0 s.1 t.1 (ap (λ x. x.number) s.2 ∙ same ∙ ap (λ x. x.number) (sym t.2))
 
 -- what is told of the rest, by the words and by what the seats made
-pub record Rests (words : List ℕ) (pushes pops : ℕ) (rest : Rest) : Type 0 where
-  pub left : AreLeft words (left_of rest)
+pub record Rests (words : List ℕ) (pushes pops : ℕ) (shut : Bool) (rest : Rest) : Type 0 where
+  pub left : AreLeft words (was_shut_of rest) (left_of rest)
   pub taken : taken_of rest ≡ (ref_at words 2).count
-  pub whole : IsTrue (whole_of rest) ↔ ((pops ≡ taken_of rest) × (pushes ≡ taken_of rest + length (left_of rest)))
+  pub whole : IsTrue (whole_of rest) ↔ ((pops ≡ taken_of rest) × (pushes ≡ taken_of rest + length (left_of rest)) × (IsTrue (was_shut_of rest) → IsTrue shut))
 
 -- an arena is closed by seats, where that is told of its end
-pub closes_at_end : (r : Arena) (seats : List Seat) (words : List ℕ) (pushes pops : ℕ) (rest : Rest) → Ends r.plan seats words → pushes ≡ pushes_of (map known_of seats) → pops ≡ pops_of (map known_of seats) → Rests words pushes pops rest → Closes (permits_of r) (map known_of seats) rest
-closes_at_end r seats words pushes pops rest e pushed popped h =
+pub closes_at_end : (r : Arena) (seats : List Seat) (words : List ℕ) (pushes pops : ℕ) (shut : Bool) (rest : Rest) → Ends r.plan seats words → pushes ≡ pushes_of (map known_of seats) → pops ≡ pops_of (map known_of seats) → shut ≡ nat_lt 0 (shuts_of (map known_of seats)) → Rests words pushes pops shut rest → Closes (permits_of r) (map known_of seats) rest
+closes_at_end r seats words pushes pops shut rest e pushed popped shuts h =
     let t : Traced = e.trace in
     let l : Left t.world = left_in t.world (traced_reached t e.reached) in
-    let told : AreLeft (memory_words t.world.shared) (left_of rest) = subst (λ ws. AreLeft ws (left_of rest)) e.words_are h.left in
-    let same : queue_values t.world.shared l.queue ≡ left_of rest = same_values (memory_words t.world.shared) (front_of (memory_words t.world.shared)) _ _ l.values told in
-    let leads : LeadsTo t.history (left_of rest) = subst (λ vs. Plays empty t.history (record { values = vs })) same (history_plays t e.reached l.queue l.chain) in
-    let head : ref_at (memory_words t.world.shared) 2 ≡ t.world.shared.head = head_is t.world.shared (shared_fits t.world (reached_in_range t.world (traced_reached t e.reached))) in
+    let told : AreLeft (memory_words t.world.shared) (was_shut_of rest) (left_of rest) = subst (λ ws. AreLeft ws (was_shut_of rest) (left_of rest)) e.words_are h.left in
+    let same = same_values (memory_words t.world.shared) (is_shut_chain t.world.shared l.queue) (was_shut_of rest) (front_of (memory_words t.world.shared)) _ _ l.values told in
+    let leads : Leads t.history (was_shut_of rest) (left_of rest) = subst (Plays empty t.history) (λ i. record { values = same.0 i; shut = same.1 i }) (history_plays t e.reached l.queue l.chain) in
+    let head : ref_at (memory_words t.world.shared) 2 ≡ t.world.shared.head = head_is t.world.shared (shared_fits t.world (reached_in_range t.world (traced_reached t e.reached))) (few_nodes t.world (traced_reached t e.reached)) in
     let counted : taken_of rest ≡ count_by is_pop t.history = h.taken ∙ ap (λ ws. (ref_at ws 2).count) e.words_are ∙ ap (λ (x : Ref). x.count) head ∙ counts_pops t e.reached in
-    closes (permits_of r) (map known_of seats) rest t.history leads e.permitted (begins_each t seats e.fits) (own_each t seats e.fits) (numbers_apart r.plan seats words e) counted
-    (λ w. let x = h.whole.0 w in (sym popped ∙ x.0, sym pushed ∙ x.1), λ x. h.whole.1 (popped ∙ x.0, pushed ∙ x.1))
+    closes (permits_of r) (map known_of seats) rest t.history leads e.permitted (begins_each t seats e.fits) (own_each t seats e.fits) (numbers_apart r.plan seats words e) counted (
+      λ w. let x = h.whole.0 w in (sym popped ∙ x.0, sym pushed ∙ x.1, λ was. ltb-true 0 (shuts_of (map known_of seats)) (sym shuts ∙ x.2 was)),
+      λ x. h.whole.1 (popped ∙ x.0, pushed ∙ x.1, λ was. shuts ∙ lt-ltb 0 (shuts_of (map known_of seats)) (x.2 was)),
+    )
 
 -- each seat of an arena brings a token of its table, and its own counts
 pub have_tokens : (r : Arena) (seats : List Seat) → All (IsReady r) seats → All (HasToken r.table.shared.table_id) seats
 have_tokens r = All-weaker (IsReady r) (HasToken r.table.shared.table_id) (λ s h. record { table = h.seat.sits.table; seat = h.seat.sits.seat })
 
 pub count_own : (r : Arena) (seats : List Seat) → All (IsReady r) seats → All CountsItsOwn seats
-count_own r = All-weaker (IsReady r) CountsItsOwn (λ s h. record { pushes = h.seat.sits.pushes; pops = h.seat.sits.pops })
+count_own r = All-weaker (IsReady r) CountsItsOwn (λ s h. record { pushes = h.seat.sits.pushes; pops = h.seat.sits.pops; shut = h.seat.sits.shut })
 
 -- the sums of their counts are those of what they know
 pub sum_by-pushes : (seats : List Seat) → All CountsItsOwn seats → sum_by (λ (s : Seat). s.pushes) seats ≡ pushes_of (map known_of seats)
@@ -228,3 +234,14 @@ pub sum_by-pops : (seats : List Seat) → All CountsItsOwn seats → sum_by (λ 
 sum_by-pops [] h = refl
 sum_by-pops (s ∷ ss) h =
     omega (arith, sum_by-cons (λ (x : Seat). x.pops) s ss, sum_by-cons (λ (k : Known). count_by is_pop k.mine) (known_of s) (map known_of ss), (All-head CountsItsOwn s ss h).pops, sum_by-pops ss (All-tail CountsItsOwn s ss h))
+
+-- their shuts are those of what they know
+pub sum_by-shuts : (seats : List Seat) → sum_by (λ (s : Seat). count_by is_shut (view s).mine) seats ≡ shuts_of (map known_of seats)
+sum_by-shuts [] = refl
+sum_by-shuts (s ∷ ss) =
+    omega (arith, sum_by-cons (λ (x : Seat). count_by is_shut (view x).mine) s ss, sum_by-cons (λ (k : Known). count_by is_shut k.mine) (known_of s) (map known_of ss), sum_by-shuts ss)
+
+-- a seat more leaves it so that one made a shut where there was one, or the seat made one
+pub shut_more : (before now : Bool) (n k m : ℕ) → before ≡ nat_lt 0 n → now ≡ nat_lt 0 k → m ≡ n + k → (if now then true else before) ≡ nat_lt 0 m
+shut_more before true n k m was is sum = sym (lt-ltb 0 m (let some = ltb-true 0 k (sym is) in omega (arith, some, sum)))
+shut_more before false n k m was is sum = was ∙ ap (nat_lt 0) (let none = ltb-false 0 k (sym is) in omega (arith, none, sum))

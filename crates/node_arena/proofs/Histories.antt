@@ -4,15 +4,16 @@ use Rattle.std.proofs.lemmas.Option.{none-some, same_Some}
 use Rattle.std.specs.List.{count_by, flat_map}
 use Rattle.line_table.specs.declared.lines.Kind.{Kind}
 use Rattle.line_table.specs.declared.lines.Line.{Line}
-use Rattle.line_table.specs.declared.lines.Line.TheVariants.{N1, N2, N4, N5, F1, F3, E3, E5, E7, E9, E17, D2, D5, D12, D13, A3, A5, B1, B3, B4, B5, B6}
+use Rattle.line_table.specs.declared.lines.Line.TheVariants.{N1, N2, N4, N5, F1, F3, E3, E5, E7, E9, E17, D2, D5, D12, D13, A3, A5, A6, A7, B1, B3, B4, B5, B6, S1, S3, S4, S6, S8, S9}
 use Rattle.line_table.specs.Sections.{section_of}
-use Rattle.counted_ref.specs.Ref.{is_null, same_ref}
+use Rattle.counted_ref.specs.Ref.{null, is_null, is_shut, same_ref}
 use Rattle.history.specs.declared.operations.Op.{Op}
-use Rattle.history.specs.declared.operations.Op.TheVariants.{Enq, Deq}
+use Rattle.history.specs.declared.operations.Op.TheVariants.{Enq, Deq, Shut}
 use Rattle.history.specs.declared.operations.Reply.{Reply}
 use Rattle.history.specs.declared.operations.Reply.TheVariants.{Done, Value, Empty, Refused}
+use Rattle.history.specs.declared.refusals.Refusal.TheVariants.{Closed}
 use Rattle.history.specs.declared.operations.Entry.{Entry}
-use Rattle.history.specs.declared.operations.Entry.TheVariants.{Push, Pop}
+use Rattle.history.specs.declared.operations.Entry.TheVariants.{Push, Pop, Shut as ShutEntry}
 use Rattle.history.specs.declared.operations.Taken.{Taken}
 use Rattle.history.specs.Queue.{empty}
 use Rattle.history.specs.Entries.{is_pop, Plays}
@@ -21,12 +22,12 @@ use Rattle.line_steps.specs.declared.actors.Setup.{Setup}
 use Rattle.line_steps.specs.declared.actors.Actor.{Actor}
 use Rattle.line_steps.specs.Outcomes.{Outcome}
 use Rattle.line_steps.specs.Memory.{Found, found}
-use Rattle.line_steps.specs.Lines.{action, outcome, goes, ends, effect, fills_hand, empties_hand, sets_aside, freed, unlocked, busy_or, gives_up}
+use Rattle.line_steps.specs.Lines.{action, outcome, goes, ends, effect, fills_hand, empties_hand, sets_aside, freed, unlocked, left, left_with_node, busy_or, gives_up}
 use Rattle.line_steps.specs.Calling.{is_call, begun}
 use Rattle.step_machine.specs.declared.actors.Move.TheVariants.{Begin, Step, Give}
 use Rattle.step_machine.specs.Machine.{World, actor_of, rested, with_actor, begins, steps, given, gives, may_rest, rests, moved, rest_of, AnyMove, made, Rest, next_any, IsReached}
 use Rattle.step_machine.specs.Entries.{pushed_by, entry_of, entries}
-use Rattle.step_machine.specs.Chains.{queue_values}
+use Rattle.step_machine.specs.Chains.{queue_in}
 use Rattle.step_machine.specs.Stamps.{makers}
 use Rattle.step_machine.proofs.Fixed.{Pushes, Runs}
 use Rattle.step_machine.proofs.Reached.{some_of, reached_next}
@@ -73,6 +74,20 @@ module _ (me : ℕ) (op : Op) where
   unlocked_adds now (Some Empty) a = record { none = refl }
   unlocked_adds now (Some (Refused why)) a = record { none = refl }
 
+  left_adds : (now : ℕ) (due : Option Reply) (a : Actor) → AddsNothing me op (left now due a)
+  left_adds now None a = record { none = refl }
+  left_adds now (Some (Value v)) a = record { none = refl }
+  left_adds now (Some Done) a = record { none = refl }
+  left_adds now (Some Empty) a = record { none = refl }
+  left_adds now (Some (Refused why)) a = record { none = refl }
+
+  left_with_node_adds : (now : ℕ) (due : Option Reply) (a : Actor) → AddsNothing me op (left_with_node now due a)
+  left_with_node_adds now None a = record { none = refl }
+  left_with_node_adds now (Some (Value v)) a = record { none = refl }
+  left_with_node_adds now (Some Done) a = record { none = refl }
+  left_with_node_adds now (Some Empty) a = record { none = refl }
+  left_with_node_adds now (Some (Refused why)) a = record { none = refl }
+
   -- giving up adds nothing
   busy_or_adds : (now : ℕ) (due : Option Reply) (a : Actor) → IfSome (busy_or now due a) (AddsNothing me op)
   busy_or_adds now None a = record { none = refl }
@@ -85,12 +100,19 @@ module _ (me : ℕ) (op : Op) where
   given_adds now a D2 = record { none = refl }
   given_adds now a A3 = record { none = refl }
   given_adds now a B1 = record { none = refl }
+  given_adds now a S1 = record { none = refl }
+  given_adds now a S6 = record { none = refl }
   given_adds now a _ = tt
 
 -- the push of an enqueue is that of its body
 pushed_is : (me : ℕ) (op : Op) (v : Taken) → Pushes me op v → pushed_by me op ≡ Push me v.body ∷ []
 pushed_is me (Enq body) v h = ap (λ (x : Taken). Push me x.body ∷ []) (sym h)
 pushed_is me Deq v h = absurd h
+pushed_is me Shut v h = absurd h
+
+-- the entry of a shut is its own
+shut_is : (me : ℕ) (op : Op) → op ≡ Shut → pushed_by me op ≡ ShutEntry me ∷ []
+shut_is me op h = ap (pushed_by me) h
 
 -- whether a call may have its effect at a line
 abbrev is_effect : Line → Bool
@@ -98,6 +120,8 @@ is_effect E9 = true
 is_effect D13 = true
 is_effect A5 = true
 is_effect B5 = true
+is_effect S4 = true
+is_effect S8 = true
 is_effect _ = false
 
 -- an outcome of a line where no call has its effect adds nothing
@@ -109,22 +133,30 @@ stutters s now me a F1 c e = both _ _ (nat_eq c.count s.limit) _ _ (aside_adds _
 stutters s now me a F3 c e = both _ _ (same_ref c a.top) _ _ (freed_adds _ _ s.kind now a.due (empties_hand a)) record { none = refl }
 stutters s now me a E3 c e = both _ _ (nat_eq c.count s.limit) _ _ record { none = refl } record { none = refl }
 stutters s now me a E7 c e =
-    both _ _ (same_ref c a.tail) _ _ (both _ _ (is_null a.next) _ _ record { none = refl } (both _ _ (nat_eq a.tail.count s.limit) _ _ record { none = refl } record { none = refl }))
+    both _ _ (same_ref c a.tail) _ _ (both _ _ (is_null a.next) _ _ record { none = refl } (both _ _ (is_shut a.next) _ _ record { none = refl } (both _ _ (nat_eq a.tail.count s.limit) _ _ record { none = refl } record { none = refl })))
     record { none = refl }
 stutters s now me a E9 c e = absurd (let h : true ≡ false = e in cc)
 stutters s now me a D5 c e =
     both _ _ (same_ref c a.head) _ _
-    (both _ _ (nat_eq a.head.node a.tail.node) _ _ (both _ _ (is_null a.next) _ _ record { none = refl } (both _ _ (nat_eq a.tail.count s.limit) _ _ record { none = refl } record { none = refl })) record { none = refl })
+    (both _ _ (nat_eq a.head.node a.tail.node) _ _ (both _ _ (is_null a.next) _ _ record { none = refl } (both _ _ (is_shut a.next) _ _ record { none = refl } (both _ _ (nat_eq a.tail.count s.limit) _ _ record { none = refl } record { none = refl }))) record { none = refl })
     record { none = refl }
 stutters s now me a D12 c e = both _ _ (nat_eq a.head.count s.limit) _ _ record { none = refl } record { none = refl }
 stutters s now me a D13 c e = absurd (let h : true ≡ false = e in cc)
 stutters s now me a A3 c e = both _ _ (nat_eq c 0) _ _ record { none = refl } record { none = refl }
 stutters s now me a A5 c e = absurd (let h : true ≡ false = e in cc)
+stutters s now me a A7 c e = left_with_node_adds _ _ now a.due a
 stutters s now me a B1 c e = both _ _ (nat_eq c 0) _ _ record { none = refl } record { none = refl }
-stutters s now me a B3 c e = both _ _ (is_null c) _ _ record { none = refl } record { none = refl }
+stutters s now me a B3 c e = both _ _ (is_null c) _ _ record { none = refl } (both _ _ (is_shut c) _ _ record { none = refl } record { none = refl })
 stutters s now me a B4 c e = both _ _ (nat_eq a.head.count s.limit) _ _ record { none = refl } record { none = refl }
 stutters s now me a B5 c e = absurd (let h : true ≡ false = e in cc)
 stutters s now me a B6 c e = unlocked_adds _ _ now a.due a
+stutters s now me a S3 c e =
+    both _ _ (same_ref c a.tail) _ _ (both _ _ (is_null a.next) _ _ record { none = refl } (both _ _ (is_shut a.next) _ _ record { none = refl } (both _ _ (nat_eq a.tail.count s.limit) _ _ record { none = refl } record { none = refl })))
+    record { none = refl }
+stutters s now me a S4 c e = absurd (let h : true ≡ false = e in cc)
+stutters s now me a S6 c e = both _ _ (nat_eq c 0) _ _ record { none = refl } record { none = refl }
+stutters s now me a S8 c e = absurd (let h : true ≡ false = e in cc)
+stutters s now me a S9 c e = left_adds _ _ now a.due a
 stutters s now me a _ c e = record { none = refl }
 
 -- the outcome of a line adds the entries of the line
@@ -143,8 +175,22 @@ line_gains s now me a D13 c h = won (same_ref c a.head)
     won : (b : Bool) → gained me a.op (if b then effect now (goes F1 (fills_hand a.head.node a.next.count (record a { due = Some (Value a.val) }))) else goes D2 a) ≡ (if b then Pop me a.val ∷ [] else [])
     won true = refl
     won false = refl
-line_gains s now me a A5 c h = pushed_is me a.op a.val h
+line_gains s now me a A5 c h = won (same_ref c null)
+  where
+    won : (b : Bool) → gained me a.op (if b then effect now (goes A6 (empties_hand (record a { due = Some Done }))) else goes A7 (record a { due = Some (Refused Closed) })) ≡ (if b then Push me a.val.body ∷ [] else [])
+    won true = pushed_is me a.op a.val h
+    won false = refl
 line_gains s now me a B5 c h = refl
+line_gains s now me a S4 c h = won (same_ref c a.next)
+  where
+    won : (b : Bool) → gained me a.op (if b then effect now (ends now Done a) else goes S1 a) ≡ (if b then ShutEntry me ∷ [] else [])
+    won true = shut_is me a.op h
+    won false = refl
+line_gains s now me a S8 c h = won (same_ref c null)
+  where
+    won : (b : Bool) → gained me a.op (if b then effect now (goes S9 (record a { due = Some Done })) else goes S9 (record a { due = Some (Refused Closed) })) ≡ (if b then ShutEntry me ∷ [] else [])
+    won true = shut_is me a.op h
+    won false = refl
 line_gains s now me a l c h = (stutters s now me a l c refl).none
 
 -- the entries that a move adds: those of a step at the line of its actor
@@ -262,10 +308,10 @@ pub history_is : (t : Traced) → IsTraced t → t.history ≡ entries t.world
 history_is t r =
     traced_booked r.moves (first_trace t.world.setup r.actors) t (record { actors = r.actors; moves = []; sized = r.sized; led = refl }) refl r.led ∙ sym (entries_booked t.world)
 
--- it leads to the values of the queue
+-- it leads to the queue that the chain from Head holds
 pub history_plays : (t : Traced) → IsTraced t → PlaysToItsValues t
 history_plays t r queue chain =
-    subst (λ es. Plays empty es (record { values = queue_values t.world.shared queue })) (sym (history_is t r)) (plays_to_the_values t.world (traced_reached t r) queue chain)
+    subst (λ es. Plays empty es (queue_in t.world.shared queue)) (sym (history_is t r)) (plays_to_the_values t.world (traced_reached t r) queue chain)
 
 -- Head's count is the number of its pops
 pub counts_pops : (t : Traced) → IsTraced t → CountsItsPops t

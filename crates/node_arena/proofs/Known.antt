@@ -1,5 +1,5 @@
 -- What the machine's invariant has of a seat's actor before a line, in either queue: a call that runs needn't carry it.
-use Rattle.std.proofs.Common.{◌≡◌, ℕ, ◌≤◌, ◌<◌, Some, None, IfSome, length, refl, subst}
+use Rattle.std.proofs.Common.{◌≡◌, ℕ, ◌≤◌, ◌<◌, Some, IfSome, length, refl, subst}
 use Rattle.line_table.specs.declared.lines.Kind.{Kind}
 use Rattle.line_table.specs.declared.lines.Kind.TheVariants.{TwoLock, NonBlocking}
 use Rattle.line_table.specs.declared.lines.Line.{Line}
@@ -10,7 +10,8 @@ use Rattle.step_machine.specs.Range.{RegistersInRange, LineInRange, ActorInRange
 use Rattle.step_machine.specs.ProgramCounters.{NonNullAt}
 use Rattle.step_machine.specs.EachQueue.{raised_at}
 use Rattle.step_machine.proofs.Reached.{reached_in_range, actor_in_range}
-use Rattle.step_machine.proofs.Fixed.{FixedAt}
+use Rattle.line_table.specs.Sections.{section_of}
+use Rattle.step_machine.proofs.Fixed.{FixedAt, PocketAt}
 use Rattle.step_machine.proofs.EitherQueue.{stands_at, fixed_at}
 use Rattle.step_machine.proofs.TwoLockLaws as two_lock
 use Rattle.step_machine.proofs.NonBlockingLaws as non_blocking
@@ -61,6 +62,6 @@ known_before r s prologue l h =
     let d : Stood r.plan (view s).number b l = stood r.plan (view s) prologue l h.seat.sits.fitted h.can h.line in
     subst (λ (x : Setup). Known x (view s).number b l) d.setup (known d.trace.world (traced_reached d.trace d.reached) (view s).number b l d.here d.line)
 
--- its pocket is empty
-pub empty_before : (r : Arena) (s : Seat) (prologue : Prologue) (l : Line) → IsBefore r s prologue l → (after_prologue r.plan.setup (view s).number prologue (view s).actor).pocket ≡ None
+-- its pocket is empty, but for a shut
+pub empty_before : (r : Arena) (s : Seat) (prologue : Prologue) (l : Line) → IsBefore r s prologue l → PocketAt (section_of l) (after_prologue r.plan.setup (view s).number prologue (view s).actor).pocket
 empty_before r s prologue l h = (known_before r s prologue l h).fixed.pocket

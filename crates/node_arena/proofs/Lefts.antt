@@ -1,7 +1,8 @@
 -- The values left in a queue, by the words of its table.
-use Rattle.std.proofs.Common.{◌≡◌, ◌≢◌, ℕ, ◌+◌, ◌*◌, ◌≤◌, zero, suc, List, [], ◌∷◌, ◌++◌, length, get_or, refl, sym, subst, ◌∙◌, append-nil, append_assoc, arith}
+use Rattle.std.proofs.Common.{◌≡◌, ◌≢◌, ℕ, ◌+◌, ◌*◌, ◌≤◌, ◌<◌, Bool, true, false, nat_eq, zero, suc, List, [], ◌∷◌, ◌++◌, length, get_or, ◌⊎◌, inl, inr, eq-eqb, ne_eqb, refl, sym, subst, ◌∙◌, append-nil, append_assoc, arith}
 use mathlib.Core.Option.{some, some-injective, some-ne-none}
 use lib.ListN.{get_elem?}
+use Rattle.counted_ref.specs.Ref.{reserved_node}
 use Rattle.history.specs.declared.operations.Taken.{Taken}
 use Rattle.line_steps.specs.Words.{value_of}
 use Rattle.node_arena.specs.Remains.{ref_at, HasNode, HaveValues, HasValues}
@@ -13,52 +14,69 @@ got_word (w ∷ ws) (suc i) word e = got_word ws i word e
 
 -- on the way along a chain: some values were read, and others follow, for which there is room
 pub record Walks (words : List ℕ) (first node : ℕ) (read : List Taken) (len most : ℕ) : Type 0 where
+  pub shut : Bool
   pub rest : List Taken
-  pub chain : HaveValues words node rest
+  pub chain : HaveValues words shut node rest
   pub room : len + length rest ≤ most
   pub few : len + length rest ≤ length words
-  pub so_far : (values : List Taken) → HaveValues words node values → HaveValues words first (read ++ values)
+  pub so_far : (values : List Taken) → HaveValues words shut node values → HaveValues words shut first (read ++ values)
 
 -- at the first node
 pub walks-none : (words : List ℕ) (first len most : ℕ) → len ≡ 0 → HasValues words first most → Walks words first first [] len most
 walks-none words first len most none h =
-    record { rest = h.values; chain = h.chain; room = omega (arith, none, h.room); few = omega (arith, none, h.few); so_far = λ values c. c }
+    record { shut = h.shut; rest = h.values; chain = h.chain; room = omega (arith, none, h.room); few = omega (arith, none, h.few); so_far = λ values c. c }
 
--- a node that isn't null has a value
-pub record HasOne (words : List ℕ) (node : ℕ) (rest : List Taken) : Type 0 where
+-- a node that isn't the chain's end has a value
+pub record HasOne (words : List ℕ) (shut : Bool) (node : ℕ) (rest : List Taken) : Type 0 where
   pub others : List Taken
   pub some : 1 ≤ node
+  pub linked : node < reserved_node
   pub there : HasNode words node
   pub len : length rest ≡ length others + 1
-  pub chain : HaveValues words (ref_at words (4 + 2 * node)).node others
+  pub chain : HaveValues words shut (ref_at words (4 + 2 * node)).node others
 
-pub has_one : (words : List ℕ) (node : ℕ) (rest : List Taken) → node ≢ 0 → HaveValues words node rest → HasOne words node rest
-has_one words node [] ne h = absurd (ne h)
-has_one words node (v ∷ vs) ne h = record { others = vs; some = h.0; there = h.1; len = omega arith; chain = h.3 }
+pub has_one : (words : List ℕ) (shut : Bool) (node : ℕ) (rest : List Taken) → node ≢ 0 → node ≢ reserved_node → HaveValues words shut node rest → HasOne words shut node rest
+has_one words true node [] ne linked h = absurd (linked h)
+has_one words false node [] ne linked h = absurd (ne h)
+has_one words shut node (v ∷ vs) ne linked h = record { others = vs; some = h.0; linked = h.1; there = h.2; len = omega arith; chain = h.4 }
 
 -- one value more was read
-pub walks-more : (words : List ℕ) (first node next : ℕ) (read : List Taken) (value : Taken) (len len' most most' : ℕ) → (w : Walks words first node read len most) → node ≢ 0
+pub walks-more : (words : List ℕ) (first node next : ℕ) (read : List Taken) (value : Taken) (len len' most most' : ℕ) → (w : Walks words first node read len most) → node ≢ 0 → node ≢ reserved_node
     → value ≡ value_of (get_or words (5 + 2 * node) 0) → next ≡ (ref_at words (4 + 2 * node)).node → len' ≡ len + 1 → most ≤ most' → Walks words first next (read ++ value ∷ []) len' most'
-walks-more words first node next read value len len' most most' w ne is to longer more =
-    let o : HasOne words node w.rest = has_one words node w.rest ne w.chain in
+walks-more words first node next read value len len' most most' w ne linked is to longer more =
+    let o : HasOne words w.shut node w.rest = has_one words w.shut node w.rest ne linked w.chain in
     record {
+      shut = w.shut;
       rest = o.others;
-      chain = subst (λ n. HaveValues words n o.others) (sym to) o.chain;
+      chain = subst (λ n. HaveValues words w.shut n o.others) (sym to) o.chain;
       room = omega (arith, w.room, o.len, longer, more);
       few = omega (arith, w.few, o.len, longer);
-      so_far = λ values c. subst (HaveValues words first) (sym (append_assoc read (value ∷ []) values)) (w.so_far (value ∷ values) (o.some, o.there, is, subst (λ n. HaveValues words n values) to c));
+      so_far = λ values c. subst (HaveValues words w.shut first) (sym (append_assoc read (value ∷ []) values)) (w.so_far (value ∷ values) (o.some, o.linked, o.there, is, subst (λ n. HaveValues words w.shut n values) to c));
     }
 
--- at null all values were read
-pub walks-all : (words : List ℕ) (first node : ℕ) (read : List Taken) (len most : ℕ) → Walks words first node read len most → node ≡ 0 → HaveValues words first read
-walks-all words first node read len most w null = subst (HaveValues words first) (append-nil read) (w.so_far [] null)
+-- at an end all values were read
+walks-end : (words : List ℕ) (first node : ℕ) (read rest : List Taken) (shut : Bool) → (node ≡ 0) ⊎ (node ≡ reserved_node) → HaveValues words shut node rest → ((values : List Taken) → HaveValues words shut node values → HaveValues words shut first (read ++ values)) → HaveValues words (nat_eq node reserved_node) first read
+walks-end words first node read [] true end chain so_far =
+    subst (λ b. HaveValues words b first read) (sym (eq-eqb node reserved_node chain)) (subst (HaveValues words true first) (append-nil read) (so_far [] chain))
+walks-end words first node read [] false end chain so_far =
+    subst (λ b. HaveValues words b first read) (sym (ne_eqb node reserved_node (λ e. omega (arith, chain, e)))) (subst (HaveValues words false first) (append-nil read) (so_far [] chain))
+walks-end words first node read (v ∷ vs) shut (inl none) chain so_far = absurd (let low = chain.0 in omega (arith, none, low))
+walks-end words first node read (v ∷ vs) shut (inr end) chain so_far = absurd (let high = chain.1 in omega (arith, end, high))
+
+pub walks-all : (words : List ℕ) (first node : ℕ) (read : List Taken) (len most : ℕ) → Walks words first node read len most → (node ≡ 0) ⊎ (node ≡ reserved_node) → HaveValues words (nat_eq node reserved_node) first read
+walks-all words first node read len most w end = walks-end words first node read w.rest w.shut end w.chain w.so_far
 
 -- the values from a node on are no others
-pub same_values : (words : List ℕ) (node : ℕ) (us vs : List Taken) → HaveValues words node us → HaveValues words node vs → us ≡ vs
-same_values words node [] [] g h = refl
-same_values words node [] (v ∷ vs) g h = absurd (let low = h.0 in omega (arith, g, low))
-same_values words node (u ∷ us) [] g h = absurd (let low = g.0 in omega (arith, h, low))
-same_values words node (u ∷ us) (v ∷ vs) g h =
-    let one : u ≡ v = g.2 ∙ sym h.2 in
-    let more : us ≡ vs = same_values words (ref_at words (4 + 2 * node)).node us vs g.3 h.3 in
-    λ i. one i ∷ more i
+pub same_values : (words : List ℕ) (shut also : Bool) (node : ℕ) (us vs : List Taken) → HaveValues words shut node us → HaveValues words also node vs → (us ≡ vs) × (shut ≡ also)
+same_values words true true node [] [] g h = (refl, refl)
+same_values words false false node [] [] g h = (refl, refl)
+same_values words true false node [] [] g h = absurd (omega (arith, g, h))
+same_values words false true node [] [] g h = absurd (omega (arith, g, h))
+same_values words true also node [] (v ∷ vs) g h = absurd (let high = h.1 in omega (arith, g, high))
+same_values words false also node [] (v ∷ vs) g h = absurd (let low = h.0 in omega (arith, g, low))
+same_values words shut true node (u ∷ us) [] g h = absurd (let high = g.1 in omega (arith, h, high))
+same_values words shut false node (u ∷ us) [] g h = absurd (let low = g.0 in omega (arith, h, low))
+same_values words shut also node (u ∷ us) (v ∷ vs) g h =
+    let one : u ≡ v = g.3 ∙ sym h.3 in
+    let more = same_values words shut also (ref_at words (4 + 2 * node)).node us vs g.4 h.4 in
+    ((λ i. one i ∷ more.0 i), more.1)

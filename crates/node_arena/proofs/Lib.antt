@@ -19,6 +19,7 @@ pub mod Gathers
 pub mod Lefts
 pub mod Ends
 pub mod Noted
+pub mod Shuts
 pub mod Between
 pub mod Causes
 pub mod Empties

@@ -1,11 +1,11 @@
 -- Seats that meet. No move of the world is made.
-use Rattle.std.proofs.Common.{◌≡◌, ◌≢◌, ℕ, ◌<◌, None, List, [], ◌∷◌, ◌++◌, zero, suc, length, get_or, set, sym, refl, ap, ◌∙◌, subst, ⊎_elim, ◌⊎◌, inl, inr, arith, append-nil}
+use Rattle.std.proofs.Common.{◌≡◌, ◌≢◌, ℕ, ◌<◌, None, List, [], ◌∷◌, ◌++◌, zero, suc, length, get_or, set, sym, refl, ap, ◌∙◌, subst, ⊎_elim, ◌⊎◌, inl, inr, arith, append-nil, nat_lt}
 use Rattle.std.proofs.lemmas.List.{set-get_or}
 use mathlib.Core.Option.{some, some-injective, some-ne-none}
 use lib.ListN.{get_elem?}
 use Rattle.atomic_table.specs.Table.{State, Me, Splits, Joins, Allows, keeps}
 use Rattle.atomic_table.proofs.Lists.{at_set, set_else, set_again}
-use Rattle.history.specs.Entries.{is_push, is_pop}
+use Rattle.history.specs.Entries.{is_push, is_pop, is_shut}
 use Rattle.history.specs.Seats.{IsNoted}
 use Rattle.node_arena.specs.Traces.{Traced, changed}
 use Rattle.node_arena.specs.Seeing.{SeatView, View, keeper, seated, paired, spent, members, knows, knows_second, both_of, first_of, second_of}
@@ -202,6 +202,7 @@ sits_so r s t v i here me number actor mine fitted =
           role = i.seat.sits.role;
           pushes = i.seat.sits.pushes ∙ ap (count_by is_push) (sym (ap (λ w. w.mine) is ∙ mine));
           pops = i.seat.sits.pops ∙ ap (count_by is_pop) (sym (ap (λ w. w.mine) is ∙ mine));
+          shut = i.seat.sits.shut ∙ ap (λ es. nat_lt 0 (count_by is_shut es)) (sym (ap (λ w. w.mine) is ∙ mine));
           fitted = subst (Fitted r.plan) (sym is) fitted;
         };
       };

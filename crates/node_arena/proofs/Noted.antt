@@ -1,26 +1,38 @@
--- A queue that is found empty: where what follows Head's node is null, the history leaves the empty queue.
-use Rattle.std.proofs.Common.{◌≡◌, ℕ, ◌≤◌, List, [], ◌∷◌, ap, subst, ◌∙◌}
+-- A queue that is found empty: where what follows Head's node is null, the history leaves it empty, and where that is a closed
+-- end, it leaves it empty and shut.
+use Rattle.std.proofs.Common.{◌≡◌, ◌<◌, true, [], ◌∷◌, sym, ap, subst, ◌∙◌, length}
+use Rattle.counted_ref.specs.Ref.{reserved_node}
 use Rattle.history.specs.Queue.{empty}
-use Rattle.history.specs.Entries.{Plays}
-use Rattle.line_steps.specs.Memory.{node_at}
-use Rattle.step_machine.specs.Machine.{World}
-use Rattle.step_machine.specs.Places.{IsChain}
-use Rattle.step_machine.specs.Chains.{queue_values}
-use Rattle.step_machine.proofs.Chains.{chain_some, chain_none}
+use Rattle.history.specs.Entries.{Plays, Leads}
+use Rattle.line_steps.specs.Memory.{Shared, node_at}
+use Rattle.step_machine.specs.Places.{IsQueueChain}
+use Rattle.step_machine.specs.Chains.{values_of, is_shut_chain}
+use Rattle.step_machine.proofs.Chains.{next_in, alone_at_end, shut_alone, empty_behind}
+use Rattle.step_machine.proofs.Reached.{few_nodes}
 use Rattle.node_arena.specs.Traces.{Traced, IsTraced}
 use Rattle.node_arena.proofs.Tracing.{traced_reached}
 use Rattle.node_arena.proofs.Histories.{history_plays}
-use Rattle.step_machine.proofs.EitherQueue.{have_their_places}
+use Rattle.step_machine.proofs.EitherQueue.{HasChains, reached_chains}
 
--- a chain whose first node leads nowhere is that node alone, and has no values
-no_values : (w : World) (queue : List ℕ) → 1 ≤ w.shared.head.node → IsChain w.shared.nodes w.shared.head.node queue → (node_at w.shared w.shared.head.node).next.node ≡ 0 → queue_values w.shared queue ≡ []
-no_values w queue least chain null =
-    let c = chain_some w.shared.nodes w.shared.head.node queue least chain in
-    let d : IsChain w.shared.nodes w.shared.head.node (w.shared.head.node ∷ c.0) = subst (IsChain w.shared.nodes w.shared.head.node) c.1 chain in
-    ap (queue_values w.shared) c.1 ∙ ap (λ ns. queue_values w.shared (w.shared.head.node ∷ ns)) (chain_none w.shared.nodes (node_at w.shared w.shared.head.node).next.node c.0 null d.3)
+module _ (t : Traced) (r : IsTraced t) where
+  abbrev p : HasChains t.world
+  p = reached_chains t.world (traced_reached t r)
 
--- where what follows Head's node is null, the history leaves the empty queue
-pub leaves_nothing : (t : Traced) → IsTraced t → 1 ≤ t.world.shared.head.node → (node_at t.world.shared t.world.shared.head.node).next.node ≡ 0 → Plays empty t.history empty
-leaves_nothing t r least null =
-    let p = have_their_places t.world (traced_reached t r) in
-    subst (λ vs. Plays empty t.history (record { values = vs })) (no_values t.world p.0 least p.2.queue_chain null) (history_plays t r p.0 p.2.queue_chain)
+  chain : IsQueueChain t.world.shared.nodes t.world.shared.head.node (p.front ∷ p.rest)
+  chain = p.sound.shape.queue_chain
+
+  -- where what follows Head's node is null, the history leaves the empty queue
+  pub leaves_nothing : (node_at t.world.shared t.world.shared.head.node).next.node ≡ 0 → Plays empty t.history empty
+  leaves_nothing none =
+      subst (Plays empty t.history) (empty_behind t.world.shared p.front p.rest chain (ap (next_in t.world.shared.nodes) (sym chain.0) ∙ none))
+      (history_plays t r (p.front ∷ p.rest) chain)
+
+  -- where it is a closed end, the history leaves it empty and shut
+  pub leaves_shut : (node_at t.world.shared t.world.shared.head.node).next.node ≡ reserved_node → Leads t.history true []
+  leaves_shut closed =
+      let m : Shared = t.world.shared in
+      let few : length m.nodes < reserved_node = few_nodes t.world (traced_reached t r) in
+      let behind : next_in m.nodes p.front ≡ reserved_node = ap (next_in m.nodes) (sym chain.0) ∙ closed in
+      let alone : p.rest ≡ [] = alone_at_end m.nodes m.head.node p.front p.rest few chain behind in
+      let shut : is_shut_chain m (p.front ∷ p.rest) ≡ true = shut_alone m m.head.node p.front p.rest few chain behind in
+      subst (Plays empty t.history) (λ i. record { values = values_of m (alone i); shut = shut i }) (history_plays t r (p.front ∷ p.rest) chain)

@@ -6,21 +6,24 @@ use Rattle.line_table.specs.declared.lines.Line.{Line}
 use Rattle.history.specs.declared.operations.Entry.{Entry}
 use Rattle.history.specs.declared.operations.Reply.TheVariants.{Refused}
 use Rattle.history.specs.declared.refusals.Refusal.{Refusal}
+use Rattle.history.specs.declared.refusals.Refusal.TheVariants.{Closed}
 use Rattle.history.specs.Answers.{SeesMore}
-use Rattle.history.proofs.Learning.{adds_then}
+use Rattle.history.specs.Entries.{Leads}
+use Rattle.history.proofs.Learning.{adds_then, push_refused_then, pop_refused_then}
 use Rattle.node_arena.specs.Machine.{Held, Actor, Outcome, World, actor_of, entry_or, action, found}
 use Rattle.node_arena.specs.Traces.{Event, Traced, entries_at, event_at, outcome_at, sees, step_at}
 use Rattle.node_arena.specs.Prologues.{Prologue, continues, after_prologue}
 use Rattle.node_arena.specs.Seeing.{SeatView, known_by}
 use Rattle.node_arena.specs.declared.arena.Arena.{Arena}
 use Rattle.node_arena.specs.declared.seats.Seat.{Seat}
-use Rattle.node_arena.specs.Rule.{notes_of}
+use Rattle.node_arena.specs.Rule.{notes_of, SaysOfSeen, FoundClosedAt}
 use Rattle.node_arena.specs.Seats.{IsSeat, IsBefore, KeepsStored, DidStep, view, keeping}
 use Rattle.node_arena.specs.Turns.{failed_at, failed_turns}
-use Rattle.node_arena.specs.Paths.{ExtendsPath, Passes, Acts, added, EndedAt, FailedAt, EndsFailed, IsRefusedAt, LastHeld, MetCause, NowHolds, IsSole}
+use Rattle.node_arena.specs.Paths.{ExtendsPath, FindsShut, FindsShutEmpty, Passes, Acts, added, EndedAt, FailedAt, EndsFailed, IsRefusedAt, LastHeld, MetCause, NowHolds, IsSole}
 use Rattle.node_arena.proofs.Tracing.{step_count, traced_reached}
 use Rattle.node_arena.proofs.Told.{has_own_cause, sole}
-use Rattle.node_arena.proofs.Noting.{AnswersNoEmpty, notes_nothing}
+use Rattle.node_arena.proofs.Empties.{closed_shut}
+use Rattle.node_arena.proofs.Noting.{IsSilent, AnswersSilently, notes_no, notes_nothing}
 
 -- no line
 pub no_walk : (v : SeatView) → ExtendsPath v v []
@@ -48,6 +51,22 @@ pass_then v w x es fs f g = record { walks = walk_then v w x es fs f.walks g.wal
 -- a seat that went through lines sees no less
 pub sees_on : (v w : SeatView) (es : List Event) → ExtendsPath v w es → SeesMore (known_by v) (known_by w)
 sees_on v w es f = record { number = f.number; between = f.rest; seen = f.seen; mine = f.mine; notes = f.notes }
+
+-- some lines, and then others that found the queue shut
+pub then_shut : (v w x : SeatView) (es fs : List Event) → ExtendsPath v w es → FindsShut w x fs → FindsShut v x (es ++ fs)
+then_shut v w x es fs f g =
+    record {
+      path = g.path ∙ ap (λ p. p ++ fs) f.path ∙ append_assoc v.path es fs;
+      found = push_refused_then (known_by v) (known_by w) (known_by x) Closed (sees_on v w es f) g.found;
+    }
+
+-- or shut and empty
+pub then_shut_empty : (v w x : SeatView) (es fs : List Event) → ExtendsPath v w es → FindsShutEmpty w x fs → FindsShutEmpty v x (es ++ fs)
+then_shut_empty v w x es fs f g =
+    record {
+      path = g.path ∙ ap (λ p. p ++ fs) f.path ∙ append_assoc v.path es fs;
+      found = pop_refused_then (known_by v) (known_by w) (known_by x) Closed (sees_on v w es f) g.found;
+    }
 
 -- lines before those of an effect
 pub then_act : (v w x : SeatView) (e e' : Entry) (es fs : List Event) → e ≡ e' → ExtendsPath v w es → Acts w x e fs → Acts v x e' (es ++ fs)
@@ -126,7 +145,7 @@ failed-append es fs = sum_by-append (λ e. failed_at e.line e.to) es fs
 
 -- a seat that keeps another pocket is still the arena's
 pub kept_seat : (r : Arena) (t : Seat) (p : Option Held) (n : ℕ) → IsSeat r t → IsSeat r (keeping t p n)
-kept_seat r t p n h = record { arena = h.arena; sits = record { table = h.sits.table; seat = h.sits.seat; number = h.sits.number; role = h.sits.role; pushes = h.sits.pushes; pops = h.sits.pops; fitted = h.sits.fitted } }
+kept_seat r t p n h = record { arena = h.arena; sits = record { table = h.sits.table; seat = h.sits.seat; number = h.sits.number; role = h.sits.role; pushes = h.sits.pushes; pops = h.sits.pops; shut = h.sits.shut; fitted = h.sits.fitted } }
 
 pub now_kept : (r : Arena) (t : Seat) (p : Option Held) (n : ℕ) (P : World → Type 0) → NowHolds r t P → NowHolds r (keeping t p n) P
 now_kept r t p n P h = record { now = h.now; reached = h.reached; setup = h.setup; peopled = h.peopled; actor = h.actor; path = h.path; holds = h.holds }
@@ -168,16 +187,50 @@ module _ (r : Arena) (s t : Seat) (prologue : Prologue) (l : Line) (n : ℕ) (d 
         seen = d.told.seen ∙ ap (λ es. ((view s).seen ++ d.told.rest) ++ es) none ∙ append-nil ((view s).seen ++ d.told.rest);
       }
 
-  -- the same at a line where the call doesn't answer empty
-  pub walk_on : entries_at r.plan.setup d.told.was (view s).number b l ≡ [] → AnswersNoEmpty b l → ExtendsPath (view s) (view t) (event ∷ [])
+  -- the same where its reply doesn't say that the queue is empty, or shut
+  pub walk_silent : entries_at r.plan.setup d.told.was (view s).number b l ≡ [] → IsSilent (outcome_at r.plan.setup d.told.was (view s).number b l).reply → ExtendsPath (view s) (view t) (event ∷ [])
+  walk_silent none quiet = walk_one none (notes_no (outcome_at r.plan.setup d.told.was (view s).number b l).reply (view t).seen quiet)
+
+  -- and at a line where the call doesn't answer so
+  pub walk_on : entries_at r.plan.setup d.told.was (view s).number b l ≡ [] → AnswersSilently b l → ExtendsPath (view s) (view t) (event ∷ [])
   walk_on none other = walk_one none (notes_nothing r.plan.setup (d.told.was.world.steps + 1) (view s).number b l (found (action r.plan.setup (view s).number b l) d.told.was.world.shared) (view t).seen other)
 
   -- and where the seat sees nothing
-  pub pass_on : entries_at r.plan.setup d.told.was (view s).number b l ≡ [] → AnswersNoEmpty b l → sees l ≡ false → Passes (view s) (view t) (event ∷ [])
+  pub pass_on : entries_at r.plan.setup d.told.was (view s).number b l ≡ [] → AnswersSilently b l → sees l ≡ false → Passes (view s) (view t) (event ∷ [])
   pass_on none other blind = record { walks = walk_on none other; same = d.told.stays blind }
 
+  -- it noted that the queue was found shut
+  pub shut_on : entries_at r.plan.setup d.told.was (view s).number b l ≡ [] → (outcome_at r.plan.setup d.told.was (view s).number b l).reply ≡ Some (Refused Closed) → FindsShut (view s) (view t) (event ∷ [])
+  shut_on none closed =
+      record {
+        path = d.told.path;
+        found = record {
+          number = d.told.number;
+          between = d.told.rest;
+          seen = d.told.seen ∙ ap (λ es. ((view s).seen ++ d.told.rest) ++ es) none ∙ append-nil ((view s).seen ++ d.told.rest);
+          shut = closed_shut l (view t).seen (subst (λ q. SaysOfSeen l q (view t).seen) closed d.told.says);
+          mine = d.told.mine ∙ ap (λ es. (view s).mine ++ es) none ∙ append-nil (view s).mine;
+          notes = d.told.notes ∙ ap (λ q. (view s).notes ++ notes_of q (view t).seen) closed;
+        };
+      }
+
+  -- or shut and empty, at a line that says so
+  pub shut_empty_on : entries_at r.plan.setup d.told.was (view s).number b l ≡ [] → (outcome_at r.plan.setup d.told.was (view s).number b l).reply ≡ Some (Refused Closed) → (FoundClosedAt l (view t).seen → Leads (view t).seen true []) → FindsShutEmpty (view s) (view t) (event ∷ [])
+  shut_empty_on none closed empty =
+      record {
+        path = d.told.path;
+        found = record {
+          number = d.told.number;
+          between = d.told.rest;
+          seen = d.told.seen ∙ ap (λ es. ((view s).seen ++ d.told.rest) ++ es) none ∙ append-nil ((view s).seen ++ d.told.rest);
+          empty = empty (subst (λ q. SaysOfSeen l q (view t).seen) closed d.told.says);
+          mine = d.told.mine ∙ ap (λ es. (view s).mine ++ es) none ∙ append-nil (view s).mine;
+          notes = d.told.notes ∙ ap (λ q. (view s).notes ++ notes_of q (view t).seen) closed;
+        };
+      }
+
   -- it had its effect: it added this entry
-  pub act_on : (e : Entry) → entries_at r.plan.setup d.told.was (view s).number b l ≡ e ∷ [] → AnswersNoEmpty b l → Acts (view s) (view t) e (event ∷ [])
+  pub act_on : (e : Entry) → entries_at r.plan.setup d.told.was (view s).number b l ≡ e ∷ [] → AnswersSilently b l → Acts (view s) (view t) e (event ∷ [])
   act_on e one other =
       record {
         path = d.told.path;

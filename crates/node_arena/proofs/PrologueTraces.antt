@@ -4,10 +4,10 @@ use Rattle.std.proofs.Math.ListN.{length-set}
 use Rattle.std.proofs.lemmas.Option.{none-some}
 use Rattle.line_table.specs.declared.lines.Kind.{Kind}
 use Rattle.line_table.specs.declared.lines.Line.{Line}
-use Rattle.line_table.specs.declared.lines.Line.TheVariants.{N1, N2, N3, N4, N5, F1, F2, F3, E2, E3, E5, E6, E7, E9, E13, E17, D2, D3, D4, D5, D10, D12, D13, A1, A2, A3, A4, A5, A6, A7, B1, B2, B3, B4, B5, B6}
+use Rattle.line_table.specs.declared.lines.Line.TheVariants.{N1, N2, N3, N4, N5, F1, F2, F3, E2, E3, E5, E6, E7, E9, E13, E17, D2, D3, D4, D5, D10, D12, D13, A1, A2, A3, A4, A5, A6, A7, B1, B2, B3, B4, B5, B6, S1, S2, S3, S4, S5, S6, S7, S8, S9}
 use Rattle.history.specs.declared.refusals.Refusal.TheVariants.{Busy as IsBusy}
 use Rattle.history.specs.declared.operations.Op.{Op}
-use Rattle.history.specs.declared.operations.Op.TheVariants.{Enq, Deq}
+use Rattle.history.specs.declared.operations.Op.TheVariants.{Enq, Deq, Shut}
 use Rattle.history.specs.declared.operations.Reply.{Reply}
 use Rattle.history.specs.declared.operations.Reply.TheVariants.{Refused}
 use Rattle.line_steps.specs.declared.actors.Actor.{Actor}
@@ -79,11 +79,21 @@ given now a B3 e h = absurd (none-some B3 (sym h ∙ e))
 given now a B4 e h = absurd (none-some B4 (sym h ∙ e))
 given now a B5 e h = absurd (none-some B5 (sym h ∙ e))
 given now a B6 e h = absurd (none-some B6 (sym h ∙ e))
+given now a S1 e h = (ends now (Refused IsBusy) a, refl, refl)
+given now a S2 e h = absurd (none-some S2 (sym h ∙ e))
+given now a S3 e h = absurd (none-some S3 (sym h ∙ e))
+given now a S4 e h = absurd (none-some S4 (sym h ∙ e))
+given now a S5 e h = absurd (none-some S5 (sym h ∙ e))
+given now a S6 e h = (ends now (Refused IsBusy) a, refl, refl)
+given now a S7 e h = absurd (none-some S7 (sym h ∙ e))
+given now a S8 e h = absurd (none-some S8 (sym h ∙ e))
+given now a S9 e h = absurd (none-some S9 (sym h ∙ e))
 
 -- a call that begins doesn't hang on the entry of the one before
 begun_afresh : (kind : Kind) (me : ℕ) (op : Op) (a : Actor) (entry : Option ℕ) → begun kind me op (record a { entry = entry }) ≡ begun kind me op a
 begun_afresh kind me (Enq body) a entry = refl
 begun_afresh kind me Deq a entry = refl
+begun_afresh kind me Shut a entry = refl
 
 -- one actor has another state
 led_one : (t : Traced) (w : World) (me : ℕ) (a b : Actor) → actor_of t.world me ≡ Some a → w.shared ≡ t.world.shared → w.setup ≡ t.world.setup → w.actors ≡ set t.world.actors (me - 1) b → Led t (record t { world = w }) me b

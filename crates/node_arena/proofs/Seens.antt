@@ -3,9 +3,9 @@ use Rattle.std.proofs.Common.{◌≡◌, ℕ, Bool, true, false, if◌then◌els
 use Rattle.std.specs.List.{All}
 use Rattle.std.proofs.lemmas.List.Elements.{All-nil, All-cons, All-head, All-tail}
 use Rattle.line_table.specs.declared.lines.Line.{Line}
-use Rattle.line_table.specs.declared.lines.Line.TheVariants.{E9, D13, A5, B5}
+use Rattle.line_table.specs.declared.lines.Line.TheVariants.{E9, D13, A5, B5, S4, S8}
 use Rattle.history.specs.declared.operations.Entry.{Entry}
-use Rattle.history.specs.declared.operations.Entry.TheVariants.{Push, Pop}
+use Rattle.history.specs.declared.operations.Entry.TheVariants.{Push, Pop, Shut}
 use Rattle.history.specs.Queue.{Queue, empty}
 use Rattle.history.specs.Entries.{Plays, IsQueueRun, own_entries}
 use Rattle.history.specs.Seats.{IsSound}
@@ -28,6 +28,8 @@ silent s me a E9 c e = absurd (let f : true ≡ false = e in cc)
 silent s me a D13 c e = absurd (let f : true ≡ false = e in cc)
 silent s me a A5 c e = absurd (let f : true ≡ false = e in cc)
 silent s me a B5 c e = absurd (let f : true ≡ false = e in cc)
+silent s me a S4 c e = absurd (let f : true ≡ false = e in cc)
+silent s me a S8 c e = absurd (let f : true ≡ false = e in cc)
 silent s me a _ c e = refl
 
 -- the history, which is `old` and `more` and then `es`, where a seat sees it, or else doesn't
@@ -70,7 +72,8 @@ All-first P (x ∷ xs) ys h = All-cons P x xs (All-head P x (xs ++ ys) h) (All-f
 
 plays_first : (xs ys : List Entry) (from to : Queue) → Plays from (xs ++ ys) to → (after : Queue) × Plays from xs after
 plays_first [] ys from to h = (from, refl)
-plays_first (Push seat body ∷ xs) ys from to h = plays_first xs ys _ to h
+plays_first (Push seat body ∷ xs) ys from to h = let r = plays_first xs ys _ to h.1 in (r.0, (h.0, r.1))
+plays_first (Shut seat ∷ xs) ys from to h = let r = plays_first xs ys _ to h.1 in (r.0, (h.0, r.1))
 plays_first (Pop seat value ∷ xs) ys from to h = let r = plays_first xs ys _ to h.1 in (r.0, (h.0, r.1))
 
 -- a beginning of a legal history is legal
@@ -89,6 +92,6 @@ seen_legal z v f = legal_first v.seen f.fits.rest (subst IsQueueRun f.fits.begin
 pub seen_permitted : (z : Layout) (v : SeatView) → Fitted z v → All (RolesPermit z.roles) v.seen
 seen_permitted z v f = All-first (RolesPermit z.roles) v.seen f.fits.rest (subst (All (RolesPermit z.roles)) f.fits.begins f.permitted)
 
--- its own entries are just those that it has seen, and the queue was empty where it noted that
+-- its own entries are just those that it has seen, and the queue was empty, or shut, where it noted that
 pub sound_of : (z : Layout) (v : SeatView) → Fitted z v → IsSound (permits_by z.roles) (seeing.known_by v)
 sound_of z v f = record { legal = seen_legal z v f; permitted = seen_permitted z v f; own = f.fits.known; noted = f.fits.noted }

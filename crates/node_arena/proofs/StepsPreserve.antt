@@ -28,11 +28,11 @@ use Rattle.node_arena.specs.Traces.{Traced, IsTraced, step_at, actor_at, outcome
 use Rattle.node_arena.specs.Prologues.{Prologue, after_prologue, CanStart}
 use Rattle.node_arena.specs.Seeing.{SeatView, View, keeper, seated, members, knows}
 use Rattle.node_arena.specs.Plans.{Layout, RolesPermit, PermitsLine}
-use Rattle.node_arena.specs.Rule.{SawAt, Fits, IsNew, Holds, notes_of, Steps, Tells, line_or_first}
+use Rattle.node_arena.specs.Rule.{SawAt, Fits, IsNew, Holds, notes_of, SaysOfSeen, Steps, Tells, line_or_first}
 use Rattle.node_arena.proofs.Tracing.{traced_reached, step_traced, step_here, step_else, step_count, changed_here, changed_else}
 use Rattle.node_arena.proofs.PrologueTraces.{Led, prologue_traced}
 use Rattle.node_arena.proofs.Histories.{counts_pops}
-use Rattle.node_arena.proofs.Empties.{noted_more, saw_later, saw_led, saw_after, noted_after}
+use Rattle.node_arena.proofs.Empties.{noted_more, saw_later, saw_led, saw_after, says_after, noted_after}
 use Rattle.node_arena.proofs.Entering.{own_added, none_added, permitted_added}
 use Rattle.node_arena.proofs.Seens.{silent, later, begins_by, between, seen_is, whole_by, stays_by, known_by}
 
@@ -166,11 +166,15 @@ module _ (z : Layout) (s : State ℕ View) (h : Holds z s) (id : ℕ) (v : SeatV
   saw : sees l ≡ false → SawAt u v'.seen a (Some l) a.due
   saw e = subst (λ (y : List Entry × Option Line). SawAt u y.0 a y.1 a.due) (λ i. (sym (stays e) i, line i)) (saw_led h.trace u v.seen z.setup v.number prologue v.actor (let c = ap (λ m. m.head.count) f.shared in omega arith) fit.saw)
 
+  -- what its reply says of the queue
+  says : SaysOfSeen l (outcome_at u.world.setup u v.number a l).reply v'.seen
+  says = says_after u v.number a v'.seen l led_there.1 f.here line whole saw
+
   noted : All (IsNoted v'.seen) v'.notes
   noted =
       All-append (IsNoted v'.seen) v.notes _
       (subst (λ es. All (IsNoted es) v.notes) (sym seen) (All-weaker (IsNoted v.seen) _ (noted_more v.seen _) v.notes fit.noted))
-      (subst (λ s. All (IsNoted v'.seen) (notes_of (outcome_at s u v.number a l).reply v'.seen)) setup (noted_after u v.number a v'.seen l led_there.1 f.here line saw))
+      (subst (λ s. All (IsNoted v'.seen) (notes_of (outcome_at s u v.number a l).reply v'.seen)) setup (noted_after u v.number a v'.seen l says))
 
   me : Fits t v'
   me = record {
@@ -263,6 +267,7 @@ module _ (z : Layout) (s : State ℕ View) (h : Holds z s) (id : ℕ) (v : SeatV
     stays = stays;
     mine = refl;
     notes = refl;
+    says = subst (λ s. SaysOfSeen l (outcome_at s u v.number a l).reply v'.seen) setup says;
     fits = me;
     permitted = permitted;
   }

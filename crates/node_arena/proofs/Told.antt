@@ -14,21 +14,20 @@ use Rattle.history.specs.declared.operations.Reply.TheVariants.{Refused}
 use Rattle.line_steps.specs.declared.actors.Actor.{Actor}
 use Rattle.line_steps.specs.declared.actors.Node.{Node}
 use Rattle.line_steps.specs.Memory.{blank, node_at, found}
-use Rattle.line_steps.specs.declared.actors.Setup.{Setup}
 use Rattle.line_steps.specs.Lines.{action, outcome, raised}
 use Rattle.step_machine.specs.Machine.{World, actor_of, IsReached}
 use Rattle.step_machine.specs.Tables.{SharedFits}
 use Rattle.step_machine.specs.Range.{WorldInRange, ActorInRange}
-use Rattle.step_machine.specs.Places.{IsFree, times, held, in_hand, one_if}
+use Rattle.step_machine.specs.Places.{IsNull, IsFree, times, held, in_hand, one_if}
 use Rattle.step_machine.specs.EachQueue.{HasItsPlaces, HasCause, HasCauseFor}
-use Rattle.step_machine.proofs.Reached.{reached_in_range, actor_in_range}
+use Rattle.step_machine.proofs.Reached.{below_closed, reached_in_range, actor_in_range}
 use Rattle.step_machine.proofs.LinearizationSteps.{raised_node}
 use Rattle.step_machine.proofs.Fits.{shared_fits}
-use Rattle.step_machine.proofs.Chains.{one_if_same, chain_same, chain_some}
+use Rattle.step_machine.proofs.Chains.{one_if_same, chain_some}
 use Rattle.step_machine.proofs.Counting.{holds as holds_of, held_one}
 use Rattle.step_machine.proofs.StampsInvariants.{actor_stands}
 use Rattle.step_machine.proofs.TwoLockLaws as two_lock
-use Rattle.step_machine.proofs.EitherQueue.{contained, have_their_places}
+use Rattle.step_machine.proofs.EitherQueue.{contained, same_queue, same_free, have_their_places}
 use Rattle.step_machine.proofs.TwoLockCounts.{count_nothing}
 use Rattle.step_machine.proofs.NonBlockingLaws as non_blocking
 use Rattle.node_arena.specs.Traces.{outcome_at}
@@ -98,8 +97,8 @@ sole w me a r there holds some =
     record {
       holder = subst (λ o. IsSomeAnd o (λ b. in_hand a.node b ≡ 1)) (sym there) h;
       once = omega arith;
-      not_queued = λ q. let t = subst (λ ns. 1 ≤ times a.node ns) (chain_same w.shared.nodes q.0 p.0 w.shared.head.node q.1 p.2.queue_chain) (contained a.node q.0 q.2.0 q.2.1 q.2.2) in omega arith;
-      not_free = λ q. let t = subst (λ ns. 1 ≤ times a.node ns) (chain_same w.shared.nodes q.0 p.1 w.shared.free.node q.1 p.2.free_chain) (contained a.node q.0 q.2.0 q.2.1 q.2.2) in omega arith;
+      not_queued = λ q. let t = subst (λ ns. 1 ≤ times a.node ns) (same_queue w r q.0 p.0 q.1 p.2.queue_chain) (contained a.node q.0 q.2.0 q.2.1 q.2.2) in omega arith;
+      not_free = λ q. let t = subst (λ ns. 1 ≤ times a.node ns) (same_free w q.0 p.1 q.1 p.2.free_chain) (contained a.node q.0 q.2.0 q.2.1 q.2.2) in omega arith;
     }
   where
     used_node : (n h fresh : ℕ) → 1 ≤ h → (fresh < n → h ≡ 0) → n ≤ fresh
@@ -112,12 +111,12 @@ sole w me a r there holds some =
 pub first_is_free : (w : World) → IsReached w → 1 ≤ w.shared.free.node → IsFree w w.shared.free.node
 first_is_free w r some =
     let p : HasItsPlaces w = have_their_places w r in
-    let c = chain_some w.shared.nodes w.shared.free.node p.1 some p.2.free_chain in
+    let c = chain_some IsNull w.shared.nodes w.shared.free.node p.1 (λ null. omega (arith, some, null)) p.2.free_chain in
     (p.1, p.2.free_chain, subst (λ ns. Contains ns w.shared.free.node) (sym c.1) (0, omega arith, refl))
 
--- a raised reference names the other node, below the limit
-pub raised_names : (s : Setup) (x : Ref) (to : ℕ) → x.count ≢ s.limit → (raised s x to).node ≡ to
-raised_names = raised_node
+-- a raised reference names the other node, one that was used, below the limit
+pub raised_names : (w : World) (x : Ref) (to : ℕ) → WorldInRange w → to ≤ w.shared.fresh → x.count ≢ w.setup.limit → (raised w.setup x to).node ≡ to
+raised_names w x to h low = raised_node w.setup x to (below_closed w to h low)
 
 -- no step of the non-blocking queue is refused since Head is worn out
 pub head_is_not_worn : (z : Layout) (prologue : Prologue) (l : Line) (n : ℕ) (v v' : SeatView) → z.setup.kind ≡ NonBlocking → (h : Steps z prologue l n v v') → (outcome_at z.setup h.was v.number (after_prologue z.setup v.number prologue v.actor) l).reply ≢ Some (Refused (WornOut OfHead))

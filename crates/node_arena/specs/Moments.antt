@@ -16,7 +16,7 @@ use Rattle.node_arena.specs.Plans.{Layout}
 use Rattle.node_arena.specs.Rule.{Holds}
 
 -- a list of moves leads from the opening world to one with exactly these words, in which the actor of each seat is as the
--- seat says; of the pushes and pops of its operations a seat has seen the first ones, and just those by its actor are the
+-- seat says; of the pushes, pops and shuts of its operations a seat has seen the first ones, and just those by its actor are the
 -- seat's own; its history is placed and legal, and linearizable
 pub record IsLinearizableMoment (z : Layout) (s : State ℕ View) : Type 0 where
   pub actors : ℕ

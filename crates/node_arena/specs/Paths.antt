@@ -4,9 +4,9 @@ use Rattle.line_table.specs.declared.lines.Line.{Line}
 use Rattle.history.specs.declared.operations.Entry.{Entry}
 use Rattle.history.specs.declared.operations.Reply.TheVariants.{Refused}
 use Rattle.history.specs.declared.refusals.Refusal.{Refusal}
-use Rattle.history.specs.declared.refusals.Refusal.TheVariants.{WornOut}
+use Rattle.history.specs.declared.refusals.Refusal.TheVariants.{WornOut, Closed}
 use Rattle.history.specs.declared.refusals.WornWord.TheVariants.{Next as OfNext}
-use Rattle.history.specs.Answers.{Adds}
+use Rattle.history.specs.Answers.{Adds, FoundShut, FoundShutEmpty}
 use Rattle.line_steps.specs.declared.actors.Setup.{Setup}
 use Rattle.line_steps.specs.declared.actors.Actor.{Actor}
 use Rattle.line_steps.specs.Memory.{node_at}
@@ -41,6 +41,16 @@ pub record Acts (v v' : SeatView) (e : Entry) (lines : List Event) : Type 0 wher
   pub path : v'.path ≡ v.path ++ lines
   pub adds : Adds (known_by v) e (known_by v')
 
+-- a seat went through these lines, and its call found the queue shut, which is noted
+pub record FindsShut (v v' : SeatView) (lines : List Event) : Type 0 where
+  pub path : v'.path ≡ v.path ++ lines
+  pub found : FoundShut (known_by v) (known_by v')
+
+-- the same of a pop, which found the queue shut and empty
+pub record FindsShutEmpty (v v' : SeatView) (lines : List Event) : Type 0 where
+  pub path : v'.path ≡ v.path ++ lines
+  pub found : FoundShutEmpty (known_by v) (known_by v')
+
 -- what a call added to its seat's path
 abbrev pub added : Seat → Seat → List Event
 added s t = drop (length (view s).path) (view t).path
@@ -49,6 +59,16 @@ added s t = drop (length (view s).path) (view t).path
 -- has seen is only longer
 abbrev pub HadNoEffect : Seat → Seat → Type 0
 HadNoEffect s t = ExtendsPath (view s) (view t) (added s t)
+
+-- a push or a shut was refused so: it found the queue shut, or had no effect
+abbrev pub StopsAPush : Seat → Seat → Refusal → Type 0
+StopsAPush s t Closed = FindsShut (view s) (view t) (added s t)
+StopsAPush s t why = HadNoEffect s t
+
+-- a pop was refused so: it found the queue shut and empty, or had no effect
+abbrev pub StopsAPop : Seat → Seat → Refusal → Type 0
+StopsAPop s t Closed = FindsShutEmpty (view s) (view t) (added s t)
+StopsAPop s t why = HadNoEffect s t
 
 -- what a seat has seen is as it was
 abbrev pub SeesNoMore : Seat → Seat → Type 0

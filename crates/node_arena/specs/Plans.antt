@@ -2,7 +2,7 @@
 use Rattle.std.specs.Prelude.{◌≡◌, ◌+◌, ◌*◌, Bool, true, false, IsTrue, List, length, map}
 use Rattle.atomic_table.specs.Seated.{TableId}
 use Rattle.line_table.specs.declared.lines.Line.{Line}
-use Rattle.line_table.specs.declared.lines.Line.TheVariants.{E9, D13, A5, B5}
+use Rattle.line_table.specs.declared.lines.Line.TheVariants.{E9, D13, A5, B5, S4, S8}
 use Rattle.history.specs.declared.operations.Entry.{Entry}
 use Rattle.history.specs.Seats as seats
 use Rattle.history.specs.Seats.{Permit}
@@ -42,6 +42,8 @@ PermitsLine r E9 = IsTrue (may_push r)
 PermitsLine r A5 = IsTrue (may_push r)
 PermitsLine r D13 = IsTrue (may_pop r)
 PermitsLine r B5 = IsTrue (may_pop r)
+PermitsLine r S4 = IsTrue (may_push r)
+PermitsLine r S8 = IsTrue (may_push r)
 PermitsLine r l = Unit {0}
 
 -- an entry is permitted by the role of its seat

@@ -5,12 +5,14 @@ use mathlib.Core.Option.{some}
 use lib.ListN.{get_elem?}
 use Rattle.atomic_table.specs.Table.{State, Me}
 use Rattle.line_table.specs.declared.lines.Line.{Line}
-use Rattle.line_table.specs.declared.lines.Line.TheVariants.{N1, D5, B6}
+use Rattle.line_table.specs.declared.lines.Line.TheVariants.{N1, D5, A7, B6, S9}
 use Rattle.history.specs.declared.operations.Entry.{Entry}
 use Rattle.history.specs.declared.operations.Reply.{Reply}
-use Rattle.history.specs.declared.operations.Reply.TheVariants.{Empty}
-use Rattle.history.specs.Entries.{own_entries, LeadsTo}
+use Rattle.history.specs.declared.operations.Reply.TheVariants.{Empty, Refused}
+use Rattle.history.specs.declared.refusals.Refusal.TheVariants.{Closed}
+use Rattle.history.specs.Entries.{own_entries, LeadsTo, Leads, LeadsToShut}
 use Rattle.history.specs.Seats.{IsNoted}
+use Rattle.counted_ref.specs.Ref.{reserved_node}
 use Rattle.line_steps.specs.declared.actors.Actor.{Actor}
 use Rattle.step_machine.specs.Words.{memory_words}
 use Rattle.step_machine.specs.Machine.{idle, actor_of}
@@ -19,17 +21,23 @@ use Rattle.node_arena.specs.Prologues.{Prologue, after_prologue}
 use Rattle.node_arena.specs.Seeing.{SeatView, View, keeper, gathered, seated, paired, members, knows}
 use Rattle.node_arena.specs.Plans.{Layout, IsPlanned, RolesPermit}
 
--- what an actor found before a line at which its call may answer empty: before D5, where it read null, what its seat has
--- seen leaves the queue empty, or Head's count is above the one that it read; before B6, where an empty reply is due, what
--- its seat has seen leaves the queue empty
+-- what an actor found before a line at which its call may answer that the queue is empty, or shut. Before D5, where it read
+-- null, what its seat has seen leaves the queue empty, or Head's count is above the one that it read; where it read a closed
+-- end, it leaves the queue shut and empty, or the same. Before B6 what its seat has seen leaves the queue as the reply due
+-- says, before A7 and S9 shut where Closed is due
 abbrev pub SawAt : Traced → (seen : List Entry) → Actor → Option Line → (due : Option Reply) → Type 0
-SawAt t seen a (Some D5) due = a.next.node ≡ 0 → (a.head.count < t.world.shared.head.count) ⊎ LeadsTo seen []
+SawAt t seen a (Some D5) due =
+    (a.next.node ≡ 0 → (a.head.count < t.world.shared.head.count) ⊎ LeadsTo seen []) ×
+    (a.next.node ≡ reserved_node → (a.head.count < t.world.shared.head.count) ⊎ Leads seen true [])
 SawAt t seen a (Some B6) (Some Empty) = LeadsTo seen []
+SawAt t seen a (Some B6) (Some (Refused Closed)) = Leads seen true []
+SawAt t seen a (Some A7) (Some (Refused Closed)) = LeadsToShut seen
+SawAt t seen a (Some S9) (Some (Refused Closed)) = LeadsToShut seen
 SawAt t seen a line due = Unit {0}
 
 -- a seat's actor and path are the traced world's, what it has seen is a beginning of the history, and its own entries
--- are just those of it, and just those that it has seen; the queue was empty after as many of these as each note says, and
--- what its actor found that it may note next is so
+-- are just those of it, and just those that it has seen; the queue was empty, or shut, after as many of these as each note
+-- says, and what its actor found that it may note next is so
 pub record Fits (t : Traced) (v : SeatView) : Type 0 where
   pub actor : actor_of t.world v.number ≡ Some v.actor
   pub path : t.paths v.number ≡ v.path
@@ -68,10 +76,24 @@ pub record Holds (z : Layout) (s : State ℕ View) : Type 0 where
 abbrev pub first_view : Layout → View
 first_view z = keeper 1
 
--- what a reply notes of what its seat has seen: an empty one notes how many entries that is
+-- what a reply notes of what its seat has seen: that the queue is empty, or shut, notes how many entries that is
 abbrev pub notes_of : Option Reply → List Entry → List ℕ
 notes_of (Some Empty) es = length es ∷ []
+notes_of (Some (Refused Closed)) es = length es ∷ []
 notes_of reply es = []
+
+-- what it says of the queue after what its seat has seen that Closed is answered at a line: a pop found it shut and empty, any
+-- other call shut
+abbrev pub FoundClosedAt : Line → List Entry → Type 0
+FoundClosedAt D5 es = Leads es true []
+FoundClosedAt B6 es = Leads es true []
+FoundClosedAt l es = LeadsToShut es
+
+-- what a reply at a line says of the queue after what its seat has seen
+abbrev pub SaysOfSeen : Line → Option Reply → List Entry → Type 0
+SaysOfSeen l (Some Empty) es = LeadsTo es []
+SaysOfSeen l (Some (Refused Closed)) es = FoundClosedAt l es
+SaysOfSeen l reply es = Unit {0}
 
 -- what one step at a line tells of the seat before and after: it was made in a traced world that moves lead to, in
 -- which the seat's actor stood as led there, and it found this number
@@ -97,6 +119,7 @@ pub record Steps (z : Layout) (prologue : Prologue) (l : Line) (n : ℕ) (v v' :
   pub stays : sees l ≡ false → v'.seen ≡ v.seen
   pub mine : v'.mine ≡ v.mine ++ entries_at z.setup was v.number (after_prologue z.setup v.number prologue v.actor) l
   pub notes : v'.notes ≡ v.notes ++ notes_of (outcome_at z.setup was v.number (after_prologue z.setup v.number prologue v.actor) l).reply v'.seen
+  pub says : SaysOfSeen l (outcome_at z.setup was v.number (after_prologue z.setup v.number prologue v.actor) l).reply v'.seen
   pub fits : Fits (step_at was v.number (after_prologue z.setup v.number prologue v.actor) l) v'
   pub permitted : All (RolesPermit z.roles) (step_at was v.number (after_prologue z.setup v.number prologue v.actor) l).history
 

@@ -1,11 +1,11 @@
 -- What clauses say of an arena and its seats.
-use Rattle.std.specs.Prelude.{◌≡◌, ℕ, ◌+◌, ◌-◌, ◌^◌, ◌<◌, List, [], ◌++◌, Option, Some, None, slice_get, Bool, true, false}
+use Rattle.std.specs.Prelude.{◌≡◌, ℕ, ◌+◌, ◌-◌, ◌^◌, ◌<◌, nat_lt, List, [], ◌++◌, Option, Some, None, slice_get, Bool, true, false}
 use Rattle.std.specs.List.{count_by}
 use Rattle.std.specs.Option.{is_some, unwrap_or}
 use Rattle.line_table.specs.declared.lines.Line.{Line}
-use Rattle.line_table.specs.declared.lines.Line.TheVariants.{E9, D13, A5, B5}
+use Rattle.line_table.specs.declared.lines.Line.TheVariants.{E9, D13, A5, B5, S4, S8}
 use Rattle.history.specs.declared.operations.Entry.{Entry}
-use Rattle.history.specs.Entries.{is_push, is_pop}
+use Rattle.history.specs.Entries.{is_push, is_pop, is_shut}
 use Rattle.history.specs.Seats.{Permit, Known, IsSound}
 use Rattle.line_steps.specs.declared.actors.Setup.{Setup}
 use Rattle.line_steps.specs.declared.actors.Held.{Held}
@@ -70,8 +70,8 @@ keeping s pocket failed = record s { full = is_some pocket; held = unwrap_or poc
 abbrev pub IsArena : Arena → Type 0
 IsArena r = IsTable r.plan r.table.shared.key r.table.shared.table_id
 
--- a seat of a table: it is an actor by its number, has its role, counts its own pushes and pops, and fits to some traced
--- world
+-- a seat of a table: it is an actor by its number, has its role, counts its own pushes and pops, has whether a shut is its
+-- own, and fits to some traced world
 pub record Sits (z : Layout) (t : TableId) (s : Seat) : Type 0 where
   pub table : s.token.table_id ≡ t
   pub seat : s.token.me ≡ (seated (view s), [])
@@ -79,6 +79,7 @@ pub record Sits (z : Layout) (t : TableId) (s : Seat) : Type 0 where
   pub role : slice_get z.roles (s.number - 1) ≡ Some s.role
   pub pushes : s.pushes ≡ count_by is_push (view s).mine
   pub pops : s.pops ≡ count_by is_pop (view s).mine
+  pub shut : s.shut ≡ nat_lt 0 (count_by is_shut (view s).mine)
   pub fitted : Fitted z (view s)
 
 -- a seat of an arena
@@ -114,9 +115,15 @@ pops_at D13 = 1
 pops_at B5 = 1
 pops_at l = 0
 
+-- whether a seat made a shut, by whether it had made one before a line
+abbrev pub shut_by : Line → Bool → Bool
+shut_by S4 before = true
+shut_by S8 before = true
+shut_by l before = before
+
 -- a seat that counts what a line counts
 abbrev pub counting : Seat → Line → Seat
-counting s l = record s { pushes = s.pushes + pushes_at l; pops = s.pops + pops_at l }
+counting s l = record s { pushes = s.pushes + pushes_at l; pops = s.pops + pops_at l; shut = shut_by l s.shut }
 
 -- a counter of a seat has room for what a line counts
 abbrev pub HasRoom : Seat → Line → Type 0

@@ -7,7 +7,7 @@ use Rattle.step_machine.specs.Machine.{idle}
 use Rattle.node_arena.specs.Traces.{Event}
 
 -- what a seat knows: its number, its actor with line and registers, its path, a beginning of the history, its own entries,
--- and its notes: after so many entries it found the queue empty
+-- and its notes: after so many entries it found the queue empty, or shut
 pub record SeatView : Type 0 where
   pub number : ℕ
   pub actor : Actor

@@ -2,20 +2,20 @@
 use Rattle.std.specs.Prelude.{◌≡◌, ◌⊎◌, ℕ, ◌+◌, ◌<◌, ◌≤◌, Bool, true, false, if◌then◌else◌, nat_eq, List, [], ◌∷◌, ◌++◌, length, take, Option, Some, None}
 use Rattle.std.specs.List.{count_by}
 use Rattle.line_table.specs.declared.lines.Line.{Line}
-use Rattle.line_table.specs.declared.lines.Line.TheVariants.{E9, D4, D13, A5, B3, B5}
+use Rattle.line_table.specs.declared.lines.Line.TheVariants.{E7, E9, D4, D13, A5, B3, B5, S3, S4, S8}
 use Rattle.history.specs.declared.operations.Entry.{Entry}
-use Rattle.history.specs.declared.operations.Entry.TheVariants.{Push, Pop}
+use Rattle.history.specs.declared.operations.Entry.TheVariants.{Push, Pop, Shut}
 use Rattle.history.specs.Queue.{empty}
-use Rattle.history.specs.Entries.{is_pop, Plays}
-use Rattle.counted_ref.specs.Ref.{same_ref}
+use Rattle.history.specs.Entries.{is_pop, Plays, Leads, LeadsToShut}
+use Rattle.counted_ref.specs.Ref.{null, same_ref, reserved_node}
 use Rattle.line_steps.specs.declared.actors.Setup.{Setup}
 use Rattle.line_steps.specs.declared.actors.Actor.{Actor}
 use Rattle.line_steps.specs.Outcomes.{Outcome}
 use Rattle.line_steps.specs.Memory.{word, Found, found}
 use Rattle.line_steps.specs.Lines.{action, outcome}
 use Rattle.step_machine.specs.declared.actors.Move.TheVariants.{Begin, Step, Give}
-use Rattle.step_machine.specs.Places.{IsChain}
-use Rattle.step_machine.specs.Chains.{queue_values}
+use Rattle.step_machine.specs.Places.{IsQueueChain}
+use Rattle.step_machine.specs.Chains.{queue_in}
 use Rattle.step_machine.specs.Words.{encoded}
 use Rattle.step_machine.specs.Machine.{World, actor_of, stepped, entry_or, opening, AnyMove, made, Rest, next_any, IsSized}
 
@@ -37,23 +37,29 @@ pub record Traced : Type 0 where
 abbrev pub changed : {X : Type 0} → (ℕ → X) → ℕ → X → ℕ → X
 changed f n x m = if nat_eq m n then x else f m
 
--- the entries that a step at a line adds to the history: the push or the pop that takes its effect there
+-- the entries that a step at a line adds to the history: the push, the pop or the shut that takes its effect there
 abbrev pub entries_of : (s : Setup) (me : ℕ) (a : Actor) (l : Line) → Found (action s me a l) → List Entry
 entries_of s me a E9 was = if same_ref was a.next then Push me a.val.body ∷ [] else []
 entries_of s me a D13 was = if same_ref was a.head then Pop me a.val ∷ [] else []
-entries_of s me a A5 was = Push me a.val.body ∷ []
+entries_of s me a A5 was = if same_ref was null then Push me a.val.body ∷ [] else []
 entries_of s me a B5 was = Pop me a.val ∷ []
+entries_of s me a S4 was = if same_ref was a.next then Shut me ∷ [] else []
+entries_of s me a S8 was = if same_ref was null then Shut me ∷ [] else []
 entries_of s me a l was = []
 
--- whether a seat sees the whole history at its step at a line: where the step may have its effect, and where it reads
--- what follows Head's node
+-- whether a seat sees the whole history at its step at a line: where the step may have its effect, where it reads what
+-- follows Head's node, and where it may find that a closed end follows Tail's
 abbrev pub sees : Line → Bool
+sees E7 = true
 sees E9 = true
 sees D4 = true
 sees D13 = true
 sees A5 = true
 sees B3 = true
 sees B5 = true
+sees S3 = true
+sees S4 = true
+sees S8 = true
 sees l = false
 
 module _ (s : Setup) (t : Traced) (me : ℕ) (a : Actor) (l : Line) where
@@ -135,23 +141,32 @@ pub record IsTraced (t : Traced) : Type 0 where
   pub sized : IsSized t.world.setup actors
   pub led : trace moves (first_trace t.world.setup actors) ≡ Some t
 
--- the history leads from the empty queue to the values in the chain from Head
+-- the history leads from the empty queue to the one that the chain from Head holds: its values, and shut where it ends at a
+-- closed end
 abbrev pub PlaysToItsValues : Traced → Type 0
 PlaysToItsValues t =
-    (queue : List ℕ) → IsChain t.world.shared.nodes t.world.shared.head.node queue → Plays empty t.history (record { values = queue_values t.world.shared queue })
+    (queue : List ℕ) → IsQueueChain t.world.shared.nodes t.world.shared.head.node queue → Plays empty t.history (queue_in t.world.shared queue)
 
 -- Head's count is the number of pops in the history
 abbrev pub CountsItsPops : Traced → Type 0
 CountsItsPops t = t.world.shared.head.count ≡ count_by is_pop t.history
 
 -- an actor that looked behind Head when there were so many entries finds: Head's count is above that of its register, or
--- these entries leave the empty queue
-pub record LeftNothing (t : Traced) (a : Actor) (entries : ℕ) : Type 0 where
-  pub some : entries ≤ length t.history
-  pub since : (a.head.count < t.world.shared.head.count) ⊎ Plays empty (take entries t.history) empty
+-- these entries leave no values, and the queue shut or not
+abbrev pub LeftNothing : Traced → Actor → (shut : Bool) → (entries : ℕ) → Type 0
+LeftNothing t a shut entries = (a.head.count < t.world.shared.head.count) ⊎ Leads (take entries t.history) shut []
 
--- an actor whose last line was D4, which found null, left nothing behind Head at that moment, or Head was moved since
+-- what an actor found behind Head's node, when there were so many entries, stays so: null says that these left the queue
+-- empty and not shut, or Head was moved; a closed end that they left it empty and shut, or Head was moved, and in any case
+-- that they left it shut
+pub record StaysFound (t : Traced) (a : Actor) (entries : ℕ) : Type 0 where
+  pub some : entries ≤ length t.history
+  pub empty : a.next.node ≡ 0 → LeftNothing t a false entries
+  pub closed : a.next.node ≡ reserved_node → LeftNothing t a true entries
+  pub shut : a.next.node ≡ reserved_node → LeadsToShut (take entries t.history)
+
+-- of an actor whose last line was D4 what that found stays so
 abbrev pub KeepsWhatD4Found : Traced → Type 0
 KeepsWhatD4Found t =
     (me : ℕ) (a : Actor) (before : List Event) (last : Event) → actor_of t.world me ≡ Some a → t.paths me ≡ before ++ last ∷ [] →
-    last.line ≡ D4 → a.next.node ≡ 0 → LeftNothing t a last.entries
+    last.line ≡ D4 → StaysFound t a last.entries

@@ -2,7 +2,7 @@
 use Rattle.std.specs.Prelude.{ℕ, Option, Some, List}
 use Rattle.std.specs.List.{sum_by}
 use Rattle.line_table.specs.declared.lines.Line.{Line}
-use Rattle.line_table.specs.declared.lines.Line.TheVariants.{N1, N4, N5, F1, F3, E5, E7, E9, E13, D2, D5, D10, D13, A3, B1}
+use Rattle.line_table.specs.declared.lines.Line.TheVariants.{N1, N4, N5, F1, F3, E5, E7, E9, E13, D2, D5, D10, D13, A3, B1, S1, S3, S4, S5, S6}
 use Rattle.node_arena.specs.Traces.{Event}
 
 -- whether an actor stands before N1, as a number
@@ -35,8 +35,18 @@ abbrev pub at_b1 : Option Line → ℕ
 at_b1 (Some B1) = 1
 at_b1 to = 0
 
--- whether a turn failed at a line, by where it went, as a number: a lost N4, N5, F3, E9, D13, A3 or B1, a difference
--- at E7 or D5, and each E13 and D10
+-- whether an actor stands before S1, as a number
+abbrev pub at_s1 : Option Line → ℕ
+at_s1 (Some S1) = 1
+at_s1 to = 0
+
+-- whether an actor stands before S6, as a number
+abbrev pub at_s6 : Option Line → ℕ
+at_s6 (Some S6) = 1
+at_s6 to = 0
+
+-- whether a turn failed at a line, by where it went, as a number: a lost N4, N5, F3, E9, D13, A3, B1, S4 or S6, a
+-- difference at E7, D5 or S3, and each E13, D10 and S5
 abbrev pub failed_at : Line → Option Line → ℕ
 failed_at N4 to = at_n1 to
 failed_at N5 to = at_n1 to
@@ -49,6 +59,10 @@ failed_at D10 to = at_d2 to
 failed_at D13 to = at_d2 to
 failed_at A3 to = at_a3 to
 failed_at B1 to = at_b1 to
+failed_at S3 to = at_s1 to
+failed_at S4 to = at_s1 to
+failed_at S5 to = at_s1 to
+failed_at S6 to = at_s6 to
 failed_at l to = 0
 
 -- how many turns failed on a path

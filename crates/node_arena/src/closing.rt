@@ -1,7 +1,7 @@
 //! The end of an arena.
-ghost use Rattle.std.specs.Prelude.{◌≡◌, ◌<◌, [], map, IfOk, IfErr};
+ghost use Rattle.std.specs.Prelude.{◌≡◌, ◌<◌, nat_lt, [], map, IfOk, IfErr};
 ghost use Rattle.std.specs.List.{All};
-ghost use Rattle.history.specs.Closing.{pushes_of, pops_of, Closes};
+ghost use Rattle.history.specs.Closing.{pushes_of, pops_of, shuts_of, Closes};
 ghost use Rattle.node_arena.specs.Seats.{view, known_of, permits_of, IsReady};
 ghost use Rattle.node_arena.specs.Closing.{HasToken, HasGathered, CountsItsOwn};
 
@@ -36,6 +36,20 @@ fn pops_by(seats: &[Seat]) -> u128
     pops
 }
 
+// Whether one of the seats made a shut.
+fn shut_by(seats: &[Seat]) -> bool
+    requires { All CountsItsOwn seats.now }
+    ensures { result ≡ nat_lt 0 (shuts_of (map known_of seats.now)) }
+{
+    let mut shut = false;
+    for seat in seats {
+        if seat.shut {
+            shut = true;
+        }
+    }
+    shut
+}
+
 // The token takes in those of the seats.
 fn gather(table: &WordTable, gatherer: &mut SeatToken, seats: Vec<Seat>)
     requires words { 0 < table.now.shared.table_id.words }
@@ -53,6 +67,7 @@ fn gather(table: &WordTable, gatherer: &mut SeatToken, seats: Vec<Seat>)
             failed: _,
             pushes: _,
             pops: _,
+            shut: _,
         } = seat;
         let shared = &table.shared;
         shared.join_seat::<Gather>(gatherer, token);
@@ -61,7 +76,8 @@ fn gather(table: &WordTable, gatherer: &mut SeatToken, seats: Vec<Seat>)
 
 impl Arena {
     /// Ends the arena and the seats handed in, each of which is one of its own and in no call: which values are left in
-    /// the queue, how many were taken from it, and whether these seats made all its pushes and pops.
+    /// the queue, how many were taken from it, whether these seats made all its pushes and pops and, where it was shut, the
+    /// shut, and whether it was.
     ///
     /// Refused by `Memory` alone, before anything is done; the arena is then given up. Takes memory for as many values as
     /// there are nodes, and doesn't wait.
@@ -76,11 +92,12 @@ impl Arena {
         };
         let pushes = pushes_by(&seats);
         let pops = pops_by(&seats);
+        let shut = shut_by(&seats);
         let shared = &table.shared;
         let mut gatherer = shared.load_new_seat::<Open>(0).1;
         gather(&table, &mut gatherer, seats);
         let closed = table.close_with(gatherer);
-        let rest = rest_of(&closed, Made { pushes, pops }, room);
+        let rest = rest_of(&closed, Made { pushes, pops, shut }, room);
         closed.free();
         Ok(rest)
     }

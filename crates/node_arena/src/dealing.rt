@@ -31,6 +31,7 @@ fn deal(table: &WordTable, keeper: &mut SeatToken, plan: &Plan, number: u16, rol
         failed: 0,
         pushes: 0,
         pops: 0,
+        shut: false,
     }
 }
 

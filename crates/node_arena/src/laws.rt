@@ -8,21 +8,22 @@ ghost use Rattle.node_arena.specs.Causes.{TakersMeetNoCause};
 
 /// Between any two atomic steps of any threads, whichever of them stopped and also where nodes are used again: a list of
 /// begins, steps, give moves and rests leads from the opening world of the arena's setup to one with exactly the shared
-/// words, in which each seat's actor stands as the seat says. Of the pushes and pops of that world's operations, by rising
-/// place, each seat has seen the first ones, and just those by its actor are the seat's own. The history of that world is
+/// words, in which each seat's actor stands as the seat says. Of the pushes, pops and shuts of that world's operations, by
+/// rising place, each seat has seen the first ones, and just those by its actor are the seat's own. The history of that world is
 /// placed and legal, and so linearizable.
 pub fn every_moment_is_linearizable()
     ensures { EachMomentIsLinearizable }
 {}
 
 /// The history of a traced world has just the entries of that world's operations that had their effect, by rising place:
-/// the push of each enqueue that is done or has earned it, and the pop of each dequeue that got a value or has earned it.
+/// the push of each enqueue that is done or has earned it, the pop of each dequeue that got a value or has earned it, and
+/// the shut of each that is done or has earned it.
 pub fn a_history_is_of_the_operations_that_had_their_effect()
     ensures { (t : Traced) → IsTraced t → t.history ≡ entries t.world }
 {}
 
-/// The history of a traced world leads from the empty queue to the values in the chain from Head: each push puts its value
-/// at the back, and each pop takes the front one.
+/// The history of a traced world leads from the empty queue to the one that the chain from Head holds: each push puts its
+/// value at the back, each pop takes the front one, and there is a shut exactly where the chain ends at a closed end.
 pub fn a_history_plays_to_the_values()
     ensures { (t : Traced) → IsTraced t → PlaysToItsValues t }
 {}
@@ -32,15 +33,16 @@ pub fn heads_count_is_the_number_of_pops()
     ensures { (t : Traced) → IsTraced t → CountsItsPops t }
 {}
 
-/// An actor whose last line was D4, where it found null, has in its path how many entries there then were: Head's count is
-/// above the one that it read, or these entries leave the empty queue.
+/// An actor whose last line was D4 has in its path how many entries there then were. Where it found null, Head's count is
+/// above the one that it read, or these entries leave the queue empty and not shut. Where it found a closed end, they leave
+/// the queue shut, and Head's count is above the one that it read, or they leave it empty too.
 pub fn what_d4_found_stays_noted()
     ensures { (t : Traced) → IsTraced t → KeepsWhatD4Found t }
 {}
 
 /// What a seat of an arena knows is sound, before and after each call: what it has seen is the history of a
 /// first-in-first-out list, each entry of it is permitted by its maker's role, and the seat's own entries are just those
-/// that it has seen. After as many of them as each of its notes says the queue was empty.
+/// that it has seen. After as many of them as each of its notes says the queue was empty, or shut.
 pub fn what_a_seat_knows_is_sound()
     ensures { EachSeatIsSound }
 {}

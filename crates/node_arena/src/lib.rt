@@ -24,4 +24,4 @@ pub use roles::Role;
 pub use seats::Seat;
 pub use step_machine::{Held, Setup};
 pub use views::{Knowing, SeatToken, WordRule, WordTable};
-pub use words::{COUNT_MASK, raised, reference, word_of};
+pub use words::{COUNT_MASK, raised, raised_end, raised_unless_shut, reference, word_of};

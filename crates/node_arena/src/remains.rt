@@ -2,14 +2,14 @@
 ghost use Rattle.std.specs.Prelude.{◌≡◌, ◌↔◌, ◌+◌, ◌*◌, ◌<◌, IsTrue, [], length};
 ghost use Rattle.std.specs.Prelude.{slice_index, vec_capacity};
 ghost use Rattle.std.specs.Slots.{slots_items, IsFull};
-ghost use Rattle.history.specs.Rests.{left_of, taken_of, whole_of};
+ghost use Rattle.history.specs.Rests.{left_of, taken_of, whole_of, was_shut_of};
 ghost use Rattle.line_steps.specs.Words as words;
-ghost use Rattle.node_arena.specs.Remains.{ref_at, HasRef, HasNode, HaveValues, HasValues};
+ghost use Rattle.node_arena.specs.Remains.{ref_at, HasNode, HaveValues, HasValues};
 ghost use Rattle.node_arena.specs.Remains.{AreLeft, IsQueue};
 
 use crate::words::reference;
 use atomic_table::Closed;
-use counted_ref::CountedRef;
+use counted_ref::{CountedRef, SHUT_NODE};
 use history::{Rest, Taken};
 use line_steps::value_of;
 use std::alloc::Global;
@@ -17,11 +17,19 @@ use std::alloc::Global;
 /// The table of an arena, once no thread shares it any more.
 pub(crate) type ClosedTable = Closed<u8, Global>;
 
-/// How many pushes and pops some seats made. There is room for those of any list of seats.
+/// How many pushes and pops some seats made, and whether one of them made a shut. There is room for those of any list of
+/// seats.
 #[derive(Clone, Copy)]
 pub(crate) struct Made {
     pub(crate) pushes: u128,
     pub(crate) pops: u128,
+    pub(crate) shut: bool,
+}
+
+// The values of a chain, and whether it ends at a closed end.
+struct Chain {
+    values: Vec<Taken>,
+    shut: bool,
 }
 
 fn word_at(closed: &ClosedTable, place: usize) -> u64
@@ -34,7 +42,7 @@ fn word_at(closed: &ClosedTable, place: usize) -> u64
 
 fn reference_at(closed: &ClosedTable, place: usize) -> CountedRef
     requires full { IsFull closed.now.words }
-    requires there { HasRef (slots_items closed.now.words) place }
+    requires there { place < length (slots_items closed.now.words) }
     ensures { result ≡ ref_at (slots_items closed.now.words) place }
 {
     reference(word_at(closed, place))
@@ -58,35 +66,40 @@ fn value_at(closed: &ClosedTable, node: u32) -> Taken
 }
 
 // The values from a node on, put into an empty list that has room for them.
-fn values_from(closed: &ClosedTable, first: u32, mut values: Vec<Taken>) -> Vec<Taken>
+fn values_from(closed: &ClosedTable, first: u32, mut values: Vec<Taken>) -> Chain
     requires full { IsFull closed.now.words }
     requires some { HasValues (slots_items closed.now.words) first (vec_capacity values) }
     requires empty { values.items ≡ [] }
-    ensures { HaveValues (slots_items closed.now.words) first result.items }
+    ensures { HaveValues (slots_items closed.now.words) result.shut first result.values.items }
 {
     let mut node = first;
-    while node != 0 {
+    while node != 0 && node != SHUT_NODE {
         values.push(value_at(closed, node)).unwrap();
         node = next_of(closed, node);
     }
-    values
+    Chain {
+        values,
+        shut: node == SHUT_NODE,
+    }
 }
 
-/// What is left in a queue, how many values were taken from it, and whether these are all pushes and pops. The list is an
-/// empty one with room for the values left.
+/// What is left in a queue, how many values were taken from it, whether these are all pushes and pops and, where it was shut,
+/// the shut, and whether it was. The list is an empty one with room for the values left.
 pub(crate) fn rest_of(closed: &ClosedTable, made: Made, room: Vec<Taken>) -> Rest
     requires full { IsFull closed.now.words }
     requires queue { IsQueue (slots_items closed.now.words) (vec_capacity room) }
     requires empty { room.items ≡ [] }
-    ensures left { AreLeft (slots_items closed.now.words) (left_of result) }
+    ensures left { AreLeft (slots_items closed.now.words) (was_shut_of result) (left_of result) }
     ensures taken { taken_of result ≡ (ref_at (slots_items closed.now.words) 2).count }
     ensures whole { IsTrue (whole_of result) ↔
-        ((made.pops ≡ taken_of result) × (made.pushes ≡ taken_of result + length (left_of result))) }
+        ((made.pops ≡ taken_of result) × (made.pushes ≡ taken_of result + length (left_of result)) ×
+        (IsTrue (was_shut_of result) → IsTrue made.shut)) }
 {
     let head = reference_at(closed, 2);
-    let left = values_from(closed, next_of(closed, head.node()), room);
+    let Chain { values, shut } = values_from(closed, next_of(closed, head.node()), room);
     let taken = head.count();
-    let pushes = u128::from(taken) + left.len() as u128;
-    let whole = made.pops == u128::from(taken) && made.pushes == pushes;
-    Rest::of(left, taken, whole)
+    let pushes = u128::from(taken) + values.len() as u128;
+    let shut_is_theirs = made.shut || !shut;
+    let whole = made.pops == u128::from(taken) && made.pushes == pushes && shut_is_theirs;
+    Rest::of(values, taken, whole, shut)
 }

@@ -18,13 +18,15 @@ pub struct Seat {
     pub(crate) failed: u32,
     pub(crate) pushes: u64,
     pub(crate) pops: u64,
+    // Whether a shut of the queue was its own.
+    pub(crate) shut: bool,
 }
 
 impl Seat {
     ghost use Rattle.node_arena.specs.Seats.{number_of, role_of, pocket_of, failed_of, keeping, counting, HasRoom};
     ghost use Rattle.node_arena.specs.Plans as plans;
 
-    // Counts the push or the pop that a line makes.
+    // Counts the push, the pop or the shut that a line makes.
     pub(crate) fn count(&mut self, line: Line)
         requires { HasRoom self.old line }
         ensures { self.new ≡ counting self.old line }
@@ -32,6 +34,7 @@ impl Seat {
         match line {
             Line::E9 | Line::A5 => self.pushes += 1,
             Line::D13 | Line::B5 => self.pops += 1,
+            Line::S4 | Line::S8 => self.shut = true,
             _ => {}
         }
     }

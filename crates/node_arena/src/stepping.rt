@@ -22,7 +22,7 @@ impl Arena {
         self.table.shared.load::<Brand>(&mut seat.token, word)
     }
 
-    /// One store into a word: the seat's next move, at this line. The seat counts a push or a pop that it makes.
+    /// One store into a word: the seat's next move, at this line. The seat counts a push, a pop or a shut that it makes.
     ///
     /// That the step is the seat's next move by the rule is the caller's condition. Takes no memory and doesn't wait.
     pub fn store(&self, seat: &mut Seat, line: Line, word: usize, value: u64)
@@ -51,7 +51,7 @@ impl Arena {
     }
 
     /// One compare-exchange of a word: the seat's next move, at this line. It writes `new` where the word is `old`;
-    /// else the answer is an `Err` with the word found. The seat counts a push or a pop that it makes.
+    /// else the answer is an `Err` with the word found. The seat counts a push, a pop or a shut that it makes.
     ///
     /// That the step is the seat's next move by the rule is the caller's condition. Takes no memory and doesn't wait.
     pub fn exchange(

@@ -6,3 +6,8 @@ pub mod PopSteps
 pub mod PopStands
 pub mod PopTurns
 pub mod Pops
+pub mod FailedTurns
+pub mod ShutSteps
+pub mod ShutStands
+pub mod ShutTurns
+pub mod Shuts

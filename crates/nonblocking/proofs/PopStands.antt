@@ -1,14 +1,14 @@
 -- Where each line of a pop leads.
 use Rattle.std.proofs.Common.{◌≡◌, ℕ, ◌+◌, Bool, true, false, nat_eq, if◌then◌else◌, Option, Some, None, [], ◌∷◌, sym, refl, ap, ◌∙◌}
-use Rattle.counted_ref.specs.Ref.{Ref, ref_of, is_null, same_ref}
+use Rattle.counted_ref.specs.Ref.{Ref, ref_of, is_null, is_shut, same_ref}
 use Rattle.line_table.specs.declared.lines.Line.{Line}
 use Rattle.line_table.specs.declared.lines.Line.TheVariants.{D2, D3, D4, D5, D10, D12, D13, F1}
 use Rattle.history.specs.declared.operations.Entry.TheVariants.{Pop}
 use Rattle.history.specs.declared.operations.Reply.TheVariants as reply
 use Rattle.history.specs.declared.refusals.Refusal.{Refusal}
-use Rattle.history.specs.declared.refusals.Refusal.TheVariants.{WornOut}
+use Rattle.history.specs.declared.refusals.Refusal.TheVariants.{WornOut, Closed}
 use Rattle.history.specs.declared.refusals.WornWord.TheVariants.{Head as OfHead, Tail as OfTail}
-use Rattle.node_arena.specs.Machine.{Actor, Outcome as MachineOutcome, goes, ends, worn, fills_hand}
+use Rattle.node_arena.specs.Machine.{Actor, Outcome as MachineOutcome, goes, ends, worn, closed, fills_hand}
 use Rattle.node_arena.specs.Traces.{outcome_at, entries_at}
 use Rattle.node_arena.specs.Prologues.{Prologue, continues, after_prologue}
 use Rattle.node_arena.specs.declared.arena.Arena.{Arena}
@@ -43,17 +43,17 @@ module _ (r : Arena) (s t : Seat) (prologue : Prologue) (n : ℕ) (a : Running) 
   leads l d o e k c line knows = record { before = goes_on r s t prologue l n d o e k line; knows = settled r s t prologue l n d o e (λ x. AgreesAt k x c) knows }
 
   -- a call that ends has an empty pocket, where its outcome keeps that of its actor
-  over : (l : Line) → CallIsAt r s prologue l a → (d : DidStep r s t prologue l n) (o : MachineOutcome) → out_at l d ≡ o → o.actor.line ≡ None → o.actor.pocket ≡ b.pocket → ((view t).actor.line ≡ None) × ((view t).actor.pocket ≡ None)
-  over l h d o e line pocket = settled r s t prologue l n d o e (λ x. (x.line ≡ None) × (x.pocket ≡ None)) (λ x. (line, pocket ∙ empty_before r s prologue l h.before))
+  over : (l : Line) → CallIsAt r s prologue l a → (after_prologue r.plan.setup (view s).number prologue (view s).actor).pocket ≡ None → (d : DidStep r s t prologue l n) (o : MachineOutcome) → out_at l d ≡ o → o.actor.line ≡ None → o.actor.pocket ≡ b.pocket → ((view t).actor.line ≡ None) × ((view t).actor.pocket ≡ None)
+  over l h none d o e line pocket = settled r s t prologue l n d o e (λ x. (x.line ≡ None) × (x.pocket ≡ None)) (λ x. (line, pocket ∙ none))
 
   pub after_d2 : CallIsAt r s prologue D2 a → DidStep r s t prologue D2 n → CallIsAt r t continues D3 (record a { head = ref_of n })
-  after_d2 h d = leads D2 d (out_at D2 d) refl D3 (record a { head = ref_of n }) refl (λ x. sym (ref_d2 r s t prologue n d).0)
+  after_d2 h d = leads D2 d (out_at D2 d) refl D3 (record a { head = ref_of n }) refl (λ x. sym (ref_d2 r s t prologue n d))
 
   pub after_d3 : CallIsAt r s prologue D3 a → DidStep r s t prologue D3 n → CallIsAt r t continues D4 (record a { tail = ref_of n })
-  after_d3 h d = leads D3 d (out_at D3 d) refl D4 (record a { tail = ref_of n }) refl (λ x. (h.knows, sym (ref_d3 r s t prologue n d).0))
+  after_d3 h d = leads D3 d (out_at D3 d) refl D4 (record a { tail = ref_of n }) refl (λ x. (h.knows, sym (ref_d3 r s t prologue n d)))
 
   pub after_d4 : CallIsAt r s prologue D4 a → DidStep r s t prologue D4 n → CallIsAt r t continues D5 (record a { next = ref_of n })
-  after_d4 h d = leads D4 d (out_at D4 d) refl D5 (record a { next = ref_of n }) refl (λ x. (h.knows.0, h.knows.1, sym (ref_d4 r s t prologue n d).0))
+  after_d4 h d = leads D4 d (out_at D4 d) refl D5 (record a { next = ref_of n }) refl (λ x. (h.knows.0, h.knows.1, sym (ref_d4 r s t prologue n d)))
 
   -- after D5: the turn goes on, in silence
   pub record On (d : DidStep r s t prologue D5 n) (l : Line) (c : Running) : Type 0 where
@@ -74,57 +74,68 @@ module _ (r : Arena) (s t : Seat) (prologue : Prologue) (n : ℕ) (a : Running) 
     pub replies : (out_at D5 d).reply ≡ Some (reply.Refused (WornOut OfTail))
     pub is : why ≡ WornOut OfTail
 
+  -- or the queue was shut and empty
+  pub record FoundShut (d : DidStep r s t prologue D5 n) : Type 0 where
+    pub over : (view t).actor.line ≡ None
+    pub empty : (view t).actor.pocket ≡ None
+    pub replies : (out_at D5 d).reply ≡ Some (reply.Refused Closed)
+
   abbrev pub Fifth : DidStep r s t prologue D5 n → Outcome Running → Type 0
   Fifth d (Goes D2 c) = On d D2 c
   Fifth d (Goes D10 c) = On d D10 c
   Fifth d (Goes D12 c) = On d D12 c
   Fifth d (Goes l c) = ⊥
   Fifth d (Ends IsEmpty) = FoundNull d
+  Fifth d (Ends (IsRefused Closed)) = FoundShut d
   Fifth d (Ends (IsRefused why)) = FoundWorn d why
   Fifth d (Ends reply) = ⊥
 
-  abbrev fifth_outcome : (now : ℕ) → (p q u w : Bool) → MachineOutcome
-  fifth_outcome now p q u w =
+  abbrev fifth_outcome : (now : ℕ) → (p q u c w : Bool) → MachineOutcome
+  fifth_outcome now p q u c w =
       if p
-      then if q then if u then ends now reply.Empty b else if w then worn now OfTail b else goes D10 b else goes D12 b
+      then if q then if u then ends now reply.Empty b else if c then closed now b else if w then worn now OfTail b else goes D10 b else goes D12 b
       else goes D2 b
 
-  abbrev fifth : (p q u w : Bool) → Outcome Running
-  fifth p q u w =
+  abbrev fifth : (p q u c w : Bool) → Outcome Running
+  fifth p q u c w =
       if p
-      then if q then if u then Ends IsEmpty else if w then Ends (IsRefused (WornOut OfTail)) else Goes D10 a else Goes D12 a
+      then if q then if u then Ends IsEmpty else if c then Ends (IsRefused Closed) else if w then Ends (IsRefused (WornOut OfTail)) else Goes D10 a else Goes D12 a
       else Goes D2 a
 
   module _ (h : CallIsAt r s prologue D5 a) (d : DidStep r s t prologue D5 n) where
-    fifth_is : (p q u w : Bool) → same_ref (ref_of n) a.head ≡ p → nat_eq a.head.node a.tail.node ≡ q → is_null a.next ≡ u → nat_eq a.tail.count r.plan.setup.limit ≡ w → out_at D5 d ≡ fifth_outcome (d.told.was.world.steps + 1) p q u w
-    fifth_is p q u w e f g k =
-        (λ i. fifth_outcome (d.told.was.world.steps + 1) (same_ref (sym (ref_d5 r s t prologue n d).0 i) (h.knows.0 i)) (nat_eq (h.knows.0 i).node (h.knows.1 i).node) (is_null (h.knows.2 i)) (nat_eq (h.knows.1 i).count r.plan.setup.limit)) ∙
-        (λ i. fifth_outcome (d.told.was.world.steps + 1) (e i) (f i) (g i) (k i))
+    fifth_is : (p q u c w : Bool) → same_ref (ref_of n) a.head ≡ p → nat_eq a.head.node a.tail.node ≡ q → is_null a.next ≡ u → is_shut a.next ≡ c → nat_eq a.tail.count r.plan.setup.limit ≡ w → out_at D5 d ≡ fifth_outcome (d.told.was.world.steps + 1) p q u c w
+    fifth_is p q u c w e f g m k =
+        (λ i. fifth_outcome (d.told.was.world.steps + 1) (same_ref (sym (ref_d5 r s t prologue n d) i) (h.knows.0 i)) (nat_eq (h.knows.0 i).node (h.knows.1 i).node) (is_null (h.knows.2 i)) (is_shut (h.knows.2 i)) (nat_eq (h.knows.1 i).count r.plan.setup.limit)) ∙
+        (λ i. fifth_outcome (d.told.was.world.steps + 1) (e i) (f i) (g i) (m i) (k i))
 
-    pub after_d5 : Fifth d (fifth (same_ref (ref_of n) a.head) (nat_eq a.head.node a.tail.node) (is_null a.next) (nat_eq a.tail.count r.plan.setup.limit))
-    after_d5 = go (same_ref (ref_of n) a.head) (nat_eq a.head.node a.tail.node) (is_null a.next) (nat_eq a.tail.count r.plan.setup.limit) refl refl refl refl
+    pub after_d5 : Fifth d (fifth (same_ref (ref_of n) a.head) (nat_eq a.head.node a.tail.node) (is_null a.next) (is_shut a.next) (nat_eq a.tail.count r.plan.setup.limit))
+    after_d5 = go (same_ref (ref_of n) a.head) (nat_eq a.head.node a.tail.node) (is_null a.next) (is_shut a.next) (nat_eq a.tail.count r.plan.setup.limit) refl refl refl refl refl
       where
         now : ℕ
         now = d.told.was.world.steps + 1
 
-        go : (p q u w : Bool) → same_ref (ref_of n) a.head ≡ p → nat_eq a.head.node a.tail.node ≡ q → is_null a.next ≡ u → nat_eq a.tail.count r.plan.setup.limit ≡ w → Fifth d (fifth p q u w)
-        go false q u w e f g k =
-            let is = fifth_is false q u w e f g k in
-            record { stands = leads D5 d (fifth_outcome now false q u w) is D2 a refl (λ x. tt); same = refl; quiet = ap (λ x. x.reply) is }
-        go true false u w e f g k =
-            let is = fifth_is true false u w e f g k in
-            record { stands = leads D5 d (fifth_outcome now true false u w) is D12 a refl (λ x. (h.knows.0, h.knows.2)); same = refl; quiet = ap (λ x. x.reply) is }
-        go true true true w e f g k =
-            let is = fifth_is true true true w e f g k in
-            let o = over D5 h d (fifth_outcome now true true true w) is refl refl in
+        go : (p q u c w : Bool) → same_ref (ref_of n) a.head ≡ p → nat_eq a.head.node a.tail.node ≡ q → is_null a.next ≡ u → is_shut a.next ≡ c → nat_eq a.tail.count r.plan.setup.limit ≡ w → Fifth d (fifth p q u c w)
+        go false q u c w e f g m k =
+            let is = fifth_is false q u c w e f g m k in
+            record { stands = leads D5 d (fifth_outcome now false q u c w) is D2 a refl (λ x. tt); same = refl; quiet = ap (λ x. x.reply) is }
+        go true false u c w e f g m k =
+            let is = fifth_is true false u c w e f g m k in
+            record { stands = leads D5 d (fifth_outcome now true false u c w) is D12 a refl (λ x. (h.knows.0, h.knows.2)); same = refl; quiet = ap (λ x. x.reply) is }
+        go true true true c w e f g m k =
+            let is = fifth_is true true true c w e f g m k in
+            let o = over D5 h (empty_before r s prologue D5 h.before) d (fifth_outcome now true true true c w) is refl refl in
             record { over = o.0; empty = o.1; replies = ap (λ x. x.reply) is }
-        go true true false true e f g k =
-            let is = fifth_is true true false true e f g k in
-            let o = over D5 h d (fifth_outcome now true true false true) is refl refl in
+        go true true false true w e f g m k =
+            let is = fifth_is true true false true w e f g m k in
+            let o = over D5 h (empty_before r s prologue D5 h.before) d (fifth_outcome now true true false true w) is refl refl in
+            record { over = o.0; empty = o.1; replies = ap (λ x. x.reply) is }
+        go true true false false true e f g m k =
+            let is = fifth_is true true false false true e f g m k in
+            let o = over D5 h (empty_before r s prologue D5 h.before) d (fifth_outcome now true true false false true) is refl refl in
             record { over = o.0; empty = o.1; replies = ap (λ x. x.reply) is; is = refl }
-        go true true false false e f g k =
-            let is = fifth_is true true false false e f g k in
-            record { stands = leads D5 d (fifth_outcome now true true false false) is D10 a refl (λ x. (h.knows.1, h.knows.2)); same = refl; quiet = ap (λ x. x.reply) is }
+        go true true false false false e f g m k =
+            let is = fifth_is true true false false false e f g m k in
+            record { stands = leads D5 d (fifth_outcome now true true false false false) is D10 a refl (λ x. (h.knows.1, h.knows.2)); same = refl; quiet = ap (λ x. x.reply) is }
 
   pub after_d10 : CallIsAt r s prologue D10 a → DidStep r s t prologue D10 n → IsBefore r t continues D2
   after_d10 h d = goes_on r s t prologue D10 n d (out_at D10 d) refl D2 refl
@@ -164,7 +175,7 @@ module _ (r : Arena) (s t : Seat) (prologue : Prologue) (n : ℕ) (a : Running) 
     thirteenth p = if p then record (goes F1 (fills_hand b.head.node b.next.count (record b { due = Some (reply.Value b.val) }))) { at = Some (d.told.was.world.steps + 1) } else goes D2 b
 
     same : (p : Bool) → same_ref (ref_of n) a.head ≡ p → same_ref d.told.was.world.shared.head b.head ≡ p
-    same p e = (λ i. same_ref (sym (ref_d13 r s t prologue n d).0 i) (h.knows.0 i)) ∙ e
+    same p e = (λ i. same_ref (sym (ref_d13 r s t prologue n d) i) (h.knows.0 i)) ∙ e
 
     pub won_d13 : same_ref (ref_of n) a.head ≡ true → Won d
     won_d13 e =

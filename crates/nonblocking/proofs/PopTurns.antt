@@ -6,20 +6,20 @@ use Rattle.line_table.specs.declared.lines.Line.TheVariants.{D2, D3, D4, D5, D10
 use Rattle.history.specs.declared.operations.Entry.TheVariants.{Pop}
 use Rattle.history.specs.declared.operations.Reply as replies
 use Rattle.history.specs.declared.operations.Reply.TheVariants as reply
-use Rattle.history.specs.declared.refusals.Refusal.TheVariants.{WornOut}
+use Rattle.history.specs.declared.refusals.Refusal.{Refusal}
+use Rattle.history.specs.declared.refusals.Refusal.TheVariants.{WornOut, Closed}
 use Rattle.history.specs.declared.refusals.WornWord.TheVariants.{Head as OfHead, Tail as OfTail}
 use Rattle.history.proofs.Learning.{answers_then}
 use Rattle.node_arena.specs.Traces.{Event, outcome_at}
 use Rattle.node_arena.specs.Prologues.{Prologue, continues}
-use Rattle.node_arena.specs.Rule.{notes_of}
+use Rattle.node_arena.specs.Rule.{notes_of, SaysOfSeen}
 use Rattle.node_arena.specs.declared.arena.Arena.{Arena}
 use Rattle.node_arena.specs.declared.seats.Seat.{Seat}
 use Rattle.node_arena.specs.Seats.{IsBefore, KeepsStored, DidStep, view, known_of}
-use Rattle.node_arena.specs.Turns.{failed_at, failed_turns, at_d2}
+use Rattle.node_arena.specs.Turns.{failed_at, failed_turns}
 use Rattle.node_arena.specs.Paths.{ExtendsPath}
 use Rattle.node_arena.proofs.Known.{empty_before}
-use Rattle.node_arena.proofs.Empties.{empty_where_noted}
-use Rattle.node_arena.proofs.Paths.{no_walk, walk_then, then_act, then_stored, sees_on, stopped_behind, failed_behind, failed-append, failed_snoc, event, walk_one, walk_on, act_on, to_is, stopped_at, failed_last}
+use Rattle.node_arena.proofs.Paths.{then_shut_empty, shut_empty_on, no_walk, walk_then, then_act, then_stored, sees_on, stopped_behind, failed_behind, failed-append, event, walk_one, walk_on, act_on, stopped_at}
 use Rattle.nonblocking.specs.Values.{IsNonBlocking}
 use Rattle.node_arena.specs.Machine.{value_of}
 use Rattle.arena_lines.specs.declared.outcomes.Outcome.{Outcome}
@@ -28,8 +28,9 @@ use Rattle.arena_lines.specs.declared.outcomes.Reply.TheVariants.{Done as IsDone
 use Rattle.nonblocking.specs.declared.pop_outcomes.Actor.{Actor as Running}
 use Rattle.nonblocking.specs.declared.pop_outcomes.Turn.{Turn}
 use Rattle.nonblocking.specs.declared.pop_outcomes.Turn.TheVariants as turn
-use Rattle.nonblocking.specs.Pops.{turn_of, CallIsAt, Follows, Fell, Looked, Looks, Turned, Turns}
+use Rattle.nonblocking.specs.Pops.{Stops, turn_of, CallIsAt, Follows, Fell, Looked, Looks, Turned, Turns}
 use Rattle.arena_lines.proofs.Registers.{same_registers}
+use Rattle.nonblocking.proofs.FailedTurns.{turns_then, fails_last}
 use Rattle.nonblocking.proofs.PopStands.{stands_d2, after_d2, after_d3, after_d4, Fifth, after_d5, after_d10, never_d12, after_d12, Won, won_d13, Lost, lost_d13}
 
 -- after D2, D3 and D4
@@ -43,24 +44,18 @@ pub to_d5 : (r : Arena) (s t : Seat) (l : Line) (a b : Running) → CallIsAt r s
 to_d5 r s t l a b h f = subst (CallIsAt r t continues D5) (sym (same_registers l D5 b (record a { next = ref_of f.found }) f.leads_to)) (after_d4 r s t continues f.found a h f.did)
 
 -- a line whose step goes back to D2 fails its turn
-module _ (r : Arena) (s t x : Seat) (l : Line) (n : ℕ) (d : DidStep r t x continues l n) (before : List Event) (w : ExtendsPath (view s) (view t) before) (never : failed_turns before ≡ 0) (q : (o : Option Line) → failed_at l o ≡ at_d2 o) where
+module _ (r : Arena) (s t x : Seat) (l : Line) (n : ℕ) (d : DidStep r t x continues l n) (before : List Event) (w : ExtendsPath (view s) (view t) before) (never : failed_turns before ≡ 0) (one : failed_at l (Some D2) ≡ 1) where
   abbrev last : Event
   last = event r t x continues l n d
 
-  -- it failed
-  pub fell : ExtendsPath (view t) (view x) (last ∷ []) → IsBefore r x continues D2 → Fell r s x (before ++ last ∷ [])
-  fell one h =
-      let e : failed_at l (view x).actor.line ≡ 1 = q (view x).actor.line ∙ ap at_d2 h.line in
+  fell : ExtendsPath (view t) (view x) (last ∷ []) → IsBefore r x continues D2 → Fell r s x (before ++ last ∷ [])
+  fell walk h =
       record {
         before = h;
-        walks = walk_then (view s) (view t) (view x) before (last ∷ []) w one;
-        once = (let f = failed_snoc before last in let z = ap (failed_at l) (to_is r t x continues l n d) ∙ e in omega arith);
-        last = failed_last r t x continues l n d before e;
+        walks = walk_then (view s) (view t) (view x) before (last ∷ []) w walk;
+        once = turns_then r t x l n d before (Some D2) h.line never ∙ one;
+        last = fails_last r t x l n d before (Some D2) h.line one;
       }
-
-  -- it went elsewhere
-  pub not_failed : (o : Option Line) → (view x).actor.line ≡ o → at_d2 o ≡ 0 → failed_turns (before ++ last ∷ []) ≡ 0
-  not_failed o e none = let f = failed_snoc before last in let z = q last.to ∙ ap at_d2 (to_is r t x continues l n d ∙ e) ∙ none in omega arith
 
 -- the lines D2 to D5
 module _ (r : Arena) (s u t v x : Seat) (prologue : Prologue) (a b c d : Running) (l k j : Line) (out : Outcome Running) (h : IsBefore r s prologue D2) (f2 : Follows r s u prologue D2 a (Goes l b)) (f3 : Follows r u t continues D3 b (Goes k c)) (f4 : Follows r t v continues D4 c (Goes j d)) (f5 : Follows r v x continues D5 d out) where
@@ -98,13 +93,34 @@ module _ (r : Arena) (s u t v x : Seat) (prologue : Prologue) (a b c d : Running
   on_walk : (q : Option replies.Reply) → replied ≡ q → notes_of q (view x).seen ≡ [] → ExtendsPath (view s) (view x) (reads ++ five ∷ [])
   on_walk q e none = walk_then (view s) (view v) (view x) reads (five ∷ []) walked (five_walk q e none)
 
-  none_failed : (o : Option Line) → (view x).actor.line ≡ o → at_d2 o ≡ 0 → failed_turns (reads ++ five ∷ []) ≡ 0
-  none_failed = not_failed r s v x D5 f5.found f5.did reads walked refl (λ o. refl)
+  counts : (o : Option Line) → (view x).actor.line ≡ o → failed_turns (reads ++ five ∷ []) ≡ failed_at D5 o
+  counts o e = turns_then r v x D5 f5.found f5.did reads o e refl
+
+  stopped : (why : Refusal) → Fifth r v x continues f5.found d f5.did (Ends (IsRefused why)) → ((view x).actor.pocket ≡ None) × Stops r s x (reads ++ five ∷ []) why
+  stopped Closed f = (
+    f.empty,
+    record {
+      over = f.over;
+      never = counts None f.over;
+      finds = then_shut_empty (view s) (view v) (view x) reads (five ∷ []) walked (shut_empty_on r v x continues D5 f5.found f5.did refl f.replies (λ h. h));
+      cause = stopped_at r v x continues D5 f5.found f5.did s reads Closed walked f.replies;
+    },
+  )
+  stopped _ f = (
+    f.empty,
+    record {
+      over = f.over;
+      walks = on_walk (Some (reply.Refused (WornOut OfTail))) f.replies refl;
+      never = counts None f.over;
+      is = f.is;
+      cause = stopped_at r v x continues D5 f5.found f5.did s reads (WornOut OfTail) walked f.replies;
+    },
+  )
 
   by_outcome : (o : Outcome Running) → Fifth r v x continues f5.found d f5.did o → ((view x).actor.pocket ≡ None) × Looked r s x (reads ++ five ∷ []) o
-  by_outcome (Goes D2 e) f = (empty_before r x continues D2 f.stands.before, fell r s v x D5 f5.found f5.did reads walked refl (λ o. refl) (five_walk None f.quiet refl) f.stands.before)
-  by_outcome (Goes D10 e) f = (empty_before r x continues D10 f.stands.before, record { stands = f.stands; walks = on_walk None f.quiet refl; never = none_failed (Some D10) f.stands.before.line refl })
-  by_outcome (Goes D12 e) f = (empty_before r x continues D12 f.stands.before, record { stands = f.stands; walks = on_walk None f.quiet refl; never = none_failed (Some D12) f.stands.before.line refl })
+  by_outcome (Goes D2 e) f = (empty_before r x continues D2 f.stands.before, fell r s v x D5 f5.found f5.did reads walked refl refl (five_walk None f.quiet refl) f.stands.before)
+  by_outcome (Goes D10 e) f = (empty_before r x continues D10 f.stands.before, record { stands = f.stands; walks = on_walk None f.quiet refl; never = counts (Some D10) f.stands.before.line })
+  by_outcome (Goes D12 e) f = (empty_before r x continues D12 f.stands.before, record { stands = f.stands; walks = on_walk None f.quiet refl; never = counts (Some D12) f.stands.before.line })
   by_outcome (Goes _ e) f = absurd f
   by_outcome (Ends IsDone) f = absurd f
   by_outcome (Ends (IsValue word)) f = absurd f
@@ -114,27 +130,18 @@ module _ (r : Arena) (s u t v x : Seat) (prologue : Prologue) (a b c d : Running
         record {
           over = f.over;
           path = f5.did.told.path ∙ ap (λ p. p ++ five ∷ []) walked.path ∙ append_assoc (view s).path reads (five ∷ []);
-          never = none_failed None f.over refl;
+          never = counts None f.over;
           found = record {
             number = f5.did.told.number ∙ walked.number;
             between = walked.rest;
             seen = f5.did.told.stays refl ∙ walked.seen;
-            empty = empty_where_noted (view x).seen (view v).notes (view x).notes notes f5.did.told.fits.noted;
+            empty = subst (λ q. SaysOfSeen D5 q (view x).seen) f.replies f5.did.told.says;
             mine = f5.did.told.mine ∙ append-nil (view v).mine ∙ walked.mine;
             notes = notes ∙ ap (λ ns. ns ++ length (view x).seen ∷ []) walked.notes;
           };
         },
       )
-  by_outcome (Ends (IsRefused why)) f = (
-    f.empty,
-    record {
-      over = f.over;
-      walks = on_walk (Some (reply.Refused (WornOut OfTail))) f.replies refl;
-      never = none_failed None f.over refl;
-      is = f.is;
-      cause = stopped_at r v x continues D5 f5.found f5.did s reads (WornOut OfTail) walked f.replies;
-    },
-  )
+  by_outcome (Ends (IsRefused why)) f = stopped why f
 
   pub looks : Looks r s x out
   looks =
@@ -157,7 +164,7 @@ moves_tail r s t a out h f =
       empty = empty_before r t continues D2 before;
       stored = f.did.stored;
       lines = event r s t continues D10 f.found f.did ∷ [];
-      turned = fell r s s t D10 f.found f.did [] (no_walk (view s)) refl (λ o. refl) (walk_on r s t continues D10 f.found f.did refl tt) before;
+      turned = fell r s s t D10 f.found f.did [] (no_walk (view s)) refl refl (walk_on r s t continues D10 f.found f.did refl tt) before;
     }
 
 -- Head is never worn out at D12
@@ -208,12 +215,12 @@ module _ (r : Arena) (s t : Seat) (a b : Running) (l : Line) (h : CallIsAt r s c
               mark = w.has.mark;
               acts = then_act (view s) (view t) (view x) (Pop (view t).number (view t).actor.val) (Pop (view s).number (value_of b.val)) (twelve ∷ []) (event r t x continues D13 g.found g.did ∷ []) (λ i. Pop (read_walk.number i) (to_d13.knows.2 i)) read_walk
                   (act_on r t x continues D13 g.found g.did (Pop (view t).number (view t).actor.val) w.adds tt);
-              never = not_failed r s t x D13 g.found g.did (twelve ∷ []) read_walk refl (λ o. refl) (Some F1) w.has.over refl;
+              never = turns_then r t x D13 g.found g.did (twelve ∷ []) (Some F1) w.has.over refl;
             },
           )
       go false e =
           let w : Lost r t x continues g.found b g.did = lost_d13 r t x continues g.found b to_d13 g.did e in
-          (empty_before r x continues D2 w.before, fell r s t x D13 g.found g.did (twelve ∷ []) read_walk refl (λ o. refl) (walk_on r t x continues D13 g.found g.did w.adds tt) w.before)
+          (empty_before r x continues D2 w.before, fell r s t x D13 g.found g.did (twelve ∷ []) read_walk refl refl (walk_on r t x continues D13 g.found g.did w.adds tt) w.before)
 
 -- lines of a turn before its last ones
 module _ (r : Arena) (s t x : Seat) (es : List Event) (stored : KeepsStored s t) (w : ExtendsPath (view s) (view t) es) (never : failed_turns es ≡ 0) where
@@ -241,14 +248,24 @@ module _ (r : Arena) (s t x : Seat) (es : List Event) (stored : KeepsStored s t)
         never = omega (arith, failed-append es fs, never, k.never);
         found = answers_then (known_of s) (known_of t) (known_of x) None (sees_on (view s) (view t) es w) k.found;
       }
-  behind (turn.Refused why) fs k =
-      record {
-        over = k.over;
-        walks = walk_then (view s) (view t) (view x) es fs w k.walks;
-        never = omega (arith, failed-append es fs, never, k.never);
-        is = k.is;
-        cause = stopped_behind r s t es fs (WornOut OfTail) w k.cause;
-      }
+  behind (turn.Refused why) fs k = stops why k
+    where
+      stops : (why : Refusal) → Stops r t x fs why → Stops r s x (es ++ fs) why
+      stops Closed k =
+          record {
+            over = k.over;
+            never = omega (arith, failed-append es fs, never, k.never);
+            finds = then_shut_empty (view s) (view t) (view x) es fs w k.finds;
+            cause = stopped_behind r s t es fs Closed w k.cause;
+          }
+      stops _ k =
+          record {
+            over = k.over;
+            walks = walk_then (view s) (view t) (view x) es fs w k.walks;
+            never = omega (arith, failed-append es fs, never, k.never);
+            is = k.is;
+            cause = stopped_behind r s t es fs (WornOut OfTail) w k.cause;
+          }
 
   pub turn_behind : (out : Turn) → Turns r t x out → Turns r s x out
   turn_behind out d = record { seat = d.seat; empty = d.empty; stored = then_stored s t x stored d.stored; lines = es ++ d.lines; turned = behind out d.lines d.turned }

@@ -4,7 +4,7 @@ use Rattle.line_table.specs.declared.lines.Line.TheVariants.{D2, F1}
 use Rattle.history.specs.declared.operations.Op.TheVariants.{Deq}
 use Rattle.history.specs.declared.operations.Taken.{Taken}
 use Rattle.history.specs.declared.refusals.Refusal.{Refusal}
-use Rattle.history.specs.declared.refusals.Refusal.TheVariants.{Busy}
+use Rattle.history.specs.declared.refusals.Refusal.TheVariants.{Busy, Closed}
 use Rattle.history.specs.declared.refusals.WornWord.TheVariants.{Tail as OfTail}
 use Rattle.node_arena.specs.Machine.{Held, Actor, dequeues, from_pocket}
 use Rattle.node_arena.specs.Prologues.{continues, at_rest, out_of}
@@ -17,7 +17,7 @@ use Rattle.free_list.specs.Gives.{GiveAnswers}
 use Rattle.node_arena.proofs.Known.{empty_before}
 use Rattle.node_arena.proofs.Paths.{no_walk, walk_then, then_stored, added_is, ends_failed, failed-append, failed_behind, kept_seat}
 use Rattle.arena_queue.specs.Answers.{Draws}
-use Rattle.arena_queue.proofs.Pops.{draws_late, draws_worn, draws_taken, draws_empty}
+use Rattle.arena_queue.proofs.Pops.{draws_late, draws_worn, draws_shut, draws_taken, draws_empty}
 use Rattle.nonblocking.specs.Values.{IsNonBlocking}
 use Rattle.node_arena.specs.Machine.{value_of}
 use Rattle.nonblocking.specs.declared.pop_outcomes.Turn.TheVariants as turn
@@ -79,7 +79,8 @@ pop_gives_up r s t spent turns (suc m) some all g =
 -- a turn ended the pop
 module _ (r : Arena) (s t : Seat) (failed turns : ℕ) where
   pub pop_worn_out : (why : Refusal) → Turns r s t (turn.Refused why) → Draws pop_worn r s (keeping t None failed) failed turns (Err why)
-  pop_worn_out why f = let k = f.turned in draws_worn pop_worn r s t why OfTail failed turns f.lines f.seat k.over f.empty f.stored k.walks k.is k.cause tt
+  pop_worn_out Closed f = let k = f.turned in draws_shut pop_worn r s t failed turns f.lines f.seat k.over f.empty f.stored k.finds k.cause
+  pop_worn_out _ f = let k = f.turned in draws_worn pop_worn r s t _ OfTail failed turns f.lines f.seat k.over f.empty f.stored k.walks k.is k.cause tt
 
   pub pop_took : (x : Seat) (word : ℕ) (h : Held) (out : Result (Unit {0}) Refusal) → failed < turns → Turns r s t (turn.Took word h) → GiveAnswers r (keeping t (Some h) failed) x (turns - failed) out → Draws pop_worn r s x failed turns (Ok (Some (value_of word)))
   pop_took x word h out less f g = draws_taken pop_worn r s t x word h failed turns out f.lines less f.stored f.turned.acts f.turned.never g

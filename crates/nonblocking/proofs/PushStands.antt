@@ -1,21 +1,22 @@
 -- Where each line of a push leads.
-use Rattle.std.proofs.Common.{◌≡◌, ℕ, ◌+◌, Bool, true, false, nat_eq, if◌then◌else◌, Option, Some, None, [], ◌∷◌, sym, refl, ap, ◌∙◌}
-use Rattle.counted_ref.specs.Ref.{Ref, ref_of, is_null, same_ref}
+use Rattle.std.proofs.Common.{◌≡◌, ℕ, ◌+◌, Bool, true, false, nat_eq, if◌then◌else◌, Option, Some, None, [], ◌∷◌, sym, refl, ap, subst, ◌∙◌}
+use Rattle.counted_ref.specs.Ref.{Ref, ref_of, is_null, is_shut, same_ref}
 use Rattle.line_table.specs.declared.lines.Line.{Line}
 use Rattle.line_table.specs.declared.lines.Line.TheVariants.{E2, E3, E5, E6, E7, E9, E13, E17}
 use Rattle.history.specs.declared.operations.Entry.TheVariants.{Push}
 use Rattle.history.specs.declared.operations.Reply.TheVariants as reply
 use Rattle.history.specs.declared.refusals.Refusal.{Refusal}
-use Rattle.history.specs.declared.refusals.Refusal.TheVariants.{WornOut}
+use Rattle.history.specs.declared.refusals.Refusal.TheVariants.{WornOut, Closed}
 use Rattle.history.specs.declared.refusals.WornWord.{WornWord}
 use Rattle.history.specs.declared.refusals.WornWord.TheVariants.{Next as OfNext, Tail as OfTail}
-use Rattle.node_arena.specs.Machine.{Held, Actor, Outcome as MachineOutcome, node_at, goes, ends, worn, empties_hand, sets_aside, to_pocket}
+use Rattle.node_arena.specs.Machine.{Held, Actor, Outcome as MachineOutcome, node_at, goes, ends, worn, closed, empties_hand, sets_aside, to_pocket}
 use Rattle.history.specs.declared.operations.Reply.TheVariants as reply
 use Rattle.node_arena.specs.Traces.{outcome_at, entries_at}
 use Rattle.node_arena.specs.Prologues.{Prologue, continues, after_prologue}
 use Rattle.node_arena.specs.declared.arena.Arena.{Arena}
 use Rattle.node_arena.specs.declared.seats.Seat.{Seat}
 use Rattle.node_arena.specs.Seats.{DidStep, view}
+use Rattle.node_arena.proofs.Noting.{IsSilent}
 use Rattle.node_arena.proofs.Known.{empty_before}
 use Rattle.node_arena.proofs.Paths.{settled, goes_on}
 use Rattle.arena_lines.specs.declared.outcomes.Outcome.{Outcome}
@@ -54,23 +55,23 @@ module _ (r : Arena) (s t : Seat) (prologue : Prologue) (n : ℕ) (a : Running) 
   b1 = after_prologue r.plan.setup (view s).number prologue (view s).actor
 
   -- a call that ends has an empty pocket, where its outcome keeps that of its actor
-  over : (l : Line) → CallIsAt r s prologue l a → (d : DidStep r s t prologue l n) (o : MachineOutcome) → outcome_at r.plan.setup d.told.was (view s).number b1 l ≡ o → o.actor.line ≡ None → o.actor.pocket ≡ b1.pocket → ((view t).actor.line ≡ None) × ((view t).actor.pocket ≡ None)
-  over l h d o e line pocket = settled r s t prologue l n d o e (λ x. (x.line ≡ None) × (x.pocket ≡ None)) (λ x. (line, pocket ∙ empty_before r s prologue l h.before))
+  over : (l : Line) → CallIsAt r s prologue l a → (after_prologue r.plan.setup (view s).number prologue (view s).actor).pocket ≡ None → (d : DidStep r s t prologue l n) (o : MachineOutcome) → outcome_at r.plan.setup d.told.was (view s).number b1 l ≡ o → o.actor.line ≡ None → o.actor.pocket ≡ b1.pocket → ((view t).actor.line ≡ None) × ((view t).actor.pocket ≡ None)
+  over l h none d o e line pocket = settled r s t prologue l n d o e (λ x. (x.line ≡ None) × (x.pocket ≡ None)) (λ x. (line, pocket ∙ none))
 
   pub after_e2 : CallIsAt r s prologue E2 a → DidStep r s t prologue E2 n → CallIsAt r t continues E3 a
   after_e2 h d = leads r s t prologue E2 n a h d (out r s t prologue E2 n a h d) refl E3 a refl h.hand (λ x. tt)
 
   pub after_e5 : CallIsAt r s prologue E5 a → DidStep r s t prologue E5 n → CallIsAt r t continues E6 (record a { tail = ref_of n })
-  after_e5 h d = leads r s t prologue E5 n a h d (out r s t prologue E5 n a h d) refl E6 (record a { tail = ref_of n }) refl h.hand (λ x. sym (ref_e5 r s t prologue n d).0)
+  after_e5 h d = leads r s t prologue E5 n a h d (out r s t prologue E5 n a h d) refl E6 (record a { tail = ref_of n }) refl h.hand (λ x. sym (ref_e5 r s t prologue n d))
 
   pub after_e6 : CallIsAt r s prologue E6 a → DidStep r s t prologue E6 n → CallIsAt r t continues E7 (record a { next = ref_of n })
-  after_e6 h d = leads r s t prologue E6 n a h d (out r s t prologue E6 n a h d) refl E7 (record a { next = ref_of n }) refl h.hand (λ x. (h.knows, sym (ref_e6 r s t prologue n d).0))
+  after_e6 h d = leads r s t prologue E6 n a h d (out r s t prologue E6 n a h d) refl E7 (record a { next = ref_of n }) refl h.hand (λ x. (h.knows, sym (ref_e6 r s t prologue n d)))
 
   pub after_e13 : CallIsAt r s prologue E13 a → DidStep r s t prologue E13 n → CallIsAt r t continues E5 a
   after_e13 h d = leads r s t prologue E13 n a h d (out r s t prologue E13 n a h d) refl E5 a refl h.hand (λ x. tt)
 
   pub after_e17 : CallIsAt r s prologue E17 a → DidStep r s t prologue E17 n → ((view t).actor.line ≡ None) × ((view t).actor.pocket ≡ None)
-  after_e17 h d = over E17 h d (out r s t prologue E17 n a h d) refl refl refl
+  after_e17 h d = over E17 h (empty_before r s prologue E17 h.before) d (out r s t prologue E17 n a h d) refl refl refl
 
   -- E3: the node is ready, or its own next is worn out
   module _ (h : CallIsAt r s prologue E3 a) (d : DidStep r s t prologue E3 n) where
@@ -87,11 +88,11 @@ module _ (r : Arena) (s t : Seat) (prologue : Prologue) (n : ℕ) (a : Running) 
     after_e3 = go (nat_eq (ref_of n).count r.plan.setup.limit) refl
       where
         o : (p : Bool) → nat_eq (ref_of n).count r.plan.setup.limit ≡ p → outcome_at r.plan.setup d.told.was (view s).number b1 E3 ≡ third (d.told.was.world.steps + 1) (ref_of n) p
-        o p e = ap (λ x. third (d.told.was.world.steps + 1) x (nat_eq x.count r.plan.setup.limit)) (sym (ref_e3 r s t prologue n d).0) ∙ ap (third (d.told.was.world.steps + 1) (ref_of n)) e
+        o p e = ap (λ x. third (d.told.was.world.steps + 1) x (nat_eq x.count r.plan.setup.limit)) (sym (ref_e3 r s t prologue n d)) ∙ ap (third (d.told.was.world.steps + 1) (ref_of n)) e
 
         go : (p : Bool) → nat_eq (ref_of n).count r.plan.setup.limit ≡ p → Third (if p then Ends (IsRefused (WornOut OfNext)) else Goes E5 (record a { mark = (ref_of n).count }))
         go true e =
-            let x = over E3 h d (third (d.told.was.world.steps + 1) (ref_of n) true) (o true e) refl refl in
+            let x = over E3 h (empty_before r s prologue E3 h.before) d (third (d.told.was.world.steps + 1) (ref_of n) true) (o true e) refl refl in
             record { over = x.0; pocket = x.1; is = refl; replies = ap (λ c. c.reply) (o true e) }
         go false e = (
           leads r s t prologue E3 n a h d (third (d.told.was.world.steps + 1) (ref_of n) false) (o false e) E5 (record a { mark = (ref_of n).count }) refl record { node = h.hand.node; mark = refl; val = h.hand.val } (λ x. tt),
@@ -101,40 +102,55 @@ module _ (r : Arena) (s t : Seat) (prologue : Prologue) (n : ℕ) (a : Running) 
 
   -- E7: to E9, to E13, again, or Tail is worn out
   module _ (h : CallIsAt r s prologue E7 a) (d : DidStep r s t prologue E7 n) where
+    -- its reply doesn't say that the queue is shut
+    abbrev pub Quiet : Type 0
+    Quiet = IsSilent (outcome_at r.plan.setup d.told.was (view s).number b1 E7).reply
+
+    -- the queue was found shut
+    pub record Shut : Type 0 where
+      pub over : (view t).actor.line ≡ None
+      pub pocket : (view t).actor.pocket ≡ Some (in_hand a)
+      pub replies : (outcome_at r.plan.setup d.told.was (view s).number b1 E7).reply ≡ Some (reply.Refused Closed)
+
     abbrev pub Seventh : Outcome Running → Type 0
-    Seventh (Goes E9 c) = CallIsAt r t continues E9 c × (c ≡ a)
-    Seventh (Goes E13 c) = CallIsAt r t continues E13 c × (c ≡ a)
-    Seventh (Goes E5 c) = CallIsAt r t continues E5 c × (c ≡ a)
+    Seventh (Goes E9 c) = CallIsAt r t continues E9 c × (c ≡ a) × Quiet
+    Seventh (Goes E13 c) = CallIsAt r t continues E13 c × (c ≡ a) × Quiet
+    Seventh (Goes E5 c) = CallIsAt r t continues E5 c × (c ≡ a) × Quiet
     Seventh (Goes l c) = ⊥
-    Seventh (Ends (IsRefused why)) = Worn r s t prologue E7 n a h d (Some (in_hand a)) OfTail why
+    Seventh (Ends (IsRefused Closed)) = Shut
+    Seventh (Ends (IsRefused why)) = Worn r s t prologue E7 n a h d (Some (in_hand a)) OfTail why × Quiet
     Seventh (Ends reply) = ⊥
 
-    abbrev seventh : ℕ → (p q u : Bool) → MachineOutcome
-    seventh now p q u = if p then if q then goes E9 b1 else if u then worn now OfTail (to_pocket b1) else goes E13 b1 else goes E5 b1
+    abbrev seventh : ℕ → (p q c u : Bool) → MachineOutcome
+    seventh now p q c u = if p then if q then goes E9 b1 else if c then closed now (to_pocket b1) else if u then worn now OfTail (to_pocket b1) else goes E13 b1 else goes E5 b1
 
-    abbrev leads_to : (p q u : Bool) → Outcome Running
-    leads_to p q u = if p then if q then Goes E9 a else if u then Ends (IsRefused (WornOut OfTail)) else Goes E13 a else Goes E5 a
+    abbrev leads_to : (p q c u : Bool) → Outcome Running
+    leads_to p q c u = if p then if q then Goes E9 a else if c then Ends (IsRefused Closed) else if u then Ends (IsRefused (WornOut OfTail)) else Goes E13 a else Goes E5 a
 
     pub after_e7 : Seventh (follow r.plan.setup a E7 n)
-    after_e7 = go (same_ref (ref_of n) a.tail) (is_null a.next) (nat_eq a.tail.count r.plan.setup.limit) refl refl refl
+    after_e7 = go (same_ref (ref_of n) a.tail) (is_null a.next) (is_shut a.next) (nat_eq a.tail.count r.plan.setup.limit) refl refl refl refl
       where
         now : ℕ
         now = d.told.was.world.steps + 1
 
-        o : (p q u : Bool) → same_ref (ref_of n) a.tail ≡ p → is_null a.next ≡ q → nat_eq a.tail.count r.plan.setup.limit ≡ u → outcome_at r.plan.setup d.told.was (view s).number b1 E7 ≡ seventh now p q u
-        o p q u x y w = λ i. seventh now (((λ j. same_ref (sym (ref_e7 r s t prologue n d).0 j) (h.knows.0 j)) ∙ x) i) ((ap is_null h.knows.1 ∙ y) i) ((ap (λ (k : Ref). nat_eq k.count r.plan.setup.limit) h.knows.0 ∙ w) i)
+        o : (p q c u : Bool) → same_ref (ref_of n) a.tail ≡ p → is_null a.next ≡ q → is_shut a.next ≡ c → nat_eq a.tail.count r.plan.setup.limit ≡ u → outcome_at r.plan.setup d.told.was (view s).number b1 E7 ≡ seventh now p q c u
+        o p q c u x y v w = λ i. seventh now (((λ j. same_ref (sym (ref_e7 r s t prologue n d) j) (h.knows.0 j)) ∙ x) i) ((ap is_null h.knows.1 ∙ y) i) ((ap is_shut h.knows.1 ∙ v) i) ((ap (λ (k : Ref). nat_eq k.count r.plan.setup.limit) h.knows.0 ∙ w) i)
 
-        on : (p q u : Bool) → out r s t prologue E7 n a h d ≡ seventh now p q u → (k : Line) → (seventh now p q u).actor.line ≡ Some k → HasNode (seventh now p q u).actor a → ((x : Option ℕ) → AgreesAt k (record (seventh now p q u).actor { entry = x }) a) → CallIsAt r t continues k a × (a ≡ a)
-        on p q u e k line hand knows = (leads r s t prologue E7 n a h d (seventh now p q u) e k a line hand knows, refl)
+        on : (p q c u : Bool) → out r s t prologue E7 n a h d ≡ seventh now p q c u → IsSilent (seventh now p q c u).reply → (k : Line) → (seventh now p q c u).actor.line ≡ Some k → HasNode (seventh now p q c u).actor a → ((x : Option ℕ) → AgreesAt k (record (seventh now p q c u).actor { entry = x }) a) → CallIsAt r t continues k a × (a ≡ a) × Quiet
+        on p q c u e quiet k line hand knows = (leads r s t prologue E7 n a h d (seventh now p q c u) e k a line hand knows, refl, subst (λ (m : MachineOutcome). IsSilent m.reply) (sym e) quiet)
 
-        go : (p q u : Bool) → same_ref (ref_of n) a.tail ≡ p → is_null a.next ≡ q → nat_eq a.tail.count r.plan.setup.limit ≡ u → Seventh (leads_to p q u)
-        go true true u x y w = on true true u (o true true u x y w) E9 refl h.hand (λ z. h.knows)
-        go true false true x y w =
-            let e = o true false true x y w in
-            let k = settled r s t prologue E7 n d (seventh now true false true) e (λ c. (c.line ≡ None) × (c.pocket ≡ Some (in_hand a))) (λ z. (refl, λ i. Some (record { node = h.hand.node i; mark = h.hand.mark i }))) in
-            record { over = k.0; pocket = k.1; is = refl; replies = ap (λ c. c.reply) e }
-        go true false false x y w = on true false false (o true false false x y w) E13 refl h.hand (λ z. h.knows)
-        go false q u x y w = on false q u (o false q u x y w) E5 refl h.hand (λ z. tt)
+        go : (p q c u : Bool) → same_ref (ref_of n) a.tail ≡ p → is_null a.next ≡ q → is_shut a.next ≡ c → nat_eq a.tail.count r.plan.setup.limit ≡ u → Seventh (leads_to p q c u)
+        go true true c u x y v w = on true true c u (o true true c u x y v w) tt E9 refl h.hand (λ z. h.knows)
+        go true false true u x y v w =
+            let e = o true false true u x y v w in
+            let k = settled r s t prologue E7 n d (seventh now true false true u) e (λ c. (c.line ≡ None) × (c.pocket ≡ Some (in_hand a))) (λ z. (refl, λ i. Some (record { node = h.hand.node i; mark = h.hand.mark i }))) in
+            record { over = k.0; pocket = k.1; replies = ap (λ c. c.reply) e }
+        go true false false true x y v w =
+            let e = o true false false true x y v w in
+            let k = settled r s t prologue E7 n d (seventh now true false false true) e (λ c. (c.line ≡ None) × (c.pocket ≡ Some (in_hand a))) (λ z. (refl, λ i. Some (record { node = h.hand.node i; mark = h.hand.mark i }))) in
+            (record { over = k.0; pocket = k.1; is = refl; replies = ap (λ c. c.reply) e }, subst (λ (m : MachineOutcome). IsSilent m.reply) (sym e) tt)
+        go true false false false x y v w = on true false false false (o true false false false x y v w) tt E13 refl h.hand (λ z. h.knows)
+        go false q c u x y v w = on false q c u (o false q c u x y v w) tt E5 refl h.hand (λ z. tt)
 
   -- E9: won, to E17 or to the end, or lost
   module _ (h : CallIsAt r s prologue E9 a) (d : DidStep r s t prologue E9 n) where
@@ -166,7 +182,7 @@ module _ (r : Arena) (s t : Seat) (prologue : Prologue) (n : ℕ) (a : Running) 
         now = d.told.was.world.steps + 1
 
         test : (p : Bool) → same_ref (ref_of n) a.next ≡ p → same_ref (node_at d.told.was.world.shared b1.tail.node).next b1.next ≡ p
-        test p x = (λ j. same_ref (sym (ref_e9 r s t prologue n d).0 j) (h.knows.1 j)) ∙ x
+        test p x = (λ j. same_ref (sym (ref_e9 r s t prologue n d) j) (h.knows.1 j)) ∙ x
 
         o : (p u : Bool) → same_ref (ref_of n) a.next ≡ p → nat_eq a.tail.count r.plan.setup.limit ≡ u → outcome_at r.plan.setup d.told.was (view s).number b1 E9 ≡ ninth now p u
         o p u x w = λ i. ninth now (test p x i) ((ap (λ (k : Ref). nat_eq k.count r.plan.setup.limit) h.knows.0 ∙ w) i)
@@ -175,6 +191,6 @@ module _ (r : Arena) (s t : Seat) (prologue : Prologue) (n : ℕ) (a : Running) 
         put p x = ap (λ q. if q then Push (view s).number b1.val.body ∷ [] else []) (test p x)
 
         go : (p u : Bool) → same_ref (ref_of n) a.next ≡ p → nat_eq a.tail.count r.plan.setup.limit ≡ u → Ninth (gone p u)
-        go true true x w = let k = over E9 h d (ninth now true true) (o true true x w) refl refl in (k.0, k.1, put true x)
+        go true true x w = let k = over E9 h (empty_before r s prologue E9 h.before) d (ninth now true true) (o true true x w) refl refl in (k.0, k.1, put true x)
         go true false x w = (leads r s t prologue E9 n a h d (ninth now true false) (o true false x w) E17 (record a { due = Some IsDone }) refl h.hand (λ z. h.knows.0), put true x)
         go false u x w = (leads r s t prologue E9 n a h d (ninth now false u) (o false u x w) E5 a refl h.hand (λ z. tt), refl, put false x)

@@ -6,17 +6,17 @@ use Rattle.history.specs.declared.operations.Entry.TheVariants.{Push}
 use Rattle.history.specs.declared.operations.Op.TheVariants.{Enq}
 use Rattle.history.specs.declared.operations.Taken.{Taken}
 use Rattle.history.specs.declared.refusals.Refusal.{Refusal}
-use Rattle.history.specs.declared.refusals.Refusal.TheVariants.{WornOut, Busy}
-use Rattle.history.specs.declared.refusals.WornWord.TheVariants.{Next as OfNext, Tail as OfTail}
+use Rattle.history.specs.declared.refusals.Refusal.TheVariants.{WornOut, Busy, Closed}
+use Rattle.history.specs.declared.refusals.WornWord.TheVariants.{Free as OfFree, Next as OfNext, Tail as OfTail, Head as OfHead}
 use Rattle.node_arena.specs.Machine.{Held, Actor, with_node, from_pocket}
 use Rattle.node_arena.specs.Traces.{Event}
 use Rattle.node_arena.specs.Prologues.{begins, continues, at_rest, out_of}
 use Rattle.node_arena.specs.declared.arena.Arena.{Arena}
 use Rattle.node_arena.specs.declared.seats.Seat.{Seat}
-use Rattle.node_arena.specs.Seats.{IsReady, view, pocket_of, keeping}
+use Rattle.node_arena.specs.Seats.{IsReady, IsSeat, KeepsStored, view, pocket_of, keeping}
 use Rattle.node_arena.specs.Turns.{failed_turns}
-use Rattle.node_arena.specs.Paths.{ExtendsPath, Acts, added}
-use Rattle.node_arena.proofs.Paths.{walk_then, then_act, then_stored, added_is, added_path, failed-append, failed_behind, stopped_behind, last_held, kept_seat, ends_failed}
+use Rattle.node_arena.specs.Paths.{ExtendsPath, FindsShut, StopsAPush, Acts, added}
+use Rattle.node_arena.proofs.Paths.{walk_then, then_act, then_stored, added_is, added_path, failed-append, failed_behind, stopped_behind, then_shut, last_held, kept_seat, ends_failed}
 use Rattle.nonblocking.specs.Values.{IsNonBlocking}
 use Rattle.node_arena.specs.Machine.{value_of}
 use Rattle.arena_lines.specs.declared.outcomes.Outcome.{Outcome}
@@ -70,9 +70,9 @@ fill_worn r s t a out why node body spent turns is f =
       ready = record { seat = kept_seat r t None spent k.seat; free = ap (λ b. b.line) rest ∙ k.over; pocket = sym (ap (λ b. b.pocket) rest ∙ k.pocket) };
       same = record { number = f.stored.number; role = f.stored.role };
       pushed = tt;
-      refused = (
+      refused = subst (λ y. StopsAPush s (keeping t None spent) y × PutRefused push_worn r s (keeping t None spent) node spent turns y) (sym k.is) (
         subst (ExtendsPath (view s) (view t)) (sym e) f.walks,
-        subst (PutRefused push_worn r s (keeping t None spent) node spent turns) (sym k.is) (last_held r s (keeping t None spent) f.lines _ e k.cause, refl, tt),
+        (last_held r s (keeping t None spent) f.lines _ e k.cause, refl, tt),
       );
     }
 
@@ -161,23 +161,45 @@ module _ (r : Arena) (s t u : Seat) (h : Held) (val spent n turns : ℕ) (a : Ru
   -- a turn was refused
   pub refused_put : (why : Refusal) → out ≡ TurnRefused why → Puts push_worn r s (keeping u (Some h) n) h.node (value_of val).body spent turns (Err why)
   refused_put why e =
-      let k : Turns r t u b (TurnRefused why) = turned_as (TurnRefused why) e in
-      let es : List Event = g.lines ++ k.lines in
-      let w : ExtendsPath (view s) (view u) es = walk_then (view s) (view t) (view u) g.lines k.lines g.walks k.turned.0 in
-      let name = then_stored s t u g.stored k.stored in
-      let f = k.turned.1 in
-      let e : added s u ≡ es = added_is s u es w in
-      let rest : at_rest (view u).actor ≡ (view u).actor = ap (out_of (view u).actor) f.over in
-      record {
-        ready = record { seat = kept_seat r u (Some h) n f.seat; free = ap (λ b. b.line) rest ∙ f.over; pocket = sym (ap (λ b. b.pocket) rest ∙ f.pocket) };
-        same = record { number = name.number; role = name.role };
-        pushed = tt;
-        refused = (
-          subst (ExtendsPath (view s) (view u)) (sym e) w,
-          subst (PutRefused push_worn r s (keeping u (Some h) n) h.node spent turns) (sym f.is)
-              (last_held r s (keeping u (Some h) n) es _ e (stopped_behind r s t g.lines k.lines (WornOut OfTail) g.walks f.cause), refl, refl),
-        );
-      }
+      by_cause why (turned_as (TurnRefused why) e)
+    where
+      -- the call is over, with its node in the pocket
+      ends : (k : KeepsStored t u) (why : Refusal) → IsSeat r u → (view u).actor.line ≡ None → (view u).actor.pocket ≡ Some (in_hand b)
+          → StopsAPush s (keeping u (Some h) n) why × PutRefused push_worn r s (keeping u (Some h) n) h.node spent turns why → Puts push_worn r s (keeping u (Some h) n) h.node (value_of val).body spent turns (Err why)
+      ends k why seat over pocket refused =
+          let name = then_stored s t u g.stored k in
+          let rest : at_rest (view u).actor ≡ (view u).actor = ap (out_of (view u).actor) over in
+          record {
+            ready = record { seat = kept_seat r u (Some h) n seat; free = ap (λ b. b.line) rest ∙ over; pocket = sym (ap (λ b. b.pocket) rest ∙ pocket) };
+            same = record { number = name.number; role = name.role };
+            pushed = tt;
+            refused = refused;
+          }
+
+      worn : (k : Turns r t u b (TurnRefused (WornOut OfTail))) (w : ExtendsPath (view t) (view u) k.lines) → FoundWorn r t u (Some (in_hand b)) k.lines OfTail (WornOut OfTail) → Puts push_worn r s (keeping u (Some h) n) h.node (value_of val).body spent turns (Err (WornOut OfTail))
+      worn k w f =
+          let es : List Event = g.lines ++ k.lines in
+          let all : ExtendsPath (view s) (view u) es = walk_then (view s) (view t) (view u) g.lines k.lines g.walks w in
+          let e : added s u ≡ es = added_is s u es all in
+          ends k.stored (WornOut OfTail) f.seat f.over f.pocket (
+            subst (ExtendsPath (view s) (view u)) (sym e) all,
+            (last_held r s (keeping u (Some h) n) es _ e (stopped_behind r s t g.lines k.lines (WornOut OfTail) g.walks f.cause), refl, refl),
+          )
+
+      by_cause : (why : Refusal) → Turns r t u b (TurnRefused why) → Puts push_worn r s (keeping u (Some h) n) h.node (value_of val).body spent turns (Err why)
+      by_cause Closed k =
+          let es : List Event = g.lines ++ k.lines in
+          let finds : FindsShut (view s) (view u) es = then_shut (view s) (view t) (view u) g.lines k.lines g.walks k.turned.finds in
+          let e : added s u ≡ es = added_path s u es finds.path in
+          ends k.stored Closed k.turned.seat k.turned.over k.turned.pocket (
+            subst (FindsShut (view s) (view u)) (sym e) finds,
+            (last_held r s (keeping u (Some h) n) es _ e (stopped_behind r s t g.lines k.lines Closed g.walks k.turned.cause), refl),
+          )
+      by_cause (WornOut OfTail) k = worn k k.turned.0 k.turned.1
+      by_cause (WornOut OfFree) k = absurd (let e = k.turned.1.is in cc)
+      by_cause (WornOut OfNext) k = absurd (let e = k.turned.1.is in cc)
+      by_cause (WornOut OfHead) k = absurd (let e = k.turned.1.is in cc)
+      by_cause _ k = absurd (let e = k.turned.1.is in cc)
 
 -- by the node and the body of the call
 pub puts_as : (r : Arena) (s u : Seat) (n node b body spent turns : ℕ) (o : Result (Unit {0}) Refusal) → n ≡ node → b ≡ body → Puts push_worn r s u n b spent turns o → Puts push_worn r s u node body spent turns o

@@ -6,18 +6,19 @@ use Rattle.line_table.specs.declared.lines.Line.TheVariants.{E2, E3, E5, E6, E7,
 use Rattle.history.specs.declared.operations.Entry.TheVariants.{Push}
 use Rattle.history.specs.declared.operations.Taken.{Taken}
 use Rattle.history.specs.declared.refusals.Refusal.{Refusal}
-use Rattle.history.specs.declared.refusals.Refusal.TheVariants.{WornOut}
+use Rattle.history.specs.declared.refusals.Refusal.TheVariants.{WornOut, Closed}
 use Rattle.history.specs.declared.refusals.WornWord.{WornWord}
 use Rattle.history.specs.declared.refusals.WornWord.TheVariants.{Next as OfNext, Tail as OfTail}
 use Rattle.node_arena.specs.Machine.{Held}
-use Rattle.node_arena.specs.Traces.{Event, entries_at}
+use Rattle.node_arena.specs.Traces.{Event, entries_at, outcome_at}
 use Rattle.node_arena.specs.Prologues.{Prologue, continues}
 use Rattle.node_arena.specs.declared.arena.Arena.{Arena}
 use Rattle.node_arena.specs.declared.seats.Seat.{Seat}
 use Rattle.node_arena.specs.Seats.{DidStep, view}
 use Rattle.node_arena.specs.Turns.{failed_at, failed_turns, at_e5}
 use Rattle.node_arena.specs.Paths.{ExtendsPath, Acts}
-use Rattle.node_arena.proofs.Paths.{walk_then, then_act, act_then, then_stored, failed_snoc, failed-append, failed_behind, stopped_behind, event, walk_on, pass_on, act_on, to_is, stopped_at, failed_last}
+use Rattle.node_arena.proofs.Noting.{IsSilent}
+use Rattle.node_arena.proofs.Paths.{walk_then, then_act, act_then, then_stored, failed-append, failed_behind, stopped_behind, then_shut, event, walk_on, walk_silent, shut_on, pass_on, act_on, to_is, stopped_at}
 use Rattle.node_arena.specs.Machine.{value_of}
 use Rattle.arena_lines.specs.declared.outcomes.Outcome.{Outcome}
 use Rattle.arena_lines.specs.declared.outcomes.Outcome.TheVariants.{Goes, Ends}
@@ -26,8 +27,9 @@ use Rattle.arena_lines.specs.declared.outcomes.Reply.TheVariants.{Done as IsDone
 use Rattle.nonblocking.specs.declared.push_outcomes.Actor.{Actor as Running}
 use Rattle.nonblocking.specs.declared.push_outcomes.Turn.{Turn}
 use Rattle.nonblocking.specs.declared.push_outcomes.Turn.TheVariants.{Pushed, Failed, Refused as TurnRefused}
-use Rattle.nonblocking.specs.Pushes.{in_hand, follow, CallIsAt, Follows, Comes, Slipped, FoundWorn, Filled, Fills, Looked, Looks, Turned, Turns}
+use Rattle.nonblocking.specs.Pushes.{in_hand, follow, CallIsAt, Follows, Comes, Slipped, FoundWorn, SawShut, Stops, Filled, Fills, Looked, Looks, Turned, Turns}
 use Rattle.arena_lines.proofs.Registers.{same_registers}
+use Rattle.nonblocking.proofs.FailedTurns.{turns_then, fails_last}
 use Rattle.nonblocking.proofs.PushStands.{after_e2, after_e5, after_e6, after_e13, after_e17, Worn, Third, after_e3, Seventh, after_e7, Ninth, after_e9}
 
 -- after E2
@@ -100,19 +102,14 @@ stands_e5 r t a c hand val h =
     }
 
 -- a line whose turn failed
-module _ (r : Arena) (s t : Seat) (l : Line) (n : ℕ) (d : DidStep r s t continues l n) (before : List Event) (never : failed_turns before ≡ 0) (q : (o : Option Line) → failed_at l o ≡ at_e5 o) where
+module _ (r : Arena) (s t : Seat) (l : Line) (n : ℕ) (d : DidStep r s t continues l n) (before : List Event) (never : failed_turns before ≡ 0) (one : failed_at l (Some E5) ≡ 1) where
   slips : (a : Running) → CallIsAt r t continues E5 a → Slipped r t a (before ++ event r s t continues l n d ∷ [])
   slips a h =
-      let e : failed_at l (view t).actor.line ≡ 1 = q (view t).actor.line ∙ ap at_e5 h.before.line in
       record {
         stands = h;
-        once = (let f = failed_snoc before (event r s t continues l n d) in let z = ap (failed_at l) (to_is r s t continues l n d) ∙ e in omega arith);
-        last = failed_last r s t continues l n d before e;
+        once = turns_then r s t l n d before (Some E5) h.before.line never ∙ one;
+        last = fails_last r s t l n d before (Some E5) h.before.line one;
       }
-
-  -- and one whose turn went on
-  went_on : (o : Option Line) → (view t).actor.line ≡ o → at_e5 o ≡ 0 → failed_turns (before ++ event r s t continues l n d ∷ []) ≡ 0
-  went_on o e z = let f = failed_snoc before (event r s t continues l n d) in let g = ap (failed_at l) (to_is r s t continues l n d ∙ e) ∙ q o ∙ z in omega arith
 
 -- E5 to E7
 module _ (r : Arena) (s u v t : Seat) (l k : Line) (a b c : Running) (out : Outcome Running) (h : CallIsAt r s continues E5 a) (f : Follows r s u continues E5 a (Goes l b)) (g : Follows r u v continues E6 b (Goes k c)) (m : Follows r v t continues E7 c out) where
@@ -143,27 +140,45 @@ module _ (r : Arena) (s u v t : Seat) (l k : Line) (a b c : Running) (out : Outc
   val : c.val ≡ a.val
   val = at7.2 ∙ at6.2
 
-  no_turn : (o : Option Line) → (view t).actor.line ≡ o → at_e5 o ≡ 0 → failed_turns (before ++ seven ∷ []) ≡ 0
-  no_turn o e z = went_on r v t E7 m.found m.did before refl (λ q. refl) o e z
+  counts : (o : Option Line) → (view t).actor.line ≡ o → failed_turns (before ++ seven ∷ []) ≡ failed_at E7 o
+  counts o e = turns_then r v t E7 m.found m.did before o e refl
+
+  three_lines : IsSilent (outcome_at r.plan.setup m.did.told.was (view v).number (view v).actor E7).reply → ExtendsPath (view s) (view t) (before ++ seven ∷ [])
+  three_lines quiet = walk_then (view s) (view v) (view t) before (seven ∷ []) two_lines (walk_silent r v t continues E7 m.found m.did refl quiet)
+
+  worn_at : (why : Refusal) → Worn r v t continues E7 m.found c at7.0 m.did (Some (in_hand c)) OfTail why → FoundWorn r s t (Some (in_hand a)) (before ++ seven ∷ []) OfTail why
+  worn_at why y =
+      subst (λ p. FoundWorn r s t (Some p) (before ++ seven ∷ []) OfTail why) hand
+      (found_worn r s v t E7 m.found c at7.0 m.did before two_lines (Some (in_hand c)) OfTail why (counts None y.over) y)
+
+  worn_or : (why : Refusal) → Seventh r v t continues m.found c at7.0 m.did (Ends (IsRefused why)) → Stops r s t a (before ++ seven ∷ []) why
+  worn_or Closed y =
+      subst (λ p. SawShut r s t (Some p) (before ++ seven ∷ [])) hand
+      (record {
+        seat = m.did.seat;
+        over = y.over;
+        pocket = y.pocket;
+        never = counts None y.over;
+        finds = then_shut (view s) (view v) (view t) before (seven ∷ []) two_lines (shut_on r v t continues E7 m.found m.did refl y.replies);
+        cause = stopped_at r v t continues E7 m.found m.did s before Closed two_lines y.replies;
+      })
+  worn_or _ y = (three_lines y.1, worn_at _ y.0)
 
   looked : (o : Outcome Running) → Seventh r v t continues m.found c at7.0 m.did o → Looked r s t a (before ++ seven ∷ []) o
-  looked (Goes E9 x) y = record { stands = y.0; hand = ap in_hand y.1 ∙ hand; val = ap (λ (z : Running). z.val) y.1 ∙ val; never = no_turn (Some E9) y.0.before.line refl }
-  looked (Goes E13 x) y = record { stands = y.0; hand = ap in_hand y.1 ∙ hand; val = ap (λ (z : Running). z.val) y.1 ∙ val; never = no_turn (Some E13) y.0.before.line refl }
-  looked (Goes E5 x) y = slips r v t E7 m.found m.did before refl (λ o. refl) a (stands_e5 r t a x (ap in_hand y.1 ∙ hand) (ap (λ (z : Running). z.val) y.1 ∙ val) y.0)
+  looked (Goes E9 x) y = (three_lines y.2, record { stands = y.0; hand = ap in_hand y.1 ∙ hand; val = ap (λ (z : Running). z.val) y.1 ∙ val; never = counts (Some E9) y.0.before.line })
+  looked (Goes E13 x) y = (three_lines y.2, record { stands = y.0; hand = ap in_hand y.1 ∙ hand; val = ap (λ (z : Running). z.val) y.1 ∙ val; never = counts (Some E13) y.0.before.line })
+  looked (Goes E5 x) y = (three_lines y.2, slips r v t E7 m.found m.did before refl refl a (stands_e5 r t a x (ap in_hand y.1 ∙ hand) (ap (λ (z : Running). z.val) y.1 ∙ val) y.0))
   looked (Goes _ x) y = absurd y
   looked (Ends IsDone) y = absurd y
   looked (Ends (IsValue word)) y = absurd y
   looked (Ends IsEmpty) y = absurd y
-  looked (Ends (IsRefused why)) y =
-      subst (λ p. FoundWorn r s t (Some p) (before ++ seven ∷ []) OfTail why) hand
-      (found_worn r s v t E7 m.found c at7.0 m.did before two_lines (Some (in_hand c)) OfTail why (no_turn None y.over refl) y)
+  looked (Ends (IsRefused why)) y = worn_or why y
 
   pub looks : Looks r s t a out
   looks =
       record {
         stored = then_stored s v t (then_stored s u v f.did.stored g.did.stored) m.did.stored;
         lines = before ++ seven ∷ [];
-        walks = walk_then (view s) (view v) (view t) before (seven ∷ []) two_lines (walk_on r v t continues E7 m.found m.did refl tt);
         looked = subst (Looked r s t a (before ++ seven ∷ [])) (sym m.leads_to) (looked (follow r.plan.setup c E7 m.found) (after_e7 r v t continues m.found c at7.0 m.did));
       }
 
@@ -188,7 +203,7 @@ module _ (r : Arena) (s t : Seat) (a : Running) (out : Outcome Running) (h : Cal
       record {
         stored = f.did.stored;
         lines = nine ∷ [];
-        turned = record { seat = f.did.seat; over = k.0; empty = k.1; never = went_on r s t E9 f.found f.did [] refl (λ o. refl) None k.0 refl; acts = acts k.2 };
+        turned = record { seat = f.did.seat; over = k.0; empty = k.1; never = turns_then r s t E9 f.found f.did [] None k.0 refl; acts = acts k.2 };
       }
 
   pub links_ended : (answer : Reply) → out ≡ Ends answer → Turns r s t a Pushed
@@ -209,7 +224,7 @@ module _ (r : Arena) (s t : Seat) (a : Running) (out : Outcome Running) (h : Cal
             lines = nine ∷ [];
             turned = (
               walk_on r s t continues E9 f.found f.did k.2 tt,
-              slips r s t E9 f.found f.did [] refl (λ o. refl) a (subst (CallIsAt r t continues E5) k.1 k.0),
+              slips r s t E9 f.found f.did [] refl refl a (subst (CallIsAt r t continues E5) k.1 k.0),
             );
           }
       go _ other k = absurd k
@@ -241,11 +256,11 @@ module _ (r : Arena) (s t : Seat) (a : Running) (out : Outcome Running) (f : Loo
 
   -- it comes to E9
   pub turn_at_e9 : (l : Line) (c : Running) → out ≡ Goes l c → l ≡ E9 → CallIsAt r t continues E9 c
-  turn_at_e9 l c e is = (looked_as (Goes E9 c) (e ∙ ap (λ k. Goes k c) is)).stands
+  turn_at_e9 l c e is = (looked_as (Goes E9 c) (e ∙ ap (λ k. Goes k c) is)).1.stands
 
-  -- Tail was worn out
+  -- the queue was found shut, or Tail worn out
   pub turn_worn : (why : Refusal) → out ≡ Ends (IsRefused why) → Turns r s t a (TurnRefused why)
-  turn_worn why e = record { stored = f.stored; lines = f.lines; turned = (f.walks, looked_as (Ends (IsRefused why)) e) }
+  turn_worn why e = record { stored = f.stored; lines = f.lines; turned = looked_as (Ends (IsRefused why)) e }
 
   -- it ends in no other way
   pub turn_ended : (answer : Reply) → ((why : Refusal) → answer ≡ IsRefused why → ⊥) → out ≡ Ends answer → Turns r s t a Failed
@@ -257,14 +272,15 @@ module _ (r : Arena) (s t : Seat) (a : Running) (out : Outcome Running) (f : Loo
   -- Tail was swung
   pub turn_swings : (u : Seat) (l : Line) (c : Running) (last : Outcome Running) → out ≡ Goes l c → l ≡ E13 → Follows r t u continues E13 c last → Turns r s u a Failed
   turn_swings u l c last e is g =
-      let k = looked_as (Goes E13 c) (e ∙ ap (λ k. Goes k c) is) in
+      let both = looked_as (Goes E13 c) (e ∙ ap (λ k. Goes k c) is) in
+      let k = both.1 in
       let at = after_e13 r t u continues g.found c k.stands g.did in
       record {
         stored = then_stored s t u f.stored g.did.stored;
         lines = f.lines ++ event r t u continues E13 g.found g.did ∷ [];
         turned = (
-          walk_then (view s) (view t) (view u) f.lines (event r t u continues E13 g.found g.did ∷ []) f.walks (walk_on r t u continues E13 g.found g.did refl tt),
-          slips r t u E13 g.found g.did f.lines k.never (λ o. refl) a (stands_e5 r u a c k.hand k.val at),
+          walk_then (view s) (view t) (view u) f.lines (event r t u continues E13 g.found g.did ∷ []) both.0 (walk_on r t u continues E13 g.found g.did refl tt),
+          slips r t u E13 g.found g.did f.lines k.never refl a (stands_e5 r u a c k.hand k.val at),
         );
       }
 
@@ -277,14 +293,43 @@ module _ (r : Arena) (s t : Seat) (a : Running) (out : Outcome Running) (f : Loo
         turned = go last g.turned;
       }
     where
+      both : ExtendsPath (view s) (view t) f.lines × Comes r t E9 a c f.lines
+      both = looked_as (Goes E9 c) (e ∙ ap (λ k. Goes k c) is)
+
+      walks : ExtendsPath (view s) (view t) f.lines
+      walks = both.0
+
       k : Comes r t E9 a c f.lines
-      k = looked_as (Goes E9 c) (e ∙ ap (λ k. Goes k c) is)
+      k = both.1
 
       body : (value_of c.val).body ≡ (value_of a.val).body
       body = ap (λ (n : ℕ). (value_of n).body) k.val
 
       none : (m : ℕ) → failed_turns g.lines ≡ m → failed_turns (f.lines ++ g.lines) ≡ m
       none m z = let x = failed-append f.lines g.lines in let y = k.never in omega arith
+
+      worn : (why : Refusal) → FoundWorn r t u (Some (in_hand c)) g.lines OfTail why → FoundWorn r s u (Some (in_hand a)) (f.lines ++ g.lines) OfTail why
+      worn why y =
+          record {
+            seat = y.seat;
+            over = y.over;
+            pocket = y.pocket ∙ ap (λ h. Some h) k.hand;
+            never = none 0 y.never;
+            is = y.is;
+            cause = stopped_behind r s t f.lines g.lines (WornOut OfTail) walks y.cause;
+          }
+
+      stops : (why : Refusal) → Stops r t u c g.lines why → Stops r s u a (f.lines ++ g.lines) why
+      stops Closed y =
+          record {
+            seat = y.seat;
+            over = y.over;
+            pocket = y.pocket ∙ ap (λ h. Some h) k.hand;
+            never = none 0 y.never;
+            finds = then_shut (view s) (view t) (view u) f.lines g.lines walks y.finds;
+            cause = stopped_behind r s t f.lines g.lines Closed walks y.cause;
+          }
+      stops _ y = (walk_then (view s) (view t) (view u) f.lines g.lines walks y.0, worn _ y.1)
 
       go : (o : Turn) → Turned r t u c g.lines o → Turned r s u a (f.lines ++ g.lines) o
       go Pushed y =
@@ -293,24 +338,14 @@ module _ (r : Arena) (s t : Seat) (a : Running) (out : Outcome Running) (f : Loo
             over = y.over;
             empty = y.empty;
             never = none 0 y.never;
-            acts = then_act (view s) (view t) (view u) (Push (view t).number (value_of c.val).body) (Push (view s).number (value_of a.val).body) f.lines g.lines (λ i. Push (f.walks.number i) (body i)) f.walks y.acts;
+            acts = then_act (view s) (view t) (view u) (Push (view t).number (value_of c.val).body) (Push (view s).number (value_of a.val).body) f.lines g.lines (λ i. Push (walks.number i) (body i)) walks y.acts;
           }
       go Failed y = (
-        walk_then (view s) (view t) (view u) f.lines g.lines f.walks y.0,
+        walk_then (view s) (view t) (view u) f.lines g.lines walks y.0,
         record {
           stands = stands_e5 r u a c k.hand k.val y.1.stands;
           once = none 1 y.1.once;
           last = failed_behind f.lines g.lines y.1.last;
         },
       )
-      go (TurnRefused why) y = (
-        walk_then (view s) (view t) (view u) f.lines g.lines f.walks y.0,
-        record {
-          seat = y.1.seat;
-          over = y.1.over;
-          pocket = y.1.pocket ∙ ap (λ h. Some h) k.hand;
-          never = none 0 y.1.never;
-          is = y.1.is;
-          cause = stopped_behind r s t f.lines g.lines (WornOut OfTail) f.walks y.1.cause;
-        },
-      )
+      go (TurnRefused why) y = stops why y

@@ -2,3 +2,4 @@ pub mod Worn
 pub mod Values
 pub mod Pushes
 pub mod Pops
+pub mod Shuts

@@ -1,6 +1,6 @@
 -- A running pop: what it remembers before each line, and what its turns come to.
 use Rattle.std.specs.Prelude.{◌≡◌, ℕ, zero, suc, ◌≤◌, if◌then◌else◌, nat_eq, List, ◌++◌, Option, Some, None, Result}
-use Rattle.counted_ref.specs.Ref.{ref_of, is_null, same_ref}
+use Rattle.counted_ref.specs.Ref.{ref_of, is_null, is_shut, same_ref}
 use Rattle.line_table.specs.declared.lines.Line.{Line}
 use Rattle.line_table.specs.declared.lines.Line.TheVariants.{D2, D3, D4, D5, D10, D12, D13, F1}
 use Rattle.history.specs.declared.operations.Entry.TheVariants.{Pop}
@@ -8,7 +8,7 @@ use Rattle.history.specs.declared.operations.Op.TheVariants.{Deq}
 use Rattle.history.specs.declared.operations.Reply.TheVariants as reply
 use Rattle.history.specs.declared.operations.Taken.{Taken}
 use Rattle.history.specs.declared.refusals.Refusal.{Refusal}
-use Rattle.history.specs.declared.refusals.Refusal.TheVariants.{WornOut}
+use Rattle.history.specs.declared.refusals.Refusal.TheVariants.{WornOut, Closed}
 use Rattle.history.specs.declared.refusals.WornWord.TheVariants.{Head as OfHead, Tail as OfTail}
 use Rattle.history.specs.Answers.{FoundEmpty}
 use Rattle.node_arena.specs.Machine.{Setup, Held, Actor}
@@ -19,7 +19,7 @@ use Rattle.node_arena.specs.declared.seats.Seat.{Seat}
 use Rattle.node_arena.specs.Seeing.{known_by}
 use Rattle.node_arena.specs.Seats.{IsSeat, IsBefore, KeepsStored, DidStep, view}
 use Rattle.node_arena.specs.Turns.{failed_turns}
-use Rattle.node_arena.specs.Paths.{ExtendsPath, Acts, FailedAt, EndedAt, IsRefusedAt}
+use Rattle.node_arena.specs.Paths.{ExtendsPath, FindsShutEmpty, Acts, FailedAt, EndedAt, IsRefusedAt}
 use Rattle.node_arena.specs.Machine.{value_of}
 use Rattle.arena_queue.specs.Answers.{Draws}
 use Rattle.nonblocking.specs.Worn.{pop_worn}
@@ -44,6 +44,7 @@ follow z a D5 n =
     if same_ref (ref_of n) a.head
     then if nat_eq a.head.node a.tail.node
     then if is_null a.next then Ends IsEmpty
+    else if is_shut a.next then Ends (IsRefused Closed)
     else if nat_eq a.tail.count z.limit then Ends (IsRefused (WornOut OfTail))
     else Goes D10 a
     else Goes D12 a
@@ -113,6 +114,13 @@ pub record SawEmpty (s t : Seat) (es : List Event) : Type 0 where
   pub never : failed_turns es ≡ 0
   pub found : FoundEmpty (known_by (view s)) (known_by (view t))
 
+-- the queue was found shut and empty
+pub record SawShut (r : Arena) (s t : Seat) (es : List Event) : Type 0 where
+  pub over : (view t).actor.line ≡ None
+  pub never : failed_turns es ≡ 0
+  pub finds : FindsShutEmpty (view s) (view t) es
+  pub cause : EndedAt r s es (IsRefusedAt r.plan.setup (view s).number Closed)
+
 -- Tail was found worn out
 pub record SawWorn (r : Arena) (s t : Seat) (es : List Event) (why : Refusal) : Type 0 where
   pub over : (view t).actor.line ≡ None
@@ -120,6 +128,11 @@ pub record SawWorn (r : Arena) (s t : Seat) (es : List Event) (why : Refusal) : 
   pub never : failed_turns es ≡ 0
   pub is : why ≡ WornOut OfTail
   pub cause : EndedAt r s es (IsRefusedAt r.plan.setup (view s).number (WornOut OfTail))
+
+-- why a turn ends its call: the queue was found shut and empty, or Tail worn out
+abbrev pub Stops : Arena → Seat → Seat → List Event → Refusal → Type 0
+Stops r s t es Closed = SawShut r s t es
+Stops r s t es why = SawWorn r s t es why
 
 -- the turn goes on at a line
 pub record GoesOn (r : Arena) (s t : Seat) (es : List Event) (l : Line) (a : Running) : Type 0 where
@@ -134,7 +147,7 @@ Looked r s t es (Goes D10 a) = GoesOn r s t es D10 a
 Looked r s t es (Goes D12 a) = GoesOn r s t es D12 a
 Looked r s t es (Goes l a) = ⊥
 Looked r s t es (Ends IsEmpty) = SawEmpty s t es
-Looked r s t es (Ends (IsRefused why)) = SawWorn r s t es why
+Looked r s t es (Ends (IsRefused why)) = Stops r s t es why
 Looked r s t es (Ends reply) = ⊥
 
 -- the lines D2 to D5
@@ -150,7 +163,7 @@ abbrev pub Turned : Arena → Seat → Seat → List Event → Turn → Type 0
 Turned r s t es (turn.Took word h) = Took r s t es word h
 Turned r s t es turn.Failed = Fell r s t es
 Turned r s t es turn.Empty = SawEmpty s t es
-Turned r s t es (turn.Refused why) = SawWorn r s t es why
+Turned r s t es (turn.Refused why) = Stops r s t es why
 
 -- lines of a turn, to its end
 pub record Turns (r : Arena) (s t : Seat) (out : Turn) : Type 0 where

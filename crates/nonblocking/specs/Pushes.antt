@@ -1,11 +1,11 @@
 -- A running push: what it remembers before each line, and what its turns come to.
 use Rattle.std.specs.Prelude.{◌≡◌, ℕ, ◌+◌, ◌<◌, if◌then◌else◌, nat_eq, List, Option, Some, None}
-use Rattle.counted_ref.specs.Ref.{ref, ref_of, is_null, same_ref}
+use Rattle.counted_ref.specs.Ref.{ref, ref_of, is_null, is_shut, same_ref}
 use Rattle.line_table.specs.declared.lines.Line.{Line}
 use Rattle.line_table.specs.declared.lines.Line.TheVariants.{E2, E3, E5, E6, E7, E9, E13, E17}
 use Rattle.history.specs.declared.operations.Entry.TheVariants.{Push}
 use Rattle.history.specs.declared.refusals.Refusal.{Refusal}
-use Rattle.history.specs.declared.refusals.Refusal.TheVariants.{WornOut}
+use Rattle.history.specs.declared.refusals.Refusal.TheVariants.{WornOut, Closed}
 use Rattle.history.specs.declared.refusals.WornWord.{WornWord}
 use Rattle.history.specs.declared.refusals.WornWord.TheVariants.{Next as OfNext, Tail as OfTail}
 use Rattle.node_arena.specs.Machine.{Setup, Held, Actor}
@@ -15,7 +15,7 @@ use Rattle.node_arena.specs.declared.arena.Arena.{Arena}
 use Rattle.node_arena.specs.declared.seats.Seat.{Seat}
 use Rattle.node_arena.specs.Seats.{IsSeat, IsBefore, KeepsStored, DidStep, view}
 use Rattle.node_arena.specs.Turns.{failed_turns}
-use Rattle.node_arena.specs.Paths.{ExtendsPath, Acts, FailedAt, EndedAt, IsRefusedAt}
+use Rattle.node_arena.specs.Paths.{ExtendsPath, FindsShut, Acts, FailedAt, EndedAt, IsRefusedAt}
 use Rattle.node_arena.specs.Machine.{value_of}
 use Rattle.arena_lines.specs.declared.outcomes.Outcome.{Outcome}
 use Rattle.arena_lines.specs.declared.outcomes.Outcome.TheVariants.{Goes, Ends}
@@ -43,6 +43,7 @@ follow z a E6 n = Goes E7 (record a { next = ref_of n })
 follow z a E7 n =
     if same_ref (ref_of n) a.tail
     then if is_null a.next then Goes E9 a
+    else if is_shut a.next then Ends (IsRefused Closed)
     else if nat_eq a.tail.count z.limit then Ends (IsRefused (WornOut OfTail))
     else Goes E13 a
     else Goes E5 a
@@ -102,6 +103,20 @@ pub record FoundWorn (r : Arena) (s t : Seat) (p : Option Held) (es : List Event
   pub is : why ≡ WornOut word
   pub cause : EndedAt r s es (IsRefusedAt r.plan.setup (view s).number (WornOut word))
 
+-- the call is over, with its node in the pocket, since the queue was found shut
+pub record SawShut (r : Arena) (s t : Seat) (p : Option Held) (es : List Event) : Type 0 where
+  pub seat : IsSeat r t
+  pub over : (view t).actor.line ≡ None
+  pub pocket : (view t).actor.pocket ≡ p
+  pub never : failed_turns es ≡ 0
+  pub finds : FindsShut (view s) (view t) es
+  pub cause : EndedAt r s es (IsRefusedAt r.plan.setup (view s).number Closed)
+
+-- why a turn ends its call: the queue was found shut, or Tail worn out
+abbrev pub Stops : Arena → Seat → Seat → Running → List Event → Refusal → Type 0
+Stops r s t a es Closed = SawShut r s t (Some (in_hand a)) es
+Stops r s t a es why = ExtendsPath (view s) (view t) es × FoundWorn r s t (Some (in_hand a)) es OfTail why
+
 -- the body was pushed, and the call is over
 pub record Linked (r : Arena) (s t : Seat) (a : Running) (es : List Event) : Type 0 where
   pub seat : IsSeat r t
@@ -126,25 +141,24 @@ pub record Fills (r : Arena) (s t : Seat) (a : Running) (out : Outcome Running) 
 
 -- what E5 to E7 come to
 abbrev pub Looked : Arena → Seat → Seat → Running → List Event → Outcome Running → Type 0
-Looked r s t a es (Goes E9 c) = Comes r t E9 a c es
-Looked r s t a es (Goes E13 c) = Comes r t E13 a c es
-Looked r s t a es (Goes E5 c) = Slipped r t a es
+Looked r s t a es (Goes E9 c) = ExtendsPath (view s) (view t) es × Comes r t E9 a c es
+Looked r s t a es (Goes E13 c) = ExtendsPath (view s) (view t) es × Comes r t E13 a c es
+Looked r s t a es (Goes E5 c) = ExtendsPath (view s) (view t) es × Slipped r t a es
 Looked r s t a es (Goes l c) = ⊥
-Looked r s t a es (Ends (IsRefused why)) = FoundWorn r s t (Some (in_hand a)) es OfTail why
+Looked r s t a es (Ends (IsRefused why)) = Stops r s t a es why
 Looked r s t a es (Ends reply) = ⊥
 
 -- Tail was read, and what follows its node: E5 to E7
 pub record Looks (r : Arena) (s t : Seat) (a : Running) (out : Outcome Running) : Type 0 where
   pub stored : KeepsStored s t
   pub lines : List Event
-  pub walks : ExtendsPath (view s) (view t) lines
   pub looked : Looked r s t a lines out
 
 -- what a turn comes to
 abbrev pub Turned : Arena → Seat → Seat → Running → List Event → Turn → Type 0
 Turned r s t a es Pushed = Linked r s t a es
 Turned r s t a es Failed = ExtendsPath (view s) (view t) es × Slipped r t a es
-Turned r s t a es (TurnRefused why) = ExtendsPath (view s) (view t) es × FoundWorn r s t (Some (in_hand a)) es OfTail why
+Turned r s t a es (TurnRefused why) = Stops r s t a es why
 
 -- a turn of a push, or the end of one
 pub record Turns (r : Arena) (s t : Seat) (a : Running) (out : Turn) : Type 0 where

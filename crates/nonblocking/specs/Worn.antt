@@ -1,4 +1,4 @@
--- Which words stop a push or a pop of the non-blocking queue where they are worn out.
+-- Which words stop a push, a pop or a shut of the non-blocking queue where they are worn out.
 use Rattle.std.specs.Prelude.{◌≡◌, Option, None, IsSome}
 use Rattle.history.specs.declared.refusals.WornWord.{WornWord}
 use Rattle.history.specs.declared.refusals.WornWord.TheVariants.{Next as OfNext, Tail as OfTail}
@@ -14,3 +14,8 @@ push_worn _ pocket = ⊥
 abbrev pub pop_worn : WornWord → Type 0
 pop_worn OfTail = Unit {0}
 pop_worn _ = ⊥
+
+-- a shut: Tail alone
+abbrev pub shut_worn : WornWord → Type 0
+shut_worn OfTail = Unit {0}
+shut_worn _ = ⊥

@@ -1,8 +1,8 @@
 //! The non-blocking queue as an algorithm on an arena.
 ghost use Rattle.line_table.specs.declared.lines.Kind.TheVariants as kinds;
-ghost use Rattle.nonblocking.specs.Worn.{push_worn, pop_worn};
+ghost use Rattle.nonblocking.specs.Worn.{push_worn, pop_worn, shut_worn};
 
-use crate::{popping, pushing};
+use crate::{popping, pushing, shutting};
 use arena_queue::{Algorithm, ArenaQueue};
 use history::{Body, Refusal, Taken};
 use line_table::Kind;
@@ -12,8 +12,9 @@ use node_arena::{Arena, Held, Seat};
 ///
 /// A push is refused `NoNode` where at one step all nodes were used and none was free, `WornOut(Free)` where at one step
 /// Free's count was the greatest one, `WornOut(Next)` where the count of the node's own next was it, `WornOut(Tail)`
-/// where Tail's was it, and `Busy` where each of so many turns failed. A node that the call got stays in the seat's
-/// pocket, for its next push; at `WornOut(Next)` it is set aside. A pop is refused `WornOut(Tail)` or `Busy` so.
+/// where Tail's was it, `Closed` where at one step the queue was shut, and `Busy` where each of so many turns failed. A
+/// node that the call got stays in the seat's pocket, for its next push; at `WornOut(Next)` it is set aside. A shut is
+/// refused `WornOut(Tail)`, `Closed` or `Busy` so, and a pop likewise, `Closed` where the queue was shut and empty.
 pub type MsQueue = ArenaQueue<NonBlockingAlgorithm>;
 
 /// The algorithm of the non-blocking queue.
@@ -26,6 +27,8 @@ impl Algorithm for NonBlockingAlgorithm {
     ghost push_worn = { push_worn };
 
     ghost pop_worn = { pop_worn };
+
+    ghost shut_worn = { shut_worn };
 
     fn kind() -> Kind {
         Kind::NonBlocking
@@ -49,5 +52,9 @@ impl Algorithm for NonBlockingAlgorithm {
         turns: u32,
     ) -> Result<Option<Taken>, Refusal> {
         popping::pop_with_empty_pocket(arena, seat, spent, turns)
+    }
+
+    fn shut(arena: &Arena, seat: &mut Seat, turns: u32) -> Result<(), Refusal> {
+        shutting::shut_queue(arena, seat, turns)
     }
 }

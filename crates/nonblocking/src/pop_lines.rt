@@ -7,7 +7,7 @@ ghost use Rattle.node_arena.specs.Seats.{role_of};
 ghost use Rattle.nonblocking.specs.Pops.{CallIsAt, Follows};
 
 use crate::pop_outcomes::Actor;
-use arena_lines::{Outcome, Reply, access, effect, ends, goes, notes, onward, row, worn};
+use arena_lines::{Outcome, Reply, access, closed, effect, ends, goes, notes, onward, row, worn};
 use history::WornWord;
 use line_table::{Line, line_table};
 use node_arena::{Arena, Seat, raised};

@@ -8,7 +8,8 @@ ghost use Rattle.nonblocking.specs.Pushes.{CallIsAt, Follows};
 
 use crate::push_outcomes::Actor;
 use arena_lines::{
-    Outcome, Reply, access, effect, ends, goes, onward, row, worn_aside, worn_with_node,
+    Outcome, Reply, access, closed_with_node, effect, ends, goes, onward, row, worn_aside,
+    worn_with_node,
 };
 use history::WornWord;
 use line_table::{Line, line_table};

@@ -28,6 +28,8 @@ pub struct Load {
 pub struct Came {
     /// How many came; none where a sender's were out of order.
     pub in_order: Option<usize>,
+    /// Whether the queue was then found shut and empty.
+    pub shut: bool,
     /// How long it took to send and take them, where the clock told.
     pub time: Option<Duration>,
 }
@@ -96,13 +98,16 @@ pub fn posted<R: Threads + Wait + Clock + Sync, Q: Fifo + Sync + Drop>(
     let tasks = tasks(alloc, senders, load)?;
     let planned = office.for_tasks(alloc, &tasks)?;
     let start = Instant::now(rt);
-    let (_receiver, letters) = post(rt, alloc, &planned, tasks, receiver);
+    let (mut receiver, letters) = post(rt, alloc, &planned, tasks, receiver);
     let time = match start {
         Ok(start) => start.elapsed(rt).ok(),
         Err(_) => None,
     };
+    let in_order = in_order(&letters?);
+    let shut = matches!(receiver.take(rt, &planned), Err(Refusal::Closed));
     Ok(Came {
-        in_order: in_order(&letters?),
+        in_order,
+        shut,
         time,
     })
 }

@@ -1,13 +1,15 @@
 //! What is left when the threads have ended, and whether it all adds up.
+ghost use Rattle.std.specs.Thread.{IsSync};
 ghost use Rattle.queue_stress.specs.Seated.{MayCall, AreFour};
 
-use crate::running::{drains, four, pushes};
+use crate::running::{Duty, drains, four, pushes};
 use crate::seating::{Four, list_of};
+use crate::shutting::{Signs, shuts};
 use crate::tallies::Tally;
 use history::{Fifo, Rest};
 use std::alloc::Global;
 use std::sync::Wait;
-use std::thread::Threads;
+use std::thread::{Threads, join};
 
 /// The bodies of the pushes that look for nodes come after those of all rounds.
 const LATE: u64 = 1_099_511_627_776;
@@ -87,7 +89,7 @@ pub fn judged<R: Threads + Wait + Sync, Q: Fifo + Sync + Drop>(
 ) -> Option<Verdict>
     requires { AreFour Q.is_seat Q.permits Q.known queue seats }
 {
-    let (mut seats, mut threads) = four(rt, &queue, seats, pairs);
+    let (mut seats, mut threads) = four(rt, &queue, seats, Duty::Pairs(pairs));
     let mut last = Tally::new();
     drains(rt, &queue, &mut seats.one, nodes, &mut last);
     let taken = threads.taken.with(&last.taken).total();
@@ -104,4 +106,55 @@ pub fn judged<R: Threads + Wait + Sync, Q: Fifo + Sync + Drop>(
         each_once: all.taken == all.pushed,
         whole,
     })
+}
+
+// Four threads push and pop until the queue is shut, which a fifth seat does once so many pushes were done.
+fn shut_among<R: Threads + Wait + Sync, Q: Fifo + Sync>(
+    rt: &R,
+    queue: &Q,
+    seats: Four<Q::Seat>,
+    fifth: Q::Seat,
+    first: u64,
+) -> ((Four<Q::Seat>, Tally), (Q::Seat, bool))
+    requires seats { AreFour Q.is_seat Q.permits Q.known queue.now seats }
+    requires fifth { MayCall Q.is_seat Q.permits Q.known queue.now fifth }
+    ensures seats { AreFour Q.is_seat Q.permits Q.known queue.now result.0.0 }
+    ensures fifth { MayCall Q.is_seat Q.permits Q.known queue.now result.1.0 }
+{
+    let signs = Signs::new();
+    let signs = &signs;
+    join(
+        rt,
+        || -> (Four<Q::Seat>, Tally)
+            requires { IsSync R.row × AreFour Q.is_seat Q.permits Q.known queue.now seats }
+            ensures { AreFour Q.is_seat Q.permits Q.known queue.entry.now result.0 }
+        { four(rt, queue, seats, Duty::UntilShut(signs)) },
+        || -> (Q::Seat, bool)
+            requires { MayCall Q.is_seat Q.permits Q.known queue.now fifth }
+            ensures { MayCall Q.is_seat Q.permits Q.known queue.entry.now result.0 }
+        { shuts(rt, queue, fifth, first, signs) },
+    )
+}
+
+/// Whether a round is right in which the queue is shut while four threads push and pop, once so many pushes were done: the
+/// bodies taken are just those pushed, nothing is left, no push was done behind the shut, each thread took in order until it
+/// found the queue shut and empty, and the five seats made all calls. None where memory is refused.
+pub fn judged_shut<R: Threads + Wait + Sync, Q: Fifo + Sync + Drop>(
+    rt: &R,
+    alloc: Global,
+    queue: Q,
+    seats: Four<Q::Seat>,
+    fifth: Q::Seat,
+    first: u64,
+) -> Option<bool>
+    requires seats { AreFour Q.is_seat Q.permits Q.known queue seats }
+    requires fifth { MayCall Q.is_seat Q.permits Q.known queue fifth }
+{
+    let ((seats, tally), (fifth, shut)) = shut_among(rt, &queue, seats, fifth, first);
+    let mut list = list_of(&queue, alloc, seats)?;
+    list.push(fifth).ok()?;
+    let mut rest = queue.close(alloc, list).ok()?;
+    let ended = rest.was_shut() && rest.whole() && rest.next().is_none();
+    let counted = rest.taken() == tally.taken.total() && tally.taken == tally.pushed;
+    Some(shut && ended && counted && tally.in_order && tally.kept)
 }

@@ -6,11 +6,12 @@ mod measuring;
 mod queues;
 mod running;
 mod seating;
+mod shutting;
 mod tallies;
 
 use crate::closing::Verdict;
 use crate::measuring::{Work, Works};
-use crate::queues::{Sizes, Which, stressed, worked};
+use crate::queues::{Sizes, Which, shut_rounds, stressed, worked};
 use node_arena::MOST_COUNT;
 use std::alloc::Global;
 use std::sync::Wait;
@@ -28,9 +29,12 @@ const LONG: Sizes = Sizes {
 /// How often each of the four threads pushes and pops in the short runs, where refusals are ordinary.
 const FEW_PAIRS: u32 = 100;
 
+/// How often a queue is shut while four threads push and pop.
+const SHUTS: u32 = 100;
+
 /// The words that the program understands.
 const USAGE: &str =
-    "queue_stress [two-lock|non-blocking [one|four|pair|strict|taker|two COUNT | run NODES LIMIT PAIRS]]";
+    "queue_stress [two-lock|non-blocking [one|four|pair|strict|taker|two|shut COUNT | run NODES LIMIT PAIRS]]";
 
 // The works of a kind, by its name.
 fn works_of(name: &str) -> Works {
@@ -116,6 +120,11 @@ fn main(rt: HostRuntime) -> io::Result<()> {
             let verdict = run_of(&rt, rt.alloc(), which, nodes, limit, pairs);
             return println!(rt; "{verdict:?}");
         }
+        if kind.as_str() == "shut" {
+            let rounds = count.as_str().parse().unwrap_or(SHUTS);
+            let right = shut_rounds(&rt, rt.alloc(), which, rounds);
+            return println!(rt; "{right} of {rounds} right");
+        }
         let pairs = count.as_str().parse().unwrap_or(LONG.pairs);
         let works = works_of(kind.as_str());
         let start = Instant::now(&rt)?;
@@ -135,6 +144,8 @@ fn main(rt: HostRuntime) -> io::Result<()> {
                 println!(rt; "{name}, {nodes} nodes, greatest count {limit}: {good}")?;
             }
         }
+        let right = shut_rounds(&rt, rt.alloc(), which, SHUTS);
+        println!(rt; "{name}, shut while four threads push and pop: {right} of {SHUTS} right")?;
     }
     Ok(())
 }

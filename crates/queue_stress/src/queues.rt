@@ -1,11 +1,11 @@
 //! The queues that run.
 ghost use Rattle.std.specs.List.{All};
 
-use crate::closing::{Verdict, judged};
+use crate::closing::{Verdict, judged, judged_shut};
 use crate::measuring::{Works, all};
-use crate::seating::last_four;
+use crate::seating::{last, last_four};
 use history::Fifo;
-use node_arena::Role;
+use node_arena::{MOST_COUNT, Role};
 use nonblocking::MsQueue;
 use std::alloc::Global;
 use std::sync::Wait;
@@ -14,6 +14,15 @@ use two_lock::TwoLockQueue;
 
 /// Four seats that may push and pop.
 const ROLES: [Role; 4] = [Role::Both; 4];
+
+/// The four, and one that shuts.
+const ROLES_AND_ONE: [Role; 5] = [Role::Both; 5];
+
+/// The nodes of a queue that is shut: the dummy, and one or two for each thread.
+const FEW_NODES: u32 = 8;
+
+/// From how many pushes on a queue is shut, at most.
+const MOST_FIRST: u32 = 64;
 
 /// Which queue.
 #[derive(Clone, Copy, Debug, PartialEq, Eq)]
@@ -126,4 +135,53 @@ pub fn worked<R: Threads + Wait + Sync>(
             }
         }
     }
+}
+
+fn judged_shut_with<R: Threads + Wait + Sync, Q: Fifo + Sync + Drop>(
+    rt: &R,
+    alloc: Global,
+    queue: Q,
+    mut seats: Vec<Q::Seat>,
+    first: u64,
+) -> Option<bool>
+    requires { All (Q.is_seat queue) seats.items }
+{
+    let fifth = last(&queue, &mut seats)?;
+    let seats = last_four(&queue, seats)?;
+    judged_shut(rt, alloc, queue, seats, fifth, first)
+}
+
+// Whether a round is right in which a new queue is shut once so many pushes were done; none where memory is refused.
+fn shut_once<R: Threads + Wait + Sync>(
+    rt: &R,
+    alloc: Global,
+    which: Which,
+    first: u64,
+) -> Option<bool> {
+    match which {
+        Which::TwoLock => match TwoLockQueue::new(alloc, FEW_NODES, MOST_COUNT, &ROLES_AND_ONE) {
+            Ok((queue, seats)) => judged_shut_with(rt, alloc, queue, seats, first),
+            Err(_) => None,
+        },
+        Which::NonBlocking => match MsQueue::new(alloc, FEW_NODES, MOST_COUNT, &ROLES_AND_ONE) {
+            Ok((queue, seats)) => judged_shut_with(rt, alloc, queue, seats, first),
+            Err(_) => None,
+        },
+    }
+}
+
+/// How many of so many rounds are right, in each of which a new queue is shut while four threads push and pop.
+pub fn shut_rounds<R: Threads + Wait + Sync>(
+    rt: &R,
+    alloc: Global,
+    which: Which,
+    rounds: u32,
+) -> u32 {
+    let mut right = 0u32;
+    for round in 0..rounds {
+        if shut_once(rt, alloc, which, u64::from(round % MOST_FIRST)) == Some(true) {
+            right = right.wrapping_add(1);
+        }
+    }
+    right
 }

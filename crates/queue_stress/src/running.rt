@@ -3,10 +3,20 @@ ghost use Rattle.std.specs.Thread.{IsSync};
 ghost use Rattle.queue_stress.specs.Seated.{MayCall, AreTwo, AreFour};
 
 use crate::seating::Four;
+use crate::shutting::{Signs, until_shut};
 use crate::tallies::Tally;
 use history::{Body, Fifo};
 use std::sync::Wait;
 use std::thread::{Threads, join};
+
+/// What each of four threads does.
+#[derive(Clone, Copy)]
+pub enum Duty<'a> {
+    /// Pushes and pops so many times.
+    Pairs(u32),
+    /// Pushes and pops until the queue is shut.
+    UntilShut(&'a Signs),
+}
 
 /// Pushes a body, and counts it where it was pushed; whether it was.
 pub fn pushes<R: Wait, Q: Fifo>(
@@ -53,8 +63,8 @@ pub fn drains<R: Wait, Q: Fifo>(
     false
 }
 
-/// So many pushes of the seat of this number, with bodies from 1 on, and a pop behind each.
-pub fn rounds<R: Wait, Q: Fifo>(
+// So many pushes of the seat of this number, with bodies from 1 on, and a pop behind each.
+fn rounds<R: Wait, Q: Fifo>(
     rt: &R,
     queue: &Q,
     mut seat: Q::Seat,
@@ -79,13 +89,30 @@ pub fn rounds<R: Wait, Q: Fifo>(
     (seat, tally)
 }
 
-// The rounds of two threads, whose seats have these numbers.
+// What the seat of this number has to do.
+fn does<R: Wait, Q: Fifo>(
+    rt: &R,
+    queue: &Q,
+    seat: Q::Seat,
+    number: u16,
+    duty: Duty,
+) -> (Q::Seat, Tally)
+    requires { MayCall Q.is_seat Q.permits Q.known queue.now seat }
+    ensures { MayCall Q.is_seat Q.permits Q.known queue.now result.0 }
+{
+    match duty {
+        Duty::Pairs(pairs) => rounds(rt, queue, seat, number, pairs),
+        Duty::UntilShut(signs) => until_shut(rt, queue, seat, number, signs),
+    }
+}
+
+// The work of two threads, whose seats have these numbers.
 fn both<R: Threads + Wait + Sync, Q: Fifo + Sync>(
     rt: &R,
     queue: &Q,
     one: (Q::Seat, u16),
     other: (Q::Seat, u16),
-    pairs: u32,
+    duty: Duty,
 ) -> ((Q::Seat, Tally), (Q::Seat, Tally))
     requires one { MayCall Q.is_seat Q.permits Q.known queue.now one.0 }
     requires other { MayCall Q.is_seat Q.permits Q.known queue.now other.0 }
@@ -99,20 +126,20 @@ fn both<R: Threads + Wait + Sync, Q: Fifo + Sync>(
         || -> (Q::Seat, Tally)
             requires { MayCall Q.is_seat Q.permits Q.known queue.now one }
             ensures { MayCall Q.is_seat Q.permits Q.known queue.entry.now result.0 }
-        { rounds(rt, queue, one, first, pairs) },
+        { does(rt, queue, one, first, duty) },
         || -> (Q::Seat, Tally)
             requires { MayCall Q.is_seat Q.permits Q.known queue.now other }
             ensures { MayCall Q.is_seat Q.permits Q.known queue.entry.now result.0 }
-        { rounds(rt, queue, other, second, pairs) },
+        { does(rt, queue, other, second, duty) },
     )
 }
 
-/// The rounds of four threads, whose seats are numbered from 1 on.
+/// The work of four threads, whose seats are numbered from 1 on.
 pub fn four<R: Threads + Wait + Sync, Q: Fifo + Sync>(
     rt: &R,
     queue: &Q,
     seats: Four<Q::Seat>,
-    pairs: u32,
+    duty: Duty,
 ) -> (Four<Q::Seat>, Tally)
     requires { AreFour Q.is_seat Q.permits Q.known queue.now seats }
     ensures { AreFour Q.is_seat Q.permits Q.known queue.now result.0 }
@@ -128,11 +155,11 @@ pub fn four<R: Threads + Wait + Sync, Q: Fifo + Sync>(
         || -> ((Q::Seat, Tally), (Q::Seat, Tally))
             requires { IsSync R.row × AreTwo Q.is_seat Q.permits Q.known queue.now one two }
             ensures { AreTwo Q.is_seat Q.permits Q.known queue.entry.now result.0.0 result.1.0 }
-        { both(rt, queue, (one, 1), (two, 2), pairs) },
+        { both(rt, queue, (one, 1), (two, 2), duty) },
         || -> ((Q::Seat, Tally), (Q::Seat, Tally))
             requires { IsSync R.row × AreTwo Q.is_seat Q.permits Q.known queue.now three four }
             ensures { AreTwo Q.is_seat Q.permits Q.known queue.entry.now result.0.0 result.1.0 }
-        { both(rt, queue, (three, 3), (four, 4), pairs) },
+        { both(rt, queue, (three, 3), (four, 4), duty) },
     );
     let seats = Four {
         one,

@@ -15,8 +15,8 @@ pub struct Four<S: Drop> {
     pub four: S,
 }
 
-// The last of these seats, where it may push and pop.
-fn last<Q: Fifo>(queue: &Q, seats: &mut Vec<Q::Seat>) -> Option<Q::Seat>
+/// The last of these seats, where it may push and pop.
+pub fn last<Q: Fifo>(queue: &Q, seats: &mut Vec<Q::Seat>) -> Option<Q::Seat>
     requires { All (Q.is_seat queue.now) seats.old.items }
     ensures rest { All (Q.is_seat queue.now) seats.new.items }
     ensures last { IfSome result (MayCall Q.is_seat Q.permits Q.known queue.now) }

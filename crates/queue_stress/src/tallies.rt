@@ -20,6 +20,8 @@ pub struct Tally {
     last: [u64; SENDERS],
     /// Whether each sender's bodies rose, and each sender is one of these.
     pub in_order: bool,
+    /// Whether each answer was one that may come where it came, before the queue was shut or behind it.
+    pub kept: bool,
 }
 
 impl Bodies {
@@ -67,7 +69,13 @@ impl Tally {
             taken: Bodies::none(),
             last: [0; SENDERS],
             in_order: true,
+            kept: true,
         }
+    }
+
+    /// An answer came, which may come there or not.
+    pub fn keeps(&mut self, may: bool) {
+        self.kept = self.kept && may;
     }
 
     /// A body was pushed by the seat of this number.
@@ -87,13 +95,14 @@ impl Tally {
         }
     }
 
-    /// Both tallies as one: what both threads pushed and took, and whether both took in order.
+    /// Both tallies as one: what both threads pushed and took, whether both took in order, and whether all answers may come.
     pub fn with(&self, other: &Tally) -> Tally {
         Tally {
             pushed: self.pushed.with(&other.pushed),
             taken: self.taken.with(&other.taken),
             last: self.last,
             in_order: self.in_order && other.in_order,
+            kept: self.kept && other.kept,
         }
     }
 }

@@ -36,7 +36,7 @@ world_of s = world_after (moves_of s.events) (opening_of s)
 
 -- an actor stands before the line that an event names, where it names one
 abbrev pub StandsWhereNamed : World → Event → Type 0
-StandsWhereNamed w (Begin me op) = Unit {0}
+StandsWhereNamed w (Begin me call) = Unit {0}
 StandsWhereNamed w (StepAt me line) = line_of (actor_of w me) ≡ Some line
 StandsWhereNamed w (Steps me count) = Unit {0}
 StandsWhereNamed w (Give me) = Unit {0}
@@ -70,7 +70,7 @@ StepAtRefused w me line _ = ⊥
 
 -- an event is refused: its begin, its step at a line, one of its steps, or its giving up
 abbrev pub EventRefused : World → Event → Refusal → Type 0
-EventRefused w (Begin me op) why = BeginRefused w me why
+EventRefused w (Begin me call) why = BeginRefused w me why
 EventRefused w (StepAt me line) why = StepAtRefused w me line why
 EventRefused w (Steps me count) why = StepsRefused w me count why
 EventRefused w (Give me) why = GiveRefused w me why

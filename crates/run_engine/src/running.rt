@@ -81,7 +81,7 @@ pub(crate) fn make(world: &mut World, event: Event) -> Result<(), Refusal>
     ensures refused { IfErr result (EventRefused world.old event) }
 {
     match event {
-        Event::Begin(actor, op) => world.begin(actor, op),
+        Event::Begin(actor, call) => world.begin(actor, call.op()),
         Event::Step(actor, line) => take_step_at(world, actor, line),
         Event::Steps(actor, count) => take_steps(world, actor, count),
         Event::Give(actor) => give_up(world, actor),

@@ -12,7 +12,7 @@ initial words = get_or (get_or words 0 []) 0 0
 -- an actor's steps with no number behind the actor
 pub no_steps : (words rest : List (List ℕ)) (actor : ℕ) → words ≡ number_words actor ++ rest
     → ((count : ℕ) (later : List (List ℕ)) → rest ≢ number_words count ++ later) → (event : Event) → ¬ SpellsEvent (codes "steps") words event
-no_steps words rest actor split none (Begin a op) same = let first : ◌≡◌ {A = ℕ} 115 98 = ap initial same in absurd (omega (arith, first))
-no_steps words rest actor split none (Step a line) same = let long : ◌≡◌ {A = ℕ} 5 4 = ap (λ ws. length (get_or ws 0 [])) same in absurd (omega (arith, long))
-no_steps words rest actor split none (Steps a count) same = none count [] (ap (drop 1) (sym split ∙ ap (drop 1) same))
-no_steps words rest actor split none (Give a) same = let first : ◌≡◌ {A = ℕ} 115 103 = ap initial same in absurd (omega (arith, first))
+no_steps words rest actor split none (Begin a op) tells = let first : ◌≡◌ {A = ℕ} 115 98 = ap initial tells.1 in absurd (omega (arith, first))
+no_steps words rest actor split none (Step a line) tells = let long : ◌≡◌ {A = ℕ} 5 4 = ap (λ ws. length (get_or ws 0 [])) tells.1 in absurd (omega (arith, long))
+no_steps words rest actor split none (Steps a count) tells = none count [] (ap (drop 1) (sym split ∙ ap (drop 1) tells.1))
+no_steps words rest actor split none (Give a) tells = let first : ◌≡◌ {A = ℕ} 115 103 = ap initial tells.1 in absurd (omega (arith, first))

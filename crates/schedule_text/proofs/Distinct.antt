@@ -1,7 +1,7 @@
 -- No two things that a line may say have the same words.
 use Rattle.std.proofs.Common.{◌≡◌, ℕ, ◌+◌, List, [], length, get_or, drop, refl, sym, ap, ap₂, ◌∙◌, ◌*◌, arith}
-use Rattle.history.specs.declared.operations.Op.{Op}
-use Rattle.history.specs.declared.operations.Op.TheVariants.{Enq, Deq}
+use Rattle.schedule_text.specs.declared.schedules.Call.{Call}
+use Rattle.schedule_text.specs.declared.schedules.Call.TheVariants.{Enq, Deq}
 use Rattle.line_table.specs.declared.lines.Kind.{Kind}
 use Rattle.line_table.specs.declared.lines.Kind.TheVariants.{TwoLock, NonBlocking}
 use Rattle.line_table.proofs.Names.{name_of-differs}
@@ -26,7 +26,7 @@ kind_same NonBlocking NonBlocking same = refl
 kind_same TwoLock NonBlocking same = let long : ◌≡◌ {A = ℕ} 8 11 = ap length same in absurd (omega (arith, long))
 kind_same NonBlocking TwoLock same = let long : ◌≡◌ {A = ℕ} 11 8 = ap length same in absurd (omega (arith, long))
 
-call_same : (a b : Op) → call_words a ≡ call_words b → a ≡ b
+call_same : (a b : Call) → call_words a ≡ call_words b → a ≡ b
 call_same (Enq m) (Enq n) same = ap Enq (numeral_injective m n (ap (word_at 1) same))
 call_same Deq Deq same = refl
 call_same (Enq m) Deq same = let long : ◌≡◌ {A = ℕ} 2 1 = ap length same in absurd (omega (arith, long))

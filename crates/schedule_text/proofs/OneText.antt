@@ -11,8 +11,9 @@ use Rattle.text_lines.specs.Grammars.{Grammar, AreDue, state_after, lines_of, Is
 use Rattle.text_lines.specs.Lines.{HasNo, spaced}
 use Rattle.text_lines.proofs.Single.{one_list, no_fault, one_fault}
 use Rattle.schedule_text.specs.declared.schedules.Event.{Event}
+use Rattle.schedule_text.specs.declared.schedules.Event.TheVariants.{Step}
 use Rattle.schedule_text.specs.Schedules.{Schedule}
-use Rattle.schedule_text.specs.Texts.{Said, happens, Due, version_due, events_left, is_due, due_after, said_words, MaySay, header_by, said_by, schedule_lines, schedule_text, IsEventInRange, IsInRange}
+use Rattle.schedule_text.specs.Texts.{Said, happens, Due, version_due, events_left, is_due, due_after, said_words, header_by, said_by, schedule_lines, schedule_text, IsTold, IsEventInRange, IsInRange}
 use Rattle.schedule_text.specs.Reading.{IsRefusedText}
 use Rattle.schedule_text.proofs.Spelling.{AreWords, AreWords-said, words_of-said}
 use Rattle.schedule_text.proofs.Joining.{state_after-append, state_after-happens}
@@ -40,7 +41,7 @@ IsSoundGrammar-schedule = record { no_feed = λ due said may. unbroken said; one
 abbrev unranged_lines : Grammar Due Said
 unranged_lines = record {
   is_due = is_due;
-  may_say = MaySay;
+  may_say = λ due said. Unit {0};
   in_range = λ due said. Unit {0};
   words = λ said. spaced (said_words said);
   after = due_after;
@@ -53,11 +54,16 @@ unranged_events : (count : ℕ) (events : List Event) → length events ≡ coun
 unranged_events count [] counted = tt
 unranged_events count (event ∷ events) counted = (lt-ltb 0 count (omega arith), tt, tt, unranged_events (count - 1) events (omega arith))
 
+-- an event in range can be told
+told : (event : Event) → IsEventInRange event → IsTold event
+told (Step actor line) range = range.1
+told _ range = tt
+
 -- the events of a list are due where so many are left
 events_due : (count : ℕ) (events : List Event) → length events ≡ count → All IsEventInRange events → AreDue schedule_lines (events_left count) (map happens events)
 events_due count [] counted all = tt
 events_due count (event ∷ events) counted all =
-    (lt-ltb 0 count (omega arith), tt, All-head IsEventInRange event events all, events_due (count - 1) events (omega arith) (All-tail IsEventInRange event events all))
+    (lt-ltb 0 count (omega arith), told event (All-head IsEventInRange event events all), All-head IsEventInRange event events all, events_due (count - 1) events (omega arith) (All-tail IsEventInRange event events all))
 
 -- the lines of a schedule in range are due
 lines_due : (s : Schedule) → IsInRange s → AreDue schedule_lines version_due (said_by s)
@@ -107,7 +113,7 @@ IsText-unranged s =
     let events : AreDue unranged_lines (events_left (length s.events)) (map happens s.events) = unranged_events (length s.events) s.events refl in
     record {
       lines = record {
-        due = (refl, tt, tt, (refl, tt, tt, (refl, refl, tt, (refl, refl, tt, (refl, refl, tt, (refl, refl, tt, events))))));
+        due = (refl, tt, tt, (refl, tt, tt, (refl, tt, tt, (refl, tt, tt, (refl, tt, tt, (refl, tt, tt, events))))));
         spelled = sym (append-nil (lines_of schedule_lines (said_by s)));
       };
       done = none_due s;

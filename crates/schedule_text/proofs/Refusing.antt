@@ -10,9 +10,8 @@ use Rattle.text_lines.specs.Grammars.{Says}
 use Rattle.text_lines.specs.Lines.{HasNo, line, spaced, words_of}
 use Rattle.text_lines.specs.Readings.{IsWrong}
 use Rattle.text_lines.proofs.Faults.{Begins-nothing, first_fault-end, first_fault-line}
-use Rattle.schedule_text.specs.declared.schedules.Event.{Event}
 use Rattle.schedule_text.specs.declared.fields.Field.{Field}
-use Rattle.schedule_text.specs.Texts.{Said, version, queue, number, happens, Due, version_due, queue_due, number_due, events_left, said_words, is_due, MaySay, IsSaidInRange, schedule_lines}
+use Rattle.schedule_text.specs.Texts.{Said, version, queue, number, happens, Due, version_due, queue_due, number_due, events_left, said_words, is_due, Tells, MaySay, IsEventInRange, IsSaidInRange, schedule_lines}
 use Rattle.schedule_text.specs.Reading.{IsFront, IsRefusedAfter}
 use Rattle.schedule_text.proofs.Spelling.{words_of-said, spaced-said}
 
@@ -28,6 +27,21 @@ wrong_line said due says only may Form none = λ r is.
 wrong_line said due says only may Range wrong =
     (said wrong.0, record { may = may wrong.0; spelled = spaced-said (said wrong.0) says wrong.1 }, wrong.2)
 wrong_line said due says only may Extra wrong = absurd wrong
+
+-- the line of an event is, where it is wrong by its words
+pub wrong_event : (left : ℕ) (says : List ℕ) (cause : TextCause) → IsWrong (Tells (words_of says)) IsEventInRange cause
+    → IsWrong (Says schedule_lines (events_left left) says) IsSaidInRange cause
+wrong_event left says End wrong = absurd wrong
+wrong_event left says Form none = λ r is. no_event r is.may is.spelled
+  where
+    no_event : (r : Said) → MaySay (events_left left) r → says ≢ spaced (said_words r)
+    no_event version may same = may
+    no_event (queue kind) may same = may
+    no_event (number field value) may same = may
+    no_event (happens event) may same = none event (may, words_of-said (happens event) says same)
+wrong_event left says Range wrong =
+    (happens wrong.0, record { may = wrong.1.0; spelled = spaced-said (happens wrong.0) says wrong.1.1 }, wrong.2)
+wrong_event left says Extra wrong = absurd wrong
 
 -- the line after so many is due, and there is none
 pub refused_end : (before : ℕ) (due : Due) (text : List ℕ) (why : Refusal) → is_due due ≡ true → (why ≡ Text (before + 1) End) × HasNo 10 text
@@ -84,13 +98,6 @@ refused_number before field text says rest cause whole split wrong =
     only (happens event) may = absurd may
 
 pub refused_event : (before left : ℕ) (text says rest : List ℕ) (cause : TextCause) → 0 < left → HasNo 10 says → text ≡ line says ++ rest
-    → IsWrong (λ (event : Event). words_of says ≡ said_words (happens event)) (λ event. IsSaidInRange (happens event)) cause
-    → IsRefusedAfter before (events_left left) text (Text (before + 1) cause)
+    → IsWrong (Tells (words_of says)) IsEventInRange cause → IsRefusedAfter before (events_left left) text (Text (before + 1) cause)
 refused_event before left text says rest cause some whole split wrong =
-    refused_line before (events_left left) text says rest cause (lt-ltb 0 left some) whole split (wrong_line happens (events_left left) says only (λ event. tt) cause wrong)
-  where
-    only : (r : Said) → MaySay (events_left left) r → (event : Event) × (r ≡ happens event)
-    only version may = absurd may
-    only (queue kind) may = absurd may
-    only (number field value) may = absurd may
-    only (happens event) may = (event, refl)
+    refused_line before (events_left left) text says rest cause (lt-ltb 0 left some) whole split (wrong_event left says cause wrong)

@@ -3,8 +3,8 @@ use Rattle.std.proofs.Common.{◌≡◌, ℕ, ◌≤◌, ◌<◌, List, [], ◌�
 use Rattle.std.specs.Prelude.{nat_lt}
 use Rattle.std.specs.List.{AllZip}
 use Rattle.std.proofs.lemmas.Bool.{ltb-true}
-use Rattle.history.specs.declared.operations.Op.{Op}
-use Rattle.history.specs.declared.operations.Op.TheVariants.{Enq, Deq}
+use Rattle.schedule_text.specs.declared.schedules.Call.{Call}
+use Rattle.schedule_text.specs.declared.schedules.Call.TheVariants.{Enq, Deq}
 use Rattle.line_table.specs.Names.{name_of}
 use Rattle.line_table.specs.declared.lines.Kind.{Kind}
 use Rattle.line_table.specs.declared.lines.Kind.TheVariants.{TwoLock, NonBlocking}
@@ -15,7 +15,7 @@ use Rattle.schedule_text.specs.declared.schedules.Event.{Event}
 use Rattle.schedule_text.specs.declared.schedules.Event.TheVariants.{Begin, Step, Steps, Give}
 use Rattle.schedule_text.specs.declared.fields.Field.{Field}
 use Rattle.schedule_text.specs.declared.fields.Field.TheVariants.{Nodes, Limit, Actors, Events}
-use Rattle.schedule_text.specs.Texts.{Said, version, queue, number, happens, Due, version_due, queue_due, number_due, events_left, said_words, call_words, event_words, kind_name, field_name, MaySay}
+use Rattle.schedule_text.specs.Texts.{Said, version, queue, number, happens, Due, version_due, queue_due, number_due, events_left, said_words, call_words, event_words, kind_name, field_name, IsTold, MaySay}
 
 -- the name of a line has at most three bytes
 name_below : (l : Line) → nat_lt (length (name_of l)) 4 ≡ true
@@ -47,11 +47,11 @@ may-number f m n queue_due may = may
 may-number f m n (number_due g) may = may
 may-number f m n (events_left count) may = may
 
-may-happens : (d e : Event) (due : Due) → MaySay due (happens d) → MaySay due (happens e)
-may-happens d e version_due may = may
-may-happens d e queue_due may = may
-may-happens d e (number_due g) may = may
-may-happens d e (events_left count) may = may
+may-happens : (d e : Event) → (IsTold d → IsTold e) → (due : Due) → MaySay due (happens d) → MaySay due (happens e)
+may-happens d e told version_due may = may
+may-happens d e told queue_due may = may
+may-happens d e told (number_due g) may = may
+may-happens d e told (events_left count) may = told may
 
 -- words that are short stay, and numbers become numbers
 module _ (R : List ℕ → List ℕ → Type 0) (fixed : (w k : List ℕ) → length w < 21 → R w k → k ≡ w)
@@ -68,7 +68,7 @@ module _ (R : List ℕ → List ℕ → Type 0) (fixed : (w k : List ℕ) → le
   after_number n ws [] all = absurd all
   after_number n ws (k ∷ ks) all = let m = to_number n k all.0 in (m.0, ks, ap (λ (x : List ℕ). x ∷ ks) m.1, all.1)
 
-  call : (op : Op) (ks : List (List ℕ)) → AllZip R (call_words op) ks → (o : Op) × (ks ≡ call_words o)
+  call : (op : Call) (ks : List (List ℕ)) → AllZip R (call_words op) ks → (o : Call) × (ks ≡ call_words o)
   call (Enq body) ks all =
       let x = after_word (codes "enq") (numeral body ∷ []) ks (omega arith) all in
       let y = after_number body [] x.0 x.2 in
@@ -79,29 +79,29 @@ module _ (R : List ℕ → List ℕ → Type 0) (fixed : (w k : List ℕ) → le
       let z = none x.0 x.2 in
       (Deq, cc (x.1, z))
 
-  event : (e : Event) (ks : List (List ℕ)) → AllZip R (event_words e) ks → (f : Event) × (ks ≡ event_words f)
+  event : (e : Event) (ks : List (List ℕ)) → AllZip R (event_words e) ks → (f : Event) × (ks ≡ event_words f) × (IsTold e → IsTold f)
   event (Begin actor op) ks all =
       let x = after_word (codes "begin") (numeral actor ∷ call_words op) ks (omega arith) all in
       let y = after_number actor (call_words op) x.0 x.2 in
       let z = call op y.1 y.3 in
-      (Begin y.0 z.0, cc (x.1, y.2, z.1))
+      (Begin y.0 z.0, cc (x.1, y.2, z.1), λ told. tt)
   event (Step actor line) ks all =
       let x = after_word (codes "step") (numeral actor ∷ name_of line ∷ []) ks (omega arith) all in
       let y = after_number actor (name_of line ∷ []) x.0 x.2 in
       let v = after_word (name_of line) [] y.1 (omega (arith, length-name_of line)) y.3 in
       let z = none v.0 v.2 in
-      (Step y.0 line, cc (x.1, y.2, v.1, z))
+      (Step y.0 line, cc (x.1, y.2, v.1, z), λ told. told)
   event (Steps actor count) ks all =
       let x = after_word (codes "steps") (numeral actor ∷ numeral count ∷ []) ks (omega arith) all in
       let y = after_number actor (numeral count ∷ []) x.0 x.2 in
       let v = after_number count [] y.1 y.3 in
       let z = none v.1 v.3 in
-      (Steps y.0 v.0, cc (x.1, y.2, v.2, z))
+      (Steps y.0 v.0, cc (x.1, y.2, v.2, z), λ told. tt)
   event (Give actor) ks all =
       let x = after_word (codes "give") (numeral actor ∷ []) ks (omega arith) all in
       let y = after_number actor [] x.0 x.2 in
       let z = none y.1 y.3 in
-      (Give y.0, cc (x.1, y.2, z))
+      (Give y.0, cc (x.1, y.2, z), λ told. tt)
 
   pub says_too : (said : Said) (ks : List (List ℕ)) → AllZip R (said_words said) ks → SaysToo said ks
   says_too version ks all =
@@ -122,4 +122,4 @@ module _ (R : List ℕ → List ℕ → Type 0) (fixed : (w k : List ℕ) → le
       record { other = number field y.0; same = cc (x.1, y.2, z); may = may-number field value y.0 }
   says_too (happens e) ks all =
       let f = event e ks all in
-      record { other = happens f.0; same = f.1; may = may-happens e f.0 }
+      record { other = happens f.0; same = f.1; may = may-happens e f.0 f.2 }

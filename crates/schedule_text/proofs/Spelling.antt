@@ -3,8 +3,8 @@ use Rattle.std.proofs.Common.{◌≡◌, ℕ, ◌<◌, List, [], ◌∷◌, leng
 use Rattle.std.specs.Prelude.{not}
 use Rattle.std.specs.List.{list_all}
 use Rattle.std.proofs.lemmas.List.Elements.{All-nil, All-cons}
-use Rattle.history.specs.declared.operations.Op.{Op}
-use Rattle.history.specs.declared.operations.Op.TheVariants.{Enq, Deq}
+use Rattle.schedule_text.specs.declared.schedules.Call.{Call}
+use Rattle.schedule_text.specs.declared.schedules.Call.TheVariants.{Enq, Deq}
 use Rattle.line_table.specs.Names.{name_of}
 use Rattle.line_table.specs.declared.lines.Kind.{Kind}
 use Rattle.line_table.specs.declared.lines.Kind.TheVariants.{TwoLock, NonBlocking}
@@ -59,7 +59,7 @@ abbrev pub AreWords : List (List ℕ) → Type 0
 AreWords [] = Unit {0}
 AreWords (word ∷ words) = IsWord word × AreWords words
 
-AreWords-call : (op : Op) → AreWords (call_words op)
+AreWords-call : (op : Call) → AreWords (call_words op)
 AreWords-call (Enq body) = (literal (codes "enq") refl refl, (IsWord-numeral body, tt))
 AreWords-call Deq = (literal (codes "deq") refl refl, tt)
 

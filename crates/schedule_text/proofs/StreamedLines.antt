@@ -12,9 +12,8 @@ use Rattle.text_lines.proofs.Faults.{Begins-nothing}
 use Rattle.history.specs.declared.refusals.Refusal.{Refusal}
 use Rattle.history.specs.declared.refusals.Refusal.TheVariants.{Text, Read}
 use Rattle.line_table.specs.declared.lines.Kind.{Kind}
-use Rattle.schedule_text.specs.declared.schedules.Event.{Event}
 use Rattle.schedule_text.specs.declared.fields.Field.{Field}
-use Rattle.schedule_text.specs.Texts.{Said, version, queue, number, happens, Due, version_due, queue_due, number_due, events_left, said_words, is_due, due_after, MaySay, IsSaidInRange, schedule_lines}
+use Rattle.schedule_text.specs.Texts.{Said, version, queue, number, happens, Due, version_due, queue_due, number_due, events_left, said_words, is_due, due_after, Tells, MaySay, IsEventInRange, IsSaidInRange, schedule_lines}
 use Rattle.schedule_text.specs.Shortening.{Held, IsHeldBy, Shortens}
 use Rattle.text_io.specs.Devices.{SourceState}
 use Rattle.schedule_text.specs.Streams.{GaveByte, GaveLine, EndedInLine}
@@ -22,7 +21,7 @@ use Rattle.schedule_text.specs.Streaming.{IsFaultOf, IsFirstFaultFrom, IsStopped
 use Rattle.schedule_text.proofs.Spelling.{spaced-said}
 use Rattle.schedule_text.proofs.Joining.{refused_later}
 use Rattle.schedule_text.proofs.Streams.{Consumes-more, Consumes-nothing}
-use Rattle.schedule_text.proofs.Refusing.{wrong_line}
+use Rattle.schedule_text.proofs.Refusing.{wrong_line, wrong_event}
 use Rattle.schedule_text.proofs.Verdicts.{line_long, line_good, line_wrong}
 
 -- a line that is wrong is the first fault of known bytes
@@ -130,17 +129,6 @@ wrong_number field says cause wrong = wrong_line (number field) (number_due fiel
     only (number other value) may = (value, ap (λ f. number f value) (sym may))
     only (happens event) may = absurd may
 
-wrong_event : (left : ℕ) (says : List ℕ) (cause : TextCause)
-    → IsWrong (λ (event : Event). words_of says ≡ said_words (happens event)) (λ event. IsSaidInRange (happens event)) cause
-    → IsWrong (Says schedule_lines (events_left left) says) IsSaidInRange cause
-wrong_event left says cause wrong = wrong_line happens (events_left left) says only (λ event. tt) cause wrong
-  where
-    only : (r : Said) → MaySay (events_left left) r → (event : Event) × (r ≡ happens event)
-    only version may = absurd may
-    only (queue kind) may = absurd may
-    only (number field value) may = absurd may
-    only (happens event) may = (event, refl)
-
 -- what the line behind so many is refused for, by what is held of it
 module _ (before : ℕ) (held : Held) (old new : SourceState) (gave : GaveLine held old new) where
   pub stopped_long : (due : Due) → is_due due ≡ true → held.is_over ≡ true → IsStopped before due old new (Text (before + 1) Form)
@@ -170,8 +158,7 @@ module _ (before : ℕ) (held : Held) (old new : SourceState) (gave : GaveLine h
   stopped_number field line cause fits same is = stopped_line (number_due field) refl line cause fits same (wrong_number field line cause is)
 
   pub stopped_event : (left : ℕ) → 0 < left → (line : List ℕ) (cause : TextCause) → held.is_over ≡ false → line ≡ held.bytes
-      → IsWrong (λ (event : Event). words_of line ≡ said_words (happens event)) (λ event. IsSaidInRange (happens event)) cause
-      → IsStopped before (events_left left) old new (Text (before + 1) cause)
+      → IsWrong (Tells (words_of line)) IsEventInRange cause → IsStopped before (events_left left) old new (Text (before + 1) cause)
   stopped_event left some line cause fits same is = stopped_line (events_left left) (lt-ltb 0 left some) line cause fits same (wrong_event left line cause is)
 
   -- what it says

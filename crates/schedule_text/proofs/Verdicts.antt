@@ -3,8 +3,8 @@ use Rattle.std.proofs.Common.{◌≡◌, ℕ, ◌^◌, ◌≤◌, ◌<◌, List,
 use Rattle.std.specs.List.{AllZip}
 use Rattle.std.specs.Fmt.{decimal}
 use Rattle.std.proofs.lemmas.Fmt.{length-decimal-le}
-use Rattle.history.specs.declared.operations.Op.{Op}
-use Rattle.history.specs.declared.operations.Op.TheVariants.{Enq, Deq}
+use Rattle.schedule_text.specs.declared.schedules.Call.{Call}
+use Rattle.schedule_text.specs.declared.schedules.Call.TheVariants.{Enq, Deq}
 use Rattle.line_table.specs.Names.{name_of}
 use Rattle.text_lines.specs.declared.causes.TextCause.{TextCause}
 use Rattle.text_lines.specs.declared.causes.TextCause.TheVariants.{End, Form, Range, Extra}
@@ -39,14 +39,14 @@ brief_number n small =
     let same : length (numeral n) ≡ length (decimal n) = ap length (numeral_decimal n small) in
     record { short = omega (arith, same, length-decimal-le 20 n (omega arith) (omega arith) small) }
 
-brief_call : (op : Op) → IsCallInRange op → Each IsBrief (call_words op)
+brief_call : (op : Call) → IsCallInRange op → Each IsBrief (call_words op)
 brief_call (Enq body) range = (record { short = omega arith }, (brief_number body (omega arith), tt))
 brief_call Deq range = (record { short = omega arith }, tt)
 
 brief_event : (e : Event) → IsEventInRange e → Each IsBrief (event_words e)
 brief_event (Begin actor op) range = (record { short = omega arith }, (brief_number actor (omega (arith, range.0.1)), brief_call op range.1))
 brief_event (Step actor line) range =
-    (record { short = omega arith }, (brief_number actor (omega (arith, range.1)), (record { short = omega (arith, length-name_of line) }, tt)))
+    (record { short = omega arith }, (brief_number actor (omega (arith, range.0.1)), (record { short = omega (arith, length-name_of line) }, tt)))
 brief_event (Steps actor count) range =
     (record { short = omega arith }, (brief_number actor (omega (arith, range.0.1)), (brief_number count (omega (arith, range.1.1)), tt)))
 brief_event (Give actor) range = (record { short = omega arith }, (brief_number actor (omega (arith, range.1)), tt))

@@ -7,7 +7,7 @@ use Rattle.text_lines.specs.Lines.{HasNo, line, words_of}
 use Rattle.text_lines.specs.Readings.{IsWrong}
 use Rattle.history.specs.declared.refusals.Refusal.TheVariants.{Text}
 use Rattle.schedule_text.specs.declared.schedules.Event.{Event}
-use Rattle.schedule_text.specs.Texts.{happens, events_left, said_words, IsSaidInRange}
+use Rattle.schedule_text.specs.Texts.{happens, events_left, Tells, IsEventInRange}
 use Rattle.text_io.specs.Devices.{SourceState}
 use Rattle.schedule_text.specs.Streams.{stream}
 use Rattle.schedule_text.specs.Streaming.{IsFirstFaultFrom, IsStopped, GaveSaid}
@@ -25,9 +25,9 @@ behind_line says rest old new front gone =
     gone ∙ ap (λ (l : List ℕ). drop (length says + 1) l) front ∙ drop_at (line says) rest (length says + 1) (length-append says (10 ∷ []))
 
 -- the first line of the bytes read ahead says an event: they are gone over to its end, and the source isn't called
-pub said_ahead : (left : ℕ) (event : Event) (says rest old new : List ℕ) (source : SourceState) → old ≡ line says ++ rest → new ≡ drop (length says + 1) old → words_of says ≡ said_words (happens event) → IsSaidInRange (happens event)
+pub said_ahead : (left : ℕ) (event : Event) (says rest old new : List ℕ) (source : SourceState) → old ≡ line says ++ rest → new ≡ drop (length says + 1) old → Tells (words_of says) event → IsEventInRange event
     → GaveSaid (events_left left) (happens event) (stream old source) (stream new source)
-said_ahead left event says rest old new source front gone words range =
+said_ahead left event says rest old new source front gone tells range =
     let known = source.left in
     let is : new ≡ rest = behind_line says rest old new front gone in
     let given : Consumes (prepend_known old known) (prepend_known new known) (line says) =
@@ -35,22 +35,21 @@ said_ahead left event says rest old new source front gone words range =
     (subst (λ (l : List ℕ). Consumes (prepend_known (line says ++ rest) known) (prepend_known l known) (line says)) (sym is)
     (Consumes-front known (line says) rest)) in
     record {
-      may = tt;
+      may = tells.0;
       range = range;
-      given = subst (λ (l : List ℕ). Consumes (prepend_known old known) (prepend_known new known) (line l)) (spaced-said (happens event) says words) given;
+      given = subst (λ (l : List ℕ). Consumes (prepend_known old known) (prepend_known new known) (line l)) (spaced-said (happens event) says tells.1) given;
       quiet = refl;
     }
 
 -- it is wrong
 pub stopped_ahead : (before left : ℕ) (says rest old new : List ℕ) (source : SourceState) (cause : TextCause)
     → HasNo 10 says → old ≡ line says ++ rest → 0 < left
-    → IsWrong (λ (event : Event). words_of says ≡ said_words (happens event)) (λ event. IsSaidInRange (happens event)) cause
-    → IsStopped before (events_left left) (stream old source) (stream new source) (Text (before + 1) cause)
+    → IsWrong (Tells (words_of says)) IsEventInRange cause → IsStopped before (events_left left) (stream old source) (stream new source) (Text (before + 1) cause)
 stopped_ahead before left says rest old new source cause whole front some wrong = (
   by source.left,
   refl,
   λ (ends : cause ≡ End).
-      absurd (subst (λ (k : TextCause). IsWrong (λ (event : Event). words_of says ≡ said_words (happens event)) (λ event. IsSaidInRange (happens event)) k) ends wrong),
+      absurd (subst (λ (k : TextCause). IsWrong (Tells (words_of says)) IsEventInRange k) ends wrong),
 )
   where
     by : (bytes : Option (List ℕ)) → IsFirstFaultFrom before (events_left left) (prepend_known old bytes) (before + 1) cause

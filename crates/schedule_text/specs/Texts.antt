@@ -1,8 +1,12 @@
 -- The one text of each schedule, the ranges of its numbers, and which lines are due in such a text.
-use Rattle.std.specs.Prelude.{◌≡◌, ℕ, ◌-◌, ◌^◌, ◌<◌, ◌≤◌, Bool, true, List, [], ◌∷◌, ◌++◌, length, map, All, codes, nat_lt}
-use Rattle.history.specs.declared.operations.Op.{Op}
-use Rattle.history.specs.declared.operations.Op.TheVariants.{Enq, Deq}
+use Rattle.std.specs.Prelude.{◌≡◌, ℕ, ◌-◌, ◌^◌, ◌<◌, ◌≤◌, Bool, true, false, IsTrue, List, [], ◌∷◌, ◌++◌, length, map, All, codes, nat_lt}
+use Rattle.schedule_text.specs.declared.schedules.Call.{Call}
+use Rattle.schedule_text.specs.declared.schedules.Call.TheVariants.{Enq, Deq}
 use Rattle.line_table.specs.Names.{name_of}
+use Rattle.line_table.specs.Sections.{section_of}
+use Rattle.line_table.specs.declared.lines.Line.{Line}
+use Rattle.line_table.specs.declared.lines.Section.{Section}
+use Rattle.line_table.specs.declared.lines.Section.TheVariants.{Shut, LockedShut}
 use Rattle.line_table.specs.declared.lines.Kind.{Kind}
 use Rattle.line_table.specs.declared.lines.Kind.TheVariants.{TwoLock, NonBlocking}
 use Rattle.text_lines.specs.Grammars.{Grammar, lines_of}
@@ -22,7 +26,7 @@ kind_name TwoLock = codes "two-lock"
 kind_name NonBlocking = codes "nonblocking"
 
 -- the words of a call
-abbrev pub call_words : Op → List (List ℕ)
+abbrev pub call_words : Call → List (List ℕ)
 call_words (Enq body) = codes "enq" ∷ numeral body ∷ []
 call_words Deq = codes "deq" ∷ []
 
@@ -33,9 +37,28 @@ event_words (Step actor line) = codes "step" ∷ numeral actor ∷ name_of line 
 event_words (Steps actor count) = codes "steps" ∷ numeral actor ∷ numeral count ∷ []
 event_words (Give actor) = codes "give" ∷ numeral actor ∷ []
 
--- a name and the words after it are those of an event
+-- whether the lines of a section have names in a text: all but those of a shut
+abbrev pub is_named : Section → Bool
+is_named Shut = false
+is_named LockedShut = false
+is_named _ = true
+
+-- a line has a name in a text
+abbrev pub IsNamed : Line → Type 0
+IsNamed line = IsTrue (is_named (section_of line))
+
+-- an event can be told in a text: where it names a line, this has a name there
+abbrev pub IsTold : Event → Type 0
+IsTold (Step actor line) = IsNamed line
+IsTold _ = Unit {0}
+
+-- words are those of an event that can be told
+abbrev pub Tells : List (List ℕ) → Event → Type 0
+Tells words event = IsTold event × (words ≡ event_words event)
+
+-- a name and the words after it are so
 abbrev pub SpellsEvent : List ℕ → List (List ℕ) → Event → Type 0
-SpellsEvent name words event = name ∷ words ≡ event_words event
+SpellsEvent name words event = Tells (name ∷ words) event
 
 -- the name of a number of the header
 abbrev pub field_name : Field → List ℕ
@@ -63,14 +86,14 @@ abbrev pub IsActor : ℕ → Type 0
 IsActor actor = IsWithin 1 (2 ^ actor_bits - 1) actor
 
 -- the body of a push is in range
-abbrev pub IsCallInRange : Op → Type 0
+abbrev pub IsCallInRange : Call → Type 0
 IsCallInRange (Enq body) = body < 2 ^ body_bits
 IsCallInRange Deq = Unit {0}
 
--- each number of an event is in its range
+-- each number of an event is in its range, and a line that it names is one that has a name in a text
 abbrev pub IsEventInRange : Event → Type 0
 IsEventInRange (Begin actor op) = IsActor actor × IsCallInRange op
-IsEventInRange (Step actor line) = IsActor actor
+IsEventInRange (Step actor line) = IsActor actor × IsNamed line
 IsEventInRange (Steps actor count) = IsActor actor × IsWithin 1 1000000 count
 IsEventInRange (Give actor) = IsActor actor
 
@@ -114,7 +137,7 @@ abbrev pub MaySay : Due → Said → Type 0
 MaySay version_due version = Unit {0}
 MaySay queue_due (queue kind) = Unit {0}
 MaySay (number_due due) (number field value) = due ≡ field
-MaySay (events_left count) (happens event) = Unit {0}
+MaySay (events_left count) (happens event) = IsTold event
 MaySay _ _ = ⊥
 
 -- how many events are due after the line with their number
@@ -168,7 +191,7 @@ event_text event = line (spaced (event_words event))
 unfoldable pub schedule_text : Schedule → List ℕ
 schedule_text s = lines_of schedule_lines (said_by s)
 
--- each number of a schedule is in its range
+-- each number of a schedule is in its range, and each line that it names has a name in a text
 pub record IsInRange (s : Schedule) : Type 0 where
   pub nodes : IsWithin (least Nodes) (greatest Nodes) s.nodes
   pub limit : IsWithin (least Limit) (greatest Limit) s.limit

@@ -1,27 +1,27 @@
 //! The event of a schedule's line.
-ghost use Rattle.std.specs.Prelude.{◌≡◌, ◌≢◌, ℕ, [], ◌∷◌, MatchResult, codes};
+ghost use Rattle.std.specs.Prelude.{◌≡◌, ◌≢◌, ℕ, [], ◌∷◌, IfSome, IsNone, MatchResult, codes};
 ghost use Rattle.text_lines.specs.Lines.{words_of};
 ghost use Rattle.text_lines.specs.Readings.{ReadsBack, Reads, ReadsLine, ReadsWords};
 ghost use Rattle.text_lines.specs.Numerals.{IsWithin};
 ghost use Rattle.text_lines.specs.Wording.{number_words};
 ghost use Rattle.line_table.specs.Names.{name_of};
-ghost use Rattle.history.specs.declared.operations.Op.{Op};
+ghost use Rattle.schedule_text.specs.declared.schedules.Call.{Call};
 ghost use Rattle.line_table.specs.declared.lines.Line.{Line};
-ghost use Rattle.schedule_text.specs.Texts.{call_words, event_words, IsActor, IsCallInRange, IsEventInRange, SpellsEvent};
+ghost use Rattle.schedule_text.specs.Texts.{call_words, IsActor, IsCallInRange, IsEventInRange, is_named, IsNamed, Tells, SpellsEvent};
 
-use crate::schedules::Event;
-use history::{Body, MOST_ACTOR, MOST_BODY, Op};
-use line_table::Line;
+use crate::schedules::{Call, Event};
+use history::{Body, MOST_ACTOR, MOST_BODY};
+use line_table::{Line, Section};
 use text_lines::{TextCause, Words};
 
 const MOST_STEPS: u64 = 1_000_000;
 
 /// The event that a line says, without its line feed.
 pub fn event_in(line: &[u8]) -> Result<Event, TextCause>
-    ensures { ReadsLine (λ event. words_of line.now ≡ event_words event) IsEventInRange result }
+    ensures { ReadsLine (Tells (words_of line.now)) IsEventInRange result }
 {
     // The check of what follows stops unless the type of a call is named here.
-    let _: Option<Op> = None;
+    let _: Option<Call> = None;
     let mut words = Words::of(line);
     let event = match words.next_word() {
         Some(name) => event_of(name, words)?,
@@ -48,19 +48,19 @@ fn begin_in(words: Words) -> Result<Option<Event>, TextCause>
 {
     let mut words = words;
     let actor = actor_in(&mut words)?;
-    let op = call_in(words)?;
-    Ok(begin_of(actor, op))
+    let call = call_in(words)?;
+    Ok(begin_of(actor, call))
 }
 
-fn begin_of(actor: Option<u16>, op: Option<Op>) -> Option<Event>
-    ensures { (a : ℕ) (o : Op) → ReadsBack IsActor a actor → ReadsBack IsCallInRange o op
-        → ReadsBack IsEventInRange (Event.Begin a o) result }
+fn begin_of(actor: Option<u16>, call: Option<Call>) -> Option<Event>
+    ensures { (a : ℕ) (c : Call) → ReadsBack IsActor a actor → ReadsBack IsCallInRange c call
+        → ReadsBack IsEventInRange (Event.Begin a c) result }
 {
-    Some(Event::Begin(actor?, op?))
+    Some(Event::Begin(actor?, call?))
 }
 
 // The call of these words; none where its body is out of its range.
-fn call_in(words: Words) -> Result<Option<Op>, TextCause>
+fn call_in(words: Words) -> Result<Option<Call>, TextCause>
     ensures { Reads (λ op. words.entry ≡ call_words op) IsCallInRange result }
 {
     let mut words = words;
@@ -68,7 +68,7 @@ fn call_in(words: Words) -> Result<Option<Op>, TextCause>
         Some(b"enq") => enqueue_in(words),
         Some(b"deq") => {
             words.expect_end()?;
-            Ok(Some(Op::Deq))
+            Ok(Some(Call::Deq))
         }
         _ => Err(TextCause::Form),
     }
@@ -84,6 +84,7 @@ fn step_in(words: Words) -> Result<Option<Event>, TextCause>
 }
 
 fn step_of(actor: Option<u16>, line: Line) -> Option<Event>
+    requires { IsNamed line }
     ensures { (a : ℕ) → ReadsBack IsActor a actor → ReadsBack IsEventInRange (Event.Step a line) result }
 {
     Some(Event::Step(actor?, line))
@@ -91,14 +92,34 @@ fn step_of(actor: Option<u16>, line: Line) -> Option<Event>
 
 // The line of the table whose name is the one word.
 fn line_in(words: Words) -> Result<Line, TextCause>
-    ensures { MatchResult result (λ line. words.entry ≡ name_of line ∷ [])
-        (λ why. (why ≡ TextCause.Form) × ((line : Line) → words.entry ≢ name_of line ∷ [])) }
+    ensures { MatchResult result (λ line. IsNamed line × (words.entry ≡ name_of line ∷ []))
+        (λ why. (why ≡ TextCause.Form) × ((line : Line) → IsNamed line → words.entry ≢ name_of line ∷ [])) }
 {
     let mut words = words;
     let name = words.next_word().ok_or(TextCause::Form)?;
-    let line = Line::of_name(name).ok_or(TextCause::Form)?;
+    let line = line_named(name).ok_or(TextCause::Form)?;
     words.expect_end()?;
     Ok(line)
+}
+
+// The line of this name, but for those of a shut, which have no name in a text.
+fn line_named(name: &[u8]) -> Option<Line>
+    ensures found { IfSome result (λ line. IsNamed line × (name.now ≡ name_of line)) }
+    ensures none { IsNone result → (line : Line) → IsNamed line → name.now ≢ name_of line }
+{
+    let line = Line::of_name(name)?;
+    if has_name(line.section()) {
+        Some(line)
+    } else {
+        None
+    }
+}
+
+// Whether the lines of this section have names in a text.
+fn has_name(section: Section) -> bool
+    ensures { result ≡ is_named section }
+{
+    !matches!(section, Section::Shut | Section::LockedShut)
 }
 
 fn steps_in(words: Words) -> Result<Option<Event>, TextCause>
@@ -144,7 +165,7 @@ fn actor_in(words: &mut Words) -> Result<Option<u16>, TextCause>
 }
 
 // The enqueue of the body that is the one word left.
-fn enqueue_in(words: Words) -> Result<Option<Op>, TextCause>
+fn enqueue_in(words: Words) -> Result<Option<Call>, TextCause>
     ensures { Reads (λ op. codes "enq" ∷ words.entry ≡ call_words op) IsCallInRange result }
 {
     let mut words = words;
@@ -153,9 +174,9 @@ fn enqueue_in(words: Words) -> Result<Option<Op>, TextCause>
     Ok(enqueue_of(number))
 }
 
-fn enqueue_of(number: Option<u64>) -> Option<Op>
+fn enqueue_of(number: Option<u64>) -> Option<Call>
     ensures { (n : ℕ) → ReadsBack (IsWithin 0 281474976710655) n number
-        → ReadsBack IsCallInRange (Op.Enq n) result }
+        → ReadsBack IsCallInRange (Call.Enq n) result }
 {
-    Some(Op::Enq(Body::new(number?)?))
+    Some(Call::Enq(Body::new(number?)?))
 }

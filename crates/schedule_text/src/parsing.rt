@@ -8,8 +8,8 @@ ghost use Rattle.schedule_text.specs.Texts.{version, queue, number, happens, ver
 
 use crate::events::event_in;
 use crate::fields::{Field, kind_in, number_of};
-use crate::schedules::{Event, Schedule};
-use history::{Op, Refusal};
+use crate::schedules::{Call, Event, Schedule};
+use history::Refusal;
 use line_table::Kind;
 use std::alloc::Global;
 use text_lines::{TextCause, line_at};
@@ -106,7 +106,7 @@ pub fn keep(events: &mut Vec<Event>, event: Event) -> Result<(), Refusal>
     ensures err { IfErr result (λ why. why ≡ Refusal.Memory) }
 {
     // The check of the push stops unless the type of a call is named here.
-    let _: Option<Op> = None;
+    let _: Option<Call> = None;
     match events.push(event) {
         Ok(()) => Ok(()),
         Err(_) => Err(Refusal::Memory),

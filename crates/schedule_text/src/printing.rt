@@ -6,8 +6,8 @@ ghost use Rattle.text_lines.specs.Lines.{spaced};
 ghost use Rattle.text_lines.specs.Numerals.{numeral};
 ghost use Rattle.schedule_text.specs.Texts.{kind_name, call_words, event_words, event_text, header_text, schedule_text};
 
-use crate::schedules::{Event, Schedule};
-use history::{Op, Refusal};
+use crate::schedules::{Call, Event, Schedule};
+use history::Refusal;
 use line_table::Kind;
 use text_io::{Block, LINE_ROOM, Line, Sink};
 
@@ -80,10 +80,10 @@ fn push_event(line: &mut Line, event: Event)
     ensures short { length line.new ≤ length line.old + 60 }
 {
     match event {
-        Event::Begin(actor, op) => {
+        Event::Begin(actor, call) => {
             push_actor(line, b"begin ", actor);
             line.push(b" ");
-            push_call(line, op);
+            push_call(line, call);
         }
         Event::Step(actor, at) => {
             push_actor(line, b"step ", actor);
@@ -108,17 +108,17 @@ fn push_actor(line: &mut Line, words: &[u8], actor: u16)
     push_numeral(line, u64::from(actor));
 }
 
-fn push_call(line: &mut Line, op: Op)
+fn push_call(line: &mut Line, call: Call)
     requires { length line.old + 24 ≤ LINE_ROOM }
-    ensures text { line.new ≡ line.old ++ spaced (call_words op) }
+    ensures text { line.new ≡ line.old ++ spaced (call_words call) }
     ensures short { length line.new ≤ length line.old + 24 }
 {
-    match op {
-        Op::Enq(body) => {
+    match call {
+        Call::Enq(body) => {
             line.push(b"enq ");
             push_numeral(line, body.number());
         }
-        Op::Deq => line.push(b"deq"),
+        Call::Deq => line.push(b"deq"),
     }
 }
 

@@ -1,13 +1,39 @@
 //! Schedules: a machine, and what its actors do.
-use history::Op;
+use history::{Body, Op};
 use line_table::{Kind, Line};
 use std::marker::Model;
+
+/// A call that a schedule may begin.
+#[derive(Clone, Copy, Debug, PartialEq, Eq)]
+pub enum Call {
+    /// Pushes this body.
+    Enq(Body),
+    /// Takes the value at the front.
+    Deq,
+}
+
+impl Call {
+    ghost use Rattle.std.specs.Prelude.{◌≡◌, ◌≢◌};
+    ghost use Rattle.history.specs.declared.operations.Op.TheVariants.{Shut};
+    ghost use Rattle.schedule_text.specs.Schedules.{op_of};
+
+    /// The call as a history has it. Takes no memory and doesn't wait.
+    pub fn op(self) -> Op
+        ensures same { result ≡ op_of self }
+        ensures no_shut { result ≢ Shut }
+    {
+        match self {
+            Call::Enq(body) => Op::Enq(body),
+            Call::Deq => Op::Deq,
+        }
+    }
+}
 
 /// One event of a schedule. Actors have numbers from 1.
 #[derive(Clone, Copy, Debug, PartialEq, Eq)]
 pub enum Event {
     /// This actor begins this call.
-    Begin(u16, Op),
+    Begin(u16, Call),
     /// This actor takes one step, and its next line is this one.
     Step(u16, Line),
     /// This actor takes so many steps.

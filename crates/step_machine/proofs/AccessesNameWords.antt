@@ -1,6 +1,6 @@
 -- In a reached world each access names a word of the table; and an access that does is one step on its place.
-use Rattle.std.proofs.Common.{◌≡◌, ℕ, ◌≤◌, length, arith}
-use Rattle.step_machine.specs.Below.{Line, N3, F2, E2, E3, E6, E9, D4, D12, A1, A2, A5, B3, B4, Setup, Actor, Shared, word, action}
+use Rattle.std.proofs.Common.{◌≡◌, ◌≢◌, ◌⊎◌, inl, inr, ℕ, ◌≤◌, length, arith}
+use Rattle.step_machine.specs.Below.{Line, N3, F2, E2, E3, E6, E9, D4, D12, A1, A2, A5, B3, B4, S2, S4, S8, reserved_node, Setup, Actor, Shared, word, action}
 use Rattle.step_machine.specs.Words.{IsWord}
 use Rattle.step_machine.specs.Machine.{World, IsReached}
 use Rattle.step_machine.specs.Range.{SharedInRange, RegistersInRange, WorldInRange}
@@ -21,6 +21,10 @@ names_a_word s k me m a l g r h = go l h
         let all : length m.nodes ≡ s.size = g.all_nodes in
         (some, omega arith)
 
+    is_node : (a.next.node ≤ m.fresh) ⊎ (a.next.node ≡ reserved_node) → a.next.node ≢ reserved_node → a.next.node ≤ m.fresh
+    is_node (inl low) other = low
+    is_node (inr e) other = absurd (other e)
+
     go : (l : Line) → NonNullAt l a → IsWord m (word (action s me a l))
     go N3 h = within a.top.node h r.top.node
     go F2 h = within a.node h r.node
@@ -29,12 +33,15 @@ names_a_word s k me m a l g r h = go l h
     go E6 h = within a.tail.node h.1 r.tail.node
     go E9 h = within a.tail.node h.1 r.tail.node
     go D4 h = within a.head.node h.0 r.head.node
-    go D12 h = within a.next.node h.1 r.next.node
+    go D12 h = within a.next.node h.1 (is_node r.next.node h.2)
     go A1 h = within a.node h r.node
     go A2 h = within a.node h r.node
     go A5 h = within a.tail.node h.1 r.tail.node
     go B3 h = within a.head.node h r.head.node
-    go B4 h = within a.next.node h.1 r.next.node
+    go B4 h = within a.next.node h.1 (is_node r.next.node h.2)
+    go S2 h = within a.tail.node h r.tail.node
+    go S4 h = within a.tail.node h r.tail.node
+    go S8 h = within a.tail.node h r.tail.node
     go _ h = tt
 
 -- what an actor accesses next is a word of the table

@@ -1,19 +1,20 @@
 -- How soon an actor of the non-blocking queue ends its call, where no other one makes a move: for each line the steps
 -- from there on, where the registers have what the words have.
-use Rattle.std.proofs.Common.{◌≡◌, ◌≢◌, ℕ, suc, ◌+◌, ◌≤◌, Bool, true, false, nat_eq, nat_lt, ◌&&◌, if◌then◌else◌, [], ◌∷◌, length, replicate, Option, Some, None, IfSome, IsSomeAnd, refl, sym, ap, ◌∙◌, subst, arith}
-use Rattle.std.proofs.lemmas.Bool.{eqb-true, eq-eqb, true≢false}
+use Rattle.std.proofs.Common.{◌≡◌, ◌≢◌, ℕ, suc, ◌+◌, ◌≤◌, Bool, true, false, nat_eq, nat_lt, ◌&&◌, if◌then◌else◌, [], ◌∷◌, length, replicate, Option, Some, None, IfSome, IsSomeAnd, refl, sym, ap, ◌∙◌, subst, arith, inl, inr}
+use Rattle.std.proofs.lemmas.Bool.{eqb-true, eqb-false, eq-eqb, true≢false}
 use Rattle.std.proofs.lemmas.Option.{none-some}
-use Rattle.step_machine.specs.Below.{Ref, is_null, same_ref, Kind, NonBlocking, Line, N1, N2, N3, N4, N5, F1, F2, F3, E2, E3, E5, E6, E7, E9, E13, E17, D2, D3, D4, D5, D10, D12, D13, Op, Enq, Deq, Reply, Done, Setup, Held, Actor, Outcome, Shared, put, found, performed, Tail, action, outcome, raised, goes, ends, effect, empties_hand, sets_aside, with_node, dequeues, freed, is_call, from_pocket, begun}
+use Rattle.step_machine.specs.Below.{Ref, is_null, same_ref, Kind, NonBlocking, Line, N1, N2, N3, N4, N5, F1, F2, F3, E2, E3, E5, E6, E7, E9, E13, E17, D2, D3, D4, D5, D10, D12, D13, S1, S2, S3, S4, S5, is_shut, shuts, reserved_node, Op, Enq, Deq, Shut, Reply, Done, Setup, Held, Actor, Outcome, Shared, put, found, performed, Tail, action, outcome, raised, goes, ends, effect, empties_hand, sets_aside, with_node, dequeues, freed, is_call, from_pocket, begun}
 use Rattle.step_machine.specs.declared.actors.Move.TheVariants.{Begin, Step}
 use Rattle.step_machine.specs.Machine.{World, actor_of, with_actor, entry_or, after_outcome, stepped, begins, steps, moved, made, next, run, run_on, IsReached}
 use Rattle.step_machine.specs.Calls.{IsIdle}
-use Rattle.step_machine.specs.Places.{IsChain}
+use Rattle.step_machine.specs.Places.{IsEnd, IsQueueChain}
 use Rattle.step_machine.specs.Lag.{TailLags}
 use Rattle.step_machine.specs.Solo.{EndsWithin, most_steps, EndsAlone, EachEndsAlone}
 use Rattle.step_machine.specs.NonBlocking.{OfNonBlockingWorlds}
 use Rattle.step_machine.proofs.Choices.{either}
 use Rattle.step_machine.proofs.LinearizationSteps.{raised_node}
 use Rattle.step_machine.proofs.CompletionSteps.{actor_same}
+use Rattle.step_machine.proofs.Chains.{no_end}
 use Rattle.step_machine.proofs.Effects.{queued_once}
 use Rattle.step_machine.proofs.Assertions.{next_of}
 use Rattle.step_machine.proofs.NonBlockingLag.{behind_tail, one_after, after_not_first}
@@ -98,36 +99,41 @@ at_E9 me w a h is =
     (won me w a E9 h 1 (same_ref (next_of w.shared a.tail.node) a.next) _ _ _ _ (same_ref-same (next_of w.shared a.tail.node) a.next is)
     (linked me w a h _ (w.steps + 1) (nat_eq a.tail.count w.setup.limit) (empties_hand (record a { due = Some Done }))))
 
+-- an end that is found to be neither null nor closed is none
+open_end : (r : Ref) → IsEnd r.node → is_null r ≡ false → is_shut r ≡ false → ⊥
+open_end r (inl null) n c = eqb-false r.node 0 n null
+open_end r (inr end) n c = eqb-false r.node reserved_node c end
+
 -- an enqueue that finds Tail at the last node
-at_E7_last : (me : ℕ) (w : World) (a : Actor) → At me w a E7 → w.shared.tail ≡ a.tail → next_of w.shared a.tail.node ≡ a.next → a.next.node ≡ 0 → EndsWithin 3 w me
-at_E7_last me w a h was is null =
+at_E7_last : (me : ℕ) (w : World) (a : Actor) → At me w a E7 → w.shared.tail ≡ a.tail → next_of w.shared a.tail.node ≡ a.next → IsEnd a.next.node → EndsWithin 3 w me
+at_E7_last me w a h was is end =
     by_step 2 me w a E7 h
     (passed me w a E7 h 2 (same_ref w.shared.tail a.tail) _ _ _ (same_ref-same w.shared.tail a.tail was)
-    (passed me w a E7 h 2 (is_null a.next) _ _ _ (eq-eqb a.next.node 0 null)
-    (goes_on me w a E7 h 2 _ _ E9 refl (λ g. at_E9 me _ _ g is))))
+    (either (Leads 2 me w a _) (is_null a.next) (λ n. goes_on me w a E7 h 2 _ _ E9 refl (λ g. at_E9 me _ _ g is))
+    (λ n. either (Leads 2 me w a _) (is_shut a.next) (λ c. ended me w a E7 h 2 _ _ refl) (λ c. absurd (open_end a.next end n c)))))
 
-at_E6_last : (me : ℕ) (w : World) (a : Actor) → At me w a E6 → w.shared.tail ≡ a.tail → (next_of w.shared w.shared.tail.node).node ≡ 0 → EndsWithin 4 w me
-at_E6_last me w a h was null =
+at_E6_last : (me : ℕ) (w : World) (a : Actor) → At me w a E6 → w.shared.tail ≡ a.tail → IsEnd (next_of w.shared w.shared.tail.node).node → EndsWithin 4 w me
+at_E6_last me w a h was end =
     by_step 3 me w a E6 h
     (goes_on me w a E6 h 3 _ _ E7 refl
-    (λ g. at_E7_last me _ _ g was refl (subst (λ (r : Ref). (next_of w.shared r.node).node ≡ 0) was null)))
+    (λ g. at_E7_last me _ _ g was refl (subst (λ (r : Ref). IsEnd (next_of w.shared r.node).node) was end)))
 
-at_E5_last : (me : ℕ) (w : World) (a : Actor) → At me w a E5 → (next_of w.shared w.shared.tail.node).node ≡ 0 → EndsWithin 5 w me
-at_E5_last me w a h null = by_step 4 me w a E5 h (goes_on me w a E5 h 4 _ _ E6 refl (λ g. at_E6_last me _ _ g refl null))
+at_E5_last : (me : ℕ) (w : World) (a : Actor) → At me w a E5 → IsEnd (next_of w.shared w.shared.tail.node).node → EndsWithin 5 w me
+at_E5_last me w a h end = by_step 4 me w a E5 h (goes_on me w a E5 h 4 _ _ E6 refl (λ g. at_E6_last me _ _ g refl end))
 
 -- where a node follows Tail's, none follows that one, and it is not the first of the queue
 record Behind (w : World) (to : ℕ) : Type 0 where
-  last : (next_of w.shared to).node ≡ 0
+  last : IsEnd (next_of w.shared to).node
   not_first : to ≢ w.shared.head.node
 
-behind : (me : ℕ) (w : World) (a : Actor) (l : Line) → AtLine w me a l → (to : ℕ) → (next_of w.shared w.shared.tail.node).node ≡ to → 1 ≤ to → Behind w to
-behind me w a l k to leads some =
+behind : (me : ℕ) (w : World) (a : Actor) (l : Line) → IsReached w → AtLine w me a l → (to : ℕ) → (next_of w.shared w.shared.tail.node).node ≡ to → 1 ≤ to → to ≢ reserved_node → Behind w to
+behind me w a l r k to leads some other =
     let p = k.plain in
     let chain = p.sound.shape.queue_chain in
     let lag : TailLags w.shared (p.front ∷ p.rest) = p.sound.words.lag in
-    let one : lag.after ≡ to ∷ [] = one_after w.shared (p.front ∷ p.rest) w.shared.head.node to chain lag leads some in
+    let one : lag.after ≡ to ∷ [] = one_after w.shared (p.front ∷ p.rest) w.shared.head.node to chain lag leads (no_end to some other) in
     record {
-      last = (subst (λ ns. IsChain w.shared.nodes (next_of w.shared w.shared.tail.node).node ns) one (behind_tail w.shared (p.front ∷ p.rest) w.shared.head.node chain lag).2).3;
+      last = (subst (λ ns. IsQueueChain w.shared.nodes (next_of w.shared w.shared.tail.node).node ns) one (behind_tail w.shared (p.front ∷ p.rest) w.shared.head.node chain lag).2).3;
       not_first = λ e. after_not_first w.shared p.front to p.rest (queued_once w.shared _ (p.front ∷ p.rest) p.free p.sound.shape) lag one (e ∙ chain.0);
     }
 
@@ -135,18 +141,19 @@ behind me w a l k to leads some =
 at_E13 : (me : ℕ) (w : World) (a : Actor) → At me w a E13 → w.shared.tail ≡ a.tail → EndsWithin 6 w me
 at_E13 me w a h was =
     let k : AtLine w me a E13 = at_line w h.reached h.runs me a E13 h.here h.line in
-    let there : Behind w a.next.node = behind me w a E13 k a.next.node (ap (λ (r : Ref). (next_of w.shared r.node).node) was ∙ k.knows.1.1 was) k.nodes.2 in
+    let there : Behind w a.next.node = behind me w a E13 h.reached k a.next.node (ap (λ (r : Ref). (next_of w.shared r.node).node) was ∙ k.knows.1.1 was) k.nodes.2 k.nodes.3 in
     by_step 5 me w a E13 h
     (won_same me w a E13 h 5 (same_ref w.shared.tail a.tail) _ _ _ (same_ref-same w.shared.tail a.tail was)
     (goes_on me w a E13 h 5 (put Tail (raised w.setup a.tail a.next.node) w.shared) _ E5 refl
-    (λ g. at_E5_last me _ _ g (ap (λ n. (next_of w.shared n).node) (raised_node w.setup a.tail a.next.node k.fixes.room) ∙ there.last))))
+    (λ g. at_E5_last me _ _ g (subst (λ n. IsEnd (next_of w.shared n).node) (sym (raised_node w.setup a.tail a.next.node k.nodes.3 k.fixes.room)) there.last))))
 
 at_E7 : (me : ℕ) (w : World) (a : Actor) → At me w a E7 → w.shared.tail ≡ a.tail → next_of w.shared a.tail.node ≡ a.next → EndsWithin 7 w me
 at_E7 me w a h was is =
     by_step 6 me w a E7 h
     (passed me w a E7 h 6 (same_ref w.shared.tail a.tail) _ _ _ (same_ref-same w.shared.tail a.tail was)
     (either (Leads 6 me w a _) (is_null a.next) (λ n. goes_on me w a E7 h 6 _ _ E9 refl (λ g. within 2 6 _ me (omega arith) (at_E9 me _ _ g is)))
-    (λ n. either (Leads 6 me w a _) (nat_eq a.tail.count w.setup.limit) (λ b. ended me w a E7 h 6 _ _ refl) (λ b. goes_on me w a E7 h 6 _ _ E13 refl (λ g. at_E13 me _ _ g was)))))
+    (λ n. either (Leads 6 me w a _) (is_shut a.next) (λ c. ended me w a E7 h 6 _ _ refl)
+    (λ c. either (Leads 6 me w a _) (nat_eq a.tail.count w.setup.limit) (λ b. ended me w a E7 h 6 _ _ refl) (λ b. goes_on me w a E7 h 6 _ _ E13 refl (λ g. at_E13 me _ _ g was))))))
 
 at_E6 : (me : ℕ) (w : World) (a : Actor) → At me w a E6 → w.shared.tail ≡ a.tail → EndsWithin 8 w me
 at_E6 me w a h was = by_step 7 me w a E6 h (goes_on me w a E6 h 7 _ _ E7 refl (λ g. at_E7 me _ _ g was refl))
@@ -250,11 +257,11 @@ at_D2_apart me w a h apart = by_step 8 me w a D2 h (goes_on me w a D2 h 8 _ _ D3
 at_D10 : (me : ℕ) (w : World) (a : Actor) → At me w a D10 → w.shared.tail ≡ a.tail → EndsWithin 10 w me
 at_D10 me w a h was =
     let k : AtLine w me a D10 = at_line w h.reached h.runs me a D10 h.here h.line in
-    let there : Behind w a.next.node = behind me w a D10 k a.next.node (ap (λ (r : Ref). (next_of w.shared r.node).node) was ∙ k.knows.1 was) k.nodes.1 in
+    let there : Behind w a.next.node = behind me w a D10 h.reached k a.next.node (ap (λ (r : Ref). (next_of w.shared r.node).node) was ∙ k.knows.1 was) k.nodes.1 k.nodes.2 in
     by_step 9 me w a D10 h
     (won_same me w a D10 h 9 (same_ref w.shared.tail a.tail) _ _ _ (same_ref-same w.shared.tail a.tail was)
     (goes_on me w a D10 h 9 (put Tail (raised w.setup a.tail a.next.node) w.shared) _ D2 refl
-    (λ g. at_D2_apart me _ _ g (λ e. there.not_first (sym (raised_node w.setup a.tail a.next.node k.fixes.room) ∙ e)))))
+    (λ g. at_D2_apart me _ _ g (λ e. there.not_first (sym (raised_node w.setup a.tail a.next.node k.nodes.2 k.fixes.room) ∙ e)))))
 
 at_D5 : (me : ℕ) (w : World) (a : Actor) → At me w a D5 → w.shared.head ≡ a.head → w.shared.tail ≡ a.tail → EndsWithin 11 w me
 at_D5 me w a h front was =
@@ -262,7 +269,8 @@ at_D5 me w a h front was =
     (passed me w a D5 h 10 (same_ref w.shared.head a.head) _ _ _ (same_ref-same w.shared.head a.head front)
     (either (Leads 10 me w a _) (nat_eq a.head.node a.tail.node)
     (λ b. either (Leads 10 me w a _) (is_null a.next) (λ n. ended me w a D5 h 10 _ _ refl)
-    (λ n. either (Leads 10 me w a _) (nat_eq a.tail.count w.setup.limit) (λ d. ended me w a D5 h 10 _ _ refl) (λ d. goes_on me w a D5 h 10 _ _ D10 refl (λ g. at_D10 me _ _ g was))))
+    (λ n. either (Leads 10 me w a _) (is_shut a.next) (λ c. ended me w a D5 h 10 _ _ refl)
+    (λ c. either (Leads 10 me w a _) (nat_eq a.tail.count w.setup.limit) (λ d. ended me w a D5 h 10 _ _ refl) (λ d. goes_on me w a D5 h 10 _ _ D10 refl (λ g. at_D10 me _ _ g was)))))
     (λ b. goes_on me w a D5 h 10 _ _ D12 refl (λ g. within 5 10 _ me (omega arith) (at_D12 me _ _ g front)))))
 
 at_D4 : (me : ℕ) (w : World) (a : Actor) → At me w a D4 → w.shared.head ≡ a.head → w.shared.tail ≡ a.tail → EndsWithin 12 w me
@@ -273,6 +281,52 @@ at_D3 me w a h front = by_step 12 me w a D3 h (goes_on me w a D3 h 12 _ _ D4 ref
 
 at_D2 : (me : ℕ) (w : World) (a : Actor) → At me w a D2 → EndsWithin 14 w me
 at_D2 me w a h = by_step 13 me w a D2 h (goes_on me w a D2 h 13 _ _ D3 refl (λ g. at_D3 me _ _ g refl))
+
+-- a shut that finds Tail at the last node
+at_S4 : (me : ℕ) (w : World) (a : Actor) → At me w a S4 → next_of w.shared a.tail.node ≡ a.next → EndsWithin 1 w me
+at_S4 me w a h is =
+    by_step 0 me w a S4 h
+    (won me w a S4 h 0 (same_ref (next_of w.shared a.tail.node) a.next) _ _ _ _ (same_ref-same (next_of w.shared a.tail.node) a.next is) (ended me w a S4 h 0 _ _ refl))
+
+at_S3_last : (me : ℕ) (w : World) (a : Actor) → At me w a S3 → w.shared.tail ≡ a.tail → next_of w.shared a.tail.node ≡ a.next → IsEnd a.next.node → EndsWithin 2 w me
+at_S3_last me w a h was is end =
+    by_step 1 me w a S3 h
+    (passed me w a S3 h 1 (same_ref w.shared.tail a.tail) _ _ _ (same_ref-same w.shared.tail a.tail was)
+    (either (Leads 1 me w a _) (is_null a.next) (λ n. goes_on me w a S3 h 1 _ _ S4 refl (λ g. at_S4 me _ _ g is))
+    (λ n. either (Leads 1 me w a _) (is_shut a.next) (λ c. ended me w a S3 h 1 _ _ refl) (λ c. absurd (open_end a.next end n c)))))
+
+at_S2_last : (me : ℕ) (w : World) (a : Actor) → At me w a S2 → w.shared.tail ≡ a.tail → IsEnd (next_of w.shared w.shared.tail.node).node → EndsWithin 3 w me
+at_S2_last me w a h was end =
+    by_step 2 me w a S2 h
+    (goes_on me w a S2 h 2 _ _ S3 refl
+    (λ g. at_S3_last me _ _ g was refl (subst (λ (r : Ref). IsEnd (next_of w.shared r.node).node) was end)))
+
+at_S1_last : (me : ℕ) (w : World) (a : Actor) → At me w a S1 → IsEnd (next_of w.shared w.shared.tail.node).node → EndsWithin 4 w me
+at_S1_last me w a h end = by_step 3 me w a S1 h (goes_on me w a S1 h 3 _ _ S2 refl (λ g. at_S2_last me _ _ g refl end))
+
+-- one that swings a lagging Tail finds it at the last node then
+at_S5 : (me : ℕ) (w : World) (a : Actor) → At me w a S5 → w.shared.tail ≡ a.tail → EndsWithin 5 w me
+at_S5 me w a h was =
+    let k : AtLine w me a S5 = at_line w h.reached h.runs me a S5 h.here h.line in
+    let there : Behind w a.next.node = behind me w a S5 h.reached k a.next.node (ap (λ (r : Ref). (next_of w.shared r.node).node) was ∙ k.knows.1 was) k.nodes.1 k.nodes.2 in
+    by_step 4 me w a S5 h
+    (won_same me w a S5 h 4 (same_ref w.shared.tail a.tail) _ _ _ (same_ref-same w.shared.tail a.tail was)
+    (goes_on me w a S5 h 4 (put Tail (raised w.setup a.tail a.next.node) w.shared) _ S1 refl
+    (λ g. at_S1_last me _ _ g (subst (λ n. IsEnd (next_of w.shared n).node) (sym (raised_node w.setup a.tail a.next.node k.nodes.2 k.fixes.room)) there.last))))
+
+at_S3 : (me : ℕ) (w : World) (a : Actor) → At me w a S3 → w.shared.tail ≡ a.tail → next_of w.shared a.tail.node ≡ a.next → EndsWithin 6 w me
+at_S3 me w a h was is =
+    by_step 5 me w a S3 h
+    (passed me w a S3 h 5 (same_ref w.shared.tail a.tail) _ _ _ (same_ref-same w.shared.tail a.tail was)
+    (either (Leads 5 me w a _) (is_null a.next) (λ n. goes_on me w a S3 h 5 _ _ S4 refl (λ g. within 1 5 _ me (omega arith) (at_S4 me _ _ g is)))
+    (λ n. either (Leads 5 me w a _) (is_shut a.next) (λ c. ended me w a S3 h 5 _ _ refl)
+    (λ c. either (Leads 5 me w a _) (nat_eq a.tail.count w.setup.limit) (λ b. ended me w a S3 h 5 _ _ refl) (λ b. goes_on me w a S3 h 5 _ _ S5 refl (λ g. at_S5 me _ _ g was))))))
+
+at_S2 : (me : ℕ) (w : World) (a : Actor) → At me w a S2 → w.shared.tail ≡ a.tail → EndsWithin 7 w me
+at_S2 me w a h was = by_step 6 me w a S2 h (goes_on me w a S2 h 6 _ _ S3 refl (λ g. at_S3 me _ _ g was refl))
+
+at_S1 : (me : ℕ) (w : World) (a : Actor) → At me w a S1 → EndsWithin 8 w me
+at_S1 me w a h = by_step 7 me w a S1 h (goes_on me w a S1 h 7 _ _ S2 refl (λ g. at_S2 me _ _ g refl))
 
 -- an actor that begins an enqueue, and one that begins a dequeue, with an empty pocket or a full one
 enqueue_alone : (me : ℕ) (w : World) (kind : Kind) (pocket : Option Held) (b : Actor) → kind ≡ NonBlocking → b.line ≡ Some N1 → IsReached w → w.setup.kind ≡ NonBlocking → actor_of w me ≡ Some (from_pocket (with_node kind) pocket b) → EndsWithin 15 w me
@@ -288,20 +342,21 @@ dequeue_alone me w kind None b e first r runs here =
 dequeue_alone me w kind (Some held) b e first r runs here =
     at_F1 14 me w (from_pocket F1 (Some held) b) (record { reached = r; runs = runs; here = here; line = refl }) (λ none v c g. at_D2 me v c g)
 
-call_alone : (me : ℕ) (op : Op) (w : World) (a : Actor) → actor_of w me ≡ Some a → IsReached (with_actor w me (begun w.setup.kind me op a)) → w.setup.kind ≡ NonBlocking → EndsWithin (most_steps op) (with_actor w me (begun w.setup.kind me op a)) me
-call_alone me (Enq body) w a here r runs = enqueue_alone me _ w.setup.kind a.pocket _ runs refl r runs (actor_same w me a _ here)
-call_alone me Deq w a here r runs = dequeue_alone me _ w.setup.kind a.pocket _ runs refl r runs (actor_same w me a _ here)
+call_alone : (me : ℕ) (op : Op) (w : World) (a : Actor) → is_call op ≡ true → actor_of w me ≡ Some a → IsReached (with_actor w me (begun w.setup.kind me op a)) → w.setup.kind ≡ NonBlocking → EndsWithin (most_steps op) (with_actor w me (begun w.setup.kind me op a)) me
+call_alone me (Enq body) w a call here r runs = enqueue_alone me _ w.setup.kind a.pocket _ runs refl r runs (actor_same w me a _ here)
+call_alone me Deq w a call here r runs = dequeue_alone me _ w.setup.kind a.pocket _ runs refl r runs (actor_same w me a _ here)
+call_alone me Shut w a call here r runs = at_S1 me _ _ (record { reached = r; runs = runs; here = actor_same w me a _ here; line = ap (λ k. Some (shuts k)) runs })
 
 -- the world after a begin, if it is reached
 abbrev AfterBegin : (me : ℕ) → Op → World → Type 0
 AfterBegin me op v = IsReached v → EndsAlone v me op
 
 begins_alone : (me : ℕ) (op : Op) (w : World) (a : Actor) (l : Option Line) → actor_of w me ≡ Some a → IfSome (begins w me op a l) (AfterBegin me op)
-begins_alone me op w a None here = go (is_call op)
+begins_alone me op w a None here = go (is_call op) refl
   where
-    go : (b : Bool) → IfSome (if b then Some (with_actor w me (begun w.setup.kind me op a)) else None) (AfterBegin me op)
-    go true = call_alone me op w a here
-    go false = tt
+    go : (b : Bool) → is_call op ≡ b → IfSome (if b then Some (with_actor w me (begun w.setup.kind me op a)) else None) (AfterBegin me op)
+    go true call = call_alone me op w a call here
+    go false call = tt
 begins_alone me op w a (Some l) here = tt
 
 moved_alone : (me : ℕ) (op : Op) (w : World) (o : Option Actor) → actor_of w me ≡ o → IfSome (moved w (Begin me op) o) (AfterBegin me op)

@@ -1,12 +1,12 @@
 -- What both queues assert of the words, of the actors and of a step, over what each of them asserts alone: a `Queue`.
 -- The lines of the free list assert the same in both.
 use Rattle.std.proofs.Common.{◌≡◌, ◌≢◌, ℕ, zero, suc, get_or, replicate, ◌≤◌, ◌<◌, Bool, true, false, nat_eq, if◌then◌else◌, List, [], ◌∷◌, length, Option, Some, None, IfSome, refl, sym, ap, ◌∙◌, subst, arith}
-use Rattle.step_machine.specs.Below.{Ref, ref, Kind, Line, N1, N2, N3, N4, N5, F1, F2, F3, E2, D2, A1, A4, A5, A6, A7, B1, B2, B3, B4, B5, B6, Section, section_of, Setup, Node, Held, Actor, Outcome, blank, Shared, node_at, found, performed, action, outcome}
+use Rattle.step_machine.specs.Below.{reserved_node, Ref, ref, Kind, Line, N1, N2, N3, N4, N5, F1, F2, F3, E2, D2, A1, A4, A5, A6, A7, B1, B2, B3, B4, B5, B6, S1, S6, S7, S8, S9, Section, section_of, Setup, empty, Node, Held, Actor, Outcome, blank, Shared, node_at, found, performed, action, outcome}
 use Rattle.line_table.specs.declared.lines.Section.TheVariants.{NewNode, Free}
 use Rattle.step_machine.specs.Machine.{opening, IsSized}
 use Rattle.step_machine.specs.Places.{in_hand, in_pocket, one_if, times}
 use Rattle.step_machine.specs.ProgramCounters.{IsRunBy, NonNullAt}
-use Rattle.step_machine.specs.Chains.{last_node}
+use Rattle.step_machine.specs.Chains.{last_node, queue_in}
 use Rattle.step_machine.proofs.Chains.{one_if_same}
 use Rattle.step_machine.proofs.Counting.{holds, holds_own}
 use Rattle.step_machine.proofs.Effects.{Shape, Turn}
@@ -31,6 +31,9 @@ has_tail (Some A4) = true
 has_tail (Some A5) = true
 has_tail (Some A6) = true
 has_tail (Some A7) = true
+has_tail (Some S7) = true
+has_tail (Some S8) = true
+has_tail (Some S9) = true
 has_tail _ = false
 
 -- whether an actor has the head lock before its line
@@ -86,6 +89,8 @@ is_own (Some E2) = false
 is_own (Some D2) = false
 is_own (Some A1) = false
 is_own (Some B1) = false
+is_own (Some S1) = false
+is_own (Some S6) = false
 is_own _ = true
 
 -- what steps of others keep of the nodes, for an actor
@@ -96,14 +101,14 @@ pub record NodesRely (m m' : Shared) (c : Actor) : Type 0 where
   pub dummy : 1 ≤ (next_of m m.head.node).node → node_at m' m.head.node ≡ node_at m m.head.node
   pub front : 1 ≤ (next_of m m.head.node).node → (node_at m' (next_of m m.head.node).node).value ≡ (node_at m (next_of m m.head.node).node).value
 
--- a step changes no word of the queue: not Head, Tail or a lock, and no node of its chain; and no count falls
+-- a step changes no word of the queue: not Head, Tail or a lock, and no node of its chain; and no count of a `next`
 pub record QueueStays (m m' : Shared) (queue : List ℕ) : Type 0 where
   pub head : m'.head ≡ m.head
   pub tail : m'.tail ≡ m.tail
   pub tail_lock : m'.tail_lock ≡ m.tail_lock
   pub head_lock : m'.head_lock ≡ m.head_lock
   pub nodes : (n : ℕ) → 1 ≤ times n queue → node_at m' n ≡ node_at m n
-  pub counts : (n : ℕ) → 1 ≤ n → (next_of m n).count ≤ (next_of m' n).count
+  pub counts : (n : ℕ) → 1 ≤ n → (next_of m' n).count ≡ (next_of m n).count
 
 -- what a queue asserts alone: of the words with its chain, of an actor before a line of its own (`Z` is what is known of
 -- a number at which the queue was found empty, `last` its last node), and what a step keeps of the words for another
@@ -118,7 +123,7 @@ pub record Queue : Type 1 where
   pub own_kept : (Z : ℕ → Type 0) (s : Setup) (m m' : Shared) (last last' you : ℕ) (c : Actor) (l : Line) → Rely m m' last last' you → NodesRely m m' c → FixedAt s.limit you c (Some l) → NonNullAt l c → OwnsAt m you (Some l) → OwnAt Z s m last c (Some l) → OwnAt Z s m' last' c (Some l)
   pub locks_kept : (m m' : Shared) (last last' you : ℕ) (l : Option Line) → Rely m m' last last' you → OwnsAt m you l → OwnsAt m' you l
   pub words_stay : (s : Setup) (m m' : Shared) (front : ℕ) (rest : List ℕ) → QueueStays m m' (front ∷ rest) → Words s m (front ∷ rest) → Words s m' (front ∷ rest)
-  pub relies : (s : Setup) (m m' : Shared) (front : ℕ) (rest : List ℕ) → QueueStays m m' (front ∷ rest) → Words s m (front ∷ rest) → (last you : ℕ) → Rely m m' last last you
+  pub relies : (s : Setup) (m m' : Shared) (front : ℕ) (rest : List ℕ) → QueueStays m m' (front ∷ rest) → Words s m (front ∷ rest) → (you : ℕ) → Rely m m' (last_node (front ∷ rest)) (last_node (front ∷ rest)) you
 
 -- what an actor knows before its line, by whether the line is one of the queue's own
 abbrev pub KnowsBy : Queue → Bool → (Z : ℕ → Type 0) → Setup → Shared → (last : ℕ) → Actor → Option Line → Type 0
@@ -129,11 +134,12 @@ KnowsBy q false Z s m last a l = FreeAt m a l
 abbrev pub Knows : Queue → (Z : ℕ → Type 0) → Setup → Shared → (last : ℕ) → Actor → Option Line → Type 0
 Knows q Z s m last a l = KnowsBy q (is_own l) Z s m last a l
 
--- the queue was found empty, at this number
-abbrev pub Found : List ℕ → (now : ℕ) → ℕ → Type 0
-Found rest now k = (rest ≡ []) × (k ≡ now)
+-- the queue was found empty and not shut, at this number
+abbrev pub Found : Shared → List ℕ → (now : ℕ) → ℕ → Type 0
+Found m queue now k = (queue_in m queue ≡ empty) × (k ≡ now)
 
--- an actor that takes a step at a number, and what holds before it; `E` counts how often a node stands outside the chains
+-- an actor that takes a step at a number, and what holds before it; `E` counts how often a node stands outside the
+-- chains
 pub record Before (q : Queue) : Type 1 where
   pub Z : ℕ → Type 0
   pub s : Setup
@@ -147,9 +153,11 @@ pub record Before (q : Queue) : Type 1 where
   pub a : Actor
   pub shape : Shape m E (front ∷ rest) free
   pub unused : (n : ℕ) → m.fresh < n → (next_of m n).count ≡ 0
+  pub few_nodes : length m.nodes < reserved_node
   pub words : q.Words s m (front ∷ rest)
   pub mine : (n : ℕ) → holds n a ≤ E n
   pub low : a.node ≤ length m.nodes
+  pub hand_no_end : a.node ≢ reserved_node
   pub marked : Marked m a
   pub some : 1 ≤ me
 
@@ -164,7 +172,7 @@ pub record After (q : Queue) (b : Before q) (m' : Shared) (o : Outcome) : Type 0
   pub relies : (you : ℕ) → 1 ≤ you → you ≢ b.me → q.Rely b.m m' (last_node (b.front ∷ b.rest)) (last_node (front' ∷ rest')) you
   pub words : q.Words b.s m' (front' ∷ rest')
   pub marked : Marked m' o.actor
-  pub knows : Knows q (Found b.rest b.now) b.s m' (last_node (front' ∷ rest')) o.actor o.actor.line
+  pub knows : Knows q (Found b.m (b.front ∷ b.rest) b.now) b.s m' (last_node (front' ∷ rest')) o.actor o.actor.line
   pub owns : OwnsAt m' b.me o.actor.line
   pub linearizes : LinearizationStep b.Z b.me b.now b.m m' (b.front ∷ b.rest) (front' ∷ rest') b.a o
 
@@ -234,10 +242,11 @@ module _ (q : Queue) where
       go true h = q.own_kept Z s m m' last last' you c l k n f p o h
       go false h = free_kept s.limit you m m' c l n f p h
 
-module _ (m m' : Shared) (c : Actor) (k : NodesRely m m' c) where
+-- an actor whose nodes stay as they are
+module _ (m m' : Shared) (c : Actor) (keeps : (n : ℕ) → 1 ≤ n → 1 ≤ holds n c → node_at m' n ≡ node_at m n) where
   pocket_kept : (pocket : Option Held) → c.pocket ≡ pocket → IfSome pocket (λ held. IsMark m held.node held.mark) → IfSome pocket (λ held. IsMark m' held.node held.mark)
   pocket_kept None e h = tt
-  pocket_kept (Some held) e h = (h.0, ap (λ (x : Node). x.next.count) (k.hand held.node h.0 here) ∙ h.1)
+  pocket_kept (Some held) e h = (h.0, ap (λ (x : Node). x.next.count) (keeps held.node h.0 here) ∙ h.1)
     where
       here : 1 ≤ holds held.node c
       here =
@@ -251,4 +260,4 @@ module _ (m m' : Shared) (c : Actor) (k : NodesRely m m' c) where
       in_it : c.holds ≡ true → IsMark m' c.node c.mark
       in_it e =
           let one : in_hand c.node c ≡ 1 = ap (λ b. if b then one_if (nat_eq c.node c.node) else 0) e ∙ one_if_same c.node c.node refl in
-          ((h.hand e).0, ap (λ (x : Node). x.next.count) (k.hand c.node (h.hand e).0 (omega arith)) ∙ (h.hand e).1)
+          ((h.hand e).0, ap (λ (x : Node). x.next.count) (keeps c.node (h.hand e).0 (omega arith)) ∙ (h.hand e).1)

@@ -1,7 +1,7 @@
 -- What an actor knows and holds that begins a call or rests, and what holds at the start; for both queues.
 use Rattle.std.proofs.Common.{◌≡◌, ◌≢◌, ℕ, zero, suc, get_or, ◌≤◌, Bool, true, false, nat_eq, if◌then◌else◌, replicate, Option, Some, None, IfSome, refl, sym, ap, ◌∙◌, subst, arith, ◌⊎◌, inl, inr}
 use Rattle.std.proofs.lemmas.Bool.{true≢false}
-use Rattle.step_machine.specs.Below.{Kind, TwoLock, NonBlocking, Line, E2, A1, F1, Op, Enq, Deq, Setup, Held, Actor, blank, Shared, from_pocket, begun}
+use Rattle.step_machine.specs.Below.{Kind, TwoLock, NonBlocking, Line, E2, A1, F1, Op, Enq, Deq, Shut, Setup, Held, Actor, blank, Shared, from_pocket, begun}
 use Rattle.step_machine.specs.Machine.{idle, rested, may_rest}
 use Rattle.step_machine.specs.Places.{one_if, in_pocket, held}
 use Rattle.step_machine.proofs.Chains.{one_if_tells, next_in}
@@ -32,6 +32,8 @@ begun_begins q Z s m last me TwoLock (Enq body) a e h g = from_pocket_begins q Z
 begun_begins q Z s m last me NonBlocking (Enq body) a e h g = from_pocket_begins q Z s m last me a E2 a.pocket _ e refl (λ c. tt) g (record { marked = h; knows = tt; owns = g; holds = λ n. refl })
 begun_begins q Z s m last me TwoLock Deq a e h g = from_pocket_begins q Z s m last me a F1 a.pocket _ e refl (λ c. tt) g (record { marked = h; knows = tt; owns = g; holds = λ n. refl })
 begun_begins q Z s m last me NonBlocking Deq a e h g = from_pocket_begins q Z s m last me a F1 a.pocket _ e refl (λ c. tt) g (record { marked = h; knows = tt; owns = g; holds = λ n. refl })
+begun_begins q Z s m last me TwoLock Shut a e h g = record { marked = record { hand = h.hand; pocket = h.pocket }; knows = tt; owns = g; holds = λ n. refl }
+begun_begins q Z s m last me NonBlocking Shut a e h g = record { marked = record { hand = h.hand; pocket = h.pocket }; knows = tt; owns = g; holds = λ n. refl }
 
 -- an actor that rests keeps its node, in its pocket, and has no lock
 pub rested_begins : (q : Queue) (Z : ℕ → Type 0) (s : Setup) (m : Shared) (last me : ℕ) (a : Actor) (l : Line) → may_rest l ≡ true → FixedAt s.limit me a (Some l) → Marked m a → OwnsAt m me (Some l) → Begins q Z s m last me a (rested a)

@@ -1,8 +1,9 @@
 -- What the moves carry along of a world and its queue's chain, in both queues: a fact of the chain, and one of the
 -- numbers noted where the queue was empty.
 use Rattle.std.proofs.Common.{◌≡◌, ℕ, ◌+◌, true, List, [], ◌∷◌, Some, None}
-use Rattle.step_machine.specs.Below.{Line, Op, Setup, Actor, Outcome, Shared, begun}
+use Rattle.step_machine.specs.Below.{Line, Op, empty, Setup, Actor, Outcome, Shared, begun}
 use Rattle.step_machine.specs.Machine.{World, opening, actor_of, rested, may_rest, with_actor, after_outcome, IsSized, IsReached}
+use Rattle.step_machine.specs.Chains.{queue_in}
 use Rattle.step_machine.proofs.StampsInvariants.{Does}
 use Rattle.step_machine.proofs.Counting.{elsewhere}
 use Rattle.step_machine.proofs.Effects.{Shape, WritesOneNode}
@@ -25,14 +26,14 @@ pub record NumberedMove (Z : ℕ → Type 0) (w : World) (me : ℕ) (a : Actor) 
   pub same_call : o.actor.op ≡ a.op
 
 -- what such a move leaves of the two facts
-pub record Carried (L : World → List ℕ → Type 0) (Z : World → ℕ → Type 0) (w v : World) (rest queue' : List ℕ) : Type 0 where
+pub record Carried (L : World → List ℕ → Type 0) (Z : World → ℕ → Type 0) (w v : World) (queue queue' : List ℕ) : Type 0 where
   pub fact : L v queue'
   pub keeps : (k : ℕ) → Z w k → Z v k
-  pub finds : rest ≡ [] → Z v (w.steps + 1)
+  pub finds : queue_in w.shared queue ≡ empty → Z v (w.steps + 1)
 
 -- the moves carry both facts along
 pub record Carries (L : World → List ℕ → Type 0) (Z : World → ℕ → Type 0) : Type 1 where
-  pub told : (w : World) (me : ℕ) (a : Actor) (m' : Shared) (o : Outcome) (front : ℕ) (rest queue' : List ℕ) → NumberedMove (Z w) w me a m' o front rest queue' → L w (front ∷ rest) → Carried L Z w (after_outcome w me a m' o) rest queue'
+  pub told : (w : World) (me : ℕ) (a : Actor) (m' : Shared) (o : Outcome) (front : ℕ) (rest queue' : List ℕ) → NumberedMove (Z w) w me a m' o front rest queue' → L w (front ∷ rest) → Carried L Z w (after_outcome w me a m' o) (front ∷ rest) queue'
   pub began : (w : World) (me : ℕ) (op : Op) (a : Actor) (queue : List ℕ) → IsReached w → actor_of w me ≡ Some a → a.line ≡ None → L w queue → L (with_actor w me (begun w.setup.kind me op a)) queue × ((k : ℕ) → Z w k → Z (with_actor w me (begun w.setup.kind me op a)) k)
   pub at_rest : (w : World) (me : ℕ) (a : Actor) (l : Line) (queue : List ℕ) → IsReached w → actor_of w me ≡ Some a → a.line ≡ Some l → may_rest l ≡ true → L w queue → L (with_actor w me (rested a)) queue × ((k : ℕ) → Z w k → Z (with_actor w me (rested a)) k)
   pub starts : (s : Setup) (actors : ℕ) → IsSized s actors → L (opening s actors) (1 ∷ [])

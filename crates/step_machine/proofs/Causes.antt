@@ -1,15 +1,15 @@
 -- Why a step refuses, and what each reply in the operations says, for both queues: the lines of the free list once, and
 -- what is left to a queue's own lines.
-use Rattle.std.proofs.Common.{◌≡◌, ℕ, ◌+◌, ◌≤◌, ◌<◌, true, false, nat_eq, nat_lt, List, [], ◌∷◌, length, Option, Some, None, IfSome, refl, arith}
+use Rattle.std.proofs.Common.{◌≡◌, ℕ, ◌+◌, ◌≤◌, ◌<◌, true, false, nat_eq, nat_lt, List, [], ◌∷◌, length, Option, Some, None, IfSome, refl, arith, ◌⊎◌, inl, inr}
 use Rattle.std.specs.Prelude.{slice_index_or}
 use Rattle.std.specs.List.{All}
 use Rattle.std.proofs.lemmas.Bool.{eqb-true, ltb-false}
 use Rattle.std.proofs.lemmas.List.Elements.{All-set, All-append, All-cons, All-nil}
-use Rattle.step_machine.specs.Below.{is_null, same_ref, Kind, Line, N1, N2, N3, N4, N5, F1, F2, F3, E5, E9, E13, E17, D2, D10, D13, A3, B1, B5, section_of, WornWord, OfFree, Refusal, NoNode, WornOut, Busy, Reply, Value, Refused, Stamped, Taken, Setup, Actor, Outcome, found, action, outcome, goes, empties_hand, fills_hand, to_pocket, with_node, freed, busy_or, gives_up}
+use Rattle.step_machine.specs.Below.{is_null, same_ref, Kind, Line, N1, N2, N3, N4, N5, F1, F2, F3, E5, E9, E13, E17, D2, D10, D13, A3, B1, B5, S1, S4, S5, S6, section_of, WornWord, OfFree, Refusal, NoNode, WornOut, Busy, Closed, Reply, Value, Refused, Stamped, Taken, Setup, Actor, Outcome, found, action, outcome, goes, empties_hand, fills_hand, to_pocket, with_node, freed, busy_or, gives_up}
 use Rattle.step_machine.specs.Machine.{World, actor_of, with_operation, with_outcome, new_operation, IsReached}
 use Rattle.step_machine.specs.Range.{RegistersInRange, WorldInRange}
 use Rattle.step_machine.specs.ProgramCounters.{IsRunBy}
-use Rattle.step_machine.specs.EachQueue.{raised_at}
+use Rattle.step_machine.specs.EachQueue.{raised_at, IsShut}
 use Rattle.step_machine.proofs.Choices.{either}
 use Rattle.step_machine.proofs.Reached.{some_of}
 use Rattle.step_machine.proofs.Reaching.{each_reached}
@@ -22,6 +22,7 @@ abbrev pub Why : (WornWord → Type 0) → World → Refusal → Type 0
 Why Own w NoNode = (w.shared.fresh ≡ w.setup.size) × (w.shared.free.node ≡ 0)
 Why Own w (WornOut OfFree) = w.shared.free.count ≡ w.setup.limit
 Why Own w (WornOut what) = Own what
+Why Own w Closed = IsShut w
 Why Own w _ = ⊥
 
 abbrev pub WhyReply : (WornWord → Type 0) → World → Option Reply → Type 0
@@ -62,14 +63,16 @@ caused Own w kind now me a F2 g c r f own = record { cause = tt }
 caused Own w kind now me a F3 g c r f own = either (Caused Own w) (same_ref w.shared.free a.top) (λ e. freed_caused Own w w.setup.kind now a.due (empties_hand a) f.earned) (λ e. record { cause = tt })
 caused Own w kind now me a l g c r f own = own r
 
--- what an actor raises is below the limit, if the `next` that E9 compares with is
-pub raises_below : (s : Setup) (fresh k : ℕ) (a : Actor) (l : Line) → RegistersInRange s fresh k a → RoomAt l s.limit a → (l ≡ E9 → a.next.count < s.limit) → IfSome (raised_at l a) (λ r. r.count < s.limit)
+-- what an actor raises is below the limit, if the `next` that E9 and S4 compare with is
+pub raises_below : (s : Setup) (fresh k : ℕ) (a : Actor) (l : Line) → RegistersInRange s fresh k a → RoomAt l s.limit a → ((l ≡ E9) ⊎ (l ≡ S4) → a.next.count < s.limit) → IfSome (raised_at l a) (λ r. r.count < s.limit)
 raises_below s fresh k a N4 g room next = let low : a.top.count ≤ s.limit = g.top.count in omega arith
 raises_below s fresh k a F3 g room next = let low : a.top.count ≤ s.limit = g.top.count in omega arith
-raises_below s fresh k a E9 g room next = next refl
+raises_below s fresh k a E9 g room next = next (inl refl)
+raises_below s fresh k a S4 g room next = next (inr refl)
 raises_below s fresh k a E13 g room next = let low : a.tail.count ≤ s.limit = g.tail.count in omega arith
 raises_below s fresh k a E17 g room next = let low : a.tail.count ≤ s.limit = g.tail.count in omega arith
 raises_below s fresh k a D10 g room next = let low : a.tail.count ≤ s.limit = g.tail.count in omega arith
+raises_below s fresh k a S5 g room next = let low : a.tail.count ≤ s.limit = g.tail.count in omega arith
 raises_below s fresh k a D13 g room next = let low : a.head.count ≤ s.limit = g.head.count in omega arith
 raises_below s fresh k a B5 g room next = let low : a.head.count ≤ s.limit = g.head.count in omega arith
 raises_below s fresh k a _ g room next = tt
@@ -88,6 +91,8 @@ module _ (kind : Kind) (P : Option Reply → Type 0) (busy : P (Some (Refused Bu
   given now limit me a D2 f = busy
   given now limit me a A3 f = busy
   given now limit me a B1 f = busy
+  given now limit me a S1 f = busy
+  given now limit me a S6 f = busy
   given now limit me a _ f = tt
 
   recorded : (entry : Option ℕ) (new : Stamped) (change : Stamped → Stamped) (ops : List Stamped) → All (λ o. P o.reply) ops → ((o : Stamped) → P (change o).reply) → All (λ o. P o.reply) (with_operation entry new change ops)

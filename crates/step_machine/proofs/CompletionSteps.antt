@@ -7,17 +7,17 @@ use Rattle.std.specs.Prelude.{slice_get, IsSome}
 use Rattle.std.proofs.lemmas.Bool.{eqb-false, ltb-true, ltb-false}
 use Rattle.std.proofs.lemmas.List.{map-append}
 use Rattle.std.proofs.lemmas.Option.{none-some, same_Some, slice_get_within, get_or_from_slice_get}
-use Rattle.step_machine.specs.Below.{Line, F1, F2, F3, E17, A6, A7, B6, D5, Op, Reply, Done, Value, Empty, Refused, Stamped, inserted, by_point, Actor, Outcome, Shared}
+use Rattle.step_machine.specs.Below.{Line, F1, F2, F3, E17, A6, A7, S9, B6, D5, Op, Reply, Done, Value, Empty, Refused, Stamped, inserted, by_point, Actor, Outcome, Shared}
 use Rattle.step_machine.specs.Machine.{World, actor_of, new_operation, with_outcome, with_operation, entry_or, latest_point, after_outcome, with_actor}
 use Rattle.step_machine.specs.Places.{one_if}
 use Rattle.step_machine.specs.Completion.{decided_reply, due_of, completed_reply, is_value}
 use Rattle.step_machine.specs.Stamps.{IsBy, IsStamped}
 use Rattle.step_machine.proofs.Reached.{actor_stands}
 use Rattle.step_machine.proofs.StampsLists.{same_or_not, slice_get-set_same, slice_get-set_other, put_set, put_end, by_within}
-use Rattle.step_machine.proofs.StampsLines.{PointFits, PointAt, point_at_while, GoesOn, Turns}
+use Rattle.step_machine.proofs.StampsLines.{PointFits, PointLeft, PointAt, point_at_while, GoesOn, Turns}
 use Rattle.step_machine.proofs.StampsInvariants.{Over, Operations, Idle, Busy, OperationAt, StampsInvariant, Does, settled_kept}
 use Rattle.step_machine.proofs.StampsLaws.{apart}
-use Rattle.step_machine.proofs.Fixed.{DecidedAt, DecidedFreeing, DecidedUnlocking}
+use Rattle.step_machine.proofs.Fixed.{DecidedAt, DecidedFreeing, DecidedUnlocking, DecidedLeaving}
 use Rattle.step_machine.proofs.LinearizationSteps.{KeepsReply}
 use Rattle.step_machine.proofs.Replay.{place_given, place_added, unplaced_set, unplaced_added, set_same}
 
@@ -134,13 +134,19 @@ unlocking (Some (Value v)) at h e n = cc
 unlocking (Some Empty) at h e n = h.0
 unlocking (Some (Refused why)) at h e n = h
 
+leaving : (due : Option Reply) (at : Option ℕ) → PointLeft due at → DecidedLeaving due → decided_reply due ≡ None → at ≡ None
+leaving (Some Done) at h e n = cc
+leaving (Some (Refused why)) at h e n = h
+leaving _ at h e n = absurd e
+
 unplaced_at : (l : Line) (due : Option Reply) (at : Option ℕ) → PointAt l due at (Unit {0}) → DecidedAt l due → decided_reply due ≡ None → at ≡ None
 unplaced_at F1 due at h e n = freeing due at h e n
 unplaced_at F2 due at h e n = freeing due at h e n
 unplaced_at F3 due at h e n = freeing due at h e n
 unplaced_at E17 due at h e n = absurd (let x : decided_reply (Some Done) ≡ None = ap decided_reply (sym e) ∙ n in cc)
 unplaced_at A6 due at h e n = absurd (let x : decided_reply (Some Done) ≡ None = ap decided_reply (sym e) ∙ n in cc)
-unplaced_at A7 due at h e n = absurd (let x : decided_reply (Some Done) ≡ None = ap decided_reply (sym e) ∙ n in cc)
+unplaced_at A7 due at h e n = leaving due at h e n
+unplaced_at S9 due at h e n = leaving due at h e n
 unplaced_at B6 due at h e n = unlocking due at h e n
 unplaced_at D5 due at h e n = h.0
 unplaced_at _ due at h e n = h

@@ -2,16 +2,15 @@
 use Rattle.std.proofs.Common.{◌≡◌, ◌+◌, ℕ, Some, sym, subst}
 use Rattle.step_machine.specs.Below.{Line, section_of, empty, Plays, Actor, Outcome, found, performed, action, outcome, gives_up}
 use Rattle.step_machine.specs.Machine.{World, actor_of, after_outcome, stepped, IsReached}
-use Rattle.step_machine.specs.Chains.{queue_values}
+use Rattle.step_machine.specs.Chains.{queue_in}
 use Rattle.step_machine.specs.Histories.{OfEachWorld}
 use Rattle.step_machine.specs.Entries.{PlaysToItsValues}
 use Rattle.step_machine.proofs.Fixed.{Runs}
-use Rattle.step_machine.proofs.Chains.{chain_same}
 use Rattle.step_machine.proofs.Gains.{completion_entries, Gains}
-use Rattle.step_machine.proofs.Legal.{SimulationRelation, WasEmpty, queue_of}
+use Rattle.step_machine.proofs.Legal.{SimulationRelation, WasEmpty}
 use Rattle.step_machine.proofs.Completion.{entries_booked}
 use Rattle.step_machine.proofs.Invariant.{step_moving, give_moving}
-use Rattle.step_machine.proofs.EitherQueue.{queue_of_kind, steps_of_kind, is_of_kind, reached_either, fixed_at}
+use Rattle.step_machine.proofs.EitherQueue.{queue_of_kind, steps_of_kind, is_of_kind, reached_either, same_queue, fixed_at}
 use Rattle.step_machine.proofs.EachLegal.{IsSimulated, carried, reached_simulation, moving_gains}
 
 pub each_step_gains : (w : World) (me : ℕ) (a : Actor) (l : Line) → IsReached w → actor_of w me ≡ Some a → a.line ≡ Some l → Gains w (stepped w me a l) me a (outcome w.setup (w.steps + 1) me a l (found (action w.setup me a l) w.shared))
@@ -32,5 +31,5 @@ each_call w me a l r is at = (fixed_at w r me a l is at).call
 pub plays_to_the_values : OfEachWorld PlaysToItsValues
 plays_to_the_values w r queue chain =
     let h : IsSimulated w = reached_simulation w r in
-    subst (λ es. Plays empty es (queue_of (queue_values w.shared queue))) (sym (entries_booked w))
-    (subst (λ ns. Plays empty (completion_entries w) (queue_of (queue_values w.shared ns))) (chain_same w.shared.nodes h.queue queue w.shared.head.node h.chain chain) h.fact.plays)
+    subst (λ es. Plays empty es (queue_in w.shared queue)) (sym (entries_booked w))
+    (subst (λ ns. Plays empty (completion_entries w) (queue_in w.shared ns)) (same_queue w r h.queue queue h.chain chain) h.fact.plays)

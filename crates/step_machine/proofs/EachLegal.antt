@@ -1,24 +1,25 @@
 -- The histories of both queues are legal: the operations of each world by rising place, and Head's count.
-use Rattle.std.proofs.Common.{ℕ, ◌+◌, ◌≤◌, List, ◌∷◌, refl, sym, ap, ◌∙◌, subst, arith}
+use Rattle.std.proofs.Common.{◌≡◌, replicate, ℕ, ◌+◌, ◌≤◌, List, ◌∷◌, refl, sym, ap, ◌∙◌, subst, arith}
 use Rattle.std.proofs.lemmas.Option.{none-some}
-use Rattle.step_machine.specs.Below.{IsLegal, Actor, Outcome, Shared, begun}
+use Rattle.step_machine.specs.Below.{empty, blank, IsLegal, Actor, Outcome, Shared, begun}
 use Rattle.step_machine.specs.Machine.{World, rested, after_outcome}
-use Rattle.step_machine.specs.Places.{IsChain}
-use Rattle.step_machine.specs.Chains.{queue_values}
+use Rattle.step_machine.specs.Places.{IsQueueChain}
+use Rattle.step_machine.specs.Chains.{queue_in}
 use Rattle.step_machine.specs.Stamps.{makers}
 use Rattle.step_machine.specs.EachQueue.{ReplaysToItsValues, CountsValuesTaken}
 use Rattle.step_machine.specs.Histories.{OfEachWorld}
 use Rattle.step_machine.proofs.StampsInvariants.{OperationAt, StampsInvariant}
-use Rattle.step_machine.proofs.Chains.{chain_same}
+use Rattle.step_machine.proofs.Chains.{next_in, ended_at}
+use Rattle.step_machine.proofs.Beginnings.{blank_leads}
 use Rattle.step_machine.proofs.Counting.{holds, elsewhere, elsewhere_one}
 use Rattle.step_machine.proofs.CompletionSteps.{Simulates, simulates}
-use Rattle.step_machine.proofs.Legal.{SimulationRelation, WasEmpty, AfterStep, queue_of, after_step, after_gains, after_plays, empty_now}
+use Rattle.step_machine.proofs.Legal.{SimulationRelation, WasEmpty, AfterStep, after_step, after_gains, after_plays, empty_now}
 use Rattle.step_machine.proofs.Gains.{Gains}
 use Rattle.step_machine.proofs.LegalMoves.{calls_settled, kept_reached, simulation_with, book_begun, book_rested, begun_entry}
 use Rattle.step_machine.proofs.Completion.{legal_book, replays_promises, replayed_promises, taken_promises}
 use Rattle.step_machine.proofs.Carrying.{NumberedMove, Carried, Carries, Moving}
 use Rattle.step_machine.proofs.Invariant.{ReachedInvariant}
-use Rattle.step_machine.proofs.EitherQueue.{queue_of_kind, reached_either}
+use Rattle.step_machine.proofs.EitherQueue.{queue_of_kind, reached_either, same_queue}
 
 module _ (w : World) (me : ℕ) (a : Actor) (m' : Shared) (o : Outcome) (front : ℕ) (rest queue' : List ℕ) (n : NumberedMove (WasEmpty w) w me a m' o front rest queue') (ac : SimulationRelation w (front ∷ rest)) where
   kept : StampsInvariant (Unit {0}) (makers n.reached.moves) w
@@ -35,7 +36,7 @@ module _ (w : World) (me : ℕ) (a : Actor) (m' : Shared) (o : Outcome) (front :
       (λ e s entry got. ac.calls me e a n.line s n.here n.at entry got)
 
   -- it carries the accounts along
-  simulation_after_outcome : Carried SimulationRelation WasEmpty w (after_outcome w me a m' o) rest queue'
+  simulation_after_outcome : Carried SimulationRelation WasEmpty w (after_outcome w me a m' o) (front ∷ rest) queue'
   simulation_after_outcome =
       record {
         fact =
@@ -57,6 +58,10 @@ module _ (w : World) (me : ℕ) (a : Actor) (m' : Shared) (o : Outcome) (front :
   told_gains : Gains w (after_outcome w me a m' o) me a o
   told_gains = after_gains w me a m' o front rest n.free n.shape n.writes mine told_books ac queue' n.linearizes
 
+-- at the start the chain holds the empty queue
+opening_queue : (size : ℕ) → empty ≡ ended_at (next_in (replicate size blank) 1)
+opening_queue size = sym (ap ended_at (blank_leads size))
+
 -- the moves carry the accounts along
 pub carried : Carries SimulationRelation WasEmpty
 carried =
@@ -67,13 +72,13 @@ carried =
           (λ l e line entry. none-some e (sym (begun_entry w.setup.kind me op a) ∙ entry)) ac;
       at_rest = λ w me a l queue r is at may ac.
           simulation_with w me a (rested a) queue is (book_rested w me a (rested a) is refl) (λ k e line entry. none-some k line) ac;
-      starts = λ s actors sized. record { replays = tt; list = refl; plays = refl; counted = refl; calls = λ me e a l s is line entry got. absurd (none-some s got) };
+      starts = λ s actors sized. record { replays = tt; list = opening_queue s.size; plays = opening_queue s.size; counted = refl; calls = λ me e a l s is line entry got. absurd (none-some s got) };
     }
 
 -- a world has the chain from Head, and its accounts
 pub record IsSimulated (w : World) : Type 0 where
   pub queue : List ℕ
-  pub chain : IsChain w.shared.nodes w.shared.head.node queue
+  pub chain : IsQueueChain w.shared.nodes w.shared.head.node queue
   pub fact : SimulationRelation w queue
 
 -- each world that is reached has both
@@ -89,7 +94,7 @@ pub replay_to_the_values : OfEachWorld ReplaysToItsValues
 replay_to_the_values w r queue chain =
     let h : IsSimulated w = reached_simulation w r in (
       replays_promises w h.fact.replays,
-      replayed_promises w ∙ h.fact.list ∙ ap (λ q. queue_of (queue_values w.shared q)) (chain_same w.shared.nodes h.queue queue w.shared.head.node h.chain chain),
+      replayed_promises w ∙ h.fact.list ∙ ap (λ q. queue_in w.shared q) (same_queue w r h.queue queue h.chain chain),
     )
 
 pub head_counts_values_taken : OfEachWorld CountsValuesTaken

@@ -1,7 +1,7 @@
 -- Which lines give an operation a place by an effect, and that no other one does.
 use Rattle.std.proofs.Common.{◌≡◌, ℕ, Bool, true, false, nat_eq, nat_lt, if◌then◌else◌, Option, Some, None, IfSome, refl, sym, ◌∙◌, ◌⊎◌, inl, inr}
 use Rattle.std.proofs.lemmas.Option.{none-some, same_Some}
-use Rattle.step_machine.specs.Below.{is_null, same_ref, Kind, TwoLock, NonBlocking, Line, N1, N2, N4, N5, F1, F3, E3, E5, E7, E9, D2, D5, D12, D13, A3, A5, B1, B3, B4, B5, B6, Reply, Done, Value, Empty, Refused, Setup, Actor, Outcome, Shared, node_at, found, action, outcome, ends, sets_aside, freed, unlocked, busy_or, gives_up}
+use Rattle.step_machine.specs.Below.{is_null, same_ref, Kind, TwoLock, NonBlocking, Line, N1, N2, N4, N5, F1, F3, E3, E5, E7, E9, D2, D5, D12, D13, A3, A5, B1, B3, B4, B5, B6, A7, S1, S3, S4, S6, S8, S9, is_shut, null, left, left_with_node, Reply, Done, Value, Empty, Refused, Setup, Actor, Outcome, Shared, node_at, found, action, outcome, ends, sets_aside, freed, unlocked, busy_or, gives_up}
 use Rattle.counted_ref.proofs.Words.{same_ref-true, same_ref-equal}
 use Rattle.step_machine.specs.TakingEffect.{HasEffect, IsByEffect}
 use Rattle.step_machine.proofs.Choices.{both}
@@ -30,6 +30,14 @@ unlocked_quiet now (Some Empty) a = inr (λ h. h)
 unlocked_quiet now (Some (Refused why)) a = inr (λ h. h)
 unlocked_quiet now _ a = inl refl
 
+left_quiet : (now : ℕ) (due : Option Reply) (a : Actor) → Quiet (left now due a)
+left_quiet now (Some (Refused why)) a = inr (λ h. h)
+left_quiet now _ a = inl refl
+
+left_with_node_quiet : (now : ℕ) (due : Option Reply) (a : Actor) → Quiet (left_with_node now due a)
+left_with_node_quiet now (Some (Refused why)) a = inr (λ h. h)
+left_with_node_quiet now _ a = inl refl
+
 -- an outcome gives a place by an effect exactly where there is one, and then its own number
 pub record Effects (E : Type 0) (now : ℕ) (o : Outcome) : Type 0 where
   pub by : (n : ℕ) → o.at ≡ Some n → IsByEffect o.reply → (n ≡ now) × E
@@ -52,7 +60,20 @@ line_effects s now me a E9 m =
     exchanged _ now (same_ref (node_at m a.tail.node).next a.next) _ _ (same_ref-true _ _) (same_ref-equal _ _) refl refl
 line_effects s now me a D13 m =
     exchanged _ now (same_ref m.head a.head) _ _ (same_ref-true _ _) (same_ref-equal _ _) refl refl
-line_effects s now me a A5 m = record { by = λ n e may. (same_Some n now (sym e), tt); gives = λ h. refl }
+line_effects s now me a A5 m =
+    exchanged _ now (same_ref (node_at m a.tail.node).next null) _ _ (same_ref-true _ _) (same_ref-equal _ _) refl refl
+line_effects s now me a S4 m =
+    exchanged _ now (same_ref (node_at m a.tail.node).next a.next) _ _ (same_ref-true _ _) (same_ref-equal _ _) refl refl
+line_effects s now me a S8 m =
+    exchanged _ now (same_ref (node_at m a.tail.node).next null) _ _ (same_ref-true _ _) (same_ref-equal _ _) refl refl
+line_effects s now me a S3 m =
+    quietly now _
+    (both Quiet (same_ref m.tail a.tail)
+    (both Quiet (is_null a.next) (inl refl) (both Quiet (is_shut a.next) (inr (λ h. h)) (both Quiet (nat_eq a.tail.count s.limit) (inr (λ h. h)) (inl refl))))
+    (inl refl))
+line_effects s now me a S6 m = quietly now _ (both Quiet (nat_eq m.tail_lock 0) (inl refl) (inl refl))
+line_effects s now me a A7 m = quietly now _ (left_with_node_quiet now a.due a)
+line_effects s now me a S9 m = quietly now _ (left_quiet now a.due a)
 line_effects s now me a B5 m = record { by = λ n e may. (same_Some n now (sym e), tt); gives = λ h. refl }
 line_effects s now me a N2 m =
     quietly now _
@@ -70,13 +91,13 @@ line_effects s now me a E3 m =
 line_effects s now me a E7 m =
     quietly now _
     (both Quiet (same_ref m.tail a.tail)
-    (both Quiet (is_null a.next) (inl refl) (both Quiet (nat_eq a.tail.count s.limit) (inr (λ h. h)) (inl refl)))
+    (both Quiet (is_null a.next) (inl refl) (both Quiet (is_shut a.next) (inr (λ h. h)) (both Quiet (nat_eq a.tail.count s.limit) (inr (λ h. h)) (inl refl))))
     (inl refl))
 line_effects s now me a D5 m =
     quietly now _
     (both Quiet (same_ref m.head a.head)
     (both Quiet (nat_eq a.head.node a.tail.node)
-    (both Quiet (is_null a.next) (inr (λ h. h)) (both Quiet (nat_eq a.tail.count s.limit) (inr (λ h. h)) (inl refl)))
+    (both Quiet (is_null a.next) (inr (λ h. h)) (both Quiet (is_shut a.next) (inr (λ h. h)) (both Quiet (nat_eq a.tail.count s.limit) (inr (λ h. h)) (inl refl))))
     (inl refl))
     (inl refl))
 line_effects s now me a D12 m =
@@ -84,7 +105,7 @@ line_effects s now me a D12 m =
 line_effects s now me a A3 m = quietly now _ (both Quiet (nat_eq m.tail_lock 0) (inl refl) (inl refl))
 line_effects s now me a B1 m = quietly now _ (both Quiet (nat_eq m.head_lock 0) (inl refl) (inl refl))
 line_effects s now me a B3 m =
-    quietly now _ (both Quiet (is_null (node_at m a.head.node).next) (inl refl) (inl refl))
+    quietly now _ (both Quiet (is_null (node_at m a.head.node).next) (inl refl) (both Quiet (is_shut (node_at m a.head.node).next) (inl refl) (inl refl)))
 line_effects s now me a B4 m = quietly now _ (both Quiet (nat_eq a.head.count s.limit) (inl refl) (inl refl))
 line_effects s now me a B6 m = quietly now _ (unlocked_quiet now a.due a)
 line_effects s now me a _ m = quietly now _ (inl refl)
@@ -98,6 +119,8 @@ gives_up_quiet : (now : ℕ) (a : Actor) (l : Line) → IfSome (gives_up now a l
 gives_up_quiet now a N1 = inr (λ h. h)
 gives_up_quiet now a D2 = inr (λ h. h)
 gives_up_quiet now a B1 = inr (λ h. h)
+gives_up_quiet now a S1 = inr (λ h. h)
+gives_up_quiet now a S6 = inr (λ h. h)
 gives_up_quiet now a E5 = inr (λ h. h)
 gives_up_quiet now a A3 = inr (λ h. h)
 gives_up_quiet now a F1 = busy_or_quiet now a.due _

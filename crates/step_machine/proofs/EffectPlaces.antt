@@ -4,10 +4,10 @@ use Rattle.std.specs.Prelude.{slice_get}
 use Rattle.std.specs.List.{AllByRecursion}
 use Rattle.std.proofs.lemmas.Option.{none-some, same_Some}
 use Rattle.line_table.specs.declared.lines.Line.{Line}
-use Rattle.line_table.specs.declared.lines.Line.TheVariants.{E9, D13, A5, B5}
+use Rattle.line_table.specs.declared.lines.Line.TheVariants.{E9, D13, A5, B5, S4, S8}
 use Rattle.line_table.specs.Sections.{section_of}
 use Rattle.history.specs.declared.operations.Op.{Op}
-use Rattle.history.specs.declared.operations.Op.TheVariants.{Enq, Deq}
+use Rattle.history.specs.declared.operations.Op.TheVariants.{Enq, Deq, Shut}
 use Rattle.history.specs.declared.operations.Taken.{Taken}
 use Rattle.history.specs.declared.operations.Stamped.{Stamped}
 use Rattle.line_steps.specs.declared.actors.Setup.{Setup}
@@ -41,12 +41,15 @@ use Rattle.step_machine.proofs.EachMove.{walked, kept_after, Telling, telling, s
 pushes_line : (me : ℕ) (op : Op) (val : Taken) (l : Line) → Pushes me op val → ((body : ℕ) → IsEffectLineOf (Enq body) l) → IsEffectLineOf op l
 pushes_line me (Enq body) val l h lines = lines body
 pushes_line me Deq val l h lines = absurd h
+pushes_line me Shut val l h lines = absurd h
 
 effect_line : (m : Shared) (me : ℕ) (a : Actor) (l : Line) → HasEffect m a l → Runs (section_of l) me a.op a.val → IsEffectLineOf a.op l
 effect_line m me a E9 h r = pushes_line me a.op a.val E9 r (λ body. tt)
 effect_line m me a A5 h r = pushes_line me a.op a.val A5 r (λ body. tt)
 effect_line m me a D13 h r = subst (λ op. IsEffectLineOf op D13) (sym r) tt
 effect_line m me a B5 h r = subst (λ op. IsEffectLineOf op B5) (sym r) tt
+effect_line m me a S4 h r = subst (λ op. IsEffectLineOf op S4) (sym r) tt
+effect_line m me a S8 h r = subst (λ op. IsEffectLineOf op S8) (sym r) tt
 effect_line m me a _ h r = absurd h
 
 -- before such a line the operation has no place
@@ -55,6 +58,8 @@ effect_first m a E9 at h stands = stands
 effect_first m a D13 at h stands = stands
 effect_first m a A5 at h stands = stands
 effect_first m a B5 at h stands = stands
+effect_first m a S4 at h stands = stands
+effect_first m a S8 at h stands = stands
 effect_first m a _ at h stands = absurd h
 
 -- an operation of an actor has this place, and the line is one of its call

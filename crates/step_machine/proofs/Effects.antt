@@ -10,28 +10,29 @@
 --   `turn_giveback`  the node in hand goes before the free ones
 --   `turn_node`      a word of the node in hand is written
 --   `turn_link`      the node in hand goes behind the last one of the queue
+--   `turn_shut`      the last node of the queue comes to lead to the closed end
 --   `turn_pop`       the dummy comes into the hand, and the second node of the queue is the dummy
 -- `shape_turned` is the shape after a step, `hand_kept` says that others' nodes stay as they are, and `free_kept`,
 -- `queue_kept` and `value_kept` that those of the chains do.
 use Rattle.std.proofs.Common.{◌≡◌, ◌≢◌, ℕ, zero, suc, ◌+◌, ◌-◌, ◌≤◌, nat_eq, List, [], ◌∷◌, ◌++◌, length, set, Option, Some, None, refl, sym, ap, ◌∙◌, subst, arith, get_or-set_other, get_or-set_same, ◌⊎◌, inl, inr}
 use Rattle.std.proofs.Math.ListN.{length-set}
 use Rattle.step_machine.specs.Below.{Ref, Node, Actor, blank, Shared, node_at, put, Fresh, Free, Head, Next}
-use Rattle.step_machine.specs.Places.{IsChain, one_if, times}
+use Rattle.step_machine.specs.Places.{IsNull, IsEnd, IsChainBy, IsChain, IsQueueChain, one_if, times}
 use Rattle.step_machine.specs.Chains.{last_node, values_of}
-use Rattle.step_machine.proofs.Chains.{node_in, next_in, one_if_same, one_if_other, chain_kept, chain_linked, last_times, last_within, last_leads, times-append}
+use Rattle.step_machine.proofs.Chains.{node_in, next_in, one_if_same, chain_kept, chain_ended, chain_linked, last_times, last_within, null_times, times-append}
 use Rattle.step_machine.proofs.Counting.{holds, asides, used, used_more, used_most}
 use Rattle.step_machine.proofs.StampsLists.{same_or_not}
 
 -- the chains, and that each node used stands in one place, once
 pub record Shape (m : Shared) (E : ℕ → ℕ) (queue free : List ℕ) : Type 0 where
-  pub queue_chain : IsChain m.nodes m.head.node queue
+  pub queue_chain : IsQueueChain m.nodes m.head.node queue
   pub free_chain : IsChain m.nodes m.free.node free
   pub once : (n : ℕ) → 1 ≤ n → times n queue + times n free + E n ≡ used n m.fresh
 
--- whose node a step writes: none, one of the actor's, or the `next` of the last one of the queue
+-- whose node a step writes: none, one of the actor's, or the `next` of the last one of the queue, which was null
 abbrev pub OwnerOf : (m m' : Shared) → List ℕ → Actor → ℕ → Type 0
 OwnerOf m m' queue a k =
-    (k ≡ 0) ⊎ ((1 ≤ holds k a) ⊎ ((k ≡ last_node queue) × (1 ≤ k) × ((node_at m' k).value ≡ (node_at m k).value)))
+    (k ≡ 0) ⊎ ((1 ≤ holds k a) ⊎ ((k ≡ last_node queue) × (1 ≤ k) × ((node_at m' k).value ≡ (node_at m k).value) × (next_in m.nodes k ≡ 0)))
 
 -- a step writes at most one node
 pub record WritesOneNode (m m' : Shared) (queue : List ℕ) (a : Actor) : Type 0 where
@@ -41,7 +42,7 @@ pub record WritesOneNode (m m' : Shared) (queue : List ℕ) (a : Actor) : Type 0
 
 -- what a step of an actor, which was `a` and is `b`, does with the chains and the nodes
 pub record Turn (m m' : Shared) (queue free queue' free' : List ℕ) (a b : Actor) (aside : Option ℕ) : Type 0 where
-  pub queue_chain : IsChain m'.nodes m'.head.node queue'
+  pub queue_chain : IsQueueChain m'.nodes m'.head.node queue'
   pub free_chain : IsChain m'.nodes m'.free.node free'
   pub counts : (n : ℕ) → 1 ≤ n → times n queue' + times n free' + holds n b + asides n aside + used n m.fresh ≡ times n queue + times n free + holds n a + used n m'.fresh
   pub writes : WritesOneNode m m' queue a
@@ -77,16 +78,9 @@ not_linked m E queue free sh k some here =
 pub once_queued : (m : Shared) (E : ℕ → ℕ) (queue free : List ℕ) → Shape m E queue free → (n : ℕ) → 1 ≤ n → times n queue ≤ 1
 once_queued m E queue free sh n some = omega (arith, sh.once n some, used_most n m.fresh)
 
--- null stands in no chain
-pub null_times : (nodes : List Node) (ns : List ℕ) (n : ℕ) → IsChain nodes n ns → times 0 ns ≡ 0
-null_times nodes [] n h = refl
-null_times nodes (x ∷ xs) n h =
-    let some : 1 ≤ x = h.1 in
-    omega (arith, one_if_other 0 x (omega arith), null_times nodes xs (next_in nodes x) h.3)
-
--- no number does
+-- no number stands twice in the queue
 pub queued_once : (m : Shared) (E : ℕ → ℕ) (queue free : List ℕ) → Shape m E queue free → (n : ℕ) → times n queue ≤ 1
-queued_once m E queue free sh n = go n (null_times m.nodes queue m.head.node sh.queue_chain)
+queued_once m E queue free sh n = go n (null_times IsEnd m.nodes queue m.head.node sh.queue_chain)
   where
     go : (n : ℕ) → times 0 queue ≡ 0 → times n queue ≤ 1
     go zero none = omega arith
@@ -100,7 +94,7 @@ writes_none m m' queue a e = record { node = 0; others = λ n some d. ap (λ ns.
 pub turn_words : (m m' : Shared) (E : ℕ → ℕ) (queue free : List ℕ) (a b : Actor) → Shape m E queue free → m'.nodes ≡ m.nodes → m'.head.node ≡ m.head.node → m'.free.node ≡ m.free.node → m'.fresh ≡ m.fresh → ((n : ℕ) → holds n b ≡ holds n a) → Turn m m' queue free queue free a b None
 turn_words m m' E queue free a b sh nodes head top fresh same =
     record {
-      queue_chain = subst (λ ns. IsChain ns m'.head.node queue) (sym nodes) (subst (λ k. IsChain m.nodes k queue) (sym head) sh.queue_chain);
+      queue_chain = subst (λ ns. IsQueueChain ns m'.head.node queue) (sym nodes) (subst (λ k. IsQueueChain m.nodes k queue) (sym head) sh.queue_chain);
       free_chain = subst (λ ns. IsChain ns m'.free.node free) (sym nodes) (subst (λ k. IsChain m.nodes k free) (sym top) sh.free_chain);
       counts = λ n some. omega (arith, same n, ap (used n) fresh);
       writes = writes_none m m' queue a nodes;
@@ -159,9 +153,9 @@ turn_giveback m E queue free a b r k sh some low leads e away =
     }
 
 -- a chain in which a node isn't stays when that node is written
-chain_apart : (nodes : List Node) (k : ℕ) (x : Node) (n : ℕ) (ns : List ℕ) → 1 ≤ k → times k ns ≡ 0 → IsChain nodes n ns → IsChain (set nodes (k - 1) x) n ns
-chain_apart nodes k x n ns some none h =
-    chain_kept nodes (set nodes (k - 1) x) ns n (length-set nodes (k - 1) x)
+chain_apart : (End : ℕ → Type 0) (nodes : List Node) (k : ℕ) (x : Node) (n : ℕ) (ns : List ℕ) → 1 ≤ k → times k ns ≡ 0 → IsChainBy End nodes n ns → IsChainBy End (set nodes (k - 1) x) n ns
+chain_apart End nodes k x n ns some none h =
+    chain_kept End nodes (set nodes (k - 1) x) ns n (length-set nodes (k - 1) x)
     (λ j one here. ap (λ (y : Node). y.next.node) (others_stay nodes k j x some one (λ e. let z : times j ns ≡ times k ns = ap (λ i. times i ns) e in omega arith)))
     h
 
@@ -171,31 +165,61 @@ turn_node m E queue free a b k x sh mine some here same =
     let h : holds k a ≤ E k = mine k in
     let apart : (times k queue ≡ 0) × (times k free ≡ 0) = not_linked m E queue free sh k some (omega arith) in
     record {
-      queue_chain = chain_apart m.nodes k x m.head.node queue some apart.0 sh.queue_chain;
-      free_chain = chain_apart m.nodes k x m.free.node free some apart.1 sh.free_chain;
+      queue_chain = chain_apart IsEnd m.nodes k x m.head.node queue some apart.0 sh.queue_chain;
+      free_chain = chain_apart IsNull m.nodes k x m.free.node free some apart.1 sh.free_chain;
       counts = λ n one. omega (arith, same n);
       writes = record { node = k; others = λ n one d. others_stay m.nodes k n x some one d; whose = inr (inl here) };
     }
 
--- the last node of the queue is linked to the node in hand, which leads to null
-pub turn_link : (m : Shared) (E : ℕ → ℕ) (h : ℕ) (rest free : List ℕ) (a b : Actor) (k x : ℕ) (r : Ref) → Shape m E (h ∷ rest) free → ((n : ℕ) → holds n a ≤ E n) → k ≡ last_node (h ∷ rest) → 1 ≤ x → x ≤ length m.nodes → 1 ≤ holds x a → next_in m.nodes x ≡ 0 → r.node ≡ x → ((n : ℕ) → holds n b + one_if (nat_eq n x) ≡ holds n a) → Turn m (put (Next k) r m) (h ∷ rest) free (h ∷ rest ++ x ∷ []) free a b None
-turn_link m E h rest free a b k x r sh mine at some low here null e away =
+-- the last node of the queue is there
+pub last_there : (m : Shared) (E : ℕ → ℕ) (h : ℕ) (rest free : List ℕ) (k : ℕ) → Shape m E (h ∷ rest) free → k ≡ last_node (h ∷ rest) → (1 ≤ k) × (k ≤ length m.nodes) × (1 ≤ times k (h ∷ rest))
+last_there m E h rest free k sh at =
+    let within : (1 ≤ last_node (h ∷ rest)) × (last_node (h ∷ rest) ≤ length m.nodes) = last_within IsEnd m.nodes h rest m.head.node sh.queue_chain in
+    (subst (λ j. 1 ≤ j) (sym at) within.0, subst (λ j. j ≤ length m.nodes) (sym at) within.1, subst (λ j. 1 ≤ times j (h ∷ rest)) (sym at) (last_times h rest))
+
+-- where its `next` was null, that is all that a write to it changes
+writes_last : (m : Shared) (E : ℕ → ℕ) (h : ℕ) (rest free : List ℕ) (a : Actor) (k : ℕ) (r : Ref) → Shape m E (h ∷ rest) free → k ≡ last_node (h ∷ rest) → next_in m.nodes k ≡ 0 → WritesOneNode m (put (Next k) r m) (h ∷ rest) a
+writes_last m E h rest free a k r sh at unlinked =
+    let there : (1 ≤ k) × (k ≤ length m.nodes) × (1 ≤ times k (h ∷ rest)) = last_there m E h rest free k sh at in
+    record {
+      node = k;
+      others = λ n one d. others_stay m.nodes k n _ there.0 one d;
+      whose = inr (inr (at, there.0, ap (λ (z : Node). z.value) (written m.nodes k _ there.0 there.1), unlinked));
+    }
+
+-- the last node of the queue, which leads to null, comes to lead to an end
+pub turn_shut : (m : Shared) (E : ℕ → ℕ) (h : ℕ) (rest free : List ℕ) (a b : Actor) (k : ℕ) (r : Ref) → Shape m E (h ∷ rest) free → k ≡ last_node (h ∷ rest) → next_in m.nodes k ≡ 0 → IsEnd r.node → ((n : ℕ) → holds n b ≡ holds n a) → Turn m (put (Next k) r m) (h ∷ rest) free (h ∷ rest) free a b None
+turn_shut m E h rest free a b k r sh at unlinked end same =
+    let there : (1 ≤ k) × (k ≤ length m.nodes) × (1 ≤ times k (h ∷ rest)) = last_there m E h rest free k sh at in
     record {
       queue_chain =
-          chain_linked m.nodes nodz h rest m.head.node x (length-set m.nodes (k - 1) y)
+          chain_ended IsEnd m.nodes (set m.nodes (k - 1) y) h rest m.head.node (length-set m.nodes (k - 1) y)
+          (λ j one d. ap (λ (z : Node). z.next.node) (others_stay m.nodes k j y there.0 one (λ q. d (q ∙ at))))
+          (queued_once m E (h ∷ rest) free sh)
+          (subst (λ j. IsEnd (next_in (set m.nodes (k - 1) y) j)) at (subst (λ (z : Node). IsEnd z.next.node) (sym (written m.nodes k y there.0 there.1)) end))
+          sh.queue_chain;
+      free_chain = chain_apart IsNull m.nodes k y m.free.node free there.0 (omega (arith, sh.once k there.0, used_most k m.fresh, there.2)) sh.free_chain;
+      counts = λ n one. omega (arith, same n);
+      writes = writes_last m E h rest free a k r sh at unlinked;
+    }
+  where
+    y : Node
+    y = record (node_at m k) { next = r }
+
+-- the last node of the queue, which leads to null, is linked to the node in hand, which does too
+pub turn_link : (m : Shared) (E : ℕ → ℕ) (h : ℕ) (rest free : List ℕ) (a b : Actor) (k x : ℕ) (r : Ref) → Shape m E (h ∷ rest) free → ((n : ℕ) → holds n a ≤ E n) → k ≡ last_node (h ∷ rest) → next_in m.nodes k ≡ 0 → 1 ≤ x → x ≤ length m.nodes → 1 ≤ holds x a → next_in m.nodes x ≡ 0 → r.node ≡ x → ((n : ℕ) → holds n b + one_if (nat_eq n x) ≡ holds n a) → Turn m (put (Next k) r m) (h ∷ rest) free (h ∷ rest ++ x ∷ []) free a b None
+turn_link m E h rest free a b k x r sh mine at unlinked some low here null e away =
+    record {
+      queue_chain =
+          chain_linked IsEnd m.nodes nodz h rest m.head.node x (length-set m.nodes (k - 1) y)
           (λ j one d. ap (λ (z : Node). z.next.node) (others_stay m.nodes k j y some_k one (λ q. d (q ∙ at))))
           (ap (next_in nodz) (sym at) ∙ ap (λ (z : Node). z.next.node) (written m.nodes k y some_k low_k) ∙ e)
           (queued_once m E (h ∷ rest) free sh) some low
-          (ap (λ (z : Node). z.next.node) (others_stay m.nodes k x y some_k some other) ∙ null)
+          (inl (ap (λ (z : Node). z.next.node) (others_stay m.nodes k x y some_k some other) ∙ null))
           sh.queue_chain;
-      free_chain = chain_apart m.nodes k y m.free.node free some_k (omega (arith, sh.once k some_k, used_most k m.fresh, stands)) sh.free_chain;
+      free_chain = chain_apart IsNull m.nodes k y m.free.node free some_k (omega (arith, sh.once k some_k, used_most k m.fresh, stands)) sh.free_chain;
       counts = λ n one. omega (arith, away n, times-append n (h ∷ rest) (x ∷ []));
-      writes =
-          record {
-            node = k;
-            others = λ n one d. others_stay m.nodes k n y some_k one d;
-            whose = inr (inr (at, some_k, ap (λ (z : Node). z.value) (written m.nodes k y some_k low_k)));
-          };
+      writes = writes_last m E h rest free a k r sh at unlinked;
     }
   where
     y : Node
@@ -204,17 +228,17 @@ turn_link m E h rest free a b k x r sh mine at some low here null e away =
     nodz : List Node
     nodz = set m.nodes (k - 1) y
 
-    within : (1 ≤ last_node (h ∷ rest)) × (last_node (h ∷ rest) ≤ length m.nodes)
-    within = last_within m.nodes h rest m.head.node sh.queue_chain
+    there : (1 ≤ k) × (k ≤ length m.nodes) × (1 ≤ times k (h ∷ rest))
+    there = last_there m E h rest free k sh at
 
     some_k : 1 ≤ k
-    some_k = subst (λ j. 1 ≤ j) (sym at) within.0
+    some_k = there.0
 
     low_k : k ≤ length m.nodes
-    low_k = subst (λ j. j ≤ length m.nodes) (sym at) within.1
+    low_k = there.1
 
     stands : 1 ≤ times k (h ∷ rest)
-    stands = subst (λ j. 1 ≤ times j (h ∷ rest)) (sym at) (last_times h rest)
+    stands = there.2
 
     other : x ≢ k
     other q =
@@ -226,7 +250,7 @@ turn_link m E h rest free a b k x r sh mine at some low here null e away =
 -- the dummy comes into the hand, and the node behind it is the dummy
 pub turn_pop : (m : Shared) (E : ℕ → ℕ) (h x : ℕ) (rest free : List ℕ) (a b : Actor) (r : Ref) → Shape m E (h ∷ x ∷ rest) free → r.node ≡ x → ((n : ℕ) → holds n b ≡ holds n a + one_if (nat_eq n h)) → Turn m (put Head r m) (h ∷ x ∷ rest) free (x ∷ rest) free a b None
 turn_pop m E h x rest free a b r sh e more =
-    let c : IsChain m.nodes (next_in m.nodes h) (x ∷ rest) = sh.queue_chain.3 in
+    let c : IsQueueChain m.nodes (next_in m.nodes h) (x ∷ rest) = sh.queue_chain.3 in
     record {
       queue_chain = (e, c.1, c.2, c.3);
       free_chain = sh.free_chain;
@@ -243,14 +267,14 @@ shape_turned m m' E E' queue free queue' free' a b aside sh t moves =
       once = λ n some. omega (arith, t.counts n some, sh.once n some, moves n some);
     }
 
--- a node that is not the actor's and not the last one of the queue is not written
-stays : (m m' : Shared) (queue : List ℕ) (a : Actor) (n : ℕ) → WritesOneNode m m' queue a → 1 ≤ n → holds n a ≡ 0 → n ≢ last_node queue → node_at m' n ≡ node_at m n
+-- a node that is not the actor's, and that isn't the last one of the queue with null behind it, is not written
+stays : (m m' : Shared) (queue : List ℕ) (a : Actor) (n : ℕ) → WritesOneNode m m' queue a → 1 ≤ n → holds n a ≡ 0 → (n ≡ last_node queue → next_in m.nodes n ≢ 0) → node_at m' n ≡ node_at m n
 stays m m' queue a n w some none other = w.others n some (go w.whose)
   where
     go : OwnerOf m m' queue a w.node → n ≢ w.node
     go (inl z) q = let e : n ≡ 0 = q ∙ z in omega arith
     go (inr (inl mine)) q = let e : holds n a ≡ holds w.node a = ap (λ k. holds k a) q in omega arith
-    go (inr (inr last)) q = other (q ∙ last.0)
+    go (inr (inr last)) q = other (q ∙ last.0) (ap (next_in m.nodes) q ∙ last.3)
 
 -- a node that is not the actor's keeps its value
 value_stays : (m m' : Shared) (queue : List ℕ) (a : Actor) (n : ℕ) → WritesOneNode m m' queue a → 1 ≤ n → holds n a ≡ 0 → (node_at m' n).value ≡ (node_at m n).value
@@ -272,21 +296,18 @@ last_apart m E h rest free sh n some here q =
 pub hand_kept : (m m' : Shared) (E : ℕ → ℕ) (h : ℕ) (rest free : List ℕ) (a c : Actor) → Shape m E (h ∷ rest) free → WritesOneNode m m' (h ∷ rest) a → ((n : ℕ) → holds n a + holds n c ≤ E n) → (n : ℕ) → 1 ≤ n → 1 ≤ holds n c → node_at m' n ≡ node_at m n
 hand_kept m m' E h rest free a c sh w both n some here =
     stays m m' (h ∷ rest) a n w some (omega (arith, both n, sh.once n some, used_most n m.fresh))
-    (last_apart m E h rest free sh n some (omega (arith, both n)))
+    (λ q. absurd (last_apart m E h rest free sh n some (omega (arith, both n)) q))
 
 -- the free nodes stay as they are
 pub free_kept : (m m' : Shared) (E : ℕ → ℕ) (h : ℕ) (rest free : List ℕ) (a : Actor) → Shape m E (h ∷ rest) free → WritesOneNode m m' (h ∷ rest) a → ((n : ℕ) → holds n a ≤ E n) → (n : ℕ) → 1 ≤ n → 1 ≤ times n free → node_at m' n ≡ node_at m n
 free_kept m m' E h rest free a sh w mine n some here =
     stays m m' (h ∷ rest) a n w some (omega (arith, mine n, sh.once n some, used_most n m.fresh))
-    (last_apart m E h rest free sh n some (omega arith))
+    (λ q. absurd (last_apart m E h rest free sh n some (omega arith) q))
 
--- a node of the queue that another one follows stays as it is
+-- a node of the queue that doesn't lead to null stays as it is
 pub queue_kept : (m m' : Shared) (E : ℕ → ℕ) (h : ℕ) (rest free : List ℕ) (a : Actor) → Shape m E (h ∷ rest) free → WritesOneNode m m' (h ∷ rest) a → ((n : ℕ) → holds n a ≤ E n) → (n : ℕ) → 1 ≤ n → 1 ≤ times n (h ∷ rest) → 1 ≤ next_in m.nodes n → node_at m' n ≡ node_at m n
 queue_kept m m' E h rest free a sh w mine n some here leads =
-    stays m m' (h ∷ rest) a n w some (omega (arith, mine n, sh.once n some, used_most n m.fresh)) last
-  where
-    last : n ≢ last_node (h ∷ rest)
-    last q = let e : next_in m.nodes n ≡ 0 = ap (next_in m.nodes) q ∙ last_leads m.nodes h rest m.head.node sh.queue_chain in omega arith
+    stays m m' (h ∷ rest) a n w some (omega (arith, mine n, sh.once n some, used_most n m.fresh)) (λ last null. omega (arith, leads, null))
 
 -- each node of the queue keeps its value
 pub value_kept : (m m' : Shared) (E : ℕ → ℕ) (queue free : List ℕ) (a : Actor) → Shape m E queue free → WritesOneNode m m' queue a → ((n : ℕ) → holds n a ≤ E n) → (n : ℕ) → 1 ≤ n → 1 ≤ times n queue → (node_at m' n).value ≡ (node_at m n).value

@@ -3,7 +3,7 @@ use Rattle.std.proofs.Common.{◌≡◌, ◌≢◌, ℕ, ◌+◌, ◌≤◌, ◌
 use Rattle.std.specs.Prelude.{slice_get, IsSome}
 use Rattle.std.specs.List.{AllByRecursion}
 use Rattle.std.proofs.lemmas.Option.{none-some, same_Some, get_or_from_slice_get, IfSome_then}
-use Rattle.step_machine.specs.Below.{Line, E9, D13, A5, B5, Reply, Stamped, Setup, Actor, Outcome, Shared}
+use Rattle.step_machine.specs.Below.{Line, E9, D13, A5, B5, S4, S8, Reply, Stamped, Setup, Actor, Outcome, Shared}
 use Rattle.step_machine.specs.declared.actors.Move.TheVariants.{Begin, Step, Give}
 use Rattle.step_machine.specs.Machine.{World, opening, actor_of, new_operation, with_outcome, with_operation, latest_point, stepped, AnyMove, made, Rest, next_any, run_on, run}
 use Rattle.step_machine.specs.TakingEffect.{HasEffect, TookEffect, IsByEffect, ArePlacedByEffect, HaveTheirEffect, OfOperations, OfOperationsOfCalls, HavePlacesByItsEffects}
@@ -65,6 +65,8 @@ effect_first m a E9 due at Noted h stands = stands
 effect_first m a D13 due at Noted h stands = stands
 effect_first m a A5 due at Noted h stands = stands
 effect_first m a B5 due at Noted h stands = stands
+effect_first m a S4 due at Noted h stands = stands
+effect_first m a S8 due at Noted h stands = stands
 effect_first m a _ due at Noted h stands = absurd h
 
 -- nothing is not there

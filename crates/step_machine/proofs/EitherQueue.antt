@@ -4,13 +4,14 @@ use Rattle.std.proofs.lemmas.Option.{IfSome_then}
 use Rattle.step_machine.specs.Below.{Kind, TwoLock, NonBlocking, Line, section_of, Actor}
 use Rattle.step_machine.specs.Machine.{World, actor_of, IsReached}
 use Rattle.step_machine.specs.ProgramCounters.{IsRunBy, NonNullAt, IsAtLine, EachRunsItsQueue}
-use Rattle.step_machine.specs.Places.{times}
+use Rattle.step_machine.specs.Places.{IsNull, IsEnd, IsChain, IsQueueChain, times}
 use Rattle.step_machine.specs.EachQueue.{HasItsPlaces, KeepsQueueAndFreeApart}
 use Rattle.step_machine.specs.Locks.{MarksAreCounts}
 use Rattle.step_machine.specs.Histories.{OfEachWorld}
-use Rattle.step_machine.proofs.Chains.{one_if_same, chain_same}
+use Rattle.step_machine.proofs.Chains.{one_if_same, null_apart, ends_apart, chain_same, null_times}
+use Rattle.step_machine.proofs.Reached.{few_nodes}
 use Rattle.step_machine.proofs.Counting.{used_within, used_above, used_most, elsewhere}
-use Rattle.step_machine.proofs.Effects.{Shape, null_times}
+use Rattle.step_machine.proofs.Effects.{Shape}
 use Rattle.step_machine.proofs.Fixed.{FixedAt}
 use Rattle.step_machine.proofs.Assertions.{Queue, Steps}
 use Rattle.step_machine.proofs.Carrying.{Carries, nothing}
@@ -48,6 +49,13 @@ reached_chains = reached_either (λ w q. Unit {0}) (λ w k. Unit {0}) nothing
 pub head_some : (w : World) → IsReached w → 1 ≤ w.shared.head.node
 head_some w r = (reached_chains w r).sound.ends.head
 
+-- the chain from Head is the only one, and so is the one from Free
+pub same_queue : (w : World) → IsReached w → (ns ms : List ℕ) → IsQueueChain w.shared.nodes w.shared.head.node ns → IsQueueChain w.shared.nodes w.shared.head.node ms → ns ≡ ms
+same_queue w r ns ms = chain_same IsEnd w.shared.nodes ns ms w.shared.head.node (ends_apart w.shared.nodes (few_nodes w r))
+
+pub same_free : (w : World) → (ns ms : List ℕ) → IsChain w.shared.nodes w.shared.free.node ns → IsChain w.shared.nodes w.shared.free.node ms → ns ≡ ms
+same_free w ns ms = chain_same IsNull w.shared.nodes ns ms w.shared.free.node (null_apart w.shared.nodes)
+
 -- an actor stands before a line of its queue, with nodes in the registers that the line uses so
 pub stands_at : (w : World) → IsReached w → (me : ℕ) (a : Actor) (l : Line) → actor_of w me ≡ Some a → a.line ≡ Some l → IsRunBy (section_of l) w.setup.kind × NonNullAt l a
 stands_at w r me a l is at = subst (IsAtLine w.setup.kind a) at ((reached_chains w r).sound.actors me a is).stands.line
@@ -82,12 +90,12 @@ contained n (x ∷ xs) (suc k) low e = omega (arith, contained n xs k (omega ari
 pub queue_and_free_apart : OfEachWorld KeepsQueueAndFreeApart
 queue_and_free_apart w r n queued free =
     let p : HasChains w = reached_chains w r in
-    let q : 1 ≤ times n (p.front ∷ p.rest) = subst (λ ns. 1 ≤ times n ns) (chain_same w.shared.nodes queued.0 (p.front ∷ p.rest) w.shared.head.node queued.1 p.sound.shape.queue_chain) (contained n queued.0 queued.2.0 queued.2.1 queued.2.2) in
-    let f : 1 ≤ times n p.free = subst (λ ns. 1 ≤ times n ns) (chain_same w.shared.nodes free.0 p.free w.shared.free.node free.1 p.sound.shape.free_chain) (contained n free.0 free.2.0 free.2.1 free.2.2) in
+    let q : 1 ≤ times n (p.front ∷ p.rest) = subst (λ ns. 1 ≤ times n ns) (same_queue w r queued.0 (p.front ∷ p.rest) queued.1 p.sound.shape.queue_chain) (contained n queued.0 queued.2.0 queued.2.1 queued.2.2) in
+    let f : 1 ≤ times n p.free = subst (λ ns. 1 ≤ times n ns) (same_free w free.0 p.free free.1 p.sound.shape.free_chain) (contained n free.0 free.2.0 free.2.1 free.2.2) in
     go n (p.front ∷ p.rest) p.free q f p.sound.shape
   where
     go : (n : ℕ) (queue free : List ℕ) → 1 ≤ times n queue → 1 ≤ times n free → Shape w.shared (elsewhere w) queue free → ⊥
-    go zero qs fs q f sh = let none : times 0 qs ≡ 0 = null_times w.shared.nodes qs w.shared.head.node sh.queue_chain in omega arith
+    go zero qs fs q f sh = let none : times 0 qs ≡ 0 = null_times IsEnd w.shared.nodes qs w.shared.head.node sh.queue_chain in omega arith
     go (suc n) qs fs q f sh = omega (arith, sh.once (suc n) (omega arith), used_most (suc n) w.shared.fresh)
 
 -- the mark of a node in a pocket is the count of the node's `next`

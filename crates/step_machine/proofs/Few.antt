@@ -4,9 +4,9 @@ use Rattle.std.specs.List.{count_by, flat_map}
 use Rattle.std.proofs.lemmas.List.{length-map}
 use Rattle.std.proofs.lemmas.List.Recursion.{is_count_by}
 use Rattle.std.specs.Prelude.{is_some}
-use Rattle.step_machine.specs.Below.{Op, Enq, Deq, Taken, Reply, Done, Value, Empty, Refused, Stamped, Entry, Push, Pop, Queue, empty, response, front_of, is_push, is_pop, Plays, point_or_zero, inserted, by_point, node_at}
+use Rattle.step_machine.specs.Below.{Op, Enq, Deq, Closed, Shut, Taken, Reply, Done, Value, Empty, Refused, Stamped, Entry, Push, ShutEntry, Pop, Queue, is_push, is_pop, Plays, point_or_zero, inserted, by_point, node_at}
 use Rattle.step_machine.specs.Machine.{World}
-use Rattle.step_machine.specs.Chains.{queue_values}
+use Rattle.step_machine.specs.Chains.{queue_values, queue_in}
 use Rattle.step_machine.specs.EachQueue.{HasItsPlaces}
 use Rattle.step_machine.specs.Completion.{completion, is_value}
 use Rattle.step_machine.specs.Entries.{entry_with, entry_of, entries, AreFew}
@@ -31,20 +31,19 @@ pub count_is : {X : Type 0} (p : X → Bool) (xs : List X) → count p xs ≡ co
 count_is p xs = is_count_by (count p) p refl (λ x ys. refl) xs
 
 -- the pushes and the values before are as many as the pops and the values after
-plays_count : (es : List Entry) (q r : Queue) → Plays q es r → count is_push es + length q.values ≡ count is_pop es + length r.values
-plays_count [] q r e = ap (λ (x : Queue). 0 + length x.values) e
-plays_count (Push seat body ∷ es) q r h =
+plays_count : (es : List Entry) (shut : Bool) (values : List Taken) (r : Queue) → Plays (record { values = values; shut = shut }) es r → count is_push es + length values ≡ count is_pop es + length r.values
+plays_count [] shut values r e = ap (λ (x : Queue). 0 + length x.values) e
+plays_count (Push seat body ∷ es) false values r h =
     let x : Taken = record { from = seat; body = body } in
-    let ih : count is_push es + length (q.values ++ x ∷ []) ≡ count is_pop es + length r.values = plays_count es (response seat (Enq body) q).after r h in
-    let more : length (q.values ++ x ∷ []) ≡ length q.values + 1 = length-append q.values (x ∷ []) in
+    let ih : count is_push es + length (values ++ x ∷ []) ≡ count is_pop es + length r.values = plays_count es false (values ++ x ∷ []) r h.1 in
+    let more : length (values ++ x ∷ []) ≡ length values + 1 = length-append values (x ∷ []) in
     omega (arith, ih, more)
-plays_count (Pop seat value ∷ es) q r h = go q.values h (λ vs. plays_count es (record { values = vs }) r)
-  where
-    go : (vs : List Taken) → ((front_of vs).reply ≡ Value value) × Plays (front_of vs).after es r → ((us : List Taken) → Plays (record { values = us }) es r → count is_push es + length us ≡ count is_pop es + length r.values) → count is_push es + length vs ≡ (1 + count is_pop es) + length r.values
-    go [] g each = absurd (let e : Empty ≡ Value value = g.0 in cc)
-    go (v ∷ vs) g each =
-        let ih : count is_push es + length vs ≡ count is_pop es + length r.values = each vs g.1 in
-        omega (arith, ih)
+plays_count (Push seat body ∷ es) true values r h = absurd (let e : Refused Closed ≡ Done = h.0 in cc)
+plays_count (ShutEntry seat ∷ es) false values r h = omega (arith, plays_count es true values r h.1)
+plays_count (ShutEntry seat ∷ es) true values r h = absurd (let e : Refused Closed ≡ Done = h.0 in cc)
+plays_count (Pop seat value ∷ es) shut (v ∷ vs) r h = omega (arith, plays_count es shut vs r h.1)
+plays_count (Pop seat value ∷ es) false [] r h = absurd (let e : Empty ≡ Value value = h.0 in cc)
+plays_count (Pop seat value ∷ es) true [] r h = absurd (let e : Refused Closed ≡ Value value = h.0 in cc)
 
 abbrev pub has_value : Stamped → Bool
 has_value o = is_value o.reply
@@ -58,6 +57,7 @@ pops_are_values (o ∷ os) = go o.op o.reply (pops_are_values os)
     go op None e = e
     go (Enq body) (Some Done) e = e
     go Deq (Some Done) e = e
+    go Shut (Some Done) e = e
     go op (Some (Value v)) e = ap (λ n. 1 + n) e
     go op (Some Empty) e = e
     go op (Some (Refused why)) e = e
@@ -120,7 +120,7 @@ are_few w r = (pops_few, pushes_few)
     pushes_few =
         let queue : List ℕ = places.0 in
         let counted : count is_push (entries w) + 0 ≡ count is_pop (entries w) + length (queue_values w.shared queue) =
-        plays_count (entries w) empty (record { values = queue_values w.shared queue }) (plays_to_the_values w r queue places.2.queue_chain) in
+        plays_count (entries w) false [] (queue_in w.shared queue) (plays_to_the_values w r queue places.2.queue_chain) in
         let used : length queue ≤ w.shared.fresh = few w queue places.1 places.2 1 (omega arith) in
         let fresh : w.shared.fresh ≤ w.setup.size = range.shared.fresh in
         let some : 1 ≤ w.shared.fresh = range.shared.some_fresh in

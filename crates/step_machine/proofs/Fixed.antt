@@ -1,15 +1,20 @@
 -- What an actor's registers have before each line, whatever the shared words hold, in both queues: whether a node is
 -- in its hand, that its pocket is empty, which call it runs, what its call has earned, and which counts were tested.
-use Rattle.std.proofs.Common.{◌≡◌, ◌≢◌, ℕ, ◌+◌, Bool, true, false, nat_eq, nat_lt, if◌then◌else◌, Option, Some, None, IfSome, refl, sym, subst}
+use Rattle.std.proofs.Common.{◌≡◌, ◌≢◌, ℕ, ◌+◌, Bool, true, false, nat_eq, nat_lt, if◌then◌else◌, Option, Some, None, IfSome, refl, sym, ap, ◌∙◌, subst, ◌⊎◌, inl, inr}
 use Rattle.std.proofs.lemmas.Bool.{eqb-false}
-use Rattle.step_machine.specs.Below.{is_null, same_ref, Kind, TwoLock, NonBlocking, Line, N1, N2, N3, N4, N5, F1, F2, F3, E2, E3, E5, E6, E7, E9, E13, E17, D2, D5, D10, D12, D13, A1, A2, A3, A4, A5, A6, A7, B1, B3, B4, B5, B6, Section, section_of, OfHead, WornOut, Op, Enq, Deq, Taken, Reply, Done, Value, Empty, Refused, Setup, Held, Actor, Outcome, Found, action, outcome, goes, ends, effect, sets_aside, fills_hand, empties_hand, to_pocket, with_node, freed, unlocked, busy_or, gives_up, from_pocket, begun}
-use Rattle.line_table.specs.declared.lines.Section.TheVariants.{NewNode, Free, Enqueue, Dequeue, LockedEnqueue, LockedDequeue}
+use Rattle.step_machine.specs.Below.{is_null, same_ref, Kind, TwoLock, NonBlocking, Line, N1, N2, N3, N4, N5, F1, F2, F3, E2, E3, E5, E6, E7, E9, E13, E17, D2, D5, D10, D12, D13, A1, A2, A3, A4, A5, A6, A7, B1, B3, B4, B5, B6, S1, S3, S4, S5, S6, S8, S9, is_shut, null, Closed, left, left_with_node, Section, section_of, OfHead, WornOut, Op, Enq, Deq, Shut as ShutOp, Taken, Reply, Done, Value, Empty, Refused, Setup, Held, Actor, Outcome, Found, action, outcome, goes, ends, effect, sets_aside, fills_hand, empties_hand, to_pocket, with_node, freed, unlocked, busy_or, gives_up, from_pocket, begun}
+use Rattle.line_table.specs.declared.lines.Section.TheVariants.{NewNode, Free, Enqueue, Dequeue, LockedEnqueue, LockedDequeue, Shut, LockedShut}
 use Rattle.step_machine.proofs.Choices.{either, both}
 
 -- whether a call that lets the head lock go has a node to free
 abbrev pub frees_after : Option Reply → Bool
 frees_after (Some (Value v)) = true
 frees_after _ = false
+
+-- whether an enqueue that lets the tail lock go has its node still
+abbrev pub keeps_after : Option Reply → Bool
+keeps_after (Some (Refused why)) = true
+keeps_after _ = false
 
 -- whether a node is in the hand before a line, by what the call has earned
 abbrev pub in_hand_at : Line → Option Reply → Bool
@@ -29,12 +34,23 @@ in_hand_at A3 due = true
 in_hand_at A4 due = true
 in_hand_at A5 due = true
 in_hand_at B6 due = frees_after due
+in_hand_at A7 due = keeps_after due
 in_hand_at _ due = false
 
 -- an enqueue pushes the pair of its actor and its body
 abbrev pub Pushes : (me : ℕ) → Op → Taken → Type 0
 Pushes me (Enq body) val = val ≡ record { from = me; body = body }
 Pushes me Deq val = ⊥
+Pushes me ShutOp val = ⊥
+
+-- so it is no dequeue, as a shut is none
+pub push_is_no_pop : (me : ℕ) (op : Op) (val : Taken) → Pushes me op val → op ≢ Deq
+push_is_no_pop me (Enq body) val h e = cc
+push_is_no_pop me Deq val h e = h
+push_is_no_pop me ShutOp val h e = h
+
+pub shut_is_no_pop : (op : Op) → op ≡ ShutOp → op ≢ Deq
+shut_is_no_pop op h e = let same : ShutOp ≡ Deq = sym h ∙ e in cc
 
 -- which call a section of the lines runs
 abbrev pub Runs : Section → (me : ℕ) → Op → Taken → Type 0
@@ -44,6 +60,8 @@ Runs LockedEnqueue me op val = Pushes me op val
 Runs Free me op val = op ≡ Deq
 Runs Dequeue me op val = op ≡ Deq
 Runs LockedDequeue me op val = op ≡ Deq
+Runs Shut me op val = op ≡ ShutOp
+Runs LockedShut me op val = op ≡ ShutOp
 
 -- what a call has earned that frees a node: nothing yet, or the value taken
 abbrev pub DecidedFreeing : Option Reply → Type 0
@@ -57,7 +75,13 @@ DecidedUnlocking None = ⊥
 DecidedUnlocking (Some Done) = ⊥
 DecidedUnlocking (Some (Value v)) = Unit {0}
 DecidedUnlocking (Some Empty) = Unit {0}
-DecidedUnlocking (Some (Refused why)) = why ≡ WornOut OfHead
+DecidedUnlocking (Some (Refused why)) = (why ≡ WornOut OfHead) ⊎ (why ≡ Closed)
+
+-- what a call has earned that lets the tail lock go: done, or that the queue is shut
+abbrev pub DecidedLeaving : Option Reply → Type 0
+DecidedLeaving (Some Done) = Unit {0}
+DecidedLeaving (Some (Refused why)) = why ≡ Closed
+DecidedLeaving _ = ⊥
 
 -- what a call has earned before a line
 abbrev pub DecidedAt : Line → Option Reply → Type 0
@@ -66,7 +90,8 @@ DecidedAt F2 due = DecidedFreeing due
 DecidedAt F3 due = DecidedFreeing due
 DecidedAt E17 due = due ≡ Some Done
 DecidedAt A6 due = due ≡ Some Done
-DecidedAt A7 due = due ≡ Some Done
+DecidedAt A7 due = DecidedLeaving due
+DecidedAt S9 due = DecidedLeaving due
 DecidedAt B6 due = DecidedUnlocking due
 DecidedAt _ due = due ≡ None
 
@@ -81,14 +106,21 @@ RoomAt E17 limit a = a.tail.count ≢ limit
 RoomAt D10 limit a = a.tail.count ≢ limit
 RoomAt D13 limit a = a.head.count ≢ limit
 RoomAt B5 limit a = a.head.count ≢ limit
+RoomAt S5 limit a = a.tail.count ≢ limit
 RoomAt _ limit a = Unit {0}
+
+-- a pocket is empty in a call, but for a shut
+abbrev pub PocketAt : Section → Option Held → Type 0
+PocketAt Shut pocket = Unit {0}
+PocketAt LockedShut pocket = Unit {0}
+PocketAt _ pocket = pocket ≡ None
 
 -- what an actor's registers have before its line
 abbrev pub FixedAt : (limit me : ℕ) → Actor → Option Line → Type 0
 FixedAt limit me a None = a.holds ≡ false
 FixedAt limit me a (Some l) =
     record {
-      pocket : a.pocket ≡ None;
+      pocket : PocketAt (section_of l) a.pocket;
       hand : a.holds ≡ in_hand_at l a.due;
       call : Runs (section_of l) me a.op a.val;
       earned : DecidedAt l a.due;
@@ -128,6 +160,29 @@ module _ (limit me : ℕ) where
   unlocked_fixed now (Some Empty) a d p h c e = record { fixed = h }
   unlocked_fixed now (Some (Refused why)) a d p h c e = record { fixed = h }
 
+  left_fixed : (now : ℕ) (due : Option Reply) (a : Actor) → a.holds ≡ false → Fixes limit me (left now due a)
+  left_fixed now (Some (Refused why)) a h = record { fixed = h }
+  left_fixed now _ a h = record { fixed = h }
+
+  left_with_node_fixed : (now : ℕ) (due : Option Reply) (a : Actor) → a.holds ≡ keeps_after due → Fixes limit me (left_with_node now due a)
+  left_with_node_fixed now (Some (Refused why)) a h = record { fixed = refl }
+  left_with_node_fixed now None a h = record { fixed = h }
+  left_with_node_fixed now (Some Done) a h = record { fixed = h }
+  left_with_node_fixed now (Some (Value v)) a h = record { fixed = h }
+  left_with_node_fixed now (Some Empty) a h = record { fixed = h }
+
+  after_a6 : (a : Actor) → FixedAt limit me a (Some A6) → Fixes limit me (goes A7 a)
+  after_a6 a h =
+      record {
+        fixed = record {
+          pocket = h.pocket;
+          hand = h.hand ∙ sym (ap keeps_after h.earned);
+          call = h.call;
+          earned = subst DecidedLeaving (sym h.earned) tt;
+          room = tt;
+        };
+      }
+
   ended_or : (b : Bool) (now : ℕ) (a : Actor) → (b ≡ false → a.tail.count ≢ limit) → a.pocket ≡ None → Pushes me a.op a.val → Fixes limit me (effect now (if b then ends now Done (empties_hand (record a { due = Some Done })) else goes E17 (empties_hand (record a { due = Some Done }))))
   ended_or true now a r p c = record { fixed = refl }
   ended_or false now a r p c = record { fixed = record { pocket = p; hand = refl; call = c; earned = refl; room = r refl } }
@@ -160,8 +215,9 @@ fixed s now me a E3 c h =
 fixed s now me a E7 c h =
     both (Fixes s.limit me) (same_ref c a.tail)
     (both (Fixes s.limit me) (is_null a.next) (record { fixed = record { pocket = h.pocket; hand = h.hand; call = h.call; earned = h.earned; room = tt } })
+    (both (Fixes s.limit me) (is_shut a.next) (record { fixed = refl })
     (either (Fixes s.limit me) (nat_eq a.tail.count s.limit) (λ e. record { fixed = refl })
-    (λ e. record { fixed = record { pocket = h.pocket; hand = h.hand; call = h.call; earned = h.earned; room = eqb-false a.tail.count s.limit e } })))
+    (λ e. record { fixed = record { pocket = h.pocket; hand = h.hand; call = h.call; earned = h.earned; room = eqb-false a.tail.count s.limit e } }))))
     (record { fixed = record { pocket = h.pocket; hand = h.hand; call = h.call; earned = h.earned; room = tt } })
 fixed s now me a E9 c h =
     both (Fixes s.limit me) (same_ref c a.next) (ended_or s.limit me (nat_eq a.tail.count s.limit) now a (λ e. eqb-false a.tail.count s.limit e) h.pocket h.call)
@@ -171,8 +227,9 @@ fixed s now me a D5 c h =
     both (Fixes s.limit me) (same_ref c a.head)
     (both (Fixes s.limit me) (nat_eq a.head.node a.tail.node)
     (both (Fixes s.limit me) (is_null a.next) (record { fixed = h.hand })
+    (both (Fixes s.limit me) (is_shut a.next) (record { fixed = h.hand })
     (either (Fixes s.limit me) (nat_eq a.tail.count s.limit) (λ e. record { fixed = h.hand })
-    (λ e. record { fixed = record { pocket = h.pocket; hand = h.hand; call = h.call; earned = h.earned; room = eqb-false a.tail.count s.limit e } })))
+    (λ e. record { fixed = record { pocket = h.pocket; hand = h.hand; call = h.call; earned = h.earned; room = eqb-false a.tail.count s.limit e } }))))
     (record { fixed = record { pocket = h.pocket; hand = h.hand; call = h.call; earned = h.earned; room = tt } }))
     (record { fixed = record { pocket = h.pocket; hand = h.hand; call = h.call; earned = h.earned; room = tt } })
 fixed s now me a D12 c h =
@@ -184,16 +241,35 @@ fixed s now me a D13 c h =
 fixed s now me a A3 c h =
     both (Fixes s.limit me) (nat_eq c 0) (record { fixed = record { pocket = h.pocket; hand = h.hand; call = h.call; earned = h.earned; room = tt } })
     (record { fixed = record { pocket = h.pocket; hand = h.hand; call = h.call; earned = h.earned; room = tt } })
-fixed s now me a A5 c h = record { fixed = record { pocket = h.pocket; hand = refl; call = h.call; earned = refl; room = tt } }
-fixed s now me a A7 c h = record { fixed = h.hand }
+fixed s now me a A5 c h =
+    both (Fixes s.limit me) (same_ref c null) (record { fixed = record { pocket = h.pocket; hand = refl; call = h.call; earned = refl; room = tt } })
+    (record { fixed = record { pocket = h.pocket; hand = h.hand; call = h.call; earned = refl; room = tt } })
+fixed s now me a A6 c h = after_a6 s.limit me a h
+fixed s now me a A7 c h = left_with_node_fixed s.limit me now a.due a h.hand
+fixed s now me a S3 c h =
+    both (Fixes s.limit me) (same_ref c a.tail)
+    (both (Fixes s.limit me) (is_null a.next) (record { fixed = record { pocket = h.pocket; hand = h.hand; call = h.call; earned = h.earned; room = tt } })
+    (both (Fixes s.limit me) (is_shut a.next) (record { fixed = h.hand })
+    (either (Fixes s.limit me) (nat_eq a.tail.count s.limit) (λ e. record { fixed = h.hand })
+    (λ e. record { fixed = record { pocket = h.pocket; hand = h.hand; call = h.call; earned = h.earned; room = eqb-false a.tail.count s.limit e } }))))
+    (record { fixed = record { pocket = h.pocket; hand = h.hand; call = h.call; earned = h.earned; room = tt } })
+fixed s now me a S4 c h = both (Fixes s.limit me) (same_ref c a.next) (record { fixed = h.hand }) (record { fixed = record { pocket = h.pocket; hand = h.hand; call = h.call; earned = h.earned; room = tt } })
+fixed s now me a S6 c h =
+    both (Fixes s.limit me) (nat_eq c 0) (record { fixed = record { pocket = h.pocket; hand = h.hand; call = h.call; earned = h.earned; room = tt } })
+    (record { fixed = record { pocket = h.pocket; hand = h.hand; call = h.call; earned = h.earned; room = tt } })
+fixed s now me a S8 c h =
+    both (Fixes s.limit me) (same_ref c null) (record { fixed = record { pocket = h.pocket; hand = h.hand; call = h.call; earned = tt; room = tt } })
+    (record { fixed = record { pocket = h.pocket; hand = h.hand; call = h.call; earned = refl; room = tt } })
+fixed s now me a S9 c h = left_fixed s.limit me now a.due a h.hand
 fixed s now me a B1 c h =
     both (Fixes s.limit me) (nat_eq c 0) (record { fixed = record { pocket = h.pocket; hand = h.hand; call = h.call; earned = h.earned; room = tt } })
     (record { fixed = record { pocket = h.pocket; hand = h.hand; call = h.call; earned = h.earned; room = tt } })
 fixed s now me a B3 c h =
     both (Fixes s.limit me) (is_null c) (record { fixed = record { pocket = h.pocket; hand = h.hand; call = h.call; earned = tt; room = tt } })
-    (record { fixed = record { pocket = h.pocket; hand = h.hand; call = h.call; earned = h.earned; room = tt } })
+    (both (Fixes s.limit me) (is_shut c) (record { fixed = record { pocket = h.pocket; hand = h.hand; call = h.call; earned = inr refl; room = tt } })
+    (record { fixed = record { pocket = h.pocket; hand = h.hand; call = h.call; earned = h.earned; room = tt } }))
 fixed s now me a B4 c h =
-    either (Fixes s.limit me) (nat_eq a.head.count s.limit) (λ e. record { fixed = record { pocket = h.pocket; hand = h.hand; call = h.call; earned = refl; room = tt } })
+    either (Fixes s.limit me) (nat_eq a.head.count s.limit) (λ e. record { fixed = record { pocket = h.pocket; hand = h.hand; call = h.call; earned = inl refl; room = tt } })
     (λ e. record { fixed = record { pocket = h.pocket; hand = h.hand; call = h.call; earned = h.earned; room = eqb-false a.head.count s.limit e } })
 fixed s now me a B5 c h = record { fixed = record { pocket = h.pocket; hand = refl; call = h.call; earned = tt; room = tt } }
 fixed s now me a B6 c h = unlocked_fixed s.limit me now a.due a refl h.pocket h.hand h.call h.earned
@@ -211,6 +287,8 @@ fixed_given limit now me a E5 h = record { fixed = refl }
 fixed_given limit now me a D2 h = record { fixed = h.hand }
 fixed_given limit now me a A3 h = record { fixed = refl }
 fixed_given limit now me a B1 h = record { fixed = h.hand }
+fixed_given limit now me a S1 h = record { fixed = h.hand }
+fixed_given limit now me a S6 h = record { fixed = h.hand }
 fixed_given limit now me a _ h = tt
 
 from_pocket_fixed : (limit me : ℕ) (l : Line) (pocket : Option Held) (a : Actor) → a.pocket ≡ pocket → ((held : Held) → FixedAt limit me (from_pocket l (Some held) a) (Some l)) → (a.pocket ≡ None → FixedAt limit me a a.line) → FixedAt limit me (from_pocket l pocket a) (from_pocket l pocket a).line
@@ -227,3 +305,5 @@ fixed_begun limit me TwoLock Deq a h =
     from_pocket_fixed limit me F1 a.pocket _ refl (λ held. record { pocket = refl; hand = refl; call = refl; earned = tt; room = tt }) (λ p. record { pocket = p; hand = h; call = refl; earned = refl; room = tt })
 fixed_begun limit me NonBlocking Deq a h =
     from_pocket_fixed limit me F1 a.pocket _ refl (λ held. record { pocket = refl; hand = refl; call = refl; earned = tt; room = tt }) (λ p. record { pocket = p; hand = h; call = refl; earned = refl; room = tt })
+fixed_begun limit me TwoLock ShutOp a h = record { pocket = tt; hand = h; call = refl; earned = refl; room = tt }
+fixed_begun limit me NonBlocking ShutOp a h = record { pocket = tt; hand = h; call = refl; earned = refl; room = tt }

@@ -1,7 +1,7 @@
 -- What an outcome adds to the entries of the operations that had their effect.
 use Rattle.std.proofs.Common.{◌≡◌, ℕ, Bool, true, false, nat_le, if◌then◌else◌, Option, Some, None, List, [], ◌∷◌, ◌++◌, sym, ap, subst}
 use Rattle.std.specs.List.{flat_map}
-use Rattle.step_machine.specs.Below.{Op, Enq, Deq, Taken, Reply, Stamped, Entry, Push, Pop, Queue, response, Plays, inserted, by_point, Actor, Outcome}
+use Rattle.step_machine.specs.Below.{Op, Enq, Deq, Shut, Taken, Reply, Done, Stamped, Entry, Push, ShutEntry, Pop, Queue, response, Plays, inserted, by_point, Actor, Outcome}
 use Rattle.step_machine.specs.Machine.{World}
 use Rattle.step_machine.specs.Completion.{completed_reply}
 use Rattle.step_machine.specs.Entries.{pushed_by, entry_with, entry_of}
@@ -37,10 +37,18 @@ nothing_inserted y (p ∷ ps) none = go (nat_le (place y) (place p)) (nothing_in
 -- entries after others lead on
 pub plays-append : (q r s : Queue) (es fs : List Entry) → Plays q es r → Plays r fs s → Plays q (es ++ fs) s
 plays-append q r s [] fs h g = subst (λ x. Plays x fs s) (sym h) g
-plays-append q r s (Push seat body ∷ es) fs h g = plays-append (response seat (Enq body) q).after r s es fs h g
+plays-append q r s (Push seat body ∷ es) fs h g = (h.0, plays-append (response seat (Enq body) q).after r s es fs h.1 g)
+plays-append q r s (ShutEntry seat ∷ es) fs h g = (h.0, plays-append (response seat Shut q).after r s es fs h.1 g)
 plays-append q r s (Pop seat value ∷ es) fs h g = (h.0, plays-append (response seat Deq q).after r s es fs h.1 g)
 
 -- the entry of an enqueue leads to what the queue gives
-pub push_plays : (me : ℕ) (op : Op) (v : Taken) (q r : Queue) → Pushes me op v → (response me op q).after ≡ r → Plays q (pushed_by me op) r
-push_plays me (Enq body) v q r h e = e
-push_plays me Deq v q r h e = absurd h
+pub push_plays : (me : ℕ) (op : Op) (v : Taken) (q r : Queue) → Pushes me op v → Done ≡ (response me op q).reply → (response me op q).after ≡ r → Plays q (pushed_by me op) r
+push_plays me (Enq body) v q r h d e = (sym d, e)
+push_plays me Deq v q r h d e = absurd h
+push_plays me Shut v q r h d e = absurd h
+
+-- so does that of a shut
+pub shut_plays : (me : ℕ) (op : Op) (q r : Queue) → op ≡ Shut → Done ≡ (response me op q).reply → (response me op q).after ≡ r → Plays q (pushed_by me op) r
+shut_plays me Shut q r is d e = (sym d, e)
+shut_plays me (Enq body) q r is d e = (sym d, e)
+shut_plays me Deq q r is d e = absurd (let f : Deq ≡ Shut = is in cc)

@@ -1,7 +1,7 @@
 -- Giving up, and beginning, by the parts of the calls that do it.
 use Rattle.std.proofs.Common.{◌≡◌, ℕ, ◌+◌, ◌⊎◌, inl, inr, Bool, true, false, if◌then◌else◌, Option, Some, None, IsSome, is_some, List, [], replicate, refl, sym, ap, subst, ◌∙◌, arith}
 use Rattle.std.proofs.lemmas.List.Folds.{sum_by-replicate}
-use Rattle.step_machine.specs.Below.{Kind, TwoLock, NonBlocking, Line, N1, F1, Op, Enq, Deq, Reply, Stamped, Setup, Held, Actor, Outcome, Shared, gives_up, busy_or, with_node, dequeues, is_call, begun, from_pocket, first_memory}
+use Rattle.step_machine.specs.Below.{Kind, TwoLock, NonBlocking, Line, N1, F1, Op, Enq, Deq, Shut, Reply, Stamped, Setup, Held, Actor, Outcome, Shared, gives_up, busy_or, with_node, dequeues, is_call, begun, from_pocket, first_memory}
 use Rattle.line_steps.specs.Rooms.{Memory}
 use Rattle.step_machine.specs.declared.actors.Move.TheVariants.{Begin, Step, Give}
 use Rattle.step_machine.specs.Machine.{World, opening, idle, actor_of, with_actor, begins, stepped, steps, given, gives, moved, next, after_outcome}
@@ -57,6 +57,8 @@ begun_looks kind me Deq a = go kind a.pocket
     go TwoLock None = inl refl
     go NonBlocking None = inl refl
     go k (Some held) = inl refl
+begun_looks TwoLock me Shut a = inl refl
+begun_looks NonBlocking me Shut a = inl refl
 
 -- idle actors look for no node, and have no call without a number
 pub wanting_node-idle : (n : ℕ) → wanting_node (replicate n idle) ≡ 0

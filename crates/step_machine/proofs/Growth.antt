@@ -1,7 +1,7 @@
 -- What a step does to the number of nodes used and of actors that look for one, and which node it may set aside.
 use Rattle.std.proofs.Common.{◌≡◌, ℕ, ◌+◌, ◌≤◌, Bool, true, false, nat_eq, nat_lt, if◌then◌else◌, Option, Some, None, IfSome, refl, arith}
 use Rattle.std.proofs.lemmas.Bool.{eqb-true}
-use Rattle.step_machine.specs.Below.{is_null, same_ref, Kind, TwoLock, NonBlocking, Line, N1, N2, N4, N5, F1, F3, E3, E5, E7, E9, E13, E17, D2, D5, D10, D12, D13, A3, B1, B3, B4, B6, Reply, Done, Setup, Actor, Outcome, Shared, Found, found, performed, put, same, content, Free, Head, Tail, Tail_lock, Head_lock, Next, Fresh, action, outcome, freed, unlocked, sets_aside, goes, effect, with_node, ends, empties_hand, fills_hand, raised, gives_up, busy_or, to_pocket}
+use Rattle.step_machine.specs.Below.{is_null, same_ref, Kind, TwoLock, NonBlocking, Line, N1, N2, N4, N5, F1, F3, E3, E5, E7, E9, E13, E17, D2, D5, D10, D12, D13, A3, B1, B3, B4, B6, A5, A7, S1, S3, S4, S5, S6, S8, S9, is_shut, null, ref, shut_ref, raised_end, left, left_with_node, Reply, Done, Refused, Setup, Actor, Outcome, Shared, Found, found, performed, put, same, content, Free, Head, Tail, Tail_lock, Head_lock, Next, Fresh, action, outcome, freed, unlocked, sets_aside, goes, effect, with_node, ends, empties_hand, fills_hand, raised, gives_up, busy_or, to_pocket}
 use Rattle.step_machine.specs.Views.{wants_node}
 use Rattle.step_machine.proofs.Choices.{both}
 
@@ -23,6 +23,14 @@ freed_aside k now (Some reply) a = record { looks = omega arith; leaves = refl }
 unlocked_settles : (n now : ℕ) (due : Option Reply) (a : Actor) → Settles 0 n (unlocked now due a)
 unlocked_settles n now (Some Done) a = record { looks = omega arith; leaves = tt }
 unlocked_settles n now _ a = record { looks = omega arith; leaves = tt }
+
+left_settles : (n now : ℕ) (due : Option Reply) (a : Actor) → Settles 0 n (left now due a)
+left_settles n now (Some (Refused why)) a = record { looks = omega arith; leaves = tt }
+left_settles n now _ a = record { looks = omega arith; leaves = tt }
+
+left_with_node_settles : (n now : ℕ) (due : Option Reply) (a : Actor) → Settles 0 n (left_with_node now due a)
+left_with_node_settles n now (Some (Refused why)) a = record { looks = omega arith; leaves = tt }
+left_with_node_settles n now _ a = record { looks = omega arith; leaves = tt }
 
 with_node_settles : (n : ℕ) (k : Kind) (a : Actor) → Settles 0 n (goes (with_node k) a)
 with_node_settles n TwoLock a = record { looks = omega arith; leaves = tt }
@@ -47,7 +55,7 @@ settles s now me a F3 c =
 settles s now me a E3 c =
     both (Settles _ _) (nat_eq c.count s.limit) record { looks = omega arith; leaves = refl } record { looks = omega arith; leaves = tt }
 settles s now me a E7 c =
-    both (Settles _ _) (same_ref c a.tail) (both (Settles _ _) (is_null a.next) record { looks = omega arith; leaves = tt } (both (Settles _ _) (nat_eq a.tail.count s.limit) record { looks = omega arith; leaves = tt } record { looks = omega arith; leaves = tt })) record { looks = omega arith; leaves = tt }
+    both (Settles _ _) (same_ref c a.tail) (both (Settles _ _) (is_null a.next) record { looks = omega arith; leaves = tt } (both (Settles _ _) (is_shut a.next) record { looks = omega arith; leaves = tt } (both (Settles _ _) (nat_eq a.tail.count s.limit) record { looks = omega arith; leaves = tt } record { looks = omega arith; leaves = tt }))) record { looks = omega arith; leaves = tt }
 settles s now me a E9 c =
     both (Settles _ _) (same_ref c a.next) (linked (nat_eq a.tail.count s.limit)) record { looks = omega arith; leaves = tt }
   where
@@ -55,17 +63,25 @@ settles s now me a E9 c =
     linked true = record { looks = omega arith; leaves = tt }
     linked false = record { looks = omega arith; leaves = tt }
 settles s now me a D5 c =
-    both (Settles _ _) (same_ref c a.head) (both (Settles _ _) (nat_eq a.head.node a.tail.node) (both (Settles _ _) (is_null a.next) record { looks = omega arith; leaves = tt } (both (Settles _ _) (nat_eq a.tail.count s.limit) record { looks = omega arith; leaves = tt } record { looks = omega arith; leaves = tt })) record { looks = omega arith; leaves = tt }) record { looks = omega arith; leaves = tt }
+    both (Settles _ _) (same_ref c a.head) (both (Settles _ _) (nat_eq a.head.node a.tail.node) (both (Settles _ _) (is_null a.next) record { looks = omega arith; leaves = tt } (both (Settles _ _) (is_shut a.next) record { looks = omega arith; leaves = tt } (both (Settles _ _) (nat_eq a.tail.count s.limit) record { looks = omega arith; leaves = tt } record { looks = omega arith; leaves = tt }))) record { looks = omega arith; leaves = tt }) record { looks = omega arith; leaves = tt }
 settles s now me a D12 c =
     both (Settles _ _) (nat_eq a.head.count s.limit) record { looks = omega arith; leaves = tt } record { looks = omega arith; leaves = tt }
 settles s now me a D13 c =
     both (Settles _ _) (same_ref c a.head) record { looks = omega arith; leaves = tt } record { looks = omega arith; leaves = tt }
 settles s now me a A3 c = both (Settles _ _) (nat_eq c 0) record { looks = omega arith; leaves = tt } record { looks = omega arith; leaves = tt }
 settles s now me a B1 c = both (Settles _ _) (nat_eq c 0) record { looks = omega arith; leaves = tt } record { looks = omega arith; leaves = tt }
-settles s now me a B3 c = both (Settles _ _) (is_null c) record { looks = omega arith; leaves = tt } record { looks = omega arith; leaves = tt }
+settles s now me a B3 c = both (Settles _ _) (is_null c) record { looks = omega arith; leaves = tt } (both (Settles _ _) (is_shut c) record { looks = omega arith; leaves = tt } record { looks = omega arith; leaves = tt })
 settles s now me a B4 c =
     both (Settles _ _) (nat_eq a.head.count s.limit) record { looks = omega arith; leaves = tt } record { looks = omega arith; leaves = tt }
 settles s now me a B6 c = unlocked_settles _ now a.due a
+settles s now me a A5 c = both (Settles _ _) (same_ref c null) record { looks = omega arith; leaves = tt } record { looks = omega arith; leaves = tt }
+settles s now me a A7 c = left_with_node_settles _ now a.due a
+settles s now me a S3 c =
+    both (Settles _ _) (same_ref c a.tail) (both (Settles _ _) (is_null a.next) record { looks = omega arith; leaves = tt } (both (Settles _ _) (is_shut a.next) record { looks = omega arith; leaves = tt } (both (Settles _ _) (nat_eq a.tail.count s.limit) record { looks = omega arith; leaves = tt } record { looks = omega arith; leaves = tt }))) record { looks = omega arith; leaves = tt }
+settles s now me a S4 c = both (Settles _ _) (same_ref c a.next) record { looks = omega arith; leaves = tt } record { looks = omega arith; leaves = tt }
+settles s now me a S6 c = both (Settles _ _) (nat_eq c 0) record { looks = omega arith; leaves = tt } record { looks = omega arith; leaves = tt }
+settles s now me a S8 c = both (Settles _ _) (same_ref c null) record { looks = omega arith; leaves = tt } record { looks = omega arith; leaves = tt }
+settles s now me a S9 c = left_settles _ now a.due a
 settles s now me a _ c = record { looks = omega arith; leaves = tt }
 
 -- Fresh after an exchange of another word
@@ -93,6 +109,11 @@ grows s now me a D10 m = plus m _ _ (outcome s now me a D10 (found (action s me 
 grows s now me a D13 m = plus m _ _ (outcome s now me a D13 (found (action s me a D13) m)) a.node (if_fresh (same Head (content Head m) a.head) (put Head (raised s a.head a.next.node) m) m refl) (settles s now me a D13 (found (action s me a D13) m))
 grows s now me a A3 m = plus m _ _ (outcome s now me a A3 (found (action s me a A3) m)) a.node (if_fresh (same Tail_lock (content Tail_lock m) 0) (put Tail_lock (me) m) m refl) (settles s now me a A3 (found (action s me a A3) m))
 grows s now me a B1 m = plus m _ _ (outcome s now me a B1 (found (action s me a B1) m)) a.node (if_fresh (same Head_lock (content Head_lock m) 0) (put Head_lock (me) m) m refl) (settles s now me a B1 (found (action s me a B1) m))
+grows s now me a A5 m = plus m _ _ (outcome s now me a A5 (found (action s me a A5) m)) a.node (if_fresh (same (Next a.tail.node) (content (Next a.tail.node) m) null) (put (Next a.tail.node) (ref a.node 0) m) m refl) (settles s now me a A5 (found (action s me a A5) m))
+grows s now me a S4 m = plus m _ _ (outcome s now me a S4 (found (action s me a S4) m)) a.node (if_fresh (same (Next a.tail.node) (content (Next a.tail.node) m) a.next) (put (Next a.tail.node) (raised_end s a.next) m) m refl) (settles s now me a S4 (found (action s me a S4) m))
+grows s now me a S5 m = plus m _ _ (outcome s now me a S5 (found (action s me a S5) m)) a.node (if_fresh (same Tail (content Tail m) a.tail) (put Tail (raised s a.tail a.next.node) m) m refl) (settles s now me a S5 (found (action s me a S5) m))
+grows s now me a S6 m = plus m _ _ (outcome s now me a S6 (found (action s me a S6) m)) a.node (if_fresh (same Tail_lock (content Tail_lock m) 0) (put Tail_lock (me) m) m refl) (settles s now me a S6 (found (action s me a S6) m))
+grows s now me a S8 m = plus m _ _ (outcome s now me a S8 (found (action s me a S8) m)) a.node (if_fresh (same (Next a.tail.node) (content (Next a.tail.node) m) null) (put (Next a.tail.node) (shut_ref 0) m) m refl) (settles s now me a S8 (found (action s me a S8) m))
 grows s now me a l m = plus m _ _ (outcome s now me a l (found (action s me a l) m)) a.node (refl) (settles s now me a l (found (action s me a l) m))
 
 -- giving up ends the call, and sets nothing aside
@@ -107,4 +128,6 @@ given_settles now a E5 = record { looks = omega arith; leaves = tt }
 given_settles now a D2 = record { looks = omega arith; leaves = tt }
 given_settles now a A3 = record { looks = omega arith; leaves = tt }
 given_settles now a B1 = record { looks = omega arith; leaves = tt }
+given_settles now a S1 = record { looks = omega arith; leaves = tt }
+given_settles now a S6 = record { looks = omega arith; leaves = tt }
 given_settles now a _ = tt

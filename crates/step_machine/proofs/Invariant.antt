@@ -3,16 +3,16 @@
 use Rattle.std.proofs.Common.{◌≡◌, ◌≢◌, ℕ, ◌+◌, ◌-◌, ◌≤◌, ◌<◌, true, false, List, [], ◌∷◌, length, replicate, Option, Some, None, refl, sym, ap, ◌∙◌, subst, arith, ◌⊎◌, inl, inr}
 use Rattle.std.specs.Prelude.{slice_get}
 use Rattle.std.proofs.Math.ListN.{length-replicate}
-use Rattle.step_machine.specs.Below.{Line, section_of, Op, Setup, Node, Actor, Outcome, blank, Shared, word, found, performed, action, outcome, gives_up, is_call, begun}
+use Rattle.step_machine.specs.Below.{Line, section_of, Op, empty, Setup, Node, Actor, Outcome, blank, Shared, word, found, performed, action, outcome, gives_up, is_call, begun}
 use Rattle.step_machine.specs.Machine.{World, idle, opening, actor_of, rested, may_rest, with_actor, entry_or, after_outcome, IsSized, IsReached}
-use Rattle.step_machine.specs.Range.{WorldInRange, ActorInRange, LineInRange}
+use Rattle.step_machine.specs.Range.{WorldInRange, RegistersInRange, ActorInRange, LineInRange}
 use Rattle.step_machine.specs.ProgramCounters.{IsRunBy, NonNullAt, IsAtLine, PcIsValid}
 use Rattle.step_machine.specs.Places.{one_if}
-use Rattle.step_machine.specs.Chains.{last_node}
+use Rattle.step_machine.specs.Chains.{last_node, queue_in}
 use Rattle.step_machine.proofs.StampsInvariants.{Does, actor_cases}
 use Rattle.step_machine.proofs.StampsMoves.{idle_got}
 use Rattle.step_machine.proofs.Range.{writes, performed_in_range}
-use Rattle.step_machine.proofs.Reached.{some_of, reached_in_range, actor_in_range, mover_in_range, actor_stands}
+use Rattle.step_machine.proofs.Reached.{some_of, reached_in_range, few_nodes, actor_in_range, mover_in_range, actor_stands, below_closed}
 use Rattle.step_machine.proofs.ProgramCounters.{EndsHold, found_holds, access_holds, Placed, placed, given_up_placed, still_stands, rested_stands, begun_stands}
 use Rattle.step_machine.proofs.Counting.{holds, elsewhere, elsewhere_settled, elsewhere_with, elsewhere_one}
 use Rattle.step_machine.proofs.Effects.{Shape, shape_turned}
@@ -48,7 +48,7 @@ module _ (q : Queue) where
       record {
         shape =
             record {
-              queue_chain = (refl, omega arith, let a : 2 ≤ s.size = h.nodes in omega (arith, length-replicate s.size blank), blank_leads s.size);
+              queue_chain = (refl, omega arith, let a : 2 ≤ s.size = h.nodes in omega (arith, length-replicate s.size blank), inl (blank_leads s.size));
               free_chain = refl;
               once = λ n some. omega (arith, first_used n some, opening_elsewhere n actors, ap one_if (no_flags (n - 1) s.size));
             };
@@ -78,7 +78,7 @@ module _ (q : Queue) where
       record {
         stands = h.stands;
         fixed = h.fixed;
-        marked = marks_kept m m' c n h.marked;
+        marked = marks_kept m m' c n.hand h.marked;
         knows = goes_on Z Z' s m m' last last' you c c.line more k n h.stands.line h.fixed h.owns h.knows;
         owns = q.locks_kept m m' last last' you c.line k h.owns;
       }
@@ -134,10 +134,13 @@ module _ (q : Queue) (L : World → List ℕ → Type 0) (Z : World → ℕ → 
   local : LocalInvariant q (Z w) w.setup w.shared (last_node (p.front ∷ p.rest)) me a
   local = p.sound.actors me a is
 
+  registers : RegistersInRange w.setup w.shared.fresh (length w.actors) a
+  registers = (actor_in_range w me a (reached_in_range w r) is).registers
+
   node_low : a.node ≤ length w.shared.nodes
   node_low =
       let g : WorldInRange w = reached_in_range w r in
-      let c : a.node ≤ w.shared.fresh = (actor_in_range w me a g is).registers.node in
+      let c : a.node ≤ w.shared.fresh = registers.node in
       let up : w.shared.fresh ≤ w.setup.size = g.shared.fresh in
       let all : length w.shared.nodes ≡ w.setup.size = g.shared.all_nodes in
       omega arith
@@ -157,9 +160,11 @@ module _ (q : Queue) (L : World → List ℕ → Type 0) (Z : World → ℕ → 
         a = a;
         shape = p.sound.shape;
         unused = p.sound.unused;
+        few_nodes = few_nodes w r;
         words = p.sound.words;
         mine = λ n. elsewhere_one w me a n is;
         low = node_low;
+        hand_no_end = below_closed w a.node (reached_in_range w r) registers.node;
         marked = local.marked;
         some = (actor_stands w me a is).0;
       }
@@ -217,7 +222,7 @@ numbered q L Z w me a p m' o t =
     }
 
 -- what holds of a world after an actor was told an outcome, by what its step did
-sound_settled : (q : Queue) (L : World → List ℕ → Type 0) (Z : World → ℕ → Type 0) (Z' : ℕ → Type 0) (w : World) (me : ℕ) (a : Actor) (m' : Shared) (o : Outcome) (p : ReachedInvariant q L Z w) (t : Made q L Z w me a p m' o) → ((k : ℕ) → Z w k → Z' k) → (p.rest ≡ [] → Z' (w.steps + 1)) → QueueInvariant q Z' (after_outcome w me a m' o) t.does.front' t.does.rest' t.does.free'
+sound_settled : (q : Queue) (L : World → List ℕ → Type 0) (Z : World → ℕ → Type 0) (Z' : ℕ → Type 0) (w : World) (me : ℕ) (a : Actor) (m' : Shared) (o : Outcome) (p : ReachedInvariant q L Z w) (t : Made q L Z w me a p m' o) → ((k : ℕ) → Z w k → Z' k) → (queue_in w.shared (p.front ∷ p.rest) ≡ empty → Z' (w.steps + 1)) → QueueInvariant q Z' (after_outcome w me a m' o) t.does.front' t.does.rest' t.does.free'
 sound_settled q L Z Z' w me a m' o p t more finds =
     record {
       shape =
@@ -241,7 +246,7 @@ sound_settled q L Z Z' w me a m' o p t more finds =
           stands = record { pocket = t.placed.pocket; line = t.placed.line };
           fixed = t.fixes.fixed;
           marked = d.marked;
-          knows = knows_more q (Found p.rest (w.steps + 1)) Z' w.setup m' (last_node (d.front' ∷ d.rest')) o.actor o.actor.line (λ k f. subst Z' (sym f.1) (finds f.0)) d.knows;
+          knows = knows_more q (Found w.shared (p.front ∷ p.rest) (w.steps + 1)) Z' w.setup m' (last_node (d.front' ∷ d.rest')) o.actor o.actor.line (λ k f. subst Z' (sym f.1) (finds f.0)) d.knows;
           owns = d.owns;
         }
 
@@ -251,7 +256,7 @@ sound_settled q L Z Z' w me a m' o p t more finds =
         (subst (LocalInvariant q Z' w.setup m' (last_node (d.front' ∷ d.rest')) me) e.1 (knowing_entry q Z' w.setup m' (last_node (d.front' ∷ d.rest')) me o.actor (Some (entry_or a.entry (length w.operations))) mover))
     pick you c (inr e) =
         others_know q (Z w) Z' w.setup w.shared m' (last_node (p.front ∷ p.rest)) (last_node (d.front' ∷ d.rest')) you c more (d.relies you (actor_stands w you c e.1).0 e.0)
-        (nodes_kept w me you a c m' p.front p.rest p.free e.0 p.sound.ends.head t.here e.1 p.sound.shape d.rises d.turn.writes) (p.sound.actors you c e.1)
+        (nodes_kept w me you a c m' p.front p.rest p.free e.0 (let g : WorldInRange w = reached_in_range w t.reached in omega (arith, g.shared.fresh, g.sized.numbered)) p.sound.ends.head t.here e.1 p.sound.shape d.rises d.turn.writes) (p.sound.actors you c e.1)
 
 module _ (q : Queue) (steps : Steps q) (L : World → List ℕ → Type 0) (Z : World → ℕ → Type 0) (carries : Carries L Z) where
   step_made : (w : World) (me : ℕ) (a : Actor) (l : Line) → IsReached w → w.setup.kind ≡ q.kind → actor_of w me ≡ Some a → a.line ≡ Some l → (p : ReachedInvariant q L Z w) → Made q L Z w me a p (performed (action w.setup me a l) w.shared) (outcome w.setup (w.steps + 1) me a l (found (action w.setup me a l) w.shared))
@@ -310,7 +315,7 @@ module _ (q : Queue) (steps : Steps q) (L : World → List ℕ → Type 0) (Z : 
 
   made_keeps : (w : World) (me : ℕ) (a : Actor) (m' : Shared) (o : Outcome) (p : ReachedInvariant q L Z w) → Made q L Z w me a p m' o → ReachedInvariant q L Z (after_outcome w me a m' o)
   made_keeps w me a m' o p t =
-      let c : Carried L Z w (after_outcome w me a m' o) p.rest (t.does.front' ∷ t.does.rest') = carries.told w me a m' o p.front p.rest (t.does.front' ∷ t.does.rest') (numbered q L Z w me a p m' o t) p.fact in
+      let c : Carried L Z w (after_outcome w me a m' o) (p.front ∷ p.rest) (t.does.front' ∷ t.does.rest') = carries.told w me a m' o p.front p.rest (t.does.front' ∷ t.does.rest') (numbered q L Z w me a p m' o t) p.fact in
       record {
         front = t.does.front';
         rest = t.does.rest';

@@ -1,13 +1,13 @@
 -- What a step keeps of the nodes for other actors, and of those that were never used; for both queues.
-use Rattle.std.proofs.Common.{◌≡◌, ◌≢◌, ℕ, ◌+◌, ◌-◌, ◌≤◌, ◌<◌, Bool, true, false, nat_le, List, ◌∷◌, length, Option, Some, None, IfSome, refl, sym, ap, ◌∙◌, subst, arith, inl, inr}
+use Rattle.std.proofs.Common.{◌≡◌, ◌≢◌, ◌⊎◌, ℕ, ◌+◌, ◌-◌, ◌≤◌, ◌<◌, Bool, true, false, nat_le, List, ◌∷◌, length, Option, Some, None, IfSome, refl, sym, ap, ◌∙◌, subst, arith, inl, inr}
 use Rattle.std.proofs.lemmas.Bool.{leb-true}
-use Rattle.step_machine.specs.Below.{Actor, Shared, node_at}
+use Rattle.step_machine.specs.Below.{reserved_node, Node, Actor, Shared, node_at}
 use Rattle.step_machine.specs.Machine.{World, actor_of}
 use Rattle.step_machine.specs.Range.{WorldInRange}
-use Rattle.step_machine.specs.Places.{one_if, times, held, set_aside}
+use Rattle.step_machine.specs.Places.{IsNull, IsEnd, one_if, times, held, set_aside}
 use Rattle.step_machine.proofs.Range.{writes}
 use Rattle.step_machine.proofs.Reached.{actor_stands}
-use Rattle.step_machine.proofs.Chains.{one_if_same, chain_some, second_leads, next_in, last_times}
+use Rattle.step_machine.proofs.Chains.{one_if_same, chain_some, second_or_end, next_in, last_times}
 use Rattle.step_machine.proofs.Counting.{holds, elsewhere, elsewhere_one, elsewhere_two, IsNew, used, used_most, used_above, held_one}
 use Rattle.step_machine.proofs.Effects.{Shape, WritesOneNode, OwnerOf, hand_kept, free_kept, queue_kept, value_kept}
 use Rattle.step_machine.proofs.StaleReferences.{Rises}
@@ -34,35 +34,6 @@ is_new w me a queue free (Some k) g is sh own =
     let low : k ≤ w.shared.fresh = used_some k w.shared.fresh (omega arith) in
     (own.0, omega arith, omega arith)
 
--- what a step keeps of the nodes for another actor
-pub nodes_kept : (w : World) (me you : ℕ) (a c : Actor) (m' : Shared) (front : ℕ) (rest free : List ℕ) → you ≢ me → 1 ≤ w.shared.head.node → actor_of w me ≡ Some a → actor_of w you ≡ Some c → Shape w.shared (elsewhere w) (front ∷ rest) free → Rises w.shared.free m'.free → WritesOneNode w.shared m' (front ∷ rest) a → NodesRely w.shared m' c
-nodes_kept w me you a c m' front rest free other some is there sh rises writes =
-    record {
-      free = rises;
-      top = λ one. free_kept w.shared m' (elsewhere w) front rest free a sh writes mine w.shared.free.node one (top one);
-      hand = λ n one here. hand_kept w.shared m' (elsewhere w) front rest free a c sh writes (λ i. elsewhere_two w me you a c i (λ q. other (sym q)) is there) n one here;
-      dummy = λ leads. queue_kept w.shared m' (elsewhere w) front rest free a sh writes mine w.shared.head.node some dummy leads;
-      front = λ leads. value_kept w.shared m' (elsewhere w) (front ∷ rest) free a sh writes mine (next_of w.shared w.shared.head.node).node leads (second leads);
-    }
-  where
-    mine : (n : ℕ) → holds n a ≤ elsewhere w n
-    mine n = elsewhere_one w me a n is
-
-    top : 1 ≤ w.shared.free.node → 1 ≤ times w.shared.free.node free
-    top one =
-        let f : (ns : List ℕ) × (free ≡ w.shared.free.node ∷ ns) = chain_some w.shared.nodes w.shared.free.node free one sh.free_chain in
-        subst (λ ns. 1 ≤ times w.shared.free.node ns) (sym f.1) (omega (arith, one_if_same w.shared.free.node w.shared.free.node refl))
-
-    dummy : 1 ≤ times w.shared.head.node (front ∷ rest)
-    dummy = omega (arith, one_if_same w.shared.head.node front sh.queue_chain.0)
-
-    second : 1 ≤ (next_of w.shared w.shared.head.node).node → 1 ≤ times (next_of w.shared w.shared.head.node).node (front ∷ rest)
-    second leads =
-        let x : ℕ = (next_of w.shared w.shared.head.node).node in
-        let f : (ns : List ℕ) × (rest ≡ x ∷ ns) =
-        second_leads w.shared.nodes w.shared.head.node front x rest sh.queue_chain (ap (next_in w.shared.nodes) (sym sh.queue_chain.0)) leads in
-        subst (λ ns. 1 ≤ times x (front ∷ ns)) (sym f.1) (omega (arith, one_if_same x x refl))
-
 -- nodes that were never used stay as they are
 pub unused_kept : (m m' : Shared) (E : ℕ → ℕ) (front : ℕ) (rest free : List ℕ) (a : Actor) → Shape m E (front ∷ rest) free → WritesOneNode m m' (front ∷ rest) a → ((n : ℕ) → holds n a ≤ E n) → (n : ℕ) → m.fresh < n → node_at m' n ≡ node_at m n
 unused_kept m m' E front rest free a sh w mine n above = w.others n (omega arith) (go w.whose)
@@ -78,3 +49,39 @@ unused_kept m m' E front rest free a sh w mine n above = w.others n (omega arith
     go (inr (inr last)) q =
         let e : 1 ≤ times n (front ∷ rest) = subst (λ k. 1 ≤ times k (front ∷ rest)) (sym (q ∙ last.0)) (last_times front rest) in
         omega (arith, nowhere)
+
+-- what a step keeps of the nodes for another actor
+pub nodes_kept : (w : World) (me you : ℕ) (a c : Actor) (m' : Shared) (front : ℕ) (rest free : List ℕ) → you ≢ me → w.shared.fresh < reserved_node → 1 ≤ w.shared.head.node → actor_of w me ≡ Some a → actor_of w you ≡ Some c → Shape w.shared (elsewhere w) (front ∷ rest) free → Rises w.shared.free m'.free → WritesOneNode w.shared m' (front ∷ rest) a → NodesRely w.shared m' c
+nodes_kept w me you a c m' front rest free other few some is there sh rises writes =
+    record {
+      free = rises;
+      top = λ one. free_kept w.shared m' (elsewhere w) front rest free a sh writes mine w.shared.free.node one (top one);
+      hand = λ n one here. hand_kept w.shared m' (elsewhere w) front rest free a c sh writes (λ i. elsewhere_two w me you a c i (λ q. other (sym q)) is there) n one here;
+      dummy = λ leads. queue_kept w.shared m' (elsewhere w) front rest free a sh writes mine w.shared.head.node some dummy leads;
+      front = λ leads. behind leads (second_or_end IsEnd w.shared.nodes w.shared.head.node front rest sh.queue_chain);
+    }
+  where
+    mine : (n : ℕ) → holds n a ≤ elsewhere w n
+    mine n = elsewhere_one w me a n is
+
+    top : 1 ≤ w.shared.free.node → 1 ≤ times w.shared.free.node free
+    top one =
+        let f : (ns : List ℕ) × (free ≡ w.shared.free.node ∷ ns) = chain_some IsNull w.shared.nodes w.shared.free.node free (λ null. omega (arith, one, null)) sh.free_chain in
+        subst (λ ns. 1 ≤ times w.shared.free.node ns) (sym f.1) (omega (arith, one_if_same w.shared.free.node w.shared.free.node refl))
+
+    dummy : 1 ≤ times w.shared.head.node (front ∷ rest)
+    dummy = omega (arith, one_if_same w.shared.head.node front sh.queue_chain.0)
+
+    x : ℕ
+    x = (next_of w.shared w.shared.head.node).node
+
+    leads_to : next_in w.shared.nodes front ≡ x
+    leads_to = ap (next_in w.shared.nodes) (sym sh.queue_chain.0)
+
+    behind : 1 ≤ x → ((ns : List ℕ) × (rest ≡ next_in w.shared.nodes front ∷ ns)) ⊎ IsEnd (next_in w.shared.nodes front) → (node_at m' x).value ≡ (node_at w.shared x).value
+    behind one (inl second) =
+        value_kept w.shared m' (elsewhere w) (front ∷ rest) free a sh writes mine x one
+        (subst (λ ns. 1 ≤ times x (front ∷ ns)) (sym second.1) (omega (arith, one_if_same x (next_in w.shared.nodes front) (sym leads_to))))
+    behind one (inr (inl null)) = absurd (omega (arith, one, leads_to, null))
+    behind one (inr (inr closed)) =
+        ap (λ (n : Node). n.value) (unused_kept w.shared m' (elsewhere w) front rest free a sh writes mine x (omega (arith, few, leads_to, closed)))

@@ -3,9 +3,9 @@
 use Rattle.std.proofs.Common.{◌≡◌, ◌≢◌, ℕ, ◌+◌, ◌<◌, ◌⊎◌, inl, inr, Bool, true, false, nat_eq, nat_lt, if◌then◌else◌, Option, Some, None, IfSome, List, set, length, get_or, refl, sym, ap, ◌∙◌, subst, arith}
 use Rattle.std.specs.Prelude.{slice_get}
 use Rattle.std.proofs.lemmas.Option.{same_Some, slice_get_within, get_or_from_slice_get}
-use Rattle.step_machine.specs.Below.{is_null, same_ref, Kind, Line, N1, N2, N4, N5, F1, F3, E3, E5, E7, E9, E17, D2, D5, D12, D13, A3, B1, B3, B4, B6, Op, Enq, Deq, Reply, Done, Stamped, empty, Plays, by_point, IsSequentialRun, queue_after, Setup, Held, Actor, Outcome, Shared, Found, action, outcome, goes, ends, effect, empties_hand, to_pocket, with_node, freed, unlocked, busy_or, gives_up, from_pocket, begun}
+use Rattle.step_machine.specs.Below.{is_null, same_ref, Kind, Line, N1, N2, N4, N5, F1, F3, E3, E5, E7, E9, E17, D2, D5, D12, D13, A3, B1, B3, B4, B6, A5, A7, S1, S3, S4, S6, S8, S9, is_shut, null, left, left_with_node, Op, Enq, Deq, Shut, Reply, Done, Refused, Stamped, empty, Plays, by_point, IsSequentialRun, queue_after, Setup, Held, Actor, Outcome, Shared, Found, action, outcome, goes, ends, effect, empties_hand, to_pocket, with_node, freed, unlocked, busy_or, gives_up, from_pocket, begun}
 use Rattle.std.specs.List.{flat_map}
-use Rattle.step_machine.specs.Chains.{queue_values}
+use Rattle.step_machine.specs.Chains.{queue_in}
 use Rattle.step_machine.specs.Entries.{entry_of}
 use Rattle.step_machine.specs.Machine.{World, actor_of, opening, new_operation, with_outcome, with_operation, entry_or, after_outcome, with_actor, run, IsReached}
 use Rattle.step_machine.specs.Completion.{due_of, completed_reply}
@@ -17,7 +17,7 @@ use Rattle.step_machine.proofs.StampsMoves.{moves_kept, may_rest_all}
 use Rattle.step_machine.proofs.Reached.{some_of, actor_stands}
 use Rattle.step_machine.proofs.CompletionSteps.{entered, entry_in, bare_completion, taken, map_agree, entry_kept, actor_same, actor_other}
 use Rattle.step_machine.proofs.Replay.{before}
-use Rattle.step_machine.proofs.Legal.{SimulationRelation, WasEmpty, queue_of}
+use Rattle.step_machine.proofs.Legal.{SimulationRelation, WasEmpty}
 
 -- an outcome leaves the call of its actor
 record SameOp (a : Actor) (o : Outcome) : Type 0 where
@@ -31,6 +31,14 @@ unlocked_op : (now : ℕ) (due : Option Reply) (a : Actor) → SameOp a (unlocke
 unlocked_op now (Some Done) a = record { same = refl }
 unlocked_op now _ a = record { same = refl }
 
+left_op : (now : ℕ) (due : Option Reply) (a : Actor) → SameOp a (left now due a)
+left_op now (Some (Refused why)) a = record { same = refl }
+left_op now _ a = record { same = refl }
+
+left_with_node_op : (now : ℕ) (due : Option Reply) (a : Actor) → SameOp a (left_with_node now due a)
+left_with_node_op now (Some (Refused why)) a = record { same = refl }
+left_with_node_op now _ a = record { same = refl }
+
 op_kept : (s : Setup) (now me : ℕ) (a : Actor) (l : Line) (c : Found (action s me a l)) → SameOp a (outcome s now me a l c)
 op_kept s now me a N2 c = both (SameOp a) (is_null c) (both (SameOp a) (nat_lt a.f s.size) (record { same = refl }) (record { same = refl })) (both (SameOp a) (nat_eq c.count s.limit) (record { same = refl }) (record { same = refl }))
 op_kept s now me a N4 c = both (SameOp a) (same_ref c a.top) (record { same = refl }) (record { same = refl })
@@ -38,20 +46,27 @@ op_kept s now me a N5 c = both (SameOp a) (nat_eq c a.f) (record { same = refl }
 op_kept s now me a F1 c = both (SameOp a) (nat_eq c.count s.limit) (record { same = (freed_op s.kind now a.due (record a { top = c })).same }) (record { same = refl })
 op_kept s now me a F3 c = both (SameOp a) (same_ref c a.top) (record { same = (freed_op s.kind now a.due (empties_hand a)).same }) (record { same = refl })
 op_kept s now me a E3 c = both (SameOp a) (nat_eq c.count s.limit) (record { same = refl }) (record { same = refl })
-op_kept s now me a E7 c = both (SameOp a) (same_ref c a.tail) (both (SameOp a) (is_null a.next) (record { same = refl }) (both (SameOp a) (nat_eq a.tail.count s.limit) (record { same = refl }) (record { same = refl }))) (record { same = refl })
+op_kept s now me a E7 c = both (SameOp a) (same_ref c a.tail) (both (SameOp a) (is_null a.next) (record { same = refl }) (both (SameOp a) (is_shut a.next) (record { same = refl }) (both (SameOp a) (nat_eq a.tail.count s.limit) (record { same = refl }) (record { same = refl })))) (record { same = refl })
 op_kept s now me a E9 c = both (SameOp a) (same_ref c a.next) (ended (nat_eq a.tail.count s.limit)) (record { same = refl })
   where
     ended : (b : Bool) → SameOp a (effect now (if b then ends now Done (empties_hand (record a { due = Some Done })) else goes E17 (empties_hand (record a { due = Some Done }))))
     ended true = record { same = refl }
     ended false = record { same = refl }
-op_kept s now me a D5 c = both (SameOp a) (same_ref c a.head) (both (SameOp a) (nat_eq a.head.node a.tail.node) (both (SameOp a) (is_null a.next) (record { same = refl }) (both (SameOp a) (nat_eq a.tail.count s.limit) (record { same = refl }) (record { same = refl }))) (record { same = refl })) (record { same = refl })
+op_kept s now me a D5 c = both (SameOp a) (same_ref c a.head) (both (SameOp a) (nat_eq a.head.node a.tail.node) (both (SameOp a) (is_null a.next) (record { same = refl }) (both (SameOp a) (is_shut a.next) (record { same = refl }) (both (SameOp a) (nat_eq a.tail.count s.limit) (record { same = refl }) (record { same = refl })))) (record { same = refl })) (record { same = refl })
 op_kept s now me a D12 c = both (SameOp a) (nat_eq a.head.count s.limit) (record { same = refl }) (record { same = refl })
 op_kept s now me a D13 c = both (SameOp a) (same_ref c a.head) (record { same = refl }) (record { same = refl })
 op_kept s now me a A3 c = both (SameOp a) (nat_eq c 0) (record { same = refl }) (record { same = refl })
 op_kept s now me a B1 c = both (SameOp a) (nat_eq c 0) (record { same = refl }) (record { same = refl })
-op_kept s now me a B3 c = both (SameOp a) (is_null c) (record { same = refl }) (record { same = refl })
+op_kept s now me a B3 c = both (SameOp a) (is_null c) (record { same = refl }) (both (SameOp a) (is_shut c) (record { same = refl }) (record { same = refl }))
 op_kept s now me a B4 c = both (SameOp a) (nat_eq a.head.count s.limit) (record { same = refl }) (record { same = refl })
 op_kept s now me a B6 c = unlocked_op now a.due a
+op_kept s now me a A5 c = both (SameOp a) (same_ref c null) (record { same = refl }) (record { same = refl })
+op_kept s now me a A7 c = left_with_node_op now a.due a
+op_kept s now me a S3 c = both (SameOp a) (same_ref c a.tail) (both (SameOp a) (is_null a.next) (record { same = refl }) (both (SameOp a) (is_shut a.next) (record { same = refl }) (both (SameOp a) (nat_eq a.tail.count s.limit) (record { same = refl }) (record { same = refl })))) (record { same = refl })
+op_kept s now me a S4 c = both (SameOp a) (same_ref c a.next) (record { same = refl }) (record { same = refl })
+op_kept s now me a S6 c = both (SameOp a) (nat_eq c 0) (record { same = refl }) (record { same = refl })
+op_kept s now me a S8 c = both (SameOp a) (same_ref c null) (record { same = refl }) (record { same = refl })
+op_kept s now me a S9 c = left_op now a.due a
 op_kept s now me a _ c = record { same = refl }
 
 -- a step leaves the call of its actor
@@ -70,6 +85,8 @@ same_op_given now a E5 = refl
 same_op_given now a D2 = refl
 same_op_given now a A3 = refl
 same_op_given now a B1 = refl
+same_op_given now a S1 = refl
+same_op_given now a S6 = refl
 same_op_given now a _ = tt
 
 -- what stands in a list once an operation is added or changed
@@ -153,7 +170,7 @@ simulation_with w me a b queue is same new ac = (
   record {
     replays = subst (λ t. IsSequentialRun empty (by_point t)) (sym same) ac.replays;
     list = ap (λ t. queue_after empty (by_point t)) same ∙ ac.list;
-    plays = subst (λ t. Plays empty (flat_map entry_of (by_point t)) (queue_of (queue_values w.shared queue))) (sym same) ac.plays;
+    plays = subst (λ t. Plays empty (flat_map entry_of (by_point t)) (queue_in w.shared queue)) (sym same) ac.plays;
     counted = ac.counted ∙ sym (ap taken same);
     calls = λ you e c l s there line entry got. pick you e c l s line entry got (actor_cases w me a b is you c there);
   },
@@ -172,3 +189,4 @@ from_pocket_entry l (Some held) a = refl
 pub begun_entry : (kind : Kind) (me : ℕ) (op : Op) (a : Actor) → (begun kind me op a).entry ≡ None
 begun_entry kind me (Enq body) a = from_pocket_entry (with_node kind) a.pocket _
 begun_entry kind me Deq a = from_pocket_entry F1 a.pocket _
+begun_entry kind me Shut a = refl

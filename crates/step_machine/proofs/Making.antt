@@ -1,16 +1,18 @@
 -- What the calls of a world need of it, and what they keep: registers that can be used, room, and the list of moves.
-use Rattle.std.proofs.Common.{◌≡◌, ℕ, ◌+◌, ◌-◌, ◌^◌, ◌<◌, ◌≤◌, ◌⊎◌, inl, inr, Option, Some, None, IfSome, List, length, map, min, set, slice_get, refl, sym, ap, subst, arith}
+use Rattle.std.proofs.Common.{◌≡◌, ◌≢◌, ℕ, ◌+◌, ◌-◌, ◌^◌, ◌<◌, ◌≤◌, ◌⊎◌, inl, inr, Option, Some, None, IfSome, List, length, map, min, set, slice_get, refl, sym, ap, subst, arith}
 use Rattle.std.proofs.lemmas.Option.{slice_get_within}
-use Rattle.step_machine.specs.Below.{Line, N1, Op, Stamped, Actor, Outcome, gives_up, begun, room_after, RegistersFit}
+use Rattle.step_machine.specs.Below.{reserved_node, Line, N1, D12, B4, Op, Stamped, Actor, Outcome, gives_up, begun, room_after, RegistersFit, ReadsFit}
 use Rattle.step_machine.specs.Machine.{World, actor_of, with_operation, IsMade, made as made_by}
 use Rattle.step_machine.specs.Views.{wants_node, unrecorded, HasNodes, HasEntry}
 use Rattle.step_machine.specs.Range.{WorldInRange, ActorInRange}
+use Rattle.step_machine.specs.ProgramCounters.{NonNullAt}
 use Rattle.step_machine.specs.Stamps.{makers}
 use Rattle.step_machine.proofs.EachMove.{kept_after}
 use Rattle.step_machine.proofs.StampsInvariants.{StampsInvariant, OperationAt}
 use Rattle.step_machine.proofs.Giving.{begun_looks}
 use Rattle.step_machine.proofs.Growth.{Settles, given_settles}
-use Rattle.step_machine.proofs.Reached.{actor_in_range, made_in_range, actor_stands}
+use Rattle.step_machine.proofs.Reached.{actor_in_range, made_reached, made_in_range, actor_stands}
+use Rattle.step_machine.proofs.EitherQueue.{stands_at}
 use Rattle.step_machine.proofs.Rooms.{has_entry, begin_nodes, begin_entries, step_nodes, step_entries}
 
 -- there is room for all nodes that were used
@@ -38,9 +40,24 @@ ready w room me a made at within nodes =
       tail_count = r.registers.tail.count;
       head_node = omega (arith, r.registers.head.node);
       head_count = r.registers.head.count;
-      next_node = omega (arith, r.registers.next.node);
       next_count = r.registers.next.count;
     }
+
+-- where a line reads through the register `next`, it names a node
+pub reads : (w : World) (room me : ℕ) (a : Actor) (l : Line) → IsMade w → actor_of w me ≡ Some a → a.line ≡ Some l → HasNodes w.setup.size w.shared.fresh room w.actors → ReadsFit l room a
+reads w room me a l made at here nodes = go l (stands_at w (made_reached w made) me a l at here).1
+  where
+    h : WorldInRange w
+    h = made_in_range w made
+
+    is_node : (a.next.node ≤ w.shared.fresh) ⊎ (a.next.node ≡ reserved_node) → a.next.node ≢ reserved_node → a.next.node ≤ room
+    is_node (inl low) other = let some : w.shared.fresh ≤ room = fresh_room w room h nodes in omega arith
+    is_node (inr end) other = absurd (other end)
+
+    go : (l : Line) → NonNullAt l a → ReadsFit l room a
+    go D12 n = is_node (actor_in_range w me a h at).registers.next.node n.2
+    go B4 n = is_node (actor_in_range w me a h at).registers.next.node n.2
+    go _ n = tt
 
 -- where an actor's operation stands, there is one
 entry_within : (w : World) (me : ℕ) (a : Actor) (l : Line) → IsMade w → actor_of w me ≡ Some a → a.line ≡ Some l → IfSome a.entry (λ e. e < length w.operations)

@@ -1,9 +1,9 @@
 -- What an actor of the non-blocking queue knows of the shared words before a line of its own, and that steps of others
 -- keep it.
-use Rattle.std.proofs.Common.{◌≡◌, ◌≢◌, ℕ, ◌≤◌, ◌<◌, true, List, ◌∷◌, Option, Some, None, sym, ap, ◌∙◌, subst, arith, ◌⊎◌, inl, inr}
-use Rattle.step_machine.specs.Below.{Ref, NonBlocking, Line, N1, E3, E5, E6, E7, E9, E13, E17, D3, D4, D5, D10, D12, D13, Node, Actor, Setup, Shared, node_at}
+use Rattle.std.proofs.Common.{◌≡◌, ◌≢◌, ℕ, ◌≤◌, ◌<◌, true, false, nat_eq, List, ◌∷◌, Option, Some, None, sym, ap, ◌∙◌, subst, arith, ◌⊎◌, inl, inr}
+use Rattle.step_machine.specs.Below.{Ref, reserved_node, NonBlocking, Line, N1, E3, E5, E6, E7, E9, E13, E17, D3, D4, D5, D10, D12, D13, S2, S3, S4, S5, Node, Actor, Setup, Shared, node_at}
 use Rattle.step_machine.specs.ProgramCounters.{NonNullAt}
-use Rattle.step_machine.specs.Chains.{last_node}
+use Rattle.step_machine.specs.Chains.{last_node, is_shut_chain}
 use Rattle.step_machine.specs.Lag.{TailLags}
 use Rattle.step_machine.proofs.Chains.{last_times}
 use Rattle.step_machine.proofs.Counting.{holds, holds_own}
@@ -21,6 +21,10 @@ Ready limit m a = ((node_at m a.node).value ≡ a.val) × ((next_of m a.node).no
 abbrev pub WasNext : Shared → Actor → Type 0
 WasNext m a = (next_of m a.tail.node ≡ a.next) ⊎ ((a.next.node ≡ 0) × (a.next.count < (next_of m a.tail.node).count))
 
+pub next_stays_there : (m : Shared) (a : Actor) → a.next.node ≢ 0 → WasNext m a → next_of m a.tail.node ≡ a.next
+next_stays_there m a some (inl here) = here
+next_stays_there m a some (inr gone) = absurd (some gone.0)
+
 -- Tail may go on to a node: if the register `tail` is in the word still, that node follows
 abbrev pub MayGoOn : Shared → Actor → (to : ℕ) → Type 0
 MayGoOn m a to = IsCurrentOrStale m.tail a.tail × (m.tail ≡ a.tail → (next_of m a.tail.node).node ≡ to)
@@ -34,7 +38,7 @@ MayTake m a =
 -- what a dequeue knows that read Head, Tail and the node after
 abbrev pub Looked : Shared → Actor → Type 0
 Looked m a =
-    (m.head ≡ a.head → (1 ≤ a.next.node → next_of m a.head.node ≡ a.next) × (a.tail.node ≢ a.head.node → (m.tail.node ≢ a.head.node) × (1 ≤ a.next.node)))
+    (m.head ≡ a.head → (1 ≤ a.next.node → next_of m a.head.node ≡ a.next) × (a.tail.node ≢ a.head.node → (m.tail.node ≢ a.head.node) × (1 ≤ a.next.node) × (a.next.node ≢ reserved_node)))
 
 -- what an actor knows before a line of its own; `Z` is what is known of a number at which the queue was found empty
 abbrev pub OwnAt : (Z : ℕ → Type 0) → Setup → Shared → (last : ℕ) → Actor → Option Line → Type 0
@@ -54,6 +58,11 @@ OwnAt Z s m last a (Some D5) =
 OwnAt Z s m last a (Some D10) = MayGoOn m a a.next.node
 OwnAt Z s m last a (Some D12) = MayTake m a
 OwnAt Z s m last a (Some D13) = MayTake m a × (m.head ≡ a.head → (node_at m a.next.node).value ≡ a.val)
+OwnAt Z s m last a (Some S2) = IsCurrentOrStale m.tail a.tail
+OwnAt Z s m last a (Some S3) = IsCurrentOrStale m.tail a.tail × (m.tail ≡ a.tail → WasNext m a)
+OwnAt Z s m last a (Some S4) =
+    (a.next.node ≡ 0) × ((a.next.count < (next_of m a.tail.node).count) ⊎ ((m.tail ≡ a.tail) × (next_of m a.tail.node ≡ a.next)))
+OwnAt Z s m last a (Some S5) = MayGoOn m a a.next.node
 OwnAt Z s m last a _ = Unit {0}
 
 -- where its operation stands says nothing of what an actor knows
@@ -181,7 +190,7 @@ module _ (s : Setup) (m m' : Shared) (c : Actor) (g : Guarantee m m') (n : Nodes
     was_on m.tail m'.tail c.tail g.tail h.1,
     λ e. let same : m'.head ≡ m.head = head_is h.0 e in let was : m.head ≡ c.head = sym same ∙ e in (
       λ some. next_stays c.next some was ((h.2 was).0 some),
-      λ d. (off_stays same was ((h.2 was).1 d).0, ((h.2 was).1 d).1),
+      λ d. (off_stays same was ((h.2 was).1 d).0, ((h.2 was).1 d).1, ((h.2 was).1 d).2),
     ),
     λ e none. h.3 (sym (head_is h.0 e) ∙ e) none,
   )
@@ -197,12 +206,20 @@ module _ (s : Setup) (m m' : Shared) (c : Actor) (g : Guarantee m m') (n : Nodes
 
       leads : m.head ≡ c.head → 1 ≤ (next_of m m.head.node).node
       leads was = let e : (next_of m m.head.node).node ≡ c.next.node = at was in let some : 1 ≤ c.next.node = p.1 in omega arith
+  still_knows Z last last' me S2 f p h = was_on m.tail m'.tail c.tail g.tail h
+  still_knows Z last last' me S3 f p h = (
+    was_on m.tail m'.tail c.tail g.tail h.0,
+    λ e. let was : m.tail ≡ c.tail = sym (tail_is h.0 e) ∙ e in was_next was (h.1 was),
+  )
+  still_knows Z last last' me S4 f p h = (h.0, linked_next c.next h.1 p h.0)
+  still_knows Z last last' me S5 f p h = may_go_on c.next.node p.1 h
   still_knows Z last last' me _ f p h = tt
 
--- where Tail is, and that the `next` of the last node is not worn out
+-- where Tail is: at the last node once the queue is shut; and that the `next` of the last node is not worn out before
 pub record LagsWithRoom (s : Setup) (m : Shared) (queue : List ℕ) : Type 0 where
   pub lag : TailLags m queue
-  pub last_room : (next_of m (last_node queue)).count ≢ s.limit
+  pub last_room : is_shut_chain m queue ≡ false → (next_of m (last_node queue)).count ≢ s.limit
+  pub shut_last : is_shut_chain m queue ≡ true → m.tail.node ≡ last_node queue
 
 pub own_kept : (Z : ℕ → Type 0) (s : Setup) (m m' : Shared) (last last' you : ℕ) (c : Actor) (l : Line) → Guarantee m m' → NodesRely m m' c → FixedAt s.limit you c (Some l) → NonNullAt l c → OwnsAt m you (Some l) → OwnAt Z s m last c (Some l) → OwnAt Z s m' last' c (Some l)
 own_kept Z s m m' last last' you c l g n f p o h = still_knows s m m' c g n Z last last' you l f p h
@@ -221,8 +238,19 @@ moves_nothing s m m' front rest k h =
       tail_on = inl k.tail;
       tail_next = inl (ap (λ (x : Node). x.next) (k.nodes m.tail.node (tail_times m (front ∷ rest) h.lag)));
       off = λ e d. subst (λ (r : Ref). r.node ≢ m.head.node) (sym k.tail) d;
-      counts = k.counts;
+      counts = λ n one. omega (arith, k.counts n one);
     }
+
+pub words_stay : (s : Setup) (m m' : Shared) (front : ℕ) (rest : List ℕ) → QueueStays m m' (front ∷ rest) → LagsWithRoom s m (front ∷ rest) → LagsWithRoom s m' (front ∷ rest)
+words_stay s m m' front rest k h =
+    record {
+      lag = lag_same m m' (front ∷ rest) k.tail k.head h.lag;
+      last_room = subst (λ (x : Node). nat_eq x.next.node reserved_node ≡ false → x.next.count ≢ s.limit) (sym last) h.last_room;
+      shut_last = λ e. ap (λ (r : Ref). r.node) k.tail ∙ h.shut_last (ap (λ (x : Node). nat_eq x.next.node reserved_node) (sym last) ∙ e);
+    }
+  where
+    last : node_at m' (last_node (front ∷ rest)) ≡ node_at m (last_node (front ∷ rest))
+    last = k.nodes (last_node (front ∷ rest)) (last_times front rest)
 
 -- what the non-blocking queue asserts alone
 abbrev pub non_blocking : Queue
@@ -236,11 +264,8 @@ non_blocking =
       own_more = own_more;
       own_kept = own_kept;
       locks_kept = λ m m' last last' you l g h. locks_kept m m' you l g h;
-      words_stay = λ s m m' front rest k h. record {
-        lag = lag_same m m' (front ∷ rest) k.tail k.head h.lag;
-        last_room = subst (λ (x : Node). x.next.count ≢ s.limit) (sym (k.nodes (last_node (front ∷ rest)) (last_times front rest))) h.last_room;
-      };
-      relies = λ s m m' front rest k h last you. moves_nothing s m m' front rest k h;
+      words_stay = words_stay;
+      relies = λ s m m' front rest k h you. moves_nothing s m m' front rest k h;
     }
 
 -- what an actor knows before its line

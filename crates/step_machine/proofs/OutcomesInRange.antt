@@ -1,8 +1,8 @@
 -- What a step makes of its actor is in range.
 use Rattle.std.proofs.Common.{◌≡◌, ℕ, ◌+◌, ◌≤◌, Bool, true, false, nat_eq, nat_lt, if◌then◌else◌, Option, Some, None, IfSome, arith}
 use Rattle.std.proofs.lemmas.Bool.{ltb-true}
-use Rattle.step_machine.specs.Below.{Ref, is_null, same_ref, Kind, TwoLock, NonBlocking, Line, N1, N2, N3, N4, N5, F1, F3, E3, E5, E6, E7, E9, E17, D2, D3, D4, D5, D12, D13, A3, A4, B1, B2, B3, B4, B5, B6, Taken, Reply, Done, Setup, Actor, Outcome, word, Found, action, outcome, freed, unlocked, sets_aside, goes, ends, effect, empties_hand, to_pocket, with_node, fills_hand, busy_or, gives_up}
-use Rattle.step_machine.specs.Range.{RefInRange, ValueInRange, HeldInRange, RegistersInRange, LineInRange}
+use Rattle.step_machine.specs.Below.{Ref, is_null, same_ref, Kind, TwoLock, NonBlocking, Line, N1, N2, N3, N4, N5, F1, F3, E3, E5, E6, E7, E9, E17, D2, D3, D4, D5, D12, D13, A3, A4, B1, B2, B3, B4, B5, B6, A5, A7, S1, S2, S3, S4, S6, S7, S8, S9, is_shut, null, left, left_with_node, Taken, Reply, Done, Refused, Setup, Actor, Outcome, word, Found, action, outcome, freed, unlocked, sets_aside, goes, ends, effect, empties_hand, to_pocket, with_node, fills_hand, busy_or, gives_up}
+use Rattle.step_machine.specs.Range.{RefInRange, NextInRange, ValueInRange, HeldInRange, RegistersInRange, LineInRange}
 use Rattle.step_machine.proofs.Choices.{either, both}
 use Rattle.step_machine.proofs.Range.{ContentInRange}
 
@@ -26,7 +26,7 @@ module _ (s : Setup) (n k : ℕ) where
   with_head : (a : Actor) (c : Ref) → RegistersInRange s n k a → RefInRange s.limit n c → RegistersInRange s n k (record a { head = c })
   with_head a c h g = record { op = h.op; f = h.f; top = h.top; node = h.node; mark = h.mark; tail = h.tail; head = g; next = h.next; val = h.val }
 
-  with_next : (a : Actor) (c : Ref) → RegistersInRange s n k a → RefInRange s.limit n c → RegistersInRange s n k (record a { next = c })
+  with_next : (a : Actor) (c : Ref) → RegistersInRange s n k a → NextInRange s.limit n c → RegistersInRange s n k (record a { next = c })
   with_next a c h g = record { op = h.op; f = h.f; top = h.top; node = h.node; mark = h.mark; tail = h.tail; head = h.head; next = g; val = h.val }
 
   with_val : (a : Actor) (c : Taken) → RegistersInRange s n k a → ValueInRange k c → RegistersInRange s n k (record a { val = c })
@@ -43,6 +43,14 @@ module _ (s : Setup) (n k : ℕ) where
   unlocked_kept : (now : ℕ) (due : Option Reply) (a : Actor) → RegistersInRange s n k a → IfSome a.pocket (HeldInRange s.limit n) → OutcomeInRange s n k (unlocked now due a)
   unlocked_kept now (Some Done) a h p = record { registers = h; pocket = p; line = tt }
   unlocked_kept now _ a h p = record { registers = h; pocket = p; line = tt }
+
+  left_kept : (now : ℕ) (due : Option Reply) (a : Actor) → RegistersInRange s n k a → IfSome a.pocket (HeldInRange s.limit n) → OutcomeInRange s n k (left now due a)
+  left_kept now (Some (Refused why)) a h p = record { registers = h; pocket = p; line = tt }
+  left_kept now _ a h p = record { registers = h; pocket = p; line = tt }
+
+  left_with_node_kept : (now : ℕ) (due : Option Reply) (a : Actor) → RegistersInRange s n k a → IfSome a.pocket (HeldInRange s.limit n) → OutcomeInRange s n k (left_with_node now due a)
+  left_with_node_kept now (Some (Refused why)) a h p = record { registers = h; pocket = record { node = h.node; mark = h.mark }; line = tt }
+  left_with_node_kept now _ a h p = record { registers = h; pocket = p; line = tt }
 
   with_node_kept : (kind : Kind) (a : Actor) → RegistersInRange s n k a → IfSome a.pocket (HeldInRange s.limit n) → OutcomeInRange s n k (goes (with_node kind) a)
   with_node_kept TwoLock a h p = record { registers = h; pocket = p; line = tt }
@@ -89,7 +97,8 @@ module _ (s : Setup) (n k : ℕ) where
   outcome_in_range now me a E7 c h p w g =
       both (OutcomeInRange s n k) (same_ref c a.tail)
       (both (OutcomeInRange s n k) (is_null a.next) (record { registers = h; pocket = p; line = tt })
-      (both (OutcomeInRange s n k) (nat_eq a.tail.count s.limit) (record { registers = h; pocket = record { node = h.node; mark = h.mark }; line = tt }) (record { registers = h; pocket = p; line = tt })))
+      (both (OutcomeInRange s n k) (is_shut a.next) (record { registers = h; pocket = record { node = h.node; mark = h.mark }; line = tt })
+      (both (OutcomeInRange s n k) (nat_eq a.tail.count s.limit) (record { registers = h; pocket = record { node = h.node; mark = h.mark }; line = tt }) (record { registers = h; pocket = p; line = tt }))))
       (record { registers = h; pocket = p; line = tt })
   outcome_in_range now me a E9 c h p w g =
       both (OutcomeInRange s n k) (same_ref c a.next) (ended_or (nat_eq a.tail.count s.limit) now (empties_hand (record a { due = Some Done })) h p) (record { registers = h; pocket = p; line = tt })
@@ -100,7 +109,8 @@ module _ (s : Setup) (n k : ℕ) where
       both (OutcomeInRange s n k) (same_ref c a.head)
       (both (OutcomeInRange s n k) (nat_eq a.head.node a.tail.node)
       (both (OutcomeInRange s n k) (is_null a.next) (record { registers = h; pocket = p; line = tt })
-      (both (OutcomeInRange s n k) (nat_eq a.tail.count s.limit) (record { registers = h; pocket = p; line = tt }) (record { registers = h; pocket = p; line = tt })))
+      (both (OutcomeInRange s n k) (is_shut a.next) (record { registers = h; pocket = p; line = tt })
+      (both (OutcomeInRange s n k) (nat_eq a.tail.count s.limit) (record { registers = h; pocket = p; line = tt }) (record { registers = h; pocket = p; line = tt }))))
       (record { registers = h; pocket = p; line = tt }))
       (record { registers = h; pocket = p; line = tt })
   outcome_in_range now me a D12 c h p w g =
@@ -114,12 +124,28 @@ module _ (s : Setup) (n k : ℕ) where
   outcome_in_range now me a B2 c h p w g = record { registers = with_head a c h g; pocket = p; line = tt }
   outcome_in_range now me a B3 c h p w g =
       let r : RegistersInRange s n k (record a { next = c }) = with_next a c h g in
-      both (OutcomeInRange s n k) (is_null c) (record { registers = r; pocket = p; line = tt }) (record { registers = r; pocket = p; line = tt })
+      both (OutcomeInRange s n k) (is_null c) (record { registers = r; pocket = p; line = tt })
+      (both (OutcomeInRange s n k) (is_shut c) (record { registers = r; pocket = p; line = tt }) (record { registers = r; pocket = p; line = tt }))
   outcome_in_range now me a B4 c h p w g =
       let r : RegistersInRange s n k (record a { val = c }) = with_val a c h g in
       both (OutcomeInRange s n k) (nat_eq a.head.count s.limit) (record { registers = r; pocket = p; line = tt }) (record { registers = r; pocket = p; line = tt })
   outcome_in_range now me a B5 c h p w g = record { registers = with_held a a.head.node a.next.count h h.head.node h.next.count; pocket = p; line = tt }
   outcome_in_range now me a B6 c h p w g = unlocked_kept now a.due a h p
+  outcome_in_range now me a A5 c h p w g = both (OutcomeInRange s n k) (same_ref c null) (record { registers = h; pocket = p; line = tt }) (record { registers = h; pocket = p; line = tt })
+  outcome_in_range now me a A7 c h p w g = left_with_node_kept now a.due a h p
+  outcome_in_range now me a S1 c h p w g = record { registers = with_tail a c h g; pocket = p; line = tt }
+  outcome_in_range now me a S2 c h p w g = record { registers = with_next a c h g; pocket = p; line = tt }
+  outcome_in_range now me a S3 c h p w g =
+      both (OutcomeInRange s n k) (same_ref c a.tail)
+      (both (OutcomeInRange s n k) (is_null a.next) (record { registers = h; pocket = p; line = tt })
+      (both (OutcomeInRange s n k) (is_shut a.next) (record { registers = h; pocket = p; line = tt })
+      (both (OutcomeInRange s n k) (nat_eq a.tail.count s.limit) (record { registers = h; pocket = p; line = tt }) (record { registers = h; pocket = p; line = tt }))))
+      (record { registers = h; pocket = p; line = tt })
+  outcome_in_range now me a S4 c h p w g = both (OutcomeInRange s n k) (same_ref c a.next) (record { registers = h; pocket = p; line = tt }) (record { registers = h; pocket = p; line = tt })
+  outcome_in_range now me a S6 c h p w g = both (OutcomeInRange s n k) (nat_eq c 0) (record { registers = h; pocket = p; line = tt }) (record { registers = h; pocket = p; line = tt })
+  outcome_in_range now me a S7 c h p w g = record { registers = with_tail a c h g; pocket = p; line = tt }
+  outcome_in_range now me a S8 c h p w g = both (OutcomeInRange s n k) (same_ref c null) (record { registers = h; pocket = p; line = tt }) (record { registers = h; pocket = p; line = tt })
+  outcome_in_range now me a S9 c h p w g = left_kept now a.due a h p
   outcome_in_range now me a _ c h p w g = record { registers = h; pocket = p; line = tt }
 
   busy_or_kept : (now : ℕ) (due : Option Reply) (a : Actor) → RegistersInRange s n k a → IfSome a.pocket (HeldInRange s.limit n) → IfSome (busy_or now due a) (OutcomeInRange s n k)
@@ -133,4 +159,6 @@ module _ (s : Setup) (n k : ℕ) where
   given_up_kept now a D2 h p = record { registers = h; pocket = p; line = tt }
   given_up_kept now a A3 h p = record { registers = h; pocket = record { node = h.node; mark = h.mark }; line = tt }
   given_up_kept now a B1 h p = record { registers = h; pocket = p; line = tt }
+  given_up_kept now a S1 h p = record { registers = h; pocket = p; line = tt }
+  given_up_kept now a S6 h p = record { registers = h; pocket = p; line = tt }
   given_up_kept now a _ h p = tt

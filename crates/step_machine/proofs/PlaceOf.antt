@@ -2,18 +2,17 @@
 use Rattle.std.proofs.Common.{◌≡◌, ◌≢◌, ℕ, zero, suc, ◌+◌, ◌*◌, ◌-◌, ◌≤◌, ◌<◌, Bool, true, false, nat_eq, nat_le, if◌then◌else◌, List, [], ◌∷◌, length, refl, sym, ap, ◌∙◌, subst, arith, ◌⊎◌, inl, inr}
 use Rattle.std.specs.Prelude.{Contains}
 use Rattle.std.proofs.lemmas.Bool.{leb-true, leb-false}
-use Rattle.line_steps.specs.declared.actors.Node.{Node}
+use Rattle.step_machine.specs.Below.{reserved_node, Node}
 use Rattle.step_machine.specs.declared.places.Place.TheVariants.{Untouched, Queue, Free, Held, SetAside}
 use Rattle.step_machine.specs.declared.places.Place.{Place}
-use Rattle.step_machine.specs.Machine.{World, IsMade}
-use Rattle.step_machine.specs.Places.{IsChain, one_if, times, held, set_aside, IsQueued, IsFree, Places}
+use Rattle.step_machine.specs.Machine.{World, IsReached, IsMade}
+use Rattle.step_machine.specs.Places.{IsEnd, IsQueueChain, one_if, times, held, set_aside, IsQueued, IsFree, Places}
 use Rattle.step_machine.specs.Placing.{IsAt, TellsWhetherThere, TellsOfChain}
 use Rattle.step_machine.specs.EachQueue.{HasItsPlaces}
 use Rattle.step_machine.proofs.Reached.{made_reached}
-use Rattle.step_machine.proofs.Chains.{next_in, one_if_tells, one_if_same, one_if_other, chain_none, chain_some, chain_same}
+use Rattle.step_machine.proofs.Chains.{next_in, one_if_tells, one_if_same, one_if_other, ends_apart, chain_same, chain_some, null_times}
 use Rattle.step_machine.proofs.Counting.{used, used_within, used_above}
-use Rattle.step_machine.proofs.Effects.{null_times}
-use Rattle.step_machine.proofs.EitherQueue.{contained, have_their_places}
+use Rattle.step_machine.proofs.EitherQueue.{contained, same_queue, same_free, have_their_places}
 
 -- a number is at most another one, or it is above
 le_or_lt : (n m : ℕ) → (n ≤ m) ⊎ (m < n)
@@ -93,42 +92,42 @@ stands n (x ∷ xs) more = pick (one_if_tells n x) (stands n xs)
 -- what is left of a chain, after some of its nodes, has a node as often as the whole chain
 abbrev pub Walked : List Node → (from at node most walked : ℕ) → Type 0
 Walked nodes from at node most walked =
-    (ns : List ℕ) → IsChain nodes from ns → length ns ≤ most →
-    (rest : List ℕ) × IsChain nodes at rest × (length rest + walked ≤ most) × (times node rest ≡ times node ns)
+    (ns : List ℕ) → IsQueueChain nodes from ns → length ns ≤ most →
+    (rest : List ℕ) × IsQueueChain nodes at rest × (length rest + walked ≤ most) × (times node rest ≡ times node ns)
 
--- at null the node wasn't there
-pub walked_to_null : (nodes : List Node) (from at node most walked : ℕ) → at ≡ 0 → Walked nodes from at node most walked → TellsOfChain false nodes from node most
-walked_to_null nodes from at node most walked null h ns chain low = go (h ns chain low)
+-- at an end the node wasn't there
+pub walked_to_end : (nodes : List Node) (from at node most walked : ℕ) → length nodes < reserved_node → IsEnd at → Walked nodes from at node most walked → TellsOfChain false nodes from node most
+walked_to_end nodes from at node most walked few end h ns chain low = go (h ns chain low)
   where
-    go : (rest : List ℕ) × IsChain nodes at rest × (length rest + walked ≤ most) × (times node rest ≡ times node ns) → TellsWhetherThere false (times node ns)
-    go x = (λ e. absurd (let f : false ≡ true = e in cc), λ e. sym x.3 ∙ ap (times node) (chain_none nodes at x.0 null x.1))
+    go : (rest : List ℕ) × IsQueueChain nodes at rest × (length rest + walked ≤ most) × (times node rest ≡ times node ns) → TellsWhetherThere false (times node ns)
+    go x = (λ e. absurd (let f : false ≡ true = e in cc), λ e. sym x.3 ∙ ap (times node) (chain_same IsEnd nodes x.0 [] at (ends_apart nodes few) x.1 end))
 
 -- at the node it was
-pub walked_to_node : (nodes : List Node) (from at node most walked : ℕ) → at ≢ 0 → at ≡ node → Walked nodes from at node most walked → TellsOfChain true nodes from node most
+pub walked_to_node : (nodes : List Node) (from at node most walked : ℕ) → (IsEnd at → ⊥) → at ≡ node → Walked nodes from at node most walked → TellsOfChain true nodes from node most
 walked_to_node nodes from at node most walked some here h ns chain low = go (h ns chain low)
   where
-    go : (rest : List ℕ) × IsChain nodes at rest × (length rest + walked ≤ most) × (times node rest ≡ times node ns) → TellsWhetherThere true (times node ns)
+    go : (rest : List ℕ) × IsQueueChain nodes at rest × (length rest + walked ≤ most) × (times node rest ≡ times node ns) → TellsWhetherThere true (times node ns)
     go x =
-        let first : (more : List ℕ) × (x.0 ≡ at ∷ more) = chain_some nodes at x.0 (omega arith) x.1 in
+        let first : (more : List ℕ) × (x.0 ≡ at ∷ more) = chain_some IsEnd nodes at x.0 some x.1 in
         let one : one_if (nat_eq node at) ≡ 1 = one_if_same node at (sym here) in
         let is : times node x.0 ≡ times node (at ∷ first.0) = ap (times node) first.1 in
         let same : times node x.0 ≡ times node ns = x.3 in
         (λ e. omega arith, λ e. absurd (let f : true ≡ false = e in cc))
 
 -- at another node the chain goes on
-pub walked_on : (nodes : List Node) (from at to node most walked : ℕ) → at ≢ 0 → at ≢ node → to ≡ next_in nodes at → Walked nodes from at node most walked → Walked nodes from to node most (walked + 1)
+pub walked_on : (nodes : List Node) (from at to node most walked : ℕ) → (IsEnd at → ⊥) → at ≢ node → to ≡ next_in nodes at → Walked nodes from at node most walked → Walked nodes from to node most (walked + 1)
 walked_on nodes from at to node most walked some other leads h ns chain low = go (h ns chain low)
   where
-    go : (rest : List ℕ) × IsChain nodes at rest × (length rest + walked ≤ most) × (times node rest ≡ times node ns) → (rest : List ℕ) × IsChain nodes to rest × (length rest + (walked + 1) ≤ most) × (times node rest ≡ times node ns)
+    go : (rest : List ℕ) × IsQueueChain nodes at rest × (length rest + walked ≤ most) × (times node rest ≡ times node ns) → (rest : List ℕ) × IsQueueChain nodes to rest × (length rest + (walked + 1) ≤ most) × (times node rest ≡ times node ns)
     go x =
-        let first : (more : List ℕ) × (x.0 ≡ at ∷ more) = chain_some nodes at x.0 (omega arith) x.1 in
-        let tail : IsChain nodes at (at ∷ first.0) = subst (IsChain nodes at) first.1 x.1 in
+        let first : (more : List ℕ) × (x.0 ≡ at ∷ more) = chain_some IsEnd nodes at x.0 some x.1 in
+        let tail : IsQueueChain nodes at (at ∷ first.0) = subst (IsQueueChain nodes at) first.1 x.1 in
         let none : one_if (nat_eq node at) ≡ 0 = one_if_other node at (λ e. other (sym e)) in
         let is : times node x.0 ≡ times node (at ∷ first.0) = ap (times node) first.1 in
         let long : length x.0 ≡ length (at ∷ first.0) = ap length first.1 in
         let same : times node x.0 ≡ times node ns = x.3 in
         let fits : length x.0 + walked ≤ most = x.2 in
-        (first.0, subst (λ k. IsChain nodes k first.0) (sym leads) tail.3, omega arith, omega arith)
+        (first.0, subst (λ k. IsQueueChain nodes k first.0) (sym leads) tail.3, omega arith, omega arith)
 
 -- a place by its number, and the number of a place
 abbrev rank : Place → ℕ
@@ -166,38 +165,38 @@ module _ (w : World) (queue free : List ℕ) (h : Places w queue free) (n : ℕ)
       go (inr above) = omega (arith, h.untouched n above, used_above n w.shared.fresh above)
 
   -- what a chain from Head has, and one from Free, is in the queue and free
-  in_queue : IsQueued w n → 1 ≤ times n queue
-  in_queue q =
-      subst (λ ns. 1 ≤ times n ns) (chain_same w.shared.nodes q.0 queue w.shared.head.node q.1 h.queue_chain)
+  in_queue : IsReached w → IsQueued w n → 1 ≤ times n queue
+  in_queue r q =
+      subst (λ ns. 1 ≤ times n ns) (same_queue w r q.0 queue q.1 h.queue_chain)
       (contained n q.0 q.2.0 q.2.1 q.2.2)
 
   in_free : IsFree w n → 1 ≤ times n free
   in_free q =
-      subst (λ ns. 1 ≤ times n ns) (chain_same w.shared.nodes q.0 free w.shared.free.node q.1 h.free_chain)
+      subst (λ ns. 1 ≤ times n ns) (same_free w q.0 free q.1 h.free_chain)
       (contained n q.0 q.2.0 q.2.1 q.2.2)
 
   -- the number of the place where a node is
   abbrev found : ℕ
   found = times n queue + 2 * times n free + 3 * held n w.actors + 4 * set_aside n w.aside
 
-  found_at : (p : Place) → IsAt w n p → found ≡ rank p
-  found_at Untouched at = let a : w.shared.fresh < n = at in omega (arith, once, used_above n w.shared.fresh a)
-  found_at Queue at = omega (arith, once, in_queue at)
-  found_at Free at = omega (arith, once, in_free at)
-  found_at Held at = let a : 1 ≤ held n w.actors = at in omega (arith, once)
-  found_at SetAside at = let a : set_aside n w.aside ≡ 1 = at in omega (arith, once)
+  found_at : IsReached w → (p : Place) → IsAt w n p → found ≡ rank p
+  found_at r Untouched at = let a : w.shared.fresh < n = at in omega (arith, once, used_above n w.shared.fresh a)
+  found_at r Queue at = omega (arith, once, in_queue r at)
+  found_at r Free at = omega (arith, once, in_free at)
+  found_at r Held at = let a : 1 ≤ held n w.actors = at in omega (arith, once)
+  found_at r SetAside at = let a : set_aside n w.aside ≡ 1 = at in omega (arith, once)
 
   -- a node is at no two places
-  one_place : (p q : Place) → IsAt w n p → IsAt w n q → q ≡ p
-  one_place p q here there =
-      sym (place_ranked-rank q) ∙ ap place_ranked (sym (found_at q there) ∙ found_at p here) ∙ place_ranked-rank p
+  one_place : IsReached w → (p q : Place) → IsAt w n p → IsAt w n q → q ≡ p
+  one_place r p q here there =
+      sym (place_ranked-rank q) ∙ ap place_ranked (sym (found_at r q there) ∙ found_at r p here) ∙ place_ranked-rank p
 
   -- the queue has no more nodes than were used
   pub few : length queue ≤ w.shared.fresh
   few = at_most w.shared.fresh queue within (λ k. go k)
     where
       none : times 0 queue ≡ 0
-      none = null_times w.shared.nodes queue w.shared.head.node h.queue_chain
+      none = null_times IsEnd w.shared.nodes queue w.shared.head.node h.queue_chain
 
       go : (k : ℕ) → times k queue ≤ 1
       go zero = omega (arith, none)
@@ -226,22 +225,24 @@ module _ (w : World) (queue free : List ℕ) (h : Places w queue free) (n : ℕ)
 -- a node of a world that calls lead to is at no two places
 pub only_place : (w : World) → IsMade w → (n : ℕ) → 1 ≤ n → (p : Place) → IsAt w n p → (q : Place) → IsAt w n q → q ≡ p
 only_place w m n some p here q there =
-    let x : HasItsPlaces w = have_their_places w (made_reached w m) in one_place w x.0 x.1 x.2 n some p q here there
+    let r : IsReached w = made_reached w m in
+    let x : HasItsPlaces w = have_their_places w r in
+    one_place w x.0 x.1 x.2 n some r p q here there
 
 -- what is told of the chain from Head is told of the queue
-told_of : (w : World) (queue free : List ℕ) → Places w queue free → (n : ℕ) → 1 ≤ n → (is_there : Bool) (from most : ℕ) → from ≡ w.shared.head.node → most ≡ w.shared.fresh → TellsOfChain is_there w.shared.nodes from n most → TellsWhetherThere is_there (times n queue)
-told_of w queue free h n some is_there from most head fresh tells =
-    tells queue (subst (λ k. IsChain w.shared.nodes k queue) (sym head) h.queue_chain)
+told_of : (w : World) (queue free : List ℕ) → IsReached w → Places w queue free → (n : ℕ) → 1 ≤ n → (is_there : Bool) (from most : ℕ) → from ≡ w.shared.head.node → most ≡ w.shared.fresh → TellsOfChain is_there w.shared.nodes from n most → TellsWhetherThere is_there (times n queue)
+told_of w queue free r h n some is_there from most head fresh tells =
+    tells queue (subst (λ k. IsQueueChain w.shared.nodes k queue) (sym head) h.queue_chain)
     (subst (λ k. length queue ≤ k) (sym fresh) (few w queue free h n some))
 
 -- a node that was found there is in the queue
 pub queue_place : (w : World) → IsMade w → (n : ℕ) → 1 ≤ n → (is_there : Bool) (from most : ℕ) → from ≡ w.shared.head.node → most ≡ w.shared.fresh → TellsOfChain is_there w.shared.nodes from n most → is_there ≡ true → IsAt w n Queue
 queue_place w m n some is_there from most head fresh tells found =
     let x : HasItsPlaces w = have_their_places w (made_reached w m) in
-    is_queued w x.0 x.1 x.2 n some ((told_of w x.0 x.1 x.2 n some is_there from most head fresh tells).0 found)
+    is_queued w x.0 x.1 x.2 n some ((told_of w x.0 x.1 (made_reached w m) x.2 n some is_there from most head fresh tells).0 found)
 
 -- one that was used and found nowhere is free
 pub free_place : (w : World) → IsMade w → (n : ℕ) → 1 ≤ n → n ≤ w.shared.fresh → (is_there : Bool) (from most : ℕ) → from ≡ w.shared.head.node → most ≡ w.shared.fresh → TellsOfChain is_there w.shared.nodes from n most → is_there ≡ false → held n w.actors ≡ 0 → set_aside n w.aside ≡ 0 → IsAt w n Free
 free_place w m n some low is_there from most head fresh tells missed =
     let x : HasItsPlaces w = have_their_places w (made_reached w m) in
-    is_free w x.0 x.1 x.2 n some low ((told_of w x.0 x.1 x.2 n some is_there from most head fresh tells).1 missed)
+    is_free w x.0 x.1 x.2 n some low ((told_of w x.0 x.1 (made_reached w m) x.2 n some is_there from most head fresh tells).1 missed)

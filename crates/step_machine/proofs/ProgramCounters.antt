@@ -1,9 +1,9 @@
 -- Each actor stands before a line of its queue, and where no null follows Head, before nodes and not null.
-use Rattle.std.proofs.Common.{◌≡◌, ℕ, ◌+◌, ◌≤◌, Bool, true, false, nat_eq, nat_lt, if◌then◌else◌, Option, Some, None, IfSome, arith}
+use Rattle.std.proofs.Common.{◌≡◌, ◌≢◌, ℕ, ◌+◌, ◌≤◌, Bool, true, false, nat_eq, nat_lt, if◌then◌else◌, Option, Some, None, IfSome, arith}
 use Rattle.std.proofs.lemmas.Bool.{eqb-false}
-use Rattle.step_machine.specs.Below.{Ref, ref, is_null, same_ref, Kind, TwoLock, NonBlocking, Line, N1, N2, N3, N4, N5, F1, F2, F3, E2, E3, E5, E6, E7, E9, E13, E17, D2, D3, D4, D5, D10, D12, D13, A1, A2, A3, A4, A5, A6, A7, B1, B2, B3, B4, B5, B6, section_of, Op, Enq, Deq, Reply, Done, Value, Setup, Held, Actor, Outcome, Shared, Word, Content, content, Action, word, Found, performed, same, load, store, clear, exchange, Head, Tail, Next, put, action, raised, outcome, freed, unlocked, sets_aside, goes, ends, effect, empties_hand, to_pocket, with_node, fills_hand, busy_or, gives_up, from_pocket, begun}
+use Rattle.step_machine.specs.Below.{Ref, ref, reserved_node, left, left_with_node, is_null, same_ref, Kind, TwoLock, NonBlocking, Line, N1, N2, N3, N4, N5, F1, F2, F3, E2, E3, E5, E6, E7, E9, E13, E17, D2, D3, D4, D5, D10, D12, D13, A1, A2, A3, A4, A5, A6, A7, B1, B2, B3, B4, B5, B6, S1, S2, S3, S4, S5, S6, S7, S8, S9, is_shut, null, section_of, Op, Enq, Deq, Shut, Reply, Done, Value, Refused, Setup, Held, Actor, Outcome, Shared, Word, Content, content, Action, word, Found, performed, same, load, store, clear, exchange, Head, Tail, Next, put, action, raised, outcome, freed, unlocked, sets_aside, goes, ends, effect, empties_hand, to_pocket, with_node, fills_hand, busy_or, gives_up, from_pocket, begun}
 use Rattle.step_machine.specs.Machine.{rested, may_rest}
-use Rattle.step_machine.specs.ProgramCounters.{IsRunBy, HasNodeToFree, NonNullAt, IsAtLine, PcIsValid}
+use Rattle.step_machine.specs.ProgramCounters.{IsRunBy, HasNodeToFree, HasNodeAfter, NonNullAt, IsAtLine, PcIsValid}
 use Rattle.step_machine.proofs.Choices.{either, both}
 
 -- Head and Tail hold nodes
@@ -25,11 +25,12 @@ WritesHold (clear n) = Unit {0}
 WritesHold (exchange x old new) = ContentHolds x new
 
 raised_holds : (s : Setup) (r : Ref) (to : ℕ) → 1 ≤ r.node → 1 ≤ to → 1 ≤ (raised s r to).node
-raised_holds s r to h g = go (nat_eq r.count s.limit)
+raised_holds s r to h g = go (nat_eq to reserved_node) (nat_eq r.count s.limit)
   where
-    go : (b : Bool) → 1 ≤ (if b then r else ref to (r.count + 1)).node
-    go true = h
-    go false = g
+    go : (b c : Bool) → 1 ≤ (if b then r else if c then r else ref to (r.count + 1)).node
+    go true c = h
+    go false true = h
+    go false false = g
 
 writes_hold : (s : Setup) (me : ℕ) (a : Actor) (l : Line) → NonNullAt l a → WritesHold (action s me a l)
 writes_hold s me a E13 h = raised_holds s a.tail a.next.node h.1 h.2
@@ -38,6 +39,7 @@ writes_hold s me a D10 h = raised_holds s a.tail a.next.node h.0 h.1
 writes_hold s me a D13 h = raised_holds s a.head a.next.node h.0 h.1
 writes_hold s me a A6 h = h
 writes_hold s me a B5 h = raised_holds s a.head a.next.node h.0 h.1
+writes_hold s me a S5 h = raised_holds s a.tail a.next.node h.0 h.1
 writes_hold s me a _ h = tt
 
 put_holds : (m : Shared) (x : Word) (c : Content x) → EndsHold m → ContentHolds x c → EndsHold (put x c m)
@@ -65,6 +67,13 @@ pub record Placed (kind : Kind) (o : Outcome) : Type 0 where
   pub pocket : IfSome o.actor.pocket (λ held. 1 ≤ held.node)
   pub line : IsAtLine kind o.actor o.actor.line
 
+has_after : (due : Option Reply) (node : ℕ) → 1 ≤ node → HasNodeAfter due node
+has_after (Some (Refused why)) node h = h
+has_after _ node h = tt
+
+not_shut : (r : Ref) → is_shut r ≡ false → r.node ≢ reserved_node
+not_shut r e = eqb-false r.node reserved_node e
+
 not_null : (r : Ref) → is_null r ≡ false → 1 ≤ r.node
 not_null r e = let ne : ¬ (r.node ≡ 0) = eqb-false r.node 0 e in omega arith
 
@@ -85,6 +94,14 @@ module _ (s : Setup) where
   unlocked_placed now (Some (Value v)) a p h = record { pocket = p; line = (tt, h) }
   unlocked_placed now _ a p h = record { pocket = p; line = tt }
 
+  left_placed : (now : ℕ) (due : Option Reply) (a : Actor) → IfSome a.pocket (λ held. 1 ≤ held.node) → Placed s.kind (left now due a)
+  left_placed now (Some (Refused why)) a p = record { pocket = p; line = tt }
+  left_placed now _ a p = record { pocket = p; line = tt }
+
+  left_with_node_placed : (now : ℕ) (due : Option Reply) (a : Actor) → IfSome a.pocket (λ held. 1 ≤ held.node) → HasNodeAfter due a.node → Placed s.kind (left_with_node now due a)
+  left_with_node_placed now (Some (Refused why)) a p h = record { pocket = h; line = tt }
+  left_with_node_placed now _ a p h = record { pocket = p; line = tt }
+
   with_node_placed : (kind : Kind) (a : Actor) → IfSome a.pocket (λ held. 1 ≤ held.node) → 1 ≤ a.node → Placed kind (goes (with_node kind) a)
   with_node_placed TwoLock a p h = record { pocket = p; line = (tt, h) }
   with_node_placed NonBlocking a p h = record { pocket = p; line = (tt, h) }
@@ -98,7 +115,7 @@ module _ (s : Setup) where
 
   -- a dequeue that goes on to take a value found a node behind Head
   abbrev pub FoundANode : (me : ℕ) (a : Actor) (l : Line) → Found (action s me a l) → Type 0
-  FoundANode me a D5 c = same_ref c a.head ≡ true → nat_eq a.head.node a.tail.node ≡ false → 1 ≤ a.next.node
+  FoundANode me a D5 c = same_ref c a.head ≡ true → nat_eq a.head.node a.tail.node ≡ false → (1 ≤ a.next.node) × (a.next.node ≢ reserved_node)
   FoundANode me a _ c = Unit {0}
 
   pub placed : (now me : ℕ) (a : Actor) (l : Line) (c : Found (action s me a l)) → IfSome a.pocket (λ held. 1 ≤ held.node) → IsRunBy (section_of l) s.kind → NonNullAt l a → ContentHolds (word (action s me a l)) c → FoundANode me a l c → Placed s.kind (outcome s now me a l c)
@@ -123,7 +140,8 @@ module _ (s : Setup) where
   placed now me a E7 c p r h g f =
       both (Placed s.kind) (same_ref c a.tail)
       (either (Placed s.kind) (is_null a.next) (λ e. record { pocket = p; line = (r, h) })
-      (λ e. both (Placed s.kind) (nat_eq a.tail.count s.limit) (record { pocket = h.0; line = tt }) (record { pocket = p; line = (r, (h.0, h.1, not_null a.next e)) })))
+      (λ e. either (Placed s.kind) (is_shut a.next) (λ d. record { pocket = h.0; line = tt })
+      (λ d. both (Placed s.kind) (nat_eq a.tail.count s.limit) (record { pocket = h.0; line = tt }) (record { pocket = p; line = (r, (h.0, h.1, not_null a.next e, not_shut a.next d)) }))))
       (record { pocket = p; line = (r, h.0) })
   placed now me a E9 c p r h g f =
       both (Placed s.kind) (same_ref c a.next) (ended_or (nat_eq a.tail.count s.limit) now (empties_hand (record a { due = Some Done })) p (r, h)) (record { pocket = p; line = (r, h.0) })
@@ -136,8 +154,9 @@ module _ (s : Setup) where
       either (Placed s.kind) (same_ref c a.head)
       (λ e. either (Placed s.kind) (nat_eq a.head.node a.tail.node)
       (λ d. either (Placed s.kind) (is_null a.next) (λ n. record { pocket = p; line = tt })
-      (λ n. both (Placed s.kind) (nat_eq a.tail.count s.limit) (record { pocket = p; line = tt }) (record { pocket = p; line = (r, (h.1, not_null a.next n)) })))
-      (λ d. record { pocket = p; line = (r, (h.0, f e d)) }))
+      (λ n. either (Placed s.kind) (is_shut a.next) (λ q. record { pocket = p; line = tt })
+      (λ q. both (Placed s.kind) (nat_eq a.tail.count s.limit) (record { pocket = p; line = tt }) (record { pocket = p; line = (r, (h.1, not_null a.next n, not_shut a.next q)) }))))
+      (λ d. record { pocket = p; line = (r, (h.0, (f e d).0, (f e d).1)) }))
       (λ e. record { pocket = p; line = (r, tt) })
   placed now me a D10 c p r h g f = record { pocket = p; line = (r, tt) }
   placed now me a D12 c p r h g f = both (Placed s.kind) (nat_eq a.head.count s.limit) (record { pocket = p; line = tt }) (record { pocket = p; line = (r, h) })
@@ -146,16 +165,31 @@ module _ (s : Setup) where
   placed now me a A2 c p r h g f = record { pocket = p; line = (r, h) }
   placed now me a A3 c p r h g f = both (Placed s.kind) (nat_eq c 0) (record { pocket = p; line = (r, h) }) (record { pocket = p; line = (r, h) })
   placed now me a A4 c p r h g f = record { pocket = p; line = (r, (h, g)) }
-  placed now me a A5 c p r h g f = record { pocket = p; line = (r, h.0) }
-  placed now me a A6 c p r h g f = record { pocket = p; line = (r, tt) }
-  placed now me a A7 c p r h g f = record { pocket = p; line = tt }
+  placed now me a A5 c p r h g f = both (Placed s.kind) (same_ref c null) (record { pocket = p; line = (r, h.0) }) (record { pocket = p; line = (r, h.0) })
+  placed now me a A6 c p r h g f = record { pocket = p; line = (r, has_after a.due a.node h) }
+  placed now me a A7 c p r h g f = left_with_node_placed now a.due a p h
   placed now me a B1 c p r h g f = both (Placed s.kind) (nat_eq c 0) (record { pocket = p; line = (r, tt) }) (record { pocket = p; line = (r, tt) })
   placed now me a B2 c p r h g f = record { pocket = p; line = (r, g) }
   placed now me a B3 c p r h g f =
-      either (Placed s.kind) (is_null c) (λ e. record { pocket = p; line = (r, tt) }) (λ e. record { pocket = p; line = (r, (h, not_null c e)) })
+      either (Placed s.kind) (is_null c) (λ e. record { pocket = p; line = (r, tt) })
+      (λ e. either (Placed s.kind) (is_shut c) (λ d. record { pocket = p; line = (r, tt) }) (λ d. record { pocket = p; line = (r, (h, not_null c e, not_shut c d)) }))
   placed now me a B4 c p r h g f = both (Placed s.kind) (nat_eq a.head.count s.limit) (record { pocket = p; line = (r, tt) }) (record { pocket = p; line = (r, h) })
   placed now me a B5 c p r h g f = record { pocket = p; line = (r, h.0) }
   placed now me a B6 c p r h g f = unlocked_placed now a.due a p h
+  placed now me a S1 c p r h g f = record { pocket = p; line = (r, g) }
+  placed now me a S2 c p r h g f = record { pocket = p; line = (r, h) }
+  placed now me a S3 c p r h g f =
+      both (Placed s.kind) (same_ref c a.tail)
+      (either (Placed s.kind) (is_null a.next) (λ e. record { pocket = p; line = (r, h) })
+      (λ e. either (Placed s.kind) (is_shut a.next) (λ d. record { pocket = p; line = tt })
+      (λ d. both (Placed s.kind) (nat_eq a.tail.count s.limit) (record { pocket = p; line = tt }) (record { pocket = p; line = (r, (h, not_null a.next e, not_shut a.next d)) }))))
+      (record { pocket = p; line = (r, tt) })
+  placed now me a S4 c p r h g f = both (Placed s.kind) (same_ref c a.next) (record { pocket = p; line = tt }) (record { pocket = p; line = (r, tt) })
+  placed now me a S5 c p r h g f = record { pocket = p; line = (r, tt) }
+  placed now me a S6 c p r h g f = both (Placed s.kind) (nat_eq c 0) (record { pocket = p; line = (r, tt) }) (record { pocket = p; line = (r, tt) })
+  placed now me a S7 c p r h g f = record { pocket = p; line = (r, g) }
+  placed now me a S8 c p r h g f = both (Placed s.kind) (same_ref c null) (record { pocket = p; line = (r, tt) }) (record { pocket = p; line = (r, tt) })
+  placed now me a S9 c p r h g f = left_placed now a.due a p
 
   busy_or_placed : (now : ℕ) (due : Option Reply) (a : Actor) → IfSome a.pocket (λ held. 1 ≤ held.node) → IfSome (busy_or now due a) (Placed s.kind)
   busy_or_placed now None a p = record { pocket = p; line = tt }
@@ -168,6 +202,8 @@ module _ (s : Setup) where
   given_up_placed now a D2 p h = record { pocket = p; line = tt }
   given_up_placed now a A3 p h = record { pocket = h; line = tt }
   given_up_placed now a B1 p h = record { pocket = p; line = tt }
+  given_up_placed now a S1 p h = record { pocket = p; line = tt }
+  given_up_placed now a S6 p h = record { pocket = p; line = tt }
   given_up_placed now a _ p h = tt
 
   pub rested_stands : (a : Actor) (l : Line) → may_rest l ≡ true → NonNullAt l a → PcIsValid s.kind (rested a)
@@ -185,3 +221,5 @@ begun_stands TwoLock me (Enq body) a p = from_pocket_stands TwoLock A1 a.pocket 
 begun_stands NonBlocking me (Enq body) a p = from_pocket_stands NonBlocking E2 a.pocket _ p (λ b h. (tt, h)) (record { pocket = p; line = (tt, tt) })
 begun_stands TwoLock me Deq a p = from_pocket_stands TwoLock F1 a.pocket _ p (λ b h. (tt, h)) (record { pocket = p; line = (tt, tt) })
 begun_stands NonBlocking me Deq a p = from_pocket_stands NonBlocking F1 a.pocket _ p (λ b h. (tt, h)) (record { pocket = p; line = (tt, tt) })
+begun_stands TwoLock me Shut a p = record { pocket = p; line = (tt, tt) }
+begun_stands NonBlocking me Shut a p = record { pocket = p; line = (tt, tt) }

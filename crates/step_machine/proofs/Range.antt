@@ -1,19 +1,30 @@
 -- Each step keeps the numbers of the shared words and of its actor in range.
-use Rattle.std.proofs.Common.{◌≡◌, ℕ, zero, suc, ◌+◌, ◌-◌, ◌<◌, ◌≤◌, Bool, true, false, nat_eq, if◌then◌else◌, Option, Some, None, IfSome, List, [], ◌∷◌, get_or, set, refl, ◌∙◌, arith}
+use Rattle.std.proofs.Common.{◌≡◌, ℕ, zero, suc, ◌+◌, ◌-◌, ◌<◌, ◌≤◌, Bool, true, false, ◌⊎◌, inl, inr, nat_eq, if◌then◌else◌, Option, Some, None, IfSome, List, [], ◌∷◌, get_or, set, refl, ◌∙◌, arith}
 use Rattle.std.proofs.Math.ListN.{length-set}
 use Rattle.std.proofs.lemmas.Bool.{eqb-false, eqb-true}
 use Rattle.std.proofs.lemmas.List.Elements.{All-set}
 use Rattle.std.specs.List.{All}
-use Rattle.step_machine.specs.Below.{Ref, ref, Line, N4, N5, F2, F3, E2, E9, E13, E17, D10, D13, A1, A3, A5, A6, A7, B1, B5, B6, Setup, Node, Held, Actor, blank, Shared, Word, Content, Action, performed, content, same, load, store, clear, exchange, Fresh, Free, Head, Tail, Tail_lock, Head_lock, Next, Value_of, put, raised, action}
-use Rattle.step_machine.specs.Range.{RefInRange, ValueInRange, NodeInRange, SharedInRange, HeldInRange, RegistersInRange, LineInRange, ActorInRange}
+use Rattle.step_machine.specs.Below.{reserved_node, Ref, ref, shut_ref, Line, N4, N5, F2, F3, E2, E9, E13, E17, D10, D13, A1, A3, A5, A6, A7, B1, B5, B6, S4, S5, S6, S8, S9, Setup, Node, Held, Actor, blank, Shared, Word, Content, Action, performed, content, same, load, store, clear, exchange, Fresh, Free, Head, Tail, Tail_lock, Head_lock, Next, Value_of, put, raised, raised_end, action}
+use Rattle.step_machine.specs.Range.{RefInRange, NextInRange, ValueInRange, NodeInRange, SharedInRange, HeldInRange, RegistersInRange, LineInRange, ActorInRange}
 use Rattle.step_machine.proofs.Choices.{either}
 
 -- what is in range stays so where more nodes are used
 ref_weakens : (limit n m : ℕ) (r : Ref) → n ≤ m → RefInRange limit n r → RefInRange limit m r
 ref_weakens limit n m r h g = let b : r.node ≤ n = g.node in record { node = omega arith; count = g.count }
 
+next_weakens : (limit n m : ℕ) (r : Ref) → n ≤ m → NextInRange limit n r → NextInRange limit m r
+next_weakens limit n m r h g = record { node = go g.node; count = g.count }
+  where
+    go : (r.node ≤ n) ⊎ (r.node ≡ reserved_node) → (r.node ≤ m) ⊎ (r.node ≡ reserved_node)
+    go (inl b) = inl (omega arith)
+    go (inr e) = inr e
+
+-- a reference in range is one that may follow a node
+pub as_next : (limit n : ℕ) (r : Ref) → RefInRange limit n r → NextInRange limit n r
+as_next limit n r h = record { node = inl h.node; count = h.count }
+
 node_weakens : (limit n m k : ℕ) (x : Node) → n ≤ m → NodeInRange limit n k x → NodeInRange limit m k x
-node_weakens limit n m k x h g = record { next = ref_weakens limit n m x.next h g.next; value = g.value }
+node_weakens limit n m k x h g = record { next = next_weakens limit n m x.next h g.next; value = g.value }
 
 pub pocket_weakens : (limit n m : ℕ) (p : Option Held) → n ≤ m → IfSome p (HeldInRange limit n) → IfSome p (HeldInRange limit m)
 pocket_weakens limit n m None h g = tt
@@ -32,7 +43,7 @@ registers_weaken s n m k a h g =
       mark = g.mark;
       tail = ref_weakens s.limit n m a.tail h g.tail;
       head = ref_weakens s.limit n m a.head h g.head;
-      next = ref_weakens s.limit n m a.next h g.next;
+      next = next_weakens s.limit n m a.next h g.next;
       val = g.val;
     }
 
@@ -52,7 +63,7 @@ ContentInRange s n k Head r = RefInRange s.limit n r
 ContentInRange s n k Tail r = RefInRange s.limit n r
 ContentInRange s n k Tail_lock c = c ≤ k
 ContentInRange s n k Head_lock c = c ≤ k
-ContentInRange s n k (Next i) r = RefInRange s.limit n r
+ContentInRange s n k (Next i) r = NextInRange s.limit n r
 ContentInRange s n k (Value_of i) v = ValueInRange k v
 
 pub content_weakens : (s : Setup) (n m k : ℕ) (x : Word) (c : Content x) → n ≤ m → ContentInRange s n k x c → ContentInRange s m k x c
@@ -62,7 +73,7 @@ content_weakens s n m k Head r h g = ref_weakens s.limit n m r h g
 content_weakens s n m k Tail r h g = ref_weakens s.limit n m r h g
 content_weakens s n m k Tail_lock c h g = g
 content_weakens s n m k Head_lock c h g = g
-content_weakens s n m k (Next i) r h g = ref_weakens s.limit n m r h g
+content_weakens s n m k (Next i) r h g = next_weakens s.limit n m r h g
 content_weakens s n m k (Value_of i) v h g = g
 
 -- what may be written into a word: Fresh only rises
@@ -77,15 +88,45 @@ WritesInRange s k m (store x c) = MayWrite s m.fresh k x c
 WritesInRange s k m (clear n) = Unit {0}
 WritesInRange s k m (exchange x old new) = same x (content x m) old ≡ true → MayWrite s m.fresh k x new
 
-pub raised_in_range : (s : Setup) (n : ℕ) (r : Ref) (to : ℕ) → RefInRange s.limit n r → to ≤ n → RefInRange s.limit n (raised s r to)
-raised_in_range s n r to h t = go (nat_eq r.count s.limit) refl
+pub raised_in_range : (s : Setup) (n : ℕ) (r : Ref) (to : ℕ) → RefInRange s.limit n r → (to ≤ n) ⊎ (to ≡ reserved_node) → RefInRange s.limit n (raised s r to)
+raised_in_range s n r to h t = closed (nat_eq to reserved_node) refl t
   where
-    go : (b : Bool) → nat_eq r.count s.limit ≡ b → RefInRange s.limit n (if b then r else ref to (r.count + 1))
+    go : (b : Bool) → nat_eq r.count s.limit ≡ b → to ≤ n → RefInRange s.limit n (if b then r else ref to (r.count + 1))
+    go true e low = h
+    go false e low =
+        let ne : ¬ (r.count ≡ s.limit) = eqb-false r.count s.limit e in
+        let le : r.count ≤ s.limit = h.count in
+        record { node = low; count = omega arith }
+
+    closed : (b : Bool) → nat_eq to reserved_node ≡ b → (to ≤ n) ⊎ (to ≡ reserved_node) → RefInRange s.limit n (if b then r else if nat_eq r.count s.limit then r else ref to (r.count + 1))
+    closed true e t = h
+    closed false e (inl low) = go (nat_eq r.count s.limit) refl low
+    closed false e (inr is) = absurd (eqb-false to reserved_node e is)
+
+-- the same of a `next`
+pub raised_next_in_range : (s : Setup) (n : ℕ) (r : Ref) (to : ℕ) → NextInRange s.limit n r → to ≤ n → NextInRange s.limit n (raised s r to)
+raised_next_in_range s n r to h low = closed (nat_eq to reserved_node)
+  where
+    go : (b : Bool) → nat_eq r.count s.limit ≡ b → NextInRange s.limit n (if b then r else ref to (r.count + 1))
     go true e = h
     go false e =
         let ne : ¬ (r.count ≡ s.limit) = eqb-false r.count s.limit e in
         let le : r.count ≤ s.limit = h.count in
-        record { node = t; count = omega arith }
+        record { node = inl low; count = omega arith }
+
+    closed : (b : Bool) → NextInRange s.limit n (if b then r else if nat_eq r.count s.limit then r else ref to (r.count + 1))
+    closed true = h
+    closed false = go (nat_eq r.count s.limit) refl
+
+pub raised_end_in_range : (s : Setup) (n : ℕ) (r : Ref) → NextInRange s.limit n r → NextInRange s.limit n (raised_end s r)
+raised_end_in_range s n r h = go (nat_eq r.count s.limit) refl
+  where
+    go : (b : Bool) → nat_eq r.count s.limit ≡ b → NextInRange s.limit n (if b then r else shut_ref (r.count + 1))
+    go true e = h
+    go false e =
+        let ne : ¬ (r.count ≡ s.limit) = eqb-false r.count s.limit e in
+        let le : r.count ≤ s.limit = h.count in
+        record { node = inr refl; count = omega arith }
 
 fresh_raised : (size fresh f : ℕ) → f < size → nat_eq fresh f ≡ true → (fresh ≤ f + 1) × (f + 1 ≤ size)
 fresh_raised size fresh f h e = let same : fresh ≡ f = eqb-true fresh f e in (omega arith, omega arith)
@@ -93,29 +134,34 @@ fresh_raised size fresh f h e = let same : fresh ≡ f = eqb-true fresh f e in (
 pub writes : (s : Setup) (k me : ℕ) (m : Shared) (a : Actor) (l : Line) → me ≤ k → RegistersInRange s m.fresh k a → LineInRange s.size a.f (Some l) → WritesInRange s k m (action s me a l)
 writes s k me m a N4 i h n = λ e. raised_in_range s m.fresh a.top a.next.node h.top h.next.node
 writes s k me m a N5 i h n = fresh_raised s.size m.fresh a.f n
-writes s k me m a F2 i h n = record { node = h.top.node; count = h.mark }
-writes s k me m a F3 i h n = λ e. raised_in_range s m.fresh a.top a.node h.top h.node
+writes s k me m a F2 i h n = record { node = inl h.top.node; count = h.mark }
+writes s k me m a F3 i h n = λ e. raised_in_range s m.fresh a.top a.node h.top (inl h.node)
 writes s k me m a E2 i h n = h.val
-writes s k me m a E9 i h n = λ e. raised_in_range s m.fresh a.next a.node h.next h.node
+writes s k me m a E9 i h n = λ e. raised_next_in_range s m.fresh a.next a.node h.next h.node
 writes s k me m a E13 i h n = λ e. raised_in_range s m.fresh a.tail a.next.node h.tail h.next.node
-writes s k me m a E17 i h n = λ e. raised_in_range s m.fresh a.tail a.node h.tail h.node
+writes s k me m a E17 i h n = λ e. raised_in_range s m.fresh a.tail a.node h.tail (inl h.node)
 writes s k me m a D10 i h n = λ e. raised_in_range s m.fresh a.tail a.next.node h.tail h.next.node
 writes s k me m a D13 i h n = λ e. raised_in_range s m.fresh a.head a.next.node h.head h.next.node
 writes s k me m a A1 i h n = h.val
 writes s k me m a A3 i h n = λ e. i
-writes s k me m a A5 i h n = record { node = h.node; count = omega arith }
+writes s k me m a A5 i h n = λ e. record { node = inl h.node; count = omega arith }
 writes s k me m a A6 i h n = record { node = h.node; count = omega arith }
 writes s k me m a A7 i h n = omega arith
 writes s k me m a B1 i h n = λ e. i
 writes s k me m a B5 i h n = raised_in_range s m.fresh a.head a.next.node h.head h.next.node
 writes s k me m a B6 i h n = omega arith
+writes s k me m a S4 i h n = λ e. raised_end_in_range s m.fresh a.next h.next
+writes s k me m a S5 i h n = λ e. raised_in_range s m.fresh a.tail a.next.node h.tail h.next.node
+writes s k me m a S6 i h n = λ e. i
+writes s k me m a S8 i h n = λ e. record { node = inr refl; count = omega arith }
+writes s k me m a S9 i h n = omega arith
 writes s k me m a _ i h n = tt
 
 -- the node of a number, also where there is none
 node_in_range : (limit n k : ℕ) (ns : List Node) (i : ℕ) → All (NodeInRange limit n k) ns → NodeInRange limit n k (get_or ns i blank)
 node_in_range limit n k [] i h =
     record {
-      next = record { node = omega arith; count = omega arith };
+      next = record { node = inl (omega arith); count = omega arith };
       value = record { from = omega arith; body = omega arith };
     }
 node_in_range limit n k (x ∷ xs) zero h = h 0 blank (omega arith)
@@ -208,6 +254,6 @@ performed_in_range s k m (load x) h g = record { range = h; rises = omega arith 
 performed_in_range s k m (store x c) h g = put_access s k m x c h g
 performed_in_range s k m (clear i) h g =
     let old : NodeInRange s.limit m.fresh k (get_or m.nodes (i - 1) blank) = node_in_range s.limit m.fresh k m.nodes (i - 1) h.nodes in
-    put_access s k m (Next i) _ h (record { node = omega arith; count = old.next.count })
+    put_access s k m (Next i) _ h (record { node = inl (omega arith); count = old.next.count })
 performed_in_range s k m (exchange x old new) h g =
     either (Accessed s k m) (same x (content x m) old) (λ e. put_access s k m x new h (g e)) (λ e. record { range = h; rises = omega arith })

@@ -1,16 +1,16 @@
 -- Every world that is reached has its numbers in range.
-use Rattle.std.proofs.Common.{◌≡◌, ℕ, ◌+◌, ◌-◌, ◌^◌, ◌<◌, ◌≤◌, Bool, true, false, nat_eq, if◌then◌else◌, Option, Some, None, IfSome, List, [], ◌∷◌, ◌++◌, map, length, slice_get, get_or, refl, sym, subst, ap, ◌∙◌, arith}
+use Rattle.std.proofs.Common.{◌≡◌, ◌≢◌, ℕ, ◌+◌, ◌-◌, ◌^◌, ◌<◌, ◌≤◌, Bool, true, false, nat_eq, if◌then◌else◌, Option, Some, None, IfSome, List, [], ◌∷◌, ◌++◌, map, length, slice_get, get_or, refl, sym, subst, ap, ◌∙◌, arith}
 use Rattle.std.proofs.Math.ListN.{length-set, length-replicate}
 use Rattle.std.proofs.lemmas.Bool.{eqb-false, ltb-true}
 use Rattle.std.proofs.lemmas.List.{map-append}
 use Rattle.std.proofs.lemmas.List.Elements.{All-set, All-replicate}
 use Rattle.std.proofs.lemmas.Option.{none-some, slice_get_within, get_or_from_slice_get}
 use Rattle.std.specs.List.{All}
-use Rattle.step_machine.specs.Below.{null, Kind, TwoLock, NonBlocking, Line, N1, N5, F1, E2, A1, Op, Enq, Deq, Setup, Held, Actor, Outcome, blank, Shared, word, found, performed, action, dequeues, gives_up, is_call, from_pocket, begun, aside_after}
+use Rattle.step_machine.specs.Below.{reserved_node, null, Kind, TwoLock, NonBlocking, Line, N1, N5, F1, E2, A1, Op, Enq, Deq, Shut, shuts, Setup, Held, Actor, Outcome, blank, Shared, word, found, performed, action, dequeues, gives_up, is_call, from_pocket, begun, aside_after}
 use Rattle.step_machine.specs.declared.actors.Move.{Move}
 use Rattle.step_machine.specs.Machine.{World, idle, opening, actor_of, rested, with_actor, after_outcome, stepped, next, AnyMove, made, next_any, run_on, run, IsSized, IsReached, IsMade}
 use Rattle.step_machine.specs.Range.{RefInRange, NodeInRange, SharedInRange, HeldInRange, RegistersInRange, LineInRange, ActorInRange, WorldInRange}
-use Rattle.step_machine.proofs.Range.{content_weakens, registers_weaken, pocket_weakens, actor_weakens, writes, found_in_range, Accessed, performed_in_range}
+use Rattle.step_machine.proofs.Range.{content_weakens, registers_weaken, pocket_weakens, actor_weakens, writes, found_in_range, Accessed, performed_in_range, as_next}
 use Rattle.step_machine.proofs.OutcomesInRange.{OutcomeInRange, Wins, outcome_in_range, with_held, given_up_kept}
 use Rattle.step_machine.proofs.AnyMoves.{after_move}
 
@@ -34,6 +34,10 @@ in_range k w h =
       actors = subst (λ j. All (ActorInRange w.setup w.shared.fresh j) w.actors) e h.actors;
       all_flags = h.all_flags;
     }
+
+-- no node that was ever used has the number of a closed end
+pub below_closed : (w : World) (n : ℕ) → WorldInRange w → n ≤ w.shared.fresh → n ≢ reserved_node
+below_closed w n h low e = omega (arith, h.shared.fresh, h.sized.numbered, low, e)
 
 -- what holds wherever there is something holds in an option
 pub if_some : {X : Type 0} (P : X → Type 0) (o : Option X) → ((x : X) → o ≡ Some x → P x) → IfSome o P
@@ -151,9 +155,27 @@ dequeue_begun s n k NonBlocking a g =
       line = tt;
     }
 
+shut_begun : (s : Setup) (n k : ℕ) (kind : Kind) (a : Actor) → ActorInRange s n k a → ActorInRange s n k (record a { line = Some (shuts kind); op = Shut; due = None; entry = None })
+shut_begun s n k TwoLock a g =
+    let r : RegistersInRange s n k a = g.registers in
+    record {
+      registers = record { op = tt; f = r.f; top = r.top; node = r.node; mark = r.mark; tail = r.tail; head = r.head; next = r.next; val = r.val };
+      pocket = g.pocket;
+      line = tt;
+    }
+shut_begun s n k NonBlocking a g =
+    let r : RegistersInRange s n k a = g.registers in
+    record {
+      registers = record { op = tt; f = r.f; top = r.top; node = r.node; mark = r.mark; tail = r.tail; head = r.head; next = r.next; val = r.val };
+      pocket = g.pocket;
+      line = tt;
+    }
+
 begun_in_range : (s : Setup) (n k me : ℕ) (kind : Kind) (op : Op) (a : Actor) → me ≤ k → is_call op ≡ true → ActorInRange s n k a → ActorInRange s n k (begun kind me op a)
 begun_in_range s n k me TwoLock (Enq body) a i e g = from_pocket_in_range s n k A1 a.pocket _ (λ f. tt) g.pocket (enqueue_begun s n k me body a i (ltb-true body (2 ^ 48) e) g)
 begun_in_range s n k me NonBlocking (Enq body) a i e g = from_pocket_in_range s n k E2 a.pocket _ (λ f. tt) g.pocket (enqueue_begun s n k me body a i (ltb-true body (2 ^ 48) e) g)
+begun_in_range s n k me TwoLock Shut a i e g = shut_begun s n k TwoLock a g
+begun_in_range s n k me NonBlocking Shut a i e g = shut_begun s n k NonBlocking a g
 begun_in_range s n k me kind Deq a i e g = from_pocket_in_range s n k F1 a.pocket _ (λ f. tt) g.pocket (dequeue_begun s n k kind a g)
 
 -- each move keeps a world in range
@@ -190,7 +212,7 @@ idle_in_range : (s : Setup) (n k : ℕ) → ActorInRange s n k idle
 idle_in_range s n k =
     let z : RefInRange s.limit n null = record { node = omega arith; count = omega arith } in
     record {
-      registers = record { op = tt; f = omega arith; top = z; node = omega arith; mark = omega arith; tail = z; head = z; next = z; val = record { from = omega arith; body = omega arith } };
+      registers = record { op = tt; f = omega arith; top = z; node = omega arith; mark = omega arith; tail = z; head = z; next = as_next s.limit n null z; val = record { from = omega arith; body = omega arith } };
       pocket = tt;
       line = tt;
     }
@@ -211,7 +233,7 @@ opening_holds s actors h =
             tail = record { node = omega arith; count = omega arith };
             tail_lock = omega arith;
             head_lock = omega arith;
-            nodes = All-replicate (NodeInRange s.limit 1 actors) s.size blank (record { next = z; value = record { from = omega arith; body = omega arith } });
+            nodes = All-replicate (NodeInRange s.limit 1 actors) s.size blank (record { next = as_next s.limit 1 null z; value = record { from = omega arith; body = omega arith } });
             all_nodes = length-replicate s.size blank;
           };
       actors = All-replicate (ActorInRange s 1 actors) actors idle (idle_in_range s 1 actors);
@@ -224,6 +246,14 @@ reached_holds w r = some_of (Holds r.actors) (run r.moves (opening w.setup r.act
 -- a world that any moves lead to is in range
 pub reached_in_range : (w : World) → IsReached w → WorldInRange w
 reached_in_range w r = in_range r.actors w (reached_holds w r)
+
+-- the closed end is above all nodes
+pub few_nodes : (w : World) → IsReached w → length w.shared.nodes < reserved_node
+few_nodes w r = let g : WorldInRange w = reached_in_range w r in omega (arith, g.shared.all_nodes, g.sized.numbered)
+
+-- so Head names none
+pub head_not_closed : (w : World) → IsReached w → w.shared.head.node ≢ reserved_node
+head_not_closed w r = let g : WorldInRange w = reached_in_range w r in below_closed w w.shared.head.node g g.shared.head.node
 
 -- a world that the calls of a world lead to is one that any moves lead to
 abbrev pub made_reached : (w : World) → IsMade w → IsReached w

@@ -8,7 +8,7 @@ use Rattle.line_table.specs.declared.lines.Kind.TheVariants.{TwoLock, NonBlockin
 use Rattle.line_table.specs.declared.lines.Line.{Line}
 use Rattle.line_table.specs.declared.lines.Line.TheVariants.{F1, E2, A1}
 use Rattle.history.specs.declared.operations.Op.{Op}
-use Rattle.history.specs.declared.operations.Op.TheVariants.{Enq, Deq}
+use Rattle.history.specs.declared.operations.Op.TheVariants.{Enq, Deq, Shut}
 use Rattle.history.specs.declared.operations.Reply.{Reply}
 use Rattle.history.specs.declared.operations.Stamped.{Stamped}
 use Rattle.line_steps.specs.declared.actors.Setup.{Setup}
@@ -73,6 +73,7 @@ begun_op TwoLock me (Enq body) a = from_pocket_op A1 a.pocket _
 begun_op NonBlocking me (Enq body) a = from_pocket_op E2 a.pocket _
 begun_op TwoLock me Deq a = from_pocket_op F1 a.pocket _
 begun_op NonBlocking me Deq a = from_pocket_op F1 a.pocket _
+begun_op kind me Shut a = refl
 
 all_more : (P : AnyMove → Type 0) (ms : List AnyMove) (m : AnyMove) → AllByRecursion P ms → P m → AllByRecursion P (ms ++ m ∷ [])
 all_more P [] m all last = (last, tt)

@@ -8,7 +8,7 @@ use Rattle.line_table.specs.declared.lines.Kind.TheVariants.{TwoLock, NonBlockin
 use Rattle.line_table.specs.declared.lines.Line.{Line}
 use Rattle.line_table.specs.declared.lines.Line.TheVariants.{F1, E2, A1}
 use Rattle.history.specs.declared.operations.Op.{Op}
-use Rattle.history.specs.declared.operations.Op.TheVariants.{Enq, Deq}
+use Rattle.history.specs.declared.operations.Op.TheVariants.{Enq, Deq, Shut}
 use Rattle.history.specs.declared.operations.Reply.TheVariants.{Empty}
 use Rattle.history.specs.declared.operations.Stamped.{Stamped}
 use Rattle.line_steps.specs.declared.actors.Setup.{Setup}
@@ -51,6 +51,7 @@ begun_noted TwoLock me (Enq body) a = from_pocket_noted A1 a.pocket _
 begun_noted NonBlocking me (Enq body) a = from_pocket_noted E2 a.pocket _
 begun_noted TwoLock me Deq a = from_pocket_noted F1 a.pocket _
 begun_noted NonBlocking me Deq a = from_pocket_noted F1 a.pocket _
+begun_noted kind me Shut a = refl
 
 module _ (s : Setup) (n : ℕ) where
   abbrev Look : List AnyMove → (me number : ℕ) → Type 0

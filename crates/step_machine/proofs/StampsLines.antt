@@ -1,7 +1,7 @@
 -- What each line knows of its operation, and that each step and each giving up keeps it.
 use Rattle.std.proofs.Common.{◌≡◌, ℕ, ◌+◌, Bool, true, false, nat_eq, nat_lt, if◌then◌else◌, Option, Some, None, IfSome, refl}
 use Rattle.std.specs.Prelude.{IsSome}
-use Rattle.step_machine.specs.Below.{is_null, same_ref, Kind, TwoLock, NonBlocking, Line, N1, N2, N4, N5, F1, F2, F3, E3, E5, E7, E9, E17, D2, D4, D5, D12, D13, A3, A5, A6, A7, B1, B3, B4, B5, B6, Reply, Done, Value, Empty, Refused, Setup, Actor, Outcome, Found, action, outcome, goes, ends, effect, sets_aside, fills_hand, empties_hand, to_pocket, with_node, freed, unlocked, busy_or, gives_up}
+use Rattle.step_machine.specs.Below.{is_null, same_ref, Kind, TwoLock, NonBlocking, Line, N1, N2, N4, N5, F1, F2, F3, E3, E5, E7, E9, E17, D2, D4, D5, D12, D13, A3, A5, A6, A7, B1, B3, B4, B5, B6, S1, S3, S4, S6, S8, S9, is_shut, null, left, left_with_node, Reply, Done, Value, Empty, Refused, Setup, Actor, Outcome, Found, action, outcome, goes, ends, effect, sets_aside, fills_hand, empties_hand, to_pocket, with_node, freed, unlocked, busy_or, gives_up}
 use Rattle.step_machine.specs.Machine.{latest_point}
 use Rattle.step_machine.proofs.Choices.{both}
 
@@ -14,6 +14,11 @@ PointFits (Some (Value v)) at Noted = IsSome at
 PointFits (Some Empty) at Noted = (at ≡ None) × Noted
 PointFits (Some (Refused why)) at Noted = at ≡ None
 
+-- where the operation of a call stands that lets the tail lock go: it has a place, unless it is refused
+abbrev pub PointLeft : (due : Option Reply) (at : Option ℕ) → Type 0
+PointLeft (Some (Refused why)) at = at ≡ None
+PointLeft _ at = IsSome at
+
 -- what is known of the operation of an actor that stands before a line
 abbrev pub PointAt : Line → (due : Option Reply) (at : Option ℕ) → (Noted : Type 0) → Type 0
 PointAt F1 due at Noted = PointFits due at Noted
@@ -21,8 +26,9 @@ PointAt F2 due at Noted = PointFits due at Noted
 PointAt F3 due at Noted = PointFits due at Noted
 PointAt E17 due at Noted = IsSome at
 PointAt D5 due at Noted = (at ≡ None) × Noted
-PointAt A6 due at Noted = IsSome at
-PointAt A7 due at Noted = IsSome at
+PointAt A6 due at Noted = PointLeft due at
+PointAt A7 due at Noted = PointLeft due at
+PointAt S9 due at Noted = PointLeft due at
 PointAt B6 due at Noted = PointFits due at Noted
 PointAt _ due at Noted = at ≡ None
 
@@ -58,6 +64,20 @@ ends_turned Q now Done a at n p h = record { place = p; goes_on = h }
 ends_turned Q now (Value v) a at n p h = record { place = p; goes_on = h }
 ends_turned Q now Empty a at n p h = record { place = h.1; goes_on = refl }
 ends_turned Q now (Refused why) a at n p h = record { place = n; goes_on = refl }
+
+left_turned : (Q : ℕ → Type 0) (now : ℕ) (due : Option Reply) (a : Actor) (at : Option ℕ) → Q now → IfSome at Q → PointLeft due at → Turns Q at (left now due a)
+left_turned Q now (Some (Refused why)) a at n p h = record { place = n; goes_on = refl }
+left_turned Q now None a at n p h = record { place = p; goes_on = h }
+left_turned Q now (Some Done) a at n p h = record { place = p; goes_on = h }
+left_turned Q now (Some (Value v)) a at n p h = record { place = p; goes_on = h }
+left_turned Q now (Some Empty) a at n p h = record { place = p; goes_on = h }
+
+left_with_node_turned : (Q : ℕ → Type 0) (now : ℕ) (due : Option Reply) (a : Actor) (at : Option ℕ) → Q now → IfSome at Q → PointLeft due at → Turns Q at (left_with_node now due a)
+left_with_node_turned Q now (Some (Refused why)) a at n p h = record { place = n; goes_on = refl }
+left_with_node_turned Q now None a at n p h = record { place = p; goes_on = h }
+left_with_node_turned Q now (Some Done) a at n p h = record { place = p; goes_on = h }
+left_with_node_turned Q now (Some (Value v)) a at n p h = record { place = p; goes_on = h }
+left_with_node_turned Q now (Some Empty) a at n p h = record { place = p; goes_on = h }
 
 freed_turned : (Q : ℕ → Type 0) (k : Kind) (now : ℕ) (due : Option Reply) (a : Actor) (at : Option ℕ) → Q now → IfSome at Q → PointFits due at (Q a.empty_at) → Turns Q at (freed k now due a)
 freed_turned Q TwoLock now None a at n p h = record { place = p; goes_on = h }
@@ -102,7 +122,7 @@ turned Q s now me a E3 c at n p h =
     both (Turns Q at) (nat_eq c.count s.limit) record { place = n; goes_on = refl } record { place = p; goes_on = h }
 turned Q s now me a E7 c at n p h =
     both (Turns Q at) (same_ref c a.tail)
-    (both (Turns Q at) (is_null a.next) record { place = p; goes_on = h } (both (Turns Q at) (nat_eq a.tail.count s.limit) record { place = n; goes_on = refl } record { place = p; goes_on = h }))
+    (both (Turns Q at) (is_null a.next) record { place = p; goes_on = h } (both (Turns Q at) (is_shut a.next) record { place = n; goes_on = refl } (both (Turns Q at) (nat_eq a.tail.count s.limit) record { place = n; goes_on = refl } record { place = p; goes_on = h })))
     record { place = p; goes_on = h }
 turned Q s now me a E9 c at n p h =
     both (Turns Q at) (same_ref c a.next)
@@ -112,7 +132,7 @@ turned Q s now me a D4 c at n p h = record { place = p; goes_on = (h, n) }
 turned Q s now me a D5 c at n p h =
     both (Turns Q at) (same_ref c a.head)
     (both (Turns Q at) (nat_eq a.head.node a.tail.node)
-    (both (Turns Q at) (is_null a.next) record { place = h.1; goes_on = refl } (both (Turns Q at) (nat_eq a.tail.count s.limit) record { place = n; goes_on = refl } record { place = p; goes_on = h.0 }))
+    (both (Turns Q at) (is_null a.next) record { place = h.1; goes_on = refl } (both (Turns Q at) (is_shut a.next) record { place = n; goes_on = refl } (both (Turns Q at) (nat_eq a.tail.count s.limit) record { place = n; goes_on = refl } record { place = p; goes_on = h.0 })))
     record { place = p; goes_on = h.0 })
     record { place = p; goes_on = h.0 }
 turned Q s now me a D12 c at n p h =
@@ -120,9 +140,18 @@ turned Q s now me a D12 c at n p h =
 turned Q s now me a D13 c at n p h =
     both (Turns Q at) (same_ref c a.head) record { place = n; goes_on = refl } record { place = p; goes_on = h }
 turned Q s now me a A3 c at n p h = both (Turns Q at) (nat_eq c 0) record { place = p; goes_on = h } record { place = p; goes_on = h }
-turned Q s now me a A5 c at n p h = record { place = n; goes_on = refl }
+turned Q s now me a A5 c at n p h = both (Turns Q at) (same_ref c null) record { place = n; goes_on = refl } record { place = p; goes_on = h }
+turned Q s now me a A7 c at n p h = left_with_node_turned Q now a.due a at n p h
+turned Q s now me a S3 c at n p h =
+    both (Turns Q at) (same_ref c a.tail)
+    (both (Turns Q at) (is_null a.next) record { place = p; goes_on = h } (both (Turns Q at) (is_shut a.next) record { place = n; goes_on = refl } (both (Turns Q at) (nat_eq a.tail.count s.limit) record { place = n; goes_on = refl } record { place = p; goes_on = h })))
+    record { place = p; goes_on = h }
+turned Q s now me a S4 c at n p h = both (Turns Q at) (same_ref c a.next) record { place = n; goes_on = refl } record { place = p; goes_on = h }
+turned Q s now me a S6 c at n p h = both (Turns Q at) (nat_eq c 0) record { place = p; goes_on = h } record { place = p; goes_on = h }
+turned Q s now me a S8 c at n p h = both (Turns Q at) (same_ref c null) record { place = n; goes_on = refl } record { place = p; goes_on = h }
+turned Q s now me a S9 c at n p h = left_turned Q now a.due a at n p h
 turned Q s now me a B1 c at n p h = both (Turns Q at) (nat_eq c 0) record { place = p; goes_on = h } record { place = p; goes_on = h }
-turned Q s now me a B3 c at n p h = both (Turns Q at) (is_null c) record { place = p; goes_on = (h, n) } record { place = p; goes_on = h }
+turned Q s now me a B3 c at n p h = both (Turns Q at) (is_null c) record { place = p; goes_on = (h, n) } (both (Turns Q at) (is_shut c) record { place = p; goes_on = h } record { place = p; goes_on = h })
 turned Q s now me a B4 c at n p h =
     both (Turns Q at) (nat_eq a.head.count s.limit) record { place = p; goes_on = h } record { place = p; goes_on = h }
 turned Q s now me a B5 c at n p h = record { place = n; goes_on = refl }
@@ -138,6 +167,8 @@ pub given_turned : (Q : ℕ → Type 0) (now : ℕ) (a : Actor) (l : Line) (at :
 given_turned Q now a N1 at n p h = record { place = n; goes_on = refl }
 given_turned Q now a D2 at n p h = record { place = n; goes_on = refl }
 given_turned Q now a B1 at n p h = record { place = n; goes_on = refl }
+given_turned Q now a S1 at n p h = record { place = n; goes_on = refl }
+given_turned Q now a S6 at n p h = record { place = n; goes_on = refl }
 given_turned Q now a E5 at n p h = record { place = n; goes_on = refl }
 given_turned Q now a A3 at n p h = record { place = n; goes_on = refl }
 given_turned Q now a F1 at n p h = busy_or_turned Q now a.due (to_pocket a) at n p h

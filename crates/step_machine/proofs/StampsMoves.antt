@@ -3,7 +3,7 @@ use Rattle.std.proofs.Common.{◌≡◌, ◌≢◌, ℕ, zero, suc, ◌+◌, ◌
 use Rattle.std.specs.Prelude.{slice_get}
 use Rattle.std.specs.List.{AllByRecursion}
 use Rattle.std.proofs.lemmas.Option.{none-some, same_Some, IfSome_then}
-use Rattle.step_machine.specs.Below.{Kind, TwoLock, NonBlocking, Line, F1, E2, A1, Op, Enq, Deq, Reply, Stamped, Setup, Held, Actor, found, action, gives_up, from_pocket, begun}
+use Rattle.step_machine.specs.Below.{Kind, TwoLock, NonBlocking, Line, F1, E2, A1, Op, Enq, Deq, Shut, Reply, Stamped, Setup, Held, Actor, found, action, gives_up, from_pocket, begun}
 use Rattle.step_machine.specs.declared.actors.Move.{Move}
 use Rattle.step_machine.specs.declared.actors.Move.TheVariants.{Begin, Step, Give}
 use Rattle.step_machine.specs.Machine.{World, idle, opening, actor_of, rested, with_actor, may_rest, AnyMove, made, Rest, next_any, run_on, run}
@@ -51,6 +51,8 @@ begun_knows Rests K ops me TwoLock (Enq body) a over = from_pocket_knows Rests K
 begun_knows Rests K ops me NonBlocking (Enq body) a over = from_pocket_knows Rests K ops me E2 a.pocket _ (over, refl) (λ h. (over, refl))
 begun_knows Rests K ops me TwoLock Deq a over = from_pocket_knows Rests K ops me F1 a.pocket _ (over, refl) (λ h. (over, refl))
 begun_knows Rests K ops me NonBlocking Deq a over = from_pocket_knows Rests K ops me F1 a.pocket _ (over, refl) (λ h. (over, refl))
+begun_knows Rests K ops me TwoLock Shut a over = (over, refl)
+begun_knows Rests K ops me NonBlocking Shut a over = (over, refl)
 
 -- an operation that its actor leaves before its node is used has no place
 left_over : (Rests : Type 0) (K : List ℕ) (ops : List Stamped) (me : ℕ) (due : Option Reply) (empty_at : ℕ) → Rests → (l : Line) → ((at : Option ℕ) (Noted : Type 0) → PointAt l due at Noted → at ≡ None) → (entry : Option ℕ) → OperationAt Rests K ops me (Some l) entry due empty_at → Idle Rests ops me

@@ -2,24 +2,24 @@
 -- steps of the free list's lines, and each giving up.
 use Rattle.std.proofs.Common.{◌≡◌, ◌≢◌, ℕ, zero, suc, ◌+◌, ◌≤◌, true, false, nat_eq, nat_lt, List, [], ◌∷◌, ◌++◌, length, Option, Some, None, IfSome, refl, sym, ap, ◌∙◌, subst, arith, ◌⊎◌, inl, inr}
 use Rattle.std.proofs.lemmas.Bool.{eqb-true, true≢false}
-use Rattle.step_machine.specs.Below.{Ref, ref, is_null, same_ref, Kind, TwoLock, NonBlocking, Line, N1, N2, N3, N4, N5, F1, F2, F3, E5, D2, A3, B1, OfFree, Refusal, NoNode, WornOut, Busy, Deq, Reply, Done, Value, Refused, leaves, Node, Actor, Outcome, Setup, Shared, node_at, put, performed, found, Fresh, Free, Head, Next, action, outcome, raised, goes, freed, sets_aside, fills_hand, empties_hand, to_pocket, with_node, busy_or, gives_up}
+use Rattle.step_machine.specs.Below.{Ref, ref, is_null, same_ref, Kind, TwoLock, NonBlocking, Line, N1, N2, N3, N4, N5, F1, F2, F3, E5, D2, A3, B1, S1, S6, OfFree, Refusal, NoNode, WornOut, Busy, Closed, Deq, Shut, Reply, Done, Value, Refused, leaves, Node, Actor, Outcome, Setup, Shared, node_at, put, performed, found, Fresh, Free, Head, Next, action, outcome, raised, reserved_node, goes, freed, sets_aside, fills_hand, empties_hand, to_pocket, with_node, busy_or, gives_up}
 use Rattle.counted_ref.proofs.Words.{same_ref-true}
 use Rattle.step_machine.specs.Completion.{decided_reply, completed_reply}
-use Rattle.step_machine.specs.Places.{one_if, times}
-use Rattle.step_machine.specs.Chains.{last_node}
+use Rattle.step_machine.specs.Places.{IsEnd, one_if, times}
+use Rattle.step_machine.specs.Chains.{last_node, queue_values, is_shut_chain}
 use Rattle.step_machine.proofs.Choices.{either, tried}
-use Rattle.step_machine.proofs.Chains.{last_within}
+use Rattle.step_machine.proofs.Chains.{last_within, last_times, last_linked, null_times, free_goes_on}
 use Rattle.step_machine.proofs.Counting.{holds, asides, holds_hand, holds_none, holds_own}
-use Rattle.step_machine.proofs.Effects.{Shape, Turn, Took, others_stay, written, next_keeps_value, not_linked, null_times, turn_words, turn_aside, turn_claim, turn_take, turn_giveback, turn_node, turn_link, turn_pop, with_node as with_new}
+use Rattle.step_machine.proofs.Effects.{Shape, Turn, Took, others_stay, written, next_keeps_value, not_linked, last_there, turn_words, turn_aside, turn_claim, turn_take, turn_giveback, turn_node, turn_link, turn_shut, turn_pop, with_node as with_new}
 use Rattle.step_machine.proofs.Fixed.{FixedAt, Pushes, DecidedFreeing}
-use Rattle.step_machine.proofs.LinearizationSteps.{LinearizationStep, KeepsReply, stutters, refused, pushed, popped, raised_node, raised_count}
+use Rattle.step_machine.proofs.LinearizationSteps.{LinearizationStep, KeepsReply, stutters, refused, closed, pushed, popped, shut, raised_node, raised_count}
 use Rattle.step_machine.proofs.StaleReferences.{Rises}
 use Rattle.step_machine.proofs.StampsLists.{same_or_not}
-use Rattle.step_machine.proofs.Assertions.{next_of, OwnsAt, IsMark, Marked, QueueStays, Queue, Knows, Found, Before, After, AtLine, Steps}
+use Rattle.step_machine.proofs.Assertions.{next_of, OwnsAt, IsMark, Marked, QueueStays, Queue, Knows, Found, Before, After, AtLine, Steps, marks_kept}
 
 -- what an exchange writes rises, where its count is not at the limit
-raised_rises : (s : Setup) (old r : Ref) (to : ℕ) → old ≡ r → r.count ≢ s.limit → Rises old (raised s r to)
-raised_rises s old r to e d = inr (let up : (raised s r to).count ≡ r.count + 1 = raised_count s r to d in let c : old.count ≡ r.count = ap (λ (x : Ref). x.count) e in omega arith)
+raised_rises : (s : Setup) (old r : Ref) (to : ℕ) → to ≢ reserved_node → old ≡ r → r.count ≢ s.limit → Rises old (raised s r to)
+raised_rises s old r to n e d = inr (let up : (raised s r to).count ≡ r.count + 1 = raised_count s r to n d in let c : old.count ≡ r.count = ap (λ (x : Ref). x.count) e in omega arith)
 
 -- an actor whose hand and pocket are empty has no marks
 pub no_marks : (m : Shared) (b : Actor) → b.holds ≡ false → b.pocket ≡ None → Marked m b
@@ -30,7 +30,7 @@ pub one_mark : (m : Shared) (b : Actor) → b.pocket ≡ None → IsMark m b.nod
 one_mark m b p h = record { hand = λ e. h; pocket = subst (λ x. IfSome x (λ held. IsMark m held.node held.mark)) (sym p) tt }
 
 module _ (q : Queue) (b : Before q) where
-  open b use {Z, s, m, E, front, rest, free, me, now, a, shape, unused, words, mine, low, marked}
+  open b use {Z, s, m, E, front, rest, free, me, now, a, shape, unused, words, few_nodes, mine, low, hand_no_end, marked}
 
   -- the words become these, and the outcome is this one
   abbrev pub Goes : Shared → Outcome → Type 0
@@ -38,7 +38,7 @@ module _ (q : Queue) (b : Before q) where
 
   -- what the actor of an outcome knows then, where the queue has the last node that it had
   abbrev pub Learns : Shared → Outcome → Type 0
-  Learns m' o = Knows q (Found rest now) s m' (last_node (front ∷ rest)) o.actor o.actor.line
+  Learns m' o = Knows q (Found m (front ∷ rest) now) s m' (last_node (front ∷ rest)) o.actor o.actor.line
 
   -- what the step means, where the queue's chain stays
   abbrev pub Means : Shared → Outcome → Type 0
@@ -54,7 +54,7 @@ module _ (q : Queue) (b : Before q) where
         turn = turn;
         own_aside = own;
         rises = up;
-        relies = λ you one other. q.relies s m m' front rest stays words (last_node (front ∷ rest)) you;
+        relies = λ you one other. q.relies s m m' front rest stays words you;
         words = q.words_stay s m m' front rest stays words;
         marked = marks;
         knows = knows;
@@ -71,7 +71,7 @@ module _ (q : Queue) (b : Before q) where
 
   -- Free and Fresh are no words of the queue
   queue_stays : (top : Ref) (fresh : ℕ) → QueueStays m (record m { free = top; fresh = fresh }) (front ∷ rest)
-  queue_stays top fresh = record { head = refl; tail = refl; tail_lock = refl; head_lock = refl; nodes = λ n here. refl; counts = λ n one. omega arith }
+  queue_stays top fresh = record { head = refl; tail = refl; tail_lock = refl; head_lock = refl; nodes = λ n here. refl; counts = λ n one. refl }
 
   -- an outcome in which the actor holds what it held, and no word is written
   pub still : (o : Outcome) → ((n : ℕ) → holds n o.actor ≡ holds n a) → o.aside ≡ None → Marked m o.actor → Learns m o → OwnsAt m me o.actor.line → Means m o → Goes m o
@@ -80,12 +80,17 @@ module _ (q : Queue) (b : Before q) where
 
   -- the call goes on, and has earned nothing
   pub on : (o : Outcome) → decided_reply a.due ≡ None → o.at ≡ None → ((n : ℕ) → holds n o.actor ≡ holds n a) → o.aside ≡ None → Marked m o.actor → Learns m o → OwnsAt m me o.actor.line → Goes m o
-  on o u at same none marks knows owns = still o same none marks knows owns (stutters refl refl at (inl u))
+  on o u at same none marks knows owns = still o same none marks knows owns (stutters refl refl refl at (inl u))
 
   -- the call ends with a refusal
   pub refuses : (o : Outcome) (why : Refusal) → decided_reply a.due ≡ None → o.at ≡ Some now → o.reply ≡ Some (Refused why) → leaves why ≡ true → ((n : ℕ) → holds n o.actor ≡ holds n a) → o.aside ≡ None → Marked m o.actor → o.actor.line ≡ None → OwnsAt m me None → Goes m o
   refuses o why u at reply ok same none marks over owns =
-      still o same none marks (subst (Knows q (Found rest now) s m (last_node (front ∷ rest)) o.actor) (sym over) tt) (subst (OwnsAt m me) (sym over) owns) (refused why refl refl at reply ok u)
+      still o same none marks (subst (Knows q (Found m (front ∷ rest) now) s m (last_node (front ∷ rest)) o.actor) (sym over) tt) (subst (OwnsAt m me) (sym over) owns) (refused why refl refl refl at reply ok u)
+
+  -- so it does since the queue is shut, to a pop where it has no value
+  pub finds_shut : (o : Outcome) → decided_reply a.due ≡ None → o.at ≡ Some now → o.reply ≡ Some (Refused Closed) → is_shut_chain m (front ∷ rest) ≡ true → (a.op ≡ Deq → queue_values m (front ∷ rest) ≡ []) → ((n : ℕ) → holds n o.actor ≡ holds n a) → o.aside ≡ None → Marked m o.actor → o.actor.line ≡ None → OwnsAt m me None → Goes m o
+  finds_shut o u at reply is_shut no_values same none marks over owns =
+      still o same none marks (subst (Knows q (Found m (front ∷ rest) now) s m (last_node (front ∷ rest)) o.actor) (sym over) tt) (subst (OwnsAt m me) (sym over) owns) (closed refl refl refl at reply is_shut no_values u)
 
   -- the node in hand is in the hand once
   own : a.holds ≡ true → a.pocket ≡ None → 1 ≤ holds a.node a
@@ -106,7 +111,7 @@ module _ (q : Queue) (b : Before q) where
   aside o h p some g r e knows owns at keeps =
       leaves_queue m o free (queue_stays m.free m.fresh)
       (subst (λ x. Turn m m (front ∷ rest) free (front ∷ rest) free a o.actor x) (sym e) (turn_aside m E (front ∷ rest) free a o.actor a.node shape (let_go o.actor h p g r)))
-      (subst (λ x. IfSome x (λ k. (1 ≤ k) × (1 ≤ holds k a))) (sym e) (some, own h p)) (inl refl) (no_marks m o.actor g r) knows owns (stutters refl refl at keeps)
+      (subst (λ x. IfSome x (λ k. (1 ≤ k) × (1 ≤ holds k a))) (sym e) (some, own h p)) (inl refl) (no_marks m o.actor g r) knows owns (stutters refl refl refl at keeps)
 
   aside_freed : (kind : Kind) (due : Option Reply) (top : Ref) → a.due ≡ due → DecidedFreeing due → a.holds ≡ true → a.pocket ≡ None → 1 ≤ a.node → OwnsAt m me None → Goes m (sets_aside (freed kind now due (record a { top = top })))
   aside_freed TwoLock None top d f h p some g = aside _ h p some refl p refl tt g refl (inr (λ n. refl))
@@ -119,8 +124,8 @@ module _ (q : Queue) (b : Before q) where
   gives_back o h p some was room leads g r none knows owns no_at keeps =
       leaves_queue (put Free (raised s a.top a.node) m) o (a.node ∷ free) (queue_stays (raised s a.top a.node) m.fresh)
       (turn_none (put Free (raised s a.top a.node) m) o front rest (a.node ∷ free) none
-      (turn_giveback m E (front ∷ rest) free a o.actor (raised s a.top a.node) a.node shape some low (ap (λ (x : Ref). x.node) leads ∙ sym (ap (λ (x : Ref). x.node) was)) (raised_node s a.top a.node room) (let_go o.actor h p g r)))
-      (none_aside o none) (raised_rises s m.free a.top a.node was room) (no_marks (put Free (raised s a.top a.node) m) o.actor g r) knows owns (stutters refl refl no_at keeps)
+      (turn_giveback m E (front ∷ rest) free a o.actor (raised s a.top a.node) a.node shape some low (ap (λ (x : Ref). x.node) leads ∙ sym (ap (λ (x : Ref). x.node) was)) (raised_node s a.top a.node hand_no_end room) (let_go o.actor h p g r)))
+      (none_aside o none) (raised_rises s m.free a.top a.node hand_no_end was room) (no_marks (put Free (raised s a.top a.node) m) o.actor g r) knows owns (stutters refl refl refl no_at keeps)
 
   gives_back_freed : (kind : Kind) (due : Option Reply) → a.due ≡ due → DecidedFreeing due → a.holds ≡ true → a.pocket ≡ None → 1 ≤ a.node → m.free ≡ a.top → a.top.count ≢ s.limit → next_of m a.node ≡ ref a.top.node a.mark → OwnsAt m me None → Goes (put Free (raised s a.top a.node) m) (freed kind now due (empties_hand a))
   gives_back_freed TwoLock None d f h p some was room leads g = gives_back _ h p some was room leads refl p refl tt g refl (inr (λ n. refl))
@@ -144,14 +149,18 @@ module _ (q : Queue) (b : Before q) where
       apart = (not_linked m E (front ∷ rest) free shape k some (omega (arith, mine k))).0
 
       not_null : (n : ℕ) → 1 ≤ times n (front ∷ rest) → 1 ≤ n
-      not_null zero queued = absurd (let none : times 0 (front ∷ rest) ≡ 0 = null_times m.nodes (front ∷ rest) m.head.node shape.queue_chain in omega arith)
+      not_null zero queued = absurd (let none : times 0 (front ∷ rest) ≡ 0 = null_times IsEnd m.nodes (front ∷ rest) m.head.node shape.queue_chain in omega arith)
       not_null (suc n) queued = omega arith
 
-      go : (n : ℕ) → 1 ≤ n → (n ≡ k) ⊎ (n ≢ k) → (next_of m n).count ≤ (next_of (with_new m k x) n).count
+      go : (n : ℕ) → 1 ≤ n → (n ≡ k) ⊎ (n ≢ k) → (next_of (with_new m k x) n).count ≡ (next_of m n).count
       go n one (inl d) =
-          subst (λ j. (next_of m j).count ≤ (next_of (with_new m k x) j).count) (sym d) (let w : (next_of (with_new m k x) k).count ≡ x.next.count = ap (λ (y : Node). y.next.count) (written m.nodes k x some within) in omega arith)
-      go n one (inr d) =
-          let w : (next_of (with_new m k x) n).count ≡ (next_of m n).count = ap (λ (y : Node). y.next.count) (others_stay m.nodes k n x some one d) in omega arith
+          subst (λ j. (next_of (with_new m k x) j).count ≡ (next_of m j).count) (sym d) (ap (λ (y : Node). y.next.count) (written m.nodes k x some within) ∙ e)
+      go n one (inr d) = ap (λ (y : Node). y.next.count) (others_stay m.nodes k n x some one d)
+
+  -- so the queue's chain keeps its end where the node in hand is written
+  pub hand_flag : (x : Node) → a.holds ≡ true → a.pocket ≡ None → 1 ≤ a.node → x.next.count ≡ (next_of m a.node).count → is_shut_chain (with_new m a.node x) (front ∷ rest) ≡ is_shut_chain m (front ∷ rest)
+  hand_flag x h p some count =
+      ap (λ (n : Node). nat_eq n.next.node reserved_node) ((node_stays a.node x some low (own h p) count).nodes (last_node (front ∷ rest)) (last_times front rest))
 
   -- the node in hand is written, and its count stays; it may be set aside
   writes_any : (o : Outcome) (x : Node) → a.holds ≡ true → a.pocket ≡ None → 1 ≤ a.node → x.next.count ≡ (next_of m a.node).count → ((n : ℕ) → holds n o.actor + asides n o.aside ≡ holds n a) → IfSome o.aside (λ k. (1 ≤ k) × (1 ≤ holds k a)) → Marked (with_new m a.node x) o.actor → Learns (with_new m a.node x) o → OwnsAt m me o.actor.line → Means (with_new m a.node x) o → Goes (with_new m a.node x) o
@@ -172,7 +181,7 @@ module _ (q : Queue) (b : Before q) where
   pub writes : (o : Outcome) (x : Node) → a.holds ≡ true → a.pocket ≡ None → 1 ≤ a.node → x.next.count ≡ (next_of m a.node).count → o.actor.holds ≡ true → o.actor.pocket ≡ None → o.actor.node ≡ a.node → o.actor.mark ≡ x.next.count → o.aside ≡ None → Learns (with_new m a.node x) o → OwnsAt m me o.actor.line → o.at ≡ None → KeepsReply a o → Goes (with_new m a.node x) o
   writes o x h p some count g r at mark none knows owns no_at keeps =
       writes_any o x h p some count same (none_aside o none)
-      (one_mark (with_new m a.node x) o.actor r (subst (λ k. 1 ≤ k) (sym at) some, ap (λ k. (next_of (with_new m a.node x) k).count) at ∙ ap (λ (y : Node). y.next.count) (written m.nodes a.node x some low) ∙ sym mark)) knows owns (stutters refl refl no_at keeps)
+      (one_mark (with_new m a.node x) o.actor r (subst (λ k. 1 ≤ k) (sym at) some, ap (λ k. (next_of (with_new m a.node x) k).count) at ∙ ap (λ (y : Node). y.next.count) (written m.nodes a.node x some low) ∙ sym mark)) knows owns (stutters refl refl (hand_flag x h p some count) no_at keeps)
     where
       same : (n : ℕ) → holds n o.actor + asides n o.aside ≡ holds n a
       same n =
@@ -194,16 +203,22 @@ module _ (q : Queue) (b : Before q) where
   -- the first free node comes into the hand
   takes_node : (to : Line) → a.holds ≡ false → a.pocket ≡ None → 1 ≤ a.top.node → m.free ≡ a.top → a.top.count ≢ s.limit → next_of m a.top.node ≡ a.next → decided_reply a.due ≡ None → Learns (put Free (raised s a.top a.next.node) m) (goes to (fills_hand a.top.node a.next.count a)) → OwnsAt m me (Some to) → Goes (put Free (raised s a.top a.next.node) m) (goes to (fills_hand a.top.node a.next.count a))
   takes_node to h p some was room next u knows owns =
-      leaves_queue (put Free (raised s a.top a.next.node) m) (goes to c) free_nodes.rest (queue_stays (raised s a.top a.next.node) m.fresh) free_nodes.turn tt (raised_rises s m.free a.top a.next.node was room)
-      (one_mark (put Free (raised s a.top a.next.node) m) (goes to c).actor p (some, ap (λ (r : Ref). r.count) next)) knows owns (stutters refl refl refl (inl u))
+      leaves_queue (put Free (raised s a.top a.next.node) m) (goes to c) free_nodes.rest (queue_stays (raised s a.top a.next.node) m.fresh) free_nodes.turn tt (raised_rises s m.free a.top a.next.node goes_on was room)
+      (one_mark (put Free (raised s a.top a.next.node) m) (goes to c).actor p (some, ap (λ (r : Ref). r.count) next)) knows owns (stutters refl refl refl refl (inl u))
     where
       c : Actor
       c = fills_hand a.top.node a.next.count a
 
+      -- the free chain ends at null, so no free node leads to the closed end
+      goes_on : a.next.node ≢ reserved_node
+      goes_on =
+          subst (λ (r : Ref). r.node ≢ reserved_node) (ap (λ (r : Ref). next_of m r.node) was ∙ next)
+          (free_goes_on m.nodes m.free.node free few_nodes (subst (λ (r : Ref). 1 ≤ r.node) (sym was) some) shape.free_chain)
+
       free_nodes : Took m (raised s a.top a.next.node) (front ∷ rest) free a (goes to c).actor
       free_nodes =
           turn_take m E (front ∷ rest) free a (goes to c).actor (raised s a.top a.next.node) shape (subst (λ (r : Ref). 1 ≤ r.node) (sym was) some)
-          (raised_node s a.top a.next.node room ∙ sym (ap (λ (r : Ref). r.node) (ap (λ (r : Ref). next_of m r.node) was ∙ next)))
+          (raised_node s a.top a.next.node goes_on room ∙ sym (ap (λ (r : Ref). r.node) (ap (λ (r : Ref). next_of m r.node) was ∙ next)))
           (took (goes to c).actor m.free.node h p refl p (sym (ap (λ (r : Ref). r.node) was)))
 
   takes_to : (kind : Kind) → a.holds ≡ false → a.pocket ≡ None → 1 ≤ a.top.node → m.free ≡ a.top → a.top.count ≢ s.limit → next_of m a.top.node ≡ a.next → decided_reply a.due ≡ None → OwnsAt m me None → Goes (put Free (raised s a.top a.next.node) m) (goes (with_node kind) (fills_hand a.top.node a.next.count a))
@@ -216,7 +231,7 @@ module _ (q : Queue) (b : Before q) where
       let c : Actor = (goes to (fills_hand (a.f + 1) 0 a)).actor in
       leaves_queue (put Fresh (a.f + 1) m) (goes to (fills_hand (a.f + 1) 0 a)) free (queue_stays m.free (a.f + 1))
       (turn_claim m E (front ∷ rest) free a c (a.f + 1) shape (ap (λ k. k + 1) (sym was)) (took c (m.fresh + 1) h p refl p (ap (λ k. k + 1) (sym was)))) tt (inl refl)
-      (one_mark (put Fresh (a.f + 1) m) c p (omega arith, unused (a.f + 1) (omega (arith, was)))) knows owns (stutters refl refl refl (inl u))
+      (one_mark (put Fresh (a.f + 1) m) c p (omega arith, unused (a.f + 1) (omega (arith, was)))) knows owns (stutters refl refl refl refl (inl u))
 
   claims_to : (kind : Kind) → a.holds ≡ false → a.pocket ≡ None → m.fresh ≡ a.f → decided_reply a.due ≡ None → OwnsAt m me None → Goes (put Fresh (a.f + 1) m) (goes (with_node kind) (fills_hand (a.f + 1) 0 a))
   claims_to TwoLock h p was u g = claims_node (with_node TwoLock) h p was u tt g
@@ -243,6 +258,7 @@ module _ (q : Queue) (b : Before q) where
   -- what holds where the `next` of a node becomes a reference, so that the node in hand is the last one of the queue
   pub record Links (k : ℕ) (r : Ref) (o : Outcome) : Type 0 where
     pub last : k ≡ last_node (front ∷ rest)
+    pub unlinked : (next_of m k).node ≡ 0
     pub hand : a.holds ≡ true
     pub pocket : a.pocket ≡ None
     pub some_node : 1 ≤ a.node
@@ -253,7 +269,7 @@ module _ (q : Queue) (b : Before q) where
     pub no_aside : o.aside ≡ None
     pub relies : (you : ℕ) → 1 ≤ you → you ≢ me → q.Rely m (put (Next k) r m) (last_node (front ∷ rest)) (last_node (front ∷ rest ++ a.node ∷ [])) you
     pub words_then : q.Words s (put (Next k) r m) (front ∷ rest ++ a.node ∷ [])
-    pub knows : Knows q (Found rest now) s (put (Next k) r m) (last_node (front ∷ rest ++ a.node ∷ [])) o.actor o.actor.line
+    pub knows : Knows q (Found m (front ∷ rest) now) s (put (Next k) r m) (last_node (front ∷ rest ++ a.node ∷ [])) o.actor o.actor.line
     pub owns : OwnsAt m me o.actor.line
     pub at : o.at ≡ Some now
     pub earns : completed_reply o.reply (Some now) o.actor.due ≡ Some Done
@@ -268,7 +284,7 @@ module _ (q : Queue) (b : Before q) where
         free' = free;
         turn =
             turn_none (put (Next k) r m) o front (rest ++ a.node ∷ []) free h.no_aside
-            (turn_link m E front rest free a o.actor k a.node r shape mine h.last h.some_node low (own h.hand h.pocket) h.ready.1 h.names (let_go o.actor h.hand h.pocket h.let_go h.empty));
+            (turn_link m E front rest free a o.actor k a.node r shape mine h.last h.unlinked h.some_node low (own h.hand h.pocket) h.ready.1 h.names (let_go o.actor h.hand h.pocket h.let_go h.empty));
         own_aside = none_aside o h.no_aside;
         rises = inl refl;
         relies = h.relies;
@@ -276,11 +292,75 @@ module _ (q : Queue) (b : Before q) where
         marked = no_marks (put (Next k) r m) o.actor h.let_go h.empty;
         knows = h.knows;
         owns = h.owns;
-        linearizes = pushed refl refl h.at h.earns (next_keeps_value m k r a.node within.0 within.1 h.some_node ∙ h.ready.0) h.pushes h.undecided;
+        linearizes = pushed refl refl open_before open_after h.at h.earns (next_keeps_value m k r a.node within.0 within.1 h.some_node ∙ h.ready.0) h.pushes h.undecided;
       }
     where
       within : (1 ≤ k) × (k ≤ length m.nodes)
-      within = subst (λ j. (1 ≤ j) × (j ≤ length m.nodes)) (sym h.last) (last_within m.nodes front rest m.head.node shape.queue_chain)
+      within = subst (λ j. (1 ≤ j) × (j ≤ length m.nodes)) (sym h.last) (last_within IsEnd m.nodes front rest m.head.node shape.queue_chain)
+
+      -- the last node before and after led to null
+      open_before : is_shut_chain m (front ∷ rest) ≡ false
+      open_before = ap (λ n. nat_eq n reserved_node) (ap (λ j. (next_of m j).node) (sym h.last) ∙ h.unlinked)
+
+      other : a.node ≢ k
+      other e = omega (arith, (not_linked m E (front ∷ rest) free shape a.node h.some_node (let here : holds a.node a ≤ E a.node = mine a.node in omega (arith, own h.hand h.pocket))).0, ap (λ j. times j (front ∷ rest)) (e ∙ h.last), last_times front rest)
+
+      open_after : is_shut_chain (put (Next k) r m) (front ∷ rest ++ a.node ∷ []) ≡ false
+      open_after =
+          ap (λ n. nat_eq n reserved_node)
+          (ap (λ j. (next_of (put (Next k) r m) j).node) (last_linked front rest a.node)
+          ∙ ap (λ (y : Node). y.next.node) (others_stay m.nodes k a.node (record (node_at m k) { next = r }) within.0 h.some_node other)
+          ∙ h.ready.1)
+
+  -- what holds where the `next` of the last node, which was null, becomes a closed end
+  pub record Shuts (k : ℕ) (r : Ref) (o : Outcome) : Type 0 where
+    pub last : k ≡ last_node (front ∷ rest)
+    pub unlinked : (next_of m k).node ≡ 0
+    pub closes : r.node ≡ reserved_node
+    pub same : (n : ℕ) → holds n o.actor ≡ holds n a
+    pub no_aside : o.aside ≡ None
+    pub relies : (you : ℕ) → 1 ≤ you → you ≢ me → q.Rely m (put (Next k) r m) (last_node (front ∷ rest)) (last_node (front ∷ rest)) you
+    pub words_then : q.Words s (put (Next k) r m) (front ∷ rest)
+    pub keeps_marks : Marked (put (Next k) r m) a → Marked (put (Next k) r m) o.actor
+    pub knows : Learns (put (Next k) r m) o
+    pub owns : OwnsAt m me o.actor.line
+    pub at : o.at ≡ Some now
+    pub earns : completed_reply o.reply (Some now) o.actor.due ≡ Some Done
+    pub call : a.op ≡ Shut
+    pub undecided : decided_reply a.due ≡ None
+
+  pub shuts : (k : ℕ) (r : Ref) (o : Outcome) → Shuts k r o → Goes (put (Next k) r m) o
+  shuts k r o h =
+      record {
+        front' = front;
+        rest' = rest;
+        free' = free;
+        turn = turn_none (put (Next k) r m) o front rest free h.no_aside (turn_shut m E front rest free a o.actor k r shape h.last h.unlinked (inr h.closes) h.same);
+        own_aside = none_aside o h.no_aside;
+        rises = inl refl;
+        relies = h.relies;
+        words = h.words_then;
+        marked = h.keeps_marks (marks_kept m (put (Next k) r m) a hand_stays marked);
+        knows = h.knows;
+        owns = h.owns;
+        linearizes = shut refl refl open_before shut_then h.at h.earns h.call h.undecided;
+      }
+    where
+      there : (1 ≤ k) × (k ≤ length m.nodes) × (1 ≤ times k (front ∷ rest))
+      there = last_there m E front rest free k shape h.last
+
+      hand_stays : (n : ℕ) → 1 ≤ n → 1 ≤ holds n a → node_at (put (Next k) r m) n ≡ node_at m n
+      hand_stays n some here =
+          others_stay m.nodes k n (record (node_at m k) { next = r }) there.0 some
+          (λ e. omega (arith, (not_linked m E (front ∷ rest) free shape n some (let held : holds n a ≤ E n = mine n in omega arith)).0, ap (λ j. times j (front ∷ rest)) e, there.2))
+
+      open_before : is_shut_chain m (front ∷ rest) ≡ false
+      open_before = ap (λ n. nat_eq n reserved_node) (ap (λ j. (next_of m j).node) (sym h.last) ∙ h.unlinked)
+
+      shut_then : is_shut_chain (put (Next k) r m) (front ∷ rest) ≡ true
+      shut_then =
+          ap (λ n. nat_eq n reserved_node)
+          (ap (λ j. (next_of (put (Next k) r m) j).node) (sym h.last) ∙ ap (λ (y : Node). y.next.node) (written m.nodes k (record (node_at m k) { next = r }) there.0 there.1) ∙ h.closes)
 
   -- what holds where Head becomes a reference to the node behind the first one, which comes into the hand
   pub record Pops (x : ℕ) (ns : List ℕ) (r : Ref) (o : Outcome) : Type 0 where
@@ -297,7 +377,7 @@ module _ (q : Queue) (b : Before q) where
     pub no_aside : o.aside ≡ None
     pub relies : (last you : ℕ) → you ≢ me → q.Rely m (put Head r m) last last you
     pub words_then : q.Words s (put Head r m) rest
-    pub knows : Knows q (Found rest now) s (put Head r m) (last_node (x ∷ ns)) o.actor o.actor.line
+    pub knows : Knows q (Found m (front ∷ rest) now) s (put Head r m) (last_node (x ∷ ns)) o.actor o.actor.line
     pub owns : OwnsAt m me o.actor.line
     pub at : o.at ≡ Some now
     pub earns : completed_reply o.reply (Some now) o.actor.due ≡ Some (Value (node_at m x).value)
@@ -321,7 +401,7 @@ module _ (q : Queue) (b : Before q) where
         marked = one_mark (put Head r m) o.actor h.empty (h.some_node, ap (λ k. (next_of m k).count) h.takes ∙ h.mark);
         knows = h.knows;
         owns = h.owns;
-        linearizes = popped front x ns (ap (λ ys. front ∷ ys) h.behind) refl h.raises h.at h.earns h.dequeues h.undecided;
+        linearizes = popped front x ns (ap (λ ys. front ∷ ys) h.behind) refl h.raises (ap (λ ys. is_shut_chain m (front ∷ ys)) (sym h.behind)) h.at h.earns h.dequeues h.undecided;
       }
 
   -- what an actor holds whose node goes to its pocket
@@ -333,7 +413,7 @@ module _ (q : Queue) (b : Before q) where
 
   gives_free : (due : Option Reply) → a.due ≡ due → DecidedFreeing due → a.holds ≡ true → a.pocket ≡ None → OwnsAt m me None → IfSome (busy_or now due (to_pocket a)) (Goes m)
   gives_free None d f h p g = refuses _ Busy (ap decided_reply d) refl refl refl (to_pocket_holds h p) refl (to_pocket_marks h) refl g
-  gives_free (Some (Value v)) d f h p g = still _ (to_pocket_holds h p) refl (to_pocket_marks h) tt g (stutters refl refl refl (inr (λ n. sym (ap decided_reply d))))
+  gives_free (Some (Value v)) d f h p g = still _ (to_pocket_holds h p) refl (to_pocket_marks h) tt g (stutters refl refl refl refl (inr (λ n. sym (ap decided_reply d))))
   gives_free _ d f h p g = absurd f
 
   -- an actor that gives up changes no word
@@ -344,6 +424,8 @@ module _ (q : Queue) (b : Before q) where
   gives D2 f g = refuses _ Busy (ap decided_reply f.earned) refl refl refl (λ n. refl) refl marked refl g
   gives A3 f g = refuses _ Busy (ap decided_reply f.earned) refl refl refl (to_pocket_holds f.hand f.pocket) refl (to_pocket_marks f.hand) refl g
   gives B1 f g = refuses _ Busy (ap decided_reply f.earned) refl refl refl (λ n. refl) refl marked refl g
+  gives S1 f g = refuses _ Busy (ap decided_reply f.earned) refl refl refl (λ n. refl) refl marked refl g
+  gives S6 f g = refuses _ Busy (ap decided_reply f.earned) refl refl refl (λ n. refl) refl marked refl g
   gives _ f g = tt
 
 -- the step of each line does one of these
@@ -368,12 +450,12 @@ module _ (q : Queue) (steps : Steps q) (b : Before q) where
       (λ e. on q b _ (ap decided_reply t.fixed.earned) refl (λ n. refl) refl marked tt t.owns)
   does F1 t =
       either (After q b m) (nat_eq m.free.count s.limit) (λ e. aside_freed q b s.kind a.due m.free refl t.fixed.earned t.fixed.hand t.fixed.pocket t.nodes t.owns)
-      (λ e. still q b _ (λ n. refl) refl marked tt t.owns (stutters refl refl refl (inr (λ n. refl))))
+      (λ e. still q b _ (λ n. refl) refl marked tt t.owns (stutters refl refl refl refl (inr (λ n. refl))))
   does F2 t =
       writes q b _ (record (node_at m a.node) { next = ref a.top.node a.mark }) t.fixed.hand t.fixed.pocket t.nodes (sym (marked.hand t.fixed.hand).1) t.fixed.hand t.fixed.pocket refl refl refl
       (ap (λ (x : Node). x.next) (written m.nodes a.node (record (node_at m a.node) { next = ref a.top.node a.mark }) t.nodes low)) t.owns refl (inr (λ n. refl))
   does F3 t =
       tried (After q b) (same_ref m.free a.top)
       (λ e. gives_back_freed q b s.kind a.due refl t.fixed.earned t.fixed.hand t.fixed.pocket t.nodes (same_ref-true m.free a.top e) t.fixed.room t.knows t.owns)
-      (λ e. still q b _ (λ n. refl) refl marked tt t.owns (stutters refl refl refl (inr (λ n. refl))))
+      (λ e. still q b _ (λ n. refl) refl marked tt t.owns (stutters refl refl refl refl (inr (λ n. refl))))
   does l t = steps.does b l t.runs t

@@ -2,23 +2,23 @@
 -- number is noted, and that a call with a place is neither refused nor told that the queue is empty.
 use Rattle.std.proofs.Common.{◌≡◌, ℕ, ◌⊎◌, inl, inr, Bool, true, false, nat_eq, nat_lt, if◌then◌else◌, Option, Some, None, IfSome, refl, sym, subst, ap, ◌∙◌}
 use Rattle.std.proofs.lemmas.Option.{none-some}
-use Rattle.counted_ref.specs.Ref.{is_null, same_ref}
+use Rattle.counted_ref.specs.Ref.{is_null, is_shut, null, same_ref}
 use Rattle.line_table.specs.declared.lines.Kind.{Kind}
 use Rattle.line_table.specs.declared.lines.Line.{Line}
-use Rattle.line_table.specs.declared.lines.Line.TheVariants.{N1, N2, N4, N5, F1, F3, E3, E5, E7, E9, E17, D2, D4, D5, D12, D13, A3, A7, B1, B3, B4, B6}
+use Rattle.line_table.specs.declared.lines.Line.TheVariants.{N1, N2, N4, N5, F1, F3, E3, E5, E7, E9, E17, D2, D4, D5, D12, D13, A3, A5, A7, B1, B3, B4, B6, S1, S3, S4, S6, S8, S9}
 use Rattle.history.specs.declared.refusals.WornWord.TheVariants.{Free as OfFree, Next as OfNext, Tail as OfTail, Head as OfHead}
 use Rattle.history.specs.declared.refusals.Refusal.{Refusal}
-use Rattle.history.specs.declared.refusals.Refusal.TheVariants.{NoNode, WornOut, Busy}
+use Rattle.history.specs.declared.refusals.Refusal.TheVariants.{NoNode, WornOut, Busy, Closed}
 use Rattle.history.specs.declared.operations.Reply.{Reply}
 use Rattle.history.specs.declared.operations.Reply.TheVariants.{Done, Value, Empty, Refused}
 use Rattle.line_steps.specs.declared.actors.Setup.{Setup}
 use Rattle.line_steps.specs.declared.actors.Actor.{Actor}
 use Rattle.line_steps.specs.Outcomes.{Outcome}
 use Rattle.line_steps.specs.Memory.{Found}
-use Rattle.line_steps.specs.Lines.{action, outcome, goes, ends, effect, sets_aside, empties_hand, to_pocket, freed, unlocked, busy_or, gives_up}
+use Rattle.line_steps.specs.Lines.{action, outcome, goes, ends, effect, sets_aside, empties_hand, to_pocket, freed, unlocked, left, left_with_node, busy_or, gives_up}
 use Rattle.step_machine.specs.TakingEffect.{IsByEffect}
 use Rattle.step_machine.specs.Recording.{looks}
-use Rattle.step_machine.proofs.StampsLines.{PointFits, PointAt}
+use Rattle.step_machine.proofs.StampsLines.{PointFits, PointLeft, PointAt}
 
 -- what an outcome at a line tells; `looked` is whether the line looks for a node
 pub record Tells (l : Line) (looked : Bool) (now : ℕ) (a : Actor) (o : Outcome) : Type 0 where
@@ -101,6 +101,23 @@ pushed_tells false now a c same = goes_on E9 now a _ refl same
 refuses : (l : Line) (now : ℕ) (a : Actor) (why : Refusal) (b : Actor) → b.empty_at ≡ a.empty_at → ((at : Option ℕ) → PointAt l a.due at (Unit {0}) → at ≡ None) → Tells l false now a (ends now (Refused why) b)
 refuses l now a why b same none = ends_with l now a (Refused why) b same (λ at stands. inr (none at stands))
 
+left_tells : (now : ℕ) (a : Actor) (due : Option Reply) (b : Actor) → b.empty_at ≡ a.empty_at → ((at : Option ℕ) → PointAt S9 a.due at (Unit {0}) → PointLeft due at) → Tells S9 false now a (left now due b)
+left_tells now a (Some (Refused why)) b same earns = ends_with S9 now a (Refused why) b same (λ at stands. inr (earns at stands))
+left_tells now a None b same earns = ends_with S9 now a Done b same (λ at stands. inl tt)
+left_tells now a (Some Done) b same earns = ends_with S9 now a Done b same (λ at stands. inl tt)
+left_tells now a (Some (Value v)) b same earns = ends_with S9 now a Done b same (λ at stands. inl tt)
+left_tells now a (Some Empty) b same earns = ends_with S9 now a Done b same (λ at stands. inl tt)
+
+left_with_node_tells : (now : ℕ) (a : Actor) (due : Option Reply) (b : Actor) → b.empty_at ≡ a.empty_at → ((at : Option ℕ) → PointAt A7 a.due at (Unit {0}) → PointLeft due at) → Tells A7 false now a (left_with_node now due b)
+left_with_node_tells now a (Some (Refused why)) b same earns = ends_with A7 now a (Refused why) (to_pocket b) same (λ at stands. inr (earns at stands))
+left_with_node_tells now a None b same earns = ends_with A7 now a Done b same (λ at stands. inl tt)
+left_with_node_tells now a (Some Done) b same earns = ends_with A7 now a Done b same (λ at stands. inl tt)
+left_with_node_tells now a (Some (Value v)) b same earns = ends_with A7 now a Done b same (λ at stands. inl tt)
+left_with_node_tells now a (Some Empty) b same earns = ends_with A7 now a Done b same (λ at stands. inl tt)
+
+shut_tells : (now : ℕ) (a : Actor) → Tells S4 false now a (effect now (ends now Done a))
+shut_tells now a = record { refused = λ why e. cc; empty = λ e. cc; passes = λ e. refl; notes = λ e. false_true e; unplaced = λ at stands. inl tt }
+
 -- the outcome of each line
 pub tells : (s : Setup) (now me : ℕ) (a : Actor) (l : Line) (c : Found (action s me a l)) → Tells l (looks l) now a (outcome s now me a l c)
 tells s now me a N2 c =
@@ -122,7 +139,8 @@ tells s now me a E3 c =
 tells s now me a E7 c =
     both (same_ref c a.tail) _ _
     (both (is_null a.next) _ _ (goes_on E7 now a _ refl refl)
-    (both (nat_eq a.tail.count s.limit) _ _ (refuses E7 now a (WornOut OfTail) (to_pocket a) refl (λ at h. h)) (goes_on E7 now a _ refl refl)))
+    (both (is_shut a.next) _ _ (refuses E7 now a Closed (to_pocket a) refl (λ at h. h))
+    (both (nat_eq a.tail.count s.limit) _ _ (refuses E7 now a (WornOut OfTail) (to_pocket a) refl (λ at h. h)) (goes_on E7 now a _ refl refl))))
     (goes_on E7 now a _ refl refl)
 tells s now me a E9 c =
     both (same_ref c a.next) _ _ (pushed_tells (nat_eq a.tail.count s.limit) now a (empties_hand (record a { due = Some Done })) refl) (goes_on E9 now a _ refl refl)
@@ -132,16 +150,28 @@ tells s now me a D5 c =
     both (same_ref c a.head) _ _
     (both (nat_eq a.head.node a.tail.node) _ _
     (both (is_null a.next) _ _ (ends_with D5 now a Empty a refl (λ at h. inr h.0))
-    (both (nat_eq a.tail.count s.limit) _ _ (refuses D5 now a (WornOut OfTail) a refl (λ at h. h.0)) (goes_on D5 now a _ refl refl)))
+    (both (is_shut a.next) _ _ (refuses D5 now a Closed a refl (λ at h. h.0))
+    (both (nat_eq a.tail.count s.limit) _ _ (refuses D5 now a (WornOut OfTail) a refl (λ at h. h.0)) (goes_on D5 now a _ refl refl))))
     (goes_on D5 now a _ refl refl))
     (goes_on D5 now a _ refl refl)
 tells s now me a D12 c =
     both (nat_eq a.head.count s.limit) _ _ (refuses D12 now a (WornOut OfHead) (record a { val = c }) refl (λ at h. h)) (goes_on D12 now a _ refl refl)
 tells s now me a D13 c = both (same_ref c a.head) _ _ (goes_on D13 now a _ refl refl) (goes_on D13 now a _ refl refl)
 tells s now me a A3 c = both (nat_eq c 0) _ _ (goes_on A3 now a _ refl refl) (goes_on A3 now a _ refl refl)
-tells s now me a A7 c = ends_with A7 now a Done a refl (λ at h. inl tt)
+tells s now me a A5 c = both (same_ref c null) _ _ (goes_on A5 now a _ refl refl) (goes_on A5 now a _ refl refl)
+tells s now me a A7 c = left_with_node_tells now a a.due a refl (λ at h. h)
+tells s now me a S3 c =
+    both (same_ref c a.tail) _ _
+    (both (is_null a.next) _ _ (goes_on S3 now a _ refl refl)
+    (both (is_shut a.next) _ _ (refuses S3 now a Closed a refl (λ at h. h))
+    (both (nat_eq a.tail.count s.limit) _ _ (refuses S3 now a (WornOut OfTail) a refl (λ at h. h)) (goes_on S3 now a _ refl refl))))
+    (goes_on S3 now a _ refl refl)
+tells s now me a S4 c = both (same_ref c a.next) _ _ (shut_tells now a) (goes_on S4 now a _ refl refl)
+tells s now me a S6 c = both (nat_eq c 0) _ _ (goes_on S6 now a _ refl refl) (goes_on S6 now a _ refl refl)
+tells s now me a S8 c = both (same_ref c null) _ _ (goes_on S8 now a _ refl refl) (goes_on S8 now a _ refl refl)
+tells s now me a S9 c = left_tells now a a.due a refl (λ at h. h)
 tells s now me a B1 c = both (nat_eq c 0) _ _ (goes_on B1 now a _ refl refl) (goes_on B1 now a _ refl refl)
-tells s now me a B3 c = both (is_null c) _ _ (looks_on B3 now a _ refl refl) (looks_on B3 now a _ refl refl)
+tells s now me a B3 c = both (is_null c) _ _ (looks_on B3 now a _ refl refl) (both (is_shut c) _ _ (looks_on B3 now a _ refl refl) (looks_on B3 now a _ refl refl))
 tells s now me a B4 c = both (nat_eq a.head.count s.limit) _ _ (goes_on B4 now a _ refl refl) (goes_on B4 now a _ refl refl)
 tells s now me a B6 c = unlocked_tells now a a.due a refl (λ at h. h)
 tells s now me a _ c = goes_on _ now a _ refl refl
@@ -159,4 +189,6 @@ given_tells now a E5 = refuses E5 now a Busy (to_pocket a) refl (λ at h. h)
 given_tells now a D2 = refuses D2 now a Busy a refl (λ at h. h)
 given_tells now a A3 = refuses A3 now a Busy (to_pocket a) refl (λ at h. h)
 given_tells now a B1 = refuses B1 now a Busy a refl (λ at h. h)
+given_tells now a S1 = refuses S1 now a Busy a refl (λ at h. h)
+given_tells now a S6 = refuses S6 now a Busy a refl (λ at h. h)
 given_tells now a _ = tt

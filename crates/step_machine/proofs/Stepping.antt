@@ -5,11 +5,13 @@ use Rattle.std.proofs.Math.Seq.{set-append_seam, get_or-append_seam}
 use Rattle.line_steps.specs.Rooms.{Memory}
 use Rattle.line_steps.specs.Steps.{outcome_on}
 use Rattle.step_machine.specs.Below.{Line, Reply, Stamped, Setup, Actor, Outcome, performed, action, memory_after}
-use Rattle.step_machine.specs.Machine.{actor_of, entry_or, new_operation, with_operation, with_outcome}
+use Rattle.step_machine.specs.declared.actors.Move.TheVariants.{Step}
+use Rattle.step_machine.specs.Machine.{World, actor_of, entry_or, new_operation, with_operation, with_outcome, next, stepped}
 use Rattle.step_machine.specs.Views.{wants_node, HasNodes, unrecorded, entered, led, listed, TookStep}
 use Rattle.step_machine.specs.Stored.{world}
 use Rattle.step_machine.specs.declared.world.World.TheInside.{Inside}
 use Rattle.step_machine.proofs.Growth.{grows}
+use Rattle.step_machine.proofs.Giving.{step_move, same_world}
 use Rattle.step_machine.proofs.Making.{Rooms, settled_rooms}
 
 -- an operation that is changed where it stands, once it is in the list
@@ -66,3 +68,25 @@ module _ (i : Inside) (more me : ℕ) (a b : Actor) (l : Line) (after : Memory) 
       let actors : slice_set w.actors (me - 1) b ≡ slice_set w.actors (me - 1) (entered a.entry (length w.operations) o) = ap (λ c. slice_set w.actors (me - 1) c) took.actor in
       subst (λ n. Rooms w.setup.size after.words.fresh n more (slice_set w.actors (me - 1) b) listed) (sym (ap (λ n. n.room) took.memory))
       (settled_rooms w i.memory.room _ more me a l o after.words.fresh _ _ listed _ _ at here grown actors took.operations nodes entries enough)
+
+-- the fields that the step put down are those of the world that it leads to
+module _ (i : Inside) (me : ℕ) (a b : Actor) (l : Line) (after : Memory) (listed : List Stamped) (reply : Option Reply) where
+  abbrev pub stepped_to : World
+  stepped_to =
+      record {
+        setup = i.setup;
+        steps = i.steps + 1;
+        shared = after.words;
+        actors = slice_set i.actors.items (me - 1) b;
+        aside = after.aside;
+        operations = listed;
+      }
+
+  pub took_move : actor_of (world i) me ≡ Some a → a.line ≡ Some l → TookStep i.setup (i.steps + 1) me l i.memory i.operations.items a after listed b reply → next (world i) (Step me) ≡ Some stepped_to
+  took_move at here took =
+      let w = world i in
+      step_move w me a l at here ∙
+      ap Some
+      (sym
+      (same_world stepped_to (stepped w me a l) refl refl (ap (λ m. m.words) took.memory)
+      (ap (λ c. slice_set w.actors (me - 1) c) took.actor) (ap (λ m. m.aside) took.memory) took.operations))

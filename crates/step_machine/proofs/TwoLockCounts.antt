@@ -2,7 +2,7 @@
 use Rattle.std.proofs.Common.{◌≡◌, ℕ, zero, suc, ◌-◌, nat_eq, List, [], ◌∷◌, get_or, set, Some, refl, sym, ◌∙◌, arith}
 use Rattle.std.specs.List.{All}
 use Rattle.std.proofs.lemmas.List.Elements.{All-set, All-replicate}
-use Rattle.step_machine.specs.Below.{same_ref, TwoLock, Line, N1, N2, N3, N4, N5, F1, F2, F3, A1, A2, A3, A4, A5, A6, A7, B1, B2, B3, B4, B5, B6, section_of, Setup, Node, Actor, blank, Shared, performed, action}
+use Rattle.step_machine.specs.Below.{same_ref, TwoLock, Line, N1, N2, N3, N4, N5, F1, F2, F3, A1, A2, A3, A4, A5, A6, A7, B1, B2, B3, B4, B5, B6, S6, S7, S8, S9, null, section_of, Setup, Node, Actor, blank, Shared, node_at, performed, action}
 use Rattle.step_machine.specs.ProgramCounters.{IsRunBy}
 use Rattle.step_machine.specs.TwoLock.{OfTwoLockWorlds, CountsNothing}
 use Rattle.step_machine.proofs.Choices.{both}
@@ -39,7 +39,11 @@ words s me m a A1 r f g h = set_count m (a.node - 1) _ h (no_count m.nodes (a.no
 words s me m a A2 r f g h = set_count m (a.node - 1) _ h (no_count m.nodes (a.node - 1) h.nodes)
 words s me m a A3 r f g h = both NoCounts (nat_eq m.tail_lock 0) (record { tail = h.tail; nodes = h.nodes }) h
 words s me m a A4 r f g h = h
-words s me m a A5 r f g h = set_count m (a.tail.node - 1) _ h refl
+words s me m a A5 r f g h = both NoCounts (same_ref (node_at m a.tail.node).next null) (set_count m (a.tail.node - 1) _ h refl) h
+words s me m a S6 r f g h = both NoCounts (nat_eq m.tail_lock 0) (record { tail = h.tail; nodes = h.nodes }) h
+words s me m a S7 r f g h = h
+words s me m a S8 r f g h = both NoCounts (same_ref (node_at m a.tail.node).next null) (set_count m (a.tail.node - 1) _ h refl) h
+words s me m a S9 r f g h = record { tail = h.tail; nodes = h.nodes }
 words s me m a A6 r f g h = record { tail = refl; nodes = h.nodes }
 words s me m a A7 r f g h = record { tail = h.tail; nodes = h.nodes }
 words s me m a B1 r f g h = both NoCounts (nat_eq m.head_lock 0) (record { tail = h.tail; nodes = h.nodes }) h

@@ -1,6 +1,7 @@
--- What a chain of nodes has: a last node, and the values of the nodes behind its first one.
-use Rattle.std.specs.Prelude.{ℕ, List, [], ◌∷◌, map}
-use Rattle.step_machine.specs.Below.{Taken, Shared, node_at}
+-- What a chain of nodes has: a last node, the values of the nodes behind its first one, and an end; and so the queue that it
+-- holds.
+use Rattle.std.specs.Prelude.{ℕ, Bool, nat_eq, List, [], ◌∷◌, map}
+use Rattle.step_machine.specs.Below.{reserved_node, Taken, Queue, Shared, node_at}
 
 -- the last node of a chain; 0 of the empty one
 abbrev pub last_node : List ℕ → ℕ
@@ -16,3 +17,11 @@ values_of m ns = map (λ n. (node_at m n).value) ns
 abbrev pub queue_values : Shared → List ℕ → List Taken
 queue_values m [] = []
 queue_values m (dummy ∷ ns) = values_of m ns
+
+-- whether a queue's chain ends at the closed end
+abbrev pub is_shut_chain : Shared → List ℕ → Bool
+is_shut_chain m queue = nat_eq (node_at m (last_node queue)).next.node reserved_node
+
+-- the queue that a chain holds
+abbrev pub queue_in : Shared → List ℕ → Queue
+queue_in m queue = record { values = queue_values m queue; shut = is_shut_chain m queue }

@@ -1,13 +1,29 @@
 -- Where each node is: five sets of nodes, which know nothing of lines.
-use Rattle.std.specs.Prelude.{◌≡◌, ℕ, ◌+◌, ◌-◌, ◌<◌, ◌≤◌, Bool, true, false, nat_eq, if◌then◌else◌, List, [], ◌∷◌, length, Option, Some, None, slice_index_or, Contains}
-use Rattle.step_machine.specs.Below.{Node, Held, Actor, blank}
+use Rattle.std.specs.Prelude.{◌≡◌, ◌⊎◌, ℕ, ◌+◌, ◌-◌, ◌<◌, ◌≤◌, Bool, true, false, nat_eq, if◌then◌else◌, List, [], ◌∷◌, length, Option, Some, None, slice_index_or, Contains}
+use Rattle.step_machine.specs.Below.{reserved_node, Node, Held, Actor, blank}
 use Rattle.step_machine.specs.Machine.{World}
 
--- these nodes, each the `next` of the one before, lead from a node number to null
+-- a number is null
+abbrev pub IsNull : ℕ → Type 0
+IsNull n = n ≡ 0
+
+-- a number is null, or the closed end, which no node has
+abbrev pub IsEnd : ℕ → Type 0
+IsEnd n = (n ≡ 0) ⊎ (n ≡ reserved_node)
+
+-- these nodes, each the `next` of the one before, lead from a node number to one where a chain may end
+abbrev pub IsChainBy : (End : ℕ → Type 0) → List Node → ℕ → List ℕ → Type 0
+IsChainBy End nodes n [] = End n
+IsChainBy End nodes n (k ∷ ks) =
+    (n ≡ k) × (1 ≤ k) × (k ≤ length nodes) × IsChainBy End nodes (slice_index_or nodes (k - 1) blank).next.node ks
+
+-- these nodes lead from a node number to null: the free ones do
 abbrev pub IsChain : List Node → ℕ → List ℕ → Type 0
-IsChain nodes n [] = n ≡ 0
-IsChain nodes n (k ∷ ks) =
-    (n ≡ k) × (1 ≤ k) × (k ≤ length nodes) × IsChain nodes (slice_index_or nodes (k - 1) blank).next.node ks
+IsChain nodes n ks = IsChainBy IsNull nodes n ks
+
+-- these nodes lead from a node number to null or to the closed end: those of the queue do
+abbrev pub IsQueueChain : List Node → ℕ → List ℕ → Type 0
+IsQueueChain nodes n ks = IsChainBy IsEnd nodes n ks
 
 -- 1 for yes, 0 for no
 abbrev pub one_if : Bool → ℕ
@@ -43,7 +59,7 @@ IsUntouched w n = w.shared.fresh < n
 
 -- a node of the chain from Head, the dummy first
 abbrev pub IsQueued : World → ℕ → Type 0
-IsQueued w n = (ns : List ℕ) × IsChain w.shared.nodes w.shared.head.node ns × Contains ns n
+IsQueued w n = (ns : List ℕ) × IsQueueChain w.shared.nodes w.shared.head.node ns × Contains ns n
 
 -- a node of the chain from Free
 abbrev pub IsFree : World → ℕ → Type 0
@@ -60,7 +76,7 @@ IsSetAside w n = set_aside n w.aside ≡ 1
 -- each node up to Fresh is in exactly one of four places, in the queue, in the free chain, held or set aside, and
 -- there once; one above it is untouched and in none of them
 pub record Places (w : World) (queue free : List ℕ) : Type 0 where
-  pub queue_chain : IsChain w.shared.nodes w.shared.head.node queue
+  pub queue_chain : IsQueueChain w.shared.nodes w.shared.head.node queue
   pub free_chain : IsChain w.shared.nodes w.shared.free.node free
   pub touched : (n : ℕ) → 1 ≤ n → n ≤ w.shared.fresh → times n queue + times n free + held n w.actors + set_aside n w.aside ≡ 1
   pub untouched : (n : ℕ) → w.shared.fresh < n → times n queue + times n free + held n w.actors + set_aside n w.aside ≡ 0

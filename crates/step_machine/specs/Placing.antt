@@ -4,7 +4,7 @@ use Rattle.line_steps.specs.declared.actors.Node.{Node}
 use Rattle.step_machine.specs.declared.places.Place.{Place}
 use Rattle.step_machine.specs.declared.places.Place.TheVariants.{Untouched, Queue, Free, Held, SetAside}
 use Rattle.step_machine.specs.Machine.{World}
-use Rattle.step_machine.specs.Places.{IsChain, times, IsUntouched, IsQueued, IsFree, IsHeld, IsSetAside}
+use Rattle.step_machine.specs.Places.{IsQueueChain, times, IsUntouched, IsQueued, IsFree, IsHeld, IsSetAside}
 
 -- a node is at a place
 abbrev pub IsAt : World → ℕ → Place → Type 0
@@ -18,7 +18,7 @@ IsAt w n SetAside = IsSetAside w n
 abbrev pub TellsWhetherThere : Bool → ℕ → Type 0
 TellsWhetherThere is_there often = (is_there ≡ true → 1 ≤ often) × (is_there ≡ false → often ≡ 0)
 
--- whether a node is in the chain that starts at another one is told, if that chain has no more nodes than these
+-- whether a node is in the queue's chain from another one is told, if that has no more nodes than these
 abbrev pub TellsOfChain : Bool → List Node → (from node most : ℕ) → Type 0
 TellsOfChain is_there nodes from node most =
-    (ns : List ℕ) → IsChain nodes from ns → length ns ≤ most → TellsWhetherThere is_there (times node ns)
+    (ns : List ℕ) → IsQueueChain nodes from ns → length ns ≤ most → TellsWhetherThere is_there (times node ns)

@@ -1,7 +1,7 @@
 -- Before which lines the actors of a world stand, and which registers hold nodes there.
-use Rattle.std.specs.Prelude.{◌≡◌, ℕ, ◌≤◌, Option, Some, None, IfSome}
-use Rattle.step_machine.specs.Below.{Kind, TwoLock, NonBlocking, Line, N1, N2, N3, N4, N5, F1, F2, F3, E2, E3, E5, E6, E7, E9, E13, E17, D2, D3, D4, D5, D10, D12, D13, A1, A2, A3, A4, A5, A6, A7, B1, B2, B3, B4, B5, B6, Section, section_of, Reply, Value, Actor, word}
-use Rattle.line_table.specs.declared.lines.Section.TheVariants.{NewNode, Free, Enqueue, Dequeue, LockedEnqueue, LockedDequeue}
+use Rattle.std.specs.Prelude.{◌≡◌, ◌≢◌, ℕ, ◌≤◌, Option, Some, None, IfSome}
+use Rattle.step_machine.specs.Below.{reserved_node, Kind, TwoLock, NonBlocking, Line, N1, N2, N3, N4, N5, F1, F2, F3, E2, E3, E5, E6, E7, E9, E13, E17, D2, D3, D4, D5, D10, D12, D13, A1, A2, A3, A4, A5, A6, A7, B1, B2, B3, B4, B5, B6, S1, S2, S3, S4, S5, S6, S7, S8, S9, Section, section_of, Reply, Value, Refused, Actor, word}
+use Rattle.line_table.specs.declared.lines.Section.TheVariants.{NewNode, Free, Enqueue, Dequeue, LockedEnqueue, LockedDequeue, Shut, LockedShut}
 use Rattle.step_machine.specs.Words.{IsWord}
 use Rattle.step_machine.specs.Machine.{World, actor_of}
 use Rattle.step_machine.specs.Tables.{IsOneStep, OfEachNextAccess}
@@ -18,12 +18,21 @@ IsRunBy LockedEnqueue NonBlocking = ⊥
 IsRunBy LockedEnqueue TwoLock = Unit {0}
 IsRunBy LockedDequeue NonBlocking = ⊥
 IsRunBy LockedDequeue TwoLock = Unit {0}
+IsRunBy Shut NonBlocking = Unit {0}
+IsRunBy Shut TwoLock = ⊥
+IsRunBy LockedShut NonBlocking = ⊥
+IsRunBy LockedShut TwoLock = Unit {0}
 
 -- a call that lets the head lock go has a node to free, unless its reply is settled and no value
 abbrev pub HasNodeToFree : Option Reply → (node : ℕ) → Type 0
 HasNodeToFree None node = 1 ≤ node
 HasNodeToFree (Some (Value v)) node = 1 ≤ node
 HasNodeToFree _ node = Unit {0}
+
+-- a call that lets the tail lock go has its node still, where it is refused
+abbrev pub HasNodeAfter : Option Reply → (node : ℕ) → Type 0
+HasNodeAfter (Some (Refused why)) node = 1 ≤ node
+HasNodeAfter _ node = Unit {0}
 
 -- the registers that hold nodes before a line, and not null
 abbrev pub NonNullAt : Line → Actor → Type 0
@@ -41,28 +50,37 @@ NonNullAt E5 a = 1 ≤ a.node
 NonNullAt E6 a = (1 ≤ a.node) × (1 ≤ a.tail.node)
 NonNullAt E7 a = (1 ≤ a.node) × (1 ≤ a.tail.node)
 NonNullAt E9 a = (1 ≤ a.node) × (1 ≤ a.tail.node)
-NonNullAt E13 a = (1 ≤ a.node) × (1 ≤ a.tail.node) × (1 ≤ a.next.node)
+NonNullAt E13 a = (1 ≤ a.node) × (1 ≤ a.tail.node) × (1 ≤ a.next.node) × (a.next.node ≢ reserved_node)
 NonNullAt E17 a = (1 ≤ a.node) × (1 ≤ a.tail.node)
 NonNullAt D2 a = Unit {0}
 NonNullAt D3 a = 1 ≤ a.head.node
 NonNullAt D4 a = (1 ≤ a.head.node) × (1 ≤ a.tail.node)
 NonNullAt D5 a = (1 ≤ a.head.node) × (1 ≤ a.tail.node)
-NonNullAt D10 a = (1 ≤ a.tail.node) × (1 ≤ a.next.node)
-NonNullAt D12 a = (1 ≤ a.head.node) × (1 ≤ a.next.node)
-NonNullAt D13 a = (1 ≤ a.head.node) × (1 ≤ a.next.node)
+NonNullAt D10 a = (1 ≤ a.tail.node) × (1 ≤ a.next.node) × (a.next.node ≢ reserved_node)
+NonNullAt D12 a = (1 ≤ a.head.node) × (1 ≤ a.next.node) × (a.next.node ≢ reserved_node)
+NonNullAt D13 a = (1 ≤ a.head.node) × (1 ≤ a.next.node) × (a.next.node ≢ reserved_node)
 NonNullAt A1 a = 1 ≤ a.node
 NonNullAt A2 a = 1 ≤ a.node
 NonNullAt A3 a = 1 ≤ a.node
 NonNullAt A4 a = 1 ≤ a.node
 NonNullAt A5 a = (1 ≤ a.node) × (1 ≤ a.tail.node)
 NonNullAt A6 a = 1 ≤ a.node
-NonNullAt A7 a = Unit {0}
+NonNullAt A7 a = HasNodeAfter a.due a.node
 NonNullAt B1 a = Unit {0}
 NonNullAt B2 a = Unit {0}
 NonNullAt B3 a = 1 ≤ a.head.node
-NonNullAt B4 a = (1 ≤ a.head.node) × (1 ≤ a.next.node)
-NonNullAt B5 a = (1 ≤ a.head.node) × (1 ≤ a.next.node)
+NonNullAt B4 a = (1 ≤ a.head.node) × (1 ≤ a.next.node) × (a.next.node ≢ reserved_node)
+NonNullAt B5 a = (1 ≤ a.head.node) × (1 ≤ a.next.node) × (a.next.node ≢ reserved_node)
 NonNullAt B6 a = HasNodeToFree a.due a.node
+NonNullAt S1 a = Unit {0}
+NonNullAt S2 a = 1 ≤ a.tail.node
+NonNullAt S3 a = 1 ≤ a.tail.node
+NonNullAt S4 a = 1 ≤ a.tail.node
+NonNullAt S5 a = (1 ≤ a.tail.node) × (1 ≤ a.next.node) × (a.next.node ≢ reserved_node)
+NonNullAt S6 a = Unit {0}
+NonNullAt S7 a = Unit {0}
+NonNullAt S8 a = 1 ≤ a.tail.node
+NonNullAt S9 a = Unit {0}
 
 -- an actor's next line is one of its queue, and the registers that it uses as nodes hold nodes
 abbrev pub IsAtLine : Kind → Actor → Option Line → Type 0

@@ -1,12 +1,17 @@
 -- Every number in a world is in the range of its word.
-use Rattle.std.specs.Prelude.{◌≡◌, ℕ, ◌^◌, ◌<◌, ◌≤◌, length, Option, Some, IfSome}
+use Rattle.std.specs.Prelude.{◌≡◌, ◌⊎◌, ℕ, ◌^◌, ◌<◌, ◌≤◌, length, Option, Some, IfSome}
 use Rattle.std.specs.List.{All}
-use Rattle.step_machine.specs.Below.{body_bits, Ref, Line, N5, Op, Enq, Deq, Taken, Setup, Node, Held, Actor, Shared}
+use Rattle.step_machine.specs.Below.{reserved_node, body_bits, Ref, Line, N5, Op, Enq, Deq, Shut, Taken, Setup, Node, Held, Actor, Shared}
 use Rattle.step_machine.specs.Machine.{World, IsSized}
 
 -- a reference names one of the first `fresh` nodes or none, and its count is at most the limit
 pub record RefInRange (limit fresh : ℕ) (r : Ref) : Type 0 where
   pub node : r.node ≤ fresh
+  pub count : r.count ≤ limit
+
+-- the same of a `next`, which may also be a closed end
+pub record NextInRange (limit fresh : ℕ) (r : Ref) : Type 0 where
+  pub node : (r.node ≤ fresh) ⊎ (r.node ≡ reserved_node)
   pub count : r.count ≤ limit
 
 -- a value is of one of the actors or of nobody, and its body is below 2^48
@@ -16,7 +21,7 @@ pub record ValueInRange (actors : ℕ) (v : Taken) : Type 0 where
 
 -- a node's reference and its value are in range
 pub record NodeInRange (limit fresh actors : ℕ) (n : Node) : Type 0 where
-  pub next : RefInRange limit fresh n.next
+  pub next : NextInRange limit fresh n.next
   pub value : ValueInRange actors n.value
 
 -- the shared words are in range: each of the nodes up to Fresh is there, and no word names another one
@@ -35,6 +40,7 @@ pub record SharedInRange (s : Setup) (actors : ℕ) (m : Shared) : Type 0 where
 abbrev pub OpInRange : Op → Type 0
 OpInRange (Enq body) = body < 2 ^ body_bits
 OpInRange Deq = Unit {0}
+OpInRange Shut = Unit {0}
 
 -- a node in a pocket is one of the first `fresh` or none, and its mark is at most the limit
 pub record HeldInRange (limit fresh : ℕ) (held : Held) : Type 0 where
@@ -52,7 +58,7 @@ RegistersInRange s fresh actors a =
       mark : a.mark ≤ s.limit;
       tail : RefInRange s.limit fresh a.tail;
       head : RefInRange s.limit fresh a.head;
-      next : RefInRange s.limit fresh a.next;
+      next : NextInRange s.limit fresh a.next;
       val : ValueInRange actors a.val;
     }
 

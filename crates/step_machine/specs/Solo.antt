@@ -1,6 +1,6 @@
 -- How soon an actor ends its call, where no other one makes a move.
 use Rattle.std.specs.Prelude.{◌≡◌, ℕ, ◌≤◌, replicate, Some, IsSomeAnd}
-use Rattle.step_machine.specs.Below.{NonBlocking, Op, Enq, Deq}
+use Rattle.step_machine.specs.Below.{NonBlocking, Op, Enq, Deq, Shut}
 use Rattle.step_machine.specs.declared.actors.Move.TheVariants.{Begin, Step}
 use Rattle.step_machine.specs.Machine.{World, made, next, run}
 use Rattle.step_machine.specs.Calls.{IsIdle}
@@ -13,6 +13,7 @@ EndsWithin most w me = (n : ℕ) × (n ≤ most) × IsSomeAnd (run (replicate n 
 abbrev pub most_steps : Op → ℕ
 most_steps (Enq body) = 15
 most_steps Deq = 17
+most_steps Shut = 8
 
 -- an actor of the non-blocking queue that just began this call ends it within the most steps, where no other one moves
 abbrev pub EndsAlone : World → (me : ℕ) → Op → Type 0

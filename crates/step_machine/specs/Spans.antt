@@ -2,9 +2,9 @@
 use Rattle.std.specs.Prelude.{◌≡◌, ℕ, ◌<◌, ◌≤◌, List, Some, IfSome, slice_get}
 use Rattle.std.specs.List.{AllByRecursion}
 use Rattle.line_table.specs.declared.lines.Line.{Line}
-use Rattle.line_table.specs.declared.lines.Line.TheVariants.{E9, D13, A5, B5}
+use Rattle.line_table.specs.declared.lines.Line.TheVariants.{E9, D13, A5, B5, S4, S8}
 use Rattle.history.specs.declared.operations.Op.{Op}
-use Rattle.history.specs.declared.operations.Op.TheVariants.{Enq, Deq}
+use Rattle.history.specs.declared.operations.Op.TheVariants.{Enq, Deq, Shut}
 use Rattle.history.specs.declared.operations.Stamped.{Stamped}
 use Rattle.line_steps.specs.declared.actors.Setup.{Setup}
 use Rattle.step_machine.specs.Machine.{AnyMove}
@@ -45,6 +45,8 @@ IsEffectLineOf (Enq body) E9 = Unit {0}
 IsEffectLineOf (Enq body) A5 = Unit {0}
 IsEffectLineOf Deq D13 = Unit {0}
 IsEffectLineOf Deq B5 = Unit {0}
+IsEffectLineOf Shut S4 = Unit {0}
+IsEffectLineOf Shut S8 = Unit {0}
 IsEffectLineOf _ _ = ⊥
 
 -- an operation has this place by a step of its actor that had an effect, at a line of its call

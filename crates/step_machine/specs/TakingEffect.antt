@@ -1,18 +1,20 @@
--- Which step gives an operation its place: the one that changes the queue as a list.
+-- Which step gives an operation its place: the one that changes the queue.
 use Rattle.std.specs.Prelude.{◌≡◌, ℕ, ◌+◌, ◌≤◌, List, ◌∷◌, ◌++◌, map, Option, Some, None, IfSome}
 use Rattle.std.specs.List.{AllByRecursion}
-use Rattle.step_machine.specs.Below.{Line, E9, D13, A5, B5, Reply, Done, Value, Empty, Refused, Stamped, Setup, Actor, Shared, node_at}
+use Rattle.step_machine.specs.Below.{null, Line, E9, D13, A5, B5, S4, S8, Reply, Done, Value, Empty, Refused, Stamped, Setup, Actor, Shared, node_at}
 use Rattle.step_machine.specs.declared.actors.Move.{Move}
 use Rattle.step_machine.specs.declared.actors.Move.TheVariants.{Step}
 use Rattle.step_machine.specs.Machine.{World, opening, actor_of, AnyMove, made, run, IsMade}
 
--- an actor's step at a line has an effect on the queue: at E9 and D13 the word is still what the actor read, so that its
--- exchange succeeds, and at A5 and B5 it always has one
+-- an actor's step at a line has an effect on the queue: at E9, D13 and S4 the word is still what the actor read, and at A5
+-- and S8 null, so that its exchange succeeds, and at B5 it always has one
 abbrev pub HasEffect : Shared → Actor → Line → Type 0
 HasEffect m a E9 = (node_at m a.tail.node).next ≡ a.next
 HasEffect m a D13 = m.head ≡ a.head
-HasEffect m a A5 = Unit {0}
+HasEffect m a A5 = (node_at m a.tail.node).next ≡ null
 HasEffect m a B5 = Unit {0}
+HasEffect m a S4 = (node_at m a.tail.node).next ≡ a.next
+HasEffect m a S8 = (node_at m a.tail.node).next ≡ null
 HasEffect m a _ = ⊥
 
 -- in a list of moves, this number is that of an actor's step that had an effect

@@ -1,7 +1,7 @@
 //! What a step leaves in the lists of a world: its actor, and its operation.
 ghost use Rattle.std.specs.Prelude.{◌≡◌, ◌+◌, ◌-◌, ◌<◌, ◌≤◌, Some, None, IfOk, IfSome, IsNone, replicate, if◌then◌else◌, slice_set, slice_get, nat_eq, length, vec_len, vec_capacity};
 ghost use Rattle.line_steps.specs.Outcomes.{settled};
-ghost use Rattle.line_steps.specs.Ready.{IsCounted, RegistersFit};
+ghost use Rattle.line_steps.specs.Ready.{IsCounted, RegistersFit, ReadsFit};
 ghost use Rattle.line_steps.specs.Rooms.{aside_after};
 ghost use Rattle.step_machine.specs.Machine as machine;
 ghost use Rattle.step_machine.specs.Machine.{new_operation, entry_or};
@@ -151,6 +151,7 @@ pub fn take_step(
 ) -> Option<Reply>
     requires counted { IsCounted setup }
     requires ready { RegistersFit setup memory.old.room a.old }
+    requires reads { ReadsFit line memory.old.room a.old }
     requires entry { HasEntry a.old.entry (vec_len operations.old) (vec_capacity operations.old) }
     ensures took { TookStep setup now me line memory.old operations.old.items a.old
         memory.new operations.new.items a.new result }

@@ -1,8 +1,10 @@
 //! Where a node is, and how that is found out.
-ghost use Rattle.std.specs.Prelude.{◌≡◌, ◌+◌};
+ghost use Rattle.std.specs.Prelude.{◌≡◌, ◌+◌, ◌<◌, length};
+ghost use Rattle.counted_ref.specs.Ref.{reserved_node};
 ghost use Rattle.step_machine.specs.Places.{in_hand, in_pocket, held};
 ghost use Rattle.step_machine.specs.Placing.{TellsWhetherThere, TellsOfChain};
 
+use counted_ref::SHUT_NODE;
 use line_steps::{Actor, Memory};
 
 /// Where a node is. It is in one place at a time.
@@ -20,13 +22,14 @@ pub enum Place {
     SetAside,
 }
 
-/// Whether a node is in the chain that starts at another one, among the first nodes there.
+/// Whether a node is in the queue's chain that starts at another one, among the first nodes there.
 pub fn is_in_chain(memory: &Memory, from: u32, node: u32, most: u32) -> bool
+    requires few { length memory.now.words.nodes < reserved_node }
     ensures { TellsOfChain result memory.now.words.nodes from node most }
 {
     let mut at = from;
     for _ in 0..most {
-        if at == 0 {
+        if at == 0 || at == SHUT_NODE {
             return false;
         }
         if at == node {

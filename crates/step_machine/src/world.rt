@@ -136,8 +136,8 @@ impl World {
 
     /// Begins a call of the actor, 1 to 65,535. Takes no step number.
     ///
-    /// In the non-blocking queue, where no other move is made, the actor's steps then end an enqueue within 15 and a dequeue
-    /// within 17, while step numbers are left.
+    /// In the non-blocking queue, where no other move is made, the actor's steps then end an enqueue within 15, a dequeue
+    /// within 17 and a shut within 8, while step numbers are left.
     ///
     /// Refusals, in this order: `NoSuchActor`, `ActorBusy`, `Memory`. Makes room for the call's operation and, of an
     /// enqueue, for one node more, so that steps take no memory.

@@ -1,26 +1,24 @@
 -- The lines of a pop under the lock, from B2 to B6.
-use Rattle.std.proofs.Common.{◌≡◌, ℕ, ◌+◌, Bool, true, false, nat_eq, if◌then◌else◌, Option, Some, List, [], ◌∷◌, ◌++◌, length, sym, refl, ap, subst, ◌∙◌, append-nil, append_assoc}
-use Rattle.std.proofs.lemmas.Bool.{eqb-true}
-use Rattle.counted_ref.specs.Ref.{ref_of, is_null}
+use Rattle.std.proofs.Common.{◌≡◌, ℕ, ◌+◌, Bool, true, false, nat_eq, if◌then◌else◌, Option, Some, List, [], ◌∷◌, ◌++◌, length, sym, refl, ap, subst, ◌∙◌, append-nil, append_assoc, ⊎_elim, inl, inr, ◌⊎◌}
+use Rattle.counted_ref.specs.Ref.{ref_of, is_null, is_shut}
 use Rattle.line_table.specs.declared.lines.Line.{Line}
 use Rattle.line_table.specs.declared.lines.Line.TheVariants.{B2, B3, B4, B5, B6}
 use Rattle.history.specs.declared.operations.Entry.TheVariants.{Pop}
 use Rattle.history.specs.declared.operations.Reply as replies
 use Rattle.history.specs.declared.operations.Reply.TheVariants as reply
-use Rattle.history.specs.declared.refusals.Refusal.TheVariants.{WornOut}
+use Rattle.history.specs.declared.refusals.Refusal.TheVariants.{WornOut, Closed}
 use Rattle.history.specs.declared.refusals.WornWord.TheVariants.{Head as OfHead}
 use Rattle.node_arena.specs.Machine.{Actor, entry_or, unlocked}
 use Rattle.node_arena.specs.Traces.{Event, outcome_at}
 use Rattle.node_arena.specs.Prologues.{continues}
-use Rattle.node_arena.specs.Rule.{notes_of}
+use Rattle.node_arena.specs.Rule.{notes_of, SaysOfSeen}
 use Rattle.node_arena.specs.declared.arena.Arena.{Arena}
 use Rattle.node_arena.specs.declared.seats.Seat.{Seat}
 use Rattle.node_arena.specs.Seats.{KeepsStored, view}
 use Rattle.node_arena.specs.Paths.{ExtendsPath, Passes, Acts}
-use Rattle.node_arena.proofs.Noting.{IsNotEmpty}
+use Rattle.node_arena.proofs.Noting.{IsSilent}
 use Rattle.node_arena.proofs.Known.{empty_before}
-use Rattle.node_arena.proofs.Empties.{empty_where_noted}
-use Rattle.node_arena.proofs.Paths.{walk_then, then_act, act_then, then_stored, event, walk_on, pass_on, act_on, stopped_at}
+use Rattle.node_arena.proofs.Paths.{then_shut_empty, shut_empty_on, walk_then, then_act, act_then, then_stored, event, walk_on, pass_on, act_on, stopped_at}
 use Rattle.node_arena.specs.Machine.{value_of}
 use Rattle.arena_lines.specs.declared.outcomes.Outcome.{Outcome}
 use Rattle.arena_lines.specs.declared.outcomes.Outcome.TheVariants.{Goes, Ends}
@@ -49,19 +47,21 @@ pub to_b6_empty : (r : Arena) (s t : Seat) (l : Line) (a b : Running) → CallIs
 to_b6_empty r s t l a b h f e = subst (λ k. CallIsAt r t continues k b) e (stands_next r s t B3 l a b h f tt)
 
 pub to_b4 : (r : Arena) (s t : Seat) (l : Line) (a b : Running) → CallIsAt r s continues B3 a → Follows r s t continues B3 a (Goes l b) → (l ≡ B6 → ⊥) → CallIsAt r t continues B4 b
-to_b4 r s t l a b h f other = subst (λ k. CallIsAt r t continues k b) (go (is_null (ref_of f.found)) f.leads_to) (stands_next r s t B3 l a b h f tt)
+to_b4 r s t l a b h f other = subst (λ k. CallIsAt r t continues k b) (go (is_null (ref_of f.found)) (is_shut (ref_of f.found)) f.leads_to) (stands_next r s t B3 l a b h f tt)
   where
-    go : (p : Bool) → Goes l b ≡ (let c = record a { next = ref_of f.found } in if p then Goes B6 (record c { due = Some IsEmpty }) else Goes B4 c) → l ≡ B4
-    go true e = absurd (other (same_line l B6 b _ e))
-    go false e = same_line l B4 b _ e
+    go : (p q : Bool) → Goes l b ≡ (let c = record a { next = ref_of f.found } in if p then Goes B6 (record c { due = Some IsEmpty }) else if q then Goes B6 (record c { due = Some (IsRefused Closed) }) else Goes B4 c) → l ≡ B4
+    go true q e = absurd (other (same_line l B6 b _ e))
+    go false true e = absurd (other (same_line l B6 b _ e))
+    go false false e = same_line l B4 b _ e
 
--- what B3 found where it goes to B6
-pub found_null : (r : Arena) (s t : Seat) (l : Line) (a b : Running) → (f : Follows r s t continues B3 a (Goes l b)) → l ≡ B6 → ((ref_of f.found).node ≡ 0) × (b.due ≡ Some IsEmpty)
-found_null r s t l a b f is = go (is_null (ref_of f.found)) refl f.leads_to
+-- what is due where B3 goes to B6
+pub found_end : (r : Arena) (s t : Seat) (l : Line) (a b : Running) → (f : Follows r s t continues B3 a (Goes l b)) → l ≡ B6 → (b.due ≡ Some IsEmpty) ⊎ (b.due ≡ Some (IsRefused Closed))
+found_end r s t l a b f is = go (is_null (ref_of f.found)) (is_shut (ref_of f.found)) f.leads_to
   where
-    go : (p : Bool) → is_null (ref_of f.found) ≡ p → Goes l b ≡ (let c = record a { next = ref_of f.found } in if p then Goes B6 (record c { due = Some IsEmpty }) else Goes B4 c) → ((ref_of f.found).node ≡ 0) × (b.due ≡ Some IsEmpty)
-    go true null e = (eqb-true (ref_of f.found).node 0 null, ap (λ (x : Running). x.due) (same_registers l B6 b _ e))
-    go false null e = absurd (let g : B6 ≡ B4 = sym is ∙ same_line l B4 b _ e in cc)
+    go : (p q : Bool) → Goes l b ≡ (let c = record a { next = ref_of f.found } in if p then Goes B6 (record c { due = Some IsEmpty }) else if q then Goes B6 (record c { due = Some (IsRefused Closed) }) else Goes B4 c) → (b.due ≡ Some IsEmpty) ⊎ (b.due ≡ Some (IsRefused Closed))
+    go true q e = inl (ap (λ (x : Running). x.due) (same_registers l B6 b _ e))
+    go false true e = inr (ap (λ (x : Running). x.due) (same_registers l B6 b _ e))
+    go false false e = absurd (let g : B6 ≡ B4 = sym is ∙ same_line l B4 b _ e in cc)
 
 -- after B4: Head is worn out, or it can be moved
 pub to_b6_worn : (r : Arena) (s t : Seat) (l : Line) (a b : Running) → CallIsAt r s continues B4 a → Follows r s t continues B4 a (Goes l b) → l ≡ B6 → CallIsAt r t continues B6 b
@@ -109,50 +109,62 @@ module _ (r : Arena) (s t : Seat) (a : Running) (out : Outcome Running) (h : Cal
   pub out_is : out ≡ unlocked_as due a
   out_is = f.leads_to ∙ ap (λ q. unlocked_as q a) is
 
-  pub not_empty : IsNotEmpty (told_by due) → IsNotEmpty (view s).actor.due
-  not_empty k = subst IsNotEmpty (sym told_of) k
+  pub silent_due : IsSilent (told_by due) → IsSilent (view s).actor.due
+  silent_due k = subst IsSilent (sym told_of) k
 
--- the queue was found empty
+-- the queue was found empty, or shut and empty
 pub saw_empty : (r : Arena) (s u t x : Seat) (a b c : Running) (l k : Line) (out : Outcome Running) → CallIsAt r s continues B2 a → Follows r s u continues B2 a (Goes l b) → Follows r u t continues B3 b (Goes k c) → k ≡ B6 → Follows r t x continues B6 c out → Fronts r s x out
-saw_empty r s u t x a b c l k out h f2 f3 is f6 =
-    subst (Fronts r s x) (sym (out_is r t x c out at f6 (Some IsEmpty) null.1))
-    record {
-      seat = f6.did.seat;
-      empty = ap (λ y. y.pocket) o ∙ empty_before r t continues B6 at.before;
-      stored = then_stored s t x (then_stored s u t f2.did.stored f3.did.stored) f6.did.stored;
-      lines = event r s u continues B2 f2.found f2.did ∷ event r u t continues B3 f3.found f3.did ∷ event r t x continues B6 f6.found f6.did ∷ [];
-      never = refl;
-      fronted = record {
-        over = ap (λ y. y.line) o;
-        path = f6.did.told.path ∙ ap (λ p. p ++ event r t x continues B6 f6.found f6.did ∷ []) w.path ∙ append_assoc (view s).path (event r s u continues B2 f2.found f2.did ∷ event r u t continues B3 f3.found f3.did ∷ []) (event r t x continues B6 f6.found f6.did ∷ []);
-        found = record {
-          number = f6.did.told.number ∙ w.number;
-          between = w.rest;
-          seen = same ∙ w.seen;
-          empty = empty_where_noted (view x).seen (view t).notes (view x).notes notes f6.did.told.fits.noted;
-          mine = f6.did.told.mine ∙ append-nil (view t).mine ∙ w.mine;
-          notes = notes ∙ ap (λ ns. ns ++ length (view x).seen ∷ []) w.notes;
-        };
-      };
-    }
+saw_empty r s u t x a b c l k out h f2 f3 is f6 = ⊎_elim none shut (found_end r u t k b c f3 is)
   where
-    null : ((ref_of f3.found).node ≡ 0) × (c.due ≡ Some IsEmpty)
-    null = found_null r u t k b c f3 is
-
     at : CallIsAt r t continues B6 c
     at = to_b6_empty r u t k b c (to_b3 r s u l a b h f2) f3 is
-
-    o : (view x).actor ≡ left r t x c out at f6 (Some IsEmpty) null.1 (Some reply.Empty)
-    o = left_is r t x c out at f6 (Some IsEmpty) null.1
 
     w : ExtendsPath (view s) (view t) (event r s u continues B2 f2.found f2.did ∷ event r u t continues B3 f3.found f3.did ∷ [])
     w = walk_then (view s) (view u) (view t) (event r s u continues B2 f2.found f2.did ∷ []) (event r u t continues B3 f3.found f3.did ∷ []) (walk_on r s u continues B2 f2.found f2.did refl tt) (walk_on r u t continues B3 f3.found f3.did refl tt)
 
-    same : (view x).seen ≡ (view t).seen
-    same = f6.did.told.stays refl
+    none : c.due ≡ Some IsEmpty → Fronts r s x out
+    none due =
+        let o : (view x).actor ≡ left r t x c out at f6 (Some IsEmpty) due (Some reply.Empty) = left_is r t x c out at f6 (Some IsEmpty) due in
+        let replies = reply_is r t x c out at f6 (Some IsEmpty) due in
+        let notes : (view x).notes ≡ (view t).notes ++ length (view x).seen ∷ [] = f6.did.told.notes ∙ ap (λ q. (view t).notes ++ notes_of q (view x).seen) replies in
+        subst (Fronts r s x) (sym (out_is r t x c out at f6 (Some IsEmpty) due))
+        record {
+          seat = f6.did.seat;
+          empty = ap (λ y. y.pocket) o ∙ empty_before r t continues B6 at.before;
+          stored = then_stored s t x (then_stored s u t f2.did.stored f3.did.stored) f6.did.stored;
+          lines = event r s u continues B2 f2.found f2.did ∷ event r u t continues B3 f3.found f3.did ∷ event r t x continues B6 f6.found f6.did ∷ [];
+          never = refl;
+          fronted = record {
+            over = ap (λ y. y.line) o;
+            path = f6.did.told.path ∙ ap (λ p. p ++ event r t x continues B6 f6.found f6.did ∷ []) w.path ∙ append_assoc (view s).path (event r s u continues B2 f2.found f2.did ∷ event r u t continues B3 f3.found f3.did ∷ []) (event r t x continues B6 f6.found f6.did ∷ []);
+            found = record {
+              number = f6.did.told.number ∙ w.number;
+              between = w.rest;
+              seen = f6.did.told.stays refl ∙ w.seen;
+              empty = subst (λ q. SaysOfSeen B6 q (view x).seen) replies f6.did.told.says;
+              mine = f6.did.told.mine ∙ append-nil (view t).mine ∙ w.mine;
+              notes = notes ∙ ap (λ ns. ns ++ length (view x).seen ∷ []) w.notes;
+            };
+          };
+        }
 
-    notes : (view x).notes ≡ (view t).notes ++ length (view x).seen ∷ []
-    notes = f6.did.told.notes ∙ ap (λ q. (view t).notes ++ notes_of q (view x).seen) (reply_is r t x c out at f6 (Some IsEmpty) null.1)
+    shut : c.due ≡ Some (IsRefused Closed) → Fronts r s x out
+    shut due =
+        let o : (view x).actor ≡ left r t x c out at f6 (Some (IsRefused Closed)) due (Some (reply.Refused Closed)) = left_is r t x c out at f6 (Some (IsRefused Closed)) due in
+        let replies = reply_is r t x c out at f6 (Some (IsRefused Closed)) due in
+        subst (Fronts r s x) (sym (out_is r t x c out at f6 (Some (IsRefused Closed)) due))
+        record {
+          seat = f6.did.seat;
+          empty = ap (λ y. y.pocket) o ∙ empty_before r t continues B6 at.before;
+          stored = then_stored s t x (then_stored s u t f2.did.stored f3.did.stored) f6.did.stored;
+          lines = event r s u continues B2 f2.found f2.did ∷ event r u t continues B3 f3.found f3.did ∷ event r t x continues B6 f6.found f6.did ∷ [];
+          never = refl;
+          fronted = record {
+            over = ap (λ y. y.line) o;
+            finds = then_shut_empty (view s) (view t) (view x) (event r s u continues B2 f2.found f2.did ∷ event r u t continues B3 f3.found f3.did ∷ []) (event r t x continues B6 f6.found f6.did ∷ []) w (shut_empty_on r t x continues B6 f6.found f6.did refl replies (λ y. y));
+            cause = stopped_at r t x continues B6 f6.found f6.did s (event r s u continues B2 f2.found f2.did ∷ event r u t continues B3 f3.found f3.did ∷ []) Closed w replies;
+          };
+        }
 
 -- the lines before B5 or before a refusal
 module _ (r : Arena) (s u t v : Seat) (a b c d : Running) (l k j : Line) (h : CallIsAt r s continues B2 a) (f2 : Follows r s u continues B2 a (Goes l b)) (f3 : Follows r u t continues B3 b (Goes k c)) (more : k ≡ B6 → ⊥) (f4 : Follows r t v continues B4 c (Goes j d)) where
@@ -186,7 +198,7 @@ module _ (r : Arena) (s u t v : Seat) (a b c d : Running) (l k j : Line) (h : Ca
         never = refl;
         fronted = record {
           over = ap (λ y. y.line) o;
-          walks = walk_then (view s) (view v) (view x) looks (event r v x continues B6 f6.found f6.did ∷ []) look_walk (walk_on r v x continues B6 f6.found f6.did refl (not_empty r v x d out at f6 (Some (IsRefused (WornOut OfHead))) due tt));
+          walks = walk_then (view s) (view v) (view x) looks (event r v x continues B6 f6.found f6.did ∷ []) look_walk (walk_on r v x continues B6 f6.found f6.did refl (silent_due r v x d out at f6 (Some (IsRefused (WornOut OfHead))) due tt));
           is = refl;
           cause = stopped_at r v x continues B6 f6.found f6.did s looks (WornOut OfHead) look_walk (reply_is r v x d out at f6 (Some (IsRefused (WornOut OfHead))) due);
         };
@@ -207,7 +219,7 @@ module _ (r : Arena) (s u t v : Seat) (a b c d : Running) (l k j : Line) (h : Ca
       let val : (view v).actor.val ≡ value_of e.val = before.knows.2 ∙ ap value_of same_val in
       let all : Acts (view s) (view y) (Pop (view s).number (value_of e.val)) (looks ++ five ∷ []) =
       then_act (view s) (view v) (view y) (Pop (view v).number (view v).actor.val) (Pop (view s).number (value_of e.val)) looks (five ∷ []) (λ z. Pop (look_walk.number z) (val z)) look_walk acts in
-      let behind : Passes (view y) (view x) (six ∷ []) = pass_on r y x continues B6 f6.found f6.did refl (not_empty r y x e out at f6 (Some (IsValue d.val)) due tt) refl in
+      let behind : Passes (view y) (view x) (six ∷ []) = pass_on r y x continues B6 f6.found f6.did refl (silent_due r y x e out at f6 (Some (IsValue d.val)) due tt) refl in
       subst (Fronts r s x) (sym (out_is r y x e out at f6 (Some (IsValue d.val)) due))
       record {
         seat = f6.did.seat;

@@ -5,3 +5,6 @@ pub mod PopSteps
 pub mod PopStands
 pub mod Fronts
 pub mod Pops
+pub mod ShutStands
+pub mod ShutTries
+mod Lines

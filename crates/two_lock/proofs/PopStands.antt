@@ -1,11 +1,11 @@
 -- Where each line of a pop leads.
 use Rattle.std.proofs.Common.{◌≡◌, ℕ, ◌+◌, Bool, true, false, nat_eq, if◌then◌else◌, Option, Some, sym, refl, ap, ◌∙◌, subst}
-use Rattle.counted_ref.specs.Ref.{Ref, ref_of, is_null}
+use Rattle.counted_ref.specs.Ref.{Ref, ref_of, is_null, is_shut}
 use Rattle.line_table.specs.declared.lines.Line.{Line}
 use Rattle.line_table.specs.declared.lines.Line.TheVariants.{B1, B2, B3, B4, B5, B6}
 use Rattle.history.specs.declared.operations.Reply.TheVariants as reply
 use Rattle.history.specs.declared.operations.Taken.{Taken}
-use Rattle.history.specs.declared.refusals.Refusal.TheVariants.{WornOut}
+use Rattle.history.specs.declared.refusals.Refusal.TheVariants.{WornOut, Closed}
 use Rattle.history.specs.declared.refusals.WornWord.TheVariants.{Head as OfHead}
 use Rattle.node_arena.specs.Machine.{Actor, Outcome as MachineOutcome, goes}
 use Rattle.node_arena.specs.Traces.{outcome_at}
@@ -61,24 +61,27 @@ module _ (r : Arena) (s t : Seat) (prologue : Prologue) (n : ℕ) (a : Running) 
     lost_b1 e = goes_on r s t prologue B1 n d (first false) (went false e) B1 refl
 
   pub after_b2 : CallIsAt r s prologue B2 a → DidStep r s t prologue B2 n → CallIsAt r t continues B3 (record a { head = ref_of n })
-  after_b2 h d = leads B2 d (out_at B2 d) refl B3 (record a { head = ref_of n }) refl (λ x. sym (ref_b2 r s t prologue n d).0)
+  after_b2 h d = leads B2 d (out_at B2 d) refl B3 (record a { head = ref_of n }) refl (λ x. sym (ref_b2 r s t prologue n d))
 
   -- what is due is no value
   no_value : (x : Actor) (c : Running) (due : Reply) → ((word : ℕ) → Some due ≡ Some (IsValue word) → ⊥) → x.due ≡ told_by (Some due) → KnowsDue x c (Some due)
   no_value x c due other told = record { told = told; node = λ word f. absurd (other word f); mark = λ word f. absurd (other word f) }
 
   pub after_b3 : CallIsAt r s prologue B3 a → (d : DidStep r s t prologue B3 n) → StandsAt r t (follow r.plan.setup a B3 n)
-  after_b3 h d = go (is_null (ref_of n)) refl
+  after_b3 h d = go (is_null (ref_of n)) (is_shut (ref_of n)) refl refl
     where
-      third : Ref → Bool → MachineOutcome
-      third next p = let x = record b { next = next; empty_at = d.told.was.world.steps + 1 } in if p then goes B6 (record x { due = Some reply.Empty }) else goes B4 x
+      third : Ref → (p q : Bool) → MachineOutcome
+      third next p q =
+          let x = record b { next = next; empty_at = d.told.was.world.steps + 1 } in
+          if p then goes B6 (record x { due = Some reply.Empty }) else if q then goes B6 (record x { due = Some (reply.Refused Closed) }) else goes B4 x
 
-      went : (p : Bool) → is_null (ref_of n) ≡ p → out_at B3 d ≡ third (ref_of n) p
-      went p e = ap (λ x. third x (is_null x)) (sym (ref_b3 r s t prologue n d).0) ∙ ap (third (ref_of n)) e
+      went : (p q : Bool) → is_null (ref_of n) ≡ p → is_shut (ref_of n) ≡ q → out_at B3 d ≡ third (ref_of n) p q
+      went p q e f = ap (λ x. third x (is_null x) (is_shut x)) (sym (ref_b3 r s t prologue n d)) ∙ (λ i. third (ref_of n) (e i) (f i))
 
-      go : (p : Bool) → is_null (ref_of n) ≡ p → StandsAt r t (let c = record a { next = ref_of n } in if p then Goes B6 (record c { due = Some IsEmpty }) else Goes B4 c)
-      go true e = leads B3 d (third (ref_of n) true) (went true e) B6 (record a { next = ref_of n; due = Some IsEmpty }) refl (λ x. no_value _ _ IsEmpty (λ word f. cc) refl)
-      go false e = leads B3 d (third (ref_of n) false) (went false e) B4 (record a { next = ref_of n }) refl (λ x. (h.knows, refl))
+      go : (p q : Bool) → is_null (ref_of n) ≡ p → is_shut (ref_of n) ≡ q → StandsAt r t (let c = record a { next = ref_of n } in if p then Goes B6 (record c { due = Some IsEmpty }) else if q then Goes B6 (record c { due = Some (IsRefused Closed) }) else Goes B4 c)
+      go true q e f = leads B3 d (third (ref_of n) true q) (went true q e f) B6 (record a { next = ref_of n; due = Some IsEmpty }) refl (λ x. no_value _ _ IsEmpty (λ word g. cc) refl)
+      go false true e f = leads B3 d (third (ref_of n) false true) (went false true e f) B6 (record a { next = ref_of n; due = Some (IsRefused Closed) }) refl (λ x. no_value _ _ (IsRefused Closed) (λ word g. cc) refl)
+      go false false e f = leads B3 d (third (ref_of n) false false) (went false false e f) B4 (record a { next = ref_of n }) refl (λ x. (h.knows, refl))
 
   pub after_b4 : CallIsAt r s prologue B4 a → (d : DidStep r s t prologue B4 n) → StandsAt r t (follow r.plan.setup a B4 n)
   after_b4 h d = go (nat_eq a.head.count r.plan.setup.limit) refl

@@ -5,7 +5,7 @@ use Rattle.line_table.specs.declared.lines.Line.TheVariants.{B1, B2, F1}
 use Rattle.history.specs.declared.operations.Op.TheVariants.{Deq}
 use Rattle.history.specs.declared.operations.Taken.{Taken}
 use Rattle.history.specs.declared.refusals.Refusal.{Refusal}
-use Rattle.history.specs.declared.refusals.Refusal.TheVariants.{Busy}
+use Rattle.history.specs.declared.refusals.Refusal.TheVariants.{Busy, Closed}
 use Rattle.history.specs.declared.refusals.WornWord.TheVariants.{Head as OfHead}
 use Rattle.node_arena.specs.Machine.{Held, Actor, dequeues, from_pocket, value_of}
 use Rattle.node_arena.specs.Traces.{Event}
@@ -27,7 +27,7 @@ use Rattle.two_lock.specs.declared.pop_outcomes.Actor.{Actor as Running}
 use Rattle.two_lock.specs.Pops.{popping, has_lock, Follows, Fronts, Trying}
 use Rattle.two_lock.specs.Worn.{pop_worn}
 use Rattle.arena_queue.specs.Answers.{Draws}
-use Rattle.arena_queue.proofs.Pops.{draws_late, draws_worn, draws_taken, draws_empty}
+use Rattle.arena_queue.proofs.Pops.{draws_late, draws_worn, draws_shut, draws_taken, draws_empty}
 use Rattle.two_lock.proofs.PopStands.{stands_b1, won_b1, lost_b1}
 
 -- an actor that begins a pop with this pocket
@@ -109,7 +109,8 @@ pop_gives_up r s t spent turns (suc m) some all g =
 -- what the lines under the lock came to ends the pop
 module _ (r : Arena) (s t : Seat) (failed turns : ℕ) where
   pub pop_worn_out : (why : Refusal) → Fronts r s t (Ends (IsRefused why)) → Draws pop_worn r s (keeping t None failed) failed turns (Err why)
-  pop_worn_out why f = let k = f.fronted in draws_worn pop_worn r s t why OfHead failed turns f.lines f.seat k.over f.empty f.stored k.walks k.is k.cause tt
+  pop_worn_out Closed f = let k = f.fronted in draws_shut pop_worn r s t failed turns f.lines f.seat k.over f.empty f.stored k.finds k.cause
+  pop_worn_out _ f = let k = f.fronted in draws_worn pop_worn r s t _ OfHead failed turns f.lines f.seat k.over f.empty f.stored k.walks k.is k.cause tt
 
   pub pop_took : (x : Seat) (l : Line) (a : Running) (h : Held) (out : Result (Unit {0}) Refusal) → failed < turns → Fronts r s t (Goes l a) → GiveAnswers r (keeping t (Some h) failed) x (turns - failed) out → Draws pop_worn r s x failed turns (Ok (Some (value_of a.val)))
   pop_took x l a h out less f g = draws_taken pop_worn r s t x a.val h failed turns out f.lines less f.stored f.fronted.acts f.never g

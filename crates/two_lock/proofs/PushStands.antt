@@ -1,20 +1,23 @@
 -- Where each line of a push leads.
-use Rattle.std.proofs.Common.{◌≡◌, ℕ, Bool, true, false, nat_eq, if◌then◌else◌, Option, Some, None, sym, refl, ap, ◌∙◌}
-use Rattle.counted_ref.specs.Ref.{ref_of}
+use Rattle.std.proofs.Common.{◌≡◌, ℕ, ◌+◌, Bool, true, false, nat_eq, if◌then◌else◌, Option, Some, None, [], ◌∷◌, sym, refl, ap, ◌∙◌}
+use Rattle.counted_ref.specs.Ref.{ref_of, null, same_ref}
 use Rattle.line_table.specs.declared.lines.Line.{Line}
 use Rattle.line_table.specs.declared.lines.Line.TheVariants.{A1, A2, A3, A4, A5, A6, A7}
-use Rattle.node_arena.specs.Machine.{Actor, Outcome as MachineOutcome, goes}
-use Rattle.node_arena.specs.Traces.{outcome_at}
+use Rattle.node_arena.specs.Machine.{Actor, Outcome as MachineOutcome, node_at, goes, empties_hand, left_with_node}
+use Rattle.node_arena.specs.Traces.{outcome_at, entries_at}
+use Rattle.history.specs.declared.operations.Entry.TheVariants.{Push}
+use Rattle.history.specs.declared.operations.Reply.TheVariants as reply
+use Rattle.history.specs.declared.refusals.Refusal.TheVariants.{Closed}
 use Rattle.node_arena.specs.Prologues.{Prologue, continues, after_prologue}
 use Rattle.node_arena.specs.declared.arena.Arena.{Arena}
 use Rattle.node_arena.specs.declared.seats.Seat.{Seat}
 use Rattle.node_arena.specs.Seats.{DidStep, view}
 use Rattle.node_arena.proofs.Known.{empty_before}
 use Rattle.node_arena.proofs.Paths.{settled, goes_on}
-use Rattle.arena_lines.specs.declared.outcomes.Reply.TheVariants.{Done}
+use Rattle.arena_lines.specs.declared.outcomes.Reply.TheVariants.{Done, Refused as IsRefused}
 use Rattle.two_lock.specs.declared.push_outcomes.Actor.{Actor as Running}
-use Rattle.two_lock.specs.Pushes.{HasNode, AgreesAt, CallIsAt}
-use Rattle.two_lock.proofs.PushSteps.{ref_a4}
+use Rattle.two_lock.specs.Pushes.{in_hand, told_by, HasNode, AgreesAt, CallIsAt}
+use Rattle.two_lock.proofs.PushSteps.{ref_a4, ref_a5}
 
 module _ (r : Arena) (s t : Seat) (prologue : Prologue) (n : ℕ) (a : Running) where
   abbrev b : Actor
@@ -53,13 +56,43 @@ module _ (r : Arena) (s t : Seat) (prologue : Prologue) (n : ℕ) (a : Running) 
     lost_a3 e = leads A3 d (third false) (went false e) A3 a refl h.hand (λ x. tt)
 
   pub after_a4 : CallIsAt r s prologue A4 a → DidStep r s t prologue A4 n → CallIsAt r t continues A5 (record a { tail = ref_of n })
-  after_a4 h d = leads A4 d (out_at A4 d) refl A5 (record a { tail = ref_of n }) refl h.hand (λ x. sym (ref_a4 r s t prologue n d).0)
+  after_a4 h d = leads A4 d (out_at A4 d) refl A5 (record a { tail = ref_of n }) refl h.hand (λ x. sym (ref_a4 r s t prologue n d))
 
-  pub after_a5 : CallIsAt r s prologue A5 a → DidStep r s t prologue A5 n → CallIsAt r t continues A6 (record a { due = Some Done })
-  after_a5 h d = leads A5 d (out_at A5 d) refl A6 (record a { due = Some Done }) refl h.hand (λ x. tt)
+  module _ (h : CallIsAt r s prologue A5 a) (d : DidStep r s t prologue A5 n) where
+    abbrev fifth : Bool → MachineOutcome
+    fifth p =
+        if p then record (goes A6 (empties_hand (record b { due = Some reply.Done }))) { at = Some (d.told.was.world.steps + 1) } else goes A7 (record b { due = Some (reply.Refused Closed) })
+
+    test : (p : Bool) → same_ref (ref_of n) null ≡ p → same_ref (node_at d.told.was.world.shared b.tail.node).next null ≡ p
+    test p e = ap (λ k. same_ref k null) (sym (ref_a5 r s t prologue n d)) ∙ e
+
+    -- the node was linked
+    pub won_a5 : same_ref (ref_of n) null ≡ true → CallIsAt r t continues A6 (record a { due = Some Done }) × (entries_at r.plan.setup d.told.was (view s).number b A5 ≡ Push (view s).number b.val.body ∷ [])
+    won_a5 e = (
+      leads A5 d (fifth true) (ap fifth (test true e)) A6 (record a { due = Some Done }) refl h.hand (λ x. refl),
+      ap (λ q. if q then Push (view s).number b.val.body ∷ [] else []) (test true e),
+    )
+
+    -- the queue was found shut
+    pub lost_a5 : same_ref (ref_of n) null ≡ false → CallIsAt r t continues A7 (record a { due = Some (IsRefused Closed) }) × (entries_at r.plan.setup d.told.was (view s).number b A5 ≡ [])
+    lost_a5 e = (
+      leads A5 d (fifth false) (ap fifth (test false e)) A7 (record a { due = Some (IsRefused Closed) }) refl h.hand (λ x. refl),
+      ap (λ q. if q then Push (view s).number b.val.body ∷ [] else []) (test false e),
+    )
 
   pub after_a6 : CallIsAt r s prologue A6 a → DidStep r s t prologue A6 n → CallIsAt r t continues A7 a
-  after_a6 h d = leads A6 d (out_at A6 d) refl A7 a refl h.hand (λ x. tt)
+  after_a6 h d = leads A6 d (out_at A6 d) refl A7 a refl h.hand (λ x. h.knows)
 
-  pub after_a7 : CallIsAt r s prologue A7 a → DidStep r s t prologue A7 n → ((view t).actor.line ≡ None) × ((view t).actor.pocket ≡ None)
-  after_a7 h d = settled r s t prologue A7 n d (out_at A7 d) refl (λ x. (x.line ≡ None) × (x.pocket ≡ None)) (λ x. (refl, empty_before r s prologue A7 h.before))
+  -- the lock was let go after a push
+  pub after_a7 : CallIsAt r s prologue A7 a → (d : DidStep r s t prologue A7 n) → a.due ≡ Some Done → ((view t).actor.line ≡ None) × ((view t).actor.pocket ≡ None) × ((out_at A7 d).reply ≡ Some reply.Done)
+  after_a7 h d due =
+      let is : out_at A7 d ≡ left_with_node (d.told.was.world.steps + 1) (Some reply.Done) b = ap (λ q. left_with_node (d.told.was.world.steps + 1) q b) (h.knows ∙ ap told_by due) in
+      let over = settled r s t prologue A7 n d _ is (λ x. (x.line ≡ None) × (x.pocket ≡ None)) (λ x. (refl, empty_before r s prologue A7 h.before)) in
+      (over.0, over.1, ap (λ o. o.reply) is)
+
+  -- and where the queue was found shut: the node is in the pocket
+  pub shut_a7 : CallIsAt r s prologue A7 a → (d : DidStep r s t prologue A7 n) → a.due ≡ Some (IsRefused Closed) → ((view t).actor.line ≡ None) × ((view t).actor.pocket ≡ Some (in_hand a)) × ((out_at A7 d).reply ≡ Some (reply.Refused Closed))
+  shut_a7 h d due =
+      let is : out_at A7 d ≡ left_with_node (d.told.was.world.steps + 1) (Some (reply.Refused Closed)) b = ap (λ q. left_with_node (d.told.was.world.steps + 1) q b) (h.knows ∙ ap told_by due) in
+      let over = settled r s t prologue A7 n d _ is (λ x. (x.line ≡ None) × (x.pocket ≡ Some (in_hand a))) (λ x. (refl, λ i. Some (record { node = h.hand.node i; mark = h.hand.mark i }))) in
+      (over.0, over.1, ap (λ o. o.reply) is)

@@ -1,10 +1,10 @@
--- The bounds of what the lines of a push write, and the reference that A4 finds.
-use Rattle.std.proofs.Common.{◌≡◌, ◌≢◌, ℕ, ◌%◌, ◌^◌, ◌<◌, arith}
-use Rattle.counted_ref.specs.Ref.{ref_of, reserved_node, node_bits}
+-- The bounds of what the lines of a push write, and the references that A4 and A5 find.
+use Rattle.std.proofs.Common.{◌≡◌, ℕ, ◌<◌, arith}
+use Rattle.counted_ref.specs.Ref.{ref_of, reserved_node}
 use Rattle.line_table.specs.declared.lines.Line.{Line}
-use Rattle.line_table.specs.declared.lines.Line.TheVariants.{A4}
-use Rattle.node_arena.specs.Machine.{WordTail}
-use Rattle.node_arena.specs.Prologues.{Prologue, continues}
+use Rattle.line_table.specs.declared.lines.Line.TheVariants.{A4, A5}
+use Rattle.node_arena.specs.Machine.{Actor, WordTail, WordNext, node_at}
+use Rattle.node_arena.specs.Prologues.{Prologue, continues, after_prologue}
 use Rattle.node_arena.specs.declared.arena.Arena.{Arena}
 use Rattle.node_arena.specs.declared.seats.Seat.{Seat}
 use Rattle.node_arena.specs.Seats.{DidStep, view}
@@ -19,5 +19,11 @@ pub small_node : (r : Arena) (s : Seat) (a : Running) (l : Line) → CallIsAt r 
 small_node r s a l h = let k = known_before r s continues l h.before in omega (arith, k.within, k.registers.node, h.hand.node, h.before.seat.arena.sized.numbered)
 
 module _ (r : Arena) (s t : Seat) (prologue : Prologue) (n : ℕ) where
-  pub ref_a4 : (d : DidStep r s t prologue A4 n) → (ref_of n ≡ d.told.was.world.shared.tail) × (n % 2 ^ node_bits ≢ reserved_node)
+  pub ref_a4 : (d : DidStep r s t prologue A4 n) → ref_of n ≡ d.told.was.world.shared.tail
   ref_a4 d = read_back d.told.was.world.shared.tail n (was_fits r.plan prologue A4 n (view s) (view t) d.told WordTail) d.told.found
+
+  abbrev c : Actor
+  c = after_prologue r.plan.setup (view s).number prologue (view s).actor
+
+  pub ref_a5 : (d : DidStep r s t prologue A5 n) → ref_of n ≡ (node_at d.told.was.world.shared c.tail.node).next
+  ref_a5 d = read_back (node_at d.told.was.world.shared c.tail.node).next n (was_fits r.plan prologue A5 n (view s) (view t) d.told (WordNext c.tail.node)) d.told.found

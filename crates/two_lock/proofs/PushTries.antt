@@ -2,32 +2,36 @@
 use Rattle.std.proofs.Common.{◌≡◌, ℕ, ◌+◌, ◌*◌, ◌^◌, ◌<◌, Bool, true, false, nat_eq, if◌then◌else◌, List, [], ◌∷◌, ◌++◌, Option, Some, None, Ok, Err, sym, refl, ap, subst, ◌∙◌, arith, lt-ltb}
 use Rattle.line_table.specs.declared.lines.Line.{Line}
 use Rattle.line_table.specs.declared.lines.Line.TheVariants.{N1, A1, A2, A3, A4, A5, A6, A7}
-use Rattle.counted_ref.specs.Ref.{ref_of}
+use Rattle.counted_ref.specs.Ref.{ref_of, null, same_ref}
 use Rattle.history.specs.declared.operations.Entry.TheVariants.{Push}
 use Rattle.history.specs.declared.operations.Op.TheVariants.{Enq}
 use Rattle.history.specs.declared.operations.Taken.{Taken}
-use Rattle.history.specs.declared.refusals.Refusal.TheVariants.{Busy}
+use Rattle.history.specs.declared.operations.Entry.{Entry}
+use Rattle.history.specs.declared.refusals.Refusal.{Refusal}
+use Rattle.history.specs.declared.refusals.Refusal.TheVariants.{Busy, Closed}
 use Rattle.node_arena.specs.Machine.{Held, Actor, with_node, from_pocket}
-use Rattle.node_arena.specs.Traces.{Event}
+use Rattle.node_arena.specs.Traces.{Event, entries_at}
 use Rattle.node_arena.specs.Prologues.{Prologue, begins, continues, at_rest, out_of}
 use Rattle.node_arena.specs.declared.arena.Arena.{Arena}
 use Rattle.node_arena.specs.declared.seats.Seat.{Seat}
 use Rattle.node_arena.specs.Seats.{IsReady, view, pocket_of, keeping}
 use Rattle.node_arena.specs.Turns.{failed_turns, at_a3}
-use Rattle.node_arena.specs.Paths.{ExtendsPath, Acts, added}
-use Rattle.node_arena.proofs.Paths.{walk_then, then_act, act_then, pass_then, then_stored, added_is, added_path, failed-append, failed_behind, kept_seat, ends_failed, event, walk_on, pass_on, act_on, to_is, failed_last}
+use Rattle.node_arena.specs.Paths.{ExtendsPath, FindsShut, StopsAPush, Acts, added}
+use Rattle.node_arena.proofs.Noting.{IsSilent}
+use Rattle.node_arena.proofs.Paths.{then_shut, shut_on, stopped_at, stopped_behind, last_held, walk_then, then_act, act_then, pass_then, then_stored, added_is, added_path, failed-append, failed_behind, kept_seat, ends_failed, event, walk_on, pass_on, act_on, to_is, failed_last}
 use Rattle.two_lock.specs.Values.{IsTwoLock}
 use Rattle.node_arena.specs.Machine.{value_of}
 use Rattle.arena_lines.specs.declared.outcomes.Outcome.{Outcome}
 use Rattle.arena_lines.specs.declared.outcomes.Outcome.TheVariants.{Goes}
-use Rattle.arena_lines.specs.declared.outcomes.Reply.TheVariants.{Done}
+use Rattle.arena_lines.specs.declared.outcomes.Reply.TheVariants.{Done, Refused as IsRefused}
 use Rattle.two_lock.specs.declared.push_outcomes.Actor.{Actor as Running}
-use Rattle.two_lock.specs.Pushes.{registers_of, has_lock, CallIsAt, Follows, Links, Trying}
+use Rattle.two_lock.specs.Pushes.{registers_of, in_hand, told_by, has_lock, CallIsAt, Follows, Links, Trying}
 use Rattle.two_lock.specs.Worn.{push_worn}
-use Rattle.arena_queue.specs.Answers.{Puts}
+use Rattle.arena_queue.specs.Answers.{PutRefused, Puts}
 use Rattle.node_arena.proofs.Values.{value_of-word}
 use Rattle.arena_lines.proofs.Registers.{same_registers}
-use Rattle.two_lock.proofs.PushStands.{after_a1, after_a2, won_a3, lost_a3, after_a4, after_a5, after_a6, after_a7}
+use Rattle.two_lock.proofs.PushStands.{after_a1, after_a2, won_a3, lost_a3, after_a4, won_a5, lost_a5, after_a6, after_a7, shut_a7}
+use Rattle.two_lock.proofs.Lines.{same_line}
 
 -- an actor that begins a push with this pocket
 abbrev set_out : Arena → Seat → ℕ → Option Held → Actor
@@ -126,74 +130,113 @@ next_try r s t u h val spent n a out is g follows e =
 pub to_a5 : (r : Arena) (s u : Seat) (a b : Running) (l : Line) → CallIsAt r s continues A4 a → Follows r s u continues A4 a (Goes l b) → CallIsAt r u continues A5 b
 to_a5 r s u a b l h f = subst (CallIsAt r u continues A5) (sym (same_registers l A5 b (record a { tail = ref_of f.found }) f.leads_to)) (after_a4 r s u continues f.found a h f.did)
 
--- after A5
-pub to_a6 : (r : Arena) (s u : Seat) (a b : Running) (l : Line) → CallIsAt r s continues A5 a → Follows r s u continues A5 a (Goes l b) → CallIsAt r u continues A6 b
-to_a6 r s u a b l h f = subst (CallIsAt r u continues A6) (sym (same_registers l A6 b (record a { due = Some Done }) f.leads_to)) (after_a5 r s u continues f.found a h f.did)
+-- after A5: the node was linked, or the queue was found shut
+module _ (r : Arena) (s u : Seat) (a b : Running) (l : Line) (h : CallIsAt r s continues A5 a) (f : Follows r s u continues A5 a (Goes l b)) where
+  abbrev added_there : List Entry
+  added_there = entries_at r.plan.setup f.did.told.was (view s).number (view s).actor A5
+
+  pub to_a6 : (l ≡ A7 → ⊥) → CallIsAt r u continues A6 b × (b.due ≡ Some Done) × (b.val ≡ a.val) × (added_there ≡ Push (view s).number (view s).actor.val.body ∷ [])
+  to_a6 other = go (same_ref (ref_of f.found) null) refl f.leads_to
+    where
+      go : (p : Bool) → same_ref (ref_of f.found) null ≡ p → Goes l b ≡ (if p then Goes A6 (record a { due = Some Done }) else Goes A7 (record a { due = Some (IsRefused Closed) }))
+          → CallIsAt r u continues A6 b × (b.due ≡ Some Done) × (b.val ≡ a.val) × (added_there ≡ Push (view s).number (view s).actor.val.body ∷ [])
+      go true e q =
+          let same : b ≡ record a { due = Some Done } = same_registers l A6 b (record a { due = Some Done }) q in
+          let k = won_a5 r s u continues f.found a h f.did e in
+          (subst (CallIsAt r u continues A6) (sym same) k.0, ap (λ (x : Running). x.due) same, ap (λ (x : Running). x.val) same, k.1)
+      go false e q = absurd (other (same_line l A7 b _ q))
+
+  pub to_shut : l ≡ A7 → CallIsAt r u continues A7 b × (b.due ≡ Some (IsRefused Closed)) × (in_hand b ≡ in_hand a) × (added_there ≡ [])
+  to_shut is = go (same_ref (ref_of f.found) null) refl f.leads_to
+    where
+      go : (p : Bool) → same_ref (ref_of f.found) null ≡ p → Goes l b ≡ (if p then Goes A6 (record a { due = Some Done }) else Goes A7 (record a { due = Some (IsRefused Closed) }))
+          → CallIsAt r u continues A7 b × (b.due ≡ Some (IsRefused Closed)) × (in_hand b ≡ in_hand a) × (added_there ≡ [])
+      go true e q = absurd (let w : A7 ≡ A6 = sym is ∙ same_line l A6 b _ q in cc)
+      go false e q =
+          let same : b ≡ record a { due = Some (IsRefused Closed) } = same_registers l A7 b (record a { due = Some (IsRefused Closed) }) q in
+          let k = lost_a5 r s u continues f.found a h f.did e in
+          (subst (CallIsAt r u continues A7) (sym same) k.0, ap (λ (x : Running). x.due) same, ap in_hand same, k.1)
 
 -- after A6
 pub to_a7 : (r : Arena) (s u : Seat) (a b : Running) (l : Line) → CallIsAt r s continues A6 a → Follows r s u continues A6 a (Goes l b) → CallIsAt r u continues A7 b
 to_a7 r s u a b l h f = subst (CallIsAt r u continues A7) (sym (same_registers l A7 b a f.leads_to)) (after_a6 r s u continues f.found a h f.did)
 
--- the node is linked: A4 to A7
-module _ (r : Arena) (s u t x y : Seat) (a b c d : Running) (j k l : Line) (last : Outcome Running) (h : CallIsAt r s continues A4 a) (f : Follows r s u continues A4 a (Goes j b)) (g : Follows r u t continues A5 b (Goes k c)) (m : Follows r t x continues A6 c (Goes l d)) (o : Follows r x y continues A7 d last) where
+-- A4 and A5
+module _ (r : Arena) (s u t : Seat) (a b c : Running) (j k : Line) (h : CallIsAt r s continues A4 a) (f : Follows r s u continues A4 a (Goes j b)) (g : Follows r u t continues A5 b (Goes k c)) where
   at_a5 : CallIsAt r u continues A5 b
   at_a5 = to_a5 r s u a b j h f
 
-  at_a7 : CallIsAt r x continues A7 d
-  at_a7 = to_a7 r t x c d l (to_a6 r u t b c k at_a5 g) m
-
-  abbrev four : Event
-  four = event r s u continues A4 f.found f.did
-
-  abbrev five : Event
-  five = event r u t continues A5 g.found g.did
-
-  abbrev six : Event
-  six = event r t x continues A6 m.found m.did
-
-  abbrev seven : Event
-  seven = event r x y continues A7 o.found o.did
+  same_b : b ≡ record a { tail = ref_of f.found }
+  same_b = same_registers j A5 b (record a { tail = ref_of f.found }) f.leads_to
 
   body_is : (view u).actor.val.body ≡ (value_of a.val).body
-  body_is = ap (λ (v : Taken). v.body) (at_a5.hand.val ∙ ap (λ (z : Running). value_of z.val) (same_registers j A5 b (record a { tail = ref_of f.found }) f.leads_to))
+  body_is = ap (λ (v : Taken). v.body) (at_a5.hand.val ∙ ap (λ (z : Running). value_of z.val) same_b)
 
-  acts : Acts (view u) (view t) (Push (view u).number (view u).actor.val.body) (five ∷ [])
-  acts = act_on r u t continues A5 g.found g.did (Push (view u).number (view u).actor.val.body) refl tt
+  first : ExtendsPath (view s) (view u) (event r s u continues A4 f.found f.did ∷ [])
+  first = walk_on r s u continues A4 f.found f.did refl tt
 
-  pub links : Links r s y a
-  links =
-      let w = walk_on r s u continues A4 f.found f.did refl tt in
-      let over = after_a7 r x y continues o.found d at_a7 o.did in
-      let before : Acts (view s) (view t) (Push (view s).number (value_of a.val).body) (four ∷ five ∷ []) =
-      then_act (view s) (view u) (view t) (Push (view u).number (view u).actor.val.body) (Push (view s).number (value_of a.val).body) (four ∷ []) (five ∷ []) (λ i. Push (w.number i) (body_is i)) w acts in
-      let behind = pass_then (view t) (view x) (view y) (six ∷ []) (seven ∷ []) (pass_on r t x continues A6 m.found m.did refl tt refl) (pass_on r x y continues A7 o.found o.did refl tt refl) in
+  -- the node is linked: A4 to A7
+  pub links : (x y : Seat) (d : Running) (l : Line) (last : Outcome Running) → (k ≡ A7 → ⊥) → Follows r t x continues A6 c (Goes l d) → Follows r x y continues A7 d last → Links r s y a (Ok tt)
+  links x y d l last other m o =
+      let won = to_a6 r u t b c k at_a5 g other in
+      let at_a7 : CallIsAt r x continues A7 d = to_a7 r t x c d l won.0 m in
+      let due : d.due ≡ Some Done = ap (λ (z : Running). z.due) (same_registers l A7 d c m.leads_to) ∙ won.1 in
+      let over = after_a7 r x y continues o.found d at_a7 o.did due in
+      let acts : Acts (view u) (view t) (Push (view u).number (view u).actor.val.body) (event r u t continues A5 g.found g.did ∷ []) = act_on r u t continues A5 g.found g.did (Push (view u).number (view u).actor.val.body) won.3 tt in
+      let before : Acts (view s) (view t) (Push (view s).number (value_of a.val).body) (event r s u continues A4 f.found f.did ∷ event r u t continues A5 g.found g.did ∷ []) =
+      then_act (view s) (view u) (view t) (Push (view u).number (view u).actor.val.body) (Push (view s).number (value_of a.val).body) (event r s u continues A4 f.found f.did ∷ []) (event r u t continues A5 g.found g.did ∷ []) (λ i. Push (first.number i) (body_is i)) first acts in
+      let quiet : IsSilent (view x).actor.due = subst IsSilent (sym (at_a7.knows ∙ ap told_by due)) tt in
+      let behind = pass_then (view t) (view x) (view y) (event r t x continues A6 m.found m.did ∷ []) (event r x y continues A7 o.found o.did ∷ []) (pass_on r t x continues A6 m.found m.did refl tt refl) (pass_on r x y continues A7 o.found o.did refl quiet refl) in
       record {
         seat = o.did.seat;
         over = over.0;
-        empty = over.1;
         stored = then_stored s x y (then_stored s t x (then_stored s u t f.did.stored g.did.stored) m.did.stored) o.did.stored;
-        lines = four ∷ five ∷ six ∷ seven ∷ [];
-        acts = act_then (view s) (view t) (view y) (Push (view s).number (value_of a.val).body) (four ∷ five ∷ []) (six ∷ seven ∷ []) before behind;
+        lines = event r s u continues A4 f.found f.did ∷ event r u t continues A5 g.found g.did ∷ event r t x continues A6 m.found m.did ∷ event r x y continues A7 o.found o.did ∷ [];
         never = refl;
+        links = record {
+          empty = over.1;
+          acts = act_then (view s) (view t) (view y) (Push (view s).number (value_of a.val).body) (event r s u continues A4 f.found f.did ∷ event r u t continues A5 g.found g.did ∷ []) (event r t x continues A6 m.found m.did ∷ event r x y continues A7 o.found o.did ∷ []) before behind;
+        };
+      }
+
+  -- the queue was found shut: A4, A5 and A7
+  pub finds_shut : (y : Seat) (last : Outcome Running) → k ≡ A7 → Follows r t y continues A7 c last → Links r s y a (Err Closed)
+  finds_shut y last is o =
+      let lost = to_shut r u t b c k at_a5 g is in
+      let over = shut_a7 r t y continues o.found c lost.0 o.did lost.1 in
+      let walks : ExtendsPath (view s) (view t) (event r s u continues A4 f.found f.did ∷ event r u t continues A5 g.found g.did ∷ []) =
+      walk_then (view s) (view u) (view t) (event r s u continues A4 f.found f.did ∷ []) (event r u t continues A5 g.found g.did ∷ []) first (walk_on r u t continues A5 g.found g.did lost.3 tt) in
+      record {
+        seat = o.did.seat;
+        over = over.0;
+        stored = then_stored s t y (then_stored s u t f.did.stored g.did.stored) o.did.stored;
+        lines = event r s u continues A4 f.found f.did ∷ event r u t continues A5 g.found g.did ∷ event r t y continues A7 o.found o.did ∷ [];
+        never = refl;
+        links = record {
+          pocket = over.1 ∙ ap (λ q. Some q) (lost.2 ∙ ap in_hand same_b);
+          is = refl;
+          finds = then_shut (view s) (view t) (view y) (event r s u continues A4 f.found f.did ∷ event r u t continues A5 g.found g.did ∷ []) (event r t y continues A7 o.found o.did ∷ []) walks (shut_on r t y continues A7 o.found o.did refl over.2);
+          cause = stopped_at r t y continues A7 o.found o.did s (event r s u continues A4 f.found f.did ∷ event r u t continues A5 g.found g.did ∷ []) Closed walks over.2;
+        };
       }
 
 -- the body was pushed
-pub puts_it : (r : Arena) (s t u x : Seat) (h : Held) (val : ℕ) (a b : Running) (out : Outcome Running) (from body spent n turns : ℕ) → a ≡ registers_of h val → b ≡ registers_of h val → Trying r s t h val spent n → Follows r t u continues A3 a out → has_lock out ≡ true → Links r u x b → body < 2 ^ 48 → val ≡ from * 2 ^ 48 + body → n < turns → Puts push_worn r s (keeping x None n) h.node body spent turns (Ok tt)
+pub puts_it : (r : Arena) (s t u x : Seat) (h : Held) (val : ℕ) (a b : Running) (out : Outcome Running) (from body spent n turns : ℕ) → a ≡ registers_of h val → b ≡ registers_of h val → Trying r s t h val spent n → Follows r t u continues A3 a out → has_lock out ≡ true → Links r u x b (Ok tt) → body < 2 ^ 48 → val ≡ from * 2 ^ 48 + body → n < turns → Puts push_worn r s (keeping x None n) h.node body spent turns (Ok tt)
 puts_it r s t u x h val a b out from body spent n turns is same g follows won linked small word less =
     let f : Follows r t u continues A3 (registers_of h val) out = subst (λ x. Follows r t u continues A3 x out) is follows in
-    let k : Links r u x (registers_of h val) = subst (Links r u x) same linked in
+    let k : Links r u x (registers_of h val) (Ok tt) = subst (λ y. Links r u x y (Ok tt)) same linked in
     let bodies : (value_of val).body ≡ body = ap (λ (v : Taken). v.body) (value_of-word val from body small word) in
     let try : Event = event r t u continues A3 f.found f.did in
     let one = got r t u (registers_of h val) out g.stands f won in
     let before : List Event = g.lines ++ try ∷ [] in
     let w : ExtendsPath (view s) (view u) before = walk_then (view s) (view t) (view u) g.lines (try ∷ []) g.walks (try_walk r t u (registers_of h val) out g.stands f) in
     let es : List Event = before ++ k.lines in
-    let acts : Acts (view s) (view x) (Push (view s).number body) es = then_act (view s) (view u) (view x) (Push (view u).number (value_of val).body) (Push (view s).number body) before k.lines (λ i. Push (w.number i) (bodies i)) w k.acts in
+    let acts : Acts (view s) (view x) (Push (view s).number body) es = then_act (view s) (view u) (view x) (Push (view u).number (value_of val).body) (Push (view s).number body) before k.lines (λ i. Push (w.number i) (bodies i)) w k.links.acts in
     let e : added s x ≡ es = added_path s x es acts.path in
     let name = then_stored s u x (then_stored s t u g.stored f.did.stored) k.stored in
     let rest : at_rest (view x).actor ≡ (view x).actor = ap (out_of (view x).actor) k.over in
     record {
-      ready = record { seat = kept_seat r x None n k.seat; free = ap (λ b. b.line) rest ∙ k.over; pocket = sym (ap (λ b. b.pocket) rest ∙ k.empty) };
+      ready = record { seat = kept_seat r x None n k.seat; free = ap (λ b. b.line) rest ∙ k.over; pocket = sym (ap (λ b. b.pocket) rest ∙ k.links.empty) };
       same = record { number = name.number; role = name.role };
       pushed = (
         subst (Acts (view s) (view x) (Push (view s).number body)) (sym e) acts,
@@ -201,6 +244,29 @@ puts_it r s t u x h val a b out from body spent n turns is same g follows won li
         (let c = ap failed_turns e in omega (arith, failed-append before k.lines, failed-append g.lines (try ∷ []), g.failed, one.1, k.never, c)),
       );
       refused = tt;
+    }
+
+-- the queue was found shut
+pub finds_it_shut : (r : Arena) (s t u x : Seat) (h : Held) (val : ℕ) (a b : Running) (out : Outcome Running) (why : Refusal) (body spent n turns : ℕ) → a ≡ registers_of h val → b ≡ registers_of h val → Trying r s t h val spent n → Follows r t u continues A3 a out → has_lock out ≡ true → Links r u x b (Err why) → Puts push_worn r s (keeping x (Some h) n) h.node body spent turns (Err why)
+finds_it_shut r s t u x h val a b out why body spent n turns is same g follows won linked =
+    let f : Follows r t u continues A3 (registers_of h val) out = subst (λ x. Follows r t u continues A3 x out) is follows in
+    let k : Links r u x (registers_of h val) (Err why) = subst (λ y. Links r u x y (Err why)) same linked in
+    let try : Event = event r t u continues A3 f.found f.did in
+    let before : List Event = g.lines ++ try ∷ [] in
+    let w : ExtendsPath (view s) (view u) before = walk_then (view s) (view t) (view u) g.lines (try ∷ []) g.walks (try_walk r t u (registers_of h val) out g.stands f) in
+    let es : List Event = before ++ k.lines in
+    let finds : FindsShut (view s) (view x) es = then_shut (view s) (view u) (view x) before k.lines w k.links.finds in
+    let e : added s x ≡ es = added_path s x es finds.path in
+    let name = then_stored s u x (then_stored s t u g.stored f.did.stored) k.stored in
+    let rest : at_rest (view x).actor ≡ (view x).actor = ap (out_of (view x).actor) k.over in
+    record {
+      ready = record { seat = kept_seat r x (Some h) n k.seat; free = ap (λ b. b.line) rest ∙ k.over; pocket = sym (ap (λ b. b.pocket) rest ∙ k.links.pocket) };
+      same = record { number = name.number; role = name.role };
+      pushed = tt;
+      refused = subst (λ y. StopsAPush s (keeping x (Some h) n) y × PutRefused push_worn r s (keeping x (Some h) n) h.node spent turns y) (sym k.links.is) (
+        subst (FindsShut (view s) (view x)) (sym e) finds,
+        (last_held r s (keeping x (Some h) n) es _ e (stopped_behind r s u before k.lines Closed w k.links.cause), refl),
+      );
     }
 
 -- all turns failed

@@ -1,6 +1,6 @@
 -- A running pop: what it remembers before each line, and what its turns come to.
 use Rattle.std.specs.Prelude.{◌≡◌, ℕ, zero, suc, ◌≤◌, Bool, true, false, if◌then◌else◌, nat_eq, List, ◌++◌, Option, Some, None}
-use Rattle.counted_ref.specs.Ref.{ref_of, is_null}
+use Rattle.counted_ref.specs.Ref.{ref_of, is_null, is_shut}
 use Rattle.line_table.specs.declared.lines.Line.{Line}
 use Rattle.line_table.specs.declared.lines.Line.TheVariants.{B1, B2, B3, B4, B5, B6, F1}
 use Rattle.history.specs.declared.operations.Entry.TheVariants.{Pop}
@@ -8,7 +8,7 @@ use Rattle.history.specs.declared.operations.Op.TheVariants.{Deq}
 use Rattle.history.specs.declared.operations.Reply as replies
 use Rattle.history.specs.declared.operations.Reply.TheVariants as reply
 use Rattle.history.specs.declared.refusals.Refusal.{Refusal}
-use Rattle.history.specs.declared.refusals.Refusal.TheVariants.{WornOut}
+use Rattle.history.specs.declared.refusals.Refusal.TheVariants.{WornOut, Closed}
 use Rattle.history.specs.declared.refusals.WornWord.TheVariants.{Head as OfHead}
 use Rattle.history.specs.Answers.{FoundEmpty}
 use Rattle.node_arena.specs.Machine.{Setup, Actor}
@@ -19,7 +19,7 @@ use Rattle.node_arena.specs.declared.seats.Seat.{Seat}
 use Rattle.node_arena.specs.Seeing.{known_by}
 use Rattle.node_arena.specs.Seats.{IsSeat, IsBefore, KeepsStored, DidStep, view}
 use Rattle.node_arena.specs.Turns.{failed_turns}
-use Rattle.node_arena.specs.Paths.{ExtendsPath, Acts, FailedAt, EndedAt, IsRefusedAt}
+use Rattle.node_arena.specs.Paths.{ExtendsPath, FindsShutEmpty, Acts, FailedAt, EndedAt, IsRefusedAt}
 use Rattle.node_arena.specs.Machine.{value_of}
 use Rattle.arena_lines.specs.declared.outcomes.Outcome.{Outcome}
 use Rattle.arena_lines.specs.declared.outcomes.Outcome.TheVariants.{Goes, Ends}
@@ -44,7 +44,9 @@ follow z a B1 n = if nat_eq n 0 then Goes B2 a else Goes B1 a
 follow z a B2 n = Goes B3 (record a { head = ref_of n })
 follow z a B3 n =
     let b = record a { next = ref_of n } in
-    if is_null (ref_of n) then Goes B6 (record b { due = Some IsEmpty }) else Goes B4 b
+    if is_null (ref_of n) then Goes B6 (record b { due = Some IsEmpty })
+    else if is_shut (ref_of n) then Goes B6 (record b { due = Some (IsRefused Closed) })
+    else Goes B4 b
 follow z a B4 n =
     let b = record a { val = n } in
     if nat_eq a.head.count z.limit then Goes B6 (record b { due = Some (IsRefused (WornOut OfHead)) }) else Goes B5 b
@@ -104,6 +106,12 @@ pub record SawEmpty (s t : Seat) (es : List Event) : Type 0 where
   pub path : (view t).path ≡ (view s).path ++ es
   pub found : FoundEmpty (known_by (view s)) (known_by (view t))
 
+-- the queue was found shut and empty
+pub record SawShut (r : Arena) (s t : Seat) (es : List Event) : Type 0 where
+  pub over : (view t).actor.line ≡ None
+  pub finds : FindsShutEmpty (view s) (view t) es
+  pub cause : EndedAt r s es (IsRefusedAt r.plan.setup (view s).number Closed)
+
 -- Head was found worn out
 pub record SawWorn (r : Arena) (s t : Seat) (es : List Event) (why : Refusal) : Type 0 where
   pub over : (view t).actor.line ≡ None
@@ -111,11 +119,16 @@ pub record SawWorn (r : Arena) (s t : Seat) (es : List Event) (why : Refusal) : 
   pub is : why ≡ WornOut OfHead
   pub cause : EndedAt r s es (IsRefusedAt r.plan.setup (view s).number (WornOut OfHead))
 
+-- why a pop ends under the lock: the queue was found shut and empty, or Head worn out
+abbrev pub Stops : Arena → Seat → Seat → List Event → Refusal → Type 0
+Stops r s t es Closed = SawShut r s t es
+Stops r s t es why = SawWorn r s t es why
+
 -- what the lines under the lock come to
 abbrev pub Fronted : Arena → Seat → Seat → List Event → Outcome Running → Type 0
 Fronted r s t es (Goes l a) = Took r s t es a
 Fronted r s t es (Ends IsEmpty) = SawEmpty s t es
-Fronted r s t es (Ends (IsRefused why)) = SawWorn r s t es why
+Fronted r s t es (Ends (IsRefused why)) = Stops r s t es why
 Fronted r s t es (Ends reply) = ⊥
 
 -- the lines under the lock, from B2 to B6

@@ -1,9 +1,13 @@
 -- A running push: what it remembers before each line, and what it comes to.
-use Rattle.std.specs.Prelude.{◌≡◌, ℕ, ◌+◌, ◌<◌, Bool, true, false, if◌then◌else◌, nat_eq, List, Some, None}
-use Rattle.counted_ref.specs.Ref.{ref, ref_of}
+use Rattle.std.specs.Prelude.{◌≡◌, ℕ, ◌+◌, ◌<◌, Bool, true, false, if◌then◌else◌, nat_eq, List, Option, Some, None, Result, Ok, Err}
+use Rattle.counted_ref.specs.Ref.{ref, ref_of, null, same_ref}
 use Rattle.line_table.specs.declared.lines.Line.{Line}
 use Rattle.line_table.specs.declared.lines.Line.TheVariants.{A1, A2, A3, A4, A5, A6, A7}
 use Rattle.history.specs.declared.operations.Entry.TheVariants.{Push}
+use Rattle.history.specs.declared.operations.Reply as replies
+use Rattle.history.specs.declared.operations.Reply.TheVariants as reply
+use Rattle.history.specs.declared.refusals.Refusal.{Refusal}
+use Rattle.history.specs.declared.refusals.Refusal.TheVariants.{Closed}
 use Rattle.node_arena.specs.Machine.{Held, Actor}
 use Rattle.node_arena.specs.Traces.{Event}
 use Rattle.node_arena.specs.Prologues.{Prologue, continues, after_prologue}
@@ -11,16 +15,22 @@ use Rattle.node_arena.specs.declared.arena.Arena.{Arena}
 use Rattle.node_arena.specs.declared.seats.Seat.{Seat}
 use Rattle.node_arena.specs.Seats.{IsSeat, IsBefore, KeepsStored, DidStep, view}
 use Rattle.node_arena.specs.Turns.{failed_turns}
-use Rattle.node_arena.specs.Paths.{ExtendsPath, Acts, FailedAt}
+use Rattle.node_arena.specs.Paths.{ExtendsPath, FindsShut, Acts, FailedAt, EndedAt, IsRefusedAt}
 use Rattle.node_arena.specs.Machine.{value_of}
 use Rattle.arena_lines.specs.declared.outcomes.Outcome.{Outcome}
 use Rattle.arena_lines.specs.declared.outcomes.Outcome.TheVariants.{Goes, Ends}
-use Rattle.arena_lines.specs.declared.outcomes.Reply.TheVariants.{Done}
+use Rattle.arena_lines.specs.declared.outcomes.Reply.{Reply}
+use Rattle.arena_lines.specs.declared.outcomes.Reply.TheVariants.{Done, Refused as IsRefused}
 use Rattle.two_lock.specs.declared.push_outcomes.Actor.{Actor as Running}
 
 -- the registers of a push that has this node and this word of a value
 abbrev pub registers_of : Held → ℕ → Running
 registers_of h val = record { node = h.node; mark = h.mark; val = val; tail = ref 0 0; due = None }
+
+-- where a push ends once the lock was let go: refused where that is due, else done
+abbrev pub left_as : Option Reply → Outcome Running
+left_as (Some (IsRefused why)) = Ends (IsRefused why)
+left_as _ = Ends Done
 
 -- what a running push makes of the number found at a line
 abbrev pub follow : Running → Line → ℕ → Outcome Running
@@ -28,9 +38,10 @@ follow a A1 n = Goes A2 a
 follow a A2 n = Goes A3 a
 follow a A3 n = if nat_eq n 0 then Goes A4 a else Goes A3 a
 follow a A4 n = Goes A5 (record a { tail = ref_of n })
-follow a A5 n = Goes A6 (record a { due = Some Done })
+follow a A5 n =
+    if same_ref (ref_of n) null then Goes A6 (record a { due = Some Done }) else Goes A7 (record a { due = Some (IsRefused Closed) })
 follow a A6 n = Goes A7 a
-follow a A7 n = Ends Done
+follow a A7 n = left_as a.due
 follow a l n = Goes l a
 
 -- whether a try of the lock got it
@@ -42,9 +53,16 @@ has_lock outcome = false
 abbrev pub HasNode : Actor → Running → Type 0
 HasNode b a = record { node : b.node ≡ a.node; mark : b.mark ≡ a.mark; val : b.val ≡ value_of a.val }
 
+-- the reply that is due, in the words of the machine
+abbrev pub told_by : Option Reply → Option replies.Reply
+told_by (Some (IsRefused why)) = Some (reply.Refused why)
+told_by _ = Some reply.Done
+
 -- and beside them these registers before a line
 abbrev pub AgreesAt : Line → Actor → Running → Type 0
 AgreesAt A5 b a = b.tail ≡ a.tail
+AgreesAt A6 b a = b.due ≡ told_by a.due
+AgreesAt A7 b a = b.due ≡ told_by a.due
 AgreesAt l b a = Unit {0}
 
 -- a seat's actor, led there, stands before a line of a push, and the call has its registers
@@ -59,15 +77,35 @@ pub record Follows (r : Arena) (s t : Seat) (prologue : Prologue) (l : Line) (a 
   pub did : DidStep r s t prologue l found
   pub leads_to : out ≡ follow a l found
 
--- the node was linked, and the call is over
-pub record Links (r : Arena) (s t : Seat) (a : Running) : Type 0 where
+-- the node of a running push, with its mark
+abbrev pub in_hand : Running → Held
+in_hand a = record { node = a.node; mark = a.mark }
+
+-- the node was linked
+pub record Linked (s t : Seat) (a : Running) (es : List Event) : Type 0 where
+  pub empty : (view t).actor.pocket ≡ None
+  pub acts : Acts (view s) (view t) (Push (view s).number (value_of a.val).body) es
+
+-- the queue was found shut, and the node is in the pocket
+pub record SawShut (r : Arena) (s t : Seat) (a : Running) (es : List Event) (why : Refusal) : Type 0 where
+  pub pocket : (view t).actor.pocket ≡ Some (in_hand a)
+  pub is : why ≡ Closed
+  pub finds : FindsShut (view s) (view t) es
+  pub cause : EndedAt r s es (IsRefusedAt r.plan.setup (view s).number Closed)
+
+-- what the lines under the lock come to
+abbrev pub LinkedOr : Arena → Seat → Seat → Running → List Event → Result (Unit {0}) Refusal → Type 0
+LinkedOr r s t a es (Ok x) = Linked s t a es
+LinkedOr r s t a es (Err why) = SawShut r s t a es why
+
+-- the call is over: the node was linked, or the queue was found shut
+pub record Links (r : Arena) (s t : Seat) (a : Running) (out : Result (Unit {0}) Refusal) : Type 0 where
   pub seat : IsSeat r t
   pub over : (view t).actor.line ≡ None
-  pub empty : (view t).actor.pocket ≡ None
   pub stored : KeepsStored s t
   pub lines : List Event
-  pub acts : Acts (view s) (view t) (Push (view s).number (value_of a.val).body) lines
   pub never : failed_turns lines ≡ 0
+  pub links : LinkedOr r s t a lines out
 
 -- a push that has its node, after so many failed turns of its call, `spent` of them before it had the node
 pub record Trying (r : Arena) (s t : Seat) (h : Held) (val spent n : ℕ) : Type 0 where

@@ -1,4 +1,4 @@
--- What pushes and pops of the two-lock queue share.
+-- What pushes, pops and shuts of the two-lock queue share.
 use Rattle.std.specs.Prelude.{◌≡◌}
 use Rattle.line_table.specs.declared.lines.Kind.TheVariants.{TwoLock}
 use Rattle.node_arena.specs.declared.arena.Arena.{Arena}

@@ -1,8 +1,8 @@
 //! The two-lock queue as an algorithm on an arena.
 ghost use Rattle.line_table.specs.declared.lines.Kind.TheVariants as kinds;
-ghost use Rattle.two_lock.specs.Worn.{push_worn, pop_worn};
+ghost use Rattle.two_lock.specs.Worn.{push_worn, pop_worn, shut_worn};
 
-use crate::{popping, pushing};
+use crate::{popping, pushing, shutting};
 use arena_queue::{Algorithm, ArenaQueue};
 use history::{Body, Refusal, Taken};
 use line_table::Kind;
@@ -27,6 +27,8 @@ impl Algorithm for TwoLockAlgorithm {
 
     ghost pop_worn = { pop_worn };
 
+    ghost shut_worn = { shut_worn };
+
     fn kind() -> Kind {
         Kind::TwoLock
     }
@@ -49,5 +51,9 @@ impl Algorithm for TwoLockAlgorithm {
         turns: u32,
     ) -> Result<Option<Taken>, Refusal> {
         popping::pop_with_empty_pocket(arena, seat, spent, turns)
+    }
+
+    fn shut(arena: &Arena, seat: &mut Seat, turns: u32) -> Result<(), Refusal> {
+        shutting::shut_queue(arena, seat, turns)
     }
 }

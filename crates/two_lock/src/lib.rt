@@ -8,5 +8,8 @@ mod popping;
 mod push_lines;
 mod push_outcomes;
 mod pushing;
+mod shut_lines;
+mod shut_outcomes;
+mod shutting;
 
 pub use algorithm::{TwoLockAlgorithm, TwoLockQueue};

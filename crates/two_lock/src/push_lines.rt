@@ -6,9 +6,10 @@ ghost use Rattle.node_arena.specs.Plans.{may_push};
 ghost use Rattle.node_arena.specs.Seats.{role_of};
 ghost use Rattle.two_lock.specs.Pushes.{CallIsAt, Follows};
 
-use crate::push_outcomes::Actor;
-use arena_lines::{Outcome, Reply, access, effect, ends, goes, onward, row};
+use crate::push_outcomes::{Actor, left_with_node};
+use arena_lines::{Outcome, Reply, access, branch, effect, goes, onward, row};
 use counted_ref::CountedRef;
+use history::Refusal;
 use line_table::{Line, line_table};
 use node_arena::{Arena, Seat};
 
@@ -45,12 +46,12 @@ pub(crate) fn a4(arena: &Arena, seat: &mut Seat, mut a: Actor) -> Actor
     line_table!(A4 (setup me a found) row (arena seat found))
 }
 
-pub(crate) fn a5(arena: &Arena, seat: &mut Seat, mut a: Actor) -> Actor
+pub(crate) fn a5(arena: &Arena, seat: &mut Seat, mut a: Actor) -> (Line, Actor)
     requires stands { CallIsAt arena.now seat.old continues lines.A5 a }
     requires role { IsTrue (may_push (role_of seat.old)) }
-    ensures { Follows arena.now seat.old seat.new continues lines.A5 a (Outcome.Goes lines.A6 result) }
+    ensures { Follows arena.now seat.old seat.new continues lines.A5 a (Outcome.Goes result.0 result.1) }
 {
-    use onward::goes;
+    use branch::goes;
     line_table!(A5 (setup me a found) row (arena seat found))
 }
 

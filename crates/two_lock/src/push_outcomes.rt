@@ -1,6 +1,6 @@
 //! What a running push remembers.
 ghost use Rattle.std.specs.Prelude.{◌≡◌, Some};
-ghost use Rattle.two_lock.specs.Pushes.{registers_of, has_lock};
+ghost use Rattle.two_lock.specs.Pushes.{registers_of, has_lock, left_as};
 
 use arena_lines::{Outcome, Reply};
 use counted_ref::CountedRef;
@@ -37,6 +37,16 @@ impl Actor {
         ensures { self.new ≡ record self.old { due = Some Reply.Done } }
     {
         self.due = Some(Reply::Done);
+    }
+}
+
+/// The lock was let go: a push that found the queue shut is refused.
+pub(crate) fn left_with_node(a: Actor) -> Outcome<Actor>
+    ensures { result ≡ left_as a.due }
+{
+    match a.due {
+        Some(Reply::Refused(why)) => Outcome::Ends(Reply::Refused(why)),
+        _ => Outcome::Ends(Reply::Done),
     }
 }
 

@@ -12,18 +12,25 @@ ghost use Rattle.arena_queue.specs.Answers.{Puts};
 use crate::push_lines::{a1, a2, a3, a4, a5, a6, a7};
 use crate::push_outcomes::{Actor, got_lock, registers};
 use history::{Body, Refusal};
+use line_table::Line;
 use node_arena::{Arena, Held, Seat, word_of};
 
-// The node is linked behind the last one, Tail goes on to it, and the lock is let go.
-fn push_locked(arena: &Arena, seat: &mut Seat, a: Actor)
+// With the lock: the node is linked behind the last one and Tail goes on to it, unless the queue is shut; the lock is let
+// go.
+fn push_locked(arena: &Arena, seat: &mut Seat, a: Actor) -> Result<(), Refusal>
     requires stands { CallIsAt arena.now seat.old continues lines.A4 a }
     requires role { IsTrue (may_push (role_of seat.old)) }
-    ensures { Links arena.now seat.old seat.new a }
+    ensures { Links arena.now seat.old seat.new a result }
 {
     let a = a4(arena, seat, a);
-    let a = a5(arena, seat, a);
+    let (next, a) = a5(arena, seat, a);
+    if let Line::A7 = next {
+        a7(arena, seat, a);
+        return Err(Refusal::Closed);
+    }
     let a = a6(arena, seat, a);
     a7(arena, seat, a);
+    Ok(())
 }
 
 // The push with the node in the pocket, where `spent` turns of this call failed before.
@@ -48,9 +55,16 @@ pub(crate) fn push_node(
     let _ = a2(arena, seat, a);
     for index in spent..turns {
         if got_lock(a3(arena, seat, registers(held, val))) {
-            push_locked(arena, seat, registers(held, val));
-            seat.keep(None, index);
-            return Ok(());
+            match push_locked(arena, seat, registers(held, val)) {
+                Ok(()) => {
+                    seat.keep(None, index);
+                    return Ok(());
+                }
+                Err(why) => {
+                    seat.keep(Some(held), index);
+                    return Err(why);
+                }
+            }
         }
     }
     seat.keep(Some(held), turns);

@@ -57,6 +57,7 @@ module _ {Q S : Type 0} (is_seat : Q → S → Type 0) (permits : Q → List Per
           gives = record {
             seat = duo.each 0 a (omega arith);
             may = subst (λ n. MayPush (permits q) n) (sym na) (subst (λ ps. MayPush ps 1) (sym duo.permitted) (omega arith, refl));
+            alone = λ n h. pushes_alone n (subst (λ ps. MayPush ps n) duo.permitted h) ∙ sym na;
             unused = ap (λ (k : Known). k.mine) one;
           };
           takes = record {
@@ -64,7 +65,6 @@ module _ {Q S : Type 0} (is_seat : Q → S → Type 0) (permits : Q → List Per
             may = subst (λ n. MayPop (permits q) n) (sym nb) (subst (λ ps. MayPop ps 2) (sym duo.permitted) (omega arith, refl));
             unused = ap (λ (k : Known). k.mine) two;
           };
-          pushes = λ n h. pushes_alone n (subst (λ ps. MayPush ps n) duo.permitted h) ∙ sym na;
           pops = λ n h. pops_alone n (subst (λ ps. MayPop ps n) duo.permitted h) ∙ sym nb;
         },
       )

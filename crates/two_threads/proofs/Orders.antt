@@ -1,14 +1,24 @@
 -- What one seat pushed another popped, in order.
-use Rattle.std.proofs.Common.{suc, zero, ◌≡◌, ◌+◌, ◌∙◌, sym, refl, ap, ℕ, List, [], ◌∷◌, ◌++◌, length, arith}
-use Rattle.std.proofs.lemmas.List.{append-nil, length-append}
+use Rattle.std.proofs.Common.{cond, suc, zero, ◌≡◌, ◌+◌, ◌∙◌, sym, refl, ap, subst, ℕ, Bool, true, false, nat_eq, eq-eqb, List, [], ◌∷◌, ◌++◌, arith}
+use Rattle.std.specs.List.{All, count_by}
+use Rattle.std.proofs.lemmas.Bool.{false≢true}
+use Rattle.std.proofs.lemmas.List.{append-nil}
+use Rattle.std.proofs.lemmas.List.Elements.{All-head, All-tail}
+use Rattle.std.proofs.lemmas.List.Sums.{sum_by-cons, sum_by_push}
 use Rattle.std.proofs.lemmas.Grind.{flat_map-append}
 use Rattle.history.specs.declared.operations.Entry.{Entry}
-use Rattle.history.specs.declared.operations.Entry.TheVariants.{Push, Pop}
+use Rattle.history.specs.declared.operations.Entry.TheVariants.{Push, Pop, Shut}
+use Rattle.history.specs.declared.operations.Reply.TheVariants.{Done, Value, Empty, Refused}
 use Rattle.history.specs.declared.operations.Taken.{Taken}
-use Rattle.history.specs.Seats.{Permit, Known, IsSound}
+use Rattle.history.specs.declared.refusals.Refusal.{Refusal}
+use Rattle.history.specs.declared.refusals.Refusal.TheVariants.{WornOut, NoNode, Closed}
+use Rattle.history.specs.Answers.{FoundShut, PushRefused, EndsShut}
+use Rattle.history.specs.Queue.{Queue, empty}
+use Rattle.history.specs.Entries.{is_shut, own_entries, Plays, Leads, LeadsToShut}
+use Rattle.history.specs.Seats.{Permit, Known, IsPermitted, IsSound}
 use Rattle.history.specs.Values.{pushed, popped, pushed_by, OnlyPushes, OnlyPops}
-use Rattle.history.proofs.Values.{pushed-LeadsTo, pushed-alone, popped-alone}
-use Rattle.two_threads.specs.Duos.{pushes_to, values_to, pops_of}
+use Rattle.history.proofs.Values.{pushed-Leads, pushed-alone, popped-alone}
+use Rattle.two_threads.specs.Duos.{pushes_to, values_to, pops_of, EndsPushOne, EndsRun}
 
 -- the values that these pushes push
 pushed-pushes_to : (seat n : ℕ) → pushed (pushes_to seat n) ≡ values_to seat n
@@ -27,39 +37,91 @@ pops_of-push : (seat : ℕ) (vs : List Taken) (v : Taken) → pops_of seat (vs +
 pops_of-push seat [] v = refl
 pops_of-push seat (x ∷ vs) v = ap (λ t. Pop seat x ∷ t) (pops_of-push seat vs v)
 
--- there are so many
-length-values_to : (seat n : ℕ) → length (values_to seat n) ≡ n
-length-values_to seat zero = refl
-length-values_to seat (suc n) =
-    let v : Taken = record { from = seat; body = suc n } in
-    let e = length-append (values_to seat n) (v ∷ []) in
-    let ih = length-values_to seat n in
-    omega (arith, e, ih)
+-- pushes are no shuts
+pub shuts-pushes_to : (seat n : ℕ) → count_by is_shut (pushes_to seat n) ≡ 0
+shuts-pushes_to seat zero = refl
+shuts-pushes_to seat (suc n) =
+    let one = sum_by_push (λ e. cond (is_shut e) 1 0) (pushes_to seat n) (Push seat (suc n)) in
+    let ih = shuts-pushes_to seat n in
+    omega (arith, one, ih)
 
--- a beginning that is as long is the whole
-all_of : (vs more ws : List Taken) → ws ≡ vs ++ more → length vs ≡ length ws → vs ≡ ws
-all_of vs [] ws e l = sym (e ∙ append-nil vs)
-all_of vs (m ∷ more) ws e l =
-    let long = ap length e in
-    let parts = length-append vs (m ∷ more) in
-    absurd (omega (arith, long, parts, l))
+-- an entry more has no less shuts
+fewer : (b : Bool) (e : Entry) (es : List Entry) → count_by is_shut (cond b (e ∷ es) es) ≡ 0 → count_by is_shut es ≡ 0
+fewer true e es h = let one = sum_by-cons (λ x. cond (is_shut x) 1 0) e es in omega (arith, one, h)
+fewer false e es h = h
 
--- what the one popper took is what the one pusher pushed, in order
+module _ (permits : List Permit) (me : ℕ) (only : OnlyPushes permits me) where
+  abbrev May : List Entry → Type 0
+  May es = All (IsPermitted permits) es
+
+  -- where one seat alone may push, and made no shut, nothing leads to a queue that is shut
+  stays_open : (es : List Entry) (values left : List Taken) → May es → count_by is_shut (own_entries me es) ≡ 0 → Plays (record { values = values; shut = false }) es (record { values = left; shut = true }) → ⊥
+  stays_open [] values left may none h = false≢true (ap (λ (q : Queue). q.shut) h)
+  stays_open (Push seat body ∷ es) values left may none h =
+      stays_open es _ left (All-tail (IsPermitted permits) (Push seat body) es may) (fewer (nat_eq seat me) (Push seat body) (own_entries me es) none) h.1
+  stays_open (Pop seat value ∷ es) (v ∷ vs) left may none h =
+      stays_open es vs left (All-tail (IsPermitted permits) (Pop seat value) es may) (fewer (nat_eq seat me) (Pop seat value) (own_entries me es) none) h.1
+  stays_open (Pop seat value ∷ es) [] left may none h = let e : Empty ≡ Value value = h.0 in absurd cc
+  stays_open (Shut seat ∷ es) values left may none h =
+      let mine : nat_eq seat me ≡ true = eq-eqb seat me (only seat (All-head (IsPermitted permits) (Shut seat) es may)) in
+      let made : count_by is_shut (Shut seat ∷ own_entries me es) ≡ 0 = subst (λ b. count_by is_shut (cond b (Shut seat ∷ own_entries me es) (own_entries me es)) ≡ 0) mine none in
+      let one = sum_by-cons (λ x. cond (is_shut x) 1 0) (Shut seat) (own_entries me es) in
+      omega (arith, one, made)
+
+-- so a seat that alone may push, and did nothing but push, never finds the queue shut
+pub never_shut : (permits : List Permit) (k : Known) (seat n : ℕ) → IsSound permits k → OnlyPushes permits k.number → k.mine ≡ pushes_to seat n → LeadsToShut k.seen → ⊥
+never_shut permits k seat n sound only mine found =
+    let none : count_by is_shut (own_entries k.number k.seen) ≡ 0 = ap (count_by is_shut) (sound.own ∙ mine) ∙ shuts-pushes_to seat n in
+    stays_open permits k.number only k.seen [] found.0 sound.permitted none found.1
+
+-- and its push is refused only as the run may be
+pub ends_run : (most : ℕ) (k k' : Known) (why : Refusal) → (LeadsToShut k'.seen → k'.mine ≡ k.mine → ⊥) → EndsPushOne k why k' → EndsRun most why
+ends_run most k k' (WornOut word) never h = tt
+ends_run most k k' Closed never h = absurd (never h.0 h.1)
+ends_run most k k' NoNode never h = absurd h
+ends_run most k k' _ never h = absurd h
+
+-- and so is its shut
+pub shut_ends_run : (most : ℕ) (k k' : Known) (why : Refusal) → (FoundShut k k' → ⊥) → EndsShut why → PushRefused k why k' → EndsRun most why
+shut_ends_run most k k' (WornOut word) never may h = tt
+shut_ends_run most k k' Closed never may h = absurd (never h)
+shut_ends_run most k k' _ never may h = absurd may
+
+-- nothing is done behind the end of a queue that is shut and empty
+abbrev done : Queue
+done = record { values = []; shut = true }
+
+nothing_behind : (es : List Entry) (after : Queue) → Plays done es after → done ≡ after
+nothing_behind [] after h = h
+nothing_behind (Push seat body ∷ es) after h = absurd (let e : Refused Closed ≡ Done = h.0 in cc)
+nothing_behind (Pop seat value ∷ es) after h = absurd (let e : Refused Closed ≡ Value value = h.0 in cc)
+nothing_behind (Shut seat ∷ es) after h = absurd (let e : Refused Closed ≡ Done = h.0 in cc)
+
+-- so what leads there, and further, leads there
+ends_there : (es more : List Entry) (queue after : Queue) → Plays queue es done → Plays queue (es ++ more) after → done ≡ after
+ends_there [] more queue after h k = nothing_behind more after (subst (λ q. Plays q more after) h k)
+ends_there (Push seat body ∷ es) more queue after h k = ends_there es more _ after h.1 k.1
+ends_there (Pop seat value ∷ es) more queue after h k = ends_there es more _ after h.1 k.1
+ends_there (Shut seat ∷ es) more queue after h k = ends_there es more _ after h.1 k.1
+
+-- what the one popper took, who then found the queue shut and empty, is what the one pusher pushed, in order
 pub in_order :
-    (permits : List Permit) (g t : Known) (giver taker n : ℕ) (vs : List Taken) →
+    (permits : List Permit) (g t : Known) (giver taker n : ℕ) (vs : List Taken) (found between : List Entry) →
     IsSound permits g → IsSound permits t → t.seen ≡ g.seen →
     OnlyPushes permits giver → OnlyPops permits taker →
     g.number ≡ giver → t.number ≡ taker →
-    g.mine ≡ pushes_to giver n → t.mine ≡ pops_of taker vs → length vs ≡ n → vs ≡ values_to giver n
-in_order permits g t giver taker n vs gs ts same pushes pops gn tn gm tm count =
-    let left = gs.legal.0.values in
-    let all_pushed : values_to giver n ≡ pushed g.seen =
-    sym (pushed-pushes_to giver n) ∙ ap pushed (sym gm) ∙ pushed-alone permits g gs (λ m may. pushes m may ∙ sym gn) in
+    g.mine ≡ pushes_to giver n ++ Shut giver ∷ [] → t.mine ≡ pops_of taker vs →
+    t.seen ≡ found ++ between → Leads found true [] → vs ≡ values_to giver n
+in_order permits g t giver taker n vs found between gs ts same pushes pops gn tn gm tm more empties =
+    let all_pushed : pushed g.seen ≡ values_to giver n =
+    sym (pushed-alone permits g gs (λ m may. pushes m may ∙ sym gn)) ∙ ap pushed gm ∙ flat_map-append pushed_by (pushes_to giver n) (Shut giver ∷ [])
+    ∙ append-nil (pushed (pushes_to giver n)) ∙ pushed-pushes_to giver n in
     let all_popped : vs ≡ popped g.seen =
     sym (popped-pops_of taker vs) ∙ ap popped (sym tm) ∙ popped-alone permits t ts (λ m may. pops m may ∙ sym tn) ∙ ap popped same in
-    all_of vs left (values_to giver n)
-    (all_pushed ∙ pushed-LeadsTo g.seen left gs.legal.1 ∙ ap (λ x. x ++ left) (sym all_popped))
-    (count ∙ sym (length-values_to giver n))
+    let after = gs.legal.0 in
+    let nothing : after.values ≡ [] =
+    ap (λ (q : Queue). q.values) (sym (ends_there found between empty after empties (subst (λ es. Plays empty es after) (sym same ∙ more) gs.legal.1))) in
+    all_popped ∙ sym (pushed-Leads g.seen after.shut after.values gs.legal.1 ∙ ap (λ x. popped g.seen ++ x) nothing ∙ append-nil (popped g.seen)) ∙ all_pushed
 
 -- one value more was popped
 pub popped_more :
@@ -67,10 +129,3 @@ pub popped_more :
     n ≡ m → mine ≡ pops_of m vs → mine' ≡ mine ++ Pop n v ∷ [] → vs' ≡ vs ++ v ∷ [] → mine' ≡ pops_of m vs'
 popped_more n m mine mine' vs vs' v same was more items =
     more ∙ ap (λ k. mine ++ Pop k v ∷ []) same ∙ ap (λ t. t ++ Pop m v ∷ []) was ∙ sym (pops_of-push m vs v) ∙ ap (pops_of m) (sym items)
-
--- and is counted
-pub counts_more : (vs vs' : List Taken) (v : Taken) (n : ℕ) → length vs ≡ n → vs' ≡ vs ++ v ∷ [] → length vs' ≡ n + 1
-counts_more vs vs' v n was items =
-    let e = ap length items in
-    let one = length-append vs (v ∷ []) in
-    omega (arith, was, e, one)

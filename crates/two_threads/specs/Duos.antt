@@ -1,11 +1,12 @@
 -- One seat that pushes the numbers from 1 on, and one that pops.
-use Rattle.std.specs.Prelude.{◌≡◌, ◌≤◌, ◌^◌, ℕ, zero, suc, true, false, List, [], ◌∷◌, ◌++◌, length, map}
+use Rattle.std.specs.Prelude.{◌≡◌, ◌≤◌, ◌^◌, ℕ, zero, suc, true, false, List, [], ◌∷◌, ◌++◌, map}
 use Rattle.std.specs.List.{All}
 use Rattle.history.specs.declared.operations.Entry.{Entry}
-use Rattle.history.specs.declared.operations.Entry.TheVariants.{Push, Pop}
+use Rattle.history.specs.declared.operations.Entry.TheVariants.{Push, Pop, Shut}
 use Rattle.history.specs.declared.operations.Taken.{Taken}
 use Rattle.history.specs.declared.refusals.Refusal.{Refusal}
-use Rattle.history.specs.declared.refusals.Refusal.TheVariants.{Memory, WornOut, BadSize}
+use Rattle.history.specs.declared.refusals.Refusal.TheVariants.{Memory, WornOut, BadSize, Closed}
+use Rattle.history.specs.Entries.{Leads, LeadsToShut}
 use Rattle.history.specs.Limits.{body_bits}
 use Rattle.history.specs.Openings.{AreNew}
 use Rattle.history.specs.Seats.{Permit, Known, MayPush, MayPop}
@@ -37,15 +38,39 @@ EndsRun most (WornOut word) = Unit {0}
 EndsRun most BadSize = 2 ^ body_bits ≤ most
 EndsRun most _ = ⊥
 
+-- taking the values may be refused so: memory was refused, or a word was worn out
+abbrev pub EndsTaking : Refusal → Type 0
+EndsTaking Memory = Unit {0}
+EndsTaking (WornOut word) = Unit {0}
+EndsTaking _ = ⊥
+
 -- a seat has this entry more of its own, at the end
 abbrev pub IsOneMore : Known → Entry → Known → Type 0
 IsOneMore k e k' = k'.mine ≡ k.mine ++ e ∷ []
 
+-- a push that waits for a node may be refused so: a word was worn out, or the queue was found shut, and nothing was done
+abbrev pub EndsPushOne : Known → Refusal → Known → Type 0
+EndsPushOne k (WornOut word) k' = Unit {0}
+EndsPushOne k Closed k' = LeadsToShut k'.seen × (k'.mine ≡ k.mine)
+EndsPushOne k _ k' = ⊥
+
+-- a pop that waits for a value may be refused so: a word was worn out, or the queue was found shut and empty, and nothing was
+-- done
+abbrev pub EndsPopOne : Known → Refusal → Known → Type 0
+EndsPopOne k (WornOut word) k' = Unit {0}
+EndsPopOne k Closed k' = Leads k'.seen true [] × (k'.mine ≡ k.mine)
+EndsPopOne k _ k' = ⊥
+
+-- a seat pushed the numbers from 1 to this one, and did nothing else
+abbrev pub HasPushed : Known → (most : ℕ) → Known → Type 0
+HasPushed k most k' = k'.mine ≡ pushes_to k.number most
+
 module _ {Q S : Type 0} (is_seat : Q → S → Type 0) (permits : Q → List Permit) (known : S → Known) where
-  -- a seat that may push and has done nothing
+  -- a seat that alone may push, and has done nothing
   pub record IsOnePusher (q : Q) (s : S) : Type 0 where
     pub seat : is_seat q s
     pub may : MayPush (permits q) (known s).number
+    pub alone : OnlyPushes (permits q) (known s).number
     pub unused : (known s).mine ≡ []
 
   -- a seat that may pop and has done nothing
@@ -58,7 +83,6 @@ module _ {Q S : Type 0} (is_seat : Q → S → Type 0) (permits : Q → List Per
   pub record IsDuo (q : Q) (giver taker : S) : Type 0 where
     pub gives : IsOnePusher q giver
     pub takes : IsOnePopper q taker
-    pub pushes : OnlyPushes (permits q) (known giver).number
     pub pops : OnlyPops (permits q) (known taker).number
 
   -- these are the two seats of a new queue: the first may push, the second may pop
@@ -68,15 +92,19 @@ module _ {Q S : Type 0} (is_seat : Q → S → Type 0) (permits : Q → List Per
     pub new : AreNew (permits q) (map known seats)
 
 module _ {Q S : Type 0} (is_seat : Q → S → Type 0) (known : S → Known) where
-  -- the seat pushed the numbers from 1 to this one, and did nothing else
-  pub record HasPushed (q : Q) (s : S) (most : ℕ) (t : S) : Type 0 where
+  -- the seat pushed the numbers from 1 to this one and then shut the queue, and did nothing else
+  pub record HasGiven (q : Q) (s : S) (most : ℕ) (t : S) : Type 0 where
     pub seat : is_seat q t
     pub number : (known t).number ≡ (known s).number
-    pub mine : (known t).mine ≡ pushes_to (known s).number most
+    pub mine : (known t).mine ≡ pushes_to (known s).number most ++ Shut (known s).number ∷ []
 
-  -- the seat popped so many values, and did nothing else
-  pub record HasPopped (q : Q) (s : S) (most : ℕ) (t : S) (values : List Taken) : Type 0 where
+  -- the seat popped these values, and did nothing else
+  pub record HasPopped (q : Q) (s : S) (t : S) (values : List Taken) : Type 0 where
     pub seat : is_seat q t
     pub number : (known t).number ≡ (known s).number
     pub mine : (known t).mine ≡ pops_of (known s).number values
-    pub count : length values ≡ most
+
+  -- the seat popped these values, did nothing else, and found the queue shut and empty
+  pub record HasTaken (q : Q) (s : S) (t : S) (values : List Taken) : Type 0 where
+    pub popped : HasPopped q s t values
+    pub done : Leads (known t).seen true []

@@ -1,9 +1,9 @@
 //! A queue of any kind, and two threads that call it.
 ghost use Rattle.std.specs.Prelude.{◌≡◌, IfOk, IfErr, OnOk};
 ghost use Rattle.history.specs.declared.operations.Entry.TheVariants.{Push, Pop};
-ghost use Rattle.history.specs.Answers.{EndsPop};
 ghost use Rattle.history.specs.Seats.{MayPush, MayPop};
-ghost use Rattle.two_threads.specs.Duos.{IsDuo, IsOnePusher, IsOnePopper, IsOneMore, HasPushed, HasPopped, EndsRun, values_to};
+ghost use Rattle.two_threads.specs.Duos.{IsDuo, IsOnePusher, IsOnePopper, IsOneMore, EndsPushOne, EndsPopOne};
+ghost use Rattle.two_threads.specs.Duos.{HasPushed, HasGiven, HasTaken, EndsRun, EndsTaking, values_to};
 
 use crossbeam_utils::Backoff;
 use history::{Body, Fifo, Refusal, Taken};
@@ -24,7 +24,7 @@ fn push_one<R: Wait, Q: Fifo>(
     ensures number { (Q.known seat.new).number ≡ (Q.known seat.old).number }
     ensures pushed { OnOk result (IsOneMore (Q.known seat.old)
         (Push (Q.known seat.old).number body) (Q.known seat.new)) }
-    ensures why { IfErr result EndsPop }
+    ensures why { IfErr result (λ why. EndsPushOne (Q.known seat.old) why (Q.known seat.new)) }
 {
     let backoff = Backoff::new();
     for _ in rt.forever() {
@@ -41,19 +41,39 @@ fn push_one<R: Wait, Q: Fifo>(
 fn push_all<R: Wait, Q: Fifo>(
     rt: &R,
     queue: &Q,
-    mut seat: Q::Seat,
+    seat: &mut Q::Seat,
     most: u64,
-) -> Result<Q::Seat, Refusal>
-    requires { IsOnePusher Q.is_seat Q.permits Q.known queue.now seat }
-    ensures pushed { IfOk result (HasPushed Q.is_seat Q.known queue.now seat most) }
+) -> Result<(), Refusal>
+    requires { IsOnePusher Q.is_seat Q.permits Q.known queue.now seat.old }
+    ensures seat { Q.is_seat queue.now seat.new }
+    ensures number { (Q.known seat.new).number ≡ (Q.known seat.old).number }
+    ensures pushed { OnOk result (HasPushed (Q.known seat.old) most (Q.known seat.new)) }
     ensures why { IfErr result (EndsRun most) }
 {
     for count in 0..most {
         let Some(body) = Body::new(count + 1) else {
             return Err(Refusal::BadSize);
         };
-        push_one(rt, queue, &mut seat, body)?;
+        push_one(rt, queue, seat, body)?;
     }
+    Ok(())
+}
+
+// Pushes 1, 2 and so on to `most`, and then shuts the queue, also where a push was refused: so who takes ends.
+fn give<R: Wait, Q: Fifo>(
+    rt: &R,
+    queue: &Q,
+    mut seat: Q::Seat,
+    most: u64,
+) -> Result<Q::Seat, Refusal>
+    requires { IsOnePusher Q.is_seat Q.permits Q.known queue.now seat }
+    ensures given { IfOk result (HasGiven Q.is_seat Q.known queue.now seat most) }
+    ensures why { IfErr result (EndsRun most) }
+{
+    let pushed = push_all(rt, queue, &mut seat, most);
+    let shut = queue.shut(rt, &mut seat);
+    pushed?;
+    shut?;
     Ok(seat)
 }
 
@@ -65,7 +85,7 @@ fn pop_one<R: Wait, Q: Fifo>(rt: &R, queue: &Q, seat: &mut Q::Seat) -> Result<Ta
     ensures number { (Q.known seat.new).number ≡ (Q.known seat.old).number }
     ensures popped { IfOk result (λ value. IsOneMore (Q.known seat.old)
         (Pop (Q.known seat.old).number value) (Q.known seat.new)) }
-    ensures why { IfErr result EndsPop }
+    ensures why { IfErr result (λ why. EndsPopOne (Q.known seat.old) why (Q.known seat.new)) }
 {
     let backoff = Backoff::new();
     for _ in rt.forever() {
@@ -78,27 +98,30 @@ fn pop_one<R: Wait, Q: Fifo>(rt: &R, queue: &Q, seat: &mut Q::Seat) -> Result<Ta
     unreachable!()
 }
 
-// Takes so many values.
+// Takes values until the queue is shut and empty.
 fn pop_all<R: Wait, Q: Fifo>(
     rt: &R,
     alloc: Global,
     queue: &Q,
     mut seat: Q::Seat,
-    most: u64,
 ) -> Result<(Q::Seat, Vec<Taken>), Refusal>
     requires { IsOnePopper Q.is_seat Q.permits Q.known queue.now seat }
-    ensures popped { IfOk result (λ r.
-        HasPopped Q.is_seat Q.known queue.now seat most r.0 r.1.items) }
-    ensures why { IfErr result (EndsRun most) }
+    ensures taken { IfOk result (λ r. HasTaken Q.is_seat Q.known queue.now seat r.0 r.1.items) }
+    ensures why { IfErr result EndsTaking }
 {
     let mut taken = Vec::new(alloc);
-    for count in 0..most {
-        let value = pop_one(rt, queue, &mut seat)?;
-        let Ok(()) = taken.push(value) else {
-            return Err(Refusal::Memory);
-        };
+    for _ in rt.forever() {
+        match pop_one(rt, queue, &mut seat) {
+            Ok(value) => {
+                let Ok(()) = taken.push(value) else {
+                    return Err(Refusal::Memory);
+                };
+            }
+            Err(Refusal::Closed) => return Ok((seat, taken)),
+            Err(why) => return Err(why),
+        }
     }
-    Ok((seat, taken))
+    unreachable!()
 }
 
 // The two threads: the values that the one took, and the seat of the other.
@@ -115,29 +138,30 @@ fn both<R: Threads + Wait + Sync, Q: Fifo + Sync>(
 )
     requires giver { IsOnePusher Q.is_seat Q.permits Q.known queue.now giver }
     requires taker { IsOnePopper Q.is_seat Q.permits Q.known queue.now taker }
-    ensures taken { IfOk result.0 (λ r.
-        HasPopped Q.is_seat Q.known queue.now taker most r.0 r.1.items) }
-    ensures untaken { IfErr result.0 (EndsRun most) }
-    ensures pushed { IfOk result.1 (HasPushed Q.is_seat Q.known queue.now giver most) }
-    ensures unpushed { IfErr result.1 (EndsRun most) }
+    ensures taken { IfOk result.0 (λ r. HasTaken Q.is_seat Q.known queue.now taker r.0 r.1.items) }
+    ensures untaken { IfErr result.0 EndsTaking }
+    ensures given { IfOk result.1 (HasGiven Q.is_seat Q.known queue.now giver most) }
+    ensures ungiven { IfErr result.1 (EndsRun most) }
 {
     join(
         rt,
         || -> Result<(Q::Seat, Vec<Taken>), Refusal>
             requires { IsOnePopper Q.is_seat Q.permits Q.known queue.now taker }
             ensures taken { IfOk result (λ r.
-                HasPopped Q.is_seat Q.known queue.entry.now taker most r.0 r.1.items) }
-            ensures why { IfErr result (EndsRun most) }
-        { pop_all(rt, alloc, queue, taker, most) },
+                HasTaken Q.is_seat Q.known queue.entry.now taker r.0 r.1.items) }
+            ensures why { IfErr result EndsTaking }
+        { pop_all(rt, alloc, queue, taker) },
         || -> Result<Q::Seat, Refusal>
             requires { IsOnePusher Q.is_seat Q.permits Q.known queue.now giver }
-            ensures pushed { IfOk result (HasPushed Q.is_seat Q.known queue.entry.now giver most) }
+            ensures given { IfOk result (HasGiven Q.is_seat Q.known queue.entry.now giver most) }
             ensures why { IfErr result (EndsRun most) }
-        { push_all(rt, queue, giver, most) },
+        { give(rt, queue, giver, most) },
     )
 }
 
 /// One thread pushes 1, 2 and so on to `most`, another takes as many values: these, in that order.
+///
+/// The queue is shut behind the pushes, or behind the one that was refused, and so the other thread ends.
 ///
 /// Refusals: `Memory`, `WornOut`, and `BadSize` where `most` is no body's number; a push waits for a node and a pop for a
 /// value. Where no thread can be made the pushes come first, so the queue needs room for all of them. Takes memory for the
@@ -154,9 +178,9 @@ pub fn run<R: Threads + Wait + Sync, Q: Fifo + Sync + Drop>(
     ensures taken { IfOk result (λ values. values.items ≡ values_to (Q.known giver).number most) }
     ensures why { IfErr result (EndsRun most) }
 {
-    let (taken, pushed) = both(rt, alloc, &queue, giver, taker, most);
+    let (taken, given) = both(rt, alloc, &queue, giver, taker, most);
     let (mut taker, values) = taken?;
-    let mut giver = pushed?;
+    let mut giver = given?;
     queue.meet(&mut giver, &mut taker);
     Ok(values)
 }

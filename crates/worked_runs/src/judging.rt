@@ -4,6 +4,8 @@ ghost use Rattle.history.specs.declared.operations.Verdict.TheVariants.{Yes, No}
 ghost use Rattle.history.specs.declared.operations.Cause.TheVariants.{Shape, Span, Shared, Reply};
 ghost use Rattle.history.specs.History.{verdict};
 ghost use Rattle.worked_runs.specs.Verdicts.{late_empty, shared_place, outside_span, wrong_empty, no_reply, no_last, no_place, early_place, unfinished};
+ghost use Rattle.worked_runs.specs.Verdicts.{shut_then_drained, overtaken_push, overtaken_shut};
+ghost use Rattle.worked_runs.specs.Verdicts.{pushed_after_shut, closed_too_early};
 
 /// The verdict on each history: yes, or its first fault by its place in the list.
 pub fn verdicts()
@@ -16,4 +18,9 @@ pub fn verdicts()
     ensures no_place { verdict no_place ≡ No 1 Shape }
     ensures early_place { verdict early_place ≡ No 1 Span }
     ensures unfinished { verdict unfinished ≡ Yes }
+    ensures shut_then_drained { verdict shut_then_drained ≡ Yes }
+    ensures overtaken_push { verdict overtaken_push ≡ Yes }
+    ensures overtaken_shut { verdict overtaken_shut ≡ Yes }
+    ensures pushed_after_shut { verdict pushed_after_shut ≡ No 2 Reply }
+    ensures closed_too_early { verdict closed_too_early ≡ No 3 Reply }
 {}

@@ -1,25 +1,27 @@
 -- As many jobs are done as are handed out.
-use Rattle.std.proofs.Common.{cond, zero, suc, ◌≡◌, ◌+◌, ◌-◌, ◌^◌, ◌<◌, ◌∙◌, min, sym, refl, ap, subst, ℕ, Bool, IsSomeAnd, IfSome, slice_get, List, [], ◌∷◌, ◌++◌, length, append_assoc, arith}
+use Rattle.std.proofs.Common.{cond, zero, suc, ◌≡◌, ◌+◌, ◌-◌, ◌^◌, ◌<◌, ◌∙◌, min, sym, refl, ap, subst, ℕ, Bool, true, IsSomeAnd, IfSome, slice_get, List, [], ◌∷◌, ◌++◌, length, arith}
 use Rattle.std.specs.List.{count_by}
+use mathlib.Core.List.{IsPrefix}
 use Rattle.std.proofs.Math.Nat.{min-eq_left}
 use Rattle.std.proofs.lemmas.Bool.{false≢true}
-use Rattle.std.proofs.lemmas.List.Elements.{All-head}
-use Rattle.std.proofs.lemmas.List.Sums.{sum_by-cons, sum_by-append}
+use Rattle.std.proofs.lemmas.List.{length-append}
+use Rattle.std.proofs.lemmas.List.Elements.{All-head, All-tail}
+use Rattle.std.proofs.lemmas.List.Sums.{sum_by-cons, sum_by_push}
 use Rattle.std.proofs.lemmas.Grind.{flat_map-append}
 use Rattle.std.specs.Bool.{IsTrue}
 use Rattle.history.specs.declared.operations.Entry.{Entry}
-use Rattle.history.specs.declared.operations.Entry.TheVariants.{Push}
-use Rattle.history.specs.declared.operations.Taken.{Taken}
+use Rattle.history.specs.declared.operations.Entry.TheVariants.{Shut}
 use Rattle.history.specs.declared.rests.Rest.{Rest}
-use Rattle.history.specs.Rests.{left_of}
-use Rattle.history.specs.Entries.{own_entries}
+use Rattle.history.specs.Rests.{left_of, was_shut_of}
+use Rattle.history.specs.Queue.{Queue, empty}
+use Rattle.history.specs.Entries.{is_pop, own_entries, Plays, Leads}
 use Rattle.history.specs.Seats.{Permit, Known, MayPush}
 use Rattle.history.specs.Closing.{AreAll, Closes}
 use Rattle.history.specs.Values.{pushed, popped, pushed_by, OnlyPushes}
 use Rattle.history.proofs.Sums.{AreApart, made-all}
-use Rattle.history.proofs.Values.{pushed-LeadsTo, pushed-own}
-use Rattle.worker_pool.specs.Teams.{is_job, is_stop, pushes_to, stops_of, giver_and_takers}
-use Rattle.worker_pool.proofs.Counts.{ends, works, stop, ends-popped, works-popped, pops-pushes_to, pops-stops_of, works-pushes_to, ends-pushes_to, none-left}
+use Rattle.history.proofs.Values.{pushed-Leads, pushed-own}
+use Rattle.worker_pool.specs.Teams.{pushes_to, giver_and_takers}
+use Rattle.worker_pool.proofs.Counts.{length-popped, pops-pushes_to, length-pushes_to, ends_there}
 
 -- the first seat alone pushes
 first_alone : (k : ℕ) → IsSomeAnd (slice_get giver_and_takers k) (λ p. IsTrue p.pushes) → k ≡ 0
@@ -71,56 +73,43 @@ module _ (permits : List Permit) (row : permits ≡ giver_and_takers) (g a b c :
       let z = sum_by-cons f c [] in
       omega (arith, all, w, x, y, z)
 
-  module _ (most : ℕ) (gm : g.mine ≡ pushes_to 1 most ++ stops_of 1 3) (sa : count_by is_stop a.mine ≡ 1) (sb : count_by is_stop b.mine ≡ 1) (sc : count_by is_stop c.mine ≡ 1) where
-    abbrev jobs : List Taken
-    jobs = pushed (pushes_to 1 most)
-
+  module _ (most : ℕ) (gm : g.mine ≡ pushes_to 1 most ++ Shut 1 ∷ []) (found : Leads a.seen true []) where
     -- the giver pops nothing
-    no_pops : (p : Entry → Bool) → ((s n : ℕ) → cond {A = ℕ} (p (Push s n)) 1 0 ≡ 0) → count_by p g.mine ≡ 0
-    no_pops p none =
-        let same = ap (count_by p) gm in
-        let parts = sum_by-append (λ e. cond (p e) 1 0) (pushes_to 1 most) (stops_of 1 3) in
-        let x = pops-pushes_to p none 1 most in
-        let y = pops-stops_of p none 1 3 in
-        omega (arith, same, parts, x, y)
+    no_pops : count_by is_pop g.mine ≡ 0
+    no_pops =
+        let same = ap (count_by is_pop) gm in
+        let parts = sum_by_push (λ e. cond (is_pop e) 1 0) (pushes_to 1 most) (Shut 1) in
+        let none = pops-pushes_to 1 most in
+        omega (arith, same, parts, none)
 
-    -- what was pushed is the jobs, and then three stops
-    all_pushed : pushed closed.history ≡ jobs ++ (stop 1 ∷ stop 1 ∷ stop 1 ∷ [])
+    -- what was pushed is the jobs
+    all_pushed : length (pushed closed.history) ≡ most
     all_pushed =
         let only : OnlyPushes permits g.number = λ n may. pushes_alone n (subst (λ ps. MayPush ps n) row may) ∙ sym ng in
         let mine : own_entries g.number closed.history ≡ g.mine = All-head (λ k. own_entries k.number closed.history ≡ k.mine) g (a ∷ b ∷ c ∷ []) closed.own in
-        sym (pushed-own permits g.number only closed.history closed.permitted) ∙ ap pushed (mine ∙ gm)
-        ∙ flat_map-append pushed_by (pushes_to 1 most) (stops_of 1 3)
+        let own = ap length (sym (pushed-own permits g.number only closed.history closed.permitted) ∙ ap pushed (mine ∙ gm) ∙ flat_map-append pushed_by (pushes_to 1 most) (Shut 1 ∷ [])) in
+        let parts = length-append (pushed (pushes_to 1 most)) [] in
+        let jobs = length-pushes_to 1 most in
+        omega (arith, own, parts, jobs)
 
-    parted : jobs ++ (stop 1 ∷ stop 1 ∷ stop 1 ∷ []) ≡ popped closed.history ++ left_of rest
-    parted = sym all_pushed ∙ pushed-LeadsTo closed.history (left_of rest) closed.leads
-
-    -- nothing is left
-    pub left-nothing : left_of rest ≡ []
-    left-nothing =
-        let total = counted is_stop in
-        let mine = no_pops is_stop (λ s n. refl) in
-        let same = ap (count_by ends) parted in
-        let given = sum_by-append (λ v. cond (ends v) 1 0) jobs (stop 1 ∷ stop 1 ∷ stop 1 ∷ []) in
-        let none = ends-pushes_to 1 most in
-        let parts = sum_by-append (λ v. cond (ends v) 1 0) (popped closed.history) (left_of rest) in
-        let took = ends-popped closed.history in
-        none-left 1 (jobs ++ (stop 1 ∷ stop 1 ∷ [])) (popped closed.history) (left_of rest)
-        (append_assoc jobs (stop 1 ∷ stop 1 ∷ []) (stop 1 ∷ []) ∙ parted)
-        (omega (arith, total, mine, sa, sb, sc, same, given, none, parts, took))
+    -- nothing is left where a worker found the queue shut and empty
+    left_nothing : left_of rest ≡ []
+    left_nothing =
+        let begins : IsPrefix a.seen closed.history = All-head (λ k. IsPrefix k.seen closed.history) a (b ∷ c ∷ []) (All-tail (λ k. IsPrefix k.seen closed.history) g (a ∷ b ∷ c ∷ []) closed.begins) in
+        let after : Queue = record { values = left_of rest; shut = was_shut_of rest } in
+        ap (λ q. q.values) (sym (ends_there a.seen begins.0 empty after found (subst (λ es. Plays empty es after) (sym begins.1) closed.leads)))
 
     -- as many jobs were taken as were handed out
-    pub jobs-taken : count_by is_job a.mine + count_by is_job b.mine + count_by is_job c.mine ≡ most
+    pub jobs-taken : count_by is_pop a.mine + count_by is_pop b.mine + count_by is_pop c.mine ≡ most
     jobs-taken =
-        let total = counted is_job in
-        let mine = no_pops is_job (λ s n. refl) in
-        let same = ap (count_by works) parted in
-        let given = sum_by-append (λ v. cond (works v) 1 0) jobs (stop 1 ∷ stop 1 ∷ stop 1 ∷ []) in
-        let all = works-pushes_to 1 most in
-        let parts = sum_by-append (λ v. cond (works v) 1 0) (popped closed.history) (left_of rest) in
-        let took = works-popped closed.history in
-        let nothing = ap (count_by works) left-nothing in
-        omega (arith, total, mine, same, given, all, parts, took, nothing)
+        let total = counted is_pop in
+        let same = ap length (pushed-Leads closed.history (was_shut_of rest) (left_of rest) closed.leads) in
+        let parts = length-append (popped closed.history) (left_of rest) in
+        let took = length-popped closed.history in
+        let nothing = ap length left_nothing in
+        let mine = no_pops in
+        let all = all_pushed in
+        omega (arith, total, mine, same, all, parts, took, nothing)
 
 -- three counts whose sum is small are counted in 64 bits
 pub added : (most x y z found fx fy fz : ℕ) → most < 2 ^ 48 → x + y + z ≡ most → fx ≡ min x (2 ^ 64 - 1) → fy ≡ min y (2 ^ 64 - 1) → fz ≡ min z (2 ^ 64 - 1) → found ≡ min (min (fx + fy) (2 ^ 64 - 1) + fz) (2 ^ 64 - 1) → found ≡ most

@@ -1,22 +1,13 @@
 -- The seats of a pool of workers, and what they did.
-use Rattle.std.specs.Prelude.{◌≡◌, ℕ, zero, suc, ◌+◌, ◌-◌, ◌^◌, min, Bool, true, false, not, nat_eq, List, [], ◌∷◌, ◌++◌, map}
+use Rattle.std.specs.Prelude.{◌≡◌, ℕ, zero, suc, ◌+◌, ◌-◌, ◌^◌, min, true, false, List, [], ◌∷◌, ◌++◌, map}
 use Rattle.std.specs.List.{All, count_by}
 use Rattle.history.specs.declared.operations.Entry.{Entry}
-use Rattle.history.specs.declared.operations.Entry.TheVariants.{Push, Pop}
+use Rattle.history.specs.declared.operations.Entry.TheVariants.{Push, Shut}
+use Rattle.history.specs.Entries.{is_pop, Leads}
 use Rattle.history.specs.Openings.{AreNew}
 use Rattle.history.specs.Seats.{Permit, Known, MayPush, MayPop}
 use Rattle.worker_pool.specs.declared.working.Team.{Team}
 use Rattle.worker_pool.specs.declared.jobs.Found.{Found}
-
--- whether an entry takes a job: it pops a number that is not 0
-abbrev pub is_job : Entry → Bool
-is_job (Push seat body) = false
-is_job (Pop seat value) = not (nat_eq value.body 0)
-
--- whether an entry takes what ends a worker: it pops a 0
-abbrev pub is_stop : Entry → Bool
-is_stop (Push seat body) = false
-is_stop (Pop seat value) = nat_eq value.body 0
 
 -- a seat has this entry more of its own, at the end
 abbrev pub IsOneMore : Known → Entry → Known → Type 0
@@ -27,10 +18,9 @@ abbrev pub pushes_to : (seat : ℕ) → ℕ → List Entry
 pushes_to seat zero = []
 pushes_to seat (suc n) = pushes_to seat n ++ Push seat (suc n) ∷ []
 
--- so many pushes of 0 by a seat
-abbrev pub stops_of : (seat : ℕ) → ℕ → List Entry
-stops_of seat zero = []
-stops_of seat (suc n) = stops_of seat n ++ Push seat 0 ∷ []
+-- a seat pushed the numbers from 1 to this one, and did nothing else
+abbrev pub HasPushed : Known → (most : ℕ) → Known → Type 0
+HasPushed k most k' = k'.mine ≡ pushes_to k.number most
 
 -- one seat may push, and three may pop
 abbrev pub giver_and_takers : List Permit
@@ -84,18 +74,18 @@ module _ {Q S : Type 0} (is_seat : Q → S → Type 0) (permits : Q → List Per
     pub fourth : (known t.three).number ≡ 4
 
 module _ {Q S : Type 0} (is_seat : Q → S → Type 0) (known : S → Known) where
-  -- the seat pushed the numbers from 1 to this one and then three times 0, and did nothing else
+  -- the seat pushed the numbers from 1 to this one and then shut the queue, and did nothing else
   pub record HasSubmitted (q : Q) (s : S) (most : ℕ) (t : S) : Type 0 where
     pub seat : is_seat q t
     pub number : (known t).number ≡ (known s).number
-    pub mine : (known t).mine ≡ pushes_to (known s).number most ++ stops_of (known s).number 3
+    pub mine : (known t).mine ≡ pushes_to (known s).number most ++ Shut (known s).number ∷ []
 
-  -- the seat took one 0, and as many jobs as were found, so far as these can be counted
+  -- the seat took as many jobs as were found, so far as these can be counted, and found the queue shut and empty
   pub record HasWorked (q : Q) (s t : S) (found : Found) : Type 0 where
     pub seat : is_seat q t
     pub number : (known t).number ≡ (known s).number
-    pub stopped : count_by is_stop (known t).mine ≡ 1
-    pub jobs : found.jobs ≡ min (count_by is_job (known t).mine) (2 ^ 64 - 1)
+    pub jobs : found.jobs ≡ min (count_by is_pop (known t).mine) (2 ^ 64 - 1)
+    pub done : Leads (known t).seen true []
 
   -- the four seats did so
   pub record HaveWorked (q : Q) (was : Team S) (most : ℕ) (team : Team S) (found : Found) : Type 0 where

@@ -9,7 +9,7 @@ use node_arena::Role;
 use nonblocking::MsQueue;
 use std::io;
 
-/// The nodes of the queue: room for all jobs and for the three values that end the workers.
+/// The nodes of the queue: room for all jobs.
 const NODES: u32 = 1024;
 
 /// The greatest count: so many values can be pushed before Tail is worn out.

@@ -4,7 +4,8 @@ ghost use Rattle.std.specs.Thread.{IsSync};
 ghost use Rattle.history.specs.declared.operations.Entry.TheVariants.{Push};
 ghost use Rattle.history.specs.Limits.{body_bits};
 ghost use Rattle.history.specs.Seats.{MayPush};
-ghost use Rattle.worker_pool.specs.Teams.{IsGiver, IsTaker, AreTakers, AreLeaders, AreSeats, IsTeam, IsOneMore, HasSubmitted, HasWorked, HaveWorked, seats_in};
+ghost use Rattle.worker_pool.specs.Teams.{IsGiver, IsTaker, AreTakers, AreLeaders, AreSeats, IsTeam};
+ghost use Rattle.worker_pool.specs.Teams.{IsOneMore, HasPushed, HasSubmitted, HasWorked, HaveWorked, seats_in};
 
 use crate::jobs::Found;
 use crossbeam_utils::Backoff;
@@ -12,12 +13,6 @@ use history::{Body, Fifo, Refusal};
 use std::alloc::Global;
 use std::sync::Wait;
 use std::thread::{Threads, join};
-
-/// The body that ends a worker.
-const STOP: u64 = 0;
-
-/// How many workers there are.
-const WORKERS: u64 = 3;
 
 /// The seats of a pool: one that hands out jobs, and three that take them.
 #[derive(Drop)]
@@ -74,7 +69,29 @@ fn push_one<R: Wait, Q: Fifo>(
     unreachable!()
 }
 
-// Pushes each job, and then for each worker the body that ends it.
+// Pushes each job.
+fn push_all<R: Wait, Q: Fifo>(
+    rt: &R,
+    queue: &Q,
+    seat: &mut Q::Seat,
+    most: u64,
+) -> Result<(), Refusal>
+    requires giver { IsGiver Q.is_seat Q.permits Q.known queue.now seat.old }
+    requires bodies { most < 2 ^ body_bits }
+    ensures seat { Q.is_seat queue.now seat.new }
+    ensures number { (Q.known seat.new).number ≡ (Q.known seat.old).number }
+    ensures pushed { OnOk result (HasPushed (Q.known seat.old) most (Q.known seat.new)) }
+{
+    for count in 0..most {
+        let Some(body) = Body::new(count + 1) else {
+            unreachable!()
+        };
+        push_one(rt, queue, seat, body)?;
+    }
+    Ok(())
+}
+
+// Pushes each job, and then shuts the queue, also where a push was refused: so the workers end.
 fn submit<R: Wait, Q: Fifo>(
     rt: &R,
     queue: &Q,
@@ -85,22 +102,13 @@ fn submit<R: Wait, Q: Fifo>(
     requires bodies { most < 2 ^ body_bits }
     ensures { IfOk result (HasSubmitted Q.is_seat Q.known queue.now seat most) }
 {
-    for count in 0..most {
-        let Some(body) = Body::new(count + 1) else {
-            unreachable!()
-        };
-        push_one(rt, queue, &mut seat, body)?;
-    }
-    let Some(stop) = Body::new(STOP) else {
-        unreachable!()
-    };
-    for count in 0..WORKERS {
-        push_one(rt, queue, &mut seat, stop)?;
-    }
+    let pushed = push_all(rt, queue, &mut seat, most);
+    queue.shut(rt, &mut seat)?;
+    pushed?;
     Ok(seat)
 }
 
-// Does jobs until one ends it; what it found.
+// Does jobs until the queue is shut and empty; what it found.
 fn work<R: Wait, Q: Fifo>(rt: &R, queue: &Q, mut seat: Q::Seat) -> Result<(Q::Seat, Found), Refusal>
     requires { IsTaker Q.is_seat Q.permits Q.known queue.now seat }
     ensures { IfOk result (λ r. HasWorked Q.is_seat Q.known queue.now seat r.0 r.1) }
@@ -108,16 +116,14 @@ fn work<R: Wait, Q: Fifo>(rt: &R, queue: &Q, mut seat: Q::Seat) -> Result<(Q::Se
     let mut found = Found::nothing();
     let backoff = Backoff::new();
     for _ in rt.forever() {
-        match queue.pop(rt, &mut seat)? {
-            Some(taken) => {
-                let number = taken.body.number();
-                if number == STOP {
-                    return Ok((seat, found));
-                }
-                found = found.with(Found::of(number));
+        match queue.pop(rt, &mut seat) {
+            Ok(Some(taken)) => {
+                found = found.with(Found::of(taken.body.number()));
                 backoff.reset();
             }
-            None => backoff.snooze(),
+            Ok(None) => backoff.snooze(),
+            Err(Refusal::Closed) => return Ok((seat, found)),
+            Err(why) => return Err(why),
         }
     }
     unreachable!()
@@ -249,9 +255,9 @@ fn put<S: Drop>(seats: &mut Vec<S>, seat: S) -> Result<(), Refusal>
 /// Hands out the jobs from 1 to `most` on a new queue, does them in three threads, and answers what they found: as many
 /// jobs were done as were handed out.
 ///
-/// Refusals: `Memory` and `WornOut`; where a word is worn out before the bodies that end the workers are pushed, these wait
-/// for good. Where a thread can't be made its part is done after the others, so the queue needs room for all jobs and for
-/// three bodies more. Takes memory for the seats and for what `close` takes.
+/// Refusals: `Memory` and `WornOut`; where a word is worn out so that the queue can't be shut, the workers wait for good.
+/// Where a thread can't be made its part is done after the others, so the queue needs room for all jobs. Takes memory for the
+/// seats and for what `close` takes.
 pub fn run<R: Threads + Wait + Sync, Q: Fifo + Sync + Drop>(
     rt: &R,
     alloc: Global,

@@ -12,6 +12,7 @@ mod overlapping;
 mod places;
 mod queries;
 mod refusals;
+mod shutting;
 mod trials;
 mod two_lock;
 mod words;

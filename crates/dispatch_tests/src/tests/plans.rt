@@ -7,34 +7,41 @@ use std::thread;
 /// How often a call that is held looks whether it may go on.
 const MOST_TURNS: u32 = 1_000_000;
 
-/// How long the submitter has to set the flag, once its push is refused: so often it is let go on.
+/// How long the submitter has to set the flag, once its shut is refused: so often it is let go on.
 const LATE_TURNS: u32 = 20_000;
 
 /// Which calls of a queue are refused or held, counted over all threads.
 #[derive(Clone, Copy, Debug)]
 pub enum Rule {
-    /// So many first pushes, and so many first pops, are refused `Busy`.
+    /// So many first pushes, pops and shuts are refused `Busy`.
     Busy(u64),
     /// Each push after so many is refused `WornOut`.
     GoodPushes(u64),
+    /// Each push after so many is refused `WornOut`, and so is each shut.
+    WornTail(u64),
     /// Pops are held until there were so many pushes. Behind so many that took a value, so many are refused `WornOut`.
     WornPops { pushes: u64, good: u64, worn: u64 },
     /// Each push is held until so many pops found none.
     Empties(u64),
-    /// Pushes are held until a pop found none, and each after so many is refused `WornOut`. That pop is held until the
-    /// submitter was refused, and set the flag.
-    LatePushes(u64),
+    /// Pushes are held until a pop found none. That pop is held until there was a shut, and so long that the flag is set
+    /// where shuts are refused `WornOut`.
+    LateShut { worn: bool },
+    /// Pops are held until there was a shut.
+    ShutFirst,
 }
 
 /// A rule, and how many calls there were.
 #[derive(Drop)]
-pub struct Trouble {
+pub struct Trouble<'a> {
     rule: Rule,
     pushes: AtomicU64,
     /// Those that may take a value: they took one, or aren't answered.
     pops: AtomicU64,
+    shuts: AtomicU64,
     worn: AtomicU64,
     empties: AtomicU64,
+    /// Those that found the queue shut and empty.
+    ends: &'a AtomicU64,
 }
 
 // Turns until a count is so great, for so many turns at most.
@@ -47,15 +54,17 @@ fn hold(count: &AtomicU64, least: u64) {
     }
 }
 
-impl Trouble {
-    /// A plan by this rule, with no calls yet.
-    pub fn new(rule: Rule) -> Trouble {
+impl<'a> Trouble<'a> {
+    /// A plan by this rule, with no calls yet. It counts the pops that find the queue shut and empty.
+    pub fn new(rule: Rule, ends: &'a AtomicU64) -> Trouble<'a> {
         Trouble {
             rule,
             pushes: AtomicU64::new(0),
             pops: AtomicU64::new(0),
+            shuts: AtomicU64::new(0),
             worn: AtomicU64::new(0),
             empties: AtomicU64::new(0),
+            ends,
         }
     }
 
@@ -74,19 +83,18 @@ impl Trouble {
     }
 }
 
-impl Plan for Trouble {
+impl<'a> Plan for Trouble<'a> {
     fn push_refusal(&self, _turns: u32) -> Option<Refusal> {
         let before = self.pushes.fetch_add(1, Ordering::SeqCst);
         match self.rule {
             Rule::Busy(most) if before < most => return Some(Refusal::Busy),
             Rule::Empties(least) => hold(&self.empties, least),
-            Rule::LatePushes(_) => hold(&self.empties, 1),
+            Rule::LateShut { .. } => hold(&self.empties, 1),
             _ => {}
         }
         match self.rule {
-            Rule::GoodPushes(most) | Rule::LatePushes(most) if before >= most => {
-                Some(Refusal::WornOut(WornWord::Free))
-            }
+            Rule::GoodPushes(most) if before >= most => Some(Refusal::WornOut(WornWord::Free)),
+            Rule::WornTail(most) if before >= most => Some(Refusal::WornOut(WornWord::Tail)),
             _ => None,
         }
     }
@@ -101,12 +109,30 @@ impl Plan for Trouble {
                 hold(&self.pushes, pushes);
                 self.worn_pop(good, worn)
             }
+            Rule::ShutFirst => {
+                hold(&self.shuts, 1);
+                None
+            }
             _ => None,
         }
     }
 
-    fn finds_trouble(&self) {
+    fn shut_refusal(&self, _turns: u32) -> Option<Refusal> {
+        let before = self.shuts.fetch_add(1, Ordering::SeqCst);
+        match self.rule {
+            Rule::Busy(most) if before < most => Some(Refusal::Busy),
+            Rule::WornTail(_) | Rule::LateShut { worn: true } => {
+                Some(Refusal::WornOut(WornWord::Tail))
+            }
+            _ => None,
+        }
+    }
+
+    fn finds_trouble(&self, why: Refusal) {
         self.pops.fetch_sub(1, Ordering::SeqCst);
+        if why == Refusal::Closed {
+            self.ends.fetch_add(1, Ordering::SeqCst);
+        }
     }
 
     fn finds_empty(&self) {
@@ -114,8 +140,8 @@ impl Plan for Trouble {
         if self.empties.fetch_add(1, Ordering::SeqCst) > 0 {
             return;
         }
-        if let Rule::LatePushes(most) = self.rule {
-            hold(&self.pushes, most.saturating_add(1));
+        if let Rule::LateShut { .. } = self.rule {
+            hold(&self.shuts, 1);
             for _ in 0..LATE_TURNS {
                 thread::yield_now();
             }

@@ -50,8 +50,20 @@ pub fn non_blocking_of(
 ) -> Result<(MsQueue, Vec<Seat>), Refusal>
     ensures { IfOk result (λ r. All (IsQueueSeat r.0) r.1.items) }
 {
+    non_blocking_with(alloc, nodes, GREATEST_COUNT, workers)
+}
+
+/// The same with this greatest count.
+pub fn non_blocking_with(
+    alloc: Global,
+    nodes: u32,
+    limit: u64,
+    workers: usize,
+) -> Result<(MsQueue, Vec<Seat>), Refusal>
+    ensures { IfOk result (λ r. All (IsQueueSeat r.0) r.1.items) }
+{
     let roles = roles_of(alloc, workers)?;
-    match MsQueue::new(alloc, nodes, GREATEST_COUNT, &roles) {
+    match MsQueue::new(alloc, nodes, limit, &roles) {
         Ok(made) => Ok(made),
         Err(why) => Err(why),
     }

@@ -12,6 +12,7 @@ use line_table::Kind;
 use mock_queues::Planned;
 use std::alloc::Global;
 use std::sync::Wait;
+use std::sync::atomic::AtomicU64;
 use std::test::Fail;
 use std::thread::Threads;
 
@@ -53,7 +54,8 @@ fn done_over<R: Threads + Wait + Sync, Q: Fifo + Sync + Drop, G: Gate + Sync>(
     match load.rule {
         None => dispatched(rt, alloc, &queue, seats, early, count, gate),
         Some(rule) => {
-            let planned = Planned::new(queue, Trouble::new(rule));
+            let ends = AtomicU64::new(0);
+            let planned = Planned::new(queue, Trouble::new(rule, &ends));
             dispatched(rt, alloc, &planned, seats, early, count, gate)
         }
     }
@@ -141,8 +143,8 @@ fn worn_pops(worn: u64) -> Rule {
 }
 
 /// A queue that is busy a hundred times does all jobs, and so does one that is found empty four times before the first push.
-/// Where pushes are refused, or each worker's pop, jobs are lost, and the workers end; where one worker's pop is refused, the
-/// others do all.
+/// Where pushes are refused, also with the shut, or each worker's pop, jobs are lost, and the workers end; where the shut
+/// alone is refused, or one worker's pop, all jobs are done.
 #[test]
 fn workers_end_where_the_queue_is_worn_out(rt: HostRuntime) -> Result<(), Fail> {
     let cases = [
@@ -150,6 +152,9 @@ fn workers_end_where_the_queue_is_worn_out(rt: HostRuntime) -> Result<(), Fail> 
         (Rule::Empties(4), Ok(1000)),
         (Rule::GoodPushes(0), Err(Refusal::Lost)),
         (Rule::GoodPushes(10), Err(Refusal::Lost)),
+        (Rule::WornTail(0), Err(Refusal::Lost)),
+        (Rule::WornTail(10), Err(Refusal::Lost)),
+        (Rule::WornTail(1000), Ok(1000)),
         (worn_pops(1), Ok(1000)),
         (worn_pops(u64::MAX), Err(Refusal::Lost)),
     ];
@@ -186,11 +191,11 @@ fn results_before_a_refusal_are_kept(rt: HostRuntime) -> Result<(), Fail> {
         for (workers, worn, least) in [(1, 1, 4), (1, u64::MAX, 4), (2, u64::MAX, 4), (2, 1, 0)] {
             for good in 0..=6 {
                 let rule = Rule::WornPops {
-                    pushes: 4 + workers,
+                    pushes: 4,
                     good,
                     worn,
                 };
-                let found = done_by(&rt, rt.alloc(), kind, (workers as usize, 4), rule, &Open);
+                let found = done_by(&rt, rt.alloc(), kind, (workers, 4), rule, &Open);
                 let wanted = if good < least {
                     Err(Refusal::Lost)
                 } else {
@@ -215,7 +220,7 @@ fn the_result_of_a_worker_refused_after_its_first_job_is_kept(rt: HostRuntime) -
         for worn in [1, 2] {
             let gate = SecondFirst::new();
             let rule = Rule::WornPops {
-                pushes: 4,
+                pushes: 2,
                 good: 2,
                 worn,
             };
@@ -231,48 +236,52 @@ fn the_result_of_a_worker_refused_after_its_first_job_is_kept(rt: HostRuntime) -
     Ok(())
 }
 
-/// The submitter is refused behind so many pushes: where these are the jobs, or more, all are done.
+/// The submitter is refused behind so many pushes, and may shut the queue or not: where these are the jobs, or more, all are
+/// done.
 #[test]
 fn jobs_pushed_before_a_refusal_are_done(rt: HostRuntime) -> Result<(), Fail> {
     for kind in KINDS {
         for good in 0..=6 {
-            let rule = Rule::GoodPushes(good);
-            let found = done_by(&rt, rt.alloc(), kind, (2, 4), rule, &Open);
-            let wanted = if good < 4 { Err(Refusal::Lost) } else { Ok(4) };
-            same(&rt, found, wanted, format_args!("{rule:?}, {kind:?}"));
+            for rule in [Rule::GoodPushes(good), Rule::WornTail(good)] {
+                let found = done_by(&rt, rt.alloc(), kind, (2, 4), rule, &Open);
+                let wanted = if good < 4 { Err(Refusal::Lost) } else { Ok(4) };
+                same(&rt, found, wanted, format_args!("{rule:?}, {kind:?}"));
+            }
         }
     }
     Ok(())
 }
 
-/// A worker finds the queue empty. Before it goes on, jobs are pushed, and the submitter is refused and gives up: the worker
-/// looked before whether it had, and so does those jobs.
+/// A worker finds the queue empty. Before it goes on, jobs are pushed, and the submitter shuts the queue, or can't and gives
+/// up: the worker looked before whether it had, and so does those jobs.
 #[test]
 fn jobs_pushed_after_a_pop_found_none_are_done(rt: HostRuntime) -> Result<(), Fail> {
     for kind in KINDS {
-        for count in [1, 3] {
-            let rule = Rule::LatePushes(count);
+        for (count, worn) in [(1, true), (3, true), (3, false)] {
+            let rule = Rule::LateShut { worn };
             let found = done_by(&rt, rt.alloc(), kind, (1, count), rule, &Open);
             same(
                 &rt,
                 found,
                 Ok(count as usize),
-                format_args!("{rule:?}, {kind:?}"),
+                format_args!("{count} jobs, {rule:?}, {kind:?}"),
             );
         }
     }
     Ok(())
 }
 
-/// A worker that takes a number above that of the jobs ends, and the others do all.
+/// A worker that takes a number that no job has, 0 or one above that of the jobs, ends, and the others do all.
 #[test]
-fn a_number_above_the_jobs_ends_one_worker(rt: HostRuntime) -> Result<(), Fail> {
+fn a_number_of_no_job_ends_one_worker(rt: HostRuntime) -> Result<(), Fail> {
     for (workers, wanted) in [(2, Ok(3)), (1, Err(Refusal::Lost))] {
-        for kind in KINDS {
-            let mut load = Load::new(workers, 16, 3);
-            load.early = Body::new(4);
-            let results = done(&rt, rt.alloc(), kind, load, &Open);
-            assert_eq!(rt; results, wanted, "{workers} workers, {kind:?}");
+        for number in [0, 4] {
+            for kind in KINDS {
+                let mut load = Load::new(workers, 16, 3);
+                load.early = Body::new(number);
+                let results = done(&rt, rt.alloc(), kind, load, &Open);
+                assert_eq!(rt; results, wanted, "{number}, {workers} workers, {kind:?}");
+            }
         }
     }
     Ok(())

@@ -8,7 +8,7 @@ use super::seats::{giver_of, sums, taker_of};
 use dispatcher::{Worked, work_one};
 use history::{Body, Fifo, Refusal, WornWord};
 use job_results::{Job, JobResult};
-use mock_queues::{FullQueue, Listed, Planned};
+use mock_queues::{FullQueue, Listed, Planned, ShutQueue};
 use std::alloc::Global;
 use std::process::Abort;
 use std::test::Fail;
@@ -40,6 +40,17 @@ fn push<Q: Fifo>(queue: &Q, seat: &mut Q::Seat, body: u64) -> Result<(), Refusal
     queue.try_push(seat, body, TURNS)
 }
 
+// Shuts the queue, by a seat that may push. Else `BadSize`, which no queue answers.
+fn shut<Q: Fifo>(queue: &Q, seat: &mut Q::Seat) -> Result<(), Refusal>
+    requires { Q.is_seat queue.now seat.old }
+    ensures { Q.is_seat queue.now seat.new }
+{
+    if !queue.may_push(seat) {
+        return Err(Refusal::BadSize);
+    }
+    queue.try_shut(seat, TURNS)
+}
+
 // A turn of a worker whose seat may pop, in one turn of the queue or more. Else `BadSize`, which `work_one` never answers.
 fn turn<'a, Q: Fifo>(
     queue: &Q,
@@ -57,7 +68,8 @@ fn turn<'a, Q: Fifo>(
     work_one(queue, seat, jobs, &Open, out, turns)
 }
 
-// A worker alone takes one value a turn, and does its job: it is never busy. Two seats: one that pops, and one that pushes.
+// A worker alone takes one value a turn, and does its job: it is never busy. Once the queue is shut, it tells so. Two seats:
+// one that pops, and one that pushes.
 fn takes_one_value_a_turn<Q: Fifo>(
     rt: &impl Abort,
     alloc: Global,
@@ -72,7 +84,7 @@ fn takes_one_value_a_turn<Q: Fifo>(
     let mut out = Vec::new(alloc);
     let turns = [
         (2, Ok(Worked::Did(2))),
-        (0, Ok(Worked::Stop)),
+        (0, Err(Refusal::Stranger)),
         (3, Err(Refusal::Stranger)),
         (1, Ok(Worked::Did(1))),
     ];
@@ -81,8 +93,13 @@ fn takes_one_value_a_turn<Q: Fifo>(
         let worked = turn(queue, &mut taker, &jobs, &mut out, TURNS);
         assert_eq!(rt; worked, wanted, "body {body}");
     }
-    let worked = turn(queue, &mut taker, &jobs, &mut out, TURNS);
-    assert_eq!(rt; (worked, out.len()), (Ok(Worked::Empty), 2));
+    for wanted in [Worked::Empty, Worked::Stop] {
+        if wanted == Worked::Stop {
+            shut(queue, &mut giver)?;
+        }
+        let worked = turn(queue, &mut taker, &jobs, &mut out, TURNS);
+        same(rt, (worked, out.len()), (Ok(wanted), 2), "no value is left");
+    }
     Ok(())
 }
 
@@ -95,19 +112,35 @@ fn a_worker_takes_one_value_a_turn(rt: HostRuntime) -> Result<(), Fail> {
     takes_one_value_a_turn(&rt, rt.alloc(), &queue, seats)
 }
 
-/// A worker's turn is one pop, in just the turns handed in, and is refused as it is.
-#[test]
-fn a_workers_turn_is_one_pop_in_these_turns(rt: HostRuntime) -> Result<(), Fail> {
-    let (queue, mut seat) = FullQueue::new();
+// Each turn over a queue that goes by the list is one pop, in just the turns handed in, and is refused as it is. Where it is
+// handed on, the queue itself has this answer.
+fn turns_are_pops<Q: Fifo + Drop>(
+    rt: &impl Abort,
+    alloc: Global,
+    queue: Q,
+    mut seat: Q::Seat,
+    answer: Worked,
+) -> Result<(), Fail>
+    requires { Q.is_seat queue seat }
+{
     let queue = Planned::new(queue, Listed::new(&POPS));
-    let mut out = Vec::new(rt.alloc());
+    let mut out = Vec::new(alloc);
     for (turns, refusal) in &POPS {
         let worked = turn(&queue, &mut seat, &[], &mut out, *turns);
         let wanted = match refusal {
             Some(why) => Err(*why),
-            None => Ok(Worked::Empty),
+            None => Ok(answer),
         };
-        same(&rt, worked, wanted, turns);
+        same(rt, worked, wanted, turns);
     }
     Ok(())
+}
+
+/// A worker's turn is one pop, in just the turns handed in, and is refused as it is; also where the queue was shut.
+#[test]
+fn a_workers_turn_is_one_pop_in_these_turns(rt: HostRuntime) -> Result<(), Fail> {
+    let (queue, seat) = FullQueue::new();
+    turns_are_pops(&rt, rt.alloc(), queue, seat, Worked::Empty)?;
+    let (queue, seat) = ShutQueue::new();
+    turns_are_pops(&rt, rt.alloc(), queue, seat, Worked::Stop)
 }

@@ -41,6 +41,56 @@ const LATE_EMPTY: &str = "history 2
 2 enq 9 first 4 last 13 at 12 reply done
 ";
 
+const SHUT: &str = "history 5
+1 enq 5 first 1 last 10 at 9 reply done
+2 shut first 11 last 14 at 14 reply done
+1 enq 6 first 15 last 22 at 22 reply refused 16
+2 deq first 23 last 31 at 28 reply value 1 5
+2 deq first 32 last 35 at 35 reply refused 16
+";
+
+const TABLE_OF_A_SHUT: &str = "yes
+         9      1 enq 5 -> done
+        14      2 shut -> done
+        22      1 enq 6 -> refused 16
+        28      2 deq -> value 1 5
+        35      2 deq -> refused 16
+done             2
+refused          2
+value            1
+";
+
+const OVERTAKEN_PUSH: &str = "history 2
+1 enq 7 first 1 last 16 at 16 reply refused 16
+2 shut first 9 last 12 at 12 reply done
+";
+
+const TABLE_OF_AN_OVERTAKEN_PUSH: &str = "yes
+        12      2 shut -> done
+        16      1 enq 7 -> refused 16
+refused          1
+done             1
+";
+
+const OVERTAKEN_SHUT: &str = "history 3
+1 enq 5 first 1 last 11 at 9 reply done
+2 shut first 8 last 15 at 14 reply done
+1 enq 6 first 16 last 24 at 24 reply refused 16
+";
+
+const TABLE_OF_AN_OVERTAKEN_SHUT: &str = "yes
+         9      1 enq 5 -> done
+        14      2 shut -> done
+        24      1 enq 6 -> refused 16
+done             2
+refused          1
+";
+
+const PUSHED_AFTER_A_SHUT: &str = "history 2
+1 shut first 1 last 4 at 4 reply done
+1 enq 1 first 5 last 14 at 13 reply done
+";
+
 const ONE_PLACE: &str = "history 2
 1 enq 1 first 1 last 4 at 3 reply done
 2 enq 2 first 2 last 5 at 3 reply done
@@ -72,11 +122,15 @@ const NO_REPLY: &str = "history 1
 ";
 
 /// Histories, the status, and what is written.
-const JUDGED: [(&str, u8, &str); 8] = [
+const JUDGED: [(&str, u8, &str); 12] = [
     (FOUR, 0, THEIR_TABLE),
     (OLD_EMPTY, 0, ITS_TABLE),
     ("history 0\n", 0, "yes\n"),
     (LATE_EMPTY, 3, "no 1 Reply\n"),
+    (SHUT, 0, TABLE_OF_A_SHUT),
+    (OVERTAKEN_PUSH, 0, TABLE_OF_AN_OVERTAKEN_PUSH),
+    (OVERTAKEN_SHUT, 0, TABLE_OF_AN_OVERTAKEN_SHUT),
+    (PUSHED_AFTER_A_SHUT, 3, "no 2 Reply\n"),
     (ONE_PLACE, 3, "no 2 Shared\n"),
     (OUTSIDE, 3, "no 1 Span\n"),
     (EMPTY_TOO_SOON, 3, "no 2 Reply\n"),

@@ -12,7 +12,7 @@ use std::process::Abort;
 use std::sync::Wait;
 
 /// How many turns each call on a queue with room has.
-const TURNS: u32 = 3;
+pub const TURNS: u32 = 3;
 
 /// The last of these senders, taken from them.
 pub fn last<Q: Fifo + Drop>(
@@ -81,8 +81,8 @@ pub fn sends<R: Wait, Q: Fifo + Drop>(
     }
 }
 
-// The letter that is taken in a few turns is of this sender, and has this text.
-fn takes<Q: Fifo + Drop>(
+/// The letter that is taken in a few turns is of this sender, and has this text.
+pub fn takes<Q: Fifo + Drop>(
     rt: &impl Abort,
     office: &Office<Q>,
     receiver: &mut Receiver<Q>,

@@ -1,11 +1,11 @@
-//! Sends and takes on a queue with no room, whose calls go by a list.
+//! Sends, takes and shuts on a queue with no room, whose calls go by a list.
 ghost use Rattle.mailbox.specs.Openings.{CanSend, CanReceive};
-ghost use Rattle.mailbox.specs.Offices.{IsReceiver};
+ghost use Rattle.mailbox.specs.Offices.{IsSender, IsReceiver};
 
 use super::comparing::same;
 use super::letters::{last, parts, sends};
 use history::{Fifo, Refusal, WornWord};
-use mailbox::{Office, Receiver};
+use mailbox::{Office, Receiver, Sender};
 use mock_queues::{FullQueue, Listed, Planned};
 use std::alloc::Global;
 use std::process::Abort;
@@ -36,6 +36,17 @@ const POPS: [Call; 6] = [
     (8, Some(Refusal::Busy)),
     (1000, None),
     (u32::MAX, Some(Refusal::Busy)),
+];
+
+/// Shuts, refused or not.
+const SHUTS: [Call; 7] = [
+    (1, Some(Refusal::Busy)),
+    (2, None),
+    (7, Some(Refusal::WornOut(WornWord::Free))),
+    (8, Some(Refusal::Busy)),
+    (9, Some(Refusal::Busy)),
+    (u32::MAX, Some(Refusal::WornOut(WornWord::Head))),
+    (1, None),
 ];
 
 // Sends a letter by each push of the list, over a queue that goes by it and has no room: each send is refused as its push.
@@ -98,6 +109,47 @@ fn takes_by_the_list<Q: Fifo + Drop>(
     Ok(())
 }
 
+// Shuts the office in so many turns, 1 or more. Else `BadSize`.
+fn shuts<Q: Fifo + Drop>(
+    office: &Office<Q>,
+    sender: &mut Sender<Q>,
+    turns: u32,
+) -> Result<(), Refusal>
+    requires { IsSender Q.is_seat Q.permits Q.known office.now sender.old }
+    ensures { IsSender Q.is_seat Q.permits Q.known office.now sender.new }
+{
+    if turns == 0 {
+        return Err(Refusal::BadSize);
+    }
+    sender.try_shut(office, turns)
+}
+
+// Shuts the office by each shut of the list, over a queue that goes by it and is never shut: each is refused as that of the
+// queue, whose own are refused by a worn Tail.
+fn shuts_by_the_list<Q: Fifo + Drop>(
+    rt: &impl Abort,
+    alloc: Global,
+    queue: Q,
+    seat: Q::Seat,
+    receiver: Q::Seat,
+) -> Result<(), Refusal>
+    requires sender { CanSend Q.is_seat Q.permits Q.known queue seat }
+    requires receiver { CanReceive Q.is_seat Q.permits Q.known queue receiver }
+{
+    let mut seats = Vec::new(alloc);
+    let Ok(()) = seats.push(seat) else {
+        return Err(Refusal::Memory);
+    };
+    let (office, mut senders, _) = Office::new(alloc, queue, seats, receiver)?;
+    let mut sender = last(&office, &mut senders)?;
+    let own = Refusal::WornOut(WornWord::Tail);
+    for (turns, refusal) in &SHUTS {
+        let shut = shuts(&office, &mut sender, *turns);
+        same(rt, shut, Err(refusal.unwrap_or(own)), turns);
+    }
+    Ok(())
+}
+
 /// A send is one push, in just the turns handed in, and is refused as it is: by `Busy` where that was, and not else.
 #[test]
 fn a_send_is_one_push_in_these_turns(rt: HostRuntime) -> Result<(), Fail> {
@@ -114,5 +166,15 @@ fn a_take_is_one_pop_in_these_turns(rt: HostRuntime) -> Result<(), Fail> {
     let (queue, seat) = FullQueue::new();
     let queue = Planned::new(queue, Listed::new(&POPS));
     takes_by_the_list(&rt, rt.alloc(), queue, seat)?;
+    Ok(())
+}
+
+/// A shut is one shut of the queue, in just these turns, and is refused as it is.
+#[test]
+fn a_shut_is_one_shut_in_these_turns(rt: HostRuntime) -> Result<(), Fail> {
+    let (queue, seat) = FullQueue::new();
+    let (_, other) = FullQueue::new();
+    let queue = Planned::new(queue, Listed::new(&SHUTS));
+    shuts_by_the_list(&rt, rt.alloc(), queue, seat, other)?;
     Ok(())
 }

@@ -2,6 +2,7 @@
 use super::comparing::same;
 use super::letters::{a_loss_is_told_from_then_on, letters_come_in_the_order_sent};
 use super::loads::LOADS;
+use super::shut_offices::{a_shut_ends_an_office, a_worn_tail_refuses_the_shut_of_an_office};
 use history::Refusal;
 use mail_engine::mail_queue;
 use nonblocking::NonBlockingAlgorithm;
@@ -23,6 +24,22 @@ fn in_the_order_sent(rt: HostRuntime) -> Result<(), Fail> {
     Ok(())
 }
 
+/// After a shut nothing is sent; what was sent before is taken, in order, and then each take finds the queue shut.
+#[test]
+fn what_was_sent_is_taken_after_a_shut(rt: HostRuntime) -> Result<(), Fail> {
+    let (queue, seats, receiver) = mail_queue::<NonBlockingAlgorithm>(rt.alloc(), 7, 100, 2)?;
+    a_shut_ends_an_office(&rt, rt.alloc(), queue, seats, receiver)?;
+    Ok(())
+}
+
+/// Tail is worn out by the first letter, and lags behind the second one: a shut is refused, by either call.
+#[test]
+fn a_worn_tail_refuses_a_shut(rt: HostRuntime) -> Result<(), Fail> {
+    let (queue, seats, receiver) = mail_queue::<NonBlockingAlgorithm>(rt.alloc(), 4, 1, 1)?;
+    a_worn_tail_refuses_the_shut_of_an_office(&rt, rt.alloc(), queue, seats, receiver)?;
+    Ok(())
+}
+
 /// A body that is no letter's index is lost, and then each take is.
 #[test]
 fn lost_from_then_on(rt: HostRuntime) -> Result<(), Fail> {
@@ -31,23 +48,26 @@ fn lost_from_then_on(rt: HostRuntime) -> Result<(), Fail> {
     Ok(())
 }
 
-// Posts the letters of so many senders, on 4,006 nodes: how many came, where each sender's came in order.
+// Posts the letters of so many senders, on 4,006 nodes: how many came, where each sender's came in order, and whether the
+// queue was then shut.
 fn came<R: Threads + Wait + Clock + Sync>(
     rt: &R,
     alloc: Global,
     senders: u16,
     load: Load,
-) -> Result<Option<usize>, Refusal> {
+) -> Result<(Option<usize>, bool), Refusal> {
     let (queue, seats, receiver) = mail_queue::<NonBlockingAlgorithm>(
         alloc,
         4006,
         GREATEST_COUNT,
         senders,
     )?;
-    Ok(posted(rt, alloc, queue, seats, receiver, load)?.in_order)
+    let came = posted(rt, alloc, queue, seats, receiver, load)?;
+    Ok((came.in_order, came.shut))
 }
 
-/// All letters come, and each sender's in their order; also where there are no letters, or no senders.
+/// All letters come, each sender's in their order, also where there are no letters, or no senders; and the queue is shut
+/// afterwards, where there are senders.
 #[test]
 fn each_senders_letters_come_in_order(rt: HostRuntime) -> Result<(), Fail> {
     for (senders, count, all) in &LOADS {
@@ -57,7 +77,7 @@ fn each_senders_letters_come_in_order(rt: HostRuntime) -> Result<(), Fail> {
         };
         let found = came(&rt, rt.alloc(), *senders, load);
         let tried = format_args!("{senders} senders of {count} letters");
-        same(&rt, found, Ok(Some(*all)), tried);
+        same(&rt, found, Ok((Some(*all), *senders > 0)), tried);
     }
     Ok(())
 }

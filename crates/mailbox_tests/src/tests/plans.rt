@@ -104,3 +104,38 @@ impl Plan for Late {
         }
     }
 }
+
+/// The first push is handed on, and each later one and each shut is refused `WornOut(Tail)`.
+#[derive(Drop)]
+pub struct WornTail {
+    pushes: AtomicU64,
+}
+
+impl WornTail {
+    /// A plan with no calls yet.
+    pub fn new() -> WornTail {
+        WornTail {
+            pushes: AtomicU64::new(0),
+        }
+    }
+}
+
+impl Plan for WornTail {
+    fn push_refusal(&self, _turns: u32) -> Option<Refusal> {
+        if self.pushes.fetch_add(1, Ordering::SeqCst) == 0 {
+            None
+        } else {
+            Some(Refusal::WornOut(WornWord::Tail))
+        }
+    }
+
+    fn pop_refusal(&self, _turns: u32) -> Option<Refusal> {
+        None
+    }
+
+    fn shut_refusal(&self, _turns: u32) -> Option<Refusal> {
+        Some(Refusal::WornOut(WornWord::Tail))
+    }
+
+    fn finds_empty(&self) {}
+}

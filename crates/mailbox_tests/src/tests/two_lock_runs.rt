@@ -2,7 +2,8 @@
 use super::comparing::same;
 use super::letters::{a_loss_is_told_from_then_on, letters_come_in_the_order_sent, take_last};
 use super::loads::LOADS;
-use super::plans::{Late, Trouble};
+use super::plans::{Late, Trouble, WornTail};
+use super::shut_offices::a_shut_ends_an_office;
 use history::{Refusal, WornWord};
 use mail_engine::mail_queue;
 use mock_queues::Planned;
@@ -28,6 +29,14 @@ fn in_the_order_sent(rt: HostRuntime) -> Result<(), Fail> {
     Ok(())
 }
 
+/// After a shut nothing is sent; what was sent before is taken, in order, and then each take finds the queue shut.
+#[test]
+fn what_was_sent_is_taken_after_a_shut(rt: HostRuntime) -> Result<(), Fail> {
+    let (queue, seats, receiver) = mail_queue::<TwoLockAlgorithm>(rt.alloc(), 7, 100, 2)?;
+    a_shut_ends_an_office(&rt, rt.alloc(), queue, seats, receiver)?;
+    Ok(())
+}
+
 /// A body that is no letter's index is lost, and then each take is.
 #[test]
 fn lost_from_then_on(rt: HostRuntime) -> Result<(), Fail> {
@@ -36,23 +45,26 @@ fn lost_from_then_on(rt: HostRuntime) -> Result<(), Fail> {
     Ok(())
 }
 
-// Posts the letters of so many senders, on 4,006 nodes: how many came, where each sender's came in order.
+// Posts the letters of so many senders, on 4,006 nodes: how many came, where each sender's came in order, and whether the
+// queue was then shut.
 fn came<R: Threads + Wait + Clock + Sync>(
     rt: &R,
     alloc: Global,
     senders: u16,
     load: Load,
-) -> Result<Option<usize>, Refusal> {
+) -> Result<(Option<usize>, bool), Refusal> {
     let (queue, seats, receiver) = mail_queue::<TwoLockAlgorithm>(
         alloc,
         4006,
         GREATEST_COUNT,
         senders,
     )?;
-    Ok(posted(rt, alloc, queue, seats, receiver, load)?.in_order)
+    let came = posted(rt, alloc, queue, seats, receiver, load)?;
+    Ok((came.in_order, came.shut))
 }
 
-/// All letters come, and each sender's in their order; also where there are no letters, or no senders.
+/// All letters come, each sender's in their order, also where there are no letters, or no senders; and the queue is shut
+/// afterwards, where there are senders.
 #[test]
 fn each_senders_letters_come_in_order(rt: HostRuntime) -> Result<(), Fail> {
     for (senders, count, all) in &LOADS {
@@ -62,7 +74,7 @@ fn each_senders_letters_come_in_order(rt: HostRuntime) -> Result<(), Fail> {
         };
         let found = came(&rt, rt.alloc(), *senders, load);
         let tried = format_args!("{senders} senders of {count} letters");
-        same(&rt, found, Ok(Some(*all)), tried);
+        same(&rt, found, Ok((Some(*all), *senders > 0)), tried);
     }
     Ok(())
 }
@@ -78,7 +90,7 @@ fn a_refused_allocation_is_told_once(rt: HostRuntime) -> Result<(), Fail> {
         Err(Refusal::Memory) => came(&rt, rt.alloc(), 2, load),
         found => found,
     };
-    same(&rt, found, Ok(Some(4)), "");
+    same(&rt, found, Ok((Some(4), true)), "");
     Ok(())
 }
 
@@ -130,6 +142,26 @@ fn a_letter_comes_that_is_sent_after_a_take_found_none(rt: HostRuntime) -> Resul
     };
     let came = posted(&rt, rt.alloc(), queue, seats, receiver, load)?;
     same(&rt, came.in_order, Some(1), "");
+    Ok(())
+}
+
+/// Where Tail is worn out behind the first letter, the shut is refused too: the receiver ends by the count of those that ended,
+/// and the first sender's refusal is answered.
+#[test]
+fn a_post_ends_where_its_shut_is_refused(rt: HostRuntime) -> Result<(), Fail> {
+    let (queue, seats, receiver) = mail_queue::<TwoLockAlgorithm>(
+        rt.alloc(),
+        6,
+        GREATEST_COUNT,
+        2,
+    )?;
+    let queue = Planned::new(queue, WornTail::new());
+    let load = Load {
+        first: 2,
+        others: 2,
+    };
+    let found = posted(&rt, rt.alloc(), queue, seats, receiver, load).err();
+    same(&rt, found, Some(Refusal::WornOut(WornWord::Tail)), "");
     Ok(())
 }
 

@@ -30,6 +30,17 @@ pub fn pop<Q: Fifo>(queue: &Q, seat: &mut Q::Seat) -> Result<Option<(u16, u64)>,
     Ok(taken.map(parts))
 }
 
+/// Shuts the queue. A seat that may not push answers `BadSize`, which no queue does.
+pub fn shut<Q: Fifo>(queue: &Q, seat: &mut Q::Seat) -> Result<(), Refusal>
+    requires { Q.is_seat queue.now seat.old }
+    ensures { Q.is_seat queue.now seat.new }
+{
+    if !queue.may_push(seat) {
+        return Err(Refusal::BadSize);
+    }
+    queue.try_shut(seat, TURNS)
+}
+
 /// The pusher and the body of a value.
 pub fn parts(value: Taken) -> (u16, u64) {
     (value.from, value.body.number())

@@ -5,9 +5,11 @@ ghost use Rattle.arena_queue.specs.Queues.{IsQueueSeat};
 
 use super::comparing::same;
 use super::runs::{
-    AMPLE_COUNT, GREATEST_COUNT, Left, ROOM_FOR_ONE, ROUNDS_COUNT, Told,
-    a_rest_is_whole_by_its_pusher, closed_with_one, goes, last, leaves, left_one,
-    one_seat_pops_what_it_pushed, two_threads_pop_each_value_once, values_come_in_their_order,
+    AMPLE_COUNT, GIVES_AND_SHUTS, GREATEST_COUNT, Left, ROOM_FOR_ONE, ROUNDS_COUNT,
+    TAKES_TO_THE_END, Told, a_full_queue_is_shut, a_rest_is_whole_by_its_pusher,
+    a_rest_is_whole_by_who_shut, a_shut_queue_is_emptied, closed_with_one, goes, last, leaves,
+    left_one, one_seat_pops_what_it_pushed, two_threads_pop_each_value_once,
+    values_come_in_their_order, words_of,
 };
 use super::waiting::waiting_calls_go_on;
 use history::{Refusal, WornWord};
@@ -44,6 +46,31 @@ const TAIL_WORN_LATER: [Told; 6] = [
     Told::Pop(Err(WORN)),
 ];
 
+/// With the greatest count 1 Tail is swung once, to the last node: it is worn out, and the closed end is looked at before it.
+const SHUT_BEHIND_A_WORN_TAIL: [Told; 4] = [
+    Told::Push(1, Ok(())),
+    Told::Shut(Ok(())),
+    Told::Pop(Ok(Some((1, 1)))),
+    Told::Pop(Err(Refusal::Closed)),
+];
+
+/// The shared words after a push of 5, a shut, a push of 6 that is refused, a pop and one that is refused: the closed end of
+/// count 1 stands in node 2, where Head and Tail are; node 1 is free, and node 3 has the body that isn't pushed.
+const SHUT_WORDS: [u64; 12] = [
+    3,
+    16_777_217,
+    16_777_218,
+    16_777_218,
+    0,
+    0,
+    16_777_216,
+    0,
+    33_554_431,
+    281_474_976_710_661,
+    0,
+    281_474_976_710_662,
+];
+
 // A queue of so many nodes and this greatest count, with a seat for each role.
 fn queue_of(
     alloc: Global,
@@ -71,12 +98,14 @@ fn two_nodes_have_room_for_one_value(rt: HostRuntime) -> Result<(), Fail> {
 
 /// With the greatest count 1 the second push leaves Tail behind, and the third one can't swing it: it keeps its node, which
 /// the next pop frees first. Free is then worn out too, so that pop sets the old dummy aside. Tail stays behind, so one
-/// value can be taken.
+/// value can be taken. A shut can't swing it either: it is refused, and leaves the pocket as it is.
 #[test]
 fn a_worn_tail_refuses_pushes_and_pops(rt: HostRuntime) -> Result<(), Fail> {
     let (queue, mut seats) = queue_of(rt.alloc(), 4, 1, &[Role::Both])?;
     let mut seat = last(&queue, &mut seats)?;
     goes(&rt, &queue, &mut seat, &TAIL_WORN);
+    same(&rt, seat.pocket(), Some(Held { node: 4, mark: 0 }), "");
+    goes(&rt, &queue, &mut seat, &[Told::Shut(Err(WORN))]);
     same(&rt, seat.pocket(), Some(Held { node: 4, mark: 0 }), "");
     goes(&rt, &queue, &mut seat, &STILL_WORN);
     let free = queue.peek(FREE_WORD);
@@ -87,8 +116,18 @@ fn a_worn_tail_refuses_pushes_and_pops(rt: HostRuntime) -> Result<(), Fail> {
         first: Some((1, 2)),
         second: None,
         whole: true,
+        was_shut: false,
     };
     leaves(&rt, rt.alloc(), queue, seat, wanted)
+}
+
+/// A pop of a shut and empty queue is refused Closed, also where Tail is worn out.
+#[test]
+fn a_closed_end_comes_before_a_worn_tail(rt: HostRuntime) -> Result<(), Fail> {
+    let (queue, mut seats) = queue_of(rt.alloc(), 3, 1, &[Role::Both])?;
+    let mut seat = last(&queue, &mut seats)?;
+    goes(&rt, &queue, &mut seat, &SHUT_BEHIND_A_WORN_TAIL);
+    Ok(())
 }
 
 /// With the greatest count 2 Tail can be swung twice. The third push leaves it behind, and the pop that would have to
@@ -133,6 +172,46 @@ fn whole_where_the_pusher_is_handed_in(rt: HostRuntime) -> Result<(), Fail> {
         let (queue, seats) = queue_of(rt.alloc(), 4, AMPLE_COUNT, &[Role::Both, Role::Both])?;
         a_rest_is_whole_by_its_pusher(&rt, rt.alloc(), queue, seats, by_pusher)?;
     }
+    Ok(())
+}
+
+/// What is in a shut queue is popped, and then each pop is refused.
+#[test]
+fn a_shut_queue_is_popped_to_its_end(rt: HostRuntime) -> Result<(), Fail> {
+    let (queue, seats) = queue_of(rt.alloc(), 4, AMPLE_COUNT, &[Role::Both])?;
+    a_shut_queue_is_emptied(&rt, rt.alloc(), queue, seats)
+}
+
+/// On a shut queue a push that gets no node is refused so.
+#[test]
+fn no_node_on_a_shut_queue(rt: HostRuntime) -> Result<(), Fail> {
+    let (queue, seats) = queue_of(rt.alloc(), 2, AMPLE_COUNT, &[Role::Both])?;
+    a_full_queue_is_shut(&rt, &queue, seats)
+}
+
+/// Seat 1 shuts the queue and seat 2 makes no call: the rest is whole where seat 1 is handed in, and not where seat 2 is.
+#[test]
+fn whole_where_who_shut_is_handed_in(rt: HostRuntime) -> Result<(), Fail> {
+    for by_who_shut in [true, false] {
+        let (queue, seats) = queue_of(rt.alloc(), 4, AMPLE_COUNT, &[Role::Both, Role::Both])?;
+        a_rest_is_whole_by_who_shut(&rt, rt.alloc(), queue, seats, by_who_shut)?;
+    }
+    Ok(())
+}
+
+/// A push that finds the queue shut keeps its node in the pocket, and a shut leaves it there. The closed end stands behind
+/// the last node, with its count.
+#[test]
+fn the_words_of_a_shut_queue(rt: HostRuntime) -> Result<(), Fail> {
+    let roles = [Role::Giver, Role::Taker];
+    let (queue, mut seats) = queue_of(rt.alloc(), 3, AMPLE_COUNT, &roles)?;
+    let mut taker = last(&queue, &mut seats)?;
+    let mut giver = last(&queue, &mut seats)?;
+    goes(&rt, &queue, &mut giver, &GIVES_AND_SHUTS);
+    goes(&rt, &queue, &mut taker, &TAKES_TO_THE_END);
+    let pockets = (giver.pocket(), taker.pocket());
+    same(&rt, pockets, (Some(Held { node: 3, mark: 0 }), None), "");
+    same(&rt, words_of(&queue), SHUT_WORDS.map(Some), "");
     Ok(())
 }
 

@@ -2,9 +2,10 @@
 ghost use Rattle.std.specs.Prelude.{IfOk};
 ghost use Rattle.std.specs.List.{All};
 
-use super::calls::{parts, pop, push};
+use super::calls::{parts, pop, push, shut};
 use super::comparing::same;
 use super::threads::{MOST, Run, met};
+use arena_queue::{Algorithm, ArenaQueue};
 use history::{Fifo, Refusal};
 use std::alloc::Global;
 use std::process::Abort;
@@ -29,7 +30,10 @@ pub const ROUNDS_COUNT: u64 = 100_000;
 pub enum Told {
     Push(u64, Result<(), Refusal>),
     Pop(Result<Option<(u16, u64)>, Refusal>),
+    Shut(Result<(), Refusal>),
 }
+
+const CLOSED: Refusal = Refusal::Closed;
 
 /// On two nodes, of which one is always in the queue: room for one value.
 pub const ROOM_FOR_ONE: [Told; 2] = [Told::Push(1, Ok(())), Told::Push(2, Err(Refusal::NoNode))];
@@ -41,13 +45,48 @@ const TWO_PUSHED_ONE_POPPED: [Told; 3] = [
     Told::Pop(Ok(Some((1, 1)))),
 ];
 
-/// What a closed queue leaves: how many values were taken, the next two of those left, and whether it is whole.
+/// A queue with two values is shut: no push and no shut follows, both values are popped, and then it is shut and empty.
+const SHUT_BEHIND_TWO: [Told; 9] = [
+    Told::Push(1, Ok(())),
+    Told::Push(2, Ok(())),
+    Told::Shut(Ok(())),
+    Told::Push(3, Err(CLOSED)),
+    Told::Shut(Err(CLOSED)),
+    Told::Pop(Ok(Some((1, 1)))),
+    Told::Pop(Ok(Some((1, 2)))),
+    Told::Pop(Err(CLOSED)),
+    Told::Pop(Err(CLOSED)),
+];
+
+/// What a seat that gives is told, on three nodes.
+pub const GIVES_AND_SHUTS: [Told; 4] = [
+    Told::Push(5, Ok(())),
+    Told::Shut(Ok(())),
+    Told::Push(6, Err(CLOSED)),
+    Told::Shut(Err(CLOSED)),
+];
+
+/// What one that takes is told then.
+pub const TAKES_TO_THE_END: [Told; 2] = [Told::Pop(Ok(Some((1, 5)))), Told::Pop(Err(CLOSED))];
+
+/// On two nodes a push that finds no node is refused so, shut or not.
+const FULL_AND_SHUT: [Told; 5] = [
+    Told::Push(1, Ok(())),
+    Told::Shut(Ok(())),
+    Told::Push(2, Err(Refusal::NoNode)),
+    Told::Pop(Ok(Some((1, 1)))),
+    Told::Push(2, Err(CLOSED)),
+];
+
+/// What a closed queue leaves: how many values were taken, the next two of those left, whether it is whole, and whether it
+/// was shut.
 #[derive(Clone, Copy, Debug, PartialEq, Eq)]
 pub struct Left {
     pub taken: u64,
     pub first: Option<(u16, u64)>,
     pub second: Option<(u16, u64)>,
     pub whole: bool,
+    pub was_shut: bool,
 }
 
 /// The last of these seats, taken from them.
@@ -71,6 +110,7 @@ pub fn goes<Q: Fifo>(rt: &impl Abort, queue: &Q, seat: &mut Q::Seat, calls: &[To
         let found = match *call {
             Told::Push(body, _) => Told::Push(body, push(queue, seat, body)),
             Told::Pop(_) => Told::Pop(pop(queue, seat)),
+            Told::Shut(_) => Told::Shut(shut(queue, seat)),
         };
         same(rt, found, *call, "");
     }
@@ -90,6 +130,7 @@ fn closed<Q: Fifo + Drop>(alloc: Global, queue: Q, seat: Q::Seat) -> Result<Left
         first: rest.next().map(parts),
         second: rest.next().map(parts),
         whole: rest.whole(),
+        was_shut: rest.was_shut(),
     })
 }
 
@@ -125,6 +166,7 @@ pub fn values_come_in_their_order<Q: Fifo + Drop>(
         first: Some((1, 2)),
         second: None,
         whole: true,
+        was_shut: false,
     };
     leaves(rt, alloc, queue, seat, wanted)
 }
@@ -149,8 +191,79 @@ pub fn a_rest_is_whole_by_its_pusher<Q: Fifo + Drop>(
         first: Some((1, 1)),
         second: None,
         whole: by_pusher,
+        was_shut: false,
     };
     leaves(rt, alloc, queue, handed, wanted)
+}
+
+/// A queue that is shut behind two values answers so: no push and no shut follows, both values are popped, and then it is
+/// shut and empty. The queue has four nodes and one seat, which may push and pop.
+pub fn a_shut_queue_is_emptied<Q: Fifo + Drop>(
+    rt: &impl Abort,
+    alloc: Global,
+    queue: Q,
+    mut seats: Vec<Q::Seat>,
+) -> Result<(), Fail>
+    requires { All (Q.is_seat queue) seats.items }
+{
+    let mut seat = last(&queue, &mut seats)?;
+    goes(rt, &queue, &mut seat, &SHUT_BEHIND_TWO);
+    let wanted = Left {
+        taken: 2,
+        first: None,
+        second: None,
+        whole: true,
+        was_shut: true,
+    };
+    leaves(rt, alloc, queue, seat, wanted)
+}
+
+/// A push that finds no node is refused so also where the queue is shut; once a node is free, it is refused Closed. The
+/// queue has two nodes and one seat, which may push and pop.
+pub fn a_full_queue_is_shut<Q: Fifo>(
+    rt: &impl Abort,
+    queue: &Q,
+    mut seats: Vec<Q::Seat>,
+) -> Result<(), Fail>
+    requires { All (Q.is_seat queue.now) seats.items }
+{
+    let mut seat = last(queue, &mut seats)?;
+    goes(rt, queue, &mut seat, &FULL_AND_SHUT);
+    Ok(())
+}
+
+/// Seat 1 shuts the queue and seat 2 makes no call: the rest is whole where seat 1 is handed in, and not where seat 2 is.
+/// The queue has these two seats.
+pub fn a_rest_is_whole_by_who_shut<Q: Fifo + Drop>(
+    rt: &impl Abort,
+    alloc: Global,
+    queue: Q,
+    mut seats: Vec<Q::Seat>,
+    by_who_shut: bool,
+) -> Result<(), Fail>
+    requires { All (Q.is_seat queue) seats.items }
+{
+    let second = last(&queue, &mut seats)?;
+    let mut first = last(&queue, &mut seats)?;
+    goes(rt, &queue, &mut first, &[Told::Shut(Ok(()))]);
+    let handed = if by_who_shut { first } else { second };
+    let wanted = Left {
+        taken: 0,
+        first: None,
+        second: None,
+        whole: by_who_shut,
+        was_shut: true,
+    };
+    leaves(rt, alloc, queue, handed, wanted)
+}
+
+/// The words of an arena of three nodes.
+pub fn words_of<A: Algorithm>(queue: &ArenaQueue<A>) -> [Option<u64>; 12] {
+    let mut words = [None; 12];
+    for index in 0..12 {
+        words[index] = queue.peek(index);
+    }
+    words
 }
 
 /// One seat alone is never Busy, and pops what it just pushed.
@@ -172,6 +285,7 @@ pub fn one_seat_pops_what_it_pushed<Q: Fifo + Drop>(
         first: None,
         second: None,
         whole: true,
+        was_shut: false,
     };
     leaves(rt, alloc, queue, seat, wanted)
 }
@@ -219,6 +333,7 @@ pub fn left_one(rt: &impl Abort, found: Result<Left, Refusal>) {
         first: Some((1, 7)),
         second: None,
         whole: true,
+        was_shut: false,
     };
     same(rt, found, Ok(wanted), "");
 }

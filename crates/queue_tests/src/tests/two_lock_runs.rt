@@ -5,13 +5,15 @@ ghost use Rattle.arena_queue.specs.Queues.{IsQueueSeat};
 
 use super::comparing::same;
 use super::runs::{
-    AMPLE_COUNT, GREATEST_COUNT, Left, ROOM_FOR_ONE, ROUNDS_COUNT, Told,
-    a_rest_is_whole_by_its_pusher, closed_with_one, goes, last, left_one,
+    AMPLE_COUNT, GIVES_AND_SHUTS, GREATEST_COUNT, Left, ROOM_FOR_ONE, ROUNDS_COUNT,
+    TAKES_TO_THE_END, Told, a_full_queue_is_shut, a_rest_is_whole_by_its_pusher,
+    a_rest_is_whole_by_who_shut, a_shut_queue_is_emptied, closed_with_one, goes, last, left_one,
     one_seat_pops_what_it_pushed, two_threads_pop_each_value_once, values_come_in_their_order,
+    words_of,
 };
 use super::waiting::waiting_calls_go_on;
 use history::{Refusal, WornWord};
-use node_arena::{Role, Seat};
+use node_arena::{Held, Role, Seat};
 use std::alloc::Global;
 use std::test::Fail;
 use two_lock::TwoLockQueue;
@@ -22,6 +24,23 @@ const HEAD_WORN: [Told; 4] = [
     Told::Push(2, Ok(())),
     Told::Pop(Ok(Some((1, 1)))),
     Told::Pop(Err(Refusal::WornOut(WornWord::Head))),
+];
+
+/// The shared words after a push of 5, a shut, a push of 6 that is refused, a pop and one that is refused: the closed end
+/// stands in node 2, where Head and Tail are, both locks are free, and node 3 has the body that isn't pushed.
+const SHUT_WORDS: [u64; 12] = [
+    3,
+    16_777_217,
+    16_777_218,
+    2,
+    0,
+    0,
+    0,
+    0,
+    16_777_215,
+    281_474_976_710_661,
+    0,
+    281_474_976_710_662,
 ];
 
 // A queue of so many nodes and this greatest count, with a seat for each role.
@@ -90,6 +109,46 @@ fn whole_where_the_pusher_is_handed_in(rt: HostRuntime) -> Result<(), Fail> {
         let (queue, seats) = queue_of(rt.alloc(), 4, AMPLE_COUNT, &[Role::Both, Role::Both])?;
         a_rest_is_whole_by_its_pusher(&rt, rt.alloc(), queue, seats, by_pusher)?;
     }
+    Ok(())
+}
+
+/// What is in a shut queue is popped, and then each pop is refused.
+#[test]
+fn a_shut_queue_is_popped_to_its_end(rt: HostRuntime) -> Result<(), Fail> {
+    let (queue, seats) = queue_of(rt.alloc(), 4, AMPLE_COUNT, &[Role::Both])?;
+    a_shut_queue_is_emptied(&rt, rt.alloc(), queue, seats)
+}
+
+/// On a shut queue a push that gets no node is refused so.
+#[test]
+fn no_node_on_a_shut_queue(rt: HostRuntime) -> Result<(), Fail> {
+    let (queue, seats) = queue_of(rt.alloc(), 2, AMPLE_COUNT, &[Role::Both])?;
+    a_full_queue_is_shut(&rt, &queue, seats)
+}
+
+/// Seat 1 shuts the queue and seat 2 makes no call: the rest is whole where seat 1 is handed in, and not where seat 2 is.
+#[test]
+fn whole_where_who_shut_is_handed_in(rt: HostRuntime) -> Result<(), Fail> {
+    for by_who_shut in [true, false] {
+        let (queue, seats) = queue_of(rt.alloc(), 4, AMPLE_COUNT, &[Role::Both, Role::Both])?;
+        a_rest_is_whole_by_who_shut(&rt, rt.alloc(), queue, seats, by_who_shut)?;
+    }
+    Ok(())
+}
+
+/// A push that finds the queue shut keeps its node in the pocket, and a shut leaves it there. The closed end stands behind
+/// the last node.
+#[test]
+fn the_words_of_a_shut_queue(rt: HostRuntime) -> Result<(), Fail> {
+    let roles = [Role::Giver, Role::Taker];
+    let (queue, mut seats) = queue_of(rt.alloc(), 3, AMPLE_COUNT, &roles)?;
+    let mut taker = last(&queue, &mut seats)?;
+    let mut giver = last(&queue, &mut seats)?;
+    goes(&rt, &queue, &mut giver, &GIVES_AND_SHUTS);
+    goes(&rt, &queue, &mut taker, &TAKES_TO_THE_END);
+    let pockets = (giver.pocket(), taker.pocket());
+    same(&rt, pockets, (Some(Held { node: 3, mark: 0 }), None), "");
+    same(&rt, words_of(&queue), SHUT_WORDS.map(Some), "");
     Ok(())
 }
 

@@ -13,17 +13,20 @@ use std::test::Fail;
 /// The body that is pushed.
 const BODY: u64 = 7;
 
-/// The tries of a push and of a pop, each with its turns: the first ones of both are busy.
-const TRIES: [(u32, Option<Refusal>); 5] = [
+/// The tries of a push, a shut, a pop and one more pop, each with its turns: the first ones of the first three are busy.
+const TRIES: [(u32, Option<Refusal>); 8] = [
     (8, Some(Refusal::Busy)),
     (8, Some(Refusal::Busy)),
     (8, None),
     (8, Some(Refusal::Busy)),
+    (8, None),
+    (8, Some(Refusal::Busy)),
+    (8, None),
     (8, None),
 ];
 
-// What the pop answers, after the push, where the seat may make both.
-fn popped_after_push<R: Wait, Q: Fifo>(
+// What the pop answers, after the push and the shut, and that the next one is refused Closed, where the seat may make them.
+fn popped_after_shut<R: Wait, Q: Fifo>(
     rt: &R,
     queue: &Q,
     seat: &mut Q::Seat,
@@ -37,12 +40,17 @@ fn popped_after_push<R: Wait, Q: Fifo>(
         return Err(Refusal::BadSize);
     }
     queue.push(rt, seat, body)?;
+    queue.shut(rt, seat)?;
     let taken = queue.pop(rt, seat)?;
-    Ok(taken.map(parts))
+    match queue.pop(rt, seat) {
+        Err(Refusal::Closed) => Ok(taken.map(parts)),
+        Err(why) => Err(why),
+        Ok(_) => Err(Refusal::Lost),
+    }
 }
 
-/// A push that waits and is busy at first pushes its value, and a pop that waits and is busy at first takes it, by tries of 8
-/// turns. The queue has room for one value and one seat, which may push and pop.
+/// A push that waits and is busy at first pushes its value, a shut that is busy at first shuts the queue, and a pop that is
+/// busy at first takes the value, by tries of 8 turns; the next pop is refused Closed. The queue has room for one value and one seat, which may push and pop.
 pub fn waiting_calls_go_on<R: Abort + Wait, Q: Fifo + Drop>(
     rt: &R,
     queue: Q,
@@ -52,7 +60,7 @@ pub fn waiting_calls_go_on<R: Abort + Wait, Q: Fifo + Drop>(
 {
     let mut seat = last(&queue, &mut seats)?;
     let queue = Planned::new(queue, Listed::new(&TRIES));
-    let found = popped_after_push(rt, &queue, &mut seat);
-    same(rt, found, Ok(Some((1, BODY))), "a push and then a pop");
+    let found = popped_after_shut(rt, &queue, &mut seat);
+    same(rt, found, Ok(Some((1, BODY))), "a push, a shut and a pop");
     Ok(())
 }

@@ -21,6 +21,14 @@ const EACH_REPLY: &[u8] = b"history 7
 1 enq 5 first 1 last - at - reply -
 ";
 
+const SHUT: &[u8] = b"history 5
+1 enq 5 first 1 last 10 at 9 reply done
+2 shut first 11 last 14 at 14 reply done
+1 enq 6 first 15 last 22 at 22 reply refused 16
+2 deq first 23 last 31 at 28 reply value 1 5
+2 deq first 32 last 35 at 35 reply refused 16
+";
+
 #[test]
 fn reads_two_operations(rt: HostRuntime) -> Result<(), Fail> {
     let five = Body::new(5).ok_or("not a body")?;
@@ -41,8 +49,23 @@ fn reads_two_operations(rt: HostRuntime) -> Result<(), Fail> {
 }
 
 #[test]
+fn reads_a_shut_and_a_refusal_of_it(rt: HostRuntime) -> Result<(), Fail> {
+    let read = parse_history(rt.alloc(), SHUT)?;
+    let shut = read.get(1).map(|it| (it.op, it.reply));
+    let refused = read.get(2).map(|it| it.reply);
+    let closed = Reply::Refused(Refusal::Closed);
+    same(
+        &rt,
+        (shut, refused),
+        (Some((Op::Shut, Some(Reply::Done))), Some(Some(closed))),
+        "",
+    );
+    Ok(())
+}
+
+#[test]
 fn prints_what_it_read(rt: HostRuntime) -> Result<(), Fail> {
-    for text in [TWO, EACH_REPLY, b"history 0\n".as_slice()] {
+    for text in [TWO, EACH_REPLY, SHUT, b"history 0\n".as_slice()] {
         let read = parse_history(rt.alloc(), text)?;
         let mut writer = Script::writer(rt.alloc(), 1000, 7)?;
         print_history(read.as_slice(), &mut writer)?;
@@ -53,7 +76,7 @@ fn prints_what_it_read(rt: HostRuntime) -> Result<(), Fail> {
 
 #[test]
 fn tells_the_end_of_each_cut_text(rt: HostRuntime) {
-    for text in [TWO, EACH_REPLY] {
+    for text in [TWO, EACH_REPLY, SHUT] {
         let mut number = 1;
         for (cut, byte) in text.iter().enumerate() {
             let fault = parse_history(rt.alloc(), &text[..cut]).err();
@@ -105,7 +128,7 @@ fn text_of(alloc: Global, line: &[u8]) -> Result<Vec<u8>, AllocError> {
 }
 
 /// Lines that are faulty in the place of an operation, and for what.
-const OPERATIONS: [(&str, TextCause); 14] = [
+const OPERATIONS: [(&str, TextCause); 17] = [
     ("1 enq 1 first 0 last 4 at 3 reply done", TextCause::Range),
     (
         "1 enq 1 first 1 last 4 at 3 reply refused 2",
@@ -119,6 +142,12 @@ const OPERATIONS: [(&str, TextCause); 14] = [
         "0 enq 1 first 1 last 4 at 3 reply refused 4",
         TextCause::Form,
     ),
+    (
+        "1 enq 1 first 1 last 4 at 4 reply refused 160",
+        TextCause::Form,
+    ),
+    ("1 shut 1 first 1 last 4 at 4 reply done", TextCause::Form),
+    ("0 shut first 1 last 4 at 4 reply done", TextCause::Range),
     ("65536 deq first 1 last - at - reply -", TextCause::Range),
     (
         "1 enq 281474976710656 first 1 last - at - reply -",

@@ -2,7 +2,7 @@
 use crate::tests::comparing::same;
 use line_table::Line;
 
-const NAMED: [(Line, &str); 36] = [
+const NAMED: [(Line, &str); 45] = [
     (Line::N1, "N1"),
     (Line::N2, "N2"),
     (Line::N3, "N3"),
@@ -39,6 +39,15 @@ const NAMED: [(Line, &str); 36] = [
     (Line::B4, "B4"),
     (Line::B5, "B5"),
     (Line::B6, "B6"),
+    (Line::S1, "S1"),
+    (Line::S2, "S2"),
+    (Line::S3, "S3"),
+    (Line::S4, "S4"),
+    (Line::S5, "S5"),
+    (Line::S6, "S6"),
+    (Line::S7, "S7"),
+    (Line::S8, "S8"),
+    (Line::S9, "S9"),
 ];
 
 #[test]

@@ -15,17 +15,34 @@ fn packs_and_unpacks_the_words_of_the_format(rt: HostRuntime) {
         let parts = found.map(|it| (it.node(), it.count(), it.same(reference)));
         same(
             &rt,
-            (reference.word(), reference.is_null(), parts),
-            (word, node == 0, Some((node, count, true))),
+            (
+                reference.word(),
+                reference.is_null(),
+                reference.is_shut(),
+                parts,
+            ),
+            (word, node == 0, false, Some((node, count, true))),
             format_args!("<{node},{count}>"),
         );
     }
 }
 
 #[test]
-fn finds_no_reference_at_the_reserved_node(rt: HostRuntime) {
-    for word in [16_777_215, 33_554_431, 18_446_744_073_709_551_615] {
-        same(&rt, CountedRef::from_word(word), None, word);
+fn reads_and_makes_closed_ends(rt: HostRuntime) {
+    for (count, word) in [
+        (0, 16_777_215),
+        (1, 33_554_431),
+        (1_099_511_627_775, 18_446_744_073_709_551_615),
+    ] {
+        let closed = CountedRef::shut(count);
+        let found = CountedRef::from_word(word);
+        let parts = found.map(|it| (it.is_shut(), it.is_null(), it.count(), it.same(closed)));
+        same(
+            &rt,
+            (closed.word(), parts),
+            (word, Some((true, false, count, true))),
+            format_args!("closed end {count}"),
+        );
     }
 }
 

@@ -20,7 +20,7 @@ const LINES: [&str; 10] = [
 ];
 
 /// Lines that are faulty in the place of one of `LINES`, and for what.
-pub const FAULTS: [(u64, &str, TextCause); 44] = [
+pub const FAULTS: [(u64, &str, TextCause); 49] = [
     (1, "msq schedule 2", TextCause::Form),
     (1, "msq schedule 1 ", TextCause::Form),
     (1, "msq  schedule 1", TextCause::Form),
@@ -52,11 +52,16 @@ pub const FAULTS: [(u64, &str, TextCause); 44] = [
     (7, "begin 0 deq", TextCause::Range),
     (7, "begin 65536 deq", TextCause::Range),
     (7, "begin 0 pop", TextCause::Form),
+    (7, "begin 1 shut", TextCause::Form),
+    (7, "begin 0 shut", TextCause::Form),
     (8, "step 1 E4", TextCause::Form),
     (8, "step 0 E4", TextCause::Form),
     (8, "step 0 E9", TextCause::Range),
     (8, "step 1 e9", TextCause::Form),
     (8, "step 1 E", TextCause::Form),
+    (8, "step 1 S1", TextCause::Form),
+    (8, "step 1 S9", TextCause::Form),
+    (8, "step 0 S4", TextCause::Form),
     (8, "step 1", TextCause::Form),
     (8, "steps 1 0", TextCause::Range),
     (8, "steps 1 1000001", TextCause::Range),

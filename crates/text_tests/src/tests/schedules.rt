@@ -1,7 +1,7 @@
 use crate::tests::comparing::same;
-use history::{Body, Op};
+use history::Body;
 use line_table::{Kind, Line};
-use schedule_text::{Event, Schedule, parse, print};
+use schedule_text::{Call, Event, Schedule, parse, print};
 use std::alloc::Global;
 use std::process::Abort;
 use std::test::Fail;
@@ -65,7 +65,7 @@ fn reads_each_event(rt: HostRuntime) -> Result<(), Fail> {
     );
     let body = Body::new(281_474_976_710_655).ok_or("a body")?;
     let events = [
-        Event::Begin(65_535, Op::Enq(body)),
+        Event::Begin(65_535, Call::Enq(body)),
         Event::Step(65_535, Line::D10),
         Event::Steps(65_535, 1_000_000),
         Event::Give(65_535),
@@ -77,7 +77,7 @@ fn reads_each_event(rt: HostRuntime) -> Result<(), Fail> {
 #[test]
 fn prints_a_schedule_made_by_hand(rt: HostRuntime) -> Result<(), Fail> {
     let mut events = Vec::new(rt.alloc());
-    events.push(Event::Begin(1, Op::Deq))?;
+    events.push(Event::Begin(1, Call::Deq))?;
     events.push(Event::Give(1))?;
     let schedule = Schedule {
         kind: Kind::TwoLock,

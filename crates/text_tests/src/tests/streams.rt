@@ -1,8 +1,8 @@
 //! Schedules from sources that give few bytes a call, or fail.
 use crate::tests::comparing::same;
 use crate::tests::schedule_faults::{FAULTS, text_with};
-use history::{Body, Op, Refusal};
-use schedule_text::{Event, EventStream, print, read_schedule};
+use history::{Body, Refusal};
+use schedule_text::{Call, Event, EventStream, print, read_schedule};
 use std::test::Fail;
 use text_io::{Script, Trouble};
 use text_lines::TextCause;
@@ -74,7 +74,7 @@ fn long_lines_are_judged_whole(rt: HostRuntime) -> Result<(), Fail> {
 #[test]
 fn a_late_fault_is_answered_again(rt: HostRuntime) -> Result<(), Fail> {
     let body = Body::new(5).ok_or("a body")?;
-    let events = [Event::Begin(1, Op::Enq(body)), Event::Steps(1, 11)];
+    let events = [Event::Begin(1, Call::Enq(body)), Event::Steps(1, 11)];
     for piece in PIECES {
         let mut reader = Script::reader(rt.alloc(), LATE_FAULT.as_bytes(), piece)?;
         let mut stream = EventStream::start(&mut reader)?;

@@ -143,3 +143,33 @@ value            1
 ";
     writes(&rt, rt.alloc(), &history, table)
 }
+
+#[test]
+fn tables_a_shut_and_refusals_of_it(rt: HostRuntime) -> Result<(), Fail> {
+    let shut = Stamped {
+        op: Op::Shut,
+        ..enqueue(2, 0, 11, 14)?
+    };
+    let closed = Some(Reply::Refused(Refusal::Closed));
+    let refused = Stamped {
+        reply: closed,
+        ..enqueue(1, 6, 15, 22)?
+    };
+    let last = Stamped {
+        reply: closed,
+        ..dequeue(2, 1, 5, 32, 35)?
+    };
+    let taken = dequeue(2, 1, 5, 23, 28)?;
+    let history = [enqueue(1, 5, 1, 9)?, shut, refused, taken, last];
+    let table: &[u8] = b"yes
+         9      1 enq 5 -> done
+        14      2 shut -> done
+        22      1 enq 6 -> refused 16
+        28      2 deq -> value 1 5
+        35      2 deq -> refused 16
+done             2
+refused          2
+value            1
+";
+    writes(&rt, rt.alloc(), &history, table)
+}

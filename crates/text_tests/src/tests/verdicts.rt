@@ -119,3 +119,61 @@ fn judges_refused_and_unfinished_operations(rt: HostRuntime) -> Result<(), Fail>
     same(&rt, check(rt.alloc(), &history), Ok(Verdict::Yes), "");
     Ok(())
 }
+
+#[test]
+fn judges_what_follows_a_shut(rt: HostRuntime) -> Result<(), Fail> {
+    let shut = operation(1, Op::Shut, (1, Some(4), Some(4)), Some(Reply::Done));
+    let closed = Some(Reply::Refused(Refusal::Closed));
+    let rows = [
+        (enqueue(1)?, Some(Reply::Done), no(2, Cause::Reply)),
+        (enqueue(1)?, closed, Verdict::Yes),
+        (Op::Shut, Some(Reply::Done), no(2, Cause::Reply)),
+        (Op::Shut, closed, Verdict::Yes),
+        (Op::Deq, Some(Reply::Empty), no(2, Cause::Reply)),
+        (Op::Deq, closed, Verdict::Yes),
+    ];
+    for (op, reply, verdict) in &rows {
+        let later = operation(1, *op, (5, Some(14), Some(13)), *reply);
+        same(
+            &rt,
+            check(rt.alloc(), &[shut, later]),
+            Ok(*verdict),
+            format_args!("on {later:?}"),
+        );
+    }
+    Ok(())
+}
+
+#[test]
+fn a_shut_queue_gives_its_values_first(rt: HostRuntime) -> Result<(), Fail> {
+    let closed = Some(Reply::Refused(Refusal::Closed));
+    let pushed = operation(1, enqueue(5)?, (1, Some(10), Some(9)), Some(Reply::Done));
+    let shut = operation(2, Op::Shut, (11, Some(14), Some(14)), Some(Reply::Done));
+    let refused = operation(1, enqueue(6)?, (15, Some(22), Some(22)), closed);
+    let last = operation(2, Op::Deq, (32, Some(35), Some(35)), closed);
+    for (reply, verdict) in [(value(1, 5)?, Verdict::Yes), (closed, no(4, Cause::Reply))] {
+        let taken = operation(2, Op::Deq, (23, Some(31), Some(28)), reply);
+        same(
+            &rt,
+            check(rt.alloc(), &[pushed, shut, refused, taken, last]),
+            Ok(verdict),
+            format_args!("on {taken:?}"),
+        );
+    }
+    Ok(())
+}
+
+#[test]
+fn a_queue_that_is_not_shut_is_not_closed(rt: HostRuntime) -> Result<(), Fail> {
+    let closed = Some(Reply::Refused(Refusal::Closed));
+    for op in [enqueue(1)?, Op::Deq, Op::Shut] {
+        let only = operation(1, op, (1, Some(4), Some(4)), closed);
+        same(
+            &rt,
+            check(rt.alloc(), &[only]),
+            Ok(no(1, Cause::Reply)),
+            format_args!("on {only:?}"),
+        );
+    }
+    Ok(())
+}

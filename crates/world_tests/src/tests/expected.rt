@@ -6,6 +6,7 @@ use history::{Body, Op, Refusal, Reply, Stamped, Taken};
 pub enum Call {
     Enq(u32),
     Deq,
+    Shut,
 }
 
 /// What a call is answered; a value with the actor that pushed it and its body.
@@ -40,6 +41,7 @@ pub fn op(call: Call) -> Op {
     match call {
         Call::Enq(number) => Op::Enq(body(number)),
         Call::Deq => Op::Deq,
+        Call::Shut => Op::Shut,
     }
 }
 

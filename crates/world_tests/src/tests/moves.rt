@@ -1,4 +1,5 @@
 //! Moves of a world.
+
 use super::events::Act;
 use super::expected::{Call, op};
 use history::Refusal;

@@ -9,4 +9,4 @@ invariant-loop-operation l =
     (goal.iterator-loop-operation).can_next l.operation-iterator ×
     (goal.iterator-loop-operation).is_finite l.operation-iterator ×
     (rule.first_wrong empty (listed l.places) ≡
-    rule.first_wrong (queue_of l.queue.items) (map (λ o. o.now) l.operation-iterator))
+    rule.first_wrong (queue_of l.queue) (map (λ o. o.now) l.operation-iterator))

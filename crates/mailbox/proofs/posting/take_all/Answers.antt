@@ -5,7 +5,7 @@ use Rattle.mailbox.specs.Plans.{Fits}
 use Rattle.mailbox.specs.Offices.{marks}
 use Rattle.mailbox.specs.Posting.{IsNext}
 use Rattle.mailbox.proofs.Order.{in_order}
-use Rattle.mailbox.proofs.Counting.{counted_start, counted_then, counted_all, length_set, written_over}
+use Rattle.mailbox.proofs.Counting.{counted_start, counted_then, counted_those, length_set, written_over}
 use Rattle.mailbox.proofs.Delivering.{delivered_none, delivered-then_letter}
 use Rattle.mailbox.proofs.posting.take_all.Goals as goal
 
@@ -24,36 +24,38 @@ loop-init g c = record {
 
 pub last_due-requires-clause-shown : goal.last_due-requires-clause-shown
 last_due-requires-clause-shown g c κs within =
-    let took = rw c.in-Some-2.is at c.in_ok-letter.ensures.answer in
+    let took = rw c.in-Ok-Some.field-0-is at c.in-Ok-Some.ensures.answer in
     subst (λ last. IfSome last (Shows c.args.office.now.letters)) (sym took.read.is) took.read.here
 
-pub loop-preserved-in-Some-2 : goal.loop-preserved-in-Some-2
-loop-preserved-in-Some-2 g c =
-    let took = rw c.in-Some-2.is at c.in_ok-letter.ensures.answer in
-    let next : IsNext c.loop.counts.items c.in-Some-2.letter.from c.in-Some-last_due.place c.is_next.new.counts = subst (λ cs. IsNext cs c.in-Some-2.letter.from c.in-Some-last_due.place c.is_next.new.counts) c.deref_mut.ensures.value (c.if-not-is_next.ensures refl) in
-    let fits = subst (λ due. Fits (marks c.args.office.now) due c.in-Some-2.letter.text.now) c.in-Some-last_due.is (c.last_due.ensures took.value.body c.in-Some-2.letter.text.now took.read) in
+pub loop-preserved-in-Ok-Some : goal.loop-preserved-in-Ok-Some
+loop-preserved-in-Ok-Some g c =
+    let took = rw c.in-Ok-Some.field-0-is at c.in-Ok-Some.ensures.answer in
+    let next : IsNext c.loop.counts.items c.in-Ok-Some.letter.from c.in-Some-last_due.place c.is_next.new.counts = subst (λ cs. IsNext cs c.in-Ok-Some.letter.from c.in-Some-last_due.place c.is_next.new.counts) c.deref_mut.ensures.value (c.if-not-is_next.ensures refl) in
+    let fits = subst (λ due. Fits (marks c.args.office.now) due c.in-Ok-Some.letter.text.now) c.in-Some-last_due.is (c.last_due.ensures.fits took.value.body c.in-Ok-Some.letter.text.now took.read) in
     let len = ap length next.counted ∙ length_set c.loop.counts.items _ _ in
     let ok = c.loop.counts.ok in
     let same = written_over c.loop.counts.len c.is_next.new.counts c.loop.counts.items (omega (arith, len, ok)) in
     record {
       can = tt;
       finite = tt;
-      office = c.in_ok-letter.ensures.office;
+      office = c.in-Ok-Some.ensures.office;
       room = search rules;
       most = search rules;
       delivered = rw c.push_reserved.ensures.items (delivered-then_letter _ _ _ _ _ _ _ c.loop.invariant.delivered took);
       senders = ap length same ∙ len ∙ c.loop.invariant.senders;
-      counted = λ lists plan. counted_then lists c.loop.counts.items c.loop.letters.items c.in-Some-2.letter c.in-Some-last_due.place c.is_next.new.counts
+      counted = λ lists plan. counted_then lists c.loop.counts.items c.loop.letters.items c.in-Ok-Some.letter c.in-Some-last_due.place c.is_next.new.counts
           (c.loop.invariant.counted lists plan) next (fits lists plan) _ c.push_reserved.new.self.items same c.push_reserved.ensures.items;
-      order = c.in_ok-letter.ensures.order;
+      order = c.in-Ok-Some.ensures.order;
     }
 
 pub returns-then-len-due-clause-texts : goal.returns-then-len-due-clause-texts
-returns-then-len-due-clause-texts g c lists plan many all =
-    let senders = c.loop.invariant.senders in
-    counted_all lists c.loop.counts.items c.loop.letters.items (c.loop.invariant.counted lists plan) (omega (arith, senders, many)) all
+returns-then-len-due-clause-texts g c =
+    counted_those c.args.office.now c.loop.counts.items c.loop.letters.items _ c.loop.invariant.senders c.loop.invariant.counted
 
-pub returns-in-None-2-clause-texts : goal.returns-in-None-2-clause-texts
-returns-in-None-2-clause-texts g c lists plan many all =
-    let senders = c.loop.invariant.senders in
-    counted_all lists c.loop.counts.items c.loop.letters.items (c.loop.invariant.counted lists plan) (omega (arith, senders, many)) all
+pub returns-in-Ok-None-clause-texts : goal.returns-in-Ok-None-clause-texts
+returns-in-Ok-None-clause-texts g c =
+    counted_those c.args.office.now c.loop.counts.items c.loop.letters.items _ c.loop.invariant.senders c.loop.invariant.counted
+
+pub returns-in-Err-Closed-clause-texts : goal.returns-in-Err-Closed-clause-texts
+returns-in-Err-Closed-clause-texts g c =
+    counted_those c.args.office.now c.loop.counts.items c.loop.letters.items _ c.loop.invariant.senders c.loop.invariant.counted

@@ -4,5 +4,5 @@ use Rattle.schedule_text.proofs.events.begin_in.Goals as goal
 pub returns : goal.returns
 returns c =
     let actor = c.in_ok-actor.ensures in
-    let op = c.in_ok-op.ensures in
-    (Begin actor.0 op.0, cc, c.begin_of.ensures actor.0 op.0 actor.2 op.2)
+    let call = c.in_ok-call.ensures in
+    (Begin actor.0 call.0, (tt, cc), c.begin_of.ensures actor.0 call.0 actor.2 call.2)

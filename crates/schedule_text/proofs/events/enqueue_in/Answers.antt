@@ -1,5 +1,5 @@
 use Rattle.std.proofs.Common.{refl}
-use Rattle.history.specs.declared.operations.Op.TheVariants.{Enq}
+use Rattle.schedule_text.specs.declared.schedules.Call.TheVariants.{Enq}
 use Rattle.schedule_text.proofs.events.enqueue_in.Goals as goal
 
 pub returns : goal.returns

@@ -14,4 +14,4 @@ pub returns : goal.returns
 returns c =
     let actor = c.in_ok-actor.ensures in
     let count = c.in_ok-count.ensures in
-    (Steps actor.0 count.0, rw (actor.1, count.1, c.in_ok-expect_end.ensures.ok) refl, c.steps_of.ensures actor.0 count.0 actor.2 count.2)
+    (Steps actor.0 count.0, (tt, rw (actor.1, count.1, c.in_ok-expect_end.ensures.ok) refl), c.steps_of.ensures actor.0 count.0 actor.2 count.2)

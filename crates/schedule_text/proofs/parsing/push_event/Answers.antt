@@ -10,7 +10,7 @@ returns-in_ok-keep-in-Ok-clause-ok c =
     record {
       event = c.in-Ok.event;
       added = c.in_ok-keep-in-Ok.ensures.ok;
-      front = λ left. IsFront-read (events_left left) (happens c.in-Ok.event) _ c.in_ok-line.line.now _ tt c.in-Ok.ensures.0 c.in-Ok.ensures.1 cut.1;
+      front = λ left. IsFront-read (events_left left) (happens c.in-Ok.event) _ c.in_ok-line.line.now _ c.in-Ok.ensures.0.0 c.in-Ok.ensures.0.1 c.in-Ok.ensures.1 cut.1;
     }
 
 pub returns-in-Err-clause-err : goal.returns-in-Err-clause-err

@@ -11,8 +11,8 @@ returns-in_default-clause-err g c = λ left some.
 pub returns-in-Ok-clause-ok : goal.returns-in-Ok-clause-ok
 returns-in-Ok-clause-ok g c = λ left.
     let one = given_said c.args.before _ _ _ c.in_ok-held.ensures.ok (events_left 1) refl (happens c.in-Ok.event) c.in-Some.line.now c.in-Some.ensures.0
-    c.in-Some.ensures.1 tt c.in-Ok.ensures.0 c.in-Ok.ensures.1 in
-    record { may = tt; range = one.range; given = one.given; quiet = one.quiet }
+    c.in-Some.ensures.1 c.in-Ok.ensures.0.0 c.in-Ok.ensures.0.1 c.in-Ok.ensures.1 in
+    record { may = one.may; range = one.range; given = one.given; quiet = one.quiet }
 
 pub returns-in-Err-clause-err : goal.returns-in-Err-clause-err
 returns-in-Err-clause-err g c = λ left some.

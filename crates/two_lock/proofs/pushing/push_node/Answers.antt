@@ -7,7 +7,7 @@ use Rattle.node_arena.specs.Seats.{keeping}
 use Rattle.arena_queue.specs.Answers.{Puts}
 use Rattle.two_lock.specs.Pushes.{Trying}
 use Rattle.two_lock.specs.Worn.{push_worn}
-use Rattle.two_lock.proofs.PushTries.{pushes_out, to_a2, first_try, next_try, puts_it, gives_up_put}
+use Rattle.two_lock.proofs.PushTries.{pushes_out, to_a2, first_try, next_try, puts_it, finds_it_shut, gives_up_put}
 use Rattle.two_lock.proofs.pushing.push_node.Goals as goal
 
 pub a1-a-requires : goal.a1-a-requires
@@ -26,12 +26,18 @@ loop-index-init c =
 pub loop-index-preserved : goal.loop-index-preserved
 loop-index-preserved c = next_try c.args.arena.now c.args.seat.now c.loop-index.seat c.a3.new.seat c.args.held c.word_of-val.result c.args.spent c.loop-index.index c.registers-in-loop-index.result c.a3.result c.registers-in-loop-index.ensures c.loop-index.invariant c.a3.ensures (sym c.got_lock.ensures ∙ c.if-got_lock.false)
 
-pub returns-then-got_lock-clause-puts : goal.returns-then-got_lock-clause-puts
-returns-then-got_lock-clause-puts c =
+pub returns-in-Err-clause-puts : goal.returns-in-Err-clause-puts
+returns-in-Err-clause-puts c =
+    rw c.keep-in-Err.ensures
+    (finds_it_shut c.args.arena.now c.args.seat.now c.loop-index.seat c.a3.new.seat c.push_locked.new.seat c.args.held c.word_of-val.result c.registers-in-loop-index.result c.registers-then-got_lock.result c.a3.result c.in-Err.why c.args.body c.args.spent c.loop-index.index c.args.turns c.registers-in-loop-index.ensures c.registers-then-got_lock.ensures
+    c.loop-index.invariant c.a3.ensures (sym c.got_lock.ensures ∙ c.if-got_lock.true) c.in-Err.ensures)
+
+pub returns-in-Ok-clause-puts : goal.returns-in-Ok-clause-puts
+returns-in-Ok-clause-puts c =
     rw c.keep.ensures
     (subst (λ n. Puts push_worn c.args.arena.now c.args.seat.now (keeping c.push_locked.new.seat None c.loop-index.index) c.args.held.node n c.args.spent c.args.turns (Ok tt)) c.number-2.ensures.value
     (puts_it c.args.arena.now c.args.seat.now c.loop-index.seat c.a3.new.seat c.push_locked.new.seat c.args.held c.word_of-val.result c.registers-in-loop-index.result c.registers-then-got_lock.result c.a3.result c.number.result c.number-2.result c.args.spent c.loop-index.index c.args.turns c.registers-in-loop-index.ensures c.registers-then-got_lock.ensures
-    c.loop-index.invariant c.a3.ensures (sym c.got_lock.ensures ∙ c.if-got_lock.true) c.push_locked.ensures c.number-2.ensures.range c.word_of-val.ensures c.loop-index-test.true))
+    c.loop-index.invariant c.a3.ensures (sym c.got_lock.ensures ∙ c.if-got_lock.true) c.in-Ok.ensures c.number-2.ensures.range c.word_of-val.ensures c.loop-index-test.true))
 
 pub returns-clause-puts : goal.returns-clause-puts
 returns-clause-puts c =

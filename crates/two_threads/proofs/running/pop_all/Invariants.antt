@@ -1,5 +1,9 @@
 use Rattle.two_threads.specs.Duos.{HasPopped}
 use Rattle.two_threads.proofs.running.pop_all.Given as goal
 
-abbrev pub invariant-loop-count : goal.invariant-loop-count
-invariant-loop-count g l = HasPopped g.Q.Fifo.is_seat g.Q.Fifo.known l.fn.queue l.initial.seat l.count l.seat l.taken.items
+abbrev pub invariant-loop : goal.invariant-loop
+invariant-loop g l = record {
+  can : (goal.iterator-loop g).can_next l.iterator';
+  finite : (goal.iterator-loop g).is_finite l.iterator';
+  popped : HasPopped g.Q.Fifo.is_seat g.Q.Fifo.known l.fn.queue l.initial.seat l.seat l.taken.items;
+}

@@ -1,5 +1,10 @@
+use Rattle.std.specs.Prelude.{◌≡◌}
 use Rattle.two_threads.specs.Duos.{HasPushed}
 use Rattle.two_threads.proofs.running.push_all.Given as goal
 
 abbrev pub invariant-loop-count : goal.invariant-loop-count
-invariant-loop-count g l = HasPushed g.Q.Fifo.is_seat g.Q.Fifo.known l.fn.queue l.initial.seat l.count l.seat
+invariant-loop-count g l = record {
+  seat : g.Q.Fifo.is_seat l.fn.queue l.seat;
+  number : (g.Q.Fifo.known l.seat).number ≡ (g.Q.Fifo.known l.initial.seat).number;
+  mine : HasPushed (g.Q.Fifo.known l.initial.seat) l.count (g.Q.Fifo.known l.seat);
+}

@@ -1,6 +1,6 @@
 use Rattle.std.specs.Prelude.{◌≡◌, ◌-◌, ◌^◌, min}
 use Rattle.std.specs.List.{count_by}
-use Rattle.worker_pool.specs.Teams.{is_job, is_stop}
+use Rattle.history.specs.Entries.{is_pop}
 use Rattle.worker_pool.proofs.working.work.Given as goal
 
 abbrev pub invariant-loop : goal.invariant-loop
@@ -9,6 +9,5 @@ invariant-loop g l = record {
   finite : (goal.iterator-loop g).is_finite l.iterator';
   seat : g.Q.Fifo.is_seat l.fn.queue l.seat;
   number : (g.Q.Fifo.known l.seat).number ≡ (g.Q.Fifo.known l.initial.seat).number;
-  unstopped : count_by is_stop (g.Q.Fifo.known l.seat).mine ≡ 0;
-  jobs : l.found.jobs ≡ min (count_by is_job (g.Q.Fifo.known l.seat).mine) (2 ^ 64 - 1);
+  jobs : l.found.jobs ≡ min (count_by is_pop (g.Q.Fifo.known l.seat).mine) (2 ^ 64 - 1);
 }

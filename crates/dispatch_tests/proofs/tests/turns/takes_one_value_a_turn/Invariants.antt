@@ -5,3 +5,9 @@ invariant-loop-body g l = record {
   giver : g.Q.Fifo.is_seat l.queue l.giver;
   taker : g.Q.Fifo.is_seat l.queue l.taker;
 }
+
+abbrev pub invariant-loop-wanted : goal.invariant-loop-wanted
+invariant-loop-wanted g l = record {
+  giver : g.Q.Fifo.is_seat l.queue l.giver;
+  taker : g.Q.Fifo.is_seat l.queue l.taker;
+}

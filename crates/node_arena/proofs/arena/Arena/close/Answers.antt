@@ -1,5 +1,5 @@
-use Rattle.std.proofs.Common.{map, ap, ◌∙◌, arith}
-use Rattle.history.specs.Closing.{pushes_of, pops_of}
+use Rattle.std.proofs.Common.{nat_lt, map, ap, ◌∙◌, arith}
+use Rattle.history.specs.Closing.{pushes_of, pops_of, shuts_of}
 use Rattle.node_arena.specs.Seats.{known_of}
 use Rattle.node_arena.proofs.Gathers.{enters}
 use Rattle.node_arena.proofs.Ends.{ends, queue_at_end, closes_at_end}
@@ -17,7 +17,8 @@ pub returns-clause-rest : goal.returns-clause-rest
 returns-clause-rest c =
     let end = ends c.args.self.plan c.args.self.table.shared.key c.args.seats.items _ _ _ _ c.args.self.laid_out.key c.gather.ensures.seat c.close_with-closed.ensures.values.2 in
     let told = c.rest_of-rest.ensures in
-    closes_at_end c.args.self c.args.seats.items _ c.pushes_by-pushes.result c.pops_by-pops.result c.rest_of-rest.result end
+    closes_at_end c.args.self c.args.seats.items _ c.pushes_by-pushes.result c.pops_by-pops.result c.shut_by-shut.result c.rest_of-rest.result end
     (c.pushes_by-pushes.ensures ∙ ap (λ xs. pushes_of (map known_of xs)) c.deref.ensures.value)
     (c.pops_by-pops.ensures ∙ ap (λ xs. pops_of (map known_of xs)) c.deref-2.ensures.value)
+    (c.shut_by-shut.ensures ∙ ap (λ xs. nat_lt 0 (shuts_of (map known_of xs))) c.deref-3.ensures.value)
     (record { left = told.left; taken = told.taken; whole = told.whole })

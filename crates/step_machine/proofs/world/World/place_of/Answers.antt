@@ -6,6 +6,7 @@ use Rattle.step_machine.specs.Places.{one_if, set_aside}
 use Rattle.step_machine.specs.Placing.{IsAt}
 use Rattle.step_machine.specs.Stored.{world}
 use Rattle.step_machine.proofs.PlaceOf.{only_place, queue_place, free_place}
+use Rattle.step_machine.proofs.Reached.{made_reached, few_nodes}
 use Rattle.step_machine.proofs.world.World.place_of.Goals as goal
 
 pub returns-then-node-used-clause-nowhere_else : goal.returns-then-node-used-clause-nowhere_else
@@ -22,6 +23,9 @@ pub returns-then-is_held-clause-nowhere_else : goal.returns-then-is_held-clause-
 returns-then-is_held-clause-nowhere_else c =
     subst (λ w. (p : Place) → IsAt w c.args.node p → p ≡ Held) c.self.view_is
     (only_place (world c.self.inside) c.self.invariant.made c.args.node c.requires.some Held (search rules))
+
+pub is_in_chain-requires : goal.is_in_chain-requires
+is_in_chain-requires c = record { few = few_nodes (world c.self.inside) (made_reached (world c.self.inside) c.self.invariant.made) }
 
 queued : (c : goal.Then-is_in_chain) → IsAt (world c.self.inside) c.args.node Queue
 queued c =

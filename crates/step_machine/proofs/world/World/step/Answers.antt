@@ -1,21 +1,25 @@
 -- A step leads from a made world to a made world, and keeps its room.
-use Rattle.std.proofs.Common.{◌≡◌, ◌+◌, ◌-◌, Some, slice_set, rules, vec_len, vec_capacity, arith, refl, sym, ap, subst, ◌∙◌}
+use Rattle.std.proofs.Common.{◌≡◌, ◌+◌, ◌-◌, Some, rules, vec_len, vec_capacity, arith, sym, ap, subst, ◌∙◌}
 use Rattle.std.specs.Vec.{with_item}
-use Rattle.step_machine.specs.Below.{RegistersFit}
+use Rattle.step_machine.specs.Below.{RegistersFit, ReadsFit}
 use Rattle.step_machine.specs.declared.actors.Move.TheVariants.{Step}
-use Rattle.step_machine.specs.Machine.{next, stepped}
+use Rattle.step_machine.specs.Machine.{next}
 use Rattle.step_machine.specs.Views.{HasEntry, TookStep}
 use Rattle.step_machine.specs.Stored.{world}
-use Rattle.step_machine.proofs.Giving.{step_move, same_world}
-use Rattle.step_machine.proofs.Making.{ready, entry_room}
+use Rattle.step_machine.proofs.Making.{ready, reads, entry_room}
 use Rattle.step_machine.proofs.Reached.{made_next, same_actor}
-use Rattle.step_machine.proofs.Stepping.{took_rooms}
+use Rattle.step_machine.proofs.Stepping.{took_rooms, took_move}
 use Rattle.step_machine.proofs.world.World.step.Goals as goal
 
 pub take_step-reply-requires-clause-ready : goal.take_step-reply-requires-clause-ready
 take_step-reply-requires-clause-ready c =
     subst (RegistersFit c.self.inside.setup c.self.inside.memory.room) (sym (same_actor (world c.self.inside) c.args.actor _ _ c.in-Some.ensures.there c.in-Some-get_mut.ensures.value))
     (ready (world c.self.inside) c.self.inside.memory.room c.args.actor _ c.self.invariant.made c.in-Some.ensures.there c.self.invariant.within c.self.invariant.nodes)
+
+pub take_step-reply-requires-clause-reads : goal.take_step-reply-requires-clause-reads
+take_step-reply-requires-clause-reads c =
+    subst (ReadsFit c.in-Some-line.line c.self.inside.memory.room) (sym (same_actor (world c.self.inside) c.args.actor _ _ c.in-Some.ensures.there c.in-Some-get_mut.ensures.value))
+    (reads (world c.self.inside) c.self.inside.memory.room c.args.actor _ c.in-Some-line.line c.self.invariant.made c.in-Some.ensures.there c.in-Some-line.is c.self.invariant.nodes)
 
 pub take_step-reply-requires-clause-entry : goal.take_step-reply-requires-clause-entry
 take_step-reply-requires-clause-entry c =
@@ -32,13 +36,7 @@ left c =
 
 moves : (c : goal.After-answer_at) → next (world c.self.inside) (Step c.args.actor) ≡ Some (world (record { setup = c.self.inside.setup; steps = c.self.inside.steps + 1; memory = c.take_step-reply.new.memory; actors = with_item c.self.inside.actors (c.args.actor - 1) c.take_step-reply.new.a; operations = c.take_step-reply.new.operations }))
 moves c =
-    let h = left c in
-    let w = world c.self.inside in
-    step_move w c.args.actor c.in-Some.a.now c.in-Some-line.line c.in-Some.ensures.there c.in-Some-line.is ∙
-    ap Some
-    (sym
-    (same_world _ (stepped w c.args.actor c.in-Some.a.now c.in-Some-line.line) refl refl (ap (λ m. m.words) h.memory)
-    (ap (λ a. slice_set w.actors (c.args.actor - 1) a) h.actor) (ap (λ m. m.aside) h.memory) h.operations))
+    took_move c.self.inside c.args.actor _ _ _ _ _ c.take_step-reply.result c.in-Some.ensures.there c.in-Some-line.is (left c)
 
 pub invariant_of-self : goal.invariant_of-self
 invariant_of-self c =

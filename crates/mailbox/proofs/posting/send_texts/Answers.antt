@@ -1,0 +1,28 @@
+use Rattle.std.proofs.Common.{arith, ◌≡◌, ◌∷◌, ap, subst, length}
+use Rattle.std.proofs.lemmas.Grind.{common_steps}
+use Rattle.mailbox.specs.Plans.{AreDue}
+use Rattle.mailbox.specs.Offices.{marks}
+use Rattle.mailbox.proofs.Plans.{due_first, due_rest}
+use Rattle.mailbox.proofs.posting.send_texts.Goals as goal
+
+pub send_due-requires-clause-due : goal.send_due-requires-clause-due
+send_due-requires-clause-due g c κs within =
+    let steps = c.in-Some.ensures.steps in
+    let split : c.loop-text.text-iterator.rest.items ≡ c.in-Some.text ∷ c.next.new.self.rest.items = grind (arith, common_steps) in
+    due_first (marks c.args.office.now) c.args.number c.loop-text.place c.in-Some.text c.next.new.self.rest.items
+    (subst (AreDue (marks c.args.office.now) c.args.number c.loop-text.place) split c.loop-text.invariant.due)
+
+pub loop-text-preserved : goal.loop-text-preserved
+loop-text-preserved g c =
+    let steps = c.in-Some.ensures.steps in
+    let split : c.loop-text.text-iterator.rest.items ≡ c.in-Some.text ∷ c.next.new.self.rest.items = grind (arith, common_steps) in
+    let len = ap length split in
+    let was = c.loop-text.invariant.place in
+    record {
+      can = tt;
+      finite = tt;
+      office = c.send_due.ensures.office;
+      place = omega (arith, len, was);
+      due = due_rest (marks c.args.office.now) c.args.number c.loop-text.place c.in-Some.text c.next.new.self.rest.items
+          (subst (AreDue (marks c.args.office.now) c.args.number c.loop-text.place) split c.loop-text.invariant.due);
+    }

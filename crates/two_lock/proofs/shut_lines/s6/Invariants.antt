@@ -1,0 +1,4 @@
+use Rattle.two_lock.proofs.shut_lines.s6.Given as goal
+
+abbrev pub ghost-exchange : goal.ghost-exchange
+ghost-exchange g a = g.prologue
