@@ -77,6 +77,7 @@ fn take_turn(arena: &Arena, seat: &mut Seat, index: u32) -> Turn
 }
 
 // Turns until one succeeds or is refused, or all failed.
+#[inline(always)]
 fn take_within(arena: &Arena, seat: &mut Seat, turns: u32) -> Result<Held, Refusal>
     requires ready { IsReady arena.now seat.old }
     requires empty { pocket_of seat.old ≡ None }
