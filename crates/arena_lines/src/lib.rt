@@ -9,7 +9,6 @@ mod setting_out;
 mod stepping;
 mod words;
 
-pub use node_arena::reference;
 pub use outcomes::{
     Outcome, Reply, closed, ends, frees, frees as frees_aside, goes, with_node, worn,
 };

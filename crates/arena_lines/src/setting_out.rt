@@ -6,21 +6,29 @@ ghost use Rattle.arena_lines.specs.Words.{place_of};
 
 use crate::words::Word;
 use line_table::Line;
-use node_arena::{Arena, Seat};
+use node_arena::{ArenaOf, Seat};
 
-/// One load of a word. Takes no memory and doesn't wait.
+/// One load of a word. `failed` turns of the call failed before: a caller picks the prologue by it. Takes no memory and
+/// doesn't wait.
 #[inline(always)]
-pub fn load(arena: &Arena, seat: &mut Seat, line: Line, word: Word) -> u64
+pub fn load<const B: u32>(
+    arena: &ArenaOf<B>,
+    seat: &mut Seat,
+    line: Line,
+    word: Word,
+    failed: u32,
+) -> u64
     ghost prologue: { Prologue }
     requires { MayStep arena.now seat.old prologue line (load_at (place_of word)) }
     ensures { DidStep arena.now seat.old seat.new prologue line result }
 {
+    let _ = failed;
     arena.load(seat, line, word.place())
 }
 
-/// One store into a word. Takes no memory and doesn't wait.
+/// One store into a word: a caller picks the prologue by the value. Takes no memory and doesn't wait.
 #[inline(always)]
-pub fn store(arena: &Arena, seat: &mut Seat, line: Line, word: Word, value: u64)
+pub fn store<const B: u32>(arena: &ArenaOf<B>, seat: &mut Seat, line: Line, word: Word, value: u64)
     ghost prologue: { Prologue }
     requires { MayStep arena.now seat.old prologue line (store_at (place_of word) value) }
     ensures { DidSome arena.now seat.old seat.new prologue line }
@@ -28,13 +36,23 @@ pub fn store(arena: &Arena, seat: &mut Seat, line: Line, word: Word, value: u64)
     arena.store(seat, line, word.place(), value);
 }
 
-/// One compare-exchange of a word; the word found is the answer, won or lost. Takes no memory and doesn't wait.
+/// One compare-exchange of a word; the word found is the answer, won or lost. `failed` turns of the call failed before: a
+/// caller picks the prologue by it. Takes no memory and doesn't wait.
 #[inline(always)]
-pub fn exchange(arena: &Arena, seat: &mut Seat, line: Line, word: Word, old: u64, new: u64) -> u64
+pub fn exchange<const B: u32>(
+    arena: &ArenaOf<B>,
+    seat: &mut Seat,
+    line: Line,
+    word: Word,
+    old: u64,
+    new: u64,
+    failed: u32,
+) -> u64
     ghost prologue: { Prologue }
     requires { MayStep arena.now seat.old prologue line (exchange_at (place_of word) old new) }
     ensures { DidStep arena.now seat.old seat.new prologue line result }
 {
+    let _ = failed;
     match arena.exchange(seat, line, word.place(), old, new) {
         Ok(found) => found,
         Err(found) => found,

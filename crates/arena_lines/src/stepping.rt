@@ -1,16 +1,17 @@
 //! One atomic step of a call that is under way, on a word with a name.
+ghost use Rattle.counted_ref.specs.Ref.{count_mask};
 ghost use Rattle.node_arena.specs.Machine.{load_at, store_at, and_at, exchange_at};
 ghost use Rattle.node_arena.specs.Prologues.{continues};
-ghost use Rattle.node_arena.specs.Seats.{MayStep, DidStep, DidSome};
+ghost use Rattle.node_arena.specs.Seats.{MayStep, DidStep, DidSome, setup_of};
 ghost use Rattle.arena_lines.specs.Words.{place_of};
 
 use crate::words::Word;
 use line_table::Line;
-use node_arena::{Arena, COUNT_MASK, Seat};
+use node_arena::{ArenaOf, Seat};
 
 /// One load of a word by a call that is under way. Takes no memory and doesn't wait.
 #[inline(always)]
-pub fn loaded(arena: &Arena, seat: &mut Seat, line: Line, word: Word) -> u64
+pub fn loaded<const B: u32>(arena: &ArenaOf<B>, seat: &mut Seat, line: Line, word: Word) -> u64
     requires { MayStep arena.now seat.old continues line (load_at (place_of word)) }
     ensures { DidStep arena.now seat.old seat.new continues line result }
 {
@@ -19,7 +20,7 @@ pub fn loaded(arena: &Arena, seat: &mut Seat, line: Line, word: Word) -> u64
 
 /// One store into a word by a call that is under way. Takes no memory and doesn't wait.
 #[inline(always)]
-pub fn stored(arena: &Arena, seat: &mut Seat, line: Line, word: Word, value: u64)
+pub fn stored<const B: u32>(arena: &ArenaOf<B>, seat: &mut Seat, line: Line, word: Word, value: u64)
     requires { MayStep arena.now seat.old continues line (store_at (place_of word) value) }
     ensures { DidSome arena.now seat.old seat.new continues line }
 {
@@ -29,17 +30,25 @@ pub fn stored(arena: &Arena, seat: &mut Seat, line: Line, word: Word, value: u64
 /// One fetch_and, by a call that is under way, that leaves the count of the reference in a word; the word found is the
 /// answer. Takes no memory and doesn't wait.
 #[inline(always)]
-pub fn cleared(arena: &Arena, seat: &mut Seat, line: Line, word: Word) -> u64
-    requires { MayStep arena.now seat.old continues line (and_at (place_of word) COUNT_MASK) }
+pub fn cleared<const B: u32>(arena: &ArenaOf<B>, seat: &mut Seat, line: Line, word: Word) -> u64
+    requires { MayStep arena.now seat.old continues line
+        (and_at (place_of word) (count_mask (setup_of arena.now).bits)) }
     ensures { DidStep arena.now seat.old seat.new continues line result }
 {
-    arena.fetch_and(seat, line, word.place(), COUNT_MASK)
+    arena.fetch_and(seat, line, word.place(), arena.count_mask())
 }
 
 /// One compare-exchange of a word by a call that is under way; the word found is the answer, won or lost. Takes no memory
 /// and doesn't wait.
 #[inline(always)]
-pub fn exchanged(arena: &Arena, seat: &mut Seat, line: Line, word: Word, old: u64, new: u64) -> u64
+pub fn exchanged<const B: u32>(
+    arena: &ArenaOf<B>,
+    seat: &mut Seat,
+    line: Line,
+    word: Word,
+    old: u64,
+    new: u64,
+) -> u64
     requires { MayStep arena.now seat.old continues line (exchange_at (place_of word) old new) }
     ensures { DidStep arena.now seat.old seat.new continues line result }
 {

@@ -10,7 +10,7 @@ use Rattle.history.proofs.Learning.{answers_then}
 use Rattle.node_arena.specs.Machine.{Held, value_of}
 use Rattle.node_arena.specs.Prologues.{at_rest, out_of}
 use Rattle.node_arena.specs.Traces.{Event}
-use Rattle.node_arena.specs.declared.arena.Arena.{Arena}
+use Rattle.node_arena.specs.Arenas.{Arena}
 use Rattle.node_arena.specs.declared.seats.Seat.{Seat}
 use Rattle.node_arena.specs.Seeing.{known_by}
 use Rattle.node_arena.specs.Seats.{IsSeat, IsReady, KeepsStored, KeepsName, view, known_of, keeping, failed_of}

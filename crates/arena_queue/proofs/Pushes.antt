@@ -8,7 +8,7 @@ use Rattle.history.specs.declared.refusals.WornWord.TheVariants.{Free as OfFree,
 use Rattle.history.specs.Answers.{StopsPush, PushRefused as RefusedPush}
 use Rattle.node_arena.specs.Machine.{Held}
 use Rattle.node_arena.specs.Traces.{Event}
-use Rattle.node_arena.specs.declared.arena.Arena.{Arena}
+use Rattle.node_arena.specs.Arenas.{Arena}
 use Rattle.node_arena.specs.declared.seats.Seat.{Seat}
 use Rattle.node_arena.specs.Seats.{IsReady, KeepsName, view, known_of}
 use Rattle.node_arena.specs.Turns.{failed_turns}

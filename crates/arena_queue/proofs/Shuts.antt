@@ -1,15 +1,14 @@
 -- What a shut tells its seat.
 use Rattle.std.proofs.Common.{ℕ, Result, Ok, Err, IfErr}
 use Rattle.history.specs.declared.refusals.Refusal.{Refusal}
-use Rattle.history.specs.declared.refusals.WornWord.{WornWord}
 use Rattle.history.specs.Answers.{PushRefused as RefusedPush}
-use Rattle.node_arena.specs.declared.arena.Arena.{Arena}
+use Rattle.node_arena.specs.Arenas.{Arena}
 use Rattle.node_arena.specs.declared.seats.Seat.{Seat}
 use Rattle.node_arena.specs.Seats.{known_of}
 use Rattle.arena_queue.specs.Answers.{AnswersShut}
 use Rattle.arena_queue.proofs.Pushes.{learns}
 
 -- what its seat knows after a shut that was refused
-pub shut_learns : (worn : WornWord → Type 0) (r : Arena) (s t : Seat) (turns : ℕ) (out : Result (Unit {0}) Refusal) → AnswersShut worn r s t turns out → IfErr out (λ why. RefusedPush (known_of s) why (known_of t))
+pub shut_learns : (worn : Type 0) (r : Arena) (s t : Seat) (turns : ℕ) (out : Result (Unit {0}) Refusal) → AnswersShut worn r s t turns out → IfErr out (λ why. RefusedPush (known_of s) why (known_of t))
 shut_learns worn r s t turns (Ok u) h = tt
 shut_learns worn r s t turns (Err why) h = learns s t why h.refused.0

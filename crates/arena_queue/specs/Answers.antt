@@ -6,10 +6,10 @@ use Rattle.history.specs.declared.operations.Taken.{Taken}
 use Rattle.history.specs.declared.refusals.Refusal.{Refusal}
 use Rattle.history.specs.declared.refusals.Refusal.TheVariants.{WornOut, Busy, Closed}
 use Rattle.history.specs.declared.refusals.WornWord.{WornWord}
-use Rattle.history.specs.declared.refusals.WornWord.TheVariants.{Free as OfFree}
+use Rattle.history.specs.declared.refusals.WornWord.TheVariants.{Free as OfFree, Tail as OfTail}
 use Rattle.history.specs.Answers.{Pushed, PopAnswers, PushRefused as RefusedPush, PopRefused as RefusedPop, StopsPush, StopsPop}
 use Rattle.node_arena.specs.Machine.{Held}
-use Rattle.node_arena.specs.declared.arena.Arena.{Arena}
+use Rattle.node_arena.specs.Arenas.{Arena}
 use Rattle.node_arena.specs.declared.seats.Seat.{Seat}
 use Rattle.node_arena.specs.Seats.{IsReady, KeepsName, view, known_of, pocket_of}
 use Rattle.node_arena.specs.Turns.{failed_turns}
@@ -117,16 +117,16 @@ pub record AnswersPop (worn : WornWord → Type 0) (r : Arena) (s t : Seat) (tur
 abbrev pub Shuts : (s t : Seat) → Type 0
 Shuts s t = Acts (view s) (view t) (Shut (view s).number) (added s t)
 
--- why a shut is refused: all turns failed, the last one at the last step; or a word of which `worn` says so was found worn
--- out at the last step; or the queue was found shut at the last step
-abbrev pub ShutRefused : (worn : WornWord → Type 0) → Arena → Seat → Seat → (turns : ℕ) → Refusal → Type 0
+-- why a shut is refused: all turns failed, the last one at the last step; or Tail was found worn out at the last step, where
+-- `worn` says that this stops one; or the queue was found shut at the last step
+abbrev pub ShutRefused : (worn : Type 0) → Arena → Seat → Seat → (turns : ℕ) → Refusal → Type 0
 ShutRefused worn r s t turns Busy = (failed_turns (added s t) ≡ turns) × EndsFailed s t
-ShutRefused worn r s t turns (WornOut word) = MetCause r s t (WornOut word) × worn word
+ShutRefused worn r s t turns (WornOut OfTail) = MetCause r s t (WornOut OfTail) × worn
 ShutRefused worn r s t turns Closed = MetCause r s t Closed
 ShutRefused worn r s t turns _ = ⊥
 
 -- what a shut answers: what is in the pocket stays there
-pub record AnswersShut (worn : WornWord → Type 0) (r : Arena) (s t : Seat) (turns : ℕ) (out : Result (Unit {0}) Refusal) : Type 0 where
+pub record AnswersShut (worn : Type 0) (r : Arena) (s t : Seat) (turns : ℕ) (out : Result (Unit {0}) Refusal) : Type 0 where
   pub ready : IsReady r t
   pub same : KeepsName s t
   pub pocket : pocket_of t ≡ pocket_of s

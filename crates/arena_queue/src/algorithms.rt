@@ -9,10 +9,10 @@ ghost use Rattle.arena_queue.specs.Answers.{IsOfKind, Puts, Draws, AnswersShut};
 
 use history::{Body, Refusal, Taken};
 use line_table::Kind;
-use node_arena::{Arena, Held, Seat};
+use node_arena::{ArenaOf, Held, Seat};
 
-/// How a queue on an arena pushes a node that it has, pops, and is shut.
-pub trait Algorithm {
+/// How a queue on an arena pushes a node that it has, pops, and is shut, where `B` bits of a word hold a node.
+pub trait Algorithm<const B: u32> {
     // The kind of its arenas.
     ghost kind: { TheKind };
 
@@ -22,8 +22,8 @@ pub trait Algorithm {
     // Which words stop a pop where they are worn out.
     ghost pop_worn: { TheWornWord → Type 0 };
 
-    // Which words stop a shut where they are worn out.
-    ghost shut_worn: { TheWornWord → Type 0 };
+    // Whether Tail stops a shut where it is worn out.
+    ghost shut_worn: { Type 0 };
 
     /// The kind of its arenas.
     fn kind() -> Kind
@@ -31,7 +31,7 @@ pub trait Algorithm {
 
     /// The push with the node in the pocket, where `spent` turns of this call failed before.
     fn put(
-        arena: &Arena,
+        arena: &ArenaOf<B>,
         seat: &mut Seat,
         held: Held,
         body: Body,
@@ -47,7 +47,7 @@ pub trait Algorithm {
 
     /// The pop with an empty pocket, where `spent` turns of this call failed before.
     fn draw(
-        arena: &Arena,
+        arena: &ArenaOf<B>,
         seat: &mut Seat,
         spent: u32,
         turns: u32,
@@ -60,7 +60,7 @@ pub trait Algorithm {
         ensures { Draws pop_worn arena.now seat.old seat.new spent turns result };
 
     /// The shut, which leaves the pocket alone.
-    fn shut(arena: &Arena, seat: &mut Seat, turns: u32) -> Result<(), Refusal>
+    fn shut(arena: &ArenaOf<B>, seat: &mut Seat, turns: u32) -> Result<(), Refusal>
         requires ready { IsReady arena.now seat.old }
         requires kind { IsOfKind arena.now kind }
         requires role { IsTrue (may_push (role_of seat.old)) }

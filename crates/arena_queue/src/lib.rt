@@ -5,4 +5,4 @@ mod algorithms;
 mod queue;
 
 pub use algorithms::Algorithm;
-pub use queue::ArenaQueue;
+pub use queue::{ArenaQueue, ArenaQueueOf};

@@ -1,5 +1,6 @@
 //! The queue: its arena, and its calls.
 ghost use Rattle.std.specs.Prelude.{◌≡◌, ◌+◌, ◌*◌, ◌≤◌, ◌↔◌, IsNone, IfSome, IfOk, IfErr, OnOk, OnErr, None};
+ghost use Rattle.counted_ref.specs.Ref.{IsSplit};
 ghost use Rattle.node_arena.specs.Plans.{IsPlanned};
 ghost use Rattle.node_arena.specs.Making.{plan, NewRefused};
 ghost use Rattle.arena_queue.specs.Answers.{IsOfKind};
@@ -7,19 +8,22 @@ ghost use Rattle.arena_queue.specs.Answers.{IsOfKind};
 use crate::algorithms::Algorithm;
 use free_list::{give_back, take};
 use history::{Body, Fifo, Refusal, Rest, Taken};
-use node_arena::{Arena, Role, Seat};
+use node_arena::{ArenaOf, Role, Seat};
 use std::alloc::Global;
 use std::marker::PhantomData;
 
 /// A queue that runs an algorithm on its arena. Threads share it by reference, each with a seat of its own.
 #[derive(Drop)]
-pub struct ArenaQueue<A: Algorithm> {
-    arena: Arena,
+pub struct ArenaQueueOf<A: Algorithm<B>, const B: u32> {
+    arena: ArenaOf<B>,
     algorithm: PhantomData<A>,
     ghost runs: { IsOfKind arena A.kind },
 }
 
-impl<A: Algorithm> ArenaQueue<A> {
+/// With 24 bits for the number of a node.
+pub type ArenaQueue<A> = ArenaQueueOf<A, 24>;
+
+impl<A: Algorithm<B>, const B: u32> ArenaQueueOf<A, B> {
     ghost use Rattle.std.specs.Prelude.{map};
     ghost use Rattle.std.specs.List.{All};
     ghost use Rattle.history.specs.Openings.{AreNew};
@@ -28,8 +32,8 @@ impl<A: Algorithm> ArenaQueue<A> {
     ghost use Rattle.node_arena.specs.Seats.{known_of, plan_of, setup_of};
     ghost use Rattle.arena_queue.specs.Queues.{arena_of, permits_of, IsQueueSeat, IsQueueMade};
 
-    /// A queue with so many nodes, 2 to 16,777,214, the greatest count `limit`, 1 to 1,099,511,627,775, and a seat for
-    /// each role, 1 to 65,535 of them, in their order. One node is always in the queue.
+    /// A queue with so many nodes, from 2 to the `most_node` of the split, the greatest count `limit`, from 1 to its
+    /// `most_count`, and a seat for each role, 1 to 65,535 of them, in their order. One node is always in the queue.
     ///
     /// Refusals: `BadSize` where one of them is out of its range, else `Memory`. Takes memory for two words a node, the
     /// seats and their roles, and doesn't wait.
@@ -43,17 +47,18 @@ impl<A: Algorithm> ArenaQueue<A> {
         nodes: u32,
         limit: u64,
         roles: &[Role],
-    ) -> Result<(ArenaQueue<A>, Vec<Seat>), Refusal>
+    ) -> Result<(ArenaQueueOf<A, B>, Vec<Seat>), Refusal>
+        requires split { IsSplit B }
         ensures ok { IfOk result (λ r. IsQueueMade A.kind nodes limit roles.now r.0 r.1.items) }
         ensures permits { IfOk result (λ r. permits_of r.0 ≡ permits_by roles.now) }
         ensures seats { IfOk result (λ r. All (IsQueueSeat r.0) r.1.items) }
         ensures unused { IfOk result (λ r. AreNew (permits_of r.0) (map known_of r.1.items)) }
-        ensures sized { OnOk result (IsPlanned (plan A.kind nodes limit roles.now)) }
-        ensures refused { IfErr result (NewRefused (plan A.kind nodes limit roles.now)) }
+        ensures sized { OnOk result (IsPlanned (plan B A.kind nodes limit roles.now)) }
+        ensures refused { IfErr result (NewRefused (plan B A.kind nodes limit roles.now)) }
     {
-        let (arena, seats) = Arena::new(alloc, A::kind(), nodes, limit, roles)?;
+        let (arena, seats) = ArenaOf::<B>::new(alloc, A::kind(), nodes, limit, roles)?;
         Ok((
-            ArenaQueue {
+            ArenaQueueOf {
                 arena,
                 algorithm: PhantomData,
             },
@@ -76,7 +81,7 @@ impl<A: Algorithm> ArenaQueue<A> {
     }
 }
 
-impl<A: Algorithm> Fifo for ArenaQueue<A> {
+impl<A: Algorithm<B>, const B: u32> Fifo for ArenaQueueOf<A, B> {
     ghost use Rattle.std.specs.Prelude.{map};
     ghost use Rattle.std.specs.List.{All};
     ghost use Rattle.history.specs.Seats.{MayPush, MayPop};

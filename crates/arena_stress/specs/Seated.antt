@@ -1,6 +1,6 @@
 -- Seats that may begin a call, with empty pockets.
 use Rattle.std.specs.Prelude.{◌≡◌, ℕ, List, Option, Some, None, IfSome, slice_get}
-use Rattle.node_arena.specs.declared.arena.Arena.{Arena}
+use Rattle.node_arena.specs.Arenas.{Arena}
 use Rattle.node_arena.specs.declared.seats.Seat.{Seat}
 use Rattle.node_arena.specs.Seats.{IsReady, pocket_of}
 use Rattle.arena_stress.specs.declared.seating.Four.{Four}

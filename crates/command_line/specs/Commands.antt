@@ -1,5 +1,5 @@
 -- What the words after the program's name ask for.
-use Rattle.std.specs.Prelude.{◌≡◌, ◌⊎◌, ℕ, ◌<◌, ◌^◌, Bool, true, false, nat_eq, if◌then◌else◌, List, [], ◌∷◌, codes, map, Option, Some, None, string_bytes, unwrap_or}
+use Rattle.std.specs.Prelude.{◌≡◌, ◌⊎◌, ℕ, ◌<◌, ◌-◌, ◌^◌, Bool, true, false, nat_eq, if◌then◌else◌, List, [], ◌∷◌, codes, map, Option, Some, None, string_bytes, unwrap_or}
 use Rattle.std.specs.Borrow.{Bor}
 use Rattle.std.specs.Cmp.Lexicographic.{pointwise}
 use Rattle.std.specs.Str.Parse.{IsNumeral, digits_value, without_leading_plus}
@@ -7,6 +7,7 @@ use Rattle.clap.specs.Words.{App, IsAmong, Kinds, Row, Rule, Text, fault_of, fir
 use Rattle.clap.specs.declared.builder.value_parser.ValueParser.TheVariants.{Names, Unsigned}
 use Rattle.clap.specs.declared.error.kind.ErrorKind.{ErrorKind}
 use Rattle.clap.specs.declared.error.kind.ErrorKind.TheVariants.{DisplayHelp, DisplayVersion, OutOfMemory}
+use Rattle.counted_ref.specs.Ref.{reserved_node}
 use Rattle.line_table.specs.declared.lines.Kind.{Kind}
 use Rattle.line_table.specs.declared.lines.Kind.TheVariants.{TwoLock, NonBlocking}
 use Rattle.command_line.specs.declared.commands.Command.{Command}
@@ -59,7 +60,7 @@ queue_rule queues =
 abbrev pub work_app : TextRow → App
 work_app queues =
     with_rule (with_rule (with_rule (file_app (codes "work")) (number_rule (codes "WORKERS") (codes "workers") 1 64 (codes "4")))
-    (queue_rule queues)) (number_rule (codes "NODES") (codes "nodes") 2 16777214 (codes "1024"))
+    (queue_rule queues)) (number_rule (codes "NODES") (codes "nodes") 2 (reserved_node 24 - 1) (codes "1024"))
 
 -- the command `post`, with a FILE and a queue
 abbrev pub post_app : TextRow → App

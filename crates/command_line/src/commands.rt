@@ -155,7 +155,7 @@ fn work_command<'a>(alloc: Global, queues: &'a [&'a str]) -> Result<clap::Comman
     let command = command.arg(workers.help("How many workers there are, each a thread, 1 to 64"))?;
     let command = command.arg(queue_option(alloc, queues))?;
     let nodes = number_option(alloc, "NODES", "nodes", (2, MOST_NODE as u64), "1024");
-    command.arg(nodes.help("How many nodes the queue has, 3 more than workers to 16777214"))
+    command.arg(nodes.help("How many nodes the queue has, from 3 more than workers to 2^24 - 2"))
 }
 
 /// The command `post`, with the names of the queues.

@@ -4,4 +4,6 @@
 pub mod laws;
 mod reference;
 
-pub use reference::{CountedRef, MOST_COUNT, MOST_NODE, SHUT_NODE};
+pub use reference::{
+    CountedRef, CountedRefOf, MOST_COUNT, MOST_NODE, most_count, most_node, shut_node,
+};

@@ -1,102 +1,147 @@
 //! The packed word, and the calls that make, read and raise it.
 ghost use Rattle.std.specs.Prelude.{◌≡◌, ◌+◌, ◌^◌, ◌<◌, ◌≤◌, ◌↔◌, Some, IsNone, IfSome};
-ghost use Rattle.counted_ref.specs.Ref.{IsRef, node_bits, count_bits, reserved_node, ref, shut_ref, is_null, is_shut, same_ref, ref_word, ref_of};
+ghost use Rattle.counted_ref.specs.Ref.{IsSplit, IsRef, count_bits, reserved_node, ref, shut_ref, is_null, is_shut, same_ref, ref_word, ref_of};
 
 use std::marker::Model;
 
-/// How many of a word's bits hold the node, the lowest ones.
-const NODE_BITS: u32 = 24;
-
-/// How many numbers the node bits can hold.
-const NODE_SPAN: u64 = 1 << NODE_BITS;
-
-/// The number of a closed end, which no node has, 16,777,215.
-pub const SHUT_NODE: u32 = (1 << NODE_BITS) - 1;
-
-/// The greatest number of a node, 16,777,214.
-pub const MOST_NODE: u32 = (1 << NODE_BITS) - 2;
-
-/// The greatest count, 1,099,511,627,775.
-pub const MOST_COUNT: u64 = (1 << (64 - NODE_BITS)) - 1;
-
-/// A counted reference: a node number in the low 24 bits of one word, and a count in the high 40.
+/// The number of a closed end where so many bits hold the node, 16 to 32: all of them are set, and no
+/// node has it. Takes no memory.
 ///
-/// Node 0 is null, nodes are 1 to 16,777,214, and 16,777,215 is a closed end, behind which nothing is
-/// linked any more. Counts are 0 to 1,099,511,627,775. No call takes memory or waits.
+/// ```
+/// assert_eq!(shut_node(16), 65_535);
+/// ```
+pub const fn shut_node(bits: u32) -> u32
+    requires { IsSplit bits }
+    ensures { result ≡ reserved_node bits }
+{
+    ((1u64 << bits) - 1) as u32
+}
+
+/// The greatest number of a node where so many bits hold it, 16 to 32. Takes no memory.
+///
+/// ```
+/// assert_eq!(most_node(16), 65_534);
+/// ```
+#[tactic(auto, using(crate::proofs::Words::span_least))]
+pub const fn most_node(bits: u32) -> u32
+    requires { IsSplit bits }
+    ensures { result + 1 ≡ reserved_node bits }
+{
+    shut_node(bits) - 1
+}
+
+/// The greatest count where so many bits hold the node, 16 to 32. Takes no memory.
+///
+/// ```
+/// assert_eq!(most_count(32), 4_294_967_295);
+/// ```
+pub const fn most_count(bits: u32) -> u64
+    requires { IsSplit bits }
+    ensures { result + 1 ≡ 2 ^ count_bits bits }
+{
+    (1 << (64 - bits)) - 1
+}
+
+/// The greatest number of a node where 24 bits hold it, 16,777,214.
+pub const MOST_NODE: u32 = (1 << 24) - 2;
+
+/// The greatest count where 24 bits hold the node, 1,099,511,627,775.
+pub const MOST_COUNT: u64 = (1 << 40) - 1;
+
+/// A counted reference: a node number in the low `B` bits of one word, and a count in the others. `B`
+/// is 16 to 32: no call makes a reference of another split.
+///
+/// Node 0 is null, nodes are 1 to 2^B - 2, and 2^B - 1 is a closed end, behind which nothing is linked
+/// any more. Counts are 0 to 2^(64-B) - 1. No call takes memory or waits.
 #[derive(Clone, Copy, Debug, PartialEq, Eq)]
-pub struct CountedRef {
+pub struct CountedRefOf<const B: u32> {
     word: u64,
 }
 
-impl Model for CountedRef {
+/// A counted reference with 24 bits for the node, up to 16,777,214, and 40 for the count, up to
+/// 1,099,511,627,775.
+pub type CountedRef = CountedRefOf<24>;
+
+impl<const B: u32> Model for CountedRefOf<B> {
     ghost use Rattle.std.specs.Prelude.{◌≡◌};
-    ghost use Rattle.counted_ref.specs.Ref.{Ref, ref_word, ref_of};
+    ghost use Rattle.counted_ref.specs.Ref.{Ref, IsSplit, ref_word, ref_of};
+    ghost use Rattle.counted_ref.specs.Splits.{word_back};
 
     ghost Value = { Ref };
 
-    ghost view = { λ r. ref_of r.word };
+    ghost view = { λ r. ref_of B r.word };
 
-    ghost inverse = { λ r. record { word = ref_word r } };
+    ghost invariant = { λ r. IsSplit B };
 
-    ghost use Rattle.std.proofs.Common.{arith};
+    ghost inverse = { λ r. record { word = ref_word B r } };
 
-    ghost inverse_ok = { λ a h. λ i. record { word = (let e : ref_word (ref_of a.word) ≡ a.word = Prim.omega arith in e) i } };
+    ghost inverse_ok = { λ a h. λ i. record { word = word_back B a.word i } };
 }
 
-impl CountedRef {
-    /// The reference of this node with this count. The node is 0 to 16,777,214, and the count 0 to
-    /// 1,099,511,627,775. Takes no memory.
+impl<const B: u32> CountedRefOf<B> {
+    /// The reference of this node with this count. The node is at most the `most_node` of the split, and
+    /// the count at most its `most_count`. Takes no memory.
     ///
     /// ```
     /// let reference = CountedRef::new(2, 1);
     /// assert_eq!(reference.word(), 16_777_218);
     /// ```
-    pub fn new(node: u32, count: u64) -> CountedRef
-        requires node { node < reserved_node }
-        requires count { count < 2 ^ count_bits }
+    pub fn new(node: u32, count: u64) -> CountedRefOf<B>
+        requires split { IsSplit B }
+        requires node { node < reserved_node B }
+        requires count { count < 2 ^ count_bits B }
         ensures { result ≡ ref node count }
     {
-        CountedRef {
-            word: count * NODE_SPAN + u64::from(node),
-        }
+        CountedRefOf::packed(node, count)
     }
 
-    /// The closed end with this count, 0 to 1,099,511,627,775. Takes no memory.
+    /// The closed end with this count, which is at most the `most_count` of the split. Takes no memory.
     ///
     /// ```
     /// assert_eq!(CountedRef::shut(1).word(), 33_554_431);
     /// ```
-    pub fn shut(count: u64) -> CountedRef
-        requires { count < 2 ^ count_bits }
-        ensures { result ≡ shut_ref count }
+    pub fn shut(count: u64) -> CountedRefOf<B>
+        requires split { IsSplit B }
+        requires count { count < 2 ^ count_bits B }
+        ensures { result ≡ shut_ref B count }
     {
-        CountedRef {
-            word: count * NODE_SPAN + u64::from(SHUT_NODE),
+        CountedRefOf::packed(shut_node(B), count)
+    }
+
+    /// The word with this number in its node bits and this count above them.
+    fn packed(node: u32, count: u64) -> CountedRefOf<B>
+        requires split { IsSplit B }
+        requires node { node < 2 ^ B }
+        requires count { count < 2 ^ count_bits B }
+        ensures { result ≡ ref node count }
+    {
+        CountedRefOf {
+            word: (count << B) + u64::from(node),
         }
     }
 
-    /// The number of the node, 0 to 16,777,215; 0 is null, and 16,777,215 a closed end. Takes no memory.
+    /// The number of the node, 0 to 2^B - 1; 0 is null, and 2^B - 1 a closed end. Takes no memory.
     ///
     /// ```
     /// assert_eq!(CountedRef::new(2, 1).node(), 2);
     /// ```
     pub fn node(&self) -> u32
         ensures value { result ≡ self.now.node }
-        ensures range { result < 2 ^ node_bits }
+        ensures range { result < 2 ^ B }
     {
-        (self.word % NODE_SPAN) as u32
+        (self.word % (1 << B)) as u32
     }
 
-    /// The count, 0 to 1,099,511,627,775. Takes no memory.
+    /// The count, 0 to 2^(64-B) - 1. Takes no memory.
     ///
     /// ```
     /// assert_eq!(CountedRef::new(2, 1).count(), 1);
     /// ```
     pub fn count(&self) -> u64
         ensures value { result ≡ self.now.count }
-        ensures range { result < 2 ^ count_bits }
+        ensures range { result < 2 ^ count_bits B }
     {
-        self.word / NODE_SPAN
+        self.word >> B
     }
 
     /// Whether the node is null, whatever the count. Takes no memory.
@@ -118,19 +163,19 @@ impl CountedRef {
     /// assert!(!CountedRef::new(16_777_214, 1).is_shut());
     /// ```
     pub fn is_shut(&self) -> bool
-        ensures { result ≡ is_shut self.now }
+        ensures { result ≡ is_shut B self.now }
     {
-        self.node() == SHUT_NODE
+        self.word % (1 << B) == (1 << B) - 1
     }
 
-    /// The word: the count times 16,777,216, and the node. Takes no memory.
+    /// The word: the count times 2^B, and the node. Takes no memory.
     ///
     /// ```
     /// assert_eq!(CountedRef::new(2, 1).word(), 16_777_218);
     /// ```
     pub fn word(&self) -> u64
-        ensures value { result ≡ ref_word self.now }
-        ensures in_range { IsRef self.now }
+        ensures value { result ≡ ref_word B self.now }
+        ensures in_range { IsRef B self.now }
     {
         self.word
     }
@@ -141,11 +186,12 @@ impl CountedRef {
     /// assert!(CountedRef::from_word(16_777_218) == Some(CountedRef::new(2, 1)));
     /// assert!(CountedRef::from_word(16_777_215) == Some(CountedRef::shut(0)));
     /// ```
-    pub fn from_word(word: u64) -> Option<CountedRef>
-        ensures value { result ≡ Some (ref_of word) }
-        ensures same_word { ref_word (ref_of word) ≡ word }
+    pub fn from_word(word: u64) -> Option<CountedRefOf<B>>
+        requires split { IsSplit B }
+        ensures value { result ≡ Some (ref_of B word) }
+        ensures same_word { ref_word B (ref_of B word) ≡ word }
     {
-        Some(CountedRef { word })
+        Some(CountedRefOf { word })
     }
 
     /// The reference of a word, not in an option. Takes no memory.
@@ -153,33 +199,34 @@ impl CountedRef {
     /// ```
     /// assert!(CountedRef::of_word(16_777_218) == CountedRef::new(2, 1));
     /// ```
-    pub fn of_word(word: u64) -> CountedRef
-        ensures value { result ≡ ref_of word }
-        ensures same_word { ref_word result ≡ word }
+    pub fn of_word(word: u64) -> CountedRefOf<B>
+        requires split { IsSplit B }
+        ensures value { result ≡ ref_of B word }
+        ensures same_word { ref_word B result ≡ word }
     {
-        CountedRef { word }
+        CountedRefOf { word }
     }
 
     /// The reference of the node `to` with a count one higher; none exactly where the count is the
-    /// limit. `to` is 0 to 16,777,214, the limit at most 1,099,511,627,775, and the count at most the
-    /// limit. Takes no memory.
+    /// limit. `to` is at most the `most_node` of the split, the limit at most its `most_count`, and the
+    /// count at most the limit. Takes no memory.
     ///
     /// ```
     /// assert!(CountedRef::new(1, 0).raised(7, 1) == Some(CountedRef::new(7, 1)));
     /// assert!(CountedRef::new(2, 1).raised(7, 1).is_none());
     /// ```
-    pub fn raised(&self, to: u32, limit: u64) -> Option<CountedRef>
-        requires to { to < reserved_node }
-        requires limit { limit < 2 ^ count_bits }
+    pub fn raised(&self, to: u32, limit: u64) -> Option<CountedRefOf<B>>
+        requires to { to < reserved_node B }
+        requires limit { limit < 2 ^ count_bits B }
         requires count { self.now.count ≤ limit }
         ensures none { IsNone result ↔ (self.now.count ≡ limit) }
         ensures value { IfSome result (λ r. r ≡ ref to (self.now.count + 1)) }
     {
-        let count = self.count();
+        let count = self.word >> B;
         if count == limit {
             None
         } else {
-            Some(CountedRef::new(to, count + 1))
+            Some(CountedRefOf::new(to, count + 1))
         }
     }
 
@@ -189,8 +236,8 @@ impl CountedRef {
     /// assert!(CountedRef::new(2, 1).same(CountedRef::new(2, 1)));
     /// assert!(!CountedRef::new(2, 1).same(CountedRef::new(2, 0)));
     /// ```
-    pub fn same(&self, other: CountedRef) -> bool
-        ensures { result ≡ same_ref self.now other }
+    pub fn same(&self, other: CountedRefOf<B>) -> bool
+        ensures { result ≡ same_ref self.now other.entry }
     {
         self.node() == other.node() && self.count() == other.count()
     }

@@ -13,7 +13,7 @@ use Rattle.history.specs.declared.refusals.Refusal.TheVariants.{Busy}
 use Rattle.node_arena.specs.Machine.{Setup, Held, Actor, World, IsFree, IsSetAside, dequeues, from_pocket, raised, one_if, aside_after, sets_aside, freed, goes, busy_or, to_pocket}
 use Rattle.node_arena.specs.Traces.{Event}
 use Rattle.node_arena.specs.Prologues.{Prologue, continues, at_rest, out_of, gave_up, after_prologue}
-use Rattle.node_arena.specs.declared.arena.Arena.{Arena}
+use Rattle.node_arena.specs.Arenas.{Arena}
 use Rattle.node_arena.specs.declared.seats.Seat.{Seat}
 use Rattle.node_arena.specs.Seats.{IsReady, IsSeat, DidStep, view, keeping, pocket_of}
 use Rattle.node_arena.specs.Turns.{failed_at, failed_turns, at_f1}
@@ -26,7 +26,7 @@ use Rattle.node_arena.proofs.Told.{was_in_range, actor_was_in_range, first_is_fr
 use Rattle.arena_lines.specs.declared.outcomes.Outcome.{Outcome}
 use Rattle.arena_lines.specs.declared.outcomes.Outcome.TheVariants.{Goes, Ends}
 use Rattle.arena_lines.specs.declared.outcomes.Reply.TheVariants.{Done}
-use Rattle.free_list.specs.declared.outcomes.Actor.{Actor as Running}
+use Rattle.free_list.specs.Running.{Running}
 use Rattle.free_list.specs.declared.outcomes.Gave.TheVariants.{Back, Again}
 use Rattle.free_list.specs.Runs.{gave_of, Frees, CallIsAt, StartsGive, Follows}
 use Rattle.free_list.specs.Gives.{IsBack, GiveTurned, GiveTurns, Giving, GiveAnswers}
@@ -84,9 +84,9 @@ front_back r s t prologue a n h d won =
 
 -- F1 ends the turn where Free is worn
 pub aside_turn : (r : Arena) (s t : Seat) (prologue : Prologue) (h : Held) (a : Running) (out : Outcome Running) → a.node ≡ h.node → CallIsAt r s prologue F1 a → Follows r s t prologue F1 a out → ((l : Line) (c : Running) → out ≡ Goes l c → ⊥) → GiveTurns r s t h Back
-aside_turn r s t prologue h a out n st f stays = go (nat_eq (ref_of f.found).count r.plan.setup.limit) refl
+aside_turn r s t prologue h a out n st f stays = go (nat_eq (ref_of r.plan.setup.bits f.found).count r.plan.setup.limit) refl
   where
-    go : (p : Bool) → nat_eq (ref_of f.found).count r.plan.setup.limit ≡ p → GiveTurns r s t h Back
+    go : (p : Bool) → nat_eq (ref_of r.plan.setup.bits f.found).count r.plan.setup.limit ≡ p → GiveTurns r s t h Back
     go true e =
         record {
           stored = f.did.stored;
@@ -99,16 +99,16 @@ aside_turn r s t prologue h a out n st f stays = go (nat_eq (ref_of f.found).cou
             back = subst (λ k. NowHolds r t (IsBack k)) n (aside_back r s t prologue a f.found st f.did (ap (λ x. nat_eq x.count r.plan.setup.limit) (sym (ref_f1 r s t prologue f.found f.did)) ∙ e));
           };
         }
-    go false e = absurd (stays F2 (record a { top = ref_of f.found }) (f.leads_to ∙ ap (λ p. if p then Ends Done else Goes F2 (record a { top = ref_of f.found })) e))
+    go false e = absurd (stays F2 (record a { top = ref_of r.plan.setup.bits f.found }) (f.leads_to ∙ ap (λ p. if p then Ends Done else Goes F2 (record a { top = ref_of r.plan.setup.bits f.found })) e))
 
 -- F1 goes on to F2 with the same node
 pub to_f2 : (r : Arena) (s t : Seat) (prologue : Prologue) (a b : Running) (l : Line) → CallIsAt r s prologue F1 a → Follows r s t prologue F1 a (Goes l b) → CallIsAt r t continues F2 b × (b.node ≡ a.node) × (b.mark ≡ a.mark)
-to_f2 r s t prologue a b l st f = go (nat_eq (ref_of f.found).count r.plan.setup.limit) refl
+to_f2 r s t prologue a b l st f = go (nat_eq (ref_of r.plan.setup.bits f.found).count r.plan.setup.limit) refl
   where
-    go : (p : Bool) → nat_eq (ref_of f.found).count r.plan.setup.limit ≡ p → CallIsAt r t continues F2 b × (b.node ≡ a.node) × (b.mark ≡ a.mark)
-    go true e = let x : Goes l b ≡ Ends Done = f.leads_to ∙ ap (λ p. if p then Ends Done else Goes F2 (record a { top = ref_of f.found })) e in cc
+    go : (p : Bool) → nat_eq (ref_of r.plan.setup.bits f.found).count r.plan.setup.limit ≡ p → CallIsAt r t continues F2 b × (b.node ≡ a.node) × (b.mark ≡ a.mark)
+    go true e = let x : Goes l b ≡ Ends Done = f.leads_to ∙ ap (λ p. if p then Ends Done else Goes F2 (record a { top = ref_of r.plan.setup.bits f.found })) e in cc
     go false e =
-        let x : b ≡ record a { top = ref_of f.found } = same_registers l F2 b (record a { top = ref_of f.found }) (f.leads_to ∙ ap (λ p. if p then Ends Done else Goes F2 (record a { top = ref_of f.found })) e) in
+        let x : b ≡ record a { top = ref_of r.plan.setup.bits f.found } = same_registers l F2 b (record a { top = ref_of r.plan.setup.bits f.found }) (f.leads_to ∙ ap (λ p. if p then Ends Done else Goes F2 (record a { top = ref_of r.plan.setup.bits f.found })) e) in
         (subst (CallIsAt r t continues F2) (sym x) ((after_f1 r s t prologue a f.found st f.did).1 e), ap (λ c. c.node) x, ap (λ c. c.mark) x)
 
 -- F2 goes on to F3 with the same registers
@@ -141,10 +141,10 @@ module _ (r : Arena) (s u t x : Seat) (prologue : Prologue) (h : Held) (a b c : 
   walked : Passes (view s) (view t) (one ∷ two ∷ [])
   walked = pass_then (view s) (view u) (view t) (one ∷ []) (two ∷ []) (pass_on r s u prologue F1 f.found f.did refl (none_due (after_prologue r.plan.setup (view s).number prologue (view s).actor) st.knows.early) refl) (pass_on r u t continues F2 g.found g.did refl tt refl)
 
-  same_top : (p : Bool) → same_ref (ref_of k.found) c.top ≡ p → same_ref k.did.told.was.world.shared.free (after_prologue r.plan.setup (view t).number continues (view t).actor).top ≡ p
+  same_top : (p : Bool) → same_ref (ref_of r.plan.setup.bits k.found) c.top ≡ p → same_ref k.did.told.was.world.shared.free (after_prologue r.plan.setup (view t).number continues (view t).actor).top ≡ p
   same_top p e = (λ i. same_ref (sym (ref_f3 r t x continues k.found k.did) i) (stands.knows.1 i)) ∙ e
 
-  turned : (p : Bool) → same_ref (ref_of k.found) c.top ≡ p → GiveTurned r x (one ∷ two ∷ three ∷ []) h (gave_of (if p then Ends Done else Goes F1 c))
+  turned : (p : Bool) → same_ref (ref_of r.plan.setup.bits k.found) c.top ≡ p → GiveTurned r x (one ∷ two ∷ three ∷ []) h (gave_of (if p then Ends Done else Goes F1 c))
   turned true e =
       let over = (after_f3 r t x continues c k.found stands k.did).0 e in
       record {
@@ -168,7 +168,7 @@ module _ (r : Arena) (s u t x : Seat) (prologue : Prologue) (h : Held) (a b c : 
         stored = then_stored s t x (then_stored s u t f.did.stored g.did.stored) k.did.stored;
         lines = one ∷ two ∷ three ∷ [];
         walks = pass_then (view s) (view t) (view x) (one ∷ two ∷ []) (three ∷ []) walked (pass_on r t x continues F3 k.found k.did refl (none_due (view t).actor stands.knows.0.early) refl);
-        turned = subst (λ o. GiveTurned r x (one ∷ two ∷ three ∷ []) h (gave_of o)) (sym k.leads_to) (turned (same_ref (ref_of k.found) c.top) refl);
+        turned = subst (λ o. GiveTurned r x (one ∷ two ∷ three ∷ []) h (gave_of o)) (sym k.leads_to) (turned (same_ref (ref_of r.plan.setup.bits k.found) c.top) refl);
       }
 
 -- an actor that begins a dequeue with this pocket

@@ -13,7 +13,7 @@ use Rattle.history.specs.declared.operations.Reply.TheVariants.{Refused}
 use Rattle.node_arena.specs.Machine.{Actor, Outcome as MachineOutcome, entry_or, with_node, dequeues, goes, ends, worn, fills_hand, empties_hand, freed, sets_aside, IsFree}
 use Rattle.node_arena.specs.Traces.{outcome_at}
 use Rattle.node_arena.specs.Prologues.{Prologue, continues, after_prologue}
-use Rattle.node_arena.specs.declared.arena.Arena.{Arena}
+use Rattle.node_arena.specs.Arenas.{Arena}
 use Rattle.node_arena.specs.declared.seats.Seat.{Seat}
 use Rattle.node_arena.specs.Seats.{IsSeat, DidStep, view}
 use Rattle.node_arena.proofs.Known.{known_before, empty_before}
@@ -22,7 +22,7 @@ use Rattle.node_arena.proofs.Tracing.{traced_reached}
 use Rattle.arena_lines.specs.declared.outcomes.Outcome.{Outcome}
 use Rattle.arena_lines.specs.declared.outcomes.Outcome.TheVariants.{Goes, Ends}
 use Rattle.arena_lines.specs.declared.outcomes.Reply.TheVariants.{Refused as IsRefused}
-use Rattle.free_list.specs.declared.outcomes.Actor.{Actor as Running}
+use Rattle.free_list.specs.Running.{Running}
 use Rattle.free_list.specs.Runs.{follow, AgreesAt, CallIsAt}
 use Rattle.free_list.specs.Takes.{WasThere, IsRefusedBy}
 use Rattle.free_list.proofs.Steps.{ref_n2, ref_n3, ref_n4, ref_f1, ref_f3}
@@ -93,8 +93,8 @@ module _ (r : Arena) (s t : Seat) (prologue : Prologue) (a : Running) (n : ℕ) 
           stands_on r t N3 (record a { top = d.told.was.world.shared.free }) d.seat (ap (λ c. c.line) o.1) (ap (λ c. c.top) o.1)
 
   -- N3
-  pub after_n3 : CallIsAt r s prologue N3 a → (d : DidStep r s t prologue N3 n) → CallIsAt r t continues N4 (record a { next = ref_of n })
-  after_n3 h d = stands_on r t N4 (record a { next = ref_of n }) d.seat (ap (λ x. x.line) d.told.actor) (ap (λ x. x.top) d.told.actor ∙ h.knows, ap (λ x. x.next) d.told.actor ∙ sym (ref_n3 r s t prologue n d))
+  pub after_n3 : CallIsAt r s prologue N3 a → (d : DidStep r s t prologue N3 n) → CallIsAt r t continues N4 (record a { next = ref_of r.plan.setup.bits n })
+  after_n3 h d = stands_on r t N4 (record a { next = ref_of r.plan.setup.bits n }) d.seat (ap (λ x. x.line) d.told.actor) (ap (λ x. x.top) d.told.actor ∙ h.knows, ap (λ x. x.next) d.told.actor ∙ sym (ref_n3 r s t prologue n d))
 
   -- a node came into the hand, or the turn failed
   pub record Holding (l : Line) (d : DidStep r s t prologue l n) (a' : Running) : Type 0 where
@@ -118,13 +118,13 @@ module _ (r : Arena) (s t : Seat) (prologue : Prologue) (a : Running) (n : ℕ) 
   third now p due = if p then freed r.plan.setup.kind now due (empties_hand b) else goes F1 b
 
   -- N4
-  pub after_n4 : CallIsAt r s prologue N4 a → (d : DidStep r s t prologue N4 n) → (same_ref (ref_of n) a.top ≡ true → Holding N4 d (record a { node = a.top.node; mark = a.next.count })) × (same_ref (ref_of n) a.top ≡ false → CallIsAt r t continues N1 a)
+  pub after_n4 : CallIsAt r s prologue N4 a → (d : DidStep r s t prologue N4 n) → (same_ref (ref_of r.plan.setup.bits n) a.top ≡ true → Holding N4 d (record a { node = a.top.node; mark = a.next.count })) × (same_ref (ref_of r.plan.setup.bits n) a.top ≡ false → CallIsAt r t continues N1 a)
   after_n4 h d = (won, lost)
     where
-      same : (p : Bool) → same_ref (ref_of n) a.top ≡ p → same_ref d.told.was.world.shared.free b.top ≡ p
+      same : (p : Bool) → same_ref (ref_of r.plan.setup.bits n) a.top ≡ p → same_ref d.told.was.world.shared.free b.top ≡ p
       same p e = (λ i. same_ref (sym (ref_n4 r s t prologue n d) i) (h.knows.0 i)) ∙ e
 
-      won : same_ref (ref_of n) a.top ≡ true → Holding N4 d (record a { node = a.top.node; mark = a.next.count })
+      won : same_ref (ref_of r.plan.setup.bits n) a.top ≡ true → Holding N4 d (record a { node = a.top.node; mark = a.next.count })
       won e =
           let o = settled_as N4 d (fourth true) (ap fourth (same true e)) in
           let is : d.told.was.world.shared.free ≡ a.top = same_ref-true d.told.was.world.shared.free b.top (same true e) ∙ h.knows.0 in
@@ -138,7 +138,7 @@ module _ (r : Arena) (s t : Seat) (prologue : Prologue) (a : Running) (n : ℕ) 
             there = inl (subst (IsFree d.told.was.world) (ap (λ x. x.node) is) (first_is_free d.told.was.world (traced_reached d.told.was d.told.reached) (subst (λ (x : Ref). 1 ≤ x.node) (sym is) some)));
           }
 
-      lost : same_ref (ref_of n) a.top ≡ false → CallIsAt r t continues N1 a
+      lost : same_ref (ref_of r.plan.setup.bits n) a.top ≡ false → CallIsAt r t continues N1 a
       lost e =
           let o = settled_as N4 d (fourth false) (ap fourth (same false e)) in
           stands_on r t N1 a d.seat (ap (λ c. c.line) o.1) tt
@@ -174,19 +174,19 @@ module _ (r : Arena) (s t : Seat) (prologue : Prologue) (a : Running) (n : ℕ) 
   IsShelved = (view t).actor.line ≡ Some (dequeues r.plan.setup.kind)
 
   -- F1
-  pub after_f1 : CallIsAt r s prologue F1 a → (d : DidStep r s t prologue F1 n) → (nat_eq (ref_of n).count r.plan.setup.limit ≡ true → IsShelved) × (nat_eq (ref_of n).count r.plan.setup.limit ≡ false → CallIsAt r t continues F2 (record a { top = ref_of n }))
+  pub after_f1 : CallIsAt r s prologue F1 a → (d : DidStep r s t prologue F1 n) → (nat_eq (ref_of r.plan.setup.bits n).count r.plan.setup.limit ≡ true → IsShelved) × (nat_eq (ref_of r.plan.setup.bits n).count r.plan.setup.limit ≡ false → CallIsAt r t continues F2 (record a { top = ref_of r.plan.setup.bits n }))
   after_f1 h d = (λ e. ap (λ c. c.line) (went true e).1, on)
     where
-      same : (p : Bool) → nat_eq (ref_of n).count r.plan.setup.limit ≡ p → nat_eq d.told.was.world.shared.free.count r.plan.setup.limit ≡ p
+      same : (p : Bool) → nat_eq (ref_of r.plan.setup.bits n).count r.plan.setup.limit ≡ p → nat_eq d.told.was.world.shared.free.count r.plan.setup.limit ≡ p
       same p e = ap (λ x. nat_eq x.count r.plan.setup.limit) (sym (ref_f1 r s t prologue n d)) ∙ e
 
-      went : (p : Bool) → nat_eq (ref_of n).count r.plan.setup.limit ≡ p → (x : Option ℕ) × ((view t).actor ≡ record (first (d.told.was.world.steps + 1) d.told.was.world.shared.free p None).actor { entry = x })
+      went : (p : Bool) → nat_eq (ref_of r.plan.setup.bits n).count r.plan.setup.limit ≡ p → (x : Option ℕ) × ((view t).actor ≡ record (first (d.told.was.world.steps + 1) d.told.was.world.shared.free p None).actor { entry = x })
       went p e = settled_as F1 d (first (d.told.was.world.steps + 1) d.told.was.world.shared.free p None) (λ i. first (d.told.was.world.steps + 1) d.told.was.world.shared.free (same p e i) (h.knows.early i))
 
-      on : nat_eq (ref_of n).count r.plan.setup.limit ≡ false → CallIsAt r t continues F2 (record a { top = ref_of n })
+      on : nat_eq (ref_of r.plan.setup.bits n).count r.plan.setup.limit ≡ false → CallIsAt r t continues F2 (record a { top = ref_of r.plan.setup.bits n })
       on e =
           let o = went false e in
-          stands_on r t F2 (record a { top = ref_of n }) d.seat (ap (λ c. c.line) o.1)
+          stands_on r t F2 (record a { top = ref_of r.plan.setup.bits n }) d.seat (ap (λ c. c.line) o.1)
           (record { node = ap (λ c. c.node) o.1 ∙ h.knows.node; mark = ap (λ c. c.mark) o.1 ∙ h.knows.mark; early = ap (λ c. c.due) o.1 ∙ h.knows.early }, ap (λ c. c.top) o.1 ∙ sym (ref_f1 r s t prologue n d))
 
   -- F2
@@ -195,13 +195,13 @@ module _ (r : Arena) (s t : Seat) (prologue : Prologue) (a : Running) (n : ℕ) 
       (record { node = ap (λ c. c.node) d.told.actor ∙ h.knows.0.node; mark = ap (λ c. c.mark) d.told.actor ∙ h.knows.0.mark; early = ap (λ c. c.due) d.told.actor ∙ h.knows.0.early }, ap (λ c. c.top) d.told.actor ∙ h.knows.1)
 
   -- F3
-  pub after_f3 : CallIsAt r s prologue F3 a → (d : DidStep r s t prologue F3 n) → (same_ref (ref_of n) a.top ≡ true → IsShelved) × (same_ref (ref_of n) a.top ≡ false → CallIsAt r t continues F1 a)
+  pub after_f3 : CallIsAt r s prologue F3 a → (d : DidStep r s t prologue F3 n) → (same_ref (ref_of r.plan.setup.bits n) a.top ≡ true → IsShelved) × (same_ref (ref_of r.plan.setup.bits n) a.top ≡ false → CallIsAt r t continues F1 a)
   after_f3 h d = (λ e. ap (λ c. c.line) (went true e).1, lost)
     where
-      went : (p : Bool) → same_ref (ref_of n) a.top ≡ p → (x : Option ℕ) × ((view t).actor ≡ record (third (d.told.was.world.steps + 1) p None).actor { entry = x })
+      went : (p : Bool) → same_ref (ref_of r.plan.setup.bits n) a.top ≡ p → (x : Option ℕ) × ((view t).actor ≡ record (third (d.told.was.world.steps + 1) p None).actor { entry = x })
       went p e = settled_as F3 d (third (d.told.was.world.steps + 1) p None) (λ i. third (d.told.was.world.steps + 1) (((λ j. same_ref (sym (ref_f3 r s t prologue n d) j) (h.knows.1 j)) ∙ e) i) (h.knows.0.early i))
 
-      lost : same_ref (ref_of n) a.top ≡ false → CallIsAt r t continues F1 a
+      lost : same_ref (ref_of r.plan.setup.bits n) a.top ≡ false → CallIsAt r t continues F1 a
       lost e =
           let o = went false e in
           stands_on r t F1 a d.seat (ap (λ c. c.line) o.1)

@@ -4,13 +4,13 @@ use Rattle.counted_ref.specs.Ref.{Ref, ref_of, reserved_node, count_bits}
 use Rattle.line_table.specs.declared.lines.Line.TheVariants.{N1, N2, N3, N4, N5, F1, F2, F3}
 use Rattle.node_arena.specs.Machine.{Setup, node_at, WordFree, WordNext}
 use Rattle.node_arena.specs.Prologues.{Prologue, continues, after_prologue}
-use Rattle.node_arena.specs.declared.arena.Arena.{Arena}
+use Rattle.node_arena.specs.Arenas.{Arena}
 use Rattle.node_arena.specs.declared.seats.Seat.{Seat}
 use Rattle.node_arena.specs.Seats.{DidStep, view}
 use Rattle.node_arena.proofs.Told.{was_in_range, was_fits}
 use Rattle.node_arena.proofs.Known.{known_before}
 use Rattle.node_arena.proofs.Reading.{read_back}
-use Rattle.free_list.specs.declared.outcomes.Actor.{Actor as Running}
+use Rattle.free_list.specs.Running.{Running}
 use Rattle.free_list.specs.Runs.{CallIsAt}
 
 module _ (r : Arena) (s : Seat) (a : Running) where
@@ -22,17 +22,17 @@ module _ (r : Arena) (s : Seat) (a : Running) where
   room_f3 z e h = omega (arith, (known_before r s continues F3 h.before).room, ap (λ (x : Ref). x.count) h.knows.1, ap (λ (y : Setup). y.limit) e)
 
   -- a node is left at N5
-  pub left_n5 : CallIsAt r s continues N5 a → a.f + 1 < reserved_node
+  pub left_n5 : CallIsAt r s continues N5 a → a.f + 1 < reserved_node r.plan.setup.bits
   left_n5 h = omega (arith, (known_before r s continues N5 h.before).left, h.knows, h.before.seat.arena.sized.numbered)
 
   -- the node and the mark that F2 writes, and the node that F3 does
-  pub top_f2 : CallIsAt r s continues F2 a → a.top.node < reserved_node
+  pub top_f2 : CallIsAt r s continues F2 a → a.top.node < reserved_node r.plan.setup.bits
   top_f2 h = let k = known_before r s continues F2 h.before in omega (arith, k.within, k.registers.top.node, ap (λ (x : Ref). x.node) h.knows.1, h.before.seat.arena.sized.numbered)
 
-  pub mark_f2 : CallIsAt r s continues F2 a → a.mark < 2 ^ count_bits
+  pub mark_f2 : CallIsAt r s continues F2 a → a.mark < 2 ^ count_bits r.plan.setup.bits
   mark_f2 h = omega (arith, (known_before r s continues F2 h.before).registers.mark, h.knows.0.mark, h.before.seat.arena.sized.counted)
 
-  pub node_f3 : CallIsAt r s continues F3 a → a.node < reserved_node
+  pub node_f3 : CallIsAt r s continues F3 a → a.node < reserved_node r.plan.setup.bits
   node_f3 h = let k = known_before r s continues F3 h.before in omega (arith, k.within, k.registers.node, h.knows.0.node, h.before.seat.arena.sized.numbered)
 
 module _ (r : Arena) (s t : Seat) (prologue : Prologue) (n : ℕ) where
@@ -43,17 +43,17 @@ module _ (r : Arena) (s t : Seat) (prologue : Prologue) (n : ℕ) where
   taken_small d = let h = (was_in_range r.plan prologue N5 n (view s) (view t) d.told).shared.fresh in let e = d.told.found in let z = ap (λ z. z.size) d.told.setup in omega arith
 
   -- the references found at the lines that read one
-  pub ref_n2 : (d : DidStep r s t prologue N2 n) → ref_of n ≡ d.told.was.world.shared.free
-  ref_n2 d = read_back d.told.was.world.shared.free n (was_fits r.plan prologue N2 n (view s) (view t) d.told WordFree) d.told.found
+  pub ref_n2 : (d : DidStep r s t prologue N2 n) → ref_of r.plan.setup.bits n ≡ d.told.was.world.shared.free
+  ref_n2 d = read_back r.plan.setup.bits d.told.sized.split d.told.was.world.shared.free n (was_fits r.plan prologue N2 n (view s) (view t) d.told WordFree) d.told.found
 
-  pub ref_n3 : (d : DidStep r s t prologue N3 n) → ref_of n ≡ (node_at d.told.was.world.shared (after_prologue r.plan.setup (view s).number prologue (view s).actor).top.node).next
-  ref_n3 d = read_back (node_at d.told.was.world.shared (after_prologue r.plan.setup (view s).number prologue (view s).actor).top.node).next n (was_fits r.plan prologue N3 n (view s) (view t) d.told (WordNext (after_prologue r.plan.setup (view s).number prologue (view s).actor).top.node)) d.told.found
+  pub ref_n3 : (d : DidStep r s t prologue N3 n) → ref_of r.plan.setup.bits n ≡ (node_at d.told.was.world.shared (after_prologue r.plan.setup (view s).number prologue (view s).actor).top.node).next
+  ref_n3 d = read_back r.plan.setup.bits d.told.sized.split (node_at d.told.was.world.shared (after_prologue r.plan.setup (view s).number prologue (view s).actor).top.node).next n (was_fits r.plan prologue N3 n (view s) (view t) d.told (WordNext (after_prologue r.plan.setup (view s).number prologue (view s).actor).top.node)) d.told.found
 
-  pub ref_n4 : (d : DidStep r s t prologue N4 n) → ref_of n ≡ d.told.was.world.shared.free
-  ref_n4 d = read_back d.told.was.world.shared.free n (was_fits r.plan prologue N4 n (view s) (view t) d.told WordFree) d.told.found
+  pub ref_n4 : (d : DidStep r s t prologue N4 n) → ref_of r.plan.setup.bits n ≡ d.told.was.world.shared.free
+  ref_n4 d = read_back r.plan.setup.bits d.told.sized.split d.told.was.world.shared.free n (was_fits r.plan prologue N4 n (view s) (view t) d.told WordFree) d.told.found
 
-  pub ref_f1 : (d : DidStep r s t prologue F1 n) → ref_of n ≡ d.told.was.world.shared.free
-  ref_f1 d = read_back d.told.was.world.shared.free n (was_fits r.plan prologue F1 n (view s) (view t) d.told WordFree) d.told.found
+  pub ref_f1 : (d : DidStep r s t prologue F1 n) → ref_of r.plan.setup.bits n ≡ d.told.was.world.shared.free
+  ref_f1 d = read_back r.plan.setup.bits d.told.sized.split d.told.was.world.shared.free n (was_fits r.plan prologue F1 n (view s) (view t) d.told WordFree) d.told.found
 
-  pub ref_f3 : (d : DidStep r s t prologue F3 n) → ref_of n ≡ d.told.was.world.shared.free
-  ref_f3 d = read_back d.told.was.world.shared.free n (was_fits r.plan prologue F3 n (view s) (view t) d.told WordFree) d.told.found
+  pub ref_f3 : (d : DidStep r s t prologue F3 n) → ref_of r.plan.setup.bits n ≡ d.told.was.world.shared.free
+  ref_f3 d = read_back r.plan.setup.bits d.told.sized.split d.told.was.world.shared.free n (was_fits r.plan prologue F3 n (view s) (view t) d.told WordFree) d.told.found

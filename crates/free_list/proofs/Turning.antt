@@ -9,7 +9,7 @@ use Rattle.history.specs.declared.refusals.Refusal.{Refusal}
 use Rattle.node_arena.specs.Machine.{with_node}
 use Rattle.node_arena.specs.Traces.{Event}
 use Rattle.node_arena.specs.Prologues.{Prologue, continues}
-use Rattle.node_arena.specs.declared.arena.Arena.{Arena}
+use Rattle.node_arena.specs.Arenas.{Arena}
 use Rattle.node_arena.specs.declared.seats.Seat.{Seat}
 use Rattle.node_arena.specs.Seats.{IsBefore, KeepsStored, DidStep, view}
 use Rattle.node_arena.specs.Turns.{failed_at, failed_turns, at_n1}
@@ -18,7 +18,7 @@ use Rattle.node_arena.proofs.Paths.{pass_then, then_stored, failed_snoc, event, 
 use Rattle.arena_lines.specs.declared.outcomes.Outcome.{Outcome}
 use Rattle.arena_lines.specs.declared.outcomes.Outcome.TheVariants.{Goes, Ends}
 use Rattle.arena_lines.specs.declared.outcomes.Reply.TheVariants.{Done, Value, Empty, Refused as IsRefused}
-use Rattle.free_list.specs.declared.outcomes.Actor.{Actor as Running}
+use Rattle.free_list.specs.Running.{Running}
 use Rattle.free_list.specs.declared.outcomes.Turn.TheVariants.{Refused}
 use Rattle.free_list.specs.Runs.{in_hand, turn_of, CallIsAt, Follows}
 use Rattle.free_list.specs.Takes.{Got, Fell, Turned, Turns}
@@ -138,7 +138,7 @@ module _ (r : Arena) (s u t : Seat) (prologue : Prologue) (a a1 : Running) (l1 :
       go false w = fell r s t x N5 y.found y.did looks look_walk.walks refl (λ o. refl) b ((after_n5 r t x continues b y.found (to_n5 k b e is) y.did).1 w)
 
   pub to_n4 : (k m : Line) (b c : Running) (x : Seat) → out ≡ Goes k b → k ≢ N5 → Follows r t x continues N3 b (Goes m c) → CallIsAt r x continues N4 c
-  to_n4 k m b c x e other y = subst (CallIsAt r x continues N4) (sym (same_registers m N4 c (record b { next = ref_of y.found }) y.leads_to)) (after_n3 r t x continues b y.found (to_n3 k b e other) y.did)
+  to_n4 k m b c x e other y = subst (CallIsAt r x continues N4) (sym (same_registers m N4 c (record b { next = ref_of r.plan.setup.bits y.found }) y.leads_to)) (after_n3 r t x continues b y.found (to_n3 k b e other) y.did)
 
   -- a turn that ends at N4
   pub reuse_turn : (k m : Line) (b c : Running) (x v : Seat) (last : Outcome Running) → out ≡ Goes k b → k ≢ N5 → Follows r t x continues N3 b (Goes m c) → Follows r x v continues N4 c last → Turns r s v (turn_of last)
@@ -147,12 +147,12 @@ module _ (r : Arena) (s u t : Seat) (prologue : Prologue) (a a1 : Running) (l1 :
         stored = then_stored s x v (then_stored s t x look_stored y.did.stored) z.did.stored;
         lines = (looks ++ event r t x continues N3 y.found y.did ∷ []) ++ event r x v continues N4 z.found z.did ∷ [];
         walks = pass_then (view s) (view x) (view v) (looks ++ event r t x continues N3 y.found y.did ∷ []) (event r x v continues N4 z.found z.did ∷ []) walked (pass_on r x v continues N4 z.found z.did refl tt refl);
-        turned = subst (λ o. Turned r s v ((looks ++ event r t x continues N3 y.found y.did ∷ []) ++ event r x v continues N4 z.found z.did ∷ []) (turn_of o)) (sym z.leads_to) (go (same_ref (ref_of z.found) c.top) refl);
+        turned = subst (λ o. Turned r s v ((looks ++ event r t x continues N3 y.found y.did ∷ []) ++ event r x v continues N4 z.found z.did ∷ []) (turn_of o)) (sym z.leads_to) (go (same_ref (ref_of r.plan.setup.bits z.found) c.top) refl);
       }
     where
       walked : Passes (view s) (view x) (looks ++ event r t x continues N3 y.found y.did ∷ [])
       walked = pass_then (view s) (view t) (view x) looks (event r t x continues N3 y.found y.did ∷ []) look_walk (pass_on r t x continues N3 y.found y.did refl tt refl)
 
-      go : (p : Bool) → same_ref (ref_of z.found) c.top ≡ p → Turned r s v ((looks ++ event r t x continues N3 y.found y.did ∷ []) ++ event r x v continues N4 z.found z.did ∷ []) (turn_of (if p then Goes (with_node r.plan.setup.kind) (record c { node = c.top.node; mark = c.next.count }) else Goes N1 c))
+      go : (p : Bool) → same_ref (ref_of r.plan.setup.bits z.found) c.top ≡ p → Turned r s v ((looks ++ event r t x continues N3 y.found y.did ∷ []) ++ event r x v continues N4 z.found z.did ∷ []) (turn_of (if p then Goes (with_node r.plan.setup.kind) (record c { node = c.top.node; mark = c.next.count }) else Goes N1 c))
       go true w = took_at r.plan.setup.kind r s v _ (record c { node = c.top.node; mark = c.next.count }) (got r s x v N4 z.found z.did (looks ++ event r t x continues N3 y.found y.did ∷ []) walked.walks refl (λ o. refl) c (record c { node = c.top.node; mark = c.next.count }) ((after_n4 r x v continues c z.found (to_n4 k m b c x e other y) z.did).0 w))
       go false w = fell r s x v N4 z.found z.did (looks ++ event r t x continues N3 y.found y.did ∷ []) walked.walks refl (λ o. refl) c ((after_n4 r x v continues c z.found (to_n4 k m b c x e other y) z.did).1 w)

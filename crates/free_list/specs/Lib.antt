@@ -1,3 +1,4 @@
+pub mod Running
 pub mod Runs
 pub mod Takes
 pub mod Gives

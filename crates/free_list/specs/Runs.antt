@@ -8,13 +8,13 @@ use Rattle.history.specs.declared.refusals.Refusal.TheVariants.{NoNode, WornOut}
 use Rattle.history.specs.declared.operations.Op.TheVariants.{Enq, Deq}
 use Rattle.node_arena.specs.Machine.{Setup, Held, Actor, with_node}
 use Rattle.node_arena.specs.Prologues.{Prologue, continues, begins, after_prologue}
-use Rattle.node_arena.specs.declared.arena.Arena.{Arena}
+use Rattle.node_arena.specs.Arenas.{Arena}
 use Rattle.node_arena.specs.declared.seats.Seat.{Seat}
 use Rattle.node_arena.specs.Seats.{IsBefore, DidStep, view}
 use Rattle.arena_lines.specs.declared.outcomes.Reply.TheVariants.{Done, Refused as IsRefused}
 use Rattle.arena_lines.specs.declared.outcomes.Outcome.{Outcome}
 use Rattle.arena_lines.specs.declared.outcomes.Outcome.TheVariants.{Goes, Ends}
-use Rattle.free_list.specs.declared.outcomes.Actor.{Actor as Running}
+use Rattle.free_list.specs.Running.{Running}
 use Rattle.free_list.specs.declared.outcomes.Turn.{Turn}
 use Rattle.free_list.specs.declared.outcomes.Turn.TheVariants.{Took, Failed, Refused}
 use Rattle.free_list.specs.declared.outcomes.Gave.{Gave}
@@ -34,18 +34,18 @@ giving (suc n) = continues
 abbrev pub follow : Setup → Running → Line → ℕ → Outcome Running
 follow z a N1 n = Goes N2 (record a { f = n })
 follow z a N2 n =
-    let b = record a { top = ref_of n } in
-    if is_null (ref_of n)
+    let b = record a { top = ref_of z.bits n } in
+    if is_null (ref_of z.bits n)
     then if nat_lt a.f z.size then Goes N5 b else Ends (IsRefused NoNode)
-    else if nat_eq (ref_of n).count z.limit then Ends (IsRefused (WornOut OfFree))
+    else if nat_eq (ref_of z.bits n).count z.limit then Ends (IsRefused (WornOut OfFree))
     else Goes N3 b
-follow z a N3 n = Goes N4 (record a { next = ref_of n })
+follow z a N3 n = Goes N4 (record a { next = ref_of z.bits n })
 follow z a N4 n =
-    if same_ref (ref_of n) a.top then Goes (with_node z.kind) (record a { node = a.top.node; mark = a.next.count }) else Goes N1 a
+    if same_ref (ref_of z.bits n) a.top then Goes (with_node z.kind) (record a { node = a.top.node; mark = a.next.count }) else Goes N1 a
 follow z a N5 n = if nat_eq n a.f then Goes (with_node z.kind) (record a { node = a.f + 1; mark = 0 }) else Goes N1 a
-follow z a F1 n = if nat_eq (ref_of n).count z.limit then Ends Done else Goes F2 (record a { top = ref_of n })
+follow z a F1 n = if nat_eq (ref_of z.bits n).count z.limit then Ends Done else Goes F2 (record a { top = ref_of z.bits n })
 follow z a F2 n = Goes F3 a
-follow z a F3 n = if same_ref (ref_of n) a.top then Ends Done else Goes F1 a
+follow z a F3 n = if same_ref (ref_of z.bits n) a.top then Ends Done else Goes F1 a
 follow z a l n = Goes l a
 
 -- the node of a running call, with its mark

@@ -7,7 +7,7 @@ use Rattle.history.specs.declared.refusals.Refusal.TheVariants.{NoNode, WornOut,
 use Rattle.node_arena.specs.Machine.{Held, World, IsFree, IsUntouched, with_node}
 use Rattle.node_arena.specs.Traces.{Event}
 use Rattle.node_arena.specs.Prologues.{continues}
-use Rattle.node_arena.specs.declared.arena.Arena.{Arena}
+use Rattle.node_arena.specs.Arenas.{Arena}
 use Rattle.node_arena.specs.declared.seats.Seat.{Seat}
 use Rattle.node_arena.specs.Seats.{IsSeat, IsBefore, IsReady, KeepsStored, KeepsName, view, pocket_of, failed_of}
 use Rattle.node_arena.specs.Turns.{failed_turns}

@@ -5,50 +5,54 @@ ghost use Rattle.node_arena.specs.Seats.{IsReady, KeepsName, permits_of, known_o
 ghost use Rattle.node_arena.specs.Turns.{failed_turns};
 ghost use Rattle.node_arena.specs.Paths.{HadNoEffect, SeesNoMore, added};
 ghost use Rattle.line_table.specs.declared.lines.Line.TheVariants as lines;
-ghost use Rattle.node_arena.specs.Prologues.{Prologue, continues};
+ghost use Rattle.node_arena.specs.Prologues.{continues};
 ghost use Rattle.free_list.specs.Runs.{CallIsAt, Follows, StartsGive, giving};
 ghost use Rattle.free_list.specs.Gives.{GiveTurns, GiveAnswers, IsGivenBack, GiveBackRefused};
 
-use crate::outcomes::{Actor, Gave, given, registers};
-use arena_lines::{Outcome, access, frees, frees_aside, goes, onward, row};
-use counted_ref::CountedRef;
+use crate::outcomes::{ActorOf, Gave, given, registers};
+use arena_lines::{Outcome, access, first_row, frees, frees_aside, goes, onward, row};
+use counted_ref::CountedRefOf;
 use history::Refusal;
 use line_table::{Line, line_table};
-use node_arena::{Arena, Held, Seat, raised};
+use node_arena::{ArenaOf, Held, Seat, raised};
 
 /// `index` turns of this call failed before.
-fn f1(arena: &Arena, seat: &mut Seat, mut a: Actor, index: u32) -> Outcome<Actor>
-    ghost prologue: { Prologue }
-    requires { CallIsAt arena.now seat.old prologue lines.F1 a }
-    ensures { Follows arena.now seat.old seat.new prologue lines.F1 a result }
+fn f1<const B: u32>(
+    arena: &ArenaOf<B>,
+    seat: &mut Seat,
+    mut a: ActorOf<B>,
+    index: u32,
+) -> Outcome<ActorOf<B>>
+    requires stands { CallIsAt arena.now seat.old (giving index) lines.F1 a }
+    ensures { Follows arena.now seat.old seat.new (giving index) lines.F1 a.entry result }
 {
-    let _ = index;
     let setup = arena.setup();
-    line_table!(F1 (setup me a found) row (arena seat found))
+    line_table!(F1 (setup me a found) first_row (arena seat found index))
 }
 
-fn f2(arena: &Arena, seat: &mut Seat, a: Actor) -> Actor
-    requires { CallIsAt arena.now seat.old continues lines.F2 a }
-    ensures { Follows arena.now seat.old seat.new continues lines.F2 a (Outcome.Goes lines.F3 result) }
+fn f2<const B: u32>(arena: &ArenaOf<B>, seat: &mut Seat, a: ActorOf<B>) -> ActorOf<B>
+    requires stands { CallIsAt arena.now seat.old continues lines.F2 a }
+    ensures { Follows arena.now seat.old seat.new continues lines.F2 a.entry (Outcome.Goes lines.F3 result) }
 {
     use onward::goes;
+    let _ = arena.setup();
     line_table!(F2 (setup me a found) row (arena seat found))
 }
 
-fn f3(arena: &Arena, seat: &mut Seat, a: Actor) -> Outcome<Actor>
-    requires { CallIsAt arena.now seat.old continues lines.F3 a }
-    ensures { Follows arena.now seat.old seat.new continues lines.F3 a result }
+fn f3<const B: u32>(arena: &ArenaOf<B>, seat: &mut Seat, a: ActorOf<B>) -> Outcome<ActorOf<B>>
+    requires stands { CallIsAt arena.now seat.old continues lines.F3 a }
+    ensures { Follows arena.now seat.old seat.new continues lines.F3 a.entry result }
 {
     let setup = arena.setup();
     line_table!(F3 (setup me a found) row (arena seat found))
 }
 
 // One turn, where `index` turns of this call failed before.
-fn give_turn(arena: &Arena, seat: &mut Seat, held: Held, index: u32) -> Gave
+fn give_turn<const B: u32>(arena: &ArenaOf<B>, seat: &mut Seat, held: Held, index: u32) -> Gave
     requires { StartsGive arena.now seat.old (giving index) held }
     ensures { GiveTurns arena.now seat.old seat.new held result }
 {
-    let Outcome::Goes(_, a) = f1(arena, seat, registers(held.node, held.mark), index) else {
+    let Outcome::Goes(_, a) = f1(arena, seat, registers(arena, held.node, held.mark), index) else {
         return Gave::Back;
     };
     let a = f2(arena, seat, a);
@@ -56,7 +60,7 @@ fn give_turn(arena: &Arena, seat: &mut Seat, held: Held, index: u32) -> Gave
 }
 
 // Turns until one succeeds, or all failed.
-fn give_within(arena: &Arena, seat: &mut Seat, turns: u32) -> Result<(), Refusal>
+fn give_within<const B: u32>(arena: &ArenaOf<B>, seat: &mut Seat, turns: u32) -> Result<(), Refusal>
     requires ready { IsReady arena.now seat.old }
     requires full { IsSome (pocket_of seat.old) }
     requires turns { 1 ≤ turns }
@@ -78,7 +82,11 @@ fn give_within(arena: &Arena, seat: &mut Seat, turns: u32) -> Result<(), Refusal
 ///
 /// Refused by `Busy` alone, where each of so many turns failed, 1 or more: each met a changed word. The node is then
 /// still in the pocket. Takes no memory and doesn't wait.
-pub fn give_back(arena: &Arena, seat: &mut Seat, turns: u32) -> Result<(), Refusal>
+pub fn give_back<const B: u32>(
+    arena: &ArenaOf<B>,
+    seat: &mut Seat,
+    turns: u32,
+) -> Result<(), Refusal>
     requires ready { IsReady arena.now seat.old }
     requires full { IsSome (pocket_of seat.old) }
     requires turns { 1 ≤ turns }

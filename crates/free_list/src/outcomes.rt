@@ -3,19 +3,30 @@ ghost use Rattle.std.specs.Prelude.{◌≡◌};
 ghost use Rattle.free_list.specs.Runs.{turn_of, gave_of};
 
 use arena_lines::{Outcome, Reply};
-use counted_ref::CountedRef;
+use counted_ref::CountedRefOf;
 use history::Refusal;
 use line_table::Line;
-use node_arena::Held;
+use node_arena::{ArenaOf, Held};
+use std::marker::Model;
 
 /// The registers of a running call.
 #[derive(Clone, Copy)]
-pub(crate) struct Actor {
+pub(crate) struct ActorOf<const B: u32> {
     pub(crate) f: u32,
-    pub(crate) top: CountedRef,
-    pub(crate) next: CountedRef,
+    pub(crate) top: CountedRefOf<B>,
+    pub(crate) next: CountedRefOf<B>,
     pub(crate) node: u32,
     pub(crate) mark: u64,
+}
+
+impl<const B: u32> Model for ActorOf<B> {
+    ghost use Rattle.free_list.specs.Running.{Running};
+
+    ghost Value = { Running };
+
+    ghost view = { λ a. record { f = a.f; top = a.top; next = a.next; node = a.node; mark = a.mark } };
+
+    ghost inverse = { λ a. record { f = a.f; top = a.top; next = a.next; node = a.node; mark = a.mark } };
 }
 
 /// What a turn of a take comes to.
@@ -39,12 +50,12 @@ pub(crate) enum Gave {
 }
 
 /// Registers with this node and mark, and nothing read.
-pub(crate) fn registers(node: u32, mark: u64) -> Actor
+pub(crate) fn registers<const B: u32>(arena: &ArenaOf<B>, node: u32, mark: u64) -> ActorOf<B>
     ensures node { result.node ≡ node }
     ensures mark { result.mark ≡ mark }
 {
-    let null = CountedRef::new(0, 0);
-    Actor {
+    let null = arena.null();
+    ActorOf {
         f: 0,
         top: null,
         next: null,
@@ -53,7 +64,7 @@ pub(crate) fn registers(node: u32, mark: u64) -> Actor
     }
 }
 
-impl Actor {
+impl<const B: u32> ActorOf<B> {
     pub(crate) fn fills_hand(&mut self, node: u32, mark: u64)
         ensures { self.new ≡ record self.old { node = node; mark = mark } }
     {
@@ -63,8 +74,8 @@ impl Actor {
 }
 
 /// The turn of a take that ends so.
-pub(crate) fn turned(outcome: Outcome<Actor>) -> Turn
-    ensures { result ≡ turn_of outcome }
+pub(crate) fn turned<const B: u32>(outcome: Outcome<ActorOf<B>>) -> Turn
+    ensures { result ≡ turn_of outcome.entry }
 {
     match outcome {
         Outcome::Goes(Line::N1, _) => Turn::Failed,
@@ -78,8 +89,8 @@ pub(crate) fn turned(outcome: Outcome<Actor>) -> Turn
 }
 
 /// The turn of a give back that ends so.
-pub(crate) fn given(outcome: Outcome<Actor>) -> Gave
-    ensures { result ≡ gave_of outcome }
+pub(crate) fn given<const B: u32>(outcome: Outcome<ActorOf<B>>) -> Gave
+    ensures { result ≡ gave_of outcome.entry }
 {
     match outcome {
         Outcome::Ends(_) => Gave::Back,

@@ -5,65 +5,69 @@ ghost use Rattle.node_arena.specs.Seats.{IsBefore, IsReady, KeepsName, permits_o
 ghost use Rattle.node_arena.specs.Turns.{failed_turns};
 ghost use Rattle.node_arena.specs.Paths.{HadNoEffect, SeesNoMore, added};
 ghost use Rattle.line_table.specs.declared.lines.Line.TheVariants as lines;
-ghost use Rattle.node_arena.specs.Prologues.{Prologue, continues};
+ghost use Rattle.node_arena.specs.Prologues.{continues};
 ghost use Rattle.free_list.specs.Runs.{CallIsAt, Follows, taking};
 ghost use Rattle.free_list.specs.Takes.{Turns, AnswersTake, IsTaken, TakeRefused, FailsFewer};
 
-use crate::outcomes::{Actor, Turn, registers, turned};
-use arena_lines::{Outcome, Reply, access, ends, goes, onward, row, with_node, worn};
+use crate::outcomes::{ActorOf, Turn, registers, turned};
+use arena_lines::{Outcome, Reply, access, ends, first_row, goes, onward, row, with_node, worn};
 use history::{Refusal, WornWord};
 use line_table::{Line, line_table};
-use node_arena::{Arena, Held, Seat, raised_unless_shut as raised};
+use node_arena::{ArenaOf, Held, Seat, raised_unless_shut as raised};
 
 /// `index` turns of this call failed before.
-fn n1(arena: &Arena, seat: &mut Seat, mut a: Actor, index: u32) -> Actor
-    ghost prologue: { Prologue }
-    requires { CallIsAt arena.now seat.old prologue lines.N1 a }
-    ensures { Follows arena.now seat.old seat.new prologue lines.N1 a (Outcome.Goes lines.N2 result) }
+fn n1<const B: u32>(
+    arena: &ArenaOf<B>,
+    seat: &mut Seat,
+    mut a: ActorOf<B>,
+    index: u32,
+) -> ActorOf<B>
+    requires stands { CallIsAt arena.now seat.old (taking index) lines.N1 a }
+    ensures { Follows arena.now seat.old seat.new (taking index) lines.N1 a.entry
+        (Outcome.Goes lines.N2 result) }
 {
     use onward::goes;
-    let _ = index;
-    line_table!(N1 (setup me a found) row (arena seat found))
+    line_table!(N1 (setup me a found) first_row (arena seat found index))
 }
 
-fn n2(arena: &Arena, seat: &mut Seat, mut a: Actor) -> Outcome<Actor>
-    requires { CallIsAt arena.now seat.old continues lines.N2 a }
-    ensures { Follows arena.now seat.old seat.new continues lines.N2 a result }
+fn n2<const B: u32>(arena: &ArenaOf<B>, seat: &mut Seat, mut a: ActorOf<B>) -> Outcome<ActorOf<B>>
+    requires stands { CallIsAt arena.now seat.old continues lines.N2 a }
+    ensures { Follows arena.now seat.old seat.new continues lines.N2 a.entry result }
 {
     let setup = arena.setup();
     line_table!(N2 (setup me a found) row (arena seat found))
 }
 
-fn n3(arena: &Arena, seat: &mut Seat, mut a: Actor) -> Actor
-    requires { CallIsAt arena.now seat.old continues lines.N3 a }
-    ensures { Follows arena.now seat.old seat.new continues lines.N3 a (Outcome.Goes lines.N4 result) }
+fn n3<const B: u32>(arena: &ArenaOf<B>, seat: &mut Seat, mut a: ActorOf<B>) -> ActorOf<B>
+    requires stands { CallIsAt arena.now seat.old continues lines.N3 a }
+    ensures { Follows arena.now seat.old seat.new continues lines.N3 a.entry (Outcome.Goes lines.N4 result) }
 {
     use onward::goes;
     line_table!(N3 (setup me a found) row (arena seat found))
 }
 
-fn n4(arena: &Arena, seat: &mut Seat, mut a: Actor) -> Outcome<Actor>
-    requires { CallIsAt arena.now seat.old continues lines.N4 a }
-    ensures { Follows arena.now seat.old seat.new continues lines.N4 a result }
+fn n4<const B: u32>(arena: &ArenaOf<B>, seat: &mut Seat, mut a: ActorOf<B>) -> Outcome<ActorOf<B>>
+    requires stands { CallIsAt arena.now seat.old continues lines.N4 a }
+    ensures { Follows arena.now seat.old seat.new continues lines.N4 a.entry result }
 {
     let setup = arena.setup();
     line_table!(N4 (setup me a found) row (arena seat found))
 }
 
-fn n5(arena: &Arena, seat: &mut Seat, mut a: Actor) -> Outcome<Actor>
-    requires { CallIsAt arena.now seat.old continues lines.N5 a }
-    ensures { Follows arena.now seat.old seat.new continues lines.N5 a result }
+fn n5<const B: u32>(arena: &ArenaOf<B>, seat: &mut Seat, mut a: ActorOf<B>) -> Outcome<ActorOf<B>>
+    requires stands { CallIsAt arena.now seat.old continues lines.N5 a }
+    ensures { Follows arena.now seat.old seat.new continues lines.N5 a.entry result }
 {
     let setup = arena.setup();
     line_table!(N5 (setup me a found) row (arena seat found))
 }
 
 // One turn, where `index` turns of this call failed before.
-fn take_turn(arena: &Arena, seat: &mut Seat, index: u32) -> Turn
+fn take_turn<const B: u32>(arena: &ArenaOf<B>, seat: &mut Seat, index: u32) -> Turn
     requires { IsBefore arena.now seat.old (taking index) lines.N1 }
     ensures { Turns arena.now seat.old seat.new result }
 {
-    let a = n1(arena, seat, registers(0, 0), index);
+    let a = n1(arena, seat, registers(arena, 0, 0), index);
     match n2(arena, seat, a) {
         Outcome::Goes(next, a) => match next {
             Line::N5 => turned(n5(arena, seat, a)),
@@ -78,7 +82,11 @@ fn take_turn(arena: &Arena, seat: &mut Seat, index: u32) -> Turn
 
 // Turns until one succeeds or is refused, or all failed.
 #[inline(always)]
-fn take_within(arena: &Arena, seat: &mut Seat, turns: u32) -> Result<Held, Refusal>
+fn take_within<const B: u32>(
+    arena: &ArenaOf<B>,
+    seat: &mut Seat,
+    turns: u32,
+) -> Result<Held, Refusal>
     requires ready { IsReady arena.now seat.old }
     requires empty { pocket_of seat.old ≡ None }
     requires turns { 1 ≤ turns }
@@ -108,7 +116,7 @@ fn take_within(arena: &Arena, seat: &mut Seat, turns: u32) -> Result<Held, Refus
 /// count was the greatest one, and `Busy` where each of so many turns failed, 1 or more: each met a changed word. The
 /// pocket is then empty. Takes no memory and doesn't wait.
 #[inline(always)]
-pub fn take(arena: &Arena, seat: &mut Seat, turns: u32) -> Result<Held, Refusal>
+pub fn take<const B: u32>(arena: &ArenaOf<B>, seat: &mut Seat, turns: u32) -> Result<Held, Refusal>
     requires ready { IsReady arena.now seat.old }
     requires empty { pocket_of seat.old ≡ None }
     requires turns { 1 ≤ turns }

@@ -16,3 +16,4 @@ mod OwnOrders
 pub mod Learning
 pub mod Sums
 pub mod Values
+pub mod Ending

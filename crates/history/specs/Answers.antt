@@ -5,6 +5,7 @@ use Rattle.history.specs.declared.operations.Entry.TheVariants.{Push, Pop, Shut}
 use Rattle.history.specs.declared.operations.Taken.{Taken}
 use Rattle.history.specs.declared.refusals.Refusal.{Refusal}
 use Rattle.history.specs.declared.refusals.Refusal.TheVariants.{NoNode, WornOut, Busy, Closed}
+use Rattle.history.specs.declared.refusals.WornWord.TheVariants.{Tail as OfTail}
 use Rattle.history.specs.Entries.{LeadsTo, LeadsToShut, Leads}
 use Rattle.history.specs.Seats.{Known}
 
@@ -84,9 +85,9 @@ StopsPop Busy = Unit {0}
 StopsPop Closed = Unit {0}
 StopsPop _ = ⊥
 
--- a shut may be refused so: a word was worn out, others were in the way, or the queue was shut before
+-- a shut may be refused so: Tail was worn out, others were in the way, or the queue was shut before
 abbrev pub StopsShut : Refusal → Type 0
-StopsShut (WornOut word) = Unit {0}
+StopsShut (WornOut OfTail) = Unit {0}
 StopsShut Busy = Unit {0}
 StopsShut Closed = Unit {0}
 StopsShut _ = ⊥
@@ -114,9 +115,9 @@ EndsPop (WornOut word) = Unit {0}
 EndsPop Closed = Unit {0}
 EndsPop _ = ⊥
 
--- a shut that waits may be refused so: a word was worn out, or the queue was shut before
+-- a shut that waits may be refused so: Tail was worn out, or the queue was shut before
 abbrev pub EndsShut : Refusal → Type 0
-EndsShut (WornOut word) = Unit {0}
+EndsShut (WornOut OfTail) = Unit {0}
 EndsShut Closed = Unit {0}
 EndsShut _ = ⊥
 

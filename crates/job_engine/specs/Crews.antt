@@ -1,5 +1,6 @@
 -- The seats of a queue that works on jobs: workers, and one that hands out the jobs.
-use Rattle.std.specs.Prelude.{◌≡◌, ℕ, ◌+◌, ◌<◌, List, [], ◌∷◌, ◌++◌, length, replicate, Some, slice_get}
+use Rattle.std.specs.Prelude.{◌≡◌, ℕ, ◌+◌, ◌-◌, ◌^◌, ◌<◌, List, [], ◌∷◌, ◌++◌, length, replicate, Some, slice_get}
+use Rattle.counted_ref.specs.Ref.{count_bits}
 use Rattle.line_table.specs.declared.lines.Kind.{Kind}
 use Rattle.history.specs.Seats.{Permit, Known}
 use Rattle.node_arena.specs.declared.roles.Role.{Role}
@@ -20,4 +21,4 @@ pub record IsCrew {Q S : Type 0} (is_seat : Q → S → Type 0) (permits : Q →
 
 -- what a queue is made for that hands out jobs: its kind, so many nodes, the greatest count of all, and the crew's roles
 abbrev pub crew_plan : Kind → (nodes workers : ℕ) → Layout
-crew_plan kind nodes workers = plan kind nodes 1099511627775 (crew_roles workers)
+crew_plan kind nodes workers = plan 24 kind nodes (2 ^ count_bits 24 - 1) (crew_roles workers)

@@ -1,6 +1,7 @@
 -- What work on the text of jobs reads and writes, and what it may be refused.
 use Rattle.std.specs.Prelude.{◌≡◌, ℕ, ◌+◌, ◌<◌, ◌≤◌, ◌⊎◌, List, Option, Some, None, Result, Err, ⊤}
 use Rattle.std.specs.Io.KnownBytes.{Appends}
+use Rattle.counted_ref.specs.Ref.{reserved_node}
 use Rattle.text_io.specs.Blocks.{TakesBeginning}
 use Rattle.history.specs.declared.refusals.Refusal.{Refusal}
 use Rattle.history.specs.declared.refusals.Refusal.TheVariants.{Memory, BadSize, Text, Read, Write, Lost}
@@ -12,16 +13,16 @@ use Rattle.report.specs.ResultsTable.{results_text}
 use Rattle.text_io.specs.Devices.{SourceState, SinkState}
 use Rattle.text_io.specs.Readings.{WereAll, EndsReadingFor}
 
--- there are not 1 to 64 workers, or not so many nodes: 3 more than workers, to 16,777,214
+-- there are not 1 to 64 workers, or not so many nodes: from 3 more than workers to the greatest number of a node
 abbrev pub IsBadSize : (workers nodes : ℕ) → Type 0
-IsBadSize workers nodes = (workers ≡ 0) ⊎ ((64 < workers) ⊎ ((nodes < workers + 3) ⊎ (16777214 < nodes)))
+IsBadSize workers nodes = (workers ≡ 0) ⊎ ((64 < workers) ⊎ ((nodes < workers + 3) ⊎ (reserved_node 24 ≤ nodes)))
 
--- there are 1 to 64 workers, and so many nodes: 3 more than workers, to 16,777,214
+-- there are 1 to 64 workers, and so many nodes: from 3 more than workers to the greatest number of a node
 pub record AreSized (workers nodes : ℕ) : Type 0 where
   pub some_workers : 1 ≤ workers
   pub few_workers : workers ≤ 64
   pub room : workers + 3 ≤ nodes
-  pub few_nodes : nodes ≤ 16777214
+  pub few_nodes : nodes < reserved_node 24
 
 -- known bytes were the text of these jobs, which are in range
 pub record IsTextOf (given : Option (List ℕ)) (jobs : List Job) : Type 0 where

@@ -70,7 +70,7 @@ fn roles_of(alloc: Global, workers: u32) -> Result<Vec<Role>, Refusal>
 }
 
 // The results of jobs over a new queue of this algorithm, whose last seat is the submitter's.
-fn results_over<'a, A: Algorithm + Sync, R: Threads + Wait + Sync>(
+fn results_over<'a, A: Algorithm<24> + Sync, R: Threads + Wait + Sync>(
     rt: &R,
     alloc: Global,
     workers: u32,

@@ -25,7 +25,7 @@ const MOST_WORKERS: u32 = 64;
 const SPARE_NODES: u32 = 3;
 
 /// Does the jobs whose text the reader gives, by so many workers, 1 to 64, each in a thread of its own, over a queue of
-/// this kind and with so many nodes, 3 more than workers to 16,777,214; and writes the table of their results.
+/// this kind and with so many nodes, from 3 more than workers to `MOST_NODE`; and writes the table of their results.
 ///
 /// Refusals: `BadSize` where a size is out of its range, before a byte is read; then `Memory`, as soon as a growth is
 /// refused; `Read` where a call of the reader fails; `Text` where the bytes are no jobs; `Lost` where a job has no result,

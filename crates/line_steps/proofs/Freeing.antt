@@ -3,7 +3,7 @@ use Rattle.std.proofs.Common.{ℕ, ◌≡◌, Option, Some, None, refl}
 use Rattle.line_table.specs.declared.lines.Kind.{Kind}
 use Rattle.history.specs.declared.operations.Reply.{Reply}
 use Rattle.history.specs.declared.operations.Reply.TheVariants.{Done, Value, Empty, Refused}
-use Rattle.line_steps.specs.declared.actors.Actor.{Actor}
+use Rattle.line_steps.specs.Actors.{Actor}
 use Rattle.line_steps.specs.Lines.{freed, unlocked, left, left_with_node, sets_aside, empties_hand}
 use Rattle.line_steps.specs.Said.{numbered, freed_at, freed_said, unlocked_at, unlocked_said, left_said, left_with_node_at}
 

@@ -1,6 +1,7 @@
 -- The words of a table and the nodes that they stand for: what is read, and what a write of one word makes of them.
 use Rattle.std.proofs.Common.{◌≡◌, ℕ, zero, suc, ◌+◌, ◌-◌, ◌*◌, ◌^◌, ◌<◌, List, [], ◌∷◌, ◌++◌, length, get_or, set, refl, sym, ap, subst, arith}
 use Rattle.counted_ref.specs.Ref.{ref_of}
+use Rattle.counted_ref.specs.Splits.{null_back}
 use Rattle.line_steps.specs.Memory.{blank}
 use Rattle.line_steps.specs.Words.{value_of, nodes_of, IsTable}
 
@@ -22,50 +23,50 @@ table-push ws h =
     }
 
 -- there are as many nodes as pairs of words
-pub length-nodes_of : (k : ℕ) (ws : List ℕ) → length ws ≡ 2 * k → length (nodes_of ws) ≡ k
-length-nodes_of k [] e = omega arith
-length-nodes_of k (a ∷ []) e = absurd (omega arith)
-length-nodes_of k (a ∷ b ∷ ws) e =
-    let i : length (nodes_of ws) ≡ k - 1 = length-nodes_of (k - 1) ws (omega arith) in
+pub length-nodes_of : (bits : ℕ) (k : ℕ) (ws : List ℕ) → length ws ≡ 2 * k → length (nodes_of bits ws) ≡ k
+length-nodes_of bits k [] e = omega arith
+length-nodes_of bits k (a ∷ []) e = absurd (omega arith)
+length-nodes_of bits k (a ∷ b ∷ ws) e =
+    let i : length (nodes_of bits ws) ≡ k - 1 = length-nodes_of bits (k - 1) ws (omega arith) in
     omega arith
 
 -- the two words of one more blank node make one more blank node
-pub nodes_of-push : (k : ℕ) (ws : List ℕ) → length ws ≡ 2 * k → nodes_of (ws ++ 0 ∷ 0 ∷ []) ≡ nodes_of ws ++ blank ∷ []
-nodes_of-push k [] e = refl
-nodes_of-push k (a ∷ []) e = absurd (omega arith)
-nodes_of-push k (a ∷ b ∷ ws) e =
-    ap (λ ns. record { next = ref_of a; value = value_of b } ∷ ns) (nodes_of-push (k - 1) ws (omega arith))
+pub nodes_of-push : (bits : ℕ) (k : ℕ) (ws : List ℕ) → length ws ≡ 2 * k → nodes_of bits (ws ++ 0 ∷ 0 ∷ []) ≡ nodes_of bits ws ++ blank ∷ []
+nodes_of-push bits k [] e = ap (λ r. record { next = r; value = value_of 0 } ∷ []) (null_back bits)
+nodes_of-push bits k (a ∷ []) e = absurd (omega arith)
+nodes_of-push bits k (a ∷ b ∷ ws) e =
+    ap (λ ns. record { next = ref_of bits a; value = value_of b } ∷ ns) (nodes_of-push bits (k - 1) ws (omega arith))
 
 -- the word of a node in the list of the nodes' words
-pub next_read : (m : ℕ) (ws : List ℕ) (k : ℕ) → length ws ≡ 2 * m → (get_or (nodes_of ws) k blank).next ≡ ref_of (get_or ws (2 * k) 0)
-next_read m [] k e = refl
-next_read m (a ∷ []) k e = absurd (omega arith)
-next_read m (a ∷ b ∷ ws) zero e = refl
-next_read m (a ∷ b ∷ ws) (suc k) e =
+pub next_read : (bits : ℕ) (m : ℕ) (ws : List ℕ) (k : ℕ) → length ws ≡ 2 * m → (get_or (nodes_of bits ws) k blank).next ≡ ref_of bits (get_or ws (2 * k) 0)
+next_read bits m [] k e = sym (null_back bits)
+next_read bits m (a ∷ []) k e = absurd (omega arith)
+next_read bits m (a ∷ b ∷ ws) zero e = refl
+next_read bits m (a ∷ b ∷ ws) (suc k) e =
     let f : 2 * suc k ≡ suc (suc (2 * k)) = omega arith in
-    rw f (next_read (m - 1) ws k (omega arith))
+    rw f (next_read bits (m - 1) ws k (omega arith))
 
-pub value_read : (m : ℕ) (ws : List ℕ) (k : ℕ) → length ws ≡ 2 * m → (get_or (nodes_of ws) k blank).value ≡ value_of (get_or ws (2 * k + 1) 0)
-value_read m [] k e = refl
-value_read m (a ∷ []) k e = absurd (omega arith)
-value_read m (a ∷ b ∷ ws) zero e = refl
-value_read m (a ∷ b ∷ ws) (suc k) e =
+pub value_read : (bits : ℕ) (m : ℕ) (ws : List ℕ) (k : ℕ) → length ws ≡ 2 * m → (get_or (nodes_of bits ws) k blank).value ≡ value_of (get_or ws (2 * k + 1) 0)
+value_read bits m [] k e = refl
+value_read bits m (a ∷ []) k e = absurd (omega arith)
+value_read bits m (a ∷ b ∷ ws) zero e = refl
+value_read bits m (a ∷ b ∷ ws) (suc k) e =
     let f : 2 * suc k + 1 ≡ suc (suc (2 * k + 1)) = omega arith in
-    rw f (value_read (m - 1) ws k (omega arith))
+    rw f (value_read bits (m - 1) ws k (omega arith))
 
 -- the nodes after a word of one node was written
-pub next_put : (m : ℕ) (ws : List ℕ) (k w : ℕ) → length ws ≡ 2 * m → k < m → nodes_of (set ws (2 * k) w) ≡ set (nodes_of ws) k (record (get_or (nodes_of ws) k blank) { next = ref_of w })
-next_put m [] k w e h = absurd (omega arith)
-next_put m (a ∷ []) k w e h = absurd (omega arith)
-next_put m (a ∷ b ∷ ws) zero w e h = refl
-next_put m (a ∷ b ∷ ws) (suc k) w e h =
+pub next_put : (bits : ℕ) (m : ℕ) (ws : List ℕ) (k w : ℕ) → length ws ≡ 2 * m → k < m → nodes_of bits (set ws (2 * k) w) ≡ set (nodes_of bits ws) k (record (get_or (nodes_of bits ws) k blank) { next = ref_of bits w })
+next_put bits m [] k w e h = absurd (omega arith)
+next_put bits m (a ∷ []) k w e h = absurd (omega arith)
+next_put bits m (a ∷ b ∷ ws) zero w e h = refl
+next_put bits m (a ∷ b ∷ ws) (suc k) w e h =
     let f : 2 * suc k ≡ suc (suc (2 * k)) = omega arith in
-    rw f (ap (λ ns. record { next = ref_of a; value = value_of b } ∷ ns) (next_put (m - 1) ws k w (omega arith) (omega arith)))
+    rw f (ap (λ ns. record { next = ref_of bits a; value = value_of b } ∷ ns) (next_put bits (m - 1) ws k w (omega arith) (omega arith)))
 
-pub value_put : (m : ℕ) (ws : List ℕ) (k w : ℕ) → length ws ≡ 2 * m → k < m → nodes_of (set ws (2 * k + 1) w) ≡ set (nodes_of ws) k (record (get_or (nodes_of ws) k blank) { value = value_of w })
-value_put m [] k w e h = absurd (omega arith)
-value_put m (a ∷ []) k w e h = absurd (omega arith)
-value_put m (a ∷ b ∷ ws) zero w e h = refl
-value_put m (a ∷ b ∷ ws) (suc k) w e h =
+pub value_put : (bits : ℕ) (m : ℕ) (ws : List ℕ) (k w : ℕ) → length ws ≡ 2 * m → k < m → nodes_of bits (set ws (2 * k + 1) w) ≡ set (nodes_of bits ws) k (record (get_or (nodes_of bits ws) k blank) { value = value_of w })
+value_put bits m [] k w e h = absurd (omega arith)
+value_put bits m (a ∷ []) k w e h = absurd (omega arith)
+value_put bits m (a ∷ b ∷ ws) zero w e h = refl
+value_put bits m (a ∷ b ∷ ws) (suc k) w e h =
     let f : 2 * suc k + 1 ≡ suc (suc (2 * k + 1)) = omega arith in
-    rw f (ap (λ ns. record { next = ref_of a; value = value_of b } ∷ ns) (value_put (m - 1) ws k w (omega arith) (omega arith)))
+    rw f (ap (λ ns. record { next = ref_of bits a; value = value_of b } ∷ ns) (value_put bits (m - 1) ws k w (omega arith) (omega arith)))

@@ -7,7 +7,7 @@ use Rattle.line_table.specs.declared.lines.Line.TheVariants.{N1, F1}
 use Rattle.history.specs.declared.operations.Op.{Op}
 use Rattle.history.specs.declared.operations.Op.TheVariants.{Enq, Deq, Shut}
 use Rattle.line_steps.specs.declared.actors.Held.{Held}
-use Rattle.line_steps.specs.declared.actors.Actor.{Actor}
+use Rattle.line_steps.specs.Actors.{Actor}
 use Rattle.line_steps.specs.Lines.{fills_hand, with_node, dequeues, shuts}
 
 -- whether a call can be made: a body is below 2^48

@@ -1,3 +1,4 @@
+pub mod Actors
 pub mod Memory
 pub mod Outcomes
 pub mod Lines

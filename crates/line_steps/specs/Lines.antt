@@ -11,18 +11,18 @@ use Rattle.history.specs.declared.refusals.Refusal.TheVariants.{NoNode, WornOut,
 use Rattle.history.specs.declared.operations.Reply.{Reply}
 use Rattle.history.specs.declared.operations.Reply.TheVariants.{Done, Value, Empty, Refused}
 use Rattle.line_steps.specs.declared.actors.Setup.{Setup}
-use Rattle.line_steps.specs.declared.actors.Actor.{Actor}
+use Rattle.line_steps.specs.Actors.{Actor}
 use Rattle.line_steps.specs.Outcomes.{Outcome}
 use Rattle.line_steps.specs.Memory.{Fresh, Free, Head, Tail, Tail_lock, Head_lock, Next, Value_of, Action, load, store, clear, exchange, Found}
 
 -- the reference that names another node, with its count raised; it stays as it is where its count is at the limit, and
 -- where the number given is that of a closed end
 abbrev pub raised : Setup → Ref → ℕ → Ref
-raised s r to = if nat_eq to reserved_node then r else if nat_eq r.count s.limit then r else ref to (r.count + 1)
+raised s r to = if nat_eq to (reserved_node s.bits) then r else if nat_eq r.count s.limit then r else ref to (r.count + 1)
 
 -- the closed end with the count of a reference raised; a reference whose count is at the limit stays as it is
 abbrev pub raised_end : Setup → Ref → Ref
-raised_end s r = if nat_eq r.count s.limit then r else shut_ref (r.count + 1)
+raised_end s r = if nat_eq r.count s.limit then r else shut_ref s.bits (r.count + 1)
 
 -- the access of each line, by the actor's number and registers
 abbrev pub action : Setup → (me : ℕ) → Actor → Line → Action
@@ -69,7 +69,7 @@ action s me a S4 = exchange (Next a.tail.node) a.next (raised_end s a.next)
 action s me a S5 = exchange Tail a.tail (raised s a.tail a.next.node)
 action s me a S6 = exchange Tail_lock 0 me
 action s me a S7 = load Tail
-action s me a S8 = exchange (Next a.tail.node) null (shut_ref 0)
+action s me a S8 = exchange (Next a.tail.node) null (shut_ref s.bits 0)
 action s me a S9 = store Tail_lock 0
 
 -- the call goes on at a line
@@ -183,7 +183,7 @@ outcome s now me a E6 next = goes E7 (record a { next = next })
 outcome s now me a E7 tail =
     if same_ref tail a.tail
     then if is_null a.next then goes E9 a
-    else if is_shut a.next then closed now (to_pocket a)
+    else if is_shut s.bits a.next then closed now (to_pocket a)
     else if nat_eq a.tail.count s.limit then worn now OfTail (to_pocket a)
     else goes E13 a
     else goes E5 a
@@ -201,7 +201,7 @@ outcome s now me a D5 head =
     if same_ref head a.head
     then if nat_eq a.head.node a.tail.node
     then if is_null a.next then ends now Empty a
-    else if is_shut a.next then closed now a
+    else if is_shut s.bits a.next then closed now a
     else if nat_eq a.tail.count s.limit then worn now OfTail a
     else goes D10 a
     else goes D12 a
@@ -228,7 +228,7 @@ outcome s now me a B2 head = goes B3 (record a { head = head })
 outcome s now me a B3 next =
     let b = record a { next = next; empty_at = now } in
     if is_null next then goes B6 (record b { due = Some Empty })
-    else if is_shut next then goes B6 (record b { due = Some (Refused Closed) })
+    else if is_shut s.bits next then goes B6 (record b { due = Some (Refused Closed) })
     else goes B4 b
 outcome s now me a B4 val =
     let b = record a { val = val } in
@@ -241,7 +241,7 @@ outcome s now me a S2 next = goes S3 (record a { next = next })
 outcome s now me a S3 tail =
     if same_ref tail a.tail
     then if is_null a.next then goes S4 a
-    else if is_shut a.next then closed now a
+    else if is_shut s.bits a.next then closed now a
     else if nat_eq a.tail.count s.limit then worn now OfTail a
     else goes S5 a
     else goes S1 a

@@ -2,7 +2,7 @@
 use Rattle.std.specs.Prelude.{ℕ, ◌-◌, Bool, ◌&&◌, List, nat_eq, slice_index_or, slice_set, if◌then◌else◌}
 use Rattle.counted_ref.specs.Ref.{Ref, null, same_ref}
 use Rattle.history.specs.declared.operations.Taken.{Taken}
-use Rattle.line_steps.specs.declared.actors.Node.{Node}
+use Rattle.line_steps.specs.Actors.{Node}
 
 -- the value of nobody, which a node holds before it is used
 abbrev pub nobody : Taken

@@ -1,15 +1,16 @@
 -- When a step can be taken: the numbers of a setup and of an actor's registers that can be used.
 use Rattle.std.specs.Prelude.{ℕ, ◌^◌, ◌<◌, ◌≤◌}
-use Rattle.counted_ref.specs.Ref.{reserved_node, count_bits}
+use Rattle.counted_ref.specs.Ref.{IsSplit, reserved_node, count_bits}
 use Rattle.line_table.specs.declared.lines.Line.{Line}
 use Rattle.line_table.specs.declared.lines.Line.TheVariants.{D12, B4}
 use Rattle.line_steps.specs.declared.actors.Setup.{Setup}
-use Rattle.line_steps.specs.declared.actors.Actor.{Actor}
+use Rattle.line_steps.specs.Actors.{Actor}
 
 -- the numbers of a setup fit the parts of a reference
 pub record IsCounted (s : Setup) : Type 0 where
-  pub size : s.size < reserved_node
-  pub limit : s.limit < 2 ^ count_bits
+  pub split : IsSplit s.bits
+  pub size : s.size < reserved_node s.bits
+  pub limit : s.limit < 2 ^ count_bits s.bits
 
 -- the register `next` names a node for which there is room where the line reads through it: elsewhere it may be a closed end
 abbrev pub ReadsFit : Line → (room : ℕ) → Actor → Type 0

@@ -4,7 +4,7 @@ use Rattle.line_table.specs.declared.lines.Kind.{Kind}
 use Rattle.line_table.specs.declared.lines.Line.TheVariants.{F1}
 use Rattle.history.specs.declared.operations.Reply.{Reply}
 use Rattle.history.specs.declared.operations.Reply.TheVariants.{Done, Value, Empty, Refused}
-use Rattle.line_steps.specs.declared.actors.Actor.{Actor}
+use Rattle.line_steps.specs.Actors.{Actor}
 use Rattle.line_steps.specs.declared.outcomes.When.{When}
 use Rattle.line_steps.specs.declared.outcomes.When.TheVariants.{Open, Here, Noted, AsNoted}
 use Rattle.line_steps.specs.declared.outcomes.Said.{Said}

@@ -2,7 +2,7 @@
 use Rattle.std.specs.Prelude.{ℕ, ◌≡◌, ◌-◌, ◌<◌, IfSome}
 use Rattle.line_table.specs.declared.lines.Line.{Line}
 use Rattle.line_steps.specs.declared.actors.Setup.{Setup}
-use Rattle.line_steps.specs.declared.actors.Actor.{Actor}
+use Rattle.line_steps.specs.Actors.{Actor}
 use Rattle.line_steps.specs.declared.actors.Told.{Told}
 use Rattle.line_steps.specs.Outcomes.{Outcome, settled}
 use Rattle.line_steps.specs.Memory.{Shared, Action, found}
@@ -11,7 +11,8 @@ use Rattle.line_steps.specs.Rooms.{Memory, accessed, aside_after}
 use Rattle.line_steps.specs.Ready.{IsCounted, RegistersFit}
 
 -- an actor may take a step: the setup's numbers fit a reference, and the actor's registers can be used
-pub record MayStep (s : Setup) (room : ℕ) (a : Actor) : Type 0 where
+pub record MayStep (bits : ℕ) (s : Setup) (room : ℕ) (a : Actor) : Type 0 where
+  pub split : s.bits ≡ bits
   pub counted : IsCounted s
   pub ready : RegistersFit s room a
 

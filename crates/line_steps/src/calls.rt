@@ -4,13 +4,13 @@ ghost use Rattle.line_steps.specs.Lines as lines;
 ghost use Rattle.line_steps.specs.Calling as calling;
 ghost use Rattle.line_steps.specs.Outcomes.{settled};
 
-use crate::actors::{Actor, Told};
+use crate::actors::{ActorOf, Told};
 use crate::outcomes::{dequeues, ends, settle, shuts, with_node};
 use history::{Op, Refusal, Reply, Taken};
 use line_table::{Kind, Line};
 
 /// The node in a full pocket comes into the hand, and the call begins at this line.
-fn from_pocket(line: Line, actor: &mut Actor)
+fn from_pocket<const B: u32>(line: Line, actor: &mut ActorOf<B>)
     ensures { actor.new ≡ calling.from_pocket line actor.old.pocket actor.old }
 {
     if let Some(held) = actor.pocket {
@@ -24,7 +24,7 @@ fn from_pocket(line: Line, actor: &mut Actor)
 /// leaves it there.
 ///
 /// Takes no memory.
-pub fn begin(kind: Kind, me: u16, op: Op, actor: &mut Actor)
+pub fn begin<const B: u32>(kind: Kind, me: u16, op: Op, actor: &mut ActorOf<B>)
     ensures actor { actor.new ≡ calling.begun kind me op actor.old }
     ensures call { calling.is_call op ≡ true }
 {
@@ -54,7 +54,7 @@ pub fn begin(kind: Kind, me: u16, op: Op, actor: &mut Actor)
 /// begins there.
 ///
 /// Takes no memory.
-pub fn give_up(now: u64, actor: &mut Actor, line: Line) -> Option<Told>
+pub fn give_up<const B: u32>(now: u64, actor: &mut ActorOf<B>, line: Line) -> Option<Told>
     ensures some { IfSome result (λ t. lines.gives_up now actor.old line ≡ Some (settled actor.new t)) }
     ensures none { IsNone result → lines.gives_up now actor.old line ≡ None }
     ensures same { IsNone result → actor.new ≡ actor.old }

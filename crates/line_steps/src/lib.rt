@@ -9,9 +9,9 @@ mod rows;
 mod steps;
 mod words;
 
-pub use actors::{Actor, Held, Node, Setup, Told};
+pub use actors::{ActorOf, Held, Setup, Told};
 pub use calls::{begin, give_up};
-pub use memory::{Memory, nobody_value};
+pub use memory::{MemoryOf, nobody_value};
 pub use outcomes::put_down;
 pub use steps::stepped;
 pub use words::value_of;

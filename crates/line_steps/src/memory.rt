@@ -4,9 +4,10 @@ ghost use Rattle.line_steps.specs.Memory.{Fresh, Free, Head, Tail, Tail_lock, He
 ghost use Rattle.line_steps.specs.Rooms.{first_words, aside_after, first_memory, accessed};
 ghost use Rattle.line_steps.specs.Rooms as rooms;
 ghost use Rattle.line_steps.specs.Words as specs;
+ghost use Rattle.counted_ref.specs.Ref.{IsSplit};
 
 use crate::words::{FIRST_WORDS, next_place, push_blank, set_word, value_of, value_word, word_at};
-use counted_ref::CountedRef;
+use counted_ref::CountedRefOf;
 use history::{Body, Taken};
 use std::alloc::{AllocError, Global};
 use std::marker::Model;
@@ -29,22 +30,22 @@ const HEAD_LOCK: usize = 5;
 /// The table has Fresh, Free, Head, Tail, the lock of Tail and the lock of Head, and then `next` and value of each node.
 /// Nodes are numbered from 1 on. `new` and `grow` take memory; no other call does, and none waits.
 #[derive(Drop)]
-pub struct Memory {
+pub struct MemoryOf<const B: u32> {
     size: u32,
     words: Vec<u64>,
     aside: Vec<bool>,
 }
 
-impl Model for Memory {
+impl<const B: u32> Model for MemoryOf<B> {
     ghost use Rattle.line_steps.specs.Rooms.{Memory as Words};
 
     ghost Value = { Words };
 
     ghost use Rattle.line_steps.specs.Stored.{memory, StoredInvariant};
 
-    ghost view = { memory };
+    ghost view = { memory B };
 
-    ghost invariant = { StoredInvariant };
+    ghost invariant = { StoredInvariant B };
 }
 
 /// The value of nobody, which a node holds before it is used. Takes no memory.
@@ -67,17 +68,19 @@ fn set_flag(aside: &mut Vec<bool>, node: Option<u32>)
     }
 }
 
-impl Memory {
+impl<const B: u32> MemoryOf<B> {
     /// The shared words of `size` nodes at the start, 1 or more, with room for node 1.
     ///
     /// Fails where memory is refused. Takes memory for one node.
-    pub fn new(alloc: Global, size: u32) -> Result<Memory, AllocError>
-        requires { 1 ≤ size }
+    #[tactic(auto, using(counted_ref::proofs::Words::span_least, counted_ref::proofs::Words::count_span_least))]
+    pub fn new(alloc: Global, size: u32) -> Result<MemoryOf<B>, AllocError>
+        requires split { IsSplit B }
+        requires some { 1 ≤ size }
         ensures { IfOk result (λ m. m ≡ first_memory size) }
     {
-        let null = CountedRef::new(0, 0).word();
-        let first = CountedRef::new(1, 0).word();
-        Ok(Memory {
+        let null = CountedRefOf::<B>::new(0, 0).word();
+        let first = CountedRefOf::<B>::new(1, 0).word();
+        Ok(MemoryOf {
             size,
             words: Vec::from_array(alloc, [1, null, first, first, 0, 0, 0, 0])?,
             aside: vec![in alloc; false; 1]?,
@@ -145,7 +148,7 @@ impl Memory {
     /// The word at an index of the table, in the table's order; none behind the words of the last node. 0 where the node has
     /// no room yet.
     pub fn word(&self, index: usize) -> Option<u64>
-        ensures { result ≡ slice_get (specs.memory_words self.now.words) index }
+        ensures { result ≡ slice_get (specs.memory_words B self.now.words) index }
     {
         if index < FIRST_WORDS + 2 * self.size as usize {
             Some(word_at(&self.words, index))
@@ -162,24 +165,24 @@ impl Memory {
     }
 
     /// The word Free: the first node of the free list.
-    pub fn free(&self) -> CountedRef
+    pub fn free(&self) -> CountedRefOf<B>
         ensures { result ≡ content Free self.now.words }
     {
-        CountedRef::of_word(self.words[FREE])
+        CountedRefOf::of_word(self.words[FREE])
     }
 
     /// The word Head: the dummy, before the first value.
-    pub fn head(&self) -> CountedRef
+    pub fn head(&self) -> CountedRefOf<B>
         ensures { result ≡ content Head self.now.words }
     {
-        CountedRef::of_word(self.words[HEAD])
+        CountedRefOf::of_word(self.words[HEAD])
     }
 
     /// The word Tail.
-    pub fn tail(&self) -> CountedRef
+    pub fn tail(&self) -> CountedRefOf<B>
         ensures { result ≡ content Tail self.now.words }
     {
-        CountedRef::of_word(self.words[TAIL])
+        CountedRefOf::of_word(self.words[TAIL])
     }
 
     /// The lock of Tail: 0, or the number of an actor.
@@ -197,10 +200,10 @@ impl Memory {
     }
 
     /// The `next` of a node, which is null where the node has no room yet.
-    pub fn next_of(&self, node: u32) -> CountedRef
+    pub fn next_of(&self, node: u32) -> CountedRefOf<B>
         ensures { result ≡ content (Next node) self.now.words }
     {
-        CountedRef::of_word(word_at(&self.words, next_place(node)))
+        CountedRefOf::of_word(word_at(&self.words, next_place(node)))
     }
 
     /// The value of a node, which is nobody's where the node has no room yet.
@@ -247,9 +250,9 @@ impl Memory {
     }
 
     /// Answers what Free held, and writes `new` there where that was `old`.
-    pub fn exchange_free(&mut self, old: CountedRef, new: CountedRef) -> CountedRef
+    pub fn exchange_free(&mut self, old: CountedRefOf<B>, new: CountedRefOf<B>) -> CountedRefOf<B>
         ensures found { result ≡ content Free self.old.words }
-        ensures after { self.new ≡ accessed (exchange Free old new) self.old }
+        ensures after { self.new ≡ accessed (exchange Free old.entry new.entry) self.old }
     {
         let found = self.free();
         if found.same(old) {
@@ -259,9 +262,9 @@ impl Memory {
     }
 
     /// Answers what Head held, and writes `new` there where that was `old`.
-    pub fn exchange_head(&mut self, old: CountedRef, new: CountedRef) -> CountedRef
+    pub fn exchange_head(&mut self, old: CountedRefOf<B>, new: CountedRefOf<B>) -> CountedRefOf<B>
         ensures found { result ≡ content Head self.old.words }
-        ensures after { self.new ≡ accessed (exchange Head old new) self.old }
+        ensures after { self.new ≡ accessed (exchange Head old.entry new.entry) self.old }
     {
         let found = self.head();
         if found.same(old) {
@@ -271,9 +274,9 @@ impl Memory {
     }
 
     /// Answers what Tail held, and writes `new` there where that was `old`.
-    pub fn exchange_tail(&mut self, old: CountedRef, new: CountedRef) -> CountedRef
+    pub fn exchange_tail(&mut self, old: CountedRefOf<B>, new: CountedRefOf<B>) -> CountedRefOf<B>
         ensures found { result ≡ content Tail self.old.words }
-        ensures after { self.new ≡ accessed (exchange Tail old new) self.old }
+        ensures after { self.new ≡ accessed (exchange Tail old.entry new.entry) self.old }
     {
         let found = self.tail();
         if found.same(old) {
@@ -283,10 +286,15 @@ impl Memory {
     }
 
     /// Answers what the `next` of a node held, and writes `new` there where that was `old`. There is room for the node.
-    pub fn exchange_next(&mut self, node: u32, old: CountedRef, new: CountedRef) -> CountedRef
+    pub fn exchange_next(
+        &mut self,
+        node: u32,
+        old: CountedRefOf<B>,
+        new: CountedRefOf<B>,
+    ) -> CountedRefOf<B>
         requires { node - 1 < self.old.room }
         ensures found { result ≡ content (Next node) self.old.words }
-        ensures after { self.new ≡ accessed (exchange (Next node) old new) self.old }
+        ensures after { self.new ≡ accessed (exchange (Next node) old.entry new.entry) self.old }
     {
         let found = self.next_of(node);
         if found.same(old) {
@@ -296,13 +304,15 @@ impl Memory {
     }
 
     /// Clears the node bits of a node's `next`, and answers what it held. There is room for the node.
-    pub fn clear_next(&mut self, node: u32) -> CountedRef
+    #[tactic(auto, using(counted_ref::proofs::Words::span_least))]
+    pub fn clear_next(&mut self, node: u32) -> CountedRefOf<B>
         requires { node - 1 < self.old.room }
         ensures found { result ≡ content (Next node) self.old.words }
         ensures after { self.new ≡ accessed (clear node) self.old }
     {
+        let _ = &self.size;
         let found = self.next_of(node);
-        self.store_next(node, CountedRef::new(0, found.count()));
+        self.store_next(node, CountedRefOf::new(0, found.count()));
         found
     }
 
@@ -314,22 +324,22 @@ impl Memory {
     }
 
     /// Writes Free.
-    fn store_free(&mut self, new: CountedRef)
-        ensures { self.new ≡ accessed (store Free new) self.old }
+    fn store_free(&mut self, new: CountedRefOf<B>)
+        ensures { self.new ≡ accessed (store Free new.entry) self.old }
     {
         self.words[FREE] = new.word();
     }
 
     /// Writes Head.
-    pub fn store_head(&mut self, new: CountedRef)
-        ensures { self.new ≡ accessed (store Head new) self.old }
+    pub fn store_head(&mut self, new: CountedRefOf<B>)
+        ensures { self.new ≡ accessed (store Head new.entry) self.old }
     {
         self.words[HEAD] = new.word();
     }
 
     /// Writes Tail.
-    pub fn store_tail(&mut self, new: CountedRef)
-        ensures { self.new ≡ accessed (store Tail new) self.old }
+    pub fn store_tail(&mut self, new: CountedRefOf<B>)
+        ensures { self.new ≡ accessed (store Tail new.entry) self.old }
     {
         self.words[TAIL] = new.word();
     }
@@ -349,9 +359,9 @@ impl Memory {
     }
 
     /// Writes the `next` of a node, for which there is room.
-    pub fn store_next(&mut self, node: u32, new: CountedRef)
+    pub fn store_next(&mut self, node: u32, new: CountedRefOf<B>)
         requires { node - 1 < self.old.room }
-        ensures { self.new ≡ accessed (store (Next node) new) self.old }
+        ensures { self.new ≡ accessed (store (Next node) new.entry) self.old }
     {
         set_word(&mut self.words, next_place(node), new.word());
     }

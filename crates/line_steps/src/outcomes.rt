@@ -1,18 +1,18 @@
 //! What a step makes of its actor, by the words of the line table.
 ghost use Rattle.std.specs.Prelude.{◌≡◌, ◌-◌, ◌<◌, ◌≤◌, ◌^◌, Some, None, IfSome, false};
-ghost use Rattle.counted_ref.specs.Ref.{node_bits, count_bits};
 ghost use Rattle.line_steps.specs.Lines as lines;
 ghost use Rattle.history.specs.declared.operations.Reply.TheVariants.{Done, Refused};
 ghost use Rattle.history.specs.declared.refusals.Refusal.TheVariants.{WornOut, Closed};
 ghost use Rattle.line_steps.specs.Outcomes.{settled, with_told};
+ghost use Rattle.line_steps.specs.Ready.{IsCounted};
 ghost use Rattle.line_steps.specs.Rooms.{aside_after};
 ghost use Rattle.line_steps.specs.Said as outcomes;
 ghost use Rattle.line_steps.specs.Said.{numbered, nothing, end_of, freed_actor, freed_said, unlocked_actor, unlocked_said};
 ghost use Rattle.line_steps.specs.Said.{left_said, left_with_node_actor};
 
-use crate::actors::{Actor, Held, Setup, Told};
-use crate::memory::Memory;
-use counted_ref::{CountedRef, SHUT_NODE};
+use crate::actors::{ActorOf, Held, Setup, Told};
+use crate::memory::MemoryOf;
+use counted_ref::{CountedRefOf, shut_node};
 use history::{Refusal, Reply, Stamped, WornWord};
 use line_table::{Kind, Line};
 
@@ -41,7 +41,7 @@ pub struct Said {
 
 /// Puts the number of the step to what a row said.
 #[inline(always)]
-pub fn settle(now: u64, actor: &mut Actor, said: Said) -> Told
+pub fn settle<const B: u32>(now: u64, actor: &mut ActorOf<B>, said: Said) -> Told
     ensures { settled actor.new result ≡ numbered now actor.old said }
 {
     let at = match said.effect {
@@ -81,7 +81,12 @@ fn tell(now: u64, told: &Told, operation: &mut Stamped)
 /// Puts down what a step told: its operation, and the node set aside, for which there is room. Answers the reply, where the
 /// call ends. Takes no memory.
 #[inline(always)]
-pub fn put_down(memory: &mut Memory, now: u64, operation: &mut Stamped, told: Told) -> Option<Reply>
+pub fn put_down<const B: u32>(
+    memory: &mut MemoryOf<B>,
+    now: u64,
+    operation: &mut Stamped,
+    told: Told,
+) -> Option<Reply>
     requires { IfSome told.aside (λ n. n - 1 < memory.old.room) }
     ensures memory { memory.new ≡ record memory.old { aside = aside_after memory.old.aside told.aside } }
     ensures operation { operation.new ≡ with_told now told operation.old }
@@ -92,7 +97,7 @@ pub fn put_down(memory: &mut Memory, now: u64, operation: &mut Stamped, told: To
     told.reply
 }
 
-pub fn goes(line: Line, actor: &mut Actor) -> Said
+pub fn goes<const B: u32>(line: Line, actor: &mut ActorOf<B>) -> Said
     ensures actor { actor.new ≡ record actor.old { line = Some line } }
     ensures said { result ≡ nothing }
 {
@@ -115,7 +120,7 @@ fn effect_of(reply: &Reply) -> When
     }
 }
 
-pub fn ends(reply: Reply, actor: &mut Actor) -> Said
+pub fn ends<const B: u32>(reply: Reply, actor: &mut ActorOf<B>) -> Said
     ensures actor { actor.new ≡ record actor.old { line = None } }
     ensures said { result ≡ end_of reply }
 {
@@ -128,7 +133,7 @@ pub fn ends(reply: Reply, actor: &mut Actor) -> Said
     }
 }
 
-pub fn worn(word: WornWord, actor: &mut Actor) -> Said
+pub fn worn<const B: u32>(word: WornWord, actor: &mut ActorOf<B>) -> Said
     ensures actor { actor.new ≡ record actor.old { line = None } }
     ensures said { result ≡ end_of (Refused (WornOut word)) }
 {
@@ -136,7 +141,7 @@ pub fn worn(word: WornWord, actor: &mut Actor) -> Said
 }
 
 /// The node in hand goes to the pocket, and a word is worn out.
-pub fn worn_with_node(word: WornWord, actor: &mut Actor) -> Said
+pub fn worn_with_node<const B: u32>(word: WornWord, actor: &mut ActorOf<B>) -> Said
     ensures actor { actor.new ≡ record (lines.to_pocket actor.old) { line = None } }
     ensures said { result ≡ end_of (Refused (WornOut word)) }
 {
@@ -145,7 +150,7 @@ pub fn worn_with_node(word: WornWord, actor: &mut Actor) -> Said
 }
 
 /// The queue is shut.
-pub fn closed(actor: &mut Actor) -> Said
+pub fn closed<const B: u32>(actor: &mut ActorOf<B>) -> Said
     ensures actor { actor.new ≡ record actor.old { line = None } }
     ensures said { result ≡ end_of (Refused Closed) }
 {
@@ -153,7 +158,7 @@ pub fn closed(actor: &mut Actor) -> Said
 }
 
 /// The node in hand goes to the pocket, and the queue is shut.
-pub fn closed_with_node(actor: &mut Actor) -> Said
+pub fn closed_with_node<const B: u32>(actor: &mut ActorOf<B>) -> Said
     ensures actor { actor.new ≡ record (lines.to_pocket actor.old) { line = None } }
     ensures said { result ≡ end_of (Refused Closed) }
 {
@@ -162,7 +167,7 @@ pub fn closed_with_node(actor: &mut Actor) -> Said
 }
 
 /// The lock of the tail is free: a shut that found the queue shut is refused, any other one is done.
-pub fn left(actor: &mut Actor) -> Said
+pub fn left<const B: u32>(actor: &mut ActorOf<B>) -> Said
     ensures actor { actor.new ≡ record actor.old { line = None } }
     ensures said { result ≡ left_said actor.old.due }
 {
@@ -173,7 +178,7 @@ pub fn left(actor: &mut Actor) -> Said
 }
 
 /// The same of an enqueue, whose node goes to the pocket where it is refused.
-pub fn left_with_node(actor: &mut Actor) -> Said
+pub fn left_with_node<const B: u32>(actor: &mut ActorOf<B>) -> Said
     ensures actor { actor.new ≡ left_with_node_actor actor.old }
     ensures said { result ≡ left_said actor.old.due }
 {
@@ -187,7 +192,7 @@ pub fn left_with_node(actor: &mut Actor) -> Said
 }
 
 /// The node in hand is set aside, and a word is worn out.
-pub fn worn_aside(word: WornWord, actor: &mut Actor) -> Said
+pub fn worn_aside<const B: u32>(word: WornWord, actor: &mut ActorOf<B>) -> Said
     ensures actor { actor.new ≡ record actor.old { line = None; holds = false } }
     ensures said { result ≡ record (end_of (Refused (WornOut word))) { aside = Some actor.old.node } }
 {
@@ -220,7 +225,7 @@ pub fn notes(said: Said) -> Said
     }
 }
 
-impl Actor {
+impl<const B: u32> ActorOf<B> {
     pub(crate) fn fills_hand(&mut self, node: u32, mark: u64)
         ensures { self.new ≡ lines.fills_hand node mark self.old }
     {
@@ -282,7 +287,7 @@ pub fn shuts(kind: Kind) -> Line
 }
 
 /// The node in hand is free: a call with a reply ends, a dequeue that freed its pocket first begins.
-pub fn frees(kind: Kind, actor: &mut Actor) -> Said
+pub fn frees<const B: u32>(kind: Kind, actor: &mut ActorOf<B>) -> Said
     ensures actor { actor.new ≡ freed_actor kind actor.old }
     ensures said { result ≡ freed_said actor.old.due }
 {
@@ -294,7 +299,7 @@ pub fn frees(kind: Kind, actor: &mut Actor) -> Said
 }
 
 /// The same where the node in hand is set aside.
-pub fn frees_aside(kind: Kind, actor: &mut Actor) -> Said
+pub fn frees_aside<const B: u32>(kind: Kind, actor: &mut ActorOf<B>) -> Said
     ensures actor { actor.new ≡ freed_actor kind actor.old }
     ensures said { result ≡ record (freed_said actor.old.due) { aside = Some actor.old.node } }
 {
@@ -306,13 +311,14 @@ pub fn frees_aside(kind: Kind, actor: &mut Actor) -> Said
     }
 }
 
-pub fn raised(setup: Setup, old: CountedRef, to: u32) -> CountedRef
-    requires node { to < 2 ^ node_bits }
-    requires limit { setup.limit < 2 ^ count_bits }
+pub fn raised<const B: u32>(setup: Setup, old: CountedRefOf<B>, to: u32) -> CountedRefOf<B>
+    requires bits { setup.bits ≡ B }
+    requires counted { IsCounted setup }
+    requires node { to < 2 ^ B }
     requires count { old.count ≤ setup.limit }
-    ensures { result ≡ lines.raised setup old to }
+    ensures { result ≡ lines.raised setup old.entry to }
 {
-    if to == SHUT_NODE {
+    if to == shut_node(B) {
         old
     } else {
         old.raised(to, setup.limit).unwrap_or(old)
@@ -320,20 +326,21 @@ pub fn raised(setup: Setup, old: CountedRef, to: u32) -> CountedRef
 }
 
 /// The closed end with the count of a reference raised.
-pub fn raised_end(setup: Setup, old: CountedRef) -> CountedRef
-    requires limit { setup.limit < 2 ^ count_bits }
+pub fn raised_end<const B: u32>(setup: Setup, old: CountedRefOf<B>) -> CountedRefOf<B>
+    requires bits { setup.bits ≡ B }
+    requires counted { IsCounted setup }
     requires count { old.count ≤ setup.limit }
-    ensures { result ≡ lines.raised_end setup old }
+    ensures { result ≡ lines.raised_end setup old.entry }
 {
     if old.count() == setup.limit {
         old
     } else {
-        CountedRef::shut(old.count() + 1)
+        CountedRefOf::shut(old.count() + 1)
     }
 }
 
 /// The lock of the head is free: a call that took a value frees the node, any other one ends with its reply.
-pub fn unlocked(actor: &mut Actor) -> Said
+pub fn unlocked<const B: u32>(actor: &mut ActorOf<B>) -> Said
     ensures actor { actor.new ≡ unlocked_actor actor.old }
     ensures said { result ≡ unlocked_said actor.old.due }
 {

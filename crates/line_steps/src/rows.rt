@@ -4,13 +4,13 @@
 ghost use Rattle.std.specs.Prelude.{◌≤◌};
 ghost use Rattle.line_steps.specs.Steps.{MayStep, Stepped};
 
-use crate::actors::{Actor, Setup, Told};
-use crate::memory::Memory;
+use crate::actors::{ActorOf, Setup, Told};
+use crate::memory::MemoryOf;
 use crate::outcomes::{
-    closed, closed_with_node, effect, ends, frees, frees_aside, goes, left, left_with_node, notes,
-    raised, raised_end, settle, unlocked, with_node, worn, worn_aside, worn_with_node,
+    closed, closed_with_node, effect, ends, frees, frees_aside, goes, notes, raised, settle,
+    with_node, worn, worn_aside, worn_with_node,
 };
-use counted_ref::CountedRef;
+use counted_ref::CountedRefOf;
 use history::{Refusal, Reply, WornWord};
 use line_table::{Line, line_table};
 
@@ -47,38 +47,74 @@ macro_rules! made {
     }};
 }
 
+mod shuts;
+mod two_lock;
+
+pub(crate) use shuts::{s1, s2, s3, s4, s5, s6, s7, s8, s9};
+pub(crate) use two_lock::{a1, a2, a3, a4, a5, a6, a7, b1, b2, b3, b4, b5, b6};
+
 // A new node, in both queues.
 
-pub(crate) fn n1(memory: &mut Memory, setup: Setup, now: u64, me: u16, a: &mut Actor) -> Told
-    requires { MayStep setup memory.old.room a.old }
+pub(crate) fn n1<const B: u32>(
+    memory: &mut MemoryOf<B>,
+    setup: Setup,
+    now: u64,
+    me: u16,
+    a: &mut ActorOf<B>,
+) -> Told
+    requires { MayStep B setup memory.old.room a.old }
     ensures { Stepped setup now me Line.N1 memory.old a.old memory.new a.new result }
 {
     line_table!(N1 (setup me a found) made (memory now a found))
 }
 
-pub(crate) fn n2(memory: &mut Memory, setup: Setup, now: u64, me: u16, a: &mut Actor) -> Told
-    requires { MayStep setup memory.old.room a.old }
+pub(crate) fn n2<const B: u32>(
+    memory: &mut MemoryOf<B>,
+    setup: Setup,
+    now: u64,
+    me: u16,
+    a: &mut ActorOf<B>,
+) -> Told
+    requires { MayStep B setup memory.old.room a.old }
     ensures { Stepped setup now me Line.N2 memory.old a.old memory.new a.new result }
 {
     line_table!(N2 (setup me a found) made (memory now a found))
 }
 
-pub(crate) fn n3(memory: &mut Memory, setup: Setup, now: u64, me: u16, a: &mut Actor) -> Told
-    requires { MayStep setup memory.old.room a.old }
+pub(crate) fn n3<const B: u32>(
+    memory: &mut MemoryOf<B>,
+    setup: Setup,
+    now: u64,
+    me: u16,
+    a: &mut ActorOf<B>,
+) -> Told
+    requires { MayStep B setup memory.old.room a.old }
     ensures { Stepped setup now me Line.N3 memory.old a.old memory.new a.new result }
 {
     line_table!(N3 (setup me a found) made (memory now a found))
 }
 
-pub(crate) fn n4(memory: &mut Memory, setup: Setup, now: u64, me: u16, a: &mut Actor) -> Told
-    requires { MayStep setup memory.old.room a.old }
+pub(crate) fn n4<const B: u32>(
+    memory: &mut MemoryOf<B>,
+    setup: Setup,
+    now: u64,
+    me: u16,
+    a: &mut ActorOf<B>,
+) -> Told
+    requires { MayStep B setup memory.old.room a.old }
     ensures { Stepped setup now me Line.N4 memory.old a.old memory.new a.new result }
 {
     line_table!(N4 (setup me a found) made (memory now a found))
 }
 
-pub(crate) fn n5(memory: &mut Memory, setup: Setup, now: u64, me: u16, a: &mut Actor) -> Told
-    requires { MayStep setup memory.old.room a.old }
+pub(crate) fn n5<const B: u32>(
+    memory: &mut MemoryOf<B>,
+    setup: Setup,
+    now: u64,
+    me: u16,
+    a: &mut ActorOf<B>,
+) -> Told
+    requires { MayStep B setup memory.old.room a.old }
     ensures { Stepped setup now me Line.N5 memory.old a.old memory.new a.new result }
 {
     line_table!(N5 (setup me a found) made (memory now a found))
@@ -87,23 +123,41 @@ pub(crate) fn n5(memory: &mut Memory, setup: Setup, now: u64, me: u16, a: &mut A
 // A node goes to the free list, in both queues.
 
 #[tactic(auto, unfolding(crate::specs::Steps::outcome_on), using(crate::proofs::Freeing::aside_numbered))]
-pub(crate) fn f1(memory: &mut Memory, setup: Setup, now: u64, me: u16, a: &mut Actor) -> Told
-    requires { MayStep setup memory.old.room a.old }
+pub(crate) fn f1<const B: u32>(
+    memory: &mut MemoryOf<B>,
+    setup: Setup,
+    now: u64,
+    me: u16,
+    a: &mut ActorOf<B>,
+) -> Told
+    requires { MayStep B setup memory.old.room a.old }
     ensures { Stepped setup now me Line.F1 memory.old a.old memory.new a.new result }
 {
     line_table!(F1 (setup me a found) made (memory now a found))
 }
 
-pub(crate) fn f2(memory: &mut Memory, setup: Setup, now: u64, me: u16, a: &mut Actor) -> Told
-    requires { MayStep setup memory.old.room a.old }
+pub(crate) fn f2<const B: u32>(
+    memory: &mut MemoryOf<B>,
+    setup: Setup,
+    now: u64,
+    me: u16,
+    a: &mut ActorOf<B>,
+) -> Told
+    requires { MayStep B setup memory.old.room a.old }
     ensures { Stepped setup now me Line.F2 memory.old a.old memory.new a.new result }
 {
     line_table!(F2 (setup me a found) made (memory now a found))
 }
 
 #[tactic(auto, unfolding(crate::specs::Steps::outcome_on), using(crate::proofs::Freeing::freed_numbered))]
-pub(crate) fn f3(memory: &mut Memory, setup: Setup, now: u64, me: u16, a: &mut Actor) -> Told
-    requires { MayStep setup memory.old.room a.old }
+pub(crate) fn f3<const B: u32>(
+    memory: &mut MemoryOf<B>,
+    setup: Setup,
+    now: u64,
+    me: u16,
+    a: &mut ActorOf<B>,
+) -> Told
+    requires { MayStep B setup memory.old.room a.old }
     ensures { Stepped setup now me Line.F3 memory.old a.old memory.new a.new result }
 {
     line_table!(F3 (setup me a found) made (memory now a found))
@@ -111,57 +165,105 @@ pub(crate) fn f3(memory: &mut Memory, setup: Setup, now: u64, me: u16, a: &mut A
 
 // The enqueue of the non-blocking queue.
 
-pub(crate) fn e2(memory: &mut Memory, setup: Setup, now: u64, me: u16, a: &mut Actor) -> Told
-    requires { MayStep setup memory.old.room a.old }
+pub(crate) fn e2<const B: u32>(
+    memory: &mut MemoryOf<B>,
+    setup: Setup,
+    now: u64,
+    me: u16,
+    a: &mut ActorOf<B>,
+) -> Told
+    requires { MayStep B setup memory.old.room a.old }
     ensures { Stepped setup now me Line.E2 memory.old a.old memory.new a.new result }
 {
     line_table!(E2 (setup me a found) made (memory now a found))
 }
 
-pub(crate) fn e3(memory: &mut Memory, setup: Setup, now: u64, me: u16, a: &mut Actor) -> Told
-    requires { MayStep setup memory.old.room a.old }
+pub(crate) fn e3<const B: u32>(
+    memory: &mut MemoryOf<B>,
+    setup: Setup,
+    now: u64,
+    me: u16,
+    a: &mut ActorOf<B>,
+) -> Told
+    requires { MayStep B setup memory.old.room a.old }
     ensures { Stepped setup now me Line.E3 memory.old a.old memory.new a.new result }
 {
     line_table!(E3 (setup me a found) made (memory now a found))
 }
 
-pub(crate) fn e5(memory: &mut Memory, setup: Setup, now: u64, me: u16, a: &mut Actor) -> Told
-    requires { MayStep setup memory.old.room a.old }
+pub(crate) fn e5<const B: u32>(
+    memory: &mut MemoryOf<B>,
+    setup: Setup,
+    now: u64,
+    me: u16,
+    a: &mut ActorOf<B>,
+) -> Told
+    requires { MayStep B setup memory.old.room a.old }
     ensures { Stepped setup now me Line.E5 memory.old a.old memory.new a.new result }
 {
     line_table!(E5 (setup me a found) made (memory now a found))
 }
 
-pub(crate) fn e6(memory: &mut Memory, setup: Setup, now: u64, me: u16, a: &mut Actor) -> Told
-    requires { MayStep setup memory.old.room a.old }
+pub(crate) fn e6<const B: u32>(
+    memory: &mut MemoryOf<B>,
+    setup: Setup,
+    now: u64,
+    me: u16,
+    a: &mut ActorOf<B>,
+) -> Told
+    requires { MayStep B setup memory.old.room a.old }
     ensures { Stepped setup now me Line.E6 memory.old a.old memory.new a.new result }
 {
     line_table!(E6 (setup me a found) made (memory now a found))
 }
 
-pub(crate) fn e7(memory: &mut Memory, setup: Setup, now: u64, me: u16, a: &mut Actor) -> Told
-    requires { MayStep setup memory.old.room a.old }
+pub(crate) fn e7<const B: u32>(
+    memory: &mut MemoryOf<B>,
+    setup: Setup,
+    now: u64,
+    me: u16,
+    a: &mut ActorOf<B>,
+) -> Told
+    requires { MayStep B setup memory.old.room a.old }
     ensures { Stepped setup now me Line.E7 memory.old a.old memory.new a.new result }
 {
     line_table!(E7 (setup me a found) made (memory now a found))
 }
 
-pub(crate) fn e9(memory: &mut Memory, setup: Setup, now: u64, me: u16, a: &mut Actor) -> Told
-    requires { MayStep setup memory.old.room a.old }
+pub(crate) fn e9<const B: u32>(
+    memory: &mut MemoryOf<B>,
+    setup: Setup,
+    now: u64,
+    me: u16,
+    a: &mut ActorOf<B>,
+) -> Told
+    requires { MayStep B setup memory.old.room a.old }
     ensures { Stepped setup now me Line.E9 memory.old a.old memory.new a.new result }
 {
     line_table!(E9 (setup me a found) made (memory now a found))
 }
 
-pub(crate) fn e13(memory: &mut Memory, setup: Setup, now: u64, me: u16, a: &mut Actor) -> Told
-    requires { MayStep setup memory.old.room a.old }
+pub(crate) fn e13<const B: u32>(
+    memory: &mut MemoryOf<B>,
+    setup: Setup,
+    now: u64,
+    me: u16,
+    a: &mut ActorOf<B>,
+) -> Told
+    requires { MayStep B setup memory.old.room a.old }
     ensures { Stepped setup now me Line.E13 memory.old a.old memory.new a.new result }
 {
     line_table!(E13 (setup me a found) made (memory now a found))
 }
 
-pub(crate) fn e17(memory: &mut Memory, setup: Setup, now: u64, me: u16, a: &mut Actor) -> Told
-    requires { MayStep setup memory.old.room a.old }
+pub(crate) fn e17<const B: u32>(
+    memory: &mut MemoryOf<B>,
+    setup: Setup,
+    now: u64,
+    me: u16,
+    a: &mut ActorOf<B>,
+) -> Told
+    requires { MayStep B setup memory.old.room a.old }
     ensures { Stepped setup now me Line.E17 memory.old a.old memory.new a.new result }
 {
     line_table!(E17 (setup me a found) made (memory now a found))
@@ -169,216 +271,94 @@ pub(crate) fn e17(memory: &mut Memory, setup: Setup, now: u64, me: u16, a: &mut 
 
 // The dequeue of the non-blocking queue.
 
-pub(crate) fn d2(memory: &mut Memory, setup: Setup, now: u64, me: u16, a: &mut Actor) -> Told
-    requires { MayStep setup memory.old.room a.old }
+pub(crate) fn d2<const B: u32>(
+    memory: &mut MemoryOf<B>,
+    setup: Setup,
+    now: u64,
+    me: u16,
+    a: &mut ActorOf<B>,
+) -> Told
+    requires { MayStep B setup memory.old.room a.old }
     ensures { Stepped setup now me Line.D2 memory.old a.old memory.new a.new result }
 {
     line_table!(D2 (setup me a found) made (memory now a found))
 }
 
-pub(crate) fn d3(memory: &mut Memory, setup: Setup, now: u64, me: u16, a: &mut Actor) -> Told
-    requires { MayStep setup memory.old.room a.old }
+pub(crate) fn d3<const B: u32>(
+    memory: &mut MemoryOf<B>,
+    setup: Setup,
+    now: u64,
+    me: u16,
+    a: &mut ActorOf<B>,
+) -> Told
+    requires { MayStep B setup memory.old.room a.old }
     ensures { Stepped setup now me Line.D3 memory.old a.old memory.new a.new result }
 {
     line_table!(D3 (setup me a found) made (memory now a found))
 }
 
-pub(crate) fn d4(memory: &mut Memory, setup: Setup, now: u64, me: u16, a: &mut Actor) -> Told
-    requires { MayStep setup memory.old.room a.old }
+pub(crate) fn d4<const B: u32>(
+    memory: &mut MemoryOf<B>,
+    setup: Setup,
+    now: u64,
+    me: u16,
+    a: &mut ActorOf<B>,
+) -> Told
+    requires { MayStep B setup memory.old.room a.old }
     ensures { Stepped setup now me Line.D4 memory.old a.old memory.new a.new result }
 {
     line_table!(D4 (setup me a found) made (memory now a found))
 }
 
-pub(crate) fn d5(memory: &mut Memory, setup: Setup, now: u64, me: u16, a: &mut Actor) -> Told
-    requires { MayStep setup memory.old.room a.old }
+pub(crate) fn d5<const B: u32>(
+    memory: &mut MemoryOf<B>,
+    setup: Setup,
+    now: u64,
+    me: u16,
+    a: &mut ActorOf<B>,
+) -> Told
+    requires { MayStep B setup memory.old.room a.old }
     ensures { Stepped setup now me Line.D5 memory.old a.old memory.new a.new result }
 {
     line_table!(D5 (setup me a found) made (memory now a found))
 }
 
-pub(crate) fn d10(memory: &mut Memory, setup: Setup, now: u64, me: u16, a: &mut Actor) -> Told
-    requires { MayStep setup memory.old.room a.old }
+pub(crate) fn d10<const B: u32>(
+    memory: &mut MemoryOf<B>,
+    setup: Setup,
+    now: u64,
+    me: u16,
+    a: &mut ActorOf<B>,
+) -> Told
+    requires { MayStep B setup memory.old.room a.old }
     ensures { Stepped setup now me Line.D10 memory.old a.old memory.new a.new result }
 {
     line_table!(D10 (setup me a found) made (memory now a found))
 }
 
-pub(crate) fn d12(memory: &mut Memory, setup: Setup, now: u64, me: u16, a: &mut Actor) -> Told
-    requires ready { MayStep setup memory.old.room a.old }
+pub(crate) fn d12<const B: u32>(
+    memory: &mut MemoryOf<B>,
+    setup: Setup,
+    now: u64,
+    me: u16,
+    a: &mut ActorOf<B>,
+) -> Told
+    requires ready { MayStep B setup memory.old.room a.old }
     requires node { a.old.next.node ≤ memory.old.room }
     ensures { Stepped setup now me Line.D12 memory.old a.old memory.new a.new result }
 {
     line_table!(D12 (setup me a found) made (memory now a found))
 }
 
-pub(crate) fn d13(memory: &mut Memory, setup: Setup, now: u64, me: u16, a: &mut Actor) -> Told
-    requires { MayStep setup memory.old.room a.old }
+pub(crate) fn d13<const B: u32>(
+    memory: &mut MemoryOf<B>,
+    setup: Setup,
+    now: u64,
+    me: u16,
+    a: &mut ActorOf<B>,
+) -> Told
+    requires { MayStep B setup memory.old.room a.old }
     ensures { Stepped setup now me Line.D13 memory.old a.old memory.new a.new result }
 {
     line_table!(D13 (setup me a found) made (memory now a found))
-}
-
-// The enqueue of the two-lock queue.
-
-pub(crate) fn a1(memory: &mut Memory, setup: Setup, now: u64, me: u16, a: &mut Actor) -> Told
-    requires { MayStep setup memory.old.room a.old }
-    ensures { Stepped setup now me Line.A1 memory.old a.old memory.new a.new result }
-{
-    line_table!(A1 (setup me a found) made (memory now a found))
-}
-
-pub(crate) fn a2(memory: &mut Memory, setup: Setup, now: u64, me: u16, a: &mut Actor) -> Told
-    requires { MayStep setup memory.old.room a.old }
-    ensures { Stepped setup now me Line.A2 memory.old a.old memory.new a.new result }
-{
-    line_table!(A2 (setup me a found) made (memory now a found))
-}
-
-pub(crate) fn a3(memory: &mut Memory, setup: Setup, now: u64, me: u16, a: &mut Actor) -> Told
-    requires { MayStep setup memory.old.room a.old }
-    ensures { Stepped setup now me Line.A3 memory.old a.old memory.new a.new result }
-{
-    line_table!(A3 (setup me a found) made (memory now a found))
-}
-
-pub(crate) fn a4(memory: &mut Memory, setup: Setup, now: u64, me: u16, a: &mut Actor) -> Told
-    requires { MayStep setup memory.old.room a.old }
-    ensures { Stepped setup now me Line.A4 memory.old a.old memory.new a.new result }
-{
-    line_table!(A4 (setup me a found) made (memory now a found))
-}
-
-pub(crate) fn a5(memory: &mut Memory, setup: Setup, now: u64, me: u16, a: &mut Actor) -> Told
-    requires { MayStep setup memory.old.room a.old }
-    ensures { Stepped setup now me Line.A5 memory.old a.old memory.new a.new result }
-{
-    line_table!(A5 (setup me a found) made (memory now a found))
-}
-
-pub(crate) fn a6(memory: &mut Memory, setup: Setup, now: u64, me: u16, a: &mut Actor) -> Told
-    requires { MayStep setup memory.old.room a.old }
-    ensures { Stepped setup now me Line.A6 memory.old a.old memory.new a.new result }
-{
-    line_table!(A6 (setup me a found) made (memory now a found))
-}
-
-#[tactic(auto, unfolding(crate::specs::Steps::outcome_on), using(crate::proofs::Freeing::left_with_node_numbered))]
-pub(crate) fn a7(memory: &mut Memory, setup: Setup, now: u64, me: u16, a: &mut Actor) -> Told
-    requires { MayStep setup memory.old.room a.old }
-    ensures { Stepped setup now me Line.A7 memory.old a.old memory.new a.new result }
-{
-    line_table!(A7 (setup me a found) made (memory now a found))
-}
-
-// The dequeue of the two-lock queue.
-
-pub(crate) fn b1(memory: &mut Memory, setup: Setup, now: u64, me: u16, a: &mut Actor) -> Told
-    requires { MayStep setup memory.old.room a.old }
-    ensures { Stepped setup now me Line.B1 memory.old a.old memory.new a.new result }
-{
-    line_table!(B1 (setup me a found) made (memory now a found))
-}
-
-pub(crate) fn b2(memory: &mut Memory, setup: Setup, now: u64, me: u16, a: &mut Actor) -> Told
-    requires { MayStep setup memory.old.room a.old }
-    ensures { Stepped setup now me Line.B2 memory.old a.old memory.new a.new result }
-{
-    line_table!(B2 (setup me a found) made (memory now a found))
-}
-
-pub(crate) fn b3(memory: &mut Memory, setup: Setup, now: u64, me: u16, a: &mut Actor) -> Told
-    requires { MayStep setup memory.old.room a.old }
-    ensures { Stepped setup now me Line.B3 memory.old a.old memory.new a.new result }
-{
-    line_table!(B3 (setup me a found) made (memory now a found))
-}
-
-pub(crate) fn b4(memory: &mut Memory, setup: Setup, now: u64, me: u16, a: &mut Actor) -> Told
-    requires ready { MayStep setup memory.old.room a.old }
-    requires node { a.old.next.node ≤ memory.old.room }
-    ensures { Stepped setup now me Line.B4 memory.old a.old memory.new a.new result }
-{
-    line_table!(B4 (setup me a found) made (memory now a found))
-}
-
-pub(crate) fn b5(memory: &mut Memory, setup: Setup, now: u64, me: u16, a: &mut Actor) -> Told
-    requires { MayStep setup memory.old.room a.old }
-    ensures { Stepped setup now me Line.B5 memory.old a.old memory.new a.new result }
-{
-    line_table!(B5 (setup me a found) made (memory now a found))
-}
-
-#[tactic(auto, unfolding(crate::specs::Steps::outcome_on), using(crate::proofs::Freeing::unlocked_numbered))]
-pub(crate) fn b6(memory: &mut Memory, setup: Setup, now: u64, me: u16, a: &mut Actor) -> Told
-    requires { MayStep setup memory.old.room a.old }
-    ensures { Stepped setup now me Line.B6 memory.old a.old memory.new a.new result }
-{
-    line_table!(B6 (setup me a found) made (memory now a found))
-}
-
-// A shut, of the non-blocking queue and of the two-lock queue.
-
-pub(crate) fn s1(memory: &mut Memory, setup: Setup, now: u64, me: u16, a: &mut Actor) -> Told
-    requires { MayStep setup memory.old.room a.old }
-    ensures { Stepped setup now me Line.S1 memory.old a.old memory.new a.new result }
-{
-    line_table!(S1 (setup me a found) made (memory now a found))
-}
-
-pub(crate) fn s2(memory: &mut Memory, setup: Setup, now: u64, me: u16, a: &mut Actor) -> Told
-    requires { MayStep setup memory.old.room a.old }
-    ensures { Stepped setup now me Line.S2 memory.old a.old memory.new a.new result }
-{
-    line_table!(S2 (setup me a found) made (memory now a found))
-}
-
-pub(crate) fn s3(memory: &mut Memory, setup: Setup, now: u64, me: u16, a: &mut Actor) -> Told
-    requires { MayStep setup memory.old.room a.old }
-    ensures { Stepped setup now me Line.S3 memory.old a.old memory.new a.new result }
-{
-    line_table!(S3 (setup me a found) made (memory now a found))
-}
-
-pub(crate) fn s4(memory: &mut Memory, setup: Setup, now: u64, me: u16, a: &mut Actor) -> Told
-    requires { MayStep setup memory.old.room a.old }
-    ensures { Stepped setup now me Line.S4 memory.old a.old memory.new a.new result }
-{
-    line_table!(S4 (setup me a found) made (memory now a found))
-}
-
-pub(crate) fn s5(memory: &mut Memory, setup: Setup, now: u64, me: u16, a: &mut Actor) -> Told
-    requires { MayStep setup memory.old.room a.old }
-    ensures { Stepped setup now me Line.S5 memory.old a.old memory.new a.new result }
-{
-    line_table!(S5 (setup me a found) made (memory now a found))
-}
-
-pub(crate) fn s6(memory: &mut Memory, setup: Setup, now: u64, me: u16, a: &mut Actor) -> Told
-    requires { MayStep setup memory.old.room a.old }
-    ensures { Stepped setup now me Line.S6 memory.old a.old memory.new a.new result }
-{
-    line_table!(S6 (setup me a found) made (memory now a found))
-}
-
-pub(crate) fn s7(memory: &mut Memory, setup: Setup, now: u64, me: u16, a: &mut Actor) -> Told
-    requires { MayStep setup memory.old.room a.old }
-    ensures { Stepped setup now me Line.S7 memory.old a.old memory.new a.new result }
-{
-    line_table!(S7 (setup me a found) made (memory now a found))
-}
-
-pub(crate) fn s8(memory: &mut Memory, setup: Setup, now: u64, me: u16, a: &mut Actor) -> Told
-    requires { MayStep setup memory.old.room a.old }
-    ensures { Stepped setup now me Line.S8 memory.old a.old memory.new a.new result }
-{
-    line_table!(S8 (setup me a found) made (memory now a found))
-}
-
-#[tactic(auto, unfolding(crate::specs::Steps::outcome_on), using(crate::proofs::Freeing::left_numbered))]
-pub(crate) fn s9(memory: &mut Memory, setup: Setup, now: u64, me: u16, a: &mut Actor) -> Told
-    requires { MayStep setup memory.old.room a.old }
-    ensures { Stepped setup now me Line.S9 memory.old a.old memory.new a.new result }
-{
-    line_table!(S9 (setup me a found) made (memory now a found))
 }

@@ -5,8 +5,8 @@ ghost use Rattle.line_steps.specs.Outcomes.{with_outcome};
 ghost use Rattle.line_steps.specs.Ready.{IsCounted, RegistersFit, ReadsFit};
 ghost use Rattle.line_steps.specs.Steps.{memory_after, outcome_on};
 
-use crate::actors::{Actor, Setup};
-use crate::memory::Memory;
+use crate::actors::{ActorOf, Setup};
+use crate::memory::MemoryOf;
 use crate::outcomes::put_down;
 use crate::rows;
 use history::{Reply, Stamped};
@@ -27,18 +27,20 @@ macro_rules! rows_of {
 
 /// One step at a line. Answers the reply, where the call ends.
 ///
-/// `now` is the step's number and `me` the actor's, from 1 on. The setup's sizes fit a reference's parts: `size` is at
-/// most 16,777,214 and `limit` at most 1,099,511,627,775. The actor's registers name nodes for which there is room, their
-/// counts are at most `limit`, and `f` is at most `size`. `operation` is told what becomes of it. Takes no memory.
-pub fn stepped(
-    memory: &mut Memory,
+/// `now` is the step's number and `me` the actor's, from 1 on. The setup's split is that of the
+/// memory, and its sizes fit a reference's parts: `size` is at most the greatest node of the split and `limit` at most its
+/// greatest count. The actor's registers name nodes for which there is room, their counts are at most `limit`, and `f` is at
+/// most `size`. `operation` is told what becomes of it. Takes no memory.
+pub fn stepped<const B: u32>(
+    memory: &mut MemoryOf<B>,
     setup: Setup,
     now: u64,
     me: u16,
-    a: &mut Actor,
+    a: &mut ActorOf<B>,
     operation: &mut Stamped,
     line: Line,
 ) -> Option<Reply>
+    requires bits { setup.bits ≡ B }
     requires counted { IsCounted setup }
     requires ready { RegistersFit setup memory.old.room a.old }
     requires reads { ReadsFit line memory.old.room a.old }

@@ -64,8 +64,8 @@ macro_rules! shut_rows {
         } }
     };
     (S8 ($setup:ident $me:ident $a:ident $found:ident) $each:ident $given:tt) => {
-        $each! { $given S8 { exchange Next($a.tail.node()) (CountedRef::new(0, 0), CountedRef::shut(0)) } {
-            if $found.same(CountedRef::new(0, 0)) {
+        $each! { $given S8 { exchange Next($a.tail.node()) (CountedRefOf::new(0, 0), CountedRefOf::shut(0)) } {
+            if $found.same(CountedRefOf::new(0, 0)) {
                 $a.due = Some(Reply::Done);
                 effect(goes(Line::S9, $a))
             } else {

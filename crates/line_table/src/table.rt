@@ -77,7 +77,7 @@ macro_rules! line_table {
         } }
     };
     (F2 ($setup:ident $me:ident $a:ident $found:ident) $each:ident $given:tt) => {
-        $each! { $given F2 { store Next($a.node) (CountedRef::new($a.top.node(), $a.mark)) } {
+        $each! { $given F2 { store Next($a.node) (CountedRefOf::new($a.top.node(), $a.mark)) } {
             goes(Line::F3, $a)
         } }
     };
@@ -253,8 +253,8 @@ macro_rules! line_table {
         } }
     };
     (A5 ($setup:ident $me:ident $a:ident $found:ident) $each:ident $given:tt) => {
-        $each! { $given A5 { exchange Next($a.tail.node()) (CountedRef::new(0, 0), CountedRef::new($a.node, 0)) } {
-            if $found.same(CountedRef::new(0, 0)) {
+        $each! { $given A5 { exchange Next($a.tail.node()) (CountedRefOf::new(0, 0), CountedRefOf::new($a.node, 0)) } {
+            if $found.same(CountedRefOf::new(0, 0)) {
                 $a.links();
                 effect(goes(Line::A6, $a))
             } else {
@@ -264,7 +264,7 @@ macro_rules! line_table {
         } }
     };
     (A6 ($setup:ident $me:ident $a:ident $found:ident) $each:ident $given:tt) => {
-        $each! { $given A6 { store Tail (CountedRef::new($a.node, 0)) } {
+        $each! { $given A6 { store Tail (CountedRefOf::new($a.node, 0)) } {
             goes(Line::A7, $a)
         } }
     };

@@ -2,6 +2,8 @@
 //! has stopped.
 #![tactic(auto)]
 
+ghost use Rattle.counted_ref.specs.Ref.{IsSplit};
+
 mod answers;
 mod comparing;
 mod drawing;
@@ -18,27 +20,40 @@ use crate::pairing::rounds;
 use crate::queues::Watched;
 use crate::stopping::{runs, runs_with_shuts};
 use line_table::Kind;
-use nonblocking::MsQueue;
+use nonblocking::MsQueueOf;
 use std::alloc::Global;
 use std::io;
-use two_lock::TwoLockQueue;
+use two_lock::TwoLockQueueOf;
 
 // What came of calls by so many seats: how many were the same, and whether each answer came.
-fn same<Q: Watched + Drop>(alloc: Global, seats: u64) -> (u64, bool) {
-    match rounds::<Q>(alloc, seats) {
+fn same<Q: Watched<B> + Drop, const B: u32>(alloc: Global, seats: u64) -> (u64, bool)
+    requires split { IsSplit B }
+{
+    match rounds::<Q, B>(alloc, seats) {
         Some(found) => (found.same, found.answers == Answers::all(Q::kind())),
         None => (0, false),
     }
 }
 
+// Prints what came of calls by so many seats, with each of these numbers of bits for a node.
+macro_rules! prints_what_came {
+    ($rt:ident $seats:ident $($bits:literal)*) => {
+        $(
+            let (calls, all) = same::<TwoLockQueueOf<$bits>, $bits>($rt.alloc(), $seats);
+            println!($rt;
+                "two-lock, {} bits, seats {}: {calls} calls the same, each answer came: {all}", $bits, $seats
+            )?;
+            let (calls, all) = same::<MsQueueOf<$bits>, $bits>($rt.alloc(), $seats);
+            println!($rt;
+                "non-blocking, {} bits, seats {}: {calls} calls the same, each answer came: {all}", $bits, $seats
+            )?;
+        )*
+    };
+}
+
 fn main(rt: HostRuntime) -> io::Result<()> {
     for seats in 1..=2 {
-        let (calls, all) = same::<TwoLockQueue>(rt.alloc(), seats);
-        println!(rt; "two-lock, seats {seats}: {calls} calls the same, each answer came: {all}")?;
-        let (calls, all) = same::<MsQueue>(rt.alloc(), seats);
-        println!(rt;
-            "non-blocking, seats {seats}: {calls} calls the same, each answer came: {all}"
-        )?;
+        prints_what_came!(rt seats 16 24 32);
     }
     let before = (
         halted(rt.alloc(), Kind::NonBlocking),

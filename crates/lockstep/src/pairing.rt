@@ -1,16 +1,17 @@
 //! A queue and a world, call by call.
 ghost use Rattle.std.specs.Prelude.{◌≤◌, IfSome};
 ghost use Rattle.std.specs.List.{All};
+ghost use Rattle.counted_ref.specs.Ref.{IsSplit};
 
 use crate::answers::Answers;
 use crate::comparing::{has_pocket, has_words};
 use crate::drawing::Draws;
 use crate::queues::Watched;
 use crate::stepping::{CHOICES_WITH_SHUTS, MOST_STEPS, call_of, told};
-use history::{Op, Reply};
-use node_arena::MOST_COUNT;
+use counted_ref::most_count;
+use history::{Fifo, Op, Reply};
 use std::alloc::Global;
-use step_machine::World;
+use step_machine::WorldOf;
 
 /// How often a queue and a world begin anew.
 const ROUNDS: u64 = 400;
@@ -27,7 +28,7 @@ pub struct Found {
 }
 
 // What a queue answers to a call; none where the seat may not make it.
-fn answered<Q: Watched>(queue: &Q, seat: &mut Q::Seat, op: Op, turns: u32) -> Option<Reply>
+fn answered<Q: Fifo>(queue: &Q, seat: &mut Q::Seat, op: Op, turns: u32) -> Option<Reply>
     requires seat { Q.is_seat queue.now seat.old }
     requires turns { 1 ≤ turns }
     ensures { Q.is_seat queue.now seat.new }
@@ -54,10 +55,10 @@ fn answered<Q: Watched>(queue: &Q, seat: &mut Q::Seat, op: Op, turns: u32) -> Op
 }
 
 // One call by a seat and by the actor of its number; whether the replies are the same.
-fn agrees<Q: Watched>(
+fn agrees<Q: Watched<B>, const B: u32>(
     queue: &Q,
     seat: &mut Q::Seat,
-    world: &mut World,
+    world: &mut WorldOf<B>,
     actor: u16,
     draws: &mut Draws,
     answers: &mut Answers,
@@ -78,11 +79,11 @@ fn agrees<Q: Watched>(
 }
 
 // The calls of one round, by so many seats, 1 or 2; how many agreed.
-fn calls<Q: Watched>(
+fn calls<Q: Watched<B>, const B: u32>(
     queue: &Q,
     mut one: Q::Seat,
     mut other: Q::Seat,
-    world: &mut World,
+    world: &mut WorldOf<B>,
     seats: u64,
     draws: &mut Draws,
     answers: &mut Answers,
@@ -99,8 +100,8 @@ fn calls<Q: Watched>(
         };
         if replied
             && has_words(queue, world)
-            && has_pocket::<Q>(&one, world, 1)
-            && has_pocket::<Q>(&other, world, 2)
+            && has_pocket::<Q, B>(&one, world, 1)
+            && has_pocket::<Q, B>(&other, world, 2)
         {
             same = same.wrapping_add(1);
         }
@@ -109,7 +110,7 @@ fn calls<Q: Watched>(
 }
 
 // The last of these seats, taken from them.
-fn last<Q: Watched>(queue: &Q, seats: &mut Vec<Q::Seat>) -> Option<Q::Seat>
+fn last<Q: Fifo>(queue: &Q, seats: &mut Vec<Q::Seat>) -> Option<Q::Seat>
     requires { All (Q.is_seat queue.now) seats.old.items }
     ensures rest { All (Q.is_seat queue.now) seats.new.items }
     ensures last { IfSome result (Q.is_seat queue.now) }
@@ -119,31 +120,35 @@ fn last<Q: Watched>(queue: &Q, seats: &mut Vec<Q::Seat>) -> Option<Q::Seat>
 }
 
 // One round: a new queue and a new world of sizes that are drawn.
-fn round<Q: Watched + Drop>(
+fn round<Q: Watched<B> + Drop, const B: u32>(
     alloc: Global,
     seats: u64,
     draws: &mut Draws,
     answers: &mut Answers,
-) -> Option<u64> {
+) -> Option<u64>
+    requires split { IsSplit B }
+{
     let nodes = 2 + draws.below(4) as u32;
     let limit = match draws.below(7) {
-        0 => MOST_COUNT,
+        0 => most_count(B),
         limit => limit,
     };
     let (queue, mut dealt) = Q::made(alloc, nodes, limit).ok()?;
     let other = last(&queue, &mut dealt)?;
     let one = last(&queue, &mut dealt)?;
-    let mut world = World::new(alloc, Q::kind(), nodes, limit, 2).ok()?;
+    let mut world = WorldOf::<B>::new(alloc, Q::kind(), nodes, limit, 2).ok()?;
     Some(calls(&queue, one, other, &mut world, seats, draws, answers))
 }
 
 /// All rounds with calls by so many seats, 1 or 2; none where memory is refused.
-pub fn rounds<Q: Watched + Drop>(alloc: Global, seats: u64) -> Option<Found> {
+pub fn rounds<Q: Watched<B> + Drop, const B: u32>(alloc: Global, seats: u64) -> Option<Found>
+    requires split { IsSplit B }
+{
     let mut draws = Draws::new(seats);
     let mut answers = Answers::none();
     let mut same = 0u64;
     for _ in 0..ROUNDS {
-        same = same.wrapping_add(round::<Q>(alloc, seats, &mut draws, &mut answers)?);
+        same = same.wrapping_add(round::<Q, B>(alloc, seats, &mut draws, &mut answers)?);
     }
     Some(Found { same, answers })
 }

@@ -1,8 +1,9 @@
 //! The queues that can be looked into.
 ghost use Rattle.std.specs.Prelude.{IfOk};
 ghost use Rattle.std.specs.List.{All};
+ghost use Rattle.counted_ref.specs.Ref.{IsSplit};
 
-use arena_queue::{Algorithm, ArenaQueue};
+use arena_queue::{Algorithm, ArenaQueueOf};
 use history::{Fifo, Refusal};
 use line_table::Kind;
 use node_arena::{Held, Role, Seat};
@@ -11,13 +12,14 @@ use std::alloc::Global;
 /// Both seats may push and pop.
 const ROLES: [Role; 2] = [Role::Both; 2];
 
-/// A queue with words and pockets to compare.
-pub trait Watched: Fifo {
+/// A queue with words and pockets to compare, and so many bits of a reference for the number of a node.
+pub trait Watched<const B: u32>: Fifo {
     /// Which queue it is.
     fn kind() -> Kind;
 
     /// A queue of so many nodes and this greatest count, with its seats 1 and 2.
     fn made(alloc: Global, nodes: u32, limit: u64) -> Result<(Self, Vec<Self::Seat>), Refusal>
+        requires split { IsSplit B }
         ensures { IfOk result (λ r. All (Self.is_seat r.0) r.1.items) };
 
     /// What a word holds; none where there is no such word.
@@ -27,13 +29,17 @@ pub trait Watched: Fifo {
     fn pocket(seat: &Self::Seat) -> Option<Held>;
 }
 
-impl<A: Algorithm> Watched for ArenaQueue<A> {
+impl<A: Algorithm<B>, const B: u32> Watched<B> for ArenaQueueOf<A, B> {
     fn kind() -> Kind {
         A::kind()
     }
 
-    fn made(alloc: Global, nodes: u32, limit: u64) -> Result<(ArenaQueue<A>, Vec<Seat>), Refusal> {
-        match ArenaQueue::<A>::new(alloc, nodes, limit, &ROLES) {
+    fn made(
+        alloc: Global,
+        nodes: u32,
+        limit: u64,
+    ) -> Result<(ArenaQueueOf<A, B>, Vec<Seat>), Refusal> {
+        match ArenaQueueOf::<A, B>::new(alloc, nodes, limit, &ROLES) {
             Ok(made) => Ok(made),
             Err(why) => Err(why),
         }

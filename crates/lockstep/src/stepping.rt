@@ -1,6 +1,6 @@
 //! Calls of a world, from their begin to their reply.
 use history::{Body, Op, Reply};
-use step_machine::{Stepped, World};
+use step_machine::{Stepped, WorldOf};
 
 /// How many steps a call takes at most where no other actor is in a call.
 pub const MOST_STEPS: u32 = 17;
@@ -21,7 +21,7 @@ pub fn call_of(number: u64) -> Op {
 }
 
 /// One step of an actor; whether it is in a call.
-pub fn goes(world: &mut World, actor: u16) -> bool {
+pub fn goes<const B: u32>(world: &mut WorldOf<B>, actor: u16) -> bool {
     match world.step(actor) {
         Ok(_) => true,
         Err(_) => false,
@@ -30,7 +30,12 @@ pub fn goes(world: &mut World, actor: u16) -> bool {
 
 /// Begins a call and takes so many steps of it at most: the reply, and how many steps it took. None where it has no reply
 /// by then.
-pub fn told(world: &mut World, actor: u16, op: Op, most: u32) -> Option<(Reply, u32)> {
+pub fn told<const B: u32>(
+    world: &mut WorldOf<B>,
+    actor: u16,
+    op: Op,
+    most: u32,
+) -> Option<(Reply, u32)> {
     world.begin(actor, op).ok()?;
     for taken in 1..=most {
         match world.step(actor).ok()? {

@@ -1,6 +1,7 @@
 -- Queues whose last seat receives and whose other seats send.
-use Rattle.std.specs.Prelude.{◌≡◌, ℕ, ◌+◌, true, false, List, [], ◌∷◌, ◌++◌, length, map, replicate}
+use Rattle.std.specs.Prelude.{◌≡◌, ℕ, ◌+◌, ◌-◌, ◌^◌, true, false, List, [], ◌∷◌, ◌++◌, length, map, replicate}
 use Rattle.std.specs.List.{All}
+use Rattle.counted_ref.specs.Ref.{count_bits}
 use Rattle.line_table.specs.declared.lines.Kind.{Kind}
 use Rattle.history.specs.declared.refusals.Refusal.{Refusal}
 use Rattle.history.specs.declared.refusals.Refusal.TheVariants.{Memory, BadSize}
@@ -39,7 +40,7 @@ pub record IsOpened {Q S : Type 0} (is_seat : Q → S → Type 0) (permits : Q �
 -- what a queue is made for that carries so many letters of so many senders: its kind, as many nodes as letters and senders,
 -- and two more, the greatest count of all, and the roles of the senders and their receiver
 abbrev pub mail_plan : Kind → (letters senders : ℕ) → Layout
-mail_plan kind letters senders = plan kind (letters + senders + 2) 1099511627775 (giver_and_taker_roles senders)
+mail_plan kind letters senders = plan 24 kind (letters + senders + 2) (2 ^ count_bits 24 - 1) (giver_and_taker_roles senders)
 
 -- a new queue is refused for this cause: a size is out of its range, or there was no memory
 abbrev pub OpenRefused : Layout → Refusal → Type 0

@@ -15,7 +15,7 @@ use std::alloc::Global;
 ///
 /// Senders are numbered from 1 on. Refusals: `BadSize` where a size is out of the range of `ArenaQueue::new`, and
 /// `Memory`. Takes memory for the queue, and doesn't wait.
-pub fn mail_queue<A: Algorithm>(
+pub fn mail_queue<A: Algorithm<24>>(
     alloc: Global,
     nodes: u32,
     limit: u64,
@@ -25,9 +25,10 @@ pub fn mail_queue<A: Algorithm>(
         r.0 (r.1.items ++ r.2 ∷ [])) }
     ensures opened { IfOk result (λ r. IsOpened IsQueueSeat permits_of known_of
         senders r.0 r.1.items r.2) }
-    ensures sized { OnOk result (IsPlanned (plan A.kind nodes limit (giver_and_taker_roles senders))) }
+    ensures sized { OnOk result (IsPlanned
+        (plan 24 A.kind nodes limit (giver_and_taker_roles senders))) }
     ensures refused { IfErr result (OpenRefused
-        (plan A.kind nodes limit (giver_and_taker_roles senders))) }
+        (plan 24 A.kind nodes limit (giver_and_taker_roles senders))) }
 {
     let roles = roles_of(alloc, senders)?;
     let (queue, mut seats) = ArenaQueue::<A>::new(alloc, nodes, limit, &roles)?;

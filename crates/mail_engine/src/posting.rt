@@ -102,7 +102,7 @@ fn post_mail<T: Threads + Wait + Sync, W: Sink>(
 }
 
 // Sends letters over a queue of this algorithm, and writes those taken.
-fn post_by<A: Algorithm + Sync + Drop, T: Threads + Wait + Sync, W: Sink>(
+fn post_by<A: Algorithm<24> + Sync + Drop, T: Threads + Wait + Sync, W: Sink>(
     rt: &T,
     alloc: Global,
     mail: Mail,

@@ -4,7 +4,7 @@ use history::{Refusal, WornWord};
 use std::sync::atomic::{AtomicUsize, Ordering};
 
 /// Calls in the order in which they are due, pushes, pops or shuts: the turns of each, and what it is refused; none where it
-/// is to be handed on. A call that isn't due, or has other turns, is refused `WornOut(Next)`.
+/// is to be handed on. A call that isn't due, or has other turns, is refused `WornOut(Tail)`.
 #[derive(Drop)]
 pub struct Listed<'a> {
     calls: &'a [(u32, Option<Refusal>)],
@@ -24,7 +24,7 @@ impl<'a> Listed<'a> {
     fn next_refusal(&self, turns: u32) -> Option<Refusal> {
         match self.calls.get(self.made.fetch_add(1, Ordering::SeqCst)) {
             Some((due, refusal)) if *due == turns => *refusal,
-            _ => Some(Refusal::WornOut(WornWord::Next)),
+            _ => Some(Refusal::WornOut(WornWord::Tail)),
         }
     }
 }

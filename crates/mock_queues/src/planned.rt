@@ -1,7 +1,7 @@
 //! A queue that goes by a plan: each call is first put to the plan, which may refuse it, and else handed on.
 ghost use Rattle.std.specs.Prelude.{IfOk, IfErr, IsTrue};
 
-use history::{Body, Fifo, Refusal, Rest, Taken};
+use history::{Body, Fifo, Refusal, Rest, Taken, WornWord};
 use std::alloc::Global;
 
 /// What becomes of the calls of a queue. A plan may take its time, as by turning until another call was made.
@@ -12,7 +12,8 @@ pub trait Plan {
     /// What a pop of so many turns is refused, before it is handed on; none where it is to be handed on.
     fn pop_refusal(&self, turns: u32) -> Option<Refusal>;
 
-    /// What a shut of so many turns is refused, before it is handed on; none where it is to be handed on.
+    /// What a shut of so many turns is refused, before it is handed on: `WornOut(Tail)` or `Busy`. It is handed on where this is
+    /// none, or something else, which refuses no shut.
     fn shut_refusal(&self, _turns: u32) -> Option<Refusal> {
         None
     }
@@ -95,7 +96,7 @@ impl<Q: Fifo + Drop, P: Plan + Drop> Fifo for Planned<Q, P> {
 
     fn try_shut(&self, seat: &mut Q::Seat, turns: u32) -> Result<(), Refusal> {
         match self.plan.shut_refusal(turns) {
-            Some(Refusal::WornOut(word)) => Err(Refusal::WornOut(word)),
+            Some(Refusal::WornOut(WornWord::Tail)) => Err(Refusal::WornOut(WornWord::Tail)),
             Some(Refusal::Busy) => Err(Refusal::Busy),
             _ => self.queue.try_shut(seat, turns),
         }

@@ -7,6 +7,7 @@ use Rattle.std.proofs.lemmas.List.{length-append, take-append-le}
 use Rattle.std.proofs.Math.Seq.{take-append_seam}
 use Rattle.std.proofs.lemmas.List.Sums.{sum_by-append}
 use Rattle.counted_ref.specs.Ref.{Ref, ref, reserved_node, null, same_ref, shut_ref}
+use Rattle.counted_ref.proofs.Words.{span_least}
 use Rattle.line_table.specs.declared.lines.Kind.{Kind}
 use Rattle.line_table.specs.declared.lines.Kind.TheVariants.{TwoLock, NonBlocking}
 use Rattle.line_table.specs.declared.lines.Line.{Line}
@@ -17,10 +18,10 @@ use Rattle.history.specs.declared.operations.Op.TheVariants.{Enq, Deq, Shut}
 use Rattle.history.specs.declared.operations.Reply.{Reply}
 use Rattle.history.specs.declared.operations.Entry.TheVariants.{Shut as ShutEntry}
 use Rattle.history.specs.Entries.{is_pop, is_shut as is_shut_entry, Leads, LeadsToShut}
-use Rattle.line_steps.specs.declared.actors.Actor.{Actor}
+use Rattle.line_steps.specs.Actors.{Actor}
 use Rattle.line_steps.specs.declared.actors.Held.{Held}
 use Rattle.line_steps.specs.Outcomes.{Outcome}
-use Rattle.line_steps.specs.declared.actors.Node.{Node}
+use Rattle.line_steps.specs.Actors.{Node}
 use Rattle.history.specs.declared.operations.Taken.{Taken}
 use Rattle.line_steps.specs.Memory.{Shared, Next, Value_of, blank, node_at, put}
 use Rattle.line_steps.specs.Lines.{with_node, dequeues, gives_up, busy_or, to_pocket, raised, raised_end}
@@ -95,12 +96,12 @@ abbrev Looks : (t u : Traced) → (you : ℕ) → Actor → Type 0
 Looks t u you b = (last : Event) × (u.paths you ≡ t.paths you ++ last ∷ []) × (last.line ≡ D4 → StaysFound u b last.entries)
 
 -- a closed end follows a node
-abbrev IsClosedAt : Shared → ℕ → Type 0
-IsClosedAt m n = (node_at m n).next.node ≡ reserved_node
+abbrev IsClosedAt : (bits : ℕ) → Shared → ℕ → Type 0
+IsClosedAt bits m n = (node_at m n).next.node ≡ reserved_node bits
 
 -- a closed end in any node says that the history left the queue shut
 abbrev pub ShutsByEnds : Traced → Type 0
-ShutsByEnds t = (n : ℕ) → IsClosedAt t.world.shared n → LeadsToShut t.history
+ShutsByEnds t = (n : ℕ) → IsClosedAt t.world.setup.bits t.world.shared n → LeadsToShut t.history
 
 -- at the start no node has one
 first_open : (size j : ℕ) → (slice_index_or (replicate size blank) j blank).next.node ≡ 0
@@ -113,7 +114,8 @@ record Turns (t u : Traced) : Type 0 where
   more : List Entry
   history : u.history ≡ t.history ++ more
   each : (you : ℕ) (b : Actor) → actor_of u.world you ≡ Some b → Stays t u you b ⊎ Looks t u you b
-  ends : (n : ℕ) → IsClosedAt u.world.shared n → IsClosedAt t.world.shared n ⊎ (1 ≤ count_by is_shut_entry more)
+  setup : u.world.setup ≡ t.world.setup
+  ends : (n : ℕ) → IsClosedAt t.world.setup.bits u.world.shared n → IsClosedAt t.world.setup.bits t.world.shared n ⊎ (1 ≤ count_by is_shut_entry more)
 
 -- what an actor found before stays so: Head's count only rises, and the first entries stay
 left_since : (t u : Traced) (a b : Actor) (k : ℕ) → IsTraced t → IsTraced u → (m : Turns t u) → LooksSame a b → StaysFound t a k → StaysFound u b k
@@ -121,10 +123,13 @@ left_since t u a b k r q m same h =
     record {
       some = omega (arith, h.some, ap length m.history, length-append t.history m.more);
       empty = λ e. since false (h.empty (next ∙ e));
-      closed = λ e. since true (h.closed (next ∙ e));
-      shut = λ e. subst LeadsToShut (sym first) (h.shut (next ∙ e));
+      closed = λ e. since true (h.closed (next ∙ e ∙ end));
+      shut = λ e. subst LeadsToShut (sym first) (h.shut (next ∙ e ∙ end));
     }
   where
+    end : reserved_node u.world.setup.bits ≡ reserved_node t.world.setup.bits
+    end = ap (λ z. reserved_node z.bits) m.setup
+
     next : a.next.node ≡ b.next.node
     next = ap (λ (x : Ref). x.node) (sym same.1)
 
@@ -148,11 +153,12 @@ keeps t u r q m h me b before last is path line = ⊎_elim stays looks (m.each m
         subst (λ (e : Event). StaysFound u b e.entries) same (s.2 (ap (λ (e : Event). e.line) same ∙ line))
 
 -- a move that is no step: one actor has another state, with the same registers
-stutters : (t : Traced) (w : World) (me : ℕ) (a b : Actor) → actor_of t.world me ≡ Some a → ((you : ℕ) → actor_of w you ≡ actor_of (with_actor t.world me b) you) → w.shared ≡ t.world.shared → LooksSame a b → Turns t (record t { world = w })
-stutters t w me a b is same words looks =
+stutters : (t : Traced) (w : World) (me : ℕ) (a b : Actor) → actor_of t.world me ≡ Some a → ((you : ℕ) → actor_of w you ≡ actor_of (with_actor t.world me b) you) → w.shared ≡ t.world.shared → w.setup ≡ t.world.setup → LooksSame a b → Turns t (record t { world = w })
+stutters t w me a b is same words setup looks =
     record {
       ends = λ n e. inl (ap (λ (m : Shared). (node_at m n).next.node) (sym words) ∙ e);
       more = [];
+      setup = setup;
       history = sym (append-nil t.history);
       each = λ you c got. ⊎_elim
           (λ (q : (you ≡ me) × (b ≡ c)). inl (a, ap (actor_of t.world) q.0 ∙ is, (ap (λ (x : Actor). x.head) (sym q.1) ∙ looks.0, ap (λ (x : Actor). x.next) (sym q.1) ∙ looks.1), refl))
@@ -172,34 +178,34 @@ set_or (y ∷ ys) (suc i) zero x = inr refl
 set_or (y ∷ ys) (suc i) (suc j) x = ⊎_elim (λ (q : (j ≡ i) × (slice_index_or (set ys i x) j blank ≡ x)). inl (ap suc q.0, q.1)) (λ (e : slice_index_or (set ys i x) j blank ≡ slice_index_or ys j blank). inr e) (set_or ys i j x)
 
 -- a word that isn't a `next` written leaves the closed ends
-either_kept : (b : Bool) (m m' : Shared) (n : ℕ) → m'.nodes ≡ m.nodes → IsClosedAt (if b then m' else m) n → IsClosedAt m n
-either_kept true m m' n same e = ap (λ ns. (slice_index_or ns (n - 1) blank).next.node) (sym same) ∙ e
-either_kept false m m' n same e = e
+either_kept : (bits : ℕ) (b : Bool) (m m' : Shared) (n : ℕ) → m'.nodes ≡ m.nodes → IsClosedAt bits (if b then m' else m) n → IsClosedAt bits m n
+either_kept bits true m m' n same e = ap (λ ns. (slice_index_or ns (n - 1) blank).next.node) (sym same) ∙ e
+either_kept bits false m m' n same e = e
 
 -- a value written leaves them
-put_value : (m : Shared) (k n : ℕ) (v : Taken) → IsClosedAt (put (Value_of k) v m) n → IsClosedAt m n
-put_value m k n v e = ⊎_elim
+put_value : (bits : ℕ) (m : Shared) (k n : ℕ) (v : Taken) → IsClosedAt bits (put (Value_of k) v m) n → IsClosedAt bits m n
+put_value bits m k n v e = ⊎_elim
     (λ (q : (n - 1 ≡ k - 1) × (slice_index_or (set m.nodes (k - 1) (record (node_at m k) { value = v })) (n - 1) blank ≡ record (node_at m k) { value = v })).
     ap (λ j. (slice_index_or m.nodes j blank).next.node) q.0 ∙ ap (λ (x : Node). x.next.node) (sym q.1) ∙ e)
     (λ (q : slice_index_or (set m.nodes (k - 1) (record (node_at m k) { value = v })) (n - 1) blank ≡ slice_index_or m.nodes (n - 1) blank). ap (λ (x : Node). x.next.node) (sym q) ∙ e)
     (set_or m.nodes (k - 1) (n - 1) (record (node_at m k) { value = v }))
 
 -- so does a `next` written that is no closed end
-put_next : (m : Shared) (k n : ℕ) (c : Ref) → c.node ≢ reserved_node → IsClosedAt (put (Next k) c m) n → IsClosedAt m n
-put_next m k n c other e = ⊎_elim
+put_next : (bits : ℕ) (m : Shared) (k n : ℕ) (c : Ref) → c.node ≢ reserved_node bits → IsClosedAt bits (put (Next k) c m) n → IsClosedAt bits m n
+put_next bits m k n c other e = ⊎_elim
     (λ (q : (n - 1 ≡ k - 1) × (slice_index_or (set m.nodes (k - 1) (record (node_at m k) { next = c })) (n - 1) blank ≡ record (node_at m k) { next = c })).
     absurd (other (ap (λ (x : Node). x.next.node) (sym q.1) ∙ e)))
     (λ (q : slice_index_or (set m.nodes (k - 1) (record (node_at m k) { next = c })) (n - 1) blank ≡ slice_index_or m.nodes (n - 1) blank). ap (λ (x : Node). x.next.node) (sym q) ∙ e)
     (set_or m.nodes (k - 1) (n - 1) (record (node_at m k) { next = c }))
 
-either_next : (b : Bool) (m : Shared) (k n : ℕ) (c : Ref) → c.node ≢ reserved_node → IsClosedAt (if b then put (Next k) c m else m) n → IsClosedAt m n
-either_next true m k n c other e = put_next m k n c other e
-either_next false m k n c other e = e
+either_next : (bits : ℕ) (b : Bool) (m : Shared) (k n : ℕ) (c : Ref) → c.node ≢ reserved_node bits → IsClosedAt bits (if b then put (Next k) c m else m) n → IsClosedAt bits m n
+either_next bits true m k n c other e = put_next bits m k n c other e
+either_next bits false m k n c other e = e
 
 -- a step writes a closed end only where it adds a shut
 module _ (t : Traced) (me : ℕ) (a : Actor) (r : IsTraced t) (is : actor_of t.world me ≡ Some a) where
   abbrev Ends : Line → ℕ → Type 0
-  Ends l n = IsClosedAt t.world.shared n ⊎ (1 ≤ count_by is_shut_entry (entries_at t.world.setup t me a l))
+  Ends l n = IsClosedAt t.world.setup.bits t.world.shared n ⊎ (1 ≤ count_by is_shut_entry (entries_at t.world.setup t me a l))
 
   range : WorldInRange t.world
   range = reached_in_range t.world (traced_reached t r)
@@ -207,41 +213,41 @@ module _ (t : Traced) (me : ℕ) (a : Actor) (r : IsTraced t) (is : actor_of t.w
   registers : RegistersInRange t.world.setup t.world.shared.fresh (length t.world.actors) a
   registers = (actor_in_range t.world me a range is).registers
 
-  own : a.node ≢ reserved_node
+  own : a.node ≢ reserved_node t.world.setup.bits
   own = below_closed t.world a.node range registers.node
 
-  ends_at : (l : Line) → a.line ≡ Some l → (n : ℕ) → IsClosedAt (step_at t me a l).world.shared n → Ends l n
-  ends_at N4 here n e = inl (either_kept (same_ref t.world.shared.free a.top) t.world.shared _ n refl e)
-  ends_at N5 here n e = inl (either_kept (nat_eq t.world.shared.fresh a.f) t.world.shared _ n refl e)
-  ends_at F2 here n e = inl (put_next t.world.shared a.node n (ref a.top.node a.mark) (below_closed t.world a.top.node range registers.top.node) e)
-  ends_at F3 here n e = inl (either_kept (same_ref t.world.shared.free a.top) t.world.shared _ n refl e)
-  ends_at E2 here n e = inl (put_value t.world.shared a.node n a.val e)
-  ends_at E3 here n e = inl (put_next t.world.shared a.node n (record (node_at t.world.shared a.node).next { node = 0 }) (λ f. omega (arith, f)) e)
+  ends_at : (l : Line) → a.line ≡ Some l → (n : ℕ) → IsClosedAt t.world.setup.bits (step_at t me a l).world.shared n → Ends l n
+  ends_at N4 here n e = inl (either_kept t.world.setup.bits (same_ref t.world.shared.free a.top) t.world.shared _ n refl e)
+  ends_at N5 here n e = inl (either_kept t.world.setup.bits (nat_eq t.world.shared.fresh a.f) t.world.shared _ n refl e)
+  ends_at F2 here n e = inl (put_next t.world.setup.bits t.world.shared a.node n (ref a.top.node a.mark) (below_closed t.world a.top.node range registers.top.node) e)
+  ends_at F3 here n e = inl (either_kept t.world.setup.bits (same_ref t.world.shared.free a.top) t.world.shared _ n refl e)
+  ends_at E2 here n e = inl (put_value t.world.setup.bits t.world.shared a.node n a.val e)
+  ends_at E3 here n e = inl (put_next t.world.setup.bits t.world.shared a.node n (record (node_at t.world.shared a.node).next { node = 0 }) (λ f. omega (arith, f, span_least t.world.setup.bits range.sized.split)) e)
   ends_at E9 here n e =
       let below = (known t.world (traced_reached t r) me a E9 is here).room in
       let to : (raised t.world.setup a.next a.node).node ≡ a.node = raised_names t.world a.next a.node range registers.node (λ f. omega (arith, below, f)) in
-      inl (either_next (same_ref (node_at t.world.shared a.tail.node).next a.next) t.world.shared a.tail.node n (raised t.world.setup a.next a.node) (λ f. own (sym to ∙ f)) e)
-  ends_at E13 here n e = inl (either_kept (same_ref t.world.shared.tail a.tail) t.world.shared _ n refl e)
-  ends_at E17 here n e = inl (either_kept (same_ref t.world.shared.tail a.tail) t.world.shared _ n refl e)
-  ends_at D10 here n e = inl (either_kept (same_ref t.world.shared.tail a.tail) t.world.shared _ n refl e)
-  ends_at D13 here n e = inl (either_kept (same_ref t.world.shared.head a.head) t.world.shared _ n refl e)
-  ends_at A1 here n e = inl (put_value t.world.shared a.node n a.val e)
-  ends_at A2 here n e = inl (put_next t.world.shared a.node n (record (node_at t.world.shared a.node).next { node = 0 }) (λ f. omega (arith, f)) e)
-  ends_at A3 here n e = inl (either_kept (nat_eq t.world.shared.tail_lock 0) t.world.shared _ n refl e)
-  ends_at A5 here n e = inl (either_next (same_ref (node_at t.world.shared a.tail.node).next null) t.world.shared a.tail.node n (ref a.node 0) own e)
-  ends_at B1 here n e = inl (either_kept (nat_eq t.world.shared.head_lock 0) t.world.shared _ n refl e)
+      inl (either_next t.world.setup.bits (same_ref (node_at t.world.shared a.tail.node).next a.next) t.world.shared a.tail.node n (raised t.world.setup a.next a.node) (λ f. own (sym to ∙ f)) e)
+  ends_at E13 here n e = inl (either_kept t.world.setup.bits (same_ref t.world.shared.tail a.tail) t.world.shared _ n refl e)
+  ends_at E17 here n e = inl (either_kept t.world.setup.bits (same_ref t.world.shared.tail a.tail) t.world.shared _ n refl e)
+  ends_at D10 here n e = inl (either_kept t.world.setup.bits (same_ref t.world.shared.tail a.tail) t.world.shared _ n refl e)
+  ends_at D13 here n e = inl (either_kept t.world.setup.bits (same_ref t.world.shared.head a.head) t.world.shared _ n refl e)
+  ends_at A1 here n e = inl (put_value t.world.setup.bits t.world.shared a.node n a.val e)
+  ends_at A2 here n e = inl (put_next t.world.setup.bits t.world.shared a.node n (record (node_at t.world.shared a.node).next { node = 0 }) (λ f. omega (arith, f, span_least t.world.setup.bits range.sized.split)) e)
+  ends_at A3 here n e = inl (either_kept t.world.setup.bits (nat_eq t.world.shared.tail_lock 0) t.world.shared _ n refl e)
+  ends_at A5 here n e = inl (either_next t.world.setup.bits (same_ref (node_at t.world.shared a.tail.node).next null) t.world.shared a.tail.node n (ref a.node 0) own e)
+  ends_at B1 here n e = inl (either_kept t.world.setup.bits (nat_eq t.world.shared.head_lock 0) t.world.shared _ n refl e)
   ends_at S4 here n e = go (same_ref (node_at t.world.shared a.tail.node).next a.next) e
     where
-      go : (b : Bool) → IsClosedAt (if b then put (Next a.tail.node) (raised_end t.world.setup a.next) t.world.shared else t.world.shared) n
-          → IsClosedAt t.world.shared n ⊎ (1 ≤ count_by is_shut_entry (if b then ShutEntry me ∷ [] else []))
+      go : (b : Bool) → IsClosedAt t.world.setup.bits (if b then put (Next a.tail.node) (raised_end t.world.setup a.next) t.world.shared else t.world.shared) n
+          → IsClosedAt t.world.setup.bits t.world.shared n ⊎ (1 ≤ count_by is_shut_entry (if b then ShutEntry me ∷ [] else []))
       go true f = inr (omega arith)
       go false f = inl f
-  ends_at S5 here n e = inl (either_kept (same_ref t.world.shared.tail a.tail) t.world.shared _ n refl e)
-  ends_at S6 here n e = inl (either_kept (nat_eq t.world.shared.tail_lock 0) t.world.shared _ n refl e)
+  ends_at S5 here n e = inl (either_kept t.world.setup.bits (same_ref t.world.shared.tail a.tail) t.world.shared _ n refl e)
+  ends_at S6 here n e = inl (either_kept t.world.setup.bits (nat_eq t.world.shared.tail_lock 0) t.world.shared _ n refl e)
   ends_at S8 here n e = go (same_ref (node_at t.world.shared a.tail.node).next null) e
     where
-      go : (b : Bool) → IsClosedAt (if b then put (Next a.tail.node) (shut_ref 0) t.world.shared else t.world.shared) n
-          → IsClosedAt t.world.shared n ⊎ (1 ≤ count_by is_shut_entry (if b then ShutEntry me ∷ [] else []))
+      go : (b : Bool) → IsClosedAt t.world.setup.bits (if b then put (Next a.tail.node) (shut_ref t.world.setup.bits 0) t.world.shared else t.world.shared) n
+          → IsClosedAt t.world.setup.bits t.world.shared n ⊎ (1 ≤ count_by is_shut_entry (if b then ShutEntry me ∷ [] else []))
       go true f = inr (omega arith)
       go false f = inl f
   ends_at _ here n e = inl e
@@ -253,7 +259,7 @@ at_d4 t me a r ends is here =
     record {
       some = omega arith;
       empty = λ e. found false (λ h. leaves_nothing t r (at_head 0 h e)) (runs t.world.setup.kind refl);
-      closed = λ e. found true (λ h. leaves_shut t r (at_head reserved_node h e)) (runs t.world.setup.kind refl);
+      closed = λ e. found true (λ h. leaves_shut t r (at_head (reserved_node t.world.setup.bits) h e)) (runs t.world.setup.kind refl);
       shut = λ e. subst LeadsToShut (sym whole) (ends a.head.node e);
     }
   where
@@ -280,6 +286,7 @@ steps_turn t me a l r ends is here =
       ends = ends_at t me a r is l here;
       more = entries_at t.world.setup t me a l;
       history = refl;
+      setup = refl;
       each = λ you c got. ⊎_elim
           (λ (q : (you ≡ me) × (actor_at t.world.setup t me a l ≡ c)). inr (event_at t.world.setup t me a l, own you q.0, looks c q.1))
           (λ (q : (you ≢ me) × (actor_of t.world you ≡ Some c)). inl (c, q.1, (refl, refl), changed_else t.paths me _ you q.0))
@@ -299,7 +306,7 @@ turns : (t : Traced) (m : AnyMove) → IsTraced t → ShutsByEnds t → IfSome (
 turns t (made (Begin me op)) r ends = go (actor_of t.world me) refl
   where
     call : (b : Bool) (a : Actor) → actor_of t.world me ≡ Some a → IfSome (if b then Some (with_actor t.world me (begun t.world.setup.kind me op a)) else None) (λ w. Turns t (record t { world = w }))
-    call true a is = stutters t (with_actor t.world me (begun t.world.setup.kind me op a)) me a (begun t.world.setup.kind me op a) is (λ you. refl) refl (begun_same t.world.setup.kind me op a)
+    call true a is = stutters t (with_actor t.world me (begun t.world.setup.kind me op a)) me a (begun t.world.setup.kind me op a) is (λ you. refl) refl refl (begun_same t.world.setup.kind me op a)
     call false a is = tt
 
     at : (a : Actor) (l : Option Line) → actor_of t.world me ≡ Some a → IfSome (begins t.world me op a l) (λ w. Turns t (record t { world = w }))
@@ -322,7 +329,7 @@ turns t (made (Give me)) r ends = go (actor_of t.world me) refl
   where
     up : (a : Actor) (l : Line) (o : Option Outcome) → actor_of t.world me ≡ Some a → IfSome o (λ p. LooksSame a p.actor) → IfSome (given t.world me a o) (λ w. Turns t (record t { world = w }))
     up a l None is h = tt
-    up a l (Some o) is h = stutters t (after_outcome t.world me a t.world.shared o) me a (record o.actor { entry = Some (entry_or a.entry (length t.world.operations)) }) is (λ you. refl) refl h
+    up a l (Some o) is h = stutters t (after_outcome t.world me a t.world.shared o) me a (record o.actor { entry = Some (entry_or a.entry (length t.world.operations)) }) is (λ you. refl) refl refl h
 
     at : (a : Actor) (l : Option Line) → actor_of t.world me ≡ Some a → IfSome (gives t.world me a l) (λ w. Turns t (record t { world = w }))
     at a None is = tt
@@ -334,7 +341,7 @@ turns t (made (Give me)) r ends = go (actor_of t.world me) refl
 turns t (Rest me) r ends = go (actor_of t.world me) refl
   where
     may : (b : Bool) (a : Actor) → actor_of t.world me ≡ Some a → IfSome (if b then Some (with_actor t.world me (rested a)) else None) (λ w. Turns t (record t { world = w }))
-    may true a is = stutters t (with_actor t.world me (rested a)) me a (rested a) is (λ you. refl) refl (refl, refl)
+    may true a is = stutters t (with_actor t.world me (rested a)) me a (rested a) is (λ you. refl) refl refl (refl, refl)
     may false a is = tt
 
     at : (a : Actor) (l : Option Line) → actor_of t.world me ≡ Some a → IfSome (rests t.world me a l) (λ w. Turns t (record t { world = w }))
@@ -351,12 +358,12 @@ Keeps t = ShutsByEnds t × KeepsWhatD4Found t
 
 keeps_ends : (t u : Traced) → IsTraced u → Turns t u → ShutsByEnds t → ShutsByEnds u
 keeps_ends t u q m h n e = ⊎_elim
-    (λ (old : IsClosedAt t.world.shared n). stays_shut u q t.history m.more m.history (h n old))
+    (λ (old : IsClosedAt t.world.setup.bits t.world.shared n). stays_shut u q t.history m.more m.history (h n old))
     (λ (new : 1 ≤ count_by is_shut_entry m.more).
     let p = have_their_places u.world (traced_reached u q) in
     shut_by_count u.history _ (history_plays u q p.0 p.2.queue_chain)
     (omega (arith, new, ap (count_by is_shut_entry) m.history, sum_by-append (λ x. if is_shut_entry x then 1 else 0) t.history m.more)))
-    (m.ends n e)
+    (m.ends n (e ∙ ap (λ z. reserved_node z.bits) m.setup))
 
 traced_keeps : (ms : List AnyMove) (t u : Traced) → IsTraced t → Keeps t → trace ms t ≡ Some u → Keeps u
 traced_keeps [] t u r h e = subst Keeps (same_Some t u e) h
@@ -377,8 +384,8 @@ kept t r =
       λ me a before last is path. absurd (let e = ap length path in let f = length-append before (last ∷ []) in omega arith),
     ) r.led
   where
-    none_open : IsSized t.world.setup r.actors → (n : ℕ) → IsClosedAt (first_trace t.world.setup r.actors).world.shared n → ⊥
-    none_open sized n e = omega (arith, sym (first_open t.world.setup.size (n - 1)) ∙ e)
+    none_open : IsSized t.world.setup r.actors → (n : ℕ) → IsClosedAt t.world.setup.bits (first_trace t.world.setup r.actors).world.shared n → ⊥
+    none_open sized n e = omega (arith, sym (first_open t.world.setup.size (n - 1)) ∙ e, span_least t.world.setup.bits sized.split)
 
 -- between D4 and D5 Head's count is above the actor's, or what D4 found stays noted
 pub keeps_what_d4_found : (t : Traced) → IsTraced t → KeepsWhatD4Found t

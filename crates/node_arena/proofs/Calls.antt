@@ -6,11 +6,11 @@ use Rattle.atomic_table.specs.Table.{Me, Allows}
 use Rattle.atomic_table.specs.declared.shared.Seat.{Seat as Token}
 use Rattle.line_table.specs.declared.lines.Line.{Line}
 use Rattle.history.specs.declared.operations.Entry.{Entry}
-use Rattle.line_steps.specs.declared.actors.Actor.{Actor}
+use Rattle.line_steps.specs.Actors.{Actor}
 use Rattle.line_steps.specs.Lines.{action}
 use Rattle.step_machine.specs.Tables.{WordStep, load_at, store_at, and_at, exchange_at, word_index, word_step}
 use Rattle.node_arena.specs.declared.views.Knowing.{Knowing}
-use Rattle.node_arena.specs.declared.arena.Arena.{Arena}
+use Rattle.node_arena.specs.Arenas.{Arena}
 use Rattle.node_arena.specs.declared.seats.Seat.{Seat}
 use Rattle.node_arena.specs.Traces.{entries_at, number_at, step_at}
 use Rattle.node_arena.specs.Prologues.{Prologue, after_prologue}
@@ -25,16 +25,16 @@ use Rattle.node_arena.proofs.Counting.{Counts, loads_nothing, clears_nothing, st
 
 -- what a step on a word asks of the table
 pub asks : (r : Arena) (s : Seat) (prologue : Prologue) (l : Line) (x : WordStep) → MayStep r s prologue l x
-    → (s.token.table_id ≡ r.table.shared.table_id) × (word_index x < r.table.shared.table_id.words)
-    × Allows {S = ℕ} (Holds r.table.shared.key) r.table.shared.table_id.slots s.token.id s.token.me (word_index x) (becomes x) (λ n m. Tells r.table.shared.key prologue s.token.me n m)
+    → (s.token.table_id ≡ r.id) × (word_index x < r.id.words)
+    × Allows {S = ℕ} (Holds r.key) r.id.slots s.token.id s.token.me (word_index x) (becomes x) (λ n m. Tells r.key prologue s.token.me n m)
 asks r s prologue l x may = (
   may.seat.sits.table,
   there,
-  allows r.plan r.table.shared.key r.table.shared.table_id.slots s.token.id s.token.me prologue l x s.role may.seat.arena.key may.seat.arena.slots may.seat.sits.seat may.leads may.line
+  allows r.plan r.key r.id.slots s.token.id s.token.me prologue l x s.role may.seat.arena.key may.seat.arena.slots may.seat.sits.seat may.leads may.line
       (subst (λ n. slice_get r.plan.roles (n - 1) ≡ Some s.role) may.seat.sits.number may.seat.sits.role) may.permits may.access,
 )
   where
-    there : word_index x < r.table.shared.table_id.words
+    there : word_index x < r.id.words
     there =
         let h = place_within r.plan (view s).number (after_prologue r.plan.setup (view s).number prologue (view s).actor) l (stood r.plan (view s) prologue l may.seat.sits.fitted may.leads may.line) in
         let e = ap word_index may.access in
@@ -42,20 +42,20 @@ asks r s prologue l x may = (
 
 -- a store is told nothing
 pub asks_store : (r : Arena) (s : Seat) (prologue : Prologue) (l : Line) (p n : ℕ) → MayStep r s prologue l (store_at p n)
-    → (s.token.table_id ≡ r.table.shared.table_id) × (p < r.table.shared.table_id.words)
-    × Allows {S = ℕ} (Holds r.table.shared.key) r.table.shared.table_id.slots s.token.id s.token.me p (λ _. n) (λ _ m. TellsNothing r.table.shared.key prologue s.token.me m)
+    → (s.token.table_id ≡ r.id) × (p < r.id.words)
+    × Allows {S = ℕ} (Holds r.key) r.id.slots s.token.id s.token.me p (λ _. n) (λ _ m. TellsNothing r.key prologue s.token.me m)
 asks_store r s prologue l p n may =
     let h = asks r s prologue l (store_at p n) may in
     (h.0, h.1, λ st holds size mine fit. let q = h.2 st holds size mine fit in (q.0, q.1, q.2, q.3, (_, q.4)))
 
 -- what a seat is told of its step
-steps_at : (r : Arena) (s : Seat) (me : Me ℕ View) (prologue : Prologue) (l : Line) (x : WordStep) (n : ℕ) → MayStep r s prologue l x → Tells r.table.shared.key prologue s.token.me n me → Steps r.plan prologue l n (view s) (knows me.0)
+steps_at : (r : Arena) (s : Seat) (me : Me ℕ View) (prologue : Prologue) (l : Line) (x : WordStep) (n : ℕ) → MayStep r s prologue l x → Tells r.key prologue s.token.me n me → Steps r.plan prologue l n (view s) (knows me.0)
 steps_at r s me prologue l x n may tells =
     subst (λ (k : Line). Steps r.plan prologue k n (view s) (knows me.0)) (ap line_or_first may.line)
     (subst (λ (z : Layout). Steps z prologue (line_or_first (after_prologue z.setup (view s).number prologue (view s).actor).line) n (view s) (knows me.0)) may.seat.arena.key tells.1)
 
 -- the seat after its step, which counts what the step added
-module _ (r : Arena) (s : Seat) (t : Token ℕ Knowing) (prologue : Prologue) (l : Line) (x : WordStep) (n : ℕ) (may : MayStep r s prologue l x) (same : t.table_id ≡ s.token.table_id) (tells : Tells r.table.shared.key prologue s.token.me n t.me) where
+module _ (r : Arena) (s : Seat) (t : Token ℕ Knowing) (prologue : Prologue) (l : Line) (x : WordStep) (n : ℕ) (may : MayStep r s prologue l x) (same : t.table_id ≡ s.token.table_id) (tells : Tells r.key prologue s.token.me n t.me) where
   abbrev steps : Steps r.plan prologue l n (view s) (knows t.me.0)
   steps = steps_at r s t.me prologue l x n may tells
 
@@ -100,25 +100,25 @@ abbrev led_actor : Arena → Seat → Prologue → Actor
 led_actor r s prologue = after_prologue r.plan.setup (view s).number prologue (view s).actor
 
 -- what a load, a fetch_and, a store, and an exchange that is won or lost answer
-pub loaded : (r : Arena) (s : Seat) (t : Token ℕ Knowing) (prologue : Prologue) (l : Line) (p n : ℕ) → MayStep r s prologue l (load_at p) → (t.table_id ≡ s.token.table_id) × (t.id ≡ s.token.id) × Tells r.table.shared.key prologue s.token.me n t.me → DidStep r s (record s { token = t }) prologue l n
+pub loaded : (r : Arena) (s : Seat) (t : Token ℕ Knowing) (prologue : Prologue) (l : Line) (p n : ℕ) → MayStep r s prologue l (load_at p) → (t.table_id ≡ s.token.table_id) × (t.id ≡ s.token.id) × Tells r.key prologue s.token.me n t.me → DidStep r s (record s { token = t }) prologue l n
 loaded r s t prologue l p n may told = did_nothing r s t prologue l (load_at p) n may told.0 told.2 (loads_nothing r.plan.setup (view s).number (led_actor r s prologue) l p _ may.access)
 
-pub cleared : (r : Arena) (s : Seat) (t : Token ℕ Knowing) (prologue : Prologue) (l : Line) (p mask n : ℕ) → MayStep r s prologue l (and_at p mask) → (t.table_id ≡ s.token.table_id) × (t.id ≡ s.token.id) × Tells r.table.shared.key prologue s.token.me n t.me → DidStep r s (record s { token = t }) prologue l n
+pub cleared : (r : Arena) (s : Seat) (t : Token ℕ Knowing) (prologue : Prologue) (l : Line) (p mask n : ℕ) → MayStep r s prologue l (and_at p mask) → (t.table_id ≡ s.token.table_id) × (t.id ≡ s.token.id) × Tells r.key prologue s.token.me n t.me → DidStep r s (record s { token = t }) prologue l n
 cleared r s t prologue l p mask n may told = did_nothing r s t prologue l (and_at p mask) n may told.0 told.2 (clears_nothing r.plan.setup (view s).number (led_actor r s prologue) l p mask _ may.access)
 
-pub stored : (r : Arena) (s : Seat) (t : Token ℕ Knowing) (prologue : Prologue) (l : Line) (p n : ℕ) → MayStep r s prologue l (store_at p n) → (t.table_id ≡ s.token.table_id) × (t.id ≡ s.token.id) × TellsNothing r.table.shared.key prologue s.token.me t.me → DidSome r s (counting (record s { token = t }) l) prologue l
+pub stored : (r : Arena) (s : Seat) (t : Token ℕ Knowing) (prologue : Prologue) (l : Line) (p n : ℕ) → MayStep r s prologue l (store_at p n) → (t.table_id ≡ s.token.table_id) × (t.id ≡ s.token.id) × TellsNothing r.key prologue s.token.me t.me → DidSome r s (counting (record s { token = t }) l) prologue l
 stored r s t prologue l p n may told = (told.2.0, did_counted r s t prologue l (store_at p n) told.2.0 may told.0 told.2.1 (stores_counted r.plan.setup (view s).number (led_actor r s prologue) l p n _ may.access))
 
-module _ (r : Arena) (s : Seat) (t : Token ℕ Knowing) (prologue : Prologue) (l : Line) (p old new n : ℕ) (may : MayStep r s prologue l (exchange_at p old new)) (told : (t.table_id ≡ s.token.table_id) × (t.id ≡ s.token.id) × Tells r.table.shared.key prologue s.token.me n t.me) where
+module _ (r : Arena) (s : Seat) (t : Token ℕ Knowing) (prologue : Prologue) (l : Line) (p old new n : ℕ) (may : MayStep r s prologue l (exchange_at p old new)) (told : (t.table_id ≡ s.token.table_id) × (t.id ≡ s.token.id) × Tells r.key prologue s.token.me n t.me) where
   abbrev at : Steps r.plan prologue l n (view s) (knows t.me.0)
   at = steps_at r s t.me prologue l (exchange_at p old new) n may told.2
 
   pub won : n ≡ old → DidStep r s (counting (record s { token = t }) l) prologue l n
   won e = did_counted r s t prologue l (exchange_at p old new) n may told.0 told.2
-      (subst (λ z. word_step (action z (view s).number (led_actor r s prologue) l) ≡ exchange_at p old new → number_at z at.was (view s).number (led_actor r s prologue) l ≡ old → Counts l (entries_at z at.was (view s).number (led_actor r s prologue) l)) at.setup
+      (subst (λ z. word_step z.bits (action z (view s).number (led_actor r s prologue) l) ≡ exchange_at p old new → number_at z at.was (view s).number (led_actor r s prologue) l ≡ old → Counts l (entries_at z at.was (view s).number (led_actor r s prologue) l)) at.setup
       (wins_counted at.was (view s).number (led_actor r s prologue) p old new at.reached at.before l at.line) may.access (sym at.found ∙ e))
 
   pub lost : n ≢ old → DidStep r s (record s { token = t }) prologue l n
   lost ne = did_nothing r s t prologue l (exchange_at p old new) n may told.0 told.2
-      (subst (λ z. word_step (action z (view s).number (led_actor r s prologue) l) ≡ exchange_at p old new → number_at z at.was (view s).number (led_actor r s prologue) l ≢ old → entries_at z at.was (view s).number (led_actor r s prologue) l ≡ []) at.setup
+      (subst (λ z. word_step z.bits (action z (view s).number (led_actor r s prologue) l) ≡ exchange_at p old new → number_at z at.was (view s).number (led_actor r s prologue) l ≢ old → entries_at z at.was (view s).number (led_actor r s prologue) l ≡ []) at.setup
       (loses_nothing at.was (view s).number (led_actor r s prologue) p old new at.reached at.before l at.line) may.access (λ e. ne (at.found ∙ e)))

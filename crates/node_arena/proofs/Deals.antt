@@ -13,12 +13,14 @@ use Rattle.node_arena.specs.declared.views.Knowing.{Knowing}
 use Rattle.atomic_table.proofs.Lists.{at_set}
 use Rattle.line_steps.specs.declared.actors.Setup.{Setup}
 use Rattle.line_steps.specs.Memory.{blank}
+use Rattle.counted_ref.specs.Ref.{ref, ref_word}
+use Rattle.counted_ref.specs.Splits.{null_word}
 use Rattle.step_machine.specs.Words.{memory_words, node_words}
 use Rattle.step_machine.specs.Machine.{idle, actor_of}
 use Rattle.step_machine.specs.Machine as machine
 use Rattle.node_arena.specs.declared.seats.Seat.{Seat}
 use Rattle.node_arena.specs.Traces.{Traced, first_trace, changed}
-use Rattle.node_arena.specs.declared.arena.Arena.{Arena}
+use Rattle.node_arena.specs.Arenas.{Arena}
 use Rattle.node_arena.specs.Prologues.{at_rest}
 use Rattle.history.specs.Entries.{is_push, is_pop, is_shut}
 use Rattle.history.specs.Seats.{IsNoted}
@@ -44,15 +46,18 @@ lone u w zero e = (refl, some-injective u w e)
 lone u w (suc j) e = none_at j w e
 
 -- each node that was never used has two words, both 0
-blank_words : (k m : ℕ) → 2 * k ≡ m → node_words (replicate k blank) ≡ replicate m 0
-blank_words zero zero e = refl
-blank_words zero (suc m) e = absurd (omega arith)
-blank_words (suc k) zero e = absurd (omega arith)
-blank_words (suc k) (suc zero) e = absurd (omega arith)
-blank_words (suc k) (suc (suc m)) e = ap (λ ws. 0 ∷ 0 ∷ ws) (blank_words k m (omega arith))
+blank_words : (bits k m : ℕ) → 2 * k ≡ m → node_words bits (replicate k blank) ≡ replicate m 0
+blank_words bits zero zero e = refl
+blank_words bits zero (suc m) e = absurd (omega arith)
+blank_words bits (suc k) zero e = absurd (omega arith)
+blank_words bits (suc k) (suc zero) e = absurd (omega arith)
+blank_words bits (suc k) (suc (suc m)) e = λ i. null_word bits i ∷ 0 ∷ blank_words bits k m (omega arith) i
 
-opening_words : (s : Setup) (actors : ℕ) → first_memory_words s.size ≡ memory_words (machine.opening s actors).shared
-opening_words s actors = ap (λ ws. 1 ∷ 0 ∷ 1 ∷ 1 ∷ 0 ∷ 0 ∷ ws) (sym (blank_words s.size (2 * s.size) refl))
+first_word : (bits : ℕ) → ref_word bits (ref 1 0) ≡ 1
+first_word bits = omega arith
+
+opening_words : (s : Setup) (actors : ℕ) → first_memory_words s.size ≡ memory_words s.bits (machine.opening s actors).shared
+opening_words s actors = sym (λ i. 1 ∷ null_word s.bits i ∷ first_word s.bits i ∷ first_word s.bits i ∷ 0 ∷ 0 ∷ blank_words s.bits s.size (2 * s.size) refl i)
 
 idle_at : (n k : ℕ) → k < n → slice_get (replicate n idle) k ≡ Some idle
 idle_at zero k h = absurd (omega arith)
@@ -139,7 +144,7 @@ pub one_more : (z : Layout) (t : TableId) (xs : List Seat) (n : ℕ) (s : Seat) 
 one_more z t xs n s len all new k y got = ⊎_elim (λ (h : slice_get xs k ≡ Some y). all k y h) (λ (h : (k ≡ length xs) × (s ≡ y)). subst (λ (q : ℕ × Seat). IsDealt z t (q.0 + 1) q.1) (λ i. (sym (h.0 ∙ len) i, h.1 i)) new) (got_snoc xs s y k got)
 
 -- a seat that was dealt is a new seat of the arena
-pub new_seats : (r : Arena) (seats : List Seat) → IsArena r → AreDealt r.plan r.table.shared.table_id seats → (k : ℕ) (s : Seat) → slice_get seats k ≡ Some s → IsNewSeat r (k + 1) s
+pub new_seats : (r : Arena) (seats : List Seat) → IsArena r → AreDealt r.plan r.id seats → (k : ℕ) (s : Seat) → slice_get seats k ≡ Some s → IsNewSeat r (k + 1) s
 new_seats r seats arena all k s got =
     let d = all k s got in
     record {

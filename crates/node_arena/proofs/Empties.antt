@@ -21,7 +21,7 @@ use Rattle.history.specs.declared.refusals.WornWord.TheVariants.{Tail as OfTail}
 use Rattle.history.specs.Entries.{Leads, LeadsTo, LeadsToShut}
 use Rattle.history.specs.Seats.{IsNoted}
 use Rattle.line_steps.specs.declared.actors.Setup.{Setup}
-use Rattle.line_steps.specs.declared.actors.Actor.{Actor}
+use Rattle.line_steps.specs.Actors.{Actor}
 use Rattle.line_steps.specs.declared.actors.Held.{Held}
 use Rattle.line_steps.specs.Outcomes.{Outcome}
 use Rattle.line_steps.specs.Memory.{Found, found, node_at}
@@ -80,16 +80,16 @@ says_nothing l (Some (Refused Closed)) seen h = absurd h
 says_nothing l (Some (Refused _)) seen h = tt
 
 -- what an actor found stays so while Head's count only rises
-pub saw_later : (t u : Traced) (seen : List Entry) (a : Actor) (line : Option Line) (due : Option Reply) → t.world.shared.head.count ≤ u.world.shared.head.count → SawAt t seen a line due → SawAt u seen a line due
-saw_later t u seen a (Some D5) due up h = (
+pub saw_later : (t u : Traced) (seen : List Entry) (a : Actor) (line : Option Line) (due : Option Reply) → t.world.shared.head.count ≤ u.world.shared.head.count → u.world.setup ≡ t.world.setup → SawAt t seen a line due → SawAt u seen a line due
+saw_later t u seen a (Some D5) due up same h = (
   λ e. ⊎_elim (λ (less : a.head.count < t.world.shared.head.count). inl (omega arith)) (λ (f : LeadsTo seen []). inr f) (h.0 e),
-  λ e. ⊎_elim (λ (less : a.head.count < t.world.shared.head.count). inl (omega arith)) (λ (f : Leads seen true []). inr f) (h.1 e),
+  λ e. ⊎_elim (λ (less : a.head.count < t.world.shared.head.count). inl (omega arith)) (λ (f : Leads seen true []). inr f) (h.1 (e ∙ ap (λ z. reserved_node z.bits) same)),
 )
-saw_later t u seen a (Some B6) (Some Empty) up h = h
-saw_later t u seen a (Some B6) (Some (Refused Closed)) up h = h
-saw_later t u seen a (Some A7) (Some (Refused Closed)) up h = h
-saw_later t u seen a (Some S9) (Some (Refused Closed)) up h = h
-saw_later t u seen a _ _ up h = tt
+saw_later t u seen a (Some B6) (Some Empty) up same h = h
+saw_later t u seen a (Some B6) (Some (Refused Closed)) up same h = h
+saw_later t u seen a (Some A7) (Some (Refused Closed)) up same h = h
+saw_later t u seen a (Some S9) (Some (Refused Closed)) up same h = h
+saw_later t u seen a _ _ up same h = tt
 
 -- an actor that begins a call stands before no such line
 saw_begun : (t : Traced) (seen : List Entry) (kind : Kind) (me : ℕ) (op : Op) (a : Actor) → SawAt t seen (begun kind me op a) (begun kind me op a).line (begun kind me op a).due
@@ -109,10 +109,10 @@ saw_begun t seen TwoLock me Shut a = tt
 saw_begun t seen NonBlocking me Shut a = tt
 
 -- what an actor found stays so while it sets out for a step
-pub saw_led : (t u : Traced) (seen : List Entry) (s : Setup) (me : ℕ) (prologue : Prologue) (a : Actor) → t.world.shared.head.count ≤ u.world.shared.head.count → SawAt t seen a a.line a.due
+pub saw_led : (t u : Traced) (seen : List Entry) (s : Setup) (me : ℕ) (prologue : Prologue) (a : Actor) → t.world.shared.head.count ≤ u.world.shared.head.count → u.world.setup ≡ t.world.setup → SawAt t seen a a.line a.due
     → SawAt u seen (after_prologue s me prologue a) (after_prologue s me prologue a).line (after_prologue s me prologue a).due
-saw_led t u seen s me continues a up h = saw_later t u seen a a.line a.due up h
-saw_led t u seen s me (begins op) a up h = saw_begun u seen s.kind me op (at_rest a)
+saw_led t u seen s me continues a up same h = saw_later t u seen a a.line a.due up same h
+saw_led t u seen s me (begins op) a up same h = saw_begun u seen s.kind me op (at_rest a)
 
 -- an actor that may rest or give up stands before no such line, whatever its seat has then seen
 pub saw_at_rest : (t : Traced) (seen : List Entry) (a : Actor) (line : Option Line) → a.line ≡ line → (out_of a line).line ≡ None → SawAt t seen a line a.due
@@ -184,7 +184,7 @@ module _ (t : Traced) (seen : List Entry) where
   sees_nothing s now me a F3 c h = both (same_ref c a.top) _ _ (freed_nothing s.kind now a.due (empties_hand a)) record { saw = λ b. tt }
   sees_nothing s now me a E3 c h = both (nat_eq c.count s.limit) _ _ record { saw = λ b. tt } record { saw = λ b. tt }
   sees_nothing s now me a E7 c h =
-      both (same_ref c a.tail) _ _ (both (is_null a.next) _ _ record { saw = λ b. tt } (both (is_shut a.next) _ _ record { saw = λ b. tt } (both (nat_eq a.tail.count s.limit) _ _ record { saw = λ b. tt } record { saw = λ b. tt })))
+      both (same_ref c a.tail) _ _ (both (is_null a.next) _ _ record { saw = λ b. tt } (both (is_shut s.bits a.next) _ _ record { saw = λ b. tt } (both (nat_eq a.tail.count s.limit) _ _ record { saw = λ b. tt } record { saw = λ b. tt })))
       record { saw = λ b. tt }
   sees_nothing s now me a E9 c h = won (same_ref c a.next)
     where
@@ -198,7 +198,7 @@ module _ (t : Traced) (seen : List Entry) where
   sees_nothing s now me a D4 c h = absurd h
   sees_nothing s now me a D5 c h =
       both (same_ref c a.head) _ _
-      (both (nat_eq a.head.node a.tail.node) _ _ (both (is_null a.next) _ _ record { saw = λ b. tt } (both (is_shut a.next) _ _ record { saw = λ b. tt } (both (nat_eq a.tail.count s.limit) _ _ record { saw = λ b. tt } record { saw = λ b. tt }))) record { saw = λ b. tt })
+      (both (nat_eq a.head.node a.tail.node) _ _ (both (is_null a.next) _ _ record { saw = λ b. tt } (both (is_shut s.bits a.next) _ _ record { saw = λ b. tt } (both (nat_eq a.tail.count s.limit) _ _ record { saw = λ b. tt } record { saw = λ b. tt }))) record { saw = λ b. tt })
       record { saw = λ b. tt }
   sees_nothing s now me a D12 c h = both (nat_eq a.head.count s.limit) _ _ record { saw = λ b. tt } record { saw = λ b. tt }
   sees_nothing s now me a D13 c h = both (same_ref c a.head) _ _ record { saw = λ b. tt } record { saw = λ b. tt }
@@ -211,7 +211,7 @@ module _ (t : Traced) (seen : List Entry) where
   sees_nothing s now me a B4 c h = both (nat_eq a.head.count s.limit) _ _ record { saw = λ b. tt } record { saw = λ b. tt }
   sees_nothing s now me a B6 c h = unlocked_nothing now a.due a
   sees_nothing s now me a S3 c h =
-      both (same_ref c a.tail) _ _ (both (is_null a.next) _ _ record { saw = λ b. tt } (both (is_shut a.next) _ _ record { saw = λ b. tt } (both (nat_eq a.tail.count s.limit) _ _ record { saw = λ b. tt } record { saw = λ b. tt })))
+      both (same_ref c a.tail) _ _ (both (is_null a.next) _ _ record { saw = λ b. tt } (both (is_shut s.bits a.next) _ _ record { saw = λ b. tt } (both (nat_eq a.tail.count s.limit) _ _ record { saw = λ b. tt } record { saw = λ b. tt })))
       record { saw = λ b. tt }
   sees_nothing s now me a S4 c h = both (same_ref c a.next) _ _ record { saw = λ b. tt } record { saw = λ b. tt }
   sees_nothing s now me a S6 c h = both (nat_eq c 0) _ _ record { saw = λ b. tt } record { saw = λ b. tt }
@@ -256,7 +256,7 @@ saw_after t me a D4 r is here seen whole =
       λ e. subst (λ es. (a.head.count < t.world.shared.head.count) ⊎ LeadsTo es []) same (found.empty e),
       λ e. subst (λ es. (a.head.count < t.world.shared.head.count) ⊎ Leads es true []) same (found.closed e),
     )
-saw_after t me a B3 r is here seen whole = go (is_null (node_at t.world.shared a.head.node).next) (is_shut (node_at t.world.shared a.head.node).next) refl refl
+saw_after t me a B3 r is here seen whole = go (is_null (node_at t.world.shared a.head.node).next) (is_shut t.world.setup.bits (node_at t.world.shared a.head.node).next) refl refl
   where
     at_head : (end : ℕ) → (node_at t.world.shared a.head.node).next.node ≡ end → (node_at t.world.shared t.world.shared.head.node).next.node ≡ end
     at_head end e = subst (λ (x : Ref). (node_at t.world.shared x.node).next.node ≡ end) (sym (at_b3 t me a r is here)) e
@@ -264,10 +264,10 @@ saw_after t me a B3 r is here seen whole = go (is_null (node_at t.world.shared a
     all : seen ≡ t.history
     all = whole refl ∙ append-nil t.history
 
-    go : (b c : Bool) → is_null (node_at t.world.shared a.head.node).next ≡ b → is_shut (node_at t.world.shared a.head.node).next ≡ c
+    go : (b c : Bool) → is_null (node_at t.world.shared a.head.node).next ≡ b → is_shut t.world.setup.bits (node_at t.world.shared a.head.node).next ≡ c
         → let o : Outcome = after_b3 (t.world.steps + 1) a (node_at t.world.shared a.head.node).next b c in SawAt (step_at t me a B3) seen (placed t a o) o.actor.line o.actor.due
     go true c none shut = subst (λ es. LeadsTo es []) (sym all) (leaves_nothing t r (at_head 0 (eqb-true (node_at t.world.shared a.head.node).next.node 0 none)))
-    go false true none shut = subst (λ es. Leads es true []) (sym all) (leaves_shut t r (at_head reserved_node (eqb-true (node_at t.world.shared a.head.node).next.node reserved_node shut)))
+    go false true none shut = subst (λ es. Leads es true []) (sym all) (leaves_shut t r (at_head (reserved_node t.world.setup.bits) (eqb-true (node_at t.world.shared a.head.node).next.node (reserved_node t.world.setup.bits) shut)))
     go false false none shut = tt
 saw_after t me a A5 r is here seen whole = go (same_ref (node_at t.world.shared a.tail.node).next null) refl
   where
@@ -342,12 +342,12 @@ module _ (t : Traced) (me : ℕ) (a : Actor) (seen : List Entry) where
   abbrev pub Says : Line → Type 0
   Says l = SaysOfSeen l (outcome_at t.world.setup t me a l).reply seen
 
-  none_said : (l : Line) → AnswersSilently a l → Says l
+  none_said : (l : Line) → AnswersSilently t.world.setup.bits a l → Says l
   none_said l h = says_nothing l (outcome_at t.world.setup t me a l).reply seen (silent t.world.setup (t.world.steps + 1) me a l (found (action t.world.setup me a l) t.world.shared) h).reply
 
   -- what a step says of the queue is so
   pub says_after : (l : Line) → IsTraced t → actor_of t.world me ≡ Some a → a.line ≡ Some l → (sees l ≡ true → seen ≡ (step_at t me a l).history) → (sees l ≡ false → SawAt t seen a (Some l) a.due) → Says l
-  says_after E7 r is here whole saw = go (same_ref t.world.shared.tail a.tail) (is_null a.next) (is_shut a.next) (nat_eq a.tail.count t.world.setup.limit)
+  says_after E7 r is here whole saw = go (same_ref t.world.shared.tail a.tail) (is_null a.next) (is_shut t.world.setup.bits a.next) (nat_eq a.tail.count t.world.setup.limit)
       (λ e. subst LeadsToShut (sym (whole refl ∙ append-nil t.history)) (shut_by_reply t me a E7 r is here e))
     where
       go : (p n c w : Bool) → ((after_e7 (t.world.steps + 1) a p n c w).reply ≡ Some (Refused Closed) → LeadsToShut seen) → SaysOfSeen E7 (after_e7 (t.world.steps + 1) a p n c w).reply seen
@@ -356,7 +356,7 @@ module _ (t : Traced) (me : ℕ) (a : Actor) (seen : List Entry) where
       go true false false true h = tt
       go true false false false h = tt
       go false n c w h = tt
-  says_after S3 r is here whole saw = go (same_ref t.world.shared.tail a.tail) (is_null a.next) (is_shut a.next) (nat_eq a.tail.count t.world.setup.limit)
+  says_after S3 r is here whole saw = go (same_ref t.world.shared.tail a.tail) (is_null a.next) (is_shut t.world.setup.bits a.next) (nat_eq a.tail.count t.world.setup.limit)
       (λ e. subst LeadsToShut (sym (whole refl ∙ append-nil t.history)) (shut_by_reply t me a S3 r is here e))
     where
       go : (p n c w : Bool) → ((after_s3 (t.world.steps + 1) a p n c w).reply ≡ Some (Refused Closed) → LeadsToShut seen) → SaysOfSeen S3 (after_s3 (t.world.steps + 1) a p n c w).reply seen
@@ -365,16 +365,16 @@ module _ (t : Traced) (me : ℕ) (a : Actor) (seen : List Entry) where
       go true false false true h = tt
       go true false false false h = tt
       go false n c w h = tt
-  says_after D5 r is here whole saw = go (same_ref t.world.shared.head a.head) (nat_eq a.head.node a.tail.node) (is_null a.next) (is_shut a.next) (nat_eq a.tail.count t.world.setup.limit) refl refl refl
+  says_after D5 r is here whole saw = go (same_ref t.world.shared.head a.head) (nat_eq a.head.node a.tail.node) (is_null a.next) (is_shut t.world.setup.bits a.next) (nat_eq a.tail.count t.world.setup.limit) refl refl refl
     where
       unmoved : (shut : Bool) → same_ref t.world.shared.head a.head ≡ true → (a.head.count < t.world.shared.head.count) ⊎ Leads seen shut [] → Leads seen shut []
       unmoved shut same (inl less) = absurd (let e = ap (λ (x : Ref). x.count) (same_ref-true t.world.shared.head a.head same) in omega arith)
       unmoved shut same (inr e) = e
 
-      go : (p q n c w : Bool) → same_ref t.world.shared.head a.head ≡ p → is_null a.next ≡ n → is_shut a.next ≡ c
+      go : (p q n c w : Bool) → same_ref t.world.shared.head a.head ≡ p → is_null a.next ≡ n → is_shut t.world.setup.bits a.next ≡ c
           → SaysOfSeen D5 (if p then if q then if n then ends (t.world.steps + 1) Empty a else if c then closed (t.world.steps + 1) a else if w then worn (t.world.steps + 1) OfTail a else goes D10 a else goes D12 a else goes D2 a).reply seen
       go true true true c w same none shut = unmoved false same ((saw refl).0 (eqb-true a.next.node 0 none))
-      go true true false true w same none shut = unmoved true same ((saw refl).1 (eqb-true a.next.node reserved_node shut))
+      go true true false true w same none shut = unmoved true same ((saw refl).1 (eqb-true a.next.node (reserved_node t.world.setup.bits) shut))
       go true true false false true same none shut = tt
       go true true false false false same none shut = tt
       go true false n c w same none shut = tt

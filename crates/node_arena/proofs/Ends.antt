@@ -1,5 +1,5 @@
 -- The end of an arena: its words are those of a traced world, to which each seat handed in fits.
-use Rattle.std.proofs.Common.{◌≡◌, ℕ, ◌+◌, ◌*◌, ◌<◌, ◌≤◌, ◌↔◌, IsTrue, zero, suc, List, [], ◌∷◌, length, map, slice_get, slice_index, Some, refl, sym, ap, subst, ◌∙◌, arith, true, false, Bool, nat_lt, nat_eq, inl, inr, if◌then◌else◌}
+use Rattle.std.proofs.Common.{◌≡◌, ℕ, ◌+◌, ◌*◌, ◌<◌, ◌≤◌, ◌↔◌, IsTrue, zero, suc, List, [], ◌∷◌, length, map, slice_get, slice_index, Some, refl, sym, ap, subst, ◌∙◌, arith, true, false, Bool, nat_lt, nat_eq, inl, inr, eq-eqb, ne_eqb, if◌then◌else◌}
 use Rattle.std.specs.List.{All, count_by, sum_by}
 use Rattle.std.proofs.lemmas.List.{length-map}
 use Rattle.std.proofs.lemmas.List.Elements.{All-nil, All-cons, All-head, All-tail, All-weaker}
@@ -9,7 +9,8 @@ use mathlib.Core.List.{IsPrefix}
 use mathlib.Core.Option.{some}
 use lib.ListN.{get_elem?}
 use Rattle.atomic_table.specs.Table.{Me, Final, Seen}
-use Rattle.counted_ref.specs.Ref.{Ref, reserved_node}
+use Rattle.counted_ref.specs.Ref.{Ref, IsSplit, reserved_node}
+use Rattle.counted_ref.proofs.Words.{span_least}
 use Rattle.std.proofs.lemmas.Bool.{ltb-true, ltb-false, lt-ltb}
 use Rattle.history.specs.declared.rests.Rest.{Rest}
 use Rattle.history.specs.Queue.{empty}
@@ -18,7 +19,8 @@ use Rattle.history.specs.Seats.{Known}
 use Rattle.history.specs.Rests.{left_of, taken_of, whole_of, was_shut_of}
 use Rattle.history.specs.Closing.{pushes_of, pops_of, shuts_of, Closes}
 use Rattle.history.proofs.Sums.{AreApart, closes}
-use Rattle.line_steps.specs.declared.actors.Node.{Node}
+use Rattle.line_steps.specs.declared.actors.Setup.{Setup}
+use Rattle.line_steps.specs.Actors.{Node}
 use Rattle.line_steps.specs.Memory.{Shared, Head, Next, Value_of, node_at}
 use Rattle.step_machine.specs.Machine.{World, IsReached}
 use Rattle.step_machine.specs.Words.{node_words, memory_words}
@@ -33,7 +35,7 @@ use Rattle.step_machine.proofs.Words.{reading}
 use Rattle.step_machine.proofs.Chains.{no_end, chain_some}
 use Rattle.step_machine.proofs.PlaceOf.{few}
 use Rattle.step_machine.proofs.EitherQueue.{head_some, have_their_places}
-use Rattle.node_arena.specs.declared.arena.Arena.{Arena}
+use Rattle.node_arena.specs.Arenas.{Arena}
 use Rattle.node_arena.specs.declared.seats.Seat.{Seat}
 use Rattle.node_arena.specs.Traces.{Traced, IsTraced}
 use Rattle.node_arena.specs.Seeing.{View, gathered}
@@ -48,80 +50,81 @@ use Rattle.node_arena.proofs.Histories.{history_plays, counts_pops}
 use Rattle.node_arena.proofs.Reading.{read_back, value_parts}
 use Rattle.node_arena.proofs.Lefts.{same_values}
 
-length-node_words : (ns : List Node) → length (node_words ns) ≡ 2 * length ns
-length-node_words [] = refl
-length-node_words (n ∷ ns) = omega (arith, length-node_words ns)
+length-node_words : (bits : ℕ) (ns : List Node) → length (node_words bits ns) ≡ 2 * length ns
+length-node_words bits [] = refl
+length-node_words bits (n ∷ ns) = omega (arith, length-node_words bits ns)
 
 -- the number at a chain's end is that by whether it is a closed end
-ended : (n : ℕ) → IsEnd n → n ≡ end_of (nat_eq n reserved_node)
-ended n (inl none) = none ∙ ap (λ k. end_of (nat_eq k reserved_node)) (sym none)
-ended n (inr closed) = closed ∙ ap (λ k. end_of (nat_eq k reserved_node)) (sym closed)
+ended : (bits : ℕ) → IsSplit bits → (n : ℕ) → IsEnd bits n → n ≡ end_of bits (nat_eq n (reserved_node bits))
+ended bits split n (inl none) = none ∙ ap (end_of bits) (sym (ne_eqb n (reserved_node bits) (λ e. omega (arith, none, e, span_least bits split))))
+ended bits split n (inr closed) = closed ∙ ap (end_of bits) (sym (eq-eqb n (reserved_node bits) closed))
 
 -- the words of a memory whose contents fit
-module _ (m : Shared) (fits : SharedFits m) (few : length m.nodes < reserved_node) where
-  long : length (memory_words m) ≡ 6 + 2 * length m.nodes
-  long = omega (arith, length-node_words m.nodes)
+module _ (bits : ℕ) (split : IsSplit bits) (m : Shared) (fits : SharedFits bits m) (few : length m.nodes < reserved_node bits) where
+  long : length (memory_words bits m) ≡ 6 + 2 * length m.nodes
+  long = omega (arith, length-node_words bits m.nodes)
 
-  head_is : ref_at (memory_words m) 2 ≡ m.head
-  head_is = read_back m.head (slice_index (memory_words m) 2) (fits Head) refl
+  head_is : ref_at bits (memory_words bits m) 2 ≡ m.head
+  head_is = read_back bits split m.head (slice_index (memory_words bits m) 2) (fits Head) refl
 
-  has_head : 2 < length (memory_words m)
+  has_head : 2 < length (memory_words bits m)
   has_head = omega (arith, long)
 
   module _ (n : ℕ) (low : 1 ≤ n) (high : n ≤ length m.nodes) where
-    next_is : ref_at (memory_words m) (4 + 2 * n) ≡ (node_at m n).next
-    next_is = read_back (node_at m n).next (slice_index (memory_words m) (4 + 2 * n)) (fits (Next n)) (reading m (Next n) (low, high))
+    next_is : ref_at bits (memory_words bits m) (4 + 2 * n) ≡ (node_at m n).next
+    next_is = read_back bits split (node_at m n).next (slice_index (memory_words bits m) (4 + 2 * n)) (fits (Next n)) (reading bits m (Next n) (low, high))
 
-    has_node : HasNode (memory_words m) n
+    has_node : HasNode (memory_words bits m) n
     has_node = omega (arith, long, high)
 
-    value_is : (node_at m n).value ≡ value_of (slice_index (memory_words m) (5 + 2 * n))
+    value_is : (node_at m n).value ≡ value_of (slice_index (memory_words bits m) (5 + 2 * n))
     value_is =
-        let p = value_parts (node_at m n).value (slice_index (memory_words m) (5 + 2 * n)) (fits (Value_of n)) (reading m (Value_of n) (low, high)) in
+        let p = value_parts (node_at m n).value (slice_index (memory_words bits m) (5 + 2 * n)) (fits (Value_of n)) (reading bits m (Value_of n) (low, high)) in
         λ i. record { from = p.0 i; body = p.1 i }
 
   -- the nodes behind one of the queue's chain have their values, and the chain's end says whether it is shut
-  chain_values : (front : ℕ) (ns : List ℕ) → IsQueueChain m.nodes (node_at m front).next.node ns → HaveValues (memory_words m) (is_shut_chain m (front ∷ ns)) (node_at m front).next.node (values_of m ns)
-  chain_values front [] c = ended (node_at m front).next.node c
+  chain_values : (front : ℕ) (ns : List ℕ) → IsQueueChain bits m.nodes (node_at m front).next.node ns → HaveValues bits (memory_words bits m) (is_shut_chain bits m (front ∷ ns)) (node_at m front).next.node (values_of m ns)
+  chain_values front [] c = ended bits split (node_at m front).next.node c
   chain_values front (k ∷ ks) c =
-      let more : HaveValues (memory_words m) (is_shut_chain m (k ∷ ks)) (ref_at (memory_words m) (4 + 2 * k)).node (values_of m ks) =
-      subst (λ (r : Ref). HaveValues (memory_words m) (is_shut_chain m (k ∷ ks)) r.node (values_of m ks)) (sym (next_is k c.1 c.2)) (chain_values k ks c.3) in
-      subst (λ j. HaveValues (memory_words m) (is_shut_chain m (k ∷ ks)) j (values_of m (k ∷ ks))) (sym c.0) (c.1, (let most = c.2 in omega (arith, most, few)), has_node k c.1 c.2, value_is k c.1 c.2, more)
+      let more : HaveValues bits (memory_words bits m) (is_shut_chain bits m (k ∷ ks)) (ref_at bits (memory_words bits m) (4 + 2 * k)).node (values_of m ks) =
+      subst (λ (r : Ref). HaveValues bits (memory_words bits m) (is_shut_chain bits m (k ∷ ks)) r.node (values_of m ks)) (sym (next_is k c.1 c.2)) (chain_values k ks c.3) in
+      subst (λ j. HaveValues bits (memory_words bits m) (is_shut_chain bits m (k ∷ ks)) j (values_of m (k ∷ ks))) (sym c.0) (c.1, (let most = c.2 in omega (arith, most, few)), has_node k c.1 c.2, value_is k c.1 c.2, more)
 
 -- the words of a world have the values of its queue, of which there are no more than nodes
 record Left (w : World) : Type 0 where
   queue : List ℕ
-  chain : IsQueueChain w.shared.nodes w.shared.head.node queue
-  head : 2 < length (memory_words w.shared)
-  dummy : HasNode (memory_words w.shared) (ref_at (memory_words w.shared) 2).node
-  values : AreLeft (memory_words w.shared) (is_shut_chain w.shared queue) (queue_values w.shared queue)
+  chain : IsQueueChain w.setup.bits w.shared.nodes w.shared.head.node queue
+  head : 2 < length (memory_words w.setup.bits w.shared)
+  dummy : HasNode (memory_words w.setup.bits w.shared) (ref_at w.setup.bits (memory_words w.setup.bits w.shared) 2).node
+  values : AreLeft w.setup.bits (memory_words w.setup.bits w.shared) (is_shut_chain w.setup.bits w.shared queue) (queue_values w.shared queue)
   few : length (queue_values w.shared queue) ≤ w.setup.size
-  long : length (memory_words w.shared) ≡ 6 + 2 * w.setup.size
+  long : length (memory_words w.setup.bits w.shared) ≡ 6 + 2 * w.setup.size
 
 left_in : (w : World) → IsReached w → Left w
 left_in w r =
     let m : Shared = w.shared in
     let range : WorldInRange w = reached_in_range w r in
-    let fits : SharedFits m = shared_fits w range in
-    let small : length m.nodes < reserved_node = few_nodes w r in
+    let split : IsSplit w.setup.bits = range.sized.split in
+    let fits : SharedFits w.setup.bits m = shared_fits w range in
+    let small : length m.nodes < reserved_node w.setup.bits = few_nodes w r in
     let all : length m.nodes ≡ w.setup.size = range.shared.all_nodes in
     let fresh : m.fresh ≤ w.setup.size = range.shared.fresh in
     let low : 1 ≤ m.head.node = head_some w r in
     let high : m.head.node ≤ length m.nodes = let h = range.shared.head.node in omega arith in
     let p : HasItsPlaces w = have_their_places w r in
     let used : length p.0 ≤ m.fresh = few w p.0 p.1 p.2 1 (omega arith) in
-    let at = chain_some IsEnd m.nodes m.head.node p.0 (no_end m.head.node low (λ e. omega (arith, e, high, small))) p.2.queue_chain in
-    let c : IsQueueChain m.nodes m.head.node (m.head.node ∷ at.0) = subst (IsQueueChain m.nodes m.head.node) at.1 p.2.queue_chain in
-    let front : front_of (memory_words m) ≡ (node_at m m.head.node).next.node =
-    ap (λ (x : Ref). (ref_at (memory_words m) (4 + 2 * x.node)).node) (head_is m fits small) ∙ ap (λ (x : Ref). x.node) (next_is m fits small m.head.node low high) in
+    let at = chain_some (IsEnd w.setup.bits) m.nodes m.head.node p.0 (no_end w.setup.bits m.head.node low (λ e. omega (arith, e, high, small))) p.2.queue_chain in
+    let c : IsQueueChain w.setup.bits m.nodes m.head.node (m.head.node ∷ at.0) = subst (IsQueueChain w.setup.bits m.nodes m.head.node) at.1 p.2.queue_chain in
+    let front : front_of w.setup.bits (memory_words w.setup.bits m) ≡ (node_at m m.head.node).next.node =
+    ap (λ (x : Ref). (ref_at w.setup.bits (memory_words w.setup.bits m) (4 + 2 * x.node)).node) (head_is w.setup.bits split m fits small) ∙ ap (λ (x : Ref). x.node) (next_is w.setup.bits split m fits small m.head.node low high) in
     record {
       queue = m.head.node ∷ at.0;
       chain = c;
-      head = has_head m fits small;
-      dummy = subst (λ (x : Ref). HasNode (memory_words m) x.node) (sym (head_is m fits small)) (has_node m fits small m.head.node low high);
-      values = subst (λ n. HaveValues (memory_words m) (is_shut_chain m (m.head.node ∷ at.0)) n (values_of m at.0)) (sym front) (chain_values m fits small m.head.node at.0 c.3);
+      head = has_head w.setup.bits split m fits small;
+      dummy = subst (λ (x : Ref). HasNode (memory_words w.setup.bits m) x.node) (sym (head_is w.setup.bits split m fits small)) (has_node w.setup.bits split m fits small m.head.node low high);
+      values = subst (λ n. HaveValues w.setup.bits (memory_words w.setup.bits m) (is_shut_chain w.setup.bits m (m.head.node ∷ at.0)) n (values_of m at.0)) (sym front) (chain_values w.setup.bits split m fits small m.head.node at.0 c.3);
       few = omega (arith, used, fresh, ap length at.1, length-map at.0 (λ n. (node_at m n).value));
-      long = omega (arith, long m fits small, all);
+      long = omega (arith, long w.setup.bits split m fits small, all);
     }
 
 -- at the end there is a traced world with these words; each seat handed in fits to it, and no two of them have one number
@@ -129,7 +132,7 @@ pub record Ends (z : Layout) (seats : List Seat) (words : List ℕ) : Type 0 whe
   pub trace : Traced
   pub reached : IsTraced trace
   pub setup : trace.world.setup ≡ z.setup
-  pub words_are : words ≡ memory_words trace.world.shared
+  pub words_are : words ≡ memory_words z.setup.bits trace.world.shared
   pub permitted : All (RolesPermit z.roles) trace.history
   pub fits : (k : ℕ) (s : Seat) → slice_get seats k ≡ Some s → Fits trace (view s)
   pub apart : (k l : ℕ) (s t : Seat) → slice_get seats k ≡ Some s → slice_get seats l ≡ Some t → (view s).number ≡ (view t).number → k ≡ l
@@ -159,21 +162,24 @@ pub ends : (z key : Layout) (seats : List Seat) (id : ℕ) (me : Me ℕ View) (w
 ends z key seats id me words slots same is t = ends_at z seats id words slots (subst (λ (y : Layout × Me ℕ View). Final (Seen (Holds y.0) id y.1.0) words slots) (λ i. (same i, is i)) t)
 
 -- the words are those of a queue
-pub queue_at_end : (z : Layout) (seats : List Seat) (words : List ℕ) (most : ℕ) → z.setup.size ≤ most → Ends z seats words → IsQueue words most
+pub queue_at_end : (z : Layout) (seats : List Seat) (words : List ℕ) (most : ℕ) → z.setup.size ≤ most → Ends z seats words → IsQueue z.setup.bits words most
 queue_at_end z seats words most room e =
     let l : Left e.trace.world = left_in e.trace.world (traced_reached e.trace e.reached) in
-    subst (λ ws. IsQueue ws most) (sym e.words_are)
+    let b : ℕ = e.trace.world.setup.bits in
+    let words_are : words ≡ memory_words b e.trace.world.shared = e.words_are ∙ ap (λ (y : Setup). memory_words y.bits e.trace.world.shared) (sym e.setup) in
+    subst (λ (y : Setup). IsQueue y.bits words most) e.setup
+    (subst (λ ws. IsQueue b ws most) (sym words_are)
     (record {
       head = l.head;
       dummy = l.dummy;
       behind = record {
-        shut = is_shut_chain e.trace.world.shared l.queue;
+        shut = is_shut_chain b e.trace.world.shared l.queue;
         values = queue_values e.trace.world.shared l.queue;
         chain = l.values;
         room = omega (arith, l.few, ap (λ x. x.size) e.setup, room);
         few = omega (arith, l.few, l.long);
       };
-    })
+    }))
 
 -- each seat's own entries are those that it knows
 own_each : (t : Traced) (seats : List Seat) → ((k : ℕ) (s : Seat) → slice_get seats k ≡ Some s → Fits t (view s)) → All (λ k. own_entries k.number t.history ≡ k.mine) (map known_of seats)
@@ -197,29 +203,33 @@ numbers_apart z seats words e i j k l a b same =
     e.apart i j s.0 t.0 s.1 t.1 (ap (λ x. x.number) s.2 ∙ same ∙ ap (λ x. x.number) (sym t.2))
 
 -- what is told of the rest, by the words and by what the seats made
-pub record Rests (words : List ℕ) (pushes pops : ℕ) (shut : Bool) (rest : Rest) : Type 0 where
-  pub left : AreLeft words (was_shut_of rest) (left_of rest)
-  pub taken : taken_of rest ≡ (ref_at words 2).count
+pub record Rests (bits : ℕ) (words : List ℕ) (pushes pops : ℕ) (shut : Bool) (rest : Rest) : Type 0 where
+  pub left : AreLeft bits words (was_shut_of rest) (left_of rest)
+  pub taken : taken_of rest ≡ (ref_at bits words 2).count
   pub whole : IsTrue (whole_of rest) ↔ ((pops ≡ taken_of rest) × (pushes ≡ taken_of rest + length (left_of rest)) × (IsTrue (was_shut_of rest) → IsTrue shut))
 
 -- an arena is closed by seats, where that is told of its end
-pub closes_at_end : (r : Arena) (seats : List Seat) (words : List ℕ) (pushes pops : ℕ) (shut : Bool) (rest : Rest) → Ends r.plan seats words → pushes ≡ pushes_of (map known_of seats) → pops ≡ pops_of (map known_of seats) → shut ≡ nat_lt 0 (shuts_of (map known_of seats)) → Rests words pushes pops shut rest → Closes (permits_of r) (map known_of seats) rest
-closes_at_end r seats words pushes pops shut rest e pushed popped shuts h =
+pub closes_at_end : (r : Arena) (seats : List Seat) (words : List ℕ) (pushes pops : ℕ) (shut : Bool) (rest : Rest) → Ends r.plan seats words → pushes ≡ pushes_of (map known_of seats) → pops ≡ pops_of (map known_of seats) → shut ≡ nat_lt 0 (shuts_of (map known_of seats)) → Rests r.plan.setup.bits words pushes pops shut rest → Closes (permits_of r) (map known_of seats) rest
+closes_at_end r seats words pushes pops shut rest e pushed popped shuts there =
     let t : Traced = e.trace in
+    let b : ℕ = t.world.setup.bits in
+    let h : Rests b words pushes pops shut rest = subst (λ (y : Setup). Rests y.bits words pushes pops shut rest) (sym e.setup) there in
+    let words_are : words ≡ memory_words b t.world.shared = e.words_are ∙ ap (λ (y : Setup). memory_words y.bits t.world.shared) (sym e.setup) in
+    let range = reached_in_range t.world (traced_reached t e.reached) in
     let l : Left t.world = left_in t.world (traced_reached t e.reached) in
-    let told : AreLeft (memory_words t.world.shared) (was_shut_of rest) (left_of rest) = subst (λ ws. AreLeft ws (was_shut_of rest) (left_of rest)) e.words_are h.left in
-    let same = same_values (memory_words t.world.shared) (is_shut_chain t.world.shared l.queue) (was_shut_of rest) (front_of (memory_words t.world.shared)) _ _ l.values told in
+    let told : AreLeft b (memory_words b t.world.shared) (was_shut_of rest) (left_of rest) = subst (λ ws. AreLeft b ws (was_shut_of rest) (left_of rest)) words_are h.left in
+    let same = same_values b range.sized.split (memory_words b t.world.shared) (is_shut_chain b t.world.shared l.queue) (was_shut_of rest) (front_of b (memory_words b t.world.shared)) _ _ l.values told in
     let leads : Leads t.history (was_shut_of rest) (left_of rest) = subst (Plays empty t.history) (λ i. record { values = same.0 i; shut = same.1 i }) (history_plays t e.reached l.queue l.chain) in
-    let head : ref_at (memory_words t.world.shared) 2 ≡ t.world.shared.head = head_is t.world.shared (shared_fits t.world (reached_in_range t.world (traced_reached t e.reached))) (few_nodes t.world (traced_reached t e.reached)) in
-    let counted : taken_of rest ≡ count_by is_pop t.history = h.taken ∙ ap (λ ws. (ref_at ws 2).count) e.words_are ∙ ap (λ (x : Ref). x.count) head ∙ counts_pops t e.reached in
+    let head : ref_at b (memory_words b t.world.shared) 2 ≡ t.world.shared.head = head_is b range.sized.split t.world.shared (shared_fits t.world range) (few_nodes t.world (traced_reached t e.reached)) in
+    let counted : taken_of rest ≡ count_by is_pop t.history = h.taken ∙ ap (λ ws. (ref_at b ws 2).count) words_are ∙ ap (λ (x : Ref). x.count) head ∙ counts_pops t e.reached in
     closes (permits_of r) (map known_of seats) rest t.history leads e.permitted (begins_each t seats e.fits) (own_each t seats e.fits) (numbers_apart r.plan seats words e) counted (
       λ w. let x = h.whole.0 w in (sym popped ∙ x.0, sym pushed ∙ x.1, λ was. ltb-true 0 (shuts_of (map known_of seats)) (sym shuts ∙ x.2 was)),
       λ x. h.whole.1 (popped ∙ x.0, pushed ∙ x.1, λ was. shuts ∙ lt-ltb 0 (shuts_of (map known_of seats)) (x.2 was)),
     )
 
 -- each seat of an arena brings a token of its table, and its own counts
-pub have_tokens : (r : Arena) (seats : List Seat) → All (IsReady r) seats → All (HasToken r.table.shared.table_id) seats
-have_tokens r = All-weaker (IsReady r) (HasToken r.table.shared.table_id) (λ s h. record { table = h.seat.sits.table; seat = h.seat.sits.seat })
+pub have_tokens : (r : Arena) (seats : List Seat) → All (IsReady r) seats → All (HasToken r.id) seats
+have_tokens r = All-weaker (IsReady r) (HasToken r.id) (λ s h. record { table = h.seat.sits.table; seat = h.seat.sits.seat })
 
 pub count_own : (r : Arena) (seats : List Seat) → All (IsReady r) seats → All CountsItsOwn seats
 count_own r = All-weaker (IsReady r) CountsItsOwn (λ s h. record { pushes = h.seat.sits.pushes; pops = h.seat.sits.pops; shut = h.seat.sits.shut })
@@ -245,3 +255,10 @@ sum_by-shuts (s ∷ ss) =
 pub shut_more : (before now : Bool) (n k m : ℕ) → before ≡ nat_lt 0 n → now ≡ nat_lt 0 k → m ≡ n + k → (if now then true else before) ≡ nat_lt 0 m
 shut_more before true n k m was is sum = sym (lt-ltb 0 m (let some = ltb-true 0 k (sym is) in omega (arith, some, sum)))
 shut_more before false n k m was is sum = was ∙ ap (nat_lt 0) (let none = ltb-false 0 k (sym is) in omega (arith, none, sum))
+
+-- the same at the bits of a type
+pub queue_as : (a b : ℕ) (words : List ℕ) (most : ℕ) → a ≡ b → IsQueue a words most → IsQueue b words most
+queue_as a b words most same = subst (λ c. IsQueue c words most) same
+
+pub rests_as : (a b : ℕ) (words : List ℕ) (pushes pops : ℕ) (shut : Bool) (rest : Rest) → a ≡ b → Rests b words pushes pops shut rest → Rests a words pushes pops shut rest
+rests_as a b words pushes pops shut rest same = subst (λ c. Rests c words pushes pops shut rest) (sym same)

@@ -11,7 +11,7 @@ use Rattle.history.specs.declared.operations.Entry.TheVariants.{Push, Pop, Shut}
 use Rattle.history.specs.Entries.{seat_of, own_entries}
 use Rattle.history.specs.Seats.{Allows}
 use Rattle.line_steps.specs.declared.actors.Setup.{Setup}
-use Rattle.line_steps.specs.declared.actors.Actor.{Actor}
+use Rattle.line_steps.specs.Actors.{Actor}
 use Rattle.line_steps.specs.Memory.{Found, found}
 use Rattle.line_steps.specs.Lines.{action}
 use Rattle.node_arena.specs.declared.roles.Role.{Role}

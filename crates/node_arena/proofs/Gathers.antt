@@ -1,5 +1,5 @@
 -- A token that gathers those of seats that are closed. No move of the world is made.
-use Rattle.std.proofs.Common.{◌≡◌, ◌≢◌, ℕ, ◌<◌, List, [], ◌∷◌, ◌++◌, length, map, set, slice_index, sym, refl, ap, ◌∙◌, subst, ⊎_elim}
+use Rattle.std.proofs.Common.{◌≡◌, ◌≢◌, ℕ, ◌+◌, ◌*◌, ◌<◌, arith, List, [], ◌∷◌, ◌++◌, length, map, set, slice_index, sym, refl, ap, ◌∙◌, subst, ⊎_elim}
 use mathlib.Core.Option.{some}
 use mathlib.Core.List.{map-append}
 use lib.ListN.{get_elem?}
@@ -11,7 +11,7 @@ use Rattle.node_arena.specs.declared.views.Knowing.{Knowing}
 use Rattle.node_arena.specs.declared.seats.Seat.{Seat}
 use Rattle.node_arena.specs.Traces.{changed}
 use Rattle.node_arena.specs.Seeing.{SeatView, View, keeper, gathered, seated, spent, members, both_of}
-use Rattle.node_arena.specs.Plans.{Layout}
+use Rattle.node_arena.specs.Plans.{Layout, IsTable}
 use Rattle.node_arena.specs.Rule.{Fits, Holds, Opens}
 use Rattle.node_arena.specs.Moments.{WasWord}
 use Rattle.node_arena.specs.Seats.{view}
@@ -65,6 +65,10 @@ enters key slots word s h none fit = (
       (at_end s.views (gathered []) (keeper n) j a)),
   refl,
 )
+
+-- a word with a number below that of the words is one of the table's
+pub look_there : (z key : Layout) (t : TableId) (word size : ℕ) → IsTable z key t → size ≡ z.setup.size → word < 6 + 2 * size → word < t.words
+look_there z key t word size h same less = omega (arith, h.words, same, less)
 
 -- a new token for a look at a word, which then is one of a world
 pub peeks : (key : Layout) (slots word : ℕ) → Enters {S = ℕ} (Holds key) slots word (λ n w. WasWord key word n)

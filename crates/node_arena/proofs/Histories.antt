@@ -19,7 +19,7 @@ use Rattle.history.specs.Queue.{empty}
 use Rattle.history.specs.Entries.{is_pop, Plays}
 use Rattle.history.specs.History.{by_point}
 use Rattle.line_steps.specs.declared.actors.Setup.{Setup}
-use Rattle.line_steps.specs.declared.actors.Actor.{Actor}
+use Rattle.line_steps.specs.Actors.{Actor}
 use Rattle.line_steps.specs.Outcomes.{Outcome}
 use Rattle.line_steps.specs.Memory.{Found, found}
 use Rattle.line_steps.specs.Lines.{action, outcome, goes, ends, effect, fills_hand, empties_hand, sets_aside, freed, unlocked, left, left_with_node, busy_or, gives_up}
@@ -133,12 +133,12 @@ stutters s now me a F1 c e = both _ _ (nat_eq c.count s.limit) _ _ (aside_adds _
 stutters s now me a F3 c e = both _ _ (same_ref c a.top) _ _ (freed_adds _ _ s.kind now a.due (empties_hand a)) record { none = refl }
 stutters s now me a E3 c e = both _ _ (nat_eq c.count s.limit) _ _ record { none = refl } record { none = refl }
 stutters s now me a E7 c e =
-    both _ _ (same_ref c a.tail) _ _ (both _ _ (is_null a.next) _ _ record { none = refl } (both _ _ (is_shut a.next) _ _ record { none = refl } (both _ _ (nat_eq a.tail.count s.limit) _ _ record { none = refl } record { none = refl })))
+    both _ _ (same_ref c a.tail) _ _ (both _ _ (is_null a.next) _ _ record { none = refl } (both _ _ (is_shut s.bits a.next) _ _ record { none = refl } (both _ _ (nat_eq a.tail.count s.limit) _ _ record { none = refl } record { none = refl })))
     record { none = refl }
 stutters s now me a E9 c e = absurd (let h : true ≡ false = e in cc)
 stutters s now me a D5 c e =
     both _ _ (same_ref c a.head) _ _
-    (both _ _ (nat_eq a.head.node a.tail.node) _ _ (both _ _ (is_null a.next) _ _ record { none = refl } (both _ _ (is_shut a.next) _ _ record { none = refl } (both _ _ (nat_eq a.tail.count s.limit) _ _ record { none = refl } record { none = refl }))) record { none = refl })
+    (both _ _ (nat_eq a.head.node a.tail.node) _ _ (both _ _ (is_null a.next) _ _ record { none = refl } (both _ _ (is_shut s.bits a.next) _ _ record { none = refl } (both _ _ (nat_eq a.tail.count s.limit) _ _ record { none = refl } record { none = refl }))) record { none = refl })
     record { none = refl }
 stutters s now me a D12 c e = both _ _ (nat_eq a.head.count s.limit) _ _ record { none = refl } record { none = refl }
 stutters s now me a D13 c e = absurd (let h : true ≡ false = e in cc)
@@ -146,12 +146,12 @@ stutters s now me a A3 c e = both _ _ (nat_eq c 0) _ _ record { none = refl } re
 stutters s now me a A5 c e = absurd (let h : true ≡ false = e in cc)
 stutters s now me a A7 c e = left_with_node_adds _ _ now a.due a
 stutters s now me a B1 c e = both _ _ (nat_eq c 0) _ _ record { none = refl } record { none = refl }
-stutters s now me a B3 c e = both _ _ (is_null c) _ _ record { none = refl } (both _ _ (is_shut c) _ _ record { none = refl } record { none = refl })
+stutters s now me a B3 c e = both _ _ (is_null c) _ _ record { none = refl } (both _ _ (is_shut s.bits c) _ _ record { none = refl } record { none = refl })
 stutters s now me a B4 c e = both _ _ (nat_eq a.head.count s.limit) _ _ record { none = refl } record { none = refl }
 stutters s now me a B5 c e = absurd (let h : true ≡ false = e in cc)
 stutters s now me a B6 c e = unlocked_adds _ _ now a.due a
 stutters s now me a S3 c e =
-    both _ _ (same_ref c a.tail) _ _ (both _ _ (is_null a.next) _ _ record { none = refl } (both _ _ (is_shut a.next) _ _ record { none = refl } (both _ _ (nat_eq a.tail.count s.limit) _ _ record { none = refl } record { none = refl })))
+    both _ _ (same_ref c a.tail) _ _ (both _ _ (is_null a.next) _ _ record { none = refl } (both _ _ (is_shut s.bits a.next) _ _ record { none = refl } (both _ _ (nat_eq a.tail.count s.limit) _ _ record { none = refl } record { none = refl })))
     record { none = refl }
 stutters s now me a S4 c e = absurd (let h : true ≡ false = e in cc)
 stutters s now me a S6 c e = both _ _ (nat_eq c 0) _ _ record { none = refl } record { none = refl }
@@ -311,7 +311,7 @@ history_is t r =
 -- it leads to the queue that the chain from Head holds
 pub history_plays : (t : Traced) → IsTraced t → PlaysToItsValues t
 history_plays t r queue chain =
-    subst (λ es. Plays empty es (queue_in t.world.shared queue)) (sym (history_is t r)) (plays_to_the_values t.world (traced_reached t r) queue chain)
+    subst (λ es. Plays empty es (queue_in t.world.setup.bits t.world.shared queue)) (sym (history_is t r)) (plays_to_the_values t.world (traced_reached t r) queue chain)
 
 -- Head's count is the number of its pops
 pub counts_pops : (t : Traced) → IsTraced t → CountsItsPops t

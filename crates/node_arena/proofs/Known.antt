@@ -4,7 +4,7 @@ use Rattle.line_table.specs.declared.lines.Kind.{Kind}
 use Rattle.line_table.specs.declared.lines.Kind.TheVariants.{TwoLock, NonBlocking}
 use Rattle.line_table.specs.declared.lines.Line.{Line}
 use Rattle.line_steps.specs.declared.actors.Setup.{Setup}
-use Rattle.line_steps.specs.declared.actors.Actor.{Actor}
+use Rattle.line_steps.specs.Actors.{Actor}
 use Rattle.step_machine.specs.Machine.{World, IsReached, actor_of}
 use Rattle.step_machine.specs.Range.{RegistersInRange, LineInRange, ActorInRange, WorldInRange}
 use Rattle.step_machine.specs.ProgramCounters.{NonNullAt}
@@ -16,7 +16,7 @@ use Rattle.step_machine.proofs.EitherQueue.{stands_at, fixed_at}
 use Rattle.step_machine.proofs.TwoLockLaws as two_lock
 use Rattle.step_machine.proofs.NonBlockingLaws as non_blocking
 use Rattle.node_arena.specs.Prologues.{Prologue, after_prologue}
-use Rattle.node_arena.specs.declared.arena.Arena.{Arena}
+use Rattle.node_arena.specs.Arenas.{Arena}
 use Rattle.node_arena.specs.declared.seats.Seat.{Seat}
 use Rattle.node_arena.specs.Seats.{IsBefore, view}
 use Rattle.node_arena.proofs.Tracing.{traced_reached}
@@ -25,7 +25,7 @@ use Rattle.node_arena.proofs.There.{Stood, stood}
 -- hand, pocket and what is due, the registers that hold nodes, the count that may be raised, and the ranges
 pub record Known (z : Setup) (me : ℕ) (a : Actor) (l : Line) : Type 0 where
   pub fixed : FixedAt z.limit me a (Some l)
-  pub some : NonNullAt l a
+  pub some : NonNullAt z.bits l a
   pub room : IfSome (raised_at l a) (λ r. r.count < z.limit)
   pub used : ℕ
   pub actors : ℕ

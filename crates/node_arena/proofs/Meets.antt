@@ -15,7 +15,7 @@ use Rattle.std.specs.List.{All, count_by}
 use Rattle.std.proofs.lemmas.List.Elements.{All-weaker}
 use Rattle.atomic_table.specs.declared.shared.Seat.{Seat as Token}
 use Rattle.node_arena.specs.declared.views.Knowing.{Knowing}
-use Rattle.node_arena.specs.declared.arena.Arena.{Arena}
+use Rattle.node_arena.specs.Arenas.{Arena}
 use Rattle.node_arena.specs.declared.seats.Seat.{Seat}
 use Rattle.node_arena.specs.Prologues.{at_rest}
 use Rattle.node_arena.specs.Seats.{IsReady, Meets, view}
@@ -189,7 +189,7 @@ pub met_there : (z : Layout) (j m : Me ℕ View) (v w : SeatView) → j ≡ (pai
 met_there z j m v w is h = subst (λ (y : Me ℕ View). Met z (knows y.0) (knows_second y.0) m) is h
 
 -- a seat with another token of its own, which knows the same but for what it has seen
-sits_so : (r : Arena) (s : Seat) (t : Token ℕ Knowing) (v : SeatView) → IsReady r s → t.table_id ≡ r.table.shared.table_id → t.me ≡ (seated v, []) → v.number ≡ (view s).number → v.actor ≡ (view s).actor → v.mine ≡ (view s).mine → Fitted r.plan v → IsReady r (record s { token = t })
+sits_so : (r : Arena) (s : Seat) (t : Token ℕ Knowing) (v : SeatView) → IsReady r s → t.table_id ≡ r.id → t.me ≡ (seated v, []) → v.number ≡ (view s).number → v.actor ≡ (view s).actor → v.mine ≡ (view s).mine → Fitted r.plan v → IsReady r (record s { token = t })
 sits_so r s t v i here me number actor mine fitted =
     let is : knows t.me.0 ≡ v = ap (λ (y : Me ℕ View). knows y.0) me in
     record {
@@ -211,7 +211,7 @@ sits_so r s t v i here me number actor mine fitted =
     }
 
 -- the seats after they met
-pub meeting : (r : Arena) (s o : Seat) (k a b : Token ℕ Knowing) → IsReady r s → IsReady r o → Met r.plan (view s) (view o) k.me → a.me ≡ (first_of k.me.0, k.me.1) → b.me ≡ (second_of k.me.0, []) → a.table_id ≡ r.table.shared.table_id → b.table_id ≡ r.table.shared.table_id
+pub meeting : (r : Arena) (s o : Seat) (k a b : Token ℕ Knowing) → IsReady r s → IsReady r o → Met r.plan (view s) (view o) k.me → a.me ≡ (first_of k.me.0, k.me.1) → b.me ≡ (second_of k.me.0, []) → a.table_id ≡ r.id → b.table_id ≡ r.id
     → Meets r s o (record s { token = a }) (record o { token = b })
 meeting r s o k a b i j h left right here there =
     let one : a.me ≡ (seated (record (view s) { seen = h.all }), []) = left ∙ ap (λ (y : Me ℕ View). (first_of y.0, y.1)) h.seats in
@@ -227,3 +227,7 @@ meeting r s o k a b i j h left right here there =
 -- the plan by which a meeting is told is the arena's
 pub met_at : (z y : Layout) (v w : SeatView) (m : Me ℕ View) → y ≡ z → Met y v w m → Met z v w m
 met_at z y v w m e h = subst (λ (x : Layout). Met x v w m) e h
+
+-- the same of an arena by another name
+pub met_as : (r q : Arena) (s t s' t' : Seat) → r ≡ q → Meets r s t s' t' → Meets q s t s' t'
+met_as r q s t s' t' same = subst (λ a. Meets a s t s' t') same

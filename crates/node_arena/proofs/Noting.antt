@@ -9,7 +9,7 @@ use Rattle.history.specs.declared.operations.Reply.{Reply}
 use Rattle.history.specs.declared.operations.Reply.TheVariants.{Done, Value, Empty, Refused}
 use Rattle.history.specs.declared.refusals.Refusal.TheVariants.{Closed}
 use Rattle.line_steps.specs.declared.actors.Setup.{Setup}
-use Rattle.line_steps.specs.declared.actors.Actor.{Actor}
+use Rattle.line_steps.specs.Actors.{Actor}
 use Rattle.line_steps.specs.Outcomes.{Outcome}
 use Rattle.line_steps.specs.Memory.{Found}
 use Rattle.line_steps.specs.Lines.{action, outcome, goes, ends, effect, empties_hand, sets_aside, freed, unlocked, left, left_with_node}
@@ -22,16 +22,16 @@ IsSilent (Some (Refused Closed)) = ⊥
 IsSilent reply = Unit {0}
 
 -- a call doesn't answer so at a line: neither by what it read, nor by what is due
-abbrev pub AnswersSilently : Actor → Line → Type 0
-AnswersSilently a D5 = ⊥
-AnswersSilently a E7 = is_shut a.next ≡ false
-AnswersSilently a S3 = is_shut a.next ≡ false
-AnswersSilently a F1 = IsSilent a.due
-AnswersSilently a F3 = IsSilent a.due
-AnswersSilently a A7 = IsSilent a.due
-AnswersSilently a B6 = IsSilent a.due
-AnswersSilently a S9 = IsSilent a.due
-AnswersSilently a l = Unit {0}
+abbrev pub AnswersSilently : (bits : ℕ) → Actor → Line → Type 0
+AnswersSilently bits a D5 = ⊥
+AnswersSilently bits a E7 = is_shut bits a.next ≡ false
+AnswersSilently bits a S3 = is_shut bits a.next ≡ false
+AnswersSilently bits a F1 = IsSilent a.due
+AnswersSilently bits a F3 = IsSilent a.due
+AnswersSilently bits a A7 = IsSilent a.due
+AnswersSilently bits a B6 = IsSilent a.due
+AnswersSilently bits a S9 = IsSilent a.due
+AnswersSilently bits a l = Unit {0}
 
 -- such a reply notes nothing
 pub notes_no : (reply : Option Reply) (es : List Entry) → IsSilent reply → notes_of reply es ≡ []
@@ -84,7 +84,7 @@ open_silent : (b : Bool) (x y : Outcome) → b ≡ false → Silent y → Silent
 open_silent true x y e h = absurd (let f : true ≡ false = e in cc)
 open_silent false x y e h = h
 
-pub silent : (s : Setup) (now me : ℕ) (a : Actor) (l : Line) (c : Found (action s me a l)) → AnswersSilently a l → Silent (outcome s now me a l c)
+pub silent : (s : Setup) (now me : ℕ) (a : Actor) (l : Line) (c : Found (action s me a l)) → AnswersSilently s.bits a l → Silent (outcome s now me a l c)
 silent s now me a N2 c h = both (is_null c) _ _ (both (nat_lt a.f s.size) _ _ record { reply = tt } record { reply = tt }) (both (nat_eq c.count s.limit) _ _ record { reply = tt } record { reply = tt })
 silent s now me a N4 c h = both (same_ref c a.top) _ _ record { reply = tt } record { reply = tt }
 silent s now me a N5 c h = both (nat_eq c a.f) _ _ record { reply = tt } record { reply = tt }
@@ -92,7 +92,7 @@ silent s now me a F1 c h = both (nat_eq c.count s.limit) _ _ (aside_silent s.kin
 silent s now me a F3 c h = both (same_ref c a.top) _ _ (freed_silent s.kind now a.due (empties_hand a) h) record { reply = tt }
 silent s now me a E3 c h = both (nat_eq c.count s.limit) _ _ record { reply = tt } record { reply = tt }
 silent s now me a E7 c h =
-    both (same_ref c a.tail) _ _ (both (is_null a.next) _ _ record { reply = tt } (open_silent (is_shut a.next) _ _ h (both (nat_eq a.tail.count s.limit) _ _ record { reply = tt } record { reply = tt })))
+    both (same_ref c a.tail) _ _ (both (is_null a.next) _ _ record { reply = tt } (open_silent (is_shut s.bits a.next) _ _ h (both (nat_eq a.tail.count s.limit) _ _ record { reply = tt } record { reply = tt })))
     record { reply = tt }
 silent s now me a E9 c h = won (same_ref c a.next)
   where
@@ -108,13 +108,13 @@ silent s now me a D12 c h = both (nat_eq a.head.count s.limit) _ _ record { repl
 silent s now me a D13 c h = both (same_ref c a.head) _ _ record { reply = tt } record { reply = tt }
 silent s now me a A3 c h = both (nat_eq c 0) _ _ record { reply = tt } record { reply = tt }
 silent s now me a B1 c h = both (nat_eq c 0) _ _ record { reply = tt } record { reply = tt }
-silent s now me a B3 c h = both (is_null c) _ _ record { reply = tt } (both (is_shut c) _ _ record { reply = tt } record { reply = tt })
+silent s now me a B3 c h = both (is_null c) _ _ record { reply = tt } (both (is_shut s.bits c) _ _ record { reply = tt } record { reply = tt })
 silent s now me a B4 c h = both (nat_eq a.head.count s.limit) _ _ record { reply = tt } record { reply = tt }
 silent s now me a B6 c h = unlocked_silent now a.due a h
 silent s now me a A5 c h = both (same_ref c null) _ _ record { reply = tt } record { reply = tt }
 silent s now me a A7 c h = left_with_node_silent now a.due a h
 silent s now me a S3 c h =
-    both (same_ref c a.tail) _ _ (both (is_null a.next) _ _ record { reply = tt } (open_silent (is_shut a.next) _ _ h (both (nat_eq a.tail.count s.limit) _ _ record { reply = tt } record { reply = tt })))
+    both (same_ref c a.tail) _ _ (both (is_null a.next) _ _ record { reply = tt } (open_silent (is_shut s.bits a.next) _ _ h (both (nat_eq a.tail.count s.limit) _ _ record { reply = tt } record { reply = tt })))
     record { reply = tt }
 silent s now me a S4 c h = both (same_ref c a.next) _ _ record { reply = tt } record { reply = tt }
 silent s now me a S6 c h = both (nat_eq c 0) _ _ record { reply = tt } record { reply = tt }
@@ -123,7 +123,7 @@ silent s now me a S9 c h = left_silent now a.due a h
 silent s now me a _ c h = record { reply = tt }
 
 -- a step at a line where the call doesn't answer empty notes nothing
-pub notes_nothing : (s : Setup) (now me : ℕ) (a : Actor) (l : Line) (c : Found (action s me a l)) (es : List Entry) → AnswersSilently a l → notes_of (outcome s now me a l c).reply es ≡ []
+pub notes_nothing : (s : Setup) (now me : ℕ) (a : Actor) (l : Line) (c : Found (action s me a l)) (es : List Entry) → AnswersSilently s.bits a l → notes_of (outcome s now me a l c).reply es ≡ []
 notes_nothing s now me a l c es h = notes_no (outcome s now me a l c).reply es (silent s now me a l c h).reply
 
 -- nothing is due yet

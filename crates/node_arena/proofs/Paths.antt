@@ -14,7 +14,7 @@ use Rattle.node_arena.specs.Machine.{Held, Actor, Outcome, World, actor_of, entr
 use Rattle.node_arena.specs.Traces.{Event, Traced, entries_at, event_at, outcome_at, sees, step_at}
 use Rattle.node_arena.specs.Prologues.{Prologue, continues, after_prologue}
 use Rattle.node_arena.specs.Seeing.{SeatView, known_by}
-use Rattle.node_arena.specs.declared.arena.Arena.{Arena}
+use Rattle.node_arena.specs.Arenas.{Arena}
 use Rattle.node_arena.specs.declared.seats.Seat.{Seat}
 use Rattle.node_arena.specs.Rule.{notes_of, SaysOfSeen, FoundClosedAt}
 use Rattle.node_arena.specs.Seats.{IsSeat, IsBefore, KeepsStored, DidStep, view, keeping}
@@ -192,11 +192,11 @@ module _ (r : Arena) (s t : Seat) (prologue : Prologue) (l : Line) (n : ℕ) (d 
   walk_silent none quiet = walk_one none (notes_no (outcome_at r.plan.setup d.told.was (view s).number b l).reply (view t).seen quiet)
 
   -- and at a line where the call doesn't answer so
-  pub walk_on : entries_at r.plan.setup d.told.was (view s).number b l ≡ [] → AnswersSilently b l → ExtendsPath (view s) (view t) (event ∷ [])
+  pub walk_on : entries_at r.plan.setup d.told.was (view s).number b l ≡ [] → AnswersSilently r.plan.setup.bits b l → ExtendsPath (view s) (view t) (event ∷ [])
   walk_on none other = walk_one none (notes_nothing r.plan.setup (d.told.was.world.steps + 1) (view s).number b l (found (action r.plan.setup (view s).number b l) d.told.was.world.shared) (view t).seen other)
 
   -- and where the seat sees nothing
-  pub pass_on : entries_at r.plan.setup d.told.was (view s).number b l ≡ [] → AnswersSilently b l → sees l ≡ false → Passes (view s) (view t) (event ∷ [])
+  pub pass_on : entries_at r.plan.setup d.told.was (view s).number b l ≡ [] → AnswersSilently r.plan.setup.bits b l → sees l ≡ false → Passes (view s) (view t) (event ∷ [])
   pass_on none other blind = record { walks = walk_on none other; same = d.told.stays blind }
 
   -- it noted that the queue was found shut
@@ -230,7 +230,7 @@ module _ (r : Arena) (s t : Seat) (prologue : Prologue) (l : Line) (n : ℕ) (d 
       }
 
   -- it had its effect: it added this entry
-  pub act_on : (e : Entry) → entries_at r.plan.setup d.told.was (view s).number b l ≡ e ∷ [] → AnswersSilently b l → Acts (view s) (view t) e (event ∷ [])
+  pub act_on : (e : Entry) → entries_at r.plan.setup d.told.was (view s).number b l ≡ e ∷ [] → AnswersSilently r.plan.setup.bits b l → Acts (view s) (view t) e (event ∷ [])
   act_on e one other =
       record {
         path = d.told.path;

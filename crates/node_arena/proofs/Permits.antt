@@ -2,7 +2,7 @@
 use Rattle.std.proofs.Common.{◌≡◌, ◌-◌, ◌↔◌, IsTrue, Some, IsSomeAnd, slice_get, sym, subst}
 use Rattle.history.specs.Seats.{Permit, MayPush, MayPop}
 use Rattle.step_machine.proofs.Reached.{mover_in_range}
-use Rattle.node_arena.specs.declared.arena.Arena.{Arena}
+use Rattle.node_arena.specs.Arenas.{Arena}
 use Rattle.node_arena.specs.declared.seats.Seat.{Seat}
 use Rattle.node_arena.specs.Plans.{may_push, may_pop, permit_of}
 use Rattle.node_arena.specs.Seats.{IsSeat, view, permits_of, known_of}

@@ -7,9 +7,10 @@ use Rattle.line_table.specs.declared.lines.Line.TheVariants.{E9, D13, A5, B5}
 use Rattle.history.specs.declared.operations.Entry.{Entry}
 use Rattle.history.specs.Entries.{is_push, is_pop, seat_of}
 use Rattle.step_machine.proofs.Few.{one_more, count, count_is, both_more, no_fewer, are_few}
+use Rattle.counted_ref.proofs.Words.{count_span_most, span_most}
 use Rattle.node_arena.specs.declared.views.Knowing.{Knowing}
 use Rattle.node_arena.specs.Traces.{Traced, IsTraced}
-use Rattle.node_arena.specs.declared.arena.Arena.{Arena}
+use Rattle.node_arena.specs.Arenas.{Arena}
 use Rattle.node_arena.specs.declared.seats.Seat.{Seat}
 use Rattle.node_arena.specs.Seeing.{SeatView}
 use Rattle.node_arena.specs.Plans.{Layout}
@@ -47,12 +48,12 @@ has_room r s t seat = room
 
     pops : s.pops + 1 < 2 ^ 64
     pops =
-        omega (arith, own_fewer r.plan (view s) f is_pop, (history_few f.trace f.reached).0, ap (λ z. z.limit) f.setup, seat.sits.pops, seat.arena.sized.counted)
+        omega (arith, own_fewer r.plan (view s) f is_pop, (history_few f.trace f.reached).0, ap (λ z. z.limit) f.setup, seat.sits.pops, seat.arena.sized.counted, count_span_most r.plan.setup.bits seat.arena.sized.split, span_most r.plan.setup.bits seat.arena.sized.split)
 
     pushes : s.pushes + 1 < 2 ^ 64
     pushes =
         let few = history_few f.trace f.reached in
-        omega (arith, own_fewer r.plan (view s) f is_push, few.0, few.1, ap (λ z. z.limit) f.setup, ap (λ z. z.size) f.setup, seat.sits.pushes, seat.arena.sized.counted, seat.arena.sized.numbered)
+        omega (arith, own_fewer r.plan (view s) f is_push, few.0, few.1, ap (λ z. z.limit) f.setup, ap (λ z. z.size) f.setup, seat.sits.pushes, seat.arena.sized.counted, seat.arena.sized.numbered, count_span_most r.plan.setup.bits seat.arena.sized.split, span_most r.plan.setup.bits seat.arena.sized.split)
 
     room : (l : Line) → HasRoom (record s { token = t }) l
     room E9 = pushes

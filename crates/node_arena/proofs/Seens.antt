@@ -10,7 +10,7 @@ use Rattle.history.specs.Queue.{Queue, empty}
 use Rattle.history.specs.Entries.{Plays, IsQueueRun, own_entries}
 use Rattle.history.specs.Seats.{IsSound}
 use Rattle.line_steps.specs.declared.actors.Setup.{Setup}
-use Rattle.line_steps.specs.declared.actors.Actor.{Actor}
+use Rattle.line_steps.specs.Actors.{Actor}
 use Rattle.line_steps.specs.Memory.{Found}
 use Rattle.line_steps.specs.Lines.{action}
 use Rattle.node_arena.specs.Traces.{Traced, IsTraced, entries_of, sees}

@@ -11,7 +11,7 @@ use Rattle.history.specs.declared.refusals.Refusal.TheVariants.{Closed}
 use Rattle.history.specs.Queue.{Queue, empty}
 use Rattle.history.specs.Entries.{is_shut as is_shut_entry, Plays, LeadsToShut}
 use Rattle.history.proofs.Sums.{shuts-Leads}
-use Rattle.line_steps.specs.declared.actors.Actor.{Actor}
+use Rattle.line_steps.specs.Actors.{Actor}
 use Rattle.step_machine.specs.Machine.{actor_of}
 use Rattle.step_machine.specs.Chains.{queue_values}
 use Rattle.step_machine.specs.EachQueue.{HasCause, HasCauseFor}

@@ -13,7 +13,8 @@ use Rattle.line_table.specs.declared.lines.Line.{Line}
 use Rattle.history.specs.declared.operations.Entry.{Entry}
 use Rattle.history.specs.Entries.{seat_of, own_entries, is_pop}
 use Rattle.history.specs.Seats.{IsNoted}
-use Rattle.line_steps.specs.declared.actors.Actor.{Actor}
+use Rattle.line_steps.specs.Actors.{Actor}
+use Rattle.line_steps.specs.declared.actors.Setup.{Setup}
 use Rattle.line_steps.specs.Memory.{word, found}
 use Rattle.line_steps.specs.Lines.{action}
 use Rattle.step_machine.specs.Words.{memory_words, IsWord}
@@ -66,7 +67,7 @@ pub record Goes (z : Layout) (s : State ℕ View) (h : Holds z s) (v v' : SeatVi
   pub reached : IsTraced t
   pub setup : t.world.setup ≡ z.setup
   pub actors : length t.world.actors ≡ length z.roles
-  pub words' : words ≡ memory_words t.world.shared
+  pub words' : words ≡ memory_words z.setup.bits t.world.shared
   pub permitted : All (RolesPermit z.roles) t.history
   pub number : v'.number ≡ v.number
   pub me : Fits t v'
@@ -164,7 +165,7 @@ module _ (z : Layout) (s : State ℕ View) (h : Holds z s) (id : ℕ) (v : SeatV
 
   -- what the actor found before its step, in what its seat has seen after it
   saw : sees l ≡ false → SawAt u v'.seen a (Some l) a.due
-  saw e = subst (λ (y : List Entry × Option Line). SawAt u y.0 a y.1 a.due) (λ i. (sym (stays e) i, line i)) (saw_led h.trace u v.seen z.setup v.number prologue v.actor (let c = ap (λ m. m.head.count) f.shared in omega arith) fit.saw)
+  saw e = subst (λ (y : List Entry × Option Line). SawAt u y.0 a y.1 a.due) (λ i. (sym (stays e) i, line i)) (saw_led h.trace u v.seen z.setup v.number prologue v.actor (let c = ap (λ m. m.head.count) f.shared in omega arith) f.setup fit.saw)
 
   -- what its reply says of the queue
   says : SaysOfSeen l (outcome_at u.world.setup u v.number a l).reply v'.seen
@@ -201,7 +202,7 @@ module _ (z : Layout) (s : State ℕ View) (h : Holds z s) (id : ℕ) (v : SeatV
     own = ap (own_entries o.number) history_is ∙ (filter-append (λ e. nat_eq (seat_of e) o.number) h.trace.history es ∙ (ap (λ ys. own_entries o.number h.trace.history ++ ys) (none_added z.setup u v.number o.number a l ne) ∙ (append-nil (own_entries o.number h.trace.history) ∙ g.own)));
     known = g.known;
     noted = g.noted;
-    saw = saw_later h.trace t o.seen o.actor o.actor.line o.actor.due rises g.saw;
+    saw = saw_later h.trace t o.seen o.actor o.actor.line o.actor.due rises f.setup g.saw;
   }
 
   new : (n : ℕ) → n ≢ v.number → IsNew h.trace n → IsNew t n
@@ -214,17 +215,18 @@ module _ (z : Layout) (s : State ℕ View) (h : Holds z s) (id : ℕ) (v : SeatV
   permitted : All (RolesPermit z.roles) t.history
   permitted = subst (All (RolesPermit z.roles)) (sym history_is) (All-append (RolesPermit z.roles) h.trace.history es h.permitted (permitted_added z.setup z.roles u v.number a l role (mover_in_range u.world v.number a f.here).0 its permits))
 
-  same_words : memory_words u.world.shared ≡ s.words
-  same_words = ap memory_words f.shared ∙ sym h.words
+  same_words : memory_words z.setup.bits u.world.shared ≡ s.words
+  same_words = ap (memory_words z.setup.bits) f.shared ∙ sym h.words
 
-  words_after : (x : WordStep) → word_step (action z.setup v.number a l) ≡ x → memory_words t.world.shared ≡ set s.words (word_index x) (becomes x (get_or s.words (word_index x) 0))
+  words_after : (x : WordStep) → word_step z.setup.bits (action z.setup v.number a l) ≡ x → memory_words z.setup.bits t.world.shared ≡ set s.words (word_index x) (becomes x (get_or s.words (word_index x) 0))
   words_after x is =
+      ap (λ (y : Setup). memory_words y.bits t.world.shared) (sym setup) ∙
       accesses_are_one_step u.world (traced_reached u led_there.1) (each_access_names_a_word u.world (traced_reached u led_there.1)) v.number a l f.here line ∙
-      (λ i. table_after (word_step (action (setup i) v.number a l)) (same_words i)) ∙
+      (λ i. table_after (word_step (setup i).bits (action (setup i) v.number a l)) ((ap (λ (y : Setup). memory_words y.bits u.world.shared) setup ∙ same_words) i)) ∙
       ap (λ y. table_after y s.words) is ∙
       table_after-set x s.words
 
-  goes : (x : WordStep) → word_step (action z.setup v.number a l) ≡ x → Goes z s h v v' (set s.words (word_index x) (becomes x (get_or s.words (word_index x) 0))) t
+  goes : (x : WordStep) → word_step z.setup.bits (action z.setup v.number a l) ≡ x → Goes z s h v v' (set s.words (word_index x) (becomes x (get_or s.words (word_index x) 0))) t
   goes x is = record {
     reached = reached;
     setup = setup;
@@ -238,13 +240,13 @@ module _ (z : Layout) (s : State ℕ View) (h : Holds z s) (id : ℕ) (v : SeatV
   }
 
   -- what was found is what the actor's access finds
-  found_is : (x : WordStep) → word_step (action z.setup v.number a l) ≡ x → get_or s.words (word_index x) 0 ≡ number_at z.setup u v.number a l
+  found_is : (x : WordStep) → word_step z.setup.bits (action z.setup v.number a l) ≡ x → get_or s.words (word_index x) 0 ≡ number_at z.setup u v.number a l
   found_is x is =
       (λ i. get_or (sym same_words i) (word_index (sym is i)) 0) ∙
-      ap (λ p. get_or (memory_words u.world.shared) p 0) (place-word_step (action z.setup v.number a l)) ∙
-      reading u.world.shared (word (action z.setup v.number a l)) (subst (λ y. IsWord u.world.shared (word (action y v.number a l))) setup (each_access_names_a_word u.world (traced_reached u led_there.1) v.number a l f.here line))
+      ap (λ p. get_or (memory_words z.setup.bits u.world.shared) p 0) (place-word_step z.setup.bits (action z.setup v.number a l)) ∙
+      reading z.setup.bits u.world.shared (word (action z.setup v.number a l)) (subst (λ y. IsWord u.world.shared (word (action y v.number a l))) setup (each_access_names_a_word u.world (traced_reached u led_there.1) v.number a l f.here line))
 
-  steps_told : (x : WordStep) → word_step (action z.setup v.number a l) ≡ x → Steps z prologue l (get_or s.words (word_index x) 0) v v'
+  steps_told : (x : WordStep) → word_step z.setup.bits (action z.setup v.number a l) ≡ x → Steps z prologue l (get_or s.words (word_index x) 0) v v'
   steps_told x is = record {
     sized = h.sized;
     was = u;
@@ -273,7 +275,7 @@ module _ (z : Layout) (s : State ℕ View) (h : Holds z s) (id : ℕ) (v : SeatV
   }
 
 -- every line and every form of access at once
-allows_seated : (z : Layout) (id : ℕ) (v : SeatView) (prologue : Prologue) (l : Line) (x : WordStep) (role : Role) → CanStart prologue v.actor → (after_prologue z.setup v.number prologue v.actor).line ≡ Some l → slice_get z.roles (v.number - 1) ≡ Some role → PermitsLine role l → word_step (action z.setup v.number (after_prologue z.setup v.number prologue v.actor) l) ≡ x
+allows_seated : (z : Layout) (id : ℕ) (v : SeatView) (prologue : Prologue) (l : Line) (x : WordStep) (role : Role) → CanStart prologue v.actor → (after_prologue z.setup v.number prologue v.actor).line ≡ Some l → slice_get z.roles (v.number - 1) ≡ Some role → PermitsLine role l → word_step z.setup.bits (action z.setup v.number (after_prologue z.setup v.number prologue v.actor) l) ≡ x
     → Allows {S = ℕ} (Holds z) 0 id (seated v, []) (word_index x) (becomes x) (λ n m. Tells z prologue (seated v, []) n m)
 allows_seated z id v prologue l x role can line its permits is s h empty mine small = (
   seated (v' z s h id v mine prologue l can line role its permits),
@@ -285,7 +287,7 @@ allows_seated z id v prologue l x role can line its permits is s h empty mine sm
 
 -- the same at the names of a call: its table says the number of slots, and its seat the view
 pub allows : (z key : Layout) (slots id : ℕ) (me : Me ℕ View) (prologue : Prologue) (l : Line) (x : WordStep) (role : Role) → key ≡ z → slots ≡ 0 → me ≡ (seated (knows me.0), [])
-    → CanStart prologue (knows me.0).actor → (after_prologue z.setup (knows me.0).number prologue (knows me.0).actor).line ≡ Some l → slice_get z.roles ((knows me.0).number - 1) ≡ Some role → PermitsLine role l → word_step (action z.setup (knows me.0).number (after_prologue z.setup (knows me.0).number prologue (knows me.0).actor) l) ≡ x
+    → CanStart prologue (knows me.0).actor → (after_prologue z.setup (knows me.0).number prologue (knows me.0).actor).line ≡ Some l → slice_get z.roles ((knows me.0).number - 1) ≡ Some role → PermitsLine role l → word_step z.setup.bits (action z.setup (knows me.0).number (after_prologue z.setup (knows me.0).number prologue (knows me.0).actor) l) ≡ x
     → Allows {S = ℕ} (Holds key) slots id me (word_index x) (becomes x) (λ n m. Tells key prologue me n m)
 allows z key slots id me prologue l x role same none is can line its permits acts =
     let P : Layout × ℕ × Me ℕ View → Type 0 = λ y. Allows {S = ℕ} (Holds y.0) y.1 id y.2 (word_index x) (becomes x) (λ n m. Tells y.0 prologue y.2 n m) in

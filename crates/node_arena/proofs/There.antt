@@ -2,7 +2,7 @@
 use Rattle.std.proofs.Common.{◌≡◌, ℕ, ◌+◌, ◌*◌, ◌<◌, length, Some, ap, subst, ◌∙◌, arith}
 use Rattle.line_table.specs.declared.lines.Line.{Line}
 use Rattle.line_steps.specs.declared.actors.Setup.{Setup}
-use Rattle.line_steps.specs.declared.actors.Actor.{Actor}
+use Rattle.line_steps.specs.Actors.{Actor}
 use Rattle.line_steps.specs.Memory.{Shared, Word, Fresh, Free, Head, Tail, Tail_lock, Head_lock, Next, Value_of, word}
 use Rattle.line_steps.specs.Lines.{action}
 use Rattle.step_machine.specs.Words.{index, IsWord}
@@ -44,7 +44,7 @@ stood z v prologue l f can line =
     record { trace = g.0; reached = g.1; setup = d.setup ∙ f.setup; here = d.here; line = line }
 
 -- the place of its access is one of the table's
-pub place_within : (z : Layout) (me : ℕ) (a : Actor) (l : Line) → Stood z me a l → word_index (word_step (action z.setup me a l)) < 6 + 2 * z.setup.size
+pub place_within : (z : Layout) (me : ℕ) (a : Actor) (l : Line) → Stood z me a l → word_index (word_step z.setup.bits (action z.setup me a l)) < 6 + 2 * z.setup.size
 place_within z me a l s =
     let w = s.trace.world in
     let r = traced_reached s.trace s.reached in
@@ -52,5 +52,5 @@ place_within z me a l s =
     let same : w.setup.size ≡ z.setup.size = ap (λ (x : Setup). x.size) s.setup in
     let named : IsWord w.shared (word (action z.setup me a l)) = subst (λ y. IsWord w.shared (word (action y me a l))) s.setup (each_access_names_a_word w r me a l s.here s.line) in
     let less : index (word (action z.setup me a l)) < 6 + 2 * length w.shared.nodes = within w.shared (word (action z.setup me a l)) named in
-    let at : word_index (word_step (action z.setup me a l)) ≡ index (word (action z.setup me a l)) = place-word_step (action z.setup me a l) in
+    let at : word_index (word_step z.setup.bits (action z.setup me a l)) ≡ index (word (action z.setup me a l)) = place-word_step z.setup.bits (action z.setup me a l) in
     omega arith

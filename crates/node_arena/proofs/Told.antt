@@ -11,8 +11,9 @@ use Rattle.history.specs.declared.refusals.Refusal.{Refusal}
 use Rattle.history.specs.declared.refusals.Refusal.TheVariants.{WornOut}
 use Rattle.history.specs.declared.refusals.WornWord.TheVariants.{Free as OfFree, Next as OfNext, Tail as OfTail, Head as OfHead}
 use Rattle.history.specs.declared.operations.Reply.TheVariants.{Refused}
-use Rattle.line_steps.specs.declared.actors.Actor.{Actor}
-use Rattle.line_steps.specs.declared.actors.Node.{Node}
+use Rattle.line_steps.specs.declared.actors.Setup.{Setup}
+use Rattle.line_steps.specs.Actors.{Actor}
+use Rattle.line_steps.specs.Actors.{Node}
 use Rattle.line_steps.specs.Memory.{blank, node_at, found}
 use Rattle.line_steps.specs.Lines.{action, outcome, raised}
 use Rattle.step_machine.specs.Machine.{World, actor_of, IsReached}
@@ -44,8 +45,8 @@ module _ (z : Layout) (prologue : Prologue) (l : Line) (n : ℕ) (v v' : SeatVie
   was_in_range = reached_in_range h.was.world (traced_reached h.was h.reached)
 
   -- its contents fit their words
-  pub was_fits : SharedFits h.was.world.shared
-  was_fits = shared_fits h.was.world was_in_range
+  pub was_fits : SharedFits z.setup.bits h.was.world.shared
+  was_fits = subst (λ (y : Setup). SharedFits y.bits h.was.world.shared) h.setup (shared_fits h.was.world was_in_range)
 
   -- the actor's registers are in range
   pub actor_was_in_range : ActorInRange h.was.world.setup h.was.world.shared.fresh (length h.was.world.actors) (after_prologue z.setup v.number prologue v.actor)

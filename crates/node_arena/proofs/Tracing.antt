@@ -3,7 +3,7 @@ use Rattle.std.proofs.Common.{◌≡◌, ◌≢◌, ℕ, ◌-◌, if◌then◌el
 use Rattle.std.proofs.Math.ListN.{length-set}
 use Rattle.std.proofs.lemmas.Option.{none-some}
 use Rattle.line_table.specs.declared.lines.Line.{Line}
-use Rattle.line_steps.specs.declared.actors.Actor.{Actor}
+use Rattle.line_steps.specs.Actors.{Actor}
 use Rattle.step_machine.specs.declared.actors.Move.TheVariants.{Begin, Step, Give}
 use Rattle.step_machine.specs.Machine.{World, actor_of, moved, steps, stepped, next, AnyMove, made, Rest, next_any, run_on, run, IsSized, IsReached}
 use Rattle.step_machine.proofs.Reached.{setup-next_any, mover_in_range}

@@ -4,7 +4,7 @@ use Rattle.line_table.specs.declared.lines.Line.{Line}
 use Rattle.line_table.specs.declared.lines.Line.TheVariants.{N4, N5}
 use Rattle.history.specs.declared.refusals.Refusal.TheVariants.{NoNode}
 use Rattle.node_arena.specs.Traces.{Event}
-use Rattle.node_arena.specs.declared.arena.Arena.{Arena}
+use Rattle.node_arena.specs.Arenas.{Arena}
 use Rattle.node_arena.specs.declared.seats.Seat.{Seat}
 use Rattle.node_arena.specs.Paths.{added, MetCause}
 

@@ -12,3 +12,4 @@ pub mod Turns
 pub mod Paths
 pub mod Moments
 pub mod Causes
+pub mod Arenas

@@ -1,7 +1,7 @@
 -- What the crates above cite of the machine and of the line table's words.
 pub use Rattle.line_steps.specs.declared.actors.Setup.{Setup}
 pub use Rattle.line_steps.specs.declared.actors.Held.{Held}
-pub use Rattle.line_steps.specs.declared.actors.Actor.{Actor}
+pub use Rattle.line_steps.specs.Actors.{Actor}
 pub use Rattle.line_steps.specs.Outcomes.{Outcome}
 pub use Rattle.line_steps.specs.Memory.{Free as WordFree, Head as WordHead, Tail as WordTail, Next as WordNext, Value_of as WordValue, Shared, Word, Content, node_at, found, word}
 pub use Rattle.line_steps.specs.Lines.{action, outcome, raised, raised_end, with_node, dequeues, shuts, goes, worn, closed, left, left_with_node, fills_hand, empties_hand, freed, sets_aside, unlocked, gives_up, ends, to_pocket, busy_or}

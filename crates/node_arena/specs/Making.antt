@@ -9,7 +9,7 @@ use Rattle.step_machine.specs.Calls.{IsUnsized}
 use Rattle.step_machine.specs.Machine.{IsSized}
 use Rattle.node_arena.specs.declared.roles.Role.{Role}
 use Rattle.node_arena.specs.declared.views.Knowing.{Knowing}
-use Rattle.node_arena.specs.declared.arena.Arena.{Arena}
+use Rattle.node_arena.specs.Arenas.{Arena}
 use Rattle.node_arena.specs.declared.seats.Seat.{Seat}
 use Rattle.node_arena.specs.Seeing.{keeper, new_seat}
 use Rattle.node_arena.specs.Plans.{Layout}
@@ -20,8 +20,8 @@ abbrev pub first_memory_words : (nodes : ℕ) → List ℕ
 first_memory_words nodes = 1 ∷ 0 ∷ 1 ∷ 1 ∷ 0 ∷ 0 ∷ replicate (2 * nodes) 0
 
 -- a plan by its parts
-abbrev pub plan : Kind → (nodes limit : ℕ) → List Role → Layout
-plan kind nodes limit roles = record { setup = record { kind = kind; size = nodes; limit = limit }; roles = roles }
+abbrev pub plan : (bits : ℕ) → Kind → (nodes limit : ℕ) → List Role → Layout
+plan bits kind nodes limit roles = record { setup = record { kind = kind; bits = bits; size = nodes; limit = limit }; roles = roles }
 
 -- the arena's own token, which deals this number next
 pub record IsKeeper (t : TableId) (k : Token ℕ Knowing) (n : ℕ) : Type 0 where

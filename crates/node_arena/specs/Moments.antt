@@ -25,7 +25,7 @@ pub record IsLinearizableMoment (z : Layout) (s : State ℕ View) : Type 0 where
   pub world : World
   pub led : run moves (opening z.setup actors) ≡ Some world
   pub count : length world.actors ≡ length z.roles
-  pub words : s.words ≡ memory_words world.shared
+  pub words : s.words ≡ memory_words z.setup.bits world.shared
   pub seats : (j i : ℕ) (u : View) (v : SeatView) → get_elem? s.views j ≡ some u → get_elem? (members u) i ≡ some v → actor_of world v.number ≡ Some v.actor
   pub own : (j i : ℕ) (u : View) (v : SeatView) → get_elem? s.views j ≡ some u → get_elem? (members u) i ≡ some v → own_entries v.number (entries world) ≡ v.mine
   pub begins : (j i : ℕ) (u : View) (v : SeatView) → get_elem? s.views j ≡ some u → get_elem? (members u) i ≡ some v → IsPrefix v.seen (entries world)
@@ -39,7 +39,7 @@ pub record WasWord (z : Layout) (word n : ℕ) : Type 0 where
   pub reached : IsTraced was
   pub setup : was.world.setup ≡ z.setup
   pub peopled : length was.world.actors ≡ length z.roles
-  pub held : n ≡ slice_index (memory_words was.world.shared) word
+  pub held : n ≡ slice_index (memory_words z.setup.bits was.world.shared) word
 
 -- whatever the rule holds of is such a moment
 abbrev pub EachMomentIsLinearizable : Type 0

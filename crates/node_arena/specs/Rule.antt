@@ -13,7 +13,7 @@ use Rattle.history.specs.declared.refusals.Refusal.TheVariants.{Closed}
 use Rattle.history.specs.Entries.{own_entries, LeadsTo, Leads, LeadsToShut}
 use Rattle.history.specs.Seats.{IsNoted}
 use Rattle.counted_ref.specs.Ref.{reserved_node}
-use Rattle.line_steps.specs.declared.actors.Actor.{Actor}
+use Rattle.line_steps.specs.Actors.{Actor}
 use Rattle.step_machine.specs.Words.{memory_words}
 use Rattle.step_machine.specs.Machine.{idle, actor_of}
 use Rattle.node_arena.specs.Traces.{Traced, IsTraced, step_at, actor_at, outcome_at, event_at, entries_at, number_at, sees}
@@ -28,7 +28,7 @@ use Rattle.node_arena.specs.Plans.{Layout, IsPlanned, RolesPermit}
 abbrev pub SawAt : Traced → (seen : List Entry) → Actor → Option Line → (due : Option Reply) → Type 0
 SawAt t seen a (Some D5) due =
     (a.next.node ≡ 0 → (a.head.count < t.world.shared.head.count) ⊎ LeadsTo seen []) ×
-    (a.next.node ≡ reserved_node → (a.head.count < t.world.shared.head.count) ⊎ Leads seen true [])
+    (a.next.node ≡ reserved_node t.world.setup.bits → (a.head.count < t.world.shared.head.count) ⊎ Leads seen true [])
 SawAt t seen a (Some B6) (Some Empty) = LeadsTo seen []
 SawAt t seen a (Some B6) (Some (Refused Closed)) = Leads seen true []
 SawAt t seen a (Some A7) (Some (Refused Closed)) = LeadsToShut seen
@@ -62,7 +62,7 @@ pub record Holds (z : Layout) (s : State ℕ View) : Type 0 where
   pub reached : IsTraced trace
   pub setup : trace.world.setup ≡ z.setup
   pub actors : length trace.world.actors ≡ length z.roles
-  pub words : s.words ≡ memory_words trace.world.shared
+  pub words : s.words ≡ memory_words z.setup.bits trace.world.shared
   pub permitted : All (RolesPermit z.roles) trace.history
   pub dealt : ℕ
   pub home : ℕ

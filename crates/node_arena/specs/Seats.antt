@@ -13,7 +13,7 @@ use Rattle.line_steps.specs.Lines.{action}
 use Rattle.step_machine.specs.Tables.{WordStep, word_step}
 use Rattle.atomic_table.specs.Seated.{TableId}
 use Rattle.node_arena.specs.declared.roles.Role.{Role}
-use Rattle.node_arena.specs.declared.arena.Arena.{Arena}
+use Rattle.node_arena.specs.Arenas.{Arena}
 use Rattle.node_arena.specs.declared.seats.Seat.{Seat}
 use Rattle.node_arena.specs.Prologues.{Prologue, after_prologue, at_rest, CanStart}
 use Rattle.node_arena.specs.Seeing.{SeatView, seated, knows, known_by}
@@ -68,7 +68,7 @@ keeping s pocket failed = record s { full = is_some pocket; held = unwrap_or poc
 
 -- the arena's table is laid out for its plan
 abbrev pub IsArena : Arena → Type 0
-IsArena r = IsTable r.plan r.table.shared.key r.table.shared.table_id
+IsArena r = IsTable r.plan r.key r.id
 
 -- a seat of a table: it is an actor by its number, has its role, counts its own pushes and pops, has whether a shut is its
 -- own, and fits to some traced world
@@ -85,7 +85,7 @@ pub record Sits (z : Layout) (t : TableId) (s : Seat) : Type 0 where
 -- a seat of an arena
 pub record IsSeat (r : Arena) (s : Seat) : Type 0 where
   pub arena : IsArena r
-  pub sits : Sits r.plan r.table.shared.table_id s
+  pub sits : Sits r.plan r.id s
 
 -- what each seat of any arena knows is sound
 abbrev pub EachSeatIsSound : Type 0
@@ -145,7 +145,7 @@ pub record MayStep (r : Arena) (s : Seat) (prologue : Prologue) (l : Line) (x : 
   pub seat : IsSeat r s
   pub leads : CanStart prologue (view s).actor
   pub line : (after_prologue r.plan.setup (view s).number prologue (view s).actor).line ≡ Some l
-  pub access : word_step (action r.plan.setup (view s).number (after_prologue r.plan.setup (view s).number prologue (view s).actor) l) ≡ x
+  pub access : word_step r.plan.setup.bits (action r.plan.setup (view s).number (after_prologue r.plan.setup (view s).number prologue (view s).actor) l) ≡ x
   pub permits : PermitsLine s.role l
 
 -- the seat made that step, and found this number

@@ -9,7 +9,7 @@ use Rattle.history.specs.Queue.{empty}
 use Rattle.history.specs.Entries.{is_pop, Plays, Leads, LeadsToShut}
 use Rattle.counted_ref.specs.Ref.{null, same_ref, reserved_node}
 use Rattle.line_steps.specs.declared.actors.Setup.{Setup}
-use Rattle.line_steps.specs.declared.actors.Actor.{Actor}
+use Rattle.line_steps.specs.Actors.{Actor}
 use Rattle.line_steps.specs.Outcomes.{Outcome}
 use Rattle.line_steps.specs.Memory.{word, Found, found}
 use Rattle.line_steps.specs.Lines.{action, outcome}
@@ -65,7 +65,7 @@ sees l = false
 module _ (s : Setup) (t : Traced) (me : ℕ) (a : Actor) (l : Line) where
   -- the number that the access of a line finds
   abbrev pub number_at : ℕ
-  number_at = encoded (word (action s me a l)) (found (action s me a l) t.world.shared)
+  number_at = encoded s.bits (word (action s me a l)) (found (action s me a l) t.world.shared)
 
   -- what the step at a line makes of its actor and its operation
   abbrev pub outcome_at : Outcome
@@ -145,7 +145,7 @@ pub record IsTraced (t : Traced) : Type 0 where
 -- closed end
 abbrev pub PlaysToItsValues : Traced → Type 0
 PlaysToItsValues t =
-    (queue : List ℕ) → IsQueueChain t.world.shared.nodes t.world.shared.head.node queue → Plays empty t.history (queue_in t.world.shared queue)
+    (queue : List ℕ) → IsQueueChain t.world.setup.bits t.world.shared.nodes t.world.shared.head.node queue → Plays empty t.history (queue_in t.world.setup.bits t.world.shared queue)
 
 -- Head's count is the number of pops in the history
 abbrev pub CountsItsPops : Traced → Type 0
@@ -162,8 +162,8 @@ LeftNothing t a shut entries = (a.head.count < t.world.shared.head.count) ⊎ Le
 pub record StaysFound (t : Traced) (a : Actor) (entries : ℕ) : Type 0 where
   pub some : entries ≤ length t.history
   pub empty : a.next.node ≡ 0 → LeftNothing t a false entries
-  pub closed : a.next.node ≡ reserved_node → LeftNothing t a true entries
-  pub shut : a.next.node ≡ reserved_node → LeadsToShut (take entries t.history)
+  pub closed : a.next.node ≡ reserved_node t.world.setup.bits → LeftNothing t a true entries
+  pub shut : a.next.node ≡ reserved_node t.world.setup.bits → LeadsToShut (take entries t.history)
 
 -- of an actor whose last line was D4 what that found stays so
 abbrev pub KeepsWhatD4Found : Traced → Type 0

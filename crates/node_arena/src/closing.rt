@@ -5,7 +5,7 @@ ghost use Rattle.history.specs.Closing.{pushes_of, pops_of, shuts_of, Closes};
 ghost use Rattle.node_arena.specs.Seats.{view, known_of, permits_of, IsReady};
 ghost use Rattle.node_arena.specs.Closing.{HasToken, HasGathered, CountsItsOwn};
 
-use crate::arena::Arena;
+use crate::arena::ArenaOf;
 use crate::remains::{Made, rest_of};
 use crate::seats::Seat;
 use crate::views::{Gather, Open, SeatToken, WordTable};
@@ -74,7 +74,7 @@ fn gather(table: &WordTable, gatherer: &mut SeatToken, seats: Vec<Seat>)
     }
 }
 
-impl Arena {
+impl<const B: u32> ArenaOf<B> {
     /// Ends the arena and the seats handed in, each of which is one of its own and in no call: which values are left in
     /// the queue, how many were taken from it, whether these seats made all its pushes and pops and, where it was shut, the
     /// shut, and whether it was.
@@ -83,10 +83,10 @@ impl Arena {
     /// there are nodes, and doesn't wait.
     pub fn close(self, alloc: Global, seats: Vec<Seat>) -> Result<Rest, Refusal>
         requires { All (IsReady self) seats.items }
-        ensures rest { IfOk result (λ rest. Closes (permits_of self) (map known_of seats.items) rest) }
+        ensures rest { IfOk result (λ rest. Closes (permits_of self.entry) (map known_of seats.items) rest) }
         ensures only_memory { IfErr result (λ why. why ≡ Refusal.Memory) }
     {
-        let Arena { table, plan } = self;
+        let ArenaOf { table, plan } = self;
         let Ok(room) = Vec::with_capacity(alloc, plan.setup.size as usize) else {
             return Err(Refusal::Memory);
         };
@@ -97,7 +97,7 @@ impl Arena {
         let mut gatherer = shared.load_new_seat::<Open>(0).1;
         gather(&table, &mut gatherer, seats);
         let closed = table.close_with(gatherer);
-        let rest = rest_of(&closed, Made { pushes, pops, shut }, room);
+        let rest = rest_of::<B>(&closed, Made { pushes, pops, shut }, room);
         closed.free();
         Ok(rest)
     }

@@ -1,16 +1,17 @@
 //! A new arena.
 ghost use Rattle.std.specs.Prelude.{◌*◌, ◌^◌, ◌≡◌, ◌<◌, IfOk, IfErr, OnOk};
+ghost use Rattle.counted_ref.specs.Ref.{IsSplit};
 ghost use Rattle.line_steps.specs.declared.actors.Setup.{Setup as Setups};
 ghost use Rattle.node_arena.specs.Plans.{IsPlanned};
 ghost use Rattle.node_arena.specs.Making.{first_memory_words, IsMade, NewRefused};
 
-use crate::arena::Arena;
+use crate::arena::ArenaOf;
 use crate::dealing::deal_all;
 use crate::plans::Plan;
 use crate::roles::Role;
 use crate::seats::Seat;
 use atomic_table::Table;
-use counted_ref::{MOST_COUNT, MOST_NODE};
+use counted_ref::{most_count, most_node};
 use history::{MOST_ACTOR, Refusal};
 use line_table::Kind;
 use std::alloc::{AllocError, Global};
@@ -18,7 +19,7 @@ use step_machine::Setup;
 
 // The words at the start: one node was used, and Head and Tail name it.
 fn words_at_start(alloc: Global, nodes: u32) -> Result<Vec<u64>, AllocError>
-    requires { nodes < 2 ^ 24 }
+    requires { nodes < 2 ^ 32 }
     ensures { IfOk result (λ v. v.items ≡ first_memory_words nodes) }
 {
     let mut words = vec![in alloc; 0u64; 6 + 2 * nodes as usize]?;
@@ -28,20 +29,21 @@ fn words_at_start(alloc: Global, nodes: u32) -> Result<Vec<u64>, AllocError>
     Ok(words)
 }
 
-fn built(alloc: Global, plan: Plan) -> Result<(Arena, Vec<Seat>), AllocError>
-    requires { IsPlanned plan }
+fn built<const B: u32>(alloc: Global, plan: Plan) -> Result<(ArenaOf<B>, Vec<Seat>), AllocError>
+    requires planned { IsPlanned plan }
+    requires bits { plan.setup.bits ≡ B }
     ensures { IfOk result (λ r. IsMade plan r.0 r.1.items) }
 {
     let words = words_at_start(alloc, plan.setup.size)?;
     let (table, mut keeper) = Table::of_words(alloc, words.as_slice(), &plan)?;
     let seats = deal_all(alloc, &table, &mut keeper, &plan)?;
-    Ok((Arena { table, plan }, seats))
+    Ok((ArenaOf { table, plan }, seats))
 }
 
-impl Arena {
+impl<const B: u32> ArenaOf<B> {
     ghost use Rattle.node_arena.specs.Making as making;
 
-    /// An arena with so many nodes, 2 to 16,777,214, the greatest count `limit`, 1 to 1,099,511,627,775, and a seat for
+    /// An arena with so many nodes, 2 to `most_node(B)`, the greatest count `limit`, 1 to `most_count(B)`, and a seat for
     /// each role, 1 to 65,535 of them, in their order.
     ///
     /// Refusals: `BadSize` where one of them is out of its range, else `Memory`. Takes memory for two words a node, the
@@ -52,15 +54,16 @@ impl Arena {
         nodes: u32,
         limit: u64,
         roles: &[Role],
-    ) -> Result<(Arena, Vec<Seat>), Refusal>
-        ensures ok { IfOk result (λ r. IsMade (making.plan kind nodes limit roles.now) r.0 r.1.items) }
-        ensures sized { OnOk result (IsPlanned (making.plan kind nodes limit roles.now)) }
-        ensures refused { IfErr result (NewRefused (making.plan kind nodes limit roles.now)) }
+    ) -> Result<(ArenaOf<B>, Vec<Seat>), Refusal>
+        requires split { IsSplit B }
+        ensures ok { IfOk result (λ r. IsMade (making.plan B kind nodes limit roles.now) r.0 r.1.items) }
+        ensures sized { OnOk result (IsPlanned (making.plan B kind nodes limit roles.now)) }
+        ensures refused { IfErr result (NewRefused (making.plan B kind nodes limit roles.now)) }
     {
-        if nodes < 2 || nodes > MOST_NODE {
+        if nodes < 2 || nodes > most_node(B) {
             return Err(Refusal::BadSize);
         }
-        if limit < 1 || limit > MOST_COUNT {
+        if limit < 1 || limit > most_count(B) {
             return Err(Refusal::BadSize);
         }
         if roles.is_empty() || roles.len() as u64 > MOST_ACTOR {
@@ -71,6 +74,7 @@ impl Arena {
         };
         let setup = Setup {
             kind,
+            bits: B,
             size: nodes,
             limit,
         };

@@ -1,13 +1,13 @@
 //! Seats that meet.
 ghost use Rattle.node_arena.specs.Seats.{IsReady, Meets};
 
-use crate::arena::Arena;
+use crate::arena::ArenaOf;
 use crate::seats::Seat;
 use crate::views::{Gather, Part, Spare};
 use std::marker::Brand;
 use std::mem;
 
-impl Arena {
+impl<const B: u32> ArenaOf<B> {
     /// Afterwards both seats have seen one history, which begins with what each had seen. Takes no memory and doesn't
     /// wait.
     pub fn meet(&self, one: &mut Seat, other: &mut Seat)

@@ -3,17 +3,17 @@ ghost use Rattle.std.specs.Prelude.{◌+◌, ◌*◌, ◌≤◌, ◌↔◌, IsNo
 ghost use Rattle.node_arena.specs.Seats.{plan_of, setup_of};
 ghost use Rattle.node_arena.specs.Moments.{WasWord};
 
-use crate::arena::Arena;
+use crate::arena::ArenaOf;
 use std::marker::Brand;
 
-impl Arena {
+impl<const B: u32> ArenaOf<B> {
     /// What a word holds, by one load of one moment, for inspection; none exactly where there is no such word. It tells
     /// nothing of what a seat has seen. Takes no memory and doesn't wait.
     pub fn peek(&self, word: usize) -> Option<u64>
         ensures none { IsNone result ↔ (6 + 2 * (setup_of self.now).size ≤ word) }
         ensures held { IfSome result (WasWord (plan_of self.now) word) }
     {
-        if word < 6 + 2 * self.plan.setup.size as usize {
+        if word < 6 + 2 * self.setup().size as usize {
             let shared = &self.table.shared;
             Some(shared.load_new_seat::<Brand>(word).0)
         } else {

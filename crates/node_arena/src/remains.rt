@@ -2,14 +2,14 @@
 ghost use Rattle.std.specs.Prelude.{◌≡◌, ◌↔◌, ◌+◌, ◌*◌, ◌<◌, IsTrue, [], length};
 ghost use Rattle.std.specs.Prelude.{slice_index, vec_capacity};
 ghost use Rattle.std.specs.Slots.{slots_items, IsFull};
+ghost use Rattle.counted_ref.specs.Ref.{IsSplit};
 ghost use Rattle.history.specs.Rests.{left_of, taken_of, whole_of, was_shut_of};
 ghost use Rattle.line_steps.specs.Words as words;
 ghost use Rattle.node_arena.specs.Remains.{ref_at, HasNode, HaveValues, HasValues};
 ghost use Rattle.node_arena.specs.Remains.{AreLeft, IsQueue};
 
-use crate::words::reference;
 use atomic_table::Closed;
-use counted_ref::{CountedRef, SHUT_NODE};
+use counted_ref::{CountedRefOf, shut_node};
 use history::{Rest, Taken};
 use line_steps::value_of;
 use std::alloc::Global;
@@ -40,21 +40,23 @@ fn word_at(closed: &ClosedTable, place: usize) -> u64
     closed.word(place)
 }
 
-fn reference_at(closed: &ClosedTable, place: usize) -> CountedRef
+fn reference_at<const B: u32>(closed: &ClosedTable, place: usize) -> CountedRefOf<B>
+    requires split { IsSplit B }
     requires full { IsFull closed.now.words }
     requires there { place < length (slots_items closed.now.words) }
-    ensures { result ≡ ref_at (slots_items closed.now.words) place }
+    ensures { result ≡ ref_at B (slots_items closed.now.words) place }
 {
-    reference(word_at(closed, place))
+    CountedRefOf::of_word(word_at(closed, place))
 }
 
 // The node that a node names as the next one.
-fn next_of(closed: &ClosedTable, node: u32) -> u32
+fn next_of<const B: u32>(closed: &ClosedTable, node: u32) -> u32
+    requires split { IsSplit B }
     requires full { IsFull closed.now.words }
     requires there { HasNode (slots_items closed.now.words) node }
-    ensures { result ≡ (ref_at (slots_items closed.now.words) (4 + 2 * node)).node }
+    ensures { result ≡ (ref_at B (slots_items closed.now.words) (4 + 2 * node)).node }
 {
-    reference_at(closed, 4 + 2 * node as usize).node()
+    reference_at::<B>(closed, 4 + 2 * node as usize).node()
 }
 
 fn value_at(closed: &ClosedTable, node: u32) -> Taken
@@ -66,37 +68,40 @@ fn value_at(closed: &ClosedTable, node: u32) -> Taken
 }
 
 // The values from a node on, put into an empty list that has room for them.
-fn values_from(closed: &ClosedTable, first: u32, mut values: Vec<Taken>) -> Chain
+fn values_from<const B: u32>(closed: &ClosedTable, first: u32, mut values: Vec<Taken>) -> Chain
+    requires split { IsSplit B }
     requires full { IsFull closed.now.words }
-    requires some { HasValues (slots_items closed.now.words) first (vec_capacity values) }
+    requires some { HasValues B (slots_items closed.now.words) first (vec_capacity values) }
     requires empty { values.items ≡ [] }
-    ensures { HaveValues (slots_items closed.now.words) result.shut first result.values.items }
+    ensures { HaveValues B (slots_items closed.now.words) result.shut first result.values.items }
 {
+    let end = shut_node(B);
     let mut node = first;
-    while node != 0 && node != SHUT_NODE {
+    while node != 0 && node != end {
         values.push(value_at(closed, node)).unwrap();
-        node = next_of(closed, node);
+        node = next_of::<B>(closed, node);
     }
     Chain {
         values,
-        shut: node == SHUT_NODE,
+        shut: node == end,
     }
 }
 
 /// What is left in a queue, how many values were taken from it, whether these are all pushes and pops and, where it was shut,
 /// the shut, and whether it was. The list is an empty one with room for the values left.
-pub(crate) fn rest_of(closed: &ClosedTable, made: Made, room: Vec<Taken>) -> Rest
+pub(crate) fn rest_of<const B: u32>(closed: &ClosedTable, made: Made, room: Vec<Taken>) -> Rest
+    requires split { IsSplit B }
     requires full { IsFull closed.now.words }
-    requires queue { IsQueue (slots_items closed.now.words) (vec_capacity room) }
+    requires queue { IsQueue B (slots_items closed.now.words) (vec_capacity room) }
     requires empty { room.items ≡ [] }
-    ensures left { AreLeft (slots_items closed.now.words) (was_shut_of result) (left_of result) }
-    ensures taken { taken_of result ≡ (ref_at (slots_items closed.now.words) 2).count }
+    ensures left { AreLeft B (slots_items closed.now.words) (was_shut_of result) (left_of result) }
+    ensures taken { taken_of result ≡ (ref_at B (slots_items closed.now.words) 2).count }
     ensures whole { IsTrue (whole_of result) ↔
         ((made.pops ≡ taken_of result) × (made.pushes ≡ taken_of result + length (left_of result)) ×
         (IsTrue (was_shut_of result) → IsTrue made.shut)) }
 {
-    let head = reference_at(closed, 2);
-    let Chain { values, shut } = values_from(closed, next_of(closed, head.node()), room);
+    let head = reference_at::<B>(closed, 2);
+    let Chain { values, shut } = values_from::<B>(closed, next_of::<B>(closed, head.node()), room);
     let taken = head.count();
     let pushes = u128::from(taken) + values.len() as u128;
     let shut_is_theirs = made.shut || !shut;

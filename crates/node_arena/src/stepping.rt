@@ -4,12 +4,12 @@ ghost use Rattle.step_machine.specs.Tables.{load_at, store_at, and_at, exchange_
 ghost use Rattle.node_arena.specs.Prologues.{Prologue};
 ghost use Rattle.node_arena.specs.Seats.{MayStep, DidStep, DidSome};
 
-use crate::arena::Arena;
+use crate::arena::ArenaOf;
 use crate::seats::Seat;
 use line_table::Line;
 use std::marker::Brand;
 
-impl Arena {
+impl<const B: u32> ArenaOf<B> {
     /// One load of a word: the seat's next move, at this line. Answers what was found.
     ///
     /// That the step is the seat's next move by the rule is the caller's condition. Takes no memory and doesn't wait.

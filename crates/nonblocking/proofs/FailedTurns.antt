@@ -3,7 +3,7 @@ use Rattle.std.proofs.Common.{◌≡◌, ℕ, Option, List, [], ◌∷◌, ◌++
 use Rattle.line_table.specs.declared.lines.Line.{Line}
 use Rattle.node_arena.specs.Traces.{Event}
 use Rattle.node_arena.specs.Prologues.{continues}
-use Rattle.node_arena.specs.declared.arena.Arena.{Arena}
+use Rattle.node_arena.specs.Arenas.{Arena}
 use Rattle.node_arena.specs.declared.seats.Seat.{Seat}
 use Rattle.node_arena.specs.Seats.{DidStep, view}
 use Rattle.node_arena.specs.Turns.{failed_at, failed_turns}

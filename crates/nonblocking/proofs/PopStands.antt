@@ -11,7 +11,7 @@ use Rattle.history.specs.declared.refusals.WornWord.TheVariants.{Head as OfHead,
 use Rattle.node_arena.specs.Machine.{Actor, Outcome as MachineOutcome, goes, ends, worn, closed, fills_hand}
 use Rattle.node_arena.specs.Traces.{outcome_at, entries_at}
 use Rattle.node_arena.specs.Prologues.{Prologue, continues, after_prologue}
-use Rattle.node_arena.specs.declared.arena.Arena.{Arena}
+use Rattle.node_arena.specs.Arenas.{Arena}
 use Rattle.node_arena.specs.declared.seats.Seat.{Seat}
 use Rattle.node_arena.specs.Seats.{IsBefore, DidStep, view}
 use Rattle.node_arena.proofs.Known.{empty_before}
@@ -22,8 +22,7 @@ use Rattle.node_arena.specs.Machine.{value_of}
 use Rattle.arena_lines.specs.declared.outcomes.Outcome.{Outcome}
 use Rattle.arena_lines.specs.declared.outcomes.Outcome.TheVariants.{Goes, Ends}
 use Rattle.arena_lines.specs.declared.outcomes.Reply.TheVariants.{Empty as IsEmpty, Refused as IsRefused}
-use Rattle.nonblocking.specs.declared.pop_outcomes.Actor.{Actor as Running}
-use Rattle.nonblocking.specs.Pops.{AgreesAt, CallIsAt}
+use Rattle.nonblocking.specs.Pops.{Running, AgreesAt, CallIsAt}
 use Rattle.nonblocking.proofs.PopSteps.{ref_d2, ref_d3, ref_d4, ref_d5, value_d12, ref_d13}
 
 -- a pop that is about to read Head knows nothing of its registers
@@ -46,14 +45,14 @@ module _ (r : Arena) (s t : Seat) (prologue : Prologue) (n : ℕ) (a : Running) 
   over : (l : Line) → CallIsAt r s prologue l a → (after_prologue r.plan.setup (view s).number prologue (view s).actor).pocket ≡ None → (d : DidStep r s t prologue l n) (o : MachineOutcome) → out_at l d ≡ o → o.actor.line ≡ None → o.actor.pocket ≡ b.pocket → ((view t).actor.line ≡ None) × ((view t).actor.pocket ≡ None)
   over l h none d o e line pocket = settled r s t prologue l n d o e (λ x. (x.line ≡ None) × (x.pocket ≡ None)) (λ x. (line, pocket ∙ none))
 
-  pub after_d2 : CallIsAt r s prologue D2 a → DidStep r s t prologue D2 n → CallIsAt r t continues D3 (record a { head = ref_of n })
-  after_d2 h d = leads D2 d (out_at D2 d) refl D3 (record a { head = ref_of n }) refl (λ x. sym (ref_d2 r s t prologue n d))
+  pub after_d2 : CallIsAt r s prologue D2 a → DidStep r s t prologue D2 n → CallIsAt r t continues D3 (record a { head = ref_of r.plan.setup.bits n })
+  after_d2 h d = leads D2 d (out_at D2 d) refl D3 (record a { head = ref_of r.plan.setup.bits n }) refl (λ x. sym (ref_d2 r s t prologue n d))
 
-  pub after_d3 : CallIsAt r s prologue D3 a → DidStep r s t prologue D3 n → CallIsAt r t continues D4 (record a { tail = ref_of n })
-  after_d3 h d = leads D3 d (out_at D3 d) refl D4 (record a { tail = ref_of n }) refl (λ x. (h.knows, sym (ref_d3 r s t prologue n d)))
+  pub after_d3 : CallIsAt r s prologue D3 a → DidStep r s t prologue D3 n → CallIsAt r t continues D4 (record a { tail = ref_of r.plan.setup.bits n })
+  after_d3 h d = leads D3 d (out_at D3 d) refl D4 (record a { tail = ref_of r.plan.setup.bits n }) refl (λ x. (h.knows, sym (ref_d3 r s t prologue n d)))
 
-  pub after_d4 : CallIsAt r s prologue D4 a → DidStep r s t prologue D4 n → CallIsAt r t continues D5 (record a { next = ref_of n })
-  after_d4 h d = leads D4 d (out_at D4 d) refl D5 (record a { next = ref_of n }) refl (λ x. (h.knows.0, h.knows.1, sym (ref_d4 r s t prologue n d)))
+  pub after_d4 : CallIsAt r s prologue D4 a → DidStep r s t prologue D4 n → CallIsAt r t continues D5 (record a { next = ref_of r.plan.setup.bits n })
+  after_d4 h d = leads D4 d (out_at D4 d) refl D5 (record a { next = ref_of r.plan.setup.bits n }) refl (λ x. (h.knows.0, h.knows.1, sym (ref_d4 r s t prologue n d)))
 
   -- after D5: the turn goes on, in silence
   pub record On (d : DidStep r s t prologue D5 n) (l : Line) (c : Running) : Type 0 where
@@ -103,18 +102,18 @@ module _ (r : Arena) (s t : Seat) (prologue : Prologue) (n : ℕ) (a : Running) 
       else Goes D2 a
 
   module _ (h : CallIsAt r s prologue D5 a) (d : DidStep r s t prologue D5 n) where
-    fifth_is : (p q u c w : Bool) → same_ref (ref_of n) a.head ≡ p → nat_eq a.head.node a.tail.node ≡ q → is_null a.next ≡ u → is_shut a.next ≡ c → nat_eq a.tail.count r.plan.setup.limit ≡ w → out_at D5 d ≡ fifth_outcome (d.told.was.world.steps + 1) p q u c w
+    fifth_is : (p q u c w : Bool) → same_ref (ref_of r.plan.setup.bits n) a.head ≡ p → nat_eq a.head.node a.tail.node ≡ q → is_null a.next ≡ u → is_shut r.plan.setup.bits a.next ≡ c → nat_eq a.tail.count r.plan.setup.limit ≡ w → out_at D5 d ≡ fifth_outcome (d.told.was.world.steps + 1) p q u c w
     fifth_is p q u c w e f g m k =
-        (λ i. fifth_outcome (d.told.was.world.steps + 1) (same_ref (sym (ref_d5 r s t prologue n d) i) (h.knows.0 i)) (nat_eq (h.knows.0 i).node (h.knows.1 i).node) (is_null (h.knows.2 i)) (is_shut (h.knows.2 i)) (nat_eq (h.knows.1 i).count r.plan.setup.limit)) ∙
+        (λ i. fifth_outcome (d.told.was.world.steps + 1) (same_ref (sym (ref_d5 r s t prologue n d) i) (h.knows.0 i)) (nat_eq (h.knows.0 i).node (h.knows.1 i).node) (is_null (h.knows.2 i)) (is_shut r.plan.setup.bits (h.knows.2 i)) (nat_eq (h.knows.1 i).count r.plan.setup.limit)) ∙
         (λ i. fifth_outcome (d.told.was.world.steps + 1) (e i) (f i) (g i) (m i) (k i))
 
-    pub after_d5 : Fifth d (fifth (same_ref (ref_of n) a.head) (nat_eq a.head.node a.tail.node) (is_null a.next) (is_shut a.next) (nat_eq a.tail.count r.plan.setup.limit))
-    after_d5 = go (same_ref (ref_of n) a.head) (nat_eq a.head.node a.tail.node) (is_null a.next) (is_shut a.next) (nat_eq a.tail.count r.plan.setup.limit) refl refl refl refl refl
+    pub after_d5 : Fifth d (fifth (same_ref (ref_of r.plan.setup.bits n) a.head) (nat_eq a.head.node a.tail.node) (is_null a.next) (is_shut r.plan.setup.bits a.next) (nat_eq a.tail.count r.plan.setup.limit))
+    after_d5 = go (same_ref (ref_of r.plan.setup.bits n) a.head) (nat_eq a.head.node a.tail.node) (is_null a.next) (is_shut r.plan.setup.bits a.next) (nat_eq a.tail.count r.plan.setup.limit) refl refl refl refl refl
       where
         now : ℕ
         now = d.told.was.world.steps + 1
 
-        go : (p q u c w : Bool) → same_ref (ref_of n) a.head ≡ p → nat_eq a.head.node a.tail.node ≡ q → is_null a.next ≡ u → is_shut a.next ≡ c → nat_eq a.tail.count r.plan.setup.limit ≡ w → Fifth d (fifth p q u c w)
+        go : (p q u c w : Bool) → same_ref (ref_of r.plan.setup.bits n) a.head ≡ p → nat_eq a.head.node a.tail.node ≡ q → is_null a.next ≡ u → is_shut r.plan.setup.bits a.next ≡ c → nat_eq a.tail.count r.plan.setup.limit ≡ w → Fifth d (fifth p q u c w)
         go false q u c w e f g m k =
             let is = fifth_is false q u c w e f g m k in
             record { stands = leads D5 d (fifth_outcome now false q u c w) is D2 a refl (λ x. tt); same = refl; quiet = ap (λ x. x.reply) is }
@@ -174,10 +173,10 @@ module _ (r : Arena) (s t : Seat) (prologue : Prologue) (n : ℕ) (a : Running) 
     abbrev thirteenth : Bool → MachineOutcome
     thirteenth p = if p then record (goes F1 (fills_hand b.head.node b.next.count (record b { due = Some (reply.Value b.val) }))) { at = Some (d.told.was.world.steps + 1) } else goes D2 b
 
-    same : (p : Bool) → same_ref (ref_of n) a.head ≡ p → same_ref d.told.was.world.shared.head b.head ≡ p
+    same : (p : Bool) → same_ref (ref_of r.plan.setup.bits n) a.head ≡ p → same_ref d.told.was.world.shared.head b.head ≡ p
     same p e = (λ i. same_ref (sym (ref_d13 r s t prologue n d) i) (h.knows.0 i)) ∙ e
 
-    pub won_d13 : same_ref (ref_of n) a.head ≡ true → Won d
+    pub won_d13 : same_ref (ref_of r.plan.setup.bits n) a.head ≡ true → Won d
     won_d13 e =
         record {
           has = settled r s t prologue D13 n d (thirteenth true) (ap thirteenth (same true e)) HasTaken
@@ -185,7 +184,7 @@ module _ (r : Arena) (s t : Seat) (prologue : Prologue) (n : ℕ) (a : Running) 
           adds = ap (λ p. if p then Pop (view s).number b.val ∷ [] else []) (same true e);
         }
 
-    pub lost_d13 : same_ref (ref_of n) a.head ≡ false → Lost d
+    pub lost_d13 : same_ref (ref_of r.plan.setup.bits n) a.head ≡ false → Lost d
     lost_d13 e =
         record {
           before = goes_on r s t prologue D13 n d (thirteenth false) (ap thirteenth (same false e)) D2 refl;

@@ -13,7 +13,7 @@ use Rattle.history.proofs.Learning.{answers_then}
 use Rattle.node_arena.specs.Traces.{Event, outcome_at}
 use Rattle.node_arena.specs.Prologues.{Prologue, continues}
 use Rattle.node_arena.specs.Rule.{notes_of, SaysOfSeen}
-use Rattle.node_arena.specs.declared.arena.Arena.{Arena}
+use Rattle.node_arena.specs.Arenas.{Arena}
 use Rattle.node_arena.specs.declared.seats.Seat.{Seat}
 use Rattle.node_arena.specs.Seats.{IsBefore, KeepsStored, DidStep, view, known_of}
 use Rattle.node_arena.specs.Turns.{failed_at, failed_turns}
@@ -25,23 +25,22 @@ use Rattle.node_arena.specs.Machine.{value_of}
 use Rattle.arena_lines.specs.declared.outcomes.Outcome.{Outcome}
 use Rattle.arena_lines.specs.declared.outcomes.Outcome.TheVariants.{Goes, Ends}
 use Rattle.arena_lines.specs.declared.outcomes.Reply.TheVariants.{Done as IsDone, Value as IsValue, Empty as IsEmpty, Refused as IsRefused}
-use Rattle.nonblocking.specs.declared.pop_outcomes.Actor.{Actor as Running}
 use Rattle.nonblocking.specs.declared.pop_outcomes.Turn.{Turn}
 use Rattle.nonblocking.specs.declared.pop_outcomes.Turn.TheVariants as turn
-use Rattle.nonblocking.specs.Pops.{Stops, turn_of, CallIsAt, Follows, Fell, Looked, Looks, Turned, Turns}
+use Rattle.nonblocking.specs.Pops.{Running, Stops, turn_of, CallIsAt, Follows, Fell, Looked, Looks, Turned, Turns}
 use Rattle.arena_lines.proofs.Registers.{same_registers}
 use Rattle.nonblocking.proofs.FailedTurns.{turns_then, fails_last}
 use Rattle.nonblocking.proofs.PopStands.{stands_d2, after_d2, after_d3, after_d4, Fifth, after_d5, after_d10, never_d12, after_d12, Won, won_d13, Lost, lost_d13}
 
 -- after D2, D3 and D4
 pub to_d3 : (r : Arena) (s t : Seat) (prologue : Prologue) (l : Line) (a b : Running) → IsBefore r s prologue D2 → Follows r s t prologue D2 a (Goes l b) → CallIsAt r t continues D3 b
-to_d3 r s t prologue l a b h f = subst (CallIsAt r t continues D3) (sym (same_registers l D3 b (record a { head = ref_of f.found }) f.leads_to)) (after_d2 r s t prologue f.found a (stands_d2 r s prologue a h) f.did)
+to_d3 r s t prologue l a b h f = subst (CallIsAt r t continues D3) (sym (same_registers l D3 b (record a { head = ref_of r.plan.setup.bits f.found }) f.leads_to)) (after_d2 r s t prologue f.found a (stands_d2 r s prologue a h) f.did)
 
 pub to_d4 : (r : Arena) (s t : Seat) (l : Line) (a b : Running) → CallIsAt r s continues D3 a → Follows r s t continues D3 a (Goes l b) → CallIsAt r t continues D4 b
-to_d4 r s t l a b h f = subst (CallIsAt r t continues D4) (sym (same_registers l D4 b (record a { tail = ref_of f.found }) f.leads_to)) (after_d3 r s t continues f.found a h f.did)
+to_d4 r s t l a b h f = subst (CallIsAt r t continues D4) (sym (same_registers l D4 b (record a { tail = ref_of r.plan.setup.bits f.found }) f.leads_to)) (after_d3 r s t continues f.found a h f.did)
 
 pub to_d5 : (r : Arena) (s t : Seat) (l : Line) (a b : Running) → CallIsAt r s continues D4 a → Follows r s t continues D4 a (Goes l b) → CallIsAt r t continues D5 b
-to_d5 r s t l a b h f = subst (CallIsAt r t continues D5) (sym (same_registers l D5 b (record a { next = ref_of f.found }) f.leads_to)) (after_d4 r s t continues f.found a h f.did)
+to_d5 r s t l a b h f = subst (CallIsAt r t continues D5) (sym (same_registers l D5 b (record a { next = ref_of r.plan.setup.bits f.found }) f.leads_to)) (after_d4 r s t continues f.found a h f.did)
 
 -- a line whose step goes back to D2 fails its turn
 module _ (r : Arena) (s t x : Seat) (l : Line) (n : ℕ) (d : DidStep r t x continues l n) (before : List Event) (w : ExtendsPath (view s) (view t) before) (never : failed_turns before ≡ 0) (one : failed_at l (Some D2) ≡ 1) where
@@ -192,7 +191,7 @@ module _ (r : Arena) (s t : Seat) (a b : Running) (l : Line) (h : CallIsAt r s c
 
   pub moves_head : (x : Seat) (out : Outcome Running) → Follows r t x continues D13 b out → Turns r s x (turn_of out)
   moves_head x out g =
-      let all = go (same_ref (ref_of g.found) b.head) refl in
+      let all = go (same_ref (ref_of r.plan.setup.bits g.found) b.head) refl in
       record {
         seat = g.did.seat;
         empty = all.0;
@@ -204,7 +203,7 @@ module _ (r : Arena) (s t : Seat) (a b : Running) (l : Line) (h : CallIsAt r s c
       last : Event
       last = event r t x continues D13 g.found g.did
 
-      go : (p : Bool) → same_ref (ref_of g.found) b.head ≡ p → ((view x).actor.pocket ≡ None) × Turned r s x (twelve ∷ event r t x continues D13 g.found g.did ∷ []) (turn_of (if p then Goes F1 (record b { node = b.head.node; mark = b.next.count; due = Some (IsValue b.val) }) else Goes D2 b))
+      go : (p : Bool) → same_ref (ref_of r.plan.setup.bits g.found) b.head ≡ p → ((view x).actor.pocket ≡ None) × Turned r s x (twelve ∷ event r t x continues D13 g.found g.did ∷ []) (turn_of (if p then Goes F1 (record b { node = b.head.node; mark = b.next.count; due = Some (IsValue b.val) }) else Goes D2 b))
       go true e =
           let w : Won r t x continues g.found b g.did = won_d13 r t x continues g.found b to_d13 g.did e in (
             w.has.empty,

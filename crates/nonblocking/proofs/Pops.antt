@@ -8,7 +8,7 @@ use Rattle.history.specs.declared.refusals.Refusal.TheVariants.{Busy, Closed}
 use Rattle.history.specs.declared.refusals.WornWord.TheVariants.{Tail as OfTail}
 use Rattle.node_arena.specs.Machine.{Held, Actor, dequeues, from_pocket}
 use Rattle.node_arena.specs.Prologues.{continues, at_rest, out_of}
-use Rattle.node_arena.specs.declared.arena.Arena.{Arena}
+use Rattle.node_arena.specs.Arenas.{Arena}
 use Rattle.node_arena.specs.declared.seats.Seat.{Seat}
 use Rattle.node_arena.specs.Seats.{IsReady, view, keeping, pocket_of}
 use Rattle.node_arena.specs.Turns.{failed_turns}

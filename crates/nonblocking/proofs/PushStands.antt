@@ -13,7 +13,7 @@ use Rattle.node_arena.specs.Machine.{Held, Actor, Outcome as MachineOutcome, nod
 use Rattle.history.specs.declared.operations.Reply.TheVariants as reply
 use Rattle.node_arena.specs.Traces.{outcome_at, entries_at}
 use Rattle.node_arena.specs.Prologues.{Prologue, continues, after_prologue}
-use Rattle.node_arena.specs.declared.arena.Arena.{Arena}
+use Rattle.node_arena.specs.Arenas.{Arena}
 use Rattle.node_arena.specs.declared.seats.Seat.{Seat}
 use Rattle.node_arena.specs.Seats.{DidStep, view}
 use Rattle.node_arena.proofs.Noting.{IsSilent}
@@ -22,8 +22,7 @@ use Rattle.node_arena.proofs.Paths.{settled, goes_on}
 use Rattle.arena_lines.specs.declared.outcomes.Outcome.{Outcome}
 use Rattle.arena_lines.specs.declared.outcomes.Outcome.TheVariants.{Goes, Ends}
 use Rattle.arena_lines.specs.declared.outcomes.Reply.TheVariants.{Done as IsDone, Refused as IsRefused}
-use Rattle.nonblocking.specs.declared.push_outcomes.Actor.{Actor as Running}
-use Rattle.nonblocking.specs.Pushes.{in_hand, follow, HasNode, AgreesAt, CallIsAt}
+use Rattle.nonblocking.specs.Pushes.{Running, in_hand, follow, HasNode, AgreesAt, CallIsAt}
 use Rattle.nonblocking.proofs.PushSteps.{ref_e3, ref_e5, ref_e6, ref_e7, ref_e9}
 
 module _ (r : Arena) (s t : Seat) (prologue : Prologue) (l : Line) (n : ℕ) (a : Running) (h : CallIsAt r s prologue l a) (d : DidStep r s t prologue l n) where
@@ -61,11 +60,11 @@ module _ (r : Arena) (s t : Seat) (prologue : Prologue) (n : ℕ) (a : Running) 
   pub after_e2 : CallIsAt r s prologue E2 a → DidStep r s t prologue E2 n → CallIsAt r t continues E3 a
   after_e2 h d = leads r s t prologue E2 n a h d (out r s t prologue E2 n a h d) refl E3 a refl h.hand (λ x. tt)
 
-  pub after_e5 : CallIsAt r s prologue E5 a → DidStep r s t prologue E5 n → CallIsAt r t continues E6 (record a { tail = ref_of n })
-  after_e5 h d = leads r s t prologue E5 n a h d (out r s t prologue E5 n a h d) refl E6 (record a { tail = ref_of n }) refl h.hand (λ x. sym (ref_e5 r s t prologue n d))
+  pub after_e5 : CallIsAt r s prologue E5 a → DidStep r s t prologue E5 n → CallIsAt r t continues E6 (record a { tail = ref_of r.plan.setup.bits n })
+  after_e5 h d = leads r s t prologue E5 n a h d (out r s t prologue E5 n a h d) refl E6 (record a { tail = ref_of r.plan.setup.bits n }) refl h.hand (λ x. sym (ref_e5 r s t prologue n d))
 
-  pub after_e6 : CallIsAt r s prologue E6 a → DidStep r s t prologue E6 n → CallIsAt r t continues E7 (record a { next = ref_of n })
-  after_e6 h d = leads r s t prologue E6 n a h d (out r s t prologue E6 n a h d) refl E7 (record a { next = ref_of n }) refl h.hand (λ x. (h.knows, sym (ref_e6 r s t prologue n d)))
+  pub after_e6 : CallIsAt r s prologue E6 a → DidStep r s t prologue E6 n → CallIsAt r t continues E7 (record a { next = ref_of r.plan.setup.bits n })
+  after_e6 h d = leads r s t prologue E6 n a h d (out r s t prologue E6 n a h d) refl E7 (record a { next = ref_of r.plan.setup.bits n }) refl h.hand (λ x. (h.knows, sym (ref_e6 r s t prologue n d)))
 
   pub after_e13 : CallIsAt r s prologue E13 a → DidStep r s t prologue E13 n → CallIsAt r t continues E5 a
   after_e13 h d = leads r s t prologue E13 n a h d (out r s t prologue E13 n a h d) refl E5 a refl h.hand (λ x. tt)
@@ -85,17 +84,17 @@ module _ (r : Arena) (s t : Seat) (prologue : Prologue) (n : ℕ) (a : Running) 
     third now x p = let c = record b1 { mark = x.count } in if p then sets_aside (worn now OfNext c) else goes E5 c
 
     pub after_e3 : Third (follow r.plan.setup a E3 n)
-    after_e3 = go (nat_eq (ref_of n).count r.plan.setup.limit) refl
+    after_e3 = go (nat_eq (ref_of r.plan.setup.bits n).count r.plan.setup.limit) refl
       where
-        o : (p : Bool) → nat_eq (ref_of n).count r.plan.setup.limit ≡ p → outcome_at r.plan.setup d.told.was (view s).number b1 E3 ≡ third (d.told.was.world.steps + 1) (ref_of n) p
-        o p e = ap (λ x. third (d.told.was.world.steps + 1) x (nat_eq x.count r.plan.setup.limit)) (sym (ref_e3 r s t prologue n d)) ∙ ap (third (d.told.was.world.steps + 1) (ref_of n)) e
+        o : (p : Bool) → nat_eq (ref_of r.plan.setup.bits n).count r.plan.setup.limit ≡ p → outcome_at r.plan.setup d.told.was (view s).number b1 E3 ≡ third (d.told.was.world.steps + 1) (ref_of r.plan.setup.bits n) p
+        o p e = ap (λ x. third (d.told.was.world.steps + 1) x (nat_eq x.count r.plan.setup.limit)) (sym (ref_e3 r s t prologue n d)) ∙ ap (third (d.told.was.world.steps + 1) (ref_of r.plan.setup.bits n)) e
 
-        go : (p : Bool) → nat_eq (ref_of n).count r.plan.setup.limit ≡ p → Third (if p then Ends (IsRefused (WornOut OfNext)) else Goes E5 (record a { mark = (ref_of n).count }))
+        go : (p : Bool) → nat_eq (ref_of r.plan.setup.bits n).count r.plan.setup.limit ≡ p → Third (if p then Ends (IsRefused (WornOut OfNext)) else Goes E5 (record a { mark = (ref_of r.plan.setup.bits n).count }))
         go true e =
-            let x = over E3 h (empty_before r s prologue E3 h.before) d (third (d.told.was.world.steps + 1) (ref_of n) true) (o true e) refl refl in
+            let x = over E3 h (empty_before r s prologue E3 h.before) d (third (d.told.was.world.steps + 1) (ref_of r.plan.setup.bits n) true) (o true e) refl refl in
             record { over = x.0; pocket = x.1; is = refl; replies = ap (λ c. c.reply) (o true e) }
         go false e = (
-          leads r s t prologue E3 n a h d (third (d.told.was.world.steps + 1) (ref_of n) false) (o false e) E5 (record a { mark = (ref_of n).count }) refl record { node = h.hand.node; mark = refl; val = h.hand.val } (λ x. tt),
+          leads r s t prologue E3 n a h d (third (d.told.was.world.steps + 1) (ref_of r.plan.setup.bits n) false) (o false e) E5 (record a { mark = (ref_of r.plan.setup.bits n).count }) refl record { node = h.hand.node; mark = refl; val = h.hand.val } (λ x. tt),
           refl,
           refl,
         )
@@ -128,18 +127,18 @@ module _ (r : Arena) (s t : Seat) (prologue : Prologue) (n : ℕ) (a : Running) 
     leads_to p q c u = if p then if q then Goes E9 a else if c then Ends (IsRefused Closed) else if u then Ends (IsRefused (WornOut OfTail)) else Goes E13 a else Goes E5 a
 
     pub after_e7 : Seventh (follow r.plan.setup a E7 n)
-    after_e7 = go (same_ref (ref_of n) a.tail) (is_null a.next) (is_shut a.next) (nat_eq a.tail.count r.plan.setup.limit) refl refl refl refl
+    after_e7 = go (same_ref (ref_of r.plan.setup.bits n) a.tail) (is_null a.next) (is_shut r.plan.setup.bits a.next) (nat_eq a.tail.count r.plan.setup.limit) refl refl refl refl
       where
         now : ℕ
         now = d.told.was.world.steps + 1
 
-        o : (p q c u : Bool) → same_ref (ref_of n) a.tail ≡ p → is_null a.next ≡ q → is_shut a.next ≡ c → nat_eq a.tail.count r.plan.setup.limit ≡ u → outcome_at r.plan.setup d.told.was (view s).number b1 E7 ≡ seventh now p q c u
-        o p q c u x y v w = λ i. seventh now (((λ j. same_ref (sym (ref_e7 r s t prologue n d) j) (h.knows.0 j)) ∙ x) i) ((ap is_null h.knows.1 ∙ y) i) ((ap is_shut h.knows.1 ∙ v) i) ((ap (λ (k : Ref). nat_eq k.count r.plan.setup.limit) h.knows.0 ∙ w) i)
+        o : (p q c u : Bool) → same_ref (ref_of r.plan.setup.bits n) a.tail ≡ p → is_null a.next ≡ q → is_shut r.plan.setup.bits a.next ≡ c → nat_eq a.tail.count r.plan.setup.limit ≡ u → outcome_at r.plan.setup d.told.was (view s).number b1 E7 ≡ seventh now p q c u
+        o p q c u x y v w = λ i. seventh now (((λ j. same_ref (sym (ref_e7 r s t prologue n d) j) (h.knows.0 j)) ∙ x) i) ((ap is_null h.knows.1 ∙ y) i) ((ap (is_shut r.plan.setup.bits) h.knows.1 ∙ v) i) ((ap (λ (k : Ref). nat_eq k.count r.plan.setup.limit) h.knows.0 ∙ w) i)
 
         on : (p q c u : Bool) → out r s t prologue E7 n a h d ≡ seventh now p q c u → IsSilent (seventh now p q c u).reply → (k : Line) → (seventh now p q c u).actor.line ≡ Some k → HasNode (seventh now p q c u).actor a → ((x : Option ℕ) → AgreesAt k (record (seventh now p q c u).actor { entry = x }) a) → CallIsAt r t continues k a × (a ≡ a) × Quiet
         on p q c u e quiet k line hand knows = (leads r s t prologue E7 n a h d (seventh now p q c u) e k a line hand knows, refl, subst (λ (m : MachineOutcome). IsSilent m.reply) (sym e) quiet)
 
-        go : (p q c u : Bool) → same_ref (ref_of n) a.tail ≡ p → is_null a.next ≡ q → is_shut a.next ≡ c → nat_eq a.tail.count r.plan.setup.limit ≡ u → Seventh (leads_to p q c u)
+        go : (p q c u : Bool) → same_ref (ref_of r.plan.setup.bits n) a.tail ≡ p → is_null a.next ≡ q → is_shut r.plan.setup.bits a.next ≡ c → nat_eq a.tail.count r.plan.setup.limit ≡ u → Seventh (leads_to p q c u)
         go true true c u x y v w = on true true c u (o true true c u x y v w) tt E9 refl h.hand (λ z. h.knows)
         go true false true u x y v w =
             let e = o true false true u x y v w in
@@ -176,21 +175,21 @@ module _ (r : Arena) (s t : Seat) (prologue : Prologue) (n : ℕ) (a : Running) 
     gone p u = if p then if u then Ends IsDone else Goes E17 (record a { due = Some IsDone }) else Goes E5 a
 
     pub after_e9 : Ninth (follow r.plan.setup a E9 n)
-    after_e9 = go (same_ref (ref_of n) a.next) (nat_eq a.tail.count r.plan.setup.limit) refl refl
+    after_e9 = go (same_ref (ref_of r.plan.setup.bits n) a.next) (nat_eq a.tail.count r.plan.setup.limit) refl refl
       where
         now : ℕ
         now = d.told.was.world.steps + 1
 
-        test : (p : Bool) → same_ref (ref_of n) a.next ≡ p → same_ref (node_at d.told.was.world.shared b1.tail.node).next b1.next ≡ p
+        test : (p : Bool) → same_ref (ref_of r.plan.setup.bits n) a.next ≡ p → same_ref (node_at d.told.was.world.shared b1.tail.node).next b1.next ≡ p
         test p x = (λ j. same_ref (sym (ref_e9 r s t prologue n d) j) (h.knows.1 j)) ∙ x
 
-        o : (p u : Bool) → same_ref (ref_of n) a.next ≡ p → nat_eq a.tail.count r.plan.setup.limit ≡ u → outcome_at r.plan.setup d.told.was (view s).number b1 E9 ≡ ninth now p u
+        o : (p u : Bool) → same_ref (ref_of r.plan.setup.bits n) a.next ≡ p → nat_eq a.tail.count r.plan.setup.limit ≡ u → outcome_at r.plan.setup d.told.was (view s).number b1 E9 ≡ ninth now p u
         o p u x w = λ i. ninth now (test p x i) ((ap (λ (k : Ref). nat_eq k.count r.plan.setup.limit) h.knows.0 ∙ w) i)
 
-        put : (p : Bool) → same_ref (ref_of n) a.next ≡ p → entries_at r.plan.setup d.told.was (view s).number b1 E9 ≡ (if p then Push (view s).number b1.val.body ∷ [] else [])
+        put : (p : Bool) → same_ref (ref_of r.plan.setup.bits n) a.next ≡ p → entries_at r.plan.setup d.told.was (view s).number b1 E9 ≡ (if p then Push (view s).number b1.val.body ∷ [] else [])
         put p x = ap (λ q. if q then Push (view s).number b1.val.body ∷ [] else []) (test p x)
 
-        go : (p u : Bool) → same_ref (ref_of n) a.next ≡ p → nat_eq a.tail.count r.plan.setup.limit ≡ u → Ninth (gone p u)
+        go : (p u : Bool) → same_ref (ref_of r.plan.setup.bits n) a.next ≡ p → nat_eq a.tail.count r.plan.setup.limit ≡ u → Ninth (gone p u)
         go true true x w = let k = over E9 h (empty_before r s prologue E9 h.before) d (ninth now true true) (o true true x w) refl refl in (k.0, k.1, put true x)
         go true false x w = (leads r s t prologue E9 n a h d (ninth now true false) (o true false x w) E17 (record a { due = Some IsDone }) refl h.hand (λ z. h.knows.0), put true x)
         go false u x w = (leads r s t prologue E9 n a h d (ninth now false u) (o false u x w) E5 a refl h.hand (λ z. tt), refl, put false x)

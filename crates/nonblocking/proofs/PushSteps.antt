@@ -5,14 +5,13 @@ use Rattle.line_table.specs.declared.lines.Line.{Line}
 use Rattle.line_table.specs.declared.lines.Line.TheVariants.{E3, E5, E6, E7, E9, E13, E17}
 use Rattle.node_arena.specs.Machine.{Setup, Actor, node_at, WordTail, WordNext}
 use Rattle.node_arena.specs.Prologues.{Prologue, continues, after_prologue}
-use Rattle.node_arena.specs.declared.arena.Arena.{Arena}
+use Rattle.node_arena.specs.Arenas.{Arena}
 use Rattle.node_arena.specs.declared.seats.Seat.{Seat}
 use Rattle.node_arena.specs.Seats.{DidStep, view}
 use Rattle.node_arena.proofs.Told.{was_fits}
 use Rattle.node_arena.proofs.Known.{known_before}
 use Rattle.node_arena.proofs.Reading.{read_back}
-use Rattle.nonblocking.specs.declared.push_outcomes.Actor.{Actor as Running}
-use Rattle.nonblocking.specs.Pushes.{CallIsAt}
+use Rattle.nonblocking.specs.Pushes.{Running, CallIsAt}
 
 module _ (r : Arena) (s : Seat) (a : Running) where
   -- the counts that E9, E13 and E17 raise have room
@@ -26,11 +25,11 @@ module _ (r : Arena) (s : Seat) (a : Running) where
   room_e17 z e h = omega (arith, (known_before r s continues E17 h.before).room, ap (λ (x : Ref). x.count) h.knows, ap (λ (y : Setup). y.limit) e)
 
   -- the node that E13 writes
-  pub next_e13 : CallIsAt r s continues E13 a → a.next.node < reserved_node
+  pub next_e13 : CallIsAt r s continues E13 a → a.next.node < reserved_node r.plan.setup.bits
   next_e13 h = let k = known_before r s continues E13 h.before in omega (arith, k.within, k.registers.next.node, ap (λ (x : Ref). x.node) h.knows.1, h.before.seat.arena.sized.numbered)
 
   -- the node that E9 and E17 write
-  pub small_node : (l : Line) → CallIsAt r s continues l a → a.node < reserved_node
+  pub small_node : (l : Line) → CallIsAt r s continues l a → a.node < reserved_node r.plan.setup.bits
   small_node l h = let k = known_before r s continues l h.before in omega (arith, k.within, k.registers.node, h.hand.node, h.before.seat.arena.sized.numbered)
 
 module _ (r : Arena) (s t : Seat) (prologue : Prologue) (n : ℕ) where
@@ -38,17 +37,17 @@ module _ (r : Arena) (s t : Seat) (prologue : Prologue) (n : ℕ) where
   c = after_prologue r.plan.setup (view s).number prologue (view s).actor
 
   -- the references found at the lines that read one
-  pub ref_e3 : (d : DidStep r s t prologue E3 n) → ref_of n ≡ (node_at d.told.was.world.shared c.node).next
-  ref_e3 d = read_back (node_at d.told.was.world.shared c.node).next n (was_fits r.plan prologue E3 n (view s) (view t) d.told (WordNext c.node)) d.told.found
+  pub ref_e3 : (d : DidStep r s t prologue E3 n) → ref_of r.plan.setup.bits n ≡ (node_at d.told.was.world.shared c.node).next
+  ref_e3 d = read_back r.plan.setup.bits d.told.sized.split (node_at d.told.was.world.shared c.node).next n (was_fits r.plan prologue E3 n (view s) (view t) d.told (WordNext c.node)) d.told.found
 
-  pub ref_e5 : (d : DidStep r s t prologue E5 n) → ref_of n ≡ d.told.was.world.shared.tail
-  ref_e5 d = read_back d.told.was.world.shared.tail n (was_fits r.plan prologue E5 n (view s) (view t) d.told WordTail) d.told.found
+  pub ref_e5 : (d : DidStep r s t prologue E5 n) → ref_of r.plan.setup.bits n ≡ d.told.was.world.shared.tail
+  ref_e5 d = read_back r.plan.setup.bits d.told.sized.split d.told.was.world.shared.tail n (was_fits r.plan prologue E5 n (view s) (view t) d.told WordTail) d.told.found
 
-  pub ref_e6 : (d : DidStep r s t prologue E6 n) → ref_of n ≡ (node_at d.told.was.world.shared c.tail.node).next
-  ref_e6 d = read_back (node_at d.told.was.world.shared c.tail.node).next n (was_fits r.plan prologue E6 n (view s) (view t) d.told (WordNext c.tail.node)) d.told.found
+  pub ref_e6 : (d : DidStep r s t prologue E6 n) → ref_of r.plan.setup.bits n ≡ (node_at d.told.was.world.shared c.tail.node).next
+  ref_e6 d = read_back r.plan.setup.bits d.told.sized.split (node_at d.told.was.world.shared c.tail.node).next n (was_fits r.plan prologue E6 n (view s) (view t) d.told (WordNext c.tail.node)) d.told.found
 
-  pub ref_e7 : (d : DidStep r s t prologue E7 n) → ref_of n ≡ d.told.was.world.shared.tail
-  ref_e7 d = read_back d.told.was.world.shared.tail n (was_fits r.plan prologue E7 n (view s) (view t) d.told WordTail) d.told.found
+  pub ref_e7 : (d : DidStep r s t prologue E7 n) → ref_of r.plan.setup.bits n ≡ d.told.was.world.shared.tail
+  ref_e7 d = read_back r.plan.setup.bits d.told.sized.split d.told.was.world.shared.tail n (was_fits r.plan prologue E7 n (view s) (view t) d.told WordTail) d.told.found
 
-  pub ref_e9 : (d : DidStep r s t prologue E9 n) → ref_of n ≡ (node_at d.told.was.world.shared c.tail.node).next
-  ref_e9 d = read_back (node_at d.told.was.world.shared c.tail.node).next n (was_fits r.plan prologue E9 n (view s) (view t) d.told (WordNext c.tail.node)) d.told.found
+  pub ref_e9 : (d : DidStep r s t prologue E9 n) → ref_of r.plan.setup.bits n ≡ (node_at d.told.was.world.shared c.tail.node).next
+  ref_e9 d = read_back r.plan.setup.bits d.told.sized.split (node_at d.told.was.world.shared c.tail.node).next n (was_fits r.plan prologue E9 n (view s) (view t) d.told (WordNext c.tail.node)) d.told.found

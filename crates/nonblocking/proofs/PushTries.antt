@@ -11,7 +11,7 @@ use Rattle.history.specs.declared.refusals.WornWord.TheVariants.{Free as OfFree,
 use Rattle.node_arena.specs.Machine.{Held, Actor, with_node, from_pocket}
 use Rattle.node_arena.specs.Traces.{Event}
 use Rattle.node_arena.specs.Prologues.{begins, continues, at_rest, out_of}
-use Rattle.node_arena.specs.declared.arena.Arena.{Arena}
+use Rattle.node_arena.specs.Arenas.{Arena}
 use Rattle.node_arena.specs.declared.seats.Seat.{Seat}
 use Rattle.node_arena.specs.Seats.{IsReady, IsSeat, KeepsStored, view, pocket_of, keeping}
 use Rattle.node_arena.specs.Turns.{failed_turns}
@@ -23,10 +23,9 @@ use Rattle.arena_lines.specs.declared.outcomes.Outcome.{Outcome}
 use Rattle.arena_lines.specs.declared.outcomes.Outcome.TheVariants.{Goes, Ends}
 use Rattle.arena_lines.specs.declared.outcomes.Reply.{Reply}
 use Rattle.arena_lines.specs.declared.outcomes.Reply.TheVariants.{Done as IsDone, Value as IsValue, Empty as IsEmpty, Refused as IsRefused}
-use Rattle.nonblocking.specs.declared.push_outcomes.Actor.{Actor as Running}
 use Rattle.nonblocking.specs.declared.push_outcomes.Turn.{Turn}
 use Rattle.nonblocking.specs.declared.push_outcomes.Turn.TheVariants.{Pushed, Failed, Refused as TurnRefused}
-use Rattle.nonblocking.specs.Pushes.{registers_of, in_hand, CallIsAt, Filled, Fills, FoundWorn, Turns, Trying}
+use Rattle.nonblocking.specs.Pushes.{Running, registers_of, in_hand, CallIsAt, Filled, Fills, FoundWorn, Turns, Trying}
 use Rattle.nonblocking.specs.Worn.{push_worn}
 use Rattle.arena_queue.specs.Answers.{PutRefused, Puts}
 use Rattle.node_arena.proofs.Values.{value_of-word}

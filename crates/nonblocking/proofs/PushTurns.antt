@@ -12,7 +12,7 @@ use Rattle.history.specs.declared.refusals.WornWord.TheVariants.{Next as OfNext,
 use Rattle.node_arena.specs.Machine.{Held}
 use Rattle.node_arena.specs.Traces.{Event, entries_at, outcome_at}
 use Rattle.node_arena.specs.Prologues.{Prologue, continues}
-use Rattle.node_arena.specs.declared.arena.Arena.{Arena}
+use Rattle.node_arena.specs.Arenas.{Arena}
 use Rattle.node_arena.specs.declared.seats.Seat.{Seat}
 use Rattle.node_arena.specs.Seats.{DidStep, view}
 use Rattle.node_arena.specs.Turns.{failed_at, failed_turns, at_e5}
@@ -24,10 +24,9 @@ use Rattle.arena_lines.specs.declared.outcomes.Outcome.{Outcome}
 use Rattle.arena_lines.specs.declared.outcomes.Outcome.TheVariants.{Goes, Ends}
 use Rattle.arena_lines.specs.declared.outcomes.Reply.{Reply}
 use Rattle.arena_lines.specs.declared.outcomes.Reply.TheVariants.{Done as IsDone, Value as IsValue, Empty as IsEmpty, Refused as IsRefused}
-use Rattle.nonblocking.specs.declared.push_outcomes.Actor.{Actor as Running}
 use Rattle.nonblocking.specs.declared.push_outcomes.Turn.{Turn}
 use Rattle.nonblocking.specs.declared.push_outcomes.Turn.TheVariants.{Pushed, Failed, Refused as TurnRefused}
-use Rattle.nonblocking.specs.Pushes.{in_hand, follow, CallIsAt, Follows, Comes, Slipped, FoundWorn, SawShut, Stops, Filled, Fills, Looked, Looks, Turned, Turns}
+use Rattle.nonblocking.specs.Pushes.{Running, in_hand, follow, CallIsAt, Follows, Comes, Slipped, FoundWorn, SawShut, Stops, Filled, Fills, Looked, Looks, Turned, Turns}
 use Rattle.arena_lines.proofs.Registers.{same_registers}
 use Rattle.nonblocking.proofs.FailedTurns.{turns_then, fails_last}
 use Rattle.nonblocking.proofs.PushStands.{after_e2, after_e5, after_e6, after_e13, after_e17, Worn, Third, after_e3, Seventh, after_e7, Ninth, after_e9}
@@ -83,13 +82,13 @@ module _ (r : Arena) (s u t : Seat) (prologue : Prologue) (l : Line) (a b : Runn
 -- after E5
 pub to_e6 : (r : Arena) (s t : Seat) (l : Line) (a b : Running) → CallIsAt r s continues E5 a → Follows r s t continues E5 a (Goes l b) → CallIsAt r t continues E6 b × (in_hand b ≡ in_hand a) × (b.val ≡ a.val)
 to_e6 r s t l a b h f =
-    let e = same_registers l E6 b (record a { tail = ref_of f.found }) f.leads_to in
+    let e = same_registers l E6 b (record a { tail = ref_of r.plan.setup.bits f.found }) f.leads_to in
     (subst (CallIsAt r t continues E6) (sym e) (after_e5 r s t continues f.found a h f.did), ap in_hand e, ap (λ (x : Running). x.val) e)
 
 -- after E6
 pub to_e7 : (r : Arena) (s t : Seat) (l : Line) (a b : Running) → CallIsAt r s continues E6 a → Follows r s t continues E6 a (Goes l b) → CallIsAt r t continues E7 b × (in_hand b ≡ in_hand a) × (b.val ≡ a.val)
 to_e7 r s t l a b h f =
-    let e = same_registers l E7 b (record a { next = ref_of f.found }) f.leads_to in
+    let e = same_registers l E7 b (record a { next = ref_of r.plan.setup.bits f.found }) f.leads_to in
     (subst (CallIsAt r t continues E7) (sym e) (after_e6 r s t continues f.found a h f.did), ap in_hand e, ap (λ (x : Running). x.val) e)
 
 -- a push before E5 stands there with any registers of the same node, mark and value

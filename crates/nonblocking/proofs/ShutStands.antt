@@ -11,7 +11,7 @@ use Rattle.history.specs.declared.refusals.WornWord.TheVariants.{Tail as OfTail}
 use Rattle.node_arena.specs.Machine.{Actor, Outcome as MachineOutcome, node_at, goes, ends, worn, closed}
 use Rattle.node_arena.specs.Traces.{outcome_at, entries_at}
 use Rattle.node_arena.specs.Prologues.{Prologue, continues, after_prologue}
-use Rattle.node_arena.specs.declared.arena.Arena.{Arena}
+use Rattle.node_arena.specs.Arenas.{Arena}
 use Rattle.node_arena.specs.declared.seats.Seat.{Seat}
 use Rattle.node_arena.specs.Seats.{DidStep, view, pocket_of}
 use Rattle.node_arena.proofs.Noting.{IsSilent}
@@ -19,8 +19,7 @@ use Rattle.node_arena.proofs.Paths.{settled, goes_on}
 use Rattle.arena_lines.specs.declared.outcomes.Outcome.{Outcome}
 use Rattle.arena_lines.specs.declared.outcomes.Outcome.TheVariants.{Goes, Ends}
 use Rattle.arena_lines.specs.declared.outcomes.Reply.TheVariants.{Done as IsDone, Refused as IsRefused}
-use Rattle.nonblocking.specs.declared.shut_outcomes.Actor.{Actor as Running}
-use Rattle.nonblocking.specs.Shuts.{follow, AgreesAt, HasPocket, CallIsAt}
+use Rattle.nonblocking.specs.Shuts.{Running, follow, AgreesAt, HasPocket, CallIsAt}
 use Rattle.nonblocking.proofs.ShutSteps.{ref_s1, ref_s2, ref_s3, ref_s4}
 
 module _ (r : Arena) (s t : Seat) (prologue : Prologue) (n : ℕ) (a : Running) where
@@ -48,11 +47,11 @@ module _ (r : Arena) (s t : Seat) (prologue : Prologue) (n : ℕ) (a : Running) 
   over : (l : Line) → CallIsAt r s prologue l a → (d : DidStep r s t prologue l n) (o : MachineOutcome) → out_at l d ≡ o → o.actor.line ≡ None → o.actor.pocket ≡ b.pocket → ((view t).actor.line ≡ None) × HasPocket r t continues
   over l h d o e line same = (settled r s t prologue l n d o e (λ x. x.line ≡ None) (λ x. line), holds l h.pocket d o e same)
 
-  pub after_s1 : CallIsAt r s prologue S1 a → DidStep r s t prologue S1 n → CallIsAt r t continues S2 (record a { tail = ref_of n })
-  after_s1 h d = leads S1 h d (out_at S1 d) refl S2 (record a { tail = ref_of n }) refl refl (λ x. sym (ref_s1 r s t prologue n d))
+  pub after_s1 : CallIsAt r s prologue S1 a → DidStep r s t prologue S1 n → CallIsAt r t continues S2 (record a { tail = ref_of r.plan.setup.bits n })
+  after_s1 h d = leads S1 h d (out_at S1 d) refl S2 (record a { tail = ref_of r.plan.setup.bits n }) refl refl (λ x. sym (ref_s1 r s t prologue n d))
 
-  pub after_s2 : CallIsAt r s prologue S2 a → DidStep r s t prologue S2 n → CallIsAt r t continues S3 (record a { next = ref_of n })
-  after_s2 h d = leads S2 h d (out_at S2 d) refl S3 (record a { next = ref_of n }) refl refl (λ x. (h.knows, sym (ref_s2 r s t prologue n d)))
+  pub after_s2 : CallIsAt r s prologue S2 a → DidStep r s t prologue S2 n → CallIsAt r t continues S3 (record a { next = ref_of r.plan.setup.bits n })
+  after_s2 h d = leads S2 h d (out_at S2 d) refl S3 (record a { next = ref_of r.plan.setup.bits n }) refl refl (λ x. (h.knows, sym (ref_s2 r s t prologue n d)))
 
   pub after_s5 : CallIsAt r s prologue S5 a → DidStep r s t prologue S5 n → CallIsAt r t continues S1 a
   after_s5 h d = leads S5 h d (out_at S5 d) refl S1 a refl refl (λ x. tt)
@@ -85,13 +84,13 @@ module _ (r : Arena) (s t : Seat) (prologue : Prologue) (n : ℕ) (a : Running) 
     leads_to p q c u = if p then if q then Goes S4 a else if c then Ends (IsRefused Closed) else if u then Ends (IsRefused (WornOut OfTail)) else Goes S5 a else Goes S1 a
 
     pub after_s3 : Third (follow r.plan.setup a S3 n)
-    after_s3 = go (same_ref (ref_of n) a.tail) (is_null a.next) (is_shut a.next) (nat_eq a.tail.count r.plan.setup.limit) refl refl refl refl
+    after_s3 = go (same_ref (ref_of r.plan.setup.bits n) a.tail) (is_null a.next) (is_shut r.plan.setup.bits a.next) (nat_eq a.tail.count r.plan.setup.limit) refl refl refl refl
       where
         now : ℕ
         now = d.told.was.world.steps + 1
 
-        o : (p q c u : Bool) → same_ref (ref_of n) a.tail ≡ p → is_null a.next ≡ q → is_shut a.next ≡ c → nat_eq a.tail.count r.plan.setup.limit ≡ u → out_at S3 d ≡ third now p q c u
-        o p q c u x y v w = λ i. third now (((λ j. same_ref (sym (ref_s3 r s t prologue n d) j) (h.knows.0 j)) ∙ x) i) ((ap is_null h.knows.1 ∙ y) i) ((ap is_shut h.knows.1 ∙ v) i) ((ap (λ (k : Ref). nat_eq k.count r.plan.setup.limit) h.knows.0 ∙ w) i)
+        o : (p q c u : Bool) → same_ref (ref_of r.plan.setup.bits n) a.tail ≡ p → is_null a.next ≡ q → is_shut r.plan.setup.bits a.next ≡ c → nat_eq a.tail.count r.plan.setup.limit ≡ u → out_at S3 d ≡ third now p q c u
+        o p q c u x y v w = λ i. third now (((λ j. same_ref (sym (ref_s3 r s t prologue n d) j) (h.knows.0 j)) ∙ x) i) ((ap is_null h.knows.1 ∙ y) i) ((ap (is_shut r.plan.setup.bits) h.knows.1 ∙ v) i) ((ap (λ (k : Ref). nat_eq k.count r.plan.setup.limit) h.knows.0 ∙ w) i)
 
         on : (p q c u : Bool) → out_at S3 d ≡ third now p q c u → IsSilent (third now p q c u).reply → (k : Line) → (third now p q c u).actor.line ≡ Some k → (third now p q c u).actor.pocket ≡ b.pocket → ((x : Option ℕ) → AgreesAt k (record (third now p q c u).actor { entry = x }) a) → CallIsAt r t continues k a × Quiet
         on p q c u e quiet k line same knows = (leads S3 h d (third now p q c u) e k a line same knows, subst (λ (m : MachineOutcome). IsSilent m.reply) (sym e) quiet)
@@ -99,7 +98,7 @@ module _ (r : Arena) (s t : Seat) (prologue : Prologue) (n : ℕ) (a : Running) 
         stops : (p q c u : Bool) (why : Refusal) → out_at S3 d ≡ third now p q c u → (third now p q c u).actor.line ≡ None → (third now p q c u).actor.pocket ≡ b.pocket → (third now p q c u).reply ≡ Some (reply.Refused why) → Stopped why
         stops p q c u why e line same replies = let k = over S3 h d (third now p q c u) e line same in record { over = k.0; pocket = k.1; replies = ap (λ (m : MachineOutcome). m.reply) e ∙ replies }
 
-        go : (p q c u : Bool) → same_ref (ref_of n) a.tail ≡ p → is_null a.next ≡ q → is_shut a.next ≡ c → nat_eq a.tail.count r.plan.setup.limit ≡ u → Third (leads_to p q c u)
+        go : (p q c u : Bool) → same_ref (ref_of r.plan.setup.bits n) a.tail ≡ p → is_null a.next ≡ q → is_shut r.plan.setup.bits a.next ≡ c → nat_eq a.tail.count r.plan.setup.limit ≡ u → Third (leads_to p q c u)
         go true true c u x y v w = on true true c u (o true true c u x y v w) tt S4 refl refl (λ z. h.knows)
         go true false true u x y v w = stops true false true u Closed (o true false true u x y v w) refl refl refl
         go true false false true x y v w = (stops true false false true (WornOut OfTail) (o true false false true x y v w) refl refl refl, refl)
@@ -124,17 +123,17 @@ module _ (r : Arena) (s t : Seat) (prologue : Prologue) (n : ℕ) (a : Running) 
     fourth now p = if p then record (ends now reply.Done b) { at = Some now } else goes S1 b
 
     pub after_s4 : Fourth (follow r.plan.setup a S4 n)
-    after_s4 = go (same_ref (ref_of n) a.next) refl
+    after_s4 = go (same_ref (ref_of r.plan.setup.bits n) a.next) refl
       where
         now : ℕ
         now = d.told.was.world.steps + 1
 
-        test : (p : Bool) → same_ref (ref_of n) a.next ≡ p → same_ref (node_at d.told.was.world.shared b.tail.node).next b.next ≡ p
+        test : (p : Bool) → same_ref (ref_of r.plan.setup.bits n) a.next ≡ p → same_ref (node_at d.told.was.world.shared b.tail.node).next b.next ≡ p
         test p x = (λ j. same_ref (sym (ref_s4 r s t prologue n d) j) (h.knows.1 j)) ∙ x
 
-        put : (p : Bool) → same_ref (ref_of n) a.next ≡ p → entries_at r.plan.setup d.told.was (view s).number b S4 ≡ (if p then entry.Shut (view s).number ∷ [] else [])
+        put : (p : Bool) → same_ref (ref_of r.plan.setup.bits n) a.next ≡ p → entries_at r.plan.setup d.told.was (view s).number b S4 ≡ (if p then entry.Shut (view s).number ∷ [] else [])
         put p x = ap (λ q. if q then entry.Shut (view s).number ∷ [] else []) (test p x)
 
-        go : (p : Bool) → same_ref (ref_of n) a.next ≡ p → Fourth (if p then Ends IsDone else Goes S1 a)
+        go : (p : Bool) → same_ref (ref_of r.plan.setup.bits n) a.next ≡ p → Fourth (if p then Ends IsDone else Goes S1 a)
         go true x = let k = over S4 h d (fourth now true) (ap (fourth now) (test true x)) refl refl in (k.0, k.1, put true x)
         go false x = (leads S4 h d (fourth now false) (ap (fourth now) (test false x)) S1 a refl refl (λ z. tt), put false x)

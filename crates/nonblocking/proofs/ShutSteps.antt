@@ -4,14 +4,13 @@ use Rattle.counted_ref.specs.Ref.{Ref, ref_of, reserved_node}
 use Rattle.line_table.specs.declared.lines.Line.TheVariants.{S1, S2, S3, S4, S5}
 use Rattle.node_arena.specs.Machine.{Setup, Actor, node_at, WordTail, WordNext}
 use Rattle.node_arena.specs.Prologues.{Prologue, continues, after_prologue}
-use Rattle.node_arena.specs.declared.arena.Arena.{Arena}
+use Rattle.node_arena.specs.Arenas.{Arena}
 use Rattle.node_arena.specs.declared.seats.Seat.{Seat}
 use Rattle.node_arena.specs.Seats.{DidStep, view}
 use Rattle.node_arena.proofs.Told.{was_fits}
 use Rattle.node_arena.proofs.Known.{known_before}
 use Rattle.node_arena.proofs.Reading.{read_back}
-use Rattle.nonblocking.specs.declared.shut_outcomes.Actor.{Actor as Running}
-use Rattle.nonblocking.specs.Shuts.{CallIsAt}
+use Rattle.nonblocking.specs.Shuts.{Running, CallIsAt}
 
 module _ (r : Arena) (s : Seat) (a : Running) where
   -- the counts that S4 and S5 raise have room
@@ -22,7 +21,7 @@ module _ (r : Arena) (s : Seat) (a : Running) where
   room_s5 z e h = omega (arith, (known_before r s continues S5 h.before).room, ap (λ (x : Ref). x.count) h.knows.0, ap (λ (y : Setup). y.limit) e)
 
   -- the node that S5 writes
-  pub next_s5 : CallIsAt r s continues S5 a → a.next.node < reserved_node
+  pub next_s5 : CallIsAt r s continues S5 a → a.next.node < reserved_node r.plan.setup.bits
   next_s5 h = let k = known_before r s continues S5 h.before in omega (arith, k.within, k.registers.next.node, ap (λ (x : Ref). x.node) h.knows.1, h.before.seat.arena.sized.numbered)
 
 module _ (r : Arena) (s t : Seat) (prologue : Prologue) (n : ℕ) where
@@ -30,14 +29,14 @@ module _ (r : Arena) (s t : Seat) (prologue : Prologue) (n : ℕ) where
   c = after_prologue r.plan.setup (view s).number prologue (view s).actor
 
   -- the references found at the lines that read one
-  pub ref_s1 : (d : DidStep r s t prologue S1 n) → ref_of n ≡ d.told.was.world.shared.tail
-  ref_s1 d = read_back d.told.was.world.shared.tail n (was_fits r.plan prologue S1 n (view s) (view t) d.told WordTail) d.told.found
+  pub ref_s1 : (d : DidStep r s t prologue S1 n) → ref_of r.plan.setup.bits n ≡ d.told.was.world.shared.tail
+  ref_s1 d = read_back r.plan.setup.bits d.told.sized.split d.told.was.world.shared.tail n (was_fits r.plan prologue S1 n (view s) (view t) d.told WordTail) d.told.found
 
-  pub ref_s2 : (d : DidStep r s t prologue S2 n) → ref_of n ≡ (node_at d.told.was.world.shared c.tail.node).next
-  ref_s2 d = read_back (node_at d.told.was.world.shared c.tail.node).next n (was_fits r.plan prologue S2 n (view s) (view t) d.told (WordNext c.tail.node)) d.told.found
+  pub ref_s2 : (d : DidStep r s t prologue S2 n) → ref_of r.plan.setup.bits n ≡ (node_at d.told.was.world.shared c.tail.node).next
+  ref_s2 d = read_back r.plan.setup.bits d.told.sized.split (node_at d.told.was.world.shared c.tail.node).next n (was_fits r.plan prologue S2 n (view s) (view t) d.told (WordNext c.tail.node)) d.told.found
 
-  pub ref_s3 : (d : DidStep r s t prologue S3 n) → ref_of n ≡ d.told.was.world.shared.tail
-  ref_s3 d = read_back d.told.was.world.shared.tail n (was_fits r.plan prologue S3 n (view s) (view t) d.told WordTail) d.told.found
+  pub ref_s3 : (d : DidStep r s t prologue S3 n) → ref_of r.plan.setup.bits n ≡ d.told.was.world.shared.tail
+  ref_s3 d = read_back r.plan.setup.bits d.told.sized.split d.told.was.world.shared.tail n (was_fits r.plan prologue S3 n (view s) (view t) d.told WordTail) d.told.found
 
-  pub ref_s4 : (d : DidStep r s t prologue S4 n) → ref_of n ≡ (node_at d.told.was.world.shared c.tail.node).next
-  ref_s4 d = read_back (node_at d.told.was.world.shared c.tail.node).next n (was_fits r.plan prologue S4 n (view s) (view t) d.told (WordNext c.tail.node)) d.told.found
+  pub ref_s4 : (d : DidStep r s t prologue S4 n) → ref_of r.plan.setup.bits n ≡ (node_at d.told.was.world.shared c.tail.node).next
+  ref_s4 d = read_back r.plan.setup.bits d.told.sized.split (node_at d.told.was.world.shared c.tail.node).next n (was_fits r.plan prologue S4 n (view s) (view t) d.told (WordNext c.tail.node)) d.told.found

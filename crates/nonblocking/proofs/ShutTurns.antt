@@ -9,7 +9,7 @@ use Rattle.history.specs.declared.refusals.Refusal.TheVariants.{WornOut, Closed}
 use Rattle.history.specs.declared.refusals.WornWord.TheVariants.{Tail as OfTail}
 use Rattle.node_arena.specs.Traces.{Event, outcome_at}
 use Rattle.node_arena.specs.Prologues.{Prologue, continues}
-use Rattle.node_arena.specs.declared.arena.Arena.{Arena}
+use Rattle.node_arena.specs.Arenas.{Arena}
 use Rattle.node_arena.specs.declared.seats.Seat.{Seat}
 use Rattle.node_arena.specs.Seats.{KeepsStored, view}
 use Rattle.node_arena.specs.Turns.{failed_at, failed_turns}
@@ -20,19 +20,18 @@ use Rattle.arena_lines.specs.declared.outcomes.Outcome.{Outcome}
 use Rattle.arena_lines.specs.declared.outcomes.Outcome.TheVariants.{Goes, Ends}
 use Rattle.arena_lines.specs.declared.outcomes.Reply.TheVariants.{Done as IsDone, Value as IsValue, Empty as IsEmpty, Refused as IsRefused}
 use Rattle.arena_lines.proofs.Registers.{same_registers}
-use Rattle.nonblocking.specs.declared.shut_outcomes.Actor.{Actor as Running}
 use Rattle.nonblocking.specs.declared.shut_outcomes.Turn.{Turn}
 use Rattle.nonblocking.specs.declared.shut_outcomes.Turn.TheVariants as turn
-use Rattle.nonblocking.specs.Shuts.{turn_of, HasPocket, CallIsAt, Follows, Stops, Looked, Looks, Turned, Turns}
+use Rattle.nonblocking.specs.Shuts.{Running, turn_of, HasPocket, CallIsAt, Follows, Stops, Looked, Looks, Turned, Turns}
 use Rattle.nonblocking.proofs.FailedTurns.{turns_then, fails_last}
 use Rattle.nonblocking.proofs.ShutStands.{after_s1, after_s2, after_s5, Third, after_s3, Fourth, after_s4}
 
 -- after S1 and S2
 pub to_s2 : (r : Arena) (s t : Seat) (prologue : Prologue) (l : Line) (a b : Running) → CallIsAt r s prologue S1 a → Follows r s t prologue S1 a (Goes l b) → CallIsAt r t continues S2 b
-to_s2 r s t prologue l a b h f = subst (CallIsAt r t continues S2) (sym (same_registers l S2 b (record a { tail = ref_of f.found }) f.leads_to)) (after_s1 r s t prologue f.found a h f.did)
+to_s2 r s t prologue l a b h f = subst (CallIsAt r t continues S2) (sym (same_registers l S2 b (record a { tail = ref_of r.plan.setup.bits f.found }) f.leads_to)) (after_s1 r s t prologue f.found a h f.did)
 
 pub to_s3 : (r : Arena) (s t : Seat) (l : Line) (a b : Running) → CallIsAt r s continues S2 a → Follows r s t continues S2 a (Goes l b) → CallIsAt r t continues S3 b
-to_s3 r s t l a b h f = subst (CallIsAt r t continues S3) (sym (same_registers l S3 b (record a { next = ref_of f.found }) f.leads_to)) (after_s2 r s t continues f.found a h f.did)
+to_s3 r s t l a b h f = subst (CallIsAt r t continues S3) (sym (same_registers l S3 b (record a { next = ref_of r.plan.setup.bits f.found }) f.leads_to)) (after_s2 r s t continues f.found a h f.did)
 
 -- the lines S1 to S3
 module _ (r : Arena) (s u v t : Seat) (prologue : Prologue) (l k : Line) (a b c : Running) (out : Outcome Running) (h : CallIsAt r s prologue S1 a) (f : Follows r s u prologue S1 a (Goes l b)) (g : Follows r u v continues S2 b (Goes k c)) (m : Follows r v t continues S3 c out) where

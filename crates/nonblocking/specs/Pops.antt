@@ -1,6 +1,6 @@
 -- A running pop: what it remembers before each line, and what its turns come to.
 use Rattle.std.specs.Prelude.{◌≡◌, ℕ, zero, suc, ◌≤◌, if◌then◌else◌, nat_eq, List, ◌++◌, Option, Some, None, Result}
-use Rattle.counted_ref.specs.Ref.{ref_of, is_null, is_shut, same_ref}
+use Rattle.counted_ref.specs.Ref.{Ref, ref_of, is_null, is_shut, same_ref}
 use Rattle.line_table.specs.declared.lines.Line.{Line}
 use Rattle.line_table.specs.declared.lines.Line.TheVariants.{D2, D3, D4, D5, D10, D12, D13, F1}
 use Rattle.history.specs.declared.operations.Entry.TheVariants.{Pop}
@@ -14,7 +14,7 @@ use Rattle.history.specs.Answers.{FoundEmpty}
 use Rattle.node_arena.specs.Machine.{Setup, Held, Actor}
 use Rattle.node_arena.specs.Traces.{Event}
 use Rattle.node_arena.specs.Prologues.{Prologue, begins, continues, after_prologue}
-use Rattle.node_arena.specs.declared.arena.Arena.{Arena}
+use Rattle.node_arena.specs.Arenas.{Arena}
 use Rattle.node_arena.specs.declared.seats.Seat.{Seat}
 use Rattle.node_arena.specs.Seeing.{known_by}
 use Rattle.node_arena.specs.Seats.{IsSeat, IsBefore, KeepsStored, DidStep, view}
@@ -25,10 +25,20 @@ use Rattle.arena_queue.specs.Answers.{Draws}
 use Rattle.nonblocking.specs.Worn.{pop_worn}
 use Rattle.arena_lines.specs.declared.outcomes.Outcome.{Outcome}
 use Rattle.arena_lines.specs.declared.outcomes.Outcome.TheVariants.{Goes, Ends}
+use Rattle.arena_lines.specs.declared.outcomes.Reply.{Reply}
 use Rattle.arena_lines.specs.declared.outcomes.Reply.TheVariants.{Value as IsValue, Empty as IsEmpty, Refused as IsRefused}
-use Rattle.nonblocking.specs.declared.pop_outcomes.Actor.{Actor as Running}
 use Rattle.nonblocking.specs.declared.pop_outcomes.Turn.{Turn}
 use Rattle.nonblocking.specs.declared.pop_outcomes.Turn.TheVariants as turn
+
+-- what a running pop remembers
+pub record Running : Type 0 where
+  pub head : Ref
+  pub tail : Ref
+  pub next : Ref
+  pub val : ℕ
+  pub node : ℕ
+  pub mark : ℕ
+  pub due : Option Reply
 
 -- how a pop sets out: its first turn begins a dequeue, and a later one goes on
 abbrev pub popping : ℕ → Prologue
@@ -37,14 +47,14 @@ popping (suc n) = continues
 
 -- what a running pop makes of the number found at a line
 abbrev pub follow : Setup → Running → Line → ℕ → Outcome Running
-follow z a D2 n = Goes D3 (record a { head = ref_of n })
-follow z a D3 n = Goes D4 (record a { tail = ref_of n })
-follow z a D4 n = Goes D5 (record a { next = ref_of n })
+follow z a D2 n = Goes D3 (record a { head = ref_of z.bits n })
+follow z a D3 n = Goes D4 (record a { tail = ref_of z.bits n })
+follow z a D4 n = Goes D5 (record a { next = ref_of z.bits n })
 follow z a D5 n =
-    if same_ref (ref_of n) a.head
+    if same_ref (ref_of z.bits n) a.head
     then if nat_eq a.head.node a.tail.node
     then if is_null a.next then Ends IsEmpty
-    else if is_shut a.next then Ends (IsRefused Closed)
+    else if is_shut z.bits a.next then Ends (IsRefused Closed)
     else if nat_eq a.tail.count z.limit then Ends (IsRefused (WornOut OfTail))
     else Goes D10 a
     else Goes D12 a
@@ -53,7 +63,7 @@ follow z a D10 n = Goes D2 a
 follow z a D12 n =
     if nat_eq a.head.count z.limit then Ends (IsRefused (WornOut OfHead)) else Goes D13 (record a { val = n })
 follow z a D13 n =
-    if same_ref (ref_of n) a.head
+    if same_ref (ref_of z.bits n) a.head
     then Goes F1 (record a { node = a.head.node; mark = a.next.count; due = Some (IsValue a.val) })
     else Goes D2 a
 follow z a l n = Goes l a

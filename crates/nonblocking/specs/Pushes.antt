@@ -1,17 +1,18 @@
 -- A running push: what it remembers before each line, and what its turns come to.
 use Rattle.std.specs.Prelude.{◌≡◌, ℕ, ◌+◌, ◌<◌, if◌then◌else◌, nat_eq, List, Option, Some, None}
-use Rattle.counted_ref.specs.Ref.{ref, ref_of, is_null, is_shut, same_ref}
+use Rattle.counted_ref.specs.Ref.{Ref, ref, ref_of, is_null, is_shut, same_ref}
 use Rattle.line_table.specs.declared.lines.Line.{Line}
 use Rattle.line_table.specs.declared.lines.Line.TheVariants.{E2, E3, E5, E6, E7, E9, E13, E17}
 use Rattle.history.specs.declared.operations.Entry.TheVariants.{Push}
+use Rattle.history.specs.declared.operations.Op.TheVariants.{Enq}
 use Rattle.history.specs.declared.refusals.Refusal.{Refusal}
 use Rattle.history.specs.declared.refusals.Refusal.TheVariants.{WornOut, Closed}
 use Rattle.history.specs.declared.refusals.WornWord.{WornWord}
 use Rattle.history.specs.declared.refusals.WornWord.TheVariants.{Next as OfNext, Tail as OfTail}
 use Rattle.node_arena.specs.Machine.{Setup, Held, Actor}
 use Rattle.node_arena.specs.Traces.{Event}
-use Rattle.node_arena.specs.Prologues.{Prologue, continues, after_prologue}
-use Rattle.node_arena.specs.declared.arena.Arena.{Arena}
+use Rattle.node_arena.specs.Prologues.{Prologue, begins, continues, after_prologue}
+use Rattle.node_arena.specs.Arenas.{Arena}
 use Rattle.node_arena.specs.declared.seats.Seat.{Seat}
 use Rattle.node_arena.specs.Seats.{IsSeat, IsBefore, KeepsStored, DidStep, view}
 use Rattle.node_arena.specs.Turns.{failed_turns}
@@ -19,10 +20,19 @@ use Rattle.node_arena.specs.Paths.{ExtendsPath, FindsShut, Acts, FailedAt, Ended
 use Rattle.node_arena.specs.Machine.{value_of}
 use Rattle.arena_lines.specs.declared.outcomes.Outcome.{Outcome}
 use Rattle.arena_lines.specs.declared.outcomes.Outcome.TheVariants.{Goes, Ends}
+use Rattle.arena_lines.specs.declared.outcomes.Reply.{Reply}
 use Rattle.arena_lines.specs.declared.outcomes.Reply.TheVariants.{Done as IsDone, Refused as IsRefused}
-use Rattle.nonblocking.specs.declared.push_outcomes.Actor.{Actor as Running}
 use Rattle.nonblocking.specs.declared.push_outcomes.Turn.{Turn}
 use Rattle.nonblocking.specs.declared.push_outcomes.Turn.TheVariants.{Pushed, Failed, Refused as TurnRefused}
+
+-- what a running push remembers
+pub record Running : Type 0 where
+  pub node : ℕ
+  pub mark : ℕ
+  pub val : ℕ
+  pub tail : Ref
+  pub next : Ref
+  pub due : Option Reply
 
 -- the registers of a push that has this node and this word of a value
 abbrev pub registers_of : Held → ℕ → Running
@@ -32,24 +42,28 @@ registers_of h val = record { node = h.node; mark = h.mark; val = val; tail = re
 abbrev pub in_hand : Running → Held
 in_hand a = record { node = a.node; mark = a.mark }
 
+-- how a push sets out that has its node and this word of a value
+abbrev pub pushing : ℕ → Prologue
+pushing val = begins (Enq (value_of val).body)
+
 -- what a running push makes of the number found at a line
 abbrev pub follow : Setup → Running → Line → ℕ → Outcome Running
 follow z a E2 n = Goes E3 a
 follow z a E3 n =
-    let b = record a { mark = (ref_of n).count } in
-    if nat_eq (ref_of n).count z.limit then Ends (IsRefused (WornOut OfNext)) else Goes E5 b
-follow z a E5 n = Goes E6 (record a { tail = ref_of n })
-follow z a E6 n = Goes E7 (record a { next = ref_of n })
+    let b = record a { mark = (ref_of z.bits n).count } in
+    if nat_eq (ref_of z.bits n).count z.limit then Ends (IsRefused (WornOut OfNext)) else Goes E5 b
+follow z a E5 n = Goes E6 (record a { tail = ref_of z.bits n })
+follow z a E6 n = Goes E7 (record a { next = ref_of z.bits n })
 follow z a E7 n =
-    if same_ref (ref_of n) a.tail
+    if same_ref (ref_of z.bits n) a.tail
     then if is_null a.next then Goes E9 a
-    else if is_shut a.next then Ends (IsRefused Closed)
+    else if is_shut z.bits a.next then Ends (IsRefused Closed)
     else if nat_eq a.tail.count z.limit then Ends (IsRefused (WornOut OfTail))
     else Goes E13 a
     else Goes E5 a
 follow z a E9 n =
     let b = record a { due = Some IsDone } in
-    if same_ref (ref_of n) a.next
+    if same_ref (ref_of z.bits n) a.next
     then if nat_eq a.tail.count z.limit then Ends IsDone else Goes E17 b
     else Goes E5 a
 follow z a E13 n = Goes E5 a

@@ -1,6 +1,6 @@
 -- A running shut: what it remembers before each line, and what its turns come to.
 use Rattle.std.specs.Prelude.{◌≡◌, ℕ, zero, suc, ◌≤◌, if◌then◌else◌, nat_eq, List, None}
-use Rattle.counted_ref.specs.Ref.{ref_of, is_null, is_shut, same_ref}
+use Rattle.counted_ref.specs.Ref.{Ref, ref_of, is_null, is_shut, same_ref}
 use Rattle.line_table.specs.declared.lines.Line.{Line}
 use Rattle.line_table.specs.declared.lines.Line.TheVariants.{S1, S2, S3, S4, S5}
 use Rattle.history.specs.declared.operations.Entry.TheVariants as entry
@@ -11,7 +11,7 @@ use Rattle.history.specs.declared.refusals.WornWord.TheVariants.{Tail as OfTail}
 use Rattle.node_arena.specs.Machine.{Setup, Actor}
 use Rattle.node_arena.specs.Traces.{Event}
 use Rattle.node_arena.specs.Prologues.{Prologue, begins, continues, after_prologue}
-use Rattle.node_arena.specs.declared.arena.Arena.{Arena}
+use Rattle.node_arena.specs.Arenas.{Arena}
 use Rattle.node_arena.specs.declared.seats.Seat.{Seat}
 use Rattle.node_arena.specs.Seats.{IsSeat, IsBefore, KeepsStored, DidStep, view, pocket_of}
 use Rattle.node_arena.specs.Turns.{failed_turns}
@@ -19,9 +19,13 @@ use Rattle.node_arena.specs.Paths.{ExtendsPath, FindsShut, Acts, FailedAt, Ended
 use Rattle.arena_lines.specs.declared.outcomes.Outcome.{Outcome}
 use Rattle.arena_lines.specs.declared.outcomes.Outcome.TheVariants.{Goes, Ends}
 use Rattle.arena_lines.specs.declared.outcomes.Reply.TheVariants.{Done as IsDone, Refused as IsRefused}
-use Rattle.nonblocking.specs.declared.shut_outcomes.Actor.{Actor as Running}
 use Rattle.nonblocking.specs.declared.shut_outcomes.Turn.{Turn}
 use Rattle.nonblocking.specs.declared.shut_outcomes.Turn.TheVariants as turn
+
+-- what a running shut remembers
+pub record Running : Type 0 where
+  pub tail : Ref
+  pub next : Ref
 
 -- how a shut sets out: its first turn begins it, and a later one goes on
 abbrev pub shutting : ℕ → Prologue
@@ -30,16 +34,16 @@ shutting (suc n) = continues
 
 -- what a running shut makes of the number found at a line
 abbrev pub follow : Setup → Running → Line → ℕ → Outcome Running
-follow z a S1 n = Goes S2 (record a { tail = ref_of n })
-follow z a S2 n = Goes S3 (record a { next = ref_of n })
+follow z a S1 n = Goes S2 (record a { tail = ref_of z.bits n })
+follow z a S2 n = Goes S3 (record a { next = ref_of z.bits n })
 follow z a S3 n =
-    if same_ref (ref_of n) a.tail
+    if same_ref (ref_of z.bits n) a.tail
     then if is_null a.next then Goes S4 a
-    else if is_shut a.next then Ends (IsRefused Closed)
+    else if is_shut z.bits a.next then Ends (IsRefused Closed)
     else if nat_eq a.tail.count z.limit then Ends (IsRefused (WornOut OfTail))
     else Goes S5 a
     else Goes S1 a
-follow z a S4 n = if same_ref (ref_of n) a.next then Ends IsDone else Goes S1 a
+follow z a S4 n = if same_ref (ref_of z.bits n) a.next then Ends IsDone else Goes S1 a
 follow z a S5 n = Goes S1 a
 follow z a l n = Goes l a
 

@@ -1,4 +1,4 @@
--- Which words stop a push, a pop or a shut of the non-blocking queue where they are worn out.
+-- Which words stop a push or a pop of the non-blocking queue where they are worn out, and whether Tail stops a shut.
 use Rattle.std.specs.Prelude.{◌≡◌, Option, None, IsSome}
 use Rattle.history.specs.declared.refusals.WornWord.{WornWord}
 use Rattle.history.specs.declared.refusals.WornWord.TheVariants.{Next as OfNext, Tail as OfTail}
@@ -15,7 +15,6 @@ abbrev pub pop_worn : WornWord → Type 0
 pop_worn OfTail = Unit {0}
 pop_worn _ = ⊥
 
--- a shut: Tail alone
-abbrev pub shut_worn : WornWord → Type 0
-shut_worn OfTail = Unit {0}
-shut_worn _ = ⊥
+-- a shut: Tail does
+abbrev pub shut_worn : Type 0
+shut_worn = Unit {0}

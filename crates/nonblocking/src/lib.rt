@@ -12,4 +12,4 @@ mod shut_lines;
 mod shut_outcomes;
 mod shutting;
 
-pub use algorithm::{MsQueue, NonBlockingAlgorithm};
+pub use algorithm::{MsQueue, MsQueueOf, NonBlockingAlgorithm};

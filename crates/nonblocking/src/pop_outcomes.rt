@@ -3,22 +3,33 @@ ghost use Rattle.std.specs.Prelude.{◌≡◌};
 ghost use Rattle.nonblocking.specs.Pops.{turn_of};
 
 use arena_lines::{Outcome, Reply};
-use counted_ref::CountedRef;
+use counted_ref::CountedRefOf;
 use history::Refusal;
 use line_table::Line;
-use node_arena::Held;
+use node_arena::{ArenaOf, Held};
+use std::marker::Model;
 
 /// The registers of a running pop.
 #[derive(Clone, Copy)]
-pub(crate) struct Actor {
-    pub(crate) head: CountedRef,
-    pub(crate) tail: CountedRef,
-    pub(crate) next: CountedRef,
+pub(crate) struct ActorOf<const B: u32> {
+    pub(crate) head: CountedRefOf<B>,
+    pub(crate) tail: CountedRefOf<B>,
+    pub(crate) next: CountedRefOf<B>,
     /// The word of the value that it takes.
     pub(crate) val: u64,
     pub(crate) node: u32,
     pub(crate) mark: u64,
     pub(crate) due: Option<Reply>,
+}
+
+impl<const B: u32> Model for ActorOf<B> {
+    ghost use Rattle.nonblocking.specs.Pops.{Running};
+
+    ghost Value = { Running };
+
+    ghost view = { λ a. record { head = a.head; tail = a.tail; next = a.next; val = a.val; node = a.node; mark = a.mark; due = a.due } };
+
+    ghost inverse = { λ a. record { head = a.head; tail = a.tail; next = a.next; val = a.val; node = a.node; mark = a.mark; due = a.due } };
 }
 
 /// What a turn comes to.
@@ -35,9 +46,9 @@ pub(crate) enum Turn {
 }
 
 /// Registers that hold nothing yet.
-pub(crate) fn blank() -> Actor {
-    let null = CountedRef::new(0, 0);
-    Actor {
+pub(crate) fn blank<const B: u32>(arena: &ArenaOf<B>) -> ActorOf<B> {
+    let null = arena.null();
+    ActorOf {
         head: null,
         tail: null,
         next: null,
@@ -48,7 +59,7 @@ pub(crate) fn blank() -> Actor {
     }
 }
 
-impl Actor {
+impl<const B: u32> ActorOf<B> {
     pub(crate) fn fills_hand(&mut self, node: u32, mark: u64)
         ensures { self.new ≡ record self.old { node = node; mark = mark } }
     {
@@ -58,8 +69,8 @@ impl Actor {
 }
 
 /// The turn that ends so.
-pub(crate) fn turned(outcome: Outcome<Actor>) -> Turn
-    ensures { result ≡ turn_of outcome }
+pub(crate) fn turned<const B: u32>(outcome: Outcome<ActorOf<B>>) -> Turn
+    ensures { result ≡ turn_of outcome.entry }
 {
     match outcome {
         Outcome::Goes(Line::F1, a) => Turn::Took(

@@ -10,27 +10,27 @@ ghost use Rattle.nonblocking.specs.Worn.{pop_worn};
 ghost use Rattle.arena_queue.specs.Answers.{Draws};
 
 use crate::pop_lines::{d2, d3, d4, d5, d10, d12, d13};
-use crate::pop_outcomes::{Actor, Turn, blank, turned};
+use crate::pop_outcomes::{ActorOf, Turn, blank, turned};
 use arena_lines::Outcome;
 use free_list::give_back;
 use history::{Refusal, Taken};
 use line_table::Line;
-use node_arena::{Arena, Seat, value_of};
+use node_arena::{ArenaOf, Seat, value_of};
 
 // The lines D2 to D5, where `index` turns of this pop failed before: Head, Tail, the node after Head's, and Head again.
-fn read_front(arena: &Arena, seat: &mut Seat, index: u32) -> Outcome<Actor>
+fn read_front<const B: u32>(arena: &ArenaOf<B>, seat: &mut Seat, index: u32) -> Outcome<ActorOf<B>>
     requires before { IsBefore arena.now seat.old (popping index) lines.D2 }
     requires non_blocking { IsNonBlocking arena.now }
     ensures { Looks arena.now seat.old seat.new result }
 {
-    let a = d2(arena, seat, blank(), index);
+    let a = d2(arena, seat, blank(arena), index);
     let a = d3(arena, seat, a);
     let a = d4(arena, seat, a);
     d5(arena, seat, a)
 }
 
 // The lines D12 and D13: the value of the node after Head's, and then Head is moved to that node.
-fn move_head(arena: &Arena, seat: &mut Seat, a: Actor) -> Turn
+fn move_head<const B: u32>(arena: &ArenaOf<B>, seat: &mut Seat, a: ActorOf<B>) -> Turn
     requires stands { CallIsAt arena.now seat.old continues lines.D12 a }
     requires non_blocking { IsNonBlocking arena.now }
     requires role { IsTrue (may_pop (role_of seat.old)) }
@@ -43,7 +43,7 @@ fn move_head(arena: &Arena, seat: &mut Seat, a: Actor) -> Turn
 }
 
 // One turn, where `index` turns of this pop failed before.
-fn pop_turn(arena: &Arena, seat: &mut Seat, index: u32) -> Turn
+fn pop_turn<const B: u32>(arena: &ArenaOf<B>, seat: &mut Seat, index: u32) -> Turn
     requires before { IsBefore arena.now seat.old (popping index) lines.D2 }
     requires non_blocking { IsNonBlocking arena.now }
     requires role { IsTrue (may_pop (role_of seat.old)) }
@@ -64,8 +64,8 @@ fn pop_turn(arena: &Arena, seat: &mut Seat, index: u32) -> Turn
 
 // One turn and, where it ends the pop, the answer: a node that comes free is given back with the turns that are left.
 // Before it `index` turns of this pop failed, and `failed` of its call.
-fn pop_by_turn(
-    arena: &Arena,
+fn pop_by_turn<const B: u32>(
+    arena: &ArenaOf<B>,
     seat: &mut Seat,
     index: u32,
     failed: u32,
@@ -97,8 +97,8 @@ fn pop_by_turn(
 }
 
 // The pop with an empty pocket, where `spent` turns of this call failed before.
-pub(crate) fn pop_with_empty_pocket(
-    arena: &Arena,
+pub(crate) fn pop_with_empty_pocket<const B: u32>(
+    arena: &ArenaOf<B>,
     seat: &mut Seat,
     spent: u32,
     turns: u32,

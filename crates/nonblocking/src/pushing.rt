@@ -1,36 +1,39 @@
 //! Pushes a body.
 ghost use Rattle.std.specs.Prelude.{◌≡◌, ◌<◌, IsTrue, Some};
 ghost use Rattle.line_table.specs.declared.lines.Line.TheVariants as lines;
-ghost use Rattle.node_arena.specs.Prologues.{Prologue, continues};
+ghost use Rattle.node_arena.specs.Prologues.{continues};
 ghost use Rattle.node_arena.specs.Plans.{may_push};
 ghost use Rattle.node_arena.specs.Seats.{IsReady, role_of, pocket_of};
 ghost use Rattle.nonblocking.specs.Values.{IsNonBlocking};
 ghost use Rattle.node_arena.specs.Machine.{value_of};
-ghost use Rattle.nonblocking.specs.Pushes.{registers_of, CallIsAt, Fills, Looks, Turns};
+ghost use Rattle.nonblocking.specs.Pushes.{pushing, registers_of, CallIsAt, Fills, Looks, Turns};
 ghost use Rattle.nonblocking.specs.Worn.{push_worn};
 ghost use Rattle.arena_queue.specs.Answers.{Puts};
 
 use crate::push_lines::{e2, e3, e5, e6, e7, e9, e13, e17};
-use crate::push_outcomes::{Actor, Turn, registers};
+use crate::push_outcomes::{ActorOf, Turn, registers};
 use arena_lines::{Outcome, Reply};
 use history::{Body, Refusal};
 use line_table::Line;
-use node_arena::{Arena, Held, Seat, word_of};
+use node_arena::{ArenaOf, Held, Seat, word_of};
 
 // The value is written into the node, and its next is cleared; the count found there is the mark.
-fn fill(arena: &Arena, seat: &mut Seat, a: Actor) -> Outcome<Actor>
-    ghost prologue: { Prologue }
-    requires { CallIsAt arena.now seat.old prologue lines.E2 a }
-    ensures { Fills arena.now seat.old seat.new a result }
+fn fill<const B: u32>(arena: &ArenaOf<B>, seat: &mut Seat, a: ActorOf<B>) -> Outcome<ActorOf<B>>
+    requires stands { CallIsAt arena.now seat.old (pushing a.val) lines.E2 a }
+    ensures { Fills arena.now seat.old seat.new a.entry result }
 {
     let a = e2(arena, seat, a);
     e3(arena, seat, a)
 }
 
 // Tail is read, what follows its node, and Tail again.
-fn read_tail(arena: &Arena, seat: &mut Seat, a: Actor) -> Outcome<Actor>
-    requires { CallIsAt arena.now seat.old continues lines.E5 a }
-    ensures { Looks arena.now seat.old seat.new a result }
+fn read_tail<const B: u32>(
+    arena: &ArenaOf<B>,
+    seat: &mut Seat,
+    a: ActorOf<B>,
+) -> Outcome<ActorOf<B>>
+    requires stands { CallIsAt arena.now seat.old continues lines.E5 a }
+    ensures { Looks arena.now seat.old seat.new a.entry result }
 {
     let a = e5(arena, seat, a);
     let a = e6(arena, seat, a);
@@ -39,10 +42,10 @@ fn read_tail(arena: &Arena, seat: &mut Seat, a: Actor) -> Outcome<Actor>
 
 // One turn, from E5 to its end. At E9 the node is linked behind the last one, and at E17 Tail goes on to it unless another
 // seat was there first.
-fn push_turn(arena: &Arena, seat: &mut Seat, a: Actor) -> Turn
+fn push_turn<const B: u32>(arena: &ArenaOf<B>, seat: &mut Seat, a: ActorOf<B>) -> Turn
     requires stands { CallIsAt arena.now seat.old continues lines.E5 a }
     requires role { IsTrue (may_push (role_of seat.old)) }
-    ensures { Turns arena.now seat.old seat.new a result }
+    ensures { Turns arena.now seat.old seat.new a.entry result }
 {
     match read_tail(arena, seat, a) {
         Outcome::Goes(Line::E9, a) => match e9(arena, seat, a) {
@@ -65,8 +68,8 @@ fn push_turn(arena: &Arena, seat: &mut Seat, a: Actor) -> Turn
 }
 
 // The push with the node in the pocket, where `spent` turns of this call failed before.
-pub(crate) fn push_node(
-    arena: &Arena,
+pub(crate) fn push_node<const B: u32>(
+    arena: &ArenaOf<B>,
     seat: &mut Seat,
     held: Held,
     body: Body,
@@ -81,7 +84,7 @@ pub(crate) fn push_node(
     ensures { Puts push_worn arena.now seat.old seat.new held.node body spent turns result }
 {
     let val = word_of(seat.number(), body.number());
-    let filled = match fill(arena, seat, registers(held, val)) {
+    let filled = match fill(arena, seat, registers(arena, held, val)) {
         Outcome::Goes(_, a) => Held {
             node: a.node,
             mark: a.mark,
@@ -95,7 +98,7 @@ pub(crate) fn push_node(
         },
     };
     for index in spent..turns {
-        match push_turn(arena, seat, registers(filled, val)) {
+        match push_turn(arena, seat, registers(arena, filled, val)) {
             Turn::Pushed => {
                 seat.keep(None, index);
                 return Ok(());

@@ -3,14 +3,26 @@ ghost use Rattle.std.specs.Prelude.{◌≡◌};
 ghost use Rattle.nonblocking.specs.Shuts.{turn_of};
 
 use arena_lines::{Outcome, Reply};
-use counted_ref::CountedRef;
+use counted_ref::CountedRefOf;
 use history::Refusal;
+use node_arena::ArenaOf;
+use std::marker::Model;
 
 /// The registers of a running shut.
 #[derive(Clone, Copy)]
-pub(crate) struct Actor {
-    pub(crate) tail: CountedRef,
-    pub(crate) next: CountedRef,
+pub(crate) struct ActorOf<const B: u32> {
+    pub(crate) tail: CountedRefOf<B>,
+    pub(crate) next: CountedRefOf<B>,
+}
+
+impl<const B: u32> Model for ActorOf<B> {
+    ghost use Rattle.nonblocking.specs.Shuts.{Running};
+
+    ghost Value = { Running };
+
+    ghost view = { λ a. record { tail = a.tail; next = a.next } };
+
+    ghost inverse = { λ a. record { tail = a.tail; next = a.next } };
 }
 
 /// What a turn comes to.
@@ -25,17 +37,17 @@ pub(crate) enum Turn {
 }
 
 /// Registers that hold nothing yet.
-pub(crate) fn blank() -> Actor {
-    let null = CountedRef::new(0, 0);
-    Actor {
+pub(crate) fn blank<const B: u32>(arena: &ArenaOf<B>) -> ActorOf<B> {
+    let null = arena.null();
+    ActorOf {
         tail: null,
         next: null,
     }
 }
 
 /// The turn that ends so.
-pub(crate) fn turned(outcome: Outcome<Actor>) -> Turn
-    ensures { result ≡ turn_of outcome }
+pub(crate) fn turned<const B: u32>(outcome: Outcome<ActorOf<B>>) -> Turn
+    ensures { result ≡ turn_of outcome.entry }
 {
     match outcome {
         Outcome::Ends(Reply::Done) => Turn::Shut,

@@ -9,26 +9,26 @@ ghost use Rattle.nonblocking.specs.Worn.{shut_worn};
 ghost use Rattle.arena_queue.specs.Answers.{AnswersShut};
 
 use crate::shut_lines::{s1, s2, s3, s4, s5};
-use crate::shut_outcomes::{Actor, Turn, blank, turned};
+use crate::shut_outcomes::{ActorOf, Turn, blank, turned};
 use arena_lines::Outcome;
 use history::Refusal;
 use line_table::Line;
-use node_arena::{Arena, Seat};
+use node_arena::{ArenaOf, Seat};
 
 // The lines S1 to S3, where `index` turns of this shut failed before: Tail, what follows its node, and Tail again.
-fn read_end(arena: &Arena, seat: &mut Seat, index: u32) -> Outcome<Actor>
+fn read_end<const B: u32>(arena: &ArenaOf<B>, seat: &mut Seat, index: u32) -> Outcome<ActorOf<B>>
     requires before { IsBefore arena.now seat.old (shutting index) lines.S1 }
     requires pocket { HasPocket arena.now seat.old (shutting index) }
     ensures { Looks arena.now seat.old seat.new result }
 {
-    let a = s1(arena, seat, blank(), index);
+    let a = s1(arena, seat, blank(arena), index);
     let a = s2(arena, seat, a);
     s3(arena, seat, a)
 }
 
 // One turn, where `index` turns of this shut failed before. At S4 the closed end is put behind the last node; where Tail lags,
 // it goes on at S5.
-fn shut_turn(arena: &Arena, seat: &mut Seat, index: u32) -> Turn
+fn shut_turn<const B: u32>(arena: &ArenaOf<B>, seat: &mut Seat, index: u32) -> Turn
     requires before { IsBefore arena.now seat.old (shutting index) lines.S1 }
     requires pocket { HasPocket arena.now seat.old (shutting index) }
     requires role { IsTrue (may_push (role_of seat.old)) }
@@ -48,7 +48,11 @@ fn shut_turn(arena: &Arena, seat: &mut Seat, index: u32) -> Turn
 }
 
 // The shut, which leaves the pocket alone.
-pub(crate) fn shut_queue(arena: &Arena, seat: &mut Seat, turns: u32) -> Result<(), Refusal>
+pub(crate) fn shut_queue<const B: u32>(
+    arena: &ArenaOf<B>,
+    seat: &mut Seat,
+    turns: u32,
+) -> Result<(), Refusal>
     requires ready { IsReady arena.now seat.old }
     requires non_blocking { IsNonBlocking arena.now }
     requires role { IsTrue (may_push (role_of seat.old)) }

@@ -3,6 +3,7 @@ mod calls;
 mod comparing;
 mod nonblocking_runs;
 mod runs;
+mod splits;
 mod threads;
 mod two_lock_runs;
 mod waiting;

@@ -1,18 +1,21 @@
 -- Events that are made as a source gives them.
 use Rattle.std.proofs.Common.{◌≡◌, ℕ, ◌+◌, ◌*◌, ◌^◌, ◌<◌, ◌≤◌, List, [], ◌∷◌, ◌++◌, length, Option, None, Some, true, refl, sym, ap, subst, arith, zero-add, length-append}
-use Rattle.std.specs.Prelude.{IfSome}
+use Rattle.std.specs.Prelude.{IfSome, Ok}
 use Rattle.std.specs.Io.KnownBytes.{prepend_known}
 use Rattle.engine_faults.specs.Faults.{IsEventFault, IsMoveRefusal}
 use Rattle.history.specs.declared.refusals.Refusal.{Refusal}
 use Rattle.history.specs.declared.refusals.Refusal.TheVariants.{Memory, Text, Read}
-use Rattle.schedule_text.specs.EventStreams.{EventStream, IsStarted, GaveEvent, GaveAll, IsRefused, IsRefusedNext, IsRefusedReading, HasRead, HasReadAll, schedule_with}
-use Rattle.schedule_text.specs.Schedules.{Schedule}
+use Rattle.schedule_text.specs.EventStreams.{EventStream, IsStarted, GaveEvent, GaveAll, IsRefused, IsNext, IsRefusedNext, IsRefusedReading, HasRead, HasReadAll, schedule_with}
+use Rattle.schedule_text.specs.declared.event_stream.Stage.TheVariants.{Going}
+use Rattle.schedule_text.specs.Schedules.{Schedule, header_lines}
 use Rattle.schedule_text.specs.Streaming.{IsFirstFaultFrom}
 use Rattle.schedule_text.specs.Streams.{stream}
 use Rattle.schedule_text.specs.Texts.{version_due, schedule_text}
 use Rattle.schedule_text.specs.declared.parsing.Header.{Header}
 use Rattle.schedule_text.specs.declared.schedules.Event.{Event}
-use Rattle.schedule_text.proofs.EventStreams.{HasRead-started, HasRead-event, HasRead-refused, HasRead-all, refused_reading}
+use Rattle.schedule_text.specs.declared.schedules.Version.{Version}
+use Rattle.schedule_text.specs.declared.schedules.Version.TheVariants.{One, Two}
+use Rattle.schedule_text.proofs.EventStreams.{HasRead-started, HasRead-event, HasRead-refused, HasRead-all, gave_event, gave_all, refused_reading}
 use Rattle.schedule_text.proofs.Streams.{prepend-nothing}
 use Rattle.text_io.specs.Devices.{SourceState}
 use Rattle.text_io.specs.Readings.{WereAll, ReachesEnd, EndsReadingAt}
@@ -20,6 +23,7 @@ use Rattle.step_machine.specs.Calls.{setup_from}
 use Rattle.step_machine.specs.Machine.{World, opening}
 use Rattle.text_lines.specs.declared.causes.TextCause.{TextCause}
 use Rattle.run_engine.specs.Runs.{opening_of, EventLeads, EventsLead, EventRefused, IsFaultyAt, IsRunFault, IsRunOf, RunRefused, StopsRun, TellsFaultyLine}
+use Rattle.run_engine.specs.Starts.{IsBegun, WasBegun}
 use Rattle.run_engine.proofs.Leading.{EventsLead-one_more, world_after-moves_of}
 use Rattle.run_engine.proofs.Stops.{EventsRefused_behind}
 
@@ -29,18 +33,23 @@ pub record HasMade (s : EventStream) (w : World) (line : ℕ) (first mid : Sourc
   pub read : HasRead s events first mid
   pub led : EventsLead (opening_of (schedule_with s.header events)) events w
   pub steps : w.steps ≤ length events * 1000000
-  pub counted : line ≡ 7 + length events
+  pub counted : line ≡ header_lines s.header.version + 1 + length events
+
+-- six lines or seven stand before the events
+header_few : (v : Version) → (6 ≤ header_lines v) × (header_lines v ≤ 7)
+header_few One = (omega arith, omega arith)
+header_few Two = (omega arith, omega arith)
 
 -- none was read
-pub HasMade-started : (s : EventStream) (h : Header) (w : World) (first mid : SourceState) → IsStarted s first mid → h ≡ s.header
-    → w ≡ opening (setup_from h.kind h.nodes h.limit) h.actors → HasMade s w 7 first mid
-HasMade-started s h w first mid started same is =
+pub HasMade-started : (s : EventStream) (h : Header) (w : World) (line : ℕ) (first mid : SourceState) → IsStarted s first mid → h ≡ s.header
+    → w ≡ opening (setup_from h.bits h.kind h.nodes h.limit) h.actors → line ≡ header_lines s.header.version + 1 → HasMade s w line first mid
+HasMade-started s h w line first mid started same is at =
     let none : w.steps ≡ 0 = ap (λ (v : World). v.steps) is in
-    let led = subst (λ (g : Header). w ≡ opening (setup_from g.kind g.nodes g.limit) g.actors) same is in
-    record { events = []; read = HasRead-started s [] first mid refl started; led = sym led; steps = omega (arith, none); counted = refl }
+    let led = subst (λ (g : Header). w ≡ opening (setup_from g.bits g.kind g.nodes g.limit) g.actors) same is in
+    record { events = []; read = HasRead-started s [] first mid refl started; led = sym led; steps = omega (arith, none); counted = omega (arith, at) }
 
 -- one more was
-pub HasMade-event : (s t : EventStream) (w v : World) (line : ℕ) (event : Event) (first mid new : SourceState) → HasMade s w line first mid
+HasMade-event : (s t : EventStream) (w v : World) (line : ℕ) (event : Event) (first mid new : SourceState) → HasMade s w line first mid
     → GaveEvent event s t mid new → EventLeads w event v → v.steps ≤ w.steps + 1000000 → HasMade t v (line + 1) first new
 HasMade-event s t w v line event first mid new made gave leads few =
     let events = made.events in
@@ -51,15 +60,32 @@ HasMade-event s t w v line event first mid new made gave leads few =
           subst (λ (h : Header). EventsLead (opening_of (schedule_with h events)) (events ++ event ∷ []) v) (sym gave.header)
           (EventsLead-one_more events event (opening_of (schedule_with s.header events)) w v made.led leads);
       steps = omega (arith, length-append events (event ∷ []), made.steps, few);
-      counted = omega (arith, length-append events (event ∷ []), made.counted);
+      counted = omega (arith, length-append events (event ∷ []), made.counted, ap (λ (h : Header). header_lines h.version) gave.header);
     }
+
+-- so too by what the call told
+pub HasMade-told : (s t : EventStream) (w v : World) (line : ℕ) (event : Event) (first mid new : SourceState) (next : Option Event) → HasMade s w line first mid → next ≡ Some event
+    → (s.stage ≡ Going → IsNext s t mid new (Ok next)) → EventLeads w event v → v.steps ≤ w.steps + 1000000 → HasMade t v (line + 1) first new
+HasMade-told s t w v line event first mid new next made is told leads few =
+    HasMade-event s t w v line event first mid new made (gave_event s t mid new next event is (told made.read.going)) leads few
 
 -- few step numbers are used then, and few lines were read
 pub HasMade-few : (s : EventStream) (w : World) (line : ℕ) (first mid : SourceState) → HasMade s w line first mid → w.steps + 1000001 < 2 ^ 64
 HasMade-few s w line first mid made = omega (arith, made.steps, made.read.counted, made.read.range.events)
 
-pub HasMade-line : (s : EventStream) (w : World) (line : ℕ) (first mid : SourceState) → HasMade s w line first mid → (7 ≤ line) × (line ≤ 1000007)
-HasMade-line s w line first mid made = (omega (arith, made.counted), omega (arith, made.counted, made.read.counted, made.read.range.events))
+pub HasMade-line : (s : EventStream) (w : World) (line : ℕ) (first mid : SourceState) → HasMade s w line first mid → (7 ≤ line) × (line ≤ 1000008)
+HasMade-line s w line first mid made =
+    let few = header_few s.header.version in
+    (omega (arith, few.0, made.counted), omega (arith, few.1, made.counted, made.read.counted, made.read.range.events))
+
+-- the events were made from where they began, wherever that was
+pub record MadeSoFar (begun : EventStream) (before : SourceState) (s : EventStream) (w : World) (line : ℕ) (now : SourceState) : Type 0 where
+  pub somewhere : WasBegun begun before
+  pub made : (first : SourceState) → IsBegun first begun before → HasMade s w line (stream [] first) (stream s.ahead now)
+
+-- so they were made from there
+pub made_somewhere : (begun s : EventStream) (w : World) (line : ℕ) (before now : SourceState) → (h : MadeSoFar begun before s w line now) → HasMade s w line (stream [] h.somewhere.0) (stream s.ahead now)
+made_somewhere begun s w line before now h = h.made h.somewhere.0 h.somewhere.1
 
 -- the bytes that a source gives were those of a text
 all_of : (known : Option (List ℕ)) (text : List ℕ) → IfSome (prepend_known [] known) (λ bytes. bytes ≡ text) → WereAll known text
@@ -93,7 +119,7 @@ module _ (old : SourceState) where
   first = stream [] old
 
   -- where all was read, the world is that of the schedule
-  pub ran : (s t : EventStream) (w : World) (line : ℕ) (mid new : SourceState) → HasMade s w line first mid → GaveAll s t mid new
+  ran : (s t : EventStream) (w : World) (line : ℕ) (mid new : SourceState) → HasMade s w line first mid → GaveAll s t mid new
       → IsRunOf old.left w.operations × (new.failures ≡ old.failures) × (new.has_ended ≡ true)
   ran s t w line mid new made gave =
       let all = HasRead-all s t made.events first mid new made.read gave in
@@ -110,6 +136,11 @@ module _ (old : SourceState) where
         all.quiet,
         all.ended,
       )
+
+  -- so too by what the last call told
+  pub ran_by : (s t : EventStream) (w : World) (line : ℕ) (mid new : SourceState) (next : Option Event) → HasMade s w line first mid → next ≡ None
+      → (s.stage ≡ Going → IsNext s t mid new (Ok next)) → IsRunOf old.left w.operations × (new.failures ≡ old.failures) × (new.has_ended ≡ true)
+  ran_by s t w line mid new next made none told = ran s t w line mid new made (gave_all s t mid new next none (told made.read.going))
 
   -- where the reading is refused, nothing is run
   pub stopped_reading : (new : SourceState) (why : Refusal) → IsRefusedReading old new why → StopsRun old new why None
@@ -136,7 +167,11 @@ module _ (old : SourceState) where
       (refused_reading old new t.ahead why (HasRead-refused s t made.events first mid (stream t.ahead new) made.read why refused))
 
   -- where an event is refused, the rest is read
-  module _ (s t : EventStream) (w : World) (at : ℕ) (event : Event) (mid later : SourceState) (made : HasMade s w at first mid) (gave : GaveEvent event s t mid (stream t.ahead later)) where
+  module _ (s t : EventStream) (w : World) (at : ℕ) (event : Event) (mid later : SourceState) (next_event : Option Event) (made : HasMade s w at first mid) (is : next_event ≡ Some event)
+      (told_next : s.stage ≡ Going → IsNext s t mid (stream t.ahead later) (Ok next_event)) where
+    gave : GaveEvent event s t mid (stream t.ahead later)
+    gave = gave_event s t mid (stream t.ahead later) next_event event is (told_next made.read.going)
+
     abbrev given : List Event
     given = made.events ++ event ∷ []
 
@@ -163,7 +198,9 @@ module _ (old : SourceState) where
           schedule = schedule;
           in_range = all.range;
           read = all_of old.left (schedule_text schedule) all.text;
-          refused = EventsRefused_behind made.events more event at (opening_of schedule) w why made.counted led refused;
+          refused =
+              EventsRefused_behind made.events more event (header_lines t.header.version) at (opening_of schedule) w why
+              (omega (arith, made.counted, ap (λ (h : Header). header_lines h.version) gave.header)) led refused;
         }
 
     refused_in : (more : List Event) (new : SourceState) (why : Refusal) (line : Option ℕ) → HasReadAll (schedule_with t.header (given ++ more)) first new

@@ -2,7 +2,7 @@
 use Rattle.std.proofs.Common.{◌≡◌, ℕ, ◌⊎◌, inl, inr, Option, Some, None, refl, ap}
 use Rattle.history.specs.declared.operations.Reply.{Reply}
 use Rattle.line_table.specs.declared.lines.Line.{Line}
-use Rattle.line_steps.specs.declared.actors.Actor.{Actor}
+use Rattle.line_steps.specs.Actors.{Actor}
 use Rattle.step_machine.specs.declared.actors.Stepped.{Stepped}
 use Rattle.step_machine.specs.declared.actors.Stepped.TheVariants.{Began, Went, Ended}
 use Rattle.step_machine.specs.Calls.{line_of, step_answer, stepped_at}

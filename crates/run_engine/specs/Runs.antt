@@ -15,7 +15,7 @@ use Rattle.step_machine.specs.Calls.{setup_from, line_of, BeginRefused, StepRefu
 use Rattle.step_machine.specs.Machine.{World, actor_of, opening, made, run}
 use Rattle.schedule_text.specs.declared.schedules.Event.{Event}
 use Rattle.schedule_text.specs.declared.schedules.Event.TheVariants.{Begin, Step as StepAt, Steps, Give}
-use Rattle.schedule_text.specs.Schedules.{Schedule, moves_of, moves_of_event}
+use Rattle.schedule_text.specs.Schedules.{Schedule, header_lines, moves_of, moves_of_event}
 use Rattle.schedule_text.specs.Texts.{schedule_lines, schedule_text, version_due, IsInRange}
 use Rattle.text_io.specs.Devices.{SourceState, SinkState}
 use Rattle.text_io.specs.Readings.{WereAll, ReachesEnd, EndsReadingAt}
@@ -28,7 +28,7 @@ world_after moves w = run (map made moves) w
 
 -- the world of a schedule's queue and actors in which nothing happened yet
 abbrev pub opening_of : Schedule → World
-opening_of s = opening (setup_from s.kind s.nodes s.limit) s.actors
+opening_of s = opening (setup_from s.bits s.kind s.nodes s.limit) s.actors
 
 -- the world that the moves of a schedule lead to; none where one of them can't be made
 abbrev pub world_of : Schedule → Option World
@@ -75,13 +75,13 @@ EventRefused w (StepAt me line) why = StepAtRefused w me line why
 EventRefused w (Steps me count) why = StepsRefused w me count why
 EventRefused w (Give me) why = GiveRefused w me why
 
--- events are refused at one of them, after those before it; the first event stands in line 7
-pub record EventsRefused (w : World) (events : List Event) (line : ℕ) (why : Refusal) : Type 0 where
+-- events are refused at one of them, after those before it; the first event stands behind so many lines
+pub record EventsRefused (header : ℕ) (w : World) (events : List Event) (line : ℕ) (why : Refusal) : Type 0 where
   pub before : List Event
   pub event : Event
   pub later : List Event
   pub split : events ≡ before ++ event ∷ later
-  pub counted : line ≡ 7 + length before
+  pub counted : line ≡ header + 1 + length before
   pub world : World
   pub led : EventsLead w before world
   pub refused : EventRefused world event why
@@ -114,7 +114,7 @@ pub record RunRefused (given : Option (List ℕ)) (line : ℕ) (why : Refusal) :
   pub schedule : Schedule
   pub in_range : IsInRange schedule
   pub read : WereAll given (schedule_text schedule)
-  pub refused : EventsRefused (opening_of schedule) schedule.events line why
+  pub refused : EventsRefused (header_lines schedule.version) (opening_of schedule) schedule.events line why
 
 -- known bytes have their first faulty line as a schedule here, with this cause
 abbrev pub IsFaultyAt : (given : Option (List ℕ)) → (line : ℕ) → TextCause → Type 0

@@ -3,7 +3,7 @@ ghost use Rattle.std.specs.Prelude.{◌≡◌, ◌≢◌, IfErr, IfOk, IfSome, O
 ghost use Rattle.run_engine.specs.Runs.{BeginsRun, WritesRun, EndsReading, IsRunFault, IsRunOf, RunRefused, TellsFaultyLine};
 ghost use Rattle.text_io.specs.Blocks.{GivesUp};
 
-use crate::streaming::world_of_text;
+use crate::streaming::history_of_text;
 use engine_faults::Fault;
 use history::{Refusal, Stamped};
 use history_text::print_history;
@@ -20,8 +20,7 @@ fn history_of<R: Source>(alloc: Global, reader: &mut R) -> Result<Vec<Stamped>, 
     ensures unwritten { IfErr result (λ fault. fault.refusal ≢ Refusal.Write) }
     ensures reader { EndsReading result (R.state reader.old) (R.state reader.new) }
 {
-    let world = world_of_text(alloc, reader)?;
-    let history = world.history(alloc)?;
+    let history = history_of_text(alloc, reader)?;
     Ok(history)
 }
 

@@ -10,11 +10,11 @@ ghost use Rattle.engine_faults.specs.Faults.{IsMoveRefusal};
 use history::{Refusal, Reply};
 use line_table::Line;
 use schedule_text::Event;
-use step_machine::{Stepped, World};
+use step_machine::{Stepped, WorldOf};
 
 /// Takes one step of an actor, and answers the line at which it was taken.
-fn take_step(world: &mut World, actor: u16) -> Result<Line, Refusal>
-    requires { world.old.steps + 1 < 2 ^ 64 }
+fn take_step<const B: u32>(world: &mut WorldOf<B>, actor: u16) -> Result<Line, Refusal>
+    requires left { world.old.steps + 1 < 2 ^ 64 }
     ensures ok { OnOk result (next world.old (Step actor) ≡ Some world.new) }
     ensures at { IfOk result (λ line. line_of (actor_of world.old actor) ≡ Some line) }
     ensures steps { OnOk result (world.new.steps ≡ world.old.steps + 1) }
@@ -30,8 +30,8 @@ fn take_step(world: &mut World, actor: u16) -> Result<Line, Refusal>
 }
 
 /// Takes one step of an actor, which has to be one at this line.
-fn take_step_at(world: &mut World, actor: u16, line: Line) -> Result<(), Refusal>
-    requires { world.old.steps + 1 < 2 ^ 64 }
+fn take_step_at<const B: u32>(world: &mut WorldOf<B>, actor: u16, line: Line) -> Result<(), Refusal>
+    requires left { world.old.steps + 1 < 2 ^ 64 }
     ensures ok { OnOk result (EventLeads world.old (Event.Step actor line) world.new) }
     ensures steps { OnOk result (world.new.steps ≡ world.old.steps + 1) }
     ensures kind { IfErr result IsMoveRefusal }
@@ -44,8 +44,8 @@ fn take_step_at(world: &mut World, actor: u16, line: Line) -> Result<(), Refusal
 }
 
 /// Takes so many steps of one actor.
-fn take_steps(world: &mut World, actor: u16, count: u32) -> Result<(), Refusal>
-    requires { world.old.steps + count + 1 < 2 ^ 64 }
+fn take_steps<const B: u32>(world: &mut WorldOf<B>, actor: u16, count: u32) -> Result<(), Refusal>
+    requires left { world.old.steps + count + 1 < 2 ^ 64 }
     ensures ok { OnOk result (world_after (replicate count (Step actor)) world.old ≡ Some world.new) }
     ensures steps { OnOk result (world.new.steps ≤ world.old.steps + count) }
     ensures kind { IfErr result IsMoveRefusal }
@@ -58,8 +58,8 @@ fn take_steps(world: &mut World, actor: u16, count: u32) -> Result<(), Refusal>
 }
 
 /// Gives up the call of an actor.
-fn give_up(world: &mut World, actor: u16) -> Result<(), Refusal>
-    requires { world.old.steps + 1 < 2 ^ 64 }
+fn give_up<const B: u32>(world: &mut WorldOf<B>, actor: u16) -> Result<(), Refusal>
+    requires left { world.old.steps + 1 < 2 ^ 64 }
     ensures ok { OnOk result (next world.old (Give actor) ≡ Some world.new) }
     ensures steps { OnOk result (world.new.steps ≡ world.old.steps + 1) }
     ensures kind { IfErr result IsMoveRefusal }
@@ -72,7 +72,7 @@ fn give_up(world: &mut World, actor: u16) -> Result<(), Refusal>
 }
 
 /// Makes the moves of an event. Where the event is refused, the world is whatever its moves left.
-pub(crate) fn make(world: &mut World, event: Event) -> Result<(), Refusal>
+pub(crate) fn make<const B: u32>(world: &mut WorldOf<B>, event: Event) -> Result<(), Refusal>
     requires range { IsEventInRange event }
     requires left { world.old.steps + 1000001 < 2 ^ 64 }
     ensures ok { OnOk result (EventLeads world.old event world.new) }
@@ -81,7 +81,7 @@ pub(crate) fn make(world: &mut World, event: Event) -> Result<(), Refusal>
     ensures refused { IfErr result (EventRefused world.old event) }
 {
     match event {
-        Event::Begin(actor, call) => world.begin(actor, call.op()),
+        Event::Begin(actor, op) => world.begin(actor, op),
         Event::Step(actor, line) => take_step_at(world, actor, line),
         Event::Steps(actor, count) => take_steps(world, actor, count),
         Event::Give(actor) => give_up(world, actor),

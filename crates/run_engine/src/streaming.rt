@@ -1,7 +1,9 @@
 //! Makes the events of a schedule as a source gives them.
 ghost use Rattle.std.specs.Prelude.{◌≡◌, ◌++◌, List, IfErr, IfOk, OnOk};
 ghost use Rattle.history.specs.declared.refusals.Refusal.TheVariants.{Memory};
+ghost use Rattle.counted_ref.specs.Ref.{IsSplit};
 ghost use Rattle.run_engine.specs.Runs.{IsRunOf, StopsRun};
+ghost use Rattle.run_engine.specs.Starts.{IsBegun, WasBegun};
 ghost use Rattle.text_io.specs.Devices.{SourceState};
 ghost use Rattle.text_io.specs.Readings.{ReachesEnd};
 ghost use Rattle.schedule_text.specs.EventStreams.{HasRead, HasReadAll, IsRefused, schedule_with};
@@ -15,24 +17,32 @@ ghost use Rattle.step_machine.specs.Machine.{opening};
 
 use crate::running::make;
 use engine_faults::Fault;
-use history::Refusal;
+use history::{Refusal, Stamped};
 use schedule_text::{EventStream, Header};
 use std::alloc::Global;
-use step_machine::World;
+use step_machine::WorldOf;
 use text_io::Source;
 
-/// The line of a schedule's first event.
-const FIRST_EVENT_LINE: u64 = 7;
+/// Calls the function for worlds of so many bits, one of those that are listed.
+macro_rules! by_bits {
+    ($bits:expr, $run:ident $given:tt $($each:literal)*) => {
+        match $bits {
+            $($each => $run::<$each, R> $given,)*
+            _ => unreachable!(),
+        }
+    };
+}
 
 /// The world of a schedule in which nothing happened yet.
-fn opening_world(alloc: Global, header: &Header) -> Result<World, Refusal>
-    requires { IsHeaderInRange header.now }
+fn opening_world<const B: u32>(alloc: Global, header: &Header) -> Result<WorldOf<B>, Refusal>
+    requires range { IsHeaderInRange header.now }
+    requires bits { header.now.bits ≡ B }
     ensures ok { IfOk result (λ w. w ≡ opening
-        (setup_from header.now.kind header.now.nodes header.now.limit) header.now.actors) }
+        (setup_from header.now.bits header.now.kind header.now.nodes header.now.limit) header.now.actors) }
     ensures err { IfErr result (λ why. why ≡ Memory) }
 {
     let actors = u32::from(header.actors);
-    World::new(alloc, header.kind, header.nodes, header.limit, actors)
+    WorldOf::new(alloc, header.kind, header.nodes, header.limit, actors)
 }
 
 /// Reads the rest of a schedule, to the end of its source, and makes none of its events.
@@ -50,27 +60,69 @@ fn read_rest<R: Source>(events: &mut EventStream, reader: &mut R) -> Result<(), 
     Ok(())
 }
 
-/// The world that a schedule leads to, whose text a source gives.
+/// The history of the events that a stream begins to give, made on a world of `B` bits.
 ///
 /// Where an event is refused, the rest of the text is read first, since a fault there is told in its place.
-pub(crate) fn world_of_text<R: Source>(alloc: Global, reader: &mut R) -> Result<World, Fault>
-    ensures ok { IfOk result (λ world. IsRunOf (R.state reader.old).left world.operations) }
-    ensures end { OnOk result (ReachesEnd (R.state reader.old) (R.state reader.new)) }
-    ensures err { IfErr result (λ fault. StopsRun (R.state reader.old) (R.state reader.new)
-        fault.refusal fault.line) }
+fn history_with<const B: u32, R: Source>(
+    alloc: Global,
+    events: &mut EventStream,
+    reader: &mut R,
+) -> Result<Vec<Stamped>, Fault>
+    requires bits { events.old.header.bits ≡ B }
+    requires begun { WasBegun events.old (R.state reader.old) }
+    ensures ok { IfOk result (λ history. (first : SourceState) → IsBegun first events.old (R.state reader.old)
+        → IsRunOf first.left history.items) }
+    ensures end { OnOk result ((first : SourceState) → IsBegun first events.old (R.state reader.old)
+        → ReachesEnd first (R.state reader.new)) }
+    ensures err { IfErr result (λ fault. (first : SourceState) → IsBegun first events.old (R.state reader.old)
+        → StopsRun first (R.state reader.new) fault.refusal fault.line) }
 {
-    let mut stream = EventStream::start(reader)?;
-    let mut world = opening_world(alloc, stream.header())?;
-    let mut line = FIRST_EVENT_LINE;
-    while let Some(event) = stream.next(reader)? {
+    let mut world = opening_world::<B>(alloc, events.header())?;
+    let mut line = events.header().version.header_lines() + 1;
+    while let Some(event) = events.next(reader)? {
         match make(&mut world, event) {
             Ok(()) => line += 1,
             Err(Refusal::Memory) => return Err(Fault::from(Refusal::Memory)),
             Err(refusal) => {
-                read_rest(&mut stream, reader)?;
+                read_rest(events, reader)?;
                 return Err(Fault::at(line, refusal));
             }
         }
     }
-    Ok(world)
+    let history = world.history(alloc)?;
+    Ok(history)
+}
+
+/// The same on a world of as many bits as the header says.
+fn history_in<R: Source>(
+    alloc: Global,
+    events: &mut EventStream,
+    reader: &mut R,
+) -> Result<Vec<Stamped>, Fault>
+    requires split { IsSplit events.old.header.bits }
+    requires begun { WasBegun events.old (R.state reader.old) }
+    ensures ok { IfOk result (λ history. (first : SourceState) → IsBegun first events.old (R.state reader.old)
+        → IsRunOf first.left history.items) }
+    ensures end { OnOk result ((first : SourceState) → IsBegun first events.old (R.state reader.old)
+        → ReachesEnd first (R.state reader.new)) }
+    ensures err { IfErr result (λ fault. (first : SourceState) → IsBegun first events.old (R.state reader.old)
+        → StopsRun first (R.state reader.new) fault.refusal fault.line) }
+{
+    let bits = events.header().bits;
+    by_bits!(bits, history_with (alloc, events, reader)
+        16 17 18 19 20 21 22 23 24 25 26 27 28 29 30 31 32)
+}
+
+/// The history of the schedule whose text a source gives.
+pub(crate) fn history_of_text<R: Source>(
+    alloc: Global,
+    reader: &mut R,
+) -> Result<Vec<Stamped>, Fault>
+    ensures ok { IfOk result (λ history. IsRunOf (R.state reader.old).left history.items) }
+    ensures end { OnOk result (ReachesEnd (R.state reader.old) (R.state reader.new)) }
+    ensures err { IfErr result (λ fault. StopsRun (R.state reader.old) (R.state reader.new)
+        fault.refusal fault.line) }
+{
+    let mut events = EventStream::start(reader)?;
+    history_in(alloc, &mut events, reader)
 }

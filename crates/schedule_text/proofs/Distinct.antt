@@ -1,7 +1,7 @@
 -- No two things that a line may say have the same words.
 use Rattle.std.proofs.Common.{◌≡◌, ℕ, ◌+◌, List, [], length, get_or, drop, refl, sym, ap, ap₂, ◌∙◌, ◌*◌, arith}
-use Rattle.schedule_text.specs.declared.schedules.Call.{Call}
-use Rattle.schedule_text.specs.declared.schedules.Call.TheVariants.{Enq, Deq}
+use Rattle.history.specs.declared.operations.Op.{Op}
+use Rattle.history.specs.declared.operations.Op.TheVariants.{Enq, Deq, Shut}
 use Rattle.line_table.specs.declared.lines.Kind.{Kind}
 use Rattle.line_table.specs.declared.lines.Kind.TheVariants.{TwoLock, NonBlocking}
 use Rattle.line_table.proofs.Names.{name_of-differs}
@@ -9,8 +9,10 @@ use Rattle.text_lines.proofs.Numerals.{numeral_injective}
 use Rattle.schedule_text.specs.declared.schedules.Event.{Event}
 use Rattle.schedule_text.specs.declared.schedules.Event.TheVariants.{Begin, Step, Steps, Give}
 use Rattle.schedule_text.specs.declared.fields.Field.{Field}
-use Rattle.schedule_text.specs.declared.fields.Field.TheVariants.{Nodes, Limit, Actors, Events}
-use Rattle.schedule_text.specs.Texts.{Said, version, queue, number, happens, said_words, event_words, call_words, kind_name}
+use Rattle.schedule_text.specs.declared.fields.Field.TheVariants.{Bits, Nodes, Limit, Actors, Events}
+use Rattle.schedule_text.specs.declared.schedules.Version.{Version}
+use Rattle.schedule_text.specs.declared.schedules.Version.TheVariants.{One, Two}
+use Rattle.schedule_text.specs.Texts.{Said, version, queue, number, happens, said_words, event_words, call_words, kind_name, version_name}
 
 -- the word of a place in a list of words
 abbrev word_at : ℕ → List (List ℕ) → List ℕ
@@ -26,11 +28,26 @@ kind_same NonBlocking NonBlocking same = refl
 kind_same TwoLock NonBlocking same = let long : ◌≡◌ {A = ℕ} 8 11 = ap length same in absurd (omega (arith, long))
 kind_same NonBlocking TwoLock same = let long : ◌≡◌ {A = ℕ} 11 8 = ap length same in absurd (omega (arith, long))
 
-call_same : (a b : Call) → call_words a ≡ call_words b → a ≡ b
+version_same : (a b : Version) → version_name a ≡ version_name b → a ≡ b
+version_same One One same = refl
+version_same Two Two same = refl
+version_same One Two same = let first : ◌≡◌ {A = ℕ} 49 50 = ap (λ w. get_or w 0 0) same in absurd (omega (arith, first))
+version_same Two One same = let first : ◌≡◌ {A = ℕ} 50 49 = ap (λ w. get_or w 0 0) same in absurd (omega (arith, first))
+
+-- the length of the first word
+abbrev width : List (List ℕ) → ℕ
+width words = length (word_at 0 words)
+
+call_same : (a b : Op) → call_words a ≡ call_words b → a ≡ b
 call_same (Enq m) (Enq n) same = ap Enq (numeral_injective m n (ap (word_at 1) same))
 call_same Deq Deq same = refl
+call_same Shut Shut same = refl
 call_same (Enq m) Deq same = let long : ◌≡◌ {A = ℕ} 2 1 = ap length same in absurd (omega (arith, long))
+call_same (Enq m) Shut same = let long : ◌≡◌ {A = ℕ} 2 1 = ap length same in absurd (omega (arith, long))
 call_same Deq (Enq n) same = let long : ◌≡◌ {A = ℕ} 1 2 = ap length same in absurd (omega (arith, long))
+call_same Deq Shut same = let long : ◌≡◌ {A = ℕ} 3 4 = ap width same in absurd (omega (arith, long))
+call_same Shut (Enq n) same = let long : ◌≡◌ {A = ℕ} 1 2 = ap length same in absurd (omega (arith, long))
+call_same Shut Deq same = let long : ◌≡◌ {A = ℕ} 4 3 = ap width same in absurd (omega (arith, long))
 
 -- that number for each form of an event, and of a field
 abbrev event_mark : Event → ℕ
@@ -46,12 +63,14 @@ mark-event (Steps a k) = refl
 mark-event (Give a) = refl
 
 abbrev field_mark : Field → ℕ
+field_mark Bits = 4098
 field_mark Nodes = 5110
 field_mark Limit = 5108
 field_mark Actors = 6097
 field_mark Events = 6101
 
 mark-field : (f : Field) (n : ℕ) → mark (said_words (number f n)) ≡ field_mark f
+mark-field Bits n = refl
 mark-field Nodes n = refl
 mark-field Limit n = refl
 mark-field Actors n = refl
@@ -68,10 +87,12 @@ event_same (Steps a k) _ same marks = absurd (omega (arith, marks))
 event_same (Give a) _ same marks = absurd (omega (arith, marks))
 
 field_same : (f g : Field) → field_mark f ≡ field_mark g → f ≡ g
+field_same Bits Bits marks = refl
 field_same Nodes Nodes marks = refl
 field_same Limit Limit marks = refl
 field_same Actors Actors marks = refl
 field_same Events Events marks = refl
+field_same Bits _ marks = absurd (omega (arith, marks))
 field_same Nodes _ marks = absurd (omega (arith, marks))
 field_same Limit _ marks = absurd (omega (arith, marks))
 field_same Actors _ marks = absurd (omega (arith, marks))
@@ -79,13 +100,13 @@ field_same Events _ marks = absurd (omega (arith, marks))
 
 -- the number for a line; a field's number is none of the others
 abbrev said_mark : Said → ℕ
-said_mark version = 3109
+said_mark (version v) = 3109
 said_mark (queue kind) = 5113
 said_mark (number field n) = field_mark field
 said_mark (happens event) = event_mark event
 
 mark-said : (said : Said) → mark (said_words said) ≡ said_mark said
-mark-said version = refl
+mark-said (version v) = refl
 mark-said (queue kind) = refl
 mark-said (number field n) = mark-field field n
 mark-said (happens event) = mark-event event
@@ -108,25 +129,26 @@ event_early (Steps a k) = ((λ same. omega (arith, same)), (λ same. omega (arit
 event_early (Give a) = ((λ same. omega (arith, same)), (λ same. omega (arith, same)))
 
 field_early : (f : Field) → (3109 ≡ field_mark f → ⊥) × (5113 ≡ field_mark f → ⊥)
+field_early Bits = ((λ same. omega (arith, same)), (λ same. omega (arith, same)))
 field_early Nodes = ((λ same. omega (arith, same)), (λ same. omega (arith, same)))
 field_early Limit = ((λ same. omega (arith, same)), (λ same. omega (arith, same)))
 field_early Actors = ((λ same. omega (arith, same)), (λ same. omega (arith, same)))
 field_early Events = ((λ same. omega (arith, same)), (λ same. omega (arith, same)))
 
 said_by_marks : (a b : Said) → said_words a ≡ said_words b → said_mark a ≡ said_mark b → a ≡ b
-said_by_marks version version same marks = refl
-said_by_marks version (queue k) same marks = absurd (omega (arith, marks))
-said_by_marks version (number f n) same marks = absurd ((field_early f).0 marks)
-said_by_marks version (happens e) same marks = absurd ((event_early e).0 marks)
-said_by_marks (queue k) version same marks = absurd (omega (arith, marks))
+said_by_marks (version v) (version w) same marks = ap version (version_same v w (ap (word_at 2) same))
+said_by_marks (version v) (queue k) same marks = absurd (omega (arith, marks))
+said_by_marks (version v) (number f n) same marks = absurd ((field_early f).0 marks)
+said_by_marks (version v) (happens e) same marks = absurd ((event_early e).0 marks)
+said_by_marks (queue k) (version v) same marks = absurd (omega (arith, marks))
 said_by_marks (queue k) (queue l) same marks = ap queue (kind_same k l (ap (word_at 1) same))
 said_by_marks (queue k) (number f n) same marks = absurd ((field_early f).1 marks)
 said_by_marks (queue k) (happens e) same marks = absurd ((event_early e).1 marks)
-said_by_marks (number f m) version same marks = absurd ((field_early f).0 (sym marks))
+said_by_marks (number f m) (version v) same marks = absurd ((field_early f).0 (sym marks))
 said_by_marks (number f m) (queue k) same marks = absurd ((field_early f).1 (sym marks))
 said_by_marks (number f m) (number g n) same marks = ap₂ number (field_same f g marks) (numeral_injective m n (ap (word_at 1) same))
 said_by_marks (number f m) (happens e) same marks = absurd (event_other e f marks)
-said_by_marks (happens e) version same marks = absurd ((event_early e).0 (sym marks))
+said_by_marks (happens e) (version v) same marks = absurd ((event_early e).0 (sym marks))
 said_by_marks (happens e) (queue k) same marks = absurd ((event_early e).1 (sym marks))
 said_by_marks (happens e) (number f n) same marks = absurd (event_other e f (sym marks))
 said_by_marks (happens d) (happens e) same marks = ap happens (event_same d e same marks)

@@ -17,10 +17,11 @@ use Rattle.schedule_text.specs.Schedules.{Schedule}
 use Rattle.schedule_text.specs.Streaming.{GaveLines, GaveSaid, IsFirstFaultFrom}
 use Rattle.text_io.specs.Devices.{SourceState}
 use Rattle.schedule_text.specs.Streams.{stream}
-use Rattle.schedule_text.specs.Texts.{Said, happens, Due, version_due, events_left, is_due, said_words, schedule_lines, schedule_text, IsEventInRange, IsInRange}
-use Rattle.schedule_text.proofs.Joining.{AreDue-append, refused_behind, state_after-append, state_after-happens}
+use Rattle.schedule_text.specs.Texts.{Said, happens, Due, version_due, events_left, is_due, said_words, schedule_lines, schedule_text, IsEventOf, IsInRange}
+use Rattle.schedule_text.proofs.Joining.{AreDue-append, state_after-append, state_after-happens, state_after-said_in, length-said_in}
 use Rattle.schedule_text.proofs.OneText.{one_text, no_fault_of_schedule}
 use Rattle.schedule_text.proofs.Parts.{lines_of-append}
+use Rattle.schedule_text.proofs.StreamedLines.{fault_behind_lines}
 use Rattle.schedule_text.proofs.Streams.{Consumes-more, prepend-nothing}
 
 -- one more line behind others
@@ -44,14 +45,7 @@ refused_behind_lines : (before : ℕ) (due later : Due) (saids : List Said) (old
     → state_after schedule_lines due saids ≡ later → IsRefused (before + length saids) later mid new why → IsRefused before due old new why
 refused_behind_lines before due later saids old mid new Read lines state refused = refused ∙ ap (λ (n : ℕ). n + 1) lines.quiet
 refused_behind_lines before due later saids old mid new (Text at cause) lines state refused =
-    (by old.left mid.left lines.given refused.0, refused.1 ∙ lines.quiet, refused.2)
-  where
-    by : (first second : Option (List ℕ)) → Consumes first second (lines_of schedule_lines saids) → IsFirstFaultFrom (before + length saids) later second at cause
-        → IsFirstFaultFrom before due first at cause
-    by None second given fault = tt
-    by (Some text) None given fault = absurd given
-    by (Some text) (Some rest) given fault =
-        refused_behind before due later saids text rest (Text at cause) (record { due = lines.due_each; spelled = given }) state fault
+    (fault_behind_lines before due later saids old mid at cause lines state refused.0, refused.1 ∙ lines.quiet, refused.2)
 refused_behind_lines before due later saids old mid new _ lines state refused = refused
 
 -- the header alone
@@ -61,7 +55,7 @@ HasRead-started s events old new none started =
       lines = subst (λ (rs : List Said). GaveLines version_due rs old new) (sym (append-nil (said_in s.header))) started.lines;
       range = started.range;
       counted = omega (arith, started.left);
-      each = All-nil IsEventInRange;
+      each = All-nil (IsEventOf s.header.version);
       going = started.going;
     })
 
@@ -70,33 +64,34 @@ module _ (s t : EventStream) (events : List Event) (old mid new : SourceState) (
   abbrev saids : List Said
   saids = said_in s.header ++ map happens events
 
-  state : state_after schedule_lines version_due saids ≡ events_left s.left
+  state : state_after schedule_lines version_due saids ≡ events_left s.header.version s.left
   state =
-      state_after-append schedule_lines version_due (said_in s.header) (map happens events) ∙ state_after-happens s.header.events events
-      ∙ ap events_left (omega (arith, so_far.counted))
+      state_after-append schedule_lines version_due (said_in s.header) (map happens events)
+      ∙ ap (λ (d : Due). state_after schedule_lines d (map happens events)) (state_after-said_in s.header)
+      ∙ state_after-happens s.header.version s.header.events events ∙ ap (events_left s.header.version) (omega (arith, so_far.counted))
 
   count : lines_given s ≡ 0 + length saids
-  count = omega (arith, length-append (said_in s.header) (map happens events), length-map events happens, so_far.counted)
+  count = omega (arith, length-append (said_in s.header) (map happens events), length-said_in s.header, length-map events happens, so_far.counted)
 
   -- one event more
   pub HasRead-event : (event : Event) (longer : List Event) → longer ≡ events ++ event ∷ [] → GaveEvent event s t mid new → HasRead t longer old new
   HasRead-event event longer added gave =
-      let lines = GaveLines-more version_due (events_left s.left) saids (happens event) old mid new so_far.lines state (lt-ltb 0 s.left (omega (arith, gave.fewer))) gave.line in
+      let lines = GaveLines-more version_due (events_left s.header.version s.left) saids (happens event) old mid new so_far.lines state (lt-ltb 0 s.left (omega (arith, gave.fewer))) gave.line in
       let same : saids ++ happens event ∷ [] ≡ said_in s.header ++ map happens (events ++ event ∷ []) =
       append_assoc (said_in s.header) (map happens events) (happens event ∷ []) ∙ ap (λ (l : List Said). said_in s.header ++ l) (sym (map-append happens events (event ∷ []))) in
       rw (added, gave.header) (record {
         lines = subst (λ (rs : List Said). GaveLines version_due rs old new) same lines;
         range = so_far.range;
         counted = omega (arith, so_far.counted, gave.fewer, length-append events (event ∷ []));
-        each = All-append IsEventInRange events (event ∷ []) so_far.each (All-cons IsEventInRange event [] gave.line.range (All-nil IsEventInRange));
+        each = All-append (IsEventOf s.header.version) events (event ∷ []) so_far.each (All-cons (IsEventOf s.header.version) event [] (gave.line.may, gave.line.range) (All-nil (IsEventOf s.header.version)));
         going = gave.going;
       })
 
   -- a refusal is one of the whole
   pub HasRead-refused : (why : Refusal) → IsRefusedNext why s t mid new → IsRefused 0 version_due old new why
   HasRead-refused why refused =
-      refused_behind_lines 0 version_due (events_left s.left) saids old mid new why so_far.lines state
-      (subst (λ (n : ℕ). IsRefused n (events_left s.left) mid new why) count refused.refused)
+      refused_behind_lines 0 version_due (events_left s.header.version s.left) saids old mid new why so_far.lines state
+      (subst (λ (n : ℕ). IsRefused n (events_left s.header.version s.left) mid new why) count refused.refused)
 
   -- at the end the text is the schedule's
   pub HasRead-whole : GaveAll s t mid new
@@ -120,6 +115,8 @@ module _ (s t : EventStream) (events : List Event) (old mid new : SourceState) (
   HasRead-all gave = record {
     text = HasRead-whole gave;
     range = record {
+      split = so_far.range.split;
+      first = so_far.range.first;
       nodes = so_far.range.nodes;
       limit = so_far.range.limit;
       actors = so_far.range.actors;
@@ -132,11 +129,11 @@ module _ (s t : EventStream) (events : List Event) (old mid new : SourceState) (
 
 -- what is read of a schedule's text from a source is that schedule
 pub read_back_from : (old new : SourceState) (answer : Result Schedule Refusal)
-    → IfOk answer (λ t. IfSome old.left (λ text. text ≡ schedule_text t)) → IfErr answer (IsRefusedReading old new)
+    → IfOk answer (λ t. IfSome old.left (λ text. text ≡ schedule_text t)) → IfOk answer IsInRange → IfErr answer (IsRefusedReading old new)
     → (s : Schedule) → IsInRange s → old.left ≡ Some (schedule_text s) → MatchResult answer (λ t. t ≡ s) (λ why. (why ≡ Memory) ⊎ (why ≡ Read))
-read_back_from old new (Ok t) told refused s range same =
-    one_text t s (sym (subst (λ (k : Option (List ℕ)). IfSome k (λ text. text ≡ schedule_text t)) same told))
-read_back_from old new (Err why) told refused s range same = unread why refused
+read_back_from old new (Ok t) told ranged refused s range same =
+    one_text t s ranged.first range.first (sym (subst (λ (k : Option (List ℕ)). IfSome k (λ text. text ≡ schedule_text t)) same told))
+read_back_from old new (Err why) told ranged refused s range same = unread why refused
   where
     unread : (why : Refusal) → IsRefusedReading old new why → (why ≡ Memory) ⊎ (why ≡ Read)
     unread Memory refused = inl refl

@@ -12,7 +12,12 @@ use Rattle.text_lines.proofs.Faults.{Begins-more, first_fault-extra}
 use Rattle.text_lines.specs.Grammars.{Grammar, AreDue, state_after, lines_of, Begins, IsFirstFault}
 use Rattle.text_lines.specs.Lines.{line}
 use Rattle.schedule_text.specs.declared.schedules.Event.{Event}
-use Rattle.schedule_text.specs.Texts.{Said, happens, Due, version_due, events_left, is_due, due_after, schedule_lines, schedule_text, IsEventInRange}
+use Rattle.schedule_text.specs.declared.schedules.Version.{Version}
+use Rattle.schedule_text.specs.declared.schedules.Version.TheVariants.{One, Two}
+use Rattle.schedule_text.specs.declared.fields.Field.TheVariants.{Nodes}
+use Rattle.line_table.specs.declared.lines.Kind.{Kind}
+use Rattle.schedule_text.specs.Schedules.{IsBitsOf, header_lines}
+use Rattle.schedule_text.specs.Texts.{Said, version, queue, happens, Due, version_due, queue_due, number_due, events_left, is_due, due_after, due_after_queue, bits_said, sizes_said, schedule_lines, schedule_text, IsEventOf}
 use Rattle.schedule_text.specs.Reading.{AddsEvent, IsFront, IsRefusedAfter, IsRefusedText, said_in}
 use Rattle.schedule_text.specs.declared.parsing.Header.{Header}
 
@@ -75,40 +80,91 @@ pub refused_later : (before : ℕ) (due : Due) (said : Said) (text rest : List �
 refused_later before due said text rest why more front refused =
     refused_behind before due (due_after due said) (said ∷ []) text rest why (Begins-front due said [] text rest rest more front (Begins-none (due_after due said) rest)) refl refused
 
+-- the same where the next line is told by its number
+pub refused_next : (before next : ℕ) (due : Due) (said : Said) (text rest : List ℕ) (why : Refusal) → before + 1 ≡ next → is_due due ≡ true → IsFront due said text rest
+    → IsRefusedAfter next (due_after due said) rest why → IsRefusedAfter before due text why
+refused_next before next due said text rest why is more front refused =
+    refused_later before due said text rest why more front (subst (λ (n : ℕ). IsRefusedAfter n (due_after due said) rest why) (sym is) refused)
+
 -- what is due after some events
-pub state_after-happens : (count : ℕ) (events : List Event) → state_after schedule_lines (events_left count) (map happens events) ≡ events_left (count - length events)
-state_after-happens count [] = ap events_left (omega arith)
-state_after-happens count (event ∷ events) = state_after-happens (count - 1) events ∙ ap events_left (omega arith)
+pub state_after-happens : (v : Version) (count : ℕ) (events : List Event) → state_after schedule_lines (events_left v count) (map happens events) ≡ events_left v (count - length events)
+state_after-happens v count [] = ap (events_left v) (omega arith)
+state_after-happens v count (event ∷ events) = state_after-happens v (count - 1) events ∙ ap (events_left v) (omega arith)
+
+-- what is due after how many bits hold a node
+pub state_after-bits : (v : Version) (bits : ℕ) → IsBitsOf v bits → state_after schedule_lines (due_after_queue v) (bits_said v bits) ≡ number_due v bits Nodes
+state_after-bits One bits first = ap (λ n. number_due One n Nodes) (sym (first refl))
+state_after-bits Two bits first = refl
+
+-- what is due after the header
+pub state_after-header : (v : Version) (kind : Kind) (bits nodes limit actors events : ℕ) → state_after schedule_lines version_due (version v ∷ queue kind ∷ bits_said v bits ++ sizes_said nodes limit actors events) ≡ events_left v events
+state_after-header One kind bits nodes limit actors events = refl
+state_after-header Two kind bits nodes limit actors events = refl
+
+pub state_after-said_in : (h : Header) → state_after schedule_lines version_due (said_in h) ≡ events_left h.version h.events
+state_after-said_in h = state_after-header h.version h.kind h.bits h.nodes h.limit h.actors h.events
+
+-- how many lines the header has
+length-header : (v : Version) (kind : Kind) (bits nodes limit actors events : ℕ) → length (version v ∷ queue kind ∷ bits_said v bits ++ sizes_said nodes limit actors events) ≡ header_lines v
+length-header One kind bits nodes limit actors events = refl
+length-header Two kind bits nodes limit actors events = refl
+
+pub length-said_in : (h : Header) → length (said_in h) ≡ header_lines h.version
+length-said_in h = length-header h.version h.kind h.bits h.nodes h.limit h.actors h.events
+
+-- and down to the sizes
+pub length-bits_said : (v : Version) (bits : ℕ) → 2 + length (bits_said v bits) ≡ header_lines v - 4
+length-bits_said One bits = refl
+length-bits_said Two bits = refl
+
+-- what is refused behind how many bits hold a node is refused before it
+pub refused_behind_bits : (v : Version) (bits : ℕ) (text rest : List ℕ) (why : Refusal) → IsBitsOf v bits → Begins schedule_lines (due_after_queue v) (bits_said v bits) text rest
+    → IsRefusedAfter (header_lines v - 4) (number_due v bits Nodes) rest why → IsRefusedAfter 2 (due_after_queue v) text why
+refused_behind_bits v bits text rest why first begins refused =
+    refused_behind 2 (due_after_queue v) (number_due v bits Nodes) (bits_said v bits) text rest why begins (state_after-bits v bits first)
+    (subst (λ (n : ℕ). IsRefusedAfter n (number_due v bits Nodes) rest why) (sym (length-bits_said v bits)) refused)
+
+-- the header is what its parts are
+pub Begins-header : (v : Version) (kind : Kind) (bits : ℕ) (sizes : List Said) (text first second third later : List ℕ) → IsFront version_due (version v) text first
+    → IsFront (queue_due v) (queue kind) first second → IsBitsOf v bits → Begins schedule_lines (due_after_queue v) (bits_said v bits) second third
+    → Begins schedule_lines (number_due v bits Nodes) sizes third later
+    → Begins schedule_lines version_due (version v ∷ queue kind ∷ bits_said v bits ++ sizes) text later
+Begins-header v kind bits sizes text first second third later says names is begins others =
+    Begins-front version_due (version v) (queue kind ∷ bits_said v bits ++ sizes) text first later refl says
+    (Begins-front (queue_due v) (queue kind) (bits_said v bits ++ sizes) first second later refl names
+    (Begins-append schedule_lines (due_after_queue v) (bits_said v bits) sizes second third later begins
+    (subst (λ (d : Due). Begins schedule_lines d sizes third later) (sym (state_after-bits v bits is)) others)))
 
 -- one more event is read
-pub Begins-event : (count place : ℕ) (old new : List Event) (text rest later : List ℕ) → Begins schedule_lines (events_left count) (map happens old) text rest
-    → length old ≡ place → place < count → AddsEvent old new rest later → Begins schedule_lines (events_left count) (map happens new) text later
-Begins-event count place old new text rest later begins counted some adds =
+pub Begins-event : (v : Version) (count place : ℕ) (old new : List Event) (text rest later : List ℕ) → Begins schedule_lines (events_left v count) (map happens old) text rest
+    → length old ≡ place → place < count → AddsEvent v old new rest later → Begins schedule_lines (events_left v count) (map happens new) text later
+Begins-event v count place old new text rest later begins counted some adds =
     let left = count - place in
-    let state : state_after schedule_lines (events_left count) (map happens old) ≡ events_left left = state_after-happens count old ∙ ap (λ n. events_left (count - n)) counted in
+    let state : state_after schedule_lines (events_left v count) (map happens old) ≡ events_left v left = state_after-happens v count old ∙ ap (λ n. events_left v (count - n)) counted in
     let front = adds.front left in
-    rw (adds.added, map-append) (Begins-more schedule_lines (events_left count) (events_left left) (map happens old) (happens adds.event) text rest later begins state
+    rw (adds.added, map-append) (Begins-more schedule_lines (events_left v count) (events_left v left) (map happens old) (happens adds.event) text rest later begins state
     (lt-ltb 0 left (omega arith)) front.may front.range front.spelled)
 
 -- a refusal at the next event is one of the text
-pub refused_event_behind : (count place : ℕ) (events : List Event) (text rest : List ℕ) (why : Refusal)
-    → Begins schedule_lines (events_left count) (map happens events) text rest → length events ≡ place → place < count
-    → ((left : ℕ) → 0 < left → IsRefusedAfter (6 + place) (events_left left) rest why) → IsRefusedAfter 6 (events_left count) text why
-refused_event_behind count place events text rest why begins counted some refused =
+pub refused_event_behind : (before : ℕ) (v : Version) (count place : ℕ) (events : List Event) (text rest : List ℕ) (why : Refusal)
+    → Begins schedule_lines (events_left v count) (map happens events) text rest → length events ≡ place → place < count
+    → ((left : ℕ) → 0 < left → IsRefusedAfter (before + place) (events_left v left) rest why) → IsRefusedAfter before (events_left v count) text why
+refused_event_behind before v count place events text rest why begins counted some refused =
     let left = count - place in
-    let state : state_after schedule_lines (events_left count) (map happens events) ≡ events_left left = state_after-happens count events ∙ ap (λ n. events_left (count - n)) counted in
+    let state : state_after schedule_lines (events_left v count) (map happens events) ≡ events_left v left = state_after-happens v count events ∙ ap (λ n. events_left v (count - n)) counted in
     let behind : place ≡ length (map happens events) = sym counted ∙ sym (length-map events happens) in
-    refused_behind 6 (events_left count) (events_left left) (map happens events) text rest why begins state
-    (subst (λ n. IsRefusedAfter (6 + n) (events_left left) rest why) behind (refused left (omega arith)))
+    refused_behind before (events_left v count) (events_left v left) (map happens events) text rest why begins state
+    (subst (λ n. IsRefusedAfter (before + n) (events_left v left) rest why) behind (refused left (omega arith)))
 
 -- the number of events with one more
-pub length-added : (place : ℕ) (old new : List Event) (text rest : List ℕ) → length old ≡ place → AddsEvent old new text rest → length new ≡ place + 1
-length-added place old new text rest counted adds = omega (arith, ap length adds.added, length-append old (adds.event ∷ []))
+pub length-added : (v : Version) (place : ℕ) (old new : List Event) (text rest : List ℕ) → length old ≡ place → AddsEvent v old new text rest → length new ≡ place + 1
+length-added v place old new text rest counted adds = omega (arith, ap length adds.added, length-append old (adds.event ∷ []))
 
 -- events in range with one more
-pub All-added : (old new : List Event) (text rest : List ℕ) → All IsEventInRange old → AddsEvent old new text rest → All IsEventInRange new
-All-added old new text rest all adds =
-    rw adds.added (All-append IsEventInRange old (adds.event ∷ []) all (All-cons IsEventInRange adds.event [] (adds.front 0).range (All-nil IsEventInRange)))
+pub All-added : (v : Version) (old new : List Event) (text rest : List ℕ) → All (IsEventOf v) old → AddsEvent v old new text rest → All (IsEventOf v) new
+All-added v old new text rest all adds =
+    let front = adds.front 0 in
+    rw adds.added (All-append (IsEventOf v) old (adds.event ∷ []) all (All-cons (IsEventOf v) adds.event [] (front.may, front.range) (All-nil (IsEventOf v))))
 
 -- what is refused of the whole text
 pub refused_text : (text : List ℕ) (why : Refusal) → IsRefusedAfter 0 version_due text why → IsRefusedText text why
@@ -116,23 +172,35 @@ refused_text text Memory refused = tt
 refused_text text (Text at cause) refused = rw (refused.1, zero-add) refused.2
 refused_text text _ refused = refused
 
+-- what is refused behind the header is refused of the text
+pub refused_behind_header : (h : Header) (text rest : List ℕ) (why : Refusal) → Begins schedule_lines version_due (said_in h) text rest
+    → IsRefusedAfter (header_lines h.version) (events_left h.version h.events) rest why → IsRefusedText text why
+refused_behind_header h text rest why begins refused =
+    refused_text text why
+    (refused_behind 0 version_due (events_left h.version h.events) (said_in h) text rest why begins (state_after-said_in h)
+    (subst (λ (n : ℕ). IsRefusedAfter n (events_left h.version h.events) rest why) (sym (zero-add (length (said_in h)) ∙ length-said_in h)) refused))
+
 -- a header, and all its events
 module _ (h : Header) (events : List Event) (text rest later : List ℕ)
     (first : Begins schedule_lines version_due (said_in h) text rest)
-    (second : Begins schedule_lines (events_left h.events) (map happens events) rest later) (counted : length events ≡ h.events) where
+    (second : Begins schedule_lines (events_left h.version h.events) (map happens events) rest later) (counted : length events ≡ h.events) where
   both : Begins schedule_lines version_due (said_in h ++ map happens events) text later
-  both = Begins-append schedule_lines version_due (said_in h) (map happens events) text rest later first second
+  both =
+      Begins-append schedule_lines version_due (said_in h) (map happens events) text rest later first
+      (subst (λ (d : Due). Begins schedule_lines d (map happens events) rest later) (sym (state_after-said_in h)) second)
 
   -- bytes that follow are too many
-  pub extra_behind : later ≢ [] → IsFirstFault schedule_lines version_due text (6 + h.events + 1) Extra
+  pub extra_behind : later ≢ [] → IsFirstFault schedule_lines version_due text (header_lines h.version + h.events + 1) Extra
   extra_behind some =
-      let state : state_after schedule_lines version_due (said_in h ++ map happens events) ≡ events_left 0 =
-      state_after-append schedule_lines version_due (said_in h) (map happens events) ∙ state_after-happens h.events events ∙ ap events_left (omega arith) in
-      first_fault-extra schedule_lines version_due (events_left 0) (said_in h ++ map happens events) text later (6 + h.events + 1) both state
-      (omega (arith, length-append (said_in h) (map happens events), length-map events happens, counted)) refl some
+      let state : state_after schedule_lines version_due (said_in h ++ map happens events) ≡ events_left h.version 0 =
+      state_after-append schedule_lines version_due (said_in h) (map happens events)
+      ∙ ap (λ (d : Due). state_after schedule_lines d (map happens events)) (state_after-said_in h)
+      ∙ state_after-happens h.version h.events events ∙ ap (events_left h.version) (omega arith) in
+      first_fault-extra schedule_lines version_due (events_left h.version 0) (said_in h ++ map happens events) text later (header_lines h.version + h.events + 1) both state
+      (omega (arith, length-append (said_in h) (map happens events), length-said_in h, length-map events happens, counted)) refl some
 
   -- where nothing follows, the text is the schedule's
-  pub whole_text : later ≡ [] → text ≡ schedule_text (record { kind = h.kind; nodes = h.nodes; limit = h.limit; actors = h.actors; events = events })
+  pub whole_text : later ≡ [] → text ≡ schedule_text (record { version = h.version; kind = h.kind; bits = h.bits; nodes = h.nodes; limit = h.limit; actors = h.actors; events = events })
   unfolding schedule_text
   whole_text empty =
       let all : text ≡ lines_of schedule_lines (said_in h ++ map happens events) =

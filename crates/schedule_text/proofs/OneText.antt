@@ -1,5 +1,5 @@
 -- One text a schedule, no fault in it, and one first fault of any other text.
-use Rattle.std.proofs.Common.{◌≡◌, ◌≢◌, ℕ, ◌-◌, ◌≤◌, List, [], ◌∷◌, length, map, All, false, refl, sym, ap, ap₂, subst, ◌∙◌, arith}
+use Rattle.std.proofs.Common.{◌≡◌, ◌≢◌, ℕ, ◌-◌, ◌≤◌, List, [], ◌∷◌, ◌++◌, length, map, All, false, refl, sym, ap, ap₂, subst, ◌∙◌, arith}
 use Rattle.std.specs.Prelude.{Result, Ok, Err, IfOk, IfErr, MatchResult}
 use Rattle.std.proofs.lemmas.Bool.{lt-ltb}
 use Rattle.std.proofs.lemmas.List.{append-nil}
@@ -11,12 +11,16 @@ use Rattle.text_lines.specs.Grammars.{Grammar, AreDue, state_after, lines_of, Is
 use Rattle.text_lines.specs.Lines.{HasNo, spaced}
 use Rattle.text_lines.proofs.Single.{one_list, no_fault, one_fault}
 use Rattle.schedule_text.specs.declared.schedules.Event.{Event}
-use Rattle.schedule_text.specs.declared.schedules.Event.TheVariants.{Step}
-use Rattle.schedule_text.specs.Schedules.{Schedule}
-use Rattle.schedule_text.specs.Texts.{Said, happens, Due, version_due, events_left, is_due, due_after, said_words, header_by, said_by, schedule_lines, schedule_text, IsTold, IsEventInRange, IsInRange}
+use Rattle.schedule_text.specs.declared.schedules.Version.{Version}
+use Rattle.schedule_text.specs.declared.schedules.Version.TheVariants.{One, Two}
+use Rattle.line_table.specs.declared.lines.Kind.{Kind}
+use Rattle.schedule_text.specs.declared.fields.Field.TheVariants.{Nodes}
+use Rattle.schedule_text.specs.Schedules.{Schedule, IsBitsOf}
+use Rattle.counted_ref.specs.Ref.{IsSplit}
+use Rattle.schedule_text.specs.Texts.{Said, version, queue, happens, Due, version_due, number_due, events_left, is_due, due_after, said_words, bits_said, sizes_said, header_by, said_by, schedule_lines, schedule_text, IsEventOf, IsInRange}
 use Rattle.schedule_text.specs.Reading.{IsRefusedText}
 use Rattle.schedule_text.proofs.Spelling.{AreWords, AreWords-said, words_of-said}
-use Rattle.schedule_text.proofs.Joining.{state_after-append, state_after-happens}
+use Rattle.schedule_text.proofs.Joining.{state_after-append, state_after-happens, state_after-header}
 use Rattle.schedule_text.proofs.Distinct.{said_same}
 
 -- words and the spaces between them have no line feed
@@ -50,70 +54,62 @@ unranged_lines = record {
 IsSoundGrammar-unranged : IsSoundGrammar unranged_lines
 IsSoundGrammar-unranged = record { no_feed = λ due said may. unbroken said; one = λ due a b may may' same. apart a b same }
 
-unranged_events : (count : ℕ) (events : List Event) → length events ≡ count → AreDue unranged_lines (events_left count) (map happens events)
-unranged_events count [] counted = tt
-unranged_events count (event ∷ events) counted = (lt-ltb 0 count (omega arith), tt, tt, unranged_events (count - 1) events (omega arith))
+unranged_events : (v : Version) (count : ℕ) (events : List Event) → length events ≡ count → AreDue unranged_lines (events_left v count) (map happens events)
+unranged_events v count [] counted = tt
+unranged_events v count (event ∷ events) counted = (lt-ltb 0 count (omega arith), tt, tt, unranged_events v (count - 1) events (omega arith))
 
--- an event in range can be told
-told : (event : Event) → IsEventInRange event → IsTold event
-told (Step actor line) range = range.1
-told _ range = tt
+unranged_sizes : (v : Version) (bits nodes limit actors : ℕ) (events : List Event) → AreDue unranged_lines (number_due v bits Nodes) (sizes_said nodes limit actors (length events) ++ map happens events)
+unranged_sizes v bits nodes limit actors events =
+    (refl, tt, tt, (refl, tt, tt, (refl, tt, tt, (refl, tt, tt, unranged_events v (length events) events refl))))
+
+unranged_lines_due : (v : Version) (kind : Kind) (bits nodes limit actors : ℕ) (events : List Event)
+    → AreDue unranged_lines version_due ((version v ∷ queue kind ∷ bits_said v bits ++ sizes_said nodes limit actors (length events)) ++ map happens events)
+unranged_lines_due One kind bits nodes limit actors events = (refl, tt, tt, (refl, tt, tt, unranged_sizes One 24 nodes limit actors events))
+unranged_lines_due Two kind bits nodes limit actors events =
+    (refl, tt, tt, (refl, tt, tt, (refl, tt, tt, unranged_sizes Two bits nodes limit actors events)))
 
 -- the events of a list are due where so many are left
-events_due : (count : ℕ) (events : List Event) → length events ≡ count → All IsEventInRange events → AreDue schedule_lines (events_left count) (map happens events)
-events_due count [] counted all = tt
-events_due count (event ∷ events) counted all =
-    (lt-ltb 0 count (omega arith), told event (All-head IsEventInRange event events all), All-head IsEventInRange event events all, events_due (count - 1) events (omega arith) (All-tail IsEventInRange event events all))
+events_due : (v : Version) (count : ℕ) (events : List Event) → length events ≡ count → All (IsEventOf v) events → AreDue schedule_lines (events_left v count) (map happens events)
+events_due v count [] counted all = tt
+events_due v count (event ∷ events) counted all =
+    let first = All-head (IsEventOf v) event events all in
+    (lt-ltb 0 count (omega arith), first.0, first.1, events_due v (count - 1) events (omega arith) (All-tail (IsEventOf v) event events all))
+
+-- the sizes of a schedule in range are due, and then its events
+sizes_due : (s : Schedule) → IsInRange s → AreDue schedule_lines (number_due s.version s.bits Nodes) (sizes_said s.nodes s.limit s.actors (length s.events) ++ map happens s.events)
+sizes_due s range =
+    let count : 0 ≤ length s.events = omega arith in
+    let events = events_due s.version (length s.events) s.events refl range.each in
+    (refl, refl, range.nodes, (refl, refl, range.limit, (refl, refl, range.actors, (refl, refl, (count, range.events), events))))
+
+-- a header is due in front of its sizes
+header_due : (v : Version) (kind : Kind) (bits : ℕ) (sizes later : List Said) → IsSplit bits → IsBitsOf v bits → AreDue schedule_lines (number_due v bits Nodes) (sizes ++ later)
+    → AreDue schedule_lines version_due ((version v ∷ queue kind ∷ bits_said v bits ++ sizes) ++ later)
+header_due One kind bits sizes later split first due =
+    (refl, tt, tt, (refl, tt, tt, subst (λ (n : ℕ). AreDue schedule_lines (number_due One n Nodes) (sizes ++ later)) (first refl) due))
+header_due Two kind bits sizes later split first due = (refl, tt, tt, (refl, tt, tt, (refl, refl, (split.least, split.most), due)))
 
 -- the lines of a schedule in range are due
 lines_due : (s : Schedule) → IsInRange s → AreDue schedule_lines version_due (said_by s)
 lines_due s range =
-    let count : 0 ≤ length s.events = omega arith in (
-      refl,
-      tt,
-      tt,
-      (
-        refl,
-        tt,
-        tt,
-        (
-          refl,
-          refl,
-          range.nodes,
-          (
-            refl,
-            refl,
-            range.limit,
-            (
-              refl,
-              refl,
-              range.actors,
-              (
-                refl,
-                refl,
-                (count, range.events),
-                events_due (length s.events) s.events refl range.each,
-              ),
-            ),
-          ),
-        ),
-      ),
-    )
+    header_due s.version s.kind s.bits (sizes_said s.nodes s.limit s.actors (length s.events)) (map happens s.events) range.split range.first (sizes_due s range)
 
 -- and no further line is
 none_due : (s : Schedule) → is_due (state_after schedule_lines version_due (said_by s)) ≡ false
 none_due s =
     let left : length s.events - length s.events ≡ 0 = omega arith in
-    ap is_due (state_after-append schedule_lines version_due (header_by s) (map happens s.events) ∙ state_after-happens (length s.events) s.events ∙ ap events_left left)
+    ap is_due
+    (state_after-append schedule_lines version_due (header_by s) (map happens s.events)
+    ∙ ap (λ (d : Due). state_after schedule_lines d (map happens s.events)) (state_after-header s.version s.kind s.bits s.nodes s.limit s.actors (length s.events))
+    ∙ state_after-happens s.version (length s.events) s.events ∙ ap (events_left s.version) left)
 
 -- the text of any schedule is of such lines
 IsText-unranged : (s : Schedule) → IsText unranged_lines version_due (said_by s) (schedule_text s)
 unfolding schedule_text
 IsText-unranged s =
-    let events : AreDue unranged_lines (events_left (length s.events)) (map happens s.events) = unranged_events (length s.events) s.events refl in
     record {
       lines = record {
-        due = (refl, tt, tt, (refl, tt, tt, (refl, tt, tt, (refl, tt, tt, (refl, tt, tt, (refl, tt, tt, events))))));
+        due = unranged_lines_due s.version s.kind s.bits s.nodes s.limit s.actors s.events;
         spelled = sym (append-nil (lines_of schedule_lines (said_by s)));
       };
       done = none_due s;
@@ -129,18 +125,40 @@ events_same (a ∷ ps) (b ∷ bs) same =
     let rest : map happens ps ≡ map happens bs = cc in
     ap₂ (λ (x : Event) (xs : List Event). x ∷ xs) first (events_same ps bs rest)
 
+-- what lines of the same version say behind the queue is the same
+record SaysSame (a b : Schedule) : Type 0 where
+  bits : a.bits ≡ b.bits
+  nodes : a.nodes ≡ b.nodes
+  limit : a.limit ≡ b.limit
+  actors : a.actors ≡ b.actors
+  events : map happens a.events ≡ map happens b.events
+
+behind_queue : (v w : Version) (a b : Schedule) → v ≡ w → IsBitsOf v a.bits → IsBitsOf w b.bits
+    → (bits_said v a.bits ++ sizes_said a.nodes a.limit a.actors (length a.events)) ++ map happens a.events
+    ≡ (bits_said w b.bits ++ sizes_said b.nodes b.limit b.actors (length b.events)) ++ map happens b.events → SaysSame a b
+behind_queue One One a b is first other same = record { bits = first refl ∙ sym (other refl); nodes = cc; limit = cc; actors = cc; events = cc }
+behind_queue Two Two a b is first other same = record { bits = cc; nodes = cc; limit = cc; actors = cc; events = cc }
+behind_queue One Two a b is first other same = absurd cc
+behind_queue Two One a b is first other same = absurd cc
+
 -- no two schedules have one text
-pub one_text : (a b : Schedule) → schedule_text a ≡ schedule_text b → a ≡ b
-one_text a b same =
+pub one_text : (a b : Schedule) → IsBitsOf a.version a.bits → IsBitsOf b.version b.bits → schedule_text a ≡ schedule_text b → a ≡ b
+one_text a b first other same =
     let lines : said_by a ≡ said_by b = one_list unranged_lines IsSoundGrammar-unranged version_due (said_by a) (said_by b) (schedule_text b)
     (subst (IsText unranged_lines version_due (said_by a)) same (IsText-unranged a)) (IsText-unranged b) in
+    let versions : a.version ≡ b.version = cc in
     let kind : a.kind ≡ b.kind = cc in
-    let nodes : a.nodes ≡ b.nodes = cc in
-    let limit : a.limit ≡ b.limit = cc in
-    let actors : a.actors ≡ b.actors = cc in
-    let said : map happens a.events ≡ map happens b.events = cc in
-    let events : a.events ≡ b.events = events_same a.events b.events said in
-    λ i. record { kind = kind i; nodes = nodes i; limit = limit i; actors = actors i; events = events i }
+    let behind = behind_queue a.version b.version a b versions first other cc in
+    let events : a.events ≡ b.events = events_same a.events b.events behind.events in
+    λ i. record {
+      version = versions i;
+      kind = kind i;
+      bits = behind.bits i;
+      nodes = behind.nodes i;
+      limit = behind.limit i;
+      actors = behind.actors i;
+      events = events i;
+    }
 
 -- the text of a schedule in range is in the grammar
 IsText-schedule : (s : Schedule) → IsInRange s → IsText schedule_lines version_due (said_by s) (schedule_text s)
@@ -158,10 +176,10 @@ pub one_fault_of_schedule : (text : List ℕ) (at by : ℕ) (c d : TextCause) �
 one_fault_of_schedule = one_fault schedule_lines IsSoundGrammar-schedule version_due
 
 -- what is read of a schedule's text is that schedule
-pub read_back : (text : List ℕ) (answer : Result Schedule Refusal) → IfOk answer (λ t. text ≡ schedule_text t) → IfErr answer (IsRefusedText text)
+pub read_back : (text : List ℕ) (answer : Result Schedule Refusal) → IfOk answer (λ t. text ≡ schedule_text t) → IfOk answer IsInRange → IfErr answer (IsRefusedText text)
     → (s : Schedule) → IsInRange s → text ≡ schedule_text s → MatchResult answer (λ t. t ≡ s) (λ why. why ≡ Memory)
-read_back text (Ok t) told refused s range same = one_text t s (sym told ∙ same)
-read_back text (Err why) told refused s range same = only_memory why refused
+read_back text (Ok t) told ranged refused s range same = one_text t s ranged.first range.first (sym told ∙ same)
+read_back text (Err why) told ranged refused s range same = only_memory why refused
   where
     only_memory : (why : Refusal) → IsRefusedText text why → why ≡ Memory
     only_memory Memory refused = refl

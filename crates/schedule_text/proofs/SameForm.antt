@@ -3,8 +3,8 @@ use Rattle.std.proofs.Common.{◌≡◌, ℕ, ◌≤◌, ◌<◌, List, [], ◌�
 use Rattle.std.specs.Prelude.{nat_lt}
 use Rattle.std.specs.List.{AllZip}
 use Rattle.std.proofs.lemmas.Bool.{ltb-true}
-use Rattle.schedule_text.specs.declared.schedules.Call.{Call}
-use Rattle.schedule_text.specs.declared.schedules.Call.TheVariants.{Enq, Deq}
+use Rattle.history.specs.declared.operations.Op.{Op}
+use Rattle.history.specs.declared.operations.Op.TheVariants.{Enq, Deq, Shut}
 use Rattle.line_table.specs.Names.{name_of}
 use Rattle.line_table.specs.declared.lines.Kind.{Kind}
 use Rattle.line_table.specs.declared.lines.Kind.TheVariants.{TwoLock, NonBlocking}
@@ -14,8 +14,10 @@ use Rattle.text_lines.specs.Numerals.{numeral}
 use Rattle.schedule_text.specs.declared.schedules.Event.{Event}
 use Rattle.schedule_text.specs.declared.schedules.Event.TheVariants.{Begin, Step, Steps, Give}
 use Rattle.schedule_text.specs.declared.fields.Field.{Field}
-use Rattle.schedule_text.specs.declared.fields.Field.TheVariants.{Nodes, Limit, Actors, Events}
-use Rattle.schedule_text.specs.Texts.{Said, version, queue, number, happens, Due, version_due, queue_due, number_due, events_left, said_words, call_words, event_words, kind_name, field_name, IsTold, MaySay}
+use Rattle.schedule_text.specs.declared.fields.Field.TheVariants.{Bits, Nodes, Limit, Actors, Events}
+use Rattle.schedule_text.specs.declared.schedules.Version.{Version}
+use Rattle.schedule_text.specs.declared.schedules.Version.TheVariants.{One, Two}
+use Rattle.schedule_text.specs.Texts.{Said, version, queue, number, happens, Due, version_due, queue_due, number_due, events_left, said_words, call_words, event_words, kind_name, version_name, field_name, IsBegun, IsTold, MaySay}
 
 -- the name of a line has at most three bytes
 name_below : (l : Line) → nat_lt (length (name_of l)) 4 ≡ true
@@ -25,11 +27,16 @@ name_below _ = refl
 pub length-name_of : (l : Line) → length (name_of l) ≤ 3
 length-name_of l = let below : length (name_of l) < 4 = ltb-true (length (name_of l)) 4 (name_below l) in omega arith
 
+pub length-version_name : (v : Version) → length (version_name v) ≤ 1
+length-version_name One = omega arith
+length-version_name Two = omega arith
+
 pub length-kind_name : (k : Kind) → length (kind_name k) ≤ 11
 length-kind_name TwoLock = omega arith
 length-kind_name NonBlocking = omega arith
 
 pub length-field_name : (f : Field) → length (field_name f) ≤ 6
+length-field_name Bits = omega arith
 length-field_name Nodes = omega arith
 length-field_name Limit = omega arith
 length-field_name Actors = omega arith
@@ -43,15 +50,15 @@ pub record SaysToo (said : Said) (words : List (List ℕ)) : Type 0 where
 
 may-number : (f : Field) (m n : ℕ) (due : Due) → MaySay due (number f m) → MaySay due (number f n)
 may-number f m n version_due may = may
-may-number f m n queue_due may = may
-may-number f m n (number_due g) may = may
-may-number f m n (events_left count) may = may
+may-number f m n (queue_due v) may = may
+may-number f m n (number_due v bits g) may = may
+may-number f m n (events_left v count) may = may
 
-may-happens : (d e : Event) → (IsTold d → IsTold e) → (due : Due) → MaySay due (happens d) → MaySay due (happens e)
+may-happens : (d e : Event) → ((v : Version) → IsTold v d → IsTold v e) → (due : Due) → MaySay due (happens d) → MaySay due (happens e)
 may-happens d e told version_due may = may
-may-happens d e told queue_due may = may
-may-happens d e told (number_due g) may = may
-may-happens d e told (events_left count) may = told may
+may-happens d e told (queue_due v) may = may
+may-happens d e told (number_due v bits g) may = may
+may-happens d e told (events_left v count) may = told v may
 
 -- words that are short stay, and numbers become numbers
 module _ (R : List ℕ → List ℕ → Type 0) (fixed : (w k : List ℕ) → length w < 21 → R w k → k ≡ w)
@@ -68,48 +75,52 @@ module _ (R : List ℕ → List ℕ → Type 0) (fixed : (w k : List ℕ) → le
   after_number n ws [] all = absurd all
   after_number n ws (k ∷ ks) all = let m = to_number n k all.0 in (m.0, ks, ap (λ (x : List ℕ). x ∷ ks) m.1, all.1)
 
-  call : (op : Call) (ks : List (List ℕ)) → AllZip R (call_words op) ks → (o : Call) × (ks ≡ call_words o)
+  call : (op : Op) (ks : List (List ℕ)) → AllZip R (call_words op) ks → (o : Op) × (ks ≡ call_words o) × ((v : Version) → IsBegun v op → IsBegun v o)
   call (Enq body) ks all =
       let x = after_word (codes "enq") (numeral body ∷ []) ks (omega arith) all in
       let y = after_number body [] x.0 x.2 in
       let z = none y.1 y.3 in
-      (Enq y.0, cc (x.1, y.2, z))
+      (Enq y.0, cc (x.1, y.2, z), λ v begun. tt)
   call Deq ks all =
       let x = after_word (codes "deq") [] ks (omega arith) all in
       let z = none x.0 x.2 in
-      (Deq, cc (x.1, z))
+      (Deq, cc (x.1, z), λ v begun. begun)
+  call Shut ks all =
+      let x = after_word (codes "shut") [] ks (omega arith) all in
+      let z = none x.0 x.2 in
+      (Shut, cc (x.1, z), λ v begun. begun)
 
-  event : (e : Event) (ks : List (List ℕ)) → AllZip R (event_words e) ks → (f : Event) × (ks ≡ event_words f) × (IsTold e → IsTold f)
+  event : (e : Event) (ks : List (List ℕ)) → AllZip R (event_words e) ks → (f : Event) × (ks ≡ event_words f) × ((v : Version) → IsTold v e → IsTold v f)
   event (Begin actor op) ks all =
       let x = after_word (codes "begin") (numeral actor ∷ call_words op) ks (omega arith) all in
       let y = after_number actor (call_words op) x.0 x.2 in
       let z = call op y.1 y.3 in
-      (Begin y.0 z.0, cc (x.1, y.2, z.1), λ told. tt)
+      (Begin y.0 z.0, cc (x.1, y.2, z.1), z.2)
   event (Step actor line) ks all =
       let x = after_word (codes "step") (numeral actor ∷ name_of line ∷ []) ks (omega arith) all in
       let y = after_number actor (name_of line ∷ []) x.0 x.2 in
       let v = after_word (name_of line) [] y.1 (omega (arith, length-name_of line)) y.3 in
       let z = none v.0 v.2 in
-      (Step y.0 line, cc (x.1, y.2, v.1, z), λ told. told)
+      (Step y.0 line, cc (x.1, y.2, v.1, z), λ v told. told)
   event (Steps actor count) ks all =
       let x = after_word (codes "steps") (numeral actor ∷ numeral count ∷ []) ks (omega arith) all in
       let y = after_number actor (numeral count ∷ []) x.0 x.2 in
       let v = after_number count [] y.1 y.3 in
       let z = none v.1 v.3 in
-      (Steps y.0 v.0, cc (x.1, y.2, v.2, z), λ told. tt)
+      (Steps y.0 v.0, cc (x.1, y.2, v.2, z), λ v told. tt)
   event (Give actor) ks all =
       let x = after_word (codes "give") (numeral actor ∷ []) ks (omega arith) all in
       let y = after_number actor [] x.0 x.2 in
       let z = none y.1 y.3 in
-      (Give y.0, cc (x.1, y.2, z), λ told. tt)
+      (Give y.0, cc (x.1, y.2, z), λ v told. tt)
 
   pub says_too : (said : Said) (ks : List (List ℕ)) → AllZip R (said_words said) ks → SaysToo said ks
-  says_too version ks all =
-      let x = after_word (codes "msq") (codes "schedule" ∷ codes "1" ∷ []) ks (omega arith) all in
-      let y = after_word (codes "schedule") (codes "1" ∷ []) x.0 (omega arith) x.2 in
-      let v = after_word (codes "1") [] y.0 (omega arith) y.2 in
-      let z = none v.0 v.2 in
-      record { other = version; same = cc (x.1, y.1, v.1, z); may = λ due may. may }
+  says_too (version v) ks all =
+      let x = after_word (codes "msq") (codes "schedule" ∷ version_name v ∷ []) ks (omega arith) all in
+      let y = after_word (codes "schedule") (version_name v ∷ []) x.0 (omega arith) x.2 in
+      let u = after_word (version_name v) [] y.0 (omega (arith, length-version_name v)) y.2 in
+      let z = none u.0 u.2 in
+      record { other = version v; same = cc (x.1, y.1, u.1, z); may = λ due may. may }
   says_too (queue kind) ks all =
       let x = after_word (codes "queue") (kind_name kind ∷ []) ks (omega arith) all in
       let y = after_word (kind_name kind) [] x.0 (omega (arith, length-kind_name kind)) x.2 in

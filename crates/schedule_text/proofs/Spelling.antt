@@ -3,8 +3,8 @@ use Rattle.std.proofs.Common.{◌≡◌, ℕ, ◌<◌, List, [], ◌∷◌, leng
 use Rattle.std.specs.Prelude.{not}
 use Rattle.std.specs.List.{list_all}
 use Rattle.std.proofs.lemmas.List.Elements.{All-nil, All-cons}
-use Rattle.schedule_text.specs.declared.schedules.Call.{Call}
-use Rattle.schedule_text.specs.declared.schedules.Call.TheVariants.{Enq, Deq}
+use Rattle.history.specs.declared.operations.Op.{Op}
+use Rattle.history.specs.declared.operations.Op.TheVariants.{Enq, Deq, Shut}
 use Rattle.line_table.specs.Names.{name_of}
 use Rattle.line_table.specs.declared.lines.Kind.{Kind}
 use Rattle.line_table.specs.declared.lines.Kind.TheVariants.{TwoLock, NonBlocking}
@@ -17,8 +17,10 @@ use Rattle.text_lines.proofs.Numerals.{HasNo-numeral}
 use Rattle.schedule_text.specs.declared.schedules.Event.{Event}
 use Rattle.schedule_text.specs.declared.schedules.Event.TheVariants.{Begin, Step, Steps, Give}
 use Rattle.schedule_text.specs.declared.fields.Field.{Field}
-use Rattle.schedule_text.specs.declared.fields.Field.TheVariants.{Nodes, Limit, Actors, Events}
-use Rattle.schedule_text.specs.Texts.{Said, version, queue, number, happens, said_words, call_words, event_words, kind_name, field_name}
+use Rattle.schedule_text.specs.declared.fields.Field.TheVariants.{Bits, Nodes, Limit, Actors, Events}
+use Rattle.schedule_text.specs.declared.schedules.Version.{Version}
+use Rattle.schedule_text.specs.declared.schedules.Version.TheVariants.{One, Two}
+use Rattle.schedule_text.specs.Texts.{Said, version, queue, number, happens, said_words, call_words, event_words, kind_name, version_name, field_name}
 
 -- no byte of a word is a space, and none a line feed
 pub record IsWord (word : List ℕ) : Type 0 where
@@ -44,11 +46,16 @@ IsWord-numeral n = record { spaceless = HasNo-numeral 32 n (inl (omega arith)); 
 literal : (word : List ℕ) → list_all (λ b. not (b == 32)) word ≡ true → list_all (λ b. not (b == 10)) word ≡ true → IsWord word
 literal word p q = record { spaceless = HasNo-tested 32 word p; unbroken = HasNo-tested 10 word q }
 
+IsWord-version_name : (v : Version) → IsWord (version_name v)
+IsWord-version_name One = literal _ refl refl
+IsWord-version_name Two = literal _ refl refl
+
 IsWord-kind_name : (k : Kind) → IsWord (kind_name k)
 IsWord-kind_name TwoLock = literal _ refl refl
 IsWord-kind_name NonBlocking = literal _ refl refl
 
 IsWord-field_name : (f : Field) → IsWord (field_name f)
+IsWord-field_name Bits = literal _ refl refl
 IsWord-field_name Nodes = literal _ refl refl
 IsWord-field_name Limit = literal _ refl refl
 IsWord-field_name Actors = literal _ refl refl
@@ -59,9 +66,10 @@ abbrev pub AreWords : List (List ℕ) → Type 0
 AreWords [] = Unit {0}
 AreWords (word ∷ words) = IsWord word × AreWords words
 
-AreWords-call : (op : Call) → AreWords (call_words op)
+AreWords-call : (op : Op) → AreWords (call_words op)
 AreWords-call (Enq body) = (literal (codes "enq") refl refl, (IsWord-numeral body, tt))
 AreWords-call Deq = (literal (codes "deq") refl refl, tt)
+AreWords-call Shut = (literal (codes "shut") refl refl, tt)
 
 AreWords-event : (event : Event) → AreWords (event_words event)
 AreWords-event (Begin actor op) = (literal (codes "begin") refl refl, (IsWord-numeral actor, AreWords-call op))
@@ -71,7 +79,7 @@ AreWords-event (Give actor) = (literal (codes "give") refl refl, (IsWord-numeral
 
 -- what a line says is in words
 pub AreWords-said : (said : Said) → AreWords (said_words said)
-AreWords-said version = (literal (codes "msq") refl refl, (literal (codes "schedule") refl refl, (literal (codes "1") refl refl, tt)))
+AreWords-said (version v) = (literal (codes "msq") refl refl, (literal (codes "schedule") refl refl, (IsWord-version_name v, tt)))
 AreWords-said (queue kind) = (literal (codes "queue") refl refl, (IsWord-kind_name kind, tt))
 AreWords-said (number field value) = (IsWord-field_name field, (IsWord-numeral value, tt))
 AreWords-said (happens event) = AreWords-event event
@@ -89,7 +97,7 @@ words_of-said said says same = ap words_of same ∙ by (said_words said) (spacel
     by (word ∷ words) none long = words_of-spaced word words none
 
     some : (said : Said) → 0 < length (said_words said)
-    some version = omega arith
+    some (version v) = omega arith
     some (queue kind) = omega arith
     some (number field value) = omega arith
     some (happens (Begin actor op)) = omega arith

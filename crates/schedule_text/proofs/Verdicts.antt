@@ -3,8 +3,8 @@ use Rattle.std.proofs.Common.{◌≡◌, ℕ, ◌^◌, ◌≤◌, ◌<◌, List,
 use Rattle.std.specs.List.{AllZip}
 use Rattle.std.specs.Fmt.{decimal}
 use Rattle.std.proofs.lemmas.Fmt.{length-decimal-le}
-use Rattle.schedule_text.specs.declared.schedules.Call.{Call}
-use Rattle.schedule_text.specs.declared.schedules.Call.TheVariants.{Enq, Deq}
+use Rattle.history.specs.declared.operations.Op.{Op}
+use Rattle.history.specs.declared.operations.Op.TheVariants.{Enq, Deq, Shut}
 use Rattle.line_table.specs.Names.{name_of}
 use Rattle.text_lines.specs.declared.causes.TextCause.{TextCause}
 use Rattle.text_lines.specs.declared.causes.TextCause.TheVariants.{End, Form, Range, Extra}
@@ -17,13 +17,15 @@ use Rattle.text_lines.proofs.Numerals.{IsPlain-numeral, numeral_decimal}
 use Rattle.schedule_text.specs.declared.schedules.Event.{Event}
 use Rattle.schedule_text.specs.declared.schedules.Event.TheVariants.{Begin, Step, Steps, Give}
 use Rattle.schedule_text.specs.declared.fields.Field.{Field}
-use Rattle.schedule_text.specs.declared.fields.Field.TheVariants.{Nodes, Limit, Actors, Events}
+use Rattle.schedule_text.specs.declared.fields.Field.TheVariants.{Bits, Nodes, Limit, Actors, Events}
 use Rattle.schedule_text.specs.Texts.{Said, version, queue, number, happens, Due, said_words, call_words, event_words, field_name, greatest, IsCallInRange, IsEventInRange, IsSaidInRange, schedule_lines}
+use Rattle.counted_ref.specs.Ref.{IsSplit}
 use Rattle.schedule_text.specs.Shortening.{Shortens}
+use Rattle.counted_ref.proofs.Words.{span_most, count_span_most}
 use Rattle.schedule_text.proofs.Distinct.{said_same}
 use Rattle.schedule_text.proofs.Spelling.{words_of-said, spaced-said}
 use Rattle.schedule_text.proofs.Shortening.{CutWord, CutWord-whole, CutWord-short, CutWord-digits, CutWord-back, numeral-cut, numeral-whole, words_cut}
-use Rattle.schedule_text.proofs.SameForm.{SaysToo, says_too, length-name_of, length-kind_name, length-field_name}
+use Rattle.schedule_text.proofs.SameForm.{SaysToo, says_too, length-name_of, length-version_name, length-kind_name, length-field_name}
 
 -- each of a list holds
 abbrev Each : (List ℕ → Type 0) → List (List ℕ) → Type 0
@@ -39,31 +41,34 @@ brief_number n small =
     let same : length (numeral n) ≡ length (decimal n) = ap length (numeral_decimal n small) in
     record { short = omega (arith, same, length-decimal-le 20 n (omega arith) (omega arith) small) }
 
-brief_call : (op : Call) → IsCallInRange op → Each IsBrief (call_words op)
+brief_call : (op : Op) → IsCallInRange op → Each IsBrief (call_words op)
 brief_call (Enq body) range = (record { short = omega arith }, (brief_number body (omega arith), tt))
 brief_call Deq range = (record { short = omega arith }, tt)
+brief_call Shut range = (record { short = omega arith }, tt)
 
 brief_event : (e : Event) → IsEventInRange e → Each IsBrief (event_words e)
 brief_event (Begin actor op) range = (record { short = omega arith }, (brief_number actor (omega (arith, range.0.1)), brief_call op range.1))
 brief_event (Step actor line) range =
-    (record { short = omega arith }, (brief_number actor (omega (arith, range.0.1)), (record { short = omega (arith, length-name_of line) }, tt)))
+    (record { short = omega arith }, (brief_number actor (omega (arith, range.1)), (record { short = omega (arith, length-name_of line) }, tt)))
 brief_event (Steps actor count) range =
     (record { short = omega arith }, (brief_number actor (omega (arith, range.0.1)), (brief_number count (omega (arith, range.1.1)), tt)))
 brief_event (Give actor) range = (record { short = omega arith }, (brief_number actor (omega (arith, range.1)), tt))
 
-greatest_small : (f : Field) → greatest f < 2 ^ 64
-greatest_small Nodes = omega arith
-greatest_small Limit = omega arith
-greatest_small Actors = omega arith
-greatest_small Events = omega arith
+greatest_small : (bits : ℕ) → IsSplit bits → (f : Field) → greatest bits f < 2 ^ 64
+greatest_small bits split Bits = omega arith
+greatest_small bits split Nodes = omega (arith, span_most bits split)
+greatest_small bits split Limit = omega (arith, count_span_most bits split)
+greatest_small bits split Actors = omega arith
+greatest_small bits split Events = omega arith
 
 -- in range, each word is brief
-brief_said : (r : Said) → IsSaidInRange r → Each IsBrief (said_words r)
-brief_said version range = (record { short = omega arith }, (record { short = omega arith }, (record { short = omega arith }, tt)))
-brief_said (queue kind) range = (record { short = omega arith }, (record { short = omega (arith, length-kind_name kind) }, tt))
-brief_said (number field value) range =
-    (record { short = omega (arith, length-field_name field) }, (brief_number value (omega (arith, greatest_small field, range.1)), tt))
-brief_said (happens e) range = brief_event e range
+brief_said : (bits : ℕ) → IsSplit bits → (r : Said) → IsSaidInRange bits r → Each IsBrief (said_words r)
+brief_said bits split (version v) range =
+    (record { short = omega arith }, (record { short = omega arith }, (record { short = omega (arith, length-version_name v) }, tt)))
+brief_said bits split (queue kind) range = (record { short = omega arith }, (record { short = omega (arith, length-kind_name kind) }, tt))
+brief_said bits split (number field value) range =
+    (record { short = omega (arith, length-field_name field) }, (brief_number value (omega (arith, greatest_small bits split field, range.1)), tt))
+brief_said bits split (happens e) range = brief_event e range
 
 -- brief words are kept whole
 whole_words : (ws ks : List (List ℕ)) → AllZip (CutWord 21) ws ks → Each IsBrief ks → ws ≡ ks
@@ -112,7 +117,7 @@ kept_number m kept = (CutWord-digits kept.cut (CutWord-back kept.cut (IsPlain-nu
 
 -- what is kept of a line that says something has at most 64 bytes
 kept_short : (r : Said) → Each IsKeptWord (said_words r) → length (spaced (said_words r)) ≤ 64
-kept_short version kept = omega arith
+kept_short (version v) kept = omega (arith, length-version_name v)
 kept_short (queue kind) kept = omega (arith, length-kind_name kind)
 kept_short (number field value) kept =
     let digits = kept_number value kept.1.0 in omega (arith, length-append (field_name field) (32 ∷ numeral value), length-field_name field, digits)
@@ -122,6 +127,8 @@ kept_short (happens (Begin actor (Enq body))) kept =
     omega (arith, length-append (numeral actor) (32 ∷ codes "enq" ++ 32 ∷ numeral body), a, b)
 kept_short (happens (Begin actor Deq)) kept =
     let a = kept_number actor kept.1.0 in omega (arith, length-append (numeral actor) (32 ∷ codes "deq"), a)
+kept_short (happens (Begin actor Shut)) kept =
+    let a = kept_number actor kept.1.0 in omega (arith, length-append (numeral actor) (32 ∷ codes "shut"), a)
 kept_short (happens (Step actor line)) kept =
     let a = kept_number actor kept.1.0 in omega (arith, length-append (numeral actor) (32 ∷ name_of line), length-name_of line, a)
 kept_short (happens (Steps actor count)) kept =
@@ -143,31 +150,31 @@ line_long due says kept q cut long r is =
     omega (arith, ap length same, kept_short too.other mine, long)
 
 -- a line says what is kept of it, where that is in range
-pub line_good : (due : Due) (says kept : List ℕ) (q : ℕ) (r : Said) → Shortens 21 says kept q → words_of kept ≡ said_words r → IsSaidInRange r → words_of says ≡ said_words r
-line_good due says kept q r cut same range =
+pub line_good : (bits : ℕ) → IsSplit bits → (says kept : List ℕ) (q : ℕ) (r : Said) → Shortens 21 says kept q → words_of kept ≡ said_words r → IsSaidInRange bits r → words_of says ≡ said_words r
+line_good bits split says kept q r cut same range =
     let cuts = words_cut says kept q cut in
     let to : AllZip (CutWord 21) (words_of says) (said_words r) = rw same at cuts in
-    whole_words (words_of says) (said_words r) to (brief_said r range)
+    whole_words (words_of says) (said_words r) to (brief_said bits split r range)
 
 -- a line is wrong for the cause for which what is kept of it is wrong
-pub line_wrong : (due : Due) (says kept : List ℕ) (q : ℕ) (cause : TextCause) → Shortens 21 says kept q → IsWrong (Says schedule_lines due kept) IsSaidInRange cause
-    → IsWrong (Says schedule_lines due says) IsSaidInRange cause
-line_wrong due says kept q End cut wrong = absurd wrong
-line_wrong due says kept q Form cut none = λ r is.
+pub line_wrong : (bits : ℕ) → IsSplit bits → (due : Due) (says kept : List ℕ) (q : ℕ) (cause : TextCause) → Shortens 21 says kept q
+    → IsWrong (Says schedule_lines due kept) (IsSaidInRange bits) cause → IsWrong (Says schedule_lines due says) (IsSaidInRange bits) cause
+line_wrong bits split due says kept q End cut wrong = absurd wrong
+line_wrong bits split due says kept q Form cut none = λ r is.
     let words : words_of says ≡ said_words r = words_of-said r says is.spelled in
     let cuts = words_cut says kept q cut in
     let from : AllZip (CutWord 21) (said_words r) (words_of kept) = rw words at cuts in
     let too = kept_says r (words_of kept) from in
     none too.other (record { may = too.may due is.may; spelled = spaced-said too.other kept too.same })
-line_wrong due says kept q Range cut wrong =
+line_wrong bits split due says kept q Range cut wrong =
     let words : words_of kept ≡ said_words wrong.0 = words_of-said wrong.0 kept wrong.1.spelled in
     let cuts = words_cut says kept q cut in
     let to : AllZip (CutWord 21) (words_of says) (said_words wrong.0) = rw words at cuts in
     let too = whole_says wrong.0 (words_of says) to in
-    let back : IsSaidInRange too.other → IsSaidInRange wrong.0 = λ range.
+    let back : IsSaidInRange bits too.other → IsSaidInRange bits wrong.0 = λ range.
     let from : AllZip (CutWord 21) (said_words too.other) (said_words wrong.0) = rw too.same at to in
-    let same : said_words wrong.0 ≡ said_words too.other = short_words (said_words too.other) (said_words wrong.0) from (brief_said too.other range) in
-    subst IsSaidInRange (sym (said_same wrong.0 too.other same)) range
+    let same : said_words wrong.0 ≡ said_words too.other = short_words (said_words too.other) (said_words wrong.0) from (brief_said bits split too.other range) in
+    subst (IsSaidInRange bits) (sym (said_same wrong.0 too.other same)) range
     in
     (too.other, record { may = too.may due wrong.1.may; spelled = spaced-said too.other says too.same }, λ range. wrong.2 (back range))
-line_wrong due says kept q Extra cut wrong = absurd wrong
+line_wrong bits split due says kept q Extra cut wrong = absurd wrong

@@ -7,6 +7,7 @@ use Rattle.text_lines.specs.Lines.{HasNo, line, words_of}
 use Rattle.text_lines.specs.Readings.{IsWrong}
 use Rattle.history.specs.declared.refusals.Refusal.TheVariants.{Text}
 use Rattle.schedule_text.specs.declared.schedules.Event.{Event}
+use Rattle.schedule_text.specs.declared.schedules.Version.{Version}
 use Rattle.schedule_text.specs.Texts.{happens, events_left, Tells, IsEventInRange}
 use Rattle.text_io.specs.Devices.{SourceState}
 use Rattle.schedule_text.specs.Streams.{stream}
@@ -25,9 +26,9 @@ behind_line says rest old new front gone =
     gone ∙ ap (λ (l : List ℕ). drop (length says + 1) l) front ∙ drop_at (line says) rest (length says + 1) (length-append says (10 ∷ []))
 
 -- the first line of the bytes read ahead says an event: they are gone over to its end, and the source isn't called
-pub said_ahead : (left : ℕ) (event : Event) (says rest old new : List ℕ) (source : SourceState) → old ≡ line says ++ rest → new ≡ drop (length says + 1) old → Tells (words_of says) event → IsEventInRange event
-    → GaveSaid (events_left left) (happens event) (stream old source) (stream new source)
-said_ahead left event says rest old new source front gone tells range =
+pub said_ahead : (v : Version) (left : ℕ) (event : Event) (says rest old new : List ℕ) (source : SourceState) → old ≡ line says ++ rest → new ≡ drop (length says + 1) old → Tells v (words_of says) event → IsEventInRange event
+    → GaveSaid (events_left v left) (happens event) (stream old source) (stream new source)
+said_ahead v left event says rest old new source front gone tells range =
     let known = source.left in
     let is : new ≡ rest = behind_line says rest old new front gone in
     let given : Consumes (prepend_known old known) (prepend_known new known) (line says) =
@@ -42,18 +43,18 @@ said_ahead left event says rest old new source front gone tells range =
     }
 
 -- it is wrong
-pub stopped_ahead : (before left : ℕ) (says rest old new : List ℕ) (source : SourceState) (cause : TextCause)
+pub stopped_ahead : (before : ℕ) (v : Version) (left : ℕ) (says rest old new : List ℕ) (source : SourceState) (cause : TextCause)
     → HasNo 10 says → old ≡ line says ++ rest → 0 < left
-    → IsWrong (Tells (words_of says)) IsEventInRange cause → IsStopped before (events_left left) (stream old source) (stream new source) (Text (before + 1) cause)
-stopped_ahead before left says rest old new source cause whole front some wrong = (
+    → IsWrong (Tells v (words_of says)) IsEventInRange cause → IsStopped before (events_left v left) (stream old source) (stream new source) (Text (before + 1) cause)
+stopped_ahead before v left says rest old new source cause whole front some wrong = (
   by source.left,
   refl,
   λ (ends : cause ≡ End).
-      absurd (subst (λ (k : TextCause). IsWrong (Tells (words_of says)) IsEventInRange k) ends wrong),
+      absurd (subst (λ (k : TextCause). IsWrong (Tells v (words_of says)) IsEventInRange k) ends wrong),
 )
   where
-    by : (bytes : Option (List ℕ)) → IsFirstFaultFrom before (events_left left) (prepend_known old bytes) (before + 1) cause
+    by : (bytes : Option (List ℕ)) → IsFirstFaultFrom before (events_left v left) (prepend_known old bytes) (before + 1) cause
     by None = tt
     by (Some more) =
-        refused_event before left (old ++ more) says (rest ++ more) cause some whole
+        refused_event before v left (old ++ more) says (rest ++ more) cause some whole
         (ap (λ (l : List ℕ). l ++ more) front ∙ append_assoc (line says) rest more) wrong

@@ -7,8 +7,8 @@ use Rattle.schedule_text.specs.declared.event_stream.Stage.TheVariants.{Going, E
 use Rattle.schedule_text.specs.declared.parsing.Header.{Header}
 use Rattle.schedule_text.specs.declared.schedules.Event.{Event}
 use Rattle.schedule_text.specs.Reading.{IsHeaderInRange, said_in}
-use Rattle.schedule_text.specs.Schedules.{Schedule}
-use Rattle.schedule_text.specs.Texts.{Due, happens, version_due, events_left, schedule_text, IsEventInRange, IsInRange}
+use Rattle.schedule_text.specs.Schedules.{Schedule, header_lines}
+use Rattle.schedule_text.specs.Texts.{Due, happens, version_due, events_left, schedule_text, IsEventOf, IsInRange}
 use Rattle.text_io.specs.Devices.{SourceState}
 use Rattle.schedule_text.specs.Streams.{IsOver}
 use Rattle.schedule_text.specs.Streaming.{GaveLines, GaveSaid, IsFirstFaultFrom}
@@ -22,7 +22,7 @@ pub record EventStream : Type 0 where
 
 -- how many lines were given
 abbrev pub lines_given : EventStream → ℕ
-lines_given s = 6 + (s.header.events - s.left)
+lines_given s = header_lines s.header.version + (s.header.events - s.left)
 
 -- the reading of a source behind so many lines is refused: one call failed, or none did, the first faulty line is told, and all was read
 abbrev pub IsRefused : (before : ℕ) → Due → (old new : SourceState) → Refusal → Type 0
@@ -40,7 +40,7 @@ pub record IsStarted (s : EventStream) (old new : SourceState) : Type 0 where
 
 -- the line of an event was given
 pub record GaveEvent (event : Event) (s t : EventStream) (old new : SourceState) : Type 0 where
-  pub line : GaveSaid (events_left s.left) (happens event) old new
+  pub line : GaveSaid (events_left s.header.version s.left) (happens event) old new
   pub fewer : s.left ≡ t.left + 1
   pub header : t.header ≡ s.header
   pub going : t.stage ≡ Going
@@ -54,7 +54,7 @@ pub record GaveAll (s t : EventStream) (old new : SourceState) : Type 0 where
 
 -- a call is refused, and so is each further one
 pub record IsRefusedNext (why : Refusal) (s t : EventStream) (old new : SourceState) : Type 0 where
-  pub refused : IsRefused (lines_given s) (events_left s.left) old new why
+  pub refused : IsRefused (lines_given s) (events_left s.header.version s.left) old new why
   pub header : t.header ≡ s.header
   pub stays : t.stage ≡ Refused why
 
@@ -74,12 +74,20 @@ pub record HasRead (s : EventStream) (events : List Event) (old new : SourceStat
   pub lines : GaveLines version_due (said_in s.header ++ map happens events) old new
   pub range : IsHeaderInRange s.header
   pub counted : length events + s.left ≡ s.header.events
-  pub each : All IsEventInRange events
+  pub each : All (IsEventOf s.header.version) events
   pub going : s.stage ≡ Going
 
 -- the schedule that a header and events make
 abbrev pub schedule_with : Header → List Event → Schedule
-schedule_with h events = record { kind = h.kind; nodes = h.nodes; limit = h.limit; actors = h.actors; events = events }
+schedule_with h events = record {
+  version = h.version;
+  kind = h.kind;
+  bits = h.bits;
+  nodes = h.nodes;
+  limit = h.limit;
+  actors = h.actors;
+  events = events;
+}
 
 -- a whole schedule was given, and nothing follows
 pub record HasReadAll (schedule : Schedule) (old new : SourceState) : Type 0 where

@@ -5,32 +5,49 @@ use Rattle.history.specs.declared.refusals.Refusal.TheVariants.{Memory, Text}
 use Rattle.text_lines.specs.Grammars.{IsFirstFault}
 use Rattle.text_lines.specs.Lines.{line, spaced}
 use Rattle.text_lines.specs.Numerals.{IsWithin}
-use Rattle.schedule_text.specs.declared.fields.Field.TheVariants.{Nodes, Limit, Actors, Events}
+use Rattle.schedule_text.specs.declared.fields.Field.TheVariants.{Nodes, Limit}
 use Rattle.schedule_text.specs.declared.parsing.Header.{Header}
+use Rattle.schedule_text.specs.declared.parsing.Sizes.{Sizes}
 use Rattle.schedule_text.specs.declared.schedules.Event.{Event}
-use Rattle.schedule_text.specs.Texts.{Said, version, queue, number, happens, Due, version_due, events_left, said_words, least, greatest, IsActor, IsSaidInRange, MaySay, schedule_lines}
+use Rattle.schedule_text.specs.declared.schedules.Version.{Version}
+use Rattle.schedule_text.specs.Schedules.{IsBitsOf}
+use Rattle.counted_ref.specs.Ref.{IsSplit}
+use Rattle.schedule_text.specs.Texts.{Said, version, queue, happens, Due, version_due, events_left, bits_of, said_words, bits_said, sizes_said, least, greatest, IsActor, IsSaidInRange, MaySay, schedule_lines}
 
 -- the line at the front of a text is due, and says this in range
 pub record IsFront (due : Due) (said : Said) (text rest : List ℕ) : Type 0 where
   pub may : MaySay due said
-  pub range : IsSaidInRange said
+  pub range : IsSaidInRange (bits_of due) said
   pub spelled : text ≡ line (spaced (said_words said)) ++ rest
 
 -- one event is added to a list, and its line is the front of a text
-pub record AddsEvent (old new : List Event) (text rest : List ℕ) : Type 0 where
+pub record AddsEvent (v : Version) (old new : List Event) (text rest : List ℕ) : Type 0 where
   pub event : Event
   pub added : new ≡ old ++ event ∷ []
-  pub front : (left : ℕ) → IsFront (events_left left) (happens event) text rest
+  pub front : (left : ℕ) → IsFront (events_left v left) (happens event) text rest
+
+-- what the lines of the sizes say
+abbrev pub sizes_in : Sizes → List Said
+sizes_in s = sizes_said s.nodes s.limit s.actors s.events
 
 -- what the lines of a header say
 abbrev pub said_in : Header → List Said
 said_in h =
-    version ∷ queue h.kind ∷ number Nodes h.nodes ∷ number Limit h.limit ∷ number Actors h.actors ∷ number Events h.events ∷ []
+    version h.version ∷ queue h.kind ∷ bits_said h.version h.bits ++ sizes_said h.nodes h.limit h.actors h.events
+
+-- each size is in its range, where so many bits hold a node
+pub record AreSizesInRange (bits : ℕ) (s : Sizes) : Type 0 where
+  pub nodes : IsWithin (least Nodes) (greatest bits Nodes) s.nodes
+  pub limit : IsWithin (least Limit) (greatest bits Limit) s.limit
+  pub actors : IsActor s.actors
+  pub events : s.events ≤ 1000000
 
 -- each number of a header is in its range
 pub record IsHeaderInRange (h : Header) : Type 0 where
-  pub nodes : IsWithin (least Nodes) (greatest Nodes) h.nodes
-  pub limit : IsWithin (least Limit) (greatest Limit) h.limit
+  pub split : IsSplit h.bits
+  pub first : IsBitsOf h.version h.bits
+  pub nodes : IsWithin (least Nodes) (greatest h.bits Nodes) h.nodes
+  pub limit : IsWithin (least Limit) (greatest h.bits Limit) h.limit
   pub actors : IsActor h.actors
   pub events : h.events ≤ 1000000
 

@@ -7,7 +7,7 @@ use Rattle.text_lines.specs.declared.causes.TextCause.{TextCause}
 use Rattle.text_lines.specs.declared.causes.TextCause.TheVariants.{End}
 use Rattle.text_lines.specs.Grammars.{AreDue, lines_of, IsFault, IsFirstFault}
 use Rattle.text_lines.specs.Lines.{line, spaced}
-use Rattle.schedule_text.specs.Texts.{Said, Due, said_words, IsSaidInRange, MaySay, schedule_lines}
+use Rattle.schedule_text.specs.Texts.{Said, Due, bits_of, said_words, IsSaidInRange, MaySay, schedule_lines}
 use Rattle.text_io.specs.Devices.{SourceState}
 
 -- known bytes are wrong for this cause, where such a line is due
@@ -18,7 +18,7 @@ IsFaultOf due (Some rest) cause = IsFault schedule_lines due rest cause
 -- a line was given that is due, and says this in range
 pub record GaveSaid (due : Due) (said : Said) (old new : SourceState) : Type 0 where
   pub may : MaySay due said
-  pub range : IsSaidInRange said
+  pub range : IsSaidInRange (bits_of due) said
   pub given : Consumes old.left new.left (line (spaced (said_words said)))
   pub quiet : new.failures ≡ old.failures
 

@@ -7,7 +7,7 @@ ghost use Rattle.schedule_text.specs.Streams.{stream};
 ghost use Rattle.schedule_text.specs.Texts.{Due, version_due};
 
 use crate::ahead::Ahead;
-use crate::parsing::{HEADER_LINES, Header};
+use crate::parsing::Header;
 use crate::schedules::Event;
 use crate::streaming::{due_from, header_from};
 use history::Refusal;
@@ -68,7 +68,7 @@ fn told<R: Source>(ahead: &mut Ahead, reader: &mut R, why: Refusal) -> Refusal
 }
 
 impl EventStream {
-    /// Reads the six lines of the header.
+    /// Reads the lines of the header, six or seven.
     ///
     /// It is refused with `Text` where the text isn't a schedule's by then: with the number of its
     /// first faulty line, from 1, and what is wrong with it. The source is read to its end before
@@ -128,8 +128,9 @@ impl EventStream {
             (stream self.old.ahead (R.state reader.old))
             (stream self.new.ahead (R.state reader.new)) result }
     {
-        let before = HEADER_LINES + (self.header.events - self.left);
-        match due_from(&mut self.ahead, reader, before, self.left) {
+        let version = self.header.version;
+        let before = version.header_lines() + (self.header.events - self.left);
+        match due_from(&mut self.ahead, reader, version, before, self.left) {
             Ok(Some(event)) => {
                 self.left -= 1;
                 Ok(Some(event))

@@ -1,11 +1,12 @@
 //! The lines of a schedule's header.
-ghost use Rattle.std.specs.Prelude.{◌≡◌, ◌≢◌, MatchOption};
+ghost use Rattle.std.specs.Prelude.{◌≡◌, ◌≢◌, ◌≤◌, MatchOption, length};
 ghost use Rattle.line_table.specs.declared.lines.Kind.{Kind};
 ghost use Rattle.text_lines.specs.Lines.{words_of};
 ghost use Rattle.text_lines.specs.Readings.{ReadsLine};
+ghost use Rattle.counted_ref.specs.Ref.{IsSplit};
 ghost use Rattle.schedule_text.specs.Texts.{queue, number, kind_name, said_words, field_name, least, greatest, IsSaidInRange};
 
-use counted_ref::{MOST_COUNT, MOST_NODE};
+use counted_ref::{most_count, most_node};
 use history::MOST_ACTOR;
 use line_table::Kind;
 use text_lines::{TextCause, Words};
@@ -13,6 +14,8 @@ use text_lines::{TextCause, Words};
 /// A number of the header.
 #[derive(Clone, Copy)]
 pub enum Field {
+    /// How many bits hold a node.
+    Bits,
     Nodes,
     Limit,
     Actors,
@@ -20,10 +23,12 @@ pub enum Field {
 }
 
 impl Field {
-    fn name(self) -> &'static [u8]
-        ensures { result.now ≡ field_name self }
+    pub fn name(self) -> &'static [u8]
+        ensures text { result.now ≡ field_name self }
+        ensures short { length result.now ≤ 6 }
     {
         match self {
+            Field::Bits => b"bits",
             Field::Nodes => b"nodes",
             Field::Limit => b"limit",
             Field::Actors => b"actors",
@@ -35,18 +40,21 @@ impl Field {
         ensures { result ≡ least self }
     {
         match self {
+            Field::Bits => 16,
             Field::Nodes => 2,
             Field::Limit | Field::Actors => 1,
             Field::Events => 0,
         }
     }
 
-    fn greatest(self) -> u64
-        ensures { result ≡ greatest self }
+    fn greatest(self, bits: u32) -> u64
+        requires { IsSplit bits }
+        ensures { result ≡ greatest bits self }
     {
         match self {
-            Field::Nodes => u64::from(MOST_NODE),
-            Field::Limit => MOST_COUNT,
+            Field::Bits => 32,
+            Field::Nodes => u64::from(most_node(bits)),
+            Field::Limit => most_count(bits),
             Field::Actors => MOST_ACTOR,
             Field::Events => 1_000_000,
         }
@@ -56,7 +64,7 @@ impl Field {
 /// The queue that a line names.
 pub fn kind_in(line: &[u8]) -> Result<Kind, TextCause>
     ensures { ReadsLine (λ kind. words_of line.now ≡ said_words (queue kind))
-        (λ kind. IsSaidInRange (queue kind)) result }
+        (λ kind. IsSaidInRange 24 (queue kind)) result }
 {
     let mut words = Words::of(line);
     words.expect_word(b"queue")?;
@@ -79,14 +87,15 @@ fn kind_of(name: &[u8]) -> Option<Kind>
     }
 }
 
-/// The number that a line says.
-pub fn number_of(field: Field, line: &[u8]) -> Result<u64, TextCause>
+/// The number that a line says, where so many bits hold a node.
+pub fn number_of(field: Field, bits: u32, line: &[u8]) -> Result<u64, TextCause>
+    requires { IsSplit bits }
     ensures { ReadsLine (λ value. words_of line.now ≡ said_words (number field value))
-        (λ value. IsSaidInRange (number field value)) result }
+        (λ value. IsSaidInRange bits (number field value)) result }
 {
     let mut words = Words::of(line);
     words.expect_word(field.name())?;
-    let value = words.number(field.least(), field.greatest())?;
+    let value = words.number(field.least(), field.greatest(bits))?;
     words.expect_end()?;
     value.ok_or(TextCause::Range)
 }

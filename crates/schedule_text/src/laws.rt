@@ -2,13 +2,14 @@
 ghost use Rattle.std.specs.Prelude.{◌≡◌, ◌≢◌, ℕ, List};
 ghost use Rattle.text_lines.specs.Grammars.{IsFirstFault};
 ghost use Rattle.text_lines.specs.declared.causes.TextCause.{TextCause};
-ghost use Rattle.schedule_text.specs.Schedules.{Schedule};
+ghost use Rattle.schedule_text.specs.Schedules.{Schedule, IsBitsOf};
 ghost use Rattle.schedule_text.specs.Texts.{version_due, schedule_lines, schedule_text, IsInRange};
 
-/// No two schedules have one text. Takes no memory.
+/// No two schedules have one text, where 24 bits hold a node in those of version 1. Takes no memory.
 #[tactic(auto, using(crate::proofs::OneText::one_text))]
 pub fn a_text_is_one_schedules()
-    ensures { (a b : Schedule) → schedule_text a ≡ schedule_text b → a ≡ b }
+    ensures { (a b : Schedule) → IsBitsOf a.version a.bits → IsBitsOf b.version b.bits
+        → schedule_text a ≡ schedule_text b → a ≡ b }
 {}
 
 /// The text of a schedule in range has no faulty line. Takes no memory.

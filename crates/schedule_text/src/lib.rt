@@ -19,4 +19,4 @@ pub use owned_events::Events;
 pub use parsing::{Header, parse};
 pub use printing::print;
 pub use reading::read_schedule;
-pub use schedules::{Call, Event, Schedule};
+pub use schedules::{Event, Schedule, Version};

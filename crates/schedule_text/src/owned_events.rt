@@ -20,7 +20,7 @@ pub struct Events<R> {
 }
 
 impl<R: Source + Drop> Events<R> {
-    /// Reads the six lines of the header, as `EventStream::start` does.
+    /// Reads the lines of the header, as `EventStream::start` does.
     ///
     /// At a refusal the source is dropped. A caller that has to know what became of it, or that needs
     /// it back, uses an `EventStream`.

@@ -1,26 +1,28 @@
 //! The schedule that a text is.
-ghost use Rattle.std.specs.Prelude.{◌≡◌, ◌≢◌, ℕ, MatchBool, codes, ◌+◌, ◌<◌, ◌≤◌, ◌++◌, ◌∷◌, [], All, IfOk, IfErr, MatchResult, OnOk, length, map};
+ghost use Rattle.std.specs.Prelude.{◌≡◌, ◌≢◌, ℕ, ◌+◌, ◌-◌, ◌<◌, ◌≤◌, ◌++◌, ◌∷◌, [], All, IfOk, IfErr, MatchOption, MatchResult, OnOk, length, map};
 ghost use Rattle.text_lines.specs.Grammars.{Begins};
-ghost use Rattle.text_lines.specs.Lines.{HasNo, line};
-ghost use Rattle.schedule_text.specs.Reading.{AddsEvent, IsFront, IsHeaderInRange, IsRefusedAfter, IsRefusedText, said_in};
-ghost use Rattle.schedule_text.specs.Schedules.{Schedule};
-ghost use Rattle.schedule_text.specs.Texts.{version, queue, number, happens, version_due, queue_due, number_due, events_left, schedule_lines, schedule_text, IsEventInRange, IsInRange};
+ghost use Rattle.text_lines.specs.Lines.{HasNo, line, spaced};
+ghost use Rattle.schedule_text.specs.declared.fields.Field.TheVariants.{Nodes};
+ghost use Rattle.schedule_text.specs.Reading.{AddsEvent, AreSizesInRange, IsFront, IsHeaderInRange, IsRefusedAfter, IsRefusedText, said_in, sizes_in};
+ghost use Rattle.schedule_text.specs.Schedules.{Schedule, IsBitsOf, header_lines};
+ghost use Rattle.counted_ref.specs.Ref.{IsSplit};
+ghost use Rattle.schedule_text.specs.Texts.{version, queue, number, happens, version_due, queue_due, number_due, events_left, due_after_queue, bits_said, said_words, schedule_lines, schedule_text, IsEventOf, IsInRange, IsSaidInRange};
 
 use crate::events::event_in;
 use crate::fields::{Field, kind_in, number_of};
-use crate::schedules::{Call, Event, Schedule};
-use history::Refusal;
+use crate::schedules::{Event, Schedule, Version};
+use history::{Op, Refusal};
 use line_table::Kind;
 use std::alloc::Global;
 use text_lines::{TextCause, line_at};
 
-/// The number of lines before the events.
-pub const HEADER_LINES: u64 = 6;
-
 /// What the header of a schedule says.
 #[derive(Drop)]
 pub struct Header {
+    pub version: Version,
     pub kind: Kind,
+    /// How many of a word's bits hold a node, 16 to 32.
+    pub bits: u32,
     pub nodes: u32,
     pub limit: u64,
     pub actors: u16,
@@ -28,9 +30,21 @@ pub struct Header {
     pub events: u64,
 }
 
+/// How many bits of a word hold a node where no text says it.
+pub const FIRST_BITS: u32 = 24;
+
+/// The sizes that the header says, in its last four lines.
+#[derive(Clone, Copy)]
+pub struct Sizes {
+    pub nodes: u32,
+    pub limit: u64,
+    pub actors: u16,
+    pub events: u64,
+}
+
 // The line that stands after so many others, and what follows it.
 fn next_line(before: u64, text: &[u8]) -> Result<(&[u8], &[u8]), Refusal>
-    requires { before ≤ 1000006 }
+    requires { before ≤ 1000007 }
     ensures ok { IfOk result (λ found. HasNo 10 found.0.now
         × (text.now ≡ line found.0.now ++ found.1.now)) }
     ensures err { IfErr result (λ why. (why ≡ Refusal.Text (before + 1) TextCause.End)
@@ -39,28 +53,38 @@ fn next_line(before: u64, text: &[u8]) -> Result<(&[u8], &[u8]), Refusal>
     line_at(text).ok_or(Refusal::Text(before + 1, TextCause::End))
 }
 
-fn after_version(text: &[u8]) -> Result<&[u8], Refusal>
-    ensures ok { IfOk result (λ rest. IsFront version_due version text.now rest.now) }
+// The version, and what follows its line.
+fn version_at(text: &[u8]) -> Result<(Version, &[u8]), Refusal>
+    ensures ok { IfOk result (λ found. IsFront version_due (version found.0) text.now found.1.now) }
     ensures err { IfErr result (IsRefusedAfter 0 version_due text.now) }
 {
     let (line, rest) = next_line(0, text)?;
-    if is_version(line) {
-        Ok(rest)
-    } else {
-        Err(Refusal::Text(1, TextCause::Form))
+    match version_of(line) {
+        Some(version) => Ok((version, rest)),
+        None => Err(Refusal::Text(1, TextCause::Form)),
     }
 }
 
-pub fn is_version(line: &[u8]) -> bool
-    ensures { MatchBool result (line.now ≡ codes "msq schedule 1")
-        (line.now ≢ codes "msq schedule 1") }
+/// The version that a first line says.
+pub fn version_of(line: &[u8]) -> Option<Version>
+    ensures { MatchOption result ((v : Version) → line.now ≢ spaced (said_words (version v)))
+        (λ v. line.now ≡ spaced (said_words (version v))) }
 {
-    line == b"msq schedule 1".as_slice()
+    if line == b"msq schedule 1".as_slice() {
+        Some(Version::One)
+    } else if line == b"msq schedule 2".as_slice() {
+        Some(Version::Two)
+    } else {
+        None
+    }
 }
 
+// The queue, and what follows its line.
 fn kind_at(text: &[u8]) -> Result<(Kind, &[u8]), Refusal>
-    ensures ok { IfOk result (λ found. IsFront queue_due (queue found.0) text.now found.1.now) }
-    ensures err { IfErr result (IsRefusedAfter 1 queue_due text.now) }
+    ensures ok { IfOk result (λ found. (v : Version)
+        → IsFront (queue_due v) (queue found.0) text.now found.1.now) }
+    ensures err { IfErr result (λ why. (v : Version)
+        → IsRefusedAfter 1 (queue_due v) text.now why) }
 {
     let (line, rest) = next_line(1, text)?;
     match kind_in(line) {
@@ -70,29 +94,78 @@ fn kind_at(text: &[u8]) -> Result<(Kind, &[u8]), Refusal>
 }
 
 // The number of the header that stands after so many lines, and what follows its line.
-fn number_at(before: u64, field: Field, text: &[u8]) -> Result<(u64, &[u8]), Refusal>
-    requires { before ≤ 1000006 }
-    ensures ok { IfOk result (λ found.
-        IsFront (number_due field) (number field found.0) text.now found.1.now) }
-    ensures err { IfErr result (IsRefusedAfter before (number_due field) text.now) }
+fn number_at(before: u64, field: Field, bits: u32, text: &[u8]) -> Result<(u64, &[u8]), Refusal>
+    requires before { before ≤ 1000007 }
+    requires split { IsSplit bits }
+    ensures ok { IfOk result (λ found. (v : Version)
+        → IsFront (number_due v bits field) (number field found.0) text.now found.1.now) }
+    ensures range { IfOk result (λ found. IsSaidInRange bits (number field found.0)) }
+    ensures err { IfErr result (λ why. (v : Version)
+        → IsRefusedAfter before (number_due v bits field) text.now why) }
 {
     let (line, rest) = next_line(before, text)?;
-    match number_of(field, line) {
+    match number_of(field, bits, line) {
         Ok(value) => Ok((value, rest)),
         Err(cause) => Err(Refusal::Text(before + 1, cause)),
     }
 }
 
+// How many bits hold a node, and what follows the line that says it, if one does.
+fn bits_at(version: Version, text: &[u8]) -> Result<(u32, &[u8]), Refusal>
+    ensures text { IfOk result (λ found. Begins schedule_lines (due_after_queue version)
+        (bits_said version found.0) text.now found.1.now) }
+    ensures split { IfOk result (λ found. IsSplit found.0) }
+    ensures first { IfOk result (λ found. IsBitsOf version found.0) }
+    ensures err { IfErr result (IsRefusedAfter 2 (due_after_queue version) text.now) }
+{
+    match version {
+        Version::One => Ok((FIRST_BITS, text)),
+        Version::Two => {
+            let (bits, rest) = number_at(2, Field::Bits, FIRST_BITS, text)?;
+            Ok((bits as u32, rest))
+        }
+    }
+}
+
+// The sizes where so many bits hold a node, and what follows their lines.
+#[tactic(auto, using(counted_ref::proofs::Words::span_most))]
+fn sizes_at(version: Version, bits: u32, text: &[u8]) -> Result<(Sizes, &[u8]), Refusal>
+    requires { IsSplit bits }
+    ensures text { IfOk result (λ found. Begins schedule_lines (number_due version bits Nodes)
+        (sizes_in found.0) text.now found.1.now) }
+    ensures range { IfOk result (λ found. AreSizesInRange bits found.0) }
+    ensures err { IfErr result (IsRefusedAfter (header_lines version - 4)
+        (number_due version bits Nodes) text.now) }
+{
+    let before = version.header_lines() - 4;
+    let (nodes, rest) = number_at(before, Field::Nodes, bits, text)?;
+    let (limit, rest) = number_at(before + 1, Field::Limit, bits, rest)?;
+    let (actors, rest) = number_at(before + 2, Field::Actors, bits, rest)?;
+    let (events, rest) = number_at(before + 3, Field::Events, bits, rest)?;
+    let sizes = Sizes {
+        nodes: nodes as u32,
+        limit,
+        actors: actors as u16,
+        events,
+    };
+    Ok((sizes, rest))
+}
+
 // Adds the event that stands after so many lines, and answers what follows its line.
-fn push_event<'a>(events: &mut Vec<Event>, before: u64, text: &'a [u8]) -> Result<&'a [u8], Refusal>
-    requires { before ≤ 1000006 }
+fn push_event<'a>(
+    events: &mut Vec<Event>,
+    version: Version,
+    before: u64,
+    text: &'a [u8],
+) -> Result<&'a [u8], Refusal>
+    requires { before ≤ 1000007 }
     ensures ok { IfOk result (λ rest.
-        AddsEvent events.old.items events.new.items text.now rest.now) }
+        AddsEvent version events.old.items events.new.items text.now rest.now) }
     ensures err { IfErr result (λ why. (left : ℕ) → 0 < left
-        → IsRefusedAfter before (events_left left) text.now why) }
+        → IsRefusedAfter before (events_left version left) text.now why) }
 {
     let (line, rest) = next_line(before, text)?;
-    match event_in(line) {
+    match event_in(version, line) {
         Ok(event) => {
             keep(events, event)?;
             Ok(rest)
@@ -106,7 +179,7 @@ pub fn keep(events: &mut Vec<Event>, event: Event) -> Result<(), Refusal>
     ensures err { IfErr result (λ why. why ≡ Refusal.Memory) }
 {
     // The check of the push stops unless the type of a call is named here.
-    let _: Option<Call> = None;
+    let _: Option<Op> = None;
     match events.push(event) {
         Ok(()) => Ok(()),
         Err(_) => Err(Refusal::Memory),
@@ -114,18 +187,24 @@ pub fn keep(events: &mut Vec<Event>, event: Event) -> Result<(), Refusal>
 }
 
 // So many events, a line each, and what follows them.
-fn events_of(alloc: Global, count: u64, text: &[u8]) -> Result<(Vec<Event>, &[u8]), Refusal>
+fn events_of(
+    alloc: Global,
+    version: Version,
+    count: u64,
+    text: &[u8],
+) -> Result<(Vec<Event>, &[u8]), Refusal>
     requires { count ≤ 1000000 }
-    ensures text { IfOk result (λ found. Begins schedule_lines (events_left count)
+    ensures text { IfOk result (λ found. Begins schedule_lines (events_left version count)
         (map happens found.0.items) text.now found.1.now) }
     ensures count { IfOk result (λ found. length found.0.items ≡ count) }
-    ensures range { IfOk result (λ found. All IsEventInRange found.0.items) }
-    ensures err { IfErr result (IsRefusedAfter 6 (events_left count) text.now) }
+    ensures range { IfOk result (λ found. All (IsEventOf version) found.0.items) }
+    ensures err { IfErr result (IsRefusedAfter (header_lines version) (events_left version count)
+        text.now) }
 {
     let mut events = Vec::new(alloc);
     let mut rest = text;
     for place in 0..count {
-        rest = push_event(&mut events, HEADER_LINES + place, rest)?;
+        rest = push_event(&mut events, version, version.header_lines() + place, rest)?;
     }
     Ok((events, rest))
 }
@@ -137,18 +216,18 @@ fn header_of(text: &[u8]) -> Result<(Header, &[u8]), Refusal>
     ensures range { IfOk result (λ found. IsHeaderInRange found.0) }
     ensures err { IfErr result (IsRefusedAfter 0 version_due text.now) }
 {
-    let rest = after_version(text)?;
+    let (version, rest) = version_at(text)?;
     let (kind, rest) = kind_at(rest)?;
-    let (nodes, rest) = number_at(2, Field::Nodes, rest)?;
-    let (limit, rest) = number_at(3, Field::Limit, rest)?;
-    let (actors, rest) = number_at(4, Field::Actors, rest)?;
-    let (events, rest) = number_at(5, Field::Events, rest)?;
+    let (bits, rest) = bits_at(version, rest)?;
+    let (sizes, rest) = sizes_at(version, bits, rest)?;
     let header = Header {
+        version,
         kind,
-        nodes: nodes as u32,
-        limit,
-        actors: actors as u16,
-        events,
+        bits,
+        nodes: sizes.nodes,
+        limit: sizes.limit,
+        actors: sizes.actors,
+        events: sizes.events,
     };
     Ok((header, rest))
 }
@@ -175,13 +254,15 @@ fn schedule_of(alloc: Global, text: &[u8]) -> Result<Schedule, Refusal>
     ensures err { IfErr result (IsRefusedText text.now) }
 {
     let (header, rest) = header_of(text)?;
-    let (events, rest) = events_of(alloc, header.events, rest)?;
+    let (events, rest) = events_of(alloc, header.version, header.events, rest)?;
     if !rest.is_empty() {
-        let number = HEADER_LINES + header.events + 1;
+        let number = header.version.header_lines() + header.events + 1;
         return Err(Refusal::Text(number, TextCause::Extra));
     }
     Ok(Schedule {
+        version: header.version,
         kind: header.kind,
+        bits: header.bits,
         nodes: header.nodes,
         limit: header.limit,
         actors: header.actors,

@@ -1,17 +1,22 @@
 //! The text of a schedule.
-ghost use Rattle.std.specs.Prelude.{◌≡◌, ◌+◌, ◌≤◌, ◌++◌, length};
+ghost use Rattle.std.specs.Prelude.{◌≡◌, ◌+◌, ◌≤◌, ◌++◌, ◌∷◌, [], length};
 ghost use Rattle.std.specs.List.{flat_map};
 ghost use Rattle.text_io.specs.Blocks.{Writes};
+ghost use Rattle.text_lines.specs.Grammars.{lines_of};
 ghost use Rattle.text_lines.specs.Lines.{spaced};
 ghost use Rattle.text_lines.specs.Numerals.{numeral};
-ghost use Rattle.schedule_text.specs.Texts.{kind_name, call_words, event_words, event_text, header_text, schedule_text};
+ghost use Rattle.schedule_text.specs.Reading.{sizes_in};
+ghost use Rattle.schedule_text.specs.Texts.{version as says_version, queue, number, bits_said, schedule_lines, kind_name, version_name, call_words, event_words, event_text, header_text, schedule_text};
 
-use crate::schedules::{Call, Event, Schedule};
-use history::Refusal;
+use crate::fields::Field;
+use crate::parsing::Sizes;
+use crate::schedules::{Event, Schedule, Version};
+use history::{Op, Refusal};
 use line_table::Kind;
 use text_io::{Block, LINE_ROOM, Line, Sink};
 
-/// Writes the text of a schedule: six header lines, then a line for each event, in their order.
+/// Writes the text of a schedule, of the version that it has: the header lines, then a line for each
+/// event, in their order.
 ///
 /// It takes no memory; whether it waits is up to the writer. It is refused by `Write` where a call of
 /// the writer fails or takes nothing; a beginning of the text is written then. `parse` takes the text
@@ -35,23 +40,77 @@ fn print_lines<W: Sink>(header: Line, events: &[Event], writer: &mut W) -> Resul
     block.finish(writer)
 }
 
-#[tactic(auto, unfolding(crate::specs::Texts::header_text))]
 fn header_lines(schedule: &Schedule) -> Line
     ensures { result ≡ header_text schedule.now }
 {
     let mut lines = Line::new();
-    lines.push(b"msq schedule 1\nqueue ");
-    lines.push(name_of_kind(schedule.kind));
-    lines.push(b"\nnodes ");
-    push_numeral(&mut lines, u64::from(schedule.nodes));
-    lines.push(b"\nlimit ");
-    push_numeral(&mut lines, schedule.limit);
-    lines.push(b"\nactors ");
-    push_numeral(&mut lines, u64::from(schedule.actors));
-    lines.push(b"\nevents ");
-    push_numeral(&mut lines, schedule.events.len() as u64);
-    lines.push(b"\n");
+    push_opening(&mut lines, schedule.version, schedule.kind);
+    push_bits(&mut lines, schedule.version, schedule.bits);
+    let sizes = Sizes {
+        nodes: schedule.nodes,
+        limit: schedule.limit,
+        actors: schedule.actors,
+        events: schedule.events.len() as u64,
+    };
+    push_sizes(&mut lines, sizes);
     lines
+}
+
+fn push_opening(lines: &mut Line, version: Version, kind: Kind)
+    requires { length lines.old + 40 ≤ LINE_ROOM }
+    ensures text { lines.new ≡ lines.old
+        ++ lines_of schedule_lines (says_version version ∷ queue kind ∷ []) }
+    ensures short { length lines.new ≤ length lines.old + 40 }
+{
+    lines.push(b"msq schedule ");
+    lines.push(name_of_version(version));
+    lines.push(b"\nqueue ");
+    lines.push(name_of_kind(kind));
+    lines.push(b"\n");
+}
+
+// The line of how many bits hold a node, where the version has it.
+fn push_bits(lines: &mut Line, version: Version, bits: u32)
+    requires { length lines.old + 30 ≤ LINE_ROOM }
+    ensures text { lines.new ≡ lines.old ++ lines_of schedule_lines (bits_said version bits) }
+    ensures short { length lines.new ≤ length lines.old + 30 }
+{
+    match version {
+        Version::One => {}
+        Version::Two => push_field(lines, Field::Bits, u64::from(bits)),
+    }
+}
+
+fn push_sizes(lines: &mut Line, sizes: Sizes)
+    requires { length lines.old + 120 ≤ LINE_ROOM }
+    ensures { lines.new ≡ lines.old ++ lines_of schedule_lines (sizes_in sizes) }
+{
+    push_field(lines, Field::Nodes, u64::from(sizes.nodes));
+    push_field(lines, Field::Limit, sizes.limit);
+    push_field(lines, Field::Actors, u64::from(sizes.actors));
+    push_field(lines, Field::Events, sizes.events);
+}
+
+// The line of a number of the header.
+fn push_field(lines: &mut Line, field: Field, value: u64)
+    requires { length lines.old + 30 ≤ LINE_ROOM }
+    ensures text { lines.new ≡ lines.old ++ lines_of schedule_lines (number field value ∷ []) }
+    ensures short { length lines.new ≤ length lines.old + 30 }
+{
+    lines.push(field.name());
+    lines.push(b" ");
+    push_numeral(lines, value);
+    lines.push(b"\n");
+}
+
+fn name_of_version(version: Version) -> &'static [u8]
+    ensures text { result.now ≡ version_name version }
+    ensures short { length result.now ≤ 1 }
+{
+    match version {
+        Version::One => b"1",
+        Version::Two => b"2",
+    }
 }
 
 fn name_of_kind(kind: Kind) -> &'static [u8]
@@ -108,17 +167,18 @@ fn push_actor(line: &mut Line, words: &[u8], actor: u16)
     push_numeral(line, u64::from(actor));
 }
 
-fn push_call(line: &mut Line, call: Call)
+fn push_call(line: &mut Line, call: Op)
     requires { length line.old + 24 ≤ LINE_ROOM }
     ensures text { line.new ≡ line.old ++ spaced (call_words call) }
     ensures short { length line.new ≤ length line.old + 24 }
 {
     match call {
-        Call::Enq(body) => {
+        Op::Enq(body) => {
             line.push(b"enq ");
             push_numeral(line, body.number());
         }
-        Call::Deq => line.push(b"deq"),
+        Op::Deq => line.push(b"deq"),
+        Op::Shut => line.push(b"shut"),
     }
 }
 

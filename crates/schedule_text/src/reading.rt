@@ -46,7 +46,9 @@ fn schedule_from<R: Source>(alloc: Global, reader: &mut R) -> Result<Schedule, R
     }
     let header = stream.header();
     Ok(Schedule {
+        version: header.version,
         kind: header.kind,
+        bits: header.bits,
         nodes: header.nodes,
         limit: header.limit,
         actors: header.actors,

@@ -1,30 +1,40 @@
 //! Schedules: a machine, and what its actors do.
-use history::{Body, Op};
+use history::Op;
 use line_table::{Kind, Line};
 use std::marker::Model;
 
-/// A call that a schedule may begin.
+/// The version of a schedule's text.
 #[derive(Clone, Copy, Debug, PartialEq, Eq)]
-pub enum Call {
-    /// Pushes this body.
-    Enq(Body),
-    /// Takes the value at the front.
-    Deq,
+pub enum Version {
+    /// 24 bits hold a node, and no queue is shut.
+    One,
+    /// The text says how many bits hold a node, and queues may be shut.
+    Two,
 }
 
-impl Call {
-    ghost use Rattle.std.specs.Prelude.{◌≡◌, ◌≢◌};
-    ghost use Rattle.history.specs.declared.operations.Op.TheVariants.{Shut};
-    ghost use Rattle.schedule_text.specs.Schedules.{op_of};
+impl Version {
+    ghost use Rattle.std.specs.Prelude.{◌≡◌};
+    ghost use Rattle.text_lines.specs.Numerals.{IsWithin};
+    ghost use Rattle.schedule_text.specs.Schedules.{header_lines, tells_shuts};
 
-    /// The call as a history has it. Takes no memory and doesn't wait.
-    pub fn op(self) -> Op
-        ensures same { result ≡ op_of self }
-        ensures no_shut { result ≢ Shut }
+    /// How many lines stand before the events. Takes no memory and doesn't wait.
+    pub fn header_lines(self) -> u64
+        ensures count { result ≡ header_lines self }
+        ensures range { IsWithin 6 7 result }
     {
         match self {
-            Call::Enq(body) => Op::Enq(body),
-            Call::Deq => Op::Deq,
+            Version::One => 6,
+            Version::Two => 7,
+        }
+    }
+
+    /// Whether a text of this version may tell of shuts. Takes no memory and doesn't wait.
+    pub fn tells_shuts(self) -> bool
+        ensures { result ≡ tells_shuts self }
+    {
+        match self {
+            Version::One => false,
+            Version::Two => true,
         }
     }
 }
@@ -33,7 +43,7 @@ impl Call {
 #[derive(Clone, Copy, Debug, PartialEq, Eq)]
 pub enum Event {
     /// This actor begins this call.
-    Begin(u16, Call),
+    Begin(u16, Op),
     /// This actor takes one step, and its next line is this one.
     Step(u16, Line),
     /// This actor takes so many steps.
@@ -42,10 +52,14 @@ pub enum Event {
     Give(u16),
 }
 
-/// A schedule: the queue and its sizes, the number of actors, and the events in their order.
+/// A schedule: the version of its text, the queue with its sizes and how many bits hold a node, the
+/// number of actors, and the events in their order.
 #[derive(Debug, Drop)]
 pub struct Schedule {
+    pub version: Version,
     pub kind: Kind,
+    /// How many of a word's bits hold a node, 16 to 32; 24 in version 1, whose text doesn't say it.
+    pub bits: u32,
     /// How many nodes the queue has.
     pub nodes: u32,
     /// The greatest count of a reference.
@@ -60,7 +74,9 @@ impl Model for Schedule {
     ghost Value = { Schedule };
 
     ghost view = { λ s. record {
+      version = s.version;
       kind = s.kind;
+      bits = s.bits;
       nodes = s.nodes;
       limit = s.limit;
       actors = s.actors;

@@ -12,7 +12,7 @@ use Rattle.step_machine.proofs.Fits.{shared_fits, access_fits}
 use Rattle.step_machine.proofs.EitherQueue.{stands_at}
 
 -- a line that uses registers as nodes names words of these nodes
-pub names_a_word : (s : Setup) (k me : ℕ) (m : Shared) (a : Actor) (l : Line) → SharedInRange s k m → RegistersInRange s m.fresh k a → NonNullAt l a → IsWord m (word (action s me a l))
+pub names_a_word : (s : Setup) (k me : ℕ) (m : Shared) (a : Actor) (l : Line) → SharedInRange s k m → RegistersInRange s m.fresh k a → NonNullAt s.bits l a → IsWord m (word (action s me a l))
 names_a_word s k me m a l g r h = go l h
   where
     within : (n : ℕ) → 1 ≤ n → n ≤ m.fresh → (1 ≤ n) × (n ≤ length m.nodes)
@@ -21,11 +21,11 @@ names_a_word s k me m a l g r h = go l h
         let all : length m.nodes ≡ s.size = g.all_nodes in
         (some, omega arith)
 
-    is_node : (a.next.node ≤ m.fresh) ⊎ (a.next.node ≡ reserved_node) → a.next.node ≢ reserved_node → a.next.node ≤ m.fresh
+    is_node : (a.next.node ≤ m.fresh) ⊎ (a.next.node ≡ reserved_node s.bits) → a.next.node ≢ reserved_node s.bits → a.next.node ≤ m.fresh
     is_node (inl low) other = low
     is_node (inr e) other = absurd (other e)
 
-    go : (l : Line) → NonNullAt l a → IsWord m (word (action s me a l))
+    go : (l : Line) → NonNullAt s.bits l a → IsWord m (word (action s me a l))
     go N3 h = within a.top.node h r.top.node
     go F2 h = within a.node h r.node
     go E2 h = within a.node h r.node
@@ -51,7 +51,7 @@ each_access_names_a_word w r me a l is at =
     names_a_word w.setup (length w.actors) me w.shared a l h.shared (actor_in_range w me a h is).registers (stands_at w r me a l is at).1
 
 -- each access that names a word is one step on the place of that word
-pub accesses_are_one_step : (w : World) → IsReached w → EachNamesAWord w → OfEachNextAccess w (IsOneStep w.shared)
+pub accesses_are_one_step : (w : World) → IsReached w → EachNamesAWord w → OfEachNextAccess w (IsOneStep w.setup.bits w.shared)
 accesses_are_one_step w r names me a l there at =
     let h : WorldInRange w = reached_in_range w r in
-    one_step w.shared (action w.setup me a l) (names me a l there at) (shared_fits w h (word (action w.setup me a l))) (access_fits w me a l h there at)
+    one_step w.setup.bits h.sized.split w.shared (action w.setup me a l) (names me a l there at) (shared_fits w h (word (action w.setup me a l))) (access_fits w me a l h there at)

@@ -100,41 +100,41 @@ at_E9 me w a h is =
     (linked me w a h _ (w.steps + 1) (nat_eq a.tail.count w.setup.limit) (empties_hand (record a { due = Some Done }))))
 
 -- an end that is found to be neither null nor closed is none
-open_end : (r : Ref) → IsEnd r.node → is_null r ≡ false → is_shut r ≡ false → ⊥
-open_end r (inl null) n c = eqb-false r.node 0 n null
-open_end r (inr end) n c = eqb-false r.node reserved_node c end
+open_end : (bits : ℕ) (r : Ref) → IsEnd bits r.node → is_null r ≡ false → is_shut bits r ≡ false → ⊥
+open_end bits r (inl null) n c = eqb-false r.node 0 n null
+open_end bits r (inr end) n c = eqb-false r.node (reserved_node bits) c end
 
 -- an enqueue that finds Tail at the last node
-at_E7_last : (me : ℕ) (w : World) (a : Actor) → At me w a E7 → w.shared.tail ≡ a.tail → next_of w.shared a.tail.node ≡ a.next → IsEnd a.next.node → EndsWithin 3 w me
+at_E7_last : (me : ℕ) (w : World) (a : Actor) → At me w a E7 → w.shared.tail ≡ a.tail → next_of w.shared a.tail.node ≡ a.next → IsEnd w.setup.bits a.next.node → EndsWithin 3 w me
 at_E7_last me w a h was is end =
     by_step 2 me w a E7 h
     (passed me w a E7 h 2 (same_ref w.shared.tail a.tail) _ _ _ (same_ref-same w.shared.tail a.tail was)
     (either (Leads 2 me w a _) (is_null a.next) (λ n. goes_on me w a E7 h 2 _ _ E9 refl (λ g. at_E9 me _ _ g is))
-    (λ n. either (Leads 2 me w a _) (is_shut a.next) (λ c. ended me w a E7 h 2 _ _ refl) (λ c. absurd (open_end a.next end n c)))))
+    (λ n. either (Leads 2 me w a _) (is_shut w.setup.bits a.next) (λ c. ended me w a E7 h 2 _ _ refl) (λ c. absurd (open_end w.setup.bits a.next end n c)))))
 
-at_E6_last : (me : ℕ) (w : World) (a : Actor) → At me w a E6 → w.shared.tail ≡ a.tail → IsEnd (next_of w.shared w.shared.tail.node).node → EndsWithin 4 w me
+at_E6_last : (me : ℕ) (w : World) (a : Actor) → At me w a E6 → w.shared.tail ≡ a.tail → IsEnd w.setup.bits (next_of w.shared w.shared.tail.node).node → EndsWithin 4 w me
 at_E6_last me w a h was end =
     by_step 3 me w a E6 h
     (goes_on me w a E6 h 3 _ _ E7 refl
-    (λ g. at_E7_last me _ _ g was refl (subst (λ (r : Ref). IsEnd (next_of w.shared r.node).node) was end)))
+    (λ g. at_E7_last me _ _ g was refl (subst (λ (r : Ref). IsEnd w.setup.bits (next_of w.shared r.node).node) was end)))
 
-at_E5_last : (me : ℕ) (w : World) (a : Actor) → At me w a E5 → IsEnd (next_of w.shared w.shared.tail.node).node → EndsWithin 5 w me
+at_E5_last : (me : ℕ) (w : World) (a : Actor) → At me w a E5 → IsEnd w.setup.bits (next_of w.shared w.shared.tail.node).node → EndsWithin 5 w me
 at_E5_last me w a h end = by_step 4 me w a E5 h (goes_on me w a E5 h 4 _ _ E6 refl (λ g. at_E6_last me _ _ g refl end))
 
 -- where a node follows Tail's, none follows that one, and it is not the first of the queue
 record Behind (w : World) (to : ℕ) : Type 0 where
-  last : IsEnd (next_of w.shared to).node
+  last : IsEnd w.setup.bits (next_of w.shared to).node
   not_first : to ≢ w.shared.head.node
 
-behind : (me : ℕ) (w : World) (a : Actor) (l : Line) → IsReached w → AtLine w me a l → (to : ℕ) → (next_of w.shared w.shared.tail.node).node ≡ to → 1 ≤ to → to ≢ reserved_node → Behind w to
+behind : (me : ℕ) (w : World) (a : Actor) (l : Line) → IsReached w → AtLine w me a l → (to : ℕ) → (next_of w.shared w.shared.tail.node).node ≡ to → 1 ≤ to → to ≢ reserved_node w.setup.bits → Behind w to
 behind me w a l r k to leads some other =
     let p = k.plain in
     let chain = p.sound.shape.queue_chain in
     let lag : TailLags w.shared (p.front ∷ p.rest) = p.sound.words.lag in
-    let one : lag.after ≡ to ∷ [] = one_after w.shared (p.front ∷ p.rest) w.shared.head.node to chain lag leads (no_end to some other) in
+    let one : lag.after ≡ to ∷ [] = one_after w.setup.bits w.shared (p.front ∷ p.rest) w.shared.head.node to chain lag leads (no_end w.setup.bits to some other) in
     record {
-      last = (subst (λ ns. IsQueueChain w.shared.nodes (next_of w.shared w.shared.tail.node).node ns) one (behind_tail w.shared (p.front ∷ p.rest) w.shared.head.node chain lag).2).3;
-      not_first = λ e. after_not_first w.shared p.front to p.rest (queued_once w.shared _ (p.front ∷ p.rest) p.free p.sound.shape) lag one (e ∙ chain.0);
+      last = (subst (λ ns. IsQueueChain w.setup.bits w.shared.nodes (next_of w.shared w.shared.tail.node).node ns) one (behind_tail w.setup.bits w.shared (p.front ∷ p.rest) w.shared.head.node chain lag).2).3;
+      not_first = λ e. after_not_first w.shared p.front to p.rest (queued_once w.setup.bits w.shared _ (p.front ∷ p.rest) p.free p.sound.shape) lag one (e ∙ chain.0);
     }
 
 -- an enqueue that swings a lagging Tail finds it at the last node then
@@ -145,14 +145,14 @@ at_E13 me w a h was =
     by_step 5 me w a E13 h
     (won_same me w a E13 h 5 (same_ref w.shared.tail a.tail) _ _ _ (same_ref-same w.shared.tail a.tail was)
     (goes_on me w a E13 h 5 (put Tail (raised w.setup a.tail a.next.node) w.shared) _ E5 refl
-    (λ g. at_E5_last me _ _ g (subst (λ n. IsEnd (next_of w.shared n).node) (sym (raised_node w.setup a.tail a.next.node k.nodes.3 k.fixes.room)) there.last))))
+    (λ g. at_E5_last me _ _ g (subst (λ n. IsEnd w.setup.bits (next_of w.shared n).node) (sym (raised_node w.setup a.tail a.next.node k.nodes.3 k.fixes.room)) there.last))))
 
 at_E7 : (me : ℕ) (w : World) (a : Actor) → At me w a E7 → w.shared.tail ≡ a.tail → next_of w.shared a.tail.node ≡ a.next → EndsWithin 7 w me
 at_E7 me w a h was is =
     by_step 6 me w a E7 h
     (passed me w a E7 h 6 (same_ref w.shared.tail a.tail) _ _ _ (same_ref-same w.shared.tail a.tail was)
     (either (Leads 6 me w a _) (is_null a.next) (λ n. goes_on me w a E7 h 6 _ _ E9 refl (λ g. within 2 6 _ me (omega arith) (at_E9 me _ _ g is)))
-    (λ n. either (Leads 6 me w a _) (is_shut a.next) (λ c. ended me w a E7 h 6 _ _ refl)
+    (λ n. either (Leads 6 me w a _) (is_shut w.setup.bits a.next) (λ c. ended me w a E7 h 6 _ _ refl)
     (λ c. either (Leads 6 me w a _) (nat_eq a.tail.count w.setup.limit) (λ b. ended me w a E7 h 6 _ _ refl) (λ b. goes_on me w a E7 h 6 _ _ E13 refl (λ g. at_E13 me _ _ g was))))))
 
 at_E6 : (me : ℕ) (w : World) (a : Actor) → At me w a E6 → w.shared.tail ≡ a.tail → EndsWithin 8 w me
@@ -269,7 +269,7 @@ at_D5 me w a h front was =
     (passed me w a D5 h 10 (same_ref w.shared.head a.head) _ _ _ (same_ref-same w.shared.head a.head front)
     (either (Leads 10 me w a _) (nat_eq a.head.node a.tail.node)
     (λ b. either (Leads 10 me w a _) (is_null a.next) (λ n. ended me w a D5 h 10 _ _ refl)
-    (λ n. either (Leads 10 me w a _) (is_shut a.next) (λ c. ended me w a D5 h 10 _ _ refl)
+    (λ n. either (Leads 10 me w a _) (is_shut w.setup.bits a.next) (λ c. ended me w a D5 h 10 _ _ refl)
     (λ c. either (Leads 10 me w a _) (nat_eq a.tail.count w.setup.limit) (λ d. ended me w a D5 h 10 _ _ refl) (λ d. goes_on me w a D5 h 10 _ _ D10 refl (λ g. at_D10 me _ _ g was)))))
     (λ b. goes_on me w a D5 h 10 _ _ D12 refl (λ g. within 5 10 _ me (omega arith) (at_D12 me _ _ g front)))))
 
@@ -288,20 +288,20 @@ at_S4 me w a h is =
     by_step 0 me w a S4 h
     (won me w a S4 h 0 (same_ref (next_of w.shared a.tail.node) a.next) _ _ _ _ (same_ref-same (next_of w.shared a.tail.node) a.next is) (ended me w a S4 h 0 _ _ refl))
 
-at_S3_last : (me : ℕ) (w : World) (a : Actor) → At me w a S3 → w.shared.tail ≡ a.tail → next_of w.shared a.tail.node ≡ a.next → IsEnd a.next.node → EndsWithin 2 w me
+at_S3_last : (me : ℕ) (w : World) (a : Actor) → At me w a S3 → w.shared.tail ≡ a.tail → next_of w.shared a.tail.node ≡ a.next → IsEnd w.setup.bits a.next.node → EndsWithin 2 w me
 at_S3_last me w a h was is end =
     by_step 1 me w a S3 h
     (passed me w a S3 h 1 (same_ref w.shared.tail a.tail) _ _ _ (same_ref-same w.shared.tail a.tail was)
     (either (Leads 1 me w a _) (is_null a.next) (λ n. goes_on me w a S3 h 1 _ _ S4 refl (λ g. at_S4 me _ _ g is))
-    (λ n. either (Leads 1 me w a _) (is_shut a.next) (λ c. ended me w a S3 h 1 _ _ refl) (λ c. absurd (open_end a.next end n c)))))
+    (λ n. either (Leads 1 me w a _) (is_shut w.setup.bits a.next) (λ c. ended me w a S3 h 1 _ _ refl) (λ c. absurd (open_end w.setup.bits a.next end n c)))))
 
-at_S2_last : (me : ℕ) (w : World) (a : Actor) → At me w a S2 → w.shared.tail ≡ a.tail → IsEnd (next_of w.shared w.shared.tail.node).node → EndsWithin 3 w me
+at_S2_last : (me : ℕ) (w : World) (a : Actor) → At me w a S2 → w.shared.tail ≡ a.tail → IsEnd w.setup.bits (next_of w.shared w.shared.tail.node).node → EndsWithin 3 w me
 at_S2_last me w a h was end =
     by_step 2 me w a S2 h
     (goes_on me w a S2 h 2 _ _ S3 refl
-    (λ g. at_S3_last me _ _ g was refl (subst (λ (r : Ref). IsEnd (next_of w.shared r.node).node) was end)))
+    (λ g. at_S3_last me _ _ g was refl (subst (λ (r : Ref). IsEnd w.setup.bits (next_of w.shared r.node).node) was end)))
 
-at_S1_last : (me : ℕ) (w : World) (a : Actor) → At me w a S1 → IsEnd (next_of w.shared w.shared.tail.node).node → EndsWithin 4 w me
+at_S1_last : (me : ℕ) (w : World) (a : Actor) → At me w a S1 → IsEnd w.setup.bits (next_of w.shared w.shared.tail.node).node → EndsWithin 4 w me
 at_S1_last me w a h end = by_step 3 me w a S1 h (goes_on me w a S1 h 3 _ _ S2 refl (λ g. at_S2_last me _ _ g refl end))
 
 -- one that swings a lagging Tail finds it at the last node then
@@ -312,14 +312,14 @@ at_S5 me w a h was =
     by_step 4 me w a S5 h
     (won_same me w a S5 h 4 (same_ref w.shared.tail a.tail) _ _ _ (same_ref-same w.shared.tail a.tail was)
     (goes_on me w a S5 h 4 (put Tail (raised w.setup a.tail a.next.node) w.shared) _ S1 refl
-    (λ g. at_S1_last me _ _ g (subst (λ n. IsEnd (next_of w.shared n).node) (sym (raised_node w.setup a.tail a.next.node k.nodes.2 k.fixes.room)) there.last))))
+    (λ g. at_S1_last me _ _ g (subst (λ n. IsEnd w.setup.bits (next_of w.shared n).node) (sym (raised_node w.setup a.tail a.next.node k.nodes.2 k.fixes.room)) there.last))))
 
 at_S3 : (me : ℕ) (w : World) (a : Actor) → At me w a S3 → w.shared.tail ≡ a.tail → next_of w.shared a.tail.node ≡ a.next → EndsWithin 6 w me
 at_S3 me w a h was is =
     by_step 5 me w a S3 h
     (passed me w a S3 h 5 (same_ref w.shared.tail a.tail) _ _ _ (same_ref-same w.shared.tail a.tail was)
     (either (Leads 5 me w a _) (is_null a.next) (λ n. goes_on me w a S3 h 5 _ _ S4 refl (λ g. within 1 5 _ me (omega arith) (at_S4 me _ _ g is)))
-    (λ n. either (Leads 5 me w a _) (is_shut a.next) (λ c. ended me w a S3 h 5 _ _ refl)
+    (λ n. either (Leads 5 me w a _) (is_shut w.setup.bits a.next) (λ c. ended me w a S3 h 5 _ _ refl)
     (λ c. either (Leads 5 me w a _) (nat_eq a.tail.count w.setup.limit) (λ b. ended me w a S3 h 5 _ _ refl) (λ b. goes_on me w a S3 h 5 _ _ S5 refl (λ g. at_S5 me _ _ g was))))))
 
 at_S2 : (me : ℕ) (w : World) (a : Actor) → At me w a S2 → w.shared.tail ≡ a.tail → EndsWithin 7 w me

@@ -120,7 +120,7 @@ pub record Queue : Type 1 where
   pub Rely : (m m' : Shared) → (last last' you : ℕ) → Type 0
   pub own_entry : (Z : ℕ → Type 0) (s : Setup) (m : Shared) (last : ℕ) (a : Actor) (entry : Option ℕ) (l : Option Line) → OwnAt Z s m last a l → OwnAt Z s m last (record a { entry = entry }) l
   pub own_more : (Y Z : ℕ → Type 0) (s : Setup) (m : Shared) (last : ℕ) (a : Actor) (l : Option Line) → ((k : ℕ) → Y k → Z k) → OwnAt Y s m last a l → OwnAt Z s m last a l
-  pub own_kept : (Z : ℕ → Type 0) (s : Setup) (m m' : Shared) (last last' you : ℕ) (c : Actor) (l : Line) → Rely m m' last last' you → NodesRely m m' c → FixedAt s.limit you c (Some l) → NonNullAt l c → OwnsAt m you (Some l) → OwnAt Z s m last c (Some l) → OwnAt Z s m' last' c (Some l)
+  pub own_kept : (Z : ℕ → Type 0) (s : Setup) (m m' : Shared) (last last' you : ℕ) (c : Actor) (l : Line) → Rely m m' last last' you → NodesRely m m' c → FixedAt s.limit you c (Some l) → NonNullAt s.bits l c → OwnsAt m you (Some l) → OwnAt Z s m last c (Some l) → OwnAt Z s m' last' c (Some l)
   pub locks_kept : (m m' : Shared) (last last' you : ℕ) (l : Option Line) → Rely m m' last last' you → OwnsAt m you l → OwnsAt m' you l
   pub words_stay : (s : Setup) (m m' : Shared) (front : ℕ) (rest : List ℕ) → QueueStays m m' (front ∷ rest) → Words s m (front ∷ rest) → Words s m' (front ∷ rest)
   pub relies : (s : Setup) (m m' : Shared) (front : ℕ) (rest : List ℕ) → QueueStays m m' (front ∷ rest) → Words s m (front ∷ rest) → (you : ℕ) → Rely m m' (last_node (front ∷ rest)) (last_node (front ∷ rest)) you
@@ -135,8 +135,8 @@ abbrev pub Knows : Queue → (Z : ℕ → Type 0) → Setup → Shared → (last
 Knows q Z s m last a l = KnowsBy q (is_own l) Z s m last a l
 
 -- the queue was found empty and not shut, at this number
-abbrev pub Found : Shared → List ℕ → (now : ℕ) → ℕ → Type 0
-Found m queue now k = (queue_in m queue ≡ empty) × (k ≡ now)
+abbrev pub Found : (bits : ℕ) → Shared → List ℕ → (now : ℕ) → ℕ → Type 0
+Found bits m queue now k = (queue_in bits m queue ≡ empty) × (k ≡ now)
 
 -- an actor that takes a step at a number, and what holds before it; `E` counts how often a node stands outside the
 -- chains
@@ -151,13 +151,13 @@ pub record Before (q : Queue) : Type 1 where
   pub me : ℕ
   pub now : ℕ
   pub a : Actor
-  pub shape : Shape m E (front ∷ rest) free
+  pub shape : Shape s.bits m E (front ∷ rest) free
   pub unused : (n : ℕ) → m.fresh < n → (next_of m n).count ≡ 0
-  pub few_nodes : length m.nodes < reserved_node
+  pub few_nodes : length m.nodes < reserved_node s.bits
   pub words : q.Words s m (front ∷ rest)
   pub mine : (n : ℕ) → holds n a ≤ E n
   pub low : a.node ≤ length m.nodes
-  pub hand_no_end : a.node ≢ reserved_node
+  pub hand_no_end : a.node ≢ reserved_node s.bits
   pub marked : Marked m a
   pub some : 1 ≤ me
 
@@ -166,20 +166,20 @@ pub record After (q : Queue) (b : Before q) (m' : Shared) (o : Outcome) : Type 0
   pub front' : ℕ
   pub rest' : List ℕ
   pub free' : List ℕ
-  pub turn : Turn b.m m' (b.front ∷ b.rest) b.free (front' ∷ rest') free' b.a o.actor o.aside
+  pub turn : Turn b.s.bits b.m m' (b.front ∷ b.rest) b.free (front' ∷ rest') free' b.a o.actor o.aside
   pub own_aside : IfSome o.aside (λ k. (1 ≤ k) × (1 ≤ holds k b.a))
   pub rises : Rises b.m.free m'.free
   pub relies : (you : ℕ) → 1 ≤ you → you ≢ b.me → q.Rely b.m m' (last_node (b.front ∷ b.rest)) (last_node (front' ∷ rest')) you
   pub words : q.Words b.s m' (front' ∷ rest')
   pub marked : Marked m' o.actor
-  pub knows : Knows q (Found b.m (b.front ∷ b.rest) b.now) b.s m' (last_node (front' ∷ rest')) o.actor o.actor.line
+  pub knows : Knows q (Found b.s.bits b.m (b.front ∷ b.rest) b.now) b.s m' (last_node (front' ∷ rest')) o.actor o.actor.line
   pub owns : OwnsAt m' b.me o.actor.line
-  pub linearizes : LinearizationStep b.Z b.me b.now b.m m' (b.front ∷ b.rest) (front' ∷ rest') b.a o
+  pub linearizes : LinearizationStep b.s.bits b.Z b.me b.now b.m m' (b.front ∷ b.rest) (front' ∷ rest') b.a o
 
 -- what holds before the step of a line
 pub record AtLine (q : Queue) (b : Before q) (l : Line) : Type 0 where
   pub runs : IsRunBy (section_of l) q.kind
-  pub nodes : NonNullAt l b.a
+  pub nodes : NonNullAt b.s.bits l b.a
   pub fixed : FixedAt b.s.limit b.me b.a (Some l)
   pub knows : Knows q b.Z b.s b.m (last_node (b.front ∷ b.rest)) b.a (Some l)
   pub owns : OwnsAt b.m b.me (Some l)
@@ -203,9 +203,9 @@ free_entry m a entry (Some N1) h = h
 free_entry m a entry (Some _) h = h
 
 -- steps of others keep what an actor knows of the free nodes
-free_kept : (limit you : ℕ) (m m' : Shared) (c : Actor) (l : Line) → NodesRely m m' c → FixedAt limit you c (Some l) → NonNullAt l c → FreeAt m c (Some l) → FreeAt m' c (Some l)
-free_kept limit you m m' c N3 n f p h = was_on m.free m'.free c.top n.free h
-free_kept limit you m m' c N4 n f p h =
+free_kept : (bits limit you : ℕ) (m m' : Shared) (c : Actor) (l : Line) → NodesRely m m' c → FixedAt limit you c (Some l) → NonNullAt bits l c → FreeAt m c (Some l) → FreeAt m' c (Some l)
+free_kept bits limit you m m' c N3 n f p h = was_on m.free m'.free c.top n.free h
+free_kept bits limit you m m' c N4 n f p h =
     (was_on m.free m'.free c.top n.free h.0, λ e. go e (still_there m.free m'.free c.top n.free h.0 e))
   where
     go : m'.free ≡ c.top → m'.free ≡ m.free → next_of m' c.top.node ≡ c.next
@@ -213,9 +213,9 @@ free_kept limit you m m' c N4 n f p h =
         let at : m.free ≡ c.top = sym same ∙ e in
         let some : 1 ≤ m.free.node = subst (λ (r : Ref). 1 ≤ r.node) (sym at) p in
         ap (λ (x : Node). x.next) (subst (λ (r : Ref). node_at m' r.node ≡ node_at m r.node) at (n.top some)) ∙ h.1 at
-free_kept limit you m m' c F3 n f p h =
+free_kept bits limit you m m' c F3 n f p h =
     ap (λ (x : Node). x.next) (n.hand c.node p (let one : holds c.node c ≡ 1 = holds_own c f.hand f.pocket in omega arith)) ∙ h
-free_kept limit you m m' c _ n f p h = tt
+free_kept bits limit you m m' c _ n f p h = tt
 
 module _ (q : Queue) where
   -- where its operation stands says nothing of what an actor knows
@@ -235,12 +235,12 @@ module _ (q : Queue) where
       go false h = h
 
   -- an actor still knows what it knew
-  pub knows_kept : (Z : ℕ → Type 0) (s : Setup) (m m' : Shared) (last last' you : ℕ) (c : Actor) (l : Line) → q.Rely m m' last last' you → NodesRely m m' c → FixedAt s.limit you c (Some l) → NonNullAt l c → OwnsAt m you (Some l) → Knows q Z s m last c (Some l) → Knows q Z s m' last' c (Some l)
+  pub knows_kept : (Z : ℕ → Type 0) (s : Setup) (m m' : Shared) (last last' you : ℕ) (c : Actor) (l : Line) → q.Rely m m' last last' you → NodesRely m m' c → FixedAt s.limit you c (Some l) → NonNullAt s.bits l c → OwnsAt m you (Some l) → Knows q Z s m last c (Some l) → Knows q Z s m' last' c (Some l)
   knows_kept Z s m m' last last' you c l k n f p o = go (is_own (Some l))
     where
       go : (b : Bool) → KnowsBy q b Z s m last c (Some l) → KnowsBy q b Z s m' last' c (Some l)
       go true h = q.own_kept Z s m m' last last' you c l k n f p o h
-      go false h = free_kept s.limit you m m' c l n f p h
+      go false h = free_kept s.bits s.limit you m m' c l n f p h
 
 -- an actor whose nodes stay as they are
 module _ (m m' : Shared) (c : Actor) (keeps : (n : ℕ) → 1 ≤ n → 1 ≤ holds n c → node_at m' n ≡ node_at m n) where

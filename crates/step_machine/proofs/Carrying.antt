@@ -18,10 +18,10 @@ pub record NumberedMove (Z : ℕ → Type 0) (w : World) (me : ℕ) (a : Actor) 
   pub reached : IsReached w
   pub here : actor_of w me ≡ Some a
   pub at : a.line ≡ Some line
-  pub shape : Shape w.shared (elsewhere w) (front ∷ rest) free
+  pub shape : Shape w.setup.bits w.shared (elsewhere w) (front ∷ rest) free
   pub fixed : FixedAt w.setup.limit me a (Some line)
   pub writes : WritesOneNode w.shared m' (front ∷ rest) a
-  pub linearizes : LinearizationStep Z me (w.steps + 1) w.shared m' (front ∷ rest) queue' a o
+  pub linearizes : LinearizationStep w.setup.bits Z me (w.steps + 1) w.shared m' (front ∷ rest) queue' a o
   pub stamps : Does (w.steps + 1) line a.due a.empty_at o
   pub same_call : o.actor.op ≡ a.op
 
@@ -29,7 +29,7 @@ pub record NumberedMove (Z : ℕ → Type 0) (w : World) (me : ℕ) (a : Actor) 
 pub record Carried (L : World → List ℕ → Type 0) (Z : World → ℕ → Type 0) (w v : World) (queue queue' : List ℕ) : Type 0 where
   pub fact : L v queue'
   pub keeps : (k : ℕ) → Z w k → Z v k
-  pub finds : queue_in w.shared queue ≡ empty → Z v (w.steps + 1)
+  pub finds : queue_in w.setup.bits w.shared queue ≡ empty → Z v (w.steps + 1)
 
 -- the moves carry both facts along
 pub record Carries (L : World → List ℕ → Type 0) (Z : World → ℕ → Type 0) : Type 1 where

@@ -1,7 +1,8 @@
 -- Chains of nodes: what keeps them, how they get longer, and what the last node is.
 -- `chain_kept` is for each write to a node that is not in the chain, `chain_linked` for the write to the `next` of the
 -- last one. `chain_same` says that a chain is determined by where it starts. They hold of a chain by any end.
-use Rattle.std.proofs.Common.{◌≡◌, ◌≢◌, ℕ, ◌+◌, ◌-◌, ◌≤◌, ◌<◌, true, nat_eq, List, [], ◌∷◌, ◌++◌, length, get_or, refl, sym, ap, ◌∙◌, subst, arith, ◌⊎◌, inl, inr}
+use Rattle.std.proofs.Common.{◌≡◌, ◌≢◌, ℕ, ◌+◌, ◌-◌, ◌≤◌, ◌<◌, Bool, true, false, nat_eq, List, [], ◌∷◌, ◌++◌, length, get_or, refl, sym, ap, ◌∙◌, subst, arith, ◌⊎◌, inl, inr}
+use Rattle.std.proofs.lemmas.Bool.{eq-eqb, ne_eqb}
 use Rattle.std.proofs.lemmas.Bool.Decides.{eqb_tells}
 use Rattle.step_machine.specs.Below.{reserved_node, empty, Queue, Node, blank, Shared}
 use Rattle.step_machine.specs.Places.{IsNull, IsEnd, IsChainBy, IsChain, IsQueueChain, one_if, times}
@@ -37,28 +38,28 @@ EndsApart End nodes = (n : ℕ) → End n → (1 ≤ n) × (n ≤ length nodes) 
 pub null_apart : (nodes : List Node) → EndsApart IsNull nodes
 null_apart nodes n null within = omega (arith, null, within.0)
 
-pub ends_apart : (nodes : List Node) → length nodes < reserved_node → EndsApart IsEnd nodes
-ends_apart nodes few n (inl null) within = omega (arith, null, within.0)
-ends_apart nodes few n (inr closed) within = omega (arith, few, closed, within.1)
+pub ends_apart : (bits : ℕ) (nodes : List Node) → length nodes < reserved_node bits → EndsApart (IsEnd bits) nodes
+ends_apart bits nodes few n (inl null) within = omega (arith, null, within.0)
+ends_apart bits nodes few n (inr closed) within = omega (arith, few, closed, within.1)
 
 -- an end that isn't closed is null
-pub end_is_null : (n : ℕ) → n ≢ reserved_node → IsEnd n → n ≡ 0
-end_is_null n other (inl null) = null
-end_is_null n other (inr closed) = absurd (other closed)
+pub end_is_null : (bits n : ℕ) → n ≢ reserved_node bits → IsEnd bits n → n ≡ 0
+end_is_null bits n other (inl null) = null
+end_is_null bits n other (inr closed) = absurd (other closed)
 
 -- a number above null that isn't the closed end is no end
-pub no_end : (n : ℕ) → 1 ≤ n → n ≢ reserved_node → IsEnd n → ⊥
-no_end n some other end = let null : n ≡ 0 = end_is_null n other end in omega arith
+pub no_end : (bits n : ℕ) → 1 ≤ n → n ≢ reserved_node bits → IsEnd bits n → ⊥
+no_end bits n some other end = let null : n ≡ 0 = end_is_null bits n other end in omega arith
 
 -- a chain to null starts at no closed end
-pub starts_open : (nodes : List Node) (n : ℕ) (ns : List ℕ) → length nodes < reserved_node → IsChain nodes n ns → n ≢ reserved_node
-starts_open nodes n [] few h closed = omega (arith, h, closed)
-starts_open nodes n (x ∷ xs) few h closed = omega (arith, few, h.0, h.2, closed)
+pub starts_open : (bits : ℕ) (nodes : List Node) (n : ℕ) (ns : List ℕ) → length nodes < reserved_node bits → IsChain nodes n ns → n ≢ reserved_node bits
+starts_open bits nodes n [] few h closed = omega (arith, h, closed)
+starts_open bits nodes n (x ∷ xs) few h closed = omega (arith, few, h.0, h.2, closed)
 
 -- behind its first node is no closed end
-pub free_goes_on : (nodes : List Node) (n : ℕ) (ns : List ℕ) → length nodes < reserved_node → 1 ≤ n → IsChain nodes n ns → next_in nodes n ≢ reserved_node
-free_goes_on nodes n [] few some h = absurd (omega (arith, h, some))
-free_goes_on nodes n (x ∷ xs) few some h = subst (λ y. next_in nodes y ≢ reserved_node) (sym h.0) (starts_open nodes (next_in nodes x) xs few h.3)
+pub free_goes_on : (bits : ℕ) (nodes : List Node) (n : ℕ) (ns : List ℕ) → length nodes < reserved_node bits → 1 ≤ n → IsChain nodes n ns → next_in nodes n ≢ reserved_node bits
+free_goes_on bits nodes n [] few some h = absurd (omega (arith, h, some))
+free_goes_on bits nodes n (x ∷ xs) few some h = subst (λ y. next_in nodes y ≢ reserved_node bits) (sym h.0) (starts_open bits nodes (next_in nodes x) xs few h.3)
 
 -- the last node once one more is linked
 pub last_linked : (n : ℕ) (ns : List ℕ) (x : ℕ) → last_node (n ∷ ns ++ x ∷ []) ≡ x
@@ -163,19 +164,34 @@ module _ (End : ℕ → Type 0) where
   pub second_leads : (nodes : List Node) (k h x : ℕ) (ns : List ℕ) → IsChainBy End nodes k (h ∷ ns) → next_in nodes h ≡ x → (End x → ⊥) → (rest : List ℕ) × (ns ≡ x ∷ rest)
   second_leads nodes k h x ns c e some = chain_some nodes x ns some (subst (λ y. IsChainBy End nodes y ns) e c.3)
 
--- a chain whose first node leads to the closed end has no other node, and holds a queue that is shut
-pub alone_at_end : (nodes : List Node) (k front : ℕ) (rest : List ℕ) → length nodes < reserved_node → IsQueueChain nodes k (front ∷ rest) → next_in nodes front ≡ reserved_node → rest ≡ []
-alone_at_end nodes k front rest few chain closed = chain_same IsEnd nodes rest [] (next_in nodes front) (ends_apart nodes few) chain.3 (inr closed)
+-- the closed end is one
+pub closed_shut : (bits : ℕ) → nat_eq (reserved_node bits) (reserved_node bits) ≡ true
+closed_shut bits = eq-eqb (reserved_node bits) (reserved_node bits) refl
 
-pub shut_alone : (m : Shared) (k front : ℕ) (rest : List ℕ) → length m.nodes < reserved_node → IsQueueChain m.nodes k (front ∷ rest) → next_in m.nodes front ≡ reserved_node → is_shut_chain m (front ∷ rest) ≡ true
-shut_alone m k front rest few chain closed =
-    ap (λ ns. is_shut_chain m (front ∷ ns)) (alone_at_end m.nodes k front rest few chain closed) ∙ ap (λ n. nat_eq n reserved_node) closed
+-- a chain whose first node leads to the closed end has no other node, and holds a queue that is shut
+pub alone_at_end : (bits : ℕ) (nodes : List Node) (k front : ℕ) (rest : List ℕ) → length nodes < reserved_node bits → IsQueueChain bits nodes k (front ∷ rest) → next_in nodes front ≡ reserved_node bits → rest ≡ []
+alone_at_end bits nodes k front rest few chain closed = chain_same (IsEnd bits) nodes rest [] (next_in nodes front) (ends_apart bits nodes few) chain.3 (inr closed)
+
+pub shut_alone : (bits : ℕ) (m : Shared) (k front : ℕ) (rest : List ℕ) → length m.nodes < reserved_node bits → IsQueueChain bits m.nodes k (front ∷ rest) → next_in m.nodes front ≡ reserved_node bits → is_shut_chain bits m (front ∷ rest) ≡ true
+shut_alone bits m k front rest few chain closed =
+    ap (λ ns. is_shut_chain bits m (front ∷ ns)) (alone_at_end bits m.nodes k front rest few chain closed) ∙ ap (λ n. nat_eq n (reserved_node bits)) closed ∙ closed_shut bits
+
+-- null is no closed end, since some number is below that
+pub null_open : (bits n : ℕ) → n < reserved_node bits → nat_eq 0 (reserved_node bits) ≡ false
+null_open bits n low = ne_eqb 0 (reserved_node bits) (λ e. omega (arith, low, e))
 
 -- the queue of no values whose chain ends at this number
-abbrev pub ended_at : ℕ → Queue
-ended_at n = record { values = []; shut = nat_eq n reserved_node }
+abbrev pub ended_at : (bits : ℕ) → ℕ → Queue
+ended_at bits n = record { values = []; shut = nat_eq n (reserved_node bits) }
+
+-- where it ends at null, it is the empty one
+pub null_ended : (bits n : ℕ) → n < reserved_node bits → ended_at bits 0 ≡ empty
+null_ended bits n low = ap ends (null_open bits n low)
+  where
+    ends : Bool → Queue
+    ends flag = record { values = []; shut = flag }
 
 -- a chain whose first node leads to null holds the empty queue
-pub empty_behind : (m : Shared) (front : ℕ) (rest : List ℕ) → IsQueueChain m.nodes m.head.node (front ∷ rest) → next_in m.nodes front ≡ 0 → queue_in m (front ∷ rest) ≡ empty
-empty_behind m front [] chain null = ap ended_at null
-empty_behind m front (x ∷ xs) chain null = absurd (omega (arith, null, chain.3.0, chain.3.1))
+pub empty_behind : (bits : ℕ) (m : Shared) (front : ℕ) (rest : List ℕ) → length m.nodes < reserved_node bits → IsQueueChain bits m.nodes m.head.node (front ∷ rest) → next_in m.nodes front ≡ 0 → queue_in bits m (front ∷ rest) ≡ empty
+empty_behind bits m front [] few chain null = ap (ended_at bits) null ∙ null_ended bits (length m.nodes) few
+empty_behind bits m front (x ∷ xs) few chain null = absurd (omega (arith, null, chain.3.0, chain.3.1))

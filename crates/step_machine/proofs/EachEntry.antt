@@ -31,5 +31,5 @@ each_call w me a l r is at = (fixed_at w r me a l is at).call
 pub plays_to_the_values : OfEachWorld PlaysToItsValues
 plays_to_the_values w r queue chain =
     let h : IsSimulated w = reached_simulation w r in
-    subst (λ es. Plays empty es (queue_in w.shared queue)) (sym (entries_booked w))
-    (subst (λ ns. Plays empty (completion_entries w) (queue_in w.shared ns)) (same_queue w r h.queue queue h.chain chain) h.fact.plays)
+    subst (λ es. Plays empty es (queue_in w.setup.bits w.shared queue)) (sym (entries_booked w))
+    (subst (λ ns. Plays empty (completion_entries w) (queue_in w.setup.bits w.shared ns)) (same_queue w r h.queue queue h.chain chain) h.fact.plays)

@@ -1,7 +1,7 @@
 -- The histories of both queues are legal: the operations of each world by rising place, and Head's count.
-use Rattle.std.proofs.Common.{◌≡◌, replicate, ℕ, ◌+◌, ◌≤◌, List, ◌∷◌, refl, sym, ap, ◌∙◌, subst, arith}
+use Rattle.std.proofs.Common.{◌≡◌, replicate, ℕ, ◌+◌, ◌<◌, ◌≤◌, List, ◌∷◌, refl, sym, ap, ◌∙◌, subst, arith}
 use Rattle.std.proofs.lemmas.Option.{none-some}
-use Rattle.step_machine.specs.Below.{empty, blank, IsLegal, Actor, Outcome, Shared, begun}
+use Rattle.step_machine.specs.Below.{reserved_node, empty, blank, IsLegal, Actor, Outcome, Shared, begun}
 use Rattle.step_machine.specs.Machine.{World, rested, after_outcome}
 use Rattle.step_machine.specs.Places.{IsQueueChain}
 use Rattle.step_machine.specs.Chains.{queue_in}
@@ -9,7 +9,7 @@ use Rattle.step_machine.specs.Stamps.{makers}
 use Rattle.step_machine.specs.EachQueue.{ReplaysToItsValues, CountsValuesTaken}
 use Rattle.step_machine.specs.Histories.{OfEachWorld}
 use Rattle.step_machine.proofs.StampsInvariants.{OperationAt, StampsInvariant}
-use Rattle.step_machine.proofs.Chains.{next_in, ended_at}
+use Rattle.step_machine.proofs.Chains.{next_in, ended_at, null_ended}
 use Rattle.step_machine.proofs.Beginnings.{blank_leads}
 use Rattle.step_machine.proofs.Counting.{holds, elsewhere, elsewhere_one}
 use Rattle.step_machine.proofs.CompletionSteps.{Simulates, simulates}
@@ -59,8 +59,8 @@ module _ (w : World) (me : ℕ) (a : Actor) (m' : Shared) (o : Outcome) (front :
   told_gains = after_gains w me a m' o front rest n.free n.shape n.writes mine told_books ac queue' n.linearizes
 
 -- at the start the chain holds the empty queue
-opening_queue : (size : ℕ) → empty ≡ ended_at (next_in (replicate size blank) 1)
-opening_queue size = sym (ap ended_at (blank_leads size))
+opening_queue : (bits size : ℕ) → size < reserved_node bits → empty ≡ ended_at bits (next_in (replicate size blank) 1)
+opening_queue bits size low = sym (ap (ended_at bits) (blank_leads size) ∙ null_ended bits size low)
 
 -- the moves carry the accounts along
 pub carried : Carries SimulationRelation WasEmpty
@@ -72,13 +72,13 @@ carried =
           (λ l e line entry. none-some e (sym (begun_entry w.setup.kind me op a) ∙ entry)) ac;
       at_rest = λ w me a l queue r is at may ac.
           simulation_with w me a (rested a) queue is (book_rested w me a (rested a) is refl) (λ k e line entry. none-some k line) ac;
-      starts = λ s actors sized. record { replays = tt; list = opening_queue s.size; plays = opening_queue s.size; counted = refl; calls = λ me e a l s is line entry got. absurd (none-some s got) };
+      starts = λ s actors sized. record { replays = tt; list = opening_queue s.bits s.size sized.numbered; plays = opening_queue s.bits s.size sized.numbered; counted = refl; calls = λ me e a l s is line entry got. absurd (none-some s got) };
     }
 
 -- a world has the chain from Head, and its accounts
 pub record IsSimulated (w : World) : Type 0 where
   pub queue : List ℕ
-  pub chain : IsQueueChain w.shared.nodes w.shared.head.node queue
+  pub chain : IsQueueChain w.setup.bits w.shared.nodes w.shared.head.node queue
   pub fact : SimulationRelation w queue
 
 -- each world that is reached has both
@@ -94,7 +94,7 @@ pub replay_to_the_values : OfEachWorld ReplaysToItsValues
 replay_to_the_values w r queue chain =
     let h : IsSimulated w = reached_simulation w r in (
       replays_promises w h.fact.replays,
-      replayed_promises w ∙ h.fact.list ∙ ap (λ q. queue_in w.shared q) (same_queue w r h.queue queue h.chain chain),
+      replayed_promises w ∙ h.fact.list ∙ ap (λ q. queue_in w.setup.bits w.shared q) (same_queue w r h.queue queue h.chain chain),
     )
 
 pub head_counts_values_taken : OfEachWorld CountsValuesTaken

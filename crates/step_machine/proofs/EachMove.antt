@@ -7,7 +7,7 @@ use Rattle.std.proofs.lemmas.Option.{same_Some, slice_get_within, get_or_from_sl
 use Rattle.line_table.specs.declared.lines.Line.{Line}
 use Rattle.history.specs.declared.operations.Stamped.{Stamped}
 use Rattle.line_steps.specs.declared.actors.Setup.{Setup}
-use Rattle.line_steps.specs.declared.actors.Actor.{Actor}
+use Rattle.line_steps.specs.Actors.{Actor}
 use Rattle.line_steps.specs.Outcomes.{Outcome}
 use Rattle.step_machine.specs.Machine.{World, opening, actor_of, with_actor, new_operation, with_outcome, with_operation, AnyMove, next_any, run_on, run}
 use Rattle.step_machine.specs.Stamps.{makers}

@@ -69,7 +69,7 @@ line_effects s now me a S8 m =
 line_effects s now me a S3 m =
     quietly now _
     (both Quiet (same_ref m.tail a.tail)
-    (both Quiet (is_null a.next) (inl refl) (both Quiet (is_shut a.next) (inr (λ h. h)) (both Quiet (nat_eq a.tail.count s.limit) (inr (λ h. h)) (inl refl))))
+    (both Quiet (is_null a.next) (inl refl) (both Quiet (is_shut s.bits a.next) (inr (λ h. h)) (both Quiet (nat_eq a.tail.count s.limit) (inr (λ h. h)) (inl refl))))
     (inl refl))
 line_effects s now me a S6 m = quietly now _ (both Quiet (nat_eq m.tail_lock 0) (inl refl) (inl refl))
 line_effects s now me a A7 m = quietly now _ (left_with_node_quiet now a.due a)
@@ -91,13 +91,13 @@ line_effects s now me a E3 m =
 line_effects s now me a E7 m =
     quietly now _
     (both Quiet (same_ref m.tail a.tail)
-    (both Quiet (is_null a.next) (inl refl) (both Quiet (is_shut a.next) (inr (λ h. h)) (both Quiet (nat_eq a.tail.count s.limit) (inr (λ h. h)) (inl refl))))
+    (both Quiet (is_null a.next) (inl refl) (both Quiet (is_shut s.bits a.next) (inr (λ h. h)) (both Quiet (nat_eq a.tail.count s.limit) (inr (λ h. h)) (inl refl))))
     (inl refl))
 line_effects s now me a D5 m =
     quietly now _
     (both Quiet (same_ref m.head a.head)
     (both Quiet (nat_eq a.head.node a.tail.node)
-    (both Quiet (is_null a.next) (inr (λ h. h)) (both Quiet (is_shut a.next) (inr (λ h. h)) (both Quiet (nat_eq a.tail.count s.limit) (inr (λ h. h)) (inl refl))))
+    (both Quiet (is_null a.next) (inr (λ h. h)) (both Quiet (is_shut s.bits a.next) (inr (λ h. h)) (both Quiet (nat_eq a.tail.count s.limit) (inr (λ h. h)) (inl refl))))
     (inl refl))
     (inl refl))
 line_effects s now me a D12 m =
@@ -105,7 +105,7 @@ line_effects s now me a D12 m =
 line_effects s now me a A3 m = quietly now _ (both Quiet (nat_eq m.tail_lock 0) (inl refl) (inl refl))
 line_effects s now me a B1 m = quietly now _ (both Quiet (nat_eq m.head_lock 0) (inl refl) (inl refl))
 line_effects s now me a B3 m =
-    quietly now _ (both Quiet (is_null (node_at m a.head.node).next) (inl refl) (both Quiet (is_shut (node_at m a.head.node).next) (inl refl) (inl refl)))
+    quietly now _ (both Quiet (is_null (node_at m a.head.node).next) (inl refl) (both Quiet (is_shut s.bits (node_at m a.head.node).next) (inl refl) (inl refl)))
 line_effects s now me a B4 m = quietly now _ (both Quiet (nat_eq a.head.count s.limit) (inl refl) (inl refl))
 line_effects s now me a B6 m = quietly now _ (unlocked_quiet now a.due a)
 line_effects s now me a _ m = quietly now _ (inl refl)

@@ -24,8 +24,8 @@ use Rattle.step_machine.proofs.Counting.{holds, asides, used, used_more, used_mo
 use Rattle.step_machine.proofs.StampsLists.{same_or_not}
 
 -- the chains, and that each node used stands in one place, once
-pub record Shape (m : Shared) (E : ℕ → ℕ) (queue free : List ℕ) : Type 0 where
-  pub queue_chain : IsQueueChain m.nodes m.head.node queue
+pub record Shape (bits : ℕ) (m : Shared) (E : ℕ → ℕ) (queue free : List ℕ) : Type 0 where
+  pub queue_chain : IsQueueChain bits m.nodes m.head.node queue
   pub free_chain : IsChain m.nodes m.free.node free
   pub once : (n : ℕ) → 1 ≤ n → times n queue + times n free + E n ≡ used n m.fresh
 
@@ -41,8 +41,8 @@ pub record WritesOneNode (m m' : Shared) (queue : List ℕ) (a : Actor) : Type 0
   pub whose : OwnerOf m m' queue a node
 
 -- what a step of an actor, which was `a` and is `b`, does with the chains and the nodes
-pub record Turn (m m' : Shared) (queue free queue' free' : List ℕ) (a b : Actor) (aside : Option ℕ) : Type 0 where
-  pub queue_chain : IsQueueChain m'.nodes m'.head.node queue'
+pub record Turn (bits : ℕ) (m m' : Shared) (queue free queue' free' : List ℕ) (a b : Actor) (aside : Option ℕ) : Type 0 where
+  pub queue_chain : IsQueueChain bits m'.nodes m'.head.node queue'
   pub free_chain : IsChain m'.nodes m'.free.node free'
   pub counts : (n : ℕ) → 1 ≤ n → times n queue' + times n free' + holds n b + asides n aside + used n m.fresh ≡ times n queue + times n free + holds n a + used n m'.fresh
   pub writes : WritesOneNode m m' queue a
@@ -68,41 +68,41 @@ next_keeps_value m k r n some low one = go (same_or_not n k)
     go (inr d) = ap (λ (y : Node). y.value) (others_stay m.nodes k n _ some one d)
 
 -- a node of the hand is in no chain
-pub not_linked : (m : Shared) (E : ℕ → ℕ) (queue free : List ℕ) → Shape m E queue free → (k : ℕ) → 1 ≤ k → 1 ≤ E k → (times k queue ≡ 0) × (times k free ≡ 0)
-not_linked m E queue free sh k some here =
+pub not_linked : (bits : ℕ) (m : Shared) (E : ℕ → ℕ) (queue free : List ℕ) → Shape bits m E queue free → (k : ℕ) → 1 ≤ k → 1 ≤ E k → (times k queue ≡ 0) × (times k free ≡ 0)
+not_linked bits m E queue free sh k some here =
     let s : times k queue + times k free + E k ≡ used k m.fresh = sh.once k some in
     let u : used k m.fresh ≤ 1 = used_most k m.fresh in
     (omega arith, omega arith)
 
 -- no node stands twice in the queue
-pub once_queued : (m : Shared) (E : ℕ → ℕ) (queue free : List ℕ) → Shape m E queue free → (n : ℕ) → 1 ≤ n → times n queue ≤ 1
-once_queued m E queue free sh n some = omega (arith, sh.once n some, used_most n m.fresh)
+pub once_queued : (bits : ℕ) (m : Shared) (E : ℕ → ℕ) (queue free : List ℕ) → Shape bits m E queue free → (n : ℕ) → 1 ≤ n → times n queue ≤ 1
+once_queued bits m E queue free sh n some = omega (arith, sh.once n some, used_most n m.fresh)
 
 -- no number stands twice in the queue
-pub queued_once : (m : Shared) (E : ℕ → ℕ) (queue free : List ℕ) → Shape m E queue free → (n : ℕ) → times n queue ≤ 1
-queued_once m E queue free sh n = go n (null_times IsEnd m.nodes queue m.head.node sh.queue_chain)
+pub queued_once : (bits : ℕ) (m : Shared) (E : ℕ → ℕ) (queue free : List ℕ) → Shape bits m E queue free → (n : ℕ) → times n queue ≤ 1
+queued_once bits m E queue free sh n = go n (null_times (IsEnd bits) m.nodes queue m.head.node sh.queue_chain)
   where
     go : (n : ℕ) → times 0 queue ≡ 0 → times n queue ≤ 1
     go zero none = omega arith
-    go (suc n) none = once_queued m E queue free sh (suc n) (omega arith)
+    go (suc n) none = once_queued bits m E queue free sh (suc n) (omega arith)
 
 -- what is written into no node
 pub writes_none : (m m' : Shared) (queue : List ℕ) (a : Actor) → m'.nodes ≡ m.nodes → WritesOneNode m m' queue a
 writes_none m m' queue a e = record { node = 0; others = λ n some d. ap (λ ns. node_in ns n) e; whose = inl refl }
 
 -- words other than nodes, Fresh and the starts of the chains
-pub turn_words : (m m' : Shared) (E : ℕ → ℕ) (queue free : List ℕ) (a b : Actor) → Shape m E queue free → m'.nodes ≡ m.nodes → m'.head.node ≡ m.head.node → m'.free.node ≡ m.free.node → m'.fresh ≡ m.fresh → ((n : ℕ) → holds n b ≡ holds n a) → Turn m m' queue free queue free a b None
-turn_words m m' E queue free a b sh nodes head top fresh same =
+pub turn_words : (bits : ℕ) (m m' : Shared) (E : ℕ → ℕ) (queue free : List ℕ) (a b : Actor) → Shape bits m E queue free → m'.nodes ≡ m.nodes → m'.head.node ≡ m.head.node → m'.free.node ≡ m.free.node → m'.fresh ≡ m.fresh → ((n : ℕ) → holds n b ≡ holds n a) → Turn bits m m' queue free queue free a b None
+turn_words bits m m' E queue free a b sh nodes head top fresh same =
     record {
-      queue_chain = subst (λ ns. IsQueueChain ns m'.head.node queue) (sym nodes) (subst (λ k. IsQueueChain m.nodes k queue) (sym head) sh.queue_chain);
+      queue_chain = subst (λ ns. IsQueueChain bits ns m'.head.node queue) (sym nodes) (subst (λ k. IsQueueChain bits m.nodes k queue) (sym head) sh.queue_chain);
       free_chain = subst (λ ns. IsChain ns m'.free.node free) (sym nodes) (subst (λ k. IsChain m.nodes k free) (sym top) sh.free_chain);
       counts = λ n some. omega (arith, same n, ap (used n) fresh);
       writes = writes_none m m' queue a nodes;
     }
 
 -- the node in hand is set aside
-pub turn_aside : (m : Shared) (E : ℕ → ℕ) (queue free : List ℕ) (a b : Actor) (k : ℕ) → Shape m E queue free → ((n : ℕ) → holds n b + one_if (nat_eq n k) ≡ holds n a) → Turn m m queue free queue free a b (Some k)
-turn_aside m E queue free a b k sh away =
+pub turn_aside : (bits : ℕ) (m : Shared) (E : ℕ → ℕ) (queue free : List ℕ) (a b : Actor) (k : ℕ) → Shape bits m E queue free → ((n : ℕ) → holds n b + one_if (nat_eq n k) ≡ holds n a) → Turn bits m m queue free queue free a b (Some k)
+turn_aside bits m E queue free a b k sh away =
     record {
       queue_chain = sh.queue_chain;
       free_chain = sh.free_chain;
@@ -111,8 +111,8 @@ turn_aside m E queue free a b k sh away =
     }
 
 -- a node that was never used comes into the hand
-pub turn_claim : (m : Shared) (E : ℕ → ℕ) (queue free : List ℕ) (a b : Actor) (c : ℕ) → Shape m E queue free → c ≡ m.fresh + 1 → ((n : ℕ) → holds n b ≡ holds n a + one_if (nat_eq n (m.fresh + 1))) → Turn m (put Fresh c m) queue free queue free a b None
-turn_claim m E queue free a b c sh e more =
+pub turn_claim : (bits : ℕ) (m : Shared) (E : ℕ → ℕ) (queue free : List ℕ) (a b : Actor) (c : ℕ) → Shape bits m E queue free → c ≡ m.fresh + 1 → ((n : ℕ) → holds n b ≡ holds n a + one_if (nat_eq n (m.fresh + 1))) → Turn bits m (put Fresh c m) queue free queue free a b None
+turn_claim bits m E queue free a b c sh e more =
     record {
       queue_chain = sh.queue_chain;
       free_chain = sh.free_chain;
@@ -121,14 +121,14 @@ turn_claim m E queue free a b c sh e more =
     }
 
 -- the first free node comes into the hand
-pub record Took (m : Shared) (r : Ref) (queue free : List ℕ) (a b : Actor) : Type 0 where
+pub record Took (bits : ℕ) (m : Shared) (r : Ref) (queue free : List ℕ) (a b : Actor) : Type 0 where
   pub rest : List ℕ
   pub was : free ≡ m.free.node ∷ rest
-  pub turn : Turn m (put Free r m) queue free queue rest a b None
+  pub turn : Turn bits m (put Free r m) queue free queue rest a b None
 
-pub turn_take : (m : Shared) (E : ℕ → ℕ) (queue free : List ℕ) (a b : Actor) (r : Ref) → Shape m E queue free → 1 ≤ m.free.node → r.node ≡ next_in m.nodes m.free.node → ((n : ℕ) → holds n b ≡ holds n a + one_if (nat_eq n m.free.node)) → Took m r queue free a b
-turn_take m E queue [] a b r sh some e more = absurd (let none : m.free.node ≡ 0 = sh.free_chain in omega arith)
-turn_take m E queue (x ∷ xs) a b r sh some e more =
+pub turn_take : (bits : ℕ) (m : Shared) (E : ℕ → ℕ) (queue free : List ℕ) (a b : Actor) (r : Ref) → Shape bits m E queue free → 1 ≤ m.free.node → r.node ≡ next_in m.nodes m.free.node → ((n : ℕ) → holds n b ≡ holds n a + one_if (nat_eq n m.free.node)) → Took bits m r queue free a b
+turn_take bits m E queue [] a b r sh some e more = absurd (let none : m.free.node ≡ 0 = sh.free_chain in omega arith)
+turn_take bits m E queue (x ∷ xs) a b r sh some e more =
     let at : m.free.node ≡ x = sh.free_chain.0 in
     record {
       rest = xs;
@@ -143,8 +143,8 @@ turn_take m E queue (x ∷ xs) a b r sh some e more =
     }
 
 -- the node in hand goes before the free ones
-pub turn_giveback : (m : Shared) (E : ℕ → ℕ) (queue free : List ℕ) (a b : Actor) (r : Ref) (k : ℕ) → Shape m E queue free → 1 ≤ k → k ≤ length m.nodes → next_in m.nodes k ≡ m.free.node → r.node ≡ k → ((n : ℕ) → holds n b + one_if (nat_eq n k) ≡ holds n a) → Turn m (put Free r m) queue free queue (k ∷ free) a b None
-turn_giveback m E queue free a b r k sh some low leads e away =
+pub turn_giveback : (bits : ℕ) (m : Shared) (E : ℕ → ℕ) (queue free : List ℕ) (a b : Actor) (r : Ref) (k : ℕ) → Shape bits m E queue free → 1 ≤ k → k ≤ length m.nodes → next_in m.nodes k ≡ m.free.node → r.node ≡ k → ((n : ℕ) → holds n b + one_if (nat_eq n k) ≡ holds n a) → Turn bits m (put Free r m) queue free queue (k ∷ free) a b None
+turn_giveback bits m E queue free a b r k sh some low leads e away =
     record {
       queue_chain = sh.queue_chain;
       free_chain = (e, some, low, subst (λ y. IsChain m.nodes y free) (sym leads) sh.free_chain);
@@ -160,27 +160,27 @@ chain_apart End nodes k x n ns some none h =
     h
 
 -- the node in hand is written
-pub turn_node : (m : Shared) (E : ℕ → ℕ) (queue free : List ℕ) (a b : Actor) (k : ℕ) (x : Node) → Shape m E queue free → ((n : ℕ) → holds n a ≤ E n) → 1 ≤ k → 1 ≤ holds k a → ((n : ℕ) → holds n b ≡ holds n a) → Turn m (with_node m k x) queue free queue free a b None
-turn_node m E queue free a b k x sh mine some here same =
+pub turn_node : (bits : ℕ) (m : Shared) (E : ℕ → ℕ) (queue free : List ℕ) (a b : Actor) (k : ℕ) (x : Node) → Shape bits m E queue free → ((n : ℕ) → holds n a ≤ E n) → 1 ≤ k → 1 ≤ holds k a → ((n : ℕ) → holds n b ≡ holds n a) → Turn bits m (with_node m k x) queue free queue free a b None
+turn_node bits m E queue free a b k x sh mine some here same =
     let h : holds k a ≤ E k = mine k in
-    let apart : (times k queue ≡ 0) × (times k free ≡ 0) = not_linked m E queue free sh k some (omega arith) in
+    let apart : (times k queue ≡ 0) × (times k free ≡ 0) = not_linked bits m E queue free sh k some (omega arith) in
     record {
-      queue_chain = chain_apart IsEnd m.nodes k x m.head.node queue some apart.0 sh.queue_chain;
+      queue_chain = chain_apart (IsEnd bits) m.nodes k x m.head.node queue some apart.0 sh.queue_chain;
       free_chain = chain_apart IsNull m.nodes k x m.free.node free some apart.1 sh.free_chain;
       counts = λ n one. omega (arith, same n);
       writes = record { node = k; others = λ n one d. others_stay m.nodes k n x some one d; whose = inr (inl here) };
     }
 
 -- the last node of the queue is there
-pub last_there : (m : Shared) (E : ℕ → ℕ) (h : ℕ) (rest free : List ℕ) (k : ℕ) → Shape m E (h ∷ rest) free → k ≡ last_node (h ∷ rest) → (1 ≤ k) × (k ≤ length m.nodes) × (1 ≤ times k (h ∷ rest))
-last_there m E h rest free k sh at =
-    let within : (1 ≤ last_node (h ∷ rest)) × (last_node (h ∷ rest) ≤ length m.nodes) = last_within IsEnd m.nodes h rest m.head.node sh.queue_chain in
+pub last_there : (bits : ℕ) (m : Shared) (E : ℕ → ℕ) (h : ℕ) (rest free : List ℕ) (k : ℕ) → Shape bits m E (h ∷ rest) free → k ≡ last_node (h ∷ rest) → (1 ≤ k) × (k ≤ length m.nodes) × (1 ≤ times k (h ∷ rest))
+last_there bits m E h rest free k sh at =
+    let within : (1 ≤ last_node (h ∷ rest)) × (last_node (h ∷ rest) ≤ length m.nodes) = last_within (IsEnd bits) m.nodes h rest m.head.node sh.queue_chain in
     (subst (λ j. 1 ≤ j) (sym at) within.0, subst (λ j. j ≤ length m.nodes) (sym at) within.1, subst (λ j. 1 ≤ times j (h ∷ rest)) (sym at) (last_times h rest))
 
 -- where its `next` was null, that is all that a write to it changes
-writes_last : (m : Shared) (E : ℕ → ℕ) (h : ℕ) (rest free : List ℕ) (a : Actor) (k : ℕ) (r : Ref) → Shape m E (h ∷ rest) free → k ≡ last_node (h ∷ rest) → next_in m.nodes k ≡ 0 → WritesOneNode m (put (Next k) r m) (h ∷ rest) a
-writes_last m E h rest free a k r sh at unlinked =
-    let there : (1 ≤ k) × (k ≤ length m.nodes) × (1 ≤ times k (h ∷ rest)) = last_there m E h rest free k sh at in
+writes_last : (bits : ℕ) (m : Shared) (E : ℕ → ℕ) (h : ℕ) (rest free : List ℕ) (a : Actor) (k : ℕ) (r : Ref) → Shape bits m E (h ∷ rest) free → k ≡ last_node (h ∷ rest) → next_in m.nodes k ≡ 0 → WritesOneNode m (put (Next k) r m) (h ∷ rest) a
+writes_last bits m E h rest free a k r sh at unlinked =
+    let there : (1 ≤ k) × (k ≤ length m.nodes) × (1 ≤ times k (h ∷ rest)) = last_there bits m E h rest free k sh at in
     record {
       node = k;
       others = λ n one d. others_stay m.nodes k n _ there.0 one d;
@@ -188,38 +188,38 @@ writes_last m E h rest free a k r sh at unlinked =
     }
 
 -- the last node of the queue, which leads to null, comes to lead to an end
-pub turn_shut : (m : Shared) (E : ℕ → ℕ) (h : ℕ) (rest free : List ℕ) (a b : Actor) (k : ℕ) (r : Ref) → Shape m E (h ∷ rest) free → k ≡ last_node (h ∷ rest) → next_in m.nodes k ≡ 0 → IsEnd r.node → ((n : ℕ) → holds n b ≡ holds n a) → Turn m (put (Next k) r m) (h ∷ rest) free (h ∷ rest) free a b None
-turn_shut m E h rest free a b k r sh at unlinked end same =
-    let there : (1 ≤ k) × (k ≤ length m.nodes) × (1 ≤ times k (h ∷ rest)) = last_there m E h rest free k sh at in
+pub turn_shut : (bits : ℕ) (m : Shared) (E : ℕ → ℕ) (h : ℕ) (rest free : List ℕ) (a b : Actor) (k : ℕ) (r : Ref) → Shape bits m E (h ∷ rest) free → k ≡ last_node (h ∷ rest) → next_in m.nodes k ≡ 0 → IsEnd bits r.node → ((n : ℕ) → holds n b ≡ holds n a) → Turn bits m (put (Next k) r m) (h ∷ rest) free (h ∷ rest) free a b None
+turn_shut bits m E h rest free a b k r sh at unlinked end same =
+    let there : (1 ≤ k) × (k ≤ length m.nodes) × (1 ≤ times k (h ∷ rest)) = last_there bits m E h rest free k sh at in
     record {
       queue_chain =
-          chain_ended IsEnd m.nodes (set m.nodes (k - 1) y) h rest m.head.node (length-set m.nodes (k - 1) y)
+          chain_ended (IsEnd bits) m.nodes (set m.nodes (k - 1) y) h rest m.head.node (length-set m.nodes (k - 1) y)
           (λ j one d. ap (λ (z : Node). z.next.node) (others_stay m.nodes k j y there.0 one (λ q. d (q ∙ at))))
-          (queued_once m E (h ∷ rest) free sh)
-          (subst (λ j. IsEnd (next_in (set m.nodes (k - 1) y) j)) at (subst (λ (z : Node). IsEnd z.next.node) (sym (written m.nodes k y there.0 there.1)) end))
+          (queued_once bits m E (h ∷ rest) free sh)
+          (subst (λ j. IsEnd bits (next_in (set m.nodes (k - 1) y) j)) at (subst (λ (z : Node). IsEnd bits z.next.node) (sym (written m.nodes k y there.0 there.1)) end))
           sh.queue_chain;
       free_chain = chain_apart IsNull m.nodes k y m.free.node free there.0 (omega (arith, sh.once k there.0, used_most k m.fresh, there.2)) sh.free_chain;
       counts = λ n one. omega (arith, same n);
-      writes = writes_last m E h rest free a k r sh at unlinked;
+      writes = writes_last bits m E h rest free a k r sh at unlinked;
     }
   where
     y : Node
     y = record (node_at m k) { next = r }
 
 -- the last node of the queue, which leads to null, is linked to the node in hand, which does too
-pub turn_link : (m : Shared) (E : ℕ → ℕ) (h : ℕ) (rest free : List ℕ) (a b : Actor) (k x : ℕ) (r : Ref) → Shape m E (h ∷ rest) free → ((n : ℕ) → holds n a ≤ E n) → k ≡ last_node (h ∷ rest) → next_in m.nodes k ≡ 0 → 1 ≤ x → x ≤ length m.nodes → 1 ≤ holds x a → next_in m.nodes x ≡ 0 → r.node ≡ x → ((n : ℕ) → holds n b + one_if (nat_eq n x) ≡ holds n a) → Turn m (put (Next k) r m) (h ∷ rest) free (h ∷ rest ++ x ∷ []) free a b None
-turn_link m E h rest free a b k x r sh mine at unlinked some low here null e away =
+pub turn_link : (bits : ℕ) (m : Shared) (E : ℕ → ℕ) (h : ℕ) (rest free : List ℕ) (a b : Actor) (k x : ℕ) (r : Ref) → Shape bits m E (h ∷ rest) free → ((n : ℕ) → holds n a ≤ E n) → k ≡ last_node (h ∷ rest) → next_in m.nodes k ≡ 0 → 1 ≤ x → x ≤ length m.nodes → 1 ≤ holds x a → next_in m.nodes x ≡ 0 → r.node ≡ x → ((n : ℕ) → holds n b + one_if (nat_eq n x) ≡ holds n a) → Turn bits m (put (Next k) r m) (h ∷ rest) free (h ∷ rest ++ x ∷ []) free a b None
+turn_link bits m E h rest free a b k x r sh mine at unlinked some low here null e away =
     record {
       queue_chain =
-          chain_linked IsEnd m.nodes nodz h rest m.head.node x (length-set m.nodes (k - 1) y)
+          chain_linked (IsEnd bits) m.nodes nodz h rest m.head.node x (length-set m.nodes (k - 1) y)
           (λ j one d. ap (λ (z : Node). z.next.node) (others_stay m.nodes k j y some_k one (λ q. d (q ∙ at))))
           (ap (next_in nodz) (sym at) ∙ ap (λ (z : Node). z.next.node) (written m.nodes k y some_k low_k) ∙ e)
-          (queued_once m E (h ∷ rest) free sh) some low
+          (queued_once bits m E (h ∷ rest) free sh) some low
           (inl (ap (λ (z : Node). z.next.node) (others_stay m.nodes k x y some_k some other) ∙ null))
           sh.queue_chain;
       free_chain = chain_apart IsNull m.nodes k y m.free.node free some_k (omega (arith, sh.once k some_k, used_most k m.fresh, stands)) sh.free_chain;
       counts = λ n one. omega (arith, away n, times-append n (h ∷ rest) (x ∷ []));
-      writes = writes_last m E h rest free a k r sh at unlinked;
+      writes = writes_last bits m E h rest free a k r sh at unlinked;
     }
   where
     y : Node
@@ -229,7 +229,7 @@ turn_link m E h rest free a b k x r sh mine at unlinked some low here null e awa
     nodz = set m.nodes (k - 1) y
 
     there : (1 ≤ k) × (k ≤ length m.nodes) × (1 ≤ times k (h ∷ rest))
-    there = last_there m E h rest free k sh at
+    there = last_there bits m E h rest free k sh at
 
     some_k : 1 ≤ k
     some_k = there.0
@@ -243,14 +243,14 @@ turn_link m E h rest free a b k x r sh mine at unlinked some low here null e awa
     other : x ≢ k
     other q =
         let a1 : holds x a ≤ E x = mine x in
-        let a2 : times x (h ∷ rest) ≡ 0 = (not_linked m E (h ∷ rest) free sh x some (omega arith)).0 in
+        let a2 : times x (h ∷ rest) ≡ 0 = (not_linked bits m E (h ∷ rest) free sh x some (omega arith)).0 in
         let a3 : 1 ≤ times x (h ∷ rest) = subst (λ j. 1 ≤ times j (h ∷ rest)) (sym q) stands in
         omega arith
 
 -- the dummy comes into the hand, and the node behind it is the dummy
-pub turn_pop : (m : Shared) (E : ℕ → ℕ) (h x : ℕ) (rest free : List ℕ) (a b : Actor) (r : Ref) → Shape m E (h ∷ x ∷ rest) free → r.node ≡ x → ((n : ℕ) → holds n b ≡ holds n a + one_if (nat_eq n h)) → Turn m (put Head r m) (h ∷ x ∷ rest) free (x ∷ rest) free a b None
-turn_pop m E h x rest free a b r sh e more =
-    let c : IsQueueChain m.nodes (next_in m.nodes h) (x ∷ rest) = sh.queue_chain.3 in
+pub turn_pop : (bits : ℕ) (m : Shared) (E : ℕ → ℕ) (h x : ℕ) (rest free : List ℕ) (a b : Actor) (r : Ref) → Shape bits m E (h ∷ x ∷ rest) free → r.node ≡ x → ((n : ℕ) → holds n b ≡ holds n a + one_if (nat_eq n h)) → Turn bits m (put Head r m) (h ∷ x ∷ rest) free (x ∷ rest) free a b None
+turn_pop bits m E h x rest free a b r sh e more =
+    let c : IsQueueChain bits m.nodes (next_in m.nodes h) (x ∷ rest) = sh.queue_chain.3 in
     record {
       queue_chain = (e, c.1, c.2, c.3);
       free_chain = sh.free_chain;
@@ -259,8 +259,8 @@ turn_pop m E h x rest free a b r sh e more =
     }
 
 -- the shape after a step, where nodes stand elsewhere by what the actor held and holds
-pub shape_turned : (m m' : Shared) (E E' : ℕ → ℕ) (queue free queue' free' : List ℕ) (a b : Actor) (aside : Option ℕ) → Shape m E queue free → Turn m m' queue free queue' free' a b aside → ((n : ℕ) → 1 ≤ n → E' n + holds n a ≡ E n + holds n b + asides n aside) → Shape m' E' queue' free'
-shape_turned m m' E E' queue free queue' free' a b aside sh t moves =
+pub shape_turned : (bits : ℕ) (m m' : Shared) (E E' : ℕ → ℕ) (queue free queue' free' : List ℕ) (a b : Actor) (aside : Option ℕ) → Shape bits m E queue free → Turn bits m m' queue free queue' free' a b aside → ((n : ℕ) → 1 ≤ n → E' n + holds n a ≡ E n + holds n b + asides n aside) → Shape bits m' E' queue' free'
+shape_turned bits m m' E E' queue free queue' free' a b aside sh t moves =
     record {
       queue_chain = t.queue_chain;
       free_chain = t.free_chain;
@@ -287,36 +287,36 @@ value_stays m m' queue a n w some none = go w.whose (same_or_not n w.node)
     go (inr (inr last)) (inl q) = subst (λ k. (node_at m' k).value ≡ (node_at m k).value) (sym q) last.2
 
 -- the last node of the queue is in no hand and not free
-last_apart : (m : Shared) (E : ℕ → ℕ) (h : ℕ) (rest free : List ℕ) → Shape m E (h ∷ rest) free → (n : ℕ) → 1 ≤ n → 1 ≤ times n free + E n → n ≢ last_node (h ∷ rest)
-last_apart m E h rest free sh n some here q =
+last_apart : (bits : ℕ) (m : Shared) (E : ℕ → ℕ) (h : ℕ) (rest free : List ℕ) → Shape bits m E (h ∷ rest) free → (n : ℕ) → 1 ≤ n → 1 ≤ times n free + E n → n ≢ last_node (h ∷ rest)
+last_apart bits m E h rest free sh n some here q =
     let e : 1 ≤ times n (h ∷ rest) = subst (λ k. 1 ≤ times k (h ∷ rest)) (sym q) (last_times h rest) in
     omega (arith, sh.once n some, used_most n m.fresh)
 
 -- the nodes of another actor stay as they are
-pub hand_kept : (m m' : Shared) (E : ℕ → ℕ) (h : ℕ) (rest free : List ℕ) (a c : Actor) → Shape m E (h ∷ rest) free → WritesOneNode m m' (h ∷ rest) a → ((n : ℕ) → holds n a + holds n c ≤ E n) → (n : ℕ) → 1 ≤ n → 1 ≤ holds n c → node_at m' n ≡ node_at m n
-hand_kept m m' E h rest free a c sh w both n some here =
+pub hand_kept : (bits : ℕ) (m m' : Shared) (E : ℕ → ℕ) (h : ℕ) (rest free : List ℕ) (a c : Actor) → Shape bits m E (h ∷ rest) free → WritesOneNode m m' (h ∷ rest) a → ((n : ℕ) → holds n a + holds n c ≤ E n) → (n : ℕ) → 1 ≤ n → 1 ≤ holds n c → node_at m' n ≡ node_at m n
+hand_kept bits m m' E h rest free a c sh w both n some here =
     stays m m' (h ∷ rest) a n w some (omega (arith, both n, sh.once n some, used_most n m.fresh))
-    (λ q. absurd (last_apart m E h rest free sh n some (omega (arith, both n)) q))
+    (λ q. absurd (last_apart bits m E h rest free sh n some (omega (arith, both n)) q))
 
 -- the free nodes stay as they are
-pub free_kept : (m m' : Shared) (E : ℕ → ℕ) (h : ℕ) (rest free : List ℕ) (a : Actor) → Shape m E (h ∷ rest) free → WritesOneNode m m' (h ∷ rest) a → ((n : ℕ) → holds n a ≤ E n) → (n : ℕ) → 1 ≤ n → 1 ≤ times n free → node_at m' n ≡ node_at m n
-free_kept m m' E h rest free a sh w mine n some here =
+pub free_kept : (bits : ℕ) (m m' : Shared) (E : ℕ → ℕ) (h : ℕ) (rest free : List ℕ) (a : Actor) → Shape bits m E (h ∷ rest) free → WritesOneNode m m' (h ∷ rest) a → ((n : ℕ) → holds n a ≤ E n) → (n : ℕ) → 1 ≤ n → 1 ≤ times n free → node_at m' n ≡ node_at m n
+free_kept bits m m' E h rest free a sh w mine n some here =
     stays m m' (h ∷ rest) a n w some (omega (arith, mine n, sh.once n some, used_most n m.fresh))
-    (λ q. absurd (last_apart m E h rest free sh n some (omega arith) q))
+    (λ q. absurd (last_apart bits m E h rest free sh n some (omega arith) q))
 
 -- a node of the queue that doesn't lead to null stays as it is
-pub queue_kept : (m m' : Shared) (E : ℕ → ℕ) (h : ℕ) (rest free : List ℕ) (a : Actor) → Shape m E (h ∷ rest) free → WritesOneNode m m' (h ∷ rest) a → ((n : ℕ) → holds n a ≤ E n) → (n : ℕ) → 1 ≤ n → 1 ≤ times n (h ∷ rest) → 1 ≤ next_in m.nodes n → node_at m' n ≡ node_at m n
-queue_kept m m' E h rest free a sh w mine n some here leads =
+pub queue_kept : (bits : ℕ) (m m' : Shared) (E : ℕ → ℕ) (h : ℕ) (rest free : List ℕ) (a : Actor) → Shape bits m E (h ∷ rest) free → WritesOneNode m m' (h ∷ rest) a → ((n : ℕ) → holds n a ≤ E n) → (n : ℕ) → 1 ≤ n → 1 ≤ times n (h ∷ rest) → 1 ≤ next_in m.nodes n → node_at m' n ≡ node_at m n
+queue_kept bits m m' E h rest free a sh w mine n some here leads =
     stays m m' (h ∷ rest) a n w some (omega (arith, mine n, sh.once n some, used_most n m.fresh)) (λ last null. omega (arith, leads, null))
 
 -- each node of the queue keeps its value
-pub value_kept : (m m' : Shared) (E : ℕ → ℕ) (queue free : List ℕ) (a : Actor) → Shape m E queue free → WritesOneNode m m' queue a → ((n : ℕ) → holds n a ≤ E n) → (n : ℕ) → 1 ≤ n → 1 ≤ times n queue → (node_at m' n).value ≡ (node_at m n).value
-value_kept m m' E queue free a sh w mine n some here =
+pub value_kept : (bits : ℕ) (m m' : Shared) (E : ℕ → ℕ) (queue free : List ℕ) (a : Actor) → Shape bits m E queue free → WritesOneNode m m' queue a → ((n : ℕ) → holds n a ≤ E n) → (n : ℕ) → 1 ≤ n → 1 ≤ times n queue → (node_at m' n).value ≡ (node_at m n).value
+value_kept bits m m' E queue free a sh w mine n some here =
     value_stays m m' queue a n w some (omega (arith, mine n, sh.once n some, used_most n m.fresh))
 
 -- so the values of nodes that stand in the queue are kept
-pub values_kept : (m m' : Shared) (E : ℕ → ℕ) (queue free : List ℕ) (a : Actor) → Shape m E queue free → WritesOneNode m m' queue a → ((n : ℕ) → holds n a ≤ E n) → (ns : List ℕ) → ((n : ℕ) → 1 ≤ times n ns → (1 ≤ n) × (1 ≤ times n queue)) → values_of m' ns ≡ values_of m ns
-values_kept m m' E queue free a sh w mine [] within = refl
-values_kept m m' E queue free a sh w mine (x ∷ xs) within =
+pub values_kept : (bits : ℕ) (m m' : Shared) (E : ℕ → ℕ) (queue free : List ℕ) (a : Actor) → Shape bits m E queue free → WritesOneNode m m' queue a → ((n : ℕ) → holds n a ≤ E n) → (ns : List ℕ) → ((n : ℕ) → 1 ≤ times n ns → (1 ≤ n) × (1 ≤ times n queue)) → values_of m' ns ≡ values_of m ns
+values_kept bits m m' E queue free a sh w mine [] within = refl
+values_kept bits m m' E queue free a sh w mine (x ∷ xs) within =
     let here : (1 ≤ x) × (1 ≤ times x queue) = within x (omega (arith, one_if_same x x refl)) in
-    cc (value_kept m m' E queue free a sh w mine x here.0 here.1, values_kept m m' E queue free a sh w mine xs (λ n more. within n (omega arith)))
+    cc (value_kept bits m m' E queue free a sh w mine x here.0 here.1, values_kept bits m m' E queue free a sh w mine xs (λ n more. within n (omega arith)))

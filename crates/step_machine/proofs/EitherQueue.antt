@@ -50,15 +50,15 @@ pub head_some : (w : World) → IsReached w → 1 ≤ w.shared.head.node
 head_some w r = (reached_chains w r).sound.ends.head
 
 -- the chain from Head is the only one, and so is the one from Free
-pub same_queue : (w : World) → IsReached w → (ns ms : List ℕ) → IsQueueChain w.shared.nodes w.shared.head.node ns → IsQueueChain w.shared.nodes w.shared.head.node ms → ns ≡ ms
-same_queue w r ns ms = chain_same IsEnd w.shared.nodes ns ms w.shared.head.node (ends_apart w.shared.nodes (few_nodes w r))
+pub same_queue : (w : World) → IsReached w → (ns ms : List ℕ) → IsQueueChain w.setup.bits w.shared.nodes w.shared.head.node ns → IsQueueChain w.setup.bits w.shared.nodes w.shared.head.node ms → ns ≡ ms
+same_queue w r ns ms = chain_same (IsEnd w.setup.bits) w.shared.nodes ns ms w.shared.head.node (ends_apart w.setup.bits w.shared.nodes (few_nodes w r))
 
 pub same_free : (w : World) → (ns ms : List ℕ) → IsChain w.shared.nodes w.shared.free.node ns → IsChain w.shared.nodes w.shared.free.node ms → ns ≡ ms
 same_free w ns ms = chain_same IsNull w.shared.nodes ns ms w.shared.free.node (null_apart w.shared.nodes)
 
 -- an actor stands before a line of its queue, with nodes in the registers that the line uses so
-pub stands_at : (w : World) → IsReached w → (me : ℕ) (a : Actor) (l : Line) → actor_of w me ≡ Some a → a.line ≡ Some l → IsRunBy (section_of l) w.setup.kind × NonNullAt l a
-stands_at w r me a l is at = subst (IsAtLine w.setup.kind a) at ((reached_chains w r).sound.actors me a is).stands.line
+pub stands_at : (w : World) → IsReached w → (me : ℕ) (a : Actor) (l : Line) → actor_of w me ≡ Some a → a.line ≡ Some l → IsRunBy (section_of l) w.setup.kind × NonNullAt w.setup.bits l a
+stands_at w r me a l is at = subst (IsAtLine w.setup.bits w.setup.kind a) at ((reached_chains w r).sound.actors me a is).stands.line
 
 pub each_runs_its_queue : (w : World) → IsReached w → EachRunsItsQueue w
 each_runs_its_queue w r me a l is at = (stands_at w r me a l is at).0
@@ -94,8 +94,8 @@ queue_and_free_apart w r n queued free =
     let f : 1 ≤ times n p.free = subst (λ ns. 1 ≤ times n ns) (same_free w free.0 p.free free.1 p.sound.shape.free_chain) (contained n free.0 free.2.0 free.2.1 free.2.2) in
     go n (p.front ∷ p.rest) p.free q f p.sound.shape
   where
-    go : (n : ℕ) (queue free : List ℕ) → 1 ≤ times n queue → 1 ≤ times n free → Shape w.shared (elsewhere w) queue free → ⊥
-    go zero qs fs q f sh = let none : times 0 qs ≡ 0 = null_times IsEnd w.shared.nodes qs w.shared.head.node sh.queue_chain in omega arith
+    go : (n : ℕ) (queue free : List ℕ) → 1 ≤ times n queue → 1 ≤ times n free → Shape w.setup.bits w.shared (elsewhere w) queue free → ⊥
+    go zero qs fs q f sh = let none : times 0 qs ≡ 0 = null_times (IsEnd w.setup.bits) w.shared.nodes qs w.shared.head.node sh.queue_chain in omega arith
     go (suc n) qs fs q f sh = omega (arith, sh.once (suc n) (omega arith), used_most (suc n) w.shared.fresh)
 
 -- the mark of a node in a pocket is the count of the node's `next`

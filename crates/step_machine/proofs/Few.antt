@@ -120,7 +120,7 @@ are_few w r = (pops_few, pushes_few)
     pushes_few =
         let queue : List ℕ = places.0 in
         let counted : count is_push (entries w) + 0 ≡ count is_pop (entries w) + length (queue_values w.shared queue) =
-        plays_count (entries w) false [] (queue_in w.shared queue) (plays_to_the_values w r queue places.2.queue_chain) in
+        plays_count (entries w) false [] (queue_in w.setup.bits w.shared queue) (plays_to_the_values w r queue places.2.queue_chain) in
         let used : length queue ≤ w.shared.fresh = few w queue places.1 places.2 1 (omega arith) in
         let fresh : w.shared.fresh ≤ w.setup.size = range.shared.fresh in
         let some : 1 ≤ w.shared.fresh = range.shared.some_fresh in

@@ -215,7 +215,7 @@ fixed s now me a E3 c h =
 fixed s now me a E7 c h =
     both (Fixes s.limit me) (same_ref c a.tail)
     (both (Fixes s.limit me) (is_null a.next) (record { fixed = record { pocket = h.pocket; hand = h.hand; call = h.call; earned = h.earned; room = tt } })
-    (both (Fixes s.limit me) (is_shut a.next) (record { fixed = refl })
+    (both (Fixes s.limit me) (is_shut s.bits a.next) (record { fixed = refl })
     (either (Fixes s.limit me) (nat_eq a.tail.count s.limit) (λ e. record { fixed = refl })
     (λ e. record { fixed = record { pocket = h.pocket; hand = h.hand; call = h.call; earned = h.earned; room = eqb-false a.tail.count s.limit e } }))))
     (record { fixed = record { pocket = h.pocket; hand = h.hand; call = h.call; earned = h.earned; room = tt } })
@@ -227,7 +227,7 @@ fixed s now me a D5 c h =
     both (Fixes s.limit me) (same_ref c a.head)
     (both (Fixes s.limit me) (nat_eq a.head.node a.tail.node)
     (both (Fixes s.limit me) (is_null a.next) (record { fixed = h.hand })
-    (both (Fixes s.limit me) (is_shut a.next) (record { fixed = h.hand })
+    (both (Fixes s.limit me) (is_shut s.bits a.next) (record { fixed = h.hand })
     (either (Fixes s.limit me) (nat_eq a.tail.count s.limit) (λ e. record { fixed = h.hand })
     (λ e. record { fixed = record { pocket = h.pocket; hand = h.hand; call = h.call; earned = h.earned; room = eqb-false a.tail.count s.limit e } }))))
     (record { fixed = record { pocket = h.pocket; hand = h.hand; call = h.call; earned = h.earned; room = tt } }))
@@ -249,7 +249,7 @@ fixed s now me a A7 c h = left_with_node_fixed s.limit me now a.due a h.hand
 fixed s now me a S3 c h =
     both (Fixes s.limit me) (same_ref c a.tail)
     (both (Fixes s.limit me) (is_null a.next) (record { fixed = record { pocket = h.pocket; hand = h.hand; call = h.call; earned = h.earned; room = tt } })
-    (both (Fixes s.limit me) (is_shut a.next) (record { fixed = h.hand })
+    (both (Fixes s.limit me) (is_shut s.bits a.next) (record { fixed = h.hand })
     (either (Fixes s.limit me) (nat_eq a.tail.count s.limit) (λ e. record { fixed = h.hand })
     (λ e. record { fixed = record { pocket = h.pocket; hand = h.hand; call = h.call; earned = h.earned; room = eqb-false a.tail.count s.limit e } }))))
     (record { fixed = record { pocket = h.pocket; hand = h.hand; call = h.call; earned = h.earned; room = tt } })
@@ -266,7 +266,7 @@ fixed s now me a B1 c h =
     (record { fixed = record { pocket = h.pocket; hand = h.hand; call = h.call; earned = h.earned; room = tt } })
 fixed s now me a B3 c h =
     both (Fixes s.limit me) (is_null c) (record { fixed = record { pocket = h.pocket; hand = h.hand; call = h.call; earned = tt; room = tt } })
-    (both (Fixes s.limit me) (is_shut c) (record { fixed = record { pocket = h.pocket; hand = h.hand; call = h.call; earned = inr refl; room = tt } })
+    (both (Fixes s.limit me) (is_shut s.bits c) (record { fixed = record { pocket = h.pocket; hand = h.hand; call = h.call; earned = inr refl; room = tt } })
     (record { fixed = record { pocket = h.pocket; hand = h.hand; call = h.call; earned = h.earned; room = tt } }))
 fixed s now me a B4 c h =
     either (Fixes s.limit me) (nat_eq a.head.count s.limit) (λ e. record { fixed = record { pocket = h.pocket; hand = h.hand; call = h.call; earned = inl refl; room = tt } })

@@ -55,7 +55,7 @@ settles s now me a F3 c =
 settles s now me a E3 c =
     both (Settles _ _) (nat_eq c.count s.limit) record { looks = omega arith; leaves = refl } record { looks = omega arith; leaves = tt }
 settles s now me a E7 c =
-    both (Settles _ _) (same_ref c a.tail) (both (Settles _ _) (is_null a.next) record { looks = omega arith; leaves = tt } (both (Settles _ _) (is_shut a.next) record { looks = omega arith; leaves = tt } (both (Settles _ _) (nat_eq a.tail.count s.limit) record { looks = omega arith; leaves = tt } record { looks = omega arith; leaves = tt }))) record { looks = omega arith; leaves = tt }
+    both (Settles _ _) (same_ref c a.tail) (both (Settles _ _) (is_null a.next) record { looks = omega arith; leaves = tt } (both (Settles _ _) (is_shut s.bits a.next) record { looks = omega arith; leaves = tt } (both (Settles _ _) (nat_eq a.tail.count s.limit) record { looks = omega arith; leaves = tt } record { looks = omega arith; leaves = tt }))) record { looks = omega arith; leaves = tt }
 settles s now me a E9 c =
     both (Settles _ _) (same_ref c a.next) (linked (nat_eq a.tail.count s.limit)) record { looks = omega arith; leaves = tt }
   where
@@ -63,21 +63,21 @@ settles s now me a E9 c =
     linked true = record { looks = omega arith; leaves = tt }
     linked false = record { looks = omega arith; leaves = tt }
 settles s now me a D5 c =
-    both (Settles _ _) (same_ref c a.head) (both (Settles _ _) (nat_eq a.head.node a.tail.node) (both (Settles _ _) (is_null a.next) record { looks = omega arith; leaves = tt } (both (Settles _ _) (is_shut a.next) record { looks = omega arith; leaves = tt } (both (Settles _ _) (nat_eq a.tail.count s.limit) record { looks = omega arith; leaves = tt } record { looks = omega arith; leaves = tt }))) record { looks = omega arith; leaves = tt }) record { looks = omega arith; leaves = tt }
+    both (Settles _ _) (same_ref c a.head) (both (Settles _ _) (nat_eq a.head.node a.tail.node) (both (Settles _ _) (is_null a.next) record { looks = omega arith; leaves = tt } (both (Settles _ _) (is_shut s.bits a.next) record { looks = omega arith; leaves = tt } (both (Settles _ _) (nat_eq a.tail.count s.limit) record { looks = omega arith; leaves = tt } record { looks = omega arith; leaves = tt }))) record { looks = omega arith; leaves = tt }) record { looks = omega arith; leaves = tt }
 settles s now me a D12 c =
     both (Settles _ _) (nat_eq a.head.count s.limit) record { looks = omega arith; leaves = tt } record { looks = omega arith; leaves = tt }
 settles s now me a D13 c =
     both (Settles _ _) (same_ref c a.head) record { looks = omega arith; leaves = tt } record { looks = omega arith; leaves = tt }
 settles s now me a A3 c = both (Settles _ _) (nat_eq c 0) record { looks = omega arith; leaves = tt } record { looks = omega arith; leaves = tt }
 settles s now me a B1 c = both (Settles _ _) (nat_eq c 0) record { looks = omega arith; leaves = tt } record { looks = omega arith; leaves = tt }
-settles s now me a B3 c = both (Settles _ _) (is_null c) record { looks = omega arith; leaves = tt } (both (Settles _ _) (is_shut c) record { looks = omega arith; leaves = tt } record { looks = omega arith; leaves = tt })
+settles s now me a B3 c = both (Settles _ _) (is_null c) record { looks = omega arith; leaves = tt } (both (Settles _ _) (is_shut s.bits c) record { looks = omega arith; leaves = tt } record { looks = omega arith; leaves = tt })
 settles s now me a B4 c =
     both (Settles _ _) (nat_eq a.head.count s.limit) record { looks = omega arith; leaves = tt } record { looks = omega arith; leaves = tt }
 settles s now me a B6 c = unlocked_settles _ now a.due a
 settles s now me a A5 c = both (Settles _ _) (same_ref c null) record { looks = omega arith; leaves = tt } record { looks = omega arith; leaves = tt }
 settles s now me a A7 c = left_with_node_settles _ now a.due a
 settles s now me a S3 c =
-    both (Settles _ _) (same_ref c a.tail) (both (Settles _ _) (is_null a.next) record { looks = omega arith; leaves = tt } (both (Settles _ _) (is_shut a.next) record { looks = omega arith; leaves = tt } (both (Settles _ _) (nat_eq a.tail.count s.limit) record { looks = omega arith; leaves = tt } record { looks = omega arith; leaves = tt }))) record { looks = omega arith; leaves = tt }
+    both (Settles _ _) (same_ref c a.tail) (both (Settles _ _) (is_null a.next) record { looks = omega arith; leaves = tt } (both (Settles _ _) (is_shut s.bits a.next) record { looks = omega arith; leaves = tt } (both (Settles _ _) (nat_eq a.tail.count s.limit) record { looks = omega arith; leaves = tt } record { looks = omega arith; leaves = tt }))) record { looks = omega arith; leaves = tt }
 settles s now me a S4 c = both (Settles _ _) (same_ref c a.next) record { looks = omega arith; leaves = tt } record { looks = omega arith; leaves = tt }
 settles s now me a S6 c = both (Settles _ _) (nat_eq c 0) record { looks = omega arith; leaves = tt } record { looks = omega arith; leaves = tt }
 settles s now me a S8 c = both (Settles _ _) (same_ref c null) record { looks = omega arith; leaves = tt } record { looks = omega arith; leaves = tt }
@@ -113,7 +113,7 @@ grows s now me a A5 m = plus m _ _ (outcome s now me a A5 (found (action s me a 
 grows s now me a S4 m = plus m _ _ (outcome s now me a S4 (found (action s me a S4) m)) a.node (if_fresh (same (Next a.tail.node) (content (Next a.tail.node) m) a.next) (put (Next a.tail.node) (raised_end s a.next) m) m refl) (settles s now me a S4 (found (action s me a S4) m))
 grows s now me a S5 m = plus m _ _ (outcome s now me a S5 (found (action s me a S5) m)) a.node (if_fresh (same Tail (content Tail m) a.tail) (put Tail (raised s a.tail a.next.node) m) m refl) (settles s now me a S5 (found (action s me a S5) m))
 grows s now me a S6 m = plus m _ _ (outcome s now me a S6 (found (action s me a S6) m)) a.node (if_fresh (same Tail_lock (content Tail_lock m) 0) (put Tail_lock (me) m) m refl) (settles s now me a S6 (found (action s me a S6) m))
-grows s now me a S8 m = plus m _ _ (outcome s now me a S8 (found (action s me a S8) m)) a.node (if_fresh (same (Next a.tail.node) (content (Next a.tail.node) m) null) (put (Next a.tail.node) (shut_ref 0) m) m refl) (settles s now me a S8 (found (action s me a S8) m))
+grows s now me a S8 m = plus m _ _ (outcome s now me a S8 (found (action s me a S8) m)) a.node (if_fresh (same (Next a.tail.node) (content (Next a.tail.node) m) null) (put (Next a.tail.node) (shut_ref s.bits 0) m) m refl) (settles s now me a S8 (found (action s me a S8) m))
 grows s now me a l m = plus m _ _ (outcome s now me a l (found (action s me a l) m)) a.node (refl) (settles s now me a l (found (action s me a l) m))
 
 -- giving up ends the call, and sets nothing aside

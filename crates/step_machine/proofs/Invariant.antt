@@ -28,7 +28,7 @@ use Rattle.step_machine.proofs.Beginnings.{Begins, begun_begins, rested_begins, 
 
 -- what holds of an actor: where it stands, what its registers have, its marks, what it knows, and which locks it has
 pub record LocalInvariant (q : Queue) (Z : ℕ → Type 0) (s : Setup) (m : Shared) (last me : ℕ) (a : Actor) : Type 0 where
-  pub stands : PcIsValid s.kind a
+  pub stands : PcIsValid s.bits s.kind a
   pub fixed : FixedAt s.limit me a a.line
   pub marked : Marked m a
   pub knows : Knows q Z s m last a a.line
@@ -36,7 +36,7 @@ pub record LocalInvariant (q : Queue) (Z : ℕ → Type 0) (s : Setup) (m : Shar
 
 -- what holds of a world: the queue's chain is `front` and then `rest`, and `free` is the one from Free
 pub record QueueInvariant (q : Queue) (Z : ℕ → Type 0) (w : World) (front : ℕ) (rest free : List ℕ) : Type 0 where
-  pub shape : Shape w.shared (elsewhere w) (front ∷ rest) free
+  pub shape : Shape w.setup.bits w.shared (elsewhere w) (front ∷ rest) free
   pub ends : EndsHold w.shared
   pub unused : (n : ℕ) → w.shared.fresh < n → (next_of w.shared n).count ≡ 0
   pub words : q.Words w.setup w.shared (front ∷ rest)
@@ -68,7 +68,7 @@ module _ (q : Queue) where
       }
 
   -- another actor goes on knowing what it knew
-  goes_on : (Z Z' : ℕ → Type 0) (s : Setup) (m m' : Shared) (last last' you : ℕ) (c : Actor) (l : Option Line) → ((k : ℕ) → Z k → Z' k) → q.Rely m m' last last' you → NodesRely m m' c → IsAtLine s.kind c l → FixedAt s.limit you c l → OwnsAt m you l → Knows q Z s m last c l → Knows q Z' s m' last' c l
+  goes_on : (Z Z' : ℕ → Type 0) (s : Setup) (m m' : Shared) (last last' you : ℕ) (c : Actor) (l : Option Line) → ((k : ℕ) → Z k → Z' k) → q.Rely m m' last last' you → NodesRely m m' c → IsAtLine s.bits s.kind c l → FixedAt s.limit you c l → OwnsAt m you l → Knows q Z s m last c l → Knows q Z' s m' last' c l
   goes_on Z Z' s m m' last last' you c None more k n p f g h = tt
   goes_on Z Z' s m m' last last' you c (Some l) more k n p f g h =
       knows_more q Z Z' s m' last' c (Some l) more (knows_kept q Z s m m' last last' you c l k n f p.1 g h)
@@ -87,7 +87,7 @@ module _ (q : Queue) where
   knowing_entry : (Z : ℕ → Type 0) (s : Setup) (m : Shared) (last me : ℕ) (a : Actor) (entry : Option ℕ) → LocalInvariant q Z s m last me a → LocalInvariant q Z s m last me (record a { entry = entry })
   knowing_entry Z s m last me a entry h =
       record {
-        stands = record { pocket = h.stands.pocket; line = still_stands s.kind a a.holds entry a.line h.stands.line };
+        stands = record { pocket = h.stands.pocket; line = still_stands s.bits s.kind a a.holds entry a.line h.stands.line };
         fixed = fixed_entry s.limit me a entry a.line h.fixed;
         marked = h.marked;
         knows = knows_entry q Z s m last a entry a.line h.knows;
@@ -95,7 +95,7 @@ module _ (q : Queue) where
       }
 
   -- what holds of a world after an actor that holds what it held has another state
-  sound_with : (Z Z' : ℕ → Type 0) (w : World) (me : ℕ) (a b : Actor) (front : ℕ) (rest free : List ℕ) → actor_of w me ≡ Some a → QueueInvariant q Z w front rest free → ((k : ℕ) → Z k → Z' k) → PcIsValid w.setup.kind b → FixedAt w.setup.limit me b b.line → Begins q Z' w.setup w.shared (last_node (front ∷ rest)) me a b → QueueInvariant q Z' (with_actor w me b) front rest free
+  sound_with : (Z Z' : ℕ → Type 0) (w : World) (me : ℕ) (a b : Actor) (front : ℕ) (rest free : List ℕ) → actor_of w me ≡ Some a → QueueInvariant q Z w front rest free → ((k : ℕ) → Z k → Z' k) → PcIsValid w.setup.bits w.setup.kind b → FixedAt w.setup.limit me b b.line → Begins q Z' w.setup w.shared (last_node (front ∷ rest)) me a b → QueueInvariant q Z' (with_actor w me b) front rest free
   sound_with Z Z' w me a b front rest free is so more stands fixed h =
       record {
         shape =
@@ -169,8 +169,8 @@ module _ (q : Queue) (L : World → List ℕ → Type 0) (Z : World → ℕ → 
         some = (actor_stands w me a is).0;
       }
 
-  stands : IsRunBy (section_of l) w.setup.kind × NonNullAt l a
-  stands = subst (IsAtLine w.setup.kind a) at local.stands.line
+  stands : IsRunBy (section_of l) w.setup.kind × NonNullAt w.setup.bits l a
+  stands = subst (IsAtLine w.setup.bits w.setup.kind a) at local.stands.line
 
   at_line : AtLine q before l
   at_line =
@@ -201,7 +201,7 @@ record Made (q : Queue) (L : World → List ℕ → Type 0) (Z : World → ℕ �
   same_call : o.actor.op ≡ a.op
   rises : w.shared.fresh ≤ m'.fresh
   ends : EndsHold m'
-  placed : Placed w.setup.kind o
+  placed : Placed w.setup.bits w.setup.kind o
   fixes : Fixes w.setup.limit me o
 
 -- it is a numbered move
@@ -222,14 +222,14 @@ numbered q L Z w me a p m' o t =
     }
 
 -- what holds of a world after an actor was told an outcome, by what its step did
-sound_settled : (q : Queue) (L : World → List ℕ → Type 0) (Z : World → ℕ → Type 0) (Z' : ℕ → Type 0) (w : World) (me : ℕ) (a : Actor) (m' : Shared) (o : Outcome) (p : ReachedInvariant q L Z w) (t : Made q L Z w me a p m' o) → ((k : ℕ) → Z w k → Z' k) → (queue_in w.shared (p.front ∷ p.rest) ≡ empty → Z' (w.steps + 1)) → QueueInvariant q Z' (after_outcome w me a m' o) t.does.front' t.does.rest' t.does.free'
+sound_settled : (q : Queue) (L : World → List ℕ → Type 0) (Z : World → ℕ → Type 0) (Z' : ℕ → Type 0) (w : World) (me : ℕ) (a : Actor) (m' : Shared) (o : Outcome) (p : ReachedInvariant q L Z w) (t : Made q L Z w me a p m' o) → ((k : ℕ) → Z w k → Z' k) → (queue_in w.setup.bits w.shared (p.front ∷ p.rest) ≡ empty → Z' (w.steps + 1)) → QueueInvariant q Z' (after_outcome w me a m' o) t.does.front' t.does.rest' t.does.free'
 sound_settled q L Z Z' w me a m' o p t more finds =
     record {
       shape =
-          shape_turned w.shared m' (elsewhere w) (elsewhere (after_outcome w me a m' o)) (p.front ∷ p.rest) p.free (d.front' ∷ d.rest') d.free' a o.actor o.aside p.sound.shape d.turn
+          shape_turned w.setup.bits w.shared m' (elsewhere w) (elsewhere (after_outcome w me a m' o)) (p.front ∷ p.rest) p.free (d.front' ∷ d.rest') d.free' a o.actor o.aside p.sound.shape d.turn
           (λ n some. elsewhere_settled w me a m' o n t.here some (is_new w me a (p.front ∷ p.rest) p.free o.aside (reached_in_range w t.reached) t.here p.sound.shape d.own_aside));
       ends = t.ends;
-      unused = λ n above. ap (λ (x : Node). x.next.count) (unused_kept w.shared m' (elsewhere w) p.front p.rest p.free a p.sound.shape d.turn.writes mine n (omega (arith, t.rises))) ∙ p.sound.unused n (omega (arith, t.rises));
+      unused = λ n above. ap (λ (x : Node). x.next.count) (unused_kept w.setup.bits w.shared m' (elsewhere w) p.front p.rest p.free a p.sound.shape d.turn.writes mine n (omega (arith, t.rises))) ∙ p.sound.unused n (omega (arith, t.rises));
       words = d.words;
       actors = λ you c got. pick you c (actor_cases w me a _ t.here you c got);
     }
@@ -246,7 +246,7 @@ sound_settled q L Z Z' w me a m' o p t more finds =
           stands = record { pocket = t.placed.pocket; line = t.placed.line };
           fixed = t.fixes.fixed;
           marked = d.marked;
-          knows = knows_more q (Found w.shared (p.front ∷ p.rest) (w.steps + 1)) Z' w.setup m' (last_node (d.front' ∷ d.rest')) o.actor o.actor.line (λ k f. subst Z' (sym f.1) (finds f.0)) d.knows;
+          knows = knows_more q (Found w.setup.bits w.shared (p.front ∷ p.rest) (w.steps + 1)) Z' w.setup m' (last_node (d.front' ∷ d.rest')) o.actor o.actor.line (λ k f. subst Z' (sym f.1) (finds f.0)) d.knows;
           owns = d.owns;
         }
 
@@ -297,7 +297,7 @@ module _ (q : Queue) (steps : Steps q) (L : World → List ℕ → Type 0) (Z : 
         same_call = some_of (λ x. x.actor.op ≡ a.op) (gives_up (w.steps + 1) a l) o given (same_op_given (w.steps + 1) a l);
         rises = omega arith;
         ends = p.sound.ends;
-        placed = some_of (Placed w.setup.kind) (gives_up (w.steps + 1) a l) o given (given_up_placed w.setup (w.steps + 1) a l (local q L Z w me a l r e is at p).stands.pocket t.nodes);
+        placed = some_of (Placed w.setup.bits w.setup.kind) (gives_up (w.steps + 1) a l) o given (given_up_placed w.setup (w.steps + 1) a l (local q L Z w me a l r e is at p).stands.pocket t.nodes);
         fixes = some_of (Fixes w.setup.limit me) (gives_up (w.steps + 1) a l) o given (fixed_given w.setup.limit (w.steps + 1) me a l t.fixed);
       }
     where
@@ -335,7 +335,7 @@ module _ (q : Queue) (steps : Steps q) (L : World → List ℕ → Type 0) (Z : 
         rest = p.rest;
         free = p.free;
         sound =
-            sound_with q (Z w) (Z (with_actor w me b)) w me a b p.front p.rest p.free is p.sound c.1 (begun_stands w.setup.kind me op a k.stands.pocket)
+            sound_with q (Z w) (Z (with_actor w me b)) w me a b p.front p.rest p.free is p.sound c.1 (begun_stands w.setup.bits w.setup.kind me op a k.stands.pocket)
             (fixed_begun w.setup.limit me w.setup.kind op a empty)
             (begun_begins q (Z (with_actor w me b)) w.setup w.shared (last_node (p.front ∷ p.rest)) me w.setup.kind op a empty k.marked (subst (OwnsAt w.shared me) at k.owns));
         fact = c.0;

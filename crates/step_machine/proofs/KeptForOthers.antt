@@ -22,7 +22,7 @@ used_some n fresh h = go (nat_le n fresh) refl h
     go false e g = absurd (omega arith)
 
 -- a node that is set aside was not
-pub is_new : (w : World) (me : ℕ) (a : Actor) (queue free : List ℕ) (aside : Option ℕ) → WorldInRange w → actor_of w me ≡ Some a → Shape w.shared (elsewhere w) queue free → IfSome aside (λ k. (1 ≤ k) × (1 ≤ holds k a)) → IsNew w.aside aside
+pub is_new : (w : World) (me : ℕ) (a : Actor) (queue free : List ℕ) (aside : Option ℕ) → WorldInRange w → actor_of w me ≡ Some a → Shape w.setup.bits w.shared (elsewhere w) queue free → IfSome aside (λ k. (1 ≤ k) × (1 ≤ holds k a)) → IsNew w.aside aside
 is_new w me a queue free None g is sh own = tt
 is_new w me a queue free (Some k) g is sh own =
     let up : w.shared.fresh ≤ w.setup.size = g.shared.fresh in
@@ -35,8 +35,8 @@ is_new w me a queue free (Some k) g is sh own =
     (own.0, omega arith, omega arith)
 
 -- nodes that were never used stay as they are
-pub unused_kept : (m m' : Shared) (E : ℕ → ℕ) (front : ℕ) (rest free : List ℕ) (a : Actor) → Shape m E (front ∷ rest) free → WritesOneNode m m' (front ∷ rest) a → ((n : ℕ) → holds n a ≤ E n) → (n : ℕ) → m.fresh < n → node_at m' n ≡ node_at m n
-unused_kept m m' E front rest free a sh w mine n above = w.others n (omega arith) (go w.whose)
+pub unused_kept : (bits : ℕ) (m m' : Shared) (E : ℕ → ℕ) (front : ℕ) (rest free : List ℕ) (a : Actor) → Shape bits m E (front ∷ rest) free → WritesOneNode m m' (front ∷ rest) a → ((n : ℕ) → holds n a ≤ E n) → (n : ℕ) → m.fresh < n → node_at m' n ≡ node_at m n
+unused_kept bits m m' E front rest free a sh w mine n above = w.others n (omega arith) (go w.whose)
   where
     nowhere : times n (front ∷ rest) + times n free + E n ≡ 0
     nowhere = sh.once n (omega arith) ∙ used_above n m.fresh above
@@ -51,14 +51,14 @@ unused_kept m m' E front rest free a sh w mine n above = w.others n (omega arith
         omega (arith, nowhere)
 
 -- what a step keeps of the nodes for another actor
-pub nodes_kept : (w : World) (me you : ℕ) (a c : Actor) (m' : Shared) (front : ℕ) (rest free : List ℕ) → you ≢ me → w.shared.fresh < reserved_node → 1 ≤ w.shared.head.node → actor_of w me ≡ Some a → actor_of w you ≡ Some c → Shape w.shared (elsewhere w) (front ∷ rest) free → Rises w.shared.free m'.free → WritesOneNode w.shared m' (front ∷ rest) a → NodesRely w.shared m' c
+pub nodes_kept : (w : World) (me you : ℕ) (a c : Actor) (m' : Shared) (front : ℕ) (rest free : List ℕ) → you ≢ me → w.shared.fresh < reserved_node w.setup.bits → 1 ≤ w.shared.head.node → actor_of w me ≡ Some a → actor_of w you ≡ Some c → Shape w.setup.bits w.shared (elsewhere w) (front ∷ rest) free → Rises w.shared.free m'.free → WritesOneNode w.shared m' (front ∷ rest) a → NodesRely w.shared m' c
 nodes_kept w me you a c m' front rest free other few some is there sh rises writes =
     record {
       free = rises;
-      top = λ one. free_kept w.shared m' (elsewhere w) front rest free a sh writes mine w.shared.free.node one (top one);
-      hand = λ n one here. hand_kept w.shared m' (elsewhere w) front rest free a c sh writes (λ i. elsewhere_two w me you a c i (λ q. other (sym q)) is there) n one here;
-      dummy = λ leads. queue_kept w.shared m' (elsewhere w) front rest free a sh writes mine w.shared.head.node some dummy leads;
-      front = λ leads. behind leads (second_or_end IsEnd w.shared.nodes w.shared.head.node front rest sh.queue_chain);
+      top = λ one. free_kept w.setup.bits w.shared m' (elsewhere w) front rest free a sh writes mine w.shared.free.node one (top one);
+      hand = λ n one here. hand_kept w.setup.bits w.shared m' (elsewhere w) front rest free a c sh writes (λ i. elsewhere_two w me you a c i (λ q. other (sym q)) is there) n one here;
+      dummy = λ leads. queue_kept w.setup.bits w.shared m' (elsewhere w) front rest free a sh writes mine w.shared.head.node some dummy leads;
+      front = λ leads. behind leads (second_or_end (IsEnd w.setup.bits) w.shared.nodes w.shared.head.node front rest sh.queue_chain);
     }
   where
     mine : (n : ℕ) → holds n a ≤ elsewhere w n
@@ -78,10 +78,10 @@ nodes_kept w me you a c m' front rest free other few some is there sh rises writ
     leads_to : next_in w.shared.nodes front ≡ x
     leads_to = ap (next_in w.shared.nodes) (sym sh.queue_chain.0)
 
-    behind : 1 ≤ x → ((ns : List ℕ) × (rest ≡ next_in w.shared.nodes front ∷ ns)) ⊎ IsEnd (next_in w.shared.nodes front) → (node_at m' x).value ≡ (node_at w.shared x).value
+    behind : 1 ≤ x → ((ns : List ℕ) × (rest ≡ next_in w.shared.nodes front ∷ ns)) ⊎ IsEnd w.setup.bits (next_in w.shared.nodes front) → (node_at m' x).value ≡ (node_at w.shared x).value
     behind one (inl second) =
-        value_kept w.shared m' (elsewhere w) (front ∷ rest) free a sh writes mine x one
+        value_kept w.setup.bits w.shared m' (elsewhere w) (front ∷ rest) free a sh writes mine x one
         (subst (λ ns. 1 ≤ times x (front ∷ ns)) (sym second.1) (omega (arith, one_if_same x (next_in w.shared.nodes front) (sym leads_to))))
     behind one (inr (inl null)) = absurd (omega (arith, one, leads_to, null))
     behind one (inr (inr closed)) =
-        ap (λ (n : Node). n.value) (unused_kept w.shared m' (elsewhere w) front rest free a sh writes mine x (omega (arith, few, leads_to, closed)))
+        ap (λ (n : Node). n.value) (unused_kept w.setup.bits w.shared m' (elsewhere w) front rest free a sh writes mine x (omega (arith, few, leads_to, closed)))

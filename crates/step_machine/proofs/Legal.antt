@@ -24,8 +24,8 @@ use Rattle.step_machine.proofs.CompletionSteps.{entered, bare_completion, taken,
 -- what holds of a world and its queue's chain
 pub record SimulationRelation (w : World) (queue : List ℕ) : Type 0 where
   pub replays : IsSequentialRun empty (by_point (bare_completion w))
-  pub list : queue_after empty (by_point (bare_completion w)) ≡ queue_in w.shared queue
-  pub plays : Plays empty (completion_entries w) (queue_in w.shared queue)
+  pub list : queue_after empty (by_point (bare_completion w)) ≡ queue_in w.setup.bits w.shared queue
+  pub plays : Plays empty (completion_entries w) (queue_in w.setup.bits w.shared queue)
   pub counted : w.shared.head.count ≡ taken (bare_completion w)
   pub calls : (me e : ℕ) (a : Actor) (l : Line) (s : Stamped) → actor_of w me ≡ Some a → a.line ≡ Some l → a.entry ≡ Some e → slice_get w.operations e ≡ Some s → s.op ≡ a.op
 
@@ -34,12 +34,12 @@ abbrev pub WasEmpty : World → ℕ → Type 0
 WasEmpty w k = (k ≤ w.steps) × (queue_after empty (before k (by_point (bare_completion w))) ≡ empty)
 
 -- the values of the queue stay where its nodes do
-same_values : (m m' : Shared) (E : ℕ → ℕ) (h : ℕ) (rest free : List ℕ) (a : Actor) → Shape m E (h ∷ rest) free → WritesOneNode m m' (h ∷ rest) a → ((n : ℕ) → holds n a ≤ E n) → (ns : List ℕ) → ((n : ℕ) → times n ns ≤ times n rest) → values_of m' ns ≡ values_of m ns
-same_values m m' E h rest free a sh w mine ns among = values_kept m m' E (h ∷ rest) free a sh w mine ns (λ n more. within n more)
+same_values : (bits : ℕ) (m m' : Shared) (E : ℕ → ℕ) (h : ℕ) (rest free : List ℕ) (a : Actor) → Shape bits m E (h ∷ rest) free → WritesOneNode m m' (h ∷ rest) a → ((n : ℕ) → holds n a ≤ E n) → (ns : List ℕ) → ((n : ℕ) → times n ns ≤ times n rest) → values_of m' ns ≡ values_of m ns
+same_values bits m m' E h rest free a sh w mine ns among = values_kept bits m m' E (h ∷ rest) free a sh w mine ns (λ n more. within n more)
   where
     within : (n : ℕ) → 1 ≤ times n ns → (1 ≤ n) × (1 ≤ times n (h ∷ rest))
     within zero more =
-        absurd (let a : times 0 ns ≤ times 0 rest = among 0 in let b : times 0 (h ∷ rest) ≡ 0 = null_times IsEnd m.nodes (h ∷ rest) m.head.node sh.queue_chain in omega arith)
+        absurd (let a : times 0 ns ≤ times 0 rest = among 0 in let b : times 0 (h ∷ rest) ≡ 0 = null_times (IsEnd bits) m.nodes (h ∷ rest) m.head.node sh.queue_chain in omega arith)
     within (suc n) more = (omega arith, let a : times (suc n) ns ≤ times (suc n) rest = among (suc n) in omega arith)
 
 -- a queue, by whether it is shut
@@ -73,16 +73,16 @@ closed_gives me Deq (v ∷ vs) true is none = absurd (let e : v ∷ vs ≡ [] = 
 -- what a step carries along
 pub record AfterStep (w v : World) (queue' : List ℕ) : Type 0 where
   pub replays : IsSequentialRun empty (by_point (bare_completion v))
-  pub list : queue_after empty (by_point (bare_completion v)) ≡ queue_in v.shared queue'
+  pub list : queue_after empty (by_point (bare_completion v)) ≡ queue_in w.setup.bits v.shared queue'
   pub counted : v.shared.head.count ≡ taken (bare_completion v)
   pub still : (k : ℕ) → k ≤ w.steps + 1 → queue_after empty (before k (by_point (bare_completion w))) ≡ empty → queue_after empty (before k (by_point (bare_completion v))) ≡ empty
 
-module _ (w : World) (me : ℕ) (a : Actor) (m' : Shared) (o : Outcome) (h : ℕ) (rest free : List ℕ) (sh : Shape w.shared (elsewhere w) (h ∷ rest) free) (wr : WritesOneNode w.shared m' (h ∷ rest) a) (mine : (n : ℕ) → holds n a ≤ elsewhere w n) (b : Simulates w (after_outcome w me a m' o) me a o) (ac : SimulationRelation w (h ∷ rest)) where
+module _ (w : World) (me : ℕ) (a : Actor) (m' : Shared) (o : Outcome) (h : ℕ) (rest free : List ℕ) (sh : Shape w.setup.bits w.shared (elsewhere w) (h ∷ rest) free) (wr : WritesOneNode w.shared m' (h ∷ rest) a) (mine : (n : ℕ) → holds n a ≤ elsewhere w n) (b : Simulates w (after_outcome w me a m' o) me a o) (ac : SimulationRelation w (h ∷ rest)) where
   abbrev after : World
   after = after_outcome w me a m' o
 
   kept_values : values_of m' rest ≡ values_of w.shared rest
-  kept_values = same_values w.shared m' (elsewhere w) h rest free a sh wr mine rest (λ n. omega arith)
+  kept_values = same_values w.setup.bits w.shared m' (elsewhere w) h rest free a sh wr mine rest (λ n. omega arith)
 
   -- the values after a push, and after a pop
   pushed_values : (node_at m' a.node).value ≡ a.val → values_of m' (rest ++ a.node ∷ []) ≡ values_of w.shared rest ++ a.val ∷ []
@@ -92,7 +92,7 @@ module _ (w : World) (me : ℕ) (a : Actor) (m' : Shared) (o : Outcome) (h : ℕ
 
   popped_values : (first x : ℕ) (ns : List ℕ) → h ∷ rest ≡ first ∷ x ∷ ns → values_of m' ns ≡ values_of w.shared ns
   popped_values first x ns was =
-      same_values w.shared m' (elsewhere w) h rest free a sh wr mine ns
+      same_values w.setup.bits w.shared m' (elsewhere w) h rest free a sh wr mine ns
       (λ n. let e : times n rest ≡ one_if (nat_eq n x) + times n ns = ap (λ qs. times n (drop 1 qs)) was in omega arith)
 
   -- all places are numbers that were given
@@ -107,21 +107,21 @@ module _ (w : World) (me : ℕ) (a : Actor) (m' : Shared) (o : Outcome) (h : ℕ
           omega arith
 
   -- a queue that is empty now is empty before the next number
-  pub empty_now : queue_in w.shared (h ∷ rest) ≡ empty → queue_after empty (before (w.steps + 1) (by_point (bare_completion w))) ≡ empty
+  pub empty_now : queue_in w.setup.bits w.shared (h ∷ rest) ≡ empty → queue_after empty (before (w.steps + 1) (by_point (bare_completion w))) ≡ empty
   empty_now e = ap (queue_after empty) (before_all (w.steps + 1) (by_point (bare_completion w)) below) ∙ ac.list ∙ e
 
   -- the queue before
   abbrev was : Queue
-  was = queue_in w.shared (h ∷ rest)
+  was = queue_in w.setup.bits w.shared (h ∷ rest)
 
   -- the queue of the chain stays where its end does
-  kept_queue : (queue' : List ℕ) → queue' ≡ h ∷ rest → is_shut_chain m' (h ∷ rest) ≡ is_shut_chain w.shared (h ∷ rest) → was ≡ queue_in m' queue'
+  kept_queue : (queue' : List ℕ) → queue' ≡ h ∷ rest → is_shut_chain w.setup.bits m' (h ∷ rest) ≡ is_shut_chain w.setup.bits w.shared (h ∷ rest) → was ≡ queue_in w.setup.bits m' queue'
   kept_queue queue' same flag =
-      let kept : was ≡ queue_in m' (h ∷ rest) = (λ i. record { values = sym kept_values i; shut = sym flag i }) in
-      kept ∙ ap (λ q. queue_in m' q) (sym same)
+      let kept : was ≡ queue_in w.setup.bits m' (h ∷ rest) = (λ i. record { values = sym kept_values i; shut = sym flag i }) in
+      kept ∙ ap (λ q. queue_in w.setup.bits m' q) (sym same)
 
   -- a step that gives no place
-  after_quiet : (queue' : List ℕ) → was ≡ queue_in m' queue' → m'.head.count ≡ w.shared.head.count → Unchanged (bare_completion w) (bare_completion after) → AfterStep w after queue'
+  after_quiet : (queue' : List ℕ) → was ≡ queue_in w.setup.bits m' queue' → m'.head.count ≡ w.shared.head.count → Unchanged (bare_completion w) (bare_completion after) → AfterStep w after queue'
   after_quiet queue' same count u =
       record {
         replays = subst (IsSequentialRun empty) (sym u.rises) ac.replays;
@@ -131,7 +131,7 @@ module _ (w : World) (me : ℕ) (a : Actor) (m' : Shared) (o : Outcome) (h : ℕ
       }
 
   -- a step that enters an operation at its own number
-  after_now : (queue' : List ℕ) (y : Stamped) → place y ≡ w.steps + 1 → Entered (bare_completion w) (bare_completion after) y → AgreesWithQueue was y y.reply → (answer was y y.reply).after ≡ queue_in m' queue' → m'.head.count ≡ w.shared.head.count + one_if (is_value y.reply) → AfterStep w after queue'
+  after_now : (queue' : List ℕ) (y : Stamped) → place y ≡ w.steps + 1 → Entered (bare_completion w) (bare_completion after) y → AgreesWithQueue was y y.reply → (answer was y y.reply).after ≡ queue_in w.setup.bits m' queue' → m'.head.count ≡ w.shared.head.count + one_if (is_value y.reply) → AfterStep w after queue'
   after_now queue' y at n gets gives count =
       record {
         replays = subst (IsSequentialRun empty) (sym last) (replays_more empty (by_point (bare_completion w)) y ac.replays (subst (λ q. AgreesWithQueue q y y.reply) (sym ac.list) gets));
@@ -144,7 +144,7 @@ module _ (w : World) (me : ℕ) (a : Actor) (m' : Shared) (o : Outcome) (h : ℕ
       last = n.rises ∙ inserted_last y (by_point (bare_completion w)) (subst (λ k. AllByRecursion (λ p. place p < k) (by_point (bare_completion w))) (sym at) below)
 
   -- a step that enters an empty reply
-  after_empty : (queue' : List ℕ) (y : Stamped) → was ≡ queue_in m' queue' → m'.head.count ≡ w.shared.head.count → IsEmptyReply y → Entered (bare_completion w) (bare_completion after) y → queue_after empty (before (place y) (by_point (bare_completion w))) ≡ empty → AfterStep w after queue'
+  after_empty : (queue' : List ℕ) (y : Stamped) → was ≡ queue_in w.setup.bits m' queue' → m'.head.count ≡ w.shared.head.count → IsEmptyReply y → Entered (bare_completion w) (bare_completion after) y → queue_after empty (before (place y) (by_point (bare_completion w))) ≡ empty → AfterStep w after queue'
   after_empty queue' y same count e n none =
       record {
         replays = subst (IsSequentialRun empty) (sym n.rises) (empty_placed y (by_point (bare_completion w)) e none ac.replays);
@@ -154,32 +154,32 @@ module _ (w : World) (me : ℕ) (a : Actor) (m' : Shared) (o : Outcome) (h : ℕ
       }
 
   -- what a push, a shut and a pop give, and the queue after them
-  pushes_on : (queue' : List ℕ) → queue' ≡ (h ∷ rest) ++ a.node ∷ [] → is_shut_chain w.shared (h ∷ rest) ≡ false → is_shut_chain m' queue' ≡ false → (node_at m' a.node).value ≡ a.val → Pushes me a.op a.val → (Done ≡ (response me a.op was).reply) × ((response me a.op was).after ≡ queue_in m' queue')
+  pushes_on : (queue' : List ℕ) → queue' ≡ (h ∷ rest) ++ a.node ∷ [] → is_shut_chain w.setup.bits w.shared (h ∷ rest) ≡ false → is_shut_chain w.setup.bits m' queue' ≡ false → (node_at m' a.node).value ≡ a.val → Pushes me a.op a.val → (Done ≡ (response me a.op was).reply) × ((response me a.op was).after ≡ queue_in w.setup.bits m' queue')
   pushes_on queue' longer unshut still value pushes =
       let g : (Done ≡ (response me a.op was).reply) × ((response me a.op was).after ≡ queue_with false (values_of w.shared rest ++ a.val ∷ [])) =
-      push_gives me a.op a.val (values_of w.shared rest) (is_shut_chain w.shared (h ∷ rest)) unshut pushes in
+      push_gives me a.op a.val (values_of w.shared rest) (is_shut_chain w.setup.bits w.shared (h ∷ rest)) unshut pushes in
       let values : values_of w.shared rest ++ a.val ∷ [] ≡ queue_values m' queue' = sym (pushed_values value) ∙ ap (λ q. queue_values m' q) (sym longer) in
-      let now : queue_with false (values_of w.shared rest ++ a.val ∷ []) ≡ queue_in m' queue' = (λ i. record { values = values i; shut = sym still i }) in
+      let now : queue_with false (values_of w.shared rest ++ a.val ∷ []) ≡ queue_in w.setup.bits m' queue' = (λ i. record { values = values i; shut = sym still i }) in
       (g.0, g.1 ∙ now)
 
-  shuts_on : (queue' : List ℕ) → queue' ≡ h ∷ rest → is_shut_chain w.shared (h ∷ rest) ≡ false → is_shut_chain m' (h ∷ rest) ≡ true → a.op ≡ Shut → (Done ≡ (response me a.op was).reply) × ((response me a.op was).after ≡ queue_in m' queue')
+  shuts_on : (queue' : List ℕ) → queue' ≡ h ∷ rest → is_shut_chain w.setup.bits w.shared (h ∷ rest) ≡ false → is_shut_chain w.setup.bits m' (h ∷ rest) ≡ true → a.op ≡ Shut → (Done ≡ (response me a.op was).reply) × ((response me a.op was).after ≡ queue_in w.setup.bits m' queue')
   shuts_on queue' same unshut now op =
       let g : (Done ≡ (response me Shut was).reply) × ((response me Shut was).after ≡ queue_with true (values_of w.shared rest)) =
-      shut_gives me (values_of w.shared rest) (is_shut_chain w.shared (h ∷ rest)) unshut in
-      subst (λ p. (Done ≡ (response me p was).reply) × ((response me p was).after ≡ queue_in m' queue')) (sym op)
-      (let kept : queue_with true (values_of w.shared rest) ≡ queue_in m' (h ∷ rest) = (λ i. record { values = sym kept_values i; shut = sym now i }) in
-      (g.0, g.1 ∙ kept ∙ ap (λ q. queue_in m' q) (sym same)))
+      shut_gives me (values_of w.shared rest) (is_shut_chain w.setup.bits w.shared (h ∷ rest)) unshut in
+      subst (λ p. (Done ≡ (response me p was).reply) × ((response me p was).after ≡ queue_in w.setup.bits m' queue')) (sym op)
+      (let kept : queue_with true (values_of w.shared rest) ≡ queue_in w.setup.bits m' (h ∷ rest) = (λ i. record { values = sym kept_values i; shut = sym now i }) in
+      (g.0, g.1 ∙ kept ∙ ap (λ q. queue_in w.setup.bits m' q) (sym same)))
 
-  pops_on : (queue' : List ℕ) (p : Op) (first x : ℕ) (ns : List ℕ) → h ∷ rest ≡ first ∷ x ∷ ns → queue' ≡ x ∷ ns → is_shut_chain m' queue' ≡ is_shut_chain w.shared (h ∷ rest) → p ≡ Deq → (Value (node_at w.shared x).value ≡ (response me p was).reply) × ((response me p was).after ≡ queue_in m' queue')
+  pops_on : (queue' : List ℕ) (p : Op) (first x : ℕ) (ns : List ℕ) → h ∷ rest ≡ first ∷ x ∷ ns → queue' ≡ x ∷ ns → is_shut_chain w.setup.bits m' queue' ≡ is_shut_chain w.setup.bits w.shared (h ∷ rest) → p ≡ Deq → (Value (node_at w.shared x).value ≡ (response me p was).reply) × ((response me p was).after ≡ queue_in w.setup.bits m' queue')
   pops_on queue' p first x ns before_is now_is flag op =
-      let g : (Value (node_at w.shared x).value ≡ (response me p was).reply) × ((response me p was).after ≡ queue_with (is_shut_chain w.shared (h ∷ rest)) (values_of w.shared ns)) =
-      pop_gives me p (node_at w.shared x).value (values_of w.shared ns) (is_shut_chain w.shared (h ∷ rest)) was op (ap (λ qs. queue_with (is_shut_chain w.shared (h ∷ rest)) (queue_values w.shared qs)) before_is) in
+      let g : (Value (node_at w.shared x).value ≡ (response me p was).reply) × ((response me p was).after ≡ queue_with (is_shut_chain w.setup.bits w.shared (h ∷ rest)) (values_of w.shared ns)) =
+      pop_gives me p (node_at w.shared x).value (values_of w.shared ns) (is_shut_chain w.setup.bits w.shared (h ∷ rest)) was op (ap (λ qs. queue_with (is_shut_chain w.setup.bits w.shared (h ∷ rest)) (queue_values w.shared qs)) before_is) in
       let values : values_of w.shared ns ≡ queue_values m' queue' = sym (popped_values first x ns before_is) ∙ ap (λ q. queue_values m' q) (sym now_is) in
-      let now : queue_with (is_shut_chain w.shared (h ∷ rest)) (values_of w.shared ns) ≡ queue_in m' queue' = (λ i. record { values = values i; shut = sym flag i }) in
+      let now : queue_with (is_shut_chain w.setup.bits w.shared (h ∷ rest)) (values_of w.shared ns) ≡ queue_in w.setup.bits m' queue' = (λ i. record { values = values i; shut = sym flag i }) in
       (g.0, g.1 ∙ now)
 
   -- a step, by what it means for the queue
-  pub after_step : (queue' : List ℕ) → LinearizationStep (WasEmpty w) me (w.steps + 1) w.shared m' (h ∷ rest) queue' a o → AfterStep w after queue'
+  pub after_step : (queue' : List ℕ) → LinearizationStep w.setup.bits (WasEmpty w) me (w.steps + 1) w.shared m' (h ∷ rest) queue' a o → AfterStep w after queue'
   after_step queue' (stutters same count flag none keeps) = after_quiet queue' (kept_queue queue' same flag) count (unchanged w after me a o b none keeps)
   after_step queue' (refused why same count flag at with_outcome ok none) =
       after_now queue' (entered me a.op (Some (w.steps + 1)) (Some (Refused why))) refl
@@ -188,21 +188,21 @@ module _ (w : World) (me : ℕ) (a : Actor) (m' : Shared) (o : Outcome) (h : ℕ
   after_step queue' (closed same count flag at with_outcome is_shut no_values none) =
       after_now queue' (entered me a.op (Some (w.steps + 1)) (Some (Refused Closed))) refl
       (entered_at w after me a o (w.steps + 1) (Some (Refused Closed)) b at none (ap (λ r. completed_reply r (Some (w.steps + 1)) o.actor.due) with_outcome))
-      (inr (refl, closed_gives me a.op (values_of w.shared rest) (is_shut_chain w.shared (h ∷ rest)) is_shut no_values)) (kept_queue queue' same flag) (omega (arith, count))
+      (inr (refl, closed_gives me a.op (values_of w.shared rest) (is_shut_chain w.setup.bits w.shared (h ∷ rest)) is_shut no_values)) (kept_queue queue' same flag) (omega (arith, count))
   after_step queue' (found_empty same count flag at with_outcome op none was_empty) =
       after_empty queue' (entered me a.op (Some a.empty_at) (Some Empty)) (kept_queue queue' same flag) count (record { op = op; reply = refl })
       (entered_at w after me a o a.empty_at (Some Empty) b at none (ap (λ r. completed_reply r (Some a.empty_at) o.actor.due) with_outcome))
       was_empty.1
   after_step queue' (pushed longer count unshut still at with_outcome value pushes none) =
-      let g : (Done ≡ (response me a.op was).reply) × ((response me a.op was).after ≡ queue_in m' queue') = pushes_on queue' longer unshut still value pushes in
+      let g : (Done ≡ (response me a.op was).reply) × ((response me a.op was).after ≡ queue_in w.setup.bits m' queue') = pushes_on queue' longer unshut still value pushes in
       after_now queue' (entered me a.op (Some (w.steps + 1)) (Some Done)) refl
       (entered_at w after me a o (w.steps + 1) (Some Done) b at none with_outcome) g.0 g.1 (omega (arith, count))
   after_step queue' (popped first x ns before_is now_is count flag at with_outcome op none) =
-      let g : (Value (node_at w.shared x).value ≡ (response me a.op was).reply) × ((response me a.op was).after ≡ queue_in m' queue') = pops_on queue' a.op first x ns before_is now_is flag op in
+      let g : (Value (node_at w.shared x).value ≡ (response me a.op was).reply) × ((response me a.op was).after ≡ queue_in w.setup.bits m' queue') = pops_on queue' a.op first x ns before_is now_is flag op in
       after_now queue' (entered me a.op (Some (w.steps + 1)) (Some (Value (node_at w.shared x).value))) refl
       (entered_at w after me a o (w.steps + 1) (Some (Value (node_at w.shared x).value)) b at none with_outcome) g.0 g.1 count
   after_step queue' (shut same count unshut now at with_outcome op none) =
-      let g : (Done ≡ (response me a.op was).reply) × ((response me a.op was).after ≡ queue_in m' queue') = shuts_on queue' same unshut now op in
+      let g : (Done ≡ (response me a.op was).reply) × ((response me a.op was).after ≡ queue_in w.setup.bits m' queue') = shuts_on queue' same unshut now op in
       after_now queue' (entered me a.op (Some (w.steps + 1)) (Some Done)) refl
       (entered_at w after me a o (w.steps + 1) (Some Done) b at none with_outcome) g.0 g.1 (omega (arith, count))
 
@@ -232,11 +232,11 @@ module _ (w : World) (me : ℕ) (a : Actor) (m' : Shared) (o : Outcome) (h : ℕ
       (gained_is (w.steps + 1) (Some (Refused why)) at is)
 
   -- a step that adds no entry leads nowhere else
-  plays_nothing : (queue' : List ℕ) → was ≡ queue_in m' queue' → gained me a.op o ≡ [] → Plays was (gained me a.op o) (queue_in m' queue')
-  plays_nothing queue' same none = subst (λ es. Plays was es (queue_in m' queue')) (sym none) same
+  plays_nothing : (queue' : List ℕ) → was ≡ queue_in w.setup.bits m' queue' → gained me a.op o ≡ [] → Plays was (gained me a.op o) (queue_in w.setup.bits m' queue')
+  plays_nothing queue' same none = subst (λ es. Plays was es (queue_in w.setup.bits m' queue')) (sym none) same
 
   -- a step adds the entries that its outcome gains
-  pub after_gains : (queue' : List ℕ) → LinearizationStep (WasEmpty w) me (w.steps + 1) w.shared m' (h ∷ rest) queue' a o → Gains w after me a o
+  pub after_gains : (queue' : List ℕ) → LinearizationStep w.setup.bits (WasEmpty w) me (w.steps + 1) w.shared m' (h ∷ rest) queue' a o → Gains w after me a o
   after_gains queue' (stutters same count flag none keeps) =
       gains_nothing (ap (flat_map entry_of) (let u : Unchanged (bare_completion w) (bare_completion after) = unchanged w after me a o b none keeps in u.rises))
       (ap (λ p. gained_at me a.op p o.reply o.actor.due) none)
@@ -256,7 +256,7 @@ module _ (w : World) (me : ℕ) (a : Actor) (m' : Shared) (o : Outcome) (h : ℕ
       (gained_is (w.steps + 1) (Some Done) at with_outcome)
 
   -- which lead to the queue in the chain
-  outcome_plays : (queue' : List ℕ) → LinearizationStep (WasEmpty w) me (w.steps + 1) w.shared m' (h ∷ rest) queue' a o → Plays was (gained me a.op o) (queue_in m' queue')
+  outcome_plays : (queue' : List ℕ) → LinearizationStep w.setup.bits (WasEmpty w) me (w.steps + 1) w.shared m' (h ∷ rest) queue' a o → Plays was (gained me a.op o) (queue_in w.setup.bits m' queue')
   outcome_plays queue' (stutters same count flag none keeps) = plays_nothing queue' (kept_queue queue' same flag) (ap (λ p. gained_at me a.op p o.reply o.actor.due) none)
   outcome_plays queue' (refused why same count flag at with_outcome ok none) =
       plays_nothing queue' (kept_queue queue' same flag) (gained_is (w.steps + 1) (Some (Refused why)) at (ap (λ r. completed_reply r (Some (w.steps + 1)) o.actor.due) with_outcome))
@@ -265,16 +265,16 @@ module _ (w : World) (me : ℕ) (a : Actor) (m' : Shared) (o : Outcome) (h : ℕ
   outcome_plays queue' (found_empty same count flag at with_outcome op none was_empty) =
       plays_nothing queue' (kept_queue queue' same flag) (gained_is a.empty_at (Some Empty) at (ap (λ r. completed_reply r (Some a.empty_at) o.actor.due) with_outcome))
   outcome_plays queue' (pushed longer count unshut still at with_outcome value pushes none) =
-      let g : (Done ≡ (response me a.op was).reply) × ((response me a.op was).after ≡ queue_in m' queue') = pushes_on queue' longer unshut still value pushes in
-      subst (λ es. Plays was es (queue_in m' queue')) (sym (gained_is (w.steps + 1) (Some Done) at with_outcome)) (push_plays me a.op a.val _ _ pushes g.0 g.1)
+      let g : (Done ≡ (response me a.op was).reply) × ((response me a.op was).after ≡ queue_in w.setup.bits m' queue') = pushes_on queue' longer unshut still value pushes in
+      subst (λ es. Plays was es (queue_in w.setup.bits m' queue')) (sym (gained_is (w.steps + 1) (Some Done) at with_outcome)) (push_plays me a.op a.val _ _ pushes g.0 g.1)
   outcome_plays queue' (popped first x ns before_is now_is count flag at with_outcome op none) =
-      let g : (Value (node_at w.shared x).value ≡ (response me Deq was).reply) × ((response me Deq was).after ≡ queue_in m' queue') = pops_on queue' Deq first x ns before_is now_is flag refl in
-      subst (λ es. Plays was es (queue_in m' queue')) (sym (gained_is (w.steps + 1) _ at with_outcome)) (sym g.0, g.1)
+      let g : (Value (node_at w.shared x).value ≡ (response me Deq was).reply) × ((response me Deq was).after ≡ queue_in w.setup.bits m' queue') = pops_on queue' Deq first x ns before_is now_is flag refl in
+      subst (λ es. Plays was es (queue_in w.setup.bits m' queue')) (sym (gained_is (w.steps + 1) _ at with_outcome)) (sym g.0, g.1)
   outcome_plays queue' (shut same count unshut now at with_outcome op none) =
-      let g : (Done ≡ (response me a.op was).reply) × ((response me a.op was).after ≡ queue_in m' queue') = shuts_on queue' same unshut now op in
-      subst (λ es. Plays was es (queue_in m' queue')) (sym (gained_is (w.steps + 1) (Some Done) at with_outcome)) (shut_plays me a.op _ _ op g.0 g.1)
+      let g : (Done ≡ (response me a.op was).reply) × ((response me a.op was).after ≡ queue_in w.setup.bits m' queue') = shuts_on queue' same unshut now op in
+      subst (λ es. Plays was es (queue_in w.setup.bits m' queue')) (sym (gained_is (w.steps + 1) (Some Done) at with_outcome)) (shut_plays me a.op _ _ op g.0 g.1)
 
-  pub after_plays : (queue' : List ℕ) → LinearizationStep (WasEmpty w) me (w.steps + 1) w.shared m' (h ∷ rest) queue' a o → Plays empty (completion_entries after) (queue_in m' queue')
+  pub after_plays : (queue' : List ℕ) → LinearizationStep w.setup.bits (WasEmpty w) me (w.steps + 1) w.shared m' (h ∷ rest) queue' a o → Plays empty (completion_entries after) (queue_in w.setup.bits m' queue')
   after_plays queue' account =
-      subst (λ es. Plays empty es (queue_in m' queue')) (sym (after_gains queue' account))
+      subst (λ es. Plays empty es (queue_in w.setup.bits m' queue')) (sym (after_gains queue' account))
       (plays-append empty _ _ (completion_entries w) (gained me a.op o) ac.plays (outcome_plays queue' account))

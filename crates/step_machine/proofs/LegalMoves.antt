@@ -46,23 +46,23 @@ op_kept s now me a N5 c = both (SameOp a) (nat_eq c a.f) (record { same = refl }
 op_kept s now me a F1 c = both (SameOp a) (nat_eq c.count s.limit) (record { same = (freed_op s.kind now a.due (record a { top = c })).same }) (record { same = refl })
 op_kept s now me a F3 c = both (SameOp a) (same_ref c a.top) (record { same = (freed_op s.kind now a.due (empties_hand a)).same }) (record { same = refl })
 op_kept s now me a E3 c = both (SameOp a) (nat_eq c.count s.limit) (record { same = refl }) (record { same = refl })
-op_kept s now me a E7 c = both (SameOp a) (same_ref c a.tail) (both (SameOp a) (is_null a.next) (record { same = refl }) (both (SameOp a) (is_shut a.next) (record { same = refl }) (both (SameOp a) (nat_eq a.tail.count s.limit) (record { same = refl }) (record { same = refl })))) (record { same = refl })
+op_kept s now me a E7 c = both (SameOp a) (same_ref c a.tail) (both (SameOp a) (is_null a.next) (record { same = refl }) (both (SameOp a) (is_shut s.bits a.next) (record { same = refl }) (both (SameOp a) (nat_eq a.tail.count s.limit) (record { same = refl }) (record { same = refl })))) (record { same = refl })
 op_kept s now me a E9 c = both (SameOp a) (same_ref c a.next) (ended (nat_eq a.tail.count s.limit)) (record { same = refl })
   where
     ended : (b : Bool) → SameOp a (effect now (if b then ends now Done (empties_hand (record a { due = Some Done })) else goes E17 (empties_hand (record a { due = Some Done }))))
     ended true = record { same = refl }
     ended false = record { same = refl }
-op_kept s now me a D5 c = both (SameOp a) (same_ref c a.head) (both (SameOp a) (nat_eq a.head.node a.tail.node) (both (SameOp a) (is_null a.next) (record { same = refl }) (both (SameOp a) (is_shut a.next) (record { same = refl }) (both (SameOp a) (nat_eq a.tail.count s.limit) (record { same = refl }) (record { same = refl })))) (record { same = refl })) (record { same = refl })
+op_kept s now me a D5 c = both (SameOp a) (same_ref c a.head) (both (SameOp a) (nat_eq a.head.node a.tail.node) (both (SameOp a) (is_null a.next) (record { same = refl }) (both (SameOp a) (is_shut s.bits a.next) (record { same = refl }) (both (SameOp a) (nat_eq a.tail.count s.limit) (record { same = refl }) (record { same = refl })))) (record { same = refl })) (record { same = refl })
 op_kept s now me a D12 c = both (SameOp a) (nat_eq a.head.count s.limit) (record { same = refl }) (record { same = refl })
 op_kept s now me a D13 c = both (SameOp a) (same_ref c a.head) (record { same = refl }) (record { same = refl })
 op_kept s now me a A3 c = both (SameOp a) (nat_eq c 0) (record { same = refl }) (record { same = refl })
 op_kept s now me a B1 c = both (SameOp a) (nat_eq c 0) (record { same = refl }) (record { same = refl })
-op_kept s now me a B3 c = both (SameOp a) (is_null c) (record { same = refl }) (both (SameOp a) (is_shut c) (record { same = refl }) (record { same = refl }))
+op_kept s now me a B3 c = both (SameOp a) (is_null c) (record { same = refl }) (both (SameOp a) (is_shut s.bits c) (record { same = refl }) (record { same = refl }))
 op_kept s now me a B4 c = both (SameOp a) (nat_eq a.head.count s.limit) (record { same = refl }) (record { same = refl })
 op_kept s now me a B6 c = unlocked_op now a.due a
 op_kept s now me a A5 c = both (SameOp a) (same_ref c null) (record { same = refl }) (record { same = refl })
 op_kept s now me a A7 c = left_with_node_op now a.due a
-op_kept s now me a S3 c = both (SameOp a) (same_ref c a.tail) (both (SameOp a) (is_null a.next) (record { same = refl }) (both (SameOp a) (is_shut a.next) (record { same = refl }) (both (SameOp a) (nat_eq a.tail.count s.limit) (record { same = refl }) (record { same = refl })))) (record { same = refl })
+op_kept s now me a S3 c = both (SameOp a) (same_ref c a.tail) (both (SameOp a) (is_null a.next) (record { same = refl }) (both (SameOp a) (is_shut s.bits a.next) (record { same = refl }) (both (SameOp a) (nat_eq a.tail.count s.limit) (record { same = refl }) (record { same = refl })))) (record { same = refl })
 op_kept s now me a S4 c = both (SameOp a) (same_ref c a.next) (record { same = refl }) (record { same = refl })
 op_kept s now me a S6 c = both (SameOp a) (nat_eq c 0) (record { same = refl }) (record { same = refl })
 op_kept s now me a S8 c = both (SameOp a) (same_ref c null) (record { same = refl }) (record { same = refl })
@@ -170,7 +170,7 @@ simulation_with w me a b queue is same new ac = (
   record {
     replays = subst (λ t. IsSequentialRun empty (by_point t)) (sym same) ac.replays;
     list = ap (λ t. queue_after empty (by_point t)) same ∙ ac.list;
-    plays = subst (λ t. Plays empty (flat_map entry_of (by_point t)) (queue_in w.shared queue)) (sym same) ac.plays;
+    plays = subst (λ t. Plays empty (flat_map entry_of (by_point t)) (queue_in w.setup.bits w.shared queue)) (sym same) ac.plays;
     counted = ac.counted ∙ sym (ap taken same);
     calls = λ you e c l s there line entry got. pick you e c l s line entry got (actor_cases w me a b is you c there);
   },

@@ -14,23 +14,23 @@ KeepsReply a o = (decided_reply a.due ≡ None) ⊎ ((n : ℕ) → completed_rep
 
 -- what a step at number `now` means for the queue: its values, and whether it is shut; `Z` is what is known of a number noted
 -- at which the queue was empty
-pub data LinearizationStep (Z : ℕ → Type 0) (me now : ℕ) (m m' : Shared) (queue queue' : List ℕ) (a : Actor) (o : Outcome) : Type 0 where
-  stutters : queue' ≡ queue → m'.head.count ≡ m.head.count → is_shut_chain m' queue ≡ is_shut_chain m queue → o.at ≡ None → KeepsReply a o → LinearizationStep Z me now m m' queue queue' a o
-  refused : (why : Refusal) → queue' ≡ queue → m'.head.count ≡ m.head.count → is_shut_chain m' queue ≡ is_shut_chain m queue → o.at ≡ Some now → o.reply ≡ Some (Refused why) → leaves why ≡ true → decided_reply a.due ≡ None → LinearizationStep Z me now m m' queue queue' a o
-  closed : queue' ≡ queue → m'.head.count ≡ m.head.count → is_shut_chain m' queue ≡ is_shut_chain m queue → o.at ≡ Some now → o.reply ≡ Some (Refused Closed) → is_shut_chain m queue ≡ true → (a.op ≡ Deq → queue_values m queue ≡ []) → decided_reply a.due ≡ None → LinearizationStep Z me now m m' queue queue' a o
-  found_empty : queue' ≡ queue → m'.head.count ≡ m.head.count → is_shut_chain m' queue ≡ is_shut_chain m queue → o.at ≡ Some a.empty_at → o.reply ≡ Some Empty → a.op ≡ Deq → decided_reply a.due ≡ None → Z a.empty_at → LinearizationStep Z me now m m' queue queue' a o
-  pushed : queue' ≡ queue ++ a.node ∷ [] → m'.head.count ≡ m.head.count → is_shut_chain m queue ≡ false → is_shut_chain m' queue' ≡ false → o.at ≡ Some now → completed_reply o.reply (Some now) o.actor.due ≡ Some Done → (node_at m' a.node).value ≡ a.val → Pushes me a.op a.val → decided_reply a.due ≡ None → LinearizationStep Z me now m m' queue queue' a o
-  popped : (h x : ℕ) (rest : List ℕ) → queue ≡ h ∷ x ∷ rest → queue' ≡ x ∷ rest → m'.head.count ≡ m.head.count + 1 → is_shut_chain m' queue' ≡ is_shut_chain m queue → o.at ≡ Some now → completed_reply o.reply (Some now) o.actor.due ≡ Some (Value (node_at m x).value) → a.op ≡ Deq → decided_reply a.due ≡ None → LinearizationStep Z me now m m' queue queue' a o
-  shut : queue' ≡ queue → m'.head.count ≡ m.head.count → is_shut_chain m queue ≡ false → is_shut_chain m' queue ≡ true → o.at ≡ Some now → completed_reply o.reply (Some now) o.actor.due ≡ Some Done → a.op ≡ Shut → decided_reply a.due ≡ None → LinearizationStep Z me now m m' queue queue' a o
+pub data LinearizationStep (bits : ℕ) (Z : ℕ → Type 0) (me now : ℕ) (m m' : Shared) (queue queue' : List ℕ) (a : Actor) (o : Outcome) : Type 0 where
+  stutters : queue' ≡ queue → m'.head.count ≡ m.head.count → is_shut_chain bits m' queue ≡ is_shut_chain bits m queue → o.at ≡ None → KeepsReply a o → LinearizationStep bits Z me now m m' queue queue' a o
+  refused : (why : Refusal) → queue' ≡ queue → m'.head.count ≡ m.head.count → is_shut_chain bits m' queue ≡ is_shut_chain bits m queue → o.at ≡ Some now → o.reply ≡ Some (Refused why) → leaves why ≡ true → decided_reply a.due ≡ None → LinearizationStep bits Z me now m m' queue queue' a o
+  closed : queue' ≡ queue → m'.head.count ≡ m.head.count → is_shut_chain bits m' queue ≡ is_shut_chain bits m queue → o.at ≡ Some now → o.reply ≡ Some (Refused Closed) → is_shut_chain bits m queue ≡ true → (a.op ≡ Deq → queue_values m queue ≡ []) → decided_reply a.due ≡ None → LinearizationStep bits Z me now m m' queue queue' a o
+  found_empty : queue' ≡ queue → m'.head.count ≡ m.head.count → is_shut_chain bits m' queue ≡ is_shut_chain bits m queue → o.at ≡ Some a.empty_at → o.reply ≡ Some Empty → a.op ≡ Deq → decided_reply a.due ≡ None → Z a.empty_at → LinearizationStep bits Z me now m m' queue queue' a o
+  pushed : queue' ≡ queue ++ a.node ∷ [] → m'.head.count ≡ m.head.count → is_shut_chain bits m queue ≡ false → is_shut_chain bits m' queue' ≡ false → o.at ≡ Some now → completed_reply o.reply (Some now) o.actor.due ≡ Some Done → (node_at m' a.node).value ≡ a.val → Pushes me a.op a.val → decided_reply a.due ≡ None → LinearizationStep bits Z me now m m' queue queue' a o
+  popped : (h x : ℕ) (rest : List ℕ) → queue ≡ h ∷ x ∷ rest → queue' ≡ x ∷ rest → m'.head.count ≡ m.head.count + 1 → is_shut_chain bits m' queue' ≡ is_shut_chain bits m queue → o.at ≡ Some now → completed_reply o.reply (Some now) o.actor.due ≡ Some (Value (node_at m x).value) → a.op ≡ Deq → decided_reply a.due ≡ None → LinearizationStep bits Z me now m m' queue queue' a o
+  shut : queue' ≡ queue → m'.head.count ≡ m.head.count → is_shut_chain bits m queue ≡ false → is_shut_chain bits m' queue ≡ true → o.at ≡ Some now → completed_reply o.reply (Some now) o.actor.due ≡ Some Done → a.op ≡ Shut → decided_reply a.due ≡ None → LinearizationStep bits Z me now m m' queue queue' a o
 
 -- a reference whose count is not at the limit is raised by one, to a number that is no closed end's
-pub raised_is : (s : Setup) (r : Ref) (to : ℕ) → to ≢ reserved_node → r.count ≢ s.limit → raised s r to ≡ ref to (r.count + 1)
+pub raised_is : (s : Setup) (r : Ref) (to : ℕ) → to ≢ reserved_node s.bits → r.count ≢ s.limit → raised s r to ≡ ref to (r.count + 1)
 raised_is s r to n d =
-    ap (λ b. if b then r else if nat_eq r.count s.limit then r else ref to (r.count + 1)) (ne_eqb to reserved_node n) ∙
+    ap (λ b. if b then r else if nat_eq r.count s.limit then r else ref to (r.count + 1)) (ne_eqb to (reserved_node s.bits) n) ∙
     ap (λ b. if b then r else ref to (r.count + 1)) (ne_eqb r.count s.limit d)
 
-pub raised_node : (s : Setup) (r : Ref) (to : ℕ) → to ≢ reserved_node → r.count ≢ s.limit → (raised s r to).node ≡ to
+pub raised_node : (s : Setup) (r : Ref) (to : ℕ) → to ≢ reserved_node s.bits → r.count ≢ s.limit → (raised s r to).node ≡ to
 raised_node s r to n d = ap (λ (x : Ref). x.node) (raised_is s r to n d)
 
-pub raised_count : (s : Setup) (r : Ref) (to : ℕ) → to ≢ reserved_node → r.count ≢ s.limit → (raised s r to).count ≡ r.count + 1
+pub raised_count : (s : Setup) (r : Ref) (to : ℕ) → to ≢ reserved_node s.bits → r.count ≢ s.limit → (raised s r to).count ≡ r.count + 1
 raised_count s r to n d = ap (λ (x : Ref). x.count) (raised_is s r to n d)

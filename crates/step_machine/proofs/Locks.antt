@@ -9,7 +9,7 @@ use Rattle.line_table.specs.declared.lines.Line.{Line}
 use Rattle.line_table.specs.declared.lines.Line.TheVariants.{N1, E5, E7, E13, E17, D3, D10, A4, A5, A6, A7, B5, S1, S3, S5, S7, S8, S9}
 use Rattle.line_table.specs.Sections.{section_of}
 use Rattle.line_steps.specs.declared.actors.Setup.{Setup}
-use Rattle.line_steps.specs.declared.actors.Actor.{Actor}
+use Rattle.line_steps.specs.Actors.{Actor}
 use Rattle.line_steps.specs.Memory.{Word, Tail, word}
 use Rattle.line_steps.specs.Lines.{action}
 use Rattle.step_machine.specs.Machine.{World, idle, actor_of, IsReached}
@@ -118,9 +118,9 @@ front_is_taken w r e me a queue is at chain =
     let k : InvariantAt (λ k. Unit {0}) w.setup w.shared (last_node (p.front ∷ p.rest)) a (Some B5) = subst (InvariantAt (λ k. Unit {0}) w.setup w.shared (last_node (p.front ∷ p.rest)) a) at (p.sound.actors me a is).knows in
     let here : p.front ≡ a.head.node = sym p.sound.shape.queue_chain.0 ∙ ap (λ (x : Ref). x.node) k.0 in
     let second : (others : List ℕ) × (p.rest ≡ a.next.node ∷ others) =
-    second_leads IsEnd w.shared.nodes w.shared.head.node p.front a.next.node p.rest p.sound.shape.queue_chain
+    second_leads (IsEnd w.setup.bits) w.shared.nodes w.shared.head.node p.front a.next.node p.rest p.sound.shape.queue_chain
     (ap (next_in w.shared.nodes) here ∙ ap (λ (x : Ref). x.node) k.1)
-    (no_end a.next.node (nodes_at w r e me a B5 is at).1.1 (nodes_at w r e me a B5 is at).1.2) in
+    (no_end w.setup.bits a.next.node (nodes_at w r e me a B5 is at).1.1 (nodes_at w r e me a B5 is at).1.2) in
     record {
       others = second.0;
       nodes =

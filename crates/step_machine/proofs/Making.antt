@@ -2,6 +2,7 @@
 use Rattle.std.proofs.Common.{◌≡◌, ◌≢◌, ℕ, ◌+◌, ◌-◌, ◌^◌, ◌<◌, ◌≤◌, ◌⊎◌, inl, inr, Option, Some, None, IfSome, List, length, map, min, set, slice_get, refl, sym, ap, subst, arith}
 use Rattle.std.proofs.lemmas.Option.{slice_get_within}
 use Rattle.step_machine.specs.Below.{reserved_node, Line, N1, D12, B4, Op, Stamped, Actor, Outcome, gives_up, begun, room_after, RegistersFit, ReadsFit}
+use Rattle.counted_ref.proofs.Words.{span_most}
 use Rattle.step_machine.specs.Machine.{World, actor_of, with_operation, IsMade, made as made_by}
 use Rattle.step_machine.specs.Views.{wants_node, unrecorded, HasNodes, HasEntry}
 use Rattle.step_machine.specs.Range.{WorldInRange, ActorInRange}
@@ -50,11 +51,11 @@ reads w room me a l made at here nodes = go l (stands_at w (made_reached w made)
     h : WorldInRange w
     h = made_in_range w made
 
-    is_node : (a.next.node ≤ w.shared.fresh) ⊎ (a.next.node ≡ reserved_node) → a.next.node ≢ reserved_node → a.next.node ≤ room
+    is_node : (a.next.node ≤ w.shared.fresh) ⊎ (a.next.node ≡ reserved_node w.setup.bits) → a.next.node ≢ reserved_node w.setup.bits → a.next.node ≤ room
     is_node (inl low) other = let some : w.shared.fresh ≤ room = fresh_room w room h nodes in omega arith
     is_node (inr end) other = absurd (other end)
 
-    go : (l : Line) → NonNullAt l a → ReadsFit l room a
+    go : (l : Line) → NonNullAt w.setup.bits l a → ReadsFit l room a
     go D12 n = is_node (actor_in_range w me a h at).registers.next.node n.2
     go B4 n = is_node (actor_in_range w me a h at).registers.next.node n.2
     go _ n = tt
@@ -116,7 +117,7 @@ begun_rooms w room more_room enough capacity me a b fresh xs ops at none looks w
 -- an actor that began a call looks for no node, or room is wanted for those used and one for each actor
 pub begun_wants : (w : World) (me wanted fresh actors : ℕ) (op : Op) (a b : Actor) → WorldInRange w → b ≡ begun w.setup.kind me op a → fresh ≡ w.shared.fresh → actors ≡ length w.actors → (b.line ≡ Some N1 → wanted ≡ min (fresh + actors) (2 ^ 64 - 1)) → (wants_node b.line ≡ 0) ⊎ (wanted ≡ w.shared.fresh + length w.actors)
 begun_wants w me wanted fresh actors op a b range made used counted wants =
-    let few : w.shared.fresh + length w.actors < 2 ^ 64 - 1 = omega (arith, range.shared.fresh, range.sized.numbered, range.sized.few_actors) in
+    let few : w.shared.fresh + length w.actors < 2 ^ 64 - 1 = omega (arith, range.shared.fresh, range.sized.numbered, range.sized.few_actors, span_most w.setup.bits range.sized.split) in
     elim (subst (λ c. (wants_node c.line ≡ 0) ⊎ (c.line ≡ Some N1)) (sym made) (begun_looks w.setup.kind me op a)) [
       | inl none ↦ inl none
       | inr first ↦ inr (let h : wanted ≡ min (fresh + actors) (2 ^ 64 - 1) = wants first in omega (arith, h, few, used, counted))

@@ -36,9 +36,9 @@ MayTake m a =
     IsCurrentOrStale m.head a.head × (m.head ≡ a.head → (next_of m a.head.node ≡ a.next) × (m.tail.node ≢ a.head.node))
 
 -- what a dequeue knows that read Head, Tail and the node after
-abbrev pub Looked : Shared → Actor → Type 0
-Looked m a =
-    (m.head ≡ a.head → (1 ≤ a.next.node → next_of m a.head.node ≡ a.next) × (a.tail.node ≢ a.head.node → (m.tail.node ≢ a.head.node) × (1 ≤ a.next.node) × (a.next.node ≢ reserved_node)))
+abbrev pub Looked : (bits : ℕ) → Shared → Actor → Type 0
+Looked bits m a =
+    (m.head ≡ a.head → (1 ≤ a.next.node → next_of m a.head.node ≡ a.next) × (a.tail.node ≢ a.head.node → (m.tail.node ≢ a.head.node) × (1 ≤ a.next.node) × (a.next.node ≢ reserved_node bits)))
 
 -- what an actor knows before a line of its own; `Z` is what is known of a number at which the queue was found empty
 abbrev pub OwnAt : (Z : ℕ → Type 0) → Setup → Shared → (last : ℕ) → Actor → Option Line → Type 0
@@ -54,7 +54,7 @@ OwnAt Z s m last a (Some D3) = IsCurrentOrStale m.head a.head
 OwnAt Z s m last a (Some D4) =
     IsCurrentOrStale m.head a.head × IsCurrentOrStale m.tail a.tail × (m.head ≡ a.head → a.tail.node ≢ a.head.node → m.tail.node ≢ a.head.node)
 OwnAt Z s m last a (Some D5) =
-    IsCurrentOrStale m.head a.head × IsCurrentOrStale m.tail a.tail × Looked m a × (m.head ≡ a.head → a.next.node ≡ 0 → Z a.empty_at)
+    IsCurrentOrStale m.head a.head × IsCurrentOrStale m.tail a.tail × Looked s.bits m a × (m.head ≡ a.head → a.next.node ≡ 0 → Z a.empty_at)
 OwnAt Z s m last a (Some D10) = MayGoOn m a a.next.node
 OwnAt Z s m last a (Some D12) = MayTake m a
 OwnAt Z s m last a (Some D13) = MayTake m a × (m.head ≡ a.head → (node_at m a.next.node).value ≡ a.val)
@@ -167,7 +167,7 @@ module _ (s : Setup) (m m' : Shared) (c : Actor) (g : Guarantee m m') (n : Nodes
           inr (gone.0, omega arith)
 
   -- an actor still knows what it knew
-  still_knows : (Z : ℕ → Type 0) (last last' me : ℕ) (l : Line) → FixedAt s.limit me c (Some l) → NonNullAt l c → OwnAt Z s m last c (Some l) → OwnAt Z s m' last' c (Some l)
+  still_knows : (Z : ℕ → Type 0) (last last' me : ℕ) (l : Line) → FixedAt s.limit me c (Some l) → NonNullAt s.bits l c → OwnAt Z s m last c (Some l) → OwnAt Z s m' last' c (Some l)
   still_knows Z last last' me E3 f p h = ap (λ (x : Node). x.value) (own f.hand f.pocket p) ∙ h
   still_knows Z last last' me E5 f p h = ready (own f.hand f.pocket p) h
   still_knows Z last last' me E6 f p h = (ready (own f.hand f.pocket p.0) h.0, was_on m.tail m'.tail c.tail g.tail h.1)
@@ -218,10 +218,10 @@ module _ (s : Setup) (m m' : Shared) (c : Actor) (g : Guarantee m m') (n : Nodes
 -- where Tail is: at the last node once the queue is shut; and that the `next` of the last node is not worn out before
 pub record LagsWithRoom (s : Setup) (m : Shared) (queue : List ℕ) : Type 0 where
   pub lag : TailLags m queue
-  pub last_room : is_shut_chain m queue ≡ false → (next_of m (last_node queue)).count ≢ s.limit
-  pub shut_last : is_shut_chain m queue ≡ true → m.tail.node ≡ last_node queue
+  pub last_room : is_shut_chain s.bits m queue ≡ false → (next_of m (last_node queue)).count ≢ s.limit
+  pub shut_last : is_shut_chain s.bits m queue ≡ true → m.tail.node ≡ last_node queue
 
-pub own_kept : (Z : ℕ → Type 0) (s : Setup) (m m' : Shared) (last last' you : ℕ) (c : Actor) (l : Line) → Guarantee m m' → NodesRely m m' c → FixedAt s.limit you c (Some l) → NonNullAt l c → OwnsAt m you (Some l) → OwnAt Z s m last c (Some l) → OwnAt Z s m' last' c (Some l)
+pub own_kept : (Z : ℕ → Type 0) (s : Setup) (m m' : Shared) (last last' you : ℕ) (c : Actor) (l : Line) → Guarantee m m' → NodesRely m m' c → FixedAt s.limit you c (Some l) → NonNullAt s.bits l c → OwnsAt m you (Some l) → OwnAt Z s m last c (Some l) → OwnAt Z s m' last' c (Some l)
 own_kept Z s m m' last last' you c l g n f p o h = still_knows s m m' c g n Z last last' you l f p h
 
 -- the locks stay
@@ -245,8 +245,8 @@ pub words_stay : (s : Setup) (m m' : Shared) (front : ℕ) (rest : List ℕ) →
 words_stay s m m' front rest k h =
     record {
       lag = lag_same m m' (front ∷ rest) k.tail k.head h.lag;
-      last_room = subst (λ (x : Node). nat_eq x.next.node reserved_node ≡ false → x.next.count ≢ s.limit) (sym last) h.last_room;
-      shut_last = λ e. ap (λ (r : Ref). r.node) k.tail ∙ h.shut_last (ap (λ (x : Node). nat_eq x.next.node reserved_node) (sym last) ∙ e);
+      last_room = subst (λ (x : Node). nat_eq x.next.node (reserved_node s.bits) ≡ false → x.next.count ≢ s.limit) (sym last) h.last_room;
+      shut_last = λ e. ap (λ (r : Ref). r.node) k.tail ∙ h.shut_last (ap (λ (x : Node). nat_eq x.next.node (reserved_node s.bits)) (sym last) ∙ e);
     }
   where
     last : node_at m' (last_node (front ∷ rest)) ≡ node_at m (last_node (front ∷ rest))

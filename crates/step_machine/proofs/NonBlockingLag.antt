@@ -4,13 +4,13 @@ use Rattle.step_machine.specs.Below.{reserved_node, Ref, Node, Shared, put, Head
 use Rattle.step_machine.specs.Places.{IsEnd, IsQueueChain, one_if, times}
 use Rattle.step_machine.specs.Chains.{last_node, is_shut_chain}
 use Rattle.step_machine.specs.Lag.{TailLags}
-use Rattle.step_machine.proofs.Chains.{next_in, one_if_same, ends_apart, chain_same, last_linked, times-append}
+use Rattle.step_machine.proofs.Chains.{next_in, one_if_same, ends_apart, chain_same, closed_shut, last_linked, times-append}
 use Rattle.step_machine.proofs.Assertions.{next_of}
 
 -- a chain goes on behind each of its nodes
-pub chain_behind : (nodes : List Node) (before : List ℕ) (x : ℕ) (after : List ℕ) (n : ℕ) → IsQueueChain nodes n (before ++ x ∷ after) → (1 ≤ x) × (x ≤ length nodes) × IsQueueChain nodes (next_in nodes x) after
-chain_behind nodes [] x after n h = (h.1, h.2, h.3)
-chain_behind nodes (y ∷ ys) x after n h = chain_behind nodes ys x after (next_in nodes y) h.3
+pub chain_behind : (bits : ℕ) (nodes : List Node) (before : List ℕ) (x : ℕ) (after : List ℕ) (n : ℕ) → IsQueueChain bits nodes n (before ++ x ∷ after) → (1 ≤ x) × (x ≤ length nodes) × IsQueueChain bits nodes (next_in nodes x) after
+chain_behind bits nodes [] x after n h = (h.1, h.2, h.3)
+chain_behind bits nodes (y ∷ ys) x after n h = chain_behind bits nodes ys x after (next_in nodes y) h.3
 
 -- the last node of a list that ends in it
 pub last_end : (before : List ℕ) (x : ℕ) → last_node (before ++ x ∷ []) ≡ x
@@ -26,40 +26,40 @@ pub tail_times : (m : Shared) (queue : List ℕ) → TailLags m queue → 1 ≤ 
 tail_times m queue h = subst (λ ns. 1 ≤ times m.tail.node ns) (sym h.chain) (times_there h.before m.tail.node h.after)
 
 -- a chain goes on behind Tail's node
-pub behind_tail : (m : Shared) (queue : List ℕ) (n : ℕ) → IsQueueChain m.nodes n queue → (h : TailLags m queue) → (1 ≤ m.tail.node) × (m.tail.node ≤ length m.nodes) × IsQueueChain m.nodes (next_in m.nodes m.tail.node) h.after
-behind_tail m queue n c h = chain_behind m.nodes h.before m.tail.node h.after n (subst (λ ns. IsQueueChain m.nodes n ns) h.chain c)
+pub behind_tail : (bits : ℕ) (m : Shared) (queue : List ℕ) (n : ℕ) → IsQueueChain bits m.nodes n queue → (h : TailLags m queue) → (1 ≤ m.tail.node) × (m.tail.node ≤ length m.nodes) × IsQueueChain bits m.nodes (next_in m.nodes m.tail.node) h.after
+behind_tail bits m queue n c h = chain_behind bits m.nodes h.before m.tail.node h.after n (subst (λ ns. IsQueueChain bits m.nodes n ns) h.chain c)
 
 -- where null follows Tail's node, it is the last one
-pub nothing_after : (m : Shared) (queue : List ℕ) (n : ℕ) → IsQueueChain m.nodes n queue → (h : TailLags m queue) → (next_of m m.tail.node).node ≡ 0 → h.after ≡ []
-nothing_after m queue n c h none = go h.after (behind_tail m queue n c h).2
+pub nothing_after : (bits : ℕ) (m : Shared) (queue : List ℕ) (n : ℕ) → IsQueueChain bits m.nodes n queue → (h : TailLags m queue) → (next_of m m.tail.node).node ≡ 0 → h.after ≡ []
+nothing_after bits m queue n c h none = go h.after (behind_tail bits m queue n c h).2
   where
-    go : (after : List ℕ) → IsQueueChain m.nodes (next_in m.nodes m.tail.node) after → after ≡ []
+    go : (after : List ℕ) → IsQueueChain bits m.nodes (next_in m.nodes m.tail.node) after → after ≡ []
     go [] g = refl
     go (x ∷ xs) g = absurd (let same : (next_of m m.tail.node).node ≡ x = g.0 in let some : 1 ≤ x = g.1 in omega arith)
 
-pub tail_is_last : (m : Shared) (queue : List ℕ) (n : ℕ) → IsQueueChain m.nodes n queue → TailLags m queue → (next_of m m.tail.node).node ≡ 0 → last_node queue ≡ m.tail.node
-tail_is_last m queue n c h none =
-    ap last_node (h.chain ∙ ap (λ ns. h.before ++ m.tail.node ∷ ns) (nothing_after m queue n c h none)) ∙ last_end h.before m.tail.node
+pub tail_is_last : (bits : ℕ) (m : Shared) (queue : List ℕ) (n : ℕ) → IsQueueChain bits m.nodes n queue → TailLags m queue → (next_of m m.tail.node).node ≡ 0 → last_node queue ≡ m.tail.node
+tail_is_last bits m queue n c h none =
+    ap last_node (h.chain ∙ ap (λ ns. h.before ++ m.tail.node ∷ ns) (nothing_after bits m queue n c h none)) ∙ last_end h.before m.tail.node
 
 -- the same of any end, where no node is one
-pub ends_after : (m : Shared) (queue : List ℕ) (n : ℕ) → length m.nodes < reserved_node → IsQueueChain m.nodes n queue → (h : TailLags m queue) → IsEnd (next_of m m.tail.node).node → h.after ≡ []
-ends_after m queue n few c h end = chain_same IsEnd m.nodes h.after [] (next_in m.nodes m.tail.node) (ends_apart m.nodes few) (behind_tail m queue n c h).2 end
+pub ends_after : (bits : ℕ) (m : Shared) (queue : List ℕ) (n : ℕ) → length m.nodes < reserved_node bits → IsQueueChain bits m.nodes n queue → (h : TailLags m queue) → IsEnd bits (next_of m m.tail.node).node → h.after ≡ []
+ends_after bits m queue n few c h end = chain_same (IsEnd bits) m.nodes h.after [] (next_in m.nodes m.tail.node) (ends_apart bits m.nodes few) (behind_tail bits m queue n c h).2 end
 
-pub tail_at_end : (m : Shared) (queue : List ℕ) (n : ℕ) → length m.nodes < reserved_node → IsQueueChain m.nodes n queue → TailLags m queue → IsEnd (next_of m m.tail.node).node → last_node queue ≡ m.tail.node
-tail_at_end m queue n few c h end =
-    ap last_node (h.chain ∙ ap (λ ns. h.before ++ m.tail.node ∷ ns) (ends_after m queue n few c h end)) ∙ last_end h.before m.tail.node
+pub tail_at_end : (bits : ℕ) (m : Shared) (queue : List ℕ) (n : ℕ) → length m.nodes < reserved_node bits → IsQueueChain bits m.nodes n queue → TailLags m queue → IsEnd bits (next_of m m.tail.node).node → last_node queue ≡ m.tail.node
+tail_at_end bits m queue n few c h end =
+    ap last_node (h.chain ∙ ap (λ ns. h.before ++ m.tail.node ∷ ns) (ends_after bits m queue n few c h end)) ∙ last_end h.before m.tail.node
 
 -- where the closed end follows Tail's node, the queue is shut
-pub shut_behind : (m : Shared) (queue : List ℕ) (n : ℕ) → length m.nodes < reserved_node → IsQueueChain m.nodes n queue → TailLags m queue → (next_of m m.tail.node).node ≡ reserved_node → is_shut_chain m queue ≡ true
-shut_behind m queue n few c h closed =
-    ap (λ j. nat_eq (next_of m j).node reserved_node) (tail_at_end m queue n few c h (inr closed)) ∙ ap (λ j. nat_eq j reserved_node) closed
+pub shut_behind : (bits : ℕ) (m : Shared) (queue : List ℕ) (n : ℕ) → length m.nodes < reserved_node bits → IsQueueChain bits m.nodes n queue → TailLags m queue → (next_of m m.tail.node).node ≡ reserved_node bits → is_shut_chain bits m queue ≡ true
+shut_behind bits m queue n few c h closed =
+    ap (λ j. nat_eq (next_of m j).node (reserved_node bits)) (tail_at_end bits m queue n few c h (inr closed)) ∙ ap (λ j. nat_eq j (reserved_node bits)) closed ∙ closed_shut bits
 
 -- where a node follows Tail's, and no end, it is the last one
-pub one_after : (m : Shared) (queue : List ℕ) (n to : ℕ) → IsQueueChain m.nodes n queue → (h : TailLags m queue) → (next_of m m.tail.node).node ≡ to → (IsEnd to → ⊥) → h.after ≡ to ∷ []
-one_after m queue n to c h leads some = go h.after (behind_tail m queue n c h).2 h.by_one
+pub one_after : (bits : ℕ) (m : Shared) (queue : List ℕ) (n to : ℕ) → IsQueueChain bits m.nodes n queue → (h : TailLags m queue) → (next_of m m.tail.node).node ≡ to → (IsEnd bits to → ⊥) → h.after ≡ to ∷ []
+one_after bits m queue n to c h leads some = go h.after (behind_tail bits m queue n c h).2 h.by_one
   where
-    go : (after : List ℕ) → IsQueueChain m.nodes (next_in m.nodes m.tail.node) after → length after ≤ 1 → after ≡ to ∷ []
-    go [] g few = absurd (some (subst IsEnd leads g))
+    go : (after : List ℕ) → IsQueueChain bits m.nodes (next_in m.nodes m.tail.node) after → length after ≤ 1 → after ≡ to ∷ []
+    go [] g few = absurd (some (subst (IsEnd bits) leads g))
     go (x ∷ []) g few = ap (λ y. y ∷ []) (sym (let e : (next_of m m.tail.node).node ≡ x = g.0 in e) ∙ leads)
     go (x ∷ y ∷ ys) g few = absurd (omega arith)
 
@@ -93,26 +93,26 @@ off m front rest h d = go h.before h.chain h.count
 pub off_count : (m : Shared) (front : ℕ) (rest : List ℕ) → IsOff m front rest → m.head.count < m.tail.count
 off_count m front rest h = let c : m.tail.count ≡ m.head.count + 1 + length h.before = h.count in omega arith
 
-pub off_leads : (m : Shared) (front n : ℕ) (rest : List ℕ) → IsQueueChain m.nodes n (front ∷ rest) → IsOff m front rest → 1 ≤ (next_of m front).node
-off_leads m front n rest c h = go h.before (subst (λ ns. IsQueueChain m.nodes (next_in m.nodes front) ns) h.chain c.3)
+pub off_leads : (bits : ℕ) (m : Shared) (front n : ℕ) (rest : List ℕ) → IsQueueChain bits m.nodes n (front ∷ rest) → IsOff m front rest → 1 ≤ (next_of m front).node
+off_leads bits m front n rest c h = go h.before (subst (λ ns. IsQueueChain bits m.nodes (next_in m.nodes front) ns) h.chain c.3)
   where
-    go : (before : List ℕ) → IsQueueChain m.nodes (next_in m.nodes front) (before ++ m.tail.node ∷ h.after) → 1 ≤ (next_of m front).node
+    go : (before : List ℕ) → IsQueueChain bits m.nodes (next_in m.nodes front) (before ++ m.tail.node ∷ h.after) → 1 ≤ (next_of m front).node
     go [] g = let e : (next_of m front).node ≡ m.tail.node = g.0 in let some : 1 ≤ m.tail.node = g.1 in omega arith
     go (x ∷ xs) g = let e : (next_of m front).node ≡ x = g.0 in let some : 1 ≤ x = g.1 in omega arith
 
 -- which is no end
-pub off_open : (m : Shared) (front n : ℕ) (rest : List ℕ) → length m.nodes < reserved_node → IsQueueChain m.nodes n (front ∷ rest) → IsOff m front rest → (next_of m front).node ≢ reserved_node
-off_open m front n rest few c h closed = omega (arith, few, closed, go h.before (subst (λ ns. IsQueueChain m.nodes (next_in m.nodes front) ns) h.chain c.3))
+pub off_open : (bits : ℕ) (m : Shared) (front n : ℕ) (rest : List ℕ) → length m.nodes < reserved_node bits → IsQueueChain bits m.nodes n (front ∷ rest) → IsOff m front rest → (next_of m front).node ≢ reserved_node bits
+off_open bits m front n rest few c h closed = omega (arith, few, closed, go h.before (subst (λ ns. IsQueueChain bits m.nodes (next_in m.nodes front) ns) h.chain c.3))
   where
-    go : (before : List ℕ) → IsQueueChain m.nodes (next_in m.nodes front) (before ++ m.tail.node ∷ h.after) → (next_of m front).node ≤ length m.nodes
+    go : (before : List ℕ) → IsQueueChain bits m.nodes (next_in m.nodes front) (before ++ m.tail.node ∷ h.after) → (next_of m front).node ≤ length m.nodes
     go [] g = omega (arith, g.0, g.2)
     go (x ∷ xs) g = omega (arith, g.0, g.2)
 
 -- and it is the second one
-pub off_second : (m : Shared) (front n x : ℕ) (rest : List ℕ) → IsQueueChain m.nodes n (front ∷ rest) → IsOff m front rest → (next_of m front).node ≡ x → (ns : List ℕ) × (rest ≡ x ∷ ns)
-off_second m front n x rest c h leads = go h.before h.chain (subst (λ ns. IsQueueChain m.nodes (next_in m.nodes front) ns) h.chain c.3)
+pub off_second : (bits : ℕ) (m : Shared) (front n x : ℕ) (rest : List ℕ) → IsQueueChain bits m.nodes n (front ∷ rest) → IsOff m front rest → (next_of m front).node ≡ x → (ns : List ℕ) × (rest ≡ x ∷ ns)
+off_second bits m front n x rest c h leads = go h.before h.chain (subst (λ ns. IsQueueChain bits m.nodes (next_in m.nodes front) ns) h.chain c.3)
   where
-    go : (before : List ℕ) → rest ≡ before ++ m.tail.node ∷ h.after → IsQueueChain m.nodes (next_in m.nodes front) (before ++ m.tail.node ∷ h.after) → (ns : List ℕ) × (rest ≡ x ∷ ns)
+    go : (before : List ℕ) → rest ≡ before ++ m.tail.node ∷ h.after → IsQueueChain bits m.nodes (next_in m.nodes front) (before ++ m.tail.node ∷ h.after) → (ns : List ℕ) × (rest ≡ x ∷ ns)
     go [] e g = (h.after, e ∙ ap (λ y. y ∷ h.after) (sym g.0 ∙ leads))
     go (y ∷ ys) e g = (ys ++ m.tail.node ∷ h.after, e ∙ ap (λ z. z ∷ ys ++ m.tail.node ∷ h.after) (sym g.0 ∙ leads))
 

@@ -12,7 +12,7 @@ use Rattle.step_machine.specs.EachQueue.{RaisesBelowTheLimit, IsShut, HasCauseFo
 use Rattle.step_machine.specs.NonBlocking.{OfNonBlockingWorlds, TailLagsByOne, TailIsNotBehindHead, NeverFindsHeadWornOut, FindsItsOwnNextWornOut, NeverRefusedForHead, TakesTheFront}
 use Rattle.step_machine.proofs.Choices.{either}
 use Rattle.step_machine.proofs.Range.{found_in_range}
-use Rattle.step_machine.proofs.Chains.{shut_alone}
+use Rattle.step_machine.proofs.Chains.{shut_alone, null_open}
 use Rattle.step_machine.proofs.Reached.{reached_in_range, few_nodes, actor_in_range}
 use Rattle.step_machine.proofs.Fixed.{FixedAt}
 use Rattle.step_machine.proofs.StaleReferences.{IsCurrentOrStale}
@@ -54,10 +54,10 @@ tail_is_not_behind w r e =
 pub record AtLine (w : World) (me : ℕ) (a : Actor) (l : Line) : Type 0 where
   pub plain : Invariant w
   pub range : WorldInRange w
-  pub few_nodes : length w.shared.nodes < reserved_node
+  pub few_nodes : length w.shared.nodes < reserved_node w.setup.bits
   pub registers : RegistersInRange w.setup w.shared.fresh (length w.actors) a
   pub runs : IsRunBy (section_of l) NonBlocking
-  pub nodes : NonNullAt l a
+  pub nodes : NonNullAt w.setup.bits l a
   pub fixes : FixedAt w.setup.limit me a (Some l)
   pub knows : InvariantAt Nothing w.setup w.shared (last_node (plain.front ∷ plain.rest)) a (Some l)
 
@@ -66,7 +66,7 @@ at_line w r e me a l is at =
     let p : Invariant w = reached_invariant w r e in
     let g : WorldInRange w = reached_in_range w r in
     let k : LocalInvariant non_blocking Nothing w.setup w.shared (last_node (p.front ∷ p.rest)) me a = p.sound.actors me a is in
-    let st : IsRunBy (section_of l) w.setup.kind × NonNullAt l a = stands_at w r me a l is at in
+    let st : IsRunBy (section_of l) w.setup.kind × NonNullAt w.setup.bits l a = stands_at w r me a l is at in
     let c : ActorInRange w.setup w.shared.fresh (length w.actors) a = actor_in_range w me a g is in
     record {
       plain = p;
@@ -94,8 +94,8 @@ next_below w me a l h none = go
     go (inr was) =
         let at : w.shared.tail.node ≡ a.tail.node = ap (λ (x : Ref). x.node) was.0 in
         let null : (next_of w.shared w.shared.tail.node).node ≡ 0 = ap (λ j. (next_of w.shared j).node) at ∙ ap (λ (x : Ref). x.node) was.1 ∙ none in
-        let last : last_node (p.front ∷ p.rest) ≡ w.shared.tail.node = tail_is_last w.shared (p.front ∷ p.rest) w.shared.head.node p.sound.shape.queue_chain p.sound.words.lag null in
-        let room : a.next.count ≢ w.setup.limit = subst (λ (x : Ref). nat_eq x.node reserved_node ≡ false → x.count ≢ w.setup.limit) (ap (next_of w.shared) (last ∙ at) ∙ was.1) p.sound.words.last_room (ap (λ n. nat_eq n reserved_node) none) in
+        let last : last_node (p.front ∷ p.rest) ≡ w.shared.tail.node = tail_is_last w.setup.bits w.shared (p.front ∷ p.rest) w.shared.head.node p.sound.shape.queue_chain p.sound.words.lag null in
+        let room : a.next.count ≢ w.setup.limit = subst (λ (x : Ref). nat_eq x.node (reserved_node w.setup.bits) ≡ false → x.count ≢ w.setup.limit) (ap (next_of w.shared) (last ∙ at) ∙ was.1) p.sound.words.last_room (ap (λ n. nat_eq n (reserved_node w.setup.bits)) none ∙ null_open w.setup.bits (length w.shared.nodes) h.few_nodes) in
         let most : a.next.count ≤ w.setup.limit = h.registers.next.count in
         omega arith
 
@@ -136,14 +136,14 @@ ended_or w a now true c = record { cause = tt }
 ended_or w a now false c = record { cause = tt }
 
 -- where the closed end was read behind Tail's node, the queue is shut
-shut_behind_tail : (w : World) (me : ℕ) (a : Actor) (l : Line) → AtLine w me a l → w.shared.tail ≡ a.tail → WasNext w.shared a → is_shut a.next ≡ true → IsShut w
+shut_behind_tail : (w : World) (me : ℕ) (a : Actor) (l : Line) → AtLine w me a l → w.shared.tail ≡ a.tail → WasNext w.shared a → is_shut w.setup.bits a.next ≡ true → IsShut w
 shut_behind_tail w me a l h was read s =
     let p : Invariant w = h.plain in
-    let end : a.next.node ≡ reserved_node = eqb-true a.next.node reserved_node s in
+    let end : a.next.node ≡ reserved_node w.setup.bits = eqb-true a.next.node (reserved_node w.setup.bits) s in
     let next : next_of w.shared a.tail.node ≡ a.next = next_stays_there w.shared a (λ e. omega (arith, e, end)) read in (
       p.front ∷ p.rest,
       p.sound.shape.queue_chain,
-      shut_behind w.shared (p.front ∷ p.rest) w.shared.head.node h.few_nodes p.sound.shape.queue_chain p.sound.words.lag
+      shut_behind w.setup.bits w.shared (p.front ∷ p.rest) w.shared.head.node h.few_nodes p.sound.shape.queue_chain p.sound.words.lag
           (ap (λ (x : Ref). (next_of w.shared x.node).node) was ∙ ap (λ (x : Ref). x.node) next ∙ end),
     )
 
@@ -156,7 +156,7 @@ own_caused w now me a E6 h i = record { cause = tt }
 own_caused w now me a E7 h i =
     either (Caused (Own w a) w) (same_ref w.shared.tail a.tail)
     (λ b. either (Caused (Own w a) w) (is_null a.next) (λ n. record { cause = tt })
-    (λ n. either (Caused (Own w a) w) (is_shut a.next) (λ s. record { cause = shut_behind_tail w me a E7 h (same_ref-true w.shared.tail a.tail b) (h.knows.2 (same_ref-true w.shared.tail a.tail b)) s })
+    (λ n. either (Caused (Own w a) w) (is_shut w.setup.bits a.next) (λ s. record { cause = shut_behind_tail w me a E7 h (same_ref-true w.shared.tail a.tail b) (h.knows.2 (same_ref-true w.shared.tail a.tail b)) s })
     (λ s. either (Caused (Own w a) w) (nat_eq a.tail.count w.setup.limit)
     (λ c. record { cause = ap (λ (x : Ref). x.count) (same_ref-true w.shared.tail a.tail b) ∙ eqb-true a.tail.count w.setup.limit c }) (λ c. record { cause = tt }))))
     (λ b. record { cause = tt })
@@ -171,19 +171,19 @@ own_caused w now me a D5 h i =
     either (Caused (Own w a) w) (same_ref w.shared.head a.head)
     (λ b. either (Caused (Own w a) w) (nat_eq a.head.node a.tail.node)
     (λ c. either (Caused (Own w a) w) (is_null a.next) (λ n. record { cause = tt })
-    (λ n. either (Caused (Own w a) w) (is_shut a.next) (λ s. record { cause = shut_behind_head (same_ref-true w.shared.head a.head b) s })
+    (λ n. either (Caused (Own w a) w) (is_shut w.setup.bits a.next) (λ s. record { cause = shut_behind_head (same_ref-true w.shared.head a.head b) s })
     (λ s. either (Caused (Own w a) w) (nat_eq a.tail.count w.setup.limit) (λ d. record { cause = worn_tail (eqb-true a.tail.count w.setup.limit d) h.knows.1 }) (λ d. record { cause = tt }))))
     (λ c. record { cause = tt }))
     (λ b. record { cause = tt })
   where
-    shut_behind_head : w.shared.head ≡ a.head → is_shut a.next ≡ true → IsShut w
+    shut_behind_head : w.shared.head ≡ a.head → is_shut w.setup.bits a.next ≡ true → IsShut w
     shut_behind_head was s =
         let p : Invariant w = h.plain in
-        let end : a.next.node ≡ reserved_node = eqb-true a.next.node reserved_node s in
+        let end : a.next.node ≡ reserved_node w.setup.bits = eqb-true a.next.node (reserved_node w.setup.bits) s in
         let next : next_of w.shared a.head.node ≡ a.next = (h.knows.2 was).0 (omega (arith, end)) in (
           p.front ∷ p.rest,
           p.sound.shape.queue_chain,
-          shut_alone w.shared w.shared.head.node p.front p.rest h.few_nodes p.sound.shape.queue_chain
+          shut_alone w.setup.bits w.shared w.shared.head.node p.front p.rest h.few_nodes p.sound.shape.queue_chain
               (ap (λ j. (next_of w.shared j).node) (sym p.sound.shape.queue_chain.0 ∙ ap (λ (x : Ref). x.node) was) ∙ ap (λ (x : Ref). x.node) next ∙ end),
         )
 
@@ -201,7 +201,7 @@ own_caused w now me a S2 h i = record { cause = tt }
 own_caused w now me a S3 h i =
     either (Caused (Own w a) w) (same_ref w.shared.tail a.tail)
     (λ b. either (Caused (Own w a) w) (is_null a.next) (λ n. record { cause = tt })
-    (λ n. either (Caused (Own w a) w) (is_shut a.next) (λ s. record { cause = shut_behind_tail w me a S3 h (same_ref-true w.shared.tail a.tail b) (h.knows.1 (same_ref-true w.shared.tail a.tail b)) s })
+    (λ n. either (Caused (Own w a) w) (is_shut w.setup.bits a.next) (λ s. record { cause = shut_behind_tail w me a S3 h (same_ref-true w.shared.tail a.tail b) (h.knows.1 (same_ref-true w.shared.tail a.tail b)) s })
     (λ s. either (Caused (Own w a) w) (nat_eq a.tail.count w.setup.limit)
     (λ c. record { cause = ap (λ (x : Ref). x.count) (same_ref-true w.shared.tail a.tail b) ∙ eqb-true a.tail.count w.setup.limit c }) (λ c. record { cause = tt }))))
     (λ b. record { cause = tt })
@@ -251,7 +251,7 @@ front_is_taken w r e me a queue is at was chain =
     let first : w.shared.head.node ≡ p.front = p.sound.shape.queue_chain.0 in
     let here : p.front ≡ a.head.node = sym first ∙ ap (λ (x : Ref). x.node) was in
     let second : (others : List ℕ) × (p.rest ≡ a.next.node ∷ others) =
-    off_second w.shared p.front w.shared.head.node a.next.node p.rest p.sound.shape.queue_chain
+    off_second w.setup.bits w.shared p.front w.shared.head.node a.next.node p.rest p.sound.shape.queue_chain
     (off w.shared p.front p.rest p.sound.words.lag (λ q. (h.knows.0.1 was).1 (q ∙ here)))
     (ap (λ k. (next_of w.shared k).node) here ∙ ap (λ (x : Ref). x.node) (h.knows.0.1 was).0) in
     record {

@@ -8,7 +8,7 @@ use Rattle.step_machine.specs.Completion.{decided_reply, completed_reply}
 use Rattle.step_machine.specs.Chains.{last_node, queue_values, is_shut_chain}
 use Rattle.step_machine.specs.Places.{times}
 use Rattle.step_machine.proofs.Choices.{either, tried}
-use Rattle.step_machine.proofs.Chains.{node_in, no_end, alone_at_end, shut_alone, empty_behind, last_linked}
+use Rattle.step_machine.proofs.Chains.{node_in, no_end, alone_at_end, shut_alone, null_open, closed_shut, empty_behind, last_linked}
 use Rattle.step_machine.proofs.Counting.{holds, holds_own}
 use Rattle.step_machine.proofs.Effects.{others_stay, written, queued_once, not_linked, with_node as with_new}
 use Rattle.step_machine.proofs.LinearizationSteps.{KeepsReply, stutters, refused, found_empty, raised_node, raised_count}
@@ -55,7 +55,7 @@ module _ (b : Before non_blocking) where
   is_first was = sym shape.queue_chain.0 ∙ ap (λ (x : Ref). x.node) was
 
   -- Tail goes on to a node, where the register is in the word still
-  swings : (to : ℕ) (o : Outcome) → m.tail ≡ a.tail → 1 ≤ to → to ≢ reserved_node → a.tail.count ≢ s.limit → MayGoOn m a to → ((n : ℕ) → holds n o.actor ≡ holds n a) → o.aside ≡ None → Marked m o.actor → Learns non_blocking b (put Tail (raised s a.tail to) m) o → OwnsAt m me o.actor.line → o.at ≡ None → KeepsReply a o → Goes non_blocking b (put Tail (raised s a.tail to) m) o
+  swings : (to : ℕ) (o : Outcome) → m.tail ≡ a.tail → 1 ≤ to → to ≢ reserved_node s.bits → a.tail.count ≢ s.limit → MayGoOn m a to → ((n : ℕ) → holds n o.actor ≡ holds n a) → o.aside ≡ None → Marked m o.actor → Learns non_blocking b (put Tail (raised s a.tail to) m) o → OwnsAt m me o.actor.line → o.at ≡ None → KeepsReply a o → Goes non_blocking b (put Tail (raised s a.tail to) m) o
   swings to o was some other room may same none marks knows owns no_at keeps =
       writes_word non_blocking b (put Tail r m) o refl refl refl refl same none (λ you one other. moves)
       (record { lag = lag_swung m (front ∷ rest) r words.lag one up; last_room = words.last_room; shut_last = λ e. absurd (not_shut e) }) marks knows owns (stutters refl refl refl no_at keeps)
@@ -73,11 +73,11 @@ module _ (b : Before non_blocking) where
       not_null = subst (λ k. 1 ≤ k) (sym (raised_node s a.tail to other room)) some
 
       one : words.lag.after ≡ r.node ∷ []
-      one = one_after m (front ∷ rest) m.head.node r.node shape.queue_chain words.lag leads (no_end r.node not_null (λ e. other (sym (raised_node s a.tail to other room) ∙ e)))
+      one = one_after s.bits m (front ∷ rest) m.head.node r.node shape.queue_chain words.lag leads (no_end s.bits r.node not_null (λ e. other (sym (raised_node s a.tail to other room) ∙ e)))
 
-      not_shut : is_shut_chain m (front ∷ rest) ≡ true → ⊥
+      not_shut : is_shut_chain s.bits m (front ∷ rest) ≡ true → ⊥
       not_shut e =
-          other (sym (raised_node s a.tail to other room) ∙ sym leads ∙ ap (λ j. (next_of m j).node) (words.shut_last e) ∙ eqb-true (next_of m (last_node (front ∷ rest))).node reserved_node e)
+          other (sym (raised_node s a.tail to other room) ∙ sym leads ∙ ap (λ j. (next_of m j).node) (words.shut_last e) ∙ eqb-true (next_of m (last_node (front ∷ rest))).node (reserved_node s.bits) e)
 
       moves : Guarantee m (put Tail r m)
       moves =
@@ -87,27 +87,27 @@ module _ (b : Before non_blocking) where
             tail = inr (omega (arith, up));
             tail_on = inr (omega (arith, leads, not_null));
             tail_next = inl refl;
-            off = λ e d. λ e. after_not_first m front r.node rest (queued_once m E (front ∷ rest) free shape) words.lag one (e ∙ shape.queue_chain.0);
+            off = λ e d. λ e. after_not_first m front r.node rest (queued_once s.bits m E (front ∷ rest) free shape) words.lag one (e ∙ shape.queue_chain.0);
             counts = λ n one. omega arith;
           }
 
   -- the `next` of the last node is not worn out
   last_is : m.tail ≡ a.tail → next_of m a.tail.node ≡ a.next → a.next.node ≡ 0 → last_node (front ∷ rest) ≡ a.tail.node
   last_is was same null =
-      tail_is_last m (front ∷ rest) m.head.node shape.queue_chain words.lag (ap (λ (x : Ref). (next_of m x.node).node) was ∙ ap (λ (x : Ref). x.node) same ∙ null) ∙ ap (λ (x : Ref). x.node) was
+      tail_is_last s.bits m (front ∷ rest) m.head.node shape.queue_chain words.lag (ap (λ (x : Ref). (next_of m x.node).node) was ∙ ap (λ (x : Ref). x.node) same ∙ null) ∙ ap (λ (x : Ref). x.node) was
 
   next_room : m.tail ≡ a.tail → next_of m a.tail.node ≡ a.next → a.next.node ≡ 0 → a.next.count ≢ s.limit
   next_room was same null =
-      subst (λ (x : Ref). nat_eq x.node reserved_node ≡ false → x.count ≢ s.limit) (ap (next_of m) (last_is was same null) ∙ same) words.last_room
-      (ap (λ n. nat_eq n reserved_node) null)
+      subst (λ (x : Ref). nat_eq x.node (reserved_node s.bits) ≡ false → x.count ≢ s.limit) (ap (next_of m) (last_is was same null) ∙ same) words.last_room
+      (ap (λ n. nat_eq n (reserved_node s.bits)) null ∙ null_open s.bits (length m.nodes) few_nodes)
 
   -- where the closed end was read behind Tail's node, the queue is shut
-  is_shut_behind : m.tail ≡ a.tail → next_of m a.tail.node ≡ a.next → a.next.node ≡ reserved_node → is_shut_chain m (front ∷ rest) ≡ true
+  is_shut_behind : m.tail ≡ a.tail → next_of m a.tail.node ≡ a.next → a.next.node ≡ reserved_node s.bits → is_shut_chain s.bits m (front ∷ rest) ≡ true
   is_shut_behind was next end =
-      shut_behind m (front ∷ rest) m.head.node few_nodes shape.queue_chain words.lag (ap (λ (x : Ref). (next_of m x.node).node) was ∙ ap (λ (x : Ref). x.node) next ∙ end)
+      shut_behind s.bits m (front ∷ rest) m.head.node few_nodes shape.queue_chain words.lag (ap (λ (x : Ref). (next_of m x.node).node) was ∙ ap (λ (x : Ref). x.node) next ∙ end)
 
   -- the same behind the dummy
-  first_leads : m.head ≡ a.head → next_of m a.head.node ≡ a.next → a.next.node ≡ reserved_node → (next_of m front).node ≡ reserved_node
+  first_leads : m.head ≡ a.head → next_of m a.head.node ≡ a.next → a.next.node ≡ reserved_node s.bits → (next_of m front).node ≡ reserved_node s.bits
   first_leads was next end = ap (λ j. (next_of m j).node) (is_first was) ∙ ap (λ (x : Ref). x.node) next ∙ end
 
   -- what was read behind Tail's node, if null, is there still, or the count there is higher
@@ -124,10 +124,10 @@ module _ (b : Before non_blocking) where
   tail_there : m.tail ≡ a.tail → (1 ≤ a.tail.node) × (a.tail.node ≤ length m.nodes)
   tail_there was =
       subst (λ (x : Ref). (1 ≤ x.node) × (x.node ≤ length m.nodes)) was
-      ((behind_tail m (front ∷ rest) m.head.node shape.queue_chain words.lag).0, (behind_tail m (front ∷ rest) m.head.node shape.queue_chain words.lag).1)
+      ((behind_tail s.bits m (front ∷ rest) m.head.node shape.queue_chain words.lag).0, (behind_tail s.bits m (front ∷ rest) m.head.node shape.queue_chain words.lag).1)
 
   -- the node in hand goes behind the last one of the queue
-  links_hand : (o : Outcome) → AtLine non_blocking b E9 → m.tail ≡ a.tail → next_of m a.tail.node ≡ a.next → o.actor.holds ≡ false → o.actor.pocket ≡ None → o.aside ≡ None → Knows non_blocking (Found m (front ∷ rest) now) s (put (Next a.tail.node) (raised s a.next a.node) m) (last_node (front ∷ rest ++ a.node ∷ [])) o.actor o.actor.line → OwnsAt m me o.actor.line → o.at ≡ Some now → completed_reply o.reply (Some now) o.actor.due ≡ Some Done → Goes non_blocking b (put (Next a.tail.node) (raised s a.next a.node) m) o
+  links_hand : (o : Outcome) → AtLine non_blocking b E9 → m.tail ≡ a.tail → next_of m a.tail.node ≡ a.next → o.actor.holds ≡ false → o.actor.pocket ≡ None → o.aside ≡ None → Knows non_blocking (Found s.bits m (front ∷ rest) now) s (put (Next a.tail.node) (raised s a.next a.node) m) (last_node (front ∷ rest ++ a.node ∷ [])) o.actor o.actor.line → OwnsAt m me o.actor.line → o.at ≡ Some now → completed_reply o.reply (Some now) o.actor.due ≡ Some Done → Goes non_blocking b (put (Next a.tail.node) (raised s a.next a.node) m) o
   links_hand o t was next g z none knows owns at earns =
       links non_blocking b a.tail.node r o
       (record {
@@ -144,9 +144,9 @@ module _ (b : Before non_blocking) where
         relies = λ you one other. moves_link m a.tail.node r (ap (λ (x : Ref). x.node) was) (tail_there was).0 (tail_there was).1 (ap (λ (x : Ref). x.node) next ∙ null) up;
         words_then =
             record {
-              lag = lag_linked m (put (Next a.tail.node) r m) (front ∷ rest) a.node refl refl words.lag (nothing_after m (front ∷ rest) m.head.node shape.queue_chain words.lag (ap (λ (x : Ref). (next_of m x.node).node) was ∙ ap (λ (x : Ref). x.node) next ∙ null));
+              lag = lag_linked m (put (Next a.tail.node) r m) (front ∷ rest) a.node refl refl words.lag (nothing_after s.bits m (front ∷ rest) m.head.node shape.queue_chain words.lag (ap (λ (x : Ref). (next_of m x.node).node) was ∙ ap (λ (x : Ref). x.node) next ∙ null));
               last_room = λ unshut. subst (λ (y : Ref). y.count ≢ s.limit) (sym last_next) (λ e. t.knows.0.2 (sym (marked.hand t.fixed.hand).1 ∙ e));
-              shut_last = λ e. absurd (true≢false (sym e ∙ ap (λ (y : Ref). nat_eq y.node reserved_node) last_next ∙ ap (λ n. nat_eq n reserved_node) t.knows.0.1));
+              shut_last = λ e. absurd (true≢false (sym e ∙ ap (λ (y : Ref). nat_eq y.node (reserved_node s.bits)) last_next ∙ ap (λ n. nat_eq n (reserved_node s.bits)) t.knows.0.1 ∙ null_open s.bits (length m.nodes) few_nodes));
             };
         knows = knows;
         owns = owns;
@@ -171,7 +171,7 @@ module _ (b : Before non_blocking) where
       other : a.node ≢ a.tail.node
       other e =
           let here : holds a.node a ≡ 1 = holds_own a t.fixed.hand t.fixed.pocket in
-          let apart : times a.node (front ∷ rest) ≡ 0 = (not_linked m E (front ∷ rest) free shape a.node t.nodes.0 (omega (arith, mine a.node))).0 in
+          let apart : times a.node (front ∷ rest) ≡ 0 = (not_linked s.bits m E (front ∷ rest) free shape a.node t.nodes.0 (omega (arith, mine a.node))).0 in
           let there : 1 ≤ times a.node (front ∷ rest) = subst (λ j. 1 ≤ times j (front ∷ rest)) (ap (λ (x : Ref). x.node) was ∙ sym e) (tail_times m (front ∷ rest) words.lag) in
           omega arith
 
@@ -209,11 +209,11 @@ module _ (b : Before non_blocking) where
             record {
               lag = lag_popped m front rest r away up;
               last_room =
-                  subst (λ ys. is_shut_chain m ys ≡ false → (next_of m (last_node ys)).count ≢ s.limit) (sym second.1)
-                  (subst (λ ys. is_shut_chain m (front ∷ ys) ≡ false → (next_of m (last_node (front ∷ ys))).count ≢ s.limit) second.1 words.last_room);
+                  subst (λ ys. is_shut_chain s.bits m ys ≡ false → (next_of m (last_node ys)).count ≢ s.limit) (sym second.1)
+                  (subst (λ ys. is_shut_chain s.bits m (front ∷ ys) ≡ false → (next_of m (last_node (front ∷ ys))).count ≢ s.limit) second.1 words.last_room);
               shut_last =
-                  subst (λ ys. is_shut_chain m ys ≡ true → m.tail.node ≡ last_node ys) (sym second.1)
-                  (subst (λ ys. is_shut_chain m (front ∷ ys) ≡ true → m.tail.node ≡ last_node (front ∷ ys)) second.1 words.shut_last);
+                  subst (λ ys. is_shut_chain s.bits m ys ≡ true → m.tail.node ≡ last_node ys) (sym second.1)
+                  (subst (λ ys. is_shut_chain s.bits m (front ∷ ys) ≡ true → m.tail.node ≡ last_node (front ∷ ys)) second.1 words.shut_last);
             };
         knows = tt;
         owns = t.owns;
@@ -233,7 +233,7 @@ module _ (b : Before non_blocking) where
       away = off m front rest words.lag (λ e. (t.knows.0.1 was).1 (e ∙ is_first was))
 
       second : (ns : List ℕ) × (rest ≡ a.next.node ∷ ns)
-      second = off_second m front m.head.node a.next.node rest shape.queue_chain away (ap (λ k. (next_of m k).node) (is_first was) ∙ ap (λ (x : Ref). x.node) (t.knows.0.1 was).0)
+      second = off_second s.bits m front m.head.node a.next.node rest shape.queue_chain away (ap (λ k. (next_of m k).node) (is_first was) ∙ ap (λ (x : Ref). x.node) (t.knows.0.1 was).0)
 
   -- the last node of the queue comes to lead to the closed end
   closes : AtLine non_blocking b S4 → m.tail ≡ a.tail → next_of m a.tail.node ≡ a.next → Goes non_blocking b (put (Next a.tail.node) (raised_end s a.next) m) (effect now (ends now Done a))
@@ -264,18 +264,19 @@ module _ (b : Before non_blocking) where
       r : Ref
       r = raised_end s a.next
 
-      raised : r ≡ shut_ref (a.next.count + 1)
-      raised = ap (λ i. if i then a.next else shut_ref (a.next.count + 1)) (ne_eqb a.next.count s.limit (next_room was next t.knows.0))
+      raised : r ≡ shut_ref s.bits (a.next.count + 1)
+      raised = ap (λ i. if i then a.next else shut_ref s.bits (a.next.count + 1)) (ne_eqb a.next.count s.limit (next_room was next t.knows.0))
 
       up : (next_of m a.tail.node).count < r.count
       up = omega (arith, ap (λ (x : Ref). x.count) raised, ap (λ (x : Ref). x.count) next)
 
-      shut_then : is_shut_chain (put (Next a.tail.node) r m) (front ∷ rest) ≡ true
+      shut_then : is_shut_chain s.bits (put (Next a.tail.node) r m) (front ∷ rest) ≡ true
       shut_then =
-          ap (λ n. nat_eq n reserved_node)
+          ap (λ n. nat_eq n (reserved_node s.bits))
           (ap (λ j. (next_of (put (Next a.tail.node) r m) j).node) (last_is was next t.knows.0)
           ∙ ap (λ (x : Node). x.next.node) (written m.nodes a.tail.node (record (node_at m a.tail.node) { next = r }) (tail_there was).0 (tail_there was).1)
-          ∙ ap (λ (x : Ref). x.node) raised)
+          ∙ ap (λ (x : Ref). x.node) raised) ∙
+          closed_shut s.bits
 
   -- an exchange after which the outcome is the same, whether it succeeds or not
   tried_same : (i : Bool) {m' m'' : Shared} {x : Outcome} → (i ≡ true → Goes non_blocking b m' x) → (i ≡ false → Goes non_blocking b m'' x) → Goes non_blocking b (if i then m' else m'') x
@@ -304,8 +305,8 @@ module _ (b : Before non_blocking) where
       (λ i. let was : m.tail ≡ a.tail = same_ref-true m.tail a.tail i in
       either (Goes non_blocking b m) (is_null a.next) (λ n. on non_blocking b _ (ap decided_reply t.fixed.earned) refl (λ n. refl) refl marked (t.knows.0, eqb-true a.next.node 0 n, null_next was (t.knows.2 was)) t.owns)
       (λ n. let next : next_of m a.tail.node ≡ a.next = next_stays_there m a (eqb-false a.next.node 0 n) (t.knows.2 was) in
-      either (Goes non_blocking b m) (is_shut a.next)
-      (λ e. finds_shut non_blocking b _ (ap decided_reply t.fixed.earned) refl refl (is_shut_behind was next (eqb-true a.next.node reserved_node e)) (λ o. absurd (push_is_no_pop me a.op a.val t.fixed.call o)) (to_pocket_holds non_blocking b t.fixed.hand t.fixed.pocket) refl (to_pocket_marks non_blocking b t.fixed.hand) refl t.owns)
+      either (Goes non_blocking b m) (is_shut s.bits a.next)
+      (λ e. finds_shut non_blocking b _ (ap decided_reply t.fixed.earned) refl refl (is_shut_behind was next (eqb-true a.next.node (reserved_node s.bits) e)) (λ o. absurd (push_is_no_pop me a.op a.val t.fixed.call o)) (to_pocket_holds non_blocking b t.fixed.hand t.fixed.pocket) refl (to_pocket_marks non_blocking b t.fixed.hand) refl t.owns)
       (λ e. either (Goes non_blocking b m) (nat_eq a.tail.count s.limit)
       (λ c. refuses non_blocking b _ (WornOut OfTail) (ap decided_reply t.fixed.earned) refl refl refl (to_pocket_holds non_blocking b t.fixed.hand t.fixed.pocket) refl (to_pocket_marks non_blocking b t.fixed.hand) refl t.owns)
       (λ c. on non_blocking b _ (ap decided_reply t.fixed.earned) refl (λ n. refl) refl marked (t.knows.0, (t.knows.1, λ q. ap (λ (x : Ref). x.node) next)) t.owns))))
@@ -327,25 +328,25 @@ module _ (b : Before non_blocking) where
   does D3 r t = on non_blocking b _ (ap decided_reply t.fixed.earned) refl (λ n. refl) refl marked (t.knows, inl refl, λ q d. d) t.owns
   does D4 r t =
       on non_blocking b _ (ap decided_reply t.fixed.earned) refl (λ n. refl) refl marked
-      (t.knows.0, t.knows.1, λ q. (λ some. refl, λ d. (t.knows.2 q d, leads q (t.knows.2 q d), goes_on q (t.knows.2 q d))), λ q none. (empty_behind m front rest shape.queue_chain (ap (λ j. (next_of m j).node) (is_first q) ∙ none), refl)) t.owns
+      (t.knows.0, t.knows.1, λ q. (λ some. refl, λ d. (t.knows.2 q d, leads q (t.knows.2 q d), goes_on q (t.knows.2 q d))), λ q none. (empty_behind s.bits m front rest few_nodes shape.queue_chain (ap (λ j. (next_of m j).node) (is_first q) ∙ none), refl)) t.owns
     where
       leads : m.head ≡ a.head → m.tail.node ≢ a.head.node → 1 ≤ (next_of m a.head.node).node
       leads was away =
-          subst (λ j. 1 ≤ (next_of m j).node) (is_first was) (off_leads m front m.head.node rest shape.queue_chain (off m front rest words.lag (λ q. away (q ∙ is_first was))))
+          subst (λ j. 1 ≤ (next_of m j).node) (is_first was) (off_leads s.bits m front m.head.node rest shape.queue_chain (off m front rest words.lag (λ q. away (q ∙ is_first was))))
 
-      goes_on : m.head ≡ a.head → m.tail.node ≢ a.head.node → (next_of m a.head.node).node ≢ reserved_node
+      goes_on : m.head ≡ a.head → m.tail.node ≢ a.head.node → (next_of m a.head.node).node ≢ reserved_node s.bits
       goes_on was away =
-          subst (λ j. (next_of m j).node ≢ reserved_node) (is_first was) (off_open m front m.head.node rest few_nodes shape.queue_chain (off m front rest words.lag (λ q. away (q ∙ is_first was))))
+          subst (λ j. (next_of m j).node ≢ reserved_node s.bits) (is_first was) (off_open s.bits m front m.head.node rest few_nodes shape.queue_chain (off m front rest words.lag (λ q. away (q ∙ is_first was))))
   does D5 r t =
       either (Goes non_blocking b m) (same_ref m.head a.head)
       (λ i. let was : m.head ≡ a.head = same_ref-true m.head a.head i in
       either (Goes non_blocking b m) (nat_eq a.head.node a.tail.node)
       (λ c. either (Goes non_blocking b m) (is_null a.next) (λ n. still non_blocking b _ (λ n. refl) refl marked tt t.owns (found_empty refl refl refl refl refl t.fixed.call (ap decided_reply t.fixed.earned) (t.knows.3 was (eqb-true a.next.node 0 n))))
       (λ n. let next : next_of m a.head.node ≡ a.next = (t.knows.2 was).0 (let some : a.next.node ≢ 0 = eqb-false a.next.node 0 n in omega arith) in
-      either (Goes non_blocking b m) (is_shut a.next)
-      (λ e. let ends : (next_of m front).node ≡ reserved_node = first_leads was next (eqb-true a.next.node reserved_node e) in
-      finds_shut non_blocking b _ (ap decided_reply t.fixed.earned) refl refl (shut_alone m m.head.node front rest few_nodes shape.queue_chain ends)
-      (λ o. ap (λ ys. queue_values m (front ∷ ys)) (alone_at_end m.nodes m.head.node front rest few_nodes shape.queue_chain ends)) (λ n. refl) refl marked refl t.owns)
+      either (Goes non_blocking b m) (is_shut s.bits a.next)
+      (λ e. let ends : (next_of m front).node ≡ reserved_node s.bits = first_leads was next (eqb-true a.next.node (reserved_node s.bits) e) in
+      finds_shut non_blocking b _ (ap decided_reply t.fixed.earned) refl refl (shut_alone s.bits m m.head.node front rest few_nodes shape.queue_chain ends)
+      (λ o. ap (λ ys. queue_values m (front ∷ ys)) (alone_at_end s.bits m.nodes m.head.node front rest few_nodes shape.queue_chain ends)) (λ n. refl) refl marked refl t.owns)
       (λ e. either (Goes non_blocking b m) (nat_eq a.tail.count s.limit) (λ d. refuses non_blocking b _ (WornOut OfTail) (ap decided_reply t.fixed.earned) refl refl refl (λ n. refl) refl marked refl t.owns)
       (λ d. on non_blocking b _ (ap decided_reply t.fixed.earned) refl (λ n. refl) refl marked (t.knows.1, λ q. ap (λ j. (next_of m j).node) (sym (eqb-true a.head.node a.tail.node c)) ∙ ap (λ (x : Ref). x.node) next) t.owns))))
       (λ c. let other : a.tail.node ≢ a.head.node = λ q. eqb-false a.head.node a.tail.node c (sym q) in
@@ -368,8 +369,8 @@ module _ (b : Before non_blocking) where
       (λ i. let was : m.tail ≡ a.tail = same_ref-true m.tail a.tail i in
       either (Goes non_blocking b m) (is_null a.next) (λ n. on non_blocking b _ (ap decided_reply t.fixed.earned) refl (λ n. refl) refl marked (eqb-true a.next.node 0 n, null_next was (t.knows.1 was)) t.owns)
       (λ n. let next : next_of m a.tail.node ≡ a.next = next_stays_there m a (eqb-false a.next.node 0 n) (t.knows.1 was) in
-      either (Goes non_blocking b m) (is_shut a.next)
-      (λ e. finds_shut non_blocking b _ (ap decided_reply t.fixed.earned) refl refl (is_shut_behind was next (eqb-true a.next.node reserved_node e)) (λ o. absurd (shut_is_no_pop a.op t.fixed.call o)) (λ n. refl) refl marked refl t.owns)
+      either (Goes non_blocking b m) (is_shut s.bits a.next)
+      (λ e. finds_shut non_blocking b _ (ap decided_reply t.fixed.earned) refl refl (is_shut_behind was next (eqb-true a.next.node (reserved_node s.bits) e)) (λ o. absurd (shut_is_no_pop a.op t.fixed.call o)) (λ n. refl) refl marked refl t.owns)
       (λ e. either (Goes non_blocking b m) (nat_eq a.tail.count s.limit) (λ c. refuses non_blocking b _ (WornOut OfTail) (ap decided_reply t.fixed.earned) refl refl refl (λ n. refl) refl marked refl t.owns)
       (λ c. on non_blocking b _ (ap decided_reply t.fixed.earned) refl (λ n. refl) refl marked (t.knows.0, λ q. ap (λ (x : Ref). x.node) next) t.owns))))
       (λ i. on non_blocking b _ (ap decided_reply t.fixed.earned) refl (λ n. refl) refl marked tt t.owns)
@@ -385,7 +386,7 @@ module _ (b : Before non_blocking) where
 
 -- a dequeue that goes on to take a value has found a node
 found_a_node : (Z : ℕ → Type 0) (s : Setup) (me : ℕ) (m : Shared) (last : ℕ) (a : Actor) (l : Line) → IsRunBy (section_of l) NonBlocking → Knows non_blocking Z s m last a (Some l) → FoundANode s me a l (found (action s me a l) m)
-found_a_node Z s me m last a D5 r k = λ i c. let found : (m.tail.node ≢ a.head.node) × (1 ≤ a.next.node) × (a.next.node ≢ reserved_node) = (k.2 (same_ref-true m.head a.head i)).1 (λ q. eqb-false a.head.node a.tail.node c (sym q)) in (found.1, found.2)
+found_a_node Z s me m last a D5 r k = λ i c. let found : (m.tail.node ≢ a.head.node) × (1 ≤ a.next.node) × (a.next.node ≢ reserved_node s.bits) = (k.2 (same_ref-true m.head a.head i)).1 (λ q. eqb-false a.head.node a.tail.node c (sym q)) in (found.1, found.2)
 found_a_node Z s me m last a _ r k = tt
 
 -- what the steps of its own lines do

@@ -6,7 +6,7 @@ use Rattle.line_table.specs.declared.lines.Line.{Line}
 use Rattle.history.specs.declared.operations.Reply.{Reply}
 use Rattle.history.specs.declared.operations.Stamped.{Stamped}
 use Rattle.line_steps.specs.declared.actors.Setup.{Setup}
-use Rattle.line_steps.specs.declared.actors.Actor.{Actor}
+use Rattle.line_steps.specs.Actors.{Actor}
 use Rattle.line_steps.specs.Outcomes.{Outcome}
 use Rattle.line_steps.specs.Memory.{Shared, found, performed}
 use Rattle.line_steps.specs.Lines.{action, outcome}

@@ -26,7 +26,7 @@ module _ (s : Setup) (n k : ℕ) where
   with_head : (a : Actor) (c : Ref) → RegistersInRange s n k a → RefInRange s.limit n c → RegistersInRange s n k (record a { head = c })
   with_head a c h g = record { op = h.op; f = h.f; top = h.top; node = h.node; mark = h.mark; tail = h.tail; head = g; next = h.next; val = h.val }
 
-  with_next : (a : Actor) (c : Ref) → RegistersInRange s n k a → NextInRange s.limit n c → RegistersInRange s n k (record a { next = c })
+  with_next : (a : Actor) (c : Ref) → RegistersInRange s n k a → NextInRange s.bits s.limit n c → RegistersInRange s n k (record a { next = c })
   with_next a c h g = record { op = h.op; f = h.f; top = h.top; node = h.node; mark = h.mark; tail = h.tail; head = h.head; next = g; val = h.val }
 
   with_val : (a : Actor) (c : Taken) → RegistersInRange s n k a → ValueInRange k c → RegistersInRange s n k (record a { val = c })
@@ -97,7 +97,7 @@ module _ (s : Setup) (n k : ℕ) where
   outcome_in_range now me a E7 c h p w g =
       both (OutcomeInRange s n k) (same_ref c a.tail)
       (both (OutcomeInRange s n k) (is_null a.next) (record { registers = h; pocket = p; line = tt })
-      (both (OutcomeInRange s n k) (is_shut a.next) (record { registers = h; pocket = record { node = h.node; mark = h.mark }; line = tt })
+      (both (OutcomeInRange s n k) (is_shut s.bits a.next) (record { registers = h; pocket = record { node = h.node; mark = h.mark }; line = tt })
       (both (OutcomeInRange s n k) (nat_eq a.tail.count s.limit) (record { registers = h; pocket = record { node = h.node; mark = h.mark }; line = tt }) (record { registers = h; pocket = p; line = tt }))))
       (record { registers = h; pocket = p; line = tt })
   outcome_in_range now me a E9 c h p w g =
@@ -109,7 +109,7 @@ module _ (s : Setup) (n k : ℕ) where
       both (OutcomeInRange s n k) (same_ref c a.head)
       (both (OutcomeInRange s n k) (nat_eq a.head.node a.tail.node)
       (both (OutcomeInRange s n k) (is_null a.next) (record { registers = h; pocket = p; line = tt })
-      (both (OutcomeInRange s n k) (is_shut a.next) (record { registers = h; pocket = p; line = tt })
+      (both (OutcomeInRange s n k) (is_shut s.bits a.next) (record { registers = h; pocket = p; line = tt })
       (both (OutcomeInRange s n k) (nat_eq a.tail.count s.limit) (record { registers = h; pocket = p; line = tt }) (record { registers = h; pocket = p; line = tt }))))
       (record { registers = h; pocket = p; line = tt }))
       (record { registers = h; pocket = p; line = tt })
@@ -125,7 +125,7 @@ module _ (s : Setup) (n k : ℕ) where
   outcome_in_range now me a B3 c h p w g =
       let r : RegistersInRange s n k (record a { next = c }) = with_next a c h g in
       both (OutcomeInRange s n k) (is_null c) (record { registers = r; pocket = p; line = tt })
-      (both (OutcomeInRange s n k) (is_shut c) (record { registers = r; pocket = p; line = tt }) (record { registers = r; pocket = p; line = tt }))
+      (both (OutcomeInRange s n k) (is_shut s.bits c) (record { registers = r; pocket = p; line = tt }) (record { registers = r; pocket = p; line = tt }))
   outcome_in_range now me a B4 c h p w g =
       let r : RegistersInRange s n k (record a { val = c }) = with_val a c h g in
       both (OutcomeInRange s n k) (nat_eq a.head.count s.limit) (record { registers = r; pocket = p; line = tt }) (record { registers = r; pocket = p; line = tt })
@@ -138,7 +138,7 @@ module _ (s : Setup) (n k : ℕ) where
   outcome_in_range now me a S3 c h p w g =
       both (OutcomeInRange s n k) (same_ref c a.tail)
       (both (OutcomeInRange s n k) (is_null a.next) (record { registers = h; pocket = p; line = tt })
-      (both (OutcomeInRange s n k) (is_shut a.next) (record { registers = h; pocket = p; line = tt })
+      (both (OutcomeInRange s n k) (is_shut s.bits a.next) (record { registers = h; pocket = p; line = tt })
       (both (OutcomeInRange s n k) (nat_eq a.tail.count s.limit) (record { registers = h; pocket = p; line = tt }) (record { registers = h; pocket = p; line = tt }))))
       (record { registers = h; pocket = p; line = tt })
   outcome_in_range now me a S4 c h p w g = both (OutcomeInRange s n k) (same_ref c a.next) (record { registers = h; pocket = p; line = tt }) (record { registers = h; pocket = p; line = tt })

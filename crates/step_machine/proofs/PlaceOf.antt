@@ -90,44 +90,48 @@ stands n (x ∷ xs) more = pick (one_if_tells n x) (stands n xs)
     pick (inr f) ih = later (ih (let none : one_if (nat_eq n x) ≡ 0 = f.1 in omega arith))
 
 -- what is left of a chain, after some of its nodes, has a node as often as the whole chain
-abbrev pub Walked : List Node → (from at node most walked : ℕ) → Type 0
-Walked nodes from at node most walked =
-    (ns : List ℕ) → IsQueueChain nodes from ns → length ns ≤ most →
-    (rest : List ℕ) × IsQueueChain nodes at rest × (length rest + walked ≤ most) × (times node rest ≡ times node ns)
+abbrev pub Walked : (bits : ℕ) → List Node → (from at node most walked : ℕ) → Type 0
+Walked bits nodes from at node most walked =
+    (ns : List ℕ) → IsQueueChain bits nodes from ns → length ns ≤ most →
+    (rest : List ℕ) × IsQueueChain bits nodes at rest × (length rest + walked ≤ most) × (times node rest ≡ times node ns)
+
+-- what is told in a split is told in one of as many bits
+pub told_in : (bits other : ℕ) → other ≡ bits → (is_there : Bool) (nodes : List Node) (from node most : ℕ) → TellsOfChain bits is_there nodes from node most → TellsOfChain other is_there nodes from node most
+told_in bits other e is_there nodes from node most = subst (λ b. TellsOfChain b is_there nodes from node most) (sym e)
 
 -- at an end the node wasn't there
-pub walked_to_end : (nodes : List Node) (from at node most walked : ℕ) → length nodes < reserved_node → IsEnd at → Walked nodes from at node most walked → TellsOfChain false nodes from node most
-walked_to_end nodes from at node most walked few end h ns chain low = go (h ns chain low)
+pub walked_to_end : (bits : ℕ) (nodes : List Node) (from at node most walked : ℕ) → length nodes < reserved_node bits → IsEnd bits at → Walked bits nodes from at node most walked → TellsOfChain bits false nodes from node most
+walked_to_end bits nodes from at node most walked few end h ns chain low = go (h ns chain low)
   where
-    go : (rest : List ℕ) × IsQueueChain nodes at rest × (length rest + walked ≤ most) × (times node rest ≡ times node ns) → TellsWhetherThere false (times node ns)
-    go x = (λ e. absurd (let f : false ≡ true = e in cc), λ e. sym x.3 ∙ ap (times node) (chain_same IsEnd nodes x.0 [] at (ends_apart nodes few) x.1 end))
+    go : (rest : List ℕ) × IsQueueChain bits nodes at rest × (length rest + walked ≤ most) × (times node rest ≡ times node ns) → TellsWhetherThere false (times node ns)
+    go x = (λ e. absurd (let f : false ≡ true = e in cc), λ e. sym x.3 ∙ ap (times node) (chain_same (IsEnd bits) nodes x.0 [] at (ends_apart bits nodes few) x.1 end))
 
 -- at the node it was
-pub walked_to_node : (nodes : List Node) (from at node most walked : ℕ) → (IsEnd at → ⊥) → at ≡ node → Walked nodes from at node most walked → TellsOfChain true nodes from node most
-walked_to_node nodes from at node most walked some here h ns chain low = go (h ns chain low)
+pub walked_to_node : (bits : ℕ) (nodes : List Node) (from at node most walked : ℕ) → (IsEnd bits at → ⊥) → at ≡ node → Walked bits nodes from at node most walked → TellsOfChain bits true nodes from node most
+walked_to_node bits nodes from at node most walked some here h ns chain low = go (h ns chain low)
   where
-    go : (rest : List ℕ) × IsQueueChain nodes at rest × (length rest + walked ≤ most) × (times node rest ≡ times node ns) → TellsWhetherThere true (times node ns)
+    go : (rest : List ℕ) × IsQueueChain bits nodes at rest × (length rest + walked ≤ most) × (times node rest ≡ times node ns) → TellsWhetherThere true (times node ns)
     go x =
-        let first : (more : List ℕ) × (x.0 ≡ at ∷ more) = chain_some IsEnd nodes at x.0 some x.1 in
+        let first : (more : List ℕ) × (x.0 ≡ at ∷ more) = chain_some (IsEnd bits) nodes at x.0 some x.1 in
         let one : one_if (nat_eq node at) ≡ 1 = one_if_same node at (sym here) in
         let is : times node x.0 ≡ times node (at ∷ first.0) = ap (times node) first.1 in
         let same : times node x.0 ≡ times node ns = x.3 in
         (λ e. omega arith, λ e. absurd (let f : true ≡ false = e in cc))
 
 -- at another node the chain goes on
-pub walked_on : (nodes : List Node) (from at to node most walked : ℕ) → (IsEnd at → ⊥) → at ≢ node → to ≡ next_in nodes at → Walked nodes from at node most walked → Walked nodes from to node most (walked + 1)
-walked_on nodes from at to node most walked some other leads h ns chain low = go (h ns chain low)
+pub walked_on : (bits : ℕ) (nodes : List Node) (from at to node most walked : ℕ) → (IsEnd bits at → ⊥) → at ≢ node → to ≡ next_in nodes at → Walked bits nodes from at node most walked → Walked bits nodes from to node most (walked + 1)
+walked_on bits nodes from at to node most walked some other leads h ns chain low = go (h ns chain low)
   where
-    go : (rest : List ℕ) × IsQueueChain nodes at rest × (length rest + walked ≤ most) × (times node rest ≡ times node ns) → (rest : List ℕ) × IsQueueChain nodes to rest × (length rest + (walked + 1) ≤ most) × (times node rest ≡ times node ns)
+    go : (rest : List ℕ) × IsQueueChain bits nodes at rest × (length rest + walked ≤ most) × (times node rest ≡ times node ns) → (rest : List ℕ) × IsQueueChain bits nodes to rest × (length rest + (walked + 1) ≤ most) × (times node rest ≡ times node ns)
     go x =
-        let first : (more : List ℕ) × (x.0 ≡ at ∷ more) = chain_some IsEnd nodes at x.0 some x.1 in
-        let tail : IsQueueChain nodes at (at ∷ first.0) = subst (IsQueueChain nodes at) first.1 x.1 in
+        let first : (more : List ℕ) × (x.0 ≡ at ∷ more) = chain_some (IsEnd bits) nodes at x.0 some x.1 in
+        let tail : IsQueueChain bits nodes at (at ∷ first.0) = subst (IsQueueChain bits nodes at) first.1 x.1 in
         let none : one_if (nat_eq node at) ≡ 0 = one_if_other node at (λ e. other (sym e)) in
         let is : times node x.0 ≡ times node (at ∷ first.0) = ap (times node) first.1 in
         let long : length x.0 ≡ length (at ∷ first.0) = ap length first.1 in
         let same : times node x.0 ≡ times node ns = x.3 in
         let fits : length x.0 + walked ≤ most = x.2 in
-        (first.0, subst (λ k. IsQueueChain nodes k first.0) (sym leads) tail.3, omega arith, omega arith)
+        (first.0, subst (λ k. IsQueueChain bits nodes k first.0) (sym leads) tail.3, omega arith, omega arith)
 
 -- a place by its number, and the number of a place
 abbrev rank : Place → ℕ
@@ -196,7 +200,7 @@ module _ (w : World) (queue free : List ℕ) (h : Places w queue free) (n : ℕ)
   few = at_most w.shared.fresh queue within (λ k. go k)
     where
       none : times 0 queue ≡ 0
-      none = null_times IsEnd w.shared.nodes queue w.shared.head.node h.queue_chain
+      none = null_times (IsEnd w.setup.bits) w.shared.nodes queue w.shared.head.node h.queue_chain
 
       go : (k : ℕ) → times k queue ≤ 1
       go zero = omega (arith, none)
@@ -230,19 +234,19 @@ only_place w m n some p here q there =
     one_place w x.0 x.1 x.2 n some r p q here there
 
 -- what is told of the chain from Head is told of the queue
-told_of : (w : World) (queue free : List ℕ) → IsReached w → Places w queue free → (n : ℕ) → 1 ≤ n → (is_there : Bool) (from most : ℕ) → from ≡ w.shared.head.node → most ≡ w.shared.fresh → TellsOfChain is_there w.shared.nodes from n most → TellsWhetherThere is_there (times n queue)
+told_of : (w : World) (queue free : List ℕ) → IsReached w → Places w queue free → (n : ℕ) → 1 ≤ n → (is_there : Bool) (from most : ℕ) → from ≡ w.shared.head.node → most ≡ w.shared.fresh → TellsOfChain w.setup.bits is_there w.shared.nodes from n most → TellsWhetherThere is_there (times n queue)
 told_of w queue free r h n some is_there from most head fresh tells =
-    tells queue (subst (λ k. IsQueueChain w.shared.nodes k queue) (sym head) h.queue_chain)
+    tells queue (subst (λ k. IsQueueChain w.setup.bits w.shared.nodes k queue) (sym head) h.queue_chain)
     (subst (λ k. length queue ≤ k) (sym fresh) (few w queue free h n some))
 
 -- a node that was found there is in the queue
-pub queue_place : (w : World) → IsMade w → (n : ℕ) → 1 ≤ n → (is_there : Bool) (from most : ℕ) → from ≡ w.shared.head.node → most ≡ w.shared.fresh → TellsOfChain is_there w.shared.nodes from n most → is_there ≡ true → IsAt w n Queue
+pub queue_place : (w : World) → IsMade w → (n : ℕ) → 1 ≤ n → (is_there : Bool) (from most : ℕ) → from ≡ w.shared.head.node → most ≡ w.shared.fresh → TellsOfChain w.setup.bits is_there w.shared.nodes from n most → is_there ≡ true → IsAt w n Queue
 queue_place w m n some is_there from most head fresh tells found =
     let x : HasItsPlaces w = have_their_places w (made_reached w m) in
     is_queued w x.0 x.1 x.2 n some ((told_of w x.0 x.1 (made_reached w m) x.2 n some is_there from most head fresh tells).0 found)
 
 -- one that was used and found nowhere is free
-pub free_place : (w : World) → IsMade w → (n : ℕ) → 1 ≤ n → n ≤ w.shared.fresh → (is_there : Bool) (from most : ℕ) → from ≡ w.shared.head.node → most ≡ w.shared.fresh → TellsOfChain is_there w.shared.nodes from n most → is_there ≡ false → held n w.actors ≡ 0 → set_aside n w.aside ≡ 0 → IsAt w n Free
+pub free_place : (w : World) → IsMade w → (n : ℕ) → 1 ≤ n → n ≤ w.shared.fresh → (is_there : Bool) (from most : ℕ) → from ≡ w.shared.head.node → most ≡ w.shared.fresh → TellsOfChain w.setup.bits is_there w.shared.nodes from n most → is_there ≡ false → held n w.actors ≡ 0 → set_aside n w.aside ≡ 0 → IsAt w n Free
 free_place w m n some low is_there from most head fresh tells missed =
     let x : HasItsPlaces w = have_their_places w (made_reached w m) in
     is_free w x.0 x.1 x.2 n some low ((told_of w x.0 x.1 (made_reached w m) x.2 n some is_there from most head fresh tells).1 missed)

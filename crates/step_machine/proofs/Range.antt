@@ -12,19 +12,19 @@ use Rattle.step_machine.proofs.Choices.{either}
 ref_weakens : (limit n m : ℕ) (r : Ref) → n ≤ m → RefInRange limit n r → RefInRange limit m r
 ref_weakens limit n m r h g = let b : r.node ≤ n = g.node in record { node = omega arith; count = g.count }
 
-next_weakens : (limit n m : ℕ) (r : Ref) → n ≤ m → NextInRange limit n r → NextInRange limit m r
-next_weakens limit n m r h g = record { node = go g.node; count = g.count }
+next_weakens : (bits limit n m : ℕ) (r : Ref) → n ≤ m → NextInRange bits limit n r → NextInRange bits limit m r
+next_weakens bits limit n m r h g = record { node = go g.node; count = g.count }
   where
-    go : (r.node ≤ n) ⊎ (r.node ≡ reserved_node) → (r.node ≤ m) ⊎ (r.node ≡ reserved_node)
+    go : (r.node ≤ n) ⊎ (r.node ≡ reserved_node bits) → (r.node ≤ m) ⊎ (r.node ≡ reserved_node bits)
     go (inl b) = inl (omega arith)
     go (inr e) = inr e
 
 -- a reference in range is one that may follow a node
-pub as_next : (limit n : ℕ) (r : Ref) → RefInRange limit n r → NextInRange limit n r
-as_next limit n r h = record { node = inl h.node; count = h.count }
+pub as_next : (bits limit n : ℕ) (r : Ref) → RefInRange limit n r → NextInRange bits limit n r
+as_next bits limit n r h = record { node = inl h.node; count = h.count }
 
-node_weakens : (limit n m k : ℕ) (x : Node) → n ≤ m → NodeInRange limit n k x → NodeInRange limit m k x
-node_weakens limit n m k x h g = record { next = next_weakens limit n m x.next h g.next; value = g.value }
+node_weakens : (bits limit n m k : ℕ) (x : Node) → n ≤ m → NodeInRange bits limit n k x → NodeInRange bits limit m k x
+node_weakens bits limit n m k x h g = record { next = next_weakens bits limit n m x.next h g.next; value = g.value }
 
 pub pocket_weakens : (limit n m : ℕ) (p : Option Held) → n ≤ m → IfSome p (HeldInRange limit n) → IfSome p (HeldInRange limit m)
 pocket_weakens limit n m None h g = tt
@@ -43,7 +43,7 @@ registers_weaken s n m k a h g =
       mark = g.mark;
       tail = ref_weakens s.limit n m a.tail h g.tail;
       head = ref_weakens s.limit n m a.head h g.head;
-      next = next_weakens s.limit n m a.next h g.next;
+      next = next_weakens s.bits s.limit n m a.next h g.next;
       val = g.val;
     }
 
@@ -63,7 +63,7 @@ ContentInRange s n k Head r = RefInRange s.limit n r
 ContentInRange s n k Tail r = RefInRange s.limit n r
 ContentInRange s n k Tail_lock c = c ≤ k
 ContentInRange s n k Head_lock c = c ≤ k
-ContentInRange s n k (Next i) r = NextInRange s.limit n r
+ContentInRange s n k (Next i) r = NextInRange s.bits s.limit n r
 ContentInRange s n k (Value_of i) v = ValueInRange k v
 
 pub content_weakens : (s : Setup) (n m k : ℕ) (x : Word) (c : Content x) → n ≤ m → ContentInRange s n k x c → ContentInRange s m k x c
@@ -73,7 +73,7 @@ content_weakens s n m k Head r h g = ref_weakens s.limit n m r h g
 content_weakens s n m k Tail r h g = ref_weakens s.limit n m r h g
 content_weakens s n m k Tail_lock c h g = g
 content_weakens s n m k Head_lock c h g = g
-content_weakens s n m k (Next i) r h g = next_weakens s.limit n m r h g
+content_weakens s n m k (Next i) r h g = next_weakens s.bits s.limit n m r h g
 content_weakens s n m k (Value_of i) v h g = g
 
 -- what may be written into a word: Fresh only rises
@@ -88,8 +88,8 @@ WritesInRange s k m (store x c) = MayWrite s m.fresh k x c
 WritesInRange s k m (clear n) = Unit {0}
 WritesInRange s k m (exchange x old new) = same x (content x m) old ≡ true → MayWrite s m.fresh k x new
 
-pub raised_in_range : (s : Setup) (n : ℕ) (r : Ref) (to : ℕ) → RefInRange s.limit n r → (to ≤ n) ⊎ (to ≡ reserved_node) → RefInRange s.limit n (raised s r to)
-raised_in_range s n r to h t = closed (nat_eq to reserved_node) refl t
+pub raised_in_range : (s : Setup) (n : ℕ) (r : Ref) (to : ℕ) → RefInRange s.limit n r → (to ≤ n) ⊎ (to ≡ reserved_node s.bits) → RefInRange s.limit n (raised s r to)
+raised_in_range s n r to h t = closed (nat_eq to (reserved_node s.bits)) refl t
   where
     go : (b : Bool) → nat_eq r.count s.limit ≡ b → to ≤ n → RefInRange s.limit n (if b then r else ref to (r.count + 1))
     go true e low = h
@@ -98,30 +98,30 @@ raised_in_range s n r to h t = closed (nat_eq to reserved_node) refl t
         let le : r.count ≤ s.limit = h.count in
         record { node = low; count = omega arith }
 
-    closed : (b : Bool) → nat_eq to reserved_node ≡ b → (to ≤ n) ⊎ (to ≡ reserved_node) → RefInRange s.limit n (if b then r else if nat_eq r.count s.limit then r else ref to (r.count + 1))
+    closed : (b : Bool) → nat_eq to (reserved_node s.bits) ≡ b → (to ≤ n) ⊎ (to ≡ reserved_node s.bits) → RefInRange s.limit n (if b then r else if nat_eq r.count s.limit then r else ref to (r.count + 1))
     closed true e t = h
     closed false e (inl low) = go (nat_eq r.count s.limit) refl low
-    closed false e (inr is) = absurd (eqb-false to reserved_node e is)
+    closed false e (inr is) = absurd (eqb-false to (reserved_node s.bits) e is)
 
 -- the same of a `next`
-pub raised_next_in_range : (s : Setup) (n : ℕ) (r : Ref) (to : ℕ) → NextInRange s.limit n r → to ≤ n → NextInRange s.limit n (raised s r to)
-raised_next_in_range s n r to h low = closed (nat_eq to reserved_node)
+pub raised_next_in_range : (s : Setup) (n : ℕ) (r : Ref) (to : ℕ) → NextInRange s.bits s.limit n r → to ≤ n → NextInRange s.bits s.limit n (raised s r to)
+raised_next_in_range s n r to h low = closed (nat_eq to (reserved_node s.bits))
   where
-    go : (b : Bool) → nat_eq r.count s.limit ≡ b → NextInRange s.limit n (if b then r else ref to (r.count + 1))
+    go : (b : Bool) → nat_eq r.count s.limit ≡ b → NextInRange s.bits s.limit n (if b then r else ref to (r.count + 1))
     go true e = h
     go false e =
         let ne : ¬ (r.count ≡ s.limit) = eqb-false r.count s.limit e in
         let le : r.count ≤ s.limit = h.count in
         record { node = inl low; count = omega arith }
 
-    closed : (b : Bool) → NextInRange s.limit n (if b then r else if nat_eq r.count s.limit then r else ref to (r.count + 1))
+    closed : (b : Bool) → NextInRange s.bits s.limit n (if b then r else if nat_eq r.count s.limit then r else ref to (r.count + 1))
     closed true = h
     closed false = go (nat_eq r.count s.limit) refl
 
-pub raised_end_in_range : (s : Setup) (n : ℕ) (r : Ref) → NextInRange s.limit n r → NextInRange s.limit n (raised_end s r)
+pub raised_end_in_range : (s : Setup) (n : ℕ) (r : Ref) → NextInRange s.bits s.limit n r → NextInRange s.bits s.limit n (raised_end s r)
 raised_end_in_range s n r h = go (nat_eq r.count s.limit) refl
   where
-    go : (b : Bool) → nat_eq r.count s.limit ≡ b → NextInRange s.limit n (if b then r else shut_ref (r.count + 1))
+    go : (b : Bool) → nat_eq r.count s.limit ≡ b → NextInRange s.bits s.limit n (if b then r else shut_ref s.bits (r.count + 1))
     go true e = h
     go false e =
         let ne : ¬ (r.count ≡ s.limit) = eqb-false r.count s.limit e in
@@ -158,14 +158,14 @@ writes s k me m a S9 i h n = omega arith
 writes s k me m a _ i h n = tt
 
 -- the node of a number, also where there is none
-node_in_range : (limit n k : ℕ) (ns : List Node) (i : ℕ) → All (NodeInRange limit n k) ns → NodeInRange limit n k (get_or ns i blank)
-node_in_range limit n k [] i h =
+node_in_range : (bits limit n k : ℕ) (ns : List Node) (i : ℕ) → All (NodeInRange bits limit n k) ns → NodeInRange bits limit n k (get_or ns i blank)
+node_in_range bits limit n k [] i h =
     record {
       next = record { node = inl (omega arith); count = omega arith };
       value = record { from = omega arith; body = omega arith };
     }
-node_in_range limit n k (x ∷ xs) zero h = h 0 blank (omega arith)
-node_in_range limit n k (x ∷ xs) (suc i) h = node_in_range limit n k xs i (λ j d g. h (suc j) d (omega arith))
+node_in_range bits limit n k (x ∷ xs) zero h = h 0 blank (omega arith)
+node_in_range bits limit n k (x ∷ xs) (suc i) h = node_in_range bits limit n k xs i (λ j d g. h (suc j) d (omega arith))
 
 pub found_in_range : (s : Setup) (k : ℕ) (m : Shared) (x : Word) → SharedInRange s k m → ContentInRange s m.fresh k x (content x m)
 found_in_range s k m Fresh h = omega arith
@@ -174,8 +174,8 @@ found_in_range s k m Head h = h.head
 found_in_range s k m Tail h = h.tail
 found_in_range s k m Tail_lock h = h.tail_lock
 found_in_range s k m Head_lock h = h.head_lock
-found_in_range s k m (Next i) h = (node_in_range s.limit m.fresh k m.nodes (i - 1) h.nodes).next
-found_in_range s k m (Value_of i) h = (node_in_range s.limit m.fresh k m.nodes (i - 1) h.nodes).value
+found_in_range s k m (Next i) h = (node_in_range s.bits s.limit m.fresh k m.nodes (i - 1) h.nodes).next
+found_in_range s k m (Value_of i) h = (node_in_range s.bits s.limit m.fresh k m.nodes (i - 1) h.nodes).value
 
 -- the shared words with other words before the nodes
 shared_with : (s : Setup) (k : ℕ) (m : Shared) (free head tail : Ref) (t h : ℕ) → SharedInRange s k m → RefInRange s.limit m.fresh free → RefInRange s.limit m.fresh head → RefInRange s.limit m.fresh tail → t ≤ k → h ≤ k → SharedInRange s k (record m { free = free; head = head; tail = tail; tail_lock = t; head_lock = h })
@@ -193,7 +193,7 @@ shared_with s k m free head tail t h g f hd tl lt lh =
     }
 
 -- the shared words with another node
-shared_node : (s : Setup) (k : ℕ) (m : Shared) (i : ℕ) (x : Node) → SharedInRange s k m → NodeInRange s.limit m.fresh k x → SharedInRange s k (record m { nodes = set m.nodes i x })
+shared_node : (s : Setup) (k : ℕ) (m : Shared) (i : ℕ) (x : Node) → SharedInRange s k m → NodeInRange s.bits s.limit m.fresh k x → SharedInRange s k (record m { nodes = set m.nodes i x })
 shared_node s k m i x g h =
     record {
       some_fresh = g.some_fresh;
@@ -203,7 +203,7 @@ shared_node s k m i x g h =
       tail = g.tail;
       tail_lock = g.tail_lock;
       head_lock = g.head_lock;
-      nodes = All-set (NodeInRange s.limit m.fresh k) m.nodes i x h g.nodes;
+      nodes = All-set (NodeInRange s.bits s.limit m.fresh k) m.nodes i x h g.nodes;
       all_nodes = length-set m.nodes i x ∙ g.all_nodes;
     }
 
@@ -219,7 +219,7 @@ shared_fresh s k m c g h i =
       tail = ref_weakens s.limit m.fresh c m.tail h g.tail;
       tail_lock = g.tail_lock;
       head_lock = g.head_lock;
-      nodes = λ j d b. node_weakens s.limit m.fresh c k _ h (g.nodes j d b);
+      nodes = λ j d b. node_weakens s.bits s.limit m.fresh c k _ h (g.nodes j d b);
       all_nodes = g.all_nodes;
     }
 
@@ -231,10 +231,10 @@ put_in_range s k m Tail c h g = shared_with s k m m.free m.head c m.tail_lock m.
 put_in_range s k m Tail_lock c h g = shared_with s k m m.free m.head m.tail c m.head_lock h h.free h.head h.tail g h.head_lock
 put_in_range s k m Head_lock c h g = shared_with s k m m.free m.head m.tail m.tail_lock c h h.free h.head h.tail h.tail_lock g
 put_in_range s k m (Next i) c h g =
-    let old : NodeInRange s.limit m.fresh k (get_or m.nodes (i - 1) blank) = node_in_range s.limit m.fresh k m.nodes (i - 1) h.nodes in
+    let old : NodeInRange s.bits s.limit m.fresh k (get_or m.nodes (i - 1) blank) = node_in_range s.bits s.limit m.fresh k m.nodes (i - 1) h.nodes in
     shared_node s k m (i - 1) _ h (record { next = g; value = old.value })
 put_in_range s k m (Value_of i) c h g =
-    let old : NodeInRange s.limit m.fresh k (get_or m.nodes (i - 1) blank) = node_in_range s.limit m.fresh k m.nodes (i - 1) h.nodes in
+    let old : NodeInRange s.bits s.limit m.fresh k (get_or m.nodes (i - 1) blank) = node_in_range s.bits s.limit m.fresh k m.nodes (i - 1) h.nodes in
     shared_node s k m (i - 1) _ h (record { next = old.next; value = g })
 
 put_rises : (s : Setup) (k : ℕ) (m : Shared) (x : Word) (c : Content x) → MayWrite s m.fresh k x c → m.fresh ≤ (put x c m).fresh
@@ -253,7 +253,7 @@ pub performed_in_range : (s : Setup) (k : ℕ) (m : Shared) (a : Action) → Sha
 performed_in_range s k m (load x) h g = record { range = h; rises = omega arith }
 performed_in_range s k m (store x c) h g = put_access s k m x c h g
 performed_in_range s k m (clear i) h g =
-    let old : NodeInRange s.limit m.fresh k (get_or m.nodes (i - 1) blank) = node_in_range s.limit m.fresh k m.nodes (i - 1) h.nodes in
+    let old : NodeInRange s.bits s.limit m.fresh k (get_or m.nodes (i - 1) blank) = node_in_range s.bits s.limit m.fresh k m.nodes (i - 1) h.nodes in
     put_access s k m (Next i) _ h (record { node = inl (omega arith); count = old.next.count })
 performed_in_range s k m (exchange x old new) h g =
     either (Accessed s k m) (same x (content x m) old) (λ e. put_access s k m x new h (g e)) (λ e. record { range = h; rises = omega arith })

@@ -36,7 +36,7 @@ in_range k w h =
     }
 
 -- no node that was ever used has the number of a closed end
-pub below_closed : (w : World) (n : ℕ) → WorldInRange w → n ≤ w.shared.fresh → n ≢ reserved_node
+pub below_closed : (w : World) (n : ℕ) → WorldInRange w → n ≤ w.shared.fresh → n ≢ reserved_node w.setup.bits
 below_closed w n h low e = omega (arith, h.shared.fresh, h.sized.numbered, low, e)
 
 -- what holds wherever there is something holds in an option
@@ -212,7 +212,7 @@ idle_in_range : (s : Setup) (n k : ℕ) → ActorInRange s n k idle
 idle_in_range s n k =
     let z : RefInRange s.limit n null = record { node = omega arith; count = omega arith } in
     record {
-      registers = record { op = tt; f = omega arith; top = z; node = omega arith; mark = omega arith; tail = z; head = z; next = as_next s.limit n null z; val = record { from = omega arith; body = omega arith } };
+      registers = record { op = tt; f = omega arith; top = z; node = omega arith; mark = omega arith; tail = z; head = z; next = as_next s.bits s.limit n null z; val = record { from = omega arith; body = omega arith } };
       pocket = tt;
       line = tt;
     }
@@ -233,7 +233,7 @@ opening_holds s actors h =
             tail = record { node = omega arith; count = omega arith };
             tail_lock = omega arith;
             head_lock = omega arith;
-            nodes = All-replicate (NodeInRange s.limit 1 actors) s.size blank (record { next = as_next s.limit 1 null z; value = record { from = omega arith; body = omega arith } });
+            nodes = All-replicate (NodeInRange s.bits s.limit 1 actors) s.size blank (record { next = as_next s.bits s.limit 1 null z; value = record { from = omega arith; body = omega arith } });
             all_nodes = length-replicate s.size blank;
           };
       actors = All-replicate (ActorInRange s 1 actors) actors idle (idle_in_range s 1 actors);
@@ -248,11 +248,11 @@ pub reached_in_range : (w : World) → IsReached w → WorldInRange w
 reached_in_range w r = in_range r.actors w (reached_holds w r)
 
 -- the closed end is above all nodes
-pub few_nodes : (w : World) → IsReached w → length w.shared.nodes < reserved_node
+pub few_nodes : (w : World) → IsReached w → length w.shared.nodes < reserved_node w.setup.bits
 few_nodes w r = let g : WorldInRange w = reached_in_range w r in omega (arith, g.shared.all_nodes, g.sized.numbered)
 
 -- so Head names none
-pub head_not_closed : (w : World) → IsReached w → w.shared.head.node ≢ reserved_node
+pub head_not_closed : (w : World) → IsReached w → w.shared.head.node ≢ reserved_node w.setup.bits
 head_not_closed w r = let g : WorldInRange w = reached_in_range w r in below_closed w w.shared.head.node g g.shared.head.node
 
 -- a world that the calls of a world lead to is one that any moves lead to

@@ -12,7 +12,7 @@ use Rattle.history.specs.declared.operations.Op.TheVariants.{Enq, Deq, Shut}
 use Rattle.history.specs.declared.operations.Reply.TheVariants.{Empty}
 use Rattle.history.specs.declared.operations.Stamped.{Stamped}
 use Rattle.line_steps.specs.declared.actors.Setup.{Setup}
-use Rattle.line_steps.specs.declared.actors.Actor.{Actor}
+use Rattle.line_steps.specs.Actors.{Actor}
 use Rattle.line_steps.specs.declared.actors.Held.{Held}
 use Rattle.line_steps.specs.Outcomes.{Outcome}
 use Rattle.line_steps.specs.Memory.{Shared, found, performed}

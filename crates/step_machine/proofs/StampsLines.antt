@@ -122,7 +122,7 @@ turned Q s now me a E3 c at n p h =
     both (Turns Q at) (nat_eq c.count s.limit) record { place = n; goes_on = refl } record { place = p; goes_on = h }
 turned Q s now me a E7 c at n p h =
     both (Turns Q at) (same_ref c a.tail)
-    (both (Turns Q at) (is_null a.next) record { place = p; goes_on = h } (both (Turns Q at) (is_shut a.next) record { place = n; goes_on = refl } (both (Turns Q at) (nat_eq a.tail.count s.limit) record { place = n; goes_on = refl } record { place = p; goes_on = h })))
+    (both (Turns Q at) (is_null a.next) record { place = p; goes_on = h } (both (Turns Q at) (is_shut s.bits a.next) record { place = n; goes_on = refl } (both (Turns Q at) (nat_eq a.tail.count s.limit) record { place = n; goes_on = refl } record { place = p; goes_on = h })))
     record { place = p; goes_on = h }
 turned Q s now me a E9 c at n p h =
     both (Turns Q at) (same_ref c a.next)
@@ -132,7 +132,7 @@ turned Q s now me a D4 c at n p h = record { place = p; goes_on = (h, n) }
 turned Q s now me a D5 c at n p h =
     both (Turns Q at) (same_ref c a.head)
     (both (Turns Q at) (nat_eq a.head.node a.tail.node)
-    (both (Turns Q at) (is_null a.next) record { place = h.1; goes_on = refl } (both (Turns Q at) (is_shut a.next) record { place = n; goes_on = refl } (both (Turns Q at) (nat_eq a.tail.count s.limit) record { place = n; goes_on = refl } record { place = p; goes_on = h.0 })))
+    (both (Turns Q at) (is_null a.next) record { place = h.1; goes_on = refl } (both (Turns Q at) (is_shut s.bits a.next) record { place = n; goes_on = refl } (both (Turns Q at) (nat_eq a.tail.count s.limit) record { place = n; goes_on = refl } record { place = p; goes_on = h.0 })))
     record { place = p; goes_on = h.0 })
     record { place = p; goes_on = h.0 }
 turned Q s now me a D12 c at n p h =
@@ -144,14 +144,14 @@ turned Q s now me a A5 c at n p h = both (Turns Q at) (same_ref c null) record {
 turned Q s now me a A7 c at n p h = left_with_node_turned Q now a.due a at n p h
 turned Q s now me a S3 c at n p h =
     both (Turns Q at) (same_ref c a.tail)
-    (both (Turns Q at) (is_null a.next) record { place = p; goes_on = h } (both (Turns Q at) (is_shut a.next) record { place = n; goes_on = refl } (both (Turns Q at) (nat_eq a.tail.count s.limit) record { place = n; goes_on = refl } record { place = p; goes_on = h })))
+    (both (Turns Q at) (is_null a.next) record { place = p; goes_on = h } (both (Turns Q at) (is_shut s.bits a.next) record { place = n; goes_on = refl } (both (Turns Q at) (nat_eq a.tail.count s.limit) record { place = n; goes_on = refl } record { place = p; goes_on = h })))
     record { place = p; goes_on = h }
 turned Q s now me a S4 c at n p h = both (Turns Q at) (same_ref c a.next) record { place = n; goes_on = refl } record { place = p; goes_on = h }
 turned Q s now me a S6 c at n p h = both (Turns Q at) (nat_eq c 0) record { place = p; goes_on = h } record { place = p; goes_on = h }
 turned Q s now me a S8 c at n p h = both (Turns Q at) (same_ref c null) record { place = n; goes_on = refl } record { place = p; goes_on = h }
 turned Q s now me a S9 c at n p h = left_turned Q now a.due a at n p h
 turned Q s now me a B1 c at n p h = both (Turns Q at) (nat_eq c 0) record { place = p; goes_on = h } record { place = p; goes_on = h }
-turned Q s now me a B3 c at n p h = both (Turns Q at) (is_null c) record { place = p; goes_on = (h, n) } (both (Turns Q at) (is_shut c) record { place = p; goes_on = h } record { place = p; goes_on = h })
+turned Q s now me a B3 c at n p h = both (Turns Q at) (is_null c) record { place = p; goes_on = (h, n) } (both (Turns Q at) (is_shut s.bits c) record { place = p; goes_on = h } record { place = p; goes_on = h })
 turned Q s now me a B4 c at n p h =
     both (Turns Q at) (nat_eq a.head.count s.limit) record { place = p; goes_on = h } record { place = p; goes_on = h }
 turned Q s now me a B5 c at n p h = record { place = n; goes_on = refl }

@@ -8,7 +8,7 @@ use Rattle.step_machine.specs.Completion.{decided_reply, completed_reply}
 use Rattle.step_machine.specs.Places.{IsEnd, one_if, times}
 use Rattle.step_machine.specs.Chains.{last_node, queue_values, is_shut_chain}
 use Rattle.step_machine.proofs.Choices.{either, tried}
-use Rattle.step_machine.proofs.Chains.{last_within, last_times, last_linked, null_times, free_goes_on}
+use Rattle.step_machine.proofs.Chains.{last_within, last_times, last_linked, null_times, free_goes_on, null_open, closed_shut}
 use Rattle.step_machine.proofs.Counting.{holds, asides, holds_hand, holds_none, holds_own}
 use Rattle.step_machine.proofs.Effects.{Shape, Turn, Took, others_stay, written, next_keeps_value, not_linked, last_there, turn_words, turn_aside, turn_claim, turn_take, turn_giveback, turn_node, turn_link, turn_shut, turn_pop, with_node as with_new}
 use Rattle.step_machine.proofs.Fixed.{FixedAt, Pushes, DecidedFreeing}
@@ -18,7 +18,7 @@ use Rattle.step_machine.proofs.StampsLists.{same_or_not}
 use Rattle.step_machine.proofs.Assertions.{next_of, OwnsAt, IsMark, Marked, QueueStays, Queue, Knows, Found, Before, After, AtLine, Steps, marks_kept}
 
 -- what an exchange writes rises, where its count is not at the limit
-raised_rises : (s : Setup) (old r : Ref) (to : ℕ) → to ≢ reserved_node → old ≡ r → r.count ≢ s.limit → Rises old (raised s r to)
+raised_rises : (s : Setup) (old r : Ref) (to : ℕ) → to ≢ reserved_node s.bits → old ≡ r → r.count ≢ s.limit → Rises old (raised s r to)
 raised_rises s old r to n e d = inr (let up : (raised s r to).count ≡ r.count + 1 = raised_count s r to n d in let c : old.count ≡ r.count = ap (λ (x : Ref). x.count) e in omega arith)
 
 -- an actor whose hand and pocket are empty has no marks
@@ -38,14 +38,14 @@ module _ (q : Queue) (b : Before q) where
 
   -- what the actor of an outcome knows then, where the queue has the last node that it had
   abbrev pub Learns : Shared → Outcome → Type 0
-  Learns m' o = Knows q (Found m (front ∷ rest) now) s m' (last_node (front ∷ rest)) o.actor o.actor.line
+  Learns m' o = Knows q (Found s.bits m (front ∷ rest) now) s m' (last_node (front ∷ rest)) o.actor o.actor.line
 
   -- what the step means, where the queue's chain stays
   abbrev pub Means : Shared → Outcome → Type 0
-  Means m' o = LinearizationStep Z me now m m' (front ∷ rest) (front ∷ rest) a o
+  Means m' o = LinearizationStep s.bits Z me now m m' (front ∷ rest) (front ∷ rest) a o
 
   -- no word of the queue changes
-  leaves_queue : (m' : Shared) (o : Outcome) (free' : List ℕ) → QueueStays m m' (front ∷ rest) → Turn m m' (front ∷ rest) free (front ∷ rest) free' a o.actor o.aside → IfSome o.aside (λ k. (1 ≤ k) × (1 ≤ holds k a)) → Rises m.free m'.free → Marked m' o.actor → Learns m' o → OwnsAt m' me o.actor.line → Means m' o → Goes m' o
+  leaves_queue : (m' : Shared) (o : Outcome) (free' : List ℕ) → QueueStays m m' (front ∷ rest) → Turn s.bits m m' (front ∷ rest) free (front ∷ rest) free' a o.actor o.aside → IfSome o.aside (λ k. (1 ≤ k) × (1 ≤ holds k a)) → Rises m.free m'.free → Marked m' o.actor → Learns m' o → OwnsAt m' me o.actor.line → Means m' o → Goes m' o
   leaves_queue m' o free' stays turn own up marks knows owns account =
       record {
         front' = front;
@@ -66,8 +66,8 @@ module _ (q : Queue) (b : Before q) where
   none_aside : (o : Outcome) → o.aside ≡ None → IfSome o.aside (λ k. (1 ≤ k) × (1 ≤ holds k a))
   none_aside o none = subst (λ x. IfSome x (λ k. (1 ≤ k) × (1 ≤ holds k a))) (sym none) tt
 
-  turn_none : (m' : Shared) (o : Outcome) (front' : ℕ) (rest' free' : List ℕ) → o.aside ≡ None → Turn m m' (front ∷ rest) free (front' ∷ rest') free' a o.actor None → Turn m m' (front ∷ rest) free (front' ∷ rest') free' a o.actor o.aside
-  turn_none m' o front' rest' free' none = subst (λ x. Turn m m' (front ∷ rest) free (front' ∷ rest') free' a o.actor x) (sym none)
+  turn_none : (m' : Shared) (o : Outcome) (front' : ℕ) (rest' free' : List ℕ) → o.aside ≡ None → Turn s.bits m m' (front ∷ rest) free (front' ∷ rest') free' a o.actor None → Turn s.bits m m' (front ∷ rest) free (front' ∷ rest') free' a o.actor o.aside
+  turn_none m' o front' rest' free' none = subst (λ x. Turn s.bits m m' (front ∷ rest) free (front' ∷ rest') free' a o.actor x) (sym none)
 
   -- Free and Fresh are no words of the queue
   queue_stays : (top : Ref) (fresh : ℕ) → QueueStays m (record m { free = top; fresh = fresh }) (front ∷ rest)
@@ -76,7 +76,7 @@ module _ (q : Queue) (b : Before q) where
   -- an outcome in which the actor holds what it held, and no word is written
   pub still : (o : Outcome) → ((n : ℕ) → holds n o.actor ≡ holds n a) → o.aside ≡ None → Marked m o.actor → Learns m o → OwnsAt m me o.actor.line → Means m o → Goes m o
   still o same none =
-      leaves_queue m o free (queue_stays m.free m.fresh) (turn_none m o front rest free none (turn_words m m E (front ∷ rest) free a o.actor shape refl refl refl refl same)) (none_aside o none) (inl refl)
+      leaves_queue m o free (queue_stays m.free m.fresh) (turn_none m o front rest free none (turn_words s.bits m m E (front ∷ rest) free a o.actor shape refl refl refl refl same)) (none_aside o none) (inl refl)
 
   -- the call goes on, and has earned nothing
   pub on : (o : Outcome) → decided_reply a.due ≡ None → o.at ≡ None → ((n : ℕ) → holds n o.actor ≡ holds n a) → o.aside ≡ None → Marked m o.actor → Learns m o → OwnsAt m me o.actor.line → Goes m o
@@ -85,12 +85,12 @@ module _ (q : Queue) (b : Before q) where
   -- the call ends with a refusal
   pub refuses : (o : Outcome) (why : Refusal) → decided_reply a.due ≡ None → o.at ≡ Some now → o.reply ≡ Some (Refused why) → leaves why ≡ true → ((n : ℕ) → holds n o.actor ≡ holds n a) → o.aside ≡ None → Marked m o.actor → o.actor.line ≡ None → OwnsAt m me None → Goes m o
   refuses o why u at reply ok same none marks over owns =
-      still o same none marks (subst (Knows q (Found m (front ∷ rest) now) s m (last_node (front ∷ rest)) o.actor) (sym over) tt) (subst (OwnsAt m me) (sym over) owns) (refused why refl refl refl at reply ok u)
+      still o same none marks (subst (Knows q (Found s.bits m (front ∷ rest) now) s m (last_node (front ∷ rest)) o.actor) (sym over) tt) (subst (OwnsAt m me) (sym over) owns) (refused why refl refl refl at reply ok u)
 
   -- so it does since the queue is shut, to a pop where it has no value
-  pub finds_shut : (o : Outcome) → decided_reply a.due ≡ None → o.at ≡ Some now → o.reply ≡ Some (Refused Closed) → is_shut_chain m (front ∷ rest) ≡ true → (a.op ≡ Deq → queue_values m (front ∷ rest) ≡ []) → ((n : ℕ) → holds n o.actor ≡ holds n a) → o.aside ≡ None → Marked m o.actor → o.actor.line ≡ None → OwnsAt m me None → Goes m o
+  pub finds_shut : (o : Outcome) → decided_reply a.due ≡ None → o.at ≡ Some now → o.reply ≡ Some (Refused Closed) → is_shut_chain s.bits m (front ∷ rest) ≡ true → (a.op ≡ Deq → queue_values m (front ∷ rest) ≡ []) → ((n : ℕ) → holds n o.actor ≡ holds n a) → o.aside ≡ None → Marked m o.actor → o.actor.line ≡ None → OwnsAt m me None → Goes m o
   finds_shut o u at reply is_shut no_values same none marks over owns =
-      still o same none marks (subst (Knows q (Found m (front ∷ rest) now) s m (last_node (front ∷ rest)) o.actor) (sym over) tt) (subst (OwnsAt m me) (sym over) owns) (closed refl refl refl at reply is_shut no_values u)
+      still o same none marks (subst (Knows q (Found s.bits m (front ∷ rest) now) s m (last_node (front ∷ rest)) o.actor) (sym over) tt) (subst (OwnsAt m me) (sym over) owns) (closed refl refl refl at reply is_shut no_values u)
 
   -- the node in hand is in the hand once
   own : a.holds ≡ true → a.pocket ≡ None → 1 ≤ holds a.node a
@@ -110,7 +110,7 @@ module _ (q : Queue) (b : Before q) where
   aside : (o : Outcome) → a.holds ≡ true → a.pocket ≡ None → 1 ≤ a.node → o.actor.holds ≡ false → o.actor.pocket ≡ None → o.aside ≡ Some a.node → Learns m o → OwnsAt m me o.actor.line → o.at ≡ None → KeepsReply a o → Goes m o
   aside o h p some g r e knows owns at keeps =
       leaves_queue m o free (queue_stays m.free m.fresh)
-      (subst (λ x. Turn m m (front ∷ rest) free (front ∷ rest) free a o.actor x) (sym e) (turn_aside m E (front ∷ rest) free a o.actor a.node shape (let_go o.actor h p g r)))
+      (subst (λ x. Turn s.bits m m (front ∷ rest) free (front ∷ rest) free a o.actor x) (sym e) (turn_aside s.bits m E (front ∷ rest) free a o.actor a.node shape (let_go o.actor h p g r)))
       (subst (λ x. IfSome x (λ k. (1 ≤ k) × (1 ≤ holds k a))) (sym e) (some, own h p)) (inl refl) (no_marks m o.actor g r) knows owns (stutters refl refl refl at keeps)
 
   aside_freed : (kind : Kind) (due : Option Reply) (top : Ref) → a.due ≡ due → DecidedFreeing due → a.holds ≡ true → a.pocket ≡ None → 1 ≤ a.node → OwnsAt m me None → Goes m (sets_aside (freed kind now due (record a { top = top })))
@@ -124,7 +124,7 @@ module _ (q : Queue) (b : Before q) where
   gives_back o h p some was room leads g r none knows owns no_at keeps =
       leaves_queue (put Free (raised s a.top a.node) m) o (a.node ∷ free) (queue_stays (raised s a.top a.node) m.fresh)
       (turn_none (put Free (raised s a.top a.node) m) o front rest (a.node ∷ free) none
-      (turn_giveback m E (front ∷ rest) free a o.actor (raised s a.top a.node) a.node shape some low (ap (λ (x : Ref). x.node) leads ∙ sym (ap (λ (x : Ref). x.node) was)) (raised_node s a.top a.node hand_no_end room) (let_go o.actor h p g r)))
+      (turn_giveback s.bits m E (front ∷ rest) free a o.actor (raised s a.top a.node) a.node shape some low (ap (λ (x : Ref). x.node) leads ∙ sym (ap (λ (x : Ref). x.node) was)) (raised_node s a.top a.node hand_no_end room) (let_go o.actor h p g r)))
       (none_aside o none) (raised_rises s m.free a.top a.node hand_no_end was room) (no_marks (put Free (raised s a.top a.node) m) o.actor g r) knows owns (stutters refl refl refl no_at keeps)
 
   gives_back_freed : (kind : Kind) (due : Option Reply) → a.due ≡ due → DecidedFreeing due → a.holds ≡ true → a.pocket ≡ None → 1 ≤ a.node → m.free ≡ a.top → a.top.count ≢ s.limit → next_of m a.node ≡ ref a.top.node a.mark → OwnsAt m me None → Goes (put Free (raised s a.top a.node) m) (freed kind now due (empties_hand a))
@@ -146,10 +146,10 @@ module _ (q : Queue) (b : Before q) where
       }
     where
       apart : times k (front ∷ rest) ≡ 0
-      apart = (not_linked m E (front ∷ rest) free shape k some (omega (arith, mine k))).0
+      apart = (not_linked s.bits m E (front ∷ rest) free shape k some (omega (arith, mine k))).0
 
       not_null : (n : ℕ) → 1 ≤ times n (front ∷ rest) → 1 ≤ n
-      not_null zero queued = absurd (let none : times 0 (front ∷ rest) ≡ 0 = null_times IsEnd m.nodes (front ∷ rest) m.head.node shape.queue_chain in omega arith)
+      not_null zero queued = absurd (let none : times 0 (front ∷ rest) ≡ 0 = null_times (IsEnd s.bits) m.nodes (front ∷ rest) m.head.node shape.queue_chain in omega arith)
       not_null (suc n) queued = omega arith
 
       go : (n : ℕ) → 1 ≤ n → (n ≡ k) ⊎ (n ≢ k) → (next_of (with_new m k x) n).count ≡ (next_of m n).count
@@ -158,9 +158,9 @@ module _ (q : Queue) (b : Before q) where
       go n one (inr d) = ap (λ (y : Node). y.next.count) (others_stay m.nodes k n x some one d)
 
   -- so the queue's chain keeps its end where the node in hand is written
-  pub hand_flag : (x : Node) → a.holds ≡ true → a.pocket ≡ None → 1 ≤ a.node → x.next.count ≡ (next_of m a.node).count → is_shut_chain (with_new m a.node x) (front ∷ rest) ≡ is_shut_chain m (front ∷ rest)
+  pub hand_flag : (x : Node) → a.holds ≡ true → a.pocket ≡ None → 1 ≤ a.node → x.next.count ≡ (next_of m a.node).count → is_shut_chain s.bits (with_new m a.node x) (front ∷ rest) ≡ is_shut_chain s.bits m (front ∷ rest)
   hand_flag x h p some count =
-      ap (λ (n : Node). nat_eq n.next.node reserved_node) ((node_stays a.node x some low (own h p) count).nodes (last_node (front ∷ rest)) (last_times front rest))
+      ap (λ (n : Node). nat_eq n.next.node (reserved_node s.bits)) ((node_stays a.node x some low (own h p) count).nodes (last_node (front ∷ rest)) (last_times front rest))
 
   -- the node in hand is written, and its count stays; it may be set aside
   writes_any : (o : Outcome) (x : Node) → a.holds ≡ true → a.pocket ≡ None → 1 ≤ a.node → x.next.count ≡ (next_of m a.node).count → ((n : ℕ) → holds n o.actor + asides n o.aside ≡ holds n a) → IfSome o.aside (λ k. (1 ≤ k) × (1 ≤ holds k a)) → Marked (with_new m a.node x) o.actor → Learns (with_new m a.node x) o → OwnsAt m me o.actor.line → Means (with_new m a.node x) o → Goes (with_new m a.node x) o
@@ -174,8 +174,8 @@ module _ (q : Queue) (b : Before q) where
       })
       kept (inl refl)
     where
-      t : Turn m (with_new m a.node x) (front ∷ rest) free (front ∷ rest) free a a None
-      t = turn_node m E (front ∷ rest) free a a a.node x shape mine some (own h p) (λ n. refl)
+      t : Turn s.bits m (with_new m a.node x) (front ∷ rest) free (front ∷ rest) free a a None
+      t = turn_node s.bits m E (front ∷ rest) free a a a.node x shape mine some (own h p) (λ n. refl)
 
   -- it stays in the hand
   pub writes : (o : Outcome) (x : Node) → a.holds ≡ true → a.pocket ≡ None → 1 ≤ a.node → x.next.count ≡ (next_of m a.node).count → o.actor.holds ≡ true → o.actor.pocket ≡ None → o.actor.node ≡ a.node → o.actor.mark ≡ x.next.count → o.aside ≡ None → Learns (with_new m a.node x) o → OwnsAt m me o.actor.line → o.at ≡ None → KeepsReply a o → Goes (with_new m a.node x) o
@@ -210,14 +210,14 @@ module _ (q : Queue) (b : Before q) where
       c = fills_hand a.top.node a.next.count a
 
       -- the free chain ends at null, so no free node leads to the closed end
-      goes_on : a.next.node ≢ reserved_node
+      goes_on : a.next.node ≢ reserved_node s.bits
       goes_on =
-          subst (λ (r : Ref). r.node ≢ reserved_node) (ap (λ (r : Ref). next_of m r.node) was ∙ next)
-          (free_goes_on m.nodes m.free.node free few_nodes (subst (λ (r : Ref). 1 ≤ r.node) (sym was) some) shape.free_chain)
+          subst (λ (r : Ref). r.node ≢ reserved_node s.bits) (ap (λ (r : Ref). next_of m r.node) was ∙ next)
+          (free_goes_on s.bits m.nodes m.free.node free few_nodes (subst (λ (r : Ref). 1 ≤ r.node) (sym was) some) shape.free_chain)
 
-      free_nodes : Took m (raised s a.top a.next.node) (front ∷ rest) free a (goes to c).actor
+      free_nodes : Took s.bits m (raised s a.top a.next.node) (front ∷ rest) free a (goes to c).actor
       free_nodes =
-          turn_take m E (front ∷ rest) free a (goes to c).actor (raised s a.top a.next.node) shape (subst (λ (r : Ref). 1 ≤ r.node) (sym was) some)
+          turn_take s.bits m E (front ∷ rest) free a (goes to c).actor (raised s a.top a.next.node) shape (subst (λ (r : Ref). 1 ≤ r.node) (sym was) some)
           (raised_node s a.top a.next.node goes_on room ∙ sym (ap (λ (r : Ref). r.node) (ap (λ (r : Ref). next_of m r.node) was ∙ next)))
           (took (goes to c).actor m.free.node h p refl p (sym (ap (λ (r : Ref). r.node) was)))
 
@@ -230,7 +230,7 @@ module _ (q : Queue) (b : Before q) where
   claims_node to h p was u knows owns =
       let c : Actor = (goes to (fills_hand (a.f + 1) 0 a)).actor in
       leaves_queue (put Fresh (a.f + 1) m) (goes to (fills_hand (a.f + 1) 0 a)) free (queue_stays m.free (a.f + 1))
-      (turn_claim m E (front ∷ rest) free a c (a.f + 1) shape (ap (λ k. k + 1) (sym was)) (took c (m.fresh + 1) h p refl p (ap (λ k. k + 1) (sym was)))) tt (inl refl)
+      (turn_claim s.bits m E (front ∷ rest) free a c (a.f + 1) shape (ap (λ k. k + 1) (sym was)) (took c (m.fresh + 1) h p refl p (ap (λ k. k + 1) (sym was)))) tt (inl refl)
       (one_mark (put Fresh (a.f + 1) m) c p (omega arith, unused (a.f + 1) (omega (arith, was)))) knows owns (stutters refl refl refl refl (inl u))
 
   claims_to : (kind : Kind) → a.holds ≡ false → a.pocket ≡ None → m.fresh ≡ a.f → decided_reply a.due ≡ None → OwnsAt m me None → Goes (put Fresh (a.f + 1) m) (goes (with_node kind) (fills_hand (a.f + 1) 0 a))
@@ -244,7 +244,7 @@ module _ (q : Queue) (b : Before q) where
         front' = front;
         rest' = rest;
         free' = free;
-        turn = turn_none m' o front rest free none (turn_words m m' E (front ∷ rest) free a o.actor shape nodes (ap (λ (r : Ref). r.node) head) (ap (λ (r : Ref). r.node) top) fresh same);
+        turn = turn_none m' o front rest free none (turn_words s.bits m m' E (front ∷ rest) free a o.actor shape nodes (ap (λ (r : Ref). r.node) head) (ap (λ (r : Ref). r.node) top) fresh same);
         own_aside = none_aside o none;
         rises = inl top;
         relies = relies;
@@ -269,7 +269,7 @@ module _ (q : Queue) (b : Before q) where
     pub no_aside : o.aside ≡ None
     pub relies : (you : ℕ) → 1 ≤ you → you ≢ me → q.Rely m (put (Next k) r m) (last_node (front ∷ rest)) (last_node (front ∷ rest ++ a.node ∷ [])) you
     pub words_then : q.Words s (put (Next k) r m) (front ∷ rest ++ a.node ∷ [])
-    pub knows : Knows q (Found m (front ∷ rest) now) s (put (Next k) r m) (last_node (front ∷ rest ++ a.node ∷ [])) o.actor o.actor.line
+    pub knows : Knows q (Found s.bits m (front ∷ rest) now) s (put (Next k) r m) (last_node (front ∷ rest ++ a.node ∷ [])) o.actor o.actor.line
     pub owns : OwnsAt m me o.actor.line
     pub at : o.at ≡ Some now
     pub earns : completed_reply o.reply (Some now) o.actor.due ≡ Some Done
@@ -284,7 +284,7 @@ module _ (q : Queue) (b : Before q) where
         free' = free;
         turn =
             turn_none (put (Next k) r m) o front (rest ++ a.node ∷ []) free h.no_aside
-            (turn_link m E front rest free a o.actor k a.node r shape mine h.last h.unlinked h.some_node low (own h.hand h.pocket) h.ready.1 h.names (let_go o.actor h.hand h.pocket h.let_go h.empty));
+            (turn_link s.bits m E front rest free a o.actor k a.node r shape mine h.last h.unlinked h.some_node low (own h.hand h.pocket) h.ready.1 h.names (let_go o.actor h.hand h.pocket h.let_go h.empty));
         own_aside = none_aside o h.no_aside;
         rises = inl refl;
         relies = h.relies;
@@ -296,27 +296,28 @@ module _ (q : Queue) (b : Before q) where
       }
     where
       within : (1 ≤ k) × (k ≤ length m.nodes)
-      within = subst (λ j. (1 ≤ j) × (j ≤ length m.nodes)) (sym h.last) (last_within IsEnd m.nodes front rest m.head.node shape.queue_chain)
+      within = subst (λ j. (1 ≤ j) × (j ≤ length m.nodes)) (sym h.last) (last_within (IsEnd s.bits) m.nodes front rest m.head.node shape.queue_chain)
 
       -- the last node before and after led to null
-      open_before : is_shut_chain m (front ∷ rest) ≡ false
-      open_before = ap (λ n. nat_eq n reserved_node) (ap (λ j. (next_of m j).node) (sym h.last) ∙ h.unlinked)
+      open_before : is_shut_chain s.bits m (front ∷ rest) ≡ false
+      open_before = ap (λ n. nat_eq n (reserved_node s.bits)) (ap (λ j. (next_of m j).node) (sym h.last) ∙ h.unlinked) ∙ null_open s.bits (length m.nodes) few_nodes
 
       other : a.node ≢ k
-      other e = omega (arith, (not_linked m E (front ∷ rest) free shape a.node h.some_node (let here : holds a.node a ≤ E a.node = mine a.node in omega (arith, own h.hand h.pocket))).0, ap (λ j. times j (front ∷ rest)) (e ∙ h.last), last_times front rest)
+      other e = omega (arith, (not_linked s.bits m E (front ∷ rest) free shape a.node h.some_node (let here : holds a.node a ≤ E a.node = mine a.node in omega (arith, own h.hand h.pocket))).0, ap (λ j. times j (front ∷ rest)) (e ∙ h.last), last_times front rest)
 
-      open_after : is_shut_chain (put (Next k) r m) (front ∷ rest ++ a.node ∷ []) ≡ false
+      open_after : is_shut_chain s.bits (put (Next k) r m) (front ∷ rest ++ a.node ∷ []) ≡ false
       open_after =
-          ap (λ n. nat_eq n reserved_node)
+          ap (λ n. nat_eq n (reserved_node s.bits))
           (ap (λ j. (next_of (put (Next k) r m) j).node) (last_linked front rest a.node)
           ∙ ap (λ (y : Node). y.next.node) (others_stay m.nodes k a.node (record (node_at m k) { next = r }) within.0 h.some_node other)
-          ∙ h.ready.1)
+          ∙ h.ready.1) ∙
+          null_open s.bits (length m.nodes) few_nodes
 
   -- what holds where the `next` of the last node, which was null, becomes a closed end
   pub record Shuts (k : ℕ) (r : Ref) (o : Outcome) : Type 0 where
     pub last : k ≡ last_node (front ∷ rest)
     pub unlinked : (next_of m k).node ≡ 0
-    pub closes : r.node ≡ reserved_node
+    pub closes : r.node ≡ reserved_node s.bits
     pub same : (n : ℕ) → holds n o.actor ≡ holds n a
     pub no_aside : o.aside ≡ None
     pub relies : (you : ℕ) → 1 ≤ you → you ≢ me → q.Rely m (put (Next k) r m) (last_node (front ∷ rest)) (last_node (front ∷ rest)) you
@@ -335,7 +336,7 @@ module _ (q : Queue) (b : Before q) where
         front' = front;
         rest' = rest;
         free' = free;
-        turn = turn_none (put (Next k) r m) o front rest free h.no_aside (turn_shut m E front rest free a o.actor k r shape h.last h.unlinked (inr h.closes) h.same);
+        turn = turn_none (put (Next k) r m) o front rest free h.no_aside (turn_shut s.bits m E front rest free a o.actor k r shape h.last h.unlinked (inr h.closes) h.same);
         own_aside = none_aside o h.no_aside;
         rises = inl refl;
         relies = h.relies;
@@ -347,20 +348,21 @@ module _ (q : Queue) (b : Before q) where
       }
     where
       there : (1 ≤ k) × (k ≤ length m.nodes) × (1 ≤ times k (front ∷ rest))
-      there = last_there m E front rest free k shape h.last
+      there = last_there s.bits m E front rest free k shape h.last
 
       hand_stays : (n : ℕ) → 1 ≤ n → 1 ≤ holds n a → node_at (put (Next k) r m) n ≡ node_at m n
       hand_stays n some here =
           others_stay m.nodes k n (record (node_at m k) { next = r }) there.0 some
-          (λ e. omega (arith, (not_linked m E (front ∷ rest) free shape n some (let held : holds n a ≤ E n = mine n in omega arith)).0, ap (λ j. times j (front ∷ rest)) e, there.2))
+          (λ e. omega (arith, (not_linked s.bits m E (front ∷ rest) free shape n some (let held : holds n a ≤ E n = mine n in omega arith)).0, ap (λ j. times j (front ∷ rest)) e, there.2))
 
-      open_before : is_shut_chain m (front ∷ rest) ≡ false
-      open_before = ap (λ n. nat_eq n reserved_node) (ap (λ j. (next_of m j).node) (sym h.last) ∙ h.unlinked)
+      open_before : is_shut_chain s.bits m (front ∷ rest) ≡ false
+      open_before = ap (λ n. nat_eq n (reserved_node s.bits)) (ap (λ j. (next_of m j).node) (sym h.last) ∙ h.unlinked) ∙ null_open s.bits (length m.nodes) few_nodes
 
-      shut_then : is_shut_chain (put (Next k) r m) (front ∷ rest) ≡ true
+      shut_then : is_shut_chain s.bits (put (Next k) r m) (front ∷ rest) ≡ true
       shut_then =
-          ap (λ n. nat_eq n reserved_node)
-          (ap (λ j. (next_of (put (Next k) r m) j).node) (sym h.last) ∙ ap (λ (y : Node). y.next.node) (written m.nodes k (record (node_at m k) { next = r }) there.0 there.1) ∙ h.closes)
+          ap (λ n. nat_eq n (reserved_node s.bits))
+          (ap (λ j. (next_of (put (Next k) r m) j).node) (sym h.last) ∙ ap (λ (y : Node). y.next.node) (written m.nodes k (record (node_at m k) { next = r }) there.0 there.1) ∙ h.closes) ∙
+          closed_shut s.bits
 
   -- what holds where Head becomes a reference to the node behind the first one, which comes into the hand
   pub record Pops (x : ℕ) (ns : List ℕ) (r : Ref) (o : Outcome) : Type 0 where
@@ -377,7 +379,7 @@ module _ (q : Queue) (b : Before q) where
     pub no_aside : o.aside ≡ None
     pub relies : (last you : ℕ) → you ≢ me → q.Rely m (put Head r m) last last you
     pub words_then : q.Words s (put Head r m) rest
-    pub knows : Knows q (Found m (front ∷ rest) now) s (put Head r m) (last_node (x ∷ ns)) o.actor o.actor.line
+    pub knows : Knows q (Found s.bits m (front ∷ rest) now) s (put Head r m) (last_node (x ∷ ns)) o.actor o.actor.line
     pub owns : OwnsAt m me o.actor.line
     pub at : o.at ≡ Some now
     pub earns : completed_reply o.reply (Some now) o.actor.due ≡ Some (Value (node_at m x).value)
@@ -392,8 +394,8 @@ module _ (q : Queue) (b : Before q) where
         free' = free;
         turn =
             turn_none (put Head r m) o x ns free h.no_aside
-            (subst (λ ys. Turn m (put Head r m) (front ∷ ys) free (x ∷ ns) free a o.actor None) (sym h.behind)
-            (turn_pop m E front x ns free a o.actor r (subst (λ ys. Shape m E (front ∷ ys) free) h.behind shape) h.names (took o.actor front h.hand h.pocket h.full h.empty h.takes)));
+            (subst (λ ys. Turn s.bits m (put Head r m) (front ∷ ys) free (x ∷ ns) free a o.actor None) (sym h.behind)
+            (turn_pop s.bits m E front x ns free a o.actor r (subst (λ ys. Shape s.bits m E (front ∷ ys) free) h.behind shape) h.names (took o.actor front h.hand h.pocket h.full h.empty h.takes)));
         own_aside = none_aside o h.no_aside;
         rises = inl refl;
         relies = λ you one other. subst (λ n. q.Rely m (put Head r m) n (last_node (x ∷ ns)) you) (sym (ap (λ ys. last_node (front ∷ ys)) h.behind)) (h.relies (last_node (x ∷ ns)) you other);
@@ -401,7 +403,7 @@ module _ (q : Queue) (b : Before q) where
         marked = one_mark (put Head r m) o.actor h.empty (h.some_node, ap (λ k. (next_of m k).count) h.takes ∙ h.mark);
         knows = h.knows;
         owns = h.owns;
-        linearizes = popped front x ns (ap (λ ys. front ∷ ys) h.behind) refl h.raises (ap (λ ys. is_shut_chain m (front ∷ ys)) (sym h.behind)) h.at h.earns h.dequeues h.undecided;
+        linearizes = popped front x ns (ap (λ ys. front ∷ ys) h.behind) refl h.raises (ap (λ ys. is_shut_chain s.bits m (front ∷ ys)) (sym h.behind)) h.at h.earns h.dequeues h.undecided;
       }
 
   -- what an actor holds whose node goes to its pocket

@@ -12,7 +12,7 @@ use Rattle.history.specs.declared.refusals.Refusal.TheVariants.{NoNode, WornOut,
 use Rattle.history.specs.declared.operations.Reply.{Reply}
 use Rattle.history.specs.declared.operations.Reply.TheVariants.{Done, Value, Empty, Refused}
 use Rattle.line_steps.specs.declared.actors.Setup.{Setup}
-use Rattle.line_steps.specs.declared.actors.Actor.{Actor}
+use Rattle.line_steps.specs.Actors.{Actor}
 use Rattle.line_steps.specs.Outcomes.{Outcome}
 use Rattle.line_steps.specs.Memory.{Found}
 use Rattle.line_steps.specs.Lines.{action, outcome, goes, ends, effect, sets_aside, empties_hand, to_pocket, freed, unlocked, left, left_with_node, busy_or, gives_up}
@@ -139,7 +139,7 @@ tells s now me a E3 c =
 tells s now me a E7 c =
     both (same_ref c a.tail) _ _
     (both (is_null a.next) _ _ (goes_on E7 now a _ refl refl)
-    (both (is_shut a.next) _ _ (refuses E7 now a Closed (to_pocket a) refl (λ at h. h))
+    (both (is_shut s.bits a.next) _ _ (refuses E7 now a Closed (to_pocket a) refl (λ at h. h))
     (both (nat_eq a.tail.count s.limit) _ _ (refuses E7 now a (WornOut OfTail) (to_pocket a) refl (λ at h. h)) (goes_on E7 now a _ refl refl))))
     (goes_on E7 now a _ refl refl)
 tells s now me a E9 c =
@@ -150,7 +150,7 @@ tells s now me a D5 c =
     both (same_ref c a.head) _ _
     (both (nat_eq a.head.node a.tail.node) _ _
     (both (is_null a.next) _ _ (ends_with D5 now a Empty a refl (λ at h. inr h.0))
-    (both (is_shut a.next) _ _ (refuses D5 now a Closed a refl (λ at h. h.0))
+    (both (is_shut s.bits a.next) _ _ (refuses D5 now a Closed a refl (λ at h. h.0))
     (both (nat_eq a.tail.count s.limit) _ _ (refuses D5 now a (WornOut OfTail) a refl (λ at h. h.0)) (goes_on D5 now a _ refl refl))))
     (goes_on D5 now a _ refl refl))
     (goes_on D5 now a _ refl refl)
@@ -163,7 +163,7 @@ tells s now me a A7 c = left_with_node_tells now a a.due a refl (λ at h. h)
 tells s now me a S3 c =
     both (same_ref c a.tail) _ _
     (both (is_null a.next) _ _ (goes_on S3 now a _ refl refl)
-    (both (is_shut a.next) _ _ (refuses S3 now a Closed a refl (λ at h. h))
+    (both (is_shut s.bits a.next) _ _ (refuses S3 now a Closed a refl (λ at h. h))
     (both (nat_eq a.tail.count s.limit) _ _ (refuses S3 now a (WornOut OfTail) a refl (λ at h. h)) (goes_on S3 now a _ refl refl))))
     (goes_on S3 now a _ refl refl)
 tells s now me a S4 c = both (same_ref c a.next) _ _ (shut_tells now a) (goes_on S4 now a _ refl refl)
@@ -171,7 +171,7 @@ tells s now me a S6 c = both (nat_eq c 0) _ _ (goes_on S6 now a _ refl refl) (go
 tells s now me a S8 c = both (same_ref c null) _ _ (goes_on S8 now a _ refl refl) (goes_on S8 now a _ refl refl)
 tells s now me a S9 c = left_tells now a a.due a refl (λ at h. h)
 tells s now me a B1 c = both (nat_eq c 0) _ _ (goes_on B1 now a _ refl refl) (goes_on B1 now a _ refl refl)
-tells s now me a B3 c = both (is_null c) _ _ (looks_on B3 now a _ refl refl) (both (is_shut c) _ _ (looks_on B3 now a _ refl refl) (looks_on B3 now a _ refl refl))
+tells s now me a B3 c = both (is_null c) _ _ (looks_on B3 now a _ refl refl) (both (is_shut s.bits c) _ _ (looks_on B3 now a _ refl refl) (looks_on B3 now a _ refl refl))
 tells s now me a B4 c = both (nat_eq a.head.count s.limit) _ _ (goes_on B4 now a _ refl refl) (goes_on B4 now a _ refl refl)
 tells s now me a B6 c = unlocked_tells now a a.due a refl (λ at h. h)
 tells s now me a _ c = goes_on _ now a _ refl refl

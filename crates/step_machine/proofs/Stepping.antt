@@ -9,7 +9,7 @@ use Rattle.step_machine.specs.declared.actors.Move.TheVariants.{Step}
 use Rattle.step_machine.specs.Machine.{World, actor_of, entry_or, new_operation, with_operation, with_outcome, next, stepped}
 use Rattle.step_machine.specs.Views.{wants_node, HasNodes, unrecorded, entered, led, listed, TookStep}
 use Rattle.step_machine.specs.Stored.{world}
-use Rattle.step_machine.specs.declared.world.World.TheInside.{Inside}
+use Rattle.step_machine.specs.declared.world.WorldOf.TheInside.{Inside}
 use Rattle.step_machine.proofs.Growth.{grows}
 use Rattle.step_machine.proofs.Giving.{step_move, same_world}
 use Rattle.step_machine.proofs.Making.{Rooms, settled_rooms}
@@ -57,10 +57,10 @@ module _ (s : Setup) (now me : ℕ) (l : Line) (old : Memory) (a : Actor) (ops :
       }
 
 -- the room that the world keeps serves what the step put down
-module _ (i : Inside) (more me : ℕ) (a b : Actor) (l : Line) (after : Memory) (listed : List Stamped) (reply : Option Reply) where
-  pub took_rooms : actor_of (world i) me ≡ Some a → a.line ≡ Some l → TookStep i.setup (i.steps + 1) me l i.memory i.operations.items a after listed b reply → HasNodes i.setup.size i.memory.words.fresh i.memory.room i.actors.items → length i.operations.items + unrecorded i.actors.items ≤ vec_capacity i.operations → vec_capacity i.operations ≤ more → Rooms i.setup.size after.words.fresh after.room more (slice_set i.actors.items (me - 1) b) listed
+module _ (bits : ℕ) (i : Inside bits) (more me : ℕ) (a b : Actor) (l : Line) (after : Memory) (listed : List Stamped) (reply : Option Reply) where
+  pub took_rooms : actor_of (world bits i) me ≡ Some a → a.line ≡ Some l → TookStep i.setup (i.steps + 1) me l i.memory i.operations.items a after listed b reply → HasNodes i.setup.size i.memory.words.fresh i.memory.room i.actors.items → length i.operations.items + unrecorded i.actors.items ≤ vec_capacity i.operations → vec_capacity i.operations ≤ more → Rooms i.setup.size after.words.fresh after.room more (slice_set i.actors.items (me - 1) b) listed
   took_rooms at here took nodes entries enough =
-      let w = world i in
+      let w = world bits i in
       let o : Outcome = led w.setup (w.steps + 1) me a l i.memory in
       let fresh : after.words.fresh ≡ (performed (action w.setup me a l) w.shared).fresh = ap (λ n. n.words.fresh) took.memory in
       let grown : after.words.fresh + wants_node o.actor.line ≤ w.shared.fresh + wants_node (Some l) =
@@ -70,7 +70,7 @@ module _ (i : Inside) (more me : ℕ) (a b : Actor) (l : Line) (after : Memory) 
       (settled_rooms w i.memory.room _ more me a l o after.words.fresh _ _ listed _ _ at here grown actors took.operations nodes entries enough)
 
 -- the fields that the step put down are those of the world that it leads to
-module _ (i : Inside) (me : ℕ) (a b : Actor) (l : Line) (after : Memory) (listed : List Stamped) (reply : Option Reply) where
+module _ (bits : ℕ) (i : Inside bits) (me : ℕ) (a b : Actor) (l : Line) (after : Memory) (listed : List Stamped) (reply : Option Reply) where
   abbrev pub stepped_to : World
   stepped_to =
       record {
@@ -82,9 +82,9 @@ module _ (i : Inside) (me : ℕ) (a b : Actor) (l : Line) (after : Memory) (list
         operations = listed;
       }
 
-  pub took_move : actor_of (world i) me ≡ Some a → a.line ≡ Some l → TookStep i.setup (i.steps + 1) me l i.memory i.operations.items a after listed b reply → next (world i) (Step me) ≡ Some stepped_to
+  pub took_move : actor_of (world bits i) me ≡ Some a → a.line ≡ Some l → TookStep i.setup (i.steps + 1) me l i.memory i.operations.items a after listed b reply → next (world bits i) (Step me) ≡ Some stepped_to
   took_move at here took =
-      let w = world i in
+      let w = world bits i in
       step_move w me a l at here ∙
       ap Some
       (sym

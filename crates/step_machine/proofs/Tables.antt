@@ -3,7 +3,7 @@ use Rattle.std.proofs.Common.{◌≡◌, ℕ, zero, suc, ◌-◌, ◌^◌, ◌<�
 use Rattle.std.proofs.lemmas.Bool.{eq-eqb, eqb-true}
 use Rattle.std.proofs.lemmas.Bool.Decides.{eqb_tells}
 use Rattle.std.specs.List.{All}
-use Rattle.step_machine.specs.Below.{IsRef, count_mask, Taken, Node, blank, Shared, Word, Fresh, Free, Head, Tail, Tail_lock, Head_lock, Next, Value_of, Content, content, put, same, Action, load, store, clear, exchange, word, found}
+use Rattle.step_machine.specs.Below.{IsSplit, IsRef, count_mask, Taken, Node, blank, Shared, Word, Fresh, Free, Head, Tail, Tail_lock, Head_lock, Next, Value_of, Content, content, put, same, Action, load, store, clear, exchange, word, found}
 use Rattle.counted_ref.proofs.Words.{refs_apart, same_word, cleared_word}
 use Rattle.step_machine.specs.Words.{value_word, encoded, node_words, memory_words, index, IsWord}
 use Rattle.step_machine.specs.Tables.{word_index, word_step, ValueFits, ContentFits, SharedFits, ActionFits, IsOneStep}
@@ -32,93 +32,94 @@ same_value a b ha hb = elim (eqb_tells (value_word a) (value_word b)) [
     go true false f g h = refl
     go false y f g h = refl
 
--- contents that fit are tested to be the same exactly where their words are
-pub same_content : (x : Word) (a b : Content x) → ContentFits x a → ContentFits x b → same x a b ≡ nat_eq (encoded x a) (encoded x b)
-same_content Fresh a b ha hb = refl
-same_content Free a b ha hb = same_word a b ha hb
-same_content Head a b ha hb = same_word a b ha hb
-same_content Tail a b ha hb = same_word a b ha hb
-same_content Tail_lock a b ha hb = refl
-same_content Head_lock a b ha hb = refl
-same_content (Next n) a b ha hb = same_word a b ha hb
-same_content (Value_of n) a b ha hb = same_value a b ha hb
-
-exchanged : (s : Shared) (x : Word) (old new : Content x) → IsWord s x → ContentFits x (content x s) → ContentFits x old → IsOneStep s (exchange x old new)
-exchanged s x old new h g f =
-    ap memory_words (ap (λ b. if b then put x new s else s) (same_content x (content x s) old g f)) ∙
-    pushed (nat_eq (encoded x (content x s)) (encoded x old)) ∙
-    ap (λ c. if nat_eq c (encoded x old) then set (memory_words s) (index x) (encoded x new) else memory_words s) (sym (reading s x h))
-  where
-    pushed : (b : Bool) → memory_words (if b then put x new s else s) ≡ (if b then set (memory_words s) (index x) (encoded x new) else memory_words s)
-    pushed true = writing s x new h
-    pushed false = refl
-
-cleared : (s : Shared) (n : ℕ) → IsWord s (Next n) → IsRef (content (Next n) s) → IsOneStep s (clear n)
-cleared s n h g =
-    writing s (Next n) (record (content (Next n) s) { node = 0 }) h ∙
-    ap (set (memory_words s) (index (Next n))) (sym (cleared_word (content (Next n) s) g)) ∙
-    ap (λ c. set (memory_words s) (index (Next n)) (bit_and c count_mask)) (sym (reading s (Next n) h))
-
 -- the step of an access is on the place of the word that it names
-pub place-word_step : (a : Action) → word_index (word_step a) ≡ index (word a)
-place-word_step (load x) = refl
-place-word_step (store x c) = refl
-place-word_step (clear n) = refl
-place-word_step (exchange x old new) = refl
+pub place-word_step : (bits : ℕ) (a : Action) → word_index (word_step bits a) ≡ index (word a)
+place-word_step bits (load x) = refl
+place-word_step bits (store x c) = refl
+place-word_step bits (clear n) = refl
+place-word_step bits (exchange x old new) = refl
 
--- an access is one atomic step on the place of the word that it names
-pub one_step : (s : Shared) (a : Action) → IsWord s (word a) → ContentFits (word a) (found a s) → ActionFits a → IsOneStep s a
-one_step s (load x) h g f = refl
-one_step s (store x c) h g f = writing s x c h
-one_step s (clear n) h g f = cleared s n h g
-one_step s (exchange x old new) h g f = exchanged s x old new h g f.0
+module _ (bits : ℕ) (split : IsSplit bits) where
+  -- contents that fit are tested to be the same exactly where their words are
+  pub same_content : (x : Word) (a b : Content x) → ContentFits bits x a → ContentFits bits x b → same x a b ≡ nat_eq (encoded bits x a) (encoded bits x b)
+  same_content Fresh a b ha hb = refl
+  same_content Free a b ha hb = same_word bits split a b ha hb
+  same_content Head a b ha hb = same_word bits split a b ha hb
+  same_content Tail a b ha hb = same_word bits split a b ha hb
+  same_content Tail_lock a b ha hb = refl
+  same_content Head_lock a b ha hb = refl
+  same_content (Next n) a b ha hb = same_word bits split a b ha hb
+  same_content (Value_of n) a b ha hb = same_value a b ha hb
 
--- a node fits its two words
-record NodeFits (n : Node) : Type 0 where
-  next : IsRef n.next
-  value : ValueFits n.value
+  exchanged : (s : Shared) (x : Word) (old new : Content x) → IsWord s x → ContentFits bits x (content x s) → ContentFits bits x old → IsOneStep bits s (exchange x old new)
+  exchanged s x old new h g f =
+      ap (memory_words bits) (ap (λ b. if b then put x new s else s) (same_content x (content x s) old g f)) ∙
+      pushed (nat_eq (encoded bits x (content x s)) (encoded bits x old)) ∙
+      ap (λ c. if nat_eq c (encoded bits x old) then set (memory_words bits s) (index x) (encoded bits x new) else memory_words bits s) (sym (reading bits s x h))
+    where
+      pushed : (b : Bool) → memory_words bits (if b then put x new s else s) ≡ (if b then set (memory_words bits s) (index x) (encoded bits x new) else memory_words bits s)
+      pushed true = writing bits s x new h
+      pushed false = refl
 
--- within a list no default is read
-same_default : (ns : List Node) (k : ℕ) (d e : Node) → k < length ns → get_or ns k d ≡ get_or ns k e
-same_default [] k d e h = absurd (omega arith)
-same_default (n ∷ ns) zero d e h = refl
-same_default (n ∷ ns) (suc k) d e h = same_default ns k d e (omega arith)
+  cleared : (s : Shared) (n : ℕ) → IsWord s (Next n) → IsRef bits (content (Next n) s) → IsOneStep bits s (clear n)
+  cleared s n h g =
+      writing bits s (Next n) (record (content (Next n) s) { node = 0 }) h ∙
+      ap (set (memory_words bits s) (index (Next n))) (sym (cleared_word bits split (content (Next n) s) g)) ∙
+      ap (λ c. set (memory_words bits s) (index (Next n)) (bit_and c (count_mask bits))) (sym (reading bits s (Next n) h))
 
-nodes_fit : (s : Shared) → SharedFits s → All NodeFits s.nodes
-nodes_fit s h = λ k d b. subst NodeFits (same_default s.nodes k blank d b) (go k)
-  where
-    at : (k j : ℕ) → suc k - 1 ≡ j → NodeFits (get_or s.nodes (suc k - 1) blank) → NodeFits (get_or s.nodes j blank)
-    at k j e g = subst (λ i. NodeFits (get_or s.nodes i blank)) e g
+  -- an access is one atomic step on the place of the word that it names
+  pub one_step : (s : Shared) (a : Action) → IsWord s (word a) → ContentFits bits (word a) (found a s) → ActionFits bits a → IsOneStep bits s a
+  one_step s (load x) h g f = refl
+  one_step s (store x c) h g f = writing bits s x c h
+  one_step s (clear n) h g f = cleared s n h g
+  one_step s (exchange x old new) h g f = exchanged s x old new h g f.0
 
-    go : (k : ℕ) → NodeFits (get_or s.nodes k blank)
-    go k = at k k (omega arith) (record { next = h (Next (suc k)); value = h (Value_of (suc k)) })
+  -- a node fits its two words
+  record NodeFits (n : Node) : Type 0 where
+    next : IsRef bits n.next
+    value : ValueFits n.value
 
--- what stands after the first two words
-abbrev after_two : List ℕ → List ℕ
-after_two [] = []
-after_two (a ∷ []) = []
-after_two (a ∷ b ∷ ws) = ws
+  -- within a list no default is read
+  same_default : (ns : List Node) (k : ℕ) (d e : Node) → k < length ns → get_or ns k d ≡ get_or ns k e
+  same_default [] k d e h = absurd (omega arith)
+  same_default (n ∷ ns) zero d e h = refl
+  same_default (n ∷ ns) (suc k) d e h = same_default ns k d e (omega arith)
 
-nodes_apart : (xs ys : List Node) → All NodeFits xs → All NodeFits ys → node_words xs ≡ node_words ys → xs ≡ ys
-nodes_apart [] [] f g e = refl
-nodes_apart [] (y ∷ ys) f g e = cc
-nodes_apart (x ∷ xs) [] f g e = cc
-nodes_apart (x ∷ xs) (y ∷ ys) f g e =
-    let fx : NodeFits x = f 0 x (omega arith) in
-    let fy : NodeFits y = g 0 y (omega arith) in
-    let n : x.next ≡ y.next = refs_apart x.next y.next fx.next fy.next (ap (λ ws. get_or ws 0 0) e) in
-    let v : x.value ≡ y.value = values_apart x.value y.value fx.value fy.value (ap (λ ws. get_or ws 1 0) e) in
-    let r : xs ≡ ys = nodes_apart xs ys (λ k d b. f (suc k) d (omega arith)) (λ k d b. g (suc k) d (omega arith)) (ap after_two e) in
-    λ i. record { next = n i; value = v i } ∷ r i
+  nodes_fit : (s : Shared) → SharedFits bits s → All NodeFits s.nodes
+  nodes_fit s h = λ k d b. subst NodeFits (same_default s.nodes k blank d b) (go k)
+    where
+      at : (k j : ℕ) → suc k - 1 ≡ j → NodeFits (get_or s.nodes (suc k - 1) blank) → NodeFits (get_or s.nodes j blank)
+      at k j e g = subst (λ i. NodeFits (get_or s.nodes i blank)) e g
 
--- the table determines what the words hold
-pub words_apart : (a b : Shared) → SharedFits a → SharedFits b → memory_words a ≡ memory_words b → a ≡ b
-words_apart a b f g e =
-    let free : a.free ≡ b.free = refs_apart a.free b.free (f Free) (g Free) (ap (λ ws. get_or ws 1 0) e) in
-    let head : a.head ≡ b.head = refs_apart a.head b.head (f Head) (g Head) (ap (λ ws. get_or ws 2 0) e) in
-    let tail : a.tail ≡ b.tail = refs_apart a.tail b.tail (f Tail) (g Tail) (ap (λ ws. get_or ws 3 0) e) in
-    let fresh : a.fresh ≡ b.fresh = ap (λ ws. get_or ws 0 0) e in
-    let tail_lock : a.tail_lock ≡ b.tail_lock = ap (λ ws. get_or ws 4 0) e in
-    let head_lock : a.head_lock ≡ b.head_lock = ap (λ ws. get_or ws 5 0) e in
-    let nodes : a.nodes ≡ b.nodes = nodes_apart a.nodes b.nodes (nodes_fit a f) (nodes_fit b g) (ap (λ ws. after_two (after_two (after_two ws))) e) in
-    λ i. record { fresh = fresh i; free = free i; head = head i; tail = tail i; tail_lock = tail_lock i; head_lock = head_lock i; nodes = nodes i }
+      go : (k : ℕ) → NodeFits (get_or s.nodes k blank)
+      go k = at k k (omega arith) (record { next = h (Next (suc k)); value = h (Value_of (suc k)) })
+
+  -- what stands after the first two words
+  abbrev after_two : List ℕ → List ℕ
+  after_two [] = []
+  after_two (a ∷ []) = []
+  after_two (a ∷ b ∷ ws) = ws
+
+  nodes_apart : (xs ys : List Node) → All NodeFits xs → All NodeFits ys → node_words bits xs ≡ node_words bits ys → xs ≡ ys
+  nodes_apart [] [] f g e = refl
+  nodes_apart [] (y ∷ ys) f g e = cc
+  nodes_apart (x ∷ xs) [] f g e = cc
+  nodes_apart (x ∷ xs) (y ∷ ys) f g e =
+      let fx : NodeFits x = f 0 x (omega arith) in
+      let fy : NodeFits y = g 0 y (omega arith) in
+      let n : x.next ≡ y.next = refs_apart bits split x.next y.next fx.next fy.next (ap (λ ws. get_or ws 0 0) e) in
+      let v : x.value ≡ y.value = values_apart x.value y.value fx.value fy.value (ap (λ ws. get_or ws 1 0) e) in
+      let r : xs ≡ ys = nodes_apart xs ys (λ k d b. f (suc k) d (omega arith)) (λ k d b. g (suc k) d (omega arith)) (ap after_two e) in
+      λ i. record { next = n i; value = v i } ∷ r i
+
+  -- the table determines what the words hold
+  pub words_apart : (a b : Shared) → SharedFits bits a → SharedFits bits b → memory_words bits a ≡ memory_words bits b → a ≡ b
+  words_apart a b f g e =
+      let free : a.free ≡ b.free = refs_apart bits split a.free b.free (f Free) (g Free) (ap (λ ws. get_or ws 1 0) e) in
+      let head : a.head ≡ b.head = refs_apart bits split a.head b.head (f Head) (g Head) (ap (λ ws. get_or ws 2 0) e) in
+      let tail : a.tail ≡ b.tail = refs_apart bits split a.tail b.tail (f Tail) (g Tail) (ap (λ ws. get_or ws 3 0) e) in
+      let fresh : a.fresh ≡ b.fresh = ap (λ ws. get_or ws 0 0) e in
+      let tail_lock : a.tail_lock ≡ b.tail_lock = ap (λ ws. get_or ws 4 0) e in
+      let head_lock : a.head_lock ≡ b.head_lock = ap (λ ws. get_or ws 5 0) e in
+      let nodes : a.nodes ≡ b.nodes = nodes_apart a.nodes b.nodes (nodes_fit a f) (nodes_fit b g) (ap (λ ws. after_two (after_two (after_two ws))) e) in
+      λ i. record { fresh = fresh i; free = free i; head = head i; tail = tail i; tail_lock = tail_lock i; head_lock = head_lock i; nodes = nodes i }

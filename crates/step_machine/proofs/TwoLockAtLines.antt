@@ -13,17 +13,17 @@ abbrev pub Ready : Shared → Actor → Type 0
 Ready m a = ((node_at m a.node).value ≡ a.val) × ((node_at m a.node).next.node ≡ 0)
 
 -- what an actor knows that lets the tail lock go: where its call is refused, the closed end is behind the last node
-abbrev pub Leaves : Shared → (last : ℕ) → Option Reply → Type 0
-Leaves m last (Some (Refused why)) = (node_at m last).next.node ≡ reserved_node
-Leaves m last _ = Unit {0}
+abbrev pub Leaves : (bits : ℕ) → Shared → (last : ℕ) → Option Reply → Type 0
+Leaves bits m last (Some (Refused why)) = (node_at m last).next.node ≡ reserved_node bits
+Leaves bits m last _ = Unit {0}
 
 -- what an actor knows that lets the head lock go, by what its call has earned: the closed end is behind the dummy, Head is
 -- worn out, or the queue was empty at the number noted, of which `Z` says what that means
-abbrev pub Unlocks : (Z : ℕ → Type 0) (limit : ℕ) → Shared → (empty_at : ℕ) → Option Reply → Type 0
-Unlocks Z limit m empty_at (Some Empty) = Z empty_at
-Unlocks Z limit m empty_at (Some (Refused Closed)) = (node_at m m.head.node).next.node ≡ reserved_node
-Unlocks Z limit m empty_at (Some (Refused why)) = m.head.count ≡ limit
-Unlocks Z limit m empty_at _ = Unit {0}
+abbrev pub Unlocks : (bits : ℕ) (Z : ℕ → Type 0) (limit : ℕ) → Shared → (empty_at : ℕ) → Option Reply → Type 0
+Unlocks bits Z limit m empty_at (Some Empty) = Z empty_at
+Unlocks bits Z limit m empty_at (Some (Refused Closed)) = (1 ≤ (node_at m m.head.node).next.node) × ((node_at m m.head.node).next.node ≡ reserved_node bits)
+Unlocks bits Z limit m empty_at (Some (Refused why)) = m.head.count ≡ limit
+Unlocks bits Z limit m empty_at _ = Unit {0}
 
 -- what an actor knows before a line of its own; `last` is the last node of the queue
 abbrev pub OwnAt : (Z : ℕ → Type 0) → Setup → Shared → (last : ℕ) → Actor → Option Line → Type 0
@@ -32,14 +32,14 @@ OwnAt Z s m last a (Some A3) = Ready m a
 OwnAt Z s m last a (Some A4) = Ready m a × (last ≡ m.tail.node)
 OwnAt Z s m last a (Some A5) = Ready m a × (last ≡ m.tail.node) × (m.tail ≡ a.tail)
 OwnAt Z s m last a (Some A6) = last ≡ a.node
-OwnAt Z s m last a (Some A7) = (last ≡ m.tail.node) × Leaves m last a.due
+OwnAt Z s m last a (Some A7) = (last ≡ m.tail.node) × Leaves s.bits m last a.due
 OwnAt Z s m last a (Some B3) = m.head ≡ a.head
 OwnAt Z s m last a (Some B4) = (m.head ≡ a.head) × ((node_at m a.head.node).next ≡ a.next)
 OwnAt Z s m last a (Some B5) = (m.head ≡ a.head) × ((node_at m a.head.node).next ≡ a.next) × ((node_at m a.next.node).value ≡ a.val)
-OwnAt Z s m last a (Some B6) = Unlocks Z s.limit m a.empty_at a.due
+OwnAt Z s m last a (Some B6) = Unlocks s.bits Z s.limit m a.empty_at a.due
 OwnAt Z s m last a (Some S7) = last ≡ m.tail.node
 OwnAt Z s m last a (Some S8) = (last ≡ m.tail.node) × (m.tail ≡ a.tail)
-OwnAt Z s m last a (Some S9) = (last ≡ m.tail.node) × Leaves m last a.due
+OwnAt Z s m last a (Some S9) = (last ≡ m.tail.node) × Leaves s.bits m last a.due
 OwnAt Z s m last a _ = Unit {0}
 
 -- where its operation stands says nothing of what an actor knows
@@ -53,7 +53,7 @@ pub own_more : (Y Z : ℕ → Type 0) (s : Setup) (m : Shared) (last : ℕ) (a :
 own_more Y Z s m last a None f h = h
 own_more Y Z s m last a (Some B6) f h = unlocks a.due h
   where
-    unlocks : (due : Option Reply) → Unlocks Y s.limit m a.empty_at due → Unlocks Z s.limit m a.empty_at due
+    unlocks : (due : Option Reply) → Unlocks s.bits Y s.limit m a.empty_at due → Unlocks s.bits Z s.limit m a.empty_at due
     unlocks (Some Empty) g = f a.empty_at g
     unlocks (Some (Refused Closed)) g = g
     unlocks (Some (Refused why)) g = g
@@ -92,7 +92,7 @@ module _ (Z : ℕ → Type 0) (s : Setup) (m m' : Shared) (last last' you : ℕ)
   tail_kept k mine h = (k.tail mine).2 ∙ h ∙ sym (ap (λ (r : Ref). r.node) (k.tail mine).1)
 
   -- the closed end is still behind it
-  leaves_kept : LocksRely m m' last last' you → m.tail_lock ≡ you → (due : Option Reply) → Leaves m last due → Leaves m' last' due
+  leaves_kept : LocksRely m m' last last' you → m.tail_lock ≡ you → (due : Option Reply) → Leaves s.bits m last due → Leaves s.bits m' last' due
   leaves_kept k mine (Some (Refused why)) h = ap (λ j. (node_at m' j).next.node) (k.tail mine).2 ∙ ap (λ (r : Ref). r.node) (k.tail mine).3 ∙ h
   leaves_kept k mine _ h = tt
 
@@ -103,7 +103,7 @@ module _ (Z : ℕ → Type 0) (s : Setup) (m m' : Shared) (last last' you : ℕ)
       (leads, ap (λ (x : Node). x.next) (subst (λ (r : Ref). node_at m' r.node ≡ node_at m r.node) h.0 (n.dummy leads)) ∙ h.1)
 
   -- an actor still knows what it knew
-  pub own_kept : (l : Line) → LocksRely m m' last last' you → NodesRely m m' c → FixedAt s.limit you c (Some l) → NonNullAt l c → OwnsAt m you (Some l) → OwnAt Z s m last c (Some l) → OwnAt Z s m' last' c (Some l)
+  pub own_kept : (l : Line) → LocksRely m m' last last' you → NodesRely m m' c → FixedAt s.limit you c (Some l) → NonNullAt s.bits l c → OwnsAt m you (Some l) → OwnAt Z s m last c (Some l) → OwnAt Z s m' last' c (Some l)
   own_kept A2 k n f p o h = ap (λ (x : Node). x.value) (hand_stays n f.hand f.pocket p) ∙ h
   own_kept A3 k n f p o h = ready_kept (hand_stays n f.hand f.pocket p) h
   own_kept A4 k n f p o h = (ready_kept (hand_stays n f.hand f.pocket p) h.0, tail_kept k o.0 h.1)
@@ -122,10 +122,11 @@ module _ (Z : ℕ → Type 0) (s : Setup) (m m' : Shared) (last last' you : ℕ)
       front = ap (λ (r : Ref). (node_at m r.node).next.node) h.0 ∙ ap (λ (r : Ref). r.node) h.1
   own_kept B6 k n f p o h = unlocks c.due h
     where
-      unlocks : (due : Option Reply) → Unlocks Z s.limit m c.empty_at due → Unlocks Z s.limit m' c.empty_at due
+      unlocks : (due : Option Reply) → Unlocks s.bits Z s.limit m c.empty_at due → Unlocks s.bits Z s.limit m' c.empty_at due
       unlocks (Some Empty) g = g
       unlocks (Some (Refused Closed)) g =
-          ap (λ (r : Ref). (node_at m' r.node).next.node) (k.head o.1).1 ∙ ap (λ (x : Node). x.next.node) (n.dummy (omega (arith, g))) ∙ g
+          let same : (node_at m' m'.head.node).next.node ≡ (node_at m m.head.node).next.node = ap (λ (r : Ref). (node_at m' r.node).next.node) (k.head o.1).1 ∙ ap (λ (x : Node). x.next.node) (n.dummy g.0) in
+          (omega (arith, same, g.0), same ∙ g.1)
       unlocks (Some (Refused why)) g = ap (λ (r : Ref). r.count) (k.head o.1).1 ∙ g
       unlocks _ g = tt
   own_kept S7 k n f p o h = tail_kept k o.0 h

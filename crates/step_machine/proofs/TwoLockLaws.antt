@@ -12,7 +12,7 @@ use Rattle.step_machine.specs.EachQueue.{RaisesBelowTheLimit, IsShut, HasCauseFo
 use Rattle.step_machine.specs.TwoLock.{OfTwoLockWorlds, HasTailMoved, TailNamesTheLast}
 use Rattle.step_machine.specs.Locks.{IsOfFreeOrHead, FindsFreeOrHeadWornOut, RefusedForFreeOrHead}
 use Rattle.step_machine.proofs.Choices.{either}
-use Rattle.step_machine.proofs.Chains.{shut_alone}
+use Rattle.step_machine.proofs.Chains.{shut_alone, closed_shut}
 use Rattle.step_machine.proofs.Reached.{reached_in_range, few_nodes, actor_in_range}
 use Rattle.step_machine.proofs.StampsLists.{same_or_not}
 use Rattle.step_machine.proofs.Fixed.{FixedAt, DecidedUnlocking, DecidedLeaving}
@@ -78,33 +78,33 @@ Own w OfHead = w.shared.head.count ≡ w.setup.limit
 Own w _ = ⊥
 
 -- where the closed end follows the dummy, or the last node, the queue is shut
-shut_first : (w : World) → IsReached w → Invariant w → (node_at w.shared w.shared.head.node).next.node ≡ reserved_node → IsShut w
+shut_first : (w : World) → IsReached w → Invariant w → (node_at w.shared w.shared.head.node).next.node ≡ reserved_node w.setup.bits → IsShut w
 shut_first w r p end = (
   p.front ∷ p.rest,
   p.sound.shape.queue_chain,
-  shut_alone w.shared w.shared.head.node p.front p.rest (few_nodes w r) p.sound.shape.queue_chain (ap (λ n. (node_at w.shared n).next.node) (sym p.sound.shape.queue_chain.0) ∙ end),
+  shut_alone w.setup.bits w.shared w.shared.head.node p.front p.rest (few_nodes w r) p.sound.shape.queue_chain (ap (λ n. (node_at w.shared n).next.node) (sym p.sound.shape.queue_chain.0) ∙ end),
 )
 
-shut_last : (w : World) (p : Invariant w) → (node_at w.shared (last_node (p.front ∷ p.rest))).next.node ≡ reserved_node → IsShut w
-shut_last w p end = (p.front ∷ p.rest, p.sound.shape.queue_chain, ap (λ n. nat_eq n reserved_node) end)
+shut_last : (w : World) (p : Invariant w) → (node_at w.shared (last_node (p.front ∷ p.rest))).next.node ≡ reserved_node w.setup.bits → IsShut w
+shut_last w p end = (p.front ∷ p.rest, p.sound.shape.queue_chain, ap (λ n. nat_eq n (reserved_node w.setup.bits)) end ∙ closed_shut w.setup.bits)
 
 module _ (w : World) (r : IsReached w) (p : Invariant w) where
-  unlocked_caused : (now : ℕ) (empty_at : ℕ) (due : Option Reply) (a : Actor) → DecidedUnlocking due → Unlocks (λ k. Unit {0}) w.setup.limit w.shared empty_at due → Caused (Own w) w (unlocked now due a)
+  unlocked_caused : (now : ℕ) (empty_at : ℕ) (due : Option Reply) (a : Actor) → DecidedUnlocking due → Unlocks w.setup.bits (λ k. Unit {0}) w.setup.limit w.shared empty_at due → Caused (Own w) w (unlocked now due a)
   unlocked_caused now empty_at None a h k = absurd h
   unlocked_caused now empty_at (Some Done) a h k = absurd h
   unlocked_caused now empty_at (Some (Value v)) a h k = record { cause = tt }
   unlocked_caused now empty_at (Some Empty) a h k = record { cause = tt }
   unlocked_caused now empty_at (Some (Refused why)) a (inl h) k =
-      record { cause = subst (Why (Own w) w) (sym h) (subst (λ x. Unlocks (λ k. Unit {0}) w.setup.limit w.shared empty_at (Some (Refused x))) h k) }
+      record { cause = subst (Why (Own w) w) (sym h) (subst (λ x. Unlocks w.setup.bits (λ k. Unit {0}) w.setup.limit w.shared empty_at (Some (Refused x))) h k) }
   unlocked_caused now empty_at (Some (Refused why)) a (inr h) k =
-      record { cause = subst (Why (Own w) w) (sym h) (shut_first w r p (subst (λ x. Unlocks (λ k. Unit {0}) w.setup.limit w.shared empty_at (Some (Refused x))) h k)) }
+      record { cause = subst (Why (Own w) w) (sym h) (shut_first w r p (subst (λ x. Unlocks w.setup.bits (λ k. Unit {0}) w.setup.limit w.shared empty_at (Some (Refused x))) h k).1) }
 
-  left_caused : (now : ℕ) (due : Option Reply) (a : Actor) → DecidedLeaving due → Leaves w.shared (last_node (p.front ∷ p.rest)) due → Caused (Own w) w (left now due a)
+  left_caused : (now : ℕ) (due : Option Reply) (a : Actor) → DecidedLeaving due → Leaves w.setup.bits w.shared (last_node (p.front ∷ p.rest)) due → Caused (Own w) w (left now due a)
   left_caused now (Some Done) a h k = record { cause = tt }
   left_caused now (Some (Refused why)) a h k = record { cause = subst (Why (Own w) w) (sym h) (shut_last w p k) }
   left_caused now _ a h k = absurd h
 
-  left_with_node_caused : (now : ℕ) (due : Option Reply) (a : Actor) → DecidedLeaving due → Leaves w.shared (last_node (p.front ∷ p.rest)) due → Caused (Own w) w (left_with_node now due a)
+  left_with_node_caused : (now : ℕ) (due : Option Reply) (a : Actor) → DecidedLeaving due → Leaves w.setup.bits w.shared (last_node (p.front ∷ p.rest)) due → Caused (Own w) w (left_with_node now due a)
   left_with_node_caused now (Some Done) a h k = record { cause = tt }
   left_with_node_caused now (Some (Refused why)) a h k = record { cause = subst (Why (Own w) w) (sym h) (shut_last w p k) }
   left_with_node_caused now _ a h k = absurd h
@@ -121,7 +121,7 @@ module _ (w : World) (r : IsReached w) (p : Invariant w) where
   own_caused now me a B2 f k i = record { cause = tt }
   own_caused now me a B3 f k i =
       either (Caused (Own w) w) (is_null (node_at w.shared a.head.node).next) (λ e. record { cause = tt })
-      (λ e. either (Caused (Own w) w) (is_shut (node_at w.shared a.head.node).next) (λ c. record { cause = tt }) (λ c. record { cause = tt }))
+      (λ e. either (Caused (Own w) w) (is_shut w.setup.bits (node_at w.shared a.head.node).next) (λ c. record { cause = tt }) (λ c. record { cause = tt }))
   own_caused now me a B4 f k i = either (Caused (Own w) w) (nat_eq a.head.count w.setup.limit) (λ e. record { cause = tt }) (λ e. record { cause = tt })
   own_caused now me a B5 f k i = record { cause = tt }
   own_caused now me a B6 f k i = unlocked_caused now a.empty_at a.due a f.earned k

@@ -7,7 +7,7 @@ use Rattle.step_machine.specs.Places.{IsEnd}
 use Rattle.step_machine.specs.Chains.{last_node, queue_in, queue_values}
 use Rattle.step_machine.specs.Completion.{decided_reply}
 use Rattle.step_machine.proofs.Choices.{either, tried}
-use Rattle.step_machine.proofs.Chains.{node_in, next_in, no_end, alone_at_end, shut_alone, empty_behind, last_leads, last_within, last_linked, second_leads}
+use Rattle.step_machine.proofs.Chains.{node_in, next_in, no_end, alone_at_end, shut_alone, closed_shut, empty_behind, last_leads, last_within, last_linked, second_leads}
 use Rattle.step_machine.proofs.Counting.{holds}
 use Rattle.step_machine.proofs.Effects.{written, others_stay}
 use Rattle.step_machine.proofs.Fixed.{push_is_no_pop, shut_is_no_pop, DecidedUnlocking, DecidedLeaving, keeps_after}
@@ -46,15 +46,15 @@ module _ (b : Before two_lock) where
   unlocks (Some (Value v)) t d e = lets_head_go _ t (λ n. refl) refl marked tt (t.owns.0, λ f. omega arith) (stutters refl refl refl refl (inr (λ n. refl)))
   unlocks (Some Empty) t d e =
       lets_head_go _ t (λ n. refl) refl marked tt (t.owns.0, λ f. omega arith)
-      (found_empty refl refl refl refl refl t.fixed.call (ap decided_reply d) (subst (Unlocks Z s.limit m a.empty_at) d t.knows))
+      (found_empty refl refl refl refl refl t.fixed.call (ap decided_reply d) (subst (Unlocks s.bits Z s.limit m a.empty_at) d t.knows))
   unlocks (Some (Refused why)) t d (inl e) =
       lets_head_go _ t (λ n. refl) refl marked tt (t.owns.0, λ f. omega arith) (refused why refl refl refl refl refl (ap leaves e) (ap decided_reply d))
   unlocks (Some (Refused why)) t d (inr e) =
       lets_head_go _ t (λ n. refl) refl marked tt (t.owns.0, λ f. omega arith)
-      (closed refl refl refl refl (ap (λ x. Some (Refused x)) e) (shut_alone m m.head.node front rest few_nodes shape.queue_chain ends) (λ o. ap (λ ys. queue_values m (front ∷ ys)) (alone_at_end m.nodes m.head.node front rest few_nodes shape.queue_chain ends)) (ap decided_reply d))
+      (closed refl refl refl refl (ap (λ x. Some (Refused x)) e) (shut_alone s.bits m m.head.node front rest few_nodes shape.queue_chain ends) (λ o. ap (λ ys. queue_values m (front ∷ ys)) (alone_at_end s.bits m.nodes m.head.node front rest few_nodes shape.queue_chain ends)) (ap decided_reply d))
     where
-      ends : (node_at m front).next.node ≡ reserved_node
-      ends = ap (next_in m.nodes) (sym shape.queue_chain.0) ∙ subst (Unlocks Z s.limit m a.empty_at) (d ∙ ap (λ x. Some (Refused x)) e) t.knows
+      ends : (node_at m front).next.node ≡ reserved_node s.bits
+      ends = ap (next_in m.nodes) (sym shape.queue_chain.0) ∙ (subst (Unlocks s.bits Z s.limit m a.empty_at) (d ∙ ap (λ x. Some (Refused x)) e) t.knows).1
   unlocks _ t d e = absurd e
 
   -- the tail lock is taken
@@ -74,7 +74,7 @@ module _ (b : Before two_lock) where
   lets_tail_go o mine not_head last same none marks over =
       writes_lock (put Tail_lock 0 m) o refl refl refl refl same none
       (λ end you one other. tail_alone m (put Tail_lock 0 m) end end me you mine other (λ e. omega arith) refl refl)
-      (λ f. last) marks (subst (Knows two_lock (Found m (front ∷ rest) now) s (put Tail_lock 0 m) (last_node (front ∷ rest)) o.actor) (sym over) tt)
+      (λ f. last) marks (subst (Knows two_lock (Found s.bits m (front ∷ rest) now) s (put Tail_lock 0 m) (last_node (front ∷ rest)) o.actor) (sym over) tt)
       (subst (OwnsAt (put Tail_lock 0 m) me) (sym over) ((λ f. omega arith), not_head))
 
   -- the call is done, or is refused since the queue is shut
@@ -82,27 +82,27 @@ module _ (b : Before two_lock) where
   leaves_shut (Some Done) t d e = lets_tail_go _ t.owns.0 t.owns.1 t.knows.0 (λ n. refl) refl marked refl (stutters refl refl refl refl (inr (λ n. sym (ap decided_reply d))))
   leaves_shut (Some (Refused why)) t d e =
       lets_tail_go _ t.owns.0 t.owns.1 t.knows.0 (λ n. refl) refl marked refl
-      (closed refl refl refl refl (ap (λ x. Some (Refused x)) e) (ap (λ n. nat_eq n reserved_node) (subst (Leaves m (last_node (front ∷ rest))) d t.knows.1)) (λ o. absurd (shut_is_no_pop a.op t.fixed.call o)) (ap decided_reply d))
+      (closed refl refl refl refl (ap (λ x. Some (Refused x)) e) (ap (λ n. nat_eq n (reserved_node s.bits)) (subst (Leaves s.bits m (last_node (front ∷ rest))) d t.knows.1) ∙ closed_shut s.bits) (λ o. absurd (shut_is_no_pop a.op t.fixed.call o)) (ap decided_reply d))
   leaves_shut _ t d e = absurd e
 
   leaves_push : (due : Option Reply) → AtLine two_lock b A7 → a.due ≡ due → DecidedLeaving due → After two_lock b (put Tail_lock 0 m) (left_with_node now due a)
   leaves_push (Some Done) t d e = lets_tail_go _ t.owns.0 t.owns.1 t.knows.0 (λ n. refl) refl marked refl (stutters refl refl refl refl (inr (λ n. sym (ap decided_reply d))))
   leaves_push (Some (Refused why)) t d e =
       lets_tail_go _ t.owns.0 t.owns.1 t.knows.0 (to_pocket_holds two_lock b in_hand t.fixed.pocket) refl (to_pocket_marks two_lock b in_hand) refl
-      (closed refl refl refl refl (ap (λ x. Some (Refused x)) e) (ap (λ n. nat_eq n reserved_node) (subst (Leaves m (last_node (front ∷ rest))) d t.knows.1)) (λ o. absurd (push_is_no_pop me a.op a.val t.fixed.call o)) (ap decided_reply d))
+      (closed refl refl refl refl (ap (λ x. Some (Refused x)) e) (ap (λ n. nat_eq n (reserved_node s.bits)) (subst (Leaves s.bits m (last_node (front ∷ rest))) d t.knows.1) ∙ closed_shut s.bits) (λ o. absurd (push_is_no_pop me a.op a.val t.fixed.call o)) (ap decided_reply d))
     where
       in_hand : a.holds ≡ true
       in_hand = t.fixed.hand ∙ ap keeps_after d
   leaves_push _ t d e = absurd e
 
   -- what follows the last node, where that is not null without a count, is the closed end
-  ends_closed : same_ref (node_at m (last_node (front ∷ rest))).next null ≡ false → (node_at m (last_node (front ∷ rest))).next.node ≡ reserved_node
-  ends_closed lost = go (last_leads IsEnd m.nodes front rest m.head.node shape.queue_chain)
+  ends_closed : same_ref (node_at m (last_node (front ∷ rest))).next null ≡ false → (node_at m (last_node (front ∷ rest))).next.node ≡ reserved_node s.bits
+  ends_closed lost = go (last_leads (IsEnd s.bits) m.nodes front rest m.head.node shape.queue_chain)
     where
       none : (node_at m (last_node (front ∷ rest))).next.count ≡ 0
-      none = words.no_counts (last_node (front ∷ rest)) (last_within IsEnd m.nodes front rest m.head.node shape.queue_chain).0
+      none = words.no_counts (last_node (front ∷ rest)) (last_within (IsEnd s.bits) m.nodes front rest m.head.node shape.queue_chain).0
 
-      go : IsEnd (node_at m (last_node (front ∷ rest))).next.node → (node_at m (last_node (front ∷ rest))).next.node ≡ reserved_node
+      go : IsEnd s.bits (node_at m (last_node (front ∷ rest))).next.node → (node_at m (last_node (front ∷ rest))).next.node ≡ reserved_node s.bits
       go (inl zero) = absurd (true≢false (sym (ap (λ (r : Ref). same_ref r null) (equal_refs (node_at m (last_node (front ∷ rest))).next null zero none)) ∙ lost))
       go (inr end) = end
 
@@ -116,7 +116,7 @@ module _ (b : Before two_lock) where
 
   -- the last node is one of the nodes
   last_low : (k : ℕ) → k ≡ last_node (front ∷ rest) → (1 ≤ k) × (k ≤ length m.nodes)
-  last_low k at = subst (λ j. (1 ≤ j) × (j ≤ length m.nodes)) (sym at) (last_within IsEnd m.nodes front rest m.head.node shape.queue_chain)
+  last_low k at = subst (λ j. (1 ≤ j) × (j ≤ length m.nodes)) (sym at) (last_within (IsEnd s.bits) m.nodes front rest m.head.node shape.queue_chain)
 
   pub does : (l : Line) → IsOwnOf (section_of l) TwoLock → AtLine two_lock b l → After two_lock b (performed (action s me a l) m) (outcome s now me a l (found (action s me a l) m))
   does A1 r t =
@@ -173,7 +173,7 @@ module _ (b : Before two_lock) where
   does A6 r t =
       writes_lock (put Tail (ref a.node 0) m) _ refl refl refl refl (λ n. refl) refl
       (λ last you one other. tail_alone m (put Tail (ref a.node 0) m) last last me you t.owns.0 other (λ e. other (sym e ∙ t.owns.0)) refl refl)
-      (λ f. t.knows) marked (t.knows, subst (Leaves m (last_node (front ∷ rest))) (sym t.fixed.earned) tt) t.owns (stutters refl refl refl refl (inr (λ n. refl)))
+      (λ f. t.knows) marked (t.knows, subst (Leaves s.bits m (last_node (front ∷ rest))) (sym t.fixed.earned) tt) t.owns (stutters refl refl refl refl (inr (λ n. refl)))
   does A7 r t = leaves_push a.due t refl t.fixed.earned
   does B1 r t =
       tried (After two_lock b) (nat_eq m.head_lock 0)
@@ -191,15 +191,18 @@ module _ (b : Before two_lock) where
   does B3 r t =
       either (After two_lock b m) (is_null (node_at m a.head.node).next)
       (λ e. on two_lock b _ (ap decided_reply t.fixed.earned) refl (λ n. refl) refl marked (none e, refl) t.owns)
-      (λ e. either (After two_lock b m) (is_shut (node_at m a.head.node).next)
-      (λ c. on two_lock b _ (ap decided_reply t.fixed.earned) refl (λ n. refl) refl marked (ap (λ (r : Ref). (node_at m r.node).next.node) t.knows ∙ eqb-true (node_at m a.head.node).next.node reserved_node c) t.owns)
+      (λ e. either (After two_lock b m) (is_shut s.bits (node_at m a.head.node).next)
+      (λ c. on two_lock b _ (ap decided_reply t.fixed.earned) refl (λ n. refl) refl marked (omega (arith, few_nodes, closed c), closed c) t.owns)
       (λ c. on two_lock b _ (ap decided_reply t.fixed.earned) refl (λ n. refl) refl marked (t.knows, refl) t.owns))
     where
       at : front ≡ a.head.node
       at = sym shape.queue_chain.0 ∙ ap (λ (r : Ref). r.node) t.knows
 
-      none : is_null (node_at m a.head.node).next ≡ true → queue_in m (front ∷ rest) ≡ empty
-      none e = empty_behind m front rest shape.queue_chain (ap (next_in m.nodes) at ∙ eqb-true (node_at m a.head.node).next.node 0 e)
+      closed : is_shut s.bits (node_at m a.head.node).next ≡ true → (node_at m m.head.node).next.node ≡ reserved_node s.bits
+      closed c = ap (λ (r : Ref). (node_at m r.node).next.node) t.knows ∙ eqb-true (node_at m a.head.node).next.node (reserved_node s.bits) c
+
+      none : is_null (node_at m a.head.node).next ≡ true → queue_in s.bits m (front ∷ rest) ≡ empty
+      none e = empty_behind s.bits m front rest few_nodes shape.queue_chain (ap (next_in m.nodes) at ∙ eqb-true (node_at m a.head.node).next.node 0 e)
   does B4 r t =
       either (After two_lock b m) (nat_eq a.head.count s.limit)
       (λ e. on two_lock b _ (ap decided_reply t.fixed.earned) refl (λ n. refl) refl marked (ap (λ (r : Ref). r.count) t.knows.0 ∙ eqb-true a.head.count s.limit e) t.owns)
@@ -232,7 +235,7 @@ module _ (b : Before two_lock) where
       at = sym shape.queue_chain.0 ∙ ap (λ (r : Ref). r.node) t.knows.0
 
       second : (ns : List ℕ) × (rest ≡ a.next.node ∷ ns)
-      second = second_leads IsEnd m.nodes m.head.node front a.next.node rest shape.queue_chain (ap (next_in m.nodes) at ∙ ap (λ (r : Ref). r.node) t.knows.1) (no_end a.next.node t.nodes.1 t.nodes.2)
+      second = second_leads (IsEnd s.bits) m.nodes m.head.node front a.next.node rest shape.queue_chain (ap (next_in m.nodes) at ∙ ap (λ (r : Ref). r.node) t.knows.1) (no_end s.bits a.next.node t.nodes.1 t.nodes.2)
   does B6 r t = unlocks a.due t refl t.fixed.earned
   does S6 r t =
       tried (After two_lock b) (nat_eq m.tail_lock 0)
@@ -242,18 +245,18 @@ module _ (b : Before two_lock) where
   does S8 r t =
       tried (After two_lock b) (same_ref (node_at m a.tail.node).next null)
       (λ i.
-      shuts two_lock b a.tail.node (shut_ref 0) _
+      shuts two_lock b a.tail.node (shut_ref s.bits 0) _
       (record {
         last = last;
         unlinked = ap (λ (r : Ref). r.node) (same_ref-true (node_at m a.tail.node).next null i);
         closes = refl;
         same = λ n. refl;
         no_aside = refl;
-        relies = λ you one other. tail_alone m (put (Next a.tail.node) (shut_ref 0) m) _ _ me you t.owns.0 other (λ e. other (sym e ∙ t.owns.0)) refl refl;
+        relies = λ you one other. tail_alone m (put (Next a.tail.node) (shut_ref s.bits 0) m) _ _ me you t.owns.0 other (λ e. other (sym e ∙ t.owns.0)) refl refl;
         words_then =
             record {
               tail_last = words.tail_last;
-              no_counts = still_none a.tail.node (shut_ref 0) (last_low a.tail.node last).0 (last_low a.tail.node last).1 refl;
+              no_counts = still_none a.tail.node (shut_ref s.bits 0) (last_low a.tail.node last).0 (last_low a.tail.node last).1 refl;
             };
         keeps_marks = λ h. record { hand = h.hand; pocket = h.pocket };
         knows = (t.knows.0, tt);

@@ -1,5 +1,5 @@
 -- What the machine cites of the crates below it, in one place.
-pub use Rattle.counted_ref.specs.Ref.{Ref, null, shut_ref, is_shut, IsRef, reserved_node, count_bits, count_mask, ref_word, ref, is_null, same_ref}
+pub use Rattle.counted_ref.specs.Ref.{Ref, null, shut_ref, is_shut, IsSplit, IsRef, reserved_node, count_bits, count_mask, ref_word, ref, is_null, same_ref}
 pub use Rattle.line_table.specs.declared.lines.Kind.{Kind}
 pub use Rattle.line_table.specs.declared.lines.Kind.TheVariants.{NonBlocking, TwoLock}
 pub use Rattle.line_table.specs.declared.lines.Line.{Line}
@@ -23,9 +23,9 @@ pub use Rattle.history.specs.Queue.{empty, Queue, response, front_of}
 pub use Rattle.history.specs.Entries.{is_push, is_pop, Plays}
 pub use Rattle.history.specs.History.{by_point, IsSequentialRun, queue_after, IsPlaced, leaves, inserted, Placement, IsLegal, point_or_zero, answer, AgreesWithQueue, AreApart}
 pub use Rattle.line_steps.specs.declared.actors.Setup.{Setup}
-pub use Rattle.line_steps.specs.declared.actors.Node.{Node}
+pub use Rattle.line_steps.specs.Actors.{Node}
 pub use Rattle.line_steps.specs.declared.actors.Held.{Held}
-pub use Rattle.line_steps.specs.declared.actors.Actor.{Actor}
+pub use Rattle.line_steps.specs.Actors.{Actor}
 pub use Rattle.line_steps.specs.declared.actors.Told.{Told}
 pub use Rattle.line_steps.specs.Outcomes.{Outcome, settled, with_told}
 pub use Rattle.line_steps.specs.Steps.{memory_after}

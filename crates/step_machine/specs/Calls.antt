@@ -10,11 +10,11 @@ use Rattle.step_machine.specs.Machine.{World, IsSized, actor_of}
 -- some size of a machine is out of its range
 abbrev pub IsUnsized : Setup → (actors : ℕ) → Type 0
 IsUnsized s actors =
-    ((s.size < 2) ⊎ (reserved_node ≤ s.size)) ⊎ ((s.limit < 1) ⊎ (2 ^ count_bits ≤ s.limit)) ⊎ ((actors < 1) ⊎ (2 ^ actor_bits ≤ actors))
+    ((s.size < 2) ⊎ (reserved_node s.bits ≤ s.size)) ⊎ ((s.limit < 1) ⊎ (2 ^ count_bits s.bits ≤ s.limit)) ⊎ ((actors < 1) ⊎ (2 ^ actor_bits ≤ actors))
 
 -- the setup of a machine, by its parts
-abbrev pub setup_from : Kind → (nodes limit : ℕ) → Setup
-setup_from kind nodes limit = record { kind = kind; size = nodes; limit = limit }
+abbrev pub setup_from : (bits : ℕ) → Kind → (nodes limit : ℕ) → Setup
+setup_from bits kind nodes limit = record { kind = kind; bits = bits; size = nodes; limit = limit }
 
 -- a new world is refused for this cause: a size is out of its range, or memory was refused where all are in theirs
 abbrev pub NewRefused : Setup → (actors : ℕ) → Refusal → Type 0

@@ -19,9 +19,9 @@ queue_values m [] = []
 queue_values m (dummy ∷ ns) = values_of m ns
 
 -- whether a queue's chain ends at the closed end
-abbrev pub is_shut_chain : Shared → List ℕ → Bool
-is_shut_chain m queue = nat_eq (node_at m (last_node queue)).next.node reserved_node
+abbrev pub is_shut_chain : (bits : ℕ) → Shared → List ℕ → Bool
+is_shut_chain bits m queue = nat_eq (node_at m (last_node queue)).next.node (reserved_node bits)
 
 -- the queue that a chain holds
-abbrev pub queue_in : Shared → List ℕ → Queue
-queue_in m queue = record { values = queue_values m queue; shut = is_shut_chain m queue }
+abbrev pub queue_in : (bits : ℕ) → Shared → List ℕ → Queue
+queue_in bits m queue = record { values = queue_values m queue; shut = is_shut_chain bits m queue }

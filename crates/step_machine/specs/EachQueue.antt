@@ -42,7 +42,7 @@ IsWornOut w OfHead = w.shared.head.count ≡ w.setup.limit
 
 -- the queue is shut: its chain ends at the closed end
 abbrev pub IsShut : World → Type 0
-IsShut w = (queue : List ℕ) × IsQueueChain w.shared.nodes w.shared.head.node queue × (is_shut_chain w.shared queue ≡ true)
+IsShut w = (queue : List ℕ) × IsQueueChain w.setup.bits w.shared.nodes w.shared.head.node queue × (is_shut_chain w.setup.bits w.shared queue ≡ true)
 
 -- a world has the cause for a step to refuse: all nodes are used and none is free, the word is worn out, or the queue is shut
 abbrev pub HasCause : World → Refusal → Type 0
@@ -66,8 +66,8 @@ RefusesWithCause w =
 -- earned, and the queue then is the one that the chain from Head holds
 abbrev pub ReplaysToItsValues : World → Type 0
 ReplaysToItsValues w =
-    (queue : List ℕ) → IsQueueChain w.shared.nodes w.shared.head.node queue →
-    IsSequentialRun empty (by_point (completion w)) × (queue_after empty (by_point (completion w)) ≡ queue_in w.shared queue)
+    (queue : List ℕ) → IsQueueChain w.setup.bits w.shared.nodes w.shared.head.node queue →
+    IsSequentialRun empty (by_point (completion w)) × (queue_after empty (by_point (completion w)) ≡ queue_in w.setup.bits w.shared queue)
 
 -- Head's count is the number of values taken, those of calls under way too
 abbrev pub CountsValuesTaken : World → Type 0

@@ -30,7 +30,7 @@ entries w = flat_map entry_of (by_point (completion w))
 -- the entries lead from the empty queue to the one that the chain from Head holds
 abbrev pub PlaysToItsValues : World → Type 0
 PlaysToItsValues w =
-    (queue : List ℕ) → IsQueueChain w.shared.nodes w.shared.head.node queue → Plays empty (entries w) (queue_in w.shared queue)
+    (queue : List ℕ) → IsQueueChain w.setup.bits w.shared.nodes w.shared.head.node queue → Plays empty (entries w) (queue_in w.setup.bits w.shared queue)
 
 -- the pops are at most as many as the greatest count, and the pushes fewer than the pops and the nodes together
 abbrev pub AreFew : World → Type 0

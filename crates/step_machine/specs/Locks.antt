@@ -8,7 +8,7 @@ use Rattle.history.specs.declared.refusals.WornWord.TheVariants.{Next as OfNext,
 use Rattle.history.specs.declared.refusals.Refusal.TheVariants.{WornOut}
 use Rattle.history.specs.declared.operations.Reply.{Reply}
 use Rattle.history.specs.declared.operations.Reply.TheVariants.{Refused}
-use Rattle.line_steps.specs.declared.actors.Actor.{Actor}
+use Rattle.line_steps.specs.Actors.{Actor}
 use Rattle.line_steps.specs.Memory.{Tail, word, node_at, found}
 use Rattle.line_steps.specs.Lines.{action, outcome}
 use Rattle.step_machine.specs.Machine.{World, actor_of}
@@ -73,7 +73,7 @@ RefusedForFreeOrHead w = All (λ o. IsOfFreeOrHead o.reply) w.operations
 abbrev pub TakesTheFrontAtB5 : World → Type 0
 TakesTheFrontAtB5 w =
     (me : ℕ) (a : Actor) (queue : List ℕ) → actor_of w me ≡ Some a → a.line ≡ Some B5 →
-    IsQueueChain w.shared.nodes w.shared.head.node queue → HasTheFront w.shared queue a
+    IsQueueChain w.setup.bits w.shared.nodes w.shared.head.node queue → HasTheFront w.shared queue a
 
 -- the mark of a node in a pocket is the count of the node's `next`
 abbrev pub MarksAreCounts : World → Type 0

@@ -1,6 +1,6 @@
 -- The machine: worlds, their moves, and what a list of moves leads to.
 use Rattle.std.specs.Prelude.{◌≡◌, ℕ, ◌+◌, ◌-◌, ◌^◌, ◌<◌, ◌≤◌, Bool, List, [], ◌∷◌, ◌++◌, length, map, replicate, Option, Some, None, slice_get, slice_index_or, slice_set, nat_eq, if◌then◌else◌, true, false}
-use Rattle.step_machine.specs.Below.{reserved_node, count_bits, actor_bits, null, Line, E2, A1, Op, Deq, Stamped, Setup, Actor, Outcome, nobody, Shared, found, performed, action, outcome, gives_up, to_pocket, is_call, begun, first_words, aside_after}
+use Rattle.step_machine.specs.Below.{IsSplit, reserved_node, count_bits, actor_bits, null, Line, E2, A1, Op, Deq, Stamped, Setup, Actor, Outcome, nobody, Shared, found, performed, action, outcome, gives_up, to_pocket, is_call, begun, first_words, aside_after}
 pub use Rattle.line_steps.specs.Outcomes.{last_of, latest_point, with_outcome}
 use Rattle.step_machine.specs.declared.actors.Move.{Move}
 use Rattle.step_machine.specs.declared.actors.Move.TheVariants.{Begin, Step, Give}
@@ -167,10 +167,11 @@ run (m ∷ ms) w = run_on (run ms) (next_any w m)
 
 -- the sizes of a machine are in their ranges
 pub record IsSized (s : Setup) (actors : ℕ) : Type 0 where
+  pub split : IsSplit s.bits
   pub nodes : 2 ≤ s.size
-  pub numbered : s.size < reserved_node
+  pub numbered : s.size < reserved_node s.bits
   pub counts : 1 ≤ s.limit
-  pub counted : s.limit < 2 ^ count_bits
+  pub counted : s.limit < 2 ^ count_bits s.bits
   pub some_actors : 1 ≤ actors
   pub few_actors : actors < 2 ^ actor_bits
 

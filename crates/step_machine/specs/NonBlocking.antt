@@ -13,7 +13,7 @@ OfNonBlockingWorlds P = (w : World) → IsReached w → w.setup.kind ≡ NonBloc
 -- a world's chain from Head has Tail's node as its last or last but one, and Tail's count is Head's and one more for
 -- each node before it
 abbrev pub TailLagsByOne : World → Type 0
-TailLagsByOne w = (queue : List ℕ) → IsQueueChain w.shared.nodes w.shared.head.node queue → TailLags w.shared queue
+TailLagsByOne w = (queue : List ℕ) → IsQueueChain w.setup.bits w.shared.nodes w.shared.head.node queue → TailLags w.shared queue
 
 -- Tail's count is at least Head's, and Tail is Head where the counts are the same
 abbrev pub TailIsNotBehindHead : World → Type 0
@@ -48,4 +48,4 @@ pub record HasTheFront (m : Shared) (queue : List ℕ) (a : Actor) : Type 0 wher
 abbrev pub TakesTheFront : World → Type 0
 TakesTheFront w =
     (me : ℕ) (a : Actor) (queue : List ℕ) → actor_of w me ≡ Some a → a.line ≡ Some D13 → w.shared.head ≡ a.head →
-    IsQueueChain w.shared.nodes w.shared.head.node queue → HasTheFront w.shared queue a
+    IsQueueChain w.setup.bits w.shared.nodes w.shared.head.node queue → HasTheFront w.shared queue a

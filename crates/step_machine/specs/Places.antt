@@ -8,8 +8,8 @@ abbrev pub IsNull : ℕ → Type 0
 IsNull n = n ≡ 0
 
 -- a number is null, or the closed end, which no node has
-abbrev pub IsEnd : ℕ → Type 0
-IsEnd n = (n ≡ 0) ⊎ (n ≡ reserved_node)
+abbrev pub IsEnd : (bits : ℕ) → ℕ → Type 0
+IsEnd bits n = (n ≡ 0) ⊎ (n ≡ reserved_node bits)
 
 -- these nodes, each the `next` of the one before, lead from a node number to one where a chain may end
 abbrev pub IsChainBy : (End : ℕ → Type 0) → List Node → ℕ → List ℕ → Type 0
@@ -22,8 +22,8 @@ abbrev pub IsChain : List Node → ℕ → List ℕ → Type 0
 IsChain nodes n ks = IsChainBy IsNull nodes n ks
 
 -- these nodes lead from a node number to null or to the closed end: those of the queue do
-abbrev pub IsQueueChain : List Node → ℕ → List ℕ → Type 0
-IsQueueChain nodes n ks = IsChainBy IsEnd nodes n ks
+abbrev pub IsQueueChain : (bits : ℕ) → List Node → ℕ → List ℕ → Type 0
+IsQueueChain bits nodes n ks = IsChainBy (IsEnd bits) nodes n ks
 
 -- 1 for yes, 0 for no
 abbrev pub one_if : Bool → ℕ
@@ -59,7 +59,7 @@ IsUntouched w n = w.shared.fresh < n
 
 -- a node of the chain from Head, the dummy first
 abbrev pub IsQueued : World → ℕ → Type 0
-IsQueued w n = (ns : List ℕ) × IsQueueChain w.shared.nodes w.shared.head.node ns × Contains ns n
+IsQueued w n = (ns : List ℕ) × IsQueueChain w.setup.bits w.shared.nodes w.shared.head.node ns × Contains ns n
 
 -- a node of the chain from Free
 abbrev pub IsFree : World → ℕ → Type 0
@@ -76,7 +76,7 @@ IsSetAside w n = set_aside n w.aside ≡ 1
 -- each node up to Fresh is in exactly one of four places, in the queue, in the free chain, held or set aside, and
 -- there once; one above it is untouched and in none of them
 pub record Places (w : World) (queue free : List ℕ) : Type 0 where
-  pub queue_chain : IsQueueChain w.shared.nodes w.shared.head.node queue
+  pub queue_chain : IsQueueChain w.setup.bits w.shared.nodes w.shared.head.node queue
   pub free_chain : IsChain w.shared.nodes w.shared.free.node free
   pub touched : (n : ℕ) → 1 ≤ n → n ≤ w.shared.fresh → times n queue + times n free + held n w.actors + set_aside n w.aside ≡ 1
   pub untouched : (n : ℕ) → w.shared.fresh < n → times n queue + times n free + held n w.actors + set_aside n w.aside ≡ 0

@@ -1,6 +1,6 @@
 -- What a query of a node's place says.
 use Rattle.std.specs.Prelude.{◌≡◌, ℕ, ◌≤◌, Bool, true, false, List, length}
-use Rattle.line_steps.specs.declared.actors.Node.{Node}
+use Rattle.line_steps.specs.Actors.{Node}
 use Rattle.step_machine.specs.declared.places.Place.{Place}
 use Rattle.step_machine.specs.declared.places.Place.TheVariants.{Untouched, Queue, Free, Held, SetAside}
 use Rattle.step_machine.specs.Machine.{World}
@@ -19,6 +19,6 @@ abbrev pub TellsWhetherThere : Bool → ℕ → Type 0
 TellsWhetherThere is_there often = (is_there ≡ true → 1 ≤ often) × (is_there ≡ false → often ≡ 0)
 
 -- whether a node is in the queue's chain from another one is told, if that has no more nodes than these
-abbrev pub TellsOfChain : Bool → List Node → (from node most : ℕ) → Type 0
-TellsOfChain is_there nodes from node most =
-    (ns : List ℕ) → IsQueueChain nodes from ns → length ns ≤ most → TellsWhetherThere is_there (times node ns)
+abbrev pub TellsOfChain : (bits : ℕ) → Bool → List Node → (from node most : ℕ) → Type 0
+TellsOfChain bits is_there nodes from node most =
+    (ns : List ℕ) → IsQueueChain bits nodes from ns → length ns ≤ most → TellsWhetherThere is_there (times node ns)

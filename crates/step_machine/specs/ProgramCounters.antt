@@ -35,61 +35,61 @@ HasNodeAfter (Some (Refused why)) node = 1 ≤ node
 HasNodeAfter _ node = Unit {0}
 
 -- the registers that hold nodes before a line, and not null
-abbrev pub NonNullAt : Line → Actor → Type 0
-NonNullAt N1 a = Unit {0}
-NonNullAt N2 a = Unit {0}
-NonNullAt N3 a = 1 ≤ a.top.node
-NonNullAt N4 a = 1 ≤ a.top.node
-NonNullAt N5 a = Unit {0}
-NonNullAt F1 a = 1 ≤ a.node
-NonNullAt F2 a = 1 ≤ a.node
-NonNullAt F3 a = 1 ≤ a.node
-NonNullAt E2 a = 1 ≤ a.node
-NonNullAt E3 a = 1 ≤ a.node
-NonNullAt E5 a = 1 ≤ a.node
-NonNullAt E6 a = (1 ≤ a.node) × (1 ≤ a.tail.node)
-NonNullAt E7 a = (1 ≤ a.node) × (1 ≤ a.tail.node)
-NonNullAt E9 a = (1 ≤ a.node) × (1 ≤ a.tail.node)
-NonNullAt E13 a = (1 ≤ a.node) × (1 ≤ a.tail.node) × (1 ≤ a.next.node) × (a.next.node ≢ reserved_node)
-NonNullAt E17 a = (1 ≤ a.node) × (1 ≤ a.tail.node)
-NonNullAt D2 a = Unit {0}
-NonNullAt D3 a = 1 ≤ a.head.node
-NonNullAt D4 a = (1 ≤ a.head.node) × (1 ≤ a.tail.node)
-NonNullAt D5 a = (1 ≤ a.head.node) × (1 ≤ a.tail.node)
-NonNullAt D10 a = (1 ≤ a.tail.node) × (1 ≤ a.next.node) × (a.next.node ≢ reserved_node)
-NonNullAt D12 a = (1 ≤ a.head.node) × (1 ≤ a.next.node) × (a.next.node ≢ reserved_node)
-NonNullAt D13 a = (1 ≤ a.head.node) × (1 ≤ a.next.node) × (a.next.node ≢ reserved_node)
-NonNullAt A1 a = 1 ≤ a.node
-NonNullAt A2 a = 1 ≤ a.node
-NonNullAt A3 a = 1 ≤ a.node
-NonNullAt A4 a = 1 ≤ a.node
-NonNullAt A5 a = (1 ≤ a.node) × (1 ≤ a.tail.node)
-NonNullAt A6 a = 1 ≤ a.node
-NonNullAt A7 a = HasNodeAfter a.due a.node
-NonNullAt B1 a = Unit {0}
-NonNullAt B2 a = Unit {0}
-NonNullAt B3 a = 1 ≤ a.head.node
-NonNullAt B4 a = (1 ≤ a.head.node) × (1 ≤ a.next.node) × (a.next.node ≢ reserved_node)
-NonNullAt B5 a = (1 ≤ a.head.node) × (1 ≤ a.next.node) × (a.next.node ≢ reserved_node)
-NonNullAt B6 a = HasNodeToFree a.due a.node
-NonNullAt S1 a = Unit {0}
-NonNullAt S2 a = 1 ≤ a.tail.node
-NonNullAt S3 a = 1 ≤ a.tail.node
-NonNullAt S4 a = 1 ≤ a.tail.node
-NonNullAt S5 a = (1 ≤ a.tail.node) × (1 ≤ a.next.node) × (a.next.node ≢ reserved_node)
-NonNullAt S6 a = Unit {0}
-NonNullAt S7 a = Unit {0}
-NonNullAt S8 a = 1 ≤ a.tail.node
-NonNullAt S9 a = Unit {0}
+abbrev pub NonNullAt : (bits : ℕ) → Line → Actor → Type 0
+NonNullAt bits N1 a = Unit {0}
+NonNullAt bits N2 a = Unit {0}
+NonNullAt bits N3 a = 1 ≤ a.top.node
+NonNullAt bits N4 a = 1 ≤ a.top.node
+NonNullAt bits N5 a = Unit {0}
+NonNullAt bits F1 a = 1 ≤ a.node
+NonNullAt bits F2 a = 1 ≤ a.node
+NonNullAt bits F3 a = 1 ≤ a.node
+NonNullAt bits E2 a = 1 ≤ a.node
+NonNullAt bits E3 a = 1 ≤ a.node
+NonNullAt bits E5 a = 1 ≤ a.node
+NonNullAt bits E6 a = (1 ≤ a.node) × (1 ≤ a.tail.node)
+NonNullAt bits E7 a = (1 ≤ a.node) × (1 ≤ a.tail.node)
+NonNullAt bits E9 a = (1 ≤ a.node) × (1 ≤ a.tail.node)
+NonNullAt bits E13 a = (1 ≤ a.node) × (1 ≤ a.tail.node) × (1 ≤ a.next.node) × (a.next.node ≢ reserved_node bits)
+NonNullAt bits E17 a = (1 ≤ a.node) × (1 ≤ a.tail.node)
+NonNullAt bits D2 a = Unit {0}
+NonNullAt bits D3 a = 1 ≤ a.head.node
+NonNullAt bits D4 a = (1 ≤ a.head.node) × (1 ≤ a.tail.node)
+NonNullAt bits D5 a = (1 ≤ a.head.node) × (1 ≤ a.tail.node)
+NonNullAt bits D10 a = (1 ≤ a.tail.node) × (1 ≤ a.next.node) × (a.next.node ≢ reserved_node bits)
+NonNullAt bits D12 a = (1 ≤ a.head.node) × (1 ≤ a.next.node) × (a.next.node ≢ reserved_node bits)
+NonNullAt bits D13 a = (1 ≤ a.head.node) × (1 ≤ a.next.node) × (a.next.node ≢ reserved_node bits)
+NonNullAt bits A1 a = 1 ≤ a.node
+NonNullAt bits A2 a = 1 ≤ a.node
+NonNullAt bits A3 a = 1 ≤ a.node
+NonNullAt bits A4 a = 1 ≤ a.node
+NonNullAt bits A5 a = (1 ≤ a.node) × (1 ≤ a.tail.node)
+NonNullAt bits A6 a = 1 ≤ a.node
+NonNullAt bits A7 a = HasNodeAfter a.due a.node
+NonNullAt bits B1 a = Unit {0}
+NonNullAt bits B2 a = Unit {0}
+NonNullAt bits B3 a = 1 ≤ a.head.node
+NonNullAt bits B4 a = (1 ≤ a.head.node) × (1 ≤ a.next.node) × (a.next.node ≢ reserved_node bits)
+NonNullAt bits B5 a = (1 ≤ a.head.node) × (1 ≤ a.next.node) × (a.next.node ≢ reserved_node bits)
+NonNullAt bits B6 a = HasNodeToFree a.due a.node
+NonNullAt bits S1 a = Unit {0}
+NonNullAt bits S2 a = 1 ≤ a.tail.node
+NonNullAt bits S3 a = 1 ≤ a.tail.node
+NonNullAt bits S4 a = 1 ≤ a.tail.node
+NonNullAt bits S5 a = (1 ≤ a.tail.node) × (1 ≤ a.next.node) × (a.next.node ≢ reserved_node bits)
+NonNullAt bits S6 a = Unit {0}
+NonNullAt bits S7 a = Unit {0}
+NonNullAt bits S8 a = 1 ≤ a.tail.node
+NonNullAt bits S9 a = Unit {0}
 
 -- an actor's next line is one of its queue, and the registers that it uses as nodes hold nodes
-abbrev pub IsAtLine : Kind → Actor → Option Line → Type 0
-IsAtLine kind a None = Unit {0}
-IsAtLine kind a (Some l) = IsRunBy (section_of l) kind × NonNullAt l a
+abbrev pub IsAtLine : (bits : ℕ) → Kind → Actor → Option Line → Type 0
+IsAtLine bits kind a None = Unit {0}
+IsAtLine bits kind a (Some l) = IsRunBy (section_of l) kind × NonNullAt bits l a
 
 -- an actor's pocket is empty or has a node, and it stands at its line
-abbrev pub PcIsValid : Kind → Actor → Type 0
-PcIsValid kind a = record { pocket : IfSome a.pocket (λ held. 1 ≤ held.node); line : IsAtLine kind a a.line }
+abbrev pub PcIsValid : (bits : ℕ) → Kind → Actor → Type 0
+PcIsValid bits kind a = record { pocket : IfSome a.pocket (λ held. 1 ≤ held.node); line : IsAtLine bits kind a a.line }
 
 -- each actor that has a call stands before a line of its queue
 abbrev pub EachRunsItsQueue : World → Type 0
@@ -102,4 +102,4 @@ EachNamesAWord w = OfEachNextAccess w (λ a. IsWord w.shared (word a))
 
 -- the next access of each actor is one atomic step on the place of its word
 abbrev pub EachIsOneStep : World → Type 0
-EachIsOneStep w = OfEachNextAccess w (IsOneStep w.shared)
+EachIsOneStep w = OfEachNextAccess w (IsOneStep w.setup.bits w.shared)

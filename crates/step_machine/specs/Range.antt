@@ -10,8 +10,8 @@ pub record RefInRange (limit fresh : ℕ) (r : Ref) : Type 0 where
   pub count : r.count ≤ limit
 
 -- the same of a `next`, which may also be a closed end
-pub record NextInRange (limit fresh : ℕ) (r : Ref) : Type 0 where
-  pub node : (r.node ≤ fresh) ⊎ (r.node ≡ reserved_node)
+pub record NextInRange (bits limit fresh : ℕ) (r : Ref) : Type 0 where
+  pub node : (r.node ≤ fresh) ⊎ (r.node ≡ reserved_node bits)
   pub count : r.count ≤ limit
 
 -- a value is of one of the actors or of nobody, and its body is below 2^48
@@ -20,8 +20,8 @@ pub record ValueInRange (actors : ℕ) (v : Taken) : Type 0 where
   pub body : v.body < 2 ^ body_bits
 
 -- a node's reference and its value are in range
-pub record NodeInRange (limit fresh actors : ℕ) (n : Node) : Type 0 where
-  pub next : NextInRange limit fresh n.next
+pub record NodeInRange (bits limit fresh actors : ℕ) (n : Node) : Type 0 where
+  pub next : NextInRange bits limit fresh n.next
   pub value : ValueInRange actors n.value
 
 -- the shared words are in range: each of the nodes up to Fresh is there, and no word names another one
@@ -33,7 +33,7 @@ pub record SharedInRange (s : Setup) (actors : ℕ) (m : Shared) : Type 0 where
   pub tail : RefInRange s.limit m.fresh m.tail
   pub tail_lock : m.tail_lock ≤ actors
   pub head_lock : m.head_lock ≤ actors
-  pub nodes : All (NodeInRange s.limit m.fresh actors) m.nodes
+  pub nodes : All (NodeInRange s.bits s.limit m.fresh actors) m.nodes
   pub all_nodes : length m.nodes ≡ s.size
 
 -- a call is in range: a body is below 2^48
@@ -58,7 +58,7 @@ RegistersInRange s fresh actors a =
       mark : a.mark ≤ s.limit;
       tail : RefInRange s.limit fresh a.tail;
       head : RefInRange s.limit fresh a.head;
-      next : NextInRange s.limit fresh a.next;
+      next : NextInRange s.bits s.limit fresh a.next;
       val : ValueInRange actors a.val;
     }
 

@@ -26,11 +26,11 @@ table_after (and_at p mask) ws = slice_set ws p (bit_and (slice_index_or ws p 0)
 table_after (exchange_at p old new) ws = if nat_eq (slice_index_or ws p 0) old then slice_set ws p new else ws
 
 -- the step of an access
-abbrev pub word_step : Action → WordStep
-word_step (load x) = load_at (index x)
-word_step (store x c) = store_at (index x) (encoded x c)
-word_step (clear n) = and_at (index (Next n)) count_mask
-word_step (exchange x old new) = exchange_at (index x) (encoded x old) (encoded x new)
+abbrev pub word_step : (bits : ℕ) → Action → WordStep
+word_step bits (load x) = load_at (index x)
+word_step bits (store x c) = store_at (index x) (encoded bits x c)
+word_step bits (clear n) = and_at (index (Next n)) (count_mask bits)
+word_step bits (exchange x old new) = exchange_at (index x) (encoded bits x old) (encoded bits x new)
 
 -- a value fits a word: its actor 16 bits, its body 48
 pub record ValueFits (v : Taken) : Type 0 where
@@ -38,44 +38,44 @@ pub record ValueFits (v : Taken) : Type 0 where
   pub body : v.body < 2 ^ body_bits
 
 -- a content fits a word of 64 bits
-abbrev pub ContentFits : (x : Word) → Content x → Type 0
-ContentFits Fresh n = n < 2 ^ 64
-ContentFits Free r = IsRef r
-ContentFits Head r = IsRef r
-ContentFits Tail r = IsRef r
-ContentFits Tail_lock n = n < 2 ^ 64
-ContentFits Head_lock n = n < 2 ^ 64
-ContentFits (Next n) r = IsRef r
-ContentFits (Value_of n) v = ValueFits v
+abbrev pub ContentFits : (bits : ℕ) → (x : Word) → Content x → Type 0
+ContentFits bits Fresh n = n < 2 ^ 64
+ContentFits bits Free r = IsRef bits r
+ContentFits bits Head r = IsRef bits r
+ContentFits bits Tail r = IsRef bits r
+ContentFits bits Tail_lock n = n < 2 ^ 64
+ContentFits bits Head_lock n = n < 2 ^ 64
+ContentFits bits (Next n) r = IsRef bits r
+ContentFits bits (Value_of n) v = ValueFits v
 
 -- each content of the shared words fits its word
-abbrev pub SharedFits : Shared → Type 0
-SharedFits s = (x : Word) → ContentFits x (content x s)
+abbrev pub SharedFits : (bits : ℕ) → Shared → Type 0
+SharedFits bits s = (x : Word) → ContentFits bits x (content x s)
 
 -- what an access compares and writes fits the word that it names
-abbrev pub ActionFits : Action → Type 0
-ActionFits (load x) = Unit {0}
-ActionFits (store x c) = ContentFits x c
-ActionFits (clear n) = Unit {0}
-ActionFits (exchange x old new) = ContentFits x old × ContentFits x new
+abbrev pub ActionFits : (bits : ℕ) → Action → Type 0
+ActionFits bits (load x) = Unit {0}
+ActionFits bits (store x c) = ContentFits bits x c
+ActionFits bits (clear n) = Unit {0}
+ActionFits bits (exchange x old new) = ContentFits bits x old × ContentFits bits x new
 
 -- an access names a word of the table, and what the word holds fits it, as does what the access compares and writes
-pub record AccessFits (s : Shared) (a : Action) : Type 0 where
+pub record AccessFits (bits : ℕ) (s : Shared) (a : Action) : Type 0 where
   pub names : IsWord s (word a)
-  pub held : ContentFits (word a) (found a s)
-  pub given : ActionFits a
+  pub held : ContentFits bits (word a) (found a s)
+  pub given : ActionFits bits a
 
 -- reading the word is reading the number at its place of the table
-abbrev pub IsReadAtItsPlace : Shared → Word → Type 0
-IsReadAtItsPlace s x = slice_index_or (memory_words s) (index x) 0 ≡ encoded x (content x s)
+abbrev pub IsReadAtItsPlace : (bits : ℕ) → Shared → Word → Type 0
+IsReadAtItsPlace bits s x = slice_index_or (memory_words bits s) (index x) 0 ≡ encoded bits x (content x s)
 
 -- writing a content into the word is writing its number at the word's place of the table
-abbrev pub IsWrittenAtItsPlace : Shared → (x : Word) → Content x → Type 0
-IsWrittenAtItsPlace s x c = memory_words (put x c s) ≡ slice_set (memory_words s) (index x) (encoded x c)
+abbrev pub IsWrittenAtItsPlace : (bits : ℕ) → Shared → (x : Word) → Content x → Type 0
+IsWrittenAtItsPlace bits s x c = memory_words bits (put x c s) ≡ slice_set (memory_words bits s) (index x) (encoded bits x c)
 
 -- an access makes of the table what its one step on one place makes of it
-abbrev pub IsOneStep : Shared → Action → Type 0
-IsOneStep s a = memory_words (performed a s) ≡ table_after (word_step a) (memory_words s)
+abbrev pub IsOneStep : (bits : ℕ) → Shared → Action → Type 0
+IsOneStep bits s a = memory_words bits (performed a s) ≡ table_after (word_step bits a) (memory_words bits s)
 
 -- this is so of the next access of each actor that has a call
 abbrev pub OfEachNextAccess : World → (Action → Type 0) → Type 0

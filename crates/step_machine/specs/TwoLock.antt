@@ -17,7 +17,7 @@ HasTailMoved w = (me : ℕ) (a : Actor) → actor_of w me ≡ Some a → a.line 
 -- Tail names the last node of the queue's chain, unless an actor is to move it
 abbrev pub TailNamesTheLast : World → Type 0
 TailNamesTheLast w =
-    HasTailMoved w → (queue : List ℕ) → IsQueueChain w.shared.nodes w.shared.head.node queue → w.shared.tail.node ≡ last_node queue
+    HasTailMoved w → (queue : List ℕ) → IsQueueChain w.setup.bits w.shared.nodes w.shared.head.node queue → w.shared.tail.node ≡ last_node queue
 
 -- the counts of Tail and of each node's `next` are 0
 abbrev pub CountsNothing : World → Type 0

@@ -1,5 +1,6 @@
 //! What a step leaves in the lists of a world: its actor, and its operation.
 ghost use Rattle.std.specs.Prelude.{◌≡◌, ◌+◌, ◌-◌, ◌<◌, ◌≤◌, Some, None, IfOk, IfSome, IsNone, replicate, if◌then◌else◌, slice_set, slice_get, nat_eq, length, vec_len, vec_capacity};
+ghost use Rattle.counted_ref.specs.Ref.{IsSplit};
 ghost use Rattle.line_steps.specs.Outcomes.{settled};
 ghost use Rattle.line_steps.specs.Ready.{IsCounted, RegistersFit, ReadsFit};
 ghost use Rattle.line_steps.specs.Rooms.{aside_after};
@@ -7,9 +8,9 @@ ghost use Rattle.step_machine.specs.Machine as machine;
 ghost use Rattle.step_machine.specs.Machine.{new_operation, entry_or};
 ghost use Rattle.step_machine.specs.Views.{HasEntry, actor_in, actors_after, listed, operations_after, TookStep};
 
-use counted_ref::CountedRef;
+use counted_ref::CountedRefOf;
 use history::{Op, Reply, Stamped};
-use line_steps::{Actor, Memory, Setup, Told, nobody_value, put_down, stepped};
+use line_steps::{ActorOf, MemoryOf, Setup, Told, nobody_value, put_down, stepped};
 use line_table::Line;
 use std::alloc::{AllocError, Global};
 
@@ -22,11 +23,13 @@ pub struct Call {
 }
 
 /// An actor that never had a call.
-pub fn idle() -> Actor
+#[tactic(auto, using(counted_ref::proofs::Words::span_least, counted_ref::proofs::Words::count_span_least))]
+pub fn idle<const B: u32>() -> ActorOf<B>
+    requires { IsSplit B }
     ensures { result ≡ machine.idle }
 {
-    let null = CountedRef::new(0, 0);
-    Actor {
+    let null = CountedRefOf::new(0, 0);
+    ActorOf {
         line: None,
         op: Op::Deq,
         f: 0,
@@ -46,11 +49,15 @@ pub fn idle() -> Actor
 }
 
 /// Actors that never had a call.
-pub fn idle_actors(alloc: Global, actors: usize) -> Result<Vec<Actor>, AllocError>
+pub fn idle_actors<const B: u32>(
+    alloc: Global,
+    actors: usize,
+) -> Result<Vec<ActorOf<B>>, AllocError>
+    requires { IsSplit B }
     ensures { IfOk result (λ v. v.items ≡ replicate actors machine.idle) }
 {
     // The call is named here too, since the checker finds the modules of `Op` by the names that a body writes.
-    let idle = Actor {
+    let idle = ActorOf {
         op: Op::Deq,
         ..idle()
     };
@@ -59,7 +66,7 @@ pub fn idle_actors(alloc: Global, actors: usize) -> Result<Vec<Actor>, AllocErro
 
 /// The actor of a number; none for 0 and above the number of actors.
 #[inline(always)]
-pub fn actor_at(actors: &Vec<Actor>, me: u16) -> Option<&Actor>
+pub fn actor_at<const B: u32>(actors: &Vec<ActorOf<B>>, me: u16) -> Option<&ActorOf<B>>
     ensures there { IfSome result (λ a. actor_in actors.now.items me ≡ Some a.now) }
     ensures none { IsNone result → actor_in actors.now.items me ≡ None }
 {
@@ -69,8 +76,8 @@ pub fn actor_at(actors: &Vec<Actor>, me: u16) -> Option<&Actor>
     actors.get(me as usize - 1)
 }
 
-pub fn put_actor(actors: &mut Vec<Actor>, me: u16, actor: Actor)
-    ensures items { actors.new.items ≡ slice_set actors.old.items (me - 1) actor }
+pub fn put_actor<const B: u32>(actors: &mut Vec<ActorOf<B>>, me: u16, actor: ActorOf<B>)
+    ensures items { actors.new.items ≡ slice_set actors.old.items (me - 1) actor.entry }
 {
     if let Some(place) = actors.get_mut(me.saturating_sub(1) as usize) {
         *place = actor;
@@ -109,22 +116,22 @@ fn list_operation(operations: &mut Vec<Stamped>, call: Call, now: u64) -> usize
 }
 
 /// What an outcome leaves of its actor, its operation and the nodes set aside.
-pub fn commit(
-    memory: &mut Memory,
-    actors: &mut Vec<Actor>,
+pub fn commit<const B: u32>(
+    memory: &mut MemoryOf<B>,
+    actors: &mut Vec<ActorOf<B>>,
     operations: &mut Vec<Stamped>,
     call: Call,
     now: u64,
-    actor: Actor,
+    actor: ActorOf<B>,
     told: Told,
 )
     requires entry { HasEntry call.entry (vec_len operations.old) (vec_capacity operations.old) }
     requires aside { IfSome told.aside (λ n. n - 1 < memory.old.room) }
     ensures memory { memory.new ≡ record memory.old { aside = aside_after memory.old.aside told.aside } }
     ensures actors { actors.new.items ≡
-        actors_after call.actor call.entry (length operations.old.items) (settled actor told) actors.old.items }
+        actors_after call.actor call.entry (length operations.old.items) (settled actor.entry told) actors.old.items }
     ensures operations { operations.new.items ≡
-        operations_after call.actor call.op call.entry now (settled actor told) operations.old.items }
+        operations_after call.actor call.op call.entry now (settled actor.entry told) operations.old.items }
     ensures room { vec_capacity operations.old ≤ vec_capacity operations.new }
 {
     let me = call.actor;
@@ -134,21 +141,22 @@ pub fn commit(
     };
     let _ = put_down(memory, now, operation, told);
     let entry = Some(place);
-    put_actor(actors, me, Actor { entry, ..actor });
+    put_actor(actors, me, ActorOf { entry, ..actor });
 }
 
 /// Takes a step of an actor at a line, and puts down what it leaves: its registers, its operation and the node set aside.
 /// Answers the reply, where the call ends.
 #[inline(always)]
-pub fn take_step(
-    memory: &mut Memory,
-    a: &mut Actor,
+pub fn take_step<const B: u32>(
+    memory: &mut MemoryOf<B>,
+    a: &mut ActorOf<B>,
     operations: &mut Vec<Stamped>,
     setup: Setup,
     now: u64,
     me: u16,
     line: Line,
 ) -> Option<Reply>
+    requires bits { setup.bits ≡ B }
     requires counted { IsCounted setup }
     requires ready { RegistersFit setup memory.old.room a.old }
     requires reads { ReadsFit line memory.old.room a.old }

@@ -37,14 +37,14 @@ pub fn every_history_is_placed_and_legal()
 {}
 
 /// Which operations have a place, and where. One that is done or got a value has it at the number of a step of its own
-/// actor that had an effect on the queue: a successful E9 or D13, or an A5 or B5. A pending one has such a place or
+/// actor that had an effect on the queue: a successful E9, D13 or S4, or an A5, B5 or S8. A pending one has such a place or
 /// none; after begins, steps and give moves it has one exactly if its actor took such a step since its first number.
 pub fn operations_are_placed_by_their_effects()
     ensures places { OfOperations ArePlacedByEffect }
     ensures effects { OfOperationsOfCalls HaveTheirEffect }
 {}
 
-/// Which line gives a call its place: of an enqueue E9 or A5, of a dequeue D13 or B5. After rests too each step that had an
+/// Which line gives a call its place: of an enqueue E9 or A5, of a dequeue D13 or B5, of a shut S4 or S8. After rests too each step that had an
 /// effect gives its number as the place to the operation of its actor in which the number lies, that is up to the
 /// operation's last number, and before the actor's next operation begins.
 pub fn effects_give_operations_their_places()
@@ -58,8 +58,9 @@ pub fn operations_replay_to_the_values()
     ensures { OfEachWorld ReplaysToItsValues }
 {}
 
-/// At every step the pushes and pops that had their effect so far, by rising place, lead from the empty queue to the
-/// values in the chain from Head: each push puts its value at the back, and each pop takes the front one.
+/// At every step the pushes, pops and shuts that had their effect so far, by rising place, lead from the empty queue to the
+/// values in the chain from Head: each push puts its value at the back, each pop takes the front one, and a shut stops
+/// what pushes come after it.
 pub fn pushes_and_pops_play_to_the_values()
     ensures { OfEachWorld PlaysToItsValues }
 {}

@@ -1,8 +1,9 @@
 //! Laws of the machine, each the contract of a function that does nothing.
-ghost use Rattle.std.specs.Prelude.{◌≡◌, ◌<◌, ◌≤◌, Some};
+ghost use Rattle.std.specs.Prelude.{ℕ, ◌≡◌, ◌<◌, ◌≤◌, Some};
 ghost use Rattle.line_steps.specs.Memory.{Shared, Word, Content, Action, word};
 ghost use Rattle.step_machine.specs.Machine.{World, IsReached};
 ghost use Rattle.step_machine.specs.Words.{memory_words, index, IsWord};
+ghost use Rattle.counted_ref.specs.Ref.{IsSplit};
 ghost use Rattle.step_machine.specs.Range.{WorldInRange};
 ghost use Rattle.step_machine.specs.ProgramCounters.{EachRunsItsQueue, EachNamesAWord, EachIsOneStep};
 ghost use Rattle.step_machine.specs.Tables.{word_index, word_step, IsOneStep, OfEachNextAccess};
@@ -16,30 +17,33 @@ pub fn reached_worlds_are_in_range()
 
 /// What a word holds stands at its place of the table, as a number.
 pub fn reading_a_word_is_reading_its_place()
-    ensures { (s : Shared) (x : Word) → IsWord s x → IsReadAtItsPlace s x }
+    ensures { (bits : ℕ) (s : Shared) (x : Word) → IsWord s x → IsReadAtItsPlace bits s x }
 {}
 
 /// A word that is written changes its place of the table and no other one.
 pub fn writing_a_word_is_writing_its_place()
-    ensures { (s : Shared) (x : Word) (c : Content x) → IsWord s x → IsWrittenAtItsPlace s x c }
+    ensures { (bits : ℕ) (s : Shared) (x : Word) (c : Content x) → IsWord s x
+        → IsWrittenAtItsPlace bits s x c }
 {}
 
 /// An access of a word of the table, whose contents fit, is one atomic step on the place of that word.
 pub fn an_access_is_one_step_on_its_place()
-    ensures step { (s : Shared) (a : Action) → AccessFits s a → IsOneStep s a }
-    ensures place { (a : Action) → word_index (word_step a) ≡ index (word a) }
+    ensures step { (bits : ℕ) (s : Shared) (a : Action) → IsSplit bits → AccessFits bits s a
+        → IsOneStep bits s a }
+    ensures place { (bits : ℕ) (a : Action) → word_index (word_step bits a) ≡ index (word a) }
 {}
 
 /// Shared words whose contents fit, and whose tables are the same, hold the same.
 pub fn words_determine_contents()
-    ensures { (a b : Shared) → SharedFits a → SharedFits b → memory_words a ≡ memory_words b → a ≡ b }
+    ensures { (bits : ℕ) (a b : Shared) → IsSplit bits → SharedFits bits a → SharedFits bits b
+        → memory_words bits a ≡ memory_words bits b → a ≡ b }
 {}
 
 /// In a world that any moves lead to, what the words hold fits them, and so does what the next access of an actor
 /// compares and writes.
 pub fn contents_fit_their_words()
-    ensures held { (w : World) → IsReached w → SharedFits w.shared }
-    ensures accessed { (w : World) → IsReached w → OfEachNextAccess w ActionFits }
+    ensures held { (w : World) → IsReached w → SharedFits w.setup.bits w.shared }
+    ensures accessed { (w : World) → IsReached w → OfEachNextAccess w (ActionFits w.setup.bits) }
 {}
 
 /// In a world that any moves lead to, each actor that has a call stands before a line of its queue.

@@ -15,8 +15,8 @@ pub mod two_lock_laws;
 mod world;
 
 pub use actors::{Move, Stepped};
-pub use benches::{Bench, on_bench};
-pub use line_steps::{Actor, Held, Node, Setup, Told};
+pub use benches::{Bench, BenchOf, on_bench};
+pub use line_steps::{ActorOf, Held, Setup, Told};
 pub use moving::step_in;
 pub use places::Place;
-pub use world::World;
+pub use world::{World, WorldOf};

@@ -5,7 +5,7 @@ ghost use Rattle.step_machine.specs.Machine.{next};
 ghost use Rattle.step_machine.specs.Calls.{MoveRefused, move_answer};
 
 use crate::actors::{Move, Stepped};
-use crate::world::World;
+use crate::world::WorldOf;
 use history::Refusal;
 
 /// Makes the move that it is handed, and says what it did: for a begin `Began`, for a step `Went` or `Ended`, for a giving up
@@ -18,7 +18,7 @@ use history::Refusal;
 /// let told = step_in(&mut world, Move::Begin(1, Op::Deq))?;
 /// assert!(told == Stepped::Began);
 /// ```
-pub fn step_in(world: &mut World, one: Move) -> Result<Stepped, Refusal>
+pub fn step_in<const B: u32>(world: &mut WorldOf<B>, one: Move) -> Result<Stepped, Refusal>
     ensures ok { OnOk result (next world.old one ≡ Some world.new) }
     ensures numbered { OnOk result (world.new.steps < 2 ^ 64) }
     ensures told { IfOk result (λ s. move_answer world.old one ≡ Some s) }
@@ -36,7 +36,7 @@ pub fn step_in(world: &mut World, one: Move) -> Result<Stepped, Refusal>
 }
 
 /// Gives up an actor's call, and says at which line.
-fn give_in(world: &mut World, actor: u16) -> Result<Stepped, Refusal>
+fn give_in<const B: u32>(world: &mut WorldOf<B>, actor: u16) -> Result<Stepped, Refusal>
     ensures ok { OnOk result (next world.old (Give actor) ≡ Some world.new) }
     ensures numbered { OnOk result (world.new.steps < 2 ^ 64) }
     ensures told { IfOk result (λ s. move_answer world.old (Give actor) ≡ Some s) }

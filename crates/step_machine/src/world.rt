@@ -1,5 +1,6 @@
 //! A world, which makes one move at a time.
 ghost use Rattle.std.specs.Prelude.{◌≡◌, ◌+◌, ◌-◌, ◌<◌, ◌≤◌, ◌^◌, ◌≢◌, min, Some, OnOk, OnErr, IfOk, IfErr, IfSome, IsSome, length};
+ghost use Rattle.counted_ref.specs.Ref.{IsSplit};
 ghost use Rattle.line_steps.specs.Memory.{Fresh, Free, Head, Tail, Next, Value_of, content};
 ghost use Rattle.step_machine.specs.declared.actors.Move.TheVariants.{Begin, Step, Give};
 ghost use Rattle.step_machine.specs.Machine.{opening, next, actor_of, IsSized, IsMade};
@@ -9,38 +10,42 @@ ghost use Rattle.step_machine.specs.Solo.{EndsAlone};
 
 use crate::actors::{Move, Stepped};
 use crate::committing::{Call, actor_at, commit, idle_actors, put_actor, take_step};
-use counted_ref::{CountedRef, MOST_COUNT, MOST_NODE};
+use counted_ref::{CountedRefOf, most_count, most_node};
 use history::{MOST_ACTOR, Op, Refusal, Reply, Stamped, Taken};
-use line_steps::{Actor, Held, Memory, Setup, begin, give_up};
+use line_steps::{ActorOf, Held, MemoryOf, Setup, begin, give_up};
 use line_table::{Kind, Line};
 use std::alloc::Global;
 use std::marker::Model;
+
+/// A world with 24 bits for the number of a node.
+pub type World = WorldOf<24>;
 
 mod placing;
 mod queries;
 
 /// Both ends of a queue, its free list and the actors, in plain memory: the machine after some list of moves.
 ///
-/// Memory grows with the nodes that were used, the actors and the operations, and not with the number of nodes.
+/// `B` is how many bits of a reference hold the number of its node, 16 to 32; the others hold its count. Memory grows with
+/// the nodes that were used, the actors and the operations, and not with the number of nodes.
 #[derive(Drop)]
-pub struct World {
+pub struct WorldOf<const B: u32> {
     setup: Setup,
     steps: u64,
-    memory: Memory,
-    actors: Vec<Actor>,
+    memory: MemoryOf<B>,
+    actors: Vec<ActorOf<B>>,
     operations: Vec<Stamped>,
 }
 
-impl Model for World {
+impl<const B: u32> Model for WorldOf<B> {
     ghost use Rattle.step_machine.specs.Machine.{World as Worlds};
 
     ghost Value = { Worlds };
 
     ghost use Rattle.step_machine.specs.Stored.{world, StoredInvariant};
 
-    ghost view = { world };
+    ghost view = { world B };
 
-    ghost invariant = { StoredInvariant };
+    ghost invariant = { StoredInvariant B };
 }
 
 /// What a step at a line with this reply is told as.
@@ -65,7 +70,7 @@ fn nodes_wanted(line: Option<Line>, fresh: u32, actors: usize) -> usize
     }
 }
 
-impl World {
+impl<const B: u32> WorldOf<B> {
     /// The line before which an actor stands; none where it has no call or isn't there.
     pub(crate) fn line_before(&self, actor: u16) -> Option<Line>
         ensures { result ≡ line_of (actor_of self.now actor) }
@@ -84,8 +89,8 @@ impl World {
         let _ = &self.setup;
     }
 
-    /// A world in which nothing happened yet: `nodes` is 2 to 16,777,214, the greatest count `limit` 1 to
-    /// 1,099,511,627,775, and `actors` 1 to 65,535.
+    /// A world in which nothing happened yet: `nodes` is 2 to `most_node(B)`, the greatest count `limit` 1 to
+    /// `most_count(B)`, and `actors` 1 to 65,535.
     ///
     /// Refusals: `BadSize` where one of them is out of its range, else `Memory`. Takes memory for the actors and for
     /// one node.
@@ -100,15 +105,16 @@ impl World {
         nodes: u32,
         limit: u64,
         actors: u32,
-    ) -> Result<World, Refusal>
-        ensures ok { IfOk result (λ w. w ≡ opening (setup_from kind nodes limit) actors) }
-        ensures sized { OnOk result (IsSized (setup_from kind nodes limit) actors) }
-        ensures refused { IfErr result (NewRefused (setup_from kind nodes limit) actors) }
+    ) -> Result<WorldOf<B>, Refusal>
+        requires split { IsSplit B }
+        ensures ok { IfOk result (λ w. w ≡ opening (setup_from B kind nodes limit) actors) }
+        ensures sized { OnOk result (IsSized (setup_from B kind nodes limit) actors) }
+        ensures refused { IfErr result (NewRefused (setup_from B kind nodes limit) actors) }
     {
-        if nodes < 2 || nodes > MOST_NODE {
+        if nodes < 2 || nodes > most_node(B) {
             return Err(Refusal::BadSize);
         }
-        if limit < 1 || limit > MOST_COUNT {
+        if limit < 1 || limit > most_count(B) {
             return Err(Refusal::BadSize);
         }
         if actors < 1 || u64::from(actors) > MOST_ACTOR {
@@ -116,16 +122,17 @@ impl World {
         }
         let setup = Setup {
             kind,
+            bits: B,
             size: nodes,
             limit,
         };
-        let Ok(memory) = Memory::new(alloc, nodes) else {
+        let Ok(memory) = MemoryOf::new(alloc, nodes) else {
             return Err(Refusal::Memory);
         };
         let Ok(actors) = idle_actors(alloc, actors as usize) else {
             return Err(Refusal::Memory);
         };
-        Ok(World {
+        Ok(WorldOf {
             setup,
             steps: 0,
             memory,

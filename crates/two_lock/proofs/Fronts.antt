@@ -12,7 +12,7 @@ use Rattle.node_arena.specs.Machine.{Actor, entry_or, unlocked}
 use Rattle.node_arena.specs.Traces.{Event, outcome_at}
 use Rattle.node_arena.specs.Prologues.{continues}
 use Rattle.node_arena.specs.Rule.{notes_of, SaysOfSeen}
-use Rattle.node_arena.specs.declared.arena.Arena.{Arena}
+use Rattle.node_arena.specs.Arenas.{Arena}
 use Rattle.node_arena.specs.declared.seats.Seat.{Seat}
 use Rattle.node_arena.specs.Seats.{KeepsStored, view}
 use Rattle.node_arena.specs.Paths.{ExtendsPath, Passes, Acts}
@@ -24,8 +24,7 @@ use Rattle.arena_lines.specs.declared.outcomes.Outcome.{Outcome}
 use Rattle.arena_lines.specs.declared.outcomes.Outcome.TheVariants.{Goes, Ends}
 use Rattle.arena_lines.specs.declared.outcomes.Reply.{Reply}
 use Rattle.arena_lines.specs.declared.outcomes.Reply.TheVariants.{Value as IsValue, Empty as IsEmpty, Refused as IsRefused}
-use Rattle.two_lock.specs.declared.pop_outcomes.Actor.{Actor as Running}
-use Rattle.two_lock.specs.Pops.{told_by, unlocked_as, CallIsAt, Follows, Fronts}
+use Rattle.two_lock.specs.Pops.{Running, told_by, unlocked_as, CallIsAt, Follows, Fronts}
 use Rattle.arena_lines.proofs.Registers.{same_registers}
 use Rattle.two_lock.proofs.PopStands.{stands_next}
 
@@ -40,25 +39,25 @@ same_line l k a b e = ap (line_or l) e
 
 -- after B2
 pub to_b3 : (r : Arena) (s t : Seat) (l : Line) (a b : Running) → CallIsAt r s continues B2 a → Follows r s t continues B2 a (Goes l b) → CallIsAt r t continues B3 b
-to_b3 r s t l a b h f = subst (λ k. CallIsAt r t continues k b) (same_line l B3 b (record a { head = ref_of f.found }) f.leads_to) (stands_next r s t B2 l a b h f tt)
+to_b3 r s t l a b h f = subst (λ k. CallIsAt r t continues k b) (same_line l B3 b (record a { head = ref_of r.plan.setup.bits f.found }) f.leads_to) (stands_next r s t B2 l a b h f tt)
 
 -- after B3: the end of the queue, or a value behind Head's node
 pub to_b6_empty : (r : Arena) (s t : Seat) (l : Line) (a b : Running) → CallIsAt r s continues B3 a → Follows r s t continues B3 a (Goes l b) → l ≡ B6 → CallIsAt r t continues B6 b
 to_b6_empty r s t l a b h f e = subst (λ k. CallIsAt r t continues k b) e (stands_next r s t B3 l a b h f tt)
 
 pub to_b4 : (r : Arena) (s t : Seat) (l : Line) (a b : Running) → CallIsAt r s continues B3 a → Follows r s t continues B3 a (Goes l b) → (l ≡ B6 → ⊥) → CallIsAt r t continues B4 b
-to_b4 r s t l a b h f other = subst (λ k. CallIsAt r t continues k b) (go (is_null (ref_of f.found)) (is_shut (ref_of f.found)) f.leads_to) (stands_next r s t B3 l a b h f tt)
+to_b4 r s t l a b h f other = subst (λ k. CallIsAt r t continues k b) (go (is_null (ref_of r.plan.setup.bits f.found)) (is_shut r.plan.setup.bits (ref_of r.plan.setup.bits f.found)) f.leads_to) (stands_next r s t B3 l a b h f tt)
   where
-    go : (p q : Bool) → Goes l b ≡ (let c = record a { next = ref_of f.found } in if p then Goes B6 (record c { due = Some IsEmpty }) else if q then Goes B6 (record c { due = Some (IsRefused Closed) }) else Goes B4 c) → l ≡ B4
+    go : (p q : Bool) → Goes l b ≡ (let c = record a { next = ref_of r.plan.setup.bits f.found } in if p then Goes B6 (record c { due = Some IsEmpty }) else if q then Goes B6 (record c { due = Some (IsRefused Closed) }) else Goes B4 c) → l ≡ B4
     go true q e = absurd (other (same_line l B6 b _ e))
     go false true e = absurd (other (same_line l B6 b _ e))
     go false false e = same_line l B4 b _ e
 
 -- what is due where B3 goes to B6
 pub found_end : (r : Arena) (s t : Seat) (l : Line) (a b : Running) → (f : Follows r s t continues B3 a (Goes l b)) → l ≡ B6 → (b.due ≡ Some IsEmpty) ⊎ (b.due ≡ Some (IsRefused Closed))
-found_end r s t l a b f is = go (is_null (ref_of f.found)) (is_shut (ref_of f.found)) f.leads_to
+found_end r s t l a b f is = go (is_null (ref_of r.plan.setup.bits f.found)) (is_shut r.plan.setup.bits (ref_of r.plan.setup.bits f.found)) f.leads_to
   where
-    go : (p q : Bool) → Goes l b ≡ (let c = record a { next = ref_of f.found } in if p then Goes B6 (record c { due = Some IsEmpty }) else if q then Goes B6 (record c { due = Some (IsRefused Closed) }) else Goes B4 c) → (b.due ≡ Some IsEmpty) ⊎ (b.due ≡ Some (IsRefused Closed))
+    go : (p q : Bool) → Goes l b ≡ (let c = record a { next = ref_of r.plan.setup.bits f.found } in if p then Goes B6 (record c { due = Some IsEmpty }) else if q then Goes B6 (record c { due = Some (IsRefused Closed) }) else Goes B4 c) → (b.due ≡ Some IsEmpty) ⊎ (b.due ≡ Some (IsRefused Closed))
     go true q e = inl (ap (λ (x : Running). x.due) (same_registers l B6 b _ e))
     go false true e = inr (ap (λ (x : Running). x.due) (same_registers l B6 b _ e))
     go false false e = absurd (let g : B6 ≡ B4 = sym is ∙ same_line l B4 b _ e in cc)

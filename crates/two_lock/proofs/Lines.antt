@@ -3,7 +3,7 @@ use Rattle.std.proofs.Common.{◌≡◌, ap}
 use Rattle.line_table.specs.declared.lines.Line.{Line}
 use Rattle.arena_lines.specs.declared.outcomes.Outcome.{Outcome}
 use Rattle.arena_lines.specs.declared.outcomes.Outcome.TheVariants.{Goes, Ends}
-use Rattle.two_lock.specs.declared.push_outcomes.Actor.{Actor as Running}
+use Rattle.two_lock.specs.Pushes.{Running}
 
 line_or : Line → Outcome Running → Line
 line_or d (Goes l a) = l

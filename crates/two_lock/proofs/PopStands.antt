@@ -10,7 +10,7 @@ use Rattle.history.specs.declared.refusals.WornWord.TheVariants.{Head as OfHead}
 use Rattle.node_arena.specs.Machine.{Actor, Outcome as MachineOutcome, goes}
 use Rattle.node_arena.specs.Traces.{outcome_at}
 use Rattle.node_arena.specs.Prologues.{Prologue, continues, after_prologue}
-use Rattle.node_arena.specs.declared.arena.Arena.{Arena}
+use Rattle.node_arena.specs.Arenas.{Arena}
 use Rattle.node_arena.specs.declared.seats.Seat.{Seat}
 use Rattle.node_arena.specs.Seats.{IsBefore, DidStep, view}
 use Rattle.node_arena.proofs.Paths.{settled, goes_on}
@@ -19,8 +19,7 @@ use Rattle.arena_lines.specs.declared.outcomes.Outcome.{Outcome}
 use Rattle.arena_lines.specs.declared.outcomes.Outcome.TheVariants.{Goes, Ends}
 use Rattle.arena_lines.specs.declared.outcomes.Reply.{Reply}
 use Rattle.arena_lines.specs.declared.outcomes.Reply.TheVariants.{Value as IsValue, Empty as IsEmpty, Refused as IsRefused}
-use Rattle.two_lock.specs.declared.pop_outcomes.Actor.{Actor as Running}
-use Rattle.two_lock.specs.Pops.{told_by, KnowsDue, AgreesAt, CallIsAt, Follows, follow}
+use Rattle.two_lock.specs.Pops.{Running, told_by, KnowsDue, AgreesAt, CallIsAt, Follows, follow}
 use Rattle.two_lock.proofs.PopSteps.{ref_b2, ref_b3, value_b4}
 
 -- where an outcome goes on, the seat stands there
@@ -60,28 +59,28 @@ module _ (r : Arena) (s t : Seat) (prologue : Prologue) (n : ℕ) (a : Running) 
     pub lost_b1 : nat_eq n 0 ≡ false → IsBefore r t continues B1
     lost_b1 e = goes_on r s t prologue B1 n d (first false) (went false e) B1 refl
 
-  pub after_b2 : CallIsAt r s prologue B2 a → DidStep r s t prologue B2 n → CallIsAt r t continues B3 (record a { head = ref_of n })
-  after_b2 h d = leads B2 d (out_at B2 d) refl B3 (record a { head = ref_of n }) refl (λ x. sym (ref_b2 r s t prologue n d))
+  pub after_b2 : CallIsAt r s prologue B2 a → DidStep r s t prologue B2 n → CallIsAt r t continues B3 (record a { head = ref_of r.plan.setup.bits n })
+  after_b2 h d = leads B2 d (out_at B2 d) refl B3 (record a { head = ref_of r.plan.setup.bits n }) refl (λ x. sym (ref_b2 r s t prologue n d))
 
   -- what is due is no value
   no_value : (x : Actor) (c : Running) (due : Reply) → ((word : ℕ) → Some due ≡ Some (IsValue word) → ⊥) → x.due ≡ told_by (Some due) → KnowsDue x c (Some due)
   no_value x c due other told = record { told = told; node = λ word f. absurd (other word f); mark = λ word f. absurd (other word f) }
 
   pub after_b3 : CallIsAt r s prologue B3 a → (d : DidStep r s t prologue B3 n) → StandsAt r t (follow r.plan.setup a B3 n)
-  after_b3 h d = go (is_null (ref_of n)) (is_shut (ref_of n)) refl refl
+  after_b3 h d = go (is_null (ref_of r.plan.setup.bits n)) (is_shut r.plan.setup.bits (ref_of r.plan.setup.bits n)) refl refl
     where
       third : Ref → (p q : Bool) → MachineOutcome
       third next p q =
           let x = record b { next = next; empty_at = d.told.was.world.steps + 1 } in
           if p then goes B6 (record x { due = Some reply.Empty }) else if q then goes B6 (record x { due = Some (reply.Refused Closed) }) else goes B4 x
 
-      went : (p q : Bool) → is_null (ref_of n) ≡ p → is_shut (ref_of n) ≡ q → out_at B3 d ≡ third (ref_of n) p q
-      went p q e f = ap (λ x. third x (is_null x) (is_shut x)) (sym (ref_b3 r s t prologue n d)) ∙ (λ i. third (ref_of n) (e i) (f i))
+      went : (p q : Bool) → is_null (ref_of r.plan.setup.bits n) ≡ p → is_shut r.plan.setup.bits (ref_of r.plan.setup.bits n) ≡ q → out_at B3 d ≡ third (ref_of r.plan.setup.bits n) p q
+      went p q e f = ap (λ x. third x (is_null x) (is_shut r.plan.setup.bits x)) (sym (ref_b3 r s t prologue n d)) ∙ (λ i. third (ref_of r.plan.setup.bits n) (e i) (f i))
 
-      go : (p q : Bool) → is_null (ref_of n) ≡ p → is_shut (ref_of n) ≡ q → StandsAt r t (let c = record a { next = ref_of n } in if p then Goes B6 (record c { due = Some IsEmpty }) else if q then Goes B6 (record c { due = Some (IsRefused Closed) }) else Goes B4 c)
-      go true q e f = leads B3 d (third (ref_of n) true q) (went true q e f) B6 (record a { next = ref_of n; due = Some IsEmpty }) refl (λ x. no_value _ _ IsEmpty (λ word g. cc) refl)
-      go false true e f = leads B3 d (third (ref_of n) false true) (went false true e f) B6 (record a { next = ref_of n; due = Some (IsRefused Closed) }) refl (λ x. no_value _ _ (IsRefused Closed) (λ word g. cc) refl)
-      go false false e f = leads B3 d (third (ref_of n) false false) (went false false e f) B4 (record a { next = ref_of n }) refl (λ x. (h.knows, refl))
+      go : (p q : Bool) → is_null (ref_of r.plan.setup.bits n) ≡ p → is_shut r.plan.setup.bits (ref_of r.plan.setup.bits n) ≡ q → StandsAt r t (let c = record a { next = ref_of r.plan.setup.bits n } in if p then Goes B6 (record c { due = Some IsEmpty }) else if q then Goes B6 (record c { due = Some (IsRefused Closed) }) else Goes B4 c)
+      go true q e f = leads B3 d (third (ref_of r.plan.setup.bits n) true q) (went true q e f) B6 (record a { next = ref_of r.plan.setup.bits n; due = Some IsEmpty }) refl (λ x. no_value _ _ IsEmpty (λ word g. cc) refl)
+      go false true e f = leads B3 d (third (ref_of r.plan.setup.bits n) false true) (went false true e f) B6 (record a { next = ref_of r.plan.setup.bits n; due = Some (IsRefused Closed) }) refl (λ x. no_value _ _ (IsRefused Closed) (λ word g. cc) refl)
+      go false false e f = leads B3 d (third (ref_of r.plan.setup.bits n) false false) (went false false e f) B4 (record a { next = ref_of r.plan.setup.bits n }) refl (λ x. (h.knows, refl))
 
   pub after_b4 : CallIsAt r s prologue B4 a → (d : DidStep r s t prologue B4 n) → StandsAt r t (follow r.plan.setup a B4 n)
   after_b4 h d = go (nat_eq a.head.count r.plan.setup.limit) refl

@@ -10,7 +10,7 @@ use Rattle.history.specs.declared.refusals.WornWord.TheVariants.{Head as OfHead}
 use Rattle.node_arena.specs.Machine.{Held, Actor, dequeues, from_pocket, value_of}
 use Rattle.node_arena.specs.Traces.{Event}
 use Rattle.node_arena.specs.Prologues.{continues, at_rest, out_of}
-use Rattle.node_arena.specs.declared.arena.Arena.{Arena}
+use Rattle.node_arena.specs.Arenas.{Arena}
 use Rattle.node_arena.specs.declared.seats.Seat.{Seat}
 use Rattle.node_arena.specs.Seats.{IsReady, IsBefore, view, keeping, pocket_of}
 use Rattle.node_arena.specs.Turns.{failed_turns, at_b1}
@@ -23,8 +23,7 @@ use Rattle.arena_lines.specs.declared.outcomes.Outcome.{Outcome}
 use Rattle.arena_lines.specs.declared.outcomes.Outcome.TheVariants.{Goes, Ends}
 use Rattle.arena_lines.specs.declared.outcomes.Reply.{Reply}
 use Rattle.arena_lines.specs.declared.outcomes.Reply.TheVariants.{Done as IsDone, Value as IsValue, Empty as IsEmpty, Refused as IsRefused}
-use Rattle.two_lock.specs.declared.pop_outcomes.Actor.{Actor as Running}
-use Rattle.two_lock.specs.Pops.{popping, has_lock, Follows, Fronts, Trying}
+use Rattle.two_lock.specs.Pops.{Running, popping, has_lock, Follows, Fronts, Trying}
 use Rattle.two_lock.specs.Worn.{pop_worn}
 use Rattle.arena_queue.specs.Answers.{Draws}
 use Rattle.arena_queue.proofs.Pops.{draws_late, draws_worn, draws_shut, draws_taken, draws_empty}

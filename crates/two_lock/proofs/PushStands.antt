@@ -9,14 +9,13 @@ use Rattle.history.specs.declared.operations.Entry.TheVariants.{Push}
 use Rattle.history.specs.declared.operations.Reply.TheVariants as reply
 use Rattle.history.specs.declared.refusals.Refusal.TheVariants.{Closed}
 use Rattle.node_arena.specs.Prologues.{Prologue, continues, after_prologue}
-use Rattle.node_arena.specs.declared.arena.Arena.{Arena}
+use Rattle.node_arena.specs.Arenas.{Arena}
 use Rattle.node_arena.specs.declared.seats.Seat.{Seat}
 use Rattle.node_arena.specs.Seats.{DidStep, view}
 use Rattle.node_arena.proofs.Known.{empty_before}
 use Rattle.node_arena.proofs.Paths.{settled, goes_on}
 use Rattle.arena_lines.specs.declared.outcomes.Reply.TheVariants.{Done, Refused as IsRefused}
-use Rattle.two_lock.specs.declared.push_outcomes.Actor.{Actor as Running}
-use Rattle.two_lock.specs.Pushes.{in_hand, told_by, HasNode, AgreesAt, CallIsAt}
+use Rattle.two_lock.specs.Pushes.{Running, in_hand, told_by, HasNode, AgreesAt, CallIsAt}
 use Rattle.two_lock.proofs.PushSteps.{ref_a4, ref_a5}
 
 module _ (r : Arena) (s t : Seat) (prologue : Prologue) (n : ℕ) (a : Running) where
@@ -55,26 +54,26 @@ module _ (r : Arena) (s t : Seat) (prologue : Prologue) (n : ℕ) (a : Running) 
     pub lost_a3 : nat_eq n 0 ≡ false → CallIsAt r t continues A3 a
     lost_a3 e = leads A3 d (third false) (went false e) A3 a refl h.hand (λ x. tt)
 
-  pub after_a4 : CallIsAt r s prologue A4 a → DidStep r s t prologue A4 n → CallIsAt r t continues A5 (record a { tail = ref_of n })
-  after_a4 h d = leads A4 d (out_at A4 d) refl A5 (record a { tail = ref_of n }) refl h.hand (λ x. sym (ref_a4 r s t prologue n d))
+  pub after_a4 : CallIsAt r s prologue A4 a → DidStep r s t prologue A4 n → CallIsAt r t continues A5 (record a { tail = ref_of r.plan.setup.bits n })
+  after_a4 h d = leads A4 d (out_at A4 d) refl A5 (record a { tail = ref_of r.plan.setup.bits n }) refl h.hand (λ x. sym (ref_a4 r s t prologue n d))
 
   module _ (h : CallIsAt r s prologue A5 a) (d : DidStep r s t prologue A5 n) where
     abbrev fifth : Bool → MachineOutcome
     fifth p =
         if p then record (goes A6 (empties_hand (record b { due = Some reply.Done }))) { at = Some (d.told.was.world.steps + 1) } else goes A7 (record b { due = Some (reply.Refused Closed) })
 
-    test : (p : Bool) → same_ref (ref_of n) null ≡ p → same_ref (node_at d.told.was.world.shared b.tail.node).next null ≡ p
+    test : (p : Bool) → same_ref (ref_of r.plan.setup.bits n) null ≡ p → same_ref (node_at d.told.was.world.shared b.tail.node).next null ≡ p
     test p e = ap (λ k. same_ref k null) (sym (ref_a5 r s t prologue n d)) ∙ e
 
     -- the node was linked
-    pub won_a5 : same_ref (ref_of n) null ≡ true → CallIsAt r t continues A6 (record a { due = Some Done }) × (entries_at r.plan.setup d.told.was (view s).number b A5 ≡ Push (view s).number b.val.body ∷ [])
+    pub won_a5 : same_ref (ref_of r.plan.setup.bits n) null ≡ true → CallIsAt r t continues A6 (record a { due = Some Done }) × (entries_at r.plan.setup d.told.was (view s).number b A5 ≡ Push (view s).number b.val.body ∷ [])
     won_a5 e = (
       leads A5 d (fifth true) (ap fifth (test true e)) A6 (record a { due = Some Done }) refl h.hand (λ x. refl),
       ap (λ q. if q then Push (view s).number b.val.body ∷ [] else []) (test true e),
     )
 
     -- the queue was found shut
-    pub lost_a5 : same_ref (ref_of n) null ≡ false → CallIsAt r t continues A7 (record a { due = Some (IsRefused Closed) }) × (entries_at r.plan.setup d.told.was (view s).number b A5 ≡ [])
+    pub lost_a5 : same_ref (ref_of r.plan.setup.bits n) null ≡ false → CallIsAt r t continues A7 (record a { due = Some (IsRefused Closed) }) × (entries_at r.plan.setup d.told.was (view s).number b A5 ≡ [])
     lost_a5 e = (
       leads A5 d (fifth false) (ap fifth (test false e)) A7 (record a { due = Some (IsRefused Closed) }) refl h.hand (λ x. refl),
       ap (λ q. if q then Push (view s).number b.val.body ∷ [] else []) (test false e),

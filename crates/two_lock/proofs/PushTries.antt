@@ -12,7 +12,7 @@ use Rattle.history.specs.declared.refusals.Refusal.TheVariants.{Busy, Closed}
 use Rattle.node_arena.specs.Machine.{Held, Actor, with_node, from_pocket}
 use Rattle.node_arena.specs.Traces.{Event, entries_at}
 use Rattle.node_arena.specs.Prologues.{Prologue, begins, continues, at_rest, out_of}
-use Rattle.node_arena.specs.declared.arena.Arena.{Arena}
+use Rattle.node_arena.specs.Arenas.{Arena}
 use Rattle.node_arena.specs.declared.seats.Seat.{Seat}
 use Rattle.node_arena.specs.Seats.{IsReady, view, pocket_of, keeping}
 use Rattle.node_arena.specs.Turns.{failed_turns, at_a3}
@@ -24,8 +24,7 @@ use Rattle.node_arena.specs.Machine.{value_of}
 use Rattle.arena_lines.specs.declared.outcomes.Outcome.{Outcome}
 use Rattle.arena_lines.specs.declared.outcomes.Outcome.TheVariants.{Goes}
 use Rattle.arena_lines.specs.declared.outcomes.Reply.TheVariants.{Done, Refused as IsRefused}
-use Rattle.two_lock.specs.declared.push_outcomes.Actor.{Actor as Running}
-use Rattle.two_lock.specs.Pushes.{registers_of, in_hand, told_by, has_lock, CallIsAt, Follows, Links, Trying}
+use Rattle.two_lock.specs.Pushes.{Running, registers_of, in_hand, told_by, has_lock, CallIsAt, Follows, Links, Trying}
 use Rattle.two_lock.specs.Worn.{push_worn}
 use Rattle.arena_queue.specs.Answers.{PutRefused, Puts}
 use Rattle.node_arena.proofs.Values.{value_of-word}
@@ -128,7 +127,7 @@ next_try r s t u h val spent n a out is g follows e =
 
 -- after A4
 pub to_a5 : (r : Arena) (s u : Seat) (a b : Running) (l : Line) → CallIsAt r s continues A4 a → Follows r s u continues A4 a (Goes l b) → CallIsAt r u continues A5 b
-to_a5 r s u a b l h f = subst (CallIsAt r u continues A5) (sym (same_registers l A5 b (record a { tail = ref_of f.found }) f.leads_to)) (after_a4 r s u continues f.found a h f.did)
+to_a5 r s u a b l h f = subst (CallIsAt r u continues A5) (sym (same_registers l A5 b (record a { tail = ref_of r.plan.setup.bits f.found }) f.leads_to)) (after_a4 r s u continues f.found a h f.did)
 
 -- after A5: the node was linked, or the queue was found shut
 module _ (r : Arena) (s u : Seat) (a b : Running) (l : Line) (h : CallIsAt r s continues A5 a) (f : Follows r s u continues A5 a (Goes l b)) where
@@ -136,9 +135,9 @@ module _ (r : Arena) (s u : Seat) (a b : Running) (l : Line) (h : CallIsAt r s c
   added_there = entries_at r.plan.setup f.did.told.was (view s).number (view s).actor A5
 
   pub to_a6 : (l ≡ A7 → ⊥) → CallIsAt r u continues A6 b × (b.due ≡ Some Done) × (b.val ≡ a.val) × (added_there ≡ Push (view s).number (view s).actor.val.body ∷ [])
-  to_a6 other = go (same_ref (ref_of f.found) null) refl f.leads_to
+  to_a6 other = go (same_ref (ref_of r.plan.setup.bits f.found) null) refl f.leads_to
     where
-      go : (p : Bool) → same_ref (ref_of f.found) null ≡ p → Goes l b ≡ (if p then Goes A6 (record a { due = Some Done }) else Goes A7 (record a { due = Some (IsRefused Closed) }))
+      go : (p : Bool) → same_ref (ref_of r.plan.setup.bits f.found) null ≡ p → Goes l b ≡ (if p then Goes A6 (record a { due = Some Done }) else Goes A7 (record a { due = Some (IsRefused Closed) }))
           → CallIsAt r u continues A6 b × (b.due ≡ Some Done) × (b.val ≡ a.val) × (added_there ≡ Push (view s).number (view s).actor.val.body ∷ [])
       go true e q =
           let same : b ≡ record a { due = Some Done } = same_registers l A6 b (record a { due = Some Done }) q in
@@ -147,9 +146,9 @@ module _ (r : Arena) (s u : Seat) (a b : Running) (l : Line) (h : CallIsAt r s c
       go false e q = absurd (other (same_line l A7 b _ q))
 
   pub to_shut : l ≡ A7 → CallIsAt r u continues A7 b × (b.due ≡ Some (IsRefused Closed)) × (in_hand b ≡ in_hand a) × (added_there ≡ [])
-  to_shut is = go (same_ref (ref_of f.found) null) refl f.leads_to
+  to_shut is = go (same_ref (ref_of r.plan.setup.bits f.found) null) refl f.leads_to
     where
-      go : (p : Bool) → same_ref (ref_of f.found) null ≡ p → Goes l b ≡ (if p then Goes A6 (record a { due = Some Done }) else Goes A7 (record a { due = Some (IsRefused Closed) }))
+      go : (p : Bool) → same_ref (ref_of r.plan.setup.bits f.found) null ≡ p → Goes l b ≡ (if p then Goes A6 (record a { due = Some Done }) else Goes A7 (record a { due = Some (IsRefused Closed) }))
           → CallIsAt r u continues A7 b × (b.due ≡ Some (IsRefused Closed)) × (in_hand b ≡ in_hand a) × (added_there ≡ [])
       go true e q = absurd (let w : A7 ≡ A6 = sym is ∙ same_line l A6 b _ q in cc)
       go false e q =
@@ -166,8 +165,8 @@ module _ (r : Arena) (s u t : Seat) (a b c : Running) (j k : Line) (h : CallIsAt
   at_a5 : CallIsAt r u continues A5 b
   at_a5 = to_a5 r s u a b j h f
 
-  same_b : b ≡ record a { tail = ref_of f.found }
-  same_b = same_registers j A5 b (record a { tail = ref_of f.found }) f.leads_to
+  same_b : b ≡ record a { tail = ref_of r.plan.setup.bits f.found }
+  same_b = same_registers j A5 b (record a { tail = ref_of r.plan.setup.bits f.found }) f.leads_to
 
   body_is : (view u).actor.val.body ≡ (value_of a.val).body
   body_is = ap (λ (v : Taken). v.body) (at_a5.hand.val ∙ ap (λ (z : Running). value_of z.val) same_b)

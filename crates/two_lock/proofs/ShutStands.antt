@@ -11,16 +11,15 @@ use Rattle.history.specs.declared.refusals.Refusal.TheVariants.{Closed}
 use Rattle.node_arena.specs.Machine.{Actor, Outcome as MachineOutcome, WordTail, WordNext, node_at, goes, left}
 use Rattle.node_arena.specs.Traces.{outcome_at, entries_at}
 use Rattle.node_arena.specs.Prologues.{Prologue, after_prologue, continues}
-use Rattle.node_arena.specs.declared.arena.Arena.{Arena}
+use Rattle.node_arena.specs.Arenas.{Arena}
 use Rattle.node_arena.specs.declared.seats.Seat.{Seat}
 use Rattle.node_arena.specs.Seats.{DidStep, view}
 use Rattle.node_arena.proofs.Paths.{settled, goes_on}
 use Rattle.node_arena.proofs.Reading.{read_back}
 use Rattle.node_arena.proofs.Told.{was_fits}
 use Rattle.arena_lines.specs.declared.outcomes.Reply.TheVariants.{Done, Refused as IsRefused}
-use Rattle.two_lock.specs.declared.shut_outcomes.Actor.{Actor as Running}
 use Rattle.two_lock.specs.Pushes.{told_by}
-use Rattle.two_lock.specs.Shuts.{AgreesAt, KeepsPocket, CallIsAt}
+use Rattle.two_lock.specs.Shuts.{Running, AgreesAt, KeepsPocket, CallIsAt}
 
 module _ (r : Arena) (s t : Seat) (prologue : Prologue) (n : ℕ) (a : Running) where
   abbrev b : Actor
@@ -56,31 +55,31 @@ module _ (r : Arena) (s t : Seat) (prologue : Prologue) (n : ℕ) (a : Running) 
     pub lost_s6 : nat_eq n 0 ≡ false → CallIsAt r t continues S6 a
     lost_s6 e = leads S6 h d (sixth false) (went false e) S6 a refl refl (λ x. tt)
 
-  pub after_s7 : CallIsAt r s prologue S7 a → DidStep r s t prologue S7 n → CallIsAt r t continues S8 (record a { tail = ref_of n })
+  pub after_s7 : CallIsAt r s prologue S7 a → DidStep r s t prologue S7 n → CallIsAt r t continues S8 (record a { tail = ref_of r.plan.setup.bits n })
   after_s7 h d =
-      leads S7 h d (out_at S7 d) refl S8 (record a { tail = ref_of n }) refl refl
-      (λ x. sym (read_back d.told.was.world.shared.tail n (was_fits r.plan prologue S7 n (view s) (view t) d.told WordTail) d.told.found))
+      leads S7 h d (out_at S7 d) refl S8 (record a { tail = ref_of r.plan.setup.bits n }) refl refl
+      (λ x. sym (read_back r.plan.setup.bits d.told.sized.split d.told.was.world.shared.tail n (was_fits r.plan prologue S7 n (view s) (view t) d.told WordTail) d.told.found))
 
   module _ (h : CallIsAt r s prologue S8 a) (d : DidStep r s t prologue S8 n) where
     abbrev eighth : Bool → MachineOutcome
     eighth p =
         if p then record (goes S9 (record b { due = Some reply.Done })) { at = Some (d.told.was.world.steps + 1) } else goes S9 (record b { due = Some (reply.Refused Closed) })
 
-    test : (p : Bool) → same_ref (ref_of n) null ≡ p → same_ref (node_at d.told.was.world.shared b.tail.node).next null ≡ p
-    test p e = ap (λ k. same_ref k null) (sym (read_back (node_at d.told.was.world.shared b.tail.node).next n (was_fits r.plan prologue S8 n (view s) (view t) d.told (WordNext b.tail.node)) d.told.found)) ∙ e
+    test : (p : Bool) → same_ref (ref_of r.plan.setup.bits n) null ≡ p → same_ref (node_at d.told.was.world.shared b.tail.node).next null ≡ p
+    test p e = ap (λ k. same_ref k null) (sym (read_back r.plan.setup.bits d.told.sized.split (node_at d.told.was.world.shared b.tail.node).next n (was_fits r.plan prologue S8 n (view s) (view t) d.told (WordNext b.tail.node)) d.told.found)) ∙ e
 
     abbrev added_there : List Entry
     added_there = entries_at r.plan.setup d.told.was (view s).number b S8
 
     -- a closed end was put behind the last node
-    pub won_s8 : same_ref (ref_of n) null ≡ true → CallIsAt r t continues S9 (record a { due = Some Done }) × (added_there ≡ Shut (view s).number ∷ [])
+    pub won_s8 : same_ref (ref_of r.plan.setup.bits n) null ≡ true → CallIsAt r t continues S9 (record a { due = Some Done }) × (added_there ≡ Shut (view s).number ∷ [])
     won_s8 e = (
       leads S8 h d (eighth true) (ap eighth (test true e)) S9 (record a { due = Some Done }) refl refl (λ x. refl),
       ap (λ q. if q then Shut (view s).number ∷ [] else []) (test true e),
     )
 
     -- the queue was found shut
-    pub lost_s8 : same_ref (ref_of n) null ≡ false → CallIsAt r t continues S9 (record a { due = Some (IsRefused Closed) }) × (added_there ≡ [])
+    pub lost_s8 : same_ref (ref_of r.plan.setup.bits n) null ≡ false → CallIsAt r t continues S9 (record a { due = Some (IsRefused Closed) }) × (added_there ≡ [])
     lost_s8 e = (
       leads S8 h d (eighth false) (ap eighth (test false e)) S9 (record a { due = Some (IsRefused Closed) }) refl refl (λ x. refl),
       ap (λ q. if q then Shut (view s).number ∷ [] else []) (test false e),

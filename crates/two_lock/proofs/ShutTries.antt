@@ -10,7 +10,7 @@ use Rattle.history.specs.declared.refusals.Refusal.TheVariants.{Busy, Closed}
 use Rattle.node_arena.specs.Machine.{shuts}
 use Rattle.node_arena.specs.Traces.{Event, entries_at}
 use Rattle.node_arena.specs.Prologues.{continues, at_rest, out_of}
-use Rattle.node_arena.specs.declared.arena.Arena.{Arena}
+use Rattle.node_arena.specs.Arenas.{Arena}
 use Rattle.node_arena.specs.declared.seats.Seat.{Seat}
 use Rattle.node_arena.specs.Seats.{IsReady, KeepsStored, view}
 use Rattle.node_arena.specs.Turns.{failed_turns, at_s6}
@@ -22,16 +22,15 @@ use Rattle.arena_lines.specs.declared.outcomes.Outcome.TheVariants.{Goes}
 use Rattle.arena_lines.specs.declared.outcomes.Reply.TheVariants.{Done, Refused as IsRefused}
 use Rattle.arena_lines.proofs.Registers.{same_registers}
 use Rattle.arena_queue.specs.Answers.{Shuts, ShutRefused, FailsFewer, AnswersShut}
-use Rattle.two_lock.specs.declared.shut_outcomes.Actor.{Actor as Running}
 use Rattle.two_lock.specs.Values.{IsTwoLock}
 use Rattle.two_lock.specs.Pushes.{told_by}
-use Rattle.two_lock.specs.Shuts.{shutting, answer_of, has_lock, KeepsPocket, CallIsAt, Follows, LetsGo, ShutOr, PutsEnd, Trying}
+use Rattle.two_lock.specs.Shuts.{Running, shutting, answer_of, has_lock, KeepsPocket, CallIsAt, Follows, LetsGo, ShutOr, PutsEnd, Trying}
 use Rattle.two_lock.specs.Worn.{shut_worn}
 use Rattle.two_lock.proofs.ShutStands.{won_s6, lost_s6, after_s7, won_s8, lost_s8, done_s9, shut_s9}
 
 -- after S7
 pub to_s8 : (r : Arena) (s t : Seat) (l : Line) (a b : Running) → CallIsAt r s continues S7 a → Follows r s t continues S7 a (Goes l b) → CallIsAt r t continues S8 b
-to_s8 r s t l a b h f = subst (CallIsAt r t continues S8) (sym (same_registers l S8 b (record a { tail = ref_of f.found }) f.leads_to)) (after_s7 r s t continues f.found a h f.did)
+to_s8 r s t l a b h f = subst (CallIsAt r t continues S8) (sym (same_registers l S8 b (record a { tail = ref_of r.plan.setup.bits f.found }) f.leads_to)) (after_s7 r s t continues f.found a h f.did)
 
 -- what S8 comes to: a closed end was put there, or the queue was found shut
 module _ (r : Arena) (s t : Seat) (l : Line) (a b : Running) (h : CallIsAt r s continues S8 a) (f : Follows r s t continues S8 a (Goes l b)) where
@@ -50,9 +49,9 @@ module _ (r : Arena) (s t : Seat) (l : Line) (a b : Running) (h : CallIsAt r s c
   eighth p = if p then Goes S9 (record a { due = Some Done }) else Goes S9 (record a { due = Some (IsRefused Closed) })
 
   pub after_s8 : CallIsAt r t continues S9 b × (Put ⊎ Lost)
-  after_s8 = go (same_ref (ref_of f.found) null) refl f.leads_to
+  after_s8 = go (same_ref (ref_of r.plan.setup.bits f.found) null) refl f.leads_to
     where
-      go : (p : Bool) → same_ref (ref_of f.found) null ≡ p → Goes l b ≡ eighth p → CallIsAt r t continues S9 b × (Put ⊎ Lost)
+      go : (p : Bool) → same_ref (ref_of r.plan.setup.bits f.found) null ≡ p → Goes l b ≡ eighth p → CallIsAt r t continues S9 b × (Put ⊎ Lost)
       go true e q =
           let same : b ≡ record a { due = Some Done } = same_registers l S9 b (record a { due = Some Done }) q in
           let k = won_s8 r s t continues f.found a h f.did e in

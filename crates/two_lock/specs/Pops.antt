@@ -1,6 +1,6 @@
 -- A running pop: what it remembers before each line, and what its turns come to.
 use Rattle.std.specs.Prelude.{◌≡◌, ℕ, zero, suc, ◌≤◌, Bool, true, false, if◌then◌else◌, nat_eq, List, ◌++◌, Option, Some, None}
-use Rattle.counted_ref.specs.Ref.{ref_of, is_null, is_shut}
+use Rattle.counted_ref.specs.Ref.{Ref, ref_of, is_null, is_shut}
 use Rattle.line_table.specs.declared.lines.Line.{Line}
 use Rattle.line_table.specs.declared.lines.Line.TheVariants.{B1, B2, B3, B4, B5, B6, F1}
 use Rattle.history.specs.declared.operations.Entry.TheVariants.{Pop}
@@ -14,7 +14,7 @@ use Rattle.history.specs.Answers.{FoundEmpty}
 use Rattle.node_arena.specs.Machine.{Setup, Actor}
 use Rattle.node_arena.specs.Traces.{Event}
 use Rattle.node_arena.specs.Prologues.{Prologue, begins, continues, after_prologue}
-use Rattle.node_arena.specs.declared.arena.Arena.{Arena}
+use Rattle.node_arena.specs.Arenas.{Arena}
 use Rattle.node_arena.specs.declared.seats.Seat.{Seat}
 use Rattle.node_arena.specs.Seeing.{known_by}
 use Rattle.node_arena.specs.Seats.{IsSeat, IsBefore, KeepsStored, DidStep, view}
@@ -25,7 +25,15 @@ use Rattle.arena_lines.specs.declared.outcomes.Outcome.{Outcome}
 use Rattle.arena_lines.specs.declared.outcomes.Outcome.TheVariants.{Goes, Ends}
 use Rattle.arena_lines.specs.declared.outcomes.Reply.{Reply}
 use Rattle.arena_lines.specs.declared.outcomes.Reply.TheVariants.{Done as IsDone, Value as IsValue, Empty as IsEmpty, Refused as IsRefused}
-use Rattle.two_lock.specs.declared.pop_outcomes.Actor.{Actor as Running}
+
+-- what a running pop remembers
+pub record Running : Type 0 where
+  pub head : Ref
+  pub next : Ref
+  pub val : ℕ
+  pub node : ℕ
+  pub mark : ℕ
+  pub due : Option Reply
 
 -- how a pop sets out: its first turn begins a dequeue, and a later one goes on
 abbrev pub popping : ℕ → Prologue
@@ -41,11 +49,11 @@ unlocked_as (Some reply) a = Ends reply
 -- what a running pop makes of the number found at a line
 abbrev pub follow : Setup → Running → Line → ℕ → Outcome Running
 follow z a B1 n = if nat_eq n 0 then Goes B2 a else Goes B1 a
-follow z a B2 n = Goes B3 (record a { head = ref_of n })
+follow z a B2 n = Goes B3 (record a { head = ref_of z.bits n })
 follow z a B3 n =
-    let b = record a { next = ref_of n } in
-    if is_null (ref_of n) then Goes B6 (record b { due = Some IsEmpty })
-    else if is_shut (ref_of n) then Goes B6 (record b { due = Some (IsRefused Closed) })
+    let b = record a { next = ref_of z.bits n } in
+    if is_null (ref_of z.bits n) then Goes B6 (record b { due = Some IsEmpty })
+    else if is_shut z.bits (ref_of z.bits n) then Goes B6 (record b { due = Some (IsRefused Closed) })
     else Goes B4 b
 follow z a B4 n =
     let b = record a { val = n } in

@@ -1,17 +1,18 @@
 -- A running push: what it remembers before each line, and what it comes to.
 use Rattle.std.specs.Prelude.{◌≡◌, ℕ, ◌+◌, ◌<◌, Bool, true, false, if◌then◌else◌, nat_eq, List, Option, Some, None, Result, Ok, Err}
-use Rattle.counted_ref.specs.Ref.{ref, ref_of, null, same_ref}
+use Rattle.counted_ref.specs.Ref.{Ref, ref, ref_of, null, same_ref}
 use Rattle.line_table.specs.declared.lines.Line.{Line}
 use Rattle.line_table.specs.declared.lines.Line.TheVariants.{A1, A2, A3, A4, A5, A6, A7}
 use Rattle.history.specs.declared.operations.Entry.TheVariants.{Push}
+use Rattle.history.specs.declared.operations.Op.TheVariants.{Enq}
 use Rattle.history.specs.declared.operations.Reply as replies
 use Rattle.history.specs.declared.operations.Reply.TheVariants as reply
 use Rattle.history.specs.declared.refusals.Refusal.{Refusal}
 use Rattle.history.specs.declared.refusals.Refusal.TheVariants.{Closed}
-use Rattle.node_arena.specs.Machine.{Held, Actor}
+use Rattle.node_arena.specs.Machine.{Setup, Held, Actor}
 use Rattle.node_arena.specs.Traces.{Event}
-use Rattle.node_arena.specs.Prologues.{Prologue, continues, after_prologue}
-use Rattle.node_arena.specs.declared.arena.Arena.{Arena}
+use Rattle.node_arena.specs.Prologues.{Prologue, begins, continues, after_prologue}
+use Rattle.node_arena.specs.Arenas.{Arena}
 use Rattle.node_arena.specs.declared.seats.Seat.{Seat}
 use Rattle.node_arena.specs.Seats.{IsSeat, IsBefore, KeepsStored, DidStep, view}
 use Rattle.node_arena.specs.Turns.{failed_turns}
@@ -21,7 +22,14 @@ use Rattle.arena_lines.specs.declared.outcomes.Outcome.{Outcome}
 use Rattle.arena_lines.specs.declared.outcomes.Outcome.TheVariants.{Goes, Ends}
 use Rattle.arena_lines.specs.declared.outcomes.Reply.{Reply}
 use Rattle.arena_lines.specs.declared.outcomes.Reply.TheVariants.{Done, Refused as IsRefused}
-use Rattle.two_lock.specs.declared.push_outcomes.Actor.{Actor as Running}
+
+-- what a running push remembers
+pub record Running : Type 0 where
+  pub node : ℕ
+  pub mark : ℕ
+  pub val : ℕ
+  pub tail : Ref
+  pub due : Option Reply
 
 -- the registers of a push that has this node and this word of a value
 abbrev pub registers_of : Held → ℕ → Running
@@ -32,17 +40,21 @@ abbrev pub left_as : Option Reply → Outcome Running
 left_as (Some (IsRefused why)) = Ends (IsRefused why)
 left_as _ = Ends Done
 
+-- how a push sets out that has its node and this word of a value
+abbrev pub pushing : ℕ → Prologue
+pushing val = begins (Enq (value_of val).body)
+
 -- what a running push makes of the number found at a line
-abbrev pub follow : Running → Line → ℕ → Outcome Running
-follow a A1 n = Goes A2 a
-follow a A2 n = Goes A3 a
-follow a A3 n = if nat_eq n 0 then Goes A4 a else Goes A3 a
-follow a A4 n = Goes A5 (record a { tail = ref_of n })
-follow a A5 n =
-    if same_ref (ref_of n) null then Goes A6 (record a { due = Some Done }) else Goes A7 (record a { due = Some (IsRefused Closed) })
-follow a A6 n = Goes A7 a
-follow a A7 n = left_as a.due
-follow a l n = Goes l a
+abbrev pub follow : Setup → Running → Line → ℕ → Outcome Running
+follow z a A1 n = Goes A2 a
+follow z a A2 n = Goes A3 a
+follow z a A3 n = if nat_eq n 0 then Goes A4 a else Goes A3 a
+follow z a A4 n = Goes A5 (record a { tail = ref_of z.bits n })
+follow z a A5 n =
+    if same_ref (ref_of z.bits n) null then Goes A6 (record a { due = Some Done }) else Goes A7 (record a { due = Some (IsRefused Closed) })
+follow z a A6 n = Goes A7 a
+follow z a A7 n = left_as a.due
+follow z a l n = Goes l a
 
 -- whether a try of the lock got it
 abbrev pub has_lock : Outcome Running → Bool
@@ -75,7 +87,7 @@ pub record CallIsAt (r : Arena) (s : Seat) (prologue : Prologue) (l : Line) (a :
 pub record Follows (r : Arena) (s t : Seat) (prologue : Prologue) (l : Line) (a : Running) (out : Outcome Running) : Type 0 where
   pub found : ℕ
   pub did : DidStep r s t prologue l found
-  pub leads_to : out ≡ follow a l found
+  pub leads_to : out ≡ follow r.plan.setup a l found
 
 -- the node of a running push, with its mark
 abbrev pub in_hand : Running → Held

@@ -1,16 +1,16 @@
 -- A running shut: what it remembers before each line, and what its turns come to.
 use Rattle.std.specs.Prelude.{◌≡◌, ℕ, zero, suc, ◌≤◌, Bool, true, false, if◌then◌else◌, nat_eq, List, Option, Some, None, Result, Ok, Err}
-use Rattle.counted_ref.specs.Ref.{ref_of, null, same_ref}
+use Rattle.counted_ref.specs.Ref.{Ref, ref_of, null, same_ref}
 use Rattle.line_table.specs.declared.lines.Line.{Line}
 use Rattle.line_table.specs.declared.lines.Line.TheVariants.{S6, S7, S8, S9}
 use Rattle.history.specs.declared.operations.Entry.TheVariants.{Shut}
 use Rattle.history.specs.declared.operations.Op.TheVariants.{Shut as Shutting}
 use Rattle.history.specs.declared.refusals.Refusal.{Refusal}
 use Rattle.history.specs.declared.refusals.Refusal.TheVariants.{Closed}
-use Rattle.node_arena.specs.Machine.{Actor}
+use Rattle.node_arena.specs.Machine.{Setup, Actor}
 use Rattle.node_arena.specs.Traces.{Event}
 use Rattle.node_arena.specs.Prologues.{Prologue, begins, continues, after_prologue}
-use Rattle.node_arena.specs.declared.arena.Arena.{Arena}
+use Rattle.node_arena.specs.Arenas.{Arena}
 use Rattle.node_arena.specs.declared.seats.Seat.{Seat}
 use Rattle.node_arena.specs.Seats.{IsSeat, IsBefore, KeepsStored, DidStep, view, pocket_of}
 use Rattle.node_arena.specs.Turns.{failed_turns}
@@ -19,8 +19,12 @@ use Rattle.arena_lines.specs.declared.outcomes.Outcome.{Outcome}
 use Rattle.arena_lines.specs.declared.outcomes.Outcome.TheVariants.{Goes}
 use Rattle.arena_lines.specs.declared.outcomes.Reply.{Reply}
 use Rattle.arena_lines.specs.declared.outcomes.Reply.TheVariants.{Done, Refused as IsRefused}
-use Rattle.two_lock.specs.declared.shut_outcomes.Actor.{Actor as Running}
 use Rattle.two_lock.specs.Pushes.{told_by}
+
+-- what a running shut remembers
+pub record Running : Type 0 where
+  pub tail : Ref
+  pub due : Option Reply
 
 -- how a shut sets out: its first turn begins the call, and a later one goes on
 abbrev pub shutting : ℕ → Prologue
@@ -33,12 +37,12 @@ answer_of (Some (IsRefused why)) = Err why
 answer_of _ = Ok tt
 
 -- what a running shut makes of the number found at a line that it goes on from
-abbrev pub follow : Running → Line → ℕ → Outcome Running
-follow a S6 n = if nat_eq n 0 then Goes S7 a else Goes S6 a
-follow a S7 n = Goes S8 (record a { tail = ref_of n })
-follow a S8 n =
-    if same_ref (ref_of n) null then Goes S9 (record a { due = Some Done }) else Goes S9 (record a { due = Some (IsRefused Closed) })
-follow a l n = Goes l a
+abbrev pub follow : Setup → Running → Line → ℕ → Outcome Running
+follow z a S6 n = if nat_eq n 0 then Goes S7 a else Goes S6 a
+follow z a S7 n = Goes S8 (record a { tail = ref_of z.bits n })
+follow z a S8 n =
+    if same_ref (ref_of z.bits n) null then Goes S9 (record a { due = Some Done }) else Goes S9 (record a { due = Some (IsRefused Closed) })
+follow z a l n = Goes l a
 
 -- whether a try of the lock got it
 abbrev pub has_lock : Outcome Running → Bool
@@ -65,7 +69,7 @@ pub record CallIsAt (r : Arena) (s : Seat) (prologue : Prologue) (l : Line) (a :
 pub record Follows (r : Arena) (s t : Seat) (prologue : Prologue) (l : Line) (a : Running) (out : Outcome Running) : Type 0 where
   pub found : ℕ
   pub did : DidStep r s t prologue l found
-  pub leads_to : out ≡ follow a l found
+  pub leads_to : out ≡ follow r.plan.setup a l found
 
 -- the seat let the lock go, and the call answers what is due
 pub record LetsGo (r : Arena) (s t : Seat) (a : Running) (out : Result (Unit {0}) Refusal) : Type 0 where

@@ -1,4 +1,4 @@
--- Which words stop a push, a pop or a shut of the two-lock queue where they are worn out.
+-- Which words stop a push or a pop of the two-lock queue where they are worn out, and whether Tail stops a shut.
 use Rattle.std.specs.Prelude.{Option}
 use Rattle.history.specs.declared.refusals.WornWord.{WornWord}
 use Rattle.history.specs.declared.refusals.WornWord.TheVariants.{Head as OfHead}
@@ -13,6 +13,6 @@ abbrev pub pop_worn : WornWord → Type 0
 pop_worn OfHead = Unit {0}
 pop_worn _ = ⊥
 
--- a shut: none
-abbrev pub shut_worn : WornWord → Type 0
-shut_worn word = ⊥
+-- a shut: Tail doesn't
+abbrev pub shut_worn : Type 0
+shut_worn = ⊥

@@ -3,24 +3,29 @@ ghost use Rattle.line_table.specs.declared.lines.Kind.TheVariants as kinds;
 ghost use Rattle.two_lock.specs.Worn.{push_worn, pop_worn, shut_worn};
 
 use crate::{popping, pushing, shutting};
-use arena_queue::{Algorithm, ArenaQueue};
+use arena_queue::{Algorithm, ArenaQueueOf};
 use history::{Body, Refusal, Taken};
 use line_table::Kind;
-use node_arena::{Arena, Held, Seat};
+use node_arena::{ArenaOf, Held, Seat};
 
-/// The two-lock queue. Threads share it by reference, each with a seat of its own.
+/// The two-lock queue, in whose references `B` bits, 16 to 32, hold the number of a node and the others a count. Threads
+/// share it by reference, each with a seat of its own.
 ///
 /// A push is refused `NoNode` where at one step all nodes were used and none was free, `WornOut(Free)` where at one step
 /// Free's count was the greatest one, and `Busy` where each of so many turns failed. A node that the call got stays in
 /// the seat's pocket, for its next push. A pop is refused `WornOut(Head)` where at one step Head's count was the greatest
 /// one, and `Busy` so.
-pub type TwoLockQueue = ArenaQueue<TwoLockAlgorithm>;
+pub type TwoLockQueueOf<const B: u32> = ArenaQueueOf<TwoLockAlgorithm, B>;
+
+/// The two-lock queue with 24 bits for the number of a node: up to `MOST_NODE` nodes, and counts up to
+/// `MOST_COUNT`.
+pub type TwoLockQueue = TwoLockQueueOf<24>;
 
 /// The algorithm of the two-lock queue.
 #[derive(Drop)]
 pub struct TwoLockAlgorithm;
 
-impl Algorithm for TwoLockAlgorithm {
+impl<const B: u32> Algorithm<B> for TwoLockAlgorithm {
     ghost kind = { kinds.TwoLock };
 
     ghost push_worn = { push_worn };
@@ -34,7 +39,7 @@ impl Algorithm for TwoLockAlgorithm {
     }
 
     fn put(
-        arena: &Arena,
+        arena: &ArenaOf<B>,
         seat: &mut Seat,
         held: Held,
         body: Body,
@@ -45,7 +50,7 @@ impl Algorithm for TwoLockAlgorithm {
     }
 
     fn draw(
-        arena: &Arena,
+        arena: &ArenaOf<B>,
         seat: &mut Seat,
         spent: u32,
         turns: u32,
@@ -53,7 +58,7 @@ impl Algorithm for TwoLockAlgorithm {
         popping::pop_with_empty_pocket(arena, seat, spent, turns)
     }
 
-    fn shut(arena: &Arena, seat: &mut Seat, turns: u32) -> Result<(), Refusal> {
+    fn shut(arena: &ArenaOf<B>, seat: &mut Seat, turns: u32) -> Result<(), Refusal> {
         shutting::shut_queue(arena, seat, turns)
     }
 }

@@ -12,4 +12,4 @@ mod shut_lines;
 mod shut_outcomes;
 mod shutting;
 
-pub use algorithm::{TwoLockAlgorithm, TwoLockQueue};
+pub use algorithm::{TwoLockAlgorithm, TwoLockQueue, TwoLockQueueOf};

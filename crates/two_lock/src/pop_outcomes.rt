@@ -3,14 +3,16 @@ ghost use Rattle.std.specs.Prelude.{◌≡◌};
 ghost use Rattle.two_lock.specs.Pops.{has_lock, unlocked_as};
 
 use arena_lines::{Outcome, Reply};
-use counted_ref::CountedRef;
+use counted_ref::CountedRefOf;
 use line_table::Line;
+use node_arena::ArenaOf;
+use std::marker::Model;
 
 /// The registers of a running pop.
 #[derive(Clone, Copy)]
-pub(crate) struct Actor {
-    pub(crate) head: CountedRef,
-    pub(crate) next: CountedRef,
+pub(crate) struct ActorOf<const B: u32> {
+    pub(crate) head: CountedRefOf<B>,
+    pub(crate) next: CountedRefOf<B>,
     /// The word of the value that it takes.
     pub(crate) val: u64,
     pub(crate) node: u32,
@@ -18,10 +20,20 @@ pub(crate) struct Actor {
     pub(crate) due: Option<Reply>,
 }
 
+impl<const B: u32> Model for ActorOf<B> {
+    ghost use Rattle.two_lock.specs.Pops.{Running};
+
+    ghost Value = { Running };
+
+    ghost view = { λ a. record { head = a.head; next = a.next; val = a.val; node = a.node; mark = a.mark; due = a.due } };
+
+    ghost inverse = { λ a. record { head = a.head; next = a.next; val = a.val; node = a.node; mark = a.mark; due = a.due } };
+}
+
 /// Registers that hold nothing yet.
-pub(crate) fn blank() -> Actor {
-    let null = CountedRef::new(0, 0);
-    Actor {
+pub(crate) fn blank<const B: u32>(arena: &ArenaOf<B>) -> ActorOf<B> {
+    let null = arena.null();
+    ActorOf {
         head: null,
         next: null,
         val: 0,
@@ -31,7 +43,7 @@ pub(crate) fn blank() -> Actor {
     }
 }
 
-impl Actor {
+impl<const B: u32> ActorOf<B> {
     pub(crate) fn fills_hand(&mut self, node: u32, mark: u64)
         ensures { self.new ≡ record self.old { node = node; mark = mark } }
     {
@@ -40,8 +52,8 @@ impl Actor {
     }
 }
 
-pub(crate) fn unlocked(a: Actor) -> Outcome<Actor>
-    ensures { result ≡ unlocked_as a.due a }
+pub(crate) fn unlocked<const B: u32>(a: ActorOf<B>) -> Outcome<ActorOf<B>>
+    ensures { result ≡ unlocked_as a.entry.due a.entry }
 {
     match a.due {
         None | Some(Reply::Value(_)) => Outcome::Goes(Line::F1, a),
@@ -50,8 +62,8 @@ pub(crate) fn unlocked(a: Actor) -> Outcome<Actor>
 }
 
 /// Whether a try of the lock got it.
-pub(crate) fn got_lock(outcome: Outcome<Actor>) -> bool
-    ensures { result ≡ has_lock outcome }
+pub(crate) fn got_lock<const B: u32>(outcome: Outcome<ActorOf<B>>) -> bool
+    ensures { result ≡ has_lock outcome.entry }
 {
     match outcome {
         Outcome::Goes(Line::B2, _) => true,

@@ -10,15 +10,19 @@ ghost use Rattle.two_lock.specs.Worn.{pop_worn};
 ghost use Rattle.arena_queue.specs.Answers.{Draws};
 
 use crate::pop_lines::{b1, b2, b3, b4, b5, b6};
-use crate::pop_outcomes::{Actor, blank, got_lock};
+use crate::pop_outcomes::{ActorOf, blank, got_lock};
 use arena_lines::{Outcome, Reply};
 use free_list::give_back;
 use history::{Refusal, Taken};
 use line_table::Line;
-use node_arena::{Arena, Held, Seat, value_of};
+use node_arena::{ArenaOf, Held, Seat, value_of};
 
 // With the lock: the value after Head's node is taken where there is one, and the lock is let go.
-fn read_front(arena: &Arena, seat: &mut Seat, a: Actor) -> Outcome<Actor>
+fn read_front<const B: u32>(
+    arena: &ArenaOf<B>,
+    seat: &mut Seat,
+    a: ActorOf<B>,
+) -> Outcome<ActorOf<B>>
     requires stands { CallIsAt arena.now seat.old continues lines.B2 a }
     requires two_lock { IsTwoLock arena.now }
     requires role { IsTrue (may_pop (role_of seat.old)) }
@@ -38,8 +42,8 @@ fn read_front(arena: &Arena, seat: &mut Seat, a: Actor) -> Outcome<Actor>
 }
 
 // With the lock, where so many turns failed before: a node that comes free is given back with the turns that are left.
-fn pop_locked(
-    arena: &Arena,
+fn pop_locked<const B: u32>(
+    arena: &ArenaOf<B>,
     seat: &mut Seat,
     failed: u32,
     turns: u32,
@@ -50,7 +54,7 @@ fn pop_locked(
     requires turns { failed < turns }
     ensures { Draws pop_worn arena.now seat.old seat.new failed turns result }
 {
-    match read_front(arena, seat, blank()) {
+    match read_front(arena, seat, blank(arena)) {
         Outcome::Goes(_, a) => {
             let node = a.node;
             let mark = a.mark;
@@ -70,8 +74,8 @@ fn pop_locked(
 }
 
 // The pop with an empty pocket, where `spent` turns of this call failed before.
-pub(crate) fn pop_with_empty_pocket(
-    arena: &Arena,
+pub(crate) fn pop_with_empty_pocket<const B: u32>(
+    arena: &ArenaOf<B>,
     seat: &mut Seat,
     spent: u32,
     turns: u32,
@@ -84,7 +88,7 @@ pub(crate) fn pop_with_empty_pocket(
     ensures { Draws pop_worn arena.now seat.old seat.new spent turns result }
 {
     for index in 0..turns - spent {
-        if got_lock(b1(arena, seat, blank(), index)) {
+        if got_lock(b1(arena, seat, blank(arena), index)) {
             return pop_locked(arena, seat, spent + index, turns);
         }
     }

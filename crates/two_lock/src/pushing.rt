@@ -10,17 +10,21 @@ ghost use Rattle.two_lock.specs.Worn.{push_worn};
 ghost use Rattle.arena_queue.specs.Answers.{Puts};
 
 use crate::push_lines::{a1, a2, a3, a4, a5, a6, a7};
-use crate::push_outcomes::{Actor, got_lock, registers};
+use crate::push_outcomes::{ActorOf, got_lock, registers};
 use history::{Body, Refusal};
 use line_table::Line;
-use node_arena::{Arena, Held, Seat, word_of};
+use node_arena::{ArenaOf, Held, Seat, word_of};
 
 // With the lock: the node is linked behind the last one and Tail goes on to it, unless the queue is shut; the lock is let
 // go.
-fn push_locked(arena: &Arena, seat: &mut Seat, a: Actor) -> Result<(), Refusal>
+fn push_locked<const B: u32>(
+    arena: &ArenaOf<B>,
+    seat: &mut Seat,
+    a: ActorOf<B>,
+) -> Result<(), Refusal>
     requires stands { CallIsAt arena.now seat.old continues lines.A4 a }
     requires role { IsTrue (may_push (role_of seat.old)) }
-    ensures { Links arena.now seat.old seat.new a result }
+    ensures { Links arena.now seat.old seat.new a.entry result }
 {
     let a = a4(arena, seat, a);
     let (next, a) = a5(arena, seat, a);
@@ -34,8 +38,8 @@ fn push_locked(arena: &Arena, seat: &mut Seat, a: Actor) -> Result<(), Refusal>
 }
 
 // The push with the node in the pocket, where `spent` turns of this call failed before.
-pub(crate) fn push_node(
-    arena: &Arena,
+pub(crate) fn push_node<const B: u32>(
+    arena: &ArenaOf<B>,
     seat: &mut Seat,
     held: Held,
     body: Body,
@@ -51,11 +55,11 @@ pub(crate) fn push_node(
     ensures pocket { OnErr result (pocket_of seat.new ≡ Some held) }
 {
     let val = word_of(seat.number(), body.number());
-    let a = a1(arena, seat, registers(held, val));
+    let a = a1(arena, seat, registers(arena, held, val));
     let _ = a2(arena, seat, a);
     for index in spent..turns {
-        if got_lock(a3(arena, seat, registers(held, val))) {
-            match push_locked(arena, seat, registers(held, val)) {
+        if got_lock(a3(arena, seat, registers(arena, held, val))) {
+            match push_locked(arena, seat, registers(arena, held, val)) {
                 Ok(()) => {
                     seat.keep(None, index);
                     return Ok(());

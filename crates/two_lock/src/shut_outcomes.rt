@@ -3,28 +3,40 @@ ghost use Rattle.std.specs.Prelude.{◌≡◌};
 ghost use Rattle.two_lock.specs.Shuts.{has_lock, answer_of};
 
 use arena_lines::{Outcome, Reply};
-use counted_ref::CountedRef;
+use counted_ref::CountedRefOf;
 use history::Refusal;
 use line_table::Line;
+use node_arena::ArenaOf;
+use std::marker::Model;
 
 /// The registers of a running shut.
 #[derive(Clone, Copy)]
-pub(crate) struct Actor {
-    pub(crate) tail: CountedRef,
+pub(crate) struct ActorOf<const B: u32> {
+    pub(crate) tail: CountedRefOf<B>,
     pub(crate) due: Option<Reply>,
 }
 
+impl<const B: u32> Model for ActorOf<B> {
+    ghost use Rattle.two_lock.specs.Shuts.{Running};
+
+    ghost Value = { Running };
+
+    ghost view = { λ a. record { tail = a.tail; due = a.due } };
+
+    ghost inverse = { λ a. record { tail = a.tail; due = a.due } };
+}
+
 /// Registers that hold nothing yet.
-pub(crate) fn blank() -> Actor {
-    Actor {
-        tail: CountedRef::new(0, 0),
+pub(crate) fn blank<const B: u32>(arena: &ArenaOf<B>) -> ActorOf<B> {
+    ActorOf {
+        tail: arena.null(),
         due: None,
     }
 }
 
 /// The lock was let go: a shut that found the queue shut is refused.
-pub(crate) fn left(a: Actor) -> Result<(), Refusal>
-    ensures { result ≡ answer_of a.due }
+pub(crate) fn left<const B: u32>(a: ActorOf<B>) -> Result<(), Refusal>
+    ensures { result ≡ answer_of a.entry.due }
 {
     match a.due {
         Some(Reply::Refused(why)) => Err(why),
@@ -33,8 +45,8 @@ pub(crate) fn left(a: Actor) -> Result<(), Refusal>
 }
 
 /// Whether a try of the lock got it.
-pub(crate) fn got_lock(outcome: Outcome<Actor>) -> bool
-    ensures { result ≡ has_lock outcome }
+pub(crate) fn got_lock<const B: u32>(outcome: Outcome<ActorOf<B>>) -> bool
+    ensures { result ≡ has_lock outcome.entry }
 {
     match outcome {
         Outcome::Goes(Line::S7, _) => true,

@@ -10,12 +10,16 @@ ghost use Rattle.two_lock.specs.Worn.{shut_worn};
 ghost use Rattle.arena_queue.specs.Answers.{AnswersShut};
 
 use crate::shut_lines::{s6, s7, s8, s9};
-use crate::shut_outcomes::{Actor, blank, got_lock};
+use crate::shut_outcomes::{ActorOf, blank, got_lock};
 use history::Refusal;
-use node_arena::{Arena, Seat};
+use node_arena::{ArenaOf, Seat};
 
 // With the lock: a closed end is put behind the last node, unless the queue is shut; the lock is let go.
-fn shut_locked(arena: &Arena, seat: &mut Seat, a: Actor) -> Result<(), Refusal>
+fn shut_locked<const B: u32>(
+    arena: &ArenaOf<B>,
+    seat: &mut Seat,
+    a: ActorOf<B>,
+) -> Result<(), Refusal>
     requires stands { CallIsAt arena.now seat.old continues lines.S7 a }
     requires role { IsTrue (may_push (role_of seat.old)) }
     ensures { PutsEnd arena.now seat.old seat.new result }
@@ -26,7 +30,11 @@ fn shut_locked(arena: &Arena, seat: &mut Seat, a: Actor) -> Result<(), Refusal>
 }
 
 // The shut. What is in the pocket stays there.
-pub(crate) fn shut_queue(arena: &Arena, seat: &mut Seat, turns: u32) -> Result<(), Refusal>
+pub(crate) fn shut_queue<const B: u32>(
+    arena: &ArenaOf<B>,
+    seat: &mut Seat,
+    turns: u32,
+) -> Result<(), Refusal>
     requires ready { IsReady arena.now seat.old }
     requires two_lock { IsTwoLock arena.now }
     requires role { IsTrue (may_push (role_of seat.old)) }
@@ -34,8 +42,8 @@ pub(crate) fn shut_queue(arena: &Arena, seat: &mut Seat, turns: u32) -> Result<(
     ensures { AnswersShut shut_worn arena.now seat.old seat.new turns result }
 {
     for index in 0..turns {
-        if got_lock(s6(arena, seat, blank(), index)) {
-            return shut_locked(arena, seat, blank());
+        if got_lock(s6(arena, seat, blank(arena), index)) {
+            return shut_locked(arena, seat, blank(arena));
         }
     }
     Err(Refusal::Busy)

@@ -18,6 +18,7 @@ use Rattle.history.specs.Entries.{is_shut, own_entries, Plays, Leads, LeadsToShu
 use Rattle.history.specs.Seats.{Permit, Known, IsPermitted, IsSound}
 use Rattle.history.specs.Values.{pushed, popped, pushed_by, OnlyPushes, OnlyPops}
 use Rattle.history.proofs.Values.{pushed-Leads, pushed-alone, popped-alone}
+use Rattle.history.proofs.Ending.{ends_there}
 use Rattle.two_threads.specs.Duos.{pushes_to, values_to, pops_of, EndsPushOne, EndsRun}
 
 -- the values that these pushes push
@@ -86,23 +87,6 @@ pub shut_ends_run : (most : ℕ) (k k' : Known) (why : Refusal) → (FoundShut k
 shut_ends_run most k k' (WornOut word) never may h = tt
 shut_ends_run most k k' Closed never may h = absurd (never h)
 shut_ends_run most k k' _ never may h = absurd may
-
--- nothing is done behind the end of a queue that is shut and empty
-abbrev done : Queue
-done = record { values = []; shut = true }
-
-nothing_behind : (es : List Entry) (after : Queue) → Plays done es after → done ≡ after
-nothing_behind [] after h = h
-nothing_behind (Push seat body ∷ es) after h = absurd (let e : Refused Closed ≡ Done = h.0 in cc)
-nothing_behind (Pop seat value ∷ es) after h = absurd (let e : Refused Closed ≡ Value value = h.0 in cc)
-nothing_behind (Shut seat ∷ es) after h = absurd (let e : Refused Closed ≡ Done = h.0 in cc)
-
--- so what leads there, and further, leads there
-ends_there : (es more : List Entry) (queue after : Queue) → Plays queue es done → Plays queue (es ++ more) after → done ≡ after
-ends_there [] more queue after h k = nothing_behind more after (subst (λ q. Plays q more after) h k)
-ends_there (Push seat body ∷ es) more queue after h k = ends_there es more _ after h.1 k.1
-ends_there (Pop seat value ∷ es) more queue after h k = ends_there es more _ after h.1 k.1
-ends_there (Shut seat ∷ es) more queue after h k = ends_there es more _ after h.1 k.1
 
 -- what the one popper took, who then found the queue shut and empty, is what the one pusher pushed, in order
 pub in_order :

@@ -1,6 +1,6 @@
 -- Worked runs of the non-blocking queue.
 use Rattle.std.specs.Prelude.{List, [], ◌∷◌, ◌++◌, Some, None}
-use Rattle.counted_ref.specs.Ref.{ref, ref_word}
+use Rattle.counted_ref.specs.Ref.{ref}
 use Rattle.line_table.specs.declared.lines.Kind.TheVariants.{NonBlocking}
 use Rattle.line_table.specs.declared.lines.Line.{Line}
 use Rattle.line_table.specs.declared.lines.Line.TheVariants.{N1, N2, N3, N4, N5, F1, F2, F3, E2, E3, E5, E6, E7, E9, E17, D2, D3, D4, D5, D10, D12, D13}
@@ -9,13 +9,15 @@ use Rattle.history.specs.declared.operations.Reply.TheVariants.{Done, Value, Emp
 use Rattle.history.specs.declared.refusals.Refusal.TheVariants.{NoNode, WornOut, Busy}
 use Rattle.history.specs.declared.refusals.WornWord.TheVariants.{Free as OfFree, Next as OfNext, Tail as OfTail}
 use Rattle.line_steps.specs.Memory.{Fresh, Free, Head, Tail, Next}
-use Rattle.worked_runs.specs.Seen.{Run, begin, many, give, holds, stands, keeps, left}
+use Rattle.worked_runs.specs.Seen.{Run, begin, many, give, holds, names, stands, keeps, left}
 
 -- nothing happened yet
 abbrev pub no_moves : Run
 no_moves =
     record {
-      setup = record { kind = NonBlocking; size = 3; limit = 100 };
+      kind = NonBlocking;
+      size = 3;
+      limit = 100;
       actors = 2;
       moves = [];
       history =
@@ -27,13 +29,15 @@ no_moves =
 abbrev pub push : Run
 push =
     record {
-      setup = record { kind = NonBlocking; size = 3; limit = 100 };
+      kind = NonBlocking;
+      size = 3;
+      limit = 100;
       actors = 2;
       moves = begin 1 (Enq 5) ++ many 1 10;
       history =
           record { actor = 1; op = Enq 5; first = 1; last = Some 10; at = Some 9; reply = Some Done } ∷
           [];
-      facts = holds Tail (ref_word (ref 2 1)) ∷ holds (Next 1) (ref_word (ref 2 1)) ∷ holds Fresh 2 ∷ [];
+      facts = names Tail (ref 2 1) ∷ names (Next 1) (ref 2 1) ∷ holds Fresh 2 ∷ [];
     }
 
 -- the lines that it goes through
@@ -44,14 +48,16 @@ lines_of_push = N1 ∷ N2 ∷ N5 ∷ E2 ∷ E3 ∷ E5 ∷ E6 ∷ E7 ∷ E9 ∷ E
 abbrev pub push_and_pop : Run
 push_and_pop =
     record {
-      setup = record { kind = NonBlocking; size = 3; limit = 100 };
+      kind = NonBlocking;
+      size = 3;
+      limit = 100;
       actors = 2;
       moves = begin 1 (Enq 5) ++ many 1 10 ++ begin 2 Deq ++ many 2 9;
       history =
           record { actor = 1; op = Enq 5; first = 1; last = Some 10; at = Some 9; reply = Some Done } ∷
           record { actor = 2; op = Deq; first = 11; last = Some 19; at = Some 16; reply = Some (Value (record { from = 1; body = 5 })) } ∷
           [];
-      facts = holds Head (ref_word (ref 2 1)) ∷ holds Free (ref_word (ref 1 1)) ∷ holds (Next 1) (ref_word (ref 0 1)) ∷ [];
+      facts = names Head (ref 2 1) ∷ names Free (ref 1 1) ∷ names (Next 1) (ref 0 1) ∷ [];
     }
 
 -- the lines that it goes through
@@ -62,7 +68,9 @@ lines_of_push_and_pop = N1 ∷ N2 ∷ N5 ∷ E2 ∷ E3 ∷ E5 ∷ E6 ∷ E7 ∷ 
 abbrev pub reuse_cleared : Run
 reuse_cleared =
     record {
-      setup = record { kind = NonBlocking; size = 3; limit = 100 };
+      kind = NonBlocking;
+      size = 3;
+      limit = 100;
       actors = 2;
       moves = begin 1 (Enq 5) ++ many 1 10 ++ begin 2 Deq ++ many 2 9 ++ begin 1 (Enq 6) ++ many 1 6;
       history =
@@ -70,14 +78,16 @@ reuse_cleared =
           record { actor = 2; op = Deq; first = 11; last = Some 19; at = Some 16; reply = Some (Value (record { from = 1; body = 5 })) } ∷
           record { actor = 1; op = Enq 6; first = 20; last = None; at = None; reply = None } ∷
           [];
-      facts = holds Free (ref_word (ref 0 2)) ∷ holds (Next 1) (ref_word (ref 0 1)) ∷ [];
+      facts = names Free (ref 0 2) ∷ names (Next 1) (ref 0 1) ∷ [];
     }
 
 -- a push that uses a freed node again
 abbrev pub reuse : Run
 reuse =
     record {
-      setup = record { kind = NonBlocking; size = 3; limit = 100 };
+      kind = NonBlocking;
+      size = 3;
+      limit = 100;
       actors = 2;
       moves = begin 1 (Enq 5) ++ many 1 10 ++ begin 2 Deq ++ many 2 9 ++ begin 1 (Enq 6) ++ many 1 11;
       history =
@@ -85,7 +95,7 @@ reuse =
           record { actor = 2; op = Deq; first = 11; last = Some 19; at = Some 16; reply = Some (Value (record { from = 1; body = 5 })) } ∷
           record { actor = 1; op = Enq 6; first = 20; last = Some 30; at = Some 29; reply = Some Done } ∷
           [];
-      facts = holds (Next 2) (ref_word (ref 1 1)) ∷ holds Tail (ref_word (ref 1 2)) ∷ holds Fresh 2 ∷ [];
+      facts = names (Next 2) (ref 1 1) ∷ names Tail (ref 1 2) ∷ holds Fresh 2 ∷ [];
     }
 
 -- the lines that it goes through
@@ -96,7 +106,9 @@ lines_of_reuse = N1 ∷ N2 ∷ N5 ∷ E2 ∷ E3 ∷ E5 ∷ E6 ∷ E7 ∷ E9 ∷ 
 abbrev pub empty_queue : Run
 empty_queue =
     record {
-      setup = record { kind = NonBlocking; size = 3; limit = 100 };
+      kind = NonBlocking;
+      size = 3;
+      limit = 100;
       actors = 2;
       moves = begin 1 Deq ++ many 1 4;
       history =
@@ -109,7 +121,9 @@ empty_queue =
 abbrev pub reused_node_before : Run
 reused_node_before =
     record {
-      setup = record { kind = NonBlocking; size = 3; limit = 100 };
+      kind = NonBlocking;
+      size = 3;
+      limit = 100;
       actors = 2;
       moves = begin 1 (Enq 7) ++ many 1 8 ++ begin 2 (Enq 8) ++ many 2 10 ++ begin 2 Deq ++ many 2 9;
       history =
@@ -117,14 +131,16 @@ reused_node_before =
           record { actor = 2; op = Enq 8; first = 9; last = Some 18; at = Some 17; reply = Some Done } ∷
           record { actor = 2; op = Deq; first = 19; last = Some 27; at = Some 24; reply = Some (Value (record { from = 2; body = 8 })) } ∷
           [];
-      facts = stands 1 (Some E9) ∷ holds (Next 1) (ref_word (ref 0 1)) ∷ [];
+      facts = stands 1 (Some E9) ∷ names (Next 1) (ref 0 1) ∷ [];
     }
 
 -- the stale E9 fails by the count alone
 abbrev pub reused_node_lost : Run
 reused_node_lost =
     record {
-      setup = record { kind = NonBlocking; size = 3; limit = 100 };
+      kind = NonBlocking;
+      size = 3;
+      limit = 100;
       actors = 2;
       moves = begin 1 (Enq 7) ++ many 1 8 ++ begin 2 (Enq 8) ++ many 2 10 ++ begin 2 Deq ++ many 2 9 ++ many 1 1;
       history =
@@ -139,7 +155,9 @@ reused_node_lost =
 abbrev pub reused_node : Run
 reused_node =
     record {
-      setup = record { kind = NonBlocking; size = 3; limit = 100 };
+      kind = NonBlocking;
+      size = 3;
+      limit = 100;
       actors = 2;
       moves = begin 1 (Enq 7) ++ many 1 8 ++ begin 2 (Enq 8) ++ many 2 10 ++ begin 2 Deq ++ many 2 9 ++ many 1 1 ++ many 1 5;
       history =
@@ -147,14 +165,16 @@ reused_node =
           record { actor = 2; op = Enq 8; first = 9; last = Some 18; at = Some 17; reply = Some Done } ∷
           record { actor = 2; op = Deq; first = 19; last = Some 27; at = Some 24; reply = Some (Value (record { from = 2; body = 8 })) } ∷
           [];
-      facts = holds (Next 3) (ref_word (ref 2 1)) ∷ holds Tail (ref_word (ref 2 2)) ∷ [];
+      facts = names (Next 3) (ref 2 1) ∷ names Tail (ref 2 2) ∷ [];
     }
 
 -- a D13 that slept while its dummy was used again is lost by the count alone
 abbrev pub stale_head : Run
 stale_head =
     record {
-      setup = record { kind = NonBlocking; size = 3; limit = 100 };
+      kind = NonBlocking;
+      size = 3;
+      limit = 100;
       actors = 2;
       moves = begin 1 (Enq 5) ++ many 1 10 ++ begin 2 Deq ++ many 2 5 ++ begin 1 Deq ++ many 1 9 ++ begin 1 (Enq 6) ++ many 1 11 ++ begin 1 Deq ++ many 1 9 ++ many 2 1 ++ many 2 4;
       history =
@@ -171,7 +191,9 @@ stale_head =
 abbrev pub swung_by_a_pop : Run
 swung_by_a_pop =
     record {
-      setup = record { kind = NonBlocking; size = 3; limit = 100 };
+      kind = NonBlocking;
+      size = 3;
+      limit = 100;
       actors = 2;
       moves = begin 1 (Enq 5) ++ many 1 9 ++ begin 2 Deq ++ many 2 14;
       history =
@@ -189,7 +211,9 @@ lines_of_swung_by_a_pop = N1 ∷ N2 ∷ N5 ∷ E2 ∷ E3 ∷ E5 ∷ E6 ∷ E7 �
 abbrev pub lagging_tail : Run
 lagging_tail =
     record {
-      setup = record { kind = NonBlocking; size = 3; limit = 100 };
+      kind = NonBlocking;
+      size = 3;
+      limit = 100;
       actors = 2;
       moves = begin 1 (Enq 5) ++ many 1 9 ++ begin 2 Deq ++ many 2 14 ++ many 1 1;
       history =
@@ -203,7 +227,9 @@ lagging_tail =
 abbrev pub old_empty : Run
 old_empty =
     record {
-      setup = record { kind = NonBlocking; size = 3; limit = 100 };
+      kind = NonBlocking;
+      size = 3;
+      limit = 100;
       actors = 2;
       moves = begin 1 Deq ++ many 1 3 ++ begin 2 (Enq 9) ++ many 2 10 ++ many 1 1;
       history =
@@ -217,7 +243,9 @@ old_empty =
 abbrev pub no_node : Run
 no_node =
     record {
-      setup = record { kind = NonBlocking; size = 2; limit = 100 };
+      kind = NonBlocking;
+      size = 2;
+      limit = 100;
       actors = 1;
       moves = begin 1 (Enq 1) ++ many 1 10 ++ begin 1 (Enq 2) ++ many 1 2 ++ begin 1 Deq ++ many 1 9 ++ begin 1 (Enq 2) ++ many 1 11;
       history =
@@ -233,7 +261,9 @@ no_node =
 abbrev pub worn_free : Run
 worn_free =
     record {
-      setup = record { kind = NonBlocking; size = 3; limit = 1 };
+      kind = NonBlocking;
+      size = 3;
+      limit = 1;
       actors = 1;
       moves = begin 1 (Enq 1) ++ many 1 10 ++ begin 1 Deq ++ many 1 9 ++ begin 1 (Enq 2) ++ many 1 2;
       history =
@@ -248,21 +278,25 @@ worn_free =
 abbrev pub swing_skipped : Run
 swing_skipped =
     record {
-      setup = record { kind = NonBlocking; size = 3; limit = 1 };
+      kind = NonBlocking;
+      size = 3;
+      limit = 1;
       actors = 1;
       moves = begin 1 (Enq 1) ++ many 1 10 ++ begin 1 (Enq 2) ++ many 1 9;
       history =
           record { actor = 1; op = Enq 1; first = 1; last = Some 10; at = Some 9; reply = Some Done } ∷
           record { actor = 1; op = Enq 2; first = 11; last = Some 19; at = Some 19; reply = Some Done } ∷
           [];
-      facts = holds Tail (ref_word (ref 2 1)) ∷ holds (Next 2) (ref_word (ref 3 1)) ∷ [];
+      facts = names Tail (ref 2 1) ∷ names (Next 2) (ref 3 1) ∷ [];
     }
 
 -- with a worn tail that lags, a push is refused and keeps its node in the pocket
 abbrev pub worn_tail : Run
 worn_tail =
     record {
-      setup = record { kind = NonBlocking; size = 4; limit = 1 };
+      kind = NonBlocking;
+      size = 4;
+      limit = 1;
       actors = 1;
       moves = begin 1 (Enq 1) ++ many 1 10 ++ begin 1 (Enq 2) ++ many 1 9 ++ begin 1 (Enq 3) ++ many 1 8;
       history =
@@ -277,7 +311,9 @@ worn_tail =
 abbrev pub value_kept : Run
 value_kept =
     record {
-      setup = record { kind = NonBlocking; size = 3; limit = 1 };
+      kind = NonBlocking;
+      size = 3;
+      limit = 1;
       actors = 1;
       moves = begin 1 (Enq 1) ++ many 1 10 ++ begin 1 Deq ++ many 1 6 ++ give 1;
       history =
@@ -291,7 +327,9 @@ value_kept =
 abbrev pub worn_next : Run
 worn_next =
     record {
-      setup = record { kind = NonBlocking; size = 3; limit = 1 };
+      kind = NonBlocking;
+      size = 3;
+      limit = 1;
       actors = 1;
       moves = begin 1 (Enq 1) ++ many 1 10 ++ begin 1 Deq ++ many 1 6 ++ give 1 ++ begin 1 (Enq 2) ++ many 1 2;
       history =
@@ -306,7 +344,9 @@ worn_next =
 abbrev pub push_given_up : Run
 push_given_up =
     record {
-      setup = record { kind = NonBlocking; size = 3; limit = 100 };
+      kind = NonBlocking;
+      size = 3;
+      limit = 100;
       actors = 2;
       moves = begin 1 (Enq 7) ++ many 1 8 ++ begin 2 (Enq 8) ++ many 2 10 ++ many 1 1 ++ give 1 ++ begin 1 Deq ++ many 1 12;
       history =
@@ -314,14 +354,16 @@ push_given_up =
           record { actor = 2; op = Enq 8; first = 9; last = Some 18; at = Some 17; reply = Some Done } ∷
           record { actor = 1; op = Deq; first = 21; last = Some 32; at = Some 29; reply = Some (Value (record { from = 2; body = 8 })) } ∷
           [];
-      facts = holds Free (ref_word (ref 1 2)) ∷ holds (Next 1) (ref_word (ref 2 1)) ∷ holds (Next 2) (ref_word (ref 0 0)) ∷ [];
+      facts = names Free (ref 1 2) ∷ names (Next 1) (ref 2 1) ∷ names (Next 2) (ref 0 0) ∷ [];
     }
 
 -- a push meets a lagging tail and takes fifteen steps
 abbrev pub longest_push : Run
 longest_push =
     record {
-      setup = record { kind = NonBlocking; size = 3; limit = 100 };
+      kind = NonBlocking;
+      size = 3;
+      limit = 100;
       actors = 2;
       moves = begin 1 (Enq 5) ++ many 1 3 ++ begin 2 (Enq 6) ++ many 2 10 ++ begin 2 Deq ++ many 2 9 ++ many 1 6 ++ begin 2 (Enq 8) ++ many 2 15;
       history =
@@ -330,14 +372,16 @@ longest_push =
           record { actor = 2; op = Deq; first = 14; last = Some 22; at = Some 19; reply = Some (Value (record { from = 2; body = 6 })) } ∷
           record { actor = 2; op = Enq 8; first = 29; last = Some 43; at = Some 42; reply = Some Done } ∷
           [];
-      facts = holds Tail (ref_word (ref 1 3)) ∷ holds (Next 2) (ref_word (ref 1 1)) ∷ [];
+      facts = names Tail (ref 1 3) ∷ names (Next 2) (ref 1 1) ∷ [];
     }
 
 -- a pop frees its pocket first, meets a lagging tail and takes seventeen steps
 abbrev pub longest_pop : Run
 longest_pop =
     record {
-      setup = record { kind = NonBlocking; size = 3; limit = 100 };
+      kind = NonBlocking;
+      size = 3;
+      limit = 100;
       actors = 2;
       moves = begin 2 (Enq 7) ++ many 2 8 ++ begin 1 (Enq 8) ++ many 1 9 ++ many 2 1 ++ give 2 ++ begin 2 Deq ++ many 2 17;
       history =
@@ -345,14 +389,16 @@ longest_pop =
           record { actor = 1; op = Enq 8; first = 9; last = None; at = Some 17; reply = None } ∷
           record { actor = 2; op = Deq; first = 20; last = Some 36; at = Some 33; reply = Some (Value (record { from = 1; body = 8 })) } ∷
           [];
-      facts = holds Free (ref_word (ref 1 2)) ∷ holds Head (ref_word (ref 3 1)) ∷ [];
+      facts = names Free (ref 1 2) ∷ names Head (ref 3 1) ∷ [];
     }
 
 -- with a worn tail that lags a pop is refused too
 abbrev pub worn_counts : Run
 worn_counts =
     record {
-      setup = record { kind = NonBlocking; size = 3; limit = 2 };
+      kind = NonBlocking;
+      size = 3;
+      limit = 2;
       actors = 1;
       moves = begin 1 (Enq 1) ++ many 1 10 ++ begin 1 Deq ++ many 1 9 ++ begin 1 (Enq 2) ++ many 1 11 ++ begin 1 Deq ++ many 1 7 ++ begin 1 (Enq 3) ++ many 1 9 ++ begin 1 Deq ++ many 1 4;
       history =

@@ -1,6 +1,6 @@
 -- Worked runs of the two-lock queue.
 use Rattle.std.specs.Prelude.{List, [], ◌∷◌, ◌++◌, Some, None}
-use Rattle.counted_ref.specs.Ref.{ref, ref_word}
+use Rattle.counted_ref.specs.Ref.{ref}
 use Rattle.line_table.specs.declared.lines.Kind.TheVariants.{TwoLock}
 use Rattle.line_table.specs.declared.lines.Line.{Line}
 use Rattle.line_table.specs.declared.lines.Line.TheVariants.{N1, N2, N5, F1, F2, F3, A1, A2, A3, A4, A5, A6, A7, B1, B2, B3, B4, B5, B6}
@@ -9,13 +9,15 @@ use Rattle.history.specs.declared.operations.Reply.TheVariants.{Done, Value, Emp
 use Rattle.history.specs.declared.refusals.Refusal.TheVariants.{WornOut, Busy}
 use Rattle.history.specs.declared.refusals.WornWord.TheVariants.{Head as OfHead}
 use Rattle.line_steps.specs.Memory.{Free, Head, Tail, Tail_lock, Next}
-use Rattle.worked_runs.specs.Seen.{Run, begin, many, give, holds, stands}
+use Rattle.worked_runs.specs.Seen.{Run, begin, many, give, holds, names, stands}
 
 -- no calls
 abbrev pub empty : Run
 empty =
     record {
-      setup = record { kind = TwoLock; size = 3; limit = 100 };
+      kind = TwoLock;
+      size = 3;
+      limit = 100;
       actors = 2;
       moves = [];
       history = [];
@@ -26,14 +28,16 @@ empty =
 abbrev pub first_run : Run
 first_run =
     record {
-      setup = record { kind = TwoLock; size = 3; limit = 100 };
+      kind = TwoLock;
+      size = 3;
+      limit = 100;
       actors = 2;
       moves = begin 1 (Enq 5) ++ many 1 10 ++ begin 2 Deq ++ many 2 9;
       history =
           record { actor = 1; op = Enq 5; first = 1; last = Some 10; at = Some 8; reply = Some Done } ∷
           record { actor = 2; op = Deq; first = 11; last = Some 19; at = Some 15; reply = Some (Value (record { from = 1; body = 5 })) } ∷
           [];
-      facts = holds Head (ref_word (ref 2 1)) ∷ holds Tail (ref_word (ref 2 0)) ∷ holds Free (ref_word (ref 1 1)) ∷ holds (Next 1) (ref_word (ref 0 0)) ∷ [];
+      facts = names Head (ref 2 1) ∷ names Tail (ref 2 0) ∷ names Free (ref 1 1) ∷ names (Next 1) (ref 0 0) ∷ [];
     }
 
 -- the lines that it goes through
@@ -44,7 +48,9 @@ lines_of_first_run = N1 ∷ N2 ∷ N5 ∷ A1 ∷ A2 ∷ A3 ∷ A4 ∷ A5 ∷ A6 
 abbrev pub lock_held : Run
 lock_held =
     record {
-      setup = record { kind = TwoLock; size = 3; limit = 100 };
+      kind = TwoLock;
+      size = 3;
+      limit = 100;
       actors = 3;
       moves = begin 1 (Enq 5) ++ many 1 6 ++ begin 2 (Enq 6) ++ many 2 6 ++ begin 3 Deq ++ many 3 4 ++ many 1 2 ++ begin 3 Deq ++ many 3 9 ++ many 1 2 ++ many 2 5;
       history =
@@ -60,7 +66,9 @@ lock_held =
 abbrev pub lock_waited_for : Run
 lock_waited_for =
     record {
-      setup = record { kind = TwoLock; size = 3; limit = 100 };
+      kind = TwoLock;
+      size = 3;
+      limit = 100;
       actors = 3;
       moves = begin 1 (Enq 5) ++ many 1 6 ++ begin 2 (Enq 6) ++ many 2 6;
       history =
@@ -74,7 +82,9 @@ lock_waited_for =
 abbrev pub tail_behind : Run
 tail_behind =
     record {
-      setup = record { kind = TwoLock; size = 3; limit = 100 };
+      kind = TwoLock;
+      size = 3;
+      limit = 100;
       actors = 3;
       moves = begin 1 (Enq 5) ++ many 1 6 ++ begin 2 (Enq 6) ++ many 2 6 ++ begin 3 Deq ++ many 3 4 ++ many 1 2 ++ begin 3 Deq ++ many 3 9;
       history =
@@ -83,14 +93,16 @@ tail_behind =
           record { actor = 3; op = Deq; first = 13; last = Some 16; at = Some 15; reply = Some Empty } ∷
           record { actor = 3; op = Deq; first = 19; last = Some 27; at = Some 23; reply = Some (Value (record { from = 1; body = 5 })) } ∷
           [];
-      facts = holds Tail (ref_word (ref 1 0)) ∷ holds Free (ref_word (ref 1 1)) ∷ [];
+      facts = names Tail (ref 1 0) ∷ names Free (ref 1 1) ∷ [];
     }
 
 -- an actor stopped with the tail lock: a push gives up, and a pop finds the queue empty
 abbrev pub stopped_holder : Run
 stopped_holder =
     record {
-      setup = record { kind = TwoLock; size = 3; limit = 100 };
+      kind = TwoLock;
+      size = 3;
+      limit = 100;
       actors = 2;
       moves = begin 1 (Enq 5) ++ many 1 6 ++ begin 2 (Enq 6) ++ many 2 15 ++ give 2 ++ begin 2 Deq ++ many 2 7;
       history =
@@ -105,7 +117,9 @@ stopped_holder =
 abbrev pub worn_head : Run
 worn_head =
     record {
-      setup = record { kind = TwoLock; size = 4; limit = 1 };
+      kind = TwoLock;
+      size = 4;
+      limit = 1;
       actors = 1;
       moves = begin 1 (Enq 1) ++ many 1 10 ++ begin 1 (Enq 2) ++ many 1 10 ++ begin 1 Deq ++ many 1 9 ++ begin 1 Deq ++ many 1 5;
       history =

@@ -3,8 +3,10 @@
 
 mod judging;
 mod non_blocking;
+mod references;
 mod two_lock;
 
 pub use judging::verdicts;
 pub use non_blocking::{non_blocking_moves_refused, non_blocking_runs};
+pub use references::words_of_references;
 pub use two_lock::two_lock_runs;

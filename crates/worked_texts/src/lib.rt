@@ -2,6 +2,7 @@
 #![tactic(auto)]
 
 mod non_blocking;
+mod shuts;
 mod two_lock;
 mod worn_out;
 
@@ -16,7 +17,7 @@ pub struct Run {
 }
 
 /// All runs; those of examples/ are among them.
-pub const RUNS: [Run; 21] = [
+pub const RUNS: [Run; 24] = [
     two_lock::FIRST_RUN,
     two_lock::LOCK_HELD,
     two_lock::STOPPED_HOLDER,
@@ -38,4 +39,10 @@ pub const RUNS: [Run; 21] = [
     worn_out::WORN_NEXT,
     worn_out::PUSH_GIVEN_UP,
     worn_out::WORN_COUNTS,
+    shuts::SHUT,
+    shuts::OVERTAKEN_PUSH,
+    shuts::OVERTAKEN_SHUT,
 ];
+
+/// The runs in which a queue is shut.
+pub const SHUTS: [Run; 3] = [shuts::SHUT, shuts::OVERTAKEN_PUSH, shuts::OVERTAKEN_SHUT];

@@ -47,20 +47,3 @@ length-pushes_to seat (suc n) =
     let one = length-append (pushed (pushes_to seat n)) (v ∷ []) in
     let ih = length-pushes_to seat n in
     omega (arith, more, one, ih)
-
--- nothing is done behind the end of a queue that is shut and empty
-abbrev done : Queue
-done = record { values = []; shut = true }
-
-nothing_behind : (es : List Entry) (after : Queue) → Plays done es after → done ≡ after
-nothing_behind [] after h = h
-nothing_behind (Push seat body ∷ es) after h = absurd (let e : Refused Closed ≡ Done = h.0 in cc)
-nothing_behind (Pop seat value ∷ es) after h = absurd (let e : Refused Closed ≡ Value value = h.0 in cc)
-nothing_behind (Shut seat ∷ es) after h = absurd (let e : Refused Closed ≡ Done = h.0 in cc)
-
--- so what leads there, and further, leads there
-pub ends_there : (es more : List Entry) (queue after : Queue) → Plays queue es done → Plays queue (es ++ more) after → done ≡ after
-ends_there [] more queue after h k = nothing_behind more after (subst (λ q. Plays q more after) h k)
-ends_there (Push seat body ∷ es) more queue after h k = ends_there es more _ after h.1 k.1
-ends_there (Pop seat value ∷ es) more queue after h k = ends_there es more _ after h.1 k.1
-ends_there (Shut seat ∷ es) more queue after h k = ends_there es more _ after h.1 k.1

@@ -21,7 +21,8 @@ use Rattle.history.specs.Values.{pushed, popped, pushed_by, OnlyPushes}
 use Rattle.history.proofs.Sums.{AreApart, made-all}
 use Rattle.history.proofs.Values.{pushed-Leads, pushed-own}
 use Rattle.worker_pool.specs.Teams.{pushes_to, giver_and_takers}
-use Rattle.worker_pool.proofs.Counts.{length-popped, pops-pushes_to, length-pushes_to, ends_there}
+use Rattle.worker_pool.proofs.Counts.{length-popped, pops-pushes_to, length-pushes_to}
+use Rattle.history.proofs.Ending.{ends_there}
 
 -- the first seat alone pushes
 first_alone : (k : ℕ) → IsSomeAnd (slice_get giver_and_takers k) (λ p. IsTrue p.pushes) → k ≡ 0

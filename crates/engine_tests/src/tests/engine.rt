@@ -3,7 +3,7 @@ use crate::tests::trials::{
 };
 use std::alloc::{AllocError, Global};
 use std::test::Fail;
-use worked_texts::RUNS;
+use worked_texts::{RUNS, SHUTS};
 
 const LINES: [&str; 10] = [
     "msq schedule 1",
@@ -16,6 +16,20 @@ const LINES: [&str; 10] = [
     "steps 1 10",
     "begin 2 deq",
     "steps 2 9",
+];
+
+const LINES_OF_TWO: [&str; 11] = [
+    "msq schedule 2",
+    "queue nonblocking",
+    "bits 16",
+    "nodes 3",
+    "limit 100",
+    "actors 2",
+    "events 4",
+    "begin 1 enq 5",
+    "steps 1 10",
+    "begin 2 shut",
+    "steps 2 4",
 ];
 
 const ONE_STEP_TOO_MANY: &str = "msq schedule 1
@@ -39,11 +53,16 @@ steps 1 8
 give 1
 ";
 
-// The lines above, with another one in the place of one of them, from 1.
-fn text_with(alloc: Global, number: u64, other: &str) -> Result<Vec<u8>, AllocError> {
+// These lines, with another one in the place of one of them, from 1.
+fn text_with(
+    alloc: Global,
+    lines: &[&str],
+    number: u64,
+    other: &str,
+) -> Result<Vec<u8>, AllocError> {
     let mut text = Vec::new(alloc);
     let mut at = 0u64;
-    for line in &LINES {
+    for line in lines {
         at = at.saturating_add(1);
         let line = if at == number { other } else { line };
         text.extend_from_slice(line.as_bytes())?;
@@ -60,9 +79,37 @@ fn writes_each_history_whatever_the_pieces(rt: HostRuntime) -> Result<(), Fail> 
     Ok(())
 }
 
+// This schedule of version 2, where so many bits hold a node.
+fn with_bits(alloc: Global, schedule: &str, bits: u32) -> Result<String, Fail> {
+    let (head, rest) = schedule.split_once("bits ").ok_or("a line of bits")?;
+    let (_, sizes) = rest.split_once('\n').ok_or("the end of a line")?;
+    Ok(format!(in alloc; "{head}bits {bits}\n{sizes}")?)
+}
+
+#[test]
+fn shuts_a_queue_by_the_same_steps_whatever_bits_hold_a_node(rt: HostRuntime) -> Result<(), Fail> {
+    for run in &SHUTS {
+        for bits in [16, 17, 24, 31, 32] {
+            let text = with_bits(rt.alloc(), run.schedule, bits)?;
+            let want = (0, run.history, "");
+            let text = text.as_str();
+            does(
+                &rt,
+                rt.alloc(),
+                Engine::Run,
+                text.as_bytes(),
+                4096,
+                want,
+                text,
+            )?;
+        }
+    }
+    Ok(())
+}
+
 /// Numbers of lines, what stands there, and the line at the fault.
 const FAULTS: [(u64, &str, &str); 21] = [
-    (1, "msq schedule 2", "fault 10 Text line 1 Form\n"),
+    (1, "msq schedule 3", "fault 10 Text line 1 Form\n"),
     (3, "nodes 1", "fault 10 Text line 3 Range\n"),
     (3, "nodes 0x3", "fault 10 Text line 3 Form\n"),
     (3, "nodes 3\r", "fault 10 Text line 3 Form\n"),
@@ -85,10 +132,21 @@ const FAULTS: [(u64, &str, &str); 21] = [
     (10, "give 3", "fault 9 NoSuchActor line 10\n"),
 ];
 
+/// The same in version 2.
+const FAULTS_OF_TWO: [(u64, &str, &str); 7] = [
+    (3, "bits 15", "fault 10 Text line 3 Range\n"),
+    (4, "nodes 65535", "fault 10 Text line 4 Range\n"),
+    (5, "limit 281474976710656", "fault 10 Text line 5 Range\n"),
+    (8, "begin 0 shut", "fault 10 Text line 8 Range\n"),
+    (8, "begin 3 shut", "fault 9 NoSuchActor line 8\n"),
+    (11, "step 2 S6", "fault 8 NotHere line 11\n"),
+    (11, "steps 2 5", "fault 6 IdleActor line 11\n"),
+];
+
 #[test]
 fn tells_the_first_faulty_line_or_refused_event(rt: HostRuntime) -> Result<(), Fail> {
     for (number, line, want) in &FAULTS {
-        let text = text_with(rt.alloc(), *number, line)?;
+        let text = text_with(rt.alloc(), &LINES, *number, line)?;
         does(
             &rt,
             rt.alloc(),
@@ -99,16 +157,21 @@ fn tells_the_first_faulty_line_or_refused_event(rt: HostRuntime) -> Result<(), F
             line,
         )?;
     }
+    for (number, line, want) in &FAULTS_OF_TWO {
+        let text = text_with(rt.alloc(), &LINES_OF_TWO, *number, line)?;
+        let want = (1, "", *want);
+        does(&rt, rt.alloc(), Engine::Run, &text, 4096, want, line)?;
+    }
     Ok(())
 }
 
 #[test]
 fn tells_faults_of_whole_texts(rt: HostRuntime) -> Result<(), Fail> {
-    let mut cut = text_with(rt.alloc(), 0, "")?;
+    let mut cut = text_with(rt.alloc(), &LINES, 0, "")?;
     let _ = cut.pop();
-    let mut longer = text_with(rt.alloc(), 0, "")?;
+    let mut longer = text_with(rt.alloc(), &LINES, 0, "")?;
     longer.push(b'\n')?;
-    let mut faulty = text_with(rt.alloc(), 8, "steps 1 11")?;
+    let mut faulty = text_with(rt.alloc(), &LINES, 8, "steps 1 11")?;
     faulty.push(b'\n')?;
     let cases: [(&[u8], &str); 6] = [
         (b"", "fault 10 Text line 1 End\n"),
@@ -134,7 +197,7 @@ fn tells_that_a_long_number_is_out_of_range(rt: HostRuntime) -> Result<(), Fail>
     for _ in 0..100_000 {
         line.push('9')?;
     }
-    let text = text_with(rt.alloc(), 3, line.as_str())?;
+    let text = text_with(rt.alloc(), &LINES, 3, line.as_str())?;
     let want = (1, "", "fault 10 Text line 3 Range\n");
     does(&rt, rt.alloc(), Engine::Run, &text, 4096, want, "")?;
     Ok(())

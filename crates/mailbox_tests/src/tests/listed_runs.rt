@@ -38,14 +38,14 @@ const POPS: [Call; 6] = [
     (u32::MAX, Some(Refusal::Busy)),
 ];
 
-/// Shuts, refused or not.
+/// Shuts, refused or not. One that isn't the one due is refused by a worn Tail, so each with turns of its own is wanted busy.
 const SHUTS: [Call; 7] = [
     (1, Some(Refusal::Busy)),
     (2, None),
-    (7, Some(Refusal::WornOut(WornWord::Free))),
+    (7, Some(Refusal::Busy)),
     (8, Some(Refusal::Busy)),
     (9, Some(Refusal::Busy)),
-    (u32::MAX, Some(Refusal::WornOut(WornWord::Head))),
+    (u32::MAX, Some(Refusal::Busy)),
     (1, None),
 ];
 

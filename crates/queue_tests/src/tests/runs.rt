@@ -5,7 +5,7 @@ ghost use Rattle.std.specs.List.{All};
 use super::calls::{parts, pop, push, shut};
 use super::comparing::same;
 use super::threads::{MOST, Run, met};
-use arena_queue::{Algorithm, ArenaQueue};
+use arena_queue::{Algorithm, ArenaQueueOf};
 use history::{Fifo, Refusal};
 use std::alloc::Global;
 use std::process::Abort;
@@ -258,7 +258,7 @@ pub fn a_rest_is_whole_by_who_shut<Q: Fifo + Drop>(
 }
 
 /// The words of an arena of three nodes.
-pub fn words_of<A: Algorithm>(queue: &ArenaQueue<A>) -> [Option<u64>; 12] {
+pub fn words_of<A: Algorithm<B>, const B: u32>(queue: &ArenaQueueOf<A, B>) -> [Option<u64>; 12] {
     let mut words = [None; 12];
     for index in 0..12 {
         words[index] = queue.peek(index);

@@ -3,9 +3,9 @@ ghost use Rattle.std.specs.Prelude.{◌≡◌, ◌≤◌};
 ghost use Rattle.step_machine.specs.Placing.{IsAt};
 
 use crate::places::{Place, is_held, is_in_chain};
-use crate::world::World;
+use crate::world::WorldOf;
 
-impl World {
+impl<const B: u32> WorldOf<B> {
     /// Where a node is, 1 to the number of nodes. It takes no memory and doesn't wait; the time it takes is linear in
     /// the number of nodes used and of actors.
     ///

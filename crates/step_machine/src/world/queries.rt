@@ -9,14 +9,14 @@ ghost use Rattle.step_machine.specs.Words.{memory_words};
 ghost use Rattle.step_machine.specs.TakingEffect.{HavePlacesByItsEffects};
 
 use crate::committing::actor_at;
-use crate::world::World;
-use counted_ref::CountedRef;
+use crate::world::WorldOf;
+use counted_ref::CountedRefOf;
 use history::{Refusal, Stamped, Taken};
 use line_steps::{Held, Setup};
 use line_table::Line;
 use std::alloc::Global;
 
-impl World {
+impl<const B: u32> WorldOf<B> {
     /// The operations with at least one number, by rising first number: the world's history. It is linearizable. It is
     /// placed and legal too, which says more: the places are linearization points. An operation has a place where it is
     /// completed, or where its E9, D13, A5 or B5 has succeeded.
@@ -75,14 +75,16 @@ impl World {
         }
     }
 
-    /// The kind of queue, the number of nodes and the greatest count, as `new` was given them.
+    /// The kind of queue, how many bits of a reference hold a node, the number of nodes and the greatest count, as `new`
+    /// was given them.
     ///
     /// ```rust
     /// let world = World::new(alloc, Kind::TwoLock, 3, 100, 2)?;
     /// assert!(world.setup().size == 3 && world.setup().limit == 100);
     /// ```
     pub fn setup(&self) -> Setup
-        ensures { result ≡ self.now.setup }
+        ensures value { result ≡ self.now.setup }
+        ensures bits { result.bits ≡ B }
     {
         self.setup
     }
@@ -132,7 +134,7 @@ impl World {
     /// let world = World::new(alloc, Kind::TwoLock, 3, 100, 2)?;
     /// assert!(world.free().is_null());
     /// ```
-    pub fn free(&self) -> CountedRef
+    pub fn free(&self) -> CountedRefOf<B>
         ensures { result ≡ content Free self.now.shared }
     {
         self.memory.free()
@@ -144,7 +146,7 @@ impl World {
     /// let world = World::new(alloc, Kind::TwoLock, 3, 100, 2)?;
     /// assert!(world.head() == CountedRef::new(1, 0));
     /// ```
-    pub fn head(&self) -> CountedRef
+    pub fn head(&self) -> CountedRefOf<B>
         ensures { result ≡ content Head self.now.shared }
     {
         self.memory.head()
@@ -156,7 +158,7 @@ impl World {
     /// let world = World::new(alloc, Kind::TwoLock, 3, 100, 2)?;
     /// assert!(world.tail() == CountedRef::new(1, 0));
     /// ```
-    pub fn tail(&self) -> CountedRef
+    pub fn tail(&self) -> CountedRefOf<B>
         ensures { result ≡ content Tail self.now.shared }
     {
         self.memory.tail()
@@ -170,7 +172,7 @@ impl World {
     /// assert!(world.word(0) == Some(1) && world.word(12).is_none());
     /// ```
     pub fn word(&self, index: usize) -> Option<u64>
-        ensures { result ≡ slice_get (memory_words self.now.shared) index }
+        ensures { result ≡ slice_get (memory_words B self.now.shared) index }
     {
         self.memory.word(index)
     }
@@ -181,7 +183,7 @@ impl World {
     /// let world = World::new(alloc, Kind::TwoLock, 3, 100, 2)?;
     /// assert!(world.next_of(1).is_null());
     /// ```
-    pub fn next_of(&self, node: u32) -> CountedRef
+    pub fn next_of(&self, node: u32) -> CountedRefOf<B>
         requires some { 1 ≤ node }
         requires within { node ≤ self.now.setup.size }
         ensures { result ≡ content (Next node) self.now.shared }

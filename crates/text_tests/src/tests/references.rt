@@ -1,6 +1,6 @@
 //! Words and answers typed from the table of the format, and what the derives write.
 use crate::tests::comparing::same;
-use counted_ref::CountedRef;
+use counted_ref::{CountedRef, CountedRefOf, MOST_COUNT, MOST_NODE, most_count, most_node};
 
 #[test]
 fn packs_and_unpacks_the_words_of_the_format(rt: HostRuntime) {
@@ -43,6 +43,35 @@ fn reads_and_makes_closed_ends(rt: HostRuntime) {
             (word, Some((true, false, count, true))),
             format_args!("closed end {count}"),
         );
+    }
+}
+
+#[test]
+fn packs_words_of_16_and_of_32_bits(rt: HostRuntime) {
+    let words = (
+        CountedRefOf::<16>::new(2, 1).word(),
+        CountedRefOf::<32>::new(2, 1).word(),
+        CountedRefOf::<16>::shut(1).word(),
+        CountedRefOf::<32>::shut(1).word(),
+    );
+    same(
+        &rt,
+        words,
+        (65_538, 4_294_967_298, 131_071, 8_589_934_591),
+        "",
+    );
+}
+
+#[test]
+fn counts_further_where_fewer_bits_hold_the_node(rt: HostRuntime) {
+    for (bits, node, count) in [
+        (16, 65_534, 281_474_976_710_655),
+        (24, MOST_NODE, MOST_COUNT),
+        (24, 16_777_214, 1_099_511_627_775),
+        (32, 4_294_967_294, 4_294_967_295),
+    ] {
+        let greatest = (most_node(bits), most_count(bits));
+        same(&rt, greatest, (node, count), format_args!("{bits} bits"));
     }
 }
 

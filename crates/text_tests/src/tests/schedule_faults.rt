@@ -6,7 +6,8 @@ use std::test::Fail;
 use text_lines::TextCause;
 use worked_texts::RUNS;
 
-const LINES: [&str; 10] = [
+/// The lines of a text of version 1.
+pub const LINES: [&str; 10] = [
     "msq schedule 1",
     "queue nonblocking",
     "nodes 3",
@@ -20,8 +21,10 @@ const LINES: [&str; 10] = [
 ];
 
 /// Lines that are faulty in the place of one of `LINES`, and for what.
-pub const FAULTS: [(u64, &str, TextCause); 49] = [
-    (1, "msq schedule 2", TextCause::Form),
+pub const FAULTS: [(u64, &str, TextCause); 52] = [
+    (1, "msq schedule 3", TextCause::Form),
+    (1, "msq schedule 12", TextCause::Form),
+    (1, "msq schedule", TextCause::Form),
     (1, "msq schedule 1 ", TextCause::Form),
     (1, "msq  schedule 1", TextCause::Form),
     (2, "queue two_lock", TextCause::Form),
@@ -36,6 +39,7 @@ pub const FAULTS: [(u64, &str, TextCause); 49] = [
     (3, "nodes ", TextCause::Form),
     (3, "nodes 3 ", TextCause::Form),
     (3, "limit 3", TextCause::Form),
+    (3, "bits 24", TextCause::Form),
     (4, "limit 0", TextCause::Range),
     (4, "limit 1099511627776", TextCause::Range),
     (4, "limit 18446744073709551616", TextCause::Range),
@@ -72,11 +76,67 @@ pub const FAULTS: [(u64, &str, TextCause); 49] = [
     (8, "", TextCause::Form),
 ];
 
-/// `LINES`, with another one in the place of one of them, from 1.
-pub fn text_with(alloc: Global, number: u64, other: &str) -> Result<Vec<u8>, AllocError> {
+/// The lines of a text of version 2.
+pub const LINES_OF_TWO: [&str; 12] = [
+    "msq schedule 2",
+    "queue nonblocking",
+    "bits 16",
+    "nodes 3",
+    "limit 100",
+    "actors 2",
+    "events 5",
+    "begin 1 enq 5",
+    "steps 1 10",
+    "begin 2 shut",
+    "step 2 S1",
+    "steps 2 3",
+];
+
+/// Lines that are faulty in the place of one of `LINES_OF_TWO`, and for what.
+pub const FAULTS_OF_TWO: [(u64, &str, TextCause); 31] = [
+    (1, "msq schedule 3", TextCause::Form),
+    (1, "msq schedule 02", TextCause::Form),
+    (1, "msq schedule 2 ", TextCause::Form),
+    (2, "bits 16", TextCause::Form),
+    (3, "bits 15", TextCause::Range),
+    (3, "bits 33", TextCause::Range),
+    (3, "bits 0", TextCause::Range),
+    (3, "bits 18446744073709551632", TextCause::Range),
+    (3, "bits 016", TextCause::Form),
+    (3, "bits", TextCause::Form),
+    (3, "bits 16 ", TextCause::Form),
+    (3, "nodes 3", TextCause::Form),
+    (4, "nodes 65535", TextCause::Range),
+    (4, "nodes 1", TextCause::Range),
+    (4, "bits 16", TextCause::Form),
+    (5, "limit 281474976710656", TextCause::Range),
+    (5, "limit 0", TextCause::Range),
+    (6, "actors 65536", TextCause::Range),
+    (7, "events 1000001", TextCause::Range),
+    (8, "begin 0 shut", TextCause::Range),
+    (8, "begin 65536 shut", TextCause::Range),
+    (8, "begin 1 shut 1", TextCause::Form),
+    (8, "begin 1 Shut", TextCause::Form),
+    (9, "step 0 S1", TextCause::Range),
+    (9, "step 1 S0", TextCause::Form),
+    (9, "step 1 S10", TextCause::Form),
+    (9, "step 1 s1", TextCause::Form),
+    (9, "step 0 E4", TextCause::Form),
+    (12, "give 0", TextCause::Range),
+    (12, "steps 2 1000001", TextCause::Range),
+    (12, "", TextCause::Form),
+];
+
+/// These lines, with another one in the place of one of them, from 1.
+pub fn text_with(
+    alloc: Global,
+    lines: &[&str],
+    number: u64,
+    other: &str,
+) -> Result<Vec<u8>, AllocError> {
     let mut text = Vec::new(alloc);
     let mut at = 0u64;
-    for line in &LINES {
+    for line in lines {
         at = at.saturating_add(1);
         let line = if at == number { other } else { line };
         text.extend_from_slice(line.as_bytes())?;
@@ -92,7 +152,17 @@ fn refusal_of(alloc: Global, text: &[u8]) -> Option<Refusal> {
 #[test]
 fn tells_the_first_faulty_line(rt: HostRuntime) -> Result<(), Fail> {
     for (number, line, cause) in &FAULTS {
-        let text = text_with(rt.alloc(), *number, line)?;
+        let text = text_with(rt.alloc(), &LINES, *number, line)?;
+        let want = Some(Refusal::Text(*number, *cause));
+        same(&rt, refusal_of(rt.alloc(), &text), want, line);
+    }
+    Ok(())
+}
+
+#[test]
+fn tells_the_first_faulty_line_of_version_two(rt: HostRuntime) -> Result<(), Fail> {
+    for (number, line, cause) in &FAULTS_OF_TWO {
+        let text = text_with(rt.alloc(), &LINES_OF_TWO, *number, line)?;
         let want = Some(Refusal::Text(*number, *cause));
         same(&rt, refusal_of(rt.alloc(), &text), want, line);
     }
@@ -118,15 +188,16 @@ fn a_text_that_is_cut_ends_too_early(rt: HostRuntime) -> Result<(), Fail> {
 #[test]
 fn further_bytes_are_extra(rt: HostRuntime) -> Result<(), Fail> {
     for more in ["\n", "x", "steps 1 1\n"] {
-        let mut text = text_with(rt.alloc(), 0, "")?;
+        let mut text = text_with(rt.alloc(), &LINES, 0, "")?;
         text.extend_from_slice(more.as_bytes())?;
         let want = Some(Refusal::Text(11, TextCause::Extra));
-        same(
-            &rt,
-            refusal_of(rt.alloc(), &text),
-            want,
-            format_args!("{more:?}"),
-        );
+        let told = refusal_of(rt.alloc(), &text);
+        same(&rt, told, want, format_args!("{more:?}"));
+        let mut text = text_with(rt.alloc(), &LINES_OF_TWO, 0, "")?;
+        text.extend_from_slice(more.as_bytes())?;
+        let want = Some(Refusal::Text(13, TextCause::Extra));
+        let told = refusal_of(rt.alloc(), &text);
+        same(&rt, told, want, format_args!("{more:?}"));
     }
     Ok(())
 }
@@ -137,7 +208,7 @@ fn a_number_of_any_length_has_the_form(rt: HostRuntime) -> Result<(), Fail> {
     for _ in 0..100_000 {
         line.push('9')?;
     }
-    let text = text_with(rt.alloc(), 3, line.as_str())?;
+    let text = text_with(rt.alloc(), &LINES, 3, line.as_str())?;
     let want = Some(Refusal::Text(3, TextCause::Range));
     same(&rt, refusal_of(rt.alloc(), &text), want, "");
     Ok(())

@@ -1,8 +1,11 @@
 //! Schedules from sources that give few bytes a call, or fail.
 use crate::tests::comparing::same;
-use crate::tests::schedule_faults::{FAULTS, text_with};
-use history::{Body, Refusal};
-use schedule_text::{Call, Event, EventStream, print, read_schedule};
+use crate::tests::schedule_faults::{FAULTS, FAULTS_OF_TWO, LINES, LINES_OF_TWO, text_with};
+use crate::tests::schedules::{SHUTS, WIDEST_OF_16, WIDEST_OF_32};
+use history::{Body, Op, Refusal};
+use schedule_text::{Event, EventStream, print, read_schedule};
+use std::alloc::Global;
+use std::process::Abort;
 use std::test::Fail;
 use text_io::{Script, Trouble};
 use text_lines::TextCause;
@@ -24,13 +27,29 @@ begin 1 enq 007
 #[test]
 fn pieces_of_any_length_have_the_same_faults(rt: HostRuntime) -> Result<(), Fail> {
     for (number, line, cause) in &FAULTS {
-        let text = text_with(rt.alloc(), *number, line)?;
-        for piece in PIECES {
-            let mut reader = Script::reader(rt.alloc(), &text, piece)?;
-            let told = read_schedule(rt.alloc(), &mut reader).err();
-            let want = Some(Refusal::Text(*number, *cause));
-            same(&rt, told, want, format_args!("{line} by {piece}"));
-        }
+        let text = text_with(rt.alloc(), &LINES, *number, line)?;
+        let want = Some(Refusal::Text(*number, *cause));
+        told_by_pieces(&rt, rt.alloc(), &text, want, line)?;
+    }
+    for (number, line, cause) in &FAULTS_OF_TWO {
+        let text = text_with(rt.alloc(), &LINES_OF_TWO, *number, line)?;
+        let want = Some(Refusal::Text(*number, *cause));
+        told_by_pieces(&rt, rt.alloc(), &text, want, line)?;
+    }
+    Ok(())
+}
+
+fn told_by_pieces(
+    rt: &impl Abort,
+    alloc: Global,
+    text: &[u8],
+    want: Option<Refusal>,
+    line: &str,
+) -> Result<(), Fail> {
+    for piece in PIECES {
+        let mut reader = Script::reader(alloc, text, piece)?;
+        let told = read_schedule(alloc, &mut reader).err();
+        same(rt, told, want, format_args!("{line} by {piece}"));
     }
     Ok(())
 }
@@ -38,14 +57,21 @@ fn pieces_of_any_length_have_the_same_faults(rt: HostRuntime) -> Result<(), Fail
 #[test]
 fn reads_each_schedule_from_pieces(rt: HostRuntime) -> Result<(), Fail> {
     for run in &RUNS {
-        let text = run.schedule.as_bytes();
-        for piece in PIECES {
-            let mut reader = Script::reader(rt.alloc(), text, piece)?;
-            let schedule = read_schedule(rt.alloc(), &mut reader)?;
-            let mut writer = Script::writer(rt.alloc(), 1000, 4096)?;
-            print(&schedule, &mut writer)?;
-            same(&rt, writer.written(), text, piece);
-        }
+        read_by_pieces(&rt, rt.alloc(), run.schedule)?;
+    }
+    for text in [WIDEST_OF_16, WIDEST_OF_32, SHUTS] {
+        read_by_pieces(&rt, rt.alloc(), text)?;
+    }
+    Ok(())
+}
+
+fn read_by_pieces(rt: &impl Abort, alloc: Global, text: &str) -> Result<(), Fail> {
+    for piece in PIECES {
+        let mut reader = Script::reader(alloc, text.as_bytes(), piece)?;
+        let schedule = read_schedule(alloc, &mut reader)?;
+        let mut writer = Script::writer(alloc, 1000, 4096)?;
+        print(&schedule, &mut writer)?;
+        same(rt, writer.written(), text.as_bytes(), piece);
     }
     Ok(())
 }
@@ -63,7 +89,7 @@ fn long_lines_are_judged_whole(rt: HostRuntime) -> Result<(), Fail> {
         for _ in 0..10_000 {
             line.push_str(more)?;
         }
-        let text = text_with(rt.alloc(), 3, line.as_str())?;
+        let text = text_with(rt.alloc(), &LINES, 3, line.as_str())?;
         let mut reader = Script::reader(rt.alloc(), &text, 4096)?;
         let told = read_schedule(rt.alloc(), &mut reader).err();
         same(&rt, told, Some(Refusal::Text(3, cause)), start);
@@ -74,7 +100,7 @@ fn long_lines_are_judged_whole(rt: HostRuntime) -> Result<(), Fail> {
 #[test]
 fn a_late_fault_is_answered_again(rt: HostRuntime) -> Result<(), Fail> {
     let body = Body::new(5).ok_or("a body")?;
-    let events = [Event::Begin(1, Call::Enq(body)), Event::Steps(1, 11)];
+    let events = [Event::Begin(1, Op::Enq(body)), Event::Steps(1, 11)];
     for piece in PIECES {
         let mut reader = Script::reader(rt.alloc(), LATE_FAULT.as_bytes(), piece)?;
         let mut stream = EventStream::start(&mut reader)?;

@@ -48,6 +48,8 @@ pub enum Event {
     Pocket(u16, Option<Held>),
     /// The `next` of a node.
     Next(u32, u32, u64),
+    /// The `next` of a node is the closed end with this count.
+    Closed(u32, u64),
     /// Where a node is.
     Placed(u32, Place),
     /// The value of a node: the actor that pushed it, and its body.

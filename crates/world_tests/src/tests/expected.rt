@@ -29,6 +29,34 @@ pub enum Shown {
     Complete(u16, Call, (u64, u64, u64), Answer),
 }
 
+/// A word of a world.
+#[derive(Clone, Copy, Debug)]
+pub enum Word {
+    /// A number that is no reference.
+    Number(u64),
+    /// A reference, with 16, with 24 and with 32 bits for the node.
+    Reference(u64, u64, u64),
+}
+
+/// The word as it is with so many bits for a node, which are 16, 24 or 32.
+pub fn word_in<const B: u32>(word: Word) -> u64 {
+    match (word, B) {
+        (Word::Number(number), _) => number,
+        (Word::Reference(least, _, _), 16) => least,
+        (Word::Reference(_, usual, _), 24) => usual,
+        (Word::Reference(_, _, most), _) => most,
+    }
+}
+
+/// The number of a closed end, with 16, 24 or 32 bits for a node.
+pub fn closed_end<const B: u32>() -> u32 {
+    match B {
+        16 => 65_535,
+        24 => 16_777_215,
+        _ => 4_294_967_295,
+    }
+}
+
 fn body(number: u32) -> Body {
     match Body::new(u64::from(number)) {
         Some(body) => body,

@@ -3,18 +3,18 @@
 use super::events::Act;
 use super::expected::{Call, op};
 use history::Refusal;
-use step_machine::{Move, World};
+use step_machine::{Move, WorldOf};
 
-pub fn begin(world: &mut World, actor: u16, call: Call) -> Result<(), Refusal> {
+pub fn begin<const B: u32>(world: &mut WorldOf<B>, actor: u16, call: Call) -> Result<(), Refusal> {
     world.begin(actor, op(call))
 }
 
-pub fn give(world: &mut World, actor: u16) -> Result<(), Refusal> {
+pub fn give<const B: u32>(world: &mut WorldOf<B>, actor: u16) -> Result<(), Refusal> {
     world.give(actor)?;
     Ok(())
 }
 
-fn step(world: &mut World, actor: u16) -> Result<(), Refusal> {
+fn step<const B: u32>(world: &mut WorldOf<B>, actor: u16) -> Result<(), Refusal> {
     match world.step(actor) {
         Ok(_) => Ok(()),
         Err(why) => Err(why),
@@ -22,7 +22,7 @@ fn step(world: &mut World, actor: u16) -> Result<(), Refusal> {
 }
 
 /// Some steps of one actor; stops at the first that is refused.
-pub fn steps(world: &mut World, actor: u16, count: u32) -> Result<(), Refusal> {
+pub fn steps<const B: u32>(world: &mut WorldOf<B>, actor: u16, count: u32) -> Result<(), Refusal> {
     for _ in 0..count {
         step(world, actor)?;
     }
@@ -30,7 +30,7 @@ pub fn steps(world: &mut World, actor: u16, count: u32) -> Result<(), Refusal> {
 }
 
 /// A move by its own call.
-pub fn play(world: &mut World, act: Act) -> Result<(), Refusal> {
+pub fn play<const B: u32>(world: &mut WorldOf<B>, act: Act) -> Result<(), Refusal> {
     match act {
         Act::Begin(actor, call) => begin(world, actor, call),
         Act::Step(actor) => step(world, actor),

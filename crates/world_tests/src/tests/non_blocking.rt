@@ -103,5 +103,6 @@ const RUNS: [Run; 6] = [
 
 #[test]
 fn runs_by_one_actor_after_another(rt: HostRuntime) -> Result<(), Fail> {
-    all_go(&rt, rt.alloc(), &RUNS)
+    in_each_split!(all_go(&rt, rt.alloc(), &RUNS));
+    Ok(())
 }

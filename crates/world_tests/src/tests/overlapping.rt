@@ -154,5 +154,6 @@ const RUNS: [Run; 7] = [
 
 #[test]
 fn runs_with_calls_that_overlap(rt: HostRuntime) -> Result<(), Fail> {
-    all_go(&rt, rt.alloc(), &RUNS)
+    in_each_split!(all_go(&rt, rt.alloc(), &RUNS));
+    Ok(())
 }

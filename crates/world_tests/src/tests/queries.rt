@@ -1,11 +1,11 @@
 //! What can be asked of a world with no condition.
-use counted_ref::CountedRef;
+use counted_ref::CountedRefOf;
 use history::Taken;
 use line_table::Line;
-use step_machine::{Held, Place, World};
+use step_machine::{Held, Place, WorldOf};
 
 /// The line of an actor; none where it has no call or isn't there.
-pub fn line_of(world: &World, actor: u16) -> Option<Line> {
+pub fn line_of<const B: u32>(world: &WorldOf<B>, actor: u16) -> Option<Line> {
     if actor < 1 || usize::from(actor) > world.actors() {
         return None;
     }
@@ -13,7 +13,7 @@ pub fn line_of(world: &World, actor: u16) -> Option<Line> {
 }
 
 /// The pocket of an actor; none where it is empty or the actor isn't there.
-pub fn pocket_of(world: &World, actor: u16) -> Option<Held> {
+pub fn pocket_of<const B: u32>(world: &WorldOf<B>, actor: u16) -> Option<Held> {
     if actor < 1 || usize::from(actor) > world.actors() {
         return None;
     }
@@ -21,12 +21,12 @@ pub fn pocket_of(world: &World, actor: u16) -> Option<Held> {
 }
 
 /// A reference as its node and its count.
-pub fn parts(reference: CountedRef) -> (u32, u64) {
+pub fn parts<const B: u32>(reference: CountedRefOf<B>) -> (u32, u64) {
     (reference.node(), reference.count())
 }
 
 /// The `next` of a node; none where the node isn't there.
-pub fn next_of(world: &World, node: u32) -> Option<(u32, u64)> {
+pub fn next_of<const B: u32>(world: &WorldOf<B>, node: u32) -> Option<(u32, u64)> {
     if node < 1 || node > world.setup().size {
         return None;
     }
@@ -34,7 +34,7 @@ pub fn next_of(world: &World, node: u32) -> Option<(u32, u64)> {
 }
 
 /// Where a node is; none where it isn't there.
-pub fn place_of(world: &World, node: u32) -> Option<Place> {
+pub fn place_of<const B: u32>(world: &WorldOf<B>, node: u32) -> Option<Place> {
     if node < 1 || node > world.setup().size {
         return None;
     }
@@ -42,7 +42,7 @@ pub fn place_of(world: &World, node: u32) -> Option<Place> {
 }
 
 /// The value of a node; none where the node isn't there.
-pub fn value_of(world: &World, node: u32) -> Option<Taken> {
+pub fn value_of<const B: u32>(world: &WorldOf<B>, node: u32) -> Option<Taken> {
     if node < 1 || node > world.setup().size {
         return None;
     }

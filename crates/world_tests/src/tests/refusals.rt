@@ -1,4 +1,6 @@
 //! What the calls refuse, and that a refused call changes nothing that can be seen.
+ghost use Rattle.counted_ref.specs.Ref.{IsSplit};
+
 use super::comparing::same;
 use super::events::Act::{self, Give, Step};
 use super::events::Event::{At, Begin, Refused, Steps};
@@ -7,42 +9,70 @@ use super::expected::Shown::{self, Started};
 use super::trials::{NON_BLOCKING, Trial};
 use history::Refusal;
 use line_table::{Kind, Line};
+use std::alloc::Global;
+use std::process::Abort;
 use std::test::Fail;
-use step_machine::World;
+use step_machine::{World, WorldOf};
 
-/// Numbers of nodes, greatest counts and numbers of actors, of which one is out of its range.
-const OUT_OF_RANGE: [(u32, u64, u32); 7] = [
+/// Numbers of nodes, greatest counts and numbers of actors, of which one is out of its range with any split.
+const OUT_OF_RANGE: [(u32, u64, u32); 5] = [
     (0, 100, 2),
     (1, 100, 2),
-    (16_777_215, 100, 2),
     (3, 0, 2),
-    (3, 1_099_511_627_776, 2),
     (3, 100, 0),
     (3, 100, 65_536),
 ];
 
-#[test]
-fn sizes_out_of_range_are_refused(rt: HostRuntime) {
-    for sizes in &OUT_OF_RANGE {
+/// A node more, and a count more, than there are with 16 bits for a node, with 24 and with 32.
+const BEYOND_16: [(u32, u64, u32); 2] = [(65_535, 100, 2), (3, 281_474_976_710_656, 2)];
+
+const BEYOND_24: [(u32, u64, u32); 2] = [(16_777_215, 100, 2), (3, 1_099_511_627_776, 2)];
+
+const BEYOND_32: [(u32, u64, u32); 2] = [(4_294_967_295, 100, 2), (3, 4_294_967_296, 2)];
+
+fn are_refused<const B: u32>(
+    rt: &impl Abort,
+    alloc: Global,
+    table: &[(u32, u64, u32)],
+) -> Result<(), Fail>
+    requires split { IsSplit B }
+{
+    for sizes in table {
         let (nodes, limit, actors) = *sizes;
         for kind in [Kind::TwoLock, Kind::NonBlocking] {
-            let found = World::new(rt.alloc(), kind, nodes, limit, actors).err();
-            same(&rt, found, Some(Refusal::BadSize), (kind, *sizes));
+            let found = WorldOf::<B>::new(alloc, kind, nodes, limit, actors).err();
+            same(rt, found, Some(Refusal::BadSize), (kind, *sizes));
         }
     }
+    Ok(())
+}
+
+#[test]
+fn sizes_out_of_range_are_refused(rt: HostRuntime) -> Result<(), Fail> {
+    in_each_split!(are_refused(&rt, rt.alloc(), &OUT_OF_RANGE));
+    are_refused::<16>(&rt, rt.alloc(), &BEYOND_16)?;
+    are_refused::<24>(&rt, rt.alloc(), &BEYOND_24)?;
+    are_refused::<32>(&rt, rt.alloc(), &BEYOND_32)
+}
+
+fn is_accepted<const B: u32>(
+    rt: &impl Abort,
+    alloc: Global,
+    nodes: u32,
+    limit: u64,
+) -> Result<(), Fail>
+    requires split { IsSplit B }
+{
+    let world = WorldOf::<B>::new(alloc, Kind::TwoLock, nodes, limit, 65_535)?;
+    same(rt, (world.setup().bits, world.fresh()), (B, 1), nodes);
+    Ok(())
 }
 
 #[test]
 fn the_greatest_sizes_are_accepted(rt: HostRuntime) -> Result<(), Fail> {
-    let world = World::new(
-        rt.alloc(),
-        Kind::TwoLock,
-        16_777_214,
-        1_099_511_627_775,
-        65_535,
-    )?;
-    same(&rt, world.fresh(), 1, "");
-    Ok(())
+    is_accepted::<16>(&rt, rt.alloc(), 65_534, 281_474_976_710_655)?;
+    is_accepted::<24>(&rt, rt.alloc(), 16_777_214, 1_099_511_627_775)?;
+    is_accepted::<32>(&rt, rt.alloc(), 4_294_967_294, 4_294_967_295)
 }
 
 /// The words of a world and the step numbers given.

@@ -1,18 +1,22 @@
 //! Worked runs in which a queue is shut.
+ghost use Rattle.counted_ref.specs.Ref.{IsSplit};
+
 use super::events::Act;
-use super::events::Event::{At, Begin, Give, Head, Next, Pocket, Refused, Steps, Tail, Told};
+use super::events::Event::{
+    At, Begin, Closed, Give, Head, Next, Pocket, Refused, Steps, Tail, Told,
+};
 use super::events::Telling::{Ended, Went};
 use super::expected::Answer::{self, Done, Value};
 use super::expected::Call::{Deq, Enq, Shut};
 use super::expected::Shown::Complete;
-use super::trials::{NON_BLOCKING, Run, Sizes, TWO_LOCK, Trial, all_go};
+use super::expected::Word::{self, Number, Reference};
+use super::trials::{NON_BLOCKING, Run, Sizes, TWO_LOCK, TrialOf, all_go};
 use history::{Refusal, WornWord};
 use line_table::{Kind, Line};
+use std::alloc::Global;
+use std::process::Abort;
 use std::test::Fail;
 use step_machine::Held;
-
-/// The number of a closed end.
-const CLOSED_END: u32 = 16_777_215;
 
 const CLOSED: Answer = Answer::Refused(Refusal::Closed);
 
@@ -42,7 +46,7 @@ const RUNS: [Run; 13] = [
             Steps(2, 9),
             Begin(2, Deq),
             Steps(2, 4),
-            Next(2, CLOSED_END, 1),
+            Closed(2, 1),
             Pocket(1, Some(Held { node: 3, mark: 0 })),
         ],
         expected: &[
@@ -86,7 +90,7 @@ const RUNS: [Run; 13] = [
             Steps(2, 4),
             Begin(1, Enq(6)),
             Steps(1, 9),
-            Next(2, CLOSED_END, 0),
+            Closed(2, 0),
             Pocket(1, Some(Held { node: 3, mark: 0 })),
         ],
         expected: &[
@@ -150,7 +154,7 @@ const RUNS: [Run; 13] = [
             At(1, Some(Line::S1)),
             Steps(1, 4),
             Next(1, 2, 1),
-            Next(2, CLOSED_END, 1),
+            Closed(2, 1),
         ],
         expected: &[
             Complete(1, Shut, (1, 18, 18), Done),
@@ -188,7 +192,7 @@ const RUNS: [Run; 13] = [
             Steps(1, 4),
             Head(1, 0),
             Tail(1, 0),
-            Next(1, CLOSED_END, 1),
+            Closed(1, 1),
         ],
         expected: &[
             Complete(1, Shut, (1, 4, 4), Done),
@@ -214,7 +218,7 @@ const RUNS: [Run; 13] = [
             Told(Act::Step(1), Ended(Line::A7, CLOSED)),
             Begin(2, Deq),
             Steps(2, 4),
-            Next(1, CLOSED_END, 0),
+            Closed(1, 0),
         ],
         expected: &[
             Complete(1, Shut, (1, 4, 3), Done),
@@ -304,35 +308,43 @@ const RUNS: [Run; 13] = [
 
 #[test]
 fn queues_are_shut(rt: HostRuntime) -> Result<(), Fail> {
-    all_go(&rt, rt.alloc(), &RUNS)
+    in_each_split!(all_go(&rt, rt.alloc(), &RUNS));
+    Ok(())
 }
 
 /// The shared words after the first run.
-const WORDS: [u64; 12] = [
-    3,
-    16_777_217,
-    16_777_218,
-    16_777_218,
-    0,
-    0,
-    16_777_216,
-    0,
-    33_554_431,
-    281_474_976_710_661,
-    0,
-    281_474_976_710_662,
+const WORDS: [Word; 12] = [
+    Number(3),
+    Reference(65_537, 16_777_217, 4_294_967_297),
+    Reference(65_538, 16_777_218, 4_294_967_298),
+    Reference(65_538, 16_777_218, 4_294_967_298),
+    Number(0),
+    Number(0),
+    Reference(65_536, 16_777_216, 4_294_967_296),
+    Number(0),
+    Reference(131_071, 33_554_431, 8_589_934_591),
+    Number(281_474_976_710_661),
+    Number(0),
+    Number(281_474_976_710_662),
 ];
 
-#[test]
-fn a_closed_end_stands_in_the_last_next(rt: HostRuntime) -> Result<(), Fail> {
+fn closed_end_stands<const B: u32>(rt: &impl Abort, alloc: Global) -> Result<(), Fail>
+    requires split { IsSplit B }
+{
     let Run {
         name,
         sizes,
         events,
         ..
     } = RUNS[0];
-    let mut trial = Trial::new(rt.alloc(), name, sizes)?;
-    trial.goes(&rt, events);
-    trial.tells(&rt, &WORDS);
+    let mut trial = TrialOf::<B>::new(alloc, name, sizes)?;
+    trial.goes(rt, events);
+    trial.tells(rt, &WORDS);
+    Ok(())
+}
+
+#[test]
+fn a_closed_end_stands_in_the_last_next(rt: HostRuntime) -> Result<(), Fail> {
+    in_each_split!(closed_end_stands(&rt, rt.alloc()));
     Ok(())
 }

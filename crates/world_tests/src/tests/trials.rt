@@ -1,7 +1,9 @@
 //! A world that is led through a list of events, and compared with each.
+ghost use Rattle.counted_ref.specs.Ref.{IsSplit};
+
 use super::comparing::same;
 use super::events::{Event, Telling};
-use super::expected::{Shown, reply, stamped, taken};
+use super::expected::{Shown, Word, closed_end, reply, stamped, taken, word_in};
 use super::moves::{begin, give, move_of, play, steps};
 use super::queries::{line_of, next_of, parts, place_of, pocket_of, value_of};
 use history::{Refusal, Stamped, Verdict, check};
@@ -9,7 +11,7 @@ use line_table::Kind;
 use std::alloc::Global;
 use std::process::Abort;
 use std::test::Fail;
-use step_machine::{Stepped, World, step_in};
+use step_machine::{Stepped, WorldOf, step_in};
 
 /// What a world is made of.
 #[derive(Clone, Copy)]
@@ -47,15 +49,20 @@ pub struct Run {
 
 /// A world, with a name for what is tried on it.
 #[derive(Drop)]
-pub struct Trial {
+pub struct TrialOf<const B: u32> {
     name: &'static str,
-    pub world: World,
+    pub world: WorldOf<B>,
 }
 
+/// With 24 bits for the number of a node.
+pub type Trial = TrialOf<24>;
+
 /// Each of these runs is as it says.
-pub fn all_go(rt: &impl Abort, alloc: Global, runs: &[Run]) -> Result<(), Fail> {
+pub fn all_go<const B: u32>(rt: &impl Abort, alloc: Global, runs: &[Run]) -> Result<(), Fail>
+    requires split { IsSplit B }
+{
     for one in runs {
-        let mut trial = Trial::new(alloc, one.name, one.sizes)?;
+        let mut trial = TrialOf::<B>::new(alloc, one.name, one.sizes)?;
         trial.goes(rt, one.events);
         trial.shows(rt, alloc, one.expected)?;
     }
@@ -80,16 +87,18 @@ fn answer_of(telling: Telling) -> Result<Stepped, Refusal> {
     }
 }
 
-impl Trial {
-    pub fn new(alloc: Global, name: &'static str, sizes: Sizes) -> Result<Trial, Refusal> {
+impl<const B: u32> TrialOf<B> {
+    pub fn new(alloc: Global, name: &'static str, sizes: Sizes) -> Result<TrialOf<B>, Refusal>
+        requires split { IsSplit B }
+    {
         let Sizes {
             kind,
             nodes,
             limit,
             actors,
         } = sizes;
-        let world = World::new(alloc, kind, nodes, limit, u32::from(actors))?;
-        Ok(Trial { name, world })
+        let world = WorldOf::new(alloc, kind, nodes, limit, u32::from(actors))?;
+        Ok(TrialOf { name, world })
     }
 
     /// Each of these events is as it says.
@@ -108,9 +117,10 @@ impl Trial {
     }
 
     /// Its words are these, and there are no more.
-    pub fn tells(&self, rt: &impl Abort, words: &[u64]) {
+    pub fn tells(&self, rt: &impl Abort, words: &[Word]) {
         for (index, word) in words.iter().enumerate() {
-            same(rt, self.world.word(index), Some(*word), (self.name, index));
+            let wanted = word_in::<B>(*word);
+            same(rt, self.world.word(index), Some(wanted), (self.name, index));
         }
         same(rt, self.world.word(words.len()), None, self.name);
     }
@@ -145,6 +155,10 @@ impl Trial {
             Event::Pocket(actor, held) => same(rt, pocket_of(world, actor), held, tried),
             Event::Next(node, next, count) => {
                 same(rt, next_of(world, node), Some((next, count)), tried);
+            }
+            Event::Closed(node, count) => {
+                let wanted = (closed_end::<B>(), count);
+                same(rt, next_of(world, node), Some(wanted), tried);
             }
             Event::Placed(node, place) => same(rt, place_of(world, node), Some(place), tried),
             Event::Value(node, from, number) => {

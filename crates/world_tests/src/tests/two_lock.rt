@@ -81,5 +81,6 @@ const RUNS: [Run; 3] = [
 
 #[test]
 fn runs_of_the_two_lock_queue(rt: HostRuntime) -> Result<(), Fail> {
-    all_go(&rt, rt.alloc(), &RUNS)
+    in_each_split!(all_go(&rt, rt.alloc(), &RUNS));
+    Ok(())
 }

@@ -1,44 +1,62 @@
 //! The shared words as one table of numbers.
+ghost use Rattle.counted_ref.specs.Ref.{IsSplit};
+
 use super::events::Event::{self, Begin, Steps};
 use super::expected::Call::{Deq, Enq};
-use super::trials::{NON_BLOCKING, Sizes, TWO_LOCK, Trial};
+use super::expected::Word::{self, Number, Reference};
+use super::trials::{NON_BLOCKING, Sizes, TWO_LOCK, TrialOf};
+use std::alloc::Global;
+use std::process::Abort;
 use std::test::Fail;
 
 const PUSH_AND_POP: [Event; 4] = [Begin(1, Enq(5)), Steps(1, 10), Begin(2, Deq), Steps(2, 9)];
 
-const AT_FIRST: [u64; 12] = [1, 0, 1, 1, 0, 0, 0, 0, 0, 0, 0, 0];
-
-const OF_TWO_LOCK: [u64; 12] = [
-    2,
-    16_777_217,
-    16_777_218,
-    2,
-    0,
-    0,
-    0,
-    0,
-    0,
-    281_474_976_710_661,
-    0,
-    0,
+const AT_FIRST: [Word; 12] = [
+    Number(1),
+    Number(0),
+    Number(1),
+    Number(1),
+    Number(0),
+    Number(0),
+    Number(0),
+    Number(0),
+    Number(0),
+    Number(0),
+    Number(0),
+    Number(0),
 ];
 
-const OF_NON_BLOCKING: [u64; 12] = [
-    2,
-    16_777_217,
-    16_777_218,
-    16_777_218,
-    0,
-    0,
-    16_777_216,
-    0,
-    0,
-    281_474_976_710_661,
-    0,
-    0,
+const OF_TWO_LOCK: [Word; 12] = [
+    Number(2),
+    Reference(65_537, 16_777_217, 4_294_967_297),
+    Reference(65_538, 16_777_218, 4_294_967_298),
+    Number(2),
+    Number(0),
+    Number(0),
+    Number(0),
+    Number(0),
+    Number(0),
+    Number(281_474_976_710_661),
+    Number(0),
+    Number(0),
 ];
 
-const WORDS: [(&str, Sizes, &[Event], &[u64]); 3] = [
+const OF_NON_BLOCKING: [Word; 12] = [
+    Number(2),
+    Reference(65_537, 16_777_217, 4_294_967_297),
+    Reference(65_538, 16_777_218, 4_294_967_298),
+    Reference(65_538, 16_777_218, 4_294_967_298),
+    Number(0),
+    Number(0),
+    Reference(65_536, 16_777_216, 4_294_967_296),
+    Number(0),
+    Number(0),
+    Number(281_474_976_710_661),
+    Number(0),
+    Number(0),
+];
+
+const WORDS: [(&str, Sizes, &[Event], &[Word]); 3] = [
     ("two-lock, at first", TWO_LOCK, &[], &AT_FIRST),
     ("two-lock", TWO_LOCK, &PUSH_AND_POP, &OF_TWO_LOCK),
     (
@@ -49,12 +67,19 @@ const WORDS: [(&str, Sizes, &[Event], &[u64]); 3] = [
     ),
 ];
 
+fn worlds_tell<const B: u32>(rt: &impl Abort, alloc: Global) -> Result<(), Fail>
+    requires split { IsSplit B }
+{
+    for (name, sizes, events, words) in &WORDS {
+        let mut trial = TrialOf::<B>::new(alloc, name, *sizes)?;
+        trial.goes(rt, events);
+        trial.tells(rt, words);
+    }
+    Ok(())
+}
+
 #[test]
 fn a_world_tells_its_words(rt: HostRuntime) -> Result<(), Fail> {
-    for (name, sizes, events, words) in &WORDS {
-        let mut trial = Trial::new(rt.alloc(), name, *sizes)?;
-        trial.goes(&rt, events);
-        trial.tells(&rt, words);
-    }
+    in_each_split!(worlds_tell(&rt, rt.alloc()));
     Ok(())
 }

@@ -175,5 +175,6 @@ const RUNS: [Run; 7] = [
 
 #[test]
 fn runs_in_which_a_count_wears_out(rt: HostRuntime) -> Result<(), Fail> {
-    all_go(&rt, rt.alloc(), &RUNS)
+    in_each_split!(all_go(&rt, rt.alloc(), &RUNS));
+    Ok(())
 }

@@ -2,4 +2,4 @@ use Rattle.node_arena.specs.Prologues.{continues}
 use Rattle.arena_lines.proofs.stepping.exchanged.Given as goal
 
 abbrev pub ghost-exchange : goal.ghost-exchange
-ghost-exchange a = continues
+ghost-exchange g a = continues

@@ -2,4 +2,4 @@ use Rattle.node_arena.specs.Prologues.{continues}
 use Rattle.arena_lines.proofs.stepping.loaded.Given as goal
 
 abbrev pub ghost-load : goal.ghost-load
-ghost-load a = continues
+ghost-load g a = continues

@@ -1,8 +1,26 @@
+use Rattle.std.proofs.Common.{◌^◌, ◌<◌, ap, sym, subst, lit≤, arith}
+use Rattle.counted_ref.specs.Ref.{reserved_node, count_bits}
+use Rattle.node_arena.specs.Machine.{Setup}
+use Rattle.free_list.specs.Running.{Running}
 use Rattle.free_list.proofs.Steps.{room_f3, node_f3}
 use Rattle.free_list.proofs.giving.f3.Goals as goal
 
-pub line_table-raised-requires-clause-to : goal.line_table-raised-requires-clause-to
-line_table-raised-requires-clause-to c = node_f3 c.args.arena.now c.args.seat.now c.args.a c.requires
-
-pub line_table-raised-requires-clause-count : goal.line_table-raised-requires-clause-count
-line_table-raised-requires-clause-count c = room_f3 c.args.arena.now c.args.seat.now c.args.a c.setup-setup.result c.setup-setup.ensures c.requires
+pub line_table-raised-requires : goal.line_table-raised-requires
+line_table-raised-requires g c =
+    let node = ap (λ (x : Running). x.node) c.a.view_is in
+    let top = ap (λ (x : Running). x.top.count) c.a.view_is in (
+      lit≤ tt,
+      (
+        c.setup-setup.ensures.split,
+        (
+          c.setup-setup.ensures.bits,
+          (
+            subst (λ (z : Setup). c.a.inside.node < reserved_node z.bits) (sym c.setup-setup.ensures.value) (omega (arith, node, node_f3 c.args.arena.now c.args.seat.now c.args.a c.requires.stands)),
+            (
+              omega (arith, top, room_f3 c.args.arena.now c.args.seat.now c.args.a c.setup-setup.result c.setup-setup.ensures.value c.requires.stands),
+              subst (λ (z : Setup). z.limit < 2 ^ count_bits z.bits) (sym c.setup-setup.ensures.value) c.requires.stands.before.seat.arena.sized.counted,
+            ),
+          ),
+        ),
+      ),
+    )

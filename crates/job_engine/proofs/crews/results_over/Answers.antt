@@ -1,5 +1,6 @@
-use Rattle.std.proofs.Common.{◌∙◌, ap}
+use Rattle.std.proofs.Common.{◌-◌, ◌^◌, ◌∙◌, ap}
 use Rattle.std.proofs.lemmas.Result.{IfOk-weaker}
+use Rattle.counted_ref.specs.Ref.{count_bits}
 use Rattle.node_arena.specs.Plans.{permits_by}
 use Rattle.node_arena.specs.Making.{plan}
 use Rattle.node_arena.specs.Seats.{known_of}
@@ -17,5 +18,5 @@ results_with-requires-clause-crew g c κs within =
 pub returns-clause-over : goal.returns-clause-over
 returns-clause-over g c =
     let roles = c.deref.ensures.value ∙ c.in_ok-roles.ensures.roles in
-    let made = c.in_ok-queue.ensures.ok.plan ∙ ap (plan g.A.Algorithm.kind c.args.nodes 1099511627775) roles in
+    let made = c.in_ok-queue.ensures.ok.plan ∙ ap (plan 24 g.A.Algorithm.kind c.args.nodes (2 ^ count_bits 24 - 1)) roles in
     IfOk-weaker c.results_with.result _ _ (λ results h. record { words = arena_of c.in_ok-queue.queue; made = made }) c.results_with.ensures.rows

@@ -4,10 +4,10 @@ use Rattle.node_arena.proofs.Deals.{opens, laid, new_seats}
 use Rattle.node_arena.proofs.making.built.Goals as goal
 
 pub of_words-requires : goal.of_words-requires
-of_words-requires c = opens c.args.plan _ c.requires (c.as_slice.ensures.value ∙ c.in_ok-words.ensures ∙ ap (λ z. first_memory_words z.setup.size) c.plan.view_is)
+of_words-requires g c = opens c.args.plan _ c.requires.planned (c.as_slice.ensures.value ∙ c.in_ok-words.ensures ∙ ap (λ z. first_memory_words z.setup.size) c.plan.view_is)
 
 pub returns : goal.returns
-returns c =
+returns g c =
     let words = c.as_slice.ensures.value ∙ c.in_ok-words.ensures ∙ ap (λ z. first_memory_words z.setup.size) c.plan.view_is in
-    let arena = laid _ _ _ c.requires c.in_ok-table.ensures.5 (c.in_ok-table.ensures.0 ∙ ap length words) c.in_ok-table.ensures.1 in
+    let arena = laid _ _ _ c.requires.planned c.in_ok-table.ensures.5 (c.in_ok-table.ensures.0 ∙ ap length words) c.in_ok-table.ensures.1 in
     record { plan = refl; count = c.in_ok-seats.ensures.count; each = new_seats _ c.in_ok-seats.seats.items arena c.in_ok-seats.ensures.seats }

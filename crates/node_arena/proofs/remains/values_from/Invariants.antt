@@ -4,7 +4,7 @@ use Rattle.node_arena.proofs.Lefts.{Walks}
 use Rattle.node_arena.proofs.remains.values_from.Given as goal
 
 abbrev pub invariant-loop-node : goal.invariant-loop-node
-invariant-loop-node l = Walks (slots_items l.closed.words) l.fn.first l.node l.values.items (vec_len l.values) (vec_capacity l.values)
+invariant-loop-node g l = Walks g.row.B (slots_items l.closed.words) l.fn.first l.node l.values.items (vec_len l.values) (vec_capacity l.values)
 
 abbrev pub decreases-loop-node : goal.decreases-loop-node
-decreases-loop-node l = length (slots_items l.closed.words) - vec_len l.values
+decreases-loop-node g l = length (slots_items l.closed.words) - vec_len l.values

@@ -3,13 +3,13 @@ use Rattle.nonblocking.proofs.Pops.{pop_again, pop_ends, pop_gives_up}
 use Rattle.nonblocking.proofs.popping.pop_with_empty_pocket.Goals as goal
 
 pub loop-index-preserved : goal.loop-index-preserved
-loop-index-preserved c = pop_again c.args.arena.now c.args.seat.now c.loop-index.seat c.pop_by_turn.new.seat c.loop-index.index c.loop-index.invariant c.in_default.ensures
+loop-index-preserved g c = pop_again c.args.arena.now c.args.seat.now c.loop-index.seat c.pop_by_turn.new.seat c.loop-index.index c.loop-index.invariant c.in_default.ensures
 
 pub returns-in-Some : goal.returns-in-Some
-returns-in-Some c = pop_ends c.args.arena.now c.args.seat.now c.loop-index.seat c.pop_by_turn.new.seat c.loop-index.index c.loop-index.invariant c.args.spent c.args.turns c.in-Some.answer c.in-Some.ensures
+returns-in-Some g c = pop_ends c.args.arena.now c.args.seat.now c.loop-index.seat c.pop_by_turn.new.seat c.loop-index.index c.loop-index.invariant c.args.spent c.args.turns c.in-Some.answer c.in-Some.ensures
 
 pub returns : goal.returns
-returns c =
+returns g c =
     let over = c.loop-index-test.false in
     let within = c.loop-index.auto.index-end in
     let less = c.requires.turns in

@@ -1,4 +1,5 @@
+use Rattle.nonblocking.specs.Shuts.{shutting}
 use Rattle.nonblocking.proofs.shut_lines.s1.Given as goal
 
 abbrev pub ghost-load : goal.ghost-load
-ghost-load g a = g.prologue
+ghost-load g a = shutting a.failed

@@ -4,13 +4,13 @@ use Rattle.run_engine.proofs.Told.{line_in_either, line_in_step}
 use Rattle.run_engine.proofs.running.take_step.Goals as goal
 
 pub returns-in-Went-clause-at : goal.returns-in-Went-clause-at
-returns-in-Went-clause-at c =
+returns-in-Went-clause-at g c =
     let w = c.args.world.now in
     let me = c.args.actor in
     sym (line_in_step w me (actor_of w me) c.in_ok-line.field-0 c.in_ok-line.ensures.told) ∙ line_in_either _ c.in-Went.line c.in-Went.is
 
 pub returns-in-Went-2-clause-at : goal.returns-in-Went-2-clause-at
-returns-in-Went-2-clause-at c =
+returns-in-Went-2-clause-at g c =
     let w = c.args.world.now in
     let me = c.args.actor in
     sym (line_in_step w me (actor_of w me) c.in_ok-line.field-0 c.in_ok-line.ensures.told) ∙ line_in_either _ c.in-Went.line c.in-Went.is

@@ -4,7 +4,7 @@ use Rattle.run_engine.proofs.Moves.{world_after-replicate_next}
 use Rattle.run_engine.proofs.running.take_steps.Goals as goal
 
 pub loop-preserved : goal.loop-preserved
-loop-preserved c =
+loop-preserved g c =
     let made = c.in_ok-take_step.ensures in
     record {
       led = world_after-replicate_next c.loop.counter (Step c.args.actor) _ c.loop.world _ c.loop.invariant.led made.ok;

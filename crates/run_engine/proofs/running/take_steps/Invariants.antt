@@ -5,7 +5,7 @@ use Rattle.run_engine.specs.Runs.{world_after}
 use Rattle.run_engine.proofs.running.take_steps.Given as goal
 
 abbrev pub invariant-loop : goal.invariant-loop
-invariant-loop l = record {
+invariant-loop g l = record {
   led : world_after (replicate l.counter (Step l.actor)) l.fn.world ≡ Some l.world;
   steps : l.world.steps ≤ l.fn.world.steps + l.counter;
 }

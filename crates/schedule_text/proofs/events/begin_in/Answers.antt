@@ -5,4 +5,4 @@ pub returns : goal.returns
 returns c =
     let actor = c.in_ok-actor.ensures in
     let call = c.in_ok-call.ensures in
-    (Begin actor.0 call.0, (tt, cc), c.begin_of.ensures actor.0 call.0 actor.2 call.2)
+    (Begin actor.0 call.0, (call.1.0, cc (actor.1, call.1.1)), c.begin_of.ensures actor.0 call.0 actor.2 call.2)

@@ -6,14 +6,14 @@ pub returns-in_err-rest-clause-err : goal.returns-in_err-rest-clause-err
 returns-in_err-rest-clause-err c =
     let p = err_from_is_err_and c.from_residual.result c.from_residual.ensures.1 in
     let before = c.loop-place.invariant in
-    rw (p.1, p.2) (refused_event_behind c.args.count _ _ _ _ _ before.begins before.counted c.loop-place-test.true c.in_err-rest.ensures.err)
+    rw (p.1, p.2) (rw c.header_lines.ensures.count at (refused_event_behind _ c.args.version c.args.count _ _ _ _ _ before.begins before.counted c.loop-place-test.true c.in_err-rest.ensures.err))
 
 pub loop-place-preserved : goal.loop-place-preserved
 loop-place-preserved c =
     let before = c.loop-place.invariant in
     let added = c.in_ok-rest.ensures.ok in
     record {
-      begins = Begins-event c.args.count _ _ _ _ _ _ before.begins before.counted c.loop-place-test.true added;
-      counted = length-added _ _ _ _ _ before.counted added;
-      range = All-added _ _ _ _ before.range added;
+      begins = Begins-event c.args.version c.args.count _ _ _ _ _ _ before.begins before.counted c.loop-place-test.true added;
+      counted = length-added c.args.version _ _ _ _ _ before.counted added;
+      range = All-added c.args.version _ _ _ _ before.range added;
     }

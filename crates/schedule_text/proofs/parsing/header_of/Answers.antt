@@ -1,55 +1,34 @@
 use Rattle.std.proofs.Common.{refl}
 use Rattle.std.proofs.lemmas.Result.{err_from_is_err_and}
-use Rattle.schedule_text.specs.declared.fields.Field.TheVariants.{Nodes, Limit, Actors, Events}
-use Rattle.schedule_text.specs.Texts.{version, queue, number, version_due, queue_due, number_due}
-use Rattle.schedule_text.proofs.Joining.{refused_later, Begins-front, Begins-none}
+use Rattle.schedule_text.specs.Texts.{version, queue, version_due, queue_due}
+use Rattle.schedule_text.proofs.Joining.{refused_later, refused_behind_bits, Begins-header}
 use Rattle.schedule_text.proofs.parsing.header_of.Goals as goal
 
 pub returns-in_err-kind-clause-err : goal.returns-in_err-kind-clause-err
 returns-in_err-kind-clause-err c =
     let p = err_from_is_err_and c.from_residual-in_err-kind.result c.from_residual-in_err-kind.ensures.1 in
-    rw (p.1, p.2) (refused_later 0 version_due version _ _ _ refl c.in_ok-rest.ensures.ok c.in_err-kind.ensures.err)
+    let v = c.in_ok-version.version in
+    rw (p.1, p.2) (refused_later 0 version_due (version v) _ _ _ refl c.in_ok-version.ensures.ok (c.in_err-kind.ensures.err v))
 
-pub returns-in_err-nodes-clause-err : goal.returns-in_err-nodes-clause-err
-returns-in_err-nodes-clause-err c =
-    let p = err_from_is_err_and c.from_residual-in_err-nodes.result c.from_residual-in_err-nodes.ensures.1 in
+pub returns-in_err-bits-clause-err : goal.returns-in_err-bits-clause-err
+returns-in_err-bits-clause-err c =
+    let p = err_from_is_err_and c.from_residual-in_err-bits.result c.from_residual-in_err-bits.ensures.1 in
+    let v = c.in_ok-version.version in
     rw (p.1, p.2)
-    (refused_later 0 version_due version _ _ _ refl c.in_ok-rest.ensures.ok
-    (refused_later 1 queue_due (queue c.in_ok-kind.kind) _ _ _ refl c.in_ok-kind.ensures.ok c.in_err-nodes.ensures.err))
+    (refused_later 0 version_due (version v) _ _ _ refl c.in_ok-version.ensures.ok
+    (refused_later 1 (queue_due v) (queue c.in_ok-kind.kind) _ _ _ refl (c.in_ok-kind.ensures.ok v) c.in_err-bits.ensures.err))
 
-pub returns-in_err-limit-clause-err : goal.returns-in_err-limit-clause-err
-returns-in_err-limit-clause-err c =
-    let p = err_from_is_err_and c.from_residual-in_err-limit.result c.from_residual-in_err-limit.ensures.1 in
+pub returns-in_err-sizes-clause-err : goal.returns-in_err-sizes-clause-err
+returns-in_err-sizes-clause-err c =
+    let p = err_from_is_err_and c.from_residual-in_err-sizes.result c.from_residual-in_err-sizes.ensures.1 in
+    let v = c.in_ok-version.version in
     rw (p.1, p.2)
-    (refused_later 0 version_due version _ _ _ refl c.in_ok-rest.ensures.ok
-    (refused_later 1 queue_due (queue c.in_ok-kind.kind) _ _ _ refl c.in_ok-kind.ensures.ok
-    (refused_later 2 (number_due Nodes) (number Nodes c.in_ok-nodes.nodes) _ _ _ refl c.in_ok-nodes.ensures.ok c.in_err-limit.ensures.err)))
-
-pub returns-in_err-actors-clause-err : goal.returns-in_err-actors-clause-err
-returns-in_err-actors-clause-err c =
-    let p = err_from_is_err_and c.from_residual-in_err-actors.result c.from_residual-in_err-actors.ensures.1 in
-    rw (p.1, p.2)
-    (refused_later 0 version_due version _ _ _ refl c.in_ok-rest.ensures.ok
-    (refused_later 1 queue_due (queue c.in_ok-kind.kind) _ _ _ refl c.in_ok-kind.ensures.ok
-    (refused_later 2 (number_due Nodes) (number Nodes c.in_ok-nodes.nodes) _ _ _ refl c.in_ok-nodes.ensures.ok
-    (refused_later 3 (number_due Limit) (number Limit c.in_ok-limit.limit) _ _ _ refl c.in_ok-limit.ensures.ok c.in_err-actors.ensures.err))))
-
-pub returns-in_err-events-clause-err : goal.returns-in_err-events-clause-err
-returns-in_err-events-clause-err c =
-    let p = err_from_is_err_and c.from_residual-in_err-events.result c.from_residual-in_err-events.ensures.1 in
-    rw (p.1, p.2)
-    (refused_later 0 version_due version _ _ _ refl c.in_ok-rest.ensures.ok
-    (refused_later 1 queue_due (queue c.in_ok-kind.kind) _ _ _ refl c.in_ok-kind.ensures.ok
-    (refused_later 2 (number_due Nodes) (number Nodes c.in_ok-nodes.nodes) _ _ _ refl c.in_ok-nodes.ensures.ok
-    (refused_later 3 (number_due Limit) (number Limit c.in_ok-limit.limit) _ _ _ refl c.in_ok-limit.ensures.ok
-    (refused_later 4 (number_due Actors) (number Actors c.in_ok-actors.actors) _ _ _ refl c.in_ok-actors.ensures.ok c.in_err-events.ensures.err)))))
+    (refused_later 0 version_due (version v) _ _ _ refl c.in_ok-version.ensures.ok
+    (refused_later 1 (queue_due v) (queue c.in_ok-kind.kind) _ _ _ refl (c.in_ok-kind.ensures.ok v)
+    (refused_behind_bits v c.in_ok-bits.bits _ _ _ c.in_ok-bits.ensures.first c.in_ok-bits.ensures.text c.in_err-sizes.ensures.err)))
 
 pub returns-clause-text : goal.returns-clause-text
 returns-clause-text c =
-    Begins-front version_due version _ _ _ _ refl c.in_ok-rest.ensures.ok
-    (Begins-front queue_due (queue c.in_ok-kind.kind) _ _ _ _ refl c.in_ok-kind.ensures.ok
-    (Begins-front (number_due Nodes) (number Nodes c.in_ok-nodes.nodes) _ _ _ _ refl c.in_ok-nodes.ensures.ok
-    (Begins-front (number_due Limit) (number Limit c.in_ok-limit.limit) _ _ _ _ refl c.in_ok-limit.ensures.ok
-    (Begins-front (number_due Actors) (number Actors c.in_ok-actors.actors) _ _ _ _ refl c.in_ok-actors.ensures.ok
-    (Begins-front (number_due Events) (number Events c.in_ok-events.events) _ _ _ _ refl c.in_ok-events.ensures.ok
-    (Begins-none _ _))))))
+    let v = c.in_ok-version.version in
+    Begins-header v c.in_ok-kind.kind c.in_ok-bits.bits _ _ _ _ _ _ c.in_ok-version.ensures.ok (c.in_ok-kind.ensures.ok v)
+    c.in_ok-bits.ensures.first c.in_ok-bits.ensures.text c.in_ok-sizes.ensures.text

@@ -7,7 +7,7 @@ use Rattle.step_machine.proofs.Stepping.{changed_where_listed}
 use Rattle.step_machine.proofs.committing.commit.Goals as goal
 
 pub returns-clause-operations : goal.returns-clause-operations
-returns-clause-operations c =
+returns-clause-operations g c =
     let call = c.args.call in
     let at = c.list_operation-place.ensures in
     let place = c.list_operation-place.result in

@@ -1,0 +1,27 @@
+use Rattle.std.proofs.Common.{rules, lit≤, ap, ◌∙◌}
+use Rattle.arena_queue.specs.Answers.{AnswersPush}
+use Rattle.arena_queue.proofs.Pushes.{put_at_once, put_after_take}
+use Rattle.arena_queue.proofs.Queues.{still_pushes}
+use Rattle.arena_queue.proofs.queue.ArenaQueueOfFifo.try_push.Given.{Over}
+use Rattle.arena_queue.proofs.queue.ArenaQueueOfFifo.try_push.Goals.{in-Some, in-None+in_ok-take-in-None}
+use Rattle.arena_queue.proofs.queue.ArenaQueueOfFifo.try_push.Goals as goal
+
+answers : (g : Over) (c : goal.After-put g) → AnswersPush g.A.Algorithm.push_worn c.args.self.now.arena c.args.seat.now c.put.new.seat c.args.body c.args.turns c.put.result
+answers g c =
+    elim c.match-pocket.branch [
+      | in-Some w ↦ put_at_once g.A.Algorithm.push_worn c.args.self.now.arena c.args.seat.now _ c.put.new.seat _ c.args.body _ c.args.turns c.put.result c.requires.seat w.seat-is (ap (λ p. p.1) w.spent-is) c.put.ensures
+      | in-None+in_ok-take-in-None w ↦
+          put_after_take g.A.Algorithm.push_worn c.args.self.now.arena c.args.seat.now w.take.new.seat _ c.put.new.seat _ c.args.body w.failed.result _ c.args.turns c.put.result c.requires.seat w.seat-is (ap (λ p. p.1) w.spent-is) w.take.ensures.same w.take.ensures.lines (w.failed.ensures ∙ w.take.ensures.failed) c.put.ensures
+    ]
+
+pub put-requires : goal.put-requires
+put-requires g c = (lit≤ tt, (search rules, (search rules, (search (still_pushes, rules), (search rules, search rules)))))
+
+pub returns-clause-few : goal.returns-clause-few
+returns-clause-few g c = (answers g c).few
+
+pub returns-clause-refused : goal.returns-clause-refused
+returns-clause-refused g c = (answers g c).refused
+
+pub returns-clause-caused : goal.returns-clause-caused
+returns-clause-caused g c = (answers g c).caused

@@ -1,5 +1,0 @@
-use Rattle.node_arena.specs.Rule.{Tells}
-use Rattle.node_arena.proofs.arena.Arena.fetch_and.Given as goal
-
-abbrev pub ghosts-fetch_and : goal.ghosts-fetch_and
-ghosts-fetch_and g a = record { then = λ _. Tells a.self.now.key g.prologue }

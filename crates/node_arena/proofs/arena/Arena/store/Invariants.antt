@@ -1,5 +1,0 @@
-use Rattle.node_arena.specs.Rule.{TellsNothing}
-use Rattle.node_arena.proofs.arena.Arena.store.Given as goal
-
-abbrev pub ghosts-store : goal.ghosts-store
-ghosts-store g a = record { then = λ _ me _ m. TellsNothing a.self.now.key g.prologue me m }

@@ -1,0 +1,40 @@
+use Rattle.std.proofs.Common.{◌≡◌, sym, subst, ap, ◌∙◌, arith}
+use Rattle.atomic_table.specs.Table.{Me}
+use Rattle.node_arena.specs.Seeing.{View}
+use Rattle.node_arena.specs.Arenas.{arena_of}
+use Rattle.node_arena.specs.Seats.{IsReady}
+use Rattle.node_arena.proofs.Meets.{spares_at, pairs_at, meets_at, parts_at, meeting, joined_is, met_there, met_at, met_as}
+use Rattle.node_arena.proofs.arena.ArenaOf.meet.Goals as goal
+
+pub split_seat-spare-requires : goal.split_seat-spare-requires
+split_seat-spare-requires g c = let a = (subst (λ r. IsReady r c.args.one.now) (sym c.self.view_is) c.requires.one).seat.arena.words in ((subst (λ r. IsReady r c.args.other.now) (sym c.self.view_is) c.requires.other).seat.sits.table, omega arith, spares_at _ _ _ _ (subst (λ r. IsReady r c.args.other.now) (sym c.self.view_is) c.requires.other).seat.sits.seat)
+
+pub join_seat-requires : goal.join_seat-requires
+join_seat-requires g c =
+    let a = (subst (λ r. IsReady r c.args.one.now) (sym c.self.view_is) c.requires.one).seat.arena.words in
+    let cut = c.split_seat-spare.ensures in
+    let token = c.replace-token.ensures.value in
+    let me : c.replace-token.result.me ≡ c.args.other.now.token.me = ap (λ t. t.me) token ∙ cut.2 in (
+      (subst (λ r. IsReady r c.args.one.now) (sym c.self.view_is) c.requires.one).seat.sits.table,
+      ap (λ t. t.table_id) token ∙ (cut.0 ∙ (subst (λ r. IsReady r c.args.other.now) (sym c.self.view_is) c.requires.other).seat.sits.table),
+      ap (λ (m : Me _ View). m.1) (me ∙ (subst (λ r. IsReady r c.args.other.now) (sym c.self.view_is) c.requires.other).seat.sits.seat),
+      omega arith,
+      pairs_at _ _ _ _ _ _ _ (subst (λ r. IsReady r c.args.one.now) (sym c.self.view_is) c.requires.one).seat.sits.seat (me ∙ (subst (λ r. IsReady r c.args.other.now) (sym c.self.view_is) c.requires.other).seat.sits.seat),
+    )
+
+pub load-requires : goal.load-requires
+load-requires g c =
+    let a = (subst (λ r. IsReady r c.args.one.now) (sym c.self.view_is) c.requires.one).seat.arena.words in
+    let two = ap (λ t. t.me) c.replace-token.ensures.value ∙ (c.split_seat-spare.ensures.2 ∙ (subst (λ r. IsReady r c.args.other.now) (sym c.self.view_is) c.requires.other).seat.sits.seat) in
+    (c.join_seat.ensures.0 ∙ (subst (λ r. IsReady r c.args.one.now) (sym c.self.view_is) c.requires.one).seat.sits.table, omega arith, meets_at _ _ _ _ _ _ (subst (λ r. IsReady r c.args.one.now) (sym c.self.view_is) c.requires.one).seat.arena.slots (subst (λ r. IsReady r c.args.one.now) (sym c.self.view_is) c.requires.one).free (subst (λ r. IsReady r c.args.other.now) (sym c.self.view_is) c.requires.other).free (joined_is _ _ _ _ _ (subst (λ r. IsReady r c.args.one.now) (sym c.self.view_is) c.requires.one).seat.sits.seat two c.join_seat.ensures.2))
+
+pub split_seat-requires : goal.split_seat-requires
+split_seat-requires g c = let a = (subst (λ r. IsReady r c.args.one.now) (sym c.self.view_is) c.requires.one).seat.arena.words in let h = c.load.ensures.2 in (c.load.ensures.0 ∙ (c.join_seat.ensures.0 ∙ (subst (λ r. IsReady r c.args.one.now) (sym c.self.view_is) c.requires.one).seat.sits.table), omega arith, parts_at _ _ _ _ _ h.seats)
+
+pub returns : goal.returns
+returns g c =
+    let two = ap (λ t. t.me) c.replace-token.ensures.value ∙ (c.split_seat-spare.ensures.2 ∙ (subst (λ r. IsReady r c.args.other.now) (sym c.self.view_is) c.requires.other).seat.sits.seat) in
+    let here = c.load.ensures.0 ∙ (c.join_seat.ensures.0 ∙ (subst (λ r. IsReady r c.args.one.now) (sym c.self.view_is) c.requires.one).seat.sits.table) in
+    met_as _ _ _ _ _ _ c.self.view_is (meeting (arena_of c.self.inside.plan c.self.inside.table.shared.key c.self.inside.table.shared.table_id) c.args.one.now c.args.other.now c.load.new.seat c.split_seat.new.seat c.split_seat.result (subst (λ r. IsReady r c.args.one.now) (sym c.self.view_is) c.requires.one) (subst (λ r. IsReady r c.args.other.now) (sym c.self.view_is) c.requires.other)
+    (met_at _ _ _ _ _ (subst (λ r. IsReady r c.args.one.now) (sym c.self.view_is) c.requires.one).seat.arena.key (met_there _ _ _ _ _ (joined_is _ _ _ _ _ (subst (λ r. IsReady r c.args.one.now) (sym c.self.view_is) c.requires.one).seat.sits.seat two c.join_seat.ensures.2) c.load.ensures.2))
+    c.split_seat.ensures.2 c.split_seat.ensures.4 (c.split_seat.ensures.0 ∙ here) (c.split_seat.ensures.3 ∙ here))
