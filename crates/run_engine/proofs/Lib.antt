@@ -1,6 +1,6 @@
 mod Told
-mod Moves
-mod Leading
+pub mod Moves
+pub mod Leading
 mod Stops
-mod Streamed
+pub mod Streamed
 mod Rest

@@ -6,3 +6,4 @@ mod running;
 mod streaming;
 
 pub use engine::run_text;
+pub use running::make;

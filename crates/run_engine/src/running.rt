@@ -71,8 +71,9 @@ fn give_up<const B: u32>(world: &mut WorldOf<B>, actor: u16) -> Result<(), Refus
     Ok(())
 }
 
-/// Makes the moves of an event. Where the event is refused, the world is whatever its moves left.
-pub(crate) fn make<const B: u32>(world: &mut WorldOf<B>, event: Event) -> Result<(), Refusal>
+/// Makes the moves of an event. Where the event is refused, the world is whatever its moves left. A begin takes memory;
+/// it doesn't wait.
+pub fn make<const B: u32>(world: &mut WorldOf<B>, event: Event) -> Result<(), Refusal>
     requires range { IsEventInRange event }
     requires left { world.old.steps + 1000001 < 2 ^ 64 }
     ensures ok { OnOk result (EventLeads world.old event world.new) }

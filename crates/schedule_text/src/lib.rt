@@ -17,6 +17,6 @@ mod streaming;
 pub use event_stream::EventStream;
 pub use owned_events::Events;
 pub use parsing::{Header, parse};
-pub use printing::print;
+pub use printing::{name_of_kind, print};
 pub use reading::read_schedule;
 pub use schedules::{Event, Schedule, Version};

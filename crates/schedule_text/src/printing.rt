@@ -113,7 +113,8 @@ fn name_of_version(version: Version) -> &'static [u8]
     }
 }
 
-fn name_of_kind(kind: Kind) -> &'static [u8]
+/// The name of a queue. Takes no memory and doesn't wait.
+pub fn name_of_kind(kind: Kind) -> &'static [u8]
     ensures text { result.now ≡ kind_name kind }
     ensures short { length result.now ≤ 11 }
 {

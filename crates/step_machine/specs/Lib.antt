@@ -8,6 +8,7 @@ pub mod EachQueue
 pub mod TwoLock
 pub mod Views
 pub mod Calls
+pub mod Accesses
 pub mod Entries
 pub mod Stored
 pub mod Range

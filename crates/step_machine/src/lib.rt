@@ -1,6 +1,7 @@
 //! Both queues run one atomic line at a time: worlds, their moves, and their histories.
 #![tactic(auto)]
 
+mod accesses;
 mod actors;
 mod benches;
 mod committing;
@@ -14,6 +15,7 @@ pub mod stamping;
 pub mod two_lock_laws;
 mod world;
 
+pub use accesses::{Contents, WordName};
 pub use actors::{Move, Stepped};
 pub use benches::{Bench, BenchOf, on_bench};
 pub use line_steps::{ActorOf, Held, Setup, Told};

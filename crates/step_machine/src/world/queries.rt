@@ -1,13 +1,15 @@
 //! What can be asked of a world. No query takes memory but `history`.
-ghost use Rattle.std.specs.Prelude.{◌≡◌, ◌≤◌, ◌<◌, ◌^◌, IfOk, IfErr, IfSome, IsSome, length, slice_get};
+ghost use Rattle.std.specs.Prelude.{◌≡◌, ◌≤◌, ◌<◌, ◌^◌, IfOk, IfErr, IfSome, IsSome, length, option_map, slice_get};
 ghost use Rattle.history.specs.declared.refusals.Refusal.TheVariants.{Memory};
 ghost use Rattle.history.specs.History.{Placement, IsLegal};
 ghost use Rattle.history.specs.Linearizability.{IsLinearizable};
 ghost use Rattle.line_steps.specs.Memory.{Free, Head, Tail, Next, Value_of, content};
+ghost use Rattle.step_machine.specs.Accesses.{contents_in, touched_by, word_named};
 ghost use Rattle.step_machine.specs.Machine.{actor_of, IsMade, IsReached};
 ghost use Rattle.step_machine.specs.Words.{memory_words};
 ghost use Rattle.step_machine.specs.TakingEffect.{HavePlacesByItsEffects};
 
+use crate::accesses::{Contents, WordName, told, word_at};
 use crate::committing::actor_at;
 use crate::world::WorldOf;
 use counted_ref::CountedRefOf;
@@ -15,6 +17,11 @@ use history::{Refusal, Stamped, Taken};
 use line_steps::{Held, Setup};
 use line_table::Line;
 use std::alloc::Global;
+
+/// The places of the locks among the words.
+const TAIL_LOCK: usize = 4;
+
+const HEAD_LOCK: usize = 5;
 
 impl<const B: u32> WorldOf<B> {
     /// The operations with at least one number, by rising first number: the world's history. It is linearizable. It is
@@ -72,6 +79,46 @@ impl<const B: u32> WorldOf<B> {
         match actor_at(&self.actors, actor) {
             Some(a) => a.pocket,
             None => unreachable!(),
+        }
+    }
+
+    /// The word that the next step of an actor touches; none where it has no call or isn't there.
+    ///
+    /// ```rust
+    /// // N1 loads Fresh.
+    /// world.begin(1, Op::Enq(body))?;
+    /// assert!(world.touches(1) == Some(WordName::Fresh) && world.touches(2).is_none());
+    /// ```
+    pub fn touches(&self, actor: u16) -> Option<WordName>
+        ensures { option_map word_named result ≡ touched_by self.now actor (actor_of self.now actor) }
+    {
+        match actor_at(&self.actors, actor) {
+            Some(a) => match a.line {
+                Some(line) => Some(word_at(a, line)),
+                None => None,
+            },
+            None => None,
+        }
+    }
+
+    /// What a word holds.
+    ///
+    /// ```rust
+    /// let world = World::new(alloc, Kind::TwoLock, 3, 100, 2)?;
+    /// assert!(world.holds(WordName::Head) == Contents::Reference(1, 0));
+    /// ```
+    pub fn holds(&self, word: WordName) -> Contents
+        ensures { result ≡ contents_in B (word_named word) self.now.shared }
+    {
+        match word {
+            WordName::Fresh => Contents::Number(u64::from(self.memory.fresh())),
+            WordName::Free => told(self.memory.free()),
+            WordName::Head => told(self.memory.head()),
+            WordName::Tail => told(self.memory.tail()),
+            WordName::TailLock => Contents::Number(self.memory.word(TAIL_LOCK).unwrap_or(0)),
+            WordName::HeadLock => Contents::Number(self.memory.word(HEAD_LOCK).unwrap_or(0)),
+            WordName::Next(node) => told(self.memory.next_of(node)),
+            WordName::Value(node) => Contents::Value(self.memory.value_of(node)),
         }
     }
 

@@ -1,0 +1,80 @@
+//! The shared words by their names, what each holds, and which one a step at a line touches.
+ghost use Rattle.std.specs.Prelude.{◌≡◌, ℕ};
+ghost use Rattle.line_steps.specs.declared.actors.Setup.{Setup as SetupValue};
+ghost use Rattle.line_steps.specs.Lines.{action};
+ghost use Rattle.line_steps.specs.Memory.{word};
+ghost use Rattle.step_machine.specs.Accesses.{reference_told, word_named};
+
+use counted_ref::CountedRefOf;
+use history::Taken;
+use line_steps::ActorOf;
+use line_table::{Line, line_table};
+
+/// The name of a shared word.
+#[derive(Clone, Copy, Debug, PartialEq, Eq)]
+pub enum WordName {
+    /// How many nodes were ever used.
+    Fresh,
+    /// The first node of the free list.
+    Free,
+    /// The dummy, before the first value.
+    Head,
+    /// The last node, or one that lags it.
+    Tail,
+    /// The lock of Tail.
+    TailLock,
+    /// The lock of Head.
+    HeadLock,
+    /// The `next` of this node.
+    Next(u32),
+    /// The value of this node.
+    Value(u32),
+}
+
+/// What a shared word holds.
+#[derive(Clone, Copy, Debug, PartialEq, Eq)]
+pub enum Contents {
+    /// How many nodes were used, or which actor holds a lock, 0 where none does.
+    Number(u64),
+    /// The node and the count of a reference.
+    Reference(u32, u64),
+    /// The count of a closed end.
+    Closed(u64),
+    /// What a node keeps.
+    Value(Taken),
+}
+
+// The name of the word of a row's access.
+macro_rules! name_of_row {
+    (() $line:ident { $access:ident Next($node:expr) $($new:tt)* } $then:tt) => { WordName::Next($node) };
+    (() $line:ident { $access:ident Value($node:expr) $($new:tt)* } $then:tt) => { WordName::Value($node) };
+    (() $line:ident { $access:ident $word:ident $($new:tt)* } $then:tt) => { WordName::$word };
+}
+
+// A match of a line with the name of the word of each row.
+macro_rules! names_of_rows {
+    (($line:ident $given:tt) $($name:ident)*) => {
+        match $line {
+            $(Line::$name => line_table!($name $given name_of_row ()),)*
+        }
+    };
+}
+
+/// The word that a step of an actor at a line touches, which is that of the line's row.
+pub(crate) fn word_at<const B: u32>(a: &ActorOf<B>, line: Line) -> WordName
+    ensures { (setup : SetupValue) (me : ℕ) → word_named result ≡ word (action setup me a.now line) }
+{
+    line_table!(names_of_rows (line (setup me a found))
+        [new_node free enqueue dequeue locked_enqueue locked_dequeue shut locked_shut])
+}
+
+/// A reference as it is told.
+pub(crate) fn told<const B: u32>(reference: CountedRefOf<B>) -> Contents
+    ensures { result ≡ reference_told B reference.entry }
+{
+    if reference.is_shut() {
+        Contents::Closed(reference.count())
+    } else {
+        Contents::Reference(reference.node(), reference.count())
+    }
+}
