@@ -46,7 +46,11 @@ pub fn check_text<R: Source, W: Sink>(
 }
 
 /// The history whose text a source gives.
-fn history_in<R: Source>(alloc: Global, reader: &mut R) -> Result<Vec<Stamped>, Refusal>
+///
+/// It is refused, in this order, by `Memory`, as soon as a growth is refused; `Read`, where a call of
+/// the reader fails; `Text`, where the bytes are no history. It takes memory; whether it waits is up
+/// to the reader.
+pub fn history_in<R: Source>(alloc: Global, reader: &mut R) -> Result<Vec<Stamped>, Refusal>
     ensures ok { IfOk result (λ history. IsTextOf (R.state reader.old).left history.items) }
     ensures text { IfErr result (TellsFirstFault (R.state reader.old).left) }
     ensures unwritten { IfErr result (λ why. why ≢ Refusal.Write) }

@@ -4,4 +4,4 @@
 mod judging;
 mod texts;
 
-pub use judging::check_text;
+pub use judging::{check_text, history_in};

@@ -13,12 +13,17 @@ use Rattle.line_table.specs.declared.lines.Kind.TheVariants.{TwoLock, NonBlockin
 use Rattle.command_line.specs.declared.commands.Command.{Command}
 use Rattle.command_line.specs.declared.commands.Crew.{Crew}
 use Rattle.command_line.specs.declared.commands.Task.{Task}
-use Rattle.command_line.specs.declared.commands.Task.TheVariants.{Check, Work, Post}
+use Rattle.command_line.specs.declared.commands.Task.TheVariants.{Check, Place, Work, Post}
 
 -- whether a task judges a history
 abbrev pub is_check : Task → Bool
 is_check Check = true
 is_check _ = false
+
+-- whether a task finds points for a history
+abbrev pub is_place : Task → Bool
+is_place (Place steps) = true
+is_place _ = false
 
 -- whether a task does jobs
 abbrev pub is_work : Task → Bool
@@ -56,6 +61,10 @@ abbrev pub queue_rule : TextRow → Rule
 queue_rule queues =
     record (new_rule (codes "QUEUE")) { long = Some (codes "queue"); parser = Some (Names queues); defaults = codes "nonblocking" ∷ [] }
 
+-- the command `place`, with a FILE, and so many steps
+abbrev pub place_app : App
+place_app = with_rule (file_app (codes "place")) (number_rule (codes "STEPS") (codes "steps") 0 1000000000 (codes "1000000"))
+
 -- the command `work`, with a FILE, so many workers, a queue, and so many nodes
 abbrev pub work_app : TextRow → App
 work_app queues =
@@ -77,8 +86,8 @@ bare_app =
 -- the program's command line, as clap reads it
 abbrev pub command_line_app : TextRow → App
 command_line_app queues =
-    with_subcommand (with_subcommand (with_subcommand (with_subcommand bare_app (file_app (codes "run")).top)
-    (file_app (codes "check")).top) (work_app queues).top) (post_app queues).top
+    with_subcommand (with_subcommand (with_subcommand (with_subcommand (with_subcommand bare_app (file_app (codes "run")).top)
+    (file_app (codes "check")).top) place_app.top) (work_app queues).top) (post_app queues).top
 
 -- the FILE among the matches of a command
 abbrev pub file_met : Option (Text × List Row) → Option Text
@@ -113,8 +122,10 @@ pub record IsCrewOf (options : List Row) (crew : Crew) : Type 0 where
 
 -- the options of the command that was met are those of a task
 abbrev pub HasOptions : Option (Text × List Row) → Task → Type 0
+HasOptions (Some command) (Place steps) = SaysNumber (one_of (codes "STEPS") command.1) 1000000 steps
 HasOptions (Some command) (Work crew) = IsCrewOf command.1 crew
 HasOptions (Some command) (Post kind) = kind ≡ kind_named (first_of (codes "QUEUE") command.1)
+HasOptions None (Place steps) = ⊥
 HasOptions None (Work crew) = ⊥
 HasOptions None (Post kind) = ⊥
 HasOptions met task = Unit {0}
@@ -122,6 +133,7 @@ HasOptions met task = Unit {0}
 -- the task is that of the command that was met, with its options; no command is a run
 pub record IsTask (met : Option (Text × List Row)) (task : Task) : Type 0 where
   pub check : is_check task ≡ is_met (codes "check") met
+  pub place : is_place task ≡ is_met (codes "place") met
   pub work : is_work task ≡ is_met (codes "work") met
   pub post : is_post task ≡ is_met (codes "post") met
   pub options : HasOptions met task

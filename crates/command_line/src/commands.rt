@@ -1,7 +1,7 @@
 //! The words after the program's name.
 ghost use Rattle.std.specs.Prelude.{◌≡◌, ◌⊎◌, [], IfErr, IfOk, map, option_map, string_bytes, codes, true, false};
 ghost use Rattle.clap.specs.Words.{HasKind, app_of, first_of, found_of, kind_of, one_of, rows_of, rule_of, subcommand_rows_of, takes, with_subcommand};
-ghost use Rattle.command_line.specs.Commands.{command_line_app, faults_in, file_app, file_met, kind_named, number_rule, post_app, queue_rule, status_at, work_app, AreQueues, AreTaken, IsAsked, IsAskedSomewhere, IsCrewOf, IsStatusOf, IsTask, SaysNumber};
+ghost use Rattle.command_line.specs.Commands.{command_line_app, faults_in, file_app, file_met, kind_named, number_rule, place_app, post_app, queue_rule, status_at, work_app, AreQueues, AreTaken, IsAsked, IsAskedSomewhere, IsCrewOf, IsStatusOf, IsTask, SaysNumber};
 
 use clap::builder::ValueParser;
 use clap::error::ErrorKind;
@@ -22,6 +22,9 @@ const USUAL_WORKERS: u32 = 4;
 /// How many nodes there are where the words don't say it.
 const USUAL_NODES: u32 = 1024;
 
+/// How many steps a search for an order takes at most where the words don't say it.
+const USUAL_STEPS: u32 = 1_000_000;
+
 /// What the program's help says at its end.
 const AFTER_HELP: &str = "With no words at all it runs the schedule on standard input.
 
@@ -29,7 +32,8 @@ Exit statuses:
   0  done, or help or the version was asked for
   1  refused, with one line on standard error: docs/FAULTS.md has each refusal
   2  the words were refused
-  3  check said no";
+  3  check or place said no
+  4  place left it open";
 
 /// How `work` does jobs.
 #[derive(Clone, Copy, Debug)]
@@ -49,6 +53,8 @@ pub enum Task {
     Run,
     /// Judges the history in it.
     Check,
+    /// Finds linearization points for the recorded history in it, by a search of at most so many steps.
+    Place(u32),
     /// Does the jobs in it.
     Work(Crew),
     /// Posts the letters in it, over a queue of this kind.
@@ -141,6 +147,22 @@ fn queue_option<'a>(alloc: Global, queues: &'a [&'a str]) -> Arg<'a>
         .help("The queue")
 }
 
+/// The command `place`.
+fn place_command<'a>(alloc: Global) -> Result<clap::Command<'a>, AllocError>
+    ensures { IfOk result (λ command. app_of command ≡ place_app) }
+{
+    let command = command_on(
+        alloc,
+        "place",
+        "Finds linearization points for a recorded history, or a reason why there are none",
+        "The history, whose points are not read; - is standard input",
+    )?;
+    let steps = number_option(alloc, "STEPS", "steps", (0, 1_000_000_000), "1000000");
+    command.arg(steps.help(
+        "How many steps a search may take, where values are repeated, 0 to 10^9",
+    ))
+}
+
 /// The command `work`, with the names of the queues.
 fn work_command<'a>(alloc: Global, queues: &'a [&'a str]) -> Result<clap::Command<'a>, AllocError>
     ensures { IfOk result (λ command. app_of command ≡ work_app queues.entry) }
@@ -171,12 +193,14 @@ fn post_command<'a>(alloc: Global, queues: &'a [&'a str]) -> Result<clap::Comman
     command.arg(queue_option(alloc, queues))
 }
 
-/// The command line: `run`, `check`, `work` and `post` with a FILE, help and the version.
+/// The command line: `run`, `check`, `place`, `work` and `post` with a FILE, help and the version.
 fn command_line<'a>(alloc: Global, queues: &'a [&'a str]) -> Result<clap::Command<'a>, AllocError>
     ensures { IfOk result (λ command. app_of command ≡ command_line_app queues.entry) }
 {
     let program = clap::Command::new(alloc, "msq")
-        .about("Runs concurrent queues line by line, judges histories, does jobs, posts letters")
+        .about(
+            "Runs concurrent queues line by line, judges and places histories, does jobs, posts letters",
+        )
         .version(VERSION)
         .after_help(AFTER_HELP)
         .no_binary_name(true)
@@ -195,6 +219,7 @@ fn command_line<'a>(alloc: Global, queues: &'a [&'a str]) -> Result<clap::Comman
         "Judges a history: writes its table, or what is wrong with it",
         "The history; - is standard input",
     )?;
+    let program = program.subcommand(place_command(alloc)?)?;
     let program = program.subcommand(work_command(alloc, queues)?)?;
     let program = program.subcommand(post_command(alloc, queues)?)?;
     program.bin_name("msq")
@@ -238,6 +263,8 @@ fn task_in(matches: &ArgMatches<'_>) -> Task
     };
     if name == "check" {
         Task::Check
+    } else if name == "place" {
+        Task::Place(number_in(options, "STEPS", USUAL_STEPS))
     } else if name == "work" {
         Task::Work(crew_in(options))
     } else if name == "post" {

@@ -7,19 +7,44 @@ use crate::spelling::line_of;
 use history::Verdict;
 use text_io::{Sink, send};
 
-/// The exit status: 0 where all is well, 3 where a history was judged No, and 1 at a fault, whose line
-/// is written.
+/// How an engine ended that was not refused.
+#[derive(Clone, Copy, Debug, PartialEq, Eq)]
+pub enum Ending {
+    /// It did what it is for, and found nothing wrong.
+    Well,
+    /// It found that a history isn't one of a queue.
+    No,
+    /// It couldn't find whether a history is one of a queue.
+    Open,
+}
+
+impl From<Verdict> for Ending {
+    ghost use Rattle.engine_faults.specs.Endings.{ending_of};
+
+    ghost from_gives = { λ verdict ending. ending ≡ ending_of verdict };
+
+    fn from(verdict: Verdict) -> Ending {
+        match verdict {
+            Verdict::Yes => Ending::Well,
+            Verdict::No { .. } => Ending::No,
+        }
+    }
+}
+
+/// The exit status: 0 where all is well, 3 where a history isn't one of a queue, 4 where that is open, and 1 at
+/// a fault, whose line is written.
 ///
 /// Where the writer fails too, the status alone tells of the fault. It takes no memory; whether it
 /// waits is up to the writer.
-pub fn end_of<W: Sink>(outcome: Result<Verdict, Fault>, writer: &mut W) -> u8
+pub fn end_of<W: Sink>(outcome: Result<Ending, Fault>, writer: &mut W) -> u8
     ensures status { result ≡ status_of outcome }
     ensures silent { OnOk outcome (writer.new ≡ writer.old) }
     ensures line { OnErr outcome (TakesLine (W.state writer.old) (W.state writer.new)) }
 {
     match outcome {
-        Ok(Verdict::Yes) => 0,
-        Ok(Verdict::No { .. }) => 3,
+        Ok(Ending::Well) => 0,
+        Ok(Ending::No) => 3,
+        Ok(Ending::Open) => 4,
         Err(fault) => {
             let _ = send(line_of(&fault).as_slice(), writer);
             1

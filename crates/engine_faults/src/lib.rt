@@ -5,5 +5,5 @@ mod endings;
 mod faults;
 mod spelling;
 
-pub use endings::end_of;
+pub use endings::{Ending, end_of};
 pub use faults::Fault;

@@ -3,5 +3,7 @@ mod endings;
 mod engine;
 mod faults;
 mod judging;
+mod points;
+mod recordings;
 mod trials;
 mod words;

@@ -1,10 +1,12 @@
 //! The program: its words, its files and its exit status.
 use check_engine::check_text;
 use command_line::{Command, Task, read_words};
-use engine_faults::{Fault, end_of};
-use history::{Refusal, Verdict};
+use engine_faults::{Ending, Fault, end_of};
+use history::Refusal;
 use job_engine::work_text;
 use mail_engine::post_text;
+use place_engine::place_text;
+use placing::Placed;
 use run_engine::run_text;
 use std::fs::File;
 use std::rt::Runtime;
@@ -14,7 +16,8 @@ use std::{env, io};
 use text_io::{ReaderSource, Source, WriterSink};
 
 /// Does what the program's words ask for, and answers the exit status: 0 where it is done or help
-/// was asked for, 1 where it was refused, 2 where the words were, 3 where a history was judged No.
+/// was asked for, 1 where it was refused, 2 where the words were, 3 where a history isn't one of a queue, 4 where
+/// that is open.
 ///
 /// A refusal is one line on standard error.
 pub fn run_program<R: Runtime + AllocGlobal + Threads + Wait + Sync>(rt: &R) -> u8 {
@@ -46,7 +49,7 @@ fn words_of<R: Runtime + AllocGlobal>(rt: &R) -> io::Result<Vec<String>> {
 fn outcome_of<R: Runtime + AllocGlobal + Threads + Wait + Sync>(
     rt: &R,
     command: &Command,
-) -> Result<Verdict, Fault> {
+) -> Result<Ending, Fault> {
     let file = command.file.as_str();
     if file == "-" {
         return outcome_on(rt, command, ReaderSource::new(rt.reader()));
@@ -57,20 +60,30 @@ fn outcome_of<R: Runtime + AllocGlobal + Threads + Wait + Sync>(
     }
 }
 
-/// Obeys a command on what a source gives. What is done and judges nothing has the verdict Yes.
+/// Obeys a command on what a source gives.
 fn outcome_on<R: Runtime + AllocGlobal + Threads + Wait + Sync, S: Source + Drop>(
     rt: &R,
     command: &Command,
     source: S,
-) -> Result<Verdict, Fault> {
+) -> Result<Ending, Fault> {
     let mut reader = source;
     let mut writer = WriterSink::new(io::writer(rt));
     match command.task {
         Task::Run => {
             run_text(rt.alloc(), &mut reader, &mut writer)?;
-            Ok(Verdict::Yes)
+            Ok(Ending::Well)
         }
-        Task::Check => Ok(check_text(rt.alloc(), &mut reader, &mut writer)?),
+        Task::Check => Ok(Ending::from(check_text(rt.alloc(), &mut reader, &mut writer)?)),
+        Task::Place(steps) => match place_text(
+            rt.alloc(),
+            &mut reader,
+            &mut writer,
+            u64::from(steps),
+        )? {
+            Placed::History(_) => Ok(Ending::Well),
+            Placed::Impossible(_) => Ok(Ending::No),
+            Placed::Open(_) => Ok(Ending::Open),
+        },
         Task::Work(crew) => {
             work_text(
                 rt,
@@ -81,11 +94,11 @@ fn outcome_on<R: Runtime + AllocGlobal + Threads + Wait + Sync, S: Source + Drop
                 crew.kind,
                 crew.nodes,
             )?;
-            Ok(Verdict::Yes)
+            Ok(Ending::Well)
         }
         Task::Post(kind) => {
             post_text(rt, rt.alloc(), &mut reader, &mut writer, kind)?;
-            Ok(Verdict::Yes)
+            Ok(Ending::Well)
         }
     }
 }
@@ -111,7 +124,7 @@ impl<R: Eprint> io::Write for Stderr<'_, R> {
 }
 
 /// The status of an outcome, whose fault, if any, is written to standard error.
-fn ended<R: Runtime>(rt: &R, outcome: Result<Verdict, Fault>) -> u8 {
+fn ended<R: Runtime>(rt: &R, outcome: Result<Ending, Fault>) -> u8 {
     end_of(outcome, &mut WriterSink::new(Stderr { rt }))
 }
 

@@ -5,6 +5,7 @@ mod histories;
 mod jobs;
 mod mail;
 mod names;
+mod recordings;
 mod references;
 mod schedule_faults;
 mod schedules;

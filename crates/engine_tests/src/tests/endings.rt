@@ -1,21 +1,15 @@
 use crate::tests::comparing::same;
-use engine_faults::{Fault, end_of};
-use history::{Cause, Refusal, TextCause, Verdict, WornWord};
+use engine_faults::{Ending, Fault, end_of};
+use history::{Refusal, TextCause, WornWord};
 use std::process::Abort;
 use std::test::Fail;
 use text_io::{Script, Trouble};
 
 /// Outcomes, the refusals among them with the lines that they are told of; the status, and what is written.
-const ENDS: [(Result<Verdict, (Refusal, Option<u64>)>, u8, &str); 12] = [
-    (Ok(Verdict::Yes), 0, ""),
-    (
-        Ok(Verdict::No {
-            place: 2,
-            cause: Cause::Reply,
-        }),
-        3,
-        "",
-    ),
+const ENDS: [(Result<Ending, (Refusal, Option<u64>)>, u8, &str); 13] = [
+    (Ok(Ending::Well), 0, ""),
+    (Ok(Ending::No), 3, ""),
+    (Ok(Ending::Open), 4, ""),
     (Err((Refusal::NoNode, None)), 1, "fault 1 NoNode\n"),
     (
         Err((Refusal::WornOut(WornWord::Next), None)),
@@ -55,7 +49,7 @@ const ENDS: [(Result<Verdict, (Refusal, Option<u64>)>, u8, &str); 12] = [
 // The program ends with this status, and writes this.
 fn ends(
     rt: &impl Abort,
-    outcome: Result<Verdict, (Refusal, Option<u64>)>,
+    outcome: Result<Ending, (Refusal, Option<u64>)>,
     mut writer: Script,
     status: u8,
     written: &str,

@@ -1,6 +1,8 @@
+use crate::tests::comparing::same;
 use crate::tests::trials::{
     Engine, answers, does, does_by_any_piece, tells_each_end, writes_a_beginning, writes_nothing,
 };
+use check_engine::check_text;
 use history::{Cause, Refusal, TextCause, Verdict};
 use std::alloc::{AllocError, Global};
 use std::test::Fail;
@@ -193,10 +195,11 @@ const VERDICTS: [(&str, Verdict, &str); 5] = [
 #[test]
 fn answers_the_verdict(rt: HostRuntime) -> Result<(), Fail> {
     for (text, verdict, written) in &VERDICTS {
-        let reader = Script::reader(rt.alloc(), text.as_bytes(), 4096)?;
-        let writer = Script::writer(rt.alloc(), 1000, 4096)?;
-        let want = (Ok(*verdict), written.as_bytes());
-        answers(&rt, rt.alloc(), Engine::Check, reader, writer, want, text);
+        let mut reader = Script::reader(rt.alloc(), text.as_bytes(), 4096)?;
+        let mut writer = Script::writer(rt.alloc(), 1000, 4096)?;
+        let found = check_text(rt.alloc(), &mut reader, &mut writer)?;
+        let want = (*verdict, written.as_bytes());
+        same(&rt, (found, writer.written()), want, text);
     }
     Ok(())
 }

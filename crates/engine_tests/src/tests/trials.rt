@@ -3,8 +3,10 @@ ghost use Rattle.std.specs.Prelude.{◌<◌};
 
 use crate::tests::comparing::same;
 use check_engine::check_text;
-use engine_faults::{Fault, end_of};
-use history::{Refusal, TextCause, Verdict};
+use engine_faults::{Ending, Fault, end_of};
+use history::{Refusal, TextCause};
+use place_engine::place_text;
+use placing::Placed;
 use run_engine::run_text;
 use std::alloc::Global;
 use std::fmt::Display;
@@ -17,22 +19,28 @@ use text_io::{Script, Trouble};
 pub enum Engine {
     Run,
     Check,
+    Place,
 }
 
 impl Engine {
-    // What it answers. A run has no verdict but Yes.
+    // How it ends.
     fn answer(
         self,
         alloc: Global,
         reader: &mut Script,
         writer: &mut Script,
-    ) -> Result<Verdict, Fault> {
+    ) -> Result<Ending, Fault> {
         match self {
             Engine::Run => {
                 run_text(alloc, reader, writer)?;
-                Ok(Verdict::Yes)
+                Ok(Ending::Well)
             }
-            Engine::Check => Ok(check_text(alloc, reader, writer)?),
+            Engine::Check => Ok(Ending::from(check_text(alloc, reader, writer)?)),
+            Engine::Place => match place_text(alloc, reader, writer, 1_000)? {
+                Placed::History(_) => Ok(Ending::Well),
+                Placed::Impossible(_) => Ok(Ending::No),
+                Placed::Open(_) => Ok(Ending::Open),
+            },
         }
     }
 }
@@ -97,7 +105,7 @@ pub(crate) fn answers(
     engine: Engine,
     reader: Script,
     writer: Script,
-    want: (Result<Verdict, Refusal>, &[u8]),
+    want: (Result<Ending, Refusal>, &[u8]),
     tried: impl Display + Drop,
 ) {
     let mut reader = reader;

@@ -5,11 +5,11 @@ use std::alloc::{AllocError, Global};
 use std::process::Abort;
 use std::test::Fail;
 
-/// What a task's words ask for: 1 for a run, 2 for a check, 3 for work, 4 for posting; the workers, the queue and the nodes.
+/// What a task's words ask for: 1 for a run, 2 for a check, 3 for work, 4 for posting, 5 for placing; the workers, or the steps, the queue and the nodes.
 type Told = (u8, u32, u8, u32);
 
 /// Words, what they ask for, and the file.
-const COMMANDS: [(&[&str], Told, &str); 17] = [
+const COMMANDS: [(&[&str], Told, &str); 20] = [
     (&[], (1, 0, 0, 0), "-"),
     (&["run", "-"], (1, 0, 0, 0), "-"),
     (&["run", "row.schedule"], (1, 0, 0, 0), "row.schedule"),
@@ -18,6 +18,13 @@ const COMMANDS: [(&[&str], Told, &str); 17] = [
     (&["run", "--", "--help"], (1, 0, 0, 0), "--help"),
     (&["check", "-"], (2, 0, 0, 0), "-"),
     (&["check", "row.history"], (2, 0, 0, 0), "row.history"),
+    (&["place", "-"], (5, 1_000_000, 0, 0), "-"),
+    (&["place", "a", "--steps", "0"], (5, 0, 0, 0), "a"),
+    (
+        &["place", "--steps=1000000000", "a"],
+        (5, 1_000_000_000, 0, 0),
+        "a",
+    ),
     (&["work", "a"], (3, 4, 2, 1024), "a"),
     (&["work", "a", "--workers", "1"], (3, 1, 2, 1024), "a"),
     (&["work", "--workers=64", "a"], (3, 64, 2, 1024), "a"),
@@ -38,11 +45,14 @@ const COMMANDS: [(&[&str], Told, &str); 17] = [
 ];
 
 /// Words that ask for no command, and the status.
-const OTHERS: [(&[&str], u8); 24] = [
+const OTHERS: [(&[&str], u8); 27] = [
     (&["run"], 2),
     (&["run", "a", "b"], 2),
     (&["run", "--fast", "a"], 2),
     (&["check"], 2),
+    (&["place"], 2),
+    (&["place", "a", "b"], 2),
+    (&["place", "a", "--steps", "1000000001"], 2),
     (&["work"], 2),
     (&["work", "a", "b"], 2),
     (&["work", "a", "--workers", "0"], 2),
@@ -71,6 +81,7 @@ fn told(task: Task) -> Told {
         Task::Check => (2, 0, 0, 0),
         Task::Work(crew) => (3, crew.workers, number_of(crew.kind), crew.nodes),
         Task::Post(kind) => (4, 0, number_of(kind), 0),
+        Task::Place(steps) => (5, steps, 0, 0),
     }
 }
 

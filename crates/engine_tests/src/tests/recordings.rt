@@ -1,0 +1,131 @@
+use crate::tests::trials::{
+    Engine, does, does_by_any_piece, tells_each_end, writes_a_beginning, writes_nothing,
+};
+use std::test::Fail;
+
+const RECORDED: &str = "msq record 1
+operations 4
+producer enq job-1 from 1 to 2 reply done
+other enq job-2 from 3 to 4 reply done
+idle deq from 5 to - reply -
+consumer deq from 5 to 6 reply value job-2
+";
+
+const ITS_POINTS: &str = "history 4
+1 enq 1 first 1 last 2 at 1 reply done
+1 enq 2 first 3 last 4 at 3 reply done
+1 deq first 5 last - at 5 reply -
+1 deq first 5 last 6 at 6 reply value 1 2
+";
+
+const OVERTAKEN: &str = "msq record 1
+operations 4
+consumer deq from 7 to 8 reply value job-1
+producer enq job-1 from 1 to 2 reply done
+other enq job-2 from 3 to 4 reply done
+consumer deq from 5 to 6 reply value job-2
+";
+
+// One text that two pushed and two took is one value.
+const TAKEN_TWICE: &str = "msq record 1
+operations 3
+a enq x from 1 to 2 reply done
+b deq from 3 to 4 reply value x
+c deq from 3 to 4 reply value x
+";
+
+const NEVER_PUSHED: &str = "msq record 1
+operations 2
+a enq x from 1 to 2 reply done
+b deq from 3 to 4 reply value X
+";
+
+const REFUSED: &str = "msq record 1
+operations 2
+a enq x from 1 to 2 reply refused
+b deq from 3 to 4 reply empty
+";
+
+const REFUSED_POINTS: &str = "history 2
+1 enq 1 first 1 last 2 at 1 reply refused 1
+1 deq first 3 last 4 at 3 reply empty
+";
+
+/// Recordings, the status, and what is written.
+const FOUND: [(&str, u8, &str); 7] = [
+    ("msq record 1\noperations 0\n", 0, "history 0\n"),
+    (RECORDED, 0, ITS_POINTS),
+    (OVERTAKEN, 3, "no 4 Order 3 2\n"),
+    (TAKEN_TWICE, 3, "no 3 Sooner 2 1\n"),
+    (NEVER_PUSHED, 3, "no 2 Sooner\n"),
+    (REFUSED, 0, REFUSED_POINTS),
+    (
+        "msq record 1\noperations 1\na shut from 1 to 4 reply done\n",
+        0,
+        "history 1\n1 shut first 1 last 4 at 1 reply done\n",
+    ),
+];
+
+#[test]
+fn places_recordings_whatever_the_pieces(rt: HostRuntime) -> Result<(), Fail> {
+    for (text, status, want) in &FOUND {
+        does_by_any_piece(&rt, rt.alloc(), Engine::Place, text, *status, want)?;
+    }
+    Ok(())
+}
+
+#[test]
+fn tells_the_end_of_each_cut_text(rt: HostRuntime) -> Result<(), Fail> {
+    tells_each_end(&rt, rt.alloc(), Engine::Place, RECORDED.as_bytes())
+}
+
+#[test]
+fn writes_nothing_where_a_recording_is_not_read(rt: HostRuntime) -> Result<(), Fail> {
+    writes_nothing(&rt, rt.alloc(), Engine::Place, RECORDED)
+}
+
+#[test]
+fn writes_a_beginning_of_what_is_found(rt: HostRuntime) -> Result<(), Fail> {
+    writes_a_beginning(
+        &rt,
+        rt.alloc(),
+        Engine::Place,
+        RECORDED,
+        ITS_POINTS.as_bytes(),
+    )
+}
+
+/// Texts that are faulty, for each engine, and the line that is said of them.
+const FAULTY: [(Engine, &str, &str); 6] = [
+    (
+        Engine::Place,
+        "msq record 2\n",
+        "fault 10 Text line 1 Form\n",
+    ),
+    (
+        Engine::Place,
+        "msq history 2\n",
+        "fault 10 Text line 1 Form\n",
+    ),
+    (Engine::Place, "record 1\n", "fault 10 Text line 1 Form\n"),
+    (
+        Engine::Place,
+        "msq record 1\nhistory 0\n",
+        "fault 10 Text line 2 Form\n",
+    ),
+    (
+        Engine::Place,
+        "history 1\noperations 0\n",
+        "fault 10 Text line 2 Form\n",
+    ),
+    (Engine::Check, RECORDED, "fault 10 Text line 1 Form\n"),
+];
+
+#[test]
+fn tells_faulty_recordings(rt: HostRuntime) -> Result<(), Fail> {
+    for (engine, text, told) in &FAULTY {
+        let want = (1, "", *told);
+        does(&rt, rt.alloc(), *engine, text.as_bytes(), 7, want, text)?;
+    }
+    Ok(())
+}

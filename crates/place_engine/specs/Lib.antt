@@ -1,0 +1,3 @@
+pub mod FoundTexts
+pub mod OfTexts
+pub mod Places

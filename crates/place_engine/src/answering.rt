@@ -1,0 +1,50 @@
+//! The engine of `place`: from the bytes of a recorded history to what is found of it.
+ghost use Rattle.std.specs.Prelude.{◌≡◌, ◌≢◌, IfErr, IfOk, OnOk};
+ghost use Rattle.text_io.specs.Blocks.{GivesUp};
+ghost use Rattle.text_io.specs.Readings.{EndsReadingFor};
+ghost use Rattle.engine_faults.specs.Faults.{IsRunRefusal};
+ghost use Rattle.recorded_source.specs.Given.{TellsFaultOfRecord};
+ghost use Rattle.place_engine.specs.Places.{TellsPlaces, BeginsPlaces};
+
+use crate::telling::tell;
+use history::Refusal;
+use placing::{Placed, place};
+use recorded_source::record_in;
+use std::alloc::Global;
+use text_io::{Sink, Source};
+
+/// Finds linearization points for the recorded history whose text the reader gives, or which the recording stands for
+/// whose text it gives, and writes that history with them; or writes one line, `no` with a reason why there are none, or
+/// `open` where neither was found. Points in the text are not read. Where values are pushed more than once, or the queue is
+/// shut, it may search for an order, for at most so many steps.
+///
+/// It is refused, in this order, by `Memory`, as soon as a growth is refused; `Read`, where a call of the reader
+/// fails; `Text`, where the bytes are neither a history nor a recording; `Write`, where a call of the writer fails or
+/// takes nothing. It takes memory; whether it waits is up to the reader and the writer.
+pub fn place_text<R: Source, W: Sink>(
+    alloc: Global,
+    reader: &mut R,
+    writer: &mut W,
+    steps: u64,
+) -> Result<Placed, Refusal>
+    // The answer is one of the history read, and the text that tells it is written and nothing else.
+    ensures ok { IfOk result (TellsPlaces (R.state reader.old).left (W.state writer.old)
+        (W.state writer.new)) }
+    ensures quiet { OnOk result ((W.state writer.new).failures ≡ (W.state writer.old).failures) }
+    // A text is refused by its first faulty line.
+    ensures text { IfErr result (TellsFaultOfRecord (R.state reader.old).left) }
+    // Where writing fails, a beginning of the text that tells an answer is written.
+    ensures beginning { IfErr result (λ why. why ≡ Refusal.Write
+        → BeginsPlaces (R.state reader.old).left (W.state writer.old) (W.state writer.new)) }
+    ensures write { IfErr result (λ why. why ≡ Refusal.Write
+        → GivesUp (W.state writer.old) (W.state writer.new)) }
+    // At any other refusal nothing is.
+    ensures unwritten { IfErr result (λ why. why ≢ Refusal.Write → writer.new ≡ writer.old) }
+    ensures refusal { IfErr result IsRunRefusal }
+    ensures reader { EndsReadingFor result (R.state reader.old) (R.state reader.new) }
+{
+    let history = record_in(alloc, reader)?;
+    let found = place(alloc, &history, steps)?;
+    tell(alloc, &found, writer)?;
+    Ok(found)
+}

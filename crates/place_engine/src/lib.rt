@@ -1,0 +1,8 @@
+//! The engine of `msq place`: from the text of a recorded history to points for it, or a reason why there are none.
+#![tactic(auto)]
+
+mod answering;
+pub mod laws;
+mod telling;
+
+pub use answering::place_text;

@@ -1,0 +1,163 @@
+//! The text that tells what is found of a recorded history.
+ghost use Rattle.std.specs.Prelude.{◌≡◌, ◌≤◌, ◌++◌, ◌⊎◌, IfErr, IfOk, OnOk, length};
+ghost use Rattle.std.specs.Io.KnownBytes.{Appends};
+ghost use Rattle.std.specs.List.{flat_map};
+ghost use Rattle.text_io.specs.Blocks.{TakesBeginning, GivesUp};
+ghost use Rattle.place_engine.specs.FoundTexts as texts;
+ghost use Rattle.place_engine.specs.FoundTexts.{place_text, held_text, head_text, others_text, no_text, unknown_name, open_text, found_text};
+
+use history::Refusal;
+use history_text::print_history;
+use placing::{Held, Placed, Reason, Span, Unknown};
+use std::alloc::{AllocError, Global};
+use text_io::{Line, Sink, send};
+
+/// Writes the text that tells what is found: a history with points, or one line.
+pub(crate) fn tell<W: Sink>(alloc: Global, found: &Placed, writer: &mut W) -> Result<(), Refusal>
+    ensures ok { OnOk result (Appends (W.state writer.old).contents (W.state writer.new).contents
+        (found_text found.now)) }
+    ensures quiet { OnOk result ((W.state writer.new).failures ≡ (W.state writer.old).failures) }
+    ensures only { IfErr result (λ why. (why ≡ Refusal.Memory) ⊎ (why ≡ Refusal.Write)) }
+    ensures unwritten { IfErr result (λ why. why ≡ Refusal.Memory → writer.new ≡ writer.old) }
+    ensures beginning { IfErr result (λ why. why ≡ Refusal.Write
+        → TakesBeginning (W.state writer.old).contents (W.state writer.new).contents
+        (found_text found.now)) }
+    ensures cause { IfErr result (λ why. why ≡ Refusal.Write
+        → GivesUp (W.state writer.old) (W.state writer.new)) }
+{
+    match found {
+        Placed::History(new) => print_history(new, writer),
+        Placed::Impossible(reason) => match no_line(alloc, reason) {
+            Ok(line) => send(&line, writer),
+            Err(_) => Err(Refusal::Memory),
+        },
+        Placed::Open(why) => send(open_line(*why).as_slice(), writer),
+    }
+}
+
+// The line that tells a reason.
+fn no_line(alloc: Global, reason: &Reason) -> Result<Vec<u8>, AllocError>
+    ensures { IfOk result (λ line. line.items ≡ no_text reason.now) }
+{
+    let mut line = Vec::new(alloc);
+    line.extend_from_slice(head(reason).as_slice())?;
+    push_others(&mut line, reason)?;
+    line.push(b'\n')?;
+    Ok(line)
+}
+
+// The place of the operation that a reason is of, and the cause.
+#[tactic(auto, unfolding(crate::specs::FoundTexts::head_text))]
+fn head(reason: &Reason) -> Line
+    ensures { result ≡ head_text reason.now }
+{
+    let mut line = Line::new();
+    line.push(b"no ");
+    line.push_number(place_of(reason));
+    line.push(b" ");
+    line.push(cause_of(reason));
+    line
+}
+
+fn place_of(reason: &Reason) -> u64
+    ensures { result ≡ texts.place_of reason.now }
+{
+    match reason {
+        Reason::Shape { place }
+        | Reason::Span { place }
+        | Reason::Reply { place }
+        | Reason::Sooner { place, .. }
+        | Reason::Order { place, .. }
+        | Reason::Full { place, .. } => *place,
+    }
+}
+
+fn cause_of(reason: &Reason) -> &'static [u8]
+    ensures text { result.now ≡ texts.cause_of reason.now }
+    ensures short { length result.now ≤ 6 }
+{
+    match reason {
+        Reason::Shape { .. } => b"Shape",
+        Reason::Span { .. } => b"Span",
+        Reason::Reply { .. } => b"Reply",
+        Reason::Sooner { .. } => b"Sooner",
+        Reason::Order { .. } => b"Order",
+        Reason::Full { .. } => b"Full",
+    }
+}
+
+// Puts the places of the other operations that a reason names behind a text.
+fn push_others(text: &mut Vec<u8>, reason: &Reason) -> Result<(), AllocError>
+    ensures { OnOk result (text.new.items ≡ text.old.items ++ others_text reason.now) }
+{
+    match reason {
+        Reason::Shape { .. } | Reason::Span { .. } | Reason::Reply { .. } => Ok(()),
+        Reason::Sooner { others, .. } => push_places(text, others),
+        Reason::Order { push, held, .. } => {
+            push_place(text, *push)?;
+            push_held(text, held)
+        }
+        Reason::Full { spans, .. } => push_spans(text, spans),
+    }
+}
+
+fn push_place(text: &mut Vec<u8>, place: u64) -> Result<(), AllocError>
+    ensures { OnOk result (text.new.items ≡ text.old.items ++ place_text place) }
+{
+    let mut word = Line::new();
+    word.push(b" ");
+    word.push_number(place);
+    text.extend_from_slice(word.as_slice())
+}
+
+fn push_places(text: &mut Vec<u8>, places: &[u64]) -> Result<(), AllocError>
+    ensures { OnOk result (text.new.items ≡ text.old.items ++ flat_map place_text places.now) }
+{
+    for place in places {
+        push_place(text, *place)?;
+    }
+    Ok(())
+}
+
+// Puts the places of the pushes of values that stay behind a text.
+fn push_held(text: &mut Vec<u8>, held: &Held) -> Result<(), AllocError>
+    ensures { OnOk result (text.new.items ≡ text.old.items ++ held_text held.now) }
+{
+    match held {
+        Held::Value { push, .. } => push_place(text, *push),
+        Held::Left(places) => push_places(text, places),
+    }
+}
+
+fn push_spans(text: &mut Vec<u8>, spans: &[Span]) -> Result<(), AllocError>
+    ensures { OnOk result (text.new.items
+        ≡ text.old.items ++ flat_map (λ span. held_text span.held) spans.now) }
+{
+    for span in spans {
+        push_held(text, &span.held)?;
+    }
+    Ok(())
+}
+
+// The line that tells why nothing was found.
+#[tactic(auto, unfolding(crate::specs::FoundTexts::open_text))]
+fn open_line(why: Unknown) -> Line
+    ensures { result ≡ open_text why }
+{
+    let mut line = Line::new();
+    line.push(b"open ");
+    line.push(name_of(why));
+    line.push(b"\n");
+    line
+}
+
+fn name_of(why: Unknown) -> &'static [u8]
+    ensures text { result.now ≡ unknown_name why }
+    ensures short { length result.now ≤ 8 }
+{
+    match why {
+        Unknown::Steps => b"Steps",
+        Unknown::Searched => b"Searched",
+        Unknown::Room => b"Room",
+    }
+}

@@ -1,0 +1,6 @@
+pub mod Calls
+pub mod Kinds
+pub mod Spreading
+pub mod Reasons
+pub mod Answers
+pub mod Seen

@@ -1,0 +1,145 @@
+-- Why a recorded history isn't one of a queue.
+use Rattle.std.specs.Prelude.{◌≡◌, ◌⊎◌, ℕ, ◌+◌, ◌-◌, ◌<◌, ◌≤◌, Bool, true, false, IsTrue, ◌||◌, List, [], ◌∷◌, Some, IsSome, IsNone, IsSomeAnd, All, length, slice_get}
+use Rattle.history.specs.declared.operations.Op.{Op}
+use Rattle.history.specs.declared.operations.Op.TheVariants.{Enq, Deq, Shut}
+use Rattle.history.specs.declared.operations.Taken.{Taken}
+use Rattle.history.specs.declared.operations.Reply.{Reply}
+use Rattle.history.specs.declared.operations.Reply.TheVariants.{Done, Value, Empty, Refused}
+use Rattle.history.specs.declared.operations.Stamped.{Stamped}
+use Rattle.history.specs.History.{may_refuse}
+use Rattle.placing.specs.declared.answers.Held.{Held}
+use Rattle.placing.specs.declared.answers.Held.TheVariants.{Value as OneValue, Left}
+use Rattle.placing.specs.declared.answers.Span.{Span}
+use Rattle.placing.specs.declared.answers.Reason.{Reason}
+use Rattle.placing.specs.declared.answers.Reason.TheVariants.{Shape, Span as Spans, Reply as Replies, Sooner, Order, Full}
+use Rattle.placing.specs.Kinds.{same_value, is_told_in, pushes_in, ended_before, pushes_of, pushes_begun_by, pushes_begun_before, takes_ended_by, pending_by, left_in}
+
+-- an operation stands at a place of a list, counted from 1
+pub record StandsAt (ops : List Stamped) (place : ℕ) (o : Stamped) : Type 0 where
+  pub from_one : 1 ≤ place
+  pub there : slice_get ops (place - 1) ≡ Some o
+
+-- exactly one of last step and reply is there
+abbrev pub IsMisshapen : Stamped → Type 0
+IsMisshapen o = (IsSome o.last × IsNone o.reply) ⊎ (IsNone o.last × IsSome o.reply)
+
+-- it ended before it began
+abbrev pub EndsTooSoon : Stamped → Type 0
+EndsTooSoon o = IsSomeAnd o.last (λ last. last < o.first)
+
+-- whether a reply is one that such a call may be told
+abbrev pub may_be_told : Reply → Op → Bool
+may_be_told Done (Enq body) = true
+may_be_told Done Deq = false
+may_be_told Done Shut = true
+may_be_told (Value v) (Enq body) = false
+may_be_told (Value v) Deq = true
+may_be_told (Value v) Shut = false
+may_be_told Empty (Enq body) = false
+may_be_told Empty Deq = true
+may_be_told Empty Shut = false
+may_be_told (Refused why) op = may_refuse why
+
+-- it was told a reply that such a call is never told
+abbrev pub IsToldAmiss : Stamped → Type 0
+IsToldAmiss o = IsSomeAnd o.reply (λ reply. may_be_told reply o.op ≡ false)
+
+-- it took a value, and ended at a time
+pub record Took (o : Stamped) (v : Taken) (time : ℕ) : Type 0 where
+  pub told : o.reply ≡ Some (Value v)
+  pub ended : o.last ≡ Some time
+
+-- the operation at a place took a value or pushes it
+pub record IsOfValue (ops : List Stamped) (value : Taken) (place : ℕ) : Type 0 where
+  pub operation : Stamped
+  pub stands : StandsAt ops place operation
+  pub of_value : IsTrue (is_told_in (same_value value) operation.reply || pushes_in (same_value value) operation)
+
+-- by the end of this take of a value, more takes of it have ended than pushes of it have begun
+pub record IsSooner (ops : List Stamped) (place : ℕ) (others : List ℕ) : Type 0 where
+  pub operation : Stamped
+  pub value : Taken
+  pub time : ℕ
+  pub stands : StandsAt ops place operation
+  pub took : Took operation value time
+  pub fewer : pushes_begun_by time (same_value value) ops < takes_ended_by time (same_value value) ops
+  pub others_too : All (IsOfValue ops value) others
+
+-- a value's one push ended before a time, and a take of it began after another time
+pub record IsTakenLater (ops : List Stamped) (from until push take : ℕ) : Type 0 where
+  pub pushing : Stamped
+  pub taking : Stamped
+  pub value : Taken
+  pub push_stands : StandsAt ops push pushing
+  pub pushes : pushes_in (same_value value) pushing ≡ true
+  pub ended : ended_before from pushing.last ≡ true
+  pub only : pushes_of (same_value value) ops ≤ 1
+  pub take_stands : StandsAt ops take taking
+  pub takes : is_told_in (same_value value) taking.reply ≡ true
+  pub after : until < taking.first
+
+-- the operation at a place is a push, of a value that no pop was told, which ended before a time
+pub record IsLeft (ops : List Stamped) (time place : ℕ) : Type 0 where
+  pub operation : Stamped
+  pub stands : StandsAt ops place operation
+  pub pushes : pushes_in (left_in ops) operation ≡ true
+  pub ended : ended_before time operation.last ≡ true
+
+-- each number of a list is greater than the one before, and the first is greater than this one
+abbrev pub RisesFrom : ℕ → List ℕ → Type 0
+RisesFrom least [] = Unit {0}
+RisesFrom least (n ∷ ns) = (least < n) × RisesFrom n ns
+
+-- Pushes at these places, of values that no pop was told, ended before a time, and are more than the pending pops
+-- that began by another time.
+pub record AreLeft (ops : List Stamped) (from until : ℕ) (places : List ℕ) : Type 0 where
+  pub rise : RisesFrom 0 places
+  pub each : All (IsLeft ops from) places
+  pub more : pending_by until ops < length places
+
+-- one of some values is in the queue from one time to another, whatever the order
+abbrev pub IsHeld : List Stamped → (from until : ℕ) → Held → Type 0
+IsHeld ops from until (OneValue push take) = IsTakenLater ops from until push take
+IsHeld ops from until (Left places) = AreLeft ops from until places.items
+
+-- This operation took a value, no push of which began before this one; at its end one of some values is there that were
+-- pushed before this push began.
+pub record IsOutOfOrder (ops : List Stamped) (place push : ℕ) (held : Held) : Type 0 where
+  pub operation : Stamped
+  pub pushing : Stamped
+  pub value : Taken
+  pub time : ℕ
+  pub stands : StandsAt ops place operation
+  pub took : Took operation value time
+  pub push_stands : StandsAt ops push pushing
+  pub pushes : pushes_in (same_value value) pushing ≡ true
+  pub none_before : pushes_begun_before pushing.first (same_value value) ops ≡ 0
+  pub stays : IsHeld ops pushing.first time held
+
+-- these spans, one after another, have each number from one to another
+abbrev pub Cover : (first last : ℕ) → List Span → Type 0
+Cover first last [] = last < first
+Cover first last (span ∷ spans) = (span.first ≤ first) × (span.last < last → Cover (span.last + 1) last spans)
+
+-- this operation was told that the queue is empty; at each of its numbers one of some values is there
+pub record IsFull (ops : List Stamped) (place : ℕ) (spans : List Span) : Type 0 where
+  pub operation : Stamped
+  pub time : ℕ
+  pub stands : StandsAt ops place operation
+  pub told : operation.reply ≡ Some Empty
+  pub ended : operation.last ≡ Some time
+  pub cover : Cover operation.first time spans
+  pub each : All (λ span. IsHeld ops span.first span.last span.held) spans
+
+-- the operation at a place has a fault
+abbrev pub HasAt : List Stamped → ℕ → (Stamped → Type 0) → Type 0
+HasAt ops place Fault = (o : Stamped) × StandsAt ops place o × Fault o
+
+-- what a reason says of a history
+abbrev pub IsReason : List Stamped → Reason → Type 0
+IsReason ops (Shape place) = HasAt ops place IsMisshapen
+IsReason ops (Spans place) = HasAt ops place EndsTooSoon
+IsReason ops (Replies place) = HasAt ops place IsToldAmiss
+IsReason ops (Sooner place others) = IsSooner ops place others.items
+IsReason ops (Order place push held) = IsOutOfOrder ops place push held
+IsReason ops (Full place spans) = IsFull ops place spans.items

@@ -1,0 +1,20 @@
+//! Laws of what is answered of a recorded history, each the contract of a function that does nothing.
+ghost use Rattle.std.specs.Prelude.{◌≡◌, List};
+ghost use Rattle.history.specs.declared.operations.Stamped.{Stamped};
+ghost use Rattle.history.specs.declared.operations.Verdict.TheVariants.{Yes};
+ghost use Rattle.history.specs.History.{verdict};
+ghost use Rattle.placing.specs.declared.answers.Reason.{Reason};
+ghost use Rattle.placing.specs.Calls.{IsOfQueue};
+ghost use Rattle.placing.specs.Spreading.{IsSpread};
+ghost use Rattle.placing.specs.Reasons.{IsReason};
+
+/// Where a history with points is judged `Yes`, and is another one but for stamps spread alike, that one is one of a
+/// queue.
+pub fn placed_is_linearizable()
+    ensures { (ops new : List Stamped) → IsSpread ops new → verdict new ≡ Yes → IsOfQueue ops }
+{}
+
+/// Where there is a reason, the history isn't one of a queue, whatever the order and whatever pending operations did.
+pub fn a_reason_excludes()
+    ensures { (ops : List Stamped) (why : Reason) → IsReason ops why → ¬ IsOfQueue ops }
+{}

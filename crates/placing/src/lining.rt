@@ -1,0 +1,139 @@
+//! The order of the operations, and points for it.
+use crate::cutting::Cuts;
+use crate::spreading::Spread;
+use crate::times::{Carried, When};
+use history::Stamped;
+use std::alloc::{AllocError, Global};
+
+/// When an operation takes effect, and what is before what at the same time.
+#[derive(Clone, Copy, Debug, PartialEq, Eq, PartialOrd, Ord)]
+struct Event {
+    at: When,
+    /// How many cuts are before it.
+    segment: usize,
+    /// A pop that finds the queue empty, at the cut that ends its segment.
+    is_empty: bool,
+    /// The value's place in the order.
+    rank: usize,
+    is_take: bool,
+    index: usize,
+}
+
+/// Operations, as indices of the list, in the order in which they take effect: values in this order, cut where the
+/// queue is empty.
+pub(crate) fn lined(
+    alloc: Global,
+    history: &[Stamped],
+    values: &[Carried],
+    order: &[usize],
+    cuts: &Cuts,
+    refused: &[usize],
+) -> Result<Vec<usize>, AllocError> {
+    let mut events = Vec::new(alloc);
+    push_values(alloc, &mut events, values, order, cuts)?;
+    for (index, time) in &cuts.pops {
+        let at = When::At(*time);
+        events.push(Event {
+            at,
+            segment: cuts.before(at),
+            is_empty: true,
+            rank: *index,
+            is_take: true,
+            index: *index,
+        })?;
+    }
+    for index in refused {
+        if let Some(operation) = history.get(*index) {
+            events.push(Event {
+                at: When::At(operation.first),
+                segment: 0,
+                is_empty: false,
+                rank: 0,
+                is_take: false,
+                index: *index,
+            })?;
+        }
+    }
+    events.sort_unstable();
+    let mut lined = Vec::new(alloc);
+    for event in &events {
+        lined.push(event.index)?;
+    }
+    Ok(lined)
+}
+
+// Puts in when each value is pushed and when it is taken, each as soon as may be.
+fn push_values(
+    alloc: Global,
+    events: &mut Vec<Event>,
+    values: &[Carried],
+    order: &[usize],
+    cuts: &Cuts,
+) -> Result<(), AllocError> {
+    let mut ranked = Vec::new(alloc);
+    for (rank, index) in order.iter().enumerate() {
+        if let Some(value) = values.get(*index) {
+            ranked.push((cuts.before(value.taken.first), rank, *index))?;
+        }
+    }
+    ranked.sort_unstable();
+    let mut pushed = When::At(0);
+    let mut taken = When::At(0);
+    for (rank, (segment, _, index)) in ranked.iter().enumerate() {
+        let Some(value) = values.get(*index) else {
+            continue;
+        };
+        let begins = When::At(cuts.begins(*segment));
+        pushed = pushed.max(value.pushed.first).max(begins);
+        taken = taken.max(value.taken.first).max(begins);
+        let push = Event {
+            at: pushed,
+            segment: *segment,
+            is_empty: false,
+            rank,
+            is_take: false,
+            index: value.push,
+        };
+        events.push(push)?;
+        if let (Some(take), When::At(_)) = (value.take, taken) {
+            events.push(Event {
+                at: taken,
+                is_take: true,
+                index: take,
+                ..push
+            })?;
+        }
+    }
+    Ok(())
+}
+
+/// A point for each operation of an order, each greater than the one before; none where there is no room.
+pub(crate) fn points(
+    alloc: Global,
+    history: &[Stamped],
+    lined: &[usize],
+    spread: &Spread,
+) -> Result<Option<Vec<Option<u64>>>, AllocError> {
+    let mut points = vec![in alloc; None; history.len()]?;
+    let mut before = 0;
+    for index in lined {
+        let next = history
+            .get(*index)
+            .and_then(|operation| point(operation, before, spread));
+        let (Some(at), Some(point)) = (next, points.get_mut(*index)) else {
+            return Ok(None);
+        };
+        *point = Some(at);
+        before = at;
+    }
+    Ok(Some(points))
+}
+
+// The least point of an operation after another one.
+fn point(operation: &Stamped, before: u64, spread: &Spread) -> Option<u64> {
+    let at = spread.first(operation.first)?.max(before.checked_add(1)?);
+    match operation.last {
+        Some(last) if spread.last(last)? < at => None,
+        Some(_) | None => Some(at),
+    }
+}

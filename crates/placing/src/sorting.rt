@@ -1,0 +1,97 @@
+//! The operations of a recorded history by what they are.
+use crate::answers::Reason;
+use crate::reasons::may_be_told;
+use crate::times::When;
+use history::{Op, Reply, Stamped};
+use std::alloc::{AllocError, Global};
+
+/// A push of a value, or a take of it. They are in order by value, pushes first, by their times.
+#[derive(Clone, Copy, Debug, PartialEq, Eq, PartialOrd, Ord)]
+pub(crate) struct ValueCall {
+    pub(crate) from: u16,
+    pub(crate) body: u64,
+    pub(crate) is_take: bool,
+    /// When a push began, or a take ended.
+    pub(crate) time: When,
+    pub(crate) index: usize,
+}
+
+/// Indices of the operations by what they are.
+#[derive(Debug, Drop)]
+pub(crate) struct ByKind {
+    /// Pushes that weren't refused, and takes, in order.
+    pub(crate) calls: Vec<ValueCall>,
+    /// Pops that were told nothing, and when they began, in order.
+    pub(crate) pending: Vec<(u64, usize)>,
+    /// Pops that were told that the queue is empty.
+    pub(crate) empties: Vec<usize>,
+    /// What was refused.
+    pub(crate) refused: Vec<usize>,
+}
+
+/// Where an operation stands, counted from 1.
+pub(crate) fn place_of(index: usize) -> u64 {
+    (index as u64).saturating_add(1)
+}
+
+/// Why the first operation that is no call, or was told amiss, is wrong.
+pub(crate) fn first_fault(history: &[Stamped]) -> Option<Reason> {
+    for (index, operation) in history.iter().enumerate() {
+        let place = place_of(index);
+        match (operation.last, operation.reply) {
+            (None, None) => {}
+            (Some(last), Some(_)) if last < operation.first => return Some(Reason::Span { place }),
+            (Some(_), Some(reply)) if !may_be_told(reply, operation.op) => {
+                return Some(Reason::Reply { place });
+            }
+            (Some(_), Some(_)) => {}
+            (Some(_), None) | (None, Some(_)) => return Some(Reason::Shape { place }),
+        }
+    }
+    None
+}
+
+/// The operations of a history in which none is wrong by itself.
+pub(crate) fn sorted(alloc: Global, history: &[Stamped]) -> Result<ByKind, AllocError> {
+    let mut sorted = ByKind {
+        calls: Vec::new(alloc),
+        pending: Vec::new(alloc),
+        empties: Vec::new(alloc),
+        refused: Vec::new(alloc),
+    };
+    for (index, operation) in history.iter().enumerate() {
+        sorted.add(index, operation)?;
+    }
+    sorted.calls.sort_unstable();
+    sorted.pending.sort_unstable();
+    Ok(sorted)
+}
+
+impl ByKind {
+    // Puts in an operation, which isn't wrong by itself.
+    fn add(&mut self, index: usize, operation: &Stamped) -> Result<(), AllocError> {
+        match operation.reply {
+            Some(Reply::Refused(_)) => self.refused.push(index)?,
+            Some(Reply::Empty) => self.empties.push(index)?,
+            Some(Reply::Value(value)) => self.calls.push(ValueCall {
+                from: value.from,
+                body: value.body.number(),
+                is_take: true,
+                time: When::end_of(operation),
+                index,
+            })?,
+            Some(Reply::Done) | None => match operation.op {
+                Op::Enq(body) => self.calls.push(ValueCall {
+                    from: operation.actor,
+                    body: body.number(),
+                    is_take: false,
+                    time: When::At(operation.first),
+                    index,
+                })?,
+                Op::Deq => self.pending.push((operation.first, index))?,
+                Op::Shut => {}
+            },
+        }
+        Ok(())
+    }
+}

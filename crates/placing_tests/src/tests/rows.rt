@@ -1,0 +1,199 @@
+//! Small histories: placed with the stamps given, placed with others, each reason, and what is open.
+use crate::tests::answers::answer;
+use crate::tests::comparing::same;
+use std::test::Fail;
+
+/// A history, and what is answered of it.
+type Row = (&'static [u8], &'static str);
+
+const PLACED: &[Row] = &[
+    (
+        b"history 2
+1 enq 5 first 1 last 10 at - reply done
+2 deq first 11 last 19 at - reply value 1 5
+",
+        "history 2
+1 enq 5 first 1 last 10 at 1 reply done
+2 deq first 11 last 19 at 11 reply value 1 5
+",
+    ),
+    // A pending push had its effect, since its value was taken.
+    (
+        b"history 2
+1 enq 5 first 1 last - at - reply -
+2 deq first 10 last 23 at - reply value 1 5
+",
+        "history 2
+1 enq 5 first 1 last - at 1 reply -
+2 deq first 10 last 23 at 10 reply value 1 5
+",
+    ),
+    (
+        b"history 2
+1 deq first 1 last 14 at - reply empty
+2 enq 9 first 4 last 13 at - reply done
+",
+        "history 2
+1 deq first 1 last 14 at 1 reply empty
+2 enq 9 first 4 last 13 at 4 reply done
+",
+    ),
+    // A pending pop took the value that is in front.
+    (
+        b"history 4
+1 enq 1 first 1 last 2 at - reply done
+1 enq 2 first 3 last 4 at - reply done
+3 deq first 5 last - at - reply -
+2 deq first 5 last 6 at - reply value 1 2
+",
+        "history 4
+1 enq 1 first 1 last 2 at 1 reply done
+1 enq 2 first 3 last 4 at 3 reply done
+3 deq first 5 last - at 5 reply -
+2 deq first 5 last 6 at 6 reply value 1 2
+",
+    ),
+    // Three operations have two numbers, so that each number becomes four.
+    (
+        b"history 3
+1 enq 1 first 5 last 5 at - reply done
+2 enq 2 first 5 last 5 at - reply done
+3 deq first 5 last 6 at - reply value 1 1
+",
+        "history 3
+1 enq 1 first 1 last 4 at 1 reply done
+2 enq 2 first 1 last 4 at 3 reply done
+3 deq first 1 last 8 at 2 reply value 1 1
+",
+    ),
+];
+
+const IMPOSSIBLE: &[Row] = &[
+    (
+        b"history 1
+1 deq first 1 last 4 at - reply -
+",
+        "no 1 Shape",
+    ),
+    (
+        b"history 1
+1 enq 1 first 3 last 2 at - reply done
+",
+        "no 1 Span",
+    ),
+    (
+        b"history 1
+1 enq 1 first 1 last 2 at - reply empty
+",
+        "no 1 Reply",
+    ),
+    (
+        b"history 1
+1 shut first 1 last 2 at - reply empty
+",
+        "no 1 Reply",
+    ),
+    (
+        b"history 2
+1 enq 1 first 5 last 6 at - reply done
+2 deq first 1 last 4 at - reply value 1 1
+",
+        "no 2 Sooner 1",
+    ),
+    (
+        b"history 3
+1 enq 1 first 1 last 2 at - reply done
+2 deq first 3 last 4 at - reply value 1 1
+3 deq first 3 last 4 at - reply value 1 1
+",
+        "no 3 Sooner 2 1",
+    ),
+    (
+        b"history 4
+1 enq 1 first 1 last 2 at - reply done
+1 enq 2 first 3 last 4 at - reply done
+2 deq first 5 last 6 at - reply value 1 2
+2 deq first 7 last 8 at - reply value 1 1
+",
+        "no 3 Order 2 1",
+    ),
+    // The pending pop began too late to take the value in front.
+    (
+        b"history 4
+1 enq 1 first 1 last 2 at - reply done
+1 enq 2 first 3 last 4 at - reply done
+2 deq first 5 last 6 at - reply value 1 2
+3 deq first 7 last - at - reply -
+",
+        "no 3 Order 2 1",
+    ),
+    // The value 1 is there until 7, and 2 from 6 on.
+    (
+        b"history 5
+1 enq 1 first 1 last 2 at - reply done
+1 enq 2 first 3 last 6 at - reply done
+2 deq first 5 last 9 at - reply empty
+3 deq first 7 last 8 at - reply value 1 1
+3 deq first 10 last 11 at - reply value 1 2
+",
+        "no 3 Full 1 2",
+    ),
+];
+
+const OPEN: &[Row] = &[
+    // Nobody shut the queue.
+    (
+        b"history 1
+1 deq first 1 last 4 at - reply refused 16
+",
+        "open Searched",
+    ),
+    // The value 2 is pushed after 1 and before it, and taken before both.
+    (
+        b"history 6
+1 enq 1 first 1 last 2 at - reply done
+1 enq 2 first 3 last 4 at - reply done
+1 enq 1 first 5 last 6 at - reply done
+2 deq first 7 last 8 at - reply value 1 2
+2 deq first 9 last 10 at - reply value 1 1
+2 deq first 11 last 12 at - reply value 1 1
+",
+        "open Searched",
+    ),
+    // Two operations have the number 1, and the numbers from there to the last one can't be doubled.
+    (
+        b"history 3
+1 enq 1 first 1 last 1 at - reply done
+2 enq 2 first 1 last 1 at - reply done
+3 enq 3 first 18446744073709551615 last 18446744073709551615 at - reply done
+",
+        "open Room",
+    ),
+];
+
+#[test]
+fn places_what_has_an_order(rt: HostRuntime) -> Result<(), Fail> {
+    for (text, wanted) in PLACED {
+        let found = answer(rt.alloc(), text)?;
+        same(&rt, found.as_str(), wanted, "");
+    }
+    Ok(())
+}
+
+#[test]
+fn tells_why_there_is_no_order(rt: HostRuntime) -> Result<(), Fail> {
+    for (text, wanted) in IMPOSSIBLE {
+        let found = answer(rt.alloc(), text)?;
+        same(&rt, found.as_str(), wanted, "");
+    }
+    Ok(())
+}
+
+#[test]
+fn tells_what_is_open(rt: HostRuntime) -> Result<(), Fail> {
+    for (text, wanted) in OPEN {
+        let found = answer(rt.alloc(), text)?;
+        same(&rt, found.as_str(), wanted, "");
+    }
+    Ok(())
+}

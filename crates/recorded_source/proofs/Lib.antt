@@ -1,0 +1,2 @@
+mod Eithers
+mod Records

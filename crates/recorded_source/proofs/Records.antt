@@ -1,0 +1,55 @@
+-- Which of two grammars a text is in, by its first byte.
+use Rattle.std.proofs.Common.{◌≡◌, ℕ, List, [], ◌∷◌, ◌++◌, true, false, refl, sym, ap, ◌∙◌, codes, inl, inr, Option, Some, None, MatchOption}
+use Rattle.std.specs.Option.{option_map_or}
+use Rattle.text_lines.specs.Lines.{line}
+use Rattle.text_lines.specs.Grammars.{Says}
+use Rattle.text_io.specs.Beginnings.{IsRefusedBy, IsRefusedReading}
+use Rattle.text_io.specs.Readings.{WereAll}
+use Rattle.history.specs.declared.operations.Stamped.{Stamped}
+use Rattle.history.specs.declared.refusals.Refusal.{Refusal}
+use Rattle.history.specs.declared.refusals.Refusal.TheVariants.{Text, Memory}
+use Rattle.history_text.specs.HistoryLines.{HistoryLine, Count as HistoryCount, Operation as HistoryOperation, First, IsFirstFaultOfHistory, IsHistoryInRange, history_grammar}
+use Rattle.history_text.specs.HistoryText.{history_text}
+use Rattle.recording_text.specs.RecordingLines.{RecordingLine, Version, Count, Operation, VersionDue, IsFirstFaultOfRecording, recording_grammar}
+use Rattle.recording_text.specs.RecordingReading.{StandsFor}
+use Rattle.recorded_source.specs.EitherGrammars.{Start}
+use Rattle.recorded_source.specs.Given.{begins_as_recording, recorded_grammar, IsRecordOf, TellsFaultOfRecord}
+use Rattle.recorded_source.proofs.Eithers.{first_fault-one, first_fault-other}
+
+-- a text with another first byte has no first line of a recording
+no_recording : (text : List ℕ) → begins_as_recording text ≡ false → (says later : List ℕ) → text ≡ line says ++ later → (q : RecordingLine) → ¬ Says recording_grammar VersionDue says q
+no_recording text other says later split Version said =
+    let begins : begins_as_recording text ≡ true = ap begins_as_recording (split ∙ ap (λ (says : List ℕ). line says ++ later) said.spelled) in
+    absurd cc
+no_recording text other says later split (Count count) said = absurd said.may
+no_recording text other says later split (Operation r) said = absurd said.may
+
+-- a text with this first byte has none of a history
+no_history : (text : List ℕ) → begins_as_recording text ≡ true → (says later : List ℕ) → text ≡ line says ++ later → (q : HistoryLine) → ¬ Says history_grammar First says q
+no_history text begins says later split (HistoryCount count) said =
+    let other : begins_as_recording text ≡ false = ap begins_as_recording (split ∙ ap (λ (says : List ℕ). line says ++ later) said.spelled) in
+    absurd cc
+no_history text begins says later split (HistoryOperation o) said = absurd said.may
+
+-- what is told of a text as a history, or as a recording, is so of a text of either
+pub refused-history : (text : List ℕ) (why : Refusal) → begins_as_recording text ≡ false → IsFirstFaultOfHistory text why → IsRefusedBy recorded_grammar Start text why
+refused-history text (Text number cause) other fault = first_fault-one history_grammar recording_grammar First VersionDue text number cause refl (no_recording text other) fault
+refused-history text Memory other fault = tt
+refused-history text _ other fault = absurd fault
+
+pub refused-recording : (text : List ℕ) (why : Refusal) → begins_as_recording text ≡ true → IsFirstFaultOfRecording text why → IsRefusedBy recorded_grammar Start text why
+refused-recording text (Text number cause) begins fault = first_fault-other history_grammar recording_grammar First VersionDue text number cause refl (no_history text begins) fault
+refused-recording text Memory begins fault = tt
+refused-recording text _ begins fault = absurd fault
+
+-- what was given, by what was read
+pub record-read : {X : Type 0} (bytes : X → List ℕ) (given : Option (List ℕ)) (recording : Option X) (ops : List Stamped) → WereAll given (option_map_or bytes recording (history_text ops))
+    → MatchOption recording (IsHistoryInRange ops) (λ text. StandsFor (bytes text) ops) → IsRecordOf given ops
+record-read bytes given None ops read range = inl (record { in_range = range; read = read })
+record-read bytes given (Some text) ops read range = inr (record { text = bytes text; read = read; stands = range })
+
+-- and what known bytes are refused for
+pub fault-read : (given : Option (List ℕ)) (why : Refusal) → IsRefusedReading recorded_grammar Start given why → TellsFaultOfRecord given why
+fault-read None why refused = tt
+fault-read (Some text) (Text number cause) refused = refused
+fault-read (Some text) _ refused = tt

@@ -1,0 +1,2 @@
+pub mod EitherGrammars
+pub mod Given

@@ -1,0 +1,7 @@
+pub mod Known
+pub mod KnownSets
+pub mod Spelling
+pub mod Steps
+pub mod Linear
+mod OneReading
+mod Shapes

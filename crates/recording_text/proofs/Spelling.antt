@@ -1,0 +1,300 @@
+-- The lines of recordings and their words.
+use Rattle.std.proofs.Common.{◌≡◌, ◌≢◌, ℕ, ◌<◌, ◌≤◌, List, [], ◌∷◌, ◌++◌, All, Option, Some, None, Bool, true, false, refl, sym, ap, ◌∙◌, arith, subst, codes, inl, ⊎_elim, get_or, ◌==◌}
+use Rattle.std.specs.Prelude.{nat_lt, ◌&&◌}
+use Rattle.std.specs.List.{list_all}
+use Rattle.std.specs.Option.{ok_or}
+use Rattle.std.proofs.lemmas.Bool.{ltb-true, eq-eqb, cases_lt, agree_below_at}
+use Rattle.std.proofs.lemmas.List.Elements.{All-nil, All-cons, All-append, All-weaker, All-head, All-tail}
+use Rattle.text_lines.specs.declared.causes.TextCause.{TextCause}
+use Rattle.text_lines.specs.declared.causes.TextCause.TheVariants.{End, Form, Range, Extra}
+use Rattle.text_lines.specs.Lines.{HasNo, spaced, words_of}
+use Rattle.text_lines.specs.Numerals.{numeral}
+use Rattle.text_lines.specs.Readings.{IsWrong}
+use Rattle.text_lines.specs.Grammars.{Says, IsSoundGrammar}
+use Rattle.text_lines.proofs.Numerals.{IsPlain-numeral, HasNo-numeral, numeral_injective}
+use Rattle.text_lines.proofs.Cuts.{words_of-spaced, spaced-words_of}
+use Rattle.history_text.specs.HistoryLines.{step_word}
+use Rattle.recording_text.specs.declared.reading.ReadOperation.{ReadOperation}
+use Rattle.recording_text.specs.Recordings.{Call, Push, Pop, Shut, Told, Done, Value, Empty, Refused, Closed, Recorded}
+use Rattle.recording_text.specs.RecordingLines.{is_text_byte, IsTextByte, IsText, IsTextCall, IsTextTold, IsSayable, IsOperationInRange, RecordingLine, Version, Count, Operation, RecordingDue, VersionDue, CountDue, Operations, MaySay, call_words, told_words, span_words, operation_words, line_words, recording_grammar}
+use Rattle.recording_text.specs.RecordingReading.{said_of, KeepsAs, AreOfOperation, SaysOperation, ReadsOperation, AreOfCount, SaysCount, IsCount}
+
+-- a word of letters, digits, dashes, points and underscores
+abbrev IsInk : List ℕ → Type 0
+IsInk word = All (λ b. 45 ≤ b) word
+
+-- a test of each byte that computes to true
+ink-tested : (word : List ℕ) → list_all (λ b. nat_lt 44 b) word ≡ true → IsInk word
+ink-tested [] e = All-nil (λ b. 45 ≤ b)
+ink-tested (b ∷ word) e = by (nat_lt 44 b) refl (ink-tested word) e
+  where
+    by : (t : Bool) → nat_lt 44 b ≡ t → (list_all (λ b. nat_lt 44 b) word ≡ true → IsInk word) → (t && list_all (λ b. nat_lt 44 b) word) ≡ true → IsInk (b ∷ word)
+    by true is rest e = let low : 44 < b = ltb-true 44 b is in All-cons (λ b. 45 ≤ b) b word (omega arith) (rest e)
+    by false is rest e = absurd cc
+
+ink-numeral : (n : ℕ) → IsInk (numeral n)
+ink-numeral n = All-weaker (λ b. (48 ≤ b) × (b ≤ 57)) (λ b. 45 ≤ b) (λ b h. omega (arith, h.0)) (numeral n) (IsPlain-numeral n).digits
+
+ink-byte : (b : ℕ) → IsTextByte b → 45 ≤ b
+ink-byte b is = ⊎_elim (λ low. let not : is_text_byte b ≡ false = agree_below_at is_text_byte (λ b. false) 45 b refl low in absurd cc) (λ high. high) (cases_lt b 45)
+
+ink-text : (word : List ℕ) → IsText word → IsInk word
+ink-text word is = All-weaker IsTextByte (λ b. 45 ≤ b) ink-byte word is.1
+
+-- one more word
+more : (word : List ℕ) (words : List (List ℕ)) → IsInk word → All IsInk words → All IsInk (word ∷ words)
+more word words = All-cons IsInk word words
+
+one : (word : List ℕ) → IsInk word → All IsInk (word ∷ [])
+one word ink = more word [] ink (All-nil IsInk)
+
+ink-call : (call : Call) → IsTextCall call → All IsInk (call_words call)
+ink-call (Push text) is = more (codes "enq") (text ∷ []) (ink-tested (codes "enq") refl) (one text (ink-text text is))
+ink-call Pop is = one (codes "deq") (ink-tested (codes "deq") refl)
+ink-call Shut is = one (codes "shut") (ink-tested (codes "shut") refl)
+
+ink-step : (step : Option ℕ) → IsInk (step_word step)
+ink-step None = ink-tested (codes "-") refl
+ink-step (Some step) = ink-numeral step
+
+ink-told : (told : Option Told) → IsTextTold told → All IsInk (told_words told)
+ink-told None is = one (codes "-") (ink-tested (codes "-") refl)
+ink-told (Some Done) is = one (codes "done") (ink-tested (codes "done") refl)
+ink-told (Some (Value text)) is = more (codes "value") (text ∷ []) (ink-tested (codes "value") refl) (one text (ink-text text is))
+ink-told (Some Empty) is = one (codes "empty") (ink-tested (codes "empty") refl)
+ink-told (Some Refused) is = one (codes "refused") (ink-tested (codes "refused") refl)
+ink-told (Some Closed) is = one (codes "closed") (ink-tested (codes "closed") refl)
+
+-- a label and the word behind it, before more words
+ink-labelled : (label word : List ℕ) (words : List (List ℕ)) → IsInk label → IsInk word → All IsInk words → All IsInk (label ∷ word ∷ words)
+ink-labelled label word words first second rest = more label (word ∷ words) first (more word words second rest)
+
+ink-span : (r : Recorded) → IsTextTold r.told → All IsInk (span_words r)
+ink-span r is =
+    let told : List (List ℕ) = codes "reply" ∷ told_words r.told in
+    let last : List (List ℕ) = codes "to" ∷ step_word r.last ∷ told in
+    ink-labelled (codes "from") (numeral r.first) last (ink-tested (codes "from") refl) (ink-numeral r.first)
+    (ink-labelled (codes "to") (step_word r.last) told (ink-tested (codes "to") refl) (ink-step r.last)
+    (more (codes "reply") (told_words r.told) (ink-tested (codes "reply") refl) (ink-told r.told is)))
+
+ink-operation : (r : Recorded) → IsSayable r → All IsInk (operation_words r)
+ink-operation r is = more r.name (call_words r.call ++ span_words r) (ink-text r.name is.name) (All-append IsInk (call_words r.call) (span_words r) (ink-call r.call is.call) (ink-span r is.told))
+
+ink-count : (count : ℕ) → All IsInk (codes "operations" ∷ numeral count ∷ [])
+ink-count count = ink-labelled (codes "operations") (numeral count) [] (ink-tested (codes "operations") refl) (ink-numeral count) (All-nil IsInk)
+
+ink-version : All IsInk (line_words Version)
+ink-version = ink-labelled (codes "msq") (codes "record") (codes "1" ∷ []) (ink-tested (codes "msq") refl) (ink-tested (codes "record") refl) (one (codes "1") (ink-tested (codes "1") refl))
+
+-- a lower byte isn't in such a word
+HasNo-ink : (byte : ℕ) → byte < 45 → (word : List ℕ) → IsInk word → HasNo byte word
+HasNo-ink byte low = All-weaker (λ b. 45 ≤ b) (λ b. b ≢ byte) (λ b h e. omega (arith, low, h, e))
+
+-- such words are those of their line
+words_of-ink : (word : List ℕ) (words : List (List ℕ)) → All IsInk (word ∷ words) → words_of (spaced (word ∷ words)) ≡ word ∷ words
+words_of-ink word words ink = words_of-spaced word words (All-weaker IsInk (HasNo 32) (λ word. HasNo-ink 32 (omega arith) word) (word ∷ words) ink)
+
+-- a line of such words has no line feed
+HasNo-spaced : (words : List (List ℕ)) → All IsInk words → HasNo 10 (spaced words)
+HasNo-spaced [] ink = All-nil (λ b. b ≢ 10)
+HasNo-spaced (word ∷ []) ink = HasNo-ink 10 (omega arith) word (All-head IsInk word [] ink)
+HasNo-spaced (word ∷ next ∷ words) ink =
+    All-append (λ b. b ≢ 10) word (32 ∷ spaced (next ∷ words)) (HasNo-ink 10 (omega arith) word (All-head IsInk word (next ∷ words) ink))
+    (All-cons (λ b. b ≢ 10) 32 (spaced (next ∷ words)) (λ e. omega (arith, e)) (HasNo-spaced (next ∷ words) (All-tail IsInk word (next ∷ words) ink)))
+
+-- a line of the words of an operation says it, and the other way round
+pub SaysOperation-from_words : (says : List ℕ) (r : Recorded) → AreOfOperation (words_of says) r → SaysOperation says r
+SaysOperation-from_words says r there = (there.0, sym (spaced-words_of says) ∙ ap spaced there.1)
+
+pub AreOfOperation-said : (says : List ℕ) (r : Recorded) → SaysOperation says r → AreOfOperation (words_of says) r
+AreOfOperation-said says r said = (said.0, ap words_of said.1 ∙ words_of-ink _ _ (ink-operation r said.0))
+
+-- the same of the second line
+pub SaysCount-from_words : (says : List ℕ) (count : ℕ) → AreOfCount (words_of says) count → SaysCount says count
+SaysCount-from_words says count there = sym (spaced-words_of says) ∙ ap spaced there
+
+pub AreOfCount-said : (says : List ℕ) (count : ℕ) → SaysCount says count → AreOfCount (words_of says) count
+AreOfCount-said says count said = ap words_of said ∙ words_of-ink _ _ (ink-count count)
+
+-- an operation by what was kept of it
+pub ReadsOperation-kept : (says : List ℕ) (r : Recorded) → AreOfOperation (words_of says) r → (kept : Option ReadOperation) → KeepsAs said_of IsOperationInRange r kept
+    → ReadsOperation says (ok_or kept Range)
+ReadsOperation-kept says r there None out = (r, SaysOperation-from_words says r there, out)
+ReadsOperation-kept says r there (Some read) kept =
+    (subst (SaysOperation says) (sym kept.0) (SaysOperation-from_words says r there), subst IsOperationInRange (sym kept.0) kept.1)
+
+-- a line that says no operation, or one that is out of range
+pub wrong-operation : (left : ℕ) (says : List ℕ) (cause : TextCause) → IsWrong (SaysOperation says) IsOperationInRange cause
+    → IsWrong (Says recording_grammar (Operations left) says) (recording_grammar.in_range (Operations left)) cause
+wrong-operation left says End wrong = absurd wrong
+wrong-operation left says Form wrong = by
+  where
+    by : (r : RecordingLine) → ¬ Says recording_grammar (Operations left) says r
+    by Version s = absurd s.may
+    by (Count count) s = absurd s.may
+    by (Operation o) s = wrong o (s.may, s.spelled)
+wrong-operation left says Range wrong = (Operation wrong.0, record { may = wrong.1.0; spelled = wrong.1.1 }, wrong.2)
+wrong-operation left says Extra wrong = absurd wrong
+
+-- a second line that says no number of operations, or one that is out of range
+pub wrong-count : (says : List ℕ) (cause : TextCause) → IsWrong (SaysCount says) IsCount cause → IsWrong (Says recording_grammar CountDue says) (recording_grammar.in_range CountDue) cause
+wrong-count says End wrong = absurd wrong
+wrong-count says Form wrong = by
+  where
+    by : (r : RecordingLine) → ¬ Says recording_grammar CountDue says r
+    by Version s = absurd s.may
+    by (Count count) s = wrong count s.spelled
+    by (Operation o) s = absurd s.may
+wrong-count says Range wrong = (Count wrong.0, record { may = tt; spelled = wrong.1 }, wrong.2)
+wrong-count says Extra wrong = absurd wrong
+
+-- a first line that isn't that of a recording
+pub wrong-version : (says : List ℕ) → says ≢ codes "msq record 1" → IsWrong (Says recording_grammar VersionDue says) (recording_grammar.in_range VersionDue) Form
+wrong-version says other = by
+  where
+    by : (r : RecordingLine) → ¬ Says recording_grammar VersionDue says r
+    by Version s = other s.spelled
+    by (Count count) s = absurd s.may
+    by (Operation o) s = absurd s.may
+
+-- a number is no dash
+dash_no_number : (n : ℕ) → codes "-" ≢ numeral n
+dash_no_number n e = All-head (λ b. b ≢ 45) 45 [] (subst (HasNo 45) (sym e) (HasNo-numeral 45 n (inl (omega arith)))) refl
+
+-- the first byte of the first word
+abbrev first_byte : List (List ℕ) → ℕ
+first_byte words = get_or (get_or words 0 []) 0 0
+
+-- words that begin with other bytes are others
+apart : (ws vs : List (List ℕ)) → (first_byte ws == first_byte vs) ≡ false → ws ≢ vs
+apart ws vs other same =
+    let one : (first_byte ws == first_byte vs) ≡ true = eq-eqb (first_byte ws) (first_byte vs) (ap first_byte same) in
+    let both : true ≡ false = sym one ∙ other in
+    absurd cc
+
+-- the words of a step tell it
+one-step : (a b : Option ℕ) → step_word a ≡ step_word b → a ≡ b
+one-step None None e = refl
+one-step None (Some n) e = absurd (dash_no_number n e)
+one-step (Some m) None e = absurd (dash_no_number m (sym e))
+one-step (Some m) (Some n) e = ap (λ (n : ℕ). Some n) (numeral_injective m n e)
+
+-- the words of a call, before others, tell it and them
+one-call : (a b : Call) (xs ys : List (List ℕ)) → call_words a ++ xs ≡ call_words b ++ ys → (a ≡ b) × (xs ≡ ys)
+one-call (Push s) (Push t) xs ys e = let text : s ≡ t = cc in (ap (λ (t : List ℕ). Push t) text, cc)
+one-call (Push s) Pop xs ys e = absurd (apart _ _ refl e)
+one-call (Push s) Shut xs ys e = absurd (apart _ _ refl e)
+one-call Pop (Push t) xs ys e = absurd (apart _ _ refl e)
+one-call Pop Pop xs ys e = (refl, cc)
+one-call Pop Shut xs ys e = absurd (apart _ _ refl e)
+one-call Shut (Push t) xs ys e = absurd (apart _ _ refl e)
+one-call Shut Pop xs ys e = absurd (apart _ _ refl e)
+one-call Shut Shut xs ys e = (refl, cc)
+
+-- the words of what was told tell it
+one-told : (a b : Option Told) → told_words a ≡ told_words b → a ≡ b
+one-told None None e = refl
+one-told None (Some Done) e = absurd (apart _ _ refl e)
+one-told None (Some (Value t)) e = absurd (apart _ _ refl e)
+one-told None (Some Empty) e = absurd (apart _ _ refl e)
+one-told None (Some Refused) e = absurd (apart _ _ refl e)
+one-told None (Some Closed) e = absurd (apart _ _ refl e)
+one-told (Some Done) None e = absurd (apart _ _ refl e)
+one-told (Some Done) (Some Done) e = refl
+one-told (Some Done) (Some (Value t)) e = absurd (apart _ _ refl e)
+one-told (Some Done) (Some Empty) e = absurd (apart _ _ refl e)
+one-told (Some Done) (Some Refused) e = absurd (apart _ _ refl e)
+one-told (Some Done) (Some Closed) e = absurd (apart _ _ refl e)
+one-told (Some (Value s)) None e = absurd (apart _ _ refl e)
+one-told (Some (Value s)) (Some Done) e = absurd (apart _ _ refl e)
+one-told (Some (Value s)) (Some (Value t)) e = let text : s ≡ t = cc in ap (λ (t : List ℕ). Some (Value t)) text
+one-told (Some (Value s)) (Some Empty) e = absurd (apart _ _ refl e)
+one-told (Some (Value s)) (Some Refused) e = absurd (apart _ _ refl e)
+one-told (Some (Value s)) (Some Closed) e = absurd (apart _ _ refl e)
+one-told (Some Empty) None e = absurd (apart _ _ refl e)
+one-told (Some Empty) (Some Done) e = absurd (apart _ _ refl e)
+one-told (Some Empty) (Some (Value t)) e = absurd (apart _ _ refl e)
+one-told (Some Empty) (Some Empty) e = refl
+one-told (Some Empty) (Some Refused) e = absurd (apart _ _ refl e)
+one-told (Some Empty) (Some Closed) e = absurd (apart _ _ refl e)
+one-told (Some Refused) None e = absurd (apart _ _ refl e)
+one-told (Some Refused) (Some Done) e = absurd (apart _ _ refl e)
+one-told (Some Refused) (Some (Value t)) e = absurd (apart _ _ refl e)
+one-told (Some Refused) (Some Empty) e = absurd (apart _ _ refl e)
+one-told (Some Refused) (Some Refused) e = refl
+one-told (Some Refused) (Some Closed) e = absurd (apart _ _ refl e)
+one-told (Some Closed) None e = absurd (apart _ _ refl e)
+one-told (Some Closed) (Some Done) e = absurd (apart _ _ refl e)
+one-told (Some Closed) (Some (Value t)) e = absurd (apart _ _ refl e)
+one-told (Some Closed) (Some Empty) e = absurd (apart _ _ refl e)
+one-told (Some Closed) (Some Refused) e = absurd (apart _ _ refl e)
+one-told (Some Closed) (Some Closed) e = refl
+
+-- words behind those of a call that have no step are those of no operation
+pub no_last : (words named called from timed last : List (List ℕ)) (name : List ℕ) (call : Call) (n : ℕ) → words ≡ name ∷ named → named ≡ call_words call ++ called → called ≡ codes "from" ∷ from
+    → from ≡ numeral n ∷ timed → timed ≡ codes "to" ∷ last → ((step : Option ℕ) (rest : List (List ℕ)) → last ≢ step_word step ∷ rest) → (r : Recorded) → ¬ AreOfOperation words r
+no_last words named called from timed last name call n first second third fourth fifth none r there =
+    let behind : named ≡ call_words r.call ++ span_words r = cc in
+    let calls = one-call call r.call called (span_words r) (sym second ∙ behind) in
+    let span : called ≡ span_words r = calls.1 in
+    none r.last (codes "reply" ∷ told_words r.told) cc
+
+-- the words of an operation tell it
+one-operation : (a b : Recorded) → operation_words a ≡ operation_words b → a ≡ b
+one-operation a b e =
+    let name : a.name ≡ b.name = cc in
+    let rest : call_words a.call ++ span_words a ≡ call_words b.call ++ span_words b = cc in
+    let call = one-call a.call b.call (span_words a) (span_words b) rest in
+    let span : span_words a ≡ span_words b = call.1 in
+    let first : numeral a.first ≡ numeral b.first = cc in
+    let last : step_word a.last ≡ step_word b.last = cc in
+    let told : told_words a.told ≡ told_words b.told = cc in
+    λ i. record {
+      name = name i;
+      call = call.0 i;
+      first = numeral_injective a.first b.first first i;
+      last = one-step a.last b.last last i;
+      told = one-told a.told b.told told i;
+    }
+
+-- the words of a line are in its letters
+ink-line : (s : RecordingDue) (r : RecordingLine) → MaySay s r → All IsInk (line_words r)
+ink-line VersionDue Version may = ink-version
+ink-line VersionDue (Count count) may = absurd may
+ink-line VersionDue (Operation o) may = absurd may
+ink-line CountDue Version may = absurd may
+ink-line CountDue (Count count) may = ink-count count
+ink-line CountDue (Operation o) may = absurd may
+ink-line (Operations left) Version may = absurd may
+ink-line (Operations left) (Count count) may = absurd may
+ink-line (Operations left) (Operation o) may = ink-operation o may
+
+-- the words of a line are told by its bytes
+line_words-said : (s : RecordingDue) (r : RecordingLine) → MaySay s r → words_of (spaced (line_words r)) ≡ line_words r
+line_words-said s Version may = words_of-ink _ _ (ink-line s Version may)
+line_words-said s (Count count) may = words_of-ink _ _ (ink-line s (Count count) may)
+line_words-said s (Operation o) may = words_of-ink _ _ (ink-line s (Operation o) may)
+
+one-line : (s : RecordingDue) (r q : RecordingLine) → MaySay s r → MaySay s q → line_words r ≡ line_words q → r ≡ q
+one-line VersionDue Version Version may may' e = refl
+one-line CountDue (Count m) (Count n) may may' e = let same : numeral m ≡ numeral n = cc in ap (λ (n : ℕ). Count n) (numeral_injective m n same)
+one-line (Operations left) (Operation a) (Operation b) may may' e = ap (λ (r : Recorded). Operation r) (one-operation a b e)
+one-line VersionDue Version (Count n) may may' e = absurd may'
+one-line VersionDue Version (Operation b) may may' e = absurd may'
+one-line VersionDue (Count m) q may may' e = absurd may
+one-line VersionDue (Operation a) q may may' e = absurd may
+one-line CountDue Version q may may' e = absurd may
+one-line CountDue (Count m) Version may may' e = absurd may'
+one-line CountDue (Count m) (Operation b) may may' e = absurd may'
+one-line CountDue (Operation a) q may may' e = absurd may
+one-line (Operations left) Version q may may' e = absurd may
+one-line (Operations left) (Count m) q may may' e = absurd may
+one-line (Operations left) (Operation a) Version may may' e = absurd may'
+one-line (Operations left) (Operation a) (Count n) may may' e = absurd may'
+
+-- the words of a line of a recording tell what it says, and have no line feed
+pub IsSoundGrammar-recording : IsSoundGrammar recording_grammar
+IsSoundGrammar-recording = record {
+  no_feed = λ s r may. HasNo-spaced (line_words r) (ink-line s r may);
+  one = λ s r q may may' e. one-line s r q may may' (sym (line_words-said s r may) ∙ ap words_of e ∙ line_words-said s q may');
+}

@@ -1,0 +1,6 @@
+pub mod Recordings
+pub mod RecordingLines
+pub mod Numbering
+pub mod Shapes
+pub mod TextQueues
+pub mod RecordingReading
