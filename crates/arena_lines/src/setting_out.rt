@@ -2,7 +2,7 @@
 ghost use Rattle.node_arena.specs.Machine.{load_at, store_at, exchange_at};
 ghost use Rattle.node_arena.specs.Prologues.{Prologue};
 ghost use Rattle.node_arena.specs.Seats.{MayStep, DidStep, DidSome};
-ghost use Rattle.arena_lines.specs.Words.{place_of};
+ghost use Rattle.arena_lines.specs.Words.{index_of, Accesses};
 
 use crate::words::Word;
 use line_table::Line;
@@ -19,21 +19,23 @@ pub fn load<const B: u32>(
     failed: u32,
 ) -> u64
     ghost prologue: { Prologue }
-    requires { MayStep arena.now seat.old prologue line (load_at (place_of word)) }
+    requires may { MayStep arena.now seat.old prologue line (load_at (index_of word)) }
+    requires names { Accesses arena.now seat.old prologue line word }
     ensures { DidStep arena.now seat.old seat.new prologue line result }
 {
     let _ = failed;
-    arena.load(seat, line, word.place())
+    arena.load(seat, line, word.index())
 }
 
 /// One store into a word: a caller picks the prologue by the value. Takes no memory and doesn't wait.
 #[inline(always)]
 pub fn store<const B: u32>(arena: &ArenaOf<B>, seat: &mut Seat, line: Line, word: Word, value: u64)
     ghost prologue: { Prologue }
-    requires { MayStep arena.now seat.old prologue line (store_at (place_of word) value) }
+    requires may { MayStep arena.now seat.old prologue line (store_at (index_of word) value) }
+    requires names { Accesses arena.now seat.old prologue line word }
     ensures { DidSome arena.now seat.old seat.new prologue line }
 {
-    arena.store(seat, line, word.place(), value);
+    arena.store(seat, line, word.index(), value);
 }
 
 /// One compare-exchange of a word; the word found is the answer, won or lost. `failed` turns of the call failed before: a
@@ -49,11 +51,12 @@ pub fn exchange<const B: u32>(
     failed: u32,
 ) -> u64
     ghost prologue: { Prologue }
-    requires { MayStep arena.now seat.old prologue line (exchange_at (place_of word) old new) }
+    requires may { MayStep arena.now seat.old prologue line (exchange_at (index_of word) old new) }
+    requires names { Accesses arena.now seat.old prologue line word }
     ensures { DidStep arena.now seat.old seat.new prologue line result }
 {
     let _ = failed;
-    match arena.exchange(seat, line, word.place(), old, new) {
+    match arena.exchange(seat, line, word.index(), old, new) {
         Ok(found) => found,
         Err(found) => found,
     }

@@ -3,7 +3,7 @@ ghost use Rattle.counted_ref.specs.Ref.{count_mask};
 ghost use Rattle.node_arena.specs.Machine.{load_at, store_at, and_at, exchange_at};
 ghost use Rattle.node_arena.specs.Prologues.{continues};
 ghost use Rattle.node_arena.specs.Seats.{MayStep, DidStep, DidSome, setup_of};
-ghost use Rattle.arena_lines.specs.Words.{place_of};
+ghost use Rattle.arena_lines.specs.Words.{index_of, Accesses};
 
 use crate::words::Word;
 use line_table::Line;
@@ -12,30 +12,33 @@ use node_arena::{ArenaOf, Seat};
 /// One load of a word by a call that is under way. Takes no memory and doesn't wait.
 #[inline(always)]
 pub fn loaded<const B: u32>(arena: &ArenaOf<B>, seat: &mut Seat, line: Line, word: Word) -> u64
-    requires { MayStep arena.now seat.old continues line (load_at (place_of word)) }
+    requires may { MayStep arena.now seat.old continues line (load_at (index_of word)) }
+    requires names { Accesses arena.now seat.old continues line word }
     ensures { DidStep arena.now seat.old seat.new continues line result }
 {
-    arena.load(seat, line, word.place())
+    arena.load(seat, line, word.index())
 }
 
 /// One store into a word by a call that is under way. Takes no memory and doesn't wait.
 #[inline(always)]
 pub fn stored<const B: u32>(arena: &ArenaOf<B>, seat: &mut Seat, line: Line, word: Word, value: u64)
-    requires { MayStep arena.now seat.old continues line (store_at (place_of word) value) }
+    requires may { MayStep arena.now seat.old continues line (store_at (index_of word) value) }
+    requires names { Accesses arena.now seat.old continues line word }
     ensures { DidSome arena.now seat.old seat.new continues line }
 {
-    arena.store(seat, line, word.place(), value);
+    arena.store(seat, line, word.index(), value);
 }
 
 /// One fetch_and, by a call that is under way, that leaves the count of the reference in a word; the word found is the
 /// answer. Takes no memory and doesn't wait.
 #[inline(always)]
 pub fn cleared<const B: u32>(arena: &ArenaOf<B>, seat: &mut Seat, line: Line, word: Word) -> u64
-    requires { MayStep arena.now seat.old continues line
-        (and_at (place_of word) (count_mask (setup_of arena.now).bits)) }
+    requires may { MayStep arena.now seat.old continues line
+        (and_at (index_of word) (count_mask (setup_of arena.now).bits)) }
+    requires names { Accesses arena.now seat.old continues line word }
     ensures { DidStep arena.now seat.old seat.new continues line result }
 {
-    arena.fetch_and(seat, line, word.place(), arena.count_mask())
+    arena.fetch_and(seat, line, word.index(), arena.count_mask())
 }
 
 /// One compare-exchange of a word by a call that is under way; the word found is the answer, won or lost. Takes no memory
@@ -49,10 +52,11 @@ pub fn exchanged<const B: u32>(
     old: u64,
     new: u64,
 ) -> u64
-    requires { MayStep arena.now seat.old continues line (exchange_at (place_of word) old new) }
+    requires may { MayStep arena.now seat.old continues line (exchange_at (index_of word) old new) }
+    requires names { Accesses arena.now seat.old continues line word }
     ensures { DidStep arena.now seat.old seat.new continues line result }
 {
-    match arena.exchange(seat, line, word.place(), old, new) {
+    match arena.exchange(seat, line, word.index(), old, new) {
         Ok(found) => found,
         Err(found) => found,
     }

@@ -1,6 +1,6 @@
 //! The words of an arena, by name.
 ghost use Rattle.std.specs.Prelude.{◌≡◌};
-ghost use Rattle.arena_lines.specs.Words.{place_of};
+ghost use Rattle.arena_lines.specs.Words.{index_of, HasIndex};
 
 /// A word of an arena.
 #[derive(Clone, Copy)]
@@ -18,11 +18,14 @@ pub enum Word {
 }
 
 impl Word {
-    /// Where the word stands among those of the arena. Takes no memory and doesn't wait.
+    /// The index of the word among those of the arena, where a word of a node is that of node 1 or a later one. Takes no
+    /// memory and doesn't wait.
     #[inline(always)]
-    pub fn place(self) -> usize
-        ensures { result ≡ place_of self }
+    pub fn index(self) -> usize
+        requires { HasIndex self }
+        ensures { result ≡ index_of self }
     {
+        // A node's word is written so that its index is known to be 6 or more: then its place needs no look at the first six.
         match self {
             Word::Fresh => 0,
             Word::Free => 1,
@@ -30,8 +33,8 @@ impl Word {
             Word::Tail => 3,
             Word::TailLock => 4,
             Word::HeadLock => 5,
-            Word::Next(node) => 4 + 2 * node as usize,
-            Word::Value(node) => 5 + 2 * node as usize,
+            Word::Next(node) => 6 + 2 * (node - 1) as usize,
+            Word::Value(node) => 7 + 2 * (node - 1) as usize,
         }
     }
 }

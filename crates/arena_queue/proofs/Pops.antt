@@ -1,25 +1,35 @@
 -- The ends of a pop, a pop behind other lines of its call, and a whole pop: with an empty pocket, or after a give back.
-use Rattle.std.proofs.Common.{◌≡◌, ℕ, ◌+◌, ◌-◌, ◌<◌, ◌≤◌, List, ◌++◌, Option, Some, None, Result, Ok, Err, IfOk, IfErr, OnOk, sym, refl, ap, subst, ◌∙◌, arith, append_assoc, ⊎_elim, inl, inr}
+use Rattle.std.proofs.Common.{◌≡◌, ℕ, ◌+◌, ◌-◌, ◌<◌, ◌≤◌, true, false, List, ◌++◌, Option, Some, None, Result, Ok, Err, IfOk, IfErr, OnOk, sym, refl, ap, subst, ◌∙◌, arith, append_assoc, ⊎_elim, inl, inr}
+use Rattle.std.proofs.lemmas.Bool.{false≢true}
 use Rattle.history.specs.declared.operations.Entry.TheVariants.{Pop}
+use Rattle.history.specs.declared.operations.Reply.TheVariants as reply
 use Rattle.history.specs.declared.operations.Taken.{Taken}
 use Rattle.history.specs.declared.refusals.Refusal.{Refusal}
 use Rattle.history.specs.declared.refusals.Refusal.TheVariants.{WornOut, Busy, Closed}
 use Rattle.history.specs.declared.refusals.WornWord.{WornWord}
 use Rattle.history.specs.Answers.{PopAnswers, FoundEmpty, StopsPop, PopRefused as RefusedPop}
 use Rattle.history.proofs.Learning.{answers_then}
-use Rattle.node_arena.specs.Machine.{Held, value_of}
-use Rattle.node_arena.specs.Prologues.{at_rest, out_of}
+use Rattle.line_table.specs.declared.lines.Line.TheVariants.{F1}
+use Rattle.node_arena.specs.Machine.{Held, Actor, value_of, to_pocket, busy_or}
+use Rattle.node_arena.specs.Prologues.{at_rest, out_of, gave_up}
 use Rattle.node_arena.specs.Traces.{Event}
 use Rattle.node_arena.specs.Arenas.{Arena}
 use Rattle.node_arena.specs.declared.seats.Seat.{Seat}
 use Rattle.node_arena.specs.Seeing.{known_by}
-use Rattle.node_arena.specs.Seats.{IsSeat, IsReady, KeepsStored, KeepsName, view, known_of, keeping, failed_of}
+use Rattle.node_arena.specs.Seats.{IsSeat, IsReady, KeepsStored, KeepsName, view, known_of, keeping, failed_of, keeps_of}
 use Rattle.node_arena.specs.Turns.{failed_turns}
 use Rattle.node_arena.specs.Paths.{ExtendsPath, FindsShutEmpty, StopsAPop, Acts, HadNoEffect, EndedAt, IsRefusedAt, added}
 use Rattle.node_arena.proofs.Paths.{walk_then, then_shut_empty, act_then, sees_on, added_is, added_path, last_held, ends_failed, met_behind, failed-append, failed_behind, kept_seat}
 use Rattle.free_list.specs.Gives.{GiveAnswers}
 use Rattle.arena_queue.specs.Answers.{EmptiesPocket, DrawRefused, Draws, AnswersPop}
 use Rattle.arena_queue.proofs.Queues.{same_number}
+
+-- an actor that took a value stands before F1, with the node that comes free in its hand
+pub record IsFreeing (a : Actor) (word : ℕ) (h : Held) : Type 0 where
+  pub over : a.line ≡ Some F1
+  pub due : a.due ≡ Some (reply.Value (value_of word))
+  pub node : a.node ≡ h.node
+  pub mark : a.mark ≡ h.mark
 
 module _ (worn : WornWord → Type 0) where
   -- lines before a pop, with so many failed turns
@@ -45,11 +55,12 @@ module _ (worn : WornWord → Type 0) where
         let e = late d.path in
         record {
           ready = d.ready;
-          same = record { number = d.same.number ∙ name.number; role = d.same.role ∙ name.role };
+          same = record { number = d.same.number ∙ name.number; role = d.same.role ∙ name.role; keeps = d.same.keeps ∙ name.keeps };
           path = d.path ∙ ap (λ p. p ++ added u x) w.path ∙ append_assoc (view s).path es (added u x) ∙ ap (λ p. (view s).path ++ p) (sym e);
           answer = answered out d;
           few = fewer out e d;
-          freed = freed_of out e d;
+          freed = λ off. freed_of out e d (name.keeps ∙ off);
+          kept = λ on. d.kept (name.keeps ∙ on);
           refused = refused_by out e d;
         }
       where
@@ -61,9 +72,9 @@ module _ (worn : WornWord → Type 0) where
         fewer (Ok v) e d = let c = ap failed_turns e in let n = d.few in omega (arith, failed-append es (added u x), c, n, more)
         fewer (Err why) e d = tt
 
-        freed_of : (o : Result (Option Taken) Refusal) → added s x ≡ es ++ added u x → Draws worn r u x before turns o → OnOk o (EmptiesPocket s x spent turns)
-        freed_of (Ok v) e d = ⊎_elim (λ none. inl none) (λ all. inr (let c = ap failed_turns e in omega (arith, failed-append es (added u x), c, all, more))) d.freed
-        freed_of (Err why) e d = tt
+        freed_of : (o : Result (Option Taken) Refusal) → added s x ≡ es ++ added u x → Draws worn r u x before turns o → keeps_of u ≡ false → OnOk o (EmptiesPocket s x spent turns)
+        freed_of (Ok v) e d off = ⊎_elim (λ none. inl none) (λ all. inr (let c = ap failed_turns e in omega (arith, failed-append es (added u x), c, all, more))) (d.freed off)
+        freed_of (Err why) e d off = tt
 
         refused_by : (o : Result (Option Taken) Refusal) → added s x ≡ es ++ added u x → Draws worn r u x before turns o → IfErr o (λ why. StopsAPop s x why × DrawRefused worn r s x spent turns why)
         refused_by (Ok v) e d = tt
@@ -76,11 +87,12 @@ module _ (worn : WornWord → Type 0) where
       let rest : at_rest (view t).actor ≡ (view t).actor = ap (out_of (view t).actor) over in
       record {
         ready = record { seat = kept_seat r t None failed seat; free = ap (λ b. b.line) rest ∙ over; pocket = sym (ap (λ b. b.pocket) rest ∙ empty) };
-        same = record { number = stored.number; role = stored.role };
+        same = record { number = stored.number; role = stored.role; keeps = stored.keeps };
         path = w.path ∙ ap (λ p. (view s).path ++ p) (sym e);
         answer = tt;
         few = tt;
-        freed = tt;
+        freed = λ off. tt;
+        kept = λ on. tt;
         refused = subst (λ y. StopsAPop s (keeping t None failed) y × DrawRefused worn r s (keeping t None failed) failed turns y) (sym is) (
           subst (ExtendsPath (view s) (view t)) (sym e) w,
           (last_held r s (keeping t None failed) es _ e cause, so),
@@ -94,28 +106,30 @@ module _ (worn : WornWord → Type 0) where
       let rest : at_rest (view t).actor ≡ (view t).actor = ap (out_of (view t).actor) over in
       record {
         ready = record { seat = kept_seat r t None failed seat; free = ap (λ b. b.line) rest ∙ over; pocket = sym (ap (λ b. b.pocket) rest ∙ empty) };
-        same = record { number = stored.number; role = stored.role };
+        same = record { number = stored.number; role = stored.role; keeps = stored.keeps };
         path = finds.path ∙ ap (λ p. (view s).path ++ p) (sym e);
         answer = tt;
         few = tt;
-        freed = tt;
+        freed = λ off. tt;
+        kept = λ on. tt;
         refused = (subst (FindsShutEmpty (view s) (view t)) (sym e) finds, last_held r s (keeping t None failed) es _ e cause);
       }
 
-  -- a value was taken, and the node that comes free is given back, or stays in the pocket
-  pub draws_taken : (r : Arena) (s t x : Seat) (word : ℕ) (h : Held) (failed turns : ℕ) (out : Result (Unit {0}) Refusal) (es : List Event) → failed < turns → KeepsStored s t → Acts (view s) (view t) (Pop (view s).number (value_of word)) es → failed_turns es ≡ 0 → GiveAnswers r (keeping t (Some h) failed) x (turns - failed) out → Draws worn r s x failed turns (Ok (Some (value_of word)))
-  draws_taken r s t x word h failed turns out es less stored took never g =
+  -- a value was taken by a seat that keeps no nodes, and the node that comes free is given back, or stays in the pocket
+  pub draws_taken : (r : Arena) (s t x : Seat) (word : ℕ) (h : Held) (failed turns : ℕ) (out : Result (Unit {0}) Refusal) (es : List Event) → keeps_of s ≡ false → failed < turns → KeepsStored s t → Acts (view s) (view t) (Pop (view s).number (value_of word)) es → failed_turns es ≡ 0 → GiveAnswers r (keeping t (Some h) failed) x (turns - failed) out → Draws worn r s x failed turns (Ok (Some (value_of word)))
+  draws_taken r s t x word h failed turns out es keeps less stored took never g =
       let acts : Acts (view s) (view x) (Pop (view s).number (value_of word)) (es ++ added t x) = act_then (view s) (view t) (view x) (Pop (view s).number (value_of word)) es (added t x) took (record { walks = g.lines; same = g.seen }) in
       let e : added s x ≡ es ++ added t x = added_path s x (es ++ added t x) acts.path in
       let all : failed_turns (added s x) ≡ failed_turns (added t x) = (let c = ap failed_turns e in omega (arith, failed-append es (added t x), never, c)) in
       let most : failed_turns (added t x) ≤ turns - failed = spends out g in
       record {
         ready = g.ready;
-        same = record { number = g.same.number ∙ stored.number; role = g.same.role ∙ stored.role };
+        same = record { number = g.same.number ∙ stored.number; role = g.same.role ∙ stored.role; keeps = g.same.keeps ∙ stored.keeps };
         path = acts.path ∙ ap (λ p. (view s).path ++ p) (sym e);
         answer = acts.adds;
         few = omega (arith, all, most, less);
-        freed = gave out all g;
+        freed = λ off. gave out all g;
+        kept = λ on. absurd (false≢true (sym keeps ∙ on));
         refused = tt;
       }
     where
@@ -127,6 +141,22 @@ module _ (worn : WornWord → Type 0) where
       spends (Ok u) g = let n : failed_of x ≡ failed_turns (added t x) = g.failed in let k = g.fewer in omega arith
       spends (Err why) g = let n : failed_turns (added t x) ≡ turns - failed = g.refused.1 in omega arith
 
+  -- a value was taken by a seat that keeps its nodes, and the node that comes free stays in the pocket
+  pub draws_kept : (r : Arena) (s t : Seat) (word : ℕ) (h : Held) (failed turns : ℕ) (es : List Event) → keeps_of s ≡ true → failed < turns → IsSeat r t → KeepsStored s t → IsFreeing (view t).actor word h → Acts (view s) (view t) (Pop (view s).number (value_of word)) es → failed_turns es ≡ 0 → Draws worn r s (keeping t (Some h) failed) failed turns (Ok (Some (value_of word)))
+  draws_kept r s t word h failed turns es keeps less seat stored frees took never =
+      let e : added s t ≡ es = added_path s t es took.path in
+      let rest : at_rest (view t).actor ≡ record (to_pocket (view t).actor) { line = None } = ap (out_of (view t).actor) frees.over ∙ ap (λ d. gave_up (view t).actor (busy_or 0 d (to_pocket (view t).actor))) frees.due in
+      record {
+        ready = record { seat = kept_seat r t (Some h) failed seat; free = ap (λ b. b.line) rest; pocket = sym (ap (λ b. b.pocket) rest ∙ (λ i. Some (record { node = frees.node i; mark = frees.mark i }))) };
+        same = record { number = stored.number; role = stored.role; keeps = stored.keeps };
+        path = took.path ∙ ap (λ p. (view s).path ++ p) (sym e);
+        answer = took.adds;
+        few = (let c = ap failed_turns e in omega (arith, never, less, c));
+        freed = λ off. absurd (false≢true (sym off ∙ keeps));
+        kept = λ on. refl;
+        refused = tt;
+      }
+
   -- the queue was found empty
   pub draws_empty : (r : Arena) (s t : Seat) (failed turns : ℕ) (es : List Event) → failed < turns → IsSeat r t → (view t).actor.line ≡ None → (view t).actor.pocket ≡ None → KeepsStored s t → (view t).path ≡ (view s).path ++ es → failed_turns es ≡ 0 → FoundEmpty (known_by (view s)) (known_by (view t)) → Draws worn r s (keeping t None failed) failed turns (Ok None)
   draws_empty r s t failed turns es less seat over empty stored path never found =
@@ -134,11 +164,12 @@ module _ (worn : WornWord → Type 0) where
       let rest : at_rest (view t).actor ≡ (view t).actor = ap (out_of (view t).actor) over in
       record {
         ready = record { seat = kept_seat r t None failed seat; free = ap (λ b. b.line) rest ∙ over; pocket = sym (ap (λ b. b.pocket) rest ∙ empty) };
-        same = record { number = stored.number; role = stored.role };
+        same = record { number = stored.number; role = stored.role; keeps = stored.keeps };
         path = path ∙ ap (λ p. (view s).path ++ p) (sym e);
         answer = found;
         few = (let c = ap failed_turns e in omega (arith, never, less, c));
-        freed = inl refl;
+        freed = λ off. inl refl;
+        kept = λ on. refl;
         refused = tt;
       }
 
@@ -148,9 +179,11 @@ module _ (worn : WornWord → Type 0) where
       record {
         ready = d.ready;
         number = same_number r s x h d.ready d.same;
+        keeps = d.same.keeps;
         answer = d.answer;
         few = (let n = d.few in omega arith);
-        freed = ⊎_elim (λ none. inl none) (λ all. inr (let f = all in omega arith)) d.freed;
+        freed = λ off. ⊎_elim (λ none. inl none) (λ all. inr (let f = all in omega arith)) (d.freed off);
+        kept = d.kept;
         refused = tt;
         why = tt;
         caused = tt;
@@ -159,9 +192,11 @@ module _ (worn : WornWord → Type 0) where
       record {
         ready = d.ready;
         number = same_number r s x h d.ready d.same;
+        keeps = d.same.keeps;
         answer = tt;
         few = tt;
-        freed = tt;
+        freed = λ off. tt;
+        kept = λ on. tt;
         refused = learns why d.refused.0;
         why = stops why d.refused.1;
         caused = d.refused.1;

@@ -47,7 +47,7 @@ module _ (worn : WornWord → Option Held → Type 0) where
       let e : added s u ≡ both = added_path s u both acts.path in
       record {
         ready = k.ready;
-        same = record { number = k.same.number ∙ name.number; role = k.same.role ∙ name.role };
+        same = record { number = k.same.number ∙ name.number; role = k.same.role ∙ name.role; keeps = k.same.keeps ∙ name.keeps };
         pushed = (
           subst (Acts (view s) (view u) (Push (view s).number body)) (sym e) acts,
           k.pushed.1,
@@ -60,7 +60,7 @@ module _ (worn : WornWord → Option Held → Type 0) where
       let e : added s u ≡ both = added_path s u both (refused_path t u why k.refused.0 ∙ ap (λ p. p ++ added t u) w.path ∙ append_assoc (view s).path es (added t u)) in
       record {
         ready = k.ready;
-        same = record { number = k.same.number ∙ name.number; role = k.same.role ∙ name.role };
+        same = record { number = k.same.number ∙ name.number; role = k.same.role ∙ name.role; keeps = k.same.keeps ∙ name.keeps };
         pushed = tt;
         refused = (stops_behind s t u es w e why k.refused.0, by_cause e why k.refused.1);
       }
@@ -81,6 +81,7 @@ module _ (worn : WornWord → Option Held → Type 0) where
       record {
         ready = k.ready;
         number = same_number r s t h k.ready k.same;
+        keeps = k.same.keeps;
         pushed = k.pushed.0.adds;
         few = (let f = k.pushed.2 in omega arith);
         pocket = k.pushed.1;
@@ -92,6 +93,7 @@ module _ (worn : WornWord → Option Held → Type 0) where
       record {
         ready = k.ready;
         number = same_number r s t h k.ready k.same;
+        keeps = k.same.keeps;
         pushed = tt;
         few = tt;
         pocket = tt;

@@ -1,5 +1,6 @@
 -- What the calls of a queue on an arena answer, whatever its algorithm.
-use Rattle.std.specs.Prelude.{◌≡◌, ℕ, ◌+◌, ◌≤◌, ◌<◌, ◌⊎◌, ◌++◌, Option, None, IfSome, IsSomeAnd, Result, OnOk, IfOk, IfErr}
+use Rattle.std.specs.Prelude.{◌≡◌, ℕ, ◌+◌, ◌≤◌, ◌<◌, ◌⊎◌, ◌++◌, true, false, Option, None, IfSome, IsSomeAnd, Result, OnOk, IfOk, IfErr}
+use Rattle.std.specs.Option.{is_some}
 use Rattle.line_table.specs.declared.lines.Kind.{Kind}
 use Rattle.history.specs.declared.operations.Entry.TheVariants.{Push, Shut}
 use Rattle.history.specs.declared.operations.Taken.{Taken}
@@ -11,7 +12,7 @@ use Rattle.history.specs.Answers.{Pushed, PopAnswers, PushRefused as RefusedPush
 use Rattle.node_arena.specs.Machine.{Held}
 use Rattle.node_arena.specs.Arenas.{Arena}
 use Rattle.node_arena.specs.declared.seats.Seat.{Seat}
-use Rattle.node_arena.specs.Seats.{IsReady, KeepsName, view, known_of, pocket_of}
+use Rattle.node_arena.specs.Seats.{IsReady, KeepsName, view, known_of, pocket_of, keeps_of}
 use Rattle.node_arena.specs.Turns.{failed_turns}
 use Rattle.node_arena.specs.Paths.{Acts, StopsAPush, StopsAPop, EndsFailed, MetCause, added}
 use Rattle.free_list.specs.Takes.{TakeRefused}
@@ -61,6 +62,7 @@ FailsFewer s t turns = failed_turns (added s t) < turns
 pub record AnswersPush (worn : WornWord → Option Held → Type 0) (r : Arena) (s t : Seat) (body turns : ℕ) (out : Result (Unit {0}) Refusal) : Type 0 where
   pub ready : IsReady r t
   pub number : (known_of t).number ≡ (known_of s).number
+  pub keeps : keeps_of t ≡ keeps_of s
   pub pushed : OnOk out (Pushed (known_of s) body (known_of t))
   pub few : OnOk out (FailsFewer s t turns)
   pub pocket : OnOk out (pocket_of t ≡ None)
@@ -80,6 +82,10 @@ DrawRefused worn r s t spent turns _ = ⊥
 abbrev pub FailsFew : Seat → Seat → (turns : ℕ) → Type 0
 FailsFew s t turns = failed_turns (added s t) ≤ turns
 
+-- after a pop a seat's pocket holds a node exactly where a value was taken
+abbrev pub KeepsItsNode : Seat → Option Taken → Type 0
+KeepsItsNode t taken = is_some (pocket_of t) ≡ is_some taken
+
 -- a seat's pocket is empty, or each turn of its call failed, where so many failed before
 abbrev pub EmptiesPocket : Seat → Seat → (spent turns : ℕ) → Type 0
 EmptiesPocket s t spent turns = (pocket_of t ≡ None) ⊎ (spent + failed_turns (added s t) ≡ turns)
@@ -91,7 +97,8 @@ pub record Draws (worn : WornWord → Type 0) (r : Arena) (s t : Seat) (spent tu
   pub path : (view t).path ≡ (view s).path ++ added s t
   pub answer : IfOk out (λ o. PopAnswers (known_of s) o (known_of t))
   pub few : OnOk out (spent + failed_turns (added s t) ≤ turns)
-  pub freed : OnOk out (EmptiesPocket s t spent turns)
+  pub freed : keeps_of s ≡ false → OnOk out (EmptiesPocket s t spent turns)
+  pub kept : keeps_of s ≡ true → IfOk out (KeepsItsNode t)
   pub refused : IfErr out (λ why. StopsAPop s t why × DrawRefused worn r s t spent turns why)
 
 -- after a pop its seat's pocket is empty, or each of so many turns failed
@@ -106,9 +113,11 @@ PopRefused worn r s t turns why = DrawRefused worn r s t 0 turns why
 pub record AnswersPop (worn : WornWord → Type 0) (r : Arena) (s t : Seat) (turns : ℕ) (out : Result (Option Taken) Refusal) : Type 0 where
   pub ready : IsReady r t
   pub number : (known_of t).number ≡ (known_of s).number
+  pub keeps : keeps_of t ≡ keeps_of s
   pub answer : IfOk out (λ o. PopAnswers (known_of s) o (known_of t))
   pub few : OnOk out (FailsFew s t turns)
-  pub freed : OnOk out (FreesItsNode s t turns)
+  pub freed : keeps_of s ≡ false → OnOk out (FreesItsNode s t turns)
+  pub kept : keeps_of s ≡ true → IfOk out (KeepsItsNode t)
   pub refused : IfErr out (λ why. RefusedPop (known_of s) why (known_of t))
   pub why : IfErr out StopsPop
   pub caused : IfErr out (PopRefused worn r s t turns)

@@ -1,5 +1,5 @@
 //! The queue: its arena, and its calls.
-ghost use Rattle.std.specs.Prelude.{◌≡◌, ◌+◌, ◌*◌, ◌≤◌, ◌↔◌, IsNone, IfSome, IfOk, IfErr, OnOk, OnErr, None};
+ghost use Rattle.std.specs.Prelude.{◌≡◌, ◌+◌, ◌*◌, ◌≤◌, ◌↔◌, IsNone, IfSome, IfOk, IfErr, OnOk, OnErr, None, true, false};
 ghost use Rattle.counted_ref.specs.Ref.{IsSplit};
 ghost use Rattle.node_arena.specs.Plans.{IsPlanned};
 ghost use Rattle.node_arena.specs.Making.{plan, NewRefused};
@@ -88,10 +88,10 @@ impl<A: Algorithm<B>, const B: u32> Fifo for ArenaQueueOf<A, B> {
     ghost use Rattle.history.specs.Answers.{Pushed, PopAnswers, DidShut, StopsPush, StopsPop, StopsShut};
     ghost use Rattle.history.specs.Answers.{PushRefused as RefusedPush, PopRefused as RefusedPop};
     ghost use Rattle.history.specs.Closing.{Closes};
-    ghost use Rattle.node_arena.specs.Seats.{known_of, pocket_of, view};
+    ghost use Rattle.node_arena.specs.Seats.{known_of, pocket_of, keeps_of, view};
     ghost use Rattle.node_arena.proofs.Seens.{sound_of};
-    ghost use Rattle.arena_queue.specs.Answers.{FailsFewer, PushRefused, FailsFew, FreesItsNode, PopRefused};
-    ghost use Rattle.arena_queue.specs.Answers.{ShutRefused};
+    ghost use Rattle.arena_queue.specs.Answers.{FailsFewer, PushRefused, FailsFew, FreesItsNode, KeepsItsNode};
+    ghost use Rattle.arena_queue.specs.Answers.{PopRefused, ShutRefused};
     ghost use Rattle.arena_queue.specs.Queues.{arena_of, permits_of, IsQueueSeat};
 
     type Seat = Seat;
@@ -121,6 +121,7 @@ impl<A: Algorithm<B>, const B: u32> Fifo for ArenaQueueOf<A, B> {
         requires turns { 1 ≤ turns }
         ensures seat { IsQueueSeat self.now seat.new }
         ensures number { (known_of seat.new).number ≡ (known_of seat.old).number }
+        ensures keeps { keeps_of seat.new ≡ keeps_of seat.old }
         ensures pushed { OnOk result (Pushed (known_of seat.old) body (known_of seat.new)) }
         ensures few { OnOk result (FailsFewer seat.old seat.new turns) }
         ensures pocket { OnOk result (pocket_of seat.new ≡ None) }
@@ -138,17 +139,22 @@ impl<A: Algorithm<B>, const B: u32> Fifo for ArenaQueueOf<A, B> {
     }
 
     /// Refusals: `WornOut` where at one step the count of a word that stops the algorithm's pops was the greatest one,
-    /// `Busy` where each of so many turns failed, and `Closed` where at one step the queue was shut and empty. Takes no
-    /// memory and doesn't wait.
+    /// `Busy` where each of so many turns failed, and `Closed` where at one step the queue was shut and empty. A node in
+    /// the pocket is given back first. The node that comes free is given back too, with the turns that are left; where the
+    /// seat keeps its nodes (`Seat::keep_nodes`), it stays in the pocket, for its next push. Takes no memory and doesn't
+    /// wait.
     fn try_pop(&self, seat: &mut Seat, turns: u32) -> Result<Option<Taken>, Refusal>
         requires seat { IsQueueSeat self.now seat.old }
         requires role { MayPop (permits_of self.now) (known_of seat.old).number }
         requires turns { 1 ≤ turns }
         ensures seat { IsQueueSeat self.now seat.new }
         ensures number { (known_of seat.new).number ≡ (known_of seat.old).number }
+        ensures keeps { keeps_of seat.new ≡ keeps_of seat.old }
         ensures answer { IfOk result (λ o. PopAnswers (known_of seat.old) o (known_of seat.new)) }
         ensures few { OnOk result (FailsFew seat.old seat.new turns) }
-        ensures freed { OnOk result (FreesItsNode seat.old seat.new turns) }
+        ensures freed { keeps_of seat.old ≡ false →
+            OnOk result (FreesItsNode seat.old seat.new turns) }
+        ensures kept { keeps_of seat.old ≡ true → IfOk result (KeepsItsNode seat.new) }
         ensures refused { IfErr result
             (λ why. RefusedPop (known_of seat.old) why (known_of seat.new)) }
         ensures why { IfErr result StopsPop }
@@ -174,6 +180,7 @@ impl<A: Algorithm<B>, const B: u32> Fifo for ArenaQueueOf<A, B> {
         requires turns { 1 ≤ turns }
         ensures seat { IsQueueSeat self.now seat.new }
         ensures number { (known_of seat.new).number ≡ (known_of seat.old).number }
+        ensures keeps { keeps_of seat.new ≡ keeps_of seat.old }
         ensures shut { OnOk result (DidShut (known_of seat.old) (known_of seat.new)) }
         ensures few { OnOk result (FailsFewer seat.old seat.new turns) }
         ensures pocket { pocket_of seat.new ≡ pocket_of seat.old }

@@ -184,7 +184,7 @@ sets_forth r s h ready full =
         before = record { seat = ready.seat; can = (refl, ready.free); line = ap (λ p. (set_out r s p).line) e };
         frees = record { node = ap (λ p. (set_out r s p).node) e; mark = ap (λ p. (set_out r s p).mark) e; early = ap (λ p. (set_out r s p).due) e };
       };
-      stored = record { number = refl; role = refl; pocket = refl; failed = refl };
+      stored = record { number = refl; role = refl; keeps = refl; pocket = refl; failed = refl };
       lines = [];
       walks = no_pass (view s);
       failed = refl;
@@ -224,7 +224,7 @@ module _ (r : Arena) (s t : Seat) (g : Held) (n : ℕ) (h : Giving r s t g n) wh
       let name = then_stored s t x h.stored d.stored in
       record {
         ready = record { seat = kept_seat r x None n d.turned.seat; free = ap (λ a. a.line) rest; pocket = sym (ap (λ a. a.pocket) rest ∙ empty_at_pops r x r.plan.setup.kind d.turned.seat d.turned.over) };
-        same = record { number = name.number; role = name.role };
+        same = record { number = name.number; role = name.role; keeps = name.keeps };
         pocket = refl;
         lines = subst (ExtendsPath (view s) (view x)) (sym e) p.walks;
         seen = p.same;
@@ -243,7 +243,7 @@ kept_it r s t g (suc m) some full h =
     let rest = rests_at_f1 (view t).actor at.before.line at.frees.early in
     record {
       ready = record { seat = kept_seat r t (Some g) (suc m) at.before.seat; free = ap (λ b. b.line) rest; pocket = (λ i. Some (record { node = sym at.frees.node i; mark = sym at.frees.mark i })) ∙ sym (ap (λ b. b.pocket) rest) };
-      same = record { number = h.stored.number; role = h.stored.role };
+      same = record { number = h.stored.number; role = h.stored.role; keeps = h.stored.keeps };
       pocket = sym full;
       lines = subst (ExtendsPath (view s) (view t)) (sym e) h.walks.walks;
       seen = h.walks.same;

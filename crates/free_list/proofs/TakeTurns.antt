@@ -33,7 +33,7 @@ pub sets_out : (r : Arena) (s : Seat) → IsReady r s → pocket_of s ≡ None �
 sets_out r s h none =
     record {
       before = record { seat = h.seat; can = (refl, h.free); line = ap (λ p. (set_out r s p).line) (sym h.pocket ∙ none) };
-      stored = record { number = refl; role = refl; pocket = refl; failed = refl };
+      stored = record { number = refl; role = refl; keeps = refl; pocket = refl; failed = refl };
       lines = [];
       walks = no_pass (view s);
       failed = refl;
@@ -68,7 +68,7 @@ module _ (r : Arena) (s t : Seat) (n : ℕ) (h : Trying r s t n) where
           free = ap (λ a. a.line) rest;
           pocket = (λ i. Some (record { node = sym d.turned.node i; mark = sym d.turned.mark i })) ∙ sym (ap (λ a. a.pocket) rest);
         };
-        same = record { number = name.number; role = name.role };
+        same = record { number = name.number; role = name.role; keeps = name.keeps };
         pocket = refl;
         lines = subst (ExtendsPath (view s) (view x)) (sym e) p.walks;
         seen = p.same;
@@ -96,7 +96,7 @@ module _ (r : Arena) (s t : Seat) (n : ℕ) (h : Trying r s t n) where
           free = ap (λ a. a.line) rest ∙ d.turned.over;
           pocket = sym (ap (λ a. a.pocket) rest ∙ d.turned.empty);
         };
-        same = record { number = name.number; role = name.role };
+        same = record { number = name.number; role = name.role; keeps = name.keeps };
         pocket = refl;
         lines = subst (ExtendsPath (view s) (view x)) (sym e) p.walks;
         seen = p.same;
@@ -122,7 +122,7 @@ gave_up r s t (suc m) some h =
         free = ap (λ b. b.line) rest;
         pocket = sym (ap (λ b. b.pocket) rest ∙ empty_before r t continues N1 h.before);
       };
-      same = record { number = h.stored.number; role = h.stored.role };
+      same = record { number = h.stored.number; role = h.stored.role; keeps = h.stored.keeps };
       pocket = refl;
       lines = subst (ExtendsPath (view s) (view t)) (sym e) h.walks.walks;
       seen = h.walks.same;

@@ -2,7 +2,8 @@
 use history::{Op, Refusal, Reply, WornWord};
 use line_table::Kind;
 
-/// Which answers came. A call that meets no other is never Busy, and no node's next is worn out before Free is.
+/// Which answers came. A call that meets no other is never Busy. Where no seat keeps its nodes, no node's next is worn out
+/// before Free is.
 #[derive(Clone, Copy, PartialEq, Eq)]
 pub struct Answers {
     pub done: bool,
@@ -10,6 +11,7 @@ pub struct Answers {
     pub empty: bool,
     pub no_node: bool,
     pub worn_free: bool,
+    pub worn_next: bool,
     pub worn_head: bool,
     pub worn_tail: bool,
     pub closed_push: bool,
@@ -27,6 +29,7 @@ impl Answers {
             empty: false,
             no_node: false,
             worn_free: false,
+            worn_next: false,
             worn_head: false,
             worn_tail: false,
             closed_push: false,
@@ -36,14 +39,15 @@ impl Answers {
         }
     }
 
-    /// All that can come to calls that meet no other.
-    pub fn all(kind: Kind) -> Answers {
+    /// All that can come to calls that meet no other, of seats that keep their nodes or don't.
+    pub fn all(kind: Kind, keeps: bool) -> Answers {
         Answers {
             done: true,
             value: true,
             empty: true,
             no_node: true,
             worn_free: true,
+            worn_next: keeps && kind == Kind::NonBlocking,
             worn_head: kind == Kind::TwoLock,
             worn_tail: kind == Kind::NonBlocking,
             closed_push: true,
@@ -61,6 +65,7 @@ impl Answers {
             Reply::Empty => self.empty = true,
             Reply::Refused(Refusal::NoNode) => self.no_node = true,
             Reply::Refused(Refusal::WornOut(WornWord::Free)) => self.worn_free = true,
+            Reply::Refused(Refusal::WornOut(WornWord::Next)) => self.worn_next = true,
             Reply::Refused(Refusal::WornOut(WornWord::Head)) => self.worn_head = true,
             Reply::Refused(Refusal::WornOut(WornWord::Tail)) => self.worn_tail = true,
             Reply::Refused(Refusal::Closed) => match op {

@@ -25,35 +25,40 @@ use std::alloc::Global;
 use std::io;
 use two_lock::TwoLockQueueOf;
 
-// What came of calls by so many seats: how many were the same, and whether each answer came.
-fn same<Q: Watched<B> + Drop, const B: u32>(alloc: Global, seats: u64) -> (u64, bool)
+// What came of calls by so many seats, which keep their nodes or don't: how many were the same, and whether each answer came.
+fn same<Q: Watched<B> + Drop, const B: u32>(alloc: Global, seats: u64, keeps: bool) -> (u64, bool)
     requires split { IsSplit B }
 {
-    match rounds::<Q, B>(alloc, seats) {
-        Some(found) => (found.same, found.answers == Answers::all(Q::kind())),
+    match rounds::<Q, B>(alloc, seats, keeps) {
+        Some(found) => (found.same, found.answers == Answers::all(Q::kind(), keeps)),
         None => (0, false),
     }
 }
 
-// Prints what came of calls by so many seats, with each of these numbers of bits for a node.
+// Prints what came of calls by so many seats, which keep their nodes or don't, with each of these numbers of bits for a node.
 macro_rules! prints_what_came {
-    ($rt:ident $seats:ident $($bits:literal)*) => {
+    ($rt:ident $seats:ident $keeps:ident $kept:ident $($bits:literal)*) => {
         $(
-            let (calls, all) = same::<TwoLockQueueOf<$bits>, $bits>($rt.alloc(), $seats);
+            let (calls, all) = same::<TwoLockQueueOf<$bits>, $bits>($rt.alloc(), $seats, $keeps);
             println!($rt;
-                "two-lock, {} bits, seats {}: {calls} calls the same, each answer came: {all}", $bits, $seats
+                "two-lock, {} bits, seats {}{}: {calls} calls the same, each answer came: {all}",
+                $bits, $seats, $kept
             )?;
-            let (calls, all) = same::<MsQueueOf<$bits>, $bits>($rt.alloc(), $seats);
+            let (calls, all) = same::<MsQueueOf<$bits>, $bits>($rt.alloc(), $seats, $keeps);
             println!($rt;
-                "non-blocking, {} bits, seats {}: {calls} calls the same, each answer came: {all}", $bits, $seats
+                "non-blocking, {} bits, seats {}{}: {calls} calls the same, each answer came: {all}",
+                $bits, $seats, $kept
             )?;
         )*
     };
 }
 
 fn main(rt: HostRuntime) -> io::Result<()> {
-    for seats in 1..=2 {
-        prints_what_came!(rt seats 16 24 32);
+    for keeps in [false, true] {
+        let kept = if keeps { ", nodes kept" } else { "" };
+        for seats in 1..=2 {
+            prints_what_came!(rt seats keeps kept 16 24 32);
+        }
     }
     let before = (
         halted(rt.alloc(), Kind::NonBlocking),

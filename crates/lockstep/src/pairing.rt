@@ -7,7 +7,7 @@ use crate::answers::Answers;
 use crate::comparing::{has_pocket, has_words};
 use crate::drawing::Draws;
 use crate::queues::Watched;
-use crate::stepping::{CHOICES_WITH_SHUTS, MOST_STEPS, call_of, told};
+use crate::stepping::{CHOICES_WITH_SHUTS, MOST_STEPS, call_of, told, told_keeping};
 use counted_ref::most_count;
 use history::{Fifo, Op, Reply};
 use std::alloc::Global;
@@ -71,11 +71,13 @@ fn agrees<Q: Watched<B>, const B: u32>(
     let Some(reply) = answered(queue, seat, call_of(drawn), turns) else {
         return false;
     };
-    let Some((wanted, _)) = told(world, actor, call_of(drawn), MOST_STEPS) else {
-        return false;
+    let wanted = if Q::keeps_nodes(seat) {
+        told_keeping(world, actor, call_of(drawn), MOST_STEPS)
+    } else {
+        told(world, actor, call_of(drawn), MOST_STEPS).map(|(wanted, _)| wanted)
     };
     answers.adds(call_of(drawn), &reply);
-    reply == wanted
+    wanted == Some(reply)
 }
 
 // The calls of one round, by so many seats, 1 or 2; how many agreed.
@@ -123,6 +125,7 @@ fn last<Q: Fifo>(queue: &Q, seats: &mut Vec<Q::Seat>) -> Option<Q::Seat>
 fn round<Q: Watched<B> + Drop, const B: u32>(
     alloc: Global,
     seats: u64,
+    keeps: bool,
     draws: &mut Draws,
     answers: &mut Answers,
 ) -> Option<u64>
@@ -134,21 +137,29 @@ fn round<Q: Watched<B> + Drop, const B: u32>(
         limit => limit,
     };
     let (queue, mut dealt) = Q::made(alloc, nodes, limit).ok()?;
-    let other = last(&queue, &mut dealt)?;
-    let one = last(&queue, &mut dealt)?;
+    let mut other = last(&queue, &mut dealt)?;
+    let mut one = last(&queue, &mut dealt)?;
+    if keeps {
+        queue.keep_nodes(&mut other);
+        queue.keep_nodes(&mut one);
+    }
     let mut world = WorldOf::<B>::new(alloc, Q::kind(), nodes, limit, 2).ok()?;
     Some(calls(&queue, one, other, &mut world, seats, draws, answers))
 }
 
-/// All rounds with calls by so many seats, 1 or 2; none where memory is refused.
-pub fn rounds<Q: Watched<B> + Drop, const B: u32>(alloc: Global, seats: u64) -> Option<Found>
+/// All rounds with calls by so many seats, 1 or 2, which keep their nodes or don't; none where memory is refused.
+pub fn rounds<Q: Watched<B> + Drop, const B: u32>(
+    alloc: Global,
+    seats: u64,
+    keeps: bool,
+) -> Option<Found>
     requires split { IsSplit B }
 {
     let mut draws = Draws::new(seats);
     let mut answers = Answers::none();
     let mut same = 0u64;
     for _ in 0..ROUNDS {
-        same = same.wrapping_add(round::<Q, B>(alloc, seats, &mut draws, &mut answers)?);
+        same = same.wrapping_add(round::<Q, B>(alloc, seats, keeps, &mut draws, &mut answers)?);
     }
     Some(Found { same, answers })
 }

@@ -27,6 +27,14 @@ pub trait Watched<const B: u32>: Fifo {
 
     /// The node in a seat's pocket.
     fn pocket(seat: &Self::Seat) -> Option<Held>;
+
+    /// Tells a seat to keep its nodes.
+    fn keep_nodes(&self, seat: &mut Self::Seat)
+        requires { Self.is_seat self.now seat.old }
+        ensures { Self.is_seat self.now seat.new };
+
+    /// Whether a seat keeps its nodes.
+    fn keeps_nodes(seat: &Self::Seat) -> bool;
 }
 
 impl<A: Algorithm<B>, const B: u32> Watched<B> for ArenaQueueOf<A, B> {
@@ -51,5 +59,13 @@ impl<A: Algorithm<B>, const B: u32> Watched<B> for ArenaQueueOf<A, B> {
 
     fn pocket(seat: &Seat) -> Option<Held> {
         seat.pocket()
+    }
+
+    fn keep_nodes(&self, seat: &mut Seat) {
+        seat.keep_nodes(true);
+    }
+
+    fn keeps_nodes(seat: &Seat) -> bool {
+        seat.keeps_nodes()
     }
 }

@@ -1,5 +1,6 @@
 //! Calls of a world, from their begin to their reply.
 use history::{Body, Op, Reply};
+use line_table::Line;
 use step_machine::{Stepped, WorldOf};
 
 /// How many steps a call takes at most where no other actor is in a call.
@@ -40,6 +41,25 @@ pub fn told<const B: u32>(
     for taken in 1..=most {
         match world.step(actor).ok()? {
             Stepped::Ended(_, reply) => return Some((reply, taken)),
+            _ => {}
+        }
+    }
+    None
+}
+
+/// Begins a call of an actor that keeps its nodes, and takes so many steps of it at most: the reply. Where a value is taken,
+/// the actor gives up in place of freeing the node, which goes to its pocket.
+pub fn told_keeping<const B: u32>(
+    world: &mut WorldOf<B>,
+    actor: u16,
+    op: Op,
+    most: u32,
+) -> Option<Reply> {
+    world.begin(actor, op).ok()?;
+    for _ in 0..most {
+        match world.step(actor).ok()? {
+            Stepped::Ended(_, reply) => return Some(reply),
+            Stepped::Went(Line::D13 | Line::B6) => return world.give(actor).ok(),
             _ => {}
         }
     }

@@ -1,9 +1,10 @@
 -- What the step calls ask of the table, and what they answer.
-use Rattle.std.proofs.Common.{◌≡◌, ◌≢◌, ℕ, ◌+◌, ◌-◌, ◌<◌, nat_lt, List, [], Some, slice_get, sym, refl, ap, ◌∙◌, subst, arith}
+use Rattle.std.proofs.Common.{◌≡◌, ◌≢◌, ℕ, ◌+◌, ◌-◌, ◌*◌, ◌^◌, ◌<◌, nat_lt, List, [], Some, slice_get, sym, refl, ap, ◌∙◌, subst, arith}
 use Rattle.std.specs.List.{count_by}
 use Rattle.std.proofs.lemmas.List.Sums.{sum_by-append}
 use Rattle.atomic_table.specs.Table.{Me, Allows}
 use Rattle.atomic_table.specs.declared.shared.Seat.{Seat as Token}
+use Rattle.counted_ref.proofs.Words.{span_most}
 use Rattle.line_table.specs.declared.lines.Line.{Line}
 use Rattle.history.specs.declared.operations.Entry.{Entry}
 use Rattle.line_steps.specs.Actors.{Actor}
@@ -15,18 +16,33 @@ use Rattle.node_arena.specs.declared.seats.Seat.{Seat}
 use Rattle.node_arena.specs.Traces.{entries_at, number_at, step_at}
 use Rattle.node_arena.specs.Prologues.{Prologue, after_prologue}
 use Rattle.node_arena.specs.Seeing.{View, seated, knows}
+use Rattle.node_arena.specs.Places.{place}
 use Rattle.node_arena.specs.Plans.{Layout}
 use Rattle.node_arena.specs.Rule.{Holds, Steps, Fitted, Tells, TellsNothing, line_or_first}
 use Rattle.history.specs.Entries.{is_push, is_pop, is_shut}
 use Rattle.node_arena.specs.Seats.{MayStep, DidStep, DidSome, view, pocket_of, shut_by, counting}
-use Rattle.node_arena.proofs.There.{stood, place_within}
+use Rattle.node_arena.proofs.Placed.{place_there}
+use Rattle.node_arena.proofs.There.{stood, index_within}
 use Rattle.node_arena.proofs.StepsPreserve.{becomes, allows}
 use Rattle.node_arena.proofs.Counting.{Counts, loads_nothing, clears_nothing, stores_counted, wins_counted, loses_nothing}
 
+-- the index of a step is that of one of the words
+names_a_word : (r : Arena) (s : Seat) (prologue : Prologue) (l : Line) (x : WordStep) → MayStep r s prologue l x → word_index x < 6 + 2 * r.plan.setup.size
+names_a_word r s prologue l x may =
+    let h = index_within r.plan (view s).number (after_prologue r.plan.setup (view s).number prologue (view s).actor) l (stood r.plan (view s) prologue l may.seat.sits.fitted may.leads may.line) in
+    omega (arith, h, ap word_index may.access)
+
+-- so its place is a number of 64 bits
+pub has_a_place : (r : Arena) (s : Seat) (prologue : Prologue) (l : Line) (x : WordStep) → MayStep r s prologue l x → word_index x + 42 < 2 ^ 64
+has_a_place r s prologue l x may =
+    let sized = may.seat.arena.sized in
+    let small : r.plan.setup.size < 2 ^ 32 = omega (arith, sized.numbered, span_most r.plan.setup.bits sized.split) in
+    omega (arith, names_a_word r s prologue l x may, small)
+
 -- what a step on a word asks of the table
 pub asks : (r : Arena) (s : Seat) (prologue : Prologue) (l : Line) (x : WordStep) → MayStep r s prologue l x
-    → (s.token.table_id ≡ r.id) × (word_index x < r.id.words)
-    × Allows {S = ℕ} (Holds r.key) r.id.slots s.token.id s.token.me (word_index x) (becomes x) (λ n m. Tells r.key prologue s.token.me n m)
+    → (s.token.table_id ≡ r.id) × (place (word_index x) < r.id.words)
+    × Allows {S = ℕ} (Holds r.key) r.id.slots s.token.id s.token.me (place (word_index x)) (becomes x) (λ n m. Tells r.key prologue s.token.me n m)
 asks r s prologue l x may = (
   may.seat.sits.table,
   there,
@@ -34,16 +50,13 @@ asks r s prologue l x may = (
       (subst (λ n. slice_get r.plan.roles (n - 1) ≡ Some s.role) may.seat.sits.number may.seat.sits.role) may.permits may.access,
 )
   where
-    there : word_index x < r.id.words
-    there =
-        let h = place_within r.plan (view s).number (after_prologue r.plan.setup (view s).number prologue (view s).actor) l (stood r.plan (view s) prologue l may.seat.sits.fitted may.leads may.line) in
-        let e = ap word_index may.access in
-        omega (arith, h, e, may.seat.arena.words)
+    there : place (word_index x) < r.id.words
+    there = place_there r.id.words (word_index x) (omega (arith, names_a_word r s prologue l x may, may.seat.arena.words))
 
 -- a store is told nothing
 pub asks_store : (r : Arena) (s : Seat) (prologue : Prologue) (l : Line) (p n : ℕ) → MayStep r s prologue l (store_at p n)
-    → (s.token.table_id ≡ r.id) × (p < r.id.words)
-    × Allows {S = ℕ} (Holds r.key) r.id.slots s.token.id s.token.me p (λ _. n) (λ _ m. TellsNothing r.key prologue s.token.me m)
+    → (s.token.table_id ≡ r.id) × (place p < r.id.words)
+    × Allows {S = ℕ} (Holds r.key) r.id.slots s.token.id s.token.me (place p) (λ _. n) (λ _ m. TellsNothing r.key prologue s.token.me m)
 asks_store r s prologue l p n may =
     let h = asks r s prologue l (store_at p n) may in
     (h.0, h.1, λ st holds size mine fit. let q = h.2 st holds size mine fit in (q.0, q.1, q.2, q.3, (_, q.4)))
@@ -65,8 +78,8 @@ module _ (r : Arena) (s : Seat) (t : Token ℕ Knowing) (prologue : Prologue) (l
   abbrev es : List Entry
   es = entries_at r.plan.setup steps.was (view s).number a l
 
-  did : (u : Seat) → u.token ≡ t → u.number ≡ s.number → u.role ≡ s.role → pocket_of u ≡ pocket_of s → u.failed ≡ s.failed → u.pushes ≡ s.pushes + count_by is_push es → u.pops ≡ s.pops + count_by is_pop es → u.shut ≡ nat_lt 0 (count_by is_shut (view s).mine + count_by is_shut es) → DidStep r s u prologue l n
-  did u token number role pocket failed pushes pops shut = record {
+  did : (u : Seat) → u.token ≡ t → u.number ≡ s.number → u.role ≡ s.role → u.keeps ≡ s.keeps → pocket_of u ≡ pocket_of s → u.failed ≡ s.failed → u.pushes ≡ s.pushes + count_by is_push es → u.pops ≡ s.pops + count_by is_pop es → u.shut ≡ nat_lt 0 (count_by is_shut (view s).mine + count_by is_shut es) → DidStep r s u prologue l n
+  did u token number role keeps pocket failed pushes pops shut = record {
     seat = record {
       arena = may.seat.arena;
       sits = record {
@@ -80,7 +93,7 @@ module _ (r : Arena) (s : Seat) (t : Token ℕ Knowing) (prologue : Prologue) (l
         pops = pops ∙ (ap (λ k. k + count_by is_pop es) may.seat.sits.pops ∙ (sym (sum_by-append _ (view s).mine es) ∙ (ap (count_by is_pop) (sym steps.mine) ∙ ap (λ y. count_by is_pop (knows y.me.0).mine) (sym token))));
       };
     };
-    stored = record { number = number; role = role; pocket = pocket; failed = failed };
+    stored = record { number = number; role = role; keeps = keeps; pocket = pocket; failed = failed };
     told = subst (λ y. Steps r.plan prologue l n (view s) (knows y.me.0)) (sym token) steps;
   }
 
@@ -88,11 +101,11 @@ module _ (r : Arena) (s : Seat) (t : Token ℕ Knowing) (prologue : Prologue) (l
   stepped = record s { token = t }
 
   did_nothing : es ≡ [] → DidStep r s stepped prologue l n
-  did_nothing e = did stepped refl refl refl refl refl (let h : count_by is_push es ≡ 0 = ap (count_by is_push) e in omega arith) (let h : count_by is_pop es ≡ 0 = ap (count_by is_pop) e in omega arith)
+  did_nothing e = did stepped refl refl refl refl refl refl (let h : count_by is_push es ≡ 0 = ap (count_by is_push) e in omega arith) (let h : count_by is_pop es ≡ 0 = ap (count_by is_pop) e in omega arith)
       (may.seat.sits.shut ∙ ap (nat_lt 0) (let h : count_by is_shut es ≡ 0 = ap (count_by is_shut) e in let k : count_by is_shut (view s).mine ≡ count_by is_shut (view s).mine + count_by is_shut es = omega arith in k))
 
   did_counted : Counts l es → DidStep r s (counting stepped l) prologue l n
-  did_counted c = did (counting stepped l) refl refl refl refl refl (ap (λ k. s.pushes + k) (sym c.pushes)) (ap (λ k. s.pops + k) (sym c.pops))
+  did_counted c = did (counting stepped l) refl refl refl refl refl refl (ap (λ k. s.pushes + k) (sym c.pushes)) (ap (λ k. s.pops + k) (sym c.pops))
       (ap (shut_by l) may.seat.sits.shut ∙ c.shut (count_by is_shut (view s).mine))
 
 -- the seat's actor, as it stands before the step

@@ -3,6 +3,7 @@ use Rattle.std.proofs.Common.{false, ◌≡◌, ◌≢◌, ◌⊎◌, ℕ, ◌+�
 use Rattle.std.specs.List.{count_by}
 use Rattle.std.proofs.lemmas.List.Elements.{All-nil}
 use Rattle.std.proofs.Math.ListN.{length-replicate}
+use Rattle.std.proofs.lemmas.List.{length-set}
 use mathlib.Core.Option.{some, some-injective, some-ne-none}
 use lib.ListN.{get_elem?}
 use Rattle.atomic_table.specs.Table.{Me, Splits, opening}
@@ -26,9 +27,11 @@ use Rattle.history.specs.Entries.{is_push, is_pop, is_shut}
 use Rattle.history.specs.Seats.{IsNoted}
 use Rattle.node_arena.specs.Seats.{IsArena}
 use Rattle.node_arena.specs.Seeing.{SeatView, View, keeper, seated, members, knows, new_seat, dealt_left, dealt_right}
+use Rattle.node_arena.specs.Places.{place, shared_words}
 use Rattle.node_arena.specs.Plans.{Layout, IsPlanned, RolesPermit, IsTable}
 use Rattle.node_arena.specs.Rule.{Fits, Holds, Fitted, first_view}
 use Rattle.node_arena.specs.Making.{first_memory_words, IsDealt, AreDealt, IsNewSeat}
+use Rattle.node_arena.proofs.Placed.{length-shared_words, shared_words-set, shared_words-blank}
 use Rattle.node_arena.proofs.Tracing.{changed_here, changed_else}
 use Rattle.node_arena.proofs.StepsPreserve.{one_of}
 
@@ -56,6 +59,25 @@ blank_words bits (suc k) (suc (suc m)) e = λ i. null_word bits i ∷ 0 ∷ blan
 first_word : (bits : ℕ) → ref_word bits (ref 1 0) ≡ 1
 first_word bits = omega arith
 
+-- the words of a table that is 0 but at the places of Fresh, Head and Tail, which are 1
+pub lie_first : (nodes p q r : ℕ) (table : List ℕ) → table ≡ replicate (48 + 2 * nodes) 0 → p ≡ place 0 → q ≡ place 2 → r ≡ place 3 → shared_words (set (set (set table p 1) q 1) r 1) ≡ first_memory_words nodes
+lie_first nodes p q r table blank fresh head tail =
+    let words : ℕ = 48 + 2 * nodes in
+    let one : List ℕ = set (replicate words 0) (place 0) 1 in
+    let two : List ℕ = set one (place 2) 1 in
+    let a : length (replicate {A = ℕ} words 0) ≡ words = length-replicate words 0 in
+    let b : length one ≡ words = length-set (replicate words 0) (place 0) 1 ∙ a in
+    let c : length two ≡ words = length-set one (place 2) 1 ∙ b in
+    (λ i. shared_words (set (set (set (blank i) (fresh i) 1) (head i) 1) (tail i) 1)) ∙
+    (shared_words-set two 3 1 (omega (arith, c)) ∙
+    (ap (λ ws. set ws 3 1) (shared_words-set one 2 1 (omega (arith, b))) ∙
+    (ap (λ ws. set (set ws 2 1) 3 1) (shared_words-set (replicate words 0) 0 1 (omega (arith, a))) ∙
+    (ap (λ ws. set (set (set ws 0 1) 2 1) 3 1) (shared_words-blank words (6 + 2 * nodes) (omega arith)) ∙
+    begins (2 * nodes)))))
+  where
+    begins : (n : ℕ) → set (set (set (replicate {A = ℕ} (6 + n) 0) 0 1) 2 1) 3 1 ≡ 1 ∷ 0 ∷ 1 ∷ 1 ∷ 0 ∷ 0 ∷ replicate n 0
+    begins n = ap (λ k. set (set (set (replicate {A = ℕ} k 0) 0 1) 2 1) 3 1) (let h : 6 + n ≡ suc (suc (suc (suc (suc (suc n))))) = omega arith in h)
+
 opening_words : (s : Setup) (actors : ℕ) → first_memory_words s.size ≡ memory_words s.bits (machine.opening s actors).shared
 opening_words s actors = sym (λ i. 1 ∷ null_word s.bits i ∷ first_word s.bits i ∷ first_word s.bits i ∷ 0 ∷ 0 ∷ blank_words s.bits s.size (2 * s.size) refl i)
 
@@ -67,8 +89,8 @@ idle_at (suc n) (suc k) h = idle_at n k (omega arith)
 idle_actor : (s : Setup) (n k : ℕ) → 1 ≤ k → k ≤ n → actor_of (machine.opening s n) k ≡ Some idle
 idle_actor s n k from_one few = ap (λ b. if b then None else slice_get (replicate n idle) (k - 1)) (ne_eqb k 0 (omega arith)) ∙ idle_at n (k - 1) (omega arith)
 
--- the rule holds of a new table, whose words are the first ones
-pub opens : (z : Layout) (words : List ℕ) → IsPlanned z → words ≡ first_memory_words z.setup.size → Holds z (opening {S = ℕ} words [] (first_view z))
+-- the rule holds of a new table, in which the first words lie
+pub opens : (z : Layout) (words : List ℕ) → IsPlanned z → shared_words words ≡ first_memory_words z.setup.size → Holds z (opening {S = ℕ} words [] (first_view z))
 opens z words size e =
     let t : Traced = first_trace z.setup (length z.roles) in
     record {
@@ -153,13 +175,15 @@ new_seats r seats arena all k s got =
       number = d.number;
       pocket = d.pocket;
       failed = d.failed;
+      keeps = d.keeps;
     }
 
--- a table of the first words, made about a plan, is laid out for it
-pub laid : (z about : Layout) (t : TableId) → IsPlanned z → about ≡ z → t.words ≡ length (first_memory_words z.setup.size) → t.slots ≡ 0 → IsTable z about t
-laid z about t sized key words slots =
+-- a table in which the first words lie, made about a plan, is laid out for it
+pub laid : (z about inside : Layout) (t : TableId) (words table : List ℕ) → IsPlanned z → about ≡ z → inside ≡ z → t.words ≡ length table → table ≡ words → shared_words words ≡ first_memory_words inside.setup.size → t.slots ≡ 0 → IsTable z about t
+laid z about inside t words table sized key same count is first slots =
     let e : length (replicate {A = ℕ} (2 * z.setup.size) 0) ≡ 2 * z.setup.size = length-replicate {A = ℕ} (2 * z.setup.size) 0 in
-    record { sized = sized; key = key; words = words ∙ (let h : length (first_memory_words z.setup.size) ≡ 6 + 2 * z.setup.size = omega arith in h); slots = slots }
+    let now : shared_words table ≡ first_memory_words z.setup.size = ap shared_words is ∙ (first ∙ ap (λ (y : Layout). first_memory_words y.setup.size) same) in
+    record { sized = sized; key = key; words = omega (arith, count, e, ap length now, length-shared_words table); slots = slots }
 
 -- a new seat fits to the world in which nothing happened yet
 newly : (z : Layout) (n : ℕ) → IsPlanned z → 1 ≤ n → n ≤ length z.roles → Fitted z (new_seat n)
@@ -174,7 +198,7 @@ newly z n sized least few =
 
 -- a seat with the token of a number that was dealt
 pub dealt : (z : Layout) (t : TableId) (n : ℕ) (role : Role) (k : Token ℕ Knowing) → IsPlanned z → 1 ≤ n → n ≤ length z.roles → slice_get z.roles (n - 1) ≡ Some role → k.table_id ≡ t → k.me ≡ (seated (new_seat n), [])
-    → IsDealt z t n record { token = k; number = n; role = role; full = false; held = record { node = 0; mark = 0 }; failed = 0; pushes = 0; pops = 0; shut = false }
+    → IsDealt z t n record { token = k; number = n; role = role; full = false; held = record { node = 0; mark = 0 }; failed = 0; pushes = 0; pops = 0; shut = false; keeps = false }
 dealt z t n role k sized least few permits table me =
     let is : knows k.me.0 ≡ new_seat n = ap (λ (y : Me ℕ View). knows y.0) me in
     record {
@@ -192,4 +216,5 @@ dealt z t n role k sized least few permits table me =
       number = refl;
       pocket = refl;
       failed = refl;
+      keeps = refl;
     }

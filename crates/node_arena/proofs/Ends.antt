@@ -20,10 +20,9 @@ use Rattle.history.specs.Rests.{left_of, taken_of, whole_of, was_shut_of}
 use Rattle.history.specs.Closing.{pushes_of, pops_of, shuts_of, Closes}
 use Rattle.history.proofs.Sums.{AreApart, closes}
 use Rattle.line_steps.specs.declared.actors.Setup.{Setup}
-use Rattle.line_steps.specs.Actors.{Node}
 use Rattle.line_steps.specs.Memory.{Shared, Head, Next, Value_of, node_at}
 use Rattle.step_machine.specs.Machine.{World, IsReached}
-use Rattle.step_machine.specs.Words.{node_words, memory_words}
+use Rattle.step_machine.specs.Words.{memory_words}
 use Rattle.step_machine.specs.Tables.{SharedFits}
 use Rattle.step_machine.specs.Range.{WorldInRange}
 use Rattle.step_machine.specs.Places.{IsEnd, IsQueueChain}
@@ -39,20 +38,18 @@ use Rattle.node_arena.specs.Arenas.{Arena}
 use Rattle.node_arena.specs.declared.seats.Seat.{Seat}
 use Rattle.node_arena.specs.Traces.{Traced, IsTraced}
 use Rattle.node_arena.specs.Seeing.{View, gathered}
+use Rattle.node_arena.specs.Places.{shared_words}
 use Rattle.node_arena.specs.Plans.{Layout, RolesPermit}
 use Rattle.node_arena.specs.Rule.{Fits, Holds}
 use Rattle.node_arena.specs.Seats.{IsReady, view, known_of, permits_of}
 use Rattle.node_arena.specs.Closing.{HasToken, CountsItsOwn}
 use Rattle.line_steps.specs.Words.{value_of}
 use Rattle.node_arena.specs.Remains.{ref_at, end_of, front_of, HasNode, HaveValues, AreLeft, IsQueue}
+use Rattle.node_arena.proofs.There.{length-node_words}
 use Rattle.node_arena.proofs.Tracing.{traced_reached}
 use Rattle.node_arena.proofs.Histories.{history_plays, counts_pops}
 use Rattle.node_arena.proofs.Reading.{read_back, value_parts}
 use Rattle.node_arena.proofs.Lefts.{same_values}
-
-length-node_words : (bits : ℕ) (ns : List Node) → length (node_words bits ns) ≡ 2 * length ns
-length-node_words bits [] = refl
-length-node_words bits (n ∷ ns) = omega (arith, length-node_words bits ns)
 
 -- the number at a chain's end is that by whether it is a closed end
 ended : (bits : ℕ) → IsSplit bits → (n : ℕ) → IsEnd bits n → n ≡ end_of bits (nat_eq n (reserved_node bits))
@@ -142,7 +139,7 @@ got_map f [] k x e = cc
 got_map f (y ∷ ys) zero x e = let same : y ≡ x = cc in ap (λ z. some (f z)) same
 got_map f (y ∷ ys) (suc k) x e = got_map f ys k x e
 
-ends_at : (z : Layout) (seats : List Seat) (id : ℕ) (words slots : List ℕ) → Final (Seen (Holds z) id (gathered (map view seats))) words slots → Ends z seats words
+ends_at : (z : Layout) (seats : List Seat) (id : ℕ) (words slots : List ℕ) → Final (Seen (Holds z) id (gathered (map view seats))) words slots → Ends z seats (shared_words words)
 ends_at z seats id words slots t =
     let h : Holds z t.0 = t.1.0 in
     let u : View = gathered (map view seats) in
@@ -151,14 +148,14 @@ ends_at z seats id words slots t =
       trace = h.trace;
       reached = h.reached;
       setup = h.setup;
-      words_are = sym t.2 ∙ h.words;
+      words_are = ap shared_words (sym t.2) ∙ h.words;
       permitted = h.permitted;
       fits = λ k s got. h.fits id k u (view s) at_id (got_map view seats k s got);
       apart = λ k l a b x y e. ap (λ (q : ℕ × ℕ). q.1) (sym (h.owned id k u (view a) at_id (got_map view seats k a x)).0 ∙ (ap h.owner e ∙ (h.owned id l u (view b) at_id (got_map view seats l b y)).0));
     }
 
 -- the same at the names of a call
-pub ends : (z key : Layout) (seats : List Seat) (id : ℕ) (me : Me ℕ View) (words slots : List ℕ) → key ≡ z → me ≡ (gathered (map view seats), []) → Final (Seen (Holds key) id me.0) words slots → Ends z seats words
+pub ends : (z key : Layout) (seats : List Seat) (id : ℕ) (me : Me ℕ View) (words slots : List ℕ) → key ≡ z → me ≡ (gathered (map view seats), []) → Final (Seen (Holds key) id me.0) words slots → Ends z seats (shared_words words)
 ends z key seats id me words slots same is t = ends_at z seats id words slots (subst (λ (y : Layout × Me ℕ View). Final (Seen (Holds y.0) id y.1.0) words slots) (λ i. (same i, is i)) t)
 
 -- the words are those of a queue

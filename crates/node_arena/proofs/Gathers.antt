@@ -1,5 +1,5 @@
 -- A token that gathers those of seats that are closed. No move of the world is made.
-use Rattle.std.proofs.Common.{◌≡◌, ◌≢◌, ℕ, ◌+◌, ◌*◌, ◌<◌, arith, List, [], ◌∷◌, ◌++◌, length, map, set, slice_index, sym, refl, ap, ◌∙◌, subst, ⊎_elim}
+use Rattle.std.proofs.Common.{◌≡◌, ◌≢◌, ℕ, ◌+◌, ◌-◌, ◌*◌, ◌<◌, arith, List, [], ◌∷◌, ◌++◌, length, map, get_or, set, slice_index, sym, refl, ap, ◌∙◌, subst, ⊎_elim}
 use mathlib.Core.Option.{some}
 use mathlib.Core.List.{map-append}
 use lib.ListN.{get_elem?}
@@ -11,11 +11,14 @@ use Rattle.node_arena.specs.declared.views.Knowing.{Knowing}
 use Rattle.node_arena.specs.declared.seats.Seat.{Seat}
 use Rattle.node_arena.specs.Traces.{changed}
 use Rattle.node_arena.specs.Seeing.{SeatView, View, keeper, gathered, seated, spent, members, both_of}
+use Rattle.node_arena.specs.Places.{place}
 use Rattle.node_arena.specs.Plans.{Layout, IsTable}
 use Rattle.node_arena.specs.Rule.{Fits, Holds, Opens}
 use Rattle.node_arena.specs.Moments.{WasWord}
 use Rattle.node_arena.specs.Seats.{view}
 use Rattle.node_arena.specs.Closing.{HasToken, HasGathered}
+use Rattle.node_arena.proofs.Placed.{place_there, length-shared_words, get_or-shared_words}
+use Rattle.node_arena.proofs.There.{words_there}
 use Rattle.node_arena.proofs.Tracing.{changed_here, changed_else}
 use Rattle.node_arena.proofs.Deals.{at_end}
 use Rattle.node_arena.proofs.Meets.{views_now, no_one}
@@ -66,15 +69,28 @@ enters key slots word s h none fit = (
   refl,
 )
 
--- a word with a number below that of the words is one of the table's
-pub look_there : (z key : Layout) (t : TableId) (word size : ℕ) → IsTable z key t → size ≡ z.setup.size → word < 6 + 2 * size → word < t.words
-look_there z key t word size h same less = omega (arith, h.words, same, less)
+-- an index below the number of words is that of one of them, which has a place in the table
+pub look_there : (z key : Layout) (t : TableId) (word size : ℕ) → IsTable z key t → size ≡ z.setup.size → word < 6 + 2 * size → place word < t.words
+look_there z key t word size h same less = place_there t.words word (omega (arith, h.words, same, less))
 
--- a new token for a look at a word, which then is one of a world
-pub peeks : (key : Layout) (slots word : ℕ) → Enters {S = ℕ} (Holds key) slots word (λ n w. WasWord key word n)
-peeks key slots word s h none fit =
-    let new = enters key slots word s h none fit in
-    (new.0, new.1, record { was = h.trace; reached = h.reached; setup = h.setup; peopled = h.actors; held = ap (λ ws. slice_index ws word) h.words })
+-- the word that lies at a place held this number at some moment
+abbrev pub WasAt : Layout → (p n : ℕ) → Type 0
+WasAt z p n = (i : ℕ) → place i ≡ p → i < 6 + 2 * z.setup.size → WasWord z i n
+
+-- a new token for a look at a place, where a word of a world then lies
+pub peeks : (key : Layout) (slots p : ℕ) → Enters {S = ℕ} (Holds key) slots p (λ n w. WasAt key p n)
+peeks key slots p s h none fit =
+    let new = enters key slots p s h none fit in (
+      new.0,
+      new.1,
+      λ i at less.
+          let there : i < length s.words - 42 = omega (arith, less, words_there key s h, length-shared_words s.words) in
+          record { was = h.trace; reached = h.reached; setup = h.setup; peopled = h.actors; held = ap (λ q. get_or s.words q 0) (sym at) ∙ (sym (get_or-shared_words s.words i there) ∙ ap (λ ws. slice_index ws i) h.words) },
+    )
+
+-- the same in words of the plan
+pub held_at : (z key : Layout) (t : TableId) (p word size n : ℕ) → IsTable z key t → p ≡ place word → size ≡ z.setup.size → word < 6 + 2 * size → WasAt key p n → WasWord z word n
+held_at z key t p word size n h at same less was = subst (λ y. WasWord y word n) h.key (was word (sym at) (omega (arith, ap (λ (y : Layout). y.setup.size) h.key, same, less)))
 
 -- the same at the names of a call
 pub gathers_at : (key : Layout) (id other : ℕ) (vs : List SeatView) (me him : Me ℕ View) (w : SeatView) → me ≡ (gathered vs, []) → him ≡ (seated w, []) → Joins {S = ℕ} (Holds key) id me.0 other him.0 (both_of me.0 him.0) spent

@@ -7,6 +7,7 @@ pub mod Noting
 pub mod Paths
 pub mod Reading
 pub mod Seens
+pub mod Placed
 pub mod There
 pub mod Known
 pub mod Rooms

@@ -9,6 +9,7 @@ use Rattle.history.specs.Entries.{is_push, is_pop, is_shut}
 use Rattle.history.specs.Seats.{IsNoted}
 use Rattle.node_arena.specs.Traces.{Traced, changed}
 use Rattle.node_arena.specs.Seeing.{SeatView, View, keeper, seated, paired, spent, members, knows, knows_second, both_of, first_of, second_of}
+use Rattle.node_arena.specs.Places.{shared_words}
 use Rattle.node_arena.specs.Plans.{Layout}
 use Rattle.node_arena.specs.Rule.{Fits, Holds, Fitted, Met}
 use Rattle.std.specs.List.{All, count_by}
@@ -35,7 +36,7 @@ views_now z s h words views own same all some_keeper = record {
   reached = h.reached;
   setup = h.setup;
   actors = h.actors;
-  words = same ∙ h.words;
+  words = ap shared_words same ∙ h.words;
   permitted = h.permitted;
   dealt = h.dealt;
   home = h.home;
@@ -220,8 +221,8 @@ meeting r s o k a b i j h left right here there =
       one = sits_so r s a (record (view s) { seen = h.all }) i here one refl refl refl h.first_fits;
       other = sits_so r o b (record (view o) { seen = h.all }) j there two refl refl refl h.second_fits;
       all = h.all;
-      first = record { stored = record { number = refl; role = refl; pocket = refl; failed = refl }; knows = ap (λ (y : Me ℕ View). knows y.0) one; more = h.first_rest; begins = h.first };
-      second = record { stored = record { number = refl; role = refl; pocket = refl; failed = refl }; knows = ap (λ (y : Me ℕ View). knows y.0) two; more = h.second_rest; begins = h.second };
+      first = record { stored = record { number = refl; role = refl; keeps = refl; pocket = refl; failed = refl }; knows = ap (λ (y : Me ℕ View). knows y.0) one; more = h.first_rest; begins = h.first };
+      second = record { stored = record { number = refl; role = refl; keeps = refl; pocket = refl; failed = refl }; knows = ap (λ (y : Me ℕ View). knows y.0) two; more = h.second_rest; begins = h.second };
     }
 
 -- the plan by which a meeting is told is the arena's

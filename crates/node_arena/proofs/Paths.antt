@@ -92,7 +92,7 @@ act_then v w x e es fs f g =
 
 -- what a seat stores stays, and then again
 pub then_stored : (s t u : Seat) → KeepsStored s t → KeepsStored t u → KeepsStored s u
-then_stored s t u f g = record { number = g.number ∙ f.number; role = g.role ∙ f.role; pocket = g.pocket ∙ f.pocket; failed = g.failed ∙ f.failed }
+then_stored s t u f g = record { number = g.number ∙ f.number; role = g.role ∙ f.role; keeps = g.keeps ∙ f.keeps; pocket = g.pocket ∙ f.pocket; failed = g.failed ∙ f.failed }
 
 -- what a seat's path has more is what was added
 pub added_path : (s t : Seat) (es : List Event) → (view t).path ≡ (view s).path ++ es → added s t ≡ es

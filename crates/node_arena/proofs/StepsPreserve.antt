@@ -28,8 +28,11 @@ use Rattle.node_arena.specs.declared.roles.Role.{Role}
 use Rattle.node_arena.specs.Traces.{Traced, IsTraced, step_at, actor_at, outcome_at, event_at, entries_at, number_at, sees}
 use Rattle.node_arena.specs.Prologues.{Prologue, after_prologue, CanStart}
 use Rattle.node_arena.specs.Seeing.{SeatView, View, keeper, seated, members, knows}
+use Rattle.node_arena.specs.Places.{place, shared_words}
 use Rattle.node_arena.specs.Plans.{Layout, RolesPermit, PermitsLine}
 use Rattle.node_arena.specs.Rule.{SawAt, Fits, IsNew, Holds, notes_of, SaysOfSeen, Steps, Tells, line_or_first}
+use Rattle.node_arena.proofs.Placed.{length-shared_words, get_or-shared_words, shared_words-set}
+use Rattle.node_arena.proofs.There.{words_there, index_within}
 use Rattle.node_arena.proofs.Tracing.{traced_reached, step_traced, step_here, step_else, step_count, changed_here, changed_else}
 use Rattle.node_arena.proofs.PrologueTraces.{Led, prologue_traced}
 use Rattle.node_arena.proofs.Histories.{counts_pops}
@@ -67,7 +70,7 @@ pub record Goes (z : Layout) (s : State ℕ View) (h : Holds z s) (v v' : SeatVi
   pub reached : IsTraced t
   pub setup : t.world.setup ≡ z.setup
   pub actors : length t.world.actors ≡ length z.roles
-  pub words' : words ≡ memory_words z.setup.bits t.world.shared
+  pub words' : shared_words words ≡ memory_words z.setup.bits t.world.shared
   pub permitted : All (RolesPermit z.roles) t.history
   pub number : v'.number ≡ v.number
   pub me : Fits t v'
@@ -215,23 +218,38 @@ module _ (z : Layout) (s : State ℕ View) (h : Holds z s) (id : ℕ) (v : SeatV
   permitted : All (RolesPermit z.roles) t.history
   permitted = subst (All (RolesPermit z.roles)) (sym history_is) (All-append (RolesPermit z.roles) h.trace.history es h.permitted (permitted_added z.setup z.roles u v.number a l role (mover_in_range u.world v.number a f.here).0 its permits))
 
-  same_words : memory_words z.setup.bits u.world.shared ≡ s.words
+  same_words : memory_words z.setup.bits u.world.shared ≡ shared_words s.words
   same_words = ap (memory_words z.setup.bits) f.shared ∙ sym h.words
 
-  words_after : (x : WordStep) → word_step z.setup.bits (action z.setup v.number a l) ≡ x → memory_words z.setup.bits t.world.shared ≡ set s.words (word_index x) (becomes x (get_or s.words (word_index x) 0))
+  words_after : (x : WordStep) → word_step z.setup.bits (action z.setup v.number a l) ≡ x → memory_words z.setup.bits t.world.shared ≡ set (shared_words s.words) (word_index x) (becomes x (get_or (shared_words s.words) (word_index x) 0))
   words_after x is =
       ap (λ (y : Setup). memory_words y.bits t.world.shared) (sym setup) ∙
       accesses_are_one_step u.world (traced_reached u led_there.1) (each_access_names_a_word u.world (traced_reached u led_there.1)) v.number a l f.here line ∙
       (λ i. table_after (word_step (setup i).bits (action (setup i) v.number a l)) ((ap (λ (y : Setup). memory_words y.bits u.world.shared) setup ∙ same_words) i)) ∙
-      ap (λ y. table_after y s.words) is ∙
-      table_after-set x s.words
+      ap (λ y. table_after y (shared_words s.words)) is ∙
+      table_after-set x (shared_words s.words)
 
-  goes : (x : WordStep) → word_step z.setup.bits (action z.setup v.number a l) ≡ x → Goes z s h v v' (set s.words (word_index x) (becomes x (get_or s.words (word_index x) 0))) t
+  -- the access is that of a word, which is read and written at its place
+  in_table : (x : WordStep) → word_step z.setup.bits (action z.setup v.number a l) ≡ x → word_index x < length s.words - 42
+  in_table x is =
+      let named = index_within z v.number a l (record { trace = u; reached = led_there.1; setup = setup; here = f.here; line = line }) in
+      omega (arith, named, ap word_index is, words_there z s h, length-shared_words s.words)
+
+  read : (x : WordStep) → word_step z.setup.bits (action z.setup v.number a l) ≡ x → get_or (shared_words s.words) (word_index x) 0 ≡ get_or s.words (place (word_index x)) 0
+  read x is = get_or-shared_words s.words (word_index x) (in_table x is)
+
+  written : (x : WordStep) → word_step z.setup.bits (action z.setup v.number a l) ≡ x → shared_words (set s.words (place (word_index x)) (becomes x (get_or s.words (place (word_index x)) 0))) ≡ memory_words z.setup.bits t.world.shared
+  written x is =
+      shared_words-set s.words (word_index x) _ (in_table x is) ∙
+      (ap (λ n. set (shared_words s.words) (word_index x) (becomes x n)) (sym (read x is)) ∙
+      sym (words_after x is))
+
+  goes : (x : WordStep) → word_step z.setup.bits (action z.setup v.number a l) ≡ x → Goes z s h v v' (set s.words (place (word_index x)) (becomes x (get_or s.words (place (word_index x)) 0))) t
   goes x is = record {
     reached = reached;
     setup = setup;
     actors = step_count u v.number a l ∙ (f.count ∙ h.actors);
-    words' = sym (words_after x is);
+    words' = written x is;
     permitted = permitted;
     number = refl;
     me = me;
@@ -240,13 +258,14 @@ module _ (z : Layout) (s : State ℕ View) (h : Holds z s) (id : ℕ) (v : SeatV
   }
 
   -- what was found is what the actor's access finds
-  found_is : (x : WordStep) → word_step z.setup.bits (action z.setup v.number a l) ≡ x → get_or s.words (word_index x) 0 ≡ number_at z.setup u v.number a l
+  found_is : (x : WordStep) → word_step z.setup.bits (action z.setup v.number a l) ≡ x → get_or s.words (place (word_index x)) 0 ≡ number_at z.setup u v.number a l
   found_is x is =
+      sym (read x is) ∙
       (λ i. get_or (sym same_words i) (word_index (sym is i)) 0) ∙
       ap (λ p. get_or (memory_words z.setup.bits u.world.shared) p 0) (place-word_step z.setup.bits (action z.setup v.number a l)) ∙
       reading z.setup.bits u.world.shared (word (action z.setup v.number a l)) (subst (λ y. IsWord u.world.shared (word (action y v.number a l))) setup (each_access_names_a_word u.world (traced_reached u led_there.1) v.number a l f.here line))
 
-  steps_told : (x : WordStep) → word_step z.setup.bits (action z.setup v.number a l) ≡ x → Steps z prologue l (get_or s.words (word_index x) 0) v v'
+  steps_told : (x : WordStep) → word_step z.setup.bits (action z.setup v.number a l) ≡ x → Steps z prologue l (get_or s.words (place (word_index x)) 0) v v'
   steps_told x is = record {
     sized = h.sized;
     was = u;
@@ -276,19 +295,19 @@ module _ (z : Layout) (s : State ℕ View) (h : Holds z s) (id : ℕ) (v : SeatV
 
 -- every line and every form of access at once
 allows_seated : (z : Layout) (id : ℕ) (v : SeatView) (prologue : Prologue) (l : Line) (x : WordStep) (role : Role) → CanStart prologue v.actor → (after_prologue z.setup v.number prologue v.actor).line ≡ Some l → slice_get z.roles (v.number - 1) ≡ Some role → PermitsLine role l → word_step z.setup.bits (action z.setup v.number (after_prologue z.setup v.number prologue v.actor) l) ≡ x
-    → Allows {S = ℕ} (Holds z) 0 id (seated v, []) (word_index x) (becomes x) (λ n m. Tells z prologue (seated v, []) n m)
+    → Allows {S = ℕ} (Holds z) 0 id (seated v, []) (place (word_index x)) (becomes x) (λ n m. Tells z prologue (seated v, []) n m)
 allows_seated z id v prologue l x role can line its permits is s h empty mine small = (
   seated (v' z s h id v mine prologue l can line role its permits),
   keeps,
   tt,
-  one_seat z s h id v (v' z s h id v mine prologue l can line role its permits) (set s.words (word_index x) (becomes x (get_or s.words (word_index x) 0))) (t z s h id v mine prologue l can line role its permits) mine (goes z s h id v mine prologue l can line role its permits x is),
-  (refl, subst (λ (k : Line). Steps z prologue k (get_or s.words (word_index x) 0) v (v' z s h id v mine prologue l can line role its permits)) (sym (ap line_or_first line)) (steps_told z s h id v mine prologue l can line role its permits x is)),
+  one_seat z s h id v (v' z s h id v mine prologue l can line role its permits) (set s.words (place (word_index x)) (becomes x (get_or s.words (place (word_index x)) 0))) (t z s h id v mine prologue l can line role its permits) mine (goes z s h id v mine prologue l can line role its permits x is),
+  (refl, subst (λ (k : Line). Steps z prologue k (get_or s.words (place (word_index x)) 0) v (v' z s h id v mine prologue l can line role its permits)) (sym (ap line_or_first line)) (steps_told z s h id v mine prologue l can line role its permits x is)),
 )
 
 -- the same at the names of a call: its table says the number of slots, and its seat the view
 pub allows : (z key : Layout) (slots id : ℕ) (me : Me ℕ View) (prologue : Prologue) (l : Line) (x : WordStep) (role : Role) → key ≡ z → slots ≡ 0 → me ≡ (seated (knows me.0), [])
     → CanStart prologue (knows me.0).actor → (after_prologue z.setup (knows me.0).number prologue (knows me.0).actor).line ≡ Some l → slice_get z.roles ((knows me.0).number - 1) ≡ Some role → PermitsLine role l → word_step z.setup.bits (action z.setup (knows me.0).number (after_prologue z.setup (knows me.0).number prologue (knows me.0).actor) l) ≡ x
-    → Allows {S = ℕ} (Holds key) slots id me (word_index x) (becomes x) (λ n m. Tells key prologue me n m)
+    → Allows {S = ℕ} (Holds key) slots id me (place (word_index x)) (becomes x) (λ n m. Tells key prologue me n m)
 allows z key slots id me prologue l x role same none is can line its permits acts =
-    let P : Layout × ℕ × Me ℕ View → Type 0 = λ y. Allows {S = ℕ} (Holds y.0) y.1 id y.2 (word_index x) (becomes x) (λ n m. Tells y.0 prologue y.2 n m) in
+    let P : Layout × ℕ × Me ℕ View → Type 0 = λ y. Allows {S = ℕ} (Holds y.0) y.1 id y.2 (place (word_index x)) (becomes x) (λ n m. Tells y.0 prologue y.2 n m) in
     subst P (λ i. (sym same i, sym none i, sym is i)) (allows_seated z id (knows me.0) prologue l x role can line its permits acts)

@@ -2,6 +2,7 @@ pub mod Machine
 pub mod Traces
 pub mod Prologues
 pub mod Seeing
+pub mod Places
 pub mod Plans
 pub mod Rule
 pub mod Seats

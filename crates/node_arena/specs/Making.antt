@@ -1,5 +1,5 @@
 -- What `Arena::new` gives, and why it is refused.
-use Rattle.std.specs.Prelude.{◌≡◌, ℕ, ◌+◌, ◌*◌, List, [], ◌∷◌, length, replicate, Some, None, slice_get}
+use Rattle.std.specs.Prelude.{◌≡◌, ℕ, ◌+◌, ◌*◌, false, List, [], ◌∷◌, length, replicate, Some, None, slice_get}
 use Rattle.atomic_table.specs.Seated.{TableId}
 use Rattle.atomic_table.specs.declared.shared.Seat.{Seat as Token}
 use Rattle.line_table.specs.declared.lines.Kind.{Kind}
@@ -13,9 +13,9 @@ use Rattle.node_arena.specs.Arenas.{Arena}
 use Rattle.node_arena.specs.declared.seats.Seat.{Seat}
 use Rattle.node_arena.specs.Seeing.{keeper, new_seat}
 use Rattle.node_arena.specs.Plans.{Layout}
-use Rattle.node_arena.specs.Seats.{IsReady, Sits, view, pocket_of, plan_of}
+use Rattle.node_arena.specs.Seats.{IsReady, Sits, view, pocket_of, keeps_of, plan_of}
 
--- the words at the start, in the order of the table: one node was used, the dummy, which Head and Tail name
+-- the shared words at the start, in the order of their indexes: one node was used, the dummy, which Head and Tail name
 abbrev pub first_memory_words : (nodes : ℕ) → List ℕ
 first_memory_words nodes = 1 ∷ 0 ∷ 1 ∷ 1 ∷ 0 ∷ 0 ∷ replicate (2 * nodes) 0
 
@@ -28,25 +28,27 @@ pub record IsKeeper (t : TableId) (k : Token ℕ Knowing) (n : ℕ) : Type 0 whe
   pub table : k.table_id ≡ t
   pub seat : k.me ≡ (keeper n, [])
 
--- a seat that was just dealt: it knows nothing, and its pocket is empty
+-- a seat that was just dealt: it knows nothing, its pocket is empty, and it keeps no nodes
 pub record IsDealt (z : Layout) (t : TableId) (n : ℕ) (s : Seat) : Type 0 where
   pub seat : Sits z t s
   pub view : view s ≡ new_seat n
   pub number : s.number ≡ n
   pub pocket : pocket_of s ≡ None
   pub failed : s.failed ≡ 0
+  pub keeps : keeps_of s ≡ false
 
 -- seats that were just dealt, numbered from 1
 abbrev pub AreDealt : Layout → TableId → List Seat → Type 0
 AreDealt z t seats = (k : ℕ) (s : Seat) → slice_get seats k ≡ Some s → IsDealt z t (k + 1) s
 
--- a new seat of an arena: it may begin a call, knows nothing, and its pocket is empty
+-- a new seat of an arena: it may begin a call, knows nothing, its pocket is empty, and it keeps no nodes
 pub record IsNewSeat (r : Arena) (n : ℕ) (s : Seat) : Type 0 where
   pub ready : IsReady r s
   pub view : view s ≡ new_seat n
   pub number : s.number ≡ n
   pub pocket : pocket_of s ≡ None
   pub failed : s.failed ≡ 0
+  pub keeps : keeps_of s ≡ false
 
 -- a new arena of a plan, with a new seat for each role, numbered from 1
 pub record IsMade (z : Layout) (r : Arena) (seats : List Seat) : Type 0 where

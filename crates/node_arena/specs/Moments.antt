@@ -12,10 +12,11 @@ use Rattle.step_machine.specs.Entries.{entries}
 use Rattle.step_machine.specs.Machine.{World, AnyMove, run, opening, actor_of, IsSized}
 use Rattle.node_arena.specs.Traces.{Traced, IsTraced}
 use Rattle.node_arena.specs.Seeing.{SeatView, View, members}
+use Rattle.node_arena.specs.Places.{shared_words}
 use Rattle.node_arena.specs.Plans.{Layout}
 use Rattle.node_arena.specs.Rule.{Holds}
 
--- a list of moves leads from the opening world to one with exactly these words, in which the actor of each seat is as the
+-- a list of moves leads from the opening world to one with exactly the shared words that lie in the table, in which the actor of each seat is as the
 -- seat says; of the pushes, pops and shuts of its operations a seat has seen the first ones, and just those by its actor are the
 -- seat's own; its history is placed and legal, and linearizable
 pub record IsLinearizableMoment (z : Layout) (s : State ℕ View) : Type 0 where
@@ -25,7 +26,7 @@ pub record IsLinearizableMoment (z : Layout) (s : State ℕ View) : Type 0 where
   pub world : World
   pub led : run moves (opening z.setup actors) ≡ Some world
   pub count : length world.actors ≡ length z.roles
-  pub words : s.words ≡ memory_words z.setup.bits world.shared
+  pub words : shared_words s.words ≡ memory_words z.setup.bits world.shared
   pub seats : (j i : ℕ) (u : View) (v : SeatView) → get_elem? s.views j ≡ some u → get_elem? (members u) i ≡ some v → actor_of world v.number ≡ Some v.actor
   pub own : (j i : ℕ) (u : View) (v : SeatView) → get_elem? s.views j ≡ some u → get_elem? (members u) i ≡ some v → own_entries v.number (entries world) ≡ v.mine
   pub begins : (j i : ℕ) (u : View) (v : SeatView) → get_elem? s.views j ≡ some u → get_elem? (members u) i ≡ some v → IsPrefix v.seen (entries world)

@@ -58,5 +58,5 @@ IsPlanned z = IsSized z.setup (length z.roles)
 pub record IsTable (z about : Layout) (t : TableId) : Type 0 where
   pub sized : IsPlanned z
   pub key : about ≡ z
-  pub words : t.words ≡ 6 + 2 * z.setup.size
+  pub words : t.words ≡ 48 + 2 * z.setup.size
   pub slots : t.slots ≡ 0

@@ -19,6 +19,7 @@ use Rattle.step_machine.specs.Machine.{idle, actor_of}
 use Rattle.node_arena.specs.Traces.{Traced, IsTraced, step_at, actor_at, outcome_at, event_at, entries_at, number_at, sees}
 use Rattle.node_arena.specs.Prologues.{Prologue, after_prologue}
 use Rattle.node_arena.specs.Seeing.{SeatView, View, keeper, gathered, seated, paired, members, knows}
+use Rattle.node_arena.specs.Places.{shared_words}
 use Rattle.node_arena.specs.Plans.{Layout, IsPlanned, RolesPermit}
 
 -- what an actor found before a line at which its call may answer that the queue is empty, or shut. Before D5, where it read
@@ -54,15 +55,15 @@ pub record IsNew (t : Traced) (n : ℕ) : Type 0 where
   pub path : t.paths n ≡ []
   pub own : own_entries n t.history ≡ []
 
--- the rule: there is a traced world, which moves lead to, with exactly these words, to which each seat fits; no two
--- seats have one number, and no entry is of a seat whose role doesn't permit it
+-- the rule: there is a traced world, which moves lead to, with exactly the shared words that lie in the table, to which
+-- each seat fits; no two seats have one number, and no entry is of a seat whose role doesn't permit it
 pub record Holds (z : Layout) (s : State ℕ View) : Type 0 where
   pub sized : IsPlanned z
   pub trace : Traced
   pub reached : IsTraced trace
   pub setup : trace.world.setup ≡ z.setup
   pub actors : length trace.world.actors ≡ length z.roles
-  pub words : s.words ≡ memory_words z.setup.bits trace.world.shared
+  pub words : shared_words s.words ≡ memory_words z.setup.bits trace.world.shared
   pub permitted : All (RolesPermit z.roles) trace.history
   pub dealt : ℕ
   pub home : ℕ

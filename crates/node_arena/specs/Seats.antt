@@ -1,5 +1,5 @@
 -- What clauses say of an arena and its seats.
-use Rattle.std.specs.Prelude.{◌≡◌, ℕ, ◌+◌, ◌-◌, ◌^◌, ◌<◌, nat_lt, List, [], ◌++◌, Option, Some, None, slice_get, Bool, true, false}
+use Rattle.std.specs.Prelude.{◌≡◌, ℕ, ◌+◌, ◌-◌, ◌^◌, ◌<◌, nat_lt, List, [], ◌++◌, Option, Some, None, slice_get, Bool, true, false, ◌&&◌}
 use Rattle.std.specs.List.{count_by}
 use Rattle.std.specs.Option.{is_some, unwrap_or}
 use Rattle.line_table.specs.declared.lines.Line.{Line}
@@ -17,7 +17,7 @@ use Rattle.node_arena.specs.Arenas.{Arena}
 use Rattle.node_arena.specs.declared.seats.Seat.{Seat}
 use Rattle.node_arena.specs.Prologues.{Prologue, after_prologue, at_rest, CanStart}
 use Rattle.node_arena.specs.Seeing.{SeatView, seated, knows, known_by}
-use Rattle.node_arena.specs.Plans.{Layout, IsTable, PermitsLine, permits_by}
+use Rattle.node_arena.specs.Plans.{Layout, IsTable, PermitsLine, permits_by, may_push, may_pop}
 use Rattle.node_arena.specs.Rule.{Steps, Fitted}
 
 -- the plan of an arena
@@ -66,6 +66,14 @@ failed_of s = s.failed
 abbrev pub keeping : Seat → Option Held → ℕ → Seat
 keeping s pocket failed = record s { full = is_some pocket; held = unwrap_or pocket s.held; failed = failed }
 
+-- whether a seat keeps a node that comes free at its pop
+abbrev pub keeps_of : Seat → Bool
+keeps_of s = s.keeps
+
+-- a seat that was told whether to keep its nodes: it does where it may push and pop too
+abbrev pub told_to_keep : Seat → Bool → Seat
+told_to_keep s keeps = record s { keeps = keeps && may_push s.role && may_pop s.role }
+
 -- the arena's table is laid out for its plan
 abbrev pub IsArena : Arena → Type 0
 IsArena r = IsTable r.plan r.key r.id
@@ -91,17 +99,19 @@ pub record IsSeat (r : Arena) (s : Seat) : Type 0 where
 abbrev pub EachSeatIsSound : Type 0
 EachSeatIsSound = (r : Arena) (s : Seat) → IsSeat r s → IsSound (permits_of r) (known_of s)
 
--- the seat keeps its number, its role, its pocket and its count of failed turns
+-- the seat keeps its number, its role, whether it keeps nodes, its pocket and its count of failed turns
 pub record KeepsStored (s t : Seat) : Type 0 where
   pub number : t.number ≡ s.number
   pub role : t.role ≡ s.role
+  pub keeps : keeps_of t ≡ keeps_of s
   pub pocket : pocket_of t ≡ pocket_of s
   pub failed : t.failed ≡ s.failed
 
--- a seat is the same one by its number and its role
+-- a seat is the same one by its number and its role, and keeps nodes as before
 pub record KeepsName (s t : Seat) : Type 0 where
   pub number : t.number ≡ s.number
   pub role : t.role ≡ s.role
+  pub keeps : keeps_of t ≡ keeps_of s
 
 -- how many pushes a line counts
 abbrev pub pushes_at : Line → ℕ

@@ -68,6 +68,7 @@ fn gather(table: &WordTable, gatherer: &mut SeatToken, seats: Vec<Seat>)
             pushes: _,
             pops: _,
             shut: _,
+            keeps: _,
         } = seat;
         let shared = &table.shared;
         shared.join_seat::<Gather>(gatherer, token);

@@ -32,6 +32,7 @@ fn deal(table: &WordTable, keeper: &mut SeatToken, plan: &Plan, number: u16, rol
         pushes: 0,
         pops: 0,
         shut: false,
+        keeps: false,
     }
 }
 

@@ -9,6 +9,7 @@ mod making;
 mod meeting;
 mod packing;
 mod peeking;
+mod places;
 mod plans;
 mod remains;
 mod roles;

@@ -2,11 +2,13 @@
 ghost use Rattle.std.specs.Prelude.{◌*◌, ◌^◌, ◌≡◌, ◌<◌, IfOk, IfErr, OnOk};
 ghost use Rattle.counted_ref.specs.Ref.{IsSplit};
 ghost use Rattle.line_steps.specs.declared.actors.Setup.{Setup as Setups};
+ghost use Rattle.node_arena.specs.Places.{shared_words};
 ghost use Rattle.node_arena.specs.Plans.{IsPlanned};
 ghost use Rattle.node_arena.specs.Making.{first_memory_words, IsMade, NewRefused};
 
 use crate::arena::ArenaOf;
 use crate::dealing::deal_all;
+use crate::places::place;
 use crate::plans::Plan;
 use crate::roles::Role;
 use crate::seats::Seat;
@@ -20,12 +22,12 @@ use step_machine::Setup;
 // The words at the start: one node was used, and Head and Tail name it.
 fn words_at_start(alloc: Global, nodes: u32) -> Result<Vec<u64>, AllocError>
     requires { nodes < 2 ^ 32 }
-    ensures { IfOk result (λ v. v.items ≡ first_memory_words nodes) }
+    ensures { IfOk result (λ v. shared_words v.items ≡ first_memory_words nodes) }
 {
-    let mut words = vec![in alloc; 0u64; 6 + 2 * nodes as usize]?;
-    words[0] = 1;
-    words[2] = 1;
-    words[3] = 1;
+    let mut words = vec![in alloc; 0u64; 48 + 2 * nodes as usize]?;
+    words[place(0)] = 1;
+    words[place(2)] = 1;
+    words[place(3)] = 1;
     Ok(words)
 }
 

@@ -4,6 +4,7 @@ ghost use Rattle.node_arena.specs.Seats.{plan_of, setup_of};
 ghost use Rattle.node_arena.specs.Moments.{WasWord};
 
 use crate::arena::ArenaOf;
+use crate::places::place;
 use std::marker::Brand;
 
 impl<const B: u32> ArenaOf<B> {
@@ -15,7 +16,7 @@ impl<const B: u32> ArenaOf<B> {
     {
         if word < 6 + 2 * self.setup().size as usize {
             let shared = &self.table.shared;
-            Some(shared.load_new_seat::<Brand>(word).0)
+            Some(shared.load_new_seat::<Brand>(place(word)).0)
         } else {
             None
         }

@@ -5,9 +5,11 @@ ghost use Rattle.std.specs.Slots.{slots_items, IsFull};
 ghost use Rattle.counted_ref.specs.Ref.{IsSplit};
 ghost use Rattle.history.specs.Rests.{left_of, taken_of, whole_of, was_shut_of};
 ghost use Rattle.line_steps.specs.Words as words;
+ghost use Rattle.node_arena.specs.Places.{shared_words};
 ghost use Rattle.node_arena.specs.Remains.{ref_at, HasNode, HaveValues, HasValues};
 ghost use Rattle.node_arena.specs.Remains.{AreLeft, IsQueue};
 
+use crate::places::place;
 use atomic_table::Closed;
 use counted_ref::{CountedRefOf, shut_node};
 use history::{Rest, Taken};
@@ -32,37 +34,39 @@ struct Chain {
     shut: bool,
 }
 
-fn word_at(closed: &ClosedTable, place: usize) -> u64
+// The shared word with an index.
+fn word_at(closed: &ClosedTable, index: usize) -> u64
     requires full { IsFull closed.now.words }
-    requires there { place < length (slots_items closed.now.words) }
-    ensures { result ≡ slice_index (slots_items closed.now.words) place }
+    requires there { index < length (shared_words (slots_items closed.now.words)) }
+    ensures { result ≡ slice_index (shared_words (slots_items closed.now.words)) index }
 {
-    closed.word(place)
+    closed.word(place(index))
 }
 
-fn reference_at<const B: u32>(closed: &ClosedTable, place: usize) -> CountedRefOf<B>
+fn reference_at<const B: u32>(closed: &ClosedTable, index: usize) -> CountedRefOf<B>
     requires split { IsSplit B }
     requires full { IsFull closed.now.words }
-    requires there { place < length (slots_items closed.now.words) }
-    ensures { result ≡ ref_at B (slots_items closed.now.words) place }
+    requires there { index < length (shared_words (slots_items closed.now.words)) }
+    ensures { result ≡ ref_at B (shared_words (slots_items closed.now.words)) index }
 {
-    CountedRefOf::of_word(word_at(closed, place))
+    CountedRefOf::of_word(word_at(closed, index))
 }
 
 // The node that a node names as the next one.
 fn next_of<const B: u32>(closed: &ClosedTable, node: u32) -> u32
     requires split { IsSplit B }
     requires full { IsFull closed.now.words }
-    requires there { HasNode (slots_items closed.now.words) node }
-    ensures { result ≡ (ref_at B (slots_items closed.now.words) (4 + 2 * node)).node }
+    requires there { HasNode (shared_words (slots_items closed.now.words)) node }
+    ensures { result ≡ (ref_at B (shared_words (slots_items closed.now.words)) (4 + 2 * node)).node }
 {
     reference_at::<B>(closed, 4 + 2 * node as usize).node()
 }
 
 fn value_at(closed: &ClosedTable, node: u32) -> Taken
     requires full { IsFull closed.now.words }
-    requires there { HasNode (slots_items closed.now.words) node }
-    ensures { result ≡ words.value_of (slice_index (slots_items closed.now.words) (5 + 2 * node)) }
+    requires there { HasNode (shared_words (slots_items closed.now.words)) node }
+    ensures { result ≡ words.value_of
+        (slice_index (shared_words (slots_items closed.now.words)) (5 + 2 * node)) }
 {
     value_of(word_at(closed, 5 + 2 * node as usize))
 }
@@ -71,9 +75,11 @@ fn value_at(closed: &ClosedTable, node: u32) -> Taken
 fn values_from<const B: u32>(closed: &ClosedTable, first: u32, mut values: Vec<Taken>) -> Chain
     requires split { IsSplit B }
     requires full { IsFull closed.now.words }
-    requires some { HasValues B (slots_items closed.now.words) first (vec_capacity values) }
+    requires some { HasValues B (shared_words (slots_items closed.now.words)) first
+        (vec_capacity values) }
     requires empty { values.items ≡ [] }
-    ensures { HaveValues B (slots_items closed.now.words) result.shut first result.values.items }
+    ensures { HaveValues B (shared_words (slots_items closed.now.words)) result.shut first
+        result.values.items }
 {
     let end = shut_node(B);
     let mut node = first;
@@ -92,10 +98,11 @@ fn values_from<const B: u32>(closed: &ClosedTable, first: u32, mut values: Vec<T
 pub(crate) fn rest_of<const B: u32>(closed: &ClosedTable, made: Made, room: Vec<Taken>) -> Rest
     requires split { IsSplit B }
     requires full { IsFull closed.now.words }
-    requires queue { IsQueue B (slots_items closed.now.words) (vec_capacity room) }
+    requires queue { IsQueue B (shared_words (slots_items closed.now.words)) (vec_capacity room) }
     requires empty { room.items ≡ [] }
-    ensures left { AreLeft B (slots_items closed.now.words) (was_shut_of result) (left_of result) }
-    ensures taken { taken_of result ≡ (ref_at B (slots_items closed.now.words) 2).count }
+    ensures left { AreLeft B (shared_words (slots_items closed.now.words)) (was_shut_of result)
+        (left_of result) }
+    ensures taken { taken_of result ≡ (ref_at B (shared_words (slots_items closed.now.words)) 2).count }
     ensures whole { IsTrue (whole_of result) ↔
         ((made.pops ≡ taken_of result) × (made.pushes ≡ taken_of result + length (left_of result)) ×
         (IsTrue (was_shut_of result) → IsTrue made.shut)) }

@@ -1,5 +1,6 @@
 //! A seat, and what it stores.
 ghost use Rattle.std.specs.Prelude.{◌≡◌};
+ghost use Rattle.node_arena.specs.Arenas.{Arena};
 
 use crate::roles::Role;
 use crate::views::SeatToken;
@@ -20,10 +21,13 @@ pub struct Seat {
     pub(crate) pops: u64,
     // Whether a shut of the queue was its own.
     pub(crate) shut: bool,
+    // Whether a node that comes free at a pop of its own stays in the pocket.
+    pub(crate) keeps: bool,
 }
 
 impl Seat {
-    ghost use Rattle.node_arena.specs.Seats.{number_of, role_of, pocket_of, failed_of, keeping, counting, HasRoom};
+    ghost use Rattle.node_arena.specs.Seats.{number_of, role_of, pocket_of, failed_of, keeps_of};
+    ghost use Rattle.node_arena.specs.Seats.{IsReady, known_of, keeping, told_to_keep, counting, HasRoom};
     ghost use Rattle.node_arena.specs.Plans as plans;
 
     // Counts the push, the pop or the shut that a line makes.
@@ -71,6 +75,29 @@ impl Seat {
         ensures { result ≡ pocket_of self.now }
     {
         if self.full { Some(self.held) } else { None }
+    }
+
+    /// Tells a seat that may push and pop whether to keep its nodes: whether a node that comes free at its pop stays in the
+    /// pocket, for its next push, in place of being given back. A new seat keeps none, and one that may only push or only
+    /// pop never does, whatever it is told. Takes no memory and doesn't wait.
+    ///
+    /// ```rust
+    /// // From here on a pop of this seat ends where it took the value, and its next push needs no node from the free list.
+    /// seat.keep_nodes(true);
+    /// ```
+    pub fn keep_nodes(&mut self, keeps: bool)
+        ensures ready { (r : Arena) → IsReady r self.old → IsReady r self.new }
+        ensures known { known_of self.new ≡ known_of self.old }
+        ensures told { self.new ≡ told_to_keep self.old keeps }
+    {
+        self.keeps = keeps && self.may_push() && self.may_pop();
+    }
+
+    /// Whether the seat keeps its nodes.
+    pub fn keeps_nodes(&self) -> bool
+        ensures { result ≡ keeps_of self.now }
+    {
+        self.keeps
     }
 
     /// How many turns of the seat's last take or give back failed.

@@ -5,6 +5,7 @@ ghost use Rattle.node_arena.specs.Prologues.{Prologue};
 ghost use Rattle.node_arena.specs.Seats.{MayStep, DidStep, DidSome};
 
 use crate::arena::ArenaOf;
+use crate::places::place;
 use crate::seats::Seat;
 use line_table::Line;
 use std::marker::Brand;
@@ -19,7 +20,9 @@ impl<const B: u32> ArenaOf<B> {
         ensures { DidStep self.now seat.old seat.new prologue line result }
     {
         let _ = line;
-        self.table.shared.load::<Brand>(&mut seat.token, word)
+        self.table
+            .shared
+            .load::<Brand>(&mut seat.token, place(word))
     }
 
     /// One store into a word: the seat's next move, at this line. The seat counts a push, a pop or a shut that it makes.
@@ -32,7 +35,7 @@ impl<const B: u32> ArenaOf<B> {
     {
         self.table
             .shared
-            .store::<Brand>(&mut seat.token, word, value);
+            .store::<Brand>(&mut seat.token, place(word), value);
         seat.count(line);
     }
 
@@ -47,7 +50,7 @@ impl<const B: u32> ArenaOf<B> {
         let _ = line;
         self.table
             .shared
-            .fetch_and::<Brand>(&mut seat.token, word, mask)
+            .fetch_and::<Brand>(&mut seat.token, place(word), mask)
     }
 
     /// One compare-exchange of a word: the seat's next move, at this line. It writes `new` where the word is `old`;
@@ -71,7 +74,7 @@ impl<const B: u32> ArenaOf<B> {
         let found = self
             .table
             .shared
-            .compare_exchange::<Brand>(&mut seat.token, word, old, new);
+            .compare_exchange::<Brand>(&mut seat.token, place(word), old, new);
         if found == old {
             seat.count(line);
             Ok(found)

@@ -67,7 +67,7 @@ fill_worn r s t a out why node body spent turns is f =
     let rest : at_rest (view t).actor ≡ (view t).actor = ap (out_of (view t).actor) k.over in
     record {
       ready = record { seat = kept_seat r t None spent k.seat; free = ap (λ b. b.line) rest ∙ k.over; pocket = sym (ap (λ b. b.pocket) rest ∙ k.pocket) };
-      same = record { number = f.stored.number; role = f.stored.role };
+      same = record { number = f.stored.number; role = f.stored.role; keeps = f.stored.keeps };
       pushed = tt;
       refused = subst (λ y. StopsAPush s (keeping t None spent) y × PutRefused push_worn r s (keeping t None spent) node spent turns y) (sym k.is) (
         subst (ExtendsPath (view s) (view t)) (sym e) f.walks,
@@ -148,7 +148,7 @@ module _ (r : Arena) (s t u : Seat) (h : Held) (val spent n turns : ℕ) (a : Ru
       let rest : at_rest (view u).actor ≡ (view u).actor = ap (out_of (view u).actor) k.turned.over in
       record {
         ready = record { seat = kept_seat r u None n k.turned.seat; free = ap (λ b. b.line) rest ∙ k.turned.over; pocket = sym (ap (λ b. b.pocket) rest ∙ k.turned.empty) };
-        same = record { number = name.number; role = name.role };
+        same = record { number = name.number; role = name.role; keeps = name.keeps };
         pushed = (
           subst (Acts (view s) (view u) (Push (view s).number (value_of val).body)) (sym e) acts,
           refl,
@@ -170,7 +170,7 @@ module _ (r : Arena) (s t u : Seat) (h : Held) (val spent n turns : ℕ) (a : Ru
           let rest : at_rest (view u).actor ≡ (view u).actor = ap (out_of (view u).actor) over in
           record {
             ready = record { seat = kept_seat r u (Some h) n seat; free = ap (λ b. b.line) rest ∙ over; pocket = sym (ap (λ b. b.pocket) rest ∙ pocket) };
-            same = record { number = name.number; role = name.role };
+            same = record { number = name.number; role = name.role; keeps = name.keeps };
             pushed = tt;
             refused = refused;
           }
@@ -216,7 +216,7 @@ gives_up_put r s t h val spent turns less g =
         free = ap (λ b. b.line) rest;
         pocket = sym (ap (λ b. b.pocket) rest ∙ (λ i. Some (record { node = k.hand.node i; mark = k.hand.mark i })));
       };
-      same = record { number = g.stored.number; role = g.stored.role };
+      same = record { number = g.stored.number; role = g.stored.role; keeps = g.stored.keeps };
       pushed = tt;
       refused = (subst (ExtendsPath (view s) (view t)) (sym e) g.walks, (ap (λ es. spent + failed_turns es) e ∙ g.failed, ends_failed s (keeping t (Some h) turns) g.lines e (g.last less), refl));
     }

@@ -25,7 +25,7 @@ shuts_out r s h kind =
     record {
       before = record { seat = h.seat; can = (refl, h.free); line = ap (λ k. Some (shuts k)) kind };
       pocket = sym h.pocket;
-      stored = record { number = refl; role = refl; pocket = refl; failed = refl };
+      stored = record { number = refl; role = refl; keeps = refl; pocket = refl; failed = refl };
       lines = [];
       walks = no_walk (view s);
       failed = refl;
@@ -56,7 +56,7 @@ module _ (r : Arena) (s t : Seat) (p : Option Held) (n : ℕ) (is : p ≡ pocket
   same_pocket = pocket_of-keeping t p n ∙ is
 
   same_name : KeepsName s (keeping t p n)
-  same_name = record { number = stored.number; role = stored.role }
+  same_name = record { number = stored.number; role = stored.role; keeps = stored.keeps }
 
   -- where the call is over, or its actor stands before a line at which it may give up
   ready_again : HasPocket r t continues → (at_rest (view t).actor).line ≡ None → (at_rest (view t).actor).pocket ≡ (view t).actor.pocket → IsReady r (keeping t p n)

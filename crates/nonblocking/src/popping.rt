@@ -62,8 +62,8 @@ fn pop_turn<const B: u32>(arena: &ArenaOf<B>, seat: &mut Seat, index: u32) -> Tu
     }
 }
 
-// One turn and, where it ends the pop, the answer: a node that comes free is given back with the turns that are left.
-// Before it `index` turns of this pop failed, and `failed` of its call.
+// One turn and, where it ends the pop, the answer: a node that comes free stays in the pocket of a seat that keeps its
+// nodes, and else is given back with the turns that are left. Before it `index` turns of this pop failed, and `failed` of its call.
 fn pop_by_turn<const B: u32>(
     arena: &ArenaOf<B>,
     seat: &mut Seat,
@@ -81,7 +81,9 @@ fn pop_by_turn<const B: u32>(
         Turn::Took(word, held) => {
             let taken = value_of(word);
             seat.keep(Some(held), failed);
-            let _ = give_back(arena, seat, turns - failed);
+            if !seat.keeps_nodes() {
+                let _ = give_back(arena, seat, turns - failed);
+            }
             Some(Ok(Some(taken)))
         }
         Turn::Failed => None,

@@ -9,7 +9,6 @@ mod seating;
 mod shutting;
 mod tallies;
 
-use crate::closing::Verdict;
 use crate::measuring::{Work, Works};
 use crate::queues::{Sizes, Which, shut_rounds, stressed, worked};
 use node_arena::MOST_COUNT;
@@ -24,6 +23,7 @@ const LONG: Sizes = Sizes {
     nodes: 65,
     limit: MOST_COUNT,
     pairs: 500_000,
+    keeps: false,
 };
 
 /// How often each of the four threads pushes and pops in the short runs, where refusals are ordinary.
@@ -33,8 +33,8 @@ const FEW_PAIRS: u32 = 100;
 const SHUTS: u32 = 100;
 
 /// The words that the program understands.
-const USAGE: &str =
-    "queue_stress [two-lock|non-blocking [one|four|pair|strict|taker|two|shut COUNT | run NODES LIMIT PAIRS]]";
+const USAGE: &str = "queue_stress [two-lock|non-blocking [shut COUNT | \
+    [kept] one|four|pair|strict|taker|two COUNT | [kept] run NODES LIMIT PAIRS]]";
 
 // The works of a kind, by its name.
 fn works_of(name: &str) -> Works {
@@ -64,43 +64,50 @@ fn works_of(name: &str) -> Works {
     }
 }
 
-// Whether a short run of so many nodes and this greatest count came out right: a node holds one value at most, and the dummy
-// none.
-fn is_good<R: Threads + Wait + Sync>(
-    rt: &R,
-    alloc: Global,
-    which: Which,
-    nodes: u32,
-    limit: u64,
-) -> bool {
-    let sizes = Sizes {
-        nodes,
-        limit,
-        pairs: FEW_PAIRS,
-    };
+// Whether a short run of these sizes came out right: a node holds one value at most, and the dummy none.
+fn is_good<R: Threads + Wait + Sync>(rt: &R, alloc: Global, which: Which, sizes: Sizes) -> bool {
     match stressed(rt, alloc, which, sizes) {
         Some(verdict) => {
-            verdict.in_order && verdict.each_once && verdict.whole && verdict.found < nodes
+            verdict.in_order && verdict.each_once && verdict.whole && verdict.found < sizes.nodes
         }
         None => false,
     }
 }
 
-// A run of the sizes that these words are; none where one of them is no number, or memory is refused.
-fn run_of<R: Threads + Wait + Sync>(
-    rt: &R,
-    alloc: Global,
-    which: Which,
-    nodes: &str,
-    limit: &str,
-    pairs: &str,
-) -> Option<Verdict> {
-    let sizes = Sizes {
+// The sizes that these words are; none where one of them is no number.
+fn sizes_of(nodes: &str, limit: &str, pairs: &str, keeps: bool) -> Option<Sizes> {
+    Some(Sizes {
         nodes: nodes.parse().ok()?,
         limit: limit.parse().ok()?,
         pairs: pairs.parse().ok()?,
-    };
-    stressed(rt, alloc, which, sizes)
+        keeps,
+    })
+}
+
+// The long run and the short ones of a queue, whose seats keep their nodes or don't.
+fn print_runs<R: Threads + Wait + Sync + Print>(
+    rt: &R,
+    alloc: Global,
+    which: Which,
+    keeps: bool,
+) -> io::Result<()> {
+    let name = which.name();
+    let kept = if keeps { ", nodes kept" } else { "" };
+    let long = stressed(rt, alloc, which, Sizes { keeps, ..LONG });
+    println!(rt; "{name}, {} nodes{kept}: {long:?}", LONG.nodes)?;
+    for nodes in 2..=4 {
+        for limit in 1..=5 {
+            let sizes = Sizes {
+                nodes,
+                limit,
+                pairs: FEW_PAIRS,
+                keeps,
+            };
+            let good = is_good(rt, alloc, which, sizes);
+            println!(rt; "{name}, {nodes} nodes, greatest count {limit}{kept}: {good}")?;
+        }
+    }
+    Ok(())
 }
 
 fn main(rt: HostRuntime) -> io::Result<()> {
@@ -114,10 +121,15 @@ fn main(rt: HostRuntime) -> io::Result<()> {
     if name.is_some() && asked.is_none() {
         return println!(rt; "{USAGE}");
     }
-    if let (Some(which), Some(kind), Some(count)) = (asked, words.next(), words.next()) {
+    let mut kind = words.next();
+    let keeps = matches!(&kind, Some(word) if word.as_str() == "kept");
+    if keeps {
+        kind = words.next();
+    }
+    if let (Some(which), Some(kind), Some(count)) = (asked, kind, words.next()) {
         if let (Some(limit), Some(pairs)) = (words.next(), words.next()) {
-            let (nodes, limit, pairs) = (count.as_str(), limit.as_str(), pairs.as_str());
-            let verdict = run_of(&rt, rt.alloc(), which, nodes, limit, pairs);
+            let sizes = sizes_of(count.as_str(), limit.as_str(), pairs.as_str(), keeps);
+            let verdict = sizes.and_then(|sizes| stressed(&rt, rt.alloc(), which, sizes));
             return println!(rt; "{verdict:?}");
         }
         if kind.as_str() == "shut" {
@@ -126,24 +138,24 @@ fn main(rt: HostRuntime) -> io::Result<()> {
             return println!(rt; "{right} of {rounds} right");
         }
         let pairs = count.as_str().parse().unwrap_or(LONG.pairs);
+        let sizes = Sizes {
+            pairs,
+            keeps,
+            ..LONG
+        };
         let works = works_of(kind.as_str());
         let start = Instant::now(&rt)?;
-        worked(&rt, rt.alloc(), which, Sizes { pairs, ..LONG }, works);
+        worked(&rt, rt.alloc(), which, sizes, works);
         return println!(rt; "{}", start.elapsed(&rt)?.as_nanos());
     }
     for which in Which::ALL {
         if asked.is_some() && asked != Some(which) {
             continue;
         }
-        let name = which.name();
-        let long = stressed(&rt, rt.alloc(), which, LONG);
-        println!(rt; "{name}, {} nodes: {long:?}", LONG.nodes)?;
-        for nodes in 2..=4 {
-            for limit in 1..=5 {
-                let good = is_good(&rt, rt.alloc(), which, nodes, limit);
-                println!(rt; "{name}, {nodes} nodes, greatest count {limit}: {good}")?;
-            }
+        for keeps in [false, true] {
+            print_runs(&rt, rt.alloc(), which, keeps)?;
         }
+        let name = which.name();
         let right = shut_rounds(&rt, rt.alloc(), which, SHUTS);
         println!(rt; "{name}, shut while four threads push and pop: {right} of {SHUTS} right")?;
     }

@@ -3,7 +3,7 @@ ghost use Rattle.std.specs.List.{All};
 
 use crate::closing::{Verdict, judged, judged_shut};
 use crate::measuring::{Works, all};
-use crate::seating::{last, last_four};
+use crate::seating::{Keeping, last, last_four, last_four_keeping};
 use history::Fifo;
 use node_arena::{MOST_COUNT, Role};
 use nonblocking::MsQueue;
@@ -61,9 +61,11 @@ pub struct Sizes {
     pub limit: u64,
     /// How often each of the four threads pushes and pops.
     pub pairs: u32,
+    /// Whether the seats keep their nodes.
+    pub keeps: bool,
 }
 
-fn judged_with<R: Threads + Wait + Sync, Q: Fifo + Sync + Drop>(
+fn judged_with<R: Threads + Wait + Sync, Q: Keeping + Sync + Drop>(
     rt: &R,
     alloc: Global,
     queue: Q,
@@ -72,7 +74,7 @@ fn judged_with<R: Threads + Wait + Sync, Q: Fifo + Sync + Drop>(
 ) -> Option<Verdict>
     requires { All (Q.is_seat queue) seats.items }
 {
-    let seats = last_four(&queue, seats)?;
+    let seats = last_four_keeping(&queue, seats, sizes.keeps)?;
     judged(rt, alloc, queue, seats, sizes.pairs, sizes.nodes)
 }
 
@@ -96,17 +98,17 @@ pub fn stressed<R: Threads + Wait + Sync>(
     }
 }
 
-fn worked_with<R: Threads + Wait + Sync, Q: Fifo + Sync + Drop>(
+fn worked_with<R: Threads + Wait + Sync, Q: Keeping + Sync + Drop>(
     rt: &R,
     queue: Q,
     seats: Vec<Q::Seat>,
     works: Works,
-    count: u32,
+    sizes: Sizes,
 )
     requires { All (Q.is_seat queue) seats.items }
 {
-    if let Some(seats) = last_four(&queue, seats) {
-        all(rt, &queue, seats, works, count);
+    if let Some(seats) = last_four_keeping(&queue, seats, sizes.keeps) {
+        all(rt, &queue, seats, works, sizes.pairs);
     }
 }
 
@@ -118,20 +120,16 @@ pub fn worked<R: Threads + Wait + Sync>(
     sizes: Sizes,
     works: Works,
 ) {
-    let Sizes {
-        nodes,
-        limit,
-        pairs,
-    } = sizes;
+    let Sizes { nodes, limit, .. } = sizes;
     match which {
         Which::TwoLock => {
             if let Ok((queue, seats)) = TwoLockQueue::new(alloc, nodes, limit, &ROLES) {
-                worked_with(rt, queue, seats, works, pairs);
+                worked_with(rt, queue, seats, works, sizes);
             }
         }
         Which::NonBlocking => {
             if let Ok((queue, seats)) = MsQueue::new(alloc, nodes, limit, &ROLES) {
-                worked_with(rt, queue, seats, works, pairs);
+                worked_with(rt, queue, seats, works, sizes);
             }
         }
     }

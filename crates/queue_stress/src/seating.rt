@@ -1,10 +1,27 @@
 //! Four seats of one queue.
-ghost use Rattle.std.specs.Prelude.{IfSome};
+ghost use Rattle.std.specs.Prelude.{◌≡◌, IfSome};
 ghost use Rattle.std.specs.List.{All};
 ghost use Rattle.queue_stress.specs.Seated.{MayCall, AreFour};
 
+use arena_queue::{Algorithm, ArenaQueueOf};
 use history::Fifo;
+use node_arena::Seat;
 use std::alloc::Global;
+
+/// A queue whose seats can be told to keep their nodes.
+pub trait Keeping: Fifo {
+    /// Tells a seat to keep its nodes.
+    fn keep_nodes(&self, seat: &mut Self::Seat)
+        requires { Self.is_seat self.now seat.old }
+        ensures seat { Self.is_seat self.now seat.new }
+        ensures number { (Self.known seat.new).number ≡ (Self.known seat.old).number };
+}
+
+impl<A: Algorithm<B>, const B: u32> Keeping for ArenaQueueOf<A, B> {
+    fn keep_nodes(&self, seat: &mut Seat) {
+        seat.keep_nodes(true);
+    }
+}
 
 /// Four seats, one for each thread.
 #[derive(Drop)]
@@ -44,6 +61,25 @@ pub fn last_four<Q: Fifo>(queue: &Q, mut seats: Vec<Q::Seat>) -> Option<Four<Q::
         three,
         four,
     })
+}
+
+/// The last four of these seats, where each may push and pop, which keep their nodes or don't.
+pub fn last_four_keeping<Q: Keeping>(
+    queue: &Q,
+    seats: Vec<Q::Seat>,
+    keeps: bool,
+) -> Option<Four<Q::Seat>>
+    requires { All (Q.is_seat queue.now) seats.items }
+    ensures { IfSome result (AreFour Q.is_seat Q.permits Q.known queue.now) }
+{
+    let mut four = last_four(queue, seats)?;
+    if keeps {
+        queue.keep_nodes(&mut four.one);
+        queue.keep_nodes(&mut four.two);
+        queue.keep_nodes(&mut four.three);
+        queue.keep_nodes(&mut four.four);
+    }
+    Some(four)
 }
 
 /// The four seats as a list; none where memory is refused.

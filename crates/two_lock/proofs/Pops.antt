@@ -12,7 +12,7 @@ use Rattle.node_arena.specs.Traces.{Event}
 use Rattle.node_arena.specs.Prologues.{continues, at_rest, out_of}
 use Rattle.node_arena.specs.Arenas.{Arena}
 use Rattle.node_arena.specs.declared.seats.Seat.{Seat}
-use Rattle.node_arena.specs.Seats.{IsReady, IsBefore, view, keeping, pocket_of}
+use Rattle.node_arena.specs.Seats.{IsReady, IsBefore, view, keeping, pocket_of, keeps_of}
 use Rattle.node_arena.specs.Turns.{failed_turns, at_b1}
 use Rattle.node_arena.specs.Paths.{ExtendsPath, added}
 use Rattle.free_list.specs.Gives.{GiveAnswers}
@@ -26,7 +26,7 @@ use Rattle.arena_lines.specs.declared.outcomes.Reply.TheVariants.{Done as IsDone
 use Rattle.two_lock.specs.Pops.{Running, popping, has_lock, Follows, Fronts, Trying}
 use Rattle.two_lock.specs.Worn.{pop_worn}
 use Rattle.arena_queue.specs.Answers.{Draws}
-use Rattle.arena_queue.proofs.Pops.{draws_late, draws_worn, draws_shut, draws_taken, draws_empty}
+use Rattle.arena_queue.proofs.Pops.{draws_late, draws_worn, draws_shut, draws_taken, draws_kept, draws_empty}
 use Rattle.two_lock.proofs.PopStands.{stands_b1, won_b1, lost_b1}
 
 -- an actor that begins a pop with this pocket
@@ -38,7 +38,7 @@ pub pops_out : (r : Arena) (s : Seat) → IsReady r s → pocket_of s ≡ None �
 pops_out r s h none two =
     record {
       before = record { seat = h.seat; can = (refl, h.free); line = ap (λ p. (set_out r s p).line) (sym h.pocket ∙ none) ∙ ap (λ k. Some (dequeues k)) two };
-      stored = record { number = refl; role = refl; pocket = refl; failed = refl };
+      stored = record { number = refl; role = refl; keeps = refl; pocket = refl; failed = refl };
       lines = [];
       walks = no_walk (view s);
       failed = refl;
@@ -84,7 +84,7 @@ module _ (r : Arena) (s t u : Seat) (n : ℕ) (g : Trying r s t n) (a : Running)
       let y : IsBefore r u continues B2 = has_got e in
       let none : failed_turns (try ∷ []) ≡ 0 = (let z : at_b1 try.to ≡ 0 = ap at_b1 (to_is r t u (popping n) B1 f.found f.did ∙ y.line) in omega arith) in
       let name = then_stored s t u g.stored f.did.stored in
-      draws_late pop_worn r s u x (g.lines ++ try ∷ []) tried spent (spent + n) turns (omega (arith, failed-append g.lines (try ∷ []), g.failed, none)) o (record { number = name.number; role = name.role }) d
+      draws_late pop_worn r s u x (g.lines ++ try ∷ []) tried spent (spent + n) turns (omega (arith, failed-append g.lines (try ∷ []), g.failed, none)) o (record { number = name.number; role = name.role; keeps = name.keeps }) d
 
 -- all turns failed
 pub pop_gives_up : (r : Arena) (s t : Seat) (spent turns n : ℕ) → 1 ≤ n → spent + n ≡ turns → Trying r s t n → Draws pop_worn r s (keeping t None turns) spent turns (Err Busy)
@@ -94,11 +94,12 @@ pop_gives_up r s t spent turns (suc m) some all g =
     let rest : at_rest (view t).actor ≡ record (view t).actor { line = None } = ap (out_of (view t).actor) g.before.line in
     record {
       ready = record { seat = kept_seat r t None turns g.before.seat; free = ap (λ b. b.line) rest; pocket = sym (ap (λ b. b.pocket) rest ∙ empty_before r t continues B1 g.before) };
-      same = record { number = g.stored.number; role = g.stored.role };
+      same = record { number = g.stored.number; role = g.stored.role; keeps = g.stored.keeps };
       path = g.walks.path ∙ ap (λ p. (view s).path ++ p) (sym e);
       answer = tt;
       few = tt;
-      freed = tt;
+      freed = λ off. tt;
+      kept = λ on. tt;
       refused = (
         subst (ExtendsPath (view s) (view t)) (sym e) g.walks,
         ((let c = ap failed_turns e in let f = g.failed in omega arith), ends_failed s (keeping t None turns) g.lines e (g.last some)),
@@ -111,8 +112,13 @@ module _ (r : Arena) (s t : Seat) (failed turns : ℕ) where
   pop_worn_out Closed f = let k = f.fronted in draws_shut pop_worn r s t failed turns f.lines f.seat k.over f.empty f.stored k.finds k.cause
   pop_worn_out _ f = let k = f.fronted in draws_worn pop_worn r s t _ OfHead failed turns f.lines f.seat k.over f.empty f.stored k.walks k.is k.cause tt
 
-  pub pop_took : (x : Seat) (l : Line) (a : Running) (h : Held) (out : Result (Unit {0}) Refusal) → failed < turns → Fronts r s t (Goes l a) → GiveAnswers r (keeping t (Some h) failed) x (turns - failed) out → Draws pop_worn r s x failed turns (Ok (Some (value_of a.val)))
-  pop_took x l a h out less f g = draws_taken pop_worn r s t x a.val h failed turns out f.lines less f.stored f.fronted.acts f.never g
+  pub pop_took : (x : Seat) (l : Line) (a : Running) (h : Held) (out : Result (Unit {0}) Refusal) → keeps_of t ≡ false → failed < turns → Fronts r s t (Goes l a) → GiveAnswers r (keeping t (Some h) failed) x (turns - failed) out → Draws pop_worn r s x failed turns (Ok (Some (value_of a.val)))
+  pop_took x l a h out keeps less f g = draws_taken pop_worn r s t x a.val h failed turns out f.lines (sym f.stored.keeps ∙ keeps) less f.stored f.fronted.acts f.never g
+
+  pub pop_kept : (l : Line) (a : Running) (h : Held) → h ≡ record { node = a.node; mark = a.mark } → keeps_of t ≡ true → failed < turns → Fronts r s t (Goes l a) → Draws pop_worn r s (keeping t (Some h) failed) failed turns (Ok (Some (value_of a.val)))
+  pop_kept l a h is keeps less f =
+      let k = f.fronted in
+      draws_kept pop_worn r s t a.val h failed turns f.lines (sym f.stored.keeps ∙ keeps) less f.seat f.stored (record { over = k.over; due = k.due; node = k.node ∙ sym (ap (λ x. x.node) is); mark = k.mark ∙ sym (ap (λ x. x.mark) is) }) k.acts f.never
 
   pop_empty : failed < turns → Fronts r s t (Ends IsEmpty) → Draws pop_worn r s (keeping t None failed) failed turns (Ok None)
   pop_empty less f = let k = f.fronted in draws_empty pop_worn r s t failed turns f.lines less f.seat k.over f.empty f.stored k.path f.never k.found

@@ -236,7 +236,7 @@ puts_it r s t u x h val a b out from body spent n turns is same g follows won li
     let rest : at_rest (view x).actor ≡ (view x).actor = ap (out_of (view x).actor) k.over in
     record {
       ready = record { seat = kept_seat r x None n k.seat; free = ap (λ b. b.line) rest ∙ k.over; pocket = sym (ap (λ b. b.pocket) rest ∙ k.links.empty) };
-      same = record { number = name.number; role = name.role };
+      same = record { number = name.number; role = name.role; keeps = name.keeps };
       pushed = (
         subst (Acts (view s) (view x) (Push (view s).number body)) (sym e) acts,
         refl,
@@ -260,7 +260,7 @@ finds_it_shut r s t u x h val a b out why body spent n turns is same g follows w
     let rest : at_rest (view x).actor ≡ (view x).actor = ap (out_of (view x).actor) k.over in
     record {
       ready = record { seat = kept_seat r x (Some h) n k.seat; free = ap (λ b. b.line) rest ∙ k.over; pocket = sym (ap (λ b. b.pocket) rest ∙ k.links.pocket) };
-      same = record { number = name.number; role = name.role };
+      same = record { number = name.number; role = name.role; keeps = name.keeps };
       pushed = tt;
       refused = subst (λ y. StopsAPush s (keeping x (Some h) n) y × PutRefused push_worn r s (keeping x (Some h) n) h.node spent turns y) (sym k.links.is) (
         subst (FindsShut (view s) (view x)) (sym e) finds,
@@ -280,7 +280,7 @@ gives_up_put r s t h val body spent turns less g =
         free = ap (λ b. b.line) rest;
         pocket = sym (ap (λ b. b.pocket) rest ∙ (λ i. Some (record { node = k.hand.node i; mark = k.hand.mark i })));
       };
-      same = record { number = g.stored.number; role = g.stored.role };
+      same = record { number = g.stored.number; role = g.stored.role; keeps = g.stored.keeps };
       pushed = tt;
       refused = (subst (ExtendsPath (view s) (view t)) (sym e) g.walks, (ap (λ es. spent + failed_turns es) e ∙ g.failed, ends_failed s (keeping t (Some h) turns) g.lines e (g.last less), refl));
     }

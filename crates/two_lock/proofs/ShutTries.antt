@@ -124,7 +124,7 @@ shuts_out r s h two =
     record {
       before = record { seat = h.seat; can = (refl, h.free); line = ap (λ k. Some (shuts k)) two };
       pocket = sym h.pocket;
-      stored = record { number = refl; role = refl; pocket = refl; failed = refl };
+      stored = record { number = refl; role = refl; keeps = refl; pocket = refl; failed = refl };
       lines = [];
       walks = no_walk (view s);
       failed = refl;
@@ -173,7 +173,7 @@ module _ (r : Arena) (s t u : Seat) (n : ℕ) (g : Trying r s t n) (a : Running)
   shut_ends x turns o e less k =
       record {
         ready = record { seat = k.seat; free = ap (λ b. b.line) rest ∙ k.over; pocket = sym (ap (λ b. b.pocket) rest ∙ k.pocket) };
-        same = record { number = name.number; role = name.role };
+        same = record { number = name.number; role = name.role; keeps = name.keeps };
         pocket = name.pocket;
         shut = shut_of o k.shuts;
         few = few_of o k.shuts;
@@ -230,7 +230,7 @@ shut_gives_up r s t turns (suc m) some all g =
     let rest : at_rest (view t).actor ≡ record (view t).actor { line = None } = ap (out_of (view t).actor) g.before.line in
     record {
       ready = record { seat = g.before.seat; free = ap (λ b. b.line) rest; pocket = sym (ap (λ b. b.pocket) rest ∙ g.pocket) };
-      same = record { number = g.stored.number; role = g.stored.role };
+      same = record { number = g.stored.number; role = g.stored.role; keeps = g.stored.keeps };
       pocket = g.stored.pocket;
       shut = tt;
       few = tt;

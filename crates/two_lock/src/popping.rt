@@ -41,7 +41,8 @@ fn read_front<const B: u32>(
     b6(arena, seat, a)
 }
 
-// With the lock, where so many turns failed before: a node that comes free is given back with the turns that are left.
+// With the lock, where so many turns failed before: a node that comes free stays in the pocket of a seat that keeps its
+// nodes, and else is given back with the turns that are left.
 fn pop_locked<const B: u32>(
     arena: &ArenaOf<B>,
     seat: &mut Seat,
@@ -60,7 +61,9 @@ fn pop_locked<const B: u32>(
             let mark = a.mark;
             let taken = value_of(a.val);
             seat.keep(Some(Held { node, mark }), failed);
-            let _ = give_back(arena, seat, turns - failed);
+            if !seat.keeps_nodes() {
+                let _ = give_back(arena, seat, turns - failed);
+            }
             Ok(Some(taken))
         }
         Outcome::Ends(reply) => {
