@@ -1,6 +1,7 @@
 //! Runs of queues, with the answers of runs worked out by hand.
 mod calls;
 mod comparing;
+mod keeping;
 mod nonblocking_runs;
 mod runs;
 mod splits;

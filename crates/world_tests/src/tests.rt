@@ -1,14 +1,4 @@
 //! What a world is led through, and what is seen of it.
-
-/// Makes a call with the fewest bits for the number of a node, with the usual ones and with the most.
-macro_rules! in_each_split {
-    ($run:ident($($given:expr),*)) => {{
-        $run::<16>($($given),*)?;
-        $run::<24>($($given),*)?;
-        $run::<32>($($given),*)?;
-    }};
-}
-
 mod answers;
 mod benches;
 mod comparing;

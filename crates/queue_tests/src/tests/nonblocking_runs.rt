@@ -5,11 +5,10 @@ ghost use Rattle.arena_queue.specs.Queues.{IsQueueSeat};
 
 use super::comparing::same;
 use super::runs::{
-    AMPLE_COUNT, GIVES_AND_SHUTS, GREATEST_COUNT, Left, ROOM_FOR_ONE, ROUNDS_COUNT,
-    TAKES_TO_THE_END, Told, a_full_queue_is_shut, a_rest_is_whole_by_its_pusher,
-    a_rest_is_whole_by_who_shut, a_shut_queue_is_emptied, closed_with_one, goes, last, leaves,
-    left_one, one_seat_pops_what_it_pushed, two_threads_pop_each_value_once,
-    values_come_in_their_order, words_of,
+    AMPLE_COUNT, GREATEST_COUNT, Left, ROOM_FOR_ONE, Told, a_full_queue_is_shut,
+    a_rest_is_whole_by_its_pusher, a_rest_is_whole_by_who_shut, a_shut_queue_is_emptied,
+    closed_with_one, goes, last, leaves, left_one, two_threads_pop_each_value_once,
+    values_come_in_their_order,
 };
 use super::waiting::waiting_calls_go_on;
 use history::{Refusal, WornWord};
@@ -52,23 +51,6 @@ const SHUT_BEHIND_A_WORN_TAIL: [Told; 4] = [
     Told::Shut(Ok(())),
     Told::Pop(Ok(Some((1, 1)))),
     Told::Pop(Err(Refusal::Closed)),
-];
-
-/// The shared words after a push of 5, a shut, a push of 6 that is refused, a pop and one that is refused: the closed end of
-/// count 1 stands in node 2, where Head and Tail are; node 1 is free, and node 3 has the body that isn't pushed.
-const SHUT_WORDS: [u64; 12] = [
-    3,
-    16_777_217,
-    16_777_218,
-    16_777_218,
-    0,
-    0,
-    16_777_216,
-    0,
-    33_554_431,
-    281_474_976_710_661,
-    0,
-    281_474_976_710_662,
 ];
 
 // A queue of so many nodes and this greatest count, with a seat for each role.
@@ -197,29 +179,6 @@ fn whole_where_who_shut_is_handed_in(rt: HostRuntime) -> Result<(), Fail> {
         a_rest_is_whole_by_who_shut(&rt, rt.alloc(), queue, seats, by_who_shut)?;
     }
     Ok(())
-}
-
-/// A push that finds the queue shut keeps its node in the pocket, and a shut leaves it there. The closed end stands behind
-/// the last node, with its count.
-#[test]
-fn the_words_of_a_shut_queue(rt: HostRuntime) -> Result<(), Fail> {
-    let roles = [Role::Giver, Role::Taker];
-    let (queue, mut seats) = queue_of(rt.alloc(), 3, AMPLE_COUNT, &roles)?;
-    let mut taker = last(&queue, &mut seats)?;
-    let mut giver = last(&queue, &mut seats)?;
-    goes(&rt, &queue, &mut giver, &GIVES_AND_SHUTS);
-    goes(&rt, &queue, &mut taker, &TAKES_TO_THE_END);
-    let pockets = (giver.pocket(), taker.pocket());
-    same(&rt, pockets, (Some(Held { node: 3, mark: 0 }), None), "");
-    same(&rt, words_of(&queue), SHUT_WORDS.map(Some), "");
-    Ok(())
-}
-
-/// One seat alone is never Busy, and pops what it just pushed; ten thousand times over, on three nodes.
-#[test]
-fn one_seat_alone(rt: HostRuntime) -> Result<(), Fail> {
-    let (queue, seats) = queue_of(rt.alloc(), 3, ROUNDS_COUNT, &[Role::Both])?;
-    one_seat_pops_what_it_pushed(&rt, rt.alloc(), queue, seats)
 }
 
 /// Two threads push and pop 1,000 times each.

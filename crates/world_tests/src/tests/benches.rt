@@ -3,13 +3,13 @@ use super::comparing::same;
 use super::expected::Answer::Value;
 use super::expected::Call::{self, Deq, Enq};
 use super::expected::{op, reply};
+use super::trials::{TWO_LOCK, world_of};
 use history::{Refusal, Reply, Stamped, Verdict, check};
-use line_table::Kind;
 use std::alloc::Global;
 use std::sync::{Mutex, Wait};
 use std::test::Fail;
 use std::thread::join;
-use step_machine::{Bench, Move, Stepped, World, on_bench, step_in};
+use step_machine::{Bench, Move, Stepped, on_bench, step_in};
 
 /// More steps than any call of this test takes.
 const MOST_STEPS: u32 = 20;
@@ -45,7 +45,7 @@ fn is_either(operation: &Stamped, popped: u32) -> bool {
 
 #[test]
 fn two_threads_share_a_world(rt: HostRuntime) -> Result<(), Fail> {
-    let bench = Mutex::new(World::new(rt.alloc(), Kind::TwoLock, 3, 100, 2)?);
+    let bench = Mutex::new(world_of(rt.alloc(), TWO_LOCK)?);
     let (pushed, popped) = join(
         &rt,
         || whole_call(&rt, &bench, 1, Enq(5)),

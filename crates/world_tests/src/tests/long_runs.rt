@@ -5,6 +5,7 @@ use super::expected::Call::{Deq, Enq};
 use super::expected::Shown::Complete;
 use super::expected::stamped;
 use super::moves::{begin, steps};
+use super::trials::{Sizes, world_of};
 use history::{Refusal, Stamped, Verdict, check};
 use line_table::Kind;
 use std::alloc::Global;
@@ -17,9 +18,16 @@ const CALLS: u32 = 100_000;
 /// How many step numbers the pushes take, 10 each.
 const PUSHED: u64 = 1_000_000;
 
+const GREATEST: Sizes = Sizes {
+    kind: Kind::TwoLock,
+    nodes: 16_777_214,
+    limit: 1_099_511_627_775,
+    actors: 65_535,
+};
+
 /// A world of the greatest sizes in which one actor pushed the numbers below CALLS, and then took each.
 fn pushed_and_popped(alloc: Global) -> Result<World, Refusal> {
-    let mut world = World::new(alloc, Kind::TwoLock, 16_777_214, 1_099_511_627_775, 65_535)?;
+    let mut world = world_of(alloc, GREATEST)?;
     for number in 0..CALLS {
         begin(&mut world, 1, Enq(number))?;
         steps(&mut world, 1, 10)?;

@@ -4,17 +4,16 @@ use super::expected::Call::{self, Deq, Enq};
 use super::expected::Shown::{self, Complete};
 use super::expected::op;
 use super::moves::steps;
-use super::trials::are;
+use super::trials::{NON_BLOCKING, are, world_of};
 use history::{Refusal, Stamped};
-use line_table::Kind;
 use std::alloc::Global;
 use std::process::Abort;
 use std::test::Fail;
 use step_machine::World;
 
 fn world_of_two_actors(alloc: Global) -> Result<World, Refusal> {
-    match World::new(alloc, Kind::NonBlocking, 3, 100, 2) {
-        Err(Refusal::Memory) => World::new(alloc, Kind::NonBlocking, 3, 100, 2),
+    match world_of(alloc, NON_BLOCKING) {
+        Err(Refusal::Memory) => world_of(alloc, NON_BLOCKING),
         answer => answer,
     }
 }

@@ -4,7 +4,7 @@ use super::events::Event::{Begin, Free, Fresh, Head, Next, Refused, Steps, Tail}
 use super::expected::Answer::{self, Done, Empty, Value};
 use super::expected::Call::{Deq, Enq};
 use super::expected::Shown::Complete;
-use super::trials::{NON_BLOCKING, Run, Sizes, all_go};
+use super::trials::{NON_BLOCKING, Run, Sizes, all_go_in_each_split};
 use history::Refusal;
 use std::test::Fail;
 
@@ -103,6 +103,5 @@ const RUNS: [Run; 6] = [
 
 #[test]
 fn runs_by_one_actor_after_another(rt: HostRuntime) -> Result<(), Fail> {
-    in_each_split!(all_go(&rt, rt.alloc(), &RUNS));
-    Ok(())
+    all_go_in_each_split(&rt, rt.alloc(), &RUNS)
 }

@@ -4,7 +4,7 @@ use super::events::Event::{At, Begin, Free, Give, Head, Next, Refused, Steps, Ta
 use super::expected::Answer::{self, Done, Empty, Value};
 use super::expected::Call::{Deq, Enq};
 use super::expected::Shown::{Complete, Effective};
-use super::trials::{NON_BLOCKING, Run, all_go};
+use super::trials::{NON_BLOCKING, Run, all_go_in_each_split};
 use history::Refusal;
 use line_table::Line;
 use std::test::Fail;
@@ -154,6 +154,5 @@ const RUNS: [Run; 7] = [
 
 #[test]
 fn runs_with_calls_that_overlap(rt: HostRuntime) -> Result<(), Fail> {
-    in_each_split!(all_go(&rt, rt.alloc(), &RUNS));
-    Ok(())
+    all_go_in_each_split(&rt, rt.alloc(), &RUNS)
 }

@@ -6,13 +6,13 @@ use super::events::Act::{self, Give, Step};
 use super::events::Event::{At, Begin, Refused, Steps};
 use super::expected::Call::{Deq, Enq};
 use super::expected::Shown::{self, Started};
-use super::trials::{NON_BLOCKING, Trial};
+use super::trials::{NON_BLOCKING, Sizes, Trial, world_of};
 use history::Refusal;
 use line_table::{Kind, Line};
 use std::alloc::Global;
 use std::process::Abort;
 use std::test::Fail;
-use step_machine::{World, WorldOf};
+use step_machine::World;
 
 /// Numbers of nodes, greatest counts and numbers of actors, of which one is out of its range with any split.
 const OUT_OF_RANGE: [(u32, u64, u32); 5] = [
@@ -30,29 +30,32 @@ const BEYOND_24: [(u32, u64, u32); 2] = [(16_777_215, 100, 2), (3, 1_099_511_627
 
 const BEYOND_32: [(u32, u64, u32); 2] = [(4_294_967_295, 100, 2), (3, 4_294_967_296, 2)];
 
-fn are_refused<const B: u32>(
-    rt: &impl Abort,
-    alloc: Global,
-    table: &[(u32, u64, u32)],
-) -> Result<(), Fail>
+fn are_refused<const B: u32>(rt: &impl Abort, alloc: Global, table: &[(u32, u64, u32)])
     requires split { IsSplit B }
 {
-    for sizes in table {
-        let (nodes, limit, actors) = *sizes;
+    for tried in table {
+        let (nodes, limit, actors) = *tried;
         for kind in [Kind::TwoLock, Kind::NonBlocking] {
-            let found = WorldOf::<B>::new(alloc, kind, nodes, limit, actors).err();
-            same(rt, found, Some(Refusal::BadSize), (kind, *sizes));
+            let sizes = Sizes {
+                kind,
+                nodes,
+                limit,
+                actors,
+            };
+            let found = world_of::<B>(alloc, sizes).err();
+            same(rt, found, Some(Refusal::BadSize), (kind, *tried));
         }
     }
-    Ok(())
 }
 
 #[test]
-fn sizes_out_of_range_are_refused(rt: HostRuntime) -> Result<(), Fail> {
-    in_each_split!(are_refused(&rt, rt.alloc(), &OUT_OF_RANGE));
-    are_refused::<16>(&rt, rt.alloc(), &BEYOND_16)?;
-    are_refused::<24>(&rt, rt.alloc(), &BEYOND_24)?;
-    are_refused::<32>(&rt, rt.alloc(), &BEYOND_32)
+fn sizes_out_of_range_are_refused(rt: HostRuntime) {
+    are_refused::<16>(&rt, rt.alloc(), &OUT_OF_RANGE);
+    are_refused::<16>(&rt, rt.alloc(), &BEYOND_16);
+    are_refused::<24>(&rt, rt.alloc(), &OUT_OF_RANGE);
+    are_refused::<24>(&rt, rt.alloc(), &BEYOND_24);
+    are_refused::<32>(&rt, rt.alloc(), &OUT_OF_RANGE);
+    are_refused::<32>(&rt, rt.alloc(), &BEYOND_32);
 }
 
 fn is_accepted<const B: u32>(
@@ -60,10 +63,16 @@ fn is_accepted<const B: u32>(
     alloc: Global,
     nodes: u32,
     limit: u64,
-) -> Result<(), Fail>
+) -> Result<(), Refusal>
     requires split { IsSplit B }
 {
-    let world = WorldOf::<B>::new(alloc, Kind::TwoLock, nodes, limit, 65_535)?;
+    let sizes = Sizes {
+        kind: Kind::TwoLock,
+        nodes,
+        limit,
+        actors: 65_535,
+    };
+    let world = world_of::<B>(alloc, sizes)?;
     same(rt, (world.setup().bits, world.fresh()), (B, 1), nodes);
     Ok(())
 }
@@ -72,7 +81,8 @@ fn is_accepted<const B: u32>(
 fn the_greatest_sizes_are_accepted(rt: HostRuntime) -> Result<(), Fail> {
     is_accepted::<16>(&rt, rt.alloc(), 65_534, 281_474_976_710_655)?;
     is_accepted::<24>(&rt, rt.alloc(), 16_777_214, 1_099_511_627_775)?;
-    is_accepted::<32>(&rt, rt.alloc(), 4_294_967_294, 4_294_967_295)
+    is_accepted::<32>(&rt, rt.alloc(), 4_294_967_294, 4_294_967_295)?;
+    Ok(())
 }
 
 /// The words of a world and the step numbers given.

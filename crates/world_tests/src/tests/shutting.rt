@@ -1,6 +1,4 @@
 //! Worked runs in which a queue is shut.
-ghost use Rattle.counted_ref.specs.Ref.{IsSplit};
-
 use super::events::Act;
 use super::events::Event::{
     At, Begin, Closed, Give, Head, Next, Pocket, Refused, Steps, Tail, Told,
@@ -10,11 +8,10 @@ use super::expected::Answer::{self, Done, Value};
 use super::expected::Call::{Deq, Enq, Shut};
 use super::expected::Shown::Complete;
 use super::expected::Word::{self, Number, Reference};
-use super::trials::{NON_BLOCKING, Run, Sizes, TWO_LOCK, TrialOf, all_go};
+use super::trials::{NON_BLOCKING, Run, Sizes, TWO_LOCK, all_go_in_each_split};
+use super::words::tell_in_each_split;
 use history::{Refusal, WornWord};
 use line_table::{Kind, Line};
-use std::alloc::Global;
-use std::process::Abort;
 use std::test::Fail;
 use step_machine::Held;
 
@@ -308,8 +305,7 @@ const RUNS: [Run; 13] = [
 
 #[test]
 fn queues_are_shut(rt: HostRuntime) -> Result<(), Fail> {
-    in_each_split!(all_go(&rt, rt.alloc(), &RUNS));
-    Ok(())
+    all_go_in_each_split(&rt, rt.alloc(), &RUNS)
 }
 
 /// The shared words after the first run.
@@ -328,23 +324,13 @@ const WORDS: [Word; 12] = [
     Number(281_474_976_710_662),
 ];
 
-fn closed_end_stands<const B: u32>(rt: &impl Abort, alloc: Global) -> Result<(), Fail>
-    requires split { IsSplit B }
-{
+#[test]
+fn a_closed_end_stands_in_the_last_next(rt: HostRuntime) -> Result<(), Fail> {
     let Run {
         name,
         sizes,
         events,
         ..
     } = RUNS[0];
-    let mut trial = TrialOf::<B>::new(alloc, name, sizes)?;
-    trial.goes(rt, events);
-    trial.tells(rt, &WORDS);
-    Ok(())
-}
-
-#[test]
-fn a_closed_end_stands_in_the_last_next(rt: HostRuntime) -> Result<(), Fail> {
-    in_each_split!(closed_end_stands(&rt, rt.alloc()));
-    Ok(())
+    tell_in_each_split(&rt, rt.alloc(), &[(name, sizes, events, &WORDS)])
 }

@@ -19,7 +19,7 @@ pub struct Sizes {
     pub kind: Kind,
     pub nodes: u32,
     pub limit: u64,
-    pub actors: u16,
+    pub actors: u32,
 }
 
 /// The sizes of most runs of the non-blocking queue.
@@ -47,6 +47,19 @@ pub struct Run {
     pub expected: &'static [Shown],
 }
 
+/// A new world of these sizes. Each call of its own of `WorldOf::new` would cost seconds of a proof.
+pub fn world_of<const B: u32>(alloc: Global, sizes: Sizes) -> Result<WorldOf<B>, Refusal>
+    requires split { IsSplit B }
+{
+    let Sizes {
+        kind,
+        nodes,
+        limit,
+        actors,
+    } = sizes;
+    WorldOf::new(alloc, kind, nodes, limit, actors)
+}
+
 /// A world, with a name for what is tried on it.
 #[derive(Drop)]
 pub struct TrialOf<const B: u32> {
@@ -57,8 +70,8 @@ pub struct TrialOf<const B: u32> {
 /// With 24 bits for the number of a node.
 pub type Trial = TrialOf<24>;
 
-/// Each of these runs is as it says.
-pub fn all_go<const B: u32>(rt: &impl Abort, alloc: Global, runs: &[Run]) -> Result<(), Fail>
+// Each of these runs is as it says.
+fn all_go<const B: u32>(rt: &impl Abort, alloc: Global, runs: &[Run]) -> Result<(), Refusal>
     requires split { IsSplit B }
 {
     for one in runs {
@@ -66,6 +79,14 @@ pub fn all_go<const B: u32>(rt: &impl Abort, alloc: Global, runs: &[Run]) -> Res
         trial.goes(rt, one.events);
         trial.shows(rt, alloc, one.expected)?;
     }
+    Ok(())
+}
+
+/// Each of these runs is as it says with the fewest bits for the number of a node, with the usual ones and with the most.
+pub fn all_go_in_each_split(rt: &impl Abort, alloc: Global, runs: &[Run]) -> Result<(), Fail> {
+    all_go::<16>(rt, alloc, runs)?;
+    all_go::<24>(rt, alloc, runs)?;
+    all_go::<32>(rt, alloc, runs)?;
     Ok(())
 }
 
@@ -91,13 +112,7 @@ impl<const B: u32> TrialOf<B> {
     pub fn new(alloc: Global, name: &'static str, sizes: Sizes) -> Result<TrialOf<B>, Refusal>
         requires split { IsSplit B }
     {
-        let Sizes {
-            kind,
-            nodes,
-            limit,
-            actors,
-        } = sizes;
-        let world = WorldOf::new(alloc, kind, nodes, limit, u32::from(actors))?;
+        let world = world_of(alloc, sizes)?;
         Ok(TrialOf { name, world })
     }
 

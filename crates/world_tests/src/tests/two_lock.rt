@@ -3,7 +3,7 @@ use super::events::Event::{At, Begin, Free, Give, Head, Next, Steps, Tail, Taken
 use super::expected::Answer::{self, Done, Empty, Value};
 use super::expected::Call::{Deq, Enq};
 use super::expected::Shown::{Complete, Started};
-use super::trials::{Run, Sizes, TWO_LOCK, all_go};
+use super::trials::{Run, Sizes, TWO_LOCK, all_go_in_each_split};
 use history::Refusal;
 use line_table::Line;
 use std::test::Fail;
@@ -81,6 +81,5 @@ const RUNS: [Run; 3] = [
 
 #[test]
 fn runs_of_the_two_lock_queue(rt: HostRuntime) -> Result<(), Fail> {
-    in_each_split!(all_go(&rt, rt.alloc(), &RUNS));
-    Ok(())
+    all_go_in_each_split(&rt, rt.alloc(), &RUNS)
 }

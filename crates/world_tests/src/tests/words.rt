@@ -5,6 +5,7 @@ use super::events::Event::{self, Begin, Steps};
 use super::expected::Call::{Deq, Enq};
 use super::expected::Word::{self, Number, Reference};
 use super::trials::{NON_BLOCKING, Sizes, TWO_LOCK, TrialOf};
+use history::Refusal;
 use std::alloc::Global;
 use std::process::Abort;
 use std::test::Fail;
@@ -56,7 +57,10 @@ const OF_NON_BLOCKING: [Word; 12] = [
     Number(0),
 ];
 
-const WORDS: [(&str, Sizes, &[Event], &[Word]); 3] = [
+/// What is tried: what a world is made of, what it goes through, and all its words then.
+pub type Row = (&'static str, Sizes, &'static [Event], &'static [Word]);
+
+const WORDS: [Row; 3] = [
     ("two-lock, at first", TWO_LOCK, &[], &AT_FIRST),
     ("two-lock", TWO_LOCK, &PUSH_AND_POP, &OF_TWO_LOCK),
     (
@@ -67,10 +71,10 @@ const WORDS: [(&str, Sizes, &[Event], &[Word]); 3] = [
     ),
 ];
 
-fn worlds_tell<const B: u32>(rt: &impl Abort, alloc: Global) -> Result<(), Fail>
+fn worlds_tell<const B: u32>(rt: &impl Abort, alloc: Global, rows: &[Row]) -> Result<(), Refusal>
     requires split { IsSplit B }
 {
-    for (name, sizes, events, words) in &WORDS {
+    for (name, sizes, events, words) in rows {
         let mut trial = TrialOf::<B>::new(alloc, name, *sizes)?;
         trial.goes(rt, events);
         trial.tells(rt, words);
@@ -78,8 +82,15 @@ fn worlds_tell<const B: u32>(rt: &impl Abort, alloc: Global) -> Result<(), Fail>
     Ok(())
 }
 
+/// Each of these worlds has these words with the fewest bits for the number of a node, with the usual ones and with the most.
+pub fn tell_in_each_split(rt: &impl Abort, alloc: Global, rows: &[Row]) -> Result<(), Fail> {
+    worlds_tell::<16>(rt, alloc, rows)?;
+    worlds_tell::<24>(rt, alloc, rows)?;
+    worlds_tell::<32>(rt, alloc, rows)?;
+    Ok(())
+}
+
 #[test]
 fn a_world_tells_its_words(rt: HostRuntime) -> Result<(), Fail> {
-    in_each_split!(worlds_tell(&rt, rt.alloc()));
-    Ok(())
+    tell_in_each_split(&rt, rt.alloc(), &WORDS)
 }

@@ -3,7 +3,7 @@ use super::events::Event::{Begin, Free, Give, Next, Pocket, Steps, Tail};
 use super::expected::Answer::{self, Done, Value};
 use super::expected::Call::{Deq, Enq};
 use super::expected::Shown::Complete;
-use super::trials::{NON_BLOCKING, Run, Sizes, TWO_LOCK, all_go};
+use super::trials::{NON_BLOCKING, Run, Sizes, TWO_LOCK, all_go_in_each_split};
 use history::{Refusal, WornWord};
 use line_table::Kind;
 use std::test::Fail;
@@ -175,6 +175,5 @@ const RUNS: [Run; 7] = [
 
 #[test]
 fn runs_in_which_a_count_wears_out(rt: HostRuntime) -> Result<(), Fail> {
-    in_each_split!(all_go(&rt, rt.alloc(), &RUNS));
-    Ok(())
+    all_go_in_each_split(&rt, rt.alloc(), &RUNS)
 }
