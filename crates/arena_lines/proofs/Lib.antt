@@ -1,2 +1,2 @@
 pub mod Registers
-pub mod Indexes
+pub mod Spots

@@ -21,10 +21,10 @@ index_of (Next n) = 4 + 2 * n
 index_of (Value n) = 5 + 2 * n
 
 -- a word of a node is that of node 1 or a later one
-abbrev pub HasIndex : Word → Type 0
-HasIndex (Next n) = 1 ≤ n
-HasIndex (Value n) = 1 ≤ n
-HasIndex w = Unit {0}
+abbrev pub HasPlace : Word → Type 0
+HasPlace (Next n) = 1 ≤ n
+HasPlace (Value n) = 1 ≤ n
+HasPlace w = Unit {0}
 
 -- the machine's word of that name
 abbrev pub machine_word : Word → MachineWord

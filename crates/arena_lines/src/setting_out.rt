@@ -24,7 +24,7 @@ pub fn load<const B: u32>(
     ensures { DidStep arena.now seat.old seat.new prologue line result }
 {
     let _ = failed;
-    arena.load(seat, line, word.index())
+    arena.load(seat, line, word.index(), word.place())
 }
 
 /// One store into a word: a caller picks the prologue by the value. Takes no memory and doesn't wait.
@@ -35,7 +35,7 @@ pub fn store<const B: u32>(arena: &ArenaOf<B>, seat: &mut Seat, line: Line, word
     requires names { Accesses arena.now seat.old prologue line word }
     ensures { DidSome arena.now seat.old seat.new prologue line }
 {
-    arena.store(seat, line, word.index(), value);
+    arena.store(seat, line, word.index(), word.place(), value);
 }
 
 /// One compare-exchange of a word; the word found is the answer, won or lost. `failed` turns of the call failed before: a
@@ -56,7 +56,7 @@ pub fn exchange<const B: u32>(
     ensures { DidStep arena.now seat.old seat.new prologue line result }
 {
     let _ = failed;
-    match arena.exchange(seat, line, word.index(), old, new) {
+    match arena.exchange(seat, line, word.index(), word.place(), old, new) {
         Ok(found) => found,
         Err(found) => found,
     }

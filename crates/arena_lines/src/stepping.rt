@@ -16,7 +16,7 @@ pub fn loaded<const B: u32>(arena: &ArenaOf<B>, seat: &mut Seat, line: Line, wor
     requires names { Accesses arena.now seat.old continues line word }
     ensures { DidStep arena.now seat.old seat.new continues line result }
 {
-    arena.load(seat, line, word.index())
+    arena.load(seat, line, word.index(), word.place())
 }
 
 /// One store into a word by a call that is under way. Takes no memory and doesn't wait.
@@ -26,7 +26,7 @@ pub fn stored<const B: u32>(arena: &ArenaOf<B>, seat: &mut Seat, line: Line, wor
     requires names { Accesses arena.now seat.old continues line word }
     ensures { DidSome arena.now seat.old seat.new continues line }
 {
-    arena.store(seat, line, word.index(), value);
+    arena.store(seat, line, word.index(), word.place(), value);
 }
 
 /// One fetch_and, by a call that is under way, that leaves the count of the reference in a word; the word found is the
@@ -38,7 +38,7 @@ pub fn cleared<const B: u32>(arena: &ArenaOf<B>, seat: &mut Seat, line: Line, wo
     requires names { Accesses arena.now seat.old continues line word }
     ensures { DidStep arena.now seat.old seat.new continues line result }
 {
-    arena.fetch_and(seat, line, word.index(), arena.count_mask())
+    arena.fetch_and(seat, line, word.index(), word.place(), arena.count_mask())
 }
 
 /// One compare-exchange of a word by a call that is under way; the word found is the answer, won or lost. Takes no memory
@@ -56,7 +56,7 @@ pub fn exchanged<const B: u32>(
     requires names { Accesses arena.now seat.old continues line word }
     ensures { DidStep arena.now seat.old seat.new continues line result }
 {
-    match arena.exchange(seat, line, word.index(), old, new) {
+    match arena.exchange(seat, line, word.index(), word.place(), old, new) {
         Ok(found) => found,
         Err(found) => found,
     }

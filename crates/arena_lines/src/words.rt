@@ -1,6 +1,7 @@
 //! The words of an arena, by name.
 ghost use Rattle.std.specs.Prelude.{◌≡◌};
-ghost use Rattle.arena_lines.specs.Words.{index_of, HasIndex};
+ghost use Rattle.node_arena.specs.Places as places;
+ghost use Rattle.arena_lines.specs.Words.{index_of, HasPlace};
 
 /// A word of an arena.
 #[derive(Clone, Copy)]
@@ -18,14 +19,11 @@ pub enum Word {
 }
 
 impl Word {
-    /// The index of the word among those of the arena, where a word of a node is that of node 1 or a later one. Takes no
-    /// memory and doesn't wait.
+    /// The index of the word among those of the arena. Takes no memory and doesn't wait.
     #[inline(always)]
     pub fn index(self) -> usize
-        requires { HasIndex self }
         ensures { result ≡ index_of self }
     {
-        // A node's word is written so that its index is known to be 6 or more: then its place needs no look at the first six.
         match self {
             Word::Fresh => 0,
             Word::Free => 1,
@@ -33,8 +31,27 @@ impl Word {
             Word::Tail => 3,
             Word::TailLock => 4,
             Word::HeadLock => 5,
-            Word::Next(node) => 6 + 2 * (node - 1) as usize,
-            Word::Value(node) => 7 + 2 * (node - 1) as usize,
+            Word::Next(node) => 4 + 2 * node as usize,
+            Word::Value(node) => 5 + 2 * node as usize,
+        }
+    }
+
+    /// Where the word lies in the arena's table: a word of a node, which is 1 or a later one, is told from the first six by
+    /// its name, so nothing is looked up. Takes no memory and doesn't wait.
+    #[inline(always)]
+    pub fn place(self) -> usize
+        requires { HasPlace self }
+        ensures { result ≡ places.place (index_of self) }
+    {
+        match self {
+            Word::Fresh => 0,
+            Word::Free => 1,
+            Word::Head => 16,
+            Word::Tail => 32,
+            Word::TailLock => 33,
+            Word::HeadLock => 17,
+            Word::Next(node) => 46 + 2 * node as usize,
+            Word::Value(node) => 47 + 2 * node as usize,
         }
     }
 }

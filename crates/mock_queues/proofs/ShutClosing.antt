@@ -5,7 +5,6 @@ use mathlib.Core.List.{IsPrefix}
 use Rattle.std.proofs.Math.Dec.{eqb-suc-zero}
 use Rattle.std.proofs.lemmas.List.Elements.{All-nil, All-cons}
 use Rattle.std.proofs.lemmas.List.Sums.{sum_by-cons}
-use Rattle.history.specs.declared.operations.Entry.{Entry}
 use Rattle.history.specs.declared.operations.Entry.TheVariants.{Shut}
 use Rattle.history.specs.declared.rests.Rest.{Rest}
 use Rattle.history.specs.Entries.{is_shut, own_entries}

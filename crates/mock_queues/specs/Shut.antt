@@ -1,12 +1,11 @@
 -- A queue that was shut with nothing in it.
-use Rattle.std.specs.Prelude.{◌≡◌, List, [], ◌∷◌, replicate, refl}
+use Rattle.std.specs.Prelude.{List, [], ◌∷◌, replicate, refl}
 use Rattle.std.proofs.Common.{le_refl, inr, true}
 use Rattle.std.proofs.lemmas.List.Elements.{All-nil, All-cons, All-replicate}
 use Rattle.history.specs.declared.operations.Entry.{Entry}
 use Rattle.history.specs.declared.operations.Entry.TheVariants.{Shut}
 use Rattle.history.specs.declared.refusals.Refusal.{Refusal}
 use Rattle.history.specs.declared.refusals.Refusal.TheVariants.{Busy, Closed}
-use Rattle.history.specs.Queue.{Queue}
 use Rattle.history.specs.Seats.{Known, IsSound, IsPermitted, IsNoted}
 use Rattle.mock_queues.specs.declared.shut.ShutQueue.{ShutQueue}
 use Rattle.mock_queues.specs.declared.shut.ShutSeat.{ShutSeat}

@@ -1,10 +1,9 @@
 -- What the step calls ask of the table, and what they answer.
-use Rattle.std.proofs.Common.{◌≡◌, ◌≢◌, ℕ, ◌+◌, ◌-◌, ◌*◌, ◌^◌, ◌<◌, nat_lt, List, [], Some, slice_get, sym, refl, ap, ◌∙◌, subst, arith}
+use Rattle.std.proofs.Common.{◌≡◌, ◌≢◌, ℕ, ◌+◌, ◌-◌, ◌*◌, ◌<◌, nat_lt, List, [], Some, slice_get, sym, refl, ap, ◌∙◌, subst, arith}
 use Rattle.std.specs.List.{count_by}
 use Rattle.std.proofs.lemmas.List.Sums.{sum_by-append}
 use Rattle.atomic_table.specs.Table.{Me, Allows}
 use Rattle.atomic_table.specs.declared.shared.Seat.{Seat as Token}
-use Rattle.counted_ref.proofs.Words.{span_most}
 use Rattle.line_table.specs.declared.lines.Line.{Line}
 use Rattle.history.specs.declared.operations.Entry.{Entry}
 use Rattle.line_steps.specs.Actors.{Actor}
@@ -31,13 +30,6 @@ names_a_word : (r : Arena) (s : Seat) (prologue : Prologue) (l : Line) (x : Word
 names_a_word r s prologue l x may =
     let h = index_within r.plan (view s).number (after_prologue r.plan.setup (view s).number prologue (view s).actor) l (stood r.plan (view s) prologue l may.seat.sits.fitted may.leads may.line) in
     omega (arith, h, ap word_index may.access)
-
--- so its place is a number of 64 bits
-pub has_a_place : (r : Arena) (s : Seat) (prologue : Prologue) (l : Line) (x : WordStep) → MayStep r s prologue l x → word_index x + 42 < 2 ^ 64
-has_a_place r s prologue l x may =
-    let sized = may.seat.arena.sized in
-    let small : r.plan.setup.size < 2 ^ 32 = omega (arith, sized.numbered, span_most r.plan.setup.bits sized.split) in
-    omega (arith, names_a_word r s prologue l x may, small)
 
 -- what a step on a word asks of the table
 pub asks : (r : Arena) (s : Seat) (prologue : Prologue) (l : Line) (x : WordStep) → MayStep r s prologue l x

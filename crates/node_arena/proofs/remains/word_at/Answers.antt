@@ -1,6 +1,5 @@
 use Rattle.std.proofs.Common.{ℕ, List, ◌-◌, ◌<◌, length, get_or, ap, sym, ◌∙◌, subst, arith}
 use Rattle.std.specs.Slots.{slots_items, slots_len, slots_counts, slots_small}
-use Rattle.node_arena.specs.Places.{place}
 use Rattle.node_arena.proofs.Lefts.{got_word}
 use Rattle.node_arena.proofs.Placed.{place_there, length-shared_words, get_or-shared_words}
 use Rattle.node_arena.proofs.remains.word_at.Goals as goal

@@ -1,4 +1,4 @@
--- The word that a seat's next move accesses has an index.
+-- The word that a seat's next move accesses has a place in the table.
 use Rattle.std.proofs.Common.{subst}
 use Rattle.line_table.specs.declared.lines.Line.{Line}
 use Rattle.node_arena.specs.Machine.{Shared, IsWord, WordStep}
@@ -9,9 +9,9 @@ use Rattle.node_arena.specs.Seats.{MayStep, view}
 use Rattle.node_arena.proofs.There.{Stood, stood, accesses_a_word}
 use Rattle.arena_lines.specs.declared.words.Word.{Word}
 use Rattle.arena_lines.specs.declared.words.Word.TheVariants.{Fresh, Free, Head, Tail, TailLock, HeadLock, Next, Value}
-use Rattle.arena_lines.specs.Words.{HasIndex, Accesses, machine_word}
+use Rattle.arena_lines.specs.Words.{HasPlace, Accesses, machine_word}
 
-some_node : (m : Shared) (w : Word) → IsWord m (machine_word w) → HasIndex w
+some_node : (m : Shared) (w : Word) → IsWord m (machine_word w) → HasPlace w
 some_node m Fresh h = tt
 some_node m Free h = tt
 some_node m Head h = tt
@@ -21,7 +21,7 @@ some_node m HeadLock h = tt
 some_node m (Next n) h = h.0
 some_node m (Value n) h = h.0
 
-pub has_index : (r : Arena) (s : Seat) (prologue : Prologue) (l : Line) (w : Word) (x : WordStep) → MayStep r s prologue l x → Accesses r s prologue l w → HasIndex w
-has_index r s prologue l w x may names =
+pub has_place : (r : Arena) (s : Seat) (prologue : Prologue) (l : Line) (w : Word) (x : WordStep) → MayStep r s prologue l x → Accesses r s prologue l w → HasPlace w
+has_place r s prologue l w x may names =
     let at : Stood r.plan (view s).number (after_prologue r.plan.setup (view s).number prologue (view s).actor) l = stood r.plan (view s) prologue l may.seat.sits.fitted may.leads may.line in
     some_node at.trace.world.shared w (subst (IsWord at.trace.world.shared) names (accesses_a_word r.plan (view s).number _ l at))
