@@ -1,0 +1,145 @@
+//! The queue of either kind: each call is that of the queue within.
+ghost use Rattle.std.specs.Prelude.{◌≡◌, IfOk, IfErr, OnOk};
+ghost use Rattle.line_table.specs.declared.lines.Kind.{Kind};
+ghost use Rattle.node_arena.specs.Making.{plan, IsMade, NewRefused};
+ghost use Rattle.node_arena.specs.Plans.{permits_by, IsPlanned};
+ghost use Rattle.node_arena.specs.Seats.{known_of};
+ghost use Rattle.history.specs.Openings.{AreNew};
+
+use history::{Body, Fifo, Refusal, Rest, Taken};
+use line_table::Kind;
+use node_arena::{Role, Seat};
+use nonblocking::MsQueue;
+use std::alloc::Global;
+use two_lock::TwoLockQueue;
+
+/// A queue of either kind, with 24 bits for the number of a node. Threads share it by reference, each with a seat of its
+/// own.
+#[derive(Drop)]
+pub enum AnyQueue {
+    /// The non-blocking queue.
+    NonBlocking(MsQueue),
+    /// The two-lock queue.
+    TwoLock(TwoLockQueue),
+}
+
+impl AnyQueue {
+    ghost use Rattle.std.specs.Prelude.{map};
+    ghost use Rattle.std.specs.List.{All};
+    ghost use Rattle.any_queue.specs.Any.{any_arena_of, any_permits_of, IsAnySeat};
+
+    /// A queue of this kind, with so many nodes, the greatest count `limit`, and a seat for each role, in their order; the
+    /// ranges are those of `MsQueue::new`.
+    ///
+    /// Refusals: `BadSize` where one of them is out of its range, else `Memory`. Takes memory for two words a node, the
+    /// seats and their roles, and doesn't wait.
+    ///
+    /// ```rust
+    /// let (queue, seats) = AnyQueue::new(alloc, Kind::TwoLock, 1024, MOST_COUNT, &[Role::Both])?;
+    /// ```
+    pub fn new(
+        alloc: Global,
+        kind: Kind,
+        nodes: u32,
+        limit: u64,
+        roles: &[Role],
+    ) -> Result<(AnyQueue, Vec<Seat>), Refusal>
+        ensures ok { IfOk result
+            (λ r. IsMade (plan 24 kind nodes limit roles.now) (any_arena_of r.0) r.1.items) }
+        ensures permits { IfOk result (λ r. any_permits_of r.0 ≡ permits_by roles.now) }
+        ensures seats { IfOk result (λ r. All (IsAnySeat r.0) r.1.items) }
+        ensures unused { IfOk result (λ r. AreNew (any_permits_of r.0) (map known_of r.1.items)) }
+        ensures sized { OnOk result (IsPlanned (plan 24 kind nodes limit roles.now)) }
+        ensures refused { IfErr result (NewRefused (plan 24 kind nodes limit roles.now)) }
+    {
+        match kind {
+            Kind::NonBlocking => {
+                let (queue, seats) = MsQueue::new(alloc, nodes, limit, roles)?;
+                Ok((AnyQueue::NonBlocking(queue), seats))
+            }
+            Kind::TwoLock => {
+                let (queue, seats) = TwoLockQueue::new(alloc, nodes, limit, roles)?;
+                Ok((AnyQueue::TwoLock(queue), seats))
+            }
+        }
+    }
+}
+
+impl Fifo for AnyQueue {
+    ghost use Rattle.std.specs.Prelude.{map};
+    ghost use Rattle.std.specs.List.{All};
+    ghost use Rattle.node_arena.specs.Seats.{view};
+    ghost use Rattle.node_arena.proofs.Seens.{sound_of};
+    ghost use Rattle.history.specs.Closing.{Closes};
+    ghost use Rattle.any_queue.specs.Any.{any_arena_of, any_permits_of, IsAnySeat};
+    ghost use Rattle.any_queue.specs.Any.{AnyPushRefused, AnyPopRefused, AnyShutRefused};
+
+    type Seat = Seat;
+
+    ghost is_seat = { IsAnySeat };
+
+    ghost permits = { any_permits_of };
+
+    ghost known = { known_of };
+
+    ghost push_cause = { AnyPushRefused };
+
+    ghost pop_cause = { AnyPopRefused };
+
+    ghost shut_cause = { AnyShutRefused };
+
+    ghost sound = { λ q s h. sound_of (any_arena_of q).plan (view s) h.seat.sits.fitted };
+
+    fn try_push(&self, seat: &mut Seat, body: Body, turns: u32) -> Result<(), Refusal> {
+        match self {
+            AnyQueue::NonBlocking(queue) => queue.try_push(seat, body, turns),
+            AnyQueue::TwoLock(queue) => queue.try_push(seat, body, turns),
+        }
+    }
+
+    fn try_pop(&self, seat: &mut Seat, turns: u32) -> Result<Option<Taken>, Refusal> {
+        match self {
+            AnyQueue::NonBlocking(queue) => queue.try_pop(seat, turns),
+            AnyQueue::TwoLock(queue) => queue.try_pop(seat, turns),
+        }
+    }
+
+    fn try_shut(&self, seat: &mut Seat, turns: u32) -> Result<(), Refusal> {
+        match self {
+            AnyQueue::NonBlocking(queue) => queue.try_shut(seat, turns),
+            AnyQueue::TwoLock(queue) => queue.try_shut(seat, turns),
+        }
+    }
+
+    fn meet(&self, one: &mut Seat, other: &mut Seat) {
+        match self {
+            AnyQueue::NonBlocking(queue) => queue.meet(one, other),
+            AnyQueue::TwoLock(queue) => queue.meet(one, other),
+        }
+    }
+
+    fn may_push(&self, seat: &Seat) -> bool {
+        match self {
+            AnyQueue::NonBlocking(queue) => queue.may_push(seat),
+            AnyQueue::TwoLock(queue) => queue.may_push(seat),
+        }
+    }
+
+    fn may_pop(&self, seat: &Seat) -> bool {
+        match self {
+            AnyQueue::NonBlocking(queue) => queue.may_pop(seat),
+            AnyQueue::TwoLock(queue) => queue.may_pop(seat),
+        }
+    }
+
+    fn close(self, alloc: Global, seats: Vec<Seat>) -> Result<Rest, Refusal>
+        requires { All (IsAnySeat self) seats.items }
+        ensures rest { IfOk result (Closes (any_permits_of self) (map known_of seats.items)) }
+        ensures only_memory { IfErr result (λ why. why ≡ Refusal.Memory) }
+    {
+        match self {
+            AnyQueue::NonBlocking(queue) => queue.close(alloc, seats),
+            AnyQueue::TwoLock(queue) => queue.close(alloc, seats),
+        }
+    }
+}

@@ -1,0 +1,58 @@
+-- The seats of handles whose queue is closed.
+use Rattle.std.proofs.Common.{◌≡◌, List, [], ◌∷◌, ◌++◌, map, ap, ◌∙◌, sym, subst, get_or, true, Some, Result, Ok, Err, IfOk}
+use Rattle.std.specs.List.{All}
+use Rattle.std.proofs.lemmas.List.Elements.{All-map, All-pop, All-weaker}
+use mathlib.Core.List.{map-map}
+use Rattle.history.specs.Closing.{Closes}
+use Rattle.history.specs.declared.rests.Rest.{Rest}
+use Rattle.node_arena.specs.declared.seats.Seat.{Seat}
+use Rattle.node_arena.specs.Seats.{known_of}
+use Rattle.owned_seats.specs.declared.seats.OwnedSeat.{OwnedSeat}
+use Rattle.owned_seats.specs.Owned.{queue_of, seat_of}
+use Rattle.any_queue.specs.declared.any.AnyQueue.{AnyQueue}
+use Rattle.any_queue.specs.Any.{IsAnySeat, any_permits_of}
+use Rattle.msq_c.specs.declared.handles.MsqSeat.{MsqSeat}
+use Rattle.msq_c.specs.declared.troubles.Trouble.{Trouble}
+use Rattle.msq_c.specs.Own.{owned_in}
+use Rattle.msq_c.specs.Seats.{is_full, own_at, known_at, queue_at, IsHandle}
+use Rattle.msq_c.specs.Ends.{AreFull, AreOfOne, KeepSeats, owned_at, ClosesHandles}
+
+-- the seats with their shares, where handles keep them
+pub same_owned : (slots slots' : List MsqSeat) → KeepSeats slots slots' → map owned_at slots' ≡ map owned_at slots
+same_owned slots slots' k = sym (map-map owned_in own_at slots') ∙ ap (map owned_in) k.seats ∙ map-map owned_in own_at slots
+
+-- a seat with its share is one of this queue
+abbrev pub IsOf : AnyQueue → OwnedSeat AnyQueue Seat → Type 0
+IsOf q s = (queue_of s ≡ q) × IsAnySeat q (seat_of s)
+
+all_of : (q : AnyQueue) (slots : List MsqSeat) → AreFull slots → All IsHandle slots → All (λ h. is_full h ≡ true → queue_at h ≡ q) slots → All (IsOf q) (map owned_at slots)
+all_of q slots full handles one = All-map (IsOf q) owned_at slots (λ k d l.
+    let f = full k d l in let e = one k d l f in
+    (e, subst (λ p. IsAnySeat p (seat_of (owned_at (get_or slots k d)))) e (handles k d l f)))
+
+-- the seats of full handles of one queue, the last one and others
+module _ (slots : List MsqSeat) (full : AreFull slots) (handles : All IsHandle slots) (of_one : AreOfOne slots)
+    (all others : List (OwnedSeat AnyQueue Seat)) (last : OwnedSeat AnyQueue Seat) (taken : all ≡ map owned_at slots) (popped : all ≡ others ++ last ∷ []) where
+  both : All (IsOf of_one.queue) others × IsOf of_one.queue last
+  both = All-pop (IsOf of_one.queue) all others (Some last) popped (subst (All (IsOf of_one.queue)) (sym taken) (all_of of_one.queue slots full handles of_one.one))
+
+  pub last_sits : IsAnySeat (queue_of last) (seat_of last)
+  last_sits = subst (λ p. IsAnySeat p (seat_of last)) (sym both.1.0) both.1.1
+
+  pub others_sit : All (λ s. IsAnySeat (queue_of last) (seat_of s)) others
+  others_sit = All-weaker (IsOf of_one.queue) (λ s. IsAnySeat (queue_of last) (seat_of s)) (λ s p. subst (λ q. IsAnySeat q (seat_of s)) (sym both.1.0) p.1) others both.0
+
+  known : map (λ (s : OwnedSeat AnyQueue Seat). known_of (seat_of s)) (others ++ last ∷ []) ≡ map known_at slots
+  known = ap (map (λ (s : OwnedSeat AnyQueue Seat). known_of (seat_of s))) (sym popped ∙ taken) ∙ map-map (λ (s : OwnedSeat AnyQueue Seat). known_of (seat_of s)) owned_at slots
+
+  -- what was closed by these seats was closed by the handles
+  pub closed_if : (out : Result Rest Trouble)
+      → IfOk out (Closes (any_permits_of (queue_of last)) (map (λ (s : OwnedSeat AnyQueue Seat). known_of (seat_of s)) (others ++ last ∷ [])))
+      → IfOk out (ClosesHandles slots)
+  closed_if (Ok rest) c = record {
+    queue = of_one.queue;
+    one = λ k d l. of_one.one k d l (full k d l);
+    closes = subst (λ q. Closes (any_permits_of q) (map known_at slots) rest) both.1.0
+        (subst (λ ks. Closes (any_permits_of (queue_of last)) ks rest) known c);
+  }
+  closed_if (Err why) c = tt

@@ -1,0 +1,60 @@
+-- The end of a queue, by handles.
+use Rattle.std.specs.Prelude.{◌≡◌, ◌⊎◌, List, [], map, true, false}
+use Rattle.std.specs.List.{All, AllPass}
+use Rattle.history.specs.Closing.{Closes}
+use Rattle.history.specs.declared.refusals.Refusal.TheVariants.{Memory}
+use Rattle.history.specs.declared.rests.Rest.{Rest}
+use Rattle.node_arena.specs.declared.seats.Seat.{Seat}
+use Rattle.owned_seats.specs.declared.seats.OwnedSeat.{OwnedSeat}
+use Rattle.any_queue.specs.declared.any.AnyQueue.{AnyQueue}
+use Rattle.any_queue.specs.Any.{any_permits_of}
+use Rattle.msq_c.specs.declared.handles.MsqSeat.{MsqSeat}
+use Rattle.msq_c.specs.declared.troubles.Trouble.{Trouble}
+use Rattle.msq_c.specs.declared.troubles.Trouble.TheVariants.{Refused, BadSize, NoHandle, InUse}
+use Rattle.msq_c.specs.Own.{owned_in}
+use Rattle.msq_c.specs.Seats.{is_full, own_at, known_at, queue_at}
+
+-- each handle is full
+abbrev pub AreFull : List MsqSeat → Type 0
+AreFull slots = AllPass is_full slots
+
+-- each handle is empty
+abbrev pub AreEmpty : List MsqSeat → Type 0
+AreEmpty slots = All (λ h. is_full h ≡ false) slots
+
+-- the full ones of these handles are of one queue
+pub record AreOfOne (slots : List MsqSeat) : Type 0 where
+  pub queue : AnyQueue
+  pub one : All (λ h. is_full h ≡ true → queue_at h ≡ queue) slots
+
+-- full handles keep their seats
+pub record KeepSeats (slots slots' : List MsqSeat) : Type 0 where
+  pub full : AreFull slots'
+  pub seats : map own_at slots' ≡ map own_at slots
+
+-- the seat of a handle, with its share
+abbrev pub owned_at : MsqSeat → OwnedSeat AnyQueue Seat
+owned_at h = owned_in (own_at h)
+
+-- the queue of these handles was closed by all of them
+pub record ClosesHandles (slots : List MsqSeat) (rest : Rest) : Type 0 where
+  pub queue : AnyQueue
+  pub one : All (λ h. queue_at h ≡ queue) slots
+  pub closes : Closes (any_permits_of queue) (map known_at slots) rest
+
+-- memory was refused
+abbrev pub IsMemory : Trouble → Type 0
+IsMemory why = why ≡ Refused Memory
+
+-- why seats are given up and their queue isn't closed: others have a share of it, or memory was refused
+abbrev pub GivesUp : Trouble → Type 0
+GivesUp why = (why ≡ InUse) ⊎ IsMemory why
+
+-- why a queue isn't closed: a handle is empty, and nothing changed; there are no handles; or others have a share of it, or
+-- memory was refused, and then all handles keep their seats, or all are empty
+abbrev pub RefusesClose : List MsqSeat → List MsqSeat → Trouble → Type 0
+RefusesClose slots slots' NoHandle = (AreFull slots → ⊥) × (slots' ≡ slots)
+RefusesClose slots slots' BadSize = slots ≡ []
+RefusesClose slots slots' InUse = KeepSeats slots slots' ⊎ AreEmpty slots'
+RefusesClose slots slots' (Refused why) = (why ≡ Memory) × (KeepSeats slots slots' ⊎ AreEmpty slots')
+RefusesClose slots slots' _ = ⊥

@@ -1,0 +1,128 @@
+-- The handles of a new queue.
+use Rattle.std.specs.Prelude.{◌≡◌, ℕ, ◌<◌, ◌≤◌, ◌^◌, ◌⊎◌, ◌≢◌, List, map, length, Result, OnOk, OnErr, IfErr}
+use Rattle.std.specs.List.{All}
+use Rattle.line_table.specs.declared.lines.Kind.{Kind}
+use Rattle.line_table.specs.declared.lines.Kind.TheVariants.{NonBlocking, TwoLock}
+use Rattle.history.specs.declared.refusals.Refusal.TheVariants.{Memory}
+use Rattle.history.specs.Openings.{AreNew}
+use Rattle.history.specs.Limits.{actor_bits}
+use Rattle.counted_ref.specs.Ref.{reserved_node, count_bits}
+use Rattle.node_arena.specs.declared.seats.Seat.{Seat}
+use Rattle.node_arena.specs.declared.roles.Role.{Role}
+use Rattle.node_arena.specs.declared.roles.Role.TheVariants.{Giver, Taker, Both}
+use Rattle.node_arena.specs.Seats.{known_of}
+use Rattle.node_arena.specs.Plans.{Layout}
+use Rattle.node_arena.specs.Making.{plan, IsMade}
+use Rattle.owned_seats.specs.declared.seats.OwnedSeat.{OwnedSeat}
+use Rattle.owned_seats.specs.Owned.{queue_of, seat_of}
+use Rattle.any_queue.specs.declared.any.AnyQueue.{AnyQueue}
+use Rattle.any_queue.specs.Any.{IsAnySeat, any_arena_of, any_permits_of}
+use Rattle.msq_c.specs.declared.own_seats.OwnSeat.{OwnSeat}
+use Rattle.msq_c.specs.declared.handles.MsqSeat.{MsqSeat}
+use Rattle.msq_c.specs.declared.troubles.Trouble.{Trouble}
+use Rattle.msq_c.specs.declared.troubles.Trouble.TheVariants.{Refused, BadSize, InUse}
+use Rattle.msq_c.specs.Own.{seat_in}
+use Rattle.msq_c.specs.Ends.{AreFull, AreEmpty}
+use Rattle.msq_c.specs.Seats.{own_at, known_at, queue_at, IsHandle}
+
+-- the number of a kind
+abbrev pub kind_number : Kind → ℕ
+kind_number NonBlocking = 0
+kind_number TwoLock = 1
+
+-- the number of a role
+abbrev pub role_number : Role → ℕ
+role_number Giver = 1
+role_number Taker = 2
+role_number Both = 3
+
+-- a number is that of a role
+abbrev pub IsRole : ℕ → Type 0
+IsRole n = (1 ≤ n) × (n ≤ 3)
+
+-- a queue of either kind has such sizes
+pub record AreSizes (nodes limit seats : ℕ) : Type 0 where
+  pub some_nodes : 2 ≤ nodes
+  pub numbered : nodes < reserved_node 24
+  pub counts : 1 ≤ limit
+  pub counted : limit < 2 ^ count_bits 24
+  pub some_seats : 1 ≤ seats
+  pub few_seats : seats < 2 ^ actor_bits
+
+-- no queue has such sizes: one of them is out of its range
+abbrev pub AreNoSizes : (nodes limit seats : ℕ) → Type 0
+AreNoSizes nodes limit seats =
+    ((nodes < 2) ⊎ (reserved_node 24 ≤ nodes)) ⊎ ((limit < 1) ⊎ (2 ^ count_bits 24 ≤ limit)) ⊎ ((seats < 1) ⊎ (2 ^ actor_bits ≤ seats))
+
+-- these numbers ask for a queue: they are of a kind and of roles, and its sizes are in their ranges
+pub record Asks (kind nodes limit : ℕ) (roles : List ℕ) : Type 0 where
+  pub of_kind : kind ≤ 1
+  pub of_roles : All IsRole roles
+  pub sizes : AreSizes nodes limit (length roles)
+
+-- one of these numbers is out of its range: that of the kind, that of a role, or a size
+abbrev pub IsOutOfRange : (kind nodes limit : ℕ) (roles : List ℕ) → Type 0
+IsOutOfRange kind nodes limit roles = (1 < kind) ⊎ (All IsRole roles → ⊥) ⊎ AreNoSizes nodes limit (length roles)
+
+-- a queue may be made: its numbers are in their ranges, and there is an empty handle for each role
+pub record MayMake (kind nodes limit : ℕ) (roles : List ℕ) (slots : List MsqSeat) : Type 0 where
+  pub empty : AreEmpty slots
+  pub count : length roles ≡ length slots
+  pub asks : Asks kind nodes limit roles
+
+-- a seat with its share is its queue's, in no call
+abbrev pub IsOwn : OwnedSeat AnyQueue Seat → Type 0
+IsOwn s = IsAnySeat (queue_of s) (seat_of s)
+
+-- each of these seats is its queue's, in no call
+abbrev pub AreOwned : List (OwnedSeat AnyQueue Seat) → Type 0
+AreOwned owned = All IsOwn owned
+
+-- these are the seats of one new queue of a plan, each with a share
+pub record AreUnused (z : Layout) (owned : List (OwnedSeat AnyQueue Seat)) : Type 0 where
+  pub queue : AnyQueue
+  pub made : IsMade z (any_arena_of queue) (map seat_of owned)
+  pub one : All (λ s. queue_of s ≡ queue) owned
+  pub sit : AreOwned owned
+  pub unused : AreNew (any_permits_of queue) (map (λ s. known_of (seat_of s)) owned)
+
+-- these handles are full of these seats, in their order
+pub record ArePut (seats : List OwnSeat) (slots : List MsqSeat) : Type 0 where
+  pub full : AreFull slots
+  pub those : map own_at slots ≡ seats
+
+-- the seat itself of a handle, where there is one
+abbrev pub seat_at : MsqSeat → Seat
+seat_at h = seat_in (own_at h)
+
+-- these handles have all the seats of one new queue of a plan, in their order
+pub record AreMade (z : Layout) (slots : List MsqSeat) : Type 0 where
+  pub queue : AnyQueue
+  pub made : IsMade z (any_arena_of queue) (map seat_at slots)
+  pub full : AreFull slots
+  pub handles : All IsHandle slots
+  pub one : All (λ h. queue_at h ≡ queue) slots
+  pub unused : AreNew (any_permits_of queue) (map known_at slots)
+
+-- these handles have all the seats of one new queue: of the kind and of the roles with these numbers, and of these sizes
+pub record AreAsked (kind nodes limit : ℕ) (roles : List ℕ) (slots : List MsqSeat) : Type 0 where
+  pub layout : Layout
+  pub of_kind : kind_number layout.setup.kind ≡ kind
+  pub of_roles : map role_number layout.roles ≡ roles
+  pub planned : layout ≡ plan 24 layout.setup.kind nodes limit layout.roles
+  pub made : AreMade layout slots
+
+-- why no queue is made: a handle is full; else a number is out of its range, or there are fewer handles than roles, or more;
+-- else memory was refused
+abbrev pub RefusesCreate : (kind nodes limit : ℕ) (roles : List ℕ) → List MsqSeat → Trouble → Type 0
+RefusesCreate kind nodes limit roles slots InUse = AreEmpty slots → ⊥
+RefusesCreate kind nodes limit roles slots BadSize = AreEmpty slots × ((length roles ≢ length slots) ⊎ IsOutOfRange kind nodes limit roles)
+RefusesCreate kind nodes limit roles slots (Refused why) = MayMake kind nodes limit roles slots × (why ≡ Memory)
+RefusesCreate kind nodes limit roles slots _ = ⊥
+
+-- what the making of a queue answers: the handles are its seats; refused, they are as they were
+pub record AnswersCreate (kind nodes limit : ℕ) (roles : List ℕ) (slots slots' : List MsqSeat) (out : Result (Unit {0}) Trouble) : Type 0 where
+  pub made : OnOk out (AreAsked kind nodes limit roles slots')
+  pub might : OnOk out (MayMake kind nodes limit roles slots)
+  pub same : OnErr out (slots' ≡ slots)
+  pub refused : IfErr out (RefusesCreate kind nodes limit roles slots)

@@ -1,0 +1,63 @@
+-- What the calls of a seat with its share answer.
+use Rattle.std.specs.Prelude.{◌≡◌, ◌⊎◌, ℕ, ◌≤◌, ◌^◌, List}
+use Rattle.history.specs.Limits.{body_bits}
+use Rattle.history.specs.Seats.{Permit, Known, MayPush, MayPop}
+use Rattle.history.specs.Answers.{StopsPush, StopsPop, StopsShut, PushRefused, PopRefused}
+use Rattle.node_arena.specs.declared.seats.Seat.{Seat}
+use Rattle.node_arena.specs.Seats.{known_of}
+use Rattle.owned_seats.specs.declared.seats.OwnedSeat.{OwnedSeat}
+use Rattle.owned_seats.specs.Owned.{queue_of, seat_of}
+use Rattle.any_queue.specs.declared.any.AnyQueue.{AnyQueue}
+use Rattle.any_queue.specs.Any.{IsAnySeat, any_permits_of, AnyPushRefused, AnyPopRefused, AnyShutRefused}
+use Rattle.msq_c.specs.declared.own_seats.OwnSeat.{OwnSeat}
+use Rattle.msq_c.specs.declared.troubles.Trouble.{Trouble}
+use Rattle.msq_c.specs.declared.troubles.Trouble.TheVariants.{Refused, BadSize, NoRole}
+
+-- the seat with its share
+abbrev pub owned_in : OwnSeat → OwnedSeat AnyQueue Seat
+owned_in s = s.owned
+
+-- the queue of a seat
+abbrev pub queue_in : OwnSeat → AnyQueue
+queue_in s = queue_of s.owned
+
+-- the seat itself
+abbrev pub seat_in : OwnSeat → Seat
+seat_in s = seat_of s.owned
+
+-- a seat is its queue's, in no call
+abbrev pub Sits : OwnSeat → Type 0
+Sits s = IsAnySeat (queue_in s) (seat_in s)
+
+-- what a seat knows
+abbrev pub known_in : OwnSeat → Known
+known_in s = known_of (seat_in s)
+
+-- what each seat of its queue may do
+abbrev pub permits_in : OwnSeat → List Permit
+permits_in s = any_permits_of (queue_in s)
+
+-- why a push is refused: by the queue, for its cause; or a number is out of its range, or the seat may not push, and nothing
+-- changed
+abbrev pub RefusesPush : OwnSeat → OwnSeat → (body turns : ℕ) → Trouble → Type 0
+RefusesPush s t body turns (Refused why) =
+    StopsPush why × PushRefused (known_in s) why (known_in t) × AnyPushRefused (queue_in s) (seat_in s) (seat_in t) turns why
+RefusesPush s t body turns BadSize = ((turns ≡ 0) ⊎ (2 ^ body_bits ≤ body)) × (t ≡ s)
+RefusesPush s t body turns NoRole = (MayPush (permits_in s) (known_in s).number → ⊥) × (t ≡ s)
+RefusesPush s t body turns _ = ⊥
+
+-- why a pop is refused: by the queue, for its cause; or the turns are none, or the seat may not pop, and nothing changed
+abbrev pub RefusesPop : OwnSeat → OwnSeat → (turns : ℕ) → Trouble → Type 0
+RefusesPop s t turns (Refused why) =
+    StopsPop why × PopRefused (known_in s) why (known_in t) × AnyPopRefused (queue_in s) (seat_in s) (seat_in t) turns why
+RefusesPop s t turns BadSize = (turns ≡ 0) × (t ≡ s)
+RefusesPop s t turns NoRole = (MayPop (permits_in s) (known_in s).number → ⊥) × (t ≡ s)
+RefusesPop s t turns _ = ⊥
+
+-- why a shut is refused: by the queue, for its cause; or the turns are none, or the seat may not push, and nothing changed
+abbrev pub RefusesShut : OwnSeat → OwnSeat → (turns : ℕ) → Trouble → Type 0
+RefusesShut s t turns (Refused why) =
+    StopsShut why × PushRefused (known_in s) why (known_in t) × AnyShutRefused (queue_in s) (seat_in s) (seat_in t) turns why
+RefusesShut s t turns BadSize = (turns ≡ 0) × (t ≡ s)
+RefusesShut s t turns NoRole = (MayPush (permits_in s) (known_in s).number → ⊥) × (t ≡ s)
+RefusesShut s t turns _ = ⊥

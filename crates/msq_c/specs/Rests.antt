@@ -1,0 +1,36 @@
+-- What C gets of the end of a queue.
+use Rattle.std.specs.Prelude.{◌≡◌, List, Result, Ok, Err}
+use Rattle.history.specs.declared.rests.Rest.{Rest}
+use Rattle.history.specs.Rests.{left_of, taken_of, whole_of, was_shut_of}
+use Rattle.msq_c.specs.declared.handles.MsqSeat.{MsqSeat}
+use Rattle.msq_c.specs.declared.values.MsqValue.{MsqValue}
+use Rattle.msq_c.specs.declared.rests.MsqRest.{MsqRest}
+use Rattle.msq_c.specs.declared.troubles.Trouble.{Trouble}
+use Rattle.msq_c.specs.Ends.{AreEmpty, ClosesHandles, RefusesClose}
+use Rattle.msq_c.specs.Values.{count_told, AreWritten}
+
+-- C gets of a rest how many values are left, how many were taken, whether it is whole, and whether the queue was shut
+pub record IsRest (rest : Rest) (told : MsqRest) : Type 0 where
+  pub left : told.left ≡ count_told (left_of rest)
+  pub taken : told.taken ≡ taken_of rest
+  pub whole : told.whole ≡ whole_of rest
+  pub was_shut : told.was_shut ≡ was_shut_of rest
+
+-- the queue of these handles was closed by all of them, which are empty then, and C got what was left
+pub record Closed (slots slots' : List MsqSeat) (vs vs' : List MsqValue) (told : MsqRest) : Type 0 where
+  pub rest : Rest
+  pub closes : ClosesHandles slots rest
+  pub empty : AreEmpty slots'
+  pub tells : IsRest rest told
+  pub written : AreWritten (left_of rest) vs vs'
+
+-- a queue isn't closed, for its cause, and nothing was written
+pub record NotClosed (slots slots' : List MsqSeat) (vs vs' : List MsqValue) (told told' : MsqRest) (why : Trouble) : Type 0 where
+  pub refused : RefusesClose slots slots' why
+  pub values : vs' ≡ vs
+  pub rest : told' ≡ told
+
+-- what the end of a queue answers
+abbrev pub AnswersClose : (slots slots' : List MsqSeat) (vs vs' : List MsqValue) (told told' : MsqRest) → Result (Unit {0}) Trouble → Type 0
+AnswersClose slots slots' vs vs' told told' (Ok x) = Closed slots slots' vs vs' told'
+AnswersClose slots slots' vs vs' told told' (Err why) = NotClosed slots slots' vs vs' told told' why

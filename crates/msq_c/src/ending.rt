@@ -1,0 +1,120 @@
+//! The end of a queue, by handles.
+ghost use Rattle.std.specs.Prelude.{◌≡◌, ◌++◌, ◌∷◌, [], map, length, true, IfOk, IfErr, OnOk, MatchBool};
+ghost use Rattle.std.specs.List.{All};
+ghost use Rattle.history.specs.Closing.{Closes};
+ghost use Rattle.node_arena.specs.Seats.{known_of};
+ghost use Rattle.owned_seats.specs.Owned.{queue_of, seat_of};
+ghost use Rattle.any_queue.specs.Any.{any_permits_of, IsAnySeat};
+ghost use Rattle.msq_c.specs.Seats.{is_full, own_at, IsHandle};
+ghost use Rattle.msq_c.specs.Ends.{AreFull, AreEmpty, AreOfOne, KeepSeats, owned_at};
+ghost use Rattle.msq_c.specs.Ends.{ClosesHandles, IsMemory, GivesUp, RefusesClose};
+
+use crate::handles::MsqSeat;
+use crate::troubles::Trouble;
+use any_queue::AnyQueue;
+use history::{Refusal, Rest};
+use owned_seats::OwnedSeat;
+use std::alloc::Global;
+
+// Whether each handle is full.
+fn all_are_full(slots: &[MsqSeat]) -> bool
+    ensures { MatchBool result (AreFull slots.now) (¬ AreFull slots.now) }
+{
+    slots.iter().all(|slot| slot.is_full())
+}
+
+// How many shares there are of the queue of a full handle.
+fn shares_at(alloc: Global, slot: &mut MsqSeat) -> usize
+    requires { is_full slot.old ≡ true }
+    ensures full { is_full slot.new ≡ true }
+    ensures seat { own_at slot.new ≡ own_at slot.old }
+{
+    let own = slot.lift(alloc);
+    let shares = own.shares();
+    *slot = MsqSeat::of(own);
+    shares
+}
+
+// How many shares there are of the queue of full handles, by the first one.
+fn shares_of(alloc: Global, slots: &mut [MsqSeat]) -> usize
+    requires { AreFull slots.old }
+    ensures { KeepSeats slots.old slots.new }
+{
+    if slots.is_empty() {
+        return 0;
+    }
+    shares_at(alloc, &mut slots[0])
+}
+
+// As many empty handles.
+fn empties(alloc: Global, like: &[MsqSeat]) -> Result<Vec<MsqSeat>, Trouble>
+    ensures empty { IfOk result (λ handles. AreEmpty handles.items) }
+    ensures len { IfOk result (λ handles. length handles.items ≡ length like.now) }
+    ensures only_memory { IfErr result IsMemory }
+{
+    let mut handles = Vec::new(alloc);
+    for slot in like {
+        if handles.push(slot.empty_like()).is_err() {
+            return Err(Trouble::Refused(Refusal::Memory));
+        }
+    }
+    Ok(handles)
+}
+
+// The seats of full handles, which are left empty; where memory is refused, as they were.
+fn take_all(alloc: Global, slots: &mut [MsqSeat]) -> Result<Vec<OwnedSeat<AnyQueue>>, Trouble>
+    requires { AreFull slots.old }
+    ensures taken { IfOk result (λ owned. owned.items ≡ map owned_at slots.old) }
+    ensures empty { OnOk result (AreEmpty slots.new) }
+    ensures refused { IfErr result (λ why. IsMemory why × (slots.new ≡ slots.old)) }
+{
+    let Ok(mut owned) = Vec::with_capacity(alloc, slots.len()) else {
+        return Err(Trouble::Refused(Refusal::Memory));
+    };
+    let mut handles = empties(alloc, slots)?;
+    slots.swap_with_slice(&mut handles);
+    for handle in handles {
+        owned.push_reserved(Box::into_inner(handle.into_seat(alloc)).into_owned());
+    }
+    Ok(owned)
+}
+
+// Ends the queue of these seats, the last one and others.
+fn ended(
+    alloc: Global,
+    last: OwnedSeat<AnyQueue>,
+    others: Vec<OwnedSeat<AnyQueue>>,
+) -> Result<Rest, Trouble>
+    requires last { IsAnySeat (queue_of last) (seat_of last) }
+    requires others { All (λ s. IsAnySeat (queue_of last) (seat_of s)) others.items }
+    ensures closes { IfOk result (Closes (any_permits_of (queue_of last))
+        (map (λ s. known_of (seat_of s)) (others.items ++ last ∷ []))) }
+    ensures refused { IfErr result GivesUp }
+{
+    match last.close(alloc, others) {
+        Ok(Some(rest)) => Ok(rest),
+        Ok(None) => Err(Trouble::InUse),
+        Err(why) => Err(Trouble::Refused(why)),
+    }
+}
+
+/// Ends the queue of these handles, which are all that have a share of it.
+pub(crate) fn close(alloc: Global, slots: &mut [MsqSeat]) -> Result<Rest, Trouble>
+    requires handles { All IsHandle slots.old }
+    requires queue { AreOfOne slots.old }
+    ensures closes { IfOk result (ClosesHandles slots.old) }
+    ensures empty { OnOk result (AreEmpty slots.new) }
+    ensures refused { IfErr result (RefusesClose slots.old slots.new) }
+{
+    if !all_are_full(slots) {
+        return Err(Trouble::NoHandle);
+    }
+    if shares_of(alloc, slots) != slots.len() {
+        return Err(Trouble::InUse);
+    }
+    let mut owned = take_all(alloc, slots)?;
+    let Some(last) = owned.pop() else {
+        return Err(Trouble::BadSize);
+    };
+    ended(alloc, last, owned)
+}

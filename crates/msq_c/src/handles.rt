@@ -1,0 +1,115 @@
+//! A seat behind a pointer, as C holds it.
+ghost use Rattle.std.specs.Prelude.{◌≡◌, Bool, true, false};
+ghost use Rattle.msq_c.specs.Boxed.{box_if};
+ghost use Rattle.msq_c.specs.declared.own_seats.OwnSeat.{OwnSeat};
+ghost use Rattle.msq_c.specs.contracts.own_seats.OwnSeat.{the_row};
+
+use crate::own_seats::OwnSeat;
+use crate::parts::Parts;
+use std::alloc::Global;
+use std::marker::Model;
+use std::{mem, ptr};
+
+/// A pointer to a seat, where it is full; it then owns the seat's block.
+#[repr(C)]
+#[derive(Drop)]
+pub struct Handle {
+    at: *mut u8,
+    ghost full: { Bool },
+    ghost value: { OwnSeat } by { the_row.coded },
+}
+
+impl Model for Handle {
+    ghost also_owns = { λ h. box_if the_row h.full h.at h.value };
+}
+
+impl Handle {
+    fn sealed(parts: Parts<OwnSeat, Global>) -> Handle
+        ensures { (result.full ≡ true) × (result.value ≡ parts.value) }
+    {
+        let Parts { ptr, alloc: _ } = parts;
+        Handle { at: ptr as *mut u8 }
+    }
+
+    fn into_parts(self, alloc: Global) -> Parts<OwnSeat, Global>
+        requires { self.full ≡ true }
+        ensures { result.value ≡ self.value }
+    {
+        let Handle { at } = self;
+        Parts {
+            ptr: at as *mut OwnSeat,
+            alloc,
+        }
+    }
+
+    fn empty(_like: &Handle) -> Handle
+        ensures { result.full ≡ false }
+    {
+        Handle {
+            at: ptr::null_mut(),
+        }
+    }
+}
+
+/// What C holds of a seat: a handle, and whether it is full. All zeros are an empty one.
+#[repr(C)]
+#[derive(Drop)]
+pub struct MsqSeat {
+    handle: Handle,
+    full: bool,
+    ghost tells: { handle.full ≡ full },
+}
+
+impl MsqSeat {
+    ghost use Rattle.msq_c.specs.Seats.{is_full, own_at};
+
+    /// Whether there is a seat.
+    pub(crate) fn is_full(&self) -> bool
+        ensures { result ≡ is_full self.now }
+    {
+        self.full
+    }
+
+    /// An empty handle.
+    pub(crate) fn empty_like(&self) -> MsqSeat
+        ensures { is_full result ≡ false }
+    {
+        MsqSeat {
+            handle: Handle::empty(&self.handle),
+            full: false,
+        }
+    }
+
+    /// The seat of a full handle.
+    pub(crate) fn into_seat(self, alloc: Global) -> Box<OwnSeat, Global>
+        requires { is_full self ≡ true }
+        ensures { result.value ≡ own_at self }
+    {
+        let MsqSeat { handle, full: _ } = self;
+        handle.into_parts(alloc).into_box()
+    }
+
+    /// The seat of a full handle, which is left empty.
+    pub(crate) fn lift(&mut self, alloc: Global) -> Box<OwnSeat, Global>
+        requires { is_full self.old ≡ true }
+        ensures value { result.value ≡ own_at self.old }
+        ensures empty { is_full self.new ≡ false }
+    {
+        let empty = self.empty_like();
+        mem::replace(self, empty).into_seat(alloc)
+    }
+
+    /// A full handle of this seat.
+    pub(crate) fn of(seat: Box<OwnSeat, Global>) -> MsqSeat
+        ensures value { own_at result ≡ seat.value }
+        ensures full { is_full result ≡ true }
+    {
+        MsqSeat {
+            handle: Handle::sealed(Parts::of(seat)),
+            full: true,
+        }
+    }
+}
+
+// SAFETY: proved, in proofs/handles/Handle/TheSendSync: the block may go, and a pointer is owned by one handle.
+unsafe impl Send for Handle {}

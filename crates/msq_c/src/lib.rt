@@ -1,0 +1,130 @@
+//! The queues for C: each handle is a seat with its share of the queue.
+#![tactic(auto)]
+
+ghost use Rattle.std.specs.Prelude.{◌≡◌, false};
+ghost use Rattle.std.specs.List.{All};
+ghost use Rattle.msq_c.specs.Codes.{Tells, done_code, pop_code};
+ghost use Rattle.msq_c.specs.Seats.{AnswersPush, AnswersPop, AnswersShut, AnswersMeet, MayMeet};
+ghost use Rattle.msq_c.specs.Seats.{is_full, IsHandle};
+ghost use Rattle.msq_c.specs.Made.{AnswersCreate};
+ghost use Rattle.msq_c.specs.Values.{IsWritten};
+ghost use Rattle.msq_c.specs.Ends.{AreOfOne};
+ghost use Rattle.msq_c.specs.Rests.{AnswersClose};
+
+mod calls;
+mod ending;
+mod handles;
+mod making;
+mod own_seats;
+mod parts;
+mod rests;
+mod troubles;
+mod values;
+
+use crate::handles::MsqSeat;
+use crate::rests::MsqRest;
+use crate::troubles::{EMPTY, code};
+use crate::values::MsqValue;
+use std::alloc::Global;
+
+/// Pushes a body, below 2^48, at the back, in so many turns at most, 1 or more.
+#[unsafe(no_mangle)]
+pub extern "C" fn msq_try_push(alloc: Global, slot: &mut MsqSeat, body: u64, turns: u32) -> u32
+    requires { IsHandle slot.old }
+    ensures { Tells done_code result (AnswersPush slot.old slot.new body turns) }
+{
+    code(calls::push(alloc, slot, body, turns))
+}
+
+/// Takes the value at the front, in so many turns at most, 1 or more. It is written where there is one, and else `value` stays
+/// as it is.
+#[unsafe(no_mangle)]
+pub extern "C" fn msq_try_pop(
+    alloc: Global,
+    slot: &mut MsqSeat,
+    turns: u32,
+    value: &mut MsqValue,
+) -> u32
+    requires { IsHandle slot.old }
+    ensures { Tells pop_code result
+        (λ out. AnswersPop slot.old slot.new turns out × IsWritten out value.old value.new) }
+{
+    match calls::pop(alloc, slot, turns) {
+        Ok(Some(taken)) => {
+            *value = MsqValue::of(taken);
+            0
+        }
+        Ok(None) => EMPTY,
+        Err(why) => why.code(),
+    }
+}
+
+/// Shuts the queue, in so many turns at most, 1 or more.
+#[unsafe(no_mangle)]
+pub extern "C" fn msq_try_shut(alloc: Global, slot: &mut MsqSeat, turns: u32) -> u32
+    requires { IsHandle slot.old }
+    ensures { Tells done_code result (AnswersShut slot.old slot.new turns) }
+{
+    code(calls::shut(alloc, slot, turns))
+}
+
+/// Both seats, of one queue, have seen one history afterwards.
+#[unsafe(no_mangle)]
+pub extern "C" fn msq_meet(alloc: Global, one: &mut MsqSeat, other: &mut MsqSeat) -> u32
+    requires one { IsHandle one.old }
+    requires other { IsHandle other.old }
+    requires queue { MayMeet one.old other.old }
+    ensures { Tells done_code result (AnswersMeet one.old other.old one.new other.new) }
+{
+    code(calls::meet(alloc, one, other))
+}
+
+/// Makes a queue of a kind, 0 the non-blocking one and 1 the two-lock one, and fills as many handles as there are roles: 1
+/// pushes, 2 pops, 3 does both.
+#[unsafe(no_mangle)]
+pub extern "C" fn msq_create(
+    alloc: Global,
+    kind: u32,
+    nodes: u32,
+    limit: u64,
+    roles: &[u8],
+    slots: &mut [MsqSeat],
+) -> u32
+    ensures { Tells done_code result
+        (AnswersCreate kind nodes limit roles.now slots.old slots.new) }
+{
+    code(making::create(alloc, kind, nodes, limit, roles, slots))
+}
+
+/// Ends the queue of these handles, which are all that have a share of it, and empties them. The values left are written
+/// from the front, as many as there is room for.
+#[unsafe(no_mangle)]
+pub extern "C" fn msq_close(
+    alloc: Global,
+    slots: &mut [MsqSeat],
+    values: &mut [MsqValue],
+    rest: &mut MsqRest,
+) -> u32
+    requires handles { All IsHandle slots.old }
+    requires queue { AreOfOne slots.old }
+    ensures { Tells done_code result
+        (AnswersClose slots.old slots.new values.old values.new rest.old rest.new) }
+{
+    match ending::close(alloc, slots) {
+        Ok(found) => {
+            *rest = MsqRest::written(found, values);
+            0
+        }
+        Err(why) => why.code(),
+    }
+}
+
+/// Drops a seat; its handle is empty afterwards. With the last seat of a queue goes the queue.
+#[unsafe(no_mangle)]
+pub extern "C" fn msq_drop(alloc: Global, slot: &mut MsqSeat)
+    ensures { is_full slot.new ≡ false }
+{
+    if slot.is_full() {
+        drop(slot.lift(alloc));
+    }
+}

@@ -1,0 +1,242 @@
+//! A new queue, and a handle for each of its seats.
+ghost use Rattle.std.specs.Prelude.{◌≡◌, ◌≤◌, map, length, IfOk, IfErr, OnOk, OnErr, MatchBool};
+ghost use Rattle.std.specs.List.{All};
+ghost use Rattle.node_arena.specs.Plans.{Layout, IsPlanned};
+ghost use Rattle.node_arena.specs.Making.{plan};
+ghost use Rattle.msq_c.specs.Ends.{AreEmpty, IsMemory};
+ghost use Rattle.msq_c.specs.Made.{kind_number, role_number, IsRole, AreSizes, AreNoSizes};
+ghost use Rattle.msq_c.specs.Made.{Asks, IsOutOfRange, MayMake};
+ghost use Rattle.msq_c.specs.Made.{AreUnused, AreMade, AreAsked, ArePut, RefusesCreate};
+ghost use Rattle.msq_c.specs.Own.{owned_in};
+
+use crate::handles::MsqSeat;
+use crate::own_seats::OwnSeat;
+use crate::troubles::Trouble;
+use any_queue::AnyQueue;
+use history::{MOST_ACTOR, Refusal};
+use line_table::Kind;
+use node_arena::{MOST_COUNT, MOST_NODE, Role};
+use owned_seats::{OwnedSeat, deal};
+use std::alloc::Global;
+
+// The kind of this number.
+fn kind_of(number: u32) -> Kind
+    requires { number ≤ 1 }
+    ensures { kind_number result ≡ number }
+{
+    match number {
+        0 => Kind::NonBlocking,
+        _ => Kind::TwoLock,
+    }
+}
+
+// The role of this number.
+fn role_of(number: u8) -> Role
+    requires { IsRole number }
+    ensures { role_number result ≡ number }
+{
+    match number {
+        1 => Role::Giver,
+        2 => Role::Taker,
+        _ => Role::Both,
+    }
+}
+
+// The roles of these numbers.
+fn roles_of(alloc: Global, numbers: &[u8]) -> Result<Vec<Role>, Trouble>
+    requires { All IsRole numbers.now }
+    ensures roles { IfOk result (λ roles. map role_number roles.items ≡ numbers.now) }
+    ensures only_memory { IfErr result IsMemory }
+{
+    let mut roles = Vec::new(alloc);
+    for number in numbers {
+        if roles.push(role_of(*number)).is_err() {
+            return Err(Trouble::Refused(Refusal::Memory));
+        }
+    }
+    Ok(roles)
+}
+
+// Whether each is the number of a role.
+fn are_roles(numbers: &[u8]) -> bool
+    ensures { MatchBool result (All IsRole numbers.now) (¬ All IsRole numbers.now) }
+{
+    numbers.iter().all(|number| 1 <= *number && *number <= 3)
+}
+
+// Whether a queue has such sizes.
+fn are_sizes(nodes: u32, limit: u64, seats: usize) -> bool
+    ensures { MatchBool result (AreSizes nodes limit seats) (AreNoSizes nodes limit seats) }
+{
+    if nodes < 2 || nodes > MOST_NODE {
+        return false;
+    }
+    if limit < 1 || limit > MOST_COUNT {
+        return false;
+    }
+    seats >= 1 && seats as u64 <= MOST_ACTOR
+}
+
+// Whether all these numbers are in their ranges.
+fn are_asked(kind: u32, nodes: u32, limit: u64, roles: &[u8]) -> bool
+    ensures { MatchBool result (Asks kind nodes limit roles.now)
+        (IsOutOfRange kind nodes limit roles.now) }
+{
+    if kind > 1 || !are_roles(roles) {
+        return false;
+    }
+    are_sizes(nodes, limit, roles.len())
+}
+
+/// So many words fill two pages.
+const TWO_PAGES: usize = 1024;
+
+// Blocks that keep what is allocated next off the pages with a new queue's words: one takes the place of the words that the
+// queue was made from, the other two pages. A processor that reads there fetches words that other threads write.
+#[derive(Drop)]
+struct Spacer {
+    _words: Vec<u64>,
+    _pages: Vec<u64>,
+}
+
+fn spacer_for(alloc: Global, nodes: u32) -> Result<Spacer, Trouble>
+    ensures { IfErr result IsMemory }
+{
+    let words = (nodes as usize).saturating_mul(2).saturating_add(48);
+    match (
+        Vec::with_capacity(alloc, words),
+        Vec::with_capacity(alloc, TWO_PAGES),
+    ) {
+        (Ok(words), Ok(pages)) => Ok(Spacer {
+            _words: words,
+            _pages: pages,
+        }),
+        _ => Err(Trouble::Refused(Refusal::Memory)),
+    }
+}
+
+// A new queue's seats, each with a share, and what lies between them and its words.
+fn seats_of(
+    alloc: Global,
+    kind: Kind,
+    nodes: u32,
+    limit: u64,
+    roles: &[Role],
+) -> Result<(Vec<OwnedSeat<AnyQueue>>, Spacer), Trouble>
+    requires { IsPlanned (plan 24 kind nodes limit roles.now) }
+    ensures unused { IfOk result
+        (λ made. AreUnused (plan 24 kind nodes limit roles.now) made.0.items) }
+    ensures only_memory { IfErr result IsMemory }
+{
+    let Ok((queue, seats)) = AnyQueue::new(alloc, kind, nodes, limit, roles) else {
+        return Err(Trouble::Refused(Refusal::Memory));
+    };
+    let spacer = spacer_for(alloc, nodes)?;
+    let Ok(owned) = deal(alloc, queue, seats) else {
+        return Err(Trouble::Refused(Refusal::Memory));
+    };
+    Ok((owned, spacer))
+}
+
+// Each seat in a block of its own.
+fn boxed(
+    alloc: Global,
+    owned: Vec<OwnedSeat<AnyQueue>>,
+) -> Result<Vec<Box<OwnSeat, Global>>, Trouble>
+    ensures boxes { IfOk result (λ boxes. map (λ b. owned_in b.value) boxes.items ≡ owned.items) }
+    ensures only_memory { IfErr result IsMemory }
+{
+    let mut boxes = Vec::new(alloc);
+    for seat in owned {
+        let Ok(boxed) = Box::new(alloc, OwnSeat::new(seat)) else {
+            return Err(Trouble::Refused(Refusal::Memory));
+        };
+        if boxes.push(boxed).is_err() {
+            return Err(Trouble::Refused(Refusal::Memory));
+        }
+    }
+    Ok(boxes)
+}
+
+// A full handle of each seat.
+fn sealed(alloc: Global, boxes: Vec<Box<OwnSeat, Global>>) -> Result<Vec<MsqSeat>, Trouble>
+    ensures put { IfOk result (λ h. ArePut (map (λ b. b.value) boxes.items) h.items) }
+    ensures len { IfOk result (λ h. length h.items ≡ length boxes.items) }
+    ensures only_memory { IfErr result IsMemory }
+{
+    let Ok(mut handles) = Vec::with_capacity(alloc, boxes.len()) else {
+        return Err(Trouble::Refused(Refusal::Memory));
+    };
+    for boxed in boxes {
+        handles.push_reserved(MsqSeat::of(boxed));
+    }
+    Ok(handles)
+}
+
+// Handles with the seats of a new queue.
+fn made(alloc: Global, owned: Vec<OwnedSeat<AnyQueue>>) -> Result<Vec<MsqSeat>, Trouble>
+    ensures made { (z : Layout) → AreUnused z owned.items → IfOk result (λ h. AreMade z h.items) }
+    ensures only_memory { IfErr result IsMemory }
+{
+    let boxes = boxed(alloc, owned)?;
+    sealed(alloc, boxes)
+}
+
+// Handles with the seats of a new queue, as these numbers ask for it.
+fn handles_of(
+    alloc: Global,
+    kind: u32,
+    nodes: u32,
+    limit: u64,
+    numbers: &[u8],
+) -> Result<Vec<MsqSeat>, Trouble>
+    requires { Asks kind nodes limit numbers.now }
+    ensures made { IfOk result (λ h. AreAsked kind nodes limit numbers.now h.items) }
+    ensures len { IfOk result (λ h. length h.items ≡ length numbers.now) }
+    ensures only_memory { IfErr result IsMemory }
+{
+    let roles = roles_of(alloc, numbers)?;
+    let kind = kind_of(kind);
+    let (owned, _spacer) = seats_of(alloc, kind, nodes, limit, &roles)?;
+    made(alloc, owned)
+}
+
+// Hands over what may go to another thread.
+fn hand_over<T: Send + Drop>(slots: &mut [T], handles: &mut [T])
+    requires { length slots.old ≡ length handles.old }
+    ensures { slots.new ≡ handles.old }
+{
+    slots.swap_with_slice(handles);
+}
+
+// Whether each handle is empty.
+fn all_are_empty(slots: &[MsqSeat]) -> bool
+    ensures { MatchBool result (AreEmpty slots.now) (¬ AreEmpty slots.now) }
+{
+    slots.iter().all(|slot| !slot.is_full())
+}
+
+/// A new queue, whose seats fill these handles, one for each role.
+pub(crate) fn create(
+    alloc: Global,
+    kind: u32,
+    nodes: u32,
+    limit: u64,
+    roles: &[u8],
+    slots: &mut [MsqSeat],
+) -> Result<(), Trouble>
+    ensures made { OnOk result (AreAsked kind nodes limit roles.now slots.new) }
+    ensures might { OnOk result (MayMake kind nodes limit roles.now slots.old) }
+    ensures same { OnErr result (slots.new ≡ slots.old) }
+    ensures refused { IfErr result (RefusesCreate kind nodes limit roles.now slots.old) }
+{
+    if !all_are_empty(slots) {
+        return Err(Trouble::InUse);
+    }
+    if roles.len() != slots.len() || !are_asked(kind, nodes, limit, roles) {
+        return Err(Trouble::BadSize);
+    }
+    let mut handles = handles_of(alloc, kind, nodes, limit, roles)?;
+    hand_over(slots, &mut handles);
+    Ok(())
+}

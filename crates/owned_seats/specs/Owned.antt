@@ -1,0 +1,10 @@
+-- A seat with a share of its queue.
+use Rattle.owned_seats.specs.declared.seats.OwnedSeat.{OwnedSeat}
+
+-- the queue of a seat that owns a share of it
+abbrev pub queue_of : {Q S : Type 0} → OwnedSeat Q S → Q
+queue_of s = s.queue.value
+
+-- the seat that comes with a share
+abbrev pub seat_of : {Q S : Type 0} → OwnedSeat Q S → S
+seat_of s = s.seat

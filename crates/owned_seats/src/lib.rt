@@ -1,0 +1,9 @@
+//! Seats that each own a share of their queue.
+#![tactic(auto)]
+
+mod closing;
+mod dealing;
+mod seats;
+
+pub use dealing::deal;
+pub use seats::OwnedSeat;

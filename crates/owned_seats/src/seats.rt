@@ -1,0 +1,136 @@
+//! A seat with its share, and the calls of its queue.
+ghost use Rattle.std.specs.Prelude.{◌≡◌, ◌<◌, ◌≤◌, ◌↔◌, IsTrue, IfOk, IfErr, OnOk};
+ghost use Rattle.history.specs.Seats.{MayPush, MayPop};
+ghost use Rattle.history.specs.Answers.{Pushed, PopAnswers, DidShut, PushRefused, PopRefused, Meets};
+ghost use Rattle.history.specs.Answers.{StopsPush, StopsPop, StopsShut};
+
+use history::{Body, Fifo, Refusal, Taken};
+use std::alloc::Global;
+use std::sync::Arc;
+
+/// A seat of a queue, with a share of that queue. The queue lives as long as one of its shares, so such a seat needs no
+/// borrow, and goes to any thread by itself.
+#[derive(Drop)]
+pub struct OwnedSeat<Q: Fifo + Drop> {
+    pub(crate) queue: Arc<Q, Global>,
+    pub(crate) seat: Q::Seat,
+}
+
+impl<Q: Fifo + Drop> OwnedSeat<Q> {
+    ghost use Rattle.owned_seats.specs.Owned.{queue_of, seat_of};
+
+    /// This seat, with this share of its queue. Takes no memory and doesn't wait.
+    pub fn new(queue: Arc<Q, Global>, seat: Q::Seat) -> OwnedSeat<Q>
+        ensures queue { queue_of result ≡ queue.value }
+        ensures seat { seat_of result ≡ seat }
+    {
+        OwnedSeat { queue, seat }
+    }
+
+    /// Pushes a body at the back, in so many turns at most, 1 or more. The seat may push.
+    ///
+    /// Refusals: as those of the queue's `try_push`. Takes no memory and doesn't wait.
+    pub fn try_push(&mut self, body: Body, turns: u32) -> Result<(), Refusal>
+        requires seat { Q.is_seat (queue_of self.old) (seat_of self.old) }
+        requires role { MayPush (Q.permits (queue_of self.old))
+            (Q.known (seat_of self.old)).number }
+        requires turns { 1 ≤ turns }
+        ensures queue { queue_of self.new ≡ queue_of self.old }
+        ensures seat { Q.is_seat (queue_of self.new) (seat_of self.new) }
+        ensures number { (Q.known (seat_of self.new)).number ≡ (Q.known (seat_of self.old)).number }
+        ensures pushed { OnOk result
+            (Pushed (Q.known (seat_of self.old)) body (Q.known (seat_of self.new))) }
+        ensures refused { IfErr result
+            (λ why. PushRefused (Q.known (seat_of self.old)) why (Q.known (seat_of self.new))) }
+        ensures why { IfErr result StopsPush }
+        ensures caused { IfErr result
+            (Q.push_cause (queue_of self.old) (seat_of self.old) (seat_of self.new) turns) }
+    {
+        self.queue.try_push(&mut self.seat, body, turns)
+    }
+
+    /// Takes the value at the front, in so many turns at most, 1 or more; none where the queue was empty. The seat may
+    /// pop.
+    ///
+    /// Refusals: as those of the queue's `try_pop`. Takes no memory and doesn't wait.
+    pub fn try_pop(&mut self, turns: u32) -> Result<Option<Taken>, Refusal>
+        requires seat { Q.is_seat (queue_of self.old) (seat_of self.old) }
+        requires role { MayPop (Q.permits (queue_of self.old)) (Q.known (seat_of self.old)).number }
+        requires turns { 1 ≤ turns }
+        ensures queue { queue_of self.new ≡ queue_of self.old }
+        ensures seat { Q.is_seat (queue_of self.new) (seat_of self.new) }
+        ensures number { (Q.known (seat_of self.new)).number ≡ (Q.known (seat_of self.old)).number }
+        ensures answer { IfOk result
+            (λ taken. PopAnswers (Q.known (seat_of self.old)) taken (Q.known (seat_of self.new))) }
+        ensures refused { IfErr result
+            (λ why. PopRefused (Q.known (seat_of self.old)) why (Q.known (seat_of self.new))) }
+        ensures why { IfErr result StopsPop }
+        ensures caused { IfErr result
+            (Q.pop_cause (queue_of self.old) (seat_of self.old) (seat_of self.new) turns) }
+    {
+        self.queue.try_pop(&mut self.seat, turns)
+    }
+
+    /// Shuts the queue, in so many turns at most, 1 or more: no push stands after it, and what is in the queue stays to
+    /// be popped. The seat may push.
+    ///
+    /// Refusals: as those of the queue's `try_shut`. Takes no memory and doesn't wait.
+    pub fn try_shut(&mut self, turns: u32) -> Result<(), Refusal>
+        requires seat { Q.is_seat (queue_of self.old) (seat_of self.old) }
+        requires role { MayPush (Q.permits (queue_of self.old))
+            (Q.known (seat_of self.old)).number }
+        requires turns { 1 ≤ turns }
+        ensures queue { queue_of self.new ≡ queue_of self.old }
+        ensures seat { Q.is_seat (queue_of self.new) (seat_of self.new) }
+        ensures number { (Q.known (seat_of self.new)).number ≡ (Q.known (seat_of self.old)).number }
+        ensures shut { OnOk result
+            (DidShut (Q.known (seat_of self.old)) (Q.known (seat_of self.new))) }
+        ensures refused { IfErr result
+            (λ why. PushRefused (Q.known (seat_of self.old)) why (Q.known (seat_of self.new))) }
+        ensures why { IfErr result StopsShut }
+        ensures caused { IfErr result
+            (Q.shut_cause (queue_of self.old) (seat_of self.old) (seat_of self.new) turns) }
+    {
+        self.queue.try_shut(&mut self.seat, turns)
+    }
+
+    /// Afterwards both seats, which are of one queue, have seen one history, which begins with what each had seen. Takes
+    /// no memory and doesn't wait.
+    pub fn meet(&mut self, other: &mut OwnedSeat<Q>)
+        requires one { Q.is_seat (queue_of self.old) (seat_of self.old) }
+        requires other { Q.is_seat (queue_of self.old) (seat_of other.old) }
+        ensures queue { queue_of self.new ≡ queue_of self.old }
+        ensures other_queue { queue_of other.new ≡ queue_of other.old }
+        ensures one { Q.is_seat (queue_of self.old) (seat_of self.new) }
+        ensures other { Q.is_seat (queue_of self.old) (seat_of other.new) }
+        ensures meets { Meets (Q.known (seat_of self.old)) (Q.known (seat_of other.old))
+            (Q.known (seat_of self.new)) (Q.known (seat_of other.new)) }
+    {
+        self.queue.meet(&mut self.seat, &mut other.seat)
+    }
+
+    /// Whether the seat may push. Takes no memory and doesn't wait.
+    pub fn may_push(&self) -> bool
+        requires { Q.is_seat (queue_of self.now) (seat_of self.now) }
+        ensures { IsTrue result ↔
+            MayPush (Q.permits (queue_of self.now)) (Q.known (seat_of self.now)).number }
+    {
+        self.queue.may_push(&self.seat)
+    }
+
+    /// Whether the seat may pop. Takes no memory and doesn't wait.
+    pub fn may_pop(&self) -> bool
+        requires { Q.is_seat (queue_of self.now) (seat_of self.now) }
+        ensures { IsTrue result ↔
+            MayPop (Q.permits (queue_of self.now)) (Q.known (seat_of self.now)).number }
+    {
+        self.queue.may_pop(&self.seat)
+    }
+
+    /// How many shares of the queue there are at one moment. Takes no memory and doesn't wait.
+    pub fn shares(&self) -> usize
+        ensures { 0 < result }
+    {
+        Arc::strong_count(&self.queue)
+    }
+}

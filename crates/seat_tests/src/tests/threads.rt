@@ -1,0 +1,160 @@
+//! Two threads, each with a seat of its own, which holds the queue.
+ghost use Rattle.std.specs.Prelude.{◌≡◌, IfOk};
+ghost use Rattle.std.specs.List.{All};
+ghost use Rattle.seat_tests.specs.Owned.{IsOwn};
+
+use any_queue::AnyQueue;
+use counted_ref::MOST_COUNT;
+use history::{Body, Refusal, Taken};
+use line_table::Kind;
+use node_arena::Role;
+use owned_seats::{OwnedSeat, deal};
+use std::alloc::Global;
+use std::test::Fail;
+use std::thread::{Threads, join};
+
+/// How many bodies each thread pushes.
+const MOST: u64 = 1000;
+
+/// More turns than the other thread can be in the way.
+const TURNS: u32 = 1_000_000;
+
+/// A seat that holds a queue of either kind.
+pub type Own = OwnedSeat<AnyQueue>;
+
+/// What a thread popped: how many values, and whether the bodies of each pusher rose.
+#[derive(Clone, Copy, Debug, PartialEq, Eq)]
+struct Tally {
+    last: [u64; 3],
+    popped: u64,
+    in_order: bool,
+}
+
+impl Tally {
+    fn takes(&mut self, taken: Taken) {
+        let (from, body) = (usize::from(taken.from), taken.body.number());
+        if from < 3 && self.last[from] < body {
+            self.last[from] = body;
+        } else {
+            self.in_order = false;
+        }
+        self.popped = self.popped.wrapping_add(1);
+    }
+}
+
+/// The two seats of a new queue, each of which may push and pop.
+pub fn owned_of(alloc: Global, kind: Kind) -> Result<Vec<Own>, Refusal>
+    ensures { IfOk result (λ owned. All IsOwn owned.items) }
+{
+    let roles = [Role::Both, Role::Both];
+    let (queue, seats) = AnyQueue::new(alloc, kind, 64, MOST_COUNT, &roles)?;
+    deal(alloc, queue, seats)
+}
+
+/// The last of these seats.
+pub fn last(owned: &mut Vec<Own>) -> Result<Own, Refusal>
+    requires { All IsOwn owned.old.items }
+    ensures rest { All IsOwn owned.new.items }
+    ensures last { IfOk result IsOwn }
+{
+    match owned.pop() {
+        Some(seat) => Ok(seat),
+        None => Err(Refusal::Lost),
+    }
+}
+
+/// Pushes a body, where the seat may.
+pub fn push(seat: &mut Own, number: u64) -> bool
+    requires { IsOwn seat.old }
+    ensures { IsOwn seat.new }
+{
+    let Some(body) = Body::new(number) else {
+        return false;
+    };
+    seat.may_push() && seat.try_push(body, TURNS).is_ok()
+}
+
+/// The value at the front, where the seat may pop and there is one.
+pub fn pop(seat: &mut Own) -> Option<Taken>
+    requires { IsOwn seat.old }
+    ensures { IsOwn seat.new }
+{
+    if !seat.may_pop() {
+        return None;
+    }
+    match seat.try_pop(TURNS) {
+        Ok(taken) => taken,
+        Err(_) => None,
+    }
+}
+
+// Pushes a body, and pops after it.
+fn round(seat: &mut Own, number: u64, tally: &mut Tally)
+    requires { IsOwn seat.old }
+    ensures { IsOwn seat.new }
+{
+    if !push(seat, number) {
+        return;
+    }
+    if let Some(taken) = pop(seat) {
+        tally.takes(taken);
+    }
+}
+
+// Pushes 1, 2 and so on, and pops after each push.
+fn rounds(mut seat: Own) -> (Own, Tally)
+    requires { IsOwn seat }
+    ensures { IsOwn result.0 }
+{
+    let mut tally = Tally {
+        last: [0; 3],
+        popped: 0,
+        in_order: true,
+    };
+    for number in 1..=MOST {
+        round(&mut seat, number, &mut tally);
+    }
+    (seat, tally)
+}
+
+// The rounds of two threads. Then one seat is dropped, and the other one ends the queue: whether both popped in order as many
+// values as they pushed, and all of them were taken.
+fn both_take_all<R: Threads + Sync>(rt: &R, alloc: Global, kind: Kind) -> Result<bool, Refusal> {
+    let mut owned = owned_of(alloc, kind)?;
+    let other = last(&mut owned)?;
+    let one = last(&mut owned)?;
+    let ((one, first), (other, second)) = join(
+        rt,
+        || -> (Own, Tally)
+            requires { IsOwn one }
+            ensures { IsOwn result.0 }
+        { rounds(one) },
+        || -> (Own, Tally)
+            requires { IsOwn other }
+            ensures { IsOwn result.0 }
+        { rounds(other) },
+    );
+    drop(other);
+    match one.close(alloc, Vec::new(alloc))? {
+        Some(mut rest) => Ok(
+            first.in_order
+                && second.in_order
+                && first.popped == MOST
+                && second.popped == MOST
+                && rest.taken() == 2 * MOST
+                && rest.next().is_none(),
+        ),
+        None => Err(Refusal::Lost),
+    }
+}
+
+/// Over both queues.
+#[test]
+fn threads_own_their_seats(rt: HostRuntime) -> Result<(), Fail> {
+    let mut right = true;
+    for kind in [Kind::NonBlocking, Kind::TwoLock] {
+        right = both_take_all(&rt, rt.alloc(), kind)? && right;
+    }
+    assert_eq!(rt; right, true);
+    Ok(())
+}

@@ -1,0 +1,81 @@
+/* What each call answers that is refused, and what msq_close leaves. Prints how many answers were as they should be. */
+#include "msq.h"
+
+#include <stdio.h>
+
+static unsigned right, wrong;
+
+static void expect(const char *what, uint64_t found, uint64_t due) {
+    if (found == due) {
+        right++;
+    } else {
+        wrong++;
+        fprintf(stderr, "codes: %s: %llu, and not %llu\n", what, (unsigned long long)found, (unsigned long long)due);
+    }
+}
+
+static void calls_are_refused(uint32_t kind) {
+    const uint8_t roles[] = {MSQ_GIVER, MSQ_TAKER};
+    const uint8_t none[] = {MSQ_GIVER, 0};
+    msq_seat seats[2] = {0};
+    msq_value value = {7, 7};
+    expect("a push without a seat", msq_try_push(&seats[0], 1, 8), MSQ_NO_SEAT);
+    expect("a pop without a seat", msq_try_pop(&seats[0], 8, &value), MSQ_NO_SEAT);
+    expect("a shut without a seat", msq_try_shut(&seats[0], 8), MSQ_NO_SEAT);
+    expect("a meeting without seats", msq_meet(&seats[0], &seats[1]), MSQ_NO_SEAT);
+    expect("no such kind", msq_create(2, 4, MSQ_MOST_COUNT, roles, 2, seats, 2), MSQ_BAD_SIZE);
+    expect("no such role", msq_create(kind, 4, MSQ_MOST_COUNT, none, 2, seats, 2), MSQ_BAD_SIZE);
+    expect("one node", msq_create(kind, 1, MSQ_MOST_COUNT, roles, 2, seats, 2), MSQ_BAD_SIZE);
+    expect("a role less", msq_create(kind, 4, MSQ_MOST_COUNT, roles, 1, seats, 2), MSQ_BAD_SIZE);
+    expect("create", msq_create(kind, 4, MSQ_MOST_COUNT, roles, 2, seats, 2), MSQ_OK);
+    expect("create again", msq_create(kind, 4, MSQ_MOST_COUNT, roles, 2, seats, 2), MSQ_IN_USE);
+    expect("a body of 2^48", msq_try_push(&seats[0], MSQ_BODIES, 8), MSQ_BAD_SIZE);
+    expect("no turns", msq_try_push(&seats[0], 1, 0), MSQ_BAD_SIZE);
+    expect("a taker pushes", msq_try_push(&seats[1], 1, 8), MSQ_NO_ROLE);
+    expect("a giver pops", msq_try_pop(&seats[0], 8, &value), MSQ_NO_ROLE);
+    expect("a taker shuts", msq_try_shut(&seats[1], 8), MSQ_NO_ROLE);
+    expect("an empty queue", msq_try_pop(&seats[1], 8, &value), MSQ_EMPTY);
+    expect("the value", value.body, 7);
+    expect("a shut", msq_try_shut(&seats[0], 8), MSQ_OK);
+    expect("a push behind it", msq_try_push(&seats[0], 1, 8), MSQ_CLOSED);
+    expect("a pop behind it", msq_try_pop(&seats[1], 8, &value), MSQ_CLOSED);
+    msq_drop(&seats[0]);
+    msq_drop(&seats[0]);
+    msq_drop(&seats[1]);
+    expect("a push by a dropped seat", msq_try_push(&seats[0], 1, 8), MSQ_NO_SEAT);
+}
+
+static void a_queue_is_closed(uint32_t kind) {
+    const uint8_t roles[] = {MSQ_BOTH, MSQ_BOTH};
+    msq_seat seats[2] = {0};
+    msq_value value, values[3] = {{9, 9}, {9, 9}, {9, 9}};
+    msq_rest rest = {9, 9, false, true};
+    expect("create", msq_create(kind, 8, MSQ_MOST_COUNT, roles, 2, seats, 2), MSQ_OK);
+    for (uint64_t body = 1; body <= 3; body++) {
+        expect("a push", msq_try_push(&seats[body % 2], body, 8), MSQ_OK);
+    }
+    expect("a pop", msq_try_pop(&seats[0], 8, &value), MSQ_OK);
+    expect("close by one of two", msq_close(seats, 1, values, 2, &rest), MSQ_IN_USE);
+    expect("close by none", msq_close(seats, 0, values, 2, &rest), MSQ_BAD_SIZE);
+    msq_seat with_none[2] = {seats[0], {0}};
+    expect("close by an empty one", msq_close(with_none, 2, values, 2, &rest), MSQ_NO_SEAT);
+    expect("nothing is written", values[0].body + rest.left, 18);
+    expect("close with room for one", msq_close(seats, 2, values, 1, &rest), MSQ_OK);
+    expect("what is left", rest.left, 2);
+    expect("what was taken", rest.taken, 1);
+    expect("whole", rest.whole, true);
+    expect("shut", rest.was_shut, false);
+    expect("the first body left", values[0].body, 2);
+    expect("its seat", values[0].from, 1);
+    expect("no further value", values[1].body, 9);
+    expect("a push behind the end", msq_try_push(&seats[1], 1, 8), MSQ_NO_SEAT);
+}
+
+int main(void) {
+    for (uint32_t kind = MSQ_NON_BLOCKING; kind <= MSQ_TWO_LOCK; kind++) {
+        calls_are_refused(kind);
+        a_queue_is_closed(kind);
+    }
+    printf("%u answers as they should be, %u not\n", right, wrong);
+    return wrong != 0;
+}

@@ -1,0 +1,12 @@
+//! Tells where libmsq.a is: in the folder that MSQ_LIB names, or where tools/library puts it.
+use std::path::Path;
+
+fn main() {
+    let own = std::env::var("CARGO_MANIFEST_DIR").unwrap_or_default();
+    let built = Path::new(&own).join("../../out/lib");
+    let folder = std::env::var("MSQ_LIB").unwrap_or_else(|_| built.display().to_string());
+    println!("cargo:rerun-if-env-changed=MSQ_LIB");
+    println!("cargo:rerun-if-changed={folder}/libmsq.a");
+    println!("cargo:rustc-link-search=native={folder}");
+    println!("cargo:rustc-link-lib=static=msq");
+}

@@ -1,0 +1,216 @@
+//! Bounded queues for any number of threads that push and pop: first in, first out, with no lock around a call.
+//!
+//! A thread calls by a seat of its own: a [`Sender`] or a [`Receiver`]. No call waits, and none takes memory but [`queue`].
+//!
+//! ```
+//! let (mut senders, mut receivers) = msq::queue(msq::Kind::NonBlocking, 64, 1, 1).unwrap();
+//! let body = msq::Body::new(42).unwrap();
+//! senders[0].try_push(body, 8).unwrap();
+//! assert_eq!(receivers[0].try_pop(8), Ok(Some(msq::Value { body, from: 1 })));
+//! ```
+#![warn(missing_docs)]
+
+use std::cell::Cell;
+use std::fmt;
+use std::marker::PhantomData;
+
+mod raw;
+
+/// What is pushed: a number below 2^48.
+#[derive(Clone, Copy, Debug, PartialEq, Eq, PartialOrd, Ord, Hash)]
+pub struct Body(u64);
+
+impl Body {
+    /// The greatest number.
+    pub const MOST: u64 = (1 << 48) - 1;
+
+    /// The body of this number; none from 2^48 on.
+    pub const fn new(number: u64) -> Option<Body> {
+        if number <= Body::MOST {
+            Some(Body(number))
+        } else {
+            None
+        }
+    }
+
+    /// Its number.
+    pub const fn number(self) -> u64 {
+        self.0
+    }
+}
+
+impl From<u32> for Body {
+    fn from(number: u32) -> Body {
+        Body(u64::from(number))
+    }
+}
+
+/// A value of a queue: its body, and the number of the seat that pushed it, from 1 on: senders first.
+#[derive(Clone, Copy, Debug, PartialEq, Eq)]
+pub struct Value {
+    /// Its body.
+    pub body: Body,
+    /// Who pushed it.
+    pub from: u16,
+}
+
+/// Which queue.
+#[derive(Clone, Copy, Debug, PartialEq, Eq)]
+pub enum Kind {
+    /// A thread that stops keeps no other from going on.
+    NonBlocking,
+    /// A thread that stops within a call may keep others from pushing, or from popping.
+    TwoLock,
+}
+
+/// Why a call is refused; the queue is then as if the call had not been.
+#[derive(Clone, Copy, Debug, PartialEq, Eq)]
+pub enum Refusal {
+    /// A push: all nodes were in use.
+    NoNode,
+    /// A count is at its limit, and the call can't be made any more.
+    WornOut,
+    /// Others were in the way in each of the turns: call again.
+    Busy,
+    /// No memory.
+    Memory,
+    /// A number is out of its range.
+    BadSize,
+    /// A push: the queue is shut. A pop: it is shut and empty.
+    Closed,
+}
+
+impl fmt::Display for Refusal {
+    fn fmt(&self, f: &mut fmt::Formatter<'_>) -> fmt::Result {
+        f.write_str(match self {
+            Refusal::NoNode => "all nodes were in use",
+            Refusal::WornOut => "a count is at its limit",
+            Refusal::Busy => "others were in the way",
+            Refusal::Memory => "no memory",
+            Refusal::BadSize => "a number is out of its range",
+            Refusal::Closed => "the queue is shut",
+        })
+    }
+}
+
+impl std::error::Error for Refusal {}
+
+// The answer of a code. No other code comes: each seat is full, and does what its role lets it.
+fn answer(code: u32) -> Result<(), Refusal> {
+    match code {
+        raw::OK => Ok(()),
+        raw::NO_NODE => Err(Refusal::NoNode),
+        raw::WORN_OUT => Err(Refusal::WornOut),
+        raw::BUSY => Err(Refusal::Busy),
+        raw::MEMORY => Err(Refusal::Memory),
+        raw::BAD_SIZE => Err(Refusal::BadSize),
+        raw::CLOSED => Err(Refusal::Closed),
+        other => unreachable!("libmsq answered {other}"),
+    }
+}
+
+// A seat. It may go to another thread, and isn't shared, which the cell says.
+struct Seat {
+    raw: raw::Seat,
+    alone: PhantomData<Cell<()>>,
+}
+
+// SAFETY: a seat has no thread of its own, and owns its share of the queue, whose words are atomics.
+unsafe impl Send for Seat {}
+
+impl Seat {
+    fn of(raw: raw::Seat) -> Seat {
+        Seat {
+            raw,
+            alone: PhantomData,
+        }
+    }
+}
+
+impl Drop for Seat {
+    fn drop(&mut self) {
+        // SAFETY: the seat is what the last call left, and in no call.
+        unsafe { raw::msq_drop(&mut self.raw) }
+    }
+}
+
+/// A seat that pushes.
+pub struct Sender {
+    seat: Seat,
+}
+
+/// A seat that pops.
+pub struct Receiver {
+    seat: Seat,
+}
+
+/// A queue with so many nodes, from 2 on, and so many seats that push and that pop. There is room for one value less than
+/// there are nodes, and each seat may keep one node.
+pub fn queue(
+    kind: Kind,
+    nodes: u32,
+    senders: u16,
+    receivers: u16,
+) -> Result<(Vec<Sender>, Vec<Receiver>), Refusal> {
+    let (senders, receivers) = (usize::from(senders), usize::from(receivers));
+    let mut roles = vec![raw::GIVER; senders];
+    roles.resize(senders + receivers, raw::TAKER);
+    let mut made: Vec<raw::Seat> = roles.iter().map(|_| raw::Seat::EMPTY).collect();
+    let kind = match kind {
+        Kind::NonBlocking => raw::NON_BLOCKING,
+        Kind::TwoLock => raw::TWO_LOCK,
+    };
+    // SAFETY: both slices are as long as is said, and each seat is empty.
+    let code = unsafe {
+        raw::msq_create(
+            kind,
+            nodes,
+            raw::MOST_COUNT,
+            roles.as_ptr(),
+            roles.len(),
+            made.as_mut_ptr(),
+            made.len(),
+        )
+    };
+    answer(code)?;
+    let mut seats = made.into_iter().map(Seat::of);
+    let givers = seats
+        .by_ref()
+        .take(senders)
+        .map(|seat| Sender { seat })
+        .collect();
+    let takers = seats.map(|seat| Receiver { seat }).collect();
+    Ok((givers, takers))
+}
+
+impl Sender {
+    /// Pushes a body, in so many turns at most, 1 or more.
+    pub fn try_push(&mut self, body: Body, turns: u32) -> Result<(), Refusal> {
+        // SAFETY: the seat is full, and borrowed for this call alone.
+        answer(unsafe { raw::msq_try_push(&mut self.seat.raw, body.0, turns) })
+    }
+
+    /// Shuts the queue, in so many turns at most, 1 or more: no push comes after it, and what is in it stays to be popped.
+    /// `Closed` where it was shut before.
+    pub fn try_shut(&mut self, turns: u32) -> Result<(), Refusal> {
+        // SAFETY: as for a push.
+        answer(unsafe { raw::msq_try_shut(&mut self.seat.raw, turns) })
+    }
+}
+
+impl Receiver {
+    /// Pops the value at the front, in so many turns at most, 1 or more; none where the queue was empty.
+    pub fn try_pop(&mut self, turns: u32) -> Result<Option<Value>, Refusal> {
+        let mut value = raw::Value { body: 0, from: 0 };
+        // SAFETY: the seat is full, and borrowed for this call alone.
+        let code = unsafe { raw::msq_try_pop(&mut self.seat.raw, turns, &mut value) };
+        if code == raw::EMPTY {
+            return Ok(None);
+        }
+        answer(code)?;
+        Ok(Some(Value {
+            body: Body(value.body),
+            from: value.from,
+        }))
+    }
+}

@@ -1,0 +1,51 @@
+//! The functions of include/msq.h.
+
+pub const OK: u32 = 0;
+pub const NO_NODE: u32 = 1;
+pub const WORN_OUT: u32 = 2;
+pub const BUSY: u32 = 3;
+pub const MEMORY: u32 = 4;
+pub const BAD_SIZE: u32 = 5;
+pub const CLOSED: u32 = 16;
+pub const EMPTY: u32 = 32;
+
+pub const NON_BLOCKING: u32 = 0;
+pub const TWO_LOCK: u32 = 1;
+pub const GIVER: u8 = 1;
+pub const TAKER: u8 = 2;
+pub const MOST_COUNT: u64 = (1 << 40) - 1;
+
+#[repr(C)]
+pub struct Seat {
+    at: *mut std::ffi::c_void,
+    full: bool,
+}
+
+impl Seat {
+    pub const EMPTY: Seat = Seat {
+        at: std::ptr::null_mut(),
+        full: false,
+    };
+}
+
+#[repr(C)]
+pub struct Value {
+    pub body: u64,
+    pub from: u16,
+}
+
+extern "C" {
+    pub fn msq_create(
+        kind: u32,
+        nodes: u32,
+        limit: u64,
+        roles: *const u8,
+        roles_len: usize,
+        seats: *mut Seat,
+        seats_len: usize,
+    ) -> u32;
+    pub fn msq_try_push(seat: *mut Seat, body: u64, turns: u32) -> u32;
+    pub fn msq_try_pop(seat: *mut Seat, turns: u32, value: *mut Value) -> u32;
+    pub fn msq_try_shut(seat: *mut Seat, turns: u32) -> u32;
+    pub fn msq_drop(seat: *mut Seat);
+}
