@@ -13,7 +13,18 @@ use Rattle.line_table.specs.declared.lines.Kind.TheVariants.{TwoLock, NonBlockin
 use Rattle.command_line.specs.declared.commands.Command.{Command}
 use Rattle.command_line.specs.declared.commands.Crew.{Crew}
 use Rattle.command_line.specs.declared.commands.Task.{Task}
-use Rattle.command_line.specs.declared.commands.Task.TheVariants.{Check, Place, Work, Post}
+use Rattle.command_line.specs.declared.commands.Task.TheVariants.{Trace, Show, Check, Place, Work, Post}
+use Rattle.command_line.specs.declared.commands.View.{View}
+
+-- whether a task tells the steps of a schedule
+abbrev pub is_trace : Task → Bool
+is_trace Trace = true
+is_trace _ = false
+
+-- whether a task draws the run of a schedule
+abbrev pub is_show : Task → Bool
+is_show (Show view) = true
+is_show _ = false
 
 -- whether a task judges a history
 abbrev pub is_check : Task → Bool
@@ -61,6 +72,13 @@ abbrev pub queue_rule : TextRow → Rule
 queue_rule queues =
     record (new_rule (codes "QUEUE")) { long = Some (codes "queue"); parser = Some (Names queues); defaults = codes "nonblocking" ∷ [] }
 
+-- the command `show`, with a FILE, so many columns, a first and a last step, and an actor
+abbrev pub show_app : App
+show_app =
+    with_rule (with_rule (with_rule (with_rule (file_app (codes "show")) (number_rule (codes "WIDTH") (codes "width") 40 190 (codes "80")))
+    (number_rule (codes "FROM") (codes "from") 1 (2 ^ 32 - 1) (codes "1"))) (number_rule (codes "TO") (codes "to") 0 (2 ^ 32 - 1) (codes "0")))
+    (number_rule (codes "ACTOR") (codes "actor") 0 65535 (codes "0"))
+
 -- the command `place`, with a FILE, and so many steps
 abbrev pub place_app : App
 place_app = with_rule (file_app (codes "place")) (number_rule (codes "STEPS") (codes "steps") 0 1000000000 (codes "1000000"))
@@ -86,8 +104,9 @@ bare_app =
 -- the program's command line, as clap reads it
 abbrev pub command_line_app : TextRow → App
 command_line_app queues =
-    with_subcommand (with_subcommand (with_subcommand (with_subcommand (with_subcommand bare_app (file_app (codes "run")).top)
-    (file_app (codes "check")).top) place_app.top) (work_app queues).top) (post_app queues).top
+    with_subcommand (with_subcommand (with_subcommand (with_subcommand (with_subcommand (with_subcommand (with_subcommand bare_app
+    (file_app (codes "run")).top) (file_app (codes "trace")).top) show_app.top) (file_app (codes "check")).top) place_app.top) (work_app queues).top)
+    (post_app queues).top
 
 -- the FILE among the matches of a command
 abbrev pub file_met : Option (Text × List Row) → Option Text
@@ -120,11 +139,20 @@ pub record IsCrewOf (options : List Row) (crew : Crew) : Type 0 where
   pub queue : crew.kind ≡ kind_named (first_of (codes "QUEUE") options)
   pub room : SaysNumber (one_of (codes "NODES") options) 1024 crew.nodes
 
+-- what a command's options say of a picture
+pub record IsViewOf (options : List Row) (view : View) : Type 0 where
+  pub width : SaysNumber (one_of (codes "WIDTH") options) 80 view.width
+  pub first : SaysNumber (one_of (codes "FROM") options) 1 view.from
+  pub last : SaysNumber (one_of (codes "TO") options) 0 view.to
+  pub actor : SaysNumber (one_of (codes "ACTOR") options) 0 view.actor
+
 -- the options of the command that was met are those of a task
 abbrev pub HasOptions : Option (Text × List Row) → Task → Type 0
+HasOptions (Some command) (Show view) = IsViewOf command.1 view
 HasOptions (Some command) (Place steps) = SaysNumber (one_of (codes "STEPS") command.1) 1000000 steps
 HasOptions (Some command) (Work crew) = IsCrewOf command.1 crew
 HasOptions (Some command) (Post kind) = kind ≡ kind_named (first_of (codes "QUEUE") command.1)
+HasOptions None (Show view) = ⊥
 HasOptions None (Place steps) = ⊥
 HasOptions None (Work crew) = ⊥
 HasOptions None (Post kind) = ⊥
@@ -132,6 +160,8 @@ HasOptions met task = Unit {0}
 
 -- the task is that of the command that was met, with its options; no command is a run
 pub record IsTask (met : Option (Text × List Row)) (task : Task) : Type 0 where
+  pub trace : is_trace task ≡ is_met (codes "trace") met
+  pub show : is_show task ≡ is_met (codes "show") met
   pub check : is_check task ≡ is_met (codes "check") met
   pub place : is_place task ≡ is_met (codes "place") met
   pub work : is_work task ≡ is_met (codes "work") met

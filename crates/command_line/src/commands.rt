@@ -1,7 +1,7 @@
 //! The words after the program's name.
 ghost use Rattle.std.specs.Prelude.{◌≡◌, ◌⊎◌, [], IfErr, IfOk, map, option_map, string_bytes, codes, true, false};
 ghost use Rattle.clap.specs.Words.{HasKind, app_of, first_of, found_of, kind_of, one_of, rows_of, rule_of, subcommand_rows_of, takes, with_subcommand};
-ghost use Rattle.command_line.specs.Commands.{command_line_app, faults_in, file_app, file_met, kind_named, number_rule, place_app, post_app, queue_rule, status_at, work_app, AreQueues, AreTaken, IsAsked, IsAskedSomewhere, IsCrewOf, IsStatusOf, IsTask, SaysNumber};
+ghost use Rattle.command_line.specs.Commands.{command_line_app, faults_in, file_app, file_met, kind_named, number_rule, place_app, post_app, queue_rule, show_app, status_at, work_app, AreQueues, AreTaken, IsAsked, IsAskedSomewhere, IsCrewOf, IsStatusOf, IsTask, IsViewOf, SaysNumber};
 
 use clap::builder::ValueParser;
 use clap::error::ErrorKind;
@@ -25,6 +25,12 @@ const USUAL_NODES: u32 = 1024;
 /// How many steps a search for an order takes at most where the words don't say it.
 const USUAL_STEPS: u32 = 1_000_000;
 
+/// How many columns a picture has at most where the words don't say it.
+const USUAL_WIDTH: u32 = 80;
+
+/// The first step that a picture shows where the words don't say it.
+const USUAL_FROM: u32 = 1;
+
 /// What the program's help says at its end.
 const AFTER_HELP: &str = "With no words at all it runs the schedule on standard input.
 
@@ -46,11 +52,28 @@ pub struct Crew {
     pub nodes: u32,
 }
 
+/// What `show` shows.
+#[derive(Clone, Copy, Debug)]
+pub struct View {
+    /// How many columns a row has at most.
+    pub width: u32,
+    /// The first step.
+    pub from: u32,
+    /// The last step; 0 for a hundred steps.
+    pub to: u32,
+    /// The one actor; 0 for as many as have room.
+    pub actor: u32,
+}
+
 /// What is done with a file.
 #[derive(Clone, Copy, Debug)]
 pub enum Task {
     /// Runs the schedule in it.
     Run,
+    /// Tells each step of the schedule in it.
+    Trace,
+    /// Draws the run of the schedule in it.
+    Show(View),
     /// Judges the history in it.
     Check,
     /// Finds linearization points for the recorded history in it, by a search of at most so many steps.
@@ -147,6 +170,26 @@ fn queue_option<'a>(alloc: Global, queues: &'a [&'a str]) -> Arg<'a>
         .help("The queue")
 }
 
+/// The command `show`.
+fn show_command<'a>(alloc: Global) -> Result<clap::Command<'a>, AllocError>
+    ensures { IfOk result (λ command. app_of command ≡ show_app) }
+{
+    let command = command_on(
+        alloc,
+        "show",
+        "Runs a schedule and draws it: an actor a column, a step a row",
+        "The schedule; - is standard input",
+    )?;
+    let width = number_option(alloc, "WIDTH", "width", (40, 190), "80");
+    let command = command.arg(width.help("How many columns a row has at most, 40 to 190"))?;
+    let from = number_option(alloc, "FROM", "from", (1, u32::MAX as u64), "1");
+    let command = command.arg(from.help("The first step that is shown, 1 to 2^32 - 1"))?;
+    let to = number_option(alloc, "TO", "to", (0, u32::MAX as u64), "0");
+    let command = command.arg(to.help("The last step that is shown; 0 for a hundred steps"))?;
+    let actor = number_option(alloc, "ACTOR", "actor", (0, 65_535), "0");
+    command.arg(actor.help("The one actor that is shown; 0 for as many as have room"))
+}
+
 /// The command `place`.
 fn place_command<'a>(alloc: Global) -> Result<clap::Command<'a>, AllocError>
     ensures { IfOk result (λ command. app_of command ≡ place_app) }
@@ -193,7 +236,7 @@ fn post_command<'a>(alloc: Global, queues: &'a [&'a str]) -> Result<clap::Comman
     command.arg(queue_option(alloc, queues))
 }
 
-/// The command line: `run`, `check`, `place`, `work` and `post` with a FILE, help and the version.
+/// The command line: `run`, `trace`, `show`, `check`, `place`, `work` and `post` with a FILE, help and the version.
 fn command_line<'a>(alloc: Global, queues: &'a [&'a str]) -> Result<clap::Command<'a>, AllocError>
     ensures { IfOk result (λ command. app_of command ≡ command_line_app queues.entry) }
 {
@@ -212,6 +255,14 @@ fn command_line<'a>(alloc: Global, queues: &'a [&'a str]) -> Result<clap::Comman
         "Runs a schedule and writes its history",
         "The schedule; - is standard input",
     )?;
+    let program = with_command(
+        alloc,
+        program,
+        "trace",
+        "Runs a schedule and writes each of its steps",
+        "The schedule; - is standard input",
+    )?;
+    let program = program.subcommand(show_command(alloc)?)?;
     let program = with_command(
         alloc,
         program,
@@ -261,7 +312,11 @@ fn task_in(matches: &ArgMatches<'_>) -> Task
     let Some((name, options)) = matches.subcommand() else {
         return Task::Run;
     };
-    if name == "check" {
+    if name == "trace" {
+        Task::Trace
+    } else if name == "show" {
+        Task::Show(view_in(options))
+    } else if name == "check" {
         Task::Check
     } else if name == "place" {
         Task::Place(number_in(options, "STEPS", USUAL_STEPS))
@@ -271,6 +326,18 @@ fn task_in(matches: &ArgMatches<'_>) -> Task
         Task::Post(kind_in(options))
     } else {
         Task::Run
+    }
+}
+
+/// What is shown, among the options of `show`.
+fn view_in(options: &ArgMatches<'_>) -> View
+    ensures { IsViewOf (rows_of (found_of options.now)) result }
+{
+    View {
+        width: number_in(options, "WIDTH", USUAL_WIDTH),
+        from: number_in(options, "FROM", USUAL_FROM),
+        to: number_in(options, "TO", 0),
+        actor: number_in(options, "ACTOR", 0),
     }
 }
 

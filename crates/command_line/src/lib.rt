@@ -3,4 +3,4 @@
 
 mod commands;
 
-pub use commands::{Command, Crew, Task, read_words};
+pub use commands::{Command, Crew, Task, View, read_words};

@@ -8,12 +8,14 @@ use mail_engine::post_text;
 use place_engine::place_text;
 use placing::Placed;
 use run_engine::run_text;
+use show_engine::{View, show_text};
 use std::fs::File;
 use std::rt::Runtime;
 use std::sync::Wait;
 use std::thread::Threads;
 use std::{env, io};
 use text_io::{ReaderSource, Source, WriterSink};
+use trace_engine::trace_text;
 
 /// Does what the program's words ask for, and answers the exit status: 0 where it is done or help
 /// was asked for, 1 where it was refused, 2 where the words were, 3 where a history isn't one of a queue, 4 where
@@ -69,37 +71,43 @@ fn outcome_on<R: Runtime + AllocGlobal + Threads + Wait + Sync, S: Source + Drop
     let mut reader = source;
     let mut writer = WriterSink::new(io::writer(rt));
     match command.task {
-        Task::Run => {
-            run_text(rt.alloc(), &mut reader, &mut writer)?;
-            Ok(Ending::Well)
+        Task::Run => run_text(rt.alloc(), &mut reader, &mut writer)?,
+        Task::Trace => trace_text(rt.alloc(), &mut reader, &mut writer)?,
+        Task::Show(view) => show_text(rt.alloc(), &mut reader, &mut writer, view_of(view))?,
+        Task::Check => {
+            return Ok(Ending::from(check_text(rt.alloc(), &mut reader, &mut writer)?));
         }
-        Task::Check => Ok(Ending::from(check_text(rt.alloc(), &mut reader, &mut writer)?)),
-        Task::Place(steps) => match place_text(
+        Task::Place(steps) => {
+            let steps = u64::from(steps);
+            return Ok(
+                match place_text(rt.alloc(), &mut reader, &mut writer, steps)? {
+                    Placed::History(_) => Ending::Well,
+                    Placed::Impossible(_) => Ending::No,
+                    Placed::Open(_) => Ending::Open,
+                },
+            );
+        }
+        Task::Work(crew) => work_text(
+            rt,
             rt.alloc(),
             &mut reader,
             &mut writer,
-            u64::from(steps),
-        )? {
-            Placed::History(_) => Ok(Ending::Well),
-            Placed::Impossible(_) => Ok(Ending::No),
-            Placed::Open(_) => Ok(Ending::Open),
-        },
-        Task::Work(crew) => {
-            work_text(
-                rt,
-                rt.alloc(),
-                &mut reader,
-                &mut writer,
-                crew.workers,
-                crew.kind,
-                crew.nodes,
-            )?;
-            Ok(Ending::Well)
-        }
-        Task::Post(kind) => {
-            post_text(rt, rt.alloc(), &mut reader, &mut writer, kind)?;
-            Ok(Ending::Well)
-        }
+            crew.workers,
+            crew.kind,
+            crew.nodes,
+        )?,
+        Task::Post(kind) => post_text(rt, rt.alloc(), &mut reader, &mut writer, kind)?,
+    }
+    Ok(Ending::Well)
+}
+
+/// What a picture shows, as the words say it.
+fn view_of(view: command_line::View) -> View {
+    View {
+        width: view.width,
+        from: view.from,
+        to: view.to,
+        actor: view.actor,
     }
 }
 

@@ -1,21 +1,23 @@
 use crate::tests::comparing::same;
-use command_line::{Task, read_words};
+use command_line::{Command, Task, read_words};
 use line_table::Kind;
 use std::alloc::{AllocError, Global};
 use std::process::Abort;
 use std::test::Fail;
 
-/// What a task's words ask for: 1 for a run, 2 for a check, 3 for work, 4 for posting, 5 for placing; the workers, or the steps, the queue and the nodes.
+/// What a task's words ask for: 1 for a run, 2 for a check, 3 for work, 4 for posting, 5 for placing, 6 for a trace, 7 for a picture; the workers, or the steps, the queue and the nodes.
 type Told = (u8, u32, u8, u32);
 
 /// Words, what they ask for, and the file.
-const COMMANDS: [(&[&str], Told, &str); 20] = [
+const COMMANDS: [(&[&str], Told, &str); 22] = [
     (&[], (1, 0, 0, 0), "-"),
     (&["run", "-"], (1, 0, 0, 0), "-"),
     (&["run", "row.schedule"], (1, 0, 0, 0), "row.schedule"),
     (&["run", ""], (1, 0, 0, 0), ""),
     (&["run", "two words"], (1, 0, 0, 0), "two words"),
     (&["run", "--", "--help"], (1, 0, 0, 0), "--help"),
+    (&["trace", "-"], (6, 0, 0, 0), "-"),
+    (&["trace", "row.schedule"], (6, 0, 0, 0), "row.schedule"),
     (&["check", "-"], (2, 0, 0, 0), "-"),
     (&["check", "row.history"], (2, 0, 0, 0), "row.history"),
     (&["place", "-"], (5, 1_000_000, 0, 0), "-"),
@@ -44,11 +46,37 @@ const COMMANDS: [(&[&str], Told, &str); 20] = [
     (&["post", "a", "--queue", "nonblocking"], (4, 0, 2, 0), "a"),
 ];
 
+/// Words that ask for a picture, its columns, its first and its last step, its actor, and the file.
+const PICTURES: [(&[&str], [u32; 4], &str); 4] = [
+    (&["show", "a"], [80, 1, 0, 0], "a"),
+    (&["show", "--width", "40", "-"], [40, 1, 0, 0], "-"),
+    (
+        &["show", "a", "--from=4294967295", "--to", "4294967294"],
+        [80, 4_294_967_295, 4_294_967_294, 0],
+        "a",
+    ),
+    (
+        &["show", "--width=190", "a", "--actor", "65535"],
+        [190, 1, 0, 65_535],
+        "a",
+    ),
+];
+
 /// Words that ask for no command, and the status.
-const OTHERS: [(&[&str], u8); 27] = [
+const OTHERS: [(&[&str], u8); 37] = [
     (&["run"], 2),
     (&["run", "a", "b"], 2),
     (&["run", "--fast", "a"], 2),
+    (&["trace"], 2),
+    (&["trace", "a", "b"], 2),
+    (&["traces", "a"], 2),
+    (&["show"], 2),
+    (&["show", "a", "b"], 2),
+    (&["show", "a", "--width", "39"], 2),
+    (&["show", "a", "--width", "191"], 2),
+    (&["show", "a", "--from", "0"], 2),
+    (&["show", "a", "--actor", "65536"], 2),
+    (&["show", "--help"], 0),
     (&["check"], 2),
     (&["place"], 2),
     (&["place", "a", "b"], 2),
@@ -82,6 +110,8 @@ fn told(task: Task) -> Told {
         Task::Work(crew) => (3, crew.workers, number_of(crew.kind), crew.nodes),
         Task::Post(kind) => (4, 0, number_of(kind), 0),
         Task::Place(steps) => (5, steps, 0, 0),
+        Task::Trace => (6, 0, 0, 0),
+        Task::Show(view) => (7, view.width, 0, view.to),
     }
 }
 
@@ -122,6 +152,24 @@ fn answers(
 fn reads_what_to_do_with_which_file(rt: HostRuntime) -> Result<(), Fail> {
     for (words, task, file) in &COMMANDS {
         answers(&rt, rt.alloc(), words, Ok((*task, *file)))?;
+    }
+    Ok(())
+}
+
+#[test]
+fn reads_what_a_picture_shows(rt: HostRuntime) -> Result<(), Fail> {
+    for (words, view, file) in &PICTURES {
+        let answer = read_words(rt.alloc(), &strings(rt.alloc(), words)?);
+        let found = match &answer {
+            Ok(
+                Command {
+                    task: Task::Show(view),
+                    file,
+                },
+            ) => Some(([view.width, view.from, view.to, view.actor], file.as_str())),
+            _ => None,
+        };
+        same(&rt, found, Some((*view, *file)), format_args!("{words:?}"));
     }
     Ok(())
 }

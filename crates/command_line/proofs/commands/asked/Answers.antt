@@ -13,7 +13,7 @@ pub returns-then-is_empty-clause-asked : goal.returns-then-is_empty-clause-asked
 returns-then-is_empty-clause-asked c =
     let empty = nil_from_length c.args.words.now (eqb-true _ _ (sym c.is_empty.ensures ∙ c.if-is_empty.true)) in
     let queues = c.args.queues in
-    let none : IsTask None Run = record { check = refl; place = refl; work = refl; post = refl; options = tt } in
+    let none : IsTask None Run = record { trace = refl; show = refl; check = refl; place = refl; work = refl; post = refl; options = tt } in
     rw empty (record {
       file = c.in_ok-command_of.ensures.file ∙ ap (λ met. unwrap_or (file_met met) (codes "-")) (sym (met_in-nil queues));
       task = subst (λ met. IsTask met c.in_ok-command_of.field-0.task) (sym (met_in-nil queues)) (rw c.in_ok-command_of.ensures.task none);

@@ -1,0 +1,23 @@
+use Rattle.std.proofs.Common.{◌≡◌, ◌-◌, ◌^◌, ap, ap₂, ◌∙◌, codes, rules}
+use Rattle.std.proofs.lemmas.Result.{IfOk-weaker}
+use Rattle.clap.specs.Words.{app_of, rule_of, with_rule}
+use Rattle.command_line.specs.Commands.{file_app, number_rule}
+use Rattle.command_line.proofs.commands.show_command.Goals as goal
+
+pub returns : goal.returns
+returns c =
+    let width = number_rule (codes "WIDTH") (codes "width") 40 190 (codes "80") in
+    let from = number_rule (codes "FROM") (codes "from") 1 (2 ^ 32 - 1) (codes "1") in
+    let to = number_rule (codes "TO") (codes "to") 0 (2 ^ 32 - 1) (codes "0") in
+    let actor = number_rule (codes "ACTOR") (codes "actor") 0 65535 (codes "0") in
+    let width_is : rule_of c.help.result ≡ width = ap rule_of c.help.ensures ∙ c.number_option-width.ensures.rule in
+    let from_is : rule_of c.help-2.result ≡ from = ap rule_of c.help-2.ensures ∙ c.number_option-from.ensures.rule in
+    let to_is : rule_of c.help-3.result ≡ to = ap rule_of c.help-3.ensures ∙ c.number_option-to.ensures.rule in
+    let actor_is : rule_of c.help-4.result ≡ actor = ap rule_of c.help-4.ensures ∙ c.number_option-actor.ensures.rule in
+    let one : app_of c.in_ok-command-2.command ≡ with_rule (file_app (codes "show")) width =
+    c.in_ok-command-2.ensures.shape (search rules) ∙ ap₂ with_rule c.in_ok-command.ensures width_is in
+    let two : app_of c.in_ok-command-3.command ≡ with_rule (with_rule (file_app (codes "show")) width) from =
+    c.in_ok-command-3.ensures.shape (search rules) ∙ ap₂ with_rule one from_is in
+    let three : app_of c.in_ok-command-4.command ≡ with_rule (with_rule (with_rule (file_app (codes "show")) width) from) to =
+    c.in_ok-command-4.ensures.shape (search rules) ∙ ap₂ with_rule two to_is in
+    IfOk-weaker c.arg-4.result _ _ (λ r h. h.shape (search rules) ∙ ap₂ with_rule three actor_is) c.arg-4.ensures

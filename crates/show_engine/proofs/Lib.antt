@@ -1,0 +1,7 @@
+mod Texts
+mod HasDrawn
+mod Cuts
+mod Lookups
+mod Shown
+mod Links
+mod Gives

@@ -1,0 +1,90 @@
+-- What an actor's step did, as a short text.
+use Rattle.std.specs.Prelude.{ℕ, Bool, true, false, List, [], ◌++◌, Option, Some, None, codes, decimal, if◌then◌else◌}
+use Rattle.std.specs.Str.{bytes_eq}
+use Rattle.history_text.specs.HistoryText.{reply_text}
+use Rattle.line_steps.specs.Memory.{Shared, Word, Fresh, Free, Head, Tail, Tail_lock, Head_lock, Next, Value_of}
+use Rattle.line_table.specs.declared.lines.Line.{Line}
+use Rattle.line_table.specs.declared.lines.Line.TheVariants.{N4, N5, F3, E9, E13, E17, D10, D13, A3, A5, B1, S4, S5, S6, S8}
+use Rattle.line_table.specs.Names.{name_of}
+use Rattle.step_machine.specs.declared.accesses.Contents.{Contents}
+use Rattle.step_machine.specs.declared.accesses.Contents.TheVariants.{Number, Reference, Closed, Value}
+use Rattle.step_machine.specs.declared.actors.Stepped.{Stepped}
+use Rattle.step_machine.specs.declared.actors.Stepped.TheVariants.{Began, Went, Ended}
+use Rattle.step_machine.specs.Accesses.{contents_in}
+
+-- the name of a word
+abbrev pub place_text : Word → List ℕ
+place_text Fresh = codes "Fresh"
+place_text Free = codes "Free"
+place_text Head = codes "Head"
+place_text Tail = codes "Tail"
+place_text Tail_lock = codes "T_lock"
+place_text Head_lock = codes "H_lock"
+place_text (Next n) = decimal n ++ codes ".next"
+place_text (Value_of n) = decimal n ++ codes ".value"
+
+-- what a word holds: a number, a reference, a closed end, or who pushed a value and its body
+abbrev pub held_text : Contents → List ℕ
+held_text (Number n) = decimal n
+held_text (Reference node count) = codes "<" ++ decimal node ++ codes "," ++ decimal count ++ codes ">"
+held_text (Closed count) = codes "<shut," ++ decimal count ++ codes ">"
+held_text (Value v) = codes "(" ++ decimal v.from ++ codes "," ++ decimal v.body ++ codes ")"
+
+-- whether a line's access is a compare-exchange
+abbrev pub exchanges : Line → Bool
+exchanges N4 = true
+exchanges N5 = true
+exchanges F3 = true
+exchanges E9 = true
+exchanges E13 = true
+exchanges E17 = true
+exchanges D10 = true
+exchanges D13 = true
+exchanges A3 = true
+exchanges A5 = true
+exchanges B1 = true
+exchanges S4 = true
+exchanges S5 = true
+exchanges S6 = true
+exchanges S8 = true
+exchanges _ = false
+
+-- what became of a word that held one text and holds another: it was changed; or it wasn't, and then the exchange is lost, or
+-- the word was read
+abbrev pub change_text : Line → (found now : List ℕ) → List ℕ
+change_text l found now =
+    if bytes_eq found now then (if exchanges l then codes " lost" else codes " " ++ now) else codes " := " ++ now
+
+-- the access of a word at a line, by what was found there and what is there now
+abbrev pub access_text : Line → Word → (found now : Contents) → List ℕ
+access_text l x found now = name_of l ++ codes " " ++ place_text x ++ change_text l (held_text found) (held_text now)
+
+-- the same, where so many bits hold a node, by these shared words before and those after
+abbrev pub touch_text : (bits : ℕ) → Line → Option Word → (before after : Shared) → List ℕ
+touch_text bits l None before after = []
+touch_text bits l (Some x) before after = access_text l x (contents_in bits x before) (contents_in bits x after)
+
+-- the reply of a call that ended
+abbrev pub answer_text : Stepped → List ℕ
+answer_text Began = []
+answer_text (Went l) = []
+answer_text (Ended l reply) = codes " -> " ++ reply_text (Some reply)
+
+-- what stands before a step: a star where an operation takes effect
+abbrev pub mark_text : Bool → List ℕ
+mark_text true = codes "*"
+mark_text false = codes " "
+
+-- what was done at the line of a move
+abbrev pub at_line : Stepped → (Line → List ℕ) → List ℕ
+at_line Began did = []
+at_line (Went l) did = did l
+at_line (Ended l reply) did = did l
+
+-- a move at a line, marked or not, with what it did there and the reply
+abbrev pub cell_text : Bool → Stepped → (Line → List ℕ) → List ℕ
+cell_text marked told did = mark_text marked ++ at_line told did ++ answer_text told
+
+-- what a giving up did
+abbrev pub gives_text : Line → List ℕ
+gives_text l = name_of l ++ codes " gives"

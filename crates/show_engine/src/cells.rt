@@ -1,0 +1,185 @@
+//! What an actor's step did, as a short text.
+ghost use Rattle.std.specs.Prelude.{◌≡◌, ◌+◌, ◌≤◌, ◌++◌, codes, length, decimal};
+ghost use Rattle.history_text.specs.HistoryText.{call_text};
+ghost use Rattle.step_machine.specs.Accesses.{word_named};
+ghost use Rattle.show_engine.specs.Cells.{access_text, answer_text, cell_text, change_text, exchanges, gives_text, held_text, mark_text, place_text};
+
+use history::Op;
+use history_text::{push_call, push_reply};
+use line_table::Line as At;
+use step_machine::{Contents, Stepped, WordName};
+use text_io::{LINE_ROOM, Line};
+
+/// Puts the name of a word at the end of a line.
+fn push_place(line: &mut Line, word: WordName)
+    requires { length line.old + 26 ≤ LINE_ROOM }
+    ensures text { line.new ≡ line.old ++ place_text (word_named word) }
+    ensures short { length line.new ≤ length line.old + 26 }
+{
+    match word {
+        WordName::Fresh => line.push(b"Fresh"),
+        WordName::Free => line.push(b"Free"),
+        WordName::Head => line.push(b"Head"),
+        WordName::Tail => line.push(b"Tail"),
+        WordName::TailLock => line.push(b"T_lock"),
+        WordName::HeadLock => line.push(b"H_lock"),
+        WordName::Next(node) => {
+            line.push_number(u64::from(node));
+            line.push(b".next");
+        }
+        WordName::Value(node) => {
+            line.push_number(u64::from(node));
+            line.push(b".value");
+        }
+    }
+}
+
+/// Two numbers in brackets.
+fn pair(open: &[u8], first: u64, second: u64, close: &[u8]) -> Line
+    requires { length open.now + length close.now ≤ 2 }
+    ensures text { result ≡ open.now ++ decimal first ++ codes "," ++ decimal second ++ close.now }
+    ensures short { length result ≤ 43 }
+{
+    let mut line = Line::new();
+    line.push(open);
+    line.push_number(first);
+    line.push(b",");
+    line.push_number(second);
+    line.push(close);
+    line
+}
+
+/// What a word holds, as a text.
+fn held(contents: Contents) -> Line
+    ensures text { result ≡ held_text contents }
+    ensures short { length result ≤ 43 }
+{
+    match contents {
+        Contents::Number(number) => {
+            let mut line = Line::new();
+            line.push_number(number);
+            line
+        }
+        Contents::Reference(node, count) => pair(b"<", u64::from(node), count, b">"),
+        Contents::Closed(count) => {
+            let mut line = Line::new();
+            line.push(b"<shut,");
+            line.push_number(count);
+            line.push(b">");
+            line
+        }
+        Contents::Value(value) => pair(b"(", u64::from(value.from), value.body.number(), b")"),
+    }
+}
+
+/// Whether a line's access is a compare-exchange.
+fn exchanges(at: At) -> bool
+    ensures { result ≡ exchanges at }
+{
+    match at {
+        At::N4 | At::N5 | At::F3 => true,
+        At::E9 | At::E13 | At::E17 | At::D10 | At::D13 => true,
+        At::A3 | At::A5 | At::B1 => true,
+        At::S4 | At::S5 | At::S6 | At::S8 => true,
+        _ => false,
+    }
+}
+
+/// Puts what became of a word at the end of a line, by what it held and what it holds.
+fn push_change(line: &mut Line, at: At, found: &[u8], now: &[u8])
+    requires room { length line.old + 47 ≤ LINE_ROOM }
+    requires fits { length now.now ≤ 43 }
+    ensures text { line.new ≡ line.old ++ change_text at found.now now.now }
+    ensures short { length line.new ≤ length line.old + 47 }
+{
+    if found == now {
+        if exchanges(at) {
+            line.push(b" lost");
+        } else {
+            line.push(b" ");
+            line.push(now);
+        }
+    } else {
+        line.push(b" := ");
+        line.push(now);
+    }
+}
+
+/// Puts the access of a word at a line, by what was found there and what is there now.
+fn push_access(line: &mut Line, at: At, word: WordName, found: Contents, now: Contents)
+    requires { length line.old + 77 ≤ LINE_ROOM }
+    ensures text { line.new ≡ line.old ++ access_text at (word_named word) found now }
+    ensures short { length line.new ≤ length line.old + 77 }
+{
+    line.push(at.name().as_bytes());
+    line.push(b" ");
+    push_place(line, word);
+    push_change(line, at, held(found).as_slice(), held(now).as_slice());
+}
+
+/// A line with the mark before a step.
+fn marked(is_marked: bool) -> Line
+    ensures text { result ≡ mark_text is_marked }
+    ensures short { length result ≡ 1 }
+{
+    let mut line = Line::new();
+    line.push(if is_marked { b"*" } else { b" " });
+    line
+}
+
+/// Puts the reply of a call that ended at the end of a line.
+fn push_answer(line: &mut Line, told: &Stepped)
+    requires { length line.old + 51 ≤ LINE_ROOM }
+    ensures text { line.new ≡ line.old ++ answer_text told.now }
+    ensures short { length line.new ≤ length line.old + 51 }
+{
+    if let Stepped::Ended(_, reply) = *told {
+        line.push(b" -> ");
+        push_reply(line, Some(reply));
+    }
+}
+
+/// What a begin is shown as.
+pub(crate) fn begin_cell(op: &Op) -> Line
+    ensures { result ≡ codes " " ++ call_text op.now }
+{
+    let mut cell = Line::new();
+    cell.push(b" ");
+    push_call(&mut cell, *op);
+    cell
+}
+
+/// What a step is shown as, by what was found in the word that it touched and what is there now.
+pub(crate) fn step_cell(
+    is_marked: bool,
+    told: &Stepped,
+    word: WordName,
+    found: Contents,
+    now: Contents,
+) -> Line
+    ensures { result ≡ cell_text is_marked told.now (λ l. access_text l (word_named word) found now) }
+{
+    let mut cell = marked(is_marked);
+    match *told {
+        Stepped::Began => {}
+        Stepped::Went(at) | Stepped::Ended(at, _) => push_access(&mut cell, at, word, found, now),
+    }
+    push_answer(&mut cell, told);
+    cell
+}
+
+/// What a giving up is shown as.
+pub(crate) fn give_cell(is_marked: bool, told: &Stepped) -> Line
+    ensures { result ≡ cell_text is_marked told.now gives_text }
+{
+    let mut cell = marked(is_marked);
+    match *told {
+        Stepped::Began => {}
+        Stepped::Went(at) | Stepped::Ended(at, _) => {
+            cell.push(at.name().as_bytes());
+            cell.push(b" gives");
+        }
+    }
+    push_answer(&mut cell, told);
+    cell
+}

@@ -1,0 +1,127 @@
+//! The engine of `show`: from a reader's bytes to a writer's.
+ghost use Rattle.std.specs.Prelude.{◌≡◌, ◌≢◌, ◌⊎◌, IfErr, IsSome, OnOk, IfSome};
+ghost use Rattle.run_engine.specs.Runs.{EndsReading, IsRunFault, RunRefused, TellsFaultyLine};
+ghost use Rattle.schedule_text.specs.Texts.{IsInRange};
+ghost use Rattle.text_io.specs.Blocks.{GivesUp};
+ghost use Rattle.trace_engine.specs.Tracing.{IsRefusedIn, IsTracingFault};
+ghost use Rattle.show_engine.specs.Showing.{BeginsPicture, HasBegun, HasShown, WritesPicture};
+
+use crate::counting::count;
+use crate::drawing::draw;
+use crate::framing::{Frame, View};
+use engine_faults::Fault;
+use history::Refusal;
+use schedule_text::{Schedule, read_schedule};
+use std::alloc::Global;
+use text_io::{Sink, Source};
+
+/// Calls the function for worlds of so many bits, one of those that are listed.
+macro_rules! by_bits {
+    ($bits:expr, $show:ident $given:tt $($each:literal)*) => {
+        match $bits {
+            $($each => $show::<$each, W> $given,)*
+            _ => unreachable!(),
+        }
+    };
+}
+
+/// Writes the picture of a schedule of `B` bits, which is run once before, so that nothing is written where it is refused.
+fn show_with<const B: u32, W: Sink>(
+    alloc: Global,
+    schedule: &Schedule,
+    view: View,
+    writer: &mut W,
+) -> Result<(), Fault>
+    requires range { IsInRange schedule.now }
+    requires bits { schedule.now.bits ≡ B }
+    ensures ok { OnOk result (HasShown view schedule.now (W.state writer.old) (W.state writer.new)) }
+    ensures quiet { OnOk result ((W.state writer.new).failures ≡ (W.state writer.old).failures) }
+    ensures fault { IfErr result (λ fault. IsTracingFault fault.refusal fault.line) }
+    ensures refused { IfErr result (λ fault. IsRefusedIn schedule.now fault.line fault.refusal) }
+    ensures unwritten { IfErr result (λ fault. IsSome fault.line → writer.new ≡ writer.old) }
+    ensures memory { IfErr result (λ fault. fault.refusal ≡ Refusal.Memory → (writer.new ≡ writer.old)
+        ⊎ HasBegun view schedule.now (W.state writer.old) (W.state writer.new)) }
+    ensures none_failed { IfErr result (λ fault. fault.refusal ≡ Refusal.Memory
+        → (W.state writer.new).failures ≡ (W.state writer.old).failures) }
+    ensures write { IfErr result (λ fault. fault.refusal ≡ Refusal.Write
+        → HasBegun view schedule.now (W.state writer.old) (W.state writer.new)
+        × GivesUp (W.state writer.old) (W.state writer.new)) }
+{
+    let counted = count::<B>(alloc, schedule)?;
+    let frame = Frame::of(view, schedule.actors);
+    draw::<B, W>(alloc, schedule, frame, &counted, writer)?;
+    Ok(())
+}
+
+/// The same with as many bits as the schedule says.
+fn show_in<W: Sink>(
+    alloc: Global,
+    schedule: &Schedule,
+    view: View,
+    writer: &mut W,
+) -> Result<(), Fault>
+    requires range { IsInRange schedule.now }
+    ensures ok { OnOk result (HasShown view schedule.now (W.state writer.old) (W.state writer.new)) }
+    ensures quiet { OnOk result ((W.state writer.new).failures ≡ (W.state writer.old).failures) }
+    ensures fault { IfErr result (λ fault. IsTracingFault fault.refusal fault.line) }
+    ensures refused { IfErr result (λ fault. IsRefusedIn schedule.now fault.line fault.refusal) }
+    ensures unwritten { IfErr result (λ fault. IsSome fault.line → writer.new ≡ writer.old) }
+    ensures memory { IfErr result (λ fault. fault.refusal ≡ Refusal.Memory → (writer.new ≡ writer.old)
+        ⊎ HasBegun view schedule.now (W.state writer.old) (W.state writer.new)) }
+    ensures none_failed { IfErr result (λ fault. fault.refusal ≡ Refusal.Memory
+        → (W.state writer.new).failures ≡ (W.state writer.old).failures) }
+    ensures write { IfErr result (λ fault. fault.refusal ≡ Refusal.Write
+        → HasBegun view schedule.now (W.state writer.old) (W.state writer.new)
+        × GivesUp (W.state writer.old) (W.state writer.new)) }
+{
+    let bits = schedule.bits;
+    by_bits!(bits, show_with (alloc, schedule, view, writer)
+        16 17 18 19 20 21 22 23 24 25 26 27 28 29 30 31 32)
+}
+
+/// Writes a picture of the schedule whose text the reader gives: an actor a column and a step a row, with the chains of nodes
+/// from Head and from Free beside a row that changed them, and a star where an operation takes effect. The view says which
+/// steps and actors are shown, and the last line says it too.
+///
+/// The schedule's events are held, at most 1,000,000, and where its operations take effect. None of its steps is. The
+/// events are made twice: first to find whether one is refused, and then step by step as the rows are written.
+///
+/// A fault is, in this order: `Memory`, as soon as a growth is refused; `Read`, where a call of the
+/// reader fails; `Text`, where the bytes are no schedule; the refusal of the first event that is
+/// refused, with its line; `Write`, where a call of the writer fails or takes nothing. Memory may be refused too
+/// while the rows are written. It takes memory; whether it waits is up to the reader and the writer.
+pub fn show_text<R: Source, W: Sink>(
+    alloc: Global,
+    reader: &mut R,
+    writer: &mut W,
+    view: View,
+) -> Result<(), Fault>
+    // The text of the schedule's picture is written, and nothing else.
+    ensures ok { OnOk result (WritesPicture view (R.state reader.old).left (W.state writer.old)
+        (W.state writer.new)) }
+    ensures quiet { OnOk result ((W.state writer.new).failures ≡ (W.state writer.old).failures) }
+    // Where writing fails, a beginning of that text is written.
+    ensures beginning { IfErr result (λ fault. fault.refusal ≡ Refusal.Write
+        → BeginsPicture view (R.state reader.old).left (W.state writer.old) (W.state writer.new)) }
+    ensures write { IfErr result (λ fault. fault.refusal ≡ Refusal.Write
+        → GivesUp (W.state writer.old) (W.state writer.new)) }
+    // Where memory is refused, nothing or a beginning of it is, and no call of the writer failed.
+    ensures memory { IfErr result (λ fault. fault.refusal ≡ Refusal.Memory → (writer.new ≡ writer.old)
+        ⊎ BeginsPicture view (R.state reader.old).left (W.state writer.old) (W.state writer.new)) }
+    ensures none_failed { IfErr result (λ fault. fault.refusal ≡ Refusal.Memory
+        → (W.state writer.new).failures ≡ (W.state writer.old).failures) }
+    // At any other fault nothing is.
+    ensures unwritten { IfErr result (λ fault. fault.refusal ≢ Refusal.Write
+        → fault.refusal ≢ Refusal.Memory → writer.new ≡ writer.old) }
+    ensures fault { IfErr result (λ fault. IsRunFault fault.refusal fault.line) }
+    // A text that is no schedule is refused by its first faulty line.
+    ensures text { IfErr result (λ fault. TellsFaultyLine (R.state reader.old).left fault.refusal) }
+    // A line is that of the first event that is refused, and the refusal is that event's.
+    ensures refused { IfErr result (λ fault. IfSome fault.line (λ line.
+        RunRefused (R.state reader.old).left line fault.refusal)) }
+    ensures reader { EndsReading result (R.state reader.old) (R.state reader.new) }
+{
+    let schedule = read_schedule(alloc, reader)?;
+    show_in(alloc, &schedule, view, writer)?;
+    Ok(())
+}

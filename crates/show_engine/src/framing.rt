@@ -1,0 +1,107 @@
+//! What of a run is shown, and in which columns.
+ghost use Rattle.std.specs.Prelude.{◌≡◌, ◌≤◌, ◌<◌, ◌^◌};
+ghost use Rattle.show_engine.specs.Frames.{IsFitting, column_of, end_of, frame_of, shown_beside, shows};
+
+/// What of a run is shown.
+#[derive(Clone, Copy, Debug)]
+pub struct View {
+    /// How many columns a row has at most, 40 to 190; below that it is 40, and above it 190.
+    pub width: u32,
+    /// The number of the first step.
+    pub from: u32,
+    /// The number of the last step; 0 for a hundred steps.
+    pub to: u32,
+    /// The one actor that is shown; 0 for as many as have room, from actor 1 on.
+    pub actor: u32,
+}
+
+/// The columns of a picture, the numbers of its steps, and its actors.
+#[derive(Clone, Copy)]
+pub struct Frame {
+    /// How many columns a row has at most.
+    pub width: usize,
+    /// The column of the chains.
+    pub side: usize,
+    /// How many columns an actor's text begins behind that of the one before.
+    pub column: usize,
+    /// The number of the first step.
+    pub from: u64,
+    /// The number of the last step, if there are so many.
+    pub to: u64,
+    /// The first actor.
+    pub first: u64,
+    /// How many actors there are from that one on.
+    pub count: u64,
+}
+
+/// How many of so many actors are shown, where the chains stand at this column.
+fn shown_of(view: View, side: u32, actors: u16) -> u32
+    requires { 15 ≤ side }
+    ensures count { result ≡ shown_beside view side actors }
+    ensures some { 1 ≤ actors → 1 ≤ result }
+    ensures few { result < 2 ^ 16 }
+{
+    if view.actor == 0 {
+        u32::from(actors).min((side - 7) / 8)
+    } else {
+        1
+    }
+}
+
+/// The number of the last step that may be shown.
+fn end_of(view: View) -> u64
+    ensures { result ≡ end_of view }
+{
+    if view.to == 0 {
+        u64::from(view.from) + 99
+    } else {
+        u64::from(view.to)
+    }
+}
+
+impl Frame {
+    /// The frame of a view of a run of so many actors.
+    pub(crate) fn of(view: View, actors: u16) -> Frame
+        requires { 1 ≤ actors }
+        ensures frame { result ≡ frame_of view actors }
+        ensures fits { IsFitting result }
+    {
+        let width = view.width.min(190).max(40);
+        let side = width * 2 / 3;
+        let count = shown_of(view, side, actors);
+        Frame {
+            width: width as usize,
+            side: side as usize,
+            column: ((side - 7) / count).min(12) as usize,
+            from: u64::from(view.from),
+            to: end_of(view),
+            first: u64::from(view.actor.max(1)),
+            count: u64::from(count),
+        }
+    }
+
+    /// Whether a move at this number by this actor is shown.
+    pub(crate) fn shows(self, number: u64, actor: u16) -> bool
+        requires { IsFitting self }
+        ensures { result ≡ shows self number actor }
+    {
+        let actor = u64::from(actor);
+        self.from <= number
+            && number <= self.to
+            && self.first <= actor
+            && actor < self.first + self.count
+    }
+
+    /// The column at which the text of this actor begins.
+    pub(crate) fn column_of(self, actor: u64) -> usize
+        requires { IsFitting self }
+        ensures column { result ≡ column_of self actor }
+        ensures within { result < self.width }
+    {
+        let offset = actor.saturating_sub(self.first) as usize;
+        offset
+            .saturating_mul(self.column)
+            .saturating_add(7)
+            .min(self.side)
+    }
+}

@@ -1,0 +1,3 @@
+//! Pictures, each against what was worked out by hand.
+mod comparing;
+mod typed;

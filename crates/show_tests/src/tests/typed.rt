@@ -1,0 +1,268 @@
+//! Pictures that were worked out by hand, of each form of row; what a view leaves out; and faults.
+ghost use Rattle.std.specs.Prelude.{◌<◌};
+
+use crate::tests::comparing::same;
+use engine_faults::Fault;
+use history::{Refusal, TextCause};
+use show_engine::{View, show_text};
+use std::alloc::Global;
+use std::test::Fail;
+use text_io::{Script, Trouble};
+
+/// What is shown where nothing is chosen.
+const WHOLE: View = View {
+    width: 80,
+    from: 1,
+    to: 0,
+    actor: 0,
+};
+
+const FIRST: &str = "msq schedule 1
+queue nonblocking
+nodes 2
+limit 1
+actors 2
+events 9
+begin 1 enq 5
+steps 1 10
+begin 2 deq
+steps 2 5
+step 2 D13
+give 2
+begin 1 enq 6
+give 1
+begin 1 deq
+";
+
+const FIRST_PICTURE: &str = "queue nonblocking, bits 24, nodes 2, limit 1, actors 2
+ actor  1           2
+        enq 5
+     1  N1 Fresh 1                                    | Head 1, Free -
+     2  N2 Free <0,0>
+     3  N5 Fresh := 2
+     4  E2 2.value := (1,5)
+     5  E3 2.next <0,0>
+     6  E5 Tail <1,0>
+     7  E6 1.next <0,0>
+     8  E7 Tail <1,0>
+     9 *E9 1.next := <2,1>                            | Head 1 2, Free -
+    10  E17 Tail := <2,1> -> done
+                    deq
+    11              D2 Head <1,0>
+    12              D3 Tail <2,1>
+    13              D4 1.next <2,1>
+    14              D5 Head <1,0>
+    15              D12 2.value (1,5)
+    16             *D13 Head := <2,1>                 | Head 2, Free -
+    17              F1 gives -> value 1 5
+        enq 6
+    18 *N1 gives -> refused 3
+        deq
+steps 1 to 18 of 18, actors 1 to 2 of 2
+";
+
+const SHUT: &str = "msq schedule 2
+queue two-lock
+bits 32
+nodes 2
+limit 4294967295
+actors 65535
+events 4
+begin 65535 shut
+steps 65535 4
+begin 1 deq
+steps 1 4
+";
+
+const SHUT_PICTURE: &str = "queue two-lock, bits 32, nodes 2, limit 4294967295, actors 65535
+ actor  1        2        3        4        5
+        deq
+     5  B1 H_lock := 1
+     6  B2 Head <1,0>
+     7  B3 1.next <shut,0>
+     8 *B6 H_lock := 0 -> refused 16
+steps 1 to 8 of 8, actors 1 to 5 of 65535
+";
+
+/// A part of it, of one actor, in few columns.
+const NARROW_PICTURE: &str = "queue two-lock, bits 32, nodes 2, limit 4294967295, actors 65535
+ actor  65535
+     3 *S8 1.next := <shut,0> | Head 1 ~
+steps 3 to 3 of 8, actors 65535 to 65535 of 65535
+";
+
+/// Five actors of 300 on many nodes.
+const LONG: &str = "msq schedule 2
+queue nonblocking
+bits 32
+nodes 4294967294
+limit 4294967295
+actors 300
+events 10
+begin 300 enq 281474976710655
+steps 300 10
+begin 1 enq 1
+steps 1 10
+begin 2 enq 2
+steps 2 10
+begin 3 enq 3
+steps 3 10
+begin 4 enq 4
+steps 4 10
+";
+
+/// The last steps of it, where a chain is longer than is shown.
+const LATE_PICTURE: &str =
+    "queue nonblocking, bits 32, nodes 4294967294, limit 4294967295, actors 300
+ actor  1        2        3        4        5
+    48                             E7 Tail <5,4>      | Head 1 2 3 4 5, Free -
+    49                            *E9 5.next := <6,1> | Head 1 2 3 4 5 ..., Fre~
+steps 48 to 49 of 50, actors 1 to 5 of 300
+";
+
+/// The same in many columns, which have room for more actors.
+const WIDE_PICTURE: &str =
+    "queue nonblocking, bits 32, nodes 4294967294, limit 4294967295, actors 300
+ actor  1       2       3       4       5       6       7       8       9       10      11      12      13      14
+    49                         *E9 5.next := <6,1>                                                                             | Head 1 2 3 4 5 ..., Free -
+    50                          E17 Tail := <6,5> -> done
+steps 49 to 50 of 50, actors 1 to 14 of 300
+";
+
+/// Schedules, what is shown of them, and their pictures.
+const PICTURES: [(&str, View, &str); 7] = [
+    (FIRST, WHOLE, FIRST_PICTURE),
+    (FIRST, View { to: 19, ..WHOLE }, FIRST_PICTURE),
+    (SHUT, WHOLE, SHUT_PICTURE),
+    (
+        SHUT,
+        View {
+            width: 40,
+            from: 3,
+            to: 3,
+            actor: 65535,
+        },
+        NARROW_PICTURE,
+    ),
+    (
+        SHUT,
+        View {
+            width: 0,
+            from: 3,
+            to: 3,
+            actor: 65535,
+        },
+        NARROW_PICTURE,
+    ),
+    (
+        LONG,
+        View {
+            from: 48,
+            to: 49,
+            ..WHOLE
+        },
+        LATE_PICTURE,
+    ),
+    (
+        LONG,
+        View {
+            width: u32::MAX,
+            from: 49,
+            to: u32::MAX,
+            actor: 0,
+        },
+        WIDE_PICTURE,
+    ),
+];
+
+const FAULTS: [(&str, &str, u64, Refusal); 5] = [
+    (
+        "events 9",
+        "events 10",
+        16,
+        Refusal::Text(16, TextCause::End),
+    ),
+    ("begin 1 enq 5", "begin 3 enq 5", 7, Refusal::NoSuchActor),
+    ("give 1", "begin 1 deq", 14, Refusal::ActorBusy),
+    ("step 2 D13", "step 2 D12", 11, Refusal::NotHere),
+    ("give 2", "step 1 N1", 12, Refusal::IdleActor),
+];
+
+// What is written of a text that comes and goes in pieces of this size.
+fn by_piece(alloc: Global, text: &str, view: View, piece: usize) -> Result<String, Fail>
+    requires { 0 < piece }
+{
+    let mut reader = Script::reader(alloc, text.as_bytes(), piece)?;
+    let mut writer = Script::writer(alloc, 3000, piece)?;
+    show_text(alloc, &mut reader, &mut writer, view)?;
+    let picture = std::str::from_utf8(writer.written()).ok().ok_or("no text")?;
+    Ok(String::from_str(alloc, picture)?)
+}
+
+// What the engine answers of what a reader gives, and how much it has written.
+fn answered(alloc: Global, reader: Script, writer: Script) -> (Result<(), Fault>, usize) {
+    let mut reader = reader;
+    let mut writer = writer;
+    let answer = show_text(alloc, &mut reader, &mut writer, WHOLE);
+    (answer, writer.written().len())
+}
+
+#[test]
+fn draws_what_the_view_says(rt: HostRuntime) -> Result<(), Fail> {
+    for (text, view, picture) in &PICTURES {
+        for piece in [1, 7, 4096] {
+            let found = by_piece(rt.alloc(), text, *view, piece)?;
+            same(&rt, found.as_str(), *picture, piece);
+        }
+    }
+    Ok(())
+}
+
+#[test]
+fn writes_nothing_at_a_fault(rt: HostRuntime) -> Result<(), Fail> {
+    for (old, new, line, refusal) in &FAULTS {
+        let (before, after) = FIRST.split_once(*old).ok_or("the line")?;
+        let text = format!(in rt.alloc(); "{before}{new}{after}")?;
+        let reader = Script::reader(rt.alloc(), text.as_bytes(), 100)?;
+        let writer = Script::writer(rt.alloc(), 2000, 100)?;
+        let due = match refusal {
+            Refusal::Text(_, _) => Fault::from(*refusal),
+            _ => Fault {
+                refusal: *refusal,
+                line: Some(*line),
+            },
+        };
+        same(
+            &rt,
+            answered(rt.alloc(), reader, writer),
+            (Err(due), 0),
+            *new,
+        );
+    }
+    Ok(())
+}
+
+#[test]
+fn writes_nothing_where_a_read_fails(rt: HostRuntime) -> Result<(), Fail> {
+    let due = (Err(Fault::from(Refusal::Read)), 0);
+    let calls = FIRST.len().div_ceil(100) as u64;
+    for call in 1..calls.saturating_add(2) {
+        let reader = Script::reader(rt.alloc(), FIRST.as_bytes(), 100)?;
+        let reader = reader.with(Trouble::Failure, call);
+        let writer = Script::writer(rt.alloc(), 2000, 100)?;
+        same(&rt, answered(rt.alloc(), reader, writer), due, call);
+    }
+    Ok(())
+}
+
+#[test]
+fn tells_a_writer_that_fails(rt: HostRuntime) -> Result<(), Fail> {
+    let failing = Script::writer(rt.alloc(), 2000, 100)?.with(Trouble::Failure, 2);
+    let full = Script::writer(rt.alloc(), 30, 100)?;
+    for (writer, taken) in [(failing, 100), (full, 30)] {
+        let reader = Script::reader(rt.alloc(), FIRST.as_bytes(), 100)?;
+        let due = (Err(Fault::from(Refusal::Write)), taken);
+        same(&rt, answered(rt.alloc(), reader, writer), due, taken);
+    }
+    Ok(())
+}

@@ -1,0 +1,6 @@
+//! Traces, each against what was worked out by hand, or against the calls of a world.
+mod agreeing;
+mod chance;
+mod comparing;
+mod reading;
+mod typed;

@@ -1,0 +1,107 @@
+"""The picture that is due of a schedule, by its trace as traced.py finds it, docs/LINES.md and docs/FORMATS.md alone."""
+import re
+
+import traced
+
+EXCHANGES = set("N4 N5 F3 E9 E13 E17 D10 D13 A3 A5 B1 S4 S5 S6 S8".split())
+ROW = re.compile(r"(\d+) (\d+) (\w+) (?:(gives)|(.+) found (.+) now (.+?))(?: reply (.+))?")
+
+
+def content(word, text):
+    """What a word holds, as a picture tells it."""
+    parts = text.split()
+    if len(parts) == 1:
+        return text
+    return ("({},{})" if word.startswith("value") else "<{},{}>").format(*parts).replace("closed", "shut")
+
+
+def name(word):
+    return re.sub(r"(next|value) (\d+)", r"\2.\1", word)
+
+
+def chains(words):
+    """Both chains, as they stand beside a row."""
+    told = []
+    for first in ("Head", "Free"):
+        text, node, many = first, words[first][0], 0
+        if node == 0:
+            text += " -"
+        while node not in (0, "end") and many < 5:
+            text, node, many = f"{text} {node}", words.get(f"next {node}", (0, 0))[0], many + 1
+        told.append(text + {0: "", "end": " shut"}.get(node, " ..."))
+    return " | " + ", ".join(told)
+
+
+def effects(rows):
+    """The numbers at which operations take effect, by the rows of a trace."""
+    numbers, calls = set(), {}
+    for row in rows:
+        number, me, line, gives, _, found, now, reply = ROW.fullmatch(row).groups()
+        call = calls.setdefault(me, {"effect": None, "look": None})
+        if line in ("E9", "D13", "A5", "B5", "S4", "S8") and not gives and found != now:
+            call["effect"] = int(number)
+        if line in ("D4", "B3"):
+            call["look"] = int(number)
+        if reply:
+            numbers.add(call["effect"] or (call["look"] if reply == "empty" else int(number)))
+            del calls[me]
+    return numbers | {call["effect"] for call in calls.values()}
+
+
+def due(schedule, width=80, first=1, last=0, actor=0):
+    """The picture of a schedule, or the line of the fault by which it is refused."""
+    trace = traced.due(schedule)
+    if trace.startswith("fault"):
+        return trace
+    lines = schedule.split("\n")[:-1]
+    at = 3 if lines[0].endswith("2") else 2
+    kind, (nodes, limit, actors) = lines[1].split()[1], [line.split()[1] for line in lines[at : at + 3]]
+    bits = lines[2].split()[1] if at == 3 else "24"
+    marked = effects(trace.split("\n")[7:-1])
+    width = max(40, min(width, 190))
+    side = width * 2 // 3
+    many = 1 if actor else min(int(actors), (side - 7) // 8)
+    begin, end = actor or 1, last or first + 99
+    column = lambda me: 7 + (me - begin) * min((side - 7) // many, 12)
+    machine = traced.Machine(kind, int(nodes), int(limit), int(actors))
+    rows = [f"queue {kind}, bits {bits}, nodes {nodes}, limit {limit}, actors {actors}"]
+    heading = " actor"
+    for me in range(begin, begin + many):
+        heading = heading.ljust(column(me) + 1) + str(me)
+    put = lambda text: rows.append(text if len(text) <= width else text[: width - 1] + "~")
+    put(heading)
+    seen = lambda number, me: first <= number <= end and begin <= me < begin + many
+
+    def step(me, move):
+        before = chains(machine.words)
+        move()
+        number, _, line, gives, word, found, now, reply = ROW.fullmatch(machine.rows[-1]).groups()
+        after = chains(machine.words)
+        if not seen(machine.steps, me):
+            return
+        if gives:
+            did = " gives"
+        else:
+            found, now = content(word, found), content(word, now)
+            did = f" {name(word)}" + (f" := {now}" if found != now else " lost" if line in EXCHANGES else f" {now}")
+        cell = ("*" if machine.steps in marked else " ") + line + did + (f" -> {reply}" if reply else "")
+        text = (number.rjust(6) + " ").ljust(column(me)) + cell
+        put(text.ljust(side) + after if machine.steps == first or before != after else text)
+
+    for line in lines[at + 4 :]:
+        words = line.split()
+        me = int(words[1])
+        if words[0] == "begin":
+            machine.begin(me, words[2:])
+            if seen(machine.steps + 1, me):
+                put(" " * (column(me) + 1) + " ".join(words[2:]))
+        elif words[0] == "steps":
+            for _ in range(int(words[2])):
+                step(me, lambda: machine.step(me))
+        elif words[0] == "step":
+            step(me, lambda: machine.step(me, words[2]))
+        else:
+            step(me, lambda: machine.give(me))
+    steps = machine.steps
+    rows.append(f"steps {first} to {min(end, steps)} of {steps}, actors {begin} to {begin + many - 1} of {actors}")
+    return "".join(f"{row}\n" for row in rows)
