@@ -1,10 +1,12 @@
-"""The picture that is due of a schedule, by its trace as traced.py finds it, docs/LINES.md and docs/FORMATS.md alone."""
+"""The picture that is due of a schedule, by its trace as traced.py finds it, docs/LINES.md and docs/FORMATS.md alone; the
+timeline of a history."""
 import re
 
 import traced
 
 EXCHANGES = set("N4 N5 F3 E9 E13 E17 D10 D13 A3 A5 B1 S4 S5 S6 S8".split())
 ROW = re.compile(r"(\d+) (\d+) (\w+) (?:(gives)|(.+) found (.+) now (.+?))(?: reply (.+))?")
+OPERATION = re.compile(r"(\d+) (enq \d+|deq|shut) first (\d+) last (-|\d+) at (-|\d+) reply (.+)")
 
 
 def content(word, text):
@@ -104,4 +106,31 @@ def due(schedule, width=80, first=1, last=0, actor=0):
             step(me, lambda: machine.give(me))
     steps = machine.steps
     rows.append(f"steps {first} to {min(end, steps)} of {steps}, actors {begin} to {begin + many - 1} of {actors}")
+    return "".join(f"{row}\n" for row in rows)
+
+
+def timeline(history, width=80, first=1, last=0, actor=0):
+    """The timeline of a history's text."""
+    ops = [OPERATION.fullmatch(line).groups() for line in history.split("\n")[1:-1]]
+    number = lambda text: None if text == "-" else int(text)
+    ops = [(int(me), call, int(f), number(l), number(at), reply) for me, call, f, l, at, reply in ops]
+    end = max([0] + [n for op in ops for n in op[2:5] if n])
+    width = max(40, min(width, 190))
+    columns, to = width // 2, min(last or first + 99, end)
+    place = lambda n: max(n - first, 0) * columns // (max(to - first, 0) + 1)
+    shown = [op for op in ops if op[2] <= to and (op[3] is None or first <= op[3]) and actor in (0, op[0])]
+    rows = []
+    for me, call, f, l, at, reply in shown:
+        bar = [" "] * columns
+        goes_on = l is None or l > to
+        start, stop = place(f), columns - 1 if goes_on else place(l)
+        bar[start : stop + 1] = "=" * (stop + 1 - start)
+        if start <= stop:
+            bar[start] = "<" if f < first else "|"
+            bar[stop] = ">" if goes_on else "|"
+        if at is not None and first <= at <= to:
+            bar[place(at)] = "*"
+        text = f"{me:>6} {''.join(bar)} {call} -> {reply}"
+        rows.append(text if len(text) <= width else text[: width - 1] + "~")
+    rows.append(f"steps {first} to {to} of {end}, operations {len(shown)} of {len(ops)}")
     return "".join(f"{row}\n" for row in rows)

@@ -8,7 +8,7 @@ use Rattle.clap.specs.Matches.{ReadsOne}
 use Rattle.line_table.specs.declared.lines.Kind.TheVariants.{TwoLock, NonBlocking}
 use Rattle.clap.specs.Words.{App, Row, Text, fault_of, first_of, is_simple, is_simple_and_free, subcommand_of}
 use Rattle.clap.proofs.OnLiterals.{clap_on_literals}
-use Rattle.command_line.specs.Commands.{command_line_app, faults_in, file_met, kind_named, met_in, SaysNumber, TextRow}
+use Rattle.command_line.specs.Commands.{command_line_app, faults_in, file_met, kind_named, met_in, SaysFlag, SaysNumber, TextRow}
 
 module _ (queues : TextRow) where
   -- no words meet no command
@@ -75,3 +75,8 @@ pub SaysNumber-read : {E : Type 0} (gives : List ℕ → Result ℕ E → Type 0
 SaysNumber-read gives parses None r other none value = rw (none refl) refl
 SaysNumber-read gives parses (Some t) None other none value = let read = value t refl in inr (parses t (Err read.0) read.1, refl)
 SaysNumber-read gives parses (Some t) (Some n) other none value = inl (parses t (Ok n) (value t refl))
+
+-- what was read of a flag
+pub SaysFlag-read : (o : Option Text) (flag : Bool) → (o ≡ None → flag ≡ false) → (o ≡ Some (codes "true") → flag ≡ true) → (o ≡ Some (codes "false") → flag ≡ false) → SaysFlag o flag
+SaysFlag-read None flag none set unset = none refl
+SaysFlag-read (Some text) flag none set unset = (λ e. set (ap (λ (t : Text). Some t) e), λ e. unset (ap (λ (t : Text). Some t) e))

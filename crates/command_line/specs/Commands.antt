@@ -5,6 +5,7 @@ use Rattle.std.specs.Cmp.Lexicographic.{pointwise}
 use Rattle.std.specs.Str.Parse.{IsNumeral, digits_value, without_leading_plus}
 use Rattle.clap.specs.Words.{App, IsAmong, Kinds, Row, Rule, Text, fault_of, first_of, one_of, new_app, new_rule, subcommand_of, takes, with_rule, with_subcommand}
 use Rattle.clap.specs.declared.builder.value_parser.ValueParser.TheVariants.{Names, Unsigned}
+use Rattle.clap.specs.declared.builder.action.ArgAction.TheVariants.{SetTrue}
 use Rattle.clap.specs.declared.error.kind.ErrorKind.{ErrorKind}
 use Rattle.clap.specs.declared.error.kind.ErrorKind.TheVariants.{DisplayHelp, DisplayVersion, OutOfMemory}
 use Rattle.counted_ref.specs.Ref.{reserved_node}
@@ -72,12 +73,16 @@ abbrev pub queue_rule : TextRow → Rule
 queue_rule queues =
     record (new_rule (codes "QUEUE")) { long = Some (codes "queue"); parser = Some (Names queues); defaults = codes "nonblocking" ∷ [] }
 
--- the command `show`, with a FILE, so many columns, a first and a last step, and an actor
+-- an option that is given or not
+abbrev pub flag_rule : (id long : Text) → Rule
+flag_rule id long = record (new_rule id) { long = Some long; action = Some SetTrue }
+
+-- the command `show`, with a FILE, so many columns, a first and a last step, an actor, and whether it is a history
 abbrev pub show_app : App
 show_app =
-    with_rule (with_rule (with_rule (with_rule (file_app (codes "show")) (number_rule (codes "WIDTH") (codes "width") 40 190 (codes "80")))
+    with_rule (with_rule (with_rule (with_rule (with_rule (file_app (codes "show")) (number_rule (codes "WIDTH") (codes "width") 40 190 (codes "80")))
     (number_rule (codes "FROM") (codes "from") 1 (2 ^ 32 - 1) (codes "1"))) (number_rule (codes "TO") (codes "to") 0 (2 ^ 32 - 1) (codes "0")))
-    (number_rule (codes "ACTOR") (codes "actor") 0 65535 (codes "0"))
+    (number_rule (codes "ACTOR") (codes "actor") 0 65535 (codes "0"))) (flag_rule (codes "HISTORY") (codes "history"))
 
 -- the command `place`, with a FILE, and so many steps
 abbrev pub place_app : App
@@ -139,12 +144,18 @@ pub record IsCrewOf (options : List Row) (crew : Crew) : Type 0 where
   pub queue : crew.kind ≡ kind_named (first_of (codes "QUEUE") options)
   pub room : SaysNumber (one_of (codes "NODES") options) 1024 crew.nodes
 
+-- a flag is set where the text of an option says so, and not where there is none
+abbrev pub SaysFlag : Option Text → Bool → Type 0
+SaysFlag None flag = flag ≡ false
+SaysFlag (Some text) flag = (text ≡ codes "true" → flag ≡ true) × (text ≡ codes "false" → flag ≡ false)
+
 -- what a command's options say of a picture
 pub record IsViewOf (options : List Row) (view : View) : Type 0 where
   pub width : SaysNumber (one_of (codes "WIDTH") options) 80 view.width
   pub first : SaysNumber (one_of (codes "FROM") options) 1 view.from
   pub last : SaysNumber (one_of (codes "TO") options) 0 view.to
   pub actor : SaysNumber (one_of (codes "ACTOR") options) 0 view.actor
+  pub history : SaysFlag (one_of (codes "HISTORY") options) view.is_history
 
 -- the options of the command that was met are those of a task
 abbrev pub HasOptions : Option (Text × List Row) → Task → Type 0

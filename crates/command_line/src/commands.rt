@@ -1,11 +1,12 @@
 //! The words after the program's name.
 ghost use Rattle.std.specs.Prelude.{◌≡◌, ◌⊎◌, [], IfErr, IfOk, map, option_map, string_bytes, codes, true, false};
 ghost use Rattle.clap.specs.Words.{HasKind, app_of, first_of, found_of, kind_of, one_of, rows_of, rule_of, subcommand_rows_of, takes, with_subcommand};
-ghost use Rattle.command_line.specs.Commands.{command_line_app, faults_in, file_app, file_met, kind_named, number_rule, place_app, post_app, queue_rule, show_app, status_at, work_app, AreQueues, AreTaken, IsAsked, IsAskedSomewhere, IsCrewOf, IsStatusOf, IsTask, IsViewOf, SaysNumber};
+ghost use Rattle.command_line.specs.Commands.{command_line_app, faults_in, file_app, file_met, flag_rule, kind_named, number_rule, place_app, post_app, queue_rule, show_app, status_at, work_app, AreQueues, AreTaken, IsAsked, IsAskedSomewhere, IsCrewOf, IsStatusOf, IsTask, IsViewOf, SaysFlag, SaysNumber};
 
+use crate::options::{crew_in, kind_in, number_in, view_in};
 use clap::builder::ValueParser;
 use clap::error::ErrorKind;
-use clap::{Arg, ArgMatches};
+use clap::{Arg, ArgAction, ArgMatches};
 use counted_ref::MOST_NODE;
 use line_table::Kind;
 use std::alloc::{AllocError, Global};
@@ -16,20 +17,8 @@ const VERSION: &str = "0.3.0";
 /// The names of the queues.
 static QUEUES: [&str; 2] = ["two-lock", "nonblocking"];
 
-/// How many workers there are where the words don't say it.
-const USUAL_WORKERS: u32 = 4;
-
-/// How many nodes there are where the words don't say it.
-const USUAL_NODES: u32 = 1024;
-
 /// How many steps a search for an order takes at most where the words don't say it.
 const USUAL_STEPS: u32 = 1_000_000;
-
-/// How many columns a picture has at most where the words don't say it.
-const USUAL_WIDTH: u32 = 80;
-
-/// The first step that a picture shows where the words don't say it.
-const USUAL_FROM: u32 = 1;
 
 /// What the program's help says at its end.
 const AFTER_HELP: &str = "With no words at all it runs the schedule on standard input.
@@ -63,6 +52,8 @@ pub struct View {
     pub to: u32,
     /// The one actor; 0 for as many as have room.
     pub actor: u32,
+    /// Whether the file has a history, and no schedule.
+    pub is_history: bool,
 }
 
 /// What is done with a file.
@@ -72,7 +63,7 @@ pub enum Task {
     Run,
     /// Tells each step of the schedule in it.
     Trace,
-    /// Draws the run of the schedule in it.
+    /// Draws the run of the schedule in it, or the timeline of the history.
     Show(View),
     /// Judges the history in it.
     Check,
@@ -158,6 +149,14 @@ fn number_option<'a>(
         .default_value(other)
 }
 
+/// An option that is given or not.
+fn flag_option<'a>(alloc: Global, id: &'a str, long: &'a str) -> Arg<'a>
+    ensures rule { rule_of result ≡ flag_rule id.entry.now long.entry.now }
+    ensures local { result.global ≡ false }
+{
+    Arg::new(alloc, id).long(long).action(ArgAction::SetTrue)
+}
+
 /// The option with one of the names of the queues.
 fn queue_option<'a>(alloc: Global, queues: &'a [&'a str]) -> Arg<'a>
     ensures rule { rule_of result ≡ queue_rule queues.entry }
@@ -177,8 +176,8 @@ fn show_command<'a>(alloc: Global) -> Result<clap::Command<'a>, AllocError>
     let command = command_on(
         alloc,
         "show",
-        "Runs a schedule and draws it: an actor a column, a step a row",
-        "The schedule; - is standard input",
+        "Runs a schedule and draws it: an actor a column, a step a row; or draws a history",
+        "The schedule, or the history; - is standard input",
     )?;
     let width = number_option(alloc, "WIDTH", "width", (40, 190), "80");
     let command = command.arg(width.help("How many columns a row has at most, 40 to 190"))?;
@@ -187,7 +186,11 @@ fn show_command<'a>(alloc: Global) -> Result<clap::Command<'a>, AllocError>
     let to = number_option(alloc, "TO", "to", (0, u32::MAX as u64), "0");
     let command = command.arg(to.help("The last step that is shown; 0 for a hundred steps"))?;
     let actor = number_option(alloc, "ACTOR", "actor", (0, 65_535), "0");
-    command.arg(actor.help("The one actor that is shown; 0 for as many as have room"))
+    let command = command.arg(actor.help(
+        "The one actor that is shown; 0 for as many as have room",
+    ))?;
+    let history = flag_option(alloc, "HISTORY", "history");
+    command.arg(history.help("Draws the timeline of a history: an operation a row"))
 }
 
 /// The command `place`.
@@ -326,49 +329,6 @@ fn task_in(matches: &ArgMatches<'_>) -> Task
         Task::Post(kind_in(options))
     } else {
         Task::Run
-    }
-}
-
-/// What is shown, among the options of `show`.
-fn view_in(options: &ArgMatches<'_>) -> View
-    ensures { IsViewOf (rows_of (found_of options.now)) result }
-{
-    View {
-        width: number_in(options, "WIDTH", USUAL_WIDTH),
-        from: number_in(options, "FROM", USUAL_FROM),
-        to: number_in(options, "TO", 0),
-        actor: number_in(options, "ACTOR", 0),
-    }
-}
-
-/// The workers, the queue and the nodes among the options of `work`.
-fn crew_in(options: &ArgMatches<'_>) -> Crew
-    ensures { IsCrewOf (rows_of (found_of options.now)) result }
-{
-    Crew {
-        workers: number_in(options, "WORKERS", USUAL_WORKERS),
-        kind: kind_in(options),
-        nodes: number_in(options, "NODES", USUAL_NODES),
-    }
-}
-
-/// The number of this option, and another one where there is none.
-fn number_in(options: &ArgMatches<'_>, id: &str, other: u32) -> u32
-    ensures { SaysNumber (one_of id.now (rows_of (found_of options.now))) other result }
-{
-    match options.get_one::<u32>(id) {
-        Some(number) => number,
-        None => other,
-    }
-}
-
-/// The kind of the queue that is named.
-fn kind_in(options: &ArgMatches<'_>) -> Kind
-    ensures { result ≡ kind_named (first_of (codes "QUEUE") (rows_of (found_of options.now))) }
-{
-    match options.get_str("QUEUE") {
-        Some(name) if name == "two-lock" => Kind::TwoLock,
-        _ => Kind::NonBlocking,
     }
 }
 

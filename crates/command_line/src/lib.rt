@@ -2,5 +2,6 @@
 #![tactic(auto)]
 
 mod commands;
+mod options;
 
 pub use commands::{Command, Crew, Task, View, read_words};

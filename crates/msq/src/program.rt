@@ -8,13 +8,14 @@ use mail_engine::post_text;
 use place_engine::place_text;
 use placing::Placed;
 use run_engine::run_text;
-use show_engine::{View, show_text};
+use show_engine::{View, show_history, show_text};
+use std::alloc::Global;
 use std::fs::File;
 use std::rt::Runtime;
 use std::sync::Wait;
 use std::thread::Threads;
 use std::{env, io};
-use text_io::{ReaderSource, Source, WriterSink};
+use text_io::{ReaderSource, Sink, Source, WriterSink};
 use trace_engine::trace_text;
 
 /// Does what the program's words ask for, and answers the exit status: 0 where it is done or help
@@ -73,7 +74,7 @@ fn outcome_on<R: Runtime + AllocGlobal + Threads + Wait + Sync, S: Source + Drop
     match command.task {
         Task::Run => run_text(rt.alloc(), &mut reader, &mut writer)?,
         Task::Trace => trace_text(rt.alloc(), &mut reader, &mut writer)?,
-        Task::Show(view) => show_text(rt.alloc(), &mut reader, &mut writer, view_of(view))?,
+        Task::Show(view) => show_on(rt.alloc(), view, &mut reader, &mut writer)?,
         Task::Check => {
             return Ok(Ending::from(check_text(rt.alloc(), &mut reader, &mut writer)?));
         }
@@ -101,14 +102,24 @@ fn outcome_on<R: Runtime + AllocGlobal + Threads + Wait + Sync, S: Source + Drop
     Ok(Ending::Well)
 }
 
-/// What a picture shows, as the words say it.
-fn view_of(view: command_line::View) -> View {
-    View {
-        width: view.width,
-        from: view.from,
-        to: view.to,
-        actor: view.actor,
+/// Draws the schedule, or the history, that a source gives.
+fn show_on<S: Source, W: Sink>(
+    alloc: Global,
+    asked: command_line::View,
+    reader: &mut S,
+    writer: &mut W,
+) -> Result<(), Fault> {
+    let view = View {
+        width: asked.width,
+        from: asked.from,
+        to: asked.to,
+        actor: asked.actor,
+    };
+    if asked.is_history {
+        show_history(alloc, reader, writer, view)?;
+        return Ok(());
     }
+    show_text(alloc, reader, writer, view)
 }
 
 /// Standard error as a writer.

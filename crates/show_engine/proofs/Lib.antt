@@ -5,3 +5,4 @@ mod Lookups
 mod Shown
 mod Links
 mod Gives
+mod Told

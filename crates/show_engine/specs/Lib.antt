@@ -4,3 +4,6 @@ pub mod Cells
 pub mod Chains
 pub mod Pictures
 pub mod Showing
+pub mod Scales
+pub mod Timelines
+pub mod Telling

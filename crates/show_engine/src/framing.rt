@@ -1,6 +1,6 @@
 //! What of a run is shown, and in which columns.
 ghost use Rattle.std.specs.Prelude.{◌≡◌, ◌≤◌, ◌<◌, ◌^◌};
-ghost use Rattle.show_engine.specs.Frames.{IsFitting, column_of, end_of, frame_of, shown_beside, shows};
+ghost use Rattle.show_engine.specs.Frames.{IsFitting, column_of, end_of, frame_of, shown_beside, shows, width_of};
 
 /// What of a run is shown.
 #[derive(Clone, Copy, Debug)]
@@ -34,6 +34,29 @@ pub struct Frame {
     pub count: u64,
 }
 
+impl View {
+    /// How many columns a row has at most.
+    pub(crate) fn columns(self) -> u32
+        ensures value { result ≡ width_of self }
+        ensures some { 40 ≤ result }
+        ensures narrow { result ≤ 190 }
+    {
+        self.width.min(190).max(40)
+    }
+
+    /// The number of the last step that may be shown.
+    pub(crate) fn last_step(self) -> u64
+        ensures value { result ≡ end_of self }
+        ensures few { result < 2 ^ 33 }
+    {
+        if self.to == 0 {
+            u64::from(self.from) + 99
+        } else {
+            u64::from(self.to)
+        }
+    }
+}
+
 /// How many of so many actors are shown, where the chains stand at this column.
 fn shown_of(view: View, side: u32, actors: u16) -> u32
     requires { 15 ≤ side }
@@ -48,17 +71,6 @@ fn shown_of(view: View, side: u32, actors: u16) -> u32
     }
 }
 
-/// The number of the last step that may be shown.
-fn end_of(view: View) -> u64
-    ensures { result ≡ end_of view }
-{
-    if view.to == 0 {
-        u64::from(view.from) + 99
-    } else {
-        u64::from(view.to)
-    }
-}
-
 impl Frame {
     /// The frame of a view of a run of so many actors.
     pub(crate) fn of(view: View, actors: u16) -> Frame
@@ -66,7 +78,7 @@ impl Frame {
         ensures frame { result ≡ frame_of view actors }
         ensures fits { IsFitting result }
     {
-        let width = view.width.min(190).max(40);
+        let width = view.columns();
         let side = width * 2 / 3;
         let count = shown_of(view, side, actors);
         Frame {
@@ -74,7 +86,7 @@ impl Frame {
             side: side as usize,
             column: ((side - 7) / count).min(12) as usize,
             from: u64::from(view.from),
-            to: end_of(view),
+            to: view.last_step(),
             first: u64::from(view.actor.max(1)),
             count: u64::from(count),
         }

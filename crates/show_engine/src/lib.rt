@@ -1,6 +1,7 @@
-//! The engine of `msq show`: from the text of a schedule to a picture of its run.
+//! The engine of `msq show`: from the text of a schedule to a picture of its run, and from that of a history to a timeline.
 #![tactic(auto)]
 
+mod bars;
 mod cells;
 mod chains;
 mod counting;
@@ -10,6 +11,9 @@ mod engine;
 mod framing;
 mod moving;
 mod rows;
+mod scales;
+mod timeline;
 
 pub use engine::show_text;
 pub use framing::View;
+pub use timeline::show_history;

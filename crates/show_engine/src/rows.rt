@@ -31,12 +31,12 @@ fn push_spaces(line: &mut Line, count: usize)
     line.push(&[b' '; LINE_ROOM][..count]);
 }
 
-/// Ends a row, of which a line has the columns that are shown and one more.
-fn cut(line: Line, width: usize) -> Line
+/// Ends a row, of which a line has the whole, or as many columns as are shown and one more.
+pub(crate) fn cut(line: Line, width: usize) -> Line
     requires some { 1 ≤ width }
     requires room { width + 2 ≤ LINE_ROOM }
-    requires fits { length line ≤ width + 1 }
-    ensures { (whole : List ℕ) → line ≡ take (width + 1) whole
+    ensures line { result ≡ cut_to width line ++ codes "\n" }
+    ensures front { (whole : List ℕ) → line ≡ take (width + 1) whole
         → result ≡ cut_to width whole ++ codes "\n" }
 {
     let mut row = Line::new();
@@ -54,6 +54,7 @@ fn cut(line: Line, width: usize) -> Line
 pub(crate) fn number_start(number: u64) -> Line
     ensures text { result ≡ number_text number }
     ensures short { length result ≤ 27 }
+    ensures few { number < 1000000 → length result ≤ 7 }
 {
     let mut digits = Line::new();
     digits.push_number(number);
@@ -135,7 +136,7 @@ pub(crate) fn shown_line(frame: Frame, actors: u16, steps: u64) -> Line
 }
 
 /// Puts the name of a number and the number at the end of a line.
-fn push_number(line: &mut Line, name: &[u8], number: u64)
+pub(crate) fn push_number(line: &mut Line, name: &[u8], number: u64)
     requires { length line.old + length name.now + 20 ≤ LINE_ROOM }
     ensures text { line.new ≡ line.old ++ name.now ++ decimal number }
     ensures short { length line.new ≤ length line.old + length name.now + 20 }

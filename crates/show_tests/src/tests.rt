@@ -1,3 +1,4 @@
-//! Pictures, each against what was worked out by hand.
+//! Pictures and timelines, each against what was worked out by hand.
 mod comparing;
+mod timelines;
 mod typed;

@@ -46,24 +46,27 @@ const COMMANDS: [(&[&str], Told, &str); 22] = [
     (&["post", "a", "--queue", "nonblocking"], (4, 0, 2, 0), "a"),
 ];
 
-/// Words that ask for a picture, its columns, its first and its last step, its actor, and the file.
-const PICTURES: [(&[&str], [u32; 4], &str); 4] = [
-    (&["show", "a"], [80, 1, 0, 0], "a"),
-    (&["show", "--width", "40", "-"], [40, 1, 0, 0], "-"),
+/// Words that ask for a picture, its columns, its first and its last step, its actor, whether it is of a history, and the file.
+const PICTURES: [(&[&str], [u32; 4], bool, &str); 5] = [
+    (&["show", "a"], [80, 1, 0, 0], false, "a"),
+    (&["show", "--width", "40", "-"], [40, 1, 0, 0], false, "-"),
+    (&["show", "--history", "a"], [80, 1, 0, 0], true, "a"),
     (
         &["show", "a", "--from=4294967295", "--to", "4294967294"],
         [80, 4_294_967_295, 4_294_967_294, 0],
+        false,
         "a",
     ),
     (
-        &["show", "--width=190", "a", "--actor", "65535"],
+        &["show", "--width=190", "a", "--actor", "65535", "--history"],
         [190, 1, 0, 65_535],
+        true,
         "a",
     ),
 ];
 
 /// Words that ask for no command, and the status.
-const OTHERS: [(&[&str], u8); 37] = [
+const OTHERS: [(&[&str], u8); 38] = [
     (&["run"], 2),
     (&["run", "a", "b"], 2),
     (&["run", "--fast", "a"], 2),
@@ -76,6 +79,7 @@ const OTHERS: [(&[&str], u8); 37] = [
     (&["show", "a", "--width", "191"], 2),
     (&["show", "a", "--from", "0"], 2),
     (&["show", "a", "--actor", "65536"], 2),
+    (&["show", "a", "--history=true"], 2),
     (&["show", "--help"], 0),
     (&["check"], 2),
     (&["place"], 2),
@@ -158,7 +162,7 @@ fn reads_what_to_do_with_which_file(rt: HostRuntime) -> Result<(), Fail> {
 
 #[test]
 fn reads_what_a_picture_shows(rt: HostRuntime) -> Result<(), Fail> {
-    for (words, view, file) in &PICTURES {
+    for (words, view, is_history, file) in &PICTURES {
         let answer = read_words(rt.alloc(), &strings(rt.alloc(), words)?);
         let found = match &answer {
             Ok(
@@ -166,10 +170,15 @@ fn reads_what_a_picture_shows(rt: HostRuntime) -> Result<(), Fail> {
                     task: Task::Show(view),
                     file,
                 },
-            ) => Some(([view.width, view.from, view.to, view.actor], file.as_str())),
+            ) => Some((
+                [view.width, view.from, view.to, view.actor],
+                view.is_history,
+                file.as_str(),
+            )),
             _ => None,
         };
-        same(&rt, found, Some((*view, *file)), format_args!("{words:?}"));
+        let due = Some((*view, *is_history, *file));
+        same(&rt, found, due, format_args!("{words:?}"));
     }
     Ok(())
 }

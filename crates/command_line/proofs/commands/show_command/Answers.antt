@@ -1,7 +1,7 @@
 use Rattle.std.proofs.Common.{◌≡◌, ◌-◌, ◌^◌, ap, ap₂, ◌∙◌, codes, rules}
 use Rattle.std.proofs.lemmas.Result.{IfOk-weaker}
 use Rattle.clap.specs.Words.{app_of, rule_of, with_rule}
-use Rattle.command_line.specs.Commands.{file_app, number_rule}
+use Rattle.command_line.specs.Commands.{file_app, flag_rule, number_rule}
 use Rattle.command_line.proofs.commands.show_command.Goals as goal
 
 pub returns : goal.returns
@@ -20,4 +20,7 @@ returns c =
     c.in_ok-command-3.ensures.shape (search rules) ∙ ap₂ with_rule one from_is in
     let three : app_of c.in_ok-command-4.command ≡ with_rule (with_rule (with_rule (file_app (codes "show")) width) from) to =
     c.in_ok-command-4.ensures.shape (search rules) ∙ ap₂ with_rule two to_is in
-    IfOk-weaker c.arg-4.result _ _ (λ r h. h.shape (search rules) ∙ ap₂ with_rule three actor_is) c.arg-4.ensures
+    let four : app_of c.in_ok-command-5.command ≡ with_rule (with_rule (with_rule (with_rule (file_app (codes "show")) width) from) to) actor =
+    c.in_ok-command-5.ensures.shape (search rules) ∙ ap₂ with_rule three actor_is in
+    let history_is : rule_of c.help-5.result ≡ flag_rule (codes "HISTORY") (codes "history") = ap rule_of c.help-5.ensures ∙ c.flag_option-history.ensures.rule in
+    IfOk-weaker c.arg-5.result _ _ (λ r h. h.shape (search rules) ∙ ap₂ with_rule four history_is) c.arg-5.ensures

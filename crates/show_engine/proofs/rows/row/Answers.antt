@@ -14,7 +14,7 @@ returns-then-is_empty c =
     let left = padded c.column_of.result c.args.start.now ++ c.args.cell.now in
     let alone = beside-none frame.side c.args.side.now left c.is_empty.result c.is_empty.ensures c.if-is_empty.true in
     let at : c.column_of.result ≡ column_of frame c.args.actor = c.column_of.ensures.column ∙ ap (column_of frame) c.from.ensures in
-    c.cut.ensures left two
+    c.cut.ensures.front left two
     ∙ ap (λ (l : List ℕ). cut_to frame.width l ++ codes "\n") (sym alone)
     ∙ ap (λ (n : ℕ). cut_to frame.width (beside frame.side c.args.side.now (padded n c.args.start.now ++ c.args.cell.now)) ++ codes "\n") at
 
@@ -28,6 +28,6 @@ returns c =
     let three = c.put_at-3.ensures.text left two in
     let both = beside-some frame.side c.args.side.now left c.is_empty.result c.is_empty.ensures c.if-is_empty.false in
     let at : c.column_of.result ≡ column_of frame c.args.actor = c.column_of.ensures.column ∙ ap (column_of frame) c.from.ensures in
-    c.cut-2.ensures (padded frame.side left ++ c.args.side.now) three
+    c.cut-2.ensures.front (padded frame.side left ++ c.args.side.now) three
     ∙ ap (λ (l : List ℕ). cut_to frame.width l ++ codes "\n") (sym both)
     ∙ ap (λ (n : ℕ). cut_to frame.width (beside frame.side c.args.side.now (padded n c.args.start.now ++ c.args.cell.now)) ++ codes "\n") at

@@ -2,7 +2,7 @@ use Rattle.std.proofs.Common.{◌∙◌, sym, codes, true, false}
 use Rattle.clap.specs.Words.{found_of}
 use Rattle.clap.proofs.WalkLemmas.{first_value-rows}
 use Rattle.command_line.proofs.Words.{kind_named-none, kind_named-some}
-use Rattle.command_line.proofs.commands.kind_in.Goals as goal
+use Rattle.command_line.proofs.options.kind_in.Goals as goal
 
 pub returns-in-Some : goal.returns-in-Some
 returns-in-Some c =

@@ -5,7 +5,7 @@ use Rattle.clap.specs.Words.{found_of, one_text}
 use Rattle.clap.proofs.WalkLemmas.{one_text-rows}
 use Rattle.command_line.specs.Commands.{SaysNumber}
 use Rattle.command_line.proofs.Words.{SaysNumber-read}
-use Rattle.command_line.proofs.commands.number_in.Goals as goal
+use Rattle.command_line.proofs.options.number_in.Goals as goal
 
 pub returns-in-Some : goal.returns-in-Some
 returns-in-Some c =

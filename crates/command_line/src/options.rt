@@ -1,0 +1,71 @@
+//! What is read of the options of a command.
+ghost use Rattle.std.specs.Prelude.{◌≡◌, codes};
+ghost use Rattle.clap.specs.Words.{first_of, found_of, one_of, rows_of};
+ghost use Rattle.command_line.specs.Commands.{kind_named, IsCrewOf, IsViewOf, SaysFlag, SaysNumber};
+
+use crate::commands::{Crew, View};
+use clap::ArgMatches;
+use line_table::Kind;
+
+/// How many workers there are where the words don't say it.
+const USUAL_WORKERS: u32 = 4;
+
+/// How many nodes there are where the words don't say it.
+const USUAL_NODES: u32 = 1024;
+
+/// How many columns a picture has at most where the words don't say it.
+const USUAL_WIDTH: u32 = 80;
+
+/// The first step that a picture shows where the words don't say it.
+const USUAL_FROM: u32 = 1;
+
+/// What is shown, among the options of `show`.
+pub(crate) fn view_in(options: &ArgMatches<'_>) -> View
+    ensures { IsViewOf (rows_of (found_of options.now)) result }
+{
+    View {
+        width: number_in(options, "WIDTH", USUAL_WIDTH),
+        from: number_in(options, "FROM", USUAL_FROM),
+        to: number_in(options, "TO", 0),
+        actor: number_in(options, "ACTOR", 0),
+        is_history: flag_in(options, "HISTORY"),
+    }
+}
+
+/// Whether this option is given.
+fn flag_in(options: &ArgMatches<'_>, id: &str) -> bool
+    ensures { SaysFlag (one_of id.now (rows_of (found_of options.now))) result }
+{
+    options.get_flag(id)
+}
+
+/// The workers, the queue and the nodes among the options of `work`.
+pub(crate) fn crew_in(options: &ArgMatches<'_>) -> Crew
+    ensures { IsCrewOf (rows_of (found_of options.now)) result }
+{
+    Crew {
+        workers: number_in(options, "WORKERS", USUAL_WORKERS),
+        kind: kind_in(options),
+        nodes: number_in(options, "NODES", USUAL_NODES),
+    }
+}
+
+/// The number of this option, and another one where there is none.
+pub(crate) fn number_in(options: &ArgMatches<'_>, id: &str, other: u32) -> u32
+    ensures { SaysNumber (one_of id.now (rows_of (found_of options.now))) other result }
+{
+    match options.get_one::<u32>(id) {
+        Some(number) => number,
+        None => other,
+    }
+}
+
+/// The kind of the queue that is named.
+pub(crate) fn kind_in(options: &ArgMatches<'_>) -> Kind
+    ensures { result ≡ kind_named (first_of (codes "QUEUE") (rows_of (found_of options.now))) }
+{
+    match options.get_str("QUEUE") {
+        Some(name) if name == "two-lock" => Kind::TwoLock,
+        _ => Kind::NonBlocking,
+    }
+}
