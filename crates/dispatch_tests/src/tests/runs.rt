@@ -154,7 +154,7 @@ fn workers_end_where_the_queue_is_worn_out(rt: HostRuntime) -> Result<(), Fail> 
         (Rule::GoodPushes(10), Err(Refusal::Lost)),
         (Rule::WornTail(0), Err(Refusal::Lost)),
         (Rule::WornTail(10), Err(Refusal::Lost)),
-        (Rule::WornTail(1000), Ok(1000)),
+        (Rule::WornTail(u64::MAX), Ok(1000)),
         (worn_pops(1), Ok(1000)),
         (worn_pops(u64::MAX), Err(Refusal::Lost)),
     ];
