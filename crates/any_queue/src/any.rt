@@ -44,6 +44,9 @@ impl AnyQueue {
         limit: u64,
         roles: &[Role],
     ) -> Result<(AnyQueue, Vec<Seat>), Refusal>
+        //= library/any (ok, permits, seats, unused, sized, refused): A queue of either kind meets `Fifo`; a new one is
+        //=   of the kind, nodes and greatest count asked for, its seats may do what the roles say and are unused, and
+        //=   its refusals have the causes of the kind.
         ensures ok { IfOk result
             (λ r. IsMade (plan 24 kind nodes limit roles.now) (any_arena_of r.0) r.1.items) }
         ensures permits { IfOk result (λ r. any_permits_of r.0 ≡ permits_by roles.now) }
@@ -65,6 +68,7 @@ impl AnyQueue {
     }
 }
 
+//= library/any
 impl Fifo for AnyQueue {
     ghost use Rattle.std.specs.Prelude.{map};
     ghost use Rattle.std.specs.List.{All};

@@ -49,6 +49,8 @@ impl<A: Algorithm<B>, const B: u32> ArenaQueueOf<A, B> {
         roles: &[Role],
     ) -> Result<(ArenaQueueOf<A, B>, Vec<Seat>), Refusal>
         requires split { IsSplit B }
+        //= queues/opening (ok, permits, seats, unused, sized, refused): A new queue of any algorithm is as a new arena;
+        //=   each seat may do what its role says, is in no call, and has seen nothing.
         ensures ok { IfOk result (λ r. IsQueueMade A.kind nodes limit roles.now r.0 r.1.items) }
         ensures permits { IfOk result (λ r. permits_of r.0 ≡ permits_by roles.now) }
         ensures seats { IfOk result (λ r. All (IsQueueSeat r.0) r.1.items) }
@@ -74,6 +76,7 @@ impl<A: Algorithm<B>, const B: u32> ArenaQueueOf<A, B> {
     /// assert!(queue.peek(2) == Some(1));
     /// ```
     pub fn peek(&self, word: usize) -> Option<u64>
+        //= atomics/peek (none, held)
         ensures none { IsNone result ↔ (6 + 2 * (setup_of (arena_of self.now)).size ≤ word) }
         ensures held { IfSome result (WasWord (plan_of (arena_of self.now)) word) }
     {
@@ -121,13 +124,20 @@ impl<A: Algorithm<B>, const B: u32> Fifo for ArenaQueueOf<A, B> {
         requires turns { 1 ≤ turns }
         ensures seat { IsQueueSeat self.now seat.new }
         ensures number { (known_of seat.new).number ≡ (known_of seat.old).number }
+        //= queues/keeps: A push, a pop and a shut don't change whether their seat keeps its nodes.
         ensures keeps { keeps_of seat.new ≡ keeps_of seat.old }
         ensures pushed { OnOk result (Pushed (known_of seat.old) body (known_of seat.new)) }
+        //= queues/done (few, pocket): Of a push or a shut that is done fewer than `turns` turns failed. The push leaves
+        //=   its seat's pocket empty; a shut, done or refused, leaves it as it was.
         ensures few { OnOk result (FailsFewer seat.old seat.new turns) }
         ensures pocket { OnOk result (pocket_of seat.new ≡ None) }
         ensures refused { IfErr result
             (λ why. RefusedPush (known_of seat.old) why (known_of seat.new)) }
         ensures why { IfErr result StopsPush }
+        //= atomics/met_cause
+        //= queues/queue_causes: A push, a pop and a shut of either queue are refused only with [their
+        //=   cause](../crates/arena_queue/CALLING.md#the-causes-of-refusals): in the world before the call's last step
+        //=   or, of `Busy`, in the call's turns.
         ensures caused { IfErr result
             (PushRefused A.push_worn (arena_of self.now) seat.old seat.new turns) }
     {
@@ -149,8 +159,12 @@ impl<A: Algorithm<B>, const B: u32> Fifo for ArenaQueueOf<A, B> {
         requires turns { 1 ≤ turns }
         ensures seat { IsQueueSeat self.now seat.new }
         ensures number { (known_of seat.new).number ≡ (known_of seat.old).number }
+        //= queues/keeps
         ensures keeps { keeps_of seat.new ≡ keeps_of seat.old }
         ensures answer { IfOk result (λ o. PopAnswers (known_of seat.old) o (known_of seat.new)) }
+        //= queues/answered (few, freed, kept): Of a pop that answers at most `turns` turns failed, those of give backs
+        //=   too. The pocket of a seat that keeps no nodes is then empty, or just `turns` failed; that of one that
+        //=   keeps them holds a node exactly where a value was taken.
         ensures few { OnOk result (FailsFew seat.old seat.new turns) }
         ensures freed { keeps_of seat.old ≡ false →
             OnOk result (FreesItsNode seat.old seat.new turns) }
@@ -158,6 +172,8 @@ impl<A: Algorithm<B>, const B: u32> Fifo for ArenaQueueOf<A, B> {
         ensures refused { IfErr result
             (λ why. RefusedPop (known_of seat.old) why (known_of seat.new)) }
         ensures why { IfErr result StopsPop }
+        //= atomics/met_cause
+        //= queues/queue_causes
         ensures caused { IfErr result
             (PopRefused A.pop_worn (arena_of self.now) seat.old seat.new turns) }
     {
@@ -180,13 +196,16 @@ impl<A: Algorithm<B>, const B: u32> Fifo for ArenaQueueOf<A, B> {
         requires turns { 1 ≤ turns }
         ensures seat { IsQueueSeat self.now seat.new }
         ensures number { (known_of seat.new).number ≡ (known_of seat.old).number }
+        //= queues/keeps
         ensures keeps { keeps_of seat.new ≡ keeps_of seat.old }
         ensures shut { OnOk result (DidShut (known_of seat.old) (known_of seat.new)) }
+        //= queues/done (few, pocket)
         ensures few { OnOk result (FailsFewer seat.old seat.new turns) }
         ensures pocket { pocket_of seat.new ≡ pocket_of seat.old }
         ensures refused { IfErr result
             (λ why. RefusedPush (known_of seat.old) why (known_of seat.new)) }
         ensures why { IfErr result StopsShut }
+        //= queues/queue_causes
         ensures caused { IfErr result
             (ShutRefused A.shut_worn (arena_of self.now) seat.old seat.new turns) }
     {

@@ -23,7 +23,10 @@ pub fn check_text<R: Source, W: Sink>(
     reader: &mut R,
     writer: &mut W,
 ) -> Result<Verdict, Refusal>
-    // The verdict is that on the history read, and the text that tells it is written and nothing else.
+    //= program/check (ok, quiet): `msq check` answers the verdict on the history read, Yes exactly where that is placed
+    //=   and legal, and its text is written.
+    //= program/judge_refusals (ok, text, beginning, write, unwritten, refusal, reader): `msq check` and `msq place`
+    //=   have the usual refusals, for a faulty text of either kind.
     ensures ok { IfOk result (TellsVerdict (R.state reader.old).left (W.state writer.old)
         (W.state writer.new)) }
     ensures quiet { OnOk result ((W.state writer.new).failures ≡ (W.state writer.old).failures) }
@@ -51,6 +54,8 @@ pub fn check_text<R: Source, W: Sink>(
 /// the reader fails; `Text`, where the bytes are no history. It takes memory; whether it waits is up
 /// to the reader.
 pub fn history_in<R: Source>(alloc: Global, reader: &mut R) -> Result<Vec<Stamped>, Refusal>
+    //= program/readings (ok, text): What is read at Ok is a history in range whose text the bytes were or, by
+    //=   `record_in`, the one of a recording in range whose text they were. A faulty text. The reader tells its end.
     ensures ok { IfOk result (λ history. IsTextOf (R.state reader.old).left history.items) }
     ensures text { IfErr result (TellsFirstFault (R.state reader.old).left) }
     ensures unwritten { IfErr result (λ why. why ≢ Refusal.Write) }

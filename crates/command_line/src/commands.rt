@@ -89,12 +89,15 @@ pub struct Command {
 /// goes to standard output, 2 for words that are refused, and 1 with no text where memory was
 /// refused. Takes memory, and doesn't wait.
 pub fn read_words(alloc: Global, words: &[String]) -> Result<Command, (u8, String)>
-    // At `Ok` it is what the words ask for, and clap finds no fault in them.
+    //= program/words (asked, passes, none): The words name the task, its file and its options as clap's definitions
+    //=   say; no words are `run -`. They are taken only where clap finds no fault; words that are a command line, and
+    //=   none, are refused only where memory is (`IsAsked`).
     ensures asked { IfOk result (IsAskedSomewhere (map string_bytes words.now)) }
     // Words that are a command line, and no words, are refused only where memory is.
     ensures passes { IfErr result (λ e. AreTaken (map string_bytes words.now) → e.0 ≡ 1) }
     ensures none { words.now ≡ [] → IfErr result (λ e. e.0 ≡ 1) }
-    // The status is that of what clap says, or 1 where memory is refused.
+    //= program/word_status (status, memory): Refused words have the status of something that clap finds in them, 0 for
+    //=   help and the version, else 2; or 1, with no text, where memory is refused.
     ensures status { IfErr result (λ e. IsStatusOf (map string_bytes words.now) e.0) }
     ensures memory { IfErr result (λ e. e.0 ≡ 1 → string_bytes e.1 ≡ []) }
 {

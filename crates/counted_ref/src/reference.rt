@@ -12,6 +12,8 @@ use std::marker::Model;
 /// ```
 pub const fn shut_node(bits: u32) -> u32
     requires { IsSplit bits }
+    //= references/greatest: A split's greatest node, number of a closed end and greatest count are 2^B - 2, 2^B - 1 and
+    //=   2^(64-B) - 1.
     ensures { result ≡ reserved_node bits }
 {
     ((1u64 << bits) - 1) as u32
@@ -25,6 +27,7 @@ pub const fn shut_node(bits: u32) -> u32
 #[tactic(auto, using(crate::proofs::Words::span_least))]
 pub const fn most_node(bits: u32) -> u32
     requires { IsSplit bits }
+    //= references/greatest
     ensures { result + 1 ≡ reserved_node bits }
 {
     shut_node(bits) - 1
@@ -37,6 +40,7 @@ pub const fn most_node(bits: u32) -> u32
 /// ```
 pub const fn most_count(bits: u32) -> u64
     requires { IsSplit bits }
+    //= references/greatest
     ensures { result + 1 ≡ 2 ^ count_bits bits }
 {
     (1 << (64 - bits)) - 1
@@ -90,6 +94,7 @@ impl<const B: u32> CountedRefOf<B> {
         requires split { IsSplit B }
         requires node { node < reserved_node B }
         requires count { count < 2 ^ count_bits B }
+        //= references/made: A counted reference has the node and the count that it was made with.
         ensures { result ≡ ref node count }
     {
         CountedRefOf::packed(node, count)
@@ -103,6 +108,8 @@ impl<const B: u32> CountedRefOf<B> {
     pub fn shut(count: u64) -> CountedRefOf<B>
         requires split { IsSplit B }
         requires count { count < 2 ^ count_bits B }
+        //= references/closed_end: A closed end has the count that it was made with; a reference is one exactly where
+        //=   its node is 2^B - 1.
         ensures { result ≡ shut_ref B count }
     {
         CountedRefOf::packed(shut_node(B), count)
@@ -126,6 +133,7 @@ impl<const B: u32> CountedRefOf<B> {
     /// assert_eq!(CountedRef::new(2, 1).node(), 2);
     /// ```
     pub fn node(&self) -> u32
+        //= references/made (value, range)
         ensures value { result ≡ self.now.node }
         ensures range { result < 2 ^ B }
     {
@@ -138,6 +146,7 @@ impl<const B: u32> CountedRefOf<B> {
     /// assert_eq!(CountedRef::new(2, 1).count(), 1);
     /// ```
     pub fn count(&self) -> u64
+        //= references/made (value, range)
         ensures value { result ≡ self.now.count }
         ensures range { result < 2 ^ count_bits B }
     {
@@ -151,6 +160,7 @@ impl<const B: u32> CountedRefOf<B> {
     /// assert!(!CountedRef::new(1, 0).is_null());
     /// ```
     pub fn is_null(&self) -> bool
+        //= references/null: A counted reference is null exactly where its node is 0.
         ensures { result ≡ is_null self.now }
     {
         self.node() == 0
@@ -163,6 +173,7 @@ impl<const B: u32> CountedRefOf<B> {
     /// assert!(!CountedRef::new(16_777_214, 1).is_shut());
     /// ```
     pub fn is_shut(&self) -> bool
+        //= references/closed_end
         ensures { result ≡ is_shut B self.now }
     {
         self.word % (1 << B) == (1 << B) - 1
@@ -174,6 +185,8 @@ impl<const B: u32> CountedRefOf<B> {
     /// assert_eq!(CountedRef::new(2, 1).word(), 16_777_218);
     /// ```
     pub fn word(&self) -> u64
+        //= references/word (value, in_range): A reference's word is count times 2^B plus node, and each word is read
+        //=   back as these.
         ensures value { result ≡ ref_word B self.now }
         ensures in_range { IsRef B self.now }
     {
@@ -188,6 +201,7 @@ impl<const B: u32> CountedRefOf<B> {
     /// ```
     pub fn from_word(word: u64) -> Option<CountedRefOf<B>>
         requires split { IsSplit B }
+        //= references/word (value, same_word)
         ensures value { result ≡ Some (ref_of B word) }
         ensures same_word { ref_word B (ref_of B word) ≡ word }
     {
@@ -201,6 +215,7 @@ impl<const B: u32> CountedRefOf<B> {
     /// ```
     pub fn of_word(word: u64) -> CountedRefOf<B>
         requires split { IsSplit B }
+        //= references/word (value, same_word)
         ensures value { result ≡ ref_of B word }
         ensures same_word { ref_word B result ≡ word }
     {
@@ -219,6 +234,8 @@ impl<const B: u32> CountedRefOf<B> {
         requires to { to < reserved_node B }
         requires limit { limit < 2 ^ count_bits B }
         requires count { self.now.count ≤ limit }
+        //= references/raised (none, value): A raised reference names the node given and has the next count; there is
+        //=   none exactly at the limit.
         ensures none { IsNone result ↔ (self.now.count ≡ limit) }
         ensures value { IfSome result (λ r. r ≡ ref to (self.now.count + 1)) }
     {
@@ -237,6 +254,7 @@ impl<const B: u32> CountedRefOf<B> {
     /// assert!(!CountedRef::new(2, 1).same(CountedRef::new(2, 0)));
     /// ```
     pub fn same(&self, other: CountedRefOf<B>) -> bool
+        //= references/same
         ensures { result ≡ same_ref self.now other.entry }
     {
         self.node() == other.node() && self.count() == other.count()

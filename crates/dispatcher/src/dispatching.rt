@@ -182,6 +182,9 @@ pub fn dispatch<'a, R: Threads + Wait + Sync, Q: Fifo + Sync, G: Gate + Sync>(
 ) -> Result<Vec<JobResult<'a>>, Refusal>
     requires giver { IsGiver Q.is_seat Q.permits Q.known queue.now giver }
     requires takers { All (IsTaker Q.is_seat Q.permits Q.known queue.now) takers.items }
+    //= jobs/dispatch (rows, same, sized, why): A dispatch answers each job's number, kind and value once, in the order
+    //=   of the jobs. `BadSize` comes exactly where there is no taker or more than 1,000,000 jobs; else `Lost` and
+    //=   `Memory`.
     ensures rows { IfOk result (λ results. map row_of results.items ≡ job_rows 1 jobs.now) }
     ensures same { IfOk result (λ results. HaveJobs results.items jobs.now) }
     ensures sized { (result ≡ Err Refusal.BadSize) ↔ IsBadSize takers.items jobs.now }

@@ -94,8 +94,14 @@ pub fn work_one<'a, Q: Fifo, G: Gate>(
     requires turns { 1 ≤ turns }
     ensures seat { Q.is_seat queue.now seat.new }
     ensures number { (Q.known seat.new).number ≡ (Q.known seat.old).number }
+    //= jobs/turn: A worker's turn took one value with a job's number and put exactly this job's result at the end. Or
+    //=   it took nothing, and the results stay: the queue was found empty or, at `Stop`, shut and empty, which its seat
+    //=   notes.
     ensures worked { IfOk result
         (Works jobs.now (Q.known seat.old) (Q.known seat.new) out.old.items out.new.items) }
+    //= jobs/refused_turn (why, caused, refused): A refused turn leaves the results. At `Memory` what the seat knows
+    //=   stays; at `WornOut` and `Busy` nothing was taken, and it hands on, as at `Stop`; at `Stranger` a number was
+    //=   taken that is 0 or above the jobs'.
     ensures why { IfErr result (WorksNot jobs.now (Q.known seat.old) (Q.known seat.new)) }
     // `Stop` is a pop that was refused, so it has a cause too.
     ensures caused { HandsOn (Q.pop_cause queue.now seat.old seat.new turns) result }

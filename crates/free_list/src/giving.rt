@@ -90,15 +90,22 @@ pub fn give_back<const B: u32>(
     requires ready { IsReady arena.now seat.old }
     requires full { IsSome (pocket_of seat.old) }
     requires turns { 1 ≤ turns }
+    //= atomics/same_seat (ready, same, lines, seen): A take and a give back leave the seat ready for a call, and its
+    //=   number, role, whether it keeps its nodes, own entries, notes and what it has seen as they were.
     ensures ready { IsReady arena.now seat.new }
     ensures same { KeepsName seat.old seat.new }
+    //= atomics/give_back (pocket, back, refused): After a give back at Ok the node is free, or set aside where Free's
+    //=   count is the greatest one, and the pocket is empty; at `Busy`, its only refusal, exactly `turns` turns failed,
+    //=   the last one at the last step, and the pocket keeps the node.
     ensures pocket { MatchResult result
         (λ _. pocket_of seat.new ≡ None) (λ _. pocket_of seat.new ≡ pocket_of seat.old) }
     ensures lines { HadNoEffect seat.old seat.new }
     ensures seen { SeesNoMore seat.old seat.new }
+    //= atomics/sound
     ensures sound { IsSound (permits_of arena.now) (known_of seat.new) }
     ensures back { OnOk result (IsGivenBack arena.now seat.old seat.new) }
     ensures refused { IfErr result (GiveBackRefused seat.old seat.new turns) }
+    //= atomics/failed (failed, fewer)
     ensures failed { failed_of seat.new ≡ failed_turns (added seat.old seat.new) }
     ensures fewer { OnOk result (failed_of seat.new < turns) }
 {

@@ -120,15 +120,24 @@ pub fn take<const B: u32>(arena: &ArenaOf<B>, seat: &mut Seat, turns: u32) -> Re
     requires ready { IsReady arena.now seat.old }
     requires empty { pocket_of seat.old ≡ None }
     requires turns { 1 ≤ turns }
+    //= atomics/same_seat (ready, same, lines, seen)
     ensures ready { IsReady arena.now seat.new }
     ensures same { KeepsName seat.old seat.new }
+    //= atomics/take (pocket, taken): The node that a take answers was free or never used at its step, and is then this
+    //=   seat's alone, in no chain, and in the pocket.
+    //= atomics/take_refused (pocket, refused): A take is refused only where before its last step all nodes were used
+    //=   and none was free, or Free's count was the greatest one; or exactly `turns` turns failed, the last one at that
+    //=   step. The pocket is then empty.
     ensures pocket { MatchResult result
         (λ held. pocket_of seat.new ≡ Some held) (λ _. pocket_of seat.new ≡ None) }
     ensures lines { HadNoEffect seat.old seat.new }
     ensures seen { SeesNoMore seat.old seat.new }
+    //= atomics/sound
     ensures sound { IsSound (permits_of arena.now) (known_of seat.new) }
     ensures taken { IfOk result (λ held. IsTaken arena.now seat.old seat.new held.node) }
+    //= atomics/met_cause
     ensures refused { IfErr result (TakeRefused arena.now seat.old seat.new turns) }
+    //= atomics/failed (failed, fewer)
     ensures failed { failed_of seat.new ≡ failed_turns (added seat.old seat.new) }
     ensures fewer { FailsFewer turns result (failed_of seat.new) }
 {

@@ -40,6 +40,10 @@ use std::collections::{BTreeMap, VecDeque};
 /// assert!(check(alloc, &[push, empty])? != Verdict::Yes);
 /// ```
 pub fn check(alloc: Global, history: &[Stamped]) -> Result<Verdict, Refusal>
+    //= judge/verdict (ok, only_memory): A verdict is Yes exactly where the history is placed and legal, and else names
+    //=   its first fault.
+    //= judge/object: A history is judged by the *object* of docs/GLOSSARY.md: `Closed` as any reply is; other refusals
+    //=   leave the queue (`AgreesWithQueue`).
     ensures ok { IfOk result (λ answer. answer ≡ verdict history.now) }
     ensures only_memory { IfErr result (λ why. why ≡ Refusal.Memory) }
 {

@@ -61,11 +61,20 @@ pub trait Fifo {
         requires seat { is_seat self.now seat.old }
         requires role { MayPush (permits self.now) (known seat.old).number }
         requires turns { 1 ≤ turns }
+        //= queues/seats (seat, number): A call leaves its seat one of the queue's, in no call, with the same number.
         ensures seat { is_seat self.now seat.new }
         ensures number { (known seat.new).number ≡ (known seat.old).number }
+        //= queues/pushed: A push that is done adds the push of this body.
         ensures pushed { OnOk result (Pushed (known seat.old) body (known seat.new)) }
+        //= queues/closed: After a push or a shut refused `Closed` what the seat has seen grows and leaves the queue
+        //=   shut, after such a pop shut and empty; that is noted, and the seat's own entries stay.
+        //= queues/other_refusals (refused, why): At other refusals what the seat has seen only grows; its own entries
+        //=   and notes stay. Such are `WornOut` and `Busy` and, of a push, `NoNode`; calls that wait are never refused
+        //=   `Busy`.
         ensures refused { IfErr result (λ why. PushRefused (known seat.old) why (known seat.new)) }
         ensures why { IfErr result StopsPush }
+        //= queues/causes: A refusal has the cause that the queue names for it; that of a call that waits is of its last
+        //=   try, of 8 turns, before which its seat had seen no less than before the call.
         ensures caused { IfErr result (push_cause self.now seat.old seat.new turns) };
 
     /// Takes the value at the front, in so many turns at most, 1 or more; none where the queue was empty. The seat may
@@ -83,11 +92,17 @@ pub trait Fifo {
         requires seat { is_seat self.now seat.old }
         requires role { MayPop (permits self.now) (known seat.old).number }
         requires turns { 1 ≤ turns }
+        //= queues/seats (seat, number)
         ensures seat { is_seat self.now seat.new }
         ensures number { (known seat.new).number ≡ (known seat.old).number }
+        //= queues/popped: A pop with a value adds the pop of this value. After one that answers none what the seat has
+        //=   seen grows and leaves the queue empty and not shut, which is noted.
         ensures answer { IfOk result (λ taken. PopAnswers (known seat.old) taken (known seat.new)) }
+        //= queues/closed
+        //= queues/other_refusals (refused, why)
         ensures refused { IfErr result (λ why. PopRefused (known seat.old) why (known seat.new)) }
         ensures why { IfErr result StopsPop }
+        //= queues/causes
         ensures caused { IfErr result (pop_cause self.now seat.old seat.new turns) };
 
     /// Shuts the queue, in so many turns at most, 1 or more: no push stands after it, and what is in the queue stays to
@@ -108,11 +123,16 @@ pub trait Fifo {
         requires seat { is_seat self.now seat.old }
         requires role { MayPush (permits self.now) (known seat.old).number }
         requires turns { 1 ≤ turns }
+        //= queues/seats (seat, number)
         ensures seat { is_seat self.now seat.new }
         ensures number { (known seat.new).number ≡ (known seat.old).number }
+        //= queues/shut: A shut that is done adds this shut.
         ensures shut { OnOk result (DidShut (known seat.old) (known seat.new)) }
+        //= queues/closed
+        //= queues/other_refusals (refused, why)
         ensures refused { IfErr result (λ why. PushRefused (known seat.old) why (known seat.new)) }
         ensures why { IfErr result StopsShut }
+        //= queues/causes
         ensures caused { IfErr result (shut_cause self.now seat.old seat.new turns) };
 
     /// Afterwards both seats have seen one history, which begins with what each had seen. Takes no memory and doesn't
@@ -126,8 +146,11 @@ pub trait Fifo {
     fn meet(&self, one: &mut Self::Seat, other: &mut Self::Seat)
         requires one { is_seat self.now one.old }
         requires other { is_seat self.now other.old }
+        //= queues/seats (one, other, meets)
         ensures one { is_seat self.now one.new }
         ensures other { is_seat self.now other.new }
+        //= queues/meet: Two seats that met have seen one history, which begins with what each had seen and has the
+        //=   entries of both; their own entries and notes stay.
         ensures meets { Meets (known one.old) (known other.old) (known one.new) (known other.new) };
 
     /// Whether the seat may push. Takes no memory and doesn't wait.
@@ -139,6 +162,7 @@ pub trait Fifo {
     /// ```
     fn may_push(&self, seat: &Self::Seat) -> bool
         requires { is_seat self.now seat.now }
+        //= queues/may: Whether a seat may push, and may pop, is told exactly.
         ensures { IsTrue result ↔ MayPush (permits self.now) (known seat.now).number };
 
     /// Whether the seat may pop. Takes no memory and doesn't wait.
@@ -150,6 +174,7 @@ pub trait Fifo {
     /// ```
     fn may_pop(&self, seat: &Self::Seat) -> bool
         requires { is_seat self.now seat.now }
+        //= queues/may
         ensures { IsTrue result ↔ MayPop (permits self.now) (known seat.now).number };
 
     /// Ends the queue and the seats handed in: what is left, how many values were taken, whether these seats made all
@@ -164,10 +189,16 @@ pub trait Fifo {
     /// ```
     fn close(self, alloc: Global, seats: Vec<Self::Seat>) -> Result<Rest, Refusal>
         requires { All (is_seat self) seats.items }
+        //= queues/rest (rest, only_memory): What is left of a closed queue is what a legal history of permitted entries
+        //=   leaves, which begins with what each seat handed in had seen and has just their own entries as theirs; its
+        //=   pops are counted, and whether it has a shut is told. The rest is whole exactly where these seats made as
+        //=   many pops and pushes, and a shut if it has one; each entry is then theirs. With every seat it is whole. Or
+        //=   Memory.
         ensures rest { IfOk result (λ rest. Closes (permits self) (map known seats.items) rest) }
         ensures only_memory { IfErr result (λ why. why ≡ Refusal.Memory) };
 
-    // What a seat of the queue knows is sound.
+    //= queues/sound: What a seat knows is *sound* (docs/GLOSSARY.md).
+    //= queues/meet
     ghost sound: { (queue : Self) (seat : Self.Seat) → is_seat queue seat → IsSound (permits queue) (known seat) };
 
     /// Pushes a body at the back, by tries of 8 turns each, and tries again while others are in the way. The seat may push.
@@ -185,11 +216,16 @@ pub trait Fifo {
     final fn push<R: Wait>(&self, rt: &R, seat: &mut Self::Seat, body: Body) -> Result<(), Refusal>
         requires seat { is_seat self.now seat.old }
         requires role { MayPush (permits self.now) (known seat.old).number }
+        //= queues/seats (seat, number)
         ensures seat { is_seat self.now seat.new }
         ensures number { (known seat.new).number ≡ (known seat.old).number }
+        //= queues/pushed
         ensures pushed { OnOk result (Pushed (known seat.old) body (known seat.new)) }
+        //= queues/closed
+        //= queues/other_refusals (refused, why)
         ensures refused { IfErr result (λ why. PushRefused (known seat.old) why (known seat.new)) }
         ensures why { IfErr result EndsPush }
+        //= queues/causes
         ensures caused { IfErr result (EndsByTry is_seat known push_cause self.now seat.old seat.new 8) }
     {
         let backoff = Backoff::new();
@@ -218,11 +254,16 @@ pub trait Fifo {
     final fn pop<R: Wait>(&self, rt: &R, seat: &mut Self::Seat) -> Result<Option<Taken>, Refusal>
         requires seat { is_seat self.now seat.old }
         requires role { MayPop (permits self.now) (known seat.old).number }
+        //= queues/seats (seat, number)
         ensures seat { is_seat self.now seat.new }
         ensures number { (known seat.new).number ≡ (known seat.old).number }
+        //= queues/popped
         ensures answer { IfOk result (λ taken. PopAnswers (known seat.old) taken (known seat.new)) }
+        //= queues/closed
+        //= queues/other_refusals (refused, why)
         ensures refused { IfErr result (λ why. PopRefused (known seat.old) why (known seat.new)) }
         ensures why { IfErr result EndsPop }
+        //= queues/causes
         ensures caused { IfErr result (EndsByTry is_seat known pop_cause self.now seat.old seat.new 8) }
     {
         let backoff = Backoff::new();
@@ -249,11 +290,16 @@ pub trait Fifo {
     final fn shut<R: Wait>(&self, rt: &R, seat: &mut Self::Seat) -> Result<(), Refusal>
         requires seat { is_seat self.now seat.old }
         requires role { MayPush (permits self.now) (known seat.old).number }
+        //= queues/seats (seat, number)
         ensures seat { is_seat self.now seat.new }
         ensures number { (known seat.new).number ≡ (known seat.old).number }
+        //= queues/shut
         ensures shut { OnOk result (DidShut (known seat.old) (known seat.new)) }
+        //= queues/closed
+        //= queues/other_refusals (refused, why)
         ensures refused { IfErr result (λ why. PushRefused (known seat.old) why (known seat.new)) }
         ensures why { IfErr result EndsShut }
+        //= queues/causes
         ensures caused { IfErr result (EndsByTry is_seat known shut_cause self.now seat.old seat.new 8) }
     {
         let backoff = Backoff::new();

@@ -33,6 +33,8 @@ impl Rest {
 
     /// How many values were taken. Takes no memory.
     pub fn taken(&self) -> u64
+        //= queues/left: The values left are given from the front, each once, by an iterator that ends; how many were
+        //=   taken, and both flags, are told and stay.
         ensures { result ≡ taken_of self.now }
     {
         self.taken
@@ -40,6 +42,7 @@ impl Rest {
 
     /// Whether the seats handed in made all pushes and pops and, where the queue was shut, the shut. Takes no memory.
     pub fn whole(&self) -> bool
+        //= queues/left
         ensures { result ≡ whole_of self.now }
     {
         self.whole
@@ -47,6 +50,7 @@ impl Rest {
 
     /// Whether the queue was shut. Takes no memory.
     pub fn was_shut(&self) -> bool
+        //= queues/left
         ensures { result ≡ was_shut_of self.now }
     {
         self.was_shut
@@ -60,6 +64,7 @@ impl Iterator for Rest {
 
     type Item = Taken;
 
+    //= queues/left (next_gives, remaining)
     ghost next_gives = { GivesNext };
 
     ghost remaining = { item_count left_of };

@@ -16,6 +16,7 @@ use text_lines::{TextCause, line_at};
 /// the text is no history's: with the number of its first faulty line, from 1, and what is wrong
 /// with it. It takes memory for the operations read so far, and doesn't wait.
 pub fn parse_history(alloc: Global, text: &[u8]) -> Result<Vec<Stamped>, Refusal>
+    //= texts/parse (text, range, err): A history, jobs and mail are parsed exactly.
     ensures text { IfOk result (λ ops. text.now ≡ history_text ops.items) }
     ensures range { IfOk result (λ ops. IsHistoryInRange ops.items) }
     ensures err { IfErr result (IsFirstFaultOfHistory text.now) }

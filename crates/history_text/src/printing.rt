@@ -14,6 +14,7 @@ use text_io::{Block, LINE_ROOM, Line, Sink};
 /// beginning of the text is written then. A reader takes the text back where each actor is 1 or more,
 /// each step is, and each refusal is one that a queue answers.
 pub fn print_history<W: Sink>(history: &[Stamped], writer: &mut W) -> Result<(), Refusal>
+    //= texts/print: The texts of any list of operations and of a schedule are printed exactly.
     ensures { Writes (W.state writer.old) (W.state writer.new) (history_text history.now) result }
 {
     let mut block = Block::new();

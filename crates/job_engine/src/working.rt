@@ -40,11 +40,16 @@ pub fn work_text<T: Threads + Wait + Sync, R: Source, W: Sink>(
     kind: Kind,
     nodes: u32,
 ) -> Result<(), Refusal>
-    // The table of the results of the jobs that were read is written, and nothing else.
+    //= program/work (ok, quiet): `msq work` has written the results of the jobs read, each job's once and in their
+    //=   order.
+    //= program/work_sizes (ok, sized, unread, text, beginning, refusal): `msq work` is refused `BadSize` exactly where
+    //=   workers aren't 1 to 64, or nodes not workers plus 3 to the greatest node's number; its reader is then as it
+    //=   was. A faulty text; at `Lost` and `Write` it was that of jobs.
     ensures ok { OnOk result (WritesResults (R.state reader.old).left (W.state writer.old)
         (W.state writer.new)) }
     ensures quiet { OnOk result ((W.state writer.new).failures ≡ (W.state writer.old).failures) }
-    // A queue of this kind was made for it, with so many nodes, the greatest count of all, and a seat for each worker.
+    //= program/work_queue: At Ok of `msq work` there is a queue made for just the kind, nodes and workers asked for,
+    //=   with a seat for each worker, that may pop, one that may push, and the greatest count of all.
     ensures over { OnOk result (HasQueue (crew_plan kind nodes workers)) }
     // A size out of its range is refused before anything is read.
     ensures sized { (result ≡ Err Refusal.BadSize) ↔ IsBadSize workers nodes }
@@ -52,6 +57,8 @@ pub fn work_text<T: Threads + Wait + Sync, R: Source, W: Sink>(
     // A text is refused by its first faulty line. Where jobs are lost, it was the text of jobs.
     ensures text { IfErr result (TellsOfText (R.state reader.old).left) }
     // Where writing fails, a beginning of the table is written.
+    //= program/work_refusals (beginning, write, unwritten, refusal, reader): At other refusals of `msq work` nothing;
+    //=   there are no more. The reader tells its end, but at `BadSize`, where no call of it failed.
     ensures beginning { IfErr result (λ why. why ≡ Refusal.Write
         → BeginsResults (R.state reader.old).left (W.state writer.old) (W.state writer.new)) }
     ensures write { IfErr result (λ why. why ≡ Refusal.Write

@@ -49,6 +49,8 @@ impl Job {
 
 /// The value of a job. A sum and a product are exact, and a quotient is the whole one. Takes no memory.
 pub fn value_of(job: &Job) -> Value
+    //= jobs/value: A job's value is exact: the sum, the product, the whole quotient or none by zero, the number of
+    //=   bytes of a text.
     ensures { result ≡ jobs.value_of job.now }
 {
     match job {

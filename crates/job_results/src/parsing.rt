@@ -16,6 +16,7 @@ use text_lines::{TextCause, line_at};
 /// where the text is none of jobs: with the number of its first faulty line, from 1, and what is wrong
 /// with it. It goes over the text once, takes memory for the jobs read so far, and doesn't wait.
 pub fn parse_jobs(alloc: Global, text: &[u8]) -> Result<Vec<Job>, Refusal>
+    //= texts/parse (text, range, err)
     ensures text { IfOk result (λ jobs. text.now ≡ jobs_text (said_jobs jobs.items)) }
     ensures range { IfOk result (λ jobs. AreJobsInRange (said_jobs jobs.items)) }
     ensures err { IfErr result (IsFirstFaultOfJobs text.now) }

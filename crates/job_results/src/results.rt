@@ -18,6 +18,8 @@ impl<'a> JobResult<'a> {
 
     /// The result of this job, with this number. Takes no memory.
     pub fn new(number: u64, job: &'a Job) -> JobResult<'a>
+        //= jobs/result (number, job, value): A result has the number and the job that it was made with, and that job's
+        //=   value: no other one can be made.
         ensures number { number_in result ≡ number }
         ensures job { job_in result ≡ job.now }
         ensures value { value_in result ≡ jobs.value_of job.now }
@@ -31,6 +33,7 @@ impl<'a> JobResult<'a> {
 
     /// The job's number. Takes no memory.
     pub fn number(&self) -> u64
+        //= jobs/result
         ensures { result ≡ number_in self.now }
     {
         self.number
@@ -38,6 +41,7 @@ impl<'a> JobResult<'a> {
 
     /// The job. Takes no memory.
     pub fn job(&self) -> &'a Job
+        //= jobs/result
         ensures { result.now ≡ job_in self.now }
     {
         self.job
@@ -45,6 +49,7 @@ impl<'a> JobResult<'a> {
 
     /// The job's value. Takes no memory.
     pub fn value(&self) -> Value
+        //= jobs/result (value, right)
         ensures value { result ≡ value_in self.now }
         ensures right { result ≡ jobs.value_of (job_in self.now) }
     {

@@ -25,6 +25,8 @@ fn from_pocket<const B: u32>(line: Line, actor: &mut ActorOf<B>)
 ///
 /// Takes no memory.
 pub fn begin<const B: u32>(kind: Kind, me: u16, op: Op, actor: &mut ActorOf<B>)
+    //= steps/begin_and_give (actor, call): A begin and a give make of an actor what their definitions say; a give
+    //=   answers none exactly where no turn begins at the line, and then changes nothing.
     ensures actor { actor.new ≡ calling.begun kind me op actor.old }
     ensures call { calling.is_call op ≡ true }
 {
@@ -55,6 +57,7 @@ pub fn begin<const B: u32>(kind: Kind, me: u16, op: Op, actor: &mut ActorOf<B>)
 ///
 /// Takes no memory.
 pub fn give_up<const B: u32>(now: u64, actor: &mut ActorOf<B>, line: Line) -> Option<Told>
+    //= steps/begin_and_give (some, none, same)
     ensures some { IfSome result (λ t. lines.gives_up now actor.old line ≡ Some (settled actor.new t)) }
     ensures none { IsNone result → lines.gives_up now actor.old line ≡ None }
     ensures same { IsNone result → actor.new ≡ actor.old }

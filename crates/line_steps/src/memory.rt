@@ -148,6 +148,7 @@ impl<const B: u32> MemoryOf<B> {
     /// The word at an index of the table, in the table's order; none behind the words of the last node. 0 where the node has
     /// no room yet.
     pub fn word(&self, index: usize) -> Option<u64>
+        //= steps/table: The plain memory tells the number at each place of its table, which has six and two a node.
         ensures { result ≡ slice_get (specs.memory_words B self.now.words) index }
     {
         if index < FIRST_WORDS + 2 * self.size as usize {
@@ -159,6 +160,7 @@ impl<const B: u32> MemoryOf<B> {
 
     /// How many nodes were used.
     pub fn fresh(&self) -> u32
+        //= steps/access: Each access of the plain memory finds what the word held and leaves what its definition says.
         ensures { result ≡ content Fresh self.now.words }
     {
         self.words[FRESH] as u32
@@ -166,6 +168,7 @@ impl<const B: u32> MemoryOf<B> {
 
     /// The word Free: the first node of the free list.
     pub fn free(&self) -> CountedRefOf<B>
+        //= steps/access
         ensures { result ≡ content Free self.now.words }
     {
         CountedRefOf::of_word(self.words[FREE])
@@ -173,6 +176,7 @@ impl<const B: u32> MemoryOf<B> {
 
     /// The word Head: the dummy, before the first value.
     pub fn head(&self) -> CountedRefOf<B>
+        //= steps/access
         ensures { result ≡ content Head self.now.words }
     {
         CountedRefOf::of_word(self.words[HEAD])
@@ -180,6 +184,7 @@ impl<const B: u32> MemoryOf<B> {
 
     /// The word Tail.
     pub fn tail(&self) -> CountedRefOf<B>
+        //= steps/access
         ensures { result ≡ content Tail self.now.words }
     {
         CountedRefOf::of_word(self.words[TAIL])
@@ -201,6 +206,7 @@ impl<const B: u32> MemoryOf<B> {
 
     /// The `next` of a node, which is null where the node has no room yet.
     pub fn next_of(&self, node: u32) -> CountedRefOf<B>
+        //= steps/access
         ensures { result ≡ content (Next node) self.now.words }
     {
         CountedRefOf::of_word(word_at(&self.words, next_place(node)))
@@ -208,6 +214,7 @@ impl<const B: u32> MemoryOf<B> {
 
     /// The value of a node, which is nobody's where the node has no room yet.
     pub fn value_of(&self, node: u32) -> Taken
+        //= steps/access
         ensures { result ≡ content (Value_of node) self.now.words }
     {
         value_of(word_at(&self.words, next_place(node) + 1))
@@ -215,6 +222,7 @@ impl<const B: u32> MemoryOf<B> {
 
     /// Answers what the number of nodes used held, and writes `new` there where that was `old`.
     pub fn exchange_fresh(&mut self, old: u32, new: u32) -> u32
+        //= steps/access (found, after)
         ensures found { result ≡ content Fresh self.old.words }
         ensures after { self.new ≡ accessed (exchange Fresh old new) self.old }
     {
@@ -227,6 +235,7 @@ impl<const B: u32> MemoryOf<B> {
 
     /// Answers what the tail lock held, and writes `new` there where that was `old`.
     pub fn exchange_tail_lock(&mut self, old: u16, new: u16) -> u16
+        //= steps/access (found, after)
         ensures found { result ≡ content Tail_lock self.old.words }
         ensures after { self.new ≡ accessed (exchange Tail_lock old new) self.old }
     {
@@ -239,6 +248,7 @@ impl<const B: u32> MemoryOf<B> {
 
     /// Answers what the head lock held, and writes `new` there where that was `old`.
     pub fn exchange_head_lock(&mut self, old: u16, new: u16) -> u16
+        //= steps/access (found, after)
         ensures found { result ≡ content Head_lock self.old.words }
         ensures after { self.new ≡ accessed (exchange Head_lock old new) self.old }
     {
@@ -251,6 +261,7 @@ impl<const B: u32> MemoryOf<B> {
 
     /// Answers what Free held, and writes `new` there where that was `old`.
     pub fn exchange_free(&mut self, old: CountedRefOf<B>, new: CountedRefOf<B>) -> CountedRefOf<B>
+        //= steps/access (found, after)
         ensures found { result ≡ content Free self.old.words }
         ensures after { self.new ≡ accessed (exchange Free old.entry new.entry) self.old }
     {
@@ -263,6 +274,7 @@ impl<const B: u32> MemoryOf<B> {
 
     /// Answers what Head held, and writes `new` there where that was `old`.
     pub fn exchange_head(&mut self, old: CountedRefOf<B>, new: CountedRefOf<B>) -> CountedRefOf<B>
+        //= steps/access (found, after)
         ensures found { result ≡ content Head self.old.words }
         ensures after { self.new ≡ accessed (exchange Head old.entry new.entry) self.old }
     {
@@ -275,6 +287,7 @@ impl<const B: u32> MemoryOf<B> {
 
     /// Answers what Tail held, and writes `new` there where that was `old`.
     pub fn exchange_tail(&mut self, old: CountedRefOf<B>, new: CountedRefOf<B>) -> CountedRefOf<B>
+        //= steps/access (found, after)
         ensures found { result ≡ content Tail self.old.words }
         ensures after { self.new ≡ accessed (exchange Tail old.entry new.entry) self.old }
     {
@@ -293,6 +306,7 @@ impl<const B: u32> MemoryOf<B> {
         new: CountedRefOf<B>,
     ) -> CountedRefOf<B>
         requires { node - 1 < self.old.room }
+        //= steps/access (found, after)
         ensures found { result ≡ content (Next node) self.old.words }
         ensures after { self.new ≡ accessed (exchange (Next node) old.entry new.entry) self.old }
     {
@@ -307,6 +321,7 @@ impl<const B: u32> MemoryOf<B> {
     #[tactic(auto, using(counted_ref::proofs::Words::span_least))]
     pub fn clear_next(&mut self, node: u32) -> CountedRefOf<B>
         requires { node - 1 < self.old.room }
+        //= steps/access (found, after)
         ensures found { result ≡ content (Next node) self.old.words }
         ensures after { self.new ≡ accessed (clear node) self.old }
     {
@@ -332,6 +347,7 @@ impl<const B: u32> MemoryOf<B> {
 
     /// Writes Head.
     pub fn store_head(&mut self, new: CountedRefOf<B>)
+        //= steps/access
         ensures { self.new ≡ accessed (store Head new.entry) self.old }
     {
         self.words[HEAD] = new.word();
@@ -339,6 +355,7 @@ impl<const B: u32> MemoryOf<B> {
 
     /// Writes Tail.
     pub fn store_tail(&mut self, new: CountedRefOf<B>)
+        //= steps/access
         ensures { self.new ≡ accessed (store Tail new.entry) self.old }
     {
         self.words[TAIL] = new.word();
@@ -346,6 +363,7 @@ impl<const B: u32> MemoryOf<B> {
 
     /// Writes the tail lock: 0, or the number of an actor.
     pub fn store_tail_lock(&mut self, new: u16)
+        //= steps/access
         ensures { self.new ≡ accessed (store Tail_lock new) self.old }
     {
         self.words[TAIL_LOCK] = u64::from(new);
@@ -353,6 +371,7 @@ impl<const B: u32> MemoryOf<B> {
 
     /// Writes the head lock: 0, or the number of an actor.
     pub fn store_head_lock(&mut self, new: u16)
+        //= steps/access
         ensures { self.new ≡ accessed (store Head_lock new) self.old }
     {
         self.words[HEAD_LOCK] = u64::from(new);
@@ -361,6 +380,7 @@ impl<const B: u32> MemoryOf<B> {
     /// Writes the `next` of a node, for which there is room.
     pub fn store_next(&mut self, node: u32, new: CountedRefOf<B>)
         requires { node - 1 < self.old.room }
+        //= steps/access
         ensures { self.new ≡ accessed (store (Next node) new.entry) self.old }
     {
         set_word(&mut self.words, next_place(node), new.word());
@@ -369,6 +389,7 @@ impl<const B: u32> MemoryOf<B> {
     /// Writes the value of a node, for which there is room.
     pub fn store_value(&mut self, node: u32, new: Taken)
         requires { node - 1 < self.old.room }
+        //= steps/access
         ensures { self.new ≡ accessed (store (Value_of node) new) self.old }
     {
         set_word(&mut self.words, next_place(node) + 1, value_word(new));

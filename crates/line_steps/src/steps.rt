@@ -44,6 +44,8 @@ pub fn stepped<const B: u32>(
     requires counted { IsCounted setup }
     requires ready { RegistersFit setup memory.old.room a.old }
     requires reads { ReadsFit line memory.old.room a.old }
+    //= steps/step (actor, operation, reply, memory): A step makes the access of its line's row, and of its actor what
+    //=   the row says; its operation is told where it takes effect and its reply, which the step answers.
     ensures actor { a.new ≡ (outcome_on setup now me a.old line memory.old.words).actor }
     ensures operation { operation.new ≡
         with_outcome now (outcome_on setup now me a.old line memory.old.words) operation.old }

@@ -126,6 +126,7 @@ impl Line {
 
     /// The name of the line. Takes no memory.
     pub fn name(self) -> &'static str
+        //= references/line_names
         ensures { result.now ≡ name_of self }
     {
         line_table!(names (self) [new_node free enqueue dequeue locked_enqueue locked_dequeue shut locked_shut])
@@ -150,6 +151,7 @@ impl Line {
 
     /// The line of this name, or none where no line has it. Takes no memory.
     pub fn of_name(name: &[u8]) -> Option<Line>
+        //= references/line_names (exact, found, none)
         ensures exact { (line : Line) → (result ≡ Some line) ↔ (name.now ≡ name_of line) }
         ensures found { IfSome result (λ line. name.now ≡ name_of line) }
         ensures none { IsNone result → (line : Line) → name.now ≢ name_of line }

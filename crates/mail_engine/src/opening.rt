@@ -21,6 +21,7 @@ pub fn mail_queue<A: Algorithm<24>>(
     limit: u64,
     senders: u16,
 ) -> Result<(ArenaQueue<A>, Vec<Seat>, Seat), Refusal>
+    //= letters/senders: A new queue of senders and their receiver is of the nodes, greatest count and seats asked for.
     ensures made { IfOk result (λ r. IsQueueMade A.kind nodes limit (giver_and_taker_roles senders)
         r.0 (r.1.items ++ r.2 ∷ [])) }
     ensures opened { IfOk result (λ r. IsOpened IsQueueSeat permits_of known_of

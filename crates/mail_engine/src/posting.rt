@@ -44,10 +44,19 @@ pub fn post_text<T: Threads + Wait + Sync, R: Source, W: Sink>(
 ) -> Result<(), Refusal>
     // The letters that were read were taken, each sender's in its order, and a queue of this kind was made for them, with as
     // many nodes as there are letters and senders, and two more; their text is written, and nothing else.
+    //= letters/post_text (ok, quiet): At Ok the text read was that of mail in range. As many letters were taken as it
+    //=   has, those of each sender with the texts read, in their order; their text is written, by rising sender, those
+    //=   of one as taken.
+    //= letters/queue (ok, beginning): Where letters, or a prefix, are told, there is a queue made for just the kind
+    //=   asked for and the letters and senders read, of the nodes and greatest count in docs/FORMATS.md, with a seat
+    //=   that may push for each sender, one that may pop (`AreTaken`).
     ensures ok { OnOk result (WritesLetters (ArePosted kind (R.state reader.old).left)
         (W.state writer.old) (W.state writer.new)) }
     ensures quiet { OnOk result ((W.state writer.new).failures ≡ (W.state writer.old).failures) }
     // A text is refused by its first faulty line. Where sending or writing is refused, it was the text of mail.
+    //= letters/text_refusals (text, beginning, write, unwritten, refusal, reader): A faulty text; one that is none of
+    //=   mail is answered by `Text`, `Memory` or `Read`: at any other refusal it was that of mail in range. At other
+    //=   refusals nothing, and the reader tells its end; these are `NoNode`, `WornOut`, `BadSize` and `Lost`.
     ensures text { IfErr result (TellsOfText (R.state reader.old).left) }
     // Where writing fails, a beginning of the text is written.
     ensures beginning { IfErr result (λ why. why ≡ Refusal.Write

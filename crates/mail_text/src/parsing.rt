@@ -16,6 +16,7 @@ use text_lines::{TextCause, line_at};
 /// where the text is none of mail: with the number of its first faulty line, from 1, and what is wrong
 /// with it. It goes over the text once, takes memory for the letters read so far, and doesn't wait.
 pub fn parse_mail(alloc: Global, text: &[u8]) -> Result<Mail, Refusal>
+    //= texts/parse (text, range, err)
     ensures text { IfOk result (λ mail.
         text.now ≡ mail_text mail.senders (said_letters mail.letters.items)) }
     ensures range { IfOk result (λ mail.

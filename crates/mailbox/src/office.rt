@@ -36,6 +36,8 @@ impl<Q: Fifo + Drop> Office<Q> {
     ) -> Result<(Office<Q>, Vec<Sender<Q>>, Receiver<Q>), Refusal>
         requires senders { All (CanSend Q.is_seat Q.permits Q.known queue) senders.items }
         requires receiver { CanReceive Q.is_seat Q.permits Q.known queue receiver }
+        //= letters/office (opens, each, receiver, only_memory): A new office has the queue given, a sender for each
+        //=   seat, in order, and a receiver that has lost nothing. Or Memory.
         ensures opens { IfOk result (λ r. Opens queue senders.items receiver r.0 r.1.items r.2) }
         ensures each { IfOk result (λ r. All (IsSender Q.is_seat Q.permits Q.known r.0) r.1.items) }
         ensures receiver { IfOk result (λ r. IsReceiver Q.is_seat Q.permits Q.known r.0 r.2) }
@@ -70,6 +72,8 @@ impl<Q: Fifo + Drop> Office<Q> {
         ghost texts: { TextsAt }
         requires sender { Stored self.now sender.now texts.index texts.stored }
         requires receiver { Read self.now receiver.now texts.index texts.read }
+        //= letters/one_text: The last letter that a sender stored and the last one that the receiver took, where they
+        //=   stand at one index, are one text.
         ensures { texts.stored ≡ texts.read }
     {
         if let (Some(stored), Some(read)) = (&sender.last, &receiver.last) {

@@ -30,6 +30,8 @@ impl<Q: Fifo + Drop> Office<Q> {
     /// ```
     pub fn for_tasks(self, alloc: Global, tasks: &Vec<Task<Q>>) -> Result<Office<Q>, Refusal>
         requires { All (IsTask Q.is_seat Q.permits Q.known self) tasks.now.items }
+        //= letters/tasks (queue, tasks, plan, only_memory): An office made for tasks keeps its queue; the tasks'
+        //=   senders are its own, and their texts are those due there. Or Memory.
         ensures queue { IfOk result (λ o. HasQueueOf self o) }
         ensures tasks { IfOk result (λ o. All (IsTask Q.is_seat Q.permits Q.known o) tasks.now.items) }
         ensures plan { IfOk result (λ o. Plans o tasks.now.items) }

@@ -273,6 +273,10 @@ pub fn post<'a, R: Threads + Wait + Sync, Q: Fifo + Sync + Drop>(
     requires tasks { All (IsTask Q.is_seat Q.permits Q.known office.now) tasks.items }
     requires plan { Plans office.now tasks.items }
     requires receiver { IsReceiver Q.is_seat Q.permits Q.known office.now receiver }
+    //= letters/posted (receiver, order, delivered, all, texts, why): Letters posted come in the order taken: one value
+    //=   popped for each, which its sender pushed, and no others; as many as the tasks have, seat 1's the texts of the
+    //=   first task, in their order, and so on. At a refusal too the receiver given back is the office's and took in
+    //=   order; refusals are those of a send and of a take that wait, but `Closed`.
     ensures receiver { IsReceiver Q.is_seat Q.permits Q.known office.now result.0 }
     ensures order { InOrder (receiver_knows Q.known result.0) }
     ensures delivered { IfOk result.1 (λ v. Delivered Q.known receiver v.items result.0) }

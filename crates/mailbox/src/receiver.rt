@@ -51,13 +51,24 @@ impl<Q: Fifo + Drop> Receiver<Q> {
         requires office { IsReceiver Q.is_seat Q.permits Q.known office.now self.old }
         requires turns { 1 ≤ turns }
         ensures office { IsReceiver Q.is_seat Q.permits Q.known office.now self.new }
+        //= letters/taken: A letter taken names the sender of the one value popped, and is the text that the office
+        //=   shows at its body. Where there is none the queue was found empty.
         ensures answer { IfOk result (λ v. TakeAnswers Q.known office.now self.old v self.new) }
+        //= letters/in_order
         ensures order { InOrder (receiver_knows Q.known self.new) }
+        //= letters/refused_take (refused, lost, stays_lost): A refused take took nothing, and at `Closed` its seat
+        //=   notes that the queue was shut and empty; but where a letter is lost, the first such call popped one value,
+        //=   and each later one changes nothing and is refused so too.
         ensures refused { IfErr result
             (λ why. why ≢ Lost → TookNothing Q.known self.old why self.new) }
         ensures lost { result ≡ Err Lost → Loses Q.known self.old self.new }
         ensures stays_lost { has_lost self.old ≡ true → result ≡ Err Lost }
+        //= letters/refusals: A send is refused by `Memory` with the sender as it was, by `BadSize` where the index is
+        //=   no body, or as a push; a take as a pop, or by `Lost`; a shut as the queue's. Those that wait are never
+        //=   refused by `Busy`.
         ensures why { IfErr result StopsTake }
+        //= letters/causes: A send, a shut or a take refused as the queue's call hands on; one that waits has the cause
+        //=   of a try of 8 turns, as for `Fifo::push`, `shut` and `pop`.
         ensures caused { IfErr result
             (HandsOn (TakeHadCause Q.pop_cause office.now self.old self.new turns)) }
     {
@@ -96,13 +107,18 @@ impl<Q: Fifo + Drop> Receiver<Q> {
     ) -> Result<Option<Letter<'a>>, Refusal>
         requires office { IsReceiver Q.is_seat Q.permits Q.known office.now self.old }
         ensures office { IsReceiver Q.is_seat Q.permits Q.known office.now self.new }
+        //= letters/taken
         ensures answer { IfOk result (λ v. TakeAnswers Q.known office.now self.old v self.new) }
+        //= letters/in_order
         ensures order { InOrder (receiver_knows Q.known self.new) }
+        //= letters/refused_take (refused, lost, stays_lost)
         ensures refused { IfErr result
             (λ why. why ≢ Lost → TookNothing Q.known self.old why self.new) }
         ensures lost { result ≡ Err Lost → Loses Q.known self.old self.new }
         ensures stays_lost { has_lost self.old ≡ true → result ≡ Err Lost }
+        //= letters/refusals
         ensures why { IfErr result EndsTake }
+        //= letters/causes
         ensures caused { IfErr result
             (HandsOn (TakeEnded Q.is_seat Q.known Q.pop_cause office.now self.old self.new 8)) }
     {

@@ -66,12 +66,17 @@ impl<Q: Fifo + Drop> Sender<Q> {
         requires office { IsSender Q.is_seat Q.permits Q.known office.now self.old }
         requires turns { 1 ≤ turns }
         ensures office { IsSender Q.is_seat Q.permits Q.known office.now self.new }
+        //= letters/sent (sent, refused, stored): A letter sent is stored, and its index is pushed, one more entry of
+        //=   the sender's own. A refused one adds no entry; where the queue refused it, its text is stored, at an index
+        //=   that is a body; where the queue was shut, the seat notes it.
         ensures sent { OnOk result (Sent Q.known office.now self.old self.new text) }
         ensures refused { IfErr result (λ why. SentNothing Q.known self.old why self.new) }
+        //= letters/refusals (memory, no_body, why)
         ensures memory { result ≡ Err Memory → self.new ≡ self.old }
         ensures no_body { result ≡ Err BadSize → HasNoBody office.now self.old self.new text }
         ensures why { IfErr result StopsSend }
         ensures stored { IfErr result (HandsOn (λ _. HasStored office.now self.new text)) }
+        //= letters/causes
         ensures caused { IfErr result
             (HandsOn (SendHadCause Q.push_cause office.now self.old self.new turns)) }
     {
@@ -89,12 +94,15 @@ impl<Q: Fifo + Drop> Sender<Q> {
     pub fn send<R: Wait>(&mut self, rt: &R, office: &Office<Q>, text: String) -> Result<(), Refusal>
         requires office { IsSender Q.is_seat Q.permits Q.known office.now self.old }
         ensures office { IsSender Q.is_seat Q.permits Q.known office.now self.new }
+        //= letters/sent (sent, refused, stored)
         ensures sent { OnOk result (Sent Q.known office.now self.old self.new text) }
         ensures refused { IfErr result (λ why. SentNothing Q.known self.old why self.new) }
+        //= letters/refusals (memory, no_body, why)
         ensures memory { result ≡ Err Memory → self.new ≡ self.old }
         ensures no_body { result ≡ Err BadSize → HasNoBody office.now self.old self.new text }
         ensures why { IfErr result EndsSend }
         ensures stored { IfErr result (HandsOn (λ _. HasStored office.now self.new text)) }
+        //= letters/causes
         ensures caused { IfErr result
             (HandsOn (SendEnded Q.is_seat Q.known Q.push_cause office.now self.old self.new 8)) }
     {
@@ -142,10 +150,15 @@ impl<Q: Fifo + Drop> Sender<Q> {
         requires office { IsSender Q.is_seat Q.permits Q.known office.now self.old }
         requires turns { 1 ≤ turns }
         ensures office { IsSender Q.is_seat Q.permits Q.known office.now self.new }
+        //= letters/shut (shut, refused, same): A shut of an office adds one shut of the sender's own; a refused one
+        //=   adds no entry, and where the queue was shut, the seat notes it. What the sender has sent, and what shows
+        //=   the letter that it stored last, stay.
         ensures shut { OnOk result (DidShutOffice Q.known self.old self.new) }
         ensures refused { IfErr result (λ why. SentNothing Q.known self.old why self.new) }
         ensures same { HasSentTheSame Q.known self.old self.new }
+        //= letters/refusals
         ensures why { IfErr result StopsShut }
+        //= letters/causes
         ensures caused { IfErr result
             (SendHadCause Q.shut_cause office.now self.old self.new turns) }
     {
@@ -163,10 +176,13 @@ impl<Q: Fifo + Drop> Sender<Q> {
     pub fn shut<R: Wait>(&mut self, rt: &R, office: &Office<Q>) -> Result<(), Refusal>
         requires office { IsSender Q.is_seat Q.permits Q.known office.now self.old }
         ensures office { IsSender Q.is_seat Q.permits Q.known office.now self.new }
+        //= letters/shut (shut, refused, same)
         ensures shut { OnOk result (DidShutOffice Q.known self.old self.new) }
         ensures refused { IfErr result (λ why. SentNothing Q.known self.old why self.new) }
         ensures same { HasSentTheSame Q.known self.old self.new }
+        //= letters/refusals
         ensures why { IfErr result EndsShut }
+        //= letters/causes
         ensures caused { IfErr result
             (SendEnded Q.is_seat Q.known Q.shut_cause office.now self.old self.new 8) }
     {

@@ -111,5 +111,6 @@ impl MsqSeat {
     }
 }
 
+//= library/send: A handle, `MsqSeat`, may go to another thread; `msq_create` needs this.
 // SAFETY: proved, in proofs/handles/Handle/TheSendSync: the block may go, and a pointer is owned by one handle.
 unsafe impl Send for Handle {}

@@ -31,6 +31,9 @@ use std::alloc::Global;
 #[unsafe(no_mangle)]
 pub extern "C" fn msq_try_push(alloc: Global, slot: &mut MsqSeat, body: u64, turns: u32) -> u32
     requires { IsHandle slot.old }
+    //= library/push: A push from C tells 0 where the body was pushed, exactly `MSQ_NO_SEAT` where the handle is empty,
+    //=   and else its cause: the queue's, with its clauses, or a body or turns out of range, or a seat that may not
+    //=   push, with no change. The handle stays full, of the same queue.
     ensures { Tells done_code result (AnswersPush slot.old slot.new body turns) }
 {
     code(calls::push(alloc, slot, body, turns))
@@ -46,6 +49,8 @@ pub extern "C" fn msq_try_pop(
     value: &mut MsqValue,
 ) -> u32
     requires { IsHandle slot.old }
+    //= library/pop: A pop from C tells as `msq_try_push` does; a value taken is written, and else nothing is.
+    //=   `MSQ_EMPTY` tells that the queue was found empty.
     ensures { Tells pop_code result
         (λ out. AnswersPop slot.old slot.new turns out × IsWritten out value.old value.new) }
 {
@@ -63,6 +68,7 @@ pub extern "C" fn msq_try_pop(
 #[unsafe(no_mangle)]
 pub extern "C" fn msq_try_shut(alloc: Global, slot: &mut MsqSeat, turns: u32) -> u32
     requires { IsHandle slot.old }
+    //= library/shut: A shut from C, and a meeting of two handles of one queue, tell as `msq_try_push` does.
     ensures { Tells done_code result (AnswersShut slot.old slot.new turns) }
 {
     code(calls::shut(alloc, slot, turns))
@@ -74,6 +80,7 @@ pub extern "C" fn msq_meet(alloc: Global, one: &mut MsqSeat, other: &mut MsqSeat
     requires one { IsHandle one.old }
     requires other { IsHandle other.old }
     requires queue { MayMeet one.old other.old }
+    //= library/shut
     ensures { Tells done_code result (AnswersMeet one.old other.old one.new other.new) }
 {
     code(calls::meet(alloc, one, other))
@@ -90,6 +97,10 @@ pub extern "C" fn msq_create(
     roles: &[u8],
     slots: &mut [MsqSeat],
 ) -> u32
+    //= library/create: A queue made from C tells 0 only where all handles were empty, one for each role, and all
+    //=   numbers in range; they are then all the seats, unused and in order, of one queue of the kind, nodes, greatest
+    //=   count and roles asked for. Refused, no handle changed, and the code is just the one that include/msq.h has for
+    //=   the case.
     ensures { Tells done_code result
         (AnswersCreate kind nodes limit roles.now slots.old slots.new) }
 {
@@ -107,6 +118,10 @@ pub extern "C" fn msq_close(
 ) -> u32
     requires handles { All IsHandle slots.old }
     requires queue { AreOfOne slots.old }
+    //= library/end: A queue ended from C tells 0 where all these handles, now empty, closed it: what is left is what
+    //=   its own `close` says of their seats, the values written from the front, as many as have room. Refused, nothing
+    //=   is written: at `MSQ_NO_SEAT` a handle is empty, and none changed; at `MSQ_BAD_SIZE` there is none; at
+    //=   `MSQ_IN_USE` and `MSQ_MEMORY` all keep their seats, or all are empty.
     ensures { Tells done_code result
         (AnswersClose slots.old slots.new values.old values.new rest.old rest.new) }
 {
@@ -122,6 +137,7 @@ pub extern "C" fn msq_close(
 /// Drops a seat; its handle is empty afterwards. With the last seat of a queue goes the queue.
 #[unsafe(no_mangle)]
 pub extern "C" fn msq_drop(alloc: Global, slot: &mut MsqSeat)
+    //= library/drop: A handle that is dropped is empty.
     ensures { is_full slot.new ≡ false }
 {
     if slot.is_full() {

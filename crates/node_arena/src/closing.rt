@@ -84,6 +84,7 @@ impl<const B: u32> ArenaOf<B> {
     /// there are nodes, and doesn't wait.
     pub fn close(self, alloc: Global, seats: Vec<Seat>) -> Result<Rest, Refusal>
         requires { All (IsReady self) seats.items }
+        //= atomics/rest (rest, only_memory): A closed arena tells of its rest what `Fifo::close` does.
         ensures rest { IfOk result (λ rest. Closes (permits_of self.entry) (map known_of seats.items) rest) }
         ensures only_memory { IfErr result (λ why. why ≡ Refusal.Memory) }
     {

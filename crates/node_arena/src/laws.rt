@@ -12,6 +12,10 @@ ghost use Rattle.node_arena.specs.Causes.{TakersMeetNoCause};
 /// rising place, each seat has seen the first ones, and just those by its actor are the seat's own. The history of that world is
 /// placed and legal, and so linearizable.
 pub fn every_moment_is_linearizable()
+    //= atomics/moments: In each state of the rule, so whichever threads stopped, moves, rests too, lead from the
+    //=   opening world of the arena's setup, with sizes in range, to a world with exactly the shared words and an actor
+    //=   for each role, each seat's as this says. Of that world's pushes, pops and shuts, by rising place, a seat has
+    //=   seen a prefix, and its own are just its actor's. The history is placed, legal and linearizable.
     ensures { EachMomentIsLinearizable }
 {}
 
@@ -19,17 +23,21 @@ pub fn every_moment_is_linearizable()
 /// the push of each enqueue that is done or has earned it, the pop of each dequeue that got a value or has earned it, and
 /// the shut of each that is done or has earned it.
 pub fn a_history_is_of_the_operations_that_had_their_effect()
+    //= atomics/history: A traced world's history has just the entries of its operations that took effect, by rising
+    //=   place, and leads from the empty queue to the values in its chain; Head's count is the number of its pops.
     ensures { (t : Traced) → IsTraced t → t.history ≡ entries t.world }
 {}
 
 /// The history of a traced world leads from the empty queue to the one that the chain from Head holds: each push puts its
 /// value at the back, each pop takes the front one, and there is a shut exactly where the chain ends at a closed end.
 pub fn a_history_plays_to_the_values()
+    //= atomics/history
     ensures { (t : Traced) → IsTraced t → PlaysToItsValues t }
 {}
 
 /// In a traced world Head's count is the number of pops in the history.
 pub fn heads_count_is_the_number_of_pops()
+    //= atomics/history
     ensures { (t : Traced) → IsTraced t → CountsItsPops t }
 {}
 
@@ -37,6 +45,9 @@ pub fn heads_count_is_the_number_of_pops()
 /// above the one that it read, or these entries leave the queue empty and not shut. Where it found a closed end, they leave
 /// the queue shut, and Head's count is above the one that it read, or they leave it empty too.
 pub fn what_d4_found_stays_noted()
+    //= atomics/noted: Between D4 and D5 of an actor that found null Head's count is above the one that it read, or the
+    //=   entries at its D4 leave the queue empty and not shut. Where it found a closed end they leave it shut, and
+    //=   Head's count is above, or they leave it empty too.
     ensures { (t : Traced) → IsTraced t → KeepsWhatD4Found t }
 {}
 
@@ -44,11 +55,15 @@ pub fn what_d4_found_stays_noted()
 /// first-in-first-out list, each entry of it is permitted by its maker's role, and the seat's own entries are just those
 /// that it has seen. After as many of them as each of its notes says the queue was empty, or shut.
 pub fn what_a_seat_knows_is_sound()
+    //= atomics/sound: At any time what a seat knows is *sound*.
     ensures { EachSeatIsSound }
 {}
 
 /// The cause of a refusal is that of the call's last step: a call whose last step was the exchange that takes a node, won
 /// or lost, doesn't meet the cause of NoNode, whatever other worlds have its path.
 pub fn a_step_that_takes_a_node_is_not_refused()
+    //= atomics/met_cause: `NoNode` and `WornOut` have their cause in a reachable traced world of the arena in which the
+    //=   seat's actor, with the call's path so far, stands before the call's last line, and that step's reply is the
+    //=   refusal. So no call whose last step took a node meets the cause of `NoNode` (`MetCause`).
     ensures { TakersMeetNoCause }
 {}

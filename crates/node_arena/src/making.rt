@@ -58,6 +58,10 @@ impl<const B: u32> ArenaOf<B> {
         roles: &[Role],
     ) -> Result<(ArenaOf<B>, Vec<Seat>), Refusal>
         requires split { IsSplit B }
+        //= atomics/rule: The arena's *rule* holds between any two atomic steps of any threads. No two seats have one
+        //=   number, and no entry is of a seat whose role doesn't permit it (`Holds`).
+        //= atomics/opening (ok, sized, refused): A new arena has the kind, nodes and greatest count asked for, and a
+        //=   seat for each role, numbered from 1, ready, with an empty pocket, keeping no nodes. Sized.
         ensures ok { IfOk result (λ r. IsMade (making.plan B kind nodes limit roles.now) r.0 r.1.items) }
         ensures sized { OnOk result (IsPlanned (making.plan B kind nodes limit roles.now)) }
         ensures refused { IfErr result (NewRefused (making.plan B kind nodes limit roles.now)) }

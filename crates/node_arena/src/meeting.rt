@@ -13,6 +13,9 @@ impl<const B: u32> ArenaOf<B> {
     pub fn meet(&self, one: &mut Seat, other: &mut Seat)
         requires one { IsReady self.now one.old }
         requires other { IsReady self.now other.old }
+        //= atomics/rule
+        //= atomics/meet: Two seats that met have seen one history, which begins with what each had seen, and are as
+        //=   before in all else.
         ensures { Meets self.now one.old other.old one.new other.new }
     {
         let shared = &self.table.shared;

@@ -11,6 +11,8 @@ impl<const B: u32> ArenaOf<B> {
     /// What a word holds, by one load of one moment, for inspection; none exactly where there is no such word. It tells
     /// nothing of what a seat has seen. Takes no memory and doesn't wait.
     pub fn peek(&self, word: usize) -> Option<u64>
+        //= atomics/peek (none, held): A look at a shared word answers none exactly where there is no such word, and
+        //=   else that word of a reachable traced world of the arena.
         ensures none { IsNone result ↔ (6 + 2 * (setup_of self.now).size ≤ word) }
         ensures held { IfSome result (WasWord (plan_of self.now) word) }
     {

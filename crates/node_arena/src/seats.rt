@@ -86,6 +86,8 @@ impl Seat {
     /// seat.keep_nodes(true);
     /// ```
     pub fn keep_nodes(&mut self, keeps: bool)
+        //= atomics/keeps (ready, known, told): A seat told to keep its nodes does exactly where it may push and pop,
+        //=   one told not to keeps none; nothing else of it changes, and it is ready as before.
         ensures ready { (r : Arena) → IsReady r self.old → IsReady r self.new }
         ensures known { known_of self.new ≡ known_of self.old }
         ensures told { self.new ≡ told_to_keep self.old keeps }
@@ -95,6 +97,7 @@ impl Seat {
 
     /// Whether the seat keeps its nodes.
     pub fn keeps_nodes(&self) -> bool
+        //= atomics/keeps
         ensures { result ≡ keeps_of self.now }
     {
         self.keeps
@@ -102,6 +105,8 @@ impl Seat {
 
     /// How many turns of the seat's last take or give back failed.
     pub fn failed(&self) -> u32
+        //= atomics/failed: After a take and a give back `failed()` is the number of its turns that failed, below
+        //=   `turns` except at `Busy`.
         ensures { result ≡ failed_of self.now }
     {
         self.failed

@@ -19,6 +19,13 @@ impl<const B: u32> ArenaOf<B> {
         ghost prologue: { Prologue }
         requires may { MayStep self.now seat.old prologue line (load_at word) }
         requires lies { place ≡ places.place word }
+        //= atomics/rule
+        //= atomics/step: A seat's atomic step is the machine's step of its actor at that line, after the begin that the
+        //=   caller names and the give or rest before this. It answers the number found; an exchange is won exactly
+        //=   where that is the old one. A seat counts its own pushes and pops, and keeps whether it shut.
+        //= atomics/seen: A seat has seen the whole history after E7, E9, A5, D13, B5, D4, B3, S3, S4 and S8, and sees
+        //=   no more at other lines. An answer that the queue is empty, or shut, is noted with the number of entries
+        //=   seen, which leave it empty and not shut; or shut, and at a pop empty too (`Steps`).
         ensures { DidStep self.now seat.old seat.new prologue line result }
     {
         let _ = (line, word);
@@ -33,6 +40,9 @@ impl<const B: u32> ArenaOf<B> {
         ghost prologue: { Prologue }
         requires may { MayStep self.now seat.old prologue line (store_at word value) }
         requires lies { place ≡ places.place word }
+        //= atomics/rule
+        //= atomics/step
+        //= atomics/seen
         ensures { DidSome self.now seat.old seat.new prologue line }
     {
         let _ = word;
@@ -57,6 +67,9 @@ impl<const B: u32> ArenaOf<B> {
         ghost prologue: { Prologue }
         requires may { MayStep self.now seat.old prologue line (and_at word mask) }
         requires lies { place ≡ places.place word }
+        //= atomics/rule
+        //= atomics/step
+        //= atomics/seen
         ensures { DidStep self.now seat.old seat.new prologue line result }
     {
         let _ = (line, word);
@@ -82,6 +95,9 @@ impl<const B: u32> ArenaOf<B> {
         ghost prologue: { Prologue }
         requires may { MayStep self.now seat.old prologue line (exchange_at word old new) }
         requires lies { place ≡ places.place word }
+        //= atomics/rule
+        //= atomics/step
+        //= atomics/seen
         ensures { MatchResult result
             (λ n. (n ≡ old) × DidStep self.now seat.old seat.new prologue line n)
             (λ n. (n ≢ old) × DidStep self.now seat.old seat.new prologue line n) }

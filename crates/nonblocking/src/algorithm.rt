@@ -29,6 +29,7 @@ pub struct NonBlockingAlgorithm;
 impl<const B: u32> Algorithm<B> for NonBlockingAlgorithm {
     ghost kind = { kinds.NonBlocking };
 
+    //= queues/queue_causes (push_worn, pop_worn, shut_worn)
     ghost push_worn = { push_worn };
 
     ghost pop_worn = { pop_worn };

@@ -41,6 +41,8 @@ impl<Q: Fifo + Drop> OwnedSeat<Q> {
     pub fn close(self, alloc: Global, others: Vec<OwnedSeat<Q>>) -> Result<Option<Rest>, Refusal>
         requires seat { Q.is_seat (queue_of self) (seat_of self) }
         requires others { All (λ s. Q.is_seat (queue_of self) (seat_of s)) others.items }
+        //= library/close (rest, only_memory): What is left of a queue ended by seats of it is what its own `close` says
+        //=   of these. Or Memory.
         ensures rest { IfOk result (λ o. IfSome o (λ rest. Closes (Q.permits (queue_of self))
             (map (λ s. Q.known (seat_of s)) (others.items ++ self ∷ [])) rest)) }
         ensures only_memory { IfErr result (λ why. why ≡ Refusal.Memory) }

@@ -21,6 +21,8 @@ pub fn deal<Q: Fifo + Drop>(
     queue: Q,
     seats: Vec<Q::Seat>,
 ) -> Result<Vec<OwnedSeat<Q>>, Refusal>
+    //= library/deal (queue, seats, only_memory): A queue and its seats become seats with shares of it, in their order.
+    //=   Or Memory.
     ensures queue { IfOk result (λ owned. All (λ s. queue_of s ≡ queue) owned.items) }
     ensures seats { IfOk result (λ owned. map seat_of owned.items ≡ seats.items) }
     ensures only_memory { IfErr result (λ why. why ≡ Refusal.Memory) }

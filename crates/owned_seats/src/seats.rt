@@ -35,6 +35,8 @@ impl<Q: Fifo + Drop> OwnedSeat<Q> {
         requires role { MayPush (Q.permits (queue_of self.old))
             (Q.known (seat_of self.old)).number }
         requires turns { 1 ≤ turns }
+        //= library/owned (queue, seat, number, pushed, refused, why, caused): A call by a seat with its share has the
+        //=   clauses of the queue's own over what the seat knows, and keeps its queue.
         ensures queue { queue_of self.new ≡ queue_of self.old }
         ensures seat { Q.is_seat (queue_of self.new) (seat_of self.new) }
         ensures number { (Q.known (seat_of self.new)).number ≡ (Q.known (seat_of self.old)).number }
@@ -57,6 +59,7 @@ impl<Q: Fifo + Drop> OwnedSeat<Q> {
         requires seat { Q.is_seat (queue_of self.old) (seat_of self.old) }
         requires role { MayPop (Q.permits (queue_of self.old)) (Q.known (seat_of self.old)).number }
         requires turns { 1 ≤ turns }
+        //= library/owned (queue, seat, number, answer, refused, why, caused)
         ensures queue { queue_of self.new ≡ queue_of self.old }
         ensures seat { Q.is_seat (queue_of self.new) (seat_of self.new) }
         ensures number { (Q.known (seat_of self.new)).number ≡ (Q.known (seat_of self.old)).number }
@@ -80,6 +83,7 @@ impl<Q: Fifo + Drop> OwnedSeat<Q> {
         requires role { MayPush (Q.permits (queue_of self.old))
             (Q.known (seat_of self.old)).number }
         requires turns { 1 ≤ turns }
+        //= library/owned (queue, seat, number, shut, refused, why, caused)
         ensures queue { queue_of self.new ≡ queue_of self.old }
         ensures seat { Q.is_seat (queue_of self.new) (seat_of self.new) }
         ensures number { (Q.known (seat_of self.new)).number ≡ (Q.known (seat_of self.old)).number }
@@ -99,6 +103,7 @@ impl<Q: Fifo + Drop> OwnedSeat<Q> {
     pub fn meet(&mut self, other: &mut OwnedSeat<Q>)
         requires one { Q.is_seat (queue_of self.old) (seat_of self.old) }
         requires other { Q.is_seat (queue_of self.old) (seat_of other.old) }
+        //= library/owned (queue, other_queue, one, other, meets)
         ensures queue { queue_of self.new ≡ queue_of self.old }
         ensures other_queue { queue_of other.new ≡ queue_of other.old }
         ensures one { Q.is_seat (queue_of self.old) (seat_of self.new) }
@@ -112,6 +117,7 @@ impl<Q: Fifo + Drop> OwnedSeat<Q> {
     /// Whether the seat may push. Takes no memory and doesn't wait.
     pub fn may_push(&self) -> bool
         requires { Q.is_seat (queue_of self.now) (seat_of self.now) }
+        //= library/owned
         ensures { IsTrue result ↔
             MayPush (Q.permits (queue_of self.now)) (Q.known (seat_of self.now)).number }
     {
@@ -121,6 +127,7 @@ impl<Q: Fifo + Drop> OwnedSeat<Q> {
     /// Whether the seat may pop. Takes no memory and doesn't wait.
     pub fn may_pop(&self) -> bool
         requires { Q.is_seat (queue_of self.now) (seat_of self.now) }
+        //= library/owned
         ensures { IsTrue result ↔
             MayPop (Q.permits (queue_of self.now)) (Q.known (seat_of self.now)).number }
     {

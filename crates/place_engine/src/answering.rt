@@ -27,7 +27,9 @@ pub fn place_text<R: Source, W: Sink>(
     writer: &mut W,
     steps: u64,
 ) -> Result<Placed, Refusal>
-    // The answer is one of the history read, and the text that tells it is written and nothing else.
+    //= program/place (ok, quiet): `msq place` answers points, a reason or that it is open, for the history read or the
+    //=   recording's, and its text is written. With points the history is one of a queue, with a reason it isn't.
+    //= program/judge_refusals (ok, text, beginning, write, unwritten, refusal, reader)
     ensures ok { IfOk result (TellsPlaces (R.state reader.old).left (W.state writer.old)
         (W.state writer.new)) }
     ensures quiet { OnOk result ((W.state writer.new).failures ≡ (W.state writer.old).failures) }

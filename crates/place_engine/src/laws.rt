@@ -7,5 +7,7 @@ ghost use Rattle.place_engine.specs.OfTexts.{IsOfTextQueue};
 
 /// A recording is one of a queue of texts exactly where the history that it stands for is one of a queue.
 pub fn a_recording_is_of_a_queue_as_its_history_is()
+    //= program/recorded: A recording is one of a queue of texts exactly where the history that it stands for is one of
+    //=   a queue.
     ensures { (rs : List Recorded) → IsOfTextQueue rs ↔ IsOfQueue (history_of rs) }
 {}

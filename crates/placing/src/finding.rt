@@ -38,6 +38,8 @@ enum Found {
 /// for each of its steps, and those of one that ends are at most exponential. It doesn't wait. It is refused by `Memory`
 /// alone.
 pub fn place(alloc: Global, history: &[Stamped], steps: u64) -> Result<Placed, Refusal>
+    //= judge/answers (answer, only_memory): A recorded history is answered with points, by a reason that holds, or that
+    //=   neither was found. Or Memory.
     ensures answer { IfOk result (IsAnswer history.now) }
     ensures only_memory { IfErr result (λ why. why ≡ Refusal.Memory) }
 {

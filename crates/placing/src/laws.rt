@@ -11,10 +11,14 @@ ghost use Rattle.placing.specs.Reasons.{IsReason};
 /// Where a history with points is judged `Yes`, and is another one but for stamps spread alike, that one is one of a
 /// queue.
 pub fn placed_is_linearizable()
+    //= judge/recordings: A recorded history is one of a queue (linearizable, of calls that ended exactly where told a
+    //=   reply and not before they began) where one judged Yes differs from it in points, and in stamps spread alike.
     ensures { (ops new : List Stamped) → IsSpread ops new → verdict new ≡ Yes → IsOfQueue ops }
 {}
 
 /// Where there is a reason, the history isn't one of a queue, whatever the order and whatever pending operations did.
 pub fn a_reason_excludes()
+    //= judge/reasons: A recorded history of which a reason holds is not one of a queue, whatever pending operations
+    //=   did, and with operations on one number.
     ensures { (ops : List Stamped) (why : Reason) → IsReason ops why → ¬ IsOfQueue ops }
 {}

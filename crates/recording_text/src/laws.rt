@@ -10,12 +10,14 @@ ghost use Rattle.recording_text.specs.TextQueues.{IsLinearizableRecording};
 
 /// A text is that of one recording in range at most.
 pub fn a_text_is_of_one_recording()
+    //= texts/one_reading
     ensures { (rs qs : List Recorded) → IsRecordingInRange rs → IsRecordingInRange qs
         → recording_text rs ≡ recording_text qs → rs ≡ qs }
 {}
 
 /// The first faulty line of a text is one, and wrong for one cause; the text of a recording in range has none.
 pub fn a_text_has_one_first_fault()
+    //= texts/one_reading (one, none)
     ensures one { (text : List ℕ) (m n : ℕ) (c d : TextCause)
         → HasFirstFault text m c → HasFirstFault text n d → (m ≡ n) × (c ≡ d) }
     ensures none { (rs : List Recorded) (n : ℕ) (c : TextCause)
@@ -24,6 +26,7 @@ pub fn a_text_has_one_first_fault()
 
 /// Every text is that of a recording in range or has a first faulty line: it can't be that it is neither.
 pub fn a_text_is_a_recording_or_faulty()
+    //= texts/one_reading
     ensures { (text : List ℕ)
         → ((rs : List Recorded) → IsRecordingInRange rs → text ≢ recording_text rs)
         → ¬ ((n : ℕ) (c : TextCause) → ¬ HasFirstFault text n c) }
@@ -31,12 +34,16 @@ pub fn a_text_is_a_recording_or_faulty()
 
 /// In the history that a recording stands for, two of its texts have one number exactly where they are the same.
 pub fn a_number_is_of_one_text()
+    //= texts/numbers_of_texts: In a recording's history two texts have one number exactly where they are the same.
+    //=   Recordings with one history differ in names and texts alone, and their texts have the same numbers. A
+    //=   recording is linearizable, of a queue of texts, exactly where its history is.
     ensures { (rs : List Recorded) (s t : List ℕ) → Contains (texts_of rs) s → Contains (texts_of rs) t
         → (number_in (known_in rs) s ≡ number_in (known_in rs) t) ↔ (s ≡ t) }
 {}
 
 /// Two recordings that stand for one history are the same but for names and texts, and their texts have the same numbers.
 pub fn a_history_tells_all_but_names()
+    //= texts/numbers_of_texts (shapes, numbers)
     ensures shapes { (rs qs : List Recorded) → history_of rs ≡ history_of qs
         → map shape_of rs ≡ map shape_of qs }
     ensures numbers { (rs qs : List Recorded) → history_of rs ≡ history_of qs
@@ -45,5 +52,6 @@ pub fn a_history_tells_all_but_names()
 
 /// A recording is linearizable exactly where the history is that it stands for.
 pub fn a_recording_is_linearizable_as_its_history_is()
+    //= texts/numbers_of_texts
     ensures { (rs : List Recorded) → IsLinearizableRecording rs ↔ IsLinearizable (history_of rs) }
 {}

@@ -19,6 +19,7 @@ use text_lines::{TextCause, line_at};
 /// is no recording's: with the number of its first faulty line, from 1, and what is wrong with it. It goes over the text
 /// once, takes memory for the operations and the different texts read so far, and doesn't wait.
 pub fn parse_recording(alloc: Global, text: &[u8]) -> Result<Vec<Stamped>, Refusal>
+    //= texts/recordings (ok, err): A recording is parsed exactly, to the history that it stands for.
     ensures ok { IfOk result (λ ops. StandsFor text.now ops.items) }
     ensures err { IfErr result (IsFirstFaultOfRecording text.now) }
 {

@@ -28,6 +28,8 @@ pub fn history_table<W: Sink>(
     history: &[Stamped],
     writer: &mut W,
 ) -> Result<(), Refusal>
+    //= texts/tables (ok, quiet, only, unwritten, beginning, cause): The tables of a history and of results are printed
+    //=   exactly; where memory is refused nothing is.
     ensures ok { OnOk result (Appends (W.state writer.old).contents (W.state writer.new).contents
         (history_table_text history.now)) }
     ensures quiet { OnOk result ((W.state writer.new).failures ≡ (W.state writer.old).failures) }

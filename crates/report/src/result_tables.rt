@@ -27,6 +27,7 @@ pub fn results_table<W: Sink>(
     results: &[JobResult],
     writer: &mut W,
 ) -> Result<(), Refusal>
+    //= texts/tables (ok, quiet, only, unwritten, beginning, cause)
     ensures ok { OnOk result (Appends (W.state writer.old).contents (W.state writer.new).contents
         (results_text (map row_of results.now))) }
     ensures quiet { OnOk result ((W.state writer.new).failures ≡ (W.state writer.old).failures) }

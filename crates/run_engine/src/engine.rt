@@ -35,7 +35,12 @@ pub fn run_text<R: Source, W: Sink>(
     reader: &mut R,
     writer: &mut W,
 ) -> Result<(), Fault>
-    // The text of the schedule's history is written, and nothing else.
+    //= program/run (ok, quiet): At Ok the history of the world after the schedule's events is written; these were made
+    //=   in turn from the opening world, each step that names its line at that line.
+    //= program/run_refusals (ok, beginning, write, unwritten, fault, text, refused): At other refusals nothing. A
+    //=   faulty text.
+    //= program/run_reader (ok, beginning, text, refused, reader): The reader tells its end. The text is a schedule's,
+    //=   in range, at Ok, at `Write` and where a line is told, at `Text` none's.
     ensures ok { OnOk result (WritesRun (R.state reader.old).left (W.state writer.old)
         (W.state writer.new)) }
     ensures quiet { OnOk result ((W.state writer.new).failures ≡ (W.state writer.old).failures) }
@@ -46,6 +51,9 @@ pub fn run_text<R: Source, W: Sink>(
         → GivesUp (W.state writer.old) (W.state writer.new)) }
     // At any other fault nothing is.
     ensures unwritten { IfErr result (λ fault. fault.refusal ≢ Refusal.Write → writer.new ≡ writer.old) }
+    //= program/refused_event (fault, refused): A refusal with a line is that of a schedule's first refused event, which
+    //=   stands there: IdleActor, ActorBusy, NotHere or NoSuchActor; the moves before it can be made. One without a
+    //=   line is Memory, Text, Read or Write.
     ensures fault { IfErr result (λ fault. IsRunFault fault.refusal fault.line) }
     // A text that is no schedule is refused by its first faulty line.
     ensures text { IfErr result (λ fault. TellsFaultyLine (R.state reader.old).left fault.refusal) }

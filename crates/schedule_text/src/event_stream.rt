@@ -75,6 +75,10 @@ impl EventStream {
     /// that is answered. It is refused with `Read` where a call of the source fails, also where one
     /// fails behind a fault. It takes no memory; whether it waits is up to the source.
     pub fn start<R: Source>(reader: &mut R) -> Result<EventStream, Refusal>
+        //= texts/events (ok, err): A schedule's header and then its events are told as the source's lines say them, in
+        //=   range; none only where all were told and the source ended. Else a call of the source failed, or none did
+        //=   and the first fault of what was read to its end is told. After a refusal or the end further calls answer
+        //=   the same and leave the source.
         ensures ok { IfOk result (λ events. IsStarted events
             (stream [] (R.state reader.old)) (stream events.ahead (R.state reader.new))) }
         ensures err { IfErr result (IsRefused 0 version_due (R.state reader.old)
@@ -106,6 +110,7 @@ impl EventStream {
     /// none: such a call leaves the source as it is. It takes no memory; whether it waits is up to
     /// the source.
     pub fn next<R: Source>(&mut self, reader: &mut R) -> Result<Option<Event>, Refusal>
+        //= texts/events (next, ended, refused)
         ensures next { self.old.stage ≡ Stage.Going → IsNext self.old self.new
             (stream self.old.ahead (R.state reader.old))
             (stream self.new.ahead (R.state reader.new)) result }

@@ -25,6 +25,7 @@ impl<R: Source + Drop> Events<R> {
     /// At a refusal the source is dropped. A caller that has to know what became of it, or that needs
     /// it back, uses an `EventStream`.
     pub fn start(reader: R) -> Result<Events<R>, Refusal>
+        //= texts/events (ok, err)
         ensures ok { IfOk result (λ events. IsStarted events.stream
             (stream [] (R.state reader)) (stream events.stream.ahead (R.state events.reader))) }
         ensures err { IfErr result (λ why. (last : SourceState)
@@ -46,6 +47,7 @@ impl<R: Source> Events<R> {
 
     /// The next event, as `EventStream::next` tells it.
     pub fn next(&mut self) -> Result<Option<Event>, Refusal>
+        //= texts/events (next, ended, refused)
         ensures next { self.old.stream.stage ≡ Stage.Going → IsNext self.old.stream self.new.stream
             (stream self.old.stream.ahead (R.state self.old.reader))
             (stream self.new.stream.ahead (R.state self.new.reader)) result }

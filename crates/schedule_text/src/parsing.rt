@@ -238,6 +238,7 @@ fn header_of(text: &[u8]) -> Result<(Header, &[u8]), Refusal>
 /// number of its first faulty line, from 1, and what is wrong with it. It takes memory as its events
 /// come, and goes over the text once. It doesn't wait.
 pub fn parse(alloc: Global, text: &[u8]) -> Result<Schedule, Refusal>
+    //= texts/schedules (text, range, err, back): A schedule is parsed exactly.
     ensures text { IfOk result (λ schedule. text.now ≡ schedule_text schedule) }
     ensures range { IfOk result IsInRange }
     ensures err { IfErr result (IsRefusedText text.now) }

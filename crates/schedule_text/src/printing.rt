@@ -22,6 +22,7 @@ use text_io::{Block, LINE_ROOM, Line, Sink};
 /// the writer fails or takes nothing; a beginning of the text is written then. `parse` takes the text
 /// back where each number is in its range.
 pub fn print<W: Sink>(schedule: &Schedule, writer: &mut W) -> Result<(), Refusal>
+    //= texts/print
     ensures { Writes (W.state writer.old) (W.state writer.new) (schedule_text schedule.now) result }
 {
     print_lines(header_lines(schedule), &schedule.events, writer)

@@ -19,6 +19,8 @@ use text_io::Source;
 /// its end but where memory is refused or a call fails. It takes memory as the events come; whether
 /// it waits is up to the source.
 pub fn read_schedule<R: Source>(alloc: Global, reader: &mut R) -> Result<Schedule, Refusal>
+    //= texts/sources (text, range, end, err, back): A schedule is read from a source, in pieces of any length, just as
+    //=   `parse` reads its text, unless a call fails.
     ensures text { IfOk result (λ schedule. IfSome (R.state reader.old).left
         (λ text. text ≡ schedule_text schedule)) }
     ensures range { IfOk result IsInRange }

@@ -96,11 +96,12 @@ pub fn show_text<R: Source, W: Sink>(
     writer: &mut W,
     view: View,
 ) -> Result<(), Fault>
-    // The text of the schedule's picture is written, and nothing else.
+    //= program/picture (ok, quiet): The picture of the schedule read is written: the rows shown of its run, a star
+    //=   exactly where an operation of the run's history has its place, and the chains where they changed.
     ensures ok { OnOk result (WritesPicture view (R.state reader.old).left (W.state writer.old)
         (W.state writer.new)) }
     ensures quiet { OnOk result ((W.state writer.new).failures ≡ (W.state writer.old).failures) }
-    // Where writing fails, a beginning of that text is written.
+    //= program/prefix (beginning, write, memory, none_failed, unwritten)
     ensures beginning { IfErr result (λ fault. fault.refusal ≡ Refusal.Write
         → BeginsPicture view (R.state reader.old).left (W.state writer.old) (W.state writer.new)) }
     ensures write { IfErr result (λ fault. fault.refusal ≡ Refusal.Write
@@ -113,6 +114,7 @@ pub fn show_text<R: Source, W: Sink>(
     // At any other fault nothing is.
     ensures unwritten { IfErr result (λ fault. fault.refusal ≢ Refusal.Write
         → fault.refusal ≢ Refusal.Memory → writer.new ≡ writer.old) }
+    //= program/other_faults (fault, text, refused, reader)
     ensures fault { IfErr result (λ fault. IsRunFault fault.refusal fault.line) }
     // A text that is no schedule is refused by its first faulty line.
     ensures text { IfErr result (λ fault. TellsFaultyLine (R.state reader.old).left fault.refusal) }

@@ -49,7 +49,8 @@ pub fn show_history<R: Source, W: Sink>(
     writer: &mut W,
     view: View,
 ) -> Result<(), Refusal>
-    // The text of the history's timeline is written, and nothing else.
+    //= program/timeline (ok, quiet, text, beginning, write, unwritten, refusal, reader): The timeline of the history
+    //=   read is written, with the operations shown in their order. The usual refusals.
     ensures ok { OnOk result (WritesTimeline view (R.state reader.old).left (W.state writer.old)
         (W.state writer.new)) }
     ensures quiet { OnOk result ((W.state writer.new).failures ≡ (W.state writer.old).failures) }

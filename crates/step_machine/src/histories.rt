@@ -16,12 +16,15 @@ ghost use Rattle.step_machine.specs.Entries.{AreFew, PlaysToItsValues};
 /// So there is an order of all completed operations and some pending ones, each once, in which an operation that ended
 /// before another began comes first, and which is a run of one first-in-first-out list that gives every reply given.
 pub fn every_history_is_linearizable()
+    //= histories/linearizable: All histories are linearizable (docs/GLOSSARY.md).
     ensures { OfEachHistory IsLinearizable }
 {}
 
 /// In a history of calls no actor's operations overlap, as Herlihy and Wing ask of each history: of any two of one actor,
 /// one ended before the other began. After rests the same holds of all operations that ended or took effect.
 pub fn no_actors_operations_overlap()
+    //= histories/no_overlap (calls, with_rests): In a history of calls no actor's operations overlap; after rests those
+    //=   that ended or took effect don't.
     ensures calls { AfterCalls (λ w. IsOneAtATime w.operations) }
     ensures with_rests { AfterMoves (λ moves w. IsOneAtATime (filter has_trace w.operations)) }
 {}
@@ -32,6 +35,8 @@ pub fn no_actors_operations_overlap()
 /// So all completed operations and some pending ones, each placed at one step between its first and its last, are a
 /// run of one first-in-first-out list that gives every reply given.
 pub fn every_history_is_placed_and_legal()
+    //= histories/placed_and_legal (placed, legal): All histories are placed and legal, which says more than
+    //=   linearizable.
     ensures placed { OfEachHistory Placement }
     ensures legal { OfEachHistory IsLegal }
 {}
@@ -40,6 +45,9 @@ pub fn every_history_is_placed_and_legal()
 /// actor that had an effect on the queue: a successful E9, D13 or S4, or an A5, B5 or S8. A pending one has such a place or
 /// none; after begins, steps and give moves it has one exactly if its actor took such a step since its first number.
 pub fn operations_are_placed_by_their_effects()
+    //= histories/places (places, effects): Without rests an operation has a place exactly if it is completed or its
+    //=   *effect* was made. With rests too the place, if any, of one that is done, got a value or is pending is the
+    //=   number of an effect of its actor.
     ensures places { OfOperations ArePlacedByEffect }
     ensures effects { OfOperationsOfCalls HaveTheirEffect }
 {}
@@ -48,6 +56,9 @@ pub fn operations_are_placed_by_their_effects()
 /// effect gives its number as the place to the operation of its actor in which the number lies, that is up to the
 /// operation's last number, and before the actor's next operation begins.
 pub fn effects_give_operations_their_places()
+    //= histories/effects (lines, each_effect): Effects are of E9 or A5 in an enqueue, D13 or B5 in a dequeue, S4 or S8
+    //=   in a shut; each, after rests too, gives its number as the place to the operation of its actor in which that
+    //=   lies.
     ensures lines { OfOperations ArePlacedAtTheirLines }
     ensures each_effect { OfOperations EffectsGivePlaces }
 {}
@@ -55,6 +66,8 @@ pub fn effects_give_operations_their_places()
 /// At every step the operations that took effect so far, with the replies that they were told or that their calls
 /// have earned, replay from the empty queue to the values in the chain from Head.
 pub fn operations_replay_to_the_values()
+    //= both/replay: At every step the operations that took effect, with the replies told or decided, replay to the
+    //=   values in the queue's chain, and to a shut queue exactly where the chain ends at a closed end.
     ensures { OfEachWorld ReplaysToItsValues }
 {}
 
@@ -62,11 +75,14 @@ pub fn operations_replay_to_the_values()
 /// values in the chain from Head: each push puts its value at the back, each pop takes the front one, and a shut stops
 /// what pushes come after it.
 pub fn pushes_and_pops_play_to_the_values()
+    //= both/entries: The pushes, pops and shuts that took effect lead, by rising place, from the empty queue to the one
+    //=   in the chain, shut or not.
     ensures { OfEachWorld PlaysToItsValues }
 {}
 
 /// At every step the pops that had their effect so far are at most as many as the greatest count, and the pushes are
 /// fewer than those pops and the nodes together.
 pub fn pushes_and_pops_are_few()
+    //= both/few: At most as many pops as the greatest count take effect, and fewer pushes than pops and nodes together.
     ensures { OfEachWorld AreFew }
 {}

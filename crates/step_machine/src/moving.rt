@@ -19,9 +19,14 @@ use history::Refusal;
 /// assert!(told == Stepped::Began);
 /// ```
 pub fn step_in<const B: u32>(world: &mut WorldOf<B>, one: Move) -> Result<Stepped, Refusal>
+    //= worlds/moves (ok, told): The calls of a move make the machine's moves. A step answers its line, and the reply if
+    //=   the call ended; a give its reply; a move handed in what it did.
+    //= worlds/refusals (ok, numbered, refused): A refusal but `Memory` comes exactly with its cause; these causes
+    //=   exclude the move and, in the call's order, each other. `Memory` comes only to a begin that could be made.
     ensures ok { OnOk result (next world.old one ≡ Some world.new) }
     ensures numbered { OnOk result (world.new.steps < 2 ^ 64) }
     ensures told { IfOk result (λ s. move_answer world.old one ≡ Some s) }
+    //= worlds/unchanged: A refused move leaves the world as it was.
     ensures err { OnErr result (world.new ≡ world.old) }
     ensures refused { IfErr result (MoveRefused world.old one) }
 {

@@ -107,6 +107,7 @@ impl<const B: u32> WorldOf<B> {
         actors: u32,
     ) -> Result<WorldOf<B>, Refusal>
         requires split { IsSplit B }
+        //= worlds/opening (ok, sized, refused): A new world is the opening one of its setup. Sized.
         ensures ok { IfOk result (λ w. w ≡ opening (setup_from B kind nodes limit) actors) }
         ensures sized { OnOk result (IsSized (setup_from B kind nodes limit) actors) }
         ensures refused { IfErr result (NewRefused (setup_from B kind nodes limit) actors) }
@@ -154,9 +155,13 @@ impl<const B: u32> WorldOf<B> {
     /// assert!(world.begin(1, Op::Deq) == Err(Refusal::ActorBusy));
     /// ```
     pub fn begin(&mut self, actor: u16, op: Op) -> Result<(), Refusal>
+        //= worlds/moves
+        //= worlds/refusals (ok, numbered, refused)
         ensures ok { OnOk result (next self.old (Begin actor op) ≡ Some self.new) }
         ensures numbered { OnOk result (self.new.steps < 2 ^ 64) }
+        //= both/alone
         ensures alone { OnOk result (EndsAlone self.new actor op) }
+        //= worlds/unchanged
         ensures err { OnErr result (self.new ≡ self.old) }
         ensures refused { IfErr result (BeginRefused self.old actor) }
     {
@@ -191,9 +196,12 @@ impl<const B: u32> WorldOf<B> {
     /// assert!(world.step(1) == Ok(Stepped::Went(Line::N1)));
     /// ```
     pub fn step(&mut self, actor: u16) -> Result<Stepped, Refusal>
+        //= worlds/moves (ok, told)
+        //= worlds/refusals (ok, numbered, refused)
         ensures ok { OnOk result (next self.old (Step actor) ≡ Some self.new) }
         ensures numbered { OnOk result (self.new.steps < 2 ^ 64) }
         ensures told { IfOk result (λ s. step_answer self.old actor (actor_of self.old actor) ≡ Some s) }
+        //= worlds/unchanged
         ensures err { OnErr result (self.new ≡ self.old) }
         ensures refused { IfErr result (StepRefused self.old actor) }
     {
@@ -236,9 +244,12 @@ impl<const B: u32> WorldOf<B> {
     /// assert!(world.give(2) == Ok(Reply::Refused(Refusal::Busy)));
     /// ```
     pub fn give(&mut self, actor: u16) -> Result<Reply, Refusal>
+        //= worlds/moves (ok, told)
+        //= worlds/refusals (ok, numbered, refused)
         ensures ok { OnOk result (next self.old (Give actor) ≡ Some self.new) }
         ensures numbered { OnOk result (self.new.steps < 2 ^ 64) }
         ensures told { IfOk result (λ r. reply_of (giving_up self.old (actor_of self.old actor)) ≡ Some r) }
+        //= worlds/unchanged
         ensures err { OnErr result (self.new ≡ self.old) }
         ensures refused { IfErr result (GiveRefused self.old actor) }
     {

@@ -18,8 +18,11 @@ pub trait Source {
     /// Whether a call waits for bytes is up to the source.
     fn read(&mut self, into: &mut [u8]) -> io::Result<usize>
         ensures bound { IfOk result (λ count. count ≤ length into.new) }
+        //= texts/devices: The bytes left are those that std's reader has left, while a further failure can be counted;
+        //=   the bytes held those that std's writer holds. A `Script` is both, over bytes of its own.
         ensures bytes { Gives (state self.old) (state self.new) result into.new }
         ensures budget { Spends (state self.old) (state self.new) result }
+        //= texts/failures: A source and a sink count a failure exactly where a call answers an error.
         ensures failures { (state self.new).failures ≡ failures_after (state self.old).failures result }
         ensures end { (state self.new).has_ended
             ≡ idle_after (state self.old).has_ended (length into.new) result };
@@ -35,7 +38,9 @@ pub trait Sink {
     /// Whether a call waits for room is up to the sink.
     fn write(&mut self, bytes: &[u8]) -> io::Result<usize>
         ensures bound { IfOk result (λ count. count ≤ length bytes.now) }
+        //= texts/devices
         ensures bytes { WriteAppends (state self.old).contents (state self.new).contents result bytes.now }
+        //= texts/failures
         ensures failures { (state self.new).failures ≡ failures_after (state self.old).failures result }
         ensures full { (state self.new).is_full
             ≡ idle_after (state self.old).is_full (length bytes.now) result };

@@ -44,6 +44,7 @@ impl<R> ReaderSource<R> {
 impl<R: Read> Source for ReaderSource<R> {
     ghost use Rattle.text_io.specs.Devices.{known_below};
 
+    //= texts/devices
     ghost state = { λ s. record {
       left = known_below s.failures (R.remaining s.inner);
       failures = s.failures;

@@ -180,6 +180,7 @@ impl Source for Script {
     ghost use Rattle.std.specs.Prelude.{Some, length};
     ghost use Rattle.text_io.specs.Scripts.{unread_of, failures_of};
 
+    //= texts/devices
     ghost state = { λ s. record {
       left = Some (unread_of s);
       failures = failures_of s;
@@ -204,6 +205,7 @@ impl Sink for Script {
     ghost use Rattle.std.specs.Prelude.{Some};
     ghost use Rattle.text_io.specs.Scripts.{written_of, failures_of};
 
+    //= texts/devices
     ghost state = { λ s. record {
       contents = Some (written_of s);
       failures = failures_of s;

@@ -30,6 +30,7 @@ impl<W> WriterSink<W> {
 }
 
 impl<W: Write> Sink for WriterSink<W> {
+    //= texts/devices
     ghost state = { λ s. record {
       contents = W.contents s.inner;
       failures = s.failures;

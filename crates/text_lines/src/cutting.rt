@@ -22,6 +22,7 @@ pub fn cut_at(text: &[u8], byte: u8) -> Option<(&[u8], &[u8])>
 ///
 /// It goes over the bytes of that line alone. It takes no memory, and doesn't wait.
 pub fn line_at(text: &[u8]) -> Option<(&[u8], &[u8])>
+    //= texts/numbers: A number of any length (in range, out of it or none) and a line's words are told exactly.
     ensures { MatchOption result (HasNo 10 text.now)
         (λ found. HasNo 10 found.0.now × (text.now ≡ line found.0.now ++ found.1.now)) }
 {

@@ -50,6 +50,7 @@ fn ranged(number: Option<u64>, low: u64, high: u64) -> Option<u64>
 /// It is none where it doesn't lie from `low` to `high`. A word that is no number is refused with
 /// `Form`. It goes over the word once, takes no memory, and doesn't wait.
 pub fn number_in(word: &[u8], low: u64, high: u64) -> Result<Option<u64>, TextCause>
+    //= texts/numbers
     ensures { Reads (IsSpelled numeral word.now) (IsWithin low high) result }
 {
     let number = number_of(word)?;

@@ -31,6 +31,7 @@ impl<'a> Model for Words<'a> {
 impl<'a> Words<'a> {
     /// The words of this line, each parted from the next by one space; an empty line has one empty word.
     pub fn of(line: &'a [u8]) -> Words<'a>
+        //= texts/numbers
         ensures { result ≡ words_of line.now }
     {
         Words { rest: Some(line) }
@@ -38,6 +39,7 @@ impl<'a> Words<'a> {
 
     /// The next word; none where no word is left.
     pub fn next_word(&mut self) -> Option<&'a [u8]>
+        //= texts/numbers
         ensures { MatchOption result ((self.old ≡ []) × (self.new ≡ []))
             (λ word. self.old ≡ word.now ∷ self.new) }
     {

@@ -86,11 +86,14 @@ pub fn trace_text<R: Source, W: Sink>(
     reader: &mut R,
     writer: &mut W,
 ) -> Result<(), Fault>
-    // The text of the schedule's trace is written, and nothing else.
+    //= program/trace (ok, quiet): The trace of the schedule read is written, from the worlds before and after each
+    //=   step, in turn from the opening one.
     ensures ok { OnOk result (WritesTrace (R.state reader.old).left (W.state writer.old)
         (W.state writer.new)) }
     ensures quiet { OnOk result ((W.state writer.new).failures ≡ (W.state writer.old).failures) }
-    // Where writing fails, a beginning of that text is written.
+    //= program/prefix (beginning, write, memory, none_failed, unwritten): Of a trace or a picture at `Write` a prefix
+    //=   is written, and a write failed or took nothing; at `Memory` nothing or a prefix, and no write failed; at any
+    //=   other refusal nothing.
     ensures beginning { IfErr result (λ fault. fault.refusal ≡ Refusal.Write
         → BeginsTrace (R.state reader.old).left (W.state writer.old) (W.state writer.new)) }
     ensures write { IfErr result (λ fault. fault.refusal ≡ Refusal.Write
@@ -103,6 +106,8 @@ pub fn trace_text<R: Source, W: Sink>(
     // At any other fault nothing is.
     ensures unwritten { IfErr result (λ fault. fault.refusal ≢ Refusal.Write
         → fault.refusal ≢ Refusal.Memory → writer.new ≡ writer.old) }
+    //= program/other_faults (fault, text, refused, reader): Other faults of a trace or a picture, and the reader's end,
+    //=   are as of `run_text`.
     ensures fault { IfErr result (λ fault. IsRunFault fault.refusal fault.line) }
     // A text that is no schedule is refused by its first faulty line.
     ensures text { IfErr result (λ fault. TellsFaultyLine (R.state reader.old).left fault.refusal) }

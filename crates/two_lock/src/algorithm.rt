@@ -28,6 +28,7 @@ pub struct TwoLockAlgorithm;
 impl<const B: u32> Algorithm<B> for TwoLockAlgorithm {
     ghost kind = { kinds.TwoLock };
 
+    //= queues/queue_causes (push_worn, pop_worn, shut_worn)
     ghost push_worn = { push_worn };
 
     ghost pop_worn = { pop_worn };

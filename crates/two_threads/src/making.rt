@@ -26,6 +26,8 @@ pub fn on_ms_queue<R: Threads + Wait + Sync>(
     alloc: Global,
     most: u64,
 ) -> Result<Vec<Taken>, Refusal>
+    //= callers/two_threads (taken, why): On a new queue of either kind 1 to `most` are handed over, pushed by seat 1,
+    //=   with no condition.
     ensures taken { IfOk result (λ values. values.items ≡ values_to 1 most) }
     ensures why { IfErr result (EndsRun most) }
 {
@@ -40,6 +42,7 @@ pub fn on_two_lock_queue<R: Threads + Wait + Sync>(
     alloc: Global,
     most: u64,
 ) -> Result<Vec<Taken>, Refusal>
+    //= callers/two_threads (taken, why)
     ensures taken { IfOk result (λ values. values.items ≡ values_to 1 most) }
     ensures why { IfErr result (EndsRun most) }
 {

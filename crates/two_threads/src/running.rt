@@ -175,6 +175,8 @@ pub fn run<R: Threads + Wait + Sync, Q: Fifo + Sync + Drop>(
     most: u64,
 ) -> Result<Vec<Taken>, Refusal>
     requires { IsDuo Q.is_seat Q.permits Q.known queue giver taker }
+    //= callers/any_queue (taken, why): On any `Fifo` where one seat alone may push, another alone may pop, and neither
+    //=   has done anything, 1 to `most` are handed over.
     ensures taken { IfOk result (λ values. values.items ≡ values_to (Q.known giver).number most) }
     ensures why { IfErr result (EndsRun most) }
 {

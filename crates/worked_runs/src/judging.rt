@@ -9,6 +9,7 @@ ghost use Rattle.worked_runs.specs.Verdicts.{pushed_after_shut, closed_too_early
 
 /// The verdict on each history: yes, or its first fault by its place in the list.
 pub fn verdicts()
+    //= judge/runs (*): The definitions compute to the runs that were worked out by hand.
     ensures late_empty { verdict late_empty ≡ No 1 Reply }
     ensures shared_place { verdict shared_place ≡ No 2 Shared }
     ensures outside_span { verdict outside_span ≡ No 1 Span }

@@ -6,6 +6,7 @@ ghost use Rattle.worked_runs.specs.NonBlockingRuns.{no_moves, push, lines_of_pus
 
 /// Each run's moves can be made, and lead to the history and the words written down for it.
 pub fn non_blocking_runs()
+    //= judge/runs (*)
     ensures no_moves { Shows no_moves }
     ensures push { Shows push }
     ensures lines_of_push { GoesThrough push lines_of_push }
@@ -30,6 +31,7 @@ pub fn non_blocking_runs()
     ensures value_kept { Shows value_kept }
     ensures worn_next { Shows worn_next }
     ensures push_given_up { Shows push_given_up }
+    //= both/alone (longest_push, longest_pop)
     ensures longest_push { Shows longest_push }
     ensures longest_pop { Shows longest_pop }
     ensures worn_counts { Shows worn_counts }
@@ -38,6 +40,7 @@ pub fn non_blocking_runs()
 /// Moves that can't be made after a run: a step of an idle actor, a begin of one that has a call, a giving up where no
 /// turn begins, and a move of an actor that isn't there.
 pub fn non_blocking_moves_refused()
+    //= judge/runs (*)
     ensures idle { IsStopped push (many 1 1) }
     ensures busy { IsStopped reused_node_before (begin 1 Deq) }
     ensures not_here { IsStopped reused_node_before (give 1) }

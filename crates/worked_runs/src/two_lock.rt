@@ -4,6 +4,7 @@ ghost use Rattle.worked_runs.specs.TwoLockRuns.{empty, first_run, lines_of_first
 
 /// Each run's moves can be made, and lead to the history and the words written down for it.
 pub fn two_lock_runs()
+    //= judge/runs (*)
     ensures empty { Shows empty }
     ensures first_run { Shows first_run }
     ensures lines_of_first_run { GoesThrough first_run lines_of_first_run }

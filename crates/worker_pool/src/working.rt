@@ -267,6 +267,8 @@ pub fn run<R: Threads + Wait + Sync, Q: Fifo + Sync + Drop>(
 ) -> Result<Found, Refusal>
     requires seats { AreSeats Q.is_seat Q.permits Q.known queue seats.items }
     requires bodies { most < 2 ^ body_bits }
+    //= callers/workers: Three workers on a new queue, any `Fifo`, and a seat that hands out `most` jobs, a number of a
+    //=   body: at Ok as many were done.
     ensures { IfOk result (λ found. found.jobs ≡ most) }
 {
     let team = team_of(&queue, seats);

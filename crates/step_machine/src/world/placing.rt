@@ -16,6 +16,7 @@ impl<const B: u32> WorldOf<B> {
     pub fn place_of(&self, node: u32) -> Place
         requires some { 1 ≤ node }
         requires within { node ≤ self.now.setup.size }
+        //= both/place_of (there, nowhere_else): A node is where it is said to be, and nowhere else.
         ensures there { IsAt self.now node result }
         ensures nowhere_else { (p : Place) → IsAt self.now node p → p ≡ result }
     {

@@ -36,10 +36,16 @@ impl<const B: u32> WorldOf<B> {
     /// assert!(history[0].last == Some(10) && history[0].at == Some(8));
     /// ```
     pub fn history(&self, alloc: Global) -> Result<Vec<Stamped>, Refusal>
+        //= worlds/history
         ensures ok { IfOk result (λ v. v.items ≡ self.now.operations) }
+        //= worlds/reachable: Each world is reachable by its calls from the opening of its setup, whose sizes are in
+        //=   range.
         ensures made { IsMade self.now }
+        //= histories/placed_and_legal (placed, legal)
+        //= histories/places (placed, effects)
         ensures placed { IfOk result (λ v. Placement v.items) }
         ensures legal { IfOk result (λ v. IsLegal v.items) }
+        //= histories/linearizable
         ensures linearizable { IfOk result (λ v. IsLinearizable v.items) }
         ensures effects { IfOk result (λ v. HavePlacesByItsEffects self.now v.items) }
         ensures refused { IfErr result (λ why. why ≡ Memory) }
@@ -58,6 +64,8 @@ impl<const B: u32> WorldOf<B> {
     /// ```
     pub fn line(&self, actor: u16) -> Option<Line>
         requires { IsSome (actor_of self.now actor) }
+        //= worlds/queries: A world tells its setup, the number of its actors, the line and pocket of each, and each
+        //=   word: as the table's number and, but for locks, as a reference or a value.
         ensures { IfSome (actor_of self.now actor) (λ a. result ≡ a.line) }
     {
         match actor_at(&self.actors, actor) {
@@ -74,6 +82,7 @@ impl<const B: u32> WorldOf<B> {
     /// ```
     pub fn pocket(&self, actor: u16) -> Option<Held>
         requires { IsSome (actor_of self.now actor) }
+        //= worlds/queries
         ensures { IfSome (actor_of self.now actor) (λ a. result ≡ a.pocket) }
     {
         match actor_at(&self.actors, actor) {
@@ -90,6 +99,8 @@ impl<const B: u32> WorldOf<B> {
     /// assert!(world.touches(1) == Some(WordName::Fresh) && world.touches(2).is_none());
     /// ```
     pub fn touches(&self, actor: u16) -> Option<WordName>
+        //= worlds/touches: A world tells which word an actor's next step touches, as the line table has it, and what a
+        //=   word holds: a number, a reference, a closed end or a value.
         ensures { option_map word_named result ≡ touched_by self.now actor (actor_of self.now actor) }
     {
         match actor_at(&self.actors, actor) {
@@ -108,6 +119,7 @@ impl<const B: u32> WorldOf<B> {
     /// assert!(world.holds(WordName::Head) == Contents::Reference(1, 0));
     /// ```
     pub fn holds(&self, word: WordName) -> Contents
+        //= worlds/touches
         ensures { result ≡ contents_in B (word_named word) self.now.shared }
     {
         match word {
@@ -130,6 +142,7 @@ impl<const B: u32> WorldOf<B> {
     /// assert!(world.setup().size == 3 && world.setup().limit == 100);
     /// ```
     pub fn setup(&self) -> Setup
+        //= worlds/queries (value, bits)
         ensures value { result ≡ self.now.setup }
         ensures bits { result.bits ≡ B }
     {
@@ -143,6 +156,7 @@ impl<const B: u32> WorldOf<B> {
     /// assert!(world.actors() == 2);
     /// ```
     pub fn actors(&self) -> usize
+        //= worlds/queries
         ensures { result ≡ length self.now.actors }
     {
         self.actors.len()
@@ -157,6 +171,7 @@ impl<const B: u32> WorldOf<B> {
     /// ```
     pub fn steps(&self) -> u64
         ensures value { result ≡ self.now.steps }
+        //= worlds/reachable (made, reached)
         ensures made { IsMade self.now }
         ensures reached { IsReached self.now }
     {
@@ -170,6 +185,7 @@ impl<const B: u32> WorldOf<B> {
     /// assert!(world.fresh() == 1);
     /// ```
     pub fn fresh(&self) -> u32
+        //= worlds/queries
         ensures { result ≡ self.now.shared.fresh }
     {
         self.memory.fresh()
@@ -182,6 +198,7 @@ impl<const B: u32> WorldOf<B> {
     /// assert!(world.free().is_null());
     /// ```
     pub fn free(&self) -> CountedRefOf<B>
+        //= worlds/queries
         ensures { result ≡ content Free self.now.shared }
     {
         self.memory.free()
@@ -194,6 +211,7 @@ impl<const B: u32> WorldOf<B> {
     /// assert!(world.head() == CountedRef::new(1, 0));
     /// ```
     pub fn head(&self) -> CountedRefOf<B>
+        //= worlds/queries
         ensures { result ≡ content Head self.now.shared }
     {
         self.memory.head()
@@ -206,6 +224,7 @@ impl<const B: u32> WorldOf<B> {
     /// assert!(world.tail() == CountedRef::new(1, 0));
     /// ```
     pub fn tail(&self) -> CountedRefOf<B>
+        //= worlds/queries
         ensures { result ≡ content Tail self.now.shared }
     {
         self.memory.tail()
@@ -219,6 +238,7 @@ impl<const B: u32> WorldOf<B> {
     /// assert!(world.word(0) == Some(1) && world.word(12).is_none());
     /// ```
     pub fn word(&self, index: usize) -> Option<u64>
+        //= worlds/queries
         ensures { result ≡ slice_get (memory_words B self.now.shared) index }
     {
         self.memory.word(index)
@@ -233,6 +253,7 @@ impl<const B: u32> WorldOf<B> {
     pub fn next_of(&self, node: u32) -> CountedRefOf<B>
         requires some { 1 ≤ node }
         requires within { node ≤ self.now.setup.size }
+        //= worlds/queries
         ensures { result ≡ content (Next node) self.now.shared }
     {
         self.memory.next_of(node)
@@ -247,6 +268,7 @@ impl<const B: u32> WorldOf<B> {
     pub fn value_of_node(&self, node: u32) -> Taken
         requires some { 1 ≤ node }
         requires within { node ≤ self.now.setup.size }
+        //= worlds/queries
         ensures { result ≡ content (Value_of node) self.now.shared }
     {
         self.memory.value_of(node)
