@@ -1,4 +1,4 @@
-"""Promises: the tables of docs/CLAIMS.md, printed from the marks in the sources.
+"""Promises: the lists of docs/CLAIMS.md, printed from the marks in the sources.
 
 A mark is a comment directly above the clause that keeps a promise:
 
@@ -13,15 +13,14 @@ promise has the text, in the order of the page; a further call that keeps it has
 What a trait or an impl says in `ghost NAME` is a clause of that; a mark may also stand above a function without clauses, and
 above an `impl` of a trait, whose clause is the trait.
 
-In the page `<!-- promises: references -->` stands above the table of its section. The rows are in the order of crates.txt, of the
-`mod` lines of each crate's files, and of the lines.
+In the page `<!-- promises: references -->` stands above the list of its section. The promises are in the order of crates.txt, of
+the `mod` lines of each crate's files, and of the lines.
 """
 import dataclasses
 import re
 
 PAGE = "docs/CLAIMS.md"
-HEAD = "| promise | call | clause |\n|---|---|---|\n"
-TABLE = re.compile(r"^<!-- promises: (\w+) -->\n\n?((?:\|.*\n)*)", re.MULTILINE)
+LIST = re.compile(r"^<!-- promises: (\w+) -->\n\n?((?:- .*\n)*)", re.MULTILINE)
 MARK = re.compile(r" *//= (\w+)/(\w+)(?: \((\*|\w+(?:, \w+)+)\))?(?:: (.+))?")
 LINES = re.compile(r"^ *//=.*\n", re.MULTILINE)
 FURTHER = re.compile(r" *//=   (.+)")
@@ -219,37 +218,38 @@ def promises(marks, section):
     return found
 
 
-def row(marks):
-    """The row of a promise: its calls in the order of the sources, but those together that keep it by the same clauses."""
+def item(marks):
+    """What the page has of a promise: its calls in the order of the sources, but those together that keep it by the same clauses."""
     kept, groups = {}, {}
     for it in marks:
         kept.setdefault((it.call, it.path), []).extend(it.clauses)
     for (call, path), clauses in kept.items():
-        names = ", ".join({"-": "-", "*": "all"}.get(it, f"`{it}`") for it in dict.fromkeys(clauses))
+        names = ", ".join({"-": "", "*": "all"}.get(it, f"`{it}`") for it in dict.fromkeys(clauses))
         groups.setdefault(names, []).append(f"[`{call}`](../{path})")
-    return f"| {marks[0].text} | {'; '.join(map(', '.join, groups.values()))} | {'; '.join(groups)} |\n"
+    calls = (", ".join(it) + (f": {names}" if names else "") for names, it in groups.items())
+    return f"- {marks[0].text} ({'; '.join(calls)})\n"
 
 
 def printed(tree, text):
-    """The page with its tables as the marks have them."""
+    """The page with its lists as the marks have them."""
     marks = all_marks(tree)
-    rows = lambda key: "".join(row(it) for it in promises(marks, key).values())
-    return TABLE.sub(lambda it: f"<!-- promises: {it[1]} -->\n\n{HEAD}{rows(it[1])}", text)
+    items = lambda key: "".join(item(it) for it in promises(marks, key).values())
+    return LIST.sub(lambda it: f"<!-- promises: {it[1]} -->\n\n{items(it[1])}", text)
 
 
 def wrong(tree, text):
-    """What is wrong with the marks, and with the tables of the page."""
-    marks, keys = all_marks(tree), [it[0] for it in TABLE.findall(text)]
+    """What is wrong with the marks, and with the lists of the page."""
+    marks, keys = all_marks(tree), [it[0] for it in LIST.findall(text)]
     for it in marks:
         yield from (f"{it.place()}: {fault}" for fault in it.faults)
         if it.section and it.section not in keys:
-            yield f"{it.place()}: the page has no table {it.section}"
+            yield f"{it.place()}: the page has no list {it.section}"
     for key in dict.fromkeys(keys):
         for name, kept in promises(marks, key).items():
             if not kept[0].text:
                 yield f"{kept[0].place()}: the first one of {key}/{name} has no text"
             yield from (f"{it.place()}: {key}/{name} has a text before" for it in kept[1:] if it.text)
         if keys.count(key) > 1:
-            yield f"it has the table {key} twice"
+            yield f"it has the list {key} twice"
     if text != printed(tree, text):
-        yield "its tables are stale: tools/pages writes them"
+        yield "its lists are stale: tools/pages writes them"

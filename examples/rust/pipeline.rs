@@ -36,7 +36,7 @@ fn pop_all(mut receiver: Receiver, senders: usize, values: u64) -> Result<Vec<u6
             }
             Ok(None) | Err(Refusal::Busy) => thread::yield_now(),
             Err(Refusal::Closed) => return Ok(popped),
-            Err(why) => return Err(why),
+            Err(refusal) => return Err(refusal),
         }
     }
 }

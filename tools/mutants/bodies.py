@@ -35,7 +35,7 @@ class Bodies:
         """Reads the edits in these files, and finds out where each goes."""
         found = [understand(read_edit(it, self.name), self.texts, self.functions) for it in paths]
         for it in found:
-            it.goes_beside = not it.why_bad and all(map(self.can_stand_twice, it.judges)) and self.can_be_copied(it)
+            it.goes_beside = not it.fault and all(map(self.can_stand_twice, it.judges)) and self.can_be_copied(it)
         return found
 
     def proofs_of(self, function: Function) -> Texts:

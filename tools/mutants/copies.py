@@ -23,11 +23,11 @@ class Copy:
         self.bodies = bodies
         self.folders: dict[str, Texts] = {}
         self.numbers: dict[str, int] = {}
-        self.texts, self.why_bad = dict(bodies.texts), ""
+        self.texts, self.fault = dict(bodies.texts), ""
         beside = [it for it in edits if it.goes_beside and is_hollow]
         for it in edits:
-            if it not in beside and it.pairs and not self.why_bad:
-                texts, self.why_bad = applied(it, self.texts)
+            if it not in beside and it.pairs and not self.fault:
+                texts, self.fault = applied(it, self.texts)
                 self.texts = texts or self.texts
         changed = {(fn.file, fn.name) for it in edits if it not in beside for fn in it.touched()}
         parts = {path: self.parts_of(path, changed) if is_hollow else [] for path in self.texts}

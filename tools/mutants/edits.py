@@ -18,7 +18,7 @@ class Edit:
     lines: frozenset[tuple[str, int]] = frozenset()
     own: tuple[Function, ...] = ()
     judges: tuple[Function, ...] = ()
-    why_bad: str = ""
+    fault: str = ""
     goes_beside: bool = False
 
     def label(self) -> str:
@@ -98,8 +98,8 @@ def named(functions: list[Function], name: str) -> list[Function]:
 
 def understand(edit: Edit, texts: Texts, functions: list[Function]) -> Edit:
     """Finds out whom an edit touches and whose goals may refuse it, or why it is bad."""
-    _, edit.why_bad = applied(edit, texts)
-    if edit.why_bad:
+    _, edit.fault = applied(edit, texts)
+    if edit.fault:
         return edit
     edit.lines = lines_of(edit, texts)
     own = [it for it in functions for file, line in edit.lines if it.file == file and it.first <= line <= it.last]
@@ -107,9 +107,9 @@ def understand(edit: Edit, texts: Texts, functions: list[Function]) -> Edit:
     edit.own = tuple(dict.fromkeys(own)) if all(inside(*it) for it in edit.lines) else ()
     judges = [it for name in edit.at for it in named(functions, name)]
     if edit.at and not judges:
-        edit.why_bad = f"no function is named {' or '.join(edit.at)}"
+        edit.fault = f"no function is named {' or '.join(edit.at)}"
     elif not edit.at and not edit.own:
-        edit.why_bad = "it touches no function's own text: a line 'at: FUNCTION' has to say whose goal refuses it"
+        edit.fault = "it touches no function's own text: a line 'at: FUNCTION' has to say whose goal refuses it"
     edit.judges = tuple(judges) if edit.at else edit.own
     return edit
 

@@ -1,7 +1,7 @@
 """Keys: all that the prover's answer to an edit hangs on, as two digests.
 
 The key of an edit is a digest of the toolchain's line of identity, behind a point, and before it one of
-- the edit, and the src, specs and proofs of its crate as they stand;
+- the edit, and the src, specs and proofs of its crate, without the lines that are comments;
 - the lines of crates.txt of the crate and of the crates below it, and HANDLES;
 - the files of this tool, but for the three that only choose, count and write down: main.py, record.py, report.py;
 - of the crates below, what a check of this crate can read.
@@ -45,6 +45,7 @@ WHOLE = re.compile(r"\b\w+!\s*(?:\w+\s*)?(?=[({\[])|\btrait\s+\w+[^{;]*(?=\{)")
 ITEMS = re.compile(r"\b(?:impl|trait|mod|macro_rules|static)\b")
 # A 'use' of one name, or of several with no braces inside.
 USE = re.compile(r"^[ \t]*(?:pub(?:\([^)]*\))? |ghost )?use ([^;{}]*?)(?:\{([^{}]*)\})?;\n?", re.MULTILINE)
+COMMENT = re.compile(r"^[ \t]*--(?=\s).*\n?", re.MULTILINE)
 NODE = re.compile(r"^(?:pub )?mod (\w+)[ \t]*\n?", re.MULTILINE)
 
 
@@ -87,6 +88,11 @@ def uncommented(text: str) -> str:
     return text
 
 
+def uncommented_logic(text: str) -> str:
+    """Returns the text of a file of specs/ or proofs/ without the lines that are comments."""
+    return COMMENT.sub("", text)
+
+
 def unit_of(crate: str, function: Function, text: str, start: int, is_left: bool) -> Unit:
     """Returns a function as who calls it reads it. is_left: with its body."""
     head = f"{function.file} {function.name}"
@@ -127,7 +133,7 @@ def units_of_source(crate: str, path: str, text: str, homes: dict[str, list[str]
 
 def units_of_logic(crate: str, path: str, text: str) -> Iterator[Unit]:
     """Gives the parts of a file of specs/ or proofs/: the lines of a node file that declare a file each, or it whole."""
-    text = re.sub(r"^[ \t]*--(?=\s).*\n?", "", text, flags=re.MULTILINE)
+    text = uncommented_logic(text)
     name = f"{crate}/{os.path.splitext(path)[0]}"
     if not NODE.search(text):
         yield Unit(crate, name, f"{path}\n{text}")
@@ -176,8 +182,8 @@ class Keys:
 
     def __init__(self, crate: LibraryOfRt, handles: str, version: str):
         below = sorted(crate.below(), key=lambda it: it.name)
-        parts = {"src": ".rt", "specs": ".antt", "proofs": ".antt"}
-        own = {path: text for part, ending in parts.items() for path, text in texts_below(crate.folder, part, ending).items()}
+        parts = {"src": (".rt", uncommented), "specs": (".antt", uncommented_logic), "proofs": (".antt", uncommented_logic)}
+        own = {path: as_read(text) for part, (ending, as_read) in parts.items() for path, text in texts_below(crate.folder, part, ending).items()}
         self.common = digest([own, crate.said, [it.said for it in below], handles, tool_files()])
         self.toolchain = digest([version])[:LENGTH_OF_TOOLCHAIN]
         self.units = [unit for it in below for unit in units_of(it.name, it.folder)]

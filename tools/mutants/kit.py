@@ -29,9 +29,9 @@ from typing import Any, NoReturn, Protocol, TextIO
 PARTS = ("src", "specs", "proofs")
 
 
-def stop(why: str) -> NoReturn:
+def stop(cause: str) -> NoReturn:
     """Ends the run where nothing can be judged."""
-    print(f"{os.path.basename(sys.argv[0])}: {why}", file=sys.stderr)
+    print(f"{os.path.basename(sys.argv[0])}: {cause}", file=sys.stderr)
     sys.exit(2)
 
 

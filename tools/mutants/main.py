@@ -77,7 +77,7 @@ class Recorded:
         seed = commit_at(self.top) or digest(sorted(self.keys.items()))
         for it in self.trials:
             record = self.records[it.crate.name]
-            known = {e.label() for e in it.edits if not e.why_bad and record.has(e.name, self.keys[e.label()])}
+            known = {e.label() for e in it.edits if not e.fault and record.has(e.name, self.keys[e.label()])}
             report.recorded |= known
             if not self.words.all and not self.words.alone:
                 spared = {label for label in known if self.words.new or not is_due(seed, it.crate.name, label)}
@@ -93,7 +93,7 @@ class Recorded:
                 if self.words.record:
                     report.note(f"{line}: its line is taken away")
                 elif not self.words.alone:
-                    report.count(False, f"{line}: tools/wrong_bodies --record {name} takes its line away")
+                    report.count(False, f"{line}: tools/try_mutants --record {name} takes its line away")
 
     def names(self, crate: str) -> list[str]:
         return [os.path.basename(it).removesuffix(".edit") for it in edits_in(self.folders[crate])]
@@ -133,5 +133,5 @@ def main(head: str) -> int:
     if words.record:
         recorded.mend(report)
     if is_recorded and not words.alone:
-        print(f"wrong bodies: {len(report.verdicts)} tried, {recorded.untried} as recorded")
+        print(f"mutants: {len(report.verdicts)} tried, {recorded.untried} as recorded")
     return report.end()

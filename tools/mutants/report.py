@@ -11,7 +11,7 @@ class Verdict:
 
     edit: Edit
     goal: str = ""
-    why: str = ""
+    cause: str = ""
 
 
 class Report:
@@ -42,7 +42,7 @@ class Report:
             self.count(True, f"{label}: refused, {verdict.goal}")
         else:
             is_false = label in self.recorded
-            self.count(False, f"{label}: {verdict.why}{'. THE RECORD IS FALSE: it has this edit as refused' if is_false else ''}")
+            self.count(False, f"{label}: {verdict.cause}{'. THE RECORD IS FALSE: it has this edit as refused' if is_false else ''}")
 
     def end(self) -> int:
         """Prints the last line, and returns the run's exit status."""

@@ -45,8 +45,8 @@ class Trials:
     def check(self, edits: list[Edit], kept: str, is_hollow: bool = False) -> Checked:
         """Checks a copy of the crate with these edits made."""
         copy = Copy(self.bodies, edits, is_hollow)
-        if copy.why_bad:
-            return Checked(False, False, [], copy.why_bad, copy)
+        if copy.fault:
+            return Checked(False, False, [], copy.fault, copy)
         # Those functions alone, and what they call.
         only = sorted({"::".join(made.path()) for found in copy.judges.values() for made, _ in found})
         with tempfile.TemporaryDirectory(prefix="wrong-") as room:
@@ -66,19 +66,19 @@ class Trials:
 
     def alone(self, edit: Edit, kept: str) -> Verdict:
         """Tries an edit in a check of its own."""
-        if edit.why_bad:
-            return Verdict(edit, why=f"BAD EDIT: {edit.why_bad}")
+        if edit.fault:
+            return Verdict(edit, cause=f"BAD EDIT: {edit.fault}")
         check = self.check([edit], kept)
         goal = check.refused(edit)
         if goal:
             return Verdict(edit, str(goal))
         if check.is_proved:
-            return Verdict(edit, why="NOT REFUSED: the crate is still proved with it")
+            return Verdict(edit, cause="NOT REFUSED: the crate is still proved with it")
         if not check.reached:
             first = next((it for it in check.said.split("\n") if ": error" in it or it.startswith("error")), check.said[-300:])
-            return Verdict(edit, why=f"BAD EDIT: the checker can't read the edited text: {first[:200]}")
+            return Verdict(edit, cause=f"BAD EDIT: the checker can't read the edited text: {first[:200]}")
         others = "; ".join(str(it) for it in check.goals[:3]) or "no goal is named"
-        return Verdict(edit, why=f"NOT REFUSED AT ITS OWN GOAL: the checker names {others}")
+        return Verdict(edit, cause=f"NOT REFUSED AT ITS OWN GOAL: the checker names {others}")
 
     def try_alone(self, report: Report) -> None:
         """Tries each edit in a check of its own."""
@@ -101,7 +101,7 @@ class Trials:
         report.note(f"({self.crate.name}: a group of {len(group)} in {time.monotonic() - began:.0f} s)")
 
     def groups(self) -> list[list[Edit]]:
-        return groups_of([it for it in self.edits if not it.why_bad])
+        return groups_of([it for it in self.edits if not it.fault])
 
     def try_all(self, report: Report) -> None:
         """Tries the edits in groups, and alone what its group didn't refuse."""
@@ -109,14 +109,14 @@ class Trials:
             for group in self.groups():
                 self.try_group(group, kept, report)
             for edit in self.edits:
-                if edit.why_bad:
+                if edit.fault:
                     report.judge(self.alone(edit, kept))
 
     def try_true(self, report: Report) -> None:
         """Checks the functions that edits touch as they are, in the places where the edits go: each has to be proved there."""
         true_bodies: dict[tuple[object, ...], Edit] = {}
         for it in self.edits:
-            if not it.why_bad:
+            if not it.fault:
                 items = [item.name for item in it.items(self.bodies.texts[it.judges[0].file])]
                 true_bodies.setdefault((it.own, it.judges, it.goes_beside, *items), dataclasses.replace(it, pairs=[]))
         with self.kept() as kept:

@@ -27,15 +27,15 @@ IsAnySeat q s = IsReady (any_arena_of q) s
 
 -- why a push is refused: for a cause of its kind
 abbrev pub AnyPushRefused : AnyQueue → Seat → Seat → (turns : ℕ) → Refusal → Type 0
-AnyPushRefused (NonBlocking q) s t turns why = PushRefused ms.push_worn (arena_of q) s t turns why
-AnyPushRefused (TwoLock q) s t turns why = PushRefused two.push_worn (arena_of q) s t turns why
+AnyPushRefused (NonBlocking q) s t turns refusal = PushRefused ms.push_worn (arena_of q) s t turns refusal
+AnyPushRefused (TwoLock q) s t turns refusal = PushRefused two.push_worn (arena_of q) s t turns refusal
 
 -- why a pop is refused: for a cause of its kind
 abbrev pub AnyPopRefused : AnyQueue → Seat → Seat → (turns : ℕ) → Refusal → Type 0
-AnyPopRefused (NonBlocking q) s t turns why = PopRefused ms.pop_worn (arena_of q) s t turns why
-AnyPopRefused (TwoLock q) s t turns why = PopRefused two.pop_worn (arena_of q) s t turns why
+AnyPopRefused (NonBlocking q) s t turns refusal = PopRefused ms.pop_worn (arena_of q) s t turns refusal
+AnyPopRefused (TwoLock q) s t turns refusal = PopRefused two.pop_worn (arena_of q) s t turns refusal
 
 -- why a shut is refused: for a cause of its kind
 abbrev pub AnyShutRefused : AnyQueue → Seat → Seat → (turns : ℕ) → Refusal → Type 0
-AnyShutRefused (NonBlocking q) s t turns why = ShutRefused ms.shut_worn (arena_of q) s t turns why
-AnyShutRefused (TwoLock q) s t turns why = ShutRefused two.shut_worn (arena_of q) s t turns why
+AnyShutRefused (NonBlocking q) s t turns refusal = ShutRefused ms.shut_worn (arena_of q) s t turns refusal
+AnyShutRefused (TwoLock q) s t turns refusal = ShutRefused two.shut_worn (arena_of q) s t turns refusal

@@ -139,7 +139,7 @@ impl Fifo for AnyQueue {
     fn close(self, alloc: Global, seats: Vec<Seat>) -> Result<Rest, Refusal>
         requires { All (IsAnySeat self) seats.items }
         ensures rest { IfOk result (Closes (any_permits_of self) (map known_of seats.items)) }
-        ensures only_memory { IfErr result (λ why. why ≡ Refusal.Memory) }
+        ensures only_memory { IfErr result (λ refusal. refusal ≡ Refusal.Memory) }
     {
         match self {
             AnyQueue::NonBlocking(queue) => queue.close(alloc, seats),

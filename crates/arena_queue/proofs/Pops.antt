@@ -37,11 +37,11 @@ module _ (worn : WornWord → Type 0) where
     late : (path : (view x).path ≡ (view u).path ++ added u x) → added s x ≡ es ++ added u x
     late path = added_path s x (es ++ added u x) (path ∙ ap (λ p. p ++ added u x) w.path ∙ append_assoc (view s).path es (added u x))
 
-    late_stop : (e : added s x ≡ es ++ added u x) (why : Refusal) → StopsAPop u x why → StopsAPop s x why
+    late_stop : (e : added s x ≡ es ++ added u x) (refusal : Refusal) → StopsAPop u x refusal → StopsAPop s x refusal
     late_stop e Closed h = subst (FindsShutEmpty (view s) (view x)) (sym e) (then_shut_empty (view s) (view u) (view x) es (added u x) w h)
     late_stop e _ h = subst (ExtendsPath (view s) (view x)) (sym e) (walk_then (view s) (view u) (view x) es (added u x) w h)
 
-    late_cause : (e : added s x ≡ es ++ added u x) (why : Refusal) → DrawRefused worn r u x before turns why → DrawRefused worn r s x spent turns why
+    late_cause : (e : added s x ≡ es ++ added u x) (refusal : Refusal) → DrawRefused worn r u x before turns refusal → DrawRefused worn r s x spent turns refusal
     late_cause e Busy f = (
       (let c = ap failed_turns e in let n = f.0 in omega (arith, failed-append es (added u x), c, n, more)),
       ends_failed s x (es ++ added u x) e (failed_behind es (added u x) f.1),
@@ -66,23 +66,23 @@ module _ (worn : WornWord → Type 0) where
       where
         answered : (o : Result (Option Taken) Refusal) → Draws worn r u x before turns o → IfOk o (λ v. PopAnswers (known_of s) v (known_of x))
         answered (Ok v) d = answers_then (known_of s) (known_of u) (known_of x) v (sees_on (view s) (view u) es w) d.answer
-        answered (Err why) d = tt
+        answered (Err refusal) d = tt
 
         fewer : (o : Result (Option Taken) Refusal) → added s x ≡ es ++ added u x → Draws worn r u x before turns o → OnOk o (spent + failed_turns (added s x) ≤ turns)
         fewer (Ok v) e d = let c = ap failed_turns e in let n = d.few in omega (arith, failed-append es (added u x), c, n, more)
-        fewer (Err why) e d = tt
+        fewer (Err refusal) e d = tt
 
         freed_of : (o : Result (Option Taken) Refusal) → added s x ≡ es ++ added u x → Draws worn r u x before turns o → keeps_of u ≡ false → OnOk o (EmptiesPocket s x spent turns)
         freed_of (Ok v) e d off = ⊎_elim (λ none. inl none) (λ all. inr (let c = ap failed_turns e in omega (arith, failed-append es (added u x), c, all, more))) (d.freed off)
-        freed_of (Err why) e d off = tt
+        freed_of (Err refusal) e d off = tt
 
-        refused_by : (o : Result (Option Taken) Refusal) → added s x ≡ es ++ added u x → Draws worn r u x before turns o → IfErr o (λ why. StopsAPop s x why × DrawRefused worn r s x spent turns why)
+        refused_by : (o : Result (Option Taken) Refusal) → added s x ≡ es ++ added u x → Draws worn r u x before turns o → IfErr o (λ refusal. StopsAPop s x refusal × DrawRefused worn r s x spent turns refusal)
         refused_by (Ok v) e d = tt
-        refused_by (Err why) e d = (late_stop e why d.refused.0, late_cause e why d.refused.1)
+        refused_by (Err refusal) e d = (late_stop e refusal d.refused.0, late_cause e refusal d.refused.1)
 
   -- a word was found worn out, and the call is over
-  pub draws_worn : (r : Arena) (s t : Seat) (why : Refusal) (word : WornWord) (failed turns : ℕ) (es : List Event) → IsSeat r t → (view t).actor.line ≡ None → (view t).actor.pocket ≡ None → KeepsStored s t → ExtendsPath (view s) (view t) es → why ≡ WornOut word → EndedAt r s es (IsRefusedAt r.plan.setup (view s).number (WornOut word)) → worn word → Draws worn r s (keeping t None failed) failed turns (Err why)
-  draws_worn r s t why word failed turns es seat over empty stored w is cause so =
+  pub draws_worn : (r : Arena) (s t : Seat) (refusal : Refusal) (word : WornWord) (failed turns : ℕ) (es : List Event) → IsSeat r t → (view t).actor.line ≡ None → (view t).actor.pocket ≡ None → KeepsStored s t → ExtendsPath (view s) (view t) es → refusal ≡ WornOut word → EndedAt r s es (IsRefusedAt r.plan.setup (view s).number (WornOut word)) → worn word → Draws worn r s (keeping t None failed) failed turns (Err refusal)
+  draws_worn r s t refusal word failed turns es seat over empty stored w is cause so =
       let e : added s t ≡ es = added_is s t es w in
       let rest : at_rest (view t).actor ≡ (view t).actor = ap (out_of (view t).actor) over in
       record {
@@ -135,11 +135,11 @@ module _ (worn : WornWord → Type 0) where
     where
       gave : (o : Result (Unit {0}) Refusal) → failed_turns (added s x) ≡ failed_turns (added t x) → GiveAnswers r (keeping t (Some h) failed) x (turns - failed) o → EmptiesPocket s x failed turns
       gave (Ok u) all g = inl g.pocket
-      gave (Err why) all g = inr (let n : failed_turns (added t x) ≡ turns - failed = g.refused.1 in omega (arith, all, n, less))
+      gave (Err refusal) all g = inr (let n : failed_turns (added t x) ≡ turns - failed = g.refused.1 in omega (arith, all, n, less))
 
       spends : (o : Result (Unit {0}) Refusal) → GiveAnswers r (keeping t (Some h) failed) x (turns - failed) o → failed_turns (added t x) ≤ turns - failed
       spends (Ok u) g = let n : failed_of x ≡ failed_turns (added t x) = g.failed in let k = g.fewer in omega arith
-      spends (Err why) g = let n : failed_turns (added t x) ≡ turns - failed = g.refused.1 in omega arith
+      spends (Err refusal) g = let n : failed_turns (added t x) ≡ turns - failed = g.refused.1 in omega arith
 
   -- a value was taken by a seat that keeps its nodes, and the node that comes free stays in the pocket
   pub draws_kept : (r : Arena) (s t : Seat) (word : ℕ) (h : Held) (failed turns : ℕ) (es : List Event) → keeps_of s ≡ true → failed < turns → IsSeat r t → KeepsStored s t → IsFreeing (view t).actor word h → Acts (view s) (view t) (Pop (view s).number (value_of word)) es → failed_turns es ≡ 0 → Draws worn r s (keeping t (Some h) failed) failed turns (Ok (Some (value_of word)))
@@ -185,10 +185,10 @@ module _ (worn : WornWord → Type 0) where
         freed = λ off. ⊎_elim (λ none. inl none) (λ all. inr (let f = all in omega arith)) (d.freed off);
         kept = d.kept;
         refused = tt;
-        why = tt;
+        refusal = tt;
         caused = tt;
       }
-  whole r s x turns (Err why) h d =
+  whole r s x turns (Err refusal) h d =
       record {
         ready = d.ready;
         number = same_number r s x h d.ready d.same;
@@ -197,18 +197,18 @@ module _ (worn : WornWord → Type 0) where
         few = tt;
         freed = λ off. tt;
         kept = λ on. tt;
-        refused = learns why d.refused.0;
-        why = stops why d.refused.1;
+        refused = learns refusal d.refused.0;
+        refusal = stops refusal d.refused.1;
         caused = d.refused.1;
       }
     where
-      stops : (why : Refusal) → DrawRefused worn r s x 0 turns why → StopsPop why
+      stops : (refusal : Refusal) → DrawRefused worn r s x 0 turns refusal → StopsPop refusal
       stops Busy f = tt
       stops (WornOut word) f = tt
       stops Closed f = tt
       stops _ f = absurd f
 
-      learns : (why : Refusal) → StopsAPop s x why → RefusedPop (known_of s) why (known_of x)
+      learns : (refusal : Refusal) → StopsAPop s x refusal → RefusedPop (known_of s) refusal (known_of x)
       learns Closed h = h.found
       learns _ h = sees_on (view s) (view x) (added s x) h
 

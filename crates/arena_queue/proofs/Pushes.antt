@@ -19,22 +19,22 @@ use Rattle.arena_queue.specs.Answers.{PutRefused, Puts, PushRefused, AnswersPush
 use Rattle.arena_queue.proofs.Queues.{same_number}
 
 -- what a call that was refused added to its seat's path
-refused_path : (s t : Seat) (why : Refusal) → StopsAPush s t why → (view t).path ≡ (view s).path ++ added s t
+refused_path : (s t : Seat) (refusal : Refusal) → StopsAPush s t refusal → (view t).path ≡ (view s).path ++ added s t
 refused_path s t Closed h = h.path
 refused_path s t _ h = h.path
 
 -- a call that was refused behind other lines
-stops_behind : (s t u : Seat) (es : List Event) → ExtendsPath (view s) (view t) es → added s u ≡ es ++ added t u → (why : Refusal) → StopsAPush t u why → StopsAPush s u why
+stops_behind : (s t u : Seat) (es : List Event) → ExtendsPath (view s) (view t) es → added s u ≡ es ++ added t u → (refusal : Refusal) → StopsAPush t u refusal → StopsAPush s u refusal
 stops_behind s t u es w e Closed h = subst (FindsShut (view s) (view u)) (sym e) (then_shut (view s) (view t) (view u) es (added t u) w h)
 stops_behind s t u es w e _ h = subst (ExtendsPath (view s) (view u)) (sym e) (walk_then (view s) (view t) (view u) es (added t u) w h)
 
 -- what its seat then knows
-pub learns : (s t : Seat) (why : Refusal) → StopsAPush s t why → RefusedPush (known_of s) why (known_of t)
+pub learns : (s t : Seat) (refusal : Refusal) → StopsAPush s t refusal → RefusedPush (known_of s) refusal (known_of t)
 learns s t Closed h = h.found
 learns s t _ h = sees_on (view s) (view t) (added s t) h
 
 -- and after a take that was refused
-pub learns_of_take : (r : Arena) (s t : Seat) (turns : ℕ) (why : Refusal) → HadNoEffect s t → TakeRefused r s t turns why → RefusedPush (known_of s) why (known_of t)
+pub learns_of_take : (r : Arena) (s t : Seat) (turns : ℕ) (refusal : Refusal) → HadNoEffect s t → TakeRefused r s t turns refusal → RefusedPush (known_of s) refusal (known_of t)
 learns_of_take r s t turns Closed w h = absurd h
 learns_of_take r s t turns _ w h = sees_on (view s) (view t) (added s t) w
 
@@ -55,17 +55,17 @@ module _ (worn : WornWord → Option Held → Type 0) where
         );
         refused = tt;
       }
-  put_behind r s t u es w name node body spent all turns (Err why) f k =
+  put_behind r s t u es w name node body spent all turns (Err refusal) f k =
       let both : List Event = es ++ added t u in
-      let e : added s u ≡ both = added_path s u both (refused_path t u why k.refused.0 ∙ ap (λ p. p ++ added t u) w.path ∙ append_assoc (view s).path es (added t u)) in
+      let e : added s u ≡ both = added_path s u both (refused_path t u refusal k.refused.0 ∙ ap (λ p. p ++ added t u) w.path ∙ append_assoc (view s).path es (added t u)) in
       record {
         ready = k.ready;
         same = record { number = k.same.number ∙ name.number; role = k.same.role ∙ name.role; keeps = k.same.keeps ∙ name.keeps };
         pushed = tt;
-        refused = (stops_behind s t u es w e why k.refused.0, by_cause e why k.refused.1);
+        refused = (stops_behind s t u es w e refusal k.refused.0, by_cause e refusal k.refused.1);
       }
     where
-      by_cause : added s u ≡ es ++ added t u → (why : Refusal) → PutRefused worn r t u node all turns why → PutRefused worn r s u node spent turns why
+      by_cause : added s u ≡ es ++ added t u → (refusal : Refusal) → PutRefused worn r t u node all turns refusal → PutRefused worn r s u node spent turns refusal
       by_cause e Busy x = (
         (let c = ap failed_turns e in let g = x.0 in omega (arith, failed-append es (added t u), c, f, g)),
         ends_failed s u (es ++ added t u) e (failed_behind es (added t u) x.1),
@@ -86,10 +86,10 @@ module _ (worn : WornWord → Option Held → Type 0) where
         few = (let f = k.pushed.2 in omega arith);
         pocket = k.pushed.1;
         refused = tt;
-        why = tt;
+        refusal = tt;
         caused = tt;
       }
-  at_once r s t node body turns (Err why) h k =
+  at_once r s t node body turns (Err refusal) h k =
       record {
         ready = k.ready;
         number = same_number r s t h k.ready k.same;
@@ -97,18 +97,18 @@ module _ (worn : WornWord → Option Held → Type 0) where
         pushed = tt;
         few = tt;
         pocket = tt;
-        refused = learns s t why k.refused.0;
-        why = stops why k.refused.1;
-        caused = by_cause why k.refused.1;
+        refused = learns s t refusal k.refused.0;
+        refusal = stops refusal k.refused.1;
+        caused = by_cause refusal k.refused.1;
       }
     where
-      stops : (why : Refusal) → PutRefused worn r s t node 0 turns why → StopsPush why
+      stops : (refusal : Refusal) → PutRefused worn r s t node 0 turns refusal → StopsPush refusal
       stops Busy x = tt
       stops (WornOut word) x = tt
       stops Closed x = tt
       stops _ x = absurd x
 
-      by_cause : (why : Refusal) → PutRefused worn r s t node 0 turns why → PushRefused worn r s t turns why
+      by_cause : (refusal : Refusal) → PutRefused worn r s t node 0 turns refusal → PushRefused worn r s t turns refusal
       by_cause Busy x = ((let f = x.0 in omega arith), x.1)
       by_cause (WornOut OfFree) x = x.0
       by_cause (WornOut OfNext) x = (x.0, x.1)

@@ -44,7 +44,7 @@ pub record Puts (worn : WornWord → Option Held → Type 0) (r : Arena) (s t : 
   pub ready : IsReady r t
   pub same : KeepsName s t
   pub pushed : OnOk out (DidPush s t body × (pocket_of t ≡ None) × (spent + failed_turns (added s t) < turns))
-  pub refused : IfErr out (λ why. StopsAPush s t why × PutRefused worn r s t node spent turns why)
+  pub refused : IfErr out (λ refusal. StopsAPush s t refusal × PutRefused worn r s t node spent turns refusal)
 
 -- the cause of each refusal of a push is that of a take, or of the push of the node that it has: a word worn out, or the queue
 -- shut
@@ -52,7 +52,7 @@ abbrev pub PushRefused : (worn : WornWord → Option Held → Type 0) → Arena 
 PushRefused worn r s t turns (WornOut OfFree) = TakeRefused r s t turns (WornOut OfFree)
 PushRefused worn r s t turns (WornOut word) = MetCause r s t (WornOut word) × worn word (pocket_of t)
 PushRefused worn r s t turns Closed = MetCause r s t Closed
-PushRefused worn r s t turns why = TakeRefused r s t turns why
+PushRefused worn r s t turns refusal = TakeRefused r s t turns refusal
 
 -- fewer turns than allowed failed
 abbrev pub FailsFewer : Seat → Seat → (turns : ℕ) → Type 0
@@ -66,8 +66,8 @@ pub record AnswersPush (worn : WornWord → Option Held → Type 0) (r : Arena) 
   pub pushed : OnOk out (Pushed (known_of s) body (known_of t))
   pub few : OnOk out (FailsFewer s t turns)
   pub pocket : OnOk out (pocket_of t ≡ None)
-  pub refused : IfErr out (λ why. RefusedPush (known_of s) why (known_of t))
-  pub why : IfErr out StopsPush
+  pub refused : IfErr out (λ refusal. RefusedPush (known_of s) refusal (known_of t))
+  pub refusal : IfErr out StopsPush
   pub caused : IfErr out (PushRefused worn r s t turns)
 
 -- why a pop with an empty pocket is refused, where so many turns failed before: all turns failed, the last one at the last
@@ -99,7 +99,7 @@ pub record Draws (worn : WornWord → Type 0) (r : Arena) (s t : Seat) (spent tu
   pub few : OnOk out (spent + failed_turns (added s t) ≤ turns)
   pub freed : keeps_of s ≡ false → OnOk out (EmptiesPocket s t spent turns)
   pub kept : keeps_of s ≡ true → IfOk out (KeepsItsNode t)
-  pub refused : IfErr out (λ why. StopsAPop s t why × DrawRefused worn r s t spent turns why)
+  pub refused : IfErr out (λ refusal. StopsAPop s t refusal × DrawRefused worn r s t spent turns refusal)
 
 -- after a pop its seat's pocket is empty, or each of so many turns failed
 abbrev pub FreesItsNode : Seat → Seat → (turns : ℕ) → Type 0
@@ -107,7 +107,7 @@ FreesItsNode s t turns = (pocket_of t ≡ None) ⊎ (failed_turns (added s t) �
 
 -- why a pop is refused
 abbrev pub PopRefused : (worn : WornWord → Type 0) → Arena → Seat → Seat → (turns : ℕ) → Refusal → Type 0
-PopRefused worn r s t turns why = DrawRefused worn r s t 0 turns why
+PopRefused worn r s t turns refusal = DrawRefused worn r s t 0 turns refusal
 
 -- what a pop answers
 pub record AnswersPop (worn : WornWord → Type 0) (r : Arena) (s t : Seat) (turns : ℕ) (out : Result (Option Taken) Refusal) : Type 0 where
@@ -118,8 +118,8 @@ pub record AnswersPop (worn : WornWord → Type 0) (r : Arena) (s t : Seat) (tur
   pub few : OnOk out (FailsFew s t turns)
   pub freed : keeps_of s ≡ false → OnOk out (FreesItsNode s t turns)
   pub kept : keeps_of s ≡ true → IfOk out (KeepsItsNode t)
-  pub refused : IfErr out (λ why. RefusedPop (known_of s) why (known_of t))
-  pub why : IfErr out StopsPop
+  pub refused : IfErr out (λ refusal. RefusedPop (known_of s) refusal (known_of t))
+  pub refusal : IfErr out StopsPop
   pub caused : IfErr out (PopRefused worn r s t turns)
 
 -- a call shut the queue
@@ -141,4 +141,4 @@ pub record AnswersShut (worn : Type 0) (r : Arena) (s t : Seat) (turns : ℕ) (o
   pub pocket : pocket_of t ≡ pocket_of s
   pub shut : OnOk out (Shuts s t)
   pub few : OnOk out (FailsFewer s t turns)
-  pub refused : IfErr out (λ why. StopsAPush s t why × ShutRefused worn r s t turns why)
+  pub refused : IfErr out (λ refusal. StopsAPush s t refusal × ShutRefused worn r s t turns refusal)

@@ -132,8 +132,8 @@ impl<A: Algorithm<B>, const B: u32> Fifo for ArenaQueueOf<A, B> {
         ensures few { OnOk result (FailsFewer seat.old seat.new turns) }
         ensures pocket { OnOk result (pocket_of seat.new ≡ None) }
         ensures refused { IfErr result
-            (λ why. RefusedPush (known_of seat.old) why (known_of seat.new)) }
-        ensures why { IfErr result StopsPush }
+            (λ refusal. RefusedPush (known_of seat.old) refusal (known_of seat.new)) }
+        ensures refusal { IfErr result StopsPush }
         //= atomics/met_cause
         //= queues/queue_causes: A push, a pop and a shut of either queue are refused only with [their
         //=   cause](../crates/arena_queue/CALLING.md#the-causes-of-refusals): in the world before the call's last step
@@ -170,8 +170,8 @@ impl<A: Algorithm<B>, const B: u32> Fifo for ArenaQueueOf<A, B> {
             OnOk result (FreesItsNode seat.old seat.new turns) }
         ensures kept { keeps_of seat.old ≡ true → IfOk result (KeepsItsNode seat.new) }
         ensures refused { IfErr result
-            (λ why. RefusedPop (known_of seat.old) why (known_of seat.new)) }
-        ensures why { IfErr result StopsPop }
+            (λ refusal. RefusedPop (known_of seat.old) refusal (known_of seat.new)) }
+        ensures refusal { IfErr result StopsPop }
         //= atomics/met_cause
         //= queues/queue_causes
         ensures caused { IfErr result
@@ -203,8 +203,8 @@ impl<A: Algorithm<B>, const B: u32> Fifo for ArenaQueueOf<A, B> {
         ensures few { OnOk result (FailsFewer seat.old seat.new turns) }
         ensures pocket { pocket_of seat.new ≡ pocket_of seat.old }
         ensures refused { IfErr result
-            (λ why. RefusedPush (known_of seat.old) why (known_of seat.new)) }
-        ensures why { IfErr result StopsShut }
+            (λ refusal. RefusedPush (known_of seat.old) refusal (known_of seat.new)) }
+        ensures refusal { IfErr result StopsShut }
         //= queues/queue_causes
         ensures caused { IfErr result
             (ShutRefused A.shut_worn (arena_of self.now) seat.old seat.new turns) }
@@ -227,7 +227,7 @@ impl<A: Algorithm<B>, const B: u32> Fifo for ArenaQueueOf<A, B> {
     fn close(self, alloc: Global, seats: Vec<Seat>) -> Result<Rest, Refusal>
         requires { All (IsQueueSeat self) seats.items }
         ensures rest { IfOk result (λ r. Closes (permits_of self) (map known_of seats.items) r) }
-        ensures only_memory { IfErr result (λ why. why ≡ Refusal.Memory) }
+        ensures only_memory { IfErr result (λ refusal. refusal ≡ Refusal.Memory) }
     {
         self.arena.close(alloc, seats)
     }

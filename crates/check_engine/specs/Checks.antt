@@ -2,7 +2,7 @@
 use Rattle.std.specs.Prelude.{◌≡◌, ◌↔◌, ℕ, List, ◌++◌, Option, Some, None, ⊤, codes, decimal}
 use Rattle.std.specs.Io.KnownBytes.{Appends}
 use Rattle.text_io.specs.Devices.{SinkState}
-use Rattle.text_io.specs.Blocks.{TakesBeginning}
+use Rattle.text_io.specs.Blocks.{TakesPrefix}
 use Rattle.history.specs.History.{Placement, IsLegal, verdict}
 use Rattle.history_text.specs.HistoryLines.{IsHistoryInRange, IsFirstFaultOfHistory}
 use Rattle.history_text.specs.HistoryText.{history_text}
@@ -46,14 +46,14 @@ pub record TellsVerdict (given : Option (List ℕ)) (old new : SinkState) (answe
   pub yes : (answer ≡ Yes) ↔ (Placement operations × IsLegal operations)
   pub written : Appends old.contents new.contents (verdict_text operations answer)
 
--- known bytes were the text of a history, and a beginning of the text that tells the verdict on it was written
+-- known bytes were the text of a history, and a prefix of the text that tells the verdict on it was written
 pub record BeginsVerdict (given : Option (List ℕ)) (old new : SinkState) : Type 0 where
   pub operations : List Stamped
   pub history : IsTextOf given operations
-  pub begun : TakesBeginning old.contents new.contents (verdict_text operations (verdict operations))
+  pub begun : TakesPrefix old.contents new.contents (verdict_text operations (verdict operations))
 
 -- where known bytes are refused as a text, that is their first faulty line as a history, and what is wrong with it
 abbrev pub TellsFirstFault : (given : Option (List ℕ)) → Refusal → Type 0
-TellsFirstFault None why = ⊤
+TellsFirstFault None refusal = ⊤
 TellsFirstFault (Some text) (Text number cause) = IsFirstFaultOfHistory text (Text number cause)
 TellsFirstFault (Some text) _ = ⊤

@@ -1,7 +1,7 @@
 //! The engine of `check`: from the bytes of a history to the verdict on it.
 ghost use Rattle.std.specs.Prelude.{◌≡◌, ◌≢◌, ◌≤◌, ◌⊎◌, IfErr, IfOk, OnOk, length};
 ghost use Rattle.std.specs.Io.KnownBytes.{Appends};
-ghost use Rattle.text_io.specs.Blocks.{TakesBeginning, GivesUp};
+ghost use Rattle.text_io.specs.Blocks.{TakesPrefix, GivesUp};
 ghost use Rattle.engine_faults.specs.Faults.{IsRunRefusal};
 ghost use Rattle.check_engine.specs.Checks.{cause_name, no_text, verdict_text, IsTextOf, TellsVerdict, BeginsVerdict, TellsFirstFault};
 ghost use Rattle.text_io.specs.Readings.{EndsReadingFor};
@@ -25,20 +25,21 @@ pub fn check_text<R: Source, W: Sink>(
 ) -> Result<Verdict, Refusal>
     //= program/check (ok, quiet): `msq check` answers the verdict on the history read, Yes exactly where that is placed
     //=   and legal, and its text is written.
-    //= program/judge_refusals (ok, text, beginning, write, unwritten, refusal, reader): `msq check` and `msq place`
+    //= program/judge_refusals (ok, text, prefix, write, unwritten, refusal, reader): `msq check` and `msq place`
     //=   have the usual refusals, for a faulty text of either kind.
     ensures ok { IfOk result (TellsVerdict (R.state reader.old).left (W.state writer.old)
         (W.state writer.new)) }
     ensures quiet { OnOk result ((W.state writer.new).failures ≡ (W.state writer.old).failures) }
     // A text is refused by its first faulty line.
     ensures text { IfErr result (TellsFirstFault (R.state reader.old).left) }
-    // Where writing fails, a beginning of the text that tells the verdict is written.
-    ensures beginning { IfErr result (λ why. why ≡ Refusal.Write
+    // Where writing fails, a prefix of the text that tells the verdict is written.
+    ensures prefix { IfErr result (λ refusal. refusal ≡ Refusal.Write
         → BeginsVerdict (R.state reader.old).left (W.state writer.old) (W.state writer.new)) }
-    ensures write { IfErr result (λ why. why ≡ Refusal.Write
+    ensures write { IfErr result (λ refusal. refusal ≡ Refusal.Write
         → GivesUp (W.state writer.old) (W.state writer.new)) }
     // At any other refusal nothing is.
-    ensures unwritten { IfErr result (λ why. why ≢ Refusal.Write → writer.new ≡ writer.old) }
+    ensures unwritten { IfErr result
+        (λ refusal. refusal ≢ Refusal.Write → writer.new ≡ writer.old) }
     ensures refusal { IfErr result IsRunRefusal }
     ensures reader { EndsReadingFor result (R.state reader.old) (R.state reader.new) }
 {
@@ -58,7 +59,7 @@ pub fn history_in<R: Source>(alloc: Global, reader: &mut R) -> Result<Vec<Stampe
     //=   `record_in`, the one of a recording in range whose text they were. A faulty text. The reader tells its end.
     ensures ok { IfOk result (λ history. IsTextOf (R.state reader.old).left history.items) }
     ensures text { IfErr result (TellsFirstFault (R.state reader.old).left) }
-    ensures unwritten { IfErr result (λ why. why ≢ Refusal.Write) }
+    ensures unwritten { IfErr result (λ refusal. refusal ≢ Refusal.Write) }
     ensures refusal { IfErr result IsRunRefusal }
     ensures reader { EndsReadingFor result (R.state reader.old) (R.state reader.new) }
 {
@@ -75,12 +76,14 @@ fn tell<W: Sink>(
     ensures ok { OnOk result (Appends (W.state writer.old).contents (W.state writer.new).contents
         (verdict_text history.now verdict)) }
     ensures quiet { OnOk result ((W.state writer.new).failures ≡ (W.state writer.old).failures) }
-    ensures only { IfErr result (λ why. (why ≡ Refusal.Memory) ⊎ (why ≡ Refusal.Write)) }
-    ensures unwritten { IfErr result (λ why. why ≡ Refusal.Memory → writer.new ≡ writer.old) }
-    ensures beginning { IfErr result (λ why. why ≡ Refusal.Write
-        → TakesBeginning (W.state writer.old).contents (W.state writer.new).contents
+    ensures only { IfErr result
+        (λ refusal. (refusal ≡ Refusal.Memory) ⊎ (refusal ≡ Refusal.Write)) }
+    ensures unwritten { IfErr result
+        (λ refusal. refusal ≡ Refusal.Memory → writer.new ≡ writer.old) }
+    ensures prefix { IfErr result (λ refusal. refusal ≡ Refusal.Write
+        → TakesPrefix (W.state writer.old).contents (W.state writer.new).contents
         (verdict_text history.now verdict)) }
-    ensures cause { IfErr result (λ why. why ≡ Refusal.Write
+    ensures cause { IfErr result (λ refusal. refusal ≡ Refusal.Write
         → GivesUp (W.state writer.old) (W.state writer.new)) }
 {
     match verdict {

@@ -31,4 +31,4 @@ StopsWorkers _ = ⊥
 -- a list of jobs may be refused so: a size is out of its range, a job has no result, or memory was refused
 abbrev pub StopsDispatch : Refusal → Type 0
 StopsDispatch BadSize = Unit {0}
-StopsDispatch why = StopsWorkers why
+StopsDispatch refusal = StopsWorkers refusal

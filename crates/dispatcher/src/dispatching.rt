@@ -58,7 +58,7 @@ fn start_all<'s, 'a: 's, E, R: Threads + Wait + Sync, Q: Fifo + Sync, G: Gate + 
     signals: &'s Signals,
 ) -> Result<Vec<JoinHandle<Vec<JobResult<'a>>>>, Refusal>
     requires { All (IsTaker Q.is_seat Q.permits Q.known queue.now) takers.items }
-    ensures { IfErr result (λ why. why ≡ Refusal.Memory) }
+    ensures { IfErr result (λ refusal. refusal ≡ Refusal.Memory) }
 {
     let mut handles = Vec::new(alloc);
     if handles.reserve(takers.len()).is_err() {
@@ -111,7 +111,7 @@ fn run<'s, 'a: 's, E, R: Threads + Wait + Sync, Q: Fifo + Sync, G: Gate + Sync>(
     requires takers { All (IsTaker Q.is_seat Q.permits Q.known queue.now) takers.items }
     ensures rows { IfOk result (λ results. map row_of results.items ≡ job_rows 1 jobs.now) }
     ensures same { IfOk result (λ results. HaveJobs results.items jobs.now) }
-    ensures why { IfErr result StopsWorkers }
+    ensures refusal { IfErr result StopsWorkers }
 {
     let mut gather = Gather::new(alloc, jobs)?;
     let seats = takers.len();
@@ -137,7 +137,7 @@ fn run_in_scope<'a, R: Threads + Wait + Sync, Q: Fifo + Sync, G: Gate + Sync>(
     requires takers { All (IsTaker Q.is_seat Q.permits Q.known queue.now) takers.items }
     ensures rows { IfOk result (λ results. map row_of results.items ≡ job_rows 1 jobs.now) }
     ensures same { IfOk result (λ results. HaveJobs results.items jobs.now) }
-    ensures why { IfErr result StopsWorkers }
+    ensures refusal { IfErr result StopsWorkers }
 {
     let signals = Signals::new();
     let told = &signals;
@@ -150,7 +150,7 @@ fn run_in_scope<'a, R: Threads + Wait + Sync, Q: Fifo + Sync, G: Gate + Sync>(
             ensures rows { IfOk result (λ results.
                 map row_of results.items ≡ job_rows 1 jobs.entry.now) }
             ensures same { IfOk result (λ results. HaveJobs results.items jobs.entry.now) }
-            ensures why { IfErr result StopsWorkers }
+            ensures refusal { IfErr result StopsWorkers }
         { run(scope, rt, alloc, queue, giver, takers, jobs, gate, told) },
     )
 }
@@ -182,13 +182,13 @@ pub fn dispatch<'a, R: Threads + Wait + Sync, Q: Fifo + Sync, G: Gate + Sync>(
 ) -> Result<Vec<JobResult<'a>>, Refusal>
     requires giver { IsGiver Q.is_seat Q.permits Q.known queue.now giver }
     requires takers { All (IsTaker Q.is_seat Q.permits Q.known queue.now) takers.items }
-    //= jobs/dispatch (rows, same, sized, why): A dispatch answers each job's number, kind and value once, in the order
+    //= jobs/dispatch (rows, same, sized, refusal): A dispatch answers each job's number, kind and value once, in the order
     //=   of the jobs. `BadSize` comes exactly where there is no taker or more than 1,000,000 jobs; else `Lost` and
     //=   `Memory`.
     ensures rows { IfOk result (λ results. map row_of results.items ≡ job_rows 1 jobs.now) }
     ensures same { IfOk result (λ results. HaveJobs results.items jobs.now) }
     ensures sized { (result ≡ Err Refusal.BadSize) ↔ IsBadSize takers.items jobs.now }
-    ensures why { IfErr result StopsDispatch }
+    ensures refusal { IfErr result StopsDispatch }
 {
     if takers.is_empty() || jobs.len() > MOST_JOBS {
         return Err(Refusal::BadSize);

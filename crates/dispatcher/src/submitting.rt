@@ -30,7 +30,7 @@ fn push_one<R: Wait, Q: Fifo>(
         match queue.try_push(seat, body, TURNS) {
             Ok(()) => return Ok(()),
             Err(Refusal::Busy) | Err(Refusal::NoNode) => backoff.snooze(),
-            Err(why) => return Err(why),
+            Err(refusal) => return Err(refusal),
         }
     }
     unreachable!()
@@ -71,6 +71,6 @@ pub(crate) fn submit<R: Wait, Q: Fifo>(
     let _ = push_all(rt, queue, seat, jobs, workers, signals);
     match queue.shut(rt, seat) {
         Ok(()) | Err(Refusal::Closed) => Ok(()),
-        Err(why) => Err(why),
+        Err(refusal) => Err(refusal),
     }
 }

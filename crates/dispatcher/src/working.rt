@@ -27,8 +27,9 @@ fn take_number<Q: Fifo>(queue: &Q, seat: &mut Q::Seat, turns: u32) -> Result<Opt
     ensures seat { Q.is_seat queue.now seat.new }
     ensures number { (Q.known seat.new).number ≡ (Q.known seat.old).number }
     ensures taken { IfOk result (TakesNumber (Q.known seat.old) (Q.known seat.new)) }
-    ensures refused { IfErr result (λ why. PopRefused (Q.known seat.old) why (Q.known seat.new)) }
-    ensures why { IfErr result StopsPop }
+    ensures refused { IfErr result
+        (λ refusal. PopRefused (Q.known seat.old) refusal (Q.known seat.new)) }
+    ensures refusal { IfErr result StopsPop }
     ensures caused { IfErr result (Q.pop_cause queue.now seat.old seat.new turns) }
 {
     let Some(taken) = queue.try_pop(seat, turns)? else {
@@ -47,7 +48,7 @@ fn do_job<'a, G: Gate>(
 ) -> Result<(), Refusal>
     requires { vec_len out.old < vec_capacity out.old }
     ensures put { OnOk result (PutsResult jobs.now number out.old.items out.new.items) }
-    ensures why { IfErr result (λ why. why ≡ Refusal.Stranger) }
+    ensures refusal { IfErr result (λ refusal. refusal ≡ Refusal.Stranger) }
     ensures none { OnErr result (IsNoJob jobs.now number) }
     ensures refused { OnErr result (out.new.items ≡ out.old.items) }
 {
@@ -99,10 +100,10 @@ pub fn work_one<'a, Q: Fifo, G: Gate>(
     //=   notes.
     ensures worked { IfOk result
         (Works jobs.now (Q.known seat.old) (Q.known seat.new) out.old.items out.new.items) }
-    //= jobs/refused_turn (why, caused, refused): A refused turn leaves the results. At `Memory` what the seat knows
+    //= jobs/refused_turn (refusal, caused, refused): A refused turn leaves the results. At `Memory` what the seat knows
     //=   stays; at `WornOut` and `Busy` nothing was taken, and it hands on, as at `Stop`; at `Stranger` a number was
     //=   taken that is 0 or above the jobs'.
-    ensures why { IfErr result (WorksNot jobs.now (Q.known seat.old) (Q.known seat.new)) }
+    ensures refusal { IfErr result (WorksNot jobs.now (Q.known seat.old) (Q.known seat.new)) }
     // `Stop` is a pop that was refused, so it has a cause too.
     ensures caused { HandsOn (Q.pop_cause queue.now seat.old seat.new turns) result }
     ensures refused { OnErr result (out.new.items ≡ out.old.items) }
@@ -114,7 +115,7 @@ pub fn work_one<'a, Q: Fifo, G: Gate>(
         Ok(Some(number)) => number,
         Ok(None) => return Ok(Worked::Empty),
         Err(Refusal::Closed) => return Ok(Worked::Stop),
-        Err(why) => return Err(why),
+        Err(refusal) => return Err(refusal),
     };
     do_job(jobs, gate, out, number)?;
     Ok(Worked::Did(number))

@@ -2,7 +2,7 @@
 use Rattle.std.specs.Prelude.{◌≡◌, ◌⊎◌, ℕ, List, Result, Ok, Err}
 use Rattle.std.specs.Io.KnownBytes.{Appends}
 use Rattle.text_io.specs.Devices.{SinkState}
-use Rattle.text_io.specs.Blocks.{TakesBeginning, GivesUp}
+use Rattle.text_io.specs.Blocks.{TakesPrefix, GivesUp}
 use Rattle.text_lines.specs.Lines.{HasNo, line}
 use Rattle.history.specs.declared.operations.Verdict.{Verdict}
 use Rattle.history.specs.declared.operations.Verdict.TheVariants.{Yes, No}
@@ -26,4 +26,4 @@ status_of (Err fault) = 1
 abbrev pub TakesLine : (old new : SinkState) → Type 0
 TakesLine old new =
     (text : List ℕ) × HasNo 10 text × ((Appends old.contents new.contents (line text) × (new.failures ≡ old.failures))
-    ⊎ (TakesBeginning old.contents new.contents (line text) × GivesUp old new))
+    ⊎ (TakesPrefix old.contents new.contents (line text) × GivesUp old new))

@@ -30,5 +30,5 @@ IsMoveRefusal _ = ⊥
 
 -- the events of a schedule were refused memory, or one of them was refused, with its line, the seventh or a later one
 abbrev pub IsEventFault : Refusal → Option ℕ → Type 0
-IsEventFault why None = why ≡ Memory
-IsEventFault why (Some line) = IsEventRefusal why × (7 ≤ line)
+IsEventFault refusal None = refusal ≡ Memory
+IsEventFault refusal (Some line) = IsEventRefusal refusal × (7 ≤ line)

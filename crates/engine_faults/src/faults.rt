@@ -34,7 +34,7 @@ impl Fault {
 impl From<Refusal> for Fault {
     ghost use Rattle.std.specs.Prelude.{None};
 
-    ghost from_gives = { λ why fault. fault ≡ record { refusal = why; line = None } };
+    ghost from_gives = { λ refusal fault. fault ≡ record { refusal = refusal; line = None } };
 
     fn from(refusal: Refusal) -> Fault {
         Fault {

@@ -43,17 +43,17 @@ module _ (r : Arena) (s t : Seat) (prologue : Prologue) (a : Running) (n : ℕ) 
   after_n1 h d = stands_on r t N2 (record a { f = n }) d.seat (ap (λ x. x.line) d.told.actor) (ap (λ x. x.f) d.told.actor ∙ sym d.told.found)
 
   -- N2
-  pub record Ended (d : DidStep r s t prologue N2 n) (why : Refusal) : Type 0 where
+  pub record Ended (d : DidStep r s t prologue N2 n) (refusal : Refusal) : Type 0 where
     pub over : (view t).actor.line ≡ None
     pub empty : (view t).actor.pocket ≡ None
-    pub replies : (outcome_at r.plan.setup d.told.was (view s).number b N2).reply ≡ Some (Refused why)
-    pub possible : IsRefusedBy why
+    pub replies : (outcome_at r.plan.setup d.told.was (view s).number b N2).reply ≡ Some (Refused refusal)
+    pub possible : IsRefusedBy refusal
 
   abbrev pub Second : DidStep r s t prologue N2 n → Outcome Running → Type 0
   Second d (Goes N3 a') = CallIsAt r t continues N3 a'
   Second d (Goes N5 a') = CallIsAt r t continues N5 a'
   Second d (Goes l a') = ⊥
-  Second d (Ends (IsRefused why)) = Ended d why
+  Second d (Ends (IsRefused refusal)) = Ended d refusal
   Second d (Ends reply) = ⊥
 
   abbrev second_outcome : (now : ℕ) → Ref → (p q u : Bool) → MachineOutcome

@@ -82,8 +82,8 @@ module _ (r : Arena) (s t : Seat) (n : ℕ) (h : Trying r s t n) where
       }
 
   -- a turn was refused
-  pub refused : (x : Seat) (turns : ℕ) (why : Refusal) → n < turns → Turns r t x (Refused why) → AnswersTake r s (keeping x None n) turns (Err why)
-  refused x turns why less d =
+  pub refused : (x : Seat) (turns : ℕ) (refusal : Refusal) → n < turns → Turns r t x (Refused refusal) → AnswersTake r s (keeping x None n) turns (Err refusal)
+  refused x turns refusal less d =
       let es : List Event = h.lines ++ d.lines in
       let p : Passes (view s) (view x) es = pass_then (view s) (view t) (view x) h.lines d.lines h.walks d.walks in
       let all : failed_turns es ≡ n = (let f = h.failed in let z = d.turned.never in let e = failed-append h.lines d.lines in omega arith) in
@@ -101,14 +101,14 @@ module _ (r : Arena) (s t : Seat) (n : ℕ) (h : Trying r s t n) where
         lines = subst (ExtendsPath (view s) (view x)) (sym e) p.walks;
         seen = p.same;
         taken = tt;
-        refused = by_cause x turns why d.turned.possible (last_held r s (keeping x None n) es _ e (stopped_behind r s t h.lines d.lines why h.walks.walks d.turned.cause));
+        refused = by_cause x turns refusal d.turned.possible (last_held r s (keeping x None n) es _ e (stopped_behind r s t h.lines d.lines refusal h.walks.walks d.turned.cause));
         failed = sym (ap failed_turns e ∙ all);
         fewer = λ other. less;
       }
     where
-      by_cause : (x : Seat) (turns : ℕ) (why : Refusal) → IsRefusedBy why → MetCause r s (keeping x None n) why → TakeRefused r s (keeping x None n) turns why
-      by_cause x turns why (inl e) c = subst (TakeRefused r s (keeping x None n) turns) (sym e) (subst (MetCause r s (keeping x None n)) e c)
-      by_cause x turns why (inr e) c = subst (TakeRefused r s (keeping x None n) turns) (sym e) (subst (MetCause r s (keeping x None n)) e c)
+      by_cause : (x : Seat) (turns : ℕ) (refusal : Refusal) → IsRefusedBy refusal → MetCause r s (keeping x None n) refusal → TakeRefused r s (keeping x None n) turns refusal
+      by_cause x turns refusal (inl e) c = subst (TakeRefused r s (keeping x None n) turns) (sym e) (subst (MetCause r s (keeping x None n)) e c)
+      by_cause x turns refusal (inr e) c = subst (TakeRefused r s (keeping x None n) turns) (sym e) (subst (MetCause r s (keeping x None n)) e c)
 
 -- all turns failed
 pub gave_up : (r : Arena) (s t : Seat) (turns : ℕ) → 1 ≤ turns → Trying r s t turns → AnswersTake r s (keeping t None turns) turns (Err Busy)

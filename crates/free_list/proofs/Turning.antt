@@ -91,14 +91,14 @@ module _ (r : Arena) (s u t : Seat) (prologue : Prologue) (a a1 : Running) (l1 :
   second_is = subst (Second r u t continues a1 g.found g.did) (sym g.leads_to) (after_n2 r u t continues a1 g.found h g.did)
 
   -- a turn that is refused
-  refused_turn : (why : Refusal) → out ≡ Ends (IsRefused why) → Turns r s t (Refused why)
-  refused_turn why e =
-      let o : Ended r u t continues a1 g.found g.did why = subst (Second r u t continues a1 g.found g.did) e second_is in
+  refused_turn : (refusal : Refusal) → out ≡ Ends (IsRefused refusal) → Turns r s t (Refused refusal)
+  refused_turn refusal e =
+      let o : Ended r u t continues a1 g.found g.did refusal = subst (Second r u t continues a1 g.found g.did) e second_is in
       record {
         stored = look_stored;
         lines = looks;
         walks = look_walk;
-        turned = record { seat = g.did.seat; over = o.over; empty = o.empty; never = refl; cause = stopped_at r u t continues N2 g.found g.did s (one ∷ []) why (walk_on r s u prologue N1 f.found f.did refl tt) o.replies; possible = o.possible };
+        turned = record { seat = g.did.seat; over = o.over; empty = o.empty; never = refl; cause = stopped_at r u t continues N2 g.found g.did s (one ∷ []) refusal (walk_on r s u prologue N1 f.found f.did refl tt) o.replies; possible = o.possible };
       }
 
   -- a turn that goes on nowhere is refused
@@ -107,7 +107,7 @@ module _ (r : Arena) (s u t : Seat) (prologue : Prologue) (a a1 : Running) (l1 :
     where
       go : (o : Outcome Running) → out ≡ o → Turns r s t (turn_of o)
       go (Goes k b) e = absurd (never k b e)
-      go (Ends (IsRefused why)) e = refused_turn why e
+      go (Ends (IsRefused refusal)) e = refused_turn refusal e
       go (Ends Done) e = absurd (subst (Second r u t continues a1 g.found g.did) e second_is)
       go (Ends (Value word)) e = absurd (subst (Second r u t continues a1 g.found g.did) e second_is)
       go (Ends Empty) e = absurd (subst (Second r u t continues a1 g.found g.did) e second_is)

@@ -58,7 +58,7 @@ IsGivenBack r s t = IfSome (pocket_of s) (λ held. NowHolds r t (IsBack held.nod
 
 -- a give back is refused Busy alone, after so many failed turns, the last one at the last step
 abbrev pub GiveBackRefused : Seat → Seat → (turns : ℕ) → Refusal → Type 0
-GiveBackRefused s t turns why = (why ≡ Busy) × (failed_turns (added s t) ≡ turns) × EndsFailed s t
+GiveBackRefused s t turns refusal = (refusal ≡ Busy) × (failed_turns (added s t) ≡ turns) × EndsFailed s t
 
 -- what a give back answers
 pub record GiveAnswers (r : Arena) (s t : Seat) (turns : ℕ) (out : Result (Unit {0}) Refusal) : Type 0 where

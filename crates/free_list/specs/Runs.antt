@@ -56,7 +56,7 @@ in_hand a = record { node = a.node; mark = a.mark }
 abbrev pub turn_of : Outcome Running → Turn
 turn_of (Goes N1 a) = Failed
 turn_of (Goes l a) = Took (in_hand a)
-turn_of (Ends (IsRefused why)) = Refused why
+turn_of (Ends (IsRefused refusal)) = Refused refusal
 turn_of (Ends reply) = Failed
 
 -- the turn of a give back that ends so

@@ -40,7 +40,7 @@ FailsFewer turns out n = (out ≡ Err Busy → ⊥) → n < turns
 
 -- a turn of a take is refused by these alone
 abbrev pub IsRefusedBy : Refusal → Type 0
-IsRefusedBy why = (why ≡ NoNode) ⊎ (why ≡ WornOut OfFree)
+IsRefusedBy refusal = (refusal ≡ NoNode) ⊎ (refusal ≡ WornOut OfFree)
 
 -- a node came into the hand
 pub record Got (r : Arena) (s t : Seat) (es : List Event) (h : Held) : Type 0 where
@@ -59,19 +59,19 @@ pub record Fell (r : Arena) (t : Seat) (es : List Event) : Type 0 where
   pub last : FailedAt es
 
 -- a turn that was refused
-pub record Refuses (r : Arena) (s t : Seat) (es : List Event) (why : Refusal) : Type 0 where
+pub record Refuses (r : Arena) (s t : Seat) (es : List Event) (refusal : Refusal) : Type 0 where
   pub seat : IsSeat r t
   pub over : (view t).actor.line ≡ None
   pub empty : (view t).actor.pocket ≡ None
   pub never : failed_turns es ≡ 0
-  pub cause : EndedAt r s es (IsRefusedAt r.plan.setup (view s).number why)
-  pub possible : IsRefusedBy why
+  pub cause : EndedAt r s es (IsRefusedAt r.plan.setup (view s).number refusal)
+  pub possible : IsRefusedBy refusal
 
 -- what a turn leads to
 abbrev pub Turned : Arena → Seat → Seat → List Event → Turn → Type 0
 Turned r s t es (Took h) = Got r s t es h
 Turned r s t es Failed = Fell r t es
-Turned r s t es (Refused why) = Refuses r s t es why
+Turned r s t es (Refused refusal) = Refuses r s t es refusal
 
 -- a turn of a take, from one line N1 to its end
 pub record Turns (r : Arena) (s t : Seat) (out : Turn) : Type 0 where

@@ -83,7 +83,7 @@ pub(crate) fn turned<const B: u32>(outcome: Outcome<ActorOf<B>>) -> Turn
             node: a.node,
             mark: a.mark,
         }),
-        Outcome::Ends(Reply::Refused(why)) => Turn::Refused(why),
+        Outcome::Ends(Reply::Refused(refusal)) => Turn::Refused(refusal),
         Outcome::Ends(_) => Turn::Failed,
     }
 }

@@ -98,9 +98,9 @@ fn take_within<const B: u32>(
                 seat.keep(Some(held), index);
                 return Ok(held);
             }
-            Turn::Refused(why) => {
+            Turn::Refused(refusal) => {
                 seat.keep(None, index);
-                return Err(why);
+                return Err(refusal);
             }
             Turn::Failed => {}
         }

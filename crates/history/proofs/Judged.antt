@@ -74,8 +74,8 @@ no_fault_from_placement ops p = no_fault_in ops [] 1 p.each (alone ops) p.apart
 -- a reply that the queue gives passes the test
 pub got : (queue : Queue) (o : Stamped) (r : Option Reply) → AgreesWithQueue queue o r → agrees_with_queue queue o r ≡ true
 got queue o None h = refl
-got queue o (Some (Refused why)) (inl h) = ap (λ b. b || is_closed why && refuses (response o.actor o.op queue).reply) h
-got queue o (Some (Refused why)) (inr h) =
+got queue o (Some (Refused refusal)) (inl h) = ap (λ b. b || is_closed refusal && refuses (response o.actor o.op queue).reply) h
+got queue o (Some (Refused refusal)) (inr h) =
     ap (λ x. leaves x || is_closed x && refuses (response o.actor o.op queue).reply) h.0 ∙ ap refuses (sym h.1)
 got queue o (Some Done) h = subst (λ q. same_reply Done q ≡ true) h refl
 got queue o (Some Empty) h = subst (λ q. same_reply Empty q ≡ true) h refl

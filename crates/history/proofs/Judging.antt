@@ -93,24 +93,24 @@ same_answer (Value v) (Value w) e = ap Value (same_value v w e)
 same_answer _ _ e = cc e
 
 -- a refusal that is tested to be that the queue is shut, and a reply that is tested to be it
-closed_is : (why : Refusal) → is_closed why ≡ true → why ≡ Closed
+closed_is : (refusal : Refusal) → is_closed refusal ≡ true → refusal ≡ Closed
 closed_is Closed e = refl
 closed_is _ e = cc e
 
 refuses_is : (given : Reply) → refuses given ≡ true → Refused Closed ≡ given
-refuses_is (Refused why) e = ap Refused (sym (closed_is why e))
+refuses_is (Refused refusal) e = ap Refused (sym (closed_is refusal e))
 refuses_is _ e = cc e
 
-refused_right : (b : Bool) (given : Reply) (why : Refusal) → leaves why ≡ b → (b || is_closed why && refuses given) ≡ true → (leaves why ≡ true) ⊎ ((why ≡ Closed) × (Refused Closed ≡ given))
-refused_right true given why is e = inl is
-refused_right false given why is e =
-    let h = and_parts (is_closed why) (refuses given) e in
-    inr (closed_is why h.0, refuses_is given h.1)
+refused_right : (b : Bool) (given : Reply) (refusal : Refusal) → leaves refusal ≡ b → (b || is_closed refusal && refuses given) ≡ true → (leaves refusal ≡ true) ⊎ ((refusal ≡ Closed) × (Refused Closed ≡ given))
+refused_right true given refusal is e = inl is
+refused_right false given refusal is e =
+    let h = and_parts (is_closed refusal) (refuses given) e in
+    inr (closed_is refusal h.0, refuses_is given h.1)
 
 -- the queue gives a reply that passes the test
 pub gets_right : (queue : Queue) (o : Stamped) (r : Option Reply) → agrees_with_queue queue o r ≡ true → AgreesWithQueue queue o r
 gets_right queue o None e = tt
-gets_right queue o (Some (Refused why)) e = refused_right (leaves why) (response o.actor o.op queue).reply why refl e
+gets_right queue o (Some (Refused refusal)) e = refused_right (leaves refusal) (response o.actor o.op queue).reply refusal refl e
 gets_right queue o (Some Done) e = same_answer Done _ e
 gets_right queue o (Some (Value v)) e = same_answer (Value v) _ e
 gets_right queue o (Some Empty) e = same_answer Empty _ e

@@ -71,12 +71,12 @@ shut_empty_then a b c f g =
     }
 
 -- a seat that was refused, and then was refused a push
-pub push_refused_then : (a b c : Known) (why : Refusal) → SeesMore a b → PushRefused b why c → PushRefused a why c
+pub push_refused_then : (a b c : Known) (refusal : Refusal) → SeesMore a b → PushRefused b refusal c → PushRefused a refusal c
 push_refused_then a b c Closed f g = shut_then a b c f g
 push_refused_then a b c _ f g = sees_then a b c f g
 
 -- or a pop
-pub pop_refused_then : (a b c : Known) (why : Refusal) → SeesMore a b → PopRefused b why c → PopRefused a why c
+pub pop_refused_then : (a b c : Known) (refusal : Refusal) → SeesMore a b → PopRefused b refusal c → PopRefused a refusal c
 pop_refused_then a b c Closed f g = shut_empty_then a b c f g
 pop_refused_then a b c _ f g = sees_then a b c f g
 

@@ -13,7 +13,7 @@ use Rattle.history.specs.Queue.{Queue, empty, Answer, response, front_of}
 use Rattle.history.specs.declared.refusals.Refusal.{Refusal}
 use Rattle.history.specs.declared.refusals.Refusal.TheVariants.{Closed}
 use Rattle.history.specs.History.{LiesIn, IsPlaced, Placement, point_or_zero, inserted, by_point, AgreesWithQueue, answer, IsSequentialRun, IsLegal}
-use Rattle.history.specs.Linearizability.{Answered, operations_of, IsPending, GivesWhatWasTold, MayComeBefore, KeepsTime, IsRun, IsLinearizable}
+use Rattle.history.specs.Linearizability.{Answered, operations_of, IsPending, GivesRecordedReply, MayComeBefore, KeepsTime, IsRun, IsLinearizable}
 use Rattle.history.specs.Order.{Rises}
 use Rattle.history.proofs.Ordered.{rising_moves, rising_rises}
 
@@ -121,25 +121,25 @@ gives_told : (queue : Queue) (o : Stamped) (reply : Option Reply) → IfSome rep
 gives_told queue o None = tt
 gives_told queue o (Some reply) = refl
 
-all_told : (queue : Queue) (os : List Stamped) → AllByRecursion GivesWhatWasTold (answered queue os)
+all_told : (queue : Queue) (os : List Stamped) → AllByRecursion GivesRecordedReply (answered queue os)
 all_told queue [] = tt
 all_told queue (o ∷ os) = (gives_told queue o o.reply, all_told (answer queue o o.reply).after os)
 
 -- a reply that may be given: a refusal is that the queue is shut, which then stays as it is
 abbrev IsGiven : Queue → Answer → Type 0
-IsGiven queue given = (why : Refusal) → given.reply ≡ Refused why → (why ≡ Closed) × (given.after ≡ queue)
+IsGiven queue given = (refusal : Refusal) → given.reply ≡ Refused refusal → (refusal ≡ Closed) × (given.after ≡ queue)
 
 unless_shut_is_given : (shut : Bool) (queue after : Queue) → IsGiven queue (if shut then record { reply = Refused Closed; after = queue } else record { reply = Done; after = after })
-unless_shut_is_given true queue after why e = (cc, refl)
-unless_shut_is_given false queue after why e = absurd cc
+unless_shut_is_given true queue after refusal e = (cc, refl)
+unless_shut_is_given false queue after refusal e = absurd cc
 
 none_is_given : (shut : Bool) (queue : Queue) → IsGiven queue (record { reply = if shut then Refused Closed else Empty; after = queue })
-none_is_given true queue why e = (cc, refl)
-none_is_given false queue why e = absurd cc
+none_is_given true queue refusal e = (cc, refl)
+none_is_given false queue refusal e = absurd cc
 
 front_is_given : (queue : Queue) (values : List Taken) → IsGiven queue (front_of queue values)
-front_is_given queue [] why e = none_is_given queue.shut queue why e
-front_is_given queue (front ∷ rest) why e = absurd cc
+front_is_given queue [] refusal e = none_is_given queue.shut queue refusal e
+front_is_given queue (front ∷ rest) refusal e = absurd cc
 
 given_is_given : (actor : ℕ) (op : Op) (queue : Queue) → IsGiven queue (response actor op queue)
 given_is_given actor (Enq body) queue = unless_shut_is_given queue.shut queue _
@@ -151,8 +151,8 @@ gets_given : (queue : Queue) (o : Stamped) (given : Answer) (reply : Reply) → 
 gets_given queue o given Done is e n = (e ∙ ap (λ a. a.reply) is, refl)
 gets_given queue o given (Value v) is e n = (e ∙ ap (λ a. a.reply) is, refl)
 gets_given queue o given Empty is e n = (e ∙ ap (λ a. a.reply) is, refl)
-gets_given queue o given (Refused why) is e n =
-    let h = n why (sym e) in (
+gets_given queue o given (Refused refusal) is e n =
+    let h = n refusal (sym e) in (
       inr (h.0, ap Refused (sym h.0) ∙ e ∙ ap (λ a. a.reply) is),
       (λ i. record { reply = e i; after = sym h.1 i }) ∙ is,
     )

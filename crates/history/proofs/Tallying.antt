@@ -11,7 +11,7 @@ use Rattle.history.specs.declared.operations.Reply.TheVariants.{Done, Value, Emp
 use Rattle.history.specs.declared.operations.Stamped.{Stamped}
 use Rattle.history.specs.Queue.{Queue, empty, response}
 use Rattle.history.specs.History.{AgreesWithQueue, answer, same_reply}
-use Rattle.history.specs.Linearizability.{Answered, operations_of, IsPending, GivesWhatWasTold, IsRun, IsLinearizable}
+use Rattle.history.specs.Linearizability.{Answered, operations_of, IsPending, GivesRecordedReply, IsRun, IsLinearizable}
 use Rattle.history.specs.SmallHistories.{five, taken_twice}
 use Rattle.history.specs.Tallies.{is_told, is_not_refused, is_push_of, takes, pushes}
 
@@ -60,7 +60,7 @@ with_reply v queue o reply h =
 
 -- what the queue has of a value and what is taken of it is what it had and what is pushed
 step_tally : (v : Taken) (queue : Queue) (o : Stamped) (reply : Reply) → AgreesWithQueue queue o (Some reply) → one_if (same_reply (Value v) reply) + copies v (answer queue o (Some reply)).after.values ≤ one_if (is_not_refused (Some reply) && is_push_of v o.actor o.op) + copies v queue.values
-step_tally v queue o (Refused why) h = omega arith
+step_tally v queue o (Refused refusal) h = omega arith
 step_tally v queue o Done h =
     with_reply v queue o _ h
 step_tally v queue o (Value w) h =
@@ -86,7 +86,7 @@ told_tally v (Some told) reply h =
     subst (λ r. one_if (same_reply (Value v) told) ≤ one_if (same_reply (Value v) r)) (sym h) (omega arith)
 
 pushed_tally : (b : Bool) (told : Option Reply) (reply : Reply) → IfSome told (λ told. reply ≡ told) → one_if (is_not_refused (Some reply) && b) ≤ one_if (is_not_refused told && b)
-pushed_tally b None (Refused why) h = omega arith
+pushed_tally b None (Refused refusal) h = omega arith
 pushed_tally b None Done h = omega arith
 pushed_tally b None (Value v) h = omega arith
 pushed_tally b None Empty h = omega arith
@@ -94,7 +94,7 @@ pushed_tally b (Some told) reply h =
     subst (λ r. one_if (is_not_refused (Some r) && b) ≤ one_if (is_not_refused (Some told) && b)) (sym h) (omega arith)
 
 -- the pairs of an order count as takes at least what its operations do, and as pushes at most
-order_tally : (v : Taken) (order : List Answered) → AllByRecursion GivesWhatWasTold order → (sum_by (take_of v) (operations_of order) ≤ sum_by (taken_in v) order) × (sum_by (pushed_in v) order ≤ sum_by (push_of v) (operations_of order))
+order_tally : (v : Taken) (order : List Answered) → AllByRecursion GivesRecordedReply order → (sum_by (take_of v) (operations_of order) ≤ sum_by (taken_in v) order) × (sum_by (pushed_in v) order ≤ sum_by (push_of v) (operations_of order))
 order_tally v [] h = (omega arith, omega arith)
 order_tally v (a ∷ rest) h =
     let more = order_tally v rest h.1 in

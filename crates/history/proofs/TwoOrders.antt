@@ -7,7 +7,7 @@ use Rattle.history.specs.declared.operations.Reply.TheVariants.{Done, Value, Emp
 use Rattle.history.specs.declared.operations.Stamped.{Stamped}
 use Rattle.history.specs.Queue.{empty}
 use Rattle.history.specs.History.{answer, AgreesWithQueue}
-use Rattle.history.specs.Linearizability.{Answered, operations_of, IsPending, GivesWhatWasTold, MayComeBefore, KeepsTime, IsRun, IsLinearizable}
+use Rattle.history.specs.Linearizability.{Answered, operations_of, IsPending, GivesRecordedReply, MayComeBefore, KeepsTime, IsRun, IsLinearizable}
 use Rattle.history.specs.SmallHistories.{five, push, pop, taken_too_early, push_lost}
 
 -- two operations in one order or the other
@@ -54,7 +54,7 @@ abbrev rest : List Stamped → List Stamped
 rest [] = []
 rest (o ∷ os) = os
 
-in_order : (a b : Stamped) → (IsPending a → ⊥) → (IsPending b → ⊥) → (order : List Answered) (left : List Stamped) → operations_of order ++ left ≡ a ∷ b ∷ [] → AllByRecursion IsPending left → AllByRecursion GivesWhatWasTold order → KeepsTime (operations_of order) → IsRun empty order → RunsBefore a b
+in_order : (a b : Stamped) → (IsPending a → ⊥) → (IsPending b → ⊥) → (order : List Answered) (left : List Stamped) → operations_of order ++ left ≡ a ∷ b ∷ [] → AllByRecursion IsPending left → AllByRecursion GivesRecordedReply order → KeepsTime (operations_of order) → IsRun empty order → RunsBefore a b
 in_order a b na nb [] left e p g t r = absurd (na (subst (AllByRecursion IsPending) e p).0)
 in_order a b na nb (x ∷ []) left e p g t r = absurd (nb (subst (AllByRecursion IsPending) (ap rest e) p).0)
 in_order a b na nb (x ∷ y ∷ []) left e p g t r =

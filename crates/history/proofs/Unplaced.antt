@@ -9,7 +9,7 @@ use Rattle.history.specs.declared.operations.Reply.TheVariants.{Done, Value, Emp
 use Rattle.history.specs.declared.operations.Stamped.{Stamped}
 use Rattle.history.specs.Queue.{Queue, empty, response}
 use Rattle.history.specs.History.{AgreesWithQueue, answer}
-use Rattle.history.specs.Linearizability.{Answered, operations_of, IsPending, GivesWhatWasTold, MayComeBefore, KeepsTime, IsRun, IsLinearizable, DifferInPlace}
+use Rattle.history.specs.Linearizability.{Answered, operations_of, IsPending, GivesRecordedReply, MayComeBefore, KeepsTime, IsRun, IsLinearizable, DifferInPlace}
 
 -- an operation of an order with its place changed
 abbrev replaced : (Stamped → Stamped) → Answered → Answered
@@ -30,7 +30,7 @@ still_pending f same (o ∷ os) h = (
   still_pending f same os h.1,
 )
 
-still_told : (f : Stamped → Stamped) → ChangesPlaces f → (order : List Answered) → AllByRecursion GivesWhatWasTold order → AllByRecursion GivesWhatWasTold (map (replaced f) order)
+still_told : (f : Stamped → Stamped) → ChangesPlaces f → (order : List Answered) → AllByRecursion GivesRecordedReply order → AllByRecursion GivesRecordedReply (map (replaced f) order)
 still_told f same [] h = tt
 still_told f same (a ∷ rest) h = (
   subst (λ r. IfSome r (λ told. a.reply ≡ told)) (sym (same a.operation).reply) h.0,
@@ -55,8 +55,8 @@ same_given f same queue o =
     ap (λ a. response a o.op queue) (sym (same o).actor) ∙ ap (λ op. response (f o).actor op queue) (sym (same o).op)
 
 still_gets : (f : Stamped → Stamped) → ChangesPlaces f → (queue : Queue) (o : Stamped) (reply : Reply) → AgreesWithQueue queue o (Some reply) → AgreesWithQueue queue (f o) (Some reply) × (answer queue o (Some reply) ≡ answer queue (f o) (Some reply))
-still_gets f same queue o (Refused why) (inl h) = (inl h, refl)
-still_gets f same queue o (Refused why) (inr h) = (inr (h.0, h.1 ∙ ap (λ a. a.reply) (same_given f same queue o)), refl)
+still_gets f same queue o (Refused refusal) (inl h) = (inl h, refl)
+still_gets f same queue o (Refused refusal) (inr h) = (inr (h.0, h.1 ∙ ap (λ a. a.reply) (same_given f same queue o)), refl)
 still_gets f same queue o Done h =
     (h ∙ ap (λ a. a.reply) (same_given f same queue o), same_given f same queue o)
 still_gets f same queue o (Value v) h =

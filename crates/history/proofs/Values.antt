@@ -20,7 +20,7 @@ abbrev value_or : Taken → Reply → Taken
 value_or d Done = d
 value_or d (Value v) = v
 value_or d Empty = d
-value_or d (Refused why) = d
+value_or d (Refused refusal) = d
 
 -- what a queue held and what was pushed is what was popped and what is left
 popped-then_left : (es : List Entry) (shut : Bool) (values : List Taken) (after : Queue) → Plays (record { values = values; shut = shut }) es after → values ++ pushed es ≡ popped es ++ after.values

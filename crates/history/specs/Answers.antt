@@ -95,12 +95,12 @@ StopsShut _ = ⊥
 -- a push was refused so, or a shut: the queue was found shut, or nothing was done
 abbrev pub PushRefused : Known → Refusal → Known → Type 0
 PushRefused k Closed k' = FoundShut k k'
-PushRefused k why k' = SeesMore k k'
+PushRefused k refusal k' = SeesMore k k'
 
 -- a pop was refused so: the queue was found shut and empty, or nothing was done
 abbrev pub PopRefused : Known → Refusal → Known → Type 0
 PopRefused k Closed k' = FoundShutEmpty k k'
-PopRefused k why k' = SeesMore k k'
+PopRefused k refusal k' = SeesMore k k'
 
 -- a push that waits may be refused so: there was no node, a word was worn out, or the queue was shut
 abbrev pub EndsPush : Refusal → Type 0
@@ -124,11 +124,11 @@ EndsShut _ = ⊥
 -- a call that waits ended by a try of its own, from what the seat then was to what it is now: it had seen no less than before
 -- the call, and the try, of so many turns, had this cause to be refused
 pub record EndsByTry {Q S : Type 0} (is_seat : Q → S → Type 0) (known : S → Known) (cause : Q → S → S → ℕ → Refusal → Type 0)
-    (queue : Q) (before after : S) (turns : ℕ) (why : Refusal) : Type 0 where
+    (queue : Q) (before after : S) (turns : ℕ) (refusal : Refusal) : Type 0 where
   pub last : S
   pub seat : is_seat queue last
   pub more : SeesMore (known before) (known last)
-  pub caused : cause queue last after turns why
+  pub caused : cause queue last after turns refusal
 
 -- two seats met: both have seen one history, which begins with what each had seen
 pub record Meets (one other one' other' : Known) : Type 0 where

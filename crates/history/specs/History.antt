@@ -63,11 +63,11 @@ is_closed _ = false
 
 -- whether a refusal is one that a queue may answer
 abbrev pub may_refuse : Refusal → Bool
-may_refuse why = leaves why || is_closed why
+may_refuse refusal = leaves refusal || is_closed refusal
 
 -- the answer to an operation by what it was told: a refusal leaves the queue, any other reply and none take what the queue gives
 abbrev pub answer : Queue → Stamped → Option Reply → Answer
-answer queue o (Some (Refused why)) = record { reply = Refused why; after = queue }
+answer queue o (Some (Refused refusal)) = record { reply = Refused refusal; after = queue }
 answer queue o (Some Done) = response o.actor o.op queue
 answer queue o (Some (Value v)) = response o.actor o.op queue
 answer queue o (Some Empty) = response o.actor o.op queue
@@ -76,7 +76,7 @@ answer queue o None = response o.actor o.op queue
 -- the queue gives the reply that an operation was told: it may refuse by what it doesn't have, and refuses itself where it is
 -- shut; a pending one was told nothing
 abbrev pub AgreesWithQueue : Queue → Stamped → Option Reply → Type 0
-AgreesWithQueue queue o (Some (Refused why)) = (leaves why ≡ true) ⊎ ((why ≡ Closed) × (Refused Closed ≡ (response o.actor o.op queue).reply))
+AgreesWithQueue queue o (Some (Refused refusal)) = (leaves refusal ≡ true) ⊎ ((refusal ≡ Closed) × (Refused Closed ≡ (response o.actor o.op queue).reply))
 AgreesWithQueue queue o (Some Done) = Done ≡ (response o.actor o.op queue).reply
 AgreesWithQueue queue o (Some (Value v)) = Value v ≡ (response o.actor o.op queue).reply
 AgreesWithQueue queue o (Some Empty) = Empty ≡ (response o.actor o.op queue).reply
@@ -142,7 +142,7 @@ first_fault place earlier (o ∷ os) = fault_or (fault_of earlier o) place (firs
 
 -- whether a reply is that the queue is shut
 abbrev pub refuses : Reply → Bool
-refuses (Refused why) = is_closed why
+refuses (Refused refusal) = is_closed refusal
 refuses _ = false
 
 -- whether two replies are the same
@@ -156,12 +156,12 @@ same_reply Empty Done = false
 same_reply Empty (Value w) = false
 same_reply (Value v) Done = false
 same_reply (Value v) Empty = false
-same_reply (Refused why) response = false
-same_reply told (Refused why) = false
+same_reply (Refused refusal) response = false
+same_reply told (Refused refusal) = false
 
 -- whether the queue gives the reply that an operation was told
 abbrev pub agrees_with_queue : Queue → Stamped → Option Reply → Bool
-agrees_with_queue queue o (Some (Refused why)) = leaves why || is_closed why && refuses (response o.actor o.op queue).reply
+agrees_with_queue queue o (Some (Refused refusal)) = leaves refusal || is_closed refusal && refuses (response o.actor o.op queue).reply
 agrees_with_queue queue o (Some Done) = same_reply Done (response o.actor o.op queue).reply
 agrees_with_queue queue o (Some (Value v)) = same_reply (Value v) (response o.actor o.op queue).reply
 agrees_with_queue queue o (Some Empty) = same_reply Empty (response o.actor o.op queue).reply

@@ -16,14 +16,14 @@ pub record Answered : Type 0 where
 abbrev pub operations_of : List Answered → List Stamped
 operations_of order = map (λ a. a.operation) order
 
--- an operation has neither ended nor been told a reply
+-- an operation has neither ended nor a recorded reply
 pub record IsPending (o : Stamped) : Type 0 where
   pub not_ended : o.last ≡ None
   pub not_told : o.reply ≡ None
 
--- an operation that was told a reply is given that one
-abbrev pub GivesWhatWasTold : Answered → Type 0
-GivesWhatWasTold a = IfSome a.operation.reply (λ told. a.reply ≡ told)
+-- an operation whose reply was recorded is given that one
+abbrev pub GivesRecordedReply : Answered → Type 0
+GivesRecordedReply a = IfSome a.operation.reply (λ told. a.reply ≡ told)
 
 -- one operation may come before another: the other had not ended when the one began
 abbrev pub MayComeBefore : Stamped → Stamped → Type 0
@@ -41,13 +41,13 @@ IsRun queue (a ∷ rest) =
     AgreesWithQueue queue a.operation (Some a.reply) × IsRun (answer queue a.operation (Some a.reply)).after rest
 
 -- A history is linearizable: there is an order of all its completed operations and some pending ones, each once, with a
--- reply for each pending one, that keeps time and is a run of the queue that gives every reply told.
+-- reply for each pending one, that keeps time and is a run of the queue that gives every reply recorded.
 pub record IsLinearizable (ops : List Stamped) : Type 0 where
   pub order : List Answered
   pub left_out : List Stamped
   pub each_once : IsPermutation ops (operations_of order ++ left_out)
   pub only_pending_left_out : AllByRecursion IsPending left_out
-  pub replies : AllByRecursion GivesWhatWasTold order
+  pub replies : AllByRecursion GivesRecordedReply order
   pub timely : KeepsTime (operations_of order)
   pub runs : IsRun empty order
 

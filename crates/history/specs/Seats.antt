@@ -28,7 +28,7 @@ MayPush permits n = (1 ≤ n) × IsSomeAnd (slice_get permits (n - 1)) (λ p. Is
 abbrev pub MayPop : List Permit → ℕ → Type 0
 MayPop permits n = (1 ≤ n) × IsSomeAnd (slice_get permits (n - 1)) (λ p. IsTrue p.pops)
 
--- what a seat knows: its number, a beginning of the history, its own entries, and its notes, each a number of entries
+-- what a seat knows: its number, a prefix of the history, its own entries, and its notes, each a number of entries
 -- after which it found the queue empty, or shut
 pub record Known : Type 0 where
   pub number : ℕ

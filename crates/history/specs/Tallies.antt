@@ -20,7 +20,7 @@ is_not_refused None = true
 is_not_refused (Some Done) = true
 is_not_refused (Some (Value v)) = true
 is_not_refused (Some Empty) = true
-is_not_refused (Some (Refused why)) = false
+is_not_refused (Some (Refused refusal)) = false
 
 -- whether a call pushes this value
 abbrev pub is_push_of : Taken → (actor : ℕ) → Op → Bool

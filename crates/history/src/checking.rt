@@ -45,7 +45,7 @@ pub fn check(alloc: Global, history: &[Stamped]) -> Result<Verdict, Refusal>
     //= judge/object: A history is judged by the *object* of docs/GLOSSARY.md: `Closed` as any reply is; other refusals
     //=   leave the queue (`AgreesWithQueue`).
     ensures ok { IfOk result (λ answer. answer ≡ verdict history.now) }
-    ensures only_memory { IfErr result (λ why. why ≡ Refusal.Memory) }
+    ensures only_memory { IfErr result (λ refusal. refusal ≡ Refusal.Memory) }
 {
     let mut places = BTreeMap::new(alloc);
     if let Some(fault) = first_fault(&mut places, history)? {
@@ -70,7 +70,7 @@ fn first_fault<'a>(
     ensures fault { IfOk result (λ fault. fault ≡ rule.first_fault 1 [] history.now) }
     ensures places { IfOk result (λ fault.
         fault ≡ None → listed places.new ≡ rule.by_point history.now) }
-    ensures only_memory { IfErr result (λ why. why ≡ Refusal.Memory) }
+    ensures only_memory { IfErr result (λ refusal. refusal ≡ Refusal.Memory) }
 {
     for (index, operation) in history.iter().enumerate() {
         if let Some(cause) = fault_of(places, operation)? {
@@ -88,7 +88,7 @@ fn fault_of<'a>(
     operation: &'a Stamped,
 ) -> Result<Option<Cause>, Refusal>
     ensures fault { IfOk result (Judges places.old places.new operation.now) }
-    ensures only_memory { IfErr result (λ why. why ≡ Refusal.Memory) }
+    ensures only_memory { IfErr result (λ refusal. refusal ≡ Refusal.Memory) }
 {
     if !is_shaped(operation) {
         return Ok(Some(Cause::Shape));
@@ -132,7 +132,7 @@ fn lies_within(operation: &Stamped) -> bool
 // The first operation, by rising place, whose reply the queue does not give.
 fn first_wrong(alloc: Global, places: &BTreeMap<u64, &Stamped>) -> Result<Option<Stamped>, Refusal>
     ensures wrong { IfOk result (λ wrong. wrong ≡ rule.first_wrong empty (listed places.now)) }
-    ensures only_memory { IfErr result (λ why. why ≡ Refusal.Memory) }
+    ensures only_memory { IfErr result (λ refusal. refusal ≡ Refusal.Memory) }
 {
     let mut queue = Replayed {
         values: VecDeque::new(alloc),

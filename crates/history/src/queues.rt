@@ -20,7 +20,7 @@ const TURNS: u32 = 8;
 /// A first-in-first-out queue that threads share, each with a seat of its own.
 ///
 /// A seat belongs to the queue that gave it. There is one history of pushes, pops and shuts in the order in which they had
-/// their effect. Each seat has seen a beginning of it, and each call tells its seat more.
+/// their effect. Each seat has seen a prefix of it, and each call tells its seat more.
 pub trait Fifo {
     ghost use Rattle.history.specs.declared.refusals.Refusal.{Refusal};
 
@@ -68,11 +68,12 @@ pub trait Fifo {
         ensures pushed { OnOk result (Pushed (known seat.old) body (known seat.new)) }
         //= queues/closed: After a push or a shut refused `Closed` what the seat has seen grows and leaves the queue
         //=   shut, after such a pop shut and empty; that is noted, and the seat's own entries stay.
-        //= queues/other_refusals (refused, why): At other refusals what the seat has seen only grows; its own entries
+        //= queues/other_refusals (refused, refusal): At other refusals what the seat has seen only grows; its own entries
         //=   and notes stay. Such are `WornOut` and `Busy` and, of a push, `NoNode`; calls that wait are never refused
         //=   `Busy`.
-        ensures refused { IfErr result (λ why. PushRefused (known seat.old) why (known seat.new)) }
-        ensures why { IfErr result StopsPush }
+        ensures refused { IfErr result
+            (λ refusal. PushRefused (known seat.old) refusal (known seat.new)) }
+        ensures refusal { IfErr result StopsPush }
         //= queues/causes: A refusal has the cause that the queue names for it; that of a call that waits is of its last
         //=   try, of 8 turns, before which its seat had seen no less than before the call.
         ensures caused { IfErr result (push_cause self.now seat.old seat.new turns) };
@@ -99,9 +100,10 @@ pub trait Fifo {
         //=   seen grows and leaves the queue empty and not shut, which is noted.
         ensures answer { IfOk result (λ taken. PopAnswers (known seat.old) taken (known seat.new)) }
         //= queues/closed
-        //= queues/other_refusals (refused, why)
-        ensures refused { IfErr result (λ why. PopRefused (known seat.old) why (known seat.new)) }
-        ensures why { IfErr result StopsPop }
+        //= queues/other_refusals (refused, refusal)
+        ensures refused { IfErr result
+            (λ refusal. PopRefused (known seat.old) refusal (known seat.new)) }
+        ensures refusal { IfErr result StopsPop }
         //= queues/causes
         ensures caused { IfErr result (pop_cause self.now seat.old seat.new turns) };
 
@@ -116,7 +118,7 @@ pub trait Fifo {
     ///     Err(Refusal::Busy) => backoff.snooze(),
     ///     // By this call, or by one before.
     ///     Ok(()) | Err(Refusal::Closed) => return Ok(()),
-    ///     Err(why) => return Err(why),
+    ///     Err(refusal) => return Err(refusal),
     /// }
     /// ```
     fn try_shut(&self, seat: &mut Self::Seat, turns: u32) -> Result<(), Refusal>
@@ -129,9 +131,10 @@ pub trait Fifo {
         //= queues/shut: A shut that is done adds this shut.
         ensures shut { OnOk result (DidShut (known seat.old) (known seat.new)) }
         //= queues/closed
-        //= queues/other_refusals (refused, why)
-        ensures refused { IfErr result (λ why. PushRefused (known seat.old) why (known seat.new)) }
-        ensures why { IfErr result StopsShut }
+        //= queues/other_refusals (refused, refusal)
+        ensures refused { IfErr result
+            (λ refusal. PushRefused (known seat.old) refusal (known seat.new)) }
+        ensures refusal { IfErr result StopsShut }
         //= queues/causes
         ensures caused { IfErr result (shut_cause self.now seat.old seat.new turns) };
 
@@ -195,7 +198,7 @@ pub trait Fifo {
         //=   many pops and pushes, and a shut if it has one; each entry is then theirs. With every seat it is whole. Or
         //=   Memory.
         ensures rest { IfOk result (λ rest. Closes (permits self) (map known seats.items) rest) }
-        ensures only_memory { IfErr result (λ why. why ≡ Refusal.Memory) };
+        ensures only_memory { IfErr result (λ refusal. refusal ≡ Refusal.Memory) };
 
     //= queues/sound: What a seat knows is *sound* (docs/GLOSSARY.md).
     //= queues/meet
@@ -222,9 +225,10 @@ pub trait Fifo {
         //= queues/pushed
         ensures pushed { OnOk result (Pushed (known seat.old) body (known seat.new)) }
         //= queues/closed
-        //= queues/other_refusals (refused, why)
-        ensures refused { IfErr result (λ why. PushRefused (known seat.old) why (known seat.new)) }
-        ensures why { IfErr result EndsPush }
+        //= queues/other_refusals (refused, refusal)
+        ensures refused { IfErr result
+            (λ refusal. PushRefused (known seat.old) refusal (known seat.new)) }
+        ensures refusal { IfErr result EndsPush }
         //= queues/causes
         ensures caused { IfErr result (EndsByTry is_seat known push_cause self.now seat.old seat.new 8) }
     {
@@ -233,7 +237,7 @@ pub trait Fifo {
             match self.try_push(seat, body, TURNS) {
                 Ok(()) => return Ok(()),
                 Err(Refusal::Busy) => backoff.snooze(),
-                Err(why) => return Err(why),
+                Err(refusal) => return Err(refusal),
             }
         }
         unreachable!()
@@ -260,9 +264,10 @@ pub trait Fifo {
         //= queues/popped
         ensures answer { IfOk result (λ taken. PopAnswers (known seat.old) taken (known seat.new)) }
         //= queues/closed
-        //= queues/other_refusals (refused, why)
-        ensures refused { IfErr result (λ why. PopRefused (known seat.old) why (known seat.new)) }
-        ensures why { IfErr result EndsPop }
+        //= queues/other_refusals (refused, refusal)
+        ensures refused { IfErr result
+            (λ refusal. PopRefused (known seat.old) refusal (known seat.new)) }
+        ensures refusal { IfErr result EndsPop }
         //= queues/causes
         ensures caused { IfErr result (EndsByTry is_seat known pop_cause self.now seat.old seat.new 8) }
     {
@@ -271,7 +276,7 @@ pub trait Fifo {
             match self.try_pop(seat, TURNS) {
                 Ok(taken) => return Ok(taken),
                 Err(Refusal::Busy) => backoff.snooze(),
-                Err(why) => return Err(why),
+                Err(refusal) => return Err(refusal),
             }
         }
         unreachable!()
@@ -296,9 +301,10 @@ pub trait Fifo {
         //= queues/shut
         ensures shut { OnOk result (DidShut (known seat.old) (known seat.new)) }
         //= queues/closed
-        //= queues/other_refusals (refused, why)
-        ensures refused { IfErr result (λ why. PushRefused (known seat.old) why (known seat.new)) }
-        ensures why { IfErr result EndsShut }
+        //= queues/other_refusals (refused, refusal)
+        ensures refused { IfErr result
+            (λ refusal. PushRefused (known seat.old) refusal (known seat.new)) }
+        ensures refusal { IfErr result EndsShut }
         //= queues/causes
         ensures caused { IfErr result (EndsByTry is_seat known shut_cause self.now seat.old seat.new 8) }
     {
@@ -307,7 +313,7 @@ pub trait Fifo {
             match self.try_shut(seat, TURNS) {
                 Ok(()) => return Ok(()),
                 Err(Refusal::Busy) => backoff.snooze(),
-                Err(why) => return Err(why),
+                Err(refusal) => return Err(refusal),
             }
         }
         unreachable!()

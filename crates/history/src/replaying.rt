@@ -23,10 +23,10 @@ pub(crate) fn agrees_with_queue(queue: &mut Replayed, operation: &Stamped) -> Re
         told ≡ rule.agrees_with_queue (queue_of queue.old) operation.now operation.now.reply) }
     ensures after { OnOk result (queue_of queue.new
         ≡ (rule.answer (queue_of queue.old) operation.now operation.now.reply).after) }
-    ensures only_memory { IfErr result (λ why. why ≡ Refusal.Memory) }
+    ensures only_memory { IfErr result (λ refusal. refusal ≡ Refusal.Memory) }
 {
-    if let Some(Reply::Refused(why)) = operation.reply {
-        return Ok(leaves(why) || is_closed(why) && refuses(queue, operation.op));
+    if let Some(Reply::Refused(refusal)) = operation.reply {
+        return Ok(leaves(refusal) || is_closed(refusal) && refuses(queue, operation.op));
     }
     let given = given(queue, operation.actor, operation.op)?;
     match operation.reply {
@@ -52,7 +52,7 @@ fn given(queue: &mut Replayed, actor: u16, op: Op) -> Result<Reply, Refusal>
         reply ≡ (object.response actor op (queue_of queue.old)).reply) }
     ensures after { OnOk result (queue_of queue.new
         ≡ (object.response actor op (queue_of queue.old)).after) }
-    ensures only_memory { IfErr result (λ why. why ≡ Refusal.Memory) }
+    ensures only_memory { IfErr result (λ refusal. refusal ≡ Refusal.Memory) }
 {
     match op {
         Op::Enq(body) => push(queue, Taken { from: actor, body }),
@@ -77,7 +77,7 @@ fn push(queue: &mut Replayed, value: Taken) -> Result<Reply, Refusal>
         reply ≡ (object.response value.from (Enq value.body) (queue_of queue.old)).reply) }
     ensures after { OnOk result (queue_of queue.new
         ≡ (object.response value.from (Enq value.body) (queue_of queue.old)).after) }
-    ensures only_memory { IfErr result (λ why. why ≡ Refusal.Memory) }
+    ensures only_memory { IfErr result (λ refusal. refusal ≡ Refusal.Memory) }
 {
     if queue.shut {
         return Ok(Reply::Refused(Refusal::Closed));
@@ -89,20 +89,20 @@ fn push(queue: &mut Replayed, value: Taken) -> Result<Reply, Refusal>
 }
 
 // Whether this refusal is that the queue is shut.
-fn is_closed(why: Refusal) -> bool
-    ensures { result ≡ rule.is_closed why }
+fn is_closed(refusal: Refusal) -> bool
+    ensures { result ≡ rule.is_closed refusal }
 {
-    match why {
+    match refusal {
         Refusal::Closed => true,
         _ => false,
     }
 }
 
 // Whether a queue may answer this refusal, and stays as it is.
-fn leaves(why: Refusal) -> bool
-    ensures { result ≡ rule.leaves why }
+fn leaves(refusal: Refusal) -> bool
+    ensures { result ≡ rule.leaves refusal }
 {
-    match why {
+    match refusal {
         Refusal::NoNode | Refusal::WornOut(_) | Refusal::Busy => true,
         _ => false,
     }

@@ -7,7 +7,7 @@ use Rattle.std.proofs.lemmas.List.Elements.{All-nil, All-cons, All-append, All-w
 use Rattle.text_lines.specs.Lines.{HasNo, spaced, words_of}
 use Rattle.text_lines.specs.Numerals.{numeral}
 use Rattle.text_lines.proofs.Numerals.{IsPlain-numeral}
-use Rattle.text_lines.proofs.Cuts.{words_of-spaced}
+use Rattle.text_lines.proofs.Splits.{words_of-spaced}
 use Rattle.history.specs.declared.refusals.WornWord.{WornWord}
 use Rattle.history.specs.declared.refusals.WornWord.TheVariants.{Free, Next, Tail, Head}
 use Rattle.history.specs.declared.refusals.Refusal.{Refusal}
@@ -59,7 +59,7 @@ ink-step : (step : Option ℕ) → IsInk (step_word step)
 ink-step None = ink-tested (codes "-") refl
 ink-step (Some step) = ink-numeral step
 
-ink-refusal : (why : Refusal) → may_refuse why ≡ true → All IsInk (refusal_words why)
+ink-refusal : (refusal : Refusal) → may_refuse refusal ≡ true → All IsInk (refusal_words refusal)
 ink-refusal NoNode e = one (codes "1") (ink-tested (codes "1") refl)
 ink-refusal (WornOut word) e = more (codes "2") (word_text word ∷ []) (ink-tested (codes "2") refl) (one (word_text word) (ink-word word))
 ink-refusal Busy e = one (codes "3") (ink-tested (codes "3") refl)
@@ -73,7 +73,7 @@ ink-reply (Some (Value value)) may =
     more (codes "value") (value_words value) (ink-tested (codes "value") refl)
     (more (numeral value.from) (numeral value.body ∷ []) (ink-numeral value.from) (one (numeral value.body) (ink-numeral value.body)))
 ink-reply (Some Empty) may = one (codes "empty") (ink-tested (codes "empty") refl)
-ink-reply (Some (Refused why)) may = more (codes "refused") (refusal_words why) (ink-tested (codes "refused") refl) (ink-refusal why may)
+ink-reply (Some (Refused refusal)) may = more (codes "refused") (refusal_words refusal) (ink-tested (codes "refused") refl) (ink-refusal refusal may)
 
 ink-reply_part : (reply : Option Reply) → IsQueueReply reply → All IsInk (codes "reply" ∷ reply_words reply)
 ink-reply_part reply may = more (codes "reply") (reply_words reply) (ink-tested (codes "reply") refl) (ink-reply reply may)

@@ -134,7 +134,7 @@ one-reply (Some (Refused a)) (Some (Value w)) may may' e = absurd (apart _ _ ref
 one-reply (Some (Refused a)) (Some Empty) may may' e = absurd (apart _ _ refl e)
 one-reply (Some (Refused a)) (Some (Refused b)) may may' e =
     let words : refusal_words a ≡ refusal_words b = cc in
-    ap (λ (why : Refusal). Some (Refused why)) (one-refusal a b may may' words)
+    ap (λ (refusal : Refusal). Some (Refused refusal)) (one-refusal a b may may' words)
 
 -- the words of an operation tell it
 one-operation : (a b : Stamped) → IsQueueReply a.reply → IsQueueReply b.reply → operation_words a ≡ operation_words b → a ≡ b

@@ -44,8 +44,8 @@ fault-end count ops text rest place begins counted more none =
     (omega (arith, counted, length-map ops (λ o. Operation o))) (due-some (count - length ops) (omega arith)) none
 
 -- an operation is due, and its line is wrong, or there was no room
-pub fault-operation : (count : ℕ) (ops : List Stamped) (text rest says later : List ℕ) (place : ℕ) (why : Refusal) → BeginsHistory count ops text rest → length ops ≡ place
-    → place < count → rest ≡ line says ++ later → HasNo 10 says → IsWrongOperation (2 + place) says why → IsFirstFaultOfHistory text why
+pub fault-operation : (count : ℕ) (ops : List Stamped) (text rest says later : List ℕ) (place : ℕ) (refusal : Refusal) → BeginsHistory count ops text rest → length ops ≡ place
+    → place < count → rest ≡ line says ++ later → HasNo 10 says → IsWrongOperation (2 + place) says refusal → IsFirstFaultOfHistory text refusal
 fault-operation count ops text rest says later place (Text at cause) begins counted more split whole wrong =
     first_fault-line history_grammar First (Operations (count - length ops)) (Count count ∷ said ops) text rest says later at cause begins (state-said ops count)
     (omega (arith, wrong.0, counted, length-map ops (λ o. Operation o))) (due-some (count - length ops) (omega arith)) split whole

@@ -51,7 +51,7 @@ step-spelled : (step : Option ℕ) → IsStepInRange step → step_word step ≡
 step-spelled None range = refl
 step-spelled (Some step) range = numeral_decimal step (omega (arith, range.1))
 
-refusal-spelled : (why : Refusal) → may_refuse why ≡ true → spaces (refusal_words why) ≡ 32 ∷ refusal_text why
+refusal-spelled : (refusal : Refusal) → may_refuse refusal ≡ true → spaces (refusal_words refusal) ≡ 32 ∷ refusal_text refusal
 unfolding spaces
 refusal-spelled NoNode e = refl
 refusal-spelled (WornOut word) e = ap (λ (later : List ℕ). 32 ∷ codes "2" ++ (32 ∷ later)) (append-nil (word_text word))
@@ -71,7 +71,7 @@ reply-spelled (Some (Value value)) may range =
     let body : numeral value.body ++ [] ≡ decimal value.body = append-nil (numeral value.body) ∙ numeral_decimal value.body (omega (arith, range.1.1)) in
     (λ i. 32 ∷ codes "value" ++ (32 ∷ from i ++ (32 ∷ body i))) ∙ value_text (decimal value.from) (decimal value.body)
 reply-spelled (Some Empty) may range = refl
-reply-spelled (Some (Refused why)) may range = ap (λ (later : List ℕ). 32 ∷ codes "refused" ++ later) (refusal-spelled why may)
+reply-spelled (Some (Refused refusal)) may range = ap (λ (later : List ℕ). 32 ∷ codes "refused" ++ later) (refusal-spelled refusal may)
 
 -- the words behind those of the call, as text
 abbrev stamps_text : (first last at reply : List ℕ) → List ℕ

@@ -41,7 +41,7 @@ step_word (Some step) = numeral step
 -- a refusal: its number, and for a worn word the word's name
 abbrev pub refusal_words : Refusal → List (List ℕ)
 refusal_words (WornOut word) = codes "2" ∷ word_text word ∷ []
-refusal_words why = refusal_text why ∷ []
+refusal_words refusal = refusal_text refusal ∷ []
 
 -- a value: the number of the actor that pushed it, and the body
 abbrev pub value_words : Taken → List (List ℕ)
@@ -53,7 +53,7 @@ reply_words None = codes "-" ∷ []
 reply_words (Some Done) = codes "done" ∷ []
 reply_words (Some (Value value)) = codes "value" ∷ value_words value
 reply_words (Some Empty) = codes "empty" ∷ []
-reply_words (Some (Refused why)) = codes "refused" ∷ refusal_words why
+reply_words (Some (Refused refusal)) = codes "refused" ∷ refusal_words refusal
 
 -- the words of an operation behind those of its call
 abbrev pub stamp_words : Stamped → List (List ℕ)
@@ -75,7 +75,7 @@ IsQueueReply None = Unit {0}
 IsQueueReply (Some Done) = Unit {0}
 IsQueueReply (Some (Value value)) = Unit {0}
 IsQueueReply (Some Empty) = Unit {0}
-IsQueueReply (Some (Refused why)) = may_refuse why ≡ true
+IsQueueReply (Some (Refused refusal)) = may_refuse refusal ≡ true
 
 -- the number of an actor
 abbrev pub IsActor : ℕ → Type 0

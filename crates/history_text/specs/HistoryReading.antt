@@ -27,7 +27,7 @@ AreOfReply words reply = IsQueueReply reply × (words ≡ reply_words reply)
 
 -- these are the words of a refusal that a queue may give
 abbrev pub AreOfRefusal : List (List ℕ) → Refusal → Type 0
-AreOfRefusal words why = IsQueueReply (Some (Refused why)) × (words ≡ refusal_words why)
+AreOfRefusal words refusal = IsQueueReply (Some (Refused refusal)) × (words ≡ refusal_words refusal)
 
 -- these are the words of a value
 abbrev pub AreOfValue : List (List ℕ) → Taken → Type 0

@@ -46,7 +46,7 @@ reply_text None = codes "-"
 reply_text (Some Done) = codes "done"
 reply_text (Some (Value value)) = codes "value " ++ decimal value.from ++ codes " " ++ decimal value.body
 reply_text (Some Empty) = codes "empty"
-reply_text (Some (Refused why)) = codes "refused " ++ refusal_text why
+reply_text (Some (Refused refusal)) = codes "refused " ++ refusal_text refusal
 
 -- the line of an operation, with its line feed
 unfoldable pub operation_text : Stamped → List ℕ

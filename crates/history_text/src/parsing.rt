@@ -51,7 +51,7 @@ fn first_line(text: &[u8]) -> Result<(u64, &[u8]), Refusal>
 fn due_line(number: u64, text: &[u8]) -> Result<(&[u8], &[u8]), Refusal>
     ensures ok { IfOk result (λ found. HasNo 10 found.0.now
         × (text.now ≡ line found.0.now ++ found.1.now)) }
-    ensures err { IfErr result (λ why. (why ≡ Refusal.Text number TextCause.End)
+    ensures err { IfErr result (λ refusal. (refusal ≡ Refusal.Text number TextCause.End)
         × HasNo 10 text.now) }
 {
     line_at(text).ok_or(Refusal::Text(number, TextCause::End))
@@ -70,7 +70,7 @@ fn keep(operations: &mut Vec<Stamped>, number: u64, line: &[u8]) -> Result<(), R
 
 fn push_to(operations: &mut Vec<Stamped>, operation: Stamped) -> Result<(), Refusal>
     ensures ok { OnOk result (operations.new.items ≡ operations.old.items ++ operation ∷ []) }
-    ensures err { IfErr result (λ why. why ≡ Refusal.Memory) }
+    ensures err { IfErr result (λ refusal. refusal ≡ Refusal.Memory) }
 {
     // The check of the push stops unless these types are named here.
     let _: (Option<Op>, Option<Reply>) = (None, None);

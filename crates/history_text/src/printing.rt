@@ -11,7 +11,7 @@ use text_io::{Block, LINE_ROOM, Line, Sink};
 /// the order of the list.
 ///
 /// It takes no memory. It is refused by `Write` where a call of the writer fails or takes nothing; a
-/// beginning of the text is written then. A reader takes the text back where each actor is 1 or more,
+/// prefix of the text is written then. A reader takes the text back where each actor is 1 or more,
 /// each step is, and each refusal is one that a queue answers.
 pub fn print_history<W: Sink>(history: &[Stamped], writer: &mut W) -> Result<(), Refusal>
     //= texts/print: The texts of any list of operations and of a schedule are printed exactly.
@@ -100,18 +100,18 @@ pub fn push_reply(line: &mut Line, reply: Option<Reply>)
             line.push_number(value.body.number());
         }
         Some(Reply::Empty) => line.push(b"empty"),
-        Some(Reply::Refused(why)) => {
+        Some(Reply::Refused(refusal)) => {
             line.push(b"refused ");
-            line.push(refusal_words(why));
+            line.push(refusal_words(refusal));
         }
     }
 }
 
-fn refusal_words(why: Refusal) -> &'static [u8]
-    ensures text { result.now ≡ refusal_text why }
+fn refusal_words(refusal: Refusal) -> &'static [u8]
+    ensures text { result.now ≡ refusal_text refusal }
     ensures short { length result.now ≤ 6 }
 {
-    match why {
+    match refusal {
         Refusal::NoNode => b"1",
         Refusal::WornOut(WornWord::Free) => b"2 Free",
         Refusal::WornOut(WornWord::Next) => b"2 Next",

@@ -68,7 +68,7 @@ fn taken(from: Option<u64>, body: Option<u64>) -> Option<Taken>
 /// The refusal that these words are.
 fn refusal_of(mut words: Words) -> Result<Refusal, TextCause>
     ensures { MatchResult result (AreOfRefusal words.entry)
-        (λ why. (why ≡ TextCause.Form) × ((told : Refusal) → ¬ AreOfRefusal words.entry told)) }
+        (λ cause. (cause ≡ TextCause.Form) × ((told : Refusal) → ¬ AreOfRefusal words.entry told)) }
 {
     let Some(word) = words.next_word() else {
         return Err(TextCause::Form);
@@ -91,7 +91,7 @@ fn refusal_of(mut words: Words) -> Result<Refusal, TextCause>
 /// The counted word that is named.
 fn worn_word_of(mut words: Words) -> Result<WornWord, TextCause>
     ensures { MatchResult result (AreOfWord words.entry)
-        (λ why. (why ≡ TextCause.Form) × ((word : WornWord) → ¬ AreOfWord words.entry word)) }
+        (λ cause. (cause ≡ TextCause.Form) × ((word : WornWord) → ¬ AreOfWord words.entry word)) }
 {
     let Some(word) = words.next_word() else {
         return Err(TextCause::Form);

@@ -2,7 +2,7 @@
 use Rattle.std.specs.Prelude.{◌≡◌, ℕ, ◌+◌, ◌<◌, ◌≤◌, ◌⊎◌, List, Option, Some, None, Result, Err, ⊤}
 use Rattle.std.specs.Io.KnownBytes.{Appends}
 use Rattle.counted_ref.specs.Ref.{reserved_node}
-use Rattle.text_io.specs.Blocks.{TakesBeginning}
+use Rattle.text_io.specs.Blocks.{TakesPrefix}
 use Rattle.history.specs.declared.refusals.Refusal.{Refusal}
 use Rattle.history.specs.declared.refusals.Refusal.TheVariants.{Memory, BadSize, Text, Read, Write, Lost}
 use Rattle.job_results.specs.declared.jobs.Job.{Job}
@@ -35,16 +35,16 @@ pub record WritesResults (given : Option (List ℕ)) (old new : SinkState) : Typ
   pub text : IsTextOf given jobs
   pub written : Appends old.contents new.contents (results_text (job_rows 1 jobs))
 
--- known bytes were the text of jobs, and a beginning of the table of their results was written
+-- known bytes were the text of jobs, and a prefix of the table of their results was written
 pub record BeginsResults (given : Option (List ℕ)) (old new : SinkState) : Type 0 where
   pub jobs : List Job
   pub text : IsTextOf given jobs
-  pub begun : TakesBeginning old.contents new.contents (results_text (job_rows 1 jobs))
+  pub begun : TakesPrefix old.contents new.contents (results_text (job_rows 1 jobs))
 
 -- what a refusal tells of known bytes: their first faulty line as jobs, and what is wrong with it; or, where a job has no
 -- result, that they are the text of jobs
 abbrev pub TellsOfText : (given : Option (List ℕ)) → Refusal → Type 0
-TellsOfText None why = ⊤
+TellsOfText None refusal = ⊤
 TellsOfText (Some text) (Text number cause) = IsFirstFaultOfJobs text (Text number cause)
 TellsOfText (Some text) Lost = (jobs : List Job) × IsTextOf (Some text) jobs
 TellsOfText (Some text) _ = ⊤
@@ -61,7 +61,7 @@ abbrev pub IsWorkRefusal : Refusal → Type 0
 IsWorkRefusal BadSize = Unit {0}
 IsWorkRefusal Lost = Unit {0}
 IsWorkRefusal Write = Unit {0}
-IsWorkRefusal why = IsReadingRefusal why
+IsWorkRefusal refusal = IsReadingRefusal refusal
 
 -- how the reading behind an answer ended, by what is answered: nothing was read where a size is out of its range
 abbrev pub EndsReadingOrUnread : {A : Type 0} → Result A Refusal → (old new : SourceState) → Type 0

@@ -45,7 +45,7 @@ pub(crate) fn results_by<'a, R: Threads + Wait + Sync>(
     requires few { length jobs.now ≤ 1000000 }
     ensures rows { IfOk result (λ results. map row_of results.items ≡ job_rows 1 jobs.now) }
     ensures over { OnOk result (HasQueue (crew_plan kind nodes workers)) }
-    ensures why { IfErr result StopsWorkers }
+    ensures refusal { IfErr result StopsWorkers }
 {
     match kind {
         Kind::TwoLock => results_over::<TwoLockAlgorithm, R>(rt, alloc, workers, nodes, jobs),
@@ -58,7 +58,7 @@ pub(crate) fn results_by<'a, R: Threads + Wait + Sync>(
 // A role for each worker, and the submitter's.
 fn roles_of(alloc: Global, workers: u32) -> Result<Vec<Role>, Refusal>
     ensures roles { IfOk result (λ roles. roles.items ≡ crew_roles workers) }
-    ensures only_memory { IfErr result (λ why. why ≡ Refusal.Memory) }
+    ensures only_memory { IfErr result (λ refusal. refusal ≡ Refusal.Memory) }
 {
     let Ok(mut roles) = vec![in alloc; Role::Taker; workers as usize] else {
         return Err(Refusal::Memory);
@@ -81,7 +81,7 @@ fn results_over<'a, A: Algorithm<24> + Sync, R: Threads + Wait + Sync>(
     requires few { length jobs.now ≤ 1000000 }
     ensures rows { IfOk result (λ results. map row_of results.items ≡ job_rows 1 jobs.now) }
     ensures over { OnOk result (HasQueue (crew_plan A.kind nodes workers)) }
-    ensures why { IfErr result StopsWorkers }
+    ensures refusal { IfErr result StopsWorkers }
 {
     let roles = roles_of(alloc, workers)?;
     let (queue, seats) = ArenaQueue::<A>::new(alloc, nodes, MOST_COUNT, &roles)?;
@@ -101,7 +101,7 @@ fn results_with<'a, R: Threads + Wait + Sync, Q: Fifo + Sync>(
     requires crew { IsCrew Q.is_seat Q.permits Q.known queue.now workers seats.items }
     requires few { length jobs.now ≤ 1000000 }
     ensures rows { IfOk result (λ results. map row_of results.items ≡ job_rows 1 jobs.now) }
-    ensures why { IfErr result StopsWorkers }
+    ensures refusal { IfErr result StopsWorkers }
 {
     let Some(giver) = seats.pop() else {
         unreachable!()
@@ -125,7 +125,7 @@ fn submit<'a, R: Threads + Wait + Sync, Q: Fifo + Sync>(
     requires takers { All (IsTaker Q.is_seat Q.permits Q.known queue.now) takers.items }
     requires few { length jobs.now ≤ 1000000 }
     ensures rows { IfOk result (λ results. map row_of results.items ≡ job_rows 1 jobs.now) }
-    ensures why { IfErr result StopsWorkers }
+    ensures refusal { IfErr result StopsWorkers }
 {
     dispatch(rt, alloc, queue, giver, takers, jobs, &Open)
 }

@@ -42,7 +42,7 @@ pub fn work_text<T: Threads + Wait + Sync, R: Source, W: Sink>(
 ) -> Result<(), Refusal>
     //= program/work (ok, quiet): `msq work` has written the results of the jobs read, each job's once and in their
     //=   order.
-    //= program/work_sizes (ok, sized, unread, text, beginning, refusal): `msq work` is refused `BadSize` exactly where
+    //= program/work_sizes (ok, sized, unread, text, prefix, refusal): `msq work` is refused `BadSize` exactly where
     //=   workers aren't 1 to 64, or nodes not workers plus 3 to the greatest node's number; its reader is then as it
     //=   was. A faulty text; at `Lost` and `Write` it was that of jobs.
     ensures ok { OnOk result (WritesResults (R.state reader.old).left (W.state writer.old)
@@ -53,18 +53,19 @@ pub fn work_text<T: Threads + Wait + Sync, R: Source, W: Sink>(
     ensures over { OnOk result (HasQueue (crew_plan kind nodes workers)) }
     // A size out of its range is refused before anything is read.
     ensures sized { (result ≡ Err Refusal.BadSize) ↔ IsBadSize workers nodes }
-    ensures unread { IfErr result (λ why. why ≡ Refusal.BadSize → reader.new ≡ reader.old) }
+    ensures unread { IfErr result (λ refusal. refusal ≡ Refusal.BadSize → reader.new ≡ reader.old) }
     // A text is refused by its first faulty line. Where jobs are lost, it was the text of jobs.
     ensures text { IfErr result (TellsOfText (R.state reader.old).left) }
-    // Where writing fails, a beginning of the table is written.
-    //= program/work_refusals (beginning, write, unwritten, refusal, reader): At other refusals of `msq work` nothing;
+    // Where writing fails, a prefix of the table is written.
+    //= program/work_refusals (prefix, write, unwritten, refusal, reader): At other refusals of `msq work` nothing;
     //=   there are no more. The reader tells its end, but at `BadSize`, where no call of it failed.
-    ensures beginning { IfErr result (λ why. why ≡ Refusal.Write
+    ensures prefix { IfErr result (λ refusal. refusal ≡ Refusal.Write
         → BeginsResults (R.state reader.old).left (W.state writer.old) (W.state writer.new)) }
-    ensures write { IfErr result (λ why. why ≡ Refusal.Write
+    ensures write { IfErr result (λ refusal. refusal ≡ Refusal.Write
         → GivesUp (W.state writer.old) (W.state writer.new)) }
     // At any other refusal nothing is.
-    ensures unwritten { IfErr result (λ why. why ≢ Refusal.Write → writer.new ≡ writer.old) }
+    ensures unwritten { IfErr result
+        (λ refusal. refusal ≢ Refusal.Write → writer.new ≡ writer.old) }
     ensures refusal { IfErr result IsWorkRefusal }
     ensures reader { EndsReadingOrUnread result (R.state reader.old) (R.state reader.new) }
 {

@@ -38,8 +38,8 @@ fault-no_line count jobs text rest place begins counted more none =
     fault-end jobs_listing count (said_jobs jobs) text rest place begins (length-map jobs said_job ∙ counted) more none
 
 -- a job is due, and its line is wrong, or there was no room
-pub fault-job : (count : ℕ) (jobs : List Job) (text rest says later : List ℕ) (place : ℕ) (why : Refusal) → BeginsJobs count jobs text rest → length jobs ≡ place
-    → place < count → rest ≡ line says ++ later → HasNo 10 says → IsWrongJob (2 + place) says why → IsFirstFaultOfJobs text why
+pub fault-job : (count : ℕ) (jobs : List Job) (text rest says later : List ℕ) (place : ℕ) (refusal : Refusal) → BeginsJobs count jobs text rest → length jobs ≡ place
+    → place < count → rest ≡ line says ++ later → HasNo 10 says → IsWrongJob (2 + place) says refusal → IsFirstFaultOfJobs text refusal
 fault-job count jobs text rest says later place (Text at cause) begins counted more split whole wrong =
     subst (λ at. HasFirstFault text at cause) (sym wrong.0)
     (fault-item jobs_listing count (said_jobs jobs) text rest says later place cause begins (length-map jobs said_job ∙ counted) more split whole wrong.1)

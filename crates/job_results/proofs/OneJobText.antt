@@ -6,7 +6,7 @@ use Rattle.text_lines.specs.Lines.{HasNo, spaced, words_of}
 use Rattle.text_lines.specs.Numerals.{numeral}
 use Rattle.text_lines.specs.Listings.{listing_text, IsListing, IsSoundListing}
 use Rattle.text_lines.proofs.Numerals.{numeral_injective, HasNo-numeral}
-use Rattle.text_lines.proofs.Cuts.{HasNo-tested, spaced-words_of}
+use Rattle.text_lines.proofs.Splits.{HasNo-tested, spaced-words_of}
 use Rattle.text_lines.proofs.Listings.{one_listing, listing-no_fault, listing-one_fault, listing-not_neither}
 use Rattle.job_results.specs.JobTexts.{SaidJob, Add, Mul, Div, Len, two_numbers, job_line, count_line, jobs_text, jobs_listing, IsJob, IsCount, AreJobsInRange, HasFirstFault}
 use Rattle.job_results.specs.JobReading.{job_words}

@@ -20,4 +20,4 @@ Adds g r g' = AddsResult (jobs_in g) (found_in g) r (found_in g')
 
 -- why a result is not added
 abbrev pub RefusesToAdd : Gather → JobResult → Refusal → Type 0
-RefusesToAdd g r why = RefusesResult (jobs_in g) (found_in g) r why
+RefusesToAdd g r refusal = RefusesResult (jobs_in g) (found_in g) r refusal

@@ -65,7 +65,7 @@ KeepsJob job kept = MatchOption kept (¬ IsJobInRange job) (λ read. (said_of re
 abbrev pub ReadsWordsOfJob : List (List ℕ) → Result (Option ReadJob) TextCause → Type 0
 ReadsWordsOfJob words result = MatchResult result
     (λ kept. (job : SaidJob) × AreOfJob words job × KeepsJob job kept)
-    (λ why. (why ≡ Form) × ((job : SaidJob) → ¬ AreOfJob words job))
+    (λ cause. (cause ≡ Form) × ((job : SaidJob) → ¬ AreOfJob words job))
 
 -- a job was read from a line, and is in range; or the line is wrong for this cause
 abbrev pub ReadsJob : List ℕ → Result ReadJob TextCause → Type 0

@@ -30,7 +30,7 @@ impl<'a> Gather<'a> {
         //= jobs/gathering (jobs, none): A gathering begins with no result, and has at most one a job.
         ensures jobs { IfOk result (λ gather. jobs_in gather ≡ jobs.now) }
         ensures none { IfOk result (λ gather. found_in gather ≡ replicate (length jobs.now) None) }
-        ensures only_memory { IfErr result (λ why. why ≡ Refusal.Memory) }
+        ensures only_memory { IfErr result (λ refusal. refusal ≡ Refusal.Memory) }
     {
         let Ok(found) = none_of(alloc, jobs.len()) else {
             return Err(Refusal::Memory);
@@ -58,14 +58,14 @@ impl<'a> Gather<'a> {
     /// Refusals: `Stranger` where its number is of no job in the list, or of another job than its own; then `Double` where
     /// that job has a result. All is then as before. Takes no memory.
     pub fn add(&mut self, added: JobResult<'a>) -> Result<(), Refusal>
-        //= jobs/adding (jobs, added, refused, why): A result is added exactly in its place, or refused, and then
+        //= jobs/adding (jobs, added, refused, refusal): A result is added exactly in its place, or refused, and then
         //=   nothing changes: `Stranger` where its number is of no job in the list or of another than its own, else
         //=   `Double` where that job has a result.
         ensures jobs { jobs_in self.new ≡ jobs_in self.old }
         //= jobs/gathering
         ensures added { OnOk result (Adds self.old added.entry self.new) }
         ensures refused { OnErr result (self.new ≡ self.old) }
-        ensures why { IfErr result (RefusesToAdd self.old added.entry) }
+        ensures refusal { IfErr result (RefusesToAdd self.old added.entry) }
     {
         let Some(place) = self.place_of(added.number(), added.job()) else {
             return Err(Refusal::Stranger);
@@ -81,7 +81,7 @@ impl<'a> Gather<'a> {
     ///
     /// Refusals: `Lost` where a job has no result, then `Memory`. Takes memory for the list of results.
     pub fn finish(self) -> Result<Vec<JobResult<'a>>, Refusal>
-        //= jobs/finished (rows, same, all, lost, why): What is finished are the results added, in the order of the
+        //= jobs/finished (rows, same, all, lost, refusal): What is finished are the results added, in the order of the
         //=   jobs, with each job's number, kind and value; `Lost` comes exactly where one is missing, and else only
         //=   `Memory`.
         ensures rows { IfOk result (λ results.
@@ -89,7 +89,8 @@ impl<'a> Gather<'a> {
         ensures same { IfOk result (λ results. HaveJobs results.items (jobs_in self.entry)) }
         ensures all { IfOk result (λ results. map Some results.items ≡ found_in self.entry) }
         ensures lost { (result ≡ Err Refusal.Lost) ↔ MissesOne (found_in self.entry) }
-        ensures why { IfErr result (λ why. (why ≡ Refusal.Lost) ⊎ (why ≡ Refusal.Memory)) }
+        ensures refusal { IfErr result
+            (λ refusal. (refusal ≡ Refusal.Lost) ⊎ (refusal ≡ Refusal.Memory)) }
     {
         if misses_one(&self.found) {
             return Err(Refusal::Lost);

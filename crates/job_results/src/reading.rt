@@ -110,7 +110,7 @@ fn numbers_of(mut words: Words) -> Result<Option<(u64, u64)>, TextCause>
 /// The job with a text of its own.
 pub fn owned(alloc: Global, read: ReadJob) -> Result<Job, Refusal>
     ensures ok { IfOk result (λ job. said_job job ≡ said_of read.entry) }
-    ensures err { IfErr result (λ why. why ≡ Refusal.Memory) }
+    ensures err { IfErr result (λ refusal. refusal ≡ Refusal.Memory) }
 {
     match read {
         ReadJob::Add(a, b) => Ok(Job::Add(a, b)),

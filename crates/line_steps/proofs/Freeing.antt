@@ -12,21 +12,21 @@ freed_due kind now None a = refl
 freed_due kind now (Some Done) a = refl
 freed_due kind now (Some (Value v)) a = refl
 freed_due kind now (Some Empty) a = refl
-freed_due kind now (Some (Refused why)) a = refl
+freed_due kind now (Some (Refused refusal)) a = refl
 
 aside_due : (kind : Kind) (now : ℕ) (due : Option Reply) (a : Actor) → numbered now (freed_at kind due a) (record (freed_said due) { aside = Some a.node }) ≡ sets_aside (freed kind now due a)
 aside_due kind now None a = refl
 aside_due kind now (Some Done) a = refl
 aside_due kind now (Some (Value v)) a = refl
 aside_due kind now (Some Empty) a = refl
-aside_due kind now (Some (Refused why)) a = refl
+aside_due kind now (Some (Refused refusal)) a = refl
 
 unlocked_due : (now : ℕ) (due : Option Reply) (a : Actor) → numbered now (unlocked_at due a) (unlocked_said due) ≡ unlocked now due a
 unlocked_due now None a = refl
 unlocked_due now (Some (Value v)) a = refl
 unlocked_due now (Some Done) a = refl
 unlocked_due now (Some Empty) a = refl
-unlocked_due now (Some (Refused why)) a = refl
+unlocked_due now (Some (Refused refusal)) a = refl
 
 -- the same of the actor's own reply
 pub freed_numbered : (kind : Kind) (now : ℕ) (a : Actor) → numbered now (freed_at kind a.due a) (freed_said a.due) ≡ freed kind now a.due (empties_hand a)
@@ -43,14 +43,14 @@ left_due now None a = refl
 left_due now (Some Done) a = refl
 left_due now (Some (Value v)) a = refl
 left_due now (Some Empty) a = refl
-left_due now (Some (Refused why)) a = refl
+left_due now (Some (Refused refusal)) a = refl
 
 left_with_node_due : (now : ℕ) (due : Option Reply) (a : Actor) → numbered now (left_with_node_at due a) (left_said due) ≡ left_with_node now due a
 left_with_node_due now None a = refl
 left_with_node_due now (Some Done) a = refl
 left_with_node_due now (Some (Value v)) a = refl
 left_with_node_due now (Some Empty) a = refl
-left_with_node_due now (Some (Refused why)) a = refl
+left_with_node_due now (Some (Refused refusal)) a = refl
 
 pub left_numbered : (now : ℕ) (a : Actor) → numbered now (record a { line = None }) (left_said a.due) ≡ left now a.due a
 left_numbered now a = left_due now a.due a

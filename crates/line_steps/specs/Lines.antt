@@ -82,7 +82,7 @@ abbrev pub effect_at_end : ℕ → Actor → Reply → Option ℕ
 effect_at_end now a Done = None
 effect_at_end now a (Value v) = None
 effect_at_end now a Empty = Some a.empty_at
-effect_at_end now a (Refused why) = Some now
+effect_at_end now a (Refused refusal) = Some now
 
 -- the call ends with a reply
 abbrev pub ends : ℕ → Reply → Actor → Outcome
@@ -143,16 +143,16 @@ unlocked now None a = goes F1 a
 unlocked now (Some (Value v)) a = goes F1 a
 unlocked now (Some Done) a = ends now Done a
 unlocked now (Some Empty) a = ends now Empty a
-unlocked now (Some (Refused why)) a = ends now (Refused why) a
+unlocked now (Some (Refused refusal)) a = ends now (Refused refusal) a
 
 -- the tail lock was let go: a shut that found the queue shut is refused, any other one is done
 abbrev pub left : ℕ → Option Reply → Actor → Outcome
-left now (Some (Refused why)) a = ends now (Refused why) a
+left now (Some (Refused refusal)) a = ends now (Refused refusal) a
 left now _ a = ends now Done a
 
 -- the same of an enqueue, whose node goes to the pocket where it is refused
 abbrev pub left_with_node : ℕ → Option Reply → Actor → Outcome
-left_with_node now (Some (Refused why)) a = ends now (Refused why) (to_pocket a)
+left_with_node now (Some (Refused refusal)) a = ends now (Refused refusal) (to_pocket a)
 left_with_node now _ a = ends now Done a
 
 -- what becomes of the actor and its operation, by what was found

@@ -36,7 +36,7 @@ abbrev pub effect_of : Reply → When
 effect_of Done = Open
 effect_of (Value v) = Open
 effect_of Empty = AsNoted
-effect_of (Refused why) = Here
+effect_of (Refused refusal) = Here
 
 -- a call that ends with a reply
 abbrev pub end_of : Reply → Said
@@ -58,12 +58,12 @@ freed_actor kind a = freed_at kind a.due a
 
 -- a call that let the lock of the tail go
 abbrev pub left_said : (due : Option Reply) → Said
-left_said (Some (Refused why)) = end_of (Refused why)
+left_said (Some (Refused refusal)) = end_of (Refused refusal)
 left_said _ = end_of Done
 
 -- the actor of that call, where it has a node that goes to the pocket if the call is refused
 abbrev pub left_with_node_at : (due : Option Reply) → Actor → Actor
-left_with_node_at (Some (Refused why)) a = record (to_pocket a) { line = None }
+left_with_node_at (Some (Refused refusal)) a = record (to_pocket a) { line = None }
 left_with_node_at _ a = record a { line = None }
 
 -- by the reply that is due to it
@@ -76,7 +76,7 @@ unlocked_said None = nothing
 unlocked_said (Some (Value v)) = nothing
 unlocked_said (Some Done) = end_of Done
 unlocked_said (Some Empty) = end_of Empty
-unlocked_said (Some (Refused why)) = end_of (Refused why)
+unlocked_said (Some (Refused refusal)) = end_of (Refused refusal)
 
 -- the actor of that call: one that took a value frees the node, any other one is over
 abbrev pub unlocked_at : (due : Option Reply) → Actor → Actor
@@ -84,7 +84,7 @@ unlocked_at None a = record a { line = Some F1 }
 unlocked_at (Some (Value v)) a = record a { line = Some F1 }
 unlocked_at (Some Done) a = record a { line = None }
 unlocked_at (Some Empty) a = record a { line = None }
-unlocked_at (Some (Refused why)) a = record a { line = None }
+unlocked_at (Some (Refused refusal)) a = record a { line = None }
 
 -- by the reply that is due to it
 abbrev pub unlocked_actor : Actor → Actor

@@ -172,7 +172,7 @@ pub fn left<const B: u32>(actor: &mut ActorOf<B>) -> Said
     ensures said { result ≡ left_said actor.old.due }
 {
     match actor.due {
-        Some(Reply::Refused(why)) => ends(Reply::Refused(why), actor),
+        Some(Reply::Refused(refusal)) => ends(Reply::Refused(refusal), actor),
         _ => ends(Reply::Done, actor),
     }
 }
@@ -183,9 +183,9 @@ pub fn left_with_node<const B: u32>(actor: &mut ActorOf<B>) -> Said
     ensures said { result ≡ left_said actor.old.due }
 {
     match actor.due {
-        Some(Reply::Refused(why)) => {
+        Some(Reply::Refused(refusal)) => {
             actor.to_pocket();
-            ends(Reply::Refused(why), actor)
+            ends(Reply::Refused(refusal), actor)
         }
         _ => ends(Reply::Done, actor),
     }

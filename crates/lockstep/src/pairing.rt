@@ -39,16 +39,16 @@ fn answered<Q: Fifo>(queue: &Q, seat: &mut Q::Seat, op: Op, turns: u32) -> Optio
     let reply = match op {
         Op::Enq(body) => match queue.try_push(seat, body, turns) {
             Ok(()) => Reply::Done,
-            Err(why) => Reply::Refused(why),
+            Err(refusal) => Reply::Refused(refusal),
         },
         Op::Deq => match queue.try_pop(seat, turns) {
             Ok(Some(taken)) => Reply::Value(taken),
             Ok(None) => Reply::Empty,
-            Err(why) => Reply::Refused(why),
+            Err(refusal) => Reply::Refused(refusal),
         },
         Op::Shut => match queue.try_shut(seat, turns) {
             Ok(()) => Reply::Done,
-            Err(why) => Reply::Refused(why),
+            Err(refusal) => Reply::Refused(refusal),
         },
     };
     Some(reply)

@@ -49,7 +49,7 @@ impl<A: Algorithm<B>, const B: u32> Watched<B> for ArenaQueueOf<A, B> {
     ) -> Result<(ArenaQueueOf<A, B>, Vec<Seat>), Refusal> {
         match ArenaQueueOf::<A, B>::new(alloc, nodes, limit, &ROLES) {
             Ok(made) => Ok(made),
-            Err(why) => Err(why),
+            Err(refusal) => Err(refusal),
         }
     }
 

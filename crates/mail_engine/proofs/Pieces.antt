@@ -6,7 +6,7 @@ use Rattle.std.proofs.lemmas.List.Concat.{flat_map-cons}
 use Rattle.std.specs.Prelude.{Result}
 use Rattle.history.specs.declared.refusals.Refusal.{Refusal}
 use Rattle.text_io.specs.Devices.{SinkState}
-use Rattle.text_io.specs.Blocks.{Sends, TakesBeginning, Puts}
+use Rattle.text_io.specs.Blocks.{Sends, TakesPrefix, Puts}
 use Rattle.text_io.proofs.Sends.{Sends-trans, Puts-more}
 use Rattle.report.proofs.UnderWay.{IsUnderWay, under_way_first, under_way_more, under_way_stops, under_way_done}
 
@@ -16,11 +16,11 @@ module _ (h x y z : List ℕ) where
   after_first a b i s = under_way_more a a b (h ++ (x ++ (y ++ z))) h x (y ++ z) i (under_way_first a h (x ++ (y ++ z))) s
 
   -- the sink gave up within the first
-  pub stops_at_first : (a b : Option (List ℕ)) → TakesBeginning a b (h ++ x) → TakesBeginning a b (h ++ (x ++ (y ++ z)))
+  pub stops_at_first : (a b : Option (List ℕ)) → TakesPrefix a b (h ++ x) → TakesPrefix a b (h ++ (x ++ (y ++ z)))
   stops_at_first a b t = under_way_stops a a b (h ++ (x ++ (y ++ z))) h x (y ++ z) (under_way_first a h (x ++ (y ++ z))) t
 
   -- within the second
-  pub stops_at_second : (a b c : Option (List ℕ)) (i : List ℕ) → Sends a b (h ++ x) i → TakesBeginning b c (i ++ y) → TakesBeginning a c (h ++ (x ++ (y ++ z)))
+  pub stops_at_second : (a b c : Option (List ℕ)) (i : List ℕ) → Sends a b (h ++ x) i → TakesPrefix b c (i ++ y) → TakesPrefix a c (h ++ (x ++ (y ++ z)))
   stops_at_second a b c i s t = under_way_stops a b c (h ++ (x ++ (y ++ z))) i y z (after_first a b i s) t
 
   -- behind the first two comes what the putting of the third answers
@@ -38,11 +38,11 @@ module _ (x y : List ℕ) where
       (under_way_more a a b (x ++ y) [] x y i (under_way_first a [] (x ++ y)) s)
 
   -- the sink gave up within the first line
-  pub stops_at_line : (a b : Option (List ℕ)) → TakesBeginning a b x → TakesBeginning a b (x ++ y)
+  pub stops_at_line : (a b : Option (List ℕ)) → TakesPrefix a b x → TakesPrefix a b (x ++ y)
   stops_at_line a b t = under_way_stops a a b (x ++ y) [] x y (under_way_first a [] (x ++ y)) t
 
   -- within the others
-  pub stops_at_others : (a b c : Option (List ℕ)) (i : List ℕ) → Sends a b x i → TakesBeginning b c (i ++ y) → TakesBeginning a c (x ++ y)
+  pub stops_at_others : (a b c : Option (List ℕ)) (i : List ℕ) → Sends a b x i → TakesPrefix b c (i ++ y) → TakesPrefix a c (x ++ y)
   stops_at_others a b c i s t = under_way_stops a b c (x ++ y) i y [] (after_line a b i s) t
 
   all_lines : (a b c : Option (List ℕ)) (i j : List ℕ) → Sends a b x i → Sends b c (i ++ y) j → IsUnderWay a c (x ++ y) j []
@@ -66,7 +66,7 @@ module _ {X : Type 0} (f : X → List ℕ) (xs : List X) (i : ℕ) (d : X) (a b 
       (subst (IsUnderWay a b whole held) (lines_from f xs i d l) u) s
 
   -- the sink gave up within one of them
-  pub stops_at_lines : TakesBeginning b c (held ++ f (get_or xs i d)) → TakesBeginning a c whole
+  pub stops_at_lines : TakesPrefix b c (held ++ f (get_or xs i d)) → TakesPrefix a c whole
   stops_at_lines t =
       under_way_stops a b c whole held (f (get_or xs i d)) (flat_map f (drop (i + 1) xs))
       (subst (IsUnderWay a b whole held) (lines_from f xs i d l) u) t

@@ -16,6 +16,6 @@ module _ (kind : Kind) (senders : ℕ) (letters : List SaidLetter) (taken : List
   pub writes_taken : WritesLetters (AreBySender taken) a b → WritesLetters (AreTaken kind senders letters) a b
   writes_taken w = (w.0, record { taken = taken; count_is = few; from = from; texts = texts; order = w.1; over = over }, w.2)
 
-  -- a beginning of it is
+  -- a prefix of it is
   pub begins_taken : BeginsLetters (AreBySender taken) a b → BeginsLetters (AreTaken kind senders letters) a b
   begins_taken w = (w.0, record { taken = taken; count_is = few; from = from; texts = texts; order = w.1; over = over }, w.2)

@@ -7,7 +7,7 @@ use Rattle.std.specs.Ordering.{nat_cmp}
 use Rattle.line_table.specs.declared.lines.Kind.{Kind}
 use Rattle.text_lines.specs.Numerals.{IsWithin}
 use Rattle.text_io.specs.Devices.{SinkState}
-use Rattle.text_io.specs.Blocks.{TakesBeginning}
+use Rattle.text_io.specs.Blocks.{TakesPrefix}
 use Rattle.history.specs.declared.refusals.Refusal.{Refusal}
 use Rattle.history.specs.declared.refusals.Refusal.TheVariants.{NoNode, WornOut, Memory, BadSize, Text, Read, Write, Lost}
 use Rattle.mail_text.specs.MailTexts.{SaidLetter, mail_text, IsMailInRange, IsFirstFaultOfMail}
@@ -70,14 +70,14 @@ pub record ArePosted (kind : Kind) (given : Option (List ℕ)) (told : List Lett
 abbrev pub WritesLetters : (List Letter → Type 0) → (old new : SinkState) → Type 0
 WritesLetters P old new = (told : List Letter) × P told × Appends old.contents new.contents (letters_text told)
 
--- a beginning of the text of such letters was written
+-- a prefix of the text of such letters was written
 abbrev pub BeginsLetters : (List Letter → Type 0) → (old new : SinkState) → Type 0
-BeginsLetters P old new = (told : List Letter) × P told × TakesBeginning old.contents new.contents (letters_text told)
+BeginsLetters P old new = (told : List Letter) × P told × TakesPrefix old.contents new.contents (letters_text told)
 
 -- what a refusal tells of known bytes: nothing where memory or reading is refused; their first faulty line as mail, and
 -- what is wrong with it; and else that they were the text of mail
 abbrev pub TellsOfText : (given : Option (List ℕ)) → Refusal → Type 0
-TellsOfText None why = ⊤
+TellsOfText None refusal = ⊤
 TellsOfText (Some text) Memory = ⊤
 TellsOfText (Some text) Read = ⊤
 TellsOfText (Some text) (Text number cause) = IsFirstFaultOfMail text (Text number cause)
@@ -104,4 +104,4 @@ IsSendingRefusal _ = ⊥
 abbrev pub IsPostRefusal : Refusal → Type 0
 IsPostRefusal (Text number cause) = Unit {0}
 IsPostRefusal Read = Unit {0}
-IsPostRefusal why = IsSendingRefusal why
+IsPostRefusal refusal = IsSendingRefusal refusal

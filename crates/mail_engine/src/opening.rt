@@ -42,7 +42,7 @@ pub fn mail_queue<A: Algorithm<24>>(
 // A role that gives for each sender, and then one that takes.
 fn roles_of(alloc: Global, senders: u16) -> Result<Vec<Role>, Refusal>
     ensures roles { IfOk result (λ roles. roles.items ≡ giver_and_taker_roles senders) }
-    ensures only_memory { IfErr result (λ why. why ≡ Refusal.Memory) }
+    ensures only_memory { IfErr result (λ refusal. refusal ≡ Refusal.Memory) }
 {
     let Ok(mut roles) = vec![in alloc; Role::Giver; usize::from(senders)] else {
         return Err(Refusal::Memory);

@@ -47,25 +47,26 @@ pub fn post_text<T: Threads + Wait + Sync, R: Source, W: Sink>(
     //= letters/post_text (ok, quiet): At Ok the text read was that of mail in range. As many letters were taken as it
     //=   has, those of each sender with the texts read, in their order; their text is written, by rising sender, those
     //=   of one as taken.
-    //= letters/queue (ok, beginning): Where letters, or a prefix, are told, there is a queue made for just the kind
+    //= letters/queue (ok, prefix): Where letters, or a prefix, are told, there is a queue made for just the kind
     //=   asked for and the letters and senders read, of the nodes and greatest count in docs/FORMATS.md, with a seat
     //=   that may push for each sender, one that may pop (`AreTaken`).
     ensures ok { OnOk result (WritesLetters (ArePosted kind (R.state reader.old).left)
         (W.state writer.old) (W.state writer.new)) }
     ensures quiet { OnOk result ((W.state writer.new).failures ≡ (W.state writer.old).failures) }
     // A text is refused by its first faulty line. Where sending or writing is refused, it was the text of mail.
-    //= letters/text_refusals (text, beginning, write, unwritten, refusal, reader): A faulty text; one that is none of
+    //= letters/text_refusals (text, prefix, write, unwritten, refusal, reader): A faulty text; one that is none of
     //=   mail is answered by `Text`, `Memory` or `Read`: at any other refusal it was that of mail in range. At other
     //=   refusals nothing, and the reader tells its end; these are `NoNode`, `WornOut`, `BadSize` and `Lost`.
     ensures text { IfErr result (TellsOfText (R.state reader.old).left) }
-    // Where writing fails, a beginning of the text is written.
-    ensures beginning { IfErr result (λ why. why ≡ Refusal.Write
+    // Where writing fails, a prefix of the text is written.
+    ensures prefix { IfErr result (λ refusal. refusal ≡ Refusal.Write
         → BeginsLetters (ArePosted kind (R.state reader.old).left) (W.state writer.old)
         (W.state writer.new)) }
-    ensures write { IfErr result (λ why. why ≡ Refusal.Write
+    ensures write { IfErr result (λ refusal. refusal ≡ Refusal.Write
         → GivesUp (W.state writer.old) (W.state writer.new)) }
     // At any other refusal nothing is.
-    ensures unwritten { IfErr result (λ why. why ≢ Refusal.Write → writer.new ≡ writer.old) }
+    ensures unwritten { IfErr result
+        (λ refusal. refusal ≢ Refusal.Write → writer.new ≡ writer.old) }
     ensures refusal { IfErr result IsPostRefusal }
     ensures reader { EndsReadingFor result (R.state reader.old) (R.state reader.new) }
 {
@@ -96,12 +97,13 @@ fn post_mail<T: Threads + Wait + Sync, W: Sink>(
     ensures ok { OnOk result (WritesLetters (AreTaken kind mail.senders (said_letters mail.letters.items))
         (W.state writer.old) (W.state writer.new)) }
     ensures quiet { OnOk result ((W.state writer.new).failures ≡ (W.state writer.old).failures) }
-    ensures beginning { IfErr result (λ why. why ≡ Refusal.Write
+    ensures prefix { IfErr result (λ refusal. refusal ≡ Refusal.Write
         → BeginsLetters (AreTaken kind mail.senders (said_letters mail.letters.items))
         (W.state writer.old) (W.state writer.new)) }
-    ensures write { IfErr result (λ why. why ≡ Refusal.Write
+    ensures write { IfErr result (λ refusal. refusal ≡ Refusal.Write
         → GivesUp (W.state writer.old) (W.state writer.new)) }
-    ensures unwritten { IfErr result (λ why. why ≢ Refusal.Write → writer.new ≡ writer.old) }
+    ensures unwritten { IfErr result
+        (λ refusal. refusal ≢ Refusal.Write → writer.new ≡ writer.old) }
     ensures refusal { IfErr result IsSendingRefusal }
 {
     match kind {
@@ -121,12 +123,13 @@ fn post_by<A: Algorithm<24> + Sync + Drop, T: Threads + Wait + Sync, W: Sink>(
     ensures ok { OnOk result (WritesLetters (AreTaken A.kind mail.senders (said_letters mail.letters.items))
         (W.state writer.old) (W.state writer.new)) }
     ensures quiet { OnOk result ((W.state writer.new).failures ≡ (W.state writer.old).failures) }
-    ensures beginning { IfErr result (λ why. why ≡ Refusal.Write
+    ensures prefix { IfErr result (λ refusal. refusal ≡ Refusal.Write
         → BeginsLetters (AreTaken A.kind mail.senders (said_letters mail.letters.items))
         (W.state writer.old) (W.state writer.new)) }
-    ensures write { IfErr result (λ why. why ≡ Refusal.Write
+    ensures write { IfErr result (λ refusal. refusal ≡ Refusal.Write
         → GivesUp (W.state writer.old) (W.state writer.new)) }
-    ensures unwritten { IfErr result (λ why. why ≢ Refusal.Write → writer.new ≡ writer.old) }
+    ensures unwritten { IfErr result
+        (λ refusal. refusal ≢ Refusal.Write → writer.new ≡ writer.old) }
     ensures refusal { IfErr result IsSendingRefusal }
 {
     let senders = mail.senders;
@@ -152,12 +155,13 @@ fn post_over<T: Threads + Wait + Sync, Q: Fifo + Sync + Drop, W: Sink>(
     ensures ok { OnOk result (WritesLetters (AreTaken kind mail.senders (said_letters mail.letters.items))
         (W.state writer.old) (W.state writer.new)) }
     ensures quiet { OnOk result ((W.state writer.new).failures ≡ (W.state writer.old).failures) }
-    ensures beginning { IfErr result (λ why. why ≡ Refusal.Write
+    ensures prefix { IfErr result (λ refusal. refusal ≡ Refusal.Write
         → BeginsLetters (AreTaken kind mail.senders (said_letters mail.letters.items))
         (W.state writer.old) (W.state writer.new)) }
-    ensures write { IfErr result (λ why. why ≡ Refusal.Write
+    ensures write { IfErr result (λ refusal. refusal ≡ Refusal.Write
         → GivesUp (W.state writer.old) (W.state writer.new)) }
-    ensures unwritten { IfErr result (λ why. why ≢ Refusal.Write → writer.new ≡ writer.old) }
+    ensures unwritten { IfErr result
+        (λ refusal. refusal ≢ Refusal.Write → writer.new ≡ writer.old) }
     ensures refusal { IfErr result IsSendingRefusal }
 {
     let (office, senders, receiver) = Office::new(alloc, queue, seats, receiver)?;

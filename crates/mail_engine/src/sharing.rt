@@ -22,7 +22,7 @@ pub(crate) fn tasks_of<Q: Fifo + Drop>(
     ensures senders { IfOk result (λ tasks. map (λ t. t.sender) tasks.items ≡ senders.items) }
     ensures texts { IfOk result (λ tasks. HaveTexts tasks.items letters.items) }
     ensures all { IfOk result (λ tasks. letters_of tasks.items ≡ length letters.items) }
-    ensures only_memory { IfErr result (λ why. why ≡ Refusal.Memory) }
+    ensures only_memory { IfErr result (λ refusal. refusal ≡ Refusal.Memory) }
 {
     let mut tasks = idle_tasks(alloc, senders)?;
     for letter in letters {
@@ -40,7 +40,7 @@ fn idle_tasks<Q: Fifo + Drop>(
     ensures senders { IfOk result (λ tasks. map (λ t. t.sender) tasks.items ≡ senders.items) }
     ensures none { IfOk result (λ tasks. All (λ t. t.texts.items ≡ []) tasks.items) }
     ensures few { IfOk result (λ tasks. letters_of tasks.items ≡ 0) }
-    ensures only_memory { IfErr result (λ why. why ≡ Refusal.Memory) }
+    ensures only_memory { IfErr result (λ refusal. refusal ≡ Refusal.Memory) }
 {
     let mut tasks = Vec::new(alloc);
     for sender in senders {
@@ -62,7 +62,7 @@ fn add_text<Q: Fifo + Drop>(
     ensures senders { map (λ t. t.sender) tasks.new.items ≡ map (λ t. t.sender) tasks.old.items }
     ensures text { OnOk result (AddsText tasks.old.items place (string_bytes text) tasks.new.items) }
     ensures one { OnOk result (letters_of tasks.new.items ≡ letters_of tasks.old.items + 1) }
-    ensures only_memory { IfErr result (λ why. why ≡ Refusal.Memory) }
+    ensures only_memory { IfErr result (λ refusal. refusal ≡ Refusal.Memory) }
 {
     let Ok(()) = tasks[place].texts.push(text) else {
         return Err(Refusal::Memory);

@@ -16,11 +16,13 @@ pub(crate) fn tell<W: Sink>(letters: Vec<Letter>, writer: &mut W) -> Result<(), 
     ensures ok { OnOk result (WritesLetters (AreBySender letters.entry.items)
         (W.state writer.old) (W.state writer.new)) }
     ensures quiet { OnOk result ((W.state writer.new).failures ≡ (W.state writer.old).failures) }
-    ensures only { IfErr result (λ why. (why ≡ Refusal.Memory) ⊎ (why ≡ Refusal.Write)) }
-    ensures unwritten { IfErr result (λ why. why ≡ Refusal.Memory → writer.new ≡ writer.old) }
-    ensures beginning { IfErr result (λ why. why ≡ Refusal.Write
+    ensures only { IfErr result
+        (λ refusal. (refusal ≡ Refusal.Memory) ⊎ (refusal ≡ Refusal.Write)) }
+    ensures unwritten { IfErr result
+        (λ refusal. refusal ≡ Refusal.Memory → writer.new ≡ writer.old) }
+    ensures prefix { IfErr result (λ refusal. refusal ≡ Refusal.Write
         → BeginsLetters (AreBySender letters.entry.items) (W.state writer.old) (W.state writer.new)) }
-    ensures cause { IfErr result (λ why. why ≡ Refusal.Write
+    ensures cause { IfErr result (λ refusal. refusal ≡ Refusal.Write
         → GivesUp (W.state writer.old) (W.state writer.new)) }
 {
     let sorted = by_sender(letters)?;
@@ -30,7 +32,7 @@ pub(crate) fn tell<W: Sink>(letters: Vec<Letter>, writer: &mut W) -> Result<(), 
 // The letters by rising sender, those of one sender in their order.
 fn by_sender<'a>(mut letters: Vec<Letter<'a>>) -> Result<Vec<Letter<'a>>, Refusal>
     ensures ok { IfOk result (λ told. AreBySender letters.entry.items told.items) }
-    ensures only_memory { IfErr result (λ why. why ≡ Refusal.Memory) }
+    ensures only_memory { IfErr result (λ refusal. refusal ≡ Refusal.Memory) }
 {
     match letters.sort_by_key(|letter| letter.from) {
         Ok(()) => Ok(letters),

@@ -9,7 +9,7 @@ use Rattle.text_lines.specs.Numerals.{numeral}
 use Rattle.text_lines.specs.Printable.{IsPrintable}
 use Rattle.text_lines.specs.Listings.{listing_text, IsListing, IsSoundListing}
 use Rattle.text_lines.proofs.Numerals.{HasNo-numeral, numeral_injective}
-use Rattle.text_lines.proofs.Cuts.{HasNo-tested, words_of_more, words_of_some, spaced-words_of, words_of-spaced}
+use Rattle.text_lines.proofs.Splits.{HasNo-tested, words_of_more, words_of_some, spaced-words_of, words_of-spaced}
 use Rattle.text_lines.proofs.Listings.{one_listing, listing-no_fault, listing-one_fault, listing-not_neither}
 use Rattle.mail_text.specs.declared.reading.ReadLetter.{ReadLetter}
 use Rattle.mail_text.specs.declared.reading.Counts.{Counts}

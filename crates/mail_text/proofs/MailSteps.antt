@@ -39,8 +39,8 @@ fault-no_line h letters text rest place begins counted more none =
     fault-end mail_listing h (said_letters letters) text rest place begins (length-map letters said_letter ∙ counted) more none
 
 -- a letter is due, and its line is wrong, or there was no room
-pub fault-letter : (h : MailHeader) (letters : List Outgoing) (text rest says later : List ℕ) (place : ℕ) (why : Refusal) → BeginsMail h letters text rest → length letters ≡ place
-    → place < h.letters → rest ≡ line says ++ later → HasNo 10 says → IsWrongLetter h.senders (2 + place) says why → IsFirstFaultOfMail text why
+pub fault-letter : (h : MailHeader) (letters : List Outgoing) (text rest says later : List ℕ) (place : ℕ) (refusal : Refusal) → BeginsMail h letters text rest → length letters ≡ place
+    → place < h.letters → rest ≡ line says ++ later → HasNo 10 says → IsWrongLetter h.senders (2 + place) says refusal → IsFirstFaultOfMail text refusal
 fault-letter h letters text rest says later place (Text at cause) begins counted more split whole wrong =
     subst (λ at. HasFirstFault text at cause) (sym wrong.0)
     (fault-item mail_listing h (said_letters letters) text rest says later place cause begins (length-map letters said_letter ∙ counted) more split whole wrong.1)

@@ -47,7 +47,7 @@ KeepsHeader h kept = MatchOption kept (¬ IsHeaderInRange h) (λ read. (header_i
 abbrev pub ReadsWordsOfHeader : List (List ℕ) → Result (Option Counts) TextCause → Type 0
 ReadsWordsOfHeader words result = MatchResult result
     (λ kept. (h : MailHeader) × AreOfHeader words h × KeepsHeader h kept)
-    (λ why. (why ≡ Form) × ((h : MailHeader) → ¬ AreOfHeader words h))
+    (λ cause. (cause ≡ Form) × ((h : MailHeader) → ¬ AreOfHeader words h))
 
 -- a first line was read, and is in range; or it is wrong for this cause
 abbrev pub ReadsHeader : List ℕ → Result Counts TextCause → Type 0
@@ -68,7 +68,7 @@ KeepsLetter senders letter kept =
 abbrev pub ReadsWordsOfLetter : (senders : ℕ) → List (List ℕ) → Result (Option ReadLetter) TextCause → Type 0
 ReadsWordsOfLetter senders words result = MatchResult result
     (λ kept. (letter : SaidLetter) × AreOfLetter words letter × KeepsLetter senders letter kept)
-    (λ why. (why ≡ Form) × ((letter : SaidLetter) → ¬ AreOfLetter words letter))
+    (λ cause. (cause ≡ Form) × ((letter : SaidLetter) → ¬ AreOfLetter words letter))
 
 -- a letter was read from a line, and is in range; or the line is wrong for this cause
 abbrev pub ReadsLetter : (senders : ℕ) → List ℕ → Result ReadLetter TextCause → Type 0

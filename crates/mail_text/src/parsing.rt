@@ -56,7 +56,7 @@ fn first_line(text: &[u8]) -> Result<(Counts, &[u8]), Refusal>
 fn due_line(number: u64, text: &[u8]) -> Result<(&[u8], &[u8]), Refusal>
     ensures ok { IfOk result (λ found. HasNo 10 found.0.now
         × (text.now ≡ line found.0.now ++ found.1.now)) }
-    ensures err { IfErr result (λ why. (why ≡ Refusal.Text number TextCause.End)
+    ensures err { IfErr result (λ refusal. (refusal ≡ Refusal.Text number TextCause.End)
         × HasNo 10 text.now) }
 {
     line_at(text).ok_or(Refusal::Text(number, TextCause::End))
@@ -81,7 +81,7 @@ fn keep(
 
 fn push_to(letters: &mut Vec<Outgoing>, letter: Outgoing) -> Result<(), Refusal>
     ensures ok { OnOk result (letters.new.items ≡ letters.old.items ++ letter ∷ []) }
-    ensures err { IfErr result (λ why. why ≡ Refusal.Memory) }
+    ensures err { IfErr result (λ refusal. refusal ≡ Refusal.Memory) }
 {
     match letters.push(letter) {
         Ok(()) => Ok(()),

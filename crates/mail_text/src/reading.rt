@@ -93,7 +93,7 @@ fn letter(from: Option<u64>, text: Option<&str>) -> Option<ReadLetter>
 /// The letter with a text of its own.
 pub fn owned(alloc: Global, read: ReadLetter) -> Result<Outgoing, Refusal>
     ensures ok { IfOk result (λ letter. said_letter letter ≡ said_of read.entry) }
-    ensures err { IfErr result (λ why. why ≡ Refusal.Memory) }
+    ensures err { IfErr result (λ refusal. refusal ≡ Refusal.Memory) }
 {
     match String::from_str(alloc, read.text) {
         Ok(text) => Ok(Outgoing {

@@ -12,7 +12,7 @@ use Rattle.mailbox.specs.Deliveries.{bodies_from, InOrder}
 bodies_from-append : (s : ℕ) (xs ys : List Taken) → bodies_from s (xs ++ ys) ≡ bodies_from s xs ++ bodies_from s ys
 bodies_from-append s xs ys = ap (map (λ (v : Taken). v.body)) (filter-append _ xs ys) ∙ map-append _ _ _
 
--- what was taken of each sender is a beginning of what it sent
+-- what was taken of each sender is a prefix of what it sent
 pub in_order : (permits : List Permit) (k : Known) → IsSound permits k → OnlyPops permits k.number → InOrder k
 in_order permits k sound only s =
     let left = sound.legal.0.values in

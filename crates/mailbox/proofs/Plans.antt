@@ -15,7 +15,7 @@ use Rattle.mailbox.specs.Offices.{IsReceiver}
 use Rattle.mailbox.specs.Posting.{IsTask, HasQueueOf, texts_in, letters_of}
 use Rattle.mailbox.proofs.Codes.{plan-same}
 
--- a beginning of the texts due, and the rest
+-- a prefix of the texts due, and the rest
 pub due_first : {Z : Type 0} (numbers : List ℕ) (task place : ℕ) (text : String Z) (texts : List (String Z)) → AreDue numbers task place (text ∷ texts) → IsDue numbers (record { task = task; place = place }) (string_bytes text)
 due_first numbers task place text texts due lists same =
     subst (λ p. slice_get (get_or lists task []) p ≡ Some (string_bytes text)) (omega arith) (due 0 (string_bytes text) refl lists same)

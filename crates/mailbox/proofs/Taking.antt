@@ -28,9 +28,9 @@ waited-lost known a b (inr h) lost = absurd (true≢false (sym lost ∙ h.was))
 
 module _ {Q S : Type 0} (known : S → Known) (a b c : Receiver Q S) (h : TookNothing known a Busy b) where
   -- nothing, and then nothing
-  nothing-then_nothing : (why : Refusal) → TookNothing known b why c → TookNothing known a why c
-  nothing-then_nothing why g = record {
-    nothing = pop_refused_then _ _ _ why h.nothing g.nothing;
+  nothing-then_nothing : (refusal : Refusal) → TookNothing known b refusal c → TookNothing known a refusal c
+  nothing-then_nothing refusal g = record {
+    nothing = pop_refused_then _ _ _ refusal h.nothing g.nothing;
     last = g.last ∙ h.last;
     was = h.was;
     kept = g.kept;
@@ -57,9 +57,9 @@ module _ {Q S : Type 0} (known : S → Known) (a b c : Receiver Q S) where
   waited-then_answer (inr h) office taken g = nothing-then_answer known a b c h office taken g
 
   -- after waiting, nothing
-  pub waited-then_nothing : Waited known a b → (why : Refusal) → TookNothing known b why c → TookNothing known a why c
-  waited-then_nothing (inl same) why g = subst (λ x. TookNothing known x why c) same g
-  waited-then_nothing (inr h) why g = nothing-then_nothing known a b c h why g
+  pub waited-then_nothing : Waited known a b → (refusal : Refusal) → TookNothing known b refusal c → TookNothing known a refusal c
+  waited-then_nothing (inl same) refusal g = subst (λ x. TookNothing known x refusal c) same g
+  waited-then_nothing (inr h) refusal g = nothing-then_nothing known a b c h refusal g
 
   -- after waiting, a loss
   pub waited-then_loss : Waited known a b → Loses known b c → Loses known a c

@@ -81,7 +81,7 @@ pub record Sent {Q S Z : Type 0} (known : S → Known) (o : Office Q S) (s s' : 
 -- nothing was sent or shut, for this cause: the sender found the queue shut, or else it may have seen more and all else that it
 -- knows is as before
 abbrev pub SentNothing : {Q S : Type 0} → (S → Known) → (s : Sender Q S) → Refusal → (s' : Sender Q S) → Type 0
-SentNothing known s why s' = PushRefused (known s.seat) why (known s'.seat)
+SentNothing known s refusal s' = PushRefused (known s.seat) refusal (known s'.seat)
 
 -- the sender shut the queue
 abbrev pub DidShutOffice : {Q S : Type 0} → (S → Known) → (s s' : Sender Q S) → Type 0
@@ -134,8 +134,8 @@ TakeAnswers known o r (Some letter) r' = TookText known o r letter.from letter.t
 
 -- a take was refused so, without a loss: nothing was taken, and the queue was found shut and empty, or else all that the
 -- receiver knows is as before, but that it may have seen more
-pub record TookNothing {Q S : Type 0} (known : S → Known) (r : Receiver Q S) (why : Refusal) (r' : Receiver Q S) : Type 0 where
-  pub nothing : PopRefused (known r.seat) why (known r'.seat)
+pub record TookNothing {Q S : Type 0} (known : S → Known) (r : Receiver Q S) (refusal : Refusal) (r' : Receiver Q S) : Type 0 where
+  pub nothing : PopRefused (known r.seat) refusal (known r'.seat)
   pub last : r'.last ≡ r.last
   pub was : r.lost ≡ false
   pub kept : r'.lost ≡ false

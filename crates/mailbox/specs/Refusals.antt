@@ -31,12 +31,12 @@ ends_send _ = false
 
 -- a send that waits may be refused so
 abbrev pub EndsSend : Refusal → Type 0
-EndsSend why = IsTrue (ends_send why)
+EndsSend refusal = IsTrue (ends_send refusal)
 
 -- whether a sender may end so: all was sent, or a send that waits was refused
 abbrev pub may_end : Option Refusal → Bool
 may_end None = true
-may_end (Some why) = ends_send why
+may_end (Some refusal) = ends_send refusal
 
 -- a refusal that is the queue's has this cause; one that is the office's own wants none
 abbrev pub HandsOn : (cause : Refusal → Type 0) → Refusal → Type 0

@@ -21,17 +21,19 @@ impl Ended {
     }
 
     /// A waiting send was refused.
-    pub(crate) fn refused(why: Refusal) -> Ended
-        requires { EndsSend why }
-        ensures { result.refusal ≡ Some why }
+    pub(crate) fn refused(refusal: Refusal) -> Ended
+        requires { EndsSend refusal }
+        ensures { result.refusal ≡ Some refusal }
     {
-        Ended { refusal: Some(why) }
+        Ended {
+            refusal: Some(refusal),
+        }
     }
 
     /// Its refusal, where it was refused.
     pub(crate) fn refusal(self) -> Option<Refusal>
         ensures same { result ≡ self.refusal }
-        ensures why { IfSome result EndsSend }
+        ensures refusal { IfSome result EndsSend }
     {
         self.refusal
     }

@@ -41,7 +41,7 @@ impl<Q: Fifo + Drop> Office<Q> {
         ensures opens { IfOk result (λ r. Opens queue senders.items receiver r.0 r.1.items r.2) }
         ensures each { IfOk result (λ r. All (IsSender Q.is_seat Q.permits Q.known r.0) r.1.items) }
         ensures receiver { IfOk result (λ r. IsReceiver Q.is_seat Q.permits Q.known r.0 r.2) }
-        ensures only_memory { IfErr result (λ why. why ≡ Refusal.Memory) }
+        ensures only_memory { IfErr result (λ refusal. refusal ≡ Refusal.Memory) }
     {
         let Ok(letters) = Letters::with_rule(alloc, Tag::empty()) else {
             return Err(Refusal::Memory);

@@ -35,7 +35,7 @@ impl<Q: Fifo + Drop> Office<Q> {
         ensures queue { IfOk result (λ o. HasQueueOf self o) }
         ensures tasks { IfOk result (λ o. All (IsTask Q.is_seat Q.permits Q.known o) tasks.now.items) }
         ensures plan { IfOk result (λ o. Plans o tasks.now.items) }
-        ensures only_memory { IfErr result (λ why. why ≡ Refusal.Memory) }
+        ensures only_memory { IfErr result (λ refusal. refusal ≡ Refusal.Memory) }
     {
         let Office { queue, letters: _ } = self;
         match Letters::with_rule(alloc, Tag::of::<Vec<Task<Q>>, TextsOf>(tasks)) {

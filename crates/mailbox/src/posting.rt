@@ -44,8 +44,8 @@ fn send_texts<R: Wait, Q: Fifo + Drop>(
             task: number,
             place,
         };
-        if let Err(why) = sender.send_due(rt, office, text, Some(due)) {
-            return Ended::refused(why);
+        if let Err(refusal) = sender.send_due(rt, office, text, Some(due)) {
+            return Ended::refused(refusal);
         }
         place += 1;
     }
@@ -132,7 +132,7 @@ fn take_all<'a, R: Wait, Q: Fifo + Drop>(
     ensures delivered { IfOk result (λ v. Delivered Q.known receiver.old v.items receiver.new) }
     ensures most { IfOk result (λ v. length v.items ≤ due) }
     ensures texts { IfOk result (λ v. AreThoseDue office.now (length counts.items) v.items) }
-    ensures why { IfErr result EndsPost }
+    ensures refusal { IfErr result EndsPost }
 {
     let backoff = Backoff::new();
     for _ in rt.forever() {
@@ -153,7 +153,7 @@ fn take_all<'a, R: Wait, Q: Fifo + Drop>(
             Ok(None) if all_ended => return Ok(letters),
             Ok(None) => backoff.snooze(),
             Err(Refusal::Closed) => return Ok(letters),
-            Err(why) => return Err(why),
+            Err(refusal) => return Err(refusal),
         }
     }
     unreachable!()
@@ -164,7 +164,7 @@ fn answered(refusal: Option<Refusal>) -> Option<Refusal>
     requires { IfSome refusal EndsSend }
     ensures shut { refusal ≡ Some Refusal.Closed → result ≡ Some Refusal.Lost }
     ensures same { refusal ≢ Some Refusal.Closed → result ≡ refusal }
-    ensures why { IfSome result EndsPost }
+    ensures refusal { IfSome result EndsPost }
 {
     match refusal {
         Some(Refusal::Closed) => Some(Refusal::Lost),
@@ -218,7 +218,7 @@ fn run<'s, 'a: 's, E, R: Threads + Wait + Sync, Q: Fifo + Sync + Drop>(
     ensures delivered { IfOk result (λ v. Delivered Q.known receiver.old v.items receiver.new) }
     ensures all { IfOk result (λ v. length v.items ≡ letters_of tasks.items) }
     ensures texts { IfOk result (λ v. BringTexts (map texts_in tasks.items) v.items) }
-    ensures why { IfErr result EndsPost }
+    ensures refusal { IfErr result EndsPost }
 {
     let senders = tasks.len();
     let Some(due) = count_letters(&tasks) else {
@@ -273,7 +273,7 @@ pub fn post<'a, R: Threads + Wait + Sync, Q: Fifo + Sync + Drop>(
     requires tasks { All (IsTask Q.is_seat Q.permits Q.known office.now) tasks.items }
     requires plan { Plans office.now tasks.items }
     requires receiver { IsReceiver Q.is_seat Q.permits Q.known office.now receiver }
-    //= letters/posted (receiver, order, delivered, all, texts, why): Letters posted come in the order taken: one value
+    //= letters/posted (receiver, order, delivered, all, texts, refusal): Letters posted come in the order taken: one value
     //=   popped for each, which its sender pushed, and no others; as many as the tasks have, seat 1's the texts of the
     //=   first task, in their order, and so on. At a refusal too the receiver given back is the office's and took in
     //=   order; refusals are those of a send and of a take that wait, but `Closed`.
@@ -282,7 +282,7 @@ pub fn post<'a, R: Threads + Wait + Sync, Q: Fifo + Sync + Drop>(
     ensures delivered { IfOk result.1 (λ v. Delivered Q.known receiver v.items result.0) }
     ensures all { IfOk result.1 (λ v. length v.items ≡ letters_of tasks.items) }
     ensures texts { IfOk result.1 (λ v. BringTexts (map texts_in tasks.items) v.items) }
-    ensures why { IfErr result.1 EndsPost }
+    ensures refusal { IfErr result.1 EndsPost }
 {
     let counter = EndCounter::new(tasks.len());
     let ended = &counter;
@@ -298,7 +298,7 @@ pub fn post<'a, R: Threads + Wait + Sync, Q: Fifo + Sync + Drop>(
             ensures delivered { IfOk result.1 (λ v. Delivered Q.known receiver v.items result.0) }
             ensures all { IfOk result.1 (λ v. length v.items ≡ letters_of tasks.items) }
             ensures texts { IfOk result.1 (λ v. BringTexts (map texts_in tasks.items) v.items) }
-            ensures why { IfErr result.1 EndsPost }
+            ensures refusal { IfErr result.1 EndsPost }
         {
             let mut receiver = receiver;
             let letters = run(scope, rt, alloc, office, tasks, &mut receiver, ended);

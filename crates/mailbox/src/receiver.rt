@@ -60,13 +60,13 @@ impl<Q: Fifo + Drop> Receiver<Q> {
         //=   notes that the queue was shut and empty; but where a letter is lost, the first such call popped one value,
         //=   and each later one changes nothing and is refused so too.
         ensures refused { IfErr result
-            (λ why. why ≢ Lost → TookNothing Q.known self.old why self.new) }
+            (λ refusal. refusal ≢ Lost → TookNothing Q.known self.old refusal self.new) }
         ensures lost { result ≡ Err Lost → Loses Q.known self.old self.new }
         ensures stays_lost { has_lost self.old ≡ true → result ≡ Err Lost }
         //= letters/refusals: A send is refused by `Memory` with the sender as it was, by `BadSize` where the index is
         //=   no body, or as a push; a take as a pop, or by `Lost`; a shut as the queue's. Those that wait are never
         //=   refused by `Busy`.
-        ensures why { IfErr result StopsTake }
+        ensures refusal { IfErr result StopsTake }
         //= letters/causes: A send, a shut or a take refused as the queue's call hands on; one that waits has the cause
         //=   of a try of 8 turns, as for `Fifo::push`, `shut` and `pop`.
         ensures caused { IfErr result
@@ -113,11 +113,11 @@ impl<Q: Fifo + Drop> Receiver<Q> {
         ensures order { InOrder (receiver_knows Q.known self.new) }
         //= letters/refused_take (refused, lost, stays_lost)
         ensures refused { IfErr result
-            (λ why. why ≢ Lost → TookNothing Q.known self.old why self.new) }
+            (λ refusal. refusal ≢ Lost → TookNothing Q.known self.old refusal self.new) }
         ensures lost { result ≡ Err Lost → Loses Q.known self.old self.new }
         ensures stays_lost { has_lost self.old ≡ true → result ≡ Err Lost }
         //= letters/refusals
-        ensures why { IfErr result EndsTake }
+        ensures refusal { IfErr result EndsTake }
         //= letters/causes
         ensures caused { IfErr result
             (HandsOn (TakeEnded Q.is_seat Q.known Q.pop_cause office.now self.old self.new 8)) }
@@ -127,7 +127,7 @@ impl<Q: Fifo + Drop> Receiver<Q> {
             match self.try_take(office, TURNS) {
                 Ok(letter) => return Ok(letter),
                 Err(Refusal::Busy) => backoff.snooze(),
-                Err(why) => return Err(why),
+                Err(refusal) => return Err(refusal),
             }
         }
         unreachable!()

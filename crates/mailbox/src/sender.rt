@@ -34,7 +34,7 @@ impl<Q: Fifo + Drop> Sender<Q> {
         ensures stored { IfOk result (λ body. Stored office.now self.new body (string_bytes text)) }
         ensures memory { result ≡ Err Memory → self.new ≡ self.old }
         ensures no_body { result ≡ Err BadSize → HasNoBody office.now self.old self.new text }
-        ensures why { IfErr result StopsStore }
+        ensures refusal { IfErr result StopsStore }
     {
         let Ok(pushed) = office.letters.push_shown(rt, Parcel { due, text }) else {
             return Err(Refusal::Memory);
@@ -70,11 +70,11 @@ impl<Q: Fifo + Drop> Sender<Q> {
         //=   the sender's own. A refused one adds no entry; where the queue refused it, its text is stored, at an index
         //=   that is a body; where the queue was shut, the seat notes it.
         ensures sent { OnOk result (Sent Q.known office.now self.old self.new text) }
-        ensures refused { IfErr result (λ why. SentNothing Q.known self.old why self.new) }
-        //= letters/refusals (memory, no_body, why)
+        ensures refused { IfErr result (λ refusal. SentNothing Q.known self.old refusal self.new) }
+        //= letters/refusals (memory, no_body, refusal)
         ensures memory { result ≡ Err Memory → self.new ≡ self.old }
         ensures no_body { result ≡ Err BadSize → HasNoBody office.now self.old self.new text }
-        ensures why { IfErr result StopsSend }
+        ensures refusal { IfErr result StopsSend }
         ensures stored { IfErr result (HandsOn (λ _. HasStored office.now self.new text)) }
         //= letters/causes
         ensures caused { IfErr result
@@ -96,11 +96,11 @@ impl<Q: Fifo + Drop> Sender<Q> {
         ensures office { IsSender Q.is_seat Q.permits Q.known office.now self.new }
         //= letters/sent (sent, refused, stored)
         ensures sent { OnOk result (Sent Q.known office.now self.old self.new text) }
-        ensures refused { IfErr result (λ why. SentNothing Q.known self.old why self.new) }
-        //= letters/refusals (memory, no_body, why)
+        ensures refused { IfErr result (λ refusal. SentNothing Q.known self.old refusal self.new) }
+        //= letters/refusals (memory, no_body, refusal)
         ensures memory { result ≡ Err Memory → self.new ≡ self.old }
         ensures no_body { result ≡ Err BadSize → HasNoBody office.now self.old self.new text }
-        ensures why { IfErr result EndsSend }
+        ensures refusal { IfErr result EndsSend }
         ensures stored { IfErr result (HandsOn (λ _. HasStored office.now self.new text)) }
         //= letters/causes
         ensures caused { IfErr result
@@ -121,10 +121,10 @@ impl<Q: Fifo + Drop> Sender<Q> {
         requires due { Fits (marks office.now) due (string_bytes text) }
         ensures office { IsSender Q.is_seat Q.permits Q.known office.now self.new }
         ensures sent { OnOk result (Sent Q.known office.now self.old self.new text) }
-        ensures refused { IfErr result (λ why. SentNothing Q.known self.old why self.new) }
+        ensures refused { IfErr result (λ refusal. SentNothing Q.known self.old refusal self.new) }
         ensures memory { result ≡ Err Memory → self.new ≡ self.old }
         ensures no_body { result ≡ Err BadSize → HasNoBody office.now self.old self.new text }
-        ensures why { IfErr result EndsSend }
+        ensures refusal { IfErr result EndsSend }
         ensures stored { IfErr result (HandsOn (λ _. HasStored office.now self.new text)) }
         ensures caused { IfErr result
             (HandsOn (SendEnded Q.is_seat Q.known Q.push_cause office.now self.old self.new 8)) }
@@ -143,7 +143,7 @@ impl<Q: Fifo + Drop> Sender<Q> {
     ///     Err(Refusal::Busy) => backoff.snooze(),
     ///     // By this call, or by one before.
     ///     Ok(()) | Err(Refusal::Closed) => return Ok(()),
-    ///     Err(why) => return Err(why),
+    ///     Err(refusal) => return Err(refusal),
     /// }
     /// ```
     pub fn try_shut(&mut self, office: &Office<Q>, turns: u32) -> Result<(), Refusal>
@@ -154,10 +154,10 @@ impl<Q: Fifo + Drop> Sender<Q> {
         //=   adds no entry, and where the queue was shut, the seat notes it. What the sender has sent, and what shows
         //=   the letter that it stored last, stay.
         ensures shut { OnOk result (DidShutOffice Q.known self.old self.new) }
-        ensures refused { IfErr result (λ why. SentNothing Q.known self.old why self.new) }
+        ensures refused { IfErr result (λ refusal. SentNothing Q.known self.old refusal self.new) }
         ensures same { HasSentTheSame Q.known self.old self.new }
         //= letters/refusals
-        ensures why { IfErr result StopsShut }
+        ensures refusal { IfErr result StopsShut }
         //= letters/causes
         ensures caused { IfErr result
             (SendHadCause Q.shut_cause office.now self.old self.new turns) }
@@ -178,10 +178,10 @@ impl<Q: Fifo + Drop> Sender<Q> {
         ensures office { IsSender Q.is_seat Q.permits Q.known office.now self.new }
         //= letters/shut (shut, refused, same)
         ensures shut { OnOk result (DidShutOffice Q.known self.old self.new) }
-        ensures refused { IfErr result (λ why. SentNothing Q.known self.old why self.new) }
+        ensures refused { IfErr result (λ refusal. SentNothing Q.known self.old refusal self.new) }
         ensures same { HasSentTheSame Q.known self.old self.new }
         //= letters/refusals
-        ensures why { IfErr result EndsShut }
+        ensures refusal { IfErr result EndsShut }
         //= letters/causes
         ensures caused { IfErr result
             (SendEnded Q.is_seat Q.known Q.shut_cause office.now self.old self.new 8) }

@@ -40,11 +40,11 @@ impl Fifo for FullQueue {
 
     ghost known = { knows_empties };
 
-    ghost push_cause = { λ _ _ _ _ why. why ≡ NoNode };
+    ghost push_cause = { λ _ _ _ _ refusal. refusal ≡ NoNode };
 
-    ghost pop_cause = { λ _ _ _ _ why. why ≡ Busy };
+    ghost pop_cause = { λ _ _ _ _ refusal. refusal ≡ Busy };
 
-    ghost shut_cause = { λ _ _ _ _ why. why ≡ WornOut Tail };
+    ghost shut_cause = { λ _ _ _ _ refusal. refusal ≡ WornOut Tail };
 
     ghost sound = { λ _ seat _. empties_are_sound seat };
 
@@ -76,7 +76,7 @@ impl Fifo for FullQueue {
 
     fn close(self, alloc: Global, seats: Vec<FullSeat>) -> Result<Rest, Refusal>
         ensures rest { IfOk result (λ rest. Closes one_permit (map knows_empties seats.items) rest) }
-        ensures only_memory { IfErr result (λ why. why ≡ Refusal.Memory) }
+        ensures only_memory { IfErr result (λ refusal. refusal ≡ Refusal.Memory) }
     {
         drop(seats);
         Ok(Rest::of(Vec::new(alloc), 0, true, false))

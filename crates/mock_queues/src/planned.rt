@@ -87,9 +87,9 @@ impl<Q: Fifo + Drop, P: Plan + Drop> Fifo for Planned<Q, P> {
                 self.plan.finds_empty();
                 Ok(None)
             }
-            Err(why) => {
-                self.plan.finds_trouble(why);
-                Err(why)
+            Err(refusal) => {
+                self.plan.finds_trouble(refusal);
+                Err(refusal)
             }
         }
     }
@@ -117,7 +117,7 @@ impl<Q: Fifo + Drop, P: Plan + Drop> Fifo for Planned<Q, P> {
     fn close(self, alloc: Global, seats: Vec<Q::Seat>) -> Result<Rest, Refusal>
         requires { All (Q.is_seat self.queue) seats.items }
         ensures rest { IfOk result (λ rest. Closes (Q.permits self.queue) (map Q.known seats.items) rest) }
-        ensures only_memory { IfErr result (λ why. why ≡ Refusal.Memory) }
+        ensures only_memory { IfErr result (λ refusal. refusal ≡ Refusal.Memory) }
     {
         self.queue.close(alloc, seats)
     }

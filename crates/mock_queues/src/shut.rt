@@ -32,7 +32,7 @@ impl ShutSeat {
     fn finds_shut(&mut self) -> Refusal
         ensures push { PushRefused (knows_shut self.old) result (knows_shut self.new) }
         ensures pop { PopRefused (knows_shut self.old) result (knows_shut self.new) }
-        ensures why { StopsAtShut result }
+        ensures refusal { StopsAtShut result }
     {
         if self.notes == u64::MAX {
             return Refusal::Busy;
@@ -56,11 +56,11 @@ impl Fifo for ShutQueue {
 
     ghost known = { knows_shut };
 
-    ghost push_cause = { λ _ _ _ _ why. StopsAtShut why };
+    ghost push_cause = { λ _ _ _ _ refusal. StopsAtShut refusal };
 
-    ghost pop_cause = { λ _ _ _ _ why. StopsAtShut why };
+    ghost pop_cause = { λ _ _ _ _ refusal. StopsAtShut refusal };
 
-    ghost shut_cause = { λ _ _ _ _ why. StopsAtShut why };
+    ghost shut_cause = { λ _ _ _ _ refusal. StopsAtShut refusal };
 
     ghost sound = { λ _ seat _. shut_is_sound seat };
 
@@ -88,7 +88,7 @@ impl Fifo for ShutQueue {
 
     fn close(self, alloc: Global, seats: Vec<ShutSeat>) -> Result<Rest, Refusal>
         ensures rest { IfOk result (λ rest. Closes one_permit (map knows_shut seats.items) rest) }
-        ensures only_memory { IfErr result (λ why. why ≡ Refusal.Memory) }
+        ensures only_memory { IfErr result (λ refusal. refusal ≡ Refusal.Memory) }
     {
         Ok(Rest::of(Vec::new(alloc), 0, !seats.is_empty(), true))
     }

@@ -156,8 +156,8 @@ fn shown<R: Runtime>(rt: &R, text: &str) -> u8 {
 }
 
 /// The status of words that are refused, for a reason that is written to standard error.
-fn refused<R: Runtime>(rt: &R, why: &str) -> u8 {
+fn refused<R: Runtime>(rt: &R, reason: &str) -> u8 {
     // Where standard error fails too, the status alone tells of the refusal.
-    let _ = eprint!(rt; "{why}");
+    let _ = eprint!(rt; "{reason}");
     2
 }

@@ -55,4 +55,4 @@ module _ (slots : List MsqSeat) (full : AreFull slots) (handles : All IsHandle s
     closes = subst (λ q. Closes (any_permits_of q) (map known_at slots) rest) both.1.0
         (subst (λ ks. Closes (any_permits_of (queue_of last)) ks rest) known c);
   }
-  closed_if (Err why) c = tt
+  closed_if (Err refusal) c = tt

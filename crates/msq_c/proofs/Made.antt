@@ -56,7 +56,7 @@ unused_of z q seats owned one e made sit new = record {
 pub made_if : {V E B : Type 0} (out : Result V E) (items : V → List MsqSeat) (value : B → OwnSeat) (boxes : List B) (owned : List (OwnedSeat AnyQueue Seat))
     → map (λ b. owned_in (value b)) boxes ≡ owned → (z : Layout) → AreUnused z owned → IfOk out (λ v. ArePut (map value boxes) (items v)) → IfOk out (λ v. AreMade z (items v))
 made_if (Ok v) items value boxes owned e z u p = all_made owned (map value boxes) (items v) (map-map owned_in value boxes ∙ e) z u p
-made_if (Err why) items value boxes owned e z u p = tt
+made_if (Err refusal) items value boxes owned e z u p = tt
 
 -- what was asked for, by the numbers of a kind and of roles
 module _ (kind nodes limit : ℕ) (numbers : List ℕ) (k : Kind) (roles : List Role) (kinds : kind_number k ≡ kind) (those : map role_number roles ≡ numbers) where
@@ -79,10 +79,10 @@ module _ (kind nodes limit : ℕ) (numbers : List ℕ) (k : Kind) (roles : List 
   pub asked_if : {V E : Type 0} (out : Result V E) (items : V → List MsqSeat)
       → IfOk out (λ v. AreMade (plan 24 k nodes limit roles) (items v)) → IfOk out (λ v. AreAsked kind nodes limit numbers (items v))
   asked_if (Ok v) items m = record { layout = plan 24 k nodes limit roles; of_kind = kinds; of_roles = those; planned = refl; made = m }
-  asked_if (Err why) items m = tt
+  asked_if (Err refusal) items m = tt
 
   -- as many as there are roles
   pub len_if : {V E : Type 0} (out : Result V E) (items : V → List MsqSeat)
       → IfOk out (λ v. AreMade (plan 24 k nodes limit roles) (items v)) → IfOk out (λ v. length (items v) ≡ length numbers)
   len_if (Ok v) items m = sym (length-map (items v) seat_at) ∙ m.made.count ∙ sym many
-  len_if (Err why) items m = tt
+  len_if (Err refusal) items m = tt

@@ -27,7 +27,7 @@ fault_number Closed = 16
 
 -- the code of a trouble
 abbrev pub code_of : Trouble → ℕ
-code_of (troubles.Refused why) = fault_number why
+code_of (troubles.Refused refusal) = fault_number refusal
 code_of troubles.BadSize = 5
 code_of troubles.NoHandle = 33
 code_of troubles.NoRole = 34
@@ -36,13 +36,13 @@ code_of troubles.InUse = 35
 -- the code of a call's answer: 0 at Ok
 abbrev pub done_code : {A : Type 0} → Result A Trouble → ℕ
 done_code (Ok x) = 0
-done_code (Err why) = code_of why
+done_code (Err refusal) = code_of refusal
 
 -- the code of a pop's answer: 32 where the queue was empty
 abbrev pub pop_code : Result (Option Taken) Trouble → ℕ
 pop_code (Ok (Some taken)) = 0
 pop_code (Ok None) = 32
-pop_code (Err why) = code_of why
+pop_code (Err refusal) = code_of refusal
 
 -- a code tells an answer of which this holds
 pub record Tells {A : Type 0} (code_of_answer : A → ℕ) (told : ℕ) (Holds : A → Type 0) : Type 0 where

@@ -44,11 +44,11 @@ pub record ClosesHandles (slots : List MsqSeat) (rest : Rest) : Type 0 where
 
 -- memory was refused
 abbrev pub IsMemory : Trouble → Type 0
-IsMemory why = why ≡ Refused Memory
+IsMemory refusal = refusal ≡ Refused Memory
 
 -- why seats are given up and their queue isn't closed: others have a share of it, or memory was refused
 abbrev pub GivesUp : Trouble → Type 0
-GivesUp why = (why ≡ InUse) ⊎ IsMemory why
+GivesUp refusal = (refusal ≡ InUse) ⊎ IsMemory refusal
 
 -- why a queue isn't closed: a handle is empty, and nothing changed; there are no handles; or others have a share of it, or
 -- memory was refused, and then all handles keep their seats, or all are empty
@@ -56,5 +56,5 @@ abbrev pub RefusesClose : List MsqSeat → List MsqSeat → Trouble → Type 0
 RefusesClose slots slots' NoHandle = (AreFull slots → ⊥) × (slots' ≡ slots)
 RefusesClose slots slots' BadSize = slots ≡ []
 RefusesClose slots slots' InUse = KeepSeats slots slots' ⊎ AreEmpty slots'
-RefusesClose slots slots' (Refused why) = (why ≡ Memory) × (KeepSeats slots slots' ⊎ AreEmpty slots')
+RefusesClose slots slots' (Refused refusal) = (refusal ≡ Memory) × (KeepSeats slots slots' ⊎ AreEmpty slots')
 RefusesClose slots slots' _ = ⊥

@@ -117,7 +117,7 @@ pub record AreAsked (kind nodes limit : ℕ) (roles : List ℕ) (slots : List Ms
 abbrev pub RefusesCreate : (kind nodes limit : ℕ) (roles : List ℕ) → List MsqSeat → Trouble → Type 0
 RefusesCreate kind nodes limit roles slots InUse = AreEmpty slots → ⊥
 RefusesCreate kind nodes limit roles slots BadSize = AreEmpty slots × ((length roles ≢ length slots) ⊎ IsOutOfRange kind nodes limit roles)
-RefusesCreate kind nodes limit roles slots (Refused why) = MayMake kind nodes limit roles slots × (why ≡ Memory)
+RefusesCreate kind nodes limit roles slots (Refused refusal) = MayMake kind nodes limit roles slots × (refusal ≡ Memory)
 RefusesCreate kind nodes limit roles slots _ = ⊥
 
 -- what the making of a queue answers: the handles are its seats; refused, they are as they were

@@ -40,24 +40,24 @@ permits_in s = any_permits_of (queue_in s)
 -- why a push is refused: by the queue, for its cause; or a number is out of its range, or the seat may not push, and nothing
 -- changed
 abbrev pub RefusesPush : OwnSeat → OwnSeat → (body turns : ℕ) → Trouble → Type 0
-RefusesPush s t body turns (Refused why) =
-    StopsPush why × PushRefused (known_in s) why (known_in t) × AnyPushRefused (queue_in s) (seat_in s) (seat_in t) turns why
+RefusesPush s t body turns (Refused refusal) =
+    StopsPush refusal × PushRefused (known_in s) refusal (known_in t) × AnyPushRefused (queue_in s) (seat_in s) (seat_in t) turns refusal
 RefusesPush s t body turns BadSize = ((turns ≡ 0) ⊎ (2 ^ body_bits ≤ body)) × (t ≡ s)
 RefusesPush s t body turns NoRole = (MayPush (permits_in s) (known_in s).number → ⊥) × (t ≡ s)
 RefusesPush s t body turns _ = ⊥
 
 -- why a pop is refused: by the queue, for its cause; or the turns are none, or the seat may not pop, and nothing changed
 abbrev pub RefusesPop : OwnSeat → OwnSeat → (turns : ℕ) → Trouble → Type 0
-RefusesPop s t turns (Refused why) =
-    StopsPop why × PopRefused (known_in s) why (known_in t) × AnyPopRefused (queue_in s) (seat_in s) (seat_in t) turns why
+RefusesPop s t turns (Refused refusal) =
+    StopsPop refusal × PopRefused (known_in s) refusal (known_in t) × AnyPopRefused (queue_in s) (seat_in s) (seat_in t) turns refusal
 RefusesPop s t turns BadSize = (turns ≡ 0) × (t ≡ s)
 RefusesPop s t turns NoRole = (MayPop (permits_in s) (known_in s).number → ⊥) × (t ≡ s)
 RefusesPop s t turns _ = ⊥
 
 -- why a shut is refused: by the queue, for its cause; or the turns are none, or the seat may not push, and nothing changed
 abbrev pub RefusesShut : OwnSeat → OwnSeat → (turns : ℕ) → Trouble → Type 0
-RefusesShut s t turns (Refused why) =
-    StopsShut why × PushRefused (known_in s) why (known_in t) × AnyShutRefused (queue_in s) (seat_in s) (seat_in t) turns why
+RefusesShut s t turns (Refused refusal) =
+    StopsShut refusal × PushRefused (known_in s) refusal (known_in t) × AnyShutRefused (queue_in s) (seat_in s) (seat_in t) turns refusal
 RefusesShut s t turns BadSize = (turns ≡ 0) × (t ≡ s)
 RefusesShut s t turns NoRole = (MayPush (permits_in s) (known_in s).number → ⊥) × (t ≡ s)
 RefusesShut s t turns _ = ⊥

@@ -25,12 +25,12 @@ pub record Closed (slots slots' : List MsqSeat) (vs vs' : List MsqValue) (told :
   pub written : AreWritten (left_of rest) vs vs'
 
 -- a queue isn't closed, for its cause, and nothing was written
-pub record NotClosed (slots slots' : List MsqSeat) (vs vs' : List MsqValue) (told told' : MsqRest) (why : Trouble) : Type 0 where
-  pub refused : RefusesClose slots slots' why
+pub record NotClosed (slots slots' : List MsqSeat) (vs vs' : List MsqValue) (told told' : MsqRest) (refusal : Trouble) : Type 0 where
+  pub refused : RefusesClose slots slots' refusal
   pub values : vs' ≡ vs
   pub rest : told' ≡ told
 
 -- what the end of a queue answers
 abbrev pub AnswersClose : (slots slots' : List MsqSeat) (vs vs' : List MsqValue) (told told' : MsqRest) → Result (Unit {0}) Trouble → Type 0
 AnswersClose slots slots' vs vs' told told' (Ok x) = Closed slots slots' vs vs' told'
-AnswersClose slots slots' vs vs' told told' (Err why) = NotClosed slots slots' vs vs' told told' why
+AnswersClose slots slots' vs vs' told told' (Err refusal) = NotClosed slots slots' vs vs' told told' refusal

@@ -70,4 +70,4 @@ pub record AnswersMeet (h i h' i' : MsqSeat) (out : Result (Unit {0}) Trouble) :
   pub one : KeepsHandle h h'
   pub other : KeepsHandle i i'
   pub meets : OnOk out (Meets (known_at h) (known_at i) (known_at h') (known_at i'))
-  pub refused : IfErr out (λ why. (why ≡ NoHandle) × ((is_full h ≡ false) ⊎ (is_full i ≡ false)) × (h' ≡ h) × (i' ≡ i))
+  pub refused : IfErr out (λ refusal. (refusal ≡ NoHandle) × ((is_full h ≡ false) ⊎ (is_full i ≡ false)) × (h' ≡ h) × (i' ≡ i))

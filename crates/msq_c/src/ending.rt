@@ -66,7 +66,7 @@ fn take_all(alloc: Global, slots: &mut [MsqSeat]) -> Result<Vec<OwnedSeat<AnyQue
     requires { AreFull slots.old }
     ensures taken { IfOk result (λ owned. owned.items ≡ map owned_at slots.old) }
     ensures empty { OnOk result (AreEmpty slots.new) }
-    ensures refused { IfErr result (λ why. IsMemory why × (slots.new ≡ slots.old)) }
+    ensures refused { IfErr result (λ refusal. IsMemory refusal × (slots.new ≡ slots.old)) }
 {
     let Ok(mut owned) = Vec::with_capacity(alloc, slots.len()) else {
         return Err(Trouble::Refused(Refusal::Memory));
@@ -94,7 +94,7 @@ fn ended(
     match last.close(alloc, others) {
         Ok(Some(rest)) => Ok(rest),
         Ok(None) => Err(Trouble::InUse),
-        Err(why) => Err(Trouble::Refused(why)),
+        Err(refusal) => Err(Trouble::Refused(refusal)),
     }
 }
 

@@ -60,7 +60,7 @@ pub extern "C" fn msq_try_pop(
             0
         }
         Ok(None) => EMPTY,
-        Err(why) => why.code(),
+        Err(refusal) => refusal.code(),
     }
 }
 
@@ -130,7 +130,7 @@ pub extern "C" fn msq_close(
             *rest = MsqRest::written(found, values);
             0
         }
-        Err(why) => why.code(),
+        Err(refusal) => refusal.code(),
     }
 }
 

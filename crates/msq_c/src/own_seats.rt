@@ -56,7 +56,7 @@ impl OwnSeat {
         }
         match self.owned.try_push(body, turns) {
             Ok(()) => Ok(()),
-            Err(why) => Err(Trouble::Refused(why)),
+            Err(refusal) => Err(Trouble::Refused(refusal)),
         }
     }
 
@@ -76,7 +76,7 @@ impl OwnSeat {
         }
         match self.owned.try_pop(turns) {
             Ok(taken) => Ok(taken),
-            Err(why) => Err(Trouble::Refused(why)),
+            Err(refusal) => Err(Trouble::Refused(refusal)),
         }
     }
 
@@ -95,7 +95,7 @@ impl OwnSeat {
         }
         match self.owned.try_shut(turns) {
             Ok(()) => Ok(()),
-            Err(why) => Err(Trouble::Refused(why)),
+            Err(refusal) => Err(Trouble::Refused(refusal)),
         }
     }
 

@@ -23,10 +23,10 @@ pub enum Trouble {
 }
 
 // The number of a refusal.
-fn number_of(why: Refusal) -> u32
-    ensures { result ≡ fault_number why }
+fn number_of(refusal: Refusal) -> u32
+    ensures { result ≡ fault_number refusal }
 {
-    match why {
+    match refusal {
         Refusal::NoNode => 1,
         Refusal::WornOut(_) => 2,
         Refusal::Busy => 3,
@@ -52,7 +52,7 @@ impl Trouble {
         ensures { result ≡ code_of self }
     {
         match self {
-            Trouble::Refused(why) => number_of(why),
+            Trouble::Refused(refusal) => number_of(refusal),
             Trouble::BadSize => 5,
             Trouble::NoHandle => 33,
             Trouble::NoRole => 34,
@@ -67,6 +67,6 @@ pub(crate) fn code(answer: Result<(), Trouble>) -> u32
 {
     match answer {
         Ok(()) => 0,
-        Err(why) => why.code(),
+        Err(refusal) => refusal.code(),
     }
 }

@@ -159,21 +159,21 @@ module _ (t : Traced) (seen : List Entry) where
   unlocked_nothing now (Some Done) a = record { saw = λ b. tt }
   unlocked_nothing now (Some (Value v)) a = record { saw = λ b. tt }
   unlocked_nothing now (Some Empty) a = record { saw = λ b. tt }
-  unlocked_nothing now (Some (Refused why)) a = record { saw = λ b. tt }
+  unlocked_nothing now (Some (Refused refusal)) a = record { saw = λ b. tt }
 
   left_nothing : (now : ℕ) (due : Option Reply) (a : Actor) → SeesNothing t seen (left now due a)
   left_nothing now None a = record { saw = λ b. tt }
   left_nothing now (Some Done) a = record { saw = λ b. tt }
   left_nothing now (Some (Value v)) a = record { saw = λ b. tt }
   left_nothing now (Some Empty) a = record { saw = λ b. tt }
-  left_nothing now (Some (Refused why)) a = record { saw = λ b. tt }
+  left_nothing now (Some (Refused refusal)) a = record { saw = λ b. tt }
 
   left_with_node_nothing : (now : ℕ) (due : Option Reply) (a : Actor) → SeesNothing t seen (left_with_node now due a)
   left_with_node_nothing now None a = record { saw = λ b. tt }
   left_with_node_nothing now (Some Done) a = record { saw = λ b. tt }
   left_with_node_nothing now (Some (Value v)) a = record { saw = λ b. tt }
   left_with_node_nothing now (Some Empty) a = record { saw = λ b. tt }
-  left_with_node_nothing now (Some (Refused why)) a = record { saw = λ b. tt }
+  left_with_node_nothing now (Some (Refused refusal)) a = record { saw = λ b. tt }
 
   sees_nothing : (s : Setup) (now me : ℕ) (a : Actor) (l : Line) (c : Found (action s me a l)) → LooksAway l → SeesNothing t seen (outcome s now me a l c)
   sees_nothing s now me a N2 c h =
@@ -302,7 +302,7 @@ silent_freeing None h = tt
 silent_freeing (Some Done) h = tt
 silent_freeing (Some (Value v)) h = tt
 silent_freeing (Some Empty) h = h
-silent_freeing (Some (Refused why)) h = absurd h
+silent_freeing (Some (Refused refusal)) h = absurd h
 
 -- what E7 makes of its actor, and what S3 does, by whether Tail is as read, null or a closed end was read, and Tail is worn out
 abbrev after_e7 : (now : ℕ) → Actor → (same none shut out : Bool) → Outcome

@@ -54,7 +54,7 @@ module _ (me : ℕ) (op : Op) where
   ended now Done a = record { none = refl }
   ended now (Value v) a = record { none = refl }
   ended now Empty a = record { none = refl }
-  ended now (Refused why) a = record { none = refl }
+  ended now (Refused refusal) a = record { none = refl }
 
   freed_adds : (kind : Kind) (now : ℕ) (due : Option Reply) (a : Actor) → AddsNothing me op (freed kind now due a)
   freed_adds kind now None a = record { none = refl }
@@ -65,28 +65,28 @@ module _ (me : ℕ) (op : Op) where
   aside_adds kind now (Some Done) a = record { none = refl }
   aside_adds kind now (Some (Value v)) a = record { none = refl }
   aside_adds kind now (Some Empty) a = record { none = refl }
-  aside_adds kind now (Some (Refused why)) a = record { none = refl }
+  aside_adds kind now (Some (Refused refusal)) a = record { none = refl }
 
   unlocked_adds : (now : ℕ) (due : Option Reply) (a : Actor) → AddsNothing me op (unlocked now due a)
   unlocked_adds now None a = record { none = refl }
   unlocked_adds now (Some (Value v)) a = record { none = refl }
   unlocked_adds now (Some Done) a = record { none = refl }
   unlocked_adds now (Some Empty) a = record { none = refl }
-  unlocked_adds now (Some (Refused why)) a = record { none = refl }
+  unlocked_adds now (Some (Refused refusal)) a = record { none = refl }
 
   left_adds : (now : ℕ) (due : Option Reply) (a : Actor) → AddsNothing me op (left now due a)
   left_adds now None a = record { none = refl }
   left_adds now (Some (Value v)) a = record { none = refl }
   left_adds now (Some Done) a = record { none = refl }
   left_adds now (Some Empty) a = record { none = refl }
-  left_adds now (Some (Refused why)) a = record { none = refl }
+  left_adds now (Some (Refused refusal)) a = record { none = refl }
 
   left_with_node_adds : (now : ℕ) (due : Option Reply) (a : Actor) → AddsNothing me op (left_with_node now due a)
   left_with_node_adds now None a = record { none = refl }
   left_with_node_adds now (Some (Value v)) a = record { none = refl }
   left_with_node_adds now (Some Done) a = record { none = refl }
   left_with_node_adds now (Some Empty) a = record { none = refl }
-  left_with_node_adds now (Some (Refused why)) a = record { none = refl }
+  left_with_node_adds now (Some (Refused refusal)) a = record { none = refl }
 
   -- giving up adds nothing
   busy_or_adds : (now : ℕ) (due : Option Reply) (a : Actor) → IfSome (busy_or now due a) (AddsNothing me op)

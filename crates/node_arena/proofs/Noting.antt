@@ -63,21 +63,21 @@ unlocked_silent now None a h = record { reply = tt }
 unlocked_silent now (Some Done) a h = record { reply = tt }
 unlocked_silent now (Some (Value v)) a h = record { reply = tt }
 unlocked_silent now (Some Empty) a h = absurd h
-unlocked_silent now (Some (Refused why)) a h = record { reply = h }
+unlocked_silent now (Some (Refused refusal)) a h = record { reply = h }
 
 left_silent : (now : ℕ) (due : Option Reply) (a : Actor) → IsSilent due → Silent (left now due a)
 left_silent now None a h = record { reply = tt }
 left_silent now (Some (Value v)) a h = record { reply = tt }
 left_silent now (Some Done) a h = record { reply = tt }
 left_silent now (Some Empty) a h = record { reply = tt }
-left_silent now (Some (Refused why)) a h = record { reply = h }
+left_silent now (Some (Refused refusal)) a h = record { reply = h }
 
 left_with_node_silent : (now : ℕ) (due : Option Reply) (a : Actor) → IsSilent due → Silent (left_with_node now due a)
 left_with_node_silent now None a h = record { reply = tt }
 left_with_node_silent now (Some (Value v)) a h = record { reply = tt }
 left_with_node_silent now (Some Done) a h = record { reply = tt }
 left_with_node_silent now (Some Empty) a h = record { reply = tt }
-left_with_node_silent now (Some (Refused why)) a h = record { reply = h }
+left_with_node_silent now (Some (Refused refusal)) a h = record { reply = h }
 
 -- an outcome by whether a closed end was read, where none was
 open_silent : (b : Bool) (x y : Outcome) → b ≡ false → Silent y → Silent (if b then x else y)

@@ -129,13 +129,13 @@ ended_behind r s t es fs P w h =
       held = h.held;
     }
 
-pub stopped_behind : (r : Arena) (s t : Seat) (es fs : List Event) (why : Refusal) → ExtendsPath (view s) (view t) es → EndedAt r t fs (IsRefusedAt r.plan.setup (view t).number why) → EndedAt r s (es ++ fs) (IsRefusedAt r.plan.setup (view s).number why)
-stopped_behind r s t es fs why w h =
-    ended_behind r s t es fs (IsRefusedAt r.plan.setup (view s).number why) w (subst (λ me. EndedAt r t fs (IsRefusedAt r.plan.setup me why)) w.number h)
+pub stopped_behind : (r : Arena) (s t : Seat) (es fs : List Event) (refusal : Refusal) → ExtendsPath (view s) (view t) es → EndedAt r t fs (IsRefusedAt r.plan.setup (view t).number refusal) → EndedAt r s (es ++ fs) (IsRefusedAt r.plan.setup (view s).number refusal)
+stopped_behind r s t es fs refusal w h =
+    ended_behind r s t es fs (IsRefusedAt r.plan.setup (view s).number refusal) w (subst (λ me. EndedAt r t fs (IsRefusedAt r.plan.setup me refusal)) w.number h)
 
 -- a cause that a call met behind other lines
-pub met_behind : (r : Arena) (s t u : Seat) (es : List Event) (why : Refusal) → ExtendsPath (view s) (view t) es → added s u ≡ es ++ added t u → MetCause r t u why → MetCause r s u why
-met_behind r s t u es why w e h = last_held r s u (es ++ added t u) (IsRefusedAt r.plan.setup (view s).number why) e (stopped_behind r s t es (added t u) why w h)
+pub met_behind : (r : Arena) (s t u : Seat) (es : List Event) (refusal : Refusal) → ExtendsPath (view s) (view t) es → added s u ≡ es ++ added t u → MetCause r t u refusal → MetCause r s u refusal
+met_behind r s t u es refusal w e h = last_held r s u (es ++ added t u) (IsRefusedAt r.plan.setup (view s).number refusal) e (stopped_behind r s t es (added t u) refusal w h)
 
 pub failed_behind : (es fs : List Event) → FailedAt fs → FailedAt (es ++ fs)
 failed_behind es fs h = record { before = es ++ h.before; last = h.last; path = ap (λ x. es ++ x) h.path ∙ sym (append_assoc es h.before (h.last ∷ [])); failed = h.failed }
@@ -266,10 +266,10 @@ module _ (r : Arena) (s t : Seat) (prologue : Prologue) (l : Line) (n : ℕ) (d 
       }
 
   -- it was refused
-  pub stopped_at : (o : Seat) (before : List Event) (why : Refusal) → ExtendsPath (view o) (view s) before → (outcome_at r.plan.setup d.told.was (view s).number b l).reply ≡ Some (Refused why) → EndedAt r o (before ++ event ∷ []) (IsRefusedAt r.plan.setup (view o).number why)
-  stopped_at o before why w e =
-      ended_at o before (IsRefusedAt r.plan.setup (view o).number why) w
-      (subst (λ me. IsRefusedAt r.plan.setup me why d.told.was b l) w.number (e, has_own_cause r.plan prologue l n (view s) (view t) d.told why e))
+  pub stopped_at : (o : Seat) (before : List Event) (refusal : Refusal) → ExtendsPath (view o) (view s) before → (outcome_at r.plan.setup d.told.was (view s).number b l).reply ≡ Some (Refused refusal) → EndedAt r o (before ++ event ∷ []) (IsRefusedAt r.plan.setup (view o).number refusal)
+  stopped_at o before refusal w e =
+      ended_at o before (IsRefusedAt r.plan.setup (view o).number refusal) w
+      (subst (λ me. IsRefusedAt r.plan.setup me refusal d.told.was b l) w.number (e, has_own_cause r.plan prologue l n (view s) (view t) d.told refusal e))
 
   pub failed_last : (before : List Event) → failed_at l (view t).actor.line ≡ 1 → FailedAt (before ++ event ∷ [])
   failed_last before e = record { before = before; last = event; path = refl; failed = ap (failed_at l) to_is ∙ e }

@@ -76,7 +76,7 @@ plays_first (Push seat body ∷ xs) ys from to h = let r = plays_first xs ys _ t
 plays_first (Shut seat ∷ xs) ys from to h = let r = plays_first xs ys _ to h.1 in (r.0, (h.0, r.1))
 plays_first (Pop seat value ∷ xs) ys from to h = let r = plays_first xs ys _ to h.1 in (r.0, (h.0, r.1))
 
--- a beginning of a legal history is legal
+-- a prefix of a legal history is legal
 pub legal_first : (xs ys : List Entry) → IsQueueRun (xs ++ ys) → IsQueueRun xs
 legal_first xs ys h = plays_first xs ys empty h.0 h.1
 

@@ -53,10 +53,10 @@ module _ (z : Layout) (prologue : Prologue) (l : Line) (n : ℕ) (v v' : SeatVie
   actor_was_in_range = actor_in_range h.was.world v.number (after_prologue z.setup v.number prologue v.actor) was_in_range h.before
 
 -- a step that is refused has its cause in that world, in either queue
-pub has_cause : (z : Layout) (prologue : Prologue) (l : Line) (n : ℕ) (v v' : SeatView) (h : Steps z prologue l n v v') (why : Refusal) → (outcome_at z.setup h.was v.number (after_prologue z.setup v.number prologue v.actor) l).reply ≡ Some (Refused why) → HasCause h.was.world why
-has_cause z prologue l n v v' h why e = go h.was.world.setup.kind refl (ap (λ s. (outcome s (h.was.world.steps + 1) v.number (after_prologue z.setup v.number prologue v.actor) l (found (action s v.number (after_prologue z.setup v.number prologue v.actor) l) h.was.world.shared)).reply) h.setup ∙ e)
+pub has_cause : (z : Layout) (prologue : Prologue) (l : Line) (n : ℕ) (v v' : SeatView) (h : Steps z prologue l n v v') (refusal : Refusal) → (outcome_at z.setup h.was v.number (after_prologue z.setup v.number prologue v.actor) l).reply ≡ Some (Refused refusal) → HasCause h.was.world refusal
+has_cause z prologue l n v v' h refusal e = go h.was.world.setup.kind refl (ap (λ s. (outcome s (h.was.world.steps + 1) v.number (after_prologue z.setup v.number prologue v.actor) l (found (action s v.number (after_prologue z.setup v.number prologue v.actor) l) h.was.world.shared)).reply) h.setup ∙ e)
   where
-    go : (k : Kind) → h.was.world.setup.kind ≡ k → (outcome h.was.world.setup (h.was.world.steps + 1) v.number (after_prologue z.setup v.number prologue v.actor) l (found (action h.was.world.setup v.number (after_prologue z.setup v.number prologue v.actor) l) h.was.world.shared)).reply ≡ Some (Refused why) → HasCause h.was.world why
+    go : (k : Kind) → h.was.world.setup.kind ≡ k → (outcome h.was.world.setup (h.was.world.steps + 1) v.number (after_prologue z.setup v.number prologue v.actor) l (found (action h.was.world.setup v.number (after_prologue z.setup v.number prologue v.actor) l) h.was.world.shared)).reply ≡ Some (Refused refusal) → HasCause h.was.world refusal
     go TwoLock k reply = subst (HasCauseFor h.was.world) reply (two_lock.refuse_with_cause h.was.world (traced_reached h.was h.reached) k v.number (after_prologue z.setup v.number prologue v.actor) l h.before h.line)
     go NonBlocking k reply = subst (HasCauseFor h.was.world) reply (non_blocking.refuse_with_cause h.was.world (traced_reached h.was h.reached) k v.number (after_prologue z.setup v.number prologue v.actor) l h.before h.line)
 
@@ -67,8 +67,8 @@ none_counted (n ∷ ns) zero h = All-head (λ (x : Node). x.next.count ≡ 0) n 
 none_counted (n ∷ ns) (suc i) h = none_counted ns i (All-tail (λ (x : Node). x.next.count ≡ 0) n ns h)
 
 -- and where a `next` is worn out, it is that of the actor's own node
-pub has_own_cause : (z : Layout) (prologue : Prologue) (l : Line) (n : ℕ) (v v' : SeatView) (h : Steps z prologue l n v v') (why : Refusal) → (outcome_at z.setup h.was v.number (after_prologue z.setup v.number prologue v.actor) l).reply ≡ Some (Refused why) → HasOwnCause h.was.world v.number why
-has_own_cause z prologue l n v v' h why e = by_cause why e (has_cause z prologue l n v v' h why e)
+pub has_own_cause : (z : Layout) (prologue : Prologue) (l : Line) (n : ℕ) (v v' : SeatView) (h : Steps z prologue l n v v') (refusal : Refusal) → (outcome_at z.setup h.was v.number (after_prologue z.setup v.number prologue v.actor) l).reply ≡ Some (Refused refusal) → HasOwnCause h.was.world v.number refusal
+has_own_cause z prologue l n v v' h refusal e = by_cause refusal e (has_cause z prologue l n v v' h refusal e)
   where
     a : Actor
     a = after_prologue z.setup v.number prologue v.actor
@@ -80,7 +80,7 @@ has_own_cause z prologue l n v v' h why e = by_cause why e (has_cause z prologue
     worn TwoLock k f c = absurd (let x = none_counted w.shared.nodes (c.0 - 1) (count_nothing w (traced_reached h.was h.reached) k).1 in let y = (reached_in_range w (traced_reached h.was h.reached)).sized.counts in let q = c.1 in omega arith)
     worn NonBlocking k f c = non_blocking.own_next_is_worn w (traced_reached h.was h.reached) k v.number a l h.before h.line f
 
-    by_cause : (why : Refusal) → (outcome_at z.setup h.was v.number a l).reply ≡ Some (Refused why) → HasCause w why → HasOwnCause w v.number why
+    by_cause : (refusal : Refusal) → (outcome_at z.setup h.was v.number a l).reply ≡ Some (Refused refusal) → HasCause w refusal → HasOwnCause w v.number refusal
     by_cause (WornOut OfNext) f c = subst (λ o. IsSomeAnd o (λ b. (node_at w.shared b.node).next.count ≡ w.setup.limit)) (sym h.before) (worn w.setup.kind refl (ap (λ s. (outcome s (w.steps + 1) v.number a l (found (action s v.number a l) w.shared)).reply) h.setup ∙ f) c)
     by_cause (WornOut OfFree) f c = c
     by_cause (WornOut OfTail) f c = c

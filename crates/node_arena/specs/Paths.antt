@@ -63,12 +63,12 @@ HadNoEffect s t = ExtendsPath (view s) (view t) (added s t)
 -- a push or a shut was refused so: it found the queue shut, or had no effect
 abbrev pub StopsAPush : Seat → Seat → Refusal → Type 0
 StopsAPush s t Closed = FindsShut (view s) (view t) (added s t)
-StopsAPush s t why = HadNoEffect s t
+StopsAPush s t refusal = HadNoEffect s t
 
 -- a pop was refused so: it found the queue shut and empty, or had no effect
 abbrev pub StopsAPop : Seat → Seat → Refusal → Type 0
 StopsAPop s t Closed = FindsShutEmpty (view s) (view t) (added s t)
-StopsAPop s t why = HadNoEffect s t
+StopsAPop s t refusal = HadNoEffect s t
 
 -- what a seat has seen is as it was
 abbrev pub SeesNoMore : Seat → Seat → Type 0
@@ -126,12 +126,12 @@ LastHeld r s t P = EndedAt r s (added s t) P
 -- a world has the cause for an actor's step to refuse; where a `next` is worn out, it is that of the actor's own node
 abbrev pub HasOwnCause : World → (me : ℕ) → Refusal → Type 0
 HasOwnCause w me (WornOut OfNext) = IsSomeAnd (actor_of w me) (λ a. (node_at w.shared a.node).next.count ≡ w.setup.limit)
-HasOwnCause w me why = HasCause w why
+HasOwnCause w me refusal = HasCause w refusal
 
 -- an actor's step at a line is refused so: its reply says that, and the world before it has the cause
 abbrev pub IsRefusedAt : Setup → (me : ℕ) → Refusal → Traced → Actor → Line → Type 0
-IsRefusedAt z me why t a l = ((outcome_at z t me a l).reply ≡ Some (Refused why)) × HasOwnCause t.world me why
+IsRefusedAt z me refusal t a l = ((outcome_at z t me a l).reply ≡ Some (Refused refusal)) × HasOwnCause t.world me refusal
 
 -- a call's last step was refused so, and met the cause
 abbrev pub MetCause : Arena → Seat → Seat → Refusal → Type 0
-MetCause r s t why = LastHeld r s t (IsRefusedAt r.plan.setup (view s).number why)
+MetCause r s t refusal = LastHeld r s t (IsRefusedAt r.plan.setup (view s).number refusal)

@@ -36,7 +36,7 @@ SawAt t seen a (Some A7) (Some (Refused Closed)) = LeadsToShut seen
 SawAt t seen a (Some S9) (Some (Refused Closed)) = LeadsToShut seen
 SawAt t seen a line due = Unit {0}
 
--- a seat's actor and path are the traced world's, what it has seen is a beginning of the history, and its own entries
+-- a seat's actor and path are the traced world's, what it has seen is a prefix of the history, and its own entries
 -- are just those of it, and just those that it has seen; the queue was empty, or shut, after as many of these as each note
 -- says, and what its actor found that it may note next is so
 pub record Fits (t : Traced) (v : SeatView) : Type 0 where

@@ -6,7 +6,7 @@ use Rattle.line_steps.specs.Actors.{Actor}
 use Rattle.step_machine.specs.Machine.{idle}
 use Rattle.node_arena.specs.Traces.{Event}
 
--- what a seat knows: its number, its actor with line and registers, its path, a beginning of the history, its own entries,
+-- what a seat knows: its number, its actor with line and registers, its path, a prefix of the history, its own entries,
 -- and its notes: after so many entries it found the queue empty, or shut
 pub record SeatView : Type 0 where
   pub number : ℕ

@@ -86,7 +86,7 @@ impl<const B: u32> ArenaOf<B> {
         requires { All (IsReady self) seats.items }
         //= atomics/rest (rest, only_memory): A closed arena tells of its rest what `Fifo::close` does.
         ensures rest { IfOk result (λ rest. Closes (permits_of self.entry) (map known_of seats.items) rest) }
-        ensures only_memory { IfErr result (λ why. why ≡ Refusal.Memory) }
+        ensures only_memory { IfErr result (λ refusal. refusal ≡ Refusal.Memory) }
     {
         let ArenaOf { table, plan } = self;
         let Ok(room) = Vec::with_capacity(alloc, plan.setup.size as usize) else {

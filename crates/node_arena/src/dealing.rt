@@ -1,4 +1,4 @@
-//! Seats are cut from the arena's own token.
+//! Seats are split off the arena's own token.
 ghost use Rattle.std.specs.Prelude.{◌≡◌, ◌+◌, ◌-◌, ◌<◌, ◌≤◌, IfOk, Some, length, slice_get};
 ghost use Rattle.node_arena.specs.Plans.{Layout, IsTable};
 ghost use Rattle.node_arena.specs.Making.{IsKeeper, IsDealt, AreDealt};

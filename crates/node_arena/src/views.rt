@@ -4,7 +4,7 @@ use atomic_table::{Join, Play, Seat, Split, Table, TableRule};
 use std::alloc::Global;
 use std::marker::{Brand, Model};
 
-/// What a seat knows: its actor, its path, a beginning of the history, its own entries, and its notes. No value of it is
+/// What a seat knows: its actor, its path, a prefix of the history, its own entries, and its notes. No value of it is
 /// made.
 pub struct Knowing {
     unused: u8,

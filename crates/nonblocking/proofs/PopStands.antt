@@ -67,11 +67,11 @@ module _ (r : Arena) (s t : Seat) (prologue : Prologue) (n : ℕ) (a : Running) 
     pub replies : (out_at D5 d).reply ≡ Some reply.Empty
 
   -- or Tail was worn out
-  pub record FoundWorn (d : DidStep r s t prologue D5 n) (why : Refusal) : Type 0 where
+  pub record FoundWorn (d : DidStep r s t prologue D5 n) (refusal : Refusal) : Type 0 where
     pub over : (view t).actor.line ≡ None
     pub empty : (view t).actor.pocket ≡ None
     pub replies : (out_at D5 d).reply ≡ Some (reply.Refused (WornOut OfTail))
-    pub is : why ≡ WornOut OfTail
+    pub is : refusal ≡ WornOut OfTail
 
   -- or the queue was shut and empty
   pub record FoundShut (d : DidStep r s t prologue D5 n) : Type 0 where
@@ -86,7 +86,7 @@ module _ (r : Arena) (s t : Seat) (prologue : Prologue) (n : ℕ) (a : Running) 
   Fifth d (Goes l c) = ⊥
   Fifth d (Ends IsEmpty) = FoundNull d
   Fifth d (Ends (IsRefused Closed)) = FoundShut d
-  Fifth d (Ends (IsRefused why)) = FoundWorn d why
+  Fifth d (Ends (IsRefused refusal)) = FoundWorn d refusal
   Fifth d (Ends reply) = ⊥
 
   abbrev fifth_outcome : (now : ℕ) → (p q u c w : Bool) → MachineOutcome

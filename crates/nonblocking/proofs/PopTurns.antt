@@ -95,7 +95,7 @@ module _ (r : Arena) (s u t v x : Seat) (prologue : Prologue) (a b c d : Running
   counts : (o : Option Line) → (view x).actor.line ≡ o → failed_turns (reads ++ five ∷ []) ≡ failed_at D5 o
   counts o e = turns_then r v x D5 f5.found f5.did reads o e refl
 
-  stopped : (why : Refusal) → Fifth r v x continues f5.found d f5.did (Ends (IsRefused why)) → ((view x).actor.pocket ≡ None) × Stops r s x (reads ++ five ∷ []) why
+  stopped : (refusal : Refusal) → Fifth r v x continues f5.found d f5.did (Ends (IsRefused refusal)) → ((view x).actor.pocket ≡ None) × Stops r s x (reads ++ five ∷ []) refusal
   stopped Closed f = (
     f.empty,
     record {
@@ -140,7 +140,7 @@ module _ (r : Arena) (s u t v x : Seat) (prologue : Prologue) (a b c d : Running
           };
         },
       )
-  by_outcome (Ends (IsRefused why)) f = stopped why f
+  by_outcome (Ends (IsRefused refusal)) f = stopped refusal f
 
   pub looks : Looks r s x out
   looks =
@@ -247,9 +247,9 @@ module _ (r : Arena) (s t x : Seat) (es : List Event) (stored : KeepsStored s t)
         never = omega (arith, failed-append es fs, never, k.never);
         found = answers_then (known_of s) (known_of t) (known_of x) None (sees_on (view s) (view t) es w) k.found;
       }
-  behind (turn.Refused why) fs k = stops why k
+  behind (turn.Refused refusal) fs k = stops refusal k
     where
-      stops : (why : Refusal) → Stops r t x fs why → Stops r s x (es ++ fs) why
+      stops : (refusal : Refusal) → Stops r t x fs refusal → Stops r s x (es ++ fs) refusal
       stops Closed k =
           record {
             over = k.over;

@@ -79,7 +79,7 @@ pop_gives_up r s t spent turns (suc m) some all g =
 
 -- a turn ended the pop
 module _ (r : Arena) (s t : Seat) (failed turns : ℕ) where
-  pub pop_worn_out : (why : Refusal) → Turns r s t (turn.Refused why) → Draws pop_worn r s (keeping t None failed) failed turns (Err why)
+  pub pop_worn_out : (refusal : Refusal) → Turns r s t (turn.Refused refusal) → Draws pop_worn r s (keeping t None failed) failed turns (Err refusal)
   pop_worn_out Closed f = let k = f.turned in draws_shut pop_worn r s t failed turns f.lines f.seat k.over f.empty f.stored k.finds k.cause
   pop_worn_out _ f = let k = f.turned in draws_worn pop_worn r s t _ OfTail failed turns f.lines f.seat k.over f.empty f.stored k.walks k.is k.cause tt
 

@@ -43,10 +43,10 @@ module _ (r : Arena) (s t : Seat) (prologue : Prologue) (l : Line) (n : ℕ) (a 
       }
 
   -- a word was found worn out
-  pub record Worn (p : Option Held) (word : WornWord) (why : Refusal) : Type 0 where
+  pub record Worn (p : Option Held) (word : WornWord) (refusal : Refusal) : Type 0 where
     pub over : (view t).actor.line ≡ None
     pub pocket : (view t).actor.pocket ≡ p
-    pub is : why ≡ WornOut word
+    pub is : refusal ≡ WornOut word
     pub replies : (outcome_at r.plan.setup d.told.was (view s).number b l).reply ≡ Some (reply.Refused (WornOut word))
 
 module _ (r : Arena) (s t : Seat) (prologue : Prologue) (n : ℕ) (a : Running) where
@@ -77,7 +77,7 @@ module _ (r : Arena) (s t : Seat) (prologue : Prologue) (n : ℕ) (a : Running) 
     abbrev pub Third : Outcome Running → Type 0
     Third (Goes E5 c) = CallIsAt r t continues E5 c × (c.node ≡ a.node) × (c.val ≡ a.val)
     Third (Goes l c) = ⊥
-    Third (Ends (IsRefused why)) = Worn r s t prologue E3 n a h d None OfNext why
+    Third (Ends (IsRefused refusal)) = Worn r s t prologue E3 n a h d None OfNext refusal
     Third (Ends reply) = ⊥
 
     abbrev third : ℕ → Ref → Bool → MachineOutcome
@@ -117,7 +117,7 @@ module _ (r : Arena) (s t : Seat) (prologue : Prologue) (n : ℕ) (a : Running) 
     Seventh (Goes E5 c) = CallIsAt r t continues E5 c × (c ≡ a) × Quiet
     Seventh (Goes l c) = ⊥
     Seventh (Ends (IsRefused Closed)) = Shut
-    Seventh (Ends (IsRefused why)) = Worn r s t prologue E7 n a h d (Some (in_hand a)) OfTail why × Quiet
+    Seventh (Ends (IsRefused refusal)) = Worn r s t prologue E7 n a h d (Some (in_hand a)) OfTail refusal × Quiet
     Seventh (Ends reply) = ⊥
 
     abbrev seventh : ℕ → (p q c u : Bool) → MachineOutcome

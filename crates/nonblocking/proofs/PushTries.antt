@@ -60,9 +60,9 @@ pushes_out r s h from body val a is i full kind small same word = subst (λ (x :
         }
 
 -- the node's own next is worn out
-pub fill_worn : (r : Arena) (s t : Seat) (a : Running) (out : Outcome Running) (why : Refusal) (node body spent turns : ℕ) → out ≡ Ends (IsRefused why) → Fills r s t a out → Puts push_worn r s (keeping t None spent) node body spent turns (Err why)
-fill_worn r s t a out why node body spent turns is f =
-    let k : FoundWorn r s t None f.lines OfNext why = subst (Filled r s t a f.lines) is f.filled in
+pub fill_worn : (r : Arena) (s t : Seat) (a : Running) (out : Outcome Running) (refusal : Refusal) (node body spent turns : ℕ) → out ≡ Ends (IsRefused refusal) → Fills r s t a out → Puts push_worn r s (keeping t None spent) node body spent turns (Err refusal)
+fill_worn r s t a out refusal node body spent turns is f =
+    let k : FoundWorn r s t None f.lines OfNext refusal = subst (Filled r s t a f.lines) is f.filled in
     let e : added s t ≡ f.lines = added_is s t f.lines f.walks in
     let rest : at_rest (view t).actor ≡ (view t).actor = ap (out_of (view t).actor) k.over in
     record {
@@ -76,14 +76,14 @@ fill_worn r s t a out why node body spent turns is f =
     }
 
 -- E2 and E3 end in no other way
-pub fill_ends : (r : Arena) (s t : Seat) (a : Running) (out : Outcome Running) (answer : Reply) → out ≡ Ends answer → ((why : Refusal) → answer ≡ IsRefused why → ⊥) → Fills r s t a out → ⊥
+pub fill_ends : (r : Arena) (s t : Seat) (a : Running) (out : Outcome Running) (answer : Reply) → out ≡ Ends answer → ((refusal : Refusal) → answer ≡ IsRefused refusal → ⊥) → Fills r s t a out → ⊥
 fill_ends r s t a out answer is other f = go answer other (subst (Filled r s t a f.lines) is f.filled)
   where
-    go : (answer : Reply) → ((why : Refusal) → answer ≡ IsRefused why → ⊥) → Filled r s t a f.lines (Ends answer) → ⊥
+    go : (answer : Reply) → ((refusal : Refusal) → answer ≡ IsRefused refusal → ⊥) → Filled r s t a f.lines (Ends answer) → ⊥
     go IsDone other k = k
     go (IsValue word) other k = k
     go IsEmpty other k = k
-    go (IsRefused why) other k = absurd (other why refl)
+    go (IsRefused refusal) other k = absurd (other refusal refl)
 
 -- the node is ready
 module _ (r : Arena) (s t : Seat) (a : Running) (out : Outcome Running) (l : Line) (c : Running) (is : out ≡ Goes l c) (f : Fills r s t a out) where
@@ -158,14 +158,14 @@ module _ (r : Arena) (s t u : Seat) (h : Held) (val spent n turns : ℕ) (a : Ru
       }
 
   -- a turn was refused
-  pub refused_put : (why : Refusal) → out ≡ TurnRefused why → Puts push_worn r s (keeping u (Some h) n) h.node (value_of val).body spent turns (Err why)
-  refused_put why e =
-      by_cause why (turned_as (TurnRefused why) e)
+  pub refused_put : (refusal : Refusal) → out ≡ TurnRefused refusal → Puts push_worn r s (keeping u (Some h) n) h.node (value_of val).body spent turns (Err refusal)
+  refused_put refusal e =
+      by_cause refusal (turned_as (TurnRefused refusal) e)
     where
       -- the call is over, with its node in the pocket
-      ends : (k : KeepsStored t u) (why : Refusal) → IsSeat r u → (view u).actor.line ≡ None → (view u).actor.pocket ≡ Some (in_hand b)
-          → StopsAPush s (keeping u (Some h) n) why × PutRefused push_worn r s (keeping u (Some h) n) h.node spent turns why → Puts push_worn r s (keeping u (Some h) n) h.node (value_of val).body spent turns (Err why)
-      ends k why seat over pocket refused =
+      ends : (k : KeepsStored t u) (refusal : Refusal) → IsSeat r u → (view u).actor.line ≡ None → (view u).actor.pocket ≡ Some (in_hand b)
+          → StopsAPush s (keeping u (Some h) n) refusal × PutRefused push_worn r s (keeping u (Some h) n) h.node spent turns refusal → Puts push_worn r s (keeping u (Some h) n) h.node (value_of val).body spent turns (Err refusal)
+      ends k refusal seat over pocket refused =
           let name = then_stored s t u g.stored k in
           let rest : at_rest (view u).actor ≡ (view u).actor = ap (out_of (view u).actor) over in
           record {
@@ -185,7 +185,7 @@ module _ (r : Arena) (s t u : Seat) (h : Held) (val spent n turns : ℕ) (a : Ru
             (last_held r s (keeping u (Some h) n) es _ e (stopped_behind r s t g.lines k.lines (WornOut OfTail) g.walks f.cause), refl, refl),
           )
 
-      by_cause : (why : Refusal) → Turns r t u b (TurnRefused why) → Puts push_worn r s (keeping u (Some h) n) h.node (value_of val).body spent turns (Err why)
+      by_cause : (refusal : Refusal) → Turns r t u b (TurnRefused refusal) → Puts push_worn r s (keeping u (Some h) n) h.node (value_of val).body spent turns (Err refusal)
       by_cause Closed k =
           let es : List Event = g.lines ++ k.lines in
           let finds : FindsShut (view s) (view u) es = then_shut (view s) (view t) (view u) g.lines k.lines g.walks k.turned.finds in

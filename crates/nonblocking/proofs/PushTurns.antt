@@ -37,8 +37,8 @@ to_e3 r s t prologue l a b h f = let e : b ≡ a = same_registers l E3 b a f.lea
 
 -- a word was found worn out at the last of some lines, no turn having failed
 module _ (r : Arena) (s u t : Seat) (l : Line) (n : ℕ) (a : Running) (h : CallIsAt r u continues l a) (d : DidStep r u t continues l n) (before : List Event) (w : ExtendsPath (view s) (view u) before) where
-  found_worn : (p : Option Held) (word : WornWord) (why : Refusal) → failed_turns (before ++ event r u t continues l n d ∷ []) ≡ 0 → Worn r u t continues l n a h d p word why → FoundWorn r s t p (before ++ event r u t continues l n d ∷ []) word why
-  found_worn p word why never k =
+  found_worn : (p : Option Held) (word : WornWord) (refusal : Refusal) → failed_turns (before ++ event r u t continues l n d ∷ []) ≡ 0 → Worn r u t continues l n a h d p word refusal → FoundWorn r s t p (before ++ event r u t continues l n d ∷ []) word refusal
+  found_worn p word refusal never k =
       record {
         seat = d.seat;
         over = k.over;
@@ -68,7 +68,7 @@ module _ (r : Arena) (s u t : Seat) (prologue : Prologue) (l : Line) (a b : Runn
   filled (Ends IsDone) k = absurd k
   filled (Ends (IsValue word)) k = absurd k
   filled (Ends IsEmpty) k = absurd k
-  filled (Ends (IsRefused why)) k = found_worn r s u t E3 g.found b at.0 g.did (one ∷ []) first None OfNext why refl k
+  filled (Ends (IsRefused refusal)) k = found_worn r s u t E3 g.found b at.0 g.did (one ∷ []) first None OfNext refusal refl k
 
   pub fills : Fills r s t a out
   fills =
@@ -145,12 +145,12 @@ module _ (r : Arena) (s u v t : Seat) (l k : Line) (a b c : Running) (out : Outc
   three_lines : IsSilent (outcome_at r.plan.setup m.did.told.was (view v).number (view v).actor E7).reply → ExtendsPath (view s) (view t) (before ++ seven ∷ [])
   three_lines quiet = walk_then (view s) (view v) (view t) before (seven ∷ []) two_lines (walk_silent r v t continues E7 m.found m.did refl quiet)
 
-  worn_at : (why : Refusal) → Worn r v t continues E7 m.found c at7.0 m.did (Some (in_hand c)) OfTail why → FoundWorn r s t (Some (in_hand a)) (before ++ seven ∷ []) OfTail why
-  worn_at why y =
-      subst (λ p. FoundWorn r s t (Some p) (before ++ seven ∷ []) OfTail why) hand
-      (found_worn r s v t E7 m.found c at7.0 m.did before two_lines (Some (in_hand c)) OfTail why (counts None y.over) y)
+  worn_at : (refusal : Refusal) → Worn r v t continues E7 m.found c at7.0 m.did (Some (in_hand c)) OfTail refusal → FoundWorn r s t (Some (in_hand a)) (before ++ seven ∷ []) OfTail refusal
+  worn_at refusal y =
+      subst (λ p. FoundWorn r s t (Some p) (before ++ seven ∷ []) OfTail refusal) hand
+      (found_worn r s v t E7 m.found c at7.0 m.did before two_lines (Some (in_hand c)) OfTail refusal (counts None y.over) y)
 
-  worn_or : (why : Refusal) → Seventh r v t continues m.found c at7.0 m.did (Ends (IsRefused why)) → Stops r s t a (before ++ seven ∷ []) why
+  worn_or : (refusal : Refusal) → Seventh r v t continues m.found c at7.0 m.did (Ends (IsRefused refusal)) → Stops r s t a (before ++ seven ∷ []) refusal
   worn_or Closed y =
       subst (λ p. SawShut r s t (Some p) (before ++ seven ∷ [])) hand
       (record {
@@ -171,7 +171,7 @@ module _ (r : Arena) (s u v t : Seat) (l k : Line) (a b c : Running) (out : Outc
   looked (Ends IsDone) y = absurd y
   looked (Ends (IsValue word)) y = absurd y
   looked (Ends IsEmpty) y = absurd y
-  looked (Ends (IsRefused why)) y = worn_or why y
+  looked (Ends (IsRefused refusal)) y = worn_or refusal y
 
   pub looks : Looks r s t a out
   looks =
@@ -209,7 +209,7 @@ module _ (r : Arena) (s t : Seat) (a : Running) (out : Outcome Running) (h : Cal
   links_ended IsDone e = links_last e
   links_ended (IsValue word) e = absurd (at_ninth (Ends (IsValue word)) e)
   links_ended IsEmpty e = absurd (at_ninth (Ends IsEmpty) e)
-  links_ended (IsRefused why) e = absurd (at_ninth (Ends (IsRefused why)) e)
+  links_ended (IsRefused refusal) e = absurd (at_ninth (Ends (IsRefused refusal)) e)
 
   -- it was lost
   pub links_not : (l : Line) (b : Running) → out ≡ Goes l b → (l ≡ E17 → ⊥) → Turns r s t a Failed
@@ -258,15 +258,15 @@ module _ (r : Arena) (s t : Seat) (a : Running) (out : Outcome Running) (f : Loo
   turn_at_e9 l c e is = (looked_as (Goes E9 c) (e ∙ ap (λ k. Goes k c) is)).1.stands
 
   -- the queue was found shut, or Tail worn out
-  pub turn_worn : (why : Refusal) → out ≡ Ends (IsRefused why) → Turns r s t a (TurnRefused why)
-  turn_worn why e = record { stored = f.stored; lines = f.lines; turned = looked_as (Ends (IsRefused why)) e }
+  pub turn_worn : (refusal : Refusal) → out ≡ Ends (IsRefused refusal) → Turns r s t a (TurnRefused refusal)
+  turn_worn refusal e = record { stored = f.stored; lines = f.lines; turned = looked_as (Ends (IsRefused refusal)) e }
 
   -- it ends in no other way
-  pub turn_ended : (answer : Reply) → ((why : Refusal) → answer ≡ IsRefused why → ⊥) → out ≡ Ends answer → Turns r s t a Failed
+  pub turn_ended : (answer : Reply) → ((refusal : Refusal) → answer ≡ IsRefused refusal → ⊥) → out ≡ Ends answer → Turns r s t a Failed
   turn_ended IsDone other e = absurd (looked_as (Ends IsDone) e)
   turn_ended (IsValue word) other e = absurd (looked_as (Ends (IsValue word)) e)
   turn_ended IsEmpty other e = absurd (looked_as (Ends IsEmpty) e)
-  turn_ended (IsRefused why) other e = absurd (other why refl)
+  turn_ended (IsRefused refusal) other e = absurd (other refusal refl)
 
   -- Tail was swung
   pub turn_swings : (u : Seat) (l : Line) (c : Running) (last : Outcome Running) → out ≡ Goes l c → l ≡ E13 → Follows r t u continues E13 c last → Turns r s u a Failed
@@ -307,8 +307,8 @@ module _ (r : Arena) (s t : Seat) (a : Running) (out : Outcome Running) (f : Loo
       none : (m : ℕ) → failed_turns g.lines ≡ m → failed_turns (f.lines ++ g.lines) ≡ m
       none m z = let x = failed-append f.lines g.lines in let y = k.never in omega arith
 
-      worn : (why : Refusal) → FoundWorn r t u (Some (in_hand c)) g.lines OfTail why → FoundWorn r s u (Some (in_hand a)) (f.lines ++ g.lines) OfTail why
-      worn why y =
+      worn : (refusal : Refusal) → FoundWorn r t u (Some (in_hand c)) g.lines OfTail refusal → FoundWorn r s u (Some (in_hand a)) (f.lines ++ g.lines) OfTail refusal
+      worn refusal y =
           record {
             seat = y.seat;
             over = y.over;
@@ -318,7 +318,7 @@ module _ (r : Arena) (s t : Seat) (a : Running) (out : Outcome Running) (f : Loo
             cause = stopped_behind r s t f.lines g.lines (WornOut OfTail) walks y.cause;
           }
 
-      stops : (why : Refusal) → Stops r t u c g.lines why → Stops r s u a (f.lines ++ g.lines) why
+      stops : (refusal : Refusal) → Stops r t u c g.lines refusal → Stops r s u a (f.lines ++ g.lines) refusal
       stops Closed y =
           record {
             seat = y.seat;
@@ -347,4 +347,4 @@ module _ (r : Arena) (s t : Seat) (a : Running) (out : Outcome Running) (f : Loo
           last = failed_behind f.lines g.lines y.1.last;
         },
       )
-      go (TurnRefused why) y = stops why y
+      go (TurnRefused refusal) y = stops refusal y

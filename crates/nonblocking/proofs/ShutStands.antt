@@ -63,10 +63,10 @@ module _ (r : Arena) (s t : Seat) (prologue : Prologue) (n : ℕ) (a : Running) 
     Quiet = IsSilent (out_at S3 d).reply
 
     -- the call ends with a refusal
-    pub record Stopped (why : Refusal) : Type 0 where
+    pub record Stopped (refusal : Refusal) : Type 0 where
       pub over : (view t).actor.line ≡ None
       pub pocket : HasPocket r t continues
-      pub replies : (out_at S3 d).reply ≡ Some (reply.Refused why)
+      pub replies : (out_at S3 d).reply ≡ Some (reply.Refused refusal)
 
     abbrev pub Third : Outcome Running → Type 0
     Third (Goes S1 c) = CallIsAt r t continues S1 c × Quiet
@@ -74,7 +74,7 @@ module _ (r : Arena) (s t : Seat) (prologue : Prologue) (n : ℕ) (a : Running) 
     Third (Goes S5 c) = CallIsAt r t continues S5 c × Quiet
     Third (Goes l c) = ⊥
     Third (Ends (IsRefused Closed)) = Stopped Closed
-    Third (Ends (IsRefused why)) = Stopped (WornOut OfTail) × (why ≡ WornOut OfTail)
+    Third (Ends (IsRefused refusal)) = Stopped (WornOut OfTail) × (refusal ≡ WornOut OfTail)
     Third (Ends reply) = ⊥
 
     abbrev third : ℕ → (p q c u : Bool) → MachineOutcome
@@ -95,8 +95,8 @@ module _ (r : Arena) (s t : Seat) (prologue : Prologue) (n : ℕ) (a : Running) 
         on : (p q c u : Bool) → out_at S3 d ≡ third now p q c u → IsSilent (third now p q c u).reply → (k : Line) → (third now p q c u).actor.line ≡ Some k → (third now p q c u).actor.pocket ≡ b.pocket → ((x : Option ℕ) → AgreesAt k (record (third now p q c u).actor { entry = x }) a) → CallIsAt r t continues k a × Quiet
         on p q c u e quiet k line same knows = (leads S3 h d (third now p q c u) e k a line same knows, subst (λ (m : MachineOutcome). IsSilent m.reply) (sym e) quiet)
 
-        stops : (p q c u : Bool) (why : Refusal) → out_at S3 d ≡ third now p q c u → (third now p q c u).actor.line ≡ None → (third now p q c u).actor.pocket ≡ b.pocket → (third now p q c u).reply ≡ Some (reply.Refused why) → Stopped why
-        stops p q c u why e line same replies = let k = over S3 h d (third now p q c u) e line same in record { over = k.0; pocket = k.1; replies = ap (λ (m : MachineOutcome). m.reply) e ∙ replies }
+        stops : (p q c u : Bool) (refusal : Refusal) → out_at S3 d ≡ third now p q c u → (third now p q c u).actor.line ≡ None → (third now p q c u).actor.pocket ≡ b.pocket → (third now p q c u).reply ≡ Some (reply.Refused refusal) → Stopped refusal
+        stops p q c u refusal e line same replies = let k = over S3 h d (third now p q c u) e line same in record { over = k.0; pocket = k.1; replies = ap (λ (m : MachineOutcome). m.reply) e ∙ replies }
 
         go : (p q c u : Bool) → same_ref (ref_of r.plan.setup.bits n) a.tail ≡ p → is_null a.next ≡ q → is_shut r.plan.setup.bits a.next ≡ c → nat_eq a.tail.count r.plan.setup.limit ≡ u → Third (leads_to p q c u)
         go true true c u x y v w = on true true c u (o true true c u x y v w) tt S4 refl refl (λ z. h.knows)

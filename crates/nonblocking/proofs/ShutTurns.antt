@@ -59,7 +59,7 @@ module _ (r : Arena) (s u v t : Seat) (prologue : Prologue) (l k : Line) (a b c 
   three_lines : IsSilent (outcome_at r.plan.setup m.did.told.was (view v).number (view v).actor S3).reply → ExtendsPath (view s) (view t) (before ++ three ∷ [])
   three_lines quiet = walk_then (view s) (view v) (view t) before (three ∷ []) two_lines (walk_silent r v t continues S3 m.found m.did refl quiet)
 
-  stopped : (why : Refusal) → Third r v t continues m.found c at_s3 m.did (Ends (IsRefused why)) → HasPocket r t continues × Stops r s t (before ++ three ∷ []) why
+  stopped : (refusal : Refusal) → Third r v t continues m.found c at_s3 m.did (Ends (IsRefused refusal)) → HasPocket r t continues × Stops r s t (before ++ three ∷ []) refusal
   stopped Closed y = (
     y.pocket,
     record {
@@ -96,7 +96,7 @@ module _ (r : Arena) (s u v t : Seat) (prologue : Prologue) (l k : Line) (a b c 
   by_outcome (Ends IsDone) y = absurd y
   by_outcome (Ends (IsValue word)) y = absurd y
   by_outcome (Ends IsEmpty) y = absurd y
-  by_outcome (Ends (IsRefused why)) y = stopped why y
+  by_outcome (Ends (IsRefused refusal)) y = stopped refusal y
 
   pub looks : Looks r s t out
   looks =
@@ -135,7 +135,7 @@ module _ (r : Arena) (s t : Seat) (a : Running) (out : Outcome Running) (h : Cal
   )
   ended (Ends (IsValue word)) y = absurd y
   ended (Ends IsEmpty) y = absurd y
-  ended (Ends (IsRefused why)) y = absurd y
+  ended (Ends (IsRefused refusal)) y = absurd y
 
   pub puts_end : Turns r s t (turn_of out)
   puts_end =
@@ -175,9 +175,9 @@ module _ (r : Arena) (s t x : Seat) (es : List Event) (stored : KeepsStored s t)
         once = omega (arith, failed-append es fs, never, k.once);
         last = failed_behind es fs k.last;
       }
-  behind (turn.Refused why) fs k = stops why k
+  behind (turn.Refused refusal) fs k = stops refusal k
     where
-      stops : (why : Refusal) → Stops r t x fs why → Stops r s x (es ++ fs) why
+      stops : (refusal : Refusal) → Stops r t x fs refusal → Stops r s x (es ++ fs) refusal
       stops Closed k =
           record {
             over = k.over;

@@ -88,33 +88,33 @@ module _ (r : Arena) (s t x : Seat) (p : Option Held) (n turns : ℕ) (is : p �
       }
 
   -- or the call is refused
-  pub shut_stops : (why : Refusal) → Turns r t x (turn.Refused why) → AnswersShut shut_worn r s (keeping x p n) turns (Err why)
-  shut_stops why d =
+  pub shut_stops : (refusal : Refusal) → Turns r t x (turn.Refused refusal) → AnswersShut shut_worn r s (keeping x p n) turns (Err refusal)
+  shut_stops refusal d =
       record {
-        ready = ready_over r s x p n is (stored_then d.stored) d.seat d.pocket (over why d.turned);
+        ready = ready_over r s x p n is (stored_then d.stored) d.seat d.pocket (over refusal d.turned);
         same = same_name r s x p n is (stored_then d.stored) d.seat;
         pocket = same_pocket r s x p n is (stored_then d.stored) d.seat;
         shut = tt;
         few = tt;
-        refused = by_cause why d.turned;
+        refused = by_cause refusal d.turned;
       }
     where
       es : List Event
       es = g.lines ++ d.lines
 
-      over : (why : Refusal) → Stops r t x d.lines why → (view x).actor.line ≡ None
+      over : (refusal : Refusal) → Stops r t x d.lines refusal → (view x).actor.line ≡ None
       over Closed k = k.over
       over _ k = k.over
 
-      by_cause : (why : Refusal) → Stops r t x d.lines why → StopsAPush s (keeping x p n) why × ShutRefused shut_worn r s (keeping x p n) turns why
+      by_cause : (refusal : Refusal) → Stops r t x d.lines refusal → StopsAPush s (keeping x p n) refusal × ShutRefused shut_worn r s (keeping x p n) turns refusal
       by_cause Closed k =
           let finds : FindsShut (view s) (view x) es = then_shut (view s) (view t) (view x) g.lines d.lines g.walks k.finds in
           let e : added s x ≡ es = added_path s x es finds.path in
           (subst (FindsShut (view s) (view x)) (sym e) finds, last_held r s (keeping x p n) es _ e (stopped_behind r s t g.lines d.lines Closed g.walks k.cause))
       by_cause _ k = worn _ k
         where
-          worn : (why : Refusal) → SawWorn r t x d.lines why → StopsAPush s (keeping x p n) why × ShutRefused shut_worn r s (keeping x p n) turns why
-          worn why k =
+          worn : (refusal : Refusal) → SawWorn r t x d.lines refusal → StopsAPush s (keeping x p n) refusal × ShutRefused shut_worn r s (keeping x p n) turns refusal
+          worn refusal k =
               let all : ExtendsPath (view s) (view x) es = walk_then (view s) (view t) (view x) g.lines d.lines g.walks k.walks in
               let e : added s x ≡ es = added_is s x es all in
               subst (λ y. StopsAPush s (keeping x p n) y × ShutRefused shut_worn r s (keeping x p n) turns y) (sym k.is) (

@@ -77,7 +77,7 @@ abbrev pub turn_of : Outcome Running → Turn
 turn_of (Goes F1 a) = turn.Took a.val (in_hand a)
 turn_of (Goes l a) = turn.Failed
 turn_of (Ends IsEmpty) = turn.Empty
-turn_of (Ends (IsRefused why)) = turn.Refused why
+turn_of (Ends (IsRefused refusal)) = turn.Refused refusal
 turn_of (Ends reply) = turn.Failed
 
 -- which of its actor's registers a running pop has before a line
@@ -132,17 +132,17 @@ pub record SawShut (r : Arena) (s t : Seat) (es : List Event) : Type 0 where
   pub cause : EndedAt r s es (IsRefusedAt r.plan.setup (view s).number Closed)
 
 -- Tail was found worn out
-pub record SawWorn (r : Arena) (s t : Seat) (es : List Event) (why : Refusal) : Type 0 where
+pub record SawWorn (r : Arena) (s t : Seat) (es : List Event) (refusal : Refusal) : Type 0 where
   pub over : (view t).actor.line ≡ None
   pub walks : ExtendsPath (view s) (view t) es
   pub never : failed_turns es ≡ 0
-  pub is : why ≡ WornOut OfTail
+  pub is : refusal ≡ WornOut OfTail
   pub cause : EndedAt r s es (IsRefusedAt r.plan.setup (view s).number (WornOut OfTail))
 
 -- why a turn ends its call: the queue was found shut and empty, or Tail worn out
 abbrev pub Stops : Arena → Seat → Seat → List Event → Refusal → Type 0
 Stops r s t es Closed = SawShut r s t es
-Stops r s t es why = SawWorn r s t es why
+Stops r s t es refusal = SawWorn r s t es refusal
 
 -- the turn goes on at a line
 pub record GoesOn (r : Arena) (s t : Seat) (es : List Event) (l : Line) (a : Running) : Type 0 where
@@ -157,7 +157,7 @@ Looked r s t es (Goes D10 a) = GoesOn r s t es D10 a
 Looked r s t es (Goes D12 a) = GoesOn r s t es D12 a
 Looked r s t es (Goes l a) = ⊥
 Looked r s t es (Ends IsEmpty) = SawEmpty s t es
-Looked r s t es (Ends (IsRefused why)) = Stops r s t es why
+Looked r s t es (Ends (IsRefused refusal)) = Stops r s t es refusal
 Looked r s t es (Ends reply) = ⊥
 
 -- the lines D2 to D5
@@ -173,7 +173,7 @@ abbrev pub Turned : Arena → Seat → Seat → List Event → Turn → Type 0
 Turned r s t es (turn.Took word h) = Took r s t es word h
 Turned r s t es turn.Failed = Fell r s t es
 Turned r s t es turn.Empty = SawEmpty s t es
-Turned r s t es (turn.Refused why) = Stops r s t es why
+Turned r s t es (turn.Refused refusal) = Stops r s t es refusal
 
 -- lines of a turn, to its end
 pub record Turns (r : Arena) (s t : Seat) (out : Turn) : Type 0 where

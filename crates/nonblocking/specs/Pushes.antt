@@ -109,12 +109,12 @@ pub record Slipped (r : Arena) (t : Seat) (a : Running) (es : List Event) : Type
   pub last : FailedAt es
 
 -- the call is over, with this pocket, since a word was found worn out
-pub record FoundWorn (r : Arena) (s t : Seat) (p : Option Held) (es : List Event) (word : WornWord) (why : Refusal) : Type 0 where
+pub record FoundWorn (r : Arena) (s t : Seat) (p : Option Held) (es : List Event) (word : WornWord) (refusal : Refusal) : Type 0 where
   pub seat : IsSeat r t
   pub over : (view t).actor.line ≡ None
   pub pocket : (view t).actor.pocket ≡ p
   pub never : failed_turns es ≡ 0
-  pub is : why ≡ WornOut word
+  pub is : refusal ≡ WornOut word
   pub cause : EndedAt r s es (IsRefusedAt r.plan.setup (view s).number (WornOut word))
 
 -- the call is over, with its node in the pocket, since the queue was found shut
@@ -129,7 +129,7 @@ pub record SawShut (r : Arena) (s t : Seat) (p : Option Held) (es : List Event) 
 -- why a turn ends its call: the queue was found shut, or Tail worn out
 abbrev pub Stops : Arena → Seat → Seat → Running → List Event → Refusal → Type 0
 Stops r s t a es Closed = SawShut r s t (Some (in_hand a)) es
-Stops r s t a es why = ExtendsPath (view s) (view t) es × FoundWorn r s t (Some (in_hand a)) es OfTail why
+Stops r s t a es refusal = ExtendsPath (view s) (view t) es × FoundWorn r s t (Some (in_hand a)) es OfTail refusal
 
 -- the body was pushed, and the call is over
 pub record Linked (r : Arena) (s t : Seat) (a : Running) (es : List Event) : Type 0 where
@@ -143,7 +143,7 @@ pub record Linked (r : Arena) (s t : Seat) (a : Running) (es : List Event) : Typ
 abbrev pub Filled : Arena → Seat → Seat → Running → List Event → Outcome Running → Type 0
 Filled r s t a es (Goes E5 c) = CallIsAt r t continues E5 c × (c.node ≡ a.node) × (c.val ≡ a.val) × (failed_turns es ≡ 0)
 Filled r s t a es (Goes l c) = ⊥
-Filled r s t a es (Ends (IsRefused why)) = FoundWorn r s t None es OfNext why
+Filled r s t a es (Ends (IsRefused refusal)) = FoundWorn r s t None es OfNext refusal
 Filled r s t a es (Ends reply) = ⊥
 
 -- the value is written into the node, and its next is cleared: E2 and E3
@@ -159,7 +159,7 @@ Looked r s t a es (Goes E9 c) = ExtendsPath (view s) (view t) es × Comes r t E9
 Looked r s t a es (Goes E13 c) = ExtendsPath (view s) (view t) es × Comes r t E13 a c es
 Looked r s t a es (Goes E5 c) = ExtendsPath (view s) (view t) es × Slipped r t a es
 Looked r s t a es (Goes l c) = ⊥
-Looked r s t a es (Ends (IsRefused why)) = Stops r s t a es why
+Looked r s t a es (Ends (IsRefused refusal)) = Stops r s t a es refusal
 Looked r s t a es (Ends reply) = ⊥
 
 -- Tail was read, and what follows its node: E5 to E7
@@ -172,7 +172,7 @@ pub record Looks (r : Arena) (s t : Seat) (a : Running) (out : Outcome Running) 
 abbrev pub Turned : Arena → Seat → Seat → Running → List Event → Turn → Type 0
 Turned r s t a es Pushed = Linked r s t a es
 Turned r s t a es Failed = ExtendsPath (view s) (view t) es × Slipped r t a es
-Turned r s t a es (TurnRefused why) = Stops r s t a es why
+Turned r s t a es (TurnRefused refusal) = Stops r s t a es refusal
 
 -- a turn of a push, or the end of one
 pub record Turns (r : Arena) (s t : Seat) (a : Running) (out : Turn) : Type 0 where

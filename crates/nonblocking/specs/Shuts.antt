@@ -51,7 +51,7 @@ follow z a l n = Goes l a
 abbrev pub turn_of : Outcome Running → Turn
 turn_of (Goes l a) = turn.Failed
 turn_of (Ends IsDone) = turn.Shut
-turn_of (Ends (IsRefused why)) = turn.Refused why
+turn_of (Ends (IsRefused refusal)) = turn.Refused refusal
 turn_of (Ends reply) = turn.Failed
 
 -- which of its actor's registers a running shut has before a line
@@ -99,17 +99,17 @@ pub record SawShut (r : Arena) (s t : Seat) (es : List Event) : Type 0 where
   pub cause : EndedAt r s es (IsRefusedAt r.plan.setup (view s).number Closed)
 
 -- Tail was found worn out
-pub record SawWorn (r : Arena) (s t : Seat) (es : List Event) (why : Refusal) : Type 0 where
+pub record SawWorn (r : Arena) (s t : Seat) (es : List Event) (refusal : Refusal) : Type 0 where
   pub over : (view t).actor.line ≡ None
   pub walks : ExtendsPath (view s) (view t) es
   pub never : failed_turns es ≡ 0
-  pub is : why ≡ WornOut OfTail
+  pub is : refusal ≡ WornOut OfTail
   pub cause : EndedAt r s es (IsRefusedAt r.plan.setup (view s).number (WornOut OfTail))
 
 -- why a turn ends its call: the queue was found shut, or Tail worn out
 abbrev pub Stops : Arena → Seat → Seat → List Event → Refusal → Type 0
 Stops r s t es Closed = SawShut r s t es
-Stops r s t es why = SawWorn r s t es why
+Stops r s t es refusal = SawWorn r s t es refusal
 
 -- the turn goes on at a line
 pub record GoesOn (r : Arena) (s t : Seat) (es : List Event) (l : Line) (a : Running) : Type 0 where
@@ -123,7 +123,7 @@ Looked r s t es (Goes S1 a) = Fell r s t es
 Looked r s t es (Goes S4 a) = GoesOn r s t es S4 a
 Looked r s t es (Goes S5 a) = GoesOn r s t es S5 a
 Looked r s t es (Goes l a) = ⊥
-Looked r s t es (Ends (IsRefused why)) = Stops r s t es why
+Looked r s t es (Ends (IsRefused refusal)) = Stops r s t es refusal
 Looked r s t es (Ends reply) = ⊥
 
 -- the lines S1 to S3
@@ -138,7 +138,7 @@ pub record Looks (r : Arena) (s t : Seat) (out : Outcome Running) : Type 0 where
 abbrev pub Turned : Arena → Seat → Seat → List Event → Turn → Type 0
 Turned r s t es turn.Shut = HasShut s t es
 Turned r s t es turn.Failed = Fell r s t es
-Turned r s t es (turn.Refused why) = Stops r s t es why
+Turned r s t es (turn.Refused refusal) = Stops r s t es refusal
 
 -- lines of a turn, to its end
 pub record Turns (r : Arena) (s t : Seat) (out : Turn) : Type 0 where

@@ -81,7 +81,7 @@ pub(crate) fn turned<const B: u32>(outcome: Outcome<ActorOf<B>>) -> Turn
             },
         ),
         Outcome::Ends(Reply::Empty) => Turn::Empty,
-        Outcome::Ends(Reply::Refused(why)) => Turn::Refused(why),
+        Outcome::Ends(Reply::Refused(refusal)) => Turn::Refused(refusal),
         Outcome::Goes(..) | Outcome::Ends(_) => Turn::Failed,
     }
 }

@@ -91,9 +91,9 @@ fn pop_by_turn<const B: u32>(
             seat.keep(None, failed);
             Some(Ok(None))
         }
-        Turn::Refused(why) => {
+        Turn::Refused(refusal) => {
             seat.keep(None, failed);
-            Some(Err(why))
+            Some(Err(refusal))
         }
     }
 }

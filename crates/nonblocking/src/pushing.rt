@@ -62,7 +62,7 @@ fn push_turn<const B: u32>(arena: &ArenaOf<B>, seat: &mut Seat, a: ActorOf<B>) -
             e13(arena, seat, a);
             Turn::Failed
         }
-        Outcome::Ends(Reply::Refused(why)) => Turn::Refused(why),
+        Outcome::Ends(Reply::Refused(refusal)) => Turn::Refused(refusal),
         Outcome::Goes(..) | Outcome::Ends(_) => Turn::Failed,
     }
 }
@@ -90,9 +90,9 @@ pub(crate) fn push_node<const B: u32>(
             mark: a.mark,
         },
         Outcome::Ends(reply) => match reply {
-            Reply::Refused(why) => {
+            Reply::Refused(refusal) => {
                 seat.keep(None, spent);
-                return Err(why);
+                return Err(refusal);
             }
             _ => unreachable!(),
         },
@@ -103,9 +103,9 @@ pub(crate) fn push_node<const B: u32>(
                 seat.keep(None, index);
                 return Ok(());
             }
-            Turn::Refused(why) => {
+            Turn::Refused(refusal) => {
                 seat.keep(Some(filled), index);
-                return Err(why);
+                return Err(refusal);
             }
             Turn::Failed => {}
         }

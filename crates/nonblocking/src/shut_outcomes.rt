@@ -51,7 +51,7 @@ pub(crate) fn turned<const B: u32>(outcome: Outcome<ActorOf<B>>) -> Turn
 {
     match outcome {
         Outcome::Ends(Reply::Done) => Turn::Shut,
-        Outcome::Ends(Reply::Refused(why)) => Turn::Refused(why),
+        Outcome::Ends(Reply::Refused(refusal)) => Turn::Refused(refusal),
         Outcome::Goes(..) | Outcome::Ends(_) => Turn::Failed,
     }
 }

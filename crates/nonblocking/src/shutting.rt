@@ -66,9 +66,9 @@ pub(crate) fn shut_queue<const B: u32>(
                 seat.keep(pocket, index);
                 return Ok(());
             }
-            Turn::Refused(why) => {
+            Turn::Refused(refusal) => {
                 seat.keep(pocket, index);
-                return Err(why);
+                return Err(refusal);
             }
             Turn::Failed => {}
         }

@@ -16,7 +16,7 @@ fn without_shares<Q: Fifo + Drop>(
     last: Q::Seat,
 ) -> Result<Vec<Q::Seat>, Refusal>
     ensures seats { IfOk result (λ seats. seats.items ≡ map seat_of owned.items ++ last ∷ []) }
-    ensures only_memory { IfErr result (λ why. why ≡ Refusal.Memory) }
+    ensures only_memory { IfErr result (λ refusal. refusal ≡ Refusal.Memory) }
 {
     let mut seats = Vec::new(alloc);
     for one in owned {
@@ -45,7 +45,7 @@ impl<Q: Fifo + Drop> OwnedSeat<Q> {
         //=   of these. Or Memory.
         ensures rest { IfOk result (λ o. IfSome o (λ rest. Closes (Q.permits (queue_of self))
             (map (λ s. Q.known (seat_of s)) (others.items ++ self ∷ [])) rest)) }
-        ensures only_memory { IfErr result (λ why. why ≡ Refusal.Memory) }
+        ensures only_memory { IfErr result (λ refusal. refusal ≡ Refusal.Memory) }
     {
         let OwnedSeat { queue, seat } = self;
         let seats = without_shares(alloc, others, seat)?;

@@ -25,7 +25,7 @@ pub fn deal<Q: Fifo + Drop>(
     //=   Or Memory.
     ensures queue { IfOk result (λ owned. All (λ s. queue_of s ≡ queue) owned.items) }
     ensures seats { IfOk result (λ owned. map seat_of owned.items ≡ seats.items) }
-    ensures only_memory { IfErr result (λ why. why ≡ Refusal.Memory) }
+    ensures only_memory { IfErr result (λ refusal. refusal ≡ Refusal.Memory) }
 {
     let Ok(queue) = Arc::new(alloc, queue) else {
         return Err(Refusal::Memory);

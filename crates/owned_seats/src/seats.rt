@@ -35,7 +35,7 @@ impl<Q: Fifo + Drop> OwnedSeat<Q> {
         requires role { MayPush (Q.permits (queue_of self.old))
             (Q.known (seat_of self.old)).number }
         requires turns { 1 ≤ turns }
-        //= library/owned (queue, seat, number, pushed, refused, why, caused): A call by a seat with its share has the
+        //= library/owned (queue, seat, number, pushed, refused, refusal, caused): A call by a seat with its share has the
         //=   clauses of the queue's own over what the seat knows, and keeps its queue.
         ensures queue { queue_of self.new ≡ queue_of self.old }
         ensures seat { Q.is_seat (queue_of self.new) (seat_of self.new) }
@@ -43,8 +43,9 @@ impl<Q: Fifo + Drop> OwnedSeat<Q> {
         ensures pushed { OnOk result
             (Pushed (Q.known (seat_of self.old)) body (Q.known (seat_of self.new))) }
         ensures refused { IfErr result
-            (λ why. PushRefused (Q.known (seat_of self.old)) why (Q.known (seat_of self.new))) }
-        ensures why { IfErr result StopsPush }
+            (λ refusal. PushRefused (Q.known (seat_of self.old)) refusal
+            (Q.known (seat_of self.new))) }
+        ensures refusal { IfErr result StopsPush }
         ensures caused { IfErr result
             (Q.push_cause (queue_of self.old) (seat_of self.old) (seat_of self.new) turns) }
     {
@@ -59,15 +60,16 @@ impl<Q: Fifo + Drop> OwnedSeat<Q> {
         requires seat { Q.is_seat (queue_of self.old) (seat_of self.old) }
         requires role { MayPop (Q.permits (queue_of self.old)) (Q.known (seat_of self.old)).number }
         requires turns { 1 ≤ turns }
-        //= library/owned (queue, seat, number, answer, refused, why, caused)
+        //= library/owned (queue, seat, number, answer, refused, refusal, caused)
         ensures queue { queue_of self.new ≡ queue_of self.old }
         ensures seat { Q.is_seat (queue_of self.new) (seat_of self.new) }
         ensures number { (Q.known (seat_of self.new)).number ≡ (Q.known (seat_of self.old)).number }
         ensures answer { IfOk result
             (λ taken. PopAnswers (Q.known (seat_of self.old)) taken (Q.known (seat_of self.new))) }
         ensures refused { IfErr result
-            (λ why. PopRefused (Q.known (seat_of self.old)) why (Q.known (seat_of self.new))) }
-        ensures why { IfErr result StopsPop }
+            (λ refusal. PopRefused (Q.known (seat_of self.old)) refusal
+            (Q.known (seat_of self.new))) }
+        ensures refusal { IfErr result StopsPop }
         ensures caused { IfErr result
             (Q.pop_cause (queue_of self.old) (seat_of self.old) (seat_of self.new) turns) }
     {
@@ -83,15 +85,16 @@ impl<Q: Fifo + Drop> OwnedSeat<Q> {
         requires role { MayPush (Q.permits (queue_of self.old))
             (Q.known (seat_of self.old)).number }
         requires turns { 1 ≤ turns }
-        //= library/owned (queue, seat, number, shut, refused, why, caused)
+        //= library/owned (queue, seat, number, shut, refused, refusal, caused)
         ensures queue { queue_of self.new ≡ queue_of self.old }
         ensures seat { Q.is_seat (queue_of self.new) (seat_of self.new) }
         ensures number { (Q.known (seat_of self.new)).number ≡ (Q.known (seat_of self.old)).number }
         ensures shut { OnOk result
             (DidShut (Q.known (seat_of self.old)) (Q.known (seat_of self.new))) }
         ensures refused { IfErr result
-            (λ why. PushRefused (Q.known (seat_of self.old)) why (Q.known (seat_of self.new))) }
-        ensures why { IfErr result StopsShut }
+            (λ refusal. PushRefused (Q.known (seat_of self.old)) refusal
+            (Q.known (seat_of self.new))) }
+        ensures refusal { IfErr result StopsShut }
         ensures caused { IfErr result
             (Q.shut_cause (queue_of self.old) (seat_of self.old) (seat_of self.new) turns) }
     {

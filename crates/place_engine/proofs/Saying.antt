@@ -10,5 +10,5 @@ use Rattle.place_engine.specs.Places.{SaysOf}
 
 pub says : (ops : List Stamped) (answer : Placed) → IsAnswer ops answer → SaysOf ops answer
 says ops (History new) h = placed_is ops new.items h.0 h.1
-says ops (Impossible why) h = excludes ops why h
-says ops (Open why) h = tt
+says ops (Impossible reason) h = excludes ops reason h
+says ops (Open cause) h = tt

@@ -50,11 +50,11 @@ others_text (Full place spans) = flat_map (λ span. held_text span.held) spans.i
 
 -- the beginning of the line that tells a reason
 unfoldable pub head_text : Reason → List ℕ
-head_text why = codes "no " ++ decimal (place_of why) ++ codes " " ++ cause_of why
+head_text reason = codes "no " ++ decimal (place_of reason) ++ codes " " ++ cause_of reason
 
 -- the line that tells a reason: the operation's place in the list, the cause, and the places of the others
 abbrev pub no_text : Reason → List ℕ
-no_text why = head_text why ++ others_text why ++ codes "\n"
+no_text reason = head_text reason ++ others_text reason ++ codes "\n"
 
 -- the name of why nothing was found
 abbrev pub unknown_name : Unknown → List ℕ
@@ -64,10 +64,10 @@ unknown_name Room = codes "Room"
 
 -- the line that tells that nothing was found
 unfoldable pub open_text : Unknown → List ℕ
-open_text why = codes "open " ++ unknown_name why ++ codes "\n"
+open_text cause = codes "open " ++ unknown_name cause ++ codes "\n"
 
 -- the text that tells what is found: a history with points, or one line
 abbrev pub found_text : Placed → List ℕ
 found_text (History new) = history_text new.items
-found_text (Impossible why) = no_text why
-found_text (Open why) = open_text why
+found_text (Impossible reason) = no_text reason
+found_text (Open cause) = open_text cause

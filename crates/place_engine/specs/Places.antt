@@ -2,7 +2,7 @@
 use Rattle.std.specs.Prelude.{ℕ, List, Option}
 use Rattle.std.specs.Io.KnownBytes.{Appends}
 use Rattle.text_io.specs.Devices.{SinkState}
-use Rattle.text_io.specs.Blocks.{TakesBeginning}
+use Rattle.text_io.specs.Blocks.{TakesPrefix}
 use Rattle.history.specs.declared.operations.Stamped.{Stamped}
 use Rattle.placing.specs.declared.answers.Placed.{Placed}
 use Rattle.placing.specs.declared.answers.Placed.TheVariants.{History, Impossible, Open}
@@ -14,8 +14,8 @@ use Rattle.recorded_source.specs.Given.{IsRecordOf}
 -- what an answer says of a recorded history: that it is one of a queue, that it isn't, or neither
 abbrev pub SaysOf : List Stamped → Placed → Type 0
 SaysOf ops (History new) = IsOfQueue ops
-SaysOf ops (Impossible why) = IsOfQueue ops → ⊥
-SaysOf ops (Open why) = Unit {0}
+SaysOf ops (Impossible reason) = IsOfQueue ops → ⊥
+SaysOf ops (Open cause) = Unit {0}
 
 -- known bytes were the text of a recorded history or of a recording, the answer is one of it and says what is so, and
 -- the text that tells it was written
@@ -26,11 +26,11 @@ pub record TellsPlaces (given : Option (List ℕ)) (old new : SinkState) (answer
   pub right : SaysOf operations answer
   pub written : Appends old.contents new.contents (found_text answer)
 
--- known bytes were the text of a recorded history or of a recording, and a beginning of the text that tells an answer of
+-- known bytes were the text of a recorded history or of a recording, and a prefix of the text that tells an answer of
 -- it was written
 pub record BeginsPlaces (given : Option (List ℕ)) (old new : SinkState) : Type 0 where
   pub operations : List Stamped
   pub answer : Placed
   pub history : IsRecordOf given operations
   pub answers : IsAnswer operations answer
-  pub begun : TakesBeginning old.contents new.contents (found_text answer)
+  pub begun : TakesPrefix old.contents new.contents (found_text answer)

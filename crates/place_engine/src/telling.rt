@@ -2,7 +2,7 @@
 ghost use Rattle.std.specs.Prelude.{◌≡◌, ◌≤◌, ◌++◌, ◌⊎◌, IfErr, IfOk, OnOk, length};
 ghost use Rattle.std.specs.Io.KnownBytes.{Appends};
 ghost use Rattle.std.specs.List.{flat_map};
-ghost use Rattle.text_io.specs.Blocks.{TakesBeginning, GivesUp};
+ghost use Rattle.text_io.specs.Blocks.{TakesPrefix, GivesUp};
 ghost use Rattle.place_engine.specs.FoundTexts as texts;
 ghost use Rattle.place_engine.specs.FoundTexts.{place_text, held_text, head_text, others_text, no_text, unknown_name, open_text, found_text};
 
@@ -17,12 +17,14 @@ pub(crate) fn tell<W: Sink>(alloc: Global, found: &Placed, writer: &mut W) -> Re
     ensures ok { OnOk result (Appends (W.state writer.old).contents (W.state writer.new).contents
         (found_text found.now)) }
     ensures quiet { OnOk result ((W.state writer.new).failures ≡ (W.state writer.old).failures) }
-    ensures only { IfErr result (λ why. (why ≡ Refusal.Memory) ⊎ (why ≡ Refusal.Write)) }
-    ensures unwritten { IfErr result (λ why. why ≡ Refusal.Memory → writer.new ≡ writer.old) }
-    ensures beginning { IfErr result (λ why. why ≡ Refusal.Write
-        → TakesBeginning (W.state writer.old).contents (W.state writer.new).contents
+    ensures only { IfErr result
+        (λ refusal. (refusal ≡ Refusal.Memory) ⊎ (refusal ≡ Refusal.Write)) }
+    ensures unwritten { IfErr result
+        (λ refusal. refusal ≡ Refusal.Memory → writer.new ≡ writer.old) }
+    ensures prefix { IfErr result (λ refusal. refusal ≡ Refusal.Write
+        → TakesPrefix (W.state writer.old).contents (W.state writer.new).contents
         (found_text found.now)) }
-    ensures cause { IfErr result (λ why. why ≡ Refusal.Write
+    ensures cause { IfErr result (λ refusal. refusal ≡ Refusal.Write
         → GivesUp (W.state writer.old) (W.state writer.new)) }
 {
     match found {
@@ -31,7 +33,7 @@ pub(crate) fn tell<W: Sink>(alloc: Global, found: &Placed, writer: &mut W) -> Re
             Ok(line) => send(&line, writer),
             Err(_) => Err(Refusal::Memory),
         },
-        Placed::Open(why) => send(open_line(*why).as_slice(), writer),
+        Placed::Open(cause) => send(open_line(*cause).as_slice(), writer),
     }
 }
 
@@ -141,21 +143,21 @@ fn push_spans(text: &mut Vec<u8>, spans: &[Span]) -> Result<(), AllocError>
 
 // The line that tells why nothing was found.
 #[tactic(auto, unfolding(crate::specs::FoundTexts::open_text))]
-fn open_line(why: Unknown) -> Line
-    ensures { result ≡ open_text why }
+fn open_line(cause: Unknown) -> Line
+    ensures { result ≡ open_text cause }
 {
     let mut line = Line::new();
     line.push(b"open ");
-    line.push(name_of(why));
+    line.push(name_of(cause));
     line.push(b"\n");
     line
 }
 
-fn name_of(why: Unknown) -> &'static [u8]
-    ensures text { result.now ≡ unknown_name why }
+fn name_of(cause: Unknown) -> &'static [u8]
+    ensures text { result.now ≡ unknown_name cause }
     ensures short { length result.now ≤ 8 }
 {
-    match why {
+    match cause {
         Unknown::Steps => b"Steps",
         Unknown::Searched => b"Searched",
         Unknown::Room => b"Room",

@@ -16,7 +16,7 @@ use Rattle.history.specs.Queue.{Queue, empty, response}
 use Rattle.history.specs.declared.refusals.Refusal.{Refusal}
 use Rattle.history.specs.declared.refusals.Refusal.TheVariants.{Closed}
 use Rattle.history.specs.History.{leaves, is_closed, may_refuse, AgreesWithQueue}
-use Rattle.history.specs.Linearizability.{Answered, operations_of, IsPending, GivesWhatWasTold, IsRun}
+use Rattle.history.specs.Linearizability.{Answered, operations_of, IsPending, GivesRecordedReply, IsRun}
 use Rattle.history.specs.Tallies.{is_not_refused}
 use Rattle.placing.specs.declared.answers.Held.{Held}
 use Rattle.placing.specs.declared.answers.Span.{Span}
@@ -27,7 +27,7 @@ use Rattle.placing.specs.Kinds.{Kind, same_value, is_told_in, is_push_in, pushes
 use Rattle.placing.specs.Reasons.{StandsAt, IsMisshapen, EndsTooSoon, may_be_told, IsToldAmiss, IsSooner, IsHeld, IsOutOfOrder, Cover, IsFull, IsReason}
 use Rattle.placing.proofs.Runs.{one_if, taken_in, pushed_in, copies, same_itself, after_run, run_balance, run_parts, after_parts, step_taken, goes_before}
 use Rattle.placing.proofs.Sooner.{take_ended_by, push_begun_by, ended_begun, pushed_at_most}
-use Rattle.placing.proofs.Parting.{PartsAt, parts_at, parted_have, sum_parted, sum_ordered, sum_zero, BeganBy, MayFollow, times_parted, latest_beginning}
+use Rattle.placing.proofs.Parting.{PartsAt, parts_at, parted_have, sum_parted, sum_ordered, sum_zero, BeganBy, MayFollow, times_parted, latest_start}
 use Rattle.placing.proofs.Staying.{EndedFrom, and_false, take_begun_after, IsOrder, is_order, Stays, pushed_before, fewer_taken, last_part}
 use Rattle.placing.proofs.Keeping.{contained, both, held_stays}
 
@@ -84,7 +84,7 @@ given_there ops o s = (run_parts empty s.before (s.here ∷ s.behind) s.order.ru
 
 given_told : (ops : List Stamped) (o : Stamped) (s : Standing ops o) (reply : Reply) → o.reply ≡ Some reply → s.here.reply ≡ reply
 given_told ops o s reply e =
-    let told : IfSome s.here.operation.reply (λ told. s.here.reply ≡ told) = (last_part GivesWhatWasTold s.before (s.here ∷ s.behind) s.order.told).0 in
+    let told : IfSome s.here.operation.reply (λ told. s.here.reply ≡ told) = (last_part GivesRecordedReply s.before (s.here ∷ s.behind) s.order.told).0 in
     subst (λ r. IfSome r (λ told. s.here.reply ≡ told)) e (subst (λ p. IfSome p.reply (λ told. s.here.reply ≡ told)) s.same told)
 
 -- ---- what a call is never told
@@ -98,12 +98,12 @@ given_may actor Deq true [] = refl
 given_may actor Deq false [] = refl
 given_may actor Deq shut (front ∷ rest) = refl
 
-refused_may : (why : Refusal) (P : Type 0) → (leaves why ≡ true) ⊎ ((why ≡ Closed) × P) → may_refuse why ≡ true
-refused_may why P (inl h) = subst (λ b. (b || is_closed why) ≡ true) (sym h) refl
-refused_may why P (inr h) = subst (λ why. may_refuse why ≡ true) (sym h.0) refl
+refused_may : (refusal : Refusal) (P : Type 0) → (leaves refusal ≡ true) ⊎ ((refusal ≡ Closed) × P) → may_refuse refusal ≡ true
+refused_may refusal P (inl h) = subst (λ b. (b || is_closed refusal) ≡ true) (sym h) refl
+refused_may refusal P (inr h) = subst (λ refusal. may_refuse refusal ≡ true) (sym h.0) refl
 
 agreed_may : (queue : Queue) (o : Stamped) (reply : Reply) → AgreesWithQueue queue o (Some reply) → may_be_told reply o.op ≡ true
-agreed_may queue o (Refused why) h = refused_may why _ h
+agreed_may queue o (Refused refusal) h = refused_may refusal _ h
 agreed_may queue o Done h = subst (λ r. may_be_told r o.op ≡ true) (sym h) (given_may o.actor o.op queue.shut queue.values)
 agreed_may queue o (Value v) h = subst (λ r. may_be_told r o.op ≡ true) (sym h) (given_may o.actor o.op queue.shut queue.values)
 agreed_may queue o Empty h = subst (λ r. may_be_told r o.op ≡ true) (sym h) (given_may o.actor o.op queue.shut queue.values)
@@ -162,7 +162,7 @@ empty_there queue actor op h = go op queue.shut queue.values h
     go Deq shut [] h = refl
     go Deq shut (v ∷ vs) h = absurd (cc h)
 
--- those that may follow ended from the latest beginning on
+-- those that may follow ended from the latest start on
 follow_late : (from time : ℕ) (a : Stamped) (os ys : List Stamped) → from ≤ time → ((last : ℕ) → a.first ≤ last → BeganBy last os → time ≤ last) → AllByRecursion (MayFollow os a) ys → AllByRecursion (EndedFrom from) ys
 follow_late from time a os [] h least f = tt
 follow_late from time a os (y ∷ ys) h least f = (go y.last f.0, follow_late from time a os ys h least f.1)
@@ -202,7 +202,7 @@ not_full ops place spans h s =
     let o = s.operation in
     let t = stands_in ops place o h s.stands (told_not_pending o Empty s.told) in
     let times = times_parted t.before t.here t.behind t.order.timely in
-    let latest = latest_beginning t.here.operation (operations_of t.before) in
+    let latest = latest_start t.here.operation (operations_of t.before) in
     let call : IsCall o = All-contains IsCall ops o h.calls (contained ops place o s.stands) in
     let ends : o.first ≤ s.time = subst (λ l. IfSome l (λ last. o.first ≤ last)) s.ended call.spans in
     let last : t.here.operation.last ≡ Some s.time = subst (λ p. p.last ≡ Some s.time) (sym t.same) s.ended in
@@ -276,7 +276,7 @@ begins_from time kind ops xs a ys left o none one = go (nat_lt a.operation.first
         let g : Stamped → ℕ = λ p. one_if (pushes_in kind p && nat_lt p.first time) in
         let all : sum_by g ops ≡ sum_by g (operations_of (xs ++ a ∷ ys)) + sum_by g left = sum_ordered g ops (xs ++ a ∷ ys) left o.moved in
         let parts = sum_parted g xs a ys in
-        let told = (last_part GivesWhatWasTold xs (a ∷ ys) o.told).0 in
+        let told = (last_part GivesRecordedReply xs (a ∷ ys) o.told).0 in
         let more : pushed_in kind a ≤ one_if (pushes_in kind a.operation) = pushed_at_most (is_push_in kind a.operation.actor a.operation.op) a.operation.reply a.reply told in
         let pushes : pushes_in kind a.operation ≡ true = one_is_so (pushes_in kind a.operation) (omega (arith, more, one)) in
         let counted : g a.operation ≡ 1 = both (pushes_in kind a.operation) (nat_lt a.operation.first time) pushes e in
@@ -349,7 +349,7 @@ not_out_of_order ops place push held h s =
 -- ---- each reason
 
 -- where there is a reason, the history isn't one of a queue
-pub excludes : (ops : List Stamped) (why : Reason) → IsReason ops why → IsOfQueue ops → ⊥
+pub excludes : (ops : List Stamped) (reason : Reason) → IsReason ops reason → IsOfQueue ops → ⊥
 excludes ops (Shape place) r h = not_misshapen r.0 (All-contains IsCall ops r.0 h.calls (contained ops place r.0 r.1)) r.2
 excludes ops (Spans place) r h = not_too_soon r.0 (All-contains IsCall ops r.0 h.calls (contained ops place r.0 r.1)) r.2
 excludes ops (Replies place) r h = not_amiss ops place r.0 h r.1 r.2

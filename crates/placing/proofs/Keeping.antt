@@ -69,7 +69,7 @@ told_not_left ops k d lt = go (get_or ops k d).reply refl
     go (Some Done) r = refl
     go (Some (Value v)) r = positive (takes_of (same_value v) ops) (told v r) (nat_eq (takes_of (same_value v) ops) 0) refl
     go (Some Empty) r = refl
-    go (Some (Refused why)) r = refl
+    go (Some (Refused refusal)) r = refl
 
 no_first : (a b : Bool) → a ≡ false → one_if (a && b) ≤ 0
 no_first false b e = omega arith

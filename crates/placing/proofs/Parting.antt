@@ -131,7 +131,7 @@ times_parted (x ∷ xs) a ys h =
     (began_more x.operation (operations_of xs) a.operation.last those.0 more.0, all_follow_more x.operation a.operation (operations_of xs) (operations_of ys) those.1 more.1)
 
 -- the time by which an operation and some others have begun: none is sooner
-pub record LatestBeginning (o : Stamped) (os : List Stamped) : Type 0 where
+pub record LatestStart (o : Stamped) (os : List Stamped) : Type 0 where
   pub time : ℕ
   pub began : o.first ≤ time
   pub others : BeganBy time os
@@ -141,11 +141,11 @@ began_later : (time later : ℕ) → time ≤ later → (os : List Stamped) → 
 began_later time later h [] b = tt
 began_later time later h (o ∷ os) b = let k = b.0 in (omega (arith, k), began_later time later h os b.1)
 
-pub latest_beginning : (o : Stamped) (os : List Stamped) → LatestBeginning o os
-latest_beginning o [] = record { time = o.first; began = omega arith; others = tt; least = λ last h b. h }
-latest_beginning o (p ∷ ps) = go (latest_beginning o ps) _ refl
+pub latest_start : (o : Stamped) (os : List Stamped) → LatestStart o os
+latest_start o [] = record { time = o.first; began = omega arith; others = tt; least = λ last h b. h }
+latest_start o (p ∷ ps) = go (latest_start o ps) _ refl
   where
-    go : (more : LatestBeginning o ps) (b : Bool) → nat_le p.first more.time ≡ b → LatestBeginning o (p ∷ ps)
+    go : (more : LatestStart o ps) (b : Bool) → nat_le p.first more.time ≡ b → LatestStart o (p ∷ ps)
     go more true e = record { time = more.time; began = more.began; others = (leb-true _ _ e, more.others); least = λ last h b. more.least last h b.1 }
     go more false e =
         let j : more.time < p.first = leb-false _ _ e in

@@ -58,7 +58,7 @@ with_reply kind queue o reply h =
 pub step_balance : (kind : Kind) (queue : Queue) (o : Stamped) (reply : Reply) → AgreesWithQueue queue o (Some reply)
     → one_if (is_told_in kind (Some reply)) + copies kind (answer queue o (Some reply)).after.values
     ≡ one_if (is_not_refused (Some reply) && is_push_in kind o.actor o.op) + copies kind queue.values
-step_balance kind queue o (Refused why) h = refl
+step_balance kind queue o (Refused refusal) h = refl
 step_balance kind queue o Done h = with_reply kind queue o _ h
 step_balance kind queue o (Value w) h = with_reply kind queue o _ h
 step_balance kind queue o Empty h = with_reply kind queue o _ h
@@ -76,7 +76,7 @@ given_taken kind actor Deq shut (front ∷ rest) =
 
 -- what is taken was there
 pub step_taken : (kind : Kind) (queue : Queue) (o : Stamped) (reply : Reply) → AgreesWithQueue queue o (Some reply) → one_if (is_told_in kind (Some reply)) ≤ copies kind queue.values
-step_taken kind queue o (Refused why) h = omega arith
+step_taken kind queue o (Refused refusal) h = omega arith
 step_taken kind queue o Done h = omega arith
 step_taken kind queue o (Value w) h =
     subst (λ r. one_if (is_told_in kind (Some r)) ≤ copies kind queue.values) (sym h) (given_taken kind o.actor o.op queue.shut queue.values)
@@ -141,7 +141,7 @@ given_goes_on u us true actor Shut = stays_as_it_is u us true true _
 given_goes_on u us shut actor Deq = inr (refl, refl)
 
 step_goes_on : (u : Taken) (us : List Taken) (shut : Bool) (o : Stamped) (reply : Reply) → AgreesWithQueue (record { values = u ∷ us; shut = shut }) o (Some reply) → GoesOn u us shut reply (answer (record { values = u ∷ us; shut = shut }) o (Some reply)).after
-step_goes_on u us shut o (Refused why) h = stays_as_it_is u us shut shut _
+step_goes_on u us shut o (Refused refusal) h = stays_as_it_is u us shut shut _
 step_goes_on u us shut o Done h =
     subst (λ r. GoesOn u us shut r (response o.actor o.op (record { values = u ∷ us; shut = shut })).after) (sym h) (given_goes_on u us shut o.actor o.op)
 step_goes_on u us shut o (Value w) h =

@@ -8,7 +8,7 @@ use Rattle.history.specs.declared.operations.Reply.TheVariants.{Done, Value, Emp
 use Rattle.history.specs.declared.operations.Stamped.{Stamped}
 use Rattle.history.specs.Queue.{Queue}
 use Rattle.history.specs.History.{AgreesWithQueue, answer}
-use Rattle.history.specs.Linearizability.{Answered, operations_of, MayComeBefore, KeepsTime, GivesWhatWasTold, IsRun}
+use Rattle.history.specs.Linearizability.{Answered, operations_of, MayComeBefore, KeepsTime, GivesRecordedReply, IsRun}
 use Rattle.history.specs.Tallies.{is_not_refused}
 use Rattle.placing.specs.Kinds.{Kind, is_told_in, is_push_in, pushes_in, ended_by}
 use Rattle.placing.proofs.Runs.{one_if, copies, step_balance, step_taken}
@@ -46,7 +46,7 @@ told_at_most kind (Some told) reply h =
 
 -- what it is given counts as a push no more than what it was told
 pub pushed_at_most : (b : Bool) (told : Option Reply) (reply : Reply) → IfSome told (λ told. reply ≡ told) → one_if (is_not_refused (Some reply) && b) ≤ one_if (is_not_refused told && b)
-pushed_at_most b None (Refused why) h = omega arith
+pushed_at_most b None (Refused refusal) h = omega arith
 pushed_at_most b None Done h = omega arith
 pushed_at_most b None (Value v) h = omega arith
 pushed_at_most b None Empty h = omega arith
@@ -77,7 +77,7 @@ too_late ended told taken begun_by later_ended later_begun before a b c d = omeg
 
 -- one operation more, where by the time it ended as a take or began as a push
 one_more : (time : ℕ) (kind : Kind) (queue : Queue) (a : Answered) (os : List Stamped) (b : Bool)
-    → nat_le a.operation.first time ≡ b → AgreesWithQueue queue a.operation (Some a.reply) → GivesWhatWasTold a → AllByRecursion (MayComeBefore a.operation) os
+    → nat_le a.operation.first time ≡ b → AgreesWithQueue queue a.operation (Some a.reply) → GivesRecordedReply a → AllByRecursion (MayComeBefore a.operation) os
     → sum_by (take_ended_by time kind) os ≤ copies kind (answer queue a.operation (Some a.reply)).after.values + sum_by (push_begun_by time kind) os
     → take_ended_by time kind a.operation + sum_by (take_ended_by time kind) os ≤ copies kind queue.values + (push_begun_by time kind a.operation + sum_by (push_begun_by time kind) os)
 one_more time kind queue a os true e h g k later =
@@ -97,7 +97,7 @@ one_more time kind queue a os false e h g k later =
     (none_by time kind a.operation j os k)
 
 -- in a run that keeps time, by each time no more takes of a kind ended than there were values and pushes began
-pub ended_begun : (time : ℕ) (kind : Kind) (queue : Queue) (order : List Answered) → IsRun queue order → AllByRecursion GivesWhatWasTold order → KeepsTime (operations_of order)
+pub ended_begun : (time : ℕ) (kind : Kind) (queue : Queue) (order : List Answered) → IsRun queue order → AllByRecursion GivesRecordedReply order → KeepsTime (operations_of order)
     → sum_by (take_ended_by time kind) (operations_of order) ≤ copies kind queue.values + sum_by (push_begun_by time kind) (operations_of order)
 ended_begun time kind queue [] h g k = omega arith
 ended_begun time kind queue (a ∷ rest) h g k =

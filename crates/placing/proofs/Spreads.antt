@@ -12,7 +12,7 @@ use Rattle.history.specs.declared.operations.Stamped.{Stamped}
 use Rattle.history.specs.declared.operations.Verdict.TheVariants.{Yes}
 use Rattle.history.specs.Queue.{Queue, empty, response}
 use Rattle.history.specs.History.{LiesIn, IsPlaced, AgreesWithQueue, answer, verdict}
-use Rattle.history.specs.Linearizability.{Answered, operations_of, IsPending, GivesWhatWasTold, MayComeBefore, KeepsTime, IsRun, IsLinearizable}
+use Rattle.history.specs.Linearizability.{Answered, operations_of, IsPending, GivesRecordedReply, MayComeBefore, KeepsTime, IsRun, IsLinearizable}
 use Rattle.history.proofs.Judging.{yes_is_right}
 use Rattle.history.proofs.Linearizing.{placed_linearizes}
 use Rattle.placing.specs.Calls.{IsCall, IsOfQueue}
@@ -94,7 +94,7 @@ module _ (base width : ℕ) where
   same_operations (o ∷ os) [] h = absurd h
   same_operations (o ∷ os) (a ∷ rest) h = ap (λ r. o ∷ r) (same_operations os rest h.1)
 
-  still_told : (os : List Stamped) (order : List Answered) → AllZip Spread os (operations_of order) → AllByRecursion GivesWhatWasTold order → AllByRecursion GivesWhatWasTold (given_in os order)
+  still_told : (os : List Stamped) (order : List Answered) → AllZip Spread os (operations_of order) → AllByRecursion GivesRecordedReply order → AllByRecursion GivesRecordedReply (given_in os order)
   still_told [] order h g = tt
   still_told (o ∷ os) [] h g = absurd h
   still_told (o ∷ os) (a ∷ rest) h g =
@@ -115,8 +115,8 @@ module _ (base width : ℕ) where
   same_given queue o p s = ap (λ n. response n p.op queue) s.actor ∙ ap (λ op. response o.actor op queue) s.op
 
   still_gets : (queue : Queue) (o p : Stamped) (reply : Reply) → Spread o p → AgreesWithQueue queue p (Some reply) → AgreesWithQueue queue o (Some reply) × (answer queue p (Some reply) ≡ answer queue o (Some reply))
-  still_gets queue o p (Refused why) s (inl h) = (inl h, refl)
-  still_gets queue o p (Refused why) s (inr h) = (inr (h.0, h.1 ∙ ap (λ a. a.reply) (same_given queue o p s)), refl)
+  still_gets queue o p (Refused refusal) s (inl h) = (inl h, refl)
+  still_gets queue o p (Refused refusal) s (inr h) = (inr (h.0, h.1 ∙ ap (λ a. a.reply) (same_given queue o p s)), refl)
   still_gets queue o p Done s h = (h ∙ ap (λ a. a.reply) (same_given queue o p s), same_given queue o p s)
   still_gets queue o p (Value v) s h = (h ∙ ap (λ a. a.reply) (same_given queue o p s), same_given queue o p s)
   still_gets queue o p Empty s h = (h ∙ ap (λ a. a.reply) (same_given queue o p s), same_given queue o p s)

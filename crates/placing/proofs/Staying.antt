@@ -14,7 +14,7 @@ use Rattle.history.specs.declared.operations.Reply.TheVariants.{Done, Value, Emp
 use Rattle.history.specs.declared.operations.Stamped.{Stamped}
 use Rattle.history.specs.Queue.{Queue, empty, response, unless_shut}
 use Rattle.history.specs.History.{AgreesWithQueue}
-use Rattle.history.specs.Linearizability.{Answered, operations_of, IsPending, GivesWhatWasTold, KeepsTime, IsRun}
+use Rattle.history.specs.Linearizability.{Answered, operations_of, IsPending, GivesRecordedReply, KeepsTime, IsRun}
 use Rattle.history.specs.Tallies.{is_not_refused}
 use Rattle.placing.specs.Calls.{IsCall, IsOfQueue}
 use Rattle.placing.specs.Kinds.{Kind, is_told_in, is_push_in, pushes_in, is_pending_pop, ended_before, pushes_of, pushes_ended_before, takes_begun_by, takes_begun_after, pending_by}
@@ -64,7 +64,7 @@ abbrev IfValue : Reply → Type 0 → Type 0
 IfValue Done P = Unit {0}
 IfValue (Value v) P = P
 IfValue Empty P = Unit {0}
-IfValue (Refused why) P = Unit {0}
+IfValue (Refused refusal) P = Unit {0}
 
 at_most_one : (b : Bool) → one_if b ≤ 1
 at_most_one true = omega arith
@@ -93,7 +93,7 @@ ended_at_most time b last (Some told) reply c h =
 ended_at_most time b None None reply c h = let e = and_false b false refl in omega (arith, e)
 ended_at_most time b (Some last) None reply c h = absurd (let e : false ≡ true = c refl in cc)
 
-all_ended_at_most : (time : ℕ) (kind : Kind) (xs : List Answered) → AllByRecursion IsCall (operations_of xs) → AllByRecursion GivesWhatWasTold xs
+all_ended_at_most : (time : ℕ) (kind : Kind) (xs : List Answered) → AllByRecursion IsCall (operations_of xs) → AllByRecursion GivesRecordedReply xs
     → AllByRecursion (λ a. push_ended_before time kind a.operation ≤ pushed_in kind a) xs
 all_ended_at_most time kind [] c h = tt
 all_ended_at_most time kind (a ∷ rest) c h = (
@@ -108,7 +108,7 @@ pub record IsOrder (ops : List Stamped) (order : List Answered) (left : List Sta
   pub moved : IsPermutation ops (operations_of order ++ left)
   pub pending : AllByRecursion IsPending left
   pub calls : AllByRecursion IsCall (operations_of order)
-  pub told : AllByRecursion GivesWhatWasTold order
+  pub told : AllByRecursion GivesRecordedReply order
   pub timely : KeepsTime (operations_of order)
   pub runs : IsRun empty order
 
@@ -149,7 +149,7 @@ pushed_before time kind ops xs a ys left o h k =
     let here : f a.operation ≡ 0 = and_false (pushes_in kind a.operation) _ (not_before time a.operation.last h) in
     let behind = sum_zero f (operations_of ys) (none_ended time kind (operations_of ys) k) in
     let out = sum_zero f left (none_ended time kind left (pending_ended time left o.pending)) in
-    let most = sum_at_most f (pushed_in kind) xs (all_ended_at_most time kind xs (front_calls xs (a ∷ ys) o.calls) (first_part GivesWhatWasTold xs (a ∷ ys) o.told)) in
+    let most = sum_at_most f (pushed_in kind) xs (all_ended_at_most time kind xs (front_calls xs (a ∷ ys) o.calls) (first_part GivesRecordedReply xs (a ∷ ys) o.told)) in
     omega (arith, all, parts, here, behind, out, most)
 
 -- ---- takes
@@ -173,19 +173,19 @@ taken_at_most time kind actor Deq first None reply queue b h g =
 taken_at_most time kind actor (Enq body) first None (Value v) queue b h g = absurd (no_value v queue.values queue.shut _ (g refl))
 taken_at_most time kind actor (Enq body) first None Done queue b h g = omega arith
 taken_at_most time kind actor (Enq body) first None Empty queue b h g = omega arith
-taken_at_most time kind actor (Enq body) first None (Refused why) queue b h g = omega arith
+taken_at_most time kind actor (Enq body) first None (Refused refusal) queue b h g = omega arith
 taken_at_most time kind actor Shut first None (Value v) queue b h g = absurd (no_value v queue.values queue.shut _ (g refl))
 taken_at_most time kind actor Shut first None Done queue b h g = omega arith
 taken_at_most time kind actor Shut first None Empty queue b h g = omega arith
-taken_at_most time kind actor Shut first None (Refused why) queue b h g = omega arith
+taken_at_most time kind actor Shut first None (Refused refusal) queue b h g = omega arith
 
 given_value : (queue : Queue) (o : Stamped) (reply : Reply) → AgreesWithQueue queue o (Some reply) → IfValue reply (reply ≡ (response o.actor o.op queue).reply)
-given_value queue o (Refused why) h = tt
+given_value queue o (Refused refusal) h = tt
 given_value queue o Done h = tt
 given_value queue o (Value v) h = h
 given_value queue o Empty h = tt
 
-all_taken_at_most : (time : ℕ) (kind : Kind) (xs : List Answered) → BeganBy time (operations_of xs) → AllByRecursion GivesWhatWasTold xs → AllByRecursion IsGiven xs
+all_taken_at_most : (time : ℕ) (kind : Kind) (xs : List Answered) → BeganBy time (operations_of xs) → AllByRecursion GivesRecordedReply xs → AllByRecursion IsGiven xs
     → AllByRecursion (λ a. taken_in kind a ≤ take_begun_by time kind a.operation + pop_begun_by time a.operation) xs
 all_taken_at_most time kind [] b h g = tt
 all_taken_at_most time kind (a ∷ rest) b h g =
@@ -210,7 +210,7 @@ taken_by : (time : ℕ) (kind : Kind) (ops : List Stamped) (xs : List Answered) 
 taken_by time kind ops xs a ys left o b =
     let f : Stamped → ℕ = take_begun_by time kind in
     let g : Stamped → ℕ = pop_begun_by time in
-    let every = all_taken_at_most time kind xs b (first_part GivesWhatWasTold xs (a ∷ ys) o.told) (first_part IsGiven xs (a ∷ ys) (all_given empty (xs ++ a ∷ ys) o.runs)) in
+    let every = all_taken_at_most time kind xs b (first_part GivesRecordedReply xs (a ∷ ys) o.told) (first_part IsGiven xs (a ∷ ys) (all_given empty (xs ++ a ∷ ys) o.runs)) in
     let most = sum_at_least (λ o. f o + g o) (taken_in kind) xs every in
     let both = sum_plus f g (operations_of xs) in
     let all_f : sum_by f ops ≡ sum_by f (operations_of (xs ++ a ∷ ys)) + sum_by f left = sum_ordered f ops (xs ++ a ∷ ys) left o.moved in
@@ -236,14 +236,14 @@ pending_after : (time : ℕ) (kind : Kind) (os : List Stamped) → AllByRecursio
 pending_after time kind [] h = tt
 pending_after time kind (o ∷ os) h = (ap (λ r. one_if (is_told_in kind r && nat_lt time o.first)) h.0.not_told, pending_after time kind os h.1)
 
-all_after_at_most : (time : ℕ) (kind : Kind) (ys : List Answered) → AllByRecursion GivesWhatWasTold ys → AllByRecursion (λ a. take_begun_after time kind a.operation ≤ taken_in kind a) ys
+all_after_at_most : (time : ℕ) (kind : Kind) (ys : List Answered) → AllByRecursion GivesRecordedReply ys → AllByRecursion (λ a. take_begun_after time kind a.operation ≤ taken_in kind a) ys
 all_after_at_most time kind [] h = tt
 all_after_at_most time kind (a ∷ rest) h =
     let less = first_at_most (is_told_in kind a.operation.reply) (nat_lt time a.operation.first) in
     let told = told_at_most kind a.operation.reply a.reply h.0 in
     (omega (arith, less, told), all_after_at_most time kind rest h.1)
 
-all_pushed_at_most : (kind : Kind) (xs : List Answered) → AllByRecursion GivesWhatWasTold xs → AllByRecursion (λ a. pushed_in kind a ≤ one_if (pushes_in kind a.operation)) xs
+all_pushed_at_most : (kind : Kind) (xs : List Answered) → AllByRecursion GivesRecordedReply xs → AllByRecursion (λ a. pushed_in kind a ≤ one_if (pushes_in kind a.operation)) xs
 all_pushed_at_most kind [] h = tt
 all_pushed_at_most kind (a ∷ rest) h =
     (pushed_at_most (is_push_in kind a.operation.actor a.operation.op) a.operation.reply a.reply h.0, all_pushed_at_most kind rest h.1)
@@ -259,7 +259,7 @@ taken_only time kind ops xs a ys left o b z =
     let parts = sum_parted f xs a ys in
     let sooner = sum_zero f (operations_of xs) (none_after time kind (operations_of xs) b) in
     let out = sum_zero f left (pending_after time kind left o.pending) in
-    let behind = sum_at_most f (taken_in kind) ys (all_after_at_most time kind ys (last_part GivesWhatWasTold (a ∷ []) ys (last_part GivesWhatWasTold xs (a ∷ ys) o.told))) in
+    let behind = sum_at_most f (taken_in kind) ys (all_after_at_most time kind ys (last_part GivesRecordedReply (a ∷ []) ys (last_part GivesRecordedReply xs (a ∷ ys) o.told))) in
     let taken = sum_by-append (taken_in kind) xs (a ∷ ys) in
     let taken_on = sum_by-cons (taken_in kind) a ys in
     let balance = run_balance kind empty (xs ++ a ∷ ys) o.runs in

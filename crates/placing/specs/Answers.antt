@@ -11,5 +11,5 @@ use Rattle.placing.specs.Reasons.{IsReason}
 -- a history with points that is judged Yes and is the given one but for stamps, or a reason; open says nothing
 abbrev pub IsAnswer : List Stamped → Placed → Type 0
 IsAnswer ops (History new) = IsSpread ops new.items × (verdict new.items ≡ Yes)
-IsAnswer ops (Impossible why) = IsReason ops why
-IsAnswer ops (Open why) = Unit {0}
+IsAnswer ops (Impossible reason) = IsReason ops reason
+IsAnswer ops (Open cause) = Unit {0}

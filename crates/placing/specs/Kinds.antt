@@ -22,7 +22,7 @@ is_told_in kind None = false
 is_told_in kind (Some Done) = false
 is_told_in kind (Some (Value v)) = kind v
 is_told_in kind (Some Empty) = false
-is_told_in kind (Some (Refused why)) = false
+is_told_in kind (Some (Refused refusal)) = false
 
 -- whether a call pushes a value of a kind
 abbrev pub is_push_in : Kind → (actor : ℕ) → Op → Bool

@@ -38,7 +38,7 @@ may_be_told (Value v) Shut = false
 may_be_told Empty (Enq body) = false
 may_be_told Empty Deq = true
 may_be_told Empty Shut = false
-may_be_told (Refused why) op = may_refuse why
+may_be_told (Refused refusal) op = may_refuse refusal
 
 -- it was told a reply that such a call is never told
 abbrev pub IsToldAmiss : Stamped → Type 0

@@ -41,7 +41,7 @@ pub fn place(alloc: Global, history: &[Stamped], steps: u64) -> Result<Placed, R
     //= judge/answers (answer, only_memory): A recorded history is answered with points, by a reason that holds, or that
     //=   neither was found. Or Memory.
     ensures answer { IfOk result (IsAnswer history.now) }
-    ensures only_memory { IfErr result (λ why. why ≡ Refusal.Memory) }
+    ensures only_memory { IfErr result (λ refusal. refusal ≡ Refusal.Memory) }
 {
     match find(alloc, history) {
         Ok(Found::Order(order)) => placed(alloc, history, &order),
@@ -54,7 +54,7 @@ pub fn place(alloc: Global, history: &[Stamped], steps: u64) -> Result<Placed, R
 // The history with points by an order that a search finds.
 fn sought(alloc: Global, history: &[Stamped], steps: u64) -> Result<Placed, Refusal>
     ensures answer { IfOk result (IsAnswer history.now) }
-    ensures only_memory { IfErr result (λ why. why ≡ Refusal.Memory) }
+    ensures only_memory { IfErr result (λ refusal. refusal ≡ Refusal.Memory) }
 {
     match searched(alloc, history, steps) {
         Ok(Outcome::Order(order)) => placed(alloc, history, &order),
@@ -67,7 +67,7 @@ fn sought(alloc: Global, history: &[Stamped], steps: u64) -> Result<Placed, Refu
 // The reason, where it is tested to be one.
 fn excluded(alloc: Global, history: &[Stamped], reason: Reason) -> Result<Placed, Refusal>
     ensures answer { IfOk result (IsAnswer history.now) }
-    ensures only_memory { IfErr result (λ why. why ≡ Refusal.Memory) }
+    ensures only_memory { IfErr result (λ refusal. refusal ≡ Refusal.Memory) }
 {
     match Known::of(alloc, history) {
         Ok(known) if is_reason(history, &known, &reason) => Ok(Placed::Impossible(reason)),
@@ -86,7 +86,7 @@ enum Stamps {
 // A history with points by an order, where there is room, with the stamps given or with others.
 fn placed(alloc: Global, history: &[Stamped], order: &[usize]) -> Result<Placed, Refusal>
     ensures answer { IfOk result (IsAnswer history.now) }
-    ensures only_memory { IfErr result (λ why. why ≡ Refusal.Memory) }
+    ensures only_memory { IfErr result (λ refusal. refusal ≡ Refusal.Memory) }
 {
     if let Some(new) = judged(alloc, history, order, Stamps::Given)? {
         return Ok(Placed::History(new));
@@ -105,7 +105,7 @@ fn judged(
     stamps: Stamps,
 ) -> Result<Option<Vec<Stamped>>, Refusal>
     ensures new { IfOk result (λ new. IfSome new (λ new. IsAnswer history.now (History new))) }
-    ensures only_memory { IfErr result (λ why. why ≡ Refusal.Memory) }
+    ensures only_memory { IfErr result (λ refusal. refusal ≡ Refusal.Memory) }
 {
     match with_points(alloc, history, order, stamps) {
         Ok(Some(new)) => match check(alloc, &new)? {

@@ -20,5 +20,5 @@ pub fn placed_is_linearizable()
 pub fn a_reason_excludes()
     //= judge/reasons: A recorded history of which a reason holds is not one of a queue, whatever pending operations
     //=   did, and with operations on one number.
-    ensures { (ops : List Stamped) (why : Reason) → IsReason ops why → ¬ IsOfQueue ops }
+    ensures { (ops : List Stamped) (reason : Reason) → IsReason ops reason → ¬ IsOfQueue ops }
 {}

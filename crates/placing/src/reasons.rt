@@ -71,15 +71,15 @@ pub(crate) fn may_be_told(reply: Reply, op: Op) -> bool
     match (reply, op) {
         (Reply::Done, Op::Enq(_) | Op::Shut) | (Reply::Value(_) | Reply::Empty, Op::Deq) => true,
         (Reply::Done, Op::Deq) | (Reply::Value(_) | Reply::Empty, Op::Enq(_) | Op::Shut) => false,
-        (Reply::Refused(why), _) => may_refuse(why),
+        (Reply::Refused(refusal), _) => may_refuse(refusal),
     }
 }
 
 // Whether a queue may answer this refusal.
-fn may_refuse(why: Refusal) -> bool
-    ensures { result ≡ rule.may_refuse why }
+fn may_refuse(refusal: Refusal) -> bool
+    ensures { result ≡ rule.may_refuse refusal }
 {
-    match why {
+    match refusal {
         Refusal::NoNode | Refusal::WornOut(_) | Refusal::Busy | Refusal::Closed => true,
         _ => false,
     }

@@ -59,8 +59,8 @@ fn pushes_on<R: Wait, Q: Fifo>(
             true
         }
         Err(Refusal::NoNode) => true,
-        Err(why) => {
-            tally.keeps(why == Refusal::Closed);
+        Err(refusal) => {
+            tally.keeps(refusal == Refusal::Closed);
             false
         }
     }
@@ -87,8 +87,8 @@ fn pops_on<R: Wait, Q: Fifo>(
             tally.keeps(!shut);
             true
         }
-        Err(why) => {
-            tally.keeps(why == Refusal::Closed);
+        Err(refusal) => {
+            tally.keeps(refusal == Refusal::Closed);
             false
         }
     }

@@ -3,7 +3,7 @@ use Rattle.std.proofs.Common.{◌≡◌, ℕ, List, [], ◌∷◌, ◌++◌, tru
 use Rattle.std.specs.Option.{option_map_or}
 use Rattle.text_lines.specs.Lines.{line}
 use Rattle.text_lines.specs.Grammars.{Says}
-use Rattle.text_io.specs.Beginnings.{IsRefusedBy, IsRefusedReading}
+use Rattle.text_io.specs.Prefixes.{IsRefusedBy, IsRefusedReading}
 use Rattle.text_io.specs.Readings.{WereAll}
 use Rattle.history.specs.declared.operations.Stamped.{Stamped}
 use Rattle.history.specs.declared.refusals.Refusal.{Refusal}
@@ -32,12 +32,12 @@ no_history text begins says later split (HistoryCount count) said =
 no_history text begins says later split (HistoryOperation o) said = absurd said.may
 
 -- what is told of a text as a history, or as a recording, is so of a text of either
-pub refused-history : (text : List ℕ) (why : Refusal) → begins_as_recording text ≡ false → IsFirstFaultOfHistory text why → IsRefusedBy recorded_grammar Start text why
+pub refused-history : (text : List ℕ) (refusal : Refusal) → begins_as_recording text ≡ false → IsFirstFaultOfHistory text refusal → IsRefusedBy recorded_grammar Start text refusal
 refused-history text (Text number cause) other fault = first_fault-one history_grammar recording_grammar First VersionDue text number cause refl (no_recording text other) fault
 refused-history text Memory other fault = tt
 refused-history text _ other fault = absurd fault
 
-pub refused-recording : (text : List ℕ) (why : Refusal) → begins_as_recording text ≡ true → IsFirstFaultOfRecording text why → IsRefusedBy recorded_grammar Start text why
+pub refused-recording : (text : List ℕ) (refusal : Refusal) → begins_as_recording text ≡ true → IsFirstFaultOfRecording text refusal → IsRefusedBy recorded_grammar Start text refusal
 refused-recording text (Text number cause) begins fault = first_fault-other history_grammar recording_grammar First VersionDue text number cause refl (no_history text begins) fault
 refused-recording text Memory begins fault = tt
 refused-recording text _ begins fault = absurd fault
@@ -49,7 +49,7 @@ record-read bytes given None ops read range = inl (record { in_range = range; re
 record-read bytes given (Some text) ops read range = inr (record { text = bytes text; read = read; stands = range })
 
 -- and what known bytes are refused for
-pub fault-read : (given : Option (List ℕ)) (why : Refusal) → IsRefusedReading recorded_grammar Start given why → TellsFaultOfRecord given why
-fault-read None why refused = tt
+pub fault-read : (given : Option (List ℕ)) (refusal : Refusal) → IsRefusedReading recorded_grammar Start given refusal → TellsFaultOfRecord given refusal
+fault-read None refusal refused = tt
 fault-read (Some text) (Text number cause) refused = refused
 fault-read (Some text) _ refused = tt

@@ -42,6 +42,6 @@ IsRecordOf given ops = IsTextOf given ops ⊎ IsRecordingFor given ops
 
 -- where known bytes are refused as a text, that is their first faulty line as a history or a recording, and what is wrong
 abbrev pub TellsFaultOfRecord : (given : Option (List ℕ)) → Refusal → Type 0
-TellsFaultOfRecord None why = ⊤
+TellsFaultOfRecord None refusal = ⊤
 TellsFaultOfRecord (Some text) (Text number cause) = IsFirstFault recorded_grammar Start text number cause
 TellsFaultOfRecord (Some text) _ = ⊤

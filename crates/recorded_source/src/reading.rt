@@ -17,7 +17,7 @@ pub fn record_in<R: Source>(alloc: Global, reader: &mut R) -> Result<Vec<Stamped
     ensures ok { IfOk result (λ history. IsRecordOf (R.state reader.old).left history.items) }
     ensures text { IfErr result (TellsFaultOfRecord (R.state reader.old).left) }
     //= program/readings (unwritten, refusal, reader)
-    ensures unwritten { IfErr result (λ why. why ≢ Refusal.Write) }
+    ensures unwritten { IfErr result (λ refusal. refusal ≢ Refusal.Write) }
     ensures refusal { IfErr result IsRunRefusal }
     ensures reader { EndsReadingFor result (R.state reader.old) (R.state reader.new) }
 {

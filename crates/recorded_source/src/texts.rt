@@ -1,6 +1,6 @@
 //! Texts of histories and of recordings, as they are parsed.
 ghost use Rattle.std.specs.Prelude.{◌≡◌, IfErr, IfOk, false, true};
-ghost use Rattle.text_io.specs.Beginnings.{IsRefusedBy};
+ghost use Rattle.text_io.specs.Prefixes.{IsRefusedBy};
 ghost use Rattle.recorded_source.specs.EitherGrammars.{Start};
 ghost use Rattle.recorded_source.specs.Given.{begins_as_recording, recorded_grammar, given_text, IsGivenInRange};
 

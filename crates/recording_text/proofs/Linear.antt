@@ -15,7 +15,7 @@ use Rattle.history.specs.Linearizability as linear
 use Rattle.history.specs.Linearizability.{Answered, IsLinearizable}
 use Rattle.recording_text.specs.Recordings.{Call, Push, Pop, Shut, Told, Done, Value, Empty, Refused, Closed, Recorded, text_of_call, text_of_told, texts_in}
 use Rattle.recording_text.specs.Numbering.{known_in, number_in, value_by, op_by, reply_by, stamped_by, history_of}
-use Rattle.recording_text.specs.TextQueues.{TextQueue, no_texts, text_response, queue_after, Tells, ToldOperation, operations_of, IsPending, TellsWhatWasTold, MayComeBefore, KeepsTime, IsRun, IsLinearizableRecording}
+use Rattle.recording_text.specs.TextQueues.{TextQueue, no_texts, text_response, queue_after, Tells, AnsweredOperation, operations_of, IsPending, TellsRecordedReply, MayComeBefore, KeepsTime, IsRun, IsLinearizableRecording}
 use Rattle.recording_text.proofs.Known.{IsKnown, AreKnown, AllAreKnown, by_recursion, from_recursion, number-tells, all-known_in, known-left, known-right}
 
 -- a list of two parts, each of which is known
@@ -154,15 +154,15 @@ module _ (known : List (List ℕ)) where
   answer-image queue r Closed = refl
 
   -- an operation of an order, by its numbers
-  answered : ToldOperation → Answered
+  answered : AnsweredOperation → Answered
   answered o = record { operation = stamped_by known o.operation; reply = reply_by known o.told }
 
-  operations-image : (order : List ToldOperation) → linear.operations_of (map answered order) ≡ map (stamped_by known) (operations_of order)
+  operations-image : (order : List AnsweredOperation) → linear.operations_of (map answered order) ≡ map (stamped_by known) (operations_of order)
   unfolding answered
   operations-image [] = refl
   operations-image (o ∷ order) = ap (λ later. stamped_by known o.operation ∷ later) (operations-image order)
 
-  run-image : (queue : TextQueue) (order : List ToldOperation) → IsRun queue order → linear.IsRun (image queue) (map answered order)
+  run-image : (queue : TextQueue) (order : List AnsweredOperation) → IsRun queue order → linear.IsRun (image queue) (map answered order)
   unfolding answered
   run-image queue [] runs = tt
   run-image queue (o ∷ order) runs = (
@@ -170,7 +170,7 @@ module _ (known : List (List ℕ)) where
     subst (λ queue. linear.IsRun queue (map answered order)) (sym (answer-image queue o.operation o.told)) (run-image (queue_after queue o.operation.call o.told) order runs.1),
   )
 
-  replies-image : (order : List ToldOperation) → AllByRecursion TellsWhatWasTold order → AllByRecursion linear.GivesWhatWasTold (map answered order)
+  replies-image : (order : List AnsweredOperation) → AllByRecursion TellsRecordedReply order → AllByRecursion linear.GivesRecordedReply (map answered order)
   unfolding answered
   replies-image [] all = tt
   replies-image (o ∷ order) all = (by o.operation.told all.0, replies-image order all.1)
@@ -294,7 +294,7 @@ module _ (known : List (List ℕ)) where
     after = after-image r.call queue.texts queue.shut;
     was_told = subst (λ told. IfSome told (λ told'. Empty ≡ told')) (sym none) tt;
   }
-  pending-told queue r (RefusedReply why) agrees none = record {
+  pending-told queue r (RefusedReply refusal) agrees none = record {
     told = Refused;
     tells = tt;
     after = refl;
@@ -321,13 +321,13 @@ module _ (known : List (List ℕ)) where
 
   -- a run of texts whose numbers are another run
   record IsRunOf (queue : TextQueue) (rs : List Recorded) : Type 0 where
-    order : List ToldOperation
+    order : List AnsweredOperation
     operations : operations_of order ≡ rs
-    replies : AllByRecursion TellsWhatWasTold order
+    replies : AllByRecursion TellsRecordedReply order
     runs : IsRun queue order
 
   run-back : (queue : TextQueue) (rs : List Recorded) (order : List Answered) → AreKnown known queue.texts → AllAreKnown known rs → map (stamped_by known) rs ≡ linear.operations_of order
-      → AllByRecursion linear.GivesWhatWasTold order → linear.IsRun (image queue) order → IsRunOf queue rs
+      → AllByRecursion linear.GivesRecordedReply order → linear.IsRun (image queue) order → IsRunOf queue rs
   run-back queue [] [] all each same gives runs = record { order = []; operations = refl; replies = tt; runs = tt }
   run-back queue [] (a ∷ order) all each same gives runs = absurd cc
   run-back queue (r ∷ rs) [] all each same gives runs = absurd cc

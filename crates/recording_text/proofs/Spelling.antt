@@ -12,7 +12,7 @@ use Rattle.text_lines.specs.Numerals.{numeral}
 use Rattle.text_lines.specs.Readings.{IsWrong}
 use Rattle.text_lines.specs.Grammars.{Says, IsSoundGrammar}
 use Rattle.text_lines.proofs.Numerals.{IsPlain-numeral, HasNo-numeral, numeral_injective}
-use Rattle.text_lines.proofs.Cuts.{words_of-spaced, spaced-words_of}
+use Rattle.text_lines.proofs.Splits.{words_of-spaced, spaced-words_of}
 use Rattle.history_text.specs.HistoryLines.{step_word}
 use Rattle.recording_text.specs.declared.reading.ReadOperation.{ReadOperation}
 use Rattle.recording_text.specs.Recordings.{Call, Push, Pop, Shut, Told, Done, Value, Empty, Refused, Closed, Recorded}

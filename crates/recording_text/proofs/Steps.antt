@@ -138,8 +138,8 @@ fault-end count text rest place known ops read more none =
     (omega (arith, read.counted, length-map rs (λ r. Operation r))) (due-some (count - length rs) (omega (arith, read.counted, more))) none
 
 -- an operation is due, and its line is wrong, or there was no room
-pub fault-operation : (count : ℕ) (text rest says later : List ℕ) (place : ℕ) (known : List (List ℕ)) (ops : List Stamped) (why : Refusal) → HasRead count text rest place known ops
-    → place < count → rest ≡ line says ++ later → HasNo 10 says → IsWrongOperation (3 + place) says why → IsFirstFaultOfRecording text why
+pub fault-operation : (count : ℕ) (text rest says later : List ℕ) (place : ℕ) (known : List (List ℕ)) (ops : List Stamped) (refusal : Refusal) → HasRead count text rest place known ops
+    → place < count → rest ≡ line says ++ later → HasNo 10 says → IsWrongOperation (3 + place) says refusal → IsFirstFaultOfRecording text refusal
 fault-operation count text rest says later place known ops (Text at cause) read more split whole wrong =
     let rs = read.recorded in
     first_fault-line recording_grammar VersionDue (Operations (count - length rs)) (Version ∷ Count count ∷ said rs) text rest says later at cause read.begins (state-said rs count)

@@ -60,7 +60,7 @@ bytes_of word = word.now
 abbrev pub ReadsText : List (List ℕ) → List (List ℕ) → Result (Option (Bor (List ℕ))) TextCause → Type 0
 ReadsText old new result = MatchResult result
     (λ kept. (text : List ℕ) × IsText text × (old ≡ text ∷ new) × KeepsAs bytes_of IsShortText text kept)
-    (λ why. (why ≡ Form) × ((text : List ℕ) (rest : List (List ℕ)) → IsText text → old ≢ text ∷ rest))
+    (λ cause. (cause ≡ Form) × ((text : List ℕ) (rest : List (List ℕ)) → IsText text → old ≢ text ∷ rest))
 
 -- the push of a text that was kept
 abbrev pub KeepsPush : Option (Bor (List ℕ)) → Option ReadCall → Type 0
@@ -78,7 +78,7 @@ step_words step = step_word step ∷ []
 abbrev pub ReadsCall : List (List ℕ) → List (List ℕ) → Result (Option ReadCall) TextCause → Type 0
 ReadsCall old new result = MatchResult result
     (λ kept. (call : Call) × IsTextCall call × (old ≡ call_words call ++ new) × KeepsAs said_call IsCallInRange call kept)
-    (λ why. (why ≡ Form) × ((call : Call) (rest : List (List ℕ)) → IsTextCall call → old ≢ call_words call ++ rest))
+    (λ cause. (cause ≡ Form) × ((call : Call) (rest : List (List ℕ)) → IsTextCall call → old ≢ call_words call ++ rest))
 
 -- these are the words of what was told
 abbrev pub AreOfTold : List (List ℕ) → Option Told → Type 0
@@ -88,7 +88,7 @@ AreOfTold words told = IsTextTold told × (words ≡ told_words told)
 abbrev pub ReadsTold : List (List ℕ) → Result (Option (Option ReadReply)) TextCause → Type 0
 ReadsTold words result = MatchResult result
     (λ kept. (told : Option Told) × AreOfTold words told × KeepsAs said_told IsToldInRange told kept)
-    (λ why. (why ≡ Form) × ((told : Option Told) → ¬ AreOfTold words told))
+    (λ cause. (cause ≡ Form) × ((told : Option Told) → ¬ AreOfTold words told))
 
 -- the one word of what was told
 abbrev pub IsPlainTold : List ℕ → Option Told → Type 0
@@ -98,7 +98,7 @@ IsPlainTold word told = (word ∷ [] ≡ told_words told) × IsTextTold told
 abbrev pub ReadsPlainTold : List ℕ → Result (Option (Option ReadReply)) TextCause → Type 0
 ReadsPlainTold word result = MatchResult result
     (λ kept. (told : Option Told) × IsPlainTold word told × KeepsAs said_told IsToldInRange told kept)
-    (λ why. (why ≡ Form) × ((told : Option Told) → ¬ IsPlainTold word told))
+    (λ cause. (cause ≡ Form) × ((told : Option Told) → ¬ IsPlainTold word told))
 
 -- these are the words of an operation
 abbrev pub AreOfOperation : List (List ℕ) → Recorded → Type 0
@@ -112,7 +112,7 @@ SaysOperation says r = IsSayable r × (says ≡ spaced (operation_words r))
 abbrev pub ReadsWordsOfOperation : List (List ℕ) → Result (Option ReadOperation) TextCause → Type 0
 ReadsWordsOfOperation words result = MatchResult result
     (λ kept. (r : Recorded) × AreOfOperation words r × KeepsAs said_of IsOperationInRange r kept)
-    (λ why. (why ≡ Form) × ((r : Recorded) → ¬ AreOfOperation words r))
+    (λ cause. (cause ≡ Form) × ((r : Recorded) → ¬ AreOfOperation words r))
 
 -- an operation was read from a line, and is in range; or the line is wrong for this cause
 abbrev pub ReadsOperation : List ℕ → Result ReadOperation TextCause → Type 0

@@ -50,12 +50,12 @@ Tells queue call (Value text) = Value text ≡ (text_response call queue).told
 Tells queue call Empty = Empty ≡ (text_response call queue).told
 
 -- an operation of an order, and what it is told there
-pub record ToldOperation : Type 0 where
+pub record AnsweredOperation : Type 0 where
   pub operation : Recorded
   pub told : Told
 
 -- the operations of an order
-abbrev pub operations_of : List ToldOperation → List Recorded
+abbrev pub operations_of : List AnsweredOperation → List Recorded
 operations_of order = map (λ o. o.operation) order
 
 -- an operation has neither ended nor been told anything
@@ -63,9 +63,9 @@ pub record IsPending (r : Recorded) : Type 0 where
   pub not_ended : r.last ≡ None
   pub not_told : r.told ≡ None
 
--- an operation that was told something is told that
-abbrev pub TellsWhatWasTold : ToldOperation → Type 0
-TellsWhatWasTold o = IfSome o.operation.told (λ told. o.told ≡ told)
+-- an operation whose reply was recorded is told that one
+abbrev pub TellsRecordedReply : AnsweredOperation → Type 0
+TellsRecordedReply o = IfSome o.operation.told (λ told. o.told ≡ told)
 
 -- one operation may come before another: the other had not ended when the one began
 abbrev pub MayComeBefore : Recorded → Recorded → Type 0
@@ -77,17 +77,17 @@ KeepsTime [] = Unit {0}
 KeepsTime (r ∷ rs) = AllByRecursion (MayComeBefore r) rs × KeepsTime rs
 
 -- from this queue, the operations run one after another, and each is told what it is
-abbrev pub IsRun : TextQueue → List ToldOperation → Type 0
+abbrev pub IsRun : TextQueue → List AnsweredOperation → Type 0
 IsRun queue [] = Unit {0}
 IsRun queue (o ∷ rest) = Tells queue o.operation.call o.told × IsRun (queue_after queue o.operation.call o.told) rest
 
 -- A recording is linearizable: there is an order of all its completed operations and some pending ones, each once, with
--- what each pending one is told, that keeps time and is a run of the queue of texts that tells all that was told.
+-- what each pending one is told, that keeps time and is a run of the queue of texts that tells every reply recorded.
 pub record IsLinearizableRecording (rs : List Recorded) : Type 0 where
-  pub order : List ToldOperation
+  pub order : List AnsweredOperation
   pub left_out : List Recorded
   pub each_once : IsPermutation rs (operations_of order ++ left_out)
   pub only_pending_left_out : AllByRecursion IsPending left_out
-  pub replies : AllByRecursion TellsWhatWasTold order
+  pub replies : AllByRecursion TellsRecordedReply order
   pub timely : KeepsTime (operations_of order)
   pub runs : IsRun no_texts order

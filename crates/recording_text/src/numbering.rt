@@ -21,7 +21,7 @@ pub fn numbered<'a>(
     ensures ok { IfOk result (λ o. o ≡ stamped_by (known_by known.new) (said_of read.entry)) }
     ensures learnt { OnOk result (known_by known.new
         ≡ with_texts (known_by known.old) (texts_in (said_of read.entry))) }
-    ensures err { IfErr result (λ why. why ≡ Refusal.Memory) }
+    ensures err { IfErr result (λ refusal. refusal ≡ Refusal.Memory) }
 {
     let op = numbered_call(known, read.call)?;
     let reply = numbered_reply(known, read.reply)?;
@@ -40,7 +40,7 @@ fn numbered_call<'a>(known: &mut IndexSet<&'a [u8]>, call: ReadCall<'a>) -> Resu
     ensures ok { IfOk result (λ op. op ≡ op_by (known_by known.new) (said_call call.entry)) }
     ensures learnt { OnOk result (known_by known.new
         ≡ with_texts (known_by known.old) (text_of_call (said_call call.entry))) }
-    ensures err { IfErr result (λ why. why ≡ Refusal.Memory) }
+    ensures err { IfErr result (λ refusal. refusal ≡ Refusal.Memory) }
 {
     Ok(match call {
         ReadCall::Push(text) => Op::Enq(number_of(known, text)?),
@@ -58,7 +58,7 @@ fn numbered_reply<'a>(
         told ≡ option_map (reply_by (known_by known.new)) (said_told reply.entry)) }
     ensures learnt { OnOk result (known_by known.new
         ≡ with_texts (known_by known.old) (text_of_told (said_told reply.entry))) }
-    ensures err { IfErr result (λ why. why ≡ Refusal.Memory) }
+    ensures err { IfErr result (λ refusal. refusal ≡ Refusal.Memory) }
 {
     let Some(reply) = reply else {
         return Ok(None);
@@ -80,7 +80,7 @@ fn number_of<'a>(known: &mut IndexSet<&'a [u8]>, text: &'a [u8]) -> Result<Body,
     requires { length (known_by known.old) ≤ 2000001 }
     ensures ok { IfOk result (λ body. body ≡ number_in (known_by known.new) text.now) }
     ensures learnt { OnOk result (known_by known.new ≡ with_text (known_by known.old) text.now) }
-    ensures err { IfErr result (λ why. why ≡ Refusal.Memory) }
+    ensures err { IfErr result (λ refusal. refusal ≡ Refusal.Memory) }
 {
     let Ok((index, _)) = known.insert_full(text) else {
         return Err(Refusal::Memory);

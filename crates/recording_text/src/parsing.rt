@@ -58,7 +58,7 @@ fn first_lines(text: &[u8]) -> Result<(u64, &[u8]), Refusal>
 fn due_line(number: u64, text: &[u8]) -> Result<(&[u8], &[u8]), Refusal>
     ensures ok { IfOk result (λ found. HasNo 10 found.0.now
         × (text.now ≡ line found.0.now ++ found.1.now)) }
-    ensures err { IfErr result (λ why. (why ≡ Refusal.Text number TextCause.End)
+    ensures err { IfErr result (λ refusal. (refusal ≡ Refusal.Text number TextCause.End)
         × HasNo 10 text.now) }
 {
     line_at(text).ok_or(Refusal::Text(number, TextCause::End))
@@ -87,7 +87,7 @@ fn keep<'a>(
 fn push_to(operations: &mut Vec<Stamped>, operation: Stamped) -> Result<(), Refusal>
     ensures { MatchResult result
         (λ done. operations.new.items ≡ operations.old.items ++ operation ∷ [])
-        (λ why. why ≡ Refusal.Memory) }
+        (λ refusal. refusal ≡ Refusal.Memory) }
 {
     // And that of the push.
     let _: (Option<Op>, Option<Reply>) = (None, None);

@@ -39,7 +39,8 @@ pub struct ReadOperation<'a> {
 /// Refused with `Form` where a line isn't the first one of a recording.
 pub fn expect_version(line: &[u8]) -> Result<(), TextCause>
     ensures ok { OnOk result (line.now ≡ lines.version_line) }
-    ensures err { IfErr result (λ why. (why ≡ TextCause.Form) × (line.now ≢ lines.version_line)) }
+    ensures err { IfErr result
+        (λ cause. (cause ≡ TextCause.Form) × (line.now ≢ lines.version_line)) }
 {
     if line == b"msq record 1".as_slice() {
         Ok(())

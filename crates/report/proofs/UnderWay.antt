@@ -1,7 +1,7 @@
 -- A text on its way to a sink, piece by piece.
 use Rattle.std.proofs.Common.{◌≡◌, ℕ, List, [], ◌++◌, Option, refl, sym, subst, ◌∙◌, append_assoc, append-nil}
-use Rattle.text_io.specs.Blocks.{Sends, TakesBeginning}
-use Rattle.text_io.proofs.Sends.{Sends-none, Sends-trans, TakesBeginning-longer, TakesBeginning-trans}
+use Rattle.text_io.specs.Blocks.{Sends, TakesPrefix}
+use Rattle.text_io.proofs.Sends.{Sends-none, Sends-trans, TakesPrefix-longer, TakesPrefix-trans}
 
 -- of a whole text, a sink took a front, some is held back, and the rest is still to come
 pub record IsUnderWay (old new : Option (List ℕ)) (whole held rest : List ℕ) : Type 0 where
@@ -22,10 +22,10 @@ under_way_more a b c whole held piece rest after u s = record {
 }
 
 -- the sink gave up within a piece
-pub under_way_stops : (a b c : Option (List ℕ)) (whole held piece rest : List ℕ) → IsUnderWay a b whole held (piece ++ rest) → TakesBeginning b c (held ++ piece) → TakesBeginning a c whole
+pub under_way_stops : (a b c : Option (List ℕ)) (whole held piece rest : List ℕ) → IsUnderWay a b whole held (piece ++ rest) → TakesPrefix b c (held ++ piece) → TakesPrefix a c whole
 under_way_stops a b c whole held piece rest u t =
-    subst (TakesBeginning a c) (append_assoc u.text piece rest ∙ u.all)
-    (TakesBeginning-longer a c (u.text ++ piece) rest (TakesBeginning-trans a b c u.text held piece u.sends t))
+    subst (TakesPrefix a c) (append_assoc u.text piece rest ∙ u.all)
+    (TakesPrefix-longer a c (u.text ++ piece) rest (TakesPrefix-trans a b c u.text held piece u.sends t))
 
 -- nothing is to come any more
 pub under_way_done : (a b : Option (List ℕ)) (whole held : List ℕ) → IsUnderWay a b whole held [] → Sends a b whole held
@@ -48,16 +48,16 @@ pieces_third a b c d x y z h i j s t u =
     under_way_more a c d (x ++ y ++ z) i z [] j (pieces_second a b c x y z h i s t) u
 
 -- the sink gave up within the first of three pieces
-pub pieces_stop_at_first : (a b : Option (List ℕ)) (x y z : List ℕ) → TakesBeginning a b x → TakesBeginning a b (x ++ y ++ z)
+pub pieces_stop_at_first : (a b : Option (List ℕ)) (x y z : List ℕ) → TakesPrefix a b x → TakesPrefix a b (x ++ y ++ z)
 pieces_stop_at_first a b x y z t =
-    subst (TakesBeginning a b) (sym (append_assoc x y z)) (TakesBeginning-longer a b x (y ++ z) t)
+    subst (TakesPrefix a b) (sym (append_assoc x y z)) (TakesPrefix-longer a b x (y ++ z) t)
 
 -- within the second
-pub pieces_stop_at_second : (a b c : Option (List ℕ)) (x y z h : List ℕ) → Sends a b x h → TakesBeginning b c (h ++ y) → TakesBeginning a c (x ++ y ++ z)
+pub pieces_stop_at_second : (a b c : Option (List ℕ)) (x y z h : List ℕ) → Sends a b x h → TakesPrefix b c (h ++ y) → TakesPrefix a c (x ++ y ++ z)
 pieces_stop_at_second a b c x y z h s t = under_way_stops a b c (x ++ y ++ z) h y z (pieces_first a b x y z h s) t
 
 -- within the third
-pub pieces_stop_at_third : (a b c d : Option (List ℕ)) (x y z h i : List ℕ) → Sends a b x h → Sends b c (h ++ y) i → TakesBeginning c d (i ++ z) → TakesBeginning a d (x ++ y ++ z)
+pub pieces_stop_at_third : (a b c d : Option (List ℕ)) (x y z h i : List ℕ) → Sends a b x h → Sends b c (h ++ y) i → TakesPrefix c d (i ++ z) → TakesPrefix a d (x ++ y ++ z)
 pieces_stop_at_third a b c d x y z h i s t u = under_way_stops a c d (x ++ y ++ z) i z [] (pieces_second a b c x y z h i s t) u
 
 -- all three were handed on

@@ -11,7 +11,7 @@ kind_of None = Unfinished
 kind_of (Some OfDone) = Done
 kind_of (Some (OfValue value)) = Value
 kind_of (Some OfEmpty) = Empty
-kind_of (Some (OfRefused why)) = Refused
+kind_of (Some (OfRefused refusal)) = Refused
 
 -- the name of a kind
 abbrev pub kind_text : Kind → List ℕ

@@ -12,7 +12,7 @@ use std::alloc::Global;
 pub(crate) fn counts_of(alloc: Global, history: &[Stamped]) -> Result<IndexMap<Kind, u64>, Refusal>
     ensures ok { IfOk result (λ found.
         found.entries ≡ counts same_kind (map (λ o. kind_of o.reply) history.now)) }
-    ensures only_memory { IfErr result (λ why. why ≡ Refusal.Memory) }
+    ensures only_memory { IfErr result (λ refusal. refusal ≡ Refusal.Memory) }
 {
     let mut counts = IndexMap::new(alloc);
     for operation in history {

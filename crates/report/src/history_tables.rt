@@ -2,7 +2,7 @@
 ghost use Rattle.std.specs.Prelude.{◌≡◌, ◌++◌, ◌⊎◌, OnOk, IfErr, map};
 ghost use Rattle.std.specs.Io.KnownBytes.{Appends};
 ghost use Rattle.std.specs.List.{flat_map};
-ghost use Rattle.text_io.specs.Blocks.{TakesBeginning, GivesUp, Puts, Writes};
+ghost use Rattle.text_io.specs.Blocks.{TakesPrefix, GivesUp, Puts, Writes};
 ghost use Rattle.history.specs.Checking.{shown};
 ghost use Rattle.report.specs.HistoryTable.{row_text, count_text, table_text, history_table_text};
 
@@ -22,23 +22,25 @@ use text_io::{Block, Sink};
 /// occurs there; operations without a place count too. It takes memory for the operations that have a
 /// place, and time `n * log n` for `n` operations; whether it waits is up to the writer. It is refused
 /// by `Memory` before the first byte is written, and else by `Write` where a call of the writer fails
-/// or takes nothing; a beginning of the table is written then.
+/// or takes nothing; a prefix of the table is written then.
 pub fn history_table<W: Sink>(
     alloc: Global,
     history: &[Stamped],
     writer: &mut W,
 ) -> Result<(), Refusal>
-    //= texts/tables (ok, quiet, only, unwritten, beginning, cause): The tables of a history and of results are printed
+    //= texts/tables (ok, quiet, only, unwritten, prefix, cause): The tables of a history and of results are printed
     //=   exactly; where memory is refused nothing is.
     ensures ok { OnOk result (Appends (W.state writer.old).contents (W.state writer.new).contents
         (history_table_text history.now)) }
     ensures quiet { OnOk result ((W.state writer.new).failures ≡ (W.state writer.old).failures) }
-    ensures only { IfErr result (λ why. (why ≡ Refusal.Memory) ⊎ (why ≡ Refusal.Write)) }
-    ensures unwritten { IfErr result (λ why. why ≡ Refusal.Memory → writer.new ≡ writer.old) }
-    ensures beginning { IfErr result (λ why. why ≡ Refusal.Write
-        → TakesBeginning (W.state writer.old).contents (W.state writer.new).contents
+    ensures only { IfErr result
+        (λ refusal. (refusal ≡ Refusal.Memory) ⊎ (refusal ≡ Refusal.Write)) }
+    ensures unwritten { IfErr result
+        (λ refusal. refusal ≡ Refusal.Memory → writer.new ≡ writer.old) }
+    ensures prefix { IfErr result (λ refusal. refusal ≡ Refusal.Write
+        → TakesPrefix (W.state writer.old).contents (W.state writer.new).contents
         (history_table_text history.now)) }
-    ensures cause { IfErr result (λ why. why ≡ Refusal.Write
+    ensures cause { IfErr result (λ refusal. refusal ≡ Refusal.Write
         → GivesUp (W.state writer.old) (W.state writer.new)) }
 {
     let placed = by_place(alloc, history)?;

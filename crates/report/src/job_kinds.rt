@@ -30,7 +30,7 @@ pub(crate) fn job_counts_of(
 ) -> Result<IndexMap<JobKind, u64>, Refusal>
     ensures ok { IfOk result (λ found.
         found.entries ≡ counts same_job_kind (map (λ r. kind_of (job_in r)) results.now)) }
-    ensures only_memory { IfErr result (λ why. why ≡ Refusal.Memory) }
+    ensures only_memory { IfErr result (λ refusal. refusal ≡ Refusal.Memory) }
 {
     let mut counts = IndexMap::new(alloc);
     for result_of in results {

@@ -2,7 +2,7 @@
 ghost use Rattle.std.specs.Prelude.{◌≡◌, ◌++◌, ◌⊎◌, OnOk, IfErr, length, map};
 ghost use Rattle.std.specs.Io.KnownBytes.{Appends};
 ghost use Rattle.std.specs.List.{flat_map};
-ghost use Rattle.text_io.specs.Blocks.{TakesBeginning, GivesUp, Puts, Writes};
+ghost use Rattle.text_io.specs.Blocks.{TakesPrefix, GivesUp, Puts, Writes};
 ghost use Rattle.job_results.specs.Results.{row_of};
 ghost use Rattle.report.specs.ResultsTable.{result_text, job_count_text, results_parts_text, results_text};
 
@@ -21,22 +21,24 @@ use text_io::{Block, Sink};
 /// come in the order in which each first occurs in the list. It takes memory for the counts alone, of
 /// four kinds at most, and time in proportion to the list; whether it waits is up to the writer. It is
 /// refused by `Memory` before the first byte is written, and else by `Write` where a call of the writer
-/// fails or takes nothing; a beginning of the table is written then.
+/// fails or takes nothing; a prefix of the table is written then.
 pub fn results_table<W: Sink>(
     alloc: Global,
     results: &[JobResult],
     writer: &mut W,
 ) -> Result<(), Refusal>
-    //= texts/tables (ok, quiet, only, unwritten, beginning, cause)
+    //= texts/tables (ok, quiet, only, unwritten, prefix, cause)
     ensures ok { OnOk result (Appends (W.state writer.old).contents (W.state writer.new).contents
         (results_text (map row_of results.now))) }
     ensures quiet { OnOk result ((W.state writer.new).failures ≡ (W.state writer.old).failures) }
-    ensures only { IfErr result (λ why. (why ≡ Refusal.Memory) ⊎ (why ≡ Refusal.Write)) }
-    ensures unwritten { IfErr result (λ why. why ≡ Refusal.Memory → writer.new ≡ writer.old) }
-    ensures beginning { IfErr result (λ why. why ≡ Refusal.Write
-        → TakesBeginning (W.state writer.old).contents (W.state writer.new).contents
+    ensures only { IfErr result
+        (λ refusal. (refusal ≡ Refusal.Memory) ⊎ (refusal ≡ Refusal.Write)) }
+    ensures unwritten { IfErr result
+        (λ refusal. refusal ≡ Refusal.Memory → writer.new ≡ writer.old) }
+    ensures prefix { IfErr result (λ refusal. refusal ≡ Refusal.Write
+        → TakesPrefix (W.state writer.old).contents (W.state writer.new).contents
         (results_text (map row_of results.now))) }
-    ensures cause { IfErr result (λ why. why ≡ Refusal.Write
+    ensures cause { IfErr result (λ refusal. refusal ≡ Refusal.Write
         → GivesUp (W.state writer.old) (W.state writer.new)) }
 {
     let counts = job_counts_of(alloc, results)?;

@@ -12,7 +12,7 @@ pub(crate) fn by_place<'a>(
     history: &'a [Stamped],
 ) -> Result<Vec<(u64, &'a Stamped)>, Refusal>
     ensures ok { IfOk result (λ placed. map shown placed.items ≡ map numbered (by_point history.now)) }
-    ensures only_memory { IfErr result (λ why. why ≡ Refusal.Memory) }
+    ensures only_memory { IfErr result (λ refusal. refusal ≡ Refusal.Memory) }
 {
     let mut placed = placed_of(alloc, history)?;
     match placed.sort_by_key(|(at, _)| *at) {
@@ -25,7 +25,7 @@ pub(crate) fn by_place<'a>(
 fn placed_of<'a>(alloc: Global, history: &'a [Stamped]) -> Result<Vec<(u64, &'a Stamped)>, Refusal>
     ensures ok { IfOk result (λ placed.
         map shown placed.items ≡ map numbered (filter (λ o. is_some o.at) history.now)) }
-    ensures only_memory { IfErr result (λ why. why ≡ Refusal.Memory) }
+    ensures only_memory { IfErr result (λ refusal. refusal ≡ Refusal.Memory) }
 {
     let mut placed = Vec::new(alloc);
     for operation in history {

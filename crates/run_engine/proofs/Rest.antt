@@ -41,11 +41,11 @@ IsReadOn-all s t u old mid new on gave events first so_far =
     let p = on.read events first so_far in
     (p.0, subst (λ (h : Header). HasReadAll (schedule_with h (events ++ p.0)) first new) on.header (HasRead-all t u (events ++ p.0) first mid new p.1 gave))
 
-pub IsReadOn-refused : (s t u : EventStream) (old mid new : SourceState) (why : Refusal) → IsReadOn s t old mid → IsRefusedNext why t u mid new
-    → (events : List Event) (first : SourceState) → HasRead s events first old → IsRefused 0 version_due first new why
-IsReadOn-refused s t u old mid new why on refused events first so_far =
+pub IsReadOn-refused : (s t u : EventStream) (old mid new : SourceState) (refusal : Refusal) → IsReadOn s t old mid → IsRefusedNext refusal t u mid new
+    → (events : List Event) (first : SourceState) → HasRead s events first old → IsRefused 0 version_due first new refusal
+IsReadOn-refused s t u old mid new refusal on refused events first so_far =
     let p = on.read events first so_far in
-    HasRead-refused t u (events ++ p.0) first mid new p.1 why refused
+    HasRead-refused t u (events ++ p.0) first mid new p.1 refusal refused
 
 -- what a call answers, by whether it answers an event
 pub gave_some : (s t : EventStream) (old new : SourceState) (next : Option Event) → true ≡ is_some next → IsNext s t old new (Ok next) → (event : Event) × GaveEvent event s t old new

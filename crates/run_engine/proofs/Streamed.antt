@@ -100,18 +100,18 @@ faulty_at None at cause fault = tt
 faulty_at (Some text) at cause fault = rw (fault.1, zero-add) fault.2
 
 -- what becomes of the refusal of an event
-no_text : (known : Option (List ℕ)) (why : Refusal) → IsMoveRefusal why → TellsFaultyLine known why
+no_text : (known : Option (List ℕ)) (refusal : Refusal) → IsMoveRefusal refusal → TellsFaultyLine known refusal
 no_text known (Text at cause) kind = absurd kind
 no_text known _ kind = tt
 
-ends_at : (old new : SourceState) (why : Refusal) → IsMoveRefusal why → ReachesEnd old new → EndsReadingAt why old new
+ends_at : (old new : SourceState) (refusal : Refusal) → IsMoveRefusal refusal → ReachesEnd old new → EndsReadingAt refusal old new
 ends_at old new Memory kind end = end.0
 ends_at old new Read kind end = absurd kind
 ends_at old new _ kind end = end
 
-run_fault : (why : Refusal) (line : Option ℕ) → IsEventFault why line → IsRunFault why line
-run_fault why None fault = rw fault tt
-run_fault why (Some line) fault = fault
+run_fault : (refusal : Refusal) (line : Option ℕ) → IsEventFault refusal line → IsRunFault refusal line
+run_fault refusal None fault = rw fault tt
+run_fault refusal (Some line) fault = fault
 
 -- a source is read from its first byte on
 module _ (old : SourceState) where
@@ -143,7 +143,7 @@ module _ (old : SourceState) where
   ran_by s t w line mid new next made none told = ran s t w line mid new made (gave_all s t mid new next none (told made.read.going))
 
   -- where the reading is refused, nothing is run
-  pub stopped_reading : (new : SourceState) (why : Refusal) → IsRefusedReading old new why → StopsRun old new why None
+  pub stopped_reading : (new : SourceState) (refusal : Refusal) → IsRefusedReading old new refusal → StopsRun old new refusal None
   stopped_reading new Memory refused = record { fault = tt; text = tt; refused = tt; unwritten = λ e. absurd cc; reader = refused }
   stopped_reading new Read refused = record { fault = tt; text = tt; refused = tt; unwritten = λ e. absurd cc; reader = refused }
   stopped_reading new (Text at cause) refused =
@@ -151,7 +151,7 @@ module _ (old : SourceState) where
   stopped_reading new _ refused = absurd refused
 
   -- at the header, at its queue's memory, and behind it
-  pub stopped_start : (new : SourceState) (why : Refusal) → IsRefused 0 version_due old new why → StopsRun old new why None
+  pub stopped_start : (new : SourceState) (refusal : Refusal) → IsRefused 0 version_due old new refusal → StopsRun old new refusal None
   stopped_start new Memory refused = absurd refused
   stopped_start new Read refused = stopped_reading new Read refused
   stopped_start new (Text at cause) refused = stopped_reading new (Text at cause) refused
@@ -160,11 +160,11 @@ module _ (old : SourceState) where
   pub stopped_opening : (s : EventStream) (new : SourceState) → IsStarted s first (stream s.ahead new) → StopsRun old new Memory None
   stopped_opening s new started = stopped_reading new Memory started.lines.quiet
 
-  pub stopped_next : (s t : EventStream) (w : World) (at : ℕ) (mid new : SourceState) (why : Refusal) → HasMade s w at first mid
-      → IsRefusedNext why s t mid (stream t.ahead new) → StopsRun old new why None
-  stopped_next s t w at mid new why made refused =
-      stopped_reading new why
-      (refused_reading old new t.ahead why (HasRead-refused s t made.events first mid (stream t.ahead new) made.read why refused))
+  pub stopped_next : (s t : EventStream) (w : World) (at : ℕ) (mid new : SourceState) (refusal : Refusal) → HasMade s w at first mid
+      → IsRefusedNext refusal s t mid (stream t.ahead new) → StopsRun old new refusal None
+  stopped_next s t w at mid new refusal made refused =
+      stopped_reading new refusal
+      (refused_reading old new t.ahead refusal (HasRead-refused s t made.events first mid (stream t.ahead new) made.read refusal refused))
 
   -- where an event is refused, the rest is read
   module _ (s t : EventStream) (w : World) (at : ℕ) (event : Event) (mid later : SourceState) (next_event : Option Event) (made : HasMade s w at first mid) (is : next_event ≡ Some event)
@@ -184,14 +184,14 @@ module _ (old : SourceState) where
     pub stopped_memory : StopsRun old later Memory None
     stopped_memory = stopped_reading later Memory read_so_far.lines.quiet
 
-    pub stopped_rest : (new : SourceState) (ahead : List ℕ) (why : Refusal)
-        → ((events : List Event) (begun : SourceState) → HasRead t events begun next → IsRefused 0 version_due begun (stream ahead new) why)
-        → StopsRun old new why None
-    stopped_rest new ahead why rest = stopped_reading new why (refused_reading old new ahead why (rest given first read_so_far))
+    pub stopped_rest : (new : SourceState) (ahead : List ℕ) (refusal : Refusal)
+        → ((events : List Event) (begun : SourceState) → HasRead t events begun next → IsRefused 0 version_due begun (stream ahead new) refusal)
+        → StopsRun old new refusal None
+    stopped_rest new ahead refusal rest = stopped_reading new refusal (refused_reading old new ahead refusal (rest given first read_so_far))
 
-    run_refused : (more : List Event) (new : SourceState) (why : Refusal) → HasReadAll (schedule_with t.header (given ++ more)) first new → EventRefused w event why
-        → RunRefused old.left at why
-    run_refused more new why all refused =
+    run_refused : (more : List Event) (new : SourceState) (refusal : Refusal) → HasReadAll (schedule_with t.header (given ++ more)) first new → EventRefused w event refusal
+        → RunRefused old.left at refusal
+    run_refused more new refusal all refused =
         let schedule : Schedule = schedule_with t.header (given ++ more) in
         let led = subst (λ (h : Header). EventsLead (opening_of (schedule_with h made.events)) made.events w) (sym gave.header) made.led in
         record {
@@ -199,20 +199,20 @@ module _ (old : SourceState) where
           in_range = all.range;
           read = all_of old.left (schedule_text schedule) all.text;
           refused =
-              EventsRefused_behind made.events more event (header_lines t.header.version) at (opening_of schedule) w why
+              EventsRefused_behind made.events more event (header_lines t.header.version) at (opening_of schedule) w refusal
               (omega (arith, made.counted, ap (λ (h : Header). header_lines h.version) gave.header)) led refused;
         }
 
-    refused_in : (more : List Event) (new : SourceState) (why : Refusal) (line : Option ℕ) → HasReadAll (schedule_with t.header (given ++ more)) first new
-        → EventRefused w event why → IfSome line (λ told. told ≡ at) → IfSome line (λ told. RunRefused old.left told why)
-    refused_in more new why None all refused is = tt
-    refused_in more new why (Some told) all refused is = rw is (run_refused more new why all refused)
+    refused_in : (more : List Event) (new : SourceState) (refusal : Refusal) (line : Option ℕ) → HasReadAll (schedule_with t.header (given ++ more)) first new
+        → EventRefused w event refusal → IfSome line (λ told. told ≡ at) → IfSome line (λ told. RunRefused old.left told refusal)
+    refused_in more new refusal None all refused is = tt
+    refused_in more new refusal (Some told) all refused is = rw is (run_refused more new refusal all refused)
 
-    pub stopped_at : (new : SourceState) (ahead : List ℕ) (why told : Refusal) (line : Option ℕ)
+    pub stopped_at : (new : SourceState) (ahead : List ℕ) (refusal told : Refusal) (line : Option ℕ)
         → ((events : List Event) (begun : SourceState) → HasRead t events begun next → (more : List Event) × HasReadAll (schedule_with t.header (events ++ more)) begun (stream ahead new))
-        → IsMoveRefusal why → EventRefused w event why → told ≡ why → (7 ≤ at → IsEventFault told line) → IfSome line (λ l. l ≡ at)
+        → IsMoveRefusal refusal → EventRefused w event refusal → told ≡ refusal → (7 ≤ at → IsEventFault told line) → IfSome line (λ l. l ≡ at)
         → StopsRun old new told line
-    stopped_at new ahead why told line rest kind refused same fault is =
+    stopped_at new ahead refusal told line rest kind refused same fault is =
         let all = rest given first read_so_far in
         let told_kind = subst (λ (r : Refusal). IsMoveRefusal r) (sym same) kind in
         record {

@@ -1,7 +1,7 @@
 -- What the run of a schedule reads, does and writes, and what it may be refused.
 use Rattle.std.specs.Prelude.{◌≡◌, ◌≢◌, ℕ, ◌+◌, ◌<◌, ◌≤◌, List, [], ◌∷◌, ◌++◌, length, replicate, Option, Some, None, Result, Ok, Err, map, ⊤, IfSome}
 use Rattle.std.specs.Io.KnownBytes.{Appends}
-use Rattle.text_io.specs.Blocks.{TakesBeginning}
+use Rattle.text_io.specs.Blocks.{TakesPrefix}
 use Rattle.history_text.specs.HistoryText.{history_text}
 use Rattle.history.specs.declared.operations.Stamped.{Stamped}
 use Rattle.history.specs.declared.refusals.Refusal.{Refusal}
@@ -52,12 +52,12 @@ EventsLead w [] v = w ≡ v
 EventsLead w (event ∷ events) v = (u : World) × EventLeads w event u × EventsLead u events v
 
 -- steps of an actor are refused at one of them, after those before it
-pub record StepsRefused (w : World) (me count : ℕ) (why : Refusal) : Type 0 where
+pub record StepsRefused (w : World) (me count : ℕ) (refusal : Refusal) : Type 0 where
   pub taken : ℕ
   pub few : taken < count
   pub world : World
   pub led : world_after (replicate taken (Step me)) w ≡ Some world
-  pub refused : StepRefused world me why
+  pub refused : StepRefused world me refusal
 
 -- a step at a named line is refused for this cause: the actor isn't there, has no call, stands before another line, or all
 -- step numbers are used
@@ -70,13 +70,13 @@ StepAtRefused w me line _ = ⊥
 
 -- an event is refused: its begin, its step at a line, one of its steps, or its giving up
 abbrev pub EventRefused : World → Event → Refusal → Type 0
-EventRefused w (Begin me call) why = BeginRefused w me why
-EventRefused w (StepAt me line) why = StepAtRefused w me line why
-EventRefused w (Steps me count) why = StepsRefused w me count why
-EventRefused w (Give me) why = GiveRefused w me why
+EventRefused w (Begin me call) refusal = BeginRefused w me refusal
+EventRefused w (StepAt me line) refusal = StepAtRefused w me line refusal
+EventRefused w (Steps me count) refusal = StepsRefused w me count refusal
+EventRefused w (Give me) refusal = GiveRefused w me refusal
 
 -- events are refused at one of them, after those before it; the first event stands behind so many lines
-pub record EventsRefused (header : ℕ) (w : World) (events : List Event) (line : ℕ) (why : Refusal) : Type 0 where
+pub record EventsRefused (header : ℕ) (w : World) (events : List Event) (line : ℕ) (refusal : Refusal) : Type 0 where
   pub before : List Event
   pub event : Event
   pub later : List Event
@@ -84,7 +84,7 @@ pub record EventsRefused (header : ℕ) (w : World) (events : List Event) (line 
   pub counted : line ≡ header + 1 + length before
   pub world : World
   pub led : EventsLead w before world
-  pub refused : EventRefused world event why
+  pub refused : EventRefused world event refusal
 
 -- known bytes were the text of a schedule in range, all its events can be made, and the operations are those of the world
 -- that they lead to
@@ -103,18 +103,18 @@ pub record WritesRun (given : Option (List ℕ)) (old new : SinkState) : Type 0 
   pub run : IsRunOf given operations
   pub written : Appends old.contents new.contents (history_text operations)
 
--- known bytes were the text of a schedule, and a beginning of the text of its run's history was written
+-- known bytes were the text of a schedule, and a prefix of the text of its run's history was written
 pub record BeginsRun (given : Option (List ℕ)) (old new : SinkState) : Type 0 where
   pub operations : List Stamped
   pub run : IsRunOf given operations
-  pub begun : TakesBeginning old.contents new.contents (history_text operations)
+  pub begun : TakesPrefix old.contents new.contents (history_text operations)
 
 -- known bytes were the text of a schedule in range, and its events are refused at the one in this line
-pub record RunRefused (given : Option (List ℕ)) (line : ℕ) (why : Refusal) : Type 0 where
+pub record RunRefused (given : Option (List ℕ)) (line : ℕ) (refusal : Refusal) : Type 0 where
   pub schedule : Schedule
   pub in_range : IsInRange schedule
   pub read : WereAll given (schedule_text schedule)
-  pub refused : EventsRefused (header_lines schedule.version) (opening_of schedule) schedule.events line why
+  pub refused : EventsRefused (header_lines schedule.version) (opening_of schedule) schedule.events line refusal
 
 -- known bytes have their first faulty line as a schedule here, with this cause
 abbrev pub IsFaultyAt : (given : Option (List ℕ)) → (line : ℕ) → TextCause → Type 0
@@ -128,8 +128,8 @@ TellsFaultyLine given _ = ⊤
 
 -- a refusal comes with the line of an event, which is the seventh one or a later one, exactly where an event was refused
 abbrev pub IsRunFault : Refusal → Option ℕ → Type 0
-IsRunFault why None = IsRunRefusal why
-IsRunFault why (Some line) = IsEventRefusal why × (7 ≤ line)
+IsRunFault refusal None = IsRunRefusal refusal
+IsRunFault refusal (Some line) = IsEventRefusal refusal × (7 ≤ line)
 
 -- how the reading behind a run ends, by what the run answers
 abbrev pub EndsReading : {A : Type 0} → Result A Fault → (old new : SourceState) → Type 0
@@ -137,9 +137,9 @@ EndsReading (Ok done) old new = ReachesEnd old new
 EndsReading (Err fault) old new = EndsReadingAt fault.refusal old new
 
 -- a run stops before anything is written, for this cause and at this line of an event, if at one
-pub record StopsRun (old new : SourceState) (why : Refusal) (line : Option ℕ) : Type 0 where
-  pub fault : IsRunFault why line
-  pub text : TellsFaultyLine old.left why
-  pub refused : IfSome line (λ line. RunRefused old.left line why)
-  pub unwritten : why ≢ Write
-  pub reader : EndsReadingAt why old new
+pub record StopsRun (old new : SourceState) (refusal : Refusal) (line : Option ℕ) : Type 0 where
+  pub fault : IsRunFault refusal line
+  pub text : TellsFaultyLine old.left refusal
+  pub refused : IfSome line (λ line. RunRefused old.left line refusal)
+  pub unwritten : refusal ≢ Write
+  pub reader : EndsReadingAt refusal old new

@@ -37,15 +37,15 @@ pub fn run_text<R: Source, W: Sink>(
 ) -> Result<(), Fault>
     //= program/run (ok, quiet): At Ok the history of the world after the schedule's events is written; these were made
     //=   in turn from the opening world, each step that names its line at that line.
-    //= program/run_refusals (ok, beginning, write, unwritten, fault, text, refused): At other refusals nothing. A
+    //= program/run_refusals (ok, prefix, write, unwritten, fault, text, refused): At other refusals nothing. A
     //=   faulty text.
-    //= program/run_reader (ok, beginning, text, refused, reader): The reader tells its end. The text is a schedule's,
+    //= program/run_reader (ok, prefix, text, refused, reader): The reader tells its end. The text is a schedule's,
     //=   in range, at Ok, at `Write` and where a line is told, at `Text` none's.
     ensures ok { OnOk result (WritesRun (R.state reader.old).left (W.state writer.old)
         (W.state writer.new)) }
     ensures quiet { OnOk result ((W.state writer.new).failures ≡ (W.state writer.old).failures) }
-    // Where writing fails, a beginning of that text is written.
-    ensures beginning { IfErr result (λ fault. fault.refusal ≡ Refusal.Write
+    // Where writing fails, a prefix of that text is written.
+    ensures prefix { IfErr result (λ fault. fault.refusal ≡ Refusal.Write
         → BeginsRun (R.state reader.old).left (W.state writer.old) (W.state writer.new)) }
     ensures write { IfErr result (λ fault. fault.refusal ≡ Refusal.Write
         → GivesUp (W.state writer.old) (W.state writer.new)) }

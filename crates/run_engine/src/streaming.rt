@@ -39,7 +39,7 @@ fn opening_world<const B: u32>(alloc: Global, header: &Header) -> Result<WorldOf
     requires bits { header.now.bits ≡ B }
     ensures ok { IfOk result (λ w. w ≡ opening
         (setup_from header.now.bits header.now.kind header.now.nodes header.now.limit) header.now.actors) }
-    ensures err { IfErr result (λ why. why ≡ Memory) }
+    ensures err { IfErr result (λ refusal. refusal ≡ Memory) }
 {
     let actors = u32::from(header.actors);
     WorldOf::new(alloc, header.kind, header.nodes, header.limit, actors)
@@ -52,9 +52,9 @@ fn read_rest<R: Source>(events: &mut EventStream, reader: &mut R) -> Result<(), 
         → HasRead events.old given first (stream events.old.ahead (R.state reader.old))
         → (later : List Event) × HasReadAll (schedule_with events.old.header (given ++ later)) first
         (stream events.new.ahead (R.state reader.new))) }
-    ensures err { IfErr result (λ why. (given : List Event) (first : SourceState)
+    ensures err { IfErr result (λ refusal. (given : List Event) (first : SourceState)
         → HasRead events.old given first (stream events.old.ahead (R.state reader.old))
-        → IsRefused 0 version_due first (stream events.new.ahead (R.state reader.new)) why) }
+        → IsRefused 0 version_due first (stream events.new.ahead (R.state reader.new)) refusal) }
 {
     while events.next(reader)?.is_some() {}
     Ok(())

@@ -41,8 +41,8 @@ GaveLines-more due later saids said old mid new lines state more gave =
     }
 
 -- what is refused behind lines is refused before them
-refused_behind_lines : (before : ℕ) (due later : Due) (saids : List Said) (old mid new : SourceState) (why : Refusal) → GaveLines due saids old mid
-    → state_after schedule_lines due saids ≡ later → IsRefused (before + length saids) later mid new why → IsRefused before due old new why
+refused_behind_lines : (before : ℕ) (due later : Due) (saids : List Said) (old mid new : SourceState) (refusal : Refusal) → GaveLines due saids old mid
+    → state_after schedule_lines due saids ≡ later → IsRefused (before + length saids) later mid new refusal → IsRefused before due old new refusal
 refused_behind_lines before due later saids old mid new Read lines state refused = refused ∙ ap (λ (n : ℕ). n + 1) lines.quiet
 refused_behind_lines before due later saids old mid new (Text at cause) lines state refused =
     (fault_behind_lines before due later saids old mid at cause lines state refused.0, refused.1 ∙ lines.quiet, refused.2)
@@ -88,10 +88,10 @@ module _ (s t : EventStream) (events : List Event) (old mid new : SourceState) (
       })
 
   -- a refusal is one of the whole
-  pub HasRead-refused : (why : Refusal) → IsRefusedNext why s t mid new → IsRefused 0 version_due old new why
-  HasRead-refused why refused =
-      refused_behind_lines 0 version_due (events_left s.header.version s.left) saids old mid new why so_far.lines state
-      (subst (λ (n : ℕ). IsRefused n (events_left s.header.version s.left) mid new why) count refused.refused)
+  pub HasRead-refused : (refusal : Refusal) → IsRefusedNext refusal s t mid new → IsRefused 0 version_due old new refusal
+  HasRead-refused refusal refused =
+      refused_behind_lines 0 version_due (events_left s.header.version s.left) saids old mid new refusal so_far.lines state
+      (subst (λ (n : ℕ). IsRefused n (events_left s.header.version s.left) mid new refusal) count refused.refused)
 
   -- at the end the text is the schedule's
   pub HasRead-whole : GaveAll s t mid new
@@ -130,12 +130,12 @@ module _ (s t : EventStream) (events : List Event) (old mid new : SourceState) (
 -- what is read of a schedule's text from a source is that schedule
 pub read_back_from : (old new : SourceState) (answer : Result Schedule Refusal)
     → IfOk answer (λ t. IfSome old.left (λ text. text ≡ schedule_text t)) → IfOk answer IsInRange → IfErr answer (IsRefusedReading old new)
-    → (s : Schedule) → IsInRange s → old.left ≡ Some (schedule_text s) → MatchResult answer (λ t. t ≡ s) (λ why. (why ≡ Memory) ⊎ (why ≡ Read))
+    → (s : Schedule) → IsInRange s → old.left ≡ Some (schedule_text s) → MatchResult answer (λ t. t ≡ s) (λ refusal. (refusal ≡ Memory) ⊎ (refusal ≡ Read))
 read_back_from old new (Ok t) told ranged refused s range same =
     one_text t s ranged.first range.first (sym (subst (λ (k : Option (List ℕ)). IfSome k (λ text. text ≡ schedule_text t)) same told))
-read_back_from old new (Err why) told ranged refused s range same = unread why refused
+read_back_from old new (Err refusal) told ranged refused s range same = unread refusal refused
   where
-    unread : (why : Refusal) → IsRefusedReading old new why → (why ≡ Memory) ⊎ (why ≡ Read)
+    unread : (refusal : Refusal) → IsRefusedReading old new refusal → (refusal ≡ Memory) ⊎ (refusal ≡ Read)
     unread Memory refused = inl refl
     unread Read refused = inr refl
     unread (Text at cause) refused =
@@ -151,15 +151,15 @@ pub gave_all : (s t : EventStream) (old new : SourceState) (next : Option Event)
 gave_all s t old new next is told = subst (λ (n : Option Event). IsNext s t old new (Ok n)) is told
 
 -- what is refused from a source's first byte on, whatever was read ahead behind it
-pub refused_source : (old new : SourceState) (ahead : List ℕ) (why : Refusal) → IsRefused 0 version_due (stream [] old) (stream ahead new) why
-    → IsRefused 0 version_due old new why
+pub refused_source : (old new : SourceState) (ahead : List ℕ) (refusal : Refusal) → IsRefused 0 version_due (stream [] old) (stream ahead new) refusal
+    → IsRefused 0 version_due old new refusal
 refused_source old new ahead Read refused = refused
 refused_source old new ahead (Text at cause) refused =
     (subst (λ (k : Option (List ℕ)). IsFirstFaultFrom 0 version_due k at cause) (prepend-nothing old.left) refused.0, refused.1, refused.2)
 refused_source old new ahead _ refused = refused
 
-pub refused_reading : (old new : SourceState) (ahead : List ℕ) (why : Refusal) → IsRefused 0 version_due (stream [] old) (stream ahead new) why
-    → IsRefusedReading old new why
+pub refused_reading : (old new : SourceState) (ahead : List ℕ) (refusal : Refusal) → IsRefused 0 version_due (stream [] old) (stream ahead new) refusal
+    → IsRefusedReading old new refusal
 refused_reading old new ahead Memory refused = absurd refused
 refused_reading old new ahead Read refused = refused
 refused_reading old new ahead (Text at cause) refused = refused_source old new ahead (Text at cause) refused

@@ -53,8 +53,8 @@ IsFirstFault-behind g s rs text rest number cause begins first = record {
 }
 
 -- what is refused behind some lines is refused of the text
-pub refused_behind : (before : ℕ) (s t : Due) (rs : List Said) (text rest : List ℕ) (why : Refusal) → Begins schedule_lines s rs text rest
-    → state_after schedule_lines s rs ≡ t → IsRefusedAfter (before + length rs) t rest why → IsRefusedAfter before s text why
+pub refused_behind : (before : ℕ) (s t : Due) (rs : List Said) (text rest : List ℕ) (refusal : Refusal) → Begins schedule_lines s rs text rest
+    → state_after schedule_lines s rs ≡ t → IsRefusedAfter (before + length rs) t rest refusal → IsRefusedAfter before s text refusal
 refused_behind before s t rs text rest Memory begins state refused = tt
 refused_behind before s t rs text rest (Text number cause) begins state refused =
     (length rs + refused.0, omega (arith, refused.1), IsFirstFault-behind schedule_lines s rs text rest refused.0 cause begins (rw (sym state) at refused.2))
@@ -75,16 +75,16 @@ Begins-front due said rs text rest later more front begins = record {
 }
 
 -- what is refused behind one line is refused of the text
-pub refused_later : (before : ℕ) (due : Due) (said : Said) (text rest : List ℕ) (why : Refusal) → is_due due ≡ true → IsFront due said text rest
-    → IsRefusedAfter (before + 1) (due_after due said) rest why → IsRefusedAfter before due text why
-refused_later before due said text rest why more front refused =
-    refused_behind before due (due_after due said) (said ∷ []) text rest why (Begins-front due said [] text rest rest more front (Begins-none (due_after due said) rest)) refl refused
+pub refused_later : (before : ℕ) (due : Due) (said : Said) (text rest : List ℕ) (refusal : Refusal) → is_due due ≡ true → IsFront due said text rest
+    → IsRefusedAfter (before + 1) (due_after due said) rest refusal → IsRefusedAfter before due text refusal
+refused_later before due said text rest refusal more front refused =
+    refused_behind before due (due_after due said) (said ∷ []) text rest refusal (Begins-front due said [] text rest rest more front (Begins-none (due_after due said) rest)) refl refused
 
 -- the same where the next line is told by its number
-pub refused_next : (before next : ℕ) (due : Due) (said : Said) (text rest : List ℕ) (why : Refusal) → before + 1 ≡ next → is_due due ≡ true → IsFront due said text rest
-    → IsRefusedAfter next (due_after due said) rest why → IsRefusedAfter before due text why
-refused_next before next due said text rest why is more front refused =
-    refused_later before due said text rest why more front (subst (λ (n : ℕ). IsRefusedAfter n (due_after due said) rest why) (sym is) refused)
+pub refused_next : (before next : ℕ) (due : Due) (said : Said) (text rest : List ℕ) (refusal : Refusal) → before + 1 ≡ next → is_due due ≡ true → IsFront due said text rest
+    → IsRefusedAfter next (due_after due said) rest refusal → IsRefusedAfter before due text refusal
+refused_next before next due said text rest refusal is more front refused =
+    refused_later before due said text rest refusal more front (subst (λ (n : ℕ). IsRefusedAfter n (due_after due said) rest refusal) (sym is) refused)
 
 -- what is due after some events
 pub state_after-happens : (v : Version) (count : ℕ) (events : List Event) → state_after schedule_lines (events_left v count) (map happens events) ≡ events_left v (count - length events)
@@ -118,11 +118,11 @@ length-bits_said One bits = refl
 length-bits_said Two bits = refl
 
 -- what is refused behind how many bits hold a node is refused before it
-pub refused_behind_bits : (v : Version) (bits : ℕ) (text rest : List ℕ) (why : Refusal) → IsBitsOf v bits → Begins schedule_lines (due_after_queue v) (bits_said v bits) text rest
-    → IsRefusedAfter (header_lines v - 4) (number_due v bits Nodes) rest why → IsRefusedAfter 2 (due_after_queue v) text why
-refused_behind_bits v bits text rest why first begins refused =
-    refused_behind 2 (due_after_queue v) (number_due v bits Nodes) (bits_said v bits) text rest why begins (state_after-bits v bits first)
-    (subst (λ (n : ℕ). IsRefusedAfter n (number_due v bits Nodes) rest why) (sym (length-bits_said v bits)) refused)
+pub refused_behind_bits : (v : Version) (bits : ℕ) (text rest : List ℕ) (refusal : Refusal) → IsBitsOf v bits → Begins schedule_lines (due_after_queue v) (bits_said v bits) text rest
+    → IsRefusedAfter (header_lines v - 4) (number_due v bits Nodes) rest refusal → IsRefusedAfter 2 (due_after_queue v) text refusal
+refused_behind_bits v bits text rest refusal first begins refused =
+    refused_behind 2 (due_after_queue v) (number_due v bits Nodes) (bits_said v bits) text rest refusal begins (state_after-bits v bits first)
+    (subst (λ (n : ℕ). IsRefusedAfter n (number_due v bits Nodes) rest refusal) (sym (length-bits_said v bits)) refused)
 
 -- the header is what its parts are
 pub Begins-header : (v : Version) (kind : Kind) (bits : ℕ) (sizes : List Said) (text first second third later : List ℕ) → IsFront version_due (version v) text first
@@ -146,15 +146,15 @@ Begins-event v count place old new text rest later begins counted some adds =
     (lt-ltb 0 left (omega arith)) front.may front.range front.spelled)
 
 -- a refusal at the next event is one of the text
-pub refused_event_behind : (before : ℕ) (v : Version) (count place : ℕ) (events : List Event) (text rest : List ℕ) (why : Refusal)
+pub refused_event_behind : (before : ℕ) (v : Version) (count place : ℕ) (events : List Event) (text rest : List ℕ) (refusal : Refusal)
     → Begins schedule_lines (events_left v count) (map happens events) text rest → length events ≡ place → place < count
-    → ((left : ℕ) → 0 < left → IsRefusedAfter (before + place) (events_left v left) rest why) → IsRefusedAfter before (events_left v count) text why
-refused_event_behind before v count place events text rest why begins counted some refused =
+    → ((left : ℕ) → 0 < left → IsRefusedAfter (before + place) (events_left v left) rest refusal) → IsRefusedAfter before (events_left v count) text refusal
+refused_event_behind before v count place events text rest refusal begins counted some refused =
     let left = count - place in
     let state : state_after schedule_lines (events_left v count) (map happens events) ≡ events_left v left = state_after-happens v count events ∙ ap (λ n. events_left v (count - n)) counted in
     let behind : place ≡ length (map happens events) = sym counted ∙ sym (length-map events happens) in
-    refused_behind before (events_left v count) (events_left v left) (map happens events) text rest why begins state
-    (subst (λ n. IsRefusedAfter (before + n) (events_left v left) rest why) behind (refused left (omega arith)))
+    refused_behind before (events_left v count) (events_left v left) (map happens events) text rest refusal begins state
+    (subst (λ n. IsRefusedAfter (before + n) (events_left v left) rest refusal) behind (refused left (omega arith)))
 
 -- the number of events with one more
 pub length-added : (v : Version) (place : ℕ) (old new : List Event) (text rest : List ℕ) → length old ≡ place → AddsEvent v old new text rest → length new ≡ place + 1
@@ -167,18 +167,18 @@ All-added v old new text rest all adds =
     rw adds.added (All-append (IsEventOf v) old (adds.event ∷ []) all (All-cons (IsEventOf v) adds.event [] (front.may, front.range) (All-nil (IsEventOf v))))
 
 -- what is refused of the whole text
-pub refused_text : (text : List ℕ) (why : Refusal) → IsRefusedAfter 0 version_due text why → IsRefusedText text why
+pub refused_text : (text : List ℕ) (refusal : Refusal) → IsRefusedAfter 0 version_due text refusal → IsRefusedText text refusal
 refused_text text Memory refused = tt
 refused_text text (Text at cause) refused = rw (refused.1, zero-add) refused.2
 refused_text text _ refused = refused
 
 -- what is refused behind the header is refused of the text
-pub refused_behind_header : (h : Header) (text rest : List ℕ) (why : Refusal) → Begins schedule_lines version_due (said_in h) text rest
-    → IsRefusedAfter (header_lines h.version) (events_left h.version h.events) rest why → IsRefusedText text why
-refused_behind_header h text rest why begins refused =
-    refused_text text why
-    (refused_behind 0 version_due (events_left h.version h.events) (said_in h) text rest why begins (state_after-said_in h)
-    (subst (λ (n : ℕ). IsRefusedAfter n (events_left h.version h.events) rest why) (sym (zero-add (length (said_in h)) ∙ length-said_in h)) refused))
+pub refused_behind_header : (h : Header) (text rest : List ℕ) (refusal : Refusal) → Begins schedule_lines version_due (said_in h) text rest
+    → IsRefusedAfter (header_lines h.version) (events_left h.version h.events) rest refusal → IsRefusedText text refusal
+refused_behind_header h text rest refusal begins refused =
+    refused_text text refusal
+    (refused_behind 0 version_due (events_left h.version h.events) (said_in h) text rest refusal begins (state_after-said_in h)
+    (subst (λ (n : ℕ). IsRefusedAfter n (events_left h.version h.events) rest refusal) (sym (zero-add (length (said_in h)) ∙ length-said_in h)) refused))
 
 -- a header, and all its events
 module _ (h : Header) (events : List Event) (text rest later : List ℕ)

@@ -177,11 +177,11 @@ one_fault_of_schedule = one_fault schedule_lines IsSoundGrammar-schedule version
 
 -- what is read of a schedule's text is that schedule
 pub read_back : (text : List ℕ) (answer : Result Schedule Refusal) → IfOk answer (λ t. text ≡ schedule_text t) → IfOk answer IsInRange → IfErr answer (IsRefusedText text)
-    → (s : Schedule) → IsInRange s → text ≡ schedule_text s → MatchResult answer (λ t. t ≡ s) (λ why. why ≡ Memory)
+    → (s : Schedule) → IsInRange s → text ≡ schedule_text s → MatchResult answer (λ t. t ≡ s) (λ refusal. refusal ≡ Memory)
 read_back text (Ok t) told ranged refused s range same = one_text t s ranged.first range.first (sym told ∙ same)
-read_back text (Err why) told ranged refused s range same = only_memory why refused
+read_back text (Err refusal) told ranged refused s range same = only_memory refusal refused
   where
-    only_memory : (why : Refusal) → IsRefusedText text why → why ≡ Memory
+    only_memory : (refusal : Refusal) → IsRefusedText text refusal → refusal ≡ Memory
     only_memory Memory refused = refl
     only_memory (Text at cause) refused = absurd (no_fault_of_schedule s at cause range (subst (λ text. IsFirstFault schedule_lines version_due text at cause) same refused))
     only_memory _ refused = absurd refused

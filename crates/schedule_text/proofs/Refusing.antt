@@ -45,9 +45,9 @@ wrong_event v left says Range wrong =
 wrong_event v left says Extra wrong = absurd wrong
 
 -- the line after so many is due, and there is none
-pub refused_end : (before : ℕ) (due : Due) (text : List ℕ) (why : Refusal) → is_due due ≡ true → (why ≡ Text (before + 1) End) × HasNo 10 text
-    → IsRefusedAfter before due text why
-refused_end before due text why more end =
+pub refused_end : (before : ℕ) (due : Due) (text : List ℕ) (refusal : Refusal) → is_due due ≡ true → (refusal ≡ Text (before + 1) End) × HasNo 10 text
+    → IsRefusedAfter before due text refusal
+refused_end before due text refusal more end =
     rw end.0 (1, refl, first_fault-end schedule_lines due due [] text text 1 (Begins-nothing schedule_lines due text) refl refl more end.1)
 
 -- the line after so many is wrong

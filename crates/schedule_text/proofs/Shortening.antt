@@ -1,4 +1,4 @@
--- Lines whose long numbers are cut short, and their words.
+-- Lines whose long numbers are truncated, and their words.
 use Rattle.std.proofs.Common.{◌≡◌, ◌≢◌, ℕ, zero, suc, ◌≤◌, ◌<◌, inl, inr, List, [], ◌∷◌, ◌++◌, length, get_or, All, Bool, refl, sym, ap, ◌∙◌, arith, ◌==◌}
 use Rattle.std.specs.List.{onto_first, AllZip}
 use Rattle.std.proofs.lemmas.Bool.{cases_lt, cases_eq, ne_eqb, eq-eqb}
@@ -37,42 +37,42 @@ Shortens-byte r b = elim (cases_eq b 32) [ inl is ↦ (b ∷ [], 21, space is no
     by (suc r) is = (b ∷ [], r, early is nothing)
 
 -- the same of the bytes of one word
-pub data CutWord : ℕ → List ℕ → List ℕ → Type 0 where
-  end : {room : ℕ} → CutWord room [] []
-  first : {room byte : ℕ} {word kept : List ℕ} → CutWord room word kept → CutWord (suc room) (byte ∷ word) (byte ∷ kept)
-  dropped : {byte : ℕ} {word kept : List ℕ} → IsDigit byte → CutWord 0 word kept → CutWord 0 (byte ∷ word) kept
-  held : {byte : ℕ} {word kept : List ℕ} → ¬ IsDigit byte → CutWord 0 word kept → CutWord 0 (byte ∷ word) (byte ∷ kept)
+pub data TruncatedWord : ℕ → List ℕ → List ℕ → Type 0 where
+  end : {room : ℕ} → TruncatedWord room [] []
+  first : {room byte : ℕ} {word kept : List ℕ} → TruncatedWord room word kept → TruncatedWord (suc room) (byte ∷ word) (byte ∷ kept)
+  dropped : {byte : ℕ} {word kept : List ℕ} → IsDigit byte → TruncatedWord 0 word kept → TruncatedWord 0 (byte ∷ word) kept
+  held : {byte : ℕ} {word kept : List ℕ} → ¬ IsDigit byte → TruncatedWord 0 word kept → TruncatedWord 0 (byte ∷ word) (byte ∷ kept)
 
 -- a word of which little is kept is kept whole
-pub CutWord-whole : {r : ℕ} {w k : List ℕ} → CutWord r w k → length k < r → w ≡ k
-CutWord-whole end short = refl
-CutWord-whole (first {byte = b} more) short = ap (λ (l : List ℕ). b ∷ l) (CutWord-whole more (omega arith))
-CutWord-whole (dropped is more) short = absurd (omega (arith, short))
-CutWord-whole (held is more) short = absurd (omega (arith, short))
+pub TruncatedWord-whole : {r : ℕ} {w k : List ℕ} → TruncatedWord r w k → length k < r → w ≡ k
+TruncatedWord-whole end short = refl
+TruncatedWord-whole (first {byte = b} more) short = ap (λ (l : List ℕ). b ∷ l) (TruncatedWord-whole more (omega arith))
+TruncatedWord-whole (dropped is more) short = absurd (omega (arith, short))
+TruncatedWord-whole (held is more) short = absurd (omega (arith, short))
 
 -- a short word is kept whole
-pub CutWord-short : {r : ℕ} {w k : List ℕ} → CutWord r w k → length w ≤ r → k ≡ w
-CutWord-short end short = refl
-CutWord-short (first {byte = b} more) short = ap (λ (l : List ℕ). b ∷ l) (CutWord-short more (omega arith))
-CutWord-short (dropped is more) short = absurd (omega (arith, short))
-CutWord-short (held is more) short = absurd (omega (arith, short))
+pub TruncatedWord-short : {r : ℕ} {w k : List ℕ} → TruncatedWord r w k → length w ≤ r → k ≡ w
+TruncatedWord-short end short = refl
+TruncatedWord-short (first {byte = b} more) short = ap (λ (l : List ℕ). b ∷ l) (TruncatedWord-short more (omega arith))
+TruncatedWord-short (dropped is more) short = absurd (omega (arith, short))
+TruncatedWord-short (held is more) short = absurd (omega (arith, short))
 
 -- of digits no more are kept than there is room for
-pub CutWord-digits : {r : ℕ} {w k : List ℕ} → CutWord r w k → All IsDigit w → All IsDigit k × (length k ≤ r)
-CutWord-digits end all = (all, omega arith)
-CutWord-digits (first {byte = b} {word = w} {kept = k} more) all =
-    let rest = CutWord-digits more (All-tail IsDigit b w all) in
+pub TruncatedWord-digits : {r : ℕ} {w k : List ℕ} → TruncatedWord r w k → All IsDigit w → All IsDigit k × (length k ≤ r)
+TruncatedWord-digits end all = (all, omega arith)
+TruncatedWord-digits (first {byte = b} {word = w} {kept = k} more) all =
+    let rest = TruncatedWord-digits more (All-tail IsDigit b w all) in
     (All-cons IsDigit b k (All-head IsDigit b w all) rest.0, omega (arith, rest.1))
-CutWord-digits (dropped {byte = b} {word = w} is more) all = CutWord-digits more (All-tail IsDigit b w all)
-CutWord-digits (held {byte = b} {word = w} is more) all = absurd (is (All-head IsDigit b w all))
+TruncatedWord-digits (dropped {byte = b} {word = w} is more) all = TruncatedWord-digits more (All-tail IsDigit b w all)
+TruncatedWord-digits (held {byte = b} {word = w} is more) all = absurd (is (All-head IsDigit b w all))
 
 -- where digits alone are kept, all are digits
-pub CutWord-back : {r : ℕ} {w k : List ℕ} → CutWord r w k → All IsDigit k → All IsDigit w
-CutWord-back end all = all
-CutWord-back (first {byte = b} {word = w} {kept = k} more) all =
-    All-cons IsDigit b w (All-head IsDigit b k all) (CutWord-back more (All-tail IsDigit b k all))
-CutWord-back (dropped {byte = b} {word = w} is more) all = All-cons IsDigit b w is (CutWord-back more all)
-CutWord-back (held {byte = b} {kept = k} is more) all = absurd (is (All-head IsDigit b k all))
+pub TruncatedWord-back : {r : ℕ} {w k : List ℕ} → TruncatedWord r w k → All IsDigit k → All IsDigit w
+TruncatedWord-back end all = all
+TruncatedWord-back (first {byte = b} {word = w} {kept = k} more) all =
+    All-cons IsDigit b w (All-head IsDigit b k all) (TruncatedWord-back more (All-tail IsDigit b k all))
+TruncatedWord-back (dropped {byte = b} {word = w} is more) all = All-cons IsDigit b w is (TruncatedWord-back more all)
+TruncatedWord-back (held {byte = b} {kept = k} is more) all = absurd (is (All-head IsDigit b k all))
 
 -- the first byte is kept
 record KeepsFirst (w k : List ℕ) : Type 0 where
@@ -80,81 +80,81 @@ record KeepsFirst (w k : List ℕ) : Type 0 where
   forth : 0 < length w → 0 < length k
   back : 0 < length k → 0 < length w
 
-CutWord-first : (r : ℕ) {w k : List ℕ} → CutWord (suc r) w k → KeepsFirst w k
-CutWord-first r end = record { same = refl; forth = λ some. some; back = λ some. some }
-CutWord-first r (first more) = record { same = refl; forth = λ some. omega arith; back = λ some. omega arith }
+TruncatedWord-first : (r : ℕ) {w k : List ℕ} → TruncatedWord (suc r) w k → KeepsFirst w k
+TruncatedWord-first r end = record { same = refl; forth = λ some. some; back = λ some. some }
+TruncatedWord-first r (first more) = record { same = refl; forth = λ some. omega arith; back = λ some. omega arith }
 
 -- what is kept of a number is a number
-IsPlain-cut : (w k : List ℕ) → CutWord 21 w k → IsPlain w → IsPlain k
-IsPlain-cut w k cut plain =
-    let begins = CutWord-first 20 cut in
+IsPlain-truncated : (w k : List ℕ) → TruncatedWord 21 w k → IsPlain w → IsPlain k
+IsPlain-truncated w k truncated plain =
+    let begins = TruncatedWord-first 20 truncated in
     record {
       some = begins.forth plain.some;
-      digits = (CutWord-digits cut plain.digits).0;
-      first = λ zero. let one : length w ≡ 1 = plain.first (sym begins.same ∙ zero) in ap length (CutWord-short cut (omega (arith, one))) ∙ one;
+      digits = (TruncatedWord-digits truncated plain.digits).0;
+      first = λ zero. let one : length w ≡ 1 = plain.first (sym begins.same ∙ zero) in ap length (TruncatedWord-short truncated (omega (arith, one))) ∙ one;
     }
 
 -- and of nothing else
-IsPlain-whole : (w k : List ℕ) → CutWord 21 w k → IsPlain k → IsPlain w
-IsPlain-whole w k cut plain =
-    let begins = CutWord-first 20 cut in
+IsPlain-whole : (w k : List ℕ) → TruncatedWord 21 w k → IsPlain k → IsPlain w
+IsPlain-whole w k truncated plain =
+    let begins = TruncatedWord-first 20 truncated in
     record {
       some = begins.back plain.some;
-      digits = CutWord-back cut plain.digits;
-      first = λ zero. let one : length k ≡ 1 = plain.first (begins.same ∙ zero) in ap length (CutWord-whole cut (omega (arith, one))) ∙ one;
+      digits = TruncatedWord-back truncated plain.digits;
+      first = λ zero. let one : length k ≡ 1 = plain.first (begins.same ∙ zero) in ap length (TruncatedWord-whole truncated (omega (arith, one))) ∙ one;
     }
 
-pub numeral-cut : (n : ℕ) (k : List ℕ) → CutWord 21 (numeral n) k → (m : ℕ) × (k ≡ numeral m)
-numeral-cut n k cut = (plain_or_number k).0 (IsPlain-cut (numeral n) k cut (IsPlain-numeral n))
+pub numeral-truncated : (n : ℕ) (k : List ℕ) → TruncatedWord 21 (numeral n) k → (m : ℕ) × (k ≡ numeral m)
+numeral-truncated n k truncated = (plain_or_number k).0 (IsPlain-truncated (numeral n) k truncated (IsPlain-numeral n))
 
-pub numeral-whole : (m : ℕ) (w : List ℕ) → CutWord 21 w (numeral m) → (n : ℕ) × (w ≡ numeral n)
-numeral-whole m w cut = (plain_or_number w).0 (IsPlain-whole w (numeral m) cut (IsPlain-numeral m))
+pub numeral-whole : (m : ℕ) (w : List ℕ) → TruncatedWord 21 w (numeral m) → (n : ℕ) × (w ≡ numeral n)
+numeral-whole m w truncated = (plain_or_number w).0 (IsPlain-whole w (numeral m) truncated (IsPlain-numeral m))
 
 -- at most 21 digits of a number are kept
-pub length-numeral-cut : (n : ℕ) (k : List ℕ) → CutWord 21 (numeral n) k → length k ≤ 21
-length-numeral-cut n k cut = (CutWord-digits cut (IsPlain-numeral n).digits).1
+pub length-numeral-truncated : (n : ℕ) (k : List ℕ) → TruncatedWord 21 (numeral n) k → length k ≤ 21
+length-numeral-truncated n k truncated = (TruncatedWord-digits truncated (IsPlain-numeral n).digits).1
 
 -- the words of a line, and those of what is kept of it, where the first one begins with so much room
-abbrev CutWords : ℕ → List (List ℕ) → List (List ℕ) → Type 0
-CutWords r [] ks = ⊥
-CutWords r (w ∷ ws) [] = ⊥
-CutWords r (w ∷ ws) (k ∷ ks) = CutWord r w k × AllZip (CutWord 21) ws ks
+abbrev TruncatedWords : ℕ → List (List ℕ) → List (List ℕ) → Type 0
+TruncatedWords r [] ks = ⊥
+TruncatedWords r (w ∷ ws) [] = ⊥
+TruncatedWords r (w ∷ ws) (k ∷ ks) = TruncatedWord r w k × AllZip (TruncatedWord 21) ws ks
 
-CutWords-all : (ws ks : List (List ℕ)) → CutWords 21 ws ks → AllZip (CutWord 21) ws ks
-CutWords-all [] ks cut = absurd cut
-CutWords-all (w ∷ ws) [] cut = absurd cut
-CutWords-all (w ∷ ws) (k ∷ ks) cut = cut
+TruncatedWords-all : (ws ks : List (List ℕ)) → TruncatedWords 21 ws ks → AllZip (TruncatedWord 21) ws ks
+TruncatedWords-all [] ks truncated = absurd truncated
+TruncatedWords-all (w ∷ ws) [] truncated = absurd truncated
+TruncatedWords-all (w ∷ ws) (k ∷ ks) truncated = truncated
 
-CutWords-first : (r b : ℕ) (ws ks : List (List ℕ)) → CutWords r ws ks → CutWords (suc r) (onto_first b ws) (onto_first b ks)
-CutWords-first r b [] ks cut = absurd cut
-CutWords-first r b (w ∷ ws) [] cut = absurd cut
-CutWords-first r b (w ∷ ws) (k ∷ ks) cut = (first cut.0, cut.1)
+TruncatedWords-first : (r b : ℕ) (ws ks : List (List ℕ)) → TruncatedWords r ws ks → TruncatedWords (suc r) (onto_first b ws) (onto_first b ks)
+TruncatedWords-first r b [] ks truncated = absurd truncated
+TruncatedWords-first r b (w ∷ ws) [] truncated = absurd truncated
+TruncatedWords-first r b (w ∷ ws) (k ∷ ks) truncated = (first truncated.0, truncated.1)
 
-CutWords-dropped : (b : ℕ) (ws ks : List (List ℕ)) → IsDigit b → CutWords 0 ws ks → CutWords 0 (onto_first b ws) ks
-CutWords-dropped b [] ks is cut = absurd cut
-CutWords-dropped b (w ∷ ws) [] is cut = absurd cut
-CutWords-dropped b (w ∷ ws) (k ∷ ks) is cut = (dropped is cut.0, cut.1)
+TruncatedWords-dropped : (b : ℕ) (ws ks : List (List ℕ)) → IsDigit b → TruncatedWords 0 ws ks → TruncatedWords 0 (onto_first b ws) ks
+TruncatedWords-dropped b [] ks is truncated = absurd truncated
+TruncatedWords-dropped b (w ∷ ws) [] is truncated = absurd truncated
+TruncatedWords-dropped b (w ∷ ws) (k ∷ ks) is truncated = (dropped is truncated.0, truncated.1)
 
-CutWords-held : (b : ℕ) (ws ks : List (List ℕ)) → ¬ IsDigit b → CutWords 0 ws ks → CutWords 0 (onto_first b ws) (onto_first b ks)
-CutWords-held b [] ks is cut = absurd cut
-CutWords-held b (w ∷ ws) [] is cut = absurd cut
-CutWords-held b (w ∷ ws) (k ∷ ks) is cut = (held is cut.0, cut.1)
+TruncatedWords-held : (b : ℕ) (ws ks : List (List ℕ)) → ¬ IsDigit b → TruncatedWords 0 ws ks → TruncatedWords 0 (onto_first b ws) (onto_first b ks)
+TruncatedWords-held b [] ks is truncated = absurd truncated
+TruncatedWords-held b (w ∷ ws) [] is truncated = absurd truncated
+TruncatedWords-held b (w ∷ ws) (k ∷ ks) is truncated = (held is truncated.0, truncated.1)
 
 abbrev at_space : ℕ → Bool
 at_space b = b == 32
 
-words_from : {r q : ℕ} {s k : List ℕ} → Shortens r s k q → CutWords r (words_of s) (words_of k)
+words_from : {r q : ℕ} {s k : List ℕ} → Shortens r s k q → TruncatedWords r (words_of s) (words_of k)
 words_from nothing = (end, tt)
 words_from (space {byte = b} {says = s} {kept = k} is more) =
-    rw (slice_split-cons_yes at_space b s (eq-eqb b 32 is), slice_split-cons_yes at_space b k (eq-eqb b 32 is)) (end, CutWords-all (words_of s) (words_of k) (words_from more))
+    rw (slice_split-cons_yes at_space b s (eq-eqb b 32 is), slice_split-cons_yes at_space b k (eq-eqb b 32 is)) (end, TruncatedWords-all (words_of s) (words_of k) (words_from more))
 words_from (early {room = r} {byte = b} {says = s} {kept = k} is more) =
-    rw (slice_split-cons_no at_space b s (ne_eqb b 32 is), slice_split-cons_no at_space b k (ne_eqb b 32 is)) (CutWords-first r b (words_of s) (words_of k) (words_from more))
+    rw (slice_split-cons_no at_space b s (ne_eqb b 32 is), slice_split-cons_no at_space b k (ne_eqb b 32 is)) (TruncatedWords-first r b (words_of s) (words_of k) (words_from more))
 words_from (digit {byte = b} {says = s} {kept = k} is more) =
     let plain : b ≢ 32 = λ e. omega (arith, e, is.0) in
-    rw (slice_split-cons_no at_space b s (ne_eqb b 32 plain)) (CutWords-dropped b (words_of s) (words_of k) is (words_from more))
+    rw (slice_split-cons_no at_space b s (ne_eqb b 32 plain)) (TruncatedWords-dropped b (words_of s) (words_of k) is (words_from more))
 words_from (other {byte = b} {says = s} {kept = k} is not more) =
-    rw (slice_split-cons_no at_space b s (ne_eqb b 32 is), slice_split-cons_no at_space b k (ne_eqb b 32 is)) (CutWords-held b (words_of s) (words_of k) not (words_from more))
+    rw (slice_split-cons_no at_space b s (ne_eqb b 32 is), slice_split-cons_no at_space b k (ne_eqb b 32 is)) (TruncatedWords-held b (words_of s) (words_of k) not (words_from more))
 
 -- the words of what is kept of a line are what is kept of its words
-pub words_cut : (s k : List ℕ) (q : ℕ) → Shortens 21 s k q → AllZip (CutWord 21) (words_of s) (words_of k)
-words_cut s k q cut = CutWords-all (words_of s) (words_of k) (words_from cut)
+pub words_truncated : (s k : List ℕ) (q : ℕ) → Shortens 21 s k q → AllZip (TruncatedWord 21) (words_of s) (words_of k)
+words_truncated s k q truncated = TruncatedWords-all (words_of s) (words_of k) (words_from truncated)

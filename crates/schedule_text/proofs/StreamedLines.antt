@@ -159,23 +159,23 @@ fault_behind_lines before due later saids old mid at cause lines state fault = b
         refused_behind before due later saids text rest (Text at cause) (record { due = lines.due_each; spelled = given }) state fault
 
 -- what is refused behind lines is refused before them
-pub stopped_behind : (before : ℕ) (due later : Due) (saids : List Said) (old mid new : SourceState) (why : Refusal) → GaveLines due saids old mid
-    → state_after schedule_lines due saids ≡ later → IsStopped (before + length saids) later mid new why → IsStopped before due old new why
+pub stopped_behind : (before : ℕ) (due later : Due) (saids : List Said) (old mid new : SourceState) (refusal : Refusal) → GaveLines due saids old mid
+    → state_after schedule_lines due saids ≡ later → IsStopped (before + length saids) later mid new refusal → IsStopped before due old new refusal
 stopped_behind before due later saids old mid new Read lines state stopped = stopped ∙ ap (λ (n : ℕ). n + 1) lines.quiet
 stopped_behind before due later saids old mid new (Text at cause) lines state stopped =
     (fault_behind_lines before due later saids old mid at cause lines state stopped.0, stopped.1 ∙ lines.quiet, stopped.2)
 stopped_behind before due later saids old mid new _ lines state stopped = stopped
 
 -- and behind how many bits hold a node
-pub stopped_behind_bits : (v : Version) (bits : ℕ) (old mid new : SourceState) (why : Refusal) → IsBitsOf v bits → GaveLines (due_after_queue v) (bits_said v bits) old mid
-    → IsStopped (header_lines v - 4) (number_due v bits Nodes) mid new why → IsStopped 2 (due_after_queue v) old new why
-stopped_behind_bits v bits old mid new why first lines stopped =
-    stopped_behind 2 (due_after_queue v) (number_due v bits Nodes) (bits_said v bits) old mid new why lines (state_after-bits v bits first)
-    (subst (λ (n : ℕ). IsStopped n (number_due v bits Nodes) mid new why) (sym (length-bits_said v bits)) stopped)
+pub stopped_behind_bits : (v : Version) (bits : ℕ) (old mid new : SourceState) (refusal : Refusal) → IsBitsOf v bits → GaveLines (due_after_queue v) (bits_said v bits) old mid
+    → IsStopped (header_lines v - 4) (number_due v bits Nodes) mid new refusal → IsStopped 2 (due_after_queue v) old new refusal
+stopped_behind_bits v bits old mid new refusal first lines stopped =
+    stopped_behind 2 (due_after_queue v) (number_due v bits Nodes) (bits_said v bits) old mid new refusal lines (state_after-bits v bits first)
+    (subst (λ (n : ℕ). IsStopped n (number_due v bits Nodes) mid new refusal) (sym (length-bits_said v bits)) stopped)
 
 -- what is refused behind a line is refused before it
-pub stopped_later : (before : ℕ) (due : Due) (said : Said) (old mid new : SourceState) (why : Refusal) → is_due due ≡ true → GaveSaid due said old mid
-    → IsStopped (before + 1) (due_after due said) mid new why → IsStopped before due old new why
+pub stopped_later : (before : ℕ) (due : Due) (said : Said) (old mid new : SourceState) (refusal : Refusal) → is_due due ≡ true → GaveSaid due said old mid
+    → IsStopped (before + 1) (due_after due said) mid new refusal → IsStopped before due old new refusal
 stopped_later before due said old mid new Read more gave stopped = stopped ∙ ap (λ (n : ℕ). n + 1) gave.quiet
 stopped_later before due said old mid new (Text at cause) more gave stopped =
     (by old.left mid.left gave.given stopped.0, stopped.1 ∙ gave.quiet, stopped.2)
@@ -189,10 +189,10 @@ stopped_later before due said old mid new (Text at cause) more gave stopped =
 stopped_later before due said old mid new _ more gave stopped = stopped
 
 -- the same where the next line is told by its number
-pub stopped_next : (before next : ℕ) (due : Due) (said : Said) (old mid new : SourceState) (why : Refusal) → before + 1 ≡ next → is_due due ≡ true → GaveSaid due said old mid
-    → IsStopped next (due_after due said) mid new why → IsStopped before due old new why
-stopped_next before next due said old mid new why is more gave stopped =
-    stopped_later before due said old mid new why more gave (subst (λ (n : ℕ). IsStopped n (due_after due said) mid new why) (sym is) stopped)
+pub stopped_next : (before next : ℕ) (due : Due) (said : Said) (old mid new : SourceState) (refusal : Refusal) → before + 1 ≡ next → is_due due ≡ true → GaveSaid due said old mid
+    → IsStopped next (due_after due said) mid new refusal → IsStopped before due old new refusal
+stopped_next before next due said old mid new refusal is more gave stopped =
+    stopped_later before due said old mid new refusal more gave (subst (λ (n : ℕ). IsStopped n (due_after due said) mid new refusal) (sym is) stopped)
 
 -- lines, and then others
 pub GaveLines-append : (due : Due) (rs qs : List Said) (old mid new : SourceState) → GaveLines due rs old mid → GaveLines (state_after schedule_lines due rs) qs mid new

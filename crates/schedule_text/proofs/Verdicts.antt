@@ -12,7 +12,7 @@ use Rattle.text_lines.specs.Grammars.{Says}
 use Rattle.text_lines.specs.Lines.{spaced, words_of}
 use Rattle.text_lines.specs.Numerals.{numeral}
 use Rattle.text_lines.specs.Readings.{IsWrong}
-use Rattle.text_lines.proofs.Cuts.{spaced-words_of}
+use Rattle.text_lines.proofs.Splits.{spaced-words_of}
 use Rattle.text_lines.proofs.Numerals.{IsPlain-numeral, numeral_decimal}
 use Rattle.schedule_text.specs.declared.schedules.Event.{Event}
 use Rattle.schedule_text.specs.declared.schedules.Event.TheVariants.{Begin, Step, Steps, Give}
@@ -24,7 +24,7 @@ use Rattle.schedule_text.specs.Shortening.{Shortens}
 use Rattle.counted_ref.proofs.Words.{span_most, count_span_most}
 use Rattle.schedule_text.proofs.Distinct.{said_same}
 use Rattle.schedule_text.proofs.Spelling.{words_of-said, spaced-said}
-use Rattle.schedule_text.proofs.Shortening.{CutWord, CutWord-whole, CutWord-short, CutWord-digits, CutWord-back, numeral-cut, numeral-whole, words_cut}
+use Rattle.schedule_text.proofs.Shortening.{TruncatedWord, TruncatedWord-whole, TruncatedWord-short, TruncatedWord-digits, TruncatedWord-back, numeral-truncated, numeral-whole, words_truncated}
 use Rattle.schedule_text.proofs.SameForm.{SaysToo, says_too, length-name_of, length-version_name, length-kind_name, length-field_name}
 
 -- each of a list holds
@@ -71,49 +71,49 @@ brief_said bits split (number field value) range =
 brief_said bits split (happens e) range = brief_event e range
 
 -- brief words are kept whole
-whole_words : (ws ks : List (List ℕ)) → AllZip (CutWord 21) ws ks → Each IsBrief ks → ws ≡ ks
-whole_words [] [] cut brief = refl
-whole_words [] (k ∷ ks) cut brief = absurd cut
-whole_words (w ∷ ws) [] cut brief = absurd cut
-whole_words (w ∷ ws) (k ∷ ks) cut brief = ap₂ (λ (x : List ℕ) (xs : List (List ℕ)). x ∷ xs) (CutWord-whole cut.0 brief.0.short) (whole_words ws ks cut.1 brief.1)
+whole_words : (ws ks : List (List ℕ)) → AllZip (TruncatedWord 21) ws ks → Each IsBrief ks → ws ≡ ks
+whole_words [] [] truncated brief = refl
+whole_words [] (k ∷ ks) truncated brief = absurd truncated
+whole_words (w ∷ ws) [] truncated brief = absurd truncated
+whole_words (w ∷ ws) (k ∷ ks) truncated brief = ap₂ (λ (x : List ℕ) (xs : List (List ℕ)). x ∷ xs) (TruncatedWord-whole truncated.0 brief.0.short) (whole_words ws ks truncated.1 brief.1)
 
-short_words : (ws ks : List (List ℕ)) → AllZip (CutWord 21) ws ks → Each IsBrief ws → ks ≡ ws
-short_words [] [] cut brief = refl
-short_words [] (k ∷ ks) cut brief = absurd cut
-short_words (w ∷ ws) [] cut brief = absurd cut
-short_words (w ∷ ws) (k ∷ ks) cut brief =
-    ap₂ (λ (x : List ℕ) (xs : List (List ℕ)). x ∷ xs) (CutWord-short cut.0 (let short = brief.0.short in omega (arith, short))) (short_words ws ks cut.1 brief.1)
+short_words : (ws ks : List (List ℕ)) → AllZip (TruncatedWord 21) ws ks → Each IsBrief ws → ks ≡ ws
+short_words [] [] truncated brief = refl
+short_words [] (k ∷ ks) truncated brief = absurd truncated
+short_words (w ∷ ws) [] truncated brief = absurd truncated
+short_words (w ∷ ws) (k ∷ ks) truncated brief =
+    ap₂ (λ (x : List ℕ) (xs : List (List ℕ)). x ∷ xs) (TruncatedWord-short truncated.0 (let short = brief.0.short in omega (arith, short))) (short_words ws ks truncated.1 brief.1)
 
 -- the relation the other way round
-abbrev IsCutOf : List ℕ → List ℕ → Type 0
-IsCutOf k w = CutWord 21 w k
+abbrev IsTruncationOf : List ℕ → List ℕ → Type 0
+IsTruncationOf k w = TruncatedWord 21 w k
 
-turned : (ws ks : List (List ℕ)) → AllZip (CutWord 21) ws ks → AllZip IsCutOf ks ws
-turned [] [] cut = tt
-turned [] (k ∷ ks) cut = absurd cut
-turned (w ∷ ws) [] cut = absurd cut
-turned (w ∷ ws) (k ∷ ks) cut = (cut.0, turned ws ks cut.1)
+turned : (ws ks : List (List ℕ)) → AllZip (TruncatedWord 21) ws ks → AllZip IsTruncationOf ks ws
+turned [] [] truncated = tt
+turned [] (k ∷ ks) truncated = absurd truncated
+turned (w ∷ ws) [] truncated = absurd truncated
+turned (w ∷ ws) (k ∷ ks) truncated = (truncated.0, turned ws ks truncated.1)
 
-kept_says : (r : Said) (ks : List (List ℕ)) → AllZip (CutWord 21) (said_words r) ks → SaysToo r ks
-kept_says r ks cut = says_too (CutWord 21) (λ w k short cut. CutWord-short cut (omega (arith, short))) numeral-cut r ks cut
+kept_says : (r : Said) (ks : List (List ℕ)) → AllZip (TruncatedWord 21) (said_words r) ks → SaysToo r ks
+kept_says r ks truncated = says_too (TruncatedWord 21) (λ w k short truncated. TruncatedWord-short truncated (omega (arith, short))) numeral-truncated r ks truncated
 
-whole_says : (r : Said) (ws : List (List ℕ)) → AllZip (CutWord 21) ws (said_words r) → SaysToo r ws
-whole_says r ws cut =
-    says_too IsCutOf (λ k w short cut. CutWord-whole cut short) (λ m w cut. numeral-whole m w cut) r ws (turned ws (said_words r) cut)
+whole_says : (r : Said) (ws : List (List ℕ)) → AllZip (TruncatedWord 21) ws (said_words r) → SaysToo r ws
+whole_says r ws truncated =
+    says_too IsTruncationOf (λ k w short truncated. TruncatedWord-whole truncated short) (λ m w truncated. numeral-whole m w truncated) r ws (turned ws (said_words r) truncated)
 
 -- each word is what is kept of one
 record IsKeptWord (kept : List ℕ) : Type 0 where
   word : List ℕ
-  cut : CutWord 21 word kept
+  truncated : TruncatedWord 21 word kept
 
-kept_words : (ws ks : List (List ℕ)) → AllZip (CutWord 21) ws ks → Each IsKeptWord ks
-kept_words [] [] cut = tt
-kept_words [] (k ∷ ks) cut = absurd cut
-kept_words (w ∷ ws) [] cut = absurd cut
-kept_words (w ∷ ws) (k ∷ ks) cut = (record { word = w; cut = cut.0 }, kept_words ws ks cut.1)
+kept_words : (ws ks : List (List ℕ)) → AllZip (TruncatedWord 21) ws ks → Each IsKeptWord ks
+kept_words [] [] truncated = tt
+kept_words [] (k ∷ ks) truncated = absurd truncated
+kept_words (w ∷ ws) [] truncated = absurd truncated
+kept_words (w ∷ ws) (k ∷ ks) truncated = (record { word = w; truncated = truncated.0 }, kept_words ws ks truncated.1)
 
 kept_number : (m : ℕ) → IsKeptWord (numeral m) → length (numeral m) ≤ 21
-kept_number m kept = (CutWord-digits kept.cut (CutWord-back kept.cut (IsPlain-numeral m).digits)).1
+kept_number m kept = (TruncatedWord-digits kept.truncated (TruncatedWord-back kept.truncated (IsPlain-numeral m).digits)).1
 
 -- what is kept of a line that says something has at most 64 bytes
 kept_short : (r : Said) → Each IsKeptWord (said_words r) → length (spaced (said_words r)) ≤ 64
@@ -137,12 +137,12 @@ kept_short (happens (Steps actor count)) kept =
     omega (arith, length-append (numeral actor) (32 ∷ numeral count), a, b)
 kept_short (happens (Give actor)) kept = let a = kept_number actor kept.1.0 in omega (arith, a)
 
--- a line that is too long when its long numbers are cut short says nothing
+-- a line that is too long when its long numbers are truncated says nothing
 pub line_long : (due : Due) (says kept : List ℕ) (q : ℕ) → Shortens 21 says kept q → 64 < length kept → (r : Said) → ¬ Says schedule_lines due says r
-line_long due says kept q cut long r is =
+line_long due says kept q truncated long r is =
     let words : words_of says ≡ said_words r = words_of-said r says is.spelled in
-    let cuts = words_cut says kept q cut in
-    let from : AllZip (CutWord 21) (said_words r) (words_of kept) = rw words at cuts in
+    let truncations = words_truncated says kept q truncated in
+    let from : AllZip (TruncatedWord 21) (said_words r) (words_of kept) = rw words at truncations in
     let too = kept_says r (words_of kept) from in
     let each = kept_words (said_words r) (words_of kept) from in
     let mine : Each IsKeptWord (said_words too.other) = rw too.same at each in
@@ -151,30 +151,30 @@ line_long due says kept q cut long r is =
 
 -- a line says what is kept of it, where that is in range
 pub line_good : (bits : ℕ) → IsSplit bits → (says kept : List ℕ) (q : ℕ) (r : Said) → Shortens 21 says kept q → words_of kept ≡ said_words r → IsSaidInRange bits r → words_of says ≡ said_words r
-line_good bits split says kept q r cut same range =
-    let cuts = words_cut says kept q cut in
-    let to : AllZip (CutWord 21) (words_of says) (said_words r) = rw same at cuts in
+line_good bits split says kept q r truncated same range =
+    let truncations = words_truncated says kept q truncated in
+    let to : AllZip (TruncatedWord 21) (words_of says) (said_words r) = rw same at truncations in
     whole_words (words_of says) (said_words r) to (brief_said bits split r range)
 
 -- a line is wrong for the cause for which what is kept of it is wrong
 pub line_wrong : (bits : ℕ) → IsSplit bits → (due : Due) (says kept : List ℕ) (q : ℕ) (cause : TextCause) → Shortens 21 says kept q
     → IsWrong (Says schedule_lines due kept) (IsSaidInRange bits) cause → IsWrong (Says schedule_lines due says) (IsSaidInRange bits) cause
-line_wrong bits split due says kept q End cut wrong = absurd wrong
-line_wrong bits split due says kept q Form cut none = λ r is.
+line_wrong bits split due says kept q End truncated wrong = absurd wrong
+line_wrong bits split due says kept q Form truncated none = λ r is.
     let words : words_of says ≡ said_words r = words_of-said r says is.spelled in
-    let cuts = words_cut says kept q cut in
-    let from : AllZip (CutWord 21) (said_words r) (words_of kept) = rw words at cuts in
+    let truncations = words_truncated says kept q truncated in
+    let from : AllZip (TruncatedWord 21) (said_words r) (words_of kept) = rw words at truncations in
     let too = kept_says r (words_of kept) from in
     none too.other (record { may = too.may due is.may; spelled = spaced-said too.other kept too.same })
-line_wrong bits split due says kept q Range cut wrong =
+line_wrong bits split due says kept q Range truncated wrong =
     let words : words_of kept ≡ said_words wrong.0 = words_of-said wrong.0 kept wrong.1.spelled in
-    let cuts = words_cut says kept q cut in
-    let to : AllZip (CutWord 21) (words_of says) (said_words wrong.0) = rw words at cuts in
+    let truncations = words_truncated says kept q truncated in
+    let to : AllZip (TruncatedWord 21) (words_of says) (said_words wrong.0) = rw words at truncations in
     let too = whole_says wrong.0 (words_of says) to in
     let back : IsSaidInRange bits too.other → IsSaidInRange bits wrong.0 = λ range.
-    let from : AllZip (CutWord 21) (said_words too.other) (said_words wrong.0) = rw too.same at to in
+    let from : AllZip (TruncatedWord 21) (said_words too.other) (said_words wrong.0) = rw too.same at to in
     let same : said_words wrong.0 ≡ said_words too.other = short_words (said_words too.other) (said_words wrong.0) from (brief_said bits split too.other range) in
     subst (IsSaidInRange bits) (sym (said_same wrong.0 too.other same)) range
     in
     (too.other, record { may = too.may due wrong.1.may; spelled = spaced-said too.other says too.same }, λ range. wrong.2 (back range))
-line_wrong bits split due says kept q Extra cut wrong = absurd wrong
+line_wrong bits split due says kept q Extra truncated wrong = absurd wrong

@@ -53,21 +53,21 @@ pub record GaveAll (s t : EventStream) (old new : SourceState) : Type 0 where
   pub ended : t.stage ≡ Ended
 
 -- a call is refused, and so is each further one
-pub record IsRefusedNext (why : Refusal) (s t : EventStream) (old new : SourceState) : Type 0 where
-  pub refused : IsRefused (lines_given s) (events_left s.header.version s.left) old new why
+pub record IsRefusedNext (refusal : Refusal) (s t : EventStream) (old new : SourceState) : Type 0 where
+  pub refused : IsRefused (lines_given s) (events_left s.header.version s.left) old new refusal
   pub header : t.header ≡ s.header
-  pub stays : t.stage ≡ Refused why
+  pub stays : t.stage ≡ Refused refusal
 
 -- what a call answers where none before it told the end or was refused
 abbrev pub IsNext : (s t : EventStream) (old new : SourceState) → Result (Option Event) Refusal → Type 0
 IsNext s t old new (Ok (Some event)) = GaveEvent event s t old new
 IsNext s t old new (Ok None) = GaveAll s t old new
-IsNext s t old new (Err why) = IsRefusedNext why s t old new
+IsNext s t old new (Err refusal) = IsRefusedNext refusal s t old new
 
 -- the reading of a whole schedule is refused: memory is and no call failed, or a call failed, or the first faulty line is told
 abbrev pub IsRefusedReading : (old new : SourceState) → Refusal → Type 0
 IsRefusedReading old new Memory = new.failures ≡ old.failures
-IsRefusedReading old new why = IsRefused 0 version_due old new why
+IsRefusedReading old new refusal = IsRefused 0 version_due old new refusal
 
 -- the header and these events were given, and the others are left
 pub record HasRead (s : EventStream) (events : List Event) (old new : SourceState) : Type 0 where

@@ -1,4 +1,4 @@
--- Lines whose long numbers are cut short, so that a line of any length is judged by a few of its bytes.
+-- Lines whose long numbers are truncated, so that a line of any length is judged by a few of its bytes.
 use Rattle.std.specs.Prelude.{◌≡◌, ◌≢◌, ℕ, suc, ◌≤◌, ◌<◌, ◌⊎◌, List, [], ◌∷◌, ◌++◌, Bool, true, false, length}
 
 -- a byte is a decimal digit

@@ -52,18 +52,18 @@ impl Model for EventStream {
 
 // The refusal to be answered: at a text's fault the source is read to its end, where it wasn't yet, and
 // where that fails `Read` stands in place of the fault.
-fn told<R: Source>(ahead: &mut Ahead, reader: &mut R, why: Refusal) -> Refusal
+fn told<R: Source>(ahead: &mut Ahead, reader: &mut R, refusal: Refusal) -> Refusal
     ensures { (before : ℕ) (due : Due) (first : SourceState)
-        → IsStopped before due first (stream ahead.old (R.state reader.old)) why
+        → IsStopped before due first (stream ahead.old (R.state reader.old)) refusal
         → IsRefused before due first (stream ahead.new (R.state reader.new)) result }
 {
-    match why {
-        Refusal::Text(_, TextCause::End) => why,
+    match refusal {
+        Refusal::Text(_, TextCause::End) => refusal,
         Refusal::Text(_, _) => match ahead.drain(reader) {
-            Ok(()) => why,
+            Ok(()) => refusal,
             Err(read) => read,
         },
-        _ => why,
+        _ => refusal,
     }
 }
 
@@ -92,7 +92,7 @@ impl EventStream {
                 header,
                 stage: Stage::Going,
             }),
-            Err(why) => Err(told(&mut ahead, reader, why)),
+            Err(refusal) => Err(told(&mut ahead, reader, refusal)),
         }
     }
 
@@ -116,13 +116,13 @@ impl EventStream {
             (stream self.new.ahead (R.state reader.new)) result }
         ensures ended { self.old.stage ≡ Stage.Ended
             → (result ≡ Ok None) × (self.new ≡ self.old) × (reader.new ≡ reader.old) }
-        ensures refused { (why : Refusal) → self.old.stage ≡ Stage.Refused why
-            → (result ≡ Err why) × (self.new ≡ self.old) × (reader.new ≡ reader.old) }
+        ensures refused { (refusal : Refusal) → self.old.stage ≡ Stage.Refused refusal
+            → (result ≡ Err refusal) × (self.new ≡ self.old) × (reader.new ≡ reader.old) }
     {
         match self.stage {
             Stage::Going => self.go_on(reader),
             Stage::Ended => Ok(None),
-            Stage::Refused(why) => Err(why),
+            Stage::Refused(refusal) => Err(refusal),
         }
     }
 
@@ -144,10 +144,10 @@ impl EventStream {
                 self.stage = Stage::Ended;
                 Ok(None)
             }
-            Err(why) => {
-                let why = told(&mut self.ahead, reader, why);
-                self.stage = Stage::Refused(why);
-                Err(why)
+            Err(refusal) => {
+                let refusal = told(&mut self.ahead, reader, refusal);
+                self.stage = Stage::Refused(refusal);
+                Err(refusal)
             }
         }
     }

@@ -95,7 +95,7 @@ fn step_of(actor: Option<u16>, line: Line) -> Option<Event>
 // The line of the table whose name is the one word.
 fn line_in(version: Version, words: Words) -> Result<Line, TextCause>
     ensures { MatchResult result (λ line. IsNamed version line × (words.entry ≡ name_of line ∷ []))
-        (λ why. (why ≡ TextCause.Form)
+        (λ cause. (cause ≡ TextCause.Form)
         × ((line : Line) → IsNamed version line → words.entry ≢ name_of line ∷ [])) }
 {
     let mut words = words;

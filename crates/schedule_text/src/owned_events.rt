@@ -28,8 +28,8 @@ impl<R: Source + Drop> Events<R> {
         //= texts/events (ok, err)
         ensures ok { IfOk result (λ events. IsStarted events.stream
             (stream [] (R.state reader)) (stream events.stream.ahead (R.state events.reader))) }
-        ensures err { IfErr result (λ why. (last : SourceState)
-            × IsRefused 0 version_due (R.state reader) last why) }
+        ensures err { IfErr result (λ refusal. (last : SourceState)
+            × IsRefused 0 version_due (R.state reader) last refusal) }
     {
         let mut reader = reader;
         let stream = EventStream::start(&mut reader)?;
@@ -52,8 +52,8 @@ impl<R: Source> Events<R> {
             (stream self.old.stream.ahead (R.state self.old.reader))
             (stream self.new.stream.ahead (R.state self.new.reader)) result }
         ensures ended { self.old.stream.stage ≡ Stage.Ended → (result ≡ Ok None) × (self.new ≡ self.old) }
-        ensures refused { (why : Refusal) → self.old.stream.stage ≡ Stage.Refused why
-            → (result ≡ Err why) × (self.new ≡ self.old) }
+        ensures refused { (refusal : Refusal) → self.old.stream.stage ≡ Stage.Refused refusal
+            → (result ≡ Err refusal) × (self.new ≡ self.old) }
     {
         self.stream.next(&mut self.reader)
     }

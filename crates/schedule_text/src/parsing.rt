@@ -47,7 +47,7 @@ fn next_line(before: u64, text: &[u8]) -> Result<(&[u8], &[u8]), Refusal>
     requires { before ≤ 1000007 }
     ensures ok { IfOk result (λ found. HasNo 10 found.0.now
         × (text.now ≡ line found.0.now ++ found.1.now)) }
-    ensures err { IfErr result (λ why. (why ≡ Refusal.Text (before + 1) TextCause.End)
+    ensures err { IfErr result (λ refusal. (refusal ≡ Refusal.Text (before + 1) TextCause.End)
         × HasNo 10 text.now) }
 {
     line_at(text).ok_or(Refusal::Text(before + 1, TextCause::End))
@@ -83,8 +83,8 @@ pub fn version_of(line: &[u8]) -> Option<Version>
 fn kind_at(text: &[u8]) -> Result<(Kind, &[u8]), Refusal>
     ensures ok { IfOk result (λ found. (v : Version)
         → IsFront (queue_due v) (queue found.0) text.now found.1.now) }
-    ensures err { IfErr result (λ why. (v : Version)
-        → IsRefusedAfter 1 (queue_due v) text.now why) }
+    ensures err { IfErr result (λ refusal. (v : Version)
+        → IsRefusedAfter 1 (queue_due v) text.now refusal) }
 {
     let (line, rest) = next_line(1, text)?;
     match kind_in(line) {
@@ -100,8 +100,8 @@ fn number_at(before: u64, field: Field, bits: u32, text: &[u8]) -> Result<(u64, 
     ensures ok { IfOk result (λ found. (v : Version)
         → IsFront (number_due v bits field) (number field found.0) text.now found.1.now) }
     ensures range { IfOk result (λ found. IsSaidInRange bits (number field found.0)) }
-    ensures err { IfErr result (λ why. (v : Version)
-        → IsRefusedAfter before (number_due v bits field) text.now why) }
+    ensures err { IfErr result (λ refusal. (v : Version)
+        → IsRefusedAfter before (number_due v bits field) text.now refusal) }
 {
     let (line, rest) = next_line(before, text)?;
     match number_of(field, bits, line) {
@@ -161,8 +161,8 @@ fn push_event<'a>(
     requires { before ≤ 1000007 }
     ensures ok { IfOk result (λ rest.
         AddsEvent version events.old.items events.new.items text.now rest.now) }
-    ensures err { IfErr result (λ why. (left : ℕ) → 0 < left
-        → IsRefusedAfter before (events_left version left) text.now why) }
+    ensures err { IfErr result (λ refusal. (left : ℕ) → 0 < left
+        → IsRefusedAfter before (events_left version left) text.now refusal) }
 {
     let (line, rest) = next_line(before, text)?;
     match event_in(version, line) {
@@ -176,7 +176,7 @@ fn push_event<'a>(
 
 pub fn keep(events: &mut Vec<Event>, event: Event) -> Result<(), Refusal>
     ensures ok { OnOk result (events.new.items ≡ events.old.items ++ event ∷ []) }
-    ensures err { IfErr result (λ why. why ≡ Refusal.Memory) }
+    ensures err { IfErr result (λ refusal. refusal ≡ Refusal.Memory) }
 {
     // The check of the push stops unless the type of a call is named here.
     let _: Option<Op> = None;
@@ -244,7 +244,7 @@ pub fn parse(alloc: Global, text: &[u8]) -> Result<Schedule, Refusal>
     ensures err { IfErr result (IsRefusedText text.now) }
     // The text of a schedule in range is read as that schedule, unless memory is refused.
     ensures back { (s : Schedule) → IsInRange s → text.now ≡ schedule_text s
-        → MatchResult result (λ schedule. schedule ≡ s) (λ why. why ≡ Refusal.Memory) }
+        → MatchResult result (λ schedule. schedule ≡ s) (λ refusal. refusal ≡ Refusal.Memory) }
 {
     schedule_of(alloc, text)
 }

@@ -19,7 +19,7 @@ use text_io::{Block, LINE_ROOM, Line, Sink};
 /// event, in their order.
 ///
 /// It takes no memory; whether it waits is up to the writer. It is refused by `Write` where a call of
-/// the writer fails or takes nothing; a beginning of the text is written then. `parse` takes the text
+/// the writer fails or takes nothing; a prefix of the text is written then. `parse` takes the text
 /// back where each number is in its range.
 pub fn print<W: Sink>(schedule: &Schedule, writer: &mut W) -> Result<(), Refusal>
     //= texts/print

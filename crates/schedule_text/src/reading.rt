@@ -15,7 +15,7 @@ use text_io::Source;
 /// The schedule whose text a source gives, whole; the text isn't held.
 ///
 /// It is refused with `Memory`, with `Read` where a call of the source fails, and with `Text` as
-/// `parse` refuses the text that the source gives, however it is cut in pieces. The source is read to
+/// `parse` refuses the text that the source gives, however it is split into pieces. The source is read to
 /// its end but where memory is refused or a call fails. It takes memory as the events come; whether
 /// it waits is up to the source.
 pub fn read_schedule<R: Source>(alloc: Global, reader: &mut R) -> Result<Schedule, Refusal>
@@ -29,7 +29,7 @@ pub fn read_schedule<R: Source>(alloc: Global, reader: &mut R) -> Result<Schedul
     // The text of a schedule in range is read as that schedule, unless memory is refused or a call fails.
     ensures back { (s : Schedule) → IsInRange s → (R.state reader.old).left ≡ Some (schedule_text s)
         → MatchResult result (λ schedule. schedule ≡ s)
-        (λ why. (why ≡ Refusal.Memory) ⊎ (why ≡ Refusal.Read)) }
+        (λ refusal. (refusal ≡ Refusal.Memory) ⊎ (refusal ≡ Refusal.Read)) }
 {
     schedule_from(alloc, reader)
 }

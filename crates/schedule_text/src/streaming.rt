@@ -24,8 +24,8 @@ fn held_line<R: Source>(ahead: &mut Ahead, reader: &mut R, before: u64) -> Resul
     requires { before ≤ 1000007 }
     ensures ok { IfOk result (λ held. GaveLine held
         (stream ahead.old (R.state reader.old)) (stream ahead.new (R.state reader.new))) }
-    ensures err { IfErr result (λ why. (due : Due) → is_due due ≡ true → IsStopped before due
-        (stream ahead.old (R.state reader.old)) (stream ahead.new (R.state reader.new)) why) }
+    ensures err { IfErr result (λ refusal. (due : Due) → is_due due ≡ true → IsStopped before due
+        (stream ahead.old (R.state reader.old)) (stream ahead.new (R.state reader.new)) refusal) }
 {
     match ahead.next_line(reader)? {
         Some(held) => Ok(held),
@@ -54,8 +54,8 @@ fn version_from<R: Source>(ahead: &mut Ahead, reader: &mut R) -> Result<Version,
 fn kind_from<R: Source>(ahead: &mut Ahead, reader: &mut R) -> Result<Kind, Refusal>
     ensures ok { IfOk result (λ kind. (v : Version) → GaveSaid (queue_due v) (queue kind)
         (stream ahead.old (R.state reader.old)) (stream ahead.new (R.state reader.new))) }
-    ensures err { IfErr result (λ why. (v : Version) → IsStopped 1 (queue_due v)
-        (stream ahead.old (R.state reader.old)) (stream ahead.new (R.state reader.new)) why) }
+    ensures err { IfErr result (λ refusal. (v : Version) → IsStopped 1 (queue_due v)
+        (stream ahead.old (R.state reader.old)) (stream ahead.new (R.state reader.new)) refusal) }
 {
     let held = held_line(ahead, reader, 1)?;
     let Some(line) = held.line() else {
@@ -81,8 +81,9 @@ fn number_from<R: Source>(
         → GaveSaid (number_due v bits field) (number field value)
         (stream ahead.old (R.state reader.old)) (stream ahead.new (R.state reader.new))) }
     ensures range { IfOk result (λ value. IsSaidInRange bits (number field value)) }
-    ensures err { IfErr result (λ why. (v : Version) → IsStopped before (number_due v bits field)
-        (stream ahead.old (R.state reader.old)) (stream ahead.new (R.state reader.new)) why) }
+    ensures err { IfErr result
+        (λ refusal. (v : Version) → IsStopped before (number_due v bits field)
+        (stream ahead.old (R.state reader.old)) (stream ahead.new (R.state reader.new)) refusal) }
 {
     let held = held_line(ahead, reader, before)?;
     let Some(line) = held.line() else {
@@ -152,9 +153,9 @@ fn held_event<R: Source>(
     ensures ok { IfOk result (λ event. (left : ℕ)
         → GaveSaid (events_left version left) (happens event)
         (stream ahead.old (R.state reader.old)) (stream ahead.new (R.state reader.new))) }
-    ensures err { IfErr result (λ why. (left : ℕ) → 0 < left
+    ensures err { IfErr result (λ refusal. (left : ℕ) → 0 < left
         → IsStopped before (events_left version left)
-        (stream ahead.old (R.state reader.old)) (stream ahead.new (R.state reader.new)) why) }
+        (stream ahead.old (R.state reader.old)) (stream ahead.new (R.state reader.new)) refusal) }
 {
     let held = held_line(ahead, reader, before)?;
     let Some(line) = held.line() else {
@@ -177,9 +178,9 @@ fn event_from<R: Source>(
     ensures ok { IfOk result (λ event. (left : ℕ)
         → GaveSaid (events_left version left) (happens event)
         (stream ahead.old (R.state reader.old)) (stream ahead.new (R.state reader.new))) }
-    ensures err { IfErr result (λ why. (left : ℕ) → 0 < left
+    ensures err { IfErr result (λ refusal. (left : ℕ) → 0 < left
         → IsStopped before (events_left version left)
-        (stream ahead.old (R.state reader.old)) (stream ahead.new (R.state reader.new)) why) }
+        (stream ahead.old (R.state reader.old)) (stream ahead.new (R.state reader.new)) refusal) }
 {
     let Some((line, _)) = ahead.whole_line() else {
         return held_event(ahead, reader, version, before);
@@ -198,8 +199,8 @@ fn end_from<R: Source>(ahead: &mut Ahead, reader: &mut R, before: u64) -> Result
     requires { before ≤ 1000007 }
     ensures ok { OnOk result (IsOver (stream ahead.old (R.state reader.old))
         (stream ahead.new (R.state reader.new))) }
-    ensures err { IfErr result (λ why. (v : Version) → IsStopped before (events_left v 0)
-        (stream ahead.old (R.state reader.old)) (stream ahead.new (R.state reader.new)) why) }
+    ensures err { IfErr result (λ refusal. (v : Version) → IsStopped before (events_left v 0)
+        (stream ahead.old (R.state reader.old)) (stream ahead.new (R.state reader.new)) refusal) }
 {
     if ahead.has_more(reader)? {
         Err(Refusal::Text(before + 1, TextCause::Extra))

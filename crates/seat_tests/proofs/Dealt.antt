@@ -13,4 +13,4 @@ use Rattle.seat_tests.specs.Owned.{IsOwn}
 pub own_if : {V E : Type 0} (out : Result V E) (items : V → List (OwnedSeat AnyQueue Seat)) (q : AnyQueue) (seats : List Seat)
     → IfOk out (λ v. All (λ s. queue_of s ≡ q) (items v)) → IfOk out (λ v. map seat_of (items v) ≡ seats) → All (IsAnySeat q) seats → IfOk out (λ v. All IsOwn (items v))
 own_if (Ok v) items q seats one e sit = all_own IsAnySeat q (items v) seats one e sit
-own_if (Err why) items q seats one e sit = tt
+own_if (Err refusal) items q seats one e sit = tt

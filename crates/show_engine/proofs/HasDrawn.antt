@@ -6,9 +6,9 @@ use Rattle.schedule_text.specs.declared.schedules.Event.{Event}
 use Rattle.schedule_text.specs.Schedules.{moves_of, moves_of_event}
 use Rattle.step_machine.specs.declared.actors.Move.{Move}
 use Rattle.step_machine.specs.Machine.{World, next}
-use Rattle.text_io.specs.Blocks.{Sends, TakesBeginning}
+use Rattle.text_io.specs.Blocks.{Sends, TakesPrefix}
 use Rattle.text_io.specs.Devices.{SinkState}
-use Rattle.text_io.proofs.Sends.{Sends-trans, TakesBeginning-longer, TakesBeginning-trans}
+use Rattle.text_io.proofs.Sends.{Sends-trans, TakesPrefix-longer, TakesPrefix-trans}
 use Rattle.run_engine.specs.Runs.{world_after}
 use Rattle.run_engine.proofs.Moves.{world_after_both, world_after_one}
 use Rattle.trace_engine.specs.Tracing.{Tells}
@@ -34,25 +34,25 @@ module _ (each : World → World → Move → List ℕ) (a b : SinkState) (text 
   -- some more were made and drawn
   pub HasDrawn-more : (c : SinkState) (w v : World) (held after : List ℕ) (left chunk rest : List Move) → HasDrawn each a b text start moves w held left → left ≡ chunk ++ rest → world_after chunk w ≡ Some v
       → Sends b.contents c.contents (held ++ moves_text each chunk w) after → c.failures ≡ b.failures → HasDrawn each a c text start moves v after rest
-  HasDrawn-more c w v held after left chunk rest t cut led sends quiet =
+  HasDrawn-more c w v held after left chunk rest t parts led sends quiet =
       let more = Sends-trans a.contents b.contents c.contents (text ++ moves_text each t.before start) held (moves_text each chunk w) after t.sends sends in
       let whole : (text ++ moves_text each t.before start) ++ moves_text each chunk w ≡ text ++ moves_text each (t.before ++ chunk) start =
       append_assoc text (moves_text each t.before start) (moves_text each chunk w) ∙ ap (λ (l : List ℕ). text ++ l) (sym (moves_text-append each t.before chunk start w t.led)) in
       record {
         before = t.before ++ chunk;
-        split = t.split ∙ ap (λ (l : List Move). t.before ++ l) cut ∙ sym (append_assoc t.before chunk rest);
+        split = t.split ∙ ap (λ (l : List Move). t.before ++ l) parts ∙ sym (append_assoc t.before chunk rest);
         led = world_after_both t.before chunk start w v t.led led;
         sends = subst (λ (l : List ℕ). Sends a.contents c.contents l after) whole more;
         quiet = quiet ∙ t.quiet;
       }
 
-  -- where the drawing of some stopped, a beginning of the whole was drawn
+  -- where the drawing of some stopped, a prefix of the whole was drawn
   pub HasDrawn-stopped : (c : SinkState) (w v : World) (held : List ℕ) (left chunk rest : List Move) → HasDrawn each a b text start moves w held left → left ≡ chunk ++ rest → world_after chunk w ≡ Some v
-      → TakesBeginning b.contents c.contents (held ++ moves_text each chunk w) → TakesBeginning a.contents c.contents (text ++ moves_text each moves start)
-  HasDrawn-stopped c w v held left chunk rest t cut led begun =
-      let some = TakesBeginning-trans a.contents b.contents c.contents (text ++ moves_text each t.before start) held (moves_text each chunk w) t.sends begun in
-      let longer = TakesBeginning-longer a.contents c.contents ((text ++ moves_text each t.before start) ++ moves_text each chunk w) (moves_text each rest v) some in
-      let here : moves_text each chunk w ++ moves_text each rest v ≡ moves_text each left w = sym (ap (λ (l : List Move). moves_text each l w) cut ∙ moves_text-append each chunk rest w v led) in
+      → TakesPrefix b.contents c.contents (held ++ moves_text each chunk w) → TakesPrefix a.contents c.contents (text ++ moves_text each moves start)
+  HasDrawn-stopped c w v held left chunk rest t parts led begun =
+      let some = TakesPrefix-trans a.contents b.contents c.contents (text ++ moves_text each t.before start) held (moves_text each chunk w) t.sends begun in
+      let longer = TakesPrefix-longer a.contents c.contents ((text ++ moves_text each t.before start) ++ moves_text each chunk w) (moves_text each rest v) some in
+      let here : moves_text each chunk w ++ moves_text each rest v ≡ moves_text each left w = sym (ap (λ (l : List Move). moves_text each l w) parts ∙ moves_text-append each chunk rest w v led) in
       let all : moves_text each t.before start ++ moves_text each left w ≡ moves_text each moves start =
       sym (ap (λ (l : List Move). moves_text each l start) t.split ∙ moves_text-append each t.before left start w t.led) in
       let whole : ((text ++ moves_text each t.before start) ++ moves_text each chunk w) ++ moves_text each rest v ≡ text ++ moves_text each moves start =
@@ -60,7 +60,7 @@ module _ (each : World → World → Move → List ℕ) (a b : SinkState) (text 
       ∙ ap (λ (l : List ℕ). (text ++ moves_text each t.before start) ++ l) here
       ∙ append_assoc text (moves_text each t.before start) (moves_text each left w)
       ∙ ap (λ (l : List ℕ). text ++ l) all in
-      subst (λ (l : List ℕ). TakesBeginning a.contents c.contents l) whole longer
+      subst (λ (l : List ℕ). TakesPrefix a.contents c.contents l) whole longer
 
 -- of copies of a move one more was made and drawn
 pub drawn_one : (each : World → World → Move → List ℕ) (a b c : SinkState) (text : List ℕ) (start : World) (m : Move) (count i : ℕ) (w v : World) (held after : List ℕ) → i < count
@@ -74,23 +74,23 @@ drawn_one each a b c text start m count i w v held after few drawn made sends qu
 -- the drawing of one of them stopped
 pub stopped_one : (each : World → World → Move → List ℕ) (a b c : SinkState) (text : List ℕ) (start : World) (m : Move) (count i : ℕ) (w : World) (held : List ℕ) → i < count
     → HasDrawn each a b text start (replicate count m) w held (replicate (count - i) m) → IsSome (world_after (replicate count m) start)
-    → TakesBeginning b.contents c.contents (held ++ moves_text each (m ∷ []) w) → TakesBeginning a.contents c.contents (text ++ moves_text each (replicate count m) start)
+    → TakesPrefix b.contents c.contents (held ++ moves_text each (m ∷ []) w) → TakesPrefix a.contents c.contents (text ++ moves_text each (replicate count m) start)
 stopped_one each a b c text start m count i w held few drawn can begun =
-    let cut = replicate-first count i m few in
+    let parts = replicate-first count i m few in
     let left = HasDrawn-can each a b text start (replicate count m) w held (replicate (count - i) m) drawn can in
-    let first = first_moves (m ∷ []) (replicate (count - (i + 1)) m) w (subst (λ (ms : List Move). IsSome (world_after ms w)) cut left) in
-    HasDrawn-stopped each a b text start (replicate count m) c w first.0 held (replicate (count - i) m) (m ∷ []) (replicate (count - (i + 1)) m) drawn cut first.1 begun
+    let first = first_moves (m ∷ []) (replicate (count - (i + 1)) m) w (subst (λ (ms : List Move). IsSome (world_after ms w)) parts left) in
+    HasDrawn-stopped each a b text start (replicate count m) c w first.0 held (replicate (count - i) m) (m ∷ []) (replicate (count - (i + 1)) m) drawn parts first.1 begun
 
 -- the moves of one event more, which are these
 module _ (each : World → World → Move → List ℕ) (a b c : SinkState) (text : List ℕ) (start : World) (events : List Event) (i : ℕ) (event : Event) (within : i < length events) (is : event ≡ get_or events i event) (w : World) (held : List ℕ)
     (chunk : List Move) (same : chunk ≡ moves_of_event event) (drawn : HasDrawn each a b text start (moves_of events) w held (moves_of (drop i events))) where
-  cut : moves_of (drop i events) ≡ chunk ++ moves_of (drop (i + 1) events)
-  cut = moves_of-drop events i event within is ∙ ap (λ (ms : List Move). ms ++ moves_of (drop (i + 1) events)) (sym same)
+  parts : moves_of (drop i events) ≡ chunk ++ moves_of (drop (i + 1) events)
+  parts = moves_of-drop events i event within is ∙ ap (λ (ms : List Move). ms ++ moves_of (drop (i + 1) events)) (sym same)
 
   first : IsSome (world_after (moves_of events) start) → (v : World) × (world_after chunk w ≡ Some v)
   first can =
       first_moves chunk (moves_of (drop (i + 1) events)) w
-      (subst (λ (ms : List Move). IsSome (world_after ms w)) cut (HasDrawn-can each a b text start (moves_of events) w held (moves_of (drop i events)) drawn can))
+      (subst (λ (ms : List Move). IsSome (world_after ms w)) parts (HasDrawn-can each a b text start (moves_of events) w held (moves_of (drop i events)) drawn can))
 
   -- they can be made
   pub can_event : IsSome (world_after (moves_of events) start) → IsSome (world_after chunk w)
@@ -100,13 +100,13 @@ module _ (each : World → World → Move → List ℕ) (a b c : SinkState) (tex
   pub drawn_event : (v : World) (after : List ℕ) → world_after chunk w ≡ Some v → Sends b.contents c.contents (held ++ moves_text each chunk w) after → c.failures ≡ b.failures
       → HasDrawn each a c text start (moves_of events) v after (moves_of (drop (i + 1) events))
   drawn_event v after led sends quiet =
-      HasDrawn-more each a b text start (moves_of events) c w v held after (moves_of (drop i events)) chunk (moves_of (drop (i + 1) events)) drawn cut led sends quiet
+      HasDrawn-more each a b text start (moves_of events) c w v held after (moves_of (drop i events)) chunk (moves_of (drop (i + 1) events)) drawn parts led sends quiet
 
   -- their drawing stopped
-  pub stopped_event : IsSome (world_after (moves_of events) start) → TakesBeginning b.contents c.contents (held ++ moves_text each chunk w)
-      → TakesBeginning a.contents c.contents (text ++ moves_text each (moves_of events) start)
+  pub stopped_event : IsSome (world_after (moves_of events) start) → TakesPrefix b.contents c.contents (held ++ moves_text each chunk w)
+      → TakesPrefix a.contents c.contents (text ++ moves_text each (moves_of events) start)
   stopped_event can begun =
-      HasDrawn-stopped each a b text start (moves_of events) c w (first can).0 held (moves_of (drop i events)) chunk (moves_of (drop (i + 1) events)) drawn cut (first can).1 begun
+      HasDrawn-stopped each a b text start (moves_of events) c w (first can).0 held (moves_of (drop i events)) chunk (moves_of (drop (i + 1) events)) drawn parts (first can).1 begun
 
 -- behind what was told of a text, more of it is told
 pub Tells-then : {A : Type 0} (a b c : SinkState) (text held more after : List ℕ) (result : Result A Refusal) → Sends a.contents b.contents text held → b.failures ≡ a.failures
@@ -114,20 +114,20 @@ pub Tells-then : {A : Type 0} (a b c : SinkState) (text held more after : List �
 Tells-then a b c text held more after (Ok done) sends quiet tells = record {
   ok = Sends-trans a.contents b.contents c.contents text held more after sends tells.ok;
   quiet = tells.quiet ∙ quiet;
-  beginning = tt;
+  prefix = tt;
   cause = tt;
 }
-Tells-then a b c text held more after (Err why) sends quiet tells = record {
+Tells-then a b c text held more after (Err refusal) sends quiet tells = record {
   ok = tt;
   quiet = tt;
-  beginning = TakesBeginning-trans a.contents b.contents c.contents text held more sends tells.beginning;
-  cause = StopsTelling-behind a b c why quiet tells.cause;
+  prefix = TakesPrefix-trans a.contents b.contents c.contents text held more sends tells.prefix;
+  cause = StopsTelling-behind a b c refusal quiet tells.cause;
 }
 
 -- where the telling of a text is refused, so is that of a longer one
-pub Tells-longer : {A B : Type 0} (a b : SinkState) (text held more after : List ℕ) (why : Refusal) → Tells {A = A} a b text held (Err why) → Tells {A = B} a b (text ++ more) after (Err why)
-Tells-longer a b text held more after why tells = record { ok = tt; quiet = tt; beginning = TakesBeginning-longer a.contents b.contents text more tells.beginning; cause = tells.cause }
+pub Tells-longer : {A B : Type 0} (a b : SinkState) (text held more after : List ℕ) (refusal : Refusal) → Tells {A = A} a b text held (Err refusal) → Tells {A = B} a b (text ++ more) after (Err refusal)
+Tells-longer a b text held more after refusal tells = record { ok = tt; quiet = tt; prefix = TakesPrefix-longer a.contents b.contents text more tells.prefix; cause = tells.cause }
 
 -- where a telling is refused, nothing is said of what is held back
-pub Tells-held : {A B : Type 0} (a b : SinkState) (text held after : List ℕ) (why : Refusal) → Tells {A = A} a b text held (Err why) → Tells {A = B} a b text after (Err why)
-Tells-held a b text held after why tells = record { ok = tt; quiet = tt; beginning = tells.beginning; cause = tells.cause }
+pub Tells-held : {A B : Type 0} (a b : SinkState) (text held after : List ℕ) (refusal : Refusal) → Tells {A = A} a b text held (Err refusal) → Tells {A = B} a b text after (Err refusal)
+Tells-held a b text held after refusal tells = record { ok = tt; quiet = tt; prefix = tells.prefix; cause = tells.cause }

@@ -1,6 +1,6 @@
 mod Texts
 mod HasDrawn
-mod Cuts
+mod Truncations
 mod Lookups
 mod Shown
 mod Links

@@ -3,7 +3,7 @@ use Rattle.std.proofs.Common.{◌≡◌, ℕ, Bool, [], None, sym, ap, subst, �
 use Rattle.engine_faults.specs.declared.faults.Fault.{Fault}
 use Rattle.history.specs.declared.refusals.Refusal.{Refusal}
 use Rattle.history.specs.declared.refusals.Refusal.TheVariants.{Write}
-use Rattle.text_io.specs.Blocks.{GivesUp, Sends, TakesBeginning}
+use Rattle.text_io.specs.Blocks.{GivesUp, Sends, TakesPrefix}
 use Rattle.text_io.specs.Devices.{SinkState}
 use Rattle.text_io.proofs.Sends.{Appends-Sends}
 use Rattle.schedule_text.specs.Schedules.{Schedule}
@@ -32,10 +32,10 @@ module _ (view : View) (s : Schedule) (frame : Frame) (counted : Counted) (is : 
   pub has_shown : (a b : SinkState) → Sends a.contents b.contents (framed_text frame (is_among counted.effects.items) counted.steps bits s) [] → HasShown view s a b
   has_shown a b sends = (framed_text frame (is_among counted.effects.items) counted.steps bits s, is_picture, Appends-Sends a.contents b.contents _ sends)
 
-  -- a beginning of it was
-  pub has_begun : (a b : SinkState) → TakesBeginning a.contents b.contents (framed_text frame (is_among counted.effects.items) counted.steps bits s) → HasBegun view s a b
+  -- a prefix of it was
+  pub has_begun : (a b : SinkState) → TakesPrefix a.contents b.contents (framed_text frame (is_among counted.effects.items) counted.steps bits s) → HasBegun view s a b
   has_begun a b begun = (framed_text frame (is_among counted.effects.items) counted.steps bits s, is_picture, begun)
 
 -- what is refused by `Write`, as a fault, stopped a telling where the writer gave up
-pub gave_up : (why : Refusal) (fault : Fault) (a b : SinkState) → fault ≡ record { refusal = why; line = None } → fault.refusal ≡ Write → StopsTelling why a b → GivesUp a b
-gave_up why fault a b is write stops = subst (λ (r : Refusal). StopsTelling r a b) (sym (ap (λ (f : Fault). f.refusal) is) ∙ write) stops
+pub gave_up : (refusal : Refusal) (fault : Fault) (a b : SinkState) → fault ≡ record { refusal = refusal; line = None } → fault.refusal ≡ Write → StopsTelling refusal a b → GivesUp a b
+gave_up refusal fault a b is write stops = subst (λ (r : Refusal). StopsTelling r a b) (sym (ap (λ (f : Fault). f.refusal) is) ∙ write) stops

@@ -4,14 +4,14 @@ use Rattle.history.specs.declared.operations.Stamped.{Stamped}
 use Rattle.history.specs.declared.refusals.Refusal.{Refusal}
 use Rattle.history.specs.declared.refusals.Refusal.TheVariants.{Write}
 use Rattle.check_engine.specs.Checks.{IsTextOf}
-use Rattle.text_io.specs.Blocks.{TakesBeginning}
+use Rattle.text_io.specs.Blocks.{TakesPrefix}
 use Rattle.text_io.specs.Devices.{SinkState}
 use Rattle.show_engine.specs.declared.framing.View.{View}
 use Rattle.show_engine.specs.Timelines.{timeline_text}
 use Rattle.show_engine.specs.Telling.{BeginsTimeline}
 
--- where writing fails, a beginning of the timeline of what was read was written
+-- where writing fails, a prefix of the timeline of what was read was written
 pub begins_timeline : {A : Type 0} (view : View) (given : Option (List ℕ)) (ops : List Stamped) (a b : SinkState) (result : Result A Refusal) → IsTextOf given ops
-    → OnErr result (TakesBeginning a.contents b.contents (timeline_text view ops)) → IfErr result (λ why. why ≡ Write → BeginsTimeline view given a b)
+    → OnErr result (TakesPrefix a.contents b.contents (timeline_text view ops)) → IfErr result (λ refusal. refusal ≡ Write → BeginsTimeline view given a b)
 begins_timeline view given ops a b (Ok done) read begun = tt
-begins_timeline view given ops a b (Err why) read begun = λ write. record { operations = ops; read = read; begun = begun }
+begins_timeline view given ops a b (Err refusal) read begun = λ write. record { operations = ops; read = read; begun = begun }

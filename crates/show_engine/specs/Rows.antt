@@ -1,4 +1,4 @@
--- The rows of a picture: pieces of text at their columns, cut where a row is too long.
+-- The rows of a picture: pieces of text at their columns, truncated where a row is too long.
 use Rattle.std.specs.Prelude.{ℕ, zero, suc, ◌+◌, ◌-◌, List, ◌++◌, length, take, replicate, codes, decimal, nat_eq, nat_le, min, if◌then◌else◌}
 use Rattle.schedule_text.specs.Schedules.{Schedule}
 use Rattle.schedule_text.specs.Texts.{kind_name}
@@ -9,9 +9,9 @@ use Rattle.show_engine.specs.Frames.{column_of}
 abbrev pub padded : (column : ℕ) → List ℕ → List ℕ
 padded column text = text ++ replicate (column - length text) 32
 
--- a row of at most so many columns: a longer one is cut, and ends in ~
-abbrev pub cut_to : (width : ℕ) → List ℕ → List ℕ
-cut_to width text = if nat_le (length text) width then text else take (width - 1) text ++ codes "~"
+-- a row of at most so many columns: a longer one is truncated, and ends in ~
+abbrev pub truncated_to : (width : ℕ) → List ℕ → List ℕ
+truncated_to width text = if nat_le (length text) width then text else take (width - 1) text ++ codes "~"
 
 -- a row, and beside it at a column what stands there, if anything does
 abbrev pub beside : (column : ℕ) → (side row : List ℕ) → List ℕ
@@ -23,7 +23,7 @@ number_text n = replicate (6 - length (decimal n)) 32 ++ decimal n ++ codes " "
 
 -- a row: what it begins with, an actor's text at the actor's column, and the chains beside it
 unfoldable pub row_text : Frame → (me : ℕ) → (start cell side : List ℕ) → List ℕ
-row_text f me start cell side = cut_to f.width (beside f.side side (padded (column_of f me) start ++ cell)) ++ codes "\n"
+row_text f me start cell side = truncated_to f.width (beside f.side side (padded (column_of f me) start ++ cell)) ++ codes "\n"
 
 -- the numbers of so many actors, each at its column
 abbrev pub names_text : Frame → (count : ℕ) → List ℕ
@@ -32,7 +32,7 @@ names_text f (suc n) = padded (column_of f (f.first + n) + 1) (names_text f n) +
 
 -- the row above the others: which actor stands in which column
 unfoldable pub names_row : Frame → List ℕ
-names_row f = cut_to f.width (names_text f f.count) ++ codes "\n"
+names_row f = truncated_to f.width (names_text f f.count) ++ codes "\n"
 
 -- the first line: the queue with its sizes, and the actors
 unfoldable pub queue_text : Schedule → List ℕ

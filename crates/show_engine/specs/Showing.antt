@@ -7,7 +7,7 @@ use Rattle.history.specs.declared.operations.Stamped.{Stamped}
 use Rattle.run_engine.specs.Runs.{EventsLead, opening_of}
 use Rattle.schedule_text.specs.Schedules.{Schedule}
 use Rattle.step_machine.specs.Machine.{World}
-use Rattle.text_io.specs.Blocks.{TakesBeginning}
+use Rattle.text_io.specs.Blocks.{TakesPrefix}
 use Rattle.text_io.specs.Devices.{SinkState}
 use Rattle.trace_engine.specs.Tracing.{OfSchedule}
 use Rattle.show_engine.specs.declared.counting.Counted.{Counted}
@@ -40,14 +40,14 @@ pub record IsPictureOf (view : View) (s : Schedule) (text : List ℕ) : Type 0 w
 abbrev pub HasShown : View → Schedule → (old new : SinkState) → Type 0
 HasShown view s old new = (text : List ℕ) × IsPictureOf view s text × Appends old.contents new.contents text
 
--- a beginning of the picture of a schedule was written
+-- a prefix of the picture of a schedule was written
 abbrev pub HasBegun : View → Schedule → (old new : SinkState) → Type 0
-HasBegun view s old new = (text : List ℕ) × IsPictureOf view s text × TakesBeginning old.contents new.contents text
+HasBegun view s old new = (text : List ℕ) × IsPictureOf view s text × TakesPrefix old.contents new.contents text
 
 -- known bytes were the text of a schedule, and its picture was written
 abbrev pub WritesPicture : View → (given : Option (List ℕ)) → (old new : SinkState) → Type 0
 WritesPicture view given old new = OfSchedule given (λ s. HasShown view s old new)
 
--- known bytes were the text of a schedule, and a beginning of its picture was written
+-- known bytes were the text of a schedule, and a prefix of its picture was written
 abbrev pub BeginsPicture : View → (given : Option (List ℕ)) → (old new : SinkState) → Type 0
 BeginsPicture view given old new = OfSchedule given (λ s. HasBegun view s old new)

@@ -1,10 +1,10 @@
 //! The rows of a timeline.
 ghost use Rattle.std.specs.Prelude.{◌≡◌, ◌+◌, ◌≤◌, ◌<◌, ◌++◌, codes, count_by, length};
-ghost use Rattle.show_engine.specs.Rows.{cut_to, number_text};
+ghost use Rattle.show_engine.specs.Rows.{truncated_to, number_text};
 ghost use Rattle.show_engine.specs.Scales.{IsFitting, is_shown};
 ghost use Rattle.show_engine.specs.Timelines.{bar_text, end_column, end_mark, is_point, mark_in, row_text, shown_row, span_text};
 
-use crate::rows::{cut, number_start, push_number};
+use crate::rows::{number_start, push_number, truncate};
 use crate::scales::Scale;
 use history::Stamped;
 use history_text::{push_call, push_reply};
@@ -84,7 +84,7 @@ fn row_line(scale: Scale, operation: &Stamped) -> Line
     push_call(&mut line, operation.op);
     line.push(b" -> ");
     push_reply(&mut line, operation.reply);
-    cut(line, scale.width)
+    truncate(line, scale.width)
 }
 
 /// The row of an operation, where it is shown, and else nothing.

@@ -11,7 +11,7 @@ use std::alloc::Global;
 /// The numbers at which operations take effect, in the order of the operations.
 fn points_of(alloc: Global, operations: &[Stamped]) -> Result<Vec<u64>, Refusal>
     ensures ok { IfOk result (λ points. points.items ≡ points_of operations.now) }
-    ensures memory { IfErr result (λ why. why ≡ Memory) }
+    ensures memory { IfErr result (λ refusal. refusal ≡ Memory) }
 {
     let mut points = Vec::new(alloc);
     for operation in operations {
@@ -27,7 +27,7 @@ fn points_of(alloc: Global, operations: &[Stamped]) -> Result<Vec<u64>, Refusal>
 /// The numbers at which operations take effect, by rising number.
 pub(crate) fn effects_of(alloc: Global, operations: &[Stamped]) -> Result<Vec<u64>, Refusal>
     ensures ok { IfOk result (λ effects. AreEffects operations.now effects.items) }
-    ensures memory { IfErr result (λ why. why ≡ Memory) }
+    ensures memory { IfErr result (λ refusal. refusal ≡ Memory) }
 {
     let mut points = points_of(alloc, operations)?;
     points.sort_unstable();

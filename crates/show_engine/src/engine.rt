@@ -101,12 +101,12 @@ pub fn show_text<R: Source, W: Sink>(
     ensures ok { OnOk result (WritesPicture view (R.state reader.old).left (W.state writer.old)
         (W.state writer.new)) }
     ensures quiet { OnOk result ((W.state writer.new).failures ≡ (W.state writer.old).failures) }
-    //= program/prefix (beginning, write, memory, none_failed, unwritten)
-    ensures beginning { IfErr result (λ fault. fault.refusal ≡ Refusal.Write
+    //= program/prefix (prefix, write, memory, none_failed, unwritten)
+    ensures prefix { IfErr result (λ fault. fault.refusal ≡ Refusal.Write
         → BeginsPicture view (R.state reader.old).left (W.state writer.old) (W.state writer.new)) }
     ensures write { IfErr result (λ fault. fault.refusal ≡ Refusal.Write
         → GivesUp (W.state writer.old) (W.state writer.new)) }
-    // Where memory is refused, nothing or a beginning of it is, and no call of the writer failed.
+    // Where memory is refused, nothing or a prefix of it is, and no call of the writer failed.
     ensures memory { IfErr result (λ fault. fault.refusal ≡ Refusal.Memory → (writer.new ≡ writer.old)
         ⊎ BeginsPicture view (R.state reader.old).left (W.state writer.old) (W.state writer.new)) }
     ensures none_failed { IfErr result (λ fault. fault.refusal ≡ Refusal.Memory

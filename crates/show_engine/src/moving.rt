@@ -135,7 +135,7 @@ fn shown_move<const B: u32>(
     ensures steps { OnOk result (world.new.steps ≤ world.old.steps + 1) }
     ensures text { IfOk result (λ line. line
         ≡ told_row frame (is_among effects.now) B world.old world.new one (move_answer world.old one)) }
-    ensures memory { IfErr result (λ why. why ≡ Memory) }
+    ensures memory { IfErr result (λ refusal. refusal ≡ Memory) }
 {
     match one {
         Move::Begin(actor, op) => {
@@ -154,7 +154,7 @@ fn hidden_move<const B: u32>(world: &mut WorldOf<B>, one: Move) -> Result<(), Re
     requires left { world.old.steps + 1 < 2 ^ 64 }
     ensures ok { OnOk result (next world.old one ≡ Some world.new) }
     ensures steps { OnOk result (world.new.steps ≤ world.old.steps + 1) }
-    ensures memory { IfErr result (λ why. why ≡ Memory) }
+    ensures memory { IfErr result (λ refusal. refusal ≡ Memory) }
 {
     match one {
         Move::Begin(actor, op) => world.begin(actor, op),
@@ -184,7 +184,7 @@ pub(crate) fn draw_move<const B: u32>(
     ensures steps { OnOk result (world.new.steps ≤ world.old.steps + 1) }
     ensures text { IfOk result (λ line. line
         ≡ drawn_text frame (is_among effects.now) B world.old world.new one) }
-    ensures memory { IfErr result (λ why. why ≡ Memory) }
+    ensures memory { IfErr result (λ refusal. refusal ≡ Memory) }
 {
     if frame.shows(world.steps() + 1, mover(&one)) {
         return shown_move(world, frame, effects, one);

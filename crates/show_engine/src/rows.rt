@@ -2,7 +2,7 @@
 ghost use Rattle.std.specs.Prelude.{◌≡◌, ◌+◌, ◌-◌, ◌≤◌, ◌<◌, ◌++◌, List, ℕ, codes, length, decimal, replicate, take};
 ghost use Rattle.schedule_text.specs.Texts.{IsInRange};
 ghost use Rattle.show_engine.specs.Frames.{IsFitting};
-ghost use Rattle.show_engine.specs.Rows.{cut_to, names_row, number_text, padded, queue_text, row_text, shown_text};
+ghost use Rattle.show_engine.specs.Rows.{truncated_to, names_row, number_text, padded, queue_text, row_text, shown_text};
 
 use crate::framing::Frame;
 use schedule_text::{Schedule, name_of_kind};
@@ -32,12 +32,12 @@ fn push_spaces(line: &mut Line, count: usize)
 }
 
 /// Ends a row, of which a line has the whole, or as many columns as are shown and one more.
-pub(crate) fn cut(line: Line, width: usize) -> Line
+pub(crate) fn truncate(line: Line, width: usize) -> Line
     requires some { 1 ≤ width }
     requires room { width + 2 ≤ LINE_ROOM }
-    ensures line { result ≡ cut_to width line ++ codes "\n" }
+    ensures line { result ≡ truncated_to width line ++ codes "\n" }
     ensures front { (whole : List ℕ) → line ≡ take (width + 1) whole
-        → result ≡ cut_to width whole ++ codes "\n" }
+        → result ≡ truncated_to width whole ++ codes "\n" }
 {
     let mut row = Line::new();
     if line.as_slice().len() <= width {
@@ -77,10 +77,10 @@ pub(crate) fn row(frame: Frame, actor: u16, start: &[u8], cell: &[u8], side: &[u
     put_at(&mut line, room, 0, start);
     put_at(&mut line, room, frame.column_of(u64::from(actor)), cell);
     if side.is_empty() {
-        return cut(line, frame.width);
+        return truncate(line, frame.width);
     }
     put_at(&mut line, room, frame.side, side);
-    cut(line, frame.width)
+    truncate(line, frame.width)
 }
 
 /// The row above the others.
@@ -99,7 +99,7 @@ pub(crate) fn names_line(frame: Frame) -> Line
         let column = frame.column_of(actor) + 1;
         put_at(&mut line, room, column, digits.as_slice());
     }
-    cut(line, frame.width)
+    truncate(line, frame.width)
 }
 
 /// The first line of a picture.

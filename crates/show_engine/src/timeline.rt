@@ -49,20 +49,21 @@ pub fn show_history<R: Source, W: Sink>(
     writer: &mut W,
     view: View,
 ) -> Result<(), Refusal>
-    //= program/timeline (ok, quiet, text, beginning, write, unwritten, refusal, reader): The timeline of the history
+    //= program/timeline (ok, quiet, text, prefix, write, unwritten, refusal, reader): The timeline of the history
     //=   read is written, with the operations shown in their order. The usual refusals.
     ensures ok { OnOk result (WritesTimeline view (R.state reader.old).left (W.state writer.old)
         (W.state writer.new)) }
     ensures quiet { OnOk result ((W.state writer.new).failures ≡ (W.state writer.old).failures) }
     // A text is refused by its first faulty line.
     ensures text { IfErr result (TellsFirstFault (R.state reader.old).left) }
-    // Where writing fails, a beginning of that text is written.
-    ensures beginning { IfErr result (λ why. why ≡ Refusal.Write
+    // Where writing fails, a prefix of that text is written.
+    ensures prefix { IfErr result (λ refusal. refusal ≡ Refusal.Write
         → BeginsTimeline view (R.state reader.old).left (W.state writer.old) (W.state writer.new)) }
-    ensures write { IfErr result (λ why. why ≡ Refusal.Write
+    ensures write { IfErr result (λ refusal. refusal ≡ Refusal.Write
         → GivesUp (W.state writer.old) (W.state writer.new)) }
     // At any other refusal nothing is.
-    ensures unwritten { IfErr result (λ why. why ≢ Refusal.Write → writer.new ≡ writer.old) }
+    ensures unwritten { IfErr result
+        (λ refusal. refusal ≢ Refusal.Write → writer.new ≡ writer.old) }
     ensures refusal { IfErr result IsRunRefusal }
     ensures reader { EndsReadingFor result (R.state reader.old) (R.state reader.new) }
 {

@@ -18,19 +18,19 @@ use Rattle.step_machine.proofs.Assertions.{IsOwnOf}
 use Rattle.step_machine.proofs.EitherQueue.{fixed_at}
 
 -- why a step refuses; `Own` is why a queue finds another word than Free worn out
-abbrev pub Why : (WornWord → Type 0) → World → Refusal → Type 0
-Why Own w NoNode = (w.shared.fresh ≡ w.setup.size) × (w.shared.free.node ≡ 0)
-Why Own w (WornOut OfFree) = w.shared.free.count ≡ w.setup.limit
-Why Own w (WornOut what) = Own what
-Why Own w Closed = IsShut w
-Why Own w _ = ⊥
+abbrev pub CauseOf : (WornWord → Type 0) → World → Refusal → Type 0
+CauseOf Own w NoNode = (w.shared.fresh ≡ w.setup.size) × (w.shared.free.node ≡ 0)
+CauseOf Own w (WornOut OfFree) = w.shared.free.count ≡ w.setup.limit
+CauseOf Own w (WornOut what) = Own what
+CauseOf Own w Closed = IsShut w
+CauseOf Own w _ = ⊥
 
-abbrev pub WhyReply : (WornWord → Type 0) → World → Option Reply → Type 0
-WhyReply Own w (Some (Refused why)) = Why Own w why
-WhyReply Own w _ = Unit {0}
+abbrev pub CauseOfReply : (WornWord → Type 0) → World → Option Reply → Type 0
+CauseOfReply Own w (Some (Refused refusal)) = CauseOf Own w refusal
+CauseOfReply Own w _ = Unit {0}
 
 pub record Caused (Own : WornWord → Type 0) (w : World) (o : Outcome) : Type 0 where
-  pub cause : WhyReply Own w o.reply
+  pub cause : CauseOfReply Own w o.reply
 
 with_node_caused : (Own : WornWord → Type 0) (w : World) (kind : Kind) (a : Actor) → Caused Own w (goes (with_node kind) a)
 with_node_caused Own w kind a = record { cause = tt }
@@ -40,7 +40,7 @@ freed_caused Own w kind now None a h = record { cause = tt }
 freed_caused Own w kind now (Some (Value v)) a h = record { cause = tt }
 freed_caused Own w kind now _ a h = absurd h
 
-no_node : (Own : WornWord → Type 0) (w : World) (a : Actor) → WorldInRange w → a.f ≤ w.shared.fresh → is_null w.shared.free ≡ true → nat_lt a.f w.setup.size ≡ false → Why Own w NoNode
+no_node : (Own : WornWord → Type 0) (w : World) (a : Actor) → WorldInRange w → a.f ≤ w.shared.fresh → is_null w.shared.free ≡ true → nat_lt a.f w.setup.size ≡ false → CauseOf Own w NoNode
 no_node Own w a g low null none =
     let up : w.shared.fresh ≤ w.setup.size = g.shared.fresh in
     let most : w.setup.size ≤ a.f = ltb-false a.f w.setup.size none in

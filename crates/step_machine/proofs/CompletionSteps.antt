@@ -132,11 +132,11 @@ unlocking None at h e n = absurd e
 unlocking (Some Done) at h e n = absurd e
 unlocking (Some (Value v)) at h e n = cc
 unlocking (Some Empty) at h e n = h.0
-unlocking (Some (Refused why)) at h e n = h
+unlocking (Some (Refused refusal)) at h e n = h
 
 leaving : (due : Option Reply) (at : Option ℕ) → PointLeft due at → DecidedLeaving due → decided_reply due ≡ None → at ≡ None
 leaving (Some Done) at h e n = cc
-leaving (Some (Refused why)) at h e n = h
+leaving (Some (Refused refusal)) at h e n = h
 leaving _ at h e n = absurd e
 
 unplaced_at : (l : Line) (due : Option Reply) (at : Option ℕ) → PointAt l due at (Unit {0}) → DecidedAt l due → decided_reply due ≡ None → at ≡ None

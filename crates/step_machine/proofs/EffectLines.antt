@@ -15,7 +15,7 @@ ends_quiet : (now : ℕ) (reply : Reply) (a : Actor) → Quiet (ends now reply a
 ends_quiet now Done a = inl refl
 ends_quiet now (Value v) a = inl refl
 ends_quiet now Empty a = inr (λ h. h)
-ends_quiet now (Refused why) a = inr (λ h. h)
+ends_quiet now (Refused refusal) a = inr (λ h. h)
 
 freed_quiet : (k : Kind) (now : ℕ) (due : Option Reply) (a : Actor) → Quiet (freed k now due a)
 freed_quiet TwoLock now None a = inl refl
@@ -27,15 +27,15 @@ aside_quiet o h = h
 
 unlocked_quiet : (now : ℕ) (due : Option Reply) (a : Actor) → Quiet (unlocked now due a)
 unlocked_quiet now (Some Empty) a = inr (λ h. h)
-unlocked_quiet now (Some (Refused why)) a = inr (λ h. h)
+unlocked_quiet now (Some (Refused refusal)) a = inr (λ h. h)
 unlocked_quiet now _ a = inl refl
 
 left_quiet : (now : ℕ) (due : Option Reply) (a : Actor) → Quiet (left now due a)
-left_quiet now (Some (Refused why)) a = inr (λ h. h)
+left_quiet now (Some (Refused refusal)) a = inr (λ h. h)
 left_quiet now _ a = inl refl
 
 left_with_node_quiet : (now : ℕ) (due : Option Reply) (a : Actor) → Quiet (left_with_node now due a)
-left_with_node_quiet now (Some (Refused why)) a = inr (λ h. h)
+left_with_node_quiet now (Some (Refused refusal)) a = inr (λ h. h)
 left_with_node_quiet now _ a = inl refl
 
 -- an outcome gives a place by an effect exactly where there is one, and then its own number

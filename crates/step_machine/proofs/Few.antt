@@ -60,7 +60,7 @@ pops_are_values (o ∷ os) = go o.op o.reply (pops_are_values os)
     go Shut (Some Done) e = e
     go op (Some (Value v)) e = ap (λ n. 1 + n) e
     go op (Some Empty) e = e
-    go op (Some (Refused why)) e = e
+    go op (Some (Refused refusal)) e = e
 
 swapped : (a b : Bool) (n m : ℕ) → m ≡ one_more a n → one_more b m ≡ one_more a (one_more b n)
 swapped true true n m e = ap (λ k. 1 + k) e

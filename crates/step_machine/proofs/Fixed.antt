@@ -13,7 +13,7 @@ frees_after _ = false
 
 -- whether an enqueue that lets the tail lock go has its node still
 abbrev pub keeps_after : Option Reply → Bool
-keeps_after (Some (Refused why)) = true
+keeps_after (Some (Refused refusal)) = true
 keeps_after _ = false
 
 -- whether a node is in the hand before a line, by what the call has earned
@@ -75,12 +75,12 @@ DecidedUnlocking None = ⊥
 DecidedUnlocking (Some Done) = ⊥
 DecidedUnlocking (Some (Value v)) = Unit {0}
 DecidedUnlocking (Some Empty) = Unit {0}
-DecidedUnlocking (Some (Refused why)) = (why ≡ WornOut OfHead) ⊎ (why ≡ Closed)
+DecidedUnlocking (Some (Refused refusal)) = (refusal ≡ WornOut OfHead) ⊎ (refusal ≡ Closed)
 
 -- what a call has earned that lets the tail lock go: done, or that the queue is shut
 abbrev pub DecidedLeaving : Option Reply → Type 0
 DecidedLeaving (Some Done) = Unit {0}
-DecidedLeaving (Some (Refused why)) = why ≡ Closed
+DecidedLeaving (Some (Refused refusal)) = refusal ≡ Closed
 DecidedLeaving _ = ⊥
 
 -- what a call has earned before a line
@@ -158,14 +158,14 @@ module _ (limit me : ℕ) where
       record { fixed = record { pocket = p; hand = h; call = c; earned = subst (λ x. DecidedFreeing x) (sym d) tt; room = tt } }
   unlocked_fixed now (Some Done) a d p h c e = absurd e
   unlocked_fixed now (Some Empty) a d p h c e = record { fixed = h }
-  unlocked_fixed now (Some (Refused why)) a d p h c e = record { fixed = h }
+  unlocked_fixed now (Some (Refused refusal)) a d p h c e = record { fixed = h }
 
   left_fixed : (now : ℕ) (due : Option Reply) (a : Actor) → a.holds ≡ false → Fixes limit me (left now due a)
-  left_fixed now (Some (Refused why)) a h = record { fixed = h }
+  left_fixed now (Some (Refused refusal)) a h = record { fixed = h }
   left_fixed now _ a h = record { fixed = h }
 
   left_with_node_fixed : (now : ℕ) (due : Option Reply) (a : Actor) → a.holds ≡ keeps_after due → Fixes limit me (left_with_node now due a)
-  left_with_node_fixed now (Some (Refused why)) a h = record { fixed = refl }
+  left_with_node_fixed now (Some (Refused refusal)) a h = record { fixed = refl }
   left_with_node_fixed now None a h = record { fixed = h }
   left_with_node_fixed now (Some Done) a h = record { fixed = h }
   left_with_node_fixed now (Some (Value v)) a h = record { fixed = h }

@@ -25,11 +25,11 @@ unlocked_settles n now (Some Done) a = record { looks = omega arith; leaves = tt
 unlocked_settles n now _ a = record { looks = omega arith; leaves = tt }
 
 left_settles : (n now : ℕ) (due : Option Reply) (a : Actor) → Settles 0 n (left now due a)
-left_settles n now (Some (Refused why)) a = record { looks = omega arith; leaves = tt }
+left_settles n now (Some (Refused refusal)) a = record { looks = omega arith; leaves = tt }
 left_settles n now _ a = record { looks = omega arith; leaves = tt }
 
 left_with_node_settles : (n now : ℕ) (due : Option Reply) (a : Actor) → Settles 0 n (left_with_node now due a)
-left_with_node_settles n now (Some (Refused why)) a = record { looks = omega arith; leaves = tt }
+left_with_node_settles n now (Some (Refused refusal)) a = record { looks = omega arith; leaves = tt }
 left_with_node_settles n now _ a = record { looks = omega arith; leaves = tt }
 
 with_node_settles : (n : ℕ) (k : Kind) (a : Actor) → Settles 0 n (goes (with_node k) a)

@@ -181,9 +181,9 @@ module _ (w : World) (me : ℕ) (a : Actor) (m' : Shared) (o : Outcome) (h : ℕ
   -- a step, by what it means for the queue
   pub after_step : (queue' : List ℕ) → LinearizationStep w.setup.bits (WasEmpty w) me (w.steps + 1) w.shared m' (h ∷ rest) queue' a o → AfterStep w after queue'
   after_step queue' (stutters same count flag none keeps) = after_quiet queue' (kept_queue queue' same flag) count (unchanged w after me a o b none keeps)
-  after_step queue' (refused why same count flag at with_outcome ok none) =
-      after_now queue' (entered me a.op (Some (w.steps + 1)) (Some (Refused why))) refl
-      (entered_at w after me a o (w.steps + 1) (Some (Refused why)) b at none (ap (λ r. completed_reply r (Some (w.steps + 1)) o.actor.due) with_outcome))
+  after_step queue' (refused refusal same count flag at with_outcome ok none) =
+      after_now queue' (entered me a.op (Some (w.steps + 1)) (Some (Refused refusal))) refl
+      (entered_at w after me a o (w.steps + 1) (Some (Refused refusal)) b at none (ap (λ r. completed_reply r (Some (w.steps + 1)) o.actor.due) with_outcome))
       (inl ok) (kept_queue queue' same flag) (omega (arith, count))
   after_step queue' (closed same count flag at with_outcome is_shut no_values none) =
       after_now queue' (entered me a.op (Some (w.steps + 1)) (Some (Refused Closed))) refl
@@ -225,11 +225,11 @@ module _ (w : World) (me : ℕ) (a : Actor) (m' : Shared) (o : Outcome) (h : ℕ
   gained_is n reply at with_outcome = ap (λ p. gained_at me a.op p o.reply o.actor.due) at ∙ ap (entry_with me a.op) with_outcome
 
   -- a refusal adds none
-  gains_refusal : (why : Refusal) → o.at ≡ Some (w.steps + 1) → o.reply ≡ Some (Refused why) → decided_reply a.due ≡ None → Gains w after me a o
-  gains_refusal why at with_outcome none =
-      let is : completed_reply o.reply (Some (w.steps + 1)) o.actor.due ≡ Some (Refused why) = ap (λ r. completed_reply r (Some (w.steps + 1)) o.actor.due) with_outcome in
-      gains_no_entry (entered me a.op (Some (w.steps + 1)) (Some (Refused why))) (entered_at w after me a o (w.steps + 1) (Some (Refused why)) b at none is) refl
-      (gained_is (w.steps + 1) (Some (Refused why)) at is)
+  gains_refusal : (refusal : Refusal) → o.at ≡ Some (w.steps + 1) → o.reply ≡ Some (Refused refusal) → decided_reply a.due ≡ None → Gains w after me a o
+  gains_refusal refusal at with_outcome none =
+      let is : completed_reply o.reply (Some (w.steps + 1)) o.actor.due ≡ Some (Refused refusal) = ap (λ r. completed_reply r (Some (w.steps + 1)) o.actor.due) with_outcome in
+      gains_no_entry (entered me a.op (Some (w.steps + 1)) (Some (Refused refusal))) (entered_at w after me a o (w.steps + 1) (Some (Refused refusal)) b at none is) refl
+      (gained_is (w.steps + 1) (Some (Refused refusal)) at is)
 
   -- a step that adds no entry leads nowhere else
   plays_nothing : (queue' : List ℕ) → was ≡ queue_in w.setup.bits m' queue' → gained me a.op o ≡ [] → Plays was (gained me a.op o) (queue_in w.setup.bits m' queue')
@@ -240,7 +240,7 @@ module _ (w : World) (me : ℕ) (a : Actor) (m' : Shared) (o : Outcome) (h : ℕ
   after_gains queue' (stutters same count flag none keeps) =
       gains_nothing (ap (flat_map entry_of) (let u : Unchanged (bare_completion w) (bare_completion after) = unchanged w after me a o b none keeps in u.rises))
       (ap (λ p. gained_at me a.op p o.reply o.actor.due) none)
-  after_gains queue' (refused why same count flag at with_outcome ok none) = gains_refusal why at with_outcome none
+  after_gains queue' (refused refusal same count flag at with_outcome ok none) = gains_refusal refusal at with_outcome none
   after_gains queue' (closed same count flag at with_outcome is_shut no_values none) = gains_refusal Closed at with_outcome none
   after_gains queue' (found_empty same count flag at with_outcome op none was_empty) =
       let is : completed_reply o.reply (Some a.empty_at) o.actor.due ≡ Some Empty = ap (λ r. completed_reply r (Some a.empty_at) o.actor.due) with_outcome in
@@ -258,8 +258,8 @@ module _ (w : World) (me : ℕ) (a : Actor) (m' : Shared) (o : Outcome) (h : ℕ
   -- which lead to the queue in the chain
   outcome_plays : (queue' : List ℕ) → LinearizationStep w.setup.bits (WasEmpty w) me (w.steps + 1) w.shared m' (h ∷ rest) queue' a o → Plays was (gained me a.op o) (queue_in w.setup.bits m' queue')
   outcome_plays queue' (stutters same count flag none keeps) = plays_nothing queue' (kept_queue queue' same flag) (ap (λ p. gained_at me a.op p o.reply o.actor.due) none)
-  outcome_plays queue' (refused why same count flag at with_outcome ok none) =
-      plays_nothing queue' (kept_queue queue' same flag) (gained_is (w.steps + 1) (Some (Refused why)) at (ap (λ r. completed_reply r (Some (w.steps + 1)) o.actor.due) with_outcome))
+  outcome_plays queue' (refused refusal same count flag at with_outcome ok none) =
+      plays_nothing queue' (kept_queue queue' same flag) (gained_is (w.steps + 1) (Some (Refused refusal)) at (ap (λ r. completed_reply r (Some (w.steps + 1)) o.actor.due) with_outcome))
   outcome_plays queue' (closed same count flag at with_outcome is_shut no_values none) =
       plays_nothing queue' (kept_queue queue' same flag) (gained_is (w.steps + 1) (Some (Refused Closed)) at (ap (λ r. completed_reply r (Some (w.steps + 1)) o.actor.due) with_outcome))
   outcome_plays queue' (found_empty same count flag at with_outcome op none was_empty) =

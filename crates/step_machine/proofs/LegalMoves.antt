@@ -32,11 +32,11 @@ unlocked_op now (Some Done) a = record { same = refl }
 unlocked_op now _ a = record { same = refl }
 
 left_op : (now : ℕ) (due : Option Reply) (a : Actor) → SameOp a (left now due a)
-left_op now (Some (Refused why)) a = record { same = refl }
+left_op now (Some (Refused refusal)) a = record { same = refl }
 left_op now _ a = record { same = refl }
 
 left_with_node_op : (now : ℕ) (due : Option Reply) (a : Actor) → SameOp a (left_with_node now due a)
-left_with_node_op now (Some (Refused why)) a = record { same = refl }
+left_with_node_op now (Some (Refused refusal)) a = record { same = refl }
 left_with_node_op now _ a = record { same = refl }
 
 op_kept : (s : Setup) (now me : ℕ) (a : Actor) (l : Line) (c : Found (action s me a l)) → SameOp a (outcome s now me a l c)

@@ -16,7 +16,7 @@ KeepsReply a o = (decided_reply a.due ≡ None) ⊎ ((n : ℕ) → completed_rep
 -- at which the queue was empty
 pub data LinearizationStep (bits : ℕ) (Z : ℕ → Type 0) (me now : ℕ) (m m' : Shared) (queue queue' : List ℕ) (a : Actor) (o : Outcome) : Type 0 where
   stutters : queue' ≡ queue → m'.head.count ≡ m.head.count → is_shut_chain bits m' queue ≡ is_shut_chain bits m queue → o.at ≡ None → KeepsReply a o → LinearizationStep bits Z me now m m' queue queue' a o
-  refused : (why : Refusal) → queue' ≡ queue → m'.head.count ≡ m.head.count → is_shut_chain bits m' queue ≡ is_shut_chain bits m queue → o.at ≡ Some now → o.reply ≡ Some (Refused why) → leaves why ≡ true → decided_reply a.due ≡ None → LinearizationStep bits Z me now m m' queue queue' a o
+  refused : (refusal : Refusal) → queue' ≡ queue → m'.head.count ≡ m.head.count → is_shut_chain bits m' queue ≡ is_shut_chain bits m queue → o.at ≡ Some now → o.reply ≡ Some (Refused refusal) → leaves refusal ≡ true → decided_reply a.due ≡ None → LinearizationStep bits Z me now m m' queue queue' a o
   closed : queue' ≡ queue → m'.head.count ≡ m.head.count → is_shut_chain bits m' queue ≡ is_shut_chain bits m queue → o.at ≡ Some now → o.reply ≡ Some (Refused Closed) → is_shut_chain bits m queue ≡ true → (a.op ≡ Deq → queue_values m queue ≡ []) → decided_reply a.due ≡ None → LinearizationStep bits Z me now m m' queue queue' a o
   found_empty : queue' ≡ queue → m'.head.count ≡ m.head.count → is_shut_chain bits m' queue ≡ is_shut_chain bits m queue → o.at ≡ Some a.empty_at → o.reply ≡ Some Empty → a.op ≡ Deq → decided_reply a.due ≡ None → Z a.empty_at → LinearizationStep bits Z me now m m' queue queue' a o
   pushed : queue' ≡ queue ++ a.node ∷ [] → m'.head.count ≡ m.head.count → is_shut_chain bits m queue ≡ false → is_shut_chain bits m' queue' ≡ false → o.at ≡ Some now → completed_reply o.reply (Some now) o.actor.due ≡ Some Done → (node_at m' a.node).value ≡ a.val → Pushes me a.op a.val → decided_reply a.due ≡ None → LinearizationStep bits Z me now m m' queue queue' a o

@@ -19,7 +19,7 @@ use Rattle.step_machine.proofs.StaleReferences.{IsCurrentOrStale}
 use Rattle.step_machine.proofs.Assertions.{next_of, IsOwnOf}
 use Rattle.step_machine.proofs.Invariant.{LocalInvariant}
 use Rattle.step_machine.proofs.EitherQueue.{same_queue, stands_at}
-use Rattle.step_machine.proofs.Causes.{WhyReply, Caused, caused, raises_below, each_reply}
+use Rattle.step_machine.proofs.Causes.{CauseOfReply, Caused, caused, raises_below, each_reply}
 use Rattle.step_machine.proofs.NonBlockingAtLines.{InvariantAt, WasNext, next_stays_there, MayTake, non_blocking}
 use Rattle.step_machine.proofs.NonBlockingLag.{IsOff, off, off_count, off_second, shut_behind, tail_is_last}
 use Rattle.step_machine.proofs.NonBlockingInvariant.{ReachedInvariant, reached_invariant}
@@ -210,7 +210,7 @@ own_caused w now me a S5 h i = record { cause = tt }
 own_caused w now me a l h i = absurd i
 
 -- the three clauses follow
-has_cause : (w : World) (a : Actor) (reply : Option Reply) → WhyReply (Own w a) w reply → HasCauseFor w reply
+has_cause : (w : World) (a : Actor) (reply : Option Reply) → CauseOfReply (Own w a) w reply → HasCauseFor w reply
 has_cause w a (Some (Refused NoNode)) h = h
 has_cause w a (Some (Refused (WornOut OfFree))) h = h
 has_cause w a (Some (Refused (WornOut OfNext))) h = (a.node, h)
@@ -220,7 +220,7 @@ has_cause w a (Some (Refused Closed)) h = h
 has_cause w a (Some (Refused _)) h = absurd h
 has_cause w a _ h = tt
 
-why_of : (w : World) → IsReached w → w.setup.kind ≡ NonBlocking → (me : ℕ) (a : Actor) (l : Line) → actor_of w me ≡ Some a → a.line ≡ Some l → WhyReply (Own w a) w (outcome w.setup (w.steps + 1) me a l (found (action w.setup me a l) w.shared)).reply
+why_of : (w : World) → IsReached w → w.setup.kind ≡ NonBlocking → (me : ℕ) (a : Actor) (l : Line) → actor_of w me ≡ Some a → a.line ≡ Some l → CauseOfReply (Own w a) w (outcome w.setup (w.steps + 1) me a l (found (action w.setup me a l) w.shared)).reply
 why_of w r e me a l is at =
     let h : AtLine w me a l = at_line w r e me a l is at in
     (caused (Own w a) w NonBlocking (w.steps + 1) me a l h.range h.registers h.runs h.fixes (own_caused w (w.steps + 1) me a l h)).cause
@@ -229,10 +229,10 @@ pub refuse_with_cause : OfNonBlockingWorlds RefusesWithCause
 refuse_with_cause w r e me a l is at = has_cause w a _ (why_of w r e me a l is at)
 
 pub own_next_is_worn : OfNonBlockingWorlds FindsItsOwnNextWornOut
-own_next_is_worn w r e me a l is at worn = subst (WhyReply (Own w a) w) worn (why_of w r e me a l is at)
+own_next_is_worn w r e me a l is at worn = subst (CauseOfReply (Own w a) w) worn (why_of w r e me a l is at)
 
 pub head_is_never_worn : OfNonBlockingWorlds NeverFindsHeadWornOut
-head_is_never_worn w r e me a l is at worn = subst (WhyReply (Own w a) w) worn (why_of w r e me a l is at)
+head_is_never_worn w r e me a l is at worn = subst (CauseOfReply (Own w a) w) worn (why_of w r e me a l is at)
 
 -- a reply that does not say that Head is worn out
 abbrev SparesHead : Option Reply → Type 0

@@ -45,11 +45,11 @@ module _ (s : Setup) (n k : ℕ) where
   unlocked_kept now _ a h p = record { registers = h; pocket = p; line = tt }
 
   left_kept : (now : ℕ) (due : Option Reply) (a : Actor) → RegistersInRange s n k a → IfSome a.pocket (HeldInRange s.limit n) → OutcomeInRange s n k (left now due a)
-  left_kept now (Some (Refused why)) a h p = record { registers = h; pocket = p; line = tt }
+  left_kept now (Some (Refused refusal)) a h p = record { registers = h; pocket = p; line = tt }
   left_kept now _ a h p = record { registers = h; pocket = p; line = tt }
 
   left_with_node_kept : (now : ℕ) (due : Option Reply) (a : Actor) → RegistersInRange s n k a → IfSome a.pocket (HeldInRange s.limit n) → OutcomeInRange s n k (left_with_node now due a)
-  left_with_node_kept now (Some (Refused why)) a h p = record { registers = h; pocket = record { node = h.node; mark = h.mark }; line = tt }
+  left_with_node_kept now (Some (Refused refusal)) a h p = record { registers = h; pocket = record { node = h.node; mark = h.mark }; line = tt }
   left_with_node_kept now _ a h p = record { registers = h; pocket = p; line = tt }
 
   with_node_kept : (kind : Kind) (a : Actor) → RegistersInRange s n k a → IfSome a.pocket (HeldInRange s.limit n) → OutcomeInRange s n k (goes (with_node kind) a)

@@ -68,7 +68,7 @@ pub record Placed (bits : ℕ) (kind : Kind) (o : Outcome) : Type 0 where
   pub line : IsAtLine bits kind o.actor o.actor.line
 
 has_after : (due : Option Reply) (node : ℕ) → 1 ≤ node → HasNodeAfter due node
-has_after (Some (Refused why)) node h = h
+has_after (Some (Refused refusal)) node h = h
 has_after _ node h = tt
 
 not_shut : (bits : ℕ) (r : Ref) → is_shut bits r ≡ false → r.node ≢ reserved_node bits
@@ -95,11 +95,11 @@ module _ (s : Setup) where
   unlocked_placed now _ a p h = record { pocket = p; line = tt }
 
   left_placed : (now : ℕ) (due : Option Reply) (a : Actor) → IfSome a.pocket (λ held. 1 ≤ held.node) → Placed s.bits s.kind (left now due a)
-  left_placed now (Some (Refused why)) a p = record { pocket = p; line = tt }
+  left_placed now (Some (Refused refusal)) a p = record { pocket = p; line = tt }
   left_placed now _ a p = record { pocket = p; line = tt }
 
   left_with_node_placed : (now : ℕ) (due : Option Reply) (a : Actor) → IfSome a.pocket (λ held. 1 ≤ held.node) → HasNodeAfter due a.node → Placed s.bits s.kind (left_with_node now due a)
-  left_with_node_placed now (Some (Refused why)) a p h = record { pocket = h; line = tt }
+  left_with_node_placed now (Some (Refused refusal)) a p h = record { pocket = h; line = tt }
   left_with_node_placed now _ a p h = record { pocket = p; line = tt }
 
   with_node_placed : (kind : Kind) (a : Actor) → IfSome a.pocket (λ held. 1 ≤ held.node) → 1 ≤ a.node → Placed s.bits kind (goes (with_node kind) a)

@@ -155,7 +155,7 @@ module _ (s : Setup) (n : ℕ) where
         omega (arith, by_within (makers done) last p.actor by, kept.counted)
 
     told_refused : IsRefusedAtItsEnd (with_outcome (w.steps + 1) o it.was)
-    told_refused why e = ap (λ x. latest_point x it.was.at) (t.refused why e) ∙ sym (ap (last_of (w.steps + 1)) e)
+    told_refused refusal e = ap (λ x. latest_point x it.was.at) (t.refused refusal e) ∙ sym (ap (last_of (w.steps + 1)) e)
 
     told_empty : (k : ℕ) → o.reply ≡ Some Empty → latest_point o.at it.was.at ≡ Some k → LastOf (done ++ m ∷ []) (with_outcome (w.steps + 1) o it.was) k
     told_empty k e at =

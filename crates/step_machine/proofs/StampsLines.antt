@@ -12,11 +12,11 @@ PointFits None at Noted = at ≡ None
 PointFits (Some Done) at Noted = IsSome at
 PointFits (Some (Value v)) at Noted = IsSome at
 PointFits (Some Empty) at Noted = (at ≡ None) × Noted
-PointFits (Some (Refused why)) at Noted = at ≡ None
+PointFits (Some (Refused refusal)) at Noted = at ≡ None
 
 -- where the operation of a call stands that lets the tail lock go: it has a place, unless it is refused
 abbrev pub PointLeft : (due : Option Reply) (at : Option ℕ) → Type 0
-PointLeft (Some (Refused why)) at = at ≡ None
+PointLeft (Some (Refused refusal)) at = at ≡ None
 PointLeft _ at = IsSome at
 
 -- what is known of the operation of an actor that stands before a line
@@ -63,17 +63,17 @@ ends_turned : (Q : ℕ → Type 0) (now : ℕ) (reply : Reply) (a : Actor) (at :
 ends_turned Q now Done a at n p h = record { place = p; goes_on = h }
 ends_turned Q now (Value v) a at n p h = record { place = p; goes_on = h }
 ends_turned Q now Empty a at n p h = record { place = h.1; goes_on = refl }
-ends_turned Q now (Refused why) a at n p h = record { place = n; goes_on = refl }
+ends_turned Q now (Refused refusal) a at n p h = record { place = n; goes_on = refl }
 
 left_turned : (Q : ℕ → Type 0) (now : ℕ) (due : Option Reply) (a : Actor) (at : Option ℕ) → Q now → IfSome at Q → PointLeft due at → Turns Q at (left now due a)
-left_turned Q now (Some (Refused why)) a at n p h = record { place = n; goes_on = refl }
+left_turned Q now (Some (Refused refusal)) a at n p h = record { place = n; goes_on = refl }
 left_turned Q now None a at n p h = record { place = p; goes_on = h }
 left_turned Q now (Some Done) a at n p h = record { place = p; goes_on = h }
 left_turned Q now (Some (Value v)) a at n p h = record { place = p; goes_on = h }
 left_turned Q now (Some Empty) a at n p h = record { place = p; goes_on = h }
 
 left_with_node_turned : (Q : ℕ → Type 0) (now : ℕ) (due : Option Reply) (a : Actor) (at : Option ℕ) → Q now → IfSome at Q → PointLeft due at → Turns Q at (left_with_node now due a)
-left_with_node_turned Q now (Some (Refused why)) a at n p h = record { place = n; goes_on = refl }
+left_with_node_turned Q now (Some (Refused refusal)) a at n p h = record { place = n; goes_on = refl }
 left_with_node_turned Q now None a at n p h = record { place = p; goes_on = h }
 left_with_node_turned Q now (Some Done) a at n p h = record { place = p; goes_on = h }
 left_with_node_turned Q now (Some (Value v)) a at n p h = record { place = p; goes_on = h }
@@ -92,7 +92,7 @@ unlocked_turned Q now None a at n p h g = record { place = p; goes_on = g }
 unlocked_turned Q now (Some (Value v)) a at n p h g = record { place = p; goes_on = g }
 unlocked_turned Q now (Some Done) a at n p h g = ends_turned Q now Done a at n p h
 unlocked_turned Q now (Some Empty) a at n p h g = ends_turned Q now Empty a at n p h
-unlocked_turned Q now (Some (Refused why)) a at n p h g = ends_turned Q now (Refused why) a at n p h
+unlocked_turned Q now (Some (Refused refusal)) a at n p h g = ends_turned Q now (Refused refusal) a at n p h
 
 with_node_turned : (Q : ℕ → Type 0) (k : Kind) (a : Actor) (at : Option ℕ) → IfSome at Q → at ≡ None → Turns Q at (goes (with_node k) a)
 with_node_turned Q TwoLock a at p h = record { place = p; goes_on = h }

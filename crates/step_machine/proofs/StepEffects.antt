@@ -83,9 +83,9 @@ module _ (q : Queue) (b : Before q) where
   on o u at same none marks knows owns = still o same none marks knows owns (stutters refl refl refl at (inl u))
 
   -- the call ends with a refusal
-  pub refuses : (o : Outcome) (why : Refusal) → decided_reply a.due ≡ None → o.at ≡ Some now → o.reply ≡ Some (Refused why) → leaves why ≡ true → ((n : ℕ) → holds n o.actor ≡ holds n a) → o.aside ≡ None → Marked m o.actor → o.actor.line ≡ None → OwnsAt m me None → Goes m o
-  refuses o why u at reply ok same none marks over owns =
-      still o same none marks (subst (Knows q (Found s.bits m (front ∷ rest) now) s m (last_node (front ∷ rest)) o.actor) (sym over) tt) (subst (OwnsAt m me) (sym over) owns) (refused why refl refl refl at reply ok u)
+  pub refuses : (o : Outcome) (refusal : Refusal) → decided_reply a.due ≡ None → o.at ≡ Some now → o.reply ≡ Some (Refused refusal) → leaves refusal ≡ true → ((n : ℕ) → holds n o.actor ≡ holds n a) → o.aside ≡ None → Marked m o.actor → o.actor.line ≡ None → OwnsAt m me None → Goes m o
+  refuses o refusal u at reply ok same none marks over owns =
+      still o same none marks (subst (Knows q (Found s.bits m (front ∷ rest) now) s m (last_node (front ∷ rest)) o.actor) (sym over) tt) (subst (OwnsAt m me) (sym over) owns) (refused refusal refl refl refl at reply ok u)
 
   -- so it does since the queue is shut, to a pop where it has no value
   pub finds_shut : (o : Outcome) → decided_reply a.due ≡ None → o.at ≡ Some now → o.reply ≡ Some (Refused Closed) → is_shut_chain s.bits m (front ∷ rest) ≡ true → (a.op ≡ Deq → queue_values m (front ∷ rest) ≡ []) → ((n : ℕ) → holds n o.actor ≡ holds n a) → o.aside ≡ None → Marked m o.actor → o.actor.line ≡ None → OwnsAt m me None → Goes m o

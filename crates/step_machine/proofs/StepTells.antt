@@ -22,7 +22,7 @@ use Rattle.step_machine.proofs.StampsLines.{PointFits, PointLeft, PointAt}
 
 -- what an outcome at a line tells; `looked` is whether the line looks for a node
 pub record Tells (l : Line) (looked : Bool) (now : ℕ) (a : Actor) (o : Outcome) : Type 0 where
-  pub refused : (why : Refusal) → o.reply ≡ Some (Refused why) → o.at ≡ Some now
+  pub refused : (refusal : Refusal) → o.reply ≡ Some (Refused refusal) → o.at ≡ Some now
   pub empty : o.reply ≡ Some Empty → o.at ≡ Some a.empty_at
   pub passes : looked ≡ false → o.actor.empty_at ≡ a.empty_at
   pub notes : looked ≡ true → (o.actor.empty_at ≡ now) × (o.reply ≡ None)
@@ -42,7 +42,7 @@ false_true e = cc
 goes_on : (l : Line) (now : ℕ) (a : Actor) (o : Outcome) → o.reply ≡ None → o.actor.empty_at ≡ a.empty_at → Tells l false now a o
 goes_on l now a o none same =
     record {
-      refused = λ why e. not_yet o (Refused why) none e;
+      refused = λ refusal e. not_yet o (Refused refusal) none e;
       empty = λ e. not_yet o Empty none e;
       passes = λ e. same;
       notes = λ e. false_true e;
@@ -53,7 +53,7 @@ goes_on l now a o none same =
 looks_on : (l : Line) (now : ℕ) (a : Actor) (o : Outcome) → o.reply ≡ None → o.actor.empty_at ≡ now → Tells l true now a o
 looks_on l now a o none empty_at =
     record {
-      refused = λ why e. not_yet o (Refused why) none e;
+      refused = λ refusal e. not_yet o (Refused refusal) none e;
       empty = λ e. not_yet o Empty none e;
       passes = λ e. false_true (sym e);
       notes = λ e. (empty_at, none);
@@ -63,19 +63,19 @@ looks_on l now a o none empty_at =
 -- one that ends
 ends_with : (l : Line) (now : ℕ) (a : Actor) (reply : Reply) (b : Actor) → b.empty_at ≡ a.empty_at → ((at : Option ℕ) → PointAt l a.due at (Unit {0}) → IsByEffect (Some reply) ⊎ (at ≡ None)) → Tells l false now a (ends now reply b)
 ends_with l now a Done b same place =
-    record { refused = λ why e. cc; empty = λ e. cc; passes = λ e. same; notes = λ e. false_true e; unplaced = place }
+    record { refused = λ refusal e. cc; empty = λ e. cc; passes = λ e. same; notes = λ e. false_true e; unplaced = place }
 ends_with l now a (Value v) b same place =
-    record { refused = λ why e. cc; empty = λ e. cc; passes = λ e. same; notes = λ e. false_true e; unplaced = place }
+    record { refused = λ refusal e. cc; empty = λ e. cc; passes = λ e. same; notes = λ e. false_true e; unplaced = place }
 ends_with l now a Empty b same place =
-    record { refused = λ why e. cc; empty = λ e. ap Some same; passes = λ e. same; notes = λ e. false_true e; unplaced = place }
+    record { refused = λ refusal e. cc; empty = λ e. ap Some same; passes = λ e. same; notes = λ e. false_true e; unplaced = place }
 ends_with l now a (Refused because) b same place =
-    record { refused = λ why e. refl; empty = λ e. cc; passes = λ e. same; notes = λ e. false_true e; unplaced = place }
+    record { refused = λ refusal e. refl; empty = λ e. cc; passes = λ e. same; notes = λ e. false_true e; unplaced = place }
 
 earned_or : (reply : Reply) (at : Option ℕ) → PointFits (Some reply) at (Unit {0}) → IsByEffect (Some reply) ⊎ (at ≡ None)
 earned_or Done at h = inl tt
 earned_or (Value v) at h = inl tt
 earned_or Empty at h = inr h.0
-earned_or (Refused why) at h = inr h
+earned_or (Refused refusal) at h = inr h
 
 aside_tells : {l : Line} {looked : Bool} {now : ℕ} {a : Actor} (o : Outcome) → Tells l looked now a o → Tells l looked now a (sets_aside o)
 aside_tells o t = record { refused = t.refused; empty = t.empty; passes = t.passes; notes = t.notes; unplaced = t.unplaced }
@@ -90,33 +90,33 @@ unlocked_tells now a None b same earns = goes_on B6 now a _ refl same
 unlocked_tells now a (Some (Value v)) b same earns = goes_on B6 now a _ refl same
 unlocked_tells now a (Some Done) b same earns = ends_with B6 now a Done b same (λ at stands. inl tt)
 unlocked_tells now a (Some Empty) b same earns = ends_with B6 now a Empty b same (λ at stands. inr (earns at stands).0)
-unlocked_tells now a (Some (Refused why)) b same earns = ends_with B6 now a (Refused why) b same (λ at stands. inr (earns at stands))
+unlocked_tells now a (Some (Refused refusal)) b same earns = ends_with B6 now a (Refused refusal) b same (λ at stands. inr (earns at stands))
 
 pushed_tells : (b : Bool) (now : ℕ) (a c : Actor) → c.empty_at ≡ a.empty_at → Tells E9 false now a (effect now (if b then ends now Done c else goes E17 c))
 pushed_tells true now a c same =
-    record { refused = λ why e. cc; empty = λ e. cc; passes = λ e. same; notes = λ e. false_true e; unplaced = λ at stands. inl tt }
+    record { refused = λ refusal e. cc; empty = λ e. cc; passes = λ e. same; notes = λ e. false_true e; unplaced = λ at stands. inl tt }
 pushed_tells false now a c same = goes_on E9 now a _ refl same
 
 -- a refusal before a line at which the call has no place
-refuses : (l : Line) (now : ℕ) (a : Actor) (why : Refusal) (b : Actor) → b.empty_at ≡ a.empty_at → ((at : Option ℕ) → PointAt l a.due at (Unit {0}) → at ≡ None) → Tells l false now a (ends now (Refused why) b)
-refuses l now a why b same none = ends_with l now a (Refused why) b same (λ at stands. inr (none at stands))
+refuses : (l : Line) (now : ℕ) (a : Actor) (refusal : Refusal) (b : Actor) → b.empty_at ≡ a.empty_at → ((at : Option ℕ) → PointAt l a.due at (Unit {0}) → at ≡ None) → Tells l false now a (ends now (Refused refusal) b)
+refuses l now a refusal b same none = ends_with l now a (Refused refusal) b same (λ at stands. inr (none at stands))
 
 left_tells : (now : ℕ) (a : Actor) (due : Option Reply) (b : Actor) → b.empty_at ≡ a.empty_at → ((at : Option ℕ) → PointAt S9 a.due at (Unit {0}) → PointLeft due at) → Tells S9 false now a (left now due b)
-left_tells now a (Some (Refused why)) b same earns = ends_with S9 now a (Refused why) b same (λ at stands. inr (earns at stands))
+left_tells now a (Some (Refused refusal)) b same earns = ends_with S9 now a (Refused refusal) b same (λ at stands. inr (earns at stands))
 left_tells now a None b same earns = ends_with S9 now a Done b same (λ at stands. inl tt)
 left_tells now a (Some Done) b same earns = ends_with S9 now a Done b same (λ at stands. inl tt)
 left_tells now a (Some (Value v)) b same earns = ends_with S9 now a Done b same (λ at stands. inl tt)
 left_tells now a (Some Empty) b same earns = ends_with S9 now a Done b same (λ at stands. inl tt)
 
 left_with_node_tells : (now : ℕ) (a : Actor) (due : Option Reply) (b : Actor) → b.empty_at ≡ a.empty_at → ((at : Option ℕ) → PointAt A7 a.due at (Unit {0}) → PointLeft due at) → Tells A7 false now a (left_with_node now due b)
-left_with_node_tells now a (Some (Refused why)) b same earns = ends_with A7 now a (Refused why) (to_pocket b) same (λ at stands. inr (earns at stands))
+left_with_node_tells now a (Some (Refused refusal)) b same earns = ends_with A7 now a (Refused refusal) (to_pocket b) same (λ at stands. inr (earns at stands))
 left_with_node_tells now a None b same earns = ends_with A7 now a Done b same (λ at stands. inl tt)
 left_with_node_tells now a (Some Done) b same earns = ends_with A7 now a Done b same (λ at stands. inl tt)
 left_with_node_tells now a (Some (Value v)) b same earns = ends_with A7 now a Done b same (λ at stands. inl tt)
 left_with_node_tells now a (Some Empty) b same earns = ends_with A7 now a Done b same (λ at stands. inl tt)
 
 shut_tells : (now : ℕ) (a : Actor) → Tells S4 false now a (effect now (ends now Done a))
-shut_tells now a = record { refused = λ why e. cc; empty = λ e. cc; passes = λ e. refl; notes = λ e. false_true e; unplaced = λ at stands. inl tt }
+shut_tells now a = record { refused = λ refusal e. cc; empty = λ e. cc; passes = λ e. refl; notes = λ e. false_true e; unplaced = λ at stands. inl tt }
 
 -- the outcome of each line
 pub tells : (s : Setup) (now me : ℕ) (a : Actor) (l : Line) (c : Found (action s me a l)) → Tells l (looks l) now a (outcome s now me a l c)

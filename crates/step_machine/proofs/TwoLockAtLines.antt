@@ -14,7 +14,7 @@ Ready m a = ((node_at m a.node).value ≡ a.val) × ((node_at m a.node).next.nod
 
 -- what an actor knows that lets the tail lock go: where its call is refused, the closed end is behind the last node
 abbrev pub Leaves : (bits : ℕ) → Shared → (last : ℕ) → Option Reply → Type 0
-Leaves bits m last (Some (Refused why)) = (node_at m last).next.node ≡ reserved_node bits
+Leaves bits m last (Some (Refused refusal)) = (node_at m last).next.node ≡ reserved_node bits
 Leaves bits m last _ = Unit {0}
 
 -- what an actor knows that lets the head lock go, by what its call has earned: the closed end is behind the dummy, Head is
@@ -22,7 +22,7 @@ Leaves bits m last _ = Unit {0}
 abbrev pub Unlocks : (bits : ℕ) (Z : ℕ → Type 0) (limit : ℕ) → Shared → (empty_at : ℕ) → Option Reply → Type 0
 Unlocks bits Z limit m empty_at (Some Empty) = Z empty_at
 Unlocks bits Z limit m empty_at (Some (Refused Closed)) = (1 ≤ (node_at m m.head.node).next.node) × ((node_at m m.head.node).next.node ≡ reserved_node bits)
-Unlocks bits Z limit m empty_at (Some (Refused why)) = m.head.count ≡ limit
+Unlocks bits Z limit m empty_at (Some (Refused refusal)) = m.head.count ≡ limit
 Unlocks bits Z limit m empty_at _ = Unit {0}
 
 -- what an actor knows before a line of its own; `last` is the last node of the queue
@@ -56,7 +56,7 @@ own_more Y Z s m last a (Some B6) f h = unlocks a.due h
     unlocks : (due : Option Reply) → Unlocks s.bits Y s.limit m a.empty_at due → Unlocks s.bits Z s.limit m a.empty_at due
     unlocks (Some Empty) g = f a.empty_at g
     unlocks (Some (Refused Closed)) g = g
-    unlocks (Some (Refused why)) g = g
+    unlocks (Some (Refused refusal)) g = g
     unlocks _ g = tt
 own_more Y Z s m last a (Some _) f h = h
 
@@ -93,7 +93,7 @@ module _ (Z : ℕ → Type 0) (s : Setup) (m m' : Shared) (last last' you : ℕ)
 
   -- the closed end is still behind it
   leaves_kept : LocksRely m m' last last' you → m.tail_lock ≡ you → (due : Option Reply) → Leaves s.bits m last due → Leaves s.bits m' last' due
-  leaves_kept k mine (Some (Refused why)) h = ap (λ j. (node_at m' j).next.node) (k.tail mine).2 ∙ ap (λ (r : Ref). r.node) (k.tail mine).3 ∙ h
+  leaves_kept k mine (Some (Refused refusal)) h = ap (λ j. (node_at m' j).next.node) (k.tail mine).2 ∙ ap (λ (r : Ref). r.node) (k.tail mine).3 ∙ h
   leaves_kept k mine _ h = tt
 
   -- the dummy still leads to the node read
@@ -127,7 +127,7 @@ module _ (Z : ℕ → Type 0) (s : Setup) (m m' : Shared) (last last' you : ℕ)
       unlocks (Some (Refused Closed)) g =
           let same : (node_at m' m'.head.node).next.node ≡ (node_at m m.head.node).next.node = ap (λ (r : Ref). (node_at m' r.node).next.node) (k.head o.1).1 ∙ ap (λ (x : Node). x.next.node) (n.dummy g.0) in
           (omega (arith, same, g.0), same ∙ g.1)
-      unlocks (Some (Refused why)) g = ap (λ (r : Ref). r.count) (k.head o.1).1 ∙ g
+      unlocks (Some (Refused refusal)) g = ap (λ (r : Ref). r.count) (k.head o.1).1 ∙ g
       unlocks _ g = tt
   own_kept S7 k n f p o h = tail_kept k o.0 h
   own_kept S8 k n f p o h = (tail_kept k o.0 h.0, (k.tail o.0).1 ∙ h.1)

@@ -19,7 +19,7 @@ use Rattle.step_machine.proofs.Fixed.{FixedAt, DecidedUnlocking, DecidedLeaving}
 use Rattle.step_machine.proofs.Assertions.{Owns, has_tail, IsOwnOf}
 use Rattle.step_machine.proofs.Invariant.{LocalInvariant}
 use Rattle.step_machine.proofs.EitherQueue.{same_queue, fixed_at}
-use Rattle.step_machine.proofs.Causes.{Why, WhyReply, Caused, caused, raises_below, each_reply}
+use Rattle.step_machine.proofs.Causes.{CauseOf, CauseOfReply, Caused, caused, raises_below, each_reply}
 use Rattle.step_machine.proofs.TwoLockAtLines.{InvariantAt, Leaves, Unlocks, two_lock}
 use Rattle.step_machine.proofs.TwoLockInvariant.{ReachedInvariant, nodes_at, reached_invariant}
 
@@ -94,19 +94,19 @@ module _ (w : World) (r : IsReached w) (p : Invariant w) where
   unlocked_caused now empty_at (Some Done) a h k = absurd h
   unlocked_caused now empty_at (Some (Value v)) a h k = record { cause = tt }
   unlocked_caused now empty_at (Some Empty) a h k = record { cause = tt }
-  unlocked_caused now empty_at (Some (Refused why)) a (inl h) k =
-      record { cause = subst (Why (Own w) w) (sym h) (subst (λ x. Unlocks w.setup.bits (λ k. Unit {0}) w.setup.limit w.shared empty_at (Some (Refused x))) h k) }
-  unlocked_caused now empty_at (Some (Refused why)) a (inr h) k =
-      record { cause = subst (Why (Own w) w) (sym h) (shut_first w r p (subst (λ x. Unlocks w.setup.bits (λ k. Unit {0}) w.setup.limit w.shared empty_at (Some (Refused x))) h k).1) }
+  unlocked_caused now empty_at (Some (Refused refusal)) a (inl h) k =
+      record { cause = subst (CauseOf (Own w) w) (sym h) (subst (λ x. Unlocks w.setup.bits (λ k. Unit {0}) w.setup.limit w.shared empty_at (Some (Refused x))) h k) }
+  unlocked_caused now empty_at (Some (Refused refusal)) a (inr h) k =
+      record { cause = subst (CauseOf (Own w) w) (sym h) (shut_first w r p (subst (λ x. Unlocks w.setup.bits (λ k. Unit {0}) w.setup.limit w.shared empty_at (Some (Refused x))) h k).1) }
 
   left_caused : (now : ℕ) (due : Option Reply) (a : Actor) → DecidedLeaving due → Leaves w.setup.bits w.shared (last_node (p.front ∷ p.rest)) due → Caused (Own w) w (left now due a)
   left_caused now (Some Done) a h k = record { cause = tt }
-  left_caused now (Some (Refused why)) a h k = record { cause = subst (Why (Own w) w) (sym h) (shut_last w p k) }
+  left_caused now (Some (Refused refusal)) a h k = record { cause = subst (CauseOf (Own w) w) (sym h) (shut_last w p k) }
   left_caused now _ a h k = absurd h
 
   left_with_node_caused : (now : ℕ) (due : Option Reply) (a : Actor) → DecidedLeaving due → Leaves w.setup.bits w.shared (last_node (p.front ∷ p.rest)) due → Caused (Own w) w (left_with_node now due a)
   left_with_node_caused now (Some Done) a h k = record { cause = tt }
-  left_with_node_caused now (Some (Refused why)) a h k = record { cause = subst (Why (Own w) w) (sym h) (shut_last w p k) }
+  left_with_node_caused now (Some (Refused refusal)) a h k = record { cause = subst (CauseOf (Own w) w) (sym h) (shut_last w p k) }
   left_with_node_caused now _ a h k = absurd h
 
   own_caused : (now me : ℕ) (a : Actor) (l : Line) → FixedAt w.setup.limit me a (Some l) → InvariantAt (λ k. Unit {0}) w.setup w.shared (last_node (p.front ∷ p.rest)) a (Some l) → IsOwnOf (section_of l) TwoLock → Caused (Own w) w (outcome w.setup now me a l (found (action w.setup me a l) w.shared))
@@ -131,7 +131,7 @@ module _ (w : World) (r : IsReached w) (p : Invariant w) where
   own_caused now me a S9 f k i = left_caused now a.due a f.earned k.1
   own_caused now me a l f k i = absurd i
 
-why_of : (w : World) → IsReached w → w.setup.kind ≡ TwoLock → (me : ℕ) (a : Actor) (l : Line) → actor_of w me ≡ Some a → a.line ≡ Some l → WhyReply (Own w) w (outcome w.setup (w.steps + 1) me a l (found (action w.setup me a l) w.shared)).reply
+why_of : (w : World) → IsReached w → w.setup.kind ≡ TwoLock → (me : ℕ) (a : Actor) (l : Line) → actor_of w me ≡ Some a → a.line ≡ Some l → CauseOfReply (Own w) w (outcome w.setup (w.steps + 1) me a l (found (action w.setup me a l) w.shared)).reply
 why_of w r e me a l is at =
     let g : WorldInRange w = reached_in_range w r in
     let p : Invariant w = reached_invariant w r e in
@@ -140,7 +140,7 @@ why_of w r e me a l is at =
     (caused (Own w) w TwoLock (w.steps + 1) me a l g c.registers (nodes_at w r e me a l is at).0 f
     (own_caused w r p (w.steps + 1) me a l f (subst (InvariantAt (λ k. Unit {0}) w.setup w.shared (last_node (p.front ∷ p.rest)) a) at (p.sound.actors me a is).knows))).cause
 
-has_cause : (w : World) (reply : Option Reply) → WhyReply (Own w) w reply → HasCauseFor w reply
+has_cause : (w : World) (reply : Option Reply) → CauseOfReply (Own w) w reply → HasCauseFor w reply
 has_cause w (Some (Refused NoNode)) h = h
 has_cause w (Some (Refused (WornOut OfFree))) h = h
 has_cause w (Some (Refused (WornOut OfHead))) h = h
@@ -152,7 +152,7 @@ pub refuse_with_cause : OfTwoLockWorlds RefusesWithCause
 refuse_with_cause w r e me a l is at = has_cause w _ (why_of w r e me a l is at)
 
 -- a call is worn out by Free or Head alone
-free_or_head : (w : World) (reply : Option Reply) → WhyReply (Own w) w reply → IsOfFreeOrHead reply
+free_or_head : (w : World) (reply : Option Reply) → CauseOfReply (Own w) w reply → IsOfFreeOrHead reply
 free_or_head w (Some (Refused (WornOut OfNext))) h = h
 free_or_head w (Some (Refused (WornOut OfTail))) h = h
 free_or_head w _ h = tt

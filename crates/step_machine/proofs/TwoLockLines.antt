@@ -47,9 +47,9 @@ module _ (b : Before two_lock) where
   unlocks (Some Empty) t d e =
       lets_head_go _ t (λ n. refl) refl marked tt (t.owns.0, λ f. omega arith)
       (found_empty refl refl refl refl refl t.fixed.call (ap decided_reply d) (subst (Unlocks s.bits Z s.limit m a.empty_at) d t.knows))
-  unlocks (Some (Refused why)) t d (inl e) =
-      lets_head_go _ t (λ n. refl) refl marked tt (t.owns.0, λ f. omega arith) (refused why refl refl refl refl refl (ap leaves e) (ap decided_reply d))
-  unlocks (Some (Refused why)) t d (inr e) =
+  unlocks (Some (Refused refusal)) t d (inl e) =
+      lets_head_go _ t (λ n. refl) refl marked tt (t.owns.0, λ f. omega arith) (refused refusal refl refl refl refl refl (ap leaves e) (ap decided_reply d))
+  unlocks (Some (Refused refusal)) t d (inr e) =
       lets_head_go _ t (λ n. refl) refl marked tt (t.owns.0, λ f. omega arith)
       (closed refl refl refl refl (ap (λ x. Some (Refused x)) e) (shut_alone s.bits m m.head.node front rest few_nodes shape.queue_chain ends) (λ o. ap (λ ys. queue_values m (front ∷ ys)) (alone_at_end s.bits m.nodes m.head.node front rest few_nodes shape.queue_chain ends)) (ap decided_reply d))
     where
@@ -80,14 +80,14 @@ module _ (b : Before two_lock) where
   -- the call is done, or is refused since the queue is shut
   leaves_shut : (due : Option Reply) → AtLine two_lock b S9 → a.due ≡ due → DecidedLeaving due → After two_lock b (put Tail_lock 0 m) (left now due a)
   leaves_shut (Some Done) t d e = lets_tail_go _ t.owns.0 t.owns.1 t.knows.0 (λ n. refl) refl marked refl (stutters refl refl refl refl (inr (λ n. sym (ap decided_reply d))))
-  leaves_shut (Some (Refused why)) t d e =
+  leaves_shut (Some (Refused refusal)) t d e =
       lets_tail_go _ t.owns.0 t.owns.1 t.knows.0 (λ n. refl) refl marked refl
       (closed refl refl refl refl (ap (λ x. Some (Refused x)) e) (ap (λ n. nat_eq n (reserved_node s.bits)) (subst (Leaves s.bits m (last_node (front ∷ rest))) d t.knows.1) ∙ closed_shut s.bits) (λ o. absurd (shut_is_no_pop a.op t.fixed.call o)) (ap decided_reply d))
   leaves_shut _ t d e = absurd e
 
   leaves_push : (due : Option Reply) → AtLine two_lock b A7 → a.due ≡ due → DecidedLeaving due → After two_lock b (put Tail_lock 0 m) (left_with_node now due a)
   leaves_push (Some Done) t d e = lets_tail_go _ t.owns.0 t.owns.1 t.knows.0 (λ n. refl) refl marked refl (stutters refl refl refl refl (inr (λ n. sym (ap decided_reply d))))
-  leaves_push (Some (Refused why)) t d e =
+  leaves_push (Some (Refused refusal)) t d e =
       lets_tail_go _ t.owns.0 t.owns.1 t.knows.0 (to_pocket_holds two_lock b in_hand t.fixed.pocket) refl (to_pocket_marks two_lock b in_hand) refl
       (closed refl refl refl refl (ap (λ x. Some (Refused x)) e) (ap (λ n. nat_eq n (reserved_node s.bits)) (subst (Leaves s.bits m (last_node (front ∷ rest))) d t.knows.1) ∙ closed_shut s.bits) (λ o. absurd (push_is_no_pop me a.op a.val t.fixed.call o)) (ap decided_reply d))
     where

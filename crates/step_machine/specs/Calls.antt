@@ -69,9 +69,9 @@ GiveRefused w me _ = ⊥
 
 -- a move is refused for this cause
 abbrev pub MoveRefused : World → Move → Refusal → Type 0
-MoveRefused w (Begin me op) why = BeginRefused w me why
-MoveRefused w (Step me) why = StepRefused w me why
-MoveRefused w (Give me) why = GiveRefused w me why
+MoveRefused w (Begin me op) refusal = BeginRefused w me refusal
+MoveRefused w (Step me) refusal = StepRefused w me refusal
+MoveRefused w (Give me) refusal = GiveRefused w me refusal
 
 -- what a step at a line with this reply is told as
 abbrev pub stepped_at : Line → Option Reply → Stepped

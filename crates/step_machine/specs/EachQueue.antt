@@ -53,7 +53,7 @@ HasCause w _ = ⊥
 
 -- a world has the cause for a step's reply, if that is a refusal
 abbrev pub HasCauseFor : World → Option Reply → Type 0
-HasCauseFor w (Some (Refused why)) = HasCause w why
+HasCauseFor w (Some (Refused refusal)) = HasCause w refusal
 HasCauseFor w _ = Unit {0}
 
 -- each actor's next step is refused only where the world has the cause

@@ -31,7 +31,7 @@ HasNodeToFree _ node = Unit {0}
 
 -- a call that lets the tail lock go has its node still, where it is refused
 abbrev pub HasNodeAfter : Option Reply → (node : ℕ) → Type 0
-HasNodeAfter (Some (Refused why)) node = 1 ≤ node
+HasNodeAfter (Some (Refused refusal)) node = 1 ≤ node
 HasNodeAfter _ node = Unit {0}
 
 -- the registers that hold nodes before a line, and not null

@@ -20,7 +20,7 @@ use Rattle.step_machine.specs.Stamps.{numbered_by}
 
 -- an operation that was refused has its place at its last number
 abbrev pub IsRefusedAtItsEnd : Stamped → Type 0
-IsRefusedAtItsEnd o = (why : Refusal) → o.reply ≡ Some (Refused why) → o.at ≡ o.last
+IsRefusedAtItsEnd o = (refusal : Refusal) → o.reply ≡ Some (Refused refusal) → o.at ≡ o.last
 
 -- whether a dequeue looks at this line for a node behind the dummy
 abbrev pub looks : Line → Bool

@@ -37,7 +37,7 @@ IsByEffect None = Unit {0}
 IsByEffect (Some Done) = Unit {0}
 IsByEffect (Some (Value v)) = Unit {0}
 IsByEffect (Some Empty) = ⊥
-IsByEffect (Some (Refused why)) = ⊥
+IsByEffect (Some (Refused refusal)) = ⊥
 
 -- each operation that is pending, or done, or got a value, has its place, if any, at a step of its actor that had an
 -- effect

@@ -1,3 +1,3 @@
 pub mod Sends
 pub mod Rows
-mod Beginnings
+mod Prefixes

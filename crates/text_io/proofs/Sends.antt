@@ -5,7 +5,7 @@ use Rattle.std.proofs.lemmas.Result.{on_ok_weaker, on_err_weaker}
 use Rattle.std.specs.Io.KnownBytes.{Appends}
 use Rattle.history.specs.declared.refusals.Refusal.{Refusal}
 use Rattle.text_io.specs.Devices.{SinkState}
-use Rattle.text_io.specs.Blocks.{Sends, TakesBeginning, GivesUp, Puts, Writes}
+use Rattle.text_io.specs.Blocks.{Sends, TakesPrefix, GivesUp, Puts, Writes}
 
 -- a sink that took xs and then ys took both
 pub Appends-trans : (a b c : Option (List ℕ)) (xs ys : List ℕ) → Appends a b xs → Appends b c ys → Appends a c (xs ++ ys)
@@ -50,21 +50,21 @@ Sends-held a b text held more s = record {
   whole = sym (append_assoc s.sent held more) ∙ ap (λ l. l ++ more) s.whole;
 }
 
--- a beginning of a text is one of a longer text
-pub TakesBeginning-longer : (a b : Option (List ℕ)) (text more : List ℕ) → TakesBeginning a b text → TakesBeginning a b (text ++ more)
-TakesBeginning-longer a b text more t = (t.0 ++ more, Sends-held a b text t.0 more t.1)
+-- a prefix of a text is one of a longer text
+pub TakesPrefix-longer : (a b : Option (List ℕ)) (text more : List ℕ) → TakesPrefix a b text → TakesPrefix a b (text ++ more)
+TakesPrefix-longer a b text more t = (t.0 ++ more, Sends-held a b text t.0 more t.1)
 
 -- the sink gave up within what was held back and more
-pub TakesBeginning-trans : (a b c : Option (List ℕ)) (text held more : List ℕ) → Sends a b text held → TakesBeginning b c (held ++ more) → TakesBeginning a c (text ++ more)
-TakesBeginning-trans a b c text held more s t = (t.0, Sends-trans a b c text held more t.0 s t.1)
+pub TakesPrefix-trans : (a b c : Option (List ℕ)) (text held more : List ℕ) → Sends a b text held → TakesPrefix b c (held ++ more) → TakesPrefix a c (text ++ more)
+TakesPrefix-trans a b c text held more s t = (t.0, Sends-trans a b c text held more t.0 s t.1)
 
 -- the sink took the whole text, and nothing is held back
 pub Sends-all : (a b : Option (List ℕ)) (text held : List ℕ) → held ≡ [] → Appends a b text → Sends a b text held
 Sends-all a b text held e p = record { sent = text; taken = p; whole = ap (λ l. text ++ l) e ∙ append-nil text }
 
 -- the sink gave up within what was held back of a text
-pub TakesBeginning-held : (a b c : Option (List ℕ)) (text held : List ℕ) → Sends a b text held → TakesBeginning b c held → TakesBeginning a c text
-TakesBeginning-held a b c text held s t = (
+pub TakesPrefix-held : (a b c : Option (List ℕ)) (text held : List ℕ) → Sends a b text held → TakesPrefix b c held → TakesPrefix a c text
+TakesPrefix-held a b c text held s t = (
   t.0,
   record {
     sent = s.sent ++ t.1.sent;
@@ -89,7 +89,7 @@ module _ {A : Type 0} (a b c : SinkState) (quiet : b.failures ≡ a.failures) wh
     ok = on_ok_weaker result (λ p. Appends-both a.contents b.contents c.contents text held sends p) writes.ok;
     quiet = on_ok_weaker result (λ e. e ∙ quiet) writes.quiet;
     only_write = writes.only_write;
-    beginning = on_err_weaker result (λ t. TakesBeginning-held a.contents b.contents c.contents text held sends t) writes.beginning;
+    prefix = on_err_weaker result (λ t. TakesPrefix-held a.contents b.contents c.contents text held sends t) writes.prefix;
     cause = on_err_weaker result (λ u. GivesUp-behind a b c quiet u) writes.cause;
   }
 
@@ -100,7 +100,7 @@ module _ {A : Type 0} (a b c : SinkState) (quiet : b.failures ≡ a.failures) wh
     ok = on_ok_weaker result (λ s. Sends-trans a.contents b.contents c.contents text held piece after sends s) puts.ok;
     quiet = on_ok_weaker result (λ e. e ∙ quiet) puts.quiet;
     only_write = puts.only_write;
-    beginning = on_err_weaker result (λ t. TakesBeginning-trans a.contents b.contents c.contents text held piece sends t) puts.beginning;
+    prefix = on_err_weaker result (λ t. TakesPrefix-trans a.contents b.contents c.contents text held piece sends t) puts.prefix;
     cause = on_err_weaker result (λ u. GivesUp-behind a b c quiet u) puts.cause;
   }
 
@@ -110,15 +110,15 @@ Puts-written a b text held result none writes = record {
   ok = on_ok_weaker result (λ p. Sends-all a.contents b.contents text held none p) writes.ok;
   quiet = writes.quiet;
   only_write = writes.only_write;
-  beginning = writes.beginning;
+  prefix = writes.prefix;
   cause = writes.cause;
 }
 
-module _ {A B : Type 0} (a b c : SinkState) (quiet : b.failures ≡ a.failures) (text held whole : List ℕ) (why : Refusal) (puts : Puts {A = A} b c text held (Err why)) (beginning : TakesBeginning a.contents c.contents whole) where
+module _ {A B : Type 0} (a b c : SinkState) (quiet : b.failures ≡ a.failures) (text held whole : List ℕ) (refusal : Refusal) (puts : Puts {A = A} b c text held (Err refusal)) (prefix : TakesPrefix a.contents c.contents whole) where
   -- where a putting is refused, so is the writing of the whole
-  pub Writes-refused : Writes {A = B} a c whole (Err why)
-  Writes-refused = record { ok = tt; quiet = tt; only_write = puts.only_write; beginning = beginning; cause = GivesUp-behind a b c quiet puts.cause }
+  pub Writes-refused : Writes {A = B} a c whole (Err refusal)
+  Writes-refused = record { ok = tt; quiet = tt; only_write = puts.only_write; prefix = prefix; cause = GivesUp-behind a b c quiet puts.cause }
 
   -- and the putting of it
-  pub Puts-refused : (after : List ℕ) → Puts {A = B} a c whole after (Err why)
-  Puts-refused after = record { ok = tt; quiet = tt; only_write = puts.only_write; beginning = beginning; cause = GivesUp-behind a b c quiet puts.cause }
+  pub Puts-refused : (after : List ℕ) → Puts {A = B} a c whole after (Err refusal)
+  Puts-refused after = record { ok = tt; quiet = tt; only_write = puts.only_write; prefix = prefix; cause = GivesUp-behind a b c quiet puts.cause }

@@ -11,28 +11,28 @@ pub record Sends (old new : Option (List ℕ)) (text held : List ℕ) : Type 0 w
   pub taken : Appends old new sent
   pub whole : sent ++ held ≡ text
 
--- a sink took a beginning of a text and nothing else; nothing is said of unknown contents
-abbrev pub TakesBeginning : Option (List ℕ) → Option (List ℕ) → List ℕ → Type 0
-TakesBeginning old new text = (rest : List ℕ) × Sends old new text rest
+-- a sink took a prefix of a text and nothing else; nothing is said of unknown contents
+abbrev pub TakesPrefix : Option (List ℕ) → Option (List ℕ) → List ℕ → Type 0
+TakesPrefix old new text = (rest : List ℕ) × Sends old new text rest
 
 -- one call of a sink failed, or none did and the last one that was handed bytes took nothing
 abbrev pub GivesUp : (old new : SinkState) → Type 0
 GivesUp old new = (new.failures ≡ old.failures + 1) ⊎ ((new.failures ≡ old.failures) × (new.is_full ≡ true))
 
 -- what the putting of a text into a block answers, which then holds so much back: the sink took the rest, and no call failed; or
--- it is refused by `Write` alone, a beginning of the text was taken, and the writer gave up
+-- it is refused by `Write` alone, a prefix of the text was taken, and the writer gave up
 pub record Puts {A : Type 0} (old new : SinkState) (text held : List ℕ) (result : Result A Refusal) : Type 0 where
   pub ok : OnOk result (Sends old.contents new.contents text held)
   pub quiet : OnOk result (new.failures ≡ old.failures)
-  pub only_write : IfErr result (λ why. why ≡ Write)
-  pub beginning : OnErr result (TakesBeginning old.contents new.contents text)
+  pub only_write : IfErr result (λ refusal. refusal ≡ Write)
+  pub prefix : OnErr result (TakesPrefix old.contents new.contents text)
   pub cause : OnErr result (GivesUp old new)
 
 -- what the writing of a text to a sink answers: all of it was taken and no call failed; or it is refused by `Write` alone, a
--- beginning of it was taken, and the writer gave up
+-- prefix of it was taken, and the writer gave up
 pub record Writes {A : Type 0} (old new : SinkState) (text : List ℕ) (result : Result A Refusal) : Type 0 where
   pub ok : OnOk result (Appends old.contents new.contents text)
   pub quiet : OnOk result (new.failures ≡ old.failures)
-  pub only_write : IfErr result (λ why. why ≡ Write)
-  pub beginning : OnErr result (TakesBeginning old.contents new.contents text)
+  pub only_write : IfErr result (λ refusal. refusal ≡ Write)
+  pub prefix : OnErr result (TakesPrefix old.contents new.contents text)
   pub cause : OnErr result (GivesUp old new)

@@ -4,4 +4,4 @@ pub mod Readers
 pub mod Writers
 pub mod Blocks
 pub mod Readings
-pub mod Beginnings
+pub mod Prefixes

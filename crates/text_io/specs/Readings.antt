@@ -41,4 +41,4 @@ EndsReadingAt _ old new = ReachesEnd old new
 -- how the reading behind an answer ended, by what is answered
 abbrev pub EndsReadingFor : {A : Type 0} → Result A Refusal → (old new : SourceState) → Type 0
 EndsReadingFor (Ok answer) old new = ReachesEnd old new
-EndsReadingFor (Err why) old new = EndsReadingAt why old new
+EndsReadingFor (Err refusal) old new = EndsReadingAt refusal old new

@@ -13,7 +13,7 @@ pub(crate) const BLOCK: usize = 65_536;
 /// So many bytes to read into.
 pub(crate) fn block_of(alloc: Global, len: usize) -> Result<Vec<u8>, Refusal>
     ensures len { IfOk result (λ block. vec_len block ≡ len) }
-    ensures err { IfErr result (λ why. why ≡ Refusal.Memory) }
+    ensures err { IfErr result (λ refusal. refusal ≡ Refusal.Memory) }
 {
     match vec![in alloc; 0; len] {
         Ok(block) => Ok(block),
@@ -30,7 +30,7 @@ fn read_block<R: Source>(reader: &mut R, block: &mut [u8]) -> Result<usize, Refu
     ensures end { IfOk result (λ count. count ≡ 0 → HasEnded (R.state reader.new)) }
     ensures budget { IfOk result (λ count.
         (R.state reader.new).budget + count ≡ (R.state reader.old).budget) }
-    ensures only_read { IfErr result (λ why. why ≡ Refusal.Read) }
+    ensures only_read { IfErr result (λ refusal. refusal ≡ Refusal.Read) }
     ensures failures { ReadsOrFails result (R.state reader.old) (R.state reader.new) }
 {
     match reader.read(block) {
@@ -86,7 +86,7 @@ pub(crate) fn read_to<R: Source>(
 /// Reads a source to its end, and keeps nothing.
 pub(crate) fn read_rest<R: Source>(reader: &mut R, block: &mut [u8]) -> Result<(), Refusal>
     requires { 0 < length block.old }
-    ensures only_read { IfErr result (λ why. why ≡ Refusal.Read) }
+    ensures only_read { IfErr result (λ refusal. refusal ≡ Refusal.Read) }
     ensures reader { EndsReadingFor result (R.state reader.old) (R.state reader.new) }
 {
     while read_block(reader, block)? > 0 {}

@@ -1,7 +1,7 @@
 //! What a kind of text is parsed to, by its grammar.
 ghost use Rattle.std.specs.Prelude.{◌≡◌, List, ℕ, IfOk, IfErr};
 ghost use Rattle.text_lines.specs.Grammars.{Grammar};
-ghost use Rattle.text_io.specs.Beginnings.{IsRefusedBy};
+ghost use Rattle.text_io.specs.Prefixes.{IsRefusedBy};
 
 use history::Refusal;
 use std::alloc::Global;

@@ -1,6 +1,6 @@
 //! Parses the text that a source gives, and keeps no more of it than its first faulty line wants.
 ghost use Rattle.std.specs.Prelude.{◌≡◌, IfOk, IfErr, IfSome};
-ghost use Rattle.text_io.specs.Beginnings.{IsLastingFault, IsRefusedReading};
+ghost use Rattle.text_io.specs.Prefixes.{IsLastingFault, IsRefusedReading};
 ghost use Rattle.text_io.specs.Readings.{EndsReadingFor, WereAll};
 
 use crate::devices::Source;
@@ -9,7 +9,7 @@ use crate::parsers::Parser;
 use history::{Refusal, TextCause};
 use std::alloc::Global;
 
-/// How many times as long as a beginning that is parsed the next one is. The first is a block.
+/// How many times as long as a prefix that is parsed the next one is. The first is a block.
 const GROWTH: usize = 16;
 
 /// The first faulty line that each text has which begins so, if one does, and what is wrong with it.
@@ -17,17 +17,17 @@ const GROWTH: usize = 16;
 /// A line that has no line feed yet is none.
 fn lasting_fault<P: Parser>(
     alloc: Global,
-    beginning: &[u8],
+    prefix: &[u8],
 ) -> Result<Option<(u64, TextCause)>, Refusal>
     ensures fault { IfOk result (λ found. IfSome found
-        (λ fault. IsLastingFault P.grammar P.first beginning.now fault.0 fault.1)) }
-    ensures only_memory { IfErr result (λ why. why ≡ Refusal.Memory) }
+        (λ fault. IsLastingFault P.grammar P.first prefix.now fault.0 fault.1)) }
+    ensures only_memory { IfErr result (λ refusal. refusal ≡ Refusal.Memory) }
 {
-    let Err(why) = P::parse(alloc, beginning) else {
+    let Err(refusal) = P::parse(alloc, prefix) else {
         return Ok(None);
     };
-    let Refusal::Text(number, cause) = why else {
-        return Err(why);
+    let Refusal::Text(number, cause) = refusal else {
+        return Err(refusal);
     };
     if cause == TextCause::End {
         return Ok(None);
@@ -40,7 +40,7 @@ fn lasting_fault<P: Parser>(
 /// It is refused, in this order, by `Memory`, as soon as a growth is refused; `Read`, where a call of the source fails;
 /// `Text`, where the bytes are no such text: the number of the first faulty line, from 1, and what is wrong with it. A text
 /// with a faulty line is read to its end, and of what follows that line no more is kept than 64 KiB or some 16 times what
-/// stands before. So a text of more than 64 KiB is also parsed in beginnings, which together are at most 16/15 as long as it.
+/// stands before. So a text of more than 64 KiB is also parsed in prefixes, which together are at most 16/15 as long as it.
 /// Takes memory; whether it waits is up to the source.
 pub fn parse_source<P: Parser, R: Source>(
     alloc: Global,

@@ -7,7 +7,7 @@ use history::Refusal;
 
 /// Hands a sink all these bytes. It takes no memory.
 ///
-/// It is refused by `Write` where a call of the sink fails or takes nothing; a beginning of the bytes
+/// It is refused by `Write` where a call of the sink fails or takes nothing; a prefix of the bytes
 /// is written then.
 pub fn send<W: Sink>(text: &[u8], sink: &mut W) -> Result<(), Refusal>
     ensures { Writes (W.state sink.old) (W.state sink.new) text.now result }

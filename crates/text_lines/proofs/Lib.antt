@@ -1,5 +1,5 @@
 pub mod Numerals
-pub mod Cuts
+pub mod Splits
 pub mod Digits
 pub mod Faults
 pub mod ReadingBack

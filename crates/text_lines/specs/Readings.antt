@@ -15,13 +15,13 @@ ReadsBack InRange v kept = MatchOption kept (¬ InRange v) (λ x. (x ≡ v) × I
 abbrev pub Reads : {V : Type 0} → (V → Type 0) → (V → Type 0) → Result (Option V) TextCause → Type 0
 Reads {V} IsThere InRange result = MatchResult result
     (λ kept. (v : V) × IsThere v × ReadsBack InRange v kept)
-    (λ why. (why ≡ Form) × ((v : V) → ¬ IsThere v))
+    (λ cause. (cause ≡ Form) × ((v : V) → ¬ IsThere v))
 
 -- the same at the front of the words of a line, of which others are left
 abbrev pub ReadsWords : {V : Type 0} → (V → List (List ℕ)) → (V → Type 0) → List (List ℕ) → List (List ℕ) → Result (Option V) TextCause → Type 0
 ReadsWords {V} words InRange old new result = MatchResult result
     (λ kept. (v : V) × (old ≡ words v ++ new) × ReadsBack InRange v kept)
-    (λ why. (why ≡ Form) × ((v : V) (rest : List (List ℕ)) → old ≢ words v ++ rest))
+    (λ cause. (cause ≡ Form) × ((v : V) (rest : List (List ℕ)) → old ≢ words v ++ rest))
 
 -- what is wrong with a line: it says nothing, or something that is out of range
 abbrev pub IsWrong : {V : Type 0} → (V → Type 0) → (V → Type 0) → TextCause → Type 0

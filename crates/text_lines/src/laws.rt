@@ -8,7 +8,8 @@ ghost use Rattle.text_lines.specs.declared.causes.TextCause.{TextCause};
 /// A word is a number exactly where it is one digit or more, the first of several not being 0, and it is then one
 /// number.
 pub fn numbers_are_plain_words()
-    //= texts/numbers (plain, one)
+    //= texts/numbers (plain, one): A number of any length (in range, out of it or none) and a line's words are told
+    //=   exactly.
     ensures plain { (word : List ℕ) → IsPlain word ↔ ((n : ℕ) × (word ≡ numeral n)) }
     ensures one { (m n : ℕ) → numeral m ≡ numeral n → m ≡ n }
 {}

@@ -2,14 +2,14 @@
 #![tactic(auto)]
 
 mod causes;
-mod cutting;
 pub mod laws;
 mod numbers;
 mod printable;
+mod splitting;
 mod wording;
 
 pub use causes::TextCause;
-pub use cutting::line_at;
 pub use numbers::number_in;
 pub use printable::printable_in;
+pub use splitting::line_at;
 pub use wording::Words;

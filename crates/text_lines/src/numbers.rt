@@ -17,7 +17,7 @@ fn grown(number: Option<u64>, digit: u8) -> Option<u64>
 fn number_of(word: &[u8]) -> Result<Option<u64>, TextCause>
     ensures { MatchResult result
         (λ number. (n : ℕ) × (word.now ≡ numeral n) × Shows n number)
-        (λ why. (why ≡ TextCause.Form) × ((n : ℕ) → word.now ≢ numeral n)) }
+        (λ cause. (cause ≡ TextCause.Form) × ((n : ℕ) → word.now ≢ numeral n)) }
 {
     let mut number = Some(0);
     for byte in word {

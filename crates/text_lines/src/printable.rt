@@ -21,7 +21,7 @@ pub fn printable_in(bytes: &[u8], most: usize) -> Result<Option<&str>, TextCause
     ensures { MatchResult result
         (λ kept. IsPrintable bytes.now × MatchOption kept (¬ IsShort most bytes.now)
         (λ text. (text.now ≡ bytes.now) × IsShort most bytes.now))
-        (λ why. (why ≡ TextCause.Form) × ¬ IsPrintable bytes.now) }
+        (λ cause. (cause ≡ TextCause.Form) × ¬ IsPrintable bytes.now) }
 {
     if !are_printable(bytes) {
         return Err(TextCause::Form);

@@ -6,8 +6,8 @@ ghost use Rattle.text_lines.specs.Readings.{ReadsWords};
 ghost use Rattle.text_lines.specs.Wording.{number_words};
 
 use crate::causes::TextCause;
-use crate::cutting::cut_at;
 use crate::numbers::number_in;
+use crate::splitting::split_once;
 use std::marker::Model;
 
 const SPACE: u8 = 32;
@@ -44,7 +44,7 @@ impl<'a> Words<'a> {
             (λ word. self.old ≡ word.now ∷ self.new) }
     {
         let rest = self.rest?;
-        match cut_at(rest, SPACE) {
+        match split_once(rest, SPACE) {
             Some((word, rest)) => {
                 self.rest = Some(rest);
                 Some(word)
@@ -59,7 +59,7 @@ impl<'a> Words<'a> {
     /// Goes over the next word, which has to be this one; else refused with `Form`.
     pub fn expect_word(&mut self, word: &[u8]) -> Result<(), TextCause>
         ensures ok { OnOk result (self.old ≡ word.now ∷ self.new) }
-        ensures err { IfErr result (λ why. (why ≡ TextCause.Form)
+        ensures err { IfErr result (λ cause. (cause ≡ TextCause.Form)
             × ((rest : List (List ℕ)) → self.old ≢ word.now ∷ rest)) }
     {
         match self.next_word() {
@@ -82,7 +82,7 @@ impl<'a> Words<'a> {
     /// Refused with `Form` where a word is left.
     pub fn expect_end(self) -> Result<(), TextCause>
         ensures ok { OnOk result (self.entry ≡ []) }
-        ensures err { IfErr result (λ why. (why ≡ TextCause.Form) × (self.entry ≢ [])) }
+        ensures err { IfErr result (λ cause. (cause ≡ TextCause.Form) × (self.entry ≢ [])) }
     {
         match self.rest {
             Some(_) => Err(TextCause::Form),

@@ -35,9 +35,9 @@ module _ (lines : ℕ) (start : World) (events : List Event) where
   HasCounted-all w i line so_far over = subst (λ (l : List Event). EventsLead start l w) (take_all i events over) so_far.led
 
   -- the next one is refused
-  pub HasCounted-refused : (w : World) (i line : ℕ) (event : Event) (why : Refusal) → HasCounted lines start events w i line → i < length events → event ≡ get_or events i event
-      → EventRefused w event why → EventsRefused lines start events line why
-  HasCounted-refused w i line event why so_far within is refused = record {
+  pub HasCounted-refused : (w : World) (i line : ℕ) (event : Event) (refusal : Refusal) → HasCounted lines start events w i line → i < length events → event ≡ get_or events i event
+      → EventRefused w event refusal → EventsRefused lines start events line refusal
+  HasCounted-refused w i line event refusal so_far within is refused = record {
     before = take i events;
     event = event;
     later = drop (i + 1) events;
@@ -51,7 +51,7 @@ module _ (lines : ℕ) (start : World) (events : List Event) where
   }
 
 -- a refusal that is told with its line, if with one
-pub refused_line : (lines : ℕ) (start : World) (events : List Event) (at : ℕ) (why told : Refusal) (line : Option ℕ) → IfSome line (λ l. l ≡ at) → told ≡ why
-    → EventsRefused lines start events at why → IfSome line (λ l. EventsRefused lines start events l told)
-refused_line lines start events at why told None is same refused = tt
-refused_line lines start events at why told (Some l) is same refused = rw (is, same) refused
+pub refused_line : (lines : ℕ) (start : World) (events : List Event) (at : ℕ) (refusal told : Refusal) (line : Option ℕ) → IfSome line (λ l. l ≡ at) → told ≡ refusal
+    → EventsRefused lines start events at refusal → IfSome line (λ l. EventsRefused lines start events l told)
+refused_line lines start events at refusal told None is same refused = tt
+refused_line lines start events at refusal told (Some l) is same refused = rw (is, same) refused

@@ -7,9 +7,9 @@ use Rattle.schedule_text.specs.declared.schedules.Event.{Event}
 use Rattle.schedule_text.specs.Schedules.{moves_of, moves_of_event}
 use Rattle.step_machine.specs.declared.actors.Move.{Move}
 use Rattle.step_machine.specs.Machine.{World, next}
-use Rattle.text_io.specs.Blocks.{Sends, TakesBeginning, GivesUp, Puts, Writes}
+use Rattle.text_io.specs.Blocks.{Sends, TakesPrefix, GivesUp, Puts, Writes}
 use Rattle.text_io.specs.Devices.{SinkState}
-use Rattle.text_io.proofs.Sends.{Sends-none, Sends-trans, Sends-all, TakesBeginning-longer, TakesBeginning-trans}
+use Rattle.text_io.proofs.Sends.{Sends-none, Sends-trans, Sends-all, TakesPrefix-longer, TakesPrefix-trans}
 use Rattle.run_engine.specs.Runs.{world_after}
 use Rattle.run_engine.proofs.Moves.{world_after_both, world_after_one}
 use Rattle.trace_engine.specs.Steps.{moves_text}
@@ -33,25 +33,25 @@ module _ (bits : ℕ) (a b : SinkState) (text : List ℕ) (start : World) (moves
   -- some more were made and told
   pub HasTold-more : (c : SinkState) (w v : World) (held after : List ℕ) (left chunk rest : List Move) → HasTold bits a b text start moves w held left → left ≡ chunk ++ rest → world_after chunk w ≡ Some v
       → Sends b.contents c.contents (held ++ moves_text bits chunk w) after → c.failures ≡ b.failures → HasTold bits a c text start moves v after rest
-  HasTold-more c w v held after left chunk rest t cut led sends quiet =
+  HasTold-more c w v held after left chunk rest t parts led sends quiet =
       let more = Sends-trans a.contents b.contents c.contents (text ++ moves_text bits t.before start) held (moves_text bits chunk w) after t.sends sends in
       let whole : (text ++ moves_text bits t.before start) ++ moves_text bits chunk w ≡ text ++ moves_text bits (t.before ++ chunk) start =
       append_assoc text (moves_text bits t.before start) (moves_text bits chunk w) ∙ ap (λ (l : List ℕ). text ++ l) (sym (moves_text-append bits t.before chunk start w t.led)) in
       record {
         before = t.before ++ chunk;
-        split = t.split ∙ ap (λ (l : List Move). t.before ++ l) cut ∙ sym (append_assoc t.before chunk rest);
+        split = t.split ∙ ap (λ (l : List Move). t.before ++ l) parts ∙ sym (append_assoc t.before chunk rest);
         led = world_after_both t.before chunk start w v t.led led;
         sends = subst (λ (l : List ℕ). Sends a.contents c.contents l after) whole more;
         quiet = quiet ∙ t.quiet;
       }
 
-  -- where the telling of some stopped, a beginning of the whole was told
+  -- where the telling of some stopped, a prefix of the whole was told
   pub HasTold-stopped : (c : SinkState) (w v : World) (held : List ℕ) (left chunk rest : List Move) → HasTold bits a b text start moves w held left → left ≡ chunk ++ rest → world_after chunk w ≡ Some v
-      → TakesBeginning b.contents c.contents (held ++ moves_text bits chunk w) → TakesBeginning a.contents c.contents (text ++ moves_text bits moves start)
-  HasTold-stopped c w v held left chunk rest t cut led begun =
-      let some = TakesBeginning-trans a.contents b.contents c.contents (text ++ moves_text bits t.before start) held (moves_text bits chunk w) t.sends begun in
-      let longer = TakesBeginning-longer a.contents c.contents ((text ++ moves_text bits t.before start) ++ moves_text bits chunk w) (moves_text bits rest v) some in
-      let here : moves_text bits chunk w ++ moves_text bits rest v ≡ moves_text bits left w = sym (ap (λ (l : List Move). moves_text bits l w) cut ∙ moves_text-append bits chunk rest w v led) in
+      → TakesPrefix b.contents c.contents (held ++ moves_text bits chunk w) → TakesPrefix a.contents c.contents (text ++ moves_text bits moves start)
+  HasTold-stopped c w v held left chunk rest t parts led begun =
+      let some = TakesPrefix-trans a.contents b.contents c.contents (text ++ moves_text bits t.before start) held (moves_text bits chunk w) t.sends begun in
+      let longer = TakesPrefix-longer a.contents c.contents ((text ++ moves_text bits t.before start) ++ moves_text bits chunk w) (moves_text bits rest v) some in
+      let here : moves_text bits chunk w ++ moves_text bits rest v ≡ moves_text bits left w = sym (ap (λ (l : List Move). moves_text bits l w) parts ∙ moves_text-append bits chunk rest w v led) in
       let all : moves_text bits t.before start ++ moves_text bits left w ≡ moves_text bits moves start =
       sym (ap (λ (l : List Move). moves_text bits l start) t.split ∙ moves_text-append bits t.before left start w t.led) in
       let whole : ((text ++ moves_text bits t.before start) ++ moves_text bits chunk w) ++ moves_text bits rest v ≡ text ++ moves_text bits moves start =
@@ -59,7 +59,7 @@ module _ (bits : ℕ) (a b : SinkState) (text : List ℕ) (start : World) (moves
       ∙ ap (λ (l : List ℕ). (text ++ moves_text bits t.before start) ++ l) here
       ∙ append_assoc text (moves_text bits t.before start) (moves_text bits left w)
       ∙ ap (λ (l : List ℕ). text ++ l) all in
-      subst (λ (l : List ℕ). TakesBeginning a.contents c.contents l) whole longer
+      subst (λ (l : List ℕ). TakesPrefix a.contents c.contents l) whole longer
 
 -- of copies of a move one more was made and told
 pub told_one : (bits : ℕ) (a b c : SinkState) (text : List ℕ) (start : World) (m : Move) (count i : ℕ) (w v : World) (held after : List ℕ) → i < count
@@ -73,56 +73,56 @@ told_one bits a b c text start m count i w v held after few told made sends quie
 -- the telling of one of them stopped
 pub stopped_one : (bits : ℕ) (a b c : SinkState) (text : List ℕ) (start : World) (m : Move) (count i : ℕ) (w : World) (held : List ℕ) → i < count
     → HasTold bits a b text start (replicate count m) w held (replicate (count - i) m) → IsSome (world_after (replicate count m) start)
-    → TakesBeginning b.contents c.contents (held ++ moves_text bits (m ∷ []) w) → TakesBeginning a.contents c.contents (text ++ moves_text bits (replicate count m) start)
+    → TakesPrefix b.contents c.contents (held ++ moves_text bits (m ∷ []) w) → TakesPrefix a.contents c.contents (text ++ moves_text bits (replicate count m) start)
 stopped_one bits a b c text start m count i w held few told can begun =
-    let cut = replicate-first count i m few in
+    let parts = replicate-first count i m few in
     let left = HasTold-can bits a b text start (replicate count m) w held (replicate (count - i) m) told can in
-    let first = first_moves (m ∷ []) (replicate (count - (i + 1)) m) w (subst (λ (ms : List Move). IsSome (world_after ms w)) cut left) in
-    HasTold-stopped bits a b text start (replicate count m) c w first.0 held (replicate (count - i) m) (m ∷ []) (replicate (count - (i + 1)) m) told cut first.1 begun
+    let first = first_moves (m ∷ []) (replicate (count - (i + 1)) m) w (subst (λ (ms : List Move). IsSome (world_after ms w)) parts left) in
+    HasTold-stopped bits a b text start (replicate count m) c w first.0 held (replicate (count - i) m) (m ∷ []) (replicate (count - (i + 1)) m) told parts first.1 begun
 
 -- the calls before the one at which a telling stopped didn't fail
-pub StopsTelling-behind : (a b c : SinkState) (why : Refusal) → b.failures ≡ a.failures → StopsTelling why b c → StopsTelling why a c
+pub StopsTelling-behind : (a b c : SinkState) (refusal : Refusal) → b.failures ≡ a.failures → StopsTelling refusal b c → StopsTelling refusal a c
 StopsTelling-behind a b c Write quiet (inl failed) = inl (failed ∙ ap (λ (n : ℕ). n + 1) quiet)
 StopsTelling-behind a b c Write quiet (inr full) = inr (full.0 ∙ quiet, full.1)
 StopsTelling-behind a b c Memory quiet same = same ∙ quiet
 StopsTelling-behind a b c _ quiet none = absurd none
 
 -- what is refused by `Write` alone stops a telling
-pub StopsTelling-write : (a b : SinkState) (why : Refusal) → why ≡ Write → GivesUp a b → StopsTelling why a b
-StopsTelling-write a b why is gave = rw is gave
+pub StopsTelling-write : (a b : SinkState) (refusal : Refusal) → refusal ≡ Write → GivesUp a b → StopsTelling refusal a b
+StopsTelling-write a b refusal is gave = rw is gave
 
 -- what is refused by `Memory` alone stops it where it stands
-pub StopsTelling-memory : (a : SinkState) (why : Refusal) → why ≡ Memory → StopsTelling why a a
-StopsTelling-memory a why is = rw is refl
+pub StopsTelling-memory : (a : SinkState) (refusal : Refusal) → refusal ≡ Memory → StopsTelling refusal a a
+StopsTelling-memory a refusal is = rw is refl
 
 -- nothing of a text was taken
-pub TakesBeginning-none : (a : SinkState) (text : List ℕ) → TakesBeginning a.contents a.contents text
-TakesBeginning-none a text = (text, Sends-none a.contents text)
+pub TakesPrefix-none : (a : SinkState) (text : List ℕ) → TakesPrefix a.contents a.contents text
+TakesPrefix-none a text = (text, Sends-none a.contents text)
 
 -- what is refused is told
-pub Tells-refused : {A : Type 0} (a b : SinkState) (text held : List ℕ) (why : Refusal) → TakesBeginning a.contents b.contents text → StopsTelling why a b → Tells {A = A} a b text held (Err why)
-Tells-refused a b text held why begun stops = record { ok = tt; quiet = tt; beginning = begun; cause = stops }
+pub Tells-refused : {A : Type 0} (a b : SinkState) (text held : List ℕ) (refusal : Refusal) → TakesPrefix a.contents b.contents text → StopsTelling refusal a b → Tells {A = A} a b text held (Err refusal)
+Tells-refused a b text held refusal begun stops = record { ok = tt; quiet = tt; prefix = begun; cause = stops }
 
 -- what is put is told
 pub Tells-put : {A : Type 0} (a b : SinkState) (text held : List ℕ) (result : Result A Refusal) → Puts a b text held result → Tells a b text held result
-Tells-put a b text held (Ok done) puts = record { ok = puts.ok; quiet = puts.quiet; beginning = tt; cause = tt }
-Tells-put a b text held (Err why) puts = record { ok = tt; quiet = tt; beginning = puts.beginning; cause = StopsTelling-write a b why puts.only_write puts.cause }
+Tells-put a b text held (Ok done) puts = record { ok = puts.ok; quiet = puts.quiet; prefix = tt; cause = tt }
+Tells-put a b text held (Err refusal) puts = record { ok = tt; quiet = tt; prefix = puts.prefix; cause = StopsTelling-write a b refusal puts.only_write puts.cause }
 
 -- what is written whole is told
 pub Tells-written : {A : Type 0} (a b : SinkState) (text : List ℕ) (result : Result A Refusal) → Writes a b text result → Tells a b text [] result
-Tells-written a b text (Ok done) writes = record { ok = Sends-all a.contents b.contents text [] refl writes.ok; quiet = writes.quiet; beginning = tt; cause = tt }
-Tells-written a b text (Err why) writes = record { ok = tt; quiet = tt; beginning = writes.beginning; cause = StopsTelling-write a b why writes.only_write writes.cause }
+Tells-written a b text (Ok done) writes = record { ok = Sends-all a.contents b.contents text [] refl writes.ok; quiet = writes.quiet; prefix = tt; cause = tt }
+Tells-written a b text (Err refusal) writes = record { ok = tt; quiet = tt; prefix = writes.prefix; cause = StopsTelling-write a b refusal writes.only_write writes.cause }
 
 -- the moves of one event more, which are these
 module _ (bits : ℕ) (a b c : SinkState) (text : List ℕ) (start : World) (events : List Event) (i : ℕ) (event : Event) (within : i < length events) (is : event ≡ get_or events i event) (w : World) (held : List ℕ)
     (chunk : List Move) (same : chunk ≡ moves_of_event event) (told : HasTold bits a b text start (moves_of events) w held (moves_of (drop i events))) where
-  cut : moves_of (drop i events) ≡ chunk ++ moves_of (drop (i + 1) events)
-  cut = moves_of-drop events i event within is ∙ ap (λ (ms : List Move). ms ++ moves_of (drop (i + 1) events)) (sym same)
+  parts : moves_of (drop i events) ≡ chunk ++ moves_of (drop (i + 1) events)
+  parts = moves_of-drop events i event within is ∙ ap (λ (ms : List Move). ms ++ moves_of (drop (i + 1) events)) (sym same)
 
   first : IsSome (world_after (moves_of events) start) → (v : World) × (world_after chunk w ≡ Some v)
   first can =
       first_moves chunk (moves_of (drop (i + 1) events)) w
-      (subst (λ (ms : List Move). IsSome (world_after ms w)) cut (HasTold-can bits a b text start (moves_of events) w held (moves_of (drop i events)) told can))
+      (subst (λ (ms : List Move). IsSome (world_after ms w)) parts (HasTold-can bits a b text start (moves_of events) w held (moves_of (drop i events)) told can))
 
   -- they can be made
   pub can_event : IsSome (world_after (moves_of events) start) → IsSome (world_after chunk w)
@@ -132,10 +132,10 @@ module _ (bits : ℕ) (a b c : SinkState) (text : List ℕ) (start : World) (eve
   pub told_event : (v : World) (after : List ℕ) → world_after chunk w ≡ Some v → Sends b.contents c.contents (held ++ moves_text bits chunk w) after → c.failures ≡ b.failures
       → HasTold bits a c text start (moves_of events) v after (moves_of (drop (i + 1) events))
   told_event v after led sends quiet =
-      HasTold-more bits a b text start (moves_of events) c w v held after (moves_of (drop i events)) chunk (moves_of (drop (i + 1) events)) told cut led sends quiet
+      HasTold-more bits a b text start (moves_of events) c w v held after (moves_of (drop i events)) chunk (moves_of (drop (i + 1) events)) told parts led sends quiet
 
   -- their telling stopped
-  pub stopped_event : IsSome (world_after (moves_of events) start) → TakesBeginning b.contents c.contents (held ++ moves_text bits chunk w)
-      → TakesBeginning a.contents c.contents (text ++ moves_text bits (moves_of events) start)
+  pub stopped_event : IsSome (world_after (moves_of events) start) → TakesPrefix b.contents c.contents (held ++ moves_text bits chunk w)
+      → TakesPrefix a.contents c.contents (text ++ moves_text bits (moves_of events) start)
   stopped_event can begun =
-      HasTold-stopped bits a b text start (moves_of events) c w (first can).0 held (moves_of (drop i events)) chunk (moves_of (drop (i + 1) events)) told cut (first can).1 begun
+      HasTold-stopped bits a b text start (moves_of events) c w (first can).0 held (moves_of (drop i events)) chunk (moves_of (drop (i + 1) events)) told parts (first can).1 begun

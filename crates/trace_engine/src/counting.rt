@@ -23,7 +23,7 @@ pub(crate) fn opening_world<const B: u32>(
     requires range { IsInRange schedule.now }
     requires bits { schedule.now.bits ≡ B }
     ensures ok { IfOk result (λ w. w ≡ opening_of schedule.now) }
-    ensures err { IfErr result (λ why. why ≡ Memory) }
+    ensures err { IfErr result (λ refusal. refusal ≡ Memory) }
 {
     let actors = u32::from(schedule.actors);
     WorldOf::new(alloc, schedule.kind, schedule.nodes, schedule.limit, actors)

@@ -91,14 +91,14 @@ pub fn trace_text<R: Source, W: Sink>(
     ensures ok { OnOk result (WritesTrace (R.state reader.old).left (W.state writer.old)
         (W.state writer.new)) }
     ensures quiet { OnOk result ((W.state writer.new).failures ≡ (W.state writer.old).failures) }
-    //= program/prefix (beginning, write, memory, none_failed, unwritten): Of a trace or a picture at `Write` a prefix
+    //= program/prefix (prefix, write, memory, none_failed, unwritten): Of a trace or a picture at `Write` a prefix
     //=   is written, and a write failed or took nothing; at `Memory` nothing or a prefix, and no write failed; at any
     //=   other refusal nothing.
-    ensures beginning { IfErr result (λ fault. fault.refusal ≡ Refusal.Write
+    ensures prefix { IfErr result (λ fault. fault.refusal ≡ Refusal.Write
         → BeginsTrace (R.state reader.old).left (W.state writer.old) (W.state writer.new)) }
     ensures write { IfErr result (λ fault. fault.refusal ≡ Refusal.Write
         → GivesUp (W.state writer.old) (W.state writer.new)) }
-    // Where memory is refused, nothing or a beginning of it is, and no call of the writer failed.
+    // Where memory is refused, nothing or a prefix of it is, and no call of the writer failed.
     ensures memory { IfErr result (λ fault. fault.refusal ≡ Refusal.Memory → (writer.new ≡ writer.old)
         ⊎ BeginsTrace (R.state reader.old).left (W.state writer.old) (W.state writer.new)) }
     ensures none_failed { IfErr result (λ fault. fault.refusal ≡ Refusal.Memory

@@ -198,7 +198,7 @@ pub(crate) fn push_move<const B: u32>(
     ensures ok { OnOk result (next world.old one ≡ Some world.new) }
     ensures steps { OnOk result (world.new.steps ≤ world.old.steps + 1) }
     ensures text { OnOk result (line.new ≡ move_text B world.old world.new one) }
-    ensures memory { IfErr result (λ why. why ≡ Memory) }
+    ensures memory { IfErr result (λ refusal. refusal ≡ Memory) }
 {
     match one {
         Move::Begin(actor, op) => world.begin(actor, op)?,

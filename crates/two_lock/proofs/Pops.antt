@@ -108,7 +108,7 @@ pop_gives_up r s t spent turns (suc m) some all g =
 
 -- what the lines under the lock came to ends the pop
 module _ (r : Arena) (s t : Seat) (failed turns : ℕ) where
-  pub pop_worn_out : (why : Refusal) → Fronts r s t (Ends (IsRefused why)) → Draws pop_worn r s (keeping t None failed) failed turns (Err why)
+  pub pop_worn_out : (refusal : Refusal) → Fronts r s t (Ends (IsRefused refusal)) → Draws pop_worn r s (keeping t None failed) failed turns (Err refusal)
   pop_worn_out Closed f = let k = f.fronted in draws_shut pop_worn r s t failed turns f.lines f.seat k.over f.empty f.stored k.finds k.cause
   pop_worn_out _ f = let k = f.fronted in draws_worn pop_worn r s t _ OfHead failed turns f.lines f.seat k.over f.empty f.stored k.walks k.is k.cause tt
 
@@ -124,8 +124,8 @@ module _ (r : Arena) (s t : Seat) (failed turns : ℕ) where
   pop_empty less f = let k = f.fronted in draws_empty pop_worn r s t failed turns f.lines less f.seat k.over f.empty f.stored k.path f.never k.found
 
   -- a pop that ends without a refusal found the queue empty
-  pub pop_ended : (answer : Reply) → ((why : Refusal) → answer ≡ IsRefused why → ⊥) → failed < turns → Fronts r s t (Ends answer) → Draws pop_worn r s (keeping t None failed) failed turns (Ok None)
+  pub pop_ended : (answer : Reply) → ((refusal : Refusal) → answer ≡ IsRefused refusal → ⊥) → failed < turns → Fronts r s t (Ends answer) → Draws pop_worn r s (keeping t None failed) failed turns (Ok None)
   pop_ended IsEmpty other less f = pop_empty less f
-  pop_ended (IsRefused why) other less f = absurd (other why refl)
+  pop_ended (IsRefused refusal) other less f = absurd (other refusal refl)
   pop_ended IsDone other less f = absurd f.fronted
   pop_ended (IsValue word) other less f = absurd f.fronted

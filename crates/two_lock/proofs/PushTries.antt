@@ -246,10 +246,10 @@ puts_it r s t u x h val a b out from body spent n turns is same g follows won li
     }
 
 -- the queue was found shut
-pub finds_it_shut : (r : Arena) (s t u x : Seat) (h : Held) (val : ℕ) (a b : Running) (out : Outcome Running) (why : Refusal) (body spent n turns : ℕ) → a ≡ registers_of h val → b ≡ registers_of h val → Trying r s t h val spent n → Follows r t u continues A3 a out → has_lock out ≡ true → Links r u x b (Err why) → Puts push_worn r s (keeping x (Some h) n) h.node body spent turns (Err why)
-finds_it_shut r s t u x h val a b out why body spent n turns is same g follows won linked =
+pub finds_it_shut : (r : Arena) (s t u x : Seat) (h : Held) (val : ℕ) (a b : Running) (out : Outcome Running) (refusal : Refusal) (body spent n turns : ℕ) → a ≡ registers_of h val → b ≡ registers_of h val → Trying r s t h val spent n → Follows r t u continues A3 a out → has_lock out ≡ true → Links r u x b (Err refusal) → Puts push_worn r s (keeping x (Some h) n) h.node body spent turns (Err refusal)
+finds_it_shut r s t u x h val a b out refusal body spent n turns is same g follows won linked =
     let f : Follows r t u continues A3 (registers_of h val) out = subst (λ x. Follows r t u continues A3 x out) is follows in
-    let k : Links r u x (registers_of h val) (Err why) = subst (λ y. Links r u x y (Err why)) same linked in
+    let k : Links r u x (registers_of h val) (Err refusal) = subst (λ y. Links r u x y (Err refusal)) same linked in
     let try : Event = event r t u continues A3 f.found f.did in
     let before : List Event = g.lines ++ try ∷ [] in
     let w : ExtendsPath (view s) (view u) before = walk_then (view s) (view t) (view u) g.lines (try ∷ []) g.walks (try_walk r t u (registers_of h val) out g.stands f) in

@@ -206,15 +206,15 @@ module _ (r : Arena) (s t u : Seat) (n : ℕ) (g : Trying r s t n) (a : Running)
 
       shut_of : (o : Result (Unit {0}) Refusal) → ShutOr r u x k.lines o → OnOk o (Shuts s x)
       shut_of (Ok y) h = let acts = acted h in subst (Acts (view s) (view x) (Shut (view s).number)) (sym (added_path s x es acts.path)) acts
-      shut_of (Err why) h = tt
+      shut_of (Err refusal) h = tt
 
       few_of : (o : Result (Unit {0}) Refusal) → ShutOr r u x k.lines o → OnOk o (FailsFewer s x turns)
       few_of (Ok y) h = let c : failed_turns (added s x) ≡ failed_turns es = ap failed_turns (added_path s x es (acted h).path) in omega (arith, c, all, less)
-      few_of (Err why) h = tt
+      few_of (Err refusal) h = tt
 
-      refused_by : (o : Result (Unit {0}) Refusal) → ShutOr r u x k.lines o → IfErr o (λ why. StopsAPush s x why × ShutRefused shut_worn r s x turns why)
+      refused_by : (o : Result (Unit {0}) Refusal) → ShutOr r u x k.lines o → IfErr o (λ refusal. StopsAPush s x refusal × ShutRefused shut_worn r s x turns refusal)
       refused_by (Ok y) h = tt
-      refused_by (Err why) h =
+      refused_by (Err refusal) h =
           let finds = found h.finds in
           let e : added s x ≡ es = added_path s x es finds.path in
           subst (λ y. StopsAPush s x y × ShutRefused shut_worn r s x turns y) (sym h.is) (

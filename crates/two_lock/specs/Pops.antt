@@ -73,7 +73,7 @@ told_by None = None
 told_by (Some IsDone) = Some reply.Done
 told_by (Some (IsValue word)) = Some (reply.Value (value_of word))
 told_by (Some IsEmpty) = Some reply.Empty
-told_by (Some (IsRefused why)) = Some (reply.Refused why)
+told_by (Some (IsRefused refusal)) = Some (reply.Refused refusal)
 
 -- what is due, and with a value the node that comes free
 pub record KnowsDue (b : Actor) (a : Running) (due : Option Reply) : Type 0 where
@@ -121,22 +121,22 @@ pub record SawShut (r : Arena) (s t : Seat) (es : List Event) : Type 0 where
   pub cause : EndedAt r s es (IsRefusedAt r.plan.setup (view s).number Closed)
 
 -- Head was found worn out
-pub record SawWorn (r : Arena) (s t : Seat) (es : List Event) (why : Refusal) : Type 0 where
+pub record SawWorn (r : Arena) (s t : Seat) (es : List Event) (refusal : Refusal) : Type 0 where
   pub over : (view t).actor.line ≡ None
   pub walks : ExtendsPath (view s) (view t) es
-  pub is : why ≡ WornOut OfHead
+  pub is : refusal ≡ WornOut OfHead
   pub cause : EndedAt r s es (IsRefusedAt r.plan.setup (view s).number (WornOut OfHead))
 
 -- why a pop ends under the lock: the queue was found shut and empty, or Head worn out
 abbrev pub Stops : Arena → Seat → Seat → List Event → Refusal → Type 0
 Stops r s t es Closed = SawShut r s t es
-Stops r s t es why = SawWorn r s t es why
+Stops r s t es refusal = SawWorn r s t es refusal
 
 -- what the lines under the lock come to
 abbrev pub Fronted : Arena → Seat → Seat → List Event → Outcome Running → Type 0
 Fronted r s t es (Goes l a) = Took r s t es a
 Fronted r s t es (Ends IsEmpty) = SawEmpty s t es
-Fronted r s t es (Ends (IsRefused why)) = Stops r s t es why
+Fronted r s t es (Ends (IsRefused refusal)) = Stops r s t es refusal
 Fronted r s t es (Ends reply) = ⊥
 
 -- the lines under the lock, from B2 to B6

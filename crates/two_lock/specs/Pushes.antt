@@ -37,7 +37,7 @@ registers_of h val = record { node = h.node; mark = h.mark; val = val; tail = re
 
 -- where a push ends once the lock was let go: refused where that is due, else done
 abbrev pub left_as : Option Reply → Outcome Running
-left_as (Some (IsRefused why)) = Ends (IsRefused why)
+left_as (Some (IsRefused refusal)) = Ends (IsRefused refusal)
 left_as _ = Ends Done
 
 -- how a push sets out that has its node and this word of a value
@@ -67,7 +67,7 @@ HasNode b a = record { node : b.node ≡ a.node; mark : b.mark ≡ a.mark; val :
 
 -- the reply that is due, in the words of the machine
 abbrev pub told_by : Option Reply → Option replies.Reply
-told_by (Some (IsRefused why)) = Some (reply.Refused why)
+told_by (Some (IsRefused refusal)) = Some (reply.Refused refusal)
 told_by _ = Some reply.Done
 
 -- and beside them these registers before a line
@@ -99,16 +99,16 @@ pub record Linked (s t : Seat) (a : Running) (es : List Event) : Type 0 where
   pub acts : Acts (view s) (view t) (Push (view s).number (value_of a.val).body) es
 
 -- the queue was found shut, and the node is in the pocket
-pub record SawShut (r : Arena) (s t : Seat) (a : Running) (es : List Event) (why : Refusal) : Type 0 where
+pub record SawShut (r : Arena) (s t : Seat) (a : Running) (es : List Event) (refusal : Refusal) : Type 0 where
   pub pocket : (view t).actor.pocket ≡ Some (in_hand a)
-  pub is : why ≡ Closed
+  pub is : refusal ≡ Closed
   pub finds : FindsShut (view s) (view t) es
   pub cause : EndedAt r s es (IsRefusedAt r.plan.setup (view s).number Closed)
 
 -- what the lines under the lock come to
 abbrev pub LinkedOr : Arena → Seat → Seat → Running → List Event → Result (Unit {0}) Refusal → Type 0
 LinkedOr r s t a es (Ok x) = Linked s t a es
-LinkedOr r s t a es (Err why) = SawShut r s t a es why
+LinkedOr r s t a es (Err refusal) = SawShut r s t a es refusal
 
 -- the call is over: the node was linked, or the queue was found shut
 pub record Links (r : Arena) (s t : Seat) (a : Running) (out : Result (Unit {0}) Refusal) : Type 0 where

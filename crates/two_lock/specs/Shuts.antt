@@ -33,7 +33,7 @@ shutting (suc n) = continues
 
 -- what a shut answers once the lock was let go: refused where that is due, else done
 abbrev pub answer_of : Option Reply → Result (Unit {0}) Refusal
-answer_of (Some (IsRefused why)) = Err why
+answer_of (Some (IsRefused refusal)) = Err refusal
 answer_of _ = Ok tt
 
 -- what a running shut makes of the number found at a line that it goes on from
@@ -78,15 +78,15 @@ pub record LetsGo (r : Arena) (s t : Seat) (a : Running) (out : Result (Unit {0}
   pub answers : out ≡ answer_of a.due
 
 -- the queue was found shut
-pub record SawShut (r : Arena) (s t : Seat) (es : List Event) (why : Refusal) : Type 0 where
-  pub is : why ≡ Closed
+pub record SawShut (r : Arena) (s t : Seat) (es : List Event) (refusal : Refusal) : Type 0 where
+  pub is : refusal ≡ Closed
   pub finds : FindsShut (view s) (view t) es
   pub cause : EndedAt r s es (IsRefusedAt r.plan.setup (view s).number Closed)
 
 -- what the lines under the lock come to
 abbrev pub ShutOr : Arena → Seat → Seat → List Event → Result (Unit {0}) Refusal → Type 0
 ShutOr r s t es (Ok x) = Acts (view s) (view t) (Shut (view s).number) es
-ShutOr r s t es (Err why) = SawShut r s t es why
+ShutOr r s t es (Err refusal) = SawShut r s t es refusal
 
 -- the call is over: a closed end was put behind the last node, or the queue was found shut; what was in the pocket is there
 pub record PutsEnd (r : Arena) (s t : Seat) (out : Result (Unit {0}) Refusal) : Type 0 where

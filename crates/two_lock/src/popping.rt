@@ -69,7 +69,7 @@ fn pop_locked<const B: u32>(
         Outcome::Ends(reply) => {
             seat.keep(None, failed);
             match reply {
-                Reply::Refused(why) => Err(why),
+                Reply::Refused(refusal) => Err(refusal),
                 _ => Ok(None),
             }
         }

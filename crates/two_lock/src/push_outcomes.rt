@@ -56,7 +56,7 @@ pub(crate) fn left_with_node<const B: u32>(a: ActorOf<B>) -> Outcome<ActorOf<B>>
     ensures { result ≡ left_as a.entry.due }
 {
     match a.due {
-        Some(Reply::Refused(why)) => Outcome::Ends(Reply::Refused(why)),
+        Some(Reply::Refused(refusal)) => Outcome::Ends(Reply::Refused(refusal)),
         _ => Outcome::Ends(Reply::Done),
     }
 }

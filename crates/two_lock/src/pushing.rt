@@ -64,9 +64,9 @@ pub(crate) fn push_node<const B: u32>(
                     seat.keep(None, index);
                     return Ok(());
                 }
-                Err(why) => {
+                Err(refusal) => {
                     seat.keep(Some(held), index);
-                    return Err(why);
+                    return Err(refusal);
                 }
             }
         }

@@ -39,7 +39,7 @@ pub(crate) fn left<const B: u32>(a: ActorOf<B>) -> Result<(), Refusal>
     ensures { result ≡ answer_of a.entry.due }
 {
     match a.due {
-        Some(Reply::Refused(why)) => Err(why),
+        Some(Reply::Refused(refusal)) => Err(refusal),
         _ => Ok(()),
     }
 }

@@ -76,14 +76,14 @@ never_shut permits k seat n sound only mine found =
     stays_open permits k.number only k.seen [] found.0 sound.permitted none found.1
 
 -- and its push is refused only as the run may be
-pub ends_run : (most : ℕ) (k k' : Known) (why : Refusal) → (LeadsToShut k'.seen → k'.mine ≡ k.mine → ⊥) → EndsPushOne k why k' → EndsRun most why
+pub ends_run : (most : ℕ) (k k' : Known) (refusal : Refusal) → (LeadsToShut k'.seen → k'.mine ≡ k.mine → ⊥) → EndsPushOne k refusal k' → EndsRun most refusal
 ends_run most k k' (WornOut word) never h = tt
 ends_run most k k' Closed never h = absurd (never h.0 h.1)
 ends_run most k k' NoNode never h = absurd h
 ends_run most k k' _ never h = absurd h
 
 -- and so is its shut
-pub shut_ends_run : (most : ℕ) (k k' : Known) (why : Refusal) → (FoundShut k k' → ⊥) → EndsShut why → PushRefused k why k' → EndsRun most why
+pub shut_ends_run : (most : ℕ) (k k' : Known) (refusal : Refusal) → (FoundShut k k' → ⊥) → EndsShut refusal → PushRefused k refusal k' → EndsRun most refusal
 shut_ends_run most k k' (WornOut word) never may h = tt
 shut_ends_run most k k' Closed never may h = absurd (never h)
 shut_ends_run most k k' _ never may h = absurd may

@@ -20,7 +20,7 @@ fn main(rt: HostRuntime) -> io::Result<()> {
 fn tell(rt: &HostRuntime, queue: &str, taken: Result<Vec<Taken>, Refusal>) -> io::Result<()> {
     let values = match taken {
         Ok(values) => values,
-        Err(why) => return println!(rt; "{queue}: {why}"),
+        Err(refusal) => return println!(rt; "{queue}: {refusal}"),
     };
     let (first, last) = (number(values.first()), number(values.last()));
     println!(rt; "{queue}: {} values, from {first} to {last}", values.len())

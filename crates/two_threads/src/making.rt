@@ -26,10 +26,10 @@ pub fn on_ms_queue<R: Threads + Wait + Sync>(
     alloc: Global,
     most: u64,
 ) -> Result<Vec<Taken>, Refusal>
-    //= callers/two_threads (taken, why): On a new queue of either kind 1 to `most` are handed over, pushed by seat 1,
+    //= callers/two_threads (taken, refusal): On a new queue of either kind 1 to `most` are handed over, pushed by seat 1,
     //=   with no condition.
     ensures taken { IfOk result (λ values. values.items ≡ values_to 1 most) }
-    ensures why { IfErr result (EndsRun most) }
+    ensures refusal { IfErr result (EndsRun most) }
 {
     let roles = [Role::Giver, Role::Taker];
     let (queue, seats) = MsQueue::new(alloc, NODES, LIMIT, &roles)?;
@@ -42,9 +42,9 @@ pub fn on_two_lock_queue<R: Threads + Wait + Sync>(
     alloc: Global,
     most: u64,
 ) -> Result<Vec<Taken>, Refusal>
-    //= callers/two_threads (taken, why)
+    //= callers/two_threads (taken, refusal)
     ensures taken { IfOk result (λ values. values.items ≡ values_to 1 most) }
-    ensures why { IfErr result (EndsRun most) }
+    ensures refusal { IfErr result (EndsRun most) }
 {
     let roles = [Role::Giver, Role::Taker];
     let (queue, seats) = TwoLockQueue::new(alloc, NODES, LIMIT, &roles)?;
@@ -61,7 +61,7 @@ fn run_new<R: Threads + Wait + Sync, Q: Fifo + Sync + Drop>(
 ) -> Result<Vec<Taken>, Refusal>
     requires { AreDuo Q.is_seat Q.permits Q.known queue seats.items }
     ensures taken { IfOk result (λ values. values.items ≡ values_to 1 most) }
-    ensures why { IfErr result (EndsRun most) }
+    ensures refusal { IfErr result (EndsRun most) }
 {
     let Some(taker) = seats.pop() else {
         unreachable!()

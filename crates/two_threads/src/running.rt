@@ -24,14 +24,15 @@ fn push_one<R: Wait, Q: Fifo>(
     ensures number { (Q.known seat.new).number ≡ (Q.known seat.old).number }
     ensures pushed { OnOk result (IsOneMore (Q.known seat.old)
         (Push (Q.known seat.old).number body) (Q.known seat.new)) }
-    ensures why { IfErr result (λ why. EndsPushOne (Q.known seat.old) why (Q.known seat.new)) }
+    ensures refusal { IfErr result
+        (λ refusal. EndsPushOne (Q.known seat.old) refusal (Q.known seat.new)) }
 {
     let backoff = Backoff::new();
     for _ in rt.forever() {
         match queue.push(rt, seat, body) {
             Ok(()) => return Ok(()),
             Err(Refusal::NoNode) => backoff.snooze(),
-            Err(why) => return Err(why),
+            Err(refusal) => return Err(refusal),
         }
     }
     unreachable!()
@@ -48,7 +49,7 @@ fn push_all<R: Wait, Q: Fifo>(
     ensures seat { Q.is_seat queue.now seat.new }
     ensures number { (Q.known seat.new).number ≡ (Q.known seat.old).number }
     ensures pushed { OnOk result (HasPushed (Q.known seat.old) most (Q.known seat.new)) }
-    ensures why { IfErr result (EndsRun most) }
+    ensures refusal { IfErr result (EndsRun most) }
 {
     for count in 0..most {
         let Some(body) = Body::new(count + 1) else {
@@ -68,7 +69,7 @@ fn give<R: Wait, Q: Fifo>(
 ) -> Result<Q::Seat, Refusal>
     requires { IsOnePusher Q.is_seat Q.permits Q.known queue.now seat }
     ensures given { IfOk result (HasGiven Q.is_seat Q.known queue.now seat most) }
-    ensures why { IfErr result (EndsRun most) }
+    ensures refusal { IfErr result (EndsRun most) }
 {
     let pushed = push_all(rt, queue, &mut seat, most);
     let shut = queue.shut(rt, &mut seat);
@@ -85,14 +86,15 @@ fn pop_one<R: Wait, Q: Fifo>(rt: &R, queue: &Q, seat: &mut Q::Seat) -> Result<Ta
     ensures number { (Q.known seat.new).number ≡ (Q.known seat.old).number }
     ensures popped { IfOk result (λ value. IsOneMore (Q.known seat.old)
         (Pop (Q.known seat.old).number value) (Q.known seat.new)) }
-    ensures why { IfErr result (λ why. EndsPopOne (Q.known seat.old) why (Q.known seat.new)) }
+    ensures refusal { IfErr result
+        (λ refusal. EndsPopOne (Q.known seat.old) refusal (Q.known seat.new)) }
 {
     let backoff = Backoff::new();
     for _ in rt.forever() {
         match queue.pop(rt, seat) {
             Ok(Some(taken)) => return Ok(taken),
             Ok(None) => backoff.snooze(),
-            Err(why) => return Err(why),
+            Err(refusal) => return Err(refusal),
         }
     }
     unreachable!()
@@ -107,7 +109,7 @@ fn pop_all<R: Wait, Q: Fifo>(
 ) -> Result<(Q::Seat, Vec<Taken>), Refusal>
     requires { IsOnePopper Q.is_seat Q.permits Q.known queue.now seat }
     ensures taken { IfOk result (λ r. HasTaken Q.is_seat Q.known queue.now seat r.0 r.1.items) }
-    ensures why { IfErr result EndsTaking }
+    ensures refusal { IfErr result EndsTaking }
 {
     let mut taken = Vec::new(alloc);
     for _ in rt.forever() {
@@ -118,7 +120,7 @@ fn pop_all<R: Wait, Q: Fifo>(
                 };
             }
             Err(Refusal::Closed) => return Ok((seat, taken)),
-            Err(why) => return Err(why),
+            Err(refusal) => return Err(refusal),
         }
     }
     unreachable!()
@@ -149,12 +151,12 @@ fn both<R: Threads + Wait + Sync, Q: Fifo + Sync>(
             requires { IsOnePopper Q.is_seat Q.permits Q.known queue.now taker }
             ensures taken { IfOk result (λ r.
                 HasTaken Q.is_seat Q.known queue.entry.now taker r.0 r.1.items) }
-            ensures why { IfErr result EndsTaking }
+            ensures refusal { IfErr result EndsTaking }
         { pop_all(rt, alloc, queue, taker) },
         || -> Result<Q::Seat, Refusal>
             requires { IsOnePusher Q.is_seat Q.permits Q.known queue.now giver }
             ensures given { IfOk result (HasGiven Q.is_seat Q.known queue.entry.now giver most) }
-            ensures why { IfErr result (EndsRun most) }
+            ensures refusal { IfErr result (EndsRun most) }
         { give(rt, queue, giver, most) },
     )
 }
@@ -175,10 +177,10 @@ pub fn run<R: Threads + Wait + Sync, Q: Fifo + Sync + Drop>(
     most: u64,
 ) -> Result<Vec<Taken>, Refusal>
     requires { IsDuo Q.is_seat Q.permits Q.known queue giver taker }
-    //= callers/any_queue (taken, why): On any `Fifo` where one seat alone may push, another alone may pop, and neither
+    //= callers/any_queue (taken, refusal): On any `Fifo` where one seat alone may push, another alone may pop, and neither
     //=   has done anything, 1 to `most` are handed over.
     ensures taken { IfOk result (λ values. values.items ≡ values_to (Q.known giver).number most) }
-    ensures why { IfErr result (EndsRun most) }
+    ensures refusal { IfErr result (EndsRun most) }
 {
     let (taken, given) = both(rt, alloc, &queue, giver, taker, most);
     let (mut taker, values) = taken?;

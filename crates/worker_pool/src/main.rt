@@ -22,10 +22,10 @@ fn main(rt: HostRuntime) -> io::Result<()> {
     let roles = [Role::Giver, Role::Taker, Role::Taker, Role::Taker];
     let found = match MsQueue::new(rt.alloc(), NODES, LIMIT, &roles) {
         Ok((queue, seats)) => run(&rt, rt.alloc(), queue, seats, MOST),
-        Err(why) => Err(why),
+        Err(refusal) => Err(refusal),
     };
     match found {
         Ok(found) => println!(rt; "{found:?}"),
-        Err(why) => println!(rt; "no result: {why}"),
+        Err(refusal) => println!(rt; "no result: {refusal}"),
     }
 }

@@ -63,7 +63,7 @@ fn push_one<R: Wait, Q: Fifo>(
         match queue.push(rt, seat, body) {
             Ok(()) => return Ok(()),
             Err(Refusal::NoNode) => backoff.snooze(),
-            Err(why) => return Err(why),
+            Err(refusal) => return Err(refusal),
         }
     }
     unreachable!()
@@ -123,7 +123,7 @@ fn work<R: Wait, Q: Fifo>(rt: &R, queue: &Q, mut seat: Q::Seat) -> Result<(Q::Se
             }
             Ok(None) => backoff.snooze(),
             Err(Refusal::Closed) => return Ok((seat, found)),
-            Err(why) => return Err(why),
+            Err(refusal) => return Err(refusal),
         }
     }
     unreachable!()

@@ -14,7 +14,7 @@ CHANGES = {
     "nothing": ({}, ""),
     "a source": ({"crates/high/src/lib.rt": "// More.\n"}, "high\nhighest\n"),
     "a new proof of the lowest": ({"crates/low/proofs/Lib.antt": "\n"}, "low\nhigh\nhighest\n"),
-    "wrong bodies alone": ({"crates/low/wrong/adds.edit": "file: src/lib.rt\n"}, "low (wrong bodies alone)\n"),
+    "mutants alone": ({"crates/low/wrong/adds.edit": "file: src/lib.rt\n"}, "low (mutants alone)\n"),
     "a page": ({"crates/low/README.md": "# low\n", "README.md": "# all\n"}, ""),
     "a line of crates.txt": ({"crates.txt": CRATES.replace("highest: high other", "highest: high")}, "highest\n"),
     "HANDLES": ({"HANDLES": "Handles allowed: Threads.\n"}, "low\nhigh\nother\nhighest\n"),

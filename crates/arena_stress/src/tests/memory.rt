@@ -97,7 +97,7 @@ fn sizes_out_of_range_are_refused(rt: HostRuntime) -> Result<(), Fail> {
         let made = Arena::new(rt.alloc(), Kind::TwoLock, nodes, limit, &one[..seats]);
         let refusal = match made {
             Ok(_) => None,
-            Err(why) => Some(why),
+            Err(cause) => Some(cause),
         };
         assert_eq!(rt;
             refusal,

@@ -50,7 +50,7 @@ fn refused_after(arena: &Arena, mut seat: Seat) -> (u32, Refusal)
                     return (count, Refusal::Lost);
                 }
             }
-            Err(why) => return (count, why),
+            Err(refusal) => return (count, refusal),
         }
     }
     (10, Refusal::Busy)

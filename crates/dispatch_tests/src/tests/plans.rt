@@ -128,9 +128,9 @@ impl<'a> Plan for Trouble<'a> {
         }
     }
 
-    fn finds_trouble(&self, why: Refusal) {
+    fn finds_trouble(&self, refusal: Refusal) {
         self.pops.fetch_sub(1, Ordering::SeqCst);
-        if why == Refusal::Closed {
+        if refusal == Refusal::Closed {
             self.ends.fetch_add(1, Ordering::SeqCst);
         }
     }

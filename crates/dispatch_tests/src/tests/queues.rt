@@ -38,7 +38,7 @@ pub fn two_lock_of(
     let roles = roles_of(alloc, workers)?;
     match TwoLockQueue::new(alloc, nodes, GREATEST_COUNT, &roles) {
         Ok(made) => Ok(made),
-        Err(why) => Err(why),
+        Err(refusal) => Err(refusal),
     }
 }
 
@@ -65,6 +65,6 @@ pub fn non_blocking_with(
     let roles = roles_of(alloc, workers)?;
     match MsQueue::new(alloc, nodes, limit, &roles) {
         Ok(made) => Ok(made),
-        Err(why) => Err(why),
+        Err(refusal) => Err(refusal),
     }
 }

@@ -128,7 +128,7 @@ fn turns_are_pops<Q: Fifo + Drop>(
     for (turns, refusal) in &POPS {
         let worked = turn(&queue, &mut seat, &[], &mut out, *turns);
         let wanted = match refusal {
-            Some(why) => Err(*why),
+            Some(cause) => Err(*cause),
             None => Ok(answer),
         };
         same(rt, worked, wanted, turns);

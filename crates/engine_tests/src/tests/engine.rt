@@ -1,5 +1,5 @@
 use crate::tests::trials::{
-    Engine, does, does_by_any_piece, tells_each_end, writes_a_beginning, writes_nothing,
+    Engine, does, does_by_any_piece, tells_each_end, writes_a_prefix, writes_nothing,
 };
 use std::alloc::{AllocError, Global};
 use std::test::Fail;
@@ -167,15 +167,15 @@ fn tells_the_first_faulty_line_or_refused_event(rt: HostRuntime) -> Result<(), F
 
 #[test]
 fn tells_faults_of_whole_texts(rt: HostRuntime) -> Result<(), Fail> {
-    let mut cut = text_with(rt.alloc(), &LINES, 0, "")?;
-    let _ = cut.pop();
+    let mut truncated = text_with(rt.alloc(), &LINES, 0, "")?;
+    let _ = truncated.pop();
     let mut longer = text_with(rt.alloc(), &LINES, 0, "")?;
     longer.push(b'\n')?;
     let mut faulty = text_with(rt.alloc(), &LINES, 8, "steps 1 11")?;
     faulty.push(b'\n')?;
     let cases: [(&[u8], &str); 6] = [
         (b"", "fault 10 Text line 1 End\n"),
-        (&cut, "fault 10 Text line 10 End\n"),
+        (&truncated, "fault 10 Text line 10 End\n"),
         (&longer, "fault 10 Text line 11 Extra\n"),
         // A fault of the text comes before a refused event.
         (&faulty, "fault 10 Text line 11 Extra\n"),
@@ -204,7 +204,7 @@ fn tells_that_a_long_number_is_out_of_range(rt: HostRuntime) -> Result<(), Fail>
 }
 
 #[test]
-fn tells_the_end_of_each_cut_schedule(rt: HostRuntime) -> Result<(), Fail> {
+fn tells_the_end_of_each_truncated_schedule(rt: HostRuntime) -> Result<(), Fail> {
     for run in &RUNS {
         tells_each_end(&rt, rt.alloc(), Engine::Run, run.schedule.as_bytes())?;
     }
@@ -220,9 +220,9 @@ fn writes_nothing_where_a_read_fails(rt: HostRuntime) -> Result<(), Fail> {
 }
 
 #[test]
-fn writes_a_beginning_where_a_write_fails(rt: HostRuntime) -> Result<(), Fail> {
+fn writes_a_prefix_where_a_write_fails(rt: HostRuntime) -> Result<(), Fail> {
     for run in &RUNS {
-        writes_a_beginning(
+        writes_a_prefix(
             &rt,
             rt.alloc(),
             Engine::Run,

@@ -1,6 +1,6 @@
 use crate::tests::comparing::same;
 use crate::tests::trials::{
-    Engine, answers, does, does_by_any_piece, tells_each_end, writes_a_beginning, writes_nothing,
+    Engine, answers, does, does_by_any_piece, tells_each_end, writes_a_prefix, writes_nothing,
 };
 use check_engine::check_text;
 use history::{Cause, Refusal, TextCause, Verdict};
@@ -295,7 +295,7 @@ fn tells_a_fault_in_any_block_once_all_is_read(rt: HostRuntime) -> Result<(), Fa
 }
 
 #[test]
-fn tells_the_end_of_each_cut_history(rt: HostRuntime) -> Result<(), Fail> {
+fn tells_the_end_of_each_truncated_history(rt: HostRuntime) -> Result<(), Fail> {
     for run in &RUNS {
         tells_each_end(&rt, rt.alloc(), Engine::Check, run.history.as_bytes())?;
     }
@@ -312,9 +312,9 @@ fn writes_nothing_where_a_read_fails(rt: HostRuntime) -> Result<(), Fail> {
 const BEGUN: [(&str, &str); 2] = [(FOUR, THEIR_TABLE), (ONE_PLACE, "no 2 Shared\n")];
 
 #[test]
-fn writes_a_beginning_where_a_write_fails(rt: HostRuntime) -> Result<(), Fail> {
+fn writes_a_prefix_where_a_write_fails(rt: HostRuntime) -> Result<(), Fail> {
     for (text, want) in &BEGUN {
-        writes_a_beginning(&rt, rt.alloc(), Engine::Check, text, want.as_bytes())?;
+        writes_a_prefix(&rt, rt.alloc(), Engine::Check, text, want.as_bytes())?;
     }
     Ok(())
 }

@@ -1,5 +1,5 @@
 use crate::tests::trials::{
-    Engine, does_by_any_piece, tells_each_end, writes_a_beginning, writes_nothing,
+    Engine, does_by_any_piece, tells_each_end, writes_a_prefix, writes_nothing,
 };
 use std::test::Fail;
 
@@ -120,7 +120,7 @@ value            1
 }
 
 #[test]
-fn tells_the_end_of_each_cut_recording(rt: HostRuntime) -> Result<(), Fail> {
+fn tells_the_end_of_each_truncated_recording(rt: HostRuntime) -> Result<(), Fail> {
     tells_each_end(&rt, rt.alloc(), Engine::Place, RECORDED.as_bytes())
 }
 
@@ -137,9 +137,9 @@ const BEGUN: [(&str, &str); 3] = [
 ];
 
 #[test]
-fn writes_a_beginning_where_a_write_fails(rt: HostRuntime) -> Result<(), Fail> {
+fn writes_a_prefix_where_a_write_fails(rt: HostRuntime) -> Result<(), Fail> {
     for (text, want) in &BEGUN {
-        writes_a_beginning(&rt, rt.alloc(), Engine::Place, text, want.as_bytes())?;
+        writes_a_prefix(&rt, rt.alloc(), Engine::Place, text, want.as_bytes())?;
     }
     Ok(())
 }

@@ -1,5 +1,5 @@
 use crate::tests::trials::{
-    Engine, does, does_by_any_piece, tells_each_end, writes_a_beginning, writes_nothing,
+    Engine, does, does_by_any_piece, tells_each_end, writes_a_prefix, writes_nothing,
 };
 use std::test::Fail;
 
@@ -75,7 +75,7 @@ fn places_recordings_whatever_the_pieces(rt: HostRuntime) -> Result<(), Fail> {
 }
 
 #[test]
-fn tells_the_end_of_each_cut_text(rt: HostRuntime) -> Result<(), Fail> {
+fn tells_the_end_of_each_truncated_text(rt: HostRuntime) -> Result<(), Fail> {
     tells_each_end(&rt, rt.alloc(), Engine::Place, RECORDED.as_bytes())
 }
 
@@ -85,8 +85,8 @@ fn writes_nothing_where_a_recording_is_not_read(rt: HostRuntime) -> Result<(), F
 }
 
 #[test]
-fn writes_a_beginning_of_what_is_found(rt: HostRuntime) -> Result<(), Fail> {
-    writes_a_beginning(
+fn writes_a_prefix_of_what_is_found(rt: HostRuntime) -> Result<(), Fail> {
+    writes_a_prefix(
         &rt,
         rt.alloc(),
         Engine::Place,

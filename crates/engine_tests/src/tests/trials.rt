@@ -120,7 +120,7 @@ pub(crate) fn answers(
     );
 }
 
-/// The engine tells the end of the text that is cut before any of its bytes, and writes nothing.
+/// The engine tells the end of the text that is truncated before any of its bytes, and writes nothing.
 pub(crate) fn tells_each_end(
     rt: &impl Abort,
     alloc: Global,
@@ -160,8 +160,8 @@ pub(crate) fn writes_nothing(
     Ok(())
 }
 
-/// The engine writes a beginning of this where any of the calls that write it fails, or takes nothing.
-pub(crate) fn writes_a_beginning(
+/// The engine writes a prefix of this where any of the calls that write it fails, or takes nothing.
+pub(crate) fn writes_a_prefix(
     rt: &impl Abort,
     alloc: Global,
     engine: Engine,

@@ -101,7 +101,7 @@ fn takes_by_the_list<Q: Fifo + Drop>(
     let (office, _, mut receiver) = Office::new(alloc, queue, Vec::new(alloc), receiver)?;
     for (turns, refusal) in &POPS {
         let wanted = match refusal {
-            Some(why) => Err(*why),
+            Some(cause) => Err(*cause),
             None => Ok(None),
         };
         same(rt, taken(&office, &mut receiver, *turns), wanted, turns);

@@ -174,7 +174,7 @@ fn free_is_answered<R: Threads + Wait + Clock + Sync>(
         match troubled(rt, alloc, Trouble::new(true, false), false) {
             Err(Refusal::WornOut(WornWord::Free)) => return Ok(true),
             Err(Refusal::WornOut(WornWord::Tail)) => {}
-            Err(why) => return Err(why),
+            Err(refusal) => return Err(refusal),
             Ok(_) => return Ok(false),
         }
     }

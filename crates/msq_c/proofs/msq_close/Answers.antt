@@ -16,7 +16,7 @@ returns-in-Ok c = record {
 
 pub returns-in-Err : goal.returns-in-Err
 returns-in-Err c = record {
-  answer = Err c.in-Err.why;
+  answer = Err c.in-Err.refusal;
   code = c.code.ensures;
   holds = record { refused = c.in-Err.ensures.refused; values = refl; rest = refl };
 }

@@ -12,7 +12,7 @@ pub fn answer(alloc: Global, text: &[u8]) -> Result<String, Fail> {
     match place(alloc, &history, 1_000)? {
         Placed::History(new) => printed(alloc, &new),
         Placed::Impossible(reason) => Ok(told(alloc, &reason)?),
-        Placed::Open(why) => Ok(format!(in alloc; "open {why:?}")?),
+        Placed::Open(cause) => Ok(format!(in alloc; "open {cause:?}")?),
     }
 }
 

@@ -3,7 +3,7 @@ use history::{Body, Op, Refusal, Reply, Stamped, Taken};
 use std::alloc::{AllocError, Global};
 use std::collections::VecDeque;
 
-/// Numbers that look like chance, the same each time from one beginning.
+/// Numbers that look like chance, the same each time from one seed.
 #[derive(Drop)]
 pub struct Chance {
     state: u64,

@@ -96,16 +96,16 @@ fn answers_as_a_search_of_all_orders(rt: HostRuntime) -> Result<(), Fail> {
 }
 
 #[test]
-fn answers_so_from_a_second_beginning(rt: HostRuntime) -> Result<(), Fail> {
+fn answers_so_from_a_second_seed(rt: HostRuntime) -> Result<(), Fail> {
     agrees(&rt, 1_000_003)
 }
 
 #[test]
-fn answers_so_from_a_third_beginning(rt: HostRuntime) -> Result<(), Fail> {
+fn answers_so_from_a_third_seed(rt: HostRuntime) -> Result<(), Fail> {
     agrees(&rt, 77_777)
 }
 
 #[test]
-fn answers_so_from_a_fourth_beginning(rt: HostRuntime) -> Result<(), Fail> {
+fn answers_so_from_a_fourth_seed(rt: HostRuntime) -> Result<(), Fail> {
     agrees(&rt, 987_654_321)
 }

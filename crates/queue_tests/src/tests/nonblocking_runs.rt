@@ -64,7 +64,7 @@ fn queue_of(
 {
     match MsQueue::new(alloc, nodes, limit, roles) {
         Ok(made) => Ok(made),
-        Err(why) => Err(why),
+        Err(refusal) => Err(refusal),
     }
 }
 

@@ -128,7 +128,7 @@ fn queue_of<A: Algorithm<B>, const B: u32>(
 {
     match ArenaQueueOf::new(alloc, nodes, limit, roles) {
         Ok(made) => Ok(made),
-        Err(why) => Err(why),
+        Err(refusal) => Err(refusal),
     }
 }
 

@@ -36,7 +36,7 @@ fn queue_of(
 {
     match TwoLockQueue::new(alloc, nodes, limit, roles) {
         Ok(made) => Ok(made),
-        Err(why) => Err(why),
+        Err(refusal) => Err(refusal),
     }
 }
 

@@ -44,7 +44,7 @@ fn popped_after_shut<R: Wait, Q: Fifo>(
     let taken = queue.pop(rt, seat)?;
     match queue.pop(rt, seat) {
         Err(Refusal::Closed) => Ok(taken.map(parts)),
-        Err(why) => Err(why),
+        Err(refusal) => Err(refusal),
         Ok(_) => Err(Refusal::Lost),
     }
 }

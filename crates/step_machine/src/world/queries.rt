@@ -48,7 +48,7 @@ impl<const B: u32> WorldOf<B> {
         //= histories/linearizable
         ensures linearizable { IfOk result (λ v. IsLinearizable v.items) }
         ensures effects { IfOk result (λ v. HavePlacesByItsEffects self.now v.items) }
-        ensures refused { IfErr result (λ why. why ≡ Memory) }
+        ensures refused { IfErr result (λ refusal. refusal ≡ Memory) }
     {
         match Vec::from_slice(alloc, self.operations.as_slice()) {
             Ok(operations) => Ok(operations),

@@ -75,12 +75,12 @@ fn prints_what_it_read(rt: HostRuntime) -> Result<(), Fail> {
 }
 
 #[test]
-fn tells_the_end_of_each_cut_text(rt: HostRuntime) {
+fn tells_the_end_of_each_truncated_text(rt: HostRuntime) {
     for text in [TWO, EACH_REPLY, SHUT] {
         let mut number = 1;
-        for (cut, byte) in text.iter().enumerate() {
-            let fault = parse_history(rt.alloc(), &text[..cut]).err();
-            same(&rt, fault, Some(Refusal::Text(number, TextCause::End)), cut);
+        for (len, byte) in text.iter().enumerate() {
+            let fault = parse_history(rt.alloc(), &text[..len]).err();
+            same(&rt, fault, Some(Refusal::Text(number, TextCause::End)), len);
             if *byte == 10 && number < 9 {
                 number += 1;
             }

@@ -80,11 +80,11 @@ fn tables_the_results_of_the_jobs_it_read(rt: HostRuntime) -> Result<(), Fail> {
 }
 
 #[test]
-fn tells_the_end_of_each_cut_text_of_jobs(rt: HostRuntime) {
+fn tells_the_end_of_each_truncated_text_of_jobs(rt: HostRuntime) {
     let mut number = 1u64;
-    for (cut, byte) in FOUR.iter().enumerate() {
-        let fault = parse_jobs(rt.alloc(), &FOUR[..cut]).err();
-        same(&rt, fault, Some(Refusal::Text(number, TextCause::End)), cut);
+    for (len, byte) in FOUR.iter().enumerate() {
+        let fault = parse_jobs(rt.alloc(), &FOUR[..len]).err();
+        same(&rt, fault, Some(Refusal::Text(number, TextCause::End)), len);
         if *byte == 10 {
             number = number.saturating_add(1);
         }

@@ -50,11 +50,11 @@ fn reads_letters_in_the_order_of_the_lines(rt: HostRuntime) -> Result<(), Fail> 
 }
 
 #[test]
-fn tells_the_end_of_each_cut_text_of_mail(rt: HostRuntime) {
+fn tells_the_end_of_each_truncated_text_of_mail(rt: HostRuntime) {
     let mut number = 1u64;
-    for (cut, byte) in THREE.iter().enumerate() {
-        let fault = refusal_of(rt.alloc(), &THREE[..cut]);
-        same(&rt, fault, Some(Refusal::Text(number, TextCause::End)), cut);
+    for (len, byte) in THREE.iter().enumerate() {
+        let fault = refusal_of(rt.alloc(), &THREE[..len]);
+        same(&rt, fault, Some(Refusal::Text(number, TextCause::End)), len);
         if *byte == 10 {
             number = number.saturating_add(1);
         }

@@ -88,12 +88,12 @@ fn reads_recordings_as_histories(rt: HostRuntime) -> Result<(), Fail> {
 }
 
 #[test]
-fn tells_the_end_of_each_cut_recording(rt: HostRuntime) {
+fn tells_the_end_of_each_truncated_recording(rt: HostRuntime) {
     for (text, _) in &READ {
         let mut number = 1;
-        for (cut, byte) in text.as_bytes().iter().enumerate() {
-            let fault = parse_recording(rt.alloc(), &text.as_bytes()[..cut]).err();
-            same(&rt, fault, Some(Refusal::Text(number, TextCause::End)), cut);
+        for (len, byte) in text.as_bytes().iter().enumerate() {
+            let fault = parse_recording(rt.alloc(), &text.as_bytes()[..len]).err();
+            same(&rt, fault, Some(Refusal::Text(number, TextCause::End)), len);
             if *byte == 10 && number < 9 {
                 number += 1;
             }

@@ -170,7 +170,7 @@ fn tells_the_first_faulty_line_of_version_two(rt: HostRuntime) -> Result<(), Fai
 }
 
 #[test]
-fn a_text_that_is_cut_ends_too_early(rt: HostRuntime) -> Result<(), Fail> {
+fn a_truncated_text_ends_too_early(rt: HostRuntime) -> Result<(), Fail> {
     for run in &RUNS {
         let text = run.schedule.as_bytes();
         let mut feeds = 0u64;

@@ -9,7 +9,7 @@ use std::alloc::Global;
 use std::test::Fail;
 use step_machine::{Move, Stepped, WorldOf, step_in};
 
-/// Numbers that look like chance, the same each time from one beginning.
+/// Numbers that look like chance, the same each time from one seed.
 #[derive(Drop)]
 pub struct Chance {
     state: u64,

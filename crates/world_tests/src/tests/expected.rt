@@ -87,7 +87,7 @@ pub fn reply(answer: Answer) -> Reply {
         Answer::Done => Reply::Done,
         Answer::Value(from, number) => Reply::Value(taken(from, number)),
         Answer::Empty => Reply::Empty,
-        Answer::Refused(why) => Reply::Refused(why),
+        Answer::Refused(refusal) => Reply::Refused(refusal),
     }
 }
 

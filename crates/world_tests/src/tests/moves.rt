@@ -17,7 +17,7 @@ pub fn give<const B: u32>(world: &mut WorldOf<B>, actor: u16) -> Result<(), Refu
 fn step<const B: u32>(world: &mut WorldOf<B>, actor: u16) -> Result<(), Refusal> {
     match world.step(actor) {
         Ok(_) => Ok(()),
-        Err(why) => Err(why),
+        Err(refusal) => Err(refusal),
     }
 }
 

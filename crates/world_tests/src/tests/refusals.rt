@@ -119,10 +119,10 @@ fn refused_moves_change_nothing(rt: HostRuntime) -> Result<(), Fail> {
     trial.goes(&rt, &[Begin(1, Enq(7)), Steps(1, 2)]);
     trial.shows(&rt, rt.alloc(), &HISTORY)?;
     let before = numbers(&trial.world);
-    for (act, why) in &REFUSED {
+    for (act, refusal) in &REFUSED {
         trial.goes(
             &rt,
-            &[Refused(*act, *why), At(1, Some(Line::N5)), At(2, None)],
+            &[Refused(*act, *refusal), At(1, Some(Line::N5)), At(2, None)],
         );
         trial.shows(&rt, rt.alloc(), &HISTORY)?;
         same(&rt, numbers(&trial.world), before, *act);

@@ -104,7 +104,7 @@ fn answer_of(telling: Telling) -> Result<Stepped, Refusal> {
         Telling::Began => Ok(Stepped::Began),
         Telling::Went(line) => Ok(Stepped::Went(line)),
         Telling::Ended(line, answer) => Ok(Stepped::Ended(line, reply(answer))),
-        Telling::Refused(why) => Err(why),
+        Telling::Refused(refusal) => Err(refusal),
     }
 }
 
@@ -148,7 +148,7 @@ impl<const B: u32> TrialOf<B> {
             Event::Begin(actor, call) => same(rt, begin(world, actor, call), Ok(()), tried),
             Event::Steps(actor, count) => same(rt, steps(world, actor, count), Ok(()), tried),
             Event::Give(actor) => same(rt, give(world, actor), Ok(()), tried),
-            Event::Refused(act, why) => same(rt, play(world, act), Err(why), tried),
+            Event::Refused(act, refusal) => same(rt, play(world, act), Err(refusal), tried),
             Event::Told(act, telling) => {
                 same(rt, step_in(world, move_of(act)), answer_of(telling), tried);
             }

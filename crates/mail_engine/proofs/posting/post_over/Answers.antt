@@ -43,8 +43,8 @@ returns-clause-ok g c =
     (λ w. writes_taken c.args.kind c.args.mail.senders (said_letters c.args.mail.letters.items) c.in_ok-letters.field-0.items count from texts c.requires.over (g.W.Sink.state c.args.writer.now) (g.W.Sink.state c.tell.new.writer) w)
     c.tell.ensures.ok
 
-pub returns-clause-beginning : goal.returns-clause-beginning
-returns-clause-beginning g c =
+pub returns-clause-prefix : goal.returns-clause-prefix
+returns-clause-prefix g c =
     let told = rw c.in_ok-letters.was at c.post-receiver.ensures.delivered in
     let row = ap g.Q.Fifo.permits (c.in_ok-planned.ensures.queue ∙ c.in_ok-office.ensures.opens.queue_is) ∙ c.requires.opened.permitted in
     let count = (rw c.in_ok-letters.was at c.post-receiver.ensures.all) ∙ c.in_ok-tasks.ensures.all ∙ sym (length-map c.args.mail.letters.items said_letter) in
@@ -54,5 +54,5 @@ returns-clause-beginning g c =
     let from = senders_within (g.Q.Fifo.permits c.in_ok-planned.planned.queue) g.Q.Fifo.known c.args.mail.senders c.in_ok-office.receiver
     c.in_ok-letters.field-0.items c.post-receiver.result.0 row (here.sound _ _ c.post-receiver.ensures.receiver.seat) told in
     IfErr-weaker c.tell.result _ _
-    (λ why h e. begins_taken c.args.kind c.args.mail.senders (said_letters c.args.mail.letters.items) c.in_ok-letters.field-0.items count from texts c.requires.over (g.W.Sink.state c.args.writer.now) (g.W.Sink.state c.tell.new.writer) (h e))
-    c.tell.ensures.beginning
+    (λ refusal h e. begins_taken c.args.kind c.args.mail.senders (said_letters c.args.mail.letters.items) c.in_ok-letters.field-0.items count from texts c.requires.over (g.W.Sink.state c.args.writer.now) (g.W.Sink.state c.tell.new.writer) (h e))
+    c.tell.ensures.prefix

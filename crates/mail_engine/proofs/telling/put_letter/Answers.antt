@@ -8,14 +8,14 @@ use Rattle.mail_engine.proofs.telling.put_letter.Goals as goal
 pub returns-in_err-put : goal.returns-in_err-put
 returns-in_err-put g c =
     let p = err_from_is_err_and c.from_residual.result c.from_residual.ensures.1 in
-    let t = rw (c.as_slice.ensures, c.sender_part.ensures) at c.in_err-put.ensures.beginning in
+    let t = rw (c.as_slice.ensures, c.sender_part.ensures) at c.in_err-put.ensures.prefix in
     rw (p.1, p.2) (Puts-refused _ _ _ refl _ _ _ _ c.in_err-put.ensures (stops_at_first c.args.block.now (sender_text c.args.letter.from) c.args.letter.text.now (codes "\n") _ _ t) _)
 
 pub returns-in_err-put-2 : goal.returns-in_err-put-2
 returns-in_err-put-2 g c =
     let p = err_from_is_err_and c.from_residual-in_err-put-2.result c.from_residual-in_err-put-2.ensures.1 in
     let s = rw (c.as_slice.ensures, c.sender_part.ensures) at c.in_ok-put.ensures.ok in
-    let t = rw c.as_bytes.ensures.value at c.in_err-put-2.ensures.beginning in
+    let t = rw c.as_bytes.ensures.value at c.in_err-put-2.ensures.prefix in
     rw (p.1, p.2)
     (Puts-refused _ _ _ c.in_ok-put.ensures.quiet _ _ _ _ c.in_err-put-2.ensures
     (stops_at_second c.args.block.now (sender_text c.args.letter.from) c.args.letter.text.now (codes "\n") _ _ _ _ s t) _)

@@ -8,9 +8,9 @@ use Rattle.mail_engine.proofs.telling.put_letters.Goals as goal
 pub returns-in_err-put_letter : goal.returns-in_err-put_letter
 returns-in_err-put_letter g c =
     let p = err_from_is_err_and c.from_residual.result c.from_residual.ensures.1 in
-    let beginning = stops_at_lines letter_text c.args.letters.now c.loop-letter.letter-index _ _ _ _ _ _ c.loop-letter-test.true
-    c.loop-letter.invariant.sends c.in_err-put_letter.ensures.beginning in
-    rw (p.1, p.2) (Puts-refused _ _ _ c.loop-letter.invariant.quiet _ _ _ _ c.in_err-put_letter.ensures beginning _)
+    let prefix = stops_at_lines letter_text c.args.letters.now c.loop-letter.letter-index _ _ _ _ _ _ c.loop-letter-test.true
+    c.loop-letter.invariant.sends c.in_err-put_letter.ensures.prefix in
+    rw (p.1, p.2) (Puts-refused _ _ _ c.loop-letter.invariant.quiet _ _ _ _ c.in_err-put_letter.ensures prefix _)
 
 pub loop-letter-preserved : goal.loop-letter-preserved
 loop-letter-preserved g c = record {

@@ -9,7 +9,7 @@ use Rattle.mail_engine.proofs.telling.write_letters.Goals as goal
 pub returns-in_err-put : goal.returns-in_err-put
 returns-in_err-put g c =
     let p = err_from_is_err_and c.from_residual.result c.from_residual.ensures.1 in
-    let t = rw (c.new-block.ensures, c.as_slice.ensures, c.count_line.ensures) at c.in_err-put.ensures.beginning in
+    let t = rw (c.new-block.ensures, c.as_slice.ensures, c.count_line.ensures) at c.in_err-put.ensures.prefix in
     rw (p.1, p.2)
     (Writes-refused _ _ _ refl _ _ _ _ c.in_err-put.ensures
     (stops_at_line (count_text (length c.args.letters.now)) (flat_map letter_text c.args.letters.now) _ _ t))
@@ -21,7 +21,7 @@ returns-in_err-put_letters g c =
     rw (p.1, p.2)
     (Writes-refused _ _ _ c.in_ok-put.ensures.quiet _ _ _ _ c.in_err-put_letters.ensures
     (stops_at_others (count_text (length c.args.letters.now)) (flat_map letter_text c.args.letters.now) _ _ _ _ s
-    c.in_err-put_letters.ensures.beginning))
+    c.in_err-put_letters.ensures.prefix))
 
 pub returns : goal.returns
 returns g c =

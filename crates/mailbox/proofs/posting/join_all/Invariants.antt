@@ -6,5 +6,5 @@ abbrev pub invariant-loop-thread : goal.invariant-loop-thread
 invariant-loop-thread g l = record {
   can : (goal.iterator-loop-thread g).can_next l.thread-iterator;
   finite : (goal.iterator-loop-thread g).is_finite l.thread-iterator;
-  why : IfSome l.first EndsPost;
+  refusal : IfSome l.first EndsPost;
 }

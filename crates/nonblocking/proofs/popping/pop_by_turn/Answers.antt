@@ -25,4 +25,4 @@ pub returns-in-Empty : goal.returns-in-Empty
 returns-in-Empty g c = rw c.keep-in-Empty.ensures (pop_empty c.args.arena.now c.args.seat.now c.pop_turn.new.seat c.args.failed c.args.turns c.requires.turns c.in-Empty.ensures)
 
 pub returns-in-Refused : goal.returns-in-Refused
-returns-in-Refused g c = rw c.keep-in-Refused.ensures (pop_worn_out c.args.arena.now c.args.seat.now c.pop_turn.new.seat c.args.failed c.args.turns c.in-Refused.why c.in-Refused.ensures)
+returns-in-Refused g c = rw c.keep-in-Refused.ensures (pop_worn_out c.args.arena.now c.args.seat.now c.pop_turn.new.seat c.args.failed c.args.turns c.in-Refused.refusal c.in-Refused.ensures)

@@ -10,7 +10,7 @@ use Rattle.report.proofs.history_tables.put_rows.Goals as goal
 pub returns-in_err-put : goal.returns-in_err-put
 returns-in_err-put g c =
     let p = err_from_is_err_and c.from_residual.result c.from_residual.ensures.1 in
-    let t = rw (c.as_slice.ensures, c.row_line.ensures) at c.in_err-put.ensures.beginning in
+    let t = rw (c.as_slice.ensures, c.row_line.ensures) at c.in_err-put.ensures.prefix in
     let u = rw (rows_from (λ e. row_text e.0 e.1) shown c.args.placed.now c.loop-at.at-index c.loop-at-item.result c.loop-at-test.true c.loop-at-item.is)
     at c.loop-at.invariant.sends in
     rw (p.1, p.2) (Puts-refused _ _ _ c.loop-at.invariant.quiet _ _ _ _ c.in_err-put.ensures (under_way_stops _ _ _ _ _ _ _ u t) _)

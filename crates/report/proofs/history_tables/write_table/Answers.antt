@@ -10,7 +10,7 @@ use Rattle.report.proofs.history_tables.write_table.Goals as goal
 pub returns-in_err-put : goal.returns-in_err-put
 returns-in_err-put g c =
     let p = err_from_is_err_and c.from_residual.result c.from_residual.ensures.1 in
-    let t = rw (c.new-block.ensures) at c.in_err-put.ensures.beginning in
+    let t = rw (c.new-block.ensures) at c.in_err-put.ensures.prefix in
     let rows = flat_map (λ e. row_text e.0 e.1) (map shown c.args.placed.now) in
     let counts = flat_map (λ e. count_text e.0 e.1) c.args.counts.now.entries in
     rw (p.1, p.2) (Writes-refused _ _ _ refl _ _ _ _ c.in_err-put.ensures (pieces_stop_at_first _ _ (codes "yes\n") rows counts t))
@@ -23,7 +23,7 @@ returns-in_err-put_rows g c =
     let counts = flat_map (λ e. count_text e.0 e.1) c.args.counts.now.entries in
     rw (p.1, p.2)
     (Writes-refused _ _ _ c.in_ok-put.ensures.quiet _ _ _ _ c.in_err-put_rows.ensures
-    (pieces_stop_at_second _ _ _ (codes "yes\n") rows counts _ s c.in_err-put_rows.ensures.beginning))
+    (pieces_stop_at_second _ _ _ (codes "yes\n") rows counts _ s c.in_err-put_rows.ensures.prefix))
 
 pub returns-in_err-put_counts : goal.returns-in_err-put_counts
 returns-in_err-put_counts g c =
@@ -31,7 +31,7 @@ returns-in_err-put_counts g c =
     let s = rw (c.new-block.ensures) at c.in_ok-put.ensures.ok in
     rw (p.1, p.2)
     (Writes-refused _ _ _ (c.in_ok-put_rows.ensures.quiet ∙ c.in_ok-put.ensures.quiet) _ _ _ _ c.in_err-put_counts.ensures
-    (pieces_stop_at_third _ _ _ _ (codes "yes\n") _ _ _ _ s c.in_ok-put_rows.ensures.ok c.in_err-put_counts.ensures.beginning))
+    (pieces_stop_at_third _ _ _ _ (codes "yes\n") _ _ _ _ s c.in_ok-put_rows.ensures.ok c.in_err-put_counts.ensures.prefix))
 
 pub returns : goal.returns
 returns g c =

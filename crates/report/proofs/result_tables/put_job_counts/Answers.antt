@@ -19,7 +19,7 @@ loop-kind-preserved g c =
 pub returns-in_err-put : goal.returns-in_err-put
 returns-in_err-put g c =
     let p = err_from_is_err_and c.from_residual.result c.from_residual.ensures.1 in
-    let t = rw (c.as_slice.ensures, c.job_count_line.ensures) at c.in_err-put.ensures.beginning in
+    let t = rw (c.as_slice.ensures, c.job_count_line.ensures) at c.in_err-put.ensures.prefix in
     let u = rw (c.in-Some.ensures.steps, flat_map-cons (λ e. job_count_text e.0 e.1) (c.in-Some.kind.now, c.in-Some.number.now) c.next.new.self)
     at c.loop-kind.invariant.sends in
     rw (p.1, p.2) (Puts-refused _ _ _ c.loop-kind.invariant.quiet _ _ _ _ c.in_err-put.ensures (under_way_stops _ _ _ _ _ _ _ u t) _)

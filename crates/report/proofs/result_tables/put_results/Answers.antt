@@ -10,7 +10,7 @@ use Rattle.report.proofs.result_tables.put_results.Goals as goal
 pub returns-in_err-put : goal.returns-in_err-put
 returns-in_err-put g c =
     let p = err_from_is_err_and c.from_residual.result c.from_residual.ensures.1 in
-    let t = rw (c.as_slice.ensures, c.result_line.ensures) at c.in_err-put.ensures.beginning in
+    let t = rw (c.as_slice.ensures, c.result_line.ensures) at c.in_err-put.ensures.prefix in
     let u = rw (rows_from result_text row_of c.args.results.now c.loop-told.told-index c.told-item.result c.loop-told-test.true c.told-item.is)
     at c.loop-told.invariant.sends in
     rw (p.1, p.2) (Puts-refused _ _ _ c.loop-told.invariant.quiet _ _ _ _ c.in_err-put.ensures (under_way_stops _ _ _ _ _ _ _ u t) _)

@@ -6,13 +6,13 @@ use Rattle.schedule_text.proofs.parsing.kind_at.Goals as goal
 
 pub returns-in-Ok-clause-ok : goal.returns-in-Ok-clause-ok
 returns-in-Ok-clause-ok c = λ v.
-    let cut = c.in_ok-line.ensures.ok in
-    IsFront-read (queue_due v) (queue c.in-Ok.kind) _ c.in_ok-line.line.now _ tt c.in-Ok.ensures.0 c.in-Ok.ensures.1 cut.1
+    let split = c.in_ok-line.ensures.ok in
+    IsFront-read (queue_due v) (queue c.in-Ok.kind) _ c.in_ok-line.line.now _ tt c.in-Ok.ensures.0 c.in-Ok.ensures.1 split.1
 
 pub returns-in-Err-clause-err : goal.returns-in-Err-clause-err
 returns-in-Err-clause-err c = λ v.
-    let cut = c.in_ok-line.ensures.ok in
-    refused_kind v _ c.in_ok-line.line.now c.in_ok-line.rest.now c.in-Err.cause cut.0 cut.1 c.in-Err.ensures
+    let split = c.in_ok-line.ensures.ok in
+    refused_kind v _ c.in_ok-line.line.now c.in_ok-line.rest.now c.in-Err.cause split.0 split.1 c.in-Err.ensures
 
 pub returns-in_err-line-clause-err : goal.returns-in_err-line-clause-err
 returns-in_err-line-clause-err c =

@@ -12,11 +12,11 @@ returns-in_err-line-clause-err c =
 
 pub returns-in-Some-clause-ok : goal.returns-in-Some-clause-ok
 returns-in-Some-clause-ok c =
-    let cut = c.in_ok-line.ensures.ok in
+    let split = c.in_ok-line.ensures.ok in
     IsFront-read version_due (version c.in-Some.version) _ c.in_ok-line.line.now _ tt
-    (words_of-said (version c.in-Some.version) c.in_ok-line.line.now c.in-Some.ensures) tt cut.1
+    (words_of-said (version c.in-Some.version) c.in_ok-line.line.now c.in-Some.ensures) tt split.1
 
 pub returns-in-None-clause-err : goal.returns-in-None-clause-err
 returns-in-None-clause-err c =
-    let cut = c.in_ok-line.ensures.ok in
-    refused_version _ c.in_ok-line.line.now c.in_ok-line.rest.now cut.0 cut.1 c.in-None.ensures
+    let split = c.in_ok-line.ensures.ok in
+    refused_version _ c.in_ok-line.line.now c.in_ok-line.rest.now split.0 split.1 c.in-None.ensures

@@ -7,7 +7,7 @@ use Rattle.schedule_text.specs.Schedules.{moves_of}
 use Rattle.schedule_text.specs.Texts.{IsEventInRange}
 use Rattle.std.proofs.lemmas.Result.{err_from_is_err_and}
 use Rattle.text_io.proofs.Sends.{Sends-trans, Writes-held}
-use Rattle.trace_engine.proofs.HasTold.{StopsTelling-memory, TakesBeginning-none, Tells-put, Tells-refused, Tells-written}
+use Rattle.trace_engine.proofs.HasTold.{StopsTelling-memory, TakesPrefix-none, Tells-put, Tells-refused, Tells-written}
 use Rattle.schedule_text.specs.Schedules.{Schedule}
 use Rattle.step_machine.specs.Machine.{World}
 use Rattle.show_engine.specs.Pictures.{rows_text}
@@ -40,7 +40,7 @@ pub returns-in_err-world : goal.returns-in_err-world
 returns-in_err-world g c =
     let p = err_from_is_err_and c.from_residual.result c.from_residual.ensures.1 in
     let a = g.W.Sink.state c.args.writer.now in
-    rw (p.1, p.2) (Tells-refused a a _ _ _ (TakesBeginning-none a _) (StopsTelling-memory a _ c.in_err-world.ensures.err))
+    rw (p.1, p.2) (Tells-refused a a _ _ _ (TakesPrefix-none a _) (StopsTelling-memory a _ c.in_err-world.ensures.err))
 
 pub returns-in_err-put_heading : goal.returns-in_err-put_heading
 returns-in_err-put_heading g c =

@@ -34,7 +34,7 @@ returns-in_err-put_moves g c =
     rw (p.1, p.2)
     (Tells-refused a d _ _ _
     (stopped_event each a b d c.args.block.now c.args.world.now c.args.events.now c.loop-event.event-index c.event-item.result c.loop-event-test.true c.event-item.is c.loop-event.world c.loop-event.block
-    (replicate one.result.1 one.result.0) one.ensures.moves drawn c.requires.can tells.beginning)
+    (replicate one.result.1 one.result.0) one.ensures.moves drawn c.requires.can tells.prefix)
     (StopsTelling-behind a b d _ drawn.quiet tells.cause))
 
 pub loop-event-preserved : goal.loop-event-preserved

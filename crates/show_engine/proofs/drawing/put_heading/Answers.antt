@@ -1,7 +1,7 @@
 use Rattle.std.proofs.Common.{◌++◌, append_assoc, subst, List, ℕ}
 use Rattle.std.proofs.lemmas.Result.{err_from_is_err_and}
-use Rattle.text_io.specs.Blocks.{Puts, TakesBeginning}
-use Rattle.text_io.proofs.Sends.{Puts-more, TakesBeginning-longer}
+use Rattle.text_io.specs.Blocks.{Puts, TakesPrefix}
+use Rattle.text_io.proofs.Sends.{Puts-more, TakesPrefix-longer}
 use Rattle.show_engine.specs.Rows.{names_row, queue_text}
 use Rattle.show_engine.proofs.drawing.put_heading.Goals as goal
 
@@ -17,7 +17,7 @@ returns-in_err-put g c =
       ok = tt;
       quiet = tt;
       only_write = puts.only_write;
-      beginning = subst (λ (l : List ℕ). TakesBeginning a.contents b.contents l) whole (TakesBeginning-longer a.contents b.contents _ (names_row c.args.frame) puts.beginning);
+      prefix = subst (λ (l : List ℕ). TakesPrefix a.contents b.contents l) whole (TakesPrefix-longer a.contents b.contents _ (names_row c.args.frame) puts.prefix);
       cause = puts.cause;
     })
 

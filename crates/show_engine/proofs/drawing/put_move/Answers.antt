@@ -2,7 +2,7 @@ use Rattle.std.proofs.Common.{◌++◌, List, sym, subst}
 use Rattle.std.specs.Prelude.{ℕ}
 use Rattle.std.proofs.lemmas.Result.{err_from_is_err_and}
 use Rattle.trace_engine.specs.Tracing.{Tells}
-use Rattle.trace_engine.proofs.HasTold.{StopsTelling-memory, TakesBeginning-none, Tells-put, Tells-refused}
+use Rattle.trace_engine.proofs.HasTold.{StopsTelling-memory, TakesPrefix-none, Tells-put, Tells-refused}
 use Rattle.show_engine.specs.Pictures.{drawn_text}
 use Rattle.show_engine.specs.Showing.{is_among}
 use Rattle.show_engine.proofs.Texts.{moves_text-one}
@@ -12,7 +12,7 @@ pub returns-in_err-line-clause-tells : goal.returns-in_err-line-clause-tells
 returns-in_err-line-clause-tells g c =
     let p = err_from_is_err_and c.from_residual.result c.from_residual.ensures.1 in
     let a = g.W.Sink.state c.args.writer.now in
-    rw (p.1, p.2) (Tells-refused a a _ _ _ (TakesBeginning-none a _) (StopsTelling-memory a _ c.in_err-line.ensures.memory))
+    rw (p.1, p.2) (Tells-refused a a _ _ _ (TakesPrefix-none a _) (StopsTelling-memory a _ c.in_err-line.ensures.memory))
 
 pub returns-clause-tells : goal.returns-clause-tells
 returns-clause-tells g c =

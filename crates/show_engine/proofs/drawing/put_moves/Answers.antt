@@ -26,7 +26,7 @@ returns-in_err-put_move-clause-tells g c =
     let d = g.W.Sink.state c.put_move.new.writer in
     rw (p.1, p.2)
     (Tells-refused a d _ _ _
-    (stopped_one each a b d c.args.block.now c.args.world.now c.args.one c.args.count c.loop.counter c.loop.world c.loop.block c.loop-test.true drawn c.requires.can tells.beginning)
+    (stopped_one each a b d c.args.block.now c.args.world.now c.args.one c.args.count c.loop.counter c.loop.world c.loop.block c.loop-test.true drawn c.requires.can tells.prefix)
     (StopsTelling-behind a b d _ drawn.quiet tells.cause))
 
 pub loop-preserved : goal.loop-preserved

@@ -16,7 +16,7 @@ returns-in_err-draw-clause-memory g c =
     let b = g.W.Sink.state c.draw.new.writer in
     let frame_is : c.of-frame.result ≡ frame_of c.args.view c.args.schedule.now.actors = c.of-frame.ensures.frame ∙ ap (λ (s : Schedule). frame_of c.args.view s.actors) c.schedule.view_is in
     rw p.1
-    (λ memory. inr (has_begun c.args.view c.args.schedule.now c.of-frame.result c.in_ok-counted.counted frame_is c.in_ok-counted.ensures.ok g.row.B c.requires.bits a b c.in_err-draw.ensures.beginning))
+    (λ memory. inr (has_begun c.args.view c.args.schedule.now c.of-frame.result c.in_ok-counted.counted frame_is c.in_ok-counted.ensures.ok g.row.B c.requires.bits a b c.in_err-draw.ensures.prefix))
 
 pub returns-in_err-draw-clause-write : goal.returns-in_err-draw-clause-write
 returns-in_err-draw-clause-write g c =
@@ -26,7 +26,7 @@ returns-in_err-draw-clause-write g c =
     let frame_is : c.of-frame.result ≡ frame_of c.args.view c.args.schedule.now.actors = c.of-frame.ensures.frame ∙ ap (λ (s : Schedule). frame_of c.args.view s.actors) c.schedule.view_is in
     rw p.1
     (λ write. (
-      has_begun c.args.view c.args.schedule.now c.of-frame.result c.in_ok-counted.counted frame_is c.in_ok-counted.ensures.ok g.row.B c.requires.bits a b c.in_err-draw.ensures.beginning,
+      has_begun c.args.view c.args.schedule.now c.of-frame.result c.in_ok-counted.counted frame_is c.in_ok-counted.ensures.ok g.row.B c.requires.bits a b c.in_err-draw.ensures.prefix,
       gave_up c.in_err-draw.field-0.0 p.0 a b p.2 write c.in_err-draw.ensures.cause,
     ))
 

@@ -1,7 +1,7 @@
 use Rattle.std.proofs.Common.{◌≡◌, ◌-◌, ◌++◌, ap, ◌∙◌, List, ℕ, take, length, replicate}
 use Rattle.std.proofs.lemmas.List.{take_min}
 use Rattle.show_engine.specs.Rows.{padded}
-use Rattle.show_engine.proofs.Cuts.{put_over}
+use Rattle.show_engine.proofs.Truncations.{put_over}
 use Rattle.show_engine.proofs.rows.put_at.Goals as goal
 
 pub returns-clause-text : goal.returns-clause-text

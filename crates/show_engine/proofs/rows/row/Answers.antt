@@ -1,8 +1,8 @@
 use Rattle.std.proofs.Common.{◌≡◌, ◌+◌, ◌++◌, [], ap, sym, ◌∙◌, arith, codes, List, ℕ}
 use Rattle.std.proofs.lemmas.List.{take_all}
 use Rattle.show_engine.specs.Frames.{column_of}
-use Rattle.show_engine.specs.Rows.{beside, cut_to, padded, row_text}
-use Rattle.show_engine.proofs.Cuts.{beside-none, beside-some}
+use Rattle.show_engine.specs.Rows.{beside, truncated_to, padded, row_text}
+use Rattle.show_engine.proofs.Truncations.{beside-none, beside-some}
 use Rattle.show_engine.proofs.rows.row.Goals as goal
 
 pub returns-then-is_empty : goal.returns-then-is_empty
@@ -14,9 +14,9 @@ returns-then-is_empty c =
     let left = padded c.column_of.result c.args.start.now ++ c.args.cell.now in
     let alone = beside-none frame.side c.args.side.now left c.is_empty.result c.is_empty.ensures c.if-is_empty.true in
     let at : c.column_of.result ≡ column_of frame c.args.actor = c.column_of.ensures.column ∙ ap (column_of frame) c.from.ensures in
-    c.cut.ensures.front left two
-    ∙ ap (λ (l : List ℕ). cut_to frame.width l ++ codes "\n") (sym alone)
-    ∙ ap (λ (n : ℕ). cut_to frame.width (beside frame.side c.args.side.now (padded n c.args.start.now ++ c.args.cell.now)) ++ codes "\n") at
+    c.truncate.ensures.front left two
+    ∙ ap (λ (l : List ℕ). truncated_to frame.width l ++ codes "\n") (sym alone)
+    ∙ ap (λ (n : ℕ). truncated_to frame.width (beside frame.side c.args.side.now (padded n c.args.start.now ++ c.args.cell.now)) ++ codes "\n") at
 
 pub returns : goal.returns
 unfolding row_text
@@ -28,6 +28,6 @@ returns c =
     let three = c.put_at-3.ensures.text left two in
     let both = beside-some frame.side c.args.side.now left c.is_empty.result c.is_empty.ensures c.if-is_empty.false in
     let at : c.column_of.result ≡ column_of frame c.args.actor = c.column_of.ensures.column ∙ ap (column_of frame) c.from.ensures in
-    c.cut-2.ensures.front (padded frame.side left ++ c.args.side.now) three
-    ∙ ap (λ (l : List ℕ). cut_to frame.width l ++ codes "\n") (sym both)
-    ∙ ap (λ (n : ℕ). cut_to frame.width (beside frame.side c.args.side.now (padded n c.args.start.now ++ c.args.cell.now)) ++ codes "\n") at
+    c.truncate-2.ensures.front (padded frame.side left ++ c.args.side.now) three
+    ∙ ap (λ (l : List ℕ). truncated_to frame.width l ++ codes "\n") (sym both)
+    ∙ ap (λ (n : ℕ). truncated_to frame.width (beside frame.side c.args.side.now (padded n c.args.start.now ++ c.args.cell.now)) ++ codes "\n") at

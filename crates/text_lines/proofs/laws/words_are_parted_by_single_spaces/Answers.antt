@@ -1,5 +1,5 @@
 -- Each lemma is a clause of the law.
-use Rattle.text_lines.proofs.Cuts.{spaced-words_of, words_of-spaced}
+use Rattle.text_lines.proofs.Splits.{spaced-words_of, words_of-spaced}
 use Rattle.text_lines.proofs.laws.words_are_parted_by_single_spaces.Goals as goal
 
 pub returns : goal.returns

@@ -25,7 +25,7 @@ returns-in_err-tell_moves g c =
     rw (p.1, p.2)
     (Tells-refused (g.W.Sink.state c.args.writer.now) (g.W.Sink.state c.tell_moves.new.writer) _ _ _
     (stopped_event g.row.B (g.W.Sink.state c.args.writer.now) (g.W.Sink.state c.loop-event.writer) (g.W.Sink.state c.tell_moves.new.writer) c.args.block.now c.args.world.now c.args.events.now c.loop-event.event-index c.event-item.result c.loop-event-test.true c.event-item.is c.loop-event.world c.loop-event.block
-    (replicate one.result.1 one.result.0) one.ensures.moves told c.requires.can tells.beginning)
+    (replicate one.result.1 one.result.0) one.ensures.moves told c.requires.can tells.prefix)
     (StopsTelling-behind (g.W.Sink.state c.args.writer.now) (g.W.Sink.state c.loop-event.writer) (g.W.Sink.state c.tell_moves.new.writer) _ told.quiet tells.cause))
 
 pub loop-event-preserved : goal.loop-event-preserved

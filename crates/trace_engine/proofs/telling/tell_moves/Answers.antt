@@ -18,7 +18,7 @@ returns-in_err-tell_move-clause-tells g c =
     let tells = c.in_err-tell_move.ensures.tells in
     rw (p.1, p.2)
     (Tells-refused (g.W.Sink.state c.args.writer.now) (g.W.Sink.state c.tell_move.new.writer) _ _ _
-    (stopped_one g.row.B (g.W.Sink.state c.args.writer.now) (g.W.Sink.state c.loop.writer) (g.W.Sink.state c.tell_move.new.writer) c.args.block.now c.args.world.now c.args.one c.args.count c.loop.counter c.loop.world c.loop.block c.loop-test.true told c.requires.can tells.beginning)
+    (stopped_one g.row.B (g.W.Sink.state c.args.writer.now) (g.W.Sink.state c.loop.writer) (g.W.Sink.state c.tell_move.new.writer) c.args.block.now c.args.world.now c.args.one c.args.count c.loop.counter c.loop.world c.loop.block c.loop-test.true told c.requires.can tells.prefix)
     (StopsTelling-behind (g.W.Sink.state c.args.writer.now) (g.W.Sink.state c.loop.writer) (g.W.Sink.state c.tell_move.new.writer) _ told.quiet tells.cause))
 
 pub loop-preserved : goal.loop-preserved

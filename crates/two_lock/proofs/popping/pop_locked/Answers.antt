@@ -28,7 +28,7 @@ returns-after-not-keeps_nodes g c =
     ]))
 
 pub returns-in-Refused : goal.returns-in-Refused
-returns-in-Refused g c = rw c.keep-in-Ends.ensures (pop_worn_out c.args.arena.now c.args.seat.now c.read_front.new.seat c.args.failed c.args.turns c.in-Refused.why (subst (λ o. Fronts c.args.arena.now c.args.seat.now c.read_front.new.seat (Ends o)) c.in-Refused.is c.in-Ends.ensures))
+returns-in-Refused g c = rw c.keep-in-Ends.ensures (pop_worn_out c.args.arena.now c.args.seat.now c.read_front.new.seat c.args.failed c.args.turns c.in-Refused.refusal (subst (λ o. Fronts c.args.arena.now c.args.seat.now c.read_front.new.seat (Ends o)) c.in-Refused.is c.in-Ends.ensures))
 
 pub returns-in_default : goal.returns-in_default
 returns-in_default g c = rw c.keep-in-Ends.ensures (pop_ended c.args.arena.now c.args.seat.now c.read_front.new.seat c.args.failed c.args.turns c.in-Ends.reply c.in_default.not-Refused c.requires.turns c.in-Ends.ensures)

@@ -37,7 +37,7 @@ loop-index-preserved g c = next_try c.args.arena.now c.args.seat.now c.loop-inde
 pub returns-in-Err-clause-puts : goal.returns-in-Err-clause-puts
 returns-in-Err-clause-puts g c =
     rw c.keep-in-Err.ensures
-    (finds_it_shut c.args.arena.now c.args.seat.now c.loop-index.seat c.a3.new.seat c.push_locked.new.seat c.args.held c.word_of-val.result c.registers-in-loop-index.result c.registers-then-got_lock.result c.a3.result c.in-Err.why c.args.body c.args.spent c.loop-index.index c.args.turns c.registers-in-loop-index.ensures c.registers-then-got_lock.ensures
+    (finds_it_shut c.args.arena.now c.args.seat.now c.loop-index.seat c.a3.new.seat c.push_locked.new.seat c.args.held c.word_of-val.result c.registers-in-loop-index.result c.registers-then-got_lock.result c.a3.result c.in-Err.refusal c.args.body c.args.spent c.loop-index.index c.args.turns c.registers-in-loop-index.ensures c.registers-then-got_lock.ensures
     c.loop-index.invariant c.a3.ensures (sym c.got_lock.ensures ∙ c.if-got_lock.true) c.in-Err.ensures)
 
 pub returns-in-Ok-clause-puts : goal.returns-in-Ok-clause-puts

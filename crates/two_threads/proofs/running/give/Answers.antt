@@ -3,8 +3,8 @@ use Rattle.std.proofs.lemmas.Result.{err_from_is_err_and}
 use Rattle.two_threads.proofs.Orders.{never_shut, shut_ends_run}
 use Rattle.two_threads.proofs.running.give.Goals as goal
 
-pub returns-in_err-shut-clause-why : goal.returns-in_err-shut-clause-why
-returns-in_err-shut-clause-why g c =
+pub returns-in_err-shut-clause-refusal : goal.returns-in_err-shut-clause-refusal
+returns-in_err-shut-clause-refusal g c =
     let here = g.met.Q.Fifo in
     let one = c.in_err-shut.ensures in
     let pushed = c.in_ok-pushed.ensures in
@@ -12,5 +12,5 @@ returns-in_err-shut-clause-why g c =
     rw (p.1, p.2) (
     shut_ends_run c.args.most _ _ _
     (λ found. never_shut _ _ _ c.args.most (here.sound _ _ one.seat) (λ n may. c.requires.alone n may ∙ sym (one.number ∙ pushed.number)) (found.mine ∙ pushed.pushed) found.shut)
-    one.why one.refused
+    one.refusal one.refused
     )

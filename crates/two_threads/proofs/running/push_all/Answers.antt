@@ -3,8 +3,8 @@ use Rattle.std.proofs.lemmas.Result.{err_from_is_err_and}
 use Rattle.two_threads.proofs.Orders.{never_shut, ends_run}
 use Rattle.two_threads.proofs.running.push_all.Goals as goal
 
-pub returns-in_err-push_one-clause-why : goal.returns-in_err-push_one-clause-why
-returns-in_err-push_one-clause-why g c =
+pub returns-in_err-push_one-clause-refusal : goal.returns-in_err-push_one-clause-refusal
+returns-in_err-push_one-clause-refusal g c =
     let here = g.met.Q.Fifo in
     let was = c.loop-count.invariant in
     let one = c.push_one.ensures in
@@ -12,5 +12,5 @@ returns-in_err-push_one-clause-why g c =
     rw (p.1, p.2) (
     ends_run c.args.most (g.Q.Fifo.known c.loop-count.seat) _ _
     (λ found same. never_shut _ _ _ c.loop-count.count (here.sound _ _ one.seat) (λ n may. c.requires.alone n may ∙ sym (one.number ∙ was.number)) (same ∙ was.mine) found)
-    c.in_err-push_one.ensures.why
+    c.in_err-push_one.ensures.refusal
     )

@@ -5,4 +5,4 @@ pub returns-in-Ok-clause-answer : goal.returns-in-Ok-clause-answer
 returns-in-Ok-clause-answer g c = answers_then _ _ _ c.in-Ok.taken c.loop.invariant.more c.in-Ok.ensures.answer
 
 pub returns-in-Err-clause-refused : goal.returns-in-Err-clause-refused
-returns-in-Err-clause-refused g c = pop_refused_then _ _ _ c.in-Err.why c.loop.invariant.more c.in-Err.ensures.refused
+returns-in-Err-clause-refused g c = pop_refused_then _ _ _ c.in-Err.refusal c.loop.invariant.more c.in-Err.ensures.refused

@@ -12,7 +12,7 @@ pub returns-in-Ok-clause-stays_lost : goal.returns-in-Ok-clause-stays_lost
 returns-in-Ok-clause-stays_lost g c lost = c.in-Ok.ensures.stays_lost (waited-lost g.Q.Fifo.known _ _ c.loop.invariant.waited lost)
 
 pub returns-in-Err-clause-refused : goal.returns-in-Err-clause-refused
-returns-in-Err-clause-refused g c other = waited-then_nothing _ _ _ _ c.loop.invariant.waited c.in-Err.why (c.in-Err.ensures.refused other)
+returns-in-Err-clause-refused g c other = waited-then_nothing _ _ _ _ c.loop.invariant.waited c.in-Err.refusal (c.in-Err.ensures.refused other)
 
 pub returns-in-Err-clause-lost : goal.returns-in-Err-clause-lost
 returns-in-Err-clause-lost g c same = waited-then_loss _ _ _ _ c.loop.invariant.waited (c.in-Err.ensures.lost same)
@@ -26,6 +26,6 @@ loop-preserved g c = record {
   finite = tt;
   office = c.try_take.ensures.office;
   waited = inr (waited-then_nothing _ _ _ _ c.loop.invariant.waited Busy
-      (subst (λ why. TookNothing g.Q.Fifo.known c.loop.self why c.try_take.new.self) c.in-Err-Busy.field-0-is
+      (subst (λ refusal. TookNothing g.Q.Fifo.known c.loop.self refusal c.try_take.new.self) c.in-Err-Busy.field-0-is
       (c.in-Err-Busy.ensures.refused (λ same. subst EndsTake (sym same ∙ c.in-Err-Busy.field-0-is) tt))));
 }

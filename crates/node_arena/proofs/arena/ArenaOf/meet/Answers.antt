@@ -12,11 +12,11 @@ split_seat-spare-requires g c = let a = (subst (λ r. IsReady r c.args.one.now) 
 pub join_seat-requires : goal.join_seat-requires
 join_seat-requires g c =
     let a = (subst (λ r. IsReady r c.args.one.now) (sym c.self.view_is) c.requires.one).seat.arena.words in
-    let cut = c.split_seat-spare.ensures in
+    let split = c.split_seat-spare.ensures in
     let token = c.replace-token.ensures.value in
-    let me : c.replace-token.result.me ≡ c.args.other.now.token.me = ap (λ t. t.me) token ∙ cut.2 in (
+    let me : c.replace-token.result.me ≡ c.args.other.now.token.me = ap (λ t. t.me) token ∙ split.2 in (
       (subst (λ r. IsReady r c.args.one.now) (sym c.self.view_is) c.requires.one).seat.sits.table,
-      ap (λ t. t.table_id) token ∙ (cut.0 ∙ (subst (λ r. IsReady r c.args.other.now) (sym c.self.view_is) c.requires.other).seat.sits.table),
+      ap (λ t. t.table_id) token ∙ (split.0 ∙ (subst (λ r. IsReady r c.args.other.now) (sym c.self.view_is) c.requires.other).seat.sits.table),
       ap (λ (m : Me _ View). m.1) (me ∙ (subst (λ r. IsReady r c.args.other.now) (sym c.self.view_is) c.requires.other).seat.sits.seat),
       omega arith,
       pairs_at _ _ _ _ _ _ _ (subst (λ r. IsReady r c.args.one.now) (sym c.self.view_is) c.requires.one).seat.sits.seat (me ∙ (subst (λ r. IsReady r c.args.other.now) (sym c.self.view_is) c.requires.other).seat.sits.seat),

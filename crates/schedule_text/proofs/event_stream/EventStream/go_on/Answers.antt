@@ -9,8 +9,8 @@ returns-in-Err g c =
     record {
       refused =
           subst (λ (s : EventStream). IsRefused (lines_given s) (events_left s.header.version s.left) (stream s.ahead (g.R.Source.state c.args.reader.now))
-          (stream c.told-why.new.ahead (g.R.Source.state c.told-why.new.reader)) c.told-why.result)
-          c.self.view_is (rw c.header_lines.ensures.count at (c.told-why.ensures _ _ (stream c.self.inside.ahead (g.R.Source.state c.args.reader.now)) c.in-Err.ensures.err));
+          (stream c.told-refusal.new.ahead (g.R.Source.state c.told-refusal.new.reader)) c.told-refusal.result)
+          c.self.view_is (rw c.header_lines.ensures.count at (c.told-refusal.ensures _ _ (stream c.self.inside.ahead (g.R.Source.state c.args.reader.now)) c.in-Err.ensures.err));
       header = ap (λ (s : EventStream). s.header) c.self.view_is;
       stays = refl;
     }

@@ -1,6 +1,6 @@
 use Rattle.std.proofs.Common.{[], refl}
 use Rattle.std.proofs.lemmas.Result.{err_from_is_err_and}
-use Rattle.text_io.proofs.Sends.{Sends-all, TakesBeginning-longer, Puts-more, Puts-written}
+use Rattle.text_io.proofs.Sends.{Sends-all, TakesPrefix-longer, Puts-more, Puts-written}
 use Rattle.text_io.proofs.blocks.Block.put.Goals as goal
 
 pub returns-in_err-empty : goal.returns-in_err-empty
@@ -11,7 +11,7 @@ returns-in_err-empty g c =
       ok = tt;
       quiet = tt;
       only_write = refused.only_write;
-      beginning = TakesBeginning-longer _ _ _ _ refused.beginning;
+      prefix = TakesPrefix-longer _ _ _ _ refused.prefix;
       cause = refused.cause;
     })
 

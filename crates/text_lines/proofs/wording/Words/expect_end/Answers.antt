@@ -1,5 +1,5 @@
 use Rattle.std.proofs.Common.{refl, ◌∙◌}
-use Rattle.text_lines.proofs.Cuts.{words_of_some}
+use Rattle.text_lines.proofs.Splits.{words_of_some}
 use Rattle.text_lines.proofs.wording.Words.expect_end.Goals as goal
 
 pub returns-in-Some-clause-err : goal.returns-in-Some-clause-err

@@ -1,5 +1,5 @@
 use Rattle.std.proofs.Common.{arith}
-use Rattle.text_lines.proofs.Cuts.{words_of_word, words_of_more}
+use Rattle.text_lines.proofs.Splits.{words_of_word, words_of_more}
 use Rattle.text_lines.proofs.wording.Words.next_word.Goals as goal
 
 pub returns-in-Some : goal.returns-in-Some

@@ -1,4 +1,4 @@
--- A fault of a beginning of a text, other than that it ends, is the first fault of the text.
+-- A fault of a prefix of a text, other than that it ends, is the first fault of the text.
 use Rattle.std.proofs.Common.{◌≡◌, ◌≢◌, ℕ, List, [], ◌∷◌, ◌++◌, refl, ap, ◌∙◌, append_assoc, subst}
 use Rattle.text_lines.specs.declared.causes.TextCause.{TextCause}
 use Rattle.text_lines.specs.declared.causes.TextCause.TheVariants.{End, Form, Range, Extra}
@@ -6,9 +6,9 @@ use Rattle.text_lines.specs.Lines.{line}
 use Rattle.text_lines.specs.Grammars.{Grammar, state_after, lines_of, IsWrongLine, IsFault, IsFirstFault}
 use Rattle.history.specs.declared.refusals.Refusal.{Refusal}
 use Rattle.history.specs.declared.refusals.Refusal.TheVariants.{Text}
-use Rattle.text_io.specs.Beginnings.{IsRefusedBy, IsLastingFault}
+use Rattle.text_io.specs.Prefixes.{IsRefusedBy, IsLastingFault}
 
--- a beginning of an empty text is empty
+-- a prefix of an empty text is empty
 append-is_nil : (rest later : List ℕ) → rest ++ later ≡ [] → rest ≡ []
 append-is_nil [] later e = refl
 append-is_nil (x ∷ rest) later e = absurd cc
@@ -47,8 +47,8 @@ module _ {S R : Type 0} (g : Grammar S R) where
         fault = fault-append (state_after g s fault.before) fault.rest later cause lasting fault.fault;
       }
 
-  -- so a beginning that isn't refused by its end has a lasting fault
-  pub lasting-refusal : (s : S) (text : List ℕ) (why : Refusal) (number : ℕ) (cause : TextCause) → IsRefusedBy g s text why → why ≡ Text number cause → cause ≢ End
+  -- so a prefix that isn't refused by its end has a lasting fault
+  pub lasting-refusal : (s : S) (text : List ℕ) (refusal : Refusal) (number : ℕ) (cause : TextCause) → IsRefusedBy g s text refusal → refusal ≡ Text number cause → cause ≢ End
       → IsLastingFault g s text number cause
-  lasting-refusal s text why number cause refused is lasting =
-      first_fault-append s text number cause lasting (subst (λ (why : Refusal). IsRefusedBy g s text why) is refused)
+  lasting-refusal s text refusal number cause refused is lasting =
+      first_fault-append s text number cause lasting (subst (λ (refusal : Refusal). IsRefusedBy g s text refusal) is refused)

@@ -1,11 +1,11 @@
-//! Cutting a text at a byte.
+//! Splitting a text at a byte.
 ghost use Rattle.std.specs.Prelude.{◌≡◌, ◌++◌, ◌∷◌, MatchOption};
 ghost use Rattle.text_lines.specs.Lines.{HasNo, line};
 
 const LINE_FEED: u8 = 10;
 
 /// What stands before the first such byte, and what follows it; none where the text has no such byte.
-pub fn cut_at(text: &[u8], byte: u8) -> Option<(&[u8], &[u8])>
+pub fn split_once(text: &[u8], byte: u8) -> Option<(&[u8], &[u8])>
     ensures { MatchOption result (HasNo byte text.now)
         (λ parts. HasNo byte parts.0.now × (text.now ≡ parts.0.now ++ byte ∷ parts.1.now)) }
 {
@@ -22,9 +22,9 @@ pub fn cut_at(text: &[u8], byte: u8) -> Option<(&[u8], &[u8])>
 ///
 /// It goes over the bytes of that line alone. It takes no memory, and doesn't wait.
 pub fn line_at(text: &[u8]) -> Option<(&[u8], &[u8])>
-    //= texts/numbers: A number of any length (in range, out of it or none) and a line's words are told exactly.
+    //= texts/numbers
     ensures { MatchOption result (HasNo 10 text.now)
         (λ found. HasNo 10 found.0.now × (text.now ≡ line found.0.now ++ found.1.now)) }
 {
-    cut_at(text, LINE_FEED)
+    split_once(text, LINE_FEED)
 }

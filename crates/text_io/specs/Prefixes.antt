@@ -1,4 +1,4 @@
--- What a text is refused by, of which a beginning or all is read.
+-- What a text is refused by, of which a prefix or all is read.
 use Rattle.std.specs.Prelude.{ℕ, List, ◌++◌, Option, Some, None, ⊤}
 use Rattle.text_lines.specs.declared.causes.TextCause.{TextCause}
 use Rattle.text_lines.specs.Grammars.{Grammar, IsFirstFault}
@@ -12,8 +12,8 @@ IsRefusedBy g s text Memory = Unit {0}
 IsRefusedBy g s text _ = ⊥
 
 -- each text that begins so has this first faulty line, for this cause
-abbrev pub IsLastingFault : {S R : Type 0} → Grammar S R → S → (beginning : List ℕ) → ℕ → TextCause → Type 0
-IsLastingFault g s beginning number cause = (later : List ℕ) → IsFirstFault g s (beginning ++ later) number cause
+abbrev pub IsLastingFault : {S R : Type 0} → Grammar S R → S → (prefix : List ℕ) → ℕ → TextCause → Type 0
+IsLastingFault g s prefix number cause = (later : List ℕ) → IsFirstFault g s (prefix ++ later) number cause
 
 -- known bytes have this first faulty line, for this cause
 abbrev pub IsFaultOfGiven : {S R : Type 0} → Grammar S R → S → (given : Option (List ℕ)) → ℕ → TextCause → Type 0

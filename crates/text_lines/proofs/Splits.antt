@@ -1,4 +1,4 @@
--- Lists that are cut at a byte.
+-- Lists that are split at a byte.
 use Rattle.std.proofs.Common.{◌≡◌, ◌≢◌, ℕ, List, [], ◌∷◌, ◌++◌, length, All, Bool, true, false, refl, ap, ◌∙◌, arith, ◌==◌}
 use Rattle.std.specs.Prelude.{not, ◌&&◌}
 use Rattle.std.specs.List.{list_all}
