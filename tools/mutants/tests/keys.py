@@ -109,7 +109,8 @@ CHANGES = {
     "a proof that high reads": ("low/proofs/Lemmas.antt", "size 1 ≡ 1", "size 2 ≡ 2", True),
     "a proof that high doesn't read": ("low/proofs/Alone.antt", "1 ≡ 1", "2 ≡ 2", False),
     "a called function's proof": ("low/proofs/one_more/Answers.antt", "refl", "search rules", False),
-    "high's source": ("high/src/lib.rt", "High", "Higher", True),
+    "high's source": ("high/src/lib.rt", "low::three()", "low::three() + 1", True),
+    "a comment of high's source": ("high/src/lib.rt", "High", "Higher", False),
     "high's spec": ("high/specs/Words.antt", "n + 1", "1 + n", True),
     "high's proof": ("high/proofs/more/Answers.antt", "c = lemma", "c = (lemma)", True),
     "the edit": ("high/wrong/adds_none.edit", "new: n", "new: 0", True),
@@ -144,7 +145,7 @@ def test_keys(expect: Callable[[str, bool, str], None]) -> None:
         expect(f"{what}: {'another' if is_other else 'the same'} key", (made != first) == is_other, made)
     for what, made in {"toolchain": key(version="kit 2"), "handles": key(handles="Threads"), "line of crates.txt": key(said="low: std")}.items():
         expect(f"another {what}: another key", made != first, made)
-    kits = key(version="kit 2"), key({"high/src/lib.rt": LOW_AND_HIGH["high/src/lib.rt"].replace("High", "Higher")})
+    kits = key(version="kit 2"), key({"high/src/lib.rt": LOW_AND_HIGH["high/src/lib.rt"].replace("three()", "three() + 1")})
     expect("another toolchain alone: told from the key", is_of_another_toolchain(kits[0], first), kits[0])
     expect("another source: told from the key", not is_of_another_toolchain(kits[1], first), kits[1])
     # (what an edit alone names counts too)
