@@ -114,6 +114,7 @@ fn jobs_end_by_a_shut(rt: HostRuntime) -> Result<(), Fail> {
 }
 
 /// Two workers each find the queue empty before the first push. They go on, and both jobs are done.
+/// A mutant, by hand: a worker that ends at the first empty reply fails here.
 #[test]
 fn workers_go_on_where_the_queue_is_empty(rt: HostRuntime) -> Result<(), Fail> {
     for kind in KINDS {
@@ -125,6 +126,7 @@ fn workers_go_on_where_the_queue_is_empty(rt: HostRuntime) -> Result<(), Fail> {
 
 /// Where jobs are lost the queue is shut all the same: behind a push that was refused, and where no worker is left and no node
 /// is free.
+/// A mutant, by hand: a dispatch without a shut where a push was refused fails here.
 #[test]
 fn the_queue_is_shut_where_jobs_are_lost(rt: HostRuntime) -> Result<(), Fail> {
     let no_worker = Rule::WornPops {

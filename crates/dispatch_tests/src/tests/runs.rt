@@ -83,6 +83,7 @@ fn done<R: Threads + Wait + Sync, G: Gate + Sync>(
 
 /// All jobs are done, by few workers and by many, also where there are no jobs, or far more than the queue has room for. No
 /// worker at all is refused, and so are more jobs than may be.
+/// Mutants, by hand: turns that are always `Lost` fail here, and those that are always `Busy` never end.
 #[test]
 fn all_jobs_are_done(rt: HostRuntime) -> Result<(), Fail> {
     let cases = [
@@ -112,6 +113,7 @@ fn all_jobs_are_done(rt: HostRuntime) -> Result<(), Fail> {
 }
 
 /// Two workers do jobs at one time: the first job is held until the second is done.
+/// A mutant, by hand: a dispatch with one thread alone fails here.
 #[test]
 fn two_workers_run_at_once(rt: HostRuntime) -> Result<(), Fail> {
     for kind in KINDS {
@@ -145,6 +147,7 @@ fn worn_pops(worn: u64) -> Rule {
 /// A queue that is busy a hundred times does all jobs, and so does one that is found empty four times before the first push.
 /// Where pushes are refused, also with the shut, or each worker's pop, jobs are lost, and the workers end; where the shut
 /// alone is refused, or one worker's pop, all jobs are done.
+/// Mutants, by hand: with a flag that is never looked at, or never set, this doesn't end.
 #[test]
 fn workers_end_where_the_queue_is_worn_out(rt: HostRuntime) -> Result<(), Fail> {
     let cases = [
@@ -185,6 +188,7 @@ fn done_by<R: Threads + Wait + Sync, G: Gate + Sync>(
 
 /// Workers are refused behind so many pops that took a value: all from then on, or one. What they did before is kept. So all
 /// of four jobs are done where four values were taken, or another worker takes them; else they are lost.
+/// A mutant, by hand: a dispatch that throws a refused worker's results away fails here.
 #[test]
 fn results_before_a_refusal_are_kept(rt: HostRuntime) -> Result<(), Fail> {
     for kind in KINDS {
@@ -254,6 +258,7 @@ fn jobs_pushed_before_a_refusal_are_done(rt: HostRuntime) -> Result<(), Fail> {
 
 /// A worker finds the queue empty. Before it goes on, jobs are pushed, and the submitter shuts the queue, or can't and gives
 /// up: the worker looked before whether it had, and so does those jobs.
+/// A mutant, by hand: a flag that is looked at after the pop that found none fails here.
 #[test]
 fn jobs_pushed_after_a_pop_found_none_are_done(rt: HostRuntime) -> Result<(), Fail> {
     for kind in KINDS {

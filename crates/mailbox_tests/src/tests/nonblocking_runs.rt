@@ -17,6 +17,7 @@ use std::thread::Threads;
 const GREATEST_COUNT: u64 = 1_099_511_627_775;
 
 /// Three letters of two senders come in the order in which they were sent; then there is none.
+/// A mutant, by hand: a `try_send` that is always `Busy` fails here.
 #[test]
 fn in_the_order_sent(rt: HostRuntime) -> Result<(), Fail> {
     let (queue, seats, receiver) = mail_queue::<NonBlockingAlgorithm>(rt.alloc(), 7, 100, 2)?;
@@ -68,6 +69,8 @@ fn came<R: Threads + Wait + Clock + Sync>(
 
 /// All letters come, each sender's in their order, also where there are no letters, or no senders; and the queue is shut
 /// afterwards, where there are senders.
+/// Mutants, by hand, that fail here: a `post` in which nobody shuts, or the first sender that ends; one that stops at the
+/// first take that finds none.
 #[test]
 fn each_senders_letters_come_in_order(rt: HostRuntime) -> Result<(), Fail> {
     for (senders, count, all) in &LOADS {

@@ -22,6 +22,7 @@ const GREATEST_COUNT: u64 = 1_099_511_627_775;
 const TRIES: u32 = 100;
 
 /// Three letters of two senders come in the order in which they were sent; then there is none.
+/// A mutant, by hand: a `try_send` that is always `Busy` fails here.
 #[test]
 fn in_the_order_sent(rt: HostRuntime) -> Result<(), Fail> {
     let (queue, seats, receiver) = mail_queue::<TwoLockAlgorithm>(rt.alloc(), 7, 100, 2)?;
@@ -65,6 +66,8 @@ fn came<R: Threads + Wait + Clock + Sync>(
 
 /// All letters come, each sender's in their order, also where there are no letters, or no senders; and the queue is shut
 /// afterwards, where there are senders.
+/// Mutants, by hand, that fail here: a `post` in which nobody shuts, or the first sender that ends; one that stops at the
+/// first take that finds none.
 #[test]
 fn each_senders_letters_come_in_order(rt: HostRuntime) -> Result<(), Fail> {
     for (senders, count, all) in &LOADS {
@@ -127,6 +130,7 @@ fn the_receivers_refusal_comes_first(rt: HostRuntime) -> Result<(), Fail> {
 }
 
 /// A letter that is sent just after a take found none comes: whether its sender had ended is looked at before the take.
+/// A mutant, by hand: a `post` that asks only after the take whether all senders had ended fails here.
 #[test]
 fn a_letter_comes_that_is_sent_after_a_take_found_none(rt: HostRuntime) -> Result<(), Fail> {
     let (queue, seats, receiver) = mail_queue::<TwoLockAlgorithm>(
@@ -147,6 +151,7 @@ fn a_letter_comes_that_is_sent_after_a_take_found_none(rt: HostRuntime) -> Resul
 
 /// Where Tail is worn out behind the first letter, the shut is refused too: the receiver ends by the count of those that ended,
 /// and the first sender's refusal is answered.
+/// A mutant, by hand: with a receiver that ends only where the queue is shut or all letters are there, this doesn't end.
 #[test]
 fn a_post_ends_where_its_shut_is_refused(rt: HostRuntime) -> Result<(), Fail> {
     let (queue, seats, receiver) = mail_queue::<TwoLockAlgorithm>(
