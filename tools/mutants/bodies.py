@@ -4,13 +4,17 @@ import re
 from collections.abc import Iterable
 
 from mutants.edits import Edit, read_edit, understand
+from mutants.kit import stop
 from mutants.sources import Function, Texts, functions_of, homes_of, items_of, names_one
 
 
 def texts_below(folder: str, part: str, ending: str) -> Texts:
-    """Returns the texts of a crate's part, as src, by their paths in the crate."""
+    """Returns the texts of a crate's part, as src, by their paths in the crate. A link, which rt refuses too, ends the run."""
     texts: Texts = {}
-    for at, _, files in os.walk(f"{folder}/{part}"):
+    for at, folders, files in os.walk(f"{folder}/{part}"):
+        for it in [at, *(f"{at}/{name}" for name in folders + files)]:
+            if os.path.islink(it):
+                stop(f"{it} is a link, and a key has no text behind one: put the file or folder itself there")
         for name in sorted(it for it in files if it.endswith(ending)):
             with open(f"{at}/{name}", encoding="utf-8") as it:
                 texts[os.path.relpath(f"{at}/{name}", folder)] = it.read()

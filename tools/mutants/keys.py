@@ -3,7 +3,8 @@
 The key of an edit is a digest of the toolchain's line of identity, behind a point, and before it one of
 - the edit, and the src, specs and proofs of its crate, without the lines that are comments;
 - the lines of crates.txt of the crate and of the crates below it, and HANDLES;
-- the files of this tool, but for the three that only choose, count and write down: main.py, record.py, report.py;
+- the files of this tool, but for those that only choose, count and write down: main.py, record.py, report.py, and this one, since
+  a key that reads other texts is another one;
 - of the crates below, what a check of this crate can read.
 
 Other edits of its group aren't in it: none of them disturbs it, which --true-bodies checks (groups.py).
@@ -17,6 +18,8 @@ What can be read of a crate below, and why no more:
   who calls it, or cites its theorem, writes its name. And a 'use' brings what somebody writes.
 - So each such part counts where its names are written, as whole words, anywhere in the texts that count: an import, a call, a
   path or an attribute. That takes too much where a word has two meanings, and too little nowhere.
+- A path may end above the files, at a folder, a crate or all of them, and another name may lead on from there: then all below its
+  end counts. So does all below the folder of a file Lib.antt that says more than which files there are.
 - All else of src/ counts: types, constants, macros, traits, and the blocks of traits.
 - A line that is a comment says nothing to the checker.
 """
@@ -36,10 +39,12 @@ from mutants.sources import NO_CODE, Function, blanked, closed, functions_of, ho
 
 LENGTH = 16
 LENGTH_OF_TOOLCHAIN = 8
-JUDGE_NOTHING = ("main.py", "record.py", "report.py")
+JUDGE_NOTHING = ("keys.py", "main.py", "record.py", "report.py")
 WORD = re.compile(r"\w+")
 # A file of a crate's specs/ or proofs/, as an import writes it, or an attribute.
 PATH = re.compile(r"\b(\w+)(?:\.|::)(specs|proofs)((?:(?:\.|::)[\w+]+)*)(?:(?:\.|::)\{([^}]*))?")
+# A path that ends at a crate, or at what has all of them.
+CRATE = re.compile(r"\bRattle\b(?:\.(\w+)\b)?(?!\.\w)|\b(\w+)\s+as\b")
 # A macro with its text or a call of one, and a trait: functions in these are left as they are.
 WHOLE = re.compile(r"\b\w+!\s*(?:\w+\s*)?(?=[({\[])|\btrait\s+\w+[^{;]*(?=\{)")
 ITEMS = re.compile(r"\b(?:impl|trait|mod|macro_rules|static)\b")
@@ -54,14 +59,16 @@ def digest(parts: Iterable[object]) -> str:
 
 
 def written_in(text: str, crate: str) -> set[str]:
-    """Returns what a text of a crate writes: its words, and each path of a file, with what may be the file's folders, as history/specs/Queue."""
-    found = {*WORD.findall(text)}
+    """Returns what a text of a crate writes: its words, each path of a file, with what may be the file's folders, as history/specs/Queue,
+    and with a slash behind it each path that may end at a folder, as history/specs/."""
+    found = {*WORD.findall(text)} | {f"{it[1] or it[2] or ''}/" for it in CRATE.finditer(text)}
     for name, part, rest, brought in PATH.findall(text):
         path = crate if name == "crate" else name
         for it in [part, *re.findall(r"[\w+]+", rest)]:
             path = f"{path}/{it}"
             found.add(path)
-        found |= {f"{path}/{it}" for it in WORD.findall(brought)}
+        ends = [f"{path}/{it}" for it in WORD.findall(brought) if "{" not in brought] or [path]
+        found |= {*ends, *(f"{it}/" for it in ends)}
     return found
 
 
@@ -76,6 +83,11 @@ class Unit:
     @functools.cached_property
     def written(self) -> set[str]:
         return written_in(self.text, self.crate)
+
+    def read_by(self) -> list[str]:
+        """Returns what a text writes that reads it: its name, or the path of a folder that it is below."""
+        folders = [self.name[: it.end()] for it in re.finditer("/", self.name)]
+        return [self.name, *folders, *(["/"] if folders else [])]
 
 
 def uncommented(text: str) -> str:
@@ -141,7 +153,10 @@ def units_of_logic(crate: str, path: str, text: str) -> Iterator[Unit]:
     folder = name.removesuffix("/Lib")
     for it in NODE.finditer(text):
         yield Unit(crate, f"{folder}/{it[1]}", f"{path} {it[0].strip()}")
-    yield Unit(crate, "", f"{path}\n{NODE.sub('', text).strip()}")
+    more = NODE.sub("", text).strip()
+    # (what it says may name the files below it without their folder)
+    here = f"Rattle.{folder.replace('/', '.')}\n" if more else ""
+    yield Unit(crate, "", f"{path}\n{here}{more}")
 
 
 @functools.cache
@@ -158,15 +173,17 @@ def units_of(crate: str, folder: str) -> tuple[Unit, ...]:
 def read(units: Iterable[Unit], written: Iterable[str]) -> list[Unit]:
     """Returns the parts that are read where this is written."""
     by_name: dict[str, list[Unit]] = {}
-    for it in units:
-        by_name.setdefault(it.name, []).append(it)
-    found, seen, waiting = [], {""}, ["", *written]
+    for unit in units:
+        for name in unit.read_by():
+            by_name.setdefault(name, []).append(unit)
+    found: dict[int, Unit] = {}
+    seen, waiting = {""}, ["", *written]
     while waiting:
         for it in by_name.pop(waiting.pop(), []):
-            found.append(it)
+            found[id(it)] = it
             waiting += it.written - seen
             seen |= it.written
-    return found
+    return [*found.values()]
 
 
 @functools.cache
@@ -191,7 +208,8 @@ class Keys:
         self.read = read(self.units, self.written)
         self.below = self.sum_of(self.read)
         # (an edit may name what nothing else in its crate does)
-        self.names_left = {it.name for it in self.units} - {it.name for it in self.read}
+        known = {id(it) for it in self.read}
+        self.names_left = {name for it in self.units if id(it) not in known for name in it.read_by()}
 
     @staticmethod
     def sum_of(units: list[Unit]) -> str:

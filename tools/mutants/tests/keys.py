@@ -64,7 +64,9 @@ impl Low for Nothing {
     }
 }
 """,
-    "low/specs/Lib.antt": "pub mod Sizes\npub mod Unread\n",
+    "low/specs/Lib.antt": "pub mod Sizes\npub mod Unread\npub mod Far\n",
+    "low/specs/Far/Lib.antt": "pub mod Deep\n",
+    "low/specs/Far/Deep.antt": "pub deep : ℕ → ℕ\ndeep n = n\n",
     "low/specs/Sizes.antt": "-- The size.\npub size : ℕ → ℕ\nsize n = n\n",
     "low/specs/Unread.antt": "pub unread : ℕ → ℕ\nunread n = n\n",
     "low/proofs/Lib.antt": "pub mod Lemmas\npub mod Alone\n",
@@ -117,6 +119,22 @@ CHANGES = {
     "the edit, which calls another function": ("high/wrong/adds_none.edit", "new: n", "new: low::two_more(n)", True),
 }
 
+# What high writes in a spec of its own, and which of the two specs that it doesn't read else it reads then: Unread.antt, and Far/Deep.antt.
+PATHS = {
+    "a file's alias": ("use Rattle.low.specs.Unread as u", True, False),
+    "a folder's alias": ("use Rattle.low.specs as s", True, True),
+    "a folder": ("use Rattle.low.specs", True, True),
+    "a folder below": ("use Rattle.low.specs.Far as f", False, True),
+    "a folder and a path below it in braces": ("use Rattle.low.specs.{Far.Deep.deep}", False, True),
+    "braces in braces": ("use Rattle.low.specs.{Sizes.{size}, Far.Deep.{deep}}", True, True),
+    "a crate's alias": ("use Rattle.low as l", True, True),
+    "a crate": ("use Rattle.low", True, True),
+    "a crate with a path in braces": ("use Rattle.low.{specs.Unread.unread}", True, True),
+    "all crates": ("use Rattle as r", True, True),
+    "a crate's alias in Rust": ("use low as l;", True, True),
+    "an item's alias": ("use Rattle.low.specs.Sizes.{size as unread_size}", False, False),
+}
+
 
 def write(top: str, files: Texts) -> None:
     """Writes files, by their paths below a folder."""
@@ -148,6 +166,19 @@ def test_keys(expect: Callable[[str, bool, str], None]) -> None:
     kits = key(version="kit 2"), key({"high/src/lib.rt": LOW_AND_HIGH["high/src/lib.rt"].replace("three()", "three() + 1")})
     expect("another toolchain alone: told from the key", is_of_another_toolchain(kits[0], first), kits[0])
     expect("another source: told from the key", not is_of_another_toolchain(kits[1], first), kits[1])
+    for what, (line, *reads) in PATHS.items():
+        words = {"high/specs/Words.antt": f"{line}\n{LOW_AND_HIGH['high/specs/Words.antt']}"}
+        at = key(words)
+        for file, is_read in zip(("low/specs/Unread.antt", "low/specs/Far/Deep.antt"), reads):
+            made = key(words | {file: LOW_AND_HIGH[file].replace(" n = n", " n = 0")})
+            expect(f"{what} reads {file}: {is_read}", (made != at) == is_read, made)
+            named = {"high/wrong/adds_none.edit": f"{LOW_AND_HIGH['high/wrong/adds_none.edit']}old: high n\nnew: {line}\n"}
+            is_other = key(named) != key(named | {file: LOW_AND_HIGH[file].replace(" n = n", " n = 0")})
+            expect(f"{what}, in the edit alone, reads {file}: {is_read}", is_other == is_read, made)
+    # (a file of a folder that says more than which files there are may name those without the folder)
+    more = {"low/specs/Far/Lib.antt": "pub mod Deep\npub use Deep.*\n"}
+    deeper = more | {"low/specs/Far/Deep.antt": LOW_AND_HIGH["low/specs/Far/Deep.antt"].replace("n = n", "n = 0")}
+    expect("what a folder's own file passes on is read", key(more) != key(deeper), "")
     # (what an edit alone names counts too)
     calls = {"high/wrong/adds_none.edit": "file: src/lib.rt\nold: low::one_more(n)\nnew: low::two_more(n)\n"}
     more = calls | {"low/src/lib.rt": LOW_AND_HIGH["low/src/lib.rt"].replace("n + unread 2", "n + unread 3")}
