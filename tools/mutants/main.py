@@ -5,17 +5,19 @@ import os
 from collections.abc import Callable, Iterable
 from concurrent.futures import FIRST_COMPLETED, Future, ThreadPoolExecutor, wait
 
-from mutants.edits import edits_in
+from mutants.edits import Edit, edits_in
 from mutants.keys import digest, keys_of, units_of
 from mutants.kit import Kit, have_libraries, stop
-from mutants.record import Record, commit_at, is_due
+from mutants.record import Record
 from mutants.report import Report
+from mutants.runs import try_all, try_alone, try_true
 from mutants.trials import Trials
+from mutants.turns import MINUTES, Ceiling, Rank, commit_at, is_due, number, own_change
 
 
 def side_by_side(kit: Kit, tasks: Iterable[tuple[int, Callable[[], None]]], lanes: int) -> None:
-    """Runs tasks, (memory, call), side by side: so many, or as many as memory holds, the largest first."""
-    left, memory = sorted(tasks, key=lambda it: -it[0]), 0.85 * kit.free()
+    """Runs tasks, (memory, call), side by side in their order: so many, or as many as memory holds."""
+    left, memory = list(tasks), 0.85 * kit.free()
     running: dict[Future[None], int] = {}
     with ThreadPoolExecutor(lanes) as pool:
         while left or running:
@@ -36,9 +38,10 @@ def words_told(head: str) -> argparse.Namespace:
     told.add_argument("--groups", action="store_true", help="only show which edits are tried together")
     told.add_argument("--true-bodies", action="store_true", help="check the functions without their edits, which must be proved")
     told.add_argument("--over-out", action="store_true", help="over what rt check kept in out/")
-    told.add_argument("--all", action="store_true", help="try those too that the record has as refused")
+    told.add_argument("--all", action="store_true", help="try those too that the record has as refused, however long it takes")
     told.add_argument("--new", action="store_true", help="try only what the record doesn't have")
     told.add_argument("--record", action="store_true", help="write into the record what this run saw")
+    told.add_argument("--minutes", type=float, metavar="N", help=f"try for at most so many processor minutes ({MINUTES:.0f}; with --all or --alone, all)")
     told.add_argument("--jobs", type=int, metavar="N", help="so many checks at a time (one a processor)")
     words = told.parse_args()
     if words.record and (words.groups or words.true_bodies or words.over_out):
@@ -64,26 +67,49 @@ class Recorded:
         self.records = {it.name: Record(it.folder) for it in crates if it.folder in chosen and (chosen[it.folder] or not words.alone)}
         self.folders = {it.name: it.folder for it in crates}
         self.keys = {} if words.groups or words.true_bodies else self.keys_now()
+        self.seed = commit_at(self.top) or digest(sorted(self.keys.items()))
         self.untried = 0
 
     def keys_now(self) -> dict[str, str]:
         """Returns the keys of the edits as all stands now, by their labels."""
         units_of.cache_clear()
-        keys = {it.crate.name: keys_of(self.kit, it.crate, self.top) for it in self.trials}
+        keys = {crate.name: keys_of(self.kit, crate, self.top) for crate in {it.crate.name: it.crate for it in self.trials}.values()}
         return {edit.label(): keys[it.crate.name].of(edit) for it in self.trials for edit in it.edits}
 
     def choose(self, report: Report) -> None:
-        """Leaves the edits that are to be tried: those that the record doesn't have with their present keys, and those whose turn it is."""
-        seed = commit_at(self.top) or digest(sorted(self.keys.items()))
+        """Leaves the edits that are to be tried, in their order: those that the record doesn't have with their present keys, by their ranks,
+        and those whose turn it is."""
+        found: list[tuple[tuple[Rank, float], Trials]] = []
         for it in self.trials:
-            record = self.records[it.crate.name]
-            known = {e.label() for e in it.edits if not e.fault and record.has(e.name, self.keys[e.label()])}
-            report.recorded |= known
-            if not self.words.all and not self.words.alone:
-                spared = {label for label in known if self.words.new or not is_due(seed, it.crate.name, label)}
-                it.edits = [e for e in it.edits if e.label() not in spared]
-                self.untried += len(spared)
-        self.trials = [it for it in self.trials if it.edits]
+            own = own_change(self.top, it.crate.folder)
+            parts: dict[Rank, list[Edit]] = {}
+            for edit in it.edits:
+                rank = self.rank(edit, bool(own), report)
+                if rank is None:
+                    self.untried += 1
+                else:
+                    parts.setdefault(rank, []).append(edit)
+            drawn = self.draw(it)
+            found += [((rank, -own if rank == Rank.CHANGED else drawn), it.part(edits)) for rank, edits in parts.items()]
+        self.trials = [it for _, it in sorted(found, key=lambda it: it[0])]
+
+    def rank(self, edit: Edit, is_changed: bool, report: Report) -> Rank | None:
+        """Returns why an edit is to be tried, or None where it isn't. is_changed: its crate did since its record was written."""
+        key, record = self.keys[edit.label()], self.records[edit.crate]
+        is_recorded = not edit.fault and record.has(edit.name, key)
+        if is_recorded:
+            report.recorded.add(edit.label())
+        if self.words.all or self.words.alone:
+            return Rank.UNKNOWN
+        if is_recorded:
+            return Rank.DRAWN if not self.words.new and is_due(self.seed, edit.crate, edit.label()) else None
+        if is_changed:
+            return Rank.CHANGED
+        return Rank.ELSEWHERE if record.has_elsewhere(edit.name, key) else Rank.UNKNOWN
+
+    def draw(self, trials: Trials) -> float:
+        """Returns a crate's place in the order that is drawn."""
+        return number(self.seed, trials.crate.name)
 
     def tell_gone(self, report: Report) -> None:
         """Names the lines of the record whose edit is gone: a fault, unless this run mends the record."""
@@ -126,12 +152,18 @@ def main(head: str) -> int:
     if is_recorded:
         recorded.choose(report)
         recorded.tell_gone(report)
+    else:
+        recorded.trials.sort(key=recorded.draw)
     have_libraries(kit, [it.crate for it in recorded.trials])
-    way = Trials.try_alone if words.alone else Trials.try_true if words.true_bodies else Trials.try_all
-    tasks = [(kit.need(it.crate), functools.partial(way, it, report)) for it in recorded.trials]
+    ceiling = Ceiling(words.minutes if words.minutes is not None or words.all or words.alone else MINUTES)
+    way = try_alone if words.alone else try_true if words.true_bodies else try_all
+    tasks = [(kit.need(it.crate), functools.partial(way, it, report, ceiling)) for it in recorded.trials]
+    if ceiling.minutes is None:
+        tasks.sort(key=lambda it: -it[0])
     side_by_side(kit, tasks, words.jobs or kit.processors())
     if words.record:
         recorded.mend(report)
+    waiting = report.tell_waiting()
     if is_recorded and not words.alone:
-        print(f"mutants: {len(report.verdicts)} tried, {recorded.untried} as recorded")
+        print(f"mutants: {len(report.verdicts)} tried, {recorded.untried} as recorded, {waiting} waiting")
     return report.end()

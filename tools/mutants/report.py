@@ -1,4 +1,5 @@
 """The report: a line for each edit as it is judged, and the counts."""
+import collections
 import dataclasses
 import threading
 
@@ -23,6 +24,8 @@ class Report:
         self.verdicts: list[Verdict] = []
         # Edits that the record has as refused, by their labels: where one isn't refused, the record is false.
         self.recorded: set[str] = set()
+        # How many wait for another run, by their crates.
+        self.waiting: collections.Counter[str] = collections.Counter()
 
     def note(self, text: str) -> None:
         with self.printing:
@@ -43,6 +46,18 @@ class Report:
         else:
             is_false = label in self.recorded
             self.count(False, f"{label}: {verdict.cause}{'. THE RECORD IS FALSE: it has this edit as refused' if is_false else ''}")
+
+    def wait(self, crate: str, count: int) -> None:
+        """Counts edits that this run didn't come to."""
+        with self.printing:
+            self.waiting[crate] += count
+
+    def tell_waiting(self) -> int:
+        """Names the crates whose edits wait, and returns how many do."""
+        told = ", ".join(f"{crate} {count}" for crate, count in sorted(self.waiting.items()) if count)
+        if told:
+            self.note(f"(waiting for another run: {told})")
+        return self.waiting.total()
 
     def end(self) -> int:
         """Prints the last line, and returns the run's exit status."""

@@ -1,8 +1,8 @@
 """Trials: the edits of a crate, tried in groups or alone over what the checks of this run proved before."""
 import contextlib
+import copy
 import dataclasses
 import os
-import re
 import shutil
 import tempfile
 import time
@@ -42,18 +42,24 @@ class Trials:
         self.bodies = Bodies(crate.folder, crate.name)
         self.edits = self.bodies.edits(paths)
 
+    def part(self, edits: list[Edit]) -> "Trials":
+        """Returns the same crate with a part of its edits."""
+        made = copy.copy(self)
+        made.edits = edits
+        return made
+
     def check(self, edits: list[Edit], kept: str, is_hollow: bool = False) -> Checked:
         """Checks a copy of the crate with these edits made."""
-        copy = Copy(self.bodies, edits, is_hollow)
-        if copy.fault:
-            return Checked(False, False, [], copy.fault, copy)
+        made = Copy(self.bodies, edits, is_hollow)
+        if made.fault:
+            return Checked(False, False, [], made.fault, made)
         # Those functions alone, and what they call.
-        only = sorted({"::".join(made.path()) for found in copy.judges.values() for made, _ in found})
+        only = sorted({"::".join(it.path()) for found in made.judges.values() for it, _ in found})
         with tempfile.TemporaryDirectory(prefix="wrong-") as room:
-            copy.write(room)
+            made.write(room)
             status, said = self.kit.check(self.crate, room, kept, only, is_hollow)
         reached = said.rpartition("\n")[2].startswith("only=") and not UNREAD.search(said)
-        return Checked(status == 0, reached, goals_in(said), said, copy)
+        return Checked(status == 0, reached, goals_in(said), said, made)
 
     @contextlib.contextmanager
     def kept(self) -> Iterator[str]:
@@ -80,12 +86,6 @@ class Trials:
         others = "; ".join(str(it) for it in check.goals[:3]) or "no goal is named"
         return Verdict(edit, cause=f"NOT REFUSED AT ITS OWN GOAL: the checker names {others}")
 
-    def try_alone(self, report: Report) -> None:
-        """Tries each edit in a check of its own."""
-        with self.kept() as kept:
-            for edit in self.edits:
-                report.judge(self.alone(edit, kept))
-
     def try_group(self, group: list[Edit], kept: str, report: Report) -> None:
         """Tries edits in one copy. Those that the checker can't read are taken out of it, so that it judges the others."""
         began = time.monotonic()
@@ -102,29 +102,3 @@ class Trials:
 
     def groups(self) -> list[list[Edit]]:
         return groups_of([it for it in self.edits if not it.fault])
-
-    def try_all(self, report: Report) -> None:
-        """Tries the edits in groups, and alone what its group didn't refuse."""
-        with self.kept() as kept:
-            for group in self.groups():
-                self.try_group(group, kept, report)
-            for edit in self.edits:
-                if edit.fault:
-                    report.judge(self.alone(edit, kept))
-
-    def try_true(self, report: Report) -> None:
-        """Checks the functions that edits touch as they are, in the places where the edits go: each has to be proved there."""
-        true_bodies: dict[tuple[object, ...], Edit] = {}
-        for it in self.edits:
-            if not it.fault:
-                items = [item.name for item in it.items(self.bodies.texts[it.judges[0].file])]
-                true_bodies.setdefault((it.own, it.judges, it.goes_beside, *items), dataclasses.replace(it, pairs=[]))
-        with self.kept() as kept:
-            for group in groups_of(true_bodies.values()):
-                check = self.check(group, kept, is_hollow=True)
-                lines = re.findall(r"^fn (\S+): (?:proved|no holes|depends on a hole)", check.said, re.M)
-                for edit in group:
-                    label = f"true {self.crate.name}/{(edit.own or edit.judges)[0].name}"
-                    made = [it.path() for it, _ in check.copy.judges[edit.name]]
-                    is_proved = all(any(name.split("::")[-len(it) :] == it for name in lines) for it in made)
-                    report.count(is_proved, f"{label}: {'proved' if is_proved else f'NOT PROVED: {check.refused(edit) or check.said[-300:]}'}")

@@ -1,0 +1,73 @@
+"""Tests of turns: in which order edits are tried, and which wait."""
+import argparse
+import os
+import tempfile
+from collections.abc import Callable
+
+from mutants.kit import Kit
+from mutants.main import Recorded
+from mutants.report import Report
+from mutants.tests.keys import write
+
+SOURCE = "//! One.\n\npub fn one() -> u64 {\n    1\n}\n"
+EDIT = "file: src/lib.rt\nold:     1\nnew:     2\n"
+# On which days of a month a crate's source was committed, and its record, if there is one; and the key that the record has of its edit,
+# where NOW and HERE stand for the parts of what it would be.
+CRATES = {
+    "kept": (1, 3, "NOW.HERE"),
+    "elsewhere": (1, 3, "NOW.01234567"),
+    "unknown": (1, 3, "0123456789abcdef.HERE"),
+    "recorded_with_it": (3, 3, "0123456789abcdef.HERE"),
+    "older": (1, 0, ""),
+    "newer": (2, 0, ""),
+    "changed_again": (4, 3, "0123456789abcdef.HERE"),
+    "uncommitted": (1, 3, "0123456789abcdef.HERE"),
+}
+# What comes first, and what comes next in an order that is drawn.
+FIRST, DRAWN, LAST = ["uncommitted", "changed_again", "newer", "older"], {"recorded_with_it", "unknown"}, ["elsewhere"]
+
+
+def recorded_in(top: str, **said: bool) -> Recorded:
+    """Returns the edits of a repository as a run with these words finds them."""
+    words = {"names": [], **dict.fromkeys(("alone", "groups", "true_bodies", "over_out", "all", "new", "record"), False)}
+    before = os.getcwd()
+    os.chdir(top)
+    try:
+        return Recorded(Kit(), argparse.Namespace(**{**words, **said}))
+    finally:
+        os.chdir(before)
+
+
+def commit_days(git: Callable[..., str], top: str) -> None:
+    """Commits each crate's source and record on its day."""
+    for day in (1, 2, 3, 4):
+        paths = [f"crates/{name}/{it}" for name, (own, _, _) in CRATES.items() if own == day for it in ("src", "wrong/adds.edit")]
+        paths += [f"crates/{name}/wrong/RECORD" for name, (_, record, _) in CRATES.items() if record == day]
+        os.environ["GIT_COMMITTER_DATE"] = f"2026-01-{day:02}T12:00:00Z"
+        git(top, "add", *paths)
+        git(top, "commit", "-q", "-m", f"Day {day}")
+        del os.environ["GIT_COMMITTER_DATE"]
+
+
+def test_order(expect: Callable[[str, bool, str], None], git: Callable[..., str]) -> None:
+    """Tests in which order the edits of eight crates are tried. git runs git in a folder."""
+    with tempfile.TemporaryDirectory(prefix="small-") as top:
+        write(top, {"crates.txt": "".join(f"{name}:\n" for name in CRATES)})
+        for name in CRATES:
+            write(f"{top}/crates/{name}", {"src/lib.rt": SOURCE, "wrong/adds.edit": EDIT})
+        for label, key in recorded_in(top).keys.items():
+            name, (now, here) = label.split()[1].removesuffix("/adds"), key.split(".")
+            line = f"adds {CRATES[name][2].replace('NOW', now).replace('HERE', here)} src/lib.rt:3: returns\n"
+            write(top, {f"crates/{name}/wrong/RECORD": line} if CRATES[name][1] else {})
+        git(top, "init", "-q")
+        commit_days(git, top)
+        write(top, {"crates/uncommitted/src/lib.rt": f"{SOURCE}\npub struct Two;\n"})
+        recorded = recorded_in(top, new=True)
+        recorded.choose(Report())
+        order = [it.crate.name for it in recorded.trials]
+        expect("what changed last is tried first", order[:4] == FIRST, str(order))
+        expect("then what no toolchain has refused as it stands", {*order[4:6]} == DRAWN, str(order))
+        expect("then what another toolchain has, and nothing that is recorded", order[6:] == LAST and recorded.untried == 1, str(order))
+        recorded = recorded_in(top, all=True)
+        recorded.choose(Report())
+        expect("all is everything", {it.crate.name for it in recorded.trials} == {*CRATES} and not recorded.untried, str(recorded.untried))

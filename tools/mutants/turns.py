@@ -1,0 +1,84 @@
+"""Turns: whose turn it is to be tried, which edits are tried first, and when a run has taken its time."""
+import enum
+import hashlib
+import resource
+import subprocess
+
+from mutants.edits import FOLDER
+from mutants.kit import PARTS
+
+TURNS = 4
+# What a run may take, in processor minutes, where nothing else is said.
+MINUTES = 40.0
+
+
+class Rank(enum.IntEnum):
+    """Why an edit is to be tried; the lesser ones first. All but the last have no line in the record with their present key."""
+
+    # its crate changed since its record was written
+    CHANGED = 0
+    # no toolchain refused it as it stands
+    UNKNOWN = 1
+    # another toolchain refused it as it stands
+    ELSEWHERE = 2
+    # it is recorded, and it is its turn
+    DRAWN = 3
+
+
+class Ceiling:
+    """The processor minutes that a run may take from now on, or no bound. What runs when they are over is finished."""
+
+    def __init__(self, minutes: float | None):
+        self.minutes, self.began = minutes, used()
+
+    def is_reached(self) -> bool:
+        return self.minutes is not None and used() - self.began >= 60 * self.minutes
+
+
+def used() -> float:
+    """Returns the processor seconds that the ended commands of this run took."""
+    it = resource.getrusage(resource.RUSAGE_CHILDREN)
+    return it.ru_utime + it.ru_stime
+
+
+def number(*words: str) -> int:
+    return int(hashlib.sha256("\n".join(words).encode()).hexdigest(), 16)
+
+
+def is_turn(*words: str) -> bool:
+    return number(*words) % TURNS == 0
+
+
+def is_due(seed: str, crate: str, label: str) -> bool:
+    """Returns whether it is an edit's turn, though it is recorded: that of a quarter of a crate's edits where the crate has its
+    turn, as a quarter of the crates have, and of others with another seed. (A group costs a copy of its crate, however few edits
+    it has: a sixteenth in few crates costs less than one in all.)"""
+    return is_turn(seed, crate) and is_turn(seed, label)
+
+
+def git(top: str, *words: str) -> str:
+    """Returns what git says of a folder, or nothing where it fails."""
+    how = {"cwd": top, "stdin": subprocess.DEVNULL, "stdout": subprocess.PIPE, "stderr": subprocess.DEVNULL}
+    try:
+        ran = subprocess.run(["git", *words], text=True, **how)
+    except OSError:
+        return ""
+    return ran.stdout.strip() if not ran.returncode else ""
+
+
+def commit_at(top: str) -> str:
+    """Returns the commit that is checked out in a folder, or nothing."""
+    return git(top, "rev-parse", "--verify", "-q", "HEAD")
+
+
+def changed_at(top: str, *paths: str) -> float:
+    """Returns when a commit last changed one of these, in seconds, or 0; later than all where a change isn't committed."""
+    if git(top, "status", "--porcelain", "--", *paths):
+        return float("inf")
+    return float(git(top, "log", "-1", "--format=%ct", "--", *paths) or 0)
+
+
+def own_change(top: str, folder: str) -> float:
+    """Returns when a crate's own texts or edits changed, if that was after its record did, and else 0."""
+    at = changed_at(top, *(f"{folder}/{part}" for part in PARTS), f"{folder}/{FOLDER}/*.edit")
+    return at if at > changed_at(top, f"{folder}/{FOLDER}/RECORD") else 0
