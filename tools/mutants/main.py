@@ -2,17 +2,18 @@
 import argparse
 import functools
 import os
+import re
 from collections.abc import Callable, Iterable
 from concurrent.futures import FIRST_COMPLETED, Future, ThreadPoolExecutor, wait
 
 from mutants.edits import Edit, edits_in
-from mutants.keys import digest, keys_of, units_of
+from mutants.keys import keys_of, units_of
 from mutants.kit import Kit, have_libraries, stop
 from mutants.record import Record
 from mutants.report import Report
 from mutants.runs import try_all, try_alone, try_true
 from mutants.trials import Trials
-from mutants.turns import MINUTES, Ceiling, Rank, commit_at, is_due, number, own_change
+from mutants.turns import MINUTES, Ceiling, Rank, is_due, number, own_change, seed_at
 
 
 def side_by_side(kit: Kit, tasks: Iterable[tuple[int, Callable[[], None]]], lanes: int) -> None:
@@ -31,6 +32,14 @@ def side_by_side(kit: Kit, tasks: Iterable[tuple[int, Callable[[], None]]], lane
                 it.result()
 
 
+def part_told(text: str) -> slice:
+    """Returns which of a list's elements are in a part K/N of it."""
+    told = re.fullmatch(r"([1-9]\d*)/([1-9]\d*)", text)
+    if not told or int(told[1]) > int(told[2]):
+        raise argparse.ArgumentTypeError("a part is K/N, K from 1 to N")
+    return slice(int(told[1]) - 1, None, int(told[2]))
+
+
 def words_told(head: str) -> argparse.Namespace:
     told = argparse.ArgumentParser(description=head, formatter_class=argparse.RawDescriptionHelpFormatter)
     told.add_argument("names", nargs="*", metavar="NAME", help="a crate, or with --alone an edit's file")
@@ -41,6 +50,7 @@ def words_told(head: str) -> argparse.Namespace:
     told.add_argument("--all", action="store_true", help="try those too that the record has as refused, however long it takes")
     told.add_argument("--new", action="store_true", help="try only what the record doesn't have")
     told.add_argument("--record", action="store_true", help="write into the record what this run saw")
+    told.add_argument("--part", type=part_told, default=slice(None), metavar="K/N", help="of the crates only the K-th of N parts, which together are all")
     told.add_argument("--minutes", type=float, metavar="N", help=f"try for at most so many processor minutes ({MINUTES:.0f}; with --all or --alone, all)")
     told.add_argument("--jobs", type=int, metavar="N", help="so many checks at a time (one a processor)")
     words = told.parse_args()
@@ -62,12 +72,13 @@ class Recorded:
             unknown = {*words.names} - {it.name for it in crates}
             if unknown:
                 stop(f"no crate is named {', '.join(sorted(unknown))}")
-            chosen = {it.folder: edits_in(it.folder) for it in crates if not words.names or it.name in words.names}
+            names = sorted(it.name for it in crates if not words.names or it.name in words.names)
+            chosen = {it.folder: edits_in(it.folder) for it in crates if it.name in names[words.part]}
         self.trials = [Trials(kit, it, chosen[it.folder], words.over_out) for it in crates if chosen.get(it.folder)]
         self.records = {it.name: Record(it.folder) for it in crates if it.folder in chosen and (chosen[it.folder] or not words.alone)}
         self.folders = {it.name: it.folder for it in crates}
         self.keys = {} if words.groups or words.true_bodies else self.keys_now()
-        self.seed = commit_at(self.top) or digest(sorted(self.keys.items()))
+        self.seed = seed_at(self.top)
         self.untried = 0
 
     def keys_now(self) -> dict[str, str]:

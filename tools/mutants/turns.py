@@ -3,6 +3,7 @@ import enum
 import hashlib
 import resource
 import subprocess
+import time
 
 from mutants.edits import FOLDER
 from mutants.kit import PARTS
@@ -66,9 +67,9 @@ def git(top: str, *words: str) -> str:
     return ran.stdout.strip() if not ran.returncode else ""
 
 
-def commit_at(top: str) -> str:
-    """Returns the commit that is checked out in a folder, or nothing."""
-    return git(top, "rev-parse", "--verify", "-q", "HEAD")
+def seed_at(top: str) -> str:
+    """Returns what draws in a folder today: the day, and the tree that is checked out. Who writes a commit chooses its tree, but no later day."""
+    return f"{time.strftime('%Y-%m-%d', time.gmtime())} {git(top, 'rev-parse', '--verify', '-q', 'HEAD^{tree}')}"
 
 
 def changed_at(top: str, *paths: str) -> float:

@@ -1,13 +1,15 @@
-"""Tests of turns: in which order edits are tried, and which wait."""
+"""Tests of turns: in which order edits are tried, which of the recorded ones, and which part of all."""
 import argparse
 import os
 import tempfile
+import time
 from collections.abc import Callable
 
 from mutants.kit import Kit
-from mutants.main import Recorded
+from mutants.main import Recorded, part_told
 from mutants.report import Report
 from mutants.tests.keys import write
+from mutants.turns import seed_at
 
 SOURCE = "//! One.\n\npub fn one() -> u64 {\n    1\n}\n"
 EDIT = "file: src/lib.rt\nold:     1\nnew:     2\n"
@@ -27,9 +29,9 @@ CRATES = {
 FIRST, DRAWN, LAST = ["uncommitted", "changed_again", "newer", "older"], {"recorded_with_it", "unknown"}, ["elsewhere"]
 
 
-def recorded_in(top: str, **said: bool) -> Recorded:
+def recorded_in(top: str, **said: object) -> Recorded:
     """Returns the edits of a repository as a run with these words finds them."""
-    words = {"names": [], **dict.fromkeys(("alone", "groups", "true_bodies", "over_out", "all", "new", "record"), False)}
+    words = {"names": [], "part": slice(None), **dict.fromkeys(("alone", "groups", "true_bodies", "over_out", "all", "new", "record"), False)}
     before = os.getcwd()
     os.chdir(top)
     try:
@@ -70,4 +72,21 @@ def test_order(expect: Callable[[str, bool, str], None], git: Callable[..., str]
         expect("then what another toolchain has, and nothing that is recorded", order[6:] == LAST and recorded.untried == 1, str(order))
         recorded = recorded_in(top, all=True)
         recorded.choose(Report())
+        parts = [{*recorded_in(top, true_bodies=True, part=part_told(f"{at}/3")).records} for at in (1, 2, 3)]
+        expect("three parts are all", sorted(map(len, parts)) == [2, 3, 3] and {*CRATES} == {it for part in parts for it in part}, str(parts))
         expect("all is everything", {it.crate.name for it in recorded.trials} == {*CRATES} and not recorded.untried, str(recorded.untried))
+
+
+def test_seed(expect: Callable[[str, bool, str], None], git: Callable[..., str]) -> None:
+    """Tests what draws: the day and the tree, and nothing that a commit has besides."""
+    with tempfile.TemporaryDirectory(prefix="small-") as top:
+        git(top, "init", "-q")
+        seeds = []
+        for text in ("one", "one", "two"):
+            write(top, {"said": text})
+            git(top, "add", "said")
+            git(top, "commit", "-q", "--allow-empty", "-m", f"Commit {len(seeds)}")
+            seeds.append(seed_at(top))
+        expect("another commit of one tree draws the same", seeds[0] == seeds[1], str(seeds))
+        expect("another tree draws others", seeds[1] != seeds[2], str(seeds))
+        expect("the day draws", all(it.startswith(time.strftime("20%y-%m-%d ", time.gmtime())) for it in seeds), str(seeds))
