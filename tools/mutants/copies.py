@@ -3,14 +3,19 @@ import os
 import re
 import shutil
 
+from collections.abc import Iterable, Mapping
+
+from mutants.answers import without
 from mutants.bodies import Bodies
 from mutants.edits import Edit, applied
 from mutants.goals import UNREAD, Goal
 from mutants.kit import PARTS
-from mutants.sources import Texts, blanked, functions_of, items_of, renamed
+from mutants.sources import Function, Texts, blanked, functions_of, items_of, renamed
 
 # From where to where a text is changed, and what stands there instead.
 Part = tuple[int, int, str]
+# Lines of a function's answers that are left out, by the names of an edit and of a function whose goals refuse it.
+Cuts = Mapping[tuple[str, str], Iterable[int]]
 
 
 class Copy:
@@ -19,8 +24,8 @@ class Copy:
     A function that no edit changes may get an empty body, with a hole for its proof: rt ci has proved it, and those that call it know its contract alone.
     """
 
-    def __init__(self, bodies: Bodies, edits: list[Edit], is_hollow: bool):
-        self.bodies = bodies
+    def __init__(self, bodies: Bodies, edits: list[Edit], is_hollow: bool, cuts: Cuts | None = None):
+        self.bodies, self.cuts = bodies, cuts or {}
         self.folders: dict[str, Texts] = {}
         self.numbers: dict[str, int] = {}
         self.texts, self.fault = dict(bodies.texts), ""
@@ -35,6 +40,8 @@ class Copy:
             file = edit.judges[0].file
             parts[file] += self.copies(edit, number, file)
             self.numbers[edit.name] = number
+        for fn, edit in [(fn, it) for it in edits if it not in beside for fn in it.judges if (it.name, fn.name) in self.cuts]:
+            self.folders["/".join(fn.place())] = self.proofs_of(fn, edit)
         for path, found in parts.items():
             for at, end, text in sorted(found, reverse=True):
                 self.texts[path] = self.texts[path][:at] + text + self.texts[path][end:]
@@ -42,6 +49,12 @@ class Copy:
         self.functions = made
         name = lambda edit, fn: f"{fn.name}_edit_{self.numbers[edit.name]}" if edit.name in self.numbers else fn.name
         self.judges = {it.name: [(made[fn.file, name(it, fn)], fn) for fn in it.judges] for it in edits}
+
+    def proofs_of(self, function: Function, edit: Edit) -> Texts:
+        """Returns the proof files of a function whose goals refuse an edit, without what is left out for it."""
+        found = self.bodies.proofs_of(function)
+        cut = self.cuts.get((edit.name, function.name), ())
+        return {name: without(text, cut) if name == "Answers.antt" else text for name, text in found.items()}
 
     def parts_of(self, path: str, changed: set[tuple[str, str]]) -> list[Part]:
         """Returns what becomes of a file's functions that no edit changes."""
@@ -72,7 +85,7 @@ class Copy:
             copy = f"{copy[: name.start(1)]}{fn.simple()}_edit_{number}{copy[name.end(1) :]}"
             where = ".".join(fn.place())
             folder: Texts = {}
-            for path, said in self.bodies.proofs_of(fn).items():
+            for path, said in self.proofs_of(fn, edit).items():
                 folder[path] = re.sub(rf"(\.(?:proofs|contracts)\.){re.escape(where)}(?![\w'-])", rf"\g<1>{where}_edit_{number}", said)
             self.folders[f"{'/'.join(fn.place())}_edit_{number}"] = folder
             parts.append((ends[fn.name], ends[fn.name], f"\n\n{copy}"))
@@ -107,8 +120,8 @@ class Copy:
         return found
 
     def refused(self, edit: Edit, goals: list[Goal]) -> Goal | None:
-        """Returns the first goal that refuses an edit, where it stands in the crate itself, or None."""
-        for goal in goals:
+        """Returns the first goal that refuses an edit, where it stands in the crate itself, or None: where there is one, a goal that no answer was written for."""
+        for goal in sorted(goals, key=Goal.is_answered):
             for made, own in self.judges[edit.name]:
                 if goal.is_of(made):
                     line = goal.line + own.first - made.first if goal.file.startswith("src/") else goal.line

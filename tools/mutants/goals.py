@@ -6,8 +6,11 @@ from mutants.sources import Function
 
 OPEN_GOAL = re.compile(r"note: (src/\S+?):(\d+):\d+: .*\b(?:not proved|found no proof)\b.*?\(`([^`]+)`\)")
 IN_PROOFS = re.compile(r"(?:\./)?(proofs/\S+)/(?:Answers|Invariants|Proof)\.antt:(\d+):\d+: error: `([^`]+)`: (.*)")
+IN_ANSWERS = re.compile(r"^(?:\./)?(proofs/\S+)/Answers\.antt:(\d+):\d+: error", re.MULTILINE)
 UNREAD = re.compile(r"^(?:\./)?(src/\S+?):(\d+):\d+: error: ", re.MULTILINE)
 LOST = re.compile(r"is not in scope|has no\b|is no name|was not admitted|operand is missing|expected the end|cannot continue")
+# Stands between a goal whose written answer fails and the goal that refuses the edit without the answers that fail.
+MARK = "; without failing answers "
 
 
 @dataclasses.dataclass
@@ -25,6 +28,10 @@ class Goal:
         if "/" not in function.name:
             return folder[1:] == function.place()
         return folder[-2:] == function.path()
+
+    def is_answered(self) -> bool:
+        """Returns whether a written answer to it fails, in place of the search for one."""
+        return self.file.startswith("proofs/")
 
     def __str__(self) -> str:
         ending = "" if self.file.startswith("src/") else "/Answers.antt"

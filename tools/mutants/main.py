@@ -92,7 +92,9 @@ class Recorded:
         and those whose turn it is."""
         found: list[tuple[tuple[Rank, float], Trials]] = []
         for it in self.trials:
-            own = own_change(self.top, it.crate.folder)
+            own, record = own_change(self.top, it.crate.folder), self.records[it.crate.name]
+            marks = {edit.name: record.mark(edit.name, self.keys[edit.label()]) for edit in it.edits}
+            it.marks = {name: mark for name, mark in marks.items() if mark}
             parts: dict[Rank, list[Edit]] = {}
             for edit in it.edits:
                 rank = self.rank(edit, bool(own), report)

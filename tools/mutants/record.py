@@ -2,12 +2,14 @@
 
 It is a file crates/NAME/wrong/RECORD with lines, sorted: an edit's name, its key (keys.py), and the goal that refused it. An edit
 has a line for each toolchain that refused it as it stands: what one says tells nothing of another. Where two branches were merged
-it may have more; each is what some run saw, and at most one has the edit's present key.
+it may have more; each is what some run saw, and at most one has the edit's present key. Behind a goal whose written answer fails stands
+what a second try without such answers said (trials.py): that isn't made again while the edit and all it hangs on stay as they are.
 """
 import os
 from collections.abc import Iterable, Mapping
 
 from mutants.edits import FOLDER
+from mutants.goals import MARK
 
 
 def is_of_another_toolchain(key: str, other: str) -> bool:
@@ -34,6 +36,11 @@ class Record:
     def has_elsewhere(self, name: str, key: str) -> bool:
         """Returns whether another toolchain refused an edit as it stands."""
         return any(it[0] == name and it[2] and is_of_another_toolchain(it[1], key) for it in self.lines)
+
+    def mark(self, name: str, key: str) -> str:
+        """Returns what a second try said of an edit as it stands, by any toolchain, or nothing."""
+        same = [it[2] for it in self.lines if it[0] == name and (it[1] == key or is_of_another_toolchain(it[1], key))]
+        return next((it.partition(MARK)[2] for it in sorted(same) if MARK in it), "")
 
     def gone(self, names: Iterable[str]) -> list[str]:
         """Returns the names of lines that are none of these edits'."""

@@ -1,6 +1,5 @@
 """Runs: the ways in which a run tries a crate's edits, one after the other, until its ceiling is reached."""
 import dataclasses
-import re
 
 from mutants.edits import Edit
 from mutants.groups import groups_of
@@ -48,9 +47,6 @@ def try_true(trials: Trials, report: Report, ceiling: Ceiling) -> None:
 
 def try_true_group(trials: Trials, group: list[Edit], kept: str, report: Report) -> None:
     check = trials.check(group, kept, is_hollow=True)
-    lines = re.findall(r"^fn (\S+): (?:proved|no holes|depends on a hole)", check.said, re.M)
     for edit in group:
-        label = f"true {trials.crate.name}/{(edit.own or edit.judges)[0].name}"
-        made = [it.path() for it, _ in check.copy.judges[edit.name]]
-        is_proved = all(any(name.split("::")[-len(it) :] == it for name in lines) for it in made)
+        label, is_proved = f"true {trials.crate.name}/{(edit.own or edit.judges)[0].name}", check.proves(edit)
         report.count(is_proved, f"{label}: {'proved' if is_proved else f'NOT PROVED: {check.refused(edit) or check.said[-300:]}'}")
