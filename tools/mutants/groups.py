@@ -4,6 +4,10 @@ from collections.abc import Collection, Iterable
 from mutants.edits import Edit
 from mutants.sources import Function
 
+# A larger group would be finished long after a run has taken its time.
+MOST = 30
+
+
 def calls_one(functions: Collection[Function], others: Collection[Function]) -> bool:
     """Returns whether one of these functions calls one of the others."""
     # (a method that calls one of its own name hands on to a value of a type parameter)
@@ -27,7 +31,7 @@ def go_together(edit: Edit, group: Iterable[Edit]) -> bool:
 
 
 def groups_of(edits: Collection[Edit]) -> list[list[Edit]]:
-    """Parts edits into few groups whose edits can be tried together: those that clash with most others are placed first."""
+    """Parts edits into few groups whose edits can be tried together, MOST at most: those that clash with most others are placed first."""
     clashes = {it.name: sum(not go_together(it, [other]) for other in edits if other is not it) for it in edits}
     groups: list[list[Edit]] = []
     for edit in sorted(edits, key=lambda it: (-clashes[it.name], it.name)):
@@ -36,4 +40,4 @@ def groups_of(edits: Collection[Edit]) -> list[list[Edit]]:
             groups.append([edit])
         else:
             home.append(edit)
-    return groups
+    return [group[at : at + MOST] for group in groups for at in range(0, len(group), MOST)]

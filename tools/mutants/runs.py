@@ -1,5 +1,7 @@
 """Runs: the ways in which a run tries a crate's edits, one after the other, until its ceiling is reached."""
+import contextlib
 import dataclasses
+from collections.abc import Callable
 
 from mutants.edits import Edit
 from mutants.groups import groups_of
@@ -10,24 +12,15 @@ from mutants.turns import Ceiling
 
 def try_alone(trials: Trials, report: Report, ceiling: Ceiling) -> None:
     """Tries each edit in a check of its own."""
-    left = list(trials.edits)
-    with trials.kept() as kept:
-        while left and not ceiling.is_reached():
-            report.judge(trials.alone(left.pop(0), kept))
-    report.wait(trials.crate.name, len(left))
+    in_turn(trials, [[it] for it in trials.edits], report, ceiling, lambda group, kept: report.judge(trials.alone(group[0], kept)))
 
 
 def try_all(trials: Trials, report: Report, ceiling: Ceiling) -> None:
-    """Tries the edits in groups, and alone what its group didn't refuse. Those of the groups that the ceiling leaves out wait."""
+    """Tries the edits in groups, and alone what its group didn't refuse."""
     for edit in trials.edits:
         if edit.fault:
             report.judge(trials.alone(edit, ""))
-    groups = trials.groups()
-    if groups and not ceiling.is_reached():
-        with trials.kept() as kept:
-            while groups and not ceiling.is_reached():
-                trials.try_group(groups.pop(0), kept, report)
-    report.wait(trials.crate.name, sum(map(len, groups)))
+    in_turn(trials, trials.groups(), report, ceiling, lambda group, kept: trials.try_group(group, kept, report))
 
 
 def try_true(trials: Trials, report: Report, ceiling: Ceiling) -> None:
@@ -38,11 +31,20 @@ def try_true(trials: Trials, report: Report, ceiling: Ceiling) -> None:
             items = [item.name for item in it.items(trials.bodies.texts[it.judges[0].file])]
             true_bodies.setdefault((it.own, it.judges, it.goes_beside, *items), dataclasses.replace(it, pairs=[]))
     groups = groups_of(true_bodies.values())
-    if groups and not ceiling.is_reached():
-        with trials.kept() as kept:
-            while groups and not ceiling.is_reached():
-                try_true_group(trials, groups.pop(0), kept, report)
-    report.wait(trials.crate.name, sum(map(len, groups)))
+    in_turn(trials, groups, report, ceiling, lambda group, kept: try_true_group(trials, group, kept, report))
+
+
+def in_turn(trials: Trials, groups: list[list[Edit]], report: Report, ceiling: Ceiling, call: Callable[[list[Edit], str], None]) -> None:
+    """Makes a call for each group, over what the calls before it proved. The groups for which the ceiling leaves no time wait."""
+    with contextlib.ExitStack() as at_end:
+        kept = ""
+        for group in groups:
+            with ceiling.leaves(len(group)) as is_left:
+                if is_left:
+                    kept = kept or at_end.enter_context(trials.kept())
+                    call(group, kept)
+                else:
+                    report.wait(trials.crate.name, len(group))
 
 
 def try_true_group(trials: Trials, group: list[Edit], kept: str, report: Report) -> None:

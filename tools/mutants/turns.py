@@ -1,9 +1,12 @@
 """Turns: whose turn it is to be tried, which edits are tried first, and when a run has taken its time."""
+import contextlib
 import enum
 import hashlib
 import resource
 import subprocess
+import threading
 import time
+from collections.abc import Iterator
 
 from mutants.edits import FOLDER
 from mutants.kit import PARTS
@@ -11,6 +14,8 @@ from mutants.kit import PARTS
 TURNS = 4
 # What a run may take, in processor minutes, where nothing else is said.
 MINUTES = 40.0
+# What an edit takes in a group, in processor seconds: those of a group are told once it has ended.
+SECONDS_EACH = 12
 
 
 class Rank(enum.IntEnum):
@@ -27,13 +32,27 @@ class Rank(enum.IntEnum):
 
 
 class Ceiling:
-    """The processor minutes that a run may take from now on, or no bound. What runs when they are over is finished."""
+    """The processor minutes that a run may take from now on, or no bound. What was begun is finished."""
 
     def __init__(self, minutes: float | None):
-        self.minutes, self.began = minutes, used()
+        self.minutes, self.began, self.running, self.counting = minutes, used(), 0, threading.Lock()
 
-    def is_reached(self) -> bool:
-        return self.minutes is not None and used() - self.began >= 60 * self.minutes
+    @contextlib.contextmanager
+    def leaves(self, count: int) -> Iterator[bool]:
+        """Gives whether there is time to try so many edits, beside those that are being tried: where none is, if any time is left."""
+        with self.counting:
+            is_left = self.minutes is None or self.has_time(count)
+            self.running += count * is_left
+        try:
+            yield is_left
+        finally:
+            with self.counting:
+                self.running -= count * is_left
+
+    def has_time(self, count: int) -> bool:
+        assert self.minutes is not None
+        left = 60 * self.minutes - (used() - self.began)
+        return left > 0 and (not self.running or left >= SECONDS_EACH * (self.running + count))
 
 
 def used() -> float:
@@ -80,6 +99,6 @@ def changed_at(top: str, *paths: str) -> float:
 
 
 def own_change(top: str, folder: str) -> float:
-    """Returns when a crate's own texts or edits changed, if that was after its record did, and else 0."""
+    """Returns when a crate's own texts or edits changed, if that was after its record did, and else 0: also in a clone without its history."""
     at = changed_at(top, *(f"{folder}/{part}" for part in PARTS), f"{folder}/{FOLDER}/*.edit")
     return at if at > changed_at(top, f"{folder}/{FOLDER}/RECORD") else 0

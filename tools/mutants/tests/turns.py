@@ -9,7 +9,7 @@ from mutants.kit import Kit
 from mutants.main import Recorded, part_told
 from mutants.report import Report
 from mutants.tests.keys import write
-from mutants.turns import seed_at
+from mutants.turns import Ceiling, seed_at
 
 SOURCE = "//! One.\n\npub fn one() -> u64 {\n    1\n}\n"
 EDIT = "file: src/lib.rt\nold:     1\nnew:     2\n"
@@ -90,3 +90,15 @@ def test_seed(expect: Callable[[str, bool, str], None], git: Callable[..., str])
         expect("another commit of one tree draws the same", seeds[0] == seeds[1], str(seeds))
         expect("another tree draws others", seeds[1] != seeds[2], str(seeds))
         expect("the day draws", all(it.startswith(time.strftime("20%y-%m-%d ", time.gmtime())) for it in seeds), str(seeds))
+
+
+def test_ceiling(expect: Callable[[str, bool, str], None]) -> None:
+    """Tests for how many edits there is time."""
+    ceiling = Ceiling(10)
+    with ceiling.leaves(100) as first, ceiling.leaves(1) as second:
+        expect("what is begun first may take longer", first, "")
+        expect("beside it there is no time left", not second, "")
+    with ceiling.leaves(30) as first, ceiling.leaves(20) as second, ceiling.leaves(1) as third:
+        expect("what has ended counts no more", (first, second, third) == (True, True, False), str((first, second, third)))
+    with Ceiling(0).leaves(1) as none, Ceiling(None).leaves(10**9) as every:
+        expect("there may be no time, or no bound", (none, every) == (False, True), str((none, every)))
