@@ -19,7 +19,10 @@
 #include <stddef.h>
 #include <stdint.h>
 
-#define MSQ_VERSION "0.1.0"
+#define MSQ_VERSION_MAJOR 0
+#define MSQ_VERSION_MINOR 4
+#define MSQ_VERSION_PATCH 0
+#define MSQ_VERSION "0.4.0"
 
 /* Bodies are below this number. */
 #define MSQ_BODIES ((uint64_t)1 << 48)

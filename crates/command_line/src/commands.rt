@@ -11,8 +11,8 @@ use counted_ref::MOST_NODE;
 use line_table::Kind;
 use std::alloc::{AllocError, Global};
 
-/// The version that the program tells, the first one of CHANGELOG.md.
-const VERSION: &str = "0.3.0";
+/// The version, which the header, the crate for cargo and CHANGELOG.md tell too.
+const VERSION: &str = "0.4.0";
 
 /// The names of the queues.
 static QUEUES: [&str; 2] = ["two-lock", "nonblocking"];
