@@ -118,7 +118,7 @@ uint32_t msq_meet(msq_seat *one, msq_seat *other);
  */
 uint32_t msq_close(msq_seat *seats, size_t seats_len, msq_value *values, size_t values_len, msq_rest *rest);
 
-/* Drops a seat, which is empty afterwards. With the last seat of a queue goes the queue. */
+/* Drops a seat, which is empty afterwards. With the last seat of a queue its memory is freed, which is only tested. */
 void msq_drop(msq_seat *seat);
 
 #ifdef __cplusplus

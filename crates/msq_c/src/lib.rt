@@ -134,7 +134,7 @@ pub extern "C" fn msq_close(
     }
 }
 
-/// Drops a seat; its handle is empty afterwards. With the last seat of a queue goes the queue.
+/// Drops a seat; its handle is empty afterwards. With the last seat of a queue its memory is freed, which no clause says.
 #[unsafe(no_mangle)]
 pub extern "C" fn msq_drop(alloc: Global, slot: &mut MsqSeat)
     //= library/drop: A handle that is dropped is empty.
