@@ -1,21 +1,19 @@
 //! The program: its words, its files and its exit status.
+use crate::options::{show_by, work_by};
 use check_engine::check_text;
 use command_line::{Command, Task, read_words};
 use engine_faults::{Ending, Fault, end_of};
 use history::Refusal;
-use job_engine::work_text;
 use mail_engine::post_text;
 use place_engine::place_text;
 use placing::Placed;
 use run_engine::run_text;
-use show_engine::{View, show_history, show_text};
-use std::alloc::Global;
 use std::fs::File;
 use std::rt::Runtime;
 use std::sync::Wait;
 use std::thread::Threads;
 use std::{env, io};
-use text_io::{ReaderSource, Sink, Source, WriterSink};
+use text_io::{ReaderSource, Source, WriterSink};
 use trace_engine::trace_text;
 
 /// Does what the program's words ask for, and answers the exit status: 0 where it is done or help
@@ -74,7 +72,7 @@ fn outcome_on<R: Runtime + AllocGlobal + Threads + Wait + Sync, S: Source + Drop
     match command.task {
         Task::Run => run_text(rt.alloc(), &mut reader, &mut writer)?,
         Task::Trace => trace_text(rt.alloc(), &mut reader, &mut writer)?,
-        Task::Show(view) => show_on(rt.alloc(), view, &mut reader, &mut writer)?,
+        Task::Show(options) => show_by(rt.alloc(), options, &mut reader, &mut writer)?,
         Task::Check => {
             return Ok(Ending::from(check_text(rt.alloc(), &mut reader, &mut writer)?));
         }
@@ -88,38 +86,10 @@ fn outcome_on<R: Runtime + AllocGlobal + Threads + Wait + Sync, S: Source + Drop
                 },
             );
         }
-        Task::Work(crew) => work_text(
-            rt,
-            rt.alloc(),
-            &mut reader,
-            &mut writer,
-            crew.workers,
-            crew.kind,
-            crew.nodes,
-        )?,
+        Task::Work(options) => work_by(rt, rt.alloc(), options, &mut reader, &mut writer)?,
         Task::Post(kind) => post_text(rt, rt.alloc(), &mut reader, &mut writer, kind)?,
     }
     Ok(Ending::Well)
-}
-
-/// Draws the schedule, or the history, that a source gives.
-fn show_on<S: Source, W: Sink>(
-    alloc: Global,
-    asked: command_line::View,
-    reader: &mut S,
-    writer: &mut W,
-) -> Result<(), Fault> {
-    let view = View {
-        width: asked.width,
-        from: asked.from,
-        to: asked.to,
-        actor: asked.actor,
-    };
-    if asked.is_history {
-        show_history(alloc, reader, writer, view)?;
-        return Ok(());
-    }
-    show_text(alloc, reader, writer, view)
 }
 
 /// Standard error as a writer.

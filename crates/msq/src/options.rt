@@ -1,0 +1,62 @@
+//! Commands with options, which are handed on to the engines.
+ghost use Rattle.std.specs.Prelude.{◌≡◌, ◌↔◌, Err, OnOk};
+ghost use Rattle.job_engine.specs.Works.{IsBadSize};
+ghost use Rattle.msq.specs.Options.{Draws};
+
+use command_line::{Crew, View as Asked};
+use engine_faults::Fault;
+use history::Refusal;
+use job_engine::work_text;
+use show_engine::{View, show_history, show_text};
+use std::alloc::Global;
+use std::sync::Wait;
+use std::thread::Threads;
+use text_io::{Sink, Source};
+
+/// Draws the schedule, or the history, that a source gives, by the options of `show`.
+pub(crate) fn show_by<S: Source, W: Sink>(
+    alloc: Global,
+    options: Asked,
+    reader: &mut S,
+    writer: &mut W,
+) -> Result<(), Fault>
+    //= program/show_options: `msq show` draws what its options ask for: the picture of a schedule, or the timeline of a
+    //=   history, of just that width, those steps and that actor.
+    ensures drawn { OnOk result (Draws options (S.state reader.old).left (W.state writer.old)
+        (W.state writer.new)) }
+{
+    let view = View {
+        width: options.width,
+        from: options.from,
+        to: options.to,
+        actor: options.actor,
+    };
+    if options.is_history {
+        show_history(alloc, reader, writer, view)?;
+        return Ok(());
+    }
+    show_text(alloc, reader, writer, view)
+}
+
+/// Does the jobs that a source gives, by the options of `work`.
+pub(crate) fn work_by<T: Threads + Wait + Sync, S: Source, W: Sink>(
+    rt: &T,
+    alloc: Global,
+    options: Crew,
+    reader: &mut S,
+    writer: &mut W,
+) -> Result<(), Refusal>
+    //= program/work_options: `msq work` is refused `BadSize` exactly where the workers or the nodes that its options ask
+    //=   for are out of range.
+    ensures sized { (result ≡ Err Refusal.BadSize) ↔ IsBadSize options.workers options.nodes }
+{
+    work_text(
+        rt,
+        alloc,
+        reader,
+        writer,
+        options.workers,
+        options.kind,
+        options.nodes,
+    )
+}
