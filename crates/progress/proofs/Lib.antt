@@ -1,0 +1,10 @@
+pub mod Others
+pub mod Mover
+pub mod Sums
+pub mod Accounts
+pub mod Steps
+pub mod Ends
+pub mod LockedMover
+pub mod LockedSteps
+pub mod Completing
+pub mod Deadlock

@@ -1,0 +1,54 @@
+//! Laws of progress, over all worlds that any moves lead to, and over all lists of moves: any setup and number of actors in
+//! range, and any begins, steps, give moves and rests. Each is the contract of a function that does nothing.
+ghost use Rattle.step_machine.specs.NonBlocking.{OfNonBlockingWorlds};
+ghost use Rattle.step_machine.specs.TwoLock.{OfTwoLockWorlds};
+ghost use Rattle.step_machine.specs.Solo.{EachEndsAlone};
+ghost use Rattle.progress.specs.Steps.{IsFew, IsFewLater, FewFindNoLockHeld};
+ghost use Rattle.progress.specs.Steps.{KeepsCompleting, KeepsCompletingUnheld};
+ghost use Rattle.progress.specs.Ends.{EachEndsFromHere, AllEndTogether, SomeEndsItsCall};
+
+/// In the non-blocking queue the operations of a history took few steps together: with `P` actors at most `12 * P + 4`
+/// for each, whatever the schedule.
+pub fn operations_take_few_steps()
+    ensures { OfNonBlockingWorlds (IsFew 12 4) }
+{}
+
+/// Lock freedom: whatever the schedule, `n` steps of the non-blocking queue complete at least `n / (12 * P + 4) - P`
+/// operations, less one for each rest.
+pub fn operations_keep_completing()
+    ensures { KeepsCompleting 12 4 }
+{}
+
+/// From each world of the non-blocking queue on, any moves take at most the steps that its actors have before them, and
+/// `12 * P + 4` for each operation that begins meanwhile.
+pub fn later_steps_are_few()
+    ensures { OfNonBlockingWorlds (IsFewLater 12 4) }
+{}
+
+/// Once no operation of the non-blocking queue begins, all steps together are at most `P * (14 * P + 5)`, in any order.
+pub fn all_calls_end_together()
+    ensures { OfNonBlockingWorlds (AllEndTogether 14 5) }
+{}
+
+/// At any moment an actor of the non-blocking queue that has a call ends it within 19 steps alone; from its begin on
+/// within 15, 17 or 8, by its operation.
+pub fn an_actor_alone_ends_its_call_from_anywhere()
+    ensures anywhere { OfNonBlockingWorlds (EachEndsFromHere 19) }
+    ensures begun { OfNonBlockingWorlds EachEndsAlone }
+{}
+
+/// In the two-lock queue the steps that find no lock held are at most `8 * P + 4` for each operation.
+pub fn few_steps_find_no_lock_held()
+    ensures { FewFindNoLockHeld 8 4 }
+{}
+
+/// In the two-lock queue `n` steps that find no lock held complete at least `n / (8 * P + 4) - P` operations, less one for
+/// each rest.
+pub fn operations_keep_completing_unheld()
+    ensures { KeepsCompletingUnheld 8 4 }
+{}
+
+/// The two-lock queue has no deadlock: where there is a call, some actor ends its own within 14 steps alone.
+pub fn some_actor_ends_its_call()
+    ensures { OfTwoLockWorlds (SomeEndsItsCall 14) }
+{}
