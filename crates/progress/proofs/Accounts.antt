@@ -10,7 +10,8 @@ use Rattle.step_machine.specs.Machine.{World, idle, opening, actor_of, rested, w
 use Rattle.step_machine.proofs.Reached.{actor_stands, if_some, run_on_if, some_of, setup-next_any, reached_next}
 use Rattle.step_machine.proofs.AnyMoves.{after_move}
 use Rattle.progress.specs.Moves.{total, total_on, numbered}
-use Rattle.progress.proofs.Sums.{sum_one}
+use Rattle.progress.specs.Pairs.{pairs}
+use Rattle.progress.proofs.Sums.{replaced, pairs-replicate}
 
 -- how many operations a numbered move adds
 abbrev pub new_ones : Option ℕ → ℕ
@@ -25,20 +26,28 @@ grown (Some entry) new change ops = length-set ops entry _ ∙ omega arith
 abbrev pub told_actor : World → Actor → Outcome → Actor
 told_actor w a o = record o.actor { entry = Some (entry_or a.entry (length w.operations)) }
 
--- a numbered move is paid by what its actor has before it, and where its operation is new by so much more
-pub record Pays (has : Setup → Shared → Actor → ℕ) (n most : ℕ) (w : World) (a : Actor) (m' : Shared) (counts : ℕ) (o : Outcome) : Type 0 where
-  pub cost : ℕ
-  pub mine : has w.setup m' (told_actor w a o) + counts + cost * n ≤ has w.setup w.shared a + most * new_ones a.entry
-  pub others : (c : Actor) → has w.setup m' c ≤ has w.setup w.shared c + cost
+-- a numbered move is paid by what its actor has before it, and by what it has with each other one; where its operation is
+-- new, by so much more, and so much with each other one
+pub record Pays (has : Setup → Shared → Actor → ℕ) (cost : Actor → Actor → ℕ) (most each : ℕ) (w : World) (a : Actor) (m' : Shared) (counts : ℕ) (o : Outcome) : Type 0 where
+  pub mine : has w.setup m' (told_actor w a o) + counts ≤ has w.setup w.shared a + most * new_ones a.entry
+  pub others : (c : Actor) → has w.setup m' c + cost (told_actor w a o) c ≤ has w.setup w.shared c + cost a c + each * new_ones a.entry
 
--- what each actor has before it, among so many others, and that each move of a queue is paid by it
-pub record Account (kind : Kind) (n most : ℕ) (counts : World → AnyMove → ℕ) : Type 0 where
+-- an actor that begins a call, or rests, has no more before it then
+pub record NoMore (has : Setup → Shared → Actor → ℕ) (cost : Actor → Actor → ℕ) (w : World) (a b : Actor) (counts : ℕ) : Type 0 where
+  pub mine : has w.setup w.shared b + counts ≤ has w.setup w.shared a
+  pub others : (c : Actor) → cost b c ≤ cost a c
+
+-- what each actor has before it, and each two, and that each move of a queue is paid by it
+pub record Account (kind : Kind) (most each : ℕ) (counts : World → AnyMove → ℕ) : Type 0 where
   pub has : Setup → Shared → Actor → ℕ
+  pub cost : Actor → Actor → ℕ
+  pub turned : (x y : Actor) → cost x y ≡ cost y x
   pub none : (s : Setup) → has s (first_words s.size) idle ≡ 0
-  pub began : (w : World) → IsReached w → w.setup.kind ≡ kind → (me : ℕ) (op : Op) (a : Actor) → a.line ≡ None → has w.setup w.shared (begun w.setup.kind me op a) + counts w (made (Begin me op)) ≤ has w.setup w.shared a
-  pub step : (w : World) → IsReached w → w.setup.kind ≡ kind → (me : ℕ) (a : Actor) (l : Line) → actor_of w me ≡ Some a → a.line ≡ Some l → Pays has n most w a (performed (action w.setup me a l) w.shared) (counts w (made (Step me))) (outcome w.setup (w.steps + 1) me a l (found (action w.setup me a l) w.shared))
-  pub gave_up : (w : World) → IsReached w → w.setup.kind ≡ kind → (me : ℕ) (a : Actor) (l : Line) (o : Outcome) → actor_of w me ≡ Some a → a.line ≡ Some l → gives_up (w.steps + 1) a l ≡ Some o → Pays has n most w a w.shared (counts w (made (Give me))) o
-  pub at_rest : (w : World) → IsReached w → w.setup.kind ≡ kind → (me : ℕ) (a : Actor) (l : Line) → actor_of w me ≡ Some a → a.line ≡ Some l → may_rest l ≡ true → has w.setup w.shared (rested a) + counts w (Rest me) ≤ has w.setup w.shared a
+  pub no_cost : cost idle idle ≡ 0
+  pub began : (w : World) → IsReached w → w.setup.kind ≡ kind → (me : ℕ) (op : Op) (a : Actor) → a.line ≡ None → NoMore has cost w a (begun w.setup.kind me op a) (counts w (made (Begin me op)))
+  pub step : (w : World) → IsReached w → w.setup.kind ≡ kind → (me : ℕ) (a : Actor) (l : Line) → actor_of w me ≡ Some a → a.line ≡ Some l → Pays has cost most each w a (performed (action w.setup me a l) w.shared) (counts w (made (Step me))) (outcome w.setup (w.steps + 1) me a l (found (action w.setup me a l) w.shared))
+  pub gave_up : (w : World) → IsReached w → w.setup.kind ≡ kind → (me : ℕ) (a : Actor) (l : Line) (o : Outcome) → actor_of w me ≡ Some a → a.line ≡ Some l → gives_up (w.steps + 1) a l ≡ Some o → Pays has cost most each w a w.shared (counts w (made (Give me))) o
+  pub at_rest : (w : World) → IsReached w → w.setup.kind ≡ kind → (me : ℕ) (a : Actor) (l : Line) → actor_of w me ≡ Some a → a.line ≡ Some l → may_rest l ≡ true → NoMore has cost w a (rested a) (counts w (Rest me))
 
 -- steps are counted by the moves that take numbers
 steps_of_move : (w : World) (m : AnyMove) → IfSome (next_any w m) (λ v. v.steps ≡ w.steps + numbered w m)
@@ -79,68 +88,64 @@ pub as_many : (k : ℕ) (ms : List AnyMove) (w : World) → length w.actors ≡ 
 as_many k [] w h = h
 as_many k (m ∷ ms) w h = run_on_if (λ v. length v.actors ≡ k) (run ms) (next_any w m) (stay k w m h) (as_many k ms)
 
-module _ (kind : Kind) (n most : ℕ) (counts : World → AnyMove → ℕ) (account : Account kind n most counts) where
+module _ (kind : Kind) (most each : ℕ) (counts : World → AnyMove → ℕ) (account : Account kind most each counts) where
   -- what all actors of a world have before them
   abbrev pub all_left : World → ℕ
-  all_left w = sum_by (account.has w.setup w.shared) w.actors
+  all_left w = sum_by (account.has w.setup w.shared) w.actors + pairs account.cost w.actors
 
-  -- moves that count so much lead from a world to another one
-  abbrev pub Gains : (count : ℕ) → (w v : World) → Type 0
-  Gains k w v = k + all_left v + most * length w.operations ≤ all_left w + most * length v.operations
+  -- moves that count so much lead from a world to another one, where there are so many other actors
+  abbrev pub Gains : (n count : ℕ) → (w v : World) → Type 0
+  Gains n k w v = k + all_left v + (most + each * n) * length w.operations ≤ all_left w + (most + each * n) * length v.operations
 
-  -- what each move makes
-  record Made (w : World) (m : AnyMove) (v : World) : Type 0 where
-    same : length v.actors ≡ length w.actors
-    gains : Gains (counts w m) w v
-
-  module _ (w : World) (r : IsReached w) (e : w.setup.kind ≡ kind) (few : length w.actors - 1 ≡ n) where
+  module _ (n : ℕ) (w : World) (r : IsReached w) (e : w.setup.kind ≡ kind) (few : length w.actors - 1 ≡ n) where
     -- where one actor is another one, that has no more
-    with_other : (me : ℕ) (a b : Actor) (k : ℕ) → actor_of w me ≡ Some a → account.has w.setup w.shared b + k ≤ account.has w.setup w.shared a → Gains k w (with_actor w me b)
+    with_other : (me : ℕ) (a b : Actor) (k : ℕ) → actor_of w me ≡ Some a → NoMore account.has account.cost w a b k → Gains n k w (with_actor w me b)
     with_other me a b k is less =
         let got : slice_get w.actors (me - 1) ≡ Some a = (actor_stands w me a is).1 in
-        let fewer : sum_by (account.has w.setup w.shared) (set w.actors (me - 1) b) + k ≤ sum_by (account.has w.setup w.shared) w.actors + 0 = sum_one (account.has w.setup w.shared) (account.has w.setup w.shared) 0 (λ c. omega arith) w.actors (me - 1) a b k 0 got (omega (arith, less)) in
-        omega (arith, fewer)
+        omega (arith, replaced account.cost account.turned (account.has w.setup w.shared) (account.has w.setup w.shared) a b 0 (λ c. omega (arith, less.others c)) w.actors (me - 1) k 0 got (omega (arith, less.mine)))
 
     -- where an actor was told an outcome
-    told : (me : ℕ) (a : Actor) (m' : Shared) (k : ℕ) (o : Outcome) → actor_of w me ≡ Some a → Pays account.has n most w a m' k o → Gains k w (after_outcome w me a m' o)
+    told : (me : ℕ) (a : Actor) (m' : Shared) (k : ℕ) (o : Outcome) → actor_of w me ≡ Some a → Pays account.has account.cost most each w a m' k o → Gains n k w (after_outcome w me a m' o)
     told me a m' k o is f =
         let got : slice_get w.actors (me - 1) ≡ Some a = (actor_stands w me a is).1 in
         let ops : List Stamped = with_operation a.entry (new_operation me a.op (w.steps + 1)) (with_outcome (w.steps + 1) o) w.operations in
-        let paid : account.has w.setup m' (told_actor w a o) + k + f.cost * (length w.actors - 1) ≤ account.has w.setup w.shared a + most * new_ones a.entry = omega (arith, f.mine, ap (λ j. f.cost * j) few) in
-        let sums : sum_by (account.has w.setup m') (set w.actors (me - 1) (told_actor w a o)) + k ≤ sum_by (account.has w.setup w.shared) w.actors + most * new_ones a.entry = sum_one (account.has w.setup w.shared) (account.has w.setup m') f.cost f.others w.actors (me - 1) a (told_actor w a o) k (most * new_ones a.entry) got paid in
         let more : length ops ≡ length w.operations + new_ones a.entry = grown a.entry _ _ w.operations in
-        let all : most * length ops ≡ most * length w.operations + most * new_ones a.entry = ap (λ j. most * j) more ∙ mul-add most (length w.operations) (new_ones a.entry) in
-        omega (arith, sums, all)
+        let all : (most + each * n) * length ops ≡ (most + each * n) * length w.operations + (most + each * n) * new_ones a.entry = ap (λ j. (most + each * n) * j) more ∙ mul-add (most + each * n) (length w.operations) (new_ones a.entry) in
+        let sums = replaced account.cost account.turned (account.has w.setup w.shared) (account.has w.setup m') a (told_actor w a o) (each * new_ones a.entry) f.others w.actors (me - 1) k (most * new_ones a.entry) got f.mine in
+        omega (arith, sums, all, ap (λ j. each * new_ones a.entry * j) few, shared_out a.entry)
+      where
+        shared_out : (entry : Option ℕ) → (most + each * n) * new_ones entry ≡ most * new_ones entry + each * new_ones entry * n
+        shared_out None = omega arith
+        shared_out (Some entry) = omega arith
 
-    next_made : (m : AnyMove) → IfSome (next_any w m) (Made w m)
-    next_made =
-        after_move w (Made w)
+    next_gains : (m : AnyMove) → IfSome (next_any w m) (Gains n (counts w m) w)
+    next_gains =
+        after_move w (λ m v. Gains n (counts w m) w v)
         (record {
-          began = λ me op a is at call. record { same = length-set w.actors (me - 1) _; gains = with_other me a (begun w.setup.kind me op a) _ is (account.began w r e me op a at) };
-          step = λ me a l is at. record { same = length-set w.actors (me - 1) _; gains = told me a _ _ _ is (account.step w r e me a l is at) };
-          gave_up = λ me a l o is at given. record { same = length-set w.actors (me - 1) _; gains = told me a w.shared _ o is (account.gave_up w r e me a l o is at given) };
-          at_rest = λ me a l is at may. record { same = length-set w.actors (me - 1) _; gains = with_other me a (rested a) _ is (account.at_rest w r e me a l is at may) };
+          began = λ me op a is at call. with_other me a (begun w.setup.kind me op a) _ is (account.began w r e me op a at);
+          step = λ me a l is at. told me a _ _ _ is (account.step w r e me a l is at);
+          gave_up = λ me a l o is at given. told me a w.shared _ o is (account.gave_up w r e me a l o is at given);
+          at_rest = λ me a l is at may. with_other me a (rested a) _ is (account.at_rest w r e me a l is at may);
         })
 
   -- so the moves of a list are paid
-  pub run_gains : (ms : List AnyMove) (w : World) → IsReached w → w.setup.kind ≡ kind → length w.actors - 1 ≡ n → IfSome (run ms w) (Gains (total counts ms w) w)
-  run_gains [] w r e few = omega arith
-  run_gains (m ∷ ms) w r e few = go (run_gains ms) (next_any w m) refl
+  pub run_gains : (n : ℕ) (ms : List AnyMove) (w : World) → IsReached w → w.setup.kind ≡ kind → length w.actors - 1 ≡ n → IfSome (run ms w) (Gains n (total counts ms w) w)
+  run_gains n [] w r e few = omega arith
+  run_gains n (m ∷ ms) w r e few = go (run_gains n ms) (next_any w m) refl
     where
-      go : ((u : World) → IsReached u → u.setup.kind ≡ kind → length u.actors - 1 ≡ n → IfSome (run ms u) (Gains (total counts ms u) u)) → (o : Option World) → next_any w m ≡ o → IfSome (run_on (run ms) o) (Gains (counts w m + total_on (total counts ms) o) w)
+      go : ((u : World) → IsReached u → u.setup.kind ≡ kind → length u.actors - 1 ≡ n → IfSome (run ms u) (Gains n (total counts ms u) u)) → (o : Option World) → next_any w m ≡ o → IfSome (run_on (run ms) o) (Gains n (counts w m + total_on (total counts ms) o) w)
       go later None f = tt
       go later (Some u) f =
-          if_some (Gains (counts w m + total counts ms u) w) (run ms u)
-          (λ v g. let d : Made w m u = some_of (Made w m) (next_any w m) u f (next_made w r e few m) in
-          let rest : Gains (total counts ms u) u v = some_of (Gains (total counts ms u) u) (run ms u) v g (later u (reached_next w u m r f) (ap (λ (s : Setup). s.kind) (setup-next_any w u m f) ∙ e) (ap (λ k. k - 1) d.same ∙ few)) in
-          omega (arith, d.gains, rest))
+          if_some (Gains n (counts w m + total counts ms u) w) (run ms u)
+          (λ v g. let one : Gains n (counts w m) w u = some_of (Gains n (counts w m) w) (next_any w m) u f (next_gains n w r e few m) in
+          let same : length u.actors ≡ length w.actors = some_of (λ x. length x.actors ≡ length w.actors) (next_any w m) u f (stay (length w.actors) w m refl) in
+          let rest : Gains n (total counts ms u) u v = some_of (Gains n (total counts ms u) u) (run ms u) v g (later u (reached_next w u m r f) (ap (λ (s : Setup). s.kind) (setup-next_any w u m f) ∙ e) (ap (λ k. k - 1) same ∙ few)) in
+          omega (arith, one, rest))
 
   -- and from the start on
-  pub opening_gains : (s : Setup) (actors : ℕ) (moves : List AnyMove) → IsSized s actors → s.kind ≡ kind → actors - 1 ≡ n → IfSome (run moves (opening s actors)) (λ v. total counts moves (opening s actors) ≤ most * length v.operations)
-  opening_gains s actors moves sized e few =
-      if_some (λ v. total counts moves (opening s actors) ≤ most * length v.operations) (run moves (opening s actors))
-      (λ v f. let g : Gains (total counts moves (opening s actors)) (opening s actors) v = some_of (Gains (total counts moves (opening s actors)) (opening s actors)) (run moves (opening s actors)) v f
-      (run_gains moves (opening s actors) (record { actors = actors; moves = []; sized = sized; led = refl }) e (ap (λ k. k - 1) (length-replicate actors idle) ∙ few)) in
-      let nothing : all_left (opening s actors) ≡ actors * account.has s (first_words s.size) idle = sum_by-replicate (account.has s (first_words s.size)) actors idle in
-      let zero_all : actors * account.has s (first_words s.size) idle ≡ actors * 0 = ap (λ k. actors * k) (account.none s) in
-      omega (arith, g, nothing, zero_all))
+  pub opening_gains : (s : Setup) (actors : ℕ) (moves : List AnyMove) → IsSized s actors → s.kind ≡ kind → IfSome (run moves (opening s actors)) (λ v. total counts moves (opening s actors) ≤ (most + each * (actors - 1)) * length v.operations)
+  opening_gains s actors moves sized e =
+      if_some (λ v. total counts moves (opening s actors) ≤ (most + each * (actors - 1)) * length v.operations) (run moves (opening s actors))
+      (λ v f. let g : Gains (actors - 1) (total counts moves (opening s actors)) (opening s actors) v = some_of (Gains (actors - 1) (total counts moves (opening s actors)) (opening s actors)) (run moves (opening s actors)) v f
+      (run_gains (actors - 1) moves (opening s actors) (record { actors = actors; moves = []; sized = sized; led = refl }) e (ap (λ k. k - 1) (length-replicate actors idle))) in
+      omega (arith, g, sum_by-replicate (account.has s (first_words s.size)) actors idle, ap (λ k. actors * k) (account.none s), pairs-replicate account.cost idle actors account.no_cost))

@@ -3,7 +3,7 @@
 use Rattle.std.proofs.Common.{◌≡◌, ℕ, zero, suc, ◌+◌, ◌-◌, ◌*◌, ◌≤◌, ◌<◌, List, [], ◌∷◌, ◌++◌, length, set, get_or, replicate, slice_get, Option, Some, None, IfSome, refl, sym, ap, ◌∙◌, subst, arith, length-append}
 use Rattle.std.proofs.Math.Nat.{mul-le-mul_left}
 use Rattle.std.proofs.Math.ListN.{length-set, length-replicate}
-use Rattle.std.proofs.lemmas.List.Sums.{sum_by-set, sum_by_push, sum_by-le}
+use Rattle.std.proofs.lemmas.List.Sums.{sum_by_push, sum_by-le}
 use Rattle.std.proofs.lemmas.Option.{slice_get_within, get_or_from_slice_get}
 use Rattle.std.specs.List.{sum_by}
 use Rattle.step_machine.specs.Below.{Line, Reply, Stamped, Setup, Actor, Outcome, Shared, performed, found, action, outcome, gives_up, begun}
@@ -16,6 +16,7 @@ use Rattle.step_machine.proofs.StampsInvariants.{OperationAt, StampsInvariant}
 use Rattle.step_machine.proofs.EachMove.{walked, kept_after}
 use Rattle.progress.specs.Moves.{replied, completed, is_rest, rests, steps_unheld}
 use Rattle.progress.specs.Steps.{KeepsCompleting, KeepsCompletingUnheld}
+use Rattle.progress.proofs.Sums.{sum_set}
 use Rattle.progress.proofs.Steps.{few_numbered}
 use Rattle.progress.proofs.LockedSteps.{few_find_no_lock_held}
 
@@ -47,10 +48,6 @@ one_of (Some l) (Some reply) due at Noted entry h = absurd h
 trivial : (o : Option ℕ) → IfSome o (λ k. Unit {0})
 trivial None = tt
 trivial (Some k) = tt
-
--- a sum with one item replaced
-sum_set : {X : Type 0} (f : X → ℕ) (xs : List X) (i : ℕ) (x y : X) → slice_get xs i ≡ Some x → sum_by f (set xs i y) + f x ≡ sum_by f xs + f y
-sum_set f xs i x y e = ap (λ z. sum_by f (set xs i y) + f z) (sym (get_or_from_slice_get xs i x x e)) ∙ sum_by-set f xs i y x (slice_get_within xs i x e)
 
 rests_more : (done : List AnyMove) (m : AnyMove) → rests (done ++ m ∷ []) ≡ rests done + is_rest m
 rests_more done m = sum_by_push is_rest done m
@@ -145,8 +142,8 @@ module _ (s : Setup) (n most : ℕ) (moves : List AnyMove) (count : World → �
       (λ w led. let c : Covered n (rests moves) w = some_of (Covered n (rests moves)) (run moves (opening s n)) w led (covered s n moves) in
       omega (arith, some_of (λ v. count v ≤ most * length v.operations) (run moves (opening s n)) w led few, mul-le-mul_left most (few_operations n (rests moves) w c)))
 
-pub keeps_completing : KeepsCompleting 12 4
-keeps_completing s n moves sized e = by_completed s n (12 * n + 4) moves (λ w. w.steps) (few_numbered s n moves sized e)
+pub keeps_completing : KeepsCompleting 8 3
+keeps_completing s n moves sized e = by_completed s n (8 * n + 3) moves (λ w. w.steps) (few_numbered s n moves sized e)
 
 pub keeps_completing_unheld : KeepsCompletingUnheld 8 4
 keeps_completing_unheld s n moves sized e = by_completed s n (8 * n + 4) moves (λ w. steps_unheld moves (opening s n)) (few_find_no_lock_held s n moves sized e)

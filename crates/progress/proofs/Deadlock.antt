@@ -19,10 +19,10 @@ use Rattle.step_machine.proofs.Assertions.{OwnsAt}
 use Rattle.step_machine.proofs.EitherQueue.{each_runs_its_queue}
 use Rattle.step_machine.proofs.TwoLockInvariant.{reached_invariant}
 use Rattle.step_machine.proofs.Locks.{locks_name_their_holders, locks_are_of_actors}
-use Rattle.progress.specs.Prices.{Prices, if_so, locked_steps}
+use Rattle.progress.specs.Prices.{if_so, by_due}
 use Rattle.progress.specs.Locked.{locked_at, unheld}
 use Rattle.progress.specs.Ends.{EndsItsCall, SomeEndsItsCall}
-use Rattle.progress.proofs.Others.{unless_most, before_most}
+use Rattle.progress.proofs.Others.{unless_most, due_most}
 use Rattle.progress.proofs.Ends.{over, one_more}
 use Rattle.progress.proofs.LockedMover.{step_lowers_unheld}
 use Rattle.progress.proofs.LockedSteps.{entry_unheld}
@@ -112,42 +112,42 @@ module _ (w : World) (e : w.setup.kind ≡ TwoLock) (me : ℕ) (a : Actor) where
   clear_kept S9 _ c = left_clear (performed (action w.setup me a S9) w.shared) me (w.steps + 1) a.due a
   clear_kept l runs c = absurd runs
 
--- an actor has at most so much left
-amount_most : (n : ℕ) (m : Shared) (a : Actor) (l : Line) → locked_at (locked_steps n) m a (Some l) ≤ 14 + 8 * n
-amount_most n m a N2 = omega (arith, unless_most (nat_eq m.fresh a.f) 4)
-amount_most n m a N3 = omega (arith, unless_most (same_ref m.free a.top) 4)
-amount_most n m a N4 = omega (arith, unless_most (same_ref m.free a.top) 4)
-amount_most n m a N5 = omega (arith, unless_most (nat_eq m.fresh a.f) 4)
-amount_most n m a F1 = omega (arith, before_most a.due 9, before_most a.due (0 * n + 4 * n))
-amount_most n m a F2 = omega (arith, before_most a.due 9, before_most a.due (0 * n + 4 * n), unless_most (same_ref m.free a.top) 3)
-amount_most n m a F3 = omega (arith, before_most a.due 9, before_most a.due (0 * n + 4 * n), unless_most (same_ref m.free a.top) 3)
-amount_most n m a _ = omega arith
+-- an actor has at most so much before it
+unheld_most : (m : Shared) (a : Actor) (l : Line) → locked_at m a (Some l) ≤ 14
+unheld_most m a N2 = omega (arith, unless_most (nat_eq m.fresh a.f) 4)
+unheld_most m a N3 = omega (arith, unless_most (same_ref m.free a.top) 4)
+unheld_most m a N4 = omega (arith, unless_most (same_ref m.free a.top) 4)
+unheld_most m a N5 = omega (arith, unless_most (nat_eq m.fresh a.f) 4)
+unheld_most m a F1 = omega (arith, due_most a.due 9 0)
+unheld_most m a F2 = omega (arith, due_most a.due 9 0, unless_most (same_ref m.free a.top) 3)
+unheld_most m a F3 = omega (arith, due_most a.due 9 0, unless_most (same_ref m.free a.top) 3)
+unheld_most m a _ = omega arith
 
 owns_at : (w : World) (r : IsReached w) (e : w.setup.kind ≡ TwoLock) (me : ℕ) (a : Actor) (l : Line) → actor_of w me ≡ Some a → a.line ≡ Some l → OwnsAt w.shared me (Some l)
 owns_at w r e me a l is at = subst (OwnsAt w.shared me) at ((reached_invariant w r e).sound.actors me a is).owns
 
 -- the step of an actor whose lock is open lowers what is left by 1
-one_less : (w : World) (r : IsReached w) (e : w.setup.kind ≡ TwoLock) (me : ℕ) (a : Actor) (l : Line) (is : actor_of w me ≡ Some a) (at : a.line ≡ Some l) → ClearAt w.shared me (Some l) → locked_at (locked_steps 0) (performed (action w.setup me a l) w.shared) (outcome w.setup (w.steps + 1) me a l (found (action w.setup me a l) w.shared)).actor (outcome w.setup (w.steps + 1) me a l (found (action w.setup me a l) w.shared)).actor.line + 1 ≤ locked_at (locked_steps 0) w.shared a (Some l)
-one_less w r e me a l is at c = omega (arith, (step_lowers_unheld 0 w r e me a l is at).mine, counts_one w.shared me l c (owns_at w r e me a l is at))
+one_less : (w : World) (r : IsReached w) (e : w.setup.kind ≡ TwoLock) (me : ℕ) (a : Actor) (l : Line) (is : actor_of w me ≡ Some a) (at : a.line ≡ Some l) → ClearAt w.shared me (Some l) → locked_at (performed (action w.setup me a l) w.shared) (outcome w.setup (w.steps + 1) me a l (found (action w.setup me a l) w.shared)).actor (outcome w.setup (w.steps + 1) me a l (found (action w.setup me a l) w.shared)).actor.line + 1 ≤ locked_at w.shared a (Some l)
+one_less w r e me a l is at c = omega (arith, (step_lowers_unheld w r e me a l is at).mine, counts_one w.shared me l c (owns_at w r e me a l is at))
 
-pub ends_in : (k me : ℕ) (w : World) (a : Actor) → IsReached w → w.setup.kind ≡ TwoLock → actor_of w me ≡ Some a → ClearAt w.shared me a.line → locked_at (locked_steps 0) w.shared a a.line ≤ k → EndsWithin k w me
+pub ends_in : (k me : ℕ) (w : World) (a : Actor) → IsReached w → w.setup.kind ≡ TwoLock → actor_of w me ≡ Some a → ClearAt w.shared me a.line → locked_at w.shared a a.line ≤ k → EndsWithin k w me
 ends_in zero me w a r e is clear few = go a.line refl clear few
   where
-    go : (l : Option Line) → a.line ≡ l → ClearAt w.shared me l → locked_at (locked_steps 0) w.shared a l ≤ 0 → EndsWithin 0 w me
+    go : (l : Option Line) → a.line ≡ l → ClearAt w.shared me l → locked_at w.shared a l ≤ 0 → EndsWithin 0 w me
     go None at c h = over 0 me w a is at
     go (Some l) at c h = absurd (omega (arith, h, one_less w r e me a l is at c))
 ends_in (suc k) me w a r e is clear few = go (ends_in k me) a.line refl clear few
   where
-    go : ((v : World) (b : Actor) → IsReached v → v.setup.kind ≡ TwoLock → actor_of v me ≡ Some b → ClearAt v.shared me b.line → locked_at (locked_steps 0) v.shared b b.line ≤ k → EndsWithin k v me) → (l : Option Line) → a.line ≡ l → ClearAt w.shared me l → locked_at (locked_steps 0) w.shared a l ≤ suc k → EndsWithin (suc k) w me
+    go : ((v : World) (b : Actor) → IsReached v → v.setup.kind ≡ TwoLock → actor_of v me ≡ Some b → ClearAt v.shared me b.line → locked_at v.shared b b.line ≤ k → EndsWithin k v me) → (l : Option Line) → a.line ≡ l → ClearAt w.shared me l → locked_at w.shared a l ≤ suc k → EndsWithin (suc k) w me
     go after None at c h = over (suc k) me w a is at
     go after (Some l) at c h =
-        let then : next w (Step me) ≡ Some (stepped w me a l) = ap (moved w (Step me)) is ∙ ap (steps w me a) at in
+        let moves_on : next w (Step me) ≡ Some (stepped w me a l) = ap (moved w (Step me)) is ∙ ap (steps w me a) at in
         let o = outcome w.setup (w.steps + 1) me a l (found (action w.setup me a l) w.shared) in
-        one_more k me w (stepped w me a l) then
-        (after (stepped w me a l) (record o.actor { entry = Some (entry_or a.entry (length w.operations)) }) (reached_next w (stepped w me a l) (made (Step me)) r then) e
+        one_more k me w (stepped w me a l) moves_on
+        (after (stepped w me a l) (record o.actor { entry = Some (entry_or a.entry (length w.operations)) }) (reached_next w (stepped w me a l) (made (Step me)) r moves_on) e
         (actor_same w me a (record o.actor { entry = Some (entry_or a.entry (length w.operations)) }) is)
         (clear_kept w e me a l (subst (IsRunBy (section_of l)) e (each_runs_its_queue w r me a l is at)) c)
-        (omega (arith, h, one_less w r e me a l is at c, entry_unheld 0 (performed (action w.setup me a l) w.shared) o.actor (Some (entry_or a.entry (length w.operations))) o.actor.line)))
+        (omega (arith, h, one_less w r e me a l is at c, entry_unheld (performed (action w.setup me a l) w.shared) o.actor (Some (entry_or a.entry (length w.operations))) o.actor.line)))
 
 module _ (w : World) (r : IsReached w) (e : w.setup.kind ≡ TwoLock) where
   ends : (me : ℕ) (a : Actor) (l : Line) → actor_of w me ≡ Some a → a.line ≡ Some l → ClearAt w.shared me (Some l) → EndsItsCall 14 w me
@@ -157,7 +157,7 @@ module _ (w : World) (r : IsReached w) (e : w.setup.kind ≡ TwoLock) where
         line = l;
         here = is;
         at = at;
-        ends = ends_in 14 me w a r e is (subst (ClearAt w.shared me) (sym at) c) (subst (λ j. locked_at (locked_steps 0) w.shared a j ≤ 14) (sym at) (omega (arith, amount_most 0 w.shared a l)));
+        ends = ends_in 14 me w a r e is (subst (ClearAt w.shared me) (sym at) c) (subst (λ j. locked_at w.shared a j ≤ 14) (sym at) (omega (arith, unheld_most w.shared a l)));
       }
 
   -- the holder of the tail lock, and of the head lock

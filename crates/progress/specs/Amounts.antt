@@ -1,9 +1,9 @@
--- How much an actor of the non-blocking queue has before it, whatever the others do: to the end of its call, in the turns
--- that are lost already, and in what the exchanges that it has yet to win cost each other actor.
-use Rattle.std.specs.Prelude.{ℕ, ◌+◌, ◌*◌, Bool, true, false, nat_eq, nat_lt, Option, Some, None}
-use Rattle.step_machine.specs.Below.{Line, N1, N2, N3, N4, N5, F1, F2, F3, E2, E3, E5, E6, E7, E9, E13, E17, D2, D3, D4, D5, D10, D12, D13, A1, A2, A3, A4, A5, A6, A7, B1, B2, B3, B4, B5, B6, S1, S2, S3, S4, S5, S6, S7, S8, S9, Section, section_of, is_null, is_shut, same_ref, Reply, Actor, Shared, node_at}
-use Rattle.line_table.specs.declared.lines.Section.TheVariants.{NewNode, Free, Enqueue, Dequeue, LockedDequeue, Shut}
-use Rattle.progress.specs.Prices.{Prices, turn_of, unless, if_so, before_dequeue, of_pocket}
+-- How much an actor of the non-blocking queue has before it, if no other one wins an exchange: to the end of its call, in
+-- the turn in which it swings Tail, and in the turn that is lost already.
+use Rattle.std.specs.Prelude.{ℕ, ◌+◌, ◌*◌, Bool, true, false, nat_eq, nat_lt, if◌then◌else◌, Option, Some, None}
+use Rattle.step_machine.specs.Below.{Line, N1, N2, N3, N4, N5, F1, F2, F3, E2, E3, E5, E6, E7, E9, E13, E17, D2, D3, D4, D5, D10, D12, D13, A1, A2, A3, A4, A5, A6, A7, B1, B2, B3, B4, B5, B6, S1, S2, S3, S4, S5, S6, S7, S8, S9, Section, section_of, is_null, is_shut, same_ref, Reply, Setup, Actor, Shared, node_at}
+use Rattle.line_table.specs.declared.lines.Section.TheVariants.{NewNode, Free, Enqueue, Dequeue, Shut}
+use Rattle.progress.specs.Prices.{Prices, turn_of, unless, if_so, by_due, of_pocket}
 
 -- how many steps it is from a line to the end of a call in which no turn is lost, in either queue
 abbrev pub rank : Option Reply → Line → (step : ℕ) → ℕ
@@ -12,9 +12,9 @@ rank due N2 k = 10 * k
 rank due N3 k = 9 * k
 rank due N4 k = 8 * k
 rank due N5 k = 8 * k
-rank due F1 k = 3 * k + before_dequeue due (9 * k)
-rank due F2 k = 2 * k + before_dequeue due (9 * k)
-rank due F3 k = k + before_dequeue due (9 * k)
+rank due F1 k = 3 * k + by_due due (9 * k) 0
+rank due F2 k = 2 * k + by_due due (9 * k) 0
+rank due F3 k = k + by_due due (9 * k) 0
 rank due E2 k = 7 * k
 rank due E3 k = 6 * k
 rank due E5 k = 5 * k
@@ -59,20 +59,21 @@ names true shut = false
 names false true = false
 names false false = true
 
--- whether Tail lags: a node follows Tail's
-abbrev pub tail_lags : (bits : ℕ) → Shared → Bool
-tail_lags bits m = names (is_null (node_at m m.tail.node).next) (is_shut bits (node_at m m.tail.node).next)
+-- whether Tail lags and can be swung: a node follows Tail's, and Tail's count is below the limit
+abbrev pub tail_lags : Setup → Shared → Bool
+tail_lags s m =
+    if nat_eq m.tail.count s.limit then false else names (is_null (node_at m m.tail.node).next) (is_shut s.bits (node_at m m.tail.node).next)
 
--- the turn in which a lagging Tail is swung, by the section of a line
+-- the turn in which a lagging Tail is swung, by the section of a line; where no turn of the call swings it, what is kept
 abbrev pub swings : Prices → Option Reply → (lags : Bool) → Section → ℕ
 swings p due lags NewNode = if_so lags (turn_of p 4)
 swings p due lags Enqueue = if_so lags (turn_of p 4)
-swings p due lags Shut = if_so lags (turn_of p 4)
+swings p due lags Shut = if_so lags (turn_of p 4) + p.idle
 swings p due lags Dequeue = if_so lags (turn_of p 5)
-swings p due lags Free = before_dequeue due (if_so lags (turn_of p 5))
+swings p due lags Free = by_due due (if_so lags (turn_of p 4) + p.step) (if_so lags p.idle)
 swings p due lags _ = 0
 
--- the same by the line: an enqueue that linked its node swings no more than that
+-- the same by the line: an enqueue that linked its node swings Tail in its last step
 abbrev pub detour : Prices → Option Reply → (lags : Bool) → Line → ℕ
 detour p due lags E17 = 0
 detour p due lags l = swings p due lags (section_of l)
@@ -103,50 +104,32 @@ lost_at_free p m a F3 = unless (same_ref m.free a.top) (turn_of p 3)
 lost_at_free p m a _ = 0
 
 -- the turn that is lost already, since a word that it read has changed
-abbrev pub lost : Prices → Shared → Actor → Line → ℕ
-lost p m a E6 = unless (same_ref m.tail a.tail) (turn_of p 4)
-lost p m a E7 = raced p (same_ref m.tail a.tail) (next_rose m a)
-lost p m a E9 = if_so (next_rose m a) (turn_of p 4)
-lost p m a E13 = unless (same_ref m.tail a.tail) (turn_of p 4)
-lost p m a D3 = unless (same_ref m.head a.head) (turn_of p 6)
-lost p m a D4 = misled p (same_ref m.head a.head) (nat_eq a.head.node a.tail.node) (same_ref m.tail a.tail)
-lost p m a D5 = misled p (same_ref m.head a.head) (nat_eq a.head.node a.tail.node) (same_ref m.tail a.tail)
-lost p m a D10 = unless (same_ref m.tail a.tail) (turn_of p 5)
-lost p m a D12 = unless (same_ref m.head a.head) (turn_of p 6)
-lost p m a D13 = unless (same_ref m.head a.head) (turn_of p 6)
-lost p m a S2 = unless (same_ref m.tail a.tail) (turn_of p 4)
-lost p m a S3 = raced p (same_ref m.tail a.tail) (next_rose m a)
-lost p m a S4 = if_so (next_rose m a) (turn_of p 4)
-lost p m a S5 = unless (same_ref m.tail a.tail) (turn_of p 4)
-lost p m a l = lost_at_free p m a l
+abbrev pub lost : Prices → Setup → Shared → Actor → Line → ℕ
+lost p s m a E6 = unless (same_ref m.tail a.tail) (turn_of p 4)
+lost p s m a E7 = raced p (same_ref m.tail a.tail) (next_rose m a)
+lost p s m a E9 = if_so (next_rose m a) (turn_of p 4)
+lost p s m a E13 = unless (same_ref m.tail a.tail) (turn_of p 4)
+lost p s m a E17 = unless (same_ref m.tail a.tail) (if_so (tail_lags s m) p.idle)
+lost p s m a D3 = unless (same_ref m.head a.head) (turn_of p 6)
+lost p s m a D4 = misled p (same_ref m.head a.head) (nat_eq a.head.node a.tail.node) (same_ref m.tail a.tail)
+lost p s m a D5 = misled p (same_ref m.head a.head) (nat_eq a.head.node a.tail.node) (same_ref m.tail a.tail)
+lost p s m a D10 = unless (same_ref m.tail a.tail) (turn_of p 5)
+lost p s m a D12 = unless (same_ref m.head a.head) (turn_of p 6)
+lost p s m a D13 = unless (same_ref m.head a.head) (turn_of p 6)
+lost p s m a S2 = unless (same_ref m.tail a.tail) (turn_of p 4)
+lost p s m a S3 = raced p (same_ref m.tail a.tail) (next_rose m a)
+lost p s m a S4 = if_so (next_rose m a) (turn_of p 4)
+lost p s m a S5 = unless (same_ref m.tail a.tail) (turn_of p 4)
+lost p s m a l = lost_at_free p m a l
 
--- what the exchanges that an actor has yet to win cost all others, by the section of its line
-abbrev pub charges : Prices → Option Reply → Section → ℕ
-charges p due NewNode = p.node * p.others + p.link * p.others
-charges p due Enqueue = p.link * p.others
-charges p due Shut = p.link * p.others
-charges p due Dequeue = p.pop * p.others + p.node * p.others
-charges p due LockedDequeue = p.node * p.others
-charges p due Free = p.node * p.others + before_dequeue due (p.pop * p.others + p.node * p.others)
-charges p due _ = 0
+-- what an actor has before it to the end of its call
+abbrev pub own : Prices → Setup → Shared → Actor → Line → ℕ
+own p s m a l = rank a.due l p.step + detour p a.due (tail_lags s m) l + lost p s m a l
 
--- the same by the line: an enqueue that linked its node wins no more
-abbrev pub charge : Prices → Option Reply → Line → ℕ
-charge p due E17 = 0
-charge p due l = charges p due (section_of l)
-
--- what an actor has before it to the end of its call, if no other one wins an exchange
-abbrev pub own : Prices → (bits : ℕ) → Shared → Actor → Line → ℕ
-own p bits m a l = rank a.due l p.step + detour p a.due (tail_lags bits m) l + lost p m a l
-
--- all that an actor has before it, at a line
-abbrev pub amount : Prices → (bits : ℕ) → Shared → Actor → Line → ℕ
-amount p bits m a l = own p bits m a l + charge p a.due l + p.spare
-
--- the same, with what is kept for its pocket, and of an actor without a call
-abbrev pub amount_at : Prices → (bits : ℕ) → Shared → Actor → Option Line → ℕ
-amount_at p bits m a None = of_pocket p a.pocket
-amount_at p bits m a (Some l) = amount p bits m a l + of_pocket p a.pocket
+-- the same with what is kept for its pocket, and of an actor without a call
+abbrev pub amount_at : Prices → Setup → Shared → Actor → Option Line → ℕ
+amount_at p s m a None = of_pocket p a.pocket + if_so (tail_lags s m) p.idle
+amount_at p s m a (Some l) = own p s m a l + of_pocket p a.pocket
 
 -- what is kept for the node of a pocket that a call took into its hand where it began
 abbrev pub in_hand : Prices → Option Line → ℕ
@@ -155,9 +138,9 @@ in_hand p (Some E2) = p.kept
 in_hand p _ = 0
 
 -- what an actor has before it: in a call that has a number the amount, and else what is kept
-abbrev pub has : Prices → (bits : ℕ) → Shared → Actor → (entry : Option ℕ) → ℕ
-has p bits m a None = in_hand p a.line + of_pocket p a.pocket
-has p bits m a (Some entry) = amount_at p bits m a a.line
+abbrev pub has : Prices → Setup → Shared → Actor → (entry : Option ℕ) → ℕ
+has p s m a None = in_hand p a.line + of_pocket p a.pocket + if_so (tail_lags s m) p.idle
+has p s m a (Some entry) = amount_at p s m a a.line
 
 -- what the step of an actor makes fail: the last step of a turn that starts again (docs/LINES.md)
 abbrev pub failed : Prices → Shared → Actor → Line → ℕ

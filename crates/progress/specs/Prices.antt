@@ -2,34 +2,29 @@
 use Rattle.std.specs.Prelude.{ℕ, ◌+◌, ◌*◌, Bool, true, false, Option, Some, None}
 use Rattle.step_machine.specs.Below.{Reply, Held}
 
--- the prices of a count: what a step counts, and a turn that fails; what it costs each other actor where a node is taken
--- or given back, where a node or the closed end is linked, and where a value is popped; how many other actors there are;
--- and what is kept for a node in a pocket, to which each call adds so much
+-- the prices of a count: what a step counts, and a turn that fails; what it costs each other actor at most where a node is
+-- taken or given back, where a node or the closed end is linked, and where a value is popped; what an actor without a call
+-- keeps for a lagging Tail, and for a node in its pocket
 pub record Prices : Type 0 where
   pub step : ℕ
   pub turn : ℕ
   pub node : ℕ
   pub link : ℕ
   pub pop : ℕ
-  pub others : ℕ
+  pub idle : ℕ
   pub kept : ℕ
-  pub spare : ℕ
 
--- steps are counted, among so many others, and for a node in a pocket the steps of giving it back are kept
-abbrev pub steps_among : (others : ℕ) → Prices
-steps_among n = record { step = 1; turn = 0; node = 4; link = 8; pop = 6; others = n; kept = 3 + 4 * n; spare = 1 }
+-- the steps of all actors are counted
+abbrev pub all_steps : Prices
+all_steps = record { step = 1; turn = 0; node = 4; link = 8; pop = 6; idle = 4; kept = 2 }
 
--- the same, and nothing is kept
-abbrev pub steps_to_the_end : (others : ℕ) → Prices
-steps_to_the_end n = record { step = 1; turn = 0; node = 4; link = 8; pop = 6; others = n; kept = 0; spare = 0 }
+-- the steps of one call are counted
+abbrev pub call_steps : Prices
+call_steps = record { step = 1; turn = 0; node = 4; link = 8; pop = 6; idle = 0; kept = 0 }
 
--- steps of the two-lock queue are counted, where the others lose turns by nodes alone
-abbrev pub locked_steps : (others : ℕ) → Prices
-locked_steps n = record { step = 1; turn = 0; node = 4; link = 0; pop = 0; others = n; kept = 0; spare = 0 }
-
--- turns that fail are counted
+-- the turns of one call that fail are counted
 abbrev pub failed_turns : Prices
-failed_turns = record { step = 0; turn = 1; node = 1; link = 2; pop = 1; others = 0; kept = 0; spare = 0 }
+failed_turns = record { step = 0; turn = 1; node = 1; link = 2; pop = 1; idle = 0; kept = 0 }
 
 -- what a turn of so many steps counts that fails
 abbrev pub turn_of : Prices → (steps : ℕ) → ℕ
@@ -45,10 +40,10 @@ abbrev pub if_so : Bool → ℕ → ℕ
 if_so true n = n
 if_so false n = 0
 
--- so much before a dequeue that frees its pocket first; nothing where a value was taken
-abbrev pub before_dequeue : Option Reply → ℕ → ℕ
-before_dequeue None n = n
-before_dequeue (Some reply) n = 0
+-- so much before a dequeue that frees its pocket first, and so much where a value was taken
+abbrev pub by_due : Option Reply → (first after : ℕ) → ℕ
+by_due None n m = n
+by_due (Some reply) n m = m
 
 -- what is kept for a pocket
 abbrev pub of_pocket : Prices → Option Held → ℕ

@@ -1,19 +1,20 @@
 -- How many steps operations take together, and how many operations that are complete there are at least for so many steps.
-use Rattle.std.specs.Prelude.{◌≡◌, ℕ, ◌+◌, ◌-◌, ◌*◌, ◌≤◌, List, length, Some, IfSome}
+use Rattle.std.specs.Prelude.{◌≡◌, ℕ, ◌+◌, ◌*◌, ◌≤◌, List, length, Some, IfSome}
 use Rattle.std.specs.List.{sum_by}
-use Rattle.step_machine.specs.Below.{Kind, TwoLock, NonBlocking, Setup}
+use Rattle.step_machine.specs.Below.{Kind, TwoLock, NonBlocking, Actor, Setup}
 use Rattle.step_machine.specs.Machine.{World, opening, AnyMove, run, IsSized}
-use Rattle.progress.specs.Prices.{steps_among}
+use Rattle.progress.specs.Prices.{all_steps}
 use Rattle.progress.specs.Amounts.{has}
+use Rattle.progress.specs.Pairs.{pair, pairs, stage_of}
 use Rattle.progress.specs.Moves.{steps_unheld, rests, completed}
 
--- how many other actors there are
-abbrev pub others : World → ℕ
-others w = length w.actors - 1
+-- what two actors may yet cost each other
+abbrev pub cost_of_pair : Actor → Actor → ℕ
+cost_of_pair a b = pair (stage_of a.due a.line a.entry) (stage_of b.due b.line b.entry)
 
 -- the steps that all actors of a world have before them at most
 abbrev pub left : World → ℕ
-left w = sum_by (λ a. has (steps_among (others w)) w.setup.bits w.shared a a.entry) w.actors
+left w = sum_by (λ a. has all_steps w.setup w.shared a a.entry) w.actors + pairs cost_of_pair w.actors
 
 -- so many for each actor, and so many more
 abbrev pub linear : (each more actors : ℕ) → ℕ

@@ -7,27 +7,27 @@ ghost use Rattle.progress.specs.Steps.{IsFew, IsFewLater, FewFindNoLockHeld};
 ghost use Rattle.progress.specs.Steps.{KeepsCompleting, KeepsCompletingUnheld};
 ghost use Rattle.progress.specs.Ends.{EachEndsFromHere, AllEndTogether, SomeEndsItsCall};
 
-/// In the non-blocking queue the operations of a history took few steps together: with `P` actors at most `12 * P + 4`
+/// In the non-blocking queue the operations of a history took few steps together: with `P` actors at most `8 * P + 3`
 /// for each, whatever the schedule.
 pub fn operations_take_few_steps()
-    ensures { OfNonBlockingWorlds (IsFew 12 4) }
+    ensures { OfNonBlockingWorlds (IsFew 8 3) }
 {}
 
-/// Lock freedom: whatever the schedule, `n` steps of the non-blocking queue complete at least `n / (12 * P + 4) - P`
+/// Lock freedom: whatever the schedule, `n` steps of the non-blocking queue complete at least `n / (8 * P + 3) - P`
 /// operations, less one for each rest.
 pub fn operations_keep_completing()
-    ensures { KeepsCompleting 12 4 }
+    ensures { KeepsCompleting 8 3 }
 {}
 
 /// From each world of the non-blocking queue on, any moves take at most the steps that its actors have before them, and
-/// `12 * P + 4` for each operation that begins meanwhile.
+/// `8 * P + 3` for each operation that begins meanwhile.
 pub fn later_steps_are_few()
-    ensures { OfNonBlockingWorlds (IsFewLater 12 4) }
+    ensures { OfNonBlockingWorlds (IsFewLater 8 3) }
 {}
 
-/// Once no operation of the non-blocking queue begins, all steps together are at most `P * (14 * P + 5)`, in any order.
+/// Once no operation of the non-blocking queue begins, all steps together are at most `P * (8 * P + 11)`, in any order.
 pub fn all_calls_end_together()
-    ensures { OfNonBlockingWorlds (AllEndTogether 14 5) }
+    ensures { OfNonBlockingWorlds (AllEndTogether 8 11) }
 {}
 
 /// At any moment an actor of the non-blocking queue that has a call ends it within 19 steps alone; from its begin on
