@@ -1,13 +1,13 @@
 -- The operations are at most as many as those that are complete, the actors and the rests; so the steps are few for those
 -- that are complete.
-use Rattle.std.proofs.Common.{◌≡◌, ℕ, zero, suc, ◌+◌, ◌-◌, ◌*◌, ◌≤◌, ◌<◌, List, [], ◌∷◌, ◌++◌, length, set, get_or, replicate, slice_get, Option, Some, None, IfSome, refl, sym, ap, ◌∙◌, subst, arith, length-append}
+use Rattle.std.proofs.Common.{◌≡◌, ℕ, ◌+◌, ◌-◌, ◌*◌, ◌≤◌, List, [], ◌∷◌, ◌++◌, length, set, get_or, slice_get, Option, Some, None, IfSome, refl, sym, ap, ◌∙◌, subst, arith, length-append}
 use Rattle.std.proofs.Math.Nat.{mul-le-mul_left}
 use Rattle.std.proofs.Math.ListN.{length-set, length-replicate}
 use Rattle.std.proofs.lemmas.List.Sums.{sum_by_push, sum_by-le}
-use Rattle.std.proofs.lemmas.Option.{slice_get_within, get_or_from_slice_get}
+use Rattle.std.proofs.lemmas.Option.{get_or_from_slice_get}
 use Rattle.std.specs.List.{sum_by}
 use Rattle.step_machine.specs.Below.{Line, Reply, Stamped, Setup, Actor, Outcome, Shared, performed, found, action, outcome, gives_up, begun}
-use Rattle.step_machine.specs.Machine.{World, idle, opening, actor_of, rested, with_actor, entry_or, with_operation, with_outcome, new_operation, after_outcome, AnyMove, made, Rest, run, IsSized}
+use Rattle.step_machine.specs.Machine.{World, idle, opening, actor_of, rested, with_actor, entry_or, with_operation, with_outcome, new_operation, after_outcome, AnyMove, made, Rest, run}
 use Rattle.step_machine.specs.Stamps.{makers}
 use Rattle.step_machine.proofs.Reached.{actor_stands, some_of, if_some}
 use Rattle.step_machine.proofs.LegalMoves.{begun_entry}
@@ -113,12 +113,12 @@ covered s n moves =
       );
       step = λ me a l is at. (
         subst (λ k. Covers k (after_outcome w me a (performed (action w.setup me a l) w.shared) (outcome w.setup (w.steps + 1) me a l (found (action w.setup me a l) w.shared)))) (sym (rests_more done (made _)))
-        (told (makers done) w (kept_after s n done w led) (rests done + 0) (omega (arith, h.0)) me a is l (performed (action w.setup me a l) w.shared) (outcome w.setup (w.steps + 1) me a l (found (action w.setup me a l) w.shared)) at (λ p q. turned (λ k. Unit {0}) w.setup (w.steps + 1) me a l (found (action w.setup me a l) w.shared) p tt (trivial p) q)),
+            (told (makers done) w (kept_after s n done w led) (rests done + 0) (omega (arith, h.0)) me a is l (performed (action w.setup me a l) w.shared) (outcome w.setup (w.steps + 1) me a l (found (action w.setup me a l) w.shared)) at (λ p q. turned (λ k. Unit {0}) w.setup (w.steps + 1) me a l (found (action w.setup me a l) w.shared) p tt (trivial p) q)),
         length-set w.actors (me - 1) _ ∙ h.1,
       );
       gave_up = λ me a l o is at given. (
         subst (λ k. Covers k (after_outcome w me a w.shared o)) (sym (rests_more done (made _)))
-        (told (makers done) w (kept_after s n done w led) (rests done + 0) (omega (arith, h.0)) me a is l w.shared o at (λ p q. some_of (Turns (λ k. Unit {0}) p) (gives_up (w.steps + 1) a l) o given (given_turned (λ k. Unit {0}) (w.steps + 1) a l p tt (trivial p) q))),
+            (told (makers done) w (kept_after s n done w led) (rests done + 0) (omega (arith, h.0)) me a is l w.shared o at (λ p q. some_of (Turns (λ k. Unit {0}) p) (gives_up (w.steps + 1) a l) o given (given_turned (λ k. Unit {0}) (w.steps + 1) a l p tt (trivial p) q))),
         length-set w.actors (me - 1) _ ∙ h.1,
       );
       at_rest = λ me a l is at may. (

@@ -1,17 +1,16 @@
 -- In the two-lock queue an actor that finds its lock free, or has it, ends its call alone; the holder of a lock does, and
 -- where no lock is held each actor that has a call.
-use Rattle.std.proofs.Common.{◌≡◌, ◌≢◌, ℕ, zero, suc, ◌+◌, ◌-◌, ◌*◌, ◌≤◌, Bool, true, false, nat_eq, nat_lt, replicate, [], ◌∷◌, length, Option, Some, None, IfSome, IsSomeAnd, refl, sym, ap, ◌∙◌, subst, arith, ◌⊎◌, inl, inr}
+use Rattle.std.proofs.Common.{◌≡◌, ◌≢◌, ℕ, zero, suc, ◌+◌, ◌≤◌, nat_eq, nat_lt, length, Option, Some, None, refl, sym, ap, ◌∙◌, subst, arith, ◌⊎◌, inl, inr}
 use Rattle.std.proofs.lemmas.Bool.{eq-eqb, true≢false}
 use Rattle.std.specs.Prelude.{IsSome, IsTrue}
-use Rattle.step_machine.specs.Below.{Ref, null, is_null, is_shut, same_ref, Kind, TwoLock, Line, N1, N2, N3, N4, N5, F1, F2, F3, A1, A2, A3, A4, A5, A6, A7, B1, B2, B3, B4, B5, B6, S6, S7, S8, S9, section_of, Reply, Done, Value, Empty, Refused, Setup, Actor, Outcome, Shared, performed, found, put, Free, action, outcome, raised, empties_hand, goes, sets_aside, freed, unlocked, left, left_with_node, with_node, dequeues}
+use Rattle.step_machine.specs.Below.{null, is_null, is_shut, same_ref, Kind, TwoLock, Line, N1, N2, N3, N4, N5, F1, F2, F3, A1, A2, A3, A4, A5, A6, A7, B1, B2, B3, B4, B5, B6, S6, S7, S8, S9, section_of, Reply, Done, Value, Empty, Refused, Actor, Outcome, Shared, performed, found, put, Free, action, outcome, raised, empties_hand, sets_aside, freed, unlocked, left, left_with_node, with_node, dequeues}
 use Rattle.step_machine.specs.declared.actors.Move.TheVariants.{Step}
-use Rattle.step_machine.specs.Machine.{World, actor_of, entry_or, stepped, steps, moved, made, next, run, run_on, IsReached}
-use Rattle.step_machine.specs.Calls.{IsIdle}
+use Rattle.step_machine.specs.Machine.{World, actor_of, entry_or, stepped, steps, moved, made, next, IsReached}
 use Rattle.step_machine.specs.Solo.{EndsWithin}
 use Rattle.step_machine.specs.ProgramCounters.{IsRunBy}
 use Rattle.step_machine.specs.TwoLock.{OfTwoLockWorlds}
 use Rattle.step_machine.specs.Locks.{has_tail_lock, has_head_lock}
-use Rattle.step_machine.proofs.Choices.{either, both, tried}
+use Rattle.step_machine.proofs.Choices.{both, tried}
 use Rattle.step_machine.proofs.Reached.{reached_next}
 use Rattle.step_machine.proofs.StampsLists.{same_or_not}
 use Rattle.step_machine.proofs.CompletionSteps.{actor_same}
@@ -19,7 +18,7 @@ use Rattle.step_machine.proofs.Assertions.{OwnsAt}
 use Rattle.step_machine.proofs.EitherQueue.{each_runs_its_queue}
 use Rattle.step_machine.proofs.TwoLockInvariant.{reached_invariant}
 use Rattle.step_machine.proofs.Locks.{locks_name_their_holders, locks_are_of_actors}
-use Rattle.progress.specs.Prices.{if_so, by_due}
+use Rattle.progress.specs.Prices.{if_so}
 use Rattle.progress.specs.Locked.{locked_at, unheld}
 use Rattle.progress.specs.Ends.{EndsItsCall, SomeEndsItsCall}
 use Rattle.progress.proofs.Others.{unless_most, due_most}

@@ -1,27 +1,27 @@
 -- By what is left of each call: an actor alone ends its call at any moment, and all calls end once no operation begins.
-use Rattle.std.proofs.Common.{◌≡◌, ℕ, zero, suc, ◌+◌, ◌-◌, ◌*◌, ◌≤◌, ◌<◌, Bool, true, false, nat_eq, if◌then◌else◌, List, [], ◌∷◌, length, replicate, get_or, slice_get, Option, Some, None, IfSome, IsSomeAnd, refl, sym, ap, ◌∙◌, subst, arith}
+use Rattle.std.proofs.Common.{◌≡◌, ℕ, zero, suc, ◌+◌, ◌-◌, ◌*◌, ◌≤◌, ◌<◌, Bool, nat_eq, if◌then◌else◌, length, replicate, get_or, slice_get, Option, Some, None, IfSome, IsSomeAnd, refl, sym, ap, ◌∙◌, subst, arith}
 use Rattle.std.proofs.lemmas.Bool.{ne_eqb}
 use Rattle.std.proofs.lemmas.List.Sums.{sum_by-le}
 use Rattle.std.proofs.lemmas.Option.{slice_get-get_or}
 use Rattle.std.specs.List.{sum_by}
-use Rattle.step_machine.specs.Below.{Kind, NonBlocking, Line, N1, N2, N3, N4, N5, F1, F2, F3, E2, E3, E5, E6, E7, E9, E13, E17, D2, D3, D4, D5, D10, D12, D13, S1, S2, S3, S4, S5, S6, S7, S8, S9, Op, Enq, Deq, Shut, Reply, Held, same_ref, Setup, Actor, Outcome, Shared, performed, found, action, outcome, begun, from_pocket, section_of}
+use Rattle.step_machine.specs.Below.{Kind, NonBlocking, Line, N2, N3, N4, N5, F1, F2, F3, E2, E6, E7, E9, E13, E17, D3, D4, D5, D10, D12, D13, S1, S2, S3, S4, S5, S6, S7, S8, S9, Op, Enq, Deq, Shut, Reply, Held, same_ref, Setup, Actor, Shared, performed, found, action, outcome, begun, from_pocket, section_of}
 use Rattle.step_machine.specs.declared.actors.Move.TheVariants.{Begin, Step}
 use Rattle.step_machine.specs.Machine.{World, actor_of, with_actor, entry_or, stepped, steps, moved, AnyMove, made, next, next_any, run, run_on, IsReached}
 use Rattle.step_machine.specs.Calls.{IsIdle}
 use Rattle.step_machine.specs.Solo.{EndsWithin, most_steps, EachEndsAlone}
 use Rattle.step_machine.specs.NonBlocking.{OfNonBlockingWorlds}
 use Rattle.step_machine.proofs.AnyMoves.{after_move}
-use Rattle.step_machine.proofs.Reached.{reached_in_range, some_of, reached_next, setup-next}
+use Rattle.step_machine.proofs.Reached.{some_of, reached_next, setup-next}
 use Rattle.step_machine.proofs.CompletionSteps.{actor_same}
 use Rattle.step_machine.proofs.EitherQueue.{fixed_at}
 use Rattle.step_machine.proofs.Fixed.{PocketAt}
-use Rattle.progress.specs.Prices.{Prices, turn_of, unless, if_so, by_due, of_pocket, all_steps, call_steps}
-use Rattle.progress.specs.Amounts.{misled, raced, next_rose, tail_lags, own, amount_at, in_hand, has}
+use Rattle.progress.specs.Prices.{Prices, if_so, by_due, of_pocket, all_steps, call_steps}
+use Rattle.progress.specs.Amounts.{next_rose, tail_lags, own, amount_at, in_hand, has}
 use Rattle.progress.specs.Pairs.{Stage, Resting, Taking, Linking, Popping, Freeing, FreeingFirst, pair, pairs, stage_of}
 use Rattle.progress.specs.Steps.{cost_of_pair, left}
 use Rattle.progress.specs.Ends.{EachEndsFromHere, AllEndTogether}
 use Rattle.progress.proofs.Others.{unless_most, if_so_most, raced_most, misled_most, for_tail}
-use Rattle.progress.proofs.Mover.{Lowers, step_lowers}
+use Rattle.progress.proofs.Mover.{step_lowers}
 use Rattle.progress.proofs.Sums.{pairs_most}
 use Rattle.progress.proofs.Steps.{entry_left, call_enough, each_few_later}
 

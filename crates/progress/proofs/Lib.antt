@@ -8,3 +8,4 @@ pub mod LockedMover
 pub mod LockedSteps
 pub mod Completing
 pub mod Deadlock
+pub mod Paid

@@ -1,7 +1,7 @@
 -- What each step of the two-lock queue does with what its actor has before it: it lowers it by 1 at least, unless it finds
 -- a lock held, and by what it costs each other actor.
-use Rattle.std.proofs.Common.{◌≡◌, ℕ, ◌+◌, ◌*◌, ◌≤◌, Bool, true, false, nat_eq, nat_lt, if◌then◌else◌, Option, Some, None, IfSome, refl, sym, ap, subst, arith}
-use Rattle.step_machine.specs.Below.{Ref, null, ref, shut_ref, is_null, is_shut, same_ref, Kind, TwoLock, Line, N1, N2, N3, N4, N5, F1, F2, F3, A1, A2, A3, A4, A5, A6, A7, B1, B2, B3, B4, B5, B6, S1, S6, S7, S8, S9, E5, D2, section_of, Reply, Done, Value, Empty, Refused, Setup, Actor, Outcome, Shared, put, performed, found, Fresh, Free, Tail, Head, Tail_lock, Head_lock, Next, action, outcome, raised, goes, ends, effect, sets_aside, fills_hand, empties_hand, with_node, dequeues, freed, unlocked, left, left_with_node, gives_up, busy_or, to_pocket}
+use Rattle.std.proofs.Common.{◌≡◌, ℕ, ◌+◌, ◌≤◌, nat_eq, nat_lt, Option, Some, None, IfSome, refl, sym, ap, subst, arith}
+use Rattle.step_machine.specs.Below.{Ref, null, ref, shut_ref, is_null, is_shut, same_ref, Kind, TwoLock, Line, N1, N2, N3, N4, N5, F1, F2, F3, A1, A2, A3, A4, A5, A6, A7, B1, B2, B3, B4, B5, B6, S1, S6, S7, S8, S9, E5, D2, section_of, Reply, Done, Value, Empty, Refused, Actor, Outcome, Shared, put, performed, found, Fresh, Free, Tail, Head, Tail_lock, Head_lock, Next, action, outcome, raised, goes, sets_aside, fills_hand, empties_hand, with_node, dequeues, freed, unlocked, left, left_with_node, gives_up, busy_or, to_pocket}
 use Rattle.step_machine.specs.Machine.{World, actor_of, IsReached}
 use Rattle.step_machine.specs.ProgramCounters.{IsRunBy}
 use Rattle.step_machine.proofs.Choices.{both, tried}

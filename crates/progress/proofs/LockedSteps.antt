@@ -1,11 +1,11 @@
 -- The two-lock queue's account: what each actor has before it pays for its steps that find no lock held.
-use Rattle.std.proofs.Common.{◌≡◌, ℕ, ◌+◌, ◌-◌, ◌*◌, ◌≤◌, List, length, Option, Some, None, IfSome, refl, sym, ap, ◌∙◌, subst, arith}
-use Rattle.step_machine.specs.Below.{TwoLock, Line, N1, F1, E2, D2, S1, A1, B1, S6, Reply, Actor, Outcome, Setup, Shared, performed, found, action, outcome, gives_up, begun}
-use Rattle.step_machine.specs.Machine.{World, opening, actor_of, rested, entry_or, AnyMove, run, IsSized, IsReached}
+use Rattle.std.proofs.Common.{◌≡◌, ℕ, ◌+◌, ◌-◌, ◌*◌, ◌≤◌, length, Option, Some, None, refl, sym, ap, ◌∙◌, subst, arith}
+use Rattle.step_machine.specs.Below.{TwoLock, Line, N1, F1, E2, D2, S1, A1, B1, S6, Reply, Actor, Outcome, Shared, performed, found, action, outcome, gives_up, begun}
+use Rattle.step_machine.specs.Machine.{World, opening, actor_of, rested, entry_or, run, IsReached}
 use Rattle.step_machine.proofs.Reached.{if_some, some_of}
 use Rattle.step_machine.proofs.LegalMoves.{begun_entry}
 use Rattle.progress.specs.Prices.{by_due}
-use Rattle.progress.specs.Locked.{locked_at, locked_has, charge_at, charge_of, unheld, unheld_at, unheld_of}
+use Rattle.progress.specs.Locked.{locked_at, locked_has, charge_at, charge_of, unheld_at, unheld_of}
 use Rattle.progress.specs.Moves.{steps_unheld, numbered_unheld}
 use Rattle.progress.specs.Steps.{FewFindNoLockHeld}
 use Rattle.progress.proofs.LockedMover.{LowersUnheld, step_lowers_unheld, give_lowers_unheld}

@@ -1,7 +1,7 @@
 -- What each step of the non-blocking queue does with what its actor has before it: it lowers it by what it counts.
-use Rattle.std.proofs.Common.{◌≡◌, ◌≢◌, ℕ, zero, suc, ◌+◌, ◌-◌, ◌*◌, ◌≤◌, ◌<◌, Bool, true, false, nat_eq, nat_lt, ◌&&◌, if◌then◌else◌, List, [], ◌∷◌, length, set, Option, Some, None, IfSome, refl, sym, ap, ◌∙◌, subst, arith, ◌⊎◌, inl, inr}
+use Rattle.std.proofs.Common.{◌≡◌, ◌≢◌, ℕ, zero, suc, ◌+◌, ◌-◌, ◌*◌, ◌≤◌, ◌<◌, Bool, true, false, nat_eq, nat_lt, ◌&&◌, if◌then◌else◌, [], ◌∷◌, length, set, Option, Some, None, IfSome, refl, sym, ap, ◌∙◌, subst, arith, ◌⊎◌, inl, inr}
 use Rattle.std.proofs.lemmas.Bool.{eq-eqb, ne_eqb, lt-ltb, le-ltb, true≢false}
-use Rattle.step_machine.specs.Below.{Ref, ref, reserved_node, is_null, is_shut, same_ref, Kind, NonBlocking, Line, N1, N2, N3, N4, N5, F1, F2, F3, E2, E3, E5, E6, E7, E9, E13, E17, D2, D3, D4, D5, D10, D12, D13, S1, S2, S3, S4, S5, A3, B1, S6, section_of, Reply, Done, Held, Setup, Node, Actor, Outcome, Shared, node_at, put, performed, found, Fresh, Free, Head, Tail, Next, action, outcome, raised, raised_end, goes, ends, effect, sets_aside, fills_hand, empties_hand, with_node, dequeues, freed, gives_up, busy_or, to_pocket}
+use Rattle.step_machine.specs.Below.{Ref, ref, reserved_node, is_null, is_shut, same_ref, Kind, NonBlocking, Line, N1, N2, N3, N4, N5, F1, F2, F3, E2, E3, E5, E6, E7, E9, E13, E17, D2, D3, D4, D5, D10, D12, D13, S1, S2, S3, S4, S5, A3, B1, S6, section_of, Reply, Done, Setup, Node, Actor, Outcome, Shared, node_at, put, performed, found, Fresh, Free, Tail, Next, action, outcome, raised, raised_end, goes, ends, effect, sets_aside, fills_hand, empties_hand, with_node, dequeues, freed, gives_up, busy_or, to_pocket}
 use Rattle.counted_ref.proofs.Words.{same_ref-true}
 use Rattle.step_machine.specs.Machine.{World, actor_of, IsReached}
 use Rattle.step_machine.specs.Places.{IsEnd, IsQueueChain, times}
@@ -170,13 +170,13 @@ module _ (p : Prices) (enough : IsEnough p) (w : World) (r : IsReached w) (e : w
   swung : (l : Line) → AtLine w me a l → (to : ℕ) → w.shared.tail ≡ a.tail → (next_of w.shared a.tail.node).node ≡ to → 1 ≤ to → to ≢ reserved_node w.setup.bits → a.tail.count ≢ w.setup.limit → (tail_lags w.setup w.shared ≡ true) × (tail_lags w.setup (put Tail (raised w.setup a.tail to) w.shared) ≡ false)
   swung l k to was leads some other room = (
     ap (λ b. if b then false else names (is_null (next_of w.shared w.shared.tail.node)) (is_shut w.setup.bits (next_of w.shared w.shared.tail.node)))
-    (ap (λ (x : Ref). nat_eq x.count w.setup.limit) was ∙ ne_eqb a.tail.count w.setup.limit room)
-    ∙ ap (λ x. names (nat_eq x 0) (nat_eq x (reserved_node w.setup.bits))) here
-    ∙ ap (λ b. names b (nat_eq to (reserved_node w.setup.bits))) (ne_eqb to 0 (λ z. omega arith))
-    ∙ ap (λ b. names false b) (ne_eqb to (reserved_node w.setup.bits) other),
+        (ap (λ (x : Ref). nat_eq x.count w.setup.limit) was ∙ ne_eqb a.tail.count w.setup.limit room)
+        ∙ ap (λ x. names (nat_eq x 0) (nat_eq x (reserved_node w.setup.bits))) here
+        ∙ ap (λ b. names b (nat_eq to (reserved_node w.setup.bits))) (ne_eqb to 0 (λ z. omega arith))
+        ∙ ap (λ b. names false b) (ne_eqb to (reserved_node w.setup.bits) other),
     unless_worn (nat_eq (raised w.setup a.tail to).count w.setup.limit)
-    (end_names w.setup.bits (next_of w.shared (raised w.setup a.tail to).node).node
-    (subst (λ x. IsEnd w.setup.bits (next_of w.shared x).node) (sym (raised_node w.setup a.tail to other room)) last)),
+        (end_names w.setup.bits (next_of w.shared (raised w.setup a.tail to).node).node
+        (subst (λ x. IsEnd w.setup.bits (next_of w.shared x).node) (sym (raised_node w.setup a.tail to other room)) last)),
   )
     where
       here : (next_of w.shared w.shared.tail.node).node ≡ to

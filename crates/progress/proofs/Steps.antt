@@ -1,12 +1,10 @@
 -- The non-blocking queue's account: what each actor has before it, and each two, pays for its steps.
-use Rattle.std.proofs.Common.{◌≡◌, ◌≢◌, ℕ, zero, suc, ◌+◌, ◌-◌, ◌*◌, ◌≤◌, Bool, true, false, nat_eq, if◌then◌else◌, slice_index_or, List, [], ◌∷◌, length, replicate, Option, Some, None, IfSome, refl, sym, ap, ◌∙◌, subst, arith, ◌⊎◌, inl, inr}
+use Rattle.std.proofs.Common.{◌≡◌, ◌≢◌, ℕ, zero, suc, ◌+◌, ◌-◌, ◌*◌, ◌≤◌, Bool, true, false, nat_eq, slice_index_or, List, length, replicate, Option, Some, None, IfSome, refl, sym, ap, ◌∙◌, subst, arith, ◌⊎◌, inl, inr}
 use Rattle.std.proofs.Math.ListN.{length-replicate}
 use Rattle.std.proofs.lemmas.Bool.{true≢false}
 use Rattle.std.proofs.lemmas.Option.{none-some}
-use Rattle.std.specs.List.{sum_by}
-use Rattle.step_machine.specs.Below.{Kind, TwoLock, NonBlocking, Line, N1, F1, E2, E17, D2, S1, A1, B1, S6, Op, Enq, Deq, Shut, Reply, Setup, Held, Actor, Outcome, Shared, blank, first_words, is_null, is_shut, performed, found, action, outcome, gives_up, begun, from_pocket, section_of}
-use Rattle.step_machine.specs.declared.actors.Move.TheVariants.{Begin, Step, Give}
-use Rattle.step_machine.specs.Machine.{World, idle, opening, actor_of, rested, with_actor, entry_or, after_outcome, stepped, may_rest, AnyMove, made, Rest, run, IsSized, IsReached}
+use Rattle.step_machine.specs.Below.{Kind, TwoLock, NonBlocking, Line, N1, F1, E2, D2, S1, A1, B1, S6, Op, Enq, Deq, Shut, Reply, Setup, Held, Actor, Outcome, Shared, blank, first_words, is_null, is_shut, gives_up, begun, from_pocket, section_of}
+use Rattle.step_machine.specs.Machine.{World, idle, opening, actor_of, rested, with_actor, entry_or, after_outcome, stepped, may_rest, AnyMove, run, IsSized, IsReached}
 use Rattle.step_machine.specs.ProgramCounters.{IsRunBy}
 use Rattle.step_machine.specs.NonBlocking.{OfNonBlockingWorlds}
 use Rattle.step_machine.proofs.Reached.{actor_stands, if_some, some_of, reached_in_range}
@@ -15,14 +13,14 @@ use Rattle.step_machine.proofs.LegalMoves.{begun_entry}
 use Rattle.step_machine.proofs.EitherQueue.{each_runs_its_queue}
 use Rattle.step_machine.proofs.StampsInvariants.{actor_cases}
 use Rattle.step_machine.proofs.StampsMoves.{idle_got}
-use Rattle.progress.specs.Prices.{Prices, turn_of, if_so, by_due, of_pocket, all_steps, call_steps}
+use Rattle.progress.specs.Prices.{Prices, if_so, by_due, of_pocket, all_steps, call_steps}
 use Rattle.progress.specs.Amounts.{names, tail_lags, own, amount_at, in_hand, has}
-use Rattle.progress.specs.Pairs.{Stage, Resting, Taking, Linking, Popping, Freeing, FreeingFirst, freeing, stage, stage_at, stage_of, pair, pairs, dues}
+use Rattle.progress.specs.Pairs.{Stage, Resting, Taking, Linking, Popping, Freeing, FreeingFirst, freeing, stage, stage_at, stage_of, pair, dues}
 use Rattle.progress.specs.Moves.{total, numbered}
-use Rattle.progress.specs.Steps.{linear, cost_of_pair, left, IsFew, IsFewLater}
-use Rattle.progress.proofs.Others.{if_so_most, if_so_less, due_most, for_tail}
+use Rattle.progress.specs.Steps.{cost_of_pair, IsFew, IsFewLater}
+use Rattle.progress.proofs.Others.{for_tail}
 use Rattle.progress.proofs.Mover.{unless_worn, IsEnough, Lowers, step_lowers, give_lowers, gone}
-use Rattle.progress.proofs.Accounts.{new_ones, told_actor, Pays, NoMore, Account, steps_numbered, as_many, Gains, run_gains, opening_gains}
+use Rattle.progress.proofs.Accounts.{new_ones, told_actor, Pays, Account, steps_numbered, as_many, Gains, run_gains, opening_gains}
 
 -- a call begins at one of these lines
 abbrev pub First : Option Reply → Line → Type 0

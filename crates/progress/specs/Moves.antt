@@ -1,5 +1,5 @@
 -- What the moves of a list count together.
-use Rattle.std.specs.Prelude.{ℕ, ◌+◌, nat_eq, List, [], ◌∷◌, Option, Some, None, if◌then◌else◌}
+use Rattle.std.specs.Prelude.{ℕ, ◌+◌, List, [], ◌∷◌, Option, Some, None}
 use Rattle.std.specs.List.{sum_by}
 use Rattle.step_machine.specs.Below.{Reply}
 use Rattle.step_machine.specs.declared.actors.Move.TheVariants.{Begin, Step, Give}

@@ -1,7 +1,7 @@
 -- What two actors of the non-blocking queue may yet cost each other, by what each of them is at.
 use Rattle.std.specs.Prelude.{ℕ, ◌+◌, ◌*◌, List, [], ◌∷◌, Option, Some, None}
 use Rattle.std.specs.List.{sum_by}
-use Rattle.step_machine.specs.Below.{Line, E17, Section, section_of, Reply, Actor}
+use Rattle.step_machine.specs.Below.{Line, E17, Section, section_of, Reply}
 use Rattle.line_table.specs.declared.lines.Section.TheVariants.{NewNode, Free, Enqueue, Dequeue, Shut}
 use Rattle.progress.specs.Prices.{Prices, turn_of}
 

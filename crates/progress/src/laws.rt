@@ -6,6 +6,8 @@ ghost use Rattle.step_machine.specs.Solo.{EachEndsAlone};
 ghost use Rattle.progress.specs.Steps.{IsFew, IsFewLater, FewFindNoLockHeld};
 ghost use Rattle.progress.specs.Steps.{KeepsCompleting, KeepsCompletingUnheld};
 ghost use Rattle.progress.specs.Ends.{EachEndsFromHere, AllEndTogether, SomeEndsItsCall};
+ghost use Rattle.progress.specs.Paid.{StepsArePaid, FailedTurnsArePaid};
+ghost use Rattle.progress.specs.Paid.{StepsOfACallArePaid, FailedTurnsOfACallArePaid};
 
 /// In the non-blocking queue the operations of a history took few steps together: with `P` actors at most `8 * P + 3`
 /// for each, whatever the schedule.
@@ -51,4 +53,28 @@ pub fn operations_keep_completing_unheld()
 /// The two-lock queue has no deadlock: where there is a call, some actor ends its own within 14 steps alone.
 pub fn some_actor_ends_its_call()
     ensures { OfTwoLockWorlds (SomeEndsItsCall 14) }
+{}
+
+/// In the non-blocking queue an actor takes at most 17 steps for each call that it begins, and 8 for each push or shut of
+/// another one, 6 for each pop, and 4 for each node that another one takes or gives back.
+pub fn an_actors_steps_are_paid()
+    ensures { StepsArePaid 17 }
+{}
+
+/// In the non-blocking queue an actor's turns that fail are at most one for each call that it begins, two for each push or
+/// shut of another one, and one for each pop and for each node that another one takes or gives back.
+pub fn an_actors_failed_turns_are_paid()
+    ensures { FailedTurnsArePaid 1 }
+{}
+
+/// In the non-blocking queue a call takes at most the steps of an actor alone (a push 15, a pop 17, a shut 8), and 8 for
+/// each push or shut of another actor meanwhile, 6 for each pop, and 4 for each node that another one takes or gives back.
+pub fn the_steps_of_a_call_are_paid()
+    ensures { OfNonBlockingWorlds StepsOfACallArePaid }
+{}
+
+/// In the non-blocking queue the turns of a call that fail are at most 1, and 2 for each push or shut of another actor
+/// meanwhile, and 1 for each pop and for each node that another one takes or gives back.
+pub fn the_failed_turns_of_a_call_are_paid()
+    ensures { OfNonBlockingWorlds (FailedTurnsOfACallArePaid 1) }
 {}
