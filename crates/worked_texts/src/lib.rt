@@ -1,6 +1,7 @@
 //! Schedules that were worked out by hand, each with the text of its history and what is written of that.
 #![tactic(auto)]
 
+mod contended;
 mod non_blocking;
 mod shuts;
 mod two_lock;
@@ -17,7 +18,7 @@ pub struct Run {
 }
 
 /// All runs; those of examples/ are among them.
-pub const RUNS: [Run; 24] = [
+pub const RUNS: [Run; 28] = [
     two_lock::FIRST_RUN,
     two_lock::LOCK_HELD,
     two_lock::STOPPED_HOLDER,
@@ -42,6 +43,10 @@ pub const RUNS: [Run; 24] = [
     shuts::SHUT,
     shuts::OVERTAKEN_PUSH,
     shuts::OVERTAKEN_SHUT,
+    contended::STARVED_PUSH,
+    contended::LOST_LINKS,
+    contended::LONGEST_END,
+    contended::LONGEST_END_UNHELD,
 ];
 
 /// The runs in which a queue is shut.
