@@ -49,47 +49,24 @@ value            2
 ",
 };
 
-/// Two actors lose their link to each push of a third one: 27 steps a push.
+/// Two actors lose their link to a push of a third one: 27 steps for one push.
 pub const LOST_LINKS: Run = Run {
     schedule: "msq schedule 1
 queue nonblocking
-nodes 8
+nodes 6
 limit 100
 actors 3
-events 42
-begin 3 enq 1
-steps 3 10
-begin 3 enq 2
-steps 3 10
+events 19
+begin 1 enq 1
+steps 1 8
+begin 2 enq 2
+steps 2 8
 begin 3 enq 3
 steps 3 10
+begin 3 deq
+steps 3 9
 begin 3 enq 4
 steps 3 10
-begin 3 deq
-steps 3 9
-begin 3 deq
-steps 3 9
-begin 3 deq
-steps 3 9
-begin 3 deq
-steps 3 9
-begin 1 enq 1
-steps 1 9
-begin 2 enq 2
-steps 2 9
-begin 3 enq 5
-steps 3 10
-step 1 E9
-steps 1 3
-step 2 E9
-steps 2 3
-step 1 E13
-steps 1 3
-step 2 E13
-steps 2 3
-step 3 E17
-begin 3 enq 6
-steps 3 10
 step 1 E9
 steps 1 3
 step 2 E9
@@ -100,34 +77,20 @@ step 2 E13
 steps 2 3
 step 3 E17
 ",
-    history: "history 12
-3 enq 1 first 1 last 10 at 9 reply done
-3 enq 2 first 11 last 20 at 19 reply done
-3 enq 3 first 21 last 30 at 29 reply done
-3 enq 4 first 31 last 40 at 39 reply done
-3 deq first 41 last 49 at 46 reply value 3 1
-3 deq first 50 last 58 at 55 reply value 3 2
-3 deq first 59 last 67 at 64 reply value 3 3
-3 deq first 68 last 76 at 73 reply value 3 4
-1 enq 1 first 77 last - at - reply -
-2 enq 2 first 86 last - at - reply -
-3 enq 5 first 95 last 121 at 104 reply done
-3 enq 6 first 122 last 148 at 131 reply done
+    history: "history 5
+1 enq 1 first 1 last - at - reply -
+2 enq 2 first 9 last - at - reply -
+3 enq 3 first 17 last 26 at 25 reply done
+3 deq first 27 last 35 at 32 reply value 3 3
+3 enq 4 first 36 last 62 at 45 reply done
 ",
     table: "yes
-         9      3 enq 1 -> done
-        19      3 enq 2 -> done
-        29      3 enq 3 -> done
-        39      3 enq 4 -> done
-        46      3 deq -> value 3 1
-        55      3 deq -> value 3 2
-        64      3 deq -> value 3 3
-        73      3 deq -> value 3 4
-       104      3 enq 5 -> done
-       131      3 enq 6 -> done
-done             6
-value            4
+        25      3 enq 3 -> done
+        32      3 deq -> value 3 3
+        45      3 enq 4 -> done
 unfinished       2
+done             2
+value            1
 ",
 };
 
