@@ -2,15 +2,49 @@
 -- a lock held, and by what it costs each other actor.
 use Rattle.std.proofs.Common.{◌≡◌, ℕ, ◌+◌, ◌≤◌, nat_eq, nat_lt, Option, Some, None, IfSome, refl, sym, ap, subst, arith}
 use Rattle.step_machine.specs.Below.{Ref, null, ref, shut_ref, is_null, is_shut, same_ref, Kind, TwoLock, Line, N1, N2, N3, N4, N5, F1, F2, F3, A1, A2, A3, A4, A5, A6, A7, B1, B2, B3, B4, B5, B6, S1, S6, S7, S8, S9, E5, D2, section_of, Reply, Done, Value, Empty, Refused, Actor, Outcome, Shared, put, performed, found, Fresh, Free, Tail, Head, Tail_lock, Head_lock, Next, action, outcome, raised, goes, sets_aside, fills_hand, empties_hand, with_node, dequeues, freed, unlocked, left, left_with_node, gives_up, busy_or, to_pocket}
+use Rattle.line_table.specs.declared.lines.Section.{Section}
+use Rattle.line_table.specs.declared.lines.Section.TheVariants.{NewNode, Free as FreeLines, LockedDequeue}
 use Rattle.step_machine.specs.Machine.{World, actor_of, IsReached}
 use Rattle.step_machine.specs.ProgramCounters.{IsRunBy}
 use Rattle.step_machine.proofs.Choices.{both, tried}
 use Rattle.step_machine.proofs.EitherQueue.{each_runs_its_queue, fixed_at}
 use Rattle.step_machine.proofs.Fixed.{FixedAt, DecidedUnlocking}
 use Rattle.progress.specs.Prices.{unless, if_so, by_due, call_steps}
-use Rattle.progress.specs.Locked.{locked_own, locked_at, charge_at, unheld}
+use Rattle.progress.specs.Amounts.{rank, lost_at_free}
+use Rattle.progress.specs.Locked.{unheld}
 use Rattle.progress.proofs.Others.{at_free, at_fresh}
 use Rattle.progress.proofs.Mover.{found_same, found_fresh}
+
+-- what an actor has before it to the end of its call, if no other one wins an exchange
+abbrev pub locked_own : Shared → Actor → Line → ℕ
+locked_own m a l = rank a.due l 1 + lost_at_free call_steps m a l
+
+-- the same of an actor without a call
+abbrev pub locked_at : Shared → Actor → Option Line → ℕ
+locked_at m a None = 0
+locked_at m a (Some l) = locked_own m a l
+
+-- what an actor has before it in a call that has a number
+abbrev pub locked_has : Shared → Actor → (entry : Option ℕ) → ℕ
+locked_has m a None = 0
+locked_has m a (Some entry) = locked_at m a a.line
+
+-- what the nodes that an actor has yet to take and to give back cost each other one, by the section of its line
+abbrev pub charge_in : Option Reply → Section → ℕ
+charge_in due NewNode = 4
+charge_in due LockedDequeue = 4
+charge_in due FreeLines = by_due due 8 4
+charge_in due _ = 0
+
+-- the same by its line
+abbrev pub charge_at : Option Reply → Option Line → ℕ
+charge_at due None = 0
+charge_at due (Some l) = charge_in due (section_of l)
+
+-- the same of a call, which counts from its first number on
+abbrev pub charge_of : Option Reply → Option Line → (entry : Option ℕ) → ℕ
+charge_of due l None = 0
+charge_of due l (Some entry) = charge_at due l
 
 -- Free and Fresh stay
 words_cost : (m m' : Shared) → m'.fresh ≡ m.fresh → m'.free ≡ m.free → (c : Actor) (j : Line) → locked_own m' c j ≤ locked_own m c j + 0

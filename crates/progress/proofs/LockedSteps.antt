@@ -5,10 +5,10 @@ use Rattle.step_machine.specs.Machine.{World, opening, actor_of, rested, entry_o
 use Rattle.step_machine.proofs.Reached.{if_some, some_of}
 use Rattle.step_machine.proofs.LegalMoves.{begun_entry}
 use Rattle.progress.specs.Prices.{by_due}
-use Rattle.progress.specs.Locked.{locked_at, locked_has, charge_at, charge_of, unheld_at, unheld_of}
+use Rattle.progress.specs.Locked.{unheld_at, unheld_of}
 use Rattle.progress.specs.Moves.{steps_unheld, numbered_unheld}
 use Rattle.progress.specs.Steps.{FewFindNoLockHeld}
-use Rattle.progress.proofs.LockedMover.{LowersUnheld, step_lowers_unheld, give_lowers_unheld}
+use Rattle.progress.proofs.LockedMover.{locked_at, locked_has, charge_at, charge_of, LowersUnheld, step_lowers_unheld, give_lowers_unheld}
 use Rattle.progress.proofs.Accounts.{new_ones, told_actor, Pays, Account, opening_gains}
 use Rattle.progress.proofs.Steps.{First, FirstAt, each_begins}
 

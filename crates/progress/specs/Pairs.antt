@@ -44,8 +44,7 @@ abbrev pub stage_of : Option Reply → Option Line → (entry : Option ℕ) → 
 stage_of due l None = Resting
 stage_of due l (Some entry) = stage_at due l
 
--- what two actors may yet cost each other in steps, by their stages, the first one named being the first in the list of
--- stages
+-- what two actors may yet cost each other in steps, by their stages, whichever is named first
 abbrev pub pair : Stage → Stage → ℕ
 pair Resting Resting = 0
 pair Resting Taking = 8
