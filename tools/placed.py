@@ -75,11 +75,6 @@ def is_spread(given, new):
     return same[0] == same[1] and ended[0] == ended[1]
 
 
-def has_little_room(operations):
-    stamps = [stamp for it in operations for stamp in (it.first, it.last) if stamp is not None]
-    return (max(stamps) - min(stamps) + 2) * (len(operations) + 1) >= 2**64
-
-
 def is_due(given, status, wrote, new):
     """Whether this may be written of these operations; new: those written, where they are a history that is judged yes."""
     for number, it in enumerate(given, 1):
@@ -95,6 +90,4 @@ def is_due(given, status, wrote, new):
         case 4, "open Steps\n" | "open Searched\n":
             is_searched = len(set(pushes)) < len(pushes) or any(it.call == "shut" or it.reply == "refused 16" for it in given)
             return is_searched and (order is not True or "Steps" in wrote)
-        case 4, "open Room\n":
-            return order is not False and has_little_room(given)
     return False

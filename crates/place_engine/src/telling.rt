@@ -160,6 +160,5 @@ fn name_of(cause: Unknown) -> &'static [u8]
     match cause {
         Unknown::Steps => b"Steps",
         Unknown::Searched => b"Searched",
-        Unknown::Room => b"Room",
     }
 }

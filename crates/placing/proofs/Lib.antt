@@ -5,5 +5,4 @@ mod Staying
 mod Keeping
 pub mod Excluding
 pub mod Spreads
-mod Blocks
 mod Pushed

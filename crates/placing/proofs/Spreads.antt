@@ -1,5 +1,5 @@
 -- A history with spread stamps and points that is judged Yes shows the one that it was made of to be one of a queue.
-use Rattle.std.proofs.Common.{◌≡◌, inl, inr, ℕ, zero, suc, ◌+◌, ◌*◌, ◌≤◌, ◌<◌, Bool, true, false, nat_le, Option, None, Some, IfSome, IsSome, List, [], ◌∷◌, ◌++◌, length, slice_set, slice_index_or, refl, sym, ap, ◌∙◌, subst, arith}
+use Rattle.std.proofs.Common.{◌≡◌, inl, inr, ℕ, zero, suc, ◌+◌, ◌-◌, ◌*◌, ◌≤◌, ◌<◌, Bool, true, false, nat_le, Option, None, Some, IfSome, IsSome, List, [], ◌∷◌, ◌++◌, length, slice_get, get_or, slice_set, slice_index_or, refl, sym, ap, ◌∙◌, subst, arith}
 use Rattle.std.proofs.Math.Nat.{mul-le-mul_right}
 use Rattle.std.specs.List.{AllByRecursion, AllZip, swap}
 use Rattle.std.specs.List.Sorted.{IsPermutation}
@@ -16,7 +16,9 @@ use Rattle.history.specs.Linearizability.{Answered, operations_of, IsPending, Gi
 use Rattle.history.proofs.Judging.{yes_is_right}
 use Rattle.history.proofs.Linearizing.{placed_linearizes}
 use Rattle.placing.specs.Calls.{IsCall, IsOfQueue}
-use Rattle.placing.specs.Spreading.{IsFirstOf, IsLastOf, EndsAtLastOf, IsSpreadFrom, IsSpread}
+use Rattle.std.specs.List.Sorted.{IsStrictlyIncreasing}
+use Rattle.std.proofs.lemmas.Option.{slice_get_within, get_or_from_slice_get}
+use Rattle.placing.specs.Spreading.{EndsSo, IsStampedSo, IsKept, IsFirstOf, IsLastOf, IsSpread}
 
 -- ---- lists that are related item by item
 
@@ -59,27 +61,56 @@ zip_parts R (u ∷ us) (x ∷ xs) ys h =
     let more = zip_parts R us xs ys h.1 in
     (u ∷ more.0, more.1, ap (λ r. u ∷ r) more.2, (h.0, more.3), more.4)
 
+-- ---- numbers that rise
+
+-- numbers that rise at each step rise over any number of them
+rises_over : (numbers : List ℕ) → IsStrictlyIncreasing numbers → (i more : ℕ) → i + more < length numbers → get_or numbers i 0 ≤ get_or numbers (i + more) 0
+rises_over numbers r i zero h = subst (λ j. get_or numbers i 0 ≤ get_or numbers j 0) (let e : i ≡ i + 0 = omega arith in e) (omega arith)
+rises_over numbers r i (suc more) h =
+    let k : get_or numbers i 0 ≤ get_or numbers (i + more) 0 = rises_over numbers r i more (omega arith) in
+    let e : i + more + 1 ≡ i + suc more = omega arith in
+    let j : get_or numbers (i + more) 0 < get_or numbers (i + more + 1) 0 = r (i + more) (omega arith) in
+    subst (λ n. get_or numbers i 0 ≤ get_or numbers n 0) e (omega arith)
+
+rises_to : (numbers : List ℕ) → IsStrictlyIncreasing numbers → (i j : ℕ) → i ≤ j → j < length numbers → get_or numbers i 0 ≤ get_or numbers j 0
+rises_to numbers r i j h k =
+    let e : i + (j - i) ≡ j = omega arith in
+    subst (λ n. get_or numbers i 0 ≤ get_or numbers n 0) e (rises_over numbers r i (j - i) (omega arith))
+
 -- ---- times
 
--- what may be placed by spread stamps may by those that they were made of
-not_after_last : (base width first number n m : ℕ) → IsFirstOf base width first n → IsLastOf base width number m → n ≤ m → first ≤ number
-not_after_last base width first number n m a b h = go (nat_le first number) refl
+-- what may be placed by stamps may by those that they were made of
+abbrev Keeps : (First Last : ℕ → ℕ → Type 0) → Type 0
+Keeps First Last = (first number n m : ℕ) → First first n → Last number m → n ≤ m → first ≤ number
+
+kept : Keeps IsKept IsKept
+kept first number n m a b h = omega (arith, a, b, h)
+
+spread_keeps : (numbers : List ℕ) (width : ℕ) → IsStrictlyIncreasing numbers → Keeps (IsFirstOf numbers width) (IsLastOf numbers width)
+spread_keeps numbers width r first number n m a b h = go (nat_le a.rank b.rank) refl
   where
-    go : (w : Bool) → nat_le first number ≡ w → first ≤ number
-    go true e = leb-true _ _ e
+    go : (w : Bool) → nat_le a.rank b.rank ≡ w → first ≤ number
+    go true e =
+        let le : a.rank ≤ b.rank = leb-true _ _ e in
+        let k = rises_to numbers r a.rank b.rank le (slice_get_within numbers b.rank number b.there) in
+        let x : get_or numbers a.rank 0 ≡ first = get_or_from_slice_get numbers a.rank first 0 a.there in
+        let y : get_or numbers b.rank 0 ≡ number = get_or_from_slice_get numbers b.rank number 0 b.there in
+        omega (arith, k, x, y)
     go false e =
-        let less : number < first = leb-false _ _ e in
-        let most : (number + 1) * width ≤ first * width = mul-le-mul_right {m = number + 1} {n = first} width (omega arith) in
-        absurd (omega (arith, most, a, b, h))
+        let less : b.rank < a.rank = leb-false _ _ e in
+        let most : (b.rank + 1) * width ≤ a.rank * width = mul-le-mul_right {m = b.rank + 1} {n = a.rank} width (omega arith) in
+        let f = a.is in
+        let l = b.is in
+        absurd (omega (arith, most, f, l, h))
 
-ends_after : (base width first n : ℕ) (last spread : Option ℕ) → IsFirstOf base width first n → EndsAtLastOf base width last spread → IfSome spread (λ m. n ≤ m) → IfSome last (λ last. first ≤ last)
-ends_after base width first n None spread a b h = tt
-ends_after base width first n (Some last) None a b h = absurd b
-ends_after base width first n (Some last) (Some m) a b h = not_after_last base width first last n m a b h
-
-module _ (base width : ℕ) where
+module _ (First Last : ℕ → ℕ → Type 0) (keeps : Keeps First Last) where
   abbrev Spread : Stamped → Stamped → Type 0
-  Spread = IsSpreadFrom base width
+  Spread = IsStampedSo First Last
+
+  ends_after : (first n : ℕ) (last spread : Option ℕ) → First first n → EndsSo Last last spread → IfSome spread (λ m. n ≤ m) → IfSome last (λ last. first ≤ last)
+  ends_after first n None spread a b h = tt
+  ends_after first n (Some last) None a b h = absurd b
+  ends_after first n (Some last) (Some m) a b h = keeps first last n m a b h
 
   -- ---- an order
 
@@ -104,7 +135,7 @@ module _ (base width : ℕ) where
   still_before o p s [] ps h b = tt
   still_before o p s (q ∷ qs) [] h b = absurd h
   still_before o p s (q ∷ qs) (r ∷ rs) h b =
-      (ends_after base width o.first p.first q.last r.last s.first h.0.last b.0, still_before o p s qs rs h.1 b.1)
+      (ends_after o.first p.first q.last r.last s.first h.0.last b.0, still_before o p s qs rs h.1 b.1)
 
   still_timely : (os ps : List Stamped) → AllZip Spread os ps → KeepsTime ps → KeepsTime os
   still_timely [] ps h k = tt
@@ -128,7 +159,7 @@ module _ (base width : ℕ) where
       let on = still_gets queue o a.operation a.reply h.0 r.0 in
       (on.0, subst (λ x. IsRun x.after (given_in os rest)) on.1 (still_runs (answer queue a.operation (Some a.reply)).after os rest h.1 r.1))
 
-  not_ended : (last spread : Option ℕ) → EndsAtLastOf base width last spread → spread ≡ None → last ≡ None
+  not_ended : (last spread : Option ℕ) → EndsSo Last last spread → spread ≡ None → last ≡ None
   not_ended None spread h e = refl
   not_ended (Some last) None h e = absurd h
   not_ended (Some last) (Some n) h e = cc e
@@ -158,7 +189,7 @@ module _ (base width : ℕ) where
 
   -- ---- calls
 
-  ends_as : (last spread : Option ℕ) → EndsAtLastOf base width last spread → (IsSome last → IsSome spread) × (IsSome spread → IsSome last)
+  ends_as : (last spread : Option ℕ) → EndsSo Last last spread → (IsSome last → IsSome spread) × (IsSome spread → IsSome last)
   ends_as None None h = (λ e. e, λ e. e)
   ends_as None (Some n) h = absurd h
   ends_as (Some last) None h = absurd h
@@ -174,7 +205,7 @@ module _ (base width : ℕ) where
       let ends = ends_as o.last p.last s.last in
       record {
         ended = (λ e. subst IsSome s.reply (h.ended.0 (ends.0 e)), λ e. ends.1 (h.ended.1 (subst IsSome (sym s.reply) e)));
-        spans = ends_after base width o.first p.first o.last p.last s.first s.last (spans p.first p.last p.at p.reply h);
+        spans = ends_after o.first p.first o.last p.last s.first s.last (spans p.first p.last p.at p.reply h);
       }
 
   all_calls : (os ps : List Stamped) → AllZip Spread os ps → AllByRecursion IsPlaced ps → AllByRecursion IsCall os
@@ -182,11 +213,16 @@ module _ (base width : ℕ) where
   all_calls (o ∷ os) [] h p = absurd h
   all_calls (o ∷ os) (q ∷ qs) h p = (is_call o q h.0 p.0, all_calls os qs h.1 p.1)
 
--- what is judged Yes with spread stamps is one of a queue without
-pub placed_is : (ops new : List Stamped) → IsSpread ops new → verdict new ≡ Yes → IsOfQueue ops
-placed_is ops new s judged =
+stamped_is : (First Last : ℕ → ℕ → Type 0) → Keeps First Last → (ops new : List Stamped) → AllZip (IsStampedSo First Last) ops new → verdict new ≡ Yes → IsOfQueue ops
+stamped_is First Last keeps ops new each judged =
     let h = yes_is_right new judged in
     record {
-      calls = All-from_recursion IsCall ops (all_calls s.base s.width ops new s.each h.0.each);
-      linearizable = linearizable_before s.base s.width ops new s.each (placed_linearizes new h.0 h.1);
+      calls = All-from_recursion IsCall ops (all_calls First Last keeps ops new each h.0.each);
+      linearizable = linearizable_before First Last keeps ops new each (placed_linearizes new h.0 h.1);
     }
+
+-- what is judged Yes with points, and with stamps as they were or spread, is one of a queue without
+pub placed_is : (ops new : List Stamped) → IsSpread ops new → verdict new ≡ Yes → IsOfQueue ops
+placed_is ops new (inl kept_stamps) judged = stamped_is IsKept IsKept kept ops new kept_stamps judged
+placed_is ops new (inr s) judged =
+    stamped_is (IsFirstOf s.numbers s.width) (IsLastOf s.numbers s.width) (spread_keeps s.numbers s.width s.rises) ops new s.each judged

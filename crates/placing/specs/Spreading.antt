@@ -1,33 +1,55 @@
--- A history with other stamps and points: each number becomes as many numbers in a row.
-use Rattle.std.specs.Prelude.{◌≡◌, ℕ, ◌+◌, ◌*◌, List, Option, None, Some}
+-- A history with points: with the stamps that it had, or with others, each number as many numbers in a row.
+use Rattle.std.specs.Prelude.{◌≡◌, ◌⊎◌, ℕ, ◌+◌, ◌*◌, List, Option, None, Some, slice_get}
 use Rattle.std.specs.List.{AllZip}
+use Rattle.std.specs.List.Sorted.{IsStrictlyIncreasing}
 use Rattle.history.specs.declared.operations.Stamped.{Stamped}
 
--- Of the `width` numbers that a number becomes, where those of `base` begin at 1, this is the first.
-abbrev pub IsFirstOf : (base width number first : ℕ) → Type 0
-IsFirstOf base width number first = first + base * width ≡ number * width + 1
+-- the first numbers of two operations are so related, or the last ones of two that ended
+abbrev pub EndsSo : (number_and_stamp : ℕ → ℕ → Type 0) → Option ℕ → Option ℕ → Type 0
+EndsSo Last None None = Unit {0}
+EndsSo Last None (Some stamp) = ⊥
+EndsSo Last (Some number) None = ⊥
+EndsSo Last (Some number) (Some stamp) = Last number stamp
 
--- of the `width` numbers that a number becomes, this is the last
-abbrev pub IsLastOf : (base width number last : ℕ) → Type 0
-IsLastOf base width number last = last + base * width ≡ (number + 1) * width
-
--- an operation that ended ends at the last number of those that its last step becomes
-abbrev pub EndsAtLastOf : (base width : ℕ) → Option ℕ → Option ℕ → Type 0
-EndsAtLastOf base width None None = Unit {0}
-EndsAtLastOf base width None (Some last) = ⊥
-EndsAtLastOf base width (Some number) None = ⊥
-EndsAtLastOf base width (Some number) (Some last) = IsLastOf base width number last
-
--- two operations are the same but for their points, and the stamps of the second are spread
-pub record IsSpreadFrom (base width : ℕ) (o p : Stamped) : Type 0 where
+-- two operations are the same but for their points, and for stamps that are so related
+pub record IsStampedSo (First Last : (number stamp : ℕ) → Type 0) (o p : Stamped) : Type 0 where
   pub actor : p.actor ≡ o.actor
   pub op : p.op ≡ o.op
   pub reply : p.reply ≡ o.reply
-  pub first : IsFirstOf base width o.first p.first
-  pub last : EndsAtLastOf base width o.last p.last
+  pub first : First o.first p.first
+  pub last : EndsSo Last o.last p.last
 
--- A history is another one with points, the stamps of all spread alike. Where base and width are 1 they are as they were.
-pub record IsSpread (old new : List Stamped) : Type 0 where
-  pub base : ℕ
+-- a stamp is the number that it was
+abbrev pub IsKept : (number stamp : ℕ) → Type 0
+IsKept number stamp = stamp ≡ number
+
+-- two operations are the same but for their points
+abbrev pub IsPointed : Stamped → Stamped → Type 0
+IsPointed = IsStampedSo IsKept IsKept
+
+-- of the `width` numbers that one of these becomes, from 1 on in their order, this is the first
+pub record IsFirstOf (numbers : List ℕ) (width number stamp : ℕ) : Type 0 where
+  pub rank : ℕ
+  pub there : slice_get numbers rank ≡ Some number
+  pub is : stamp ≡ rank * width + 1
+
+-- of the `width` numbers that one of these becomes, from 1 on in their order, this is the last
+pub record IsLastOf (numbers : List ℕ) (width number stamp : ℕ) : Type 0 where
+  pub rank : ℕ
+  pub there : slice_get numbers rank ≡ Some number
+  pub is : stamp ≡ rank * width + width
+
+-- two operations are the same but for their points, and the stamps of the second are spread
+abbrev pub IsSpreadFrom : (numbers : List ℕ) → (width : ℕ) → Stamped → Stamped → Type 0
+IsSpreadFrom numbers width = IsStampedSo (IsFirstOf numbers width) (IsLastOf numbers width)
+
+-- the stamps of all operations are spread alike
+pub record IsSpreadOut (old new : List Stamped) : Type 0 where
+  pub numbers : List ℕ
   pub width : ℕ
-  pub each : AllZip (IsSpreadFrom base width) old new
+  pub rises : IsStrictlyIncreasing numbers
+  pub each : AllZip (IsSpreadFrom numbers width) old new
+
+-- a history is another one with points, its stamps as they were or spread
+abbrev pub IsSpread : (old new : List Stamped) → Type 0
+IsSpread old new = AllZip IsPointed old new ⊎ IsSpreadOut old new

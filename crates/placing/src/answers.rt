@@ -46,15 +46,13 @@ pub enum Unknown {
     Steps,
     /// The search tried all orders in vain. That is no reason that could be tested.
     Searched,
-    /// There is an order, and the numbers below 2^64 have no room for its points.
-    Room,
 }
 
 /// What is found of a recorded history.
 #[derive(Debug, Drop)]
 pub enum Placed {
     /// It is one of a queue, and this is it with linearization points, and with other stamps where those given left no
-    /// room for the points.
+    /// room for points in the order found.
     History(Vec<Stamped>),
     /// It isn't one of a queue.
     Impossible(Reason),

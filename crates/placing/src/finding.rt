@@ -1,5 +1,7 @@
 //! Linearization points for a recorded history, or a reason why there are none.
-ghost use Rattle.std.specs.Prelude.{◌≡◌, IfOk, IfErr, IfSome};
+ghost use Rattle.std.specs.Prelude.{◌≡◌, ◌↔◌, IsTrue, IfOk, IfErr, IfSome};
+ghost use Rattle.history.specs.declared.operations.Verdict.TheVariants.{Yes};
+ghost use Rattle.history.specs.History.{verdict};
 ghost use Rattle.placing.specs.declared.answers.Placed.TheVariants.{History};
 ghost use Rattle.placing.specs.Spreading.{IsSpread};
 ghost use Rattle.placing.specs.Answers.{IsAnswer};
@@ -16,7 +18,7 @@ use crate::reasons::is_reason;
 use crate::searching::{Outcome, searched};
 use crate::shutting::{is_run, is_shut, unshut};
 use crate::sorting::{ByKind, first_fault, sorted};
-use crate::spreading::Spread;
+use crate::spreading::{Spread, pointed};
 use history::{Refusal, Stamped, Verdict, check};
 use std::alloc::{AllocError, Global};
 
@@ -32,9 +34,8 @@ enum Found {
 /// Whether a recorded history is one of a queue. Its points are not read.
 ///
 /// The answer is a history with points that `check` judges Yes, or a reason that was tested, or neither. Where each value
-/// is pushed once and nothing shuts the queue, one of the first two is found, unless no numbers below 2^64 have room for
-/// the points; that is tested, and not proved. For other histories an order is guessed at, and then searched for within
-/// so many steps. The call takes memory for the operations, and time `n * log n` for `n` of them; a search takes both
+/// is pushed once and nothing shuts the queue, one of the first two is found; that is tested, and not proved. For other
+/// histories an order is guessed at, and then searched for within so many steps. The call takes memory for the operations, and time `n * log n` for `n` of them; a search takes both
 /// for each of its steps, and those of one that ends are at most exponential. It doesn't wait. It is refused by `Memory`
 /// alone.
 pub fn place(alloc: Global, history: &[Stamped], steps: u64) -> Result<Placed, Refusal>
@@ -44,8 +45,11 @@ pub fn place(alloc: Global, history: &[Stamped], steps: u64) -> Result<Placed, R
     ensures only_memory { IfErr result (λ refusal. refusal ≡ Refusal.Memory) }
 {
     match find(alloc, history) {
-        Ok(Found::Order(order)) => placed(alloc, history, &order),
-        Ok(Found::Reason(reason)) => excluded(alloc, history, reason),
+        Ok(Found::Order(order)) => match placed(alloc, history, &order)? {
+            Some(new) => Ok(Placed::History(new)),
+            None => sought(alloc, history, steps),
+        },
+        Ok(Found::Reason(reason)) => excluded(alloc, history, reason, steps),
         Ok(Found::Nothing) => sought(alloc, history, steps),
         Err(_) => Err(Refusal::Memory),
     }
@@ -57,7 +61,10 @@ fn sought(alloc: Global, history: &[Stamped], steps: u64) -> Result<Placed, Refu
     ensures only_memory { IfErr result (λ refusal. refusal ≡ Refusal.Memory) }
 {
     match searched(alloc, history, steps) {
-        Ok(Outcome::Order(order)) => placed(alloc, history, &order),
+        Ok(Outcome::Order(order)) => match placed(alloc, history, &order)? {
+            Some(new) => Ok(Placed::History(new)),
+            None => Ok(Placed::Open(Unknown::Searched)),
+        },
         Ok(Outcome::Nothing) => Ok(Placed::Open(Unknown::Searched)),
         Ok(Outcome::Steps) => Ok(Placed::Open(Unknown::Steps)),
         Err(_) => Err(Refusal::Memory),
@@ -65,98 +72,82 @@ fn sought(alloc: Global, history: &[Stamped], steps: u64) -> Result<Placed, Refu
 }
 
 // The reason, where it is tested to be one.
-fn excluded(alloc: Global, history: &[Stamped], reason: Reason) -> Result<Placed, Refusal>
+fn excluded(
+    alloc: Global,
+    history: &[Stamped],
+    reason: Reason,
+    steps: u64,
+) -> Result<Placed, Refusal>
     ensures answer { IfOk result (IsAnswer history.now) }
     ensures only_memory { IfErr result (λ refusal. refusal ≡ Refusal.Memory) }
 {
     match Known::of(alloc, history) {
         Ok(known) if is_reason(history, &known, &reason) => Ok(Placed::Impossible(reason)),
-        Ok(_) => Ok(Placed::Open(Unknown::Searched)),
+        Ok(_) => sought(alloc, history, steps),
         Err(_) => Err(Refusal::Memory),
     }
 }
 
-// Which stamps a history with points has.
-#[derive(Clone, Copy, Debug)]
-enum Stamps {
-    Given,
-    Spread,
-}
-
-// A history with points by an order, where there is room, with the stamps given or with others.
-fn placed(alloc: Global, history: &[Stamped], order: &[usize]) -> Result<Placed, Refusal>
-    ensures answer { IfOk result (IsAnswer history.now) }
-    ensures only_memory { IfErr result (λ refusal. refusal ≡ Refusal.Memory) }
-{
-    if let Some(new) = judged(alloc, history, order, Stamps::Given)? {
-        return Ok(Placed::History(new));
-    }
-    match judged(alloc, history, order, Stamps::Spread)? {
-        Some(new) => Ok(Placed::History(new)),
-        None => Ok(Placed::Open(Unknown::Room)),
-    }
-}
-
-// The history with points by an order and with such stamps, where `check` judges it Yes.
-fn judged(
+// A history with points by an order: with the stamps given, where these have room for it, and else with spread ones. None
+// where the order is none.
+fn placed(
     alloc: Global,
     history: &[Stamped],
     order: &[usize],
-    stamps: Stamps,
 ) -> Result<Option<Vec<Stamped>>, Refusal>
     ensures new { IfOk result (λ new. IfSome new (λ new. IsAnswer history.now (History new))) }
     ensures only_memory { IfErr result (λ refusal. refusal ≡ Refusal.Memory) }
 {
-    match with_points(alloc, history, order, stamps) {
-        Ok(Some(new)) => match check(alloc, &new)? {
-            Verdict::Yes => Ok(Some(new)),
-            Verdict::No { .. } => Ok(None),
-        },
-        Ok(None) => Ok(None),
+    match within_stamps(alloc, history, order) {
+        Ok(Some(new)) if is_right(alloc, &new)? => return Ok(Some(new)),
+        Ok(_) => {}
+        Err(_) => return Err(Refusal::Memory),
+    }
+    match spread_out(alloc, history, order) {
+        Ok(Some(new)) if is_right(alloc, &new)? => Ok(Some(new)),
+        Ok(_) => Ok(None),
         Err(_) => Err(Refusal::Memory),
     }
 }
 
-fn with_points(
+// Whether `check` judges a history Yes.
+fn is_right(alloc: Global, history: &[Stamped]) -> Result<bool, Refusal>
+    ensures yes { IfOk result (λ is_right. IsTrue is_right ↔ (verdict history.now ≡ Yes)) }
+    ensures only_memory { IfErr result (λ refusal. refusal ≡ Refusal.Memory) }
+{
+    match check(alloc, history)? {
+        Verdict::Yes => Ok(true),
+        Verdict::No { .. } => Ok(false),
+    }
+}
+
+// The history with points within the stamps given.
+fn within_stamps(
     alloc: Global,
     history: &[Stamped],
     order: &[usize],
-    stamps: Stamps,
 ) -> Result<Option<Vec<Stamped>>, AllocError>
     ensures { IfOk result (λ new. IfSome new (λ new. IsSpread history.now new.items)) }
 {
-    let spread = spread_of(history, stamps);
-    let points = match stamps {
-        Stamps::Given => fitted(alloc, history, order)?,
-        Stamps::Spread => points(alloc, history, order, &spread)?,
-    };
-    match points {
-        Some(points) => spread.history(alloc, history, &points),
+    match fitted(alloc, history, order)? {
+        Some(points) => Ok(Some(pointed(alloc, history, &points)?)),
         None => Ok(None),
     }
 }
 
-// How these stamps are spread, those given by nothing.
-fn spread_of(history: &[Stamped], stamps: Stamps) -> Spread {
-    let base = least_first(history);
-    match stamps {
-        Stamps::Given => Spread {
-            base: base.min(1),
-            width: 1,
-        },
-        Stamps::Spread => Spread {
-            base,
-            width: (history.len() as u64).saturating_add(1),
-        },
+// The history with points, all stamps spread.
+fn spread_out(
+    alloc: Global,
+    history: &[Stamped],
+    order: &[usize],
+) -> Result<Option<Vec<Stamped>>, AllocError>
+    ensures { IfOk result (λ new. IfSome new (λ new. IsSpread history.now new.items)) }
+{
+    let spread = Spread::of(alloc, history)?;
+    match points(alloc, history, order, &spread)? {
+        Some(points) => spread.history(alloc, history, &points),
+        None => Ok(None),
     }
-}
-
-fn least_first(history: &[Stamped]) -> u64 {
-    let mut least = u64::MAX;
-    for operation in history {
-        least = least.min(operation.first);
-    }
-    least
 }
 
 // An order of the operations, or a reason why there is none. Neither is judged yet.

@@ -107,7 +107,8 @@ fn push_values(
     Ok(())
 }
 
-/// A point for each operation of an order, each greater than the one before; none where there is no room.
+/// A point for each operation of an order: of the numbers that the greatest first step up to it becomes, as many behind the
+/// first one as operations come before it. None where the order doesn't keep time.
 pub(crate) fn points(
     alloc: Global,
     history: &[Stamped],
@@ -115,25 +116,21 @@ pub(crate) fn points(
     spread: &Spread,
 ) -> Result<Option<Vec<Option<u64>>>, AllocError> {
     let mut points = vec![in alloc; None; history.len()]?;
-    let mut before = 0;
-    for index in lined {
-        let next = history
-            .get(*index)
-            .and_then(|operation| point(operation, before, spread));
-        let (Some(at), Some(point)) = (next, points.get_mut(*index)) else {
+    let mut begun = 0;
+    for (before, index) in lined.iter().enumerate() {
+        let Some(operation) = history.get(*index) else {
+            return Ok(None);
+        };
+        begun = operation.first.max(begun);
+        if operation.last.unwrap_or(begun) < begun {
+            return Ok(None);
+        }
+        let first = spread.first(begun);
+        let at = first.and_then(|first| first.checked_add(before as u64));
+        let (Some(at), Some(point)) = (at, points.get_mut(*index)) else {
             return Ok(None);
         };
         *point = Some(at);
-        before = at;
     }
     Ok(Some(points))
-}
-
-// The least point of an operation after another one.
-fn point(operation: &Stamped, before: u64, spread: &Spread) -> Option<u64> {
-    let at = spread.first(operation.first)?.max(before.checked_add(1)?);
-    match operation.last {
-        Some(last) if spread.last(last)? < at => None,
-        Some(_) | None => Some(at),
-    }
 }

@@ -36,13 +36,13 @@ pub(crate) fn values_of(
         };
         match (pair.take.and_then(|take| history.get(take)), push.last) {
             (Some(take), _) => all.push(told(pair, push, take))?,
-            (None, Some(last)) => left.push((last, pair.push))?,
+            (None, Some(last)) => left.push((last, push.first, pair.push))?,
             (None, None) => {}
         }
     }
     let told = all.len();
     left.sort_unstable();
-    for (rank, (last, index)) in left.iter().enumerate() {
+    for (rank, (last, _, index)) in left.iter().enumerate() {
         if let Some(push) = history.get(*index) {
             all.push(is_left(push, *index, *last, pending.get(rank).copied()))?;
         }
@@ -92,8 +92,8 @@ pub(crate) fn order_of(alloc: Global, values: &[Carried]) -> Result<Ordered, All
     let mut by_push = Vec::new(alloc);
     let mut by_take = Vec::new(alloc);
     for (index, value) in values.iter().enumerate() {
-        by_push.push((value.pushed.last, index))?;
-        by_take.push((value.taken.last, index))?;
+        by_push.push((value.pushed.last, value.pushed.first, index))?;
+        by_take.push((value.taken.last, value.taken.first, index))?;
     }
     by_push.sort_unstable();
     by_take.sort_unstable();
@@ -119,9 +119,9 @@ pub(crate) fn order_of(alloc: Global, values: &[Carried]) -> Result<Ordered, All
 }
 
 // Where the first value stands that isn't gone, from an index on.
-fn first_left(values: &[(When, usize)], from: usize, gone: &[bool]) -> usize {
+fn first_left(values: &[(When, When, usize)], from: usize, gone: &[bool]) -> usize {
     for at in from..values.len() {
-        let (_, index) = values[at];
+        let (_, _, index) = values[at];
         if !gone.get(index).copied().unwrap_or(true) {
             return at;
         }
@@ -138,10 +138,10 @@ enum Next {
 
 fn next_of(
     values: &[Carried],
-    by_push: Option<&(When, usize)>,
-    by_take: Option<&(When, usize)>,
+    by_push: Option<&(When, When, usize)>,
+    by_take: Option<&(When, When, usize)>,
 ) -> Next {
-    let (Some((_, earlier)), Some((_, later))) = (by_push, by_take) else {
+    let (Some((_, _, earlier)), Some((_, _, later))) = (by_push, by_take) else {
         return Next::End;
     };
     let (Some(push), Some(take)) = (values.get(*earlier), values.get(*later)) else {

@@ -1,46 +1,69 @@
 //! A recorded history with points, and with its stamps spread where those given leave no room for these.
-ghost use Rattle.std.specs.Prelude.{◌≡◌, ◌+◌, IfSome, IfOk, None};
-ghost use Rattle.std.specs.List.{AllZip};
-ghost use Rattle.placing.specs.Spreading.{IsFirstOf, IsLastOf, EndsAtLastOf, IsSpreadFrom, IsSpread};
+ghost use Rattle.std.specs.Prelude.{◌≡◌, IfSome, IfOk, Some, slice_get};
+ghost use Rattle.std.specs.List.Sorted.{IsStrictlyIncreasing};
+ghost use Rattle.placing.specs.Spreading.{IsFirstOf, IsLastOf, IsSpreadFrom, IsPointed, IsSpread};
 
 use history::Stamped;
 use std::alloc::{AllocError, Global};
 
-/// How stamps are spread: each number becomes `width` numbers, and those of `base` begin at 1.
-#[derive(Clone, Copy, Debug)]
+/// How stamps are spread: of the numbers used, in their order, each becomes `width` numbers in a row, the first from 1 on.
+#[derive(Debug, Drop)]
 pub(crate) struct Spread {
-    pub(crate) base: u64,
-    pub(crate) width: u64,
+    numbers: Vec<u64>,
+    width: u64,
 }
 
 impl Spread {
-    // The first of the numbers that a number becomes; none where it isn't below 2^64.
-    pub(crate) fn first(&self, number: u64) -> Option<u64>
-        ensures { IfSome result (IsFirstOf self.now.base self.now.width number) }
+    // How the stamps of a history are spread, so that all its operations have room at each number.
+    pub(crate) fn of(alloc: Global, history: &[Stamped]) -> Result<Spread, AllocError>
+        ensures { IfOk result (λ spread. IsStrictlyIncreasing spread.numbers.items) }
     {
-        if number < self.base {
-            return None;
+        let mut numbers = Vec::new(alloc);
+        for operation in history {
+            numbers.push(operation.first)?;
+            if let Some(last) = operation.last {
+                numbers.push(last)?;
+            }
         }
-        let before = (number - self.base).checked_mul(self.width)?;
+        numbers.sort_unstable();
+        numbers.dedup();
+        Ok(Spread {
+            numbers,
+            width: (history.len() as u64).saturating_add(1),
+        })
+    }
+
+    // How many of the numbers used are smaller; none where this one isn't used.
+    fn rank(&self, number: u64) -> Option<u64>
+        ensures { IfSome result (λ rank. slice_get self.now.numbers.items rank ≡ Some number) }
+    {
+        match self.numbers.binary_search(&number) {
+            Ok(rank) => Some(rank as u64),
+            Err(_) => None,
+        }
+    }
+
+    // The first of the numbers that a number becomes; none where it isn't used, or that isn't below 2^64.
+    pub(crate) fn first(&self, number: u64) -> Option<u64>
+        ensures { IfSome result (IsFirstOf self.now.numbers.items self.now.width number) }
+    {
+        let before = self.rank(number)?.checked_mul(self.width)?;
         let first = before.checked_add(1)?;
         Some(first)
     }
 
-    // The last of the numbers that a number becomes; none where it isn't below 2^64.
-    pub(crate) fn last(&self, number: u64) -> Option<u64>
-        ensures { IfSome result (IsLastOf self.now.base self.now.width number) }
+    // The last of the numbers that a number becomes; none where it isn't used, or that isn't below 2^64.
+    fn last(&self, number: u64) -> Option<u64>
+        ensures { IfSome result (IsLastOf self.now.numbers.items self.now.width number) }
     {
-        if number < self.base {
-            return None;
-        }
-        let before = (number - self.base).checked_mul(self.width)?;
+        let before = self.rank(number)?.checked_mul(self.width)?;
         let last = before.checked_add(self.width)?;
         Some(last)
     }
 
     // An operation at a point, with spread stamps.
     fn operation(&self, operation: &Stamped, at: Option<u64>) -> Option<Stamped>
-        ensures { IfSome result (IsSpreadFrom self.now.base self.now.width operation.now) }
+        ensures { IfSome result (IsSpreadFrom self.now.numbers.items self.now.width operation.now) }
     {
         let last = match operation.last {
             Some(last) => Some(self.last(last)?),
@@ -63,6 +86,7 @@ impl Spread {
         history: &[Stamped],
         points: &[Option<u64>],
     ) -> Result<Option<Vec<Stamped>>, AllocError>
+        requires { IsStrictlyIncreasing self.now.numbers.items }
         ensures { IfOk result (λ spread. IfSome spread (λ new. IsSpread history.now new.items)) }
     {
         let mut spread = Vec::new(alloc);
@@ -75,4 +99,26 @@ impl Spread {
         }
         Ok(Some(spread))
     }
+}
+
+// A history with these points, in the order of its operations, and with the stamps given.
+pub(crate) fn pointed(
+    alloc: Global,
+    history: &[Stamped],
+    points: &[Option<u64>],
+) -> Result<Vec<Stamped>, AllocError>
+    ensures { IfOk result (λ new. IsSpread history.now new.items) }
+{
+    let mut pointed = Vec::new(alloc);
+    for (index, operation) in history.iter().enumerate() {
+        let at = points.get(index).copied().flatten();
+        pointed.push(at_point(operation, at))?;
+    }
+    Ok(pointed)
+}
+
+fn at_point(operation: &Stamped, at: Option<u64>) -> Stamped
+    ensures { IsPointed operation.now result }
+{
+    Stamped { at, ..*operation }
 }

@@ -66,6 +66,32 @@ const PLACED: &[Row] = &[
 3 deq first 1 last 8 at 2 reply value 1 1
 ",
     ),
+    // The first push may have its point at 2 alone, and the second one before it.
+    (
+        b"history 3
+1 enq 1 first 2 last 2 at - reply done
+1 enq 2 first 1 last 2 at - reply done
+1 enq 3 first 9223372036854775808 last 9223372036854775808 at - reply done
+",
+        "history 3
+1 enq 1 first 2 last 2 at 2 reply done
+1 enq 2 first 1 last 2 at 1 reply done
+1 enq 3 first 9223372036854775808 last 9223372036854775808 at 9223372036854775808 reply done
+",
+    ),
+    // Two operations have one number, so that each of the two used becomes four, however far apart they are.
+    (
+        b"history 3
+1 enq 1 first 1 last 1 at - reply done
+2 enq 2 first 1 last 1 at - reply done
+3 enq 3 first 18446744073709551615 last 18446744073709551615 at - reply done
+",
+        "history 3
+1 enq 1 first 1 last 4 at 1 reply done
+2 enq 2 first 1 last 4 at 2 reply done
+3 enq 3 first 5 last 8 at 7 reply done
+",
+    ),
 ];
 
 const IMPOSSIBLE: &[Row] = &[
@@ -159,15 +185,6 @@ const OPEN: &[Row] = &[
 2 deq first 11 last 12 at - reply value 1 1
 ",
         "open Searched",
-    ),
-    // Two operations have the number 1, and the numbers from there to the last one can't be doubled.
-    (
-        b"history 3
-1 enq 1 first 1 last 1 at - reply done
-2 enq 2 first 1 last 1 at - reply done
-3 enq 3 first 18446744073709551615 last 18446744073709551615 at - reply done
-",
-        "open Room",
     ),
 ];
 

@@ -4,4 +4,4 @@ use Rattle.placing.specs.Spreading.{IsSpreadFrom}
 use Rattle.placing.proofs.spreading.Spread.history.Given as goal
 
 abbrev pub invariant-loop-index : goal.invariant-loop-index
-invariant-loop-index l = AllZip (IsSpreadFrom l.self.base l.self.width) (take l.index l.history) l.spread.items
+invariant-loop-index l = AllZip (IsSpreadFrom l.self.numbers.items l.self.width) (take l.index l.history) l.spread.items
