@@ -3,7 +3,7 @@ import re
 
 # Of how many operations all orders are tried.
 MOST = 8
-NO = re.compile(r"no \d+ (Sooner|(Order|Full) \d+)( \d+)*\n")
+NO = re.compile(r"no \d+ (Unshut|(Late|Twice) \d+|(Sooner|(Order|Full|Undrained) \d+)( \d+)*)\n")
 
 
 def recording(count, rng):

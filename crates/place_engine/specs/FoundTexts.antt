@@ -5,7 +5,7 @@ use Rattle.placing.specs.declared.answers.Held.{Held}
 use Rattle.placing.specs.declared.answers.Held.TheVariants.{Value, Left}
 use Rattle.placing.specs.declared.answers.Span.{Span}
 use Rattle.placing.specs.declared.answers.Reason.{Reason}
-use Rattle.placing.specs.declared.answers.Reason.TheVariants.{Shape, Span as Spans, Reply, Sooner, Order, Full}
+use Rattle.placing.specs.declared.answers.Reason.TheVariants.{Shape, Span as Spans, Reply, Sooner, Order, Full, Late, Twice, Unshut, Undrained}
 use Rattle.placing.specs.declared.answers.Unknown.{Unknown}
 use Rattle.placing.specs.declared.answers.Unknown.TheVariants.{Steps, Searched}
 use Rattle.placing.specs.declared.answers.Placed.{Placed}
@@ -24,6 +24,10 @@ place_of (Reply place) = place
 place_of (Sooner place others) = place
 place_of (Order place push held) = place
 place_of (Full place spans) = place
+place_of (Late place other) = place
+place_of (Twice place other) = place
+place_of (Unshut place) = place
+place_of (Undrained place held) = place
 
 -- the name of a reason
 abbrev pub cause_of : Reason → List ℕ
@@ -33,6 +37,10 @@ cause_of (Reply place) = codes "Reply"
 cause_of (Sooner place others) = codes "Sooner"
 cause_of (Order place push held) = codes "Order"
 cause_of (Full place spans) = codes "Full"
+cause_of (Late place other) = codes "Late"
+cause_of (Twice place other) = codes "Twice"
+cause_of (Unshut place) = codes "Unshut"
+cause_of (Undrained place held) = codes "Undrained"
 
 -- the places of the pushes of values of which one stays
 abbrev pub held_text : Held → List ℕ
@@ -47,6 +55,10 @@ others_text (Reply place) = []
 others_text (Sooner place others) = flat_map place_text others.items
 others_text (Order place push held) = place_text push ++ held_text held
 others_text (Full place spans) = flat_map (λ span. held_text span.held) spans.items
+others_text (Late place other) = place_text other
+others_text (Twice place other) = place_text other
+others_text (Unshut place) = []
+others_text (Undrained place held) = held_text held
 
 -- the beginning of the line that tells a reason
 unfoldable pub head_text : Reason → List ℕ

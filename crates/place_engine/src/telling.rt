@@ -70,13 +70,17 @@ fn place_of(reason: &Reason) -> u64
         | Reason::Reply { place }
         | Reason::Sooner { place, .. }
         | Reason::Order { place, .. }
-        | Reason::Full { place, .. } => *place,
+        | Reason::Full { place, .. }
+        | Reason::Late { place, .. }
+        | Reason::Twice { place, .. }
+        | Reason::Unshut { place }
+        | Reason::Undrained { place, .. } => *place,
     }
 }
 
 fn cause_of(reason: &Reason) -> &'static [u8]
     ensures text { result.now ≡ texts.cause_of reason.now }
-    ensures short { length result.now ≤ 6 }
+    ensures short { length result.now ≤ 9 }
 {
     match reason {
         Reason::Shape { .. } => b"Shape",
@@ -85,6 +89,10 @@ fn cause_of(reason: &Reason) -> &'static [u8]
         Reason::Sooner { .. } => b"Sooner",
         Reason::Order { .. } => b"Order",
         Reason::Full { .. } => b"Full",
+        Reason::Late { .. } => b"Late",
+        Reason::Twice { .. } => b"Twice",
+        Reason::Unshut { .. } => b"Unshut",
+        Reason::Undrained { .. } => b"Undrained",
     }
 }
 
@@ -93,13 +101,18 @@ fn push_others(text: &mut Vec<u8>, reason: &Reason) -> Result<(), AllocError>
     ensures { OnOk result (text.new.items ≡ text.old.items ++ others_text reason.now) }
 {
     match reason {
-        Reason::Shape { .. } | Reason::Span { .. } | Reason::Reply { .. } => Ok(()),
+        Reason::Shape { .. }
+        | Reason::Span { .. }
+        | Reason::Reply { .. }
+        | Reason::Unshut { .. } => Ok(()),
         Reason::Sooner { others, .. } => push_places(text, others),
         Reason::Order { push, held, .. } => {
             push_place(text, *push)?;
             push_held(text, held)
         }
         Reason::Full { spans, .. } => push_spans(text, spans),
+        Reason::Late { other, .. } | Reason::Twice { other, .. } => push_place(text, *other),
+        Reason::Undrained { held, .. } => push_held(text, held),
     }
 }
 

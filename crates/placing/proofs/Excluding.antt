@@ -21,7 +21,7 @@ use Rattle.history.specs.Tallies.{is_not_refused}
 use Rattle.placing.specs.declared.answers.Held.{Held}
 use Rattle.placing.specs.declared.answers.Span.{Span}
 use Rattle.placing.specs.declared.answers.Reason.{Reason}
-use Rattle.placing.specs.declared.answers.Reason.TheVariants.{Shape, Span as Spans, Reply as Replies, Sooner, Order, Full}
+use Rattle.placing.specs.declared.answers.Reason.TheVariants.{Shape, Span as Spans, Reply as Replies, Sooner, Order, Full, Late, Twice, Unshut, Undrained}
 use Rattle.placing.specs.Calls.{IsCall, IsOfQueue}
 use Rattle.placing.specs.Kinds.{Kind, same_value, is_told_in, is_push_in, pushes_in, ended_by, pushes_begun_before}
 use Rattle.placing.specs.Reasons.{StandsAt, IsMisshapen, EndsTooSoon, may_be_told, IsToldAmiss, IsSooner, IsHeld, IsOutOfOrder, Cover, IsFull, IsReason}
@@ -30,6 +30,8 @@ use Rattle.placing.proofs.Sooner.{take_ended_by, push_begun_by, ended_begun, pus
 use Rattle.placing.proofs.Parting.{PartsAt, parts_at, parted_have, sum_parted, sum_ordered, sum_zero, BeganBy, MayFollow, times_parted, latest_start}
 use Rattle.placing.proofs.Staying.{EndedFrom, and_false, take_begun_after, IsOrder, is_order, Stays, pushed_before, fewer_taken, last_part}
 use Rattle.placing.proofs.Keeping.{contained, both, held_stays}
+use Rattle.placing.proofs.Standing.{Standing, stands_in, told_not_pending, given_there, given_told, FirstPush, first_push}
+use Rattle.placing.proofs.NotShut.{not_late, not_twice, not_unshut, not_undrained}
 
 -- ---- an operation is no call
 
@@ -50,42 +52,6 @@ not_too_soon o c h = go o.last c.spans h
     go : (last : Option ℕ) → IfSome last (λ last. o.first ≤ last) → IsSomeAnd last (λ last. last < o.first) → ⊥
     go None a b = b
     go (Some last) a b = omega arith
-
--- ---- an operation in an order
-
--- an operation stands in an order of a history between these
-record Standing (ops : List Stamped) (o : Stamped) : Type 0 where
-  before : List Answered
-  here : Answered
-  behind : List Answered
-  left : List Stamped
-  same : here.operation ≡ o
-  order : IsOrder ops (before ++ here ∷ behind) left
-
-stands_in : (ops : List Stamped) (place : ℕ) (o : Stamped) → IsOfQueue ops → StandsAt ops place o → (IsPending o → ⊥) → Standing ops o
-stands_in ops place o h s n =
-    let l = h.linearizable in
-    let p : PartsAt l.order o = parts_at ops o l.order l.left_out l.each_once l.only_pending_left_out n (contained ops place o s) in
-    record {
-      before = p.before;
-      here = p.here;
-      behind = p.behind;
-      left = l.left_out;
-      same = p.same;
-      order = subst (λ order. IsOrder ops order l.left_out) p.is (is_order ops h);
-    }
-
-told_not_pending : (o : Stamped) (reply : Reply) → o.reply ≡ Some reply → IsPending o → ⊥
-told_not_pending o reply e p = let n : o.reply ≡ None = p.not_told in let f : Some reply ≡ None = sym e ∙ n in cc f
-
--- the queue gives it its reply there
-given_there : (ops : List Stamped) (o : Stamped) (s : Standing ops o) → AgreesWithQueue (after_run empty s.before) s.here.operation (Some s.here.reply)
-given_there ops o s = (run_parts empty s.before (s.here ∷ s.behind) s.order.runs).1.0
-
-given_told : (ops : List Stamped) (o : Stamped) (s : Standing ops o) (reply : Reply) → o.reply ≡ Some reply → s.here.reply ≡ reply
-given_told ops o s reply e =
-    let told : IfSome s.here.operation.reply (λ told. s.here.reply ≡ told) = (last_part GivesRecordedReply s.before (s.here ∷ s.behind) s.order.told).0 in
-    subst (λ r. IfSome r (λ told. s.here.reply ≡ told)) e (subst (λ p. IfSome p.reply (λ told. s.here.reply ≡ told)) s.same told)
 
 -- ---- what a call is never told
 
@@ -218,37 +184,6 @@ not_full ops place spans h s =
 
 -- ---- a value is taken before one that was pushed before it
 
--- the first operation of an order that pushes a kind
-record FirstPush (kind : Kind) (xs : List Answered) : Type 0 where
-  before : List Answered
-  here : Answered
-  behind : List Answered
-  is : xs ≡ before ++ here ∷ behind
-  none : sum_by (pushed_in kind) before ≡ 0
-  one : pushed_in kind here ≡ 1
-
-one_or_none : (b : Bool) → (one_if b ≡ 1) ⊎ (one_if b ≡ 0)
-one_or_none true = inl refl
-one_or_none false = inr refl
-
-first_push : (kind : Kind) (xs : List Answered) → 1 ≤ sum_by (pushed_in kind) xs → FirstPush kind xs
-first_push kind [] h = absurd (let k : 1 ≤ 0 = h in omega (arith, k))
-first_push kind (a ∷ rest) h = go (one_or_none (is_not_refused (Some a.reply) && is_push_in kind a.operation.actor a.operation.op)) (λ more. first_push kind rest more)
-  where
-    go : (pushed_in kind a ≡ 1) ⊎ (pushed_in kind a ≡ 0) → (1 ≤ sum_by (pushed_in kind) rest → FirstPush kind rest) → FirstPush kind (a ∷ rest)
-    go (inl e) more = record { before = []; here = a; behind = rest; is = refl; none = refl; one = e }
-    go (inr e) more =
-        let d = sum_by-cons (pushed_in kind) a rest in
-        let f = more (omega (arith, d, e, h)) in
-        record {
-          before = a ∷ f.before;
-          here = f.here;
-          behind = f.behind;
-          is = ap (λ r. a ∷ r) f.is;
-          none = (let n = f.none in let c = sum_by-cons (pushed_in kind) a f.before in omega (arith, n, c, e));
-          one = f.one;
-        }
-
 ended_from : (time first : ℕ) (last : Option ℕ) → time ≤ first → IfSome last (λ last. first ≤ last) → IfSome last (λ last. time ≤ last)
 ended_from time first None h k = tt
 ended_from time first (Some last) h k = omega arith
@@ -356,3 +291,7 @@ excludes ops (Replies place) r h = not_amiss ops place r.0 h r.1 r.2
 excludes ops (Sooner place others) r h = not_sooner ops place others.items h r
 excludes ops (Order place push held) r h = not_out_of_order ops place push held h r
 excludes ops (Full place spans) r h = not_full ops place spans.items h r
+excludes ops (Late place other) r h = not_late ops place other h r
+excludes ops (Twice place other) r h = not_twice ops place other h r
+excludes ops (Unshut place) r h = not_unshut ops place h r
+excludes ops (Undrained place held) r h = not_undrained ops place held h r

@@ -81,7 +81,7 @@ none_taken time ops =
     omega (arith, k)
 
 -- an operation of the rest of a list, whose places are counted on from a number, counts
-abbrev CountsOn : (Stamped → ℕ) → List Stamped → ℕ → ℕ → Type 0
+abbrev pub CountsOn : (Stamped → ℕ) → List Stamped → ℕ → ℕ → Type 0
 CountsOn f os past place = (o : Stamped) × (n : ℕ) × (place ≡ past + 1 + n) × (slice_get os n ≡ Some o) × (1 ≤ f o)
 
 rises_from_less : (less more : ℕ) → less ≤ more → (places : List ℕ) → RisesFrom more places → RisesFrom less places
@@ -102,7 +102,7 @@ one_more : (length_of one all rest : ℕ) → all ≡ one + rest → 1 ≤ one �
 one_more length_of one all rest e h k = omega arith
 
 -- places that rise, of operations that each count, are no more than all count
-rising_count : (f : Stamped → ℕ) (os : List Stamped) (past : ℕ) (places : List ℕ) → RisesFrom past places → AllByRecursion (CountsOn f os past) places → length places ≤ sum_by f os
+pub rising_count : (f : Stamped → ℕ) (os : List Stamped) (past : ℕ) (places : List ℕ) → RisesFrom past places → AllByRecursion (CountsOn f os past) places → length places ≤ sum_by f os
 rising_count f os past [] r h = omega arith
 rising_count f [] past (p ∷ ps) r h = absurd (let e : None ≡ Some h.0.0 = h.0.3 in cc)
 rising_count f (o ∷ os) past (p ∷ ps) r h =

@@ -51,7 +51,7 @@ first_at_most true true = omega arith
 first_at_most true false = omega arith
 first_at_most false b = omega arith
 
-not_before : (time : ℕ) (last : Option ℕ) → IfSome last (λ last. time ≤ last) → ended_before time last ≡ false
+pub not_before : (time : ℕ) (last : Option ℕ) → IfSome last (λ last. time ≤ last) → ended_before time last ≡ false
 not_before time None h = refl
 not_before time (Some last) h = go (nat_lt last time) refl
   where
@@ -76,11 +76,11 @@ whole false b e = omega arith
 
 -- ---- pushes that ended before a time
 
-none_ended : (time : ℕ) (kind : Kind) (os : List Stamped) → AllByRecursion (EndedFrom time) os → AllByRecursion (λ o. push_ended_before time kind o ≡ 0) os
+pub none_ended : (time : ℕ) (kind : Kind) (os : List Stamped) → AllByRecursion (EndedFrom time) os → AllByRecursion (λ o. push_ended_before time kind o ≡ 0) os
 none_ended time kind [] h = tt
 none_ended time kind (o ∷ os) h = (and_false (pushes_in kind o) _ (not_before time o.last h.0), none_ended time kind os h.1)
 
-pending_ended : (time : ℕ) (os : List Stamped) → AllByRecursion IsPending os → AllByRecursion (EndedFrom time) os
+pub pending_ended : (time : ℕ) (os : List Stamped) → AllByRecursion IsPending os → AllByRecursion (EndedFrom time) os
 pending_ended time [] h = tt
 pending_ended time (o ∷ os) h = (subst (λ l. IfSome l (λ last. time ≤ last)) (sym h.0.not_ended) tt, pending_ended time os h.1)
 
@@ -93,7 +93,7 @@ ended_at_most time b last (Some told) reply c h =
 ended_at_most time b None None reply c h = let e = and_false b false refl in omega (arith, e)
 ended_at_most time b (Some last) None reply c h = absurd (let e : false ≡ true = c refl in cc)
 
-all_ended_at_most : (time : ℕ) (kind : Kind) (xs : List Answered) → AllByRecursion IsCall (operations_of xs) → AllByRecursion GivesRecordedReply xs
+pub all_ended_at_most : (time : ℕ) (kind : Kind) (xs : List Answered) → AllByRecursion IsCall (operations_of xs) → AllByRecursion GivesRecordedReply xs
     → AllByRecursion (λ a. push_ended_before time kind a.operation ≤ pushed_in kind a) xs
 all_ended_at_most time kind [] c h = tt
 all_ended_at_most time kind (a ∷ rest) c h = (
@@ -112,7 +112,7 @@ pub record IsOrder (ops : List Stamped) (order : List Answered) (left : List Sta
   pub timely : KeepsTime (operations_of order)
   pub runs : IsRun empty order
 
-first_part : {X : Type 0} (P : X → Type 0) (xs ys : List X) → AllByRecursion P (xs ++ ys) → AllByRecursion P xs
+pub first_part : {X : Type 0} (P : X → Type 0) (xs ys : List X) → AllByRecursion P (xs ++ ys) → AllByRecursion P xs
 first_part P [] ys h = tt
 first_part P (x ∷ xs) ys h = (h.0, first_part P xs ys h.1)
 
@@ -120,7 +120,7 @@ pub last_part : {X : Type 0} (P : X → Type 0) (xs ys : List X) → AllByRecurs
 last_part P [] ys h = h
 last_part P (x ∷ xs) ys h = last_part P xs ys h.1
 
-front_calls : (xs ys : List Answered) → AllByRecursion IsCall (operations_of (xs ++ ys)) → AllByRecursion IsCall (operations_of xs)
+pub front_calls : (xs ys : List Answered) → AllByRecursion IsCall (operations_of (xs ++ ys)) → AllByRecursion IsCall (operations_of xs)
 front_calls [] ys h = tt
 front_calls (x ∷ xs) ys h = (h.0, front_calls xs ys h.1)
 

@@ -6,6 +6,7 @@ use Rattle.history.specs.declared.operations.Taken.{Taken}
 use Rattle.history.specs.declared.operations.Reply.{Reply}
 use Rattle.history.specs.declared.operations.Reply.TheVariants.{Done, Value, Empty, Refused}
 use Rattle.history.specs.declared.operations.Stamped.{Stamped}
+use Rattle.history.specs.History.{is_closed}
 use Rattle.history.specs.Tallies.{is_not_refused}
 
 -- values of a kind
@@ -40,6 +41,44 @@ is_pending_pop Deq None = true
 is_pending_pop Deq (Some reply) = false
 is_pending_pop (Enq body) reply = false
 is_pending_pop Shut reply = false
+
+-- whether a call is a shut
+abbrev pub is_shut_call : Op → Bool
+is_shut_call (Enq body) = false
+is_shut_call Deq = false
+is_shut_call Shut = true
+
+-- whether an operation was told that the queue is shut
+abbrev pub is_told_shut : Option Reply → Bool
+is_told_shut None = false
+is_told_shut (Some Done) = false
+is_told_shut (Some (Value v)) = false
+is_told_shut (Some Empty) = false
+is_told_shut (Some (Refused refusal)) = is_closed refusal
+
+-- whether an operation is a shut that is done
+abbrev pub is_done_shut : Option Reply → Op → Bool
+is_done_shut None op = false
+is_done_shut (Some Done) op = is_shut_call op
+is_done_shut (Some (Value v)) op = false
+is_done_shut (Some Empty) op = false
+is_done_shut (Some (Refused refusal)) op = false
+
+-- whether an operation shows that the queue is shut: it shut it, or was told so
+abbrev pub shows_shut : Option Reply → Op → Bool
+shows_shut None op = false
+shows_shut (Some Done) op = is_shut_call op
+shows_shut (Some (Value v)) op = false
+shows_shut (Some Empty) op = false
+shows_shut (Some (Refused refusal)) op = is_closed refusal
+
+-- whether an operation was told what only a queue that isn't shut answers: done, or that it is empty
+abbrev pub is_done_or_empty : Option Reply → Bool
+is_done_or_empty None = false
+is_done_or_empty (Some Done) = true
+is_done_or_empty (Some (Value v)) = false
+is_done_or_empty (Some Empty) = true
+is_done_or_empty (Some (Refused refusal)) = false
 
 -- whether an operation ended before a time
 abbrev pub ended_before : ℕ → Option ℕ → Bool
@@ -90,3 +129,7 @@ takes_of kind ops = count_by (λ o. is_told_in kind o.reply) ops
 -- the values that no pop was told
 abbrev pub left_in : List Stamped → Kind
 left_in ops v = nat_eq (takes_of (same_value v) ops) 0
+
+-- how many shuts that were not refused began by a time; pending ones count
+abbrev pub shuts_begun_by : ℕ → List Stamped → ℕ
+shuts_begun_by time ops = count_by (λ o. (is_not_refused o.reply && is_shut_call o.op) && nat_le o.first time) ops

@@ -11,8 +11,8 @@ use Rattle.placing.specs.declared.answers.Held.{Held}
 use Rattle.placing.specs.declared.answers.Held.TheVariants.{Value as OneValue, Left}
 use Rattle.placing.specs.declared.answers.Span.{Span}
 use Rattle.placing.specs.declared.answers.Reason.{Reason}
-use Rattle.placing.specs.declared.answers.Reason.TheVariants.{Shape, Span as Spans, Reply as Replies, Sooner, Order, Full}
-use Rattle.placing.specs.Kinds.{same_value, is_told_in, pushes_in, ended_before, pushes_of, pushes_begun_by, pushes_begun_before, takes_ended_by, pending_by, left_in}
+use Rattle.placing.specs.declared.answers.Reason.TheVariants.{Shape, Span as Spans, Reply as Replies, Sooner, Order, Full, Late, Twice, Unshut, Undrained}
+use Rattle.placing.specs.Kinds.{same_value, is_told_in, pushes_in, is_told_shut, is_done_shut, shows_shut, is_done_or_empty, ended_before, pushes_of, pushes_begun_by, pushes_begun_before, takes_ended_by, pending_by, left_in, shuts_begun_by}
 
 -- an operation stands at a place of a list, counted from 1
 pub record StandsAt (ops : List Stamped) (place : ℕ) (o : Stamped) : Type 0 where
@@ -131,6 +131,58 @@ pub record IsFull (ops : List Stamped) (place : ℕ) (spans : List Span) : Type 
   pub cover : Cover operation.first time spans
   pub each : All (λ span. IsHeld ops span.first span.last span.held) spans
 
+-- an operation shut the queue, or was told that it is shut, and ended at a time
+pub record ShowsShut (o : Stamped) (time : ℕ) : Type 0 where
+  pub shows : shows_shut o.reply o.op ≡ true
+  pub ended : o.last ≡ Some time
+
+-- an operation began after a time and was told done or empty, or it took a value no push of which began by then
+abbrev pub IsTooLate : List Stamped → (time : ℕ) → Stamped → Type 0
+IsTooLate ops time o =
+    ((is_done_or_empty o.reply ≡ true) × (time < o.first))
+    ⊎ ((v : Taken) × (o.reply ≡ Some (Value v)) × (pushes_begun_by time (same_value v) ops ≡ 0))
+
+-- this operation, or the push of the value that it took, began after another one ended that shows that the queue is shut
+pub record IsLate (ops : List Stamped) (place other : ℕ) : Type 0 where
+  pub operation : Stamped
+  pub evidence : Stamped
+  pub time : ℕ
+  pub stands : StandsAt ops place operation
+  pub other_stands : StandsAt ops other evidence
+  pub shut : ShowsShut evidence time
+  pub late : IsTooLate ops time operation
+
+-- this operation and one before it in the list are shuts that are done
+pub record IsTwice (ops : List Stamped) (place other : ℕ) : Type 0 where
+  pub operation : Stamped
+  pub one : Stamped
+  pub stands : StandsAt ops place operation
+  pub other_stands : StandsAt ops other one
+  pub apart : other < place
+  pub shut : is_done_shut operation.reply operation.op ≡ true
+  pub one_shut : is_done_shut one.reply one.op ≡ true
+
+-- this operation was told that the queue is shut, and by its end no shut began that wasn't refused
+pub record IsUnshut (ops : List Stamped) (place : ℕ) : Type 0 where
+  pub operation : Stamped
+  pub time : ℕ
+  pub stands : StandsAt ops place operation
+  pub told : is_told_shut operation.reply ≡ true
+  pub ended : operation.last ≡ Some time
+  pub none : shuts_begun_by time ops ≡ 0
+
+-- This pop was told that the queue is shut, and so empty, and one of some values is there until it ends: their pushes
+-- ended, at whatever time, so they had their effect before the shut had its own.
+pub record IsUndrained (ops : List Stamped) (place : ℕ) (held : Held) : Type 0 where
+  pub operation : Stamped
+  pub from : ℕ
+  pub until : ℕ
+  pub stands : StandsAt ops place operation
+  pub pops : operation.op ≡ Deq
+  pub told : is_told_shut operation.reply ≡ true
+  pub ended : operation.last ≡ Some until
+  pub stays : IsHeld ops from until held
+
 -- the operation at a place has a fault
 abbrev pub HasAt : List Stamped → ℕ → (Stamped → Type 0) → Type 0
 HasAt ops place Fault = (o : Stamped) × StandsAt ops place o × Fault o
@@ -143,3 +195,7 @@ IsReason ops (Replies place) = HasAt ops place IsToldAmiss
 IsReason ops (Sooner place others) = IsSooner ops place others.items
 IsReason ops (Order place push held) = IsOutOfOrder ops place push held
 IsReason ops (Full place spans) = IsFull ops place spans.items
+IsReason ops (Late place other) = IsLate ops place other
+IsReason ops (Twice place other) = IsTwice ops place other
+IsReason ops (Unshut place) = IsUnshut ops place
+IsReason ops (Undrained place held) = IsUndrained ops place held

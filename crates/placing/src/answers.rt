@@ -37,6 +37,16 @@ pub enum Reason {
     Order { place: u64, push: u64, held: Held },
     /// It was told that the queue is empty. At each number from its first step to its last a value is there.
     Full { place: u64, spans: Vec<Span> },
+    /// It was told done or empty, which a queue that is shut isn't, and began after the other one ended, which shut the
+    /// queue or was told that it is shut. Or it took a value, and each push of that began so late.
+    Late { place: u64, other: u64 },
+    /// It is a shut that is done, and so is the other one.
+    Twice { place: u64, other: u64 },
+    /// It was told that the queue is shut. By its end no shut began that wasn't refused.
+    Unshut { place: u64 },
+    /// It is a pop that was told that the queue is shut, and so empty. Values are there until it ends, whose pushes had
+    /// their effect before the shut, whenever they ended.
+    Undrained { place: u64, held: Held },
 }
 
 /// Why it isn't known whether a recorded history is one of a queue.

@@ -4,7 +4,7 @@ ghost use Rattle.history.specs.Tallies as tallies;
 ghost use Rattle.placing.specs.Kinds as kinds;
 ghost use Rattle.placing.specs.Kinds.{same_value};
 
-use crate::operations::{ended_by, is_pending_pop, is_told, pushes};
+use crate::operations::{ended_by, is_pending_pop, is_told, may_shut, pushes};
 use history::{Stamped, Taken};
 
 // How many pushes of a value began by a time.
@@ -44,5 +44,15 @@ pub(crate) fn pending_by(time: u64, history: &[Stamped]) -> usize
     history
         .iter()
         .filter(|o| is_pending_pop(o.op, o.reply) && o.first <= time)
+        .count()
+}
+
+// How many shuts that weren't refused began by a time.
+pub(crate) fn shuts_begun_by(time: u64, history: &[Stamped]) -> usize
+    ensures { result ≡ kinds.shuts_begun_by time history.now }
+{
+    history
+        .iter()
+        .filter(|o| may_shut(o.reply, o.op) && o.first <= time)
         .count()
 }

@@ -16,6 +16,7 @@ use crate::ordering::{Ordered, order_of, values_of};
 use crate::pairing::{Pair, Pairing, Pairs, paired};
 use crate::reasons::is_reason;
 use crate::searching::{Outcome, searched};
+use crate::shut_faults::shut_fault;
 use crate::shutting::{is_run, is_shut, unshut};
 use crate::sorting::{ByKind, first_fault, sorted};
 use crate::spreading::{Spread, pointed};
@@ -154,6 +155,11 @@ fn spread_out(
 fn find(alloc: Global, history: &[Stamped]) -> Result<Found, AllocError> {
     if let Some(fault) = first_fault(history) {
         return Ok(Found::Reason(fault));
+    }
+    if is_shut(history) {
+        if let Some(reason) = shut_fault(alloc, history, &sorted(alloc, history)?.calls)? {
+            return Ok(Found::Reason(reason));
+        }
     }
     match of_open(alloc, history)? {
         Found::Reason(reason) => Ok(Found::Reason(reason)),

@@ -17,6 +17,8 @@ mod ordering;
 mod pairing;
 mod reasons;
 mod searching;
+mod shut_faults;
+mod shut_reasons;
 mod shutting;
 mod sorting;
 mod spreading;

@@ -1,11 +1,12 @@
 //! What one operation of a recorded history is: at its place, as a push or a take of a value, and by its times.
-ghost use Rattle.std.specs.Prelude.{◌≡◌, true, false, IfSome, IfNone};
+ghost use Rattle.std.specs.Prelude.{◌≡◌, ◌&&◌, true, false, IfSome, IfNone};
+ghost use Rattle.history.specs.History as rule;
 ghost use Rattle.history.specs.Tallies as tallies;
 ghost use Rattle.placing.specs.Kinds as kinds;
 ghost use Rattle.placing.specs.Kinds.{Kind, same_value, pushes_in};
 ghost use Rattle.placing.specs.Reasons.{StandsAt, Took};
 
-use history::{Op, Reply, Stamped, Taken};
+use history::{Op, Refusal, Reply, Stamped, Taken};
 
 // The operation at a place, counted from 1.
 pub(crate) fn at(history: &[Stamped], place: u64) -> Option<&Stamped>
@@ -103,6 +104,72 @@ pub(crate) fn is_pending_pop(op: Op, told: Option<Reply>) -> bool
     match (op, told) {
         (Op::Deq, None) => true,
         (Op::Deq, Some(_)) | (Op::Enq(_) | Op::Shut, _) => false,
+    }
+}
+
+fn is_shut_call(op: Op) -> bool
+    ensures { result ≡ kinds.is_shut_call op }
+{
+    match op {
+        Op::Shut => true,
+        Op::Enq(_) | Op::Deq => false,
+    }
+}
+
+// Whether an operation is a shut that wasn't refused.
+pub(crate) fn may_shut(told: Option<Reply>, op: Op) -> bool
+    ensures { result ≡ (tallies.is_not_refused told && kinds.is_shut_call op) }
+{
+    is_not_refused(told) && is_shut_call(op)
+}
+
+fn is_closed(refusal: Refusal) -> bool
+    ensures { result ≡ rule.is_closed refusal }
+{
+    match refusal {
+        Refusal::Closed => true,
+        _ => false,
+    }
+}
+
+// Whether an operation was told that the queue is shut.
+pub(crate) fn is_told_shut(told: Option<Reply>) -> bool
+    ensures { result ≡ kinds.is_told_shut told }
+{
+    match told {
+        Some(Reply::Refused(refusal)) => is_closed(refusal),
+        Some(Reply::Done | Reply::Value(_) | Reply::Empty) | None => false,
+    }
+}
+
+// Whether an operation is a shut that is done.
+pub(crate) fn is_done_shut(told: Option<Reply>, op: Op) -> bool
+    ensures { result ≡ kinds.is_done_shut told op }
+{
+    match told {
+        Some(Reply::Done) => is_shut_call(op),
+        Some(Reply::Value(_) | Reply::Empty | Reply::Refused(_)) | None => false,
+    }
+}
+
+// Whether an operation shut the queue, or was told that it is shut.
+pub(crate) fn shows_shut(told: Option<Reply>, op: Op) -> bool
+    ensures { result ≡ kinds.shows_shut told op }
+{
+    match told {
+        Some(Reply::Done) => is_shut_call(op),
+        Some(Reply::Refused(refusal)) => is_closed(refusal),
+        Some(Reply::Value(_) | Reply::Empty) | None => false,
+    }
+}
+
+// Whether an operation was told what only a queue that isn't shut answers.
+pub(crate) fn is_done_or_empty(told: Option<Reply>) -> bool
+    ensures { result ≡ kinds.is_done_or_empty told }
+{
+    match told {
+        Some(Reply::Done | Reply::Empty) => true,
+        Some(Reply::Value(_) | Reply::Refused(_)) | None => false,
     }
 }
 

@@ -64,7 +64,7 @@ impl Group {
     // Whether a call is of the group's value, or the group is empty.
     fn has_value_of(&self, call: &ValueCall) -> bool {
         match self.pushes.first() {
-            Some(push) => push.from == call.from && push.body == call.body,
+            Some(push) => push.is_of_value_of(call),
             None => true,
         }
     }

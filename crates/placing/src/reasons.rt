@@ -11,6 +11,7 @@ use crate::counts::{pushes_begun_before, pushes_begun_by, takes_ended_by};
 use crate::holding::is_held;
 use crate::known::Known;
 use crate::operations::{at, is_told, pushes, took};
+use crate::shut_reasons::{is_late, is_twice, is_undrained, is_unshut};
 use history::{Op, Refusal, Reply, Stamped, Taken};
 
 // Whether a reason says what is so of a history.
@@ -25,6 +26,10 @@ pub(crate) fn is_reason(history: &[Stamped], known: &Known, reason: &Reason) -> 
         Reason::Sooner { place, others } => is_sooner(history, *place, others),
         Reason::Order { place, push, held } => is_out_of_order(history, known, *place, *push, held),
         Reason::Full { place, spans } => is_full(history, known, *place, spans),
+        Reason::Late { place, other } => is_late(history, *place, *other),
+        Reason::Twice { place, other } => is_twice(history, *place, *other),
+        Reason::Unshut { place } => is_unshut(history, *place),
+        Reason::Undrained { place, held } => is_undrained(history, known, *place, held),
     }
 }
 

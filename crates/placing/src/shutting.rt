@@ -1,6 +1,7 @@
 //! A history in which the queue is shut, as one in which it isn't.
 use crate::known::Known;
 use crate::object::Object;
+use crate::operations::{is_told_shut, shows_shut};
 use history::{Op, Refusal, Reply, Stamped};
 use std::alloc::{AllocError, Global};
 
@@ -9,15 +10,9 @@ const NUMBERS: u64 = 4;
 
 /// Whether the queue was shut, or a call was told so.
 pub(crate) fn is_shut(history: &[Stamped]) -> bool {
-    history.iter().any(|operation| is_done_shut(operation) || is_told_shut(operation))
-}
-
-fn is_done_shut(operation: &Stamped) -> bool {
-    matches!(operation.op, Op::Shut) && matches!(operation.reply, Some(Reply::Done))
-}
-
-fn is_told_shut(operation: &Stamped) -> bool {
-    matches!(operation.reply, Some(Reply::Refused(Refusal::Closed)))
+    history
+        .iter()
+        .any(|operation| shows_shut(operation.reply, operation.op))
 }
 
 /// The same operations in a queue that isn't shut: pushes and empty replies end before the last number that the shut may
@@ -42,7 +37,7 @@ pub(crate) fn unshut(alloc: Global, history: &[Stamped]) -> Result<Vec<Stamped>,
 fn latest_shut(history: &[Stamped]) -> u64 {
     let mut latest = u64::MAX;
     for operation in history {
-        if is_done_shut(operation) || is_told_shut(operation) {
+        if shows_shut(operation.reply, operation.op) {
             latest = latest.min(operation.last.unwrap_or(latest));
         }
     }
@@ -53,7 +48,7 @@ fn latest_shut(history: &[Stamped]) -> u64 {
 fn effective(history: &[Stamped]) -> Option<usize> {
     let mut best: Option<(bool, u64, usize)> = None;
     for (index, operation) in history.iter().enumerate() {
-        if matches!(operation.op, Op::Shut) && !is_told_shut(operation) {
+        if matches!(operation.op, Op::Shut) && !is_told_shut(operation.reply) {
             let this = (operation.reply.is_none(), operation.first, index);
             best = Some(best.map_or(this, |best| best.min(this)));
         }
@@ -96,7 +91,7 @@ fn unshut_operation(operation: &Stamped, is_pushed: bool, time: u64) -> Stamped 
         Some(last) => Some(last.saturating_mul(NUMBERS).saturating_add(3)),
         None => None,
     };
-    if is_told_shut(operation) {
+    if is_told_shut(operation.reply) {
         let behind = first.max(time.saturating_add(3));
         return match operation.op {
             Op::Deq => with(operation, behind, last, Some(Reply::Empty)),

@@ -16,6 +16,13 @@ pub(crate) struct ValueCall {
     pub(crate) index: usize,
 }
 
+impl ValueCall {
+    /// Whether both are calls of one value.
+    pub(crate) fn is_of_value_of(&self, other: &ValueCall) -> bool {
+        self.from == other.from && self.body == other.body
+    }
+}
+
 /// Indices of the operations by what they are.
 #[derive(Debug, Drop)]
 pub(crate) struct ByKind {

@@ -43,6 +43,13 @@ fn told(alloc: Global, reason: &Reason) -> Result<String, AllocError> {
                 push_held(&mut line, &span.held)?;
             }
         }
+        Reason::Late { place, other } => write!(line, "no {place} Late {other}")?,
+        Reason::Twice { place, other } => write!(line, "no {place} Twice {other}")?,
+        Reason::Unshut { place } => write!(line, "no {place} Unshut")?,
+        Reason::Undrained { place, held } => {
+            write!(line, "no {place} Undrained")?;
+            push_held(&mut line, held)?;
+        }
     }
     Ok(line)
 }

@@ -53,6 +53,9 @@ pub fn by_chance(
     let mut operations = Vec::new(alloc);
     run(alloc, chance, kind, &mut operations)?;
     spoil_some(chance, &mut operations);
+    if kind.has_shuts && chance.one_in(3) {
+        swap_shut(chance, &mut operations);
+    }
     Ok(operations)
 }
 
@@ -170,4 +173,18 @@ fn spoil(chance: &mut Chance, history: &mut Vec<Stamped>) {
             }
         }
     }
+}
+
+// Changes what an operation was told: that the queue is shut, or that it isn't.
+fn swap_shut(chance: &mut Chance, history: &mut [Stamped]) {
+    let index = chance.below(history.len() as u64) as usize;
+    let Some(operation) = history.get_mut(index) else {
+        return;
+    };
+    operation.reply = match (operation.op, operation.reply) {
+        (Op::Deq, Some(Reply::Refused(Refusal::Closed))) => Some(Reply::Empty),
+        (_, Some(Reply::Refused(Refusal::Closed))) => Some(Reply::Done),
+        (_, Some(_)) => Some(Reply::Refused(Refusal::Closed)),
+        (_, None) => None,
+    };
 }

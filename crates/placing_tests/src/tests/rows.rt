@@ -53,6 +53,21 @@ const PLACED: &[Row] = &[
 2 deq first 5 last 6 at 6 reply value 1 2
 ",
     ),
+    // What was pushed before the shut is taken behind it.
+    (
+        b"history 4
+1 enq 1 first 1 last 4 at - reply done
+2 shut first 2 last 5 at - reply done
+3 deq first 3 last 6 at - reply value 1 1
+4 deq first 7 last 8 at - reply refused 16
+",
+        "history 4
+1 enq 1 first 1 last 4 at 1 reply done
+2 shut first 2 last 5 at 2 reply done
+3 deq first 3 last 6 at 3 reply value 1 1
+4 deq first 7 last 8 at 7 reply refused 16
+",
+    ),
     // Three operations have two numbers, so that each number becomes four.
     (
         b"history 3
@@ -153,6 +168,77 @@ const IMPOSSIBLE: &[Row] = &[
 ",
         "no 3 Order 2 1",
     ),
+    // A push is done after the shut ended, and one after a call ended that was told of the shut.
+    (
+        b"history 2
+1 shut first 1 last 2 at - reply done
+1 enq 1 first 3 last 4 at - reply done
+",
+        "no 2 Late 1",
+    ),
+    (
+        b"history 3
+1 shut first 1 last - at - reply -
+2 enq 1 first 2 last 3 at - reply refused 16
+2 enq 2 first 4 last 5 at - reply done
+",
+        "no 3 Late 2",
+    ),
+    (
+        b"history 2
+1 shut first 1 last 2 at - reply done
+2 deq first 3 last 4 at - reply empty
+",
+        "no 2 Late 1",
+    ),
+    // The push of the value taken is pending, and began after the shut ended.
+    (
+        b"history 3
+1 shut first 1 last 2 at - reply done
+1 enq 1 first 3 last - at - reply -
+2 deq first 4 last 5 at - reply value 1 1
+",
+        "no 3 Late 1",
+    ),
+    (
+        b"history 2
+1 shut first 1 last 4 at - reply done
+2 shut first 2 last 3 at - reply done
+",
+        "no 2 Twice 1",
+    ),
+    // Nobody shut the queue, or not yet.
+    (
+        b"history 1
+1 deq first 1 last 4 at - reply refused 16
+",
+        "no 1 Unshut",
+    ),
+    (
+        b"history 2
+1 enq 1 first 1 last 2 at - reply refused 16
+2 shut first 3 last 4 at - reply done
+",
+        "no 1 Unshut",
+    ),
+    // The push had its effect before the shut had, though it ended after that began; its value is never taken, or later.
+    (
+        b"history 3
+1 enq 1 first 1 last 4 at - reply done
+2 shut first 2 last 5 at - reply done
+3 deq first 3 last 6 at - reply refused 16
+",
+        "no 3 Undrained 1",
+    ),
+    (
+        b"history 4
+1 enq 1 first 1 last 4 at - reply done
+2 shut first 2 last 5 at - reply done
+3 deq first 3 last 6 at - reply refused 16
+3 deq first 7 last 8 at - reply value 1 1
+",
+        "no 3 Undrained 1",
+    ),
     // The value 1 is there until 7, and 2 from 6 on.
     (
         b"history 5
@@ -167,13 +253,6 @@ const IMPOSSIBLE: &[Row] = &[
 ];
 
 const OPEN: &[Row] = &[
-    // Nobody shut the queue.
-    (
-        b"history 1
-1 deq first 1 last 4 at - reply refused 16
-",
-        "open Searched",
-    ),
     // The value 2 is pushed after 1 and before it, and taken before both.
     (
         b"history 6
