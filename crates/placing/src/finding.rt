@@ -1,9 +1,10 @@
 //! Linearization points for a recorded history, or a reason why there are none.
-ghost use Rattle.std.specs.Prelude.{◌≡◌, ◌↔◌, IsTrue, IfOk, IfErr, IfSome};
+ghost use Rattle.std.specs.Prelude.{◌≡◌, ◌↔◌, IsTrue, IfOk, IfErr, IfSome, All};
 ghost use Rattle.history.specs.declared.operations.Verdict.TheVariants.{Yes};
 ghost use Rattle.history.specs.History.{verdict};
 ghost use Rattle.placing.specs.declared.answers.Placed.TheVariants.{History};
 ghost use Rattle.placing.specs.Spreading.{IsSpread};
+ghost use Rattle.placing.specs.Faults.{IsFaultless};
 ghost use Rattle.placing.specs.Answers.{IsAnswer};
 
 use crate::answers::{Placed, Reason, Unknown};
@@ -34,17 +35,20 @@ enum Found {
 
 /// Whether a recorded history is one of a queue. Its points are not read.
 ///
-/// The answer is a history with points that `check` judges Yes, or a reason that was tested, or neither. Where each value
-/// is pushed once and nothing shuts the queue, one of the first two is found; that is tested, and not proved. For other
-/// histories an order is guessed at, and then searched for within so many steps. The call takes memory for the operations, and time `n * log n` for `n` of them; a search takes both
-/// for each of its steps, and those of one that ends are at most exponential. It doesn't wait. It is refused by `Memory`
-/// alone.
+/// The answer is a history with points that `check` judges Yes, or a reason that holds, or neither; and a reason where an
+/// operation is wrong by itself. Where each value is pushed once and nothing shuts the queue, points or a reason are found;
+/// that is tested, and not proved. For other histories an order is guessed at, and then searched for within so many steps.
+/// The call takes memory for the operations, and time `n * log n` for `n` of them; a search takes both for each of its
+/// steps, and those of one that ends are at most exponential. It doesn't wait. It is refused by `Memory` alone.
 pub fn place(alloc: Global, history: &[Stamped], steps: u64) -> Result<Placed, Refusal>
     //= judge/answers (answer, only_memory): A recorded history is answered with points, by a reason that holds, or that
-    //=   neither was found. Or Memory.
+    //=   neither was found, which is said of none with an operation that is wrong by itself. Or Memory.
     ensures answer { IfOk result (IsAnswer history.now) }
     ensures only_memory { IfErr result (λ refusal. refusal ≡ Refusal.Memory) }
 {
+    if let Some(fault) = first_fault(history) {
+        return Ok(Placed::Impossible(fault));
+    }
     match find(alloc, history) {
         Ok(Found::Order(order)) => match placed(alloc, history, &order)? {
             Some(new) => Ok(Placed::History(new)),
@@ -58,6 +62,7 @@ pub fn place(alloc: Global, history: &[Stamped], steps: u64) -> Result<Placed, R
 
 // The history with points by an order that a search finds.
 fn sought(alloc: Global, history: &[Stamped], steps: u64) -> Result<Placed, Refusal>
+    requires { All IsFaultless history.now }
     ensures answer { IfOk result (IsAnswer history.now) }
     ensures only_memory { IfErr result (λ refusal. refusal ≡ Refusal.Memory) }
 {
@@ -79,6 +84,7 @@ fn excluded(
     reason: Reason,
     steps: u64,
 ) -> Result<Placed, Refusal>
+    requires { All IsFaultless history.now }
     ensures answer { IfOk result (IsAnswer history.now) }
     ensures only_memory { IfErr result (λ refusal. refusal ≡ Refusal.Memory) }
 {
@@ -151,11 +157,8 @@ fn spread_out(
     }
 }
 
-// An order of the operations, or a reason why there is none. Neither is judged yet.
+// An order of operations of which none is wrong by itself, or a reason why there is none. Neither is judged yet.
 fn find(alloc: Global, history: &[Stamped]) -> Result<Found, AllocError> {
-    if let Some(fault) = first_fault(history) {
-        return Ok(Found::Reason(fault));
-    }
     if is_shut(history) {
         if let Some(reason) = shut_fault(alloc, history, &sorted(alloc, history)?.calls)? {
             return Ok(Found::Reason(reason));

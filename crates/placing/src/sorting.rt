@@ -1,4 +1,8 @@
 //! The operations of a recorded history by what they are.
+ghost use Rattle.std.specs.Prelude.{IfSome, IfNone, All};
+ghost use Rattle.placing.specs.Reasons.{IsReason};
+ghost use Rattle.placing.specs.Faults.{HasFault, IsFaultless};
+
 use crate::answers::Reason;
 use crate::reasons::may_be_told;
 use crate::times::When;
@@ -41,21 +45,44 @@ pub(crate) fn place_of(index: usize) -> u64 {
     (index as u64).saturating_add(1)
 }
 
+/// What is wrong with an operation by itself.
+#[derive(Clone, Copy, Debug)]
+pub(crate) enum Fault {
+    Shape,
+    Span,
+    Reply,
+}
+
 /// Why the first operation that is no call, or was told amiss, is wrong.
-pub(crate) fn first_fault(history: &[Stamped]) -> Option<Reason> {
+pub(crate) fn first_fault(history: &[Stamped]) -> Option<Reason>
+    ensures found { IfSome result (IsReason history.now) }
+    ensures none { IfNone result (All IsFaultless history.now) }
+{
     for (index, operation) in history.iter().enumerate() {
-        let place = place_of(index);
-        match (operation.last, operation.reply) {
-            (None, None) => {}
-            (Some(last), Some(_)) if last < operation.first => return Some(Reason::Span { place }),
-            (Some(_), Some(reply)) if !may_be_told(reply, operation.op) => {
-                return Some(Reason::Reply { place });
-            }
-            (Some(_), Some(_)) => {}
-            (Some(_), None) | (None, Some(_)) => return Some(Reason::Shape { place }),
+        if let Some(fault) = fault_of(operation) {
+            let place = index as u64 + 1;
+            return Some(match fault {
+                Fault::Shape => Reason::Shape { place },
+                Fault::Span => Reason::Span { place },
+                Fault::Reply => Reason::Reply { place },
+            });
         }
     }
     None
+}
+
+// What is wrong with an operation by itself.
+fn fault_of(operation: &Stamped) -> Option<Fault>
+    ensures found { IfSome result (HasFault operation.now) }
+    ensures none { IfNone result (IsFaultless operation.now) }
+{
+    match (operation.last, operation.reply) {
+        (None, None) => None,
+        (Some(last), Some(_)) if last < operation.first => Some(Fault::Span),
+        (Some(_), Some(reply)) if !may_be_told(reply, operation.op) => Some(Fault::Reply),
+        (Some(_), Some(_)) => None,
+        (Some(_), None) | (None, Some(_)) => Some(Fault::Shape),
+    }
 }
 
 /// The operations of a history in which none is wrong by itself.

@@ -6,10 +6,10 @@ use std::alloc::{AllocError, Global};
 use std::test::Fail;
 use text_io::Script;
 
-/// The history with points, or a line that tells the reason, or that there is neither.
-pub fn answer(alloc: Global, text: &[u8]) -> Result<String, Fail> {
+/// The history with points, or a line that tells the reason, or that there is neither, by a search of so many steps.
+pub fn answer(alloc: Global, text: &[u8], steps: u64) -> Result<String, Fail> {
     let history = parse_history(alloc, text)?;
-    match place(alloc, &history, 1_000)? {
+    match place(alloc, &history, steps)? {
         Placed::History(new) => printed(alloc, &new),
         Placed::Impossible(reason) => Ok(told(alloc, &reason)?),
         Placed::Open(cause) => Ok(format!(in alloc; "open {cause:?}")?),

@@ -267,10 +267,51 @@ const OPEN: &[Row] = &[
     ),
 ];
 
+// The value 1 is pushed by two at one time, and the one that began later ended sooner: so 2 was pushed between them. That
+// each operation is put into the order takes a step.
+const SEARCHED: &[u8] = b"history 12
+1 enq 1 first 1 last 10 at - reply done
+1 enq 1 first 2 last 3 at - reply done
+1 enq 2 first 4 last 5 at - reply done
+2 deq first 6 last 7 at - reply value 1 1
+2 deq first 8 last 9 at - reply value 1 2
+2 deq first 11 last 12 at - reply value 1 1
+1 enq 3 first 13 last 14 at - reply done
+2 deq first 15 last 16 at - reply value 1 3
+1 enq 4 first 17 last 18 at - reply done
+2 deq first 19 last 20 at - reply value 1 4
+1 enq 5 first 21 last 22 at - reply done
+2 deq first 23 last 24 at - reply value 1 5
+";
+
+const FOUND: &str = "history 12
+1 enq 1 first 1 last 10 at 5 reply done
+1 enq 1 first 2 last 3 at 2 reply done
+1 enq 2 first 4 last 5 at 4 reply done
+2 deq first 6 last 7 at 6 reply value 1 1
+2 deq first 8 last 9 at 8 reply value 1 2
+2 deq first 11 last 12 at 11 reply value 1 1
+1 enq 3 first 13 last 14 at 13 reply done
+2 deq first 15 last 16 at 15 reply value 1 3
+1 enq 4 first 17 last 18 at 17 reply done
+2 deq first 19 last 20 at 19 reply value 1 4
+1 enq 5 first 21 last 22 at 21 reply done
+2 deq first 23 last 24 at 23 reply value 1 5
+";
+
+#[test]
+fn searches_as_many_steps_as_it_may(rt: HostRuntime) -> Result<(), Fail> {
+    for (steps, wanted) in [(0, "open Steps"), (11, "open Steps"), (1_000, FOUND)] {
+        let found = answer(rt.alloc(), SEARCHED, steps)?;
+        same(&rt, found.as_str(), wanted, steps);
+    }
+    Ok(())
+}
+
 #[test]
 fn places_what_has_an_order(rt: HostRuntime) -> Result<(), Fail> {
     for (text, wanted) in PLACED {
-        let found = answer(rt.alloc(), text)?;
+        let found = answer(rt.alloc(), text, 1_000)?;
         same(&rt, found.as_str(), wanted, "");
     }
     Ok(())
@@ -279,7 +320,7 @@ fn places_what_has_an_order(rt: HostRuntime) -> Result<(), Fail> {
 #[test]
 fn tells_why_there_is_no_order(rt: HostRuntime) -> Result<(), Fail> {
     for (text, wanted) in IMPOSSIBLE {
-        let found = answer(rt.alloc(), text)?;
+        let found = answer(rt.alloc(), text, 1_000)?;
         same(&rt, found.as_str(), wanted, "");
     }
     Ok(())
@@ -288,7 +329,7 @@ fn tells_why_there_is_no_order(rt: HostRuntime) -> Result<(), Fail> {
 #[test]
 fn tells_what_is_open(rt: HostRuntime) -> Result<(), Fail> {
     for (text, wanted) in OPEN {
-        let found = answer(rt.alloc(), text)?;
+        let found = answer(rt.alloc(), text, 1_000)?;
         same(&rt, found.as_str(), wanted, "");
     }
     Ok(())
