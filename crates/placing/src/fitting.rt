@@ -1,6 +1,6 @@
 //! Points for an order within the stamps given, wherever these have room for it.
 use crate::times::When;
-use history::{Op, Reply, Stamped};
+use history::{Op, Refusal, Reply, Stamped};
 use std::alloc::{AllocError, Global};
 use std::collections::BTreeSet;
 
@@ -139,35 +139,76 @@ fn own_rooms(alloc: Global, history: &[Stamped], lined: &[usize]) -> Result<Vec<
     Ok(rooms)
 }
 
-// The links of an order, by the operations that come behind. A take has the push of the same number.
+// The links of an order, by the operations that come behind.
 fn links_of(alloc: Global, history: &[Stamped], lined: &[usize]) -> Result<Vec<Link>, AllocError> {
-    let mut links = Vec::new(alloc);
-    let mut pushes = Vec::new(alloc);
-    let mut empties = Vec::new(alloc);
-    let mut takes = 0usize;
-    let mut last_take = None;
+    let mut linked = Linked {
+        links: Vec::new(alloc),
+        pushes: Vec::new(alloc),
+        empties: Vec::new(alloc),
+        takes: 0,
+        last_take: None,
+        shut: None,
+    };
     for (at, index) in lined.iter().enumerate() {
-        match history.get(*index).map_or(Effect::None, effect_of) {
+        let effect = history.get(*index).map_or(Effect::None, effect_of);
+        linked.add(effect, at)?;
+    }
+    Ok(linked.links)
+}
+
+// The links of the first operations of an order, and to what those behind are linked.
+#[derive(Debug, Drop)]
+struct Linked {
+    links: Vec<Link>,
+    pushes: Vec<usize>,
+    /// Those that found the queue empty since the last push.
+    empties: Vec<usize>,
+    takes: usize,
+    last_take: Option<usize>,
+    shut: Option<usize>,
+}
+
+impl Linked {
+    // Links the next operation to those before it. A take has the push of the same number.
+    fn add(&mut self, effect: Effect, at: usize) -> Result<(), AllocError> {
+        match effect {
             Effect::Push => {
-                push_links(&mut links, &empties, at)?;
-                empties.clear();
-                push_link(&mut links, pushes.last().copied(), at)?;
-                pushes.push(at)?;
+                self.link_pushes(at)?;
+                self.empties.clear();
+                self.pushes.push(at)?;
             }
             Effect::Take => {
-                push_link(&mut links, pushes.get(takes).copied(), at)?;
-                push_link(&mut links, last_take, at)?;
-                takes = takes.saturating_add(1);
-                last_take = Some(at);
+                push_link(&mut self.links, self.pushes.get(self.takes).copied(), at)?;
+                push_link(&mut self.links, self.last_take, at)?;
+                self.takes = self.takes.saturating_add(1);
+                self.last_take = Some(at);
             }
             Effect::Empty => {
-                push_link(&mut links, last_take, at)?;
-                empties.push(at)?;
+                push_link(&mut self.links, self.last_take, at)?;
+                self.empties.push(at)?;
+            }
+            Effect::Shut => {
+                self.link_pushes(at)?;
+                self.shut = Some(at);
+            }
+            Effect::ToldShut => push_link(&mut self.links, self.shut, at)?,
+            Effect::Drained => {
+                push_link(&mut self.links, self.shut, at)?;
+                push_link(&mut self.links, self.last_take, at)?;
             }
             Effect::None => {}
         }
+        Ok(())
     }
-    Ok(links)
+
+    // Links an operation to the last push and to those that found the queue empty since.
+    fn link_pushes(&mut self, at: usize) -> Result<(), AllocError> {
+        push_link(&mut self.links, self.pushes.last().copied(), at)?;
+        for before in &self.empties {
+            push_link(&mut self.links, Some(*before), at)?;
+        }
+        Ok(())
+    }
 }
 
 // What an operation of an order does to the queue.
@@ -177,12 +218,20 @@ enum Effect {
     Take,
     /// It finds the queue empty.
     Empty,
+    Shut,
+    /// It is told that the queue is shut.
+    ToldShut,
+    /// It is told that the queue is shut, and finds it empty.
+    Drained,
     None,
 }
 
 fn effect_of(operation: &Stamped) -> Effect {
     match (operation.op, operation.reply) {
-        (_, Some(Reply::Refused(_))) | (Op::Shut, _) => Effect::None,
+        (Op::Deq, Some(Reply::Refused(Refusal::Closed))) => Effect::Drained,
+        (_, Some(Reply::Refused(Refusal::Closed))) => Effect::ToldShut,
+        (_, Some(Reply::Refused(_))) => Effect::None,
+        (Op::Shut, _) => Effect::Shut,
         (Op::Enq(_), _) => Effect::Push,
         (Op::Deq, Some(Reply::Empty)) => Effect::Empty,
         (Op::Deq, _) => Effect::Take,
@@ -192,13 +241,6 @@ fn effect_of(operation: &Stamped) -> Effect {
 fn push_link(links: &mut Vec<Link>, before: Option<usize>, after: usize) -> Result<(), AllocError> {
     if let Some(before) = before {
         links.push(Link { before, after })?;
-    }
-    Ok(())
-}
-
-fn push_links(links: &mut Vec<Link>, before: &[usize], after: usize) -> Result<(), AllocError> {
-    for before in before {
-        push_link(links, Some(*before), after)?;
     }
     Ok(())
 }
