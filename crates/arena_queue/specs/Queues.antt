@@ -1,13 +1,12 @@
 -- A queue on an arena as a queue with seats.
-use Rattle.std.specs.Prelude.{◌≡◌, ℕ, List}
+use Rattle.std.specs.Prelude.{ℕ, List}
 use Rattle.line_table.specs.declared.lines.Kind.{Kind}
 use Rattle.history.specs.Seats.{Permit}
 use Rattle.node_arena.specs.declared.roles.Role.{Role}
 use Rattle.node_arena.specs.Arenas.{Arena}
 use Rattle.node_arena.specs.declared.seats.Seat.{Seat}
 use Rattle.node_arena.specs.Seats as seats
-use Rattle.node_arena.specs.Plans.{Layout}
-use Rattle.node_arena.specs.Seats.{IsReady, plan_of}
+use Rattle.node_arena.specs.Seats.{IsReady}
 use Rattle.node_arena.specs.Making.{plan, IsMade}
 use Rattle.arena_queue.specs.declared.algorithms.Algorithm.{Ghosts}
 use Rattle.arena_queue.specs.declared.queue.ArenaQueueOf.{ArenaQueueOf}
@@ -27,8 +26,3 @@ IsQueueSeat q s = IsReady (arena_of q) s
 -- a new queue of a kind, of so many nodes and this greatest count, with a new seat for each role
 abbrev pub IsQueueMade : {A : Type 0} {bits : ℕ} {g : Ghosts A bits} → Kind → (nodes limit : ℕ) → List Role → ArenaQueueOf A bits g → List Seat → Type 0
 IsQueueMade {bits = bits} kind nodes limit roles q seats = IsMade (plan bits kind nodes limit roles) (arena_of q) seats
-
--- there are the words of a queue that was made for this plan
-pub record HasQueue (z : Layout) : Type 0 where
-  pub words : Arena
-  pub made : plan_of words ≡ z

@@ -1,24 +1,24 @@
 //! A queue of either kind, with a seat for each worker and one for the submitter.
-ghost use Rattle.std.specs.Prelude.{◌≡◌, ◌≤◌, length, map, IfErr, IfOk, OnOk};
+ghost use Rattle.std.specs.Prelude.{◌≡◌, ◌≤◌, length, map, IfErr, IfOk};
 ghost use Rattle.std.specs.List.{All};
+ghost use Rattle.node_arena.specs.Seats.{plan_of};
+ghost use Rattle.any_queue.specs.Any.{any_arena_of};
 ghost use Rattle.job_results.specs.Jobs.{job_rows};
 ghost use Rattle.job_results.specs.Results.{row_of};
 ghost use Rattle.dispatcher.specs.Workers.{IsTaker, IsGiver, StopsWorkers};
-ghost use Rattle.arena_queue.specs.Queues.{HasQueue};
 ghost use Rattle.job_engine.specs.Crews.{crew_roles, crew_plan, IsCrew};
 ghost use Rattle.job_engine.specs.Works.{AreSized};
+ghost use Rattle.job_engine.specs.Queues.{queue_in};
 
-use arena_queue::{Algorithm, ArenaQueue};
+use any_queue::AnyQueue;
 use dispatcher::{Gate, dispatch};
 use history::{Fifo, Refusal};
 use job_results::{Job, JobResult};
 use line_table::Kind;
 use node_arena::{MOST_COUNT, Role};
-use nonblocking::NonBlockingAlgorithm;
 use std::alloc::Global;
 use std::sync::Wait;
 use std::thread::Threads;
-use two_lock::TwoLockAlgorithm;
 
 /// A gate that does nothing.
 #[derive(Drop)]
@@ -30,7 +30,22 @@ impl Gate for Open {
     fn after(&self, _number: u64) {}
 }
 
-/// The results of jobs, in their order, by so many workers over a queue of this kind and with so many nodes.
+/// The queue over which a list of jobs was done. No other one can be had.
+#[derive(Drop)]
+pub struct JobQueue {
+    queue: AnyQueue,
+}
+
+impl JobQueue {
+    /// The queue itself. Takes no memory and doesn't wait.
+    pub fn queue(&self) -> &AnyQueue
+        ensures { result.now ≡ queue_in self.now }
+    {
+        &self.queue
+    }
+}
+
+/// The results of jobs, in their order, by so many workers over a queue of this kind and with so many nodes; and the queue.
 ///
 /// Refused by `Memory`, and by `Lost` where a job has no result. Takes memory, starts threads, and waits.
 pub(crate) fn results_by<'a, R: Threads + Wait + Sync>(
@@ -40,19 +55,18 @@ pub(crate) fn results_by<'a, R: Threads + Wait + Sync>(
     kind: Kind,
     nodes: u32,
     jobs: &'a [Job],
-) -> Result<Vec<JobResult<'a>>, Refusal>
+) -> Result<(Vec<JobResult<'a>>, JobQueue), Refusal>
     requires sizes { AreSized workers nodes }
     requires few { length jobs.now ≤ 1000000 }
-    ensures rows { IfOk result (λ results. map row_of results.items ≡ job_rows 1 jobs.now) }
-    ensures over { OnOk result (HasQueue (crew_plan kind nodes workers)) }
+    ensures rows { IfOk result (λ r. map row_of r.0.items ≡ job_rows 1 jobs.now) }
+    ensures over { IfOk result
+        (λ r. plan_of (any_arena_of (queue_in r.1)) ≡ crew_plan kind nodes workers) }
     ensures refusal { IfErr result StopsWorkers }
 {
-    match kind {
-        Kind::TwoLock => results_over::<TwoLockAlgorithm, R>(rt, alloc, workers, nodes, jobs),
-        Kind::NonBlocking => results_over::<NonBlockingAlgorithm, R>(
-            rt, alloc, workers, nodes, jobs,
-        ),
-    }
+    let roles = roles_of(alloc, workers)?;
+    let (queue, seats) = AnyQueue::new(alloc, kind, nodes, MOST_COUNT, &roles)?;
+    let results = results_with(rt, alloc, &queue, workers, seats, jobs)?;
+    Ok((results, JobQueue { queue }))
 }
 
 // A role for each worker, and the submitter's.
@@ -67,25 +81,6 @@ fn roles_of(alloc: Global, workers: u32) -> Result<Vec<Role>, Refusal>
         Ok(()) => Ok(roles),
         Err(_) => Err(Refusal::Memory),
     }
-}
-
-// The results of jobs over a new queue of this algorithm, whose last seat is the submitter's.
-fn results_over<'a, A: Algorithm<24> + Sync, R: Threads + Wait + Sync>(
-    rt: &R,
-    alloc: Global,
-    workers: u32,
-    nodes: u32,
-    jobs: &'a [Job],
-) -> Result<Vec<JobResult<'a>>, Refusal>
-    requires sizes { AreSized workers nodes }
-    requires few { length jobs.now ≤ 1000000 }
-    ensures rows { IfOk result (λ results. map row_of results.items ≡ job_rows 1 jobs.now) }
-    ensures over { OnOk result (HasQueue (crew_plan A.kind nodes workers)) }
-    ensures refusal { IfErr result StopsWorkers }
-{
-    let roles = roles_of(alloc, workers)?;
-    let (queue, seats) = ArenaQueue::<A>::new(alloc, nodes, MOST_COUNT, &roles)?;
-    results_with(rt, alloc, &queue, workers, seats, jobs)
 }
 
 // The results of jobs over any queue, by a worker for each of its seats but the last, which is the submitter's.

@@ -2,11 +2,13 @@
 ghost use Rattle.std.specs.Prelude.{◌≡◌, ◌≢◌, ◌↔◌, IfErr, IfOk, OnOk, IsTrue, Err};
 ghost use Rattle.text_io.specs.Blocks.{GivesUp};
 ghost use Rattle.text_io.specs.Readings.{EndsReadingFor};
-ghost use Rattle.arena_queue.specs.Queues.{HasQueue};
+ghost use Rattle.node_arena.specs.Seats.{plan_of};
+ghost use Rattle.any_queue.specs.Any.{any_arena_of};
 ghost use Rattle.job_engine.specs.Crews.{crew_plan};
+ghost use Rattle.job_engine.specs.Queues.{queue_in};
 ghost use Rattle.job_engine.specs.Works.{AreSized, IsBadSize, IsTextOf, WritesResults, BeginsResults, TellsOfText, IsReadingRefusal, IsWorkRefusal, EndsReadingOrUnread};
 
-use crate::crews::results_by;
+use crate::crews::{JobQueue, results_by};
 use crate::texts::JobTexts;
 use history::Refusal;
 use job_results::Job;
@@ -25,7 +27,8 @@ const MOST_WORKERS: u32 = 64;
 const SPARE_NODES: u32 = 3;
 
 /// Does the jobs whose text the reader gives, by so many workers, 1 to 64, each in a thread of its own, over a queue of
-/// this kind and with so many nodes, from 3 more than workers to `MOST_NODE`; and writes the table of their results.
+/// this kind and with so many nodes, from 3 more than workers to `MOST_NODE`; and writes the table of their results. Answers
+/// the queue.
 ///
 /// Refusals: `BadSize` where a size is out of its range, before a byte is read; then `Memory`, as soon as a growth is
 /// refused; `Read` where a call of the reader fails; `Text` where the bytes are no jobs; `Lost` where a job has no result,
@@ -39,25 +42,27 @@ pub fn work_text<T: Threads + Wait + Sync, R: Source, W: Sink>(
     workers: u32,
     kind: Kind,
     nodes: u32,
-) -> Result<(), Refusal>
-    //= program/work (ok, quiet): `msq work` has written the results of the jobs read, each job's once and in their
-    //=   order.
-    //= program/work_sizes (ok, sized, unread, text, prefix, refusal): `msq work` is refused `BadSize` exactly where
+) -> Result<JobQueue, Refusal>
+    //= program/work (ok, quiet): At Ok `work_text` has written the results of the jobs read, each job's once and in
+    //=   their order.
+    //= program/work_sizes (ok, sized, unread, text, prefix, refusal): `work_text` is refused `BadSize` exactly where
     //=   workers aren't 1 to 64, or nodes not workers plus 3 to the greatest node's number; its reader is then as it
     //=   was. A faulty text; at `Lost` and `Write` it was that of jobs.
     ensures ok { OnOk result (WritesResults (R.state reader.old).left (W.state writer.old)
         (W.state writer.new)) }
     ensures quiet { OnOk result ((W.state writer.new).failures ≡ (W.state writer.old).failures) }
-    //= program/work_queue: At Ok of `msq work` there is a queue made for just the kind, nodes and workers asked for,
-    //=   with a seat for each worker, that may pop, one that may push, and the greatest count of all.
-    ensures over { OnOk result (HasQueue (crew_plan kind nodes workers)) }
+    //= program/work_queue: At Ok `work_text` answers a queue made for just the kind, nodes and workers asked for, with
+    //=   a seat for each worker, that may pop, one that may push, and the greatest count of all. A `JobQueue` comes only
+    //=   from the function that makes it and has the jobs done; that they went over it, no clause says.
+    ensures over { IfOk result
+        (λ done. plan_of (any_arena_of (queue_in done)) ≡ crew_plan kind nodes workers) }
     // A size out of its range is refused before anything is read.
     ensures sized { (result ≡ Err Refusal.BadSize) ↔ IsBadSize workers nodes }
     ensures unread { IfErr result (λ refusal. refusal ≡ Refusal.BadSize → reader.new ≡ reader.old) }
     // A text is refused by its first faulty line. Where jobs are lost, it was the text of jobs.
     ensures text { IfErr result (TellsOfText (R.state reader.old).left) }
     // Where writing fails, a prefix of the table is written.
-    //= program/work_refusals (prefix, write, unwritten, refusal, reader): At other refusals of `msq work` nothing;
+    //= program/work_refusals (prefix, write, unwritten, refusal, reader): At other refusals of `work_text` nothing;
     //=   there are no more. The reader tells its end, but at `BadSize`, where no call of it failed.
     ensures prefix { IfErr result (λ refusal. refusal ≡ Refusal.Write
         → BeginsResults (R.state reader.old).left (W.state writer.old) (W.state writer.new)) }
@@ -73,8 +78,9 @@ pub fn work_text<T: Threads + Wait + Sync, R: Source, W: Sink>(
         return Err(Refusal::BadSize);
     }
     let jobs = jobs_in(alloc, reader)?;
-    let results = results_by(rt, alloc, workers, kind, nodes, &jobs)?;
-    results_table(alloc, &results, writer)
+    let (results, queue) = results_by(rt, alloc, workers, kind, nodes, &jobs)?;
+    results_table(alloc, &results, writer)?;
+    Ok(queue)
 }
 
 /// Whether both sizes are in their ranges.

@@ -5,3 +5,4 @@ pub mod Within
 pub mod Told
 pub mod Shares
 pub mod Brought
+pub mod Carried

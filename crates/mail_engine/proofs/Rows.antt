@@ -8,7 +8,7 @@ use Rattle.std.proofs.Math.Seq.{get_or-append_seam}
 use Rattle.std.proofs.lemmas.Option.{slice_get-map, slice_get-get_or}
 use Rattle.history.specs.Seats.{Permit, Known, MayPush, MayPop}
 use Rattle.history.specs.Values.{OnlyPops}
-use Rattle.history.specs.Openings.{AreNew}
+use Rattle.history.specs.Openings.{AreNew, newcomer}
 use Rattle.mailbox.specs.Openings.{CanSend, CanReceive}
 use Rattle.node_arena.specs.Plans.{permits_by}
 use Rattle.mail_engine.specs.Rows.{giver, taker, givers_and_taker, giver_and_taker_roles, IsOpened}
@@ -54,10 +54,20 @@ may_pop_at n m is = (
 only_pops_at : (n m : ℕ) → m ≡ n + 1 → OnlyPops (givers_and_taker n) m
 only_pops_at n m is k may = let at = pops_at n (k - 1) may.1 in let some = may.0 in omega (arith, is, at, some)
 
--- the number of a new seat is its place, from 1 on
+-- a new seat knows nothing, and its number is its place, from 1 on
+known_at : {S : Type 0} (permits : List Permit) (known : S → Known) (seats : List S) → AreNew permits (map known seats) → (k : ℕ) (d : S) → k < length seats → known (get_or seats k d) ≡ newcomer (k + 1)
+known_at permits known seats new k d short =
+    new.each k (known (get_or seats k d)) (slice_get-map known seats k ∙ ap (λ o. elim o as (λ o'. Option Known) [ None ↦ None | Some s ↦ Some (known s) ]) (slice_get-get_or seats k d short))
+
 number_at : {S : Type 0} (permits : List Permit) (known : S → Known) (seats : List S) → AreNew permits (map known seats) → (k : ℕ) (d : S) → k < length seats → (known (get_or seats k d)).number ≡ k + 1
-number_at permits known seats new k d short =
-    ap (λ s. s.number) (new.each k (known (get_or seats k d)) (slice_get-map known seats k ∙ ap (λ o. elim o as (λ o'. Option Known) [ None ↦ None | Some s ↦ Some (known s) ]) (slice_get-get_or seats k d short)))
+number_at permits known seats new k d short = ap (λ s. s.number) (known_at permits known seats new k d short)
+
+-- the last of new seats has no entry of its own
+pub unused_last : {S : Type 0} (permits : List Permit) (known : S → Known) (seats : List S) (last : S) → AreNew permits (map known (seats ++ last ∷ [])) → (known last).mine ≡ []
+unused_last permits known seats last new =
+    let here : get_or (seats ++ last ∷ []) (length seats) last ≡ last = get_or-append_seam seats last [] last in
+    let within : length seats < length (seats ++ last ∷ []) = omega (arith, length-append seats (last ∷ [])) in
+    ap (λ s. (known s).mine) (sym here) ∙ ap (λ k. k.mine) (known_at permits known (seats ++ last ∷ []) new (length seats) last within)
 
 module _ {Q S : Type 0} (is_seat : Q → S → Type 0) (permits : Q → List Permit) (known : S → Known) (q : Q) (n : ℕ) (row : permits q ≡ givers_and_taker n) (seats : List S) (last : S) (new : AreNew (permits q) (map known (seats ++ last ∷ []))) (all : All (is_seat q) (seats ++ last ∷ [])) where
   -- there are n seats before the last one

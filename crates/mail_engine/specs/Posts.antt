@@ -4,7 +4,6 @@ use Rattle.std.specs.Io.KnownBytes.{Appends}
 use Rattle.std.specs.List.{All, filter, flat_map}
 use Rattle.std.specs.List.Sorted.{IsPermutation, IsNonDecreasingBy, IsStableByKey}
 use Rattle.std.specs.Ordering.{nat_cmp}
-use Rattle.line_table.specs.declared.lines.Kind.{Kind}
 use Rattle.text_lines.specs.Numerals.{IsWithin}
 use Rattle.text_io.specs.Devices.{SinkState}
 use Rattle.text_io.specs.Blocks.{TakesPrefix}
@@ -14,8 +13,6 @@ use Rattle.mail_text.specs.MailTexts.{SaidLetter, mail_text, IsMailInRange, IsFi
 use Rattle.mailbox.specs.declared.receiver.Letter.{Letter}
 use Rattle.mailbox.specs.Posting.{texts_of}
 use Rattle.text_io.specs.Readings.{WereAll}
-use Rattle.arena_queue.specs.Queues.{HasQueue}
-use Rattle.mail_engine.specs.Rows.{mail_plan}
 
 -- the line that says how many letters there are
 unfoldable pub count_text : ℕ → List ℕ
@@ -44,27 +41,25 @@ abbrev pub said_by : (sender : ℕ) → List SaidLetter → List (List ℕ)
 said_by sender letters = map (λ (l : SaidLetter). l.text) (filter (λ (l : SaidLetter). nat_eq l.from sender) letters)
 
 -- as many letters as these were taken, each of one of so many senders, with the texts of each sender in its order; these are
--- they, by sender; and a queue of this kind was made for them
-pub record AreTaken (kind : Kind) (senders : ℕ) (letters : List SaidLetter) (told : List Letter) : Type 0 where
+-- they, by sender
+pub record AreTaken (senders : ℕ) (letters : List SaidLetter) (told : List Letter) : Type 0 where
   pub taken : List Letter
   pub count_is : length taken ≡ length letters
   pub from : All (λ (l : Letter). IsWithin 1 senders l.from) taken
   pub texts : (sender : ℕ) → IsWithin 1 senders sender → texts_of sender taken ≡ said_by sender letters
   pub order : AreBySender taken told
-  pub over : HasQueue (mail_plan kind (length letters) senders)
 
 -- known bytes were the text of these letters of so many senders, which are in range
 pub record IsTextOf (given : Option (List ℕ)) (senders : ℕ) (letters : List SaidLetter) : Type 0 where
   pub in_range : IsMailInRange senders letters
   pub read : WereAll given (mail_text senders letters)
 
--- known bytes were the text of letters, and those were taken, for which a queue of this kind was made; these are they, by
--- sender
-pub record ArePosted (kind : Kind) (given : Option (List ℕ)) (told : List Letter) : Type 0 where
+-- known bytes were the text of letters, and those were taken; these are they, by sender
+pub record ArePosted (given : Option (List ℕ)) (told : List Letter) : Type 0 where
   pub senders : ℕ
   pub letters : List SaidLetter
   pub text : IsTextOf given senders letters
-  pub taken : AreTaken kind senders letters told
+  pub taken : AreTaken senders letters told
 
 -- the text of such letters was written
 abbrev pub WritesLetters : (List Letter → Type 0) → (old new : SinkState) → Type 0

@@ -8,4 +8,4 @@ mod telling;
 mod texts;
 
 pub use opening::mail_queue;
-pub use posting::post_text;
+pub use posting::{Carrier, post_text};

@@ -1,34 +1,46 @@
 //! Reads the text of mail, sends its letters, and writes the letters taken.
 ghost use Rattle.std.specs.Prelude.{◌≡◌, ◌≢◌, length, IfErr, IfOk, OnOk};
+ghost use Rattle.node_arena.specs.Seats.{known_of, plan_of};
 ghost use Rattle.text_io.specs.Blocks.{GivesUp};
 ghost use Rattle.mail_text.specs.MailTexts.{said_letters, IsMailInRange};
 ghost use Rattle.text_io.specs.Readings.{EndsReadingFor};
-ghost use Rattle.arena_queue.specs.Queues.{HasQueue};
+ghost use Rattle.arena_queue.specs.Queues.{arena_of, permits_of, IsQueueSeat};
 ghost use Rattle.mail_engine.specs.Rows.{mail_plan, IsOpened};
 ghost use Rattle.mail_engine.specs.Posts.{IsTextOf, ArePosted, AreTaken, WritesLetters, BeginsLetters, TellsOfText, IsReadingRefusal, IsSendingRefusal, IsPostRefusal};
+ghost use Rattle.mail_engine.specs.Carriers.{arena_in, seat_in, Carried, CarriedText, queue_in, taker_in};
 
 use crate::opening::mail_queue;
 use crate::sharing::tasks_of;
 use crate::telling::tell;
 use crate::texts::MailTexts;
-use arena_queue::Algorithm;
-use history::{Fifo, Refusal};
+use arena_queue::{Algorithm, ArenaQueue};
+use history::Refusal;
 use line_table::Kind;
 use mail_text::Mail;
-use mailbox::{Office, post};
-use node_arena::MOST_COUNT;
-use nonblocking::NonBlockingAlgorithm;
+use mailbox::{Office, Receiver, post};
+use node_arena::{MOST_COUNT, Seat};
+use nonblocking::{MsQueue, NonBlockingAlgorithm};
 use std::alloc::Global;
 use std::sync::Wait;
 use std::thread::Threads;
 use text_io::{Sink, Source, parse_source};
-use two_lock::TwoLockAlgorithm;
+use two_lock::{TwoLockAlgorithm, TwoLockQueue};
 
 /// How many nodes more than letters and senders there are.
 const SPARE_NODES: u32 = 2;
 
+/// What carried letters: an office over a queue of either kind, and its receiver.
+#[derive(Drop)]
+pub enum Carrier {
+    /// Over the two-lock queue.
+    TwoLock(Office<TwoLockQueue>, Receiver<TwoLockQueue>),
+    /// Over the non-blocking queue.
+    NonBlocking(Office<MsQueue>, Receiver<MsQueue>),
+}
+
 /// Sends the letters whose text the reader gives, each sender's in a thread of its own, over a queue of this kind; takes
 /// them, and writes how many they are and a line for each: by rising sender, those of one sender in the order taken.
+/// Answers the office and its receiver.
 ///
 /// The queue has as many nodes as there are letters and senders, and two more, and the greatest count of all. Refusals, in
 /// this order: `Memory`, as soon as a growth is refused; `Read` where a call of the reader fails; `Text` where the bytes
@@ -41,18 +53,18 @@ pub fn post_text<T: Threads + Wait + Sync, R: Source, W: Sink>(
     reader: &mut R,
     writer: &mut W,
     kind: Kind,
-) -> Result<(), Refusal>
-    // The letters that were read were taken, each sender's in its order, and a queue of this kind was made for them, with as
-    // many nodes as there are letters and senders, and two more; their text is written, and nothing else.
+) -> Result<Carrier, Refusal>
+    // The letters that were read were taken, each sender's in its order; their text is written, and nothing else.
     //= letters/post_text (ok, quiet): At Ok the text read was that of mail in range. As many letters were taken as it
     //=   has, those of each sender with the texts read, in their order; their text is written, by rising sender, those
     //=   of one as taken.
-    //= letters/queue (ok, prefix): Where letters, or a prefix, are told, there is a queue made for just the kind
-    //=   asked for and the letters and senders read, of the nodes and greatest count in docs/FORMATS.md, with a seat
-    //=   that may push for each sender, one that may pop (`AreTaken`).
-    ensures ok { OnOk result (WritesLetters (ArePosted kind (R.state reader.old).left)
+    ensures ok { OnOk result (WritesLetters (ArePosted (R.state reader.old).left)
         (W.state writer.old) (W.state writer.new)) }
     ensures quiet { OnOk result ((W.state writer.new).failures ≡ (W.state writer.old).failures) }
+    //= letters/queue: At Ok `post_text` answers a queue and a seat of it, which alone may pop. The queue was made for
+    //=   just the kind asked for and the letters and senders read, of the nodes and greatest count in docs/FORMATS.md;
+    //=   the seat popped one value for each letter, as many of each sender as it has letters.
+    ensures carried { IfOk result (CarriedText kind (R.state reader.old).left) }
     // A text is refused by its first faulty line. Where sending or writing is refused, it was the text of mail.
     //= letters/text_refusals (text, prefix, write, unwritten, refusal, reader): A faulty text; one that is none of
     //=   mail is answered by `Text`, `Memory` or `Read`: at any other refusal it was that of mail in range. At other
@@ -60,7 +72,7 @@ pub fn post_text<T: Threads + Wait + Sync, R: Source, W: Sink>(
     ensures text { IfErr result (TellsOfText (R.state reader.old).left) }
     // Where writing fails, a prefix of the text is written.
     ensures prefix { IfErr result (λ refusal. refusal ≡ Refusal.Write
-        → BeginsLetters (ArePosted kind (R.state reader.old).left) (W.state writer.old)
+        → BeginsLetters (ArePosted (R.state reader.old).left) (W.state writer.old)
         (W.state writer.new)) }
     ensures write { IfErr result (λ refusal. refusal ≡ Refusal.Write
         → GivesUp (W.state writer.old) (W.state writer.new)) }
@@ -85,20 +97,22 @@ fn mail_in<R: Source>(alloc: Global, reader: &mut R) -> Result<Mail, Refusal>
     parse_source::<MailTexts, R>(alloc, reader)
 }
 
-// Sends letters over a queue of this kind, and writes those taken.
+// Sends letters over a queue of this kind, and writes those taken; what carried them.
 fn post_mail<T: Threads + Wait + Sync, W: Sink>(
     rt: &T,
     alloc: Global,
     mail: Mail,
     writer: &mut W,
     kind: Kind,
-) -> Result<(), Refusal>
+) -> Result<Carrier, Refusal>
     requires { IsMailInRange mail.senders (said_letters mail.letters.items) }
-    ensures ok { OnOk result (WritesLetters (AreTaken kind mail.senders (said_letters mail.letters.items))
+    ensures ok { OnOk result (WritesLetters (AreTaken mail.senders (said_letters mail.letters.items))
         (W.state writer.old) (W.state writer.new)) }
     ensures quiet { OnOk result ((W.state writer.new).failures ≡ (W.state writer.old).failures) }
+    ensures carried { IfOk result (λ c.
+        Carried kind mail.senders (said_letters mail.letters.items) (arena_in c) (seat_in c)) }
     ensures prefix { IfErr result (λ refusal. refusal ≡ Refusal.Write
-        → BeginsLetters (AreTaken kind mail.senders (said_letters mail.letters.items))
+        → BeginsLetters (AreTaken mail.senders (said_letters mail.letters.items))
         (W.state writer.old) (W.state writer.new)) }
     ensures write { IfErr result (λ refusal. refusal ≡ Refusal.Write
         → GivesUp (W.state writer.old) (W.state writer.new)) }
@@ -107,24 +121,34 @@ fn post_mail<T: Threads + Wait + Sync, W: Sink>(
     ensures refusal { IfErr result IsSendingRefusal }
 {
     match kind {
-        Kind::TwoLock => post_by::<TwoLockAlgorithm, T, W>(rt, alloc, mail, writer),
-        Kind::NonBlocking => post_by::<NonBlockingAlgorithm, T, W>(rt, alloc, mail, writer),
+        Kind::TwoLock => {
+            let (office, receiver) = post_by::<TwoLockAlgorithm, T, W>(rt, alloc, mail, writer)?;
+            Ok(Carrier::TwoLock(office, receiver))
+        }
+        Kind::NonBlocking => {
+            let (office, receiver) = post_by::<NonBlockingAlgorithm, T, W>(
+                rt, alloc, mail, writer,
+            )?;
+            Ok(Carrier::NonBlocking(office, receiver))
+        }
     }
 }
 
-// Sends letters over a queue of this algorithm, and writes those taken.
+// Sends letters over a queue of this algorithm, and writes those taken; the office and its receiver.
 fn post_by<A: Algorithm<24> + Sync + Drop, T: Threads + Wait + Sync, W: Sink>(
     rt: &T,
     alloc: Global,
     mail: Mail,
     writer: &mut W,
-) -> Result<(), Refusal>
+) -> Result<(Office<ArenaQueue<A>>, Receiver<ArenaQueue<A>>), Refusal>
     requires { IsMailInRange mail.senders (said_letters mail.letters.items) }
-    ensures ok { OnOk result (WritesLetters (AreTaken A.kind mail.senders (said_letters mail.letters.items))
+    ensures ok { OnOk result (WritesLetters (AreTaken mail.senders (said_letters mail.letters.items))
         (W.state writer.old) (W.state writer.new)) }
     ensures quiet { OnOk result ((W.state writer.new).failures ≡ (W.state writer.old).failures) }
+    ensures carried { IfOk result (λ r. Carried A.kind mail.senders (said_letters mail.letters.items)
+        (arena_of (queue_in r.0)) (taker_in r.1)) }
     ensures prefix { IfErr result (λ refusal. refusal ≡ Refusal.Write
-        → BeginsLetters (AreTaken A.kind mail.senders (said_letters mail.letters.items))
+        → BeginsLetters (AreTaken mail.senders (said_letters mail.letters.items))
         (W.state writer.old) (W.state writer.new)) }
     ensures write { IfErr result (λ refusal. refusal ≡ Refusal.Write
         → GivesUp (W.state writer.old) (W.state writer.new)) }
@@ -135,28 +159,31 @@ fn post_by<A: Algorithm<24> + Sync + Drop, T: Threads + Wait + Sync, W: Sink>(
     let senders = mail.senders;
     let nodes = mail.letters.len() as u32 + u32::from(senders) + SPARE_NODES;
     let (queue, seats, receiver) = mail_queue::<A>(alloc, nodes, MOST_COUNT, senders)?;
-    post_over(rt, alloc, A::kind(), queue, seats, receiver, mail, writer)
+    post_over(rt, alloc, queue, seats, receiver, mail, writer)
 }
 
-// Sends letters over a new queue with these seats, and writes those taken.
-fn post_over<T: Threads + Wait + Sync, Q: Fifo + Sync + Drop, W: Sink>(
+// Sends letters over the queue that was made for them, with these seats, and writes those taken; the office and its
+// receiver.
+fn post_over<A: Algorithm<24> + Sync + Drop, T: Threads + Wait + Sync, W: Sink>(
     rt: &T,
     alloc: Global,
-    kind: Kind,
-    queue: Q,
-    seats: Vec<Q::Seat>,
-    receiver: Q::Seat,
+    queue: ArenaQueue<A>,
+    seats: Vec<Seat>,
+    receiver: Seat,
     mail: Mail,
     writer: &mut W,
-) -> Result<(), Refusal>
+) -> Result<(Office<ArenaQueue<A>>, Receiver<ArenaQueue<A>>), Refusal>
     requires mail { IsMailInRange mail.senders (said_letters mail.letters.items) }
-    requires opened { IsOpened Q.is_seat Q.permits Q.known mail.senders queue seats.items receiver }
-    requires over { HasQueue (mail_plan kind (length (said_letters mail.letters.items)) mail.senders) }
-    ensures ok { OnOk result (WritesLetters (AreTaken kind mail.senders (said_letters mail.letters.items))
+    requires opened { IsOpened IsQueueSeat permits_of known_of mail.senders queue seats.items receiver }
+    requires made { plan_of (arena_of queue)
+        ≡ mail_plan A.kind (length (said_letters mail.letters.items)) mail.senders }
+    ensures ok { OnOk result (WritesLetters (AreTaken mail.senders (said_letters mail.letters.items))
         (W.state writer.old) (W.state writer.new)) }
     ensures quiet { OnOk result ((W.state writer.new).failures ≡ (W.state writer.old).failures) }
+    ensures carried { IfOk result (λ r. Carried A.kind mail.senders (said_letters mail.letters.items)
+        (arena_of (queue_in r.0)) (taker_in r.1)) }
     ensures prefix { IfErr result (λ refusal. refusal ≡ Refusal.Write
-        → BeginsLetters (AreTaken kind mail.senders (said_letters mail.letters.items))
+        → BeginsLetters (AreTaken mail.senders (said_letters mail.letters.items))
         (W.state writer.old) (W.state writer.new)) }
     ensures write { IfErr result (λ refusal. refusal ≡ Refusal.Write
         → GivesUp (W.state writer.old) (W.state writer.new)) }
@@ -167,6 +194,7 @@ fn post_over<T: Threads + Wait + Sync, Q: Fifo + Sync + Drop, W: Sink>(
     let (office, senders, receiver) = Office::new(alloc, queue, seats, receiver)?;
     let tasks = tasks_of(alloc, senders, mail.letters)?;
     let planned = office.for_tasks(alloc, &tasks)?;
-    let (_receiver, letters) = post(rt, alloc, &planned, tasks, receiver);
-    tell(letters?, writer)
+    let (receiver, letters) = post(rt, alloc, &planned, tasks, receiver);
+    tell(letters?, writer)?;
+    Ok((planned, receiver))
 }

@@ -86,8 +86,12 @@ fn outcome_on<R: Runtime + AllocGlobal + Threads + Wait + Sync, S: Source + Drop
                 },
             );
         }
-        Task::Work(options) => work_by(rt, rt.alloc(), options, &mut reader, &mut writer)?,
-        Task::Post(kind) => post_text(rt, rt.alloc(), &mut reader, &mut writer, kind)?,
+        Task::Work(options) => {
+            let _ = work_by(rt, rt.alloc(), options, &mut reader, &mut writer)?;
+        }
+        Task::Post(kind) => {
+            let _ = post_text(rt, rt.alloc(), &mut reader, &mut writer, kind)?;
+        }
     }
     Ok(Ending::Well)
 }

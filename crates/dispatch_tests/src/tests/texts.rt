@@ -1,7 +1,9 @@
 //! Texts of jobs that are done over both queues, from any source to any sink.
 use super::queues::KINDS;
+use any_queue::AnyQueue;
 use history::Refusal;
 use job_engine::work_text;
+use line_table::Kind;
 use std::test::Fail;
 use text_io::{Script, Trouble};
 
@@ -39,22 +41,35 @@ len              2
 div              1
 ";
 
+/// The place of Head among the words of a queue.
+const HEAD: usize = 2;
+
+// Which kind of queue this is, and how many values were taken from it: the count of its Head.
+fn taken(queue: &AnyQueue) -> (Kind, Option<u64>) {
+    let (kind, head) = match queue {
+        AnyQueue::NonBlocking(queue) => (Kind::NonBlocking, queue.peek(HEAD)),
+        AnyQueue::TwoLock(queue) => (Kind::TwoLock, queue.peek(HEAD)),
+    };
+    (kind, head.map(|word| word >> 24))
+}
+
+/// As many values as jobs were taken from the queue that is answered.
 #[test]
 fn each_jobs_result_is_told_in_order(rt: HostRuntime) -> Result<(), Fail> {
-    let rows: [(&[u8], &[u8]); 3] = [
-        (FOUR, FOUR_TOLD),
-        (THREE, THREE_TOLD),
-        (b"jobs 0\n", b"results 0\n"),
+    let rows: [(&[u8], &[u8], u64); 3] = [
+        (FOUR, FOUR_TOLD, 4),
+        (THREE, THREE_TOLD, 3),
+        (b"jobs 0\n", b"results 0\n", 0),
     ];
-    for (text, told) in &rows {
+    for (text, told, jobs) in &rows {
         for kind in KINDS {
             for piece in [1, 7, 4096] {
                 let mut reader = Script::reader(rt.alloc(), text, piece)?;
                 let mut writer = Script::writer(rt.alloc(), 1000, piece)?;
                 let answer = work_text(&rt, rt.alloc(), &mut reader, &mut writer, 2, kind, 5);
                 assert_eq!(rt;
-                    (answer, writer.written()),
-                    (Ok(()), *told),
+                    (answer.map(|done| taken(done.queue())), writer.written()),
+                    (Ok((kind, Some(*jobs))), *told),
                     "{piece} of {kind:?}"
                 );
             }
@@ -75,7 +90,7 @@ fn a_call_that_fails_ends_it(rt: HostRuntime) -> Result<(), Fail> {
                 let told = (call as usize - 1) * 17;
                 assert!(rt; told <= FOUR_TOLD.len());
                 assert_eq!(rt;
-                    (answer, writer.written()),
+                    (answer.map(|_| ()), writer.written()),
                     (Err(Refusal::Write), &FOUR_TOLD[..told])
                 );
             }
@@ -85,7 +100,7 @@ fn a_call_that_fails_ends_it(rt: HostRuntime) -> Result<(), Fail> {
             let mut writer = Script::writer(rt.alloc(), 1000, 17)?;
             let answer = work_text(&rt, rt.alloc(), &mut reader, &mut writer, 2, kind, 5);
             assert_eq!(rt;
-                (answer, writer.written()),
+                (answer.map(|_| ()), writer.written()),
                 (Err(Refusal::Read), b"".as_slice())
             );
         }

@@ -57,7 +57,7 @@ fn posts<R: Threads + Wait + Sync + Abort>(
     tried: usize,
 ) {
     let answer = post_text(rt, alloc, &mut reader, &mut writer, kind);
-    let found = (answer, writer.written());
+    let found = (answer.map(|_| ()), writer.written());
     same(rt, found, wanted, format_args!("{tried} of {kind:?}"));
 }
 

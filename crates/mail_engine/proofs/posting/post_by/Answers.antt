@@ -1,19 +1,14 @@
-use Rattle.std.proofs.Common.{arith, ◌≡◌, ◌+◌, ◌-◌, ◌^◌, length, sym, subst, ap, ◌∙◌}
+use Rattle.std.proofs.Common.{arith, ◌≡◌, ◌+◌, ◌-◌, ◌^◌, length, ap, ◌∙◌}
 use Rattle.std.proofs.lemmas.List.{length-map}
 use Rattle.counted_ref.specs.Ref.{count_bits}
-use Rattle.line_table.specs.declared.lines.Kind.{Kind}
 use Rattle.mail_text.specs.MailTexts.{said_letter, said_letters}
-use Rattle.node_arena.specs.Seats.{plan_of}
 use Rattle.node_arena.specs.Making.{plan}
-use Rattle.arena_queue.specs.Queues.{HasQueue, arena_of}
-use Rattle.mail_engine.specs.Rows.{giver_and_taker_roles, mail_plan}
+use Rattle.mail_engine.specs.Rows.{giver_and_taker_roles}
 use Rattle.mail_engine.proofs.posting.post_by.Goals as goal
 
-pub post_over-requires-clause-over : goal.post_over-requires-clause-over
-post_over-requires-clause-over g c κs within =
+pub post_over-requires-clause-made : goal.post_over-requires-clause-made
+post_over-requires-clause-made g c κs within =
     let letters = length (said_letters c.args.mail.letters.items) in
     let count = length-map c.args.mail.letters.items said_letter in
     let nodes : c.len.result + c.from.result + 2 ≡ letters + c.args.mail.senders + 2 = omega (arith, c.len.ensures, c.from.ensures, count) in
-    let made : plan_of (arena_of c.in_ok-queue.queue) ≡ mail_plan g.A.Algorithm.kind letters c.args.mail.senders =
-    c.in_ok-queue.ensures.made.plan ∙ ap (λ n. plan 24 g.A.Algorithm.kind n (2 ^ count_bits 24 - 1) (giver_and_taker_roles c.args.mail.senders)) nodes in
-    subst (λ (kind : Kind). HasQueue (mail_plan kind letters c.args.mail.senders)) (sym c.kind.ensures) (record { words = arena_of c.in_ok-queue.queue; made = made })
+    c.in_ok-queue.ensures.made.plan ∙ ap (λ n. plan 24 g.A.Algorithm.kind n (2 ^ count_bits 24 - 1) (giver_and_taker_roles c.args.mail.senders)) nodes

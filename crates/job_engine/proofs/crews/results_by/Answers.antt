@@ -1,22 +1,19 @@
 use Rattle.std.proofs.Common.{◌-◌, ◌^◌, ◌∙◌, ap}
-use Rattle.std.proofs.lemmas.Result.{IfOk-weaker}
 use Rattle.counted_ref.specs.Ref.{count_bits}
 use Rattle.node_arena.specs.Plans.{permits_by}
 use Rattle.node_arena.specs.Making.{plan}
 use Rattle.node_arena.specs.Seats.{known_of}
-use Rattle.arena_queue.specs.Queues.{IsQueueSeat, arena_of, permits_of}
+use Rattle.any_queue.specs.Any.{IsAnySeat, any_permits_of}
 use Rattle.job_engine.proofs.NewSeats.{crew-new}
-use Rattle.job_engine.proofs.crews.results_over.Goals as goal
+use Rattle.job_engine.proofs.crews.results_by.Goals as goal
 
 pub results_with-requires-clause-crew : goal.results_with-requires-clause-crew
 results_with-requires-clause-crew g c κs within =
     let made = c.in_ok-queue in
     let roles = c.deref.ensures.value ∙ c.in_ok-roles.ensures.roles in
-    crew-new IsQueueSeat permits_of known_of made.queue made.seats.items c.args.workers
+    crew-new IsAnySeat any_permits_of known_of made.queue made.seats.items c.args.workers
     (made.ensures.permits ∙ ap permits_by roles) made.ensures.seats made.ensures.unused
 
 pub returns-clause-over : goal.returns-clause-over
 returns-clause-over g c =
-    let roles = c.deref.ensures.value ∙ c.in_ok-roles.ensures.roles in
-    let made = c.in_ok-queue.ensures.ok.plan ∙ ap (plan 24 g.A.Algorithm.kind c.args.nodes (2 ^ count_bits 24 - 1)) roles in
-    IfOk-weaker c.results_with.result _ _ (λ results h. record { words = arena_of c.in_ok-queue.queue; made = made }) c.results_with.ensures.rows
+    c.in_ok-queue.ensures.ok.plan ∙ ap (plan 24 c.args.kind c.args.nodes (2 ^ count_bits 24 - 1)) (c.deref.ensures.value ∙ c.in_ok-roles.ensures.roles)

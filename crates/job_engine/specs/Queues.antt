@@ -1,0 +1,7 @@
+-- The queue over which jobs were done.
+use Rattle.any_queue.specs.declared.any.AnyQueue.{AnyQueue}
+use Rattle.job_engine.specs.declared.crews.JobQueue.{JobQueue}
+
+-- the queue itself
+abbrev pub queue_in : JobQueue → AnyQueue
+queue_in done = done.queue
