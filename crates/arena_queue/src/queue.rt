@@ -68,8 +68,9 @@ impl<A: Algorithm<B>, const B: u32> ArenaQueueOf<A, B> {
         ))
     }
 
-    /// What a word of the queue's arena holds, by one load of one moment, for inspection; none exactly where there is no
-    /// such word. It tells nothing of what a seat has seen. Takes no memory and doesn't wait.
+    /// What a word of the queue's arena holds, by one load, for inspection; none exactly where there is no such word. The
+    /// clause says no more than that it may hold this in some reachable world, as a new queue's words do: nothing of this
+    /// moment, nor of what a seat has seen. Takes no memory and doesn't wait.
     ///
     /// ```rust
     /// // Word 2 is Head. In a new queue it names node 1, with count 0.

@@ -23,9 +23,9 @@ pub fn check_text<R: Source, W: Sink>(
     reader: &mut R,
     writer: &mut W,
 ) -> Result<Verdict, Refusal>
-    //= program/check (ok, quiet): `msq check` answers the verdict on the history read, Yes exactly where that is placed
+    //= program/check (ok, quiet): `check_text` answers the verdict on the history read, Yes exactly where that is placed
     //=   and legal, and its text is written.
-    //= program/judge_refusals (ok, text, prefix, write, unwritten, refusal, reader): `msq check` and `msq place`
+    //= program/judge_refusals (ok, text, prefix, write, unwritten, refusal, reader): `check_text` and `place_text`
     //=   have the usual refusals, for a faulty text of either kind.
     ensures ok { IfOk result (TellsVerdict (R.state reader.old).left (W.state writer.old)
         (W.state writer.new)) }

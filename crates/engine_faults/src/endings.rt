@@ -37,8 +37,8 @@ impl From<Verdict> for Ending {
 /// Where the writer fails too, the status alone tells of the fault. It takes no memory; whether it
 /// waits is up to the writer.
 pub fn end_of<W: Sink>(outcome: Result<Ending, Fault>, writer: &mut W) -> u8
-    //= program/status (status, silent, line): The exit status is that of docs/FORMATS.md. At a fault one line is
-    //=   written, or a prefix of it where the writer gives up; else nothing is.
+    //= program/status (status, silent, line): The exit status told of an outcome is that of docs/FORMATS.md. At a
+    //=   fault one line is written, or a prefix of it where the writer gives up; else nothing is.
     ensures status { result ≡ status_of outcome }
     ensures silent { OnOk outcome (writer.new ≡ writer.old) }
     ensures line { OnErr outcome (TakesLine (W.state writer.old) (W.state writer.new)) }

@@ -34,7 +34,8 @@ pub record IsLinearizableMoment (z : Layout) (s : State ℕ View) : Type 0 where
   pub legal : IsLegal world.operations
   pub linearizable : IsLinearizable world.operations
 
--- a word of the table held this number at some moment: in a traced world of the arena, which moves lead to
+-- a word of the table may hold this number: it does in some traced world that moves lead to from the opening one of this
+-- plan, of whichever moment
 pub record WasWord (z : Layout) (word n : ℕ) : Type 0 where
   pub was : Traced
   pub reached : IsTraced was

@@ -8,11 +8,13 @@ use crate::places::place;
 use std::marker::Brand;
 
 impl<const B: u32> ArenaOf<B> {
-    /// What a word holds, by one load of one moment, for inspection; none exactly where there is no such word. It tells
-    /// nothing of what a seat has seen. Takes no memory and doesn't wait.
+    /// What a word holds, by one load, for inspection; none exactly where there is no such word. The clause says no more
+    /// than that it may hold this in some reachable world, as a new arena's words do: nothing of this moment, nor of what a
+    /// seat has seen. Takes no memory and doesn't wait.
     pub fn peek(&self, word: usize) -> Option<u64>
         //= atomics/peek (none, held): A look at a shared word answers none exactly where there is no such word, and
-        //=   else that word of a reachable traced world of the arena.
+        //=   else what it holds in some reachable traced world of an arena so made: of which moment isn't said, and a new
+        //=   arena's word is one.
         ensures none { IsNone result ↔ (6 + 2 * (setup_of self.now).size ≤ word) }
         ensures held { IfSome result (WasWord (plan_of self.now) word) }
     {

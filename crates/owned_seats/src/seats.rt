@@ -36,7 +36,8 @@ impl<Q: Fifo + Drop> OwnedSeat<Q> {
             (Q.known (seat_of self.old)).number }
         requires turns { 1 ≤ turns }
         //= library/owned (queue, seat, number, pushed, refused, refusal, caused): A call by a seat with its share has the
-        //=   clauses of the queue's own over what the seat knows, and keeps its queue.
+        //=   clauses of `Fifo`'s own over what the seat knows, and keeps its queue. What `ArenaQueue` says beyond these, of
+        //=   failed turns, pockets and kept nodes, it doesn't.
         ensures queue { queue_of self.new ≡ queue_of self.old }
         ensures seat { Q.is_seat (queue_of self.new) (seat_of self.new) }
         ensures number { (Q.known (seat_of self.new)).number ≡ (Q.known (seat_of self.old)).number }

@@ -27,7 +27,7 @@ pub fn place_text<R: Source, W: Sink>(
     writer: &mut W,
     steps: u64,
 ) -> Result<Placed, Refusal>
-    //= program/place (ok, quiet): `msq place` answers points, a reason or that it is open, for the history read or the
+    //= program/place (ok, quiet): `place_text` answers points, a reason or that it is open, for the history read or the
     //=   recording's, and its text is written. With points the history is one of a queue, with a reason it isn't.
     //= program/judge_refusals (ok, text, prefix, write, unwritten, refusal, reader)
     ensures ok { IfOk result (TellsPlaces (R.state reader.old).left (W.state writer.old)

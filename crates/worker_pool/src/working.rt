@@ -253,7 +253,7 @@ fn put<S: Drop>(seats: &mut Vec<S>, seat: S) -> Result<(), Refusal>
 }
 
 /// Hands out the jobs from 1 to `most` on a new queue, does them in three threads, and answers what they found: as many
-/// jobs were done as were handed out.
+/// values were taken, and jobs counted, as were handed out.
 ///
 /// Refusals: `Memory` and `WornOut`; where a word is worn out so that the queue can't be shut, the workers wait for good.
 /// Where a thread can't be made its part is done after the others, so the queue needs room for all jobs. Takes memory for the
@@ -268,7 +268,7 @@ pub fn run<R: Threads + Wait + Sync, Q: Fifo + Sync + Drop>(
     requires seats { AreSeats Q.is_seat Q.permits Q.known queue seats.items }
     requires bodies { most < 2 ^ body_bits }
     //= callers/workers: Three workers on a new queue, any `Fifo`, and a seat that hands out `most` jobs, a number of a
-    //=   body: at Ok as many were done.
+    //=   body: at Ok as many are told as done; that they were, no clause says.
     ensures { IfOk result (λ found. found.jobs ≡ most) }
 {
     let team = team_of(&queue, seats);
