@@ -1,12 +1,16 @@
 //! Commands with options, which are handed on to the engines.
-ghost use Rattle.std.specs.Prelude.{◌≡◌, ◌↔◌, Err, OnOk};
+ghost use Rattle.std.specs.Prelude.{◌≡◌, ◌↔◌, Err, IfOk, OnOk};
+ghost use Rattle.node_arena.specs.Seats.{plan_of};
+ghost use Rattle.any_queue.specs.Any.{any_arena_of};
+ghost use Rattle.job_engine.specs.Crews.{crew_plan};
+ghost use Rattle.job_engine.specs.Queues.{queue_in};
 ghost use Rattle.job_engine.specs.Works.{IsBadSize};
 ghost use Rattle.msq.specs.Options.{Draws};
 
 use command_line::{Crew, View as Asked};
 use engine_faults::Fault;
 use history::Refusal;
-use job_engine::work_text;
+use job_engine::{JobQueue, work_text};
 use show_engine::{View, show_history, show_text};
 use std::alloc::Global;
 use std::sync::Wait;
@@ -38,16 +42,18 @@ pub(crate) fn show_by<S: Source, W: Sink>(
     show_text(alloc, reader, writer, view)
 }
 
-/// Does the jobs that a source gives, by the options of `work`.
+/// Does the jobs that a source gives, by the options of `work`, and answers their queue.
 pub(crate) fn work_by<T: Threads + Wait + Sync, S: Source, W: Sink>(
     rt: &T,
     alloc: Global,
     options: Crew,
     reader: &mut S,
     writer: &mut W,
-) -> Result<(), Refusal>
-    //= program/work_options: `msq work` is refused `BadSize` exactly where the workers or the nodes that its options ask
-    //=   for are out of range.
+) -> Result<JobQueue, Refusal>
+    //= program/work_options (over, sized): `msq work` takes workers, queue and nodes as its options ask for: for these is
+    //=   the queue that its engine answers made, and it is refused `BadSize` exactly where they are out of range.
+    ensures over { IfOk result (λ done. plan_of (any_arena_of (queue_in done))
+        ≡ crew_plan options.kind options.nodes options.workers) }
     ensures sized { (result ≡ Err Refusal.BadSize) ↔ IsBadSize options.workers options.nodes }
 {
     work_text(
