@@ -11,6 +11,7 @@ LibraryOfRt name each part that is used; another kit has to keep these, or this 
     a crate's below(), words(flags, keeps)        the libraries below it, each after those that it uses, and a check's words
     a crate's out, build_rlib(flags, anew)        where it prints, and the build of its library
     a crate's has_tests()                         whether it has tests
+    a crate's stamp()                             a digest of what its library is made of (tools/stamps)
     out/rlib/stamp, out/incremental               the stamp of a library that rt built, and what rt check keeps
 
 and of the command line: rt version, rt check and rt test (tools/changed). What the checker prints is read in goals.py.
@@ -52,6 +53,8 @@ class LibraryOfRt(Protocol):
     def build_rlib(self, flags: list[str], anew: bool) -> int: ...
 
     def has_tests(self) -> bool: ...
+
+    def stamp(self) -> str: ...
 
 
 def loaded() -> ModuleType:
