@@ -12,14 +12,15 @@ use crate::rows;
 use history::{Reply, Stamped};
 use line_table::Line;
 
-// A match of a line with a call of each row's function. What a row told is put down where it was told, before the arms meet:
-// most rows tell nothing, and then nothing is carried on.
+// A match of a line with a call of each row's function. What a row told is put down where it was told, before the arms meet,
+// and the reply is read from the operation: most rows tell nothing, and then nothing is carried on.
 macro_rules! rows_of {
     ($line:ident $given:tt ($memory:ident $now:ident $operation:ident) $($name:ident $row:ident)*) => {
         match $line {
             $(Line::$name => {
                 let told = rows::$row $given;
-                put_down($memory, $now, $operation, told)
+                let _ = put_down($memory, $now, $operation, told);
+                $operation.reply
             })*
         }
     };

@@ -1,5 +1,6 @@
 -- What a step puts down in the lists of a world, and that the room that the world keeps then still serves.
 use Rattle.std.proofs.Common.{◌≡◌, ℕ, ◌+◌, ◌-◌, ◌<◌, ◌≤◌, List, [], ◌∷◌, ◌++◌, Option, Some, None, length, get_or, slice_get, slice_set, vec_capacity, refl, sym, ap, subst, ◌∙◌}
+use Rattle.std.proofs.lemmas.List.{get_or-set_same, length-set}
 use Rattle.std.proofs.lemmas.Option.{get_or_from_slice_get, slice_get-get_or}
 use Rattle.std.proofs.Math.Seq.{set-append_seam, get_or-append_seam}
 use Rattle.line_steps.specs.Rooms.{Memory}
@@ -23,6 +24,12 @@ changed_where_listed (Some e) place new was change ops at there is =
     let here : slice_get ops place ≡ Some (get_or ops place was) = slice_get-get_or ops place was there in
     let same : was ≡ get_or ops place new = is ∙ sym (get_or_from_slice_get ops place (get_or ops place was) new here) in
     ap (λ s. slice_set ops place (change s)) same ∙ ap (λ n. slice_set ops n (change (get_or ops n new))) at
+
+-- what stands at a place once it is written there
+pub written_there : (ops : List Stamped) (place : ℕ) (new : Stamped) → place < length ops → slice_get (slice_set ops place new) place ≡ Some new
+written_there ops place new there =
+    slice_get-get_or (slice_set ops place new) place new (subst (λ n. place < n) (sym (length-set ops place new)) there) ∙
+    ap Some (get_or-set_same ops place new new there)
 
 -- the outcome that a step had is the one that it leads to
 led_on : (s : Setup) (now me : ℕ) (a : Actor) (l : Line) (m : Memory) → outcome_on s now me a l m.words ≡ led s now me a l m

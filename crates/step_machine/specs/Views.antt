@@ -62,6 +62,11 @@ operations_after me op entry now o operations = with_operation entry (new_operat
 abbrev pub led : Setup → (now me : ℕ) → Actor → Line → Memory → Outcome
 led s now me a l m = outcome s now me a l (found (action s me a l) m.words)
 
+-- the reply of an operation, where it is there and its call is complete
+abbrev pub reply_in : Option Stamped → Option Reply
+reply_in None = None
+reply_in (Some operation) = operation.reply
+
 -- what a step at a line left: the memory, the operations, its actor and the reply
 pub record TookStep (s : Setup) (now me : ℕ) (l : Line) (old : Memory) (ops : List Stamped) (a : Actor) (new : Memory) (told : List Stamped) (b : Actor) (r : Option Reply) : Type 0 where
   pub memory : new ≡ memory_after (action s me a l) (led s now me a l old) old

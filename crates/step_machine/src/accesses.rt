@@ -69,6 +69,7 @@ pub(crate) fn word_at<const B: u32>(a: &ActorOf<B>, line: Line) -> WordName
 }
 
 /// A reference as it is told.
+#[inline(always)]
 pub(crate) fn told<const B: u32>(reference: CountedRefOf<B>) -> Contents
     ensures { result ≡ reference_told B reference.entry }
 {

@@ -6,7 +6,7 @@ ghost use Rattle.line_steps.specs.Ready.{IsCounted, RegistersFit, ReadsFit};
 ghost use Rattle.line_steps.specs.Rooms.{aside_after};
 ghost use Rattle.step_machine.specs.Machine as machine;
 ghost use Rattle.step_machine.specs.Machine.{new_operation, entry_or};
-ghost use Rattle.step_machine.specs.Views.{HasEntry, actor_in, actors_after, listed, operations_after, TookStep};
+ghost use Rattle.step_machine.specs.Views.{HasEntry, actor_in, actors_after, listed, operations_after, reply_in, TookStep};
 
 use counted_ref::CountedRefOf;
 use history::{Op, Reply, Stamped};
@@ -145,8 +145,10 @@ pub fn commit<const B: u32>(
 }
 
 /// Takes a step of an actor at a line, and puts down what it leaves: its registers, its operation and the node set aside.
-/// Answers the reply, where the call ends.
-#[inline(always)]
+/// Answers where the operation stands, which has the reply, where the call ends.
+///
+/// It is a call of its own, so that what a step answers takes no room beside the rows of all lines.
+#[inline(never)]
 pub fn take_step<const B: u32>(
     memory: &mut MemoryOf<B>,
     a: &mut ActorOf<B>,
@@ -155,14 +157,15 @@ pub fn take_step<const B: u32>(
     now: u64,
     me: u16,
     line: Line,
-) -> Option<Reply>
+) -> usize
     requires bits { setup.bits ≡ B }
     requires counted { IsCounted setup }
     requires ready { RegistersFit setup memory.old.room a.old }
     requires reads { ReadsFit line memory.old.room a.old }
     requires entry { HasEntry a.old.entry (vec_len operations.old) (vec_capacity operations.old) }
     ensures took { TookStep setup now me line memory.old operations.old.items a.old
-        memory.new operations.new.items a.new result }
+        memory.new operations.new.items a.new (reply_in (slice_get operations.new.items result)) }
+    ensures there { result < length operations.new.items }
     ensures room { vec_capacity operations.old ≤ vec_capacity operations.new }
 {
     let call = Call {
@@ -174,7 +177,7 @@ pub fn take_step<const B: u32>(
     let Some(operation) = operations.get_mut(place) else {
         unreachable!()
     };
-    let reply = stepped(memory, setup, now, me, a, operation, line);
+    let _ = stepped(memory, setup, now, me, a, operation, line);
     a.entry = Some(place);
-    reply
+    place
 }

@@ -49,10 +49,11 @@ impl<const B: u32> Model for WorldOf<B> {
 }
 
 /// What a step at a line with this reply is told as.
-fn answer_at(line: Line, reply: Option<Reply>) -> Stepped
-    ensures { result ≡ stepped_at line reply }
+#[inline(always)]
+fn answer_at(line: Line, reply: &Option<Reply>) -> Stepped
+    ensures { result ≡ stepped_at line reply.now }
 {
-    match reply {
+    match *reply {
         None => Stepped::Went(line),
         Some(reply) => Stepped::Ended(line, reply),
     }
@@ -195,6 +196,7 @@ impl<const B: u32> WorldOf<B> {
     /// world.begin(1, Op::Enq(body))?;
     /// assert!(world.step(1) == Ok(Stepped::Went(Line::N1)));
     /// ```
+    #[inline(always)]
     pub fn step(&mut self, actor: u16) -> Result<Stepped, Refusal>
         //= worlds/moves (ok, told)
         //= worlds/refusals (ok, numbered, refused)
@@ -219,7 +221,7 @@ impl<const B: u32> WorldOf<B> {
         let Some(a) = self.actors.get_mut(actor as usize - 1) else {
             unreachable!()
         };
-        let reply = take_step(
+        let place = take_step(
             &mut self.memory,
             a,
             &mut self.operations,
@@ -229,7 +231,10 @@ impl<const B: u32> WorldOf<B> {
             line,
         );
         self.steps = now;
-        Ok(answer_at(line, reply))
+        let Some(operation) = self.operations.get(place) else {
+            unreachable!()
+        };
+        Ok(answer_at(line, &operation.reply))
     }
 
     /// Gives up the actor's call, 1 to 65,535, which stands at the start of a turn, and takes the next step number. Answers

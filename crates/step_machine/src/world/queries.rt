@@ -118,6 +118,7 @@ impl<const B: u32> WorldOf<B> {
     /// let world = World::new(alloc, Kind::TwoLock, 3, 100, 2)?;
     /// assert!(world.holds(WordName::Head) == Contents::Reference(1, 0));
     /// ```
+    #[inline(always)]
     pub fn holds(&self, word: WordName) -> Contents
         //= worlds/touches
         ensures { result ≡ contents_in B (word_named word) self.now.shared }
