@@ -79,12 +79,12 @@ fn push_word(line: &mut Line, word: WordName)
 }
 
 /// Puts what a word holds at the end of a line.
-fn push_contents(line: &mut Line, contents: Contents)
+fn push_contents(line: &mut Line, contents: &Contents)
     requires { length line.old + 31 ≤ LINE_ROOM }
-    ensures text { line.new ≡ line.old ++ contents_text contents }
+    ensures text { line.new ≡ line.old ++ contents_text contents.now }
     ensures short { length line.new ≤ length line.old + 31 }
 {
-    match contents {
+    match *contents {
         Contents::Number(number) => push_number(line, number),
         Contents::Reference(node, count) => {
             push_short(line, node);
@@ -104,9 +104,9 @@ fn push_contents(line: &mut Line, contents: Contents)
 }
 
 /// Puts an access at the end of a line: the name of its word, what was found there, and what is there now.
-fn push_access(line: &mut Line, word: WordName, found: Contents, now: Contents)
+fn push_access(line: &mut Line, word: WordName, found: &Contents, now: &Contents)
     requires { length line.old + 91 ≤ LINE_ROOM }
-    ensures text { line.new ≡ line.old ++ access_text (word_named word) found now }
+    ensures text { line.new ≡ line.old ++ access_text (word_named word) found.now now.now }
     ensures short { length line.new ≤ length line.old + 91 }
 {
     line.push(b" ");
@@ -118,6 +118,7 @@ fn push_access(line: &mut Line, word: WordName, found: Contents, now: Contents)
 }
 
 /// Puts the number of a move, its actor and the actor's line at the end of a line.
+#[inline(always)]
 fn push_row(line: &mut Line, number: u64, actor: u16, told: &Stepped)
     requires { length line.old + 35 ≤ LINE_ROOM }
     ensures text { line.new ≡ line.old ++ decimal number ++ codes " " ++ decimal actor ++ codes " "
@@ -135,6 +136,7 @@ fn push_row(line: &mut Line, number: u64, actor: u16, told: &Stepped)
 }
 
 /// Puts the reply of the call that a move ended, and a line feed, at the end of a line.
+#[inline(always)]
 fn push_end(line: &mut Line, told: &Stepped)
     requires { length line.old + 60 ≤ LINE_ROOM }
     ensures { line.new ≡ line.old ++ end_told told.now ++ codes "\n" }
@@ -160,11 +162,11 @@ fn push_step<const B: u32>(line: &mut Line, world: &mut WorldOf<B>, actor: u16)
         unreachable!()
     };
     let found = world.holds(word);
-    let Ok(told) = step_in(world, Move::Step(actor)) else {
+    let Ok(told) = world.step(actor) else {
         unreachable!()
     };
     push_row(line, world.steps(), actor, &told);
-    push_access(line, word, found, world.holds(word));
+    push_access(line, word, &found, &world.holds(word));
     push_end(line, &told);
 }
 
