@@ -10,7 +10,7 @@ use history::{Refusal, TextCause};
 use std::alloc::Global;
 
 /// How many times as long as a prefix that is parsed the next one is. The first is a block.
-const GROWTH: usize = 16;
+const GROWTH: usize = 32;
 
 /// The first faulty line that each text has which begins so, if one does, and what is wrong with it.
 ///
@@ -39,8 +39,8 @@ fn lasting_fault<P: Parser>(
 ///
 /// It is refused, in this order, by `Memory`, as soon as a growth is refused; `Read`, where a call of the source fails;
 /// `Text`, where the bytes are no such text: the number of the first faulty line, from 1, and what is wrong with it. A text
-/// with a faulty line is read to its end, and of what follows that line no more is kept than 64 KiB or some 16 times what
-/// stands before. So a text of more than 64 KiB is also parsed in prefixes, which together are at most 16/15 as long as it.
+/// with a faulty line is read to its end, and of what follows that line no more is kept than 64 KiB or some 32 times what
+/// stands before. So a text of more than 64 KiB is also parsed in prefixes, which together are at most 32/31 as long as it.
 /// Takes memory; whether it waits is up to the source.
 pub fn parse_source<P: Parser, R: Source>(
     alloc: Global,
