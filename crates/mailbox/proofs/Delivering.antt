@@ -1,8 +1,10 @@
 -- Letters that are taken one after another.
-use Rattle.std.proofs.Common.{◌≡◌, ◌∙◌, sym, ap, List, [], ◌∷◌, ◌++◌, map, append-nil, append_assoc, Some, None}
-use Rattle.std.proofs.lemmas.List.{map-append}
+use Rattle.std.proofs.Common.{◌≡◌, ◌+◌, ◌∙◌, sym, ap, List, [], ◌∷◌, ◌++◌, length, map, append-nil, append_assoc, Some, None}
+use Rattle.std.proofs.lemmas.List.{length-append, map-append}
 use Rattle.std.proofs.lemmas.Grind.{flat_map-append}
+use Rattle.history.specs.declared.operations.Entry.{Entry}
 use Rattle.history.specs.declared.operations.Entry.TheVariants.{Pop}
+use Rattle.history.specs.Answers.{Adds}
 use Rattle.history.specs.Seats.{Known}
 use Rattle.history.specs.Values.{popped, popped_by}
 use Rattle.mailbox.specs.declared.office.Office.{Office}
@@ -10,6 +12,10 @@ use Rattle.mailbox.specs.declared.receiver.Receiver.{Receiver}
 use Rattle.mailbox.specs.declared.receiver.Letter.{Letter}
 use Rattle.mailbox.specs.Offices.{TakeAnswers}
 use Rattle.mailbox.specs.Posting.{Delivered}
+
+-- a call that had its effect adds one entry of the seat's own
+pub length-adds : (a b : Known) (e : Entry) → Adds a e b → length b.mine ≡ length a.mine + 1
+length-adds a b e h = ap length h.mine ∙ length-append a.mine (e ∷ [])
 
 module _ {Q S : Type 0} (known : S → Known) (r : Receiver Q S) where
   -- no letters were taken by doing nothing

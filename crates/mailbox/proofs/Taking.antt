@@ -11,7 +11,7 @@ use Rattle.history.specs.Answers.{SeesMore, Popped}
 use Rattle.mailbox.specs.declared.office.Office.{Office}
 use Rattle.mailbox.specs.declared.receiver.Receiver.{Receiver}
 use Rattle.mailbox.specs.declared.receiver.Letter.{Letter}
-use Rattle.mailbox.specs.Offices.{TakeAnswers, TookNothing, Loses}
+use Rattle.mailbox.specs.Offices.{has_lost, TakeAnswers, TookNothing, TookMissing, Loses}
 
 -- a seat that saw more, and then popped
 pub popped_then : (a b c : Known) (value : Taken) → SeesMore a b → Popped b value c → Popped a value c
@@ -22,8 +22,8 @@ abbrev pub Waited : {Q S : Type 0} → (S → Known) → (a b : Receiver Q S) �
 Waited known a b = (b ≡ a) ⊎ TookNothing known a Busy b
 
 -- a receiver that waited has lost a letter where it had lost one before
-pub waited-lost : {Q S : Type 0} (known : S → Known) (a b : Receiver Q S) → Waited known a b → a.lost ≡ true → b.lost ≡ true
-waited-lost known a b (inl same) lost = ap (λ x. x.lost) same ∙ lost
+pub waited-lost : {Q S : Type 0} (known : S → Known) (a b : Receiver Q S) → Waited known a b → has_lost a ≡ true → has_lost b ≡ true
+waited-lost known a b (inl same) lost = ap has_lost same ∙ lost
 waited-lost known a b (inr h) lost = absurd (true≢false (sym lost ∙ h.was))
 
 module _ {Q S : Type 0} (known : S → Known) (a b c : Receiver Q S) (h : TookNothing known a Busy b) where
@@ -42,10 +42,14 @@ module _ {Q S : Type 0} (known : S → Known) (a b c : Receiver Q S) (h : TookNo
   nothing-then_answer office (Some letter) g =
       record { value = g.value; popped = popped_then _ _ _ g.value h.nothing g.popped; sender = g.sender; read = g.read; kept = g.kept }
 
+  -- nothing, and then a value that names no letter
+  nothing-then_missing : TookMissing known b c → TookMissing known a c
+  nothing-then_missing g = record { value = g.value; popped = popped_then _ _ _ g.value h.nothing g.popped; missing = g.missing }
+
   -- nothing, and then a loss
   nothing-then_loss : Loses known b c → Loses known a c
   nothing-then_loss g = record {
-    first = λ was. let first = g.first h.kept in (first.0, popped_then _ _ _ first.0 h.nothing first.1);
+    first = λ was. nothing-then_missing (g.first h.kept);
     later = λ lost. absurd (true≢false (sym lost ∙ h.was));
     lost = g.lost;
   }

@@ -1,5 +1,5 @@
 -- What an office, its senders and its receiver do.
-use Rattle.std.specs.Prelude.{◌≡◌, ◌<◌, ◌≤◌, ◌^◌, ℕ, List, Bool, true, false, Option, Some, None, IfSome, String, string_bytes}
+use Rattle.std.specs.Prelude.{◌≡◌, ◌<◌, ◌≤◌, ◌^◌, ℕ, List, Bool, true, false, Option, Some, None, is_some, IfSome, IsSomeAnd, String, string_bytes}
 use Rattle.boxcar.specs.Table.{Shows, Where}
 use Rattle.history.specs.Limits.{body_bits}
 use Rattle.history.specs.declared.operations.Taken.{Taken}
@@ -13,6 +13,7 @@ use Rattle.mailbox.specs.declared.sender.Sender.{Sender}
 use Rattle.mailbox.specs.declared.receiver.Receiver.{Receiver}
 use Rattle.mailbox.specs.declared.receiver.Letter.{Letter}
 use Rattle.mailbox.specs.declared.parcels.Due.{Due}
+use Rattle.mailbox.specs.declared.parcels.Missing.{Missing}
 use Rattle.mailbox.specs.declared.parcels.Parcel.{Parcel}
 
 -- what the receiver knows of the queue
@@ -21,7 +22,7 @@ receiver_knows known r = known r.seat
 
 -- whether the receiver has lost a letter
 abbrev pub has_lost : {Q S : Type 0} → Receiver Q S → Bool
-has_lost r = r.lost
+has_lost r = is_some r.missing
 
 -- the numbers that the office's store is marked with
 abbrev pub marks : {Q S : Type 0} → Office Q S → List ℕ
@@ -119,13 +120,13 @@ pub record TookText {Q S : Type 0} (known : S → Known) (o : Office Q S) (r : R
   pub popped : Popped (known r.seat) value (known r'.seat)
   pub sender : value.from ≡ from
   pub read : Read o r' value.body text
-  pub kept : r'.lost ≡ false
+  pub kept : has_lost r' ≡ false
 
 -- there was no letter: the queue was found empty
 pub record FoundNone {Q S : Type 0} (known : S → Known) (r r' : Receiver Q S) : Type 0 where
   pub empty : FoundEmpty (known r.seat) (known r'.seat)
   pub last : r'.last ≡ r.last
-  pub kept : r'.lost ≡ false
+  pub kept : has_lost r' ≡ false
 
 -- what a take answers: a letter, or that there is none
 abbrev pub TakeAnswers : {Q S : Type 0} → (S → Known) → Office Q S → Receiver Q S → Option Letter → Receiver Q S → Type 0
@@ -137,8 +138,8 @@ TakeAnswers known o r (Some letter) r' = TookText known o r letter.from letter.t
 pub record TookNothing {Q S : Type 0} (known : S → Known) (r : Receiver Q S) (refusal : Refusal) (r' : Receiver Q S) : Type 0 where
   pub nothing : PopRefused (known r.seat) refusal (known r'.seat)
   pub last : r'.last ≡ r.last
-  pub was : r.lost ≡ false
-  pub kept : r'.lost ≡ false
+  pub was : has_lost r ≡ false
+  pub kept : has_lost r' ≡ false
 
 -- the receiver's pop of so many turns had this cause for its refusal
 abbrev pub TakeHadCause : {Q S : Type 0} → (Q → S → S → ℕ → Refusal → Type 0) → Office Q S → (r r' : Receiver Q S) → (turns : ℕ) → Refusal → Type 0
@@ -148,8 +149,18 @@ TakeHadCause cause o r r' turns = cause o.queue r.seat r'.seat turns
 abbrev pub TakeEnded : {Q S : Type 0} → (Q → S → Type 0) → (S → Known) → (Q → S → S → ℕ → Refusal → Type 0) → Office Q S → (r r' : Receiver Q S) → (turns : ℕ) → Refusal → Type 0
 TakeEnded is_seat known cause o r r' turns = EndsByTry is_seat known cause o.queue r.seat r'.seat turns
 
--- a letter is lost: one value was popped where none was lost before, and else nothing was done
+-- the receiver was answered by the store of letters that it has none at this index
+abbrev pub FoundMissing : {Q S : Type 0} → Receiver Q S → (index : ℕ) → Type 0
+FoundMissing r index = IsSomeAnd r.missing (λ (m : Missing). m.index ≡ index)
+
+-- one value was popped, and the store of letters answered that it has none at its body
+pub record TookMissing {Q S : Type 0} (known : S → Known) (r r' : Receiver Q S) : Type 0 where
+  pub value : Taken
+  pub popped : Popped (known r.seat) value (known r'.seat)
+  pub missing : FoundMissing r' value.body
+
+-- a letter is lost: where none was lost before, one value was popped that names no letter; else nothing was done
 pub record Loses {Q S : Type 0} (known : S → Known) (r r' : Receiver Q S) : Type 0 where
-  pub first : r.lost ≡ false → (value : Taken) × Popped (known r.seat) value (known r'.seat)
-  pub later : r.lost ≡ true → r' ≡ r
-  pub lost : r'.lost ≡ true
+  pub first : has_lost r ≡ false → TookMissing known r r'
+  pub later : has_lost r ≡ true → r' ≡ r
+  pub lost : has_lost r' ≡ true

@@ -5,6 +5,7 @@ use Rattle.history.specs.Values.{OnlyPops}
 use Rattle.mailbox.specs.declared.office.Office.{Office}
 use Rattle.mailbox.specs.declared.sender.Sender.{Sender}
 use Rattle.mailbox.specs.declared.receiver.Receiver.{Receiver}
+use Rattle.mailbox.specs.Offices.{has_lost}
 
 -- a seat of the queue, in no call, that may push
 pub record CanSend {Q S : Type 0} (is_seat : Q → S → Type 0) (permits : Q → List Permit) (known : S → Known) (q : Q) (s : S) : Type 0 where
@@ -22,4 +23,4 @@ pub record Opens {Q S : Type 0} (queue : Q) (seats : List S) (seat : S) (o : Off
   pub queue_is : o.queue ≡ queue
   pub senders : map (λ s. s.seat) ss ≡ seats
   pub receiver : r.seat ≡ seat
-  pub kept : r.lost ≡ false
+  pub kept : has_lost r ≡ false

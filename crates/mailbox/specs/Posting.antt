@@ -7,6 +7,7 @@ use Rattle.history.specs.Values.{popped}
 use Rattle.mailbox.specs.Plans.{plan_numbers, AreDue}
 use Rattle.mailbox.specs.Offices.{IsSender, marks}
 use Rattle.mailbox.specs.declared.office.Office.{Office}
+use Rattle.mailbox.specs.declared.sender.Sender.{Sender}
 use Rattle.mailbox.specs.declared.receiver.Receiver.{Receiver}
 use Rattle.mailbox.specs.declared.receiver.Letter.{Letter}
 use Rattle.mailbox.specs.declared.parcels.Due.{Due}
@@ -51,6 +52,10 @@ pub record IsNext (old : List ℕ) (sender : ℕ) (due : Due) (new : List ℕ) :
 -- where as many letters are there as are due, they are those that are due
 abbrev pub AreThoseDue : {Q S : Type 0} → Office Q S → (senders : ℕ) → List Letter → Type 0
 AreThoseDue o senders letters = (lists : List (List (List ℕ))) → marks o ≡ plan_numbers lists → length lists ≡ senders → length letters ≡ sum_by length lists → BringTexts lists letters
+
+-- a sender had its effect so many times, each one more entry of its own
+abbrev pub AddsEntries : {Q S : Type 0} → (S → Known) → (s : Sender Q S) → (count : ℕ) → (s' : Sender Q S) → Type 0
+AddsEntries known s count s' = length (known s'.seat).mine ≡ length (known s.seat).mine + count
 
 -- how many letters these tasks have to send
 abbrev pub letters_of : {Q S : Type 0} → List (Task Q S) → ℕ

@@ -55,7 +55,7 @@ impl<Q: Fifo + Drop> Office<Q> {
         let receiver = Receiver {
             seat: receiver,
             last: None,
-            lost: false,
+            missing: None,
         };
         Ok((Office { queue, letters }, all, receiver))
     }

@@ -1,5 +1,5 @@
 //! How letters are stored, and which of the texts due each is.
-ghost use Rattle.std.specs.Prelude.{◌≡◌, string_bytes};
+ghost use Rattle.std.specs.Prelude.{◌≡◌, string_bytes, IfOk, IfErr};
 ghost use Rattle.boxcar.specs.Table.{Shows};
 ghost use Rattle.mailbox.specs.Plans.{Fits};
 
@@ -32,6 +32,24 @@ pub(crate) type Letters = Boxes<Parcel, Global, OnlyDue>;
 
 /// What shows that a store has a letter at an index.
 pub(crate) type Shown = Pushed<Parcel, Global, OnlyDue>;
+
+/// The answer of a store that it has no letter at an index. Only `find` makes one.
+#[derive(Drop)]
+pub(crate) struct Missing {
+    index: usize,
+}
+
+/// What shows the letter at an index; else the store's answer that it has none there.
+pub(crate) fn find(letters: &Letters, index: usize) -> Result<Shown, Missing>
+    ensures shown { IfOk result (Shows letters.now) }
+    ensures at { IfOk result (λ shown. shown.index ≡ index) }
+    ensures missing { IfErr result (λ missing. missing.index ≡ index) }
+{
+    match letters.witness(index) {
+        Some(shown) => Ok(shown),
+        None => Err(Missing { index }),
+    }
+}
 
 /// The letter that a token shows.
 pub(crate) fn parcel_at<'a>(letters: &'a Letters, shown: &Shown) -> &'a Parcel

@@ -1,10 +1,10 @@
 //! A thread for each sender, and the calling thread for the receiver.
-ghost use Rattle.std.specs.Prelude.{◌≡◌, ◌≢◌, ◌≤◌, true, [], length, map, replicate, vec_capacity, IfOk, IfErr, IfSome};
+ghost use Rattle.std.specs.Prelude.{◌≡◌, ◌≢◌, ◌≤◌, true, None, [], length, map, replicate, vec_capacity, IfOk, IfErr, IfSome};
 ghost use Rattle.std.specs.List.{All};
 ghost use Rattle.mailbox.specs.Deliveries.{InOrder};
 ghost use Rattle.mailbox.specs.Plans.{AreDue};
 ghost use Rattle.mailbox.specs.Offices.{IsSender, IsReceiver, marks, receiver_knows};
-ghost use Rattle.mailbox.specs.Posting.{IsTask, IsTaskAt, IsNext, Plans, BringTexts, AreThoseDue, Delivered, letters_of, texts_in};
+ghost use Rattle.mailbox.specs.Posting.{IsTask, IsTaskAt, IsNext, Plans, BringTexts, AreThoseDue, Delivered, letters_of, texts_in, AddsEntries};
 ghost use Rattle.mailbox.specs.Refusals.{EndsSend, EndsPost};
 
 use crate::ending::{EndCounter, Ended};
@@ -36,7 +36,9 @@ fn send_texts<R: Wait, Q: Fifo + Drop>(
 ) -> Ended
     requires office { IsSender Q.is_seat Q.permits Q.known office.now sender.old }
     requires due { AreDue (marks office.now) number 0 texts.items }
-    ensures { IsSender Q.is_seat Q.permits Q.known office.now sender.new }
+    ensures office { IsSender Q.is_seat Q.permits Q.known office.now sender.new }
+    ensures sent { result.refusal ≡ None
+        → AddsEntries Q.known sender.old (length texts.items) sender.new }
 {
     let mut place = 0;
     for text in texts {

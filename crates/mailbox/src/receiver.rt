@@ -8,7 +8,7 @@ ghost use Rattle.mailbox.specs.Offices.{TakeAnswers, TookNothing, Loses, TakeHad
 ghost use Rattle.mailbox.specs.Refusals.{StopsTake, EndsTake, HandsOn};
 
 use crate::office::Office;
-use crate::parcels::{Due, Shown, parcel_at};
+use crate::parcels::{Due, Missing, Shown, find, parcel_at};
 use crossbeam_utils::Backoff;
 use history::{Fifo, Refusal};
 use std::sync::Wait;
@@ -23,12 +23,12 @@ pub struct Letter<'a> {
     pub text: &'a str,
 }
 
-/// The seat that takes letters, what shows the last letter that it took, and whether one was lost.
+/// The seat that takes letters, what shows the last letter that it took, and the store's answer where one is lost.
 #[derive(Drop)]
 pub struct Receiver<Q: Fifo + Drop> {
     pub(crate) seat: Q::Seat,
     pub(crate) last: Option<Shown>,
-    pub(crate) lost: bool,
+    pub(crate) missing: Option<Missing>,
 }
 
 impl<Q: Fifo + Drop> Receiver<Q> {
@@ -57,8 +57,9 @@ impl<Q: Fifo + Drop> Receiver<Q> {
         //= letters/in_order
         ensures order { InOrder (receiver_knows Q.known self.new) }
         //= letters/refused_take (refused, lost, stays_lost): A refused take took nothing, and at `Closed` its seat
-        //=   notes that the queue was shut and empty; but where a letter is lost, the first such call popped one value,
-        //=   and each later one changes nothing and is refused so too.
+        //=   notes that the queue was shut and empty; but where a letter is lost, the first such call popped one value
+        //=   and was answered by the store that it has no letter at its body, and each later one changes nothing and is
+        //=   refused so too.
         ensures refused { IfErr result
             (λ refusal. refusal ≢ Lost → TookNothing Q.known self.old refusal self.new) }
         ensures lost { result ≡ Err Lost → Loses Q.known self.old self.new }
@@ -72,15 +73,18 @@ impl<Q: Fifo + Drop> Receiver<Q> {
         ensures caused { IfErr result
             (HandsOn (TakeHadCause Q.pop_cause office.now self.old self.new turns)) }
     {
-        if self.lost {
+        if self.missing.is_some() {
             return Err(Refusal::Lost);
         }
         let Some(value) = office.queue.try_pop(&mut self.seat, turns)? else {
             return Ok(None);
         };
-        let Some(shown) = office.letters.witness(value.body.number() as usize) else {
-            self.lost = true;
-            return Err(Refusal::Lost);
+        let shown = match find(&office.letters, value.body.number() as usize) {
+            Ok(shown) => shown,
+            Err(missing) => {
+                self.missing = Some(missing);
+                return Err(Refusal::Lost);
+            }
         };
         let parcel = parcel_at(&office.letters, &shown);
         self.last = Some(shown);

@@ -2,6 +2,7 @@ use Rattle.std.proofs.Common.{arith, ◌≡◌, ◌∷◌, ap, subst, length}
 use Rattle.std.proofs.lemmas.Grind.{common_steps}
 use Rattle.mailbox.specs.Plans.{AreDue}
 use Rattle.mailbox.specs.Offices.{marks}
+use Rattle.mailbox.proofs.Delivering.{length-adds}
 use Rattle.mailbox.proofs.Plans.{due_first, due_rest}
 use Rattle.mailbox.proofs.posting.send_texts.Goals as goal
 
@@ -18,6 +19,8 @@ loop-text-preserved g c =
     let split : c.loop-text.text-iterator.rest.items ≡ c.in-Some.text ∷ c.next.new.self.rest.items = grind (arith, common_steps) in
     let len = ap length split in
     let was = c.loop-text.invariant.place in
+    let before = c.loop-text.invariant.sent in
+    let more = length-adds (g.Q.Fifo.known c.loop-text.sender.seat) (g.Q.Fifo.known c.send_due.new.self.seat) _ c.in_default.ensures.sent.pushed in
     record {
       can = tt;
       finite = tt;
@@ -25,4 +28,5 @@ loop-text-preserved g c =
       place = omega (arith, len, was);
       due = due_rest (marks c.args.office.now) c.args.number c.loop-text.place c.in-Some.text c.next.new.self.rest.items
           (subst (AreDue (marks c.args.office.now) c.args.number c.loop-text.place) split c.loop-text.invariant.due);
+      sent = omega (arith, more, before);
     }
