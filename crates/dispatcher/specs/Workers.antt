@@ -1,7 +1,9 @@
 -- Seats of workers and of the submitter.
-use Rattle.std.specs.Prelude.{◌≡◌, ◌<◌, ◌⊎◌, List, length}
+use Rattle.std.specs.Prelude.{◌≡◌, ◌<◌, ◌⊎◌, ℕ, zero, suc, List, [], ◌∷◌, ◌++◌, length}
+use Rattle.history.specs.declared.operations.Entry.{Entry}
+use Rattle.history.specs.declared.operations.Entry.TheVariants.{Push}
 use Rattle.history.specs.declared.refusals.Refusal.{Refusal}
-use Rattle.history.specs.declared.refusals.Refusal.TheVariants.{BadSize, Lost, Memory}
+use Rattle.history.specs.declared.refusals.Refusal.TheVariants.{BadSize, Closed, Lost, Memory, WornOut}
 use Rattle.history.specs.Seats.{Permit, Known, MayPush, MayPop}
 use Rattle.history.specs.Answers.{DidShut, FoundShut}
 use Rattle.job_results.specs.declared.jobs.Job.{Job}
@@ -13,6 +15,27 @@ IsTaker is_seat permits known queue seat = is_seat queue seat × MayPop (permits
 -- a seat is the queue's, in no call, and may push
 abbrev pub IsGiver : {Q S : Type 0} → (Q → S → Type 0) → (Q → List Permit) → (S → Known) → Q → S → Type 0
 IsGiver is_seat permits known queue seat = is_seat queue seat × MayPush (permits queue) (known seat).number
+
+-- a seat pushed this number, and had no other effect
+abbrev pub HasPushedOne : Known → (number : ℕ) → Known → Type 0
+HasPushedOne k number k' = k'.mine ≡ k.mine ++ Push k.number number ∷ []
+
+-- these entries of a seat, and then its pushes of 1 and so on
+abbrev pub after_pushes : (mine : List Entry) → (seat : ℕ) → ℕ → List Entry
+after_pushes mine seat zero = mine
+after_pushes mine seat (suc n) = after_pushes mine seat n ++ Push seat (suc n) ∷ []
+
+-- a seat pushed the numbers from 1 to this one, in order, each once, and had no other effect
+abbrev pub HasPushed : Known → (most : ℕ) → Known → Type 0
+HasPushed k most k' = k'.mine ≡ after_pushes k.mine k.number most
+
+-- the push of a job's number may end so: no worker runs, it is no body's number, a word was worn out, or the queue was shut
+abbrev pub EndsPushOne : Refusal → Type 0
+EndsPushOne Lost = Unit {0}
+EndsPushOne BadSize = Unit {0}
+EndsPushOne (WornOut word) = Unit {0}
+EndsPushOne Closed = Unit {0}
+EndsPushOne _ = ⊥
 
 -- a seat knows that the queue is shut: its last call shut it, or found it shut
 abbrev pub KnowsShut : Known → Type 0

@@ -1,6 +1,6 @@
 //! The submitter: it pushes the numbers of the jobs, and then shuts the queue.
-ghost use Rattle.std.specs.Prelude.{◌≤◌, OnOk};
-ghost use Rattle.dispatcher.specs.Workers.{IsGiver, KnowsShut};
+ghost use Rattle.std.specs.Prelude.{◌≡◌, ◌≤◌, OnOk, IfErr};
+ghost use Rattle.dispatcher.specs.Workers.{IsGiver, HasPushedOne, HasPushed, EndsPushOne, KnowsShut};
 
 use crate::running::{Signals, TURNS};
 use crossbeam_utils::Backoff;
@@ -17,7 +17,10 @@ fn push_one<R: Wait, Q: Fifo>(
     signals: &Signals,
 ) -> Result<(), Refusal>
     requires { IsGiver Q.is_seat Q.permits Q.known queue.now seat.old }
-    ensures { IsGiver Q.is_seat Q.permits Q.known queue.now seat.new }
+    ensures giver { IsGiver Q.is_seat Q.permits Q.known queue.now seat.new }
+    ensures number { (Q.known seat.new).number ≡ (Q.known seat.old).number }
+    ensures pushed { OnOk result (HasPushedOne (Q.known seat.old) number (Q.known seat.new)) }
+    ensures refusal { IfErr result EndsPushOne }
 {
     let Some(body) = Body::new(number) else {
         return Err(Refusal::BadSize);
@@ -46,10 +49,11 @@ fn push_all<R: Wait, Q: Fifo>(
     signals: &Signals,
 ) -> Result<(), Refusal>
     requires { IsGiver Q.is_seat Q.permits Q.known queue.now seat.old }
-    ensures { IsGiver Q.is_seat Q.permits Q.known queue.now seat.new }
+    ensures giver { IsGiver Q.is_seat Q.permits Q.known queue.now seat.new }
+    ensures pushed { OnOk result (HasPushed (Q.known seat.old) jobs (Q.known seat.new)) }
 {
-    for number in 1..=jobs as u64 {
-        push_one(rt, queue, seat, number, workers, signals)?;
+    for count in 0..jobs as u64 {
+        push_one(rt, queue, seat, count + 1, workers, signals)?;
     }
     Ok(())
 }

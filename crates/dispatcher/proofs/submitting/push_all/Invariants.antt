@@ -1,5 +1,10 @@
-use Rattle.dispatcher.specs.Workers.{IsGiver}
+use Rattle.std.specs.Prelude.{◌≡◌}
+use Rattle.dispatcher.specs.Workers.{IsGiver, HasPushed}
 use Rattle.dispatcher.proofs.submitting.push_all.Given as goal
 
-abbrev pub invariant-loop-number : goal.invariant-loop-number
-invariant-loop-number g l = IsGiver g.Q.Fifo.is_seat g.Q.Fifo.permits g.Q.Fifo.known l.fn.queue l.seat
+abbrev pub invariant-loop-count : goal.invariant-loop-count
+invariant-loop-count g l = record {
+  seat : IsGiver g.Q.Fifo.is_seat g.Q.Fifo.permits g.Q.Fifo.known l.fn.queue l.seat;
+  number : (g.Q.Fifo.known l.seat).number ≡ (g.Q.Fifo.known l.initial.seat).number;
+  mine : HasPushed (g.Q.Fifo.known l.initial.seat) l.count (g.Q.Fifo.known l.seat);
+}
