@@ -3,6 +3,7 @@ mod comparing;
 mod letters;
 mod listed_runs;
 mod loads;
+mod losses;
 mod nonblocking_runs;
 mod plans;
 mod shut_offices;

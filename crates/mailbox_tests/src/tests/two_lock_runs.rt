@@ -2,6 +2,10 @@
 use super::comparing::same;
 use super::letters::{a_loss_is_told_from_then_on, letters_come_in_the_order_sent, take_last};
 use super::loads::LOADS;
+use super::losses::{
+    a_letter_of_no_task_is_lost, a_post_in_a_shut_office_is_lost,
+    tasks_in_another_order_lose_a_letter,
+};
 use super::plans::{Late, Trouble, WornTail};
 use super::shut_offices::a_shut_ends_an_office;
 use history::{Refusal, WornWord};
@@ -167,6 +171,20 @@ fn a_post_ends_where_its_shut_is_refused(rt: HostRuntime) -> Result<(), Fail> {
     };
     let found = posted(&rt, rt.alloc(), queue, seats, receiver, load).err();
     same(&rt, found, Some(Refusal::WornOut(WornWord::Tail)), "");
+    Ok(())
+}
+
+/// A letter that isn't the next one of its sender's is lost, or that is of no task; so are those of an office that was shut
+/// before.
+/// A mutant, by hand: a `post` that tells `NoNode` for such a letter fails here.
+#[test]
+fn letters_that_are_not_due_are_lost(rt: HostRuntime) -> Result<(), Fail> {
+    let (queue, seats, receiver) = mail_queue::<TwoLockAlgorithm>(rt.alloc(), 7, 100, 2)?;
+    tasks_in_another_order_lose_a_letter(&rt, rt.alloc(), queue, seats, receiver)?;
+    let (queue, seats, receiver) = mail_queue::<TwoLockAlgorithm>(rt.alloc(), 7, 100, 2)?;
+    a_letter_of_no_task_is_lost(&rt, rt.alloc(), queue, seats, receiver)?;
+    let (queue, seats, receiver) = mail_queue::<TwoLockAlgorithm>(rt.alloc(), 7, 100, 2)?;
+    a_post_in_a_shut_office_is_lost(&rt, rt.alloc(), queue, seats, receiver)?;
     Ok(())
 }
 
