@@ -46,7 +46,8 @@ enum msq_code {
     MSQ_EMPTY = 32,     /* a pop: the queue was empty */
     MSQ_NO_SEAT = 33,   /* the msq_seat is empty */
     MSQ_NO_ROLE = 34,   /* the seat may not push, or may not pop */
-    MSQ_IN_USE = 35     /* an msq_seat to be filled is full; or the queue to be closed has a further seat */
+    MSQ_IN_USE = 35,    /* an msq_seat to be filled is full; or the queue to be closed has a further seat */
+    MSQ_RACED = 36      /* a close: the queue got a further seat meanwhile */
 };
 
 enum msq_kind {
@@ -113,8 +114,9 @@ uint32_t msq_meet(msq_seat *one, msq_seat *other);
  * Ends the queue of these seats, which are all of its seats that were not dropped, and empties them. The values left, from
  * the front, go to `values`, as many as have room there; nodes - 1 is room for all. They are of one queue.
  * MSQ_OK; MSQ_BAD_SIZE where there is no seat, MSQ_NO_SEAT where one is empty, MSQ_IN_USE where the queue has a further
- * seat, and then each seat is as it was; or MSQ_MEMORY, and then all seats are as they were, or all are empty and what was
- * left is lost. Refused, it writes nothing.
+ * seat, or MSQ_MEMORY: each seat is then as it was. MSQ_RACED where the queue got a further seat while it was closed: all
+ * seats are then empty, and the queue goes on without them. No call gives a queue a further seat, so this comes only where
+ * a duty above wasn't kept. Refused, it writes nothing.
  */
 uint32_t msq_close(msq_seat *seats, size_t seats_len, msq_value *values, size_t values_len, msq_rest *rest);
 

@@ -6,9 +6,9 @@ ghost use Rattle.node_arena.specs.Plans.{permits_by, IsPlanned};
 ghost use Rattle.node_arena.specs.Seats.{known_of};
 ghost use Rattle.history.specs.Openings.{AreNew};
 
-use history::{Body, Fifo, Refusal, Rest, Taken};
+use history::{Body, Close, Fifo, Refusal, Rest, Taken};
 use line_table::Kind;
-use node_arena::{Role, Seat};
+use node_arena::{Ended, Role, Seat};
 use nonblocking::MsQueue;
 use std::alloc::Global;
 use two_lock::TwoLockQueue;
@@ -135,15 +135,37 @@ impl Fifo for AnyQueue {
             AnyQueue::TwoLock(queue) => queue.may_pop(seat),
         }
     }
+}
 
-    fn close(self, alloc: Global, seats: Vec<Seat>) -> Result<Rest, Refusal>
-        requires { All (IsAnySeat self) seats.items }
-        ensures rest { IfOk result (Closes (any_permits_of self) (map known_of seats.items)) }
-        ensures only_memory { IfErr result (λ refusal. refusal ≡ Refusal.Memory) }
+impl Close for AnyQueue {
+    ghost use Rattle.std.specs.Prelude.{map};
+    ghost use Rattle.std.specs.List.{All};
+    ghost use Rattle.history.specs.Closing.{Closes};
+    ghost use Rattle.node_arena.specs.Ended.{HasRoomFor, Leaves};
+    ghost use Rattle.any_queue.specs.Any.{any_arena_of, any_permits_of, IsAnySeat};
+
+    type End = Ended;
+
+    ghost ends = { λ q. Leaves (any_arena_of q) };
+
+    ghost has_room = { λ q. HasRoomFor (any_arena_of q) };
+
+    fn room(&self, alloc: Global) -> Result<Vec<Taken>, Refusal> {
+        match self {
+            AnyQueue::NonBlocking(queue) => queue.room(alloc),
+            AnyQueue::TwoLock(queue) => queue.room(alloc),
+        }
+    }
+
+    fn close_with(self, room: Vec<Taken>, seats: Vec<Seat>) -> (Rest, Ended)
+        requires room { HasRoomFor (any_arena_of self) room }
+        requires seats { All (IsAnySeat self) seats.items }
+        ensures rest { Closes (any_permits_of self) (map known_of seats.items) result.0 }
+        ensures ends { Leaves (any_arena_of self) result.1 result.0 }
     {
         match self {
-            AnyQueue::NonBlocking(queue) => queue.close(alloc, seats),
-            AnyQueue::TwoLock(queue) => queue.close(alloc, seats),
+            AnyQueue::NonBlocking(queue) => queue.close_with(room, seats),
+            AnyQueue::TwoLock(queue) => queue.close_with(room, seats),
         }
     }
 }

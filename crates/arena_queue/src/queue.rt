@@ -7,8 +7,8 @@ ghost use Rattle.arena_queue.specs.Answers.{IsOfKind};
 
 use crate::algorithms::Algorithm;
 use free_list::{give_back, take};
-use history::{Body, Fifo, Refusal, Rest, Taken};
-use node_arena::{ArenaOf, Role, Seat};
+use history::{Body, Close, Fifo, Refusal, Rest, Taken};
+use node_arena::{ArenaOf, Ended, Role, Seat};
 use std::alloc::Global;
 use std::marker::PhantomData;
 
@@ -91,7 +91,6 @@ impl<A: Algorithm<B>, const B: u32> Fifo for ArenaQueueOf<A, B> {
     ghost use Rattle.history.specs.Seats.{MayPush, MayPop};
     ghost use Rattle.history.specs.Answers.{Pushed, PopAnswers, DidShut, StopsPush, StopsPop, StopsShut};
     ghost use Rattle.history.specs.Answers.{PushRefused as RefusedPush, PopRefused as RefusedPop};
-    ghost use Rattle.history.specs.Closing.{Closes};
     ghost use Rattle.node_arena.specs.Seats.{known_of, pocket_of, keeps_of, view};
     ghost use Rattle.node_arena.proofs.Seens.{sound_of};
     ghost use Rattle.arena_queue.specs.Answers.{FailsFewer, PushRefused, FailsFew, FreesItsNode, KeepsItsNode};
@@ -224,12 +223,32 @@ impl<A: Algorithm<B>, const B: u32> Fifo for ArenaQueueOf<A, B> {
     fn may_pop(&self, seat: &Seat) -> bool {
         seat.may_pop()
     }
+}
 
-    fn close(self, alloc: Global, seats: Vec<Seat>) -> Result<Rest, Refusal>
-        requires { All (IsQueueSeat self) seats.items }
-        ensures rest { IfOk result (λ r. Closes (permits_of self) (map known_of seats.items) r) }
-        ensures only_memory { IfErr result (λ refusal. refusal ≡ Refusal.Memory) }
+impl<A: Algorithm<B>, const B: u32> Close for ArenaQueueOf<A, B> {
+    ghost use Rattle.std.specs.Prelude.{map};
+    ghost use Rattle.std.specs.List.{All};
+    ghost use Rattle.history.specs.Closing.{Closes};
+    ghost use Rattle.node_arena.specs.Ended.{HasRoomFor, Leaves};
+    ghost use Rattle.node_arena.specs.Seats.{known_of};
+    ghost use Rattle.arena_queue.specs.Queues.{arena_of, permits_of, IsQueueSeat};
+
+    type End = Ended;
+
+    ghost ends = { λ q. Leaves (arena_of q) };
+
+    ghost has_room = { λ q. HasRoomFor (arena_of q) };
+
+    fn room(&self, alloc: Global) -> Result<Vec<Taken>, Refusal> {
+        self.arena.room(alloc)
+    }
+
+    fn close_with(self, room: Vec<Taken>, seats: Vec<Seat>) -> (Rest, Ended)
+        requires room { HasRoomFor (arena_of self) room }
+        requires seats { All (IsQueueSeat self) seats.items }
+        ensures rest { Closes (permits_of self) (map known_of seats.items) result.0 }
+        ensures ends { Leaves (arena_of self) result.1 result.0 }
     {
-        self.arena.close(alloc, seats)
+        self.arena.close_with(room, seats)
     }
 }

@@ -2,6 +2,7 @@
 #![tactic(auto)]
 
 mod checking;
+mod closing;
 pub mod laws;
 mod operations;
 mod queues;
@@ -10,6 +11,7 @@ mod replaying;
 mod rests;
 
 pub use checking::check;
+pub use closing::{Close, Unclosed};
 pub use operations::{
     Body, Cause, Entry, MOST_ACTOR, MOST_BODY, Op, Reply, Stamped, Taken, Verdict,
 };

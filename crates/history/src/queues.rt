@@ -1,17 +1,13 @@
 //! What every queue promises, whichever it is.
-ghost use Rattle.std.specs.Prelude.{◌≡◌, ℕ, ◌≤◌, ◌↔◌, IsTrue, List, map, IfErr, IfOk, OnOk, OnErr};
-ghost use Rattle.std.specs.List.{All};
+ghost use Rattle.std.specs.Prelude.{◌≡◌, ℕ, ◌≤◌, ◌↔◌, IsTrue, List, IfErr, IfOk, OnOk, OnErr};
 ghost use Rattle.history.specs.Seats.{Known, Permit, IsSound, MayPush, MayPop};
 ghost use Rattle.history.specs.Answers.{Pushed, PopAnswers, DidShut, PushRefused, PopRefused, Meets};
 ghost use Rattle.history.specs.Answers.{StopsPush, StopsPop, StopsShut};
 ghost use Rattle.history.specs.Answers.{EndsPush, EndsPop, EndsShut, EndsByTry};
-ghost use Rattle.history.specs.Closing.{Closes};
 
 use crate::operations::{Body, Taken};
 use crate::refusals::Refusal;
-use crate::rests::Rest;
 use crossbeam_utils::Backoff;
-use std::alloc::Global;
 use std::sync::Wait;
 
 /// How many turns a waiting call takes before it lets others go on.
@@ -179,26 +175,6 @@ pub trait Fifo {
         requires { is_seat self.now seat.now }
         //= queues/may
         ensures { IsTrue result ↔ MayPop (permits self.now) (known seat.now).number };
-
-    /// Ends the queue and the seats handed in: what is left, how many values were taken, whether these seats made all
-    /// pushes and pops and, where the queue was shut, the shut, and whether it was. What shuts a queue and leaves it there is
-    /// `try_shut`.
-    ///
-    /// Refused by `Memory` alone; the queue is then given up. Takes memory for the values left, and doesn't wait.
-    ///
-    /// ```rust
-    /// let mut rest = queue.close(alloc, seats)?;
-    /// let front = rest.next();
-    /// ```
-    fn close(self, alloc: Global, seats: Vec<Self::Seat>) -> Result<Rest, Refusal>
-        requires { All (is_seat self) seats.items }
-        //= queues/rest (rest, only_memory): What is left of a closed queue is what a legal history of permitted entries
-        //=   leaves, which begins with what each seat handed in had seen and has just their own entries as theirs; its
-        //=   pops are counted, and whether it has a shut is told. The rest is whole exactly where these seats made as
-        //=   many pops and pushes, and a shut if it has one; each entry is then theirs. With every seat it is whole. Or
-        //=   Memory.
-        ensures rest { IfOk result (λ rest. Closes (permits self) (map known seats.items) rest) }
-        ensures only_memory { IfErr result (λ refusal. refusal ≡ Refusal.Memory) };
 
     //= queues/sound: What a seat knows is *sound* (docs/GLOSSARY.md).
     //= queues/meet

@@ -1,9 +1,11 @@
 -- A queue with no room.
-use Rattle.std.specs.Prelude.{true, List, [], ◌∷◌, replicate, refl}
+use Rattle.std.specs.Prelude.{◌≡◌, true, List, [], ◌∷◌, replicate, refl}
 use Rattle.std.proofs.Common.{le_refl, inl}
 use Rattle.std.proofs.lemmas.List.Elements.{All-nil, All-replicate}
 use Rattle.history.specs.Queue.{empty}
 use Rattle.history.specs.Seats.{Permit, Known, IsSound, IsPermitted, IsNoted}
+use Rattle.history.specs.declared.rests.Rest.{Rest}
+use Rattle.history.specs.Rests.{left_of, taken_of}
 use Rattle.mock_queues.specs.declared.full.FullQueue.{FullQueue}
 use Rattle.mock_queues.specs.declared.full.FullSeat.{FullSeat}
 
@@ -22,3 +24,7 @@ IsFullSeat q s = Unit {0}
 -- what the seat knows is sound
 pub empties_are_sound : (s : FullSeat) → IsSound one_permit (knows_empties s)
 empties_are_sound s = record { legal = (empty, refl); permitted = All-nil (IsPermitted one_permit); own = refl; noted = All-replicate (IsNoted []) s.empties 0 (inl (le_refl 0, refl)) }
+
+-- nothing is left, and nothing was taken
+abbrev pub LeavesNone : Rest → Type 0
+LeavesNone rest = (left_of rest ≡ []) × (taken_of rest ≡ 0)

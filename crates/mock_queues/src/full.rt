@@ -1,7 +1,7 @@
 //! A queue with no room: each push and each shut is refused, and each pop finds it empty, until its notes can't be counted.
 ghost use Rattle.std.specs.Prelude.{IfOk, IfErr};
 
-use history::{Body, Fifo, Refusal, Rest, Taken, WornWord};
+use history::{Body, Close, Fifo, Refusal, Rest, Taken, WornWord};
 use std::alloc::Global;
 
 /// A queue with no room.
@@ -26,10 +26,9 @@ impl FullQueue {
 }
 
 impl Fifo for FullQueue {
-    ghost use Rattle.std.specs.Prelude.{◌≡◌, map};
+    ghost use Rattle.std.specs.Prelude.{◌≡◌};
     ghost use Rattle.history.specs.declared.refusals.Refusal.TheVariants.{NoNode, WornOut, Busy};
     ghost use Rattle.history.specs.declared.refusals.WornWord.TheVariants.{Tail};
-    ghost use Rattle.history.specs.Closing.{Closes};
     ghost use Rattle.mock_queues.specs.Full.{IsFullSeat, one_permit, knows_empties, empties_are_sound};
 
     type Seat = FullSeat;
@@ -73,12 +72,29 @@ impl Fifo for FullQueue {
     fn may_pop(&self, _seat: &FullSeat) -> bool {
         true
     }
+}
 
-    fn close(self, alloc: Global, seats: Vec<FullSeat>) -> Result<Rest, Refusal>
-        ensures rest { IfOk result (λ rest. Closes one_permit (map knows_empties seats.items) rest) }
-        ensures only_memory { IfErr result (λ refusal. refusal ≡ Refusal.Memory) }
+impl Close for FullQueue {
+    ghost use Rattle.std.specs.Prelude.{◌≡◌, [], map};
+    ghost use Rattle.history.specs.Closing.{Closes};
+    ghost use Rattle.mock_queues.specs.Full.{one_permit, knows_empties, LeavesNone};
+
+    type End = ();
+
+    ghost ends = { λ _ _ rest. LeavesNone rest };
+
+    ghost has_room = { λ _ room. room.items ≡ [] };
+
+    fn room(&self, alloc: Global) -> Result<Vec<Taken>, Refusal> {
+        Ok(Vec::new(alloc))
+    }
+
+    fn close_with(self, room: Vec<Taken>, seats: Vec<FullSeat>) -> (Rest, ())
+        requires { room.items ≡ [] }
+        ensures rest { Closes one_permit (map knows_empties seats.items) result.0 }
+        ensures ends { LeavesNone result.0 }
     {
         drop(seats);
-        Ok(Rest::of(Vec::new(alloc), 0, true, false))
+        (Rest::of(room, 0, true, false), ())
     }
 }

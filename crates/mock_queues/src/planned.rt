@@ -1,7 +1,7 @@
 //! A queue that goes by a plan: each call is first put to the plan, which may refuse it, and else handed on.
 ghost use Rattle.std.specs.Prelude.{IfOk, IfErr, IsTrue};
 
-use history::{Body, Fifo, Refusal, Rest, Taken, WornWord};
+use history::{Body, Close, Fifo, Refusal, Rest, Taken, WornWord};
 use std::alloc::Global;
 
 /// What becomes of the calls of a queue. A plan may take its time, as by turning until another call was made.
@@ -113,12 +113,30 @@ impl<Q: Fifo + Drop, P: Plan + Drop> Fifo for Planned<Q, P> {
     fn may_pop(&self, seat: &Q::Seat) -> bool {
         self.queue.may_pop(seat)
     }
+}
 
-    fn close(self, alloc: Global, seats: Vec<Q::Seat>) -> Result<Rest, Refusal>
-        requires { All (Q.is_seat self.queue) seats.items }
-        ensures rest { IfOk result (λ rest. Closes (Q.permits self.queue) (map Q.known seats.items) rest) }
-        ensures only_memory { IfErr result (λ refusal. refusal ≡ Refusal.Memory) }
+impl<Q: Close + Drop, P: Plan + Drop> Close for Planned<Q, P> {
+    ghost use Rattle.std.specs.Prelude.{map};
+    ghost use Rattle.std.specs.List.{All};
+    ghost use Rattle.history.specs.Closing.{Closes};
+    ghost use Rattle.mock_queues.specs.Plans.{queue_of};
+
+    type End = Q::End;
+
+    ghost ends = { λ q. Q.ends (queue_of q) };
+
+    ghost has_room = { λ q. Q.has_room (queue_of q) };
+
+    fn room(&self, alloc: Global) -> Result<Vec<Taken>, Refusal> {
+        self.queue.room(alloc)
+    }
+
+    fn close_with(self, room: Vec<Taken>, seats: Vec<Q::Seat>) -> (Rest, Q::End)
+        requires room { Q.has_room self.queue room }
+        requires seats { All (Q.is_seat self.queue) seats.items }
+        ensures rest { Closes (Q.permits self.queue) (map Q.known seats.items) result.0 }
+        ensures ends { Q.ends self.queue result.1 result.0 }
     {
-        self.queue.close(alloc, seats)
+        self.queue.close_with(room, seats)
     }
 }

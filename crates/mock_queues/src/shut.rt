@@ -3,7 +3,7 @@ ghost use Rattle.std.specs.Prelude.{IfOk, IfErr};
 ghost use Rattle.history.specs.Answers.{PushRefused, PopRefused};
 ghost use Rattle.mock_queues.specs.Shut.{knows_shut, StopsAtShut};
 
-use history::{Body, Fifo, Refusal, Rest, Taken};
+use history::{Body, Close, Fifo, Refusal, Rest, Taken};
 use std::alloc::Global;
 
 /// A queue that its one seat shut before it did anything else.
@@ -43,8 +43,7 @@ impl ShutSeat {
 }
 
 impl Fifo for ShutQueue {
-    ghost use Rattle.std.specs.Prelude.{◌≡◌, map};
-    ghost use Rattle.history.specs.Closing.{Closes};
+    ghost use Rattle.std.specs.Prelude.{◌≡◌};
     ghost use Rattle.mock_queues.specs.Full.{one_permit};
     ghost use Rattle.mock_queues.specs.Shut.{IsShutSeat, shut_is_sound};
 
@@ -85,11 +84,28 @@ impl Fifo for ShutQueue {
     fn may_pop(&self, _seat: &ShutSeat) -> bool {
         true
     }
+}
 
-    fn close(self, alloc: Global, seats: Vec<ShutSeat>) -> Result<Rest, Refusal>
-        ensures rest { IfOk result (λ rest. Closes one_permit (map knows_shut seats.items) rest) }
-        ensures only_memory { IfErr result (λ refusal. refusal ≡ Refusal.Memory) }
+impl Close for ShutQueue {
+    ghost use Rattle.std.specs.Prelude.{◌≡◌, [], map};
+    ghost use Rattle.history.specs.Closing.{Closes};
+    ghost use Rattle.mock_queues.specs.Full.{one_permit, LeavesNone};
+
+    type End = ();
+
+    ghost ends = { λ _ _ rest. LeavesNone rest };
+
+    ghost has_room = { λ _ room. room.items ≡ [] };
+
+    fn room(&self, alloc: Global) -> Result<Vec<Taken>, Refusal> {
+        Ok(Vec::new(alloc))
+    }
+
+    fn close_with(self, room: Vec<Taken>, seats: Vec<ShutSeat>) -> (Rest, ())
+        requires { room.items ≡ [] }
+        ensures rest { Closes one_permit (map knows_shut seats.items) result.0 }
+        ensures ends { LeavesNone result.0 }
     {
-        Ok(Rest::of(Vec::new(alloc), 0, !seats.is_empty(), true))
+        (Rest::of(room, 0, !seats.is_empty(), true), ())
     }
 }

@@ -1,21 +1,26 @@
 -- The seats of handles whose queue is closed.
-use Rattle.std.proofs.Common.{◌≡◌, List, [], ◌∷◌, ◌++◌, map, ap, ◌∙◌, sym, subst, get_or, true, Some, Result, Ok, Err, IfOk}
+use Rattle.std.proofs.Common.{◌≡◌, ◌+◌, List, [], ◌∷◌, ◌++◌, length, map, ap, ◌∙◌, sym, subst, get_or, true, Some, Result, Ok, Err, IfOk, arith}
 use Rattle.std.specs.List.{All}
+use Rattle.std.proofs.lemmas.List.{length-append, length-map}
 use Rattle.std.proofs.lemmas.List.Elements.{All-map, All-pop, All-weaker}
 use mathlib.Core.List.{map-map}
 use Rattle.history.specs.Closing.{Closes}
 use Rattle.history.specs.declared.rests.Rest.{Rest}
+use Rattle.node_arena.specs.declared.ended.Ended.{Ended}
 use Rattle.node_arena.specs.declared.seats.Seat.{Seat}
+use Rattle.node_arena.specs.Ended.{Leaves}
 use Rattle.node_arena.specs.Seats.{known_of}
+use Rattle.owned_seats.specs.declared.closing.EndRoom.{EndRoom}
 use Rattle.owned_seats.specs.declared.seats.OwnedSeat.{OwnedSeat}
 use Rattle.owned_seats.specs.Owned.{queue_of, seat_of}
+use Rattle.owned_seats.proofs.Shares.{All-unmap}
 use Rattle.any_queue.specs.declared.any.AnyQueue.{AnyQueue}
-use Rattle.any_queue.specs.Any.{IsAnySeat, any_permits_of}
+use Rattle.any_queue.specs.Any.{IsAnySeat, any_arena_of, any_permits_of}
 use Rattle.msq_c.specs.declared.handles.MsqSeat.{MsqSeat}
 use Rattle.msq_c.specs.declared.troubles.Trouble.{Trouble}
-use Rattle.msq_c.specs.Own.{owned_in}
+use Rattle.msq_c.specs.Own.{owned_in, queue_in}
 use Rattle.msq_c.specs.Seats.{is_full, own_at, known_at, queue_at, IsHandle}
-use Rattle.msq_c.specs.Ends.{AreFull, AreOfOne, KeepSeats, owned_at, ClosesHandles}
+use Rattle.msq_c.specs.Ends.{AreFull, AreOfOne, KeepSeats, owned_at, HasAnyRoom, HasRoomOf, ClosesHandles}
 
 -- the seats with their shares, where handles keep them
 pub same_owned : (slots slots' : List MsqSeat) → KeepSeats slots slots' → map owned_at slots' ≡ map owned_at slots
@@ -45,14 +50,28 @@ module _ (slots : List MsqSeat) (full : AreFull slots) (handles : All IsHandle s
   known : map (λ (s : OwnedSeat AnyQueue Seat). known_of (seat_of s)) (others ++ last ∷ []) ≡ map known_at slots
   known = ap (map (λ (s : OwnedSeat AnyQueue Seat). known_of (seat_of s))) (sym popped ∙ taken) ∙ map-map (λ (s : OwnedSeat AnyQueue Seat). known_of (seat_of s)) owned_at slots
 
+  -- room for the end of the queue of the handles is room for that of the last seat
+  module _ (slots' : List MsqSeat) (keeps : KeepSeats slots slots') where
+    one_less : length slots' ≡ length others + 1
+    one_less = omega (arith, ap length keeps.seats, length-map slots' own_at, length-map slots own_at, ap length (sym popped ∙ taken), length-append others (last ∷ []), length-map slots owned_at)
+
+    all_there : All (λ h. queue_at h ≡ queue_of last) slots'
+    all_there = All-unmap (λ s. queue_in s ≡ queue_of last) own_at slots' (subst (All (λ s. queue_in s ≡ queue_of last)) (sym keeps.seats)
+        (All-map (λ s. queue_in s ≡ queue_of last) own_at slots (λ k d l. of_one.one k d l (full k d l) ∙ sym both.1.0)))
+
+    pub room_for : (room : EndRoom AnyQueue Seat) → HasRoomOf slots' room → HasAnyRoom (queue_of last) (length others) room
+    room_for room has = has (queue_of last) (length others) one_less (λ k d l f. all_there k d l)
+
   -- what was closed by these seats was closed by the handles
-  pub closed_if : (out : Result Rest Trouble)
-      → IfOk out (Closes (any_permits_of (queue_of last)) (map (λ (s : OwnedSeat AnyQueue Seat). known_of (seat_of s)) (others ++ last ∷ [])))
-      → IfOk out (ClosesHandles slots)
-  closed_if (Ok rest) c = record {
+  pub closed_if : (out : Result (Rest × Ended) Trouble)
+      → IfOk out (λ r. Closes (any_permits_of (queue_of last)) (map (λ (s : OwnedSeat AnyQueue Seat). known_of (seat_of s)) (others ++ last ∷ [])) r.0)
+      → IfOk out (λ r. Leaves (any_arena_of (queue_of last)) r.1 r.0)
+      → IfOk out (λ r. ClosesHandles slots r.0 r.1)
+  closed_if (Ok r) c e = record {
     queue = of_one.queue;
     one = λ k d l. of_one.one k d l (full k d l);
-    closes = subst (λ q. Closes (any_permits_of q) (map known_at slots) rest) both.1.0
-        (subst (λ ks. Closes (any_permits_of (queue_of last)) ks rest) known c);
+    closes = subst (λ q. Closes (any_permits_of q) (map known_at slots) r.0) both.1.0
+        (subst (λ ks. Closes (any_permits_of (queue_of last)) ks r.0) known c);
+    ends = subst (λ q. Leaves (any_arena_of q) r.1 r.0) both.1.0 e;
   }
-  closed_if (Err refusal) c = tt
+  closed_if (Err refusal) c e = tt

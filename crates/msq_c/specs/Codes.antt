@@ -32,6 +32,7 @@ code_of troubles.BadSize = 5
 code_of troubles.NoHandle = 33
 code_of troubles.NoRole = 34
 code_of troubles.InUse = 35
+code_of troubles.Raced = 36
 
 -- the code of a call's answer: 0 at Ok
 abbrev pub done_code : {A : Type 0} → Result A Trouble → ℕ

@@ -1,16 +1,20 @@
 -- The end of a queue, by handles.
-use Rattle.std.specs.Prelude.{◌≡◌, ◌⊎◌, List, [], map, true, false}
+use Rattle.std.specs.Prelude.{◌≡◌, ℕ, ◌+◌, List, [], length, map, true, false}
 use Rattle.std.specs.List.{All, AllPass}
 use Rattle.history.specs.Closing.{Closes}
 use Rattle.history.specs.declared.refusals.Refusal.TheVariants.{Memory}
 use Rattle.history.specs.declared.rests.Rest.{Rest}
+use Rattle.node_arena.specs.declared.ended.Ended.{Ended}
 use Rattle.node_arena.specs.declared.seats.Seat.{Seat}
+use Rattle.node_arena.specs.Ended.{HasRoomFor, Leaves}
+use Rattle.owned_seats.specs.declared.closing.EndRoom.{EndRoom}
 use Rattle.owned_seats.specs.declared.seats.OwnedSeat.{OwnedSeat}
+use Rattle.owned_seats.specs.Unended.{HasEndRoom}
 use Rattle.any_queue.specs.declared.any.AnyQueue.{AnyQueue}
-use Rattle.any_queue.specs.Any.{any_permits_of}
+use Rattle.any_queue.specs.Any.{any_arena_of, any_permits_of}
 use Rattle.msq_c.specs.declared.handles.MsqSeat.{MsqSeat}
 use Rattle.msq_c.specs.declared.troubles.Trouble.{Trouble}
-use Rattle.msq_c.specs.declared.troubles.Trouble.TheVariants.{Refused, BadSize, NoHandle, InUse}
+use Rattle.msq_c.specs.declared.troubles.Trouble.TheVariants.{Refused, BadSize, NoHandle, InUse, Raced}
 use Rattle.msq_c.specs.Own.{owned_in}
 use Rattle.msq_c.specs.Seats.{is_full, own_at, known_at, queue_at}
 
@@ -36,25 +40,37 @@ pub record KeepSeats (slots slots' : List MsqSeat) : Type 0 where
 abbrev pub owned_at : MsqSeat → OwnedSeat AnyQueue Seat
 owned_at h = owned_in (own_at h)
 
--- the queue of these handles was closed by all of them
-pub record ClosesHandles (slots : List MsqSeat) (rest : Rest) : Type 0 where
+-- the queue of these handles was closed by all of them, with its end
+pub record ClosesHandles (slots : List MsqSeat) (rest : Rest) (end : Ended) : Type 0 where
   pub queue : AnyQueue
   pub one : All (λ h. queue_at h ≡ queue) slots
   pub closes : Closes (any_permits_of queue) (map known_at slots) rest
+  pub ends : Leaves (any_arena_of queue) end rest
 
 -- memory was refused
 abbrev pub IsMemory : Trouble → Type 0
 IsMemory refusal = refusal ≡ Refused Memory
 
--- why seats are given up and their queue isn't closed: others have a share of it, or memory was refused
-abbrev pub GivesUp : Trouble → Type 0
-GivesUp refusal = (refusal ≡ InUse) ⊎ IsMemory refusal
+-- there is room for the end of a queue by a seat and so many others
+abbrev pub HasAnyRoom : AnyQueue → (others : ℕ) → EndRoom AnyQueue Seat → Type 0
+HasAnyRoom queue others room = HasEndRoom (λ q. HasRoomFor (any_arena_of q)) queue others room
 
--- why a queue isn't closed: a handle is empty, and nothing changed; there are no handles; or others have a share of it, or
--- memory was refused, and then all handles keep their seats, or all are empty
+-- there is room for the end of the queue of full handles, whichever it is
+abbrev pub HasRoomOf : List MsqSeat → EndRoom AnyQueue Seat → Type 0
+HasRoomOf slots room = (q : AnyQueue) (others : ℕ) → length slots ≡ others + 1 → All (λ h. is_full h ≡ true → queue_at h ≡ q) slots → HasAnyRoom q others room
+
+-- why there is no such room: there are no handles, or memory was refused
+abbrev pub RefusesRoom : List MsqSeat → Trouble → Type 0
+RefusesRoom slots BadSize = slots ≡ []
+RefusesRoom slots (Refused refusal) = refusal ≡ Memory
+RefusesRoom slots _ = ⊥
+
+-- why a queue isn't closed: a handle is empty, and nothing changed; there are no handles; others have a share of it, or memory
+-- was refused, and then all handles keep their seats; or others got a share meanwhile, and then all are empty
 abbrev pub RefusesClose : List MsqSeat → List MsqSeat → Trouble → Type 0
 RefusesClose slots slots' NoHandle = (AreFull slots → ⊥) × (slots' ≡ slots)
 RefusesClose slots slots' BadSize = slots ≡ []
-RefusesClose slots slots' InUse = KeepSeats slots slots' ⊎ AreEmpty slots'
-RefusesClose slots slots' (Refused refusal) = (refusal ≡ Memory) × (KeepSeats slots slots' ⊎ AreEmpty slots')
+RefusesClose slots slots' InUse = KeepSeats slots slots'
+RefusesClose slots slots' Raced = AreEmpty slots'
+RefusesClose slots slots' (Refused refusal) = (refusal ≡ Memory) × KeepSeats slots slots'
 RefusesClose slots slots' _ = ⊥

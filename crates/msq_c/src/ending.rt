@@ -4,16 +4,19 @@ ghost use Rattle.std.specs.List.{All};
 ghost use Rattle.history.specs.Closing.{Closes};
 ghost use Rattle.node_arena.specs.Seats.{known_of};
 ghost use Rattle.owned_seats.specs.Owned.{queue_of, seat_of};
-ghost use Rattle.any_queue.specs.Any.{any_permits_of, IsAnySeat};
-ghost use Rattle.msq_c.specs.Seats.{is_full, own_at, IsHandle};
+ghost use Rattle.node_arena.specs.Ended.{Leaves};
+ghost use Rattle.any_queue.specs.Any.{any_arena_of, any_permits_of, IsAnySeat};
+ghost use Rattle.msq_c.specs.Seats.{is_full, own_at, queue_at, IsHandle};
 ghost use Rattle.msq_c.specs.Ends.{AreFull, AreEmpty, AreOfOne, KeepSeats, owned_at};
-ghost use Rattle.msq_c.specs.Ends.{ClosesHandles, IsMemory, GivesUp, RefusesClose};
+ghost use Rattle.msq_c.specs.Ends.{HasAnyRoom, HasRoomOf, RefusesRoom};
+ghost use Rattle.msq_c.specs.Ends.{ClosesHandles, IsMemory, RefusesClose};
 
 use crate::handles::MsqSeat;
 use crate::troubles::Trouble;
 use any_queue::AnyQueue;
 use history::{Refusal, Rest};
-use owned_seats::OwnedSeat;
+use node_arena::Ended;
+use owned_seats::{EndRoom, OwnedSeat};
 use std::alloc::Global;
 
 // Whether each handle is full.
@@ -44,6 +47,38 @@ fn shares_of(alloc: Global, slots: &mut [MsqSeat]) -> usize
         return 0;
     }
     shares_at(alloc, &mut slots[0])
+}
+
+// Room for the end of the queue of a full handle, by its seat and so many others.
+fn room_at(
+    alloc: Global,
+    slot: &mut MsqSeat,
+    others: usize,
+) -> Result<EndRoom<AnyQueue>, Trouble>
+    requires { is_full slot.old ≡ true }
+    ensures full { is_full slot.new ≡ true }
+    ensures seat { own_at slot.new ≡ own_at slot.old }
+    ensures room { IfOk result (HasAnyRoom (queue_at slot.old) others) }
+    ensures only_memory { IfErr result IsMemory }
+{
+    let own = slot.lift(alloc);
+    let room = own.room(alloc, others);
+    *slot = MsqSeat::of(own);
+    room
+}
+
+// Room for the end of the queue of full handles by all of them.
+fn room_of(alloc: Global, slots: &mut [MsqSeat]) -> Result<EndRoom<AnyQueue>, Trouble>
+    requires { AreFull slots.old }
+    ensures seats { KeepSeats slots.old slots.new }
+    ensures room { IfOk result (HasRoomOf slots.old) }
+    ensures refused { IfErr result (RefusesRoom slots.old) }
+{
+    if slots.is_empty() {
+        return Err(Trouble::BadSize);
+    }
+    let others = slots.len() - 1;
+    room_at(alloc, &mut slots[0], others)
 }
 
 // As many empty handles.
@@ -81,28 +116,29 @@ fn take_all(alloc: Global, slots: &mut [MsqSeat]) -> Result<Vec<OwnedSeat<AnyQue
 
 // Ends the queue of these seats, the last one and others.
 fn ended(
-    alloc: Global,
+    room: EndRoom<AnyQueue>,
     last: OwnedSeat<AnyQueue>,
     others: Vec<OwnedSeat<AnyQueue>>,
-) -> Result<Rest, Trouble>
+) -> Result<(Rest, Ended), Trouble>
+    requires room { HasAnyRoom (queue_of last) (length others.items) room }
     requires last { IsAnySeat (queue_of last) (seat_of last) }
     requires others { All (λ s. IsAnySeat (queue_of last) (seat_of s)) others.items }
-    ensures closes { IfOk result (Closes (any_permits_of (queue_of last))
-        (map (λ s. known_of (seat_of s)) (others.items ++ last ∷ []))) }
-    ensures refused { IfErr result GivesUp }
+    ensures closes { IfOk result (λ r. Closes (any_permits_of (queue_of last))
+        (map (λ s. known_of (seat_of s)) (others.items ++ last ∷ [])) r.0) }
+    ensures ends { IfOk result (λ r. Leaves (any_arena_of (queue_of last)) r.1 r.0) }
+    ensures raced { IfErr result (λ refusal. refusal ≡ Trouble.Raced) }
 {
-    match last.close(alloc, others) {
-        Ok(Some(rest)) => Ok(rest),
-        Ok(None) => Err(Trouble::InUse),
-        Err(refusal) => Err(Trouble::Refused(refusal)),
+    match last.close_with(room, others) {
+        Ok(closed) => Ok(closed),
+        Err(_) => Err(Trouble::Raced),
     }
 }
 
 /// Ends the queue of these handles, which are all that have a share of it.
-pub(crate) fn close(alloc: Global, slots: &mut [MsqSeat]) -> Result<Rest, Trouble>
+pub(crate) fn close(alloc: Global, slots: &mut [MsqSeat]) -> Result<(Rest, Ended), Trouble>
     requires handles { All IsHandle slots.old }
     requires queue { AreOfOne slots.old }
-    ensures closes { IfOk result (ClosesHandles slots.old) }
+    ensures closes { IfOk result (λ r. ClosesHandles slots.old r.0 r.1) }
     ensures empty { OnOk result (AreEmpty slots.new) }
     ensures refused { IfErr result (RefusesClose slots.old slots.new) }
 {
@@ -112,9 +148,10 @@ pub(crate) fn close(alloc: Global, slots: &mut [MsqSeat]) -> Result<Rest, Troubl
     if shares_of(alloc, slots) != slots.len() {
         return Err(Trouble::InUse);
     }
+    let room = room_of(alloc, slots)?;
     let mut owned = take_all(alloc, slots)?;
     let Some(last) = owned.pop() else {
         return Err(Trouble::BadSize);
     };
-    ended(alloc, last, owned)
+    ended(room, last, owned)
 }

@@ -121,12 +121,12 @@ pub extern "C" fn msq_close(
     //= library/end: A queue ended from C tells 0 where all these handles, now empty, closed it: what is left is what
     //=   its own `close` says of their seats, the values written from the front, as many as have room. Refused, nothing
     //=   is written: at `MSQ_NO_SEAT` a handle is empty, and none changed; at `MSQ_BAD_SIZE` there is none; at
-    //=   `MSQ_IN_USE` and `MSQ_MEMORY` all keep their seats, or all are empty.
+    //=   `MSQ_IN_USE` and `MSQ_MEMORY` all keep their seats; at `MSQ_RACED` all are empty.
     ensures { Tells done_code result
         (AnswersClose slots.old slots.new values.old values.new rest.old rest.new) }
 {
     match ending::close(alloc, slots) {
-        Ok(found) => {
+        Ok((found, _end)) => {
             *rest = MsqRest::written(found, values);
             0
         }

@@ -5,7 +5,8 @@ ghost use Rattle.history.specs.Answers.{Pushed, PopAnswers, DidShut, Meets};
 use crate::troubles::Trouble;
 use any_queue::AnyQueue;
 use history::{Body, Taken};
-use owned_seats::OwnedSeat;
+use owned_seats::{EndRoom, OwnedSeat};
+use std::alloc::Global;
 
 /// How many words keep two seats apart whose blocks lie next to each other: each call writes its seat, and no two may be on
 /// one line of the cache, or on two that are fetched together.
@@ -21,6 +22,7 @@ pub struct OwnSeat {
 impl OwnSeat {
     ghost use Rattle.msq_c.specs.Own.{queue_in, known_in, owned_in, Sits};
     ghost use Rattle.msq_c.specs.Own.{RefusesPush, RefusesPop, RefusesShut};
+    ghost use Rattle.msq_c.specs.Ends.{HasAnyRoom, IsMemory};
 
     pub(crate) fn new(owned: OwnedSeat<AnyQueue>) -> OwnSeat
         ensures { owned_in result ≡ owned }
@@ -111,6 +113,16 @@ impl OwnSeat {
             (known_in self.new) (known_in other.new) }
     {
         self.owned.meet(&mut other.owned)
+    }
+
+    pub(crate) fn room(&self, alloc: Global, others: usize) -> Result<EndRoom<AnyQueue>, Trouble>
+        ensures room { IfOk result (HasAnyRoom (queue_in self.now) others) }
+        ensures only_memory { IfErr result IsMemory }
+    {
+        match self.owned.room(alloc, others) {
+            Ok(room) => Ok(room),
+            Err(refusal) => Err(Trouble::Refused(refusal)),
+        }
     }
 
     pub(crate) fn shares(&self) -> usize

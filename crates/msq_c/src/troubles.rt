@@ -20,6 +20,8 @@ pub enum Trouble {
     NoRole,
     /// A handle to be filled is full, or another one has a share of the queue that is to be closed.
     InUse,
+    /// Another one got a share of the queue while it was closed.
+    Raced,
 }
 
 // The number of a refusal.
@@ -57,6 +59,7 @@ impl Trouble {
             Trouble::NoHandle => 33,
             Trouble::NoRole => 34,
             Trouble::InUse => 35,
+            Trouble::Raced => 36,
         }
     }
 }

@@ -8,6 +8,7 @@ pub mod Rule
 pub mod Seats
 pub mod Making
 pub mod Remains
+pub mod Ended
 pub mod Closing
 pub mod Turns
 pub mod Paths

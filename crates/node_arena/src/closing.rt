@@ -4,12 +4,14 @@ ghost use Rattle.std.specs.List.{All};
 ghost use Rattle.history.specs.Closing.{pushes_of, pops_of, shuts_of, Closes};
 ghost use Rattle.node_arena.specs.Seats.{view, known_of, permits_of, IsReady};
 ghost use Rattle.node_arena.specs.Closing.{HasToken, HasGathered, CountsItsOwn};
+ghost use Rattle.node_arena.specs.Ended.{HasRoomFor, Leaves};
 
 use crate::arena::ArenaOf;
+use crate::ended::Ended;
 use crate::remains::{Made, rest_of};
 use crate::seats::Seat;
 use crate::views::{Gather, Open, SeatToken, WordTable};
-use history::{Refusal, Rest};
+use history::{Refusal, Rest, Taken};
 use std::alloc::Global;
 
 // How many pushes the seats made.
@@ -76,31 +78,43 @@ fn gather(table: &WordTable, gatherer: &mut SeatToken, seats: Vec<Seat>)
 }
 
 impl<const B: u32> ArenaOf<B> {
-    /// Ends the arena and the seats handed in, each of which is one of its own and in no call: which values are left in
-    /// the queue, how many were taken from it, whether these seats made all its pushes and pops and, where it was shut, the
-    /// shut, and whether it was.
+    /// Memory for the values left in the queue, of which there are no more than nodes.
     ///
-    /// Refused by `Memory` alone, before anything is done; the arena is then given up. Takes memory for as many values as
-    /// there are nodes, and doesn't wait.
-    pub fn close(self, alloc: Global, seats: Vec<Seat>) -> Result<Rest, Refusal>
-        requires { All (IsReady self) seats.items }
-        //= atomics/rest (rest, only_memory): A closed arena tells of its rest what `Fifo::close` does.
-        ensures rest { IfOk result (λ rest. Closes (permits_of self.entry) (map known_of seats.items) rest) }
+    /// Refused by `Memory` alone. Takes that memory, and doesn't wait.
+    pub fn room(&self, alloc: Global) -> Result<Vec<Taken>, Refusal>
+        //= atomics/room (room, only_memory): Room for the rest of an arena is room for a value of each node. Or Memory.
+        ensures room { IfOk result (HasRoomFor self.now) }
         ensures only_memory { IfErr result (λ refusal. refusal ≡ Refusal.Memory) }
     {
-        let ArenaOf { table, plan } = self;
-        let Ok(room) = Vec::with_capacity(alloc, plan.setup.size as usize) else {
-            return Err(Refusal::Memory);
-        };
+        match Vec::with_capacity(alloc, self.plan.setup.size as usize) {
+            Ok(room) => Ok(room),
+            Err(_) => Err(Refusal::Memory),
+        }
+    }
+
+    /// Ends the arena and the seats handed in, each of which is one of its own and in no call: which values are left in
+    /// the queue, how many were taken from it, whether these seats made all its pushes and pops and, where it was shut, the
+    /// shut, and whether it was; with it comes the arena's end.
+    ///
+    /// Takes no memory and doesn't wait.
+    pub fn close_with(self, room: Vec<Taken>, seats: Vec<Seat>) -> (Rest, Ended)
+        requires room { HasRoomFor self room }
+        requires seats { All (IsReady self) seats.items }
+        //= atomics/rest (rest, ends): A closed arena tells of its rest what `Close::close_with` does. The values left are
+        //=   those of the chain from Head on in the words that its table held at its end, and Head's count is how many were
+        //=   taken, whichever seats are handed in.
+        ensures rest { Closes (permits_of self.entry) (map known_of seats.items) result.0 }
+        ensures ends { Leaves self.entry result.1 result.0 }
+    {
+        let ArenaOf { table, plan: _ } = self;
         let pushes = pushes_by(&seats);
         let pops = pops_by(&seats);
         let shut = shut_by(&seats);
         let shared = &table.shared;
         let mut gatherer = shared.load_new_seat::<Open>(0).1;
         gather(&table, &mut gatherer, seats);
-        let closed = table.close_with(gatherer);
-        let rest = rest_of::<B>(&closed, Made { pushes, pops, shut }, room);
-        closed.free();
-        Ok(rest)
+        let ended = Ended::of(table, gatherer);
+        let rest = rest_of::<B>(ended.closed(), Made { pushes, pops, shut }, room);
+        (rest, ended)
     }
 }

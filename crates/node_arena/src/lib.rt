@@ -4,6 +4,7 @@
 mod arena;
 mod closing;
 mod dealing;
+mod ended;
 pub mod laws;
 mod making;
 mod meeting;
@@ -21,6 +22,7 @@ mod words;
 pub use arena::{Arena, ArenaOf};
 pub use counted_ref::{MOST_COUNT, MOST_NODE, most_count, most_node};
 pub use line_steps::value_of;
+pub use ended::Ended;
 pub use plans::Plan;
 pub use roles::Role;
 pub use seats::Seat;

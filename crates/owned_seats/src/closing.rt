@@ -1,57 +1,127 @@
 //! The end of a queue whose seats own it.
-ghost use Rattle.std.specs.Prelude.{◌≡◌, ◌++◌, ◌∷◌, [], map, IfOk, IfErr, IfSome};
+ghost use Rattle.std.specs.Prelude.{◌≡◌, ◌+◌, ◌≤◌, ◌++◌, ◌∷◌, [], length, map, vec_capacity, IfOk, IfErr};
 ghost use Rattle.std.specs.List.{All};
 ghost use Rattle.history.specs.Closing.{Closes};
 ghost use Rattle.owned_seats.specs.Owned.{queue_of, seat_of};
 
 use crate::seats::OwnedSeat;
-use history::{Fifo, Refusal, Rest};
+use history::{Close, Fifo, Refusal, Rest, Taken};
 use std::alloc::Global;
 use std::sync::Arc;
 
-// The seats, whose shares are given up.
-fn without_shares<Q: Fifo + Drop>(
-    alloc: Global,
-    owned: Vec<OwnedSeat<Q>>,
-    last: Q::Seat,
-) -> Result<Vec<Q::Seat>, Refusal>
-    ensures seats { IfOk result (λ seats. seats.items ≡ map seat_of owned.items ++ last ∷ []) }
-    ensures only_memory { IfErr result (λ refusal. refusal ≡ Refusal.Memory) }
-{
-    let mut seats = Vec::new(alloc);
-    for one in owned {
-        let OwnedSeat { queue: _, seat } = one;
-        if seats.push(seat).is_err() {
-            return Err(Refusal::Memory);
-        }
-    }
-    match seats.push(last) {
-        Ok(()) => Ok(seats),
-        Err(_) => Err(Refusal::Memory),
-    }
+/// A queue that wasn't ended by its seats, and what they were.
+#[derive(Drop)]
+pub enum Unended<Q: Fifo + Drop> {
+    /// Others have a share of the queue: the seats are as they were.
+    InUse(OwnedSeat<Q>, Vec<OwnedSeat<Q>>),
+    /// Memory was refused: the seats are as they were.
+    Memory(OwnedSeat<Q>, Vec<OwnedSeat<Q>>),
+    /// Others got a share of the queue while those of the seats were given up: one share of it, and the seats without.
+    Raced(Arc<Q, Global>, Vec<Q::Seat>),
 }
 
-impl<Q: Fifo + Drop> OwnedSeat<Q> {
-    /// Ends the queue by this seat and others of the same queue: what is left, how many values were taken, whether these
-    /// seats made all pushes and pops and, where the queue was shut, the shut, and whether it was. None where others still
-    /// have a share of the queue; it then goes on without these seats.
+// The seats, whose shares are given up, in a list with room for them.
+fn without_shares<Q: Fifo + Drop>(
+    owned: Vec<OwnedSeat<Q>>,
+    last: Q::Seat,
+    mut seats: Vec<Q::Seat>,
+) -> Vec<Q::Seat>
+    requires empty { seats.items ≡ [] }
+    requires room { length owned.items + 1 ≤ vec_capacity seats }
+    ensures { result.items ≡ map seat_of owned.items ++ last ∷ [] }
+{
+    for one in owned {
+        let OwnedSeat { queue: _, seat } = one;
+        seats.push_reserved(seat);
+    }
+    seats.push_reserved(last);
+    seats
+}
+
+/// Memory for the end of a queue by its seats: for the values left, and for the seats without their shares.
+#[derive(Drop)]
+pub struct EndRoom<Q: Fifo> {
+    values: Vec<Taken>,
+    seats: Vec<Q::Seat>,
+}
+
+impl<Q: Close + Drop> OwnedSeat<Q> {
+    ghost use Rattle.owned_seats.specs.Unended.{GivesBack, HasEndRoom};
+
+    /// Memory with which this seat and so many others end their queue.
     ///
-    /// Refused by `Memory` alone; the queue is then given up by these seats. Takes memory for the seats and the values left,
-    /// and doesn't wait.
-    pub fn close(self, alloc: Global, others: Vec<OwnedSeat<Q>>) -> Result<Option<Rest>, Refusal>
-        requires seat { Q.is_seat (queue_of self) (seat_of self) }
-        requires others { All (λ s. Q.is_seat (queue_of self) (seat_of s)) others.items }
-        //= library/close (rest, only_memory): What is left of a queue ended by seats of it is what its own `close` says
-        //=   of these. Or Memory.
-        ensures rest { IfOk result (λ o. IfSome o (λ rest. Closes (Q.permits (queue_of self))
-            (map (λ s. Q.known (seat_of s)) (others.items ++ self ∷ [])) rest)) }
+    /// Refused by `Memory` alone. Takes memory for the seats and the values left, and doesn't wait.
+    pub fn room(&self, alloc: Global, others: usize) -> Result<EndRoom<Q>, Refusal>
+        //= library/end_room (room, only_memory): Room for the end of a queue by seats of it is room for what is left, and
+        //=   for the seats. Or Memory.
+        ensures room { IfOk result (HasEndRoom Q.has_room (queue_of self.now) others) }
         ensures only_memory { IfErr result (λ refusal. refusal ≡ Refusal.Memory) }
     {
+        let Some(count) = others.checked_add(1) else {
+            return Err(Refusal::Memory);
+        };
+        let values = self.queue.room(alloc)?;
+        match Vec::with_capacity(alloc, count) {
+            Ok(seats) => Ok(EndRoom { values, seats }),
+            Err(_) => Err(Refusal::Memory),
+        }
+    }
+
+    /// Ends the queue by this seat and others of the same queue: what is left, how many values were taken, whether these
+    /// seats made all pushes and pops and, where the queue was shut, the shut, and whether it was; with it comes the queue's
+    /// end.
+    ///
+    /// Refused `InUse` where the queue has not just as many shares: the seats come back as they were. `Raced` where others
+    /// got a share while these were given up: the queue comes back, with one share, and the seats, which are as they were
+    /// but have none (`OwnedSeat::new` gives them one). Takes no memory and doesn't wait.
+    pub fn close_with(
+        self,
+        room: EndRoom<Q>,
+        others: Vec<OwnedSeat<Q>>,
+    ) -> Result<(Rest, Q::End), Unended<Q>>
+        requires room { HasEndRoom Q.has_room (queue_of self) (length others.items) room }
+        requires seat { Q.is_seat (queue_of self) (seat_of self) }
+        requires others { All (λ s. Q.is_seat (queue_of self) (seat_of s)) others.items }
+        //= library/close (rest, ends, back): What is left of a queue ended by seats of it is what its own `close` says of
+        //=   these. A queue that isn't ended comes back, with its seats: as they were where others have a share of it, or
+        //=   memory is refused; without their shares where others got one meanwhile.
+        ensures rest { IfOk result (λ r. Closes (Q.permits (queue_of self))
+            (map (λ s. Q.known (seat_of s)) (others.items ++ self ∷ [])) r.0) }
+        ensures ends { IfOk result (λ r. Q.ends (queue_of self) r.1 r.0) }
+        ensures back { IfErr result (GivesBack self others.items) }
+    {
+        if self.shares() - 1 != others.len() {
+            return Err(Unended::InUse(self, others));
+        }
+        let EndRoom { values, seats } = room;
         let OwnedSeat { queue, seat } = self;
-        let seats = without_shares(alloc, others, seat)?;
-        match Arc::into_inner(queue) {
-            Some(queue) => Ok(Some(queue.close(alloc, seats)?)),
-            None => Ok(None),
+        let seats = without_shares(others, seat, seats);
+        match Arc::try_unwrap(queue) {
+            Ok(queue) => Ok(queue.close_with(values, seats)),
+            Err(queue) => Err(Unended::Raced(queue, seats)),
+        }
+    }
+
+    /// Ends the queue as `close_with` does, with room that it takes first.
+    ///
+    /// Refused as `close_with` is, or `Memory`: the seats come back as they were. Takes memory for the seats and the values
+    /// left, and doesn't wait.
+    pub fn close(
+        self,
+        alloc: Global,
+        others: Vec<OwnedSeat<Q>>,
+    ) -> Result<(Rest, Q::End), Unended<Q>>
+        requires seat { Q.is_seat (queue_of self) (seat_of self) }
+        requires others { All (λ s. Q.is_seat (queue_of self) (seat_of s)) others.items }
+        //= library/close (rest, ends, back)
+        ensures rest { IfOk result (λ r. Closes (Q.permits (queue_of self))
+            (map (λ s. Q.known (seat_of s)) (others.items ++ self ∷ [])) r.0) }
+        ensures ends { IfOk result (λ r. Q.ends (queue_of self) r.1 r.0) }
+        ensures back { IfErr result (GivesBack self others.items) }
+    {
+        match self.room(alloc, others.len()) {
+            Ok(room) => self.close_with(room, others),
+            Err(_) => Err(Unended::Memory(self, others)),
         }
     }
 }

@@ -5,5 +5,6 @@ mod closing;
 mod dealing;
 mod seats;
 
+pub use closing::{EndRoom, Unended};
 pub use dealing::deal;
 pub use seats::OwnedSeat;

@@ -6,7 +6,7 @@ use crate::running::{Duty, drains, four, pushes};
 use crate::seating::{Four, list_of};
 use crate::shutting::{Signs, shuts};
 use crate::tallies::Tally;
-use history::{Fifo, Rest};
+use history::{Close, Fifo, Rest};
 use std::alloc::Global;
 use std::sync::Wait;
 use std::thread::{Threads, join};
@@ -79,7 +79,7 @@ fn leaves(rest: &mut Rest, most: u32, tally: &mut Tally) {
 
 /// A run of four threads with the seats 1 to 4 of a queue of so many nodes, each with so many pushes and a pop after each.
 /// Then one seat takes what is left, pushes look for the nodes, and the queue is closed. None where memory is refused.
-pub fn judged<R: Threads + Wait + Sync, Q: Fifo + Sync + Drop>(
+pub fn judged<R: Threads + Wait + Sync, Q: Close + Sync + Drop>(
     rt: &R,
     alloc: Global,
     queue: Q,
@@ -95,7 +95,7 @@ pub fn judged<R: Threads + Wait + Sync, Q: Fifo + Sync + Drop>(
     let taken = threads.taken.with(&last.taken).total();
     let found = finds(rt, &queue, &mut seats, nodes, &mut threads);
     let list = list_of(&queue, alloc, seats)?;
-    let mut rest = queue.close(alloc, list).ok()?;
+    let (mut rest, _end) = queue.close(alloc, list).ok()?;
     let whole = rest.whole() && rest.taken() == taken;
     leaves(&mut rest, nodes, &mut last);
     let all = threads.with(&last);
@@ -139,7 +139,7 @@ fn shut_among<R: Threads + Wait + Sync, Q: Fifo + Sync>(
 /// Whether a round is right in which the queue is shut while four threads push and pop, once so many pushes were done: the
 /// bodies taken are just those pushed, nothing is left, no push was done behind the shut, each thread took in order until it
 /// found the queue shut and empty, and the five seats made all calls. None where memory is refused.
-pub fn judged_shut<R: Threads + Wait + Sync, Q: Fifo + Sync + Drop>(
+pub fn judged_shut<R: Threads + Wait + Sync, Q: Close + Sync + Drop>(
     rt: &R,
     alloc: Global,
     queue: Q,
@@ -153,7 +153,7 @@ pub fn judged_shut<R: Threads + Wait + Sync, Q: Fifo + Sync + Drop>(
     let ((seats, tally), (fifth, shut)) = shut_among(rt, &queue, seats, fifth, first);
     let mut list = list_of(&queue, alloc, seats)?;
     list.push(fifth).ok()?;
-    let mut rest = queue.close(alloc, list).ok()?;
+    let (mut rest, _end) = queue.close(alloc, list).ok()?;
     let ended = rest.was_shut() && rest.whole() && rest.next().is_none();
     let counted = rest.taken() == tally.taken.total() && tally.taken == tally.pushed;
     Some(shut && ended && counted && tally.in_order && tally.kept)

@@ -9,7 +9,7 @@ ghost use Rattle.worker_pool.specs.Teams.{IsOneMore, HasPushed, HasSubmitted, Ha
 
 use crate::jobs::Found;
 use crossbeam_utils::Backoff;
-use history::{Body, Fifo, Refusal};
+use history::{Body, Close, Fifo, Refusal};
 use std::alloc::Global;
 use std::sync::Wait;
 use std::thread::{Threads, join};
@@ -258,7 +258,7 @@ fn put<S: Drop>(seats: &mut Vec<S>, seat: S) -> Result<(), Refusal>
 /// Refusals: `Memory` and `WornOut`; where a word is worn out so that the queue can't be shut, the workers wait for good.
 /// Where a thread can't be made its part is done after the others, so the queue needs room for all jobs. Takes memory for the
 /// seats and for what `close` takes.
-pub fn run<R: Threads + Wait + Sync, Q: Fifo + Sync + Drop>(
+pub fn run<R: Threads + Wait + Sync, Q: Close + Sync + Drop>(
     rt: &R,
     alloc: Global,
     queue: Q,
@@ -274,6 +274,6 @@ pub fn run<R: Threads + Wait + Sync, Q: Fifo + Sync + Drop>(
     let team = team_of(&queue, seats);
     let (team, found) = worked(rt, &queue, team, most)?;
     let seats = seats_of(alloc, team)?;
-    let _rest = queue.close(alloc, seats)?;
+    let _closed = queue.close(alloc, seats)?;
     Ok(found)
 }

@@ -10,7 +10,8 @@ fn rest_with(alloc: Global, kind: Kind, given: usize) -> Result<Rest, Refusal> {
     let roles = [Role::Giver, Role::Taker, Role::Both];
     let (arena, mut seats) = Arena::new(alloc, kind, 3, 100, &roles)?;
     seats.truncate(given);
-    arena.close(alloc, seats)
+    let room = arena.room(alloc)?;
+    Ok(arena.close_with(room, seats).0)
 }
 
 /// Nothing is left of a queue in which no call was made, and nothing was taken, so any of its seats made all pushes and

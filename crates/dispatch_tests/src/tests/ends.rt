@@ -6,7 +6,7 @@ use super::gates::Open;
 use super::plans::{Rule, Trouble};
 use super::queues::{KINDS, non_blocking_of, non_blocking_with, two_lock_of};
 use super::seats::dispatched;
-use history::{Fifo, Refusal};
+use history::{Close, Refusal};
 use line_table::Kind;
 use mock_queues::Planned;
 use std::alloc::Global;
@@ -46,7 +46,7 @@ impl End {
 }
 
 // How so many jobs end on this queue, by this rule. The queue is closed with none of its seats.
-fn end_over<R: Threads + Wait + Sync, Q: Fifo + Sync + Drop>(
+fn end_over<R: Threads + Wait + Sync, Q: Close + Sync + Drop>(
     rt: &R,
     alloc: Global,
     queue: Q,
@@ -59,7 +59,7 @@ fn end_over<R: Threads + Wait + Sync, Q: Fifo + Sync + Drop>(
     let ends = AtomicU64::new(0);
     let planned = Planned::new(queue, Trouble::new(rule, &ends));
     let results = dispatched(rt, alloc, &planned, seats, None, count, &Open);
-    let mut rest = planned.close(alloc, Vec::new(alloc))?;
+    let (mut rest, _end) = planned.close(alloc, Vec::new(alloc))?;
     Ok(End {
         results,
         ends: ends.load(Ordering::SeqCst),

@@ -7,6 +7,7 @@ returns-in-Ok c = record {
   code = refl;
   holds = record {
     rest = c.in-Ok.found;
+    end = c.in-Ok._end;
     closes = c.in-Ok.ensures.closes;
     empty = c.in-Ok.ensures.empty;
     tells = c.written.ensures.rest;

@@ -6,7 +6,7 @@ use super::calls::{parts, pop, push, shut};
 use super::comparing::same;
 use super::threads::{MOST, Run, met};
 use arena_queue::{Algorithm, ArenaQueueOf};
-use history::{Fifo, Refusal};
+use history::{Close, Fifo, Refusal};
 use std::alloc::Global;
 use std::process::Abort;
 use std::sync::Wait;
@@ -117,14 +117,14 @@ pub fn goes<Q: Fifo>(rt: &impl Abort, queue: &Q, seat: &mut Q::Seat, calls: &[To
 }
 
 // Ends a queue with this seat alone handed in.
-fn closed<Q: Fifo + Drop>(alloc: Global, queue: Q, seat: Q::Seat) -> Result<Left, Refusal>
+fn closed<Q: Close + Drop>(alloc: Global, queue: Q, seat: Q::Seat) -> Result<Left, Refusal>
     requires { Q.is_seat queue seat }
 {
     let mut seats = Vec::new(alloc);
     let Ok(()) = seats.push(seat) else {
         return Err(Refusal::Memory);
     };
-    let mut rest = queue.close(alloc, seats)?;
+    let (mut rest, _end) = queue.close(alloc, seats)?;
     Ok(Left {
         taken: rest.taken(),
         first: rest.next().map(parts),
@@ -135,7 +135,7 @@ fn closed<Q: Fifo + Drop>(alloc: Global, queue: Q, seat: Q::Seat) -> Result<Left
 }
 
 /// Ends a queue with this seat alone handed in; it leaves what is said.
-pub fn leaves<Q: Fifo + Drop>(
+pub fn leaves<Q: Close + Drop>(
     rt: &impl Abort,
     alloc: Global,
     queue: Q,
@@ -151,7 +151,7 @@ pub fn leaves<Q: Fifo + Drop>(
 
 /// The first value pushed comes first, and the second one is left. The queue has four nodes and one seat, which may push
 /// and pop.
-pub fn values_come_in_their_order<Q: Fifo + Drop>(
+pub fn values_come_in_their_order<Q: Close + Drop>(
     rt: &impl Abort,
     alloc: Global,
     queue: Q,
@@ -173,7 +173,7 @@ pub fn values_come_in_their_order<Q: Fifo + Drop>(
 
 /// Seat 1 pushes and seat 2 makes no call: the rest is whole where seat 1 is handed in, and not where seat 2 is. The queue
 /// has these two seats.
-pub fn a_rest_is_whole_by_its_pusher<Q: Fifo + Drop>(
+pub fn a_rest_is_whole_by_its_pusher<Q: Close + Drop>(
     rt: &impl Abort,
     alloc: Global,
     queue: Q,
@@ -198,7 +198,7 @@ pub fn a_rest_is_whole_by_its_pusher<Q: Fifo + Drop>(
 
 /// A queue that is shut behind two values answers so: no push and no shut follows, both values are popped, and then it is
 /// shut and empty. The queue has four nodes and one seat, which may push and pop.
-pub fn a_shut_queue_is_emptied<Q: Fifo + Drop>(
+pub fn a_shut_queue_is_emptied<Q: Close + Drop>(
     rt: &impl Abort,
     alloc: Global,
     queue: Q,
@@ -234,7 +234,7 @@ pub fn a_full_queue_is_shut<Q: Fifo>(
 
 /// Seat 1 shuts the queue and seat 2 makes no call: the rest is whole where seat 1 is handed in, and not where seat 2 is.
 /// The queue has these two seats.
-pub fn a_rest_is_whole_by_who_shut<Q: Fifo + Drop>(
+pub fn a_rest_is_whole_by_who_shut<Q: Close + Drop>(
     rt: &impl Abort,
     alloc: Global,
     queue: Q,
@@ -267,7 +267,7 @@ pub fn words_of<A: Algorithm<B>, const B: u32>(queue: &ArenaQueueOf<A, B>) -> [O
 }
 
 /// One seat alone is never Busy, and pops what it just pushed.
-pub fn one_seat_pops_what_it_pushed<Q: Fifo + Drop>(
+pub fn one_seat_pops_what_it_pushed<Q: Close + Drop>(
     rt: &impl Abort,
     alloc: Global,
     queue: Q,
@@ -292,7 +292,7 @@ pub fn one_seat_pops_what_it_pushed<Q: Fifo + Drop>(
 
 /// Two threads push and pop: no pop finds the queue empty, each value is popped once, and the bodies of each pusher rise.
 /// The rest is whole where both seats are handed in, and not where one alone is.
-pub fn two_threads_pop_each_value_once<R: Threads + Wait + Sync + Abort, Q: Fifo + Sync + Drop>(
+pub fn two_threads_pop_each_value_once<R: Threads + Wait + Sync + Abort, Q: Close + Sync + Drop>(
     rt: &R,
     alloc: Global,
     queue: Q,
@@ -314,7 +314,7 @@ pub fn two_threads_pop_each_value_once<R: Threads + Wait + Sync + Abort, Q: Fifo
 }
 
 /// What a queue leaves that is closed with one value, or why it wasn't made or closed.
-pub fn closed_with_one<Q: Fifo + Drop>(
+pub fn closed_with_one<Q: Close + Drop>(
     alloc: Global,
     queue: Q,
     mut seats: Vec<Q::Seat>,

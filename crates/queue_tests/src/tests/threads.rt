@@ -5,7 +5,7 @@ ghost use Rattle.history.specs.Seats.{MayPush, MayPop};
 ghost use Rattle.queue_tests.specs.Rounds.{MayBegin};
 
 use super::calls::parts;
-use history::{Body, Fifo, Refusal};
+use history::{Body, Close, Fifo, Refusal};
 use std::alloc::Global;
 use std::sync::Wait;
 use std::thread::{Threads, join};
@@ -137,7 +137,7 @@ fn last<Q: Fifo>(queue: &Q, seats: &mut Vec<Q::Seat>) -> Option<Q::Seat>
 
 /// Two threads push and pop by the last two of these seats. Then the seats meet, and the queue is closed, with both of them
 /// or with one alone.
-pub fn met<R: Threads + Wait + Sync, Q: Fifo + Sync + Drop>(
+pub fn met<R: Threads + Wait + Sync, Q: Close + Sync + Drop>(
     rt: &R,
     alloc: Global,
     queue: Q,
@@ -169,7 +169,7 @@ pub fn met<R: Threads + Wait + Sync, Q: Fifo + Sync + Drop>(
             return Err(Refusal::Memory);
         };
     }
-    let mut rest = queue.close(alloc, handed)?;
+    let (mut rest, _end) = queue.close(alloc, handed)?;
     Ok(Run {
         in_order: rises(&first) && rises(&second),
         each_once: are_each_once(&first, &second),

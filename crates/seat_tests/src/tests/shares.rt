@@ -2,33 +2,41 @@
 use super::threads::{last, owned_of, pop, push};
 use history::{Refusal, Taken};
 use line_table::Kind;
+use owned_seats::Unended;
 use std::alloc::Global;
 use std::test::Fail;
 
-// The shares that there are with both seats and with one, whether the queue ends by one seat while the other one has a share, what
-// the other one pops then, and how many values the queue says were taken.
-fn told(alloc: Global, kind: Kind) -> Result<((usize, usize, bool), Option<Taken>, u64), Refusal> {
+// The shares that there are with both seats, after one seat couldn't end the queue since the other one has a share, and with
+// that one alone; what it pops of the first one's push, which came back, and how many values the queue says were taken.
+fn told(alloc: Global, kind: Kind) -> Result<([usize; 3], Option<Taken>, u64), Refusal> {
     let mut owned = owned_of(alloc, kind)?;
     let mut other = last(&mut owned)?;
-    let mut one = last(&mut owned)?;
+    let one = last(&mut owned)?;
     let both = one.shares();
+    let mut one = match one.close(alloc, Vec::new(alloc)) {
+        Err(Unended::InUse(one, _)) => one,
+        Err(Unended::Memory(_, _)) => return Err(Refusal::Memory),
+        _ => return Err(Refusal::Lost),
+    };
     push(&mut one, 5);
-    let ends = one.close(alloc, Vec::new(alloc))?.is_some();
+    let still = one.shares();
+    drop(one);
     let alone = other.shares();
     let taken = pop(&mut other);
-    match other.close(alloc, Vec::new(alloc))? {
-        Some(rest) => Ok(((both, alone, ends), taken, rest.taken())),
-        None => Err(Refusal::Lost),
+    match other.close(alloc, Vec::new(alloc)) {
+        Ok((rest, _)) => Ok(([both, still, alone], taken, rest.taken())),
+        Err(Unended::Memory(_, _)) => Err(Refusal::Memory),
+        Err(_) => Err(Refusal::Lost),
     }
 }
 
-/// A queue lives as long as one of its seats, and ends by the last one.
+/// A queue lives as long as one of its seats, and ends by the last one; a seat that can't end it comes back.
 #[test]
 fn a_queue_lives_as_long_as_its_seats(rt: HostRuntime) -> Result<(), Fail> {
     for kind in [Kind::NonBlocking, Kind::TwoLock] {
         let (shares, taken, count) = told(rt.alloc(), kind)?;
         let value = taken.map(|it| (it.from, it.body.number()));
-        assert_eq!(rt; (shares, value, count), ((2, 1, false), Some((1, 5)), 1));
+        assert_eq!(rt; (shares, value, count), ([2, 2, 1], Some((1, 5)), 1));
     }
     Ok(())
 }

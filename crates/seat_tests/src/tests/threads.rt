@@ -8,7 +8,7 @@ use counted_ref::MOST_COUNT;
 use history::{Body, Refusal, Taken};
 use line_table::Kind;
 use node_arena::Role;
-use owned_seats::{OwnedSeat, deal};
+use owned_seats::{OwnedSeat, Unended, deal};
 use std::alloc::Global;
 use std::test::Fail;
 use std::thread::{Threads, join};
@@ -135,8 +135,8 @@ fn both_take_all<R: Threads + Sync>(rt: &R, alloc: Global, kind: Kind) -> Result
         { rounds(other) },
     );
     drop(other);
-    match one.close(alloc, Vec::new(alloc))? {
-        Some(mut rest) => Ok(
+    match one.close(alloc, Vec::new(alloc)) {
+        Ok((mut rest, _)) => Ok(
             first.in_order
                 && second.in_order
                 && first.popped == MOST
@@ -144,7 +144,8 @@ fn both_take_all<R: Threads + Sync>(rt: &R, alloc: Global, kind: Kind) -> Result
                 && rest.taken() == 2 * MOST
                 && rest.next().is_none(),
         ),
-        None => Err(Refusal::Lost),
+        Err(Unended::Memory(_, _)) => Err(Refusal::Memory),
+        Err(_) => Err(Refusal::Lost),
     }
 }
 
