@@ -4,7 +4,7 @@ ghost use Rattle.std.specs.List.{All};
 use crate::closing::{Verdict, judged, judged_shut};
 use crate::measuring::{Works, all};
 use crate::seating::{Keeping, last, last_four, last_four_keeping};
-use history::Fifo;
+use history::Close;
 use node_arena::{MOST_COUNT, Role};
 use nonblocking::MsQueue;
 use std::alloc::Global;
@@ -135,7 +135,7 @@ pub fn worked<R: Threads + Wait + Sync>(
     }
 }
 
-fn judged_shut_with<R: Threads + Wait + Sync, Q: Fifo + Sync + Drop>(
+fn judged_shut_with<R: Threads + Wait + Sync, Q: Close + Sync + Drop>(
     rt: &R,
     alloc: Global,
     queue: Q,

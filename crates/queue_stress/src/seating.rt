@@ -4,12 +4,12 @@ ghost use Rattle.std.specs.List.{All};
 ghost use Rattle.queue_stress.specs.Seated.{MayCall, AreFour};
 
 use arena_queue::{Algorithm, ArenaQueueOf};
-use history::Fifo;
+use history::{Close, Fifo};
 use node_arena::Seat;
 use std::alloc::Global;
 
 /// A queue whose seats can be told to keep their nodes.
-pub trait Keeping: Fifo {
+pub trait Keeping: Close {
     /// Tells a seat to keep its nodes.
     fn keep_nodes(&self, seat: &mut Self::Seat)
         requires { Self.is_seat self.now seat.old }
