@@ -50,11 +50,7 @@ fn shares_of(alloc: Global, slots: &mut [MsqSeat]) -> usize
 }
 
 // Room for the end of the queue of a full handle, by its seat and so many others.
-fn room_at(
-    alloc: Global,
-    slot: &mut MsqSeat,
-    others: usize,
-) -> Result<EndRoom<AnyQueue>, Trouble>
+fn room_at(alloc: Global, slot: &mut MsqSeat, others: usize) -> Result<EndRoom<AnyQueue>, Trouble>
     requires { is_full slot.old ≡ true }
     ensures full { is_full slot.new ≡ true }
     ensures seat { own_at slot.new ≡ own_at slot.old }

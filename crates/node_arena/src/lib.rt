@@ -21,8 +21,8 @@ mod words;
 
 pub use arena::{Arena, ArenaOf};
 pub use counted_ref::{MOST_COUNT, MOST_NODE, most_count, most_node};
-pub use line_steps::value_of;
 pub use ended::Ended;
+pub use line_steps::value_of;
 pub use plans::Plan;
 pub use roles::Role;
 pub use seats::Seat;

@@ -101,10 +101,8 @@ fn push_others(text: &mut Vec<u8>, reason: &Reason) -> Result<(), AllocError>
     ensures { OnOk result (text.new.items ≡ text.old.items ++ others_text reason.now) }
 {
     match reason {
-        Reason::Shape { .. }
-        | Reason::Span { .. }
-        | Reason::Reply { .. }
-        | Reason::Unshut { .. } => Ok(()),
+        Reason::Shape { .. } | Reason::Span { .. } | Reason::Reply { .. } | Reason::Unshut { .. } =>
+            Ok(()),
         Reason::Sooner { others, .. } => push_places(text, others),
         Reason::Order { push, held, .. } => {
             push_place(text, *push)?;
