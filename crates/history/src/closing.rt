@@ -47,7 +47,8 @@ pub trait Close: Fifo + Sized {
     ///
     /// Refused by `Memory` alone. Takes memory for the values left, and doesn't wait.
     fn room(&self, alloc: Global) -> Result<Vec<Taken>, Refusal>
-        //= queues/room (room, only_memory): Room for what is left of a queue is room for all that it may hold. Or Memory.
+        //= queues/room (room, only_memory): Room for what is left of a queue is what it names as room for its end;
+        //=   `ArenaQueue` and `AnyQueue` name what an arena does. Or Memory.
         ensures room { IfOk result (has_room self.now) }
         ensures only_memory { IfErr result (λ refusal. refusal ≡ Refusal.Memory) };
 
@@ -70,8 +71,8 @@ pub trait Close: Fifo + Sized {
         //=   whether it has a shut is told. The rest is whole exactly where these seats made as many pops and pushes, and
         //=   a shut if it has one; each entry is then theirs. With every seat it is whole.
         ensures rest { Closes (Self.permits self) (map Self.known seats.items) result.0 }
-        //= queues/ends: The rest is the queue's own, whichever seats are handed in: it comes with the end of this queue,
-        //=   and is the one that this end leaves.
+        //= queues/ends: With the rest comes an end, whichever seats are handed in, of which the queue's `ends` holds. What
+        //=   that says the queue names: `ArenaQueue` and `AnyQueue` say what a closed arena does.
         ensures ends { ends self result.1 result.0 };
 
     /// Ends the queue and the seats handed in, as `close_with` does, with room that it takes first.

@@ -58,8 +58,8 @@ impl<Q: Fifo + Drop> Receiver<Q> {
         ensures order { InOrder (receiver_knows Q.known self.new) }
         //= letters/refused_take (refused, lost, stays_lost): A refused take took nothing, and at `Closed` its seat
         //=   notes that the queue was shut and empty; but where a letter is lost, the first such call popped one value
-        //=   and was answered by the store that it has no letter at its body, and each later one changes nothing and is
-        //=   refused so too.
+        //=   and keeps a `Missing` for its body, which only a look at a store that shows no letter there makes, and each
+        //=   later one changes nothing and is refused so too.
         ensures refused { IfErr result
             (λ refusal. refusal ≢ Lost → TookNothing Q.known self.old refusal self.new) }
         ensures lost { result ≡ Err Lost → Loses Q.known self.old self.new }

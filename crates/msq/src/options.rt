@@ -24,8 +24,8 @@ pub(crate) fn show_by<S: Source, W: Sink>(
     reader: &mut S,
     writer: &mut W,
 ) -> Result<(), Fault>
-    //= program/show_options: `msq show` draws what its options ask for: the picture of a schedule, or the timeline of a
-    //=   history, of just that width, those steps and that actor.
+    //= program/show_options: At Ok `show_by`, which `msq show` calls, has drawn what its options ask for: the picture of a
+    //=   schedule, or the timeline of a history, of just that width, those steps and that actor.
     ensures drawn { OnOk result (Draws options (S.state reader.old).left (W.state writer.old)
         (W.state writer.new)) }
 {
@@ -50,8 +50,9 @@ pub(crate) fn work_by<T: Threads + Wait + Sync, S: Source, W: Sink>(
     reader: &mut S,
     writer: &mut W,
 ) -> Result<JobQueue, Refusal>
-    //= program/work_options (over, sized): `msq work` takes workers, queue and nodes as its options ask for: for these is
-    //=   the queue that its engine answers made, and it is refused `BadSize` exactly where they are out of range.
+    //= program/work_options (over, sized): `work_by`, which `msq work` calls, takes workers, queue and nodes as its options
+    //=   ask for: at Ok the queue that its engine answers was made for these, and it is refused `BadSize` exactly where
+    //=   they are out of range.
     ensures over { IfOk result (λ done. plan_of (any_arena_of (queue_in done))
         ≡ crew_plan options.kind options.nodes options.workers) }
     ensures sized { (result ≡ Err Refusal.BadSize) ↔ IsBadSize options.workers options.nodes }

@@ -68,7 +68,8 @@ pub extern "C" fn msq_try_pop(
 #[unsafe(no_mangle)]
 pub extern "C" fn msq_try_shut(alloc: Global, slot: &mut MsqSeat, turns: u32) -> u32
     requires { IsHandle slot.old }
-    //= library/shut: A shut from C, and a meeting of two handles of one queue, tell as `msq_try_push` does.
+    //= library/shut: A shut from C tells as `msq_try_push` does. A meeting of two handles of one queue tells 0 where they
+    //=   met, and else `MSQ_NO_SEAT`, only where one is empty, with no change; each stays full or empty, of the same queue.
     ensures { Tells done_code result (AnswersShut slot.old slot.new turns) }
 {
     code(calls::shut(alloc, slot, turns))

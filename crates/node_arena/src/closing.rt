@@ -101,8 +101,9 @@ impl<const B: u32> ArenaOf<B> {
         requires room { HasRoomFor self room }
         requires seats { All (IsReady self) seats.items }
         //= atomics/rest (rest, ends): A closed arena tells of its rest what `Close::close_with` does. The values left are
-        //=   those of the chain from Head on in the words that its table held at its end, and Head's count is how many were
-        //=   taken, whichever seats are handed in.
+        //=   those of the chain from Head on in the words of the `Ended` that comes with it, and Head's count there is how
+        //=   many were taken, whichever seats are handed in. It has a token of this arena's table; that the words are that
+        //=   table's, its one maker sees to, and no clause.
         ensures rest { Closes (permits_of self.entry) (map known_of seats.items) result.0 }
         ensures ends { Leaves self.entry result.1 result.0 }
     {

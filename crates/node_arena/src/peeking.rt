@@ -13,8 +13,8 @@ impl<const B: u32> ArenaOf<B> {
     /// seat has seen. Takes no memory and doesn't wait.
     pub fn peek(&self, word: usize) -> Option<u64>
         //= atomics/peek (none, held): A look at a shared word answers none exactly where there is no such word, and
-        //=   else what it holds in some reachable traced world of an arena so made: of which moment isn't said, and a new
-        //=   arena's word is one.
+        //=   else what it holds in some reachable traced world of its setup with an actor for each seat, whatever their
+        //=   roles: of which moment isn't said, and a new arena's word is one.
         ensures none { IsNone result ↔ (6 + 2 * (setup_of self.now).size ≤ word) }
         ensures held { IfSome result (WasWord (plan_of self.now) word) }
     {

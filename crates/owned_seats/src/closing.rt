@@ -83,8 +83,8 @@ impl<Q: Close + Drop> OwnedSeat<Q> {
         requires seat { Q.is_seat (queue_of self) (seat_of self) }
         requires others { All (λ s. Q.is_seat (queue_of self) (seat_of s)) others.items }
         //= library/close (rest, ends, back): What is left of a queue ended by seats of it is what its own `close` says of
-        //=   these. A queue that isn't ended comes back, with its seats: as they were where others have a share of it, or
-        //=   memory is refused; without their shares where others got one meanwhile.
+        //=   these. A queue that isn't ended comes back, with its seats: at `InUse` and `Memory` as they were, at `Raced`
+        //=   without their shares. When which of them is answered, no clause says.
         ensures rest { IfOk result (λ r. Closes (Q.permits (queue_of self))
             (map (λ s. Q.known (seat_of s)) (others.items ++ self ∷ [])) r.0) }
         ensures ends { IfOk result (λ r. Q.ends (queue_of self) r.1 r.0) }

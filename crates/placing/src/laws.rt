@@ -12,7 +12,8 @@ ghost use Rattle.placing.specs.Reasons.{IsReason};
 /// queue.
 pub fn placed_is_linearizable()
     //= judge/recordings: A recorded history is one of a queue (linearizable, of calls that ended exactly where told a
-    //=   reply and not before they began) where one judged Yes differs from it in points, and in stamps spread alike.
+    //=   reply and not before they began) where one judged Yes differs from it in points alone, or also in stamps
+    //=   spread alike.
     ensures { (ops new : List Stamped) → IsSpread ops new → verdict new ≡ Yes → IsOfQueue ops }
 {}
 

@@ -267,7 +267,7 @@ pub fn run<R: Threads + Wait + Sync, Q: Close + Sync + Drop>(
 ) -> Result<Found, Refusal>
     requires seats { AreSeats Q.is_seat Q.permits Q.known queue seats.items }
     requires bodies { most < 2 ^ body_bits }
-    //= callers/workers: Three workers on a new queue, any `Fifo`, and a seat that hands out `most` jobs, a number of a
+    //= callers/workers: Three workers on a new queue, any `Close`, and a seat that hands out `most` jobs, a number of a
     //=   body: at Ok as many are told as done; that they were, no clause says.
     ensures { IfOk result (λ found. found.jobs ≡ most) }
 {

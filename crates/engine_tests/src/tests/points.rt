@@ -75,11 +75,17 @@ const REPEATED: &str = "history 6
 2 deq first 11 last 12 at - reply value 1 1
 ";
 
-// Two operations have the number 1, and the numbers from there to the last one can't be doubled.
+// Two operations have the number 1, so each of the two numbers used becomes four.
 const CROWDED: &str = "history 3
 1 enq 1 first 1 last 1 at - reply done
 2 enq 2 first 1 last 1 at - reply done
 3 enq 3 first 18446744073709551615 last 18446744073709551615 at - reply done
+";
+
+const ITS_ROOM: &str = "history 3
+1 enq 1 first 1 last 4 at 1 reply done
+2 enq 2 first 1 last 4 at 2 reply done
+3 enq 3 first 5 last 8 at 7 reply done
 ";
 
 /// Recorded histories, the status, and what is written.
@@ -94,7 +100,7 @@ const FOUND: [(&str, u8, &str); 11] = [
     (NEVER_EMPTY, 3, "no 3 Full 1 2\n"),
     (SHUT, 0, ITS_SHUT),
     (REPEATED, 4, "open Searched\n"),
-    (CROWDED, 4, "open Room\n"),
+    (CROWDED, 0, ITS_ROOM),
 ];
 
 #[test]
