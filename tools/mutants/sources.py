@@ -89,9 +89,11 @@ def without_generics(text: str) -> str:
     return text
 
 
-def block_name(head: str) -> str:
-    """Returns how the checker names an impl: Type, or TypeTrait for a trait's."""
+def block_name(kind: str, head: str) -> str:
+    """Returns how the checker names a block: an impl Type, or TypeTrait where it is of a trait; a trait, whatever stands above it, by its name."""
     words = without_generics(head).partition(" where ")[0]
+    if kind == "trait":
+        words = words.partition(":")[0]
     trait, _, of = words.partition(" for ")
     short = lambda it: (re.findall(r"\w+", it) or [""])[-1]
     return short(of) + short(trait) if of else short(trait)
@@ -147,7 +149,7 @@ def functions_of(file: str, text: str, homes: Homes) -> list[Function]:
                 continue
             head, ends = code[it.end() : opens.start()], closed(code, opens.start())
             is_trait = it[1] == "trait" or re.search(r"\bfor\b", without_generics(head)) is not None
-            walk(opens.end(), ends - 1, [*inside, block_name(head)], is_of_trait or is_trait)
+            walk(opens.end(), ends - 1, [*inside, block_name(it[1], head)], is_of_trait or is_trait)
             at = ends
 
     walk(0, len(code), [])
