@@ -13,7 +13,7 @@ from mutants.kit import PARTS
 
 TURNS = 4
 # What a run may take, in processor minutes, where nothing else is said.
-MINUTES = 40.0
+MINUTES = 25.0
 # What an edit takes in a group, in processor seconds: those of a group are told once it has ended.
 SECONDS_EACH = 12
 
