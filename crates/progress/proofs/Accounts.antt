@@ -10,7 +10,7 @@ use Rattle.step_machine.specs.Machine.{World, idle, opening, actor_of, rested, w
 use Rattle.step_machine.proofs.Reached.{actor_stands, if_some, run_on_if, some_of, setup-next_any, reached_next}
 use Rattle.step_machine.proofs.AnyMoves.{after_move}
 use Rattle.progress.specs.Moves.{total, total_on, numbered}
-use Rattle.progress.specs.Pairs.{pairs}
+use Rattle.step_machine.specs.Pairs.{pairs}
 use Rattle.progress.proofs.Sums.{replaced, pairs-replicate}
 
 -- how many operations a numbered move adds

@@ -18,11 +18,11 @@ use Rattle.step_machine.proofs.Assertions.{OwnsAt}
 use Rattle.step_machine.proofs.EitherQueue.{each_runs_its_queue}
 use Rattle.step_machine.proofs.TwoLockInvariant.{reached_invariant}
 use Rattle.step_machine.proofs.Locks.{locks_name_their_holders, locks_are_of_actors}
-use Rattle.progress.specs.Prices.{if_so}
+use Rattle.step_machine.specs.Prices.{if_so}
 use Rattle.progress.specs.Locked.{unheld}
 use Rattle.progress.specs.Ends.{EndsItsCall, SomeEndsItsCall}
-use Rattle.progress.proofs.Others.{unless_most, due_most}
-use Rattle.progress.proofs.Ends.{over, one_more}
+use Rattle.step_machine.proofs.Others.{unless_most, due_most}
+use Rattle.step_machine.proofs.Alone.{over, one_more}
 use Rattle.progress.proofs.LockedMover.{locked_at, step_lowers_unheld}
 use Rattle.progress.proofs.LockedSteps.{entry_unheld}
 

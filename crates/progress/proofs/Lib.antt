@@ -1,5 +1,3 @@
-pub mod Others
-pub mod Mover
 pub mod Sums
 pub mod Accounts
 pub mod Steps

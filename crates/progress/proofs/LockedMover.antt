@@ -9,11 +9,11 @@ use Rattle.step_machine.specs.ProgramCounters.{IsRunBy}
 use Rattle.step_machine.proofs.Choices.{both, tried}
 use Rattle.step_machine.proofs.EitherQueue.{each_runs_its_queue, fixed_at}
 use Rattle.step_machine.proofs.Fixed.{FixedAt, DecidedUnlocking}
-use Rattle.progress.specs.Prices.{unless, if_so, by_due, call_steps}
-use Rattle.progress.specs.Amounts.{rank, lost_at_free}
+use Rattle.step_machine.specs.Prices.{unless, if_so, by_due, call_steps}
+use Rattle.step_machine.specs.Amounts.{rank, lost_at_free}
 use Rattle.progress.specs.Locked.{unheld}
-use Rattle.progress.proofs.Others.{at_free, at_fresh}
-use Rattle.progress.proofs.Mover.{found_same, found_fresh}
+use Rattle.step_machine.proofs.Others.{at_free, at_fresh}
+use Rattle.step_machine.proofs.Mover.{found_same, found_fresh}
 
 -- what an actor has before it to the end of its call, if no other one wins an exchange
 abbrev pub locked_own : Shared → Actor → Line → ℕ

@@ -4,7 +4,7 @@ use Rattle.step_machine.specs.Below.{TwoLock, Line, N1, F1, E2, D2, S1, A1, B1, 
 use Rattle.step_machine.specs.Machine.{World, opening, actor_of, rested, entry_or, run, IsReached}
 use Rattle.step_machine.proofs.Reached.{if_some, some_of}
 use Rattle.step_machine.proofs.LegalMoves.{begun_entry}
-use Rattle.progress.specs.Prices.{by_due}
+use Rattle.step_machine.specs.Prices.{by_due}
 use Rattle.progress.specs.Locked.{unheld_at, unheld_of}
 use Rattle.progress.specs.Moves.{steps_unheld, numbered_unheld}
 use Rattle.progress.specs.Steps.{FewFindNoLockHeld}

@@ -12,15 +12,14 @@ use Rattle.step_machine.proofs.Reached.{actor_stands, if_some, some_of, reached_
 use Rattle.step_machine.proofs.StampsLists.{same_or_not}
 use Rattle.step_machine.proofs.StampsMoves.{idle_got}
 use Rattle.step_machine.proofs.CompletionSteps.{actor_same, actor_other}
-use Rattle.progress.specs.Prices.{Prices, if_so, by_due, of_pocket, call_steps, failed_turns}
-use Rattle.progress.specs.Amounts.{tail_lags, own, amount_at, failed, counted, toll}
-use Rattle.progress.specs.Pairs.{Stage, Resting, Taking, Popping, stage, Won, Nothing, Node, Link, Pop, dues, price}
+use Rattle.step_machine.specs.Prices.{Prices, if_so, by_due, of_pocket, call_steps, failed_turns}
+use Rattle.step_machine.specs.Amounts.{tail_lags, own, amount_at, failed, counted, toll}
+use Rattle.step_machine.specs.Pairs.{Stage, Resting, Taking, Popping, stage, Won, Nothing, Node, Link, Pop, dues, price}
 use Rattle.progress.specs.Moves.{total, total_on}
 use Rattle.progress.specs.Paid.{begun_by, calls_of, taken_by, at_line_of, step_of, fails_by, costs, StepsArePaid, FailedTurnsArePaid, StepsOfACallArePaid, FailedTurnsOfACallArePaid}
-use Rattle.progress.proofs.Others.{if_so_most, for_tail}
-use Rattle.progress.proofs.Mover.{IsEnough, Lowers, step_lowers, give_lowers}
-use Rattle.progress.proofs.Steps.{entry_left, call_enough}
-use Rattle.progress.proofs.Ends.{begun_most}
+use Rattle.step_machine.proofs.Others.{if_so_most, for_tail}
+use Rattle.step_machine.proofs.Mover.{IsEnough, Lowers, step_lowers, give_lowers}
+use Rattle.step_machine.proofs.Alone.{entry_left, call_enough, begun_most}
 
 -- an exchange costs each other actor no more than its price
 dues_most : (p : Prices) → IsEnough p → (won : Won) (z : Stage) → dues p won z ≤ price p won

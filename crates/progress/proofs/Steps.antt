@@ -13,13 +13,14 @@ use Rattle.step_machine.proofs.LegalMoves.{begun_entry}
 use Rattle.step_machine.proofs.EitherQueue.{each_runs_its_queue}
 use Rattle.step_machine.proofs.StampsInvariants.{actor_cases}
 use Rattle.step_machine.proofs.StampsMoves.{idle_got}
-use Rattle.progress.specs.Prices.{Prices, if_so, by_due, of_pocket, all_steps, call_steps}
-use Rattle.progress.specs.Amounts.{names, tail_lags, own, amount_at, in_hand, has}
-use Rattle.progress.specs.Pairs.{Stage, Resting, Taking, Linking, Popping, Freeing, FreeingFirst, freeing, stage, stage_at, stage_of, pair, dues}
+use Rattle.step_machine.specs.Prices.{if_so, by_due, of_pocket, all_steps}
+use Rattle.step_machine.specs.Amounts.{names, tail_lags, own, amount_at, in_hand, has}
+use Rattle.step_machine.specs.Pairs.{Stage, Resting, Taking, Linking, Popping, Freeing, FreeingFirst, freeing, stage, stage_at, stage_of, pair, dues}
 use Rattle.progress.specs.Moves.{total, numbered}
 use Rattle.progress.specs.Steps.{cost_of_pair, IsFew, IsFewLater}
-use Rattle.progress.proofs.Others.{for_tail}
-use Rattle.progress.proofs.Mover.{unless_worn, IsEnough, Lowers, step_lowers, give_lowers, gone}
+use Rattle.step_machine.proofs.Others.{for_tail}
+use Rattle.step_machine.proofs.Mover.{unless_worn, IsEnough, Lowers, step_lowers, give_lowers, gone}
+use Rattle.step_machine.proofs.Alone.{entry_left}
 use Rattle.progress.proofs.Accounts.{new_ones, told_actor, Pays, Account, steps_numbered, as_many, Gains, run_gains, opening_gains}
 
 -- a call begins at one of these lines
@@ -80,9 +81,6 @@ each_begins kind =
 pub all_enough : IsEnough all_steps
 all_enough = record { node = omega arith; link = omega arith; pop = omega arith; idle = omega arith; kept = omega arith }
 
-pub call_enough : IsEnough call_steps
-call_enough = record { node = omega arith; link = omega arith; pop = omega arith; idle = omega arith; kept = omega arith }
-
 -- two actors may cost each other the same, whichever is named first
 pub pair_turned : (x y : Stage) → pair x y ≡ pair y x
 pair_turned Resting Resting = refl
@@ -97,12 +95,6 @@ pair_turned Freeing Resting = refl
 pair_turned Freeing _ = refl
 pair_turned FreeingFirst Resting = refl
 pair_turned FreeingFirst _ = refl
-
--- where its operation stands says nothing of what an actor has before it
-pub entry_left : (p : Prices) (s : Setup) (m : Shared) (a : Actor) (entry : Option ℕ) (l : Option Line) → amount_at p s m (record a { entry = entry }) l ≡ amount_at p s m a l
-entry_left p s m a entry None = refl
-entry_left p s m a entry (Some N1) = refl
-entry_left p s m a entry (Some _) = refl
 
 -- a call that begins costs each other actor at most 8 more
 begins_at : (due : Option Reply) (l : Line) → First due l → (z : Stage) → pair (stage due l) z ≤ pair Resting z + 8

@@ -1,6 +1,3 @@
-pub mod Prices
-pub mod Amounts
-pub mod Pairs
 pub mod Locked
 pub mod Moves
 pub mod Steps

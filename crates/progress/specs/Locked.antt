@@ -1,7 +1,7 @@
 -- Which steps of the two-lock queue find no lock held.
 use Rattle.std.specs.Prelude.{ℕ, nat_eq, Option, Some, None}
 use Rattle.step_machine.specs.Below.{Line, A3, B1, S6, Actor, Shared}
-use Rattle.progress.specs.Prices.{if_so}
+use Rattle.step_machine.specs.Prices.{if_so}
 
 -- 1 for a step at a line, unless it finds a lock held
 abbrev pub unheld : Shared → Line → ℕ

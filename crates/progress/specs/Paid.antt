@@ -6,8 +6,8 @@ use Rattle.step_machine.specs.Below.{NonBlocking, Line, Op, Actor, Shared}
 use Rattle.step_machine.specs.declared.actors.Move.TheVariants.{Begin, Step, Give}
 use Rattle.step_machine.specs.Machine.{World, actor_of, AnyMove, made, next, run}
 use Rattle.step_machine.specs.Solo.{most_steps}
-use Rattle.progress.specs.Prices.{Prices, call_steps, failed_turns}
-use Rattle.progress.specs.Amounts.{failed, toll}
+use Rattle.step_machine.specs.Prices.{Prices, call_steps, failed_turns}
+use Rattle.step_machine.specs.Amounts.{failed, toll}
 use Rattle.progress.specs.Moves.{total}
 use Rattle.progress.specs.Steps.{OfRuns}
 

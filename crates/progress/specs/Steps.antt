@@ -3,9 +3,9 @@ use Rattle.std.specs.Prelude.{◌≡◌, ℕ, ◌+◌, ◌*◌, ◌≤◌, List,
 use Rattle.std.specs.List.{sum_by}
 use Rattle.step_machine.specs.Below.{Kind, TwoLock, NonBlocking, Actor, Setup}
 use Rattle.step_machine.specs.Machine.{World, opening, AnyMove, run, IsSized}
-use Rattle.progress.specs.Prices.{all_steps}
-use Rattle.progress.specs.Amounts.{has}
-use Rattle.progress.specs.Pairs.{pair, pairs, stage_of}
+use Rattle.step_machine.specs.Prices.{all_steps}
+use Rattle.step_machine.specs.Amounts.{has}
+use Rattle.step_machine.specs.Pairs.{pair, pairs, stage_of}
 use Rattle.progress.specs.Moves.{steps_unheld, rests, completed}
 
 -- what two actors may yet cost each other

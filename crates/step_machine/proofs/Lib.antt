@@ -56,6 +56,8 @@ pub mod EachLegal
 pub mod EachHistory
 pub mod EachEntry
 pub mod PlaceOf
+pub mod Others
+pub mod Mover
 pub mod Alone
 pub mod EffectLines
 pub mod EffectsKept

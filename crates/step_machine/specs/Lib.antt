@@ -20,6 +20,9 @@ pub mod NonBlocking
 pub mod Histories
 pub mod Placing
 pub mod Solo
+pub mod Prices
+pub mod Amounts
+pub mod Pairs
 pub mod TakingEffect
 pub mod Locks
 pub mod Recording

@@ -15,10 +15,10 @@ use Rattle.step_machine.proofs.StampsLists.{same_or_not}
 use Rattle.step_machine.proofs.Assertions.{next_of}
 use Rattle.step_machine.proofs.NonBlockingLag.{behind_tail, one_after, tail_times}
 use Rattle.step_machine.proofs.NonBlockingLaws.{AtLine, at_line}
-use Rattle.progress.specs.Prices.{Prices, turn_of, unless, if_so, by_due, of_pocket, all_steps}
-use Rattle.progress.specs.Amounts.{names, tail_lags, misled, raced, next_rose, own, amount_at, counted, toll}
-use Rattle.progress.specs.Pairs.{Stage, Resting, Taking, Linking, Popping, Freeing, FreeingFirst, freeing, stage, stage_at, pair, Won, Nothing, Node as OfNode, Link, Pop, dues, price}
-use Rattle.progress.proofs.Others.{if_so_most, if_so_less, for_tail, free_cost, fresh_cost, head_cost, swing_cost, link_cost, written_cost}
+use Rattle.step_machine.specs.Prices.{Prices, turn_of, unless, if_so, by_due, of_pocket, all_steps}
+use Rattle.step_machine.specs.Amounts.{names, tail_lags, misled, raced, next_rose, own, amount_at, counted, toll}
+use Rattle.step_machine.specs.Pairs.{Stage, Resting, Taking, Linking, Popping, Freeing, FreeingFirst, freeing, stage, stage_at, pair, Won, Nothing, Node as OfNode, Link, Pop, dues, price}
+use Rattle.step_machine.proofs.Others.{if_so_most, if_so_less, for_tail, free_cost, fresh_cost, head_cost, swing_cost, link_cost, written_cost}
 
 -- references that are the same are found to be
 pub same_ref-same : (a b : Ref) → a ≡ b → same_ref a b ≡ true
@@ -34,9 +34,9 @@ pub found_fresh : (f n : ℕ) → unless (nat_eq f f) n ≡ 0
 found_fresh f n = ap (λ b. unless b n) (eq-eqb f f refl)
 
 -- a count that was read just now has not risen
-raced_now : (p : Prices) (b : Bool) (n : ℕ) → raced p b (nat_lt n n) ≡ unless b (turn_of p 4)
-raced_now p true n = ap (λ c. if_so c (turn_of p 4)) (le-ltb n n (omega arith))
-raced_now p false n = refl
+raced_now : (p : Prices) (b : Bool) (n : ℕ) → raced p b (nat_lt n n) ≤ unless b (turn_of p 4)
+raced_now p true n = omega (arith, ap (λ c. if_so c (turn_of p 4)) (le-ltb n n (omega arith)))
+raced_now p false n = omega arith
 
 misled_now : (p : Prices) (b c : Bool) (r : Ref) → misled p b c (same_ref r r) ≤ unless b (turn_of p 6)
 misled_now p true true r = omega (arith, found_same r (turn_of p 5))

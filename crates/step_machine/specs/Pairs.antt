@@ -3,7 +3,7 @@ use Rattle.std.specs.Prelude.{ℕ, ◌+◌, ◌*◌, List, [], ◌∷◌, Option
 use Rattle.std.specs.List.{sum_by}
 use Rattle.step_machine.specs.Below.{Line, E17, Section, section_of, Reply}
 use Rattle.line_table.specs.declared.lines.Section.TheVariants.{NewNode, Free, Enqueue, Dequeue, Shut}
-use Rattle.progress.specs.Prices.{Prices, turn_of}
+use Rattle.step_machine.specs.Prices.{Prices, turn_of}
 
 -- what an actor is at: nothing that costs others; to take a node; to link a node or the closed end; to pop; to give back
 -- the node that it popped, or that of its pocket before it pops

@@ -1,9 +1,9 @@
 -- What a step costs each other actor of the non-blocking queue at most, by what it does with the words.
 use Rattle.std.proofs.Common.{◌≡◌, ℕ, ◌+◌, ◌≤◌, Bool, true, false, nat_eq, nat_lt, List, Option, Some, None, refl, ap, arith}
 use Rattle.step_machine.specs.Below.{Line, N2, N3, N4, N5, F1, F2, F3, E6, E7, E9, E13, E17, D3, D4, D5, D10, D12, D13, S2, S3, S4, S5, Ref, same_ref, Reply, Setup, Actor, Node, Shared, node_at, put, Fresh, Free, Head, Tail, Next}
-use Rattle.progress.specs.Prices.{Prices, turn_of, unless, if_so, by_due}
-use Rattle.progress.specs.Amounts.{tail_lags, misled, raced, next_rose, lost_at_free, own}
-use Rattle.progress.specs.Pairs.{freeing, stage, dues, Node as OfNode, Link, Pop}
+use Rattle.step_machine.specs.Prices.{Prices, turn_of, unless, if_so, by_due}
+use Rattle.step_machine.specs.Amounts.{tail_lags, misled, raced, next_rose, lost_at_free, own}
+use Rattle.step_machine.specs.Pairs.{freeing, stage, dues, Node as OfNode, Link, Pop}
 
 -- what is due is at most what would be
 pub unless_most : (b : Bool) (n : ℕ) → unless b n ≤ n
@@ -24,7 +24,7 @@ due_most (Some reply) x y = omega arith
 
 module _ (p : Prices) where
   pub raced_most : (b c : Bool) → raced p b c ≤ turn_of p 4
-  raced_most true c = if_so_most c (turn_of p 4)
+  raced_most true c = omega (arith, if_so_most c (turn_of p 4))
   raced_most false c = omega arith
 
   pub misled_most : (b c d : Bool) → misled p b c d ≤ turn_of p 6
