@@ -1,5 +1,7 @@
 -- The word that a seat's next move accesses has a place in the table.
 use Rattle.std.proofs.Common.{subst}
+use Rattle.std.specs.Coded.{Unit-prop, le_prop}
+use Rattle.std.proofs.Math.Logic.{∥∥₁_elim}
 use Rattle.line_table.specs.declared.lines.Line.{Line}
 use Rattle.node_arena.specs.Machine.{Shared, IsWord, WordStep}
 use Rattle.node_arena.specs.Prologues.{Prologue, after_prologue}
@@ -21,7 +23,13 @@ some_node m HeadLock h = tt
 some_node m (Next n) h = h.0
 some_node m (Value n) h = h.0
 
+HasPlace-prop : (w : Word) → IsProp (HasPlace w)
+HasPlace-prop (Next n) = le_prop
+HasPlace-prop (Value n) = le_prop
+HasPlace-prop _ = Unit-prop
+
 pub has_place : (r : Arena) (s : Seat) (prologue : Prologue) (l : Line) (w : Word) (x : WordStep) → MayStep r s prologue l x → Accesses r s prologue l w → HasPlace w
 has_place r s prologue l w x may names =
-    let at : Stood r.plan (view s).number (after_prologue r.plan.setup (view s).number prologue (view s).actor) l = stood r.plan (view s) prologue l may.seat.sits.fitted may.leads may.line in
-    some_node at.trace.world.shared w (subst (IsWord at.trace.world.shared) names (accesses_a_word r.plan (view s).number _ l at))
+    ∥∥₁_elim may.seat.sits.fitted (HasPlace-prop w) (λ fitted.
+    let at : Stood r.plan (view s).number (after_prologue r.plan.setup (view s).number prologue (view s).actor) l = stood r.plan (view s) prologue l fitted may.leads may.line in
+    some_node at.trace.world.shared w (subst (IsWord at.trace.world.shared) names (accesses_a_word r.plan (view s).number _ l at)))

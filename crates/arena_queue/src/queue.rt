@@ -93,6 +93,7 @@ impl<A: Algorithm<B>, const B: u32> Fifo for ArenaQueueOf<A, B> {
     ghost use Rattle.history.specs.Answers.{PushRefused as RefusedPush, PopRefused as RefusedPop};
     ghost use Rattle.node_arena.specs.Seats.{known_of, pocket_of, keeps_of, view};
     ghost use Rattle.node_arena.proofs.Seens.{sound_of};
+    ghost use Rattle.node_arena.proofs.OneProof.{IsReady-prop};
     ghost use Rattle.arena_queue.specs.Answers.{FailsFewer, PushRefused, FailsFew, FreesItsNode, KeepsItsNode};
     ghost use Rattle.arena_queue.specs.Answers.{PopRefused, ShutRefused};
     ghost use Rattle.arena_queue.specs.Queues.{arena_of, permits_of, IsQueueSeat};
@@ -112,6 +113,8 @@ impl<A: Algorithm<B>, const B: u32> Fifo for ArenaQueueOf<A, B> {
     ghost shut_cause = { λ q. ShutRefused A.shut_worn (arena_of q) };
 
     ghost sound = { λ q s h. sound_of (arena_of q).plan (view s) h.seat.sits.fitted };
+
+    ghost seat_prop = { λ q s. IsReady-prop (arena_of q) s };
 
     /// Refusals: `NoNode` where at one step all nodes were used and none was free, `WornOut` where at one step the count
     /// of Free or of a word that stops the algorithm's pushes was the greatest one, `Busy` where each of so many turns

@@ -1,5 +1,7 @@
 -- The turns of a give back, F1, F2 and F3, and what a give back answers.
 use Rattle.std.proofs.Common.{◌≡◌, ◌≢◌, inl, inr, ℕ, zero, suc, ◌+◌, ◌-◌, ◌<◌, ◌≤◌, Bool, true, false, if◌then◌else◌, nat_eq, Option, Some, None, IfSome, Ok, Err, List, [], ◌∷◌, ◌++◌, length, get_or, set, add-one, sym, refl, ap, ◌∙◌, subst, arith}
+use Rattle.std.specs.Coded.{→_prop, le_prop}
+use mathlib.Core.HLevel.{⊥_prop}
 use Rattle.std.proofs.lemmas.List.{get_or-set_same}
 use Rattle.std.proofs.lemmas.Bool.{eqb-true}
 use Rattle.counted_ref.specs.Ref.{ref_of, same_ref}
@@ -21,7 +23,7 @@ use Rattle.node_arena.specs.Paths.{ExtendsPath, Passes, added, NowHolds}
 use Rattle.node_arena.proofs.Tracing.{traced_reached}
 use Rattle.node_arena.proofs.Noting.{none_due}
 use Rattle.node_arena.proofs.Paths.{no_pass, pass_then, then_stored, added_is, ends_failed, failed_behind, failed-append, kept_seat, now_kept, event, after, pass_on, to_is, failed_last, now_holds}
-use Rattle.node_arena.proofs.Known.{known_before, empty_before}
+use Rattle.node_arena.proofs.Known.{by_known, empty_before}
 use Rattle.node_arena.proofs.Told.{was_in_range, actor_was_in_range, first_is_free, raised_names}
 use Rattle.arena_lines.specs.declared.outcomes.Outcome.{Outcome}
 use Rattle.arena_lines.specs.declared.outcomes.Outcome.TheVariants.{Goes, Ends}
@@ -73,14 +75,14 @@ front_back r s t prologue a n h d won =
     let w : World = d.told.was.world in
     let v : World = (after r s t prologue F3 n d).world in
     let free_is : v.shared.free ≡ raised w.setup b.top b.node = ap (λ p. (if p then record w.shared { free = raised w.setup b.top b.node } else w.shared).free) won in
-    let k = known_before r s prologue F3 h.before in
-    let unworn : b.top.count ≢ w.setup.limit = subst (λ (z : Setup). b.top.count ≢ z.limit) (sym d.told.setup) k.fixed.room in
+    let unworn : b.top.count ≢ w.setup.limit = subst (λ (z : Setup). b.top.count ≢ z.limit) (sym d.told.setup) (by_known r s prologue F3 h.before (→_prop ⊥_prop) (λ k. k.fixed.room)) in
+    let some : 1 ≤ b.node = by_known r s prologue F3 h.before le_prop (λ k. k.some) in
     let same : b.node ≡ a.node = h.knows.0.node in
     let range = was_in_range r.plan prologue F3 n (view s) (view t) d.told in
     let low = (actor_was_in_range r.plan prologue F3 n (view s) (view t) d.told).registers.node in
     let is : v.shared.free.node ≡ a.node = ap (λ x. x.node) free_is ∙ raised_names w b.top b.node range low unworn ∙ same in
     now_holds r s t prologue F3 n d (IsBack a.node)
-    (inl (subst (IsFree v) is (first_is_free v (traced_reached (after r s t prologue F3 n d) d.told.reaches) (let q = k.some in omega arith))))
+    (inl (subst (IsFree v) is (first_is_free v (traced_reached (after r s t prologue F3 n d) d.told.reaches) (omega arith))))
 
 -- F1 ends the turn where Free is worn
 pub aside_turn : (r : Arena) (s t : Seat) (prologue : Prologue) (h : Held) (a : Running) (out : Outcome Running) → a.node ≡ h.node → CallIsAt r s prologue F1 a → Follows r s t prologue F1 a out → ((l : Line) (c : Running) → out ≡ Goes l c → ⊥) → GiveTurns r s t h Back

@@ -1,5 +1,6 @@
 -- Where each line leads: before which line the seat's actor then stands, and what the call knows there.
 use Rattle.std.proofs.Common.{◌≡◌, inl, inr, ℕ, ◌+◌, ◌<◌, ◌≤◌, Bool, true, false, if◌then◌else◌, nat_eq, nat_lt, length, Option, Some, None, sym, refl, ap, ◌∙◌, subst, arith}
+use Rattle.std.specs.Coded.{le_prop}
 use Rattle.std.proofs.lemmas.Bool.{eqb-true}
 use Rattle.counted_ref.specs.Ref.{Ref, ref_of, is_null, same_ref}
 use Rattle.counted_ref.proofs.Words.{same_ref-true}
@@ -16,7 +17,7 @@ use Rattle.node_arena.specs.Prologues.{Prologue, continues, after_prologue}
 use Rattle.node_arena.specs.Arenas.{Arena}
 use Rattle.node_arena.specs.declared.seats.Seat.{Seat}
 use Rattle.node_arena.specs.Seats.{IsSeat, DidStep, view}
-use Rattle.node_arena.proofs.Known.{known_before, empty_before}
+use Rattle.node_arena.proofs.Known.{by_known, empty_before}
 use Rattle.node_arena.proofs.Told.{first_is_free}
 use Rattle.node_arena.proofs.Tracing.{traced_reached}
 use Rattle.arena_lines.specs.declared.outcomes.Outcome.{Outcome}
@@ -128,7 +129,7 @@ module _ (r : Arena) (s t : Seat) (prologue : Prologue) (a : Running) (n : ℕ) 
       won e =
           let o = settled_as N4 d (fourth true) (ap fourth (same true e)) in
           let is : d.told.was.world.shared.free ≡ a.top = same_ref-true d.told.was.world.shared.free b.top (same true e) ∙ h.knows.0 in
-          let some : 1 ≤ a.top.node = subst (λ (x : Ref). 1 ≤ x.node) h.knows.0 (known_before r s prologue N4 h.before).some in
+          let some : 1 ≤ a.top.node = subst (λ (x : Ref). 1 ≤ x.node) h.knows.0 (by_known r s prologue N4 h.before le_prop (λ k. k.some)) in
           record {
             over = ap (λ c. c.line) o.1;
             node = ap (λ c. c.node) o.1 ∙ ap (λ x. x.node) h.knows.0;

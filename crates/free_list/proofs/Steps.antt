@@ -1,5 +1,6 @@
 -- The bounds of what the lines write, and the numbers that they find.
 use Rattle.std.proofs.Common.{◌≡◌, ℕ, ◌+◌, ◌^◌, ◌<◌, ◌≤◌, ap, arith}
+use Rattle.std.specs.Coded.{le_prop}
 use Rattle.counted_ref.specs.Ref.{Ref, ref_of, reserved_node, count_bits}
 use Rattle.line_table.specs.declared.lines.Line.TheVariants.{N1, N2, N3, N4, N5, F1, F2, F3}
 use Rattle.node_arena.specs.Machine.{Setup, node_at, WordFree, WordNext}
@@ -8,7 +9,7 @@ use Rattle.node_arena.specs.Arenas.{Arena}
 use Rattle.node_arena.specs.declared.seats.Seat.{Seat}
 use Rattle.node_arena.specs.Seats.{DidStep, view}
 use Rattle.node_arena.proofs.Told.{was_in_range, was_fits}
-use Rattle.node_arena.proofs.Known.{known_before}
+use Rattle.node_arena.proofs.Known.{by_known}
 use Rattle.node_arena.proofs.Reading.{read_back}
 use Rattle.free_list.specs.Running.{Running}
 use Rattle.free_list.specs.Runs.{CallIsAt}
@@ -16,24 +17,24 @@ use Rattle.free_list.specs.Runs.{CallIsAt}
 module _ (r : Arena) (s : Seat) (a : Running) where
   -- the counts that N4 and F3 raise have room
   pub room_n4 : (z : Setup) → z ≡ r.plan.setup → CallIsAt r s continues N4 a → a.top.count < z.limit
-  room_n4 z e h = omega (arith, (known_before r s continues N4 h.before).room, ap (λ (x : Ref). x.count) h.knows.0, ap (λ (y : Setup). y.limit) e)
+  room_n4 z e h = by_known r s continues N4 h.before le_prop (λ k. omega (arith, k.room, ap (λ (x : Ref). x.count) h.knows.0, ap (λ (y : Setup). y.limit) e))
 
   pub room_f3 : (z : Setup) → z ≡ r.plan.setup → CallIsAt r s continues F3 a → a.top.count < z.limit
-  room_f3 z e h = omega (arith, (known_before r s continues F3 h.before).room, ap (λ (x : Ref). x.count) h.knows.1, ap (λ (y : Setup). y.limit) e)
+  room_f3 z e h = by_known r s continues F3 h.before le_prop (λ k. omega (arith, k.room, ap (λ (x : Ref). x.count) h.knows.1, ap (λ (y : Setup). y.limit) e))
 
   -- a node is left at N5
   pub left_n5 : CallIsAt r s continues N5 a → a.f + 1 < reserved_node r.plan.setup.bits
-  left_n5 h = omega (arith, (known_before r s continues N5 h.before).left, h.knows, h.before.seat.arena.sized.numbered)
+  left_n5 h = by_known r s continues N5 h.before le_prop (λ k. omega (arith, k.left, h.knows, h.before.seat.arena.sized.numbered))
 
   -- the node and the mark that F2 writes, and the node that F3 does
   pub top_f2 : CallIsAt r s continues F2 a → a.top.node < reserved_node r.plan.setup.bits
-  top_f2 h = let k = known_before r s continues F2 h.before in omega (arith, k.within, k.registers.top.node, ap (λ (x : Ref). x.node) h.knows.1, h.before.seat.arena.sized.numbered)
+  top_f2 h = by_known r s continues F2 h.before le_prop (λ k. omega (arith, k.within, k.registers.top.node, ap (λ (x : Ref). x.node) h.knows.1, h.before.seat.arena.sized.numbered))
 
   pub mark_f2 : CallIsAt r s continues F2 a → a.mark < 2 ^ count_bits r.plan.setup.bits
-  mark_f2 h = omega (arith, (known_before r s continues F2 h.before).registers.mark, h.knows.0.mark, h.before.seat.arena.sized.counted)
+  mark_f2 h = by_known r s continues F2 h.before le_prop (λ k. omega (arith, k.registers.mark, h.knows.0.mark, h.before.seat.arena.sized.counted))
 
   pub node_f3 : CallIsAt r s continues F3 a → a.node < reserved_node r.plan.setup.bits
-  node_f3 h = let k = known_before r s continues F3 h.before in omega (arith, k.within, k.registers.node, h.knows.0.node, h.before.seat.arena.sized.numbered)
+  node_f3 h = by_known r s continues F3 h.before le_prop (λ k. omega (arith, k.within, k.registers.node, h.knows.0.node, h.before.seat.arena.sized.numbered))
 
 module _ (r : Arena) (s t : Seat) (prologue : Prologue) (n : ℕ) where
   pub fresh_small : DidStep r s t prologue N1 n → n ≤ r.plan.setup.size

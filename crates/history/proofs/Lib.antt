@@ -14,6 +14,7 @@ mod Tallying
 mod Unplaced
 mod OwnOrders
 pub mod Learning
+pub mod OneProof
 pub mod Sums
 pub mod Values
 pub mod Ending

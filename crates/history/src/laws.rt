@@ -18,6 +18,8 @@ ghost use Rattle.history.specs.Seats.{Permit, Known, IsSound, IsEmptyAfter, IsSh
 ghost use Rattle.history.specs.Values.{pushed, popped, OnlyPushes, OnlyPops};
 ghost use Rattle.history.specs.SmallHistories.{taken_too_early, push_lost, taken_twice, pending_push_taken, overlapping_pop_is_empty, own_pop_during_push};
 
+use crate::queues::Fifo;
+
 /// A history is judged `Yes` exactly where it is well placed and legal.
 pub fn yes_is_placed_and_legal()
     //= judge/verdict
@@ -155,4 +157,14 @@ pub fn who_alone_may_did_all()
         → popped k.mine ≡ popped k.seen }
     ensures pushes { (ps : List Permit) (k : Known) → IsSound ps k → OnlyPushes ps k.number
         → pushed k.mine ≡ pushed k.seen }
+{}
+
+/// That what a seat knows is sound has at most one proof, and a seat of which it was kept that it is a queue's, as by a value
+/// behind a lock, knows what is sound.
+pub fn a_kept_seat_is_sound<Q: Fifo>()
+    //= queues/one_fact (once, kept): That a seat is one of a queue's has at most one proof, and that what it knows is sound
+    //=   too. So a value behind a lock, in a channel or in a message can keep that, and such a seat knows what is sound.
+    ensures once { (ps : List Permit) (k : Known) → IsProp (IsSound ps k) }
+    ensures kept { (queue : Q) (seat : Q.Seat) → ∥ Q.is_seat queue seat ∥₁
+        → IsSound (Q.permits queue) (Q.known seat) }
 {}

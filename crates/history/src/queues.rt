@@ -180,6 +180,9 @@ pub trait Fifo {
     //= queues/meet
     ghost sound: { (queue : Self) (seat : Self.Seat) → is_seat queue seat → IsSound (permits queue) (known seat) };
 
+    //= queues/one_fact
+    ghost seat_prop: { (queue : Self) (seat : Self.Seat) → IsProp (is_seat queue seat) };
+
     /// Pushes a body at the back, by tries of 8 turns each, and tries again while others are in the way. The seat may push.
     ///
     /// Refusals: `NoNode`, `WornOut`, and `Closed` where the queue is shut; the queue is then as if the call had not been.

@@ -27,6 +27,7 @@ impl FullQueue {
 
 impl Fifo for FullQueue {
     ghost use Rattle.std.specs.Prelude.{◌≡◌};
+    ghost use Rattle.std.specs.Coded.{Unit-prop};
     ghost use Rattle.history.specs.declared.refusals.Refusal.TheVariants.{NoNode, WornOut, Busy};
     ghost use Rattle.history.specs.declared.refusals.WornWord.TheVariants.{Tail};
     ghost use Rattle.mock_queues.specs.Full.{IsFullSeat, one_permit, knows_empties, empties_are_sound};
@@ -46,6 +47,8 @@ impl Fifo for FullQueue {
     ghost shut_cause = { λ _ _ _ _ refusal. refusal ≡ WornOut Tail };
 
     ghost sound = { λ _ seat _. empties_are_sound seat };
+
+    ghost seat_prop = { λ _ _. Unit-prop };
 
     fn try_push(&self, _seat: &mut FullSeat, _body: Body, _turns: u32) -> Result<(), Refusal> {
         Err(Refusal::NoNode)

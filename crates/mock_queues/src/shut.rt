@@ -44,6 +44,7 @@ impl ShutSeat {
 
 impl Fifo for ShutQueue {
     ghost use Rattle.std.specs.Prelude.{◌≡◌};
+    ghost use Rattle.std.specs.Coded.{Unit-prop};
     ghost use Rattle.mock_queues.specs.Full.{one_permit};
     ghost use Rattle.mock_queues.specs.Shut.{IsShutSeat, shut_is_sound};
 
@@ -62,6 +63,8 @@ impl Fifo for ShutQueue {
     ghost shut_cause = { λ _ _ _ _ refusal. StopsAtShut refusal };
 
     ghost sound = { λ _ seat _. shut_is_sound seat };
+
+    ghost seat_prop = { λ _ _. Unit-prop };
 
     fn try_push(&self, seat: &mut ShutSeat, _body: Body, _turns: u32) -> Result<(), Refusal> {
         Err(seat.finds_shut())

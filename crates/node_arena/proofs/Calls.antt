@@ -1,6 +1,8 @@
 -- What the step calls ask of the table, and what they answer.
 use Rattle.std.proofs.Common.{◌≡◌, ◌≢◌, ℕ, ◌+◌, ◌-◌, ◌*◌, ◌<◌, nat_lt, List, [], Some, slice_get, sym, refl, ap, ◌∙◌, subst, arith}
 use Rattle.std.specs.List.{count_by}
+use Rattle.std.specs.Coded.{le_prop}
+use Rattle.std.proofs.Math.Logic.{∥∥₁_elim}
 use Rattle.std.proofs.lemmas.List.Sums.{sum_by-append}
 use Rattle.atomic_table.specs.Table.{Me, Allows}
 use Rattle.atomic_table.specs.declared.shared.Seat.{Seat as Token}
@@ -28,8 +30,9 @@ use Rattle.node_arena.proofs.Counting.{Counts, loads_nothing, clears_nothing, st
 -- the index of a step is that of one of the words
 names_a_word : (r : Arena) (s : Seat) (prologue : Prologue) (l : Line) (x : WordStep) → MayStep r s prologue l x → word_index x < 6 + 2 * r.plan.setup.size
 names_a_word r s prologue l x may =
-    let h = index_within r.plan (view s).number (after_prologue r.plan.setup (view s).number prologue (view s).actor) l (stood r.plan (view s) prologue l may.seat.sits.fitted may.leads may.line) in
-    omega (arith, h, ap word_index may.access)
+    ∥∥₁_elim may.seat.sits.fitted le_prop (λ fitted.
+    let h = index_within r.plan (view s).number (after_prologue r.plan.setup (view s).number prologue (view s).actor) l (stood r.plan (view s) prologue l fitted may.leads may.line) in
+    omega (arith, h, ap word_index may.access))
 
 -- what a step on a word asks of the table
 pub asks : (r : Arena) (s : Seat) (prologue : Prologue) (l : Line) (x : WordStep) → MayStep r s prologue l x
@@ -81,7 +84,7 @@ module _ (r : Arena) (s : Seat) (t : Token ℕ Knowing) (prologue : Prologue) (l
         role = subst (λ q. slice_get r.plan.roles (q - 1) ≡ Some u.role) (sym number) (may.seat.sits.role ∙ ap (λ y. Some y) (sym role));
         pushes = pushes ∙ (ap (λ k. k + count_by is_push es) may.seat.sits.pushes ∙ (sym (sum_by-append _ (view s).mine es) ∙ (ap (count_by is_push) (sym steps.mine) ∙ ap (λ y. count_by is_push (knows y.me.0).mine) (sym token))));
         shut = shut ∙ ap (nat_lt 0) (sym (sum_by-append _ (view s).mine es) ∙ (ap (count_by is_shut) (sym steps.mine) ∙ ap (λ y. count_by is_shut (knows y.me.0).mine) (sym token)));
-        fitted = subst (λ y. Fitted r.plan (knows y.me.0)) (sym token) (record { trace = step_at steps.was (view s).number a l; reached = steps.reaches; setup = steps.setup; permitted = steps.permitted; fits = steps.fits });
+        fitted = subst (λ y. ∥ Fitted r.plan (knows y.me.0) ∥₁) (sym token) ∣ record { trace = step_at steps.was (view s).number a l; reached = steps.reaches; setup = steps.setup; permitted = steps.permitted; fits = steps.fits } ∣₁;
         pops = pops ∙ (ap (λ k. k + count_by is_pop es) may.seat.sits.pops ∙ (sym (sum_by-append _ (view s).mine es) ∙ (ap (count_by is_pop) (sym steps.mine) ∙ ap (λ y. count_by is_pop (knows y.me.0).mine) (sym token))));
       };
     };

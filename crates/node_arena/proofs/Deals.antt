@@ -210,7 +210,7 @@ dealt z t n role k sized least few permits table me =
         pushes = ap (λ (v : SeatView). count_by is_push v.mine) (sym is);
         pops = ap (λ (v : SeatView). count_by is_pop v.mine) (sym is);
         shut = ap (λ (v : SeatView). nat_lt 0 (count_by is_shut v.mine)) (sym is);
-        fitted = subst (Fitted z) (sym is) (newly z n sized least few);
+        fitted = ∣ subst (Fitted z) (sym is) (newly z n sized least few) ∣₁;
       };
       view = is;
       number = refl;

@@ -1,9 +1,15 @@
 -- What the machine's invariant has of a seat's actor before a line, in either queue: a call that runs needn't carry it.
-use Rattle.std.proofs.Common.{◌≡◌, ℕ, ◌≤◌, ◌<◌, Some, IfSome, length, refl, subst}
+use Rattle.std.proofs.Common.{◌≡◌, ℕ, ◌≤◌, ◌<◌, Option, Some, IfSome, length, refl, subst}
+use Rattle.std.specs.Coded.{Unit-prop}
+use Rattle.std.proofs.Math.Logic.{∥∥₁_elim}
+use Rattle.std.proofs.Props.{props}
 use Rattle.line_table.specs.declared.lines.Kind.{Kind}
 use Rattle.line_table.specs.declared.lines.Kind.TheVariants.{TwoLock, NonBlocking}
 use Rattle.line_table.specs.declared.lines.Line.{Line}
+use Rattle.line_table.specs.declared.lines.Section.{Section}
+use Rattle.line_table.specs.declared.lines.Section.TheVariants.{Shut, LockedShut}
 use Rattle.line_steps.specs.declared.actors.Setup.{Setup}
+use Rattle.line_steps.specs.declared.actors.Held.{Held}
 use Rattle.line_steps.specs.Actors.{Actor}
 use Rattle.step_machine.specs.Machine.{World, IsReached, actor_of}
 use Rattle.step_machine.specs.Range.{RegistersInRange, LineInRange, ActorInRange, WorldInRange}
@@ -21,6 +27,7 @@ use Rattle.node_arena.specs.declared.seats.Seat.{Seat}
 use Rattle.node_arena.specs.Seats.{IsBefore, view}
 use Rattle.node_arena.proofs.Tracing.{traced_reached}
 use Rattle.node_arena.proofs.There.{Stood, stood}
+use Rattle.node_arena.proofs.OneProof.{Held-set}
 
 -- hand, pocket and what is due, the registers that hold nodes, the count that may be raised, and the ranges
 pub record Known (z : Setup) (me : ℕ) (a : Actor) (l : Line) : Type 0 where
@@ -55,13 +62,19 @@ module _ (w : World) (r : IsReached w) (me : ℕ) (a : Actor) (l : Line) (is : a
         left = subst (LineInRange w.setup.size a.f) at own.line;
       }
 
--- of the actor of a seat that stands before a line
-pub known_before : (r : Arena) (s : Seat) (prologue : Prologue) (l : Line) → IsBefore r s prologue l → Known r.plan.setup (view s).number (after_prologue r.plan.setup (view s).number prologue (view s).actor) l
-known_before r s prologue l h =
+-- a fact of the actor of a seat that stands before a line, where it has at most one proof
+pub by_known : {P : Type 0} (r : Arena) (s : Seat) (prologue : Prologue) (l : Line) → IsBefore r s prologue l → IsProp P → (Known r.plan.setup (view s).number (after_prologue r.plan.setup (view s).number prologue (view s).actor) l → P) → P
+by_known r s prologue l h one says =
+    ∥∥₁_elim h.seat.sits.fitted one (λ fitted.
     let b : Actor = after_prologue r.plan.setup (view s).number prologue (view s).actor in
-    let d : Stood r.plan (view s).number b l = stood r.plan (view s) prologue l h.seat.sits.fitted h.can h.line in
-    subst (λ (x : Setup). Known x (view s).number b l) d.setup (known d.trace.world (traced_reached d.trace d.reached) (view s).number b l d.here d.line)
+    let d : Stood r.plan (view s).number b l = stood r.plan (view s) prologue l fitted h.can h.line in
+    says (subst (λ (x : Setup). Known x (view s).number b l) d.setup (known d.trace.world (traced_reached d.trace d.reached) (view s).number b l d.here d.line)))
+
+PocketAt-prop : (x : Section) (pocket : Option Held) → IsProp (PocketAt x pocket)
+PocketAt-prop Shut pocket = Unit-prop
+PocketAt-prop LockedShut pocket = Unit-prop
+PocketAt-prop _ pocket = hlevel (props, Held-set)
 
 -- its pocket is empty, but for a shut
 pub empty_before : (r : Arena) (s : Seat) (prologue : Prologue) (l : Line) → IsBefore r s prologue l → PocketAt (section_of l) (after_prologue r.plan.setup (view s).number prologue (view s).actor).pocket
-empty_before r s prologue l h = (known_before r s prologue l h).fixed.pocket
+empty_before r s prologue l h = by_known r s prologue l h (PocketAt-prop (section_of l) _) (λ k. k.fixed.pocket)

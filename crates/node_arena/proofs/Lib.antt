@@ -10,6 +10,7 @@ pub mod Seens
 pub mod Placed
 pub mod There
 pub mod Known
+pub mod OneProof
 pub mod Rooms
 pub mod StepsPreserve
 pub mod Counting

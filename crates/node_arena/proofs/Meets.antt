@@ -204,7 +204,7 @@ sits_so r s t v i here me number actor mine fitted =
           pushes = i.seat.sits.pushes ∙ ap (count_by is_push) (sym (ap (λ w. w.mine) is ∙ mine));
           pops = i.seat.sits.pops ∙ ap (count_by is_pop) (sym (ap (λ w. w.mine) is ∙ mine));
           shut = i.seat.sits.shut ∙ ap (λ es. nat_lt 0 (count_by is_shut es)) (sym (ap (λ w. w.mine) is ∙ mine));
-          fitted = subst (Fitted r.plan) (sym is) fitted;
+          fitted = ∣ subst (Fitted r.plan) (sym is) fitted ∣₁;
         };
       };
       free = ap (λ a. (at_rest a).line) (ap (λ w. w.actor) is ∙ actor) ∙ i.free;

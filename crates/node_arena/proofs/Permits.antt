@@ -1,5 +1,7 @@
 -- What a seat's role says of what its number permits.
-use Rattle.std.proofs.Common.{◌≡◌, ◌-◌, ◌↔◌, IsTrue, Some, IsSomeAnd, slice_get, sym, subst}
+use Rattle.std.proofs.Common.{◌≡◌, ◌-◌, ◌≤◌, ◌↔◌, IsTrue, Some, IsSomeAnd, slice_get, sym, subst}
+use Rattle.std.specs.Coded.{le_prop}
+use Rattle.std.proofs.Math.Logic.{∥∥₁_elim}
 use Rattle.history.specs.Seats.{Permit, MayPush, MayPop}
 use Rattle.step_machine.proofs.Reached.{mover_in_range}
 use Rattle.node_arena.specs.Arenas.{Arena}
@@ -12,16 +14,20 @@ module _ (r : Arena) (s : Seat) (h : IsSeat r s) where
   at : slice_get (permits_of r) ((view s).number - 1) ≡ Some (permit_of s.role)
   at = subst (λ n. slice_get (permits_of r) (n - 1) ≡ Some (permit_of s.role)) h.sits.number (permits-at r.plan.roles (s.number - 1) s.role h.sits.role)
 
+  -- seats are numbered from 1
+  numbered : 1 ≤ (view s).number
+  numbered = ∥∥₁_elim h.sits.fitted le_prop (λ f. (mover_in_range f.trace.world (view s).number (view s).actor f.fits.actor).0)
+
   -- a seat whose role may push may push by its number, and the other way round
   pub push_permits : IsTrue (may_push s.role) ↔ MayPush (permits_of r) (known_of s).number
   push_permits = (
-    λ t. ((mover_in_range h.sits.fitted.trace.world (view s).number (view s).actor h.sits.fitted.fits.actor).0, subst (λ o. IsSomeAnd o (λ (p : Permit). IsTrue p.pushes)) (sym at) t),
+    λ t. (numbered, subst (λ o. IsSomeAnd o (λ (p : Permit). IsTrue p.pushes)) (sym at) t),
     λ m. subst (λ o. IsSomeAnd o (λ (p : Permit). IsTrue p.pushes)) at m.1,
   )
 
   -- the same of pops
   pub pop_permits : IsTrue (may_pop s.role) ↔ MayPop (permits_of r) (known_of s).number
   pop_permits = (
-    λ t. ((mover_in_range h.sits.fitted.trace.world (view s).number (view s).actor h.sits.fitted.fits.actor).0, subst (λ o. IsSomeAnd o (λ (p : Permit). IsTrue p.pops)) (sym at) t),
+    λ t. (numbered, subst (λ o. IsSomeAnd o (λ (p : Permit). IsTrue p.pops)) (sym at) t),
     λ m. subst (λ o. IsSomeAnd o (λ (p : Permit). IsTrue p.pops)) at m.1,
   )

@@ -1,6 +1,8 @@
 -- A seat's counters have room: a traced world has made few pushes and pops, and a seat's own are some of them.
 use Rattle.std.proofs.Common.{ℕ, ◌+◌, ◌<◌, ◌≤◌, ◌^◌, Bool, true, false, if◌then◌else◌, nat_eq, List, [], ◌∷◌, sym, ap, subst, arith}
 use Rattle.std.specs.List.{count_by, filter}
+use Rattle.std.specs.Coded.{le_prop}
+use Rattle.std.proofs.Math.Logic.{∥∥₁_elim}
 use Rattle.atomic_table.specs.declared.shared.Seat.{Seat as Token}
 use Rattle.line_table.specs.declared.lines.Line.{Line}
 use Rattle.line_table.specs.declared.lines.Line.TheVariants.{E9, D13, A5, B5}
@@ -43,17 +45,16 @@ own_fewer z v f p =
 pub has_room : (r : Arena) (s : Seat) (t : Token ℕ Knowing) → IsSeat r s → (l : Line) → HasRoom (record s { token = t }) l
 has_room r s t seat = room
   where
-    f : Fitted r.plan (view s)
-    f = seat.sits.fitted
-
     pops : s.pops + 1 < 2 ^ 64
     pops =
-        omega (arith, own_fewer r.plan (view s) f is_pop, (history_few f.trace f.reached).0, ap (λ z. z.limit) f.setup, seat.sits.pops, seat.arena.sized.counted, count_span_most r.plan.setup.bits seat.arena.sized.split, span_most r.plan.setup.bits seat.arena.sized.split)
+        ∥∥₁_elim seat.sits.fitted le_prop (λ f.
+        omega (arith, own_fewer r.plan (view s) f is_pop, (history_few f.trace f.reached).0, ap (λ z. z.limit) f.setup, seat.sits.pops, seat.arena.sized.counted, count_span_most r.plan.setup.bits seat.arena.sized.split, span_most r.plan.setup.bits seat.arena.sized.split))
 
     pushes : s.pushes + 1 < 2 ^ 64
     pushes =
+        ∥∥₁_elim seat.sits.fitted le_prop (λ f.
         let few = history_few f.trace f.reached in
-        omega (arith, own_fewer r.plan (view s) f is_push, few.0, few.1, ap (λ z. z.limit) f.setup, ap (λ z. z.size) f.setup, seat.sits.pushes, seat.arena.sized.counted, seat.arena.sized.numbered, count_span_most r.plan.setup.bits seat.arena.sized.split, span_most r.plan.setup.bits seat.arena.sized.split)
+        omega (arith, own_fewer r.plan (view s) f is_push, few.0, few.1, ap (λ z. z.limit) f.setup, ap (λ z. z.size) f.setup, seat.sits.pushes, seat.arena.sized.counted, seat.arena.sized.numbered, count_span_most r.plan.setup.bits seat.arena.sized.split, span_most r.plan.setup.bits seat.arena.sized.split))
 
     room : (l : Line) → HasRoom (record s { token = t }) l
     room E9 = pushes

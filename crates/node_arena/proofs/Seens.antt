@@ -1,6 +1,7 @@
 -- What a seat has seen after its step: the whole history at some lines, and what it had seen at the others.
 use Rattle.std.proofs.Common.{◌≡◌, ℕ, Bool, true, false, if◌then◌else◌, List, [], ◌∷◌, ◌++◌, sym, refl, ap, ◌∙◌, subst, append-nil, append_assoc}
 use Rattle.std.specs.List.{All}
+use Rattle.std.proofs.Math.Logic.{∥∥₁_elim}
 use Rattle.std.proofs.lemmas.List.Elements.{All-nil, All-cons, All-head, All-tail}
 use Rattle.line_table.specs.declared.lines.Line.{Line}
 use Rattle.line_table.specs.declared.lines.Line.TheVariants.{E9, D13, A5, B5, S4, S8}
@@ -9,6 +10,7 @@ use Rattle.history.specs.declared.operations.Entry.TheVariants.{Push, Pop, Shut}
 use Rattle.history.specs.Queue.{Queue, empty}
 use Rattle.history.specs.Entries.{Plays, IsQueueRun, own_entries}
 use Rattle.history.specs.Seats.{IsSound}
+use Rattle.history.proofs.OneProof.{IsSound-prop}
 use Rattle.line_steps.specs.declared.actors.Setup.{Setup}
 use Rattle.line_steps.specs.Actors.{Actor}
 use Rattle.line_steps.specs.Memory.{Found}
@@ -93,5 +95,6 @@ pub seen_permitted : (z : Layout) (v : SeatView) → Fitted z v → All (RolesPe
 seen_permitted z v f = All-first (RolesPermit z.roles) v.seen f.fits.rest (subst (All (RolesPermit z.roles)) f.fits.begins f.permitted)
 
 -- its own entries are just those that it has seen, and the queue was empty, or shut, where it noted that
-pub sound_of : (z : Layout) (v : SeatView) → Fitted z v → IsSound (permits_by z.roles) (seeing.known_by v)
-sound_of z v f = record { legal = seen_legal z v f; permitted = seen_permitted z v f; own = f.fits.known; noted = f.fits.noted }
+pub sound_of : (z : Layout) (v : SeatView) → ∥ Fitted z v ∥₁ → IsSound (permits_by z.roles) (seeing.known_by v)
+sound_of z v fitted =
+    ∥∥₁_elim fitted (IsSound-prop (permits_by z.roles) (seeing.known_by v)) (λ f. record { legal = seen_legal z v f; permitted = seen_permitted z v f; own = f.fits.known; noted = f.fits.noted })

@@ -79,7 +79,7 @@ abbrev pub IsArena : Arena → Type 0
 IsArena r = IsTable r.plan r.key r.id
 
 -- a seat of a table: it is an actor by its number, has its role, counts its own pushes and pops, has whether a shut is its
--- own, and fits to some traced world
+-- own, and fits to some traced world; which one isn't said, so that this has at most one proof
 pub record Sits (z : Layout) (t : TableId) (s : Seat) : Type 0 where
   pub table : s.token.table_id ≡ t
   pub seat : s.token.me ≡ (seated (view s), [])
@@ -88,7 +88,7 @@ pub record Sits (z : Layout) (t : TableId) (s : Seat) : Type 0 where
   pub pushes : s.pushes ≡ count_by is_push (view s).mine
   pub pops : s.pops ≡ count_by is_pop (view s).mine
   pub shut : s.shut ≡ nat_lt 0 (count_by is_shut (view s).mine)
-  pub fitted : Fitted z (view s)
+  pub fitted : ∥ Fitted z (view s) ∥₁
 
 -- a seat of an arena
 pub record IsSeat (r : Arena) (s : Seat) : Type 0 where

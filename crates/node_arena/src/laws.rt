@@ -2,7 +2,9 @@
 ghost use Rattle.std.specs.Prelude.{◌≡◌};
 ghost use Rattle.step_machine.specs.Entries.{entries};
 ghost use Rattle.node_arena.specs.Traces.{Traced, IsTraced, PlaysToItsValues, CountsItsPops, KeepsWhatD4Found};
-ghost use Rattle.node_arena.specs.Seats.{EachSeatIsSound};
+ghost use Rattle.node_arena.specs.Arenas.{Arena};
+ghost use Rattle.node_arena.specs.declared.seats.Seat.{Seat};
+ghost use Rattle.node_arena.specs.Seats.{EachSeatIsSound, IsSeat, IsReady};
 ghost use Rattle.node_arena.specs.Moments.{EachMomentIsLinearizable};
 ghost use Rattle.node_arena.specs.Causes.{TakersMeetNoCause};
 
@@ -57,6 +59,13 @@ pub fn what_d4_found_stays_noted()
 pub fn what_a_seat_knows_is_sound()
     //= atomics/sound: At any time what a seat knows is *sound*.
     ensures { EachSeatIsSound }
+{}
+
+/// That a seat is an arena's has at most one proof, and so has that it is one in no call.
+pub fn a_seat_is_an_arenas_once()
+    //= queues/one_fact (seat, ready)
+    ensures seat { (r : Arena) (s : Seat) → IsProp (IsSeat r s) }
+    ensures ready { (r : Arena) (s : Seat) → IsProp (IsReady r s) }
 {}
 
 /// The cause of a refusal is that of the call's last step: a call whose last step was the exchange that takes a node, won

@@ -1,5 +1,6 @@
 -- The bounds of what the lines of a pop write, and what they find.
 use Rattle.std.proofs.Common.{◌≡◌, ℕ, ◌<◌, ap, arith}
+use Rattle.std.specs.Coded.{le_prop}
 use Rattle.counted_ref.specs.Ref.{Ref, ref_of, reserved_node}
 use Rattle.line_table.specs.declared.lines.Line.TheVariants.{D2, D3, D4, D5, D10, D12, D13}
 use Rattle.node_arena.specs.Machine.{Setup, node_at, WordHead, WordTail, WordNext, WordValue}
@@ -8,7 +9,7 @@ use Rattle.node_arena.specs.Arenas.{Arena}
 use Rattle.node_arena.specs.declared.seats.Seat.{Seat}
 use Rattle.node_arena.specs.Seats.{DidStep, view}
 use Rattle.node_arena.proofs.Told.{was_fits}
-use Rattle.node_arena.proofs.Known.{known_before}
+use Rattle.node_arena.proofs.Known.{by_known}
 use Rattle.node_arena.proofs.Reading.{read_back, value_parts}
 use Rattle.node_arena.specs.Machine.{value_of}
 use Rattle.nonblocking.specs.Pops.{Running, CallIsAt}
@@ -16,17 +17,17 @@ use Rattle.nonblocking.specs.Pops.{Running, CallIsAt}
 module _ (r : Arena) (s : Seat) (a : Running) where
   -- the counts that D10 and D13 raise have room
   pub room_d10 : (z : Setup) → z ≡ r.plan.setup → CallIsAt r s continues D10 a → a.tail.count < z.limit
-  room_d10 z e h = omega (arith, (known_before r s continues D10 h.before).room, ap (λ (x : Ref). x.count) h.knows.0, ap (λ (y : Setup). y.limit) e)
+  room_d10 z e h = by_known r s continues D10 h.before le_prop (λ k. omega (arith, k.room, ap (λ (x : Ref). x.count) h.knows.0, ap (λ (y : Setup). y.limit) e))
 
   pub room_d13 : (z : Setup) → z ≡ r.plan.setup → CallIsAt r s continues D13 a → a.head.count < z.limit
-  room_d13 z e h = omega (arith, (known_before r s continues D13 h.before).room, ap (λ (x : Ref). x.count) h.knows.0, ap (λ (y : Setup). y.limit) e)
+  room_d13 z e h = by_known r s continues D13 h.before le_prop (λ k. omega (arith, k.room, ap (λ (x : Ref). x.count) h.knows.0, ap (λ (y : Setup). y.limit) e))
 
   -- the nodes that D10 and D13 write
   pub next_d10 : CallIsAt r s continues D10 a → a.next.node < reserved_node r.plan.setup.bits
-  next_d10 h = let k = known_before r s continues D10 h.before in omega (arith, k.within, k.registers.next.node, ap (λ (x : Ref). x.node) h.knows.1, h.before.seat.arena.sized.numbered)
+  next_d10 h = by_known r s continues D10 h.before le_prop (λ k. omega (arith, k.within, k.registers.next.node, ap (λ (x : Ref). x.node) h.knows.1, h.before.seat.arena.sized.numbered))
 
   pub next_d13 : CallIsAt r s continues D13 a → a.next.node < reserved_node r.plan.setup.bits
-  next_d13 h = let k = known_before r s continues D13 h.before in omega (arith, k.within, k.registers.next.node, ap (λ (x : Ref). x.node) h.knows.1, h.before.seat.arena.sized.numbered)
+  next_d13 h = by_known r s continues D13 h.before le_prop (λ k. omega (arith, k.within, k.registers.next.node, ap (λ (x : Ref). x.node) h.knows.1, h.before.seat.arena.sized.numbered))
 
 module _ (r : Arena) (s t : Seat) (prologue : Prologue) (n : ℕ) where
   -- the references and the value found at the lines that read one

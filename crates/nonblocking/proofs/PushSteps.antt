@@ -1,5 +1,6 @@
 -- The bounds of what the lines of a push write, and the references that they find.
 use Rattle.std.proofs.Common.{◌≡◌, ℕ, ◌<◌, ap, arith}
+use Rattle.std.specs.Coded.{le_prop}
 use Rattle.counted_ref.specs.Ref.{Ref, ref_of, reserved_node}
 use Rattle.line_table.specs.declared.lines.Line.{Line}
 use Rattle.line_table.specs.declared.lines.Line.TheVariants.{E3, E5, E6, E7, E9, E13, E17}
@@ -9,28 +10,28 @@ use Rattle.node_arena.specs.Arenas.{Arena}
 use Rattle.node_arena.specs.declared.seats.Seat.{Seat}
 use Rattle.node_arena.specs.Seats.{DidStep, view}
 use Rattle.node_arena.proofs.Told.{was_fits}
-use Rattle.node_arena.proofs.Known.{known_before}
+use Rattle.node_arena.proofs.Known.{by_known}
 use Rattle.node_arena.proofs.Reading.{read_back}
 use Rattle.nonblocking.specs.Pushes.{Running, CallIsAt}
 
 module _ (r : Arena) (s : Seat) (a : Running) where
   -- the counts that E9, E13 and E17 raise have room
   pub room_e9 : (z : Setup) → z ≡ r.plan.setup → CallIsAt r s continues E9 a → a.next.count < z.limit
-  room_e9 z e h = omega (arith, (known_before r s continues E9 h.before).room, ap (λ (x : Ref). x.count) h.knows.1, ap (λ (y : Setup). y.limit) e)
+  room_e9 z e h = by_known r s continues E9 h.before le_prop (λ k. omega (arith, k.room, ap (λ (x : Ref). x.count) h.knows.1, ap (λ (y : Setup). y.limit) e))
 
   pub room_e13 : (z : Setup) → z ≡ r.plan.setup → CallIsAt r s continues E13 a → a.tail.count < z.limit
-  room_e13 z e h = omega (arith, (known_before r s continues E13 h.before).room, ap (λ (x : Ref). x.count) h.knows.0, ap (λ (y : Setup). y.limit) e)
+  room_e13 z e h = by_known r s continues E13 h.before le_prop (λ k. omega (arith, k.room, ap (λ (x : Ref). x.count) h.knows.0, ap (λ (y : Setup). y.limit) e))
 
   pub room_e17 : (z : Setup) → z ≡ r.plan.setup → CallIsAt r s continues E17 a → a.tail.count < z.limit
-  room_e17 z e h = omega (arith, (known_before r s continues E17 h.before).room, ap (λ (x : Ref). x.count) h.knows, ap (λ (y : Setup). y.limit) e)
+  room_e17 z e h = by_known r s continues E17 h.before le_prop (λ k. omega (arith, k.room, ap (λ (x : Ref). x.count) h.knows, ap (λ (y : Setup). y.limit) e))
 
   -- the node that E13 writes
   pub next_e13 : CallIsAt r s continues E13 a → a.next.node < reserved_node r.plan.setup.bits
-  next_e13 h = let k = known_before r s continues E13 h.before in omega (arith, k.within, k.registers.next.node, ap (λ (x : Ref). x.node) h.knows.1, h.before.seat.arena.sized.numbered)
+  next_e13 h = by_known r s continues E13 h.before le_prop (λ k. omega (arith, k.within, k.registers.next.node, ap (λ (x : Ref). x.node) h.knows.1, h.before.seat.arena.sized.numbered))
 
   -- the node that E9 and E17 write
   pub small_node : (l : Line) → CallIsAt r s continues l a → a.node < reserved_node r.plan.setup.bits
-  small_node l h = let k = known_before r s continues l h.before in omega (arith, k.within, k.registers.node, h.hand.node, h.before.seat.arena.sized.numbered)
+  small_node l h = by_known r s continues l h.before le_prop (λ k. omega (arith, k.within, k.registers.node, h.hand.node, h.before.seat.arena.sized.numbered))
 
 module _ (r : Arena) (s t : Seat) (prologue : Prologue) (n : ℕ) where
   abbrev c : Actor

@@ -1,5 +1,6 @@
 -- The bounds of what the lines of a shut write, and what they find.
 use Rattle.std.proofs.Common.{◌≡◌, ℕ, ◌<◌, ap, arith}
+use Rattle.std.specs.Coded.{le_prop}
 use Rattle.counted_ref.specs.Ref.{Ref, ref_of, reserved_node}
 use Rattle.line_table.specs.declared.lines.Line.TheVariants.{S1, S2, S3, S4, S5}
 use Rattle.node_arena.specs.Machine.{Setup, Actor, node_at, WordTail, WordNext}
@@ -8,21 +9,21 @@ use Rattle.node_arena.specs.Arenas.{Arena}
 use Rattle.node_arena.specs.declared.seats.Seat.{Seat}
 use Rattle.node_arena.specs.Seats.{DidStep, view}
 use Rattle.node_arena.proofs.Told.{was_fits}
-use Rattle.node_arena.proofs.Known.{known_before}
+use Rattle.node_arena.proofs.Known.{by_known}
 use Rattle.node_arena.proofs.Reading.{read_back}
 use Rattle.nonblocking.specs.Shuts.{Running, CallIsAt}
 
 module _ (r : Arena) (s : Seat) (a : Running) where
   -- the counts that S4 and S5 raise have room
   pub room_s4 : (z : Setup) → z ≡ r.plan.setup → CallIsAt r s continues S4 a → a.next.count < z.limit
-  room_s4 z e h = omega (arith, (known_before r s continues S4 h.before).room, ap (λ (x : Ref). x.count) h.knows.1, ap (λ (y : Setup). y.limit) e)
+  room_s4 z e h = by_known r s continues S4 h.before le_prop (λ k. omega (arith, k.room, ap (λ (x : Ref). x.count) h.knows.1, ap (λ (y : Setup). y.limit) e))
 
   pub room_s5 : (z : Setup) → z ≡ r.plan.setup → CallIsAt r s continues S5 a → a.tail.count < z.limit
-  room_s5 z e h = omega (arith, (known_before r s continues S5 h.before).room, ap (λ (x : Ref). x.count) h.knows.0, ap (λ (y : Setup). y.limit) e)
+  room_s5 z e h = by_known r s continues S5 h.before le_prop (λ k. omega (arith, k.room, ap (λ (x : Ref). x.count) h.knows.0, ap (λ (y : Setup). y.limit) e))
 
   -- the node that S5 writes
   pub next_s5 : CallIsAt r s continues S5 a → a.next.node < reserved_node r.plan.setup.bits
-  next_s5 h = let k = known_before r s continues S5 h.before in omega (arith, k.within, k.registers.next.node, ap (λ (x : Ref). x.node) h.knows.1, h.before.seat.arena.sized.numbered)
+  next_s5 h = by_known r s continues S5 h.before le_prop (λ k. omega (arith, k.within, k.registers.next.node, ap (λ (x : Ref). x.node) h.knows.1, h.before.seat.arena.sized.numbered))
 
 module _ (r : Arena) (s t : Seat) (prologue : Prologue) (n : ℕ) where
   abbrev c : Actor

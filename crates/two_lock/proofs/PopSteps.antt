@@ -1,5 +1,6 @@
 -- The bounds of what the lines of a pop write, and what they find.
 use Rattle.std.proofs.Common.{◌≡◌, ℕ, ◌<◌, ap, arith}
+use Rattle.std.specs.Coded.{le_prop}
 use Rattle.counted_ref.specs.Ref.{Ref, ref_of, reserved_node}
 use Rattle.line_table.specs.declared.lines.Line.TheVariants.{B2, B3, B4, B5}
 use Rattle.node_arena.specs.Machine.{Setup, node_at, WordHead, WordNext, WordValue}
@@ -8,18 +9,18 @@ use Rattle.node_arena.specs.Arenas.{Arena}
 use Rattle.node_arena.specs.declared.seats.Seat.{Seat}
 use Rattle.node_arena.specs.Seats.{DidStep, view}
 use Rattle.node_arena.proofs.Told.{was_fits}
-use Rattle.node_arena.proofs.Known.{known_before}
+use Rattle.node_arena.proofs.Known.{by_known}
 use Rattle.node_arena.proofs.Reading.{read_back, value_parts}
 use Rattle.node_arena.specs.Machine.{value_of}
 use Rattle.two_lock.specs.Pops.{Running, CallIsAt}
 
 -- the count that B5 raises has room
 pub room_b5 : (r : Arena) (s : Seat) (a : Running) (z : Setup) → z ≡ r.plan.setup → CallIsAt r s continues B5 a → a.head.count < z.limit
-room_b5 r s a z e h = omega (arith, (known_before r s continues B5 h.before).room, ap (λ (x : Ref). x.count) h.knows.0, ap (λ (y : Setup). y.limit) e)
+room_b5 r s a z e h = by_known r s continues B5 h.before le_prop (λ k. omega (arith, k.room, ap (λ (x : Ref). x.count) h.knows.0, ap (λ (y : Setup). y.limit) e))
 
 -- the node that B5 writes
 pub next_b5 : (r : Arena) (s : Seat) (a : Running) → CallIsAt r s continues B5 a → a.next.node < reserved_node r.plan.setup.bits
-next_b5 r s a h = let k = known_before r s continues B5 h.before in omega (arith, k.within, k.registers.next.node, ap (λ (x : Ref). x.node) h.knows.1, h.before.seat.arena.sized.numbered)
+next_b5 r s a h = by_known r s continues B5 h.before le_prop (λ k. omega (arith, k.within, k.registers.next.node, ap (λ (x : Ref). x.node) h.knows.1, h.before.seat.arena.sized.numbered))
 
 module _ (r : Arena) (s t : Seat) (prologue : Prologue) (n : ℕ) where
   -- the references and the value found at the lines that read one
