@@ -1,0 +1,5 @@
+pub mod Sums
+pub mod Tolls
+pub mod Amounts
+pub mod Moves
+pub mod Runs

@@ -1,0 +1,35 @@
+//! Laws of the turns of a seat that failed: over all traced worlds of the non-blocking queue, and over all moments of an arena.
+//! Each is the contract of a function that does nothing.
+ghost use Rattle.paid_turns.specs.Turns.{OfTraces, TurnsArePaid, CallsArePaid, LinesArePaid};
+ghost use Rattle.paid_turns.specs.Turns.{EachMomentIsPaid};
+
+/// The turns of a seat that failed, in all its calls so far, are at most two for each push or shut of another seat, one for
+/// each pop, and one for each node that another one took or gave back: none of its own calls costs one.
+pub fn a_seats_failed_turns_are_paid()
+    //= progress/running: In the running non-blocking queue the turns of a seat that failed, in all its calls so far, are at
+    //=   most 2 for each push or shut of another seat, 1 for each pop, and 1 for each node that another one took or gave
+    //=   back. That is so at each moment: of the world that the rule gives it, to which each seat fits.
+    ensures { OfTraces (TurnsArePaid 2 1 1) }
+{}
+
+/// At each moment of an arena, between any two atomic steps of any threads, the rule's world is one in which the failed turns
+/// of each seat are paid: all of them, those of its last call, and those of whichever last lines.
+pub fn each_moments_failed_turns_are_paid()
+    //= progress/running
+    ensures { EachMomentIsPaid 2 1 1 }
+{}
+
+/// The turns of a call that failed are at most one, and two for each push or shut of another seat meanwhile, one for each pop,
+/// and one for each node that another one took or gave back.
+pub fn the_failed_turns_of_a_running_call_are_paid()
+    //= progress/running_call: Of a call of the running non-blocking queue the turns that failed are at most 1, and as many
+    //=   for what the others did meanwhile: after a world, among those that the moves at this moment went through, in which
+    //=   the seat's path was the one before the call. Of whichever last lines of a seat they are at most 2, and as many.
+    ensures { OfTraces (CallsArePaid 1 2 1 1) }
+{}
+
+/// The same of whichever last lines of a seat, with two turns in place of one.
+pub fn the_failed_turns_of_last_lines_are_paid()
+    //= progress/running_call
+    ensures { OfTraces (LinesArePaid 2 2 1 1) }
+{}
