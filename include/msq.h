@@ -26,19 +26,20 @@
 
 /* Bodies are below this number. */
 #define MSQ_BODIES ((uint64_t)1 << 48)
-/* The greatest limit, and the greatest number of nodes. */
-#define MSQ_MOST_COUNT (((uint64_t)1 << 40) - 1)
-#define MSQ_MOST_NODES (((uint32_t)1 << 24) - 2)
+/* The greatest limit, which asks for as much as so many nodes can have, and the greatest number of nodes. */
+#define MSQ_MOST_COUNT (((uint64_t)1 << 48) - 1)
+#define MSQ_MOST_NODES UINT32_C(4294967294)
 
 #ifdef __cplusplus
 extern "C" {
 #endif
 
-/* What a call answers. Those up to 16 are the numbers of the queue's refusals. */
+/* What a call answers. Those up to 16 are the numbers of the queue's refusals; a worn word has a code of its own. */
 enum msq_code {
     MSQ_OK = 0,
     MSQ_NO_NODE = 1,    /* a push: all nodes were in use */
-    MSQ_WORN_OUT = 2,   /* a count is at the limit, and the call can't be made any more */
+    MSQ_WORN_FREE = 2,  /* a push: Free's count is at the limit, and no node is taken from the free list any more */
+    MSQ_WORN_OUT = MSQ_WORN_FREE, /* the same, by its older name */
     MSQ_BUSY = 3,       /* others were in the way in each of the turns: call again */
     MSQ_MEMORY = 4,     /* no memory */
     MSQ_BAD_SIZE = 5,   /* a number is out of its range */
@@ -47,7 +48,10 @@ enum msq_code {
     MSQ_NO_SEAT = 33,   /* the msq_seat is empty */
     MSQ_NO_ROLE = 34,   /* the seat may not push, or may not pop */
     MSQ_IN_USE = 35,    /* an msq_seat to be filled is full; or the queue to be closed has a further seat */
-    MSQ_RACED = 36      /* a close: the queue got a further seat meanwhile */
+    MSQ_RACED = 36,     /* a close: the queue got a further seat meanwhile */
+    MSQ_WORN_NEXT = 37, /* a push: the count of its node is at the limit; push again, by another node */
+    MSQ_WORN_TAIL = 38, /* Tail's count is at the limit: of MSQ_NON_BLOCKING, no push and no shut comes any more */
+    MSQ_WORN_HEAD = 39  /* a pop: Head's count is at the limit: of MSQ_TWO_LOCK, no pop comes any more */
 };
 
 enum msq_kind {
@@ -77,7 +81,10 @@ typedef struct msq_rest {
 
 /*
  * Makes a queue with `nodes` nodes, from 2 on (room for one value less, and one node a seat may wait in that seat), and
- * fills seat k with one of role k. Counts go up to `limit`: MSQ_MOST_COUNT, but for tests.
+ * fills seat k with one of role k. Counts go up to `limit`, or to the greatest count that so many nodes leave room for,
+ * where that is less: take MSQ_MOST_COUNT, but for tests. Up to 65,534 nodes that is 2^48 - 1, enough for 2^48 pushes and
+ * pops; docs/QUEUES.md has the others. An even limit may wear out with an empty free list: a push then answers
+ * MSQ_NO_NODE for good, in place of MSQ_WORN_FREE. The greatest counts are odd.
  * MSQ_OK; MSQ_IN_USE where one of the seats is full; else MSQ_BAD_SIZE where a number is out of its range, or there are
  * fewer seats than roles, or more; else MSQ_MEMORY. Refused, it changes no seat.
  */
@@ -86,21 +93,22 @@ uint32_t msq_create(uint32_t kind, uint32_t nodes, uint64_t limit, const uint8_t
 
 /*
  * Pushes a body, below MSQ_BODIES, in so many turns at most, 1 or more (8 is a good number).
- * MSQ_OK, MSQ_NO_NODE, MSQ_WORN_OUT, MSQ_BUSY, MSQ_CLOSED, MSQ_BAD_SIZE, MSQ_NO_SEAT or MSQ_NO_ROLE; refused, the
- * queue is as if the call had not been.
+ * MSQ_OK, MSQ_NO_NODE, MSQ_WORN_FREE, MSQ_BUSY, MSQ_CLOSED, MSQ_BAD_SIZE, MSQ_NO_SEAT or MSQ_NO_ROLE; of
+ * MSQ_NON_BLOCKING also MSQ_WORN_NEXT or MSQ_WORN_TAIL. Refused, the queue is as if the call had not been.
  */
 uint32_t msq_try_push(msq_seat *seat, uint64_t body, uint32_t turns);
 
 /*
  * Pops the value at the front into `value`, in so many turns at most, 1 or more.
- * MSQ_OK, MSQ_EMPTY, MSQ_WORN_OUT, MSQ_BUSY, MSQ_CLOSED, MSQ_BAD_SIZE, MSQ_NO_SEAT or MSQ_NO_ROLE; refused or
- * empty, queue and `value` are as if the call had not been.
+ * MSQ_OK, MSQ_EMPTY, MSQ_BUSY, MSQ_CLOSED, MSQ_BAD_SIZE, MSQ_NO_SEAT or MSQ_NO_ROLE; of MSQ_NON_BLOCKING also
+ * MSQ_WORN_TAIL, of MSQ_TWO_LOCK MSQ_WORN_HEAD. Refused or empty, queue and `value` are as if the call had not been.
  */
 uint32_t msq_try_pop(msq_seat *seat, uint32_t turns, msq_value *value);
 
 /*
  * Shuts the queue: no push comes after it, and what is in the queue stays to be popped. The seat is one that may push.
- * MSQ_OK, MSQ_WORN_OUT, MSQ_BUSY, MSQ_CLOSED where it was shut before, MSQ_BAD_SIZE, MSQ_NO_SEAT or MSQ_NO_ROLE.
+ * MSQ_OK, MSQ_BUSY, MSQ_CLOSED where it was shut before, MSQ_BAD_SIZE, MSQ_NO_SEAT or MSQ_NO_ROLE; of MSQ_NON_BLOCKING
+ * also MSQ_WORN_TAIL.
  */
 uint32_t msq_try_shut(msq_seat *seat, uint32_t turns);
 

@@ -71,10 +71,75 @@ static void a_queue_is_closed(uint32_t kind) {
     expect("a push behind the end", msq_try_push(&seats[1], 1, 8), MSQ_NO_SEAT);
 }
 
+/* Pushes and pops by turns, until a push is refused: how many were not. */
+static uint32_t pushed(msq_seat *giver, msq_seat *taker, uint32_t *code) {
+    msq_value value;
+    for (uint32_t count = 0;; count++) {
+        *code = msq_try_push(giver, count, 8);
+        if (*code != MSQ_OK) {
+            return count;
+        }
+        expect("a pop", msq_try_pop(taker, 8, &value), MSQ_OK);
+    }
+}
+
+/* With two nodes each push but the first takes a node from the free list, and each pop gives one back. */
+static void the_free_list_wears_out(uint32_t kind, uint64_t limit, uint32_t pushes, uint32_t due) {
+    const uint8_t roles[] = {MSQ_GIVER, MSQ_TAKER};
+    msq_seat seats[2] = {0};
+    uint32_t code;
+    expect("create", msq_create(kind, 2, limit, roles, 2, seats, 2), MSQ_OK);
+    expect("pushes", pushed(&seats[0], &seats[1], &code), pushes);
+    for (int again = 0; again < 3; again++) {
+        expect("a push of a worn queue", code, due);
+        code = msq_try_push(&seats[0], 1, 8);
+    }
+    expect("a shut of a worn queue", msq_try_shut(&seats[0], 8), MSQ_OK);
+    msq_drop(&seats[0]);
+    msq_drop(&seats[1]);
+}
+
+/* At the limit 1, with nodes that were never used. */
+static void the_ends_wear_out(uint32_t kind) {
+    const uint8_t roles[] = {MSQ_GIVER, MSQ_TAKER};
+    msq_seat seats[2] = {0};
+    msq_value value;
+    bool blocks = kind == MSQ_TWO_LOCK;
+    expect("create", msq_create(kind, 8, 1, roles, 2, seats, 2), MSQ_OK);
+    expect("the first push", msq_try_push(&seats[0], 1, 8), MSQ_OK);
+    expect("the second push", msq_try_push(&seats[0], 2, 8), MSQ_OK);
+    expect("the third push", msq_try_push(&seats[0], 3, 8), blocks ? MSQ_OK : MSQ_WORN_TAIL);
+    expect("the first pop", msq_try_pop(&seats[1], 8, &value), MSQ_OK);
+    expect("the second pop", msq_try_pop(&seats[1], 8, &value), blocks ? MSQ_WORN_HEAD : MSQ_WORN_TAIL);
+    expect("a shut", msq_try_shut(&seats[0], 8), blocks ? MSQ_OK : MSQ_WORN_TAIL);
+    msq_drop(&seats[0]);
+    msq_drop(&seats[1]);
+}
+
+/* The least and the greatest sizes of a queue, and what lies beyond them. */
+static void sizes_have_their_ranges(uint32_t kind) {
+    const uint8_t roles[] = {MSQ_BOTH};
+    msq_seat seat = {0};
+    expect("no limit", msq_create(kind, 4, 0, roles, 1, &seat, 1), MSQ_BAD_SIZE);
+    expect("too great a limit", msq_create(kind, 4, MSQ_MOST_COUNT + 1, roles, 1, &seat, 1), MSQ_BAD_SIZE);
+    expect("too many nodes", msq_create(kind, MSQ_MOST_NODES + 1, 1, roles, 1, &seat, 1), MSQ_BAD_SIZE);
+    const uint32_t nodes[] = {2, 65534, 65535, 1048574, 1048575};
+    for (size_t k = 0; k < sizeof nodes / sizeof *nodes; k++) {
+        expect("create", msq_create(kind, nodes[k], MSQ_MOST_COUNT, roles, 1, &seat, 1), MSQ_OK);
+        msq_drop(&seat);
+    }
+}
+
 int main(void) {
     for (uint32_t kind = MSQ_NON_BLOCKING; kind <= MSQ_TWO_LOCK; kind++) {
         calls_are_refused(kind);
         a_queue_is_closed(kind);
+        the_free_list_wears_out(kind, 1, 1, MSQ_WORN_FREE);
+        the_free_list_wears_out(kind, 2, 2, MSQ_NO_NODE);
+        the_free_list_wears_out(kind, 3, 2, MSQ_WORN_FREE);
+        the_free_list_wears_out(kind, 4, 3, MSQ_NO_NODE);
+        the_ends_wear_out(kind);
+        sizes_have_their_ranges(kind);
     }
     printf("%u answers as they should be, %u not\n", right, wrong);
     return wrong != 0;

@@ -1,41 +1,49 @@
 -- A queue of either kind as a queue with seats.
 use Rattle.std.specs.Prelude.{ℕ, List}
+use denote.Param.{number}
 use Rattle.history.specs.Seats.{Permit}
 use Rattle.history.specs.declared.refusals.Refusal.{Refusal}
 use Rattle.node_arena.specs.Arenas.{Arena}
 use Rattle.node_arena.specs.declared.seats.Seat.{Seat}
 use Rattle.node_arena.specs.Seats.{IsReady, permits_of}
+use Rattle.arena_queue.specs.declared.algorithms.Algorithm.{Ghosts}
 use Rattle.arena_queue.specs.Queues.{arena_of}
 use Rattle.arena_queue.specs.Answers.{PushRefused, PopRefused, ShutRefused}
-use Rattle.nonblocking.specs.Worn as ms
-use Rattle.two_lock.specs.Worn as two
-use Rattle.any_queue.specs.declared.any.AnyQueue.{AnyQueue}
-use Rattle.any_queue.specs.declared.any.AnyQueue.TheVariants.{NonBlocking, TwoLock}
+use Rattle.nonblocking.specs.declared.algorithm.NonBlockingAlgorithm.{NonBlockingAlgorithm}
+use Rattle.two_lock.specs.declared.algorithm.TwoLockAlgorithm.{TwoLockAlgorithm}
+use Rattle.nonblocking.specs.contracts.algorithm.NonBlockingAlgorithmAlgorithm.TheImpl as ms_algorithm
+use Rattle.two_lock.specs.contracts.algorithm.TwoLockAlgorithmAlgorithm.TheImpl as two_algorithm
+use Rattle.any_queue.specs.declared.any.AnyQueueOf.{AnyQueueOf}
+use Rattle.any_queue.specs.declared.any.AnyQueueOf.TheVariants.{NonBlocking, TwoLock}
+
+-- a queue of either kind, with 24 node bits
+abbrev pub AnyQueue : Type 0
+AnyQueue = AnyQueueOf 24 (ms_algorithm.ghosts (number 24)) (two_algorithm.ghosts (number 24))
 
 -- the arena of a queue
-abbrev pub any_arena_of : AnyQueue → Arena
+abbrev pub any_arena_of : {bits : ℕ} {ms : Ghosts NonBlockingAlgorithm bits} {two : Ghosts TwoLockAlgorithm bits} → AnyQueueOf bits ms two → Arena
 any_arena_of (NonBlocking q) = arena_of q
 any_arena_of (TwoLock q) = arena_of q
 
 -- what each seat of a queue may do
-abbrev pub any_permits_of : AnyQueue → List Permit
+abbrev pub any_permits_of : {bits : ℕ} {ms : Ghosts NonBlockingAlgorithm bits} {two : Ghosts TwoLockAlgorithm bits} → AnyQueueOf bits ms two → List Permit
 any_permits_of q = permits_of (any_arena_of q)
 
 -- a seat of a queue, in no call
-abbrev pub IsAnySeat : AnyQueue → Seat → Type 0
+abbrev pub IsAnySeat : {bits : ℕ} {ms : Ghosts NonBlockingAlgorithm bits} {two : Ghosts TwoLockAlgorithm bits} → AnyQueueOf bits ms two → Seat → Type 0
 IsAnySeat q s = IsReady (any_arena_of q) s
 
 -- why a push is refused: for a cause of its kind
-abbrev pub AnyPushRefused : AnyQueue → Seat → Seat → (turns : ℕ) → Refusal → Type 0
-AnyPushRefused (NonBlocking q) s t turns refusal = PushRefused ms.push_worn (arena_of q) s t turns refusal
-AnyPushRefused (TwoLock q) s t turns refusal = PushRefused two.push_worn (arena_of q) s t turns refusal
+abbrev pub AnyPushRefused : {bits : ℕ} {ms : Ghosts NonBlockingAlgorithm bits} {two : Ghosts TwoLockAlgorithm bits} → AnyQueueOf bits ms two → Seat → Seat → (turns : ℕ) → Refusal → Type 0
+AnyPushRefused {ms = ms} (NonBlocking q) s t turns refusal = PushRefused ms.push_worn (arena_of q) s t turns refusal
+AnyPushRefused {two = two} (TwoLock q) s t turns refusal = PushRefused two.push_worn (arena_of q) s t turns refusal
 
 -- why a pop is refused: for a cause of its kind
-abbrev pub AnyPopRefused : AnyQueue → Seat → Seat → (turns : ℕ) → Refusal → Type 0
-AnyPopRefused (NonBlocking q) s t turns refusal = PopRefused ms.pop_worn (arena_of q) s t turns refusal
-AnyPopRefused (TwoLock q) s t turns refusal = PopRefused two.pop_worn (arena_of q) s t turns refusal
+abbrev pub AnyPopRefused : {bits : ℕ} {ms : Ghosts NonBlockingAlgorithm bits} {two : Ghosts TwoLockAlgorithm bits} → AnyQueueOf bits ms two → Seat → Seat → (turns : ℕ) → Refusal → Type 0
+AnyPopRefused {ms = ms} (NonBlocking q) s t turns refusal = PopRefused ms.pop_worn (arena_of q) s t turns refusal
+AnyPopRefused {two = two} (TwoLock q) s t turns refusal = PopRefused two.pop_worn (arena_of q) s t turns refusal
 
 -- why a shut is refused: for a cause of its kind
-abbrev pub AnyShutRefused : AnyQueue → Seat → Seat → (turns : ℕ) → Refusal → Type 0
-AnyShutRefused (NonBlocking q) s t turns refusal = ShutRefused ms.shut_worn (arena_of q) s t turns refusal
-AnyShutRefused (TwoLock q) s t turns refusal = ShutRefused two.shut_worn (arena_of q) s t turns refusal
+abbrev pub AnyShutRefused : {bits : ℕ} {ms : Ghosts NonBlockingAlgorithm bits} {two : Ghosts TwoLockAlgorithm bits} → AnyQueueOf bits ms two → Seat → Seat → (turns : ℕ) → Refusal → Type 0
+AnyShutRefused {ms = ms} (NonBlocking q) s t turns refusal = ShutRefused ms.shut_worn (arena_of q) s t turns refusal
+AnyShutRefused {two = two} (TwoLock q) s t turns refusal = ShutRefused two.shut_worn (arena_of q) s t turns refusal

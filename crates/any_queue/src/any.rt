@@ -1,35 +1,44 @@
 //! The queue of either kind: each call is that of the queue within.
 ghost use Rattle.std.specs.Prelude.{◌≡◌, IfOk, IfErr, OnOk};
+ghost use Rattle.counted_ref.specs.Ref.{IsSplit};
 ghost use Rattle.line_table.specs.declared.lines.Kind.{Kind};
 ghost use Rattle.node_arena.specs.Making.{plan, IsMade, NewRefused};
 ghost use Rattle.node_arena.specs.Plans.{permits_by, IsPlanned};
 ghost use Rattle.node_arena.specs.Seats.{known_of};
 ghost use Rattle.history.specs.Openings.{AreNew};
 
+use arena_queue::Algorithm;
 use history::{Body, Close, Fifo, Refusal, Rest, Taken};
 use line_table::Kind;
 use node_arena::{Ended, Role, Seat};
-use nonblocking::MsQueue;
+use nonblocking::{MsQueueOf, NonBlockingAlgorithm};
 use std::alloc::Global;
-use two_lock::TwoLockQueue;
+use two_lock::{TwoLockAlgorithm, TwoLockQueueOf};
 
-/// A queue of either kind, with 24 bits for the number of a node. Threads share it by reference, each with a seat of its
-/// own.
+/// A queue of either kind, with `B` bits, 16 to 32, for the number of a node. Threads share it by reference, each with a
+/// seat of its own.
 #[derive(Drop)]
-pub enum AnyQueue {
+pub enum AnyQueueOf<const B: u32>
+where
+    NonBlockingAlgorithm: Algorithm<B>,
+    TwoLockAlgorithm: Algorithm<B>,
+{
     /// The non-blocking queue.
-    NonBlocking(MsQueue),
+    NonBlocking(MsQueueOf<B>),
     /// The two-lock queue.
-    TwoLock(TwoLockQueue),
+    TwoLock(TwoLockQueueOf<B>),
 }
 
-impl AnyQueue {
+/// With 24 bits for the number of a node.
+pub type AnyQueue = AnyQueueOf<24>;
+
+impl<const B: u32> AnyQueueOf<B> {
     ghost use Rattle.std.specs.Prelude.{map};
     ghost use Rattle.std.specs.List.{All};
     ghost use Rattle.any_queue.specs.Any.{any_arena_of, any_permits_of, IsAnySeat};
 
     /// A queue of this kind, with so many nodes, the greatest count `limit`, and a seat for each role, in their order; the
-    /// ranges are those of `MsQueue::new`.
+    /// ranges are those of `MsQueueOf::new`.
     ///
     /// Refusals: `BadSize` where one of them is out of its range, else `Memory`. Takes memory for two words a node, the
     /// seats and their roles, and doesn't wait.
@@ -43,37 +52,39 @@ impl AnyQueue {
         nodes: u32,
         limit: u64,
         roles: &[Role],
-    ) -> Result<(AnyQueue, Vec<Seat>), Refusal>
+    ) -> Result<(AnyQueueOf<B>, Vec<Seat>), Refusal>
+        requires split { IsSplit B }
         //= library/any (ok, permits, seats, unused, sized, refused): A queue of either kind meets `Fifo`; a new one is
         //=   of the kind, nodes and greatest count asked for, its seats may do what the roles say and are unused, and
         //=   its refusals have the causes of the kind.
         ensures ok { IfOk result
-            (λ r. IsMade (plan 24 kind nodes limit roles.now) (any_arena_of r.0) r.1.items) }
+            (λ r. IsMade (plan B kind nodes limit roles.now) (any_arena_of r.0) r.1.items) }
         ensures permits { IfOk result (λ r. any_permits_of r.0 ≡ permits_by roles.now) }
         ensures seats { IfOk result (λ r. All (IsAnySeat r.0) r.1.items) }
         ensures unused { IfOk result (λ r. AreNew (any_permits_of r.0) (map known_of r.1.items)) }
-        ensures sized { OnOk result (IsPlanned (plan 24 kind nodes limit roles.now)) }
-        ensures refused { IfErr result (NewRefused (plan 24 kind nodes limit roles.now)) }
+        ensures sized { OnOk result (IsPlanned (plan B kind nodes limit roles.now)) }
+        ensures refused { IfErr result (NewRefused (plan B kind nodes limit roles.now)) }
     {
         match kind {
             Kind::NonBlocking => {
-                let (queue, seats) = MsQueue::new(alloc, nodes, limit, roles)?;
-                Ok((AnyQueue::NonBlocking(queue), seats))
+                let (queue, seats) = MsQueueOf::<B>::new(alloc, nodes, limit, roles)?;
+                Ok((AnyQueueOf::NonBlocking(queue), seats))
             }
             Kind::TwoLock => {
-                let (queue, seats) = TwoLockQueue::new(alloc, nodes, limit, roles)?;
-                Ok((AnyQueue::TwoLock(queue), seats))
+                let (queue, seats) = TwoLockQueueOf::<B>::new(alloc, nodes, limit, roles)?;
+                Ok((AnyQueueOf::TwoLock(queue), seats))
             }
         }
     }
 }
 
 //= library/any
-impl Fifo for AnyQueue {
+impl<const B: u32> Fifo for AnyQueueOf<B> {
     ghost use Rattle.std.specs.Prelude.{map};
     ghost use Rattle.std.specs.List.{All};
     ghost use Rattle.node_arena.specs.Seats.{view};
     ghost use Rattle.node_arena.proofs.Seens.{sound_of};
+    ghost use Rattle.node_arena.proofs.OneProof.{IsReady-prop};
     ghost use Rattle.history.specs.Closing.{Closes};
     ghost use Rattle.any_queue.specs.Any.{any_arena_of, any_permits_of, IsAnySeat};
     ghost use Rattle.any_queue.specs.Any.{AnyPushRefused, AnyPopRefused, AnyShutRefused};
@@ -94,50 +105,52 @@ impl Fifo for AnyQueue {
 
     ghost sound = { λ q s h. sound_of (any_arena_of q).plan (view s) h.seat.sits.fitted };
 
+    ghost seat_prop = { λ q s. IsReady-prop (any_arena_of q) s };
+
     fn try_push(&self, seat: &mut Seat, body: Body, turns: u32) -> Result<(), Refusal> {
         match self {
-            AnyQueue::NonBlocking(queue) => queue.try_push(seat, body, turns),
-            AnyQueue::TwoLock(queue) => queue.try_push(seat, body, turns),
+            AnyQueueOf::NonBlocking(queue) => queue.try_push(seat, body, turns),
+            AnyQueueOf::TwoLock(queue) => queue.try_push(seat, body, turns),
         }
     }
 
     fn try_pop(&self, seat: &mut Seat, turns: u32) -> Result<Option<Taken>, Refusal> {
         match self {
-            AnyQueue::NonBlocking(queue) => queue.try_pop(seat, turns),
-            AnyQueue::TwoLock(queue) => queue.try_pop(seat, turns),
+            AnyQueueOf::NonBlocking(queue) => queue.try_pop(seat, turns),
+            AnyQueueOf::TwoLock(queue) => queue.try_pop(seat, turns),
         }
     }
 
     fn try_shut(&self, seat: &mut Seat, turns: u32) -> Result<(), Refusal> {
         match self {
-            AnyQueue::NonBlocking(queue) => queue.try_shut(seat, turns),
-            AnyQueue::TwoLock(queue) => queue.try_shut(seat, turns),
+            AnyQueueOf::NonBlocking(queue) => queue.try_shut(seat, turns),
+            AnyQueueOf::TwoLock(queue) => queue.try_shut(seat, turns),
         }
     }
 
     fn meet(&self, one: &mut Seat, other: &mut Seat) {
         match self {
-            AnyQueue::NonBlocking(queue) => queue.meet(one, other),
-            AnyQueue::TwoLock(queue) => queue.meet(one, other),
+            AnyQueueOf::NonBlocking(queue) => queue.meet(one, other),
+            AnyQueueOf::TwoLock(queue) => queue.meet(one, other),
         }
     }
 
     fn may_push(&self, seat: &Seat) -> bool {
         match self {
-            AnyQueue::NonBlocking(queue) => queue.may_push(seat),
-            AnyQueue::TwoLock(queue) => queue.may_push(seat),
+            AnyQueueOf::NonBlocking(queue) => queue.may_push(seat),
+            AnyQueueOf::TwoLock(queue) => queue.may_push(seat),
         }
     }
 
     fn may_pop(&self, seat: &Seat) -> bool {
         match self {
-            AnyQueue::NonBlocking(queue) => queue.may_pop(seat),
-            AnyQueue::TwoLock(queue) => queue.may_pop(seat),
+            AnyQueueOf::NonBlocking(queue) => queue.may_pop(seat),
+            AnyQueueOf::TwoLock(queue) => queue.may_pop(seat),
         }
     }
 }
 
-impl Close for AnyQueue {
+impl<const B: u32> Close for AnyQueueOf<B> {
     ghost use Rattle.std.specs.Prelude.{map};
     ghost use Rattle.std.specs.List.{All};
     ghost use Rattle.history.specs.Closing.{Closes};
@@ -152,20 +165,20 @@ impl Close for AnyQueue {
 
     fn room(&self, alloc: Global) -> Result<Vec<Taken>, Refusal> {
         match self {
-            AnyQueue::NonBlocking(queue) => queue.room(alloc),
-            AnyQueue::TwoLock(queue) => queue.room(alloc),
+            AnyQueueOf::NonBlocking(queue) => queue.room(alloc),
+            AnyQueueOf::TwoLock(queue) => queue.room(alloc),
         }
     }
 
     fn close_with(self, room: Vec<Taken>, seats: Vec<Seat>) -> (Rest, Ended)
         requires room { HasRoomFor (any_arena_of self) room }
         requires seats { All (IsAnySeat self) seats.items }
-        ensures rest { Closes (any_permits_of self) (map known_of seats.items) result.0 }
-        ensures ends { Leaves (any_arena_of self) result.1 result.0 }
+        ensures rest { Closes (any_permits_of self.entry) (map known_of seats.items) result.0 }
+        ensures ends { Leaves (any_arena_of self.entry) result.1 result.0 }
     {
         match self {
-            AnyQueue::NonBlocking(queue) => queue.close_with(room, seats),
-            AnyQueue::TwoLock(queue) => queue.close_with(room, seats),
+            AnyQueueOf::NonBlocking(queue) => queue.close_with(room, seats),
+            AnyQueueOf::TwoLock(queue) => queue.close_with(room, seats),
         }
     }
 }

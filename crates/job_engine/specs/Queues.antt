@@ -1,5 +1,5 @@
 -- The queue over which jobs were done.
-use Rattle.any_queue.specs.declared.any.AnyQueue.{AnyQueue}
+use Rattle.any_queue.specs.Any.{AnyQueue}
 use Rattle.job_engine.specs.declared.crews.JobQueue.{JobQueue}
 
 -- the queue itself

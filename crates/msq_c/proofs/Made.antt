@@ -1,5 +1,5 @@
 -- Seats with their shares that were put into handles.
-use Rattle.std.proofs.Common.{◌≡◌, ℕ, ◌≤◌, ◌<◌, ◌^◌, List, map, length, refl, ap, ◌∙◌, sym, arith, subst, Result, Ok, Err, IfOk}
+use Rattle.std.proofs.Common.{◌≡◌, ℕ, ◌≤◌, ◌<◌, ◌^◌, List, map, length, refl, ap, ◌∙◌, sym, subst, Result, Ok, Err, IfOk}
 use Rattle.std.specs.List.{All}
 use mathlib.Core.List.{map-map}
 use Rattle.std.proofs.lemmas.List.Elements.{All-weaker}
@@ -11,49 +11,50 @@ use Rattle.history.specs.Openings.{AreNew}
 use Rattle.node_arena.specs.declared.seats.Seat.{Seat}
 use Rattle.node_arena.specs.Seats.{known_of}
 use Rattle.node_arena.specs.Plans.{Layout, IsPlanned}
-use Rattle.node_arena.specs.Making.{plan, IsMade}
+use Rattle.node_arena.specs.Making.{IsMade}
 use Rattle.owned_seats.specs.declared.seats.OwnedSeat.{OwnedSeat}
 use Rattle.owned_seats.specs.Owned.{queue_of, seat_of}
 use Rattle.owned_seats.proofs.Shares.{All-unmap, all_own}
-use Rattle.any_queue.specs.declared.any.AnyQueue.{AnyQueue}
-use Rattle.any_queue.specs.Any.{IsAnySeat, any_arena_of, any_permits_of}
+use Rattle.any_queue.specs.declared.picked.PickedQueue.{PickedQueue}
+use Rattle.any_queue.specs.Picked.{IsPickedSeat, picked_arena_of, picked_permits_of}
+use Rattle.msq_c.proofs.Sizes.{is_split, enough, some_count, few_counts}
 use Rattle.msq_c.specs.declared.own_seats.OwnSeat.{OwnSeat}
 use Rattle.msq_c.specs.declared.handles.MsqSeat.{MsqSeat}
 use Rattle.msq_c.specs.Own.{owned_in}
 use Rattle.msq_c.specs.Seats.{own_at, known_at, IsHandle}
-use Rattle.msq_c.specs.Made.{IsOwn, AreUnused, ArePut, AreMade, AreAsked, Asks, kind_number, role_number, seat_at}
+use Rattle.msq_c.specs.Made.{IsOwn, AreUnused, ArePut, AreMade, AreAsked, Asks, plan_for, kind_number, role_number, seat_at}
 
-pub all_made : (owned : List (OwnedSeat AnyQueue Seat)) (seats : List OwnSeat) (slots : List MsqSeat)
+pub all_made : (owned : List (OwnedSeat PickedQueue Seat)) (seats : List OwnSeat) (slots : List MsqSeat)
     → map owned_in seats ≡ owned → (z : Layout) → AreUnused z owned → ArePut seats slots → AreMade z slots
 all_made owned seats slots e z u p =
     let same : owned ≡ map (λ (h : MsqSeat). owned_in (own_at h)) slots =
     sym e ∙ ap (map owned_in) (sym p.those) ∙ map-map owned_in own_at slots in
-    let known : map (λ (s : OwnedSeat AnyQueue Seat). known_of (seat_of s)) owned ≡ map known_at slots =
-    ap (map (λ (s : OwnedSeat AnyQueue Seat). known_of (seat_of s))) same ∙ map-map (λ (s : OwnedSeat AnyQueue Seat). known_of (seat_of s)) (λ (h : MsqSeat). owned_in (own_at h)) slots in
+    let known : map (λ (s : OwnedSeat PickedQueue Seat). known_of (seat_of s)) owned ≡ map known_at slots =
+    ap (map (λ (s : OwnedSeat PickedQueue Seat). known_of (seat_of s))) same ∙ map-map (λ (s : OwnedSeat PickedQueue Seat). known_of (seat_of s)) (λ (h : MsqSeat). owned_in (own_at h)) slots in
     let sit : All (λ h. IsOwn (owned_in (own_at h))) slots = All-unmap IsOwn (λ (h : MsqSeat). owned_in (own_at h)) slots (subst (All IsOwn) same u.sit) in
     let sat : map seat_of owned ≡ map seat_at slots = ap (map seat_of) same ∙ map-map seat_of (λ (h : MsqSeat). owned_in (own_at h)) slots in
     record {
       queue = u.queue;
-      made = subst (IsMade z (any_arena_of u.queue)) sat u.made;
+      made = subst (IsMade z (picked_arena_of u.queue)) sat u.made;
       full = p.full;
       handles = All-weaker (λ h. IsOwn (owned_in (own_at h))) IsHandle (λ h i _. i) slots sit;
       one = All-unmap (λ s. queue_of s ≡ u.queue) (λ (h : MsqSeat). owned_in (own_at h)) slots (subst (All (λ s. queue_of s ≡ u.queue)) same u.one);
-      unused = subst (λ ks. AreNew (any_permits_of u.queue) ks) known u.unused;
+      unused = subst (λ ks. AreNew (picked_permits_of u.queue) ks) known u.unused;
     }
 
 -- the seats of a new queue of a plan, each with a share
-pub unused_of : (z : Layout) (q : AnyQueue) (seats : List Seat) (owned : List (OwnedSeat AnyQueue Seat)) → All (λ s. queue_of s ≡ q) owned → map seat_of owned ≡ seats
-    → IsMade z (any_arena_of q) seats → All (IsAnySeat q) seats → AreNew (any_permits_of q) (map known_of seats) → AreUnused z owned
+pub unused_of : (z : Layout) (q : PickedQueue) (seats : List Seat) (owned : List (OwnedSeat PickedQueue Seat)) → All (λ s. queue_of s ≡ q) owned → map seat_of owned ≡ seats
+    → IsMade z (picked_arena_of q) seats → All (IsPickedSeat q) seats → AreNew (picked_permits_of q) (map known_of seats) → AreUnused z owned
 unused_of z q seats owned one e made sit new = record {
   queue = q;
-  made = subst (IsMade z (any_arena_of q)) (sym e) made;
+  made = subst (IsMade z (picked_arena_of q)) (sym e) made;
   one = one;
-  sit = all_own IsAnySeat q owned seats one e sit;
-  unused = subst (λ ks. AreNew (any_permits_of q) ks) (ap (map known_of) (sym e) ∙ map-map known_of seat_of owned) new;
+  sit = all_own IsPickedSeat q owned seats one e sit;
+  unused = subst (λ ks. AreNew (picked_permits_of q) ks) (ap (map known_of) (sym e) ∙ map-map known_of seat_of owned) new;
 }
 
 -- handles that blocks with the seats of a new queue were put into
-pub made_if : {V E B : Type 0} (out : Result V E) (items : V → List MsqSeat) (value : B → OwnSeat) (boxes : List B) (owned : List (OwnedSeat AnyQueue Seat))
+pub made_if : {V E B : Type 0} (out : Result V E) (items : V → List MsqSeat) (value : B → OwnSeat) (boxes : List B) (owned : List (OwnedSeat PickedQueue Seat))
     → map (λ b. owned_in (value b)) boxes ≡ owned → (z : Layout) → AreUnused z owned → IfOk out (λ v. ArePut (map value boxes) (items v)) → IfOk out (λ v. AreMade z (items v))
 made_if (Ok v) items value boxes owned e z u p = all_made owned (map value boxes) (items v) (map-map owned_in value boxes ∙ e) z u p
 made_if (Err refusal) items value boxes owned e z u p = tt
@@ -64,25 +65,25 @@ module _ (kind nodes limit : ℕ) (numbers : List ℕ) (k : Kind) (roles : List 
   many = ap length (sym those) ∙ length-map roles role_number
 
   -- its sizes are in their ranges
-  pub planned_of : Asks kind nodes limit numbers → IsPlanned (plan 24 k nodes limit roles)
+  pub planned_of : Asks kind nodes limit numbers → IsPlanned (plan_for k nodes limit roles)
   planned_of a = record {
-    split = record { least = omega arith; most = omega arith };
+    split = is_split nodes;
     nodes = a.sizes.some_nodes;
-    numbered = a.sizes.numbered;
-    counts = a.sizes.counts;
-    counted = a.sizes.counted;
+    numbered = enough nodes a.sizes.numbered;
+    counts = some_count nodes limit a.sizes.counts;
+    counted = few_counts nodes limit;
     some_actors = subst (λ n. 1 ≤ n) many a.sizes.some_seats;
     few_actors = subst (λ n. n < 2 ^ actor_bits) many a.sizes.few_seats;
   }
 
   -- and handles with its seats are as they were asked for
   pub asked_if : {V E : Type 0} (out : Result V E) (items : V → List MsqSeat)
-      → IfOk out (λ v. AreMade (plan 24 k nodes limit roles) (items v)) → IfOk out (λ v. AreAsked kind nodes limit numbers (items v))
-  asked_if (Ok v) items m = record { layout = plan 24 k nodes limit roles; of_kind = kinds; of_roles = those; planned = refl; made = m }
+      → IfOk out (λ v. AreMade (plan_for k nodes limit roles) (items v)) → IfOk out (λ v. AreAsked kind nodes limit numbers (items v))
+  asked_if (Ok v) items m = record { layout = plan_for k nodes limit roles; of_kind = kinds; of_roles = those; planned = refl; made = m }
   asked_if (Err refusal) items m = tt
 
   -- as many as there are roles
   pub len_if : {V E : Type 0} (out : Result V E) (items : V → List MsqSeat)
-      → IfOk out (λ v. AreMade (plan 24 k nodes limit roles) (items v)) → IfOk out (λ v. length (items v) ≡ length numbers)
+      → IfOk out (λ v. AreMade (plan_for k nodes limit roles) (items v)) → IfOk out (λ v. length (items v) ≡ length numbers)
   len_if (Ok v) items m = sym (length-map (items v) seat_at) ∙ m.made.count ∙ sym many
   len_if (Err refusal) items m = tt

@@ -2,32 +2,41 @@
 use Rattle.std.specs.Prelude.{◌≡◌, ℕ, Option, Some, None, Result, Ok, Err}
 use Rattle.history.specs.declared.refusals.Refusal.{Refusal}
 use Rattle.history.specs.declared.refusals.Refusal.TheVariants.{NoNode, WornOut, Busy, Memory, BadSize, IdleActor, ActorBusy, NotHere, NoSuchActor, Text, Read, Write, Stranger, Double, Lost, Closed}
+use Rattle.history.specs.declared.refusals.WornWord.{WornWord}
+use Rattle.history.specs.declared.refusals.WornWord.TheVariants.{Free, Next, Tail, Head}
 use Rattle.history.specs.declared.operations.Taken.{Taken}
 use Rattle.msq_c.specs.declared.troubles.Trouble.{Trouble}
 use Rattle.msq_c.specs.declared.troubles.Trouble.TheVariants as troubles
 
--- the number of a refusal
-abbrev pub fault_number : Refusal → ℕ
-fault_number NoNode = 1
-fault_number (WornOut word) = 2
-fault_number Busy = 3
-fault_number Memory = 4
-fault_number BadSize = 5
-fault_number IdleActor = 6
-fault_number ActorBusy = 7
-fault_number NotHere = 8
-fault_number NoSuchActor = 9
-fault_number (Text line cause) = 10
-fault_number Read = 11
-fault_number Write = 12
-fault_number Stranger = 13
-fault_number Double = 14
-fault_number Lost = 15
-fault_number Closed = 16
+-- the code of a word that is worn out
+abbrev pub worn_code : WornWord → ℕ
+worn_code Free = 2
+worn_code Next = 37
+worn_code Tail = 38
+worn_code Head = 39
+
+-- the code of a refusal: its number, and of a word that is worn out that word's own
+abbrev pub refusal_code : Refusal → ℕ
+refusal_code NoNode = 1
+refusal_code (WornOut word) = worn_code word
+refusal_code Busy = 3
+refusal_code Memory = 4
+refusal_code BadSize = 5
+refusal_code IdleActor = 6
+refusal_code ActorBusy = 7
+refusal_code NotHere = 8
+refusal_code NoSuchActor = 9
+refusal_code (Text line cause) = 10
+refusal_code Read = 11
+refusal_code Write = 12
+refusal_code Stranger = 13
+refusal_code Double = 14
+refusal_code Lost = 15
+refusal_code Closed = 16
 
 -- the code of a trouble
 abbrev pub code_of : Trouble → ℕ
-code_of (troubles.Refused refusal) = fault_number refusal
+code_of (troubles.Refused refusal) = refusal_code refusal
 code_of troubles.BadSize = 5
 code_of troubles.NoHandle = 33
 code_of troubles.NoRole = 34

@@ -10,8 +10,8 @@ use Rattle.node_arena.specs.Ended.{HasRoomFor, Leaves}
 use Rattle.owned_seats.specs.declared.closing.EndRoom.{EndRoom}
 use Rattle.owned_seats.specs.declared.seats.OwnedSeat.{OwnedSeat}
 use Rattle.owned_seats.specs.Unended.{HasEndRoom}
-use Rattle.any_queue.specs.declared.any.AnyQueue.{AnyQueue}
-use Rattle.any_queue.specs.Any.{any_arena_of, any_permits_of}
+use Rattle.any_queue.specs.declared.picked.PickedQueue.{PickedQueue}
+use Rattle.any_queue.specs.Picked.{picked_arena_of, picked_permits_of}
 use Rattle.msq_c.specs.declared.handles.MsqSeat.{MsqSeat}
 use Rattle.msq_c.specs.declared.troubles.Trouble.{Trouble}
 use Rattle.msq_c.specs.declared.troubles.Trouble.TheVariants.{Refused, BadSize, NoHandle, InUse, Raced}
@@ -28,7 +28,7 @@ AreEmpty slots = All (λ h. is_full h ≡ false) slots
 
 -- the full ones of these handles are of one queue
 pub record AreOfOne (slots : List MsqSeat) : Type 0 where
-  pub queue : AnyQueue
+  pub queue : PickedQueue
   pub one : All (λ h. is_full h ≡ true → queue_at h ≡ queue) slots
 
 -- full handles keep their seats
@@ -37,27 +37,27 @@ pub record KeepSeats (slots slots' : List MsqSeat) : Type 0 where
   pub seats : map own_at slots' ≡ map own_at slots
 
 -- the seat of a handle, with its share
-abbrev pub owned_at : MsqSeat → OwnedSeat AnyQueue Seat
+abbrev pub owned_at : MsqSeat → OwnedSeat PickedQueue Seat
 owned_at h = owned_in (own_at h)
 
 -- the queue of these handles was closed by all of them, with its end
 pub record ClosesHandles (slots : List MsqSeat) (rest : Rest) (end : Ended) : Type 0 where
-  pub queue : AnyQueue
+  pub queue : PickedQueue
   pub one : All (λ h. queue_at h ≡ queue) slots
-  pub closes : Closes (any_permits_of queue) (map known_at slots) rest
-  pub ends : Leaves (any_arena_of queue) end rest
+  pub closes : Closes (picked_permits_of queue) (map known_at slots) rest
+  pub ends : Leaves (picked_arena_of queue) end rest
 
 -- memory was refused
 abbrev pub IsMemory : Trouble → Type 0
 IsMemory refusal = refusal ≡ Refused Memory
 
 -- there is room for the end of a queue by a seat and so many others
-abbrev pub HasAnyRoom : AnyQueue → (others : ℕ) → EndRoom AnyQueue Seat → Type 0
-HasAnyRoom queue others room = HasEndRoom (λ q. HasRoomFor (any_arena_of q)) queue others room
+abbrev pub HasAnyRoom : PickedQueue → (others : ℕ) → EndRoom PickedQueue Seat → Type 0
+HasAnyRoom queue others room = HasEndRoom (λ q. HasRoomFor (picked_arena_of q)) queue others room
 
 -- there is room for the end of the queue of full handles, whichever it is
-abbrev pub HasRoomOf : List MsqSeat → EndRoom AnyQueue Seat → Type 0
-HasRoomOf slots room = (q : AnyQueue) (others : ℕ) → length slots ≡ others + 1 → All (λ h. is_full h ≡ true → queue_at h ≡ q) slots → HasAnyRoom q others room
+abbrev pub HasRoomOf : List MsqSeat → EndRoom PickedQueue Seat → Type 0
+HasRoomOf slots room = (q : PickedQueue) (others : ℕ) → length slots ≡ others + 1 → All (λ h. is_full h ≡ true → queue_at h ≡ q) slots → HasAnyRoom q others room
 
 -- why there is no such room: there are no handles, or memory was refused
 abbrev pub RefusesRoom : List MsqSeat → Trouble → Type 0

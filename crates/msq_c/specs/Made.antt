@@ -1,5 +1,5 @@
 -- The handles of a new queue.
-use Rattle.std.specs.Prelude.{◌≡◌, ℕ, ◌<◌, ◌≤◌, ◌^◌, ◌⊎◌, ◌≢◌, List, map, length, Result, OnOk, OnErr, IfErr}
+use Rattle.std.specs.Prelude.{◌≡◌, ℕ, ◌<◌, ◌≤◌, ◌^◌, ◌⊎◌, ◌≢◌, min, List, map, length, Result, OnOk, OnErr, IfErr}
 use Rattle.std.specs.List.{All}
 use Rattle.line_table.specs.declared.lines.Kind.{Kind}
 use Rattle.line_table.specs.declared.lines.Kind.TheVariants.{NonBlocking, TwoLock}
@@ -12,11 +12,12 @@ use Rattle.node_arena.specs.declared.roles.Role.{Role}
 use Rattle.node_arena.specs.declared.roles.Role.TheVariants.{Giver, Taker, Both}
 use Rattle.node_arena.specs.Seats.{known_of}
 use Rattle.node_arena.specs.Plans.{Layout}
-use Rattle.node_arena.specs.Making.{plan, IsMade}
+use Rattle.node_arena.specs.Making.{IsMade}
 use Rattle.owned_seats.specs.declared.seats.OwnedSeat.{OwnedSeat}
 use Rattle.owned_seats.specs.Owned.{queue_of, seat_of}
-use Rattle.any_queue.specs.declared.any.AnyQueue.{AnyQueue}
-use Rattle.any_queue.specs.Any.{IsAnySeat, any_arena_of, any_permits_of}
+use Rattle.any_queue.specs.Splits.{bits_for, greatest_count, limited_plan}
+use Rattle.any_queue.specs.declared.picked.PickedQueue.{PickedQueue}
+use Rattle.any_queue.specs.Picked.{IsPickedSeat, picked_arena_of, picked_permits_of}
 use Rattle.msq_c.specs.declared.own_seats.OwnSeat.{OwnSeat}
 use Rattle.msq_c.specs.declared.handles.MsqSeat.{MsqSeat}
 use Rattle.msq_c.specs.declared.troubles.Trouble.{Trouble}
@@ -40,19 +41,28 @@ role_number Both = 3
 abbrev pub IsRole : ℕ → Type 0
 IsRole n = (1 ≤ n) × (n ≤ 3)
 
--- a queue of either kind has such sizes
+-- the greatest count of a queue of so many nodes, with this limit: the limit, or the greatest count of its split, where that is
+-- less
+abbrev pub count_for : (nodes limit : ℕ) → ℕ
+count_for nodes limit = min limit (greatest_count (bits_for nodes))
+
+-- the plan of a queue of so many nodes, of the split for these, with this limit
+abbrev pub plan_for : Kind → (nodes limit : ℕ) → List Role → Layout
+plan_for kind nodes limit roles = limited_plan kind nodes (count_for nodes limit) roles
+
+-- a queue of either kind has such sizes, of the split for its nodes
 pub record AreSizes (nodes limit seats : ℕ) : Type 0 where
   pub some_nodes : 2 ≤ nodes
-  pub numbered : nodes < reserved_node 24
+  pub numbered : nodes < reserved_node 32
   pub counts : 1 ≤ limit
-  pub counted : limit < 2 ^ count_bits 24
+  pub counted : limit < 2 ^ count_bits 16
   pub some_seats : 1 ≤ seats
   pub few_seats : seats < 2 ^ actor_bits
 
 -- no queue has such sizes: one of them is out of its range
 abbrev pub AreNoSizes : (nodes limit seats : ℕ) → Type 0
 AreNoSizes nodes limit seats =
-    ((nodes < 2) ⊎ (reserved_node 24 ≤ nodes)) ⊎ ((limit < 1) ⊎ (2 ^ count_bits 24 ≤ limit)) ⊎ ((seats < 1) ⊎ (2 ^ actor_bits ≤ seats))
+    ((nodes < 2) ⊎ (reserved_node 32 ≤ nodes)) ⊎ ((limit < 1) ⊎ (2 ^ count_bits 16 ≤ limit)) ⊎ ((seats < 1) ⊎ (2 ^ actor_bits ≤ seats))
 
 -- these numbers ask for a queue: they are of a kind and of roles, and its sizes are in their ranges
 pub record Asks (kind nodes limit : ℕ) (roles : List ℕ) : Type 0 where
@@ -71,20 +81,20 @@ pub record MayMake (kind nodes limit : ℕ) (roles : List ℕ) (slots : List Msq
   pub asks : Asks kind nodes limit roles
 
 -- a seat with its share is its queue's, in no call
-abbrev pub IsOwn : OwnedSeat AnyQueue Seat → Type 0
-IsOwn s = IsAnySeat (queue_of s) (seat_of s)
+abbrev pub IsOwn : OwnedSeat PickedQueue Seat → Type 0
+IsOwn s = IsPickedSeat (queue_of s) (seat_of s)
 
 -- each of these seats is its queue's, in no call
-abbrev pub AreOwned : List (OwnedSeat AnyQueue Seat) → Type 0
+abbrev pub AreOwned : List (OwnedSeat PickedQueue Seat) → Type 0
 AreOwned owned = All IsOwn owned
 
 -- these are the seats of one new queue of a plan, each with a share
-pub record AreUnused (z : Layout) (owned : List (OwnedSeat AnyQueue Seat)) : Type 0 where
-  pub queue : AnyQueue
-  pub made : IsMade z (any_arena_of queue) (map seat_of owned)
+pub record AreUnused (z : Layout) (owned : List (OwnedSeat PickedQueue Seat)) : Type 0 where
+  pub queue : PickedQueue
+  pub made : IsMade z (picked_arena_of queue) (map seat_of owned)
   pub one : All (λ s. queue_of s ≡ queue) owned
   pub sit : AreOwned owned
-  pub unused : AreNew (any_permits_of queue) (map (λ s. known_of (seat_of s)) owned)
+  pub unused : AreNew (picked_permits_of queue) (map (λ s. known_of (seat_of s)) owned)
 
 -- these handles are full of these seats, in their order
 pub record ArePut (seats : List OwnSeat) (slots : List MsqSeat) : Type 0 where
@@ -97,19 +107,19 @@ seat_at h = seat_in (own_at h)
 
 -- these handles have all the seats of one new queue of a plan, in their order
 pub record AreMade (z : Layout) (slots : List MsqSeat) : Type 0 where
-  pub queue : AnyQueue
-  pub made : IsMade z (any_arena_of queue) (map seat_at slots)
+  pub queue : PickedQueue
+  pub made : IsMade z (picked_arena_of queue) (map seat_at slots)
   pub full : AreFull slots
   pub handles : All IsHandle slots
   pub one : All (λ h. queue_at h ≡ queue) slots
-  pub unused : AreNew (any_permits_of queue) (map known_at slots)
+  pub unused : AreNew (picked_permits_of queue) (map known_at slots)
 
 -- these handles have all the seats of one new queue: of the kind and of the roles with these numbers, and of these sizes
 pub record AreAsked (kind nodes limit : ℕ) (roles : List ℕ) (slots : List MsqSeat) : Type 0 where
   pub layout : Layout
   pub of_kind : kind_number layout.setup.kind ≡ kind
   pub of_roles : map role_number layout.roles ≡ roles
-  pub planned : layout ≡ plan 24 layout.setup.kind nodes limit layout.roles
+  pub planned : layout ≡ plan_for layout.setup.kind nodes limit layout.roles
   pub made : AreMade layout slots
 
 -- why no queue is made: a handle is full; else a number is out of its range, or there are fewer handles than roles, or more;

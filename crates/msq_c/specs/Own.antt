@@ -7,18 +7,18 @@ use Rattle.node_arena.specs.declared.seats.Seat.{Seat}
 use Rattle.node_arena.specs.Seats.{known_of}
 use Rattle.owned_seats.specs.declared.seats.OwnedSeat.{OwnedSeat}
 use Rattle.owned_seats.specs.Owned.{queue_of, seat_of}
-use Rattle.any_queue.specs.declared.any.AnyQueue.{AnyQueue}
-use Rattle.any_queue.specs.Any.{IsAnySeat, any_permits_of, AnyPushRefused, AnyPopRefused, AnyShutRefused}
+use Rattle.any_queue.specs.declared.picked.PickedQueue.{PickedQueue}
+use Rattle.any_queue.specs.Picked.{IsPickedSeat, picked_permits_of, PickedPushRefused, PickedPopRefused, PickedShutRefused}
 use Rattle.msq_c.specs.declared.own_seats.OwnSeat.{OwnSeat}
 use Rattle.msq_c.specs.declared.troubles.Trouble.{Trouble}
 use Rattle.msq_c.specs.declared.troubles.Trouble.TheVariants.{Refused, BadSize, NoRole}
 
 -- the seat with its share
-abbrev pub owned_in : OwnSeat → OwnedSeat AnyQueue Seat
+abbrev pub owned_in : OwnSeat → OwnedSeat PickedQueue Seat
 owned_in s = s.owned
 
 -- the queue of a seat
-abbrev pub queue_in : OwnSeat → AnyQueue
+abbrev pub queue_in : OwnSeat → PickedQueue
 queue_in s = queue_of s.owned
 
 -- the seat itself
@@ -27,7 +27,7 @@ seat_in s = seat_of s.owned
 
 -- a seat is its queue's, in no call
 abbrev pub Sits : OwnSeat → Type 0
-Sits s = IsAnySeat (queue_in s) (seat_in s)
+Sits s = IsPickedSeat (queue_in s) (seat_in s)
 
 -- what a seat knows
 abbrev pub known_in : OwnSeat → Known
@@ -35,13 +35,13 @@ known_in s = known_of (seat_in s)
 
 -- what each seat of its queue may do
 abbrev pub permits_in : OwnSeat → List Permit
-permits_in s = any_permits_of (queue_in s)
+permits_in s = picked_permits_of (queue_in s)
 
 -- why a push is refused: by the queue, for its cause; or a number is out of its range, or the seat may not push, and nothing
 -- changed
 abbrev pub RefusesPush : OwnSeat → OwnSeat → (body turns : ℕ) → Trouble → Type 0
 RefusesPush s t body turns (Refused refusal) =
-    StopsPush refusal × PushRefused (known_in s) refusal (known_in t) × AnyPushRefused (queue_in s) (seat_in s) (seat_in t) turns refusal
+    StopsPush refusal × PushRefused (known_in s) refusal (known_in t) × PickedPushRefused (queue_in s) (seat_in s) (seat_in t) turns refusal
 RefusesPush s t body turns BadSize = ((turns ≡ 0) ⊎ (2 ^ body_bits ≤ body)) × (t ≡ s)
 RefusesPush s t body turns NoRole = (MayPush (permits_in s) (known_in s).number → ⊥) × (t ≡ s)
 RefusesPush s t body turns _ = ⊥
@@ -49,7 +49,7 @@ RefusesPush s t body turns _ = ⊥
 -- why a pop is refused: by the queue, for its cause; or the turns are none, or the seat may not pop, and nothing changed
 abbrev pub RefusesPop : OwnSeat → OwnSeat → (turns : ℕ) → Trouble → Type 0
 RefusesPop s t turns (Refused refusal) =
-    StopsPop refusal × PopRefused (known_in s) refusal (known_in t) × AnyPopRefused (queue_in s) (seat_in s) (seat_in t) turns refusal
+    StopsPop refusal × PopRefused (known_in s) refusal (known_in t) × PickedPopRefused (queue_in s) (seat_in s) (seat_in t) turns refusal
 RefusesPop s t turns BadSize = (turns ≡ 0) × (t ≡ s)
 RefusesPop s t turns NoRole = (MayPop (permits_in s) (known_in s).number → ⊥) × (t ≡ s)
 RefusesPop s t turns _ = ⊥
@@ -57,7 +57,7 @@ RefusesPop s t turns _ = ⊥
 -- why a shut is refused: by the queue, for its cause; or the turns are none, or the seat may not push, and nothing changed
 abbrev pub RefusesShut : OwnSeat → OwnSeat → (turns : ℕ) → Trouble → Type 0
 RefusesShut s t turns (Refused refusal) =
-    StopsShut refusal × PushRefused (known_in s) refusal (known_in t) × AnyShutRefused (queue_in s) (seat_in s) (seat_in t) turns refusal
+    StopsShut refusal × PushRefused (known_in s) refusal (known_in t) × PickedShutRefused (queue_in s) (seat_in s) (seat_in t) turns refusal
 RefusesShut s t turns BadSize = (turns ≡ 0) × (t ≡ s)
 RefusesShut s t turns NoRole = (MayPush (permits_in s) (known_in s).number → ⊥) × (t ≡ s)
 RefusesShut s t turns _ = ⊥

@@ -3,7 +3,7 @@ use Rattle.std.specs.Prelude.{◌≡◌, ◌↔◌, ◌⊎◌, ℕ, Bool, true, 
 use Rattle.history.specs.Seats.{Known}
 use Rattle.history.specs.Answers.{Pushed, PopAnswers, DidShut, Meets}
 use Rattle.history.specs.declared.operations.Taken.{Taken}
-use Rattle.any_queue.specs.declared.any.AnyQueue.{AnyQueue}
+use Rattle.any_queue.specs.declared.picked.PickedQueue.{PickedQueue}
 use Rattle.msq_c.specs.declared.own_seats.OwnSeat.{OwnSeat}
 use Rattle.msq_c.specs.declared.handles.MsqSeat.{MsqSeat}
 use Rattle.msq_c.specs.declared.troubles.Trouble.{Trouble}
@@ -23,7 +23,7 @@ abbrev pub known_at : MsqSeat → Known
 known_at h = known_in (own_at h)
 
 -- the queue of the seat, where there is one
-abbrev pub queue_at : MsqSeat → AnyQueue
+abbrev pub queue_at : MsqSeat → PickedQueue
 queue_at h = queue_in (own_at h)
 
 -- a handle is empty, or its seat is its queue's, in no call: as each call leaves it

@@ -5,7 +5,7 @@ ghost use Rattle.history.specs.Closing.{Closes};
 ghost use Rattle.node_arena.specs.Seats.{known_of};
 ghost use Rattle.owned_seats.specs.Owned.{queue_of, seat_of};
 ghost use Rattle.node_arena.specs.Ended.{Leaves};
-ghost use Rattle.any_queue.specs.Any.{any_arena_of, any_permits_of, IsAnySeat};
+ghost use Rattle.any_queue.specs.Picked.{picked_arena_of, picked_permits_of, IsPickedSeat};
 ghost use Rattle.msq_c.specs.Seats.{is_full, own_at, queue_at, IsHandle};
 ghost use Rattle.msq_c.specs.Ends.{AreFull, AreEmpty, AreOfOne, KeepSeats, owned_at};
 ghost use Rattle.msq_c.specs.Ends.{HasAnyRoom, HasRoomOf, RefusesRoom};
@@ -13,7 +13,7 @@ ghost use Rattle.msq_c.specs.Ends.{ClosesHandles, IsMemory, RefusesClose};
 
 use crate::handles::MsqSeat;
 use crate::troubles::Trouble;
-use any_queue::AnyQueue;
+use any_queue::PickedQueue;
 use history::{Refusal, Rest};
 use node_arena::Ended;
 use owned_seats::{EndRoom, OwnedSeat};
@@ -50,7 +50,11 @@ fn shares_of(alloc: Global, slots: &mut [MsqSeat]) -> usize
 }
 
 // Room for the end of the queue of a full handle, by its seat and so many others.
-fn room_at(alloc: Global, slot: &mut MsqSeat, others: usize) -> Result<EndRoom<AnyQueue>, Trouble>
+fn room_at(
+    alloc: Global,
+    slot: &mut MsqSeat,
+    others: usize,
+) -> Result<EndRoom<PickedQueue>, Trouble>
     requires { is_full slot.old ≡ true }
     ensures full { is_full slot.new ≡ true }
     ensures seat { own_at slot.new ≡ own_at slot.old }
@@ -64,7 +68,7 @@ fn room_at(alloc: Global, slot: &mut MsqSeat, others: usize) -> Result<EndRoom<A
 }
 
 // Room for the end of the queue of full handles by all of them.
-fn room_of(alloc: Global, slots: &mut [MsqSeat]) -> Result<EndRoom<AnyQueue>, Trouble>
+fn room_of(alloc: Global, slots: &mut [MsqSeat]) -> Result<EndRoom<PickedQueue>, Trouble>
     requires { AreFull slots.old }
     ensures seats { KeepSeats slots.old slots.new }
     ensures room { IfOk result (HasRoomOf slots.old) }
@@ -93,7 +97,7 @@ fn empties(alloc: Global, like: &[MsqSeat]) -> Result<Vec<MsqSeat>, Trouble>
 }
 
 // The seats of full handles, which are left empty; where memory is refused, as they were.
-fn take_all(alloc: Global, slots: &mut [MsqSeat]) -> Result<Vec<OwnedSeat<AnyQueue>>, Trouble>
+fn take_all(alloc: Global, slots: &mut [MsqSeat]) -> Result<Vec<OwnedSeat<PickedQueue>>, Trouble>
     requires { AreFull slots.old }
     ensures taken { IfOk result (λ owned. owned.items ≡ map owned_at slots.old) }
     ensures empty { OnOk result (AreEmpty slots.new) }
@@ -112,16 +116,16 @@ fn take_all(alloc: Global, slots: &mut [MsqSeat]) -> Result<Vec<OwnedSeat<AnyQue
 
 // Ends the queue of these seats, the last one and others.
 fn ended(
-    room: EndRoom<AnyQueue>,
-    last: OwnedSeat<AnyQueue>,
-    others: Vec<OwnedSeat<AnyQueue>>,
+    room: EndRoom<PickedQueue>,
+    last: OwnedSeat<PickedQueue>,
+    others: Vec<OwnedSeat<PickedQueue>>,
 ) -> Result<(Rest, Ended), Trouble>
     requires room { HasAnyRoom (queue_of last) (length others.items) room }
-    requires last { IsAnySeat (queue_of last) (seat_of last) }
-    requires others { All (λ s. IsAnySeat (queue_of last) (seat_of s)) others.items }
-    ensures closes { IfOk result (λ r. Closes (any_permits_of (queue_of last))
+    requires last { IsPickedSeat (queue_of last) (seat_of last) }
+    requires others { All (λ s. IsPickedSeat (queue_of last) (seat_of s)) others.items }
+    ensures closes { IfOk result (λ r. Closes (picked_permits_of (queue_of last))
         (map (λ s. known_of (seat_of s)) (others.items ++ last ∷ [])) r.0) }
-    ensures ends { IfOk result (λ r. Leaves (any_arena_of (queue_of last)) r.1 r.0) }
+    ensures ends { IfOk result (λ r. Leaves (picked_arena_of (queue_of last)) r.1 r.0) }
     ensures raced { IfErr result (λ refusal. refusal ≡ Trouble.Raced) }
 {
     match last.close_with(room, others) {

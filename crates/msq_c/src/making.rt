@@ -2,8 +2,9 @@
 ghost use Rattle.std.specs.Prelude.{◌≡◌, ◌≤◌, map, length, IfOk, IfErr, OnOk, OnErr, MatchBool};
 ghost use Rattle.std.specs.List.{All};
 ghost use Rattle.node_arena.specs.Plans.{Layout, IsPlanned};
-ghost use Rattle.node_arena.specs.Making.{plan};
 ghost use Rattle.msq_c.specs.Ends.{AreEmpty, IsMemory};
+ghost use Rattle.msq_c.specs.Made as made;
+ghost use Rattle.msq_c.specs.Made.{plan_for};
 ghost use Rattle.msq_c.specs.Made.{kind_number, role_number, IsRole, AreSizes, AreNoSizes};
 ghost use Rattle.msq_c.specs.Made.{Asks, IsOutOfRange, MayMake};
 ghost use Rattle.msq_c.specs.Made.{AreUnused, AreMade, AreAsked, ArePut, RefusesCreate};
@@ -12,10 +13,10 @@ ghost use Rattle.msq_c.specs.Own.{owned_in};
 use crate::handles::MsqSeat;
 use crate::own_seats::OwnSeat;
 use crate::troubles::Trouble;
-use any_queue::AnyQueue;
+use any_queue::{PickedQueue, bits_for};
 use history::{MOST_ACTOR, Refusal};
 use line_table::Kind;
-use node_arena::{MOST_COUNT, MOST_NODE, Role};
+use node_arena::{Role, most_count, most_node};
 use owned_seats::{OwnedSeat, deal};
 use std::alloc::Global;
 
@@ -68,10 +69,10 @@ fn are_roles(numbers: &[u8]) -> bool
 fn are_sizes(nodes: u32, limit: u64, seats: usize) -> bool
     ensures { MatchBool result (AreSizes nodes limit seats) (AreNoSizes nodes limit seats) }
 {
-    if nodes < 2 || nodes > MOST_NODE {
+    if nodes < 2 || nodes > most_node(32) {
         return false;
     }
-    if limit < 1 || limit > MOST_COUNT {
+    if limit < 1 || limit > most_count(16) {
         return false;
     }
     seats >= 1 && seats as u64 <= MOST_ACTOR
@@ -115,6 +116,13 @@ fn spacer_for(alloc: Global, nodes: u32) -> Result<Spacer, Trouble>
     }
 }
 
+// The greatest count of a queue of so many nodes, with this limit.
+fn count_for(nodes: u32, limit: u64) -> u64
+    ensures { result ≡ made.count_for nodes limit }
+{
+    limit.min(most_count(bits_for(nodes)))
+}
+
 // A new queue's seats, each with a share, and what lies between them and its words.
 fn seats_of(
     alloc: Global,
@@ -122,13 +130,14 @@ fn seats_of(
     nodes: u32,
     limit: u64,
     roles: &[Role],
-) -> Result<(Vec<OwnedSeat<AnyQueue>>, Spacer), Trouble>
-    requires { IsPlanned (plan 24 kind nodes limit roles.now) }
+) -> Result<(Vec<OwnedSeat<PickedQueue>>, Spacer), Trouble>
+    requires { IsPlanned (plan_for kind nodes limit roles.now) }
     ensures unused { IfOk result
-        (λ made. AreUnused (plan 24 kind nodes limit roles.now) made.0.items) }
+        (λ made. AreUnused (plan_for kind nodes limit roles.now) made.0.items) }
     ensures only_memory { IfErr result IsMemory }
 {
-    let Ok((queue, seats)) = AnyQueue::new(alloc, kind, nodes, limit, roles) else {
+    let count = count_for(nodes, limit);
+    let Ok((queue, seats)) = PickedQueue::with_limit(alloc, kind, nodes, count, roles) else {
         return Err(Trouble::Refused(Refusal::Memory));
     };
     let spacer = spacer_for(alloc, nodes)?;
@@ -141,7 +150,7 @@ fn seats_of(
 // Each seat in a block of its own.
 fn boxed(
     alloc: Global,
-    owned: Vec<OwnedSeat<AnyQueue>>,
+    owned: Vec<OwnedSeat<PickedQueue>>,
 ) -> Result<Vec<Box<OwnSeat, Global>>, Trouble>
     ensures boxes { IfOk result (λ boxes. map (λ b. owned_in b.value) boxes.items ≡ owned.items) }
     ensures only_memory { IfErr result IsMemory }
@@ -174,7 +183,7 @@ fn sealed(alloc: Global, boxes: Vec<Box<OwnSeat, Global>>) -> Result<Vec<MsqSeat
 }
 
 // Handles with the seats of a new queue.
-fn made(alloc: Global, owned: Vec<OwnedSeat<AnyQueue>>) -> Result<Vec<MsqSeat>, Trouble>
+fn made(alloc: Global, owned: Vec<OwnedSeat<PickedQueue>>) -> Result<Vec<MsqSeat>, Trouble>
     ensures made { (z : Layout) → AreUnused z owned.items → IfOk result (λ h. AreMade z h.items) }
     ensures only_memory { IfErr result IsMemory }
 {

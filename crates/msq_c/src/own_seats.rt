@@ -3,7 +3,7 @@ ghost use Rattle.std.specs.Prelude.{◌≡◌, ◌<◌, IfOk, IfErr, OnOk};
 ghost use Rattle.history.specs.Answers.{Pushed, PopAnswers, DidShut, Meets};
 
 use crate::troubles::Trouble;
-use any_queue::AnyQueue;
+use any_queue::PickedQueue;
 use history::{Body, Taken};
 use owned_seats::{EndRoom, OwnedSeat};
 use std::alloc::Global;
@@ -15,7 +15,7 @@ const APART: usize = 16;
 /// A seat of a queue of either kind, with its share of the queue.
 #[derive(Drop)]
 pub struct OwnSeat {
-    owned: OwnedSeat<AnyQueue>,
+    owned: OwnedSeat<PickedQueue>,
     apart: [u64; APART],
 }
 
@@ -24,7 +24,7 @@ impl OwnSeat {
     ghost use Rattle.msq_c.specs.Own.{RefusesPush, RefusesPop, RefusesShut};
     ghost use Rattle.msq_c.specs.Ends.{HasAnyRoom, IsMemory};
 
-    pub(crate) fn new(owned: OwnedSeat<AnyQueue>) -> OwnSeat
+    pub(crate) fn new(owned: OwnedSeat<PickedQueue>) -> OwnSeat
         ensures { owned_in result ≡ owned }
     {
         OwnSeat {
@@ -33,7 +33,7 @@ impl OwnSeat {
         }
     }
 
-    pub(crate) fn into_owned(self) -> OwnedSeat<AnyQueue>
+    pub(crate) fn into_owned(self) -> OwnedSeat<PickedQueue>
         ensures { result ≡ owned_in self }
     {
         let OwnSeat { owned, apart: _ } = self;
@@ -115,7 +115,7 @@ impl OwnSeat {
         self.owned.meet(&mut other.owned)
     }
 
-    pub(crate) fn room(&self, alloc: Global, others: usize) -> Result<EndRoom<AnyQueue>, Trouble>
+    pub(crate) fn room(&self, alloc: Global, others: usize) -> Result<EndRoom<PickedQueue>, Trouble>
         ensures room { IfOk result (HasAnyRoom (queue_in self.now) others) }
         ensures only_memory { IfErr result IsMemory }
     {

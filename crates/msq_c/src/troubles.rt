@@ -1,8 +1,9 @@
 //! Why a call of the library is refused, and its code.
 ghost use Rattle.std.specs.Prelude.{◌≡◌};
-ghost use Rattle.msq_c.specs.Codes.{fault_number, code_of, done_code};
+ghost use Rattle.msq_c.specs.Codes as codes;
+ghost use Rattle.msq_c.specs.Codes.{code_of, done_code};
 
-use history::Refusal;
+use history::{Refusal, WornWord};
 
 /// The code of a pop that found the queue empty.
 pub(crate) const EMPTY: u32 = 32;
@@ -24,13 +25,25 @@ pub enum Trouble {
     Raced,
 }
 
-// The number of a refusal.
-fn number_of(refusal: Refusal) -> u32
-    ensures { result ≡ fault_number refusal }
+// The code of a word that is worn out: push again at that of a node's own next, and no more at the others.
+fn worn_code(word: WornWord) -> u32
+    ensures { result ≡ codes.worn_code word }
+{
+    match word {
+        WornWord::Free => 2,
+        WornWord::Next => 37,
+        WornWord::Tail => 38,
+        WornWord::Head => 39,
+    }
+}
+
+// The code of a refusal.
+fn refusal_code(refusal: Refusal) -> u32
+    ensures { result ≡ codes.refusal_code refusal }
 {
     match refusal {
         Refusal::NoNode => 1,
-        Refusal::WornOut(_) => 2,
+        Refusal::WornOut(word) => worn_code(word),
         Refusal::Busy => 3,
         Refusal::Memory => 4,
         Refusal::BadSize => 5,
@@ -54,7 +67,7 @@ impl Trouble {
         ensures { result ≡ code_of self }
     {
         match self {
-            Trouble::Refused(refusal) => number_of(refusal),
+            Trouble::Refused(refusal) => refusal_code(refusal),
             Trouble::BadSize => 5,
             Trouble::NoHandle => 33,
             Trouble::NoRole => 34,

@@ -63,13 +63,26 @@ pub enum Kind {
     TwoLock,
 }
 
+/// A word whose count is at its limit.
+#[derive(Clone, Copy, Debug, PartialEq, Eq)]
+pub enum WornWord {
+    /// No node is taken from the free list any more: of a push.
+    Free,
+    /// The node was set aside: push again, by another one.
+    Next,
+    /// No push and no shut comes any more: of the non-blocking queue.
+    Tail,
+    /// No pop comes any more: of the two-lock queue.
+    Head,
+}
+
 /// Why a call is refused; the queue is then as if the call had not been.
 #[derive(Clone, Copy, Debug, PartialEq, Eq)]
 pub enum Refusal {
     /// A push: all nodes were in use.
     NoNode,
-    /// A count is at its limit, and the call can't be made any more.
-    WornOut,
+    /// The count of this word is at its limit.
+    WornOut(WornWord),
     /// Others were in the way in each of the turns: call again.
     Busy,
     /// No memory.
@@ -84,7 +97,10 @@ impl fmt::Display for Refusal {
     fn fmt(&self, f: &mut fmt::Formatter<'_>) -> fmt::Result {
         f.write_str(match self {
             Refusal::NoNode => "all nodes were in use",
-            Refusal::WornOut => "a count is at its limit",
+            Refusal::WornOut(WornWord::Free) => "the count of the free list is at its limit",
+            Refusal::WornOut(WornWord::Next) => "the count of a node is at its limit",
+            Refusal::WornOut(WornWord::Tail) => "the count of the tail is at its limit",
+            Refusal::WornOut(WornWord::Head) => "the count of the head is at its limit",
             Refusal::Busy => "others were in the way",
             Refusal::Memory => "no memory",
             Refusal::BadSize => "a number is out of its range",
@@ -100,7 +116,10 @@ fn answer(code: u32) -> Result<(), Refusal> {
     match code {
         raw::OK => Ok(()),
         raw::NO_NODE => Err(Refusal::NoNode),
-        raw::WORN_OUT => Err(Refusal::WornOut),
+        raw::WORN_FREE => Err(Refusal::WornOut(WornWord::Free)),
+        raw::WORN_NEXT => Err(Refusal::WornOut(WornWord::Next)),
+        raw::WORN_TAIL => Err(Refusal::WornOut(WornWord::Tail)),
+        raw::WORN_HEAD => Err(Refusal::WornOut(WornWord::Head)),
         raw::BUSY => Err(Refusal::Busy),
         raw::MEMORY => Err(Refusal::Memory),
         raw::BAD_SIZE => Err(Refusal::BadSize),
@@ -145,7 +164,7 @@ pub struct Receiver {
 }
 
 /// A queue with so many nodes, from 2 on, and so many seats that push and that pop. There is room for one value less than
-/// there are nodes, and each seat may keep one node.
+/// there are nodes, and each seat may keep one node. The fewer nodes, the longer it lasts: see docs/QUEUES.md.
 pub fn queue(
     kind: Kind,
     nodes: u32,

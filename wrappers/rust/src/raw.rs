@@ -2,18 +2,21 @@
 
 pub const OK: u32 = 0;
 pub const NO_NODE: u32 = 1;
-pub const WORN_OUT: u32 = 2;
+pub const WORN_FREE: u32 = 2;
 pub const BUSY: u32 = 3;
 pub const MEMORY: u32 = 4;
 pub const BAD_SIZE: u32 = 5;
 pub const CLOSED: u32 = 16;
 pub const EMPTY: u32 = 32;
+pub const WORN_NEXT: u32 = 37;
+pub const WORN_TAIL: u32 = 38;
+pub const WORN_HEAD: u32 = 39;
 
 pub const NON_BLOCKING: u32 = 0;
 pub const TWO_LOCK: u32 = 1;
 pub const GIVER: u8 = 1;
 pub const TAKER: u8 = 2;
-pub const MOST_COUNT: u64 = (1 << 40) - 1;
+pub const MOST_COUNT: u64 = (1 << 48) - 1;
 
 #[repr(C)]
 pub struct Seat {

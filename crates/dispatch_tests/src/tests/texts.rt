@@ -1,6 +1,6 @@
 //! Texts of jobs that are done over both queues, from any source to any sink.
 use super::queues::KINDS;
-use any_queue::AnyQueue;
+use any_queue::{AnyQueue, AnyQueueOf};
 use history::Refusal;
 use job_engine::work_text;
 use line_table::Kind;
@@ -47,8 +47,8 @@ const HEAD: usize = 2;
 // Which kind of queue this is, and how many values were taken from it: the count of its Head.
 fn taken(queue: &AnyQueue) -> (Kind, Option<u64>) {
     let (kind, head) = match queue {
-        AnyQueue::NonBlocking(queue) => (Kind::NonBlocking, queue.peek(HEAD)),
-        AnyQueue::TwoLock(queue) => (Kind::TwoLock, queue.peek(HEAD)),
+        AnyQueueOf::NonBlocking(queue) => (Kind::NonBlocking, queue.peek(HEAD)),
+        AnyQueueOf::TwoLock(queue) => (Kind::TwoLock, queue.peek(HEAD)),
     };
     (kind, head.map(|word| word >> 24))
 }

@@ -3,8 +3,7 @@ ghost use Rattle.std.specs.Prelude.{◌≡◌, IfOk};
 ghost use Rattle.std.specs.List.{All};
 ghost use Rattle.seat_tests.specs.Owned.{IsOwn};
 
-use any_queue::AnyQueue;
-use counted_ref::MOST_COUNT;
+use any_queue::PickedQueue;
 use history::{Body, Refusal, Taken};
 use line_table::Kind;
 use node_arena::Role;
@@ -19,8 +18,8 @@ const MOST: u64 = 1000;
 /// More turns than the other thread can be in the way.
 const TURNS: u32 = 1_000_000;
 
-/// A seat that holds a queue of either kind.
-pub type Own = OwnedSeat<AnyQueue>;
+/// A seat that holds a queue of either kind, of a picked split.
+pub type Own = OwnedSeat<PickedQueue>;
 
 /// What a thread popped: how many values, and whether the bodies of each pusher rose.
 #[derive(Clone, Copy, Debug, PartialEq, Eq)]
@@ -47,7 +46,7 @@ pub fn owned_of(alloc: Global, kind: Kind) -> Result<Vec<Own>, Refusal>
     ensures { IfOk result (λ owned. All IsOwn owned.items) }
 {
     let roles = [Role::Both, Role::Both];
-    let (queue, seats) = AnyQueue::new(alloc, kind, 64, MOST_COUNT, &roles)?;
+    let (queue, seats) = PickedQueue::new(alloc, kind, 64, &roles)?;
     deal(alloc, queue, seats)
 }
 

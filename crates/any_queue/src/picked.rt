@@ -1,0 +1,207 @@
+//! The queue of a picked split: each call is that of the queue within.
+ghost use Rattle.std.specs.Prelude.{◌≡◌, IfOk, IfErr, OnOk};
+ghost use Rattle.line_table.specs.declared.lines.Kind.{Kind};
+ghost use Rattle.node_arena.specs.Making.{IsMade, NewRefused};
+ghost use Rattle.node_arena.specs.Plans.{permits_by, IsPlanned};
+ghost use Rattle.node_arena.specs.Seats.{known_of};
+ghost use Rattle.history.specs.Openings.{AreNew};
+ghost use Rattle.any_queue.specs.Splits.{limited_plan, picked_plan};
+
+use crate::any::AnyQueueOf;
+use crate::splits::bits_for;
+use counted_ref::most_count;
+use history::{Body, Close, Fifo, Refusal, Rest, Taken};
+use line_table::Kind;
+use node_arena::{Ended, Role, Seat};
+use std::alloc::Global;
+
+/// A queue of either kind whose split is picked by its nodes, so that it lasts as long as one of so many nodes can. Threads
+/// share it by reference, each with a seat of its own.
+#[derive(Drop)]
+pub enum PickedQueue {
+    /// Of up to 65,534 nodes.
+    Bits16(AnyQueueOf<16>),
+    /// Of up to 1,048,574 nodes.
+    Bits20(AnyQueueOf<20>),
+    /// Of up to 16,777,214 nodes.
+    Bits24(AnyQueueOf<24>),
+    /// Of up to 268,435,454 nodes.
+    Bits28(AnyQueueOf<28>),
+    /// Of up to 4,294,967,294 nodes.
+    Bits32(AnyQueueOf<32>),
+}
+
+// A call of the queue within, whichever its split.
+macro_rules! within {
+    ($whole:ident, $queue:ident => $call:expr) => {
+        match $whole {
+            PickedQueue::Bits16($queue) => $call,
+            PickedQueue::Bits20($queue) => $call,
+            PickedQueue::Bits24($queue) => $call,
+            PickedQueue::Bits28($queue) => $call,
+            PickedQueue::Bits32($queue) => $call,
+        }
+    };
+}
+
+impl PickedQueue {
+    ghost use Rattle.std.specs.Prelude.{map};
+    ghost use Rattle.std.specs.List.{All};
+    ghost use Rattle.any_queue.specs.Picked.{picked_arena_of, picked_permits_of, IsPickedSeat};
+
+    /// A queue of this kind, with so many nodes, from 2 to 4,294,967,294, and a seat for each role, 1 to 65,535 of them, in
+    /// their order. Its split is that of `bits_for(nodes)`, its greatest count the greatest one of that split.
+    ///
+    /// Refusals: `BadSize` where one of them is out of its range, else `Memory`. Takes memory for two words a node, the
+    /// seats and their roles, and doesn't wait.
+    ///
+    /// ```rust
+    /// let (queue, seats) = PickedQueue::new(alloc, Kind::TwoLock, 1024, &[Role::Both])?;
+    /// ```
+    pub fn new(
+        alloc: Global,
+        kind: Kind,
+        nodes: u32,
+        roles: &[Role],
+    ) -> Result<(PickedQueue, Vec<Seat>), Refusal>
+        //= library/picked (ok, permits, seats, unused, sized, refused): A queue of a picked split meets `Fifo`, and
+        //=   `Close`; a new one is of the kind and nodes asked for, of the split for these and its greatest count, or of a
+        //=   limit by hand; its seats may do what the roles say and are unused, and its refusals have their causes.
+        ensures ok { IfOk result
+            (λ r. IsMade (picked_plan kind nodes roles.now) (picked_arena_of r.0) r.1.items) }
+        ensures permits { IfOk result (λ r. picked_permits_of r.0 ≡ permits_by roles.now) }
+        ensures seats { IfOk result (λ r. All (IsPickedSeat r.0) r.1.items) }
+        ensures unused { IfOk result (λ r. AreNew (picked_permits_of r.0) (map known_of r.1.items)) }
+        ensures sized { OnOk result (IsPlanned (picked_plan kind nodes roles.now)) }
+        ensures refused { IfErr result (NewRefused (picked_plan kind nodes roles.now)) }
+    {
+        PickedQueue::with_limit(alloc, kind, nodes, most_count(bits_for(nodes)), roles)
+    }
+
+    /// As `new`, with a greatest count of your own, from 1 to the greatest one of the split: for tests, as a smaller one only
+    /// brings `WornOut` sooner.
+    ///
+    /// ```rust
+    /// let (queue, seats) = PickedQueue::with_limit(alloc, Kind::TwoLock, 4, 3, &[Role::Both])?;
+    /// ```
+    pub fn with_limit(
+        alloc: Global,
+        kind: Kind,
+        nodes: u32,
+        limit: u64,
+        roles: &[Role],
+    ) -> Result<(PickedQueue, Vec<Seat>), Refusal>
+        //= library/picked (ok, permits, seats, unused, sized, refused)
+        ensures ok { IfOk result
+            (λ r. IsMade (limited_plan kind nodes limit roles.now) (picked_arena_of r.0) r.1.items) }
+        ensures permits { IfOk result (λ r. picked_permits_of r.0 ≡ permits_by roles.now) }
+        ensures seats { IfOk result (λ r. All (IsPickedSeat r.0) r.1.items) }
+        ensures unused { IfOk result (λ r. AreNew (picked_permits_of r.0) (map known_of r.1.items)) }
+        ensures sized { OnOk result (IsPlanned (limited_plan kind nodes limit roles.now)) }
+        ensures refused { IfErr result (NewRefused (limited_plan kind nodes limit roles.now)) }
+    {
+        match bits_for(nodes) {
+            16 => {
+                let (queue, seats) = AnyQueueOf::<16>::new(alloc, kind, nodes, limit, roles)?;
+                Ok((PickedQueue::Bits16(queue), seats))
+            }
+            20 => {
+                let (queue, seats) = AnyQueueOf::<20>::new(alloc, kind, nodes, limit, roles)?;
+                Ok((PickedQueue::Bits20(queue), seats))
+            }
+            24 => {
+                let (queue, seats) = AnyQueueOf::<24>::new(alloc, kind, nodes, limit, roles)?;
+                Ok((PickedQueue::Bits24(queue), seats))
+            }
+            28 => {
+                let (queue, seats) = AnyQueueOf::<28>::new(alloc, kind, nodes, limit, roles)?;
+                Ok((PickedQueue::Bits28(queue), seats))
+            }
+            _ => {
+                let (queue, seats) = AnyQueueOf::<32>::new(alloc, kind, nodes, limit, roles)?;
+                Ok((PickedQueue::Bits32(queue), seats))
+            }
+        }
+    }
+}
+
+//= library/picked
+impl Fifo for PickedQueue {
+    ghost use Rattle.std.specs.Prelude.{map};
+    ghost use Rattle.std.specs.List.{All};
+    ghost use Rattle.node_arena.specs.Seats.{view};
+    ghost use Rattle.node_arena.proofs.Seens.{sound_of};
+    ghost use Rattle.node_arena.proofs.OneProof.{IsReady-prop};
+    ghost use Rattle.history.specs.Closing.{Closes};
+    ghost use Rattle.any_queue.specs.Picked.{picked_arena_of, picked_permits_of, IsPickedSeat};
+    ghost use Rattle.any_queue.specs.Picked.{PickedPushRefused, PickedPopRefused, PickedShutRefused};
+
+    type Seat = Seat;
+
+    ghost is_seat = { IsPickedSeat };
+
+    ghost permits = { picked_permits_of };
+
+    ghost known = { known_of };
+
+    ghost push_cause = { PickedPushRefused };
+
+    ghost pop_cause = { PickedPopRefused };
+
+    ghost shut_cause = { PickedShutRefused };
+
+    ghost sound = { λ q s h. sound_of (picked_arena_of q).plan (view s) h.seat.sits.fitted };
+
+    ghost seat_prop = { λ q s. IsReady-prop (picked_arena_of q) s };
+
+    fn try_push(&self, seat: &mut Seat, body: Body, turns: u32) -> Result<(), Refusal> {
+        within!(self, queue => queue.try_push(seat, body, turns))
+    }
+
+    fn try_pop(&self, seat: &mut Seat, turns: u32) -> Result<Option<Taken>, Refusal> {
+        within!(self, queue => queue.try_pop(seat, turns))
+    }
+
+    fn try_shut(&self, seat: &mut Seat, turns: u32) -> Result<(), Refusal> {
+        within!(self, queue => queue.try_shut(seat, turns))
+    }
+
+    fn meet(&self, one: &mut Seat, other: &mut Seat) {
+        within!(self, queue => queue.meet(one, other))
+    }
+
+    fn may_push(&self, seat: &Seat) -> bool {
+        within!(self, queue => queue.may_push(seat))
+    }
+
+    fn may_pop(&self, seat: &Seat) -> bool {
+        within!(self, queue => queue.may_pop(seat))
+    }
+}
+
+impl Close for PickedQueue {
+    ghost use Rattle.std.specs.Prelude.{map};
+    ghost use Rattle.std.specs.List.{All};
+    ghost use Rattle.history.specs.Closing.{Closes};
+    ghost use Rattle.node_arena.specs.Ended.{HasRoomFor, Leaves};
+    ghost use Rattle.any_queue.specs.Picked.{picked_arena_of, picked_permits_of, IsPickedSeat};
+
+    type End = Ended;
+
+    ghost ends = { λ q. Leaves (picked_arena_of q) };
+
+    ghost has_room = { λ q. HasRoomFor (picked_arena_of q) };
+
+    fn room(&self, alloc: Global) -> Result<Vec<Taken>, Refusal> {
+        within!(self, queue => queue.room(alloc))
+    }
+
+    fn close_with(self, room: Vec<Taken>, seats: Vec<Seat>) -> (Rest, Ended)
+        requires room { HasRoomFor (picked_arena_of self) room }
+        requires seats { All (IsPickedSeat self) seats.items }
+        ensures rest { Closes (picked_permits_of self) (map known_of seats.items) result.0 }
+        ensures ends { Leaves (picked_arena_of self) result.1 result.0 }
+    {
+        within!(self, queue => queue.close_with(room, seats))
+    }
+}
