@@ -1,7 +1,7 @@
 -- What an order of a history has before the queue is shut and behind that.
-use Rattle.std.proofs.Common.{◌≡◌, ◌⊎◌, inl, inr, ℕ, ◌+◌, ◌-◌, ◌≤◌, ◌<◌, Bool, true, false, ◌&&◌, nat_le, nat_lt, Option, None, Some, IfSome, List, [], ◌∷◌, ◌++◌, refl, sym, ap, ◌∙◌, subst, arith}
+use Rattle.std.proofs.Common.{◌≡◌, inl, inr, append_assoc, ℕ, ◌+◌, ◌≤◌, ◌<◌, Bool, true, false, ◌&&◌, nat_le, Option, None, Some, IfSome, List, [], ◌∷◌, ◌++◌, refl, sym, ap, ◌∙◌, subst, arith}
 use Rattle.std.specs.List.{sum_by, AllByRecursion}
-use Rattle.std.proofs.lemmas.Bool.{leb-true, leb-false, ltb-true, ltb-false, le-leb, lt-ltb}
+use Rattle.std.proofs.lemmas.Bool.{leb-true, leb-false, le-leb, lt-ltb}
 use Rattle.std.proofs.lemmas.List.Sums.{sum_by-cons, sum_by-append}
 use Rattle.history.specs.declared.operations.Op.{Op}
 use Rattle.history.specs.declared.operations.Op.TheVariants.{Enq, Deq, Shut}
@@ -10,18 +10,18 @@ use Rattle.history.specs.declared.operations.Reply.{Reply}
 use Rattle.history.specs.declared.operations.Reply.TheVariants.{Done, Value, Empty, Refused}
 use Rattle.history.specs.declared.operations.Stamped.{Stamped}
 use Rattle.history.specs.declared.refusals.Refusal.{Refusal}
-use Rattle.history.specs.declared.refusals.Refusal.TheVariants.{NoNode, WornOut, Busy, Closed}
+use Rattle.history.specs.declared.refusals.Refusal.TheVariants.{Closed}
 use Rattle.history.specs.Queue.{Queue, empty, response}
 use Rattle.history.specs.History.{leaves, is_closed, AgreesWithQueue, answer}
-use Rattle.history.specs.Linearizability.{Answered, operations_of, IsPending, GivesRecordedReply, IsRun}
+use Rattle.history.specs.Linearizability.{Answered, operations_of, GivesRecordedReply, IsRun}
 use Rattle.history.specs.Tallies.{is_not_refused}
 use Rattle.placing.specs.Calls.{IsCall}
-use Rattle.placing.specs.Kinds.{Kind, is_push_in, ended_before, is_told_shut, is_done_shut, shows_shut, is_shut_call, pushes_ended_before}
+use Rattle.placing.specs.Kinds.{Kind, is_push_in, ended_before, is_done_shut, shows_shut, is_shut_call, pushes_ended_before}
 use Rattle.placing.specs.Reasons.{StandsAt}
-use Rattle.placing.proofs.Runs.{one_if, pushed_in, after_run, run_parts}
+use Rattle.placing.proofs.Runs.{one_if, pushed_in, after_run, after_parts, run_parts}
 use Rattle.placing.proofs.Sooner.{pushed_at_most}
 use Rattle.placing.proofs.Parting.{sum_parted, sum_ordered, sum_zero, sum_at_most, sum_at_least, BeganBy, MayFollow, parted_have, times_parted}
-use Rattle.placing.proofs.Staying.{EndedFrom, and_false, not_before, pending_ended, push_ended_before, all_ended_at_most, none_ended, IsOrder, first_part, last_part, front_calls}
+use Rattle.placing.proofs.Staying.{EndedFrom, and_false, not_before, pending_ended, push_ended_before, all_ended_at_most, none_ended, IsOrder, first_part}
 use Rattle.placing.proofs.Keeping.{counts_at, both}
 
 -- ---- one operation
@@ -154,6 +154,28 @@ began_by_shut ops other time evidence stands shows ended xs a ys left o shut = g
         let is : (after_run empty xs).shut ≡ true = shut_after a.operation.first empty xs (run_parts empty xs (a ∷ ys) o.runs).0 (first_part GivesRecordedReply xs (a ∷ ys) o.told) (omega (arith, counts, one, all, parts, here, behind, out)) in
         absurd (let x : true ≡ false = sym is ∙ shut in cc)
 
+-- where a queue isn't shut after some operations, it isn't before them
+open_before : (zs xs : List Answered) → (after_run empty (zs ++ xs)).shut ≡ false → (after_run empty zs).shut ≡ false
+open_before zs xs h = go (after_run empty zs).shut refl
+  where
+    go : (b : Bool) → (after_run empty zs).shut ≡ b → (after_run empty zs).shut ≡ false
+    go false e = e
+    go true e =
+        let still : (after_run (after_run empty zs) xs).shut ≡ true = run_still_shut (after_run empty zs) xs e in
+        let is : (after_run empty (zs ++ xs)).shut ≡ true = ap (λ (q : Queue). q.shut) (after_parts empty zs xs) ∙ still in
+        absurd (let x : true ≡ false = sym is ∙ h in cc)
+
+-- so each before it in the order began by then too
+pub all_began_by_shut : (ops : List Stamped) (other time : ℕ) (evidence : Stamped) → StandsAt ops other evidence → shows_shut evidence.reply evidence.op ≡ true → evidence.last ≡ Some time
+    → (zs xs ys : List Answered) (left : List Stamped) → IsOrder ops (zs ++ (xs ++ ys)) left → (after_run empty (zs ++ xs)).shut ≡ false → BeganBy time (operations_of xs)
+all_began_by_shut ops other time evidence stands shows ended zs [] ys left o shut = tt
+all_began_by_shut ops other time evidence stands shows ended zs (x ∷ rest) ys left o shut = (
+  began_by_shut ops other time evidence stands shows ended zs x (rest ++ ys) left o (open_before zs (x ∷ rest) shut),
+  all_began_by_shut ops other time evidence stands shows ended (zs ++ x ∷ []) rest ys left
+      (subst (λ order. IsOrder ops order left) (sym (append_assoc zs (x ∷ []) (rest ++ ys))) o)
+      (subst (λ order. (after_run empty order).shut ≡ false) (sym (append_assoc zs (x ∷ []) rest)) shut),
+)
+
 -- ---- shuts that are done
 
 abbrev pub done_shut : Stamped → ℕ
@@ -274,7 +296,7 @@ no_push kind queue o (Value v) s h = no_push_given kind o o.op queue.values queu
 no_push kind queue o Empty s h = no_push_given kind o o.op queue.values queue.shut Empty s h
 
 -- nothing is pushed once the queue is shut
-none_pushed : (kind : Kind) (queue : Queue) (xs : List Answered) → IsRun queue xs → queue.shut ≡ true → sum_by (pushed_in kind) xs ≡ 0
+pub none_pushed : (kind : Kind) (queue : Queue) (xs : List Answered) → IsRun queue xs → queue.shut ≡ true → sum_by (pushed_in kind) xs ≡ 0
 none_pushed kind queue [] r s = refl
 none_pushed kind queue (a ∷ rest) r s =
     let k = none_pushed kind (answer queue a.operation (Some a.reply)).after rest r.1 (still_shut queue a.operation a.reply s) in

@@ -4,7 +4,7 @@ use Rattle.std.specs.Prelude.{IsNone, IsSomeAnd}
 use Rattle.std.specs.List.{sum_by, AllByRecursion}
 use Rattle.std.proofs.lemmas.Bool.{leb-true, leb-false, ltb-true, ltb-false}
 use Rattle.std.proofs.lemmas.List.{append-nil}
-use Rattle.std.proofs.lemmas.List.Sums.{sum_by-cons, sum_by-append}
+use Rattle.std.proofs.lemmas.List.Sums.{sum_by-append}
 use Rattle.std.proofs.lemmas.List.Elements.{All-contains, recursion_from_All}
 use Rattle.history.specs.declared.operations.Op.{Op}
 use Rattle.history.specs.declared.operations.Op.TheVariants.{Enq, Deq, Shut}
@@ -17,20 +17,20 @@ use Rattle.history.specs.declared.refusals.Refusal.{Refusal}
 use Rattle.history.specs.declared.refusals.Refusal.TheVariants.{Closed}
 use Rattle.history.specs.History.{leaves, is_closed, may_refuse, AgreesWithQueue}
 use Rattle.history.specs.Linearizability.{Answered, operations_of, IsPending, GivesRecordedReply, IsRun}
-use Rattle.history.specs.Tallies.{is_not_refused}
 use Rattle.placing.specs.declared.answers.Held.{Held}
 use Rattle.placing.specs.declared.answers.Span.{Span}
 use Rattle.placing.specs.declared.answers.Reason.{Reason}
 use Rattle.placing.specs.declared.answers.Reason.TheVariants.{Shape, Span as Spans, Reply as Replies, Sooner, Order, Full, Late, Twice, Unshut, Undrained}
 use Rattle.placing.specs.Calls.{IsCall, IsOfQueue}
 use Rattle.placing.specs.Kinds.{Kind, same_value, is_told_in, is_push_in, pushes_in, ended_by, pushes_begun_before}
-use Rattle.placing.specs.Reasons.{StandsAt, IsMisshapen, EndsTooSoon, may_be_told, IsToldAmiss, IsSooner, IsHeld, IsOutOfOrder, Cover, IsFull, IsReason}
+use Rattle.placing.specs.Reasons.{StandsAt, IsMisshapen, EndsTooSoon, may_be_told, IsToldAmiss, IsSooner, IsHeld, IsOutOfOrder, Cover, IsOpenUntil, IsFull, IsReason}
 use Rattle.placing.proofs.Runs.{one_if, taken_in, pushed_in, copies, same_itself, after_run, run_balance, run_parts, after_parts, step_taken, goes_before}
 use Rattle.placing.proofs.Sooner.{take_ended_by, push_begun_by, ended_begun, pushed_at_most}
-use Rattle.placing.proofs.Parting.{PartsAt, parts_at, parted_have, sum_parted, sum_ordered, sum_zero, BeganBy, MayFollow, times_parted, latest_start}
+use Rattle.placing.proofs.Parting.{parted_have, sum_parted, sum_ordered, sum_zero, BeganBy, MayFollow, times_parted, latest_start}
 use Rattle.placing.proofs.Staying.{EndedFrom, and_false, take_begun_after, IsOrder, is_order, Stays, pushed_before, fewer_taken, last_part}
 use Rattle.placing.proofs.Keeping.{contained, both, held_stays}
-use Rattle.placing.proofs.Standing.{Standing, stands_in, told_not_pending, given_there, given_told, FirstPush, first_push}
+use Rattle.placing.proofs.Standing.{Standing, stands_in, told_not_pending, given_there, given_told, first_push}
+use Rattle.placing.proofs.BeforeShut.{given_empty, began_by_shut, all_began_by_shut}
 use Rattle.placing.proofs.NotShut.{not_late, not_twice, not_unshut, not_undrained}
 
 -- ---- an operation is no call
@@ -163,6 +163,22 @@ full_there ops o from until time kind t e stays b c began ended later =
     ended_sooner None k = tt
     ended_sooner (Some last) k = omega arith
 
+-- what was told that the queue is empty stands in an order before the queue is shown to be shut
+open_there : (ops : List Stamped) (o : Stamped) (t : Standing ops o) → o.reply ≡ Some Empty → (after_run empty t.before).shut ≡ false
+open_there ops o t e =
+    let queue : Queue = after_run empty t.before in
+    given_empty t.here.operation.actor t.here.operation.op queue.values queue.shut
+    (subst (λ r. AgreesWithQueue queue t.here.operation (Some r)) (given_told ops o t Empty e) (given_there ops o t))
+
+-- those before it, and it, began by the time by which the queue isn't shut
+began_while_open : (ops : List Stamped) (o : Stamped) (t : Standing ops o) (last time : ℕ) → o.reply ≡ Some Empty → t.here.operation.first ≤ last → BeganBy last (operations_of t.before)
+    → IsOpenUntil ops last time → (t.here.operation.first ≤ time) × BeganBy time (operations_of t.before)
+began_while_open ops o t last time e began all (inl same) = (subst (λ n. t.here.operation.first ≤ n) (sym same) began, subst (λ n. BeganBy n (operations_of t.before)) (sym same) all)
+began_while_open ops o t last time e began all (inr s) = (
+  began_by_shut ops s.place time s.evidence s.stands s.shut.shows s.shut.ended t.before t.here t.behind t.left t.order (open_there ops o t e),
+  all_began_by_shut ops s.place time s.evidence s.stands s.shut.shows s.shut.ended [] t.before (t.here ∷ t.behind) t.left t.order (open_there ops o t e),
+)
+
 not_full : (ops : List Stamped) (place : ℕ) (spans : List Span) → IsOfQueue ops → IsFull ops place spans → ⊥
 not_full ops place spans h s =
     let o = s.operation in
@@ -170,16 +186,19 @@ not_full ops place spans h s =
     let times = times_parted t.before t.here t.behind t.order.timely in
     let latest = latest_start t.here.operation (operations_of t.before) in
     let call : IsCall o = All-contains IsCall ops o h.calls (contained ops place o s.stands) in
-    let ends : o.first ≤ s.time = subst (λ l. IfSome l (λ last. o.first ≤ last)) s.ended call.spans in
-    let last : t.here.operation.last ≡ Some s.time = subst (λ p. p.last ≡ Some s.time) (sym t.same) s.ended in
+    let ends : o.first ≤ s.last = subst (λ l. IfSome l (λ last. o.first ≤ last)) s.ended call.spans in
+    let last : t.here.operation.last ≡ Some s.last = subst (λ p. p.last ≡ Some s.last) (sym t.same) s.ended in
     let first : t.here.operation.first ≡ o.first = ap (λ p. p.first) t.same in
-    let began : BeganBy s.time (operations_of t.before) = subst (λ l. IfSome l (λ last. BeganBy last (operations_of t.before))) last times.0 in
-    let in_time : latest.time ≤ s.time = latest.least s.time (subst (λ n. n ≤ s.time) (sym first) ends) began in
+    let began : BeganBy s.last (operations_of t.before) = subst (λ l. IfSome l (λ last. BeganBy last (operations_of t.before))) last times.0 in
+    let starts : t.here.operation.first ≤ s.last = subst (λ n. n ≤ s.last) (sym first) ends in
+    let by_last : latest.time ≤ s.last = latest.least s.last starts began in
+    let early = began_while_open ops o t s.last s.time s.told starts began s.until in
+    let in_time : latest.time ≤ s.time = latest.least s.time early.0 early.1 in
     let not_sooner : o.first ≤ latest.time = subst (λ n. n ≤ latest.time) first latest.began in
     let one = spanned (λ span. IsHeld ops span.first span.last span.held) o.first s.time latest.time spans s.cover not_sooner in_time (recursion_from_All (λ span. IsHeld ops span.first span.last span.held) spans s.each) in
     let stays = held_stays ops one.0.first one.0.last one.0.held one.3 in
     full_there ops o one.0.first one.0.last latest.time stays.0 t s.told stays.1 one.1 one.2 latest.others
-    (subst (λ l. IfSome l (λ last. latest.time ≤ last)) (sym last) in_time)
+    (subst (λ l. IfSome l (λ last. latest.time ≤ last)) (sym last) by_last)
     (follow_late one.0.first latest.time t.here.operation (operations_of t.before) (operations_of t.behind) one.1 latest.least times.1)
 
 -- ---- a value is taken before one that was pushed before it

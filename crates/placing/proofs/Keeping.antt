@@ -136,7 +136,7 @@ all_left_count ops time (p ∷ ps) h =
     ((o, p - 1, omega (arith, from_one), h.0.stands.there, omega (arith, one)), all_left_count ops time ps h.1)
 
 -- values that no pop was told stay, where they are more than the pending pops
-left_stays : (ops : List Stamped) (from until : ℕ) (places : List ℕ) → AreLeft ops from until places → Stays ops from until (left_in ops)
+pub left_stays : (ops : List Stamped) (from until : ℕ) (places : List ℕ) → AreLeft ops from until places → Stays ops from until (left_in ops)
 left_stays ops from until places h =
     let none = none_taken until ops in
     let pushed : length places ≤ pushes_ended_before from (left_in ops) ops =

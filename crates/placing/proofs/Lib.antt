@@ -7,5 +7,7 @@ mod Standing
 mod BeforeShut
 mod NotShut
 pub mod Excluding
+mod Ranks
+pub mod InOrder
 pub mod Spreads
 mod Pushed

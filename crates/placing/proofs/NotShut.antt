@@ -1,33 +1,31 @@
 -- A history with a reason about a shut isn't one of a queue.
-use Rattle.std.proofs.Common.{◌≡◌, ◌⊎◌, inl, inr, append_assoc, ℕ, ◌+◌, ◌-◌, ◌≤◌, ◌<◌, Bool, true, false, ◌&&◌, nat_le, nat_lt, Option, None, Some, IfSome, List, [], ◌∷◌, ◌++◌, refl, sym, ap, ◌∙◌, subst, arith}
-use Rattle.std.specs.Prelude.{IsTrue}
+use Rattle.std.proofs.Common.{◌≡◌, inl, inr, append_assoc, ℕ, ◌+◌, ◌-◌, ◌≤◌, ◌<◌, Bool, true, false, ◌&&◌, nat_le, nat_lt, Option, None, Some, IfSome, List, [], ◌∷◌, ◌++◌, refl, ap, ◌∙◌, subst, arith}
 use Rattle.std.specs.List.{sum_by, AllByRecursion}
-use Rattle.std.proofs.lemmas.Bool.{leb-true, leb-false, ltb-true, ltb-false, le-leb}
-use Rattle.std.proofs.lemmas.List.Sums.{sum_by-cons, sum_by-append}
+use Rattle.std.proofs.lemmas.Bool.{le-leb, lt-ltb}
+use Rattle.std.proofs.lemmas.List.Sums.{sum_by-cons}
 use Rattle.history.specs.declared.operations.Op.{Op}
 use Rattle.history.specs.declared.operations.Op.TheVariants.{Enq, Deq, Shut}
 use Rattle.history.specs.declared.operations.Taken.{Taken}
 use Rattle.history.specs.declared.operations.Reply.{Reply}
 use Rattle.history.specs.declared.operations.Reply.TheVariants.{Done, Value, Empty, Refused}
 use Rattle.history.specs.declared.operations.Stamped.{Stamped}
-use Rattle.history.specs.declared.refusals.Refusal.{Refusal}
 use Rattle.history.specs.declared.refusals.Refusal.TheVariants.{Closed}
 use Rattle.history.specs.Queue.{Queue, empty, response}
-use Rattle.history.specs.History.{is_closed, AgreesWithQueue}
-use Rattle.history.specs.Linearizability.{Answered, operations_of, IsPending, GivesRecordedReply, IsRun}
-use Rattle.history.specs.Tallies.{is_not_refused}
+use Rattle.history.specs.History.{AgreesWithQueue}
+use Rattle.history.specs.Linearizability.{Answered, operations_of, IsPending, GivesRecordedReply}
 use Rattle.placing.specs.declared.answers.Held.{Held}
+use Rattle.placing.specs.declared.answers.Held.TheVariants.{Value as OneValue, Left}
 use Rattle.placing.specs.Calls.{IsOfQueue}
-use Rattle.placing.specs.Kinds.{Kind, same_value, is_told_in, is_push_in, pushes_in, is_told_shut, shows_shut, is_done_or_empty, pushes_begun_by, shuts_begun_by}
-use Rattle.placing.specs.Reasons.{StandsAt, IsHeld}
-use Rattle.placing.specs.Reasons.{ShowsShut, IsTooLate, IsLate, IsTwice, IsUnshut, IsUndrained}
+use Rattle.placing.specs.Kinds.{Kind, same_value, is_told_in, is_push_in, pushes_in, is_told_shut, is_done_or_empty, pushes_begun_by, left_in}
+use Rattle.placing.specs.Reasons.{StandsAt}
+use Rattle.placing.specs.Reasons.{ShowsShut, IsTooLate, IsLate, IsTwice, IsUnshut, IsTakenBehind, IsThere, IsUndrained}
 use Rattle.placing.proofs.Runs.{one_if, taken_in, copies, pushed_in, after_run, run_balance, run_parts, step_taken, same_itself}
 use Rattle.placing.proofs.Sooner.{push_begun_by, pushed_at_most}
-use Rattle.placing.proofs.Parting.{sum_parted, sum_ordered, sum_zero, BeganBy, times_parted}
-use Rattle.placing.proofs.Staying.{and_false, IsOrder, is_order, last_part, fewer_taken, take_begun_after, Stays}
-use Rattle.placing.proofs.Keeping.{both, counts_at, rising_count, CountsOn, held_stays}
-use Rattle.placing.proofs.Standing.{Standing, stands_in, told_not_pending, given_there, given_told, FirstPush, first_push}
-use Rattle.placing.proofs.BeforeShut.{told_shut_there, given_refused, given_done, given_empty, began_by_shut, shuts_once, done_shut, shut_began, shut_begun_by, pushed_before_shut, no_push}
+use Rattle.placing.proofs.Parting.{sum_parted, sum_ordered, sum_zero, sum_at_most, BeganBy, times_parted}
+use Rattle.placing.proofs.Staying.{IsOrder, is_order, last_part, fewer_taken, take_begun_after, none_after, pending_after, all_after_at_most}
+use Rattle.placing.proofs.Keeping.{both, counts_at, rising_count, CountsOn, left_stays}
+use Rattle.placing.proofs.Standing.{Standing, stands_in, told_not_pending, given_there, given_told, first_push}
+use Rattle.placing.proofs.BeforeShut.{told_shut_there, given_refused, given_done, given_empty, began_by_shut, shuts_once, done_shut, shut_began, pushed_before_shut, none_pushed, no_push}
 
 -- ---- too late
 
@@ -171,20 +169,60 @@ closed_empty actor Shut values shut e h = absurd (cc e)
 closed_empty actor Deq [] shut e h = refl
 closed_empty actor Deq (front ∷ rest) shut e h = absurd (cc h)
 
-pub not_undrained : (ops : List Stamped) (place : ℕ) (held : Held) → IsOfQueue ops → IsUndrained ops place held → ⊥
-not_undrained ops place held h s =
-    let told = told_shut ops place s.operation h s.stands s.told in
-    let t = told.there in
+-- no take began after a pop ended that was told that the queue is shut
+none_behind : (ops : List Stamped) (o : Stamped) (t : Standing ops o) (until push take : ℕ) → (after_run empty t.before).shut ≡ true → ((kind : Kind) → copies kind (after_run empty t.before).values ≡ 0)
+    → ((kind : Kind) → is_told_in kind t.here.operation.reply ≡ false) → BeganBy until (operations_of t.before) → IsTakenBehind ops until push take → ⊥
+none_behind ops o t until push take shut none no_value began h =
+    let kind : Kind = same_value h.value in
     let queue : Queue = after_run empty t.before in
-    let stays = held_stays ops s.from s.until held s.stays in
-    let kind : Kind = stays.0 in
-    let shut : queue.shut ≡ true = given_refused t.here.operation.actor t.here.operation.op queue.values queue.shut told.refused in
-    let pops : t.here.operation.op ≡ Deq = ap (λ (p : Stamped). p.op) t.same ∙ s.pops in
-    let none : copies kind queue.values ≡ 0 = ap (copies kind) (closed_empty t.here.operation.actor t.here.operation.op queue.values queue.shut pops told.refused) in
-    let times = times_parted t.before t.here t.behind t.order.timely in
-    let began : BeganBy s.until (operations_of t.before) = subst (λ l. IfSome l (λ last. BeganBy last (operations_of t.before))) (ends_here ops s.operation t s.until s.ended) times.0 in
-    let z : take_begun_after s.until kind t.here.operation ≡ 0 = ap (λ b. one_if (b && nat_lt s.until t.here.operation.first)) (told.no_value kind) in
-    let fewer = fewer_taken s.from s.until kind ops t.before t.here t.behind t.left t.order began z stays.1 in
-    let pushed = pushed_before_shut s.from kind ops t.before t.here t.behind t.left t.order shut in
-    let balance = run_balance kind empty t.before (run_parts empty t.before (t.here ∷ t.behind) t.order.runs).0 in
-    omega (arith, none, fewer, pushed, balance)
+    let f : Stamped → ℕ = take_begun_after until kind in
+    let counts = counts_at f ops take h.taking h.take_stands in
+    let one : f h.taking ≡ 1 = both (is_told_in kind h.taking.reply) (nat_lt until h.taking.first) h.takes (lt-ltb _ _ h.after) in
+    let all : sum_by f ops ≡ sum_by f (operations_of (t.before ++ t.here ∷ t.behind)) + sum_by f t.left = sum_ordered f ops (t.before ++ t.here ∷ t.behind) t.left t.order.moved in
+    let parts = sum_parted f t.before t.here t.behind in
+    let sooner = sum_zero f (operations_of t.before) (none_after until kind (operations_of t.before) began) in
+    let here : f t.here.operation ≡ 0 = ap (λ b. one_if (b && nat_lt until t.here.operation.first)) (no_value kind) in
+    let out = sum_zero f t.left (pending_after until kind t.left t.order.pending) in
+    let told = last_part GivesRecordedReply t.before (t.here ∷ t.behind) t.order.told in
+    let behind = sum_at_most f (taken_in kind) t.behind (all_after_at_most until kind t.behind told.1) in
+    let taken = sum_by-cons (taken_in kind) t.here t.behind in
+    let runs = (run_parts empty t.before (t.here ∷ t.behind) t.order.runs).1 in
+    let balance = run_balance kind queue (t.here ∷ t.behind) runs in
+    let pushed = none_pushed kind queue (t.here ∷ t.behind) runs shut in
+    let nothing = none kind in
+    omega (arith, counts, one, all, parts, sooner, here, out, behind, taken, balance, pushed, nothing)
+
+pub not_undrained : (ops : List Stamped) (place : ℕ) (held : Held) → IsOfQueue ops → IsUndrained ops place held → ⊥
+not_undrained ops place held h s = go held s.stays
+  where
+    told : ToldShut ops s.operation
+    told = told_shut ops place s.operation h s.stands s.told
+
+    shut : (after_run empty told.there.before).shut ≡ true
+    shut =
+        let queue : Queue = after_run empty told.there.before in
+        given_refused told.there.here.operation.actor told.there.here.operation.op queue.values queue.shut told.refused
+
+    none : (kind : Kind) → copies kind (after_run empty told.there.before).values ≡ 0
+    none kind =
+        let queue : Queue = after_run empty told.there.before in
+        let pops : told.there.here.operation.op ≡ Deq = ap (λ (p : Stamped). p.op) told.there.same ∙ s.pops in
+        ap (copies kind) (closed_empty told.there.here.operation.actor told.there.here.operation.op queue.values queue.shut pops told.refused)
+
+    began : BeganBy s.until (operations_of told.there.before)
+    began =
+        let t = told.there in
+        let times = times_parted t.before t.here t.behind t.order.timely in
+        subst (λ l. IfSome l (λ last. BeganBy last (operations_of t.before))) (ends_here ops s.operation t s.until s.ended) times.0
+
+    go : (held : Held) → IsThere ops s.from s.until held → ⊥
+    go (OneValue push take) stays = none_behind ops s.operation told.there s.until push take shut none told.no_value began stays
+    go (Left places) left =
+        let t = told.there in
+        let kind : Kind = left_in ops in
+        let z : take_begun_after s.until kind t.here.operation ≡ 0 = ap (λ b. one_if (b && nat_lt s.until t.here.operation.first)) (told.no_value kind) in
+        let fewer = fewer_taken s.from s.until kind ops t.before t.here t.behind t.left t.order began z (left_stays ops s.from s.until places.items left) in
+        let pushed = pushed_before_shut s.from kind ops t.before t.here t.behind t.left t.order shut in
+        let balance = run_balance kind empty t.before (run_parts empty t.before (t.here ∷ t.behind) t.order.runs).0 in
+        let nothing = none kind in
+        omega (arith, nothing, fewer, pushed, balance)

@@ -1,10 +1,10 @@
 -- A history with spread stamps and points that is judged Yes shows the one that it was made of to be one of a queue.
-use Rattle.std.proofs.Common.{◌≡◌, inl, inr, ℕ, zero, suc, ◌+◌, ◌-◌, ◌*◌, ◌≤◌, ◌<◌, Bool, true, false, nat_le, Option, None, Some, IfSome, IsSome, List, [], ◌∷◌, ◌++◌, length, slice_get, get_or, slice_set, slice_index_or, refl, sym, ap, ◌∙◌, subst, arith}
-use Rattle.std.proofs.Math.Nat.{mul-le-mul_right}
+use Rattle.std.proofs.Common.{◌≡◌, inl, inr, ℕ, zero, suc, ◌≤◌, ◌<◌, Bool, true, false, nat_lt, Option, None, Some, IfSome, IsSome, List, [], ◌∷◌, ◌++◌, length, slice_set, slice_index_or, refl, sym, ap, ◌∙◌, subst, arith}
+use Rattle.std.specs.Prelude.{◌↔◌}
 use Rattle.std.specs.List.{AllByRecursion, AllZip, swap}
 use Rattle.std.specs.List.Sorted.{IsPermutation}
-use Rattle.std.proofs.lemmas.Bool.{leb-true, leb-false}
-use Rattle.std.proofs.lemmas.List.Elements.{AllZip-get_or, length_all_zip, All-from_recursion}
+use Rattle.std.proofs.lemmas.Bool.{ltb-true, ltb-false}
+use Rattle.std.proofs.lemmas.List.Elements.{AllZip-get_or, length_all_zip, All-from_recursion, recursion_from_All}
 use Rattle.std.proofs.lemmas.List.Sorted.{IsPermutation-refl, IsPermutation-trans, IsPermutation-swap, IsPermutation-keeps}
 use Rattle.history.specs.declared.operations.Reply.{Reply}
 use Rattle.history.specs.declared.operations.Reply.TheVariants.{Done, Value, Empty, Refused}
@@ -16,9 +16,8 @@ use Rattle.history.specs.Linearizability.{Answered, operations_of, IsPending, Gi
 use Rattle.history.proofs.Judging.{yes_is_right}
 use Rattle.history.proofs.Linearizing.{placed_linearizes}
 use Rattle.placing.specs.Calls.{IsCall, IsOfQueue}
-use Rattle.std.specs.List.Sorted.{IsStrictlyIncreasing}
-use Rattle.std.proofs.lemmas.Option.{slice_get_within, get_or_from_slice_get}
 use Rattle.placing.specs.Spreading.{EndsSo, IsStampedSo, IsKept, IsFirstOf, IsLastOf, IsSpread}
+use Rattle.placing.proofs.InOrder.{Orders, kept_orders, spread_orders}
 
 -- ---- lists that are related item by item
 
@@ -61,47 +60,29 @@ zip_parts R (u ∷ us) (x ∷ xs) ys h =
     let more = zip_parts R us xs ys h.1 in
     (u ∷ more.0, more.1, ap (λ r. u ∷ r) more.2, (h.0, more.3), more.4)
 
--- ---- numbers that rise
-
--- numbers that rise at each step rise over any number of them
-rises_over : (numbers : List ℕ) → IsStrictlyIncreasing numbers → (i more : ℕ) → i + more < length numbers → get_or numbers i 0 ≤ get_or numbers (i + more) 0
-rises_over numbers r i zero h = subst (λ j. get_or numbers i 0 ≤ get_or numbers j 0) (let e : i ≡ i + 0 = omega arith in e) (omega arith)
-rises_over numbers r i (suc more) h =
-    let k : get_or numbers i 0 ≤ get_or numbers (i + more) 0 = rises_over numbers r i more (omega arith) in
-    let e : i + more + 1 ≡ i + suc more = omega arith in
-    let j : get_or numbers (i + more) 0 < get_or numbers (i + more + 1) 0 = r (i + more) (omega arith) in
-    subst (λ n. get_or numbers i 0 ≤ get_or numbers n 0) e (omega arith)
-
-rises_to : (numbers : List ℕ) → IsStrictlyIncreasing numbers → (i j : ℕ) → i ≤ j → j < length numbers → get_or numbers i 0 ≤ get_or numbers j 0
-rises_to numbers r i j h k =
-    let e : i + (j - i) ≡ j = omega arith in
-    subst (λ n. get_or numbers i 0 ≤ get_or numbers n 0) e (rises_over numbers r i (j - i) (omega arith))
-
 -- ---- times
 
 -- what may be placed by stamps may by those that they were made of
 abbrev Keeps : (First Last : ℕ → ℕ → Type 0) → Type 0
 Keeps First Last = (first number n m : ℕ) → First first n → Last number m → n ≤ m → first ≤ number
 
-kept : Keeps IsKept IsKept
-kept first number n m a b h = omega (arith, a, b, h)
+-- a relation from the new one to the one it was made of
+abbrev Turned : {X : Type 0} → (X → X → Type 0) → X → X → Type 0
+Turned R y x = R x y
 
-spread_keeps : (numbers : List ℕ) (width : ℕ) → IsStrictlyIncreasing numbers → Keeps (IsFirstOf numbers width) (IsLastOf numbers width)
-spread_keeps numbers width r first number n m a b h = go (nat_le a.rank b.rank) refl
+ordered_keep : (First Last : ℕ → ℕ → Type 0) → Orders First Last → Keeps First Last
+ordered_keep First Last orders first number n m a b h = go (nat_lt number first) refl
   where
-    go : (w : Bool) → nat_le a.rank b.rank ≡ w → first ≤ number
-    go true e =
-        let le : a.rank ≤ b.rank = leb-true _ _ e in
-        let k = rises_to numbers r a.rank b.rank le (slice_get_within numbers b.rank number b.there) in
-        let x : get_or numbers a.rank 0 ≡ first = get_or_from_slice_get numbers a.rank first 0 a.there in
-        let y : get_or numbers b.rank 0 ≡ number = get_or_from_slice_get numbers b.rank number 0 b.there in
-        omega (arith, k, x, y)
-    go false e =
-        let less : b.rank < a.rank = leb-false _ _ e in
-        let most : (b.rank + 1) * width ≤ a.rank * width = mul-le-mul_right {m = b.rank + 1} {n = a.rank} width (omega arith) in
-        let f = a.is in
-        let l = b.is in
-        absurd (omega (arith, most, f, l, h))
+    go : (w : Bool) → nat_lt number first ≡ w → first ≤ number
+    go false e = ltb-false _ _ e
+    go true e = let less = (orders.before number first m n b a).0 (ltb-true _ _ e) in absurd (omega (arith, less, h))
+
+ordered_keep_back : (First Last : ℕ → ℕ → Type 0) → Orders First Last → Keeps (Turned First) (Turned Last)
+ordered_keep_back First Last orders first number n m a b h = go (nat_lt number first) refl
+  where
+    go : (w : Bool) → nat_lt number first ≡ w → first ≤ number
+    go false e = ltb-false _ _ e
+    go true e = let less = (orders.before m n number first b a).1 (ltb-true _ _ e) in absurd (omega (arith, less, h))
 
 module _ (First Last : ℕ → ℕ → Type 0) (keeps : Keeps First Last) where
   abbrev Spread : Stamped → Stamped → Type 0
@@ -195,34 +176,70 @@ module _ (First Last : ℕ → ℕ → Type 0) (keeps : Keeps First Last) where
   ends_as (Some last) None h = absurd h
   ends_as (Some last) (Some n) h = (λ e. refl, λ e. refl)
 
-  spans : (n : ℕ) (spread at : Option ℕ) (reply : Option Reply) → LiesIn n spread at reply → IfSome spread (λ m. n ≤ m)
-  spans n None at reply h = tt
-  spans n (Some m) None reply h = absurd (let e : false ≡ true = h.placed (h.ended.0 refl) in cc)
-  spans n (Some m) (Some t) reply h = let a : n ≤ t = h.not_before in let b : t ≤ m = h.not_after in omega arith
-
-  is_call : (o p : Stamped) → Spread o p → IsPlaced p → IsCall o
-  is_call o p s h =
+  same_call : (o p : Stamped) → Spread o p → IsCall p → IsCall o
+  same_call o p s h =
       let ends = ends_as o.last p.last s.last in
       record {
         ended = (λ e. subst IsSome s.reply (h.ended.0 (ends.0 e)), λ e. ends.1 (h.ended.1 (subst IsSome (sym s.reply) e)));
-        spans = ends_after o.first p.first o.last p.last s.first s.last (spans p.first p.last p.at p.reply h);
+        spans = ends_after o.first p.first o.last p.last s.first s.last h.spans;
       }
 
-  all_calls : (os ps : List Stamped) → AllZip Spread os ps → AllByRecursion IsPlaced ps → AllByRecursion IsCall os
-  all_calls [] ps h p = tt
-  all_calls (o ∷ os) [] h p = absurd h
-  all_calls (o ∷ os) (q ∷ qs) h p = (is_call o q h.0 p.0, all_calls os qs h.1 p.1)
+  same_calls : (os ps : List Stamped) → AllZip Spread os ps → AllByRecursion IsCall ps → AllByRecursion IsCall os
+  same_calls [] ps h p = tt
+  same_calls (o ∷ os) [] h p = absurd h
+  same_calls (o ∷ os) (q ∷ qs) h p = (same_call o q h.0 p.0, same_calls os qs h.1 p.1)
 
-stamped_is : (First Last : ℕ → ℕ → Type 0) → Keeps First Last → (ops new : List Stamped) → AllZip (IsStampedSo First Last) ops new → verdict new ≡ Yes → IsOfQueue ops
-stamped_is First Last keeps ops new each judged =
+  of_queue_before : (ops new : List Stamped) → AllZip Spread ops new → IsOfQueue new → IsOfQueue ops
+  of_queue_before ops new each h = record {
+    calls = All-from_recursion IsCall ops (same_calls ops new each (recursion_from_All IsCall new h.calls));
+    linearizable = linearizable_before ops new each h.linearizable;
+  }
+
+-- ---- the given history and the new one
+
+turned_ends : (Last : ℕ → ℕ → Type 0) (last spread : Option ℕ) → EndsSo Last last spread → EndsSo (Turned Last) spread last
+turned_ends Last None None h = tt
+turned_ends Last None (Some n) h = absurd h
+turned_ends Last (Some last) None h = absurd h
+turned_ends Last (Some last) (Some n) h = h
+
+turned : (First Last : ℕ → ℕ → Type 0) (ops new : List Stamped) → AllZip (IsStampedSo First Last) ops new → AllZip (IsStampedSo (Turned First) (Turned Last)) new ops
+turned First Last [] [] h = tt
+turned First Last [] (p ∷ ps) h = absurd h
+turned First Last (o ∷ os) [] h = absurd h
+turned First Last (o ∷ os) (p ∷ ps) h = (
+  record { actor = sym h.0.actor; op = sym h.0.op; reply = sym h.0.reply; first = h.0.first; last = turned_ends Last o.last p.last h.0.last },
+  turned First Last os ps h.1,
+)
+
+same_of_queue : (First Last : ℕ → ℕ → Type 0) → Orders First Last → (ops new : List Stamped) → AllZip (IsStampedSo First Last) ops new → IsOfQueue ops ↔ IsOfQueue new
+same_of_queue First Last orders ops new each = (
+  of_queue_before (Turned First) (Turned Last) (ordered_keep_back First Last orders) new ops (turned First Last ops new each),
+  of_queue_before First Last (ordered_keep First Last orders) ops new each,
+)
+
+-- a history with points, its stamps as they were or spread, is one of a queue exactly where it is without
+pub spread_is_of_queue : (ops new : List Stamped) → IsSpread ops new → IsOfQueue ops ↔ IsOfQueue new
+spread_is_of_queue ops new (inl kept) = same_of_queue IsKept IsKept kept_orders ops new kept
+spread_is_of_queue ops new (inr s) = same_of_queue (IsFirstOf s.numbers s.width) (IsLastOf s.numbers s.width) (spread_orders s.numbers s.width s.rises s.wide) ops new s.each
+
+spans : (n : ℕ) (spread at : Option ℕ) (reply : Option Reply) → LiesIn n spread at reply → IfSome spread (λ m. n ≤ m)
+spans n None at reply h = tt
+spans n (Some m) None reply h = absurd (let e : false ≡ true = h.placed (h.ended.0 refl) in cc)
+spans n (Some m) (Some t) reply h = let a : n ≤ t = h.not_before in let b : t ≤ m = h.not_after in omega arith
+
+placed_calls : (ops : List Stamped) → AllByRecursion IsPlaced ops → AllByRecursion IsCall ops
+placed_calls [] h = tt
+placed_calls (o ∷ os) h = (record { ended = h.0.ended; spans = spans o.first o.last o.at o.reply h.0 }, placed_calls os h.1)
+
+judged_is : (new : List Stamped) → verdict new ≡ Yes → IsOfQueue new
+judged_is new judged =
     let h = yes_is_right new judged in
     record {
-      calls = All-from_recursion IsCall ops (all_calls First Last keeps ops new each h.0.each);
-      linearizable = linearizable_before First Last keeps ops new each (placed_linearizes new h.0 h.1);
+      calls = All-from_recursion IsCall new (placed_calls new h.0.each);
+      linearizable = placed_linearizes new h.0 h.1;
     }
 
 -- what is judged Yes with points, and with stamps as they were or spread, is one of a queue without
 pub placed_is : (ops new : List Stamped) → IsSpread ops new → verdict new ≡ Yes → IsOfQueue ops
-placed_is ops new (inl kept_stamps) judged = stamped_is IsKept IsKept kept ops new kept_stamps judged
-placed_is ops new (inr s) judged =
-    stamped_is (IsFirstOf s.numbers s.width) (IsLastOf s.numbers s.width) (spread_keeps s.numbers s.width s.rises) ops new s.each judged
+placed_is ops new spread judged = (spread_is_of_queue ops new spread).1 (judged_is new judged)

@@ -1,35 +1,20 @@
 -- An operation in an order of a history, and the first push of a kind in one.
-use Rattle.std.proofs.Common.{◌≡◌, ◌⊎◌, inl, inr, append_assoc, ℕ, ◌+◌, ◌≤◌, ◌<◌, Bool, true, false, ◌&&◌, ◌||◌, nat_le, nat_lt, Option, None, Some, IfSome, IsSome, List, [], ◌∷◌, ◌++◌, refl, sym, ap, ◌∙◌, subst, arith}
-use Rattle.std.specs.Prelude.{IsNone, IsSomeAnd}
-use Rattle.std.specs.List.{sum_by, AllByRecursion}
-use Rattle.std.proofs.lemmas.Bool.{leb-true, leb-false, ltb-true, ltb-false}
-use Rattle.std.proofs.lemmas.List.{append-nil}
-use Rattle.std.proofs.lemmas.List.Sums.{sum_by-cons, sum_by-append}
-use Rattle.std.proofs.lemmas.List.Elements.{All-contains, recursion_from_All}
-use Rattle.history.specs.declared.operations.Op.{Op}
-use Rattle.history.specs.declared.operations.Op.TheVariants.{Enq, Deq, Shut}
-use Rattle.history.specs.declared.operations.Taken.{Taken}
+use Rattle.std.proofs.Common.{◌≡◌, ◌⊎◌, inl, inr, ℕ, ◌≤◌, Bool, true, false, ◌&&◌, None, Some, IfSome, List, [], ◌∷◌, ◌++◌, refl, sym, ap, ◌∙◌, subst, arith}
+use Rattle.std.specs.List.{sum_by}
+use Rattle.std.proofs.lemmas.List.Sums.{sum_by-cons}
 use Rattle.history.specs.declared.operations.Reply.{Reply}
-use Rattle.history.specs.declared.operations.Reply.TheVariants.{Done, Value, Empty, Refused}
 use Rattle.history.specs.declared.operations.Stamped.{Stamped}
-use Rattle.history.specs.Queue.{Queue, empty, response}
-use Rattle.history.specs.declared.refusals.Refusal.{Refusal}
-use Rattle.history.specs.declared.refusals.Refusal.TheVariants.{Closed}
-use Rattle.history.specs.History.{leaves, is_closed, may_refuse, AgreesWithQueue}
-use Rattle.history.specs.Linearizability.{Answered, operations_of, IsPending, GivesRecordedReply, IsRun}
+use Rattle.history.specs.Queue.{empty}
+use Rattle.history.specs.History.{AgreesWithQueue}
+use Rattle.history.specs.Linearizability.{Answered, IsPending, GivesRecordedReply}
 use Rattle.history.specs.Tallies.{is_not_refused}
-use Rattle.placing.specs.declared.answers.Held.{Held}
-use Rattle.placing.specs.declared.answers.Span.{Span}
-use Rattle.placing.specs.declared.answers.Reason.{Reason}
-use Rattle.placing.specs.declared.answers.Reason.TheVariants.{Shape, Span as Spans, Reply as Replies, Sooner, Order, Full}
-use Rattle.placing.specs.Calls.{IsCall, IsOfQueue}
-use Rattle.placing.specs.Kinds.{Kind, same_value, is_told_in, is_push_in, pushes_in, ended_by, pushes_begun_before}
-use Rattle.placing.specs.Reasons.{StandsAt, IsMisshapen, EndsTooSoon, may_be_told, IsToldAmiss, IsSooner, IsHeld, IsOutOfOrder, Cover, IsFull, IsReason}
-use Rattle.placing.proofs.Runs.{one_if, taken_in, pushed_in, copies, same_itself, after_run, run_balance, run_parts, after_parts, step_taken, goes_before}
-use Rattle.placing.proofs.Sooner.{take_ended_by, push_begun_by, ended_begun, pushed_at_most}
-use Rattle.placing.proofs.Parting.{PartsAt, parts_at, parted_have, sum_parted, sum_ordered, sum_zero, BeganBy, MayFollow, times_parted, latest_start}
-use Rattle.placing.proofs.Staying.{EndedFrom, and_false, take_begun_after, IsOrder, is_order, Stays, pushed_before, fewer_taken, last_part}
-use Rattle.placing.proofs.Keeping.{contained, both, held_stays}
+use Rattle.placing.specs.Calls.{IsOfQueue}
+use Rattle.placing.specs.Kinds.{Kind, is_push_in}
+use Rattle.placing.specs.Reasons.{StandsAt}
+use Rattle.placing.proofs.Runs.{one_if, pushed_in, after_run, run_parts}
+use Rattle.placing.proofs.Parting.{PartsAt, parts_at}
+use Rattle.placing.proofs.Staying.{IsOrder, is_order, last_part}
+use Rattle.placing.proofs.Keeping.{contained}
 
 -- ---- an operation in an order
 

@@ -220,7 +220,7 @@ taken_by time kind ops xs a ys left o b =
     omega (arith, most, both, all_f, all_g, parts_f, parts_g)
 
 -- none that began by a time is a take that began after it
-none_after : (time : ℕ) (kind : Kind) (os : List Stamped) → BeganBy time os → AllByRecursion (λ o. take_begun_after time kind o ≡ 0) os
+pub none_after : (time : ℕ) (kind : Kind) (os : List Stamped) → BeganBy time os → AllByRecursion (λ o. take_begun_after time kind o ≡ 0) os
 none_after time kind [] b = tt
 none_after time kind (o ∷ os) b = (and_false (is_told_in kind o.reply) _ (not_after o.first b.0), none_after time kind os b.1)
   where
@@ -232,11 +232,11 @@ none_after time kind (o ∷ os) b = (and_false (is_told_in kind o.reply) _ (not_
         go true e = let j : time < first = ltb-true _ _ e in absurd (omega arith)
 
 -- pending operations were told nothing
-pending_after : (time : ℕ) (kind : Kind) (os : List Stamped) → AllByRecursion IsPending os → AllByRecursion (λ o. take_begun_after time kind o ≡ 0) os
+pub pending_after : (time : ℕ) (kind : Kind) (os : List Stamped) → AllByRecursion IsPending os → AllByRecursion (λ o. take_begun_after time kind o ≡ 0) os
 pending_after time kind [] h = tt
 pending_after time kind (o ∷ os) h = (ap (λ r. one_if (is_told_in kind r && nat_lt time o.first)) h.0.not_told, pending_after time kind os h.1)
 
-all_after_at_most : (time : ℕ) (kind : Kind) (ys : List Answered) → AllByRecursion GivesRecordedReply ys → AllByRecursion (λ a. take_begun_after time kind a.operation ≤ taken_in kind a) ys
+pub all_after_at_most : (time : ℕ) (kind : Kind) (ys : List Answered) → AllByRecursion GivesRecordedReply ys → AllByRecursion (λ a. take_begun_after time kind a.operation ≤ taken_in kind a) ys
 all_after_at_most time kind [] h = tt
 all_after_at_most time kind (a ∷ rest) h =
     let less = first_at_most (is_told_in kind a.operation.reply) (nat_lt time a.operation.first) in

@@ -121,20 +121,34 @@ abbrev pub Cover : (first last : ℕ) → List Span → Type 0
 Cover first last [] = last < first
 Cover first last (span ∷ spans) = (span.first ≤ first) × (span.last < last → Cover (span.last + 1) last spans)
 
--- this operation was told that the queue is empty; at each of its numbers one of some values is there
-pub record IsFull (ops : List Stamped) (place : ℕ) (spans : List Span) : Type 0 where
-  pub operation : Stamped
-  pub time : ℕ
-  pub stands : StandsAt ops place operation
-  pub told : operation.reply ≡ Some Empty
-  pub ended : operation.last ≡ Some time
-  pub cover : Cover operation.first time spans
-  pub each : All (λ span. IsHeld ops span.first span.last span.held) spans
-
 -- an operation shut the queue, or was told that it is shut, and ended at a time
 pub record ShowsShut (o : Stamped) (time : ℕ) : Type 0 where
   pub shows : shows_shut o.reply o.op ≡ true
   pub ended : o.last ≡ Some time
+
+-- one of these operations shows that the queue is shut, and ended at a time
+pub record IsShownAt (ops : List Stamped) (time : ℕ) : Type 0 where
+  pub evidence : Stamped
+  pub place : ℕ
+  pub stands : StandsAt ops place evidence
+  pub shut : ShowsShut evidence time
+
+-- what ended at `last` and found the queue not shut did so by a time: that, or when one ended that shows that it is shut
+abbrev pub IsOpenUntil : List Stamped → (last time : ℕ) → Type 0
+IsOpenUntil ops last time = (time ≡ last) ⊎ IsShownAt ops time
+
+-- This operation was told that the queue is empty; one of some values is there at each of its numbers, or at each up to
+-- when an operation ended that shows that the queue is shut.
+pub record IsFull (ops : List Stamped) (place : ℕ) (spans : List Span) : Type 0 where
+  pub operation : Stamped
+  pub last : ℕ
+  pub time : ℕ
+  pub stands : StandsAt ops place operation
+  pub told : operation.reply ≡ Some Empty
+  pub ended : operation.last ≡ Some last
+  pub until : IsOpenUntil ops last time
+  pub cover : Cover operation.first time spans
+  pub each : All (λ span. IsHeld ops span.first span.last span.held) spans
 
 -- an operation began after a time and was told done or empty, or it took a value no push of which began by then
 abbrev pub IsTooLate : List Stamped → (time : ℕ) → Stamped → Type 0
@@ -171,8 +185,24 @@ pub record IsUnshut (ops : List Stamped) (place : ℕ) : Type 0 where
   pub ended : operation.last ≡ Some time
   pub none : shuts_begun_by time ops ≡ 0
 
--- This pop was told that the queue is shut, and so empty, and one of some values is there until it ends: their pushes
--- ended, at whatever time, so they had their effect before the shut had its own.
+-- a push at a place and a take at another are of one value, and the take began after a time
+pub record IsTakenBehind (ops : List Stamped) (until push take : ℕ) : Type 0 where
+  pub pushing : Stamped
+  pub taking : Stamped
+  pub value : Taken
+  pub push_stands : StandsAt ops push pushing
+  pub pushes : pushes_in (same_value value) pushing ≡ true
+  pub take_stands : StandsAt ops take taking
+  pub takes : is_told_in (same_value value) taking.reply ≡ true
+  pub after : until < taking.first
+
+-- A value is there until a pop ends that was told that the queue is shut: it was taken later, however often and whenever it
+-- was pushed, or it is one of values that no pop was told, whose pushes ended before a time.
+abbrev pub IsThere : List Stamped → (from until : ℕ) → Held → Type 0
+IsThere ops from until (OneValue push take) = IsTakenBehind ops until push take
+IsThere ops from until (Left places) = AreLeft ops from until places.items
+
+-- This pop was told that the queue is shut, and so empty, and a value is there until it ends, pushed before the shut.
 pub record IsUndrained (ops : List Stamped) (place : ℕ) (held : Held) : Type 0 where
   pub operation : Stamped
   pub from : ℕ
@@ -181,7 +211,7 @@ pub record IsUndrained (ops : List Stamped) (place : ℕ) (held : Held) : Type 0
   pub pops : operation.op ≡ Deq
   pub told : is_told_shut operation.reply ≡ true
   pub ended : operation.last ≡ Some until
-  pub stays : IsHeld ops from until held
+  pub stays : IsThere ops from until held
 
 -- the operation at a place has a fault
 abbrev pub HasAt : List Stamped → ℕ → (Stamped → Type 0) → Type 0

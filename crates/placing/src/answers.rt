@@ -44,8 +44,9 @@ pub enum Reason {
     Twice { place: u64, other: u64 },
     /// It was told that the queue is shut. By its end no shut began that wasn't refused.
     Unshut { place: u64 },
-    /// It is a pop that was told that the queue is shut, and so empty. Values are there until it ends, whose pushes had
-    /// their effect before the shut, whenever they ended.
+    /// It is a pop that was told that the queue is shut, and so empty. A value is there until it ends, pushed before the
+    /// shut, since no push has its effect behind that: whenever and however often it was pushed, a take of it began
+    /// later; or values that no pop was told, whose pushes ended, are more than the pending pops that began by then.
     Undrained { place: u64, held: Held },
 }
 

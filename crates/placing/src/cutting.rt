@@ -1,4 +1,5 @@
 //! Times at which the queue may be empty.
+use crate::shut_faults::first_shown;
 use crate::times::{Carried, When};
 use history::Stamped;
 use std::alloc::{AllocError, Global};
@@ -20,7 +21,8 @@ pub(crate) enum Cutting {
     Full(usize),
 }
 
-/// For each pop that was told that the queue is empty, the least of its times at which no value has to be there.
+/// For each pop that was told that the queue is empty, the least of its times at which no value has to be there, and the queue
+/// isn't shown to be shut.
 pub(crate) fn cut(
     alloc: Global,
     history: &[Stamped],
@@ -28,6 +30,7 @@ pub(crate) fn cut(
     empties: &[usize],
 ) -> Result<Cutting, AllocError> {
     let blocks = blocks(alloc, values)?;
+    let shown = first_shown(history).map_or(When::Never, |shown| When::At(shown.0));
     let mut cuts = Cuts {
         times: Vec::new(alloc),
         pops: Vec::new(alloc),
@@ -38,7 +41,7 @@ pub(crate) fn cut(
         };
         let at = first_free(&blocks, pop.first);
         match at {
-            When::At(time) if at <= When::end_of(pop) => {
+            When::At(time) if at <= When::end_of(pop).min(shown) => {
                 cuts.pops.push((*index, time))?;
                 cuts.times.push(time)?;
             }

@@ -1,6 +1,7 @@
 //! Reasons, of values that have no order and of pops that have no time at which the queue may be empty.
 use crate::answers::{Held, Reason, Span};
 use crate::ordering::Values;
+use crate::shut_reasons::open_until;
 use crate::sorting::place_of;
 use crate::times::{Carried, When};
 use history::Stamped;
@@ -71,7 +72,7 @@ fn left(alloc: Global, values: &Values, pops: usize) -> Result<Vec<u64>, AllocEr
     Ok(places)
 }
 
-/// That a pop was told that the queue is empty, while at each of its times a value was there.
+/// That a pop was told that the queue is empty, while a value was there at each of its times at which it may not be shut.
 pub(crate) fn full(
     alloc: Global,
     history: &[Stamped],
@@ -85,6 +86,7 @@ pub(crate) fn full(
     let Some(last) = pop.last else {
         return Ok(None);
     };
+    let last = open_until(history, last);
     let mut spans = Vec::new(alloc);
     for there in &chain(alloc, &values.all, When::At(pop.first), When::At(last))? {
         match span(alloc, values, pending, there, last)? {

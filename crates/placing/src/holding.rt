@@ -55,7 +55,13 @@ fn is_taken_later(
 
 // Whether pushes of values that no pop was told ended before a time, and are more than the pending pops that began
 // by another.
-fn are_left(history: &[Stamped], known: &Known, from: u64, until: u64, places: &Vec<u64>) -> bool
+pub(crate) fn are_left(
+    history: &[Stamped],
+    known: &Known,
+    from: u64,
+    until: u64,
+    places: &Vec<u64>,
+) -> bool
     requires { IsKnown history.now known.now }
     ensures { IsTrue result → AreLeft history.now from until places.now.items }
 {

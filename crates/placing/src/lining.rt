@@ -1,4 +1,6 @@
 //! The order of the operations, and points for it.
+ghost use Rattle.placing.specs.Spreading.{SpreadsAll};
+
 use crate::cutting::Cuts;
 use crate::spreading::Spread;
 use crate::times::{Carried, When};
@@ -114,7 +116,9 @@ pub(crate) fn points(
     history: &[Stamped],
     lined: &[usize],
     spread: &Spread,
-) -> Result<Option<Vec<Option<u64>>>, AllocError> {
+) -> Result<Option<Vec<Option<u64>>>, AllocError>
+    requires { SpreadsAll history.now spread.now.numbers.items spread.now.width }
+{
     let mut points = vec![in alloc; None; history.len()]?;
     let mut begun = 0;
     for (before, index) in lined.iter().enumerate() {

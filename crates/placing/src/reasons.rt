@@ -11,7 +11,7 @@ use crate::counts::{pushes_begun_before, pushes_begun_by, takes_ended_by};
 use crate::holding::is_held;
 use crate::known::Known;
 use crate::operations::{at, is_told, pushes, took};
-use crate::shut_reasons::{is_late, is_twice, is_undrained, is_unshut};
+use crate::shut_reasons::{is_late, is_twice, is_undrained, is_unshut, open_until};
 use history::{Op, Refusal, Reply, Stamped, Taken};
 
 // Whether a reason says what is so of a history.
@@ -141,7 +141,8 @@ fn is_out_of_order(history: &[Stamped], known: &Known, place: u64, push: u64, he
         && is_held(history, known, pushing.first, time, held)
 }
 
-// Whether the operation at a place was told that the queue is empty, and values are there at each of its numbers.
+// Whether the operation at a place was told that the queue is empty, and values are there at each of its numbers, up to
+// when the queue is shown to be shut.
 fn is_full(history: &[Stamped], known: &Known, place: u64, spans: &Vec<Span>) -> bool
     requires { IsKnown history.now known.now }
     ensures { IsTrue result → IsFull history.now place spans.now.items }
@@ -151,7 +152,8 @@ fn is_full(history: &[Stamped], known: &Known, place: u64, spans: &Vec<Span>) ->
     };
     match (operation.reply, operation.last) {
         (Some(Reply::Empty), Some(last)) => {
-            cover(operation.first, last, spans) && all_held(history, known, spans)
+            let until = open_until(history, last);
+            cover(operation.first, until, spans) && all_held(history, known, spans)
         }
         _ => false,
     }

@@ -3,7 +3,7 @@ use crate::answers::{Held, Reason};
 use crate::counts::pending_by;
 use crate::known::Known;
 use crate::operations::{
-    ended_before, is_done_or_empty, is_done_shut, is_told_shut, may_shut, pushed, shows_shut, told,
+    ended_before, is_done_or_empty, is_done_shut, is_told_shut, may_shut, pushed, shows_shut,
 };
 use crate::sorting::{ValueCall, place_of};
 use crate::times::When;
@@ -39,8 +39,8 @@ fn sooner(first: Option<(u64, u64)>, index: usize, operation: &Stamped) -> Optio
     }
 }
 
-// When the first operation ended that shows that the queue is shut, and its place.
-fn first_shown(history: &[Stamped]) -> Option<(u64, u64)> {
+/// When the first operation ended that shows that the queue is shut, and its place.
+pub(crate) fn first_shown(history: &[Stamped]) -> Option<(u64, u64)> {
     let mut first = None;
     for (index, operation) in history.iter().enumerate() {
         if shows_shut(operation.reply, operation.op) {
@@ -127,10 +127,9 @@ fn undrained(
     let Some((until, place)) = told else {
         return Ok(None);
     };
-    let known = Known::of(alloc, history)?;
-    let held = match taken_later(history, &known, calls, until) {
+    let held = match taken_behind(history, calls, until) {
         Some(held) => Some(held),
-        None => left(alloc, history, &known, until)?,
+        None => left(alloc, history, &Known::of(alloc, history)?, until)?,
     };
     match held {
         Some(held) => Ok(Some(Reason::Undrained { place, held })),
@@ -138,27 +137,18 @@ fn undrained(
     }
 }
 
-// A value of one push, which ended, and of a take that began after a time.
-fn taken_later(
-    history: &[Stamped],
-    known: &Known,
-    calls: &[ValueCall],
-    until: u64,
-) -> Option<Held> {
+// A value that is pushed, and a take of it that began after a time.
+fn taken_behind(history: &[Stamped], calls: &[ValueCall], until: u64) -> Option<Held> {
     let mut push: Option<&ValueCall> = None;
     for call in calls {
         if !call.is_take {
-            let ended = history
-                .get(call.index)
-                .is_some_and(|o| ended_before(u64::MAX, o.last));
-            push = if ended { Some(call) } else { None };
+            push = Some(call);
             continue;
         }
         let (Some(push), Some(take)) = (push, history.get(call.index)) else {
             continue;
         };
-        let is_once = told(take.reply).is_some_and(|value| known.is_pushed_once(&value));
-        if is_once && push.is_of_value_of(call) && until < take.first {
+        if push.is_of_value_of(call) && until < take.first {
             let (push, take) = (place_of(push.index), place_of(call.index));
             return Some(Held::Value { push, take });
         }

@@ -1,7 +1,8 @@
 //! A recorded history with points, and with its stamps spread where those given leave no room for these.
-ghost use Rattle.std.specs.Prelude.{◌≡◌, IfSome, IfOk, Some, slice_get};
+ghost use Rattle.std.specs.Prelude.{◌≡◌, ◌≤◌, ◌*◌, IfSome, IsSome, IfOk, OnOk, Some, All, length, slice_get};
+ghost use Rattle.std.specs.List.{Contains};
 ghost use Rattle.std.specs.List.Sorted.{IsStrictlyIncreasing};
-ghost use Rattle.placing.specs.Spreading.{IsFirstOf, IsLastOf, IsSpreadFrom, IsPointed, IsSpread};
+ghost use Rattle.placing.specs.Spreading.{IsFirstOf, IsLastOf, IsSpreadFrom, IsPointed, IsSpread, IsOfNumbers, AddsStamps, SpreadsAll, HasRoom};
 
 use history::Stamped;
 use std::alloc::{AllocError, Global};
@@ -16,15 +17,11 @@ pub(crate) struct Spread {
 impl Spread {
     // How the stamps of a history are spread, so that all its operations have room at each number.
     pub(crate) fn of(alloc: Global, history: &[Stamped]) -> Result<Spread, AllocError>
-        ensures { IfOk result (λ spread. IsStrictlyIncreasing spread.numbers.items) }
+        ensures all { IfOk result (λ spread. SpreadsAll history.now spread.numbers.items spread.width) }
+        ensures room { length history.now ≤ 2147483648
+            → IfOk result (λ spread. HasRoom spread.numbers.items spread.width) }
     {
-        let mut numbers = Vec::new(alloc);
-        for operation in history {
-            numbers.push(operation.first)?;
-            if let Some(last) = operation.last {
-                numbers.push(last)?;
-            }
-        }
+        let mut numbers = used(alloc, history)?;
         numbers.sort_unstable();
         numbers.dedup();
         Ok(Spread {
@@ -35,7 +32,9 @@ impl Spread {
 
     // How many of the numbers used are smaller; none where this one isn't used.
     fn rank(&self, number: u64) -> Option<u64>
-        ensures { IfSome result (λ rank. slice_get self.now.numbers.items rank ≡ Some number) }
+        requires { IsStrictlyIncreasing self.now.numbers.items }
+        ensures there { IfSome result (λ rank. slice_get self.now.numbers.items rank ≡ Some number) }
+        ensures some { Contains self.now.numbers.items number → IsSome result }
     {
         match self.numbers.binary_search(&number) {
             Ok(rank) => Some(rank as u64),
@@ -45,7 +44,11 @@ impl Spread {
 
     // The first of the numbers that a number becomes; none where it isn't used, or that isn't below 2^64.
     pub(crate) fn first(&self, number: u64) -> Option<u64>
-        ensures { IfSome result (IsFirstOf self.now.numbers.items self.now.width number) }
+        requires rises { IsStrictlyIncreasing self.now.numbers.items }
+        requires wide { 1 ≤ self.now.width }
+        ensures first { IfSome result (IsFirstOf self.now.numbers.items self.now.width number) }
+        ensures some { HasRoom self.now.numbers.items self.now.width
+            → Contains self.now.numbers.items number → IsSome result }
     {
         let before = self.rank(number)?.checked_mul(self.width)?;
         let first = before.checked_add(1)?;
@@ -54,7 +57,10 @@ impl Spread {
 
     // The last of the numbers that a number becomes; none where it isn't used, or that isn't below 2^64.
     fn last(&self, number: u64) -> Option<u64>
-        ensures { IfSome result (IsLastOf self.now.numbers.items self.now.width number) }
+        requires { IsStrictlyIncreasing self.now.numbers.items }
+        ensures last { IfSome result (IsLastOf self.now.numbers.items self.now.width number) }
+        ensures some { HasRoom self.now.numbers.items self.now.width
+            → Contains self.now.numbers.items number → IsSome result }
     {
         let before = self.rank(number)?.checked_mul(self.width)?;
         let last = before.checked_add(self.width)?;
@@ -63,7 +69,11 @@ impl Spread {
 
     // An operation at a point, with spread stamps.
     fn operation(&self, operation: &Stamped, at: Option<u64>) -> Option<Stamped>
-        ensures { IfSome result (IsSpreadFrom self.now.numbers.items self.now.width operation.now) }
+        requires rises { IsStrictlyIncreasing self.now.numbers.items }
+        requires wide { 1 ≤ self.now.width }
+        ensures new { IfSome result (IsSpreadFrom self.now.numbers.items self.now.width operation.now) }
+        ensures some { HasRoom self.now.numbers.items self.now.width
+            → IsOfNumbers self.now.numbers.items operation.now → IsSome result }
     {
         let last = match operation.last {
             Some(last) => Some(self.last(last)?),
@@ -86,8 +96,9 @@ impl Spread {
         history: &[Stamped],
         points: &[Option<u64>],
     ) -> Result<Option<Vec<Stamped>>, AllocError>
-        requires { IsStrictlyIncreasing self.now.numbers.items }
-        ensures { IfOk result (λ spread. IfSome spread (λ new. IsSpread history.now new.items)) }
+        requires { SpreadsAll history.now self.now.numbers.items self.now.width }
+        ensures spread { IfOk result (λ spread. IfSome spread (λ new. IsSpread history.now new.items)) }
+        ensures some { HasRoom self.now.numbers.items self.now.width → IfOk result IsSome }
     {
         let mut spread = Vec::new(alloc);
         for (index, operation) in history.iter().enumerate() {
@@ -99,6 +110,28 @@ impl Spread {
         }
         Ok(Some(spread))
     }
+}
+
+// The numbers that a history has as stamps.
+fn used(alloc: Global, history: &[Stamped]) -> Result<Vec<u64>, AllocError>
+    ensures each { IfOk result (λ numbers. All (IsOfNumbers numbers.items) history.now) }
+    ensures few { IfOk result (λ numbers. length numbers.items ≤ 2 * length history.now) }
+{
+    let mut numbers = Vec::new(alloc);
+    for operation in history {
+        push_stamps(&mut numbers, operation)?;
+    }
+    Ok(numbers)
+}
+
+fn push_stamps(numbers: &mut Vec<u64>, operation: &Stamped) -> Result<(), AllocError>
+    ensures { OnOk result (AddsStamps numbers.old.items numbers.new.items operation.now) }
+{
+    numbers.push(operation.first)?;
+    if let Some(last) = operation.last {
+        numbers.push(last)?;
+    }
+    Ok(())
 }
 
 // A history with these points, in the order of its operations, and with the stamps given.

@@ -100,7 +100,7 @@ fn answers_where_values_are_repeated(rt: HostRuntime) -> Result<(), Fail> {
 
 #[test]
 fn answers_where_the_queue_is_shut(rt: HostRuntime) -> Result<(), Fail> {
-    agrees_by_a_search(&rt, 10_000, SHUT, 50)
+    agrees_by_a_search(&rt, 10_000, SHUT, 10_000)
 }
 
 #[test]

@@ -239,6 +239,36 @@ const IMPOSSIBLE: &[Row] = &[
 ",
         "no 3 Undrained 1",
     ),
+    // The push of what is taken later is pending, or one of two of the same value.
+    (
+        b"history 4
+1 enq 1 first 1 last - at - reply -
+2 shut first 2 last 3 at - reply done
+3 deq first 4 last 5 at - reply refused 16
+3 deq first 6 last 7 at - reply value 1 1
+",
+        "no 3 Undrained 1",
+    ),
+    (
+        b"history 5
+1 enq 1 first 1 last 2 at - reply done
+1 enq 1 first 3 last 4 at - reply done
+2 shut first 5 last 6 at - reply done
+3 deq first 7 last 8 at - reply refused 16
+3 deq first 9 last 10 at - reply value 1 1
+",
+        "no 4 Undrained 2",
+    ),
+    // The value may be taken from 6 on alone, and what finds the queue empty has to do so by 5, when the shut ended.
+    (
+        b"history 4
+1 enq 1 first 1 last 2 at - reply done
+2 deq first 3 last 6 at - reply empty
+2 shut first 4 last 5 at - reply done
+3 deq first 6 last - at - reply -
+",
+        "no 2 Full 1",
+    ),
     // The value 1 is there until 7, and 2 from 6 on.
     (
         b"history 5

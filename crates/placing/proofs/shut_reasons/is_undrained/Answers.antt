@@ -11,5 +11,5 @@ returns-then-is_told_shut c = λ holds. record {
   pops = c.in-Deq-Some.is-0;
   told = (let told : is_told_shut c.in-Some.operation.now.reply ≡ true = cc in told);
   ended = c.in-Deq-Some.is-1;
-  stays = c.is_held.ensures holds;
+  stays = c.is_there.ensures holds;
 }
