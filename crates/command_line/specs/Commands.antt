@@ -14,7 +14,7 @@ use Rattle.line_table.specs.declared.lines.Kind.TheVariants.{TwoLock, NonBlockin
 use Rattle.command_line.specs.declared.commands.Command.{Command}
 use Rattle.command_line.specs.declared.commands.Crew.{Crew}
 use Rattle.command_line.specs.declared.commands.Task.{Task}
-use Rattle.command_line.specs.declared.commands.Task.TheVariants.{Trace, Show, Check, Place, Work, Post}
+use Rattle.command_line.specs.declared.commands.Task.TheVariants.{Trace, Show, Check, Place, Work, Post, Explain}
 use Rattle.command_line.specs.declared.commands.View.{View}
 
 -- whether a task tells the steps of a schedule
@@ -47,6 +47,11 @@ abbrev pub is_post : Task → Bool
 is_post (Post kind) = true
 is_post _ = false
 
+-- whether a task explains a refusal
+abbrev pub is_explain : Task → Bool
+is_explain Explain = true
+is_explain _ = false
+
 -- texts in a row, where they lie
 abbrev pub TextRow : Type 0
 TextRow = Bor (List (Bor Text))
@@ -59,9 +64,21 @@ AreQueues queues = map (λ (name : Bor Text). name.now) queues.now ≡ codes "tw
 abbrev pub file_rule : Rule
 file_rule = record (new_rule (codes "FILE")) { required = true }
 
--- a command of this name, with a FILE
+-- an option that is given or not
+abbrev pub flag_rule : (id long : Text) → Rule
+flag_rule id long = record (new_rule id) { long = Some long; action = Some SetTrue }
+
+-- a command of this name, with a FILE, and with or without what explains a fault
 abbrev pub file_app : Text → App
-file_app name = with_rule (new_app name) file_rule
+file_app name = with_rule (with_rule (new_app name) file_rule) (flag_rule (codes "EXPLAIN") (codes "explain"))
+
+-- the required argument in the place of a FILE, for which help has a name of its own
+abbrev pub refusal_rule : Rule
+refusal_rule = record file_rule { value_names = 1 }
+
+-- the command `explain`, with a refusal in the place of a FILE
+abbrev pub explain_app : App
+explain_app = with_rule (new_app (codes "explain")) refusal_rule
 
 -- an option with a number in a range, and what it is where it isn't given
 abbrev pub number_rule : (id long : Text) → (least most : ℕ) → (other : Text) → Rule
@@ -72,10 +89,6 @@ number_rule id long least most other =
 abbrev pub queue_rule : TextRow → Rule
 queue_rule queues =
     record (new_rule (codes "QUEUE")) { long = Some (codes "queue"); parser = Some (Names queues); defaults = codes "nonblocking" ∷ [] }
-
--- an option that is given or not
-abbrev pub flag_rule : (id long : Text) → Rule
-flag_rule id long = record (new_rule id) { long = Some long; action = Some SetTrue }
 
 -- the command `show`, with a FILE, so many columns, a first and a last step, an actor, and whether it is a history
 abbrev pub show_app : App
@@ -109,9 +122,9 @@ bare_app =
 -- the program's command line, as clap reads it
 abbrev pub command_line_app : TextRow → App
 command_line_app queues =
-    with_subcommand (with_subcommand (with_subcommand (with_subcommand (with_subcommand (with_subcommand (with_subcommand bare_app
+    with_subcommand (with_subcommand (with_subcommand (with_subcommand (with_subcommand (with_subcommand (with_subcommand (with_subcommand bare_app
     (file_app (codes "run")).top) (file_app (codes "trace")).top) show_app.top) (file_app (codes "check")).top) place_app.top) (work_app queues).top)
-    (post_app queues).top
+    (post_app queues).top) explain_app.top
 
 -- the FILE among the matches of a command
 abbrev pub file_met : Option (Text × List Row) → Option Text
@@ -177,7 +190,13 @@ pub record IsTask (met : Option (Text × List Row)) (task : Task) : Type 0 where
   pub place : is_place task ≡ is_met (codes "place") met
   pub work : is_work task ≡ is_met (codes "work") met
   pub post : is_post task ≡ is_met (codes "post") met
+  pub explain : is_explain task ≡ is_met (codes "explain") met
   pub options : HasOptions met task
+
+-- a flag is set where the command that was met has the option that asks for a fault's explanation, and not where there is none
+abbrev pub AsksForCauses : Option (Text × List Row) → Bool → Type 0
+AsksForCauses None flag = flag ≡ false
+AsksForCauses (Some command) flag = SaysFlag (one_of (codes "EXPLAIN") command.1) flag
 
 -- the command among the words, with its options
 unfoldable pub met_in : TextRow → List Text → Option (Text × List Row)
@@ -188,11 +207,12 @@ unfoldable pub faults_in : TextRow → List Text → Kinds
 faults_in queues [] = []
 faults_in queues (word ∷ words) = fault_of (command_line_app queues) (word ∷ words)
 
--- a command is what the words ask for: the FILE that they name, and `-` where they name none; the task with its options.
--- Clap finds no fault in them
+-- a command is what the words ask for: the FILE that they name, and `-` where they name none; the task with its options;
+-- whether a fault is explained. Clap finds no fault in them
 pub record IsAsked (queues : TextRow) (words : List Text) (command : Command) : Type 0 where
   pub file : string_bytes command.file ≡ unwrap_or (file_met (met_in queues words)) (codes "-")
   pub task : IsTask (met_in queues words) command.task
+  pub explains : AsksForCauses (met_in queues words) command.explains
   pub taken : faults_in queues words ≡ []
 
 -- the same, of names of queues that lie somewhere

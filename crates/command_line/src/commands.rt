@@ -1,9 +1,10 @@
 //! The words after the program's name.
 ghost use Rattle.std.specs.Prelude.{◌≡◌, ◌⊎◌, [], IfErr, IfOk, map, option_map, string_bytes, codes, true, false};
 ghost use Rattle.clap.specs.Words.{HasKind, app_of, first_of, found_of, kind_of, one_of, rows_of, rule_of, subcommand_rows_of, takes, with_subcommand};
-ghost use Rattle.command_line.specs.Commands.{command_line_app, faults_in, file_app, file_met, flag_rule, kind_named, number_rule, place_app, post_app, queue_rule, show_app, status_at, work_app, AreQueues, AreTaken, IsAsked, IsAskedSomewhere, IsCrewOf, IsStatusOf, IsTask, IsViewOf, SaysFlag, SaysNumber};
+ghost use Rattle.command_line.specs.Commands.{command_line_app, explain_app, faults_in, file_app, file_met, flag_rule, kind_named, number_rule, place_app, post_app, queue_rule, show_app, status_at, work_app, AreQueues, AreTaken, IsAsked, IsAskedSomewhere, IsCrewOf, IsStatusOf, IsTask, IsViewOf, SaysFlag, SaysNumber};
 
-use crate::options::{crew_in, kind_in, number_in, view_in};
+use crate::helps;
+use crate::options::{crew_in, explains_in, kind_in, number_in, view_in};
 use clap::builder::ValueParser;
 use clap::error::ErrorKind;
 use clap::{Arg, ArgAction, ArgMatches};
@@ -19,16 +20,6 @@ static QUEUES: [&str; 2] = ["two-lock", "nonblocking"];
 
 /// How many steps a search for an order takes at most where the words don't say it.
 const USUAL_STEPS: u32 = 1_000_000;
-
-/// What the program's help says at its end.
-const AFTER_HELP: &str = "With no words at all it runs the schedule on standard input.
-
-Exit statuses:
-  0  done, or help or the version was asked for
-  1  refused, with one line on standard error: docs/FAULTS.md has each refusal
-  2  the words were refused
-  3  check or place said no
-  4  place left it open";
 
 /// How `work` does jobs.
 #[derive(Clone, Copy, Debug)]
@@ -73,6 +64,8 @@ pub enum Task {
     Work(Crew),
     /// Posts the letters in it, over a queue of this kind.
     Post(Kind),
+    /// Explains a refusal, whose number or name stands in the place of the file.
+    Explain,
 }
 
 /// What the program is asked to do.
@@ -81,6 +74,8 @@ pub struct Command {
     pub task: Task,
     /// The file's name; `-` is standard input.
     pub file: String,
+    /// Whether a fault is explained, wherever its line goes.
+    pub explains: bool,
 }
 
 /// The command that the words after the program's name ask for; no words ask for `run -`.
@@ -114,11 +109,12 @@ fn with_command<'a>(
     name: &'a str,
     about: &'a str,
     file: &'a str,
+    after: &'a str,
 ) -> Result<clap::Command<'a>, AllocError>
     ensures { IfOk result (λ more.
         app_of more ≡ with_subcommand (app_of program.entry) (file_app name.entry.now).top) }
 {
-    program.subcommand(command_on(alloc, name, about, file)?)
+    program.subcommand(command_on(alloc, name, about, file, after)?)
 }
 
 /// A command of this name, with a FILE.
@@ -127,11 +123,31 @@ fn command_on<'a>(
     name: &'a str,
     about: &'a str,
     file: &'a str,
+    after: &'a str,
 ) -> Result<clap::Command<'a>, AllocError>
     ensures { IfOk result (λ command. app_of command ≡ file_app name.entry.now) }
 {
     let file = Arg::new(alloc, "FILE").help(file).required(true);
-    clap::Command::new(alloc, name).about(about).arg(file)
+    let command = clap::Command::new(alloc, name)
+        .about(about)
+        .after_help(after)
+        .arg(file)?;
+    let explain = flag_option(alloc, "EXPLAIN", "explain");
+    command.arg(explain.help("Explains a refusal on standard error, as on a terminal"))
+}
+
+/// The command `explain`.
+fn explain_command<'a>(alloc: Global) -> Result<clap::Command<'a>, AllocError>
+    ensures { IfOk result (λ command. app_of command ≡ explain_app) }
+{
+    let refusal = Arg::new(alloc, "FILE")
+        .value_name("REFUSAL")
+        .help("The refusal's number, 1 to 16, or its name, as NoNode")
+        .required(true);
+    clap::Command::new(alloc, "explain")
+        .about("Tells of a refusal, by its number or its name, why it is and what to do")
+        .after_help(helps::EXPLAIN)
+        .arg(refusal)
 }
 
 /// An option with a number in this range, and what it is where it isn't given.
@@ -181,6 +197,7 @@ fn show_command<'a>(alloc: Global) -> Result<clap::Command<'a>, AllocError>
         "show",
         "Runs a schedule and draws it: an actor a column, a step a row; or draws a history",
         "The schedule, or the history; - is standard input",
+        helps::SHOW,
     )?;
     let width = number_option(alloc, "WIDTH", "width", (40, 190), "80");
     let command = command.arg(width.help("How many columns a row has at most, 40 to 190"))?;
@@ -205,6 +222,7 @@ fn place_command<'a>(alloc: Global) -> Result<clap::Command<'a>, AllocError>
         "place",
         "Finds linearization points for a recorded history, or a reason why there are none",
         "The history, whose points are not read; - is standard input",
+        helps::PLACE,
     )?;
     let steps = number_option(alloc, "STEPS", "steps", (0, 1_000_000_000), "1000000");
     command.arg(steps.help(
@@ -221,6 +239,7 @@ fn work_command<'a>(alloc: Global, queues: &'a [&'a str]) -> Result<clap::Comman
         "work",
         "Does jobs by workers over a queue, and writes the table of their results",
         "The jobs; - is standard input",
+        helps::WORK,
     )?;
     let workers = number_option(alloc, "WORKERS", "workers", (1, 64), "4");
     let command = command.arg(workers.help("How many workers there are, each a thread, 1 to 64"))?;
@@ -238,11 +257,13 @@ fn post_command<'a>(alloc: Global, queues: &'a [&'a str]) -> Result<clap::Comman
         "post",
         "Sends letters, each sender's in a thread, over a queue to one receiver, and writes them",
         "The letters; - is standard input",
+        helps::POST,
     )?;
     command.arg(queue_option(alloc, queues))
 }
 
-/// The command line: `run`, `trace`, `show`, `check`, `place`, `work` and `post` with a FILE, help and the version.
+/// The command line: `run`, `trace`, `show`, `check`, `place`, `work` and `post` with a FILE, `explain` with a refusal,
+/// help and the version.
 fn command_line<'a>(alloc: Global, queues: &'a [&'a str]) -> Result<clap::Command<'a>, AllocError>
     ensures { IfOk result (λ command. app_of command ≡ command_line_app queues.entry) }
 {
@@ -251,7 +272,7 @@ fn command_line<'a>(alloc: Global, queues: &'a [&'a str]) -> Result<clap::Comman
             "Runs concurrent queues line by line, judges and places histories, does jobs, posts letters",
         )
         .version(VERSION)
-        .after_help(AFTER_HELP)
+        .after_help(helps::PROGRAM)
         .no_binary_name(true)
         .subcommand_required(true);
     let program = with_command(
@@ -260,6 +281,7 @@ fn command_line<'a>(alloc: Global, queues: &'a [&'a str]) -> Result<clap::Comman
         "run",
         "Runs a schedule and writes its history",
         "The schedule; - is standard input",
+        helps::RUN,
     )?;
     let program = with_command(
         alloc,
@@ -267,6 +289,7 @@ fn command_line<'a>(alloc: Global, queues: &'a [&'a str]) -> Result<clap::Comman
         "trace",
         "Runs a schedule and writes each of its steps",
         "The schedule; - is standard input",
+        helps::TRACE,
     )?;
     let program = program.subcommand(show_command(alloc)?)?;
     let program = with_command(
@@ -275,10 +298,12 @@ fn command_line<'a>(alloc: Global, queues: &'a [&'a str]) -> Result<clap::Comman
         "check",
         "Judges a history: writes its table, or what is wrong with it",
         "The history; - is standard input",
+        helps::CHECK,
     )?;
     let program = program.subcommand(place_command(alloc)?)?;
     let program = program.subcommand(work_command(alloc, queues)?)?;
     let program = program.subcommand(post_command(alloc, queues)?)?;
+    let program = program.subcommand(explain_command(alloc)?)?;
     program.bin_name("msq")
 }
 
@@ -296,11 +321,11 @@ fn asked(
     ensures none { words.now ≡ [] → IfErr result (λ e. kind_of e ≡ ErrorKind.OutOfMemory) }
 {
     if words.is_empty() {
-        return Ok(command_of(alloc, Task::Run, "-")?);
+        return Ok(command_of(alloc, Task::Run, "-", false)?);
     }
     let matches = command_line(alloc, queues)?.try_get_matches_from(words)?;
     let file = file_in(&matches).unwrap_or("-");
-    Ok(command_of(alloc, task_in(&matches), file)?)
+    Ok(command_of(alloc, task_in(&matches), file, explains_in(&matches))?)
 }
 
 /// The FILE of the command that clap met.
@@ -330,17 +355,24 @@ fn task_in(matches: &ArgMatches<'_>) -> Task
         Task::Work(crew_in(options))
     } else if name == "post" {
         Task::Post(kind_in(options))
+    } else if name == "explain" {
+        Task::Explain
     } else {
         Task::Run
     }
 }
 
-fn command_of(alloc: Global, task: Task, file: &str) -> Result<Command, AllocError>
+fn command_of(alloc: Global, task: Task, file: &str, explains: bool) -> Result<Command, AllocError>
     ensures file { IfOk result (λ command. string_bytes command.file ≡ file.now) }
     ensures task { IfOk result (λ command. command.task ≡ task) }
+    ensures explains { IfOk result (λ command. command.explains ≡ explains) }
 {
     let file = String::from_str(alloc, file)?;
-    Ok(Command { task, file })
+    Ok(Command {
+        task,
+        file,
+        explains,
+    })
 }
 
 /// The status and the text of what clap says.

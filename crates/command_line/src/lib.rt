@@ -2,6 +2,7 @@
 #![tactic(auto)]
 
 mod commands;
+mod helps;
 mod options;
 
 pub use commands::{Command, Crew, Task, View, read_words};

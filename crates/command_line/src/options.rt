@@ -1,7 +1,7 @@
 //! What is read of the options of a command.
 ghost use Rattle.std.specs.Prelude.{◌≡◌, codes};
-ghost use Rattle.clap.specs.Words.{first_of, found_of, one_of, rows_of};
-ghost use Rattle.command_line.specs.Commands.{kind_named, IsCrewOf, IsViewOf, SaysFlag, SaysNumber};
+ghost use Rattle.clap.specs.Words.{first_of, found_of, one_of, rows_of, subcommand_rows_of};
+ghost use Rattle.command_line.specs.Commands.{kind_named, AsksForCauses, IsCrewOf, IsViewOf, SaysFlag, SaysNumber};
 
 use crate::commands::{Crew, View};
 use clap::ArgMatches;
@@ -37,6 +37,16 @@ fn flag_in(options: &ArgMatches<'_>, id: &str) -> bool
     ensures { SaysFlag (one_of id.now (rows_of (found_of options.now))) result }
 {
     options.get_flag(id)
+}
+
+/// Whether the command that clap met asks for a fault's explanation.
+pub(crate) fn explains_in(matches: &ArgMatches<'_>) -> bool
+    ensures { AsksForCauses (subcommand_rows_of matches.now) result }
+{
+    match matches.subcommand() {
+        Some((_command, options)) => flag_in(options, "EXPLAIN"),
+        None => false,
+    }
 }
 
 /// The workers, the queue and the nodes among the options of `work`.

@@ -1,1 +1,3 @@
+pub mod Causes
+pub mod Notes
 pub mod Options

@@ -1,11 +1,22 @@
 //! The program `msq`: it runs schedules, judges histories, does jobs and posts letters, as its words ask for.
 #![tactic(auto)]
 
+mod causes;
+mod forms;
+mod notes;
 mod options;
 mod program;
+mod progress;
 
+use program::Terminals;
+use std::io::IsTerminal;
 use std::process::ExitCode;
 
 fn main(rt: HostRuntime) -> ExitCode {
-    ExitCode::from(program::run_program(&rt))
+    let terminals = Terminals {
+        input: rt.stdin().is_terminal(),
+        output: rt.stdout().is_terminal(),
+        error: rt.stderr().is_terminal(),
+    };
+    ExitCode::from(program::run_program(&rt, terminals))
 }

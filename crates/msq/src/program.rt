@@ -1,8 +1,12 @@
 //! The program: its words, its files and its exit status.
+use crate::causes::tell_cause;
+use crate::notes::{Kept, NotedSink, NotedSource, Notes};
 use crate::options::{show_by, work_by};
+use crate::progress::Progress;
 use check_engine::check_text;
 use command_line::{Command, Task, read_words};
 use engine_faults::{Ending, Fault, end_of};
+use explanations::{ENTRIES, explain};
 use history::Refusal;
 use mail_engine::post_text;
 use place_engine::place_text;
@@ -13,15 +17,26 @@ use std::rt::Runtime;
 use std::sync::Wait;
 use std::thread::Threads;
 use std::{env, io};
-use text_io::{ReaderSource, Source, WriterSink};
+use text_io::{ReaderSource, Sink, Source, WriterSink};
 use trace_engine::trace_text;
+
+/// Which of the standard streams are terminals.
+#[derive(Clone, Copy, Debug)]
+pub struct Terminals {
+    pub input: bool,
+    pub output: bool,
+    pub error: bool,
+}
 
 /// Does what the program's words ask for, and answers the exit status: 0 where it is done or help
 /// was asked for, 1 where it was refused, 2 where the words were, 3 where a history isn't one of a queue, 4 where
 /// that is open.
 ///
-/// A refusal is one line on standard error.
-pub fn run_program<R: Runtime + AllocGlobal + Threads + Wait + Sync>(rt: &R) -> u8 {
+/// A refusal is one line on standard error. Where that is a terminal, or the words ask for it, further lines explain it.
+pub fn run_program<R: Runtime + AllocGlobal + Threads + Wait + Sync>(
+    rt: &R,
+    terminals: Terminals,
+) -> u8 {
     let words = match words_of(rt) {
         Ok(words) => words,
         Err(error) if error.kind() == io::ErrorKind::InvalidData => {
@@ -29,8 +44,15 @@ pub fn run_program<R: Runtime + AllocGlobal + Threads + Wait + Sync>(rt: &R) -> 
         }
         Err(_) => return ended(rt, Err(Fault::from(Refusal::Memory))),
     };
+    if words.is_empty() && terminals.input && terminals.error {
+        // Where standard error fails, the schedule is read all the same.
+        let _ = eprint!(rt; "msq: reading a schedule from standard input; msq --help tells more\n");
+    }
     match read_words(rt.alloc(), &words) {
-        Ok(command) => ended(rt, outcome_of(rt, &command)),
+        Ok(command) => match command.task {
+            Task::Explain => explained(rt, command.file.as_str()),
+            _ => obeyed(rt, &command, terminals),
+        },
         Err((0, text)) => shown(rt, text.as_str()),
         Err((1, _)) => ended(rt, Err(Fault::from(Refusal::Memory))),
         Err((_, text)) => refused(rt, text.as_str()),
@@ -46,52 +68,122 @@ fn words_of<R: Runtime + AllocGlobal>(rt: &R) -> io::Result<Vec<String>> {
     Ok(words)
 }
 
-/// Obeys a command on its file, or on standard input for `-`, and writes to standard output.
-fn outcome_of<R: Runtime + AllocGlobal + Threads + Wait + Sync>(
+/// The status of a command that reads a file. A fault is explained where standard error is a terminal, or the words ask for it.
+fn obeyed<R: Runtime + AllocGlobal + Threads + Wait + Sync>(
     rt: &R,
     command: &Command,
-) -> Result<Ending, Fault> {
-    let file = command.file.as_str();
-    if file == "-" {
-        return outcome_on(rt, command, ReaderSource::new(rt.reader()));
+    terminals: Terminals,
+) -> u8 {
+    let explains = command.explains || terminals.error;
+    let whole = if terminals.error {
+        length_of(rt, command.file.as_str())
+    } else {
+        0
+    };
+    let progress = Progress::new(rt, terminals.error, terminals.output, whole);
+    let (outcome, notes) = outcome_of(rt, command, explains, &progress);
+    progress.wipe();
+    let status = ended(rt, outcome);
+    if explains && let Err(fault) = outcome {
+        // Where standard error fails too, the status alone tells of the fault.
+        let _ = tell_cause(rt, command, &fault, &notes);
     }
-    match File::open(rt, file) {
-        Ok(file) => outcome_on(rt, command, ReaderSource::new(file)),
-        Err(_) => Err(Fault::from(Refusal::Read)),
+    status
+}
+
+/// How many bytes a file has; 0 where that can't be told, as of standard input.
+fn length_of<R: Runtime>(rt: &R, file: &str) -> u64 {
+    if file == "-" {
+        return 0;
+    }
+    match rt.metadata(file) {
+        Ok(known) if known.is_file() => known.len(),
+        _ => 0,
     }
 }
 
-/// Obeys a command on what a source gives.
-fn outcome_on<R: Runtime + AllocGlobal + Threads + Wait + Sync, S: Source + Drop>(
+/// Obeys a command on its file, or on standard input for `-`, and writes to standard output. What is noted comes with the
+/// outcome, the text where it is kept.
+fn outcome_of<R: Runtime + AllocGlobal + Threads + Wait + Sync>(
+    rt: &R,
+    command: &Command,
+    keeps: bool,
+    progress: &Progress<'_, R>,
+) -> (Result<Ending, Fault>, Notes) {
+    let file = command.file.as_str();
+    if file == "-" {
+        return noted(rt, command, ReaderSource::new(rt.reader()), keeps, progress);
+    }
+    match File::open(rt, file) {
+        Ok(file) => noted(rt, command, ReaderSource::new(file), keeps, progress),
+        Err(error) => {
+            let cause = format!(in rt.alloc(); "{error}").ok();
+            let fault = Fault::from(Refusal::Read);
+            (Err(fault), Notes::unopened(rt.alloc(), cause))
+        }
+    }
+}
+
+/// Obeys a command on what a source gives, and notes what goes by.
+fn noted<R: Runtime + AllocGlobal + Threads + Wait + Sync, S: Source + Drop>(
     rt: &R,
     command: &Command,
     source: S,
+    keeps: bool,
+    progress: &Progress<'_, R>,
+) -> (Result<Ending, Fault>, Notes) {
+    let mut reader = NotedSource {
+        inner: source,
+        alloc: rt.alloc(),
+        text: Kept::new(rt.alloc(), keeps),
+        unread: None,
+        progress,
+    };
+    let mut writer = NotedSink {
+        inner: WriterSink::new(io::writer(rt)),
+        alloc: rt.alloc(),
+        unwritten: None,
+        progress,
+    };
+    let outcome = outcome_on(rt, command, &mut reader, &mut writer);
+    let notes = Notes {
+        text: reader.text,
+        unread: reader.unread,
+        unwritten: writer.unwritten,
+    };
+    (outcome, notes)
+}
+
+/// Obeys a command on what a source gives, and writes to a sink.
+fn outcome_on<R: Runtime + AllocGlobal + Threads + Wait + Sync, S: Source, W: Sink>(
+    rt: &R,
+    command: &Command,
+    reader: &mut S,
+    writer: &mut W,
 ) -> Result<Ending, Fault> {
-    let mut reader = source;
-    let mut writer = WriterSink::new(io::writer(rt));
     match command.task {
-        Task::Run => run_text(rt.alloc(), &mut reader, &mut writer)?,
-        Task::Trace => trace_text(rt.alloc(), &mut reader, &mut writer)?,
-        Task::Show(options) => show_by(rt.alloc(), options, &mut reader, &mut writer)?,
+        Task::Run => run_text(rt.alloc(), reader, writer)?,
+        Task::Trace => trace_text(rt.alloc(), reader, writer)?,
+        Task::Show(options) => show_by(rt.alloc(), options, reader, writer)?,
         Task::Check => {
-            return Ok(Ending::from(check_text(rt.alloc(), &mut reader, &mut writer)?));
+            return Ok(Ending::from(check_text(rt.alloc(), reader, writer)?));
         }
         Task::Place(steps) => {
             let steps = u64::from(steps);
-            return Ok(
-                match place_text(rt.alloc(), &mut reader, &mut writer, steps)? {
-                    Placed::History(_) => Ending::Well,
-                    Placed::Impossible(_) => Ending::No,
-                    Placed::Open(_) => Ending::Open,
-                },
-            );
+            return Ok(match place_text(rt.alloc(), reader, writer, steps)? {
+                Placed::History(_) => Ending::Well,
+                Placed::Impossible(_) => Ending::No,
+                Placed::Open(_) => Ending::Open,
+            });
         }
         Task::Work(options) => {
-            let _ = work_by(rt, rt.alloc(), options, &mut reader, &mut writer)?;
+            let _ = work_by(rt, rt.alloc(), options, reader, writer)?;
         }
         Task::Post(kind) => {
-            let _ = post_text(rt, rt.alloc(), &mut reader, &mut writer, kind)?;
+            let _ = post_text(rt, rt.alloc(), reader, writer, kind)?;
         }
+        // `run_program` explains refusals, which no file has.
+        Task::Explain => {}
     }
     Ok(Ending::Well)
 }
@@ -119,6 +211,21 @@ impl<R: Eprint> io::Write for Stderr<'_, R> {
 /// The status of an outcome, whose fault, if any, is written to standard error.
 fn ended<R: Runtime>(rt: &R, outcome: Result<Ending, Fault>) -> u8 {
     end_of(outcome, &mut WriterSink::new(Stderr { rt }))
+}
+
+/// The status of the explanation of a refusal, which is written to standard output.
+fn explained<R: Runtime>(rt: &R, word: &str) -> u8 {
+    match explain(&ENTRIES, word, &mut WriterSink::new(io::writer(rt))) {
+        Ok(true) => 0,
+        Ok(false) => {
+            let _ = eprint!(rt;
+                "error: '{}' is no refusal; docs/FAULTS.md has their numbers, 1 to 16, and names\n",
+                word.escape_debug()
+            );
+            2
+        }
+        Err(refusal) => ended(rt, Err(Fault::from(refusal))),
+    }
 }
 
 /// The status of help that is shown on standard output.

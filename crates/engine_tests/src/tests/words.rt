@@ -5,11 +5,12 @@ use std::alloc::{AllocError, Global};
 use std::process::Abort;
 use std::test::Fail;
 
-/// What a task's words ask for: 1 for a run, 2 for a check, 3 for work, 4 for posting, 5 for placing, 6 for a trace, 7 for a picture; the workers, or the steps, the queue and the nodes.
+/// What a task's words ask for: 1 for a run, 2 for a check, 3 for work, 4 for posting, 5 for placing, 6 for a trace, 7 for a picture, 8 for an
+/// explanation; the workers, or the steps, the queue and the nodes.
 type Told = (u8, u32, u8, u32);
 
 /// Words, what they ask for, and the file.
-const COMMANDS: [(&[&str], Told, &str); 22] = [
+const COMMANDS: [(&[&str], Told, &str); 26] = [
     (&[], (1, 0, 0, 0), "-"),
     (&["run", "-"], (1, 0, 0, 0), "-"),
     (&["run", "row.schedule"], (1, 0, 0, 0), "row.schedule"),
@@ -44,6 +45,32 @@ const COMMANDS: [(&[&str], Told, &str); 22] = [
     (&["post", "a"], (4, 0, 2, 0), "a"),
     (&["post", "--queue=two-lock", "-"], (4, 0, 1, 0), "-"),
     (&["post", "a", "--queue", "nonblocking"], (4, 0, 2, 0), "a"),
+    (&["explain", "10"], (8, 0, 0, 0), "10"),
+    (&["explain", "WornOut"], (8, 0, 0, 0), "WornOut"),
+    (&["explain", "17"], (8, 0, 0, 0), "17"),
+    (&["explain", "--", "--help"], (8, 0, 0, 0), "--help"),
+];
+
+/// Words that ask for a command, and whether they ask for the explanation of a fault.
+const EXPLAINED: [(&[&str], bool); 18] = [
+    (&[], false),
+    (&["run", "a"], false),
+    (&["run", "a", "--explain"], true),
+    (&["run", "--explain", "-"], true),
+    (&["run", "--", "--explain"], false),
+    (&["trace", "a"], false),
+    (&["trace", "a", "--explain"], true),
+    (&["show", "--history", "a"], false),
+    (&["show", "--history", "a", "--explain"], true),
+    (&["check", "a"], false),
+    (&["check", "--explain", "a"], true),
+    (&["place", "a", "--steps", "9"], false),
+    (&["place", "a", "--explain", "--steps", "9"], true),
+    (&["work", "--workers", "2", "a"], false),
+    (&["work", "--explain", "--workers", "2", "a"], true),
+    (&["post", "a"], false),
+    (&["post", "a", "--explain"], true),
+    (&["explain", "1"], false),
 ];
 
 /// Words that ask for a picture, its columns, its first and its last step, its actor, whether it is of a history, and the file.
@@ -66,7 +93,7 @@ const PICTURES: [(&[&str], [u32; 4], bool, &str); 5] = [
 ];
 
 /// Words that ask for no command, and the status.
-const OTHERS: [(&[&str], u8); 38] = [
+const OTHERS: [(&[&str], u8); 46] = [
     (&["run"], 2),
     (&["run", "a", "b"], 2),
     (&["run", "--fast", "a"], 2),
@@ -100,6 +127,14 @@ const OTHERS: [(&[&str], u8); 38] = [
     (&["post", "a", "--workers", "2"], 2),
     (&["post", "a", "--queue", "two_lock"], 2),
     (&["post", "--help"], 0),
+    (&["explain"], 2),
+    (&["explain", "1", "2"], 2),
+    (&["explain", "1", "--explain"], 2),
+    (&["explain", "--help"], 0),
+    (&["run", "--explain"], 2),
+    (&["run", "a", "--explain=true"], 2),
+    (&["run", "a", "--explain", "--explain"], 2),
+    (&["--explain"], 2),
     (&["-"], 2),
     (&["Run", "a"], 2),
     (&["--help"], 0),
@@ -116,6 +151,7 @@ fn told(task: Task) -> Told {
         Task::Place(steps) => (5, steps, 0, 0),
         Task::Trace => (6, 0, 0, 0),
         Task::Show(view) => (7, view.width, 0, view.to),
+        Task::Explain => (8, 0, 0, 0),
     }
 }
 
@@ -169,6 +205,7 @@ fn reads_what_a_picture_shows(rt: HostRuntime) -> Result<(), Fail> {
                 Command {
                     task: Task::Show(view),
                     file,
+                    ..
                 },
             ) => Some((
                 [view.width, view.from, view.to, view.actor],
@@ -179,6 +216,19 @@ fn reads_what_a_picture_shows(rt: HostRuntime) -> Result<(), Fail> {
         };
         let due = Some((*view, *is_history, *file));
         same(&rt, found, due, format_args!("{words:?}"));
+    }
+    Ok(())
+}
+
+#[test]
+fn reads_whether_a_fault_is_explained(rt: HostRuntime) -> Result<(), Fail> {
+    for (words, explains) in &EXPLAINED {
+        let answer = read_words(rt.alloc(), &strings(rt.alloc(), words)?);
+        let found = match &answer {
+            Ok(command) => Some(command.explains),
+            Err(_) => None,
+        };
+        same(&rt, found, Some(*explains), format_args!("{words:?}"));
     }
     Ok(())
 }

@@ -1,0 +1,63 @@
+//! What help says at its end: an example, and where the texts are described.
+
+/// The program's own.
+pub(crate) const PROGRAM: &str = "With no words at all it runs the schedule on standard input.
+
+Exit statuses:
+  0  done, or help or the version was asked for
+  1  refused, with one line on standard error: docs/FAULTS.md has each refusal
+  2  the words were refused
+  3  check or place said no
+  4  place left it open
+
+Where standard error is a terminal, lines behind that of a refusal explain it, and a call that takes over a second shows how
+far it is.";
+
+/// That of `run`.
+pub(crate) const RUN: &str = "Example:
+  msq run examples/first_run.schedule
+
+The texts: docs/FORMATS.md, Schedule and History";
+
+/// That of `trace`.
+pub(crate) const TRACE: &str = "Example:
+  msq trace examples/first_run.schedule
+
+The texts: docs/FORMATS.md, Schedule and Trace";
+
+/// That of `show`.
+pub(crate) const SHOW: &str = "Examples:
+  msq show --width 100 examples/first_run.schedule
+  msq show --history examples/first_run.history
+
+The texts: docs/FORMATS.md, Schedule and Picture, History and Timeline";
+
+/// That of `check`.
+pub(crate) const CHECK: &str = "Example:
+  msq check examples/first_run.history
+
+The texts: docs/FORMATS.md, History and Verdict";
+
+/// That of `place`.
+pub(crate) const PLACE: &str = "Example:
+  msq place examples/pending_pop.recording
+
+The texts: docs/FORMATS.md, History, Recording and Placed history";
+
+/// That of `work`.
+pub(crate) const WORK: &str = "Example:
+  msq work examples/each_kind.jobs --workers 2 --queue two-lock
+
+The texts: docs/FORMATS.md, Jobs and Results";
+
+/// That of `post`.
+pub(crate) const POST: &str = "Example:
+  msq post examples/two_senders.mail
+
+The texts: docs/FORMATS.md, Mail and Letters";
+
+/// That of `explain`.
+pub(crate) const EXPLAIN: &str = "Example:
+  msq explain NoNode
+
+docs/FAULTS.md has all refusals";

@@ -1,0 +1,113 @@
+//! What is told behind the line of a fault: where it is, what is there, what is due, and what to do.
+ghost use Rattle.msq.specs.Causes.{IsNumberOf};
+
+use crate::forms::due_at;
+use crate::notes::Notes;
+use command_line::Command;
+use engine_faults::Fault;
+use explanations::{ENTRIES, entry_named};
+use history::{Refusal, TextCause};
+use std::io;
+use std::rt::Runtime;
+
+/// How many bytes of a line are shown.
+const SHOWN: usize = 100;
+
+/// Tells on standard error what a fault is about, a line each.
+pub(crate) fn tell_cause<R: Runtime>(
+    rt: &R,
+    command: &Command,
+    fault: &Fault,
+    notes: &Notes,
+) -> io::Result<()> {
+    match fault.refusal {
+        Refusal::Text(line, cause) => {
+            tell_line(rt, command, notes, line)?;
+            eprint!(rt; "  found: {}\n", found(cause))?;
+            if cause != TextCause::Extra {
+                let due = due_at(command.task, notes.text.as_slice(), line);
+                eprint!(rt; "  due: {due}\n")?;
+            }
+        }
+        Refusal::Read => tell_reason(rt, name_of(command), &notes.unread)?,
+        Refusal::Write => tell_reason(rt, "standard output", &notes.unwritten)?,
+        _ => {
+            if let Some(line) = fault.line {
+                tell_line(rt, command, notes, line)?;
+            }
+        }
+    }
+    let Some(entry) = entry_named(&ENTRIES, number_of(fault.refusal)) else {
+        return Ok(());
+    };
+    for line in entry.text.lines().skip(1) {
+        eprint!(rt; "  {line}\n")?;
+    }
+    Ok(())
+}
+
+/// The name of the file of a command.
+fn name_of(command: &Command) -> &str {
+    match command.file.as_str() {
+        "-" => "standard input",
+        name => name,
+    }
+}
+
+/// Tells a line of the file, as it stands there where it is kept.
+fn tell_line<R: Runtime>(rt: &R, command: &Command, notes: &Notes, number: u64) -> io::Result<()> {
+    let name = name_of(command).escape_debug();
+    let Some(line) = notes.text.line(number) else {
+        return eprint!(rt; "  line {number} of {name}\n");
+    };
+    if line.is_empty() {
+        return eprint!(rt; "  line {number} of {name} is empty\n");
+    }
+    let shown = line[..line.len().min(SHOWN)].escape_ascii();
+    let rest = if line.len() > SHOWN { ".." } else { "" };
+    eprint!(rt; "  line {number} of {name}: {shown}{rest}\n")
+}
+
+/// Tells why a file can't be read or written, in the system's words.
+fn tell_reason<R: Runtime>(rt: &R, name: &str, reason: &Option<String>) -> io::Result<()> {
+    match reason {
+        Some(reason) => eprint!(rt; "  {}: {reason}\n", name.escape_debug()),
+        None => Ok(()),
+    }
+}
+
+/// What a line of a text has that is refused.
+fn found(cause: TextCause) -> &'static str {
+    match cause {
+        TextCause::End => "the text ends before a line feed ends this line",
+        TextCause::Form => "the line isn't in the form that is due",
+        TextCause::Range => "a number, or the length of a text, is out of its range",
+        TextCause::Extra => "bytes follow all the lines that are due",
+    }
+}
+
+/// The number of a refusal.
+fn number_of(refusal: Refusal) -> &'static str
+    //= program/told_number: `number_of`, by which `msq` looks up what it tells behind the line of a fault, answers the number
+    //=   that histories have for the refusal.
+    ensures { IsNumberOf refusal result.now }
+{
+    match refusal {
+        Refusal::NoNode => "1",
+        Refusal::WornOut(_) => "2",
+        Refusal::Busy => "3",
+        Refusal::Memory => "4",
+        Refusal::BadSize => "5",
+        Refusal::IdleActor => "6",
+        Refusal::ActorBusy => "7",
+        Refusal::NotHere => "8",
+        Refusal::NoSuchActor => "9",
+        Refusal::Text(_, _) => "10",
+        Refusal::Read => "11",
+        Refusal::Write => "12",
+        Refusal::Stranger => "13",
+        Refusal::Double => "14",
+        Refusal::Lost => "15",
+        Refusal::Closed => "16",
+    }
+}
