@@ -4,6 +4,7 @@ import re
 
 import traced
 
+NAMES = {"1": "NoNode", "2": "WornOut", "3": "Busy", "16": "Closed"}
 EXCHANGES = set("N4 N5 F3 E9 E13 E17 D10 D13 A3 A5 B1 S4 S5 S6 S8".split())
 ROW = re.compile(r"(\d+) (\d+) (\w+) (?:(gives)|(.+) found (.+) now (.+?))(?: reply (.+))?")
 OPERATION = re.compile(r"(\d+) (enq \d+|deq|shut) first (\d+) last (-|\d+) at (-|\d+) reply (.+)")
@@ -19,6 +20,12 @@ def content(word, text):
 
 def name(word):
     return re.sub(r"(next|value) (\d+)", r"\2.\1", word)
+
+
+def named(reply):
+    """A reply, behind which the name of a refusal stands."""
+    words = reply.split()
+    return f"{reply} ({NAMES[words[1]]})" if words[0] == "refused" else reply
 
 
 def chains(words):
@@ -86,7 +93,7 @@ def due(schedule, width=80, first=1, last=0, actor=0):
         else:
             found, now = content(word, found), content(word, now)
             did = f" {name(word)}" + (f" := {now}" if found != now else " lost" if line in EXCHANGES else f" {now}")
-        cell = ("*" if machine.steps in marked else " ") + line + did + (f" -> {reply}" if reply else "")
+        cell = ("*" if machine.steps in marked else " ") + line + did + (f" -> {named(reply)}" if reply else "")
         text = (number.rjust(6) + " ").ljust(column(me)) + cell
         put(text.ljust(side) + after if machine.steps == first or before != after else text)
 
@@ -130,7 +137,7 @@ def timeline(history, width=80, first=1, last=0, actor=0):
             bar[stop] = ">" if goes_on else "|"
         if at is not None and first <= at <= to:
             bar[place(at)] = "*"
-        text = f"{me:>6} {''.join(bar)} {call} -> {reply}"
+        text = f"{me:>6} {''.join(bar)} {call} -> {named(reply)}"
         rows.append(text if len(text) <= width else text[: width - 1] + "~")
     rows.append(f"steps {first} to {to} of {end}, operations {len(shown)} of {len(ops)}")
     return "".join(f"{row}\n" for row in rows)

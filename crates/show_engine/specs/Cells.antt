@@ -1,6 +1,9 @@
 -- What an actor's step did, as a short text.
 use Rattle.std.specs.Prelude.{ℕ, Bool, true, false, List, [], ◌++◌, Option, Some, None, codes, decimal, if◌then◌else◌}
 use Rattle.std.specs.Str.{bytes_eq}
+use Rattle.history.specs.declared.operations.Reply.{Reply}
+use Rattle.history.specs.declared.operations.Reply.TheVariants.{Refused}
+use Rattle.history.specs.declared.refusals.Refusal.TheVariants.{NoNode, WornOut, Busy, Closed as IsClosed}
 use Rattle.history_text.specs.HistoryText.{reply_text}
 use Rattle.line_steps.specs.Memory.{Shared, Word, Fresh, Free, Head, Tail, Tail_lock, Head_lock, Next, Value_of}
 use Rattle.line_table.specs.declared.lines.Line.{Line}
@@ -64,11 +67,24 @@ abbrev pub touch_text : (bits : ℕ) → Line → Option Word → (before after 
 touch_text bits l None before after = []
 touch_text bits l (Some x) before after = access_text l x (contents_in bits x before) (contents_in bits x after)
 
+-- the name of a refusal that a queue answers, as it stands behind its number
+abbrev pub name_text : Reply → List ℕ
+name_text (Refused NoNode) = codes " (NoNode)"
+name_text (Refused (WornOut word)) = codes " (WornOut)"
+name_text (Refused Busy) = codes " (Busy)"
+name_text (Refused IsClosed) = codes " (Closed)"
+name_text _ = []
+
+-- a reply, or a dash where there is none, with the name of a refusal
+abbrev pub named_reply : Option Reply → List ℕ
+named_reply None = reply_text None
+named_reply (Some reply) = reply_text (Some reply) ++ name_text reply
+
 -- the reply of a call that ended
 abbrev pub answer_text : Stepped → List ℕ
 answer_text Began = []
 answer_text (Went l) = []
-answer_text (Ended l reply) = codes " -> " ++ reply_text (Some reply)
+answer_text (Ended l reply) = codes " -> " ++ named_reply (Some reply)
 
 -- what stands before a step: a star where an operation takes effect
 abbrev pub mark_text : Bool → List ℕ

@@ -2,7 +2,8 @@
 use Rattle.std.specs.Prelude.{ℕ, zero, suc, ◌-◌, List, [], ◌∷◌, ◌++◌, length, Option, Some, None, Bool, false, ◌&&◌, ◌||◌, codes, count_by, decimal, nat_eq, nat_le, nat_lt, if◌then◌else◌}
 use Rattle.std.specs.List.{flat_map}
 use Rattle.history.specs.declared.operations.Stamped.{Stamped}
-use Rattle.history_text.specs.HistoryText.{call_text, reply_text}
+use Rattle.history_text.specs.HistoryText.{call_text}
+use Rattle.show_engine.specs.Cells.{named_reply}
 use Rattle.show_engine.specs.declared.framing.View.{View}
 use Rattle.show_engine.specs.Rows.{truncated_to, number_text}
 use Rattle.show_engine.specs.declared.scales.Scale.{Scale}
@@ -41,7 +42,7 @@ bar_text s o (suc n) = bar_text s o n ++ mark_in s o n ∷ []
 -- the row of an operation: its actor, its bar, its call and its reply
 unfoldable pub row_text : Scale → Stamped → List ℕ
 row_text s o =
-    truncated_to s.width (number_text o.actor ++ bar_text s o s.columns ++ codes " " ++ call_text o.op ++ codes " -> " ++ reply_text o.reply) ++ codes "\n"
+    truncated_to s.width (number_text o.actor ++ bar_text s o s.columns ++ codes " " ++ call_text o.op ++ codes " -> " ++ named_reply o.reply) ++ codes "\n"
 
 -- the row of an operation that is shown
 abbrev pub shown_row : Scale → Stamped → List ℕ

@@ -4,10 +4,11 @@ ghost use Rattle.show_engine.specs.Rows.{truncated_to, number_text};
 ghost use Rattle.show_engine.specs.Scales.{IsFitting, is_shown};
 ghost use Rattle.show_engine.specs.Timelines.{bar_text, end_column, end_mark, is_point, mark_in, row_text, shown_row, span_text};
 
+use crate::cells::push_named;
 use crate::rows::{number_start, push_number, truncate};
 use crate::scales::Scale;
 use history::Stamped;
-use history_text::{push_call, push_reply};
+use history_text::push_call;
 use text_io::{LINE_ROOM, Line};
 
 /// Whether an operation takes effect at a number that is shown in a column.
@@ -83,7 +84,7 @@ fn row_line(scale: Scale, operation: &Stamped) -> Line
     line.push(b" ");
     push_call(&mut line, operation.op);
     line.push(b" -> ");
-    push_reply(&mut line, operation.reply);
+    push_named(&mut line, &operation.reply);
     truncate(line, scale.width)
 }
 

@@ -2,9 +2,9 @@
 ghost use Rattle.std.specs.Prelude.{◌≡◌, ◌+◌, ◌≤◌, ◌++◌, codes, length, decimal};
 ghost use Rattle.history_text.specs.HistoryText.{call_text};
 ghost use Rattle.step_machine.specs.Accesses.{word_named};
-ghost use Rattle.show_engine.specs.Cells.{access_text, answer_text, cell_text, change_text, exchanges, gives_text, held_text, mark_text, place_text};
+ghost use Rattle.show_engine.specs.Cells.{access_text, answer_text, cell_text, change_text, exchanges, gives_text, held_text, mark_text, name_text, named_reply, place_text};
 
-use history::Op;
+use history::{Op, Refusal, Reply};
 use history_text::{push_call, push_reply};
 use line_table::Line as At;
 use step_machine::{Contents, Stepped, WordName};
@@ -127,15 +127,44 @@ fn marked(is_marked: bool) -> Line
     line
 }
 
+/// Puts the name of a refusal that a queue answers at the end of a line.
+fn push_name(line: &mut Line, reply: &Reply)
+    requires { length line.old + 10 ≤ LINE_ROOM }
+    ensures text { line.new ≡ line.old ++ name_text reply.now }
+    ensures short { length line.new ≤ length line.old + 10 }
+{
+    if let Reply::Refused(refusal) = reply {
+        match refusal {
+            Refusal::NoNode => line.push(b" (NoNode)"),
+            Refusal::WornOut(_) => line.push(b" (WornOut)"),
+            Refusal::Busy => line.push(b" (Busy)"),
+            Refusal::Closed => line.push(b" (Closed)"),
+            _ => {}
+        }
+    }
+}
+
+/// Puts a reply at the end of a line, or a dash where there is none, with the name of a refusal.
+pub(crate) fn push_named(line: &mut Line, reply: &Option<Reply>)
+    requires { length line.old + 57 ≤ LINE_ROOM }
+    ensures text { line.new ≡ line.old ++ named_reply reply.now }
+    ensures short { length line.new ≤ length line.old + 57 }
+{
+    push_reply(line, *reply);
+    if let Some(reply) = reply {
+        push_name(line, reply);
+    }
+}
+
 /// Puts the reply of a call that ended at the end of a line.
 fn push_answer(line: &mut Line, told: &Stepped)
-    requires { length line.old + 51 ≤ LINE_ROOM }
+    requires { length line.old + 61 ≤ LINE_ROOM }
     ensures text { line.new ≡ line.old ++ answer_text told.now }
-    ensures short { length line.new ≤ length line.old + 51 }
+    ensures short { length line.new ≤ length line.old + 61 }
 {
     if let Stepped::Ended(_, reply) = *told {
         line.push(b" -> ");
-        push_reply(line, Some(reply));
+        push_named(line, &Some(reply));
     }
 }
 

@@ -56,7 +56,7 @@ const FIRST_PICTURE: &str = "queue nonblocking, bits 24, nodes 2, limit 1, actor
     16             *D13 Head := <2,1>                 | Head 2, Free -
     17              F1 gives -> value 1 5
         enq 6
-    18 *N1 gives -> refused 3
+    18 *N1 gives -> refused 3 (Busy)
         deq
 steps 1 to 18 of 18, actors 1 to 2 of 2
 ";
@@ -80,7 +80,7 @@ const SHUT_PICTURE: &str = "queue two-lock, bits 32, nodes 2, limit 4294967295, 
      5  B1 H_lock := 1
      6  B2 Head <1,0>
      7  B3 1.next <shut,0>
-     8 *B6 H_lock := 0 -> refused 16
+     8 *B6 H_lock := 0 -> refused 16 (Closed)
 steps 1 to 8 of 8, actors 1 to 5 of 65535
 ";
 
