@@ -1,16 +1,18 @@
 //! The queue of either kind: each call is that of the queue within.
-ghost use Rattle.std.specs.Prelude.{◌≡◌, IfOk, IfErr, OnOk};
+ghost use Rattle.std.specs.Prelude.{◌≡◌, ◌↔◌, IsNone, IfSome, IfOk, IfErr, OnOk};
 ghost use Rattle.counted_ref.specs.Ref.{IsSplit};
 ghost use Rattle.line_table.specs.declared.lines.Kind.{Kind};
+ghost use Rattle.line_table.specs.declared.lines.Kind.TheVariants.{TwoLock};
 ghost use Rattle.node_arena.specs.Making.{plan, IsMade, NewRefused};
 ghost use Rattle.node_arena.specs.Plans.{permits_by, IsPlanned};
-ghost use Rattle.node_arena.specs.Seats.{known_of};
+ghost use Rattle.node_arena.specs.Seats.{KeepsStored, known_of, setup_of};
+ghost use Rattle.node_arena.specs.Looks.{FoundSo, WasSoLong};
 ghost use Rattle.history.specs.Openings.{AreNew};
 
 use arena_queue::Algorithm;
 use history::{Body, Close, Fifo, Refusal, Rest, Taken};
 use line_table::Kind;
-use node_arena::{Ended, Role, Seat};
+use node_arena::{Emptiness, Ended, Len, Role, Seat};
 use nonblocking::{MsQueueOf, NonBlockingAlgorithm};
 use std::alloc::Global;
 use two_lock::{TwoLockAlgorithm, TwoLockQueueOf};
@@ -74,6 +76,51 @@ impl<const B: u32> AnyQueueOf<B> {
                 let (queue, seats) = TwoLockQueueOf::<B>::new(alloc, nodes, limit, roles)?;
                 Ok((AnyQueueOf::TwoLock(queue), seats))
             }
+        }
+    }
+
+    /// Whether the queue is empty, as it was at some moment of the call; or that pops took effect while the seat looked.
+    /// Takes no memory and doesn't wait.
+    ///
+    /// ```rust
+    /// if queue.emptiness(&mut seat) == Emptiness::ShutEmpty {
+    ///     return;
+    /// }
+    /// ```
+    pub fn emptiness(&self, seat: &mut Seat) -> Emptiness
+        requires { IsAnySeat self.now seat.old }
+        ensures seat { IsAnySeat self.now seat.new }
+        ensures stored { KeepsStored seat.old seat.new }
+        //= atomics/emptiness (seat, found)
+        ensures found { FoundSo (known_of seat.old) result (known_of seat.new) }
+    {
+        match self {
+            AnyQueueOf::NonBlocking(queue) => queue.emptiness(seat),
+            AnyQueueOf::TwoLock(queue) => queue.emptiness(seat),
+        }
+    }
+
+    /// How many values the queue holds, as bounds of what it held at some moment of the call; none exactly of a two-lock
+    /// queue, whose Tail counts nothing. Takes no memory and doesn't wait.
+    ///
+    /// ```rust
+    /// if queue.len(&mut seat).is_some_and(|len| len.least > 1000) {
+    ///     start_another_worker();
+    /// }
+    /// ```
+    pub fn len(&self, seat: &mut Seat) -> Option<Len>
+        requires { IsAnySeat self.now seat.old }
+        ensures seat { IsAnySeat self.now seat.new }
+        ensures stored { KeepsStored seat.old seat.new }
+        //= library/len (none, long): A queue of either kind, or of a picked split, tells its length as a non-blocking one
+        //=   does, and none exactly where it is a two-lock one.
+        ensures none { IsNone result ↔ ((setup_of (any_arena_of self.now)).kind ≡ TwoLock) }
+        ensures long { IfSome result
+            (λ len. WasSoLong (known_of seat.old) len (known_of seat.new)) }
+    {
+        match self {
+            AnyQueueOf::NonBlocking(queue) => Some(queue.len(seat)),
+            AnyQueueOf::TwoLock(_) => None,
         }
     }
 }
@@ -150,6 +197,7 @@ impl<const B: u32> Fifo for AnyQueueOf<B> {
     }
 }
 
+//= library/any
 impl<const B: u32> Close for AnyQueueOf<B> {
     ghost use Rattle.std.specs.Prelude.{map};
     ghost use Rattle.std.specs.List.{All};

@@ -1,9 +1,11 @@
 //! The queue of a picked split: each call is that of the queue within.
-ghost use Rattle.std.specs.Prelude.{◌≡◌, IfOk, IfErr, OnOk};
+ghost use Rattle.std.specs.Prelude.{◌≡◌, ◌↔◌, IsNone, IfSome, IfOk, IfErr, OnOk};
 ghost use Rattle.line_table.specs.declared.lines.Kind.{Kind};
+ghost use Rattle.line_table.specs.declared.lines.Kind.TheVariants.{TwoLock};
 ghost use Rattle.node_arena.specs.Making.{IsMade, NewRefused};
 ghost use Rattle.node_arena.specs.Plans.{permits_by, IsPlanned};
-ghost use Rattle.node_arena.specs.Seats.{known_of};
+ghost use Rattle.node_arena.specs.Seats.{KeepsStored, known_of, setup_of};
+ghost use Rattle.node_arena.specs.Looks.{FoundSo, WasSoLong};
 ghost use Rattle.history.specs.Openings.{AreNew};
 ghost use Rattle.any_queue.specs.Splits.{limited_plan, picked_plan};
 
@@ -12,7 +14,7 @@ use crate::splits::bits_for;
 use counted_ref::most_count;
 use history::{Body, Close, Fifo, Refusal, Rest, Taken};
 use line_table::Kind;
-use node_arena::{Ended, Role, Seat};
+use node_arena::{Emptiness, Ended, Len, Role, Seat};
 use std::alloc::Global;
 
 /// A queue of either kind whose split is picked by its nodes, so that it lasts as long as one of so many nodes can. Threads
@@ -123,6 +125,42 @@ impl PickedQueue {
             }
         }
     }
+
+    /// Whether the queue is empty, as `AnyQueueOf::emptiness` tells.
+    ///
+    /// ```rust
+    /// if queue.emptiness(&mut seat) == Emptiness::ShutEmpty {
+    ///     return;
+    /// }
+    /// ```
+    pub fn emptiness(&self, seat: &mut Seat) -> Emptiness
+        requires { IsPickedSeat self.now seat.old }
+        ensures seat { IsPickedSeat self.now seat.new }
+        ensures stored { KeepsStored seat.old seat.new }
+        //= atomics/emptiness (seat, found)
+        ensures found { FoundSo (known_of seat.old) result (known_of seat.new) }
+    {
+        within!(self, queue => queue.emptiness(seat))
+    }
+
+    /// How many values the queue holds, as `AnyQueueOf::len` tells.
+    ///
+    /// ```rust
+    /// if queue.len(&mut seat).is_some_and(|len| len.least > 1000) {
+    ///     start_another_worker();
+    /// }
+    /// ```
+    pub fn len(&self, seat: &mut Seat) -> Option<Len>
+        requires { IsPickedSeat self.now seat.old }
+        ensures seat { IsPickedSeat self.now seat.new }
+        ensures stored { KeepsStored seat.old seat.new }
+        //= library/len (none, long)
+        ensures none { IsNone result ↔ ((setup_of (picked_arena_of self.now)).kind ≡ TwoLock) }
+        ensures long { IfSome result
+            (λ len. WasSoLong (known_of seat.old) len (known_of seat.new)) }
+    {
+        within!(self, queue => queue.len(seat))
+    }
 }
 
 //= library/picked
@@ -179,6 +217,7 @@ impl Fifo for PickedQueue {
     }
 }
 
+//= library/picked
 impl Close for PickedQueue {
     ghost use Rattle.std.specs.Prelude.{map};
     ghost use Rattle.std.specs.List.{All};

@@ -2,6 +2,7 @@
 #![tactic(auto)]
 
 mod algorithms;
+mod looks;
 mod queue;
 
 pub use algorithms::Algorithm;

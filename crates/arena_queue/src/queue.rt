@@ -15,7 +15,7 @@ use std::marker::PhantomData;
 /// A queue that runs an algorithm on its arena. Threads share it by reference, each with a seat of its own.
 #[derive(Drop)]
 pub struct ArenaQueueOf<A: Algorithm<B>, const B: u32> {
-    arena: ArenaOf<B>,
+    pub(crate) arena: ArenaOf<B>,
     algorithm: PhantomData<A>,
     ghost runs: { IsOfKind arena A.kind },
 }

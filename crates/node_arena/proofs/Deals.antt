@@ -117,7 +117,7 @@ deals z id n few s h mine =
     let own : ℕ → ℕ × ℕ = changed h.owner n (l, 0) in
     let P : ℕ → ℕ → SeatView → Type 0 = λ j i o. Fits h.trace o × (own o.number ≡ (j, i)) × (o.number < n + 1) in
     let fresh = h.undealt n (let e = k.1 in omega arith) few in
-    let new : P l 0 (new_seat n) = (record { actor = fresh.actor; path = fresh.path; rest = h.trace.history; begins = refl; own = fresh.own; known = refl; noted = All-nil (IsNoted []); saw = tt }, changed_here h.owner n (l, 0), omega arith) in
+    let new : P l 0 (new_seat n) = (record { actor = fresh.actor; path = fresh.path; rest = h.trace.history; begins = refl; own = fresh.own; known = refl; noted = All-nil (IsNoted []); saw = tt; looked = tt }, changed_here h.owner n (l, 0), omega arith) in
     let old : (j i : ℕ) (u : View) (o : SeatView) → get_elem? s.views j ≡ some u → get_elem? (members u) i ≡ some o → P j i o = λ j i u o a b.
     let t = h.owned j i u o a b in let lt : o.number < n = let x = t.1 in let e = k.1 in omega arith in (h.fits j i u o a b, changed_else h.owner n (l, 0) o.number (λ e. omega arith) ∙ t.0, omega arith) in
     let all : (j i : ℕ) (u : View) (o : SeatView) → get_elem? (set s.views id (keeper (n + 1)) ++ seated (new_seat n) ∷ []) j ≡ some u → get_elem? (members u) i ≡ some o → P j i o = λ j i u o a b.
@@ -193,7 +193,7 @@ newly z n sized least few =
       reached = record { actors = length z.roles; moves = []; sized = sized; led = refl };
       setup = refl;
       permitted = All-nil (RolesPermit z.roles);
-      fits = record { actor = idle_actor z.setup (length z.roles) n least few; path = refl; rest = []; begins = refl; own = refl; known = refl; noted = All-nil (IsNoted []); saw = tt };
+      fits = record { actor = idle_actor z.setup (length z.roles) n least few; path = refl; rest = []; begins = refl; own = refl; known = refl; noted = All-nil (IsNoted []); saw = tt; looked = tt };
     }
 
 -- a seat with the token of a number that was dealt

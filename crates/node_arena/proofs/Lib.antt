@@ -1,5 +1,6 @@
 pub mod Tracing
 pub mod Histories
+pub mod Rising
 pub mod PrologueTraces
 pub mod Entering
 pub mod Told
@@ -18,6 +19,9 @@ pub mod Calls
 pub mod Deals
 pub mod Meets
 pub mod Gathers
+pub mod Looking
+pub mod Found
+pub mod TailCounts
 pub mod Lefts
 pub mod Ends
 pub mod Noted

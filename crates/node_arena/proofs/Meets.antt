@@ -125,10 +125,10 @@ spares z id v s h at_id =
     (at_end (set s.views id (seated v)) spent (keeper n) j a))
 
 -- what a seat knows, once it has seen the whole history
-abbrev learned : Traced → SeatView → SeatView
+abbrev pub learned : Traced → SeatView → SeatView
 learned t v = record v { seen = t.history }
 
-learns : (t : Traced) (v : SeatView) → (at_rest v.actor).line ≡ None → Fits t v → Fits t (learned t v)
+pub learns : (t : Traced) (v : SeatView) → (at_rest v.actor).line ≡ None → Fits t v → Fits t (learned t v)
 learns t v free f =
     record {
       actor = f.actor;
@@ -139,6 +139,7 @@ learns t v free f =
       known = f.own;
       noted = subst (λ es. All (IsNoted es) v.notes) (sym f.begins) (All-weaker (IsNoted v.seen) (IsNoted (v.seen ++ f.rest)) (noted_more v.seen f.rest) v.notes f.noted);
       saw = saw_at_rest t t.history v.actor v.actor.line refl free;
+      looked = f.looked;
     }
 
 -- a load of the word 0 by two seats that are one: both have seen the whole history
@@ -190,7 +191,7 @@ pub met_there : (z : Layout) (j m : Me ℕ View) (v w : SeatView) → j ≡ (pai
 met_there z j m v w is h = subst (λ (y : Me ℕ View). Met z (knows y.0) (knows_second y.0) m) is h
 
 -- a seat with another token of its own, which knows the same but for what it has seen
-sits_so : (r : Arena) (s : Seat) (t : Token ℕ Knowing) (v : SeatView) → IsReady r s → t.table_id ≡ r.id → t.me ≡ (seated v, []) → v.number ≡ (view s).number → v.actor ≡ (view s).actor → v.mine ≡ (view s).mine → Fitted r.plan v → IsReady r (record s { token = t })
+pub sits_so : (r : Arena) (s : Seat) (t : Token ℕ Knowing) (v : SeatView) → IsReady r s → t.table_id ≡ r.id → t.me ≡ (seated v, []) → v.number ≡ (view s).number → v.actor ≡ (view s).actor → v.mine ≡ (view s).mine → Fitted r.plan v → IsReady r (record s { token = t })
 sits_so r s t v i here me number actor mine fitted =
     let is : knows t.me.0 ≡ v = ap (λ (y : Me ℕ View). knows y.0) me in
     record {

@@ -1,9 +1,10 @@
 -- Each step of a seat at a line keeps the rule: one lemma for all lines and all forms of access.
-use Rattle.std.proofs.Common.{◌≡◌, ◌≢◌, ℕ, ◌-◌, ◌<◌, ◌≤◌, Bool, true, false, if◌then◌else◌, nat_eq, bit_and, Option, Some, List, [], ◌∷◌, ◌++◌, zero, suc, length, get_or, set, slice_get, sym, refl, ap, ◌∙◌, subst, ⊎_elim, arith, append-nil, append_assoc}
+use Rattle.std.proofs.Common.{◌≡◌, ◌≢◌, ℕ, ◌-◌, ◌<◌, ◌≤◌, Bool, true, false, if◌then◌else◌, nat_eq, bit_and, Option, Some, IfSome, List, [], ◌∷◌, ◌++◌, zero, suc, length, get_or, set, slice_get, sym, refl, ap, ◌∙◌, subst, ⊎_elim, arith, append-nil, append_assoc}
 use Rattle.std.specs.List.{All, count_by}
 use Rattle.std.proofs.lemmas.List.{set-get_or}
 use Rattle.std.proofs.lemmas.List.Elements.{All-append, All-weaker, filter-append}
 use Rattle.std.proofs.lemmas.List.Sums.{sum_by-append}
+use Rattle.std.proofs.lemmas.Option.{IfSome_then}
 use mathlib.Core.Option.{some, some-injective, some-ne-none}
 use prog.Atomic.{either}
 use lib.ListN.{get_elem?}
@@ -27,16 +28,17 @@ use Rattle.step_machine.proofs.AccessesNameWords.{accesses_are_one_step, each_ac
 use Rattle.node_arena.specs.declared.roles.Role.{Role}
 use Rattle.node_arena.specs.Traces.{Traced, IsTraced, step_at, actor_at, outcome_at, event_at, entries_at, number_at, sees}
 use Rattle.node_arena.specs.Prologues.{Prologue, after_prologue, CanStart}
-use Rattle.node_arena.specs.Seeing.{SeatView, View, keeper, seated, members, knows}
+use Rattle.node_arena.specs.Seeing.{SeatView, Looked, View, keeper, seated, members, knows}
 use Rattle.node_arena.specs.Places.{place, shared_words}
 use Rattle.node_arena.specs.Plans.{Layout, RolesPermit, PermitsLine}
-use Rattle.node_arena.specs.Rule.{SawAt, Fits, IsNew, Holds, notes_of, SaysOfSeen, Steps, Tells, line_or_first}
+use Rattle.node_arena.specs.Rule.{SawAt, StaysLooked, Fits, IsNew, Holds, notes_of, SaysOfSeen, Steps, Tells, line_or_first}
 use Rattle.node_arena.proofs.Placed.{length-shared_words, get_or-shared_words, shared_words-set}
 use Rattle.node_arena.proofs.There.{words_there, index_within}
 use Rattle.node_arena.proofs.Tracing.{traced_reached, step_traced, step_here, step_else, step_count, changed_here, changed_else}
 use Rattle.node_arena.proofs.PrologueTraces.{Led, prologue_traced}
 use Rattle.node_arena.proofs.Histories.{counts_pops}
 use Rattle.node_arena.proofs.Empties.{noted_more, saw_later, saw_led, saw_after, says_after, noted_after}
+use Rattle.node_arena.proofs.Rising.{looked_same, looked_after}
 use Rattle.node_arena.proofs.Entering.{own_added, none_added, permitted_added}
 use Rattle.node_arena.proofs.Seens.{silent, later, begins_by, between, seen_is, whole_by, stays_by, known_by}
 
@@ -137,7 +139,7 @@ module _ (z : Layout) (s : State ℕ View) (h : Holds z s) (id : ℕ) (v : SeatV
   history_is = (λ i. f.history i ++ entries_at (setup i) u v.number a l)
 
   abbrev v' : SeatView
-  v' = record { number = v.number; actor = actor_at z.setup u v.number a l; path = v.path ++ event_at z.setup u v.number a l ∷ []; seen = if sees l then t.history else v.seen; mine = v.mine ++ es; notes = v.notes ++ notes_of (outcome_at z.setup u v.number a l).reply (if sees l then t.history else v.seen) }
+  v' = record { number = v.number; actor = actor_at z.setup u v.number a l; path = v.path ++ event_at z.setup u v.number a l ∷ []; seen = if sees l then t.history else v.seen; mine = v.mine ++ es; notes = v.notes ++ notes_of (outcome_at z.setup u v.number a l).reply (if sees l then t.history else v.seen); looked = v.looked }
 
   reached : IsTraced t
   reached = step_traced u v.number a l led_there.1 f.here line
@@ -180,6 +182,10 @@ module _ (z : Layout) (s : State ℕ View) (h : Holds z s) (id : ℕ) (v : SeatV
       (subst (λ es. All (IsNoted es) v.notes) (sym seen) (All-weaker (IsNoted v.seen) _ (noted_more v.seen _) v.notes fit.noted))
       (subst (λ s. All (IsNoted v'.seen) (notes_of (outcome_at s u v.number a l).reply v'.seen)) setup (noted_after u v.number a v'.seen l says))
 
+  -- what a seat looked at stays so
+  looked : (x : Option Looked) → IfSome x (StaysLooked h.trace) → IfSome x (StaysLooked t)
+  looked x k = IfSome_then x k (λ y stays. looked_after u v.number a l led_there.1 f.here line y (looked_same h.trace u y f.shared f.setup stays))
+
   me : Fits t v'
   me = record {
     actor = here;
@@ -190,6 +196,7 @@ module _ (z : Layout) (s : State ℕ View) (h : Holds z s) (id : ℕ) (v : SeatV
     known = known_by v.seen fit.rest es t.history parts v.number v.mine (sees l) quiet own fit.known;
     noted = noted;
     saw = subst (λ s. SawAt t v'.seen (actor_at s u v.number a l) (actor_at s u v.number a l).line (actor_at s u v.number a l).due) setup (saw_after u v.number a l led_there.1 f.here line v'.seen whole);
+    looked = looked v.looked fit.looked;
   }
 
   -- Head's count doesn't fall
@@ -206,6 +213,7 @@ module _ (z : Layout) (s : State ℕ View) (h : Holds z s) (id : ℕ) (v : SeatV
     known = g.known;
     noted = g.noted;
     saw = saw_later h.trace t o.seen o.actor o.actor.line o.actor.due rises f.setup g.saw;
+    looked = looked o.looked g.looked;
   }
 
   new : (n : ℕ) → n ≢ v.number → IsNew h.trace n → IsNew t n

@@ -13,5 +13,6 @@ pub mod Closing
 pub mod Turns
 pub mod Paths
 pub mod Moments
+pub mod Looks
 pub mod Causes
 pub mod Arenas

@@ -1,9 +1,10 @@
 -- The rule of the table: words and seats are those of a traced world that moves lead to.
-use Rattle.std.specs.Prelude.{◌≡◌, ◌⊎◌, ℕ, ◌<◌, ◌≤◌, true, false, List, [], ◌∷◌, ◌++◌, length, Option, Some, None}
+use Rattle.std.specs.Prelude.{◌≡◌, ◌⊎◌, ℕ, ◌<◌, ◌≤◌, true, false, List, [], ◌∷◌, ◌++◌, length, Option, Some, None, IfSome}
 use Rattle.std.specs.List.{All}
 use mathlib.Core.Option.{some}
 use lib.ListN.{get_elem?}
 use Rattle.atomic_table.specs.Table.{State, Me}
+use Rattle.line_table.specs.declared.lines.Kind.TheVariants.{NonBlocking}
 use Rattle.line_table.specs.declared.lines.Line.{Line}
 use Rattle.line_table.specs.declared.lines.Line.TheVariants.{N1, D5, A7, B6, S9}
 use Rattle.history.specs.declared.operations.Entry.{Entry}
@@ -12,13 +13,13 @@ use Rattle.history.specs.declared.operations.Reply.TheVariants.{Empty, Refused}
 use Rattle.history.specs.declared.refusals.Refusal.TheVariants.{Closed}
 use Rattle.history.specs.Entries.{own_entries, LeadsTo, Leads, LeadsToShut}
 use Rattle.history.specs.Seats.{IsNoted}
-use Rattle.counted_ref.specs.Ref.{reserved_node}
+use Rattle.counted_ref.specs.Ref.{Ref, reserved_node}
 use Rattle.line_steps.specs.Actors.{Actor}
 use Rattle.step_machine.specs.Words.{memory_words}
 use Rattle.step_machine.specs.Machine.{idle, actor_of}
 use Rattle.node_arena.specs.Traces.{Traced, IsTraced, step_at, actor_at, outcome_at, event_at, entries_at, number_at, sees}
 use Rattle.node_arena.specs.Prologues.{Prologue, after_prologue}
-use Rattle.node_arena.specs.Seeing.{SeatView, View, keeper, gathered, seated, paired, members, knows}
+use Rattle.node_arena.specs.Seeing.{SeatView, Looked, View, keeper, gathered, seated, paired, members, knows}
 use Rattle.node_arena.specs.Places.{shared_words}
 use Rattle.node_arena.specs.Plans.{Layout, IsPlanned, RolesPermit}
 
@@ -36,9 +37,18 @@ SawAt t seen a (Some A7) (Some (Refused Closed)) = LeadsToShut seen
 SawAt t seen a (Some S9) (Some (Refused Closed)) = LeadsToShut seen
 SawAt t seen a line due = Unit {0}
 
+-- a word holds what was read of it, or its count is higher now
+abbrev pub IsCurrentOrPast : (word read : Ref) → Type 0
+IsCurrentOrPast word read = (word ≡ read) ⊎ (read.count < word.count)
+
+-- Head is as at a seat's look, or its count is higher now, and so is Tail in the queue that counts it
+pub record StaysLooked (t : Traced) (x : Looked) : Type 0 where
+  pub head : IsCurrentOrPast t.world.shared.head x.head
+  pub tail : t.world.setup.kind ≡ NonBlocking → IsCurrentOrPast t.world.shared.tail x.tail
+
 -- a seat's actor and path are the traced world's, what it has seen is a prefix of the history, and its own entries
 -- are just those of it, and just those that it has seen; the queue was empty, or shut, after as many of these as each note
--- says, and what its actor found that it may note next is so
+-- says, what its actor found that it may note next is so, and what it looked at last stays so
 pub record Fits (t : Traced) (v : SeatView) : Type 0 where
   pub actor : actor_of t.world v.number ≡ Some v.actor
   pub path : t.paths v.number ≡ v.path
@@ -48,6 +58,7 @@ pub record Fits (t : Traced) (v : SeatView) : Type 0 where
   pub known : own_entries v.number v.seen ≡ v.mine
   pub noted : All (IsNoted v.seen) v.notes
   pub saw : SawAt t v.seen v.actor v.actor.line v.actor.due
+  pub looked : IfSome v.looked (StaysLooked t)
 
 -- nothing was done by a number
 pub record IsNew (t : Traced) (n : ℕ) : Type 0 where

@@ -4,8 +4,11 @@
 mod arena;
 mod closing;
 mod dealing;
+mod emptiness;
 mod ended;
 pub mod laws;
+mod lengths;
+mod looks;
 mod making;
 mod meeting;
 mod packing;
@@ -21,7 +24,9 @@ mod words;
 
 pub use arena::{Arena, ArenaOf};
 pub use counted_ref::{MOST_COUNT, MOST_NODE, most_count, most_node};
+pub use emptiness::Emptiness;
 pub use ended::Ended;
+pub use lengths::Len;
 pub use line_steps::value_of;
 pub use plans::Plan;
 pub use roles::Role;

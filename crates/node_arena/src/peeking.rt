@@ -12,7 +12,7 @@ impl<const B: u32> ArenaOf<B> {
     /// than that it may hold this in some reachable world, as a new arena's words do: nothing of this moment, nor of what a
     /// seat has seen. Takes no memory and doesn't wait.
     pub fn peek(&self, word: usize) -> Option<u64>
-        //= atomics/peek (none, held): A look at a shared word answers none exactly where there is no such word, and
+        //= atomics/peek (none, held): A peek at a shared word answers none exactly where there is no such word, and
         //=   else what it holds in some reachable traced world of its setup with an actor for each seat, whatever their
         //=   roles: of which moment isn't said, and a new arena's word is one.
         ensures none { IsNone result ↔ (6 + 2 * (setup_of self.now).size ≤ word) }

@@ -1,0 +1,89 @@
+-- What a look of a seat tells, and what looks one after another say of the queue.
+use Rattle.std.specs.Prelude.{◌≡◌, ℕ, ◌+◌, ◌<◌, ◌≤◌, Bool, true, false, List, [], ◌∷◌, ◌++◌, length, slice_index, Some, IfSome}
+use Rattle.std.specs.List.{count_by}
+use mathlib.Core.List.{IsPrefix}
+use Rattle.history.specs.declared.operations.Entry.{Entry}
+use Rattle.history.specs.declared.operations.Taken.{Taken}
+use Rattle.history.specs.Entries.{is_pop, Leads, LeadsTo}
+use Rattle.history.specs.Seats.{Known}
+use Rattle.history.specs.Answers.{SeesMore}
+use Rattle.step_machine.specs.Words.{memory_words}
+use Rattle.node_arena.specs.declared.emptiness.Emptiness.{Emptiness}
+use Rattle.node_arena.specs.declared.emptiness.Emptiness.TheVariants.{Empty, ShutEmpty, Holds, Moved}
+use Rattle.node_arena.specs.declared.lengths.Len.{Len}
+use Rattle.node_arena.specs.declared.seats.Seat.{Seat}
+use Rattle.node_arena.specs.Arenas.{Arena}
+use Rattle.node_arena.specs.Traces.{Traced, IsTraced}
+use Rattle.node_arena.specs.Seeing.{SeatView, Looked}
+use Rattle.node_arena.specs.Plans.{Layout}
+use Rattle.node_arena.specs.Rule.{StaysLooked}
+use Rattle.node_arena.specs.Seats.{IsReady, KeepsStored, view}
+
+-- Head and Tail of a traced world
+abbrev pub looked_in : Traced → Looked
+looked_in t = record { head = t.world.shared.head; tail = t.world.shared.tail }
+
+-- a look tells: there was a traced world that moves lead to, whose history, which goes on from what the seat had seen, it has
+-- now seen, and in which this word held this number; Head was there as at the seat's look before, or its count was higher, and
+-- so was Tail in the queue that counts it; nothing else that the seat knows changed
+pub record LooksAt (z : Layout) (word n : ℕ) (v v' : SeatView) : Type 0 where
+  pub was : Traced
+  pub reached : IsTraced was
+  pub setup : was.world.setup ≡ z.setup
+  pub held : n ≡ slice_index (memory_words z.setup.bits was.world.shared) word
+  pub rest : List Entry
+  pub begins : was.history ≡ v.seen ++ rest
+  pub knows : v' ≡ record v { seen = was.history; looked = Some (looked_in was) }
+  pub since : IfSome v.looked (StaysLooked was)
+
+-- a seat looked at a word of its arena, and found this number
+pub record Looks (r : Arena) (s s' : Seat) (word n : ℕ) : Type 0 where
+  pub ready : IsReady r s'
+  pub stored : KeepsStored s s'
+  pub told : LooksAt r.plan word n (view s) (view s')
+
+-- at some moment of a call this was the history: it begins with what the seat had seen before the call, and what the seat has
+-- seen after it begins with this
+pub record WasMeanwhile (k : Known) (now : List Entry) (k' : Known) : Type 0 where
+  pub more : SeesMore k k'
+  pub begins : IsPrefix k.seen now
+  pub ends : IsPrefix now k'.seen
+
+-- entries lead from the empty queue to one with a value at least
+pub record LeadsToSome (es : List Entry) : Type 0 where
+  pub shut : Bool
+  pub front : Taken
+  pub others : List Taken
+  pub leads : Leads es shut (front ∷ others)
+
+-- pops took effect since before a call
+pub record SawPops (k k' : Known) : Type 0 where
+  pub more : SeesMore k k'
+  pub pops : count_by is_pop k.seen < count_by is_pop k'.seen
+
+-- the queue was found so: at some moment of the call it was empty and not shut, empty and shut, or held a value; or, where Head
+-- moved, pops took effect
+abbrev pub FoundSo : Known → Emptiness → Known → Type 0
+FoundSo k Empty k' = (now : List Entry) × WasMeanwhile k now k' × LeadsTo now []
+FoundSo k ShutEmpty k' = (now : List Entry) × WasMeanwhile k now k' × Leads now true []
+FoundSo k Holds k' = (now : List Entry) × WasMeanwhile k now k' × LeadsToSome now
+FoundSo k Moved k' = SawPops k k'
+
+-- how many nodes stand behind Tail's, at least and at most, by whether Tail stayed, and null or a closed end was read there
+abbrev pub behind_tail : (stays none shut : Bool) → ℕ × ℕ
+behind_tail false none shut = (0, 1)
+behind_tail true true shut = (0, 0)
+behind_tail true false true = (0, 0)
+behind_tail true false false = (1, 1)
+
+-- the queue's length was between these bounds at some moment of the call; they are no further apart than the pops that took
+-- effect meanwhile, and one
+pub record WasSoLong (k : Known) (len : Len) (k' : Known) : Type 0 where
+  pub now : List Entry
+  pub meanwhile : WasMeanwhile k now k'
+  pub shut : Bool
+  pub values : List Taken
+  pub leads : Leads now shut values
+  pub least : len.least ≤ length values
+  pub most : length values ≤ len.most
+  pub near : len.most + count_by is_pop k.seen ≤ len.least + 1 + count_by is_pop k'.seen
