@@ -121,8 +121,8 @@ fn are_each_once(one: &[(u16, u64)], other: &[(u16, u64)]) -> bool {
     one.len().wrapping_add(other.len()) == ALL
 }
 
-// The last of these seats, where it may push and pop.
-fn last<Q: Fifo>(queue: &Q, seats: &mut Vec<Q::Seat>) -> Option<Q::Seat>
+/// The last of these seats, where it may push and pop.
+pub fn able<Q: Fifo>(queue: &Q, seats: &mut Vec<Q::Seat>) -> Option<Q::Seat>
     requires { All (Q.is_seat queue.now) seats.old.items }
     ensures rest { All (Q.is_seat queue.now) seats.new.items }
     ensures last { IfSome result (MayBegin Q.is_seat Q.permits Q.known queue.now) }
@@ -146,10 +146,10 @@ pub fn met<R: Threads + Wait + Sync, Q: Close + Sync + Drop>(
 ) -> Result<Run, Refusal>
     requires { All (Q.is_seat queue) seats.items }
 {
-    let Some(other) = last(&queue, &mut seats) else {
+    let Some(other) = able(&queue, &mut seats) else {
         return Err(Refusal::BadSize);
     };
-    let Some(one) = last(&queue, &mut seats) else {
+    let Some(one) = able(&queue, &mut seats) else {
         return Err(Refusal::BadSize);
     };
     let (one, other) = two(rt, alloc, &queue, one, other, MOST);

@@ -4,6 +4,7 @@ ghost use Rattle.std.specs.List.{All};
 ghost use Rattle.arena_queue.specs.Queues.{IsQueueSeat};
 
 use super::comparing::same;
+use super::drains::{ROOM_FOR_ALL, drains_beside_a_giver, drains_end, drains_go_on};
 use super::runs::{
     AMPLE_COUNT, GREATEST_COUNT, Left, ROOM_FOR_ONE, Told, a_full_queue_is_shut,
     a_rest_is_whole_by_its_pusher, a_rest_is_whole_by_who_shut, a_shut_queue_is_emptied,
@@ -75,6 +76,28 @@ fn a_pop_gives_its_node_back(rt: HostRuntime) -> Result<(), Fail> {
 fn calls_that_wait_try_again(rt: HostRuntime) -> Result<(), Fail> {
     let (queue, seats) = queue_of(rt.alloc(), 2, AMPLE_COUNT, &[Role::Both])?;
     waiting_calls_go_on(&rt, queue, seats)
+}
+
+/// Iterators give all values in their order, and end where the queue is empty, or shut and empty.
+#[test]
+fn drains_give_all_values(rt: HostRuntime) -> Result<(), Fail> {
+    let (queue, seats) = queue_of(rt.alloc(), 4, AMPLE_COUNT, &[Role::Both])?;
+    drains_end(&rt, queue, seats)
+}
+
+/// Iterators go on where they are busy, and end where a word is worn.
+#[test]
+fn drains_go_on_where_they_are_busy(rt: HostRuntime) -> Result<(), Fail> {
+    let (queue, seats) = queue_of(rt.alloc(), 4, AMPLE_COUNT, &[Role::Both])?;
+    drains_go_on(&rt, queue, seats)
+}
+
+/// An iterator gives each value while another thread pushes, also after a loop that was left.
+#[test]
+fn drains_beside_another_thread(rt: HostRuntime) -> Result<(), Fail> {
+    let roles = [Role::Both, Role::Both];
+    let (queue, seats) = queue_of(rt.alloc(), ROOM_FOR_ALL, GREATEST_COUNT, &roles)?;
+    drains_beside_a_giver(&rt, queue, seats)
 }
 
 /// The first value pushed comes first, and the second one is left.

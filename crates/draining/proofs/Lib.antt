@@ -1,0 +1,4 @@
+pub mod Waiting
+pub mod Owning
+pub mod Emptying
+pub mod Shutting

@@ -1,0 +1,4 @@
+pub mod Waits
+pub mod Empties
+pub mod Shuts
+pub mod Drained
