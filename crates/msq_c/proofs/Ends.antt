@@ -11,15 +11,14 @@ use Rattle.node_arena.specs.declared.seats.Seat.{Seat}
 use Rattle.node_arena.specs.Ended.{Leaves}
 use Rattle.node_arena.specs.Seats.{known_of}
 use Rattle.owned_seats.specs.declared.closing.EndRoom.{EndRoom}
-use Rattle.owned_seats.specs.declared.seats.OwnedSeat.{OwnedSeat}
 use Rattle.owned_seats.specs.Owned.{queue_of, seat_of}
 use Rattle.owned_seats.proofs.Shares.{All-unmap}
 use Rattle.any_queue.specs.declared.picked.PickedQueue.{PickedQueue}
-use Rattle.any_queue.specs.Picked.{IsPickedSeat, picked_arena_of, picked_permits_of}
+use Rattle.any_queue.specs.Picked.{picked_arena_of, picked_permits_of}
 use Rattle.msq_c.specs.declared.handles.MsqSeat.{MsqSeat}
 use Rattle.msq_c.specs.declared.troubles.Trouble.{Trouble}
-use Rattle.msq_c.specs.Own.{owned_in, queue_in}
-use Rattle.msq_c.specs.Seats.{is_full, own_at, known_at, queue_at, IsHandle}
+use Rattle.msq_c.specs.Own.{Owned, owned_in, queue_in}
+use Rattle.msq_c.specs.Seats.{is_full, own_at, known_at, queue_at}
 use Rattle.msq_c.specs.Ends.{AreFull, AreOfOne, KeepSeats, owned_at, HasAnyRoom, HasRoomOf, ClosesHandles}
 
 -- the seats with their shares, where handles keep them
@@ -27,28 +26,23 @@ pub same_owned : (slots slots' : List MsqSeat) → KeepSeats slots slots' → ma
 same_owned slots slots' k = sym (map-map owned_in own_at slots') ∙ ap (map owned_in) k.seats ∙ map-map owned_in own_at slots
 
 -- a seat with its share is one of this queue
-abbrev pub IsOf : PickedQueue → OwnedSeat PickedQueue Seat → Type 0
-IsOf q s = (queue_of s ≡ q) × IsPickedSeat q (seat_of s)
+abbrev pub IsOf : PickedQueue → Owned → Type 0
+IsOf q s = queue_of s ≡ q
 
-all_of : (q : PickedQueue) (slots : List MsqSeat) → AreFull slots → All IsHandle slots → All (λ h. is_full h ≡ true → queue_at h ≡ q) slots → All (IsOf q) (map owned_at slots)
-all_of q slots full handles one = All-map (IsOf q) owned_at slots (λ k d l.
-    let f = full k d l in let e = one k d l f in
-    (e, subst (λ p. IsPickedSeat p (seat_of (owned_at (get_or slots k d)))) e (handles k d l f)))
+all_of : (q : PickedQueue) (slots : List MsqSeat) → AreFull slots → All (λ h. is_full h ≡ true → queue_at h ≡ q) slots → All (IsOf q) (map owned_at slots)
+all_of q slots full one = All-map (IsOf q) owned_at slots (λ k d l. one k d l (full k d l))
 
 -- the seats of full handles of one queue, the last one and others
-module _ (slots : List MsqSeat) (full : AreFull slots) (handles : All IsHandle slots) (of_one : AreOfOne slots)
-    (all others : List (OwnedSeat PickedQueue Seat)) (last : OwnedSeat PickedQueue Seat) (taken : all ≡ map owned_at slots) (popped : all ≡ others ++ last ∷ []) where
+module _ (slots : List MsqSeat) (full : AreFull slots) (of_one : AreOfOne slots)
+    (all others : List Owned) (last : Owned) (taken : all ≡ map owned_at slots) (popped : all ≡ others ++ last ∷ []) where
   both : All (IsOf of_one.queue) others × IsOf of_one.queue last
-  both = All-pop (IsOf of_one.queue) all others (Some last) popped (subst (All (IsOf of_one.queue)) (sym taken) (all_of of_one.queue slots full handles of_one.one))
+  both = All-pop (IsOf of_one.queue) all others (Some last) popped (subst (All (IsOf of_one.queue)) (sym taken) (all_of of_one.queue slots full of_one.one))
 
-  pub last_sits : IsPickedSeat (queue_of last) (seat_of last)
-  last_sits = subst (λ p. IsPickedSeat p (seat_of last)) (sym both.1.0) both.1.1
+  pub others_one : All (λ s. queue_of s ≡ queue_of last) others
+  others_one = All-weaker (IsOf of_one.queue) (λ s. queue_of s ≡ queue_of last) (λ s e. e ∙ sym both.1) others both.0
 
-  pub others_sit : All (λ s. IsPickedSeat (queue_of last) (seat_of s)) others
-  others_sit = All-weaker (IsOf of_one.queue) (λ s. IsPickedSeat (queue_of last) (seat_of s)) (λ s p. subst (λ q. IsPickedSeat q (seat_of s)) (sym both.1.0) p.1) others both.0
-
-  known : map (λ (s : OwnedSeat PickedQueue Seat). known_of (seat_of s)) (others ++ last ∷ []) ≡ map known_at slots
-  known = ap (map (λ (s : OwnedSeat PickedQueue Seat). known_of (seat_of s))) (sym popped ∙ taken) ∙ map-map (λ (s : OwnedSeat PickedQueue Seat). known_of (seat_of s)) owned_at slots
+  known : map (λ (s : Owned). known_of (seat_of s)) (others ++ last ∷ []) ≡ map known_at slots
+  known = ap (map (λ (s : Owned). known_of (seat_of s))) (sym popped ∙ taken) ∙ map-map (λ (s : Owned). known_of (seat_of s)) owned_at slots
 
   -- room for the end of the queue of the handles is room for that of the last seat
   module _ (slots' : List MsqSeat) (keeps : KeepSeats slots slots') where
@@ -57,21 +51,21 @@ module _ (slots : List MsqSeat) (full : AreFull slots) (handles : All IsHandle s
 
     all_there : All (λ h. queue_at h ≡ queue_of last) slots'
     all_there = All-unmap (λ s. queue_in s ≡ queue_of last) own_at slots' (subst (All (λ s. queue_in s ≡ queue_of last)) (sym keeps.seats)
-        (All-map (λ s. queue_in s ≡ queue_of last) own_at slots (λ k d l. of_one.one k d l (full k d l) ∙ sym both.1.0)))
+        (All-map (λ s. queue_in s ≡ queue_of last) own_at slots (λ k d l. of_one.one k d l (full k d l) ∙ sym both.1)))
 
     pub room_for : (room : EndRoom PickedQueue Seat) → HasRoomOf slots' room → HasAnyRoom (queue_of last) (length others) room
     room_for room has = has (queue_of last) (length others) one_less (λ k d l f. all_there k d l)
 
   -- what was closed by these seats was closed by the handles
   pub closed_if : (out : Result (Rest × Ended) Trouble)
-      → IfOk out (λ r. Closes (picked_permits_of (queue_of last)) (map (λ (s : OwnedSeat PickedQueue Seat). known_of (seat_of s)) (others ++ last ∷ [])) r.0)
+      → IfOk out (λ r. Closes (picked_permits_of (queue_of last)) (map (λ (s : Owned). known_of (seat_of s)) (others ++ last ∷ [])) r.0)
       → IfOk out (λ r. Leaves (picked_arena_of (queue_of last)) r.1 r.0)
       → IfOk out (λ r. ClosesHandles slots r.0 r.1)
   closed_if (Ok r) c e = record {
     queue = of_one.queue;
     one = λ k d l. of_one.one k d l (full k d l);
-    closes = subst (λ q. Closes (picked_permits_of q) (map known_at slots) r.0) both.1.0
+    closes = subst (λ q. Closes (picked_permits_of q) (map known_at slots) r.0) both.1
         (subst (λ ks. Closes (picked_permits_of (queue_of last)) ks r.0) known c);
-    ends = subst (λ q. Leaves (picked_arena_of q) r.1 r.0) both.1.0 e;
+    ends = subst (λ q. Leaves (picked_arena_of q) r.1 r.0) both.1 e;
   }
   closed_if (Err refusal) c e = tt

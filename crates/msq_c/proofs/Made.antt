@@ -2,7 +2,6 @@
 use Rattle.std.proofs.Common.{◌≡◌, ℕ, ◌≤◌, ◌<◌, ◌^◌, List, map, length, refl, ap, ◌∙◌, sym, subst, Result, Ok, Err, IfOk}
 use Rattle.std.specs.List.{All}
 use mathlib.Core.List.{map-map}
-use Rattle.std.proofs.lemmas.List.Elements.{All-weaker}
 use Rattle.std.proofs.lemmas.List.{length-map}
 use Rattle.line_table.specs.declared.lines.Kind.{Kind}
 use Rattle.history.specs.Limits.{actor_bits}
@@ -12,49 +11,45 @@ use Rattle.node_arena.specs.declared.seats.Seat.{Seat}
 use Rattle.node_arena.specs.Seats.{known_of}
 use Rattle.node_arena.specs.Plans.{Layout, IsPlanned}
 use Rattle.node_arena.specs.Making.{IsMade}
-use Rattle.owned_seats.specs.declared.seats.OwnedSeat.{OwnedSeat}
 use Rattle.owned_seats.specs.Owned.{queue_of, seat_of}
-use Rattle.owned_seats.proofs.Shares.{All-unmap, all_own}
+use Rattle.owned_seats.proofs.Shares.{All-unmap}
 use Rattle.any_queue.specs.declared.picked.PickedQueue.{PickedQueue}
-use Rattle.any_queue.specs.Picked.{IsPickedSeat, picked_arena_of, picked_permits_of}
+use Rattle.any_queue.specs.Picked.{picked_arena_of, picked_permits_of}
 use Rattle.msq_c.proofs.Sizes.{is_split, enough, some_count, few_counts}
 use Rattle.msq_c.specs.declared.own_seats.OwnSeat.{OwnSeat}
 use Rattle.msq_c.specs.declared.handles.MsqSeat.{MsqSeat}
-use Rattle.msq_c.specs.Own.{owned_in}
-use Rattle.msq_c.specs.Seats.{own_at, known_at, IsHandle}
-use Rattle.msq_c.specs.Made.{IsOwn, AreUnused, ArePut, AreMade, AreAsked, Asks, plan_for, kind_number, role_number, seat_at}
+use Rattle.msq_c.specs.Own.{Owned, owned_in}
+use Rattle.msq_c.specs.Seats.{own_at, known_at}
+use Rattle.msq_c.specs.Made.{AreUnused, ArePut, AreMade, AreAsked, Asks, plan_for, kind_number, role_number, seat_at}
 
-pub all_made : (owned : List (OwnedSeat PickedQueue Seat)) (seats : List OwnSeat) (slots : List MsqSeat)
+pub all_made : (owned : List Owned) (seats : List OwnSeat) (slots : List MsqSeat)
     → map owned_in seats ≡ owned → (z : Layout) → AreUnused z owned → ArePut seats slots → AreMade z slots
 all_made owned seats slots e z u p =
     let same : owned ≡ map (λ (h : MsqSeat). owned_in (own_at h)) slots =
     sym e ∙ ap (map owned_in) (sym p.those) ∙ map-map owned_in own_at slots in
-    let known : map (λ (s : OwnedSeat PickedQueue Seat). known_of (seat_of s)) owned ≡ map known_at slots =
-    ap (map (λ (s : OwnedSeat PickedQueue Seat). known_of (seat_of s))) same ∙ map-map (λ (s : OwnedSeat PickedQueue Seat). known_of (seat_of s)) (λ (h : MsqSeat). owned_in (own_at h)) slots in
-    let sit : All (λ h. IsOwn (owned_in (own_at h))) slots = All-unmap IsOwn (λ (h : MsqSeat). owned_in (own_at h)) slots (subst (All IsOwn) same u.sit) in
+    let known : map (λ (s : Owned). known_of (seat_of s)) owned ≡ map known_at slots =
+    ap (map (λ (s : Owned). known_of (seat_of s))) same ∙ map-map (λ (s : Owned). known_of (seat_of s)) (λ (h : MsqSeat). owned_in (own_at h)) slots in
     let sat : map seat_of owned ≡ map seat_at slots = ap (map seat_of) same ∙ map-map seat_of (λ (h : MsqSeat). owned_in (own_at h)) slots in
     record {
       queue = u.queue;
       made = subst (IsMade z (picked_arena_of u.queue)) sat u.made;
       full = p.full;
-      handles = All-weaker (λ h. IsOwn (owned_in (own_at h))) IsHandle (λ h i _. i) slots sit;
       one = All-unmap (λ s. queue_of s ≡ u.queue) (λ (h : MsqSeat). owned_in (own_at h)) slots (subst (All (λ s. queue_of s ≡ u.queue)) same u.one);
       unused = subst (λ ks. AreNew (picked_permits_of u.queue) ks) known u.unused;
     }
 
 -- the seats of a new queue of a plan, each with a share
-pub unused_of : (z : Layout) (q : PickedQueue) (seats : List Seat) (owned : List (OwnedSeat PickedQueue Seat)) → All (λ s. queue_of s ≡ q) owned → map seat_of owned ≡ seats
-    → IsMade z (picked_arena_of q) seats → All (IsPickedSeat q) seats → AreNew (picked_permits_of q) (map known_of seats) → AreUnused z owned
-unused_of z q seats owned one e made sit new = record {
+pub unused_of : (z : Layout) (q : PickedQueue) (seats : List Seat) (owned : List Owned) → All (λ s. queue_of s ≡ q) owned → map seat_of owned ≡ seats
+    → IsMade z (picked_arena_of q) seats → AreNew (picked_permits_of q) (map known_of seats) → AreUnused z owned
+unused_of z q seats owned one e made new = record {
   queue = q;
   made = subst (IsMade z (picked_arena_of q)) (sym e) made;
   one = one;
-  sit = all_own IsPickedSeat q owned seats one e sit;
   unused = subst (λ ks. AreNew (picked_permits_of q) ks) (ap (map known_of) (sym e) ∙ map-map known_of seat_of owned) new;
 }
 
 -- handles that blocks with the seats of a new queue were put into
-pub made_if : {V E B : Type 0} (out : Result V E) (items : V → List MsqSeat) (value : B → OwnSeat) (boxes : List B) (owned : List (OwnedSeat PickedQueue Seat))
+pub made_if : {V E B : Type 0} (out : Result V E) (items : V → List MsqSeat) (value : B → OwnSeat) (boxes : List B) (owned : List Owned)
     → map (λ b. owned_in (value b)) boxes ≡ owned → (z : Layout) → AreUnused z owned → IfOk out (λ v. ArePut (map value boxes) (items v)) → IfOk out (λ v. AreMade z (items v))
 made_if (Ok v) items value boxes owned e z u p = all_made owned (map value boxes) (items v) (map-map owned_in value boxes ∙ e) z u p
 made_if (Err refusal) items value boxes owned e z u p = tt

@@ -8,14 +8,13 @@ use Rattle.node_arena.specs.declared.ended.Ended.{Ended}
 use Rattle.node_arena.specs.declared.seats.Seat.{Seat}
 use Rattle.node_arena.specs.Ended.{HasRoomFor, Leaves}
 use Rattle.owned_seats.specs.declared.closing.EndRoom.{EndRoom}
-use Rattle.owned_seats.specs.declared.seats.OwnedSeat.{OwnedSeat}
 use Rattle.owned_seats.specs.Unended.{HasEndRoom}
 use Rattle.any_queue.specs.declared.picked.PickedQueue.{PickedQueue}
 use Rattle.any_queue.specs.Picked.{picked_arena_of, picked_permits_of}
 use Rattle.msq_c.specs.declared.handles.MsqSeat.{MsqSeat}
 use Rattle.msq_c.specs.declared.troubles.Trouble.{Trouble}
 use Rattle.msq_c.specs.declared.troubles.Trouble.TheVariants.{Refused, BadSize, NoHandle, InUse, Raced}
-use Rattle.msq_c.specs.Own.{owned_in}
+use Rattle.msq_c.specs.Own.{Owned, owned_in}
 use Rattle.msq_c.specs.Seats.{is_full, own_at, known_at, queue_at}
 
 -- each handle is full
@@ -37,7 +36,7 @@ pub record KeepSeats (slots slots' : List MsqSeat) : Type 0 where
   pub seats : map own_at slots' ≡ map own_at slots
 
 -- the seat of a handle, with its share
-abbrev pub owned_at : MsqSeat → OwnedSeat PickedQueue Seat
+abbrev pub owned_at : MsqSeat → Owned
 owned_at h = owned_in (own_at h)
 
 -- the queue of these handles was closed by all of them, with its end

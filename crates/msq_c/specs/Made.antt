@@ -13,18 +13,17 @@ use Rattle.node_arena.specs.declared.roles.Role.TheVariants.{Giver, Taker, Both}
 use Rattle.node_arena.specs.Seats.{known_of}
 use Rattle.node_arena.specs.Plans.{Layout}
 use Rattle.node_arena.specs.Making.{IsMade}
-use Rattle.owned_seats.specs.declared.seats.OwnedSeat.{OwnedSeat}
 use Rattle.owned_seats.specs.Owned.{queue_of, seat_of}
 use Rattle.any_queue.specs.Splits.{bits_for, greatest_count, limited_plan}
 use Rattle.any_queue.specs.declared.picked.PickedQueue.{PickedQueue}
-use Rattle.any_queue.specs.Picked.{IsPickedSeat, picked_arena_of, picked_permits_of}
+use Rattle.any_queue.specs.Picked.{picked_arena_of, picked_permits_of}
 use Rattle.msq_c.specs.declared.own_seats.OwnSeat.{OwnSeat}
 use Rattle.msq_c.specs.declared.handles.MsqSeat.{MsqSeat}
 use Rattle.msq_c.specs.declared.troubles.Trouble.{Trouble}
 use Rattle.msq_c.specs.declared.troubles.Trouble.TheVariants.{Refused, BadSize, InUse}
-use Rattle.msq_c.specs.Own.{seat_in}
+use Rattle.msq_c.specs.Own.{Owned, seat_in}
 use Rattle.msq_c.specs.Ends.{AreFull, AreEmpty}
-use Rattle.msq_c.specs.Seats.{own_at, known_at, queue_at, IsHandle}
+use Rattle.msq_c.specs.Seats.{own_at, known_at, queue_at}
 
 -- the number of a kind
 abbrev pub kind_number : Kind → ℕ
@@ -80,20 +79,11 @@ pub record MayMake (kind nodes limit : ℕ) (roles : List ℕ) (slots : List Msq
   pub count : length roles ≡ length slots
   pub asks : Asks kind nodes limit roles
 
--- a seat with its share is its queue's, in no call
-abbrev pub IsOwn : OwnedSeat PickedQueue Seat → Type 0
-IsOwn s = IsPickedSeat (queue_of s) (seat_of s)
-
--- each of these seats is its queue's, in no call
-abbrev pub AreOwned : List (OwnedSeat PickedQueue Seat) → Type 0
-AreOwned owned = All IsOwn owned
-
 -- these are the seats of one new queue of a plan, each with a share
-pub record AreUnused (z : Layout) (owned : List (OwnedSeat PickedQueue Seat)) : Type 0 where
+pub record AreUnused (z : Layout) (owned : List Owned) : Type 0 where
   pub queue : PickedQueue
   pub made : IsMade z (picked_arena_of queue) (map seat_of owned)
   pub one : All (λ s. queue_of s ≡ queue) owned
-  pub sit : AreOwned owned
   pub unused : AreNew (picked_permits_of queue) (map (λ s. known_of (seat_of s)) owned)
 
 -- these handles are full of these seats, in their order
@@ -110,7 +100,6 @@ pub record AreMade (z : Layout) (slots : List MsqSeat) : Type 0 where
   pub queue : PickedQueue
   pub made : IsMade z (picked_arena_of queue) (map seat_at slots)
   pub full : AreFull slots
-  pub handles : All IsHandle slots
   pub one : All (λ h. queue_at h ≡ queue) slots
   pub unused : AreNew (picked_permits_of queue) (map known_at slots)
 

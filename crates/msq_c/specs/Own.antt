@@ -8,13 +8,18 @@ use Rattle.node_arena.specs.Seats.{known_of}
 use Rattle.owned_seats.specs.declared.seats.OwnedSeat.{OwnedSeat}
 use Rattle.owned_seats.specs.Owned.{queue_of, seat_of}
 use Rattle.any_queue.specs.declared.picked.PickedQueue.{PickedQueue}
-use Rattle.any_queue.specs.Picked.{IsPickedSeat, picked_permits_of, PickedPushRefused, PickedPopRefused, PickedShutRefused}
+use Rattle.any_queue.specs.contracts.picked.PickedQueueFifo.TheImpl as fifo
+use Rattle.any_queue.specs.Picked.{picked_permits_of, PickedPushRefused, PickedPopRefused, PickedShutRefused}
 use Rattle.msq_c.specs.declared.own_seats.OwnSeat.{OwnSeat}
 use Rattle.msq_c.specs.declared.troubles.Trouble.{Trouble}
 use Rattle.msq_c.specs.declared.troubles.Trouble.TheVariants.{Refused, BadSize, NoRole}
 
+-- a seat of a queue of either kind, with its share
+abbrev pub Owned : Type 0
+Owned = OwnedSeat PickedQueue Seat fifo.ghosts
+
 -- the seat with its share
-abbrev pub owned_in : OwnSeat → OwnedSeat PickedQueue Seat
+abbrev pub owned_in : OwnSeat → Owned
 owned_in s = s.owned
 
 -- the queue of a seat
@@ -24,10 +29,6 @@ queue_in s = queue_of s.owned
 -- the seat itself
 abbrev pub seat_in : OwnSeat → Seat
 seat_in s = seat_of s.owned
-
--- a seat is its queue's, in no call
-abbrev pub Sits : OwnSeat → Type 0
-Sits s = IsPickedSeat (queue_in s) (seat_in s)
 
 -- what a seat knows
 abbrev pub known_in : OwnSeat → Known

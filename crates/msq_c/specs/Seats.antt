@@ -8,7 +8,7 @@ use Rattle.msq_c.specs.declared.own_seats.OwnSeat.{OwnSeat}
 use Rattle.msq_c.specs.declared.handles.MsqSeat.{MsqSeat}
 use Rattle.msq_c.specs.declared.troubles.Trouble.{Trouble}
 use Rattle.msq_c.specs.declared.troubles.Trouble.TheVariants.{NoHandle}
-use Rattle.msq_c.specs.Own.{queue_in, known_in, Sits, RefusesPush, RefusesPop, RefusesShut}
+use Rattle.msq_c.specs.Own.{queue_in, known_in, RefusesPush, RefusesPop, RefusesShut}
 
 -- whether there is a seat
 abbrev pub is_full : MsqSeat → Bool
@@ -26,13 +26,8 @@ known_at h = known_in (own_at h)
 abbrev pub queue_at : MsqSeat → PickedQueue
 queue_at h = queue_in (own_at h)
 
--- a handle is empty, or its seat is its queue's, in no call: as each call leaves it
-abbrev pub IsHandle : MsqSeat → Type 0
-IsHandle h = is_full h ≡ true → Sits (own_at h)
-
 -- a call by a handle keeps whether it is full, and its queue
 pub record KeepsHandle (h h' : MsqSeat) : Type 0 where
-  pub handle : IsHandle h'
   pub full : is_full h' ≡ is_full h
   pub queue : queue_at h' ≡ queue_at h
 

@@ -1,5 +1,4 @@
 //! A call of the queue by a handle.
-ghost use Rattle.msq_c.specs.Seats.{IsHandle};
 ghost use Rattle.msq_c.specs.Seats.{AnswersPush, AnswersPop, AnswersShut, AnswersMeet, MayMeet};
 
 use crate::handles::MsqSeat;
@@ -9,7 +8,6 @@ use std::alloc::Global;
 
 /// A push by a handle.
 pub(crate) fn push(alloc: Global, slot: &mut MsqSeat, body: u64, turns: u32) -> Result<(), Trouble>
-    requires { IsHandle slot.old }
     ensures { AnswersPush slot.old slot.new body turns result }
 {
     if !slot.is_full() {
@@ -23,7 +21,6 @@ pub(crate) fn push(alloc: Global, slot: &mut MsqSeat, body: u64, turns: u32) -> 
 
 /// A pop by a handle.
 pub(crate) fn pop(alloc: Global, slot: &mut MsqSeat, turns: u32) -> Result<Option<Taken>, Trouble>
-    requires { IsHandle slot.old }
     ensures { AnswersPop slot.old slot.new turns result }
 {
     if !slot.is_full() {
@@ -37,7 +34,6 @@ pub(crate) fn pop(alloc: Global, slot: &mut MsqSeat, turns: u32) -> Result<Optio
 
 /// A shut by a handle.
 pub(crate) fn shut(alloc: Global, slot: &mut MsqSeat, turns: u32) -> Result<(), Trouble>
-    requires { IsHandle slot.old }
     ensures { AnswersShut slot.old slot.new turns result }
 {
     if !slot.is_full() {
@@ -51,9 +47,7 @@ pub(crate) fn shut(alloc: Global, slot: &mut MsqSeat, turns: u32) -> Result<(), 
 
 /// Two handles meet.
 pub(crate) fn meet(alloc: Global, one: &mut MsqSeat, other: &mut MsqSeat) -> Result<(), Trouble>
-    requires one { IsHandle one.old }
-    requires other { IsHandle other.old }
-    requires queue { MayMeet one.old other.old }
+    requires { MayMeet one.old other.old }
     ensures { AnswersMeet one.old other.old one.new other.new result }
 {
     if !one.is_full() || !other.is_full() {

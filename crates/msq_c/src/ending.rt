@@ -5,8 +5,8 @@ ghost use Rattle.history.specs.Closing.{Closes};
 ghost use Rattle.node_arena.specs.Seats.{known_of};
 ghost use Rattle.owned_seats.specs.Owned.{queue_of, seat_of};
 ghost use Rattle.node_arena.specs.Ended.{Leaves};
-ghost use Rattle.any_queue.specs.Picked.{picked_arena_of, picked_permits_of, IsPickedSeat};
-ghost use Rattle.msq_c.specs.Seats.{is_full, own_at, queue_at, IsHandle};
+ghost use Rattle.any_queue.specs.Picked.{picked_arena_of, picked_permits_of};
+ghost use Rattle.msq_c.specs.Seats.{is_full, own_at, queue_at};
 ghost use Rattle.msq_c.specs.Ends.{AreFull, AreEmpty, AreOfOne, KeepSeats, owned_at};
 ghost use Rattle.msq_c.specs.Ends.{HasAnyRoom, HasRoomOf, RefusesRoom};
 ghost use Rattle.msq_c.specs.Ends.{ClosesHandles, IsMemory, RefusesClose};
@@ -121,8 +121,7 @@ fn ended(
     others: Vec<OwnedSeat<PickedQueue>>,
 ) -> Result<(Rest, Ended), Trouble>
     requires room { HasAnyRoom (queue_of last) (length others.items) room }
-    requires last { IsPickedSeat (queue_of last) (seat_of last) }
-    requires others { All (λ s. IsPickedSeat (queue_of last) (seat_of s)) others.items }
+    requires others { All (λ s. queue_of s ≡ queue_of last) others.items }
     ensures closes { IfOk result (λ r. Closes (picked_permits_of (queue_of last))
         (map (λ s. known_of (seat_of s)) (others.items ++ last ∷ [])) r.0) }
     ensures ends { IfOk result (λ r. Leaves (picked_arena_of (queue_of last)) r.1 r.0) }
@@ -136,8 +135,7 @@ fn ended(
 
 /// Ends the queue of these handles, which are all that have a share of it.
 pub(crate) fn close(alloc: Global, slots: &mut [MsqSeat]) -> Result<(Rest, Ended), Trouble>
-    requires handles { All IsHandle slots.old }
-    requires queue { AreOfOne slots.old }
+    requires { AreOfOne slots.old }
     ensures closes { IfOk result (λ r. ClosesHandles slots.old r.0 r.1) }
     ensures empty { OnOk result (AreEmpty slots.new) }
     ensures refused { IfErr result (RefusesClose slots.old slots.new) }

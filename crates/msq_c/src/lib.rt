@@ -2,10 +2,9 @@
 #![tactic(auto)]
 
 ghost use Rattle.std.specs.Prelude.{◌≡◌, false};
-ghost use Rattle.std.specs.List.{All};
 ghost use Rattle.msq_c.specs.Codes.{Tells, done_code, pop_code};
 ghost use Rattle.msq_c.specs.Seats.{AnswersPush, AnswersPop, AnswersShut, AnswersMeet, MayMeet};
-ghost use Rattle.msq_c.specs.Seats.{is_full, IsHandle};
+ghost use Rattle.msq_c.specs.Seats.{is_full};
 ghost use Rattle.msq_c.specs.Made.{AnswersCreate};
 ghost use Rattle.msq_c.specs.Values.{IsWritten};
 ghost use Rattle.msq_c.specs.Ends.{AreOfOne};
@@ -30,10 +29,9 @@ use std::alloc::Global;
 /// Pushes a body, below 2^48, at the back, in so many turns at most, 1 or more.
 #[unsafe(no_mangle)]
 pub extern "C" fn msq_try_push(alloc: Global, slot: &mut MsqSeat, body: u64, turns: u32) -> u32
-    requires { IsHandle slot.old }
     //= library/push: A push from C tells 0 where the body was pushed, exactly `MSQ_NO_SEAT` where the handle is empty,
     //=   and else its cause: the queue's, with its clauses, or a body or turns out of range, or a seat that may not
-    //=   push, with no change. The handle stays full, of the same queue.
+    //=   push, with no change. The handle stays full or empty, of the same queue.
     ensures { Tells done_code result (AnswersPush slot.old slot.new body turns) }
 {
     code(calls::push(alloc, slot, body, turns))
@@ -48,7 +46,6 @@ pub extern "C" fn msq_try_pop(
     turns: u32,
     value: &mut MsqValue,
 ) -> u32
-    requires { IsHandle slot.old }
     //= library/pop: A pop from C tells as `msq_try_push` does; a value taken is written, and else nothing is.
     //=   `MSQ_EMPTY` tells that the queue was found empty.
     ensures { Tells pop_code result
@@ -67,7 +64,6 @@ pub extern "C" fn msq_try_pop(
 /// Shuts the queue, in so many turns at most, 1 or more.
 #[unsafe(no_mangle)]
 pub extern "C" fn msq_try_shut(alloc: Global, slot: &mut MsqSeat, turns: u32) -> u32
-    requires { IsHandle slot.old }
     //= library/shut: A shut from C tells as `msq_try_push` does. A meeting of two handles of one queue tells 0 where they
     //=   met, and else `MSQ_NO_SEAT`, only where one is empty, with no change; each stays full or empty, of the same queue.
     ensures { Tells done_code result (AnswersShut slot.old slot.new turns) }
@@ -78,9 +74,7 @@ pub extern "C" fn msq_try_shut(alloc: Global, slot: &mut MsqSeat, turns: u32) ->
 /// Both seats, of one queue, have seen one history afterwards.
 #[unsafe(no_mangle)]
 pub extern "C" fn msq_meet(alloc: Global, one: &mut MsqSeat, other: &mut MsqSeat) -> u32
-    requires one { IsHandle one.old }
-    requires other { IsHandle other.old }
-    requires queue { MayMeet one.old other.old }
+    requires { MayMeet one.old other.old }
     //= library/shut
     ensures { Tells done_code result (AnswersMeet one.old other.old one.new other.new) }
 {
@@ -99,8 +93,8 @@ pub extern "C" fn msq_create(
     slots: &mut [MsqSeat],
 ) -> u32
     //= library/create: A queue made from C tells 0 only where all handles were empty, one for each role, and all
-    //=   numbers in range; they are then all the seats, unused and in order, of one queue of the kind, nodes, greatest
-    //=   count and roles asked for. Refused, no handle changed, and the code is just the one that include/msq.h has for
+    //=   numbers in range; they are then all the seats, unused and in order, of one queue of the kind, nodes and roles asked
+    //=   for, with the limit as greatest count, or that of the split where it is less. Refused, no handle changed, and the code is just the one that include/msq.h has for
     //=   the case.
     ensures { Tells done_code result
         (AnswersCreate kind nodes limit roles.now slots.old slots.new) }
@@ -117,8 +111,7 @@ pub extern "C" fn msq_close(
     values: &mut [MsqValue],
     rest: &mut MsqRest,
 ) -> u32
-    requires handles { All IsHandle slots.old }
-    requires queue { AreOfOne slots.old }
+    requires { AreOfOne slots.old }
     //= library/end: A queue ended from C tells 0 where all these handles, now empty, closed it: what is left is what
     //=   its own `close` says of their seats, the values written from the front, as many as have room. Refused, nothing
     //=   is written: at `MSQ_NO_SEAT` a handle is empty, and none changed; at `MSQ_BAD_SIZE` there is none; at

@@ -12,7 +12,8 @@ use std::alloc::Global;
 /// one line of the cache, or on two that are fetched together.
 const APART: usize = 16;
 
-/// A seat of a queue of either kind, with its share of the queue.
+/// A seat of a queue of either kind, with its share of the queue, which lies first: include/msq.h compares these.
+#[repr(C)]
 #[derive(Drop)]
 pub struct OwnSeat {
     owned: OwnedSeat<PickedQueue>,
@@ -20,7 +21,7 @@ pub struct OwnSeat {
 }
 
 impl OwnSeat {
-    ghost use Rattle.msq_c.specs.Own.{queue_in, known_in, owned_in, Sits};
+    ghost use Rattle.msq_c.specs.Own.{queue_in, known_in, owned_in};
     ghost use Rattle.msq_c.specs.Own.{RefusesPush, RefusesPop, RefusesShut};
     ghost use Rattle.msq_c.specs.Ends.{HasAnyRoom, IsMemory};
 
@@ -41,9 +42,7 @@ impl OwnSeat {
     }
 
     pub(crate) fn try_push(&mut self, number: u64, turns: u32) -> Result<(), Trouble>
-        requires { Sits self.old }
         ensures queue { queue_in self.new ≡ queue_in self.old }
-        ensures seat { Sits self.new }
         ensures pushed { OnOk result (Pushed (known_in self.old) number (known_in self.new)) }
         ensures refused { IfErr result (RefusesPush self.old self.new number turns) }
     {
@@ -63,9 +62,7 @@ impl OwnSeat {
     }
 
     pub(crate) fn try_pop(&mut self, turns: u32) -> Result<Option<Taken>, Trouble>
-        requires { Sits self.old }
         ensures queue { queue_in self.new ≡ queue_in self.old }
-        ensures seat { Sits self.new }
         ensures answer { IfOk result
             (λ taken. PopAnswers (known_in self.old) taken (known_in self.new)) }
         ensures refused { IfErr result (RefusesPop self.old self.new turns) }
@@ -83,9 +80,7 @@ impl OwnSeat {
     }
 
     pub(crate) fn try_shut(&mut self, turns: u32) -> Result<(), Trouble>
-        requires { Sits self.old }
         ensures queue { queue_in self.new ≡ queue_in self.old }
-        ensures seat { Sits self.new }
         ensures shut { OnOk result (DidShut (known_in self.old) (known_in self.new)) }
         ensures refused { IfErr result (RefusesShut self.old self.new turns) }
     {
@@ -102,13 +97,9 @@ impl OwnSeat {
     }
 
     pub(crate) fn meet(&mut self, other: &mut OwnSeat)
-        requires one { Sits self.old }
-        requires other { Sits other.old }
-        requires queue { queue_in other.old ≡ queue_in self.old }
+        requires { queue_in other.old ≡ queue_in self.old }
         ensures queue { queue_in self.new ≡ queue_in self.old }
         ensures other_queue { queue_in other.new ≡ queue_in other.old }
-        ensures one { Sits self.new }
-        ensures other { Sits other.new }
         ensures meets { Meets (known_in self.old) (known_in other.old)
             (known_in self.new) (known_in other.new) }
     {

@@ -1,10 +1,12 @@
--- Seats without their shares.
+-- Seats with their shares, and without.
 use Rattle.std.proofs.Common.{◌≡◌, List, [], ◌∷◌, ◌++◌, map, get_or, ap, ◌∙◌, sym, subst}
 use Rattle.std.specs.List.{All}
+use Rattle.std.proofs.Math.Logic.{∥∥₁_elim}
 use mathlib.Core.List.{map-map}
 use Rattle.std.proofs.lemmas.List.{map-append}
 use Rattle.std.proofs.lemmas.List.Elements.{All-map, All-append, All-cons, All-nil, All-head, All-tail}
 use Rattle.history.specs.Seats.{Known}
+use Rattle.history.specs.declared.queues.Fifo.{Ghosts}
 use Rattle.owned_seats.specs.declared.seats.OwnedSeat.{OwnedSeat}
 use Rattle.owned_seats.specs.Owned.{queue_of, seat_of}
 
@@ -13,21 +15,27 @@ pub All-unmap : {A B : Type 0} (P : B → Type 0) (f : A → B) (xs : List A) �
 All-unmap P f [] a = All-nil (λ x. P (f x))
 All-unmap P f (x ∷ xs) a = All-cons (λ x. P (f x)) x xs (All-head P (f x) (map f xs) a) (All-unmap P f xs (All-tail P (f x) (map f xs) a))
 
-module _ {Q S : Type 0} (others : List (OwnedSeat Q S)) (one : OwnedSeat Q S) (seats : List S) (e : seats ≡ map seat_of others ++ seat_of one ∷ []) where
+module _ {Q S : Type 0} {fifo : Ghosts Q S} (prop : (q : Q) (s : S) → IsProp (fifo.is_seat q s)) where
+  -- a seat with its share is its queue's
+  pub sits : (s : OwnedSeat Q S fifo) → fifo.is_seat (queue_of s) (seat_of s)
+  sits s = ∥∥₁_elim s.sits (prop (queue_of s) (seat_of s)) (λ x. x)
+
+  -- the seat of one with a share of this queue is the queue's
+  pub sits_in : (q : Q) (s : OwnedSeat Q S fifo) → queue_of s ≡ q → fifo.is_seat q (seat_of s)
+  sits_in q s e = subst (λ p. fifo.is_seat p (seat_of s)) e (sits s)
+
+module _ {Q S : Type 0} {fifo : Ghosts Q S} (others : List (OwnedSeat Q S fifo)) (one : OwnedSeat Q S fifo) (seats : List S) (e : seats ≡ map seat_of others ++ seat_of one ∷ []) where
   -- what holds of each seat with a share holds of each without
   pub all_seats : (P : S → Type 0) → All (λ s. P (seat_of s)) others → P (seat_of one) → All P seats
   all_seats P all p = subst (All P) (sym e)
       (All-append P (map seat_of others) (seat_of one ∷ []) (All-map P seat_of others all) (All-cons P (seat_of one) [] p (All-nil P)))
 
+  -- seats of one queue, without their shares, are each that queue's
+  pub all_sit : ((q : Q) (s : S) → IsProp (fifo.is_seat q s)) → (q : Q) → queue_of one ≡ q → All (λ s. queue_of s ≡ queue_of one) others → All (fifo.is_seat q) seats
+  all_sit prop q mine theirs = all_seats (fifo.is_seat q) (λ k d l. sits_in prop q (get_or others k d) (theirs k d l ∙ mine)) (sits_in prop q one mine)
+
   -- what the seats know is what those with shares know
-  pub all_known : (known : S → Known) → map known seats ≡ map (λ (s : OwnedSeat Q S). known (seat_of s)) (others ++ one ∷ [])
+  pub all_known : (known : S → Known) → map known seats ≡ map (λ (s : OwnedSeat Q S fifo). known (seat_of s)) (others ++ one ∷ [])
   all_known known = ap (map known) e ∙ map-append known (map seat_of others) (seat_of one ∷ []) ∙
       ap (λ ks. ks ++ known (seat_of one) ∷ []) (map-map known seat_of others) ∙
-      sym (map-append (λ (s : OwnedSeat Q S). known (seat_of s)) others (one ∷ []))
-
--- seats that were dealt their shares are each their queue's
-pub all_own : {Q S : Type 0} (P : Q → S → Type 0) (q : Q) (owned : List (OwnedSeat Q S)) (seats : List S)
-    → All (λ s. queue_of s ≡ q) owned → map seat_of owned ≡ seats → All (P q) seats → All (λ s. P (queue_of s) (seat_of s)) owned
-all_own P q owned seats one e sit =
-    let sits : All (λ s. P q (seat_of s)) owned = All-unmap (P q) seat_of owned (subst (All (P q)) (sym e) sit) in
-    λ k d l. subst (λ p. P p (seat_of (get_or owned k d))) (sym (one k d l)) (sits k d l)
+      sym (map-append (λ (s : OwnedSeat Q S fifo). known (seat_of s)) others (one ∷ []))

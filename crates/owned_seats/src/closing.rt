@@ -80,8 +80,7 @@ impl<Q: Close + Drop> OwnedSeat<Q> {
         others: Vec<OwnedSeat<Q>>,
     ) -> Result<(Rest, Q::End), Unended<Q>>
         requires room { HasEndRoom Q.has_room (queue_of self) (length others.items) room }
-        requires seat { Q.is_seat (queue_of self) (seat_of self) }
-        requires others { All (λ s. Q.is_seat (queue_of self) (seat_of s)) others.items }
+        requires others { All (λ s. queue_of s ≡ queue_of self) others.items }
         //= library/close (rest, ends, back): What is left of a queue ended by seats of it is what its own `close` says of
         //=   these. A queue that isn't ended comes back, with its seats: at `InUse` and `Memory` as they were, at `Raced`
         //=   without their shares. When which of them is answered, no clause says.
@@ -111,8 +110,7 @@ impl<Q: Close + Drop> OwnedSeat<Q> {
         alloc: Global,
         others: Vec<OwnedSeat<Q>>,
     ) -> Result<(Rest, Q::End), Unended<Q>>
-        requires seat { Q.is_seat (queue_of self) (seat_of self) }
-        requires others { All (λ s. Q.is_seat (queue_of self) (seat_of s)) others.items }
+        requires { All (λ s. queue_of s ≡ queue_of self) others.items }
         //= library/close (rest, ends, back)
         ensures rest { IfOk result (λ r. Closes (Q.permits (queue_of self))
             (map (λ s. Q.known (seat_of s)) (others.items ++ self ∷ [])) r.0) }

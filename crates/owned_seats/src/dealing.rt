@@ -21,6 +21,7 @@ pub fn deal<Q: Fifo + Drop>(
     queue: Q,
     seats: Vec<Q::Seat>,
 ) -> Result<Vec<OwnedSeat<Q>>, Refusal>
+    requires { All (Q.is_seat queue) seats.items }
     //= library/deal (queue, seats, only_memory): A queue and its seats become seats with shares of it, in their order.
     //=   Or Memory.
     ensures queue { IfOk result (λ owned. All (λ s. queue_of s ≡ queue) owned.items) }

@@ -9,11 +9,14 @@ use std::alloc::Global;
 use std::sync::Arc;
 
 /// A seat of a queue, with a share of that queue. The queue lives as long as one of its shares, so such a seat needs no
-/// borrow, and goes to any thread by itself.
+/// borrow, and goes to any thread by itself. The share lies first in memory. Its type says that the seat is one of this
+/// queue's, in no call, so that a lock, a channel or a message keeps this.
+#[repr(C)]
 #[derive(Drop)]
 pub struct OwnedSeat<Q: Fifo + Drop> {
     pub(crate) queue: Arc<Q, Global>,
     pub(crate) seat: Q::Seat,
+    ghost sits: { ∥ Q.is_seat queue.value seat ∥₁ },
 }
 
 impl<Q: Fifo + Drop> OwnedSeat<Q> {
@@ -21,6 +24,7 @@ impl<Q: Fifo + Drop> OwnedSeat<Q> {
 
     /// This seat, with this share of its queue. Takes no memory and doesn't wait.
     pub fn new(queue: Arc<Q, Global>, seat: Q::Seat) -> OwnedSeat<Q>
+        requires { Q.is_seat queue.value seat }
         ensures queue { queue_of result ≡ queue.value }
         ensures seat { seat_of result ≡ seat }
     {
@@ -31,15 +35,14 @@ impl<Q: Fifo + Drop> OwnedSeat<Q> {
     ///
     /// Refusals: as those of the queue's `try_push`. Takes no memory and doesn't wait.
     pub fn try_push(&mut self, body: Body, turns: u32) -> Result<(), Refusal>
-        requires seat { Q.is_seat (queue_of self.old) (seat_of self.old) }
         requires role { MayPush (Q.permits (queue_of self.old))
             (Q.known (seat_of self.old)).number }
         requires turns { 1 ≤ turns }
-        //= library/owned (queue, seat, number, pushed, refused, refusal, caused): A call by a seat with its share has the
-        //=   clauses of `Fifo`'s own over what the seat knows, and keeps its queue. What `ArenaQueue` says beyond these, of
-        //=   failed turns, pockets and kept nodes, it doesn't.
+        //= library/owned (queue, number, pushed, refused, refusal, caused): A call by a seat with its share has the
+        //=   clauses of `Fifo`'s own over what the seat knows, and keeps its queue. That the seat is the queue's is no
+        //=   condition, but a fact of its type. What `ArenaQueue` says beyond these, of failed turns, pockets and kept
+        //=   nodes, it doesn't.
         ensures queue { queue_of self.new ≡ queue_of self.old }
-        ensures seat { Q.is_seat (queue_of self.new) (seat_of self.new) }
         ensures number { (Q.known (seat_of self.new)).number ≡ (Q.known (seat_of self.old)).number }
         ensures pushed { OnOk result
             (Pushed (Q.known (seat_of self.old)) body (Q.known (seat_of self.new))) }
@@ -58,12 +61,10 @@ impl<Q: Fifo + Drop> OwnedSeat<Q> {
     ///
     /// Refusals: as those of the queue's `try_pop`. Takes no memory and doesn't wait.
     pub fn try_pop(&mut self, turns: u32) -> Result<Option<Taken>, Refusal>
-        requires seat { Q.is_seat (queue_of self.old) (seat_of self.old) }
         requires role { MayPop (Q.permits (queue_of self.old)) (Q.known (seat_of self.old)).number }
         requires turns { 1 ≤ turns }
-        //= library/owned (queue, seat, number, answer, refused, refusal, caused)
+        //= library/owned (queue, number, answer, refused, refusal, caused)
         ensures queue { queue_of self.new ≡ queue_of self.old }
-        ensures seat { Q.is_seat (queue_of self.new) (seat_of self.new) }
         ensures number { (Q.known (seat_of self.new)).number ≡ (Q.known (seat_of self.old)).number }
         ensures answer { IfOk result
             (λ taken. PopAnswers (Q.known (seat_of self.old)) taken (Q.known (seat_of self.new))) }
@@ -82,13 +83,11 @@ impl<Q: Fifo + Drop> OwnedSeat<Q> {
     ///
     /// Refusals: as those of the queue's `try_shut`. Takes no memory and doesn't wait.
     pub fn try_shut(&mut self, turns: u32) -> Result<(), Refusal>
-        requires seat { Q.is_seat (queue_of self.old) (seat_of self.old) }
         requires role { MayPush (Q.permits (queue_of self.old))
             (Q.known (seat_of self.old)).number }
         requires turns { 1 ≤ turns }
-        //= library/owned (queue, seat, number, shut, refused, refusal, caused)
+        //= library/owned (queue, number, shut, refused, refusal, caused)
         ensures queue { queue_of self.new ≡ queue_of self.old }
-        ensures seat { Q.is_seat (queue_of self.new) (seat_of self.new) }
         ensures number { (Q.known (seat_of self.new)).number ≡ (Q.known (seat_of self.old)).number }
         ensures shut { OnOk result
             (DidShut (Q.known (seat_of self.old)) (Q.known (seat_of self.new))) }
@@ -105,13 +104,10 @@ impl<Q: Fifo + Drop> OwnedSeat<Q> {
     /// Afterwards both seats, which are of one queue, have seen one history, which begins with what each had seen. Takes
     /// no memory and doesn't wait.
     pub fn meet(&mut self, other: &mut OwnedSeat<Q>)
-        requires one { Q.is_seat (queue_of self.old) (seat_of self.old) }
-        requires other { Q.is_seat (queue_of self.old) (seat_of other.old) }
-        //= library/owned (queue, other_queue, one, other, meets)
+        requires { queue_of other.old ≡ queue_of self.old }
+        //= library/owned (queue, other_queue, meets)
         ensures queue { queue_of self.new ≡ queue_of self.old }
         ensures other_queue { queue_of other.new ≡ queue_of other.old }
-        ensures one { Q.is_seat (queue_of self.old) (seat_of self.new) }
-        ensures other { Q.is_seat (queue_of self.old) (seat_of other.new) }
         ensures meets { Meets (Q.known (seat_of self.old)) (Q.known (seat_of other.old))
             (Q.known (seat_of self.new)) (Q.known (seat_of other.new)) }
     {
@@ -120,7 +116,6 @@ impl<Q: Fifo + Drop> OwnedSeat<Q> {
 
     /// Whether the seat may push. Takes no memory and doesn't wait.
     pub fn may_push(&self) -> bool
-        requires { Q.is_seat (queue_of self.now) (seat_of self.now) }
         //= library/owned
         ensures { IsTrue result ↔
             MayPush (Q.permits (queue_of self.now)) (Q.known (seat_of self.now)).number }
@@ -130,7 +125,6 @@ impl<Q: Fifo + Drop> OwnedSeat<Q> {
 
     /// Whether the seat may pop. Takes no memory and doesn't wait.
     pub fn may_pop(&self) -> bool
-        requires { Q.is_seat (queue_of self.now) (seat_of self.now) }
         //= library/owned
         ensures { IsTrue result ↔
             MayPop (Q.permits (queue_of self.now)) (Q.known (seat_of self.now)).number }

@@ -1,8 +1,4 @@
 //! Two threads, each with a seat of its own, which holds the queue.
-ghost use Rattle.std.specs.Prelude.{◌≡◌, IfOk};
-ghost use Rattle.std.specs.List.{All};
-ghost use Rattle.seat_tests.specs.Owned.{IsOwn};
-
 use any_queue::PickedQueue;
 use history::{Body, Refusal, Taken};
 use line_table::Kind;
@@ -42,20 +38,14 @@ impl Tally {
 }
 
 /// The two seats of a new queue, each of which may push and pop.
-pub fn owned_of(alloc: Global, kind: Kind) -> Result<Vec<Own>, Refusal>
-    ensures { IfOk result (λ owned. All IsOwn owned.items) }
-{
+pub fn owned_of(alloc: Global, kind: Kind) -> Result<Vec<Own>, Refusal> {
     let roles = [Role::Both, Role::Both];
     let (queue, seats) = PickedQueue::new(alloc, kind, 64, &roles)?;
     deal(alloc, queue, seats)
 }
 
 /// The last of these seats.
-pub fn last(owned: &mut Vec<Own>) -> Result<Own, Refusal>
-    requires { All IsOwn owned.old.items }
-    ensures rest { All IsOwn owned.new.items }
-    ensures last { IfOk result IsOwn }
-{
+pub fn last(owned: &mut Vec<Own>) -> Result<Own, Refusal> {
     match owned.pop() {
         Some(seat) => Ok(seat),
         None => Err(Refusal::Lost),
@@ -63,10 +53,7 @@ pub fn last(owned: &mut Vec<Own>) -> Result<Own, Refusal>
 }
 
 /// Pushes a body, where the seat may.
-pub fn push(seat: &mut Own, number: u64) -> bool
-    requires { IsOwn seat.old }
-    ensures { IsOwn seat.new }
-{
+pub fn push(seat: &mut Own, number: u64) -> bool {
     let Some(body) = Body::new(number) else {
         return false;
     };
@@ -74,10 +61,7 @@ pub fn push(seat: &mut Own, number: u64) -> bool
 }
 
 /// The value at the front, where the seat may pop and there is one.
-pub fn pop(seat: &mut Own) -> Option<Taken>
-    requires { IsOwn seat.old }
-    ensures { IsOwn seat.new }
-{
+pub fn pop(seat: &mut Own) -> Option<Taken> {
     if !seat.may_pop() {
         return None;
     }
@@ -88,10 +72,7 @@ pub fn pop(seat: &mut Own) -> Option<Taken>
 }
 
 // Pushes a body, and pops after it.
-fn round(seat: &mut Own, number: u64, tally: &mut Tally)
-    requires { IsOwn seat.old }
-    ensures { IsOwn seat.new }
-{
+fn round(seat: &mut Own, number: u64, tally: &mut Tally) {
     if !push(seat, number) {
         return;
     }
@@ -101,10 +82,7 @@ fn round(seat: &mut Own, number: u64, tally: &mut Tally)
 }
 
 // Pushes 1, 2 and so on, and pops after each push.
-fn rounds(mut seat: Own) -> (Own, Tally)
-    requires { IsOwn seat }
-    ensures { IsOwn result.0 }
-{
+fn rounds(mut seat: Own) -> (Own, Tally) {
     let mut tally = Tally {
         last: [0; 3],
         popped: 0,
@@ -122,17 +100,7 @@ fn both_take_all<R: Threads + Sync>(rt: &R, alloc: Global, kind: Kind) -> Result
     let mut owned = owned_of(alloc, kind)?;
     let other = last(&mut owned)?;
     let one = last(&mut owned)?;
-    let ((one, first), (other, second)) = join(
-        rt,
-        || -> (Own, Tally)
-            requires { IsOwn one }
-            ensures { IsOwn result.0 }
-        { rounds(one) },
-        || -> (Own, Tally)
-            requires { IsOwn other }
-            ensures { IsOwn result.0 }
-        { rounds(other) },
-    );
+    let ((one, first), (other, second)) = join(rt, || rounds(one), || rounds(other));
     drop(other);
     match one.close(alloc, Vec::new(alloc)) {
         Ok((mut rest, _)) => Ok(
