@@ -1,15 +1,19 @@
 /*
- * Bounded queues for any number of threads that push and pop: first in, first out, with no lock around a call.
+ * Bounded queues for any number of threads that push and pop: first in, first out.
  * docs/LIBRARY.md says how to build libmsq.a and a first program.
  *
  * A thread calls by a seat of its own, of type msq_seat. Set it to zeros before it is filled: that is an empty one. No call
- * waits, and none takes memory but msq_create and msq_close.
+ * waits, but for the lock of MSQ_DEBUG, and none takes memory but msq_create and msq_close.
  *
- * What the caller owes, and nothing here can check:
+ * Each call is a macro over an inline function at the end of this header, which tells misuse that it sees: seats of two
+ * queues that meet or close and, where MSQ_DEBUG is defined and the thread sanitizer isn't at work, two calls at one time on
+ * one seat, at the price of a lock as a call begins and as it ends. Compiled for the thread sanitizer it tells that what calls order and which seat they use: two
+ * calls at one time on one seat are reported, and objects that were handed over by a queue are not.
+ *
+ * What the caller owes, and nothing here checks but for what MSQ_DEBUG tells:
  *  - An msq_seat is all zeros, or what the last call left in it. It is never copied beside the one that goes on in use.
  *  - A seat is in one call at a time. It may go to another thread by a start or join, a lock, or a SeqCst atomic.
  *  - Each pointer points to what its type says, and to as many as the length beside it says; no two point to one place.
- *  - msq_meet and msq_close get seats of one queue.
  *  - No call is made by a signal handler, or in a forked child.
  */
 #ifndef MSQ_H
@@ -37,7 +41,7 @@ extern "C" {
 /* What a call answers. Those up to 16 are the numbers of the queue's refusals; a worn word has a code of its own. */
 enum msq_code {
     MSQ_OK = 0,
-    MSQ_NO_NODE = 1,    /* a push: all nodes were in use */
+    MSQ_NO_NODE = 1,    /* a push: no node was free, and each was used */
     MSQ_WORN_FREE = 2,  /* a push: Free's count is at the limit, and no node is taken from the free list any more */
     MSQ_WORN_OUT = MSQ_WORN_FREE, /* the same, by its older name */
     MSQ_BUSY = 3,       /* others were in the way in each of the turns: call again */
@@ -49,9 +53,11 @@ enum msq_code {
     MSQ_NO_ROLE = 34,   /* the seat may not push, or may not pop */
     MSQ_IN_USE = 35,    /* an msq_seat to be filled is full; or the queue to be closed has a further seat */
     MSQ_RACED = 36,     /* a close: the queue got a further seat meanwhile */
-    MSQ_WORN_NEXT = 37, /* a push: the count of its node is at the limit; push again, by another node */
+    MSQ_WORN_NEXT = 37, /* a push, at the limit 1 alone: the count of its node is at it; push again, by another node */
     MSQ_WORN_TAIL = 38, /* Tail's count is at the limit: of MSQ_NON_BLOCKING, no push and no shut comes any more */
-    MSQ_WORN_HEAD = 39  /* a pop: Head's count is at the limit: of MSQ_TWO_LOCK, no pop comes any more */
+    MSQ_WORN_HEAD = 39, /* a pop: Head's count is at the limit: of MSQ_TWO_LOCK, no pop comes any more */
+    MSQ_TWO_QUEUES = 40, /* misuse: the seats are of two queues */
+    MSQ_TWO_CALLS = 41  /* misuse, told with MSQ_DEBUG: another call uses the seat */
 };
 
 enum msq_kind {
@@ -94,14 +100,14 @@ uint32_t msq_create(uint32_t kind, uint32_t nodes, uint64_t limit, const uint8_t
 /*
  * Pushes a body, below MSQ_BODIES, in so many turns at most, 1 or more (8 is a good number).
  * MSQ_OK, MSQ_NO_NODE, MSQ_WORN_FREE, MSQ_BUSY, MSQ_CLOSED, MSQ_BAD_SIZE, MSQ_NO_SEAT or MSQ_NO_ROLE; of
- * MSQ_NON_BLOCKING also MSQ_WORN_NEXT or MSQ_WORN_TAIL. Refused, the queue is as if the call had not been.
+ * MSQ_NON_BLOCKING also MSQ_WORN_NEXT or MSQ_WORN_TAIL. Refused, its values are as if the call had not been.
  */
 uint32_t msq_try_push(msq_seat *seat, uint64_t body, uint32_t turns);
 
 /*
  * Pops the value at the front into `value`, in so many turns at most, 1 or more.
  * MSQ_OK, MSQ_EMPTY, MSQ_BUSY, MSQ_CLOSED, MSQ_BAD_SIZE, MSQ_NO_SEAT or MSQ_NO_ROLE; of MSQ_NON_BLOCKING also
- * MSQ_WORN_TAIL, of MSQ_TWO_LOCK MSQ_WORN_HEAD. Refused or empty, queue and `value` are as if the call had not been.
+ * MSQ_WORN_TAIL, of MSQ_TWO_LOCK MSQ_WORN_HEAD. Refused or empty, its values and `value` are as before.
  */
 uint32_t msq_try_pop(msq_seat *seat, uint32_t turns, msq_value *value);
 
@@ -113,26 +119,251 @@ uint32_t msq_try_pop(msq_seat *seat, uint32_t turns, msq_value *value);
 uint32_t msq_try_shut(msq_seat *seat, uint32_t turns);
 
 /*
- * Both seats have then seen one history: what one did before, the other has seen. They are of one queue.
- * MSQ_OK or MSQ_NO_SEAT.
+ * Both seats have then seen one history: what one did before, the other has seen.
+ * MSQ_OK; MSQ_TWO_QUEUES where they are of two queues, or MSQ_NO_SEAT: nothing is then changed.
  */
 uint32_t msq_meet(msq_seat *one, msq_seat *other);
 
 /*
  * Ends the queue of these seats, which are all of its seats that were not dropped, and empties them. The values left, from
- * the front, go to `values`, as many as have room there; nodes - 1 is room for all. They are of one queue.
- * MSQ_OK; MSQ_BAD_SIZE where there is no seat, MSQ_NO_SEAT where one is empty, MSQ_IN_USE where the queue has a further
- * seat, or MSQ_MEMORY: each seat is then as it was. MSQ_RACED where the queue got a further seat while it was closed: all
- * seats are then empty, and the queue goes on without them. No call gives a queue a further seat, so this comes only where
- * a duty above wasn't kept. Refused, it writes nothing.
+ * the front, go to `values`, as many as have room there; nodes - 1 is room for all.
+ * MSQ_OK; MSQ_TWO_QUEUES where they are not all of one queue, MSQ_BAD_SIZE where there is no seat, MSQ_NO_SEAT where one is
+ * empty, MSQ_IN_USE where the queue has a further seat, or MSQ_MEMORY: each seat is then as it was. MSQ_RACED where the
+ * queue got a further seat while it was closed: all seats are then empty, and the queue goes on without them. No call gives
+ * a queue a further seat, so this comes only where a duty above wasn't kept. Refused, it writes nothing.
  */
 uint32_t msq_close(msq_seat *seats, size_t seats_len, msq_value *values, size_t values_len, msq_rest *rest);
 
 /* Drops a seat, which is empty afterwards. With the last seat of a queue its memory is freed, which is only tested. */
 void msq_drop(msq_seat *seat);
 
+/*
+ * What stands around a call: msq_begin says whether no other call uses these seats, and msq_end ends this one. Without
+ * MSQ_DEBUG and the thread sanitizer both do nothing.
+ */
+#ifdef __cplusplus
+#define MSQ_INLINE inline
+#else
+#define MSQ_INLINE static inline
+#endif
+
+#if defined(__SANITIZE_THREAD__)
+#define MSQ_THREAD_SANITIZER
+#elif defined(__has_feature)
+#if __has_feature(thread_sanitizer)
+#define MSQ_THREAD_SANITIZER
+#endif
+#endif
+
+/* A call with these seats, of this queue where one is known; `older` is one that began before it. */
+struct msq_call {
+    const msq_seat *seats, *end;
+    void *queue;
+    struct msq_call *older;
+};
+
+/* The name of a full seat's queue: the first word of its block, which is a pointer to the queue; none of an empty one. */
+MSQ_INLINE void *msq_queue_of(const msq_seat *seat) {
+    return seat->full ? *(void *const *)seat->at : NULL;
+}
+
+#if defined(MSQ_THREAD_SANITIZER)
+
+void __tsan_acquire(void *at);
+void __tsan_release(void *at);
+void __tsan_write_range(void *at, long bytes);
+
+/* What was done before a call began is seen after each call of its queue that ends later: all accesses are SeqCst. */
+MSQ_INLINE bool msq_begin(struct msq_call *call, msq_seat *seats, size_t seats_len) {
+    __tsan_write_range(seats, (long)(seats_len * sizeof *seats));
+    call->queue = seats_len > 0 ? msq_queue_of(seats) : NULL;
+    if (call->queue != NULL) {
+        __tsan_release(call->queue);
+    }
+    return true;
+}
+
+MSQ_INLINE void msq_end(struct msq_call *call) {
+    if (call->queue != NULL) {
+        __tsan_acquire(call->queue);
+    }
+}
+
+/* A call that may free the queue, and so its name, gets now what the other seats' calls did. */
+MSQ_INLINE void msq_last(struct msq_call *call) {
+    msq_end(call);
+    call->queue = NULL;
+}
+
+#elif defined(MSQ_DEBUG)
+
+/* All calls that run, behind a lock: one list for the program, whichever of its files define it. */
+struct msq_calls {
+    bool locked;
+    struct msq_call *newest;
+};
+__attribute__((weak)) struct msq_calls msq_running = {false, NULL};
+
+MSQ_INLINE bool msq_begin(struct msq_call *call, msq_seat *seats, size_t seats_len) {
+    const struct msq_call *other;
+    call->seats = seats;
+    call->end = seats + seats_len;
+    while (__atomic_test_and_set(&msq_running.locked, __ATOMIC_ACQUIRE)) {
+    }
+    for (other = msq_running.newest; other != NULL; other = other->older) {
+        if (other->seats < call->end && call->seats < other->end) {
+            break;
+        }
+    }
+    if (other == NULL) {
+        call->older = msq_running.newest;
+        msq_running.newest = call;
+    }
+    __atomic_clear(&msq_running.locked, __ATOMIC_RELEASE);
+    return other == NULL;
+}
+
+MSQ_INLINE void msq_end(struct msq_call *call) {
+    struct msq_call **place = &msq_running.newest;
+    while (__atomic_test_and_set(&msq_running.locked, __ATOMIC_ACQUIRE)) {
+    }
+    while (*place != call) {
+        place = &(*place)->older;
+    }
+    *place = call->older;
+    __atomic_clear(&msq_running.locked, __ATOMIC_RELEASE);
+}
+
+MSQ_INLINE void msq_last(struct msq_call *call) {
+    (void)call;
+}
+
+#else
+
+MSQ_INLINE bool msq_begin(struct msq_call *call, msq_seat *seats, size_t seats_len) {
+    (void)call, (void)seats, (void)seats_len;
+    return true;
+}
+
+MSQ_INLINE void msq_end(struct msq_call *call) {
+    (void)call;
+}
+
+MSQ_INLINE void msq_last(struct msq_call *call) {
+    (void)call;
+}
+
+#endif
+
+MSQ_INLINE uint32_t msq_checked_create(uint32_t kind, uint32_t nodes, uint64_t limit, const uint8_t *roles,
+                                       size_t roles_len, msq_seat *seats, size_t seats_len) {
+    struct msq_call call;
+    if (!msq_begin(&call, seats, seats_len)) {
+        return MSQ_TWO_CALLS;
+    }
+    uint32_t code = msq_create(kind, nodes, limit, roles, roles_len, seats, seats_len);
+    msq_end(&call);
+    return code;
+}
+
+MSQ_INLINE uint32_t msq_checked_push(msq_seat *seat, uint64_t body, uint32_t turns) {
+    struct msq_call call;
+    if (!msq_begin(&call, seat, 1)) {
+        return MSQ_TWO_CALLS;
+    }
+    uint32_t code = msq_try_push(seat, body, turns);
+    msq_end(&call);
+    return code;
+}
+
+MSQ_INLINE uint32_t msq_checked_pop(msq_seat *seat, uint32_t turns, msq_value *value) {
+    struct msq_call call;
+    if (!msq_begin(&call, seat, 1)) {
+        return MSQ_TWO_CALLS;
+    }
+    uint32_t code = msq_try_pop(seat, turns, value);
+    msq_end(&call);
+    return code;
+}
+
+MSQ_INLINE uint32_t msq_checked_shut(msq_seat *seat, uint32_t turns) {
+    struct msq_call call;
+    if (!msq_begin(&call, seat, 1)) {
+        return MSQ_TWO_CALLS;
+    }
+    uint32_t code = msq_try_shut(seat, turns);
+    msq_end(&call);
+    return code;
+}
+
+/* A seat has already met itself. */
+MSQ_INLINE uint32_t msq_checked_meet(msq_seat *one, msq_seat *other) {
+    struct msq_call first, second;
+    uint32_t code = MSQ_TWO_CALLS;
+    if (!msq_begin(&first, one, 1)) {
+        return code;
+    }
+    if (one == other) {
+        code = one->full ? MSQ_OK : MSQ_NO_SEAT;
+    } else if (msq_begin(&second, other, 1)) {
+        code = MSQ_TWO_QUEUES;
+        if (!one->full || !other->full || msq_queue_of(one) == msq_queue_of(other)) {
+            code = msq_meet(one, other);
+        }
+        msq_end(&second);
+    }
+    msq_end(&first);
+    return code;
+}
+
+/* Whether the full ones of these seats are of one queue. */
+MSQ_INLINE bool msq_of_one_queue(const msq_seat *seats, size_t seats_len) {
+    void *queue = NULL;
+    for (size_t k = 0; k < seats_len; k++) {
+        if (seats[k].full && queue != NULL && msq_queue_of(&seats[k]) != queue) {
+            return false;
+        }
+        queue = seats[k].full ? msq_queue_of(&seats[k]) : queue;
+    }
+    return true;
+}
+
+MSQ_INLINE uint32_t msq_checked_close(msq_seat *seats, size_t seats_len, msq_value *values, size_t values_len,
+                                   msq_rest *rest) {
+    struct msq_call call;
+    uint32_t code = MSQ_TWO_QUEUES;
+    if (!msq_begin(&call, seats, seats_len)) {
+        return MSQ_TWO_CALLS;
+    }
+    msq_last(&call);
+    if (msq_of_one_queue(seats, seats_len)) {
+        code = msq_close(seats, seats_len, values, values_len, rest);
+    }
+    msq_end(&call);
+    return code;
+}
+
+/* With MSQ_DEBUG it drops nothing where another call uses the seat. */
+MSQ_INLINE void msq_checked_drop(msq_seat *seat) {
+    struct msq_call call;
+    if (msq_begin(&call, seat, 1)) {
+        msq_last(&call);
+        msq_drop(seat);
+        msq_end(&call);
+    }
+}
+
 #ifdef __cplusplus
 }
 #endif
+
+#define msq_create(kind, nodes, limit, roles, roles_len, seats, seats_len)                                             \
+    msq_checked_create(kind, nodes, limit, roles, roles_len, seats, seats_len)
+#define msq_try_push(seat, body, turns) msq_checked_push(seat, body, turns)
+#define msq_try_pop(seat, turns, value) msq_checked_pop(seat, turns, value)
+#define msq_try_shut(seat, turns) msq_checked_shut(seat, turns)
+#define msq_meet(one, other) msq_checked_meet(one, other)
+#define msq_close(seats, seats_len, values, values_len, rest) msq_checked_close(seats, seats_len, values, values_len, rest)
+#define msq_drop(seat) msq_checked_drop(seat)
 
 #endif

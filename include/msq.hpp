@@ -40,10 +40,7 @@ public:
         return {code, code == MSQ_OK ? std::optional<msq_value>(value) : std::nullopt};
     }
     msq_code try_shut(uint32_t turns = 8) noexcept { return static_cast<msq_code>(msq_try_shut(&raw_, turns)); }
-    // Both are of one queue.
-    msq_code meet(seat &other) noexcept {
-        return this == &other ? MSQ_OK : static_cast<msq_code>(msq_meet(&raw_, &other.raw_));
-    }
+    msq_code meet(seat &other) noexcept { return static_cast<msq_code>(msq_meet(&raw_, &other.raw_)); }
     explicit operator bool() const noexcept { return raw_.full; }
 
 private:
@@ -76,7 +73,7 @@ struct closed {
     std::vector<msq_value> left;
 };
 
-// Ends the queue of these seats, which are all of its seats that are left, of one queue; `room` is the number of its nodes.
+// Ends the queue of these seats, which are all of its seats that are left; `room` is the number of its nodes.
 // Refused, the seats are as msq_close leaves them; else they are empty.
 inline closed close(std::vector<seat> &seats, size_t room) {
     std::vector<msq_seat> raw(seats.size());

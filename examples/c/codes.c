@@ -71,6 +71,30 @@ static void a_queue_is_closed(uint32_t kind) {
     expect("a push behind the end", msq_try_push(&seats[1], 1, 8), MSQ_NO_SEAT);
 }
 
+/* Seats of two queues neither meet nor close, and nothing changes. */
+static void two_queues_are_told(uint32_t kind) {
+    const uint8_t roles[] = {MSQ_BOTH, MSQ_BOTH};
+    msq_seat one[2] = {0}, other[2] = {0};
+    msq_value value, values[3] = {{9, 9}, {9, 9}, {9, 9}};
+    msq_rest rest = {9, 9, false, true};
+    expect("create", msq_create(kind, 8, MSQ_MOST_COUNT, roles, 2, one, 2), MSQ_OK);
+    expect("create", msq_create(kind, 8, MSQ_MOST_COUNT, roles, 2, other, 2), MSQ_OK);
+    expect("a push", msq_try_push(&one[0], 1, 8), MSQ_OK);
+    expect("a meeting", msq_meet(&one[0], &one[1]), MSQ_OK);
+    expect("a meeting with itself", msq_meet(&one[0], &one[0]), MSQ_OK);
+    expect("a meeting of two queues", msq_meet(&one[0], &other[0]), MSQ_TWO_QUEUES);
+    msq_seat mixed[3] = {one[0], one[1], other[0]};
+    expect("a close of two queues", msq_close(mixed, 3, values, 3, &rest), MSQ_TWO_QUEUES);
+    expect("nothing is written", values[0].body + rest.left, 18);
+    expect("a pop", msq_try_pop(&mixed[1], 8, &value), MSQ_OK);
+    expect("no value of the other queue", msq_try_pop(&mixed[2], 8, &value), MSQ_EMPTY);
+    msq_drop(&other[1]);
+    expect("a meeting with an empty seat", msq_meet(&one[0], &other[1]), MSQ_NO_SEAT);
+    expect("a meeting of one empty seat", msq_meet(&other[1], &other[1]), MSQ_NO_SEAT);
+    expect("a close of one queue", msq_close(one, 2, values, 3, &rest), MSQ_OK);
+    expect("a close of the other", msq_close(other, 1, values, 3, &rest), MSQ_OK);
+}
+
 /* Pushes and pops by turns, until a push is refused: how many were not. */
 static uint32_t pushed(msq_seat *giver, msq_seat *taker, uint32_t *code) {
     msq_value value;
@@ -134,6 +158,7 @@ int main(void) {
     for (uint32_t kind = MSQ_NON_BLOCKING; kind <= MSQ_TWO_LOCK; kind++) {
         calls_are_refused(kind);
         a_queue_is_closed(kind);
+        two_queues_are_told(kind);
         the_free_list_wears_out(kind, 1, 1, MSQ_WORN_FREE);
         the_free_list_wears_out(kind, 2, 2, MSQ_NO_NODE);
         the_free_list_wears_out(kind, 3, 2, MSQ_WORN_FREE);

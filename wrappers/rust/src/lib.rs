@@ -1,6 +1,7 @@
 //! Bounded queues for any number of threads that push and pop: first in, first out, with no lock around a call.
 //!
-//! A thread calls by a seat of its own: a [`Sender`] or a [`Receiver`]. No call waits, and none takes memory but [`queue`].
+//! A thread calls by a seat of its own: a [`Sender`] or a [`Receiver`]. No call waits, and none takes memory but [`queue`] and
+//! [`queue_with_limit`].
 //!
 //! ```
 //! let (mut senders, mut receivers) = msq::queue(msq::Kind::NonBlocking, 64, 1, 1).unwrap();
@@ -171,6 +172,19 @@ pub fn queue(
     senders: u16,
     receivers: u16,
 ) -> Result<(Vec<Sender>, Vec<Receiver>), Refusal> {
+    queue_with_limit(kind, nodes, raw::MOST_COUNT, senders, receivers)
+}
+
+/// As [`queue`], with a limit of its counts, from 1 on: for tests, as a smaller one only wears out sooner. One above the
+/// greatest count that so many nodes leave room for is lowered to that. At an even limit a worn queue may be refused `NoNode`
+/// for good.
+pub fn queue_with_limit(
+    kind: Kind,
+    nodes: u32,
+    limit: u64,
+    senders: u16,
+    receivers: u16,
+) -> Result<(Vec<Sender>, Vec<Receiver>), Refusal> {
     let (senders, receivers) = (usize::from(senders), usize::from(receivers));
     let mut roles = vec![raw::GIVER; senders];
     roles.resize(senders + receivers, raw::TAKER);
@@ -184,7 +198,7 @@ pub fn queue(
         raw::msq_create(
             kind,
             nodes,
-            raw::MOST_COUNT,
+            limit,
             roles.as_ptr(),
             roles.len(),
             made.as_mut_ptr(),

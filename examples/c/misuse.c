@@ -1,0 +1,130 @@
+/* Two calls at one time on one seat are told. With MSQ_DEBUG by a code: two threads push by one seat, and it prints how many
+ * of their values came. Else the thread sanitizer reports two calls that nothing orders. */
+#include "msq.h"
+
+#include <pthread.h>
+#include <sched.h>
+#include <stdatomic.h>
+#include <stdio.h>
+
+#define VALUES 100000
+
+static msq_seat seats[2];
+static atomic_int others; /* how many calls were refused, or made; relaxed, so that it orders nothing */
+static unsigned wrong;
+
+static void expect(const char *what, uint64_t found, uint64_t due) {
+    if (found != due) {
+        wrong++;
+        fprintf(stderr, "misuse: %s: %llu, and not %llu\n", what, (unsigned long long)found, (unsigned long long)due);
+    }
+}
+
+static void create(void) {
+    const uint8_t roles[] = {MSQ_GIVER, MSQ_TAKER};
+    expect("create", msq_create(MSQ_NON_BLOCKING, 1024, MSQ_MOST_COUNT, roles, 2, seats, 2), MSQ_OK);
+}
+
+#ifdef MSQ_DEBUG
+
+/* Each call, while another one uses the seat. */
+static void each_call_is_refused(void) {
+    const uint8_t role[] = {MSQ_BOTH};
+    msq_seat empty = {0};
+    msq_value value = {7, 7};
+    msq_rest rest;
+    struct msq_call call;
+    expect("the other call", msq_begin(&call, &seats[0], 1), true);
+    expect("a push", msq_try_push(&seats[0], 1, 8), MSQ_TWO_CALLS);
+    expect("a pop", msq_try_pop(&seats[0], 8, &value), MSQ_TWO_CALLS);
+    expect("a shut", msq_try_shut(&seats[0], 8), MSQ_TWO_CALLS);
+    expect("a meeting", msq_meet(&seats[0], &seats[1]), MSQ_TWO_CALLS);
+    expect("a meeting, the other way round", msq_meet(&seats[1], &seats[0]), MSQ_TWO_CALLS);
+    expect("a close", msq_close(seats, 2, &value, 1, &rest), MSQ_TWO_CALLS);
+    msq_drop(&seats[0]);
+    expect("a drop", seats[0].full, true);
+    expect("another seat", msq_try_pop(&seats[1], 8, &value), MSQ_EMPTY);
+    msq_end(&call);
+    expect("the other call", msq_begin(&call, &empty, 1), true);
+    expect("create", msq_create(MSQ_TWO_LOCK, 4, 1, role, 1, &empty, 1), MSQ_TWO_CALLS);
+    msq_end(&call);
+    expect("the other call", msq_begin(&call, &seats[1], 1), true);
+    expect("a close by it as the second seat", msq_close(seats, 2, &value, 1, &rest), MSQ_TWO_CALLS);
+    expect("the first seat", msq_try_pop(&seats[0], 8, &value), MSQ_NO_ROLE);
+    msq_end(&call);
+    expect("a meeting with itself", msq_meet(&seats[0], &seats[0]), MSQ_OK);
+}
+
+/* Pushes by the one seat until so many values went; counts those that went, and the calls that were refused. */
+static void *push_all(void *given) {
+    uint64_t *pushed = given;
+    while (*pushed < VALUES) {
+        uint32_t code = msq_try_push(&seats[0], *pushed, 8);
+        if (code == MSQ_OK) {
+            ++*pushed;
+        } else if (code == MSQ_NO_NODE || code == MSQ_TWO_CALLS) {
+            atomic_fetch_add_explicit(&others, code == MSQ_TWO_CALLS, memory_order_relaxed);
+            sched_yield();
+        } else if (code != MSQ_BUSY) {
+            wrong++;
+            break;
+        }
+    }
+    return NULL;
+}
+
+/* Two threads push by one seat: each value comes, and refusals are told. */
+static void threads_are_refused(void) {
+    pthread_t ids[2];
+    msq_value value;
+    uint64_t pushed[2] = {0}, popped = 0;
+    for (unsigned k = 0; k < 2; k++) {
+        pthread_create(&ids[k], NULL, push_all, &pushed[k]);
+    }
+    while (popped < 2 * VALUES && wrong == 0) {
+        popped += msq_try_pop(&seats[1], 8, &value) == MSQ_OK;
+    }
+    for (unsigned k = 0; k < 2; k++) {
+        pthread_join(ids[k], NULL);
+    }
+    expect("values", popped, pushed[0] + pushed[1]);
+    printf("%llu values of %d came, with %d calls refused\n", (unsigned long long)popped, 2 * VALUES, atomic_load(&others));
+}
+
+int main(void) {
+    create();
+    each_call_is_refused();
+    threads_are_refused();
+    msq_drop(&seats[0]);
+    msq_drop(&seats[1]);
+    return wrong != 0;
+}
+
+#else
+
+/* One call of this seat each, one after the other, with nothing that orders them. */
+static void *push_one(void *given) {
+    while (atomic_load_explicit(&others, memory_order_relaxed) != *(const int *)given) {
+        sched_yield();
+    }
+    expect("a push", msq_try_push(&seats[0], 1, 8), MSQ_OK);
+    atomic_fetch_add_explicit(&others, 1, memory_order_relaxed);
+    return NULL;
+}
+
+int main(void) {
+    pthread_t ids[2];
+    static int turns[2] = {0, 1};
+    create();
+    for (unsigned k = 0; k < 2; k++) {
+        pthread_create(&ids[k], NULL, push_one, &turns[k]);
+    }
+    for (unsigned k = 0; k < 2; k++) {
+        pthread_join(ids[k], NULL);
+    }
+    msq_drop(&seats[0]);
+    msq_drop(&seats[1]);
+    return wrong != 0;
+}
+
+#endif
