@@ -1,0 +1,6 @@
+//! Values of several types that go through queues, and come back from them.
+mod calls;
+mod numbers;
+mod texts;
+mod waiting;
+mod whole;

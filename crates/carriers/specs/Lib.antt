@@ -1,0 +1,10 @@
+pub mod Deeds
+pub mod Values
+pub mod Knowledge
+pub mod Answers
+pub mod Matching
+pub mod Numbers
+pub mod Sound
+pub mod SmallRuns
+pub mod Rests
+pub mod Closing

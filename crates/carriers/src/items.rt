@@ -1,0 +1,27 @@
+//! Values of a queue, and those that a push hands back.
+use history::Refusal;
+
+/// A value of a queue, and the number of the seat that pushed it.
+#[derive(Debug, PartialEq, Eq, Drop)]
+pub struct ItemOf<T> {
+    pub from: u16,
+    pub value: T,
+}
+
+/// A value that wasn't pushed, and why.
+#[derive(Debug, PartialEq, Eq, Drop)]
+pub struct Unpushed<T> {
+    pub refusal: Refusal,
+    pub value: T,
+}
+
+/// Why the value wasn't pushed; the value is dropped. Takes no memory.
+impl<T: Drop> From<Unpushed<T>> for Refusal {
+    ghost use Rattle.std.specs.Prelude.{◌≡◌};
+
+    ghost from_gives = { λ unpushed refusal. refusal ≡ unpushed.refusal };
+
+    fn from(unpushed: Unpushed<T>) -> Refusal {
+        unpushed.refusal
+    }
+}
