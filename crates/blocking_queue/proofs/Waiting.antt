@@ -1,0 +1,68 @@
+-- What a seat learns while it waits.
+use Rattle.std.proofs.Common.{◌≡◌, ℕ, [], ◌∷◌, ◌++◌, length, sym, refl, ap, ◌∙◌, append-nil, append_assoc, subst, Option, None, Some}
+use Rattle.history.specs.declared.operations.Taken.{Taken}
+use Rattle.history.specs.declared.refusals.Refusal.{Refusal}
+use Rattle.history.specs.declared.refusals.Refusal.TheVariants.{NoNode}
+use Rattle.history.specs.Seats.{Known}
+use Rattle.history.specs.Answers.{FoundEmpty, PopAnswers, PopRefused, PushRefused, SeesMore}
+use Rattle.blocking_queue.specs.Waits.{Waited, EmptySince}
+use Rattle.blocking_queue.specs.Answers.{Received, RecvRefused, EndsAfterWait, Looked}
+
+-- a seat that makes no call
+pub waits_not : (k : Known) → Waited k k
+waits_not k = record { number = refl; between = []; seen = sym (append-nil k.seen); mine = refl; found = []; notes = sym (append-nil k.notes) }
+
+-- a seat that waited, and waited again
+pub waits_on : (a b c : Known) → Waited a b → Waited b c → Waited a c
+waits_on a b c f g =
+    record {
+      number = g.number ∙ f.number;
+      between = f.between ++ g.between;
+      seen = g.seen ∙ ap (λ es. es ++ g.between) f.seen ∙ append_assoc a.seen f.between g.between;
+      mine = g.mine ∙ f.mine;
+      found = f.found ++ g.found;
+      notes = g.notes ∙ ap (λ ns. ns ++ g.found) f.notes ∙ append_assoc a.notes f.found g.found;
+    }
+
+-- a seat that saw no less
+pub sees : (a b : Known) → SeesMore a b → Waited a b
+sees a b s = record { number = s.number; between = s.between; seen = s.seen; mine = s.mine; found = []; notes = s.notes ∙ sym (append-nil a.notes) }
+
+-- a seat that found the queue empty
+pub finds : (a b : Known) → FoundEmpty a b → Waited a b
+finds a b f = record { number = f.number; between = f.between; seen = f.seen; mine = f.mine; found = length b.seen ∷ []; notes = f.notes }
+
+-- a seat whose pop answered none
+pub none_found : (a b : Known) (o : Option Taken) → o ≡ None → PopAnswers a o b → FoundEmpty a b
+none_found a b o e h = subst (λ p. PopAnswers a p b) e h
+
+-- a seat that waited, and then popped
+pub received : (a b c : Known) (o : Option Taken) (value : Taken) → o ≡ Some value → Waited a b → PopAnswers b o c → Received a value c
+received a b c o value e w h = record { last = b; waited = w; popped = subst (λ p. PopAnswers b p c) e h }
+
+-- a seat that waited, and then was refused
+pub refused_then : (a b c : Known) (r : Refusal) → Waited a b → PopRefused b r c → RecvRefused a r c
+refused_then a b c r w h = record { last = b; waited = w; refused = h }
+
+-- a seat that waited, and then was refused after it waited again
+pub refused_on : (a b c : Known) (r : Refusal) → Waited a b → RecvRefused b r c → RecvRefused a r c
+refused_on a b c r w h = record { last = h.last; waited = waits_on a b h.last w h.waited; refused = h.refused }
+
+-- a seat that waited, and whose pop then ended after it waited again
+pub ends_on : {Q S : Type 0} (is_seat : Q → S → Type 0) (known : S → Known) (cause : Q → S → S → ℕ → Refusal → Type 0) (queue : Q) (a b c : S) (turns : ℕ) (r : Refusal)
+    → Waited (known a) (known b) → EndsAfterWait is_seat known cause queue b c turns r → EndsAfterWait is_seat known cause queue a c turns r
+ends_on is_seat known cause queue a b c turns r w e =
+    record { last = e.last; seat = e.seat; waited = waits_on (known a) (known b) (known e.last) w e.waited; caused = e.caused }
+
+-- a seat that heard a bell as this one, and then found the queue empty
+pub empty_since : (heard a b : Known) (o : Option Taken) → heard ≡ a → o ≡ None → PopAnswers a o b → EmptySince heard b
+empty_since heard a b o h e p =
+    record { last = a; waited = subst (λ k. Waited k a) (sym h) (waits_not a); empty = none_found a b o e p }
+
+-- a seat whose looks found none
+pub looked_none : (a b : Known) (o : Option Taken) → o ≡ None → Looked a o b → Waited a b
+looked_none a b o e h = subst (λ p. Looked a p b) e h
+
+-- a seat whose push was refused for want of a node
+pub refused_by : (a b : Known) (r : Refusal) → r ≡ NoNode → PushRefused a r b → SeesMore a b
+refused_by a b r e h = subst (λ p. PushRefused a p b) e h

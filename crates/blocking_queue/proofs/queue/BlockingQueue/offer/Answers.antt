@@ -1,0 +1,18 @@
+use Rattle.history.proofs.Learning.{push_refused_then, sees_then}
+use Rattle.blocking_queue.proofs.queue.BlockingQueue.offer.Goals as goal
+
+pub returns-in-Err-clause-refused : goal.returns-in-Err-clause-refused
+returns-in-Err-clause-refused g c = push_refused_then _ _ _ c.in-Err.refusal c.loop.invariant.more c.in-Err.ensures.refused
+
+pub returns-in-Err-clause-caused : goal.returns-in-Err-clause-caused
+returns-in-Err-clause-caused g c =
+    let e = c.in-Err.ensures.caused in
+    record { last = e.last; seat = e.seat; more = sees_then _ _ _ c.loop.invariant.more e.more; caused = e.caused }
+
+pub returns-in-Err-push-clause-refused : goal.returns-in-Err-push-clause-refused
+returns-in-Err-push-clause-refused g c = push_refused_then _ _ _ c.in-Err-push.refusal c.loop.invariant.more c.in-Err-push.ensures.refused
+
+pub returns-in-Err-push-clause-caused : goal.returns-in-Err-push-clause-caused
+returns-in-Err-push-clause-caused g c =
+    let e = c.in-Err-push.ensures.caused in
+    record { last = e.last; seat = e.seat; more = sees_then _ _ _ c.loop.invariant.more e.more; caused = e.caused }

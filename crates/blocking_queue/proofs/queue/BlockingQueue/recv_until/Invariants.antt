@@ -1,0 +1,11 @@
+use Rattle.blocking_queue.specs.Queues.{queue_of}
+use Rattle.blocking_queue.specs.Waits.{Waited}
+use Rattle.blocking_queue.proofs.queue.BlockingQueue.recv_until.Given as goal
+
+abbrev pub invariant-loop : goal.invariant-loop
+invariant-loop g l = record {
+  can : (goal.iterator-loop g).can_next l.iterator';
+  finite : (goal.iterator-loop g).is_finite l.iterator';
+  seat : g.Q.Fifo.is_seat (queue_of l.fn.self) l.seat;
+  waited : Waited (g.Q.Fifo.known l.initial.seat) (g.Q.Fifo.known l.seat);
+}

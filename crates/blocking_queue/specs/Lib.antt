@@ -1,0 +1,5 @@
+pub mod Answers
+pub mod Bells
+pub mod Lates
+pub mod Queues
+pub mod Waits

@@ -1,0 +1,11 @@
+//! A queue whose calls sleep where it is empty, or full.
+#![tactic(auto)]
+
+mod bells;
+mod deadlines;
+mod queue;
+mod receiving;
+mod sending;
+
+pub use deadlines::{InTime, Late};
+pub use queue::BlockingQueue;
