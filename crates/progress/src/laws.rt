@@ -20,7 +20,7 @@ pub fn operations_take_few_steps()
 /// Lock freedom: whatever the schedule, `n` steps of the non-blocking queue complete at least `n / (8 * P + 3) - P`
 /// operations, less one for each rest.
 pub fn operations_keep_completing()
-    //= progress/lock_free: Lock freedom: n steps of the non-blocking queue complete at least n / (8P + 3) - P operations,
+    //= progress/lock_free: Lock freedom: the first n steps of a run of the non-blocking queue complete at least n / (8P + 3) - P operations,
     //=   refused ones too, less one for each rest.
     ensures { KeepsCompleting 8 3 }
 {}
@@ -51,7 +51,7 @@ pub fn an_actor_alone_ends_its_call_from_anywhere()
 /// In the two-lock queue the steps that find no lock held are at most `8 * P + 4` for each operation.
 pub fn few_steps_find_no_lock_held()
     //= progress/unheld: In the two-lock queue the steps that find no lock held are at most 8P + 4 for each operation, and
-    //=   n of them complete at least n / (8P + 4) - P operations, refused ones too, less one for each rest.
+    //=   the first n of them complete at least n / (8P + 4) - P operations, refused ones too, less one for each rest.
     ensures { FewFindNoLockHeld 8 4 }
 {}
 
