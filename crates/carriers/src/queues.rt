@@ -201,8 +201,8 @@ pub trait Carrier {
 
     /// Pushes a value at the back, by tries of 8 turns each, and tries again while others are in the way. The seat may push.
     ///
-    /// Refusals: `NoNode`, `WornOut`, and `Closed` where the queue is shut; the queue is then as if the call had not been,
-    /// and the value comes back. Takes no memory, and waits.
+    /// Refusals: `NoNode`, `WornOut`, and `Closed` where the queue is shut; nothing was pushed then, and the value
+    /// comes back. Takes no memory, and waits.
     ///
     /// ```rust
     /// // A text that isn't pushed is dropped here, and comes back where the error is matched.
@@ -254,7 +254,7 @@ pub trait Carrier {
     /// Takes the value at the front, by tries of 8 turns each, and tries again while others are in the way; none where the
     /// queue was empty. The seat may pop.
     ///
-    /// Refusals: `WornOut`, and `Closed` where the queue is shut and empty; the queue is then as if the call had not been.
+    /// Refusals: `WornOut`, and `Closed` where the queue is shut and empty; nothing was popped then.
     /// Takes no memory, and waits.
     ///
     /// ```rust
@@ -298,7 +298,7 @@ pub trait Carrier {
     /// Shuts the queue, by tries of 8 turns each, and tries again while others are in the way: no push stands after it,
     /// and what is in the queue stays to be popped. The seat may push.
     ///
-    /// Refusals: `WornOut`, and `Closed` where the queue was shut before; the queue is then as if the call had not been.
+    /// Refusals: `WornOut`, and `Closed` where the queue was shut before; this call didn't shut it then.
     /// Takes no memory, and waits.
     ///
     /// ```rust

@@ -19,6 +19,7 @@ const TURNS: u32 = 8;
 /// their effect. Each seat has seen a prefix of it, and each call tells its seat more.
 pub trait Fifo {
     ghost use Rattle.history.specs.declared.refusals.Refusal.{Refusal};
+    ghost use Rattle.history.specs.declared.refusals.Refusal.TheVariants.{Closed};
 
     /// What a thread holds in order to call the queue.
     type Seat: Send + Drop;
@@ -180,12 +181,16 @@ pub trait Fifo {
     //= queues/meet
     ghost sound: { (queue : Self) (seat : Self.Seat) → is_seat queue seat → IsSound (permits queue) (known seat) };
 
+    //= queues/closed_alike: What causes a shut to be refused `Closed` is cause for a push to be refused so.
+    ghost closed_alike: { (queue : Self) (before after : Self.Seat) (turns : ℕ) → shut_cause queue before after turns Closed
+        → push_cause queue before after turns Closed };
+
     //= queues/one_fact
     ghost seat_prop: { (queue : Self) (seat : Self.Seat) → IsProp (is_seat queue seat) };
 
     /// Pushes a body at the back, by tries of 8 turns each, and tries again while others are in the way. The seat may push.
     ///
-    /// Refusals: `NoNode`, `WornOut`, and `Closed` where the queue is shut; the queue is then as if the call had not been.
+    /// Refusals: `NoNode`, `WornOut`, and `Closed` where the queue is shut; nothing was pushed then.
     /// Takes no memory, and waits.
     ///
     /// ```rust
@@ -225,7 +230,7 @@ pub trait Fifo {
     /// Takes the value at the front, by tries of 8 turns each, and tries again while others are in the way; none where the
     /// queue was empty. The seat may pop.
     ///
-    /// Refusals: `WornOut`, and `Closed` where the queue is shut and empty; the queue is then as if the call had not been.
+    /// Refusals: `WornOut`, and `Closed` where the queue is shut and empty; nothing was popped then.
     /// Takes no memory, and waits.
     ///
     /// ```rust
@@ -264,7 +269,7 @@ pub trait Fifo {
     /// Shuts the queue, by tries of 8 turns each, and tries again while others are in the way: no push stands after it,
     /// and what is in the queue stays to be popped. The seat may push, and keeps what is in its pocket.
     ///
-    /// Refusals: `WornOut`, and `Closed` where the queue was shut before; the queue is then as if the call had not been.
+    /// Refusals: `WornOut`, and `Closed` where the queue was shut before; this call didn't shut it then.
     /// Takes no memory, and waits.
     ///
     /// ```rust

@@ -135,8 +135,8 @@ impl<Q: Fifo + Drop> Sender<Q> {
     /// Shuts the office's queue, in so many turns at most, 1 or more: no letter is sent after it, and those sent before
     /// stay to be taken. The office is the one that the sender was made with.
     ///
-    /// Refusals: `WornOut` and `Busy` of the queue, and `Closed` where it was shut before; the queue is then as if the call
-    /// had not been. Takes no memory and doesn't wait.
+    /// Refusals: `WornOut` and `Busy` of the queue, and `Closed` where it was shut before; this call didn't shut it then.
+    /// Takes no memory and doesn't wait.
     ///
     /// ```rust
     /// match sender.try_shut(&office, 8) {

@@ -2,6 +2,9 @@
 use Rattle.std.specs.Prelude.{◌≡◌, true, List, [], ◌∷◌, replicate, refl}
 use Rattle.std.proofs.Common.{le_refl, inl}
 use Rattle.std.proofs.lemmas.List.Elements.{All-nil, All-replicate}
+use Rattle.history.specs.declared.refusals.Refusal.{Refusal}
+use Rattle.history.specs.declared.refusals.Refusal.TheVariants.{NoNode, WornOut, Closed}
+use Rattle.history.specs.declared.refusals.WornWord.TheVariants.{Tail}
 use Rattle.history.specs.Queue.{empty}
 use Rattle.history.specs.Seats.{Permit, Known, IsSound, IsPermitted, IsNoted}
 use Rattle.history.specs.declared.rests.Rest.{Rest}
@@ -28,3 +31,7 @@ empties_are_sound s = record { legal = (empty, refl); permitted = All-nil (IsPer
 -- nothing is left, and nothing was taken
 abbrev pub LeavesNone : Rest → Type 0
 LeavesNone rest = (left_of rest ≡ []) × (taken_of rest ≡ 0)
+
+-- no shut of it is refused Closed
+pub closed_never : (let it : Refusal = Closed in it ≡ WornOut Tail) → (let it : Refusal = Closed in it ≡ NoNode)
+closed_never e = absurd (let f : Closed ≡ WornOut Tail = e in cc)

@@ -30,7 +30,7 @@ impl Fifo for FullQueue {
     ghost use Rattle.std.specs.Coded.{Unit-prop};
     ghost use Rattle.history.specs.declared.refusals.Refusal.TheVariants.{NoNode, WornOut, Busy};
     ghost use Rattle.history.specs.declared.refusals.WornWord.TheVariants.{Tail};
-    ghost use Rattle.mock_queues.specs.Full.{IsFullSeat, one_permit, knows_empties, empties_are_sound};
+    ghost use Rattle.mock_queues.specs.Full.{IsFullSeat, one_permit, knows_empties, empties_are_sound, closed_never};
 
     type Seat = FullSeat;
 
@@ -47,6 +47,8 @@ impl Fifo for FullQueue {
     ghost shut_cause = { λ _ _ _ _ refusal. refusal ≡ WornOut Tail };
 
     ghost sound = { λ _ seat _. empties_are_sound seat };
+
+    ghost closed_alike = { λ _ _ _ _. closed_never };
 
     ghost seat_prop = { λ _ _. Unit-prop };
 

@@ -66,6 +66,8 @@ impl<Q: Fifo + Drop, P: Plan + Drop> Fifo for Planned<Q, P> {
 
     ghost sound = { λ q s h. Q.sound (queue_of q) s h };
 
+    ghost closed_alike = { λ _ _ _ _ cause. cause };
+
     ghost seat_prop = { λ q s. Q.seat_prop (queue_of q) s };
 
     fn try_push(&self, seat: &mut Q::Seat, body: Body, turns: u32) -> Result<(), Refusal> {

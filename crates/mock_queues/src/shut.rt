@@ -64,6 +64,8 @@ impl Fifo for ShutQueue {
 
     ghost sound = { λ _ seat _. shut_is_sound seat };
 
+    ghost closed_alike = { λ _ _ _ _ cause. cause };
+
     ghost seat_prop = { λ _ _. Unit-prop };
 
     fn try_push(&self, seat: &mut ShutSeat, _body: Body, _turns: u32) -> Result<(), Refusal> {
