@@ -25,7 +25,7 @@ numbered : {X : Type 0} (f : X → ℕ) (n : ℕ) (xs : List X) → length (filt
 numbered f n [] = refl
 numbered f n (x ∷ xs) = one_more (nat_eq (f x) n) x (f x) (filter (λ y. nat_eq (f y) n) xs) (filter (λ m. nat_eq m n) (map f xs)) (numbered f n xs)
 
-module _ (kind : Kind) {senders : ℕ} {letters : List SaidLetter} {taken : List Letter} (are : AreBrought senders letters taken) (arena : Arena) (seat : Seat) (values : List Taken) (all : popped (known_of seat).mine ≡ values) (from : map (λ (l : Letter). l.from) taken ≡ map (λ (v : Taken). v.from) values) where
+module _ (kind : Kind) {senders : ℕ} {letters : List SaidLetter} {taken : List Letter} (are : AreBrought senders letters taken) (arena : Arena) (seat : Seat (Unit {0})) (values : List Taken) (all : popped (known_of seat).mine ≡ values) (from : map (λ (l : Letter). l.from) taken ≡ map (λ (v : Taken). v.from) values) where
   -- as many values of a sender as letters
   of_sender : (sender : ℕ) → length (popped_of sender seat) ≡ length (texts_of sender taken)
   of_sender sender =

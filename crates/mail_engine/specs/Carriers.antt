@@ -31,17 +31,17 @@ arena_in (TwoLock office receiver) = arena_of (queue_in office)
 arena_in (NonBlocking office receiver) = arena_of (queue_in office)
 
 -- the seat that took them
-abbrev pub seat_in : Carrier → Seat
+abbrev pub seat_in : Carrier → Seat (Unit {0})
 seat_in (TwoLock office receiver) = taker_in receiver
 seat_in (NonBlocking office receiver) = taker_in receiver
 
 -- the values of one sender that a seat popped, in order
-abbrev pub popped_of : (sender : ℕ) → Seat → List Taken
+abbrev pub popped_of : (sender : ℕ) → Seat (Unit {0}) → List Taken
 popped_of sender seat = filter (λ (v : Taken). nat_eq v.from sender) (popped (known_of seat).mine)
 
 -- an arena was made for these letters of so many senders and a queue of this kind, and a seat of it, which alone may pop,
 -- popped one value for each letter: as many of each sender as it has letters
-pub record Carried (kind : Kind) (senders : ℕ) (letters : List SaidLetter) (arena : Arena) (seat : Seat) : Type 0 where
+pub record Carried (kind : Kind) (senders : ℕ) (letters : List SaidLetter) (arena : Arena) (seat : Seat (Unit {0})) : Type 0 where
   pub made : plan_of arena ≡ mail_plan kind (length letters) senders
   pub ready : IsReady arena seat
   pub only : OnlyPops (permits_of arena) (known_of seat).number

@@ -66,9 +66,12 @@ pub fn post_text<T: Threads + Wait + Sync, R: Source, W: Sink>(
     //=   the seat popped one value for each letter, as many of each sender as it has letters.
     ensures carried { IfOk result (CarriedText kind (R.state reader.old).left) }
     // A text is refused by its first faulty line. Where sending or writing is refused, it was the text of mail.
-    //= letters/text_refusals (text, prefix, write, unwritten, refusal, reader): A faulty text; one that is none of
-    //=   mail is answered by `Text`, `Memory` or `Read`: at any other refusal it was that of mail in range. At other
-    //=   refusals nothing, and the reader tells its end; these are `NoNode`, `WornOut`, `BadSize` and `Lost`.
+    //= letters/text_refusals (text, prefix, write, unwritten, refusal, reader): `post_text` refuses a text that isn't
+    //=   one of mail with its first faulty line and what is wrong with it, unless memory or reading is refused; at
+    //=   any other refusal the text was that of mail in range. If it is refused `Write`, a prefix of the letters was
+    //=   written, and a write failed or took nothing; at any other refusal nothing was written. Its further refusals
+    //=   are `NoNode`, `WornOut`, `BadSize` and `Lost`. At Ok, and at each refusal but `Memory` and `Read`, its
+    //=   reader has told its end and didn't fail; at `Read` one call of it failed, at `Memory` none.
     ensures text { IfErr result (TellsOfText (R.state reader.old).left) }
     // Where writing fails, a prefix of the text is written.
     ensures prefix { IfErr result (λ refusal. refusal ≡ Refusal.Write

@@ -37,10 +37,14 @@ pub fn run_text<R: Source, W: Sink>(
 ) -> Result<(), Fault>
     //= program/run (ok, quiet): At Ok the history of the world after the schedule's events is written; these were made
     //=   in turn from the opening world, each step that names its line at that line.
-    //= program/run_refusals (ok, prefix, write, unwritten, fault, text, refused): At other refusals nothing. A
-    //=   faulty text.
-    //= program/run_reader (ok, prefix, text, refused, reader): The reader tells its end. The text is a schedule's,
-    //=   in range, at Ok, at `Write` and where a line is told, at `Text` none's.
+    //= program/run_refusals (ok, prefix, write, unwritten, fault, text, refused): If `run_text` is refused `Write`, a
+    //=   prefix of the history's text was written, and a write failed or took nothing; at any other refusal nothing
+    //=   was written. A text that is no schedule is refused with its first faulty line and what is wrong with it,
+    //=   unless memory or reading is refused.
+    //= program/run_reader (ok, prefix, text, refused, reader): At Ok, and at each refusal but `Memory` and `Read`,
+    //=   the reader of `run_text` has told its end and didn't fail; at `Read` one call of it failed, at `Memory`
+    //=   none. At Ok, at `Write` and at a refusal with a line the text is a schedule's, in range; at `Text` it is
+    //=   none's.
     ensures ok { OnOk result (WritesRun (R.state reader.old).left (W.state writer.old)
         (W.state writer.new)) }
     ensures quiet { OnOk result ((W.state writer.new).failures ≡ (W.state writer.old).failures) }

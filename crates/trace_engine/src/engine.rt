@@ -91,9 +91,9 @@ pub fn trace_text<R: Source, W: Sink>(
     ensures ok { OnOk result (WritesTrace (R.state reader.old).left (W.state writer.old)
         (W.state writer.new)) }
     ensures quiet { OnOk result ((W.state writer.new).failures ≡ (W.state writer.old).failures) }
-    //= program/prefix (prefix, write, memory, none_failed, unwritten): Of a trace or a picture at `Write` a prefix
-    //=   is written, and a write failed or took nothing; at `Memory` nothing or a prefix, and no write failed; at any
-    //=   other refusal nothing.
+    //= program/prefix (prefix, write, memory, none_failed, unwritten): If a trace or a picture is refused `Write`, a
+    //=   prefix of it was written, and a write failed or took nothing. At `Memory` nothing or a prefix was written,
+    //=   and no write failed. At any other refusal nothing was written.
     ensures prefix { IfErr result (λ fault. fault.refusal ≡ Refusal.Write
         → BeginsTrace (R.state reader.old).left (W.state writer.old) (W.state writer.new)) }
     ensures write { IfErr result (λ fault. fault.refusal ≡ Refusal.Write
