@@ -35,7 +35,7 @@ from collections.abc import Iterable, Iterator
 from mutants.bodies import texts_below
 from mutants.edits import Edit
 from mutants.kit import Kit, LibraryOfRt
-from mutants.sources import NO_CODE, Function, blanked, closed, functions_of, homes_of
+from mutants.sources import NO_CODE, Function, Homes, blanked, closed, functions_of, homes_of
 
 LENGTH = 16
 LENGTH_OF_TOOLCHAIN = 8
@@ -111,7 +111,7 @@ def unit_of(crate: str, function: Function, text: str, start: int, is_left: bool
     return Unit(crate, function.simple(), f"{head}\n{text[start : function.ends if is_left else function.begins]}")
 
 
-def units_of_source(crate: str, path: str, text: str, homes: dict[str, list[str]]) -> Iterator[Unit]:
+def units_of_source(crate: str, path: str, text: str, homes: Homes) -> Iterator[Unit]:
     """Gives the parts of a source file: each function that no trait has, each name that a 'use' brings, and all else."""
     text = uncommented(text)
     code = blanked(text)

@@ -4,7 +4,15 @@ import re
 from collections.abc import Iterable
 
 Texts = dict[str, str]
-Homes = dict[str, list[str]]
+
+
+class Homes(dict[str, list[str]]):
+    """The files in which types are declared, by their names, and how many parameters a type has of which the last has a default."""
+
+    def __init__(self) -> None:
+        super().__init__()
+        self.parameters: dict[str, int] = {}
+
 
 # Comments, strings and characters, which hold no code. A name may end in ', as in a clause's x'.
 NO_CODE = re.compile(r"//[^\n]*|/\*.*?\*/|b?r#*\".*?\"#*|b?\"(?:\\.|[^\"\\])*\"|(?<![\w'])b?'(?:\\[^']*|[^'\\\n])'", re.DOTALL)
@@ -89,25 +97,37 @@ def without_generics(text: str) -> str:
     return text
 
 
-def block_name(kind: str, head: str) -> str:
-    """Returns how the checker names a block: an impl Type, or TypeTrait where it is of a trait; a trait, whatever stands above it, by its name."""
+def arguments(text: str) -> list[str]:
+    """Returns the arguments in the last angle brackets of a text, none where it doesn't end with such."""
+    it = re.search(r"<([^<>]*)>\s*$", text)
+    return [word.strip() for word in it[1].split(",") if word.strip()] if it else []
+
+
+def block_name(kind: str, head: str, parameters: dict[str, int]) -> str:
+    """Returns how the checker names a block: an impl Type, or TypeTrait where it is of a trait; a trait, whatever stands above it, by its name. An impl that
+    leaves an argument to its default is Type+ARGUMENTS."""
     words = without_generics(head).partition(" where ")[0]
     if kind == "trait":
         words = words.partition(":")[0]
     trait, _, of = words.partition(" for ")
     short = lambda it: (re.findall(r"\w+", it) or [""])[-1]
-    return short(of) + short(trait) if of else short(trait)
+    if of:
+        return short(of) + short(trait)
+    given = arguments(head.partition(" where ")[0])
+    return "+".join([short(trait), *given]) if kind == "impl" and len(given) < parameters.get(short(trait), 0) else short(trait)
 
 
-TYPE = re.compile(r"^\s*(?:pub(?:\([^)]*\))?\s+)?(?:struct|enum|union)\s+(\w+)", re.MULTILINE)
+TYPE = re.compile(r"^\s*(?:pub(?:\([^)]*\))?\s+)?(?:struct|enum|union)\s+(\w+)(<[^<>]*>)?", re.MULTILINE)
 
 
 def homes_of(texts: Texts) -> Homes:
     """Returns the files in which each type is declared, by its name."""
-    homes: Homes = {}
+    homes = Homes()
     for file, text in texts.items():
-        for name in TYPE.findall(blanked(text)):
+        for name, parameters in TYPE.findall(blanked(text)):
             homes.setdefault(name, []).append(file)
+            if "=" in parameters:
+                homes.parameters[name] = len(arguments(parameters))
     return homes
 
 
@@ -149,7 +169,7 @@ def functions_of(file: str, text: str, homes: Homes) -> list[Function]:
                 continue
             head, ends = code[it.end() : opens.start()], closed(code, opens.start())
             is_trait = it[1] == "trait" or re.search(r"\bfor\b", without_generics(head)) is not None
-            walk(opens.end(), ends - 1, [*inside, block_name(it[1], head)], is_of_trait or is_trait)
+            walk(opens.end(), ends - 1, [*inside, block_name(it[1], head, homes.parameters)], is_of_trait or is_trait)
             at = ends
 
     walk(0, len(code), [])

@@ -28,7 +28,7 @@ HasPlace-prop (Next n) = le_prop
 HasPlace-prop (Value n) = le_prop
 HasPlace-prop _ = Unit-prop
 
-pub has_place : (r : Arena) (s : Seat) (prologue : Prologue) (l : Line) (w : Word) (x : WordStep) → MayStep r s prologue l x → Accesses r s prologue l w → HasPlace w
+pub has_place : {T : Type 0} (r : Arena) (s : Seat T) (prologue : Prologue) (l : Line) (w : Word) (x : WordStep) → MayStep r s prologue l x → Accesses r s prologue l w → HasPlace w
 has_place r s prologue l w x may names =
     ∥∥₁_elim may.seat.sits.fitted (HasPlace-prop w) (λ fitted.
     let at : Stood r.plan (view s).number (after_prologue r.plan.setup (view s).number prologue (view s).actor) l = stood r.plan (view s) prologue l fitted may.leads may.line in

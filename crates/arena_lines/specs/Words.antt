@@ -38,6 +38,6 @@ machine_word (Next n) = WordNext n
 machine_word (Value n) = WordValue n
 
 -- the access of a seat's next move, at a line, is of this word
-abbrev pub Accesses : Arena → Seat → Prologue → Line → Word → Type 0
+abbrev pub Accesses : {T : Type 0} → Arena → Seat T → Prologue → Line → Word → Type 0
 Accesses r s prologue l w =
     word (action r.plan.setup (view s).number (after_prologue r.plan.setup (view s).number prologue (view s).actor) l) ≡ machine_word w

@@ -11,9 +11,9 @@ use node_arena::{ArenaOf, Seat};
 /// One load of a word. `failed` turns of the call failed before: a caller picks the prologue by it. Takes no memory and
 /// doesn't wait.
 #[inline(always)]
-pub fn load<const B: u32>(
-    arena: &ArenaOf<B>,
-    seat: &mut Seat,
+pub fn load<const B: u32, T>(
+    arena: &ArenaOf<B, T>,
+    seat: &mut Seat<T>,
     line: Line,
     word: Word,
     failed: u32,
@@ -29,7 +29,13 @@ pub fn load<const B: u32>(
 
 /// One store into a word: a caller picks the prologue by the value. Takes no memory and doesn't wait.
 #[inline(always)]
-pub fn store<const B: u32>(arena: &ArenaOf<B>, seat: &mut Seat, line: Line, word: Word, value: u64)
+pub fn store<const B: u32, T>(
+    arena: &ArenaOf<B, T>,
+    seat: &mut Seat<T>,
+    line: Line,
+    word: Word,
+    value: u64,
+)
     ghost prologue: { Prologue }
     requires may { MayStep arena.now seat.old prologue line (store_at (index_of word) value) }
     requires names { Accesses arena.now seat.old prologue line word }
@@ -41,9 +47,9 @@ pub fn store<const B: u32>(arena: &ArenaOf<B>, seat: &mut Seat, line: Line, word
 /// One compare-exchange of a word; the word found is the answer, won or lost. `failed` turns of the call failed before: a
 /// caller picks the prologue by it. Takes no memory and doesn't wait.
 #[inline(always)]
-pub fn exchange<const B: u32>(
-    arena: &ArenaOf<B>,
-    seat: &mut Seat,
+pub fn exchange<const B: u32, T>(
+    arena: &ArenaOf<B, T>,
+    seat: &mut Seat<T>,
     line: Line,
     word: Word,
     old: u64,

@@ -11,7 +11,12 @@ use node_arena::{ArenaOf, Seat};
 
 /// One load of a word by a call that is under way. Takes no memory and doesn't wait.
 #[inline(always)]
-pub fn loaded<const B: u32>(arena: &ArenaOf<B>, seat: &mut Seat, line: Line, word: Word) -> u64
+pub fn loaded<const B: u32, T>(
+    arena: &ArenaOf<B, T>,
+    seat: &mut Seat<T>,
+    line: Line,
+    word: Word,
+) -> u64
     requires may { MayStep arena.now seat.old continues line (load_at (index_of word)) }
     requires names { Accesses arena.now seat.old continues line word }
     ensures { DidStep arena.now seat.old seat.new continues line result }
@@ -21,7 +26,13 @@ pub fn loaded<const B: u32>(arena: &ArenaOf<B>, seat: &mut Seat, line: Line, wor
 
 /// One store into a word by a call that is under way. Takes no memory and doesn't wait.
 #[inline(always)]
-pub fn stored<const B: u32>(arena: &ArenaOf<B>, seat: &mut Seat, line: Line, word: Word, value: u64)
+pub fn stored<const B: u32, T>(
+    arena: &ArenaOf<B, T>,
+    seat: &mut Seat<T>,
+    line: Line,
+    word: Word,
+    value: u64,
+)
     requires may { MayStep arena.now seat.old continues line (store_at (index_of word) value) }
     requires names { Accesses arena.now seat.old continues line word }
     ensures { DidSome arena.now seat.old seat.new continues line }
@@ -32,7 +43,12 @@ pub fn stored<const B: u32>(arena: &ArenaOf<B>, seat: &mut Seat, line: Line, wor
 /// One fetch_and, by a call that is under way, that leaves the count of the reference in a word; the word found is the
 /// answer. Takes no memory and doesn't wait.
 #[inline(always)]
-pub fn cleared<const B: u32>(arena: &ArenaOf<B>, seat: &mut Seat, line: Line, word: Word) -> u64
+pub fn cleared<const B: u32, T>(
+    arena: &ArenaOf<B, T>,
+    seat: &mut Seat<T>,
+    line: Line,
+    word: Word,
+) -> u64
     requires may { MayStep arena.now seat.old continues line
         (and_at (index_of word) (count_mask (setup_of arena.now).bits)) }
     requires names { Accesses arena.now seat.old continues line word }
@@ -44,9 +60,9 @@ pub fn cleared<const B: u32>(arena: &ArenaOf<B>, seat: &mut Seat, line: Line, wo
 /// One compare-exchange of a word by a call that is under way; the word found is the answer, won or lost. Takes no memory
 /// and doesn't wait.
 #[inline(always)]
-pub fn exchanged<const B: u32>(
-    arena: &ArenaOf<B>,
-    seat: &mut Seat,
+pub fn exchanged<const B: u32, T>(
+    arena: &ArenaOf<B, T>,
+    seat: &mut Seat<T>,
     line: Line,
     word: Word,
     old: u64,

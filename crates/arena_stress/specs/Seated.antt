@@ -6,12 +6,12 @@ use Rattle.node_arena.specs.Seats.{IsReady, pocket_of}
 use Rattle.arena_stress.specs.declared.seating.Four.{Four}
 
 -- a seat may begin a call, and its pocket is empty
-abbrev pub IsFresh : Arena → Seat → Type 0
+abbrev pub IsFresh : {T : Type 0} → Arena → Seat T → Type 0
 IsFresh r s = IsReady r s × (pocket_of s ≡ None)
 
 -- all of these seats are so
-abbrev pub AreFresh : Arena → List Seat → Type 0
-AreFresh r seats = (k : ℕ) (s : Seat) → slice_get seats k ≡ Some s → IsFresh r s
+abbrev pub AreFresh : {T : Type 0} → Arena → List (Seat T) → Type 0
+AreFresh r seats = (k : ℕ) (s : Seat _) → slice_get seats k ≡ Some s → IsFresh r s
 
 -- these four are so
 pub record AreFour (r : Arena) (f : Four) : Type 0 where

@@ -1,5 +1,6 @@
 //! New arenas with their seats.
-ghost use Rattle.std.specs.Prelude.{IfSome, IfOk};
+ghost use Rattle.std.specs.Prelude.{◌≡◌, false, IfSome};
+ghost use Rattle.node_arena.specs.Seats.{carries_of};
 ghost use Rattle.arena_stress.specs.Seated.{IsFresh, AreFresh, AreFour};
 
 use line_table::Kind;
@@ -26,7 +27,8 @@ pub fn pop(arena: &Arena, seats: &mut Vec<Seat>) -> Option<Seat>
 
 /// An arena for the non-blocking queue, with as many seats.
 pub fn seats_of(alloc: Global, nodes: u32, limit: u64, roles: &[Role]) -> Option<(Arena, Vec<Seat>)>
-    ensures { IfSome result (λ r. AreFresh r.0 r.1.items) }
+    ensures fresh { IfSome result (λ r. AreFresh r.0 r.1.items) }
+    ensures numbers { IfSome result (λ r. carries_of r.0 ≡ false) }
 {
     match Arena::new(alloc, Kind::NonBlocking, nodes, limit, roles) {
         Ok(made) => Some(made),

@@ -28,10 +28,10 @@ use Rattle.free_list.specs.Runs.{follow, AgreesAt, CallIsAt}
 use Rattle.free_list.specs.Takes.{WasThere, IsRefusedBy}
 use Rattle.free_list.proofs.Steps.{ref_n2, ref_n3, ref_n4, ref_f1, ref_f3}
 
-stands_on : (r : Arena) (t : Seat) (l : Line) (a : Running) → IsSeat r t → (view t).actor.line ≡ Some l → AgreesAt l (view t).actor a → CallIsAt r t continues l a
+stands_on : {T : Type 0} (r : Arena) (t : Seat T) (l : Line) (a : Running) → IsSeat r t → (view t).actor.line ≡ Some l → AgreesAt l (view t).actor a → CallIsAt r t continues l a
 stands_on r t l a seat line knows = record { before = record { seat = seat; can = tt; line = line }; knows = knows }
 
-module _ (r : Arena) (s t : Seat) (prologue : Prologue) (a : Running) (n : ℕ) where
+module _ {T : Type 0} (r : Arena) (s t : Seat T) (prologue : Prologue) (a : Running) (n : ℕ) where
   abbrev b : Actor
   b = after_prologue r.plan.setup (view s).number prologue (view s).actor
 

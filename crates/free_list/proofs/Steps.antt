@@ -14,7 +14,7 @@ use Rattle.node_arena.proofs.Reading.{read_back}
 use Rattle.free_list.specs.Running.{Running}
 use Rattle.free_list.specs.Runs.{CallIsAt}
 
-module _ (r : Arena) (s : Seat) (a : Running) where
+module _ {T : Type 0} (r : Arena) (s : Seat T) (a : Running) where
   -- the counts that N4 and F3 raise have room
   pub room_n4 : (z : Setup) → z ≡ r.plan.setup → CallIsAt r s continues N4 a → a.top.count < z.limit
   room_n4 z e h = by_known r s continues N4 h.before le_prop (λ k. omega (arith, k.room, ap (λ (x : Ref). x.count) h.knows.0, ap (λ (y : Setup). y.limit) e))
@@ -36,7 +36,7 @@ module _ (r : Arena) (s : Seat) (a : Running) where
   pub node_f3 : CallIsAt r s continues F3 a → a.node < reserved_node r.plan.setup.bits
   node_f3 h = by_known r s continues F3 h.before le_prop (λ k. omega (arith, k.within, k.registers.node, h.knows.0.node, h.before.seat.arena.sized.numbered))
 
-module _ (r : Arena) (s t : Seat) (prologue : Prologue) (n : ℕ) where
+module _ {T : Type 0} (r : Arena) (s t : Seat T) (prologue : Prologue) (n : ℕ) where
   pub fresh_small : DidStep r s t prologue N1 n → n ≤ r.plan.setup.size
   fresh_small d = let h = (was_in_range r.plan prologue N1 n (view s) (view t) d.told).shared.fresh in let e = d.told.found in let z = ap (λ z. z.size) d.told.setup in omega arith
 

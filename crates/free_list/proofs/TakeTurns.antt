@@ -15,7 +15,7 @@ use Rattle.node_arena.specs.Seats.{IsReady, view, keeping, pocket_of}
 use Rattle.node_arena.specs.Turns.{failed_turns}
 use Rattle.node_arena.specs.Paths.{ExtendsPath, Passes, added, MetCause}
 use Rattle.free_list.specs.declared.outcomes.Turn.TheVariants.{Took, Failed, Refused}
-use Rattle.node_arena.proofs.Paths.{no_pass, pass_then, then_stored, added_is, last_held, ends_failed, ended_behind, stopped_behind, failed_behind, failed-append, kept_seat, now_kept}
+use Rattle.node_arena.proofs.Paths.{no_pass, pass_then, then_stored, no_slots, then_slots, added_is, last_held, ends_failed, ended_behind, stopped_behind, failed_behind, failed-append, kept_seat, now_kept}
 use Rattle.node_arena.proofs.Known.{empty_before}
 use Rattle.free_list.specs.Takes.{IsRefusedBy, TakeRefused, Turns, Trying, AnswersTake}
 
@@ -25,28 +25,30 @@ rests_with TwoLock a e = ap (out_of a) e
 rests_with NonBlocking a e = ap (out_of a) e
 
 -- an actor that begins an enqueue with this pocket
-abbrev set_out : Arena → Seat → Option Held → Actor
+abbrev set_out : {T : Type 0} → Arena → Seat T → Option Held → Actor
 set_out r s p = from_pocket (with_node r.plan.setup.kind) p (record (at_rest (view s).actor) { line = Some N1; op = Enq 0; val = record { from = (view s).number; body = 0 }; due = None; entry = None })
 
 -- a take that sets out
-pub sets_out : (r : Arena) (s : Seat) → IsReady r s → pocket_of s ≡ None → Trying r s s 0
+pub sets_out : {T : Type 0} (r : Arena) (s : Seat T) → IsReady r s → pocket_of s ≡ None → Trying r s s 0
 sets_out r s h none =
     record {
       before = record { seat = h.seat; can = (refl, h.free); line = ap (λ p. (set_out r s p).line) (sym h.pocket ∙ none) };
       stored = record { number = refl; role = refl; keeps = refl; pocket = refl; failed = refl };
+      slots = no_slots s;
       lines = [];
       walks = no_pass (view s);
       failed = refl;
       last = λ one. absurd (omega arith);
     }
 
-module _ (r : Arena) (s t : Seat) (n : ℕ) (h : Trying r s t n) where
+module _ {T : Type 0} (r : Arena) (s t : Seat T) (n : ℕ) (h : Trying r s t n) where
   -- a turn failed
-  pub again : (x : Seat) → Turns r t x Failed → Trying r s x (n + 1)
+  pub again : (x : Seat T) → Turns r t x Failed → Trying r s x (n + 1)
   again x d =
       record {
         before = rw add-one d.turned.before;
         stored = then_stored s t x h.stored d.stored;
+        slots = then_slots s t x h.slots d.slots;
         lines = h.lines ++ d.lines;
         walks = pass_then (view s) (view t) (view x) h.lines d.lines h.walks d.walks;
         failed = (let f = h.failed in let g = d.turned.once in let e = failed-append h.lines d.lines in omega arith);
@@ -54,7 +56,7 @@ module _ (r : Arena) (s t : Seat) (n : ℕ) (h : Trying r s t n) where
       }
 
   -- a turn got a node
-  pub took : (x : Seat) (turns : ℕ) (g : Held) → n < turns → Turns r t x (Took g) → AnswersTake r s (keeping x (Some g) n) turns (Ok g)
+  pub took : (x : Seat T) (turns : ℕ) (g : Held) → n < turns → Turns r t x (Took g) → AnswersTake r s (keeping x (Some g) n) turns (Ok g)
   took x turns g less d =
       let es : List Event = h.lines ++ d.lines in
       let p : Passes (view s) (view x) es = pass_then (view s) (view t) (view x) h.lines d.lines h.walks d.walks in
@@ -69,6 +71,7 @@ module _ (r : Arena) (s t : Seat) (n : ℕ) (h : Trying r s t n) where
           pocket = (λ i. Some (record { node = sym d.turned.node i; mark = sym d.turned.mark i })) ∙ sym (ap (λ a. a.pocket) rest);
         };
         same = record { number = name.number; role = name.role; keeps = name.keeps };
+        slots = (let k = then_slots s t x h.slots d.slots in record { same = k.same; hand = k.hand });
         pocket = refl;
         lines = subst (ExtendsPath (view s) (view x)) (sym e) p.walks;
         seen = p.same;
@@ -82,7 +85,7 @@ module _ (r : Arena) (s t : Seat) (n : ℕ) (h : Trying r s t n) where
       }
 
   -- a turn was refused
-  pub refused : (x : Seat) (turns : ℕ) (refusal : Refusal) → n < turns → Turns r t x (Refused refusal) → AnswersTake r s (keeping x None n) turns (Err refusal)
+  pub refused : (x : Seat T) (turns : ℕ) (refusal : Refusal) → n < turns → Turns r t x (Refused refusal) → AnswersTake r s (keeping x None n) turns (Err refusal)
   refused x turns refusal less d =
       let es : List Event = h.lines ++ d.lines in
       let p : Passes (view s) (view x) es = pass_then (view s) (view t) (view x) h.lines d.lines h.walks d.walks in
@@ -97,6 +100,7 @@ module _ (r : Arena) (s t : Seat) (n : ℕ) (h : Trying r s t n) where
           pocket = sym (ap (λ a. a.pocket) rest ∙ d.turned.empty);
         };
         same = record { number = name.number; role = name.role; keeps = name.keeps };
+        slots = (let k = then_slots s t x h.slots d.slots in record { same = k.same; hand = k.hand });
         pocket = refl;
         lines = subst (ExtendsPath (view s) (view x)) (sym e) p.walks;
         seen = p.same;
@@ -106,12 +110,12 @@ module _ (r : Arena) (s t : Seat) (n : ℕ) (h : Trying r s t n) where
         fewer = λ other. less;
       }
     where
-      by_cause : (x : Seat) (turns : ℕ) (refusal : Refusal) → IsRefusedBy refusal → MetCause r s (keeping x None n) refusal → TakeRefused r s (keeping x None n) turns refusal
+      by_cause : (x : Seat T) (turns : ℕ) (refusal : Refusal) → IsRefusedBy refusal → MetCause r s (keeping x None n) refusal → TakeRefused r s (keeping x None n) turns refusal
       by_cause x turns refusal (inl e) c = subst (TakeRefused r s (keeping x None n) turns) (sym e) (subst (MetCause r s (keeping x None n)) e c)
       by_cause x turns refusal (inr e) c = subst (TakeRefused r s (keeping x None n) turns) (sym e) (subst (MetCause r s (keeping x None n)) e c)
 
 -- all turns failed
-pub gave_up : (r : Arena) (s t : Seat) (turns : ℕ) → 1 ≤ turns → Trying r s t turns → AnswersTake r s (keeping t None turns) turns (Err Busy)
+pub gave_up : {T : Type 0} (r : Arena) (s t : Seat T) (turns : ℕ) → 1 ≤ turns → Trying r s t turns → AnswersTake r s (keeping t None turns) turns (Err Busy)
 gave_up r s t zero some h = absurd (omega arith)
 gave_up r s t (suc m) some h =
     let e : added s t ≡ h.lines = added_is s t h.lines h.walks.walks in
@@ -123,6 +127,7 @@ gave_up r s t (suc m) some h =
         pocket = sym (ap (λ b. b.pocket) rest ∙ empty_before r t continues N1 h.before);
       };
       same = record { number = h.stored.number; role = h.stored.role; keeps = h.stored.keeps };
+      slots = record { same = h.slots.same; hand = h.slots.hand };
       pocket = refl;
       lines = subst (ExtendsPath (view s) (view t)) (sym e) h.walks.walks;
       seen = h.walks.same;

@@ -82,17 +82,17 @@ AgreesAt F3 b a = Frees b (in_hand a) × (b.top ≡ a.top)
 AgreesAt l b a = Unit {0}
 
 -- a seat's actor, led there, stands before a line, and the call has its registers
-pub record CallIsAt (r : Arena) (s : Seat) (prologue : Prologue) (l : Line) (a : Running) : Type 0 where
+pub record CallIsAt {T : Type 0} (r : Arena) (s : Seat T) (prologue : Prologue) (l : Line) (a : Running) : Type 0 where
   pub before : IsBefore r s prologue l
   pub knows : AgreesAt l (after_prologue r.plan.setup (view s).number prologue (view s).actor) a
 
 -- a seat's actor, led there, stands at the start of a give back's turn, with its node
-pub record StartsGive (r : Arena) (s : Seat) (prologue : Prologue) (h : Held) : Type 0 where
+pub record StartsGive {T : Type 0} (r : Arena) (s : Seat T) (prologue : Prologue) (h : Held) : Type 0 where
   pub before : IsBefore r s prologue F1
   pub frees : Frees (after_prologue r.plan.setup (view s).number prologue (view s).actor) h
 
 -- the seat made its step at a line, and the call made of the number found what the line says
-pub record Follows (r : Arena) (s t : Seat) (prologue : Prologue) (l : Line) (a : Running) (out : Outcome Running) : Type 0 where
+pub record Follows {T : Type 0} (r : Arena) (s t : Seat T) (prologue : Prologue) (l : Line) (a : Running) (out : Outcome Running) : Type 0 where
   pub found : ℕ
   pub did : DidStep r s t prologue l found
   pub leads_to : out ≡ follow r.plan.setup a l found

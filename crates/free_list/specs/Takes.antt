@@ -9,7 +9,7 @@ use Rattle.node_arena.specs.Traces.{Event}
 use Rattle.node_arena.specs.Prologues.{continues}
 use Rattle.node_arena.specs.Arenas.{Arena}
 use Rattle.node_arena.specs.declared.seats.Seat.{Seat}
-use Rattle.node_arena.specs.Seats.{IsSeat, IsBefore, IsReady, KeepsStored, KeepsName, view, pocket_of, failed_of}
+use Rattle.node_arena.specs.Seats.{IsSeat, IsBefore, IsReady, KeepsStored, KeepsName, KeepsSlots, view, pocket_of, failed_of}
 use Rattle.node_arena.specs.Turns.{failed_turns}
 use Rattle.node_arena.specs.Paths.{Passes, HadNoEffect, SeesNoMore, added, EndedAt, FailedAt, LastHeld, NowHolds, IsRefusedAt, MetCause, EndsFailed, IsSole}
 use Rattle.free_list.specs.declared.outcomes.Turn.{Turn}
@@ -22,13 +22,13 @@ WasThere node w = IsFree w node ⊎ IsUntouched w node
 
 -- at its last step a take took a node that was free or never used, and now the node is this seat's alone, and in no
 -- chain
-pub record IsTaken (r : Arena) (s t : Seat) (node : ℕ) : Type 0 where
+pub record IsTaken {T : Type 0} (r : Arena) (s t : Seat T) (node : ℕ) : Type 0 where
   pub there : LastHeld r s t (λ was a l. WasThere node was.world)
   pub sole : NowHolds r t (λ w. IsSole w (view t).number node)
 
 -- the cause of each refusal: all nodes used and none free, or Free's count at the limit, at the last step of the call,
 -- which was refused so; or so many turns failed, the last one at the last step
-abbrev pub TakeRefused : Arena → Seat → Seat → (turns : ℕ) → Refusal → Type 0
+abbrev pub TakeRefused : {T : Type 0} → Arena → Seat T → Seat T → (turns : ℕ) → Refusal → Type 0
 TakeRefused r s t turns NoNode = MetCause r s t NoNode
 TakeRefused r s t turns (WornOut OfFree) = MetCause r s t (WornOut OfFree)
 TakeRefused r s t turns Busy = (failed_turns (added s t) ≡ turns) × EndsFailed s t
@@ -43,7 +43,7 @@ abbrev pub IsRefusedBy : Refusal → Type 0
 IsRefusedBy refusal = (refusal ≡ NoNode) ⊎ (refusal ≡ WornOut OfFree)
 
 -- a node came into the hand
-pub record Got (r : Arena) (s t : Seat) (es : List Event) (h : Held) : Type 0 where
+pub record Got {T : Type 0} (r : Arena) (s t : Seat T) (es : List Event) (h : Held) : Type 0 where
   pub seat : IsSeat r t
   pub over : (view t).actor.line ≡ Some (with_node r.plan.setup.kind)
   pub node : (view t).actor.node ≡ h.node
@@ -53,13 +53,13 @@ pub record Got (r : Arena) (s t : Seat) (es : List Event) (h : Held) : Type 0 wh
   pub sole : NowHolds r t (λ w. IsSole w (view t).number h.node)
 
 -- a turn that failed
-pub record Fell (r : Arena) (t : Seat) (es : List Event) : Type 0 where
+pub record Fell {T : Type 0} (r : Arena) (t : Seat T) (es : List Event) : Type 0 where
   pub before : IsBefore r t continues N1
   pub once : failed_turns es ≡ 1
   pub last : FailedAt es
 
 -- a turn that was refused
-pub record Refuses (r : Arena) (s t : Seat) (es : List Event) (refusal : Refusal) : Type 0 where
+pub record Refuses {T : Type 0} (r : Arena) (s t : Seat T) (es : List Event) (refusal : Refusal) : Type 0 where
   pub seat : IsSeat r t
   pub over : (view t).actor.line ≡ None
   pub empty : (view t).actor.pocket ≡ None
@@ -68,31 +68,34 @@ pub record Refuses (r : Arena) (s t : Seat) (es : List Event) (refusal : Refusal
   pub possible : IsRefusedBy refusal
 
 -- what a turn leads to
-abbrev pub Turned : Arena → Seat → Seat → List Event → Turn → Type 0
+abbrev pub Turned : {T : Type 0} → Arena → Seat T → Seat T → List Event → Turn → Type 0
 Turned r s t es (Took h) = Got r s t es h
 Turned r s t es Failed = Fell r t es
 Turned r s t es (Refused refusal) = Refuses r s t es refusal
 
 -- a turn of a take, from one line N1 to its end
-pub record Turns (r : Arena) (s t : Seat) (out : Turn) : Type 0 where
+pub record Turns {T : Type 0} (r : Arena) (s t : Seat T) (out : Turn) : Type 0 where
   pub stored : KeepsStored s t
+  pub slots : KeepsSlots s t
   pub lines : List Event
   pub walks : Passes (view s) (view t) lines
   pub turned : Turned r s t lines out
 
 -- a take after so many failed turns
-pub record Trying (r : Arena) (s t : Seat) (n : ℕ) : Type 0 where
+pub record Trying {T : Type 0} (r : Arena) (s t : Seat T) (n : ℕ) : Type 0 where
   pub before : IsBefore r t (taking n) N1
   pub stored : KeepsStored s t
+  pub slots : KeepsSlots s t
   pub lines : List Event
   pub walks : Passes (view s) (view t) lines
   pub failed : failed_turns lines ≡ n
   pub last : 1 ≤ n → FailedAt lines
 
 -- what a take answers
-pub record AnswersTake (r : Arena) (s t : Seat) (turns : ℕ) (out : Result Held Refusal) : Type 0 where
+pub record AnswersTake {T : Type 0} (r : Arena) (s t : Seat T) (turns : ℕ) (out : Result Held Refusal) : Type 0 where
   pub ready : IsReady r t
   pub same : KeepsName s t
+  pub slots : KeepsSlots s t
   pub pocket : MatchResult out (λ held. pocket_of t ≡ Some held) (λ _. pocket_of t ≡ None)
   pub lines : HadNoEffect s t
   pub seen : SeesNoMore s t

@@ -1,7 +1,7 @@
 //! Gives a node back.
 ghost use Rattle.std.specs.Prelude.{◌≡◌, ◌≤◌, ◌<◌, None, IsSome, MatchResult, IfErr, OnOk};
 ghost use Rattle.history.specs.Seats.{IsSound};
-ghost use Rattle.node_arena.specs.Seats.{IsReady, KeepsName, permits_of, known_of, pocket_of, failed_of};
+ghost use Rattle.node_arena.specs.Seats.{IsReady, KeepsName, KeepsSlots, permits_of, known_of, pocket_of, failed_of};
 ghost use Rattle.node_arena.specs.Turns.{failed_turns};
 ghost use Rattle.node_arena.specs.Paths.{HadNoEffect, SeesNoMore, added};
 ghost use Rattle.line_table.specs.declared.lines.Line.TheVariants as lines;
@@ -17,9 +17,9 @@ use line_table::{Line, line_table};
 use node_arena::{ArenaOf, Held, Seat, raised};
 
 /// `index` turns of this call failed before.
-fn f1<const B: u32>(
-    arena: &ArenaOf<B>,
-    seat: &mut Seat,
+fn f1<const B: u32, T>(
+    arena: &ArenaOf<B, T>,
+    seat: &mut Seat<T>,
     mut a: ActorOf<B>,
     index: u32,
 ) -> Outcome<ActorOf<B>>
@@ -30,7 +30,7 @@ fn f1<const B: u32>(
     line_table!(F1 (setup me a found) first_row (arena seat found index))
 }
 
-fn f2<const B: u32>(arena: &ArenaOf<B>, seat: &mut Seat, a: ActorOf<B>) -> ActorOf<B>
+fn f2<const B: u32, T>(arena: &ArenaOf<B, T>, seat: &mut Seat<T>, a: ActorOf<B>) -> ActorOf<B>
     requires stands { CallIsAt arena.now seat.old continues lines.F2 a }
     ensures { Follows arena.now seat.old seat.new continues lines.F2 a.entry (Outcome.Goes lines.F3 result) }
 {
@@ -39,7 +39,11 @@ fn f2<const B: u32>(arena: &ArenaOf<B>, seat: &mut Seat, a: ActorOf<B>) -> Actor
     line_table!(F2 (setup me a found) row (arena seat found))
 }
 
-fn f3<const B: u32>(arena: &ArenaOf<B>, seat: &mut Seat, a: ActorOf<B>) -> Outcome<ActorOf<B>>
+fn f3<const B: u32, T>(
+    arena: &ArenaOf<B, T>,
+    seat: &mut Seat<T>,
+    a: ActorOf<B>,
+) -> Outcome<ActorOf<B>>
     requires stands { CallIsAt arena.now seat.old continues lines.F3 a }
     ensures { Follows arena.now seat.old seat.new continues lines.F3 a.entry result }
 {
@@ -48,7 +52,12 @@ fn f3<const B: u32>(arena: &ArenaOf<B>, seat: &mut Seat, a: ActorOf<B>) -> Outco
 }
 
 // One turn, where `index` turns of this call failed before.
-fn give_turn<const B: u32>(arena: &ArenaOf<B>, seat: &mut Seat, held: Held, index: u32) -> Gave
+fn give_turn<const B: u32, T>(
+    arena: &ArenaOf<B, T>,
+    seat: &mut Seat<T>,
+    held: Held,
+    index: u32,
+) -> Gave
     requires { StartsGive arena.now seat.old (giving index) held }
     ensures { GiveTurns arena.now seat.old seat.new held result }
 {
@@ -60,7 +69,11 @@ fn give_turn<const B: u32>(arena: &ArenaOf<B>, seat: &mut Seat, held: Held, inde
 }
 
 // Turns until one succeeds, or all failed.
-fn give_within<const B: u32>(arena: &ArenaOf<B>, seat: &mut Seat, turns: u32) -> Result<(), Refusal>
+fn give_within<const B: u32, T>(
+    arena: &ArenaOf<B, T>,
+    seat: &mut Seat<T>,
+    turns: u32,
+) -> Result<(), Refusal>
     requires ready { IsReady arena.now seat.old }
     requires full { IsSome (pocket_of seat.old) }
     requires turns { 1 ≤ turns }
@@ -82,18 +95,19 @@ fn give_within<const B: u32>(arena: &ArenaOf<B>, seat: &mut Seat, turns: u32) ->
 ///
 /// Refused by `Busy` alone, where each of so many turns failed, 1 or more: each met a changed word. The node is then
 /// still in the pocket. Takes no memory and doesn't wait.
-pub fn give_back<const B: u32>(
-    arena: &ArenaOf<B>,
-    seat: &mut Seat,
+pub fn give_back<const B: u32, T>(
+    arena: &ArenaOf<B, T>,
+    seat: &mut Seat<T>,
     turns: u32,
 ) -> Result<(), Refusal>
     requires ready { IsReady arena.now seat.old }
     requires full { IsSome (pocket_of seat.old) }
     requires turns { 1 ≤ turns }
-    //= atomics/same_seat (ready, same, lines, seen): A take and a give back leave the seat ready for a call, and its
-    //=   number, role, whether it keeps its nodes, own entries, notes and what it has seen as they were.
+    //= atomics/same_seat (ready, same, slots, lines, seen): A take and a give back leave the seat ready for a call, and
+    //=   its number, role, whether it keeps its nodes, slots, own entries, notes and what it has seen as they were.
     ensures ready { IsReady arena.now seat.new }
     ensures same { KeepsName seat.old seat.new }
+    ensures slots { KeepsSlots seat.old seat.new }
     //= atomics/give_back (pocket, back, refused): After a give back at Ok the node is free, or set aside where Free's
     //=   count is the greatest one, and the pocket is empty; at `Busy`, its only refusal, exactly `turns` turns failed,
     //=   the last one at the last step, and the pocket keeps the node.

@@ -50,7 +50,7 @@ pub(crate) enum Gave {
 }
 
 /// Registers with this node and mark, and nothing read.
-pub(crate) fn registers<const B: u32>(arena: &ArenaOf<B>, node: u32, mark: u64) -> ActorOf<B>
+pub(crate) fn registers<const B: u32, T>(arena: &ArenaOf<B, T>, node: u32, mark: u64) -> ActorOf<B>
     ensures node { result.node ≡ node }
     ensures mark { result.mark ≡ mark }
 {

@@ -1,7 +1,7 @@
 //! Takes a node.
 ghost use Rattle.std.specs.Prelude.{◌≡◌, ◌≤◌, Some, None, MatchResult, IfOk, IfErr};
 ghost use Rattle.history.specs.Seats.{IsSound};
-ghost use Rattle.node_arena.specs.Seats.{IsBefore, IsReady, KeepsName, permits_of, known_of, pocket_of, failed_of};
+ghost use Rattle.node_arena.specs.Seats.{IsBefore, IsReady, KeepsName, KeepsSlots, permits_of, known_of, pocket_of, failed_of};
 ghost use Rattle.node_arena.specs.Turns.{failed_turns};
 ghost use Rattle.node_arena.specs.Paths.{HadNoEffect, SeesNoMore, added};
 ghost use Rattle.line_table.specs.declared.lines.Line.TheVariants as lines;
@@ -16,9 +16,9 @@ use line_table::{Line, line_table};
 use node_arena::{ArenaOf, Held, Seat, raised_unless_shut as raised};
 
 /// `index` turns of this call failed before.
-fn n1<const B: u32>(
-    arena: &ArenaOf<B>,
-    seat: &mut Seat,
+fn n1<const B: u32, T>(
+    arena: &ArenaOf<B, T>,
+    seat: &mut Seat<T>,
     mut a: ActorOf<B>,
     index: u32,
 ) -> ActorOf<B>
@@ -30,7 +30,11 @@ fn n1<const B: u32>(
     line_table!(N1 (setup me a found) first_row (arena seat found index))
 }
 
-fn n2<const B: u32>(arena: &ArenaOf<B>, seat: &mut Seat, mut a: ActorOf<B>) -> Outcome<ActorOf<B>>
+fn n2<const B: u32, T>(
+    arena: &ArenaOf<B, T>,
+    seat: &mut Seat<T>,
+    mut a: ActorOf<B>,
+) -> Outcome<ActorOf<B>>
     requires stands { CallIsAt arena.now seat.old continues lines.N2 a }
     ensures { Follows arena.now seat.old seat.new continues lines.N2 a.entry result }
 {
@@ -38,7 +42,7 @@ fn n2<const B: u32>(arena: &ArenaOf<B>, seat: &mut Seat, mut a: ActorOf<B>) -> O
     line_table!(N2 (setup me a found) row (arena seat found))
 }
 
-fn n3<const B: u32>(arena: &ArenaOf<B>, seat: &mut Seat, mut a: ActorOf<B>) -> ActorOf<B>
+fn n3<const B: u32, T>(arena: &ArenaOf<B, T>, seat: &mut Seat<T>, mut a: ActorOf<B>) -> ActorOf<B>
     requires stands { CallIsAt arena.now seat.old continues lines.N3 a }
     ensures { Follows arena.now seat.old seat.new continues lines.N3 a.entry (Outcome.Goes lines.N4 result) }
 {
@@ -46,7 +50,11 @@ fn n3<const B: u32>(arena: &ArenaOf<B>, seat: &mut Seat, mut a: ActorOf<B>) -> A
     line_table!(N3 (setup me a found) row (arena seat found))
 }
 
-fn n4<const B: u32>(arena: &ArenaOf<B>, seat: &mut Seat, mut a: ActorOf<B>) -> Outcome<ActorOf<B>>
+fn n4<const B: u32, T>(
+    arena: &ArenaOf<B, T>,
+    seat: &mut Seat<T>,
+    mut a: ActorOf<B>,
+) -> Outcome<ActorOf<B>>
     requires stands { CallIsAt arena.now seat.old continues lines.N4 a }
     ensures { Follows arena.now seat.old seat.new continues lines.N4 a.entry result }
 {
@@ -54,7 +62,11 @@ fn n4<const B: u32>(arena: &ArenaOf<B>, seat: &mut Seat, mut a: ActorOf<B>) -> O
     line_table!(N4 (setup me a found) row (arena seat found))
 }
 
-fn n5<const B: u32>(arena: &ArenaOf<B>, seat: &mut Seat, mut a: ActorOf<B>) -> Outcome<ActorOf<B>>
+fn n5<const B: u32, T>(
+    arena: &ArenaOf<B, T>,
+    seat: &mut Seat<T>,
+    mut a: ActorOf<B>,
+) -> Outcome<ActorOf<B>>
     requires stands { CallIsAt arena.now seat.old continues lines.N5 a }
     ensures { Follows arena.now seat.old seat.new continues lines.N5 a.entry result }
 {
@@ -63,7 +75,7 @@ fn n5<const B: u32>(arena: &ArenaOf<B>, seat: &mut Seat, mut a: ActorOf<B>) -> O
 }
 
 // One turn, where `index` turns of this call failed before.
-fn take_turn<const B: u32>(arena: &ArenaOf<B>, seat: &mut Seat, index: u32) -> Turn
+fn take_turn<const B: u32, T>(arena: &ArenaOf<B, T>, seat: &mut Seat<T>, index: u32) -> Turn
     requires { IsBefore arena.now seat.old (taking index) lines.N1 }
     ensures { Turns arena.now seat.old seat.new result }
 {
@@ -82,9 +94,9 @@ fn take_turn<const B: u32>(arena: &ArenaOf<B>, seat: &mut Seat, index: u32) -> T
 
 // Turns until one succeeds or is refused, or all failed.
 #[inline(always)]
-fn take_within<const B: u32>(
-    arena: &ArenaOf<B>,
-    seat: &mut Seat,
+fn take_within<const B: u32, T>(
+    arena: &ArenaOf<B, T>,
+    seat: &mut Seat<T>,
     turns: u32,
 ) -> Result<Held, Refusal>
     requires ready { IsReady arena.now seat.old }
@@ -116,13 +128,18 @@ fn take_within<const B: u32>(
 /// count was the greatest one, and `Busy` where each of so many turns failed, 1 or more: each met a changed word. The
 /// pocket is then empty. Takes no memory and doesn't wait.
 #[inline(always)]
-pub fn take<const B: u32>(arena: &ArenaOf<B>, seat: &mut Seat, turns: u32) -> Result<Held, Refusal>
+pub fn take<const B: u32, T>(
+    arena: &ArenaOf<B, T>,
+    seat: &mut Seat<T>,
+    turns: u32,
+) -> Result<Held, Refusal>
     requires ready { IsReady arena.now seat.old }
     requires empty { pocket_of seat.old ≡ None }
     requires turns { 1 ≤ turns }
-    //= atomics/same_seat (ready, same, lines, seen)
+    //= atomics/same_seat (ready, same, slots, lines, seen)
     ensures ready { IsReady arena.now seat.new }
     ensures same { KeepsName seat.old seat.new }
+    ensures slots { KeepsSlots seat.old seat.new }
     //= atomics/take (pocket, taken): The node that a take answers was free or never used at its step, and is then this
     //=   seat's alone, in no chain, and in the pocket.
     //= atomics/take_refused (pocket, refused): A take is refused only where before its last step all nodes were used

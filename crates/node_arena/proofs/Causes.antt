@@ -29,7 +29,7 @@ silent_n5 : (z : Setup) (t : Traced) (me : ℕ) (a : Actor) → (outcome_at z t 
 silent_n5 z t me a = neither (nat_eq t.world.shared.fresh a.f) _ _ refl refl
 
 -- the step of a cause was made at the line where the call ended
-made_there : (r : Arena) (s t : Seat) (l : Line) → EndsAt s t l → (m : MetCause r s t NoNode) → (outcome_at r.plan.setup m.was (view s).number m.actor l).reply ≡ Some (Refused NoNode)
+made_there : {T : Type 0} (r : Arena) (s t : Seat T) (l : Line) → EndsAt s t l → (m : MetCause r s t NoNode) → (outcome_at r.plan.setup m.was (view s).number m.actor l).reply ≡ Some (Refused NoNode)
 made_there r s t l e m =
     let line : m.line ≡ l = ap (λ x. x.line) (same_last m.before e.before _ e.last (sym m.path ∙ e.path)) ∙ e.at in
     subst (λ k. (outcome_at r.plan.setup m.was (view s).number m.actor k).reply ≡ Some (Refused NoNode)) line m.held.0
@@ -37,7 +37,7 @@ made_there r s t l e m =
 no_reply : (reply : Option Reply) → reply ≡ None → reply ≡ Some (Refused NoNode) → ⊥
 no_reply reply none some = let e : None ≡ Some (Refused NoNode) = sym none ∙ some in cc
 
-pub takers_meet_no_cause : TakersMeetNoCause
+pub takers_meet_no_cause : {T : Type 0} → TakersMeetNoCause T
 takers_meet_no_cause r s t ends m =
     ⊎_elim
     (λ e. no_reply _ (silent_n4 r.plan.setup m.was (view s).number m.actor) (made_there r s t N4 e m))

@@ -104,6 +104,14 @@ module _ (t : Traced) (me : ℕ) (a : Actor) (p old new : ℕ) (r : IsTraced t) 
   unfolding old_of
   won_d13 here e = won_is D13 Head t.world.shared.head a.head (fits Head) (given D13 here).0 (ap old_of e)
 
+  -- an exchange that is won at E9 adds the push of its body
+  pub wins_push : a.line ≡ Some E9 → word_step t.world.setup.bits (action t.world.setup me a E9) ≡ exchange_at p old new → number_at t.world.setup t me a E9 ≡ old → entries_at t.world.setup t me a E9 ≡ Push me a.val.body ∷ []
+  wins_push here e n = ap (λ b. if b then Push me a.val.body ∷ [] else []) (won_e9 here e ∙ eq-eqb _ _ n)
+
+  -- one that is won at D13 adds the pop of its value
+  pub wins_pop : a.line ≡ Some D13 → word_step t.world.setup.bits (action t.world.setup me a D13) ≡ exchange_at p old new → number_at t.world.setup t me a D13 ≡ old → entries_at t.world.setup t me a D13 ≡ Pop me a.val ∷ []
+  wins_pop here e n = ap (λ b. if b then Pop me a.val ∷ [] else []) (won_d13 here e ∙ eq-eqb _ _ n)
+
   -- an exchange that is won adds what its line counts
   pub wins_counted : (l : Line) → a.line ≡ Some l → word_step t.world.setup.bits (action t.world.setup me a l) ≡ exchange_at p old new → number_at t.world.setup t me a l ≡ old → Counts l (entries_at t.world.setup t me a l)
   wins_counted E9 here e n = subst (λ b. Counts E9 (if b then Push me a.val.body ∷ [] else [])) (sym (won_e9 here e ∙ eq-eqb _ _ n)) (record { pushes = refl; pops = refl; shut = none_more })

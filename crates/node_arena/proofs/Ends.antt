@@ -1,5 +1,5 @@
 -- The end of an arena: its words are those of a traced world, to which each seat handed in fits.
-use Rattle.std.proofs.Common.{◌≡◌, ℕ, ◌+◌, ◌*◌, ◌<◌, ◌≤◌, ◌↔◌, IsTrue, zero, suc, List, [], ◌∷◌, length, map, slice_get, slice_index, Some, refl, sym, ap, subst, ◌∙◌, arith, true, false, Bool, nat_lt, nat_eq, inl, inr, eq-eqb, ne_eqb, if◌then◌else◌}
+use Rattle.std.proofs.Common.{◌≡◌, ℕ, ◌+◌, ◌*◌, ◌<◌, ◌≤◌, ◌↔◌, IsTrue, zero, suc, List, [], ◌∷◌, length, map, slice_get, slice_index, Option, Some, refl, sym, ap, subst, ◌∙◌, arith, true, false, Bool, nat_lt, nat_eq, inl, inr, eq-eqb, ne_eqb, if◌then◌else◌}
 use Rattle.std.specs.List.{All, count_by, sum_by}
 use Rattle.std.proofs.lemmas.List.{length-map}
 use Rattle.std.proofs.lemmas.List.Elements.{All-nil, All-cons, All-head, All-tail, All-weaker}
@@ -9,6 +9,9 @@ use mathlib.Core.List.{IsPrefix}
 use mathlib.Core.Option.{some}
 use lib.ListN.{get_elem?}
 use Rattle.atomic_table.specs.Table.{Me, Final, Seen}
+use Rattle.atomic_table.specs.Seated.{TableId}
+use Rattle.node_arena.specs.Beside.{Beside, words_of, HoldsFor}
+use Rattle.node_arena.proofs.Lifts.{lift_final}
 use Rattle.counted_ref.specs.Ref.{Ref, IsSplit, reserved_node}
 use Rattle.counted_ref.proofs.Words.{span_least}
 use Rattle.std.proofs.lemmas.Bool.{ltb-true, ltb-false, lt-ltb}
@@ -39,9 +42,9 @@ use Rattle.node_arena.specs.declared.seats.Seat.{Seat}
 use Rattle.node_arena.specs.Traces.{Traced, IsTraced}
 use Rattle.node_arena.specs.Seeing.{View, gathered}
 use Rattle.node_arena.specs.Places.{shared_words}
-use Rattle.node_arena.specs.Plans.{Layout, RolesPermit}
+use Rattle.node_arena.specs.Plans.{Layout, RolesPermit, IsTable, slots_of}
 use Rattle.node_arena.specs.Rule.{Fits, Holds}
-use Rattle.node_arena.specs.Seats.{IsReady, view, known_of, permits_of}
+use Rattle.node_arena.specs.Seats.{IsReady, HasNoSlot, view, known_of, permits_of}
 use Rattle.node_arena.specs.Closing.{HasToken, CountsItsOwn}
 use Rattle.line_steps.specs.Words.{value_of}
 use Rattle.node_arena.specs.Remains.{ref_at, end_of, front_of, HasNode, HaveValues, AreLeft, IsQueue}
@@ -125,21 +128,21 @@ left_in w r =
     }
 
 -- at the end there is a traced world with these words; each seat handed in fits to it, and no two of them have one number
-pub record Ends (z : Layout) (seats : List Seat) (words : List ℕ) : Type 0 where
+pub record Ends {T : Type 0} (z : Layout) (seats : List (Seat T)) (words : List ℕ) : Type 0 where
   pub trace : Traced
   pub reached : IsTraced trace
   pub setup : trace.world.setup ≡ z.setup
   pub words_are : words ≡ memory_words z.setup.bits trace.world.shared
   pub permitted : All (RolesPermit z.roles) trace.history
-  pub fits : (k : ℕ) (s : Seat) → slice_get seats k ≡ Some s → Fits trace (view s)
-  pub apart : (k l : ℕ) (s t : Seat) → slice_get seats k ≡ Some s → slice_get seats l ≡ Some t → (view s).number ≡ (view t).number → k ≡ l
+  pub fits : (k : ℕ) (s : Seat T) → slice_get seats k ≡ Some s → Fits trace (view s)
+  pub apart : (k l : ℕ) (s t : Seat T) → slice_get seats k ≡ Some s → slice_get seats l ≡ Some t → (view s).number ≡ (view t).number → k ≡ l
 
 got_map : {A B : Type 0} (f : A → B) (xs : List A) (k : ℕ) (x : A) → slice_get xs k ≡ Some x → get_elem? (map f xs) k ≡ some (f x)
 got_map f [] k x e = cc
 got_map f (y ∷ ys) zero x e = let same : y ≡ x = cc in ap (λ z. some (f z)) same
 got_map f (y ∷ ys) (suc k) x e = got_map f ys k x e
 
-ends_at : (z : Layout) (seats : List Seat) (id : ℕ) (words slots : List ℕ) → Final (Seen (Holds z) id (gathered (map view seats))) words slots → Ends z seats (shared_words words)
+ends_at : {T : Type 0} (z : Layout) (seats : List (Seat T)) (id : ℕ) (words slots : List ℕ) → Final (Seen (Holds z) id (gathered (map view seats))) words slots → Ends z seats (shared_words words)
 ends_at z seats id words slots t =
     let h : Holds z t.0 = t.1.0 in
     let u : View = gathered (map view seats) in
@@ -154,12 +157,20 @@ ends_at z seats id words slots t =
       apart = λ k l a b x y e. ap (λ (q : ℕ × ℕ). q.1) (sym (h.owned id k u (view a) at_id (got_map view seats k a x)).0 ∙ (ap h.owner e ∙ (h.owned id l u (view b) at_id (got_map view seats l b y)).0));
     }
 
--- the same at the names of a call
-pub ends : (z key : Layout) (seats : List Seat) (id : ℕ) (me : Me ℕ View) (words slots : List ℕ) → key ≡ z → me ≡ (gathered (map view seats), []) → Final (Seen (Holds key) id me.0) words slots → Ends z seats (shared_words words)
-ends z key seats id me words slots same is t = ends_at z seats id words slots (subst (λ (y : Layout × Me ℕ View). Final (Seen (Holds y.0) id y.1.0) words slots) (λ i. (same i, is i)) t)
+-- the same of a table whose words are the queue's alone, at the names of a call
+pub ends : {T : Type 0} (z key : Layout) (seats : List (Seat T)) (id : ℕ) (me : Me (Option T) (Beside T)) (words : List ℕ) (slots : List (Option T)) → key ≡ z → length words ≡ words_of key → me.0.plain ≡ gathered (map view seats) → Final {S = Option T} (Seen (HoldsFor key) id me.0) words slots → Ends z seats (shared_words words)
+ends z key seats id me words slots same long is t = ends_at z seats id words [] (subst (λ (y : Layout × View). Final {S = ℕ} (Seen (Holds y.0) id y.1) words []) (λ i. (same i, is i)) (lift_final key id me.0 words slots long t))
+
+-- the words of a table that carries no values are the queue's alone
+pub words_alone : (z key : Layout) (t : TableId) (n : ℕ) → IsTable z key t → z.carries ≡ false → n ≡ t.words → n ≡ words_of key
+words_alone z key t n table none is = let no_slots : slots_of z ≡ 0 = ap (λ (b : Bool). if b then z.setup.size else 0) none in omega (arith, is, table.words, no_slots, ap (λ (y : Layout). y.setup.size) table.key)
+
+-- it has no slots
+pub slots_none : (z key : Layout) (t : TableId) → IsTable z key t → z.carries ≡ false → t.slots ≡ 0
+slots_none z key t table none = table.slots ∙ ap (λ (b : Bool). if b then z.setup.size else 0) none
 
 -- the words are those of a queue
-pub queue_at_end : (z : Layout) (seats : List Seat) (words : List ℕ) (most : ℕ) → z.setup.size ≤ most → Ends z seats words → IsQueue z.setup.bits words most
+pub queue_at_end : {T : Type 0} (z : Layout) (seats : List (Seat T)) (words : List ℕ) (most : ℕ) → z.setup.size ≤ most → Ends z seats words → IsQueue z.setup.bits words most
 queue_at_end z seats words most room e =
     let l : Left e.trace.world = left_in e.trace.world (traced_reached e.trace e.reached) in
     let b : ℕ = e.trace.world.setup.bits in
@@ -179,21 +190,21 @@ queue_at_end z seats words most room e =
     }))
 
 -- each seat's own entries are those that it knows
-own_each : (t : Traced) (seats : List Seat) → ((k : ℕ) (s : Seat) → slice_get seats k ≡ Some s → Fits t (view s)) → All (λ k. own_entries k.number t.history ≡ k.mine) (map known_of seats)
+own_each : {T : Type 0} (t : Traced) (seats : List (Seat T)) → ((k : ℕ) (s : Seat T) → slice_get seats k ≡ Some s → Fits t (view s)) → All (λ k. own_entries k.number t.history ≡ k.mine) (map known_of seats)
 own_each t [] f = All-nil (λ (k : Known). own_entries k.number t.history ≡ k.mine)
 own_each t (s ∷ ss) f = All-cons (λ (k : Known). own_entries k.number t.history ≡ k.mine) (known_of s) (map known_of ss) (f 0 s refl).own (own_each t ss (λ k. f (suc k)))
 
 -- and begin the history with what they have seen
-begins_each : (t : Traced) (seats : List Seat) → ((k : ℕ) (s : Seat) → slice_get seats k ≡ Some s → Fits t (view s)) → All (λ k. IsPrefix k.seen t.history) (map known_of seats)
+begins_each : {T : Type 0} (t : Traced) (seats : List (Seat T)) → ((k : ℕ) (s : Seat T) → slice_get seats k ≡ Some s → Fits t (view s)) → All (λ k. IsPrefix k.seen t.history) (map known_of seats)
 begins_each t [] f = All-nil (λ (k : Known). IsPrefix k.seen t.history)
 begins_each t (s ∷ ss) f = All-cons (λ (k : Known). IsPrefix k.seen t.history) (known_of s) (map known_of ss) ((f 0 s refl).rest, sym (f 0 s refl).begins) (begins_each t ss (λ k. f (suc k)))
 
-seat_at : (seats : List Seat) (i : ℕ) (k : Known) → slice_get (map known_of seats) i ≡ Some k → (s : Seat) × (slice_get seats i ≡ Some s) × (known_of s ≡ k)
+seat_at : {T : Type 0} (seats : List (Seat T)) (i : ℕ) (k : Known) → slice_get (map known_of seats) i ≡ Some k → (s : Seat T) × (slice_get seats i ≡ Some s) × (known_of s ≡ k)
 seat_at [] i k e = absurd (none-some k e)
 seat_at (s ∷ ss) zero k e = (s, refl, same_Some (known_of s) k e)
 seat_at (s ∷ ss) (suc i) k e = seat_at ss i k e
 
-numbers_apart : (z : Layout) (seats : List Seat) (words : List ℕ) → Ends z seats words → AreApart (map known_of seats)
+numbers_apart : {T : Type 0} (z : Layout) (seats : List (Seat T)) (words : List ℕ) → Ends z seats words → AreApart (map known_of seats)
 numbers_apart z seats words e i j k l a b same =
     let s = seat_at seats i k a in
     let t = seat_at seats j l b in
@@ -206,7 +217,7 @@ pub record Rests (bits : ℕ) (words : List ℕ) (pushes pops : ℕ) (shut : Boo
   pub whole : IsTrue (whole_of rest) ↔ ((pops ≡ taken_of rest) × (pushes ≡ taken_of rest + length (left_of rest)) × (IsTrue (was_shut_of rest) → IsTrue shut))
 
 -- an arena is closed by seats, where that is told of its end
-pub closes_at_end : (r : Arena) (seats : List Seat) (words : List ℕ) (pushes pops : ℕ) (shut : Bool) (rest : Rest) → Ends r.plan seats words → pushes ≡ pushes_of (map known_of seats) → pops ≡ pops_of (map known_of seats) → shut ≡ nat_lt 0 (shuts_of (map known_of seats)) → Rests r.plan.setup.bits words pushes pops shut rest → Closes (permits_of r) (map known_of seats) rest
+pub closes_at_end : {T : Type 0} (r : Arena) (seats : List (Seat T)) (words : List ℕ) (pushes pops : ℕ) (shut : Bool) (rest : Rest) → Ends r.plan seats words → pushes ≡ pushes_of (map known_of seats) → pops ≡ pops_of (map known_of seats) → shut ≡ nat_lt 0 (shuts_of (map known_of seats)) → Rests r.plan.setup.bits words pushes pops shut rest → Closes (permits_of r) (map known_of seats) rest
 closes_at_end r seats words pushes pops shut rest e pushed popped shuts there =
     let t : Traced = e.trace in
     let b : ℕ = t.world.setup.bits in
@@ -225,28 +236,28 @@ closes_at_end r seats words pushes pops shut rest e pushed popped shuts there =
     )
 
 -- each seat of an arena brings a token of its table, and its own counts
-pub have_tokens : (r : Arena) (seats : List Seat) → All (IsReady r) seats → All (HasToken r.id) seats
-have_tokens r = All-weaker (IsReady r) (HasToken r.id) (λ s h. record { table = h.seat.sits.table; seat = h.seat.sits.seat })
+pub have_tokens : {T : Type 0} (r : Arena) (seats : List (Seat T)) → All (IsReady r) seats → All HasNoSlot seats → All (HasToken r.id) seats
+have_tokens r seats ready apart = λ k d lt. let h = ready k d lt in record { table = h.seat.sits.table; seat = h.seat.sits.seat; none_out = apart k d lt }
 
-pub count_own : (r : Arena) (seats : List Seat) → All (IsReady r) seats → All CountsItsOwn seats
+pub count_own : {T : Type 0} (r : Arena) (seats : List (Seat T)) → All (IsReady r) seats → All CountsItsOwn seats
 count_own r = All-weaker (IsReady r) CountsItsOwn (λ s h. record { pushes = h.seat.sits.pushes; pops = h.seat.sits.pops; shut = h.seat.sits.shut })
 
 -- the sums of their counts are those of what they know
-pub sum_by-pushes : (seats : List Seat) → All CountsItsOwn seats → sum_by (λ (s : Seat). s.pushes) seats ≡ pushes_of (map known_of seats)
+pub sum_by-pushes : {T : Type 0} (seats : List (Seat T)) → All CountsItsOwn seats → sum_by (λ (s : Seat T). s.pushes) seats ≡ pushes_of (map known_of seats)
 sum_by-pushes [] h = refl
 sum_by-pushes (s ∷ ss) h =
-    omega (arith, sum_by-cons (λ (x : Seat). x.pushes) s ss, sum_by-cons (λ (k : Known). count_by is_push k.mine) (known_of s) (map known_of ss), (All-head CountsItsOwn s ss h).pushes, sum_by-pushes ss (All-tail CountsItsOwn s ss h))
+    omega (arith, sum_by-cons (λ (x : Seat _). x.pushes) s ss, sum_by-cons (λ (k : Known). count_by is_push k.mine) (known_of s) (map known_of ss), (All-head CountsItsOwn s ss h).pushes, sum_by-pushes ss (All-tail CountsItsOwn s ss h))
 
-pub sum_by-pops : (seats : List Seat) → All CountsItsOwn seats → sum_by (λ (s : Seat). s.pops) seats ≡ pops_of (map known_of seats)
+pub sum_by-pops : {T : Type 0} (seats : List (Seat T)) → All CountsItsOwn seats → sum_by (λ (s : Seat T). s.pops) seats ≡ pops_of (map known_of seats)
 sum_by-pops [] h = refl
 sum_by-pops (s ∷ ss) h =
-    omega (arith, sum_by-cons (λ (x : Seat). x.pops) s ss, sum_by-cons (λ (k : Known). count_by is_pop k.mine) (known_of s) (map known_of ss), (All-head CountsItsOwn s ss h).pops, sum_by-pops ss (All-tail CountsItsOwn s ss h))
+    omega (arith, sum_by-cons (λ (x : Seat _). x.pops) s ss, sum_by-cons (λ (k : Known). count_by is_pop k.mine) (known_of s) (map known_of ss), (All-head CountsItsOwn s ss h).pops, sum_by-pops ss (All-tail CountsItsOwn s ss h))
 
 -- their shuts are those of what they know
-pub sum_by-shuts : (seats : List Seat) → sum_by (λ (s : Seat). count_by is_shut (view s).mine) seats ≡ shuts_of (map known_of seats)
+pub sum_by-shuts : {T : Type 0} (seats : List (Seat T)) → sum_by (λ (s : Seat T). count_by is_shut (view s).mine) seats ≡ shuts_of (map known_of seats)
 sum_by-shuts [] = refl
 sum_by-shuts (s ∷ ss) =
-    omega (arith, sum_by-cons (λ (x : Seat). count_by is_shut (view x).mine) s ss, sum_by-cons (λ (k : Known). count_by is_shut k.mine) (known_of s) (map known_of ss), sum_by-shuts ss)
+    omega (arith, sum_by-cons (λ (x : Seat _). count_by is_shut (view x).mine) s ss, sum_by-cons (λ (k : Known). count_by is_shut k.mine) (known_of s) (map known_of ss), sum_by-shuts ss)
 
 -- a seat more leaves it so that one made a shut where there was one, or the seat made one
 pub shut_more : (before now : Bool) (n k m : ℕ) → before ≡ nat_lt 0 n → now ≡ nat_lt 0 k → m ≡ n + k → (if now then true else before) ≡ nat_lt 0 m

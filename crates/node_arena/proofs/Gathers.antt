@@ -1,16 +1,18 @@
 -- A token that gathers those of seats that are closed. No move of the world is made.
-use Rattle.std.proofs.Common.{◌≡◌, ◌≢◌, ℕ, ◌+◌, ◌-◌, ◌*◌, ◌<◌, arith, List, [], ◌∷◌, ◌++◌, length, map, get_or, set, slice_index, sym, refl, ap, ◌∙◌, subst, ⊎_elim}
-use mathlib.Core.Option.{some}
+use Rattle.std.proofs.Common.{◌≡◌, ◌≢◌, ℕ, ◌+◌, ◌-◌, ◌*◌, ◌<◌, arith, List, [], ◌∷◌, ◌++◌, length, map, get_or, set, slice_index, Option, sym, refl, ap, ◌∙◌, subst, ⊎_elim}
+use mathlib.Core.Option.{some, none}
 use mathlib.Core.List.{map-append}
 use lib.ListN.{get_elem?}
 use Rattle.atomic_table.specs.Table.{Me, Joins, Enters}
 use Rattle.atomic_table.specs.Seated.{TableId}
 use Rattle.atomic_table.specs.declared.shared.Seat.{Seat as Token}
 use Rattle.atomic_table.proofs.Lists.{at_set, set_else}
-use Rattle.node_arena.specs.declared.views.Knowing.{Knowing}
+use Rattle.node_arena.specs.Beside.{Beside, words_of, HoldsFor, both_beside, knows_nothing, OpensBeside}
+use Rattle.history.specs.declared.operations.Entry.{Entry}
+use Rattle.node_arena.proofs.Lifts.{HoldsWith, at_end, none_hand, lift_joins, lift_enters}
 use Rattle.node_arena.specs.declared.seats.Seat.{Seat}
 use Rattle.node_arena.specs.Traces.{changed}
-use Rattle.node_arena.specs.Seeing.{SeatView, View, keeper, gathered, seated, spent, members, both_of}
+use Rattle.node_arena.specs.Seeing.{SeatView, View, keeper, gathered, seated, paired, spent, members, both_of}
 use Rattle.node_arena.specs.Places.{place}
 use Rattle.node_arena.specs.Plans.{Layout, IsTable}
 use Rattle.node_arena.specs.Rule.{Fits, Holds, Opens}
@@ -20,12 +22,12 @@ use Rattle.node_arena.specs.Closing.{HasToken, HasGathered}
 use Rattle.node_arena.proofs.Placed.{place_there, length-shared_words, get_or-shared_words}
 use Rattle.node_arena.proofs.There.{words_there}
 use Rattle.node_arena.proofs.Tracing.{changed_here, changed_else}
-use Rattle.node_arena.proofs.Deals.{at_end}
 use Rattle.node_arena.proofs.Meets.{views_now, no_one}
 
 -- a token that gathers takes in one of a seat
-gathers : (z : Layout) (id other : ℕ) (vs : List SeatView) (w : SeatView) → Joins {S = ℕ} (Holds z) id (gathered vs) other (seated w) (gathered (vs ++ w ∷ [])) spent
-gathers z id other vs w s h at_id ne at_other =
+gathers : (z : Layout) (es : List Entry) (id other : ℕ) (vs : List SeatView) (w : SeatView) → Joins {S = ℕ} (HoldsWith z es) id (gathered vs) other (seated w) (gathered (vs ++ w ∷ [])) spent
+gathers z es id other vs w s hs at_id ne at_other =
+    let h : Holds z s = hs.0 in
     let all : View = gathered (vs ++ w ∷ []) in
     let there : get_elem? s.views other ≡ some (seated w) = sym (set_else s.views id other all ne) ∙ at_other in
     let l : ℕ = length vs in
@@ -35,7 +37,7 @@ gathers z id other vs w s h at_id ne at_other =
     let old : (j i : ℕ) (u : View) (o : SeatView) → j ≢ other → get_elem? s.views j ≡ some u → get_elem? (members u) i ≡ some o → P j i o = λ j i u o far a b.
     let k = h.owned j i u o a b in (h.fits j i u o a b, changed_else h.owner w.number (id, l) o.number (λ e. far (ap (λ (y : ℕ × ℕ). y.0) (sym k.0 ∙ (ap h.owner e ∙ ow.0)))) ∙ k.0, k.1) in
     let new : P id l w = (h.fits other 0 (seated w) w there refl, changed_here h.owner w.number (id, l), ow.1) in
-    views_now z s h s.words (set (set s.views id all) other spent) own refl
+    views_now z es s hs s.words (set (set s.views id all) other spent) own refl
     (λ j i u o a b. ⊎_elim
     (λ (t : (j ≡ other) × (spent ≡ u)). no_one o i (ap (λ (y : View). get_elem? (members y) i) t.1 ∙ b))
     (λ (t : (j ≢ other) × (get_elem? (set s.views id all) j ≡ some u)). ⊎_elim
@@ -54,10 +56,10 @@ gathers z id other vs w s h at_id ne at_other =
     (at_set (set s.views id all) other j spent (keeper m) a))
 
 -- a new token gathers
-pub enters : (key : Layout) (slots word : ℕ) → Enters {S = ℕ} (Holds key) slots word (λ n w. Opens (w, []))
-enters key slots word s h none fit = (
+pub enters : (key : Layout) (es : List Entry) (slots word : ℕ) → Enters {S = ℕ} (HoldsWith key es) slots word (λ n w. Opens (w, []))
+enters key es slots word s hs empty fit = let h : Holds key s = hs.0 in (
   gathered [],
-  views_now key s h s.words (s.views ++ gathered [] ∷ []) h.owner refl
+  views_now key es s hs s.words (s.views ++ gathered [] ∷ []) h.owner refl
       (λ j i u o a b. ⊎_elim
       (λ (t : get_elem? s.views j ≡ some u). let k = h.owned j i u o t b in (h.fits j i u o t b, k.0, k.1))
       (λ (t : (j ≡ length s.views) × (gathered [] ≡ u)). no_one o i (ap (λ (y : View). get_elem? (members y) i) t.1 ∙ b))
@@ -69,6 +71,16 @@ enters key slots word s h none fit = (
   refl,
 )
 
+none_seated : (v : SeatView) → gathered [] ≡ seated v → ⊥
+none_seated v e = cc
+
+none_paired : (v u : SeatView) → gathered [] ≡ paired v u → ⊥
+none_paired v u e = cc
+
+-- the same of views that know of values
+pub enters_beside : {T : Type 0} (key : Layout) (slots : ℕ) → Enters {S = Option T} (HoldsFor key) slots 0 (λ n w. OpensBeside (w, []))
+enters_beside key slots = lift_enters key slots 0 (λ n w. Opens (w, [])) (omega arith) (λ es s hs empty fit. let q = enters key es 0 0 s hs empty fit in (q.0, q.1, (q.2, (λ v e. none_seated v (sym (ap (λ (y : Me ℕ View). y.0) q.2) ∙ e)), (λ v u e. none_paired v u (sym (ap (λ (y : Me ℕ View). y.0) q.2) ∙ e)))))
+
 -- an index below the number of words is that of one of them, which has a place in the table
 pub look_there : (z key : Layout) (t : TableId) (word size : ℕ) → IsTable z key t → size ≡ z.setup.size → word < 6 + 2 * size → place word < t.words
 look_there z key t word size h same less = place_there t.words word (omega (arith, h.words, same, less))
@@ -78,28 +90,48 @@ abbrev pub WasAt : Layout → (p n : ℕ) → Type 0
 WasAt z p n = (i : ℕ) → place i ≡ p → i < 6 + 2 * z.setup.size → WasWord z i n
 
 -- a new token for a look at a place, where a word of a world then lies
-pub peeks : (key : Layout) (slots p : ℕ) → Enters {S = ℕ} (Holds key) slots p (λ n w. WasAt key p n)
-peeks key slots p s h none fit =
-    let new = enters key slots p s h none fit in (
+pub peeks : (key : Layout) (es : List Entry) (slots p : ℕ) → Enters {S = ℕ} (HoldsWith key es) slots p (λ n w. WasAt key p n × ((v : SeatView) → w ≢ seated v) × ((v u : SeatView) → w ≢ paired v u))
+peeks key es slots p s hs empty fit =
+    let h : Holds key s = hs.0 in
+    let new = enters key es slots p s hs empty fit in (
       new.0,
       new.1,
-      λ i at less.
-          let there : i < length s.words - 42 = omega (arith, less, words_there key s h, length-shared_words s.words) in
-          record { was = h.trace; reached = h.reached; setup = h.setup; peopled = h.actors; held = ap (λ q. get_or s.words q 0) (sym at) ∙ (sym (get_or-shared_words s.words i there) ∙ ap (λ ws. slice_index ws i) h.words) },
+      (
+        λ i at less.
+            let there : i < length s.words - 42 = omega (arith, less, words_there key s h, length-shared_words s.words) in
+            record { was = h.trace; reached = h.reached; setup = h.setup; peopled = h.actors; held = ap (λ q. get_or s.words q 0) (sym at) ∙ (sym (get_or-shared_words s.words i there) ∙ ap (λ ws. slice_index ws i) h.words) },
+        (λ v e. none_seated v (sym (ap (λ (y : Me ℕ View). y.0) new.2) ∙ e)),
+        (λ v u e. none_paired v u (sym (ap (λ (y : Me ℕ View). y.0) new.2) ∙ e)),
+      ),
     )
+
+-- it lies among the words of the queue
+pub look_within : (z : Layout) (word size : ℕ) → size ≡ z.setup.size → word < 6 + 2 * size → place word < words_of z
+look_within z word size same less = place_there (words_of z) word (omega (arith, same, less))
+
+-- the same of a table with slots
+pub peeks_beside : {T : Type 0} (z key : Layout) (slots p : ℕ) → key ≡ z → p < words_of z → Enters {S = Option T} (HoldsFor key) slots p (λ n w. WasAt key p n)
+peeks_beside z key slots p same there = lift_enters key slots p (λ n w. WasAt key p n) (subst (λ (y : Layout). p < words_of y) (sym same) there) (λ es. peeks key es 0 p)
 
 -- the same in words of the plan
 pub held_at : (z key : Layout) (t : TableId) (p word size n : ℕ) → IsTable z key t → p ≡ place word → size ≡ z.setup.size → word < 6 + 2 * size → WasAt key p n → WasWord z word n
 held_at z key t p word size n h at same less was = subst (λ y. WasWord y word n) h.key (was word (sym at) (omega (arith, ap (λ (y : Layout). y.setup.size) h.key, same, less)))
 
--- the same at the names of a call
-pub gathers_at : (key : Layout) (id other : ℕ) (vs : List SeatView) (me him : Me ℕ View) (w : SeatView) → me ≡ (gathered vs, []) → him ≡ (seated w, []) → Joins {S = ℕ} (Holds key) id me.0 other him.0 (both_of me.0 him.0) spent
-gathers_at key id other vs me him w is his = subst (λ (y : Me ℕ View × Me ℕ View). Joins {S = ℕ} (Holds key) id y.0.0 other y.1.0 (both_of y.0.0 y.1.0) spent) (λ i. (sym is i, sym his i)) (gathers key id other vs w)
+-- the same of views that know of values, at the names of a call
+pub gathers_at : {T : Type 0} (key : Layout) (id other : ℕ) (vs : List SeatView) (me him : Me (Option T) (Beside T)) (w : SeatView) → me.0.plain ≡ gathered vs → him.0.plain ≡ seated w → him.0.hand ≡ none → Joins {S = Option T} (HoldsFor key) id me.0 other him.0 (both_beside me.0 him.0) knows_nothing
+gathers_at key id other vs me him w is his none_out = lift_joins key id other me.0 him.0 (both_beside me.0 him.0) knows_nothing
+    (λ es. subst (λ (y : View × View). Joins {S = ℕ} (HoldsWith key es) id y.0 other y.1 (both_of y.0 y.1) spent) (λ i. (sym is i, sym his i)) (gathers key es id other vs w)) refl (sym none_out)
+    (λ ds b his_own. (record { rest = b.rest; begins = b.begins; matches = λ v e. cc; pair = λ v u e y. cc; others = ((his_own.rest, his_own.begins), b.others) }, record { rest = ds; begins = refl; matches = λ v e. cc; pair = λ v u e y. cc; others = tt }))
+
+-- the same of a token that gathers, and of a seat that brings its own
+pub gathers_token : {T : Type 0} (key : Layout) (t : TableId) (k : Token (Option T) (Beside T)) (s : Seat T) (vs : List SeatView) → HasGathered t k vs → HasToken t s → Joins {S = Option T} (HoldsFor key) k.id k.me.0 s.token.id s.token.me.0 (both_beside k.me.0 s.token.me.0) knows_nothing
+gathers_token key t k s vs g has = gathers_at key k.id s.token.id vs k.me s.token.me (view s) g.seat has.seat (none_hand s.token.me.0.hand has.none_out.1)
 
 -- a token that took in one more
-pub took_in : (t : TableId) (k k' : Token ℕ Knowing) (seats : List Seat) (s : Seat) → HasGathered t k (map view seats) → HasToken t s → k'.table_id ≡ k.table_id → k'.me ≡ (both_of k.me.0 s.token.me.0, k.me.1) → HasGathered t k' (map view (seats ++ s ∷ []))
+pub took_in : {T : Type 0} (t : TableId) (k k' : Token (Option T) (Beside T)) (seats : List (Seat T)) (s : Seat T) → HasGathered t k (map view seats) → HasToken t s → k'.table_id ≡ k.table_id → k'.me ≡ (both_beside k.me.0 s.token.me.0, k.me.1) → HasGathered t k' (map view (seats ++ s ∷ []))
 took_in t k k' seats s g has same is =
     record {
       table = same ∙ g.table;
-      seat = is ∙ (λ i. (both_of (g.seat i).0 (has.seat i).0, (g.seat i).1)) ∙ ap (λ (l : List SeatView). (gathered l, [])) (sym (map-append view seats (s ∷ [])));
+      seat = ap (λ y. y.0.plain) is ∙ (λ i. both_of (g.seat i) (has.seat i)) ∙ ap gathered (sym (map-append view seats (s ∷ [])));
+      held = ap (λ y. y.1) is ∙ g.held;
     }

@@ -14,8 +14,16 @@ pub mod Known
 pub mod OneProof
 pub mod Rooms
 pub mod StepsPreserve
+pub mod Lifts
+pub mod Slotting
+pub mod Riding
+pub mod KnownValues
+pub mod Lifting
+pub mod Handing
 pub mod Counting
 pub mod Calls
+pub mod Moved
+pub mod Vacant
 pub mod Deals
 pub mod Meets
 pub mod Gathers
@@ -30,5 +38,7 @@ pub mod Between
 pub mod Causes
 pub mod Empties
 pub mod Permits
+pub mod Numbers
+pub mod Loads
 pub mod Openings
 pub mod Values

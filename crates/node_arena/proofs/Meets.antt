@@ -1,10 +1,15 @@
 -- Seats that meet. No move of the world is made.
-use Rattle.std.proofs.Common.{◌≡◌, ◌≢◌, ℕ, ◌<◌, None, List, [], ◌∷◌, ◌++◌, zero, suc, length, get_or, set, sym, refl, ap, ◌∙◌, subst, ⊎_elim, ◌⊎◌, inl, inr, arith, append-nil, nat_lt}
-use Rattle.std.proofs.lemmas.List.{set-get_or}
-use mathlib.Core.Option.{some, some-injective, some-ne-none}
+use Rattle.std.proofs.Common.{◌≡◌, ◌≢◌, ℕ, ◌+◌, ◌<◌, Bool, true, false, take, None, List, [], ◌∷◌, ◌++◌, Option, zero, suc, length, map, get_or, set, sym, refl, ap, ◌∙◌, subst, ⊎_elim, ◌⊎◌, inl, inr, arith, append-nil, nat_lt}
+use Rattle.std.proofs.lemmas.List.{set-get_or, length-set}
+use mathlib.Core.Option.{some, none, some-injective, some-ne-none}
 use lib.ListN.{get_elem?}
-use Rattle.atomic_table.specs.Table.{State, Me, Splits, Joins, Allows, keeps}
-use Rattle.atomic_table.proofs.Lists.{at_set, set_else, set_again}
+use Rattle.atomic_table.specs.Table.{State, Me, Act, keeps, Valid, carried_after, stepped, Splits, Joins, Allows}
+use Rattle.atomic_table.proofs.Lists.{at_set, at_map, set_else, set_again}
+use Rattle.std.proofs.lemmas.List.{get_or-take}
+use Rattle.std.proofs.Math.Seq.{take-set-lt}
+use Rattle.history.specs.declared.operations.Entry.{Entry}
+use Rattle.node_arena.specs.Deeds.{Deed, Matches}
+use Rattle.node_arena.specs.Slots.{item_of}
 use Rattle.history.specs.Entries.{is_push, is_pop, is_shut}
 use Rattle.history.specs.Seats.{IsNoted}
 use Rattle.node_arena.specs.Traces.{Traced, changed}
@@ -15,7 +20,7 @@ use Rattle.node_arena.specs.Rule.{Fits, Holds, Fitted, Met}
 use Rattle.std.specs.List.{All, count_by}
 use Rattle.std.proofs.lemmas.List.Elements.{All-weaker}
 use Rattle.atomic_table.specs.declared.shared.Seat.{Seat as Token}
-use Rattle.node_arena.specs.declared.views.Knowing.{Knowing}
+use Rattle.node_arena.specs.Beside.{Beside, plain_me, words_of, HoldsFor, plain_of, plain_state, Begins, Carried, CarriedBy, left_as_it_is, knows_nothing, both_beside, first_beside_of, second_beside_of, MeetsBeside, HasNone, KnowsBy, KnowsNow, GrowsBy, hand_in, slots_in}
 use Rattle.node_arena.specs.Arenas.{Arena}
 use Rattle.node_arena.specs.declared.seats.Seat.{Seat}
 use Rattle.node_arena.specs.Prologues.{at_rest}
@@ -23,29 +28,34 @@ use Rattle.node_arena.specs.Seats.{IsReady, Meets, view}
 use Rattle.node_arena.proofs.Tracing.{changed_here, changed_else}
 use Rattle.node_arena.proofs.StepsPreserve.{one_of}
 use Rattle.node_arena.proofs.Empties.{noted_more, saw_at_rest}
-use Rattle.node_arena.proofs.Deals.{at_end}
+use Rattle.node_arena.proofs.Lifts.{HoldsWith, at_end, none_moved, map_set, moved, hand_set, recarried, lift_splits, lift_joins}
+use Rattle.node_arena.proofs.KnownValues.{knows_values, knows_parted}
 
 -- the views change, and each actor that they speak of keeps its place in `own`
-pub views_now : (z : Layout) (s : State ℕ View) (h : Holds z s) (words : List ℕ) (views : List View) (own : ℕ → ℕ × ℕ) → words ≡ s.words
-    → ((j i : ℕ) (u : View) (o : SeatView) → get_elem? views j ≡ some u → get_elem? (members u) i ≡ some o → Fits h.trace o × (own o.number ≡ (j, i)) × (o.number < h.dealt))
-    → ((j n : ℕ) → get_elem? views j ≡ some (keeper n) → (j ≡ h.home) × (n ≡ h.dealt))
-    → Holds z record { words = words; homes = s.homes; views = views }
-views_now z s h words views own same all some_keeper = record {
-  sized = h.sized;
-  trace = h.trace;
-  reached = h.reached;
-  setup = h.setup;
-  actors = h.actors;
-  words = ap shared_words same ∙ h.words;
-  permitted = h.permitted;
-  dealt = h.dealt;
-  home = h.home;
-  owner = own;
-  fits = λ j i u o a b. (all j i u o a b).0;
-  owned = λ j i u o a b. let t = all j i u o a b in (t.1, t.2);
-  kept = some_keeper;
-  undealt = h.undealt;
-}
+pub views_now : (z : Layout) (es : List Entry) (s : State ℕ View) (hs : HoldsWith z es s) (words : List ℕ) (views : List View) (own : ℕ → ℕ × ℕ) → words ≡ s.words
+    → ((j i : ℕ) (u : View) (o : SeatView) → get_elem? views j ≡ some u → get_elem? (members u) i ≡ some o → Fits hs.0.trace o × (own o.number ≡ (j, i)) × (o.number < hs.0.dealt))
+    → ((j n : ℕ) → get_elem? views j ≡ some (keeper n) → (j ≡ hs.0.home) × (n ≡ hs.0.dealt))
+    → HoldsWith z es record { words = words; homes = s.homes; views = views }
+views_now z es s hs words views own same all some_keeper =
+    let h : Holds z s = hs.0 in (
+      record {
+        sized = h.sized;
+        trace = h.trace;
+        reached = h.reached;
+        setup = h.setup;
+        actors = h.actors;
+        words = ap shared_words same ∙ h.words;
+        permitted = h.permitted;
+        dealt = h.dealt;
+        home = h.home;
+        owner = own;
+        fits = λ j i u o a b. (all j i u o a b).0;
+        owned = λ j i u o a b. let t = all j i u o a b in (t.1, t.2);
+        kept = some_keeper;
+        undealt = h.undealt;
+      },
+      hs.1,
+    )
 
 two_of : (v w o : SeatView) (i : ℕ) → get_elem? (v ∷ w ∷ []) i ≡ some o → ((i ≡ 0) × (v ≡ o)) ⊎ ((i ≡ 1) × (w ≡ o))
 two_of v w o zero e = inl (refl, some-injective v o e)
@@ -55,8 +65,9 @@ pub no_one : {X : Type 0} (o : SeatView) (i : ℕ) → get_elem? {A = SeatView} 
 no_one o i e = absurd (some-ne-none o (sym e))
 
 -- two seats become one
-pub pairs : (z : Layout) (id other : ℕ) (v w : SeatView) → Joins {S = ℕ} (Holds z) id (seated v) other (seated w) (paired v w) spent
-pairs z id other v w s h at_id ne at_other =
+pub pairs : (z : Layout) (es : List Entry) (id other : ℕ) (v w : SeatView) → Joins {S = ℕ} (HoldsWith z es) id (seated v) other (seated w) (paired v w) spent
+pairs z es id other v w s hs at_id ne at_other =
+    let h : Holds z s = hs.0 in
     let there : get_elem? s.views other ≡ some (seated w) = sym (set_else s.views id other (paired v w) ne) ∙ at_other in
     let own : ℕ → ℕ × ℕ = changed h.owner w.number (id, 1) in
     let ov = h.owned id 0 (seated v) v at_id refl in
@@ -65,7 +76,7 @@ pairs z id other v w s h at_id ne at_other =
     let differ : v.number ≢ w.number = λ e. ne (ap (λ (y : ℕ × ℕ). y.0) (sym ow.0 ∙ (ap h.owner (sym e) ∙ ov.0))) in
     let first : P id 0 v = (h.fits id 0 (seated v) v at_id refl, changed_else h.owner w.number (id, 1) v.number differ ∙ ov.0, ov.1) in
     let second : P id 1 w = (h.fits other 0 (seated w) w there refl, changed_here h.owner w.number (id, 1), ow.1) in
-    views_now z s h s.words (set (set s.views id (paired v w)) other spent) own refl
+    views_now z es s hs s.words (set (set s.views id (paired v w)) other spent) own refl
     (λ j i u o a b. ⊎_elim
     (λ (t : (j ≡ other) × (spent ≡ u)). no_one o i (ap (λ (y : View). get_elem? (members y) i) t.1 ∙ b))
     (λ (t : (j ≢ other) × (get_elem? (set s.views id (paired v w)) j ≡ some u)). ⊎_elim
@@ -84,8 +95,9 @@ pairs z id other v w s h at_id ne at_other =
     (at_set (set s.views id (paired v w)) other j spent (keeper n) a))
 
 -- one seat becomes two
-pub parts : (z : Layout) (id : ℕ) (v w : SeatView) → Splits {S = ℕ} (Holds z) id (paired v w) (seated v) (seated w)
-parts z id v w s h at_id =
+pub parts : (z : Layout) (es : List Entry) (id : ℕ) (v w : SeatView) → Splits {S = ℕ} (HoldsWith z es) id (paired v w) (seated v) (seated w)
+parts z es id v w s hs at_id =
+    let h : Holds z s = hs.0 in
     let l : ℕ = length (set s.views id (seated v)) in
     let own : ℕ → ℕ × ℕ = changed h.owner w.number (l, 0) in
     let ov = h.owned id 0 (paired v w) v at_id refl in
@@ -94,7 +106,7 @@ parts z id v w s h at_id =
     let differ : v.number ≢ w.number = λ e. let f = ap (λ (y : ℕ × ℕ). y.1) (sym ow.0 ∙ (ap h.owner (sym e) ∙ ov.0)) in omega arith in
     let first : P id 0 v = (h.fits id 0 (paired v w) v at_id refl, changed_else h.owner w.number (l, 0) v.number differ ∙ ov.0, ov.1) in
     let second : P l 0 w = (h.fits id 1 (paired v w) w at_id refl, changed_here h.owner w.number (l, 0), ow.1) in
-    views_now z s h s.words (set s.views id (seated v) ++ seated w ∷ []) own refl
+    views_now z es s hs s.words (set s.views id (seated v) ++ seated w ∷ []) own refl
     (λ j i u o a b. ⊎_elim
     (λ (t : get_elem? (set s.views id (seated v)) j ≡ some u). ⊎_elim
     (λ (q : (j ≡ id) × (seated v ≡ u)). let y = one_of v o i (ap (λ (y : View). get_elem? (members y) i) q.1 ∙ b) in subst (λ (x : ℕ × ℕ × SeatView). P x.0 x.1 x.2) (λ c. (sym q.0 c, sym y.0 c, y.1 c)) first)
@@ -110,11 +122,12 @@ parts z id v w s h at_id =
     (at_end (set s.views id (seated v)) (seated w) (keeper n) j a))
 
 -- a spare seat, which knows nothing
-pub spares : (z : Layout) (id : ℕ) (v : SeatView) → Splits {S = ℕ} (Holds z) id (seated v) (seated v) spent
-spares z id v s h at_id =
+pub spares : (z : Layout) (es : List Entry) (id : ℕ) (v : SeatView) → Splits {S = ℕ} (HoldsWith z es) id (seated v) (seated v) spent
+spares z es id v s hs at_id =
+    let h : Holds z s = hs.0 in
     let l : ℕ = length (set s.views id (seated v)) in
     let same : set s.views id (seated v) ≡ s.views = set_again s.views id (seated v) at_id in
-    views_now z s h s.words (set s.views id (seated v) ++ spent ∷ []) h.owner refl
+    views_now z es s hs s.words (set s.views id (seated v) ++ spent ∷ []) h.owner refl
     (λ j i u o a b. ⊎_elim
     (λ (t : get_elem? (set s.views id (seated v)) j ≡ some u). let q = subst (λ (vs : List View). get_elem? vs j ≡ some u) same t in let k = h.owned j i u o q b in (h.fits j i u o q b, k.0, k.1))
     (λ (t : (j ≡ l) × (spent ≡ u)). no_one o i (ap (λ (y : View). get_elem? (members y) i) t.1 ∙ b))
@@ -143,8 +156,9 @@ learns t v free f =
     }
 
 -- a load of the word 0 by two seats that are one: both have seen the whole history
-pub meets : (z : Layout) (id : ℕ) (v w : SeatView) → (at_rest v.actor).line ≡ None → (at_rest w.actor).line ≡ None → Allows {S = ℕ} (Holds z) 0 id (paired v w, []) 0 (λ n. n) (λ n m. Met z v w m)
-meets z id v w vf wf s h none at_id fit =
+pub meets : (z : Layout) (es : List Entry) (id : ℕ) (v w : SeatView) → (at_rest v.actor).line ≡ None → (at_rest w.actor).line ≡ None → Allows {S = ℕ} (HoldsWith z es) 0 id (paired v w, []) 0 (λ n. n) (λ n m. (k : Met z v w m) × (k.all ≡ es))
+meets z es id v w vf wf s hs empty at_id fit =
+    let h : Holds z s = hs.0 in
     let u : Traced = h.trace in
     let fv = h.fits id 0 (paired v w) v at_id refl in
     let fw = h.fits id 1 (paired v w) w at_id refl in
@@ -156,7 +170,7 @@ meets z id v w vf wf s h none at_id fit =
       paired v' w',
       keeps,
       tt,
-      views_now z s h (set s.words 0 (get_or s.words 0 0)) (set s.views id (paired v' w')) h.owner (set-get_or s.words 0 0)
+      views_now z es s hs (set s.words 0 (get_or s.words 0 0)) (set s.views id (paired v' w')) h.owner (set-get_or s.words 0 0)
           (λ j i x o a b. ⊎_elim
           (λ (q : (j ≡ id) × (paired v' w' ≡ x)). subst (λ x. P x i o) (sym q.0) (⊎_elim
           (λ (y : (i ≡ 0) × (v' ≡ o)). subst (λ (x : ℕ × SeatView). P id x.0 x.1) (λ c. (sym y.0 c, y.1 c)) first)
@@ -166,46 +180,139 @@ meets z id v w vf wf s h none at_id fit =
           (at_set s.views id j (paired v' w') x a))
           (λ j n a. ⊎_elim (λ (q : (j ≡ id) × (paired v' w' ≡ keeper n)). let e = q.1 in cc) (λ (q : (j ≢ id) × (get_elem? s.views j ≡ some (keeper n))). h.kept j n q.1)
           (at_set s.views id j (paired v' w') (keeper n) a)),
-      record { all = u.history; first_rest = fv.rest; second_rest = fw.rest; seats = refl; first = fv.begins; second = fw.begins; first_fits = record { trace = u; reached = h.reached; setup = h.setup; permitted = h.permitted; fits = first.0 }; second_fits = record { trace = u; reached = h.reached; setup = h.setup; permitted = h.permitted; fits = second.0 } },
+      (record { all = u.history; first_rest = fv.rest; second_rest = fw.rest; seats = refl; first = fv.begins; second = fw.begins; first_fits = record { trace = u; reached = h.reached; setup = h.setup; permitted = h.permitted; fits = first.0 }; second_fits = record { trace = u; reached = h.reached; setup = h.setup; permitted = h.permitted; fits = second.0 } }, hs.1),
     )
 
--- the same at the names of calls
-pub spares_at : (key : Layout) (id : ℕ) (me : Me ℕ View) (v : SeatView) → me ≡ (seated v, []) → Splits {S = ℕ} (Holds key) id me.0 me.0 spent
-spares_at key id me v is = subst (λ (y : Me ℕ View). Splits {S = ℕ} (Holds key) id y.0 y.0 spent) (sym is) (spares key id v)
+two_not_one : (v w u : SeatView) → paired v w ≡ seated u → ⊥
+two_not_one v w u e = cc
 
-pub pairs_at : (key : Layout) (id other : ℕ) (me him : Me ℕ View) (v w : SeatView) → me ≡ (seated v, []) → him ≡ (seated w, []) → Joins {S = ℕ} (Holds key) id me.0 other him.0 (both_of me.0 him.0) spent
-pairs_at key id other me him v w is his = subst (λ (y : Me ℕ View × Me ℕ View). Joins {S = ℕ} (Holds key) id y.0.0 other y.1.0 (both_of y.0.0 y.1.0) spent) (λ i. (sym is i, sym his i)) (pairs key id other v w)
+none_not_one : (u : SeatView) → spent ≡ seated u → ⊥
+none_not_one u e = cc
 
-pub meets_at : (key : Layout) (slots id : ℕ) (me : Me ℕ View) (v w : SeatView) → slots ≡ 0 → (at_rest v.actor).line ≡ None → (at_rest w.actor).line ≡ None → me ≡ (paired v w, []) → Allows {S = ℕ} (Holds key) slots id me 0 (λ n. n) (λ n m. Met key (knows me.0) (knows_second me.0) m)
-meets_at key slots id me v w none vf wf is = subst (λ (y : ℕ × Me ℕ View). Allows {S = ℕ} (Holds key) y.0 id y.1 0 (λ n. n) (λ n m. Met key (knows y.1.0) (knows_second y.1.0) m)) (λ i. (sym none i, sym is i)) (meets key id v w vf wf)
+none_not_two : (v u : SeatView) → spent ≡ paired v u → ⊥
+none_not_two v u e = cc
 
-pub parts_at : (key : Layout) (id : ℕ) (me : Me ℕ View) (v w : SeatView) → me ≡ (paired v w, []) → Splits {S = ℕ} (Holds key) id me.0 (first_of me.0) (second_of me.0)
-parts_at key id me v w is = subst (λ (y : Me ℕ View). Splits {S = ℕ} (Holds key) id y.0 (first_of y.0) (second_of y.0)) (sym is) (parts key id v w)
+pub one_not_two : (o v u : SeatView) → seated o ≡ paired v u → ⊥
+one_not_two o v u e = cc
+
+-- nothing is known of values by a view that knows nothing
+spent_begins : {T : Type 0} (ds : List (Deed T)) → Begins ds (knows_nothing {T = T})
+spent_begins ds = record { rest = ds; begins = refl; matches = λ v e. absurd (none_not_one v e); pair = λ v u e y. absurd (none_not_two v u e); others = tt }
+
+-- the same of views that know of values, at the names of calls
+module _ {T : Type 0} (key : Layout) (id : ℕ) (me : Me (Option T) (Beside T)) (v w : SeatView) where
+  pub spares_at : me.0.plain ≡ seated v → Splits {S = Option T} (HoldsFor key) id me.0 (left_as_it_is me.0) knows_nothing
+  spares_at is =
+      lift_splits key id me.0 (left_as_it_is me.0) knows_nothing (λ es. subst (λ (y : View). Splits {S = ℕ} (HoldsWith key es) id y y spent) (sym is) (spares key es id v)) refl refl
+      (λ ds b. (record { rest = b.rest; begins = b.begins; matches = b.matches; pair = b.pair; others = b.others }, spent_begins ds))
+
+  pub pairs_at : (other : ℕ) (him : Me (Option T) (Beside T)) → me.0.plain ≡ seated v → him.0.plain ≡ seated w → him.0.hand ≡ none → Joins {S = Option T} (HoldsFor key) id me.0 other him.0 (both_beside me.0 him.0) knows_nothing
+  pairs_at other him is his none_out =
+      let two : both_of me.0.plain him.0.plain ≡ paired v w = (λ i. both_of (is i) (his i)) in
+      lift_joins key id other me.0 him.0 (both_beside me.0 him.0) knows_nothing (λ es. subst (λ (y : View × View). Joins {S = ℕ} (HoldsWith key es) id y.0 other y.1 (both_of y.0 y.1) spent) (λ i. (sym is i, sym his i)) (pairs key es id other v w)) refl (sym none_out)
+      (λ ds b his_own. (
+        record {
+          rest = b.rest;
+          begins = b.begins;
+          matches = λ o e. absurd (two_not_one v w o (sym two ∙ e));
+          pair = λ o u e y. subst (λ (k : SeatView). Matches k.seen me.0.deeds) (ap knows (sym two ∙ e)) (b.matches v is);
+          others = ((his_own.rest, his_own.begins), b.others);
+        },
+        spent_begins ds,
+      ))
+
+  pub meets_at : (slots : ℕ) → (at_rest v.actor).line ≡ None → (at_rest w.actor).line ≡ None → me.0.plain ≡ paired v w → Allows {S = Option T} (HoldsFor key) slots id me 0 (λ n. n) (λ n m. MeetsBeside key me m)
+  meets_at slots vf wf is s h count mine small =
+      let m : ℕ = words_of key in
+      let es : List Entry = h.base.trace.history in
+      let same : get_or (take m s.words) 0 0 ≡ get_or s.words 0 0 = get_or-take m s.words 0 0 (omega arith) in
+      let q = subst (λ (y : View). Allows {S = ℕ} (HoldsWith key es) 0 id (y, []) 0 (λ n. n) (λ n o. (k : Met key (knows y) (knows_second y) o) × (k.all ≡ es))) (sym is) (meets key es id v w vf wf) (plain_state m s) (h.base, refl) refl (at_map plain_of s.views id me.0 mine) (subst (λ (k : ℕ). k < 18446744073709551616) (sym same) small) in
+      let words : List ℕ = set s.words 0 (get_or s.words 0 0) in
+      let after : List (Deed T) → Beside T = λ ds. record { plain = q.0; deeds = ds; hand = me.0.hand; others = [] } in
+      let base : (ds : List (Deed T)) → HoldsWith key es (plain_state m (record { words = words; homes = s.homes; views = set s.views id (after ds) })) = λ ds. (
+        moved key (stepped (plain_state m s) 0 (get_or (take m s.words) 0 0) id [] q.0 q.1) (plain_state m (record { words = words; homes = s.homes; views = set s.views id (after ds) })) q.3.0
+            (take-set-lt m s.words 0 (get_or s.words 0 0) (omega arith) ∙ ap (λ (k : ℕ). set (take m s.words) 0 k) (sym same)) (map_set plain_of s.views id (after ds)),
+        q.3.1,
+      ) in
+      let told : (ds : List (Deed T)) → KnowsNow key (after ds) → GrowsBy key.carries me.0 (after ds) → MeetsBeside key me (after ds, me.1) = λ ds known grown. (subst (λ (c : List (ℕ × ℕ)). Met key (knows me.0.plain) (knows_second me.0.plain) (q.0, c)) (none_moved q.1 q.2).0 q.4.0, refl, refl, known, grown) in
+      let Out : Type 0 = (w' : Beside T) × (a : Act (Option T)) × Valid s.homes me.1 a × HoldsFor key (stepped s 0 (get_or s.words 0 0) id me.1 w' a) × MeetsBeside key me (w', carried_after me.1 a) in
+      let plainly : key.carries ≡ false → Out = λ e. (
+        after me.0.deeds,
+        keeps,
+        tt,
+        record { base = (base me.0.deeds).0; values = subst (λ (b : Bool). CarriedBy b key (base me.0.deeds).0.trace.history (stepped s 0 (get_or s.words 0 0) id me.1 (after me.0.deeds) keeps)) (sym e) tt },
+        told me.0.deeds (subst (λ (b : Bool). KnowsBy b key (knows q.0).seen (after me.0.deeds)) (sym e) tt) (subst (λ (b : Bool). GrowsBy b me.0 (after me.0.deeds)) (sym e) tt),
+      ) in
+      let carrying : key.carries ≡ true → Out = λ e.
+      let c = subst (λ (b : Bool). CarriedBy b key es s) e h.values in
+      let ds = c.rides.deeds in
+      let new : Begins ds (after ds) = record {
+        rest = [];
+        begins = sym (append-nil ds);
+        matches = λ o k. absurd (two_not_one _ _ o (sym (ap (λ (y : Me ℕ View). y.0) q.4.0.seats) ∙ k));
+        pair = λ o u k y. subst (λ (x : List Entry). Matches x ds) (sym q.4.1 ∙ ap (λ (x : View). (knows x).seen) (sym (ap (λ (y : Me ℕ View). y.0) q.4.0.seats) ∙ k)) c.rides.matches;
+        others = tt;
+      } in (
+        after ds,
+        keeps,
+        tt,
+        record {
+          base = (base ds).0;
+          values = subst (λ (b : Bool). CarriedBy b key (base ds).0.trace.history (stepped s 0 (get_or s.words 0 0) id me.1 (after ds) keeps)) (sym e)
+              (subst (λ (x : List Entry). Carried key x (record { words = words; homes = s.homes; views = set s.views id (after ds) })) (sym (base ds).1)
+              (recarried key es s words (set s.views id (after ds)) c (λ i. ap (λ (ws : List ℕ). get_or ws (m + i) 0) (sym (set-get_or s.words 0 0))) (λ j. hand_set s.views id me.0 (after ds) mine refl j)
+              (λ j o got. ⊎_elim (λ (k : (j ≡ id) × (after ds ≡ o)). subst (Begins ds) k.1 new) (λ (k : (j ≢ id) × (get_elem? s.views j ≡ some o)). c.known j o k.1) (at_set s.views id j (after ds) o got))
+              (length-set s.words 0 (get_or s.words 0 0))));
+        },
+        told ds
+            (subst (λ (b : Bool). KnowsBy b key (knows q.0).seen (after ds)) (sym e)
+            (knows_values key (knows q.0).seen (after ds) ds [] (map item_of c.rides.q) c.rides.shut (sym (append-nil ds)) c.rides.runs (subst (λ (x : List Entry). Matches x ds) (sym q.4.1 ∙ ap (λ (x : View). (knows x).seen) (sym (ap (λ (y : Me ℕ View). y.0) q.4.0.seats))) c.rides.matches)
+            (λ i k. (c.rides.slotted.out id i (ap hand_in mine ∙ k)).0)))
+            (subst (λ (b : Bool). GrowsBy b me.0 (after ds)) (sym e) (let f = c.known id me.0 mine in ((f.rest, f.begins), f.others))),
+      ) in
+      by_bool plainly carrying
+    where
+      by_bool : {X : Type 0} → (key.carries ≡ false → X) → (key.carries ≡ true → X) → X
+      by_bool {X} f t = go key.carries refl
+        where
+          go : (b : Bool) → key.carries ≡ b → X
+          go true e = t e
+          go false e = f e
+
+  pub parts_at : me.0.plain ≡ paired v w → v.seen ≡ w.seen → me.0.hand ≡ none → Splits {S = Option T} (HoldsFor key) id me.0 (first_beside_of me.0) (second_beside_of me.0)
+  parts_at is met none_out =
+      lift_splits key id me.0 (first_beside_of me.0) (second_beside_of me.0) (λ es. subst (λ (y : View). Splits {S = ℕ} (HoldsWith key es) id y (first_of y) (second_of y)) (sym is) (parts key es id v w)) refl refl
+      (λ ds b. (
+        record { rest = b.rest; begins = b.begins; matches = λ o e. subst (λ (k : SeatView). Matches k.seen me.0.deeds) (ap knows (ap first_of (sym is) ∙ e)) (b.pair v w is met); pair = λ o u e y. absurd (one_not_two v o u (ap first_of (sym is) ∙ e)); others = b.others },
+        record { rest = b.rest; begins = b.begins; matches = λ o e. subst (λ (k : SeatView). Matches k.seen me.0.deeds) (ap knows (ap second_of (sym is) ∙ e)) (subst (λ (x : List Entry). Matches x me.0.deeds) met (b.pair v w is met)); pair = λ o u e y. absurd (one_not_two w o u (ap second_of (sym is) ∙ e)); others = tt },
+      ))
 
 -- the token that two others joined into
-pub joined_is : (j one tok : Me ℕ View) (v w : SeatView) → one ≡ (seated v, []) → tok ≡ (seated w, []) → j ≡ (both_of one.0 tok.0, one.1) → j ≡ (paired v w, [])
-joined_is j one tok v w a b e = e ∙ (λ i. (both_of (a i).0 (b i).0, (a i).1))
+pub joined_is : {T : Type 0} (j one tok : Me (Option T) (Beside T)) (v w : SeatView) → one.0.plain ≡ seated v → tok.0.plain ≡ seated w → j ≡ (both_beside one.0 tok.0, one.1) → j.0.plain ≡ paired v w
+joined_is j one tok v w a b e = ap (λ y. y.0.plain) e ∙ (λ i. both_of (a i) (b i))
 
 -- what the load tells of two views that are one, said of the two
-pub met_there : (z : Layout) (j m : Me ℕ View) (v w : SeatView) → j ≡ (paired v w, []) → Met z (knows j.0) (knows_second j.0) m → Met z v w m
-met_there z j m v w is h = subst (λ (y : Me ℕ View). Met z (knows y.0) (knows_second y.0) m) is h
+pub met_there : (z : Layout) (j : View) (m : Me ℕ View) (v w : SeatView) → j ≡ paired v w → Met z (knows j) (knows_second j) m → Met z v w m
+met_there z j m v w is h = subst (λ (y : View). Met z (knows y) (knows_second y) m) is h
 
 -- a seat with another token of its own, which knows the same but for what it has seen
-pub sits_so : (r : Arena) (s : Seat) (t : Token ℕ Knowing) (v : SeatView) → IsReady r s → t.table_id ≡ r.id → t.me ≡ (seated v, []) → v.number ≡ (view s).number → v.actor ≡ (view s).actor → v.mine ≡ (view s).mine → Fitted r.plan v → IsReady r (record s { token = t })
-sits_so r s t v i here me number actor mine fitted =
-    let is : knows t.me.0 ≡ v = ap (λ (y : Me ℕ View). knows y.0) me in
+pub sits_so : {T : Type 0} (r : Arena) (s : Seat T) (t : Token (Option T) (Beside T)) (v : SeatView) → IsReady r s → t.table_id ≡ r.id → t.me.0.plain ≡ seated v → (r.plan.carries ≡ false → HasNone t.me) → ∥ KnowsNow r.plan t.me.0 ∥₁ → v.number ≡ (view s).number → v.actor ≡ (view s).actor → v.mine ≡ (view s).mine → Fitted r.plan v → IsReady r (record s { token = t })
+sits_so r s t v i here me none_out valued number actor mine fitted =
+    let is : knows t.me.0.plain ≡ v = ap knows me in
     record {
       seat = record {
         arena = i.seat.arena;
         sits = record {
           table = here;
-          seat = me ∙ ap (λ w. (seated w, [])) (sym is);
+          seat = me ∙ ap seated (sym is);
+          none_out = none_out;
           number = i.seat.sits.number ∙ sym (ap (λ w. w.number) is ∙ number);
           role = i.seat.sits.role;
           pushes = i.seat.sits.pushes ∙ ap (count_by is_push) (sym (ap (λ w. w.mine) is ∙ mine));
           pops = i.seat.sits.pops ∙ ap (count_by is_pop) (sym (ap (λ w. w.mine) is ∙ mine));
           shut = i.seat.sits.shut ∙ ap (λ es. nat_lt 0 (count_by is_shut es)) (sym (ap (λ w. w.mine) is ∙ mine));
           fitted = ∣ subst (Fitted r.plan) (sym is) fitted ∣₁;
+          valued = valued;
         };
       };
       free = ap (λ a. (at_rest a).line) (ap (λ w. w.actor) is ∙ actor) ∙ i.free;
@@ -213,17 +320,26 @@ sits_so r s t v i here me number actor mine fitted =
     }
 
 -- the seats after they met
-pub meeting : (r : Arena) (s o : Seat) (k a b : Token ℕ Knowing) → IsReady r s → IsReady r o → Met r.plan (view s) (view o) k.me → a.me ≡ (first_of k.me.0, k.me.1) → b.me ≡ (second_of k.me.0, []) → a.table_id ≡ r.id → b.table_id ≡ r.id
+pub meeting : {T : Type 0} (r : Arena) (s o : Seat T) (k a b : Token (Option T) (Beside T)) → IsReady r s → IsReady r o → Met r.plan (view s) (view o) (plain_me k.me) → HasNone k.me → KnowsNow r.plan k.me.0 → GrowsBy r.plan.carries (both_beside s.token.me.0 o.token.me.0) k.me.0 → a.me ≡ (first_beside_of k.me.0, k.me.1) → b.me ≡ (second_beside_of k.me.0, []) → a.table_id ≡ r.id → b.table_id ≡ r.id
     → Meets r s o (record s { token = a }) (record o { token = b })
-meeting r s o k a b i j h left right here there =
-    let one : a.me ≡ (seated (record (view s) { seen = h.all }), []) = left ∙ ap (λ (y : Me ℕ View). (first_of y.0, y.1)) h.seats in
-    let two : b.me ≡ (seated (record (view o) { seen = h.all }), []) = right ∙ ap (λ (y : Me ℕ View). (second_of y.0, [])) h.seats in
+meeting r s o k a b i j h none_out valued grown left right here there =
+    let parted = knows_parted r.plan k.me.0 (record (view s) { seen = h.all }) (record (view o) { seen = h.all }) (ap (λ (y : Me ℕ View). y.0) h.seats) refl valued in
+    let one : a.me.0.plain ≡ seated (record (view s) { seen = h.all }) = ap (λ y. y.0.plain) left ∙ ap (λ (y : Me ℕ View). first_of y.0) h.seats in
+    let two : b.me.0.plain ≡ seated (record (view o) { seen = h.all }) = ap (λ y. y.0.plain) right ∙ ap (λ (y : Me ℕ View). second_of y.0) h.seats in
     record {
-      one = sits_so r s a (record (view s) { seen = h.all }) i here one refl refl refl h.first_fits;
-      other = sits_so r o b (record (view o) { seen = h.all }) j there two refl refl refl h.second_fits;
+      one = sits_so r s a (record (view s) { seen = h.all }) i here one (λ c. (ap (λ y. length y.1) left ∙ none_out.0, ap (λ y. slots_in y.0.hand) left ∙ none_out.1)) ∣ subst (λ (y : Beside _). KnowsNow r.plan y) (ap (λ y. y.0) (sym left)) parted.0 ∣₁ refl refl refl h.first_fits;
+      other = sits_so r o b (record (view o) { seen = h.all }) j there two (λ c. (ap (λ y. length y.1) right, ap (λ y. slots_in y.0.hand) right)) ∣ subst (λ (y : Beside _). KnowsNow r.plan y) (ap (λ y. y.0) (sym right)) parted.1 ∣₁ refl refl refl h.second_fits;
       all = h.all;
-      first = record { stored = record { number = refl; role = refl; keeps = refl; pocket = refl; failed = refl }; knows = ap (λ (y : Me ℕ View). knows y.0) one; more = h.first_rest; begins = h.first };
-      second = record { stored = record { number = refl; role = refl; keeps = refl; pocket = refl; failed = refl }; knows = ap (λ (y : Me ℕ View). knows y.0) two; more = h.second_rest; begins = h.second };
+      first = record { stored = record { number = refl; role = refl; keeps = refl; pocket = refl; failed = refl }; knows = ap knows one; more = h.first_rest; begins = h.first };
+      second = record { stored = record { number = refl; role = refl; keeps = refl; pocket = refl; failed = refl }; knows = ap knows two; more = h.second_rest; begins = h.second };
+      none_out = ((ap (λ y. length y.1) left ∙ none_out.0, ap (λ y. slots_in y.0.hand) left ∙ none_out.1), (ap (λ y. length y.1) right, ap (λ y. slots_in y.0.hand) right));
+      values = λ c.
+          let g = subst (λ (b : Bool). GrowsBy b (both_beside s.token.me.0 o.token.me.0) k.me.0) c grown in
+          record {
+            same = ap (λ y. y.0.deeds) right ∙ sym (ap (λ y. y.0.deeds) left);
+            first = record { between = g.0.0; deeds = ap (λ y. y.0.deeds) left ∙ g.0.1 };
+            second = record { between = g.1.0.0; deeds = ap (λ y. y.0.deeds) right ∙ g.1.0.1 };
+          };
     }
 
 -- the plan by which a meeting is told is the arena's
@@ -231,5 +347,5 @@ pub met_at : (z y : Layout) (v w : SeatView) (m : Me ℕ View) → y ≡ z → M
 met_at z y v w m e h = subst (λ (x : Layout). Met x v w m) e h
 
 -- the same of an arena by another name
-pub met_as : (r q : Arena) (s t s' t' : Seat) → r ≡ q → Meets r s t s' t' → Meets q s t s' t'
+pub met_as : {T : Type 0} (r q : Arena) (s t s' t' : Seat T) → r ≡ q → Meets r s t s' t' → Meets q s t s' t'
 met_as r q s t s' t' same = subst (λ a. Meets a s t s' t') same

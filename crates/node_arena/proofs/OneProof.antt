@@ -53,12 +53,12 @@ Layout-set = hlevel (props, Setup-set, Role-set)
 IsTable-prop : (z about : Layout) (t : TableId) → IsProp (IsTable z about t)
 IsTable-prop z about t = hlevel (props, Layout-set)
 
-Sits-prop : (z : Layout) (t : TableId) (s : Seat) → IsProp (Sits z t s)
+Sits-prop : {T : Type 0} (z : Layout) (t : TableId) (s : Seat T) → IsProp (Sits z t s)
 Sits-prop z t s = hlevel (props, TableId-set, View-set, Role-set)
 
-pub IsSeat-prop : (r : Arena) (s : Seat) → IsProp (IsSeat r s)
+pub IsSeat-prop : {T : Type 0} (r : Arena) (s : Seat T) → IsProp (IsSeat r s)
 IsSeat-prop r s = hlevel (IsTable-prop, Sits-prop)
 
 -- and that it is one in no call
-pub IsReady-prop : (r : Arena) (s : Seat) → IsProp (IsReady r s)
+pub IsReady-prop : {T : Type 0} (r : Arena) (s : Seat T) → IsProp (IsReady r s)
 IsReady-prop r s = hlevel (props, IsSeat-prop, Line-set, Held-set)

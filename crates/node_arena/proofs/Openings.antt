@@ -18,7 +18,7 @@ all_places : {A : Type 0} (P : A → Type 0) (xs : List A) → ((k : ℕ) (x : A
 all_places P [] h = All-nil P
 all_places P (x ∷ xs) h = All-cons P x xs (h 0 x refl) (all_places P xs (λ k y e. h (suc k) y e))
 
-module _ (z : Layout) (r : Arena) (seats : List Seat) (m : IsMade z r seats) where
+module _ {T : Type 0} (z : Layout) (r : Arena) (seats : List (Seat T)) (m : IsMade z r seats) where
   -- each seat of a new arena may begin a call
   pub made_ready : All (IsReady r) seats
   made_ready = all_places (IsReady r) seats (λ k s e. (m.each k s e).ready)
@@ -27,7 +27,7 @@ module _ (z : Layout) (r : Arena) (seats : List Seat) (m : IsMade z r seats) whe
   pub made_permits : permits_of r ≡ permits_by z.roles
   made_permits = ap (λ p. permits_by p.roles) m.plan
 
-  new_at : (k : ℕ) (c : Known) (o : Option Seat) → slice_get seats k ≡ o → option_map known_of o ≡ Some c → c ≡ newcomer (k + 1)
+  new_at : (k : ℕ) (c : Known) (o : Option (Seat T)) → slice_get seats k ≡ o → option_map known_of o ≡ Some c → c ≡ newcomer (k + 1)
   new_at k c None e h = absurd (none-some c h)
   new_at k c (Some s) e h = sym (same_Some (known_of s) c h) ∙ ap known_by (m.each k s e).view
 

@@ -1,5 +1,5 @@
 -- The lines of a call, one after another: what they add to a seat's path, and what its last step tells.
-use Rattle.std.proofs.Common.{◌≡◌, ℕ, ◌+◌, ◌≤◌, true, false, Option, List, [], ◌∷◌, ◌++◌, length, drop, sym, refl, ap, ◌∙◌, subst, append-nil, append_assoc, arith, Some}
+use Rattle.std.proofs.Common.{◌≡◌, ℕ, ◌+◌, ◌≤◌, Bool, true, false, Option, List, [], ◌∷◌, ◌++◌, length, drop, sym, refl, ap, ◌∙◌, subst, append-nil, append_assoc, length-append, arith, Some}
 use Rattle.std.proofs.lemmas.List.Sums.{sum_by-append}
 use Rattle.std.proofs.Math.Seq.{drop-append_seam}
 use Rattle.line_table.specs.declared.lines.Line.{Line}
@@ -17,7 +17,8 @@ use Rattle.node_arena.specs.Seeing.{SeatView, known_by}
 use Rattle.node_arena.specs.Arenas.{Arena}
 use Rattle.node_arena.specs.declared.seats.Seat.{Seat}
 use Rattle.node_arena.specs.Rule.{notes_of, SaysOfSeen, FoundClosedAt}
-use Rattle.node_arena.specs.Seats.{IsSeat, IsBefore, KeepsStored, DidStep, view, keeping}
+use Rattle.node_arena.specs.Seats.{IsSeat, IsBefore, KeepsStored, KeepsSlots, DidStep, view, keeping}
+use Rattle.node_arena.specs.Beside.{EffectBy}
 use Rattle.node_arena.specs.Turns.{failed_at, failed_turns}
 use Rattle.node_arena.specs.Paths.{ExtendsPath, FindsShut, FindsShutEmpty, Passes, Acts, added, EndedAt, FailedAt, EndsFailed, IsRefusedAt, LastHeld, MetCause, NowHolds, IsSole}
 use Rattle.node_arena.proofs.Tracing.{step_count, traced_reached}
@@ -91,26 +92,46 @@ act_then v w x e es fs f g =
     }
 
 -- what a seat stores stays, and then again
-pub then_stored : (s t u : Seat) → KeepsStored s t → KeepsStored t u → KeepsStored s u
+pub then_stored : {T : Type 0} (s t u : Seat T) → KeepsStored s t → KeepsStored t u → KeepsStored s u
 then_stored s t u f g = record { number = g.number ∙ f.number; role = g.role ∙ f.role; keeps = g.keeps ∙ f.keeps; pocket = g.pocket ∙ f.pocket; failed = g.failed ∙ f.failed }
 
+-- the slots that are out with a seat, over two lines, and over a line that adds nothing
+pub no_slots : {T : Type 0} (s : Seat T) → KeepsSlots s s
+no_slots s = record { same = refl; hand = refl }
+
+pub then_slots : {T : Type 0} (s t u : Seat T) → KeepsSlots s t → KeepsSlots t u → KeepsSlots s u
+then_slots s t u f g = record { same = g.same ∙ f.same; hand = g.hand ∙ f.hand }
+
+nothing_added : (xs es : List Entry) → xs ++ es ≡ xs → es ≡ []
+nothing_added xs [] e = refl
+nothing_added xs (y ∷ ys) e = let long = ap length e in absurd (omega (arith, long, length-append xs (y ∷ ys)))
+
+pub quiet_slots : {T : Type 0} (r : Arena) (s t : Seat T) (prologue : Prologue) (l : Line) (n : ℕ) (d : DidStep r s t prologue l n) → entries_at r.plan.setup d.told.was (view s).number (after_prologue r.plan.setup (view s).number prologue (view s).actor) l ≡ [] → KeepsSlots s t
+quiet_slots {T} r s t prologue l n d none =
+    let same : (view s).mine ++ d.moves.0 ≡ (view s).mine = sym d.moves.1 ∙ (d.told.mine ∙ (ap (λ es. (view s).mine ++ es) none ∙ append-nil (view s).mine)) in
+    go r.plan.carries (subst (λ (es : List Entry). EffectBy r.plan.carries (view s).number es s.token.me t.token.me) (nothing_added (view s).mine d.moves.0 same) d.moves.2)
+  where
+    go : (b : Bool) → EffectBy b (view s).number [] s.token.me t.token.me → KeepsSlots s t
+    go true e = record { same = e.0; hand = e.1 }
+    go false e = record { same = e.0; hand = e.1 }
+
 -- what a seat's path has more is what was added
-pub added_path : (s t : Seat) (es : List Event) → (view t).path ≡ (view s).path ++ es → added s t ≡ es
+pub added_path : {T : Type 0} (s t : Seat T) (es : List Event) → (view t).path ≡ (view s).path ++ es → added s t ≡ es
 added_path s t es e = ap (drop (length (view s).path)) e ∙ drop-append_seam (view s).path es
 
-pub added_is : (s t : Seat) (es : List Event) → ExtendsPath (view s) (view t) es → added s t ≡ es
+pub added_is : {T : Type 0} (s t : Seat T) (es : List Event) → ExtendsPath (view s) (view t) es → added s t ≡ es
 added_is s t es w = added_path s t es w.path
 
 -- what held before the last of some lines held at a call's last step
-pub last_held : (r : Arena) (s t : Seat) (es : List Event) (P : Traced → Actor → Line → Type 0) → added s t ≡ es → EndedAt r s es P → LastHeld r s t P
+pub last_held : {T : Type 0} (r : Arena) (s t : Seat T) (es : List Event) (P : Traced → Actor → Line → Type 0) → added s t ≡ es → EndedAt r s es P → LastHeld r s t P
 last_held r s t es P e h = subst (λ fs. EndedAt r s fs P) (sym e) h
 
 -- and so where that line was a failed turn
-pub ends_failed : (s t : Seat) (es : List Event) → added s t ≡ es → FailedAt es → EndsFailed s t
+pub ends_failed : {T : Type 0} (s t : Seat T) (es : List Event) → added s t ≡ es → FailedAt es → EndsFailed s t
 ends_failed s t es e h = subst FailedAt (sym e) h
 
 -- lines behind others
-pub ended_behind : (r : Arena) (s t : Seat) (es fs : List Event) (P : Traced → Actor → Line → Type 0) → ExtendsPath (view s) (view t) es → EndedAt r t fs P → EndedAt r s (es ++ fs) P
+pub ended_behind : {T : Type 0} (r : Arena) (s t : Seat T) (es fs : List Event) (P : Traced → Actor → Line → Type 0) → ExtendsPath (view s) (view t) es → EndedAt r t fs P → EndedAt r s (es ++ fs) P
 ended_behind r s t es fs P w h =
     record {
       was = h.was;
@@ -129,12 +150,12 @@ ended_behind r s t es fs P w h =
       held = h.held;
     }
 
-pub stopped_behind : (r : Arena) (s t : Seat) (es fs : List Event) (refusal : Refusal) → ExtendsPath (view s) (view t) es → EndedAt r t fs (IsRefusedAt r.plan.setup (view t).number refusal) → EndedAt r s (es ++ fs) (IsRefusedAt r.plan.setup (view s).number refusal)
+pub stopped_behind : {T : Type 0} (r : Arena) (s t : Seat T) (es fs : List Event) (refusal : Refusal) → ExtendsPath (view s) (view t) es → EndedAt r t fs (IsRefusedAt r.plan.setup (view t).number refusal) → EndedAt r s (es ++ fs) (IsRefusedAt r.plan.setup (view s).number refusal)
 stopped_behind r s t es fs refusal w h =
     ended_behind r s t es fs (IsRefusedAt r.plan.setup (view s).number refusal) w (subst (λ me. EndedAt r t fs (IsRefusedAt r.plan.setup me refusal)) w.number h)
 
 -- a cause that a call met behind other lines
-pub met_behind : (r : Arena) (s t u : Seat) (es : List Event) (refusal : Refusal) → ExtendsPath (view s) (view t) es → added s u ≡ es ++ added t u → MetCause r t u refusal → MetCause r s u refusal
+pub met_behind : {T : Type 0} (r : Arena) (s t u : Seat T) (es : List Event) (refusal : Refusal) → ExtendsPath (view s) (view t) es → added s u ≡ es ++ added t u → MetCause r t u refusal → MetCause r s u refusal
 met_behind r s t u es refusal w e h = last_held r s u (es ++ added t u) (IsRefusedAt r.plan.setup (view s).number refusal) e (stopped_behind r s t es (added t u) refusal w h)
 
 pub failed_behind : (es fs : List Event) → FailedAt fs → FailedAt (es ++ fs)
@@ -144,10 +165,10 @@ pub failed-append : (es fs : List Event) → failed_turns (es ++ fs) ≡ failed_
 failed-append es fs = sum_by-append (λ e. failed_at e.line e.to) es fs
 
 -- a seat that keeps another pocket is still the arena's
-pub kept_seat : (r : Arena) (t : Seat) (p : Option Held) (n : ℕ) → IsSeat r t → IsSeat r (keeping t p n)
-kept_seat r t p n h = record { arena = h.arena; sits = record { table = h.sits.table; seat = h.sits.seat; number = h.sits.number; role = h.sits.role; pushes = h.sits.pushes; pops = h.sits.pops; shut = h.sits.shut; fitted = h.sits.fitted } }
+pub kept_seat : {T : Type 0} (r : Arena) (t : Seat T) (p : Option Held) (n : ℕ) → IsSeat r t → IsSeat r (keeping t p n)
+kept_seat r t p n h = record { arena = h.arena; sits = record { table = h.sits.table; seat = h.sits.seat; none_out = h.sits.none_out; number = h.sits.number; role = h.sits.role; pushes = h.sits.pushes; pops = h.sits.pops; shut = h.sits.shut; fitted = h.sits.fitted; valued = h.sits.valued } }
 
-pub now_kept : (r : Arena) (t : Seat) (p : Option Held) (n : ℕ) (P : World → Type 0) → NowHolds r t P → NowHolds r (keeping t p n) P
+pub now_kept : {T : Type 0} (r : Arena) (t : Seat T) (p : Option Held) (n : ℕ) (P : World → Type 0) → NowHolds r t P → NowHolds r (keeping t p n) P
 now_kept r t p n P h = record { now = h.now; reached = h.reached; setup = h.setup; peopled = h.peopled; actor = h.actor; path = h.path; holds = h.holds }
 
 -- one line more on a path
@@ -155,7 +176,7 @@ pub failed_snoc : (es : List Event) (e : Event) → failed_turns (es ++ e ∷ []
 failed_snoc es e = sum_by-append (λ x. failed_at x.line x.to) es (e ∷ []) ∙ (let z : 0 + failed_at e.line e.to ≡ failed_at e.line e.to = omega arith in ap (λ k. failed_turns es + k) z)
 
 -- one step
-module _ (r : Arena) (s t : Seat) (prologue : Prologue) (l : Line) (n : ℕ) (d : DidStep r s t prologue l n) where
+module _ {T : Type 0} (r : Arena) (s t : Seat T) (prologue : Prologue) (l : Line) (n : ℕ) (d : DidStep r s t prologue l n) where
   abbrev pub b : Actor
   b = after_prologue r.plan.setup (view s).number prologue (view s).actor
 
@@ -248,7 +269,7 @@ module _ (r : Arena) (s t : Seat) (prologue : Prologue) (l : Line) (n : ℕ) (d 
   to_is = sym (ap (λ a. a.line) d.told.actor)
 
   -- what held of the world before the step
-  pub ended_at : (o : Seat) (before : List Event) (P : Traced → Actor → Line → Type 0) → ExtendsPath (view o) (view s) before → P d.told.was b l → EndedAt r o (before ++ event ∷ []) P
+  pub ended_at : (o : Seat T) (before : List Event) (P : Traced → Actor → Line → Type 0) → ExtendsPath (view o) (view s) before → P d.told.was b l → EndedAt r o (before ++ event ∷ []) P
   ended_at o before P w p =
       record {
         was = d.told.was;
@@ -266,7 +287,7 @@ module _ (r : Arena) (s t : Seat) (prologue : Prologue) (l : Line) (n : ℕ) (d 
       }
 
   -- it was refused
-  pub stopped_at : (o : Seat) (before : List Event) (refusal : Refusal) → ExtendsPath (view o) (view s) before → (outcome_at r.plan.setup d.told.was (view s).number b l).reply ≡ Some (Refused refusal) → EndedAt r o (before ++ event ∷ []) (IsRefusedAt r.plan.setup (view o).number refusal)
+  pub stopped_at : (o : Seat T) (before : List Event) (refusal : Refusal) → ExtendsPath (view o) (view s) before → (outcome_at r.plan.setup d.told.was (view s).number b l).reply ≡ Some (Refused refusal) → EndedAt r o (before ++ event ∷ []) (IsRefusedAt r.plan.setup (view o).number refusal)
   stopped_at o before refusal w e =
       ended_at o before (IsRefusedAt r.plan.setup (view o).number refusal) w
       (subst (λ me. IsRefusedAt r.plan.setup me refusal d.told.was b l) w.number (e, has_own_cause r.plan prologue l n (view s) (view t) d.told refusal e))

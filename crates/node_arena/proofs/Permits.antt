@@ -10,7 +10,7 @@ use Rattle.node_arena.specs.Plans.{may_push, may_pop, permit_of}
 use Rattle.node_arena.specs.Seats.{IsSeat, view, permits_of, known_of}
 use Rattle.node_arena.proofs.Entering.{permits-at}
 
-module _ (r : Arena) (s : Seat) (h : IsSeat r s) where
+module _ {T : Type 0} (r : Arena) (s : Seat T) (h : IsSeat r s) where
   at : slice_get (permits_of r) ((view s).number - 1) ≡ Some (permit_of s.role)
   at = subst (λ n. slice_get (permits_of r) (n - 1) ≡ Some (permit_of s.role)) h.sits.number (permits-at r.plan.roles (s.number - 1) s.role h.sits.role)
 

@@ -1,5 +1,5 @@
 -- A seat's counters have room: a traced world has made few pushes and pops, and a seat's own are some of them.
-use Rattle.std.proofs.Common.{ℕ, ◌+◌, ◌<◌, ◌≤◌, ◌^◌, Bool, true, false, if◌then◌else◌, nat_eq, List, [], ◌∷◌, sym, ap, subst, arith}
+use Rattle.std.proofs.Common.{◌+◌, ◌<◌, ◌≤◌, ◌^◌, Bool, true, false, if◌then◌else◌, nat_eq, List, [], ◌∷◌, Option, sym, ap, subst, arith}
 use Rattle.std.specs.List.{count_by, filter}
 use Rattle.std.specs.Coded.{le_prop}
 use Rattle.std.proofs.Math.Logic.{∥∥₁_elim}
@@ -10,7 +10,7 @@ use Rattle.history.specs.declared.operations.Entry.{Entry}
 use Rattle.history.specs.Entries.{is_push, is_pop, seat_of}
 use Rattle.step_machine.proofs.Few.{one_more, count, count_is, both_more, no_fewer, are_few}
 use Rattle.counted_ref.proofs.Words.{count_span_most, span_most}
-use Rattle.node_arena.specs.declared.views.Knowing.{Knowing}
+use Rattle.node_arena.specs.Beside.{Beside}
 use Rattle.node_arena.specs.Traces.{Traced, IsTraced}
 use Rattle.node_arena.specs.Arenas.{Arena}
 use Rattle.node_arena.specs.declared.seats.Seat.{Seat}
@@ -42,7 +42,7 @@ own_fewer z v f p =
     omega (arith, own, count_is p v.mine, count_is p f.trace.history)
 
 -- so a seat's counters have room for one more, also after its table made the step
-pub has_room : (r : Arena) (s : Seat) (t : Token ℕ Knowing) → IsSeat r s → (l : Line) → HasRoom (record s { token = t }) l
+pub has_room : {T : Type 0} (r : Arena) (s : Seat T) (t : Token (Option T) (Beside T)) → IsSeat r s → (l : Line) → HasRoom (record s { token = t }) l
 has_room r s t seat = room
   where
     pops : s.pops + 1 < 2 ^ 64

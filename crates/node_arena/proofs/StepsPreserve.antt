@@ -8,7 +8,7 @@ use Rattle.std.proofs.lemmas.Option.{IfSome_then}
 use mathlib.Core.Option.{some, some-injective, some-ne-none}
 use prog.Atomic.{either}
 use lib.ListN.{get_elem?}
-use Rattle.atomic_table.specs.Table.{State, Me, keeps, Allows}
+use Rattle.atomic_table.specs.Table.{State, keeps, Allows}
 use Rattle.atomic_table.proofs.Lists.{at_set}
 use Rattle.line_table.specs.declared.lines.Line.{Line}
 use Rattle.history.specs.declared.operations.Entry.{Entry}
@@ -28,7 +28,7 @@ use Rattle.step_machine.proofs.AccessesNameWords.{accesses_are_one_step, each_ac
 use Rattle.node_arena.specs.declared.roles.Role.{Role}
 use Rattle.node_arena.specs.Traces.{Traced, IsTraced, step_at, actor_at, outcome_at, event_at, entries_at, number_at, sees}
 use Rattle.node_arena.specs.Prologues.{Prologue, after_prologue, CanStart}
-use Rattle.node_arena.specs.Seeing.{SeatView, Looked, View, keeper, seated, members, knows}
+use Rattle.node_arena.specs.Seeing.{SeatView, Looked, View, keeper, seated, members}
 use Rattle.node_arena.specs.Places.{place, shared_words}
 use Rattle.node_arena.specs.Plans.{Layout, RolesPermit, PermitsLine}
 use Rattle.node_arena.specs.Rule.{SawAt, StaysLooked, Fits, IsNew, Holds, notes_of, SaysOfSeen, Steps, Tells, line_or_first}
@@ -63,7 +63,7 @@ pub one_of : (v u : SeatView) (i : ℕ) → get_elem? (v ∷ []) i ≡ some u �
 one_of v u zero e = (refl, some-injective v u e)
 one_of v u (suc i) e = absurd (some-ne-none u (sym e))
 
-apart : (z : Layout) (s : State ℕ View) (h : Holds z s) (id : ℕ) (v : SeatView) → get_elem? s.views id ≡ some (seated v)
+abbrev pub apart : (z : Layout) (s : State ℕ View) (h : Holds z s) (id : ℕ) (v : SeatView) → get_elem? s.views id ≡ some (seated v)
     → (j i : ℕ) (u : View) (o : SeatView) → j ≢ id → get_elem? s.views j ≡ some u → get_elem? (members u) i ≡ some o → o.number ≢ v.number
 apart z s h id v mine j i u o ne there which same = ne (ap (λ (y : ℕ × ℕ). y.0) (sym (h.owned j i u o there which).0 ∙ (ap h.owner same ∙ (h.owned id 0 (seated v) v mine refl).0)))
 
@@ -79,7 +79,7 @@ pub record Goes (z : Layout) (s : State ℕ View) (h : Holds z s) (v v' : SeatVi
   pub others : (o : SeatView) → o.number ≢ v.number → Fits h.trace o → Fits t o
   pub new : (n : ℕ) → n ≢ v.number → IsNew h.trace n → IsNew t n
 
-pub one_seat : (z : Layout) (s : State ℕ View) (h : Holds z s) (id : ℕ) (v v' : SeatView) (words : List ℕ) (t : Traced) → get_elem? s.views id ≡ some (seated v) → Goes z s h v v' words t
+abbrev pub one_seat : (z : Layout) (s : State ℕ View) (h : Holds z s) (id : ℕ) (v v' : SeatView) (words : List ℕ) (t : Traced) → get_elem? s.views id ≡ some (seated v) → Goes z s h v v' words t
     → Holds z record { words = words; homes = s.homes; views = set s.views id (seated v') }
 one_seat z s h id v v' words t mine g =
     let P : ℕ → ℕ → SeatView → Type 0 = λ j i u. Fits t u × (h.owner u.number ≡ (j, i)) × (u.number < h.dealt) in
@@ -111,72 +111,72 @@ one_seat z s h id v v' words t mine g =
 -- the seat's step at a line, where its actor is led there
 module _ (z : Layout) (s : State ℕ View) (h : Holds z s) (id : ℕ) (v : SeatView) (mine : get_elem? s.views id ≡ some (seated v)) (prologue : Prologue) (l : Line)
     (can : CanStart prologue v.actor) (line : (after_prologue z.setup v.number prologue v.actor).line ≡ Some l) (role : Role) (its : slice_get z.roles (v.number - 1) ≡ Some role) (permits : PermitsLine role l) where
-  abbrev a : Actor
+  abbrev pub a : Actor
   a = after_prologue z.setup v.number prologue v.actor
 
-  abbrev fit : Fits h.trace v
+  abbrev pub fit : Fits h.trace v
   fit = h.fits id 0 (seated v) v mine refl
 
-  abbrev led_there : (u : Traced) × IsTraced u × Led h.trace u v.number a
+  abbrev pub led_there : (u : Traced) × IsTraced u × Led h.trace u v.number a
   led_there = let g = prologue_traced h.trace v.number v.actor prologue h.reached fit.actor can in (g.0, g.1, subst (λ x. Led h.trace g.0 v.number (after_prologue x v.number prologue v.actor)) h.setup g.2)
 
-  abbrev u : Traced
+  abbrev pub u : Traced
   u = led_there.0
 
-  abbrev f : Led h.trace u v.number a
+  abbrev pub f : Led h.trace u v.number a
   f = led_there.2
 
-  abbrev t : Traced
+  abbrev pub t : Traced
   t = step_at u v.number a l
 
-  setup : u.world.setup ≡ z.setup
+  pub setup : u.world.setup ≡ z.setup
   setup = f.setup ∙ h.setup
 
-  abbrev es : List Entry
+  abbrev pub es : List Entry
   es = entries_at z.setup u v.number a l
 
-  history_is : t.history ≡ h.trace.history ++ es
+  pub history_is : t.history ≡ h.trace.history ++ es
   history_is = (λ i. f.history i ++ entries_at (setup i) u v.number a l)
 
-  abbrev v' : SeatView
+  abbrev pub v' : SeatView
   v' = record { number = v.number; actor = actor_at z.setup u v.number a l; path = v.path ++ event_at z.setup u v.number a l ∷ []; seen = if sees l then t.history else v.seen; mine = v.mine ++ es; notes = v.notes ++ notes_of (outcome_at z.setup u v.number a l).reply (if sees l then t.history else v.seen); looked = v.looked }
 
-  reached : IsTraced t
+  pub reached : IsTraced t
   reached = step_traced u v.number a l led_there.1 f.here line
 
-  here : actor_of t.world v.number ≡ Some v'.actor
+  pub here : actor_of t.world v.number ≡ Some v'.actor
   here = step_here u v.number a l f.here ∙ ap (λ x. Some (actor_at x u v.number a l)) setup
 
-  path_before : u.paths v.number ≡ v.path
+  pub path_before : u.paths v.number ≡ v.path
   path_before = ap (λ p. p v.number) f.paths ∙ fit.path
 
-  quiet : sees l ≡ false → es ≡ []
+  pub quiet : sees l ≡ false → es ≡ []
   quiet = silent z.setup v.number a l (found (action z.setup v.number a l) u.world.shared)
 
-  parts : t.history ≡ (v.seen ++ fit.rest) ++ es
+  pub parts : t.history ≡ (v.seen ++ fit.rest) ++ es
   parts = history_is ∙ ap (λ hs. hs ++ es) fit.begins
 
-  own : own_entries v.number t.history ≡ v.mine ++ es
+  pub own : own_entries v.number t.history ≡ v.mine ++ es
   own = ap (own_entries v.number) history_is ∙ (filter-append (λ e. nat_eq (seat_of e) v.number) h.trace.history es ∙ (λ i. fit.own i ++ own_added z.setup u v.number a l i))
 
-  whole : sees l ≡ true → v'.seen ≡ t.history
+  pub whole : sees l ≡ true → v'.seen ≡ t.history
   whole = whole_by v.seen fit.rest es t.history parts (sees l)
 
-  stays : sees l ≡ false → v'.seen ≡ v.seen
+  pub stays : sees l ≡ false → v'.seen ≡ v.seen
   stays = stays_by v.seen fit.rest es t.history parts (sees l)
 
-  seen : v'.seen ≡ v.seen ++ (between v.seen fit.rest es t.history parts (sees l) ++ es)
+  pub seen : v'.seen ≡ v.seen ++ (between v.seen fit.rest es t.history parts (sees l) ++ es)
   seen = seen_is v.seen fit.rest es t.history parts (sees l) quiet ∙ append_assoc v.seen (between v.seen fit.rest es t.history parts (sees l)) es
 
   -- what the actor found before its step, in what its seat has seen after it
-  saw : sees l ≡ false → SawAt u v'.seen a (Some l) a.due
+  pub saw : sees l ≡ false → SawAt u v'.seen a (Some l) a.due
   saw e = subst (λ (y : List Entry × Option Line). SawAt u y.0 a y.1 a.due) (λ i. (sym (stays e) i, line i)) (saw_led h.trace u v.seen z.setup v.number prologue v.actor (let c = ap (λ m. m.head.count) f.shared in omega arith) f.setup fit.saw)
 
   -- what its reply says of the queue
-  says : SaysOfSeen l (outcome_at u.world.setup u v.number a l).reply v'.seen
+  pub says : SaysOfSeen l (outcome_at u.world.setup u v.number a l).reply v'.seen
   says = says_after u v.number a v'.seen l led_there.1 f.here line whole saw
 
-  noted : All (IsNoted v'.seen) v'.notes
+  pub noted : All (IsNoted v'.seen) v'.notes
   noted =
       All-append (IsNoted v'.seen) v.notes _
       (subst (λ es. All (IsNoted es) v.notes) (sym seen) (All-weaker (IsNoted v.seen) _ (noted_more v.seen _) v.notes fit.noted))
@@ -186,7 +186,7 @@ module _ (z : Layout) (s : State ℕ View) (h : Holds z s) (id : ℕ) (v : SeatV
   looked : (x : Option Looked) → IfSome x (StaysLooked h.trace) → IfSome x (StaysLooked t)
   looked x k = IfSome_then x k (λ y stays. looked_after u v.number a l led_there.1 f.here line y (looked_same h.trace u y f.shared f.setup stays))
 
-  me : Fits t v'
+  pub me : Fits t v'
   me = record {
     actor = here;
     path = changed_here u.paths v.number _ ∙ (λ i. path_before i ++ event_at (setup i) u v.number a l ∷ []);
@@ -200,10 +200,10 @@ module _ (z : Layout) (s : State ℕ View) (h : Holds z s) (id : ℕ) (v : SeatV
   }
 
   -- Head's count doesn't fall
-  rises : h.trace.world.shared.head.count ≤ t.world.shared.head.count
+  pub rises : h.trace.world.shared.head.count ≤ t.world.shared.head.count
   rises = omega (arith, counts_pops h.trace h.reached, counts_pops t reached, ap (count_by is_pop) history_is, sum_by-append (λ e. if is_pop e then 1 else 0) h.trace.history es)
 
-  others : (o : SeatView) → o.number ≢ v.number → Fits h.trace o → Fits t o
+  pub others : (o : SeatView) → o.number ≢ v.number → Fits h.trace o → Fits t o
   others o ne g = record {
     actor = step_else u v.number a l o.number f.here ne ∙ (f.others o.number ne ∙ g.actor);
     path = changed_else u.paths v.number _ o.number ne ∙ (ap (λ p. p o.number) f.paths ∙ g.path);
@@ -216,20 +216,20 @@ module _ (z : Layout) (s : State ℕ View) (h : Holds z s) (id : ℕ) (v : SeatV
     looked = looked o.looked g.looked;
   }
 
-  new : (n : ℕ) → n ≢ v.number → IsNew h.trace n → IsNew t n
+  pub new : (n : ℕ) → n ≢ v.number → IsNew h.trace n → IsNew t n
   new n ne g = record {
     actor = step_else u v.number a l n f.here ne ∙ (f.others n ne ∙ g.actor);
     path = changed_else u.paths v.number _ n ne ∙ (ap (λ p. p n) f.paths ∙ g.path);
     own = ap (own_entries n) history_is ∙ (filter-append (λ e. nat_eq (seat_of e) n) h.trace.history es ∙ (λ i. g.own i ++ none_added z.setup u v.number n a l ne i));
   }
 
-  permitted : All (RolesPermit z.roles) t.history
+  pub permitted : All (RolesPermit z.roles) t.history
   permitted = subst (All (RolesPermit z.roles)) (sym history_is) (All-append (RolesPermit z.roles) h.trace.history es h.permitted (permitted_added z.setup z.roles u v.number a l role (mover_in_range u.world v.number a f.here).0 its permits))
 
-  same_words : memory_words z.setup.bits u.world.shared ≡ shared_words s.words
+  pub same_words : memory_words z.setup.bits u.world.shared ≡ shared_words s.words
   same_words = ap (memory_words z.setup.bits) f.shared ∙ sym h.words
 
-  words_after : (x : WordStep) → word_step z.setup.bits (action z.setup v.number a l) ≡ x → memory_words z.setup.bits t.world.shared ≡ set (shared_words s.words) (word_index x) (becomes x (get_or (shared_words s.words) (word_index x) 0))
+  pub words_after : (x : WordStep) → word_step z.setup.bits (action z.setup v.number a l) ≡ x → memory_words z.setup.bits t.world.shared ≡ set (shared_words s.words) (word_index x) (becomes x (get_or (shared_words s.words) (word_index x) 0))
   words_after x is =
       ap (λ (y : Setup). memory_words y.bits t.world.shared) (sym setup) ∙
       accesses_are_one_step u.world (traced_reached u led_there.1) (each_access_names_a_word u.world (traced_reached u led_there.1)) v.number a l f.here line ∙
@@ -238,21 +238,21 @@ module _ (z : Layout) (s : State ℕ View) (h : Holds z s) (id : ℕ) (v : SeatV
       table_after-set x (shared_words s.words)
 
   -- the access is that of a word, which is read and written at its place
-  in_table : (x : WordStep) → word_step z.setup.bits (action z.setup v.number a l) ≡ x → word_index x < length s.words - 42
+  pub in_table : (x : WordStep) → word_step z.setup.bits (action z.setup v.number a l) ≡ x → word_index x < length s.words - 42
   in_table x is =
       let named = index_within z v.number a l (record { trace = u; reached = led_there.1; setup = setup; here = f.here; line = line }) in
       omega (arith, named, ap word_index is, words_there z s h, length-shared_words s.words)
 
-  read : (x : WordStep) → word_step z.setup.bits (action z.setup v.number a l) ≡ x → get_or (shared_words s.words) (word_index x) 0 ≡ get_or s.words (place (word_index x)) 0
+  pub read : (x : WordStep) → word_step z.setup.bits (action z.setup v.number a l) ≡ x → get_or (shared_words s.words) (word_index x) 0 ≡ get_or s.words (place (word_index x)) 0
   read x is = get_or-shared_words s.words (word_index x) (in_table x is)
 
-  written : (x : WordStep) → word_step z.setup.bits (action z.setup v.number a l) ≡ x → shared_words (set s.words (place (word_index x)) (becomes x (get_or s.words (place (word_index x)) 0))) ≡ memory_words z.setup.bits t.world.shared
+  pub written : (x : WordStep) → word_step z.setup.bits (action z.setup v.number a l) ≡ x → shared_words (set s.words (place (word_index x)) (becomes x (get_or s.words (place (word_index x)) 0))) ≡ memory_words z.setup.bits t.world.shared
   written x is =
       shared_words-set s.words (word_index x) _ (in_table x is) ∙
       (ap (λ n. set (shared_words s.words) (word_index x) (becomes x n)) (sym (read x is)) ∙
       sym (words_after x is))
 
-  goes : (x : WordStep) → word_step z.setup.bits (action z.setup v.number a l) ≡ x → Goes z s h v v' (set s.words (place (word_index x)) (becomes x (get_or s.words (place (word_index x)) 0))) t
+  pub goes : (x : WordStep) → word_step z.setup.bits (action z.setup v.number a l) ≡ x → Goes z s h v v' (set s.words (place (word_index x)) (becomes x (get_or s.words (place (word_index x)) 0))) t
   goes x is = record {
     reached = reached;
     setup = setup;
@@ -266,14 +266,14 @@ module _ (z : Layout) (s : State ℕ View) (h : Holds z s) (id : ℕ) (v : SeatV
   }
 
   -- what was found is what the actor's access finds
-  found_is : (x : WordStep) → word_step z.setup.bits (action z.setup v.number a l) ≡ x → get_or s.words (place (word_index x)) 0 ≡ number_at z.setup u v.number a l
+  pub found_is : (x : WordStep) → word_step z.setup.bits (action z.setup v.number a l) ≡ x → get_or s.words (place (word_index x)) 0 ≡ number_at z.setup u v.number a l
   found_is x is =
       sym (read x is) ∙
       (λ i. get_or (sym same_words i) (word_index (sym is i)) 0) ∙
       ap (λ p. get_or (memory_words z.setup.bits u.world.shared) p 0) (place-word_step z.setup.bits (action z.setup v.number a l)) ∙
       reading z.setup.bits u.world.shared (word (action z.setup v.number a l)) (subst (λ y. IsWord u.world.shared (word (action y v.number a l))) setup (each_access_names_a_word u.world (traced_reached u led_there.1) v.number a l f.here line))
 
-  steps_told : (x : WordStep) → word_step z.setup.bits (action z.setup v.number a l) ≡ x → Steps z prologue l (get_or s.words (place (word_index x)) 0) v v'
+  pub steps_told : (x : WordStep) → word_step z.setup.bits (action z.setup v.number a l) ≡ x → Steps z prologue l (get_or s.words (place (word_index x)) 0) v v'
   steps_told x is = record {
     sized = h.sized;
     was = u;
@@ -302,7 +302,7 @@ module _ (z : Layout) (s : State ℕ View) (h : Holds z s) (id : ℕ) (v : SeatV
   }
 
 -- every line and every form of access at once
-allows_seated : (z : Layout) (id : ℕ) (v : SeatView) (prologue : Prologue) (l : Line) (x : WordStep) (role : Role) → CanStart prologue v.actor → (after_prologue z.setup v.number prologue v.actor).line ≡ Some l → slice_get z.roles (v.number - 1) ≡ Some role → PermitsLine role l → word_step z.setup.bits (action z.setup v.number (after_prologue z.setup v.number prologue v.actor) l) ≡ x
+pub allows_seated : (z : Layout) (id : ℕ) (v : SeatView) (prologue : Prologue) (l : Line) (x : WordStep) (role : Role) → CanStart prologue v.actor → (after_prologue z.setup v.number prologue v.actor).line ≡ Some l → slice_get z.roles (v.number - 1) ≡ Some role → PermitsLine role l → word_step z.setup.bits (action z.setup v.number (after_prologue z.setup v.number prologue v.actor) l) ≡ x
     → Allows {S = ℕ} (Holds z) 0 id (seated v, []) (place (word_index x)) (becomes x) (λ n m. Tells z prologue (seated v, []) n m)
 allows_seated z id v prologue l x role can line its permits is s h empty mine small = (
   seated (v' z s h id v mine prologue l can line role its permits),
@@ -311,11 +311,3 @@ allows_seated z id v prologue l x role can line its permits is s h empty mine sm
   one_seat z s h id v (v' z s h id v mine prologue l can line role its permits) (set s.words (place (word_index x)) (becomes x (get_or s.words (place (word_index x)) 0))) (t z s h id v mine prologue l can line role its permits) mine (goes z s h id v mine prologue l can line role its permits x is),
   (refl, subst (λ (k : Line). Steps z prologue k (get_or s.words (place (word_index x)) 0) v (v' z s h id v mine prologue l can line role its permits)) (sym (ap line_or_first line)) (steps_told z s h id v mine prologue l can line role its permits x is)),
 )
-
--- the same at the names of a call: its table says the number of slots, and its seat the view
-pub allows : (z key : Layout) (slots id : ℕ) (me : Me ℕ View) (prologue : Prologue) (l : Line) (x : WordStep) (role : Role) → key ≡ z → slots ≡ 0 → me ≡ (seated (knows me.0), [])
-    → CanStart prologue (knows me.0).actor → (after_prologue z.setup (knows me.0).number prologue (knows me.0).actor).line ≡ Some l → slice_get z.roles ((knows me.0).number - 1) ≡ Some role → PermitsLine role l → word_step z.setup.bits (action z.setup (knows me.0).number (after_prologue z.setup (knows me.0).number prologue (knows me.0).actor) l) ≡ x
-    → Allows {S = ℕ} (Holds key) slots id me (place (word_index x)) (becomes x) (λ n m. Tells key prologue me n m)
-allows z key slots id me prologue l x role same none is can line its permits acts =
-    let P : Layout × ℕ × Me ℕ View → Type 0 = λ y. Allows {S = ℕ} (Holds y.0) y.1 id y.2 (place (word_index x)) (becomes x) (λ n m. Tells y.0 prologue y.2 n m) in
-    subst P (λ i. (sym same i, sym none i, sym is i)) (allows_seated z id (knows me.0) prologue l x role can line its permits acts)

@@ -1,5 +1,5 @@
 -- The end of an arena: the words that its table held then, and what is left by these.
-use Rattle.std.specs.Prelude.{◌≡◌, ◌≤◌, ℕ, List, [], vec_capacity}
+use Rattle.std.specs.Prelude.{◌≡◌, ◌≤◌, ℕ, List, [], Option, vec_capacity}
 use Rattle.std.specs.Global.{Vec, Global}
 use Rattle.std.specs.Slots.{slots_items}
 use Rattle.atomic_table.specs.Seated.{TableId}
@@ -17,7 +17,7 @@ abbrev pub ended_id : Ended → TableId
 ended_id e = e.token.table_id
 
 -- the table that ended
-abbrev pub closed_of : Ended → Closed ℕ Global
+abbrev pub closed_of : Ended → Closed (Option (Unit {0})) Global
 closed_of e = e.closed
 
 -- the shared words as the table held them at its end

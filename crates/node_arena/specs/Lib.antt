@@ -5,7 +5,14 @@ pub mod Seeing
 pub mod Places
 pub mod Plans
 pub mod Rule
+pub mod Deeds
+pub mod Slots
+pub mod Riding
+pub mod Beside
 pub mod Seats
+pub mod Loads
+pub mod Hands
+pub mod Moves
 pub mod Making
 pub mod Remains
 pub mod Ended

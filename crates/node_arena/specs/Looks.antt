@@ -17,7 +17,7 @@ use Rattle.node_arena.specs.Traces.{Traced, IsTraced}
 use Rattle.node_arena.specs.Seeing.{SeatView, Looked}
 use Rattle.node_arena.specs.Plans.{Layout}
 use Rattle.node_arena.specs.Rule.{StaysLooked}
-use Rattle.node_arena.specs.Seats.{IsReady, KeepsStored, view}
+use Rattle.node_arena.specs.Seats.{IsReady, KeepsStored, KeepsSlots, SeesMoreDeeds, carries_of, view}
 
 -- Head and Tail of a traced world
 abbrev pub looked_in : Traced → Looked
@@ -36,14 +36,16 @@ pub record LooksAt (z : Layout) (word n : ℕ) (v v' : SeatView) : Type 0 where
   pub knows : v' ≡ record v { seen = was.history; looked = Some (looked_in was) }
   pub since : IfSome v.looked (StaysLooked was)
 
--- a seat looked at a word of its arena, and found this number
-pub record Looks (r : Arena) (s s' : Seat) (word n : ℕ) : Type 0 where
+-- a seat looked at a word of its arena, and found this number: no slot moved, and what it has seen of values goes on
+pub record Looks {T : Type 0} (r : Arena) (s s' : Seat T) (word n : ℕ) : Type 0 where
   pub ready : IsReady r s'
   pub stored : KeepsStored s s'
   pub told : LooksAt r.plan word n (view s) (view s')
+  pub slots : KeepsSlots s s'
+  pub values : carries_of r ≡ true → SeesMoreDeeds s s'
 
--- at some moment of a call this was the history: it begins with what the seat had seen before the call, and what the seat has
--- seen after it begins with this
+-- a history no older than what a seat had seen before a call: it begins with that, and what the seat has seen after the call
+-- begins with it
 pub record WasMeanwhile (k : Known) (now : List Entry) (k' : Known) : Type 0 where
   pub more : SeesMore k k'
   pub begins : IsPrefix k.seen now
@@ -61,8 +63,8 @@ pub record SawPops (k k' : Known) : Type 0 where
   pub more : SeesMore k k'
   pub pops : count_by is_pop k.seen < count_by is_pop k'.seen
 
--- the queue was found so: at some moment of the call it was empty and not shut, empty and shut, or held a value; or, where Head
--- moved, pops took effect
+-- the queue was found so: after a history no older than what the seat had seen it was empty and not shut, empty and shut, or
+-- held a value; or, where Head moved, pops took effect
 abbrev pub FoundSo : Known → Emptiness → Known → Type 0
 FoundSo k Empty k' = (now : List Entry) × WasMeanwhile k now k' × LeadsTo now []
 FoundSo k ShutEmpty k' = (now : List Entry) × WasMeanwhile k now k' × Leads now true []
@@ -76,8 +78,8 @@ behind_tail true true shut = (0, 0)
 behind_tail true false true = (0, 0)
 behind_tail true false false = (1, 1)
 
--- the queue's length was between these bounds at some moment of the call; they are no further apart than the pops that took
--- effect meanwhile, and one
+-- the queue's length was between these bounds after a history no older than what the seat had seen; they are no further apart
+-- than the pops that took effect meanwhile, and one
 pub record WasSoLong (k : Known) (len : Len) (k' : Known) : Type 0 where
   pub now : List Entry
   pub meanwhile : WasMeanwhile k now k'

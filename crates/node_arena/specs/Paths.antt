@@ -52,26 +52,26 @@ pub record FindsShutEmpty (v v' : SeatView) (lines : List Event) : Type 0 where
   pub found : FoundShutEmpty (known_by v) (known_by v')
 
 -- what a call added to its seat's path
-abbrev pub added : Seat → Seat → List Event
+abbrev pub added : {T : Type 0} → Seat T → Seat T → List Event
 added s t = drop (length (view s).path) (view t).path
 
 -- a call had no effect: its seat's path has the lines added, its own entries and its notes are as they were, and what it
 -- has seen is only longer
-abbrev pub HadNoEffect : Seat → Seat → Type 0
+abbrev pub HadNoEffect : {T : Type 0} → Seat T → Seat T → Type 0
 HadNoEffect s t = ExtendsPath (view s) (view t) (added s t)
 
 -- a push or a shut was refused so: it found the queue shut, or had no effect
-abbrev pub StopsAPush : Seat → Seat → Refusal → Type 0
+abbrev pub StopsAPush : {T : Type 0} → Seat T → Seat T → Refusal → Type 0
 StopsAPush s t Closed = FindsShut (view s) (view t) (added s t)
 StopsAPush s t refusal = HadNoEffect s t
 
 -- a pop was refused so: it found the queue shut and empty, or had no effect
-abbrev pub StopsAPop : Seat → Seat → Refusal → Type 0
+abbrev pub StopsAPop : {T : Type 0} → Seat T → Seat T → Refusal → Type 0
 StopsAPop s t Closed = FindsShutEmpty (view s) (view t) (added s t)
 StopsAPop s t refusal = HadNoEffect s t
 
 -- what a seat has seen is as it was
-abbrev pub SeesNoMore : Seat → Seat → Type 0
+abbrev pub SeesNoMore : {T : Type 0} → Seat T → Seat T → Type 0
 SeesNoMore s t = (view t).seen ≡ (view s).seen
 
 -- the last of some lines was a failed turn
@@ -82,7 +82,7 @@ pub record FailedAt (es : List Event) : Type 0 where
   pub failed : failed_at last.line last.to ≡ 1
 
 -- a call's last step was a failed turn
-abbrev pub EndsFailed : Seat → Seat → Type 0
+abbrev pub EndsFailed : {T : Type 0} → Seat T → Seat T → Type 0
 EndsFailed s t = FailedAt (added s t)
 
 -- a node is in this seat's hand, held by nobody else, and neither in the queue nor free
@@ -94,7 +94,7 @@ pub record IsSole (w : World) (me node : ℕ) : Type 0 where
 
 -- the moment after a call's last step: a traced world of the arena, which moves lead to, in which the seat's actor and path
 -- are as the seat knows them, and of which this holds
-pub record NowHolds (r : Arena) (t : Seat) (P : World → Type 0) : Type 0 where
+pub record NowHolds {T : Type 0} (r : Arena) (t : Seat T) (P : World → Type 0) : Type 0 where
   pub now : Traced
   pub reached : IsTraced now
   pub setup : now.world.setup ≡ r.plan.setup
@@ -105,7 +105,7 @@ pub record NowHolds (r : Arena) (t : Seat) (P : World → Type 0) : Type 0 where
 
 -- the last of some lines was a step of the seat's actor: in a traced world of the arena, which moves lead to, with the path
 -- so far; the line tells what that step made of that world, and this held of the world, the actor and the line
-pub record EndedAt (r : Arena) (s : Seat) (es : List Event) (P : Traced → Actor → Line → Type 0) : Type 0 where
+pub record EndedAt {T : Type 0} (r : Arena) (s : Seat T) (es : List Event) (P : Traced → Actor → Line → Type 0) : Type 0 where
   pub was : Traced
   pub reached : IsTraced was
   pub setup : was.world.setup ≡ r.plan.setup
@@ -120,7 +120,7 @@ pub record EndedAt (r : Arena) (s : Seat) (es : List Event) (P : Traced → Acto
   pub held : P was actor line
 
 -- at a call's last step this held before it
-abbrev pub LastHeld : Arena → Seat → Seat → (Traced → Actor → Line → Type 0) → Type 0
+abbrev pub LastHeld : {T : Type 0} → Arena → Seat T → Seat T → (Traced → Actor → Line → Type 0) → Type 0
 LastHeld r s t P = EndedAt r s (added s t) P
 
 -- a world has the cause for an actor's step to refuse; where a `next` is worn out, it is that of the actor's own node
@@ -133,5 +133,5 @@ abbrev pub IsRefusedAt : Setup → (me : ℕ) → Refusal → Traced → Actor �
 IsRefusedAt z me refusal t a l = ((outcome_at z t me a l).reply ≡ Some (Refused refusal)) × HasOwnCause t.world me refusal
 
 -- a call's last step was refused so, and met the cause
-abbrev pub MetCause : Arena → Seat → Seat → Refusal → Type 0
+abbrev pub MetCause : {T : Type 0} → Arena → Seat T → Seat T → Refusal → Type 0
 MetCause r s t refusal = LastHeld r s t (IsRefusedAt r.plan.setup (view s).number refusal)

@@ -1,5 +1,5 @@
 -- What an arena is made for: its setup, and the role of each seat.
-use Rattle.std.specs.Prelude.{◌≡◌, ◌+◌, ◌*◌, Bool, true, false, IsTrue, List, length, map}
+use Rattle.std.specs.Prelude.{◌≡◌, ◌+◌, ◌*◌, ℕ, if◌then◌else◌, Bool, true, false, IsTrue, List, length, map}
 use Rattle.atomic_table.specs.Seated.{TableId}
 use Rattle.line_table.specs.declared.lines.Line.{Line}
 use Rattle.line_table.specs.declared.lines.Line.TheVariants.{E9, D13, A5, B5, S4, S8}
@@ -11,10 +11,12 @@ use Rattle.step_machine.specs.Machine.{IsSized}
 use Rattle.node_arena.specs.declared.roles.Role.{Role}
 use Rattle.node_arena.specs.declared.roles.Role.TheVariants.{Giver, Taker, Both}
 
--- the plan of an arena: the kind of queue, how many nodes and the greatest count, and the roles of the seats from 1 on
+-- the plan of an arena: the kind of queue, how many nodes and the greatest count, the roles of the seats from 1 on, and
+-- whether it carries values: each number pushed is then that of the slot in which its value lies
 pub record Layout : Type 0 where
   pub setup : Setup
   pub roles : List Role
+  pub carries : Bool
 
 -- whether a role may push
 abbrev pub may_push : Role → Bool
@@ -54,9 +56,13 @@ RolesPermit roles e = seats.IsPermitted (permits_by roles) e
 abbrev pub IsPlanned : Layout → Type 0
 IsPlanned z = IsSized z.setup (length z.roles)
 
+-- how many slots there are: one a node, where values are carried
+abbrev pub slots_of : Layout → ℕ
+slots_of z = if z.carries then z.setup.size else 0
+
 -- a table, made about a plan, is laid out for it
 pub record IsTable (z about : Layout) (t : TableId) : Type 0 where
   pub sized : IsPlanned z
   pub key : about ≡ z
-  pub words : t.words ≡ 48 + 2 * z.setup.size
-  pub slots : t.slots ≡ 0
+  pub words : t.words ≡ 48 + 2 * z.setup.size + slots_of z
+  pub slots : t.slots ≡ slots_of z

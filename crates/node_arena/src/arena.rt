@@ -9,15 +9,15 @@ use step_machine::Setup;
 /// The shared words of a queue, in each reference `B` bits, 16 to 32, for the number of the node and the others for the
 /// count. Threads share it by reference, each with a seat of its own.
 #[derive(Drop)]
-pub struct ArenaOf<const B: u32> {
-    pub(crate) table: WordTable,
+pub struct ArenaOf<const B: u32, T = ()> {
+    pub(crate) table: WordTable<T>,
     pub(crate) plan: Plan,
 }
 
 /// An arena with 24 bits for the number of a node: up to `MOST_NODE` nodes, and counts up to `MOST_COUNT`.
 pub type Arena = ArenaOf<24>;
 
-impl<const B: u32> Model for ArenaOf<B> {
+impl<const B: u32, T> Model for ArenaOf<B, T> {
     ghost use Rattle.std.specs.Prelude.{◌≡◌};
     ghost use Rattle.node_arena.specs.Arenas.{Arena as Arenas};
     ghost use Rattle.node_arena.specs.Plans.{IsTable};
@@ -29,7 +29,7 @@ impl<const B: u32> Model for ArenaOf<B> {
     ghost invariant = { λ a. IsTable a.plan a.table.shared.key a.table.shared.table_id × (a.plan.setup.bits ≡ B) };
 }
 
-impl<const B: u32> ArenaOf<B> {
+impl<const B: u32, T> ArenaOf<B, T> {
     ghost use Rattle.counted_ref.specs.Ref.{IsSplit};
     ghost use Rattle.node_arena.specs.Seats.{setup_of};
 

@@ -1,8 +1,8 @@
 //! The end of an arena.
-ghost use Rattle.std.specs.Prelude.{◌≡◌, ◌<◌, nat_lt, [], map, IfOk, IfErr};
+ghost use Rattle.std.specs.Prelude.{◌≡◌, ◌<◌, false, nat_lt, [], map, IfOk, IfErr};
 ghost use Rattle.std.specs.List.{All};
 ghost use Rattle.history.specs.Closing.{pushes_of, pops_of, shuts_of, Closes};
-ghost use Rattle.node_arena.specs.Seats.{view, known_of, permits_of, IsReady};
+ghost use Rattle.node_arena.specs.Seats.{view, known_of, permits_of, carries_of, HasNoSlot, IsReady};
 ghost use Rattle.node_arena.specs.Closing.{HasToken, HasGathered, CountsItsOwn};
 ghost use Rattle.node_arena.specs.Ended.{HasRoomFor, Leaves};
 
@@ -100,6 +100,8 @@ impl<const B: u32> ArenaOf<B> {
     pub fn close_with(self, room: Vec<Taken>, seats: Vec<Seat>) -> (Rest, Ended)
         requires room { HasRoomFor self room }
         requires seats { All (IsReady self) seats.items }
+        requires apart { All HasNoSlot seats.items }
+        requires numbers { carries_of self ≡ false }
         //= atomics/rest (rest, ends): A closed arena tells of its rest what `Close::close_with` does. The values left are
         //=   those of the chain from Head on in the words of the `Ended` that comes with it, and Head's count there is how
         //=   many were taken, whichever seats are handed in. It has a token of this arena's table; that the words are that

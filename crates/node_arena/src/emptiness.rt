@@ -2,26 +2,26 @@
 use crate::arena::ArenaOf;
 use crate::seats::Seat;
 
-/// What a seat found that looked whether its queue is empty.
+/// What a seat found that looked whether its queue is empty, of a moment no older than what it had seen before.
 #[derive(Clone, Copy, Debug, PartialEq, Eq)]
 pub enum Emptiness {
-    /// At some moment of the call it held no value, and wasn't shut.
+    /// At that moment it held no value, and wasn't shut.
     Empty,
-    /// At some moment of the call it held no value, and was shut: nothing comes any more.
+    /// At that moment it held no value, and was shut: nothing comes any more.
     ShutEmpty,
-    /// At some moment of the call it held a value at least.
+    /// At that moment it held a value at least.
     Holds,
     /// Pops took effect while the seat looked, so it saw no such moment.
     Moved,
 }
 
-impl<const B: u32> ArenaOf<B> {
+impl<const B: u32, T> ArenaOf<B, T> {
     ghost use Rattle.node_arena.specs.Seats.{IsReady, KeepsStored, known_of};
     ghost use Rattle.node_arena.specs.Looks.{FoundSo};
 
     /// Whether the queue is empty, by three looks of a seat in no call: at Head, at what follows its node, and at Head
     /// again. Takes no memory and doesn't wait.
-    pub fn emptiness(&self, seat: &mut Seat) -> Emptiness
+    pub fn emptiness(&self, seat: &mut Seat<T>) -> Emptiness
         requires { IsReady self.now seat.old }
         ensures ready { IsReady self.now seat.new }
         ensures stored { KeepsStored seat.old seat.new }

@@ -9,7 +9,7 @@ use std::alloc::Global;
 /// The table of an arena, once no thread shares it any more, with a token of that table, so that it can't be taken for
 /// another one. `of` alone makes one.
 pub struct Ended {
-    closed: Closed<u8, Global>,
+    closed: Closed<Option<()>, Global>,
     token: SeatToken,
     ghost full: { IsFull closed.words },
     ghost none: { slots_len closed.slots ≡ 0 },
@@ -17,7 +17,7 @@ pub struct Ended {
 
 impl Ended {
     ghost use Rattle.atomic_table.specs.Table.{Final, Seen};
-    ghost use Rattle.node_arena.specs.Rule.{Holds};
+    ghost use Rattle.node_arena.specs.Beside.{HoldsFor};
     ghost use Rattle.node_arena.specs.Ended.{ended_id, closed_of};
 
     /// The end of a table, whose last state has the view of a token. Takes no memory.
@@ -26,7 +26,8 @@ impl Ended {
         requires slots { table.shared.table_id.slots ≡ 0 }
         requires gatherer { gatherer.table_id ≡ table.shared.table_id }
         ensures id { ended_id result ≡ table.shared.table_id }
-        ensures values { Final (Seen (Holds table.shared.key) gatherer.id gatherer.me.0)
+        ensures words { slots_len (closed_of result).words ≡ table.shared.table_id.words }
+        ensures values { Final (Seen (HoldsFor table.shared.key) gatherer.id gatherer.me.0)
             (slots_items (closed_of result).words) (slots_items (closed_of result).slots) }
     {
         let shared = &table.shared;
@@ -38,7 +39,7 @@ impl Ended {
     }
 
     /// The words. Takes no memory.
-    pub(crate) fn closed(&self) -> &Closed<u8, Global>
+    pub(crate) fn closed(&self) -> &Closed<Option<()>, Global>
         ensures closed { result.now ≡ closed_of self.now }
         ensures full { IsFull result.now.words }
     {

@@ -7,6 +7,9 @@ ghost use Rattle.node_arena.specs.declared.seats.Seat.{Seat};
 ghost use Rattle.node_arena.specs.Seats.{EachSeatIsSound, IsSeat, IsReady};
 ghost use Rattle.node_arena.specs.Moments.{EachMomentIsLinearizable};
 ghost use Rattle.node_arena.specs.Causes.{TakersMeetNoCause};
+ghost use Rattle.node_arena.specs.Hands.{EachSeatKnowsValues};
+ghost use Rattle.node_arena.specs.Moves.{QuietStepsMoveNone, PushesGiveTheirSlot, PopsTakeTheirSlot};
+ghost use Rattle.node_arena.specs.Moves.{ShutsMoveNone};
 
 /// Between any two atomic steps of any threads, whichever of them stopped and also where nodes are used again: a list of
 /// begins, steps, give moves and rests leads from the opening world of the arena's setup to one with exactly the shared
@@ -56,23 +59,44 @@ pub fn what_d4_found_stays_noted()
 /// What a seat of an arena knows is sound, before and after each call: what it has seen is the history of a
 /// first-in-first-out list, each entry of it is permitted by its maker's role, and the seat's own entries are just those
 /// that it has seen. After as many of them as each of its notes says the queue was empty, or shut.
-pub fn what_a_seat_knows_is_sound()
+pub fn what_a_seat_knows_is_sound<T>()
     //= atomics/sound: At any time what a seat knows is *sound*.
-    ensures { EachSeatIsSound }
+    ensures { EachSeatIsSound T }
 {}
 
 /// That a seat is an arena's has at most one proof, and so has that it is one in no call.
-pub fn a_seat_is_an_arenas_once()
+pub fn a_seat_is_an_arenas_once<T>()
     //= queues/one_fact (seat, ready)
-    ensures seat { (r : Arena) (s : Seat) → IsProp (IsSeat r s) }
-    ensures ready { (r : Arena) (s : Seat) → IsProp (IsReady r s) }
+    ensures seat { (r : Arena) (s : Seat T) → IsProp (IsSeat r s) }
+    ensures ready { (r : Arena) (s : Seat T) → IsProp (IsReady r s) }
 {}
 
 /// The cause of a refusal is that of the call's last step: a call whose last step was the exchange that takes a node, won
 /// or lost, doesn't meet the cause of NoNode, whatever other worlds have its path.
-pub fn a_step_that_takes_a_node_is_not_refused()
+pub fn a_step_that_takes_a_node_is_not_refused<T>()
     //= atomics/met_cause: `NoNode` and `WornOut` have their cause in a reachable traced world of the arena in which the
     //=   seat's actor, with the call's path so far, stands before the call's last line, and that step's reply is the
     //=   refusal. So no call whose last step took a node meets the cause of `NoNode` (`MetCause`).
-    ensures { TakersMeetNoCause }
+    ensures { TakersMeetNoCause T }
+{}
+
+/// Which slots a step of an arena that carries values moves is told by what it adds to its seat's own entries: a push gives
+/// the slot whose number it pushes, with the value that lies in it, a pop takes the slot whose number it pops, with the
+/// value that was pushed, and any other step moves none. What the seat has seen of the values ends with that deed.
+pub fn a_step_moves_the_slot_of_what_it_adds<T>()
+    //= atomics/moves (quiet, pushes, pops, shuts): A step that pushes gives the slot whose number it pushes, and adds
+    //=   the push of the value in it. One that pops takes the slot whose number it pops, and adds the pop of the value
+    //=   in it. A shut moves none, and adds the shut. No other step moves a slot.
+    ensures quiet { QuietStepsMoveNone T }
+    ensures pushes { PushesGiveTheirSlot T }
+    ensures pops { PopsTakeTheirSlot T }
+    ensures shuts { ShutsMoveNone T }
+{}
+
+/// What a seat of an arena that carries values has seen of them goes one by one with the entries that it has seen, leads
+/// from the empty queue to some values, and the slot that is out with it is one of the arena's.
+pub fn what_a_seat_knows_of_values_is_so<T>()
+    //= atomics/values: At any time what a seat of an arena that carries values has seen of them is the history of a
+    //=   first-in-first-out list, and goes one by one with the entries that it has seen.
+    ensures { EachSeatKnowsValues T }
 {}

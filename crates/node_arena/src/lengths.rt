@@ -27,14 +27,14 @@ fn behind_tail(stays: bool, none: bool, shut: bool) -> (u64, u64)
     }
 }
 
-impl<const B: u32> ArenaOf<B> {
+impl<const B: u32, T> ArenaOf<B, T> {
     ghost use Rattle.node_arena.specs.Seats.{IsReady, KeepsStored, known_of, setup_of};
     ghost use Rattle.node_arena.specs.Looks.{WasSoLong};
 
     /// How many values the queue holds, by five looks of a seat in no call: at Head, at Tail, at what follows its node, at
     /// Tail again, and at Head again. Both bounds are one number where neither moved meanwhile. Takes no memory and doesn't
     /// wait.
-    pub fn len(&self, seat: &mut Seat) -> Len
+    pub fn len(&self, seat: &mut Seat<T>) -> Len
         requires ready { IsReady self.now seat.old }
         requires kind { (setup_of self.now).kind ≡ NonBlocking }
         ensures ready { IsReady self.now seat.new }

@@ -18,7 +18,9 @@ mod plans;
 mod remains;
 mod roles;
 mod seats;
+mod slots;
 mod stepping;
+mod valued;
 mod views;
 mod words;
 
@@ -31,6 +33,7 @@ pub use line_steps::value_of;
 pub use plans::Plan;
 pub use roles::Role;
 pub use seats::Seat;
+pub use slots::Got;
 pub use step_machine::{Held, Setup};
 pub use views::{Knowing, SeatToken, WordRule, WordTable};
 pub use words::{raised, raised_end, raised_unless_shut, word_of};

@@ -6,13 +6,13 @@ use crate::places::place;
 use crate::seats::Seat;
 use std::marker::Brand;
 
-impl<const B: u32> ArenaOf<B> {
+impl<const B: u32, T> ArenaOf<B, T> {
     ghost use Rattle.node_arena.specs.Seats.{IsReady, setup_of};
     ghost use Rattle.node_arena.specs.Looks.{Looks};
 
     /// What a word holds, by one load of a seat in no call, which has then seen the history of that moment. Takes no memory
     /// and doesn't wait.
-    pub fn look(&self, seat: &mut Seat, word: usize) -> u64
+    pub fn look(&self, seat: &mut Seat<T>, word: usize) -> u64
         requires ready { IsReady self.now seat.old }
         requires word { word < 6 + 2 * (setup_of self.now).size }
         //= atomics/look: A seat that looks at a word, by one load, has seen the whole history of that moment, in a

@@ -5,7 +5,7 @@ ghost use Rattle.counted_ref.specs.Ref.{ref_of, ref_word, count_mask, null};
 use crate::arena::ArenaOf;
 use counted_ref::CountedRefOf;
 
-impl<const B: u32> ArenaOf<B> {
+impl<const B: u32, T> ArenaOf<B, T> {
     ghost use Rattle.node_arena.specs.Seats.{setup_of};
 
     /// The reference that a word holds. Takes no memory and doesn't wait.

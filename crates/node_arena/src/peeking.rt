@@ -7,7 +7,7 @@ use crate::arena::ArenaOf;
 use crate::places::place;
 use std::marker::Brand;
 
-impl<const B: u32> ArenaOf<B> {
+impl<const B: u32, T> ArenaOf<B, T> {
     /// What a word holds, by one load, for inspection; none exactly where there is no such word. The clause says no more
     /// than that it may hold this in some reachable world, as a new arena's words do: nothing of this moment, nor of what a
     /// seat has seen. Takes no memory and doesn't wait.

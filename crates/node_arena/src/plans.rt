@@ -3,11 +3,12 @@ use crate::roles::Role;
 use std::marker::Model;
 use step_machine::Setup;
 
-/// The setup of an arena, and the role of each seat.
+/// The setup of an arena, the role of each seat, and whether it carries values.
 #[derive(Drop)]
 pub struct Plan {
     pub(crate) setup: Setup,
     pub(crate) roles: Vec<Role>,
+    pub(crate) carries: bool,
 }
 
 impl Model for Plan {
@@ -15,5 +16,5 @@ impl Model for Plan {
 
     ghost Value = { Layout };
 
-    ghost view = { λ p. record { setup = p.setup; roles = p.roles.items } };
+    ghost view = { λ p. record { setup = p.setup; roles = p.roles.items; carries = p.carries } };
 }

@@ -17,7 +17,7 @@ use line_steps::value_of;
 use std::alloc::Global;
 
 /// The table of an arena, once no thread shares it any more.
-pub(crate) type ClosedTable = Closed<u8, Global>;
+pub(crate) type ClosedTable = Closed<Option<()>, Global>;
 
 /// How many pushes and pops some seats made, and whether one of them made a shut. There is room for those of any list of
 /// seats.

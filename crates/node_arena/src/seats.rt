@@ -9,8 +9,8 @@ use step_machine::Held;
 
 /// What a thread holds in order to be an actor of an arena. It is an arena's by its calls' conditions.
 #[derive(Drop)]
-pub struct Seat {
-    pub(crate) token: SeatToken,
+pub struct Seat<T = ()> {
+    pub(crate) token: SeatToken<T>,
     pub(crate) number: u16,
     pub(crate) role: Role,
     // Whether the pocket holds a node: to empty it is to store this alone.
@@ -25,7 +25,7 @@ pub struct Seat {
     pub(crate) keeps: bool,
 }
 
-impl Seat {
+impl<T> Seat<T> {
     ghost use Rattle.node_arena.specs.Seats.{number_of, role_of, pocket_of, failed_of, keeps_of};
     ghost use Rattle.node_arena.specs.Seats.{IsReady, known_of, keeping, told_to_keep, counting, HasRoom};
     ghost use Rattle.node_arena.specs.Plans as plans;

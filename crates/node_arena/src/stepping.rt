@@ -10,19 +10,20 @@ use crate::seats::Seat;
 use line_table::Line;
 use std::marker::Brand;
 
-impl<const B: u32> ArenaOf<B> {
+impl<const B: u32, T> ArenaOf<B, T> {
     /// One load of a word: the seat's next move, at this line. Answers what was found.
     ///
     /// That the step is the seat's next move by the rule, on the word of this index, which lies at this place of the table,
     /// is the caller's condition. Takes no memory and doesn't wait.
-    pub fn load(&self, seat: &mut Seat, line: Line, word: usize, place: usize) -> u64
+    pub fn load(&self, seat: &mut Seat<T>, line: Line, word: usize, place: usize) -> u64
         ghost prologue: { Prologue }
         requires may { MayStep self.now seat.old prologue line (load_at word) }
         requires lies { place ≡ places.place word }
         //= atomics/rule
         //= atomics/step: A seat's atomic step is the machine's step of its actor at that line, after the begin that the
         //=   caller names and the give or rest before this. It answers the number found; an exchange is won exactly
-        //=   where that is the old one. A seat counts its own pushes and pops, and keeps whether it shut.
+        //=   where that is the old one. A seat counts its own pushes and pops, and keeps whether it shut. Where values
+        //=   are carried, a push gives the seat's slot, a pop takes that of the front, and else no slot moves (`Moves`).
         //= atomics/seen: A seat has seen the whole history after E7, E9, A5, D13, B5, D4, B3, S3, S4 and S8, and sees
         //=   no more at other lines. An answer that the queue is empty, or shut, is noted with the number of entries
         //=   seen, which leave it empty and not shut; or shut, and at a pop empty too (`Steps`).
@@ -36,7 +37,7 @@ impl<const B: u32> ArenaOf<B> {
     ///
     /// That the step is the seat's next move by the rule, on the word of this index, which lies at this place of the table,
     /// is the caller's condition. Takes no memory and doesn't wait.
-    pub fn store(&self, seat: &mut Seat, line: Line, word: usize, place: usize, value: u64)
+    pub fn store(&self, seat: &mut Seat<T>, line: Line, word: usize, place: usize, value: u64)
         ghost prologue: { Prologue }
         requires may { MayStep self.now seat.old prologue line (store_at word value) }
         requires lies { place ≡ places.place word }
@@ -58,7 +59,7 @@ impl<const B: u32> ArenaOf<B> {
     /// is the caller's condition. Takes no memory and doesn't wait.
     pub fn fetch_and(
         &self,
-        seat: &mut Seat,
+        seat: &mut Seat<T>,
         line: Line,
         word: usize,
         place: usize,
@@ -85,7 +86,7 @@ impl<const B: u32> ArenaOf<B> {
     /// is the caller's condition. Takes no memory and doesn't wait.
     pub fn exchange(
         &self,
-        seat: &mut Seat,
+        seat: &mut Seat<T>,
         line: Line,
         word: usize,
         place: usize,

@@ -1,5 +1,6 @@
 //! Takes and give backs in turn, by one seat and by two, and by two threads.
-ghost use Rattle.std.specs.Prelude.{◌≡◌, None, OnOk, IfSome};
+ghost use Rattle.std.specs.Prelude.{◌≡◌, false, None, OnOk, IfSome};
+ghost use Rattle.node_arena.specs.Seats.{carries_of};
 ghost use Rattle.arena_stress.specs.Seated.{IsFresh};
 
 use crate::running::both;
@@ -21,7 +22,8 @@ fn one_seat(alloc: Global, nodes: u32, limit: u64) -> Option<(Arena, Seat)>
 
 // An arena with two seats.
 fn two_seats(alloc: Global, nodes: u32, limit: u64) -> Option<(Arena, Seat, Seat)>
-    ensures { IfSome result (λ r. IsFresh r.0 r.1 × IsFresh r.0 r.2) }
+    ensures fresh { IfSome result (λ r. IsFresh r.0 r.1 × IsFresh r.0 r.2) }
+    ensures numbers { IfSome result (λ r. carries_of r.0 ≡ false) }
 {
     let (arena, mut seats) = seats_of(alloc, nodes, limit, &[Role::Both, Role::Both])?;
     let second = pop(&arena, &mut seats)?;

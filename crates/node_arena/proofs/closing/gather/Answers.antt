@@ -1,8 +1,8 @@
-use Rattle.std.proofs.Common.{All, ap, subst}
+use Rattle.std.proofs.Common.{All, subst}
 use Rattle.std.proofs.lemmas.List.Elements.{All-head, All-rest, All-same}
-use Rattle.atomic_table.specs.Table.{Me}
 use Rattle.node_arena.specs.Closing.{HasToken}
-use Rattle.node_arena.proofs.Gathers.{gathers_at, took_in}
+use Rattle.node_arena.proofs.Lifts.{none_held}
+use Rattle.node_arena.proofs.Gathers.{gathers_token, took_in}
 use Rattle.node_arena.proofs.closing.gather.Goals as goal
 
 pub join_seat-requires : goal.join_seat-requires
@@ -11,9 +11,9 @@ join_seat-requires c =
     let one = All-head (HasToken _) _ _ (subst (All (HasToken _)) c.in-Some.ensures.steps.0 c.loop-seat.invariant.1) in (
       k.table,
       one.table,
-      ap (λ (m : Me _ _). m.1) one.seat,
+      none_held _ one.none_out.0,
       c.requires.words,
-      gathers_at _ _ _ _ _ _ _ k.seat one.seat,
+      gathers_token _ _ _ _ _ k one,
     )
 
 pub loop-seat-preserved : goal.loop-seat-preserved

@@ -7,11 +7,11 @@ use Rattle.node_arena.proofs.closing.pushes_by.Goals as goal
 
 pub loop-seat-preserved : goal.loop-seat-preserved
 loop-seat-preserved c =
-    let more = sum_by_more (λ (s : Seat). s.pushes) c.args.seats.now c.loop-seat.seat-index c.seat-item.result c.loop-seat-test.true in
+    let more = sum_by_more (λ (s : Seat _). s.pushes) c.args.seats.now c.loop-seat.seat-index c.seat-item.result c.loop-seat-test.true in
     record {
-      sum = omega (arith, c.loop-seat.invariant.sum, more, ap (λ (s : Seat). s.pushes) c.seat-item.is, c.from-pushes.ensures);
+      sum = omega (arith, c.loop-seat.invariant.sum, more, ap (λ (s : Seat _). s.pushes) c.seat-item.is, c.from-pushes.ensures);
       few = omega (arith, c.loop-seat.invariant.few, c.from-pushes.ensures);
     }
 
 pub returns : goal.returns
-returns c = c.loop-seat.invariant.sum ∙ ap (sum_by (λ (s : Seat). s.pushes)) (take_all c.loop-seat.seat-index c.args.seats.now c.loop-seat-test.false) ∙ sum_by-pushes c.args.seats.now c.requires
+returns c = c.loop-seat.invariant.sum ∙ ap (sum_by (λ (s : Seat _). s.pushes)) (take_all c.loop-seat.seat-index c.args.seats.now c.loop-seat-test.false) ∙ sum_by-pushes c.args.seats.now c.requires

@@ -4,6 +4,6 @@ use Rattle.node_arena.proofs.closing.pushes_by.Given as goal
 
 abbrev pub invariant-loop-seat : goal.invariant-loop-seat
 invariant-loop-seat l = record {
-  sum : l.pushes ≡ sum_by (λ (s : Seat). s.pushes) (take l.seat-index l.seats);
+  sum : l.pushes ≡ sum_by (λ (s : Seat _). s.pushes) (take l.seat-index l.seats);
   few : l.pushes ≤ 18446744073709551615 * l.seat-index;
 }

@@ -4,4 +4,4 @@ use Rattle.node_arena.proofs.Seens.{sound_of}
 use Rattle.node_arena.proofs.laws.what_a_seat_knows_is_sound.Goals as goal
 
 pub returns : goal.returns
-returns c = λ r s h. sound_of r.plan (view s) h.sits.fitted
+returns g c = λ r s h. sound_of r.plan (view s) h.sits.fitted

@@ -1,5 +1,5 @@
-use Rattle.node_arena.specs.Rule.{Tells}
+use Rattle.node_arena.specs.Beside.{TellsBeside}
 use Rattle.node_arena.proofs.arena.ArenaOf.fetch_and.Given as goal
 
 abbrev pub ghosts-fetch_and : goal.ghosts-fetch_and
-ghosts-fetch_and g a = record { then = λ _. Tells a.self.now.key g.prologue }
+ghosts-fetch_and g a = record { then = λ _. TellsBeside a.self.now.key g.prologue }

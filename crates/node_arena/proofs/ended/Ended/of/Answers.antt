@@ -1,5 +1,5 @@
-use Rattle.node_arena.proofs.Gathers.{enters}
+use Rattle.node_arena.proofs.Gathers.{enters_beside}
 use Rattle.node_arena.proofs.ended.Ended.of.Goals as goal
 
 pub load_new_seat-token-requires : goal.load_new_seat-token-requires
-load_new_seat-token-requires c = (c.requires.words, enters _ _ _)
+load_new_seat-token-requires c = (c.requires.words, enters_beside _ _)

@@ -1,0 +1,14 @@
+use Rattle.std.proofs.Common.{◌≡◌, ◌+◌, ◌<◌, ℕ}
+use Rattle.node_arena.specs.Seats.{IsSeat, IsReady, HasNoSlot, setup_of, plan_of}
+use Rattle.node_arena.specs.Hands.{KeepsKnown, AllTaken, first_slot}
+use Rattle.node_arena.proofs.arena.ArenaOf.get_slot.Given as goal
+
+abbrev pub invariant-loop-failed : goal.invariant-loop-failed
+invariant-loop-failed g l =
+    (l.slot < (setup_of l.self).size)
+    × IsSeat l.self l.seat
+    × HasNoSlot l.seat
+    × (IsReady l.self l.initial.seat → IsReady l.self l.seat)
+    × KeepsKnown l.initial.seat l.seat
+    × (l.seat.token.me.0 ≡ l.initial.seat.token.me.0)
+    × ((m : ℕ) → AllTaken (plan_of l.self) l.initial.seat.token.me.0 l.slot m → AllTaken (plan_of l.self) l.initial.seat.token.me.0 (first_slot (setup_of l.self).size l.node) (l.failed + m))

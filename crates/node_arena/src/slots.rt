@@ -1,0 +1,142 @@
+//! The slots of an arena that carries values, of which an `Arena` has none: the number that a push puts into the queue is
+//! that of the slot in which its value lies.
+ghost use Rattle.std.specs.Prelude.{◌≡◌, ◌+◌, ◌*◌, ◌<◌, true, false, IsTrue, Some, None, IfOk, IfErr};
+ghost use Rattle.node_arena.specs.Seats.{IsSeat, IsReady, HasNoSlot, carries_of, setup_of, plan_of};
+ghost use Rattle.node_arena.specs.Hands.{HasSlot, HasValue, KeepsKnown, IsMissed, FailedTries};
+ghost use Rattle.node_arena.specs.Hands as hands;
+
+use crate::arena::ArenaOf;
+use crate::seats::Seat;
+use history::Refusal;
+use std::marker::Brand;
+
+/// A slot that was got, and how many tries at other ones failed before.
+#[derive(Clone, Copy, Debug, PartialEq, Eq)]
+pub struct Got {
+    pub slot: usize,
+    pub failed: u32,
+}
+
+// The slot that a push tries first.
+fn first_slot(slots: usize, node: usize) -> usize
+    ensures { result ≡ hands.first_slot slots node }
+{
+    if node < slots { node } else { 0 }
+}
+
+impl<const B: u32, T> ArenaOf<B, T> {
+    // Where the flag of a slot lies in the table.
+    fn flag(&self, slot: usize) -> usize
+        requires { slot < (setup_of self.now).size }
+        ensures { result ≡ 48 + 2 * (setup_of self.now).size + slot }
+    {
+        48 + 2 * self.setup().size as usize + slot
+    }
+
+    // Gets a slot whose flag is down, by one compare-exchange of it.
+    fn try_slot(&self, seat: &mut Seat<T>, slot: usize) -> bool
+        requires seat { IsSeat self.now seat.old }
+        requires carries { carries_of self.now ≡ true }
+        requires none { HasNoSlot seat.old }
+        requires slot { slot < (setup_of self.now).size }
+        ensures seat { IsSeat self.now seat.new }
+        ensures ready { IsReady self.now seat.old → IsReady self.now seat.new }
+        ensures keeps { KeepsKnown seat.old seat.new }
+        ensures got { result ≡ true → HasSlot self.now seat.new slot None }
+        ensures missed { result ≡ false → IsMissed self.now seat.old seat.new slot }
+    {
+        let flag = self.flag(slot);
+        self.table
+            .shared
+            .compare_exchange::<Brand>(&mut seat.token, flag, 0, 1)
+            == 0
+    }
+
+    /// Gets an empty slot for a seat that has none: that of a node's number, or else one of the next ones, each by one
+    /// compare-exchange of its flag. A try that fails is a turn.
+    ///
+    /// Refused by `Busy` alone, where so many turns failed. Takes no memory and doesn't wait.
+    pub fn get_slot(&self, seat: &mut Seat<T>, node: u32, turns: u32) -> Result<Got, Refusal>
+        requires seat { IsSeat self.now seat.old }
+        requires carries { carries_of self.now ≡ true }
+        requires none { HasNoSlot seat.old }
+        //= atomics/get_slot (seat, ready, keeps, got, refused, failed): A seat that has no slot gets an empty one: that
+        //=   of a node's number, or the next one whose flag is down. Or Busy, after so many tries. Each try that failed
+        //=   was at a slot whose flag was up, in a state of the table by its rule in which the seat knew what it knew.
+        //=   The seat stores and knows the same as before.
+        ensures seat { IsSeat self.now seat.new }
+        ensures ready { IsReady self.now seat.old → IsReady self.now seat.new }
+        ensures keeps { KeepsKnown seat.old seat.new }
+        ensures got { IfOk result (λ got. HasSlot self.now seat.new got.slot None) }
+        ensures refused { IfErr result (λ refusal. (refusal ≡ Refusal.Busy) × HasNoSlot seat.new) }
+        ensures few { IfOk result (λ got. got.failed < turns) }
+        ensures failed { IfOk result (λ got. FailedTries self.now seat.old node got.failed) }
+        ensures busy { IfErr result (λ _. FailedTries self.now seat.old node turns) }
+    {
+        let size = self.setup().size as usize;
+        let mut slot = first_slot(size, node as usize);
+        for failed in 0..turns {
+            if self.try_slot(seat, slot) {
+                return Ok(Got { slot, failed });
+            }
+            slot = first_slot(size, slot + 1);
+        }
+        Err(Refusal::Busy)
+    }
+
+    /// Puts a value into the empty slot of a seat. Takes no memory and doesn't wait.
+    pub fn put_value(&self, seat: &mut Seat<T>, slot: usize, value: T)
+        requires seat { IsSeat self.now seat.old }
+        requires has { HasSlot self.now seat.old slot None }
+        //= atomics/put_value (seat, ready, keeps, has): The slot of a seat holds the value that was put into it. The
+        //=   seat stores and knows the same as before.
+        ensures seat { IsSeat self.now seat.new }
+        ensures ready { IsReady self.now seat.old → IsReady self.now seat.new }
+        ensures keeps { KeepsKnown seat.old seat.new }
+        ensures has { HasSlot self.now seat.new slot (Some value) }
+    {
+        let _ = &self.plan;
+        match self
+            .table
+            .shared
+            .exchange(&mut seat.token, slot, Some(value))
+        {
+            None => {}
+            Some(_) => unreachable!(),
+        }
+    }
+
+    /// Takes the value out of the slot of a seat, which stays with it, empty. Takes no memory and doesn't wait.
+    pub fn take_value(&self, seat: &mut Seat<T>, slot: usize) -> T
+        requires seat { IsSeat self.now seat.old }
+        requires has { HasValue self.now seat.old slot }
+        //= atomics/take_value (seat, ready, keeps, taken, has): A value that is taken is the one in the slot of the
+        //=   seat, which has the slot empty. The seat stores and knows the same as before.
+        ensures seat { IsSeat self.now seat.new }
+        ensures ready { IsReady self.now seat.old → IsReady self.now seat.new }
+        ensures keeps { KeepsKnown seat.old seat.new }
+        ensures taken { HasSlot self.now seat.old slot (Some result) }
+        ensures has { HasSlot self.now seat.new slot None }
+    {
+        let _ = &self.plan;
+        let Some(value) = self.table.shared.exchange(&mut seat.token, slot, None) else {
+            unreachable!()
+        };
+        value
+    }
+
+    /// Gives back the empty slot of a seat, by one store into its flag. Takes no memory and doesn't wait.
+    pub fn free_slot(&self, seat: &mut Seat<T>, slot: usize)
+        requires seat { IsSeat self.now seat.old }
+        requires has { HasSlot self.now seat.old slot None }
+        //= atomics/free_slot (seat, ready, keeps, none): A seat that gave back its slot has none. The slot is empty,
+        //=   at home, with its flag down, by the rule. The seat stores and knows the same as before.
+        ensures seat { IsSeat self.now seat.new }
+        ensures ready { IsReady self.now seat.old → IsReady self.now seat.new }
+        ensures keeps { KeepsKnown seat.old seat.new }
+        ensures none { HasNoSlot seat.new }
+    {
+        let flag = self.flag(slot);
+        self.table.shared.store::<Brand>(&mut seat.token, flag, 0);
+    }
+}
