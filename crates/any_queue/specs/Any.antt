@@ -3,6 +3,7 @@ use Rattle.std.specs.Prelude.{ℕ, List}
 use denote.Param.{number}
 use Rattle.history.specs.Seats.{Permit}
 use Rattle.history.specs.declared.refusals.Refusal.{Refusal}
+use Rattle.history.specs.declared.refusals.Refusal.TheVariants.{Closed}
 use Rattle.node_arena.specs.Arenas.{Arena}
 use Rattle.node_arena.specs.declared.seats.Seat.{Seat}
 use Rattle.node_arena.specs.Seats.{IsReady, permits_of}
@@ -30,20 +31,26 @@ abbrev pub any_permits_of : {bits : ℕ} {ms : Ghosts NonBlockingAlgorithm bits}
 any_permits_of q = permits_of (any_arena_of q)
 
 -- a seat of a queue, in no call
-abbrev pub IsAnySeat : {bits : ℕ} {ms : Ghosts NonBlockingAlgorithm bits} {two : Ghosts TwoLockAlgorithm bits} → AnyQueueOf bits ms two → Seat → Type 0
+abbrev pub IsAnySeat : {bits : ℕ} {ms : Ghosts NonBlockingAlgorithm bits} {two : Ghosts TwoLockAlgorithm bits} → AnyQueueOf bits ms two → Seat (Unit {0}) → Type 0
 IsAnySeat q s = IsReady (any_arena_of q) s
 
 -- why a push is refused: for a cause of its kind
-abbrev pub AnyPushRefused : {bits : ℕ} {ms : Ghosts NonBlockingAlgorithm bits} {two : Ghosts TwoLockAlgorithm bits} → AnyQueueOf bits ms two → Seat → Seat → (turns : ℕ) → Refusal → Type 0
+abbrev pub AnyPushRefused : {bits : ℕ} {ms : Ghosts NonBlockingAlgorithm bits} {two : Ghosts TwoLockAlgorithm bits} → AnyQueueOf bits ms two → Seat (Unit {0}) → Seat (Unit {0}) → (turns : ℕ) → Refusal → Type 0
 AnyPushRefused {ms = ms} (NonBlocking q) s t turns refusal = PushRefused ms.push_worn (arena_of q) s t turns refusal
 AnyPushRefused {two = two} (TwoLock q) s t turns refusal = PushRefused two.push_worn (arena_of q) s t turns refusal
 
 -- why a pop is refused: for a cause of its kind
-abbrev pub AnyPopRefused : {bits : ℕ} {ms : Ghosts NonBlockingAlgorithm bits} {two : Ghosts TwoLockAlgorithm bits} → AnyQueueOf bits ms two → Seat → Seat → (turns : ℕ) → Refusal → Type 0
+abbrev pub AnyPopRefused : {bits : ℕ} {ms : Ghosts NonBlockingAlgorithm bits} {two : Ghosts TwoLockAlgorithm bits} → AnyQueueOf bits ms two → Seat (Unit {0}) → Seat (Unit {0}) → (turns : ℕ) → Refusal → Type 0
 AnyPopRefused {ms = ms} (NonBlocking q) s t turns refusal = PopRefused ms.pop_worn (arena_of q) s t turns refusal
 AnyPopRefused {two = two} (TwoLock q) s t turns refusal = PopRefused two.pop_worn (arena_of q) s t turns refusal
 
 -- why a shut is refused: for a cause of its kind
-abbrev pub AnyShutRefused : {bits : ℕ} {ms : Ghosts NonBlockingAlgorithm bits} {two : Ghosts TwoLockAlgorithm bits} → AnyQueueOf bits ms two → Seat → Seat → (turns : ℕ) → Refusal → Type 0
+abbrev pub AnyShutRefused : {bits : ℕ} {ms : Ghosts NonBlockingAlgorithm bits} {two : Ghosts TwoLockAlgorithm bits} → AnyQueueOf bits ms two → Seat (Unit {0}) → Seat (Unit {0}) → (turns : ℕ) → Refusal → Type 0
 AnyShutRefused {ms = ms} (NonBlocking q) s t turns refusal = ShutRefused ms.shut_worn (arena_of q) s t turns refusal
 AnyShutRefused {two = two} (TwoLock q) s t turns refusal = ShutRefused two.shut_worn (arena_of q) s t turns refusal
+
+-- what causes a shut to be refused Closed is cause for a push to be refused so
+pub any_closed_alike : {bits : ℕ} {ms : Ghosts NonBlockingAlgorithm bits} {two : Ghosts TwoLockAlgorithm bits} (q : AnyQueueOf bits ms two) (s t : Seat (Unit {0})) (turns : ℕ)
+    → AnyShutRefused q s t turns Closed → AnyPushRefused q s t turns Closed
+any_closed_alike (NonBlocking q) s t turns cause = cause
+any_closed_alike (TwoLock q) s t turns cause = cause

@@ -5,11 +5,12 @@ ghost use Rattle.line_table.specs.declared.lines.Kind.{Kind};
 ghost use Rattle.line_table.specs.declared.lines.Kind.TheVariants.{TwoLock};
 ghost use Rattle.node_arena.specs.Making.{plan, IsMade, NewRefused};
 ghost use Rattle.node_arena.specs.Plans.{permits_by, IsPlanned};
-ghost use Rattle.node_arena.specs.Seats.{KeepsStored, known_of, setup_of};
+ghost use Rattle.node_arena.specs.Seats.{KeepsStored, known_of, setup_of, plan_of};
 ghost use Rattle.node_arena.specs.Looks.{FoundSo, WasSoLong};
+ghost use Rattle.arena_queue.specs.Lefts.{HasLeft};
 ghost use Rattle.history.specs.Openings.{AreNew};
 
-use arena_queue::Algorithm;
+use arena_queue::{Algorithm, Left};
 use history::{Body, Close, Fifo, Refusal, Rest, Taken};
 use line_table::Kind;
 use node_arena::{Emptiness, Ended, Len, Role, Seat};
@@ -79,7 +80,8 @@ impl<const B: u32> AnyQueueOf<B> {
         }
     }
 
-    /// Whether the queue is empty, as it was at some moment of the call; or that pops took effect while the seat looked.
+    /// Whether the queue is empty, as it was at a moment no older than what the seat had seen before; or that pops took
+    /// effect while the seat looked.
     /// Takes no memory and doesn't wait.
     ///
     /// ```rust
@@ -100,8 +102,8 @@ impl<const B: u32> AnyQueueOf<B> {
         }
     }
 
-    /// How many values the queue holds, as bounds of what it held at some moment of the call; none exactly of a two-lock
-    /// queue, whose Tail counts nothing. Takes no memory and doesn't wait.
+    /// How many values the queue holds, as bounds of what it held at a moment no older than what the seat had seen before;
+    /// none exactly of a two-lock queue, whose Tail counts nothing. Takes no memory and doesn't wait.
     ///
     /// ```rust
     /// if queue.len(&mut seat).is_some_and(|len| len.least > 1000) {
@@ -123,6 +125,28 @@ impl<const B: u32> AnyQueueOf<B> {
             AnyQueueOf::TwoLock(_) => None,
         }
     }
+
+    /// How many pushes are left at least until a word wears out, and what the counts of Free, Tail and Head leave. Takes no
+    /// memory and doesn't wait.
+    ///
+    /// ```rust
+    /// if queue.left(&mut seat).pushes < 1_000_000 {
+    ///     make_another_queue();
+    /// }
+    /// ```
+    pub fn left(&self, seat: &mut Seat) -> Left
+        requires { IsAnySeat self.now seat.old }
+        ensures seat { IsAnySeat self.now seat.new }
+        ensures stored { KeepsStored seat.old seat.new }
+        //= atomics/left (seat, left)
+        ensures left { HasLeft (plan_of (any_arena_of self.now))
+            (known_of seat.old) result (known_of seat.new) }
+    {
+        match self {
+            AnyQueueOf::NonBlocking(queue) => queue.left(seat),
+            AnyQueueOf::TwoLock(queue) => queue.left(seat),
+        }
+    }
 }
 
 //= library/any
@@ -134,7 +158,7 @@ impl<const B: u32> Fifo for AnyQueueOf<B> {
     ghost use Rattle.node_arena.proofs.OneProof.{IsReady-prop};
     ghost use Rattle.history.specs.Closing.{Closes};
     ghost use Rattle.any_queue.specs.Any.{any_arena_of, any_permits_of, IsAnySeat};
-    ghost use Rattle.any_queue.specs.Any.{AnyPushRefused, AnyPopRefused, AnyShutRefused};
+    ghost use Rattle.any_queue.specs.Any.{AnyPushRefused, AnyPopRefused, AnyShutRefused, any_closed_alike};
 
     type Seat = Seat;
 
@@ -151,6 +175,8 @@ impl<const B: u32> Fifo for AnyQueueOf<B> {
     ghost shut_cause = { AnyShutRefused };
 
     ghost sound = { λ q s h. sound_of (any_arena_of q).plan (view s) h.seat.sits.fitted };
+
+    ghost closed_alike = { any_closed_alike };
 
     ghost seat_prop = { λ q s. IsReady-prop (any_arena_of q) s };
 

@@ -4,13 +4,15 @@ ghost use Rattle.line_table.specs.declared.lines.Kind.{Kind};
 ghost use Rattle.line_table.specs.declared.lines.Kind.TheVariants.{TwoLock};
 ghost use Rattle.node_arena.specs.Making.{IsMade, NewRefused};
 ghost use Rattle.node_arena.specs.Plans.{permits_by, IsPlanned};
-ghost use Rattle.node_arena.specs.Seats.{KeepsStored, known_of, setup_of};
+ghost use Rattle.node_arena.specs.Seats.{KeepsStored, known_of, setup_of, plan_of};
 ghost use Rattle.node_arena.specs.Looks.{FoundSo, WasSoLong};
+ghost use Rattle.arena_queue.specs.Lefts.{HasLeft};
 ghost use Rattle.history.specs.Openings.{AreNew};
 ghost use Rattle.any_queue.specs.Splits.{limited_plan, picked_plan};
 
 use crate::any::AnyQueueOf;
 use crate::splits::bits_for;
+use arena_queue::Left;
 use counted_ref::most_count;
 use history::{Body, Close, Fifo, Refusal, Rest, Taken};
 use line_table::Kind;
@@ -161,6 +163,24 @@ impl PickedQueue {
     {
         within!(self, queue => queue.len(seat))
     }
+
+    /// How many pushes are left at least until a word wears out, as `AnyQueueOf::left` tells.
+    ///
+    /// ```rust
+    /// if queue.left(&mut seat).pushes < 1_000_000 {
+    ///     make_another_queue();
+    /// }
+    /// ```
+    pub fn left(&self, seat: &mut Seat) -> Left
+        requires { IsPickedSeat self.now seat.old }
+        ensures seat { IsPickedSeat self.now seat.new }
+        ensures stored { KeepsStored seat.old seat.new }
+        //= atomics/left (seat, left)
+        ensures left { HasLeft (plan_of (picked_arena_of self.now))
+            (known_of seat.old) result (known_of seat.new) }
+    {
+        within!(self, queue => queue.left(seat))
+    }
 }
 
 //= library/picked
@@ -172,7 +192,7 @@ impl Fifo for PickedQueue {
     ghost use Rattle.node_arena.proofs.OneProof.{IsReady-prop};
     ghost use Rattle.history.specs.Closing.{Closes};
     ghost use Rattle.any_queue.specs.Picked.{picked_arena_of, picked_permits_of, IsPickedSeat};
-    ghost use Rattle.any_queue.specs.Picked.{PickedPushRefused, PickedPopRefused, PickedShutRefused};
+    ghost use Rattle.any_queue.specs.Picked.{PickedPushRefused, PickedPopRefused, PickedShutRefused, picked_closed_alike};
 
     type Seat = Seat;
 
@@ -189,6 +209,8 @@ impl Fifo for PickedQueue {
     ghost shut_cause = { PickedShutRefused };
 
     ghost sound = { λ q s h. sound_of (picked_arena_of q).plan (view s) h.seat.sits.fitted };
+
+    ghost closed_alike = { picked_closed_alike };
 
     ghost seat_prop = { λ q s. IsReady-prop (picked_arena_of q) s };
 

@@ -1,3 +1,4 @@
+pub mod Lefts
 pub mod Queues
 pub mod Pushes
 pub mod Pops

@@ -16,12 +16,14 @@ use Rattle.node_arena.specs.Traces.{Event}
 use Rattle.node_arena.specs.Arenas.{Arena}
 use Rattle.node_arena.specs.declared.seats.Seat.{Seat}
 use Rattle.node_arena.specs.Seeing.{known_by}
-use Rattle.node_arena.specs.Seats.{IsSeat, IsReady, KeepsStored, KeepsName, view, known_of, keeping, failed_of, keeps_of}
+use Rattle.node_arena.specs.Seats.{IsSeat, IsReady, KeepsStored, KeepsName, KeepsSlots, view, known_of, keeping, failed_of, keeps_of}
+use Rattle.node_arena.specs.Loads.{TakesSlot}
 use Rattle.node_arena.specs.Turns.{failed_turns}
 use Rattle.node_arena.specs.Paths.{ExtendsPath, FindsShutEmpty, StopsAPop, Acts, HadNoEffect, EndedAt, IsRefusedAt, added}
-use Rattle.node_arena.proofs.Paths.{walk_then, then_shut_empty, act_then, sees_on, added_is, added_path, last_held, ends_failed, met_behind, failed-append, failed_behind, kept_seat}
+use Rattle.node_arena.proofs.Paths.{walk_then, then_slots, then_shut_empty, act_then, sees_on, added_is, added_path, last_held, ends_failed, met_behind, failed-append, failed_behind, kept_seat}
+use Rattle.node_arena.proofs.Loads.{kept_slots, then_takes, takes_then}
 use Rattle.free_list.specs.Gives.{GiveAnswers}
-use Rattle.arena_queue.specs.Answers.{EmptiesPocket, DrawRefused, Draws, AnswersPop}
+use Rattle.arena_queue.specs.Answers.{EmptiesPocket, DrawRefused, DrawMoves, Draws, AnswersPop}
 use Rattle.arena_queue.proofs.Queues.{same_number}
 
 -- an actor that took a value stands before F1, with the node that comes free in its hand
@@ -33,7 +35,7 @@ pub record IsFreeing (a : Actor) (word : ℕ) (h : Held) : Type 0 where
 
 module _ (worn : WornWord → Type 0) where
   -- lines before a pop, with so many failed turns
-  module _ (r : Arena) (s u x : Seat) (es : List Event) (w : ExtendsPath (view s) (view u) es) (spent before turns : ℕ) (more : before ≡ spent + failed_turns es) where
+  module _ {T : Type 0} (r : Arena) (s u x : Seat T) (es : List Event) (w : ExtendsPath (view s) (view u) es) (spent before turns : ℕ) (more : before ≡ spent + failed_turns es) where
     late : (path : (view x).path ≡ (view u).path ++ added u x) → added s x ≡ es ++ added u x
     late path = added_path s x (es ++ added u x) (path ∙ ap (λ p. p ++ added u x) w.path ∙ append_assoc (view s).path es (added u x))
 
@@ -50,12 +52,13 @@ module _ (worn : WornWord → Type 0) where
     late_cause e Closed f = met_behind r s u x es Closed w e f
     late_cause e _ f = absurd f
 
-    pub draws_late : (out : Result (Option Taken) Refusal) → KeepsName s u → Draws worn r u x before turns out → Draws worn r s x spent turns out
-    draws_late out name d =
+    pub draws_late : (out : Result (Option Taken) Refusal) → KeepsName s u → KeepsSlots s u → Draws worn r u x before turns out → Draws worn r s x spent turns out
+    draws_late out name slots d =
         let e = late d.path in
         record {
           ready = d.ready;
           same = record { number = d.same.number ∙ name.number; role = d.same.role ∙ name.role; keeps = d.same.keeps ∙ name.keeps };
+          slots = moves out d.slots;
           path = d.path ∙ ap (λ p. p ++ added u x) w.path ∙ append_assoc (view s).path es (added u x) ∙ ap (λ p. (view s).path ++ p) (sym e);
           answer = answered out d;
           few = fewer out e d;
@@ -64,6 +67,11 @@ module _ (worn : WornWord → Type 0) where
           refused = refused_by out e d;
         }
       where
+        moves : (o : Result (Option Taken) Refusal) → DrawMoves r u x o → DrawMoves r s x o
+        moves (Ok (Some v)) y = then_takes r v.body s u x slots y
+        moves (Ok None) y = then_slots s u x slots y
+        moves (Err refusal) y = then_slots s u x slots y
+
         answered : (o : Result (Option Taken) Refusal) → Draws worn r u x before turns o → IfOk o (λ v. PopAnswers (known_of s) v (known_of x))
         answered (Ok v) d = answers_then (known_of s) (known_of u) (known_of x) v (sees_on (view s) (view u) es w) d.answer
         answered (Err refusal) d = tt
@@ -81,13 +89,14 @@ module _ (worn : WornWord → Type 0) where
         refused_by (Err refusal) e d = (late_stop e refusal d.refused.0, late_cause e refusal d.refused.1)
 
   -- a word was found worn out, and the call is over
-  pub draws_worn : (r : Arena) (s t : Seat) (refusal : Refusal) (word : WornWord) (failed turns : ℕ) (es : List Event) → IsSeat r t → (view t).actor.line ≡ None → (view t).actor.pocket ≡ None → KeepsStored s t → ExtendsPath (view s) (view t) es → refusal ≡ WornOut word → EndedAt r s es (IsRefusedAt r.plan.setup (view s).number (WornOut word)) → worn word → Draws worn r s (keeping t None failed) failed turns (Err refusal)
-  draws_worn r s t refusal word failed turns es seat over empty stored w is cause so =
+  pub draws_worn : {T : Type 0} (r : Arena) (s t : Seat T) (refusal : Refusal) (word : WornWord) (failed turns : ℕ) (es : List Event) → IsSeat r t → (view t).actor.line ≡ None → (view t).actor.pocket ≡ None → KeepsStored s t → KeepsSlots s t → ExtendsPath (view s) (view t) es → refusal ≡ WornOut word → EndedAt r s es (IsRefusedAt r.plan.setup (view s).number (WornOut word)) → worn word → Draws worn r s (keeping t None failed) failed turns (Err refusal)
+  draws_worn r s t refusal word failed turns es seat over empty stored slots w is cause so =
       let e : added s t ≡ es = added_is s t es w in
       let rest : at_rest (view t).actor ≡ (view t).actor = ap (out_of (view t).actor) over in
       record {
         ready = record { seat = kept_seat r t None failed seat; free = ap (λ b. b.line) rest ∙ over; pocket = sym (ap (λ b. b.pocket) rest ∙ empty) };
         same = record { number = stored.number; role = stored.role; keeps = stored.keeps };
+        slots = kept_slots s t None failed slots;
         path = w.path ∙ ap (λ p. (view s).path ++ p) (sym e);
         answer = tt;
         few = tt;
@@ -100,13 +109,14 @@ module _ (worn : WornWord → Type 0) where
       }
 
   -- the queue was found shut and empty, and the call is over
-  pub draws_shut : (r : Arena) (s t : Seat) (failed turns : ℕ) (es : List Event) → IsSeat r t → (view t).actor.line ≡ None → (view t).actor.pocket ≡ None → KeepsStored s t → FindsShutEmpty (view s) (view t) es → EndedAt r s es (IsRefusedAt r.plan.setup (view s).number Closed) → Draws worn r s (keeping t None failed) failed turns (Err Closed)
-  draws_shut r s t failed turns es seat over empty stored finds cause =
+  pub draws_shut : {T : Type 0} (r : Arena) (s t : Seat T) (failed turns : ℕ) (es : List Event) → IsSeat r t → (view t).actor.line ≡ None → (view t).actor.pocket ≡ None → KeepsStored s t → KeepsSlots s t → FindsShutEmpty (view s) (view t) es → EndedAt r s es (IsRefusedAt r.plan.setup (view s).number Closed) → Draws worn r s (keeping t None failed) failed turns (Err Closed)
+  draws_shut r s t failed turns es seat over empty stored slots finds cause =
       let e : added s t ≡ es = added_path s t es finds.path in
       let rest : at_rest (view t).actor ≡ (view t).actor = ap (out_of (view t).actor) over in
       record {
         ready = record { seat = kept_seat r t None failed seat; free = ap (λ b. b.line) rest ∙ over; pocket = sym (ap (λ b. b.pocket) rest ∙ empty) };
         same = record { number = stored.number; role = stored.role; keeps = stored.keeps };
+        slots = kept_slots s t None failed slots;
         path = finds.path ∙ ap (λ p. (view s).path ++ p) (sym e);
         answer = tt;
         few = tt;
@@ -116,8 +126,8 @@ module _ (worn : WornWord → Type 0) where
       }
 
   -- a value was taken by a seat that keeps no nodes, and the node that comes free is given back, or stays in the pocket
-  pub draws_taken : (r : Arena) (s t x : Seat) (word : ℕ) (h : Held) (failed turns : ℕ) (out : Result (Unit {0}) Refusal) (es : List Event) → keeps_of s ≡ false → failed < turns → KeepsStored s t → Acts (view s) (view t) (Pop (view s).number (value_of word)) es → failed_turns es ≡ 0 → GiveAnswers r (keeping t (Some h) failed) x (turns - failed) out → Draws worn r s x failed turns (Ok (Some (value_of word)))
-  draws_taken r s t x word h failed turns out es keeps less stored took never g =
+  pub draws_taken : {T : Type 0} (r : Arena) (s t x : Seat T) (word : ℕ) (h : Held) (failed turns : ℕ) (out : Result (Unit {0}) Refusal) (es : List Event) → keeps_of s ≡ false → failed < turns → KeepsStored s t → TakesSlot r (value_of word).body s t → Acts (view s) (view t) (Pop (view s).number (value_of word)) es → failed_turns es ≡ 0 → GiveAnswers r (keeping t (Some h) failed) x (turns - failed) out → Draws worn r s x failed turns (Ok (Some (value_of word)))
+  draws_taken r s t x word h failed turns out es keeps less stored takes took never g =
       let acts : Acts (view s) (view x) (Pop (view s).number (value_of word)) (es ++ added t x) = act_then (view s) (view t) (view x) (Pop (view s).number (value_of word)) es (added t x) took (record { walks = g.lines; same = g.seen }) in
       let e : added s x ≡ es ++ added t x = added_path s x (es ++ added t x) acts.path in
       let all : failed_turns (added s x) ≡ failed_turns (added t x) = (let c = ap failed_turns e in omega (arith, failed-append es (added t x), never, c)) in
@@ -125,6 +135,7 @@ module _ (worn : WornWord → Type 0) where
       record {
         ready = g.ready;
         same = record { number = g.same.number ∙ stored.number; role = g.same.role ∙ stored.role; keeps = g.same.keeps ∙ stored.keeps };
+        slots = takes_then r (value_of word).body s t x takes (record { same = g.slots.same; hand = g.slots.hand });
         path = acts.path ∙ ap (λ p. (view s).path ++ p) (sym e);
         answer = acts.adds;
         few = omega (arith, all, most, less);
@@ -142,13 +153,14 @@ module _ (worn : WornWord → Type 0) where
       spends (Err refusal) g = let n : failed_turns (added t x) ≡ turns - failed = g.refused.1 in omega arith
 
   -- a value was taken by a seat that keeps its nodes, and the node that comes free stays in the pocket
-  pub draws_kept : (r : Arena) (s t : Seat) (word : ℕ) (h : Held) (failed turns : ℕ) (es : List Event) → keeps_of s ≡ true → failed < turns → IsSeat r t → KeepsStored s t → IsFreeing (view t).actor word h → Acts (view s) (view t) (Pop (view s).number (value_of word)) es → failed_turns es ≡ 0 → Draws worn r s (keeping t (Some h) failed) failed turns (Ok (Some (value_of word)))
-  draws_kept r s t word h failed turns es keeps less seat stored frees took never =
+  pub draws_kept : {T : Type 0} (r : Arena) (s t : Seat T) (word : ℕ) (h : Held) (failed turns : ℕ) (es : List Event) → keeps_of s ≡ true → failed < turns → IsSeat r t → KeepsStored s t → TakesSlot r (value_of word).body s t → IsFreeing (view t).actor word h → Acts (view s) (view t) (Pop (view s).number (value_of word)) es → failed_turns es ≡ 0 → Draws worn r s (keeping t (Some h) failed) failed turns (Ok (Some (value_of word)))
+  draws_kept r s t word h failed turns es keeps less seat stored takes frees took never =
       let e : added s t ≡ es = added_path s t es took.path in
       let rest : at_rest (view t).actor ≡ record (to_pocket (view t).actor) { line = None } = ap (out_of (view t).actor) frees.over ∙ ap (λ d. gave_up (view t).actor (busy_or 0 d (to_pocket (view t).actor))) frees.due in
       record {
         ready = record { seat = kept_seat r t (Some h) failed seat; free = ap (λ b. b.line) rest; pocket = sym (ap (λ b. b.pocket) rest ∙ (λ i. Some (record { node = frees.node i; mark = frees.mark i }))) };
         same = record { number = stored.number; role = stored.role; keeps = stored.keeps };
+        slots = takes;
         path = took.path ∙ ap (λ p. (view s).path ++ p) (sym e);
         answer = took.adds;
         few = (let c = ap failed_turns e in omega (arith, never, less, c));
@@ -158,13 +170,14 @@ module _ (worn : WornWord → Type 0) where
       }
 
   -- the queue was found empty
-  pub draws_empty : (r : Arena) (s t : Seat) (failed turns : ℕ) (es : List Event) → failed < turns → IsSeat r t → (view t).actor.line ≡ None → (view t).actor.pocket ≡ None → KeepsStored s t → (view t).path ≡ (view s).path ++ es → failed_turns es ≡ 0 → FoundEmpty (known_by (view s)) (known_by (view t)) → Draws worn r s (keeping t None failed) failed turns (Ok None)
-  draws_empty r s t failed turns es less seat over empty stored path never found =
+  pub draws_empty : {T : Type 0} (r : Arena) (s t : Seat T) (failed turns : ℕ) (es : List Event) → failed < turns → IsSeat r t → (view t).actor.line ≡ None → (view t).actor.pocket ≡ None → KeepsStored s t → KeepsSlots s t → (view t).path ≡ (view s).path ++ es → failed_turns es ≡ 0 → FoundEmpty (known_by (view s)) (known_by (view t)) → Draws worn r s (keeping t None failed) failed turns (Ok None)
+  draws_empty r s t failed turns es less seat over empty stored slots path never found =
       let e : added s t ≡ es = added_path s t es path in
       let rest : at_rest (view t).actor ≡ (view t).actor = ap (out_of (view t).actor) over in
       record {
         ready = record { seat = kept_seat r t None failed seat; free = ap (λ b. b.line) rest ∙ over; pocket = sym (ap (λ b. b.pocket) rest ∙ empty) };
         same = record { number = stored.number; role = stored.role; keeps = stored.keeps };
+        slots = kept_slots s t None failed slots;
         path = path ∙ ap (λ p. (view s).path ++ p) (sym e);
         answer = found;
         few = (let c = ap failed_turns e in omega (arith, never, less, c));
@@ -174,7 +187,7 @@ module _ (worn : WornWord → Type 0) where
       }
 
   -- a pop with no line of its call before it
-  whole : (r : Arena) (s x : Seat) (turns : ℕ) (out : Result (Option Taken) Refusal) → IsReady r s → Draws worn r s x 0 turns out → AnswersPop worn r s x turns out
+  whole : {T : Type 0} (r : Arena) (s x : Seat T) (turns : ℕ) (out : Result (Option Taken) Refusal) → IsReady r s → Draws worn r s x 0 turns out → AnswersPop worn r s x turns out
   whole r s x turns (Ok v) h d =
       record {
         ready = d.ready;
@@ -213,11 +226,11 @@ module _ (worn : WornWord → Type 0) where
       learns _ h = sees_on (view s) (view x) (added s x) h
 
   -- the pop of a seat whose pocket was empty
-  pub drawn_at_once : (r : Arena) (s v x : Seat) (n turns : ℕ) (out : Result (Option Taken) Refusal) → IsReady r s → v ≡ s → n ≡ 0 → Draws worn r v x n turns out → AnswersPop worn r s x turns out
+  pub drawn_at_once : {T : Type 0} (r : Arena) (s v x : Seat T) (n turns : ℕ) (out : Result (Option Taken) Refusal) → IsReady r s → v ≡ s → n ≡ 0 → Draws worn r v x n turns out → AnswersPop worn r s x turns out
   drawn_at_once r s v x n turns out h e f d = whole r s x turns out h (subst (λ u. Draws worn r u x 0 turns out) e (subst (λ m. Draws worn r v x m turns out) f d))
 
   -- the pop of a seat that first gave its node back
-  pub drawn_after_give : (r : Arena) (s u v x : Seat) (spent n turns : ℕ) (out : Result (Option Taken) Refusal) → IsReady r s → v ≡ u → n ≡ spent → KeepsName s u → HadNoEffect s u → spent ≡ failed_turns (added s u) → Draws worn r v x n turns out → AnswersPop worn r s x turns out
-  drawn_after_give r s u v x spent n turns out h e f name w g d =
+  pub drawn_after_give : {T : Type 0} (r : Arena) (s u v x : Seat T) (spent n turns : ℕ) (out : Result (Option Taken) Refusal) → IsReady r s → v ≡ u → n ≡ spent → KeepsName s u → KeepsSlots s u → HadNoEffect s u → spent ≡ failed_turns (added s u) → Draws worn r v x n turns out → AnswersPop worn r s x turns out
+  drawn_after_give r s u v x spent n turns out h e f name slots w g d =
       let k : Draws worn r u x spent turns out = subst (λ y. Draws worn r y x spent turns out) e (subst (λ m. Draws worn r v x m turns out) f d) in
-      whole r s x turns out h (draws_late r s u x (added s u) w 0 spent turns (omega (arith, g)) out name k)
+      whole r s x turns out h (draws_late r s u x (added s u) w 0 spent turns (omega (arith, g)) out name slots k)

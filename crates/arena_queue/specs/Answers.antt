@@ -1,5 +1,5 @@
 -- What the calls of a queue on an arena answer, whatever its algorithm.
-use Rattle.std.specs.Prelude.{◌≡◌, ℕ, ◌+◌, ◌≤◌, ◌<◌, ◌⊎◌, ◌++◌, true, false, Option, None, IfSome, IsSomeAnd, Result, OnOk, IfOk, IfErr}
+use Rattle.std.specs.Prelude.{◌≡◌, ℕ, ◌+◌, ◌≤◌, ◌<◌, ◌⊎◌, ◌++◌, true, false, Option, Some, None, IfSome, IsSomeAnd, Result, Ok, MatchResult, OnOk, IfOk, IfErr}
 use Rattle.std.specs.Option.{is_some}
 use Rattle.line_table.specs.declared.lines.Kind.{Kind}
 use Rattle.history.specs.declared.operations.Entry.TheVariants.{Push, Shut}
@@ -12,7 +12,8 @@ use Rattle.history.specs.Answers.{Pushed, PopAnswers, PushRefused as RefusedPush
 use Rattle.node_arena.specs.Machine.{Held}
 use Rattle.node_arena.specs.Arenas.{Arena}
 use Rattle.node_arena.specs.declared.seats.Seat.{Seat}
-use Rattle.node_arena.specs.Seats.{IsReady, KeepsName, view, known_of, pocket_of, keeps_of}
+use Rattle.node_arena.specs.Seats.{IsReady, KeepsName, KeepsSlots, view, known_of, pocket_of, keeps_of}
+use Rattle.node_arena.specs.Loads.{TakesSlot, GivesSlot}
 use Rattle.node_arena.specs.Turns.{failed_turns}
 use Rattle.node_arena.specs.Paths.{Acts, StopsAPush, StopsAPop, EndsFailed, MetCause, added}
 use Rattle.free_list.specs.Takes.{TakeRefused}
@@ -22,17 +23,17 @@ abbrev pub IsOfKind : Arena → Kind → Type 0
 IsOfKind r kind = r.plan.setup.kind ≡ kind
 
 -- a call pushed a body
-abbrev pub DidPush : (s t : Seat) → (body : ℕ) → Type 0
+abbrev pub DidPush : {T : Type 0} (s t : Seat T) → (body : ℕ) → Type 0
 DidPush s t body = Acts (view s) (view t) (Push (view s).number body) (added s t)
 
 -- a node is in a seat's pocket
-abbrev pub KeepsNode : Seat → (node : ℕ) → Type 0
+abbrev pub KeepsNode : {T : Type 0} → Seat T → (node : ℕ) → Type 0
 KeepsNode t node = IsSomeAnd (pocket_of t) (λ h. h.node ≡ node)
 
 -- why a push that has its node is refused, where so many turns failed before: all turns failed, the last one at the last
 -- step, and the node is in the pocket; or a word was found worn out at the last step, and the pocket is as `worn` says of
 -- that word, with no other node; or the queue was found shut at the last step, and the node is in the pocket
-abbrev pub PutRefused : (worn : WornWord → Option Held → Type 0) → Arena → Seat → Seat → (node spent turns : ℕ) → Refusal → Type 0
+abbrev pub PutRefused : {T : Type 0} (worn : WornWord → Option Held → Type 0) → Arena → Seat T → Seat T → (node spent turns : ℕ) → Refusal → Type 0
 PutRefused worn r s t node spent turns Busy = (spent + failed_turns (added s t) ≡ turns) × EndsFailed s t × KeepsNode t node
 PutRefused worn r s t node spent turns (WornOut word) =
     MetCause r s t (WornOut word) × worn word (pocket_of t) × IfSome (pocket_of t) (λ h. h.node ≡ node)
@@ -40,26 +41,27 @@ PutRefused worn r s t node spent turns Closed = MetCause r s t Closed × KeepsNo
 PutRefused worn r s t node spent turns _ = ⊥
 
 -- what a push answers that has its node, where so many turns failed before
-pub record Puts (worn : WornWord → Option Held → Type 0) (r : Arena) (s t : Seat) (node body spent turns : ℕ) (out : Result (Unit {0}) Refusal) : Type 0 where
+pub record Puts {T : Type 0} (worn : WornWord → Option Held → Type 0) (r : Arena) (s t : Seat T) (node body spent turns : ℕ) (out : Result (Unit {0}) Refusal) : Type 0 where
   pub ready : IsReady r t
   pub same : KeepsName s t
+  pub slots : MatchResult out (λ _. GivesSlot r t) (λ _. KeepsSlots s t)
   pub pushed : OnOk out (DidPush s t body × (pocket_of t ≡ None) × (spent + failed_turns (added s t) < turns))
   pub refused : IfErr out (λ refusal. StopsAPush s t refusal × PutRefused worn r s t node spent turns refusal)
 
 -- the cause of each refusal of a push is that of a take, or of the push of the node that it has: a word worn out, or the queue
 -- shut
-abbrev pub PushRefused : (worn : WornWord → Option Held → Type 0) → Arena → Seat → Seat → (turns : ℕ) → Refusal → Type 0
+abbrev pub PushRefused : {T : Type 0} (worn : WornWord → Option Held → Type 0) → Arena → Seat T → Seat T → (turns : ℕ) → Refusal → Type 0
 PushRefused worn r s t turns (WornOut OfFree) = TakeRefused r s t turns (WornOut OfFree)
 PushRefused worn r s t turns (WornOut word) = MetCause r s t (WornOut word) × worn word (pocket_of t)
 PushRefused worn r s t turns Closed = MetCause r s t Closed
 PushRefused worn r s t turns refusal = TakeRefused r s t turns refusal
 
 -- fewer turns than allowed failed
-abbrev pub FailsFewer : Seat → Seat → (turns : ℕ) → Type 0
+abbrev pub FailsFewer : {T : Type 0} → Seat T → Seat T → (turns : ℕ) → Type 0
 FailsFewer s t turns = failed_turns (added s t) < turns
 
 -- what a push answers
-pub record AnswersPush (worn : WornWord → Option Held → Type 0) (r : Arena) (s t : Seat) (body turns : ℕ) (out : Result (Unit {0}) Refusal) : Type 0 where
+pub record AnswersPush {T : Type 0} (worn : WornWord → Option Held → Type 0) (r : Arena) (s t : Seat T) (body turns : ℕ) (out : Result (Unit {0}) Refusal) : Type 0 where
   pub ready : IsReady r t
   pub number : (known_of t).number ≡ (known_of s).number
   pub keeps : keeps_of t ≡ keeps_of s
@@ -72,28 +74,34 @@ pub record AnswersPush (worn : WornWord → Option Held → Type 0) (r : Arena) 
 
 -- why a pop with an empty pocket is refused, where so many turns failed before: all turns failed, the last one at the last
 -- step, or a word of which `worn` says so was found worn out at the last step
-abbrev pub DrawRefused : (worn : WornWord → Type 0) → Arena → Seat → Seat → (spent turns : ℕ) → Refusal → Type 0
+abbrev pub DrawRefused : {T : Type 0} (worn : WornWord → Type 0) → Arena → Seat T → Seat T → (spent turns : ℕ) → Refusal → Type 0
 DrawRefused worn r s t spent turns Busy = (spent + failed_turns (added s t) ≡ turns) × EndsFailed s t
 DrawRefused worn r s t spent turns (WornOut word) = MetCause r s t (WornOut word) × worn word
 DrawRefused worn r s t spent turns Closed = MetCause r s t Closed
 DrawRefused worn r s t spent turns _ = ⊥
 
 -- of a call at most so many turns failed, with those of the give backs before and after its pop
-abbrev pub FailsFew : Seat → Seat → (turns : ℕ) → Type 0
+abbrev pub FailsFew : {T : Type 0} → Seat T → Seat T → (turns : ℕ) → Type 0
 FailsFew s t turns = failed_turns (added s t) ≤ turns
 
 -- after a pop a seat's pocket holds a node exactly where a value was taken
-abbrev pub KeepsItsNode : Seat → Option Taken → Type 0
+abbrev pub KeepsItsNode : {T : Type 0} → Seat T → Option Taken → Type 0
 KeepsItsNode t taken = is_some (pocket_of t) ≡ is_some taken
 
 -- a seat's pocket is empty, or each turn of its call failed, where so many failed before
-abbrev pub EmptiesPocket : Seat → Seat → (spent turns : ℕ) → Type 0
+abbrev pub EmptiesPocket : {T : Type 0} → Seat T → Seat T → (spent turns : ℕ) → Type 0
 EmptiesPocket s t spent turns = (pocket_of t ≡ None) ⊎ (spent + failed_turns (added s t) ≡ turns)
 
+-- the slot of the value that a pop took came out with the seat, and else the slots that are out with it are those that were
+abbrev pub DrawMoves : {T : Type 0} → Arena → Seat T → Seat T → Result (Option Taken) Refusal → Type 0
+DrawMoves r s t (Ok (Some v)) = TakesSlot r v.body s t
+DrawMoves r s t out = KeepsSlots s t
+
 -- what a pop answers that has an empty pocket, where so many turns failed before
-pub record Draws (worn : WornWord → Type 0) (r : Arena) (s t : Seat) (spent turns : ℕ) (out : Result (Option Taken) Refusal) : Type 0 where
+pub record Draws {T : Type 0} (worn : WornWord → Type 0) (r : Arena) (s t : Seat T) (spent turns : ℕ) (out : Result (Option Taken) Refusal) : Type 0 where
   pub ready : IsReady r t
   pub same : KeepsName s t
+  pub slots : DrawMoves r s t out
   pub path : (view t).path ≡ (view s).path ++ added s t
   pub answer : IfOk out (λ o. PopAnswers (known_of s) o (known_of t))
   pub few : OnOk out (spent + failed_turns (added s t) ≤ turns)
@@ -102,15 +110,15 @@ pub record Draws (worn : WornWord → Type 0) (r : Arena) (s t : Seat) (spent tu
   pub refused : IfErr out (λ refusal. StopsAPop s t refusal × DrawRefused worn r s t spent turns refusal)
 
 -- after a pop its seat's pocket is empty, or each of so many turns failed
-abbrev pub FreesItsNode : Seat → Seat → (turns : ℕ) → Type 0
+abbrev pub FreesItsNode : {T : Type 0} → Seat T → Seat T → (turns : ℕ) → Type 0
 FreesItsNode s t turns = (pocket_of t ≡ None) ⊎ (failed_turns (added s t) ≡ turns)
 
 -- why a pop is refused
-abbrev pub PopRefused : (worn : WornWord → Type 0) → Arena → Seat → Seat → (turns : ℕ) → Refusal → Type 0
+abbrev pub PopRefused : {T : Type 0} (worn : WornWord → Type 0) → Arena → Seat T → Seat T → (turns : ℕ) → Refusal → Type 0
 PopRefused worn r s t turns refusal = DrawRefused worn r s t 0 turns refusal
 
 -- what a pop answers
-pub record AnswersPop (worn : WornWord → Type 0) (r : Arena) (s t : Seat) (turns : ℕ) (out : Result (Option Taken) Refusal) : Type 0 where
+pub record AnswersPop {T : Type 0} (worn : WornWord → Type 0) (r : Arena) (s t : Seat T) (turns : ℕ) (out : Result (Option Taken) Refusal) : Type 0 where
   pub ready : IsReady r t
   pub number : (known_of t).number ≡ (known_of s).number
   pub keeps : keeps_of t ≡ keeps_of s
@@ -123,21 +131,22 @@ pub record AnswersPop (worn : WornWord → Type 0) (r : Arena) (s t : Seat) (tur
   pub caused : IfErr out (PopRefused worn r s t turns)
 
 -- a call shut the queue
-abbrev pub Shuts : (s t : Seat) → Type 0
+abbrev pub Shuts : {T : Type 0} (s t : Seat T) → Type 0
 Shuts s t = Acts (view s) (view t) (Shut (view s).number) (added s t)
 
 -- why a shut is refused: all turns failed, the last one at the last step; or Tail was found worn out at the last step, where
 -- `worn` says that this stops one; or the queue was found shut at the last step
-abbrev pub ShutRefused : (worn : Type 0) → Arena → Seat → Seat → (turns : ℕ) → Refusal → Type 0
+abbrev pub ShutRefused : {T : Type 0} (worn : Type 0) → Arena → Seat T → Seat T → (turns : ℕ) → Refusal → Type 0
 ShutRefused worn r s t turns Busy = (failed_turns (added s t) ≡ turns) × EndsFailed s t
 ShutRefused worn r s t turns (WornOut OfTail) = MetCause r s t (WornOut OfTail) × worn
 ShutRefused worn r s t turns Closed = MetCause r s t Closed
 ShutRefused worn r s t turns _ = ⊥
 
 -- what a shut answers: what is in the pocket stays there
-pub record AnswersShut (worn : Type 0) (r : Arena) (s t : Seat) (turns : ℕ) (out : Result (Unit {0}) Refusal) : Type 0 where
+pub record AnswersShut {T : Type 0} (worn : Type 0) (r : Arena) (s t : Seat T) (turns : ℕ) (out : Result (Unit {0}) Refusal) : Type 0 where
   pub ready : IsReady r t
   pub same : KeepsName s t
+  pub slots : KeepsSlots s t
   pub pocket : pocket_of t ≡ pocket_of s
   pub shut : OnOk out (Shuts s t)
   pub few : OnOk out (FailsFewer s t turns)

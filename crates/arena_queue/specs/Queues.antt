@@ -20,9 +20,9 @@ abbrev pub permits_of : {A : Type 0} {bits : ℕ} {g : Ghosts A bits} → ArenaQ
 permits_of q = seats.permits_of (arena_of q)
 
 -- a seat of a queue, in no call
-abbrev pub IsQueueSeat : {A : Type 0} {bits : ℕ} {g : Ghosts A bits} → ArenaQueueOf A bits g → Seat → Type 0
+abbrev pub IsQueueSeat : {A : Type 0} {bits : ℕ} {g : Ghosts A bits} → ArenaQueueOf A bits g → Seat (Unit {0}) → Type 0
 IsQueueSeat q s = IsReady (arena_of q) s
 
 -- a new queue of a kind, of so many nodes and this greatest count, with a new seat for each role
-abbrev pub IsQueueMade : {A : Type 0} {bits : ℕ} {g : Ghosts A bits} → Kind → (nodes limit : ℕ) → List Role → ArenaQueueOf A bits g → List Seat → Type 0
+abbrev pub IsQueueMade : {A : Type 0} {bits : ℕ} {g : Ghosts A bits} → Kind → (nodes limit : ℕ) → List Role → ArenaQueueOf A bits g → List (Seat (Unit {0})) → Type 0
 IsQueueMade {bits = bits} kind nodes limit roles q seats = IsMade (plan bits kind nodes limit roles) (arena_of q) seats

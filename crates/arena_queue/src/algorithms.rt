@@ -4,6 +4,7 @@ ghost use Rattle.line_table.specs.declared.lines.Kind.{Kind as TheKind};
 ghost use Rattle.history.specs.declared.refusals.WornWord.{WornWord as TheWornWord};
 ghost use Rattle.node_arena.specs.Machine.{Held as TheHeld};
 ghost use Rattle.node_arena.specs.Plans.{may_push, may_pop};
+ghost use Rattle.node_arena.specs.Loads.{IsLoaded};
 ghost use Rattle.node_arena.specs.Seats.{IsReady, role_of, pocket_of};
 ghost use Rattle.arena_queue.specs.Answers.{IsOfKind, Puts, Draws, AnswersShut};
 
@@ -30,9 +31,9 @@ pub trait Algorithm<const B: u32> {
         ensures { result ≡ kind };
 
     /// The push with the node in the pocket, where `spent` turns of this call failed before.
-    fn put(
-        arena: &ArenaOf<B>,
-        seat: &mut Seat,
+    fn put<T>(
+        arena: &ArenaOf<B, T>,
+        seat: &mut Seat<T>,
         held: Held,
         body: Body,
         spent: u32,
@@ -40,15 +41,16 @@ pub trait Algorithm<const B: u32> {
     ) -> Result<(), Refusal>
         requires ready { IsReady arena.now seat.old }
         requires kind { IsOfKind arena.now kind }
+        requires loaded { IsLoaded arena.now body seat.old }
         requires role { IsTrue (may_push (role_of seat.old)) }
         requires full { pocket_of seat.old ≡ Some held }
         requires turns { spent < turns }
         ensures { Puts push_worn arena.now seat.old seat.new held.node body spent turns result };
 
     /// The pop with an empty pocket, where `spent` turns of this call failed before.
-    fn draw(
-        arena: &ArenaOf<B>,
-        seat: &mut Seat,
+    fn draw<T>(
+        arena: &ArenaOf<B, T>,
+        seat: &mut Seat<T>,
         spent: u32,
         turns: u32,
     ) -> Result<Option<Taken>, Refusal>
@@ -60,7 +62,7 @@ pub trait Algorithm<const B: u32> {
         ensures { Draws pop_worn arena.now seat.old seat.new spent turns result };
 
     /// The shut, which leaves the pocket alone.
-    fn shut(arena: &ArenaOf<B>, seat: &mut Seat, turns: u32) -> Result<(), Refusal>
+    fn shut<T>(arena: &ArenaOf<B, T>, seat: &mut Seat<T>, turns: u32) -> Result<(), Refusal>
         requires ready { IsReady arena.now seat.old }
         requires kind { IsOfKind arena.now kind }
         requires role { IsTrue (may_push (role_of seat.old)) }

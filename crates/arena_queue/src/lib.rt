@@ -2,8 +2,10 @@
 #![tactic(auto)]
 
 mod algorithms;
+mod left;
 mod looks;
 mod queue;
 
 pub use algorithms::Algorithm;
+pub use left::Left;
 pub use queue::{ArenaQueue, ArenaQueueOf};

@@ -11,8 +11,9 @@ impl<A: Algorithm<B>, const B: u32> ArenaQueueOf<A, B> {
     ghost use Rattle.node_arena.specs.Looks.{FoundSo, WasSoLong};
     ghost use Rattle.arena_queue.specs.Queues.{IsQueueSeat};
 
-    /// Whether the queue is empty, as it was at some moment of the call; or that pops took effect while the seat looked. By
-    /// three loads: of Head, of what follows its node, and of Head again. Takes no memory and doesn't wait.
+    /// Whether the queue is empty, as it was at a moment no older than what the seat had seen before; or that pops took
+    /// effect while the seat looked. By three loads: of Head, of what follows its node, and of Head again. Takes no memory
+    /// and doesn't wait.
     ///
     /// ```rust
     /// match queue.emptiness(&mut seat) {
@@ -33,9 +34,10 @@ impl<A: Algorithm<B>, const B: u32> ArenaQueueOf<A, B> {
         self.arena.emptiness(seat)
     }
 
-    /// How many values the queue holds, as bounds of what it held at some moment of the call: one number where neither Head
-    /// nor Tail moved meanwhile. Of the non-blocking queue alone, whose Tail counts pushes. By five loads: of Head, of Tail,
-    /// of what follows its node, of Tail again, and of Head again. Takes no memory and doesn't wait.
+    /// How many values the queue holds, as bounds of what it held at a moment no older than what the seat had seen before:
+    /// one number where neither Head nor Tail moved meanwhile. Of the non-blocking queue alone, whose Tail counts pushes. By
+    /// five loads: of Head, of Tail, of what follows its node, of Tail again, and of Head again. Takes no memory and doesn't
+    /// wait.
     ///
     /// ```rust
     /// let len = queue.len(&mut seat);

@@ -2,6 +2,7 @@
 ghost use Rattle.std.specs.Prelude.{◌≡◌, ◌+◌, ◌*◌, ◌≤◌, ◌↔◌, IsNone, IfSome, IfOk, IfErr, OnOk, OnErr, None, true, false};
 ghost use Rattle.counted_ref.specs.Ref.{IsSplit};
 ghost use Rattle.node_arena.specs.Plans.{IsPlanned};
+ghost use Rattle.node_arena.specs.Seats.{carries_of};
 ghost use Rattle.node_arena.specs.Making.{plan, NewRefused};
 ghost use Rattle.arena_queue.specs.Answers.{IsOfKind};
 
@@ -18,6 +19,7 @@ pub struct ArenaQueueOf<A: Algorithm<B>, const B: u32> {
     pub(crate) arena: ArenaOf<B>,
     algorithm: PhantomData<A>,
     ghost runs: { IsOfKind arena A.kind },
+    ghost numbers: { carries_of arena ≡ false },
 }
 
 /// With 24 bits for the number of a node.
@@ -113,6 +115,8 @@ impl<A: Algorithm<B>, const B: u32> Fifo for ArenaQueueOf<A, B> {
     ghost shut_cause = { λ q. ShutRefused A.shut_worn (arena_of q) };
 
     ghost sound = { λ q s h. sound_of (arena_of q).plan (view s) h.seat.sits.fitted };
+
+    ghost closed_alike = { λ q s t turns cause. cause };
 
     ghost seat_prop = { λ q s. IsReady-prop (arena_of q) s };
 

@@ -10,7 +10,7 @@ use Rattle.node_arena.specs.Turns.{failed_at, failed_turns}
 use Rattle.node_arena.specs.Paths.{FailedAt}
 use Rattle.node_arena.proofs.Paths.{failed_snoc, event, to_is, failed_last}
 
-module _ (r : Arena) (s t : Seat) (l : Line) (n : ℕ) (d : DidStep r s t continues l n) (before : List Event) (o : Option Line) (to : (view t).actor.line ≡ o) where
+module _ {T : Type 0} (r : Arena) (s t : Seat T) (l : Line) (n : ℕ) (d : DidStep r s t continues l n) (before : List Event) (o : Option Line) (to : (view t).actor.line ≡ o) where
   -- as many as the last line, by where it went
   pub turns_then : failed_turns before ≡ 0 → failed_turns (before ++ event r s t continues l n d ∷ []) ≡ failed_at l o
   turns_then never = let f = failed_snoc before (event r s t continues l n d) in let z = ap (failed_at l) (to_is r s t continues l n d ∙ to) in omega arith

@@ -26,10 +26,10 @@ use Rattle.nonblocking.specs.Pops.{Running, AgreesAt, CallIsAt}
 use Rattle.nonblocking.proofs.PopSteps.{ref_d2, ref_d3, ref_d4, ref_d5, value_d12, ref_d13}
 
 -- a pop that is about to read Head knows nothing of its registers
-pub stands_d2 : (r : Arena) (t : Seat) (prologue : Prologue) (a : Running) → IsBefore r t prologue D2 → CallIsAt r t prologue D2 a
+pub stands_d2 : {T : Type 0} (r : Arena) (t : Seat T) (prologue : Prologue) (a : Running) → IsBefore r t prologue D2 → CallIsAt r t prologue D2 a
 stands_d2 r t prologue a h = record { before = h; knows = tt }
 
-module _ (r : Arena) (s t : Seat) (prologue : Prologue) (n : ℕ) (a : Running) where
+module _ {T : Type 0} (r : Arena) (s t : Seat T) (prologue : Prologue) (n : ℕ) (a : Running) where
   abbrev b : Actor
   b = after_prologue r.plan.setup (view s).number prologue (view s).actor
 

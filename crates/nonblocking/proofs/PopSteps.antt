@@ -14,7 +14,7 @@ use Rattle.node_arena.proofs.Reading.{read_back, value_parts}
 use Rattle.node_arena.specs.Machine.{value_of}
 use Rattle.nonblocking.specs.Pops.{Running, CallIsAt}
 
-module _ (r : Arena) (s : Seat) (a : Running) where
+module _ {T : Type 0} (r : Arena) (s : Seat T) (a : Running) where
   -- the counts that D10 and D13 raise have room
   pub room_d10 : (z : Setup) → z ≡ r.plan.setup → CallIsAt r s continues D10 a → a.tail.count < z.limit
   room_d10 z e h = by_known r s continues D10 h.before le_prop (λ k. omega (arith, k.room, ap (λ (x : Ref). x.count) h.knows.0, ap (λ (y : Setup). y.limit) e))
@@ -29,7 +29,7 @@ module _ (r : Arena) (s : Seat) (a : Running) where
   pub next_d13 : CallIsAt r s continues D13 a → a.next.node < reserved_node r.plan.setup.bits
   next_d13 h = by_known r s continues D13 h.before le_prop (λ k. omega (arith, k.within, k.registers.next.node, ap (λ (x : Ref). x.node) h.knows.1, h.before.seat.arena.sized.numbered))
 
-module _ (r : Arena) (s t : Seat) (prologue : Prologue) (n : ℕ) where
+module _ {T : Type 0} (r : Arena) (s t : Seat T) (prologue : Prologue) (n : ℕ) where
   -- the references and the value found at the lines that read one
   pub ref_d2 : (d : DidStep r s t prologue D2 n) → ref_of r.plan.setup.bits n ≡ d.told.was.world.shared.head
   ref_d2 d = read_back r.plan.setup.bits d.told.sized.split d.told.was.world.shared.head n (was_fits r.plan prologue D2 n (view s) (view t) d.told WordHead) d.told.found

@@ -13,13 +13,16 @@ use Rattle.history.proofs.Learning.{answers_then}
 use Rattle.node_arena.specs.Traces.{Event, outcome_at}
 use Rattle.node_arena.specs.Prologues.{Prologue, continues}
 use Rattle.node_arena.specs.Rule.{notes_of, SaysOfSeen}
+use Rattle.history.specs.declared.operations.Taken.{Taken}
 use Rattle.node_arena.specs.Arenas.{Arena}
 use Rattle.node_arena.specs.declared.seats.Seat.{Seat}
-use Rattle.node_arena.specs.Seats.{IsBefore, KeepsStored, DidStep, view, known_of}
+use Rattle.node_arena.specs.Seats.{IsBefore, KeepsStored, KeepsSlots, DidStep, view, known_of}
+use Rattle.node_arena.specs.Loads.{TakesSlot}
+use Rattle.node_arena.proofs.Loads.{takes_slot, then_takes}
 use Rattle.node_arena.specs.Turns.{failed_at, failed_turns}
 use Rattle.node_arena.specs.Paths.{ExtendsPath}
 use Rattle.node_arena.proofs.Known.{empty_before}
-use Rattle.node_arena.proofs.Paths.{then_shut_empty, shut_empty_on, no_walk, walk_then, then_act, then_stored, sees_on, stopped_behind, failed_behind, failed-append, event, walk_one, walk_on, act_on, stopped_at}
+use Rattle.node_arena.proofs.Paths.{then_shut_empty, shut_empty_on, no_walk, walk_then, then_act, then_stored, then_slots, quiet_slots, sees_on, stopped_behind, failed_behind, failed-append, event, walk_one, walk_on, act_on, stopped_at}
 use Rattle.nonblocking.specs.Values.{IsNonBlocking}
 use Rattle.node_arena.specs.Machine.{value_of}
 use Rattle.arena_lines.specs.declared.outcomes.Outcome.{Outcome}
@@ -27,23 +30,23 @@ use Rattle.arena_lines.specs.declared.outcomes.Outcome.TheVariants.{Goes, Ends}
 use Rattle.arena_lines.specs.declared.outcomes.Reply.TheVariants.{Done as IsDone, Value as IsValue, Empty as IsEmpty, Refused as IsRefused}
 use Rattle.nonblocking.specs.declared.pop_outcomes.Turn.{Turn}
 use Rattle.nonblocking.specs.declared.pop_outcomes.Turn.TheVariants as turn
-use Rattle.nonblocking.specs.Pops.{Running, Stops, turn_of, CallIsAt, Follows, Fell, Looked, Looks, Turned, Turns}
+use Rattle.nonblocking.specs.Pops.{Running, Stops, turn_of, CallIsAt, Follows, Fell, Looked, Looks, Turned, TurnMoves, Turns}
 use Rattle.arena_lines.proofs.Registers.{same_registers}
 use Rattle.nonblocking.proofs.FailedTurns.{turns_then, fails_last}
 use Rattle.nonblocking.proofs.PopStands.{stands_d2, after_d2, after_d3, after_d4, Fifth, after_d5, after_d10, never_d12, after_d12, Won, won_d13, Lost, lost_d13}
 
 -- after D2, D3 and D4
-pub to_d3 : (r : Arena) (s t : Seat) (prologue : Prologue) (l : Line) (a b : Running) → IsBefore r s prologue D2 → Follows r s t prologue D2 a (Goes l b) → CallIsAt r t continues D3 b
+pub to_d3 : {T : Type 0} (r : Arena) (s t : Seat T) (prologue : Prologue) (l : Line) (a b : Running) → IsBefore r s prologue D2 → Follows r s t prologue D2 a (Goes l b) → CallIsAt r t continues D3 b
 to_d3 r s t prologue l a b h f = subst (CallIsAt r t continues D3) (sym (same_registers l D3 b (record a { head = ref_of r.plan.setup.bits f.found }) f.leads_to)) (after_d2 r s t prologue f.found a (stands_d2 r s prologue a h) f.did)
 
-pub to_d4 : (r : Arena) (s t : Seat) (l : Line) (a b : Running) → CallIsAt r s continues D3 a → Follows r s t continues D3 a (Goes l b) → CallIsAt r t continues D4 b
+pub to_d4 : {T : Type 0} (r : Arena) (s t : Seat T) (l : Line) (a b : Running) → CallIsAt r s continues D3 a → Follows r s t continues D3 a (Goes l b) → CallIsAt r t continues D4 b
 to_d4 r s t l a b h f = subst (CallIsAt r t continues D4) (sym (same_registers l D4 b (record a { tail = ref_of r.plan.setup.bits f.found }) f.leads_to)) (after_d3 r s t continues f.found a h f.did)
 
-pub to_d5 : (r : Arena) (s t : Seat) (l : Line) (a b : Running) → CallIsAt r s continues D4 a → Follows r s t continues D4 a (Goes l b) → CallIsAt r t continues D5 b
+pub to_d5 : {T : Type 0} (r : Arena) (s t : Seat T) (l : Line) (a b : Running) → CallIsAt r s continues D4 a → Follows r s t continues D4 a (Goes l b) → CallIsAt r t continues D5 b
 to_d5 r s t l a b h f = subst (CallIsAt r t continues D5) (sym (same_registers l D5 b (record a { next = ref_of r.plan.setup.bits f.found }) f.leads_to)) (after_d4 r s t continues f.found a h f.did)
 
 -- a line whose step goes back to D2 fails its turn
-module _ (r : Arena) (s t x : Seat) (l : Line) (n : ℕ) (d : DidStep r t x continues l n) (before : List Event) (w : ExtendsPath (view s) (view t) before) (never : failed_turns before ≡ 0) (one : failed_at l (Some D2) ≡ 1) where
+module _ {T : Type 0} (r : Arena) (s t x : Seat T) (l : Line) (n : ℕ) (d : DidStep r t x continues l n) (before : List Event) (w : ExtendsPath (view s) (view t) before) (never : failed_turns before ≡ 0) (one : failed_at l (Some D2) ≡ 1) where
   abbrev last : Event
   last = event r t x continues l n d
 
@@ -57,7 +60,7 @@ module _ (r : Arena) (s t x : Seat) (l : Line) (n : ℕ) (d : DidStep r t x cont
       }
 
 -- the lines D2 to D5
-module _ (r : Arena) (s u t v x : Seat) (prologue : Prologue) (a b c d : Running) (l k j : Line) (out : Outcome Running) (h : IsBefore r s prologue D2) (f2 : Follows r s u prologue D2 a (Goes l b)) (f3 : Follows r u t continues D3 b (Goes k c)) (f4 : Follows r t v continues D4 c (Goes j d)) (f5 : Follows r v x continues D5 d out) where
+module _ {T : Type 0} (r : Arena) (s u t v x : Seat T) (prologue : Prologue) (a b c d : Running) (l k j : Line) (out : Outcome Running) (h : IsBefore r s prologue D2) (f2 : Follows r s u prologue D2 a (Goes l b)) (f3 : Follows r u t continues D3 b (Goes k c)) (f4 : Follows r t v continues D4 c (Goes j d)) (f5 : Follows r v x continues D5 d out) where
   abbrev two : Event
   two = event r s u prologue D2 f2.found f2.did
 
@@ -149,12 +152,15 @@ module _ (r : Arena) (s u t v x : Seat) (prologue : Prologue) (a b c d : Running
         seat = f5.did.seat;
         empty = all.0;
         stored = then_stored s v x (then_stored s t v (then_stored s u t f2.did.stored f3.did.stored) f4.did.stored) f5.did.stored;
+        slots = then_slots s v x
+            (then_slots s t v (then_slots s u t (quiet_slots r s u prologue D2 f2.found f2.did refl) (quiet_slots r u t continues D3 f3.found f3.did refl)) (quiet_slots r t v continues D4 f4.found f4.did refl))
+            (quiet_slots r v x continues D5 f5.found f5.did refl);
         lines = reads ++ five ∷ [];
         looked = all.1;
       }
 
 -- Tail is moved, and the turn failed
-pub moves_tail : (r : Arena) (s t : Seat) (a : Running) (out : Outcome Running) → CallIsAt r s continues D10 a → Follows r s t continues D10 a out → Turns r s t (turn_of out)
+pub moves_tail : {T : Type 0} (r : Arena) (s t : Seat T) (a : Running) (out : Outcome Running) → CallIsAt r s continues D10 a → Follows r s t continues D10 a out → Turns r s t (turn_of out)
 moves_tail r s t a out h f =
     let before : IsBefore r t continues D2 = after_d10 r s t continues f.found a h f.did in
     subst (λ o. Turns r s t (turn_of o)) (sym f.leads_to)
@@ -162,12 +168,13 @@ moves_tail r s t a out h f =
       seat = f.did.seat;
       empty = empty_before r t continues D2 before;
       stored = f.did.stored;
+      slots = quiet_slots r s t continues D10 f.found f.did refl;
       lines = event r s t continues D10 f.found f.did ∷ [];
       turned = fell r s s t D10 f.found f.did [] (no_walk (view s)) refl refl (walk_on r s t continues D10 f.found f.did refl tt) before;
     }
 
 -- Head is never worn out at D12
-pub never_worn : (r : Arena) (s t : Seat) (a : Running) (out : Outcome Running) → IsNonBlocking r → CallIsAt r s continues D12 a → Follows r s t continues D12 a out → ((l : Line) (b : Running) → out ≡ Goes l b → ⊥) → ⊥
+pub never_worn : {T : Type 0} (r : Arena) (s t : Seat T) (a : Running) (out : Outcome Running) → IsNonBlocking r → CallIsAt r s continues D12 a → Follows r s t continues D12 a out → ((l : Line) (b : Running) → out ≡ Goes l b → ⊥) → ⊥
 never_worn r s t a out kind h f other = go (nat_eq a.head.count r.plan.setup.limit) refl f.leads_to
   where
     go : (p : Bool) → nat_eq a.head.count r.plan.setup.limit ≡ p → out ≡ (if p then Ends (IsRefused (WornOut OfHead)) else Goes D13 (record a { val = f.found })) → ⊥
@@ -175,7 +182,7 @@ never_worn r s t a out kind h f other = go (nat_eq a.head.count r.plan.setup.lim
     go false e q = other D13 (record a { val = f.found }) q
 
 -- the lines D12 and D13
-module _ (r : Arena) (s t : Seat) (a b : Running) (l : Line) (h : CallIsAt r s continues D12 a) (f : Follows r s t continues D12 a (Goes l b)) where
+module _ {T : Type 0} (r : Arena) (s t : Seat T) (a b : Running) (l : Line) (h : CallIsAt r s continues D12 a) (f : Follows r s t continues D12 a (Goes l b)) where
   pub to_d13 : CallIsAt r t continues D13 b
   to_d13 = go (nat_eq a.head.count r.plan.setup.limit) refl f.leads_to
     where
@@ -189,19 +196,29 @@ module _ (r : Arena) (s t : Seat) (a b : Running) (l : Line) (h : CallIsAt r s c
   read_walk : ExtendsPath (view s) (view t) (twelve ∷ [])
   read_walk = walk_on r s t continues D12 f.found f.did refl tt
 
-  pub moves_head : (x : Seat) (out : Outcome Running) → Follows r t x continues D13 b out → Turns r s x (turn_of out)
+  pub moves_head : (x : Seat T) (out : Outcome Running) → Follows r t x continues D13 b out → Turns r s x (turn_of out)
   moves_head x out g =
       let all = go (same_ref (ref_of r.plan.setup.bits g.found) b.head) refl in
       record {
         seat = g.did.seat;
         empty = all.0;
         stored = then_stored s t x f.did.stored g.did.stored;
+        slots = subst (λ o. TurnMoves r s x (turn_of o)) (sym g.leads_to) (moves (same_ref (ref_of r.plan.setup.bits g.found) b.head) refl);
         lines = twelve ∷ last ∷ [];
         turned = subst (λ o. Turned r s x (twelve ∷ last ∷ []) (turn_of o)) (sym g.leads_to) all.1;
       }
     where
       last : Event
       last = event r t x continues D13 g.found g.did
+
+      read_slots : KeepsSlots s t
+      read_slots = quiet_slots r s t continues D12 f.found f.did refl
+
+      moves : (p : Bool) → same_ref (ref_of r.plan.setup.bits g.found) b.head ≡ p → TurnMoves r s x (turn_of (if p then Goes F1 (record b { node = b.head.node; mark = b.next.count; due = Some (IsValue b.val) }) else Goes D2 b))
+      moves true e =
+          let w : Won r t x continues g.found b g.did = won_d13 r t x continues g.found b to_d13 g.did e in
+          then_takes r (value_of b.val).body s t x read_slots (subst (λ (v : Taken). TakesSlot r v.body t x) to_d13.knows.2 (takes_slot r t x continues D13 g.found g.did (view t).number (view t).actor.val w.adds))
+      moves false e = let w : Lost r t x continues g.found b g.did = lost_d13 r t x continues g.found b to_d13 g.did e in then_slots s t x read_slots (quiet_slots r t x continues D13 g.found g.did w.adds)
 
       go : (p : Bool) → same_ref (ref_of r.plan.setup.bits g.found) b.head ≡ p → ((view x).actor.pocket ≡ None) × Turned r s x (twelve ∷ event r t x continues D13 g.found g.did ∷ []) (turn_of (if p then Goes F1 (record b { node = b.head.node; mark = b.next.count; due = Some (IsValue b.val) }) else Goes D2 b))
       go true e =
@@ -222,7 +239,13 @@ module _ (r : Arena) (s t : Seat) (a b : Running) (l : Line) (h : CallIsAt r s c
           (empty_before r x continues D2 w.before, fell r s t x D13 g.found g.did (twelve ∷ []) read_walk refl refl (walk_on r t x continues D13 g.found g.did w.adds tt) w.before)
 
 -- lines of a turn before its last ones
-module _ (r : Arena) (s t x : Seat) (es : List Event) (stored : KeepsStored s t) (w : ExtendsPath (view s) (view t) es) (never : failed_turns es ≡ 0) where
+module _ {T : Type 0} (r : Arena) (s t x : Seat T) (es : List Event) (stored : KeepsStored s t) (slots : KeepsSlots s t) (w : ExtendsPath (view s) (view t) es) (never : failed_turns es ≡ 0) where
+  moved : (out : Turn) → TurnMoves r t x out → TurnMoves r s x out
+  moved (turn.Took word h) y = then_takes r (value_of word).body s t x slots y
+  moved turn.Failed y = then_slots s t x slots y
+  moved turn.Empty y = then_slots s t x slots y
+  moved (turn.Refused refusal) y = then_slots s t x slots y
+
   behind : (out : Turn) (fs : List Event) → Turned r t x fs out → Turned r s x (es ++ fs) out
   behind (turn.Took word h) fs k =
       record {
@@ -267,4 +290,4 @@ module _ (r : Arena) (s t x : Seat) (es : List Event) (stored : KeepsStored s t)
           }
 
   pub turn_behind : (out : Turn) → Turns r t x out → Turns r s x out
-  turn_behind out d = record { seat = d.seat; empty = d.empty; stored = then_stored s t x stored d.stored; lines = es ++ d.lines; turned = behind out d.lines d.turned }
+  turn_behind out d = record { seat = d.seat; empty = d.empty; stored = then_stored s t x stored d.stored; slots = moved out d.slots; lines = es ++ d.lines; turned = behind out d.lines d.turned }

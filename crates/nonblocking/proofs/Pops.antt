@@ -15,7 +15,8 @@ use Rattle.node_arena.specs.Turns.{failed_turns}
 use Rattle.node_arena.specs.Paths.{ExtendsPath, added}
 use Rattle.free_list.specs.Gives.{GiveAnswers}
 use Rattle.node_arena.proofs.Known.{empty_before}
-use Rattle.node_arena.proofs.Paths.{no_walk, walk_then, then_stored, added_is, ends_failed, failed-append, failed_behind, kept_seat}
+use Rattle.node_arena.proofs.Paths.{no_walk, walk_then, then_stored, no_slots, then_slots, added_is, ends_failed, failed-append, failed_behind, kept_seat}
+use Rattle.node_arena.proofs.Loads.{kept_slots}
 use Rattle.arena_queue.specs.Answers.{Draws}
 use Rattle.arena_queue.proofs.Pops.{draws_late, draws_worn, draws_shut, draws_taken, draws_kept, draws_empty}
 use Rattle.nonblocking.specs.Values.{IsNonBlocking}
@@ -25,28 +26,30 @@ use Rattle.nonblocking.specs.Pops.{Turns, Trying}
 use Rattle.nonblocking.specs.Worn.{pop_worn}
 
 -- an actor that begins a pop with this pocket
-abbrev set_out : Arena → Seat → Option Held → Actor
+abbrev set_out : {T : Type 0} → Arena → Seat T → Option Held → Actor
 set_out r s p = from_pocket F1 p (record (at_rest (view s).actor) { line = Some (dequeues r.plan.setup.kind); op = Deq; due = None; entry = None })
 
 -- a pop with an empty pocket sets out
-pub pops_out : (r : Arena) (s : Seat) → IsReady r s → pocket_of s ≡ None → IsNonBlocking r → Trying r s s 0
+pub pops_out : {T : Type 0} (r : Arena) (s : Seat T) → IsReady r s → pocket_of s ≡ None → IsNonBlocking r → Trying r s s 0
 pops_out r s h none kind =
     record {
       before = record { seat = h.seat; can = (refl, h.free); line = ap (λ p. (set_out r s p).line) (sym h.pocket ∙ none) ∙ ap (λ k. Some (dequeues k)) kind };
       stored = record { number = refl; role = refl; keeps = refl; pocket = refl; failed = refl };
+      slots = no_slots s;
       lines = [];
       walks = no_walk (view s);
       failed = refl;
       last = λ one. absurd (omega arith);
     }
 
-module _ (r : Arena) (s t x : Seat) (n : ℕ) (g : Trying r s t n) where
+module _ {T : Type 0} (r : Arena) (s t x : Seat T) (n : ℕ) (g : Trying r s t n) where
   -- a turn failed
   pub pop_again : Turns r t x turn.Failed → Trying r s x (n + 1)
   pop_again d =
       record {
         before = rw add-one d.turned.before;
         stored = then_stored s t x g.stored d.stored;
+        slots = then_slots s t x g.slots d.slots;
         lines = g.lines ++ d.lines;
         walks = walk_then (view s) (view t) (view x) g.lines d.lines g.walks d.turned.walks;
         failed = omega (arith, failed-append g.lines d.lines, g.failed, d.turned.once);
@@ -55,10 +58,10 @@ module _ (r : Arena) (s t x : Seat) (n : ℕ) (g : Trying r s t n) where
 
   -- a turn ended the pop
   pub pop_ends : (spent turns : ℕ) (o : Result (Option Taken) Refusal) → Draws pop_worn r t x (spent + n) turns o → Draws pop_worn r s x spent turns o
-  pop_ends spent turns o d = draws_late pop_worn r s t x g.lines g.walks spent (spent + n) turns (omega (arith, g.failed)) o (record { number = g.stored.number; role = g.stored.role; keeps = g.stored.keeps }) d
+  pop_ends spent turns o d = draws_late pop_worn r s t x g.lines g.walks spent (spent + n) turns (omega (arith, g.failed)) o (record { number = g.stored.number; role = g.stored.role; keeps = g.stored.keeps }) g.slots d
 
 -- all turns failed
-pub pop_gives_up : (r : Arena) (s t : Seat) (spent turns n : ℕ) → 1 ≤ n → spent + n ≡ turns → Trying r s t n → Draws pop_worn r s (keeping t None turns) spent turns (Err Busy)
+pub pop_gives_up : {T : Type 0} (r : Arena) (s t : Seat T) (spent turns n : ℕ) → 1 ≤ n → spent + n ≡ turns → Trying r s t n → Draws pop_worn r s (keeping t None turns) spent turns (Err Busy)
 pop_gives_up r s t spent turns zero some all g = absurd (omega arith)
 pop_gives_up r s t spent turns (suc m) some all g =
     let e : added s t ≡ g.lines = added_is s t g.lines g.walks in
@@ -66,6 +69,7 @@ pop_gives_up r s t spent turns (suc m) some all g =
     record {
       ready = record { seat = kept_seat r t None turns g.before.seat; free = ap (λ b. b.line) rest; pocket = sym (ap (λ b. b.pocket) rest ∙ empty_before r t continues D2 g.before) };
       same = record { number = g.stored.number; role = g.stored.role; keeps = g.stored.keeps };
+      slots = kept_slots s t None turns g.slots;
       path = g.walks.path ∙ ap (λ p. (view s).path ++ p) (sym e);
       answer = tt;
       few = tt;
@@ -78,18 +82,18 @@ pop_gives_up r s t spent turns (suc m) some all g =
     }
 
 -- a turn ended the pop
-module _ (r : Arena) (s t : Seat) (failed turns : ℕ) where
+module _ {T : Type 0} (r : Arena) (s t : Seat T) (failed turns : ℕ) where
   pub pop_worn_out : (refusal : Refusal) → Turns r s t (turn.Refused refusal) → Draws pop_worn r s (keeping t None failed) failed turns (Err refusal)
-  pop_worn_out Closed f = let k = f.turned in draws_shut pop_worn r s t failed turns f.lines f.seat k.over f.empty f.stored k.finds k.cause
-  pop_worn_out _ f = let k = f.turned in draws_worn pop_worn r s t _ OfTail failed turns f.lines f.seat k.over f.empty f.stored k.walks k.is k.cause tt
+  pop_worn_out Closed f = let k = f.turned in draws_shut pop_worn r s t failed turns f.lines f.seat k.over f.empty f.stored f.slots k.finds k.cause
+  pop_worn_out _ f = let k = f.turned in draws_worn pop_worn r s t _ OfTail failed turns f.lines f.seat k.over f.empty f.stored f.slots k.walks k.is k.cause tt
 
-  pub pop_took : (x : Seat) (word : ℕ) (h : Held) (out : Result (Unit {0}) Refusal) → keeps_of t ≡ false → failed < turns → Turns r s t (turn.Took word h) → GiveAnswers r (keeping t (Some h) failed) x (turns - failed) out → Draws pop_worn r s x failed turns (Ok (Some (value_of word)))
-  pop_took x word h out keeps less f g = draws_taken pop_worn r s t x word h failed turns out f.lines (sym f.stored.keeps ∙ keeps) less f.stored f.turned.acts f.turned.never g
+  pub pop_took : (x : Seat T) (word : ℕ) (h : Held) (out : Result (Unit {0}) Refusal) → keeps_of t ≡ false → failed < turns → Turns r s t (turn.Took word h) → GiveAnswers r (keeping t (Some h) failed) x (turns - failed) out → Draws pop_worn r s x failed turns (Ok (Some (value_of word)))
+  pop_took x word h out keeps less f g = draws_taken pop_worn r s t x word h failed turns out f.lines (sym f.stored.keeps ∙ keeps) less f.stored f.slots f.turned.acts f.turned.never g
 
   pub pop_kept : (word : ℕ) (h : Held) → keeps_of t ≡ true → failed < turns → Turns r s t (turn.Took word h) → Draws pop_worn r s (keeping t (Some h) failed) failed turns (Ok (Some (value_of word)))
   pop_kept word h keeps less f =
       let k = f.turned in
-      draws_kept pop_worn r s t word h failed turns f.lines (sym f.stored.keeps ∙ keeps) less f.seat f.stored (record { over = k.over; due = k.due; node = k.node; mark = k.mark }) k.acts k.never
+      draws_kept pop_worn r s t word h failed turns f.lines (sym f.stored.keeps ∙ keeps) less f.seat f.stored f.slots (record { over = k.over; due = k.due; node = k.node; mark = k.mark }) k.acts k.never
 
   pub pop_empty : failed < turns → Turns r s t turn.Empty → Draws pop_worn r s (keeping t None failed) failed turns (Ok None)
-  pop_empty less f = let k = f.turned in draws_empty pop_worn r s t failed turns f.lines less f.seat k.over f.empty f.stored k.path k.never k.found
+  pop_empty less f = let k = f.turned in draws_empty pop_worn r s t failed turns f.lines less f.seat k.over f.empty f.stored f.slots k.path k.never k.found

@@ -25,7 +25,7 @@ use Rattle.arena_lines.specs.declared.outcomes.Reply.TheVariants.{Done as IsDone
 use Rattle.nonblocking.specs.Pushes.{Running, in_hand, follow, HasNode, AgreesAt, CallIsAt}
 use Rattle.nonblocking.proofs.PushSteps.{ref_e3, ref_e5, ref_e6, ref_e7, ref_e9}
 
-module _ (r : Arena) (s t : Seat) (prologue : Prologue) (l : Line) (n : ℕ) (a : Running) (h : CallIsAt r s prologue l a) (d : DidStep r s t prologue l n) where
+module _ {T : Type 0} (r : Arena) (s t : Seat T) (prologue : Prologue) (l : Line) (n : ℕ) (a : Running) (h : CallIsAt r s prologue l a) (d : DidStep r s t prologue l n) where
   abbrev b : Actor
   b = after_prologue r.plan.setup (view s).number prologue (view s).actor
 
@@ -49,7 +49,7 @@ module _ (r : Arena) (s t : Seat) (prologue : Prologue) (l : Line) (n : ℕ) (a 
     pub is : refusal ≡ WornOut word
     pub replies : (outcome_at r.plan.setup d.told.was (view s).number b l).reply ≡ Some (reply.Refused (WornOut word))
 
-module _ (r : Arena) (s t : Seat) (prologue : Prologue) (n : ℕ) (a : Running) where
+module _ {T : Type 0} (r : Arena) (s t : Seat T) (prologue : Prologue) (n : ℕ) (a : Running) where
   abbrev b1 : Actor
   b1 = after_prologue r.plan.setup (view s).number prologue (view s).actor
 

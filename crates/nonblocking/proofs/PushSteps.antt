@@ -14,7 +14,7 @@ use Rattle.node_arena.proofs.Known.{by_known}
 use Rattle.node_arena.proofs.Reading.{read_back}
 use Rattle.nonblocking.specs.Pushes.{Running, CallIsAt}
 
-module _ (r : Arena) (s : Seat) (a : Running) where
+module _ {T : Type 0} (r : Arena) (s : Seat T) (a : Running) where
   -- the counts that E9, E13 and E17 raise have room
   pub room_e9 : (z : Setup) → z ≡ r.plan.setup → CallIsAt r s continues E9 a → a.next.count < z.limit
   room_e9 z e h = by_known r s continues E9 h.before le_prop (λ k. omega (arith, k.room, ap (λ (x : Ref). x.count) h.knows.1, ap (λ (y : Setup). y.limit) e))
@@ -33,7 +33,7 @@ module _ (r : Arena) (s : Seat) (a : Running) where
   pub small_node : (l : Line) → CallIsAt r s continues l a → a.node < reserved_node r.plan.setup.bits
   small_node l h = by_known r s continues l h.before le_prop (λ k. omega (arith, k.within, k.registers.node, h.hand.node, h.before.seat.arena.sized.numbered))
 
-module _ (r : Arena) (s t : Seat) (prologue : Prologue) (n : ℕ) where
+module _ {T : Type 0} (r : Arena) (s t : Seat T) (prologue : Prologue) (n : ℕ) where
   abbrev c : Actor
   c = after_prologue r.plan.setup (view s).number prologue (view s).actor
 

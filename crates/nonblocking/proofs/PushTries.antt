@@ -13,10 +13,11 @@ use Rattle.node_arena.specs.Traces.{Event}
 use Rattle.node_arena.specs.Prologues.{begins, continues, at_rest, out_of}
 use Rattle.node_arena.specs.Arenas.{Arena}
 use Rattle.node_arena.specs.declared.seats.Seat.{Seat}
-use Rattle.node_arena.specs.Seats.{IsReady, IsSeat, KeepsStored, view, pocket_of, keeping}
+use Rattle.node_arena.specs.Seats.{IsReady, IsSeat, KeepsStored, KeepsSlots, view, pocket_of, keeping}
 use Rattle.node_arena.specs.Turns.{failed_turns}
 use Rattle.node_arena.specs.Paths.{ExtendsPath, FindsShut, StopsAPush, Acts, added}
-use Rattle.node_arena.proofs.Paths.{walk_then, then_act, then_stored, added_is, added_path, failed-append, failed_behind, stopped_behind, then_shut, last_held, kept_seat, ends_failed}
+use Rattle.node_arena.proofs.Loads.{kept_slots}
+use Rattle.node_arena.proofs.Paths.{walk_then, then_act, then_stored, then_slots, added_is, added_path, failed-append, failed_behind, stopped_behind, then_shut, last_held, kept_seat, ends_failed}
 use Rattle.nonblocking.specs.Values.{IsNonBlocking}
 use Rattle.node_arena.specs.Machine.{value_of}
 use Rattle.arena_lines.specs.declared.outcomes.Outcome.{Outcome}
@@ -31,11 +32,11 @@ use Rattle.arena_queue.specs.Answers.{PutRefused, Puts}
 use Rattle.node_arena.proofs.Values.{value_of-word}
 
 -- an actor that begins a push with this pocket
-abbrev set_out : Arena → Seat → ℕ → Option Held → Actor
+abbrev set_out : {T : Type 0} → Arena → Seat T → ℕ → Option Held → Actor
 set_out r s body p = from_pocket (with_node r.plan.setup.kind) p (record (at_rest (view s).actor) { line = Some N1; op = Enq body; val = record { from = (view s).number; body = body }; due = None; entry = None })
 
 -- a push with a full pocket sets out
-pub pushes_out : (r : Arena) (s : Seat) (h : Held) (from body val : ℕ) (a : Running) → a ≡ registers_of h val → IsReady r s → pocket_of s ≡ Some h → IsNonBlocking r → body < 2 ^ 48 → from ≡ s.number → val ≡ from * 2 ^ 48 + body → CallIsAt r s (begins (Enq (value_of a.val).body)) E2 a
+pub pushes_out : {T : Type 0} (r : Arena) (s : Seat T) (h : Held) (from body val : ℕ) (a : Running) → a ≡ registers_of h val → IsReady r s → pocket_of s ≡ Some h → IsNonBlocking r → body < 2 ^ 48 → from ≡ s.number → val ≡ from * 2 ^ 48 + body → CallIsAt r s (begins (Enq (value_of a.val).body)) E2 a
 pushes_out r s h from body val a is i full kind small same word = subst (λ (x : Running). CallIsAt r s (begins (Enq (value_of x.val).body)) E2 x) (sym is) out
   where
     e : (at_rest (view s).actor).pocket ≡ Some h
@@ -60,7 +61,7 @@ pushes_out r s h from body val a is i full kind small same word = subst (λ (x :
         }
 
 -- the node's own next is worn out
-pub fill_worn : (r : Arena) (s t : Seat) (a : Running) (out : Outcome Running) (refusal : Refusal) (node body spent turns : ℕ) → out ≡ Ends (IsRefused refusal) → Fills r s t a out → Puts push_worn r s (keeping t None spent) node body spent turns (Err refusal)
+pub fill_worn : {T : Type 0} (r : Arena) (s t : Seat T) (a : Running) (out : Outcome Running) (refusal : Refusal) (node body spent turns : ℕ) → out ≡ Ends (IsRefused refusal) → Fills r s t a out → Puts push_worn r s (keeping t None spent) node body spent turns (Err refusal)
 fill_worn r s t a out refusal node body spent turns is f =
     let k : FoundWorn r s t None f.lines OfNext refusal = subst (Filled r s t a f.lines) is f.filled in
     let e : added s t ≡ f.lines = added_is s t f.lines f.walks in
@@ -68,6 +69,7 @@ fill_worn r s t a out refusal node body spent turns is f =
     record {
       ready = record { seat = kept_seat r t None spent k.seat; free = ap (λ b. b.line) rest ∙ k.over; pocket = sym (ap (λ b. b.pocket) rest ∙ k.pocket) };
       same = record { number = f.stored.number; role = f.stored.role; keeps = f.stored.keeps };
+      slots = kept_slots s t None spent f.slots;
       pushed = tt;
       refused = subst (λ y. StopsAPush s (keeping t None spent) y × PutRefused push_worn r s (keeping t None spent) node spent turns y) (sym k.is) (
         subst (ExtendsPath (view s) (view t)) (sym e) f.walks,
@@ -76,7 +78,7 @@ fill_worn r s t a out refusal node body spent turns is f =
     }
 
 -- E2 and E3 end in no other way
-pub fill_ends : (r : Arena) (s t : Seat) (a : Running) (out : Outcome Running) (answer : Reply) → out ≡ Ends answer → ((refusal : Refusal) → answer ≡ IsRefused refusal → ⊥) → Fills r s t a out → ⊥
+pub fill_ends : {T : Type 0} (r : Arena) (s t : Seat T) (a : Running) (out : Outcome Running) (answer : Reply) → out ≡ Ends answer → ((refusal : Refusal) → answer ≡ IsRefused refusal → ⊥) → Fills r s t a out → ⊥
 fill_ends r s t a out answer is other f = go answer other (subst (Filled r s t a f.lines) is f.filled)
   where
     go : (answer : Reply) → ((refusal : Refusal) → answer ≡ IsRefused refusal → ⊥) → Filled r s t a f.lines (Ends answer) → ⊥
@@ -86,7 +88,7 @@ fill_ends r s t a out answer is other f = go answer other (subst (Filled r s t a
     go (IsRefused refusal) other k = absurd (other refusal refl)
 
 -- the node is ready
-module _ (r : Arena) (s t : Seat) (a : Running) (out : Outcome Running) (l : Line) (c : Running) (is : out ≡ Goes l c) (f : Fills r s t a out) where
+module _ {T : Type 0} (r : Arena) (s t : Seat T) (a : Running) (out : Outcome Running) (l : Line) (c : Running) (is : out ≡ Goes l c) (f : Fills r s t a out) where
   ready_at : (l : Line) → Filled r s t a f.lines (Goes l c) → CallIsAt r t continues E5 c × (c.node ≡ a.node) × (c.val ≡ a.val) × (failed_turns f.lines ≡ 0)
   ready_at E5 k = k
   ready_at _ k = absurd k
@@ -107,6 +109,7 @@ module _ (r : Arena) (s t : Seat) (a : Running) (out : Outcome Running) (l : Lin
       record {
         stands = fill_ready val e;
         stored = f.stored;
+        slots = f.slots;
         lines = f.lines;
         walks = f.walks;
         failed = (let z = k.3 in omega arith);
@@ -114,7 +117,7 @@ module _ (r : Arena) (s t : Seat) (a : Running) (out : Outcome Running) (l : Lin
       }
 
 -- turns
-module _ (r : Arena) (s t u : Seat) (h : Held) (val spent n turns : ℕ) (a : Running) (out : Turn) (is : a ≡ registers_of h val) (g : Trying r s t (registers_of h val) spent n) (m : Turns r t u a out) where
+module _ {T : Type 0} (r : Arena) (s t u : Seat T) (h : Held) (val spent n turns : ℕ) (a : Running) (out : Turn) (is : a ≡ registers_of h val) (g : Trying r s t (registers_of h val) spent n) (m : Turns r t u a out) where
   abbrev b : Running
   b = registers_of h val
 
@@ -131,6 +134,7 @@ module _ (r : Arena) (s t u : Seat) (h : Held) (val spent n turns : ℕ) (a : Ru
       record {
         stands = k.turned.1.stands;
         stored = then_stored s t u g.stored k.stored;
+        slots = then_slots s t u g.slots k.slots;
         lines = g.lines ++ k.lines;
         walks = walk_then (view s) (view t) (view u) g.lines k.lines g.walks k.turned.0;
         failed = omega (arith, failed-append g.lines k.lines, g.failed, k.turned.1.once);
@@ -149,6 +153,7 @@ module _ (r : Arena) (s t u : Seat) (h : Held) (val spent n turns : ℕ) (a : Ru
       record {
         ready = record { seat = kept_seat r u None n k.turned.seat; free = ap (λ b. b.line) rest ∙ k.turned.over; pocket = sym (ap (λ b. b.pocket) rest ∙ k.turned.empty) };
         same = record { number = name.number; role = name.role; keeps = name.keeps };
+        slots = k.slots;
         pushed = (
           subst (Acts (view s) (view u) (Push (view s).number (value_of val).body)) (sym e) acts,
           refl,
@@ -163,14 +168,15 @@ module _ (r : Arena) (s t u : Seat) (h : Held) (val spent n turns : ℕ) (a : Ru
       by_cause refusal (turned_as (TurnRefused refusal) e)
     where
       -- the call is over, with its node in the pocket
-      ends : (k : KeepsStored t u) (refusal : Refusal) → IsSeat r u → (view u).actor.line ≡ None → (view u).actor.pocket ≡ Some (in_hand b)
+      ends : (k : KeepsStored t u) (refusal : Refusal) → KeepsSlots t u → IsSeat r u → (view u).actor.line ≡ None → (view u).actor.pocket ≡ Some (in_hand b)
           → StopsAPush s (keeping u (Some h) n) refusal × PutRefused push_worn r s (keeping u (Some h) n) h.node spent turns refusal → Puts push_worn r s (keeping u (Some h) n) h.node (value_of val).body spent turns (Err refusal)
-      ends k refusal seat over pocket refused =
+      ends k refusal slots seat over pocket refused =
           let name = then_stored s t u g.stored k in
           let rest : at_rest (view u).actor ≡ (view u).actor = ap (out_of (view u).actor) over in
           record {
             ready = record { seat = kept_seat r u (Some h) n seat; free = ap (λ b. b.line) rest ∙ over; pocket = sym (ap (λ b. b.pocket) rest ∙ pocket) };
             same = record { number = name.number; role = name.role; keeps = name.keeps };
+            slots = kept_slots s u (Some h) n (then_slots s t u g.slots slots);
             pushed = tt;
             refused = refused;
           }
@@ -180,7 +186,7 @@ module _ (r : Arena) (s t u : Seat) (h : Held) (val spent n turns : ℕ) (a : Ru
           let es : List Event = g.lines ++ k.lines in
           let all : ExtendsPath (view s) (view u) es = walk_then (view s) (view t) (view u) g.lines k.lines g.walks w in
           let e : added s u ≡ es = added_is s u es all in
-          ends k.stored (WornOut OfTail) f.seat f.over f.pocket (
+          ends k.stored (WornOut OfTail) k.slots f.seat f.over f.pocket (
             subst (ExtendsPath (view s) (view u)) (sym e) all,
             (last_held r s (keeping u (Some h) n) es _ e (stopped_behind r s t g.lines k.lines (WornOut OfTail) g.walks f.cause), refl, refl),
           )
@@ -190,7 +196,7 @@ module _ (r : Arena) (s t u : Seat) (h : Held) (val spent n turns : ℕ) (a : Ru
           let es : List Event = g.lines ++ k.lines in
           let finds : FindsShut (view s) (view u) es = then_shut (view s) (view t) (view u) g.lines k.lines g.walks k.turned.finds in
           let e : added s u ≡ es = added_path s u es finds.path in
-          ends k.stored Closed k.turned.seat k.turned.over k.turned.pocket (
+          ends k.stored Closed k.slots k.turned.seat k.turned.over k.turned.pocket (
             subst (FindsShut (view s) (view u)) (sym e) finds,
             (last_held r s (keeping u (Some h) n) es _ e (stopped_behind r s t g.lines k.lines Closed g.walks k.turned.cause), refl),
           )
@@ -201,11 +207,11 @@ module _ (r : Arena) (s t u : Seat) (h : Held) (val spent n turns : ℕ) (a : Ru
       by_cause _ k = absurd (let e = k.turned.1.is in cc)
 
 -- by the node and the body of the call
-pub puts_as : (r : Arena) (s u : Seat) (n node b body spent turns : ℕ) (o : Result (Unit {0}) Refusal) → n ≡ node → b ≡ body → Puts push_worn r s u n b spent turns o → Puts push_worn r s u node body spent turns o
+pub puts_as : {T : Type 0} (r : Arena) (s u : Seat T) (n node b body spent turns : ℕ) (o : Result (Unit {0}) Refusal) → n ≡ node → b ≡ body → Puts push_worn r s u n b spent turns o → Puts push_worn r s u node body spent turns o
 puts_as r s u n node b body spent turns o e f p = subst (λ x. Puts push_worn r s u node x spent turns o) f (subst (λ x. Puts push_worn r s u x b spent turns o) e p)
 
 -- all turns failed
-pub gives_up_put : (r : Arena) (s t : Seat) (h : Held) (val spent turns : ℕ) → spent < turns → Trying r s t (registers_of h val) spent turns → Puts push_worn r s (keeping t (Some h) turns) h.node (value_of val).body spent turns (Err Busy)
+pub gives_up_put : {T : Type 0} (r : Arena) (s t : Seat T) (h : Held) (val spent turns : ℕ) → spent < turns → Trying r s t (registers_of h val) spent turns → Puts push_worn r s (keeping t (Some h) turns) h.node (value_of val).body spent turns (Err Busy)
 gives_up_put r s t h val spent turns less g =
     let e : added s t ≡ g.lines = added_is s t g.lines g.walks in
     let k = g.stands in
@@ -217,6 +223,7 @@ gives_up_put r s t h val spent turns less g =
         pocket = sym (ap (λ b. b.pocket) rest ∙ (λ i. Some (record { node = k.hand.node i; mark = k.hand.mark i })));
       };
       same = record { number = g.stored.number; role = g.stored.role; keeps = g.stored.keeps };
+      slots = kept_slots s t (Some h) turns g.slots;
       pushed = tt;
       refused = (subst (ExtendsPath (view s) (view t)) (sym e) g.walks, (ap (λ es. spent + failed_turns es) e ∙ g.failed, ends_failed s (keeping t (Some h) turns) g.lines e (g.last less), refl));
     }

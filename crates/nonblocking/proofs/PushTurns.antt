@@ -18,7 +18,8 @@ use Rattle.node_arena.specs.Seats.{DidStep, view}
 use Rattle.node_arena.specs.Turns.{failed_at, failed_turns, at_e5}
 use Rattle.node_arena.specs.Paths.{ExtendsPath, Acts}
 use Rattle.node_arena.proofs.Noting.{IsSilent}
-use Rattle.node_arena.proofs.Paths.{walk_then, then_act, act_then, then_stored, failed-append, failed_behind, stopped_behind, then_shut, event, walk_on, walk_silent, shut_on, pass_on, act_on, to_is, stopped_at}
+use Rattle.node_arena.proofs.Paths.{walk_then, then_act, act_then, then_stored, then_slots, quiet_slots, failed-append, failed_behind, stopped_behind, then_shut, event, walk_on, walk_silent, shut_on, pass_on, act_on, to_is, stopped_at}
+use Rattle.node_arena.proofs.Loads.{gives_slot, gives_then}
 use Rattle.node_arena.specs.Machine.{value_of}
 use Rattle.arena_lines.specs.declared.outcomes.Outcome.{Outcome}
 use Rattle.arena_lines.specs.declared.outcomes.Outcome.TheVariants.{Goes, Ends}
@@ -26,17 +27,17 @@ use Rattle.arena_lines.specs.declared.outcomes.Reply.{Reply}
 use Rattle.arena_lines.specs.declared.outcomes.Reply.TheVariants.{Done as IsDone, Value as IsValue, Empty as IsEmpty, Refused as IsRefused}
 use Rattle.nonblocking.specs.declared.push_outcomes.Turn.{Turn}
 use Rattle.nonblocking.specs.declared.push_outcomes.Turn.TheVariants.{Pushed, Failed, Refused as TurnRefused}
-use Rattle.nonblocking.specs.Pushes.{Running, in_hand, follow, CallIsAt, Follows, Comes, Slipped, FoundWorn, SawShut, Stops, Filled, Fills, Looked, Looks, Turned, Turns}
+use Rattle.nonblocking.specs.Pushes.{Running, in_hand, follow, CallIsAt, Follows, Comes, Slipped, FoundWorn, SawShut, Stops, Filled, Fills, Looked, Looks, Turned, TurnMoves, Turns}
 use Rattle.arena_lines.proofs.Registers.{same_registers}
 use Rattle.nonblocking.proofs.FailedTurns.{turns_then, fails_last}
 use Rattle.nonblocking.proofs.PushStands.{after_e2, after_e5, after_e6, after_e13, after_e17, Worn, Third, after_e3, Seventh, after_e7, Ninth, after_e9}
 
 -- after E2
-pub to_e3 : (r : Arena) (s t : Seat) (prologue : Prologue) (l : Line) (a b : Running) → CallIsAt r s prologue E2 a → Follows r s t prologue E2 a (Goes l b) → CallIsAt r t continues E3 b × (b ≡ a)
+pub to_e3 : {T : Type 0} (r : Arena) (s t : Seat T) (prologue : Prologue) (l : Line) (a b : Running) → CallIsAt r s prologue E2 a → Follows r s t prologue E2 a (Goes l b) → CallIsAt r t continues E3 b × (b ≡ a)
 to_e3 r s t prologue l a b h f = let e : b ≡ a = same_registers l E3 b a f.leads_to in (subst (CallIsAt r t continues E3) (sym e) (after_e2 r s t prologue f.found a h f.did), e)
 
 -- a word was found worn out at the last of some lines, no turn having failed
-module _ (r : Arena) (s u t : Seat) (l : Line) (n : ℕ) (a : Running) (h : CallIsAt r u continues l a) (d : DidStep r u t continues l n) (before : List Event) (w : ExtendsPath (view s) (view u) before) where
+module _ {T : Type 0} (r : Arena) (s u t : Seat T) (l : Line) (n : ℕ) (a : Running) (h : CallIsAt r u continues l a) (d : DidStep r u t continues l n) (before : List Event) (w : ExtendsPath (view s) (view u) before) where
   found_worn : (p : Option Held) (word : WornWord) (refusal : Refusal) → failed_turns (before ++ event r u t continues l n d ∷ []) ≡ 0 → Worn r u t continues l n a h d p word refusal → FoundWorn r s t p (before ++ event r u t continues l n d ∷ []) word refusal
   found_worn p word refusal never k =
       record {
@@ -49,7 +50,7 @@ module _ (r : Arena) (s u t : Seat) (l : Line) (n : ℕ) (a : Running) (h : Call
       }
 
 -- E2 and E3
-module _ (r : Arena) (s u t : Seat) (prologue : Prologue) (l : Line) (a b : Running) (out : Outcome Running) (h : CallIsAt r s prologue E2 a) (f : Follows r s u prologue E2 a (Goes l b)) (g : Follows r u t continues E3 b out) where
+module _ {T : Type 0} (r : Arena) (s u t : Seat T) (prologue : Prologue) (l : Line) (a b : Running) (out : Outcome Running) (h : CallIsAt r s prologue E2 a) (f : Follows r s u prologue E2 a (Goes l b)) (g : Follows r u t continues E3 b out) where
   abbrev one : Event
   one = event r s u prologue E2 f.found f.did
 
@@ -74,25 +75,26 @@ module _ (r : Arena) (s u t : Seat) (prologue : Prologue) (l : Line) (a b : Runn
   fills =
       record {
         stored = then_stored s u t f.did.stored g.did.stored;
+        slots = then_slots s u t (quiet_slots r s u prologue E2 f.found f.did refl) (quiet_slots r u t continues E3 g.found g.did refl);
         lines = one ∷ two ∷ [];
         walks = walk_then (view s) (view u) (view t) (one ∷ []) (two ∷ []) first (walk_on r u t continues E3 g.found g.did refl tt);
         filled = subst (Filled r s t a (one ∷ two ∷ [])) (sym g.leads_to) (filled (follow r.plan.setup b E3 g.found) (after_e3 r u t continues g.found b at.0 g.did));
       }
 
 -- after E5
-pub to_e6 : (r : Arena) (s t : Seat) (l : Line) (a b : Running) → CallIsAt r s continues E5 a → Follows r s t continues E5 a (Goes l b) → CallIsAt r t continues E6 b × (in_hand b ≡ in_hand a) × (b.val ≡ a.val)
+pub to_e6 : {T : Type 0} (r : Arena) (s t : Seat T) (l : Line) (a b : Running) → CallIsAt r s continues E5 a → Follows r s t continues E5 a (Goes l b) → CallIsAt r t continues E6 b × (in_hand b ≡ in_hand a) × (b.val ≡ a.val)
 to_e6 r s t l a b h f =
     let e = same_registers l E6 b (record a { tail = ref_of r.plan.setup.bits f.found }) f.leads_to in
     (subst (CallIsAt r t continues E6) (sym e) (after_e5 r s t continues f.found a h f.did), ap in_hand e, ap (λ (x : Running). x.val) e)
 
 -- after E6
-pub to_e7 : (r : Arena) (s t : Seat) (l : Line) (a b : Running) → CallIsAt r s continues E6 a → Follows r s t continues E6 a (Goes l b) → CallIsAt r t continues E7 b × (in_hand b ≡ in_hand a) × (b.val ≡ a.val)
+pub to_e7 : {T : Type 0} (r : Arena) (s t : Seat T) (l : Line) (a b : Running) → CallIsAt r s continues E6 a → Follows r s t continues E6 a (Goes l b) → CallIsAt r t continues E7 b × (in_hand b ≡ in_hand a) × (b.val ≡ a.val)
 to_e7 r s t l a b h f =
     let e = same_registers l E7 b (record a { next = ref_of r.plan.setup.bits f.found }) f.leads_to in
     (subst (CallIsAt r t continues E7) (sym e) (after_e6 r s t continues f.found a h f.did), ap in_hand e, ap (λ (x : Running). x.val) e)
 
 -- a push before E5 stands there with any registers of the same node, mark and value
-stands_e5 : (r : Arena) (t : Seat) (a c : Running) → in_hand c ≡ in_hand a → c.val ≡ a.val → CallIsAt r t continues E5 c → CallIsAt r t continues E5 a
+stands_e5 : {T : Type 0} (r : Arena) (t : Seat T) (a c : Running) → in_hand c ≡ in_hand a → c.val ≡ a.val → CallIsAt r t continues E5 c → CallIsAt r t continues E5 a
 stands_e5 r t a c hand val h =
     record {
       before = h.before;
@@ -101,7 +103,7 @@ stands_e5 r t a c hand val h =
     }
 
 -- a line whose turn failed
-module _ (r : Arena) (s t : Seat) (l : Line) (n : ℕ) (d : DidStep r s t continues l n) (before : List Event) (never : failed_turns before ≡ 0) (one : failed_at l (Some E5) ≡ 1) where
+module _ {T : Type 0} (r : Arena) (s t : Seat T) (l : Line) (n : ℕ) (d : DidStep r s t continues l n) (before : List Event) (never : failed_turns before ≡ 0) (one : failed_at l (Some E5) ≡ 1) where
   slips : (a : Running) → CallIsAt r t continues E5 a → Slipped r t a (before ++ event r s t continues l n d ∷ [])
   slips a h =
       record {
@@ -111,7 +113,7 @@ module _ (r : Arena) (s t : Seat) (l : Line) (n : ℕ) (d : DidStep r s t contin
       }
 
 -- E5 to E7
-module _ (r : Arena) (s u v t : Seat) (l k : Line) (a b c : Running) (out : Outcome Running) (h : CallIsAt r s continues E5 a) (f : Follows r s u continues E5 a (Goes l b)) (g : Follows r u v continues E6 b (Goes k c)) (m : Follows r v t continues E7 c out) where
+module _ {T : Type 0} (r : Arena) (s u v t : Seat T) (l k : Line) (a b c : Running) (out : Outcome Running) (h : CallIsAt r s continues E5 a) (f : Follows r s u continues E5 a (Goes l b)) (g : Follows r u v continues E6 b (Goes k c)) (m : Follows r v t continues E7 c out) where
   abbrev five : Event
   five = event r s u continues E5 f.found f.did
 
@@ -177,12 +179,13 @@ module _ (r : Arena) (s u v t : Seat) (l k : Line) (a b c : Running) (out : Outc
   looks =
       record {
         stored = then_stored s v t (then_stored s u v f.did.stored g.did.stored) m.did.stored;
+        slots = then_slots s v t (then_slots s u v (quiet_slots r s u continues E5 f.found f.did refl) (quiet_slots r u v continues E6 g.found g.did refl)) (quiet_slots r v t continues E7 m.found m.did refl);
         lines = before ++ seven ∷ [];
         looked = subst (Looked r s t a (before ++ seven ∷ [])) (sym m.leads_to) (looked (follow r.plan.setup c E7 m.found) (after_e7 r v t continues m.found c at7.0 m.did));
       }
 
 -- E9, and E17 where it is to be made
-module _ (r : Arena) (s t : Seat) (a : Running) (out : Outcome Running) (h : CallIsAt r s continues E9 a) (f : Follows r s t continues E9 a out) where
+module _ {T : Type 0} (r : Arena) (s t : Seat T) (a : Running) (out : Outcome Running) (h : CallIsAt r s continues E9 a) (f : Follows r s t continues E9 a out) where
   abbrev nine : Event
   nine = event r s t continues E9 f.found f.did
 
@@ -201,6 +204,7 @@ module _ (r : Arena) (s t : Seat) (a : Running) (out : Outcome Running) (h : Cal
       let k = at_ninth (Ends IsDone) e in
       record {
         stored = f.did.stored;
+        slots = gives_slot r s t continues E9 f.found f.did (view s).number (view s).actor.val.body k.2;
         lines = nine ∷ [];
         turned = record { seat = f.did.seat; over = k.0; empty = k.1; never = turns_then r s t E9 f.found f.did [] None k.0 refl; acts = acts k.2 };
       }
@@ -220,6 +224,7 @@ module _ (r : Arena) (s t : Seat) (a : Running) (out : Outcome Running) (h : Cal
       go E5 other k =
           record {
             stored = f.did.stored;
+            slots = quiet_slots r s t continues E9 f.found f.did k.2;
             lines = nine ∷ [];
             turned = (
               walk_on r s t continues E9 f.found f.did k.2 tt,
@@ -232,12 +237,13 @@ module _ (r : Arena) (s t : Seat) (a : Running) (out : Outcome Running) (h : Cal
   to_e17 l b e is = (at_ninth (Goes E17 b) (e ∙ ap (λ k. Goes k b) is)).0
 
   -- it was won, and E17 was made
-  pub links : (u : Seat) (l : Line) (b : Running) (last : Outcome Running) → out ≡ Goes l b → l ≡ E17 → Follows r t u continues E17 b last → Turns r s u a Pushed
+  pub links : (u : Seat T) (l : Line) (b : Running) (last : Outcome Running) → out ≡ Goes l b → l ≡ E17 → Follows r t u continues E17 b last → Turns r s u a Pushed
   links u l b last e is g =
       let k = at_ninth (Goes E17 b) (e ∙ ap (λ k. Goes k b) is) in
       let over = after_e17 r t u continues g.found b k.0 g.did in
       record {
         stored = then_stored s t u f.did.stored g.did.stored;
+        slots = gives_then r t u (gives_slot r s t continues E9 f.found f.did (view s).number (view s).actor.val.body k.1) (quiet_slots r t u continues E17 g.found g.did refl);
         lines = nine ∷ event r t u continues E17 g.found g.did ∷ [];
         turned = record {
           seat = g.did.seat;
@@ -249,7 +255,7 @@ module _ (r : Arena) (s t : Seat) (a : Running) (out : Outcome Running) (h : Cal
       }
 
 -- a whole turn
-module _ (r : Arena) (s t : Seat) (a : Running) (out : Outcome Running) (f : Looks r s t a out) where
+module _ {T : Type 0} (r : Arena) (s t : Seat T) (a : Running) (out : Outcome Running) (f : Looks r s t a out) where
   looked_as : (o : Outcome Running) → out ≡ o → Looked r s t a f.lines o
   looked_as o e = subst (Looked r s t a f.lines) e f.looked
 
@@ -259,7 +265,7 @@ module _ (r : Arena) (s t : Seat) (a : Running) (out : Outcome Running) (f : Loo
 
   -- the queue was found shut, or Tail worn out
   pub turn_worn : (refusal : Refusal) → out ≡ Ends (IsRefused refusal) → Turns r s t a (TurnRefused refusal)
-  turn_worn refusal e = record { stored = f.stored; lines = f.lines; turned = looked_as (Ends (IsRefused refusal)) e }
+  turn_worn refusal e = record { stored = f.stored; slots = f.slots; lines = f.lines; turned = looked_as (Ends (IsRefused refusal)) e }
 
   -- it ends in no other way
   pub turn_ended : (answer : Reply) → ((refusal : Refusal) → answer ≡ IsRefused refusal → ⊥) → out ≡ Ends answer → Turns r s t a Failed
@@ -269,13 +275,14 @@ module _ (r : Arena) (s t : Seat) (a : Running) (out : Outcome Running) (f : Loo
   turn_ended (IsRefused refusal) other e = absurd (other refusal refl)
 
   -- Tail was swung
-  pub turn_swings : (u : Seat) (l : Line) (c : Running) (last : Outcome Running) → out ≡ Goes l c → l ≡ E13 → Follows r t u continues E13 c last → Turns r s u a Failed
+  pub turn_swings : (u : Seat T) (l : Line) (c : Running) (last : Outcome Running) → out ≡ Goes l c → l ≡ E13 → Follows r t u continues E13 c last → Turns r s u a Failed
   turn_swings u l c last e is g =
       let both = looked_as (Goes E13 c) (e ∙ ap (λ k. Goes k c) is) in
       let k = both.1 in
       let at = after_e13 r t u continues g.found c k.stands g.did in
       record {
         stored = then_stored s t u f.stored g.did.stored;
+        slots = then_slots s t u f.slots (quiet_slots r t u continues E13 g.found g.did refl);
         lines = f.lines ++ event r t u continues E13 g.found g.did ∷ [];
         turned = (
           walk_then (view s) (view t) (view u) f.lines (event r t u continues E13 g.found g.did ∷ []) both.0 (walk_on r t u continues E13 g.found g.did refl tt),
@@ -284,14 +291,20 @@ module _ (r : Arena) (s t : Seat) (a : Running) (out : Outcome Running) (f : Loo
       }
 
   -- E9 was made
-  pub turn_links : (u : Seat) (l : Line) (c : Running) (last : Turn) → out ≡ Goes l c → l ≡ E9 → Turns r t u c last → Turns r s u a last
+  pub turn_links : (u : Seat T) (l : Line) (c : Running) (last : Turn) → out ≡ Goes l c → l ≡ E9 → Turns r t u c last → Turns r s u a last
   turn_links u l c last e is g =
       record {
         stored = then_stored s t u f.stored g.stored;
+        slots = moved last g.slots;
         lines = f.lines ++ g.lines;
         turned = go last g.turned;
       }
     where
+      moved : (o : Turn) → TurnMoves r t u o → TurnMoves r s u o
+      moved Pushed y = y
+      moved Failed y = then_slots s t u f.slots y
+      moved (TurnRefused refusal) y = then_slots s t u f.slots y
+
       both : ExtendsPath (view s) (view t) f.lines × Comes r t E9 a c f.lines
       both = looked_as (Goes E9 c) (e ∙ ap (λ k. Goes k c) is)
 

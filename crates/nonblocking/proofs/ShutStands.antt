@@ -22,7 +22,7 @@ use Rattle.arena_lines.specs.declared.outcomes.Reply.TheVariants.{Done as IsDone
 use Rattle.nonblocking.specs.Shuts.{Running, follow, AgreesAt, HasPocket, CallIsAt}
 use Rattle.nonblocking.proofs.ShutSteps.{ref_s1, ref_s2, ref_s3, ref_s4}
 
-module _ (r : Arena) (s t : Seat) (prologue : Prologue) (n : ℕ) (a : Running) where
+module _ {T : Type 0} (r : Arena) (s t : Seat T) (prologue : Prologue) (n : ℕ) (a : Running) where
   abbrev b : Actor
   b = after_prologue r.plan.setup (view s).number prologue (view s).actor
 

@@ -13,7 +13,7 @@ use Rattle.node_arena.proofs.Known.{by_known}
 use Rattle.node_arena.proofs.Reading.{read_back}
 use Rattle.nonblocking.specs.Shuts.{Running, CallIsAt}
 
-module _ (r : Arena) (s : Seat) (a : Running) where
+module _ {T : Type 0} (r : Arena) (s : Seat T) (a : Running) where
   -- the counts that S4 and S5 raise have room
   pub room_s4 : (z : Setup) → z ≡ r.plan.setup → CallIsAt r s continues S4 a → a.next.count < z.limit
   room_s4 z e h = by_known r s continues S4 h.before le_prop (λ k. omega (arith, k.room, ap (λ (x : Ref). x.count) h.knows.1, ap (λ (y : Setup). y.limit) e))
@@ -25,7 +25,7 @@ module _ (r : Arena) (s : Seat) (a : Running) where
   pub next_s5 : CallIsAt r s continues S5 a → a.next.node < reserved_node r.plan.setup.bits
   next_s5 h = by_known r s continues S5 h.before le_prop (λ k. omega (arith, k.within, k.registers.next.node, ap (λ (x : Ref). x.node) h.knows.1, h.before.seat.arena.sized.numbered))
 
-module _ (r : Arena) (s t : Seat) (prologue : Prologue) (n : ℕ) where
+module _ {T : Type 0} (r : Arena) (s t : Seat T) (prologue : Prologue) (n : ℕ) where
   abbrev c : Actor
   c = after_prologue r.plan.setup (view s).number prologue (view s).actor
 

@@ -11,11 +11,12 @@ use Rattle.node_arena.specs.Traces.{Event, outcome_at}
 use Rattle.node_arena.specs.Prologues.{Prologue, continues}
 use Rattle.node_arena.specs.Arenas.{Arena}
 use Rattle.node_arena.specs.declared.seats.Seat.{Seat}
-use Rattle.node_arena.specs.Seats.{KeepsStored, view}
+use Rattle.node_arena.specs.Seats.{KeepsStored, KeepsSlots, view}
 use Rattle.node_arena.specs.Turns.{failed_at, failed_turns}
 use Rattle.node_arena.specs.Paths.{ExtendsPath}
 use Rattle.node_arena.proofs.Noting.{IsSilent}
-use Rattle.node_arena.proofs.Paths.{walk_then, then_act, then_stored, then_shut, stopped_behind, failed_behind, failed-append, event, walk_on, walk_silent, shut_on, act_on, stopped_at}
+use Rattle.node_arena.proofs.Paths.{walk_then, then_act, then_stored, then_slots, quiet_slots, then_shut, stopped_behind, failed_behind, failed-append, event, walk_on, walk_silent, shut_on, act_on, stopped_at}
+use Rattle.node_arena.proofs.Loads.{shut_slots}
 use Rattle.arena_lines.specs.declared.outcomes.Outcome.{Outcome}
 use Rattle.arena_lines.specs.declared.outcomes.Outcome.TheVariants.{Goes, Ends}
 use Rattle.arena_lines.specs.declared.outcomes.Reply.TheVariants.{Done as IsDone, Value as IsValue, Empty as IsEmpty, Refused as IsRefused}
@@ -27,14 +28,14 @@ use Rattle.nonblocking.proofs.FailedTurns.{turns_then, fails_last}
 use Rattle.nonblocking.proofs.ShutStands.{after_s1, after_s2, after_s5, Third, after_s3, Fourth, after_s4}
 
 -- after S1 and S2
-pub to_s2 : (r : Arena) (s t : Seat) (prologue : Prologue) (l : Line) (a b : Running) → CallIsAt r s prologue S1 a → Follows r s t prologue S1 a (Goes l b) → CallIsAt r t continues S2 b
+pub to_s2 : {T : Type 0} (r : Arena) (s t : Seat T) (prologue : Prologue) (l : Line) (a b : Running) → CallIsAt r s prologue S1 a → Follows r s t prologue S1 a (Goes l b) → CallIsAt r t continues S2 b
 to_s2 r s t prologue l a b h f = subst (CallIsAt r t continues S2) (sym (same_registers l S2 b (record a { tail = ref_of r.plan.setup.bits f.found }) f.leads_to)) (after_s1 r s t prologue f.found a h f.did)
 
-pub to_s3 : (r : Arena) (s t : Seat) (l : Line) (a b : Running) → CallIsAt r s continues S2 a → Follows r s t continues S2 a (Goes l b) → CallIsAt r t continues S3 b
+pub to_s3 : {T : Type 0} (r : Arena) (s t : Seat T) (l : Line) (a b : Running) → CallIsAt r s continues S2 a → Follows r s t continues S2 a (Goes l b) → CallIsAt r t continues S3 b
 to_s3 r s t l a b h f = subst (CallIsAt r t continues S3) (sym (same_registers l S3 b (record a { next = ref_of r.plan.setup.bits f.found }) f.leads_to)) (after_s2 r s t continues f.found a h f.did)
 
 -- the lines S1 to S3
-module _ (r : Arena) (s u v t : Seat) (prologue : Prologue) (l k : Line) (a b c : Running) (out : Outcome Running) (h : CallIsAt r s prologue S1 a) (f : Follows r s u prologue S1 a (Goes l b)) (g : Follows r u v continues S2 b (Goes k c)) (m : Follows r v t continues S3 c out) where
+module _ {T : Type 0} (r : Arena) (s u v t : Seat T) (prologue : Prologue) (l k : Line) (a b c : Running) (out : Outcome Running) (h : CallIsAt r s prologue S1 a) (f : Follows r s u prologue S1 a (Goes l b)) (g : Follows r u v continues S2 b (Goes k c)) (m : Follows r v t continues S3 c out) where
   abbrev one : Event
   one = event r s u prologue S1 f.found f.did
 
@@ -105,12 +106,13 @@ module _ (r : Arena) (s u v t : Seat) (prologue : Prologue) (l k : Line) (a b c 
         seat = m.did.seat;
         pocket = all.0;
         stored = then_stored s v t (then_stored s u v f.did.stored g.did.stored) m.did.stored;
+        slots = then_slots s v t (then_slots s u v (quiet_slots r s u prologue S1 f.found f.did refl) (quiet_slots r u v continues S2 g.found g.did refl)) (quiet_slots r v t continues S3 m.found m.did refl);
         lines = before ++ three ∷ [];
         looked = all.1;
       }
 
 -- the line S4
-module _ (r : Arena) (s t : Seat) (a : Running) (out : Outcome Running) (h : CallIsAt r s continues S4 a) (f : Follows r s t continues S4 a out) where
+module _ {T : Type 0} (r : Arena) (s t : Seat T) (a : Running) (out : Outcome Running) (h : CallIsAt r s continues S4 a) (f : Follows r s t continues S4 a out) where
   abbrev four : Event
   four = event r s t continues S4 f.found f.did
 
@@ -140,16 +142,17 @@ module _ (r : Arena) (s t : Seat) (a : Running) (out : Outcome Running) (h : Cal
   pub puts_end : Turns r s t (turn_of out)
   puts_end =
       let all = ended out (subst (Fourth r s t continues f.found a h f.did) (sym f.leads_to) (after_s4 r s t continues f.found a h f.did)) in
-      record { seat = f.did.seat; pocket = all.0; stored = f.did.stored; lines = four ∷ []; turned = all.1 }
+      record { seat = f.did.seat; pocket = all.0; stored = f.did.stored; slots = shut_slots r s t continues S4 f.found f.did (view s).number _ refl; lines = four ∷ []; turned = all.1 }
 
 -- Tail is swung on, and the turn failed
-pub swings : (r : Arena) (s t : Seat) (a : Running) (out : Outcome Running) → CallIsAt r s continues S5 a → Follows r s t continues S5 a out → Turns r s t turn.Failed
+pub swings : {T : Type 0} (r : Arena) (s t : Seat T) (a : Running) (out : Outcome Running) → CallIsAt r s continues S5 a → Follows r s t continues S5 a out → Turns r s t turn.Failed
 swings r s t a out h f =
     let k : CallIsAt r t continues S1 a = after_s5 r s t continues f.found a h f.did in
     record {
       seat = f.did.seat;
       pocket = k.pocket;
       stored = f.did.stored;
+      slots = quiet_slots r s t continues S5 f.found f.did refl;
       lines = event r s t continues S5 f.found f.did ∷ [];
       turned = record {
         before = k.before;
@@ -160,7 +163,7 @@ swings r s t a out h f =
     }
 
 -- lines of a turn before its last ones
-module _ (r : Arena) (s t x : Seat) (es : List Event) (stored : KeepsStored s t) (w : ExtendsPath (view s) (view t) es) (never : failed_turns es ≡ 0) where
+module _ {T : Type 0} (r : Arena) (s t x : Seat T) (es : List Event) (stored : KeepsStored s t) (slots : KeepsSlots s t) (w : ExtendsPath (view s) (view t) es) (never : failed_turns es ≡ 0) where
   behind : (out : Turn) (fs : List Event) → Turned r t x fs out → Turned r s x (es ++ fs) out
   behind turn.Shut fs k =
       record {
@@ -195,4 +198,4 @@ module _ (r : Arena) (s t x : Seat) (es : List Event) (stored : KeepsStored s t)
           }
 
   pub turn_behind : (out : Turn) → Turns r t x out → Turns r s x out
-  turn_behind out d = record { seat = d.seat; pocket = d.pocket; stored = then_stored s t x stored d.stored; lines = es ++ d.lines; turned = behind out d.lines d.turned }
+  turn_behind out d = record { seat = d.seat; pocket = d.pocket; stored = then_stored s t x stored d.stored; slots = then_slots s t x slots d.slots; lines = es ++ d.lines; turned = behind out d.lines d.turned }

@@ -12,7 +12,8 @@ use Rattle.node_arena.specs.declared.seats.Seat.{Seat}
 use Rattle.node_arena.specs.Seats.{IsSeat, IsReady, KeepsStored, KeepsName, view, keeping, pocket_of}
 use Rattle.node_arena.specs.Turns.{failed_turns}
 use Rattle.node_arena.specs.Paths.{ExtendsPath, FindsShut, StopsAPush, Acts, added}
-use Rattle.node_arena.proofs.Paths.{no_walk, walk_then, then_act, then_stored, then_shut, added_is, added_path, last_held, ends_failed, stopped_behind, failed-append, failed_behind, kept_seat}
+use Rattle.node_arena.proofs.Paths.{no_walk, walk_then, then_act, then_stored, no_slots, then_slots, then_shut, added_is, added_path, last_held, ends_failed, stopped_behind, failed-append, failed_behind, kept_seat}
+use Rattle.node_arena.proofs.Loads.{kept_slots}
 use Rattle.arena_queue.specs.Answers.{ShutRefused, AnswersShut}
 use Rattle.nonblocking.specs.Values.{IsNonBlocking}
 use Rattle.nonblocking.specs.declared.shut_outcomes.Turn.TheVariants as turn
@@ -20,12 +21,13 @@ use Rattle.nonblocking.specs.Shuts.{HasPocket, SawWorn, Stops, Turns, Trying}
 use Rattle.nonblocking.specs.Worn.{shut_worn}
 
 -- a shut sets out
-pub shuts_out : (r : Arena) (s : Seat) → IsReady r s → IsNonBlocking r → Trying r s s 0
+pub shuts_out : {T : Type 0} (r : Arena) (s : Seat T) → IsReady r s → IsNonBlocking r → Trying r s s 0
 shuts_out r s h kind =
     record {
       before = record { seat = h.seat; can = (refl, h.free); line = ap (λ k. Some (shuts k)) kind };
       pocket = sym h.pocket;
       stored = record { number = refl; role = refl; keeps = refl; pocket = refl; failed = refl };
+      slots = no_slots s;
       lines = [];
       walks = no_walk (view s);
       failed = refl;
@@ -33,12 +35,13 @@ shuts_out r s h kind =
     }
 
 -- a turn failed
-pub shut_again : (r : Arena) (s t x : Seat) (n : ℕ) → Trying r s t n → Turns r t x turn.Failed → Trying r s x (n + 1)
+pub shut_again : {T : Type 0} (r : Arena) (s t x : Seat T) (n : ℕ) → Trying r s t n → Turns r t x turn.Failed → Trying r s x (n + 1)
 shut_again r s t x n g d =
     record {
       before = rw add-one d.turned.before;
       pocket = rw add-one d.pocket;
       stored = then_stored s t x g.stored d.stored;
+      slots = then_slots s t x g.slots d.slots;
       lines = g.lines ++ d.lines;
       walks = walk_then (view s) (view t) (view x) g.lines d.lines g.walks d.turned.walks;
       failed = omega (arith, failed-append g.lines d.lines, g.failed, d.turned.once);
@@ -46,12 +49,12 @@ shut_again r s t x n g d =
     }
 
 -- the pocket of a seat that keeps one
-pocket_of-keeping : (t : Seat) (p : Option Held) (n : ℕ) → pocket_of (keeping t p n) ≡ p
+pocket_of-keeping : {T : Type 0} (t : Seat T) (p : Option Held) (n : ℕ) → pocket_of (keeping t p n) ≡ p
 pocket_of-keeping t None n = refl
 pocket_of-keeping t (Some h) n = refl
 
 -- a seat that keeps its pocket, at the end of a call that left it alone
-module _ (r : Arena) (s t : Seat) (p : Option Held) (n : ℕ) (is : p ≡ pocket_of s) (stored : KeepsStored s t) (seat : IsSeat r t) where
+module _ {T : Type 0} (r : Arena) (s t : Seat T) (p : Option Held) (n : ℕ) (is : p ≡ pocket_of s) (stored : KeepsStored s t) (seat : IsSeat r t) where
   same_pocket : pocket_of (keeping t p n) ≡ pocket_of s
   same_pocket = pocket_of-keeping t p n ∙ is
 
@@ -68,7 +71,7 @@ module _ (r : Arena) (s t : Seat) (p : Option Held) (n : ℕ) (is : p ≡ pocket
       ready_again pocket (ap (λ b. b.line) rest ∙ over) (ap (λ b. b.pocket) rest)
 
 -- a turn ended the shut
-module _ (r : Arena) (s t x : Seat) (p : Option Held) (n turns : ℕ) (is : p ≡ pocket_of s) (g : Trying r s t n) where
+module _ {T : Type 0} (r : Arena) (s t x : Seat T) (p : Option Held) (n turns : ℕ) (is : p ≡ pocket_of s) (g : Trying r s t n) where
   stored_then : KeepsStored t x → KeepsStored s x
   stored_then k = then_stored s t x g.stored k
 
@@ -81,6 +84,7 @@ module _ (r : Arena) (s t x : Seat) (p : Option Held) (n turns : ℕ) (is : p �
       record {
         ready = ready_over r s x p n is (stored_then d.stored) d.seat d.pocket d.turned.over;
         same = same_name r s x p n is (stored_then d.stored) d.seat;
+        slots = kept_slots s x p n (then_slots s t x g.slots d.slots);
         pocket = same_pocket r s x p n is (stored_then d.stored) d.seat;
         shut = subst (Acts (view s) (view x) (entry.Shut (view s).number)) (sym e) acts;
         few = (let c = ap failed_turns e in omega (arith, failed-append g.lines d.lines, g.failed, d.turned.never, c, less));
@@ -93,6 +97,7 @@ module _ (r : Arena) (s t x : Seat) (p : Option Held) (n turns : ℕ) (is : p �
       record {
         ready = ready_over r s x p n is (stored_then d.stored) d.seat d.pocket (over refusal d.turned);
         same = same_name r s x p n is (stored_then d.stored) d.seat;
+        slots = kept_slots s x p n (then_slots s t x g.slots d.slots);
         pocket = same_pocket r s x p n is (stored_then d.stored) d.seat;
         shut = tt;
         few = tt;
@@ -123,7 +128,7 @@ module _ (r : Arena) (s t x : Seat) (p : Option Held) (n turns : ℕ) (is : p �
               )
 
 -- all turns failed
-pub shut_gives_up : (r : Arena) (s t : Seat) (p : Option Held) (turns n : ℕ) → 1 ≤ n → n ≡ turns → p ≡ pocket_of s → Trying r s t n → AnswersShut shut_worn r s (keeping t p turns) turns (Err Busy)
+pub shut_gives_up : {T : Type 0} (r : Arena) (s t : Seat T) (p : Option Held) (turns n : ℕ) → 1 ≤ n → n ≡ turns → p ≡ pocket_of s → Trying r s t n → AnswersShut shut_worn r s (keeping t p turns) turns (Err Busy)
 shut_gives_up r s t p turns zero some all is g = absurd (omega arith)
 shut_gives_up r s t p turns (suc m) some all is g =
     let e : added s t ≡ g.lines = added_is s t g.lines g.walks in
@@ -131,6 +136,7 @@ shut_gives_up r s t p turns (suc m) some all is g =
     record {
       ready = ready_again r s t p turns is g.stored g.before.seat g.pocket (ap (λ b. b.line) rest) (ap (λ b. b.pocket) rest);
       same = same_name r s t p turns is g.stored g.before.seat;
+      slots = kept_slots s t p turns g.slots;
       pocket = same_pocket r s t p turns is g.stored g.before.seat;
       shut = tt;
       few = tt;

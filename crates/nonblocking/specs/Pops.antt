@@ -17,7 +17,8 @@ use Rattle.node_arena.specs.Prologues.{Prologue, begins, continues, after_prolog
 use Rattle.node_arena.specs.Arenas.{Arena}
 use Rattle.node_arena.specs.declared.seats.Seat.{Seat}
 use Rattle.node_arena.specs.Seeing.{known_by}
-use Rattle.node_arena.specs.Seats.{IsSeat, IsBefore, KeepsStored, DidStep, view}
+use Rattle.node_arena.specs.Seats.{IsSeat, IsBefore, KeepsStored, KeepsSlots, DidStep, view}
+use Rattle.node_arena.specs.Loads.{TakesSlot}
 use Rattle.node_arena.specs.Turns.{failed_turns}
 use Rattle.node_arena.specs.Paths.{ExtendsPath, FindsShutEmpty, Acts, FailedAt, EndedAt, IsRefusedAt}
 use Rattle.node_arena.specs.Machine.{value_of}
@@ -91,18 +92,18 @@ AgreesAt D13 b a = (b.head ≡ a.head) × (b.next ≡ a.next) × (b.val ≡ valu
 AgreesAt l b a = Unit {0}
 
 -- a seat's actor, led there, stands before a line of a pop, and the call has its registers
-pub record CallIsAt (r : Arena) (s : Seat) (prologue : Prologue) (l : Line) (a : Running) : Type 0 where
+pub record CallIsAt {T : Type 0} (r : Arena) (s : Seat T) (prologue : Prologue) (l : Line) (a : Running) : Type 0 where
   pub before : IsBefore r s prologue l
   pub knows : AgreesAt l (after_prologue r.plan.setup (view s).number prologue (view s).actor) a
 
 -- the seat made its step at a line, and the call made of the number found what the line says
-pub record Follows (r : Arena) (s t : Seat) (prologue : Prologue) (l : Line) (a : Running) (out : Outcome Running) : Type 0 where
+pub record Follows {T : Type 0} (r : Arena) (s t : Seat T) (prologue : Prologue) (l : Line) (a : Running) (out : Outcome Running) : Type 0 where
   pub found : ℕ
   pub did : DidStep r s t prologue l found
   pub leads_to : out ≡ follow r.plan.setup a l found
 
 -- a value was taken, and the node that comes free is in the hand
-pub record Took (r : Arena) (s t : Seat) (es : List Event) (word : ℕ) (h : Held) : Type 0 where
+pub record Took {T : Type 0} (r : Arena) (s t : Seat T) (es : List Event) (word : ℕ) (h : Held) : Type 0 where
   pub over : (view t).actor.line ≡ Some F1
   pub due : (view t).actor.due ≡ Some (reply.Value (value_of word))
   pub node : (view t).actor.node ≡ h.node
@@ -111,28 +112,28 @@ pub record Took (r : Arena) (s t : Seat) (es : List Event) (word : ℕ) (h : Hel
   pub never : failed_turns es ≡ 0
 
 -- a turn that failed
-pub record Fell (r : Arena) (s t : Seat) (es : List Event) : Type 0 where
+pub record Fell {T : Type 0} (r : Arena) (s t : Seat T) (es : List Event) : Type 0 where
   pub before : IsBefore r t continues D2
   pub walks : ExtendsPath (view s) (view t) es
   pub once : failed_turns es ≡ 1
   pub last : FailedAt es
 
 -- the queue was found empty
-pub record SawEmpty (s t : Seat) (es : List Event) : Type 0 where
+pub record SawEmpty {T : Type 0} (s t : Seat T) (es : List Event) : Type 0 where
   pub over : (view t).actor.line ≡ None
   pub path : (view t).path ≡ (view s).path ++ es
   pub never : failed_turns es ≡ 0
   pub found : FoundEmpty (known_by (view s)) (known_by (view t))
 
 -- the queue was found shut and empty
-pub record SawShut (r : Arena) (s t : Seat) (es : List Event) : Type 0 where
+pub record SawShut {T : Type 0} (r : Arena) (s t : Seat T) (es : List Event) : Type 0 where
   pub over : (view t).actor.line ≡ None
   pub never : failed_turns es ≡ 0
   pub finds : FindsShutEmpty (view s) (view t) es
   pub cause : EndedAt r s es (IsRefusedAt r.plan.setup (view s).number Closed)
 
 -- Tail was found worn out
-pub record SawWorn (r : Arena) (s t : Seat) (es : List Event) (refusal : Refusal) : Type 0 where
+pub record SawWorn {T : Type 0} (r : Arena) (s t : Seat T) (es : List Event) (refusal : Refusal) : Type 0 where
   pub over : (view t).actor.line ≡ None
   pub walks : ExtendsPath (view s) (view t) es
   pub never : failed_turns es ≡ 0
@@ -140,18 +141,18 @@ pub record SawWorn (r : Arena) (s t : Seat) (es : List Event) (refusal : Refusal
   pub cause : EndedAt r s es (IsRefusedAt r.plan.setup (view s).number (WornOut OfTail))
 
 -- why a turn ends its call: the queue was found shut and empty, or Tail worn out
-abbrev pub Stops : Arena → Seat → Seat → List Event → Refusal → Type 0
+abbrev pub Stops : {T : Type 0} → Arena → Seat T → Seat T → List Event → Refusal → Type 0
 Stops r s t es Closed = SawShut r s t es
 Stops r s t es refusal = SawWorn r s t es refusal
 
 -- the turn goes on at a line
-pub record GoesOn (r : Arena) (s t : Seat) (es : List Event) (l : Line) (a : Running) : Type 0 where
+pub record GoesOn {T : Type 0} (r : Arena) (s t : Seat T) (es : List Event) (l : Line) (a : Running) : Type 0 where
   pub stands : CallIsAt r t continues l a
   pub walks : ExtendsPath (view s) (view t) es
   pub never : failed_turns es ≡ 0
 
 -- what the lines D2 to D5 come to
-abbrev pub Looked : Arena → Seat → Seat → List Event → Outcome Running → Type 0
+abbrev pub Looked : {T : Type 0} → Arena → Seat T → Seat T → List Event → Outcome Running → Type 0
 Looked r s t es (Goes D2 a) = Fell r s t es
 Looked r s t es (Goes D10 a) = GoesOn r s t es D10 a
 Looked r s t es (Goes D12 a) = GoesOn r s t es D12 a
@@ -161,38 +162,46 @@ Looked r s t es (Ends (IsRefused refusal)) = Stops r s t es refusal
 Looked r s t es (Ends reply) = ⊥
 
 -- the lines D2 to D5
-pub record Looks (r : Arena) (s t : Seat) (out : Outcome Running) : Type 0 where
+pub record Looks {T : Type 0} (r : Arena) (s t : Seat T) (out : Outcome Running) : Type 0 where
   pub seat : IsSeat r t
   pub empty : (view t).actor.pocket ≡ None
   pub stored : KeepsStored s t
+  pub slots : KeepsSlots s t
   pub lines : List Event
   pub looked : Looked r s t lines out
 
 -- what the lines of a turn come to
-abbrev pub Turned : Arena → Seat → Seat → List Event → Turn → Type 0
+abbrev pub Turned : {T : Type 0} → Arena → Seat T → Seat T → List Event → Turn → Type 0
 Turned r s t es (turn.Took word h) = Took r s t es word h
 Turned r s t es turn.Failed = Fell r s t es
 Turned r s t es turn.Empty = SawEmpty s t es
 Turned r s t es (turn.Refused refusal) = Stops r s t es refusal
 
+-- the slot of the value that a turn took came out with the seat, and else the slots that are out with it are those that were
+abbrev pub TurnMoves : {T : Type 0} → Arena → Seat T → Seat T → Turn → Type 0
+TurnMoves r s t (turn.Took word h) = TakesSlot r (value_of word).body s t
+TurnMoves r s t out = KeepsSlots s t
+
 -- lines of a turn, to its end
-pub record Turns (r : Arena) (s t : Seat) (out : Turn) : Type 0 where
+pub record Turns {T : Type 0} (r : Arena) (s t : Seat T) (out : Turn) : Type 0 where
   pub seat : IsSeat r t
   pub empty : (view t).actor.pocket ≡ None
   pub stored : KeepsStored s t
+  pub slots : TurnMoves r s t out
   pub lines : List Event
   pub turned : Turned r s t lines out
 
 -- a pop after so many failed turns since it began
-pub record Trying (r : Arena) (s t : Seat) (n : ℕ) : Type 0 where
+pub record Trying {T : Type 0} (r : Arena) (s t : Seat T) (n : ℕ) : Type 0 where
   pub before : IsBefore r t (popping n) D2
   pub stored : KeepsStored s t
+  pub slots : KeepsSlots s t
   pub lines : List Event
   pub walks : ExtendsPath (view s) (view t) lines
   pub failed : failed_turns lines ≡ n
   pub last : 1 ≤ n → FailedAt lines
 
 -- what one turn of a pop comes to: it failed, or the pop answers
-abbrev pub Tries : Arena → Seat → Seat → (spent turns : ℕ) → Option (Result (Option Taken) Refusal) → Type 0
+abbrev pub Tries : {T : Type 0} → Arena → Seat T → Seat T → (spent turns : ℕ) → Option (Result (Option Taken) Refusal) → Type 0
 Tries r s t spent turns None = Turns r s t turn.Failed
 Tries r s t spent turns (Some out) = Draws pop_worn r s t spent turns out

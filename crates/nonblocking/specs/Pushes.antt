@@ -14,7 +14,8 @@ use Rattle.node_arena.specs.Traces.{Event}
 use Rattle.node_arena.specs.Prologues.{Prologue, begins, continues, after_prologue}
 use Rattle.node_arena.specs.Arenas.{Arena}
 use Rattle.node_arena.specs.declared.seats.Seat.{Seat}
-use Rattle.node_arena.specs.Seats.{IsSeat, IsBefore, KeepsStored, DidStep, view}
+use Rattle.node_arena.specs.Seats.{IsSeat, IsBefore, KeepsStored, KeepsSlots, DidStep, view}
+use Rattle.node_arena.specs.Loads.{GivesSlot}
 use Rattle.node_arena.specs.Turns.{failed_turns}
 use Rattle.node_arena.specs.Paths.{ExtendsPath, FindsShut, Acts, FailedAt, EndedAt, IsRefusedAt}
 use Rattle.node_arena.specs.Machine.{value_of}
@@ -84,32 +85,32 @@ AgreesAt E17 b a = b.tail ≡ a.tail
 AgreesAt l b a = Unit {0}
 
 -- a seat's actor, led there, stands before a line of a push, and the call has its registers
-pub record CallIsAt (r : Arena) (s : Seat) (prologue : Prologue) (l : Line) (a : Running) : Type 0 where
+pub record CallIsAt {T : Type 0} (r : Arena) (s : Seat T) (prologue : Prologue) (l : Line) (a : Running) : Type 0 where
   pub before : IsBefore r s prologue l
   pub hand : HasNode (after_prologue r.plan.setup (view s).number prologue (view s).actor) a
   pub knows : AgreesAt l (after_prologue r.plan.setup (view s).number prologue (view s).actor) a
 
 -- the seat made its step at a line, and the call made of the number found what the line says
-pub record Follows (r : Arena) (s t : Seat) (prologue : Prologue) (l : Line) (a : Running) (out : Outcome Running) : Type 0 where
+pub record Follows {T : Type 0} (r : Arena) (s t : Seat T) (prologue : Prologue) (l : Line) (a : Running) (out : Outcome Running) : Type 0 where
   pub found : ℕ
   pub did : DidStep r s t prologue l found
   pub leads_to : out ≡ follow r.plan.setup a l found
 
 -- a push stands before a line with the same node, mark and value, and no turn failed
-pub record Comes (r : Arena) (t : Seat) (l : Line) (a c : Running) (es : List Event) : Type 0 where
+pub record Comes {T : Type 0} (r : Arena) (t : Seat T) (l : Line) (a c : Running) (es : List Event) : Type 0 where
   pub stands : CallIsAt r t continues l c
   pub hand : in_hand c ≡ in_hand a
   pub val : c.val ≡ a.val
   pub never : failed_turns es ≡ 0
 
 -- a turn failed
-pub record Slipped (r : Arena) (t : Seat) (a : Running) (es : List Event) : Type 0 where
+pub record Slipped {T : Type 0} (r : Arena) (t : Seat T) (a : Running) (es : List Event) : Type 0 where
   pub stands : CallIsAt r t continues E5 a
   pub once : failed_turns es ≡ 1
   pub last : FailedAt es
 
 -- the call is over, with this pocket, since a word was found worn out
-pub record FoundWorn (r : Arena) (s t : Seat) (p : Option Held) (es : List Event) (word : WornWord) (refusal : Refusal) : Type 0 where
+pub record FoundWorn {T : Type 0} (r : Arena) (s t : Seat T) (p : Option Held) (es : List Event) (word : WornWord) (refusal : Refusal) : Type 0 where
   pub seat : IsSeat r t
   pub over : (view t).actor.line ≡ None
   pub pocket : (view t).actor.pocket ≡ p
@@ -118,7 +119,7 @@ pub record FoundWorn (r : Arena) (s t : Seat) (p : Option Held) (es : List Event
   pub cause : EndedAt r s es (IsRefusedAt r.plan.setup (view s).number (WornOut word))
 
 -- the call is over, with its node in the pocket, since the queue was found shut
-pub record SawShut (r : Arena) (s t : Seat) (p : Option Held) (es : List Event) : Type 0 where
+pub record SawShut {T : Type 0} (r : Arena) (s t : Seat T) (p : Option Held) (es : List Event) : Type 0 where
   pub seat : IsSeat r t
   pub over : (view t).actor.line ≡ None
   pub pocket : (view t).actor.pocket ≡ p
@@ -127,12 +128,12 @@ pub record SawShut (r : Arena) (s t : Seat) (p : Option Held) (es : List Event) 
   pub cause : EndedAt r s es (IsRefusedAt r.plan.setup (view s).number Closed)
 
 -- why a turn ends its call: the queue was found shut, or Tail worn out
-abbrev pub Stops : Arena → Seat → Seat → Running → List Event → Refusal → Type 0
+abbrev pub Stops : {T : Type 0} → Arena → Seat T → Seat T → Running → List Event → Refusal → Type 0
 Stops r s t a es Closed = SawShut r s t (Some (in_hand a)) es
 Stops r s t a es refusal = ExtendsPath (view s) (view t) es × FoundWorn r s t (Some (in_hand a)) es OfTail refusal
 
 -- the body was pushed, and the call is over
-pub record Linked (r : Arena) (s t : Seat) (a : Running) (es : List Event) : Type 0 where
+pub record Linked {T : Type 0} (r : Arena) (s t : Seat T) (a : Running) (es : List Event) : Type 0 where
   pub seat : IsSeat r t
   pub over : (view t).actor.line ≡ None
   pub empty : (view t).actor.pocket ≡ None
@@ -140,21 +141,22 @@ pub record Linked (r : Arena) (s t : Seat) (a : Running) (es : List Event) : Typ
   pub acts : Acts (view s) (view t) (Push (view s).number (value_of a.val).body) es
 
 -- what E2 and E3 come to: the node is ready, or set aside
-abbrev pub Filled : Arena → Seat → Seat → Running → List Event → Outcome Running → Type 0
+abbrev pub Filled : {T : Type 0} → Arena → Seat T → Seat T → Running → List Event → Outcome Running → Type 0
 Filled r s t a es (Goes E5 c) = CallIsAt r t continues E5 c × (c.node ≡ a.node) × (c.val ≡ a.val) × (failed_turns es ≡ 0)
 Filled r s t a es (Goes l c) = ⊥
 Filled r s t a es (Ends (IsRefused refusal)) = FoundWorn r s t None es OfNext refusal
 Filled r s t a es (Ends reply) = ⊥
 
 -- the value is written into the node, and its next is cleared: E2 and E3
-pub record Fills (r : Arena) (s t : Seat) (a : Running) (out : Outcome Running) : Type 0 where
+pub record Fills {T : Type 0} (r : Arena) (s t : Seat T) (a : Running) (out : Outcome Running) : Type 0 where
   pub stored : KeepsStored s t
+  pub slots : KeepsSlots s t
   pub lines : List Event
   pub walks : ExtendsPath (view s) (view t) lines
   pub filled : Filled r s t a lines out
 
 -- what E5 to E7 come to
-abbrev pub Looked : Arena → Seat → Seat → Running → List Event → Outcome Running → Type 0
+abbrev pub Looked : {T : Type 0} → Arena → Seat T → Seat T → Running → List Event → Outcome Running → Type 0
 Looked r s t a es (Goes E9 c) = ExtendsPath (view s) (view t) es × Comes r t E9 a c es
 Looked r s t a es (Goes E13 c) = ExtendsPath (view s) (view t) es × Comes r t E13 a c es
 Looked r s t a es (Goes E5 c) = ExtendsPath (view s) (view t) es × Slipped r t a es
@@ -163,27 +165,35 @@ Looked r s t a es (Ends (IsRefused refusal)) = Stops r s t a es refusal
 Looked r s t a es (Ends reply) = ⊥
 
 -- Tail was read, and what follows its node: E5 to E7
-pub record Looks (r : Arena) (s t : Seat) (a : Running) (out : Outcome Running) : Type 0 where
+pub record Looks {T : Type 0} (r : Arena) (s t : Seat T) (a : Running) (out : Outcome Running) : Type 0 where
   pub stored : KeepsStored s t
+  pub slots : KeepsSlots s t
   pub lines : List Event
   pub looked : Looked r s t a lines out
 
 -- what a turn comes to
-abbrev pub Turned : Arena → Seat → Seat → Running → List Event → Turn → Type 0
+abbrev pub Turned : {T : Type 0} → Arena → Seat T → Seat T → Running → List Event → Turn → Type 0
 Turned r s t a es Pushed = Linked r s t a es
 Turned r s t a es Failed = ExtendsPath (view s) (view t) es × Slipped r t a es
 Turned r s t a es (TurnRefused refusal) = Stops r s t a es refusal
 
+-- the turn that pushes gives the slot that is out with the seat, and else those that are out are those that were
+abbrev pub TurnMoves : {T : Type 0} → Arena → Seat T → Seat T → Turn → Type 0
+TurnMoves r s t Pushed = GivesSlot r t
+TurnMoves r s t out = KeepsSlots s t
+
 -- a turn of a push, or the end of one
-pub record Turns (r : Arena) (s t : Seat) (a : Running) (out : Turn) : Type 0 where
+pub record Turns {T : Type 0} (r : Arena) (s t : Seat T) (a : Running) (out : Turn) : Type 0 where
   pub stored : KeepsStored s t
+  pub slots : TurnMoves r s t out
   pub lines : List Event
   pub turned : Turned r s t a lines out
 
 -- a push whose node is ready, after so many failed turns of its call, `spent` of them before
-pub record Trying (r : Arena) (s t : Seat) (a : Running) (spent n : ℕ) : Type 0 where
+pub record Trying {T : Type 0} (r : Arena) (s t : Seat T) (a : Running) (spent n : ℕ) : Type 0 where
   pub stands : CallIsAt r t continues E5 a
   pub stored : KeepsStored s t
+  pub slots : KeepsSlots s t
   pub lines : List Event
   pub walks : ExtendsPath (view s) (view t) lines
   pub failed : spent + failed_turns lines ≡ n

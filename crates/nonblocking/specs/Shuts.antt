@@ -13,7 +13,7 @@ use Rattle.node_arena.specs.Traces.{Event}
 use Rattle.node_arena.specs.Prologues.{Prologue, begins, continues, after_prologue}
 use Rattle.node_arena.specs.Arenas.{Arena}
 use Rattle.node_arena.specs.declared.seats.Seat.{Seat}
-use Rattle.node_arena.specs.Seats.{IsSeat, IsBefore, KeepsStored, DidStep, view, pocket_of}
+use Rattle.node_arena.specs.Seats.{IsSeat, IsBefore, KeepsStored, KeepsSlots, DidStep, view, pocket_of}
 use Rattle.node_arena.specs.Turns.{failed_turns}
 use Rattle.node_arena.specs.Paths.{ExtendsPath, FindsShut, Acts, FailedAt, EndedAt, IsRefusedAt}
 use Rattle.arena_lines.specs.declared.outcomes.Outcome.{Outcome}
@@ -63,43 +63,43 @@ AgreesAt S5 b a = (b.tail ≡ a.tail) × (b.next ≡ a.next)
 AgreesAt l b a = Unit {0}
 
 -- the pocket of a seat's actor, led there, is the one that the seat stores
-abbrev pub HasPocket : Arena → Seat → Prologue → Type 0
+abbrev pub HasPocket : {T : Type 0} → Arena → Seat T → Prologue → Type 0
 HasPocket r s prologue = (after_prologue r.plan.setup (view s).number prologue (view s).actor).pocket ≡ pocket_of s
 
 -- a seat's actor, led there, stands before a line of a shut, with the seat's pocket, and the call has its registers
-pub record CallIsAt (r : Arena) (s : Seat) (prologue : Prologue) (l : Line) (a : Running) : Type 0 where
+pub record CallIsAt {T : Type 0} (r : Arena) (s : Seat T) (prologue : Prologue) (l : Line) (a : Running) : Type 0 where
   pub before : IsBefore r s prologue l
   pub pocket : HasPocket r s prologue
   pub knows : AgreesAt l (after_prologue r.plan.setup (view s).number prologue (view s).actor) a
 
 -- the seat made its step at a line, and the call made of the number found what the line says
-pub record Follows (r : Arena) (s t : Seat) (prologue : Prologue) (l : Line) (a : Running) (out : Outcome Running) : Type 0 where
+pub record Follows {T : Type 0} (r : Arena) (s t : Seat T) (prologue : Prologue) (l : Line) (a : Running) (out : Outcome Running) : Type 0 where
   pub found : ℕ
   pub did : DidStep r s t prologue l found
   pub leads_to : out ≡ follow r.plan.setup a l found
 
 -- the queue was shut, and the call is over
-pub record HasShut (s t : Seat) (es : List Event) : Type 0 where
+pub record HasShut {T : Type 0} (s t : Seat T) (es : List Event) : Type 0 where
   pub over : (view t).actor.line ≡ None
   pub acts : Acts (view s) (view t) (entry.Shut (view s).number) es
   pub never : failed_turns es ≡ 0
 
 -- a turn that failed
-pub record Fell (r : Arena) (s t : Seat) (es : List Event) : Type 0 where
+pub record Fell {T : Type 0} (r : Arena) (s t : Seat T) (es : List Event) : Type 0 where
   pub before : IsBefore r t continues S1
   pub walks : ExtendsPath (view s) (view t) es
   pub once : failed_turns es ≡ 1
   pub last : FailedAt es
 
 -- the queue was found shut
-pub record SawShut (r : Arena) (s t : Seat) (es : List Event) : Type 0 where
+pub record SawShut {T : Type 0} (r : Arena) (s t : Seat T) (es : List Event) : Type 0 where
   pub over : (view t).actor.line ≡ None
   pub never : failed_turns es ≡ 0
   pub finds : FindsShut (view s) (view t) es
   pub cause : EndedAt r s es (IsRefusedAt r.plan.setup (view s).number Closed)
 
 -- Tail was found worn out
-pub record SawWorn (r : Arena) (s t : Seat) (es : List Event) (refusal : Refusal) : Type 0 where
+pub record SawWorn {T : Type 0} (r : Arena) (s t : Seat T) (es : List Event) (refusal : Refusal) : Type 0 where
   pub over : (view t).actor.line ≡ None
   pub walks : ExtendsPath (view s) (view t) es
   pub never : failed_turns es ≡ 0
@@ -107,18 +107,18 @@ pub record SawWorn (r : Arena) (s t : Seat) (es : List Event) (refusal : Refusal
   pub cause : EndedAt r s es (IsRefusedAt r.plan.setup (view s).number (WornOut OfTail))
 
 -- why a turn ends its call: the queue was found shut, or Tail worn out
-abbrev pub Stops : Arena → Seat → Seat → List Event → Refusal → Type 0
+abbrev pub Stops : {T : Type 0} → Arena → Seat T → Seat T → List Event → Refusal → Type 0
 Stops r s t es Closed = SawShut r s t es
 Stops r s t es refusal = SawWorn r s t es refusal
 
 -- the turn goes on at a line
-pub record GoesOn (r : Arena) (s t : Seat) (es : List Event) (l : Line) (a : Running) : Type 0 where
+pub record GoesOn {T : Type 0} (r : Arena) (s t : Seat T) (es : List Event) (l : Line) (a : Running) : Type 0 where
   pub stands : CallIsAt r t continues l a
   pub walks : ExtendsPath (view s) (view t) es
   pub never : failed_turns es ≡ 0
 
 -- what the lines S1 to S3 come to
-abbrev pub Looked : Arena → Seat → Seat → List Event → Outcome Running → Type 0
+abbrev pub Looked : {T : Type 0} → Arena → Seat T → Seat T → List Event → Outcome Running → Type 0
 Looked r s t es (Goes S1 a) = Fell r s t es
 Looked r s t es (Goes S4 a) = GoesOn r s t es S4 a
 Looked r s t es (Goes S5 a) = GoesOn r s t es S5 a
@@ -127,32 +127,35 @@ Looked r s t es (Ends (IsRefused refusal)) = Stops r s t es refusal
 Looked r s t es (Ends reply) = ⊥
 
 -- the lines S1 to S3
-pub record Looks (r : Arena) (s t : Seat) (out : Outcome Running) : Type 0 where
+pub record Looks {T : Type 0} (r : Arena) (s t : Seat T) (out : Outcome Running) : Type 0 where
   pub seat : IsSeat r t
   pub pocket : HasPocket r t continues
   pub stored : KeepsStored s t
+  pub slots : KeepsSlots s t
   pub lines : List Event
   pub looked : Looked r s t lines out
 
 -- what the lines of a turn come to
-abbrev pub Turned : Arena → Seat → Seat → List Event → Turn → Type 0
+abbrev pub Turned : {T : Type 0} → Arena → Seat T → Seat T → List Event → Turn → Type 0
 Turned r s t es turn.Shut = HasShut s t es
 Turned r s t es turn.Failed = Fell r s t es
 Turned r s t es (turn.Refused refusal) = Stops r s t es refusal
 
 -- lines of a turn, to its end
-pub record Turns (r : Arena) (s t : Seat) (out : Turn) : Type 0 where
+pub record Turns {T : Type 0} (r : Arena) (s t : Seat T) (out : Turn) : Type 0 where
   pub seat : IsSeat r t
   pub pocket : HasPocket r t continues
   pub stored : KeepsStored s t
+  pub slots : KeepsSlots s t
   pub lines : List Event
   pub turned : Turned r s t lines out
 
 -- a shut after so many failed turns since it began
-pub record Trying (r : Arena) (s t : Seat) (n : ℕ) : Type 0 where
+pub record Trying {T : Type 0} (r : Arena) (s t : Seat T) (n : ℕ) : Type 0 where
   pub before : IsBefore r t (shutting n) S1
   pub pocket : HasPocket r t (shutting n)
   pub stored : KeepsStored s t
+  pub slots : KeepsSlots s t
   pub lines : List Event
   pub walks : ExtendsPath (view s) (view t) lines
   pub failed : failed_turns lines ≡ n

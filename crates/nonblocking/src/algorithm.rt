@@ -40,9 +40,9 @@ impl<const B: u32> Algorithm<B> for NonBlockingAlgorithm {
         Kind::NonBlocking
     }
 
-    fn put(
-        arena: &ArenaOf<B>,
-        seat: &mut Seat,
+    fn put<T>(
+        arena: &ArenaOf<B, T>,
+        seat: &mut Seat<T>,
         held: Held,
         body: Body,
         spent: u32,
@@ -51,16 +51,16 @@ impl<const B: u32> Algorithm<B> for NonBlockingAlgorithm {
         pushing::push_node(arena, seat, held, body, spent, turns)
     }
 
-    fn draw(
-        arena: &ArenaOf<B>,
-        seat: &mut Seat,
+    fn draw<T>(
+        arena: &ArenaOf<B, T>,
+        seat: &mut Seat<T>,
         spent: u32,
         turns: u32,
     ) -> Result<Option<Taken>, Refusal> {
         popping::pop_with_empty_pocket(arena, seat, spent, turns)
     }
 
-    fn shut(arena: &ArenaOf<B>, seat: &mut Seat, turns: u32) -> Result<(), Refusal> {
+    fn shut<T>(arena: &ArenaOf<B, T>, seat: &mut Seat<T>, turns: u32) -> Result<(), Refusal> {
         shutting::shut_queue(arena, seat, turns)
     }
 }

@@ -15,9 +15,9 @@ use line_table::{Line, line_table};
 use node_arena::{ArenaOf, Seat, raised};
 
 /// `index` turns of this call failed since it began.
-pub(crate) fn d2<const B: u32>(
-    arena: &ArenaOf<B>,
-    seat: &mut Seat,
+pub(crate) fn d2<const B: u32, T>(
+    arena: &ArenaOf<B, T>,
+    seat: &mut Seat<T>,
     mut a: ActorOf<B>,
     index: u32,
 ) -> ActorOf<B>
@@ -29,7 +29,11 @@ pub(crate) fn d2<const B: u32>(
     line_table!(D2 (setup me a found) first_row (arena seat found index))
 }
 
-pub(crate) fn d3<const B: u32>(arena: &ArenaOf<B>, seat: &mut Seat, mut a: ActorOf<B>) -> ActorOf<B>
+pub(crate) fn d3<const B: u32, T>(
+    arena: &ArenaOf<B, T>,
+    seat: &mut Seat<T>,
+    mut a: ActorOf<B>,
+) -> ActorOf<B>
     requires stands { CallIsAt arena.now seat.old continues lines.D3 a }
     ensures { Follows arena.now seat.old seat.new continues lines.D3 a.entry
         (Outcome.Goes lines.D4 result) }
@@ -38,7 +42,11 @@ pub(crate) fn d3<const B: u32>(arena: &ArenaOf<B>, seat: &mut Seat, mut a: Actor
     line_table!(D3 (setup me a found) row (arena seat found))
 }
 
-pub(crate) fn d4<const B: u32>(arena: &ArenaOf<B>, seat: &mut Seat, mut a: ActorOf<B>) -> ActorOf<B>
+pub(crate) fn d4<const B: u32, T>(
+    arena: &ArenaOf<B, T>,
+    seat: &mut Seat<T>,
+    mut a: ActorOf<B>,
+) -> ActorOf<B>
     requires stands { CallIsAt arena.now seat.old continues lines.D4 a }
     ensures { Follows arena.now seat.old seat.new continues lines.D4 a.entry
         (Outcome.Goes lines.D5 result) }
@@ -47,9 +55,9 @@ pub(crate) fn d4<const B: u32>(arena: &ArenaOf<B>, seat: &mut Seat, mut a: Actor
     line_table!(D4 (setup me a found) row (arena seat found))
 }
 
-pub(crate) fn d5<const B: u32>(
-    arena: &ArenaOf<B>,
-    seat: &mut Seat,
+pub(crate) fn d5<const B: u32, T>(
+    arena: &ArenaOf<B, T>,
+    seat: &mut Seat<T>,
     a: ActorOf<B>,
 ) -> Outcome<ActorOf<B>>
     requires stands { CallIsAt arena.now seat.old continues lines.D5 a }
@@ -59,7 +67,11 @@ pub(crate) fn d5<const B: u32>(
     line_table!(D5 (setup me a found) row (arena seat found))
 }
 
-pub(crate) fn d10<const B: u32>(arena: &ArenaOf<B>, seat: &mut Seat, a: ActorOf<B>) -> ActorOf<B>
+pub(crate) fn d10<const B: u32, T>(
+    arena: &ArenaOf<B, T>,
+    seat: &mut Seat<T>,
+    a: ActorOf<B>,
+) -> ActorOf<B>
     requires stands { CallIsAt arena.now seat.old continues lines.D10 a }
     ensures { Follows arena.now seat.old seat.new continues lines.D10 a.entry
         (Outcome.Goes lines.D2 result) }
@@ -69,9 +81,9 @@ pub(crate) fn d10<const B: u32>(arena: &ArenaOf<B>, seat: &mut Seat, a: ActorOf<
     line_table!(D10 (setup me a found) row (arena seat found))
 }
 
-pub(crate) fn d12<const B: u32>(
-    arena: &ArenaOf<B>,
-    seat: &mut Seat,
+pub(crate) fn d12<const B: u32, T>(
+    arena: &ArenaOf<B, T>,
+    seat: &mut Seat<T>,
     mut a: ActorOf<B>,
 ) -> Outcome<ActorOf<B>>
     requires stands { CallIsAt arena.now seat.old continues lines.D12 a }
@@ -81,9 +93,9 @@ pub(crate) fn d12<const B: u32>(
     line_table!(D12 (setup me a found) row (arena seat found))
 }
 
-pub(crate) fn d13<const B: u32>(
-    arena: &ArenaOf<B>,
-    seat: &mut Seat,
+pub(crate) fn d13<const B: u32, T>(
+    arena: &ArenaOf<B, T>,
+    seat: &mut Seat<T>,
     mut a: ActorOf<B>,
 ) -> Outcome<ActorOf<B>>
     requires stands { CallIsAt arena.now seat.old continues lines.D13 a }

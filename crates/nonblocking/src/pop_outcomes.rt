@@ -46,7 +46,7 @@ pub(crate) enum Turn {
 }
 
 /// Registers that hold nothing yet.
-pub(crate) fn blank<const B: u32>(arena: &ArenaOf<B>) -> ActorOf<B> {
+pub(crate) fn blank<const B: u32, T>(arena: &ArenaOf<B, T>) -> ActorOf<B> {
     let null = arena.null();
     ActorOf {
         head: null,

@@ -18,7 +18,11 @@ use line_table::Line;
 use node_arena::{ArenaOf, Seat, value_of};
 
 // The lines D2 to D5, where `index` turns of this pop failed before: Head, Tail, the node after Head's, and Head again.
-fn read_front<const B: u32>(arena: &ArenaOf<B>, seat: &mut Seat, index: u32) -> Outcome<ActorOf<B>>
+fn read_front<const B: u32, T>(
+    arena: &ArenaOf<B, T>,
+    seat: &mut Seat<T>,
+    index: u32,
+) -> Outcome<ActorOf<B>>
     requires before { IsBefore arena.now seat.old (popping index) lines.D2 }
     requires non_blocking { IsNonBlocking arena.now }
     ensures { Looks arena.now seat.old seat.new result }
@@ -30,7 +34,7 @@ fn read_front<const B: u32>(arena: &ArenaOf<B>, seat: &mut Seat, index: u32) -> 
 }
 
 // The lines D12 and D13: the value of the node after Head's, and then Head is moved to that node.
-fn move_head<const B: u32>(arena: &ArenaOf<B>, seat: &mut Seat, a: ActorOf<B>) -> Turn
+fn move_head<const B: u32, T>(arena: &ArenaOf<B, T>, seat: &mut Seat<T>, a: ActorOf<B>) -> Turn
     requires stands { CallIsAt arena.now seat.old continues lines.D12 a }
     requires non_blocking { IsNonBlocking arena.now }
     requires role { IsTrue (may_pop (role_of seat.old)) }
@@ -43,7 +47,7 @@ fn move_head<const B: u32>(arena: &ArenaOf<B>, seat: &mut Seat, a: ActorOf<B>) -
 }
 
 // One turn, where `index` turns of this pop failed before.
-fn pop_turn<const B: u32>(arena: &ArenaOf<B>, seat: &mut Seat, index: u32) -> Turn
+fn pop_turn<const B: u32, T>(arena: &ArenaOf<B, T>, seat: &mut Seat<T>, index: u32) -> Turn
     requires before { IsBefore arena.now seat.old (popping index) lines.D2 }
     requires non_blocking { IsNonBlocking arena.now }
     requires role { IsTrue (may_pop (role_of seat.old)) }
@@ -64,9 +68,9 @@ fn pop_turn<const B: u32>(arena: &ArenaOf<B>, seat: &mut Seat, index: u32) -> Tu
 
 // One turn and, where it ends the pop, the answer: a node that comes free stays in the pocket of a seat that keeps its
 // nodes, and else is given back with the turns that are left. Before it `index` turns of this pop failed, and `failed` of its call.
-fn pop_by_turn<const B: u32>(
-    arena: &ArenaOf<B>,
-    seat: &mut Seat,
+fn pop_by_turn<const B: u32, T>(
+    arena: &ArenaOf<B, T>,
+    seat: &mut Seat<T>,
     index: u32,
     failed: u32,
     turns: u32,
@@ -99,9 +103,9 @@ fn pop_by_turn<const B: u32>(
 }
 
 // The pop with an empty pocket, where `spent` turns of this call failed before.
-pub(crate) fn pop_with_empty_pocket<const B: u32>(
-    arena: &ArenaOf<B>,
-    seat: &mut Seat,
+pub(crate) fn pop_with_empty_pocket<const B: u32, T>(
+    arena: &ArenaOf<B, T>,
+    seat: &mut Seat<T>,
     spent: u32,
     turns: u32,
 ) -> Result<Option<Taken>, Refusal>

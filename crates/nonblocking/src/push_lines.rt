@@ -2,7 +2,9 @@
 ghost use Rattle.std.specs.Prelude.{IsTrue};
 ghost use Rattle.line_table.specs.declared.lines.Line.TheVariants as lines;
 ghost use Rattle.node_arena.specs.Prologues.{continues};
+ghost use Rattle.node_arena.specs.Machine.{value_of};
 ghost use Rattle.node_arena.specs.Plans.{may_push};
+ghost use Rattle.node_arena.specs.Loads.{IsLoaded};
 ghost use Rattle.node_arena.specs.Seats.{role_of};
 ghost use Rattle.nonblocking.specs.Pushes.{pushing, CallIsAt, Follows};
 
@@ -15,7 +17,11 @@ use history::WornWord;
 use line_table::{Line, line_table};
 use node_arena::{ArenaOf, Seat, raised};
 
-pub(crate) fn e2<const B: u32>(arena: &ArenaOf<B>, seat: &mut Seat, a: ActorOf<B>) -> ActorOf<B>
+pub(crate) fn e2<const B: u32, T>(
+    arena: &ArenaOf<B, T>,
+    seat: &mut Seat<T>,
+    a: ActorOf<B>,
+) -> ActorOf<B>
     requires stands { CallIsAt arena.now seat.old (pushing a.val) lines.E2 a }
     ensures { Follows arena.now seat.old seat.new (pushing a.entry.val) lines.E2 a.entry
         (Outcome.Goes lines.E3 result) }
@@ -24,9 +30,9 @@ pub(crate) fn e2<const B: u32>(arena: &ArenaOf<B>, seat: &mut Seat, a: ActorOf<B
     line_table!(E2 (setup me a found) row (arena seat found))
 }
 
-pub(crate) fn e3<const B: u32>(
-    arena: &ArenaOf<B>,
-    seat: &mut Seat,
+pub(crate) fn e3<const B: u32, T>(
+    arena: &ArenaOf<B, T>,
+    seat: &mut Seat<T>,
     mut a: ActorOf<B>,
 ) -> Outcome<ActorOf<B>>
     requires stands { CallIsAt arena.now seat.old continues lines.E3 a }
@@ -36,7 +42,11 @@ pub(crate) fn e3<const B: u32>(
     line_table!(E3 (setup me a found) row (arena seat found))
 }
 
-pub(crate) fn e5<const B: u32>(arena: &ArenaOf<B>, seat: &mut Seat, mut a: ActorOf<B>) -> ActorOf<B>
+pub(crate) fn e5<const B: u32, T>(
+    arena: &ArenaOf<B, T>,
+    seat: &mut Seat<T>,
+    mut a: ActorOf<B>,
+) -> ActorOf<B>
     requires stands { CallIsAt arena.now seat.old continues lines.E5 a }
     ensures { Follows arena.now seat.old seat.new continues lines.E5 a.entry
         (Outcome.Goes lines.E6 result) }
@@ -45,7 +55,11 @@ pub(crate) fn e5<const B: u32>(arena: &ArenaOf<B>, seat: &mut Seat, mut a: Actor
     line_table!(E5 (setup me a found) row (arena seat found))
 }
 
-pub(crate) fn e6<const B: u32>(arena: &ArenaOf<B>, seat: &mut Seat, mut a: ActorOf<B>) -> ActorOf<B>
+pub(crate) fn e6<const B: u32, T>(
+    arena: &ArenaOf<B, T>,
+    seat: &mut Seat<T>,
+    mut a: ActorOf<B>,
+) -> ActorOf<B>
     requires stands { CallIsAt arena.now seat.old continues lines.E6 a }
     ensures { Follows arena.now seat.old seat.new continues lines.E6 a.entry
         (Outcome.Goes lines.E7 result) }
@@ -54,9 +68,9 @@ pub(crate) fn e6<const B: u32>(arena: &ArenaOf<B>, seat: &mut Seat, mut a: Actor
     line_table!(E6 (setup me a found) row (arena seat found))
 }
 
-pub(crate) fn e7<const B: u32>(
-    arena: &ArenaOf<B>,
-    seat: &mut Seat,
+pub(crate) fn e7<const B: u32, T>(
+    arena: &ArenaOf<B, T>,
+    seat: &mut Seat<T>,
     mut a: ActorOf<B>,
 ) -> Outcome<ActorOf<B>>
     requires stands { CallIsAt arena.now seat.old continues lines.E7 a }
@@ -66,12 +80,13 @@ pub(crate) fn e7<const B: u32>(
     line_table!(E7 (setup me a found) row (arena seat found))
 }
 
-pub(crate) fn e9<const B: u32>(
-    arena: &ArenaOf<B>,
-    seat: &mut Seat,
+pub(crate) fn e9<const B: u32, T>(
+    arena: &ArenaOf<B, T>,
+    seat: &mut Seat<T>,
     mut a: ActorOf<B>,
 ) -> Outcome<ActorOf<B>>
     requires stands { CallIsAt arena.now seat.old continues lines.E9 a }
+    requires loaded { IsLoaded arena.now (value_of a.val).body seat.old }
     requires role { IsTrue (may_push (role_of seat.old)) }
     ensures { Follows arena.now seat.old seat.new continues lines.E9 a.entry result }
 {
@@ -79,7 +94,11 @@ pub(crate) fn e9<const B: u32>(
     line_table!(E9 (setup me a found) row (arena seat found))
 }
 
-pub(crate) fn e13<const B: u32>(arena: &ArenaOf<B>, seat: &mut Seat, a: ActorOf<B>) -> ActorOf<B>
+pub(crate) fn e13<const B: u32, T>(
+    arena: &ArenaOf<B, T>,
+    seat: &mut Seat<T>,
+    a: ActorOf<B>,
+) -> ActorOf<B>
     requires stands { CallIsAt arena.now seat.old continues lines.E13 a }
     ensures { Follows arena.now seat.old seat.new continues lines.E13 a.entry
         (Outcome.Goes lines.E5 result) }
@@ -89,9 +108,9 @@ pub(crate) fn e13<const B: u32>(arena: &ArenaOf<B>, seat: &mut Seat, a: ActorOf<
     line_table!(E13 (setup me a found) row (arena seat found))
 }
 
-pub(crate) fn e17<const B: u32>(
-    arena: &ArenaOf<B>,
-    seat: &mut Seat,
+pub(crate) fn e17<const B: u32, T>(
+    arena: &ArenaOf<B, T>,
+    seat: &mut Seat<T>,
     a: ActorOf<B>,
 ) -> Outcome<ActorOf<B>>
     requires stands { CallIsAt arena.now seat.old continues lines.E17 a }

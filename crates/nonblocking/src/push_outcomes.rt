@@ -42,7 +42,7 @@ pub(crate) enum Turn {
 }
 
 /// Registers with this node and this word of a value.
-pub(crate) fn registers<const B: u32>(arena: &ArenaOf<B>, held: Held, val: u64) -> ActorOf<B>
+pub(crate) fn registers<const B: u32, T>(arena: &ArenaOf<B, T>, held: Held, val: u64) -> ActorOf<B>
     ensures { result ≡ registers_of held val }
 {
     let null = arena.null();

@@ -3,6 +3,7 @@ ghost use Rattle.std.specs.Prelude.{◌≡◌, ◌<◌, IsTrue, Some};
 ghost use Rattle.line_table.specs.declared.lines.Line.TheVariants as lines;
 ghost use Rattle.node_arena.specs.Prologues.{continues};
 ghost use Rattle.node_arena.specs.Plans.{may_push};
+ghost use Rattle.node_arena.specs.Loads.{IsLoaded};
 ghost use Rattle.node_arena.specs.Seats.{IsReady, role_of, pocket_of};
 ghost use Rattle.nonblocking.specs.Values.{IsNonBlocking};
 ghost use Rattle.node_arena.specs.Machine.{value_of};
@@ -18,7 +19,11 @@ use line_table::Line;
 use node_arena::{ArenaOf, Held, Seat, word_of};
 
 // The value is written into the node, and its next is cleared; the count found there is the mark.
-fn fill<const B: u32>(arena: &ArenaOf<B>, seat: &mut Seat, a: ActorOf<B>) -> Outcome<ActorOf<B>>
+fn fill<const B: u32, T>(
+    arena: &ArenaOf<B, T>,
+    seat: &mut Seat<T>,
+    a: ActorOf<B>,
+) -> Outcome<ActorOf<B>>
     requires stands { CallIsAt arena.now seat.old (pushing a.val) lines.E2 a }
     ensures { Fills arena.now seat.old seat.new a.entry result }
 {
@@ -27,9 +32,9 @@ fn fill<const B: u32>(arena: &ArenaOf<B>, seat: &mut Seat, a: ActorOf<B>) -> Out
 }
 
 // Tail is read, what follows its node, and Tail again.
-fn read_tail<const B: u32>(
-    arena: &ArenaOf<B>,
-    seat: &mut Seat,
+fn read_tail<const B: u32, T>(
+    arena: &ArenaOf<B, T>,
+    seat: &mut Seat<T>,
     a: ActorOf<B>,
 ) -> Outcome<ActorOf<B>>
     requires stands { CallIsAt arena.now seat.old continues lines.E5 a }
@@ -42,8 +47,9 @@ fn read_tail<const B: u32>(
 
 // One turn, from E5 to its end. At E9 the node is linked behind the last one, and at E17 Tail goes on to it unless another
 // seat was there first.
-fn push_turn<const B: u32>(arena: &ArenaOf<B>, seat: &mut Seat, a: ActorOf<B>) -> Turn
+fn push_turn<const B: u32, T>(arena: &ArenaOf<B, T>, seat: &mut Seat<T>, a: ActorOf<B>) -> Turn
     requires stands { CallIsAt arena.now seat.old continues lines.E5 a }
+    requires loaded { IsLoaded arena.now (value_of a.val).body seat.old }
     requires role { IsTrue (may_push (role_of seat.old)) }
     ensures { Turns arena.now seat.old seat.new a.entry result }
 {
@@ -68,9 +74,9 @@ fn push_turn<const B: u32>(arena: &ArenaOf<B>, seat: &mut Seat, a: ActorOf<B>) -
 }
 
 // The push with the node in the pocket, where `spent` turns of this call failed before.
-pub(crate) fn push_node<const B: u32>(
-    arena: &ArenaOf<B>,
-    seat: &mut Seat,
+pub(crate) fn push_node<const B: u32, T>(
+    arena: &ArenaOf<B, T>,
+    seat: &mut Seat<T>,
     held: Held,
     body: Body,
     spent: u32,
@@ -78,6 +84,7 @@ pub(crate) fn push_node<const B: u32>(
 ) -> Result<(), Refusal>
     requires ready { IsReady arena.now seat.old }
     requires non_blocking { IsNonBlocking arena.now }
+    requires loaded { IsLoaded arena.now body seat.old }
     requires role { IsTrue (may_push (role_of seat.old)) }
     requires full { pocket_of seat.old ≡ Some held }
     requires turns { spent < turns }

@@ -15,9 +15,9 @@ use line_table::{Line, line_table};
 use node_arena::{ArenaOf, Seat, raised, raised_end};
 
 /// `index` turns of this call failed since it began.
-pub(crate) fn s1<const B: u32>(
-    arena: &ArenaOf<B>,
-    seat: &mut Seat,
+pub(crate) fn s1<const B: u32, T>(
+    arena: &ArenaOf<B, T>,
+    seat: &mut Seat<T>,
     mut a: ActorOf<B>,
     index: u32,
 ) -> ActorOf<B>
@@ -29,7 +29,11 @@ pub(crate) fn s1<const B: u32>(
     line_table!(S1 (setup me a found) first_row (arena seat found index))
 }
 
-pub(crate) fn s2<const B: u32>(arena: &ArenaOf<B>, seat: &mut Seat, mut a: ActorOf<B>) -> ActorOf<B>
+pub(crate) fn s2<const B: u32, T>(
+    arena: &ArenaOf<B, T>,
+    seat: &mut Seat<T>,
+    mut a: ActorOf<B>,
+) -> ActorOf<B>
     requires stands { CallIsAt arena.now seat.old continues lines.S2 a }
     ensures { Follows arena.now seat.old seat.new continues lines.S2 a.entry
         (Outcome.Goes lines.S3 result) }
@@ -38,9 +42,9 @@ pub(crate) fn s2<const B: u32>(arena: &ArenaOf<B>, seat: &mut Seat, mut a: Actor
     line_table!(S2 (setup me a found) row (arena seat found))
 }
 
-pub(crate) fn s3<const B: u32>(
-    arena: &ArenaOf<B>,
-    seat: &mut Seat,
+pub(crate) fn s3<const B: u32, T>(
+    arena: &ArenaOf<B, T>,
+    seat: &mut Seat<T>,
     a: ActorOf<B>,
 ) -> Outcome<ActorOf<B>>
     requires stands { CallIsAt arena.now seat.old continues lines.S3 a }
@@ -50,9 +54,9 @@ pub(crate) fn s3<const B: u32>(
     line_table!(S3 (setup me a found) row (arena seat found))
 }
 
-pub(crate) fn s4<const B: u32>(
-    arena: &ArenaOf<B>,
-    seat: &mut Seat,
+pub(crate) fn s4<const B: u32, T>(
+    arena: &ArenaOf<B, T>,
+    seat: &mut Seat<T>,
     a: ActorOf<B>,
 ) -> Outcome<ActorOf<B>>
     requires stands { CallIsAt arena.now seat.old continues lines.S4 a }
@@ -63,7 +67,11 @@ pub(crate) fn s4<const B: u32>(
     line_table!(S4 (setup me a found) row (arena seat found))
 }
 
-pub(crate) fn s5<const B: u32>(arena: &ArenaOf<B>, seat: &mut Seat, a: ActorOf<B>) -> ActorOf<B>
+pub(crate) fn s5<const B: u32, T>(
+    arena: &ArenaOf<B, T>,
+    seat: &mut Seat<T>,
+    a: ActorOf<B>,
+) -> ActorOf<B>
     requires stands { CallIsAt arena.now seat.old continues lines.S5 a }
     ensures { Follows arena.now seat.old seat.new continues lines.S5 a.entry
         (Outcome.Goes lines.S1 result) }

@@ -16,7 +16,11 @@ use line_table::Line;
 use node_arena::{ArenaOf, Seat};
 
 // The lines S1 to S3, where `index` turns of this shut failed before: Tail, what follows its node, and Tail again.
-fn read_end<const B: u32>(arena: &ArenaOf<B>, seat: &mut Seat, index: u32) -> Outcome<ActorOf<B>>
+fn read_end<const B: u32, T>(
+    arena: &ArenaOf<B, T>,
+    seat: &mut Seat<T>,
+    index: u32,
+) -> Outcome<ActorOf<B>>
     requires before { IsBefore arena.now seat.old (shutting index) lines.S1 }
     requires pocket { HasPocket arena.now seat.old (shutting index) }
     ensures { Looks arena.now seat.old seat.new result }
@@ -28,7 +32,7 @@ fn read_end<const B: u32>(arena: &ArenaOf<B>, seat: &mut Seat, index: u32) -> Ou
 
 // One turn, where `index` turns of this shut failed before. At S4 the closed end is put behind the last node; where Tail lags,
 // it goes on at S5.
-fn shut_turn<const B: u32>(arena: &ArenaOf<B>, seat: &mut Seat, index: u32) -> Turn
+fn shut_turn<const B: u32, T>(arena: &ArenaOf<B, T>, seat: &mut Seat<T>, index: u32) -> Turn
     requires before { IsBefore arena.now seat.old (shutting index) lines.S1 }
     requires pocket { HasPocket arena.now seat.old (shutting index) }
     requires role { IsTrue (may_push (role_of seat.old)) }
@@ -48,9 +52,9 @@ fn shut_turn<const B: u32>(arena: &ArenaOf<B>, seat: &mut Seat, index: u32) -> T
 }
 
 // The shut, which leaves the pocket alone.
-pub(crate) fn shut_queue<const B: u32>(
-    arena: &ArenaOf<B>,
-    seat: &mut Seat,
+pub(crate) fn shut_queue<const B: u32, T>(
+    arena: &ArenaOf<B, T>,
+    seat: &mut Seat<T>,
     turns: u32,
 ) -> Result<(), Refusal>
     requires ready { IsReady arena.now seat.old }

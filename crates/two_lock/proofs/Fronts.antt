@@ -12,13 +12,16 @@ use Rattle.node_arena.specs.Machine.{Actor, entry_or, unlocked}
 use Rattle.node_arena.specs.Traces.{Event, outcome_at}
 use Rattle.node_arena.specs.Prologues.{continues}
 use Rattle.node_arena.specs.Rule.{notes_of, SaysOfSeen}
+use Rattle.history.specs.declared.operations.Taken.{Taken}
 use Rattle.node_arena.specs.Arenas.{Arena}
 use Rattle.node_arena.specs.declared.seats.Seat.{Seat}
-use Rattle.node_arena.specs.Seats.{KeepsStored, view}
+use Rattle.node_arena.specs.Seats.{KeepsStored, KeepsSlots, view}
+use Rattle.node_arena.specs.Loads.{TakesSlot}
+use Rattle.node_arena.proofs.Loads.{takes_slot, then_takes, takes_then}
 use Rattle.node_arena.specs.Paths.{ExtendsPath, Passes, Acts}
 use Rattle.node_arena.proofs.Noting.{IsSilent}
 use Rattle.node_arena.proofs.Known.{empty_before}
-use Rattle.node_arena.proofs.Paths.{then_shut_empty, shut_empty_on, walk_then, then_act, act_then, then_stored, event, walk_on, pass_on, act_on, stopped_at}
+use Rattle.node_arena.proofs.Paths.{then_shut_empty, shut_empty_on, walk_then, then_act, act_then, then_stored, then_slots, quiet_slots, event, walk_on, pass_on, act_on, stopped_at}
 use Rattle.node_arena.specs.Machine.{value_of}
 use Rattle.arena_lines.specs.declared.outcomes.Outcome.{Outcome}
 use Rattle.arena_lines.specs.declared.outcomes.Outcome.TheVariants.{Goes, Ends}
@@ -38,14 +41,14 @@ unfolding line_or
 same_line l k a b e = ap (line_or l) e
 
 -- after B2
-pub to_b3 : (r : Arena) (s t : Seat) (l : Line) (a b : Running) → CallIsAt r s continues B2 a → Follows r s t continues B2 a (Goes l b) → CallIsAt r t continues B3 b
+pub to_b3 : {T : Type 0} (r : Arena) (s t : Seat T) (l : Line) (a b : Running) → CallIsAt r s continues B2 a → Follows r s t continues B2 a (Goes l b) → CallIsAt r t continues B3 b
 to_b3 r s t l a b h f = subst (λ k. CallIsAt r t continues k b) (same_line l B3 b (record a { head = ref_of r.plan.setup.bits f.found }) f.leads_to) (stands_next r s t B2 l a b h f tt)
 
 -- after B3: the end of the queue, or a value behind Head's node
-pub to_b6_empty : (r : Arena) (s t : Seat) (l : Line) (a b : Running) → CallIsAt r s continues B3 a → Follows r s t continues B3 a (Goes l b) → l ≡ B6 → CallIsAt r t continues B6 b
+pub to_b6_empty : {T : Type 0} (r : Arena) (s t : Seat T) (l : Line) (a b : Running) → CallIsAt r s continues B3 a → Follows r s t continues B3 a (Goes l b) → l ≡ B6 → CallIsAt r t continues B6 b
 to_b6_empty r s t l a b h f e = subst (λ k. CallIsAt r t continues k b) e (stands_next r s t B3 l a b h f tt)
 
-pub to_b4 : (r : Arena) (s t : Seat) (l : Line) (a b : Running) → CallIsAt r s continues B3 a → Follows r s t continues B3 a (Goes l b) → (l ≡ B6 → ⊥) → CallIsAt r t continues B4 b
+pub to_b4 : {T : Type 0} (r : Arena) (s t : Seat T) (l : Line) (a b : Running) → CallIsAt r s continues B3 a → Follows r s t continues B3 a (Goes l b) → (l ≡ B6 → ⊥) → CallIsAt r t continues B4 b
 to_b4 r s t l a b h f other = subst (λ k. CallIsAt r t continues k b) (go (is_null (ref_of r.plan.setup.bits f.found)) (is_shut r.plan.setup.bits (ref_of r.plan.setup.bits f.found)) f.leads_to) (stands_next r s t B3 l a b h f tt)
   where
     go : (p q : Bool) → Goes l b ≡ (let c = record a { next = ref_of r.plan.setup.bits f.found } in if p then Goes B6 (record c { due = Some IsEmpty }) else if q then Goes B6 (record c { due = Some (IsRefused Closed) }) else Goes B4 c) → l ≡ B4
@@ -54,7 +57,7 @@ to_b4 r s t l a b h f other = subst (λ k. CallIsAt r t continues k b) (go (is_n
     go false false e = same_line l B4 b _ e
 
 -- what is due where B3 goes to B6
-pub found_end : (r : Arena) (s t : Seat) (l : Line) (a b : Running) → (f : Follows r s t continues B3 a (Goes l b)) → l ≡ B6 → (b.due ≡ Some IsEmpty) ⊎ (b.due ≡ Some (IsRefused Closed))
+pub found_end : {T : Type 0} (r : Arena) (s t : Seat T) (l : Line) (a b : Running) → (f : Follows r s t continues B3 a (Goes l b)) → l ≡ B6 → (b.due ≡ Some IsEmpty) ⊎ (b.due ≡ Some (IsRefused Closed))
 found_end r s t l a b f is = go (is_null (ref_of r.plan.setup.bits f.found)) (is_shut r.plan.setup.bits (ref_of r.plan.setup.bits f.found)) f.leads_to
   where
     go : (p q : Bool) → Goes l b ≡ (let c = record a { next = ref_of r.plan.setup.bits f.found } in if p then Goes B6 (record c { due = Some IsEmpty }) else if q then Goes B6 (record c { due = Some (IsRefused Closed) }) else Goes B4 c) → (b.due ≡ Some IsEmpty) ⊎ (b.due ≡ Some (IsRefused Closed))
@@ -63,10 +66,10 @@ found_end r s t l a b f is = go (is_null (ref_of r.plan.setup.bits f.found)) (is
     go false false e = absurd (let g : B6 ≡ B4 = sym is ∙ same_line l B4 b _ e in cc)
 
 -- after B4: Head is worn out, or it can be moved
-pub to_b6_worn : (r : Arena) (s t : Seat) (l : Line) (a b : Running) → CallIsAt r s continues B4 a → Follows r s t continues B4 a (Goes l b) → l ≡ B6 → CallIsAt r t continues B6 b
+pub to_b6_worn : {T : Type 0} (r : Arena) (s t : Seat T) (l : Line) (a b : Running) → CallIsAt r s continues B4 a → Follows r s t continues B4 a (Goes l b) → l ≡ B6 → CallIsAt r t continues B6 b
 to_b6_worn r s t l a b h f e = subst (λ k. CallIsAt r t continues k b) e (stands_next r s t B4 l a b h f tt)
 
-pub to_b5 : (r : Arena) (s t : Seat) (l : Line) (a b : Running) → CallIsAt r s continues B4 a → Follows r s t continues B4 a (Goes l b) → (l ≡ B6 → ⊥) → CallIsAt r t continues B5 b
+pub to_b5 : {T : Type 0} (r : Arena) (s t : Seat T) (l : Line) (a b : Running) → CallIsAt r s continues B4 a → Follows r s t continues B4 a (Goes l b) → (l ≡ B6 → ⊥) → CallIsAt r t continues B5 b
 to_b5 r s t l a b h f other = subst (λ k. CallIsAt r t continues k b) (go (nat_eq a.head.count r.plan.setup.limit) f.leads_to) (stands_next r s t B4 l a b h f tt)
   where
     go : (p : Bool) → Goes l b ≡ (let c = record a { val = f.found } in if p then Goes B6 (record c { due = Some (IsRefused (WornOut OfHead)) }) else Goes B5 c) → l ≡ B5
@@ -74,7 +77,7 @@ to_b5 r s t l a b h f other = subst (λ k. CallIsAt r t continues k b) (go (nat_
     go false e = same_line l B5 b _ e
 
 -- what is due where B4 goes to B6
-pub found_worn : (r : Arena) (s t : Seat) (l : Line) (a b : Running) → Follows r s t continues B4 a (Goes l b) → l ≡ B6 → b.due ≡ Some (IsRefused (WornOut OfHead))
+pub found_worn : {T : Type 0} (r : Arena) (s t : Seat T) (l : Line) (a b : Running) → Follows r s t continues B4 a (Goes l b) → l ≡ B6 → b.due ≡ Some (IsRefused (WornOut OfHead))
 found_worn r s t l a b f is = go (nat_eq a.head.count r.plan.setup.limit) f.leads_to
   where
     go : (p : Bool) → Goes l b ≡ (let c = record a { val = f.found } in if p then Goes B6 (record c { due = Some (IsRefused (WornOut OfHead)) }) else Goes B5 c) → b.due ≡ Some (IsRefused (WornOut OfHead))
@@ -82,11 +85,11 @@ found_worn r s t l a b f is = go (nat_eq a.head.count r.plan.setup.limit) f.lead
     go false e = absurd (let g : B6 ≡ B5 = sym is ∙ same_line l B5 b _ e in cc)
 
 -- after B5
-pub to_b6_value : (r : Arena) (s t : Seat) (l : Line) (a b : Running) → CallIsAt r s continues B5 a → Follows r s t continues B5 a (Goes l b) → CallIsAt r t continues B6 b
+pub to_b6_value : {T : Type 0} (r : Arena) (s t : Seat T) (l : Line) (a b : Running) → CallIsAt r s continues B5 a → Follows r s t continues B5 a (Goes l b) → CallIsAt r t continues B6 b
 to_b6_value r s t l a b h f = subst (λ k. CallIsAt r t continues k b) (same_line l B6 b (record a { node = a.head.node; mark = a.next.count; due = Some (IsValue a.val) }) f.leads_to) (stands_next r s t B5 l a b h f tt)
 
 -- the last line, B6
-module _ (r : Arena) (s t : Seat) (a : Running) (out : Outcome Running) (h : CallIsAt r s continues B6 a) (f : Follows r s t continues B6 a out) (due : Option Reply) (is : a.due ≡ due) where
+module _ {T : Type 0} (r : Arena) (s t : Seat T) (a : Running) (out : Outcome Running) (h : CallIsAt r s continues B6 a) (f : Follows r s t continues B6 a out) (due : Option Reply) (is : a.due ≡ due) where
   abbrev pub last : Event
   last = event r s t continues B6 f.found f.did
 
@@ -112,7 +115,7 @@ module _ (r : Arena) (s t : Seat) (a : Running) (out : Outcome Running) (h : Cal
   silent_due k = subst IsSilent (sym told_of) k
 
 -- the queue was found empty, or shut and empty
-pub saw_empty : (r : Arena) (s u t x : Seat) (a b c : Running) (l k : Line) (out : Outcome Running) → CallIsAt r s continues B2 a → Follows r s u continues B2 a (Goes l b) → Follows r u t continues B3 b (Goes k c) → k ≡ B6 → Follows r t x continues B6 c out → Fronts r s x out
+pub saw_empty : {T : Type 0} (r : Arena) (s u t x : Seat T) (a b c : Running) (l k : Line) (out : Outcome Running) → CallIsAt r s continues B2 a → Follows r s u continues B2 a (Goes l b) → Follows r u t continues B3 b (Goes k c) → k ≡ B6 → Follows r t x continues B6 c out → Fronts r s x out
 saw_empty r s u t x a b c l k out h f2 f3 is f6 = ⊎_elim none shut (found_end r u t k b c f3 is)
   where
     at : CallIsAt r t continues B6 c
@@ -120,6 +123,9 @@ saw_empty r s u t x a b c l k out h f2 f3 is f6 = ⊎_elim none shut (found_end 
 
     w : ExtendsPath (view s) (view t) (event r s u continues B2 f2.found f2.did ∷ event r u t continues B3 f3.found f3.did ∷ [])
     w = walk_then (view s) (view u) (view t) (event r s u continues B2 f2.found f2.did ∷ []) (event r u t continues B3 f3.found f3.did ∷ []) (walk_on r s u continues B2 f2.found f2.did refl tt) (walk_on r u t continues B3 f3.found f3.did refl tt)
+
+    slots : KeepsSlots s x
+    slots = then_slots s t x (then_slots s u t (quiet_slots r s u continues B2 f2.found f2.did refl) (quiet_slots r u t continues B3 f3.found f3.did refl)) (quiet_slots r t x continues B6 f6.found f6.did refl)
 
     none : c.due ≡ Some IsEmpty → Fronts r s x out
     none due =
@@ -131,6 +137,7 @@ saw_empty r s u t x a b c l k out h f2 f3 is f6 = ⊎_elim none shut (found_end 
           seat = f6.did.seat;
           empty = ap (λ y. y.pocket) o ∙ empty_before r t continues B6 at.before;
           stored = then_stored s t x (then_stored s u t f2.did.stored f3.did.stored) f6.did.stored;
+          slots = slots;
           lines = event r s u continues B2 f2.found f2.did ∷ event r u t continues B3 f3.found f3.did ∷ event r t x continues B6 f6.found f6.did ∷ [];
           never = refl;
           fronted = record {
@@ -156,6 +163,7 @@ saw_empty r s u t x a b c l k out h f2 f3 is f6 = ⊎_elim none shut (found_end 
           seat = f6.did.seat;
           empty = ap (λ y. y.pocket) o ∙ empty_before r t continues B6 at.before;
           stored = then_stored s t x (then_stored s u t f2.did.stored f3.did.stored) f6.did.stored;
+          slots = slots;
           lines = event r s u continues B2 f2.found f2.did ∷ event r u t continues B3 f3.found f3.did ∷ event r t x continues B6 f6.found f6.did ∷ [];
           never = refl;
           fronted = record {
@@ -166,7 +174,7 @@ saw_empty r s u t x a b c l k out h f2 f3 is f6 = ⊎_elim none shut (found_end 
         }
 
 -- the lines before B5 or before a refusal
-module _ (r : Arena) (s u t v : Seat) (a b c d : Running) (l k j : Line) (h : CallIsAt r s continues B2 a) (f2 : Follows r s u continues B2 a (Goes l b)) (f3 : Follows r u t continues B3 b (Goes k c)) (more : k ≡ B6 → ⊥) (f4 : Follows r t v continues B4 c (Goes j d)) where
+module _ {T : Type 0} (r : Arena) (s u t v : Seat T) (a b c d : Running) (l k j : Line) (h : CallIsAt r s continues B2 a) (f2 : Follows r s u continues B2 a (Goes l b)) (f3 : Follows r u t continues B3 b (Goes k c)) (more : k ≡ B6 → ⊥) (f4 : Follows r t v continues B4 c (Goes j d)) where
   abbrev looks : List Event
   looks = event r s u continues B2 f2.found f2.did ∷ event r u t continues B3 f3.found f3.did ∷ event r t v continues B4 f4.found f4.did ∷ []
 
@@ -179,11 +187,14 @@ module _ (r : Arena) (s u t v : Seat) (a b c d : Running) (l k j : Line) (h : Ca
       (walk_then (view s) (view u) (view t) (event r s u continues B2 f2.found f2.did ∷ []) (event r u t continues B3 f3.found f3.did ∷ []) (walk_on r s u continues B2 f2.found f2.did refl tt) (walk_on r u t continues B3 f3.found f3.did refl tt))
       (walk_on r t v continues B4 f4.found f4.did refl tt)
 
+  look_slots : KeepsSlots s v
+  look_slots = then_slots s t v (then_slots s u t (quiet_slots r s u continues B2 f2.found f2.did refl) (quiet_slots r u t continues B3 f3.found f3.did refl)) (quiet_slots r t v continues B4 f4.found f4.did refl)
+
   look_stored : KeepsStored s v
   look_stored = then_stored s t v (then_stored s u t f2.did.stored f3.did.stored) f4.did.stored
 
   -- Head was found worn out
-  pub saw_worn : (x : Seat) (out : Outcome Running) → j ≡ B6 → Follows r v x continues B6 d out → Fronts r s x out
+  pub saw_worn : (x : Seat T) (out : Outcome Running) → j ≡ B6 → Follows r v x continues B6 d out → Fronts r s x out
   saw_worn x out is f6 =
       let due : d.due ≡ Some (IsRefused (WornOut OfHead)) = found_worn r t v j c d f4 is in
       let at : CallIsAt r v continues B6 d = to_b6_worn r t v j c d at_b4 f4 is in
@@ -193,6 +204,7 @@ module _ (r : Arena) (s u t v : Seat) (a b c d : Running) (l k j : Line) (h : Ca
         seat = f6.did.seat;
         empty = ap (λ y. y.pocket) o ∙ empty_before r v continues B6 at.before;
         stored = then_stored s v x look_stored f6.did.stored;
+        slots = then_slots s v x look_slots (quiet_slots r v x continues B6 f6.found f6.did refl);
         lines = looks ++ event r v x continues B6 f6.found f6.did ∷ [];
         never = refl;
         fronted = record {
@@ -204,7 +216,7 @@ module _ (r : Arena) (s u t v : Seat) (a b c d : Running) (l k j : Line) (h : Ca
       }
 
   -- a value was taken
-  pub took : (y x : Seat) (e : Running) (i : Line) (out : Outcome Running) → (j ≡ B6 → ⊥) → Follows r v y continues B5 d (Goes i e) → Follows r y x continues B6 e out → Fronts r s x out
+  pub took : (y x : Seat T) (e : Running) (i : Line) (out : Outcome Running) → (j ≡ B6 → ⊥) → Follows r v y continues B5 d (Goes i e) → Follows r y x continues B6 e out → Fronts r s x out
   took y x e i out free f5 f6 =
       let before : CallIsAt r v continues B5 d = to_b5 r t v j c d at_b4 f4 free in
       let e_is : e ≡ record d { node = d.head.node; mark = d.next.count; due = Some (IsValue d.val) } = same_registers i B6 e _ f5.leads_to in
@@ -224,6 +236,9 @@ module _ (r : Arena) (s u t v : Seat) (a b c d : Running) (l k j : Line) (h : Ca
         seat = f6.did.seat;
         empty = ap (λ z. z.pocket) o ∙ empty_before r y continues B6 at.before;
         stored = then_stored s y x (then_stored s v y look_stored f5.did.stored) f6.did.stored;
+        slots = takes_then r (value_of e.val).body s y x
+            (then_takes r (value_of e.val).body s v y look_slots (subst (λ (q : Taken). TakesSlot r q.body v y) val (takes_slot r v y continues B5 f5.found f5.did (view v).number (view v).actor.val refl)))
+            (quiet_slots r y x continues B6 f6.found f6.did refl);
         lines = (looks ++ five ∷ []) ++ six ∷ [];
         never = refl;
         fronted = record {

@@ -23,18 +23,18 @@ use Rattle.two_lock.specs.Pops.{Running, told_by, KnowsDue, AgreesAt, CallIsAt, 
 use Rattle.two_lock.proofs.PopSteps.{ref_b2, ref_b3, value_b4}
 
 -- where an outcome goes on, the seat stands there
-abbrev pub StandsAt : Arena → Seat → Outcome Running → Type 0
+abbrev pub StandsAt : {T : Type 0} → Arena → Seat T → Outcome Running → Type 0
 StandsAt r t (Goes l a) = CallIsAt r t continues l a
 StandsAt r t (Ends reply) = Unit {0}
 
 -- a seat that stands where registers say nothing stands there with any registers
-pub stands_b1 : (r : Arena) (t : Seat) (prologue : Prologue) (a : Running) → IsBefore r t prologue B1 → CallIsAt r t prologue B1 a
+pub stands_b1 : {T : Type 0} (r : Arena) (t : Seat T) (prologue : Prologue) (a : Running) → IsBefore r t prologue B1 → CallIsAt r t prologue B1 a
 stands_b1 r t prologue a h = record { before = h; knows = tt }
 
-pub stands_b2 : (r : Arena) (t : Seat) (a : Running) → IsBefore r t continues B2 → CallIsAt r t continues B2 a
+pub stands_b2 : {T : Type 0} (r : Arena) (t : Seat T) (a : Running) → IsBefore r t continues B2 → CallIsAt r t continues B2 a
 stands_b2 r t a h = record { before = h; knows = tt }
 
-module _ (r : Arena) (s t : Seat) (prologue : Prologue) (n : ℕ) (a : Running) where
+module _ {T : Type 0} (r : Arena) (s t : Seat T) (prologue : Prologue) (n : ℕ) (a : Running) where
   abbrev b : Actor
   b = after_prologue r.plan.setup (view s).number prologue (view s).actor
 
@@ -109,7 +109,7 @@ IsUnderLock B5 = Unit {0}
 IsUnderLock l = ⊥
 
 -- a line under the lock leads on to where its outcome says
-pub stands_next : (r : Arena) (s t : Seat) (l k : Line) (a c : Running) → CallIsAt r s continues l a → Follows r s t continues l a (Goes k c) → IsUnderLock l → CallIsAt r t continues k c
+pub stands_next : {T : Type 0} (r : Arena) (s t : Seat T) (l k : Line) (a c : Running) → CallIsAt r s continues l a → Follows r s t continues l a (Goes k c) → IsUnderLock l → CallIsAt r t continues k c
 stands_next r s t B2 k a c h f under = subst (StandsAt r t) (sym f.leads_to) (after_b2 r s t continues f.found a h f.did)
 stands_next r s t B3 k a c h f under = subst (StandsAt r t) (sym f.leads_to) (after_b3 r s t continues f.found a h f.did)
 stands_next r s t B4 k a c h f under = subst (StandsAt r t) (sym f.leads_to) (after_b4 r s t continues f.found a h f.did)

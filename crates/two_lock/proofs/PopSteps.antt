@@ -15,14 +15,14 @@ use Rattle.node_arena.specs.Machine.{value_of}
 use Rattle.two_lock.specs.Pops.{Running, CallIsAt}
 
 -- the count that B5 raises has room
-pub room_b5 : (r : Arena) (s : Seat) (a : Running) (z : Setup) → z ≡ r.plan.setup → CallIsAt r s continues B5 a → a.head.count < z.limit
+pub room_b5 : {T : Type 0} (r : Arena) (s : Seat T) (a : Running) (z : Setup) → z ≡ r.plan.setup → CallIsAt r s continues B5 a → a.head.count < z.limit
 room_b5 r s a z e h = by_known r s continues B5 h.before le_prop (λ k. omega (arith, k.room, ap (λ (x : Ref). x.count) h.knows.0, ap (λ (y : Setup). y.limit) e))
 
 -- the node that B5 writes
-pub next_b5 : (r : Arena) (s : Seat) (a : Running) → CallIsAt r s continues B5 a → a.next.node < reserved_node r.plan.setup.bits
+pub next_b5 : {T : Type 0} (r : Arena) (s : Seat T) (a : Running) → CallIsAt r s continues B5 a → a.next.node < reserved_node r.plan.setup.bits
 next_b5 r s a h = by_known r s continues B5 h.before le_prop (λ k. omega (arith, k.within, k.registers.next.node, ap (λ (x : Ref). x.node) h.knows.1, h.before.seat.arena.sized.numbered))
 
-module _ (r : Arena) (s t : Seat) (prologue : Prologue) (n : ℕ) where
+module _ {T : Type 0} (r : Arena) (s t : Seat T) (prologue : Prologue) (n : ℕ) where
   -- the references and the value found at the lines that read one
   pub ref_b2 : (d : DidStep r s t prologue B2 n) → ref_of r.plan.setup.bits n ≡ d.told.was.world.shared.head
   ref_b2 d = read_back r.plan.setup.bits d.told.sized.split d.told.was.world.shared.head n (was_fits r.plan prologue B2 n (view s) (view t) d.told WordHead) d.told.found

@@ -17,7 +17,8 @@ use Rattle.node_arena.specs.Turns.{failed_turns, at_b1}
 use Rattle.node_arena.specs.Paths.{ExtendsPath, added}
 use Rattle.free_list.specs.Gives.{GiveAnswers}
 use Rattle.node_arena.proofs.Known.{empty_before}
-use Rattle.node_arena.proofs.Paths.{no_walk, walk_then, then_stored, added_is, ends_failed, failed-append, failed_behind, kept_seat, event, walk_on, to_is, failed_last}
+use Rattle.node_arena.proofs.Paths.{no_walk, walk_then, then_stored, no_slots, then_slots, quiet_slots, added_is, ends_failed, failed-append, failed_behind, kept_seat, event, walk_on, to_is, failed_last}
+use Rattle.node_arena.proofs.Loads.{kept_slots}
 use Rattle.two_lock.specs.Values.{IsTwoLock}
 use Rattle.arena_lines.specs.declared.outcomes.Outcome.{Outcome}
 use Rattle.arena_lines.specs.declared.outcomes.Outcome.TheVariants.{Goes, Ends}
@@ -30,15 +31,16 @@ use Rattle.arena_queue.proofs.Pops.{draws_late, draws_worn, draws_shut, draws_ta
 use Rattle.two_lock.proofs.PopStands.{stands_b1, won_b1, lost_b1}
 
 -- an actor that begins a pop with this pocket
-abbrev set_out : Arena → Seat → Option Held → Actor
+abbrev set_out : {T : Type 0} → Arena → Seat T → Option Held → Actor
 set_out r s p = from_pocket F1 p (record (at_rest (view s).actor) { line = Some (dequeues r.plan.setup.kind); op = Deq; due = None; entry = None })
 
 -- a pop with an empty pocket sets out
-pub pops_out : (r : Arena) (s : Seat) → IsReady r s → pocket_of s ≡ None → IsTwoLock r → Trying r s s 0
+pub pops_out : {T : Type 0} (r : Arena) (s : Seat T) → IsReady r s → pocket_of s ≡ None → IsTwoLock r → Trying r s s 0
 pops_out r s h none two =
     record {
       before = record { seat = h.seat; can = (refl, h.free); line = ap (λ p. (set_out r s p).line) (sym h.pocket ∙ none) ∙ ap (λ k. Some (dequeues k)) two };
       stored = record { number = refl; role = refl; keeps = refl; pocket = refl; failed = refl };
+      slots = no_slots s;
       lines = [];
       walks = no_walk (view s);
       failed = refl;
@@ -46,7 +48,7 @@ pops_out r s h none two =
     }
 
 -- a try of the lock, which got it or failed
-module _ (r : Arena) (s t u : Seat) (n : ℕ) (g : Trying r s t n) (a : Running) (out : Outcome Running) (f : Follows r t u (popping n) B1 a out) where
+module _ {T : Type 0} (r : Arena) (s t u : Seat T) (n : ℕ) (g : Trying r s t n) (a : Running) (out : Outcome Running) (f : Follows r t u (popping n) B1 a out) where
   abbrev try : Event
   try = event r t u (popping n) B1 f.found f.did
 
@@ -72,6 +74,7 @@ module _ (r : Arena) (s t u : Seat) (n : ℕ) (g : Trying r s t n) (a : Running)
       record {
         before = rw add-one x;
         stored = then_stored s t u g.stored f.did.stored;
+        slots = then_slots s t u g.slots (quiet_slots r t u (popping n) B1 f.found f.did refl);
         lines = g.lines ++ try ∷ [];
         walks = tried;
         failed = omega (arith, failed-append g.lines (try ∷ []), g.failed, once);
@@ -79,15 +82,15 @@ module _ (r : Arena) (s t u : Seat) (n : ℕ) (g : Trying r s t n) (a : Running)
       }
 
   -- the lock was got
-  pub pop_ends : (x : Seat) (spent turns : ℕ) (o : Result (Option Taken) Refusal) → has_lock out ≡ true → Draws pop_worn r u x (spent + n) turns o → Draws pop_worn r s x spent turns o
+  pub pop_ends : (x : Seat T) (spent turns : ℕ) (o : Result (Option Taken) Refusal) → has_lock out ≡ true → Draws pop_worn r u x (spent + n) turns o → Draws pop_worn r s x spent turns o
   pop_ends x spent turns o e d =
       let y : IsBefore r u continues B2 = has_got e in
       let none : failed_turns (try ∷ []) ≡ 0 = (let z : at_b1 try.to ≡ 0 = ap at_b1 (to_is r t u (popping n) B1 f.found f.did ∙ y.line) in omega arith) in
       let name = then_stored s t u g.stored f.did.stored in
-      draws_late pop_worn r s u x (g.lines ++ try ∷ []) tried spent (spent + n) turns (omega (arith, failed-append g.lines (try ∷ []), g.failed, none)) o (record { number = name.number; role = name.role; keeps = name.keeps }) d
+      draws_late pop_worn r s u x (g.lines ++ try ∷ []) tried spent (spent + n) turns (omega (arith, failed-append g.lines (try ∷ []), g.failed, none)) o (record { number = name.number; role = name.role; keeps = name.keeps }) (then_slots s t u g.slots (quiet_slots r t u (popping n) B1 f.found f.did refl)) d
 
 -- all turns failed
-pub pop_gives_up : (r : Arena) (s t : Seat) (spent turns n : ℕ) → 1 ≤ n → spent + n ≡ turns → Trying r s t n → Draws pop_worn r s (keeping t None turns) spent turns (Err Busy)
+pub pop_gives_up : {T : Type 0} (r : Arena) (s t : Seat T) (spent turns n : ℕ) → 1 ≤ n → spent + n ≡ turns → Trying r s t n → Draws pop_worn r s (keeping t None turns) spent turns (Err Busy)
 pop_gives_up r s t spent turns zero some all g = absurd (omega arith)
 pop_gives_up r s t spent turns (suc m) some all g =
     let e : added s t ≡ g.lines = added_is s t g.lines g.walks in
@@ -95,6 +98,7 @@ pop_gives_up r s t spent turns (suc m) some all g =
     record {
       ready = record { seat = kept_seat r t None turns g.before.seat; free = ap (λ b. b.line) rest; pocket = sym (ap (λ b. b.pocket) rest ∙ empty_before r t continues B1 g.before) };
       same = record { number = g.stored.number; role = g.stored.role; keeps = g.stored.keeps };
+      slots = kept_slots s t None turns g.slots;
       path = g.walks.path ∙ ap (λ p. (view s).path ++ p) (sym e);
       answer = tt;
       few = tt;
@@ -107,21 +111,21 @@ pop_gives_up r s t spent turns (suc m) some all g =
     }
 
 -- what the lines under the lock came to ends the pop
-module _ (r : Arena) (s t : Seat) (failed turns : ℕ) where
+module _ {T : Type 0} (r : Arena) (s t : Seat T) (failed turns : ℕ) where
   pub pop_worn_out : (refusal : Refusal) → Fronts r s t (Ends (IsRefused refusal)) → Draws pop_worn r s (keeping t None failed) failed turns (Err refusal)
-  pop_worn_out Closed f = let k = f.fronted in draws_shut pop_worn r s t failed turns f.lines f.seat k.over f.empty f.stored k.finds k.cause
-  pop_worn_out _ f = let k = f.fronted in draws_worn pop_worn r s t _ OfHead failed turns f.lines f.seat k.over f.empty f.stored k.walks k.is k.cause tt
+  pop_worn_out Closed f = let k = f.fronted in draws_shut pop_worn r s t failed turns f.lines f.seat k.over f.empty f.stored f.slots k.finds k.cause
+  pop_worn_out _ f = let k = f.fronted in draws_worn pop_worn r s t _ OfHead failed turns f.lines f.seat k.over f.empty f.stored f.slots k.walks k.is k.cause tt
 
-  pub pop_took : (x : Seat) (l : Line) (a : Running) (h : Held) (out : Result (Unit {0}) Refusal) → keeps_of t ≡ false → failed < turns → Fronts r s t (Goes l a) → GiveAnswers r (keeping t (Some h) failed) x (turns - failed) out → Draws pop_worn r s x failed turns (Ok (Some (value_of a.val)))
-  pop_took x l a h out keeps less f g = draws_taken pop_worn r s t x a.val h failed turns out f.lines (sym f.stored.keeps ∙ keeps) less f.stored f.fronted.acts f.never g
+  pub pop_took : (x : Seat T) (l : Line) (a : Running) (h : Held) (out : Result (Unit {0}) Refusal) → keeps_of t ≡ false → failed < turns → Fronts r s t (Goes l a) → GiveAnswers r (keeping t (Some h) failed) x (turns - failed) out → Draws pop_worn r s x failed turns (Ok (Some (value_of a.val)))
+  pop_took x l a h out keeps less f g = draws_taken pop_worn r s t x a.val h failed turns out f.lines (sym f.stored.keeps ∙ keeps) less f.stored f.slots f.fronted.acts f.never g
 
   pub pop_kept : (l : Line) (a : Running) (h : Held) → h ≡ record { node = a.node; mark = a.mark } → keeps_of t ≡ true → failed < turns → Fronts r s t (Goes l a) → Draws pop_worn r s (keeping t (Some h) failed) failed turns (Ok (Some (value_of a.val)))
   pop_kept l a h is keeps less f =
       let k = f.fronted in
-      draws_kept pop_worn r s t a.val h failed turns f.lines (sym f.stored.keeps ∙ keeps) less f.seat f.stored (record { over = k.over; due = k.due; node = k.node ∙ sym (ap (λ x. x.node) is); mark = k.mark ∙ sym (ap (λ x. x.mark) is) }) k.acts f.never
+      draws_kept pop_worn r s t a.val h failed turns f.lines (sym f.stored.keeps ∙ keeps) less f.seat f.stored f.slots (record { over = k.over; due = k.due; node = k.node ∙ sym (ap (λ x. x.node) is); mark = k.mark ∙ sym (ap (λ x. x.mark) is) }) k.acts f.never
 
   pop_empty : failed < turns → Fronts r s t (Ends IsEmpty) → Draws pop_worn r s (keeping t None failed) failed turns (Ok None)
-  pop_empty less f = let k = f.fronted in draws_empty pop_worn r s t failed turns f.lines less f.seat k.over f.empty f.stored k.path f.never k.found
+  pop_empty less f = let k = f.fronted in draws_empty pop_worn r s t failed turns f.lines less f.seat k.over f.empty f.stored f.slots k.path f.never k.found
 
   -- a pop that ends without a refusal found the queue empty
   pub pop_ended : (answer : Reply) → ((refusal : Refusal) → answer ≡ IsRefused refusal → ⊥) → failed < turns → Fronts r s t (Ends answer) → Draws pop_worn r s (keeping t None failed) failed turns (Ok None)

@@ -15,10 +15,10 @@ use Rattle.node_arena.proofs.Reading.{read_back}
 use Rattle.two_lock.specs.Pushes.{Running, CallIsAt}
 
 -- the node that A5 and A6 write
-pub small_node : (r : Arena) (s : Seat) (a : Running) (l : Line) → CallIsAt r s continues l a → a.node < reserved_node r.plan.setup.bits
+pub small_node : {T : Type 0} (r : Arena) (s : Seat T) (a : Running) (l : Line) → CallIsAt r s continues l a → a.node < reserved_node r.plan.setup.bits
 small_node r s a l h = by_known r s continues l h.before le_prop (λ k. omega (arith, k.within, k.registers.node, h.hand.node, h.before.seat.arena.sized.numbered))
 
-module _ (r : Arena) (s t : Seat) (prologue : Prologue) (n : ℕ) where
+module _ {T : Type 0} (r : Arena) (s t : Seat T) (prologue : Prologue) (n : ℕ) where
   pub ref_a4 : (d : DidStep r s t prologue A4 n) → ref_of r.plan.setup.bits n ≡ d.told.was.world.shared.tail
   ref_a4 d = read_back r.plan.setup.bits d.told.sized.split d.told.was.world.shared.tail n (was_fits r.plan prologue A4 n (view s) (view t) d.told WordTail) d.told.found
 

@@ -18,7 +18,9 @@ use Rattle.node_arena.specs.Seats.{IsReady, view, pocket_of, keeping}
 use Rattle.node_arena.specs.Turns.{failed_turns, at_a3}
 use Rattle.node_arena.specs.Paths.{ExtendsPath, FindsShut, StopsAPush, Acts, added}
 use Rattle.node_arena.proofs.Noting.{IsSilent}
-use Rattle.node_arena.proofs.Paths.{then_shut, shut_on, stopped_at, stopped_behind, last_held, walk_then, then_act, act_then, pass_then, then_stored, added_is, added_path, failed-append, failed_behind, kept_seat, ends_failed, event, walk_on, pass_on, act_on, to_is, failed_last}
+use Rattle.node_arena.specs.Loads.{IsLoaded}
+use Rattle.node_arena.proofs.Loads.{kept_slots, still_loaded, loaded_as, gives_slot, gives_then}
+use Rattle.node_arena.proofs.Paths.{then_shut, shut_on, stopped_at, stopped_behind, last_held, walk_then, then_act, act_then, pass_then, then_stored, then_slots, quiet_slots, added_is, added_path, failed-append, failed_behind, kept_seat, ends_failed, event, walk_on, pass_on, act_on, to_is, failed_last}
 use Rattle.two_lock.specs.Values.{IsTwoLock}
 use Rattle.node_arena.specs.Machine.{value_of}
 use Rattle.arena_lines.specs.declared.outcomes.Outcome.{Outcome}
@@ -33,11 +35,11 @@ use Rattle.two_lock.proofs.PushStands.{after_a1, after_a2, won_a3, lost_a3, afte
 use Rattle.two_lock.proofs.Lines.{same_line}
 
 -- an actor that begins a push with this pocket
-abbrev set_out : Arena → Seat → ℕ → Option Held → Actor
+abbrev set_out : {T : Type 0} → Arena → Seat T → ℕ → Option Held → Actor
 set_out r s body p = from_pocket (with_node r.plan.setup.kind) p (record (at_rest (view s).actor) { line = Some N1; op = Enq body; val = record { from = (view s).number; body = body }; due = None; entry = None })
 
 -- a push with a full pocket sets out
-pub pushes_out : (r : Arena) (s : Seat) (h : Held) (from body val : ℕ) (a : Running) → a ≡ registers_of h val → IsReady r s → pocket_of s ≡ Some h → IsTwoLock r → body < 2 ^ 48 → from ≡ s.number → val ≡ from * 2 ^ 48 + body → CallIsAt r s (begins (Enq (value_of a.val).body)) A1 a
+pub pushes_out : {T : Type 0} (r : Arena) (s : Seat T) (h : Held) (from body val : ℕ) (a : Running) → a ≡ registers_of h val → IsReady r s → pocket_of s ≡ Some h → IsTwoLock r → body < 2 ^ 48 → from ≡ s.number → val ≡ from * 2 ^ 48 + body → CallIsAt r s (begins (Enq (value_of a.val).body)) A1 a
 pushes_out r s h from body val a is i full two small same word = subst (λ (x : Running). CallIsAt r s (begins (Enq (value_of x.val).body)) A1 x) (sym is) out
   where
     e : (at_rest (view s).actor).pocket ≡ Some h
@@ -62,15 +64,15 @@ pushes_out r s h from body val a is i full two small same word = subst (λ (x : 
         }
 
 -- after A1
-pub to_a2 : (r : Arena) (s t : Seat) (prologue : Prologue) (l : Line) (a b : Running) → CallIsAt r s prologue A1 a → Follows r s t prologue A1 a (Goes l b) → CallIsAt r t continues A2 b × (b ≡ a)
+pub to_a2 : {T : Type 0} (r : Arena) (s t : Seat T) (prologue : Prologue) (l : Line) (a b : Running) → CallIsAt r s prologue A1 a → Follows r s t prologue A1 a (Goes l b) → CallIsAt r t continues A2 b × (b ≡ a)
 to_a2 r s t prologue l a b h f = let e : b ≡ a = same_registers l A2 b a f.leads_to in (subst (CallIsAt r t continues A2) (sym e) (after_a1 r s t prologue f.found a h f.did), e)
 
 -- after A2
-pub to_a3 : (r : Arena) (s t : Seat) (l : Line) (a b : Running) → CallIsAt r s continues A2 a → Follows r s t continues A2 a (Goes l b) → CallIsAt r t continues A3 b × (b ≡ a)
+pub to_a3 : {T : Type 0} (r : Arena) (s t : Seat T) (l : Line) (a b : Running) → CallIsAt r s continues A2 a → Follows r s t continues A2 a (Goes l b) → CallIsAt r t continues A3 b × (b ≡ a)
 to_a3 r s t l a b h f = let e : b ≡ a = same_registers l A3 b a f.leads_to in (subst (CallIsAt r t continues A3) (sym e) (after_a2 r s t continues f.found a h f.did), e)
 
 -- before its first try of the lock
-pub first_try : (r : Arena) (s u t : Seat) (prologue : Prologue) (h : Held) (val spent : ℕ) (l k : Line) (a b c : Running) → a ≡ registers_of h val → CallIsAt r s prologue A1 a → Follows r s u prologue A1 a (Goes l b) → Follows r u t continues A2 b (Goes k c) → Trying r s t h val spent spent
+pub first_try : {T : Type 0} (r : Arena) (s u t : Seat T) (prologue : Prologue) (h : Held) (val spent : ℕ) (l k : Line) (a b c : Running) → a ≡ registers_of h val → CallIsAt r s prologue A1 a → Follows r s u prologue A1 a (Goes l b) → Follows r u t continues A2 b (Goes k c) → Trying r s t h val spent spent
 first_try r s u t prologue h val spent l k a b c is st f g =
     let one : Event = event r s u prologue A1 f.found f.did in
     let two : Event = event r u t continues A2 g.found g.did in
@@ -79,6 +81,7 @@ first_try r s u t prologue h val spent l k a b c is st f g =
     record {
       stands = subst (CallIsAt r t continues A3) (on.1 ∙ to.1 ∙ is) on.0;
       stored = then_stored s u t f.did.stored g.did.stored;
+      slots = then_slots s u t (quiet_slots r s u prologue A1 f.found f.did refl) (quiet_slots r u t continues A2 g.found g.did refl);
       lines = one ∷ two ∷ [];
       walks = walk_then (view s) (view u) (view t) (one ∷ []) (two ∷ []) (walk_on r s u prologue A1 f.found f.did refl tt) (walk_on r u t continues A2 g.found g.did refl tt);
       failed = omega arith;
@@ -86,7 +89,7 @@ first_try r s u t prologue h val spent l k a b c is st f g =
     }
 
 -- a try of the lock that got it, and one that failed
-module _ (r : Arena) (t u : Seat) (a : Running) (out : Outcome Running) (h : CallIsAt r t continues A3 a) (f : Follows r t u continues A3 a out) where
+module _ {T : Type 0} (r : Arena) (t u : Seat T) (a : Running) (out : Outcome Running) (h : CallIsAt r t continues A3 a) (f : Follows r t u continues A3 a out) where
   abbrev try : Event
   try = event r t u continues A3 f.found f.did
 
@@ -109,7 +112,7 @@ module _ (r : Arena) (t u : Seat) (a : Running) (out : Outcome Running) (h : Cal
   lost e = lost_a3 r t u continues f.found a h f.did (found_is false e)
 
 -- a turn failed
-pub next_try : (r : Arena) (s t u : Seat) (h : Held) (val spent n : ℕ) (a : Running) (out : Outcome Running) → a ≡ registers_of h val → Trying r s t h val spent n → Follows r t u continues A3 a out → has_lock out ≡ false → Trying r s u h val spent (n + 1)
+pub next_try : {T : Type 0} (r : Arena) (s t u : Seat T) (h : Held) (val spent n : ℕ) (a : Running) (out : Outcome Running) → a ≡ registers_of h val → Trying r s t h val spent n → Follows r t u continues A3 a out → has_lock out ≡ false → Trying r s u h val spent (n + 1)
 next_try r s t u h val spent n a out is g follows e =
     let f : Follows r t u continues A3 (registers_of h val) out = subst (λ x. Follows r t u continues A3 x out) is follows in
     let try : Event = event r t u continues A3 f.found f.did in
@@ -119,6 +122,7 @@ next_try r s t u h val spent n a out is g follows e =
     record {
       stands = x;
       stored = then_stored s t u g.stored f.did.stored;
+      slots = then_slots s t u g.slots (quiet_slots r t u continues A3 f.found f.did refl);
       lines = g.lines ++ try ∷ [];
       walks = walk_then (view s) (view t) (view u) g.lines (try ∷ []) g.walks (try_walk r t u (registers_of h val) out g.stands f);
       failed = omega (arith, failed-append g.lines (try ∷ []), g.failed, once);
@@ -126,11 +130,24 @@ next_try r s t u h val spent n a out is g follows e =
     }
 
 -- after A4
-pub to_a5 : (r : Arena) (s u : Seat) (a b : Running) (l : Line) → CallIsAt r s continues A4 a → Follows r s u continues A4 a (Goes l b) → CallIsAt r u continues A5 b
+pub to_a5 : {T : Type 0} (r : Arena) (s u : Seat T) (a b : Running) (l : Line) → CallIsAt r s continues A4 a → Follows r s u continues A4 a (Goes l b) → CallIsAt r u continues A5 b
 to_a5 r s u a b l h f = subst (CallIsAt r u continues A5) (sym (same_registers l A5 b (record a { tail = ref_of r.plan.setup.bits f.found }) f.leads_to)) (after_a4 r s u continues f.found a h f.did)
 
+-- before A4 the slot of the body is still out with the seat
+pub loaded_at_a4 : {T : Type 0} (r : Arena) (s t u : Seat T) (h : Held) (val : ℕ) (a b : Running) (out : Outcome Running) (from body spent n : ℕ) → b ≡ registers_of h val → Trying r s t h val spent n → Follows r t u continues A3 a out → body < 2 ^ 48 → val ≡ from * 2 ^ 48 + body → IsLoaded r body s → IsLoaded r (value_of b.val).body u
+loaded_at_a4 r s t u h val a b out from body spent n same g f small word loaded =
+    let bodies : (value_of val).body ≡ body = ap (λ (v : Taken). v.body) (value_of-word val from body small word) in
+    loaded_as r body (value_of b.val).body u (sym (ap (λ (x : Running). (value_of x.val).body) same ∙ bodies))
+    (still_loaded r body s u (then_slots s t u g.slots (quiet_slots r t u continues A3 f.found f.did refl)) loaded)
+
+-- and before A5
+pub loaded_at_a5 : {T : Type 0} (r : Arena) (s u : Seat T) (a b : Running) (l : Line) → Follows r s u continues A4 a (Goes l b) → IsLoaded r (value_of a.val).body s → IsLoaded r (value_of b.val).body u
+loaded_at_a5 r s u a b l f loaded =
+    let same : b ≡ record a { tail = ref_of r.plan.setup.bits f.found } = same_registers l A5 b (record a { tail = ref_of r.plan.setup.bits f.found }) f.leads_to in
+    loaded_as r (value_of a.val).body (value_of b.val).body u (sym (ap (λ (x : Running). (value_of x.val).body) same)) (still_loaded r (value_of a.val).body s u (quiet_slots r s u continues A4 f.found f.did refl) loaded)
+
 -- after A5: the node was linked, or the queue was found shut
-module _ (r : Arena) (s u : Seat) (a b : Running) (l : Line) (h : CallIsAt r s continues A5 a) (f : Follows r s u continues A5 a (Goes l b)) where
+module _ {T : Type 0} (r : Arena) (s u : Seat T) (a b : Running) (l : Line) (h : CallIsAt r s continues A5 a) (f : Follows r s u continues A5 a (Goes l b)) where
   abbrev added_there : List Entry
   added_there = entries_at r.plan.setup f.did.told.was (view s).number (view s).actor A5
 
@@ -157,11 +174,11 @@ module _ (r : Arena) (s u : Seat) (a b : Running) (l : Line) (h : CallIsAt r s c
           (subst (CallIsAt r u continues A7) (sym same) k.0, ap (λ (x : Running). x.due) same, ap in_hand same, k.1)
 
 -- after A6
-pub to_a7 : (r : Arena) (s u : Seat) (a b : Running) (l : Line) → CallIsAt r s continues A6 a → Follows r s u continues A6 a (Goes l b) → CallIsAt r u continues A7 b
+pub to_a7 : {T : Type 0} (r : Arena) (s u : Seat T) (a b : Running) (l : Line) → CallIsAt r s continues A6 a → Follows r s u continues A6 a (Goes l b) → CallIsAt r u continues A7 b
 to_a7 r s u a b l h f = subst (CallIsAt r u continues A7) (sym (same_registers l A7 b a f.leads_to)) (after_a6 r s u continues f.found a h f.did)
 
 -- A4 and A5
-module _ (r : Arena) (s u t : Seat) (a b c : Running) (j k : Line) (h : CallIsAt r s continues A4 a) (f : Follows r s u continues A4 a (Goes j b)) (g : Follows r u t continues A5 b (Goes k c)) where
+module _ {T : Type 0} (r : Arena) (s u t : Seat T) (a b c : Running) (j k : Line) (h : CallIsAt r s continues A4 a) (f : Follows r s u continues A4 a (Goes j b)) (g : Follows r u t continues A5 b (Goes k c)) where
   at_a5 : CallIsAt r u continues A5 b
   at_a5 = to_a5 r s u a b j h f
 
@@ -175,7 +192,7 @@ module _ (r : Arena) (s u t : Seat) (a b c : Running) (j k : Line) (h : CallIsAt
   first = walk_on r s u continues A4 f.found f.did refl tt
 
   -- the node is linked: A4 to A7
-  pub links : (x y : Seat) (d : Running) (l : Line) (last : Outcome Running) → (k ≡ A7 → ⊥) → Follows r t x continues A6 c (Goes l d) → Follows r x y continues A7 d last → Links r s y a (Ok tt)
+  pub links : (x y : Seat T) (d : Running) (l : Line) (last : Outcome Running) → (k ≡ A7 → ⊥) → Follows r t x continues A6 c (Goes l d) → Follows r x y continues A7 d last → Links r s y a (Ok tt)
   links x y d l last other m o =
       let won = to_a6 r u t b c k at_a5 g other in
       let at_a7 : CallIsAt r x continues A7 d = to_a7 r t x c d l won.0 m in
@@ -190,6 +207,7 @@ module _ (r : Arena) (s u t : Seat) (a b c : Running) (j k : Line) (h : CallIsAt
         seat = o.did.seat;
         over = over.0;
         stored = then_stored s x y (then_stored s t x (then_stored s u t f.did.stored g.did.stored) m.did.stored) o.did.stored;
+        slots = gives_then r x y (gives_then r t x (gives_slot r u t continues A5 g.found g.did (view u).number (view u).actor.val.body won.3) (quiet_slots r t x continues A6 m.found m.did refl)) (quiet_slots r x y continues A7 o.found o.did refl);
         lines = event r s u continues A4 f.found f.did ∷ event r u t continues A5 g.found g.did ∷ event r t x continues A6 m.found m.did ∷ event r x y continues A7 o.found o.did ∷ [];
         never = refl;
         links = record {
@@ -199,7 +217,7 @@ module _ (r : Arena) (s u t : Seat) (a b c : Running) (j k : Line) (h : CallIsAt
       }
 
   -- the queue was found shut: A4, A5 and A7
-  pub finds_shut : (y : Seat) (last : Outcome Running) → k ≡ A7 → Follows r t y continues A7 c last → Links r s y a (Err Closed)
+  pub finds_shut : (y : Seat T) (last : Outcome Running) → k ≡ A7 → Follows r t y continues A7 c last → Links r s y a (Err Closed)
   finds_shut y last is o =
       let lost = to_shut r u t b c k at_a5 g is in
       let over = shut_a7 r t y continues o.found c lost.0 o.did lost.1 in
@@ -209,6 +227,7 @@ module _ (r : Arena) (s u t : Seat) (a b c : Running) (j k : Line) (h : CallIsAt
         seat = o.did.seat;
         over = over.0;
         stored = then_stored s t y (then_stored s u t f.did.stored g.did.stored) o.did.stored;
+        slots = then_slots s t y (then_slots s u t (quiet_slots r s u continues A4 f.found f.did refl) (quiet_slots r u t continues A5 g.found g.did lost.3)) (quiet_slots r t y continues A7 o.found o.did refl);
         lines = event r s u continues A4 f.found f.did ∷ event r u t continues A5 g.found g.did ∷ event r t y continues A7 o.found o.did ∷ [];
         never = refl;
         links = record {
@@ -220,7 +239,7 @@ module _ (r : Arena) (s u t : Seat) (a b c : Running) (j k : Line) (h : CallIsAt
       }
 
 -- the body was pushed
-pub puts_it : (r : Arena) (s t u x : Seat) (h : Held) (val : ℕ) (a b : Running) (out : Outcome Running) (from body spent n turns : ℕ) → a ≡ registers_of h val → b ≡ registers_of h val → Trying r s t h val spent n → Follows r t u continues A3 a out → has_lock out ≡ true → Links r u x b (Ok tt) → body < 2 ^ 48 → val ≡ from * 2 ^ 48 + body → n < turns → Puts push_worn r s (keeping x None n) h.node body spent turns (Ok tt)
+pub puts_it : {T : Type 0} (r : Arena) (s t u x : Seat T) (h : Held) (val : ℕ) (a b : Running) (out : Outcome Running) (from body spent n turns : ℕ) → a ≡ registers_of h val → b ≡ registers_of h val → Trying r s t h val spent n → Follows r t u continues A3 a out → has_lock out ≡ true → Links r u x b (Ok tt) → body < 2 ^ 48 → val ≡ from * 2 ^ 48 + body → n < turns → Puts push_worn r s (keeping x None n) h.node body spent turns (Ok tt)
 puts_it r s t u x h val a b out from body spent n turns is same g follows won linked small word less =
     let f : Follows r t u continues A3 (registers_of h val) out = subst (λ x. Follows r t u continues A3 x out) is follows in
     let k : Links r u x (registers_of h val) (Ok tt) = subst (λ y. Links r u x y (Ok tt)) same linked in
@@ -237,6 +256,7 @@ puts_it r s t u x h val a b out from body spent n turns is same g follows won li
     record {
       ready = record { seat = kept_seat r x None n k.seat; free = ap (λ b. b.line) rest ∙ k.over; pocket = sym (ap (λ b. b.pocket) rest ∙ k.links.empty) };
       same = record { number = name.number; role = name.role; keeps = name.keeps };
+      slots = k.slots;
       pushed = (
         subst (Acts (view s) (view x) (Push (view s).number body)) (sym e) acts,
         refl,
@@ -246,7 +266,7 @@ puts_it r s t u x h val a b out from body spent n turns is same g follows won li
     }
 
 -- the queue was found shut
-pub finds_it_shut : (r : Arena) (s t u x : Seat) (h : Held) (val : ℕ) (a b : Running) (out : Outcome Running) (refusal : Refusal) (body spent n turns : ℕ) → a ≡ registers_of h val → b ≡ registers_of h val → Trying r s t h val spent n → Follows r t u continues A3 a out → has_lock out ≡ true → Links r u x b (Err refusal) → Puts push_worn r s (keeping x (Some h) n) h.node body spent turns (Err refusal)
+pub finds_it_shut : {T : Type 0} (r : Arena) (s t u x : Seat T) (h : Held) (val : ℕ) (a b : Running) (out : Outcome Running) (refusal : Refusal) (body spent n turns : ℕ) → a ≡ registers_of h val → b ≡ registers_of h val → Trying r s t h val spent n → Follows r t u continues A3 a out → has_lock out ≡ true → Links r u x b (Err refusal) → Puts push_worn r s (keeping x (Some h) n) h.node body spent turns (Err refusal)
 finds_it_shut r s t u x h val a b out refusal body spent n turns is same g follows won linked =
     let f : Follows r t u continues A3 (registers_of h val) out = subst (λ x. Follows r t u continues A3 x out) is follows in
     let k : Links r u x (registers_of h val) (Err refusal) = subst (λ y. Links r u x y (Err refusal)) same linked in
@@ -261,6 +281,7 @@ finds_it_shut r s t u x h val a b out refusal body spent n turns is same g follo
     record {
       ready = record { seat = kept_seat r x (Some h) n k.seat; free = ap (λ b. b.line) rest ∙ k.over; pocket = sym (ap (λ b. b.pocket) rest ∙ k.links.pocket) };
       same = record { number = name.number; role = name.role; keeps = name.keeps };
+      slots = kept_slots s x (Some h) n (then_slots s u x (then_slots s t u g.slots (quiet_slots r t u continues A3 f.found f.did refl)) k.slots);
       pushed = tt;
       refused = subst (λ y. StopsAPush s (keeping x (Some h) n) y × PutRefused push_worn r s (keeping x (Some h) n) h.node spent turns y) (sym k.links.is) (
         subst (FindsShut (view s) (view x)) (sym e) finds,
@@ -269,7 +290,7 @@ finds_it_shut r s t u x h val a b out refusal body spent n turns is same g follo
     }
 
 -- all turns failed
-pub gives_up_put : (r : Arena) (s t : Seat) (h : Held) (val body spent turns : ℕ) → spent < turns → Trying r s t h val spent turns → Puts push_worn r s (keeping t (Some h) turns) h.node body spent turns (Err Busy)
+pub gives_up_put : {T : Type 0} (r : Arena) (s t : Seat T) (h : Held) (val body spent turns : ℕ) → spent < turns → Trying r s t h val spent turns → Puts push_worn r s (keeping t (Some h) turns) h.node body spent turns (Err Busy)
 gives_up_put r s t h val body spent turns less g =
     let e : added s t ≡ g.lines = added_is s t g.lines g.walks in
     let k = g.stands in
@@ -281,6 +302,7 @@ gives_up_put r s t h val body spent turns less g =
         pocket = sym (ap (λ b. b.pocket) rest ∙ (λ i. Some (record { node = k.hand.node i; mark = k.hand.mark i })));
       };
       same = record { number = g.stored.number; role = g.stored.role; keeps = g.stored.keeps };
+      slots = kept_slots s t (Some h) turns g.slots;
       pushed = tt;
       refused = (subst (ExtendsPath (view s) (view t)) (sym e) g.walks, (ap (λ es. spent + failed_turns es) e ∙ g.failed, ends_failed s (keeping t (Some h) turns) g.lines e (g.last less), refl));
     }

@@ -21,7 +21,7 @@ use Rattle.arena_lines.specs.declared.outcomes.Reply.TheVariants.{Done, Refused 
 use Rattle.two_lock.specs.Pushes.{told_by}
 use Rattle.two_lock.specs.Shuts.{Running, AgreesAt, KeepsPocket, CallIsAt}
 
-module _ (r : Arena) (s t : Seat) (prologue : Prologue) (n : ℕ) (a : Running) where
+module _ {T : Type 0} (r : Arena) (s t : Seat T) (prologue : Prologue) (n : ℕ) (a : Running) where
   abbrev b : Actor
   b = after_prologue r.plan.setup (view s).number prologue (view s).actor
 

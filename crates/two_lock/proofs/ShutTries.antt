@@ -16,7 +16,8 @@ use Rattle.node_arena.specs.Seats.{IsReady, KeepsStored, view}
 use Rattle.node_arena.specs.Turns.{failed_turns, at_s6}
 use Rattle.node_arena.specs.Paths.{ExtendsPath, FindsShut, StopsAPush, Acts, added}
 use Rattle.node_arena.proofs.Noting.{IsSilent}
-use Rattle.node_arena.proofs.Paths.{no_walk, walk_then, then_act, act_then, then_shut, then_stored, added_is, added_path, ends_failed, failed-append, failed_behind, last_held, stopped_behind, event, walk_on, pass_on, act_on, shut_on, stopped_at, to_is, failed_last}
+use Rattle.node_arena.proofs.Paths.{no_walk, walk_then, then_act, act_then, then_shut, then_stored, no_slots, then_slots, quiet_slots, added_is, added_path, ends_failed, failed-append, failed_behind, last_held, stopped_behind, event, walk_on, pass_on, act_on, shut_on, stopped_at, to_is, failed_last}
+use Rattle.node_arena.proofs.Loads.{shut_slots}
 use Rattle.arena_lines.specs.declared.outcomes.Outcome.{Outcome}
 use Rattle.arena_lines.specs.declared.outcomes.Outcome.TheVariants.{Goes}
 use Rattle.arena_lines.specs.declared.outcomes.Reply.TheVariants.{Done, Refused as IsRefused}
@@ -29,11 +30,11 @@ use Rattle.two_lock.specs.Worn.{shut_worn}
 use Rattle.two_lock.proofs.ShutStands.{won_s6, lost_s6, after_s7, won_s8, lost_s8, done_s9, shut_s9}
 
 -- after S7
-pub to_s8 : (r : Arena) (s t : Seat) (l : Line) (a b : Running) → CallIsAt r s continues S7 a → Follows r s t continues S7 a (Goes l b) → CallIsAt r t continues S8 b
+pub to_s8 : {T : Type 0} (r : Arena) (s t : Seat T) (l : Line) (a b : Running) → CallIsAt r s continues S7 a → Follows r s t continues S7 a (Goes l b) → CallIsAt r t continues S8 b
 to_s8 r s t l a b h f = subst (CallIsAt r t continues S8) (sym (same_registers l S8 b (record a { tail = ref_of r.plan.setup.bits f.found }) f.leads_to)) (after_s7 r s t continues f.found a h f.did)
 
 -- what S8 comes to: a closed end was put there, or the queue was found shut
-module _ (r : Arena) (s t : Seat) (l : Line) (a b : Running) (h : CallIsAt r s continues S8 a) (f : Follows r s t continues S8 a (Goes l b)) where
+module _ {T : Type 0} (r : Arena) (s t : Seat T) (l : Line) (a b : Running) (h : CallIsAt r s continues S8 a) (f : Follows r s t continues S8 a (Goes l b)) where
   abbrev added_there : List Entry
   added_there = entries_at r.plan.setup f.did.told.was (view s).number (view s).actor S8
 
@@ -62,7 +63,7 @@ module _ (r : Arena) (s t : Seat) (l : Line) (a b : Running) (h : CallIsAt r s c
           (subst (CallIsAt r t continues S9) (sym same) k.0, inr (record { due = ap (λ (x : Running). x.due) same; adds = k.1 }))
 
 -- the lines under the lock
-module _ (r : Arena) (s u t : Seat) (a b c : Running) (l k : Line) (h : CallIsAt r s continues S7 a) (f : Follows r s u continues S7 a (Goes l b)) (g : Follows r u t continues S8 b (Goes k c)) where
+module _ {T : Type 0} (r : Arena) (s u t : Seat T) (a b c : Running) (l k : Line) (h : CallIsAt r s continues S7 a) (f : Follows r s u continues S7 a (Goes l b)) (g : Follows r u t continues S8 b (Goes k c)) where
   at_s8 : CallIsAt r u continues S8 b
   at_s8 = to_s8 r s u l a b h f
 
@@ -78,7 +79,7 @@ module _ (r : Arena) (s u t : Seat) (a b c : Running) (l k : Line) (h : CallIsAt
   pub at_s9 : CallIsAt r t continues S9 c
   at_s9 = (after_s8 r u t k b c at_s8 g).0
 
-  module _ (x : Seat) (out : Result (Unit {0}) Refusal) (m : LetsGo r t x c out) where
+  module _ (x : Seat T) (out : Result (Unit {0}) Refusal) (m : LetsGo r t x c out) where
     abbrev nine : Event
     nine = event r t x continues S9 m.found m.did
 
@@ -90,6 +91,7 @@ module _ (r : Arena) (s u t : Seat) (a b c : Running) (l k : Line) (h : CallIsAt
           over = over;
           pocket = pocket;
           stored = then_stored s t x (then_stored s u t f.did.stored g.did.stored) m.did.stored;
+          slots = then_slots s t x (then_slots s u t (quiet_slots r s u continues S7 f.found f.did refl) (shut_slots r u t continues S8 g.found g.did (view u).number _ refl)) (quiet_slots r t x continues S9 m.found m.did refl);
           lines = seven ∷ eight ∷ nine ∷ [];
           never = refl;
           shuts = subst (ShutOr r s x (seven ∷ eight ∷ nine ∷ [])) (sym is) shuts;
@@ -119,12 +121,13 @@ module _ (r : Arena) (s u t : Seat) (a b c : Running) (l k : Line) (h : CallIsAt
     puts_end = ⊎_elim put lost (after_s8 r u t k b c at_s8 g).1
 
 -- a shut sets out
-pub shuts_out : (r : Arena) (s : Seat) → IsReady r s → IsTwoLock r → Trying r s s 0
+pub shuts_out : {T : Type 0} (r : Arena) (s : Seat T) → IsReady r s → IsTwoLock r → Trying r s s 0
 shuts_out r s h two =
     record {
       before = record { seat = h.seat; can = (refl, h.free); line = ap (λ k. Some (shuts k)) two };
       pocket = sym h.pocket;
       stored = record { number = refl; role = refl; keeps = refl; pocket = refl; failed = refl };
+      slots = no_slots s;
       lines = [];
       walks = no_walk (view s);
       failed = refl;
@@ -132,7 +135,7 @@ shuts_out r s h two =
     }
 
 -- a try of the lock, which got it or failed
-module _ (r : Arena) (s t u : Seat) (n : ℕ) (g : Trying r s t n) (a : Running) (out : Outcome Running) (f : Follows r t u (shutting n) S6 a out) where
+module _ {T : Type 0} (r : Arena) (s t u : Seat T) (n : ℕ) (g : Trying r s t n) (a : Running) (out : Outcome Running) (f : Follows r t u (shutting n) S6 a out) where
   abbrev try : Event
   try = event r t u (shutting n) S6 f.found f.did
 
@@ -162,6 +165,7 @@ module _ (r : Arena) (s t u : Seat) (n : ℕ) (g : Trying r s t n) (a : Running)
         before = rw add-one x.before;
         pocket = rw add-one x.pocket;
         stored = then_stored s t u g.stored f.did.stored;
+        slots = then_slots s t u g.slots (quiet_slots r t u (shutting n) S6 f.found f.did refl);
         lines = g.lines ++ try ∷ [];
         walks = tried;
         failed = omega (arith, failed-append g.lines (try ∷ []), g.failed, once);
@@ -169,11 +173,12 @@ module _ (r : Arena) (s t u : Seat) (n : ℕ) (g : Trying r s t n) (a : Running)
       }
 
   -- the lock was got
-  pub shut_ends : (x : Seat) (turns : ℕ) (o : Result (Unit {0}) Refusal) → has_lock out ≡ true → n < turns → PutsEnd r u x o → AnswersShut shut_worn r s x turns o
+  pub shut_ends : (x : Seat T) (turns : ℕ) (o : Result (Unit {0}) Refusal) → has_lock out ≡ true → n < turns → PutsEnd r u x o → AnswersShut shut_worn r s x turns o
   shut_ends x turns o e less k =
       record {
         ready = record { seat = k.seat; free = ap (λ b. b.line) rest ∙ k.over; pocket = sym (ap (λ b. b.pocket) rest ∙ k.pocket) };
         same = record { number = name.number; role = name.role; keeps = name.keeps };
+        slots = then_slots s u x (then_slots s t u g.slots (quiet_slots r t u (shutting n) S6 f.found f.did refl)) k.slots;
         pocket = name.pocket;
         shut = shut_of o k.shuts;
         few = few_of o k.shuts;
@@ -223,7 +228,7 @@ module _ (r : Arena) (s t u : Seat) (n : ℕ) (g : Trying r s t n) (a : Running)
           )
 
 -- all turns failed
-pub shut_gives_up : (r : Arena) (s t : Seat) (turns n : ℕ) → 1 ≤ n → n ≡ turns → Trying r s t n → AnswersShut shut_worn r s t turns (Err Busy)
+pub shut_gives_up : {T : Type 0} (r : Arena) (s t : Seat T) (turns n : ℕ) → 1 ≤ n → n ≡ turns → Trying r s t n → AnswersShut shut_worn r s t turns (Err Busy)
 shut_gives_up r s t turns zero some all g = absurd (omega arith)
 shut_gives_up r s t turns (suc m) some all g =
     let e : added s t ≡ g.lines = added_is s t g.lines g.walks in
@@ -231,6 +236,7 @@ shut_gives_up r s t turns (suc m) some all g =
     record {
       ready = record { seat = g.before.seat; free = ap (λ b. b.line) rest; pocket = sym (ap (λ b. b.pocket) rest ∙ g.pocket) };
       same = record { number = g.stored.number; role = g.stored.role; keeps = g.stored.keeps };
+      slots = g.slots;
       pocket = g.stored.pocket;
       shut = tt;
       few = tt;

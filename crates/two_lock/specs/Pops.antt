@@ -17,7 +17,8 @@ use Rattle.node_arena.specs.Prologues.{Prologue, begins, continues, after_prolog
 use Rattle.node_arena.specs.Arenas.{Arena}
 use Rattle.node_arena.specs.declared.seats.Seat.{Seat}
 use Rattle.node_arena.specs.Seeing.{known_by}
-use Rattle.node_arena.specs.Seats.{IsSeat, IsBefore, KeepsStored, DidStep, view}
+use Rattle.node_arena.specs.Seats.{IsSeat, IsBefore, KeepsStored, KeepsSlots, DidStep, view}
+use Rattle.node_arena.specs.Loads.{TakesSlot}
 use Rattle.node_arena.specs.Turns.{failed_turns}
 use Rattle.node_arena.specs.Paths.{ExtendsPath, FindsShutEmpty, Acts, FailedAt, EndedAt, IsRefusedAt}
 use Rattle.node_arena.specs.Machine.{value_of}
@@ -90,18 +91,18 @@ AgreesAt B6 b a = KnowsDue b a a.due
 AgreesAt l b a = Unit {0}
 
 -- a seat's actor, led there, stands before a line of a pop, and the call has its registers
-pub record CallIsAt (r : Arena) (s : Seat) (prologue : Prologue) (l : Line) (a : Running) : Type 0 where
+pub record CallIsAt {T : Type 0} (r : Arena) (s : Seat T) (prologue : Prologue) (l : Line) (a : Running) : Type 0 where
   pub before : IsBefore r s prologue l
   pub knows : AgreesAt l (after_prologue r.plan.setup (view s).number prologue (view s).actor) a
 
 -- the seat made its step at a line, and the call made of the number found what the line says
-pub record Follows (r : Arena) (s t : Seat) (prologue : Prologue) (l : Line) (a : Running) (out : Outcome Running) : Type 0 where
+pub record Follows {T : Type 0} (r : Arena) (s t : Seat T) (prologue : Prologue) (l : Line) (a : Running) (out : Outcome Running) : Type 0 where
   pub found : ℕ
   pub did : DidStep r s t prologue l found
   pub leads_to : out ≡ follow r.plan.setup a l found
 
 -- a value was taken, and the node that comes free is in the hand
-pub record Took (r : Arena) (s t : Seat) (es : List Event) (a : Running) : Type 0 where
+pub record Took {T : Type 0} (r : Arena) (s t : Seat T) (es : List Event) (a : Running) : Type 0 where
   pub over : (view t).actor.line ≡ Some F1
   pub due : (view t).actor.due ≡ Some (reply.Value (value_of a.val))
   pub node : (view t).actor.node ≡ a.node
@@ -109,49 +110,56 @@ pub record Took (r : Arena) (s t : Seat) (es : List Event) (a : Running) : Type 
   pub acts : Acts (view s) (view t) (Pop (view s).number (value_of a.val)) es
 
 -- the queue was found empty
-pub record SawEmpty (s t : Seat) (es : List Event) : Type 0 where
+pub record SawEmpty {T : Type 0} (s t : Seat T) (es : List Event) : Type 0 where
   pub over : (view t).actor.line ≡ None
   pub path : (view t).path ≡ (view s).path ++ es
   pub found : FoundEmpty (known_by (view s)) (known_by (view t))
 
 -- the queue was found shut and empty
-pub record SawShut (r : Arena) (s t : Seat) (es : List Event) : Type 0 where
+pub record SawShut {T : Type 0} (r : Arena) (s t : Seat T) (es : List Event) : Type 0 where
   pub over : (view t).actor.line ≡ None
   pub finds : FindsShutEmpty (view s) (view t) es
   pub cause : EndedAt r s es (IsRefusedAt r.plan.setup (view s).number Closed)
 
 -- Head was found worn out
-pub record SawWorn (r : Arena) (s t : Seat) (es : List Event) (refusal : Refusal) : Type 0 where
+pub record SawWorn {T : Type 0} (r : Arena) (s t : Seat T) (es : List Event) (refusal : Refusal) : Type 0 where
   pub over : (view t).actor.line ≡ None
   pub walks : ExtendsPath (view s) (view t) es
   pub is : refusal ≡ WornOut OfHead
   pub cause : EndedAt r s es (IsRefusedAt r.plan.setup (view s).number (WornOut OfHead))
 
 -- why a pop ends under the lock: the queue was found shut and empty, or Head worn out
-abbrev pub Stops : Arena → Seat → Seat → List Event → Refusal → Type 0
+abbrev pub Stops : {T : Type 0} → Arena → Seat T → Seat T → List Event → Refusal → Type 0
 Stops r s t es Closed = SawShut r s t es
 Stops r s t es refusal = SawWorn r s t es refusal
 
 -- what the lines under the lock come to
-abbrev pub Fronted : Arena → Seat → Seat → List Event → Outcome Running → Type 0
+abbrev pub Fronted : {T : Type 0} → Arena → Seat T → Seat T → List Event → Outcome Running → Type 0
 Fronted r s t es (Goes l a) = Took r s t es a
 Fronted r s t es (Ends IsEmpty) = SawEmpty s t es
 Fronted r s t es (Ends (IsRefused refusal)) = Stops r s t es refusal
 Fronted r s t es (Ends reply) = ⊥
 
+-- the slot of the value that was taken came out with the seat, and else the slots that are out with it are those that were
+abbrev pub FrontMoves : {T : Type 0} → Arena → Seat T → Seat T → Outcome Running → Type 0
+FrontMoves r s t (Goes l a) = TakesSlot r (value_of a.val).body s t
+FrontMoves r s t (Ends reply) = KeepsSlots s t
+
 -- the lines under the lock, from B2 to B6
-pub record Fronts (r : Arena) (s t : Seat) (out : Outcome Running) : Type 0 where
+pub record Fronts {T : Type 0} (r : Arena) (s t : Seat T) (out : Outcome Running) : Type 0 where
   pub seat : IsSeat r t
   pub empty : (view t).actor.pocket ≡ None
   pub stored : KeepsStored s t
+  pub slots : FrontMoves r s t out
   pub lines : List Event
   pub never : failed_turns lines ≡ 0
   pub fronted : Fronted r s t lines out
 
 -- a pop after so many failed turns since it began
-pub record Trying (r : Arena) (s t : Seat) (n : ℕ) : Type 0 where
+pub record Trying {T : Type 0} (r : Arena) (s t : Seat T) (n : ℕ) : Type 0 where
   pub before : IsBefore r t (popping n) B1
   pub stored : KeepsStored s t
+  pub slots : KeepsSlots s t
   pub lines : List Event
   pub walks : ExtendsPath (view s) (view t) lines
   pub failed : failed_turns lines ≡ n

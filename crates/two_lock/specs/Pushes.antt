@@ -1,5 +1,5 @@
 -- A running push: what it remembers before each line, and what it comes to.
-use Rattle.std.specs.Prelude.{◌≡◌, ℕ, ◌+◌, ◌<◌, Bool, true, false, if◌then◌else◌, nat_eq, List, Option, Some, None, Result, Ok, Err}
+use Rattle.std.specs.Prelude.{◌≡◌, ℕ, ◌+◌, ◌<◌, Bool, true, false, if◌then◌else◌, nat_eq, List, Option, Some, None, Result, Ok, Err, MatchResult}
 use Rattle.counted_ref.specs.Ref.{Ref, ref, ref_of, null, same_ref}
 use Rattle.line_table.specs.declared.lines.Line.{Line}
 use Rattle.line_table.specs.declared.lines.Line.TheVariants.{A1, A2, A3, A4, A5, A6, A7}
@@ -14,7 +14,8 @@ use Rattle.node_arena.specs.Traces.{Event}
 use Rattle.node_arena.specs.Prologues.{Prologue, begins, continues, after_prologue}
 use Rattle.node_arena.specs.Arenas.{Arena}
 use Rattle.node_arena.specs.declared.seats.Seat.{Seat}
-use Rattle.node_arena.specs.Seats.{IsSeat, IsBefore, KeepsStored, DidStep, view}
+use Rattle.node_arena.specs.Seats.{IsSeat, IsBefore, KeepsStored, KeepsSlots, DidStep, view}
+use Rattle.node_arena.specs.Loads.{GivesSlot}
 use Rattle.node_arena.specs.Turns.{failed_turns}
 use Rattle.node_arena.specs.Paths.{ExtendsPath, FindsShut, Acts, FailedAt, EndedAt, IsRefusedAt}
 use Rattle.node_arena.specs.Machine.{value_of}
@@ -78,13 +79,13 @@ AgreesAt A7 b a = b.due ≡ told_by a.due
 AgreesAt l b a = Unit {0}
 
 -- a seat's actor, led there, stands before a line of a push, and the call has its registers
-pub record CallIsAt (r : Arena) (s : Seat) (prologue : Prologue) (l : Line) (a : Running) : Type 0 where
+pub record CallIsAt {T : Type 0} (r : Arena) (s : Seat T) (prologue : Prologue) (l : Line) (a : Running) : Type 0 where
   pub before : IsBefore r s prologue l
   pub hand : HasNode (after_prologue r.plan.setup (view s).number prologue (view s).actor) a
   pub knows : AgreesAt l (after_prologue r.plan.setup (view s).number prologue (view s).actor) a
 
 -- the seat made its step at a line, and the call made of the number found what the line says
-pub record Follows (r : Arena) (s t : Seat) (prologue : Prologue) (l : Line) (a : Running) (out : Outcome Running) : Type 0 where
+pub record Follows {T : Type 0} (r : Arena) (s t : Seat T) (prologue : Prologue) (l : Line) (a : Running) (out : Outcome Running) : Type 0 where
   pub found : ℕ
   pub did : DidStep r s t prologue l found
   pub leads_to : out ≡ follow r.plan.setup a l found
@@ -94,35 +95,37 @@ abbrev pub in_hand : Running → Held
 in_hand a = record { node = a.node; mark = a.mark }
 
 -- the node was linked
-pub record Linked (s t : Seat) (a : Running) (es : List Event) : Type 0 where
+pub record Linked {T : Type 0} (s t : Seat T) (a : Running) (es : List Event) : Type 0 where
   pub empty : (view t).actor.pocket ≡ None
   pub acts : Acts (view s) (view t) (Push (view s).number (value_of a.val).body) es
 
 -- the queue was found shut, and the node is in the pocket
-pub record SawShut (r : Arena) (s t : Seat) (a : Running) (es : List Event) (refusal : Refusal) : Type 0 where
+pub record SawShut {T : Type 0} (r : Arena) (s t : Seat T) (a : Running) (es : List Event) (refusal : Refusal) : Type 0 where
   pub pocket : (view t).actor.pocket ≡ Some (in_hand a)
   pub is : refusal ≡ Closed
   pub finds : FindsShut (view s) (view t) es
   pub cause : EndedAt r s es (IsRefusedAt r.plan.setup (view s).number Closed)
 
 -- what the lines under the lock come to
-abbrev pub LinkedOr : Arena → Seat → Seat → Running → List Event → Result (Unit {0}) Refusal → Type 0
+abbrev pub LinkedOr : {T : Type 0} → Arena → Seat T → Seat T → Running → List Event → Result (Unit {0}) Refusal → Type 0
 LinkedOr r s t a es (Ok x) = Linked s t a es
 LinkedOr r s t a es (Err refusal) = SawShut r s t a es refusal
 
 -- the call is over: the node was linked, or the queue was found shut
-pub record Links (r : Arena) (s t : Seat) (a : Running) (out : Result (Unit {0}) Refusal) : Type 0 where
+pub record Links {T : Type 0} (r : Arena) (s t : Seat T) (a : Running) (out : Result (Unit {0}) Refusal) : Type 0 where
   pub seat : IsSeat r t
   pub over : (view t).actor.line ≡ None
   pub stored : KeepsStored s t
+  pub slots : MatchResult out (λ _. GivesSlot r t) (λ _. KeepsSlots s t)
   pub lines : List Event
   pub never : failed_turns lines ≡ 0
   pub links : LinkedOr r s t a lines out
 
 -- a push that has its node, after so many failed turns of its call, `spent` of them before it had the node
-pub record Trying (r : Arena) (s t : Seat) (h : Held) (val spent n : ℕ) : Type 0 where
+pub record Trying {T : Type 0} (r : Arena) (s t : Seat T) (h : Held) (val spent n : ℕ) : Type 0 where
   pub stands : CallIsAt r t continues A3 (registers_of h val)
   pub stored : KeepsStored s t
+  pub slots : KeepsSlots s t
   pub lines : List Event
   pub walks : ExtendsPath (view s) (view t) lines
   pub failed : spent + failed_turns lines ≡ n

@@ -12,7 +12,7 @@ use Rattle.node_arena.specs.Traces.{Event}
 use Rattle.node_arena.specs.Prologues.{Prologue, begins, continues, after_prologue}
 use Rattle.node_arena.specs.Arenas.{Arena}
 use Rattle.node_arena.specs.declared.seats.Seat.{Seat}
-use Rattle.node_arena.specs.Seats.{IsSeat, IsBefore, KeepsStored, DidStep, view, pocket_of}
+use Rattle.node_arena.specs.Seats.{IsSeat, IsBefore, KeepsStored, KeepsSlots, DidStep, view, pocket_of}
 use Rattle.node_arena.specs.Turns.{failed_turns}
 use Rattle.node_arena.specs.Paths.{ExtendsPath, FindsShut, Acts, FailedAt, EndedAt, IsRefusedAt}
 use Rattle.arena_lines.specs.declared.outcomes.Outcome.{Outcome}
@@ -56,53 +56,55 @@ AgreesAt S9 b a = b.due ≡ told_by a.due
 AgreesAt l b a = Unit {0}
 
 -- what is in an actor's pocket is what its seat stores
-abbrev pub KeepsPocket : Seat → Actor → Type 0
+abbrev pub KeepsPocket : {T : Type 0} → Seat T → Actor → Type 0
 KeepsPocket s b = b.pocket ≡ pocket_of s
 
 -- a seat's actor, led there, stands before a line of a shut with the seat's pocket, and the call has its registers
-pub record CallIsAt (r : Arena) (s : Seat) (prologue : Prologue) (l : Line) (a : Running) : Type 0 where
+pub record CallIsAt {T : Type 0} (r : Arena) (s : Seat T) (prologue : Prologue) (l : Line) (a : Running) : Type 0 where
   pub before : IsBefore r s prologue l
   pub pocket : KeepsPocket s (after_prologue r.plan.setup (view s).number prologue (view s).actor)
   pub knows : AgreesAt l (after_prologue r.plan.setup (view s).number prologue (view s).actor) a
 
 -- the seat made its step at a line, and the call made of the number found what the line says
-pub record Follows (r : Arena) (s t : Seat) (prologue : Prologue) (l : Line) (a : Running) (out : Outcome Running) : Type 0 where
+pub record Follows {T : Type 0} (r : Arena) (s t : Seat T) (prologue : Prologue) (l : Line) (a : Running) (out : Outcome Running) : Type 0 where
   pub found : ℕ
   pub did : DidStep r s t prologue l found
   pub leads_to : out ≡ follow r.plan.setup a l found
 
 -- the seat let the lock go, and the call answers what is due
-pub record LetsGo (r : Arena) (s t : Seat) (a : Running) (out : Result (Unit {0}) Refusal) : Type 0 where
+pub record LetsGo {T : Type 0} (r : Arena) (s t : Seat T) (a : Running) (out : Result (Unit {0}) Refusal) : Type 0 where
   pub found : ℕ
   pub did : DidStep r s t continues S9 found
   pub answers : out ≡ answer_of a.due
 
 -- the queue was found shut
-pub record SawShut (r : Arena) (s t : Seat) (es : List Event) (refusal : Refusal) : Type 0 where
+pub record SawShut {T : Type 0} (r : Arena) (s t : Seat T) (es : List Event) (refusal : Refusal) : Type 0 where
   pub is : refusal ≡ Closed
   pub finds : FindsShut (view s) (view t) es
   pub cause : EndedAt r s es (IsRefusedAt r.plan.setup (view s).number Closed)
 
 -- what the lines under the lock come to
-abbrev pub ShutOr : Arena → Seat → Seat → List Event → Result (Unit {0}) Refusal → Type 0
+abbrev pub ShutOr : {T : Type 0} → Arena → Seat T → Seat T → List Event → Result (Unit {0}) Refusal → Type 0
 ShutOr r s t es (Ok x) = Acts (view s) (view t) (Shut (view s).number) es
 ShutOr r s t es (Err refusal) = SawShut r s t es refusal
 
 -- the call is over: a closed end was put behind the last node, or the queue was found shut; what was in the pocket is there
-pub record PutsEnd (r : Arena) (s t : Seat) (out : Result (Unit {0}) Refusal) : Type 0 where
+pub record PutsEnd {T : Type 0} (r : Arena) (s t : Seat T) (out : Result (Unit {0}) Refusal) : Type 0 where
   pub seat : IsSeat r t
   pub over : (view t).actor.line ≡ None
   pub pocket : KeepsPocket t (view t).actor
   pub stored : KeepsStored s t
+  pub slots : KeepsSlots s t
   pub lines : List Event
   pub never : failed_turns lines ≡ 0
   pub shuts : ShutOr r s t lines out
 
 -- a shut after so many failed turns since it began
-pub record Trying (r : Arena) (s t : Seat) (n : ℕ) : Type 0 where
+pub record Trying {T : Type 0} (r : Arena) (s t : Seat T) (n : ℕ) : Type 0 where
   pub before : IsBefore r t (shutting n) S6
   pub pocket : KeepsPocket t (after_prologue r.plan.setup (view t).number (shutting n) (view t).actor)
   pub stored : KeepsStored s t
+  pub slots : KeepsSlots s t
   pub lines : List Event
   pub walks : ExtendsPath (view s) (view t) lines
   pub failed : failed_turns lines ≡ n

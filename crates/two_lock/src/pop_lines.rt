@@ -13,9 +13,9 @@ use line_table::{Line, line_table};
 use node_arena::{ArenaOf, Seat, raised};
 
 /// `index` turns of this call failed since it began.
-pub(crate) fn b1<const B: u32>(
-    arena: &ArenaOf<B>,
-    seat: &mut Seat,
+pub(crate) fn b1<const B: u32, T>(
+    arena: &ArenaOf<B, T>,
+    seat: &mut Seat<T>,
     a: ActorOf<B>,
     index: u32,
 ) -> Outcome<ActorOf<B>>
@@ -26,7 +26,11 @@ pub(crate) fn b1<const B: u32>(
     line_table!(B1 (setup me a found) first_row (arena seat found index))
 }
 
-pub(crate) fn b2<const B: u32>(arena: &ArenaOf<B>, seat: &mut Seat, mut a: ActorOf<B>) -> ActorOf<B>
+pub(crate) fn b2<const B: u32, T>(
+    arena: &ArenaOf<B, T>,
+    seat: &mut Seat<T>,
+    mut a: ActorOf<B>,
+) -> ActorOf<B>
     requires stands { CallIsAt arena.now seat.old continues lines.B2 a }
     ensures { Follows arena.now seat.old seat.new continues lines.B2 a.entry
         (Outcome.Goes lines.B3 result) }
@@ -35,9 +39,9 @@ pub(crate) fn b2<const B: u32>(arena: &ArenaOf<B>, seat: &mut Seat, mut a: Actor
     line_table!(B2 (setup me a found) row (arena seat found))
 }
 
-pub(crate) fn b3<const B: u32>(
-    arena: &ArenaOf<B>,
-    seat: &mut Seat,
+pub(crate) fn b3<const B: u32, T>(
+    arena: &ArenaOf<B, T>,
+    seat: &mut Seat<T>,
     mut a: ActorOf<B>,
 ) -> (Line, ActorOf<B>)
     requires stands { CallIsAt arena.now seat.old continues lines.B3 a }
@@ -49,9 +53,9 @@ pub(crate) fn b3<const B: u32>(
     line_table!(B3 (setup me a found) row (arena seat found))
 }
 
-pub(crate) fn b4<const B: u32>(
-    arena: &ArenaOf<B>,
-    seat: &mut Seat,
+pub(crate) fn b4<const B: u32, T>(
+    arena: &ArenaOf<B, T>,
+    seat: &mut Seat<T>,
     mut a: ActorOf<B>,
 ) -> (Line, ActorOf<B>)
     requires stands { CallIsAt arena.now seat.old continues lines.B4 a }
@@ -63,7 +67,11 @@ pub(crate) fn b4<const B: u32>(
     line_table!(B4 (setup me a found) row (arena seat found))
 }
 
-pub(crate) fn b5<const B: u32>(arena: &ArenaOf<B>, seat: &mut Seat, mut a: ActorOf<B>) -> ActorOf<B>
+pub(crate) fn b5<const B: u32, T>(
+    arena: &ArenaOf<B, T>,
+    seat: &mut Seat<T>,
+    mut a: ActorOf<B>,
+) -> ActorOf<B>
     requires stands { CallIsAt arena.now seat.old continues lines.B5 a }
     requires role { IsTrue (may_pop (role_of seat.old)) }
     ensures { Follows arena.now seat.old seat.new continues lines.B5 a.entry
@@ -74,9 +82,9 @@ pub(crate) fn b5<const B: u32>(arena: &ArenaOf<B>, seat: &mut Seat, mut a: Actor
     line_table!(B5 (setup me a found) row (arena seat found))
 }
 
-pub(crate) fn b6<const B: u32>(
-    arena: &ArenaOf<B>,
-    seat: &mut Seat,
+pub(crate) fn b6<const B: u32, T>(
+    arena: &ArenaOf<B, T>,
+    seat: &mut Seat<T>,
     a: ActorOf<B>,
 ) -> Outcome<ActorOf<B>>
     requires stands { CallIsAt arena.now seat.old continues lines.B6 a }

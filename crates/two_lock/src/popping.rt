@@ -18,9 +18,9 @@ use line_table::Line;
 use node_arena::{ArenaOf, Held, Seat, value_of};
 
 // With the lock: the value after Head's node is taken where there is one, and the lock is let go.
-fn read_front<const B: u32>(
-    arena: &ArenaOf<B>,
-    seat: &mut Seat,
+fn read_front<const B: u32, T>(
+    arena: &ArenaOf<B, T>,
+    seat: &mut Seat<T>,
     a: ActorOf<B>,
 ) -> Outcome<ActorOf<B>>
     requires stands { CallIsAt arena.now seat.old continues lines.B2 a }
@@ -43,9 +43,9 @@ fn read_front<const B: u32>(
 
 // With the lock, where so many turns failed before: a node that comes free stays in the pocket of a seat that keeps its
 // nodes, and else is given back with the turns that are left.
-fn pop_locked<const B: u32>(
-    arena: &ArenaOf<B>,
-    seat: &mut Seat,
+fn pop_locked<const B: u32, T>(
+    arena: &ArenaOf<B, T>,
+    seat: &mut Seat<T>,
     failed: u32,
     turns: u32,
 ) -> Result<Option<Taken>, Refusal>
@@ -77,9 +77,9 @@ fn pop_locked<const B: u32>(
 }
 
 // The pop with an empty pocket, where `spent` turns of this call failed before.
-pub(crate) fn pop_with_empty_pocket<const B: u32>(
-    arena: &ArenaOf<B>,
-    seat: &mut Seat,
+pub(crate) fn pop_with_empty_pocket<const B: u32, T>(
+    arena: &ArenaOf<B, T>,
+    seat: &mut Seat<T>,
     spent: u32,
     turns: u32,
 ) -> Result<Option<Taken>, Refusal>

@@ -2,7 +2,9 @@
 ghost use Rattle.std.specs.Prelude.{IsTrue};
 ghost use Rattle.line_table.specs.declared.lines.Line.TheVariants as lines;
 ghost use Rattle.node_arena.specs.Prologues.{continues};
+ghost use Rattle.node_arena.specs.Machine.{value_of};
 ghost use Rattle.node_arena.specs.Plans.{may_push};
+ghost use Rattle.node_arena.specs.Loads.{IsLoaded};
 ghost use Rattle.node_arena.specs.Seats.{role_of};
 ghost use Rattle.two_lock.specs.Pushes.{pushing, CallIsAt, Follows};
 
@@ -13,7 +15,11 @@ use history::Refusal;
 use line_table::{Line, line_table};
 use node_arena::{ArenaOf, Seat};
 
-pub(crate) fn a1<const B: u32>(arena: &ArenaOf<B>, seat: &mut Seat, a: ActorOf<B>) -> ActorOf<B>
+pub(crate) fn a1<const B: u32, T>(
+    arena: &ArenaOf<B, T>,
+    seat: &mut Seat<T>,
+    a: ActorOf<B>,
+) -> ActorOf<B>
     requires stands { CallIsAt arena.now seat.old (pushing a.val) lines.A1 a }
     ensures { Follows arena.now seat.old seat.new (pushing a.entry.val) lines.A1 a.entry
         (Outcome.Goes lines.A2 result) }
@@ -22,7 +28,11 @@ pub(crate) fn a1<const B: u32>(arena: &ArenaOf<B>, seat: &mut Seat, a: ActorOf<B
     line_table!(A1 (setup me a found) row (arena seat found))
 }
 
-pub(crate) fn a2<const B: u32>(arena: &ArenaOf<B>, seat: &mut Seat, a: ActorOf<B>) -> ActorOf<B>
+pub(crate) fn a2<const B: u32, T>(
+    arena: &ArenaOf<B, T>,
+    seat: &mut Seat<T>,
+    a: ActorOf<B>,
+) -> ActorOf<B>
     requires stands { CallIsAt arena.now seat.old continues lines.A2 a }
     ensures { Follows arena.now seat.old seat.new continues lines.A2 a.entry
         (Outcome.Goes lines.A3 result) }
@@ -31,9 +41,9 @@ pub(crate) fn a2<const B: u32>(arena: &ArenaOf<B>, seat: &mut Seat, a: ActorOf<B
     line_table!(A2 (setup me a found) row (arena seat found))
 }
 
-pub(crate) fn a3<const B: u32>(
-    arena: &ArenaOf<B>,
-    seat: &mut Seat,
+pub(crate) fn a3<const B: u32, T>(
+    arena: &ArenaOf<B, T>,
+    seat: &mut Seat<T>,
     a: ActorOf<B>,
 ) -> Outcome<ActorOf<B>>
     requires stands { CallIsAt arena.now seat.old continues lines.A3 a }
@@ -43,7 +53,11 @@ pub(crate) fn a3<const B: u32>(
     line_table!(A3 (setup me a found) row (arena seat found))
 }
 
-pub(crate) fn a4<const B: u32>(arena: &ArenaOf<B>, seat: &mut Seat, mut a: ActorOf<B>) -> ActorOf<B>
+pub(crate) fn a4<const B: u32, T>(
+    arena: &ArenaOf<B, T>,
+    seat: &mut Seat<T>,
+    mut a: ActorOf<B>,
+) -> ActorOf<B>
     requires stands { CallIsAt arena.now seat.old continues lines.A4 a }
     ensures { Follows arena.now seat.old seat.new continues lines.A4 a.entry
         (Outcome.Goes lines.A5 result) }
@@ -52,12 +66,13 @@ pub(crate) fn a4<const B: u32>(arena: &ArenaOf<B>, seat: &mut Seat, mut a: Actor
     line_table!(A4 (setup me a found) row (arena seat found))
 }
 
-pub(crate) fn a5<const B: u32>(
-    arena: &ArenaOf<B>,
-    seat: &mut Seat,
+pub(crate) fn a5<const B: u32, T>(
+    arena: &ArenaOf<B, T>,
+    seat: &mut Seat<T>,
     mut a: ActorOf<B>,
 ) -> (Line, ActorOf<B>)
     requires stands { CallIsAt arena.now seat.old continues lines.A5 a }
+    requires loaded { IsLoaded arena.now (value_of a.val).body seat.old }
     requires role { IsTrue (may_push (role_of seat.old)) }
     ensures { Follows arena.now seat.old seat.new continues lines.A5 a.entry
         (Outcome.Goes result.0 result.1) }
@@ -67,7 +82,11 @@ pub(crate) fn a5<const B: u32>(
     line_table!(A5 (setup me a found) row (arena seat found))
 }
 
-pub(crate) fn a6<const B: u32>(arena: &ArenaOf<B>, seat: &mut Seat, a: ActorOf<B>) -> ActorOf<B>
+pub(crate) fn a6<const B: u32, T>(
+    arena: &ArenaOf<B, T>,
+    seat: &mut Seat<T>,
+    a: ActorOf<B>,
+) -> ActorOf<B>
     requires stands { CallIsAt arena.now seat.old continues lines.A6 a }
     ensures { Follows arena.now seat.old seat.new continues lines.A6 a.entry
         (Outcome.Goes lines.A7 result) }
@@ -77,9 +96,9 @@ pub(crate) fn a6<const B: u32>(arena: &ArenaOf<B>, seat: &mut Seat, a: ActorOf<B
     line_table!(A6 (setup me a found) row (arena seat found))
 }
 
-pub(crate) fn a7<const B: u32>(
-    arena: &ArenaOf<B>,
-    seat: &mut Seat,
+pub(crate) fn a7<const B: u32, T>(
+    arena: &ArenaOf<B, T>,
+    seat: &mut Seat<T>,
     a: ActorOf<B>,
 ) -> Outcome<ActorOf<B>>
     requires stands { CallIsAt arena.now seat.old continues lines.A7 a }

@@ -30,7 +30,7 @@ impl<const B: u32> Model for ActorOf<B> {
 }
 
 /// Registers with this node and this word of a value.
-pub(crate) fn registers<const B: u32>(arena: &ArenaOf<B>, held: Held, val: u64) -> ActorOf<B>
+pub(crate) fn registers<const B: u32, T>(arena: &ArenaOf<B, T>, held: Held, val: u64) -> ActorOf<B>
     ensures { result ≡ registers_of held val }
 {
     ActorOf {

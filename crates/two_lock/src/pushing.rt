@@ -2,7 +2,9 @@
 ghost use Rattle.std.specs.Prelude.{◌≡◌, ◌<◌, IsTrue, Some, OnErr};
 ghost use Rattle.line_table.specs.declared.lines.Line.TheVariants as lines;
 ghost use Rattle.node_arena.specs.Prologues.{continues};
+ghost use Rattle.node_arena.specs.Machine.{value_of};
 ghost use Rattle.node_arena.specs.Plans.{may_push};
+ghost use Rattle.node_arena.specs.Loads.{IsLoaded};
 ghost use Rattle.node_arena.specs.Seats.{IsReady, role_of, pocket_of};
 ghost use Rattle.two_lock.specs.Values.{IsTwoLock};
 ghost use Rattle.two_lock.specs.Pushes.{CallIsAt, Links};
@@ -17,12 +19,13 @@ use node_arena::{ArenaOf, Held, Seat, word_of};
 
 // With the lock: the node is linked behind the last one and Tail goes on to it, unless the queue is shut; the lock is let
 // go.
-fn push_locked<const B: u32>(
-    arena: &ArenaOf<B>,
-    seat: &mut Seat,
+fn push_locked<const B: u32, T>(
+    arena: &ArenaOf<B, T>,
+    seat: &mut Seat<T>,
     a: ActorOf<B>,
 ) -> Result<(), Refusal>
     requires stands { CallIsAt arena.now seat.old continues lines.A4 a }
+    requires loaded { IsLoaded arena.now (value_of a.val).body seat.old }
     requires role { IsTrue (may_push (role_of seat.old)) }
     ensures { Links arena.now seat.old seat.new a.entry result }
 {
@@ -38,9 +41,9 @@ fn push_locked<const B: u32>(
 }
 
 // The push with the node in the pocket, where `spent` turns of this call failed before.
-pub(crate) fn push_node<const B: u32>(
-    arena: &ArenaOf<B>,
-    seat: &mut Seat,
+pub(crate) fn push_node<const B: u32, T>(
+    arena: &ArenaOf<B, T>,
+    seat: &mut Seat<T>,
     held: Held,
     body: Body,
     spent: u32,
@@ -48,6 +51,7 @@ pub(crate) fn push_node<const B: u32>(
 ) -> Result<(), Refusal>
     requires ready { IsReady arena.now seat.old }
     requires two_lock { IsTwoLock arena.now }
+    requires loaded { IsLoaded arena.now body seat.old }
     requires role { IsTrue (may_push (role_of seat.old)) }
     requires full { pocket_of seat.old ≡ Some held }
     requires turns { spent < turns }

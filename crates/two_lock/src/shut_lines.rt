@@ -14,9 +14,9 @@ use line_table::{Line, line_table};
 use node_arena::{ArenaOf, Seat};
 
 /// `index` turns of this call failed since it began.
-pub(crate) fn s6<const B: u32>(
-    arena: &ArenaOf<B>,
-    seat: &mut Seat,
+pub(crate) fn s6<const B: u32, T>(
+    arena: &ArenaOf<B, T>,
+    seat: &mut Seat<T>,
     a: ActorOf<B>,
     index: u32,
 ) -> Outcome<ActorOf<B>>
@@ -27,7 +27,11 @@ pub(crate) fn s6<const B: u32>(
     line_table!(S6 (setup me a found) first_row (arena seat found index))
 }
 
-pub(crate) fn s7<const B: u32>(arena: &ArenaOf<B>, seat: &mut Seat, mut a: ActorOf<B>) -> ActorOf<B>
+pub(crate) fn s7<const B: u32, T>(
+    arena: &ArenaOf<B, T>,
+    seat: &mut Seat<T>,
+    mut a: ActorOf<B>,
+) -> ActorOf<B>
     requires stands { CallIsAt arena.now seat.old continues lines.S7 a }
     ensures { Follows arena.now seat.old seat.new continues lines.S7 a.entry
         (Outcome.Goes lines.S8 result) }
@@ -36,7 +40,11 @@ pub(crate) fn s7<const B: u32>(arena: &ArenaOf<B>, seat: &mut Seat, mut a: Actor
     line_table!(S7 (setup me a found) row (arena seat found))
 }
 
-pub(crate) fn s8<const B: u32>(arena: &ArenaOf<B>, seat: &mut Seat, mut a: ActorOf<B>) -> ActorOf<B>
+pub(crate) fn s8<const B: u32, T>(
+    arena: &ArenaOf<B, T>,
+    seat: &mut Seat<T>,
+    mut a: ActorOf<B>,
+) -> ActorOf<B>
     requires stands { CallIsAt arena.now seat.old continues lines.S8 a }
     requires role { IsTrue (may_push (role_of seat.old)) }
     ensures { Follows arena.now seat.old seat.new continues lines.S8 a.entry
@@ -47,9 +55,9 @@ pub(crate) fn s8<const B: u32>(arena: &ArenaOf<B>, seat: &mut Seat, mut a: Actor
     line_table!(S8 (setup me a found) row (arena seat found))
 }
 
-pub(crate) fn s9<const B: u32>(
-    arena: &ArenaOf<B>,
-    seat: &mut Seat,
+pub(crate) fn s9<const B: u32, T>(
+    arena: &ArenaOf<B, T>,
+    seat: &mut Seat<T>,
     a: ActorOf<B>,
 ) -> Result<(), Refusal>
     requires stands { CallIsAt arena.now seat.old continues lines.S9 a }

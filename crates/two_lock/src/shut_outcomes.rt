@@ -27,7 +27,7 @@ impl<const B: u32> Model for ActorOf<B> {
 }
 
 /// Registers that hold nothing yet.
-pub(crate) fn blank<const B: u32>(arena: &ArenaOf<B>) -> ActorOf<B> {
+pub(crate) fn blank<const B: u32, T>(arena: &ArenaOf<B, T>) -> ActorOf<B> {
     ActorOf {
         tail: arena.null(),
         due: None,

@@ -15,9 +15,9 @@ use history::Refusal;
 use node_arena::{ArenaOf, Seat};
 
 // With the lock: a closed end is put behind the last node, unless the queue is shut; the lock is let go.
-fn shut_locked<const B: u32>(
-    arena: &ArenaOf<B>,
-    seat: &mut Seat,
+fn shut_locked<const B: u32, T>(
+    arena: &ArenaOf<B, T>,
+    seat: &mut Seat<T>,
     a: ActorOf<B>,
 ) -> Result<(), Refusal>
     requires stands { CallIsAt arena.now seat.old continues lines.S7 a }
@@ -30,9 +30,9 @@ fn shut_locked<const B: u32>(
 }
 
 // The shut. What is in the pocket stays there.
-pub(crate) fn shut_queue<const B: u32>(
-    arena: &ArenaOf<B>,
-    seat: &mut Seat,
+pub(crate) fn shut_queue<const B: u32, T>(
+    arena: &ArenaOf<B, T>,
+    seat: &mut Seat<T>,
     turns: u32,
 ) -> Result<(), Refusal>
     requires ready { IsReady arena.now seat.old }

@@ -1,20 +1,14 @@
 use Rattle.std.proofs.Common.{lit≤, IsTrue, sym, subst}
 use Rattle.line_table.specs.declared.lines.Line.TheVariants.{A5, A7}
-use Rattle.two_lock.proofs.PushTries.{to_a5, to_a6, to_a7, to_shut, links, finds_shut}
+use Rattle.two_lock.proofs.PushTries.{loaded_at_a5, to_a5, to_a6, to_a7, to_shut, links, finds_shut}
 use Rattle.two_lock.proofs.pushing.push_locked.Goals as goal
 use Rattle.node_arena.specs.Plans.{may_push}
 
 pub a5-next-requires : goal.a5-next-requires
-a5-next-requires g c = (
-  lit≤ tt,
-  (
-    lit≤ tt,
-    (
-      to_a5 c.args.arena.now c.args.seat.now c.a4-a.new.seat c.args.a c.a4-a.result A5 c.requires.stands c.a4-a.ensures,
-      subst (λ x. IsTrue (may_push x)) (sym c.a4-a.ensures.did.stored.role) c.requires.role,
-    ),
-  ),
-)
+a5-next-requires g c =
+    let at = to_a5 c.args.arena.now c.args.seat.now c.a4-a.new.seat c.args.a c.a4-a.result A5 c.requires.stands c.a4-a.ensures in
+    let loaded = loaded_at_a5 c.args.arena.now c.args.seat.now c.a4-a.new.seat c.args.a c.a4-a.result A5 c.a4-a.ensures c.requires.loaded in
+    (lit≤ tt, (lit≤ tt, (at, (loaded, subst (λ x. IsTrue (may_push x)) (sym c.a4-a.ensures.did.stored.role) c.requires.role))))
 
 pub a7-requires : goal.a7-requires
 a7-requires g c = (

@@ -1,0 +1,4 @@
+pub mod FreeCounts
+pub mod FreeList
+pub mod TailCounts
+pub mod Lasting
