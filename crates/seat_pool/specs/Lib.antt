@@ -1,0 +1,6 @@
+pub mod Ends
+pub mod Leases
+pub mod Parts
+pub mod Places
+pub mod Pools
+pub mod Words

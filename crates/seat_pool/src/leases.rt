@@ -1,0 +1,161 @@
+//! A seat that was leased, and the calls of its queue.
+ghost use Rattle.std.specs.Prelude.{◌≡◌, ◌<◌, ◌≤◌, [], ◌∷◌, None, IsTrue, IfOk, IfErr, OnOk};
+ghost use Rattle.history.specs.Answers.{Pushed, PopAnswers, DidShut, PushRefused, PopRefused, Meets};
+ghost use Rattle.history.specs.Answers.{StopsPush, StopsPop, StopsShut};
+ghost use Rattle.seat_pool.specs.Parts as parts;
+ghost use Rattle.seat_pool.specs.Places.{Belongs};
+
+use crate::parts::Part;
+use crate::places::{Give, Home, Token};
+use crate::pools::Store;
+use history::{Body, Fifo, Refusal, Taken};
+use std::alloc::Global;
+use std::snapshot::Snapshot;
+use std::sync::Arc;
+
+/// A seat out of its place, with the token that keeps the place.
+#[derive(Drop)]
+pub struct Held<Q: Fifo + Drop> {
+    pub(crate) home: Snapshot<Home<Q>>,
+    pub(crate) token: Token<Q>,
+    pub(crate) seat: Q::Seat,
+    pub(crate) place: usize,
+    pub(crate) part: Part,
+    ghost taken: { token.me ≡ (home.value, (place, None) ∷ []) },
+    ghost belongs: { ∥ Belongs Q.is_seat Q.permits Q.known home.value place part seat ∥₁ },
+}
+
+/// A seat that this lease alone has. A drop gives it back to its pool, with what it has seen, and another thread may lease it.
+pub struct Lease<Q: Fifo + Drop> {
+    pub(crate) pool: Arc<Store<Q>, Global>,
+    pub(crate) held: Held<Q>,
+    ghost home: { held.home.value ≡ pool.value.home },
+    ghost here: { held.place < pool.value.table.shared.table_id.words },
+    ghost table: { held.token.table_id ≡ pool.value.table.shared.table_id },
+}
+
+impl<Q: Fifo + Drop> Held<Q> {
+    pub(crate) fn into_seat(self) -> Q::Seat
+        ensures { result ≡ self.seat }
+    {
+        let Held {
+            home: _,
+            token: _,
+            seat,
+            place: _,
+            part: _,
+        } = self;
+        seat
+    }
+}
+
+impl<Q: Fifo + Drop> Lease<Q> {
+    ghost use Rattle.seat_pool.specs.Leases.{pool_of, part_of, queue_of, seat_of, IsSameLease};
+
+    /// Pushes a body at the back, in so many turns at most, 1 or more. The seat may push.
+    ///
+    /// Refusals: as those of the queue's `try_push`. Takes no memory and doesn't wait.
+    pub fn try_push(&mut self, body: Body, turns: u32) -> Result<(), Refusal>
+        requires part { IsTrue (parts.pushes (part_of self.old)) }
+        requires turns { 1 ≤ turns }
+        //= leases/calls (same, number, pushed, refused, refusal, caused): A call by a lease has the clauses of `Fifo`'s own
+        //=   over what the seat knows, and stays the lease of this seat.
+        ensures same { IsSameLease self.old self.new }
+        ensures number { (Q.known (seat_of self.new)).number ≡ (Q.known (seat_of self.old)).number }
+        ensures pushed { OnOk result
+            (Pushed (Q.known (seat_of self.old)) body (Q.known (seat_of self.new))) }
+        ensures refused { IfErr result
+            (λ refusal. PushRefused (Q.known (seat_of self.old)) refusal
+            (Q.known (seat_of self.new))) }
+        ensures refusal { IfErr result StopsPush }
+        ensures caused { IfErr result
+            (Q.push_cause (queue_of self.old) (seat_of self.old) (seat_of self.new) turns) }
+    {
+        self.pool
+            .home
+            .queue
+            .try_push(&mut self.held.seat, body, turns)
+    }
+
+    /// Takes the value at the front, in so many turns at most, 1 or more; none where the queue was empty. The seat may
+    /// pop.
+    ///
+    /// Refusals: as those of the queue's `try_pop`. Takes no memory and doesn't wait.
+    pub fn try_pop(&mut self, turns: u32) -> Result<Option<Taken>, Refusal>
+        requires part { IsTrue (parts.pops (part_of self.old)) }
+        requires turns { 1 ≤ turns }
+        //= leases/calls (same, number, answer, refused, refusal, caused)
+        ensures same { IsSameLease self.old self.new }
+        ensures number { (Q.known (seat_of self.new)).number ≡ (Q.known (seat_of self.old)).number }
+        ensures answer { IfOk result
+            (λ taken. PopAnswers (Q.known (seat_of self.old)) taken (Q.known (seat_of self.new))) }
+        ensures refused { IfErr result
+            (λ refusal. PopRefused (Q.known (seat_of self.old)) refusal
+            (Q.known (seat_of self.new))) }
+        ensures refusal { IfErr result StopsPop }
+        ensures caused { IfErr result
+            (Q.pop_cause (queue_of self.old) (seat_of self.old) (seat_of self.new) turns) }
+    {
+        self.pool.home.queue.try_pop(&mut self.held.seat, turns)
+    }
+
+    /// Shuts the queue, in so many turns at most, 1 or more: no push stands after it, and what is in the queue stays to
+    /// be popped. The seat may push.
+    ///
+    /// Refusals: as those of the queue's `try_shut`. Takes no memory and doesn't wait.
+    pub fn try_shut(&mut self, turns: u32) -> Result<(), Refusal>
+        requires part { IsTrue (parts.pushes (part_of self.old)) }
+        requires turns { 1 ≤ turns }
+        //= leases/calls (same, number, shut, refused, refusal, caused)
+        ensures same { IsSameLease self.old self.new }
+        ensures number { (Q.known (seat_of self.new)).number ≡ (Q.known (seat_of self.old)).number }
+        ensures shut { OnOk result
+            (DidShut (Q.known (seat_of self.old)) (Q.known (seat_of self.new))) }
+        ensures refused { IfErr result
+            (λ refusal. PushRefused (Q.known (seat_of self.old)) refusal
+            (Q.known (seat_of self.new))) }
+        ensures refusal { IfErr result StopsShut }
+        ensures caused { IfErr result
+            (Q.shut_cause (queue_of self.old) (seat_of self.old) (seat_of self.new) turns) }
+    {
+        self.pool.home.queue.try_shut(&mut self.held.seat, turns)
+    }
+
+    /// Afterwards the seats of both leases, which are of one pool, have seen one history, which begins with what each had
+    /// seen. Takes no memory and doesn't wait.
+    pub fn meet(&mut self, other: &mut Lease<Q>)
+        requires { pool_of other.old ≡ pool_of self.old }
+        //= leases/meet (same, other_same, meets): Two leases of one pool that met have seen one history, as two seats of its
+        //=   queue; each stays the lease of its seat.
+        ensures same { IsSameLease self.old self.new }
+        ensures other_same { IsSameLease other.old other.new }
+        ensures meets { Meets (Q.known (seat_of self.old)) (Q.known (seat_of other.old))
+            (Q.known (seat_of self.new)) (Q.known (seat_of other.new)) }
+    {
+        let queue = &self.pool.home.queue;
+        queue.meet(&mut self.held.seat, &mut other.held.seat);
+    }
+
+    /// What the seat may do. Takes no memory and doesn't wait.
+    pub fn part(&self) -> Part
+        ensures { result ≡ part_of self.now }
+    {
+        self.held.part
+    }
+}
+
+impl<Q: Fifo + Drop> Drop for Lease<Q> {
+    fn drop(self) {
+        let Self { pool, held } = self;
+        let Held {
+            home: _,
+            mut token,
+            seat,
+            place,
+            part,
+        } = held;
+        let shared = &pool.table.shared;
+        drop(shared.exchange(&mut token, place, Some(seat)));
+        shared.store::<Give>(&mut token, place, part.number());
+    }
+}

@@ -1,0 +1,13 @@
+//! Seats that come and go: threads lease the seats of a queue, one after another.
+#![tactic(auto)]
+
+mod closing;
+mod leases;
+mod parts;
+mod places;
+mod pools;
+
+pub use closing::Unclosed;
+pub use leases::Lease;
+pub use parts::Part;
+pub use pools::SeatPool;
