@@ -1,0 +1,152 @@
+//! The ring of the crate `ring_queue`, written plainly.
+use crate::seats::{End, ROOM};
+use std::hint::{black_box, spin_loop};
+use std::sync::atomic::AtomicU64;
+use std::sync::atomic::Ordering::SeqCst;
+
+const TAIL: usize = 0;
+const HEAD: usize = 16;
+const SLOTS: usize = 32;
+const SHUT: u64 = 1 << 62;
+const PARITY: u64 = 1 << 63;
+/// How many places a seat may have in reserve.
+const CREDITS: u64 = 32;
+const PAUSES: u32 = 64;
+const TURNS: u32 = 8;
+
+pub struct Ring {
+    words: Vec<AtomicU64>,
+    slots: u64,
+    most: u64,
+    credits: u64,
+    limit: u64,
+    seats: u64,
+}
+
+/// What a call comes to that is not done.
+#[derive(Clone, Copy, PartialEq, Eq)]
+enum Refusal {
+    Full,
+    Worn,
+    Busy,
+    Closed,
+}
+
+/// A seat of a ring.
+pub struct RingSeat<'a> {
+    ring: &'a Ring,
+    number: u64,
+    head: u64,
+    credits: u64,
+    turns: u32,
+}
+
+impl Ring {
+    pub fn measured(seats: usize) -> Ring {
+        let (most, seats) = (black_box(ROOM as u64), seats as u64);
+        let slots = (most + CREDITS * seats).next_power_of_two();
+        let words: Vec<_> = (0..SLOTS + 2 * slots as usize).map(|_| AtomicU64::new(0)).collect();
+        words[TAIL].store(slots, SeqCst);
+        words[HEAD].store(slots, SeqCst);
+        Ring { words, slots, most, credits: CREDITS, limit: SHUT - 1, seats }
+    }
+
+    pub fn seats(&self) -> impl Iterator<Item = RingSeat<'_>> {
+        (1..=self.seats).map(|number| RingSeat { ring: self, number, head: self.slots, credits: 0, turns: black_box(TURNS) })
+    }
+
+    fn slot(&self, place: u64) -> &AtomicU64 {
+        &self.words[SLOTS + 2 * (place & (self.slots - 1)) as usize]
+    }
+
+    fn parity(&self, place: u64) -> u64 {
+        if place & self.slots == 0 { 0 } else { 1 }
+    }
+
+    fn put(&self, seat: &mut RingSeat, body: u64) -> Result<(), Refusal> {
+        let tail = self.words[TAIL].fetch_add(1, SeqCst);
+        seat.credits -= 1;
+        let (place, payload) = if tail < SHUT { (tail, (seat.number << 48) + body) } else { (tail - SHUT, 0) };
+        self.slot(place).store(self.parity(place) * PARITY + payload, SeqCst);
+        if tail < SHUT { Ok(()) } else { Err(Refusal::Closed) }
+    }
+
+    #[inline(never)]
+    fn try_push(&self, seat: &mut RingSeat, body: u64) -> Result<(), Refusal> {
+        if seat.credits > 0 {
+            return self.put(seat, body);
+        }
+        for _ in 0..seat.turns {
+            let tail = self.words[TAIL].load(SeqCst);
+            if tail >= SHUT {
+                return Err(Refusal::Closed);
+            } else if tail + self.credits * self.seats > self.limit {
+                return Err(Refusal::Worn);
+            } else if tail < seat.head + self.most {
+                seat.credits = self.credits;
+                return self.put(seat, body);
+            }
+            seat.head = self.words[HEAD].load(SeqCst);
+            if self.most <= tail.saturating_sub(seat.head) {
+                return Err(Refusal::Full);
+            }
+        }
+        Err(Refusal::Busy)
+    }
+
+    fn front(&self, seat: &RingSeat) -> Option<u64> {
+        let word = self.slot(seat.head).load(SeqCst);
+        (word >> 63 == self.parity(seat.head)).then_some(word)
+    }
+
+    fn front_twice(&self, seat: &RingSeat) -> Option<u64> {
+        self.front(seat).or_else(|| {
+            (0..PAUSES).for_each(|_| spin_loop());
+            self.front(seat)
+        })
+    }
+
+    #[inline(never)]
+    fn try_pop(&self, seat: &mut RingSeat) -> Result<Option<(u64, u64)>, Refusal> {
+        for _ in 0..seat.turns {
+            let Some(word) = self.front_twice(seat) else {
+                let tail = self.words[TAIL].load(SeqCst);
+                if tail == seat.head {
+                    return Ok(None);
+                } else if tail >= SHUT && tail - SHUT == seat.head {
+                    return Err(Refusal::Closed);
+                }
+                seat.head = self.words[HEAD].load(SeqCst);
+                continue;
+            };
+            let (head, payload) = (seat.head, word % PARITY);
+            if payload == 0 {
+                seat.head = self.words[HEAD].load(SeqCst);
+                if seat.head == head {
+                    return Err(Refusal::Closed);
+                }
+                continue;
+            }
+            match self.words[HEAD].compare_exchange(head, head + 1, SeqCst, SeqCst) {
+                Ok(_) => {
+                    seat.head = head + 1;
+                    return Ok(Some((payload >> 48, payload % (1 << 48))));
+                }
+                Err(found) => seat.head = found,
+            }
+        }
+        Err(Refusal::Busy)
+    }
+}
+
+impl End for RingSeat<'_> {
+    #[inline(always)]
+    fn push(&mut self, body: u64) -> bool {
+        !matches!(self.ring.try_push(self, body), Err(Refusal::Busy | Refusal::Full))
+    }
+
+    #[inline(always)]
+    fn pop(&mut self) -> bool {
+        !matches!(self.ring.try_pop(self), Ok(None) | Err(Refusal::Busy))
+    }
+}

@@ -1,0 +1,207 @@
+-- The opening keeps the rule, and so does a seat that is dealt.
+use Rattle.std.proofs.Common.{◌≡◌, ◌≢◌, ◌⊎◌, ℕ, ◌+◌, ◌-◌, ◌*◌, ◌/◌, ◌%◌, ◌^◌, ◌<◌, ◌≤◌, false, List, [], ◌∷◌, ◌++◌, zero, suc, length, get_or, set, Some, None, slice_get, sym, refl, ap, ◌∙◌, subst, ⊎_elim, inl, inr, arith}
+use Rattle.std.proofs.Math.Arith.{digits_div, digits_mod}
+use Rattle.std.proofs.lemmas.Option.{none-some}
+use Rattle.std.proofs.lemmas.List.Elements.{All-nil}
+use mathlib.Core.Option.{some, some-injective, some-ne-none}
+use lib.ListN.{get_elem?}
+use Rattle.atomic_table.specs.Table.{Me, Splits, opening}
+use Rattle.atomic_table.proofs.Lists.{at_set}
+use Rattle.history.specs.Seats.{IsNoted, IsPermitted, IsSound}
+use Rattle.atomic_table.specs.Seated.{TableId}
+use Rattle.atomic_table.specs.declared.shared.Seat.{Seat as Token}
+use Rattle.ring_queue.specs.declared.roles.Role.{Role}
+use Rattle.ring_queue.specs.declared.queue.RingQueue.{RingQueue}
+use Rattle.ring_queue.specs.declared.seats.Seat.{Seat}
+use Rattle.ring_queue.specs.declared.views.Knowing.{Knowing}
+use Rattle.ring_queue.specs.Making.{AreFirst, IsDealt, AreDealt, HasSlots, IsMade}
+use Rattle.ring_queue.specs.Steps.{Rests}
+use Rattle.ring_queue.specs.Words.{parity, slot_word}
+use Rattle.ring_queue.specs.Plans.{Layout, IsPlanned, IsTable, permits_of}
+use Rattle.ring_queue.specs.Seeing.{SeatView, View, keeper, seated, members, new_seat, knows, known_by, dealt_left, dealt_right}
+use Rattle.ring_queue.specs.Rule.{put, total, Ring, Holds, first_view}
+use Rattle.ring_queue.proofs.Puts.{put_here, put_else, total_bound}
+use Rattle.ring_queue.proofs.Keeps.{cell}
+use Rattle.ring_queue.proofs.Claims.{got_snoc}
+use Rattle.ring_queue.proofs.Tables.{one_of}
+
+pub at_end : {A : Type 0} (l : List A) (a b : A) (j : ℕ) → get_elem? (l ++ a ∷ []) j ≡ some b → (get_elem? l j ≡ some b) ⊎ ((j ≡ length l) × (a ≡ b))
+at_end [] a b zero e = inr (refl, some-injective a b e)
+at_end [] a b (suc j) e = absurd (some-ne-none b (sym e))
+at_end (x ∷ xs) a b zero e = inl e
+at_end (x ∷ xs) a b (suc j) e = ⊎_elim (λ t. inl t) (λ (t : (j ≡ length xs) × (a ≡ b)). inr (ap suc t.0, t.1)) (at_end xs a b j e)
+
+none_at : {A : Type 0} {X : Type 0} (i : ℕ) (b : A) → get_elem? {A = A} [] i ≡ some b → X
+none_at i b e = absurd (some-ne-none b (sym e))
+
+lone : (u w : View) (j : ℕ) → get_elem? (u ∷ []) j ≡ some w → (j ≡ 0) × (u ≡ w)
+lone u w zero e = (refl, some-injective u w e)
+lone u w (suc j) e = none_at j w e
+
+-- a place of the first lap is its own slot's, and of parity 0
+first_slot : (m i : ℕ) → i < m → i % m ≡ i
+first_slot m i lt = ap (λ x. x % m) (let e : i ≡ 0 * m + i = omega arith in e) ∙ digits_mod 0 {m = m} {r = i} lt
+
+first_parity : (m i : ℕ) → i < m → parity m i ≡ 0
+first_parity m i lt = ap (λ x. x % 2) (ap (λ x. x / m) (let e : i ≡ 0 * m + i = omega arith in e) ∙ digits_div 0 {m = m} {r = i} lt)
+
+-- the words at the start are those of an empty ring, whose places of the first lap count as taken
+pub first_ring : (z : Layout) (words : List ℕ) → IsPlanned z → length words ≡ 32 + 2 * z.slots → get_or words 0 0 ≡ z.slots → get_or words 16 0 ≡ z.slots
+    → ((i : ℕ) → i < z.slots → get_or words (slot_word i) 0 ≡ 0) → Ring z words (new_seat z.slots)
+first_ring z words planned wide tail head blank =
+    let none : total (length z.roles) (new_seat z.slots) ≤ 0 * length z.roles = total_bound (length z.roles) 0 (new_seat z.slots) (λ n. omega arith) in
+    let from = planned.from in
+    record {
+      planned = planned;
+      head = z.slots;
+      tail = z.slots;
+      voids = 0;
+      shut = false;
+      values = [];
+      history = [];
+      log = λ p. None;
+      cells = λ i. cell i None;
+      wide = wide;
+      tail_is = tail;
+      head_is = head;
+      leads = refl;
+      taken = omega arith;
+      permitted = All-nil (IsPermitted (permits_of z));
+      counted = omega arith;
+      unshut = λ _. refl;
+      roomy = omega (arith, none);
+      limited = omega (arith, none, from);
+      logged = λ i v at. absurd (none-some v at);
+      marked = λ p _ _. refl;
+      fits = λ p. tt;
+      each_cell = λ i lt. record {
+        slot = first_slot z.slots i lt;
+        claimed = lt;
+        last = omega arith;
+        lies = blank i lt ∙ (let p = first_parity z.slots i lt in let e : 0 ≡ parity z.slots i * 2 ^ 63 + 0 = omega (arith, p) in e);
+      };
+      each_seat = λ n. record {
+        number = refl;
+        behind = omega arith;
+        few = omega arith;
+        rest = [];
+        begins = refl;
+        own = refl;
+        known = refl;
+        noted = All-nil (IsNoted []);
+        stage = tt;
+      };
+    }
+
+-- the rule holds of a new table, in which such words lie
+pub opens : (z : Layout) (words : List ℕ) → Ring z words (new_seat z.slots) → Holds z (opening {S = ℕ} words [] (first_view z))
+opens z words ring = record {
+  seats = new_seat z.slots;
+  ring = ring;
+  dealt = 1;
+  home = 0;
+  owner = λ p. (0, 0);
+  fits = λ j i u v a b. let q = lone (keeper z.slots 1) u j a in none_at i v (ap (λ (y : View). get_elem? (members y) i) q.1 ∙ b);
+  owned = λ j i u v a b. let q = lone (keeper z.slots 1) u j a in none_at i v (ap (λ (y : View). get_elem? (members y) i) q.1 ∙ b);
+  kept = λ j m n a. let q = lone (keeper z.slots 1) (keeper m n) j a in let f = q.1 in (q.0, cc, cc);
+  undealt = λ n over. refl;
+}
+
+-- a seat is dealt
+pub deals : (z : Layout) (id n : ℕ) → Splits {S = ℕ} (Holds z) id (keeper z.slots n) (dealt_left (keeper z.slots n)) (dealt_right (keeper z.slots n))
+deals z id n s h mine =
+    let k = h.kept id z.slots n mine in
+    let dealt : n ≡ h.dealt = k.1 in
+    let l : ℕ = length (set s.views id (keeper z.slots (n + 1))) in
+    let own : ℕ → ℕ × ℕ = put h.owner n (l, 0) in
+    let P : ℕ → ℕ → SeatView → Type 0 = λ j i o. (h.seats o.number ≡ o) × (own o.number ≡ (j, i)) × (o.number < n + 1) in
+    let new : P l 0 (new_seat z.slots n) = (h.undealt n (omega (arith, dealt)), put_here h.owner n n (l, 0) refl, omega arith) in
+    let old : (j i : ℕ) (u : View) (o : SeatView) → get_elem? s.views j ≡ some u → get_elem? (members u) i ≡ some o → P j i o = λ j i u o a b.
+    let t = h.owned j i u o a b in
+    let lt : o.number < n = let x = t.1 in omega (arith, x, dealt) in
+    (h.fits j i u o a b, put_else h.owner n o.number (l, 0) (λ e. omega (arith, e, lt)) ∙ t.0, omega (arith, lt)) in
+    let all : (j i : ℕ) (u : View) (o : SeatView) → get_elem? (set s.views id (keeper z.slots (n + 1)) ++ seated (new_seat z.slots n) ∷ []) j ≡ some u → get_elem? (members u) i ≡ some o → P j i o = λ j i u o a b.
+    ⊎_elim
+    (λ (t : get_elem? (set s.views id (keeper z.slots (n + 1))) j ≡ some u).
+    ⊎_elim (λ (q : (j ≡ id) × (keeper z.slots (n + 1) ≡ u)). none_at i o (ap (λ (y : View). get_elem? (members y) i) q.1 ∙ b))
+    (λ (q : (j ≢ id) × (get_elem? s.views j ≡ some u)). old j i u o q.1 b)
+    (at_set s.views id j (keeper z.slots (n + 1)) u t))
+    (λ (t : (j ≡ l) × (seated (new_seat z.slots n) ≡ u)). let q = one_of (new_seat z.slots n) o i (ap (λ (y : View). get_elem? (members y) i) t.1 ∙ b) in subst (λ (y : ℕ × ℕ × SeatView). P y.0 y.1 y.2) (λ c. (sym t.0 c, sym q.0 c, q.1 c)) new)
+    (at_end (set s.views id (keeper z.slots (n + 1))) (seated (new_seat z.slots n)) u j a) in
+    record {
+      seats = h.seats;
+      ring = h.ring;
+      dealt = n + 1;
+      home = h.home;
+      owner = own;
+      fits = λ j i u o a b. (all j i u o a b).0;
+      owned = λ j i u o a b. let t = all j i u o a b in (t.1, t.2);
+      kept = λ j p m a. ⊎_elim
+          (λ (t : get_elem? (set s.views id (keeper z.slots (n + 1))) j ≡ some (keeper p m)).
+          ⊎_elim (λ (q : (j ≡ id) × (keeper z.slots (n + 1) ≡ keeper p m)). let e = q.1 in (q.0 ∙ k.0, cc, cc))
+          (λ (q : (j ≢ id) × (get_elem? s.views j ≡ some (keeper p m))). absurd (q.0 ((h.kept j p m q.1).0 ∙ sym k.0)))
+          (at_set s.views id j (keeper z.slots (n + 1)) (keeper p m) t))
+          (λ (t : (j ≡ l) × (seated (new_seat z.slots n) ≡ keeper p m)). let e = t.1 in cc)
+          (at_end (set s.views id (keeper z.slots (n + 1))) (seated (new_seat z.slots n)) (keeper p m) j a);
+      undealt = λ p over. h.undealt p (omega (arith, over, dealt));
+    }
+
+-- the same at the names of a call
+pub deals_at : (z about : Layout) (id n : ℕ) (me : Me ℕ View) → about ≡ z → me ≡ (keeper z.slots n, []) → Splits {S = ℕ} (Holds about) id me.0 (dealt_left me.0) (dealt_right me.0)
+deals_at z about id n me same is = subst (λ (y : Layout × Me ℕ View). Splits {S = ℕ} (Holds y.0) id y.1.0 (dealt_left y.1.0) (dealt_right y.1.0)) (λ i. (sym same i, sym is i)) (deals z id n)
+
+-- what a new seat knows is sound
+pub new_is_sound : (z : Layout) (n : ℕ) → IsSound (permits_of z) (known_by (new_seat z.slots n))
+new_is_sound z n = record { legal = (_, refl); permitted = All-nil (IsPermitted (permits_of z)); own = refl; noted = All-nil (IsNoted []) }
+
+-- a seat with the token of a number that was dealt
+pub dealt : (z : Layout) (t : TableId) (n : ℕ) (role : Role) (k : Token ℕ Knowing) (place : ℕ) → IsPlanned z → place ≡ z.slots → 1 ≤ n → slice_get z.roles (n - 1) ≡ Some role → k.table_id ≡ t → k.me ≡ (seated (new_seat z.slots n), [])
+    → IsDealt z t n record { token = k; number = n; role = role; head = place; credits = 0 }
+dealt z t n role k place planned first least permits table me =
+    let is : knows k.me.0 ≡ new_seat z.slots n = ap (λ (y : Me ℕ View). knows y.0) me in
+    record {
+      ready = record {
+        sits = record {
+          table = table;
+          seat = me ∙ ap (λ v. (seated v, [])) (sym is);
+          number = sym (ap (λ v. v.number) is);
+          from = least;
+          role = permits;
+          head = first ∙ sym (ap (λ v. v.head) is);
+          below = let from = planned.from in let limit = planned.limited in omega (arith, first, from, limit);
+          credits = sym (ap (λ v. v.credits) is);
+          sound = subst (λ v. IsSound (permits_of z) (known_by v)) (sym is) (new_is_sound z n);
+        };
+        rests = subst (λ (v : SeatView). Rests v.stage) (sym is) tt;
+      };
+      view = is;
+    }
+
+-- a seat more that was just dealt
+pub one_more : (z : Layout) (t : TableId) (xs : List Seat) (n : ℕ) (s : Seat) → length xs ≡ n → AreDealt z t xs → IsDealt z t (n + 1) s → AreDealt z t (xs ++ s ∷ [])
+one_more z t xs n s len all new k y got = ⊎_elim (λ (h : slice_get xs k ≡ Some y). all k y h) (λ (h : (k ≡ length xs) × (s ≡ y)). subst (λ (q : ℕ × Seat). IsDealt z t (q.0 + 1) q.1) (λ i. (sym (h.0 ∙ len) i, h.1 i)) new) (got_snoc xs s y k got)
+
+-- the rule holds of a new table
+pub opens_first : (z : Layout) (slots : ℕ) (words given : List ℕ) → IsPlanned z → slots ≡ z.slots → given ≡ words → AreFirst slots words → Holds z (opening {S = ℕ} given [] (first_view z))
+opens_first z slots words given planned same is first =
+    subst (λ ws. Holds z (opening {S = ℕ} ws [] (first_view z))) (sym is)
+    (opens z words (first_ring z words planned (first.wide ∙ ap (λ m. 32 + 2 * m) same) (first.tail ∙ same) (first.head ∙ same) (λ i lt. first.blank i (subst (λ m. i < m) (sym same) lt))))
+
+-- it is laid out for its plan
+pub laid_first : (z about : Layout) (slots : ℕ) (t : TableId) (words given : List ℕ) → IsPlanned z → about ≡ z → slots ≡ z.slots → t.words ≡ length given → given ≡ words → AreFirst slots words → t.slots ≡ 0 → IsTable z about t
+laid_first z about slots t words given planned key same count is first none = record { planned = planned; key = key; words = count ∙ (ap length is ∙ (first.wide ∙ ap (λ m. 32 + 2 * m) same)); slots = none }
+
+-- what is built of a plan is a ring of its sizes
+pub made : (most credits limit slots : ℕ) (roles copied : List Role) (q : RingQueue) (seats : List Seat) → copied ≡ roles → HasSlots most credits roles slots
+    → q.plan ≡ record { slots = slots; most = most; credits = credits; limit = limit; roles = copied } → length seats ≡ length copied
+    → AreDealt record { slots = slots; most = most; credits = credits; limit = limit; roles = copied } q.table.shared.table_id seats → IsMade most credits limit roles q seats
+made most credits limit slots roles copied q seats same has is count dealt_all =
+    record {
+      full_at = ap (λ (z : Layout). z.most) is;
+      reserves = ap (λ (z : Layout). z.credits) is;
+      goes_to = ap (λ (z : Layout). z.limit) is;
+      deals = ap (λ (z : Layout). z.roles) is ∙ same;
+      slots = subst (HasSlots most credits roles) (sym (ap (λ (z : Layout). z.slots) is)) has;
+      count = count ∙ ap length same;
+      each = λ k s got. let d = subst (λ (z : Layout). IsDealt z q.table.shared.table_id (k + 1) s) (sym is) (dealt_all k s got) in record { ready = d.ready; view = d.view };
+    }

@@ -1,0 +1,433 @@
+-- Each step on a word keeps the ring's rule.
+use Rattle.std.proofs.Common.{◌≡◌, ◌≢◌, ℕ, suc, ◌+◌, ◌-◌, ◌%◌, ◌<◌, ◌≤◌, true, false, List, [], ◌∷◌, ◌++◌, length, get_or, set, slice_get, Option, Some, None, sym, refl, ap, ◌∙◌, subst, arith, append_assoc, mod-lt}
+use Rattle.std.specs.List.{All, count_by}
+use Rattle.std.proofs.lemmas.List.Sums.{sum_by-append}
+use Rattle.std.proofs.lemmas.List.{get_or-set_other, get_or-set_same, length-set}
+use Rattle.std.proofs.lemmas.Option.{same_Some, none-some}
+use Rattle.std.proofs.Math.Nat.{add-mod_right}
+use Rattle.history.specs.declared.operations.Entry.{Entry}
+use Rattle.history.specs.declared.operations.Entry.TheVariants.{Pop, Shut}
+use Rattle.history.specs.declared.operations.Taken.{Taken}
+use Rattle.history.specs.Entries.{own_entries, is_pop, Leads}
+use Rattle.history.specs.Seats.{IsPermitted}
+use Rattle.ring_queue.specs.Words.{face, slot_word, tail_word}
+use Rattle.ring_queue.specs.Plans.{Layout, reserve, permits_of}
+use Rattle.ring_queue.specs.Seeing.{Stage, rests, saw, claimed, found, SeatView}
+use Rattle.ring_queue.specs.Rule.{Cell, Log, FitsWord, Lies, CellOk, Stands, SeatOk, total, put, Ring}
+use Rattle.ring_queue.proofs.Numbers.{same_place}
+use Rattle.ring_queue.proofs.Puts.{same_or_not, put_else, put_each, total_same}
+use Rattle.ring_queue.proofs.Histories.{own_other, all_one, leads_pop, leads_shut}
+
+-- a cell
+abbrev pub cell : ℕ → Option ℕ → Cell
+cell p f = record { place = p; filler = f }
+
+-- a seat that took no part in a step still fits
+pub seat_stays : (z : Layout) (head tail live head' tail' live' : ℕ) (log log' : Log) (cells cells' : ℕ → Cell) (history es : List Entry) (n : ℕ) (v : SeatView)
+    → head ≤ head' → own_entries n (history ++ es) ≡ own_entries n history
+    → (Stands z.slots head tail live log cells v v.stage → Stands z.slots head' tail' live' log' cells' v v.stage)
+    → SeatOk z head tail live log cells history n v → SeatOk z head' tail' live' log' cells' (history ++ es) n v
+seat_stays z head tail live head' tail' live' log log' cells cells' history es n v le own stands k =
+    let b = k.behind in
+    record {
+      number = k.number;
+      behind = omega (arith, b, le);
+      few = k.few;
+      rest = k.rest ++ es;
+      begins = ap (λ h. h ++ es) k.begins ∙ append_assoc v.seen k.rest es;
+      own = own ∙ k.own;
+      known = k.known;
+      noted = k.noted;
+      stage = stands k.stage;
+    }
+
+-- what one seat stands for goes on, whatever it is
+module _ (m head tail live head' tail' live' : ℕ) (log log' : Log) (cells cells' : ℕ → Cell) (v : SeatView) where
+  pub stands_on : live ≤ live'
+      → ((p : ℕ) (x : Option Taken) → cells (p % m) ≡ cell p (Some v.number) → log p ≡ x → (cells' (p % m) ≡ cell p (Some v.number)) × (log' p ≡ x))
+      → ((w : ℕ) → (v.head ≡ head → (head < tail) × (w ≡ face m head (log head)) × (cells (head % m) ≡ cell head None)) → v.head ≡ head' → (head' < tail') × (w ≡ face m head' (log' head')) × (cells' (head' % m) ≡ cell head' None))
+      → (st : Stage) → Stands m head tail live log cells v st → Stands m head' tail' live' log' cells' v st
+  stands_on more claims finds rests k = tt
+  stands_on more claims finds (saw t) k = omega (arith, k, more)
+  stands_on more claims finds (claimed p x) k = claims p x k.0 k.1
+  stands_on more claims finds (found w) k = finds w k
+
+module _ (z : Layout) (words : List ℕ) (seats : ℕ → SeatView) (r : Ring z words seats) where
+  abbrev m : ℕ
+  m = z.slots
+
+  abbrev live : ℕ
+  live = r.head + length r.values
+
+  -- there is a slot
+  pub some_slot : 0 < m
+  some_slot = let p = r.planned in let a = p.room in let b = p.some in omega (arith, a, b)
+
+  -- Head is not above Tail
+  pub head_below : r.head ≤ r.tail
+  head_below = let c = r.counted in omega (arith, c)
+
+  -- a load, or any step that writes what it found: the words stay, and what the seats know changes
+  pub renewed : (seats' : ℕ → SeatView) → ((k : ℕ) → SeatOk z r.head r.tail live r.log r.cells r.history k (seats' k))
+      → r.tail + total (length z.roles) seats' ≤ (r.head + z.most) + reserve z → r.tail + total (length z.roles) seats' ≤ z.limit
+      → Ring z words seats'
+  renewed seats' each room limit = record {
+    planned = r.planned;
+    head = r.head;
+    tail = r.tail;
+    voids = r.voids;
+    shut = r.shut;
+    values = r.values;
+    history = r.history;
+    log = r.log;
+    cells = r.cells;
+    wide = r.wide;
+    tail_is = r.tail_is;
+    head_is = r.head_is;
+    leads = r.leads;
+    taken = r.taken;
+    permitted = r.permitted;
+    counted = r.counted;
+    unshut = r.unshut;
+    roomy = room;
+    limited = limit;
+    logged = r.logged;
+    marked = r.marked;
+    fits = r.fits;
+    each_cell = r.each_cell;
+    each_seat = each;
+  }
+
+  -- one seat's view changes
+  pub watches : (n : ℕ) (v : SeatView) → SeatOk z r.head r.tail live r.log r.cells r.history n v
+      → r.tail + total (length z.roles) (put seats n v) ≤ (r.head + z.most) + reserve z → r.tail + total (length z.roles) (put seats n v) ≤ z.limit
+      → Ring z words (put seats n v)
+  watches n v ok room limit = renewed (put seats n v) (λ k. put_each seats n k v (SeatOk z r.head r.tail live r.log r.cells r.history) ok (λ ne. r.each_seat k)) room limit
+
+  -- the slot of the next place had one a lap before
+  pub next_on : r.tail ≡ (r.cells (r.tail % m)).place + m
+  next_on =
+      let c : Cell = r.cells (r.tail % m) in
+      let ok : CellOk m r.head r.tail r.log words (r.tail % m) c = r.each_cell (r.tail % m) (mod-lt r.tail some_slot) in
+      let a = ok.claimed in
+      let b = ok.last in
+      same_place m r.tail (c.place + m) some_slot (sym (add-mod_right c.place m ∙ ok.slot)) (omega (arith, b, some_slot)) (omega (arith, a))
+
+  -- the place of the slot of the next place that was claimed last is filled, where there is room
+  pub next_is_filled : r.tail < r.head + m → (r.cells (r.tail % m)) ≡ cell (r.tail - m) None
+  next_is_filled room =
+      let i : ℕ = r.tail % m in
+      let c : Cell = r.cells i in
+      let ok : CellOk m r.head r.tail r.log words i c = r.each_cell i (mod-lt r.tail some_slot) in
+      let is = next_on in
+      let place : c.place ≡ r.tail - m = omega (arith, is) in
+      go c.place c.filler ok.lies place (omega (arith, is, room))
+    where
+      go : (p : ℕ) (f : Option ℕ) → Lies m r.head r.log (get_or words (slot_word (r.tail % m)) 0) p f → p ≡ r.tail - m → p < r.head → cell p f ≡ cell (r.tail - m) None
+      go p None lies e lt = ap (λ q. cell q None) e
+      go p (Some n) lies e lt = absurd (let h = lies.2 in omega (arith, h, lt))
+
+  -- what no place of the log before Tail is changed by
+  pub log_before : (x : Option Taken) (p : ℕ) → p < r.tail → put r.log r.tail x p ≡ r.log p
+  log_before x p lt = put_else r.log r.tail p x (λ e. omega (arith, e, lt))
+
+  -- the words of slots and of Head are apart from Tail
+  slot_after_tail : (w i : ℕ) → get_or (set words 0 w) (slot_word i) 0 ≡ get_or words (slot_word i) 0
+  slot_after_tail w i = get_or-set_other words 0 (slot_word i) w 0 (λ e. omega (arith, e))
+
+  -- a cell that isn't that of the place claimed
+  cell_beside : (n w i : ℕ) (x : Option Taken) → i ≢ r.tail % m → (c : Cell) → CellOk m r.head r.tail r.log words i c → CellOk m r.head (r.tail + 1) (put r.log r.tail x) (set words 0 w) i c
+  cell_beside n w i x ne c ok =
+      let a = ok.claimed in
+      let b = ok.last in
+      record {
+        slot = ok.slot;
+        claimed = omega (arith, a);
+        last = same_or_not r.tail (c.place + m)
+            (λ e. absurd (ne (sym ok.slot ∙ (sym (add-mod_right c.place m) ∙ ap (λ q. q % m) (sym e)))))
+            (λ apart. omega (arith, b, apart));
+        lies = go c.place c.filler a ok.lies;
+      }
+    where
+      go : (p : ℕ) (f : Option ℕ) → p < r.tail → Lies m r.head r.log (get_or words (slot_word i) 0) p f → Lies m r.head (put r.log r.tail x) (get_or (set words 0 w) (slot_word i) 0) p f
+      go p None lt lies = slot_after_tail w i ∙ (lies ∙ ap (face m p) (sym (log_before x p lt)))
+      go p (Some j) lt lies = (slot_after_tail w i ∙ (lies.0 ∙ ap (face m (p - m)) (sym (log_before x (p - m) (omega (arith, lt))))), lies.1, lies.2)
+
+  -- the cell of the place claimed
+  cell_claimed : (n w : ℕ) (x : Option Taken) → r.tail < r.head + m → CellOk m r.head (r.tail + 1) (put r.log r.tail x) (set words 0 w) (r.tail % m) (cell r.tail (Some n))
+  cell_claimed n w x room =
+      let i : ℕ = r.tail % m in
+      let is = next_is_filled room in
+      let ok : CellOk m r.head r.tail r.log words i (cell (r.tail - m) None) = subst (CellOk m r.head r.tail r.log words i) is (r.each_cell i (mod-lt r.tail some_slot)) in
+      let lt = ok.claimed in
+      let b = head_below in
+      let pos = some_slot in
+      let next = next_on in
+      let on : m ≤ r.tail = omega (arith, next) in
+      record {
+        slot = refl;
+        claimed = omega arith;
+        last = omega (arith, pos);
+        lies = (slot_after_tail w i ∙ (ok.lies ∙ ap (face m (r.tail - m)) (sym (log_before x (r.tail - m) (omega (arith, lt))))), on, b);
+      }
+
+  -- what others stand for while a place is claimed
+  others_claim : (n live' : ℕ) (x : Option Taken) (k : ℕ) (v : SeatView) → v.number ≡ k → k ≢ n → r.tail < r.head + m → live ≤ live'
+      → (st : Stage) → Stands m r.head r.tail live r.log r.cells v st
+      → Stands m r.head (r.tail + 1) live' (put r.log r.tail x) (put r.cells (r.tail % m) (cell r.tail (Some n))) v st
+  others_claim n live' x k v is ne room more st old =
+      stands_on m r.head r.tail live r.head (r.tail + 1) live' r.log (put r.log r.tail x) r.cells (put r.cells (r.tail % m) (cell r.tail (Some n))) v more
+      (λ p y mine filled.
+      let lt : p < r.tail = place_claimed p (Some v.number) mine in (
+        put_else r.cells (r.tail % m) (p % m) (cell r.tail (Some n)) (λ e. none-some v.number (ap (λ (c : Cell). c.filler) (sym (next_is_filled room) ∙ (ap r.cells (sym e) ∙ mine)))) ∙ mine,
+        log_before x p lt ∙ filled,
+      ))
+      (λ w knows e.
+      let t = knows e in
+      let lt = t.0 in (
+        omega (arith, lt),
+        t.1 ∙ ap (face m r.head) (sym (log_before x r.head lt)),
+        put_else r.cells (r.tail % m) (r.head % m) (cell r.tail (Some n)) (λ same. absurd (
+            let one : r.head ≡ r.tail = same_place m r.head r.tail some_slot same (omega (arith, lt, some_slot)) (omega (arith, room)) in omega (arith, one, lt))) ∙ t.2,
+      ))
+      st old
+    where
+      place_claimed : (p : ℕ) (f : Option ℕ) → r.cells (p % m) ≡ cell p f → p < r.tail
+      place_claimed p f is = subst (λ (c : Cell). c.place < r.tail) is (r.each_cell (p % m) (mod-lt p some_slot)).claimed
+
+  -- a place is claimed
+  pub claims : (n : ℕ) (v : SeatView) (x : Option Taken) (values' : List Taken) (voids' : ℕ) (es : List Entry) → r.tail < r.head + m → FitsWord x
+      → Leads (r.history ++ es) r.shut values' → All (IsPermitted (permits_of z)) (r.history ++ es)
+      → (r.head + length values') + voids' ≡ r.tail + 1 → live ≤ r.head + length values' → (r.shut ≡ false → voids' ≡ 0)
+      → ((i : ℕ) (u : Taken) → slice_get values' i ≡ Some u → put r.log r.tail x (r.head + i) ≡ Some u)
+      → ((p : ℕ) → r.head + length values' ≤ p → p < r.tail + 1 → put r.log r.tail x p ≡ None)
+      → ((k : ℕ) → k ≢ n → own_entries k (r.history ++ es) ≡ own_entries k r.history) → count_by is_pop (r.history ++ es) ≡ count_by is_pop r.history
+      → SeatOk z r.head (r.tail + 1) (r.head + length values') (put r.log r.tail x) (put r.cells (r.tail % m) (cell r.tail (Some n))) (r.history ++ es) n v
+      → total (length z.roles) (put seats n v) + 1 ≡ total (length z.roles) seats
+      → Ring z (set words 0 (tail_word (r.tail + 1) r.shut)) (put seats n v)
+  claims n v x values' voids' es room fit leads permitted counted more unshut logged marked others keep ok spends =
+      let w : ℕ = tail_word (r.tail + 1) r.shut in
+      let wide = r.wide in
+      let a = r.roomy in
+      let b = r.limited in
+      record {
+        planned = r.planned;
+        head = r.head;
+        tail = r.tail + 1;
+        voids = voids';
+        shut = r.shut;
+        values = values';
+        history = r.history ++ es;
+        log = put r.log r.tail x;
+        cells = put r.cells (r.tail % m) (cell r.tail (Some n));
+        wide = length-set words 0 w ∙ wide;
+        tail_is = get_or-set_same words 0 w 0 (omega (arith, wide));
+        head_is = get_or-set_other words 0 16 w 0 (λ e. omega (arith, e)) ∙ r.head_is;
+        leads = leads;
+        taken = r.taken ∙ ap (λ k. m + k) (sym keep);
+        permitted = permitted;
+        counted = counted;
+        unshut = unshut;
+        roomy = omega (arith, a, spends);
+        limited = omega (arith, b, spends);
+        logged = logged;
+        marked = marked;
+        fits = λ p. put_each r.log r.tail p x (λ q y. FitsWord y) fit (λ ne. r.fits p);
+        each_cell = λ i lt. put_each r.cells (r.tail % m) i (cell r.tail (Some n)) (CellOk m r.head (r.tail + 1) (put r.log r.tail x) (set words 0 w))
+            (cell_claimed n w x room) (λ ne. cell_beside n w i x ne (r.cells i) (r.each_cell i lt));
+        each_seat = λ k. put_each seats n k v (SeatOk z r.head (r.tail + 1) (r.head + length values') (put r.log r.tail x) (put r.cells (r.tail % m) (cell r.tail (Some n))) (r.history ++ es)) ok
+            (λ ne. seat_stays z r.head r.tail live r.head (r.tail + 1) (r.head + length values') r.log (put r.log r.tail x) r.cells (put r.cells (r.tail % m) (cell r.tail (Some n))) r.history es k (seats k)
+            (omega arith) (others k ne) (others_claim n (r.head + length values') x k (seats k) (r.each_seat k).number ne room more (seats k).stage) (r.each_seat k));
+      }
+
+  -- where the slot of a place lies
+  slot_within : (p : ℕ) → slot_word (p % m) < length words
+  slot_within p = let lt : p % m < m = mod-lt p some_slot in let w = r.wide in omega (arith, lt, w)
+
+  -- a place is filled by the seat that claimed it
+  pub fills : (n p : ℕ) (x : Option Taken) (v : SeatView) → r.cells (p % m) ≡ cell p (Some n) → r.log p ≡ x
+      → SeatOk z r.head r.tail live r.log (put r.cells (p % m) (cell p None)) r.history n v
+      → v.credits ≡ (seats n).credits
+      → Ring z (set words (slot_word (p % m)) (face m p x)) (put seats n v)
+  fills n p x v mine filled ok same =
+      let i : ℕ = p % m in
+      let w : ℕ = face m p x in
+      let cells' : ℕ → Cell = put r.cells i (cell p None) in
+      let words' : List ℕ = set words (slot_word i) w in
+      let near : i < m = mod-lt p some_slot in
+      let old : CellOk m r.head r.tail r.log words i (cell p (Some n)) = subst (CellOk m r.head r.tail r.log words i) mine (r.each_cell i near) in
+      let totals : total (length z.roles) (put seats n v) ≡ total (length z.roles) seats = total_same (length z.roles) seats (put seats n v)
+      (λ k. put_each seats n k v (λ q (u : SeatView). u.credits ≡ (seats q).credits) same (λ _. refl)) in
+      let a = r.roomy in
+      let b = r.limited in
+      record {
+        planned = r.planned;
+        head = r.head;
+        tail = r.tail;
+        voids = r.voids;
+        shut = r.shut;
+        values = r.values;
+        history = r.history;
+        log = r.log;
+        cells = cells';
+        wide = length-set words (slot_word i) w ∙ r.wide;
+        tail_is = get_or-set_other words (slot_word i) 0 w 0 (λ e. omega (arith, e)) ∙ r.tail_is;
+        head_is = get_or-set_other words (slot_word i) 16 w 0 (λ e. omega (arith, e)) ∙ r.head_is;
+        leads = r.leads;
+        taken = r.taken;
+        permitted = r.permitted;
+        counted = r.counted;
+        unshut = r.unshut;
+        roomy = omega (arith, a, totals);
+        limited = omega (arith, b, totals);
+        logged = r.logged;
+        marked = r.marked;
+        fits = r.fits;
+        each_cell = λ j lt. put_each r.cells i j (cell p None) (CellOk m r.head r.tail r.log words')
+            (record { slot = old.slot; claimed = old.claimed; last = old.last; lies = get_or-set_same words (slot_word i) w 0 (slot_within p) ∙ ap (face m p) (sym filled) })
+            (λ ne. cell_apart i j w ne (r.cells j) (r.each_cell j lt));
+        each_seat = λ k. put_each seats n k v (SeatOk z r.head r.tail live r.log cells' r.history) ok
+            (λ ne. let g = r.each_seat k in record {
+              number = g.number;
+              behind = g.behind;
+              few = g.few;
+              rest = g.rest;
+              begins = g.begins;
+              own = g.own;
+              known = g.known;
+              noted = g.noted;
+              stage = others_fill k (seats k) g.number ne (seats k).stage g.stage;
+            });
+      }
+    where
+      cell_apart : (i j w : ℕ) → j ≢ i → (c : Cell) → CellOk m r.head r.tail r.log words j c → CellOk m r.head r.tail r.log (set words (slot_word i) w) j c
+      cell_apart i j w ne c k = record {
+        slot = k.slot;
+        claimed = k.claimed;
+        last = k.last;
+        lies = subst (λ (y : ℕ). Lies m r.head r.log y c.place c.filler) (sym (get_or-set_other words (slot_word i) (slot_word j) w 0 (λ e. ne (omega (arith, e))))) k.lies;
+      }
+
+      others_fill : (k : ℕ) (u : SeatView) → u.number ≡ k → k ≢ n → (st : Stage) → Stands m r.head r.tail live r.log r.cells u st → Stands m r.head r.tail live r.log (put r.cells (p % m) (cell p None)) u st
+      others_fill k u is ne st before =
+          stands_on m r.head r.tail live r.head r.tail live r.log r.log r.cells (put r.cells (p % m) (cell p None)) u (omega arith)
+          (λ q y theirs lies.
+          (put_else r.cells (p % m) (q % m) (cell p None) (λ e. ne (sym is ∙ same_Some _ _ (ap (λ (c : Cell). c.filler) (sym theirs ∙ (ap r.cells e ∙ mine))))) ∙ theirs, lies))
+          (λ w knows e.
+          let t = knows e in
+          (t.0, t.1, put_else r.cells (p % m) (r.head % m) (cell p None) (λ e. none-some n (ap (λ (c : Cell). c.filler) (sym t.2 ∙ (ap r.cells e ∙ mine)))) ∙ t.2))
+          st before
+
+  -- the first value is popped: Head is one more
+  pub pops : (n : ℕ) (v : SeatView) (y : Taken) (ys : List Taken) → r.values ≡ y ∷ ys → r.cells (r.head % m) ≡ cell r.head None
+      → IsPermitted (permits_of z) (Pop n y)
+      → SeatOk z (r.head + 1) r.tail ((r.head + 1) + length ys) r.log r.cells (r.history ++ Pop n y ∷ []) n v
+      → v.credits ≡ (seats n).credits
+      → Ring z (set words 16 (r.head + 1)) (put seats n v)
+  pops n v y ys is front permit ok same =
+      let w : ℕ = r.head + 1 in
+      let words' : List ℕ = set words 16 w in
+      let wide = r.wide in
+      let lengths : length r.values ≡ length ys + 1 = ap length is ∙ (let e : suc (length ys) ≡ length ys + 1 = omega arith in e) in
+      let totals : total (length z.roles) (put seats n v) ≡ total (length z.roles) seats = total_same (length z.roles) seats (put seats n v)
+      (λ k. put_each seats n k v (λ q (u : SeatView). u.credits ≡ (seats q).credits) same (λ _. refl)) in
+      let a = r.roomy in
+      let b = r.limited in
+      let c = r.counted in
+      record {
+        planned = r.planned;
+        head = r.head + 1;
+        tail = r.tail;
+        voids = r.voids;
+        shut = r.shut;
+        values = ys;
+        history = r.history ++ Pop n y ∷ [];
+        log = r.log;
+        cells = r.cells;
+        wide = length-set words 16 w ∙ wide;
+        tail_is = get_or-set_other words 16 0 w 0 (λ e. omega (arith, e)) ∙ r.tail_is;
+        head_is = get_or-set_same words 16 w 0 (omega (arith, wide, some_slot));
+        taken = ap (λ k. k + 1) r.taken ∙ (let e : (m + count_by is_pop r.history) + 1 ≡ m + (count_by is_pop r.history + 1) = omega arith in e) ∙ ap (λ k. m + k) (sym (sum_by-append _ r.history (Pop n y ∷ [])));
+        leads = leads_pop r.history r.shut y ys n (subst (Leads r.history r.shut) is r.leads);
+        permitted = all_one (IsPermitted (permits_of z)) r.history (Pop n y) r.permitted permit;
+        counted = omega (arith, c, lengths);
+        unshut = r.unshut;
+        roomy = omega (arith, a, totals);
+        limited = omega (arith, b, totals);
+        logged = λ i u at. let e : r.head + 1 + i ≡ r.head + suc i = omega arith in ap r.log e ∙ r.logged (suc i) u (ap (λ vs. slice_get vs (suc i)) is ∙ at);
+        marked = λ p from to. r.marked p (omega (arith, from, lengths)) to;
+        fits = r.fits;
+        each_cell = λ j lt. cell_on w j (r.cells j) refl (r.each_cell j lt);
+        each_seat = λ k. put_each seats n k v (SeatOk z (r.head + 1) r.tail ((r.head + 1) + length ys) r.log r.cells (r.history ++ Pop n y ∷ [])) ok
+            (λ ne. seat_stays z r.head r.tail live (r.head + 1) r.tail ((r.head + 1) + length ys) r.log r.log r.cells r.cells r.history (Pop n y ∷ []) k (seats k)
+            (omega arith) (own_other k r.history (Pop n y) (λ e. ne (sym e))) (others_pop (omega (arith, lengths)) (seats k) (r.each_seat k).behind (seats k).stage) (r.each_seat k));
+      }
+    where
+      cell_on : (w j : ℕ) (d : Cell) → r.cells j ≡ d → CellOk m r.head r.tail r.log words j d → CellOk m (r.head + 1) r.tail r.log (set words 16 w) j d
+      cell_on w j d at k = record {
+        slot = k.slot;
+        claimed = k.claimed;
+        last = k.last;
+        lies = subst (λ (y : ℕ). Lies m (r.head + 1) r.log y d.place d.filler) (sym (get_or-set_other words 16 (slot_word j) w 0 (λ e. omega (arith, e))))
+            (go d.place d.filler k.slot at k.lies);
+      }
+        where
+          go : (p : ℕ) (f : Option ℕ) → p % m ≡ j → r.cells j ≡ cell p f → Lies m r.head r.log (get_or words (slot_word j) 0) p f → Lies m (r.head + 1) r.log (get_or words (slot_word j) 0) p f
+          go p None slot is lies = lies
+          go p (Some i) slot is lies =
+              let le = lies.2 in
+              let apart : p ≢ r.head = λ e. none-some i (ap (λ (c : Cell). c.filler) (sym front ∙ (ap (λ q. r.cells (q % m)) (sym e) ∙ (ap r.cells slot ∙ is)))) in
+              (lies.0, lies.1, omega (arith, le, apart))
+
+      others_pop : live ≤ r.head + 1 + length ys → (u : SeatView) → u.head ≤ r.head → (st : Stage) → Stands m r.head r.tail live r.log r.cells u st → Stands m (r.head + 1) r.tail ((r.head + 1) + length ys) r.log r.cells u st
+      others_pop more u behind st before =
+          stands_on m r.head r.tail live (r.head + 1) r.tail ((r.head + 1) + length ys) r.log r.log r.cells r.cells u more
+          (λ q x theirs lies. (theirs, lies))
+          (λ w knows e. absurd (omega (arith, behind, e)))
+          st before
+
+  -- the queue is shut
+  pub shuts : (n : ℕ) (v : SeatView) → r.shut ≡ false → IsPermitted (permits_of z) (Shut n)
+      → SeatOk z r.head r.tail live r.log r.cells (r.history ++ Shut n ∷ []) n v
+      → v.credits ≡ (seats n).credits
+      → Ring z (set words 0 (tail_word r.tail true)) (put seats n v)
+  shuts n v unshut permit ok same =
+      let w : ℕ = tail_word r.tail true in
+      let wide = r.wide in
+      let totals : total (length z.roles) (put seats n v) ≡ total (length z.roles) seats = total_same (length z.roles) seats (put seats n v)
+      (λ k. put_each seats n k v (λ q (u : SeatView). u.credits ≡ (seats q).credits) same (λ _. refl)) in
+      let a = r.roomy in
+      let b = r.limited in
+      record {
+        planned = r.planned;
+        head = r.head;
+        tail = r.tail;
+        voids = r.voids;
+        shut = true;
+        values = r.values;
+        history = r.history ++ Shut n ∷ [];
+        log = r.log;
+        cells = r.cells;
+        wide = length-set words 0 w ∙ wide;
+        tail_is = get_or-set_same words 0 w 0 (omega (arith, wide));
+        head_is = get_or-set_other words 0 16 w 0 (λ e. omega (arith, e)) ∙ r.head_is;
+        taken = r.taken ∙ ap (λ k. m + k) ((let e : count_by is_pop r.history ≡ count_by is_pop r.history + 0 = omega arith in e) ∙ sym (sum_by-append _ r.history (Shut n ∷ [])));
+        leads = leads_shut r.history r.values n (subst (λ b. Leads r.history b r.values) unshut r.leads);
+        permitted = all_one (IsPermitted (permits_of z)) r.history (Shut n) r.permitted permit;
+        counted = r.counted;
+        unshut = λ e. r.unshut unshut;
+        roomy = omega (arith, a, totals);
+        limited = omega (arith, b, totals);
+        logged = r.logged;
+        marked = r.marked;
+        fits = r.fits;
+        each_cell = λ j lt. let k = r.each_cell j lt in record {
+          slot = k.slot;
+          claimed = k.claimed;
+          last = k.last;
+          lies = subst (λ (y : ℕ). Lies m r.head r.log y (r.cells j).place (r.cells j).filler) (sym (slot_after_tail w j)) k.lies;
+        };
+        each_seat = λ k. put_each seats n k v (SeatOk z r.head r.tail live r.log r.cells (r.history ++ Shut n ∷ [])) ok
+            (λ ne. seat_stays z r.head r.tail live r.head r.tail live r.log r.log r.cells r.cells r.history (Shut n ∷ []) k (seats k)
+            (omega arith) (own_other k r.history (Shut n) (λ e. ne (sym e))) (λ s. s) (r.each_seat k));
+      }

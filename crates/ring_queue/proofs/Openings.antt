@@ -1,0 +1,42 @@
+-- The seats of a new ring, in words of queues.
+use Rattle.std.proofs.Common.{◌≡◌, ℕ, suc, ◌+◌, List, [], ◌∷◌, length, map, Option, Some, None, option_map, slice_get, refl, sym, ap, ◌∙◌}
+use Rattle.std.specs.List.{All}
+use Rattle.std.proofs.lemmas.List.{length-map}
+use Rattle.std.proofs.lemmas.List.Elements.{All-nil, All-cons}
+use Rattle.std.proofs.lemmas.Option.{slice_get-map, none-some, same_Some}
+use Rattle.history.specs.Seats.{Known}
+use Rattle.history.specs.Openings.{AreNew, newcomer}
+use Rattle.ring_queue.specs.declared.roles.Role.{Role}
+use Rattle.ring_queue.specs.declared.queue.RingQueue.{RingQueue}
+use Rattle.ring_queue.specs.declared.seats.Seat.{Seat}
+use Rattle.ring_queue.specs.Plans.{permit_of, permits_by}
+use Rattle.ring_queue.specs.Seeing.{known_by}
+use Rattle.ring_queue.specs.Seats.{known_of}
+use Rattle.ring_queue.specs.Queues.{IsQueueSeat, permits_in}
+use Rattle.ring_queue.specs.Making.{IsMade}
+
+-- what holds at each place of a list holds of all
+all_places : {A : Type 0} (P : A → Type 0) (xs : List A) → ((k : ℕ) (x : A) → slice_get xs k ≡ Some x → P x) → All P xs
+all_places P [] h = All-nil P
+all_places P (x ∷ xs) h = All-cons P x xs (h 0 x refl) (all_places P xs (λ k y e. h (suc k) y e))
+
+module _ (most credits limit : ℕ) (roles : List Role) (q : RingQueue) (seats : List Seat) (m : IsMade most credits limit roles q seats) where
+  -- each seat of a new ring may begin a call
+  pub made_ready : All (IsQueueSeat q) seats
+  made_ready = all_places (IsQueueSeat q) seats (λ k s e. (m.each k s e).ready)
+
+  -- a new ring permits what its roles do
+  pub made_permits : permits_in q ≡ permits_by roles
+  made_permits = ap permits_by m.deals
+
+  new_at : (k : ℕ) (c : Known) (o : Option Seat) → slice_get seats k ≡ o → option_map known_of o ≡ Some c → c ≡ newcomer (k + 1)
+  new_at k c None e h = absurd (none-some c h)
+  new_at k c (Some s) e h = sym (same_Some (known_of s) c h) ∙ ap known_by (m.each k s e).view
+
+  -- and its seats are all that it has, none of which has made a call
+  pub made_new : AreNew (permits_in q) (map known_of seats)
+  made_new =
+      record {
+        count = length-map seats known_of ∙ m.count ∙ sym (length-map roles permit_of) ∙ ap length (sym made_permits);
+        each = λ k c e. new_at k c (slice_get seats k) refl (sym (slice_get-map known_of seats k) ∙ e);
+      }

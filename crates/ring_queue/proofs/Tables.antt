@@ -1,0 +1,119 @@
+-- One seat's step, as the table has it.
+use Rattle.std.proofs.Common.{◌≡◌, ◌≢◌, ℕ, ◌+◌, ◌^◌, ◌<◌, ◌≤◌, List, [], ◌∷◌, zero, suc, length, set, sym, refl, ap, ◌∙◌, subst, ⊎_elim, arith, append-nil}
+use Rattle.std.specs.List.{All}
+use mathlib.Core.Option.{some, some-injective, some-ne-none}
+use lib.ListN.{get_elem?}
+use Rattle.atomic_table.specs.Table.{State}
+use Rattle.atomic_table.proofs.Lists.{at_set}
+use Rattle.history.specs.Entries.{own_entries, Leads}
+use Rattle.history.specs.Seats.{IsSound, IsNoted, IsPermitted}
+use Rattle.ring_queue.specs.Plans.{Layout, permits_of}
+use Rattle.ring_queue.specs.Seeing.{SeatView, View, keeper, seated, members, known_by}
+use Rattle.ring_queue.specs.Rule.{Stands, SeatOk, total, put, Ring, Holds}
+use Rattle.ring_queue.specs.Steps.{Learns}
+use Rattle.ring_queue.proofs.Puts.{put_here, put_else, put_each, total_same}
+use Rattle.ring_queue.proofs.Histories.{all_first, legal_first, all_noted_more}
+use Rattle.ring_queue.proofs.Keeps.{watches}
+
+pub one_of : (v u : SeatView) (i : ℕ) → get_elem? (v ∷ []) i ≡ some u → (i ≡ 0) × (v ≡ u)
+one_of v u zero e = (refl, some-injective v u e)
+one_of v u (suc i) e = absurd (some-ne-none u (sym e))
+
+module _ (z : Layout) (s : State ℕ View) (h : Holds z s) (id : ℕ) (v : SeatView) (mine : get_elem? s.views id ≡ some (seated v)) where
+  -- the seat is that of its number
+  pub its_seat : h.seats v.number ≡ v
+  its_seat = h.fits id 0 (seated v) v mine refl
+
+  -- one seat's view changes, and with it the ring
+  pub one_seat : (v' : SeatView) (words : List ℕ) → v'.number ≡ v.number → Ring z words (put h.seats v.number v')
+      → Holds z record { words = words; homes = s.homes; views = set s.views id (seated v') }
+  one_seat v' words same ring =
+      let P : ℕ → ℕ → SeatView → Type 0 = λ j i u. (put h.seats v.number v' u.number ≡ u) × (h.owner u.number ≡ (j, i)) × (u.number < h.dealt) in
+      let own = h.owned id 0 (seated v) v mine refl in
+      let here : P id 0 v' = (put_here h.seats v.number v'.number v' same, ap h.owner same ∙ own.0, subst (λ (k : ℕ). k < h.dealt) (sym same) own.1) in
+      let all : (j i : ℕ) (u : View) (o : SeatView) → get_elem? (set s.views id (seated v')) j ≡ some u → get_elem? (members u) i ≡ some o → P j i o = λ j i u o there which.
+      ⊎_elim
+      (λ (q : (j ≡ id) × (seated v' ≡ u)).
+      let one = one_of v' o i (ap (λ (y : View). get_elem? (members y) i) q.1 ∙ which) in subst (λ (y : ℕ × ℕ × SeatView). P y.0 y.1 y.2) (λ c. (sym q.0 c, sym one.0 c, one.1 c)) here)
+      (λ (q : (j ≢ id) × (get_elem? s.views j ≡ some u)).
+      let theirs = h.owned j i u o q.1 which in
+      let apart : o.number ≢ v.number = λ e. q.0 (ap (λ (y : ℕ × ℕ). y.0) (sym theirs.0 ∙ (ap h.owner e ∙ own.0))) in
+      (put_else h.seats v.number o.number v' apart ∙ h.fits j i u o q.1 which, theirs.0, theirs.1))
+      (at_set s.views id j (seated v') u there) in
+      record {
+        seats = put h.seats v.number v';
+        ring = ring;
+        dealt = h.dealt;
+        home = h.home;
+        owner = h.owner;
+        fits = λ j i u o a b. (all j i u o a b).0;
+        owned = λ j i u o a b. let q = all j i u o a b in (q.1, q.2);
+        kept = λ j m n there. ⊎_elim (λ (q : (j ≡ id) × (seated v' ≡ keeper m n)). let e = q.1 in cc) (λ (q : (j ≢ id) × (get_elem? s.views j ≡ some (keeper m n))). h.kept j m n q.1) (at_set s.views id j (seated v') (keeper m n) there);
+        undealt = λ n over. put_else h.seats v.number n v' (λ e. let lt = own.1 in omega (arith, lt, over, e)) ∙ h.undealt n over;
+      }
+
+module _ (z : Layout) (words : List ℕ) (seats : ℕ → SeatView) (r : Ring z words seats) (v : SeatView) (is : seats v.number ≡ v) where
+  -- what the ring knows of a seat
+  pub it_fits : SeatOk z r.head r.tail (r.head + length r.values) r.log r.cells r.history v.number v
+  it_fits = subst (SeatOk z r.head r.tail (r.head + length r.values) r.log r.cells r.history v.number) is (r.each_seat v.number)
+
+  -- what it knows is sound
+  pub it_is_sound : IsSound (permits_of z) (known_by v)
+  it_is_sound =
+      let f = it_fits in
+      record {
+        legal = legal_first v.seen f.rest (record { values = r.values; shut = r.shut }, subst (λ es. Leads es r.shut r.values) f.begins r.leads);
+        permitted = all_first (IsPermitted (permits_of z)) v.seen f.rest (subst (All (IsPermitted (permits_of z))) f.begins r.permitted);
+        own = f.known;
+        noted = f.noted;
+      }
+
+  -- its notes stay right of the whole history
+  pub notes_stay : All (IsNoted r.history) v.notes
+  notes_stay = let f = it_fits in subst (λ es. All (IsNoted es) v.notes) (sym f.begins) (all_noted_more v.seen f.rest v.notes f.noted)
+
+  -- a seat that has seen the whole history
+  pub saw_all : (v' : SeatView) → v'.number ≡ v.number → v'.seen ≡ r.history → v'.mine ≡ v.mine → All (IsNoted r.history) v'.notes → v'.head ≤ r.head → v'.credits ≤ z.credits
+      → Stands z.slots r.head r.tail (r.head + length r.values) r.log r.cells v' v'.stage
+      → SeatOk z r.head r.tail (r.head + length r.values) r.log r.cells r.history v.number v'
+  saw_all v' number seen mine noted behind few stands =
+      let f = it_fits in
+      record {
+        number = number;
+        behind = behind;
+        few = few;
+        rest = [];
+        begins = sym (append-nil v'.seen ∙ seen);
+        own = f.own ∙ sym mine;
+        known = ap (own_entries v.number) seen ∙ (f.own ∙ sym mine);
+        noted = subst (λ es. All (IsNoted es) v'.notes) (sym seen) noted;
+        stage = stands;
+      }
+
+  -- a step that changes no word and no count of places in reserve keeps the ring
+  pub looks : (v' : SeatView) → v'.credits ≡ v.credits → SeatOk z r.head r.tail (r.head + length r.values) r.log r.cells r.history v.number v' → Ring z words (put seats v.number v')
+  looks v' same ok =
+      let totals : total (length z.roles) (put seats v.number v') ≡ total (length z.roles) seats = total_same (length z.roles) seats (put seats v.number v')
+      (λ k. put_each seats v.number k v' (λ q (u : SeatView). u.credits ≡ (seats q).credits) (same ∙ ap (λ (u : SeatView). u.credits) (sym is)) (λ _. refl)) in
+      let a = r.roomy in
+      let b = r.limited in
+      watches z words seats r v.number v' ok (omega (arith, a, totals)) (omega (arith, b, totals))
+
+-- no head of a seat is beyond the limit
+pub head_below : (z : Layout) (words : List ℕ) (seats : ℕ → SeatView) → Ring z words seats → (n : ℕ) → (seats n).head < 2 ^ 62
+head_below z words seats r n =
+    let seat = r.each_seat n in
+    let behind = seat.behind in
+    let counted = r.counted in
+    let limited = r.limited in
+    let planned = r.planned in
+    let limit = planned.limited in
+    omega (arith, behind, counted, limited, limit)
+
+-- a seat has learned at its step
+pub learns : (z : Layout) (words : List ℕ) (seats : ℕ → SeatView) (v v' : SeatView) → v'.number ≡ v.number → Ring z words (put seats v.number v') → Learns z v v'
+learns z words seats v v' number r = record {
+  number = number;
+  below = subst (λ (u : SeatView). u.head < 2 ^ 62) (put_here seats v.number v'.number v' number) (head_below z words (put seats v.number v') r v'.number);
+  sound = it_is_sound z words (put seats v.number v') r v' (put_here seats v.number v'.number v' number);
+}

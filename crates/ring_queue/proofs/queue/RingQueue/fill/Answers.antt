@@ -1,0 +1,16 @@
+use Rattle.std.proofs.Common.{◌+◌, ◌*◌, ◌^◌, ap, arith}
+use Rattle.ring_queue.specs.Steps.{PlaceFilled}
+use Rattle.ring_queue.specs.Seats.{view}
+use Rattle.ring_queue.proofs.Calls.{asks, fills_there}
+use Rattle.ring_queue.proofs.queue.RingQueue.fill.Goals as goal
+
+pub store-requires : goal.store-requires
+store-requires c =
+    let q = c.args.self.now in
+    let s = c.args.seat.now in
+    let sits = c.requires.sits in
+    let words = q.laid.words in
+    let slot = c.slot_of-slot.ensures in
+    let within = slot.within in
+    asks q.plan q.table.shared.key q.table.shared.table_id s (λ y v n v'. PlaceFilled v v') q.laid (32 + 2 * c.slot_of-slot.result) (λ _. c.parity_of.result * 2 ^ 63 + c.args.payload) sits (omega (arith, words, within))
+    (fills_there q.plan (view s) c.args.place c.requires.claimed.0 _ _ c.requires.claimed.1 (ap (λ k. 32 + 2 * k) slot.value) (λ i. c.parity_of.ensures i * 2 ^ 63 + c.requires.claimed.2 i))

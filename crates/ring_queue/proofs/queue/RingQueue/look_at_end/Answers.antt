@@ -1,0 +1,14 @@
+use Rattle.std.proofs.Common.{arith}
+use Rattle.ring_queue.specs.Steps.{EndFound}
+use Rattle.ring_queue.specs.Seats.{view}
+use Rattle.ring_queue.proofs.Lines.{reads_end}
+use Rattle.ring_queue.proofs.Calls.{reads, asks}
+use Rattle.ring_queue.proofs.queue.RingQueue.look_at_end.Goals as goal
+
+pub load-tail-requires : goal.load-tail-requires
+load-tail-requires c =
+    let q = c.args.self.now in
+    let sits = c.requires.sits in
+    let words = q.laid.words in
+    asks q.plan q.table.shared.key q.table.shared.table_id c.args.seat.now EndFound q.laid 0 (λ n. n) sits (omega (arith, words))
+    (reads q.plan 0 (view c.args.seat.now) (EndFound q.plan) (λ ws seats r is. reads_end q.plan ws seats r (view c.args.seat.now) is))

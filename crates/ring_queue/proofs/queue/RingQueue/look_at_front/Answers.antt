@@ -1,0 +1,16 @@
+use Rattle.std.proofs.Common.{◌+◌, ◌*◌, ◌%◌, ap, ◌∙◌, arith}
+use Rattle.ring_queue.specs.Steps.{FrontFound}
+use Rattle.ring_queue.specs.Seats.{view}
+use Rattle.ring_queue.proofs.Calls.{asks, fronts_there}
+use Rattle.ring_queue.proofs.queue.RingQueue.look_at_front.Goals as goal
+
+pub load-word-requires : goal.load-word-requires
+load-word-requires c =
+    let q = c.args.self.now in
+    let s = c.args.seat.now in
+    let sits = c.requires.sits in
+    let words = q.laid.words in
+    let slot = c.slot_of-slot.ensures in
+    let within = slot.within in
+    asks q.plan q.table.shared.key q.table.shared.table_id s FrontFound q.laid (32 + 2 * c.slot_of-slot.result) (λ n. n) sits (omega (arith, words, within))
+    (fronts_there q.plan (view s) _ (ap (λ k. 32 + 2 * k) (slot.value ∙ ap (λ h. h % q.plan.slots) sits.head)))

@@ -1,0 +1,14 @@
+use Rattle.std.proofs.Common.{arith}
+use Rattle.ring_queue.specs.Steps.{TailFound}
+use Rattle.ring_queue.specs.Seats.{view}
+use Rattle.ring_queue.proofs.Lines.{reads_tail}
+use Rattle.ring_queue.proofs.Calls.{reads, asks}
+use Rattle.ring_queue.proofs.queue.RingQueue.look_at_tail.Goals as goal
+
+pub load-tail-requires : goal.load-tail-requires
+load-tail-requires c =
+    let q = c.args.self.now in
+    let sits = c.requires.sits in
+    let words = q.laid.words in
+    asks q.plan q.table.shared.key q.table.shared.table_id c.args.seat.now TailFound q.laid 0 (λ n. n) sits (omega (arith, words))
+    (reads q.plan 0 (view c.args.seat.now) (TailFound q.plan) (λ ws seats r is. reads_tail q.plan ws seats r (view c.args.seat.now) is))

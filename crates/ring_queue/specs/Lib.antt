@@ -1,0 +1,16 @@
+pub mod Words
+pub mod Plans
+pub mod Seeing
+pub mod Rule
+pub mod Steps
+pub mod Seats
+pub mod Looks
+pub mod Turns
+pub mod Causes
+pub mod Meeting
+pub mod Making
+pub mod Machine
+pub mod Moments
+pub mod Laid
+pub mod Queues
+pub mod OneProof

@@ -1,0 +1,90 @@
+-- What a new ring is, and why it is refused.
+use Rattle.std.specs.Prelude.{◌≡◌, ◌⊎◌, ℕ, ◌+◌, ◌*◌, ◌^◌, ◌<◌, ◌≤◌, List, [], length, Some, slice_get, slice_index_or}
+use Rattle.atomic_table.specs.Seated.{TableId}
+use Rattle.atomic_table.specs.declared.shared.Seat.{Seat as Token}
+use Rattle.history.specs.declared.refusals.Refusal.{Refusal}
+use Rattle.history.specs.declared.refusals.Refusal.TheVariants.{Memory, BadSize}
+use Rattle.ring_queue.specs.declared.roles.Role.{Role}
+use Rattle.ring_queue.specs.declared.queue.RingQueue.{RingQueue}
+use Rattle.ring_queue.specs.declared.seats.Seat.{Seat}
+use Rattle.ring_queue.specs.declared.views.Knowing.{Knowing}
+use Rattle.ring_queue.specs.Words.{slot_word}
+use Rattle.ring_queue.specs.Plans.{Layout}
+use Rattle.ring_queue.specs.Seeing.{keeper, new_seat}
+use Rattle.ring_queue.specs.Seats.{IsReady, view}
+use Rattle.ring_queue.specs.Queues.{IsQueueSeat}
+
+-- the words at the start
+pub record AreFirst (slots : ℕ) (words : List ℕ) : Type 0 where
+  pub wide : length words ≡ 32 + 2 * slots
+  pub tail : slice_index_or words 0 0 ≡ slots
+  pub head : slice_index_or words 16 0 ≡ slots
+  pub blank : (i : ℕ) → i < slots → slice_index_or words (slot_word i) 0 ≡ 0
+
+-- the ring's own token, which deals this number next
+pub record IsKeeper (z : Layout) (t : TableId) (k : Token ℕ Knowing) (n : ℕ) : Type 0 where
+  pub table : k.table_id ≡ t
+  pub seat : k.me ≡ (keeper z.slots n, [])
+
+-- a seat that was just dealt: it is in no call, and knows nothing
+pub record IsDealt (z : Layout) (t : TableId) (n : ℕ) (s : Seat) : Type 0 where
+  pub ready : IsReady z t s
+  pub view : view s ≡ new_seat z.slots n
+
+-- seats that were just dealt, numbered from 1
+abbrev pub AreDealt : Layout → TableId → List Seat → Type 0
+AreDealt z t seats = (k : ℕ) (s : Seat) → slice_get seats k ≡ Some s → IsDealt z t (k + 1) s
+
+-- the least power of two that is no less than a number
+pub record IsLeastPower (least n : ℕ) : Type 0 where
+  pub bits : ℕ
+  pub power : n ≡ 2 ^ bits
+  pub enough : least ≤ n
+  pub close : n < 2 * least
+
+-- a new seat of a ring: it may begin a call, and knows nothing
+pub record IsNewSeat (q : RingQueue) (n : ℕ) (s : Seat) : Type 0 where
+  pub ready : IsQueueSeat q s
+  pub view : view s ≡ new_seat q.plan.slots n
+
+-- how many slots a ring has for such sizes: the fewest in which the values and all reserves fit, by powers of two
+abbrev pub HasSlots : (most credits : ℕ) → List Role → (slots : ℕ) → Type 0
+HasSlots most credits roles slots = IsLeastPower (most + credits * length roles) slots
+
+-- a new ring of these sizes, with a new seat for each role, numbered from 1
+pub record IsMade (most credits limit : ℕ) (roles : List Role) (q : RingQueue) (seats : List Seat) : Type 0 where
+  pub full_at : q.plan.most ≡ most
+  pub reserves : q.plan.credits ≡ credits
+  pub goes_to : q.plan.limit ≡ limit
+  pub deals : q.plan.roles ≡ roles
+  pub slots : HasSlots most credits roles q.plan.slots
+  pub count : length seats ≡ length roles
+  pub each : (k : ℕ) (s : Seat) → slice_get seats k ≡ Some s → IsNewSeat q (k + 1) s
+
+-- the sizes of a ring are in their ranges
+pub record IsSized (most credits limit : ℕ) (roles : List Role) : Type 0 where
+  pub some_values : 1 ≤ most
+  pub some_credits : 1 ≤ credits
+  pub some_roles : 1 ≤ length roles
+  pub few_roles : length roles < 2 ^ 15
+  pub slots : ℕ
+  pub has_slots : HasSlots most credits roles slots
+  pub above : slots ≤ limit
+  pub limited : limit < 2 ^ 62
+
+-- a count is out of its range
+abbrev pub IsMiscounted : (most credits : ℕ) → List Role → Type 0
+IsMiscounted most credits roles =
+    (most ≡ 0) ⊎ (credits ≡ 0) ⊎ (length roles ≡ 0) ⊎ (2 ^ 15 ≤ length roles)
+
+-- the limit is out of its range
+abbrev pub IsMislimited : (most credits limit : ℕ) → List Role → Type 0
+IsMislimited most credits limit roles =
+    ((slots : ℕ) × HasSlots most credits roles slots × (limit < slots)) ⊎ (2 ^ 62 ≤ limit)
+
+-- a new ring is refused for this cause: a size is out of its range, or memory was refused where all are in theirs
+abbrev pub NewRefused : (most credits limit : ℕ) → List Role → Refusal → Type 0
+NewRefused most credits limit roles BadSize =
+    IsMiscounted most credits roles ⊎ IsMislimited most credits limit roles
+NewRefused most credits limit roles Memory = IsSized most credits limit roles
+NewRefused most credits limit roles _ = ⊥

@@ -1,0 +1,60 @@
+-- What a ring is made for.
+use Rattle.std.specs.Prelude.{◌≡◌, ℕ, ◌+◌, ◌*◌, ◌^◌, ◌<◌, ◌≤◌, Bool, true, false, List, length, map}
+use Rattle.atomic_table.specs.Seated.{TableId}
+use Rattle.history.specs.Seats.{Permit}
+use Rattle.ring_queue.specs.declared.roles.Role.{Role}
+use Rattle.ring_queue.specs.declared.roles.Role.TheVariants.{Giver, Taker, Both}
+
+-- whether a role may push
+abbrev pub may_push : Role → Bool
+may_push Giver = true
+may_push Taker = false
+may_push Both = true
+
+-- whether a role may pop
+abbrev pub may_pop : Role → Bool
+may_pop Giver = false
+may_pop Taker = true
+may_pop Both = true
+
+-- what a role permits
+abbrev pub permit_of : Role → Permit
+permit_of r = record { pushes = may_push r; pops = may_pop r }
+
+-- what each seat of these roles may do
+abbrev pub permits_by : List Role → List Permit
+permits_by roles = map permit_of roles
+
+-- the plan of a ring: how many slots it has, how many values make it full, how many places a seat may have in reserve, up to
+-- which place it goes, and the role of each seat, from number 1 on
+pub record Layout : Type 0 where
+  pub slots : ℕ
+  pub most : ℕ
+  pub credits : ℕ
+  pub limit : ℕ
+  pub roles : List Role
+
+-- what each seat may do
+abbrev pub permits_of : Layout → List Permit
+permits_of z = permits_by z.roles
+
+-- how many places all seats may have in reserve
+abbrev pub reserve : Layout → ℕ
+reserve z = z.credits * length z.roles
+
+-- a plan's sizes are in their ranges
+pub record IsPlanned (z : Layout) : Type 0 where
+  pub power : ∥ ((bits : ℕ) × (z.slots ≡ 2 ^ bits)) ∥₁
+  pub some : 1 ≤ z.most
+  pub given : 1 ≤ z.credits
+  pub room : z.most + reserve z ≤ z.slots
+  pub from : z.slots ≤ z.limit
+  pub limited : z.limit < 2 ^ 62
+  pub few : length z.roles < 2 ^ 15
+
+-- a table, made about a plan, is laid out for it
+pub record IsTable (z about : Layout) (t : TableId) : Type 0 where
+  pub planned : IsPlanned z
+  pub key : about ≡ z
+  pub words : t.words ≡ 32 + 2 * z.slots
+  pub slots : t.slots ≡ 0

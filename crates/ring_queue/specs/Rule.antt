@@ -1,0 +1,116 @@
+-- The rule of a ring: its words and its seats are those of a queue, which a history leads to.
+use Rattle.std.specs.Prelude.{◌≡◌, ℕ, zero, suc, ◌+◌, ◌-◌, ◌*◌, ◌%◌, ◌^◌, ◌<◌, ◌≤◌, Bool, false, if◌then◌else◌, nat_eq, List, ◌++◌, length, Option, Some, None, slice_get, slice_index_or}
+use Rattle.std.specs.List.{All, count_by}
+use mathlib.Core.Option.{some}
+use lib.ListN.{get_elem?}
+use Rattle.atomic_table.specs.Table.{State}
+use Rattle.history.specs.declared.operations.Entry.{Entry}
+use Rattle.history.specs.declared.operations.Taken.{Taken}
+use Rattle.history.specs.Entries.{own_entries, is_pop, Leads}
+use Rattle.history.specs.Seats.{IsPermitted, IsNoted}
+use Rattle.ring_queue.specs.Words.{face, slot_word, tail_word}
+use Rattle.ring_queue.specs.Plans.{Layout, IsPlanned, reserve, permits_of}
+use Rattle.ring_queue.specs.Seeing.{Stage, rests, saw, claimed, found, SeatView, View, keeper, members, new_seat}
+
+-- the last place of a slot that was claimed, and who will fill it, if it isn't filled
+pub record Cell : Type 0 where
+  pub place : ℕ
+  pub filler : Option ℕ
+
+-- what each place that was claimed is filled with, or will be
+abbrev pub Log : Type 0
+Log = ℕ → Option Taken
+
+-- what can be the content of a place: a seat's number isn't 0, and lies in 15 bits, a body in 48
+abbrev pub FitsWord : Option Taken → Type 0
+FitsWord None = Unit {0}
+FitsWord (Some v) = (1 ≤ v.from) × (v.from < 2 ^ 15) × (v.body < 2 ^ 48)
+
+-- the word of a slot is that of its last place where this is filled, and else of the place a lap before; the place is then
+-- not below Head
+abbrev pub Lies : (slots head : ℕ) → Log → (word place : ℕ) → (filler : Option ℕ) → Type 0
+Lies slots head log word place None = word ≡ face slots place (log place)
+Lies slots head log word place (Some n) = (word ≡ face slots (place - slots) (log (place - slots))) × (slots ≤ place) × (head ≤ place)
+
+-- a slot is as its cell says
+pub record CellOk (slots head tail : ℕ) (log : Log) (words : List ℕ) (i : ℕ) (c : Cell) : Type 0 where
+  pub slot : c.place % slots ≡ i
+  pub claimed : c.place < tail
+  pub last : tail ≤ c.place + slots
+  pub lies : Lies slots head log (slice_index_or words (slot_word i) 0) c.place c.filler
+
+-- what a seat knows by where it stands, where so many places were claimed while the queue wasn't shut: the places that it
+-- read in Tail are among those; the place that it claimed is its own to fill; and if its head is still Head, the word that it
+-- found is that of Head's place, which is filled
+abbrev pub Stands : (slots head tail live : ℕ) → Log → (ℕ → Cell) → SeatView → Stage → Type 0
+Stands slots head tail live log cells v rests = Unit {0}
+Stands slots head tail live log cells v (saw t) = t ≤ live
+Stands slots head tail live log cells v (claimed p x) = (cells (p % slots) ≡ record { place = p; filler = Some v.number }) × (log p ≡ x)
+Stands slots head tail live log cells v (found w) = v.head ≡ head →
+    (head < tail) × (w ≡ face slots head (log head)) × (cells (head % slots) ≡ record { place = head; filler = None })
+
+-- a seat fits: its head isn't above Head, what it has seen is a prefix of the history, and its own entries are just those of
+-- it, and just those that it has seen
+pub record SeatOk (z : Layout) (head tail live : ℕ) (log : Log) (cells : ℕ → Cell) (history : List Entry) (n : ℕ) (v : SeatView) : Type 0 where
+  pub number : v.number ≡ n
+  pub behind : v.head ≤ head
+  pub few : v.credits ≤ z.credits
+  pub rest : List Entry
+  pub begins : history ≡ v.seen ++ rest
+  pub own : own_entries n history ≡ v.mine
+  pub known : own_entries n v.seen ≡ v.mine
+  pub noted : All (IsNoted v.seen) v.notes
+  pub stage : Stands z.slots head tail live log cells v v.stage
+
+-- how many places the first seats have in reserve
+abbrev pub total : (count : ℕ) → (ℕ → SeatView) → ℕ
+total zero seats = 0
+total (suc k) seats = total k seats + (seats (suc k)).credits
+
+-- one of many changed
+abbrev pub put : {X : Type 0} → (ℕ → X) → ℕ → X → ℕ → X
+put f n x k = if nat_eq k n then x else f k
+
+-- what the ring is: Head and Tail, how many places were claimed after the shut, the queue, the history that leads to it, what
+-- each place is filled with, and the cells
+pub record Ring (z : Layout) (words : List ℕ) (seats : ℕ → SeatView) : Type 0 where
+  pub planned : IsPlanned z
+  pub head : ℕ
+  pub tail : ℕ
+  pub voids : ℕ
+  pub shut : Bool
+  pub values : List Taken
+  pub history : List Entry
+  pub log : Log
+  pub cells : ℕ → Cell
+  pub wide : length words ≡ 32 + 2 * z.slots
+  pub tail_is : slice_index_or words 0 0 ≡ tail_word tail shut
+  pub head_is : slice_index_or words 16 0 ≡ head
+  pub leads : Leads history shut values
+  pub taken : head ≡ z.slots + count_by is_pop history
+  pub permitted : All (IsPermitted (permits_of z)) history
+  pub counted : (head + length values) + voids ≡ tail
+  pub unshut : shut ≡ false → voids ≡ 0
+  pub roomy : tail + total (length z.roles) seats ≤ (head + z.most) + reserve z
+  pub limited : tail + total (length z.roles) seats ≤ z.limit
+  pub logged : (i : ℕ) (v : Taken) → slice_get values i ≡ Some v → log (head + i) ≡ Some v
+  pub marked : (p : ℕ) → head + length values ≤ p → p < tail → log p ≡ None
+  pub fits : (p : ℕ) → FitsWord (log p)
+  pub each_cell : (i : ℕ) → i < z.slots → CellOk z.slots head tail log words i (cells i)
+  pub each_seat : (n : ℕ) → SeatOk z head tail (head + length values) log cells history n (seats n)
+
+-- the rule of the table: its words are a ring's, whose seats its views speak of, no two of one number
+pub record Holds (z : Layout) (s : State ℕ View) : Type 0 where
+  pub seats : ℕ → SeatView
+  pub ring : Ring z s.words seats
+  pub dealt : ℕ
+  pub home : ℕ
+  pub owner : ℕ → ℕ × ℕ
+  pub fits : (j i : ℕ) (u : View) (v : SeatView) → get_elem? s.views j ≡ some u → get_elem? (members u) i ≡ some v → seats v.number ≡ v
+  pub owned : (j i : ℕ) (u : View) (v : SeatView) → get_elem? s.views j ≡ some u → get_elem? (members u) i ≡ some v → (owner v.number ≡ (j, i)) × (v.number < dealt)
+  pub kept : (j m n : ℕ) → get_elem? s.views j ≡ some (keeper m n) → (j ≡ home) × (n ≡ dealt) × (m ≡ z.slots)
+  pub undealt : (n : ℕ) → dealt ≤ n → seats n ≡ new_seat z.slots n
+
+-- the first view deals number 1 first
+abbrev pub first_view : Layout → View
+first_view z = keeper z.slots 1

@@ -1,0 +1,93 @@
+-- What a seat knows.
+use Rattle.std.specs.Prelude.{ℕ, ◌+◌, List, [], ◌∷◌, Option}
+use Rattle.history.specs.declared.operations.Entry.{Entry}
+use Rattle.history.specs.declared.operations.Taken.{Taken}
+use Rattle.history.specs.Seats.{Known}
+
+-- where a seat stands: at rest; with Tail read, so many places, where the queue wasn't shut; with a place claimed, which it
+-- will fill with this; or with the word found at the place of its head, of that lap's parity
+pub data Stage : Type 0 where
+  rests : Stage
+  saw : ℕ → Stage
+  claimed : ℕ → Option Taken → Stage
+  found : ℕ → Stage
+
+-- what a seat knows: its number, where it stands, a number that Head isn't below, how many places it has in reserve, a prefix
+-- of the history, its own entries, and its notes
+pub record SeatView : Type 0 where
+  pub number : ℕ
+  pub stage : Stage
+  pub head : ℕ
+  pub credits : ℕ
+  pub seen : List Entry
+  pub mine : List Entry
+  pub notes : List ℕ
+
+-- what a seat knows of its queue
+abbrev pub known_by : SeatView → Known
+known_by v = record { number = v.number; seen = v.seen; mine = v.mine; notes = v.notes }
+
+-- the views of the table: the first one deals numbers to seats of a ring of so many slots; two seats are one while they meet; a spent one knows nothing
+pub data View : Type 0 where
+  keeper : (slots n : ℕ) → View
+  seated : SeatView → View
+  paired : SeatView → SeatView → View
+  spent : View
+
+-- the seats that a view speaks of
+abbrev pub members : View → List SeatView
+members (keeper m n) = []
+members (seated v) = v ∷ []
+members (paired v w) = v ∷ w ∷ []
+members spent = []
+
+-- what a seat knows that was just dealt: its head is the first place
+abbrev pub new_seat : (slots n : ℕ) → SeatView
+new_seat slots n = record { number = n; stage = rests; head = slots; credits = 0; seen = []; mine = []; notes = [] }
+
+-- what the first seat of a view knows
+abbrev pub knows : View → SeatView
+knows (keeper m n) = new_seat 0 0
+knows (seated v) = v
+knows (paired v w) = v
+knows spent = new_seat 0 0
+
+-- what the second seat of a view knows
+abbrev pub knows_second : View → SeatView
+knows_second (keeper m n) = new_seat 0 0
+knows_second (seated v) = v
+knows_second (paired v w) = w
+knows_second spent = new_seat 0 0
+
+-- what is left after a seat was dealt
+abbrev pub dealt_left : View → View
+dealt_left (keeper m n) = keeper m (n + 1)
+dealt_left (seated v) = spent
+dealt_left (paired v w) = spent
+dealt_left spent = spent
+
+-- the seat that is dealt
+abbrev pub dealt_right : View → View
+dealt_right (keeper m n) = seated (new_seat m n)
+dealt_right (seated v) = spent
+dealt_right (paired v w) = spent
+dealt_right spent = spent
+
+-- two seats become one
+abbrev pub both_of : View → View → View
+both_of (seated v) (seated w) = paired v w
+both_of v w = v
+
+-- the first of two seats that were one
+abbrev pub first_of : View → View
+first_of (paired v w) = seated v
+first_of v = v
+
+-- the second of them
+abbrev pub second_of : View → View
+second_of (paired v w) = seated w
+second_of v = spent
+
+-- a view that stays as it is
+abbrev pub itself : View → View
+itself v = v

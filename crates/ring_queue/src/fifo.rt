@@ -1,0 +1,82 @@
+//! A ring as a queue with seats.
+ghost use Rattle.std.specs.Prelude.{◌≡◌, ◌≤◌, ◌↔◌, IsTrue, OnOk, IfOk, IfErr};
+ghost use Rattle.history.specs.Seats.{MayPush, MayPop};
+ghost use Rattle.history.specs.Answers.{Pushed, PopAnswers, DidShut, Meets, StopsPush, StopsPop, StopsShut};
+ghost use Rattle.history.specs.Answers.{PushRefused as RefusedPush, PopRefused as RefusedPop};
+ghost use Rattle.ring_queue.specs.Causes.{PushRefused, PopRefused, ShutRefused};
+ghost use Rattle.ring_queue.specs.Seats.{known_of};
+
+use crate::queue::RingQueue;
+use crate::roles::Role;
+use crate::seats::Seat;
+use history::{Body, Fifo, Refusal, Taken};
+
+impl Fifo for RingQueue {
+    ghost use Rattle.ring_queue.specs.Queues.{IsQueueSeat, permits_in, push_causes, pop_causes, shut_causes};
+    ghost use Rattle.ring_queue.specs.Seats.{known_of};
+    ghost use Rattle.ring_queue.specs.OneProof.{IsQueueSeat-prop};
+
+    type Seat = Seat;
+
+    ghost is_seat = { IsQueueSeat };
+
+    ghost permits = { permits_in };
+
+    ghost known = { known_of };
+
+    //= ring/causes (push_cause, pop_cause, shut_cause): A push with a place in reserve is refused `Closed` alone. Else a push
+    //=   has cause for `NoNode` where at its last step the ring held as many values as make it full, for `WornOut` where its
+    //=   places were used up, and for `Busy` where in each turn another had raised Head. A pop is `Busy` where in each turn Head
+    //=   was raised, or at some step of the call a place from its seat's head on had been claimed.
+    ghost push_cause = { push_causes };
+
+    ghost pop_cause = { pop_causes };
+
+    ghost shut_cause = { shut_causes };
+
+    ghost sound = { λ q s h. h.sits.sound };
+
+    ghost closed_alike = { λ _ _ _ _ cause. cause };
+
+    ghost seat_prop = { IsQueueSeat-prop };
+
+    /// Refusals: `NoNode` where at one step the queue held as many values as make it full, `WornOut` where at one step the
+    /// places were used up, `Busy` where in each of so many turns another had popped, and `Closed` where at one step the
+    /// queue was shut. With a place in reserve the push ends in two steps, whatever others do. Takes no memory and doesn't
+    /// wait.
+    fn try_push(&self, seat: &mut Seat, body: Body, turns: u32) -> Result<(), Refusal> {
+        self.push_in(seat, body, turns)
+    }
+
+    /// Refusals: `Busy` where each of so many turns failed, and `Closed` where at one step the queue was shut and empty.
+    /// Takes no memory and doesn't wait.
+    fn try_pop(&self, seat: &mut Seat, turns: u32) -> Result<Option<Taken>, Refusal> {
+        self.pop_in(seat, turns)
+    }
+
+    /// One step. Refusals: `Closed` where the queue was shut before. Takes no memory and doesn't wait.
+    fn try_shut(&self, seat: &mut Seat, turns: u32) -> Result<(), Refusal> {
+        let _ = turns;
+        self.set_shut(seat)
+    }
+
+    fn meet(&self, one: &mut Seat, other: &mut Seat) {
+        self.meet_seats(one, other);
+    }
+
+    fn may_push(&self, seat: &Seat) -> bool {
+        let _ = self;
+        match seat.role {
+            Role::Giver | Role::Both => true,
+            Role::Taker => false,
+        }
+    }
+
+    fn may_pop(&self, seat: &Seat) -> bool {
+        let _ = self;
+        match seat.role {
+            Role::Taker | Role::Both => true,
+            Role::Giver => false,
+        }
+    }
+}

@@ -1,0 +1,23 @@
+//! A bounded queue on a ring of words, whose push claims its place by one fetch-and-add.
+#![tactic(auto)]
+
+mod acts;
+mod dealing;
+mod fifo;
+pub mod laws;
+mod looks;
+mod making;
+mod meeting;
+mod places;
+mod plans;
+mod popping;
+mod pushing;
+mod queue;
+mod roles;
+mod seats;
+mod views;
+
+pub use making::MOST_SEATS;
+pub use queue::RingQueue;
+pub use roles::Role;
+pub use seats::Seat;

@@ -1,0 +1,136 @@
+//! The lines that read.
+ghost use Rattle.std.specs.Prelude.{◌≡◌, ◌+◌, ◌%◌, ◌^◌, ◌≤◌, IfSome};
+ghost use Rattle.history.specs.Answers.{SeesMore};
+ghost use Rattle.ring_queue.specs.Seeing.{saw, found};
+ghost use Rattle.ring_queue.specs.Seats.{IsReady, KeepsName, known_of, view};
+ghost use Rattle.ring_queue.specs.Looks.{TailSays, HeadSays, MarkSays, EndSays};
+
+use crate::places::{HEAD, SHUT, SLOTS, TAIL};
+use crate::queue::RingQueue;
+use crate::seats::Seat;
+use std::marker::Brand;
+
+/// What a push with no place in reserve finds in Tail.
+pub(crate) enum TailLook {
+    /// The queue is shut.
+    Shut,
+    /// All places that the seats might claim next might go beyond the limit.
+    Worn,
+    /// There is room: the seat has places in reserve again.
+    Room,
+    /// By the seat's head there is none, where so many places were claimed.
+    Full(u64),
+}
+
+/// What a pop that found its place not filled finds in Tail.
+pub(crate) enum EndLook {
+    /// The queue is empty.
+    Empty,
+    /// It is shut and empty.
+    Closed,
+    /// A place was claimed.
+    Ahead,
+}
+
+impl RingQueue {
+    /// A push reads Tail.
+    pub(crate) fn look_at_tail(&self, seat: &mut Seat) -> TailLook
+        requires { IsReady self.now.plan self.now.table.shared.table_id seat.old }
+        ensures seat { IsReady self.now.plan self.now.table.shared.table_id seat.new }
+        ensures name { KeepsName seat.old seat.new }
+        ensures says { TailSays self.now.plan seat.old seat.new result }
+    {
+        let plan = self.sizes();
+        let reserve = plan.credits * plan.roles.len() as u64;
+        let tail = self.table.shared.load::<Brand>(&mut seat.token, TAIL);
+        if tail >= SHUT {
+            TailLook::Shut
+        } else if tail + reserve > plan.limit {
+            TailLook::Worn
+        } else if tail < seat.head + plan.most {
+            seat.credits = plan.credits;
+            TailLook::Room
+        } else {
+            TailLook::Full(tail)
+        }
+    }
+
+    /// A push that read so many places in Tail reads Head: whether the queue is full.
+    pub(crate) fn finds_full(&self, seat: &mut Seat, tail: u64) -> bool
+        requires ready { IsReady self.now.plan self.now.table.shared.table_id seat.old }
+        requires saw { (view seat.old).stage ≡ saw tail }
+        requires behind { seat.old.head + self.now.plan.most ≤ tail }
+        ensures seat { IsReady self.now.plan self.now.table.shared.table_id seat.new }
+        ensures name { KeepsName seat.old seat.new }
+        ensures says { HeadSays self.now.plan seat.old seat.new result }
+    {
+        let most = self.sizes().most;
+        let head = self.table.shared.load::<Brand>(&mut seat.token, HEAD);
+        seat.head = head;
+        most <= tail.saturating_sub(head)
+    }
+
+    /// A pop reads Head.
+    pub(crate) fn look_at_head(&self, seat: &mut Seat)
+        requires { IsReady self.now.plan self.now.table.shared.table_id seat.old }
+        ensures seat { IsReady self.now.plan self.now.table.shared.table_id seat.new }
+        ensures name { KeepsName seat.old seat.new }
+        ensures sees { SeesMore (known_of seat.old) (known_of seat.new) }
+        ensures more { seat.old.head ≤ seat.new.head }
+    {
+        seat.head = self.table.shared.load::<Brand>(&mut seat.token, HEAD);
+    }
+
+    /// A pop that found the mark at its place reads Head: whether the queue is shut and empty.
+    pub(crate) fn finds_closed(&self, seat: &mut Seat, word: u64) -> bool
+        requires ready { IsReady self.now.plan self.now.table.shared.table_id seat.old }
+        requires found { (view seat.old).stage ≡ found word }
+        requires mark { word % 2 ^ 63 ≡ 0 }
+        ensures seat { IsReady self.now.plan self.now.table.shared.table_id seat.new }
+        ensures name { KeepsName seat.old seat.new }
+        ensures says { MarkSays seat.old seat.new result }
+    {
+        let head = self.table.shared.load::<Brand>(&mut seat.token, HEAD);
+        let closed = head == seat.head;
+        seat.head = head;
+        closed
+    }
+
+    /// A pop reads the word at its place, if this is filled.
+    pub(crate) fn look_at_front(&self, seat: &mut Seat) -> Option<u64>
+        requires { IsReady self.now.plan self.now.table.shared.table_id seat.old }
+        ensures seat { IsReady self.now.plan self.now.table.shared.table_id seat.new }
+        ensures name { KeepsName seat.old seat.new }
+        ensures sees { SeesMore (known_of seat.old) (known_of seat.new) }
+        ensures head { seat.new.head ≡ seat.old.head }
+        ensures filled { IfSome result (λ word. (view seat.new).stage ≡ found word) }
+    {
+        let slot = self.slot_of(seat.head);
+        let word = self
+            .table
+            .shared
+            .load::<Brand>(&mut seat.token, SLOTS + 2 * slot);
+        if word >> 63 == self.parity_of(seat.head) {
+            Some(word)
+        } else {
+            None
+        }
+    }
+
+    /// A pop that found its place not filled reads Tail.
+    pub(crate) fn look_at_end(&self, seat: &mut Seat) -> EndLook
+        requires { IsReady self.now.plan self.now.table.shared.table_id seat.old }
+        ensures seat { IsReady self.now.plan self.now.table.shared.table_id seat.new }
+        ensures name { KeepsName seat.old seat.new }
+        ensures says { EndSays self.now.plan seat.old seat.new result }
+    {
+        let tail = self.table.shared.load::<Brand>(&mut seat.token, TAIL);
+        if tail == seat.head {
+            EndLook::Empty
+        } else if tail >= SHUT && tail - SHUT == seat.head {
+            EndLook::Closed
+        } else {
+            EndLook::Ahead
+        }
+    }
+}

@@ -1,0 +1,22 @@
+//! What a ring is made for.
+use crate::roles::Role;
+use std::marker::Model;
+
+/// How many slots a ring has, how many values make it full, how many places a seat may have in reserve, up to which place it
+/// goes, and the role of each seat.
+#[derive(Drop)]
+pub struct Plan {
+    pub(crate) slots: u64,
+    pub(crate) most: u64,
+    pub(crate) credits: u64,
+    pub(crate) limit: u64,
+    pub(crate) roles: Vec<Role>,
+}
+
+impl Model for Plan {
+    ghost use Rattle.ring_queue.specs.Plans.{Layout};
+
+    ghost Value = { Layout };
+
+    ghost view = { λ p. record { slots = p.slots; most = p.most; credits = p.credits; limit = p.limit; roles = p.roles.items } };
+}

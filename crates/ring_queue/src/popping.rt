@@ -1,0 +1,117 @@
+//! The pop of a ring.
+ghost use Rattle.std.specs.Prelude.{◌≡◌, ◌≤◌, IfOk, IfErr, IfSome};
+ghost use Rattle.history.specs.Seats.{MayPop};
+ghost use Rattle.history.specs.Answers.{PopAnswers, PopRefused as RefusedPop, SeesMore, StopsPop};
+ghost use Rattle.ring_queue.specs.Plans.{permits_of};
+ghost use Rattle.ring_queue.specs.Seats.{IsReady, KeepsName, known_of, view};
+ghost use Rattle.ring_queue.specs.Seeing.{found};
+ghost use Rattle.ring_queue.specs.Causes.{PopRefused};
+ghost use Rattle.ring_queue.specs.Turns.{TurnSays};
+
+use crate::looks::EndLook;
+use crate::queue::RingQueue;
+use crate::seats::Seat;
+use history::{Refusal, Taken};
+use std::hint::spin_loop;
+
+/// What a turn of a pop comes to.
+pub(crate) enum Turn {
+    /// It took this value.
+    Took(Taken),
+    /// The queue was empty.
+    Empty,
+    /// It was shut and empty.
+    Closed,
+    /// Others were in the way.
+    Failed,
+}
+
+// The bits of a slot's word beside the parity: none of the mark.
+const PAYLOAD: u64 = (1 << 63) - 1;
+
+// How often a pop pauses before it looks again at a place that isn't filled.
+const PAUSES: u32 = 64;
+
+impl RingQueue {
+    /// A turn of a pop that found its place not filled.
+    fn turn_at_end(&self, seat: &mut Seat) -> Turn
+        requires { IsReady self.now.plan self.now.table.shared.table_id seat.old }
+        ensures seat { IsReady self.now.plan self.now.table.shared.table_id seat.new }
+        ensures name { KeepsName seat.old seat.new }
+        ensures says { TurnSays self.now.plan seat.old seat.new result }
+    {
+        match self.look_at_end(seat) {
+            EndLook::Empty => Turn::Empty,
+            EndLook::Closed => Turn::Closed,
+            EndLook::Ahead => {
+                self.look_at_head(seat);
+                Turn::Failed
+            }
+        }
+    }
+
+    /// A pop reads the word at its place, and where this isn't filled once more after a pause: without it a pop chases the
+    /// push that fills its place.
+    fn look_twice_at_front(&self, seat: &mut Seat) -> Option<u64>
+        requires { IsReady self.now.plan self.now.table.shared.table_id seat.old }
+        ensures seat { IsReady self.now.plan self.now.table.shared.table_id seat.new }
+        ensures name { KeepsName seat.old seat.new }
+        ensures sees { SeesMore (known_of seat.old) (known_of seat.new) }
+        ensures head { seat.new.head ≡ seat.old.head }
+        ensures filled { IfSome result (λ word. (view seat.new).stage ≡ found word) }
+    {
+        if let Some(word) = self.look_at_front(seat) {
+            return Some(word);
+        }
+        for _ in 0..PAUSES {
+            spin_loop();
+        }
+        self.look_at_front(seat)
+    }
+
+    /// One turn of a pop.
+    fn pop_turn(&self, seat: &mut Seat) -> Turn
+        requires ready { IsReady self.now.plan self.now.table.shared.table_id seat.old }
+        requires role { MayPop (permits_of self.now.plan) (known_of seat.old).number }
+        ensures seat { IsReady self.now.plan self.now.table.shared.table_id seat.new }
+        ensures name { KeepsName seat.old seat.new }
+        ensures says { TurnSays self.now.plan seat.old seat.new result }
+    {
+        let Some(word) = self.look_twice_at_front(seat) else {
+            return self.turn_at_end(seat);
+        };
+        if word & PAYLOAD != 0 {
+            match self.take_front(seat, word) {
+                Some(taken) => Turn::Took(taken),
+                None => Turn::Failed,
+            }
+        } else if self.finds_closed(seat, word) {
+            Turn::Closed
+        } else {
+            Turn::Failed
+        }
+    }
+
+    /// Takes the value at the front, in so many turns at most.
+    pub(crate) fn pop_in(&self, seat: &mut Seat, turns: u32) -> Result<Option<Taken>, Refusal>
+        requires ready { IsReady self.now.plan self.now.table.shared.table_id seat.old }
+        requires role { MayPop (permits_of self.now.plan) (known_of seat.old).number }
+        ensures seat { IsReady self.now.plan self.now.table.shared.table_id seat.new }
+        ensures name { KeepsName seat.old seat.new }
+        ensures answer { IfOk result (λ taken. PopAnswers (known_of seat.old) taken (known_of seat.new)) }
+        ensures refused { IfErr result
+            (λ refusal. RefusedPop (known_of seat.old) refusal (known_of seat.new)) }
+        ensures refusal { IfErr result StopsPop }
+        ensures caused { IfErr result (PopRefused self.now.plan seat.old seat.new turns) }
+    {
+        for _ in 0..turns {
+            match self.pop_turn(seat) {
+                Turn::Took(taken) => return Ok(Some(taken)),
+                Turn::Empty => return Ok(None),
+                Turn::Closed => return Err(Refusal::Closed),
+                Turn::Failed => {}
+            }
+        }
+        Err(Refusal::Busy)
+    }
+}

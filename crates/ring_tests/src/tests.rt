@@ -1,0 +1,5 @@
+//! Calls of one seat and of several, and of threads.
+mod calls;
+mod making;
+mod runs;
+mod threads;

@@ -1,0 +1,77 @@
+//! Calls by a seat that may make them, with small bodies.
+ghost use Rattle.std.specs.Prelude.{IfOk};
+ghost use Rattle.std.specs.List.{All};
+ghost use Rattle.ring_queue.specs.Queues.{IsQueueSeat};
+
+use history::{Body, Fifo, Refusal};
+use ring_queue::{RingQueue, Role, Seat};
+use std::alloc::Global;
+use std::fmt::Debug;
+use std::process::Abort;
+
+/// A limit that no test comes near.
+pub const AMPLE: u64 = 1 << 40;
+
+/// Pushes a small body in so many turns. A seat that may not push answers `BadSize`, which no queue does.
+pub fn push(queue: &RingQueue, seat: &mut Seat, body: u64, turns: u32) -> Result<(), Refusal>
+    requires { IsQueueSeat queue.now seat.old }
+    ensures { IsQueueSeat queue.now seat.new }
+{
+    let Some(body) = Body::new(body) else {
+        return Err(Refusal::BadSize);
+    };
+    if turns == 0 || !queue.may_push(seat) {
+        return Err(Refusal::BadSize);
+    }
+    queue.try_push(seat, body, turns)
+}
+
+/// The value at the front, as its pusher and its body. A seat that may not pop answers `BadSize`, which no queue does.
+pub fn pop(queue: &RingQueue, seat: &mut Seat, turns: u32) -> Result<Option<(u16, u64)>, Refusal>
+    requires { IsQueueSeat queue.now seat.old }
+    ensures { IsQueueSeat queue.now seat.new }
+{
+    if turns == 0 || !queue.may_pop(seat) {
+        return Err(Refusal::BadSize);
+    }
+    let taken = queue.try_pop(seat, turns)?;
+    Ok(taken.map(|value| (value.from, value.body.number())))
+}
+
+/// Shuts the queue. A seat that may not push answers `BadSize`, which no queue does.
+pub fn shut(queue: &RingQueue, seat: &mut Seat) -> Result<(), Refusal>
+    requires { IsQueueSeat queue.now seat.old }
+    ensures { IsQueueSeat queue.now seat.new }
+{
+    if !queue.may_push(seat) {
+        return Err(Refusal::BadSize);
+    }
+    queue.try_shut(seat, 1)
+}
+
+/// A ring with seats for these roles.
+pub fn ring(
+    alloc: Global,
+    most: u32,
+    credits: u32,
+    roles: &[Role],
+) -> Result<(RingQueue, Vec<Seat>), Refusal>
+    ensures { IfOk result (λ r. All (IsQueueSeat r.0) r.1.items) }
+{
+    RingQueue::new(alloc, most, credits, AMPLE, roles)
+}
+
+/// The last of the seats.
+pub fn last(queue: &RingQueue, seats: &mut Vec<Seat>) -> Result<Seat, Refusal>
+    requires { All (IsQueueSeat queue.now) seats.old.items }
+    ensures seat { IfOk result (λ seat. IsQueueSeat queue.now seat) }
+    ensures left { All (IsQueueSeat queue.now) seats.new.items }
+{
+    let _ = queue;
+    seats.pop().ok_or(Refusal::BadSize)
+}
+
+/// Both are the same; else the test ends, and shows both with what was tried.
+pub fn same<T: PartialEq + Debug + Drop>(rt: &impl Abort, found: T, wanted: T, tried: &str) {
+    assert_eq!(rt; found, wanted, "{tried}");
+}
