@@ -2,4 +2,5 @@ pub mod Answers
 pub mod Bells
 pub mod Lates
 pub mod Queues
+pub mod Unshuts
 pub mod Waits

@@ -1,11 +1,13 @@
 //! What calls sleep on.
 ghost use Rattle.std.specs.Prelude.{◌≡◌};
 ghost use Rattle.history.specs.declared.refusals.Refusal.TheVariants.{NoNode};
-ghost use Rattle.history.specs.Answers.{EndsByTry};
+ghost use Rattle.history.specs.Answers.{EndsByTry, SeesMore};
 ghost use Rattle.blocking_queue.specs.Waits.{EmptySince};
 ghost use Rattle.blocking_queue.specs.Bells.{seat_heard};
+ghost use Rattle.blocking_queue.specs.Unshuts.{seat_unshut};
 
 use crate::deadlines::{Deadline, park};
+use crate::shuts::Unshut;
 use history::Fifo;
 use std::snapshot::Snapshot;
 use std::sync::Wait;
@@ -73,15 +75,18 @@ impl<Q: Fifo> Listener<'_, Q> {
         self.sleep(rt, until);
     }
 
-    /// Sleeps until the bell rings, or the deadline. The seat has had a push refused for want of a node since it listens.
+    /// Sleeps until the bell rings, or the deadline. Since it listens the seat has looked for a shut, and has then had a push
+    /// refused for want of a node.
     pub(crate) fn sleep_full<R: Wait, D: Deadline>(
         self,
         rt: &R,
         queue: &Q,
         seat: &Q::Seat,
+        unshut: Unshut<Q::Seat>,
         until: &D,
     )
-        requires looked { EndsByTry Q.is_seat Q.known Q.push_cause queue.now (seat_heard self)
+        requires unshut { SeesMore (Q.known (seat_heard self)) (Q.known (seat_unshut unshut)) }
+        requires looked { EndsByTry Q.is_seat Q.known Q.push_cause queue.now (seat_unshut unshut)
             seat.now 8 NoNode }
     {
         self.sleep(rt, until);

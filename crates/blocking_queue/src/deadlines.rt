@@ -22,15 +22,17 @@ pub enum InTime<T, S> {
     Late(Late<S>),
 }
 
-/// When a call stops waiting.
-pub(crate) trait Deadline {
+/// When a call stops waiting: once a time is over, or something else is so. Who lets that become so otherwise than by time
+/// then calls `wake_all`, since a call that sleeps looks only where it is woken, or the time is over that `left` tells.
+pub trait Deadline {
     // It comes at all.
     ghost comes: { Self → Bool };
 
+    /// Whether it has come.
     fn is_past(&self) -> bool
         ensures { IsTrue result → IsTrue (comes self.now) };
 
-    // How long a sleep may be; none where that is as long as it takes.
+    /// How long a sleep may be; none where that is as long as it takes.
     fn left(&self) -> Option<Duration>;
 }
 

@@ -6,6 +6,7 @@ mod deadlines;
 mod queue;
 mod receiving;
 mod sending;
+mod shuts;
 
-pub use deadlines::{InTime, Late};
+pub use deadlines::{Deadline, InTime, Late};
 pub use queue::BlockingQueue;

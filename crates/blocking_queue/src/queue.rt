@@ -4,12 +4,15 @@ ghost use Rattle.blocking_queue.specs.Queues.{queue_of};
 
 use crate::bells::Bell;
 use history::{Body, Fifo, Refusal, Taken};
+use std::sync::atomic::AtomicBool;
+use std::sync::atomic::Ordering::SeqCst;
 
 /// A queue, any `Fifo`, whose calls sleep where it is empty, or full. It is a `Fifo` itself, whose calls are those of the
 /// queue and wake who sleeps: a push wakes one that waits for a value, a pop one that waits for a node, a shut all.
 #[derive(Drop)]
 pub struct BlockingQueue<Q> {
     pub(crate) queue: Q,
+    pub(crate) is_shut: AtomicBool,
     pub(crate) values: Bell,
     pub(crate) nodes: Bell,
 }
@@ -28,9 +31,22 @@ impl<Q> BlockingQueue<Q> {
     {
         BlockingQueue {
             queue,
+            is_shut: AtomicBool::new(false),
             values: Bell::new(),
             nodes: Bell::new(),
         }
+    }
+
+    /// Wakes all whose calls sleep, so that each looks again, also whether its deadline has come. Takes no memory and doesn't
+    /// wait.
+    ///
+    /// ```rust
+    /// stop.store(true, Ordering::SeqCst);
+    /// queue.wake_all();
+    /// ```
+    pub fn wake_all(&self) {
+        self.values.ring_all();
+        self.nodes.ring_all();
     }
 
     /// The queue alone, to be closed by its seats. Takes no memory and doesn't wait.
@@ -44,6 +60,7 @@ impl<Q> BlockingQueue<Q> {
     {
         let BlockingQueue {
             queue,
+            is_shut: _,
             values: _,
             nodes: _,
         } = self;
@@ -71,26 +88,39 @@ impl<Q: Fifo> Fifo for BlockingQueue<Q> {
 
     ghost sound = { λ q. Q.sound (queue_of q) };
 
+    ghost closed_alike = { λ q. Q.closed_alike (queue_of q) };
+
     ghost seat_prop = { λ q. Q.seat_prop (queue_of q) };
 
+    // (A call that is refused `WornOut` may have been woken, and leaves what woke it: so it wakes the next one.)
     fn try_push(&self, seat: &mut Q::Seat, body: Body, turns: u32) -> Result<(), Refusal> {
-        self.queue.try_push(seat, body, turns)?;
-        self.values.ring();
-        Ok(())
+        let answer = self.queue.try_push(seat, body, turns);
+        match answer {
+            Ok(()) => self.values.ring(),
+            Err(Refusal::WornOut(_)) => self.nodes.ring(),
+            Err(_) => {}
+        }
+        answer
     }
 
     // (A pop gives nodes back also where it takes no value.)
     fn try_pop(&self, seat: &mut Q::Seat, turns: u32) -> Result<Option<Taken>, Refusal> {
         let answer = self.queue.try_pop(seat, turns);
+        if let Err(Refusal::WornOut(_)) = answer {
+            self.values.ring();
+        }
         self.nodes.ring();
         answer
     }
 
     fn try_shut(&self, seat: &mut Q::Seat, turns: u32) -> Result<(), Refusal> {
-        self.queue.try_shut(seat, turns)?;
-        self.values.ring_all();
-        self.nodes.ring_all();
-        Ok(())
+        let answer = self.queue.try_shut(seat, turns);
+        if matches!(answer, Ok(()) | Err(Refusal::Closed)) {
+            self.is_shut.store(true, SeqCst);
+            self.values.ring_all();
+            self.nodes.ring_all();
+        }
+        answer
     }
 
     fn meet(&self, one: &mut Q::Seat, other: &mut Q::Seat) {

@@ -108,7 +108,15 @@ impl<Q: Fifo> BlockingQueue<Q> {
         self.recv_until(rt, seat, &At::instant(rt, deadline))
     }
 
-    fn recv_until<R: Wait, D: Deadline>(
+    /// Takes the value at the front, and sleeps while there is none, until the deadline comes; then it looks once more. The
+    /// seat may pop.
+    ///
+    /// Refusals: as of `recv`. Takes no memory, and waits.
+    ///
+    /// ```rust
+    /// let answer = queue.recv_until(rt, &mut taker, &told_to_stop)?;
+    /// ```
+    pub fn recv_until<R: Wait, D: Deadline>(
         &self,
         rt: &R,
         seat: &mut Q::Seat,
@@ -116,6 +124,8 @@ impl<Q: Fifo> BlockingQueue<Q> {
     ) -> Result<InTime<Taken, Q::Seat>, Refusal>
         requires seat { Q.is_seat (queue_of self.now) seat.old }
         requires role { MayPop (Q.permits (queue_of self.now)) (Q.known seat.old).number }
+        //= queues/received_until (seat, number, answer, comes, refused, refusal, caused): A `recv_until` and a `send_until`
+        //=   answer as `recv_timeout` and `send_timeout` do, and `Late` only where their deadline comes at all.
         ensures seat { Q.is_seat (queue_of self.now) seat.new }
         ensures number { (Q.known seat.new).number ≡ (Q.known seat.old).number }
         ensures answer { IfOk result (λ answer. RecvAnswers Q.known seat.old answer seat.new) }

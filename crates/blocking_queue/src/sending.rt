@@ -108,7 +108,15 @@ impl<Q: Fifo> BlockingQueue<Q> {
         self.send_until(rt, seat, body, &At::instant(rt, deadline))
     }
 
-    fn send_until<R: Wait, D: Deadline>(
+    /// Pushes a body at the back, and sleeps while there is no node for it, until the deadline comes; then it tries once
+    /// more. The seat may push.
+    ///
+    /// Refusals: as of `send`. Takes no memory, and waits.
+    ///
+    /// ```rust
+    /// let answer = queue.send_until(rt, &mut giver, body, &told_to_stop)?;
+    /// ```
+    pub fn send_until<R: Wait, D: Deadline>(
         &self,
         rt: &R,
         seat: &mut Q::Seat,
@@ -117,6 +125,7 @@ impl<Q: Fifo> BlockingQueue<Q> {
     ) -> Result<InTime<(), Q::Seat>, Refusal>
         requires seat { Q.is_seat (queue_of self.now) seat.old }
         requires role { MayPush (Q.permits (queue_of self.now)) (Q.known seat.old).number }
+        //= queues/received_until (seat, number, answer, comes, refused, refusal, caused)
         ensures seat { Q.is_seat (queue_of self.now) seat.new }
         ensures number { (Q.known seat.new).number ≡ (Q.known seat.old).number }
         ensures answer { IfOk result (λ answer. SendAnswers Q.is_seat Q.known Q.push_cause
@@ -135,9 +144,13 @@ impl<Q: Fifo> BlockingQueue<Q> {
                 Err(refusal) => return Err(refusal),
             }
             let listener = self.nodes.listen::<Q>(seat);
+            let unshut = match self.look_for_shut(rt, seat) {
+                Ok(unshut) => unshut,
+                Err(refusal) => return Err(refusal),
+            };
             match self.push(rt, seat, body) {
                 Ok(()) => return Ok(InTime::Done(())),
-                Err(Refusal::NoNode) => listener.sleep_full(rt, &self.queue, seat, until),
+                Err(Refusal::NoNode) => listener.sleep_full(rt, &self.queue, seat, unshut, until),
                 Err(refusal) => return Err(refusal),
             }
             if let Some(late) = is_over(until, seat) {

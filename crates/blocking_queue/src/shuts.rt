@@ -1,0 +1,63 @@
+//! Whether the queue was shut, which a push isn't told that gets no node.
+ghost use Rattle.std.specs.Prelude.{◌≡◌, IfErr, IfOk};
+ghost use Rattle.history.specs.Seats.{MayPush};
+ghost use Rattle.history.specs.Answers.{PushRefused, SeesMore, EndsByTry};
+ghost use Rattle.blocking_queue.specs.Queues.{queue_of};
+ghost use Rattle.blocking_queue.specs.Unshuts.{seat_unshut};
+
+use crate::queue::BlockingQueue;
+use history::{Fifo, Refusal};
+use std::hint;
+use std::snapshot::Snapshot;
+use std::sync::Wait;
+use std::sync::atomic::Ordering::SeqCst;
+
+/// That no shut was known of, and what a seat was then. Only a look for one makes it.
+#[derive(Drop)]
+pub(crate) struct Unshut<S> {
+    pub(crate) at: Snapshot<S>,
+}
+
+impl<Q: Fifo> BlockingQueue<Q> {
+    // Looks for a shut, as the seat then is: `Closed` where there was one, by a shut that is refused so.
+    pub(crate) fn look_for_shut<R: Wait>(
+        &self,
+        rt: &R,
+        seat: &mut Q::Seat,
+    ) -> Result<Unshut<Q::Seat>, Refusal>
+        requires seat { Q.is_seat (queue_of self.now) seat.old }
+        requires role { MayPush (Q.permits (queue_of self.now)) (Q.known seat.old).number }
+        ensures seat { Q.is_seat (queue_of self.now) seat.new }
+        ensures number { (Q.known seat.new).number ≡ (Q.known seat.old).number }
+        ensures now { IfOk result (λ unshut. seat_unshut unshut ≡ seat.new) }
+        ensures more { IfOk result (λ unshut. SeesMore (Q.known seat.old) (Q.known seat.new)) }
+        ensures refused { IfErr result
+            (λ refusal. PushRefused (Q.known seat.old) refusal (Q.known seat.new)) }
+        ensures closed { IfErr result (λ refusal. refusal ≡ Refusal.Closed) }
+        ensures caused { IfErr result (EndsByTry Q.is_seat Q.known Q.push_cause (queue_of self.now)
+            seat.old seat.new 8) }
+    {
+        if self.is_shut.load(SeqCst) {
+            match self.queue.shut(rt, seat) {
+                Err(Refusal::Closed) => return Err(Refusal::Closed),
+                // Tail is worn out behind the shut.
+                Err(_) => {}
+                // Never, since it is shut; no clause tells.
+                Ok(()) => wait_for_good(rt),
+            }
+        }
+        Ok(Unshut {
+            at: Snapshot::of(seat),
+        })
+    }
+}
+
+// Never returns.
+fn wait_for_good<R: Wait>(rt: &R)
+    ensures { ⊥ }
+{
+    for _ in rt.forever() {
+        hint::spin_loop();
+    }
+    unreachable!()
+}
