@@ -4,11 +4,13 @@ ghost use Rattle.std.specs.List.{All};
 ghost use Rattle.job_results.specs.Gathers.{jobs_in};
 ghost use Rattle.job_results.specs.Jobs.{job_rows};
 ghost use Rattle.job_results.specs.Results.{row_of, HaveJobs};
+ghost use Rattle.blocking_queue.specs.Queues.{queue_of};
 ghost use Rattle.dispatcher.specs.Workers.{IsTaker, IsGiver, IsBadSize, StopsDispatch, StopsWorkers};
 
 use crate::gate::Gate;
 use crate::running::{Signals, work};
 use crate::submitting::submit;
+use blocking_queue::BlockingQueue;
 use history::{Fifo, Refusal};
 use job_results::{Gather, Job, JobResult};
 use std::alloc::Global;
@@ -24,17 +26,17 @@ fn start<'s, 'a: 's, E, R: Threads + Wait + Sync, Q: Fifo + Sync, G: Gate + Sync
     scope: &Scope<'s, E>,
     rt: &'s R,
     alloc: Global,
-    queue: &'s Q,
+    queue: &'s BlockingQueue<Q>,
     seat: Q::Seat,
     jobs: &'a [Job],
     gate: &'s G,
     signals: &'s Signals,
 ) -> Option<JoinHandle<Vec<JobResult<'a>>>>
-    requires { IsTaker Q.is_seat Q.permits Q.known queue.now seat }
+    requires { IsTaker Q.is_seat Q.permits Q.known (queue_of queue.now) seat }
 {
     let worker = scope.spawn(
         move || -> Vec<JobResult>
-            requires { IsTaker Q.is_seat Q.permits Q.known queue.now seat }
+            requires { IsTaker Q.is_seat Q.permits Q.known (queue_of queue.now) seat }
         { work(rt, alloc, queue, seat, jobs, gate, signals) },
     );
     match worker {
@@ -51,13 +53,13 @@ fn start_all<'s, 'a: 's, E, R: Threads + Wait + Sync, Q: Fifo + Sync, G: Gate + 
     scope: &Scope<'s, E>,
     rt: &'s R,
     alloc: Global,
-    queue: &'s Q,
+    queue: &'s BlockingQueue<Q>,
     takers: Vec<Q::Seat>,
     jobs: &'a [Job],
     gate: &'s G,
     signals: &'s Signals,
 ) -> Result<Vec<JoinHandle<Vec<JobResult<'a>>>>, Refusal>
-    requires { All (IsTaker Q.is_seat Q.permits Q.known queue.now) takers.items }
+    requires { All (IsTaker Q.is_seat Q.permits Q.known (queue_of queue.now)) takers.items }
     ensures { IfErr result (λ refusal. refusal ≡ Refusal.Memory) }
 {
     let mut handles = Vec::new(alloc);
@@ -100,15 +102,15 @@ fn run<'s, 'a: 's, E, R: Threads + Wait + Sync, Q: Fifo + Sync, G: Gate + Sync>(
     scope: &Scope<'s, E>,
     rt: &'s R,
     alloc: Global,
-    queue: &'s Q,
+    queue: &'s BlockingQueue<Q>,
     mut giver: Q::Seat,
     takers: Vec<Q::Seat>,
     jobs: &'a [Job],
     gate: &'s G,
     signals: &'s Signals,
 ) -> Result<Vec<JobResult<'a>>, Refusal>
-    requires giver { IsGiver Q.is_seat Q.permits Q.known queue.now giver }
-    requires takers { All (IsTaker Q.is_seat Q.permits Q.known queue.now) takers.items }
+    requires giver { IsGiver Q.is_seat Q.permits Q.known (queue_of queue.now) giver }
+    requires takers { All (IsTaker Q.is_seat Q.permits Q.known (queue_of queue.now)) takers.items }
     ensures rows { IfOk result (λ results. map row_of results.items ≡ job_rows 1 jobs.now) }
     ensures same { IfOk result (λ results. HaveJobs results.items jobs.now) }
     ensures refusal { IfErr result StopsWorkers }
@@ -118,6 +120,7 @@ fn run<'s, 'a: 's, E, R: Threads + Wait + Sync, Q: Fifo + Sync, G: Gate + Sync>(
     let workers = start_all(scope, rt, alloc, queue, takers, jobs, gate, signals)?;
     if submit(rt, queue, &mut giver, jobs.len(), seats, signals).is_err() {
         signals.give_up();
+        queue.wake_all();
     }
     join_all(rt, &mut gather, workers);
     gather.finish()
@@ -127,14 +130,14 @@ fn run<'s, 'a: 's, E, R: Threads + Wait + Sync, Q: Fifo + Sync, G: Gate + Sync>(
 fn run_in_scope<'a, R: Threads + Wait + Sync, Q: Fifo + Sync, G: Gate + Sync>(
     rt: &R,
     alloc: Global,
-    queue: &Q,
+    queue: &BlockingQueue<Q>,
     giver: Q::Seat,
     takers: Vec<Q::Seat>,
     jobs: &'a [Job],
     gate: &G,
 ) -> Result<Vec<JobResult<'a>>, Refusal>
-    requires giver { IsGiver Q.is_seat Q.permits Q.known queue.now giver }
-    requires takers { All (IsTaker Q.is_seat Q.permits Q.known queue.now) takers.items }
+    requires giver { IsGiver Q.is_seat Q.permits Q.known (queue_of queue.now) giver }
+    requires takers { All (IsTaker Q.is_seat Q.permits Q.known (queue_of queue.now)) takers.items }
     ensures rows { IfOk result (λ results. map row_of results.items ≡ job_rows 1 jobs.now) }
     ensures same { IfOk result (λ results. HaveJobs results.items jobs.now) }
     ensures refusal { IfErr result StopsWorkers }
@@ -145,8 +148,8 @@ fn run_in_scope<'a, R: Threads + Wait + Sync, Q: Fifo + Sync, G: Gate + Sync>(
         thread::scope_env(),
         rt,
         |scope| -> Result<Vec<JobResult>, Refusal>
-            requires giver { IsGiver Q.is_seat Q.permits Q.known queue.now giver }
-            requires takers { All (IsTaker Q.is_seat Q.permits Q.known queue.now) takers.items }
+            requires giver { IsGiver Q.is_seat Q.permits Q.known (queue_of queue.now) giver }
+            requires takers { All (IsTaker Q.is_seat Q.permits Q.known (queue_of queue.now)) takers.items }
             ensures rows { IfOk result (λ results.
                 map row_of results.items ≡ job_rows 1 jobs.entry.now) }
             ensures same { IfOk result (λ results. HaveJobs results.items jobs.entry.now) }
@@ -174,14 +177,14 @@ fn run_in_scope<'a, R: Threads + Wait + Sync, Q: Fifo + Sync, G: Gate + Sync>(
 pub fn dispatch<'a, R: Threads + Wait + Sync, Q: Fifo + Sync, G: Gate + Sync>(
     rt: &R,
     alloc: Global,
-    queue: &Q,
+    queue: &BlockingQueue<Q>,
     giver: Q::Seat,
     takers: Vec<Q::Seat>,
     jobs: &'a [Job],
     gate: &G,
 ) -> Result<Vec<JobResult<'a>>, Refusal>
-    requires giver { IsGiver Q.is_seat Q.permits Q.known queue.now giver }
-    requires takers { All (IsTaker Q.is_seat Q.permits Q.known queue.now) takers.items }
+    requires giver { IsGiver Q.is_seat Q.permits Q.known (queue_of queue.now) giver }
+    requires takers { All (IsTaker Q.is_seat Q.permits Q.known (queue_of queue.now)) takers.items }
     //= jobs/dispatch (rows, same, sized, refusal): A dispatch answers each job's number, kind and value once, in the order
     //=   of the jobs. `BadSize` comes exactly where there is no taker or more than 1,000,000 jobs; else `Lost` and
     //=   `Memory`.

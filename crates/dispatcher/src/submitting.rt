@@ -1,23 +1,24 @@
 //! The submitter: it pushes the numbers of the jobs, and then shuts the queue.
 ghost use Rattle.std.specs.Prelude.{◌≡◌, ◌≤◌, OnOk, IfErr};
+ghost use Rattle.blocking_queue.specs.Queues.{queue_of};
 ghost use Rattle.dispatcher.specs.Workers.{IsGiver, HasPushedOne, HasPushed, EndsPushOne, KnowsShut};
 
-use crate::running::{Signals, TURNS};
-use crossbeam_utils::Backoff;
+use crate::running::{NoneLeft, Signals};
+use blocking_queue::{BlockingQueue, InTime};
 use history::{Body, Fifo, Refusal};
 use std::sync::Wait;
 
-// Pushes one number while a worker runs, and tries again where others are in the way or no node is free.
+// Pushes one number while a worker runs, and sleeps while no node is free.
 fn push_one<R: Wait, Q: Fifo>(
     rt: &R,
-    queue: &Q,
+    queue: &BlockingQueue<Q>,
     seat: &mut Q::Seat,
     number: u64,
     workers: usize,
     signals: &Signals,
 ) -> Result<(), Refusal>
-    requires { IsGiver Q.is_seat Q.permits Q.known queue.now seat.old }
-    ensures giver { IsGiver Q.is_seat Q.permits Q.known queue.now seat.new }
+    requires { IsGiver Q.is_seat Q.permits Q.known (queue_of queue.now) seat.old }
+    ensures giver { IsGiver Q.is_seat Q.permits Q.known (queue_of queue.now) seat.new }
     ensures number { (Q.known seat.new).number ≡ (Q.known seat.old).number }
     ensures pushed { OnOk result (HasPushedOne (Q.known seat.old) number (Q.known seat.new)) }
     ensures refusal { IfErr result EndsPushOne }
@@ -25,31 +26,26 @@ fn push_one<R: Wait, Q: Fifo>(
     let Some(body) = Body::new(number) else {
         return Err(Refusal::BadSize);
     };
-    let backoff = Backoff::new();
-    for _ in rt.forever() {
-        if signals.ended() >= workers {
-            return Err(Refusal::Lost);
-        }
-        match queue.try_push(seat, body, TURNS) {
-            Ok(()) => return Ok(()),
-            Err(Refusal::Busy) | Err(Refusal::NoNode) => backoff.snooze(),
-            Err(refusal) => return Err(refusal),
-        }
+    if signals.ended() >= workers {
+        return Err(Refusal::Lost);
     }
-    unreachable!()
+    match queue.send_until(rt, seat, body, &NoneLeft::new(signals, workers))? {
+        InTime::Done(()) => Ok(()),
+        InTime::Late(_) => Err(Refusal::Lost),
+    }
 }
 
 // Pushes 1 and so on to the number of jobs. Ends at the first push that is refused.
 fn push_all<R: Wait, Q: Fifo>(
     rt: &R,
-    queue: &Q,
+    queue: &BlockingQueue<Q>,
     seat: &mut Q::Seat,
     jobs: usize,
     workers: usize,
     signals: &Signals,
 ) -> Result<(), Refusal>
-    requires { IsGiver Q.is_seat Q.permits Q.known queue.now seat.old }
-    ensures giver { IsGiver Q.is_seat Q.permits Q.known queue.now seat.new }
+    requires { IsGiver Q.is_seat Q.permits Q.known (queue_of queue.now) seat.old }
+    ensures giver { IsGiver Q.is_seat Q.permits Q.known (queue_of queue.now) seat.new }
     ensures pushed { OnOk result (HasPushed (Q.known seat.old) jobs (Q.known seat.new)) }
 {
     for count in 0..jobs as u64 {
@@ -62,13 +58,13 @@ fn push_all<R: Wait, Q: Fifo>(
 /// shut yet. Refused where it can't be shut.
 pub(crate) fn submit<R: Wait, Q: Fifo>(
     rt: &R,
-    queue: &Q,
+    queue: &BlockingQueue<Q>,
     seat: &mut Q::Seat,
     jobs: usize,
     workers: usize,
     signals: &Signals,
 ) -> Result<(), Refusal>
-    requires { IsGiver Q.is_seat Q.permits Q.known queue.now seat.old }
+    requires { IsGiver Q.is_seat Q.permits Q.known (queue_of queue.now) seat.old }
     ensures { OnOk result (KnowsShut (Q.known seat.new)) }
 {
     // A job that isn't pushed has no result, which says so.

@@ -40,7 +40,7 @@ fn take_number<Q: Fifo>(queue: &Q, seat: &mut Q::Seat, turns: u32) -> Result<Opt
 
 // Does the job of this number: its result is put at the end of `out`, which has room. Refused by `Stranger` where the number
 // is 0, or above that of the jobs.
-fn do_job<'a, G: Gate>(
+pub(crate) fn do_job<'a, G: Gate>(
     jobs: &'a [Job],
     gate: &G,
     out: &mut Vec<JobResult<'a>>,

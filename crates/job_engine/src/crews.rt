@@ -3,6 +3,7 @@ ghost use Rattle.std.specs.Prelude.{◌≡◌, ◌≤◌, length, map, IfErr, If
 ghost use Rattle.std.specs.List.{All};
 ghost use Rattle.node_arena.specs.Seats.{plan_of};
 ghost use Rattle.any_queue.specs.Any.{any_arena_of};
+ghost use Rattle.blocking_queue.specs.Queues.{queue_of};
 ghost use Rattle.job_results.specs.Jobs.{job_rows};
 ghost use Rattle.job_results.specs.Results.{row_of};
 ghost use Rattle.dispatcher.specs.Workers.{IsTaker, IsGiver, StopsWorkers};
@@ -11,6 +12,7 @@ ghost use Rattle.job_engine.specs.Works.{AreSized};
 ghost use Rattle.job_engine.specs.Queues.{queue_in};
 
 use any_queue::AnyQueue;
+use blocking_queue::BlockingQueue;
 use dispatcher::{Gate, dispatch};
 use history::{Fifo, Refusal};
 use job_results::{Job, JobResult};
@@ -65,7 +67,9 @@ pub(crate) fn results_by<'a, R: Threads + Wait + Sync>(
 {
     let roles = roles_of(alloc, workers)?;
     let (queue, seats) = AnyQueue::new(alloc, kind, nodes, MOST_COUNT, &roles)?;
+    let queue = BlockingQueue::new(queue);
     let results = results_with(rt, alloc, &queue, workers, seats, jobs)?;
+    let queue = queue.into_inner();
     Ok((results, JobQueue { queue }))
 }
 
@@ -87,13 +91,13 @@ fn roles_of(alloc: Global, workers: u32) -> Result<Vec<Role>, Refusal>
 fn results_with<'a, R: Threads + Wait + Sync, Q: Fifo + Sync>(
     rt: &R,
     alloc: Global,
-    queue: &Q,
+    queue: &BlockingQueue<Q>,
     workers: u32,
     mut seats: Vec<Q::Seat>,
     jobs: &'a [Job],
 ) -> Result<Vec<JobResult<'a>>, Refusal>
     requires some { 1 ≤ workers }
-    requires crew { IsCrew Q.is_seat Q.permits Q.known queue.now workers seats.items }
+    requires crew { IsCrew Q.is_seat Q.permits Q.known (queue_of queue.now) workers seats.items }
     requires few { length jobs.now ≤ 1000000 }
     ensures rows { IfOk result (λ results. map row_of results.items ≡ job_rows 1 jobs.now) }
     ensures refusal { IfErr result StopsWorkers }
@@ -108,7 +112,7 @@ fn results_with<'a, R: Threads + Wait + Sync, Q: Fifo + Sync>(
 fn submit<'a, R: Threads + Wait + Sync, Q: Fifo + Sync>(
     rt: &R,
     alloc: Global,
-    queue: &Q,
+    queue: &BlockingQueue<Q>,
     workers: u32,
     giver: Q::Seat,
     takers: Vec<Q::Seat>,
@@ -116,8 +120,8 @@ fn submit<'a, R: Threads + Wait + Sync, Q: Fifo + Sync>(
 ) -> Result<Vec<JobResult<'a>>, Refusal>
     requires some { 1 ≤ workers }
     requires each { length takers.items ≡ workers }
-    requires giver { IsGiver Q.is_seat Q.permits Q.known queue.now giver }
-    requires takers { All (IsTaker Q.is_seat Q.permits Q.known queue.now) takers.items }
+    requires giver { IsGiver Q.is_seat Q.permits Q.known (queue_of queue.now) giver }
+    requires takers { All (IsTaker Q.is_seat Q.permits Q.known (queue_of queue.now)) takers.items }
     requires few { length jobs.now ≤ 1000000 }
     ensures rows { IfOk result (λ results. map row_of results.items ≡ job_rows 1 jobs.now) }
     ensures refusal { IfErr result StopsWorkers }

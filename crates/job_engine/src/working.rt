@@ -45,9 +45,10 @@ pub fn work_text<T: Threads + Wait + Sync, R: Source, W: Sink>(
 ) -> Result<JobQueue, Refusal>
     //= program/work (ok, quiet): At Ok `work_text` has written the results of the jobs read, each job's once and in
     //=   their order.
-    //= program/work_sizes (ok, sized, unread, text, prefix, refusal): `work_text` is refused `BadSize` exactly where
-    //=   workers aren't 1 to 64, or nodes not workers plus 3 to the greatest node's number; its reader is then as it
-    //=   was. A faulty text; at `Lost` and `Write` it was that of jobs.
+    //= program/work_sizes (ok, sized, unread, text, prefix, refusal): `work_text` is refused `BadSize` exactly if
+    //=   workers aren't 1 to 64, or nodes aren't workers plus 3 to the greatest node's number; its reader is then as
+    //=   it was. A text that isn't one of jobs is refused with its first faulty line and what is wrong with it,
+    //=   unless memory or reading is refused; at `Lost` and `Write` it was one of jobs.
     ensures ok { OnOk result (WritesResults (R.state reader.old).left (W.state writer.old)
         (W.state writer.new)) }
     ensures quiet { OnOk result ((W.state writer.new).failures ≡ (W.state writer.old).failures) }
@@ -62,8 +63,11 @@ pub fn work_text<T: Threads + Wait + Sync, R: Source, W: Sink>(
     // A text is refused by its first faulty line. Where jobs are lost, it was the text of jobs.
     ensures text { IfErr result (TellsOfText (R.state reader.old).left) }
     // Where writing fails, a prefix of the table is written.
-    //= program/work_refusals (prefix, write, unwritten, refusal, reader): At other refusals of `work_text` nothing;
-    //=   there are no more. The reader tells its end, but at `BadSize`, where no call of it failed.
+    //= program/work_refusals (prefix, write, unwritten, refusal, reader): If `work_text` is refused `Write`, a prefix
+    //=   of the results was written, and a write failed or took nothing; at any other refusal nothing was written. It
+    //=   is refused `BadSize`, `Lost`, `Write`, `Memory`, `Read` or `Text`. At Ok, and at each refusal but `BadSize`,
+    //=   `Memory` and `Read`, its reader has told its end and didn't fail; at `Read` one call of it failed, at
+    //=   `BadSize` and `Memory` none.
     ensures prefix { IfErr result (λ refusal. refusal ≡ Refusal.Write
         → BeginsResults (R.state reader.old).left (W.state writer.old) (W.state writer.new)) }
     ensures write { IfErr result (λ refusal. refusal ≡ Refusal.Write

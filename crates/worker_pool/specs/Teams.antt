@@ -9,10 +9,6 @@ use Rattle.history.specs.Seats.{Permit, Known, MayPush, MayPop}
 use Rattle.worker_pool.specs.declared.working.Team.{Team}
 use Rattle.worker_pool.specs.declared.jobs.Found.{Found}
 
--- a seat has this entry more of its own, at the end
-abbrev pub IsOneMore : Known → Entry → Known → Type 0
-IsOneMore k e k' = k'.mine ≡ k.mine ++ e ∷ []
-
 -- the pushes of 1 and so on by a seat
 abbrev pub pushes_to : (seat : ℕ) → ℕ → List Entry
 pushes_to seat zero = []

@@ -1,14 +1,13 @@
 //! A queue of any kind, one thread that hands out jobs, and three that do them.
 ghost use Rattle.std.specs.Prelude.{◌≡◌, ◌<◌, ◌^◌, ◌++◌, ◌∷◌, [], IfOk, OnOk};
 ghost use Rattle.std.specs.Thread.{IsSync};
-ghost use Rattle.history.specs.declared.operations.Entry.TheVariants.{Push};
 ghost use Rattle.history.specs.Limits.{body_bits};
-ghost use Rattle.history.specs.Seats.{MayPush};
+ghost use Rattle.blocking_queue.specs.Queues.{queue_of};
 ghost use Rattle.worker_pool.specs.Teams.{IsGiver, IsTaker, AreTakers, AreLeaders, AreSeats, IsTeam};
-ghost use Rattle.worker_pool.specs.Teams.{IsOneMore, HasPushed, HasSubmitted, HasWorked, HaveWorked, seats_in};
+ghost use Rattle.worker_pool.specs.Teams.{HasPushed, HasSubmitted, HasWorked, HaveWorked, seats_in};
 
 use crate::jobs::Found;
-use crossbeam_utils::Backoff;
+use blocking_queue::BlockingQueue;
 use history::{Body, Close, Fifo, Refusal};
 use std::alloc::Global;
 use std::sync::Wait;
@@ -44,41 +43,16 @@ fn team_of<Q: Fifo>(queue: &Q, mut seats: Vec<Q::Seat>) -> Team<Q::Seat>
     }
 }
 
-// Pushes a body, and waits while there is no node for it.
-fn push_one<R: Wait, Q: Fifo>(
-    rt: &R,
-    queue: &Q,
-    seat: &mut Q::Seat,
-    body: Body,
-) -> Result<(), Refusal>
-    requires seat { Q.is_seat queue.now seat.old }
-    requires role { MayPush (Q.permits queue.now) (Q.known seat.old).number }
-    ensures seat { Q.is_seat queue.now seat.new }
-    ensures number { (Q.known seat.new).number ≡ (Q.known seat.old).number }
-    ensures pushed { OnOk result (IsOneMore (Q.known seat.old)
-        (Push (Q.known seat.old).number body) (Q.known seat.new)) }
-{
-    let backoff = Backoff::new();
-    for _ in rt.forever() {
-        match queue.push(rt, seat, body) {
-            Ok(()) => return Ok(()),
-            Err(Refusal::NoNode) => backoff.snooze(),
-            Err(refusal) => return Err(refusal),
-        }
-    }
-    unreachable!()
-}
-
 // Pushes each job.
 fn push_all<R: Wait, Q: Fifo>(
     rt: &R,
-    queue: &Q,
+    queue: &BlockingQueue<Q>,
     seat: &mut Q::Seat,
     most: u64,
 ) -> Result<(), Refusal>
-    requires giver { IsGiver Q.is_seat Q.permits Q.known queue.now seat.old }
+    requires giver { IsGiver Q.is_seat Q.permits Q.known (queue_of queue.now) seat.old }
     requires bodies { most < 2 ^ body_bits }
-    ensures seat { Q.is_seat queue.now seat.new }
+    ensures seat { Q.is_seat (queue_of queue.now) seat.new }
     ensures number { (Q.known seat.new).number ≡ (Q.known seat.old).number }
     ensures pushed { OnOk result (HasPushed (Q.known seat.old) most (Q.known seat.new)) }
 {
@@ -86,7 +60,7 @@ fn push_all<R: Wait, Q: Fifo>(
         let Some(body) = Body::new(count + 1) else {
             unreachable!()
         };
-        push_one(rt, queue, seat, body)?;
+        queue.send(rt, seat, body)?;
     }
     Ok(())
 }
@@ -94,13 +68,13 @@ fn push_all<R: Wait, Q: Fifo>(
 // Pushes each job, and then shuts the queue, also where a push was refused: so the workers end.
 fn submit<R: Wait, Q: Fifo>(
     rt: &R,
-    queue: &Q,
+    queue: &BlockingQueue<Q>,
     mut seat: Q::Seat,
     most: u64,
 ) -> Result<Q::Seat, Refusal>
-    requires giver { IsGiver Q.is_seat Q.permits Q.known queue.now seat }
+    requires giver { IsGiver Q.is_seat Q.permits Q.known (queue_of queue.now) seat }
     requires bodies { most < 2 ^ body_bits }
-    ensures { IfOk result (HasSubmitted Q.is_seat Q.known queue.now seat most) }
+    ensures { IfOk result (HasSubmitted Q.is_seat Q.known (queue_of queue.now) seat most) }
 {
     let pushed = push_all(rt, queue, &mut seat, most);
     queue.shut(rt, &mut seat)?;
@@ -109,19 +83,18 @@ fn submit<R: Wait, Q: Fifo>(
 }
 
 // Does jobs until the queue is shut and empty; what it found.
-fn work<R: Wait, Q: Fifo>(rt: &R, queue: &Q, mut seat: Q::Seat) -> Result<(Q::Seat, Found), Refusal>
-    requires { IsTaker Q.is_seat Q.permits Q.known queue.now seat }
-    ensures { IfOk result (λ r. HasWorked Q.is_seat Q.known queue.now seat r.0 r.1) }
+fn work<R: Wait, Q: Fifo>(
+    rt: &R,
+    queue: &BlockingQueue<Q>,
+    mut seat: Q::Seat,
+) -> Result<(Q::Seat, Found), Refusal>
+    requires { IsTaker Q.is_seat Q.permits Q.known (queue_of queue.now) seat }
+    ensures { IfOk result (λ r. HasWorked Q.is_seat Q.known (queue_of queue.now) seat r.0 r.1) }
 {
     let mut found = Found::nothing();
-    let backoff = Backoff::new();
     for _ in rt.forever() {
-        match queue.pop(rt, &mut seat) {
-            Ok(Some(taken)) => {
-                found = found.with(Found::of(taken.body.number()));
-                backoff.reset();
-            }
-            Ok(None) => backoff.snooze(),
+        match queue.recv(rt, &mut seat) {
+            Ok(taken) => found = found.with(Found::of(taken.body.number())),
             Err(Refusal::Closed) => return Ok((seat, found)),
             Err(refusal) => return Err(refusal),
         }
@@ -132,26 +105,30 @@ fn work<R: Wait, Q: Fifo>(rt: &R, queue: &Q, mut seat: Q::Seat) -> Result<(Q::Se
 // The work of two threads.
 fn work_both<R: Threads + Wait + Sync, Q: Fifo + Sync>(
     rt: &R,
-    queue: &Q,
+    queue: &BlockingQueue<Q>,
     one: Q::Seat,
     other: Q::Seat,
 ) -> (
     Result<(Q::Seat, Found), Refusal>,
     Result<(Q::Seat, Found), Refusal>,
 )
-    requires { AreTakers Q.is_seat Q.permits Q.known queue.now one other }
-    ensures one { IfOk result.0 (λ r. HasWorked Q.is_seat Q.known queue.now one r.0 r.1) }
-    ensures other { IfOk result.1 (λ r. HasWorked Q.is_seat Q.known queue.now other r.0 r.1) }
+    requires { AreTakers Q.is_seat Q.permits Q.known (queue_of queue.now) one other }
+    ensures one { IfOk result.0
+        (λ r. HasWorked Q.is_seat Q.known (queue_of queue.now) one r.0 r.1) }
+    ensures other { IfOk result.1
+        (λ r. HasWorked Q.is_seat Q.known (queue_of queue.now) other r.0 r.1) }
 {
     join(
         rt,
         || -> Result<(Q::Seat, Found), Refusal>
-            requires { IsTaker Q.is_seat Q.permits Q.known queue.now one }
-            ensures { IfOk result (λ r. HasWorked Q.is_seat Q.known queue.entry.now one r.0 r.1) }
+            requires { IsTaker Q.is_seat Q.permits Q.known (queue_of queue.now) one }
+            ensures { IfOk result
+                (λ r. HasWorked Q.is_seat Q.known (queue_of queue.entry.now) one r.0 r.1) }
         { work(rt, queue, one) },
         || -> Result<(Q::Seat, Found), Refusal>
-            requires { IsTaker Q.is_seat Q.permits Q.known queue.now other }
-            ensures { IfOk result (λ r. HasWorked Q.is_seat Q.known queue.entry.now other r.0 r.1) }
+            requires { IsTaker Q.is_seat Q.permits Q.known (queue_of queue.now) other }
+            ensures { IfOk result
+                (λ r. HasWorked Q.is_seat Q.known (queue_of queue.entry.now) other r.0 r.1) }
         { work(rt, queue, other) },
     )
 }
@@ -159,26 +136,29 @@ fn work_both<R: Threads + Wait + Sync, Q: Fifo + Sync>(
 // Hands out the jobs, and does some of them in another thread.
 fn lead<R: Threads + Wait + Sync, Q: Fifo + Sync>(
     rt: &R,
-    queue: &Q,
+    queue: &BlockingQueue<Q>,
     giver: Q::Seat,
     taker: Q::Seat,
     most: u64,
 ) -> (Result<(Q::Seat, Found), Refusal>, Result<Q::Seat, Refusal>)
-    requires seats { AreLeaders Q.is_seat Q.permits Q.known queue.now giver taker }
+    requires seats { AreLeaders Q.is_seat Q.permits Q.known (queue_of queue.now) giver taker }
     requires bodies { most < 2 ^ body_bits }
-    ensures taker { IfOk result.0 (λ r. HasWorked Q.is_seat Q.known queue.now taker r.0 r.1) }
-    ensures giver { IfOk result.1 (HasSubmitted Q.is_seat Q.known queue.now giver most) }
+    ensures taker { IfOk result.0
+        (λ r. HasWorked Q.is_seat Q.known (queue_of queue.now) taker r.0 r.1) }
+    ensures giver { IfOk result.1 (HasSubmitted Q.is_seat Q.known (queue_of queue.now) giver most) }
 {
     join(
         rt,
         || -> Result<(Q::Seat, Found), Refusal>
-            requires { IsTaker Q.is_seat Q.permits Q.known queue.now taker }
-            ensures { IfOk result (λ r. HasWorked Q.is_seat Q.known queue.entry.now taker r.0 r.1) }
+            requires { IsTaker Q.is_seat Q.permits Q.known (queue_of queue.now) taker }
+            ensures { IfOk result
+                (λ r. HasWorked Q.is_seat Q.known (queue_of queue.entry.now) taker r.0 r.1) }
         { work(rt, queue, taker) },
         || -> Result<Q::Seat, Refusal>
-            requires giver { IsGiver Q.is_seat Q.permits Q.known queue.now giver }
+            requires giver { IsGiver Q.is_seat Q.permits Q.known (queue_of queue.now) giver }
             requires bodies { most < 2 ^ body_bits }
-            ensures { IfOk result (HasSubmitted Q.is_seat Q.known queue.entry.now giver most) }
+            ensures { IfOk result
+                (HasSubmitted Q.is_seat Q.known (queue_of queue.entry.now) giver most) }
         { submit(rt, queue, giver, most) },
     )
 }
@@ -186,13 +166,14 @@ fn lead<R: Threads + Wait + Sync, Q: Fifo + Sync>(
 // Hands out the jobs from 1 to `most` and does them, in four threads: the seats, and what was found.
 fn worked<R: Threads + Wait + Sync, Q: Fifo + Sync>(
     rt: &R,
-    queue: &Q,
+    queue: &BlockingQueue<Q>,
     team: Team<Q::Seat>,
     most: u64,
 ) -> Result<(Team<Q::Seat>, Found), Refusal>
-    requires team { IsTeam Q.is_seat Q.permits Q.known queue.now team }
+    requires team { IsTeam Q.is_seat Q.permits Q.known (queue_of queue.now) team }
     requires bodies { most < 2 ^ body_bits }
-    ensures { IfOk result (λ r. HaveWorked Q.is_seat Q.known queue.now team most r.0 r.1) }
+    ensures { IfOk result
+        (λ r. HaveWorked Q.is_seat Q.known (queue_of queue.now) team most r.0 r.1) }
 {
     let Team {
         giver,
@@ -206,15 +187,21 @@ fn worked<R: Threads + Wait + Sync, Q: Fifo + Sync>(
             Result<(Q::Seat, Found), Refusal>,
             Result<(Q::Seat, Found), Refusal>,
         )
-            requires { IsSync R.row × AreTakers Q.is_seat Q.permits Q.known queue.now one two }
-            ensures one { IfOk result.0 (λ r. HasWorked Q.is_seat Q.known queue.entry.now one r.0 r.1) }
-            ensures other { IfOk result.1 (λ r. HasWorked Q.is_seat Q.known queue.entry.now two r.0 r.1) }
+            requires { IsSync R.row ×
+                AreTakers Q.is_seat Q.permits Q.known (queue_of queue.now) one two }
+            ensures one { IfOk result.0
+                (λ r. HasWorked Q.is_seat Q.known (queue_of queue.entry.now) one r.0 r.1) }
+            ensures other { IfOk result.1
+                (λ r. HasWorked Q.is_seat Q.known (queue_of queue.entry.now) two r.0 r.1) }
         { work_both(rt, queue, one, two) },
         || -> (Result<(Q::Seat, Found), Refusal>, Result<Q::Seat, Refusal>)
-            requires seats { IsSync R.row × AreLeaders Q.is_seat Q.permits Q.known queue.now giver three }
+            requires seats { IsSync R.row ×
+                AreLeaders Q.is_seat Q.permits Q.known (queue_of queue.now) giver three }
             requires bodies { most < 2 ^ body_bits }
-            ensures taker { IfOk result.0 (λ r. HasWorked Q.is_seat Q.known queue.entry.now three r.0 r.1) }
-            ensures giver { IfOk result.1 (HasSubmitted Q.is_seat Q.known queue.entry.now giver most) }
+            ensures taker { IfOk result.0
+                (λ r. HasWorked Q.is_seat Q.known (queue_of queue.entry.now) three r.0 r.1) }
+            ensures giver { IfOk result.1
+                (HasSubmitted Q.is_seat Q.known (queue_of queue.entry.now) giver most) }
         { lead(rt, queue, giver, three, most) },
     );
     let (one, first) = one?;
@@ -272,8 +259,9 @@ pub fn run<R: Threads + Wait + Sync, Q: Close + Sync + Drop>(
     ensures { IfOk result (λ found. found.jobs ≡ most) }
 {
     let team = team_of(&queue, seats);
+    let queue = BlockingQueue::new(queue);
     let (team, found) = worked(rt, &queue, team, most)?;
     let seats = seats_of(alloc, team)?;
-    let _closed = queue.close(alloc, seats)?;
+    let _closed = queue.into_inner().close(alloc, seats)?;
     Ok(found)
 }

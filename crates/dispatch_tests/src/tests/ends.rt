@@ -6,6 +6,7 @@ use super::gates::Open;
 use super::plans::{Rule, Trouble};
 use super::queues::{KINDS, non_blocking_of, non_blocking_with, two_lock_of};
 use super::seats::dispatched;
+use blocking_queue::BlockingQueue;
 use history::{Close, Refusal};
 use line_table::Kind;
 use mock_queues::Planned;
@@ -57,9 +58,9 @@ fn end_over<R: Threads + Wait + Sync, Q: Close + Sync + Drop>(
     requires { All (Q.is_seat queue) seats.items }
 {
     let ends = AtomicU64::new(0);
-    let planned = Planned::new(queue, Trouble::new(rule, &ends));
+    let planned = BlockingQueue::new(Planned::new(queue, Trouble::new(rule, &ends)));
     let results = dispatched(rt, alloc, &planned, seats, None, count, &Open);
-    let (mut rest, _end) = planned.close(alloc, Vec::new(alloc))?;
+    let (mut rest, _end) = planned.into_inner().close(alloc, Vec::new(alloc))?;
     Ok(End {
         results,
         ends: ends.load(Ordering::SeqCst),

@@ -6,6 +6,7 @@ use super::gates::{Logged, Open, SecondFirst};
 use super::plans::{Rule, Trouble};
 use super::queues::{KINDS, non_blocking_of, two_lock_of};
 use super::seats::dispatched;
+use blocking_queue::BlockingQueue;
 use dispatcher::Gate;
 use history::{Body, Fifo, Refusal};
 use line_table::Kind;
@@ -52,10 +53,13 @@ fn done_over<R: Threads + Wait + Sync, Q: Fifo + Sync + Drop, G: Gate + Sync>(
 {
     let Load { count, early, .. } = load;
     match load.rule {
-        None => dispatched(rt, alloc, &queue, seats, early, count, gate),
+        None => {
+            let queue = BlockingQueue::new(queue);
+            dispatched(rt, alloc, &queue, seats, early, count, gate)
+        }
         Some(rule) => {
             let ends = AtomicU64::new(0);
-            let planned = Planned::new(queue, Trouble::new(rule, &ends));
+            let planned = BlockingQueue::new(Planned::new(queue, Trouble::new(rule, &ends)));
             dispatched(rt, alloc, &planned, seats, early, count, gate)
         }
     }

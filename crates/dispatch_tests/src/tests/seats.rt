@@ -1,8 +1,10 @@
 //! Seats of any queue, told apart by what they may do, and what workers make of a list of sums.
 ghost use Rattle.std.specs.Prelude.{IfOk};
 ghost use Rattle.std.specs.List.{All};
+ghost use Rattle.blocking_queue.specs.Queues.{queue_of};
 ghost use Rattle.dispatcher.specs.Workers.{IsTaker, IsGiver};
 
+use blocking_queue::BlockingQueue;
 use dispatcher::{Gate, dispatch};
 use history::{Body, Fifo, Refusal};
 use job_results::Job;
@@ -79,13 +81,13 @@ pub fn sums(alloc: Global, count: u64) -> Result<Vec<Job>, Refusal> {
 pub fn dispatched<R: Threads + Wait + Sync, Q: Fifo + Sync, G: Gate + Sync>(
     rt: &R,
     alloc: Global,
-    queue: &Q,
+    queue: &BlockingQueue<Q>,
     mut seats: Vec<Q::Seat>,
     early: Option<Body>,
     count: u64,
     gate: &G,
 ) -> Result<usize, Refusal>
-    requires { All (Q.is_seat queue.now) seats.items }
+    requires { All (Q.is_seat (queue_of queue.now)) seats.items }
 {
     let jobs = sums(alloc, count)?;
     let mut giver = giver_of(queue, &mut seats)?;

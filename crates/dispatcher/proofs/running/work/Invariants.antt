@@ -1,3 +1,4 @@
+use Rattle.blocking_queue.specs.Queues.{queue_of}
 use Rattle.dispatcher.specs.Workers.{IsTaker}
 use Rattle.dispatcher.proofs.running.work.Given as goal
 
@@ -5,5 +6,5 @@ abbrev pub invariant-loop : goal.invariant-loop
 invariant-loop g l = record {
   can : (goal.iterator-loop g).can_next l.iterator';
   finite : (goal.iterator-loop g).is_finite l.iterator';
-  seat : IsTaker g.Q.Fifo.is_seat g.Q.Fifo.permits g.Q.Fifo.known l.fn.queue l.seat;
+  seat : IsTaker g.Q.Fifo.is_seat g.Q.Fifo.permits g.Q.Fifo.known (queue_of l.fn.queue) l.seat;
 }
