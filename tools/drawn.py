@@ -28,16 +28,21 @@ def named(reply):
     return f"{reply} ({NAMES[words[1]]})" if words[0] == "refused" else reply
 
 
-def chains(words):
-    """Both chains, as they stand beside a row."""
-    told = []
+def state(words):
+    """What stands beside a row: both chains, with an arrow before the node that Tail names, and who holds the locks."""
+    told, tail, is_shown = [], words["Tail"][0], False
     for first in ("Head", "Free"):
         text, node, many = first, words[first][0], 0
         if node == 0:
             text += " -"
         while node not in (0, "end") and many < 5:
-            text, node, many = f"{text} {node}", words.get(f"next {node}", (0, 0))[0], many + 1
+            text += f" >{node}" if node == tail else f" {node}"
+            is_shown = is_shown or node == tail
+            node, many = words.get(f"next {node}", (0, 0))[0], many + 1
         told.append(text + {0: "", "end": " shut"}.get(node, " ..."))
+    if not is_shown:
+        told.append(f"Tail {tail}")
+    told += [f"{lock} {words[lock]}" for lock in ("T_lock", "H_lock") if words[lock]]
     return " | " + ", ".join(told)
 
 
@@ -68,10 +73,11 @@ def due(schedule, width=80, first=1, last=0, actor=0):
     bits = lines[2].split()[1] if at == 3 else "24"
     marked = effects(trace.split("\n")[7:-1])
     width = max(40, min(width, 190))
-    side = width * 2 // 3
-    many = 1 if actor else min(int(actors), (side - 7) // 8)
+    room = width * 5 // 8
+    many = 1 if actor else min(int(actors), (room - 7) // 8)
+    side = min(room, 25 + 12 * many)
     begin, end = actor or 1, last or first + 99
-    column = lambda me: 7 + (me - begin) * min((side - 7) // many, 12)
+    column = lambda me: 7 + (me - begin) * min((room - 7) // many, 12)
     machine = traced.Machine(kind, int(nodes), int(limit), int(actors))
     rows = [f"queue {kind}, bits {bits}, nodes {nodes}, limit {limit}, actors {actors}"]
     heading = " actor"
@@ -82,17 +88,17 @@ def due(schedule, width=80, first=1, last=0, actor=0):
     seen = lambda number, me: first <= number <= end and begin <= me < begin + many
 
     def step(me, move):
-        before = chains(machine.words)
+        before = state(machine.words)
         move()
         number, _, line, gives, word, found, now, reply = ROW.fullmatch(machine.rows[-1]).groups()
-        after = chains(machine.words)
+        after = state(machine.words)
         if not seen(machine.steps, me):
             return
         if gives:
             did = " gives"
         else:
             found, now = content(word, found), content(word, now)
-            did = f" {name(word)}" + (f" := {now}" if found != now else " lost" if line in EXCHANGES else f" {now}")
+            did = f" {name(word)}" + (f" := {now}" if found != now else f" lost to {now}" if line in EXCHANGES else f" {now}")
         cell = ("*" if machine.steps in marked else " ") + line + did + (f" -> {named(reply)}" if reply else "")
         text = (number.rjust(6) + " ").ljust(column(me)) + cell
         put(text.ljust(side) + after if machine.steps == first or before != after else text)

@@ -52,11 +52,11 @@ exchanges S6 = true
 exchanges S8 = true
 exchanges _ = false
 
--- what became of a word that held one text and holds another: it was changed; or it wasn't, and then the exchange is lost, or
--- the word was read
+-- what became of a word that held one text and holds another: it was changed; or it wasn't, and then the exchange is lost to
+-- what the word holds, or the word was read
 abbrev pub change_text : Line → (found now : List ℕ) → List ℕ
 change_text l found now =
-    if bytes_eq found now then (if exchanges l then codes " lost" else codes " " ++ now) else codes " := " ++ now
+    if bytes_eq found now then (if exchanges l then codes " lost to " else codes " ") ++ now else codes " := " ++ now
 
 -- the access of a word at a line, by what was found there and what is there now
 abbrev pub access_text : Line → Word → (found now : Contents) → List ℕ

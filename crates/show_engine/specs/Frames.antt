@@ -7,18 +7,22 @@ use Rattle.show_engine.specs.declared.framing.Frame.{Frame}
 abbrev pub width_of : View → ℕ
 width_of view = max (min view.width 190) 40
 
--- the column of the chains: two thirds of a row are left of it
-abbrev pub side_of : (width : ℕ) → ℕ
-side_of width = width * 2 / 3
+-- how many columns the numbers and the actors have at most: five eighths of a row
+abbrev pub room_of : (width : ℕ) → ℕ
+room_of width = width * 5 / 8
 
--- how many of so many actors are shown, where the chains stand at a column: the one asked for, or as many as have room side by
--- side, each in 8 columns, between the number and the chains
-abbrev pub shown_beside : View → (side actors : ℕ) → ℕ
-shown_beside view side actors = if nat_eq view.actor 0 then min actors ((side - 7) / 8) else 1
+-- how many of so many actors are shown, which have so many columns with the numbers: the one asked for, or as many as have room
+-- side by side behind the number, each in 8 columns
+abbrev pub shown_within : View → (room actors : ℕ) → ℕ
+shown_within view room actors = if nat_eq view.actor 0 then min actors ((room - 7) / 8) else 1
 
 -- the same in the columns that are asked for
 abbrev pub shown_of : View → (actors : ℕ) → ℕ
-shown_of view actors = shown_beside view (side_of (width_of view)) actors
+shown_of view actors = shown_within view (room_of (width_of view)) actors
+
+-- the column of the chains, where so many actors are shown: behind 12 columns for each and 18 more, or behind the room
+abbrev pub side_of : (room count : ℕ) → ℕ
+side_of room count = min room (25 + 12 * count)
 
 -- the number of the last step that may be shown: the one asked for, or the hundredth one
 abbrev pub end_of : View → ℕ
@@ -29,8 +33,8 @@ abbrev pub frame_of : View → (actors : ℕ) → Frame
 frame_of view actors =
     record {
       width = width_of view;
-      side = side_of (width_of view);
-      column = min ((side_of (width_of view) - 7) / shown_of view actors) 12;
+      side = side_of (room_of (width_of view)) (shown_of view actors);
+      column = min ((room_of (width_of view) - 7) / shown_of view actors) 12;
       from = view.from;
       to = end_of view;
       first = max view.actor 1;

@@ -17,7 +17,7 @@ use Rattle.show_engine.specs.declared.framing.View.{View}
 use Rattle.show_engine.specs.Frames.{frame_of, shows}
 use Rattle.show_engine.specs.Rows.{names_row, number_text, queue_text, row_text, shown_text}
 use Rattle.show_engine.specs.Cells.{cell_text, gives_text, touch_text}
-use Rattle.show_engine.specs.Chains.{chains_text, side_text}
+use Rattle.show_engine.specs.Chains.{side_text, state_text}
 
 -- these numbers, behind another one, if there is one
 abbrev pub with_point : Option ℕ → List ℕ → List ℕ
@@ -41,7 +41,7 @@ takes_effect ops number = list_any (λ o. is_at number o.at) ops
 -- the row of a numbered move that led from a world to another
 abbrev pub numbered_row : Frame → (bits : ℕ) → (w v : World) → (me : ℕ) → (cell : List ℕ) → List ℕ
 numbered_row f bits w v me cell =
-    row_text f me (number_text v.steps) cell (side_text f v.steps (chains_text bits w.shared) (chains_text bits v.shared))
+    row_text f me (number_text v.steps) cell (side_text f v.steps (state_text bits w.shared) (state_text bits v.shared))
 
 -- the row of a move that led from a world to another and was told so, where this says which numbers are marked
 abbrev pub told_row : Frame → (marked : ℕ → Bool) → (bits : ℕ) → (w v : World) → Move → Option Stepped → List ℕ

@@ -87,29 +87,26 @@ fn exchanges(at: At) -> bool
 
 /// Puts what became of a word at the end of a line, by what it held and what it holds.
 fn push_change(line: &mut Line, at: At, found: &[u8], now: &[u8])
-    requires room { length line.old + 47 ≤ LINE_ROOM }
+    requires room { length line.old + 52 ≤ LINE_ROOM }
     requires fits { length now.now ≤ 43 }
     ensures text { line.new ≡ line.old ++ change_text at found.now now.now }
-    ensures short { length line.new ≤ length line.old + 47 }
+    ensures short { length line.new ≤ length line.old + 52 }
 {
-    if found == now {
-        if exchanges(at) {
-            line.push(b" lost");
-        } else {
-            line.push(b" ");
-            line.push(now);
-        }
-    } else {
+    if found != now {
         line.push(b" := ");
-        line.push(now);
+    } else if exchanges(at) {
+        line.push(b" lost to ");
+    } else {
+        line.push(b" ");
     }
+    line.push(now);
 }
 
 /// Puts the access of a word at a line, by what was found there and what is there now.
 fn push_access(line: &mut Line, at: At, word: WordName, found: Contents, now: Contents)
-    requires { length line.old + 77 ≤ LINE_ROOM }
+    requires { length line.old + 82 ≤ LINE_ROOM }
     ensures text { line.new ≡ line.old ++ access_text at (word_named word) found now }
-    ensures short { length line.new ≤ length line.old + 77 }
+    ensures short { length line.new ≤ length line.old + 82 }
 {
     line.push(at.name().as_bytes());
     line.push(b" ");

@@ -79,9 +79,9 @@ fn show_in<W: Sink>(
         16 17 18 19 20 21 22 23 24 25 26 27 28 29 30 31 32)
 }
 
-/// Writes a picture of the schedule whose text the reader gives: an actor a column and a step a row, with the chains of nodes
-/// from Head and from Free beside a row that changed them, and a star where an operation takes effect. The view says which
-/// steps and actors are shown, and the last line says it too.
+/// Writes a picture of the schedule whose text the reader gives: an actor a column and a step a row, and a star where an operation
+/// takes effect. The chains of nodes from Head and from Free, with an arrow at Tail's node, and who holds a lock stand beside a row
+/// that changed one of them. The view says which steps and actors are shown, and the last line says it too.
 ///
 /// The schedule's events are held, at most 1,000,000, and where its operations take effect. None of its steps is. The
 /// events are made twice: first to find whether one is refused, and then step by step as the rows are written.
@@ -97,7 +97,8 @@ pub fn show_text<R: Source, W: Sink>(
     view: View,
 ) -> Result<(), Fault>
     //= program/picture (ok, quiet): The picture of the schedule read is written: the rows shown of its run, a star
-    //=   exactly where an operation of the run's history has its place, and the chains where they changed.
+    //=   exactly where an operation of the run's history has its place, and the chains, with Tail, and the holders of
+    //=   locks where these changed.
     ensures ok { OnOk result (WritesPicture view (R.state reader.old).left (W.state writer.old)
         (W.state writer.new)) }
     ensures quiet { OnOk result ((W.state writer.new).failures ≡ (W.state writer.old).failures) }

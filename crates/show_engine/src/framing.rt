@@ -1,6 +1,6 @@
 //! What of a run is shown, and in which columns.
 ghost use Rattle.std.specs.Prelude.{◌≡◌, ◌≤◌, ◌<◌, ◌^◌};
-ghost use Rattle.show_engine.specs.Frames.{IsFitting, column_of, end_of, frame_of, shown_beside, shows, width_of};
+ghost use Rattle.show_engine.specs.Frames.{IsFitting, column_of, end_of, frame_of, shown_within, shows, width_of};
 
 /// What of a run is shown.
 #[derive(Clone, Copy, Debug)]
@@ -57,15 +57,15 @@ impl View {
     }
 }
 
-/// How many of so many actors are shown, where the chains stand at this column.
-fn shown_of(view: View, side: u32, actors: u16) -> u32
-    requires { 15 ≤ side }
-    ensures count { result ≡ shown_beside view side actors }
+/// How many of so many actors are shown, which have so many columns with the numbers.
+fn shown_of(view: View, room: u32, actors: u16) -> u32
+    requires { 15 ≤ room }
+    ensures count { result ≡ shown_within view room actors }
     ensures some { 1 ≤ actors → 1 ≤ result }
     ensures few { result < 2 ^ 16 }
 {
     if view.actor == 0 {
-        u32::from(actors).min((side - 7) / 8)
+        u32::from(actors).min((room - 7) / 8)
     } else {
         1
     }
@@ -79,12 +79,12 @@ impl Frame {
         ensures fits { IsFitting result }
     {
         let width = view.columns();
-        let side = width * 2 / 3;
-        let count = shown_of(view, side, actors);
+        let room = width * 5 / 8;
+        let count = shown_of(view, room, actors);
         Frame {
             width: width as usize,
-            side: side as usize,
-            column: ((side - 7) / count).min(12) as usize,
+            side: room.min(25 + 12 * count) as usize,
+            column: ((room - 7) / count).min(12) as usize,
             from: u64::from(view.from),
             to: view.last_step(),
             first: u64::from(view.actor.max(1)),

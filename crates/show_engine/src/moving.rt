@@ -5,14 +5,14 @@ ghost use Rattle.history.specs.declared.refusals.Refusal.TheVariants.{Memory};
 ghost use Rattle.step_machine.specs.Machine.{mover, next};
 ghost use Rattle.step_machine.specs.declared.actors.Move.TheVariants.{Begin, Give, Step};
 ghost use Rattle.step_machine.specs.Calls.{move_answer};
-ghost use Rattle.show_engine.specs.Chains.{chains_text, side_text};
+ghost use Rattle.show_engine.specs.Chains.{side_text, state_text};
 ghost use Rattle.show_engine.specs.Frames.{IsFitting};
 ghost use Rattle.show_engine.specs.Pictures.{drawn_text, told_row};
 ghost use Rattle.show_engine.specs.Rows.{number_text, row_text};
 ghost use Rattle.show_engine.specs.Showing.{is_among};
 
 use crate::cells::{begin_cell, give_cell, step_cell};
-use crate::chains::{chains_line, side_line};
+use crate::chains::{side_line, state_line};
 use crate::effects::is_among;
 use crate::framing::Frame;
 use crate::rows::{number_start, row};
@@ -57,7 +57,7 @@ fn give_up<const B: u32>(world: &mut WorldOf<B>, actor: u16) -> Stepped
     told
 }
 
-/// The row of the move that led to a world, by what its actor did and the chains before it.
+/// The row of the move that led to a world, by what its actor did and what was told before it.
 fn numbered_row<const B: u32>(
     world: &WorldOf<B>,
     frame: Frame,
@@ -67,11 +67,11 @@ fn numbered_row<const B: u32>(
 ) -> Line
     requires { IsFitting frame }
     ensures { result ≡ row_text frame actor (number_text world.now.steps) cell.now
-        (side_text frame world.now.steps before.now (chains_text B world.now.shared)) }
+        (side_text frame world.now.steps before.now (state_text B world.now.shared)) }
 {
     let number = world.steps();
     let start = number_start(number);
-    let side = side_line(frame, number, before, chains_line(world));
+    let side = side_line(frame, number, before, state_line(world));
     row(
         frame,
         actor,
@@ -96,7 +96,7 @@ fn step_row<const B: u32>(world: &mut WorldOf<B>, frame: Frame, effects: &[u64],
         unreachable!()
     };
     let found = world.holds(word);
-    let before = chains_line(world);
+    let before = state_line(world);
     let told = take_step(world, actor);
     let is_marked = is_among(effects, world.steps());
     let cell = step_cell(is_marked, &told, word, found, world.holds(word));
@@ -114,7 +114,7 @@ fn give_row<const B: u32>(world: &mut WorldOf<B>, frame: Frame, effects: &[u64],
     ensures text { result ≡ told_row frame (is_among effects.now) B world.old world.new (Give actor)
         (move_answer world.old (Give actor)) }
 {
-    let before = chains_line(world);
+    let before = state_line(world);
     let told = give_up(world, actor);
     let cell = give_cell(is_among(effects, world.steps()), &told);
     numbered_row(world, frame, actor, &cell, &before)

@@ -50,7 +50,7 @@ pub fn show_history<R: Source, W: Sink>(
     view: View,
 ) -> Result<(), Refusal>
     //= program/timeline (ok, quiet, text, prefix, write, unwritten, refusal, reader): The timeline of the history
-    //=   read is written, with the operations shown in their order. The usual refusals.
+    //=   read is written, with the operations shown in their order. It is refused as `check_text` is.
     ensures ok { OnOk result (WritesTimeline view (R.state reader.old).left (W.state writer.old)
         (W.state writer.new)) }
     ensures quiet { OnOk result ((W.state writer.new).failures ≡ (W.state writer.old).failures) }

@@ -37,7 +37,7 @@ begin 1 deq
 const FIRST_PICTURE: &str = "queue nonblocking, bits 24, nodes 2, limit 1, actors 2
  actor  1           2
         enq 5
-     1  N1 Fresh 1                                    | Head 1, Free -
+     1  N1 Fresh 1                                | Head >1, Free -
      2  N2 Free <0,0>
      3  N5 Fresh := 2
      4  E2 2.value := (1,5)
@@ -45,15 +45,15 @@ const FIRST_PICTURE: &str = "queue nonblocking, bits 24, nodes 2, limit 1, actor
      6  E5 Tail <1,0>
      7  E6 1.next <0,0>
      8  E7 Tail <1,0>
-     9 *E9 1.next := <2,1>                            | Head 1 2, Free -
-    10  E17 Tail := <2,1> -> done
+     9 *E9 1.next := <2,1>                        | Head >1 2, Free -
+    10  E17 Tail := <2,1> -> done                 | Head 1 >2, Free -
                     deq
     11              D2 Head <1,0>
     12              D3 Tail <2,1>
     13              D4 1.next <2,1>
     14              D5 Head <1,0>
     15              D12 2.value (1,5)
-    16             *D13 Head := <2,1>                 | Head 2, Free -
+    16             *D13 Head := <2,1>             | Head >2, Free -
     17              F1 gives -> value 1 5
         enq 6
     18 *N1 gives -> refused 3 (Busy)
@@ -75,19 +75,19 @@ steps 1 4
 ";
 
 const SHUT_PICTURE: &str = "queue two-lock, bits 32, nodes 2, limit 4294967295, actors 65535
- actor  1        2        3        4        5
+ actor  1       2       3       4       5
         deq
-     5  B1 H_lock := 1
+     5  B1 H_lock := 1                             | Head >1 shut, Free -, H_lo~
      6  B2 Head <1,0>
      7  B3 1.next <shut,0>
-     8 *B6 H_lock := 0 -> refused 16 (Closed)
+     8 *B6 H_lock := 0 -> refused 16 (Closed)      | Head >1 shut, Free -
 steps 1 to 8 of 8, actors 1 to 5 of 65535
 ";
 
 /// A part of it, of one actor, in few columns.
 const NARROW_PICTURE: &str = "queue two-lock, bits 32, nodes 2, limit 4294967295, actors 65535
  actor  65535
-     3 *S8 1.next := <shut,0> | Head 1 ~
+     3 *S8 1.next := <shut,0> | Head >1~
 steps 3 to 3 of 8, actors 65535 to 65535 of 65535
 ";
 
@@ -114,19 +114,19 @@ steps 4 10
 /// The last steps of it, where a chain is longer than is shown.
 const LATE_PICTURE: &str =
     "queue nonblocking, bits 32, nodes 4294967294, limit 4294967295, actors 300
- actor  1        2        3        4        5
-    48                             E7 Tail <5,4>      | Head 1 2 3 4 5, Free -
-    49                            *E9 5.next := <6,1> | Head 1 2 3 4 5 ..., Fre~
+ actor  1       2       3       4       5
+    48                          E7 Tail <5,4>      | Head 1 2 3 4 >5, Free -
+    49                         *E9 5.next := <6,1> | Head 1 2 3 4 >5 ..., Free -
 steps 48 to 49 of 50, actors 1 to 5 of 300
 ";
 
 /// The same in many columns, which have room for more actors.
 const WIDE_PICTURE: &str =
     "queue nonblocking, bits 32, nodes 4294967294, limit 4294967295, actors 300
- actor  1       2       3       4       5       6       7       8       9       10      11      12      13      14
-    49                         *E9 5.next := <6,1>                                                                             | Head 1 2 3 4 5 ..., Free -
-    50                          E17 Tail := <6,5> -> done
-steps 49 to 50 of 50, actors 1 to 14 of 300
+ actor  1       2       3       4       5       6       7       8       9       10      11      12      13
+    49                         *E9 5.next := <6,1>                                                                     | Head 1 2 3 4 >5 ..., Free -
+    50                          E17 Tail := <6,5> -> done                                                              | Head 1 2 3 4 5 ..., Free -, Tail 6
+steps 49 to 50 of 50, actors 1 to 13 of 300
 ";
 
 /// Schedules, what is shown of them, and their pictures.

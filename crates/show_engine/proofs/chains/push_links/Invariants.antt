@@ -6,5 +6,5 @@ use Rattle.show_engine.proofs.chains.push_links.Given as goal
 abbrev pub invariant-loop : goal.invariant-loop
 invariant-loop g l = record {
   text : l.fn.line ++ links_text g.row.B l.world.shared l.most l.from ≡ l.line ++ links_text g.row.B l.world.shared (l.most - l.counter) l.next;
-  short : length l.line ≤ length l.fn.line + 11 * l.counter;
+  short : length l.line ≤ length l.fn.line + 12 * l.counter;
 }
