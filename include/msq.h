@@ -57,8 +57,29 @@ enum msq_code {
     MSQ_WORN_TAIL = 38, /* Tail's count is at the limit: of MSQ_NON_BLOCKING, no push and no shut comes any more */
     MSQ_WORN_HEAD = 39, /* a pop: Head's count is at the limit: of MSQ_TWO_LOCK, no pop comes any more */
     MSQ_TWO_QUEUES = 40, /* misuse: the seats are of two queues */
-    MSQ_TWO_CALLS = 41  /* misuse, told with MSQ_DEBUG: another call uses the seat */
+    MSQ_TWO_CALLS = 41, /* misuse, told with MSQ_DEBUG: another call uses the seat */
+    MSQ_UNCOUNTED = 42  /* a length: of MSQ_TWO_LOCK, none can be told */
 };
+
+/* Each code once, with what it says. */
+#define MSQ_EACH_CODE(CODE)                                                                                            \
+    CODE(MSQ_OK, "done")                                                                                               \
+    CODE(MSQ_NO_NODE, "no node is free")                                                                               \
+    CODE(MSQ_WORN_FREE, "the count of the free list is at its limit")                                                  \
+    CODE(MSQ_BUSY, "others were in the way")                                                                           \
+    CODE(MSQ_MEMORY, "no memory")                                                                                      \
+    CODE(MSQ_BAD_SIZE, "a number is out of its range")                                                                 \
+    CODE(MSQ_CLOSED, "the queue is shut")                                                                              \
+    CODE(MSQ_EMPTY, "the queue is empty")                                                                              \
+    CODE(MSQ_NO_SEAT, "there is no seat")                                                                              \
+    CODE(MSQ_NO_ROLE, "the seat may not do this")                                                                      \
+    CODE(MSQ_IN_USE, "a seat is full, or the queue has a further one")                                                 \
+    CODE(MSQ_RACED, "the queue got a further seat meanwhile")                                                          \
+    CODE(MSQ_WORN_NEXT, "the count of a node is at its limit")                                                         \
+    CODE(MSQ_WORN_TAIL, "the count of the tail is at its limit")                                                       \
+    CODE(MSQ_WORN_HEAD, "the count of the head is at its limit")                                                       \
+    CODE(MSQ_TWO_QUEUES, "the seats are of two queues")                                                                \
+    CODE(MSQ_TWO_CALLS, "another call uses the seat")
 
 enum msq_kind {
     MSQ_NON_BLOCKING = 0, /* a thread that stops keeps no other from going on */
@@ -85,6 +106,20 @@ typedef struct msq_rest {
     bool was_shut;  /* whether the queue was shut */
 } msq_rest;
 
+/* How many values a queue held: at least and at most so many. */
+typedef struct msq_length {
+    uint64_t least;
+    uint64_t most;
+} msq_length;
+
+/* How many pushes a queue has left at least, and how often the counts of three of its words can still be raised. */
+typedef struct msq_remaining {
+    uint64_t pushes;
+    uint64_t free; /* Free's: each node taken from the free list raises it, and each one given back */
+    uint64_t tail; /* Tail's: of MSQ_NON_BLOCKING each push raises it, of MSQ_TWO_LOCK nothing does */
+    uint64_t head; /* Head's: each value popped raises it */
+} msq_remaining;
+
 /*
  * Makes a queue with `nodes` nodes, from 2 on (room for one value less, and one node a seat may wait in that seat), and
  * fills seat k with one of role k. Counts go up to `limit`, or to the greatest count that so many nodes leave room for,
@@ -100,7 +135,7 @@ uint32_t msq_create(uint32_t kind, uint32_t nodes, uint64_t limit, const uint8_t
 /*
  * Pushes a body, below MSQ_BODIES, in so many turns at most, 1 or more (8 is a good number).
  * MSQ_OK, MSQ_NO_NODE, MSQ_WORN_FREE, MSQ_BUSY, MSQ_CLOSED, MSQ_BAD_SIZE, MSQ_NO_SEAT or MSQ_NO_ROLE; of
- * MSQ_NON_BLOCKING also MSQ_WORN_NEXT or MSQ_WORN_TAIL. Refused, its values are as if the call had not been.
+ * MSQ_NON_BLOCKING also MSQ_WORN_NEXT or MSQ_WORN_TAIL. Refused, nothing was pushed.
  */
 uint32_t msq_try_push(msq_seat *seat, uint64_t body, uint32_t turns);
 
@@ -117,6 +152,27 @@ uint32_t msq_try_pop(msq_seat *seat, uint32_t turns, msq_value *value);
  * also MSQ_WORN_TAIL.
  */
 uint32_t msq_try_shut(msq_seat *seat, uint32_t turns);
+
+/*
+ * Whether the queue holds a value, as it was at a moment of this call, by any seat: the code is that of a pop there, which
+ * isn't made. MSQ_OK where it holds one; MSQ_EMPTY where it is empty, MSQ_CLOSED where it is shut too, so that nothing comes
+ * any more; MSQ_BUSY where pops took effect meanwhile: look again. MSQ_NO_SEAT.
+ */
+uint32_t msq_emptiness(msq_seat *seat);
+
+/*
+ * Writes bounds of how many values the queue held at a moment of this call, by any seat. They are one number where no push
+ * or pop took effect meanwhile. MSQ_OK; MSQ_UNCOUNTED of MSQ_TWO_LOCK, whose Tail counts no pushes; MSQ_NO_SEAT. Refused,
+ * it writes nothing.
+ */
+uint32_t msq_len(msq_seat *seat, msq_length *length);
+
+/*
+ * Writes how many pushes are left at least until a word wears out, by any seat: while no more pushes are called, done or
+ * refused, those under way too, no call is answered MSQ_WORN_FREE, MSQ_WORN_TAIL or MSQ_WORN_HEAD, nor MSQ_NO_NODE for good.
+ * More may be left, about as many as there are nodes. MSQ_OK or MSQ_NO_SEAT; refused, it writes nothing.
+ */
+uint32_t msq_left(msq_seat *seat, msq_remaining *left);
 
 /*
  * Both seats have then seen one history: what one did before, the other has seen.
@@ -137,15 +193,45 @@ uint32_t msq_close(msq_seat *seats, size_t seats_len, msq_value *values, size_t 
 /* Drops a seat, which is empty afterwards. With the last seat of a queue its memory is freed, which is only tested. */
 void msq_drop(msq_seat *seat);
 
-/*
- * What stands around a call: msq_begin says whether no other call uses these seats, and msq_end ends this one. Without
- * MSQ_DEBUG and the thread sanitizer both do nothing.
- */
 #ifdef __cplusplus
 #define MSQ_INLINE inline
 #else
 #define MSQ_INLINE static inline
 #endif
+
+/* What a code says in a few words, as "the queue is shut"; of another number "no such code". */
+MSQ_INLINE const char *msq_strerror(uint32_t code);
+
+/* The name of a code, as "MSQ_CLOSED"; of another number "no such code". */
+MSQ_INLINE const char *msq_code_name(uint32_t code);
+
+#define MSQ_SAYS(code, text)                                                                                           \
+    case code:                                                                                                         \
+        return text;
+#define MSQ_IS_NAMED(code, text)                                                                                       \
+    case code:                                                                                                         \
+        return #code;
+
+MSQ_INLINE const char *msq_strerror(uint32_t code) {
+    switch (code) {
+        MSQ_EACH_CODE(MSQ_SAYS)
+    default:
+        return "no such code";
+    }
+}
+
+MSQ_INLINE const char *msq_code_name(uint32_t code) {
+    switch (code) {
+        MSQ_EACH_CODE(MSQ_IS_NAMED)
+    default:
+        return "no such code";
+    }
+}
+
+/*
+ * What stands around a call: msq_begin says whether no other call uses these seats, and msq_end ends this one. Without
+ * MSQ_DEBUG and the thread sanitizer both do nothing.
+ */
 
 #if defined(__SANITIZE_THREAD__)
 #define MSQ_THREAD_SANITIZER
@@ -296,6 +382,36 @@ MSQ_INLINE uint32_t msq_checked_shut(msq_seat *seat, uint32_t turns) {
     return code;
 }
 
+MSQ_INLINE uint32_t msq_checked_emptiness(msq_seat *seat) {
+    struct msq_call call;
+    if (!msq_begin(&call, seat, 1)) {
+        return MSQ_TWO_CALLS;
+    }
+    uint32_t code = msq_emptiness(seat);
+    msq_end(&call);
+    return code;
+}
+
+MSQ_INLINE uint32_t msq_checked_len(msq_seat *seat, msq_length *length) {
+    struct msq_call call;
+    if (!msq_begin(&call, seat, 1)) {
+        return MSQ_TWO_CALLS;
+    }
+    uint32_t code = msq_len(seat, length);
+    msq_end(&call);
+    return code;
+}
+
+MSQ_INLINE uint32_t msq_checked_left(msq_seat *seat, msq_remaining *left) {
+    struct msq_call call;
+    if (!msq_begin(&call, seat, 1)) {
+        return MSQ_TWO_CALLS;
+    }
+    uint32_t code = msq_left(seat, left);
+    msq_end(&call);
+    return code;
+}
+
 /* A seat has already met itself. */
 MSQ_INLINE uint32_t msq_checked_meet(msq_seat *one, msq_seat *other) {
     struct msq_call first, second;
@@ -362,6 +478,9 @@ MSQ_INLINE void msq_checked_drop(msq_seat *seat) {
 #define msq_try_push(seat, body, turns) msq_checked_push(seat, body, turns)
 #define msq_try_pop(seat, turns, value) msq_checked_pop(seat, turns, value)
 #define msq_try_shut(seat, turns) msq_checked_shut(seat, turns)
+#define msq_emptiness(seat) msq_checked_emptiness(seat)
+#define msq_len(seat, length) msq_checked_len(seat, length)
+#define msq_left(seat, left) msq_checked_left(seat, left)
 #define msq_meet(one, other) msq_checked_meet(one, other)
 #define msq_close(seats, seats_len, values, values_len, rest) msq_checked_close(seats, seats_len, values, values_len, rest)
 #define msq_drop(seat) msq_checked_drop(seat)

@@ -1,11 +1,16 @@
-// The queues of msq.h for C++17: seats that can be moved and not copied, and that drop themselves.
+// The queues of msq.h for C++14 and later: seats that can be moved and not copied, that drop themselves, and whose calls sleep
+// where they are asked to. From C++17 on a pop also answers an optional value.
 #ifndef MSQ_HPP
 #define MSQ_HPP
 
-#include "msq.h"
+#include "msq_wait.h"
 
 #include <algorithm>
+#include <chrono>
+#include <memory>
+#if __cplusplus >= 201703L
 #include <optional>
+#endif
 #include <utility>
 #include <vector>
 
@@ -14,39 +19,128 @@ namespace msq {
 enum class kind : uint32_t { non_blocking = MSQ_NON_BLOCKING, two_lock = MSQ_TWO_LOCK };
 enum class role : uint8_t { giver = MSQ_GIVER, taker = MSQ_TAKER, both = MSQ_BOTH };
 
+namespace detail {
+
+// What the seats of a queue share: what their calls sleep on, and how many nodes it has.
+struct shared {
+    msq_bells bells{};
+    size_t nodes = 0;
+};
+
+// A time in nanoseconds; a hundred years are as long as it takes.
+template <class Rep, class Period> uint64_t nanoseconds(std::chrono::duration<Rep, Period> time) noexcept {
+    if (time <= time.zero()) {
+        return 0;
+    }
+    if (time >= std::chrono::hours(100 * 365 * 24)) {
+        return MSQ_FOREVER;
+    }
+    return static_cast<uint64_t>(std::chrono::duration_cast<std::chrono::nanoseconds>(time).count());
+}
+
+} // namespace detail
+
+struct closed;
+
 // A seat of a queue. One thread calls it at a time; it may be moved to another thread.
 class seat {
 public:
     seat() noexcept = default;
     seat(const seat &) = delete;
     seat &operator=(const seat &) = delete;
-    seat(seat &&other) noexcept : raw_(std::exchange(other.raw_, msq_seat{})) {}
+    seat(seat &&other) noexcept : raw_(std::exchange(other.raw_, msq_seat{})), shared_(std::move(other.shared_)) {}
     seat &operator=(seat &&other) noexcept {
         if (this != &other) {
             msq_drop(&raw_);
             raw_ = std::exchange(other.raw_, msq_seat{});
+            shared_ = std::move(other.shared_);
         }
         return *this;
     }
     ~seat() { msq_drop(&raw_); }
 
+    // These wake who sleeps, and don't sleep.
     msq_code try_push(uint64_t body, uint32_t turns = 8) noexcept {
-        return static_cast<msq_code>(msq_try_push(&raw_, body, turns));
+        return answer([&] { return msq_push_wake(&raw_, bells(), body, turns); });
     }
+    msq_code try_pop(msq_value &value, uint32_t turns = 8) noexcept {
+        return answer([&] { return msq_pop_wake(&raw_, bells(), turns, &value); });
+    }
+    msq_code try_shut(uint32_t turns = 8) noexcept {
+        return answer([&] { return msq_shut_wake(&raw_, bells(), turns); });
+    }
+
+    // These sleep while the queue is full, or empty: as long as it takes, or for some time, and then look once more.
+    msq_code push_wait(uint64_t body) noexcept {
+        return answer([&] { return msq_push_wait(&raw_, bells(), body); });
+    }
+    template <class Rep, class Period>
+    msq_code push_wait_for(uint64_t body, std::chrono::duration<Rep, Period> time) noexcept {
+        return answer([&] { return msq_push_wait_for(&raw_, bells(), body, detail::nanoseconds(time)); });
+    }
+    msq_code pop_wait(msq_value &value) noexcept {
+        return answer([&] { return msq_pop_wait(&raw_, bells(), &value); });
+    }
+    template <class Rep, class Period>
+    msq_code pop_wait_for(msq_value &value, std::chrono::duration<Rep, Period> time) noexcept {
+        return answer([&] { return msq_pop_wait_for(&raw_, bells(), detail::nanoseconds(time), &value); });
+    }
+
+    // MSQ_OK where the queue holds a value, else MSQ_EMPTY, MSQ_CLOSED or MSQ_BUSY.
+    msq_code emptiness() noexcept { return static_cast<msq_code>(msq_emptiness(&raw_)); }
+    // The bounds are there exactly at MSQ_OK.
+    msq_code len(msq_length &length) noexcept { return static_cast<msq_code>(msq_len(&raw_, &length)); }
+    // What is left is there exactly at MSQ_OK.
+    msq_code left(msq_remaining &left) noexcept { return static_cast<msq_code>(msq_left(&raw_, &left)); }
+
+#if __cplusplus >= 201703L
     // The value is there exactly at MSQ_OK.
-    std::pair<msq_code, std::optional<msq_value>> try_pop(uint32_t turns = 8) noexcept {
-        msq_value value{};
-        auto code = static_cast<msq_code>(msq_try_pop(&raw_, turns, &value));
-        return {code, code == MSQ_OK ? std::optional<msq_value>(value) : std::nullopt};
+    using popped = std::pair<msq_code, std::optional<msq_value>>;
+
+    popped try_pop(uint32_t turns = 8) noexcept {
+        return pop([&](msq_value &value) { return try_pop(value, turns); });
     }
-    msq_code try_shut(uint32_t turns = 8) noexcept { return static_cast<msq_code>(msq_try_shut(&raw_, turns)); }
+    popped pop_wait() noexcept {
+        return pop([&](msq_value &value) { return pop_wait(value); });
+    }
+    template <class Rep, class Period> popped pop_wait_for(std::chrono::duration<Rep, Period> time) noexcept {
+        return pop([&](msq_value &value) { return pop_wait_for(value, time); });
+    }
+    // The bounds, and what is left, are there exactly at MSQ_OK.
+    std::pair<msq_code, std::optional<msq_length>> len() noexcept {
+        msq_length length{};
+        auto code = len(length);
+        return {code, code == MSQ_OK ? std::optional<msq_length>(length) : std::nullopt};
+    }
+    std::pair<msq_code, std::optional<msq_remaining>> left() noexcept {
+        msq_remaining remaining{};
+        auto code = left(remaining);
+        return {code, code == MSQ_OK ? std::optional<msq_remaining>(remaining) : std::nullopt};
+    }
+#endif
+
     msq_code meet(seat &other) noexcept { return static_cast<msq_code>(msq_meet(&raw_, &other.raw_)); }
     explicit operator bool() const noexcept { return raw_.full; }
 
 private:
     friend std::pair<msq_code, std::vector<seat>> create(kind, uint32_t, const std::vector<role> &, uint64_t);
-    friend struct closed close(std::vector<seat> &, size_t);
+    friend closed close(std::vector<seat> &, size_t);
+    friend closed close(std::vector<seat> &);
+
+    msq_bells *bells() noexcept { return &shared_->bells; }
+    template <class Call> msq_code answer(Call call) noexcept {
+        return shared_ ? static_cast<msq_code>(call()) : MSQ_NO_SEAT;
+    }
+#if __cplusplus >= 201703L
+    template <class Call> popped pop(Call call) noexcept {
+        msq_value value{};
+        const msq_code code = call(value);
+        return {code, code == MSQ_OK ? std::optional<msq_value>(value) : std::nullopt};
+    }
+#endif
+
     msq_seat raw_{};
+    std::shared_ptr<detail::shared> shared_;
 };
 
 // A seat for each role; none but at MSQ_OK.
@@ -54,6 +148,8 @@ inline std::pair<msq_code, std::vector<seat>> create(kind kind, uint32_t nodes, 
                                                      uint64_t limit = MSQ_MOST_COUNT) {
     std::vector<msq_seat> raw(roles.size());
     std::vector<seat> seats(roles.size());
+    auto shared = std::make_shared<detail::shared>();
+    shared->nodes = nodes;
     auto code = static_cast<msq_code>(msq_create(static_cast<uint32_t>(kind), nodes, limit,
                                                  reinterpret_cast<const uint8_t *>(roles.data()), roles.size(),
                                                  raw.data(), raw.size()));
@@ -62,6 +158,7 @@ inline std::pair<msq_code, std::vector<seat>> create(kind kind, uint32_t nodes, 
     }
     for (size_t k = 0; k < raw.size(); k++) {
         seats[k].raw_ = raw[k];
+        seats[k].shared_ = shared;
     }
     return {code, std::move(seats)};
 }
@@ -71,13 +168,14 @@ struct closed {
     msq_code code;
     msq_rest rest;
     std::vector<msq_value> left;
+    uint64_t lost; // how many values were left beyond these, for want of room
 };
 
-// Ends the queue of these seats, which are all of its seats that are left; `room` is the number of its nodes.
+// Ends the queue of these seats, which are all of its seats that are left, with room for so many values.
 // Refused, the seats are as msq_close leaves them; else they are empty.
 inline closed close(std::vector<seat> &seats, size_t room) {
     std::vector<msq_seat> raw(seats.size());
-    closed found{MSQ_OK, msq_rest{}, std::vector<msq_value>(room)};
+    closed found{MSQ_OK, msq_rest{}, std::vector<msq_value>(room), 0};
     for (size_t k = 0; k < raw.size(); k++) {
         raw[k] = std::exchange(seats[k].raw_, msq_seat{});
     }
@@ -86,8 +184,15 @@ inline closed close(std::vector<seat> &seats, size_t room) {
     for (size_t k = 0; k < raw.size(); k++) {
         seats[k].raw_ = raw[k];
     }
-    found.left.resize(std::min<uint64_t>(found.rest.left, room));
+    found.left.resize(static_cast<size_t>(std::min<uint64_t>(found.rest.left, room)));
+    found.lost = found.rest.left - found.left.size();
     return found;
+}
+
+// The same with room for all values that the queue may hold.
+inline closed close(std::vector<seat> &seats) {
+    auto one = std::find_if(seats.begin(), seats.end(), [](const seat &it) { return it.shared_ != nullptr; });
+    return close(seats, one != seats.end() ? one->shared_->nodes : 0);
 }
 
 } // namespace msq

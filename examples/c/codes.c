@@ -2,6 +2,7 @@
 #include "msq.h"
 
 #include <stdio.h>
+#include <string.h>
 
 static unsigned right, wrong;
 
@@ -154,7 +155,35 @@ static void sizes_have_their_ranges(uint32_t kind) {
     }
 }
 
+/* Each code has its name and a text of its own, and no other number has one. */
+static void codes_have_names(void) {
+    static const struct {
+        uint32_t code;
+        const char *name;
+    } codes[] = {{0, "MSQ_OK"},         {1, "MSQ_NO_NODE"},     {2, "MSQ_WORN_FREE"},  {3, "MSQ_BUSY"},
+                 {4, "MSQ_MEMORY"},     {5, "MSQ_BAD_SIZE"},    {16, "MSQ_CLOSED"},    {32, "MSQ_EMPTY"},
+                 {33, "MSQ_NO_SEAT"},   {34, "MSQ_NO_ROLE"},    {35, "MSQ_IN_USE"},    {36, "MSQ_RACED"},
+                 {37, "MSQ_WORN_NEXT"}, {38, "MSQ_WORN_TAIL"},  {39, "MSQ_WORN_HEAD"}, {40, "MSQ_TWO_QUEUES"},
+                 {41, "MSQ_TWO_CALLS"}};
+    const size_t count = sizeof codes / sizeof *codes;
+    size_t next = 0, same = 0;
+    for (uint32_t code = 0; code < 100; code++) {
+        const bool is_one = next < count && codes[next].code == code;
+        expect("a code's name", (uint64_t)strcmp(msq_code_name(code), is_one ? codes[next].name : "no such code"), 0);
+        expect("a code's text", strcmp(msq_strerror(code), "no such code") == 0, !is_one);
+        next += is_one;
+    }
+    for (size_t k = 0; k < count; k++) {
+        for (size_t j = 0; j < k; j++) {
+            same += strcmp(msq_strerror(codes[k].code), msq_strerror(codes[j].code)) == 0;
+        }
+    }
+    expect("codes", next, count);
+    expect("two codes with one text", same, 0);
+}
+
 int main(void) {
+    codes_have_names();
     for (uint32_t kind = MSQ_NON_BLOCKING; kind <= MSQ_TWO_LOCK; kind++) {
         calls_are_refused(kind);
         a_queue_is_closed(kind);

@@ -53,7 +53,7 @@ module _ (slots : List MsqSeat) (full : AreFull slots) (of_one : AreOfOne slots)
     all_there = All-unmap (λ s. queue_in s ≡ queue_of last) own_at slots' (subst (All (λ s. queue_in s ≡ queue_of last)) (sym keeps.seats)
         (All-map (λ s. queue_in s ≡ queue_of last) own_at slots (λ k d l. of_one.one k d l (full k d l) ∙ sym both.1)))
 
-    pub room_for : (room : EndRoom PickedQueue Seat) → HasRoomOf slots' room → HasAnyRoom (queue_of last) (length others) room
+    pub room_for : (room : EndRoom PickedQueue (Seat (Unit {0}))) → HasRoomOf slots' room → HasAnyRoom (queue_of last) (length others) room
     room_for room has = has (queue_of last) (length others) one_less (λ k d l f. all_there k d l)
 
   -- what was closed by these seats was closed by the handles

@@ -39,7 +39,7 @@ all_made owned seats slots e z u p =
     }
 
 -- the seats of a new queue of a plan, each with a share
-pub unused_of : (z : Layout) (q : PickedQueue) (seats : List Seat) (owned : List Owned) → All (λ s. queue_of s ≡ q) owned → map seat_of owned ≡ seats
+pub unused_of : (z : Layout) (q : PickedQueue) (seats : List (Seat (Unit {0}))) (owned : List Owned) → All (λ s. queue_of s ≡ q) owned → map seat_of owned ≡ seats
     → IsMade z (picked_arena_of q) seats → AreNew (picked_permits_of q) (map known_of seats) → AreUnused z owned
 unused_of z q seats owned one e made new = record {
   queue = q;

@@ -51,11 +51,11 @@ abbrev pub IsMemory : Trouble → Type 0
 IsMemory refusal = refusal ≡ Refused Memory
 
 -- there is room for the end of a queue by a seat and so many others
-abbrev pub HasAnyRoom : PickedQueue → (others : ℕ) → EndRoom PickedQueue Seat → Type 0
+abbrev pub HasAnyRoom : PickedQueue → (others : ℕ) → EndRoom PickedQueue (Seat (Unit {0})) → Type 0
 HasAnyRoom queue others room = HasEndRoom (λ q. HasRoomFor (picked_arena_of q)) queue others room
 
 -- there is room for the end of the queue of full handles, whichever it is
-abbrev pub HasRoomOf : List MsqSeat → EndRoom PickedQueue Seat → Type 0
+abbrev pub HasRoomOf : List MsqSeat → EndRoom PickedQueue (Seat (Unit {0})) → Type 0
 HasRoomOf slots room = (q : PickedQueue) (others : ℕ) → length slots ≡ others + 1 → All (λ h. is_full h ≡ true → queue_at h ≡ q) slots → HasAnyRoom q others room
 
 -- why there is no such room: there are no handles, or memory was refused

@@ -92,7 +92,7 @@ pub record ArePut (seats : List OwnSeat) (slots : List MsqSeat) : Type 0 where
   pub those : map own_at slots ≡ seats
 
 -- the seat itself of a handle, where there is one
-abbrev pub seat_at : MsqSeat → Seat
+abbrev pub seat_at : MsqSeat → Seat (Unit {0})
 seat_at h = seat_in (own_at h)
 
 -- these handles have all the seats of one new queue of a plan, in their order

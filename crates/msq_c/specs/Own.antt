@@ -16,7 +16,7 @@ use Rattle.msq_c.specs.declared.troubles.Trouble.TheVariants.{Refused, BadSize, 
 
 -- a seat of a queue of either kind, with its share
 abbrev pub Owned : Type 0
-Owned = OwnedSeat PickedQueue Seat fifo.ghosts
+Owned = OwnedSeat PickedQueue (Seat (Unit {0})) fifo.ghosts
 
 -- the seat with its share
 abbrev pub owned_in : OwnSeat → Owned
@@ -27,7 +27,7 @@ abbrev pub queue_in : OwnSeat → PickedQueue
 queue_in s = queue_of s.owned
 
 -- the seat itself
-abbrev pub seat_in : OwnSeat → Seat
+abbrev pub seat_in : OwnSeat → Seat (Unit {0})
 seat_in s = seat_of s.owned
 
 -- what a seat knows

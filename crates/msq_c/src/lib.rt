@@ -2,17 +2,22 @@
 #![tactic(auto)]
 
 ghost use Rattle.std.specs.Prelude.{◌≡◌, false};
+ghost use Rattle.node_arena.specs.Looks.{FoundSo};
 ghost use Rattle.msq_c.specs.Codes.{Tells, done_code, pop_code};
 ghost use Rattle.msq_c.specs.Seats.{AnswersPush, AnswersPop, AnswersShut, AnswersMeet, MayMeet};
 ghost use Rattle.msq_c.specs.Seats.{is_full};
+ghost use Rattle.msq_c.specs.Looks.{emptiness_code, len_code, TellsLen, TellsLeft, AnswersLook};
+ghost use Rattle.msq_c.specs.Looks.{IsLenWritten, IsLeftWritten};
 ghost use Rattle.msq_c.specs.Made.{AnswersCreate};
 ghost use Rattle.msq_c.specs.Values.{IsWritten};
 ghost use Rattle.msq_c.specs.Ends.{AreOfOne};
 ghost use Rattle.msq_c.specs.Rests.{AnswersClose};
 
+mod bounds;
 mod calls;
 mod ending;
 mod handles;
+mod looks;
 mod making;
 mod own_seats;
 mod parts;
@@ -20,9 +25,11 @@ mod rests;
 mod troubles;
 mod values;
 
+use crate::bounds::{MsqLeft, MsqLen};
 use crate::handles::MsqSeat;
+use crate::looks::{ForLength, ForPushes, ForValues, code_of_emptiness, look};
 use crate::rests::MsqRest;
-use crate::troubles::{EMPTY, code};
+use crate::troubles::{EMPTY, UNCOUNTED, code};
 use crate::values::MsqValue;
 use std::alloc::Global;
 
@@ -79,6 +86,52 @@ pub extern "C" fn msq_meet(alloc: Global, one: &mut MsqSeat, other: &mut MsqSeat
     ensures { Tells done_code result (AnswersMeet one.old other.old one.new other.new) }
 {
     code(calls::meet(alloc, one, other))
+}
+
+/// Whether the queue is empty, and shut too: by the code that a pop at that moment is answered.
+#[unsafe(no_mangle)]
+pub extern "C" fn msq_emptiness(alloc: Global, slot: &mut MsqSeat) -> u32
+    //= library/looks: A look from C at whether the queue is empty tells what `emptiness` of its queue does, by the codes of a
+    //=   pop: 0 where it holds a value, `MSQ_EMPTY`, `MSQ_CLOSED` where it is shut too, `MSQ_BUSY` where pops took effect
+    //=   meanwhile. One at its length writes what `len` tells, and is told `MSQ_UNCOUNTED` exactly of a two-lock queue; one
+    //=   at what is left writes what `left` tells. Each is refused exactly where the handle is empty, with `MSQ_NO_SEAT`
+    //=   and no change, and else keeps it full, of the same queue.
+    ensures { Tells emptiness_code result (AnswersLook (λ q. FoundSo) slot.old slot.new) }
+{
+    code_of_emptiness(look::<ForValues>(alloc, slot))
+}
+
+/// Bounds of how many values the queue holds, which are written where they can be told: of the non-blocking queue alone.
+#[unsafe(no_mangle)]
+pub extern "C" fn msq_len(alloc: Global, slot: &mut MsqSeat, len: &mut MsqLen) -> u32
+    //= library/looks
+    ensures { Tells len_code result
+        (λ out. AnswersLook TellsLen slot.old slot.new out × IsLenWritten out len.old len.new) }
+{
+    match look::<ForLength>(alloc, slot) {
+        Ok(Some(found)) => {
+            *len = MsqLen::of(found);
+            0
+        }
+        Ok(None) => UNCOUNTED,
+        Err(refusal) => refusal.code(),
+    }
+}
+
+/// How many pushes the queue has left at least until one of its words wears out, and what their counts leave.
+#[unsafe(no_mangle)]
+pub extern "C" fn msq_left(alloc: Global, slot: &mut MsqSeat, left: &mut MsqLeft) -> u32
+    //= library/looks
+    ensures { Tells done_code result
+        (λ out. AnswersLook TellsLeft slot.old slot.new out × IsLeftWritten out left.old left.new) }
+{
+    match look::<ForPushes>(alloc, slot) {
+        Ok(found) => {
+            *left = MsqLeft::of(found);
+            0
+        }
+        Err(refusal) => refusal.code(),
+    }
 }
 
 /// Makes a queue of a kind, 0 the non-blocking one and 1 the two-lock one, and fills as many handles as there are roles: 1

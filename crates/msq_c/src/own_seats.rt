@@ -5,7 +5,7 @@ ghost use Rattle.history.specs.Answers.{Pushed, PopAnswers, DidShut, Meets};
 use crate::troubles::Trouble;
 use any_queue::PickedQueue;
 use history::{Body, Taken};
-use owned_seats::{EndRoom, OwnedSeat};
+use owned_seats::{EndRoom, Look, OwnedSeat};
 use std::alloc::Global;
 
 /// How many words keep two seats apart whose blocks lie next to each other: each call writes its seat, and no two may be on
@@ -104,6 +104,13 @@ impl OwnSeat {
             (known_in self.new) (known_in other.new) }
     {
         self.owned.meet(&mut other.owned)
+    }
+
+    pub(crate) fn look<L: Look<PickedQueue>>(&mut self) -> L::Told
+        ensures queue { queue_in self.new ≡ queue_in self.old }
+        ensures told { L.tells (queue_in self.old) (known_in self.old) result (known_in self.new) }
+    {
+        self.owned.look::<L>()
     }
 
     pub(crate) fn room(&self, alloc: Global, others: usize) -> Result<EndRoom<PickedQueue>, Trouble>

@@ -8,6 +8,9 @@ use history::{Refusal, WornWord};
 /// The code of a pop that found the queue empty.
 pub(crate) const EMPTY: u32 = 32;
 
+/// The code of a length that can't be told.
+pub(crate) const UNCOUNTED: u32 = 42;
+
 /// Why a call is refused.
 #[derive(Clone, Copy, Debug)]
 pub enum Trouble {

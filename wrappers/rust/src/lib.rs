@@ -1,7 +1,8 @@
 //! Bounded queues for any number of threads that push and pop: first in, first out, with no lock around a call.
 //!
-//! A thread calls by a seat of its own: a [`Sender`] or a [`Receiver`]. No call waits, and none takes memory but [`queue`] and
-//! [`queue_with_limit`].
+//! A thread calls by a seat of its own: a [`Sender`] or a [`Receiver`]. `send`, `recv` and those with a timeout sleep while the queue
+//! is full, or empty; no other call waits. None takes memory but [`queue`], [`queue_with_limit`] and [`boxed`], of a queue of
+//! boxes, which drops what is left in it. Threads that come and go each have a clone of a [`Queue`], and lease its seats.
 //!
 //! ```
 //! let (mut senders, mut receivers) = msq::queue(msq::Kind::NonBlocking, 64, 1, 1).unwrap();
@@ -14,8 +15,19 @@
 use std::cell::Cell;
 use std::fmt;
 use std::marker::PhantomData;
+use std::sync::Arc;
+use std::time::Duration;
 
+mod bells;
+mod boxes;
+mod leases;
+mod looks;
 mod raw;
+
+use bells::Bells;
+pub use boxes::{boxed, boxed_with_limit, BoxReceiver, BoxSender, Ends, Refused};
+pub use leases::{Lease, Queue};
+pub use looks::{Emptiness, Left, Length};
 
 /// What is pushed: a number below 2^48.
 #[derive(Clone, Copy, Debug, PartialEq, Eq, PartialOrd, Ord, Hash)]
@@ -132,6 +144,7 @@ fn answer(code: u32) -> Result<(), Refusal> {
 // A seat. It may go to another thread, and isn't shared, which the cell says.
 struct Seat {
     raw: raw::Seat,
+    bells: Arc<Bells>,
     alone: PhantomData<Cell<()>>,
 }
 
@@ -139,12 +152,54 @@ struct Seat {
 unsafe impl Send for Seat {}
 
 impl Seat {
-    fn of(raw: raw::Seat) -> Seat {
+    fn of(raw: raw::Seat, bells: &Arc<Bells>) -> Seat {
         Seat {
             raw,
+            bells: Arc::clone(bells),
             alone: PhantomData,
         }
     }
+
+    // Pushes, and sleeps while there is no node.
+    fn send(&mut self, body: Body, until: bells::Deadline) -> Result<(), Refusal> {
+        let Seat { raw, bells, .. } = self;
+        let sent = bells
+            .nodes()
+            .wait(until, || match push(raw, bells, body, bells::TURNS) {
+                Err(Refusal::NoNode) => Ok(None),
+                answer => answer.map(Some),
+            })?;
+        sent.ok_or(Refusal::NoNode)
+    }
+
+    // Pops, and sleeps while there is no value.
+    fn recv(&mut self, until: bells::Deadline) -> Result<Option<Value>, Refusal> {
+        let Seat { raw, bells, .. } = self;
+        bells.values().wait(until, || pop(raw, bells, bells::TURNS))
+    }
+}
+
+// Pushes by a full seat, and wakes who waits for it.
+fn push(seat: &mut raw::Seat, bells: &Bells, body: Body, turns: u32) -> Result<(), Refusal> {
+    // SAFETY: the seat is full, and borrowed for this call alone.
+    let code = unsafe { raw::msq_try_push(seat, body.0, turns) };
+    bells.pushed(code)
+}
+
+// Pops by a full seat, and wakes who waits for it.
+fn pop(seat: &mut raw::Seat, bells: &Bells, turns: u32) -> Result<Option<Value>, Refusal> {
+    let mut value = raw::Value { body: 0, from: 0 };
+    // SAFETY: as for a push.
+    let code = unsafe { raw::msq_try_pop(seat, turns, &mut value) };
+    bells.popped(code);
+    if code == raw::EMPTY {
+        return Ok(None);
+    }
+    answer(code)?;
+    Ok(Some(Value {
+        body: Body(value.body),
+        from: value.from,
+    }))
 }
 
 impl Drop for Seat {
@@ -206,7 +261,8 @@ pub fn queue_with_limit(
         )
     };
     answer(code)?;
-    let mut seats = made.into_iter().map(Seat::of);
+    let bells = Arc::new(Bells::default());
+    let mut seats = made.into_iter().map(|raw| Seat::of(raw, &bells));
     let givers = seats
         .by_ref()
         .take(senders)
@@ -219,31 +275,56 @@ pub fn queue_with_limit(
 impl Sender {
     /// Pushes a body, in so many turns at most, 1 or more.
     pub fn try_push(&mut self, body: Body, turns: u32) -> Result<(), Refusal> {
-        // SAFETY: the seat is full, and borrowed for this call alone.
-        answer(unsafe { raw::msq_try_push(&mut self.seat.raw, body.0, turns) })
+        push(&mut self.seat.raw, &self.seat.bells, body, turns)
+    }
+
+    /// Pushes a body, and sleeps while the queue is full, until a pop or a shut wakes it. Refused `Closed` or `WornOut`.
+    pub fn send(&mut self, body: Body) -> Result<(), Refusal> {
+        self.seat.send(body, None)
+    }
+
+    /// As [`Sender::send`], for this time at most; then it tries once more: refused also `NoNode`, or `Busy` where others
+    /// were in the way of that last try.
+    pub fn send_timeout(&mut self, body: Body, time: Duration) -> Result<(), Refusal> {
+        self.seat.send(body, bells::after(time))
     }
 
     /// Shuts the queue, in so many turns at most, 1 or more: no push comes after it, and what is in it stays to be popped.
-    /// `Closed` where it was shut before.
+    /// `Closed` where it was shut before. All that sleep are woken.
     pub fn try_shut(&mut self, turns: u32) -> Result<(), Refusal> {
-        // SAFETY: as for a push.
-        answer(unsafe { raw::msq_try_shut(&mut self.seat.raw, turns) })
+        // SAFETY: the seat is full, and borrowed for this call alone.
+        let code = unsafe { raw::msq_try_shut(&mut self.seat.raw, turns) };
+        self.seat.bells.shut(code)
     }
 }
 
 impl Receiver {
     /// Pops the value at the front, in so many turns at most, 1 or more; none where the queue was empty.
     pub fn try_pop(&mut self, turns: u32) -> Result<Option<Value>, Refusal> {
-        let mut value = raw::Value { body: 0, from: 0 };
-        // SAFETY: the seat is full, and borrowed for this call alone.
-        let code = unsafe { raw::msq_try_pop(&mut self.seat.raw, turns, &mut value) };
-        if code == raw::EMPTY {
-            return Ok(None);
+        pop(&mut self.seat.raw, &self.seat.bells, turns)
+    }
+
+    /// Pops the value at the front, and sleeps while the queue is empty, until a push or a shut wakes it. Refused `Closed` or
+    /// `WornOut`.
+    ///
+    /// ```
+    /// let (mut senders, mut receivers) = msq::queue(msq::Kind::NonBlocking, 64, 1, 1).unwrap();
+    /// std::thread::scope(|scope| {
+    ///     scope.spawn(|| senders[0].send(msq::Body::from(42)).unwrap());
+    ///     assert_eq!(receivers[0].recv().unwrap().body.number(), 42);
+    /// });
+    /// ```
+    pub fn recv(&mut self) -> Result<Value, Refusal> {
+        loop {
+            if let Some(value) = self.seat.recv(None)? {
+                return Ok(value);
+            }
         }
-        answer(code)?;
-        Ok(Some(Value {
-            body: Body(value.body),
-            from: value.from,
-        }))
+    }
+
+    /// As [`Receiver::recv`], for this time at most; then it looks once more: none where the queue was empty, and refused
+    /// also `Busy`, where others were in the way of that last look.
+    pub fn recv_timeout(&mut self, time: Duration) -> Result<Option<Value>, Refusal> {
+        self.seat.recv(bells::after(time))
     }
 }

@@ -37,6 +37,29 @@ pub struct Value {
     pub from: u16,
 }
 
+#[repr(C)]
+pub struct Length {
+    pub least: u64,
+    pub most: u64,
+}
+
+#[repr(C)]
+pub struct Remaining {
+    pub pushes: u64,
+    pub free: u64,
+    pub tail: u64,
+    pub head: u64,
+}
+
+#[repr(C)]
+#[derive(Default)]
+pub struct Rest {
+    pub left: u64,
+    taken: u64,
+    whole: bool,
+    was_shut: bool,
+}
+
 extern "C" {
     pub fn msq_create(
         kind: u32,
@@ -50,5 +73,15 @@ extern "C" {
     pub fn msq_try_push(seat: *mut Seat, body: u64, turns: u32) -> u32;
     pub fn msq_try_pop(seat: *mut Seat, turns: u32, value: *mut Value) -> u32;
     pub fn msq_try_shut(seat: *mut Seat, turns: u32) -> u32;
+    pub fn msq_emptiness(seat: *mut Seat) -> u32;
+    pub fn msq_len(seat: *mut Seat, length: *mut Length) -> u32;
+    pub fn msq_left(seat: *mut Seat, left: *mut Remaining) -> u32;
+    pub fn msq_close(
+        seats: *mut Seat,
+        seats_len: usize,
+        values: *mut Value,
+        values_len: usize,
+        rest: *mut Rest,
+    ) -> u32;
     pub fn msq_drop(seat: *mut Seat);
 }

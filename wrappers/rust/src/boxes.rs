@@ -1,0 +1,195 @@
+//! Queues that own boxes.
+use crate::{bells, queue_with_limit, raw, Body, Kind, Receiver, Refusal, Sender};
+use std::cell::Cell;
+use std::marker::PhantomData;
+use std::sync::Arc;
+use std::time::Duration;
+
+/// The senders and the receivers of a queue of boxes.
+pub type Ends<T> = (Vec<BoxSender<T>>, Vec<BoxReceiver<T>>);
+
+/// A queue of boxes, as [`queue`](crate::queue) makes one of numbers, with one seat more. What is left in it is dropped with the
+/// last one of its senders and receivers.
+///
+/// ```
+/// let (mut senders, mut receivers) = msq::boxed(msq::Kind::NonBlocking, 64, 1, 1).unwrap();
+/// senders[0].send(Box::new("moved".to_string())).unwrap();
+/// assert_eq!(*receivers[0].recv().unwrap(), "moved");
+/// ```
+pub fn boxed<T: Send>(
+    kind: Kind,
+    nodes: u32,
+    senders: u16,
+    receivers: u16,
+) -> Result<Ends<T>, Refusal> {
+    boxed_with_limit(kind, nodes, raw::MOST_COUNT, senders, receivers)
+}
+
+/// As [`boxed`], with a limit of its counts, as [`queue_with_limit`] has one.
+pub fn boxed_with_limit<T: Send>(
+    kind: Kind,
+    nodes: u32,
+    limit: u64,
+    senders: u16,
+    receivers: u16,
+) -> Result<Ends<T>, Refusal> {
+    let one_more = receivers.checked_add(1).ok_or(Refusal::BadSize)?;
+    let (givers, mut takers) = queue_with_limit(kind, nodes, limit, senders, one_more)?;
+    let last = takers.pop().ok_or(Refusal::BadSize)?;
+    let rest = Arc::new(Rest {
+        taker: last,
+        nodes,
+        owns: PhantomData,
+    });
+    let sender = |seat| BoxSender {
+        seat,
+        rest: Arc::clone(&rest),
+    };
+    let receiver = |seat| BoxReceiver {
+        seat,
+        rest: Arc::clone(&rest),
+    };
+    Ok((
+        givers.into_iter().map(sender).collect(),
+        takers.into_iter().map(receiver).collect(),
+    ))
+}
+
+// What is left in the queue when all seats but this one are gone.
+struct Rest<T> {
+    taker: Receiver,
+    nodes: u32,
+    // (a cell, since what a sender may hand over is just what a receiver gets)
+    owns: PhantomData<Cell<Box<T>>>,
+}
+
+// SAFETY: the receiver is used by the thread alone that drops the last share.
+unsafe impl<T: Send> Sync for Rest<T> {}
+// SAFETY: a receiver may go to another thread, and so may the boxes in the queue.
+unsafe impl<T: Send> Send for Rest<T> {}
+
+impl<T> Drop for Rest<T> {
+    fn drop(&mut self) {
+        loop {
+            match self.taker.try_pop(bells::TURNS) {
+                Ok(Some(value)) => drop(unboxed::<T>(value.body.number())),
+                Ok(None) | Err(Refusal::Closed) => return,
+                Err(_) => break,
+            }
+        }
+        // (where a word is worn pops end before the queue is empty, but not the close)
+        for value in self.taker.close(self.nodes) {
+            drop(unboxed::<T>(value.body));
+        }
+    }
+}
+
+// The box of an address that was pushed, and popped once.
+fn unboxed<T>(address: u64) -> Box<T> {
+    // SAFETY: a queue of boxes has addresses alone that `into_raw` gave, each is popped once, and its type is the queue's.
+    unsafe { Box::from_raw(address as usize as *mut T) }
+}
+
+/// A seat that pushes boxes.
+pub struct BoxSender<T> {
+    seat: Sender,
+    // (behind the seat, which is dropped first)
+    #[allow(dead_code)]
+    rest: Arc<Rest<T>>,
+}
+
+/// A seat that pops boxes.
+pub struct BoxReceiver<T> {
+    seat: Receiver,
+    // (behind the seat, which is dropped first)
+    #[allow(dead_code)]
+    rest: Arc<Rest<T>>,
+}
+
+/// A push that was refused, with its box.
+pub type Refused<T> = (Refusal, Box<T>);
+
+impl<T: Send> BoxSender<T> {
+    // Hands a box over by a push of its address; the box comes back where that is refused.
+    fn push(
+        &mut self,
+        value: Box<T>,
+        push: impl FnOnce(&mut Sender, Body) -> Result<(), Refusal>,
+    ) -> Result<(), Refused<T>> {
+        let address = Box::into_raw(value);
+        let body = Body::new(address as usize as u64).ok_or(Refusal::BadSize);
+        body.and_then(|body| push(&mut self.seat, body))
+            .map_err(|refusal| {
+                // SAFETY: nothing was pushed, so the box is still this call's.
+                (refusal, unsafe { Box::from_raw(address) })
+            })
+    }
+
+    /// Pushes a box, in so many turns at most, 1 or more.
+    pub fn try_push(&mut self, value: Box<T>, turns: u32) -> Result<(), Refused<T>> {
+        self.push(value, |seat, body| seat.try_push(body, turns))
+    }
+
+    /// Pushes a box, and sleeps while the queue is full.
+    pub fn send(&mut self, value: Box<T>) -> Result<(), Refused<T>> {
+        self.push(value, Sender::send)
+    }
+
+    /// Pushes a box, and sleeps while the queue is full, for this time at most: `NoNode` after it.
+    pub fn send_timeout(&mut self, value: Box<T>, time: Duration) -> Result<(), Refused<T>> {
+        self.push(value, |seat, body| seat.send_timeout(body, time))
+    }
+
+    /// Shuts the queue, as [`Sender::try_shut`] does.
+    pub fn try_shut(&mut self, turns: u32) -> Result<(), Refusal> {
+        self.seat.try_shut(turns)
+    }
+}
+
+impl<T: Send> BoxReceiver<T> {
+    /// Pops the box at the front, in so many turns at most, 1 or more; none where the queue was empty.
+    pub fn try_pop(&mut self, turns: u32) -> Result<Option<Box<T>>, Refusal> {
+        let value = self.seat.try_pop(turns)?;
+        Ok(value.map(|value| unboxed(value.body.number())))
+    }
+
+    /// Pops the box at the front, and sleeps while the queue is empty.
+    pub fn recv(&mut self) -> Result<Box<T>, Refusal> {
+        let value = self.seat.recv()?;
+        Ok(unboxed(value.body.number()))
+    }
+
+    /// Pops the box at the front, and sleeps while the queue is empty, for this time at most; none after it.
+    pub fn recv_timeout(&mut self, time: Duration) -> Result<Option<Box<T>>, Refusal> {
+        let value = self.seat.recv_timeout(time)?;
+        Ok(value.map(|value| unboxed(value.body.number())))
+    }
+}
+
+impl Receiver {
+    // Ends the queue by its last seat: what is left in it.
+    fn close(&mut self, nodes: u32) -> Vec<raw::Value> {
+        let mut values = Vec::new();
+        if values.try_reserve_exact(nodes as usize).is_err() {
+            return Vec::new();
+        }
+        values.resize_with(nodes as usize, || raw::Value { body: 0, from: 0 });
+        let mut rest = raw::Rest::default();
+        // SAFETY: the seat is full and in no other call, and the slice is as long as is said.
+        let code = unsafe {
+            raw::msq_close(
+                &mut self.seat.raw,
+                1,
+                values.as_mut_ptr(),
+                values.len(),
+                &mut rest,
+            )
+        };
+        values.truncate(if code == raw::OK {
+            rest.left as usize
+        } else {
+            0
+        });
+        values
+    }
+}

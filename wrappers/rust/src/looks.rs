@@ -1,0 +1,103 @@
+//! What a seat can see of its queue.
+use crate::{raw, Receiver, Seat, Sender};
+
+/// Whether a queue held a value, at a moment of the call.
+#[derive(Clone, Copy, Debug, PartialEq, Eq)]
+pub enum Emptiness {
+    /// It was empty, and not shut.
+    Empty,
+    /// It was empty and shut: nothing comes any more.
+    ShutEmpty,
+    /// It held a value at least.
+    Holds,
+    /// Pops took effect meanwhile, so that no such moment was seen: look again.
+    Moved,
+}
+
+/// How many values a queue held, at a moment of the call: at least and at most so many.
+#[derive(Clone, Copy, Debug, PartialEq, Eq)]
+pub struct Length {
+    /// At least so many.
+    pub least: u64,
+    /// At most so many.
+    pub most: u64,
+}
+
+/// How many pushes a queue has left at least, and how often the counts of three of its words can still be raised.
+#[derive(Clone, Copy, Debug, PartialEq, Eq)]
+pub struct Left {
+    /// While no more pushes are called, done or refused, those under way too, no call finds Free, Tail or Head worn out.
+    pub pushes: u64,
+    /// Free's: each node taken from the free list raises it, and each one given back.
+    pub free: u64,
+    /// Tail's: in the non-blocking queue each push raises it, in the two-lock queue nothing does.
+    pub tail: u64,
+    /// Head's: each value popped raises it.
+    pub head: u64,
+}
+
+impl Seat {
+    fn emptiness(&mut self) -> Emptiness {
+        // SAFETY: the seat is full, and borrowed for this call alone.
+        match unsafe { raw::msq_emptiness(&mut self.raw) } {
+            raw::OK => Emptiness::Holds,
+            raw::EMPTY => Emptiness::Empty,
+            raw::CLOSED => Emptiness::ShutEmpty,
+            raw::BUSY => Emptiness::Moved,
+            other => unreachable!("libmsq answered {other}"),
+        }
+    }
+
+    fn len(&mut self) -> Option<Length> {
+        let mut length = raw::Length { least: 0, most: 0 };
+        // SAFETY: the seat is full, and borrowed for this call alone.
+        let code = unsafe { raw::msq_len(&mut self.raw, &mut length) };
+        (code == raw::OK).then_some(Length {
+            least: length.least,
+            most: length.most,
+        })
+    }
+
+    fn left(&mut self) -> Left {
+        let mut left = raw::Remaining {
+            pushes: 0,
+            free: 0,
+            tail: 0,
+            head: 0,
+        };
+        // SAFETY: the seat is full, and borrowed for this call alone. So no other code than 0 comes.
+        let code = unsafe { raw::msq_left(&mut self.raw, &mut left) };
+        assert_eq!(code, raw::OK, "libmsq answered {code}");
+        Left {
+            pushes: left.pushes,
+            free: left.free,
+            tail: left.tail,
+            head: left.head,
+        }
+    }
+}
+
+macro_rules! looks {
+    ($who:ident) => {
+        impl $who {
+            /// Whether the queue holds a value.
+            pub fn emptiness(&mut self) -> Emptiness {
+                self.seat.emptiness()
+            }
+
+            /// How many values it holds; none exactly of a two-lock queue, of which that can't be told.
+            #[allow(clippy::len_without_is_empty)]
+            pub fn len(&mut self) -> Option<Length> {
+                self.seat.len()
+            }
+
+            /// How many pushes it has left.
+            pub fn left(&mut self) -> Left {
+                self.seat.left()
+            }
+        }
+    };
+}
+
+looks!(Sender);
+looks!(Receiver);
