@@ -79,7 +79,8 @@ enum msq_code {
     CODE(MSQ_WORN_TAIL, "the count of the tail is at its limit")                                                       \
     CODE(MSQ_WORN_HEAD, "the count of the head is at its limit")                                                       \
     CODE(MSQ_TWO_QUEUES, "the seats are of two queues")                                                                \
-    CODE(MSQ_TWO_CALLS, "another call uses the seat")
+    CODE(MSQ_TWO_CALLS, "another call uses the seat")                                                                  \
+    CODE(MSQ_UNCOUNTED, "the length of such a queue isn't counted")
 
 enum msq_kind {
     MSQ_NON_BLOCKING = 0, /* a thread that stops keeps no other from going on */

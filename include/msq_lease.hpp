@@ -75,12 +75,13 @@ public:
 
     // Ends the queue, no seat of which is leased: of this handle and all others. `room` is the number of its nodes.
     closed close(size_t room) {
-        closed found{MSQ_NO_SEAT, msq_rest{}, std::vector<msq_value>(room)};
+        closed found{MSQ_NO_SEAT, msq_rest{}, std::vector<msq_value>(room), 0};
         if (home_) {
             found.code = static_cast<msq_code>(
                 msq_queue_close(home_.get(), found.left.data(), found.left.size(), &found.rest));
         }
-        found.left.resize(std::min<uint64_t>(found.rest.left, room));
+        found.left.resize(static_cast<size_t>(std::min<uint64_t>(found.rest.left, room)));
+        found.lost = found.rest.left - found.left.size();
         return found;
     }
 
