@@ -169,7 +169,7 @@ uint32_t msq_emptiness(msq_seat *seat);
 uint32_t msq_len(msq_seat *seat, msq_length *length);
 
 /*
- * Writes how many pushes are left at least until a word wears out, by any seat: while no more pushes are called, done or
+ * Writes how many pushes are left at least until a word wears out, by any seat: while fewer pushes are called, done or
  * refused, those under way too, no call is answered MSQ_WORN_FREE, MSQ_WORN_TAIL or MSQ_WORN_HEAD, nor MSQ_NO_NODE for good.
  * More may be left, about as many as there are nodes. MSQ_OK or MSQ_NO_SEAT; refused, it writes nothing.
  */

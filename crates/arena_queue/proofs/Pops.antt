@@ -21,7 +21,7 @@ use Rattle.node_arena.specs.Loads.{TakesSlot}
 use Rattle.node_arena.specs.Turns.{failed_turns}
 use Rattle.node_arena.specs.Paths.{ExtendsPath, FindsShutEmpty, StopsAPop, Acts, HadNoEffect, EndedAt, IsRefusedAt, added}
 use Rattle.node_arena.proofs.Paths.{walk_then, then_slots, then_shut_empty, act_then, sees_on, added_is, added_path, last_held, ends_failed, met_behind, failed-append, failed_behind, kept_seat}
-use Rattle.node_arena.proofs.Loads.{kept_slots, then_takes, takes_then}
+use Rattle.node_arena.proofs.Loads.{kept_slots, kept_takes, then_takes, takes_then}
 use Rattle.free_list.specs.Gives.{GiveAnswers}
 use Rattle.arena_queue.specs.Answers.{EmptiesPocket, DrawRefused, DrawMoves, Draws, AnswersPop}
 use Rattle.arena_queue.proofs.Queues.{same_number}
@@ -68,7 +68,7 @@ module _ (worn : WornWord → Type 0) where
         }
       where
         moves : (o : Result (Option Taken) Refusal) → DrawMoves r u x o → DrawMoves r s x o
-        moves (Ok (Some v)) y = then_takes r v.body s u x slots y
+        moves (Ok (Some v)) y = then_takes r v s u x slots y
         moves (Ok None) y = then_slots s u x slots y
         moves (Err refusal) y = then_slots s u x slots y
 
@@ -126,8 +126,8 @@ module _ (worn : WornWord → Type 0) where
       }
 
   -- a value was taken by a seat that keeps no nodes, and the node that comes free is given back, or stays in the pocket
-  pub draws_taken : {T : Type 0} (r : Arena) (s t x : Seat T) (word : ℕ) (h : Held) (failed turns : ℕ) (out : Result (Unit {0}) Refusal) (es : List Event) → keeps_of s ≡ false → failed < turns → KeepsStored s t → TakesSlot r (value_of word).body s t → Acts (view s) (view t) (Pop (view s).number (value_of word)) es → failed_turns es ≡ 0 → GiveAnswers r (keeping t (Some h) failed) x (turns - failed) out → Draws worn r s x failed turns (Ok (Some (value_of word)))
-  draws_taken r s t x word h failed turns out es keeps less stored takes took never g =
+  pub draws_taken : {T : Type 0} (r : Arena) (s t x : Seat T) (word : ℕ) (h : Held) (failed turns : ℕ) (out : Result (Unit {0}) Refusal) (es : List Event) → keeps_of s ≡ false → failed < turns → IsSeat r t → KeepsStored s t → TakesSlot r (value_of word) s t → Acts (view s) (view t) (Pop (view s).number (value_of word)) es → failed_turns es ≡ 0 → GiveAnswers r (keeping t (Some h) failed) x (turns - failed) out → Draws worn r s x failed turns (Ok (Some (value_of word)))
+  draws_taken r s t x word h failed turns out es keeps less seat stored takes took never g =
       let acts : Acts (view s) (view x) (Pop (view s).number (value_of word)) (es ++ added t x) = act_then (view s) (view t) (view x) (Pop (view s).number (value_of word)) es (added t x) took (record { walks = g.lines; same = g.seen }) in
       let e : added s x ≡ es ++ added t x = added_path s x (es ++ added t x) acts.path in
       let all : failed_turns (added s x) ≡ failed_turns (added t x) = (let c = ap failed_turns e in omega (arith, failed-append es (added t x), never, c)) in
@@ -135,7 +135,7 @@ module _ (worn : WornWord → Type 0) where
       record {
         ready = g.ready;
         same = record { number = g.same.number ∙ stored.number; role = g.same.role ∙ stored.role; keeps = g.same.keeps ∙ stored.keeps };
-        slots = takes_then r (value_of word).body s t x takes (record { same = g.slots.same; hand = g.slots.hand });
+        slots = takes_then r (value_of word) s t x takes seat g.ready.seat (record { same = g.slots.same; hand = g.slots.hand; number = g.slots.number; more = record { between = g.slots.more.between; deeds = g.slots.more.deeds } }) g.seen;
         path = acts.path ∙ ap (λ p. (view s).path ++ p) (sym e);
         answer = acts.adds;
         few = omega (arith, all, most, less);
@@ -153,14 +153,14 @@ module _ (worn : WornWord → Type 0) where
       spends (Err refusal) g = let n : failed_turns (added t x) ≡ turns - failed = g.refused.1 in omega arith
 
   -- a value was taken by a seat that keeps its nodes, and the node that comes free stays in the pocket
-  pub draws_kept : {T : Type 0} (r : Arena) (s t : Seat T) (word : ℕ) (h : Held) (failed turns : ℕ) (es : List Event) → keeps_of s ≡ true → failed < turns → IsSeat r t → KeepsStored s t → TakesSlot r (value_of word).body s t → IsFreeing (view t).actor word h → Acts (view s) (view t) (Pop (view s).number (value_of word)) es → failed_turns es ≡ 0 → Draws worn r s (keeping t (Some h) failed) failed turns (Ok (Some (value_of word)))
+  pub draws_kept : {T : Type 0} (r : Arena) (s t : Seat T) (word : ℕ) (h : Held) (failed turns : ℕ) (es : List Event) → keeps_of s ≡ true → failed < turns → IsSeat r t → KeepsStored s t → TakesSlot r (value_of word) s t → IsFreeing (view t).actor word h → Acts (view s) (view t) (Pop (view s).number (value_of word)) es → failed_turns es ≡ 0 → Draws worn r s (keeping t (Some h) failed) failed turns (Ok (Some (value_of word)))
   draws_kept r s t word h failed turns es keeps less seat stored takes frees took never =
       let e : added s t ≡ es = added_path s t es took.path in
       let rest : at_rest (view t).actor ≡ record (to_pocket (view t).actor) { line = None } = ap (out_of (view t).actor) frees.over ∙ ap (λ d. gave_up (view t).actor (busy_or 0 d (to_pocket (view t).actor))) frees.due in
       record {
         ready = record { seat = kept_seat r t (Some h) failed seat; free = ap (λ b. b.line) rest; pocket = sym (ap (λ b. b.pocket) rest ∙ (λ i. Some (record { node = frees.node i; mark = frees.mark i }))) };
         same = record { number = stored.number; role = stored.role; keeps = stored.keeps };
-        slots = takes;
+        slots = kept_takes r (value_of word) s t (Some h) failed takes;
         path = took.path ∙ ap (λ p. (view s).path ++ p) (sym e);
         answer = took.adds;
         few = (let c = ap failed_turns e in omega (arith, never, less, c));
@@ -187,7 +187,7 @@ module _ (worn : WornWord → Type 0) where
       }
 
   -- a pop with no line of its call before it
-  whole : {T : Type 0} (r : Arena) (s x : Seat T) (turns : ℕ) (out : Result (Option Taken) Refusal) → IsReady r s → Draws worn r s x 0 turns out → AnswersPop worn r s x turns out
+  pub whole : {T : Type 0} (r : Arena) (s x : Seat T) (turns : ℕ) (out : Result (Option Taken) Refusal) → IsReady r s → Draws worn r s x 0 turns out → AnswersPop worn r s x turns out
   whole r s x turns (Ok v) h d =
       record {
         ready = d.ready;

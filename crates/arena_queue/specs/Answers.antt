@@ -40,13 +40,21 @@ PutRefused worn r s t node spent turns (WornOut word) =
 PutRefused worn r s t node spent turns Closed = MetCause r s t Closed × KeepsNode t node
 PutRefused worn r s t node spent turns _ = ⊥
 
--- what a push answers that has its node, where so many turns failed before
-pub record Puts {T : Type 0} (worn : WornWord → Option Held → Type 0) (r : Arena) (s t : Seat T) (node body spent turns : ℕ) (out : Result (Unit {0}) Refusal) : Type 0 where
+-- the push of a body gave its slot, and a push that was refused left the slots that are out with its seat as they were
+abbrev pub PutMoves : {T : Type 0} → Arena → (body : ℕ) → Seat T → Seat T → Result (Unit {0}) Refusal → Type 0
+PutMoves r body s t out = MatchResult out (λ _. GivesSlot r body s t) (λ _. KeepsSlots s t)
+
+-- what a push answers that has its node, where so many turns failed before, and beside that what became of slots
+pub record PutsAnd {T : Type 0} (Slots : Type 0) (worn : WornWord → Option Held → Type 0) (r : Arena) (s t : Seat T) (node body spent turns : ℕ) (out : Result (Unit {0}) Refusal) : Type 0 where
   pub ready : IsReady r t
   pub same : KeepsName s t
-  pub slots : MatchResult out (λ _. GivesSlot r t) (λ _. KeepsSlots s t)
+  pub slots : Slots
   pub pushed : OnOk out (DidPush s t body × (pocket_of t ≡ None) × (spent + failed_turns (added s t) < turns))
   pub refused : IfErr out (λ refusal. StopsAPush s t refusal × PutRefused worn r s t node spent turns refusal)
+
+-- what a push answers that has its node, where so many turns failed before
+abbrev pub Puts : {T : Type 0} (worn : WornWord → Option Held → Type 0) → Arena → (s t : Seat T) → (node body spent turns : ℕ) → Result (Unit {0}) Refusal → Type 0
+Puts worn r s t node body spent turns out = PutsAnd (PutMoves r body s t out) worn r s t node body spent turns out
 
 -- the cause of each refusal of a push is that of a take, or of the push of the node that it has: a word worn out, or the queue
 -- shut
@@ -94,7 +102,7 @@ EmptiesPocket s t spent turns = (pocket_of t ≡ None) ⊎ (spent + failed_turns
 
 -- the slot of the value that a pop took came out with the seat, and else the slots that are out with it are those that were
 abbrev pub DrawMoves : {T : Type 0} → Arena → Seat T → Seat T → Result (Option Taken) Refusal → Type 0
-DrawMoves r s t (Ok (Some v)) = TakesSlot r v.body s t
+DrawMoves r s t (Ok (Some v)) = TakesSlot r v s t
 DrawMoves r s t out = KeepsSlots s t
 
 -- what a pop answers that has an empty pocket, where so many turns failed before

@@ -231,7 +231,7 @@ module _ {T : Type 0} (r : Arena) (s t : Seat T) (g : Held) (n : ℕ) (h : Givin
       record {
         ready = record { seat = kept_seat r x None n d.turned.seat; free = ap (λ a. a.line) rest; pocket = sym (ap (λ a. a.pocket) rest ∙ empty_at_pops r x r.plan.setup.kind d.turned.seat d.turned.over) };
         same = record { number = name.number; role = name.role; keeps = name.keeps };
-        slots = (let k = then_slots s t x h.slots d.slots in record { same = k.same; hand = k.hand });
+        slots = (let k = then_slots s t x h.slots d.slots in record { same = k.same; hand = k.hand; number = k.number; more = record { between = k.more.between; deeds = k.more.deeds } });
         pocket = refl;
         lines = subst (ExtendsPath (view s) (view x)) (sym e) p.walks;
         seen = p.same;
@@ -251,7 +251,7 @@ kept_it r s t g (suc m) some full h =
     record {
       ready = record { seat = kept_seat r t (Some g) (suc m) at.before.seat; free = ap (λ b. b.line) rest; pocket = (λ i. Some (record { node = sym at.frees.node i; mark = sym at.frees.mark i })) ∙ sym (ap (λ b. b.pocket) rest) };
       same = record { number = h.stored.number; role = h.stored.role; keeps = h.stored.keeps };
-      slots = record { same = h.slots.same; hand = h.slots.hand };
+      slots = record { same = h.slots.same; hand = h.slots.hand; number = h.slots.number; more = record { between = h.slots.more.between; deeds = h.slots.more.deeds } };
       pocket = sym full;
       lines = subst (ExtendsPath (view s) (view t)) (sym e) h.walks.walks;
       seen = h.walks.same;

@@ -71,7 +71,7 @@ module _ {T : Type 0} (r : Arena) (s t : Seat T) (n : ℕ) (h : Trying r s t n) 
           pocket = (λ i. Some (record { node = sym d.turned.node i; mark = sym d.turned.mark i })) ∙ sym (ap (λ a. a.pocket) rest);
         };
         same = record { number = name.number; role = name.role; keeps = name.keeps };
-        slots = (let k = then_slots s t x h.slots d.slots in record { same = k.same; hand = k.hand });
+        slots = (let k = then_slots s t x h.slots d.slots in record { same = k.same; hand = k.hand; number = k.number; more = record { between = k.more.between; deeds = k.more.deeds } });
         pocket = refl;
         lines = subst (ExtendsPath (view s) (view x)) (sym e) p.walks;
         seen = p.same;
@@ -100,7 +100,7 @@ module _ {T : Type 0} (r : Arena) (s t : Seat T) (n : ℕ) (h : Trying r s t n) 
           pocket = sym (ap (λ a. a.pocket) rest ∙ d.turned.empty);
         };
         same = record { number = name.number; role = name.role; keeps = name.keeps };
-        slots = (let k = then_slots s t x h.slots d.slots in record { same = k.same; hand = k.hand });
+        slots = (let k = then_slots s t x h.slots d.slots in record { same = k.same; hand = k.hand; number = k.number; more = record { between = k.more.between; deeds = k.more.deeds } });
         pocket = refl;
         lines = subst (ExtendsPath (view s) (view x)) (sym e) p.walks;
         seen = p.same;
@@ -127,7 +127,7 @@ gave_up r s t (suc m) some h =
         pocket = sym (ap (λ b. b.pocket) rest ∙ empty_before r t continues N1 h.before);
       };
       same = record { number = h.stored.number; role = h.stored.role; keeps = h.stored.keeps };
-      slots = record { same = h.slots.same; hand = h.slots.hand };
+      slots = record { same = h.slots.same; hand = h.slots.hand; number = h.slots.number; more = record { between = h.slots.more.between; deeds = h.slots.more.deeds } };
       pocket = refl;
       lines = subst (ExtendsPath (view s) (view t)) (sym e) h.walks.walks;
       seen = h.walks.same;

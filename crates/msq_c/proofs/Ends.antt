@@ -57,7 +57,7 @@ module _ (slots : List MsqSeat) (full : AreFull slots) (of_one : AreOfOne slots)
     room_for room has = has (queue_of last) (length others) one_less (λ k d l f. all_there k d l)
 
   -- what was closed by these seats was closed by the handles
-  pub closed_if : (out : Result (Rest × Ended) Trouble)
+  pub closed_if : (out : Result (Rest × Ended (Unit {0})) Trouble)
       → IfOk out (λ r. Closes (picked_permits_of (queue_of last)) (map (λ (s : Owned). known_of (seat_of s)) (others ++ last ∷ [])) r.0)
       → IfOk out (λ r. Leaves (picked_arena_of (queue_of last)) r.1 r.0)
       → IfOk out (λ r. ClosesHandles slots r.0 r.1)

@@ -40,7 +40,7 @@ abbrev pub owned_at : MsqSeat → Owned
 owned_at h = owned_in (own_at h)
 
 -- the queue of these handles was closed by all of them, with its end
-pub record ClosesHandles (slots : List MsqSeat) (rest : Rest) (end : Ended) : Type 0 where
+pub record ClosesHandles (slots : List MsqSeat) (rest : Rest) (end : Ended (Unit {0})) : Type 0 where
   pub queue : PickedQueue
   pub one : All (λ h. queue_at h ≡ queue) slots
   pub closes : Closes (picked_permits_of queue) (map known_at slots) rest

@@ -20,7 +20,7 @@ pub record IsRest (rest : Rest) (told : MsqRest) : Type 0 where
 -- the queue of these handles was closed by all of them, which are empty then, and C got what was left
 pub record Closed (slots slots' : List MsqSeat) (vs vs' : List MsqValue) (told : MsqRest) : Type 0 where
   pub rest : Rest
-  pub end : Ended
+  pub end : Ended (Unit {0})
   pub closes : ClosesHandles slots rest end
   pub empty : AreEmpty slots'
   pub tells : IsRest rest told

@@ -71,6 +71,9 @@ module _ {T : Type 0} (r : Arena) (s : Seat T) (t : Token (Option T) (Beside T))
   moves : Moves r.plan s.token.me t.me
   moves = subst (λ (z : Layout). Moves z s.token.me t.me) may.seat.arena.key tells.1
 
+  known : KnowsNow r.plan t.me.0
+  known = subst (λ (z : Layout). KnowsNow z t.me.0) may.seat.arena.key tells.2
+
   abbrev a : Actor
   a = after_prologue r.plan.setup (view s).number prologue (view s).actor
 
@@ -90,12 +93,13 @@ module _ {T : Type 0} (r : Arena) (s : Seat T) (t : Token (Option T) (Beside T))
         pushes = pushes ∙ (ap (λ k. k + count_by is_push es) may.seat.sits.pushes ∙ (sym (sum_by-append _ (view s).mine es) ∙ (ap (count_by is_push) (sym steps.mine) ∙ ap (λ y. count_by is_push (knows y.me.0.plain).mine) (sym token))));
         shut = shut ∙ ap (nat_lt 0) (sym (sum_by-append _ (view s).mine es) ∙ (ap (count_by is_shut) (sym steps.mine) ∙ ap (λ y. count_by is_shut (knows y.me.0.plain).mine) (sym token)));
         fitted = subst (λ y. ∥ Fitted r.plan (knows y.me.0.plain) ∥₁) (sym token) ∣ record { trace = step_at steps.was (view s).number a l; reached = steps.reaches; setup = steps.setup; permitted = steps.permitted; fits = steps.fits } ∣₁;
-        valued = subst (λ y. ∥ KnowsNow r.plan y.me.0 ∥₁) (sym token) ∣ subst (λ (z : Layout). KnowsNow z t.me.0) may.seat.arena.key tells.2 ∣₁;
+        valued = subst (λ y. ∥ KnowsNow r.plan y.me.0 ∥₁) (sym token) ∣ known ∣₁;
         pops = pops ∙ (ap (λ k. k + count_by is_pop es) may.seat.sits.pops ∙ (sym (sum_by-append _ (view s).mine es) ∙ (ap (count_by is_pop) (sym steps.mine) ∙ ap (λ y. count_by is_pop (knows y.me.0.plain).mine) (sym token))));
       };
     };
     stored = record { number = number; role = role; keeps = keeps; pocket = pocket; failed = failed };
     moves = subst (λ y. Moves r.plan s.token.me y.me) (sym token) moves;
+    valued = subst (λ y. KnowsNow r.plan y.me.0) (sym token) known;
     told = subst (λ y. Steps r.plan prologue l n (view s) (knows y.me.0.plain)) (sym token) steps;
   }
 

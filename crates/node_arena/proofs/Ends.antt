@@ -1,5 +1,5 @@
 -- The end of an arena: its words are those of a traced world, to which each seat handed in fits.
-use Rattle.std.proofs.Common.{◌≡◌, ℕ, ◌+◌, ◌*◌, ◌<◌, ◌≤◌, ◌↔◌, IsTrue, zero, suc, List, [], ◌∷◌, length, map, slice_get, slice_index, Option, Some, refl, sym, ap, subst, ◌∙◌, arith, true, false, Bool, nat_lt, nat_eq, inl, inr, eq-eqb, ne_eqb, if◌then◌else◌}
+use Rattle.std.proofs.Common.{◌≡◌, ℕ, ◌+◌, ◌*◌, ◌<◌, ◌≤◌, ◌↔◌, IsTrue, zero, suc, List, [], ◌∷◌, length, map, take, slice_get, slice_index, Option, Some, refl, sym, ap, subst, ◌∙◌, arith, true, false, Bool, nat_lt, nat_eq, inl, inr, eq-eqb, ne_eqb, if◌then◌else◌}
 use Rattle.std.specs.List.{All, count_by, sum_by}
 use Rattle.std.proofs.lemmas.List.{length-map}
 use Rattle.std.proofs.lemmas.List.Elements.{All-nil, All-cons, All-head, All-tail, All-weaker}
@@ -8,20 +8,21 @@ use Rattle.std.proofs.lemmas.Option.{none-some, same_Some}
 use mathlib.Core.List.{IsPrefix}
 use mathlib.Core.Option.{some}
 use lib.ListN.{get_elem?}
-use Rattle.atomic_table.specs.Table.{Me, Final, Seen}
+use Rattle.atomic_table.specs.Table.{State, Me, Final, Seen}
 use Rattle.atomic_table.specs.Seated.{TableId}
 use Rattle.node_arena.specs.Beside.{Beside, words_of, HoldsFor}
-use Rattle.node_arena.proofs.Lifts.{lift_final}
+use Rattle.node_arena.proofs.Lifts.{take_full, lift_final}
 use Rattle.counted_ref.specs.Ref.{Ref, IsSplit, reserved_node}
 use Rattle.counted_ref.proofs.Words.{span_least}
 use Rattle.std.proofs.lemmas.Bool.{ltb-true, ltb-false, lt-ltb}
 use Rattle.history.specs.declared.rests.Rest.{Rest}
 use Rattle.history.specs.Queue.{empty}
 use Rattle.history.specs.Entries.{is_push, is_pop, is_shut, own_entries, Plays, Leads}
-use Rattle.history.specs.Seats.{Known}
+use Rattle.history.specs.declared.operations.Entry.{Entry}
+use Rattle.history.specs.Seats.{Permit, Known, IsPermitted}
 use Rattle.history.specs.Rests.{left_of, taken_of, whole_of, was_shut_of}
 use Rattle.history.specs.Closing.{pushes_of, pops_of, shuts_of, Closes}
-use Rattle.history.proofs.Sums.{AreApart, closes}
+use Rattle.history.proofs.Sums.{AreApart, closes, theirs, made-le, pushes-Leads, shut_by_one}
 use Rattle.line_steps.specs.declared.actors.Setup.{Setup}
 use Rattle.line_steps.specs.Memory.{Shared, Head, Next, Value_of, node_at}
 use Rattle.step_machine.specs.Machine.{World, IsReached}
@@ -142,24 +143,28 @@ got_map f [] k x e = cc
 got_map f (y ∷ ys) zero x e = let same : y ≡ x = cc in ap (λ z. some (f z)) same
 got_map f (y ∷ ys) (suc k) x e = got_map f ys k x e
 
-ends_at : {T : Type 0} (z : Layout) (seats : List (Seat T)) (id : ℕ) (words slots : List ℕ) → Final (Seen (Holds z) id (gathered (map view seats))) words slots → Ends z seats (shared_words words)
-ends_at z seats id words slots t =
-    let h : Holds z t.0 = t.1.0 in
-    let u : View = gathered (map view seats) in
-    let at_id : get_elem? t.0.views id ≡ some u = t.1.1 in
-    record {
-      trace = h.trace;
-      reached = h.reached;
-      setup = h.setup;
-      words_are = ap shared_words (sym t.2) ∙ h.words;
-      permitted = h.permitted;
-      fits = λ k s got. h.fits id k u (view s) at_id (got_map view seats k s got);
-      apart = λ k l a b x y e. ap (λ (q : ℕ × ℕ). q.1) (sym (h.owned id k u (view a) at_id (got_map view seats k a x)).0 ∙ (ap h.owner e ∙ (h.owned id l u (view b) at_id (got_map view seats l b y)).0));
-    }
+-- at a state by the rule of the queue alone, whose own traced world that is
+pub ends_in : {T : Type 0} (z : Layout) (seats : List (Seat T)) (id : ℕ) (s : State ℕ View) (h : Holds z s) (words : List ℕ) → get_elem? s.views id ≡ some (gathered (map view seats)) → s.words ≡ words → (e : Ends z seats (shared_words words)) × (e.trace ≡ h.trace)
+ends_in z seats id s h words at_id are =
+    let u : View = gathered (map view seats) in (
+      record {
+        trace = h.trace;
+        reached = h.reached;
+        setup = h.setup;
+        words_are = ap shared_words (sym are) ∙ h.words;
+        permitted = h.permitted;
+        fits = λ k s got. h.fits id k u (view s) at_id (got_map view seats k s got);
+        apart = λ k l a b x y e. ap (λ (q : ℕ × ℕ). q.1) (sym (h.owned id k u (view a) at_id (got_map view seats k a x)).0 ∙ (ap h.owner e ∙ (h.owned id l u (view b) at_id (got_map view seats l b y)).0));
+      },
+      refl,
+    )
 
 -- the same of a table whose words are the queue's alone, at the names of a call
 pub ends : {T : Type 0} (z key : Layout) (seats : List (Seat T)) (id : ℕ) (me : Me (Option T) (Beside T)) (words : List ℕ) (slots : List (Option T)) → key ≡ z → length words ≡ words_of key → me.0.plain ≡ gathered (map view seats) → Final {S = Option T} (Seen (HoldsFor key) id me.0) words slots → Ends z seats (shared_words words)
-ends z key seats id me words slots same long is t = ends_at z seats id words [] (subst (λ (y : Layout × View). Final {S = ℕ} (Seen (Holds y.0) id y.1) words []) (λ i. (same i, is i)) (lift_final key id me.0 words slots long t))
+ends z key seats id me words slots same long is t =
+    let f = lift_final key id me.0 words slots t in
+    let e = ends_in key seats id f.0 f.1.0 (take (words_of key) words) (f.1.1 ∙ ap some is) f.2 in
+    subst (λ (y : Layout). Ends y seats (shared_words words)) same (subst (λ (ws : List ℕ). Ends key seats (shared_words ws)) (take_full (words_of key) words long) e.0)
 
 -- the words of a table that carries no values are the queue's alone
 pub words_alone : (z key : Layout) (t : TableId) (n : ℕ) → IsTable z key t → z.carries ≡ false → n ≡ t.words → n ≡ words_of key
@@ -216,21 +221,53 @@ pub record Rests (bits : ℕ) (words : List ℕ) (pushes pops : ℕ) (shut : Boo
   pub taken : taken_of rest ≡ (ref_at bits words 2).count
   pub whole : IsTrue (whole_of rest) ↔ ((pops ≡ taken_of rest) × (pushes ≡ taken_of rest + length (left_of rest)) × (IsTrue (was_shut_of rest) → IsTrue shut))
 
--- an arena is closed by seats, where that is told of its end
-pub closes_at_end : {T : Type 0} (r : Arena) (seats : List (Seat T)) (words : List ℕ) (pushes pops : ℕ) (shut : Bool) (rest : Rest) → Ends r.plan seats words → pushes ≡ pushes_of (map known_of seats) → pops ≡ pops_of (map known_of seats) → shut ≡ nat_lt 0 (shuts_of (map known_of seats)) → Rests r.plan.setup.bits words pushes pops shut rest → Closes (permits_of r) (map known_of seats) rest
-closes_at_end r seats words pushes pops shut rest e pushed popped shuts there =
+-- the history then leads to the values left, of which there are no more than nodes
+pub leads_at_end : {T : Type 0} (z : Layout) (seats : List (Seat T)) (words : List ℕ) (rest : Rest) (e : Ends z seats words) → AreLeft z.setup.bits words (was_shut_of rest) (left_of rest) → Leads e.trace.history (was_shut_of rest) (left_of rest) × (length (left_of rest) ≤ z.setup.size)
+leads_at_end z seats words rest e there =
     let t : Traced = e.trace in
     let b : ℕ = t.world.setup.bits in
-    let h : Rests b words pushes pops shut rest = subst (λ (y : Setup). Rests y.bits words pushes pops shut rest) (sym e.setup) there in
     let words_are : words ≡ memory_words b t.world.shared = e.words_are ∙ ap (λ (y : Setup). memory_words y.bits t.world.shared) (sym e.setup) in
     let range = reached_in_range t.world (traced_reached t e.reached) in
     let l : Left t.world = left_in t.world (traced_reached t e.reached) in
-    let told : AreLeft b (memory_words b t.world.shared) (was_shut_of rest) (left_of rest) = subst (λ ws. AreLeft b ws (was_shut_of rest) (left_of rest)) words_are h.left in
+    let told : AreLeft b (memory_words b t.world.shared) (was_shut_of rest) (left_of rest) = subst (λ ws. AreLeft b ws (was_shut_of rest) (left_of rest)) words_are (subst (λ (y : Setup). AreLeft y.bits words (was_shut_of rest) (left_of rest)) (sym e.setup) there) in
     let same = same_values b range.sized.split (memory_words b t.world.shared) (is_shut_chain b t.world.shared l.queue) (was_shut_of rest) (front_of b (memory_words b t.world.shared)) _ _ l.values told in
-    let leads : Leads t.history (was_shut_of rest) (left_of rest) = subst (Plays empty t.history) (λ i. record { values = same.0 i; shut = same.1 i }) (history_plays t e.reached l.queue l.chain) in
+    (subst (Plays empty t.history) (λ i. record { values = same.0 i; shut = same.1 i }) (history_plays t e.reached l.queue l.chain), omega (arith, ap length same.0, l.few, ap (λ (y : Setup). y.size) e.setup))
+
+-- Head's count is then that of the pops
+pub counted_at_end : {T : Type 0} (z : Layout) (seats : List (Seat T)) (words : List ℕ) (e : Ends z seats words) → (ref_at z.setup.bits words 2).count ≡ count_by is_pop e.trace.history
+counted_at_end z seats words e =
+    let t : Traced = e.trace in
+    let b : ℕ = t.world.setup.bits in
+    let range = reached_in_range t.world (traced_reached t e.reached) in
     let head : ref_at b (memory_words b t.world.shared) 2 ≡ t.world.shared.head = head_is b range.sized.split t.world.shared (shared_fits t.world range) (few_nodes t.world (traced_reached t e.reached)) in
-    let counted : taken_of rest ≡ count_by is_pop t.history = h.taken ∙ ap (λ ws. (ref_at b ws 2).count) words_are ∙ ap (λ (x : Ref). x.count) head ∙ counts_pops t e.reached in
-    closes (permits_of r) (map known_of seats) rest t.history leads e.permitted (begins_each t seats e.fits) (own_each t seats e.fits) (numbers_apart r.plan seats words e) counted (
+    ap (λ (y : Setup). (ref_at y.bits words 2).count) (sym e.setup) ∙ ap (λ ws. (ref_at b ws 2).count) (e.words_are ∙ ap (λ (y : Setup). memory_words y.bits t.world.shared) (sym e.setup)) ∙ ap (λ (x : Ref). x.count) head ∙ counts_pops t e.reached
+
+-- what is told of an arena that is closed by seats, whose own history that is
+closes_in : (permits : List Permit) (ks : List Known) (rest : Rest) (es : List Entry) → Leads es (was_shut_of rest) (left_of rest) → All (IsPermitted permits) es → All (λ k. IsPrefix k.seen es) ks → All (λ k. own_entries k.number es ≡ k.mine) ks → AreApart ks → taken_of rest ≡ count_by is_pop es
+    → (IsTrue (whole_of rest) ↔ ((pops_of ks ≡ taken_of rest) × (pushes_of ks ≡ taken_of rest + length (left_of rest)) × (IsTrue (was_shut_of rest) → 1 ≤ shuts_of ks))) → (c : Closes permits ks rest) × (c.history ≡ es)
+closes_in permits ks rest es leads permitted begins own apart counted whole = (
+  record {
+    history = es;
+    leads = leads;
+    permitted = permitted;
+    begins = begins;
+    own = own;
+    counted = counted;
+    whole = whole;
+    theirs = λ t. let h = whole.0 t in theirs ks es apart own (h.0 ∙ counted) (let pushed = pushes-Leads es (was_shut_of rest) (left_of rest) leads in omega (arith, h.1, counted, pushed)) (one_shut (was_shut_of rest) _ _ (shut_by_one es (was_shut_of rest) (left_of rest) leads) (made-le ks es apart own is_shut) h.2);
+    all = (closes permits ks rest es leads permitted begins own apart counted whole).all;
+  },
+  refl,
+)
+  where
+    one_shut : (shut : Bool) (made all : ℕ) → all ≡ (if shut then 1 else 0) → made ≤ all → (IsTrue shut → 1 ≤ made) → made ≡ all
+    one_shut true made all e low one = omega (arith, e, low, one refl)
+    one_shut false made all e low one = omega (arith, e, low)
+
+-- an arena is closed by seats, where that is told of its end
+pub closes_at_end : {T : Type 0} (r : Arena) (seats : List (Seat T)) (words : List ℕ) (pushes pops : ℕ) (shut : Bool) (rest : Rest) (e : Ends r.plan seats words) → pushes ≡ pushes_of (map known_of seats) → pops ≡ pops_of (map known_of seats) → shut ≡ nat_lt 0 (shuts_of (map known_of seats)) → Rests r.plan.setup.bits words pushes pops shut rest → (c : Closes (permits_of r) (map known_of seats) rest) × (c.history ≡ e.trace.history)
+closes_at_end r seats words pushes pops shut rest e pushed popped shuts h =
+    closes_in (permits_of r) (map known_of seats) rest e.trace.history (leads_at_end r.plan seats words rest e h.left).0 e.permitted (begins_each e.trace seats e.fits) (own_each e.trace seats e.fits) (numbers_apart r.plan seats words e) (h.taken ∙ counted_at_end r.plan seats words e) (
       λ w. let x = h.whole.0 w in (sym popped ∙ x.0, sym pushed ∙ x.1, λ was. ltb-true 0 (shuts_of (map known_of seats)) (sym shuts ∙ x.2 was)),
       λ x. h.whole.1 (popped ∙ x.0, pushed ∙ x.1, λ was. shuts ∙ lt-ltb 0 (shuts_of (map known_of seats)) (x.2 was)),
     )

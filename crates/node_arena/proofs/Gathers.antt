@@ -1,13 +1,15 @@
 -- A token that gathers those of seats that are closed. No move of the world is made.
 use Rattle.std.proofs.Common.{◌≡◌, ◌≢◌, ℕ, ◌+◌, ◌-◌, ◌*◌, ◌<◌, arith, List, [], ◌∷◌, ◌++◌, length, map, get_or, set, slice_index, Option, sym, refl, ap, ◌∙◌, subst, ⊎_elim}
 use mathlib.Core.Option.{some, none}
-use mathlib.Core.List.{map-append}
+use Rattle.std.proofs.lemmas.List.Elements.{All-nil, All-cons, All-append}
+use mathlib.Core.List.{map-append, IsPrefix}
 use lib.ListN.{get_elem?}
 use Rattle.atomic_table.specs.Table.{Me, Joins, Enters}
 use Rattle.atomic_table.specs.Seated.{TableId}
 use Rattle.atomic_table.specs.declared.shared.Seat.{Seat as Token}
 use Rattle.atomic_table.proofs.Lists.{at_set, set_else}
-use Rattle.node_arena.specs.Beside.{Beside, words_of, HoldsFor, both_beside, knows_nothing, OpensBeside}
+use Rattle.node_arena.specs.Beside.{Beside, words_of, HoldsFor, AllBegin, both_beside, knows_nothing, OpensBeside}
+use Rattle.node_arena.specs.Deeds.{Deed}
 use Rattle.history.specs.declared.operations.Entry.{Entry}
 use Rattle.node_arena.proofs.Lifts.{HoldsWith, at_end, none_hand, lift_joins, lift_enters}
 use Rattle.node_arena.specs.declared.seats.Seat.{Seat}
@@ -17,7 +19,7 @@ use Rattle.node_arena.specs.Places.{place}
 use Rattle.node_arena.specs.Plans.{Layout, IsTable}
 use Rattle.node_arena.specs.Rule.{Fits, Holds, Opens}
 use Rattle.node_arena.specs.Moments.{WasWord}
-use Rattle.node_arena.specs.Seats.{view}
+use Rattle.node_arena.specs.Seats.{view, deeds_of}
 use Rattle.node_arena.specs.Closing.{HasToken, HasGathered}
 use Rattle.node_arena.proofs.Placed.{place_there, length-shared_words, get_or-shared_words}
 use Rattle.node_arena.proofs.There.{words_there}
@@ -124,14 +126,22 @@ gathers_at key id other vs me him w is his none_out = lift_joins key id other me
     (λ ds b his_own. (record { rest = b.rest; begins = b.begins; matches = λ v e. cc; pair = λ v u e y. cc; others = ((his_own.rest, his_own.begins), b.others) }, record { rest = ds; begins = refl; matches = λ v e. cc; pair = λ v u e y. cc; others = tt }))
 
 -- the same of a token that gathers, and of a seat that brings its own
-pub gathers_token : {T : Type 0} (key : Layout) (t : TableId) (k : Token (Option T) (Beside T)) (s : Seat T) (vs : List SeatView) → HasGathered t k vs → HasToken t s → Joins {S = Option T} (HoldsFor key) k.id k.me.0 s.token.id s.token.me.0 (both_beside k.me.0 s.token.me.0) knows_nothing
-gathers_token key t k s vs g has = gathers_at key k.id s.token.id vs k.me s.token.me (view s) g.seat has.seat (none_hand s.token.me.0.hand has.none_out.1)
+pub gathers_token : {T : Type 0} (key : Layout) (t : TableId) (k : Token (Option T) (Beside T)) (s : Seat T) (seats : List (Seat T)) → HasGathered t k seats → HasToken t s → Joins {S = Option T} (HoldsFor key) k.id k.me.0 s.token.id s.token.me.0 (both_beside k.me.0 s.token.me.0) knows_nothing
+gathers_token key t k s seats g has = gathers_at key k.id s.token.id (map view seats) k.me s.token.me (view s) g.seat has.seat (none_hand s.token.me.0.hand has.none_out.1)
 
 -- a token that took in one more
-pub took_in : {T : Type 0} (t : TableId) (k k' : Token (Option T) (Beside T)) (seats : List (Seat T)) (s : Seat T) → HasGathered t k (map view seats) → HasToken t s → k'.table_id ≡ k.table_id → k'.me ≡ (both_beside k.me.0 s.token.me.0, k.me.1) → HasGathered t k' (map view (seats ++ s ∷ []))
-took_in t k k' seats s g has same is =
+pub took_in : {T : Type 0} (t : TableId) (k k' : Token (Option T) (Beside T)) (seats : List (Seat T)) (s : Seat T) → HasGathered t k seats → HasToken t s → k'.table_id ≡ k.table_id → k'.me ≡ (both_beside k.me.0 s.token.me.0, k.me.1) → HasGathered t k' (seats ++ s ∷ [])
+took_in {T} t k k' seats s g has same is =
     record {
       table = same ∙ g.table;
       seat = ap (λ y. y.0.plain) is ∙ (λ i. both_of (g.seat i) (has.seat i)) ∙ ap gathered (sym (map-append view seats (s ∷ [])));
       held = ap (λ y. y.1) is ∙ g.held;
+      others = λ ds all.
+          let both : AllBegin (deeds_of s ∷ k.me.0.others) ds = subst (λ (o : List (List (Deed T))). AllBegin o ds) (ap (λ y. y.0.others) is) all in
+          let P : Seat T → Type 0 = λ x. IsPrefix (deeds_of x) ds in
+          All-append P seats (s ∷ []) (g.others ds both.1) (All-cons P s [] (both.0.0, sym both.0.1) (All-nil P));
     }
+
+-- a new token has taken in none
+pub took_none : {T : Type 0} (t : TableId) (k : Token (Option T) (Beside T)) → k.table_id ≡ t → k.me.1 ≡ [] → OpensBeside k.me → HasGathered t k []
+took_none {T} t k table held opened = record { table = table; seat = ap (λ y. y.0) opened; held = held; others = λ ds all. All-nil (λ (x : Seat T). IsPrefix (deeds_of x) ds) }

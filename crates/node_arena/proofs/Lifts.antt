@@ -43,7 +43,7 @@ map_set f [] i a = refl
 map_set f (x ∷ xs) zero a = refl
 map_set f (x ∷ xs) (suc i) a = ap (λ y. f x ∷ y) (map_set f xs i a)
 
-take_full : {A : Type 0} (n : ℕ) (xs : List A) → length xs ≡ n → take n xs ≡ xs
+pub take_full : {A : Type 0} (n : ℕ) (xs : List A) → length xs ≡ n → take n xs ≡ xs
 take_full {A} n xs e = subst (λ (k : ℕ). take k xs ≡ xs) e (go xs)
   where
     go : (ys : List A) → take (length ys) ys ≡ ys
@@ -87,7 +87,7 @@ at_end (x ∷ xs) a b (suc j) e = ⊎_elim (λ t. inl t) (λ (t : (j ≡ length 
 module _ {T : Type 0} (z : Layout) where
   -- a step on a word of the queue
   pub lift_allows : (slots id : ℕ) (w : Beside T) (held : List (ℕ × Option T)) (p : ℕ) (f : ℕ → ℕ) (then : ℕ → Me ℕ View → Type 0) → p < words_of z → Allows {S = ℕ} (Holds z) 0 id (w.plain, []) p f then
-      → Allows {S = Option T} (PlainFor z) slots id (w, held) p f (λ n o. then n (o.0.plain, []) × ((o.1 ≡ held) × (o.0.hand ≡ w.hand)))
+      → Allows {S = Option T} (PlainFor z) slots id (w, held) p f (λ n o. then n (o.0.plain, []) × ((o.1 ≡ held) × (o.0.hand ≡ w.hand) × (o.0.deeds ≡ w.deeds)))
   lift_allows slots id w held p f then within allows s h count mine small =
       let m : ℕ = words_of z in
       let same : get_or (take m s.words) p 0 ≡ get_or s.words p 0 = get_or-take m s.words p 0 within in
@@ -98,7 +98,7 @@ module _ {T : Type 0} (z : Layout) where
         tt,
         moved z (stepped (plain_state m s) p (f (get_or (take m s.words) p 0)) id [] q.0 q.1) (plain_state m (stepped s p (f (get_or s.words p 0)) id held w' keeps)) q.3
             (take-set-lt m s.words p (f (get_or s.words p 0)) within ∙ ap (λ (k : ℕ). set (take m s.words) p (f k)) (sym same)) (map_set plain_of s.views id w'),
-        (subst (λ (y : ℕ × List (ℕ × ℕ)). then y.0 (q.0, y.1)) (λ i. (same i, (none_moved q.1 q.2).0 i)) q.4, (refl, refl)),
+        (subst (λ (y : ℕ × List (ℕ × ℕ)). then y.0 (q.0, y.1)) (λ i. (same i, (none_moved q.1 q.2).0 i)) q.4, (refl, refl, refl)),
       )
 
 module _ {T : Type 0} where
@@ -199,9 +199,9 @@ module _ {T : Type 0} (z : Layout) where
         subst (λ (k : ℕ). then k q.0) same q.2.0,
       )
 
-  -- the end of a table whose words are the queue's alone
-  pub lift_final : (id : ℕ) (w : Beside T) (words : List ℕ) (slots : List (Option T)) → length words ≡ words_of z → Final {S = Option T} (Seen (HoldsFor z) id w) words slots → Final {S = ℕ} (Seen (Holds z) id w.plain) words []
-  lift_final id w words slots long f = (plain_state (words_of z) f.0, (f.1.0.base, at_map plain_of f.0.views id w f.1.1), ap (take (words_of z)) f.2 ∙ take_full (words_of z) words long, refl, λ k y e. absurd (some-ne-none (some y) (sym e)))
+  -- the end of a table, as one of the words of the queue
+  pub lift_final : (id : ℕ) (w : Beside T) (words : List ℕ) (slots : List (Option T)) → Final {S = Option T} (Seen (HoldsFor z) id w) words slots → Final {S = ℕ} (Seen (Holds z) id w.plain) (take (words_of z) words) []
+  lift_final id w words slots f = (plain_state (words_of z) f.0, (f.1.0.base, at_map plain_of f.0.views id w f.1.1), ap (take (words_of z)) f.2, refl, λ k y e. absurd (some-ne-none (some y) (sym e)))
 
 -- what a seat has seen, or two that are one have, is this history
 abbrev pub Learns : List Entry → View → Type 0
@@ -229,7 +229,7 @@ module _ {T : Type 0} (key : Layout) (slots id : ℕ) (w : Beside T) (held : Lis
         keeps,
         tt,
         record { base = (base w.deeds).0; values = subst (λ (b : Bool). CarriedBy b key (base w.deeds).0.trace.history (stepped s p (get_or s.words p 0) id held (after w.deeds) keeps)) (sym e) tt },
-        (tells, refl, refl, subst (λ (b : Bool). KnowsBy b key (knows q.0).seen (after w.deeds)) (sym e) tt, subst (λ (b : Bool). GrowsBy b w (after w.deeds)) (sym e) tt),
+        (tells, refl, refl, subst (λ (b : Bool). KnowsBy b key (knows q.0).seen (after w.deeds)) (sym e) tt, subst (λ (b : Bool). GrowsBy b w (after w.deeds)) (sym e) refl),
       ) in
       let carrying : key.carries ≡ true → Out = λ e.
       let c = subst (λ (b : Bool). CarriedBy b key es s) e h.values in

@@ -1,5 +1,5 @@
 -- A look of a seat. No move of the world is made.
-use Rattle.std.proofs.Common.{Bool, ◌≡◌, ◌≢◌, ℕ, ◌+◌, ◌-◌, ◌*◌, ◌<◌, List, [], ◌++◌, length, get_or, set, slice_index, Option, Some, None, IfSome, inl, sym, refl, ap, ◌∙◌, subst, ⊎_elim, arith}
+use Rattle.std.proofs.Common.{Bool, true, false, append-nil, ◌≡◌, ◌≢◌, ℕ, ◌+◌, ◌-◌, ◌*◌, ◌<◌, List, [], ◌++◌, length, get_or, set, slice_index, Option, Some, None, IfSome, inl, sym, refl, ap, ◌∙◌, subst, ⊎_elim, arith}
 use Rattle.std.proofs.lemmas.List.{set-get_or}
 use mathlib.Core.Option.{some}
 use lib.ListN.{get_elem?}
@@ -17,7 +17,7 @@ use Rattle.node_arena.specs.Seeing.{SeatView, View, keeper, seated, members, kno
 use Rattle.node_arena.specs.Places.{place}
 use Rattle.node_arena.specs.Plans.{Layout}
 use Rattle.node_arena.specs.Rule.{StaysLooked, Fits, Holds, Fitted}
-use Rattle.node_arena.specs.Seats.{IsReady, view}
+use Rattle.node_arena.specs.Seats.{IsReady, SeesMoreDeeds, deeds_of, view}
 use Rattle.node_arena.specs.Looks.{looked_in, Looks}
 use Rattle.node_arena.proofs.Placed.{place_there, length-shared_words, get_or-shared_words}
 use Rattle.node_arena.proofs.There.{words_there}
@@ -118,6 +118,11 @@ asks_look r s word i less = (
   looks_at r.key r.id.slots s.token.id (place word) s.token.me (subst (λ (z : Layout). place word < words_of z) (sym i.seat.arena.key) (place_there (words_of r.plan) word (omega (arith, less)))) i.seat.sits.seat i.free,
 )
 
+-- what is seen of values goes on, whether values are carried or not
+sees_more : {T : Type 0} (s t : Seat T) (b : Bool) → GrowsBy b s.token.me.0 t.token.me.0 → SeesMoreDeeds s t
+sees_more s t true g = record { between = g.0.0; deeds = g.0.1 }
+sees_more s t false g = record { between = []; deeds = g ∙ sym (append-nil (deeds_of s)) }
+
 -- what it answers
 pub looked : {T : Type 0} (r : Arena) (s : Seat T) (t : Token (Option T) (Beside T)) (word p n : ℕ) → IsReady r s → word < 6 + 2 * r.plan.setup.size → p ≡ place word → (t.table_id ≡ s.token.table_id) × (t.id ≡ s.token.id) × LooksBeside r.key p s.token.me n t.me → Looks r s (record s { token = t }) word n
 looked r s t word p n i less at h =
@@ -126,6 +131,6 @@ looked r s t word p n i less at h =
       ready = sits_so r s t (knows t.me.0.plain) i (h.0 ∙ i.seat.sits.table) h.2.0.0 (λ c. let before = i.seat.sits.none_out c in (ap length h.2.1 ∙ before.0, ap slots_in h.2.2 ∙ before.1)) ∣ subst (λ (z : Layout). KnowsNow z t.me.0) i.seat.arena.key h.2.3 ∣₁ (ap (λ (v : SeatView). v.number) told.knows) (ap (λ (v : SeatView). v.actor) told.knows) (ap (λ (v : SeatView). v.mine) told.knows) told.fits;
       stored = record { number = refl; role = refl; keeps = refl; pocket = refl; failed = refl };
       told = record { was = told.was; reached = told.reached; setup = told.setup; held = told.held word (sym at) less; rest = told.rest; begins = told.begins; knows = told.knows; since = told.since };
-      slots = record { same = h.2.1; hand = h.2.2 };
+      slots = record { same = h.2.1; hand = h.2.2; number = ap (λ (v : SeatView). v.number) told.knows; more = sees_more s (record s { token = t }) r.key.carries h.2.4 };
       values = λ c. let g = subst (λ (b : Bool). GrowsBy b s.token.me.0 t.me.0) (ap (λ (z : Layout). z.carries) i.seat.arena.key ∙ c) h.2.4 in record { between = g.0.0; deeds = g.0.1 };
     }

@@ -241,7 +241,7 @@ module _ {T : Type 0} (key : Layout) (id : ℕ) (me : Me (Option T) (Beside T)) 
         keeps,
         tt,
         record { base = (base me.0.deeds).0; values = subst (λ (b : Bool). CarriedBy b key (base me.0.deeds).0.trace.history (stepped s 0 (get_or s.words 0 0) id me.1 (after me.0.deeds) keeps)) (sym e) tt },
-        told me.0.deeds (subst (λ (b : Bool). KnowsBy b key (knows q.0).seen (after me.0.deeds)) (sym e) tt) (subst (λ (b : Bool). GrowsBy b me.0 (after me.0.deeds)) (sym e) tt),
+        told me.0.deeds (subst (λ (b : Bool). KnowsBy b key (knows q.0).seen (after me.0.deeds)) (sym e) tt) (subst (λ (b : Bool). GrowsBy b me.0 (after me.0.deeds)) (sym e) refl),
       ) in
       let carrying : key.carries ≡ true → Out = λ e.
       let c = subst (λ (b : Bool). CarriedBy b key es s) e h.values in

@@ -1,5 +1,5 @@
 -- Which slots a step moved, and what it added to the history of values, by what it added to the seat's own entries.
-use Rattle.std.proofs.Common.{◌≡◌, ◌≢◌, ℕ, ◌<◌, Bool, true, List, [], ◌∷◌, ◌++◌, length, Option, Some, None, sym, ap, ◌∙◌, subst}
+use Rattle.std.proofs.Common.{◌≡◌, ◌≢◌, ℕ, ◌<◌, Bool, true, List, [], ◌∷◌, ◌++◌, length, append_assoc, Option, Some, None, sym, ap, ◌∙◌, subst}
 use Rattle.std.specs.Coded.{le_prop}
 use Rattle.std.proofs.Math.Logic.{∥∥₁_elim}
 use mathlib.Core.Option.{some}
@@ -17,8 +17,8 @@ use Rattle.line_steps.specs.Lines.{action}
 use Rattle.step_machine.specs.Tables.{exchange_at, word_step}
 use Rattle.node_arena.specs.Traces.{entries_at, number_at}
 use Rattle.node_arena.specs.Beside.{slots_in, KnowsBy, HasLoaded, Effect, EffectBy}
-use Rattle.node_arena.specs.Seats.{IsSeat, DidStep, KeepsSlots, HasNoSlot, carries_of, view}
-use Rattle.node_arena.specs.Hands.{HasSlot, HasValue, AddsOwn, SeesMoreDeeds}
+use Rattle.node_arena.specs.Seats.{IsSeat, DidStep, KeepsSlots, HasNoSlot, carries_of, deeds_of, view}
+use Rattle.node_arena.specs.Hands.{HasSlot, HasValue, AddsOwn}
 use Rattle.node_arena.proofs.Lifts.{none_held}
 use Rattle.node_arena.proofs.Counting.{wins_push, wins_pop, loses_nothing}
 
@@ -31,19 +31,19 @@ same_rest (x ∷ xs) es fs e = same_rest xs es fs (ap rest_of e)
     rest_of (y ∷ ys) = ys
 
 -- the slot that is out with a seat is one of the table's
-hand_there : {T : Type 0} (r : Arena) (s : Seat T) (i : ℕ) → IsSeat r s → carries_of r ≡ true → s.token.me.0.hand ≡ some i → i < r.plan.setup.size
+pub hand_there : {T : Type 0} (r : Arena) (s : Seat T) (i : ℕ) → IsSeat r s → carries_of r ≡ true → s.token.me.0.hand ≡ some i → i < r.plan.setup.size
 hand_there r s i is carries e = ∥∥₁_elim is.sits.valued le_prop (λ k. (subst (λ (b : Bool). KnowsBy b r.plan (view s).seen s.token.me.0) carries k).there i e)
 
 module _ {T : Type 0} (r : Arena) (s t : Seat T) (prologue : Prologue) (l : Line) (n : ℕ) (did : DidStep r s t prologue l n) (carries : carries_of r ≡ true) where
-  effect : (es : List Entry) → (view t).mine ≡ (view s).mine ++ es → Effect (view s).number es s.token.me.0 s.token.me.1 t.token.me.0 t.token.me.1
+  pub effect : (es : List Entry) → (view t).mine ≡ (view s).mine ++ es → Effect (view s).number es s.token.me.0 s.token.me.1 t.token.me.0 t.token.me.1
   effect es is =
       let added : did.moves.0 ≡ es = same_rest (view s).mine did.moves.0 es (sym did.moves.1 ∙ is) in
       let P : List Entry × Bool → Type 0 = λ y. EffectBy y.1 (view s).number y.0 s.token.me t.token.me in
       subst P (λ i. (added i, carries i)) did.moves.2
 
   -- a step that added nothing moved no slot
-  pub moved_nothing : (view t).mine ≡ (view s).mine ++ [] → KeepsSlots s t × SeesMoreDeeds s t
-  moved_nothing is = let e = effect [] is in (record { same = e.0; hand = e.1 }, record { between = e.2.0; deeds = e.2.1 })
+  pub moved_nothing : (view t).mine ≡ (view s).mine ++ [] → KeepsSlots s t
+  moved_nothing is = let e = effect [] is in record { same = e.0; hand = e.1; number = did.told.number; more = record { between = e.2.0; deeds = e.2.1 } }
 
   -- a push gave the slot of its body, in which the value lay
   pub moved_push : (me b : ℕ) (x : T) → (view t).mine ≡ (view s).mine ++ Push me b ∷ [] → HasSlot r s b (Some x) → HasNoSlot t × AddsOwn s t (pushed (view s).number x)
@@ -68,7 +68,11 @@ module _ {T : Type 0} (r : Arena) (s t : Seat T) (prologue : Prologue) (l : Line
 
   -- a shut moved no slot
   pub moved_shut : (me : ℕ) → (view t).mine ≡ (view s).mine ++ Shut me ∷ [] → KeepsSlots s t × AddsOwn s t (closed (view s).number)
-  moved_shut me is = let e = effect (Shut me ∷ []) is in (record { same = e.0; hand = e.1 }, record { between = e.2.0; deeds = e.2.1 })
+  moved_shut me is =
+      let e = effect (Shut me ∷ []) is in (
+        record { same = e.0; hand = e.1; number = did.told.number; more = record { between = e.2.0 ++ closed (view s).number ∷ []; deeds = e.2.1 ∙ append_assoc (deeds_of s) e.2.0 (closed (view s).number ∷ []) } },
+        record { between = e.2.0; deeds = e.2.1 },
+      )
 
 -- what an exchange at a line adds to the seat's own entries
 module _ {T : Type 0} (r : Arena) (s t : Seat T) (prologue : Prologue) where

@@ -17,7 +17,7 @@ use Rattle.node_arena.specs.Seeing.{SeatView, known_by}
 use Rattle.node_arena.specs.Arenas.{Arena}
 use Rattle.node_arena.specs.declared.seats.Seat.{Seat}
 use Rattle.node_arena.specs.Rule.{notes_of, SaysOfSeen, FoundClosedAt}
-use Rattle.node_arena.specs.Seats.{IsSeat, IsBefore, KeepsStored, KeepsSlots, DidStep, view, keeping}
+use Rattle.node_arena.specs.Seats.{IsSeat, IsBefore, KeepsStored, KeepsSlots, DidStep, deeds_of, view, keeping}
 use Rattle.node_arena.specs.Beside.{EffectBy}
 use Rattle.node_arena.specs.Turns.{failed_at, failed_turns}
 use Rattle.node_arena.specs.Paths.{ExtendsPath, FindsShut, FindsShutEmpty, Passes, Acts, added, EndedAt, FailedAt, EndsFailed, IsRefusedAt, LastHeld, MetCause, NowHolds, IsSole}
@@ -97,10 +97,15 @@ then_stored s t u f g = record { number = g.number ∙ f.number; role = g.role �
 
 -- the slots that are out with a seat, over two lines, and over a line that adds nothing
 pub no_slots : {T : Type 0} (s : Seat T) → KeepsSlots s s
-no_slots s = record { same = refl; hand = refl }
+no_slots s = record { same = refl; hand = refl; number = refl; more = record { between = []; deeds = sym (append-nil (deeds_of s)) } }
 
 pub then_slots : {T : Type 0} (s t u : Seat T) → KeepsSlots s t → KeepsSlots t u → KeepsSlots s u
-then_slots s t u f g = record { same = g.same ∙ f.same; hand = g.hand ∙ f.hand }
+then_slots s t u f g = record {
+  same = g.same ∙ f.same;
+  hand = g.hand ∙ f.hand;
+  number = g.number ∙ f.number;
+  more = record { between = f.more.between ++ g.more.between; deeds = g.more.deeds ∙ (ap (λ ds. ds ++ g.more.between) f.more.deeds ∙ append_assoc (deeds_of s) f.more.between g.more.between) };
+}
 
 nothing_added : (xs es : List Entry) → xs ++ es ≡ xs → es ≡ []
 nothing_added xs [] e = refl
@@ -112,8 +117,8 @@ quiet_slots {T} r s t prologue l n d none =
     go r.plan.carries (subst (λ (es : List Entry). EffectBy r.plan.carries (view s).number es s.token.me t.token.me) (nothing_added (view s).mine d.moves.0 same) d.moves.2)
   where
     go : (b : Bool) → EffectBy b (view s).number [] s.token.me t.token.me → KeepsSlots s t
-    go true e = record { same = e.0; hand = e.1 }
-    go false e = record { same = e.0; hand = e.1 }
+    go true e = record { same = e.0; hand = e.1; number = d.told.number; more = record { between = e.2.0; deeds = e.2.1 } }
+    go false e = record { same = e.0; hand = e.1; number = d.told.number; more = record { between = []; deeds = e.2 ∙ sym (append-nil (deeds_of s)) } }
 
 -- what a seat's path has more is what was added
 pub added_path : {T : Type 0} (s t : Seat T) (es : List Event) → (view t).path ≡ (view s).path ++ es → added s t ≡ es

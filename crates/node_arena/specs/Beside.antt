@@ -165,10 +165,10 @@ module _ {T : Type 0} where
   Effect me (Pop n t ∷ es) w held w' held' = (x : T) × (held' ≡ (t.body, Some x) ∷ held) × (w'.hand ≡ some t.body) × ((between : List (Deed T)) × (w'.deeds ≡ (w.deeds ++ between) ++ popped me (item t.from x) ∷ []))
   Effect me (Shut n ∷ es) w held w' held' = (held' ≡ held) × (w'.hand ≡ w.hand) × ((between : List (Deed T)) × (w'.deeds ≡ (w.deeds ++ between) ++ closed me ∷ []))
 
-  -- the same, where no values are carried too: no slot then moves
+  -- the same, where no values are carried too: no slot then moves, and nothing is seen of values
   abbrev pub EffectBy : Bool → (me : ℕ) (es : List Entry) → Me (Option T) (Beside T) → Me (Option T) (Beside T) → Type 0
   EffectBy true n es me me' = Effect n es me.0 me.1 me'.0 me'.1
-  EffectBy false n es me me' = (me'.1 ≡ me.1) × (me'.0.hand ≡ me.0.hand)
+  EffectBy false n es me me' = (me'.1 ≡ me.1) × (me'.0.hand ≡ me.0.hand) × (me'.0.deeds ≡ me.0.deeds)
 
   -- a step moved the slots that belong to what it added to the seat's own entries
   abbrev pub Moves : Layout → Me (Option T) (Beside T) → Me (Option T) (Beside T) → Type 0
@@ -181,7 +181,7 @@ module _ {T : Type 0} where
   -- what is seen of values goes on from what was seen, and from what each seat that was taken in had seen
   abbrev pub GrowsBy : Bool → Beside T → Beside T → Type 0
   GrowsBy true w w' = AllBegin (w.deeds ∷ w.others) w'.deeds
-  GrowsBy false w w' = Unit {0}
+  GrowsBy false w w' = w'.deeds ≡ w.deeds
 
   -- what a step tells, which slots moved, and that what the seat then knows of values is so
   abbrev pub TellsBeside : Layout → Prologue → Me (Option T) (Beside T) → ℕ → Me (Option T) (Beside T) → Type 0

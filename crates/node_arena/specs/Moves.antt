@@ -9,7 +9,7 @@ use Rattle.node_arena.specs.Arenas.{Arena}
 use Rattle.node_arena.specs.Prologues.{Prologue}
 use Rattle.node_arena.specs.Deeds.{item, pushed, popped, closed}
 use Rattle.node_arena.specs.Seats.{DidStep, KeepsSlots, HasNoSlot, carries_of, view}
-use Rattle.node_arena.specs.Hands.{HasSlot, AddsOwn, SeesMoreDeeds}
+use Rattle.node_arena.specs.Hands.{HasSlot, AddsOwn}
 
 -- a step that a seat of an arena that carries values made, which added these to its own entries
 pub record Did {T : Type 0} (r : Arena) (s t : Seat T) (es : List Entry) : Type 0 where
@@ -20,9 +20,9 @@ pub record Did {T : Type 0} (r : Arena) (s t : Seat T) (es : List Entry) : Type 
   pub carries : carries_of r ≡ true
   pub added : (view t).mine ≡ (view s).mine ++ es
 
--- a step that adds nothing moves no slot
+-- a step that adds nothing moves no slot and adds no deed
 abbrev pub QuietStepsMoveNone : Type 0 → Type 0
-QuietStepsMoveNone T = (r : Arena) (s t : Seat T) → Did r s t [] → KeepsSlots s t × SeesMoreDeeds s t
+QuietStepsMoveNone T = (r : Arena) (s t : Seat T) → Did r s t [] → KeepsSlots s t
 
 -- the step that pushes gives the slot whose number it pushes, and pushes the value that lies in it
 abbrev pub PushesGiveTheirSlot : Type 0 → Type 0

@@ -172,17 +172,29 @@ pub record MayStep {T : Type 0} (r : Arena) (s : Seat T) (prologue : Prologue) (
   pub permits : PermitsLine s.role l
   pub loaded : LoadedAt l r.plan (after_prologue r.plan.setup (view s).number prologue (view s).actor).val.body s.token.me
 
--- the slots that are out with a seat are those that were
+-- what a seat has seen of the history of values
+abbrev pub deeds_of : {T : Type 0} → Seat T → List (Deed T)
+deeds_of s = s.token.me.0.deeds
+
+-- what a seat has seen of values goes on from what it had seen
+pub record SeesMoreDeeds {T : Type 0} (s t : Seat T) : Type 0 where
+  pub between : List (Deed T)
+  pub deeds : deeds_of t ≡ deeds_of s ++ between
+
+-- the slots that are out with a seat are those that were, and what it has seen of values goes on
 pub record KeepsSlots {T : Type 0} (s t : Seat T) : Type 0 where
   pub same : t.token.me.1 ≡ s.token.me.1
   pub hand : t.token.me.0.hand ≡ s.token.me.0.hand
+  pub number : (view t).number ≡ (view s).number
+  pub more : SeesMoreDeeds s t
 
--- the seat made that step, and found this number
+-- the seat made that step, and found this number; what it then knows of values is so
 pub record DidStep {T : Type 0} (r : Arena) (s t : Seat T) (prologue : Prologue) (l : Line) (n : ℕ) : Type 0 where
   pub seat : IsSeat r t
   pub stored : KeepsStored s t
   pub told : Steps r.plan prologue l n (view s) (view t)
   pub moves : Moves r.plan s.token.me t.token.me
+  pub valued : KnowsNow r.plan t.token.me.0
 
 -- the seat made that step
 abbrev pub DidSome : {T : Type 0} → Arena → Seat T → Seat T → Prologue → Line → Type 0
@@ -200,15 +212,6 @@ pub record Sees {T : Type 0} (s t : Seat T) (all : List Entry) : Type 0 where
   pub knows : view t ≡ record (view s) { seen = all }
   pub more : List Entry
   pub begins : all ≡ (view s).seen ++ more
-
--- what a seat has seen of the history of values
-abbrev pub deeds_of : {T : Type 0} → Seat T → List (Deed T)
-deeds_of s = s.token.me.0.deeds
-
--- what a seat has seen of values goes on from what it had seen
-pub record SeesMoreDeeds {T : Type 0} (s t : Seat T) : Type 0 where
-  pub between : List (Deed T)
-  pub deeds : deeds_of t ≡ deeds_of s ++ between
 
 -- two seats have seen one history of values, which goes on from what each had seen
 pub record MeetsValues {T : Type 0} (s t s' t' : Seat T) : Type 0 where

@@ -1,13 +1,15 @@
 //! The end of an arena.
-ghost use Rattle.std.specs.Prelude.{◌≡◌, ◌<◌, false, nat_lt, [], map, IfOk, IfErr};
+ghost use Rattle.std.specs.Prelude.{◌≡◌, ◌<◌, true, false, nat_lt, [], map, IfOk, IfErr};
 ghost use Rattle.std.specs.List.{All};
 ghost use Rattle.history.specs.Closing.{pushes_of, pops_of, shuts_of, Closes};
-ghost use Rattle.node_arena.specs.Seats.{view, known_of, permits_of, carries_of, HasNoSlot, IsReady};
+ghost use Rattle.node_arena.specs.Seats.{known_of, permits_of, carries_of, HasNoSlot, IsReady};
 ghost use Rattle.node_arena.specs.Closing.{HasToken, HasGathered, CountsItsOwn};
 ghost use Rattle.node_arena.specs.Ended.{HasRoomFor, Leaves};
+ghost use Rattle.node_arena.specs.Leftovers.{ClosesValues, rest_in};
 
 use crate::arena::ArenaOf;
 use crate::ended::Ended;
+use crate::leftovers::LeftValues;
 use crate::remains::{Made, rest_of};
 use crate::seats::Seat;
 use crate::views::{Gather, Open, SeatToken, WordTable};
@@ -15,7 +17,7 @@ use history::{Refusal, Rest, Taken};
 use std::alloc::Global;
 
 // How many pushes the seats made.
-fn pushes_by(seats: &[Seat]) -> u128
+fn pushes_by<T>(seats: &[Seat<T>]) -> u128
     requires { All CountsItsOwn seats.now }
     ensures { result ≡ pushes_of (map known_of seats.now) }
 {
@@ -27,7 +29,7 @@ fn pushes_by(seats: &[Seat]) -> u128
 }
 
 // How many pops the seats made.
-fn pops_by(seats: &[Seat]) -> u128
+fn pops_by<T>(seats: &[Seat<T>]) -> u128
     requires { All CountsItsOwn seats.now }
     ensures { result ≡ pops_of (map known_of seats.now) }
 {
@@ -39,7 +41,7 @@ fn pops_by(seats: &[Seat]) -> u128
 }
 
 // Whether one of the seats made a shut.
-fn shut_by(seats: &[Seat]) -> bool
+fn shut_by<T>(seats: &[Seat<T>]) -> bool
     requires { All CountsItsOwn seats.now }
     ensures { result ≡ nat_lt 0 (shuts_of (map known_of seats.now)) }
 {
@@ -53,11 +55,11 @@ fn shut_by(seats: &[Seat]) -> bool
 }
 
 // The token takes in those of the seats.
-fn gather(table: &WordTable, gatherer: &mut SeatToken, seats: Vec<Seat>)
+fn gather<T>(table: &WordTable<T>, gatherer: &mut SeatToken<T>, seats: Vec<Seat<T>>)
     requires words { 0 < table.now.shared.table_id.words }
     requires gatherer { HasGathered table.now.shared.table_id gatherer.old [] }
     requires seats { All (HasToken table.now.shared.table_id) seats.items }
-    ensures { HasGathered table.now.shared.table_id gatherer.new (map view seats.items) }
+    ensures { HasGathered table.now.shared.table_id gatherer.new seats.items }
 {
     for seat in seats {
         let Seat {
@@ -75,6 +77,25 @@ fn gather(table: &WordTable, gatherer: &mut SeatToken, seats: Vec<Seat>)
         let shared = &table.shared;
         shared.join_seat::<Gather>(gatherer, token);
     }
+}
+
+// A token that took in those of the seats, and what these made.
+fn gathered<T>(table: &WordTable<T>, seats: Vec<Seat<T>>) -> (SeatToken<T>, Made)
+    requires words { 0 < table.now.shared.table_id.words }
+    requires seats { All (HasToken table.now.shared.table_id) seats.items }
+    requires counts { All CountsItsOwn seats.items }
+    ensures token { HasGathered table.now.shared.table_id result.0 seats.items }
+    ensures pushes { result.1.pushes ≡ pushes_of (map known_of seats.items) }
+    ensures pops { result.1.pops ≡ pops_of (map known_of seats.items) }
+    ensures shut { result.1.shut ≡ nat_lt 0 (shuts_of (map known_of seats.items)) }
+{
+    let pushes = pushes_by(&seats);
+    let pops = pops_by(&seats);
+    let shut = shut_by(&seats);
+    let shared = &table.shared;
+    let mut gatherer = shared.load_new_seat::<Open>(0).1;
+    gather(table, &mut gatherer, seats);
+    (gatherer, Made { pushes, pops, shut })
 }
 
 impl<const B: u32> ArenaOf<B> {
@@ -100,7 +121,6 @@ impl<const B: u32> ArenaOf<B> {
     pub fn close_with(self, room: Vec<Taken>, seats: Vec<Seat>) -> (Rest, Ended)
         requires room { HasRoomFor self room }
         requires seats { All (IsReady self) seats.items }
-        requires apart { All HasNoSlot seats.items }
         requires numbers { carries_of self ≡ false }
         //= atomics/rest (rest, ends): A closed arena tells of its rest what `Close::close_with` does. The values left are
         //=   those of the chain from Head on in the words of the `Ended` that comes with it, and Head's count there is how
@@ -110,14 +130,61 @@ impl<const B: u32> ArenaOf<B> {
         ensures ends { Leaves self.entry result.1 result.0 }
     {
         let ArenaOf { table, plan: _ } = self;
-        let pushes = pushes_by(&seats);
-        let pops = pops_by(&seats);
-        let shut = shut_by(&seats);
-        let shared = &table.shared;
-        let mut gatherer = shared.load_new_seat::<Open>(0).1;
-        gather(&table, &mut gatherer, seats);
+        let (gatherer, made) = gathered(&table, seats);
         let ended = Ended::of(table, gatherer);
-        let rest = rest_of::<B>(ended.closed(), Made { pushes, pops, shut }, room);
+        let rest = rest_of::<B, ()>(ended.closed(), made, room);
         (rest, ended)
+    }
+}
+
+impl<const B: u32, T> ArenaOf<B, T> {
+    /// Memory for the numbers left in an arena that carries values, as an `Arena` doesn't, and for what lies in its slots.
+    ///
+    /// Refused by `Memory` alone. Takes that memory, and doesn't wait.
+    pub fn rooms(&self, alloc: Global) -> Result<(Vec<Taken>, Vec<Option<T>>), Refusal>
+        //= atomics/rooms (numbers, slots, only_memory): Room for the rest of an arena that carries values is room for a
+        //=   number of each node, and for what lies in each slot. Or Memory.
+        ensures numbers { IfOk result (λ r. HasRoomFor self.now r.0) }
+        ensures slots { IfOk result (λ r. HasRoomFor self.now r.1) }
+        ensures only_memory { IfErr result (λ refusal. refusal ≡ Refusal.Memory) }
+    {
+        let size = self.plan.setup.size as usize;
+        let Ok(numbers) = Vec::with_capacity(alloc, size) else {
+            return Err(Refusal::Memory);
+        };
+        let Ok(slots) = Vec::with_capacity(alloc, size) else {
+            return Err(Refusal::Memory);
+        };
+        Ok((numbers, slots))
+    }
+
+    /// Ends an arena that carries values and the seats handed in, each of which is one of its own, in no call and without a
+    /// slot: which values are left in the queue, and all that `close_with` tells; with it comes the arena's end.
+    ///
+    /// Takes no memory and doesn't wait.
+    pub fn close_values(
+        self,
+        numbers: Vec<Taken>,
+        slots: Vec<Option<T>>,
+        seats: Vec<Seat<T>>,
+    ) -> (LeftValues<T>, Ended<T>)
+        requires numbers { HasRoomFor self numbers }
+        requires slots { HasRoomFor self slots }
+        requires seats { All (IsReady self) seats.items }
+        requires apart { All HasNoSlot seats.items }
+        requires carries { carries_of self ≡ true }
+        //= atomics/values_left (values, ends): The values left in a closed arena that carries them are those to which the
+        //=   history of its values leads, in order, each with the number of the seat that pushed it; no more than nodes.
+        //=   That history begins with what each seat handed in had seen of it, and goes one by one with that of the
+        //=   numbers, of which it tells what it does of any queue. The numbers are those in the words of the `Ended` that
+        //=   comes with it.
+        ensures values { ClosesValues self seats.items result.0 }
+        ensures ends { Leaves self result.1 (rest_in result.0) }
+    {
+        let ArenaOf { table, plan: _ } = self;
+        let (gatherer, made) = gathered(&table, seats);
+        let (ended, slots) = Ended::emptied(table, gatherer, slots);
+        let rest = rest_of::<B, T>(ended.closed(), made, numbers);
+        (LeftValues::of(rest, slots), ended)
     }
 }

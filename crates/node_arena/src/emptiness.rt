@@ -16,7 +16,9 @@ pub enum Emptiness {
 }
 
 impl<const B: u32, T> ArenaOf<B, T> {
-    ghost use Rattle.node_arena.specs.Seats.{IsReady, KeepsStored, known_of};
+    ghost use Rattle.std.specs.Prelude.{◌≡◌, true};
+    ghost use Rattle.node_arena.specs.Seats.{IsReady, KeepsStored, KeepsSlots, known_of, carries_of};
+    ghost use Rattle.node_arena.specs.Seats.{SeesMoreDeeds};
     ghost use Rattle.node_arena.specs.Looks.{FoundSo};
 
     /// Whether the queue is empty, by three looks of a seat in no call: at Head, at what follows its node, and at Head
@@ -25,6 +27,10 @@ impl<const B: u32, T> ArenaOf<B, T> {
         requires { IsReady self.now seat.old }
         ensures ready { IsReady self.now seat.new }
         ensures stored { KeepsStored seat.old seat.new }
+        //= atomics/looks_on (slots, values): A seat that looks whether its queue is empty, or how long it is, keeps its
+        //=   slot, and what it has seen of values goes on from what it had seen.
+        ensures slots { KeepsSlots seat.old seat.new }
+        ensures values { carries_of self.now ≡ true → SeesMoreDeeds seat.old seat.new }
         //= atomics/emptiness (ready, found): A seat that looks whether its queue is empty is told so, shut or not, or
         //=   that it holds a value, as it was after some history that begins with what the seat had seen and that it has
         //=   now seen; or that Head moved, and then it has seen more pops than before. It is ready as before.

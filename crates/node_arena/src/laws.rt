@@ -7,6 +7,7 @@ ghost use Rattle.node_arena.specs.declared.seats.Seat.{Seat};
 ghost use Rattle.node_arena.specs.Seats.{EachSeatIsSound, IsSeat, IsReady};
 ghost use Rattle.node_arena.specs.Moments.{EachMomentIsLinearizable};
 ghost use Rattle.node_arena.specs.Causes.{TakersMeetNoCause};
+ghost use Rattle.node_arena.specs.AsMany.{LeavesAsMany, SeenEmptyOfValues};
 ghost use Rattle.node_arena.specs.Hands.{EachSeatKnowsValues};
 ghost use Rattle.node_arena.specs.Moves.{QuietStepsMoveNone, PushesGiveTheirSlot, PopsTakeTheirSlot};
 ghost use Rattle.node_arena.specs.Moves.{ShutsMoveNone};
@@ -99,4 +100,14 @@ pub fn what_a_seat_knows_of_values_is_so<T>()
     //= atomics/values: At any time what a seat of an arena that carries values has seen of them is the history of a
     //=   first-in-first-out list, and goes one by one with the entries that it has seen.
     ensures { EachSeatKnowsValues T }
+{}
+
+/// A history of values that goes one by one with one of numbers leaves as many of them, of the same seats in the same order,
+/// and the queue shut or not as that does. So where a seat saw that the queue held no number, it held no value.
+pub fn as_many_values_are_left_as_numbers<T>()
+    //= atomics/as_many (left, empty): A history of values that goes one by one with that of the numbers leaves as many,
+    //=   of the same seats in the same order. So where a seat has seen that the queue was empty, shut or not, what it has
+    //=   seen of values by then leaves none.
+    ensures left { LeavesAsMany T }
+    ensures empty { SeenEmptyOfValues T }
 {}

@@ -1,5 +1,5 @@
 //! How many values a queue holds whose Tail counts, by five looks.
-ghost use Rattle.std.specs.Prelude.{◌≡◌, ◌≤◌};
+ghost use Rattle.std.specs.Prelude.{◌≡◌, ◌≤◌, true};
 ghost use Rattle.line_table.specs.declared.lines.Kind.TheVariants.{NonBlocking};
 ghost use Rattle.node_arena.specs.Looks as looks;
 
@@ -28,7 +28,8 @@ fn behind_tail(stays: bool, none: bool, shut: bool) -> (u64, u64)
 }
 
 impl<const B: u32, T> ArenaOf<B, T> {
-    ghost use Rattle.node_arena.specs.Seats.{IsReady, KeepsStored, known_of, setup_of};
+    ghost use Rattle.node_arena.specs.Seats.{IsReady, KeepsStored, KeepsSlots, known_of, setup_of};
+    ghost use Rattle.node_arena.specs.Seats.{SeesMoreDeeds, carries_of};
     ghost use Rattle.node_arena.specs.Looks.{WasSoLong};
 
     /// How many values the queue holds, by five looks of a seat in no call: at Head, at Tail, at what follows its node, at
@@ -39,6 +40,9 @@ impl<const B: u32, T> ArenaOf<B, T> {
         requires kind { (setup_of self.now).kind ≡ NonBlocking }
         ensures ready { IsReady self.now seat.new }
         ensures stored { KeepsStored seat.old seat.new }
+        //= atomics/looks_on (slots, values)
+        ensures slots { KeepsSlots seat.old seat.new }
+        ensures values { carries_of self.now ≡ true → SeesMoreDeeds seat.old seat.new }
         //= atomics/len (ready, long): A seat that looks how long its non-blocking queue is is told two bounds, between
         //=   which the length was after some history that begins with what the seat had seen and that it has now seen.
         //=   They are at most as far apart as the pops that it has newly seen, and one. It is ready as before.

@@ -17,7 +17,7 @@ use line_steps::value_of;
 use std::alloc::Global;
 
 /// The table of an arena, once no thread shares it any more.
-pub(crate) type ClosedTable = Closed<Option<()>, Global>;
+pub(crate) type ClosedTable<T> = Closed<Option<T>, Global>;
 
 /// How many pushes and pops some seats made, and whether one of them made a shut. There is room for those of any list of
 /// seats.
@@ -35,7 +35,7 @@ struct Chain {
 }
 
 // The shared word with an index.
-fn word_at(closed: &ClosedTable, index: usize) -> u64
+fn word_at<T>(closed: &ClosedTable<T>, index: usize) -> u64
     requires full { IsFull closed.now.words }
     requires there { index < length (shared_words (slots_items closed.now.words)) }
     ensures { result ≡ slice_index (shared_words (slots_items closed.now.words)) index }
@@ -43,7 +43,7 @@ fn word_at(closed: &ClosedTable, index: usize) -> u64
     closed.word(place(index))
 }
 
-fn reference_at<const B: u32>(closed: &ClosedTable, index: usize) -> CountedRefOf<B>
+fn reference_at<const B: u32, T>(closed: &ClosedTable<T>, index: usize) -> CountedRefOf<B>
     requires split { IsSplit B }
     requires full { IsFull closed.now.words }
     requires there { index < length (shared_words (slots_items closed.now.words)) }
@@ -53,16 +53,16 @@ fn reference_at<const B: u32>(closed: &ClosedTable, index: usize) -> CountedRefO
 }
 
 // The node that a node names as the next one.
-fn next_of<const B: u32>(closed: &ClosedTable, node: u32) -> u32
+fn next_of<const B: u32, T>(closed: &ClosedTable<T>, node: u32) -> u32
     requires split { IsSplit B }
     requires full { IsFull closed.now.words }
     requires there { HasNode (shared_words (slots_items closed.now.words)) node }
     ensures { result ≡ (ref_at B (shared_words (slots_items closed.now.words)) (4 + 2 * node)).node }
 {
-    reference_at::<B>(closed, 4 + 2 * node as usize).node()
+    reference_at::<B, T>(closed, 4 + 2 * node as usize).node()
 }
 
-fn value_at(closed: &ClosedTable, node: u32) -> Taken
+fn value_at<T>(closed: &ClosedTable<T>, node: u32) -> Taken
     requires full { IsFull closed.now.words }
     requires there { HasNode (shared_words (slots_items closed.now.words)) node }
     ensures { result ≡ words.value_of
@@ -72,7 +72,11 @@ fn value_at(closed: &ClosedTable, node: u32) -> Taken
 }
 
 // The values from a node on, put into an empty list that has room for them.
-fn values_from<const B: u32>(closed: &ClosedTable, first: u32, mut values: Vec<Taken>) -> Chain
+fn values_from<const B: u32, T>(
+    closed: &ClosedTable<T>,
+    first: u32,
+    mut values: Vec<Taken>,
+) -> Chain
     requires split { IsSplit B }
     requires full { IsFull closed.now.words }
     requires some { HasValues B (shared_words (slots_items closed.now.words)) first
@@ -85,7 +89,7 @@ fn values_from<const B: u32>(closed: &ClosedTable, first: u32, mut values: Vec<T
     let mut node = first;
     while node != 0 && node != end {
         values.push(value_at(closed, node)).unwrap();
-        node = next_of::<B>(closed, node);
+        node = next_of::<B, T>(closed, node);
     }
     Chain {
         values,
@@ -95,7 +99,11 @@ fn values_from<const B: u32>(closed: &ClosedTable, first: u32, mut values: Vec<T
 
 /// What is left in a queue, how many values were taken from it, whether these are all pushes and pops and, where it was shut,
 /// the shut, and whether it was. The list is an empty one with room for the values left.
-pub(crate) fn rest_of<const B: u32>(closed: &ClosedTable, made: Made, room: Vec<Taken>) -> Rest
+pub(crate) fn rest_of<const B: u32, T>(
+    closed: &ClosedTable<T>,
+    made: Made,
+    room: Vec<Taken>,
+) -> Rest
     requires split { IsSplit B }
     requires full { IsFull closed.now.words }
     requires queue { IsQueue B (shared_words (slots_items closed.now.words)) (vec_capacity room) }
@@ -107,8 +115,12 @@ pub(crate) fn rest_of<const B: u32>(closed: &ClosedTable, made: Made, room: Vec<
         ((made.pops ≡ taken_of result) × (made.pushes ≡ taken_of result + length (left_of result)) ×
         (IsTrue (was_shut_of result) → IsTrue made.shut)) }
 {
-    let head = reference_at::<B>(closed, 2);
-    let Chain { values, shut } = values_from::<B>(closed, next_of::<B>(closed, head.node()), room);
+    let head = reference_at::<B, T>(closed, 2);
+    let Chain { values, shut } = values_from::<B, T>(
+        closed,
+        next_of::<B, T>(closed, head.node()),
+        room,
+    );
     let taken = head.count();
     let pushes = u128::from(taken) + values.len() as u128;
     let shut_is_theirs = made.shut || !shut;

@@ -217,7 +217,7 @@ module _ {T : Type 0} (r : Arena) (s t : Seat T) (a b : Running) (l : Line) (h :
       moves : (p : Bool) → same_ref (ref_of r.plan.setup.bits g.found) b.head ≡ p → TurnMoves r s x (turn_of (if p then Goes F1 (record b { node = b.head.node; mark = b.next.count; due = Some (IsValue b.val) }) else Goes D2 b))
       moves true e =
           let w : Won r t x continues g.found b g.did = won_d13 r t x continues g.found b to_d13 g.did e in
-          then_takes r (value_of b.val).body s t x read_slots (subst (λ (v : Taken). TakesSlot r v.body t x) to_d13.knows.2 (takes_slot r t x continues D13 g.found g.did (view t).number (view t).actor.val w.adds))
+          then_takes r (value_of b.val) s t x read_slots (subst (λ (v : Taken). TakesSlot r v t x) to_d13.knows.2 (takes_slot r t x continues D13 g.found g.did (view t).number (view t).actor.val w.adds))
       moves false e = let w : Lost r t x continues g.found b g.did = lost_d13 r t x continues g.found b to_d13 g.did e in then_slots s t x read_slots (quiet_slots r t x continues D13 g.found g.did w.adds)
 
       go : (p : Bool) → same_ref (ref_of r.plan.setup.bits g.found) b.head ≡ p → ((view x).actor.pocket ≡ None) × Turned r s x (twelve ∷ event r t x continues D13 g.found g.did ∷ []) (turn_of (if p then Goes F1 (record b { node = b.head.node; mark = b.next.count; due = Some (IsValue b.val) }) else Goes D2 b))
@@ -241,7 +241,7 @@ module _ {T : Type 0} (r : Arena) (s t : Seat T) (a b : Running) (l : Line) (h :
 -- lines of a turn before its last ones
 module _ {T : Type 0} (r : Arena) (s t x : Seat T) (es : List Event) (stored : KeepsStored s t) (slots : KeepsSlots s t) (w : ExtendsPath (view s) (view t) es) (never : failed_turns es ≡ 0) where
   moved : (out : Turn) → TurnMoves r t x out → TurnMoves r s x out
-  moved (turn.Took word h) y = then_takes r (value_of word).body s t x slots y
+  moved (turn.Took word h) y = then_takes r (value_of word) s t x slots y
   moved turn.Failed y = then_slots s t x slots y
   moved turn.Empty y = then_slots s t x slots y
   moved (turn.Refused refusal) y = then_slots s t x slots y

@@ -88,7 +88,7 @@ module _ {T : Type 0} (r : Arena) (s t : Seat T) (failed turns : ℕ) where
   pop_worn_out _ f = let k = f.turned in draws_worn pop_worn r s t _ OfTail failed turns f.lines f.seat k.over f.empty f.stored f.slots k.walks k.is k.cause tt
 
   pub pop_took : (x : Seat T) (word : ℕ) (h : Held) (out : Result (Unit {0}) Refusal) → keeps_of t ≡ false → failed < turns → Turns r s t (turn.Took word h) → GiveAnswers r (keeping t (Some h) failed) x (turns - failed) out → Draws pop_worn r s x failed turns (Ok (Some (value_of word)))
-  pop_took x word h out keeps less f g = draws_taken pop_worn r s t x word h failed turns out f.lines (sym f.stored.keeps ∙ keeps) less f.stored f.slots f.turned.acts f.turned.never g
+  pop_took x word h out keeps less f g = draws_taken pop_worn r s t x word h failed turns out f.lines (sym f.stored.keeps ∙ keeps) less f.seat f.stored f.slots f.turned.acts f.turned.never g
 
   pub pop_kept : (word : ℕ) (h : Held) → keeps_of t ≡ true → failed < turns → Turns r s t (turn.Took word h) → Draws pop_worn r s (keeping t (Some h) failed) failed turns (Ok (Some (value_of word)))
   pop_kept word h keeps less f =

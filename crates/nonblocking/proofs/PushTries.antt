@@ -16,7 +16,7 @@ use Rattle.node_arena.specs.declared.seats.Seat.{Seat}
 use Rattle.node_arena.specs.Seats.{IsReady, IsSeat, KeepsStored, KeepsSlots, view, pocket_of, keeping}
 use Rattle.node_arena.specs.Turns.{failed_turns}
 use Rattle.node_arena.specs.Paths.{ExtendsPath, FindsShut, StopsAPush, Acts, added}
-use Rattle.node_arena.proofs.Loads.{kept_slots}
+use Rattle.node_arena.proofs.Loads.{kept_slots, kept_gives, then_gives}
 use Rattle.node_arena.proofs.Paths.{walk_then, then_act, then_stored, then_slots, added_is, added_path, failed-append, failed_behind, stopped_behind, then_shut, last_held, kept_seat, ends_failed}
 use Rattle.nonblocking.specs.Values.{IsNonBlocking}
 use Rattle.node_arena.specs.Machine.{value_of}
@@ -153,7 +153,7 @@ module _ {T : Type 0} (r : Arena) (s t u : Seat T) (h : Held) (val spent n turns
       record {
         ready = record { seat = kept_seat r u None n k.turned.seat; free = ap (λ b. b.line) rest ∙ k.turned.over; pocket = sym (ap (λ b. b.pocket) rest ∙ k.turned.empty) };
         same = record { number = name.number; role = name.role; keeps = name.keeps };
-        slots = k.slots;
+        slots = kept_gives r (value_of val).body s u None n (then_gives r (value_of val).body s t u g.slots k.slots);
         pushed = (
           subst (Acts (view s) (view u) (Push (view s).number (value_of val).body)) (sym e) acts,
           refl,

@@ -19,7 +19,8 @@ use Rattle.node_arena.specs.Turns.{failed_at, failed_turns, at_e5}
 use Rattle.node_arena.specs.Paths.{ExtendsPath, Acts}
 use Rattle.node_arena.proofs.Noting.{IsSilent}
 use Rattle.node_arena.proofs.Paths.{walk_then, then_act, act_then, then_stored, then_slots, quiet_slots, failed-append, failed_behind, stopped_behind, then_shut, event, walk_on, walk_silent, shut_on, pass_on, act_on, to_is, stopped_at}
-use Rattle.node_arena.proofs.Loads.{gives_slot, gives_then}
+use Rattle.node_arena.specs.Loads.{GivesSlot}
+use Rattle.node_arena.proofs.Loads.{gives_slot, gives_then, then_gives}
 use Rattle.node_arena.specs.Machine.{value_of}
 use Rattle.arena_lines.specs.declared.outcomes.Outcome.{Outcome}
 use Rattle.arena_lines.specs.declared.outcomes.Outcome.TheVariants.{Goes, Ends}
@@ -198,13 +199,16 @@ module _ {T : Type 0} (r : Arena) (s t : Seat T) (a : Running) (out : Outcome Ru
   acts : entries_at r.plan.setup f.did.told.was (view s).number (view s).actor E9 ≡ Push (view s).number (view s).actor.val.body ∷ [] → Acts (view s) (view t) (Push (view s).number (value_of a.val).body) (nine ∷ [])
   acts won = act_on r s t continues E9 f.found f.did (Push (view s).number (value_of a.val).body) (won ∙ ap (λ (v : Taken). Push (view s).number v.body ∷ []) h.hand.val) tt
 
+  gave : entries_at r.plan.setup f.did.told.was (view s).number (view s).actor E9 ≡ Push (view s).number (view s).actor.val.body ∷ [] → GivesSlot r (value_of a.val).body s t
+  gave won = subst (λ (v : Taken). GivesSlot r v.body s t) h.hand.val (gives_slot r s t continues E9 f.found f.did (view s).number (view s).actor.val.body won)
+
   -- it was the last line, since Tail is worn out
   links_last : out ≡ Ends IsDone → Turns r s t a Pushed
   links_last e =
       let k = at_ninth (Ends IsDone) e in
       record {
         stored = f.did.stored;
-        slots = gives_slot r s t continues E9 f.found f.did (view s).number (view s).actor.val.body k.2;
+        slots = gave k.2;
         lines = nine ∷ [];
         turned = record { seat = f.did.seat; over = k.0; empty = k.1; never = turns_then r s t E9 f.found f.did [] None k.0 refl; acts = acts k.2 };
       }
@@ -243,7 +247,7 @@ module _ {T : Type 0} (r : Arena) (s t : Seat T) (a : Running) (out : Outcome Ru
       let over = after_e17 r t u continues g.found b k.0 g.did in
       record {
         stored = then_stored s t u f.did.stored g.did.stored;
-        slots = gives_then r t u (gives_slot r s t continues E9 f.found f.did (view s).number (view s).actor.val.body k.1) (quiet_slots r t u continues E17 g.found g.did refl);
+        slots = gives_then r (value_of a.val).body s t u (gave k.1) f.did.seat g.did.seat (quiet_slots r t u continues E17 g.found g.did refl) (g.did.told.stays refl);
         lines = nine ∷ event r t u continues E17 g.found g.did ∷ [];
         turned = record {
           seat = g.did.seat;
@@ -300,11 +304,6 @@ module _ {T : Type 0} (r : Arena) (s t : Seat T) (a : Running) (out : Outcome Ru
         turned = go last g.turned;
       }
     where
-      moved : (o : Turn) → TurnMoves r t u o → TurnMoves r s u o
-      moved Pushed y = y
-      moved Failed y = then_slots s t u f.slots y
-      moved (TurnRefused refusal) y = then_slots s t u f.slots y
-
       both : ExtendsPath (view s) (view t) f.lines × Comes r t E9 a c f.lines
       both = looked_as (Goes E9 c) (e ∙ ap (λ k. Goes k c) is)
 
@@ -316,6 +315,11 @@ module _ {T : Type 0} (r : Arena) (s t : Seat T) (a : Running) (out : Outcome Ru
 
       body : (value_of c.val).body ≡ (value_of a.val).body
       body = ap (λ (n : ℕ). (value_of n).body) k.val
+
+      moved : (o : Turn) → TurnMoves r (value_of c.val).body t u o → TurnMoves r (value_of a.val).body s u o
+      moved Pushed y = then_gives r (value_of a.val).body s t u f.slots (subst (λ (b : ℕ). GivesSlot r b t u) body y)
+      moved Failed y = then_slots s t u f.slots y
+      moved (TurnRefused refusal) y = then_slots s t u f.slots y
 
       none : (m : ℕ) → failed_turns g.lines ≡ m → failed_turns (f.lines ++ g.lines) ≡ m
       none m z = let x = failed-append f.lines g.lines in let y = k.never in omega arith

@@ -179,7 +179,7 @@ Turned r s t es (turn.Refused refusal) = Stops r s t es refusal
 
 -- the slot of the value that a turn took came out with the seat, and else the slots that are out with it are those that were
 abbrev pub TurnMoves : {T : Type 0} → Arena → Seat T → Seat T → Turn → Type 0
-TurnMoves r s t (turn.Took word h) = TakesSlot r (value_of word).body s t
+TurnMoves r s t (turn.Took word h) = TakesSlot r (value_of word) s t
 TurnMoves r s t out = KeepsSlots s t
 
 -- lines of a turn, to its end

@@ -178,14 +178,14 @@ Turned r s t a es Failed = ExtendsPath (view s) (view t) es × Slipped r t a es
 Turned r s t a es (TurnRefused refusal) = Stops r s t a es refusal
 
 -- the turn that pushes gives the slot that is out with the seat, and else those that are out are those that were
-abbrev pub TurnMoves : {T : Type 0} → Arena → Seat T → Seat T → Turn → Type 0
-TurnMoves r s t Pushed = GivesSlot r t
-TurnMoves r s t out = KeepsSlots s t
+abbrev pub TurnMoves : {T : Type 0} → Arena → (body : ℕ) → Seat T → Seat T → Turn → Type 0
+TurnMoves r body s t Pushed = GivesSlot r body s t
+TurnMoves r body s t out = KeepsSlots s t
 
 -- a turn of a push, or the end of one
 pub record Turns {T : Type 0} (r : Arena) (s t : Seat T) (a : Running) (out : Turn) : Type 0 where
   pub stored : KeepsStored s t
-  pub slots : TurnMoves r s t out
+  pub slots : TurnMoves r (value_of a.val).body s t out
   pub lines : List Event
   pub turned : Turned r s t a lines out
 

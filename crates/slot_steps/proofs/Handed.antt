@@ -1,17 +1,16 @@
 -- One push and one pop of a value by hand, by the laws of the arena's steps.
-use Rattle.std.proofs.Common.{◌≡◌, ◌≢◌, ℕ, ◌<◌, List, [], ◌∷◌, ◌++◌, true, length, Option, Some, None, sym, refl, ap, ◌∙◌, subst}
-use mathlib.Core.Option.{some}
+use Rattle.std.proofs.Common.{◌≡◌, ◌≢◌, ℕ, [], ◌∷◌, ◌++◌, true, length, Some, sym, ap, ◌∙◌, subst}
 use Rattle.line_table.specs.declared.lines.Line.TheVariants.{E9, D13}
 use Rattle.step_machine.specs.Tables.{WordStep, exchange_at}
 use Rattle.node_arena.specs.declared.seats.Seat.{Seat}
 use Rattle.node_arena.specs.Arenas.{Arena}
 use Rattle.node_arena.specs.Prologues.{Prologue, after_prologue}
-use Rattle.node_arena.specs.Deeds.{Deed, item, pushed, popped}
-use Rattle.history.specs.declared.operations.Entry.TheVariants.{Push, Pop}
+use Rattle.node_arena.specs.Deeds.{Deed}
+use Rattle.history.specs.declared.operations.Entry.TheVariants.{Push}
 use Rattle.node_arena.specs.Beside.{slots_in, HasLoaded}
 use Rattle.node_arena.specs.Seats.{MayStep, DidStep, KeepsSlots, HasNoSlot, carries_of, view}
 use Rattle.node_arena.specs.Hands.{HasSlot, HasValue, KeepsKnown, AddsOwn, SeesMoreDeeds}
-use Rattle.node_arena.proofs.Moved.{moved_nothing, moved_push, moved_pop, won_push, won_pop, lost_adds, loaded_by, kept_slot, one_value}
+use Rattle.node_arena.proofs.Moved.{moved_nothing, moved_push, moved_pop, won_push, won_pop, lost_adds, loaded_by}
 use Rattle.slot_steps.specs.Steps.{MayPush, MayPop, PushedIt, PoppedIt}
 
 module _ {T : Type 0} (r : Arena) (s : Seat T) (prologue : Prologue) (b : ℕ) where
@@ -36,7 +35,7 @@ module _ {T : Type 0} (r : Arena) (s : Seat T) (prologue : Prologue) (b : ℕ) w
       let moved = moved_push r s t prologue E9 n did has.1.carries (view s).number b has.0 at has.1 in
       (moved.0, (has.0, has.1, moved.1))
 
-  pub kept_it : (t : Seat T) (p old new n : ℕ) → MayPush r s prologue b (exchange_at p old new) → HasValue r s b → DidStep r s t prologue E9 n → n ≢ old → KeepsSlots s t × SeesMoreDeeds s t
+  pub kept_it : (t : Seat T) (p old new n : ℕ) → MayPush r s prologue b (exchange_at p old new) → HasValue r s b → DidStep r s t prologue E9 n → n ≢ old → KeepsSlots s t
   kept_it t p old new n may has did lost = moved_nothing r s t prologue E9 n did has.1.carries (lost_adds r s t prologue E9 p old new n may.line may.access did lost)
 
   pub popped_it : (t : Seat T) (p old new n : ℕ) → MayPop r s prologue b (exchange_at p old new) → HasNoSlot s → carries_of r ≡ true → DidStep r s t prologue D13 n → n ≡ old → (x : T) × HasSlot r t b (Some x) × PoppedIt s t x
@@ -49,7 +48,7 @@ module _ {T : Type 0} (r : Arena) (s : Seat T) (prologue : Prologue) (b : ℕ) w
   pub missed_it : (t : Seat T) (p old new n : ℕ) → MayPop r s prologue b (exchange_at p old new) → HasNoSlot s → carries_of r ≡ true → DidStep r s t prologue D13 n → n ≢ old → HasNoSlot t × SeesMoreDeeds s t
   missed_it t p old new n may none_out carries did lost =
       let kept = moved_nothing r s t prologue D13 n did carries (lost_adds r s t prologue D13 p old new n may.line may.access did lost) in
-      ((ap length kept.0.same ∙ none_out.0, ap slots_in kept.0.hand ∙ none_out.1), kept.1)
+      ((ap length kept.same ∙ none_out.0, ap slots_in kept.hand ∙ none_out.1), kept.more)
 
 -- a deed stands where the slot was emptied and given back since
 pub adds_still : {T : Type 0} (s t u w : Seat T) (d : Deed T) → AddsOwn s t d → KeepsKnown t u → KeepsKnown u w → AddsOwn s w d

@@ -236,9 +236,9 @@ module _ {T : Type 0} (r : Arena) (s u t v : Seat T) (a b c d : Running) (l k j 
         seat = f6.did.seat;
         empty = ap (λ z. z.pocket) o ∙ empty_before r y continues B6 at.before;
         stored = then_stored s y x (then_stored s v y look_stored f5.did.stored) f6.did.stored;
-        slots = takes_then r (value_of e.val).body s y x
-            (then_takes r (value_of e.val).body s v y look_slots (subst (λ (q : Taken). TakesSlot r q.body v y) val (takes_slot r v y continues B5 f5.found f5.did (view v).number (view v).actor.val refl)))
-            (quiet_slots r y x continues B6 f6.found f6.did refl);
+        slots = takes_then r (value_of e.val) s y x
+            (then_takes r (value_of e.val) s v y look_slots (subst (λ (q : Taken). TakesSlot r q v y) val (takes_slot r v y continues B5 f5.found f5.did (view v).number (view v).actor.val refl)))
+            f5.did.seat f6.did.seat (quiet_slots r y x continues B6 f6.found f6.did refl) (f6.did.told.stays refl);
         lines = (looks ++ five ∷ []) ++ six ∷ [];
         never = refl;
         fronted = record {

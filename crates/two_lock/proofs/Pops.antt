@@ -117,7 +117,7 @@ module _ {T : Type 0} (r : Arena) (s t : Seat T) (failed turns : ℕ) where
   pop_worn_out _ f = let k = f.fronted in draws_worn pop_worn r s t _ OfHead failed turns f.lines f.seat k.over f.empty f.stored f.slots k.walks k.is k.cause tt
 
   pub pop_took : (x : Seat T) (l : Line) (a : Running) (h : Held) (out : Result (Unit {0}) Refusal) → keeps_of t ≡ false → failed < turns → Fronts r s t (Goes l a) → GiveAnswers r (keeping t (Some h) failed) x (turns - failed) out → Draws pop_worn r s x failed turns (Ok (Some (value_of a.val)))
-  pop_took x l a h out keeps less f g = draws_taken pop_worn r s t x a.val h failed turns out f.lines (sym f.stored.keeps ∙ keeps) less f.stored f.slots f.fronted.acts f.never g
+  pop_took x l a h out keeps less f g = draws_taken pop_worn r s t x a.val h failed turns out f.lines (sym f.stored.keeps ∙ keeps) less f.seat f.stored f.slots f.fronted.acts f.never g
 
   pub pop_kept : (l : Line) (a : Running) (h : Held) → h ≡ record { node = a.node; mark = a.mark } → keeps_of t ≡ true → failed < turns → Fronts r s t (Goes l a) → Draws pop_worn r s (keeping t (Some h) failed) failed turns (Ok (Some (value_of a.val)))
   pop_kept l a h is keeps less f =

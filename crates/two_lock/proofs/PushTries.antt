@@ -18,8 +18,8 @@ use Rattle.node_arena.specs.Seats.{IsReady, view, pocket_of, keeping}
 use Rattle.node_arena.specs.Turns.{failed_turns, at_a3}
 use Rattle.node_arena.specs.Paths.{ExtendsPath, FindsShut, StopsAPush, Acts, added}
 use Rattle.node_arena.proofs.Noting.{IsSilent}
-use Rattle.node_arena.specs.Loads.{IsLoaded}
-use Rattle.node_arena.proofs.Loads.{kept_slots, still_loaded, loaded_as, gives_slot, gives_then}
+use Rattle.node_arena.specs.Loads.{IsLoaded, GivesSlot}
+use Rattle.node_arena.proofs.Loads.{kept_slots, kept_gives, still_loaded, loaded_as, gives_slot, gives_then, then_gives}
 use Rattle.node_arena.proofs.Paths.{then_shut, shut_on, stopped_at, stopped_behind, last_held, walk_then, then_act, act_then, pass_then, then_stored, then_slots, quiet_slots, added_is, added_path, failed-append, failed_behind, kept_seat, ends_failed, event, walk_on, pass_on, act_on, to_is, failed_last}
 use Rattle.two_lock.specs.Values.{IsTwoLock}
 use Rattle.node_arena.specs.Machine.{value_of}
@@ -202,12 +202,15 @@ module _ {T : Type 0} (r : Arena) (s u t : Seat T) (a b c : Running) (j k : Line
       let before : Acts (view s) (view t) (Push (view s).number (value_of a.val).body) (event r s u continues A4 f.found f.did ∷ event r u t continues A5 g.found g.did ∷ []) =
       then_act (view s) (view u) (view t) (Push (view u).number (view u).actor.val.body) (Push (view s).number (value_of a.val).body) (event r s u continues A4 f.found f.did ∷ []) (event r u t continues A5 g.found g.did ∷ []) (λ i. Push (first.number i) (body_is i)) first acts in
       let quiet : IsSilent (view x).actor.due = subst IsSilent (sym (at_a7.knows ∙ ap told_by due)) tt in
+      let gave : GivesSlot r (value_of a.val).body s t = then_gives r (value_of a.val).body s u t (quiet_slots r s u continues A4 f.found f.did refl) (subst (λ (n : ℕ). GivesSlot r n u t) body_is (gives_slot r u t continues A5 g.found g.did (view u).number (view u).actor.val.body won.3)) in
       let behind = pass_then (view t) (view x) (view y) (event r t x continues A6 m.found m.did ∷ []) (event r x y continues A7 o.found o.did ∷ []) (pass_on r t x continues A6 m.found m.did refl tt refl) (pass_on r x y continues A7 o.found o.did refl quiet refl) in
       record {
         seat = o.did.seat;
         over = over.0;
         stored = then_stored s x y (then_stored s t x (then_stored s u t f.did.stored g.did.stored) m.did.stored) o.did.stored;
-        slots = gives_then r x y (gives_then r t x (gives_slot r u t continues A5 g.found g.did (view u).number (view u).actor.val.body won.3) (quiet_slots r t x continues A6 m.found m.did refl)) (quiet_slots r x y continues A7 o.found o.did refl);
+        slots = gives_then r (value_of a.val).body s x y
+            (gives_then r (value_of a.val).body s t x gave g.did.seat m.did.seat (quiet_slots r t x continues A6 m.found m.did refl) (m.did.told.stays refl))
+            m.did.seat o.did.seat (quiet_slots r x y continues A7 o.found o.did refl) (o.did.told.stays refl);
         lines = event r s u continues A4 f.found f.did ∷ event r u t continues A5 g.found g.did ∷ event r t x continues A6 m.found m.did ∷ event r x y continues A7 o.found o.did ∷ [];
         never = refl;
         links = record {
@@ -256,7 +259,7 @@ puts_it r s t u x h val a b out from body spent n turns is same g follows won li
     record {
       ready = record { seat = kept_seat r x None n k.seat; free = ap (λ b. b.line) rest ∙ k.over; pocket = sym (ap (λ b. b.pocket) rest ∙ k.links.empty) };
       same = record { number = name.number; role = name.role; keeps = name.keeps };
-      slots = k.slots;
+      slots = kept_gives r body s x None n (then_gives r body s u x (then_slots s t u g.slots (quiet_slots r t u continues A3 f.found f.did refl)) (subst (λ (b : ℕ). GivesSlot r b u x) bodies k.slots));
       pushed = (
         subst (Acts (view s) (view x) (Push (view s).number body)) (sym e) acts,
         refl,

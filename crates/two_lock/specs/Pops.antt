@@ -142,7 +142,7 @@ Fronted r s t es (Ends reply) = ⊥
 
 -- the slot of the value that was taken came out with the seat, and else the slots that are out with it are those that were
 abbrev pub FrontMoves : {T : Type 0} → Arena → Seat T → Seat T → Outcome Running → Type 0
-FrontMoves r s t (Goes l a) = TakesSlot r (value_of a.val).body s t
+FrontMoves r s t (Goes l a) = TakesSlot r (value_of a.val) s t
 FrontMoves r s t (Ends reply) = KeepsSlots s t
 
 -- the lines under the lock, from B2 to B6

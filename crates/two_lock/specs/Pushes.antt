@@ -1,5 +1,5 @@
 -- A running push: what it remembers before each line, and what it comes to.
-use Rattle.std.specs.Prelude.{◌≡◌, ℕ, ◌+◌, ◌<◌, Bool, true, false, if◌then◌else◌, nat_eq, List, Option, Some, None, Result, Ok, Err, MatchResult}
+use Rattle.std.specs.Prelude.{◌≡◌, ℕ, ◌+◌, ◌<◌, Bool, true, false, if◌then◌else◌, nat_eq, List, Option, Some, None, Result, Ok, Err}
 use Rattle.counted_ref.specs.Ref.{Ref, ref, ref_of, null, same_ref}
 use Rattle.line_table.specs.declared.lines.Line.{Line}
 use Rattle.line_table.specs.declared.lines.Line.TheVariants.{A1, A2, A3, A4, A5, A6, A7}
@@ -15,7 +15,7 @@ use Rattle.node_arena.specs.Prologues.{Prologue, begins, continues, after_prolog
 use Rattle.node_arena.specs.Arenas.{Arena}
 use Rattle.node_arena.specs.declared.seats.Seat.{Seat}
 use Rattle.node_arena.specs.Seats.{IsSeat, IsBefore, KeepsStored, KeepsSlots, DidStep, view}
-use Rattle.node_arena.specs.Loads.{GivesSlot}
+use Rattle.arena_queue.specs.Answers.{PutMoves}
 use Rattle.node_arena.specs.Turns.{failed_turns}
 use Rattle.node_arena.specs.Paths.{ExtendsPath, FindsShut, Acts, FailedAt, EndedAt, IsRefusedAt}
 use Rattle.node_arena.specs.Machine.{value_of}
@@ -116,7 +116,7 @@ pub record Links {T : Type 0} (r : Arena) (s t : Seat T) (a : Running) (out : Re
   pub seat : IsSeat r t
   pub over : (view t).actor.line ≡ None
   pub stored : KeepsStored s t
-  pub slots : MatchResult out (λ _. GivesSlot r t) (λ _. KeepsSlots s t)
+  pub slots : PutMoves r (value_of a.val).body s t out
   pub lines : List Event
   pub never : failed_turns lines ≡ 0
   pub links : LinkedOr r s t a lines out

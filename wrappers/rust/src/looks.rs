@@ -26,7 +26,7 @@ pub struct Length {
 /// How many pushes a queue has left at least, and how often the counts of three of its words can still be raised.
 #[derive(Clone, Copy, Debug, PartialEq, Eq)]
 pub struct Left {
-    /// While no more pushes are called, done or refused, those under way too, no call finds Free, Tail or Head worn out.
+    /// While fewer pushes are called, done or refused, those under way too, no call finds Free, Tail or Head worn out.
     pub pushes: u64,
     /// Free's: each node taken from the free list raises it, and each one given back.
     pub free: u64,

@@ -6,7 +6,7 @@ use Rattle.node_arena.proofs.Ends.{sum_by-pops}
 use Rattle.node_arena.proofs.closing.pops_by.Goals as goal
 
 pub loop-seat-preserved : goal.loop-seat-preserved
-loop-seat-preserved c =
+loop-seat-preserved g c =
     let more = sum_by_more (λ (s : Seat _). s.pops) c.args.seats.now c.loop-seat.seat-index c.seat-item.result c.loop-seat-test.true in
     record {
       sum = omega (arith, c.loop-seat.invariant.sum, more, ap (λ (s : Seat _). s.pops) c.seat-item.is, c.from-pops.ensures);
@@ -14,4 +14,4 @@ loop-seat-preserved c =
     }
 
 pub returns : goal.returns
-returns c = c.loop-seat.invariant.sum ∙ ap (sum_by (λ (s : Seat _). s.pops)) (take_all c.loop-seat.seat-index c.args.seats.now c.loop-seat-test.false) ∙ sum_by-pops c.args.seats.now c.requires
+returns g c = c.loop-seat.invariant.sum ∙ ap (sum_by (λ (s : Seat _). s.pops)) (take_all c.loop-seat.seat-index c.args.seats.now c.loop-seat-test.false) ∙ sum_by-pops c.args.seats.now c.requires

@@ -6,4 +6,4 @@ use Rattle.node_arena.specs.Seats.{view}
 use Rattle.node_arena.proofs.closing.shut_by.Given as goal
 
 abbrev pub invariant-loop-seat : goal.invariant-loop-seat
-invariant-loop-seat l = l.shut ≡ nat_lt 0 (sum_by (λ (s : Seat _). count_by is_shut (view s).mine) (take l.seat-index l.seats))
+invariant-loop-seat g l = l.shut ≡ nat_lt 0 (sum_by (λ (s : Seat _). count_by is_shut (view s).mine) (take l.seat-index l.seats))

@@ -1,5 +1,5 @@
-use Rattle.std.proofs.Common.{rules, arith, sym, subst}
-use Rattle.slot_steps.proofs.Handed.{pop_step, popped_it, missed_it, adds_still}
+use Rattle.std.proofs.Common.{arith}
+use Rattle.slot_steps.proofs.Handed.{popped_it, missed_it}
 use Rattle.slot_steps.proofs.hands.pop_at_d13.Goals as goal
 
 pub take_value-value-requires : goal.take_value-value-requires

@@ -1,6 +1,6 @@
-use Rattle.std.proofs.Common.{rules, arith, sym, subst}
+use Rattle.std.proofs.Common.{arith}
 use Rattle.node_arena.proofs.Moved.{kept_slot}
-use Rattle.slot_steps.proofs.Handed.{push_step, pushed_it, kept_it, sees_still}
+use Rattle.slot_steps.proofs.Handed.{pushed_it, kept_it, sees_still}
 use Rattle.slot_steps.proofs.hands.push_at_e9.Goals as goal
 
 pub take_value-back-requires : goal.take_value-back-requires
@@ -8,7 +8,7 @@ take_value-back-requires g c =
     let may = c.requires.1.1.1.0 in
     let has = c.requires.1.1.1.1.0 in
     let kept = kept_it c.args.arena.now c.args.seat.now g.prologue c.args.slot c.exchange.new.seat c.args.word c.args.old c.args.new c.in-Err.field-0 may has c.in-Err.ensures.1 c.in-Err.ensures.0 in
-    (omega arith, (c.in-Err.ensures.1.seat, (has.0, kept_slot c.args.arena.now c.args.seat.now c.exchange.new.seat c.args.slot _ kept.0 has.1)))
+    (omega arith, (c.in-Err.ensures.1.seat, (has.0, kept_slot c.args.arena.now c.args.seat.now c.exchange.new.seat c.args.slot _ kept has.1)))
 
 pub returns-in-Ok-clause-none : goal.returns-in-Ok-clause-none
 returns-in-Ok-clause-none g c = (pushed_it c.args.arena.now c.args.seat.now g.prologue c.args.slot c.exchange.new.seat c.args.word c.args.old c.args.new c.in-Ok.field-0 c.requires.1.1.1.0 c.requires.1.1.1.1.0 c.in-Ok.ensures.1 c.in-Ok.ensures.0).0
@@ -19,4 +19,4 @@ returns-in-Ok-clause-pushed g c = (pushed_it c.args.arena.now c.args.seat.now g.
 pub returns-in-Err-clause-missed : goal.returns-in-Err-clause-missed
 returns-in-Err-clause-missed g c =
     let kept = kept_it c.args.arena.now c.args.seat.now g.prologue c.args.slot c.exchange.new.seat c.args.word c.args.old c.args.new c.in-Err.field-0 c.requires.1.1.1.0 c.requires.1.1.1.1.0 c.in-Err.ensures.1 c.in-Err.ensures.0 in
-    sees_still c.args.seat.now c.exchange.new.seat c.take_value-back.new.seat c.free_slot.new.seat kept.1 c.take_value-back.ensures.keeps c.free_slot.ensures.keeps
+    sees_still c.args.seat.now c.exchange.new.seat c.take_value-back.new.seat c.free_slot.new.seat kept.more c.take_value-back.ensures.keeps c.free_slot.ensures.keeps

@@ -2,6 +2,7 @@ use Rattle.std.proofs.Common.{◌+◌, ◌*◌, refl, sym, ap, ◌∙◌, arith}
 use Rattle.counted_ref.specs.Ref.{Ref, is_null, is_shut}
 use Rattle.line_steps.specs.declared.actors.Setup.{Setup}
 use Rattle.node_arena.specs.Seats.{view}
+use Rattle.node_arena.proofs.LooksOn.{three_keep, three_more}
 use Rattle.node_arena.proofs.Found.{behind_head, found_moved, found_empty, found_shut, found_some}
 use Rattle.node_arena.proofs.arena.ArenaOf.emptiness.Goals as goal
 
@@ -31,3 +32,27 @@ returns-else-is_shut-clause-found g c =
     (ap (λ k. 4 + 2 * k) (c.node-front.ensures.value ∙ ap (λ (x : Ref). x.node) c.reference.ensures)) c.if-look-head.false
     (ap is_null (sym c.reference-next.ensures) ∙ sym c.is_null.ensures ∙ c.if-is_null.false)
     ((λ i. is_shut ((ap (λ (s : Setup). s.bits) (sym c.setup.ensures.value) ∙ c.setup.ensures.bits) i) (sym c.reference-next.ensures i)) ∙ sym c.is_shut.ensures ∙ c.if-is_shut.false)
+
+pub returns-then-look-head-clause-slots : goal.returns-then-look-head-clause-slots
+returns-then-look-head-clause-slots g c = three_keep _ _ _ _ _ _ _ _ _ _ _ c.look-head.ensures c.look.ensures c.look-2.ensures
+
+pub returns-then-look-head-clause-values : goal.returns-then-look-head-clause-values
+returns-then-look-head-clause-values g c = three_more _ _ _ _ _ _ _ _ _ _ _ c.look-head.ensures c.look.ensures c.look-2.ensures
+
+pub returns-then-is_null-clause-slots : goal.returns-then-is_null-clause-slots
+returns-then-is_null-clause-slots g c = three_keep _ _ _ _ _ _ _ _ _ _ _ c.look-head.ensures c.look.ensures c.look-2.ensures
+
+pub returns-then-is_null-clause-values : goal.returns-then-is_null-clause-values
+returns-then-is_null-clause-values g c = three_more _ _ _ _ _ _ _ _ _ _ _ c.look-head.ensures c.look.ensures c.look-2.ensures
+
+pub returns-then-is_shut-clause-slots : goal.returns-then-is_shut-clause-slots
+returns-then-is_shut-clause-slots g c = three_keep _ _ _ _ _ _ _ _ _ _ _ c.look-head.ensures c.look.ensures c.look-2.ensures
+
+pub returns-then-is_shut-clause-values : goal.returns-then-is_shut-clause-values
+returns-then-is_shut-clause-values g c = three_more _ _ _ _ _ _ _ _ _ _ _ c.look-head.ensures c.look.ensures c.look-2.ensures
+
+pub returns-else-is_shut-clause-slots : goal.returns-else-is_shut-clause-slots
+returns-else-is_shut-clause-slots g c = three_keep _ _ _ _ _ _ _ _ _ _ _ c.look-head.ensures c.look.ensures c.look-2.ensures
+
+pub returns-else-is_shut-clause-values : goal.returns-else-is_shut-clause-values
+returns-else-is_shut-clause-values g c = three_more _ _ _ _ _ _ _ _ _ _ _ c.look-head.ensures c.look.ensures c.look-2.ensures

@@ -2,6 +2,7 @@ use Rattle.std.proofs.Common.{◌+◌, ◌-◌, ◌*◌, nat_eq, refl, sym, ap, 
 use Rattle.counted_ref.specs.Ref.{Ref, is_null, is_shut}
 use Rattle.line_steps.specs.declared.actors.Setup.{Setup}
 use Rattle.node_arena.specs.Seats.{view}
+use Rattle.node_arena.proofs.LooksOn.{five_keep, five_more}
 use Rattle.node_arena.proofs.Found.{behind_tail}
 use Rattle.node_arena.proofs.TailCounts.{first_below, was_so_long}
 use Rattle.node_arena.proofs.arena.ArenaOf.len.Goals as goal
@@ -26,3 +27,9 @@ returns-clause-long g c =
     c.behind_tail-few.ensures.exact
     (c.saturating_sub.ensures ∙ (λ i. (c.count.ensures.value ∙ ap (λ (x : Ref). x.count) c.reference-end.ensures) i + c.behind_tail-few.result.0 - (c.count-last.ensures.value ∙ ap (λ (x : Ref). x.count) c.reference-2.ensures) i))
     (λ i. (c.count-2.ensures.value ∙ ap (λ (x : Ref). x.count) c.reference-end.ensures) i + c.behind_tail-few.result.1 - (c.count-first.ensures.value ∙ ap (λ (x : Ref). x.count) c.reference.ensures) i)
+
+pub returns-clause-slots : goal.returns-clause-slots
+returns-clause-slots g c = five_keep _ _ _ _ _ _ _ _ _ _ _ c.look.ensures c.look-tail.ensures c.look-2.ensures _ _ _ _ _ _ c.look-3.ensures c.look-4.ensures
+
+pub returns-clause-values : goal.returns-clause-values
+returns-clause-values g c = five_more _ _ _ _ _ _ _ _ _ _ _ c.look.ensures c.look-tail.ensures c.look-2.ensures _ _ _ _ _ _ c.look-3.ensures c.look-4.ensures
