@@ -1,0 +1,4 @@
+pub mod Lines
+pub mod Seats
+pub mod Runs
+pub mod Lasting

@@ -1,0 +1,36 @@
+-- How many pushes are left, by those that begin.
+use Rattle.std.specs.Prelude.{◌≡◌, ℕ, ◌+◌, ◌*◌, ◌<◌, List, Some}
+use Rattle.history.specs.declared.refusals.WornWord.TheVariants.{Free as OfFree, Tail as OfTail, Head as OfHead}
+use Rattle.history.specs.Seats.{Known}
+use Rattle.step_machine.specs.Machine.{AnyMove}
+use Rattle.step_machine.specs.EachQueue.{IsWornOut}
+use Rattle.node_arena.specs.Traces.{Traced, trace, IsTraced}
+use Rattle.node_arena.specs.Plans.{Layout}
+use Rattle.wear.specs.Lasting.{Leaves}
+use Rattle.arena_queue.specs.Lefts.{HasLeft}
+use Rattle.arena_queue.specs.declared.left.Left.{Left}
+use Rattle.begun_pushes.specs.Begun.{pushes_begun, under_way}
+
+-- moves lead on to a traced world among which fewer than so many pushes begin, with so many for each that had begun before and
+-- not taken effect yet
+pub record BeginFewer (before : ℕ) (was t : Traced) (pushes : ℕ) : Type 0 where
+  pub moves : List AnyMove
+  pub led : trace moves was ≡ Some t
+  pub fewer : pushes_begun moves + before * under_way was.world < pushes
+
+-- so many pushes may begin from a traced world on: while fewer do, none of these words is worn out
+pub record LastsFor (before : ℕ) (was : Traced) (pushes : ℕ) : Type 0 where
+  pub free : (t : Traced) → BeginFewer before was t pushes → IsWornOut t.world OfFree → ⊥
+  pub tail : (t : Traced) → BeginFewer before was t pushes → IsWornOut t.world OfTail → ⊥
+  pub head : (t : Traced) → BeginFewer before was t pushes → IsWornOut t.world OfHead → ⊥
+
+-- from each traced world on as many pushes may begin as this says by the number of nodes, and by what its counts leave
+abbrev pub EachLasts : (before : ℕ) → ((size free tail head : ℕ) → ℕ) → Type 0
+EachLasts before left =
+    (was : Traced) (free tail head : ℕ) → IsTraced was → Leaves was free tail head →
+    LastsFor before was (left was.world.setup.size free tail head)
+
+-- whatever a seat is told to be left, from the traced world in which Free's count was so on as many pushes may begin
+abbrev pub EachLeftLasts : (before : ℕ) → Type 0
+EachLeftLasts before =
+    (z : Layout) (k k' : Known) (left : Left) (h : HasLeft z k left k') → LastsFor before h.free.was left.pushes
