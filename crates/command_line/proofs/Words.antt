@@ -5,10 +5,11 @@ use Rattle.std.specs.Cmp.Lexicographic.{pointwise}
 use Rattle.std.specs.Prelude.{Result, Ok, Err, if◌then◌else◌}
 use Rattle.std.specs.Str.Parse.{ParsesUnsigned}
 use Rattle.clap.specs.Matches.{ReadsOne}
-use Rattle.line_table.specs.declared.lines.Kind.TheVariants.{TwoLock, NonBlocking}
+use Rattle.line_table.specs.declared.lines.Kind.TheVariants.{NonBlocking}
+use Rattle.queue_kinds.specs.declared.kinds.QueueKind.TheVariants.{Linked}
 use Rattle.clap.specs.Words.{App, Row, Text, fault_of, first_of, is_simple, is_simple_and_free, subcommand_of}
 use Rattle.clap.proofs.OnLiterals.{clap_on_literals}
-use Rattle.command_line.specs.Commands.{command_line_app, faults_in, file_met, kind_named, met_in, SaysFlag, SaysNumber, TextRow}
+use Rattle.command_line.specs.Commands.{command_line_app, faults_in, file_met, kind_by, kind_named, met_in, SaysFlag, SaysNumber, TextRow}
 
 module _ (queues : TextRow) where
   -- no words meet no command
@@ -61,12 +62,11 @@ unwrap_or-now None d = refl
 unwrap_or-now (Some file) d = refl
 
 -- the kind of the queue that a name in an option names
-pub kind_named-some : (o : Option (Bor Text)) (found : Option Text) (name : Bor Text) (b : Bool) → option_map (λ s. s.now) o ≡ found → o ≡ Some name → b ≡ pointwise nat_eq name.now (codes "two-lock")
-    → kind_named found ≡ (if b then TwoLock else NonBlocking)
-kind_named-some o found name b told is same = rw (← told, is, same) refl
+pub kind_named-some : (o : Option (Bor Text)) (found : Option Text) (name : Bor Text) → option_map (λ s. s.now) o ≡ found → o ≡ Some name → kind_named found ≡ kind_by name.now
+kind_named-some o found name told is = rw (← told, is) refl
 
 -- no option names the usual queue
-pub kind_named-none : (o : Option (Bor Text)) (found : Option Text) → option_map (λ s. s.now) o ≡ found → o ≡ None → kind_named found ≡ NonBlocking
+pub kind_named-none : (o : Option (Bor Text)) (found : Option Text) → option_map (λ s. s.now) o ≡ found → o ≡ None → kind_named found ≡ Linked NonBlocking
 kind_named-none o found told is = rw (← told, is) refl
 
 -- the number that was read of an option, or another one

@@ -9,8 +9,9 @@ use Rattle.clap.specs.declared.builder.action.ArgAction.TheVariants.{SetTrue}
 use Rattle.clap.specs.declared.error.kind.ErrorKind.{ErrorKind}
 use Rattle.clap.specs.declared.error.kind.ErrorKind.TheVariants.{DisplayHelp, DisplayVersion, OutOfMemory}
 use Rattle.counted_ref.specs.Ref.{reserved_node}
-use Rattle.line_table.specs.declared.lines.Kind.{Kind}
 use Rattle.line_table.specs.declared.lines.Kind.TheVariants.{TwoLock, NonBlocking}
+use Rattle.queue_kinds.specs.declared.kinds.QueueKind.{QueueKind}
+use Rattle.queue_kinds.specs.declared.kinds.QueueKind.TheVariants.{Linked, Ring}
 use Rattle.command_line.specs.declared.commands.Command.{Command}
 use Rattle.command_line.specs.declared.commands.Crew.{Crew}
 use Rattle.command_line.specs.declared.commands.Task.{Task}
@@ -58,7 +59,7 @@ TextRow = Bor (List (Bor Text))
 
 -- these are the names of the queues
 abbrev pub AreQueues : TextRow → Type 0
-AreQueues queues = map (λ (name : Bor Text). name.now) queues.now ≡ codes "two-lock" ∷ codes "nonblocking" ∷ []
+AreQueues queues = map (λ (name : Bor Text). name.now) queues.now ≡ codes "two-lock" ∷ codes "nonblocking" ∷ codes "ring" ∷ []
 
 -- the required argument FILE
 abbrev pub file_rule : Rule
@@ -90,12 +91,14 @@ abbrev pub queue_rule : TextRow → Rule
 queue_rule queues =
     record (new_rule (codes "QUEUE")) { long = Some (codes "queue"); parser = Some (Names queues); defaults = codes "nonblocking" ∷ [] }
 
--- the command `show`, with a FILE, so many columns, a first and a last step, an actor, and whether it is a history
+-- the command `show`, with a FILE, so many columns, a first and a last step, an actor, whether it is a history, and whether
+-- a page is written
 abbrev pub show_app : App
 show_app =
-    with_rule (with_rule (with_rule (with_rule (with_rule (file_app (codes "show")) (number_rule (codes "WIDTH") (codes "width") 40 190 (codes "80")))
+    with_rule (with_rule (with_rule (with_rule (with_rule (with_rule (file_app (codes "show")) (number_rule (codes "WIDTH") (codes "width") 40 190 (codes "80")))
     (number_rule (codes "FROM") (codes "from") 1 (2 ^ 32 - 1) (codes "1"))) (number_rule (codes "TO") (codes "to") 0 (2 ^ 32 - 1) (codes "0")))
-    (number_rule (codes "ACTOR") (codes "actor") 0 65535 (codes "0"))) (flag_rule (codes "HISTORY") (codes "history"))
+    (number_rule (codes "ACTOR") (codes "actor") 0 65535 (codes "0"))) (flag_rule (codes "HISTORY") (codes "history")))
+    (flag_rule (codes "HTML") (codes "html"))
 
 -- the command `place`, with a FILE, and so many steps
 abbrev pub place_app : App
@@ -147,9 +150,15 @@ SaysNumber (Some text) other number =
     (IsNumberText text × (number ≡ digits_value 10 (without_leading_plus text))) ⊎ ((¬ IsNumberText text) × (number ≡ other))
 
 -- the kind of the queue with this name
-abbrev pub kind_named : Option Text → Kind
-kind_named None = NonBlocking
-kind_named (Some name) = if pointwise nat_eq name (codes "two-lock") then TwoLock else NonBlocking
+abbrev pub kind_by : Text → QueueKind
+kind_by name =
+    if pointwise nat_eq name (codes "two-lock") then Linked TwoLock
+    else (if pointwise nat_eq name (codes "ring") then Ring else Linked NonBlocking)
+
+-- the kind of the queue that is named, and the usual one where none is
+abbrev pub kind_named : Option Text → QueueKind
+kind_named None = Linked NonBlocking
+kind_named (Some name) = kind_by name
 
 -- the workers, the queue and the nodes that a command's options say
 pub record IsCrewOf (options : List Row) (crew : Crew) : Type 0 where
@@ -169,6 +178,7 @@ pub record IsViewOf (options : List Row) (view : View) : Type 0 where
   pub last : SaysNumber (one_of (codes "TO") options) 0 view.to
   pub actor : SaysNumber (one_of (codes "ACTOR") options) 0 view.actor
   pub history : SaysFlag (one_of (codes "HISTORY") options) view.is_history
+  pub page : SaysFlag (one_of (codes "HTML") options) view.is_page
 
 -- the options of the command that was met are those of a task
 abbrev pub HasOptions : Option (Text × List Row) → Task → Type 0

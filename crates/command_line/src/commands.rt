@@ -9,14 +9,14 @@ use clap::builder::ValueParser;
 use clap::error::ErrorKind;
 use clap::{Arg, ArgAction, ArgMatches};
 use counted_ref::MOST_NODE;
-use line_table::Kind;
+use queue_kinds::QueueKind;
 use std::alloc::{AllocError, Global};
 
 /// The version, which the header, the crate for cargo and CHANGELOG.md tell too.
 const VERSION: &str = "0.4.0";
 
 /// The names of the queues.
-static QUEUES: [&str; 2] = ["two-lock", "nonblocking"];
+static QUEUES: [&str; 3] = ["two-lock", "nonblocking", "ring"];
 
 /// How many steps a search for an order takes at most where the words don't say it.
 const USUAL_STEPS: u32 = 1_000_000;
@@ -27,7 +27,7 @@ pub struct Crew {
     /// How many workers there are.
     pub workers: u32,
     /// Over which queue.
-    pub kind: Kind,
+    pub kind: QueueKind,
     /// How many nodes the queue has.
     pub nodes: u32,
 }
@@ -45,6 +45,8 @@ pub struct View {
     pub actor: u32,
     /// Whether the file has a history, and no schedule.
     pub is_history: bool,
+    /// Whether a page is written that steps through the run.
+    pub is_page: bool,
 }
 
 /// What is done with a file.
@@ -63,7 +65,7 @@ pub enum Task {
     /// Does the jobs in it.
     Work(Crew),
     /// Posts the letters in it, over a queue of this kind.
-    Post(Kind),
+    Post(QueueKind),
     /// Explains a refusal, whose number or name stands in the place of the file.
     Explain,
 }
@@ -210,7 +212,9 @@ fn show_command<'a>(alloc: Global) -> Result<clap::Command<'a>, AllocError>
         "The one actor that is shown; 0 for as many as have room",
     ))?;
     let history = flag_option(alloc, "HISTORY", "history");
-    command.arg(history.help("Draws the timeline of a history: an operation a row"))
+    let command = command.arg(history.help("Draws the timeline of a history: an operation a row"))?;
+    let page = flag_option(alloc, "HTML", "html");
+    command.arg(page.help("Writes a page for a browser that steps through the run"))
 }
 
 /// The command `place`.
@@ -245,7 +249,9 @@ fn work_command<'a>(alloc: Global, queues: &'a [&'a str]) -> Result<clap::Comman
     let command = command.arg(workers.help("How many workers there are, each a thread, 1 to 64"))?;
     let command = command.arg(queue_option(alloc, queues))?;
     let nodes = number_option(alloc, "NODES", "nodes", (2, MOST_NODE as u64), "1024");
-    command.arg(nodes.help("How many nodes the queue has, from 3 more than workers to 2^24 - 2"))
+    command.arg(nodes.help(
+        "How many nodes the queue has, or values a ring is full of, from 3 more than workers to 2^24 - 2",
+    ))
 }
 
 /// The command `post`, with the names of the queues.

@@ -28,9 +28,10 @@ The texts: docs/FORMATS.md, Schedule and Trace";
 /// That of `show`.
 pub(crate) const SHOW: &str = "Examples:
   msq show --width 100 examples/first_run.schedule
+  msq show --html examples/reused_node.schedule
   msq show --history examples/first_run.history
 
-The texts: docs/FORMATS.md, Schedule and Picture, History and Timeline";
+The texts: docs/FORMATS.md, Schedule, Picture and Page, History and Timeline";
 
 /// That of `check`.
 pub(crate) const CHECK: &str = "Example:

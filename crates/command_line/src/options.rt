@@ -1,11 +1,12 @@
 //! What is read of the options of a command.
 ghost use Rattle.std.specs.Prelude.{◌≡◌, codes};
 ghost use Rattle.clap.specs.Words.{first_of, found_of, one_of, rows_of, subcommand_rows_of};
-ghost use Rattle.command_line.specs.Commands.{kind_named, AsksForCauses, IsCrewOf, IsViewOf, SaysFlag, SaysNumber};
+ghost use Rattle.command_line.specs.Commands.{kind_by, kind_named, AsksForCauses, IsCrewOf, IsViewOf, SaysFlag, SaysNumber};
 
 use crate::commands::{Crew, View};
 use clap::ArgMatches;
 use line_table::Kind;
+use queue_kinds::QueueKind;
 
 /// How many workers there are where the words don't say it.
 const USUAL_WORKERS: u32 = 4;
@@ -29,6 +30,7 @@ pub(crate) fn view_in(options: &ArgMatches<'_>) -> View
         to: number_in(options, "TO", 0),
         actor: number_in(options, "ACTOR", 0),
         is_history: flag_in(options, "HISTORY"),
+        is_page: flag_in(options, "HTML"),
     }
 }
 
@@ -70,12 +72,25 @@ pub(crate) fn number_in(options: &ArgMatches<'_>, id: &str, other: u32) -> u32
     }
 }
 
-/// The kind of the queue that is named.
-pub(crate) fn kind_in(options: &ArgMatches<'_>) -> Kind
+/// The kind of the queue that is named, and the usual one where none is.
+pub(crate) fn kind_in(options: &ArgMatches<'_>) -> QueueKind
     ensures { result ≡ kind_named (first_of (codes "QUEUE") (rows_of (found_of options.now))) }
 {
     match options.get_str("QUEUE") {
-        Some(name) if name == "two-lock" => Kind::TwoLock,
-        _ => Kind::NonBlocking,
+        Some(name) => kind_of(name),
+        None => QueueKind::Linked(Kind::NonBlocking),
+    }
+}
+
+/// The kind of the queue of this name.
+fn kind_of(name: &str) -> QueueKind
+    ensures { result ≡ kind_by name.now }
+{
+    if name == "two-lock" {
+        QueueKind::Linked(Kind::TwoLock)
+    } else if name == "ring" {
+        QueueKind::Ring
+    } else {
+        QueueKind::Linked(Kind::NonBlocking)
     }
 }

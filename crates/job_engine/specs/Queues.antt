@@ -1,7 +1,9 @@
 -- The queue over which jobs were done.
 use Rattle.any_queue.specs.Any.{AnyQueue}
+use Rattle.either_queue.specs.declared.either.EitherQueue.{EitherQueue}
+use Rattle.ring_queue.specs.declared.queue.RingQueue.{RingQueue}
 use Rattle.job_engine.specs.declared.crews.JobQueue.{JobQueue}
 
 -- the queue itself
-abbrev pub queue_in : JobQueue → AnyQueue
+abbrev pub queue_in : JobQueue → EitherQueue AnyQueue RingQueue
 queue_in done = done.queue

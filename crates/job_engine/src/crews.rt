@@ -1,4 +1,4 @@
-//! A queue of either kind, with a seat for each worker and one for the submitter.
+//! A queue of any kind, with a seat for each worker and one for the submitter.
 ghost use Rattle.std.specs.Prelude.{◌≡◌, ◌≤◌, length, map, IfErr, IfOk};
 ghost use Rattle.std.specs.List.{All};
 ghost use Rattle.node_arena.specs.Seats.{plan_of};
@@ -7,20 +7,29 @@ ghost use Rattle.blocking_queue.specs.Queues.{queue_of};
 ghost use Rattle.job_results.specs.Jobs.{job_rows};
 ghost use Rattle.job_results.specs.Results.{row_of};
 ghost use Rattle.dispatcher.specs.Workers.{IsTaker, IsGiver, StopsWorkers};
-ghost use Rattle.job_engine.specs.Crews.{crew_roles, crew_plan, IsCrew};
+ghost use Rattle.job_engine.specs.Crews.{crew_roles, ring_crew_roles, crew_plan, IsCrew, IsCrewRing, IsCrewQueue};
 ghost use Rattle.job_engine.specs.Works.{AreSized};
 ghost use Rattle.job_engine.specs.Queues.{queue_in};
 
 use any_queue::AnyQueue;
 use blocking_queue::BlockingQueue;
 use dispatcher::{Gate, dispatch};
+use either_queue::EitherQueue;
 use history::{Fifo, Refusal};
 use job_results::{Job, JobResult};
 use line_table::Kind;
 use node_arena::{MOST_COUNT, Role};
+use queue_kinds::QueueKind;
+use ring_queue::{RingQueue, Role as RingRole};
 use std::alloc::Global;
 use std::sync::Wait;
 use std::thread::Threads;
+
+/// How many places a seat of a ring may have in reserve.
+const RESERVE: u32 = 32;
+
+/// The last place of a ring: the greatest one that a ring may have.
+const MOST_PLACE: u64 = (1 << 62) - 1;
 
 /// A gate that does nothing.
 #[derive(Drop)]
@@ -35,42 +44,87 @@ impl Gate for Open {
 /// The queue over which a list of jobs was done. No other one can be had.
 #[derive(Drop)]
 pub struct JobQueue {
-    queue: AnyQueue,
+    queue: EitherQueue<AnyQueue, RingQueue>,
 }
 
 impl JobQueue {
     /// The queue itself. Takes no memory and doesn't wait.
-    pub fn queue(&self) -> &AnyQueue
+    pub fn queue(&self) -> &EitherQueue<AnyQueue, RingQueue>
         ensures { result.now ≡ queue_in self.now }
     {
         &self.queue
     }
 }
 
-/// The results of jobs, in their order, by so many workers over a queue of this kind and with so many nodes; and the queue.
+/// The results of jobs, in their order, by so many workers over a queue of this kind and with so many nodes, or values that
+/// make a ring full; and the queue.
 ///
 /// Refused by `Memory`, and by `Lost` where a job has no result. Takes memory, starts threads, and waits.
 pub(crate) fn results_by<'a, R: Threads + Wait + Sync>(
     rt: &R,
     alloc: Global,
     workers: u32,
-    kind: Kind,
+    kind: QueueKind,
     nodes: u32,
     jobs: &'a [Job],
 ) -> Result<(Vec<JobResult<'a>>, JobQueue), Refusal>
     requires sizes { AreSized workers nodes }
     requires few { length jobs.now ≤ 1000000 }
     ensures rows { IfOk result (λ r. map row_of r.0.items ≡ job_rows 1 jobs.now) }
-    ensures over { IfOk result
-        (λ r. plan_of (any_arena_of (queue_in r.1)) ≡ crew_plan kind nodes workers) }
+    ensures over { IfOk result (λ r. IsCrewQueue kind nodes workers (queue_in r.1)) }
+    ensures refusal { IfErr result StopsWorkers }
+{
+    match kind {
+        QueueKind::Linked(kind) => {
+            let (results, queue) = results_by_nodes(rt, alloc, workers, kind, nodes, jobs)?;
+            let queue = EitherQueue::First(queue);
+            Ok((results, JobQueue { queue }))
+        }
+        QueueKind::Ring => {
+            let (results, queue) = results_by_ring(rt, alloc, workers, nodes, jobs)?;
+            let queue = EitherQueue::Second(queue);
+            Ok((results, JobQueue { queue }))
+        }
+    }
+}
+
+// The same over a queue of nodes, of this kind.
+fn results_by_nodes<'a, R: Threads + Wait + Sync>(
+    rt: &R,
+    alloc: Global,
+    workers: u32,
+    kind: Kind,
+    nodes: u32,
+    jobs: &'a [Job],
+) -> Result<(Vec<JobResult<'a>>, AnyQueue), Refusal>
+    requires sizes { AreSized workers nodes }
+    requires few { length jobs.now ≤ 1000000 }
+    ensures rows { IfOk result (λ r. map row_of r.0.items ≡ job_rows 1 jobs.now) }
+    ensures over { IfOk result (λ r. plan_of (any_arena_of r.1) ≡ crew_plan kind nodes workers) }
     ensures refusal { IfErr result StopsWorkers }
 {
     let roles = roles_of(alloc, workers)?;
     let (queue, seats) = AnyQueue::new(alloc, kind, nodes, MOST_COUNT, &roles)?;
-    let queue = BlockingQueue::new(queue);
-    let results = results_with(rt, alloc, &queue, workers, seats, jobs)?;
-    let queue = queue.into_inner();
-    Ok((results, JobQueue { queue }))
+    results_over(rt, alloc, queue, workers, seats, jobs)
+}
+
+// The same over a ring that so many values make full.
+fn results_by_ring<'a, R: Threads + Wait + Sync>(
+    rt: &R,
+    alloc: Global,
+    workers: u32,
+    values: u32,
+    jobs: &'a [Job],
+) -> Result<(Vec<JobResult<'a>>, RingQueue), Refusal>
+    requires sizes { AreSized workers values }
+    requires few { length jobs.now ≤ 1000000 }
+    ensures rows { IfOk result (λ r. map row_of r.0.items ≡ job_rows 1 jobs.now) }
+    ensures over { IfOk result (λ r. IsCrewRing values workers r.1) }
+    ensures refusal { IfErr result StopsWorkers }
+{
+    let roles = ring_roles_of(alloc, workers)?;
+    let (queue, seats) = RingQueue::new(alloc, values, RESERVE, MOST_PLACE, &roles)?;
+    results_over(rt, alloc, queue, workers, seats, jobs)
 }
 
 // A role for each worker, and the submitter's.
@@ -85,6 +139,41 @@ fn roles_of(alloc: Global, workers: u32) -> Result<Vec<Role>, Refusal>
         Ok(()) => Ok(roles),
         Err(_) => Err(Refusal::Memory),
     }
+}
+
+// The same of a ring.
+fn ring_roles_of(alloc: Global, workers: u32) -> Result<Vec<RingRole>, Refusal>
+    ensures roles { IfOk result (λ roles. roles.items ≡ ring_crew_roles workers) }
+    ensures only_memory { IfErr result (λ refusal. refusal ≡ Refusal.Memory) }
+{
+    let Ok(mut roles) = vec![in alloc; RingRole::Taker; workers as usize] else {
+        return Err(Refusal::Memory);
+    };
+    match roles.push(RingRole::Giver) {
+        Ok(()) => Ok(roles),
+        Err(_) => Err(Refusal::Memory),
+    }
+}
+
+// The results of jobs over this queue, which has a seat for each worker and then the submitter's; and the queue.
+fn results_over<'a, R: Threads + Wait + Sync, Q: Fifo + Sync + Drop>(
+    rt: &R,
+    alloc: Global,
+    queue: Q,
+    workers: u32,
+    seats: Vec<Q::Seat>,
+    jobs: &'a [Job],
+) -> Result<(Vec<JobResult<'a>>, Q), Refusal>
+    requires some { 1 ≤ workers }
+    requires crew { IsCrew Q.is_seat Q.permits Q.known queue workers seats.items }
+    requires few { length jobs.now ≤ 1000000 }
+    ensures rows { IfOk result (λ r. map row_of r.0.items ≡ job_rows 1 jobs.now) }
+    ensures same { IfOk result (λ r. r.1 ≡ queue) }
+    ensures refusal { IfErr result StopsWorkers }
+{
+    let queue = BlockingQueue::new(queue);
+    let results = results_with(rt, alloc, &queue, workers, seats, jobs)?;
+    Ok((results, queue.into_inner()))
 }
 
 // The results of jobs over any queue, by a worker for each of its seats but the last, which is the submitter's.

@@ -2,9 +2,7 @@
 ghost use Rattle.std.specs.Prelude.{◌≡◌, ◌≢◌, ◌↔◌, IfErr, IfOk, OnOk, IsTrue, Err};
 ghost use Rattle.text_io.specs.Blocks.{GivesUp};
 ghost use Rattle.text_io.specs.Readings.{EndsReadingFor};
-ghost use Rattle.node_arena.specs.Seats.{plan_of};
-ghost use Rattle.any_queue.specs.Any.{any_arena_of};
-ghost use Rattle.job_engine.specs.Crews.{crew_plan};
+ghost use Rattle.job_engine.specs.Crews.{IsCrewQueue};
 ghost use Rattle.job_engine.specs.Queues.{queue_in};
 ghost use Rattle.job_engine.specs.Works.{AreSized, IsBadSize, IsTextOf, WritesResults, BeginsResults, TellsOfText, IsReadingRefusal, IsWorkRefusal, EndsReadingOrUnread};
 
@@ -12,8 +10,8 @@ use crate::crews::{JobQueue, results_by};
 use crate::texts::JobTexts;
 use history::Refusal;
 use job_results::Job;
-use line_table::Kind;
 use node_arena::MOST_NODE;
+use queue_kinds::QueueKind;
 use report::results_table;
 use std::alloc::Global;
 use std::sync::Wait;
@@ -27,8 +25,8 @@ const MOST_WORKERS: u32 = 64;
 const SPARE_NODES: u32 = 3;
 
 /// Does the jobs whose text the reader gives, by so many workers, 1 to 64, each in a thread of its own, over a queue of
-/// this kind and with so many nodes, from 3 more than workers to `MOST_NODE`; and writes the table of their results. Answers
-/// the queue.
+/// this kind and with so many nodes, or values that make a ring full, from 3 more than workers to `MOST_NODE`; and writes the
+/// table of their results. Answers the queue.
 ///
 /// Refusals: `BadSize` where a size is out of its range, before a byte is read; then `Memory`, as soon as a growth is
 /// refused; `Read` where a call of the reader fails; `Text` where the bytes are no jobs; `Lost` where a job has no result,
@@ -40,7 +38,7 @@ pub fn work_text<T: Threads + Wait + Sync, R: Source, W: Sink>(
     reader: &mut R,
     writer: &mut W,
     workers: u32,
-    kind: Kind,
+    kind: QueueKind,
     nodes: u32,
 ) -> Result<JobQueue, Refusal>
     //= program/work (ok, quiet): At Ok `work_text` has written the results of the jobs read, each job's once and in
@@ -53,10 +51,10 @@ pub fn work_text<T: Threads + Wait + Sync, R: Source, W: Sink>(
         (W.state writer.new)) }
     ensures quiet { OnOk result ((W.state writer.new).failures ≡ (W.state writer.old).failures) }
     //= program/work_queue: At Ok `work_text` answers a queue made for just the kind, nodes and workers asked for, with
-    //=   a seat for each worker, that may pop, one that may push, and the greatest count of all. A `JobQueue` comes only
+    //=   a seat for each worker, that may pop, one that may push, and the greatest count of all; a ring is full of as many
+    //=   values, and ends at the last place of all. A `JobQueue` comes only
     //=   from the function that makes it and has the jobs done; that they went over it, no clause says.
-    ensures over { IfOk result
-        (λ done. plan_of (any_arena_of (queue_in done)) ≡ crew_plan kind nodes workers) }
+    ensures over { IfOk result (λ done. IsCrewQueue kind nodes workers (queue_in done)) }
     // A size out of its range is refused before anything is read.
     ensures sized { (result ≡ Err Refusal.BadSize) ↔ IsBadSize workers nodes }
     ensures unread { IfErr result (λ refusal. refusal ≡ Refusal.BadSize → reader.new ≡ reader.old) }

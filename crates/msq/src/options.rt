@@ -1,8 +1,6 @@
 //! Commands with options, which are handed on to the engines.
 ghost use Rattle.std.specs.Prelude.{◌≡◌, ◌↔◌, Err, IfOk, OnOk};
-ghost use Rattle.node_arena.specs.Seats.{plan_of};
-ghost use Rattle.any_queue.specs.Any.{any_arena_of};
-ghost use Rattle.job_engine.specs.Crews.{crew_plan};
+ghost use Rattle.job_engine.specs.Crews.{IsCrewQueue};
 ghost use Rattle.job_engine.specs.Queues.{queue_in};
 ghost use Rattle.job_engine.specs.Works.{IsBadSize};
 ghost use Rattle.msq.specs.Options.{Draws};
@@ -11,22 +9,26 @@ use command_line::{Crew, View as Asked};
 use engine_faults::Fault;
 use history::Refusal;
 use job_engine::{JobQueue, work_text};
+use page_engine::{Frame, page_text};
 use show_engine::{View, show_history, show_text};
 use std::alloc::Global;
 use std::sync::Wait;
 use std::thread::Threads;
 use text_io::{Sink, Source};
 
-/// Draws the schedule, or the history, that a source gives, by the options of `show`.
+/// Draws the schedule, or the history, that a source gives, by the options of `show`; or writes the page of the schedule, in a
+/// frame.
 pub(crate) fn show_by<S: Source, W: Sink>(
     alloc: Global,
     options: Asked,
+    frame: &Frame<'_>,
     reader: &mut S,
     writer: &mut W,
 ) -> Result<(), Fault>
     //= program/show_options: At Ok `show_by`, which `msq show` calls, has drawn what its options ask for: the picture of a
-    //=   schedule, or the timeline of a history, of just that width, those steps and that actor.
-    ensures drawn { OnOk result (Draws options (S.state reader.old).left (W.state writer.old)
+    //=   schedule, or the timeline of a history, of just that width, those steps and that actor; or the page around the
+    //=   schedule's trace.
+    ensures drawn { OnOk result (Draws options frame.now (S.state reader.old).left (W.state writer.old)
         (W.state writer.new)) }
 {
     let view = View {
@@ -38,6 +40,9 @@ pub(crate) fn show_by<S: Source, W: Sink>(
     if options.is_history {
         show_history(alloc, reader, writer, view)?;
         return Ok(());
+    }
+    if options.is_page {
+        return page_text(alloc, reader, writer, frame);
     }
     show_text(alloc, reader, writer, view)
 }
@@ -53,8 +58,8 @@ pub(crate) fn work_by<T: Threads + Wait + Sync, S: Source, W: Sink>(
     //= program/work_options (over, sized): `work_by`, which `msq work` calls, takes workers, queue and nodes as its options
     //=   ask for: at Ok the queue that its engine answers was made for these, and it is refused `BadSize` exactly where
     //=   they are out of range.
-    ensures over { IfOk result (λ done. plan_of (any_arena_of (queue_in done))
-        ≡ crew_plan options.kind options.nodes options.workers) }
+    ensures over { IfOk result
+        (λ done. IsCrewQueue options.kind options.nodes options.workers (queue_in done)) }
     ensures sized { (result ≡ Err Refusal.BadSize) ↔ IsBadSize options.workers options.nodes }
 {
     work_text(

@@ -9,6 +9,7 @@ use engine_faults::{Ending, Fault, end_of};
 use explanations::{ENTRIES, explain};
 use history::Refusal;
 use mail_engine::post_text;
+use page_engine::{AFTER, BEFORE, Frame};
 use place_engine::place_text;
 use placing::Placed;
 use run_engine::run_text;
@@ -164,7 +165,13 @@ fn outcome_on<R: Runtime + AllocGlobal + Threads + Wait + Sync, S: Source, W: Si
     match command.task {
         Task::Run => run_text(rt.alloc(), reader, writer)?,
         Task::Trace => trace_text(rt.alloc(), reader, writer)?,
-        Task::Show(options) => show_by(rt.alloc(), options, reader, writer)?,
+        Task::Show(options) => {
+            let frame = Frame {
+                before: BEFORE,
+                after: AFTER,
+            };
+            show_by(rt.alloc(), options, &frame, reader, writer)?;
+        }
         Task::Check => {
             return Ok(Ending::from(check_text(rt.alloc(), reader, writer)?));
         }

@@ -6,7 +6,7 @@ use crate::running::{Duty, drains, four, pushes};
 use crate::seating::{Four, list_of};
 use crate::shutting::{Signs, shuts};
 use crate::tallies::Tally;
-use history::{Close, Fifo, Rest};
+use history::{Close, Fifo, Refusal, Rest};
 use std::alloc::Global;
 use std::sync::Wait;
 use std::thread::{Threads, join};
@@ -25,7 +25,8 @@ pub struct Verdict {
     pub in_order: bool,
     /// Whether the bodies taken and those left are just those pushed: by sender, as many and with the same sum.
     pub each_once: bool,
-    /// Whether the queue counted the values taken as the threads did, and told that these seats made all calls.
+    /// Whether the queue counted the values taken as the threads did, and told that these seats made all calls; of a ring
+    /// whether it was shut and empty at the end.
     pub whole: bool,
 }
 
@@ -77,6 +78,37 @@ fn leaves(rest: &mut Rest, most: u32, tally: &mut Tally) {
     }
 }
 
+// The rounds of four threads, and then of one seat: it takes what is left, and pushes look for the nodes, so many at most. What
+// the threads pushed and took, with these pushes, what was taken behind them, and how many nodes were found.
+fn ran<R: Threads + Wait + Sync, Q: Fifo + Sync>(
+    rt: &R,
+    queue: &Q,
+    seats: Four<Q::Seat>,
+    pairs: u32,
+    most: u32,
+) -> (Four<Q::Seat>, Tally, Tally, u32)
+    requires { AreFour Q.is_seat Q.permits Q.known queue.now seats }
+    ensures { AreFour Q.is_seat Q.permits Q.known queue.now result.0 }
+{
+    let (mut seats, mut threads) = four(rt, queue, seats, Duty::Pairs(pairs));
+    let mut last = Tally::new();
+    drains(rt, queue, &mut seats.one, most, &mut last);
+    let found = finds(rt, queue, &mut seats, most, &mut threads);
+    (seats, threads, last, found)
+}
+
+// What both tallies come to.
+fn verdict_of(threads: &Tally, last: &Tally, found: u32, whole: bool) -> Verdict {
+    let all = threads.with(last);
+    Verdict {
+        pushed: all.pushed.total(),
+        found,
+        in_order: all.in_order,
+        each_once: all.taken == all.pushed,
+        whole,
+    }
+}
+
 /// A run of four threads with the seats 1 to 4 of a queue of so many nodes, each with so many pushes and a pop after each.
 /// Then one seat takes what is left, pushes look for the nodes, and the queue is closed. None where memory is refused.
 pub fn judged<R: Threads + Wait + Sync, Q: Close + Sync + Drop>(
@@ -89,23 +121,31 @@ pub fn judged<R: Threads + Wait + Sync, Q: Close + Sync + Drop>(
 ) -> Option<Verdict>
     requires { AreFour Q.is_seat Q.permits Q.known queue seats }
 {
-    let (mut seats, mut threads) = four(rt, &queue, seats, Duty::Pairs(pairs));
-    let mut last = Tally::new();
-    drains(rt, &queue, &mut seats.one, nodes, &mut last);
+    let (seats, threads, mut last, found) = ran(rt, &queue, seats, pairs, nodes);
     let taken = threads.taken.with(&last.taken).total();
-    let found = finds(rt, &queue, &mut seats, nodes, &mut threads);
     let list = list_of(&queue, alloc, seats)?;
     let (mut rest, _end) = queue.close(alloc, list).ok()?;
     let whole = rest.whole() && rest.taken() == taken;
     leaves(&mut rest, nodes, &mut last);
-    let all = threads.with(&last);
-    Some(Verdict {
-        pushed: all.pushed.total(),
-        found,
-        in_order: all.in_order,
-        each_once: all.taken == all.pushed,
-        whole,
-    })
+    Some(verdict_of(&threads, &last, found, whole))
+}
+
+/// The same of a queue that isn't closed, and holds so many values at most: one seat shuts it, and pops until it is shut and
+/// empty.
+pub fn judged_emptied<R: Threads + Wait + Sync, Q: Fifo + Sync>(
+    rt: &R,
+    queue: &Q,
+    seats: Four<Q::Seat>,
+    pairs: u32,
+    most: u32,
+) -> Verdict
+    requires { AreFour Q.is_seat Q.permits Q.known queue.now seats }
+{
+    let (mut seats, threads, mut last, found) = ran(rt, queue, seats, pairs, most);
+    let shut = queue.shut(rt, &mut seats.one).is_ok();
+    drains(rt, queue, &mut seats.one, most, &mut last);
+    let ended = matches!(queue.pop(rt, &mut seats.one), Err(Refusal::Closed));
+    verdict_of(&threads, &last, found, shut && ended)
 }
 
 // Four threads push and pop until the queue is shut, which a fifth seat does once so many pushes were done.
@@ -157,4 +197,20 @@ pub fn judged_shut<R: Threads + Wait + Sync, Q: Close + Sync + Drop>(
     let ended = rest.was_shut() && rest.whole() && rest.next().is_none();
     let counted = rest.taken() == tally.taken.total() && tally.taken == tally.pushed;
     Some(shut && ended && counted && tally.in_order && tally.kept)
+}
+
+/// Whether a round is right, as above, of a queue that isn't closed.
+pub fn judged_shut_emptied<R: Threads + Wait + Sync, Q: Fifo + Sync>(
+    rt: &R,
+    queue: &Q,
+    seats: Four<Q::Seat>,
+    fifth: Q::Seat,
+    first: u64,
+) -> bool
+    requires seats { AreFour Q.is_seat Q.permits Q.known queue.now seats }
+    requires fifth { MayCall Q.is_seat Q.permits Q.known queue.now fifth }
+{
+    let ((_seats, tally), (mut fifth, shut)) = shut_among(rt, queue, seats, fifth, first);
+    let ended = matches!(queue.pop(rt, &mut fifth), Err(Refusal::Closed));
+    shut && ended && tally.taken == tally.pushed && tally.in_order && tally.kept
 }

@@ -24,16 +24,20 @@ const LONG: Sizes = Sizes {
     limit: MOST_COUNT,
     pairs: 500_000,
     keeps: false,
+    reserve: 32,
 };
 
 /// How often each of the four threads pushes and pops in the short runs, where refusals are ordinary.
 const FEW_PAIRS: u32 = 100;
 
+/// The last place of a ring in the short runs, before its pushes end.
+const FEW_PLACES: u64 = 256;
+
 /// How often a queue is shut while four threads push and pop.
 const SHUTS: u32 = 100;
 
 /// The words that the program understands.
-const USAGE: &str = "queue_stress [two-lock|non-blocking [shut COUNT | \
+const USAGE: &str = "queue_stress [two-lock|non-blocking|ring [shut COUNT | \
     [kept] one|four|pair|strict|taker|two COUNT | [kept] run NODES LIMIT PAIRS]]";
 
 // The works of a kind, by its name.
@@ -64,11 +68,12 @@ fn works_of(name: &str) -> Works {
     }
 }
 
-// Whether a short run of these sizes came out right: a node holds one value at most, and the dummy none.
+// Whether a run of these sizes came out right: a node holds one value at most, and the dummy none.
 fn is_good<R: Threads + Wait + Sync>(rt: &R, alloc: Global, which: Which, sizes: Sizes) -> bool {
     match stressed(rt, alloc, which, sizes) {
         Some(verdict) => {
-            verdict.in_order && verdict.each_once && verdict.whole && verdict.found < sizes.nodes
+            let holds = verdict.found < sizes.above(which);
+            verdict.in_order && verdict.each_once && verdict.whole && holds
         }
         None => false,
     }
@@ -81,6 +86,7 @@ fn sizes_of(nodes: &str, limit: &str, pairs: &str, keeps: bool) -> Option<Sizes>
         limit: limit.parse().ok()?,
         pairs: pairs.parse().ok()?,
         keeps,
+        ..LONG
     })
 }
 
@@ -102,12 +108,66 @@ fn print_runs<R: Threads + Wait + Sync + Print>(
                 limit,
                 pairs: FEW_PAIRS,
                 keeps,
+                ..LONG
             };
             let good = is_good(rt, alloc, which, sizes);
             println!(rt; "{name}, {nodes} nodes, greatest count {limit}{kept}: {good}")?;
         }
     }
     Ok(())
+}
+
+// The long run of a ring, and short ones, whose places are used up.
+fn print_ring_runs<R: Threads + Wait + Sync + Print>(rt: &R, alloc: Global) -> io::Result<()> {
+    let good = is_good(rt, alloc, Which::Ring, LONG);
+    println!(rt; "ring, 64 values, 32 in reserve: {good}")?;
+    for values in 1..=3 {
+        for reserve in 1..=5 {
+            let sizes = Sizes {
+                nodes: values + 1,
+                limit: FEW_PLACES,
+                pairs: FEW_PAIRS,
+                keeps: false,
+                reserve,
+            };
+            let good = is_good(rt, alloc, Which::Ring, sizes);
+            println!(rt; "ring, {values} values, {reserve} in reserve, few places: {good}")?;
+        }
+    }
+    Ok(())
+}
+
+// The rounds of a queue in which it is shut.
+fn print_shuts<R: Threads + Wait + Sync + Print>(
+    rt: &R,
+    alloc: Global,
+    which: Which,
+) -> io::Result<()> {
+    let name = which.name();
+    let right = shut_rounds(rt, alloc, which, SHUTS);
+    println!(rt; "{name}, shut while four threads push and pop: {right} of {SHUTS} right")
+}
+
+// The runs of all queues, or of the one that is asked for.
+fn print_all<R: Threads + Wait + Sync + Print>(
+    rt: &R,
+    alloc: Global,
+    asked: Option<Which>,
+) -> io::Result<()> {
+    for which in Which::LISTS {
+        if asked.is_some() && asked != Some(which) {
+            continue;
+        }
+        for keeps in [false, true] {
+            print_runs(rt, alloc, which, keeps)?;
+        }
+        print_shuts(rt, alloc, which)?;
+    }
+    if asked.is_some() && asked != Some(Which::Ring) {
+        return Ok(());
+    }
+    print_ring_runs(rt, alloc)?;
+    print_shuts(rt, alloc, Which::Ring)
 }
 
 fn main(rt: HostRuntime) -> io::Result<()> {
@@ -148,16 +208,5 @@ fn main(rt: HostRuntime) -> io::Result<()> {
         worked(&rt, rt.alloc(), which, sizes, works);
         return println!(rt; "{}", start.elapsed(&rt)?.as_nanos());
     }
-    for which in Which::ALL {
-        if asked.is_some() && asked != Some(which) {
-            continue;
-        }
-        for keeps in [false, true] {
-            print_runs(&rt, rt.alloc(), which, keeps)?;
-        }
-        let name = which.name();
-        let right = shut_rounds(&rt, rt.alloc(), which, SHUTS);
-        println!(rt; "{name}, shut while four threads push and pop: {right} of {SHUTS} right")?;
-    }
-    Ok(())
+    print_all(&rt, rt.alloc(), asked)
 }

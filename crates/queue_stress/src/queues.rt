@@ -1,12 +1,13 @@
 //! The queues that run.
 ghost use Rattle.std.specs.List.{All};
 
-use crate::closing::{Verdict, judged, judged_shut};
+use crate::closing::{Verdict, judged, judged_emptied, judged_shut, judged_shut_emptied};
 use crate::measuring::{Works, all};
 use crate::seating::{Keeping, last, last_four, last_four_keeping};
-use history::Close;
+use history::{Close, Fifo};
 use node_arena::{MOST_COUNT, Role};
 use nonblocking::MsQueue;
+use ring_queue::{RingQueue, Role as RingRole};
 use std::alloc::Global;
 use std::sync::Wait;
 use std::thread::Threads;
@@ -18,8 +19,16 @@ const ROLES: [Role; 4] = [Role::Both; 4];
 /// The four, and one that shuts.
 const ROLES_AND_ONE: [Role; 5] = [Role::Both; 5];
 
+/// Four seats of a ring, and five.
+const RING_ROLES: [RingRole; 4] = [RingRole::Both; 4];
+
+const RING_ROLES_AND_ONE: [RingRole; 5] = [RingRole::Both; 5];
+
 /// The nodes of a queue that is shut: the dummy, and one or two for each thread.
 const FEW_NODES: u32 = 8;
+
+/// The places in reserve of a seat of a ring that is shut.
+const FEW_IN_RESERVE: u32 = 2;
 
 /// From how many pushes on a queue is shut, at most.
 const MOST_FIRST: u32 = 64;
@@ -29,17 +38,19 @@ const MOST_FIRST: u32 = 64;
 pub enum Which {
     TwoLock,
     NonBlocking,
+    Ring,
 }
 
 impl Which {
-    /// Both of them.
-    pub const ALL: [Which; 2] = [Which::TwoLock, Which::NonBlocking];
+    /// Those with nodes.
+    pub const LISTS: [Which; 2] = [Which::TwoLock, Which::NonBlocking];
 
     /// Its name on the command line.
     pub fn name(self) -> &'static str {
         match self {
             Which::TwoLock => "two-lock",
             Which::NonBlocking => "non-blocking",
+            Which::Ring => "ring",
         }
     }
 
@@ -48,6 +59,7 @@ impl Which {
         match name {
             "two-lock" => Some(Which::TwoLock),
             "non-blocking" => Some(Which::NonBlocking),
+            "ring" => Some(Which::Ring),
             _ => None,
         }
     }
@@ -56,13 +68,31 @@ impl Which {
 /// How large a run is.
 #[derive(Clone, Copy, Debug)]
 pub struct Sizes {
+    /// The dummy, and one for each value.
     pub nodes: u32,
-    /// The greatest count.
+    /// The greatest count; of a ring, which place is its last one.
     pub limit: u64,
     /// How often each of the four threads pushes and pops.
     pub pairs: u32,
     /// Whether the seats keep their nodes.
     pub keeps: bool,
+    /// How many places a seat of a ring may have in reserve.
+    pub reserve: u32,
+}
+
+impl Sizes {
+    /// How many values a ring is full of.
+    fn values(&self) -> u32 {
+        self.nodes.saturating_sub(1)
+    }
+
+    /// A number that is above how many values the queue may hold: a seat of a ring pushes from its reserve where it is full.
+    pub fn above(&self, which: Which) -> u32 {
+        match which {
+            Which::Ring => self.reserve.wrapping_mul(4).wrapping_add(self.values()),
+            _ => self.nodes,
+        }
+    }
 }
 
 fn judged_with<R: Threads + Wait + Sync, Q: Keeping + Sync + Drop>(
@@ -95,6 +125,17 @@ pub fn stressed<R: Threads + Wait + Sync>(
             Ok((queue, seats)) => judged_with(rt, alloc, queue, seats, sizes),
             Err(_) => None,
         },
+        Which::Ring => {
+            let values = sizes.values();
+            match RingQueue::new(alloc, values, sizes.reserve, limit, &RING_ROLES) {
+                Ok((queue, seats)) => {
+                    let seats = last_four(&queue, seats)?;
+                    let most = sizes.above(which);
+                    Some(judged_emptied(rt, &queue, seats, sizes.pairs, most))
+                }
+                Err(_) => None,
+            }
+        }
     }
 }
 
@@ -132,6 +173,20 @@ pub fn worked<R: Threads + Wait + Sync>(
                 worked_with(rt, queue, seats, works, sizes);
             }
         }
+        Which::Ring => {
+            let values = sizes.values();
+            if let Ok((queue, seats)) = RingQueue::new(
+                alloc,
+                values,
+                sizes.reserve,
+                limit,
+                &RING_ROLES,
+            ) {
+                if let Some(seats) = last_four(&queue, seats) {
+                    all(rt, &queue, seats, works, sizes.pairs);
+                }
+            }
+        }
     }
 }
 
@@ -165,6 +220,22 @@ fn shut_once<R: Threads + Wait + Sync>(
             Ok((queue, seats)) => judged_shut_with(rt, alloc, queue, seats, first),
             Err(_) => None,
         },
+        Which::Ring => {
+            match RingQueue::new(
+                alloc,
+                FEW_NODES,
+                FEW_IN_RESERVE,
+                MOST_COUNT,
+                &RING_ROLES_AND_ONE,
+            ) {
+                Ok((queue, mut seats)) => {
+                    let fifth = last(&queue, &mut seats)?;
+                    let seats = last_four(&queue, seats)?;
+                    Some(judged_shut_emptied(rt, &queue, seats, fifth, first))
+                }
+                Err(_) => None,
+            }
+        }
     }
 }
 

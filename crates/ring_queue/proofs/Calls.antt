@@ -1,5 +1,5 @@
 -- What the lines ask of the table, and what they answer.
-use Rattle.std.proofs.Common.{◌≡◌, ℕ, ◌-◌, ◌%◌, ◌^◌, length, ◌<◌, ◌≤◌, List, [], get_or, set, Option, Some, slice_get, sym, refl, ap, ◌∙◌, subst, arith}
+use Rattle.std.proofs.Common.{◌≡◌, ℕ, ◌+◌, ◌-◌, ◌%◌, ◌^◌, length, ◌<◌, ◌≤◌, List, [], ◌∷◌, get_or, set, Option, Some, slice_get, sym, refl, ap, ◌∙◌, subst, arith}
 use Rattle.std.proofs.lemmas.List.{set-get_or}
 use Rattle.std.proofs.lemmas.Option.{slice_get_within}
 use Rattle.atomic_table.specs.Table.{Me, Allows, keeps}
@@ -10,12 +10,12 @@ use Rattle.ring_queue.specs.declared.views.Knowing.{Knowing}
 use Rattle.history.specs.declared.operations.Taken.{Taken}
 use Rattle.ring_queue.specs.Words.{face, slot_word}
 use Rattle.ring_queue.specs.Plans.{Layout, IsTable}
-use Rattle.ring_queue.specs.Seeing.{SeatView, View, claimed, seated, knows}
+use Rattle.ring_queue.specs.Seeing.{SeatView, View, claimed, found, seated, knows}
 use Rattle.ring_queue.specs.Rule.{put, Ring, Holds}
-use Rattle.ring_queue.specs.Steps.{Learns, Rests, PlaceFilled, FrontFound, Tells}
+use Rattle.ring_queue.specs.Steps.{Learns, Rests, PlaceFilled, FrontFound, NextFound, Tells}
 use Rattle.ring_queue.specs.Seats.{view, Sits, IsReady}
 use Rattle.ring_queue.proofs.Tables.{its_seat, one_seat}
-use Rattle.ring_queue.proofs.Lines.{reads_front}
+use Rattle.ring_queue.proofs.Lines.{reads_front, reads_next}
 use Rattle.ring_queue.proofs.Fills.{fills_place}
 
 -- what a line does to any ring of which the seat is one
@@ -88,12 +88,17 @@ numbered z t s h =
     (omega (arith, from, e), omega (arith, from, e, lt))
 
 -- the line that fills a place, at the names of a call
-pub fills_there : (z : Layout) (v : SeatView) (p : ℕ) (x : Option Taken) (i w : ℕ) → v.stage ≡ claimed p x → i ≡ slot_word (p % z.slots) → w ≡ face z.slots p x
+pub fills_there : (z : Layout) (v : SeatView) (p : ℕ) (x : Option Taken) (xs : List (Option Taken)) (i w : ℕ) → v.stage ≡ claimed p (x ∷ xs) → i ≡ slot_word (p % z.slots) → w ≡ face z.slots p x
     → Does z i v (λ _. w) (λ v n v'. PlaceFilled v v')
-fills_there z v p x i w at there is words seats r who =
+fills_there z v p x xs i w at there is words seats r who =
     subst (λ (y : ℕ × ℕ). (v' : SeatView) × (v'.number ≡ v.number) × Ring z (set words y.0 y.1) (put seats v.number v') × PlaceFilled v v') (λ c. (sym there c, sym is c))
-    (fills_place z words seats r v who p x at)
+    (fills_place z words seats r v who p x xs at)
 
 -- the line that reads the word at the seat's head, at the names of a call
-pub fronts_there : (z : Layout) (v : SeatView) (i : ℕ) → i ≡ slot_word (v.head % z.slots) → Does z i v (λ n. n) (FrontFound z)
-fronts_there z v i there = subst (λ j. Does z j v (λ n. n) (FrontFound z)) (sym there) (reads z (slot_word (v.head % z.slots)) v (FrontFound z) (λ words seats r who. reads_front z words seats r v who))
+pub fronts_there : (z : Layout) (v : SeatView) (i : ℕ) → Rests v.stage → i ≡ slot_word (v.head % z.slots) → Does z i v (λ n. n) (FrontFound z)
+fronts_there z v i rested there = subst (λ j. Does z j v (λ n. n) (FrontFound z)) (sym there) (reads z (slot_word (v.head % z.slots)) v (FrontFound z) (λ words seats r who. reads_front z words seats r v who rested))
+
+-- the line that reads the next word, at the names of a call
+pub nexts_there : (z : Layout) (v : SeatView) (i : ℕ) (ws : List ℕ) → Rests v.stage → v.stage ≡ found ws → length ws < z.slots → i ≡ slot_word ((v.head + length ws) % z.slots) → Does z i v (λ n. n) (NextFound z ws)
+nexts_there z v i ws rested at few there =
+    subst (λ j. Does z j v (λ n. n) (NextFound z ws)) (sym there) (reads z (slot_word ((v.head + length ws) % z.slots)) v (NextFound z ws) (λ words seats r who. reads_next z words seats r v who rested ws at few))

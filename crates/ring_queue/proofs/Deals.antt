@@ -22,7 +22,7 @@ use Rattle.ring_queue.specs.Seeing.{SeatView, View, keeper, seated, members, new
 use Rattle.ring_queue.specs.Rule.{put, total, Ring, Holds, first_view}
 use Rattle.ring_queue.proofs.Puts.{put_here, put_else, total_bound}
 use Rattle.ring_queue.proofs.Keeps.{cell}
-use Rattle.ring_queue.proofs.Claims.{got_snoc}
+use Rattle.ring_queue.proofs.Puts.{got_snoc}
 use Rattle.ring_queue.proofs.Tables.{one_of}
 
 pub at_end : {A : Type 0} (l : List A) (a b : A) (j : ℕ) → get_elem? (l ++ a ∷ []) j ≡ some b → (get_elem? l j ≡ some b) ⊎ ((j ≡ length l) × (a ≡ b))
@@ -69,6 +69,7 @@ first_ring z words planned wide tail head blank =
       permitted = All-nil (IsPermitted (permits_of z));
       counted = omega arith;
       unshut = λ _. refl;
+      spare = omega (arith, none);
       roomy = omega (arith, none);
       limited = omega (arith, none, from);
       logged = λ i v at. absurd (none-some v at);
@@ -80,6 +81,7 @@ first_ring z words planned wide tail head blank =
         last = omega arith;
         lies = blank i lt ∙ (let p = first_parity z.slots i lt in let e : 0 ≡ parity z.slots i * 2 ^ 63 + 0 = omega (arith, p) in e);
       };
+      filling = λ i lt. tt;
       each_seat = λ n. record {
         number = refl;
         behind = omega arith;

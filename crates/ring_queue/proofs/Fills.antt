@@ -1,5 +1,6 @@
 -- A push fills its place.
-use Rattle.std.proofs.Common.{◌≡◌, ℕ, ◌+◌, ◌%◌, ◌^◌, ◌<◌, ◌≤◌, true, List, [], ◌∷◌, ◌++◌, length, get_or, set, Option, Some, sym, refl, ap, ◌∙◌, subst, arith, append-nil}
+use Rattle.std.proofs.Common.{◌≡◌, ◌≢◌, ℕ, suc, ◌+◌, ◌-◌, ◌%◌, ◌^◌, ◌<◌, ◌≤◌, true, List, [], ◌∷◌, ◌++◌, length, get_or, set, slice_get, Option, Some, None, sym, refl, ap, ◌∙◌, subst, arith, append-nil}
+use Rattle.std.proofs.lemmas.Option.{none-some}
 use Rattle.std.specs.List.{All}
 use Rattle.history.specs.declared.operations.Entry.{Entry}
 use Rattle.history.specs.declared.operations.Taken.{Taken}
@@ -8,12 +9,22 @@ use Rattle.history.specs.Seats.{IsNoted}
 use Rattle.history.specs.Answers.{Adds, FoundShut}
 use Rattle.ring_queue.specs.Words.{face, slot_word}
 use Rattle.ring_queue.specs.Plans.{Layout}
-use Rattle.ring_queue.specs.Seeing.{Stage, rests, claimed, SeatView, known_by}
-use Rattle.ring_queue.specs.Rule.{Cell, Log, SeatOk, Stands, put, Ring}
-use Rattle.ring_queue.specs.Steps.{PlaceFilled}
+use Rattle.ring_queue.specs.Seeing.{standing, Stage, claimed, SeatView, known_by}
+use Rattle.ring_queue.specs.Rule.{Cell, Log, SeatOk, HasClaimed, Stands, put, Ring}
+use Rattle.ring_queue.proofs.Puts.{put_else}
+use Rattle.ring_queue.specs.Steps.{next_stage, PlaceFilled}
 use Rattle.ring_queue.proofs.Histories.{own_one, all_noted_more, noted_shut, all_one_note}
 use Rattle.ring_queue.proofs.Keeps.{cell, fills}
 use Rattle.ring_queue.proofs.Tables.{it_fits, notes_stay}
+
+-- the others of the places that a seat claimed, once it has filled the first
+claimed_next : (p : ℕ) (x : Option Taken) (xs : List (Option Taken)) (q : ℕ) (y : Option Taken) → q ≢ p → HasClaimed (claimed p (x ∷ xs)) q y → HasClaimed (standing (p + 1) xs) q y
+claimed_next p x [] q y ne h =
+    let low = h.0 in
+    absurd (none-some y (ap (slice_get (x ∷ [])) (let e : suc (q - (p + 1)) ≡ q - p = omega (arith, low, ne) in e) ∙ h.1))
+claimed_next p x (w ∷ ws) q y ne h =
+    let low = h.0 in
+    (omega (arith, low, ne), ap (slice_get (x ∷ w ∷ ws)) (let e : suc (q - (p + 1)) ≡ q - p = omega (arith, low, ne) in e) ∙ h.1)
 
 module _ (z : Layout) (words : List ℕ) (seats : ℕ → SeatView) (r : Ring z words seats) (v : SeatView) (is : seats v.number ≡ v) where
   abbrev pub live : ℕ
@@ -69,15 +80,25 @@ module _ (z : Layout) (words : List ℕ) (seats : ℕ → SeatView) (r : Ring z 
   abbrev pub Line : (SeatView → ℕ → SeatView → Type 0) → ℕ → List ℕ → Type 0
   Line fact number words' = (v' : SeatView) × (v'.number ≡ v.number) × Ring z words' (put seats v.number v') × fact v number v'
 
-  -- the place is filled
-  pub fills_place : (p : ℕ) (x : Option Taken) → v.stage ≡ claimed p x → (v' : SeatView) × (v'.number ≡ v.number) × Ring z (set words (slot_word (p % z.slots)) (face z.slots p x)) (put seats v.number v') × PlaceFilled v v'
-  fills_place p x at =
-      let mine : (r.cells (p % z.slots) ≡ cell p (Some v.number)) × (r.log p ≡ x) = subst (Stands z.slots r.head r.tail live r.log r.cells v) at fit.stage in
-      let v' : SeatView = record v { stage = rests } in (
+  -- the first place is filled of those that the seat claimed from one on
+  pub fills_place : (p : ℕ) (x : Option Taken) (xs : List (Option Taken)) → v.stage ≡ claimed p (x ∷ xs)
+      → (v' : SeatView) × (v'.number ≡ v.number) × Ring z (set words (slot_word (p % z.slots)) (face z.slots p x)) (put seats v.number v') × PlaceFilled v v'
+  fills_place p x xs at =
+      let own : (q : ℕ) (y : Option Taken) → HasClaimed (claimed p (x ∷ xs)) q y → (r.cells (q % z.slots) ≡ cell q (Some v.number)) × (r.log q ≡ y) = subst (Stands z.slots r.head r.tail live r.log r.cells v) at fit.stage in
+      let mine = own p x (omega arith, ap (slice_get (x ∷ xs)) (let e : p - p ≡ 0 = omega arith in e)) in
+      let v' : SeatView = record v { stage = standing (p + 1) xs } in (
         v',
         refl,
-        fills z words seats r v.number p x v' mine.0 mine.1
-            (record { number = refl; behind = fit.behind; few = fit.few; rest = fit.rest; begins = fit.begins; own = fit.own; known = fit.known; noted = fit.noted; stage = tt })
+        fills z words seats r v.number p x v' (λ q y ne h. claimed_next p x xs q y ne (subst (λ st. HasClaimed st q y) (ap (λ (u : SeatView). u.stage) is ∙ at) h)) mine.0 mine.1
+            (record { number = refl; behind = fit.behind; few = fit.few; rest = fit.rest; begins = fit.begins; own = fit.own; known = fit.known; noted = fit.noted; stage = stands_next p x xs own mine.0 })
             (ap (λ (u : SeatView). u.credits) (sym is)),
-        refl,
+        ap (λ st. record v { stage = next_stage st }) (sym at),
       )
+    where
+      stands_next : (p : ℕ) (x : Option Taken) (xs : List (Option Taken)) → ((q : ℕ) (y : Option Taken) → HasClaimed (claimed p (x ∷ xs)) q y → (r.cells (q % z.slots) ≡ cell q (Some v.number)) × (r.log q ≡ y))
+          → r.cells (p % z.slots) ≡ cell p (Some v.number) → Stands z.slots r.head r.tail live r.log (put r.cells (p % z.slots) (cell p None)) (record v { stage = standing (p + 1) xs }) (standing (p + 1) xs)
+      stands_next p x [] own mine = tt
+      stands_next p x (y ∷ ys) own mine = λ q w h.
+          let low = h.0 in
+          let t = own q w (omega (arith, low), ap (slice_get (x ∷ y ∷ ys)) (let e : q - p ≡ suc (q - (p + 1)) = omega (arith, low) in e) ∙ h.1) in
+          (put_else r.cells (p % z.slots) (q % z.slots) (cell p None) (λ e. absurd (let same : q ≡ p = ap (λ (d : Cell). d.place) (sym t.0 ∙ (ap r.cells e ∙ mine)) in omega (arith, same, low))) ∙ t.0, t.1)

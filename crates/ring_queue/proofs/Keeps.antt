@@ -13,9 +13,10 @@ use Rattle.history.specs.Seats.{IsPermitted}
 use Rattle.ring_queue.specs.Words.{face, slot_word, tail_word}
 use Rattle.ring_queue.specs.Plans.{Layout, reserve, permits_of}
 use Rattle.ring_queue.specs.Seeing.{Stage, rests, saw, claimed, found, SeatView}
-use Rattle.ring_queue.specs.Rule.{Cell, Log, FitsWord, Lies, CellOk, Stands, SeatOk, total, put, Ring}
+use Rattle.ring_queue.specs.Rule.{Cell, Log, FitsWord, Lies, CellOk, HasClaimed, IsFilled, Stands, SeatOk, FillerStands, total, put, Ring}
+use Rattle.ring_queue.specs.Steps.{Rests}
 use Rattle.ring_queue.proofs.Numbers.{same_place}
-use Rattle.ring_queue.proofs.Puts.{same_or_not, put_else, put_each, total_same}
+use Rattle.ring_queue.proofs.Puts.{same_or_not, put_here, put_else, put_each, total_same}
 use Rattle.ring_queue.proofs.Histories.{own_other, all_one, leads_pop, leads_shut}
 
 -- a cell
@@ -41,16 +42,43 @@ seat_stays z head tail live head' tail' live' log log' cells cells' history es n
       stage = stands k.stage;
     }
 
+-- a seat in no call has claimed no place
+pub none_claimed : (st : Stage) (p : ℕ) (x : Option Taken) → Rests st → HasClaimed st p x → ⊥
+none_claimed rests p x rested h = h
+none_claimed (saw t) p x rested h = h
+none_claimed (claimed q xs) p x rested h = rested
+none_claimed (found ws) p x rested h = h
+
+-- who fills a place still stands there
+filler_on : (count : ℕ) (log log' : Log) (seats seats' : ℕ → SeatView) (p : ℕ) (f : Option ℕ) → log' p ≡ log p
+    → ((k : ℕ) → HasClaimed (seats k).stage p (log p) → HasClaimed (seats' k).stage p (log p))
+    → FillerStands count log seats p f → FillerStands count log' seats' p f
+filler_on count log log' seats seats' p None same stays h = tt
+filler_on count log log' seats seats' p (Some n) same stays h = (h.0, h.1, subst (HasClaimed (seats' n).stage p) (sym same) (stays n h.2))
+
+-- where a seat that has claimed no place changes, those that have stay
+claimed_beside : (seats : ℕ → SeatView) (n : ℕ) (v : SeatView) → Rests (seats n).stage → (k p : ℕ) (x : Option Taken) → HasClaimed (seats k).stage p x → HasClaimed (put seats n v k).stage p x
+claimed_beside seats n v rested k p x e = same_or_not k n
+    (λ same. absurd (none_claimed (seats n).stage p x rested (subst (λ j. HasClaimed (seats j).stage p x) same e)))
+    (λ ne. subst (λ (u : SeatView). HasClaimed u.stage p x) (sym (put_else seats n k v ne)) e)
+
+-- where a seat changes that keeps the places before one that it has claimed, all keep them
+claimed_before : (seats : ℕ → SeatView) (n tail : ℕ) (v : SeatView) → ((p : ℕ) (x : Option Taken) → p < tail → HasClaimed (seats n).stage p x → HasClaimed v.stage p x)
+    → (k p : ℕ) (x : Option Taken) → p < tail → HasClaimed (seats k).stage p x → HasClaimed (put seats n v k).stage p x
+claimed_before seats n tail v stays k p x lt e = same_or_not k n
+    (λ same. subst (λ (u : SeatView). HasClaimed u.stage p x) (sym (put_here seats n k v same)) (stays p x lt (subst (λ j. HasClaimed (seats j).stage p x) same e)))
+    (λ ne. subst (λ (u : SeatView). HasClaimed u.stage p x) (sym (put_else seats n k v ne)) e)
+
 -- what one seat stands for goes on, whatever it is
 module _ (m head tail live head' tail' live' : ℕ) (log log' : Log) (cells cells' : ℕ → Cell) (v : SeatView) where
   pub stands_on : live ≤ live'
       → ((p : ℕ) (x : Option Taken) → cells (p % m) ≡ cell p (Some v.number) → log p ≡ x → (cells' (p % m) ≡ cell p (Some v.number)) × (log' p ≡ x))
-      → ((w : ℕ) → (v.head ≡ head → (head < tail) × (w ≡ face m head (log head)) × (cells (head % m) ≡ cell head None)) → v.head ≡ head' → (head' < tail') × (w ≡ face m head' (log' head')) × (cells' (head' % m) ≡ cell head' None))
+      → ((i w : ℕ) → (v.head ≡ head → IsFilled m tail log cells (head + i) w) → v.head ≡ head' → IsFilled m tail' log' cells' (head' + i) w)
       → (st : Stage) → Stands m head tail live log cells v st → Stands m head' tail' live' log' cells' v st
   stands_on more claims finds rests k = tt
   stands_on more claims finds (saw t) k = omega (arith, k, more)
-  stands_on more claims finds (claimed p x) k = claims p x k.0 k.1
-  stands_on more claims finds (found w) k = finds w k
+  stands_on more claims finds (claimed p xs) k = λ q x h. let t = k q x h in claims q x t.0 t.1
+  stands_on more claims finds (found ws) k = λ e i w at. finds i w (λ q. k q i w at) e
 
 module _ (z : Layout) (words : List ℕ) (seats : ℕ → SeatView) (r : Ring z words seats) where
   abbrev m : ℕ
@@ -70,8 +98,10 @@ module _ (z : Layout) (words : List ℕ) (seats : ℕ → SeatView) (r : Ring z 
   -- a load, or any step that writes what it found: the words stay, and what the seats know changes
   pub renewed : (seats' : ℕ → SeatView) → ((k : ℕ) → SeatOk z r.head r.tail live r.log r.cells r.history k (seats' k))
       → r.tail + total (length z.roles) seats' ≤ (r.head + z.most) + reserve z → r.tail + total (length z.roles) seats' ≤ z.limit
+      → r.voids + total (length z.roles) seats' ≤ reserve z
+      → ((k p : ℕ) (x : Option Taken) → HasClaimed (seats k).stage p x → HasClaimed (seats' k).stage p x)
       → Ring z words seats'
-  renewed seats' each room limit = record {
+  renewed seats' each room limit spare stays = record {
     planned = r.planned;
     head = r.head;
     tail = r.tail;
@@ -89,20 +119,24 @@ module _ (z : Layout) (words : List ℕ) (seats : ℕ → SeatView) (r : Ring z 
     permitted = r.permitted;
     counted = r.counted;
     unshut = r.unshut;
+    spare = spare;
     roomy = room;
     limited = limit;
     logged = r.logged;
     marked = r.marked;
     fits = r.fits;
     each_cell = r.each_cell;
+    filling = λ i lt. filler_on (length z.roles) r.log r.log seats seats' (r.cells i).place (r.cells i).filler refl (λ k. stays k (r.cells i).place (r.log (r.cells i).place)) (r.filling i lt);
     each_seat = each;
   }
 
-  -- one seat's view changes
-  pub watches : (n : ℕ) (v : SeatView) → SeatOk z r.head r.tail live r.log r.cells r.history n v
+  -- the view of a seat that has claimed no place changes
+  pub watches : (n : ℕ) (v : SeatView) → Rests (seats n).stage → SeatOk z r.head r.tail live r.log r.cells r.history n v
       → r.tail + total (length z.roles) (put seats n v) ≤ (r.head + z.most) + reserve z → r.tail + total (length z.roles) (put seats n v) ≤ z.limit
+      → r.voids + total (length z.roles) (put seats n v) ≤ reserve z
       → Ring z words (put seats n v)
-  watches n v ok room limit = renewed (put seats n v) (λ k. put_each seats n k v (SeatOk z r.head r.tail live r.log r.cells r.history) ok (λ ne. r.each_seat k)) room limit
+  watches n v rested ok room limit spare =
+      renewed (put seats n v) (λ k. put_each seats n k v (SeatOk z r.head r.tail live r.log r.cells r.history) ok (λ ne. r.each_seat k)) room limit spare (claimed_beside seats n v rested)
 
   -- the slot of the next place had one a lap before
   pub next_on : r.tail ≡ (r.cells (r.tail % m)).place + m
@@ -182,13 +216,13 @@ module _ (z : Layout) (words : List ℕ) (seats : ℕ → SeatView) (r : Ring z 
         put_else r.cells (r.tail % m) (p % m) (cell r.tail (Some n)) (λ e. none-some v.number (ap (λ (c : Cell). c.filler) (sym (next_is_filled room) ∙ (ap r.cells (sym e) ∙ mine)))) ∙ mine,
         log_before x p lt ∙ filled,
       ))
-      (λ w knows e.
+      (λ i w knows e.
       let t = knows e in
       let lt = t.0 in (
         omega (arith, lt),
-        t.1 ∙ ap (face m r.head) (sym (log_before x r.head lt)),
-        put_else r.cells (r.tail % m) (r.head % m) (cell r.tail (Some n)) (λ same. absurd (
-            let one : r.head ≡ r.tail = same_place m r.head r.tail some_slot same (omega (arith, lt, some_slot)) (omega (arith, room)) in omega (arith, one, lt))) ∙ t.2,
+        t.1 ∙ ap (face m (r.head + i)) (sym (log_before x (r.head + i) lt)),
+        put_else r.cells (r.tail % m) ((r.head + i) % m) (cell r.tail (Some n)) (λ same. absurd (
+            let one : r.head + i ≡ r.tail = same_place m (r.head + i) r.tail some_slot same (omega (arith, lt, some_slot)) (omega (arith, room)) in omega (arith, one, lt))) ∙ t.2,
       ))
       st old
     where
@@ -196,60 +230,75 @@ module _ (z : Layout) (words : List ℕ) (seats : ℕ → SeatView) (r : Ring z 
       place_claimed p f is = subst (λ (c : Cell). c.place < r.tail) is (r.each_cell (p % m) (mod-lt p some_slot)).claimed
 
   -- a place is claimed
-  pub claims : (n : ℕ) (v : SeatView) (x : Option Taken) (values' : List Taken) (voids' : ℕ) (es : List Entry) → r.tail < r.head + m → FitsWord x
+  pub claims : (n : ℕ) (v : SeatView) (x : Option Taken) (values' : List Taken) (voids' : ℕ) (es : List Entry) → ((p : ℕ) (y : Option Taken) → p < r.tail → HasClaimed (seats n).stage p y → HasClaimed v.stage p y)
+      → 1 ≤ n → n ≤ length z.roles → HasClaimed v.stage r.tail x
+      → r.tail < r.head + m → FitsWord x
       → Leads (r.history ++ es) r.shut values' → All (IsPermitted (permits_of z)) (r.history ++ es)
-      → (r.head + length values') + voids' ≡ r.tail + 1 → live ≤ r.head + length values' → (r.shut ≡ false → voids' ≡ 0)
+      → (r.head + length values') + voids' ≡ r.tail + 1 → live ≤ r.head + length values' → (r.shut ≡ false → voids' ≡ 0) → voids' ≤ r.voids + 1
       → ((i : ℕ) (u : Taken) → slice_get values' i ≡ Some u → put r.log r.tail x (r.head + i) ≡ Some u)
       → ((p : ℕ) → r.head + length values' ≤ p → p < r.tail + 1 → put r.log r.tail x p ≡ None)
       → ((k : ℕ) → k ≢ n → own_entries k (r.history ++ es) ≡ own_entries k r.history) → count_by is_pop (r.history ++ es) ≡ count_by is_pop r.history
       → SeatOk z r.head (r.tail + 1) (r.head + length values') (put r.log r.tail x) (put r.cells (r.tail % m) (cell r.tail (Some n))) (r.history ++ es) n v
       → total (length z.roles) (put seats n v) + 1 ≡ total (length z.roles) seats
-      → Ring z (set words 0 (tail_word (r.tail + 1) r.shut)) (put seats n v)
-  claims n v x values' voids' es room fit leads permitted counted more unshut logged marked others keep ok spends =
+      → (r' : Ring z (set words 0 (tail_word (r.tail + 1) r.shut)) (put seats n v)) × (r'.tail ≡ r.tail + 1) × (r'.shut ≡ r.shut) × (r'.history ≡ r.history ++ es)
+      × (r'.cells ≡ put r.cells (r.tail % m) (cell r.tail (Some n))) × (r'.log ≡ put r.log r.tail x)
+  claims n v x values' voids' es rested from to stands room fit leads permitted counted more unshut voided logged marked others keep ok spends =
       let w : ℕ = tail_word (r.tail + 1) r.shut in
       let wide = r.wide in
       let a = r.roomy in
       let b = r.limited in
-      record {
-        planned = r.planned;
-        head = r.head;
-        tail = r.tail + 1;
-        voids = voids';
-        shut = r.shut;
-        values = values';
-        history = r.history ++ es;
-        log = put r.log r.tail x;
-        cells = put r.cells (r.tail % m) (cell r.tail (Some n));
-        wide = length-set words 0 w ∙ wide;
-        tail_is = get_or-set_same words 0 w 0 (omega (arith, wide));
-        head_is = get_or-set_other words 0 16 w 0 (λ e. omega (arith, e)) ∙ r.head_is;
-        leads = leads;
-        taken = r.taken ∙ ap (λ k. m + k) (sym keep);
-        permitted = permitted;
-        counted = counted;
-        unshut = unshut;
-        roomy = omega (arith, a, spends);
-        limited = omega (arith, b, spends);
-        logged = logged;
-        marked = marked;
-        fits = λ p. put_each r.log r.tail p x (λ q y. FitsWord y) fit (λ ne. r.fits p);
-        each_cell = λ i lt. put_each r.cells (r.tail % m) i (cell r.tail (Some n)) (CellOk m r.head (r.tail + 1) (put r.log r.tail x) (set words 0 w))
-            (cell_claimed n w x room) (λ ne. cell_beside n w i x ne (r.cells i) (r.each_cell i lt));
-        each_seat = λ k. put_each seats n k v (SeatOk z r.head (r.tail + 1) (r.head + length values') (put r.log r.tail x) (put r.cells (r.tail % m) (cell r.tail (Some n))) (r.history ++ es)) ok
-            (λ ne. seat_stays z r.head r.tail live r.head (r.tail + 1) (r.head + length values') r.log (put r.log r.tail x) r.cells (put r.cells (r.tail % m) (cell r.tail (Some n))) r.history es k (seats k)
-            (omega arith) (others k ne) (others_claim n (r.head + length values') x k (seats k) (r.each_seat k).number ne room more (seats k).stage) (r.each_seat k));
-      }
+      let s = r.spare in (
+        record {
+          planned = r.planned;
+          head = r.head;
+          tail = r.tail + 1;
+          voids = voids';
+          shut = r.shut;
+          values = values';
+          history = r.history ++ es;
+          log = put r.log r.tail x;
+          cells = put r.cells (r.tail % m) (cell r.tail (Some n));
+          wide = length-set words 0 w ∙ wide;
+          tail_is = get_or-set_same words 0 w 0 (omega (arith, wide));
+          head_is = get_or-set_other words 0 16 w 0 (λ e. omega (arith, e)) ∙ r.head_is;
+          leads = leads;
+          taken = r.taken ∙ ap (λ k. m + k) (sym keep);
+          permitted = permitted;
+          counted = counted;
+          unshut = unshut;
+          spare = omega (arith, s, spends, voided);
+          roomy = omega (arith, a, spends);
+          limited = omega (arith, b, spends);
+          logged = logged;
+          marked = marked;
+          fits = λ p. put_each r.log r.tail p x (λ q y. FitsWord y) fit (λ ne. r.fits p);
+          each_cell = λ i lt. put_each r.cells (r.tail % m) i (cell r.tail (Some n)) (CellOk m r.head (r.tail + 1) (put r.log r.tail x) (set words 0 w))
+              (cell_claimed n w x room) (λ ne. cell_beside n w i x ne (r.cells i) (r.each_cell i lt));
+          filling = λ i lt. put_each r.cells (r.tail % m) i (cell r.tail (Some n)) (λ j (c : Cell). FillerStands (length z.roles) (put r.log r.tail x) (put seats n v) c.place c.filler)
+              (from, to, subst (λ (u : SeatView). HasClaimed u.stage r.tail (put r.log r.tail x r.tail)) (sym (put_here seats n n v refl)) (subst (HasClaimed v.stage r.tail) (sym (put_here r.log r.tail r.tail x refl)) stands))
+              (λ ne. filler_on (length z.roles) r.log (put r.log r.tail x) seats (put seats n v) (r.cells i).place (r.cells i).filler
+              (log_before x (r.cells i).place (r.each_cell i lt).claimed) (λ k. claimed_before seats n r.tail v rested k (r.cells i).place (r.log (r.cells i).place) (r.each_cell i lt).claimed) (r.filling i lt));
+          each_seat = λ k. put_each seats n k v (SeatOk z r.head (r.tail + 1) (r.head + length values') (put r.log r.tail x) (put r.cells (r.tail % m) (cell r.tail (Some n))) (r.history ++ es)) ok
+              (λ ne. seat_stays z r.head r.tail live r.head (r.tail + 1) (r.head + length values') r.log (put r.log r.tail x) r.cells (put r.cells (r.tail % m) (cell r.tail (Some n))) r.history es k (seats k)
+              (omega arith) (others k ne) (others_claim n (r.head + length values') x k (seats k) (r.each_seat k).number ne room more (seats k).stage) (r.each_seat k));
+        },
+        refl,
+        refl,
+        refl,
+        refl,
+        refl,
+      )
 
   -- where the slot of a place lies
   slot_within : (p : ℕ) → slot_word (p % m) < length words
   slot_within p = let lt : p % m < m = mod-lt p some_slot in let w = r.wide in omega (arith, lt, w)
 
   -- a place is filled by the seat that claimed it
-  pub fills : (n p : ℕ) (x : Option Taken) (v : SeatView) → r.cells (p % m) ≡ cell p (Some n) → r.log p ≡ x
+  pub fills : (n p : ℕ) (x : Option Taken) (v : SeatView) → ((q : ℕ) (y : Option Taken) → q ≢ p → HasClaimed (seats n).stage q y → HasClaimed v.stage q y) → r.cells (p % m) ≡ cell p (Some n) → r.log p ≡ x
       → SeatOk z r.head r.tail live r.log (put r.cells (p % m) (cell p None)) r.history n v
       → v.credits ≡ (seats n).credits
       → Ring z (set words (slot_word (p % m)) (face m p x)) (put seats n v)
-  fills n p x v mine filled ok same =
+  fills n p x v left mine filled ok same =
       let i : ℕ = p % m in
       let w : ℕ = face m p x in
       let cells' : ℕ → Cell = put r.cells i (cell p None) in
@@ -260,6 +309,7 @@ module _ (z : Layout) (words : List ℕ) (seats : ℕ → SeatView) (r : Ring z 
       (λ k. put_each seats n k v (λ q (u : SeatView). u.credits ≡ (seats q).credits) same (λ _. refl)) in
       let a = r.roomy in
       let b = r.limited in
+      let s = r.spare in
       record {
         planned = r.planned;
         head = r.head;
@@ -278,6 +328,7 @@ module _ (z : Layout) (words : List ℕ) (seats : ℕ → SeatView) (r : Ring z 
         permitted = r.permitted;
         counted = r.counted;
         unshut = r.unshut;
+        spare = omega (arith, s, totals);
         roomy = omega (arith, a, totals);
         limited = omega (arith, b, totals);
         logged = r.logged;
@@ -286,6 +337,9 @@ module _ (z : Layout) (words : List ℕ) (seats : ℕ → SeatView) (r : Ring z 
         each_cell = λ j lt. put_each r.cells i j (cell p None) (CellOk m r.head r.tail r.log words')
             (record { slot = old.slot; claimed = old.claimed; last = old.last; lies = get_or-set_same words (slot_word i) w 0 (slot_within p) ∙ ap (face m p) (sym filled) })
             (λ ne. cell_apart i j w ne (r.cells j) (r.each_cell j lt));
+        filling = λ j lt. put_each r.cells i j (cell p None) (λ q (c : Cell). FillerStands (length z.roles) r.log (put seats n v) c.place c.filler) tt
+            (λ ne. filler_on (length z.roles) r.log r.log seats (put seats n v) (r.cells j).place (r.cells j).filler refl
+            (claimed_apart n v j lt left ne) (r.filling j lt));
         each_seat = λ k. put_each seats n k v (SeatOk z r.head r.tail live r.log cells' r.history) ok
             (λ ne. let g = r.each_seat k in record {
               number = g.number;
@@ -300,6 +354,15 @@ module _ (z : Layout) (words : List ℕ) (seats : ℕ → SeatView) (r : Ring z 
             });
       }
     where
+      claimed_apart : (n : ℕ) (v : SeatView) (j : ℕ) (lt : j < m) → ((q : ℕ) (y : Option Taken) → q ≢ p → HasClaimed (seats n).stage q y → HasClaimed v.stage q y) → j ≢ p % m
+          → (k : ℕ) → HasClaimed (seats k).stage (r.cells j).place (r.log (r.cells j).place) → HasClaimed (put seats n v k).stage (r.cells j).place (r.log (r.cells j).place)
+      claimed_apart n v j lt left ne k e =
+          let q : ℕ = (r.cells j).place in
+          let far : q ≢ p = λ is. ne (sym (r.each_cell j lt).slot ∙ ap (λ y. y % m) is) in
+          same_or_not k n
+          (λ same. subst (λ (u : SeatView). HasClaimed u.stage q (r.log q)) (sym (put_here seats n k v same)) (left q (r.log q) far (subst (λ i. HasClaimed (seats i).stage q (r.log q)) same e)))
+          (λ apart. subst (λ (u : SeatView). HasClaimed u.stage q (r.log q)) (sym (put_else seats n k v apart)) e)
+
       cell_apart : (i j w : ℕ) → j ≢ i → (c : Cell) → CellOk m r.head r.tail r.log words j c → CellOk m r.head r.tail r.log (set words (slot_word i) w) j c
       cell_apart i j w ne c k = record {
         slot = k.slot;
@@ -313,18 +376,18 @@ module _ (z : Layout) (words : List ℕ) (seats : ℕ → SeatView) (r : Ring z 
           stands_on m r.head r.tail live r.head r.tail live r.log r.log r.cells (put r.cells (p % m) (cell p None)) u (omega arith)
           (λ q y theirs lies.
           (put_else r.cells (p % m) (q % m) (cell p None) (λ e. ne (sym is ∙ same_Some _ _ (ap (λ (c : Cell). c.filler) (sym theirs ∙ (ap r.cells e ∙ mine))))) ∙ theirs, lies))
-          (λ w knows e.
+          (λ i w knows e.
           let t = knows e in
-          (t.0, t.1, put_else r.cells (p % m) (r.head % m) (cell p None) (λ e. none-some n (ap (λ (c : Cell). c.filler) (sym t.2 ∙ (ap r.cells e ∙ mine)))) ∙ t.2))
+          (t.0, t.1, put_else r.cells (p % m) ((r.head + i) % m) (cell p None) (λ e. none-some n (ap (λ (c : Cell). c.filler) (sym t.2 ∙ (ap r.cells e ∙ mine)))) ∙ t.2))
           st before
 
   -- the first value is popped: Head is one more
-  pub pops : (n : ℕ) (v : SeatView) (y : Taken) (ys : List Taken) → r.values ≡ y ∷ ys → r.cells (r.head % m) ≡ cell r.head None
+  pub pops : (n : ℕ) (v : SeatView) → Rests (seats n).stage → (y : Taken) (ys : List Taken) → r.values ≡ y ∷ ys → r.cells (r.head % m) ≡ cell r.head None
       → IsPermitted (permits_of z) (Pop n y)
       → SeatOk z (r.head + 1) r.tail ((r.head + 1) + length ys) r.log r.cells (r.history ++ Pop n y ∷ []) n v
       → v.credits ≡ (seats n).credits
-      → Ring z (set words 16 (r.head + 1)) (put seats n v)
-  pops n v y ys is front permit ok same =
+      → (r' : Ring z (set words 16 (r.head + 1)) (put seats n v)) × (r'.head ≡ r.head + 1) × (r'.tail ≡ r.tail) × (r'.history ≡ r.history ++ Pop n y ∷ []) × (r'.cells ≡ r.cells) × (r'.log ≡ r.log)
+  pops n v rested y ys is front permit ok same =
       let w : ℕ = r.head + 1 in
       let words' : List ℕ = set words 16 w in
       let wide = r.wide in
@@ -333,35 +396,44 @@ module _ (z : Layout) (words : List ℕ) (seats : ℕ → SeatView) (r : Ring z 
       (λ k. put_each seats n k v (λ q (u : SeatView). u.credits ≡ (seats q).credits) same (λ _. refl)) in
       let a = r.roomy in
       let b = r.limited in
-      let c = r.counted in
-      record {
-        planned = r.planned;
-        head = r.head + 1;
-        tail = r.tail;
-        voids = r.voids;
-        shut = r.shut;
-        values = ys;
-        history = r.history ++ Pop n y ∷ [];
-        log = r.log;
-        cells = r.cells;
-        wide = length-set words 16 w ∙ wide;
-        tail_is = get_or-set_other words 16 0 w 0 (λ e. omega (arith, e)) ∙ r.tail_is;
-        head_is = get_or-set_same words 16 w 0 (omega (arith, wide, some_slot));
-        taken = ap (λ k. k + 1) r.taken ∙ (let e : (m + count_by is_pop r.history) + 1 ≡ m + (count_by is_pop r.history + 1) = omega arith in e) ∙ ap (λ k. m + k) (sym (sum_by-append _ r.history (Pop n y ∷ [])));
-        leads = leads_pop r.history r.shut y ys n (subst (Leads r.history r.shut) is r.leads);
-        permitted = all_one (IsPermitted (permits_of z)) r.history (Pop n y) r.permitted permit;
-        counted = omega (arith, c, lengths);
-        unshut = r.unshut;
-        roomy = omega (arith, a, totals);
-        limited = omega (arith, b, totals);
-        logged = λ i u at. let e : r.head + 1 + i ≡ r.head + suc i = omega arith in ap r.log e ∙ r.logged (suc i) u (ap (λ vs. slice_get vs (suc i)) is ∙ at);
-        marked = λ p from to. r.marked p (omega (arith, from, lengths)) to;
-        fits = r.fits;
-        each_cell = λ j lt. cell_on w j (r.cells j) refl (r.each_cell j lt);
-        each_seat = λ k. put_each seats n k v (SeatOk z (r.head + 1) r.tail ((r.head + 1) + length ys) r.log r.cells (r.history ++ Pop n y ∷ [])) ok
-            (λ ne. seat_stays z r.head r.tail live (r.head + 1) r.tail ((r.head + 1) + length ys) r.log r.log r.cells r.cells r.history (Pop n y ∷ []) k (seats k)
-            (omega arith) (own_other k r.history (Pop n y) (λ e. ne (sym e))) (others_pop (omega (arith, lengths)) (seats k) (r.each_seat k).behind (seats k).stage) (r.each_seat k));
-      }
+      let s = r.spare in
+      let c = r.counted in (
+        record {
+          planned = r.planned;
+          head = r.head + 1;
+          tail = r.tail;
+          voids = r.voids;
+          shut = r.shut;
+          values = ys;
+          history = r.history ++ Pop n y ∷ [];
+          log = r.log;
+          cells = r.cells;
+          wide = length-set words 16 w ∙ wide;
+          tail_is = get_or-set_other words 16 0 w 0 (λ e. omega (arith, e)) ∙ r.tail_is;
+          head_is = get_or-set_same words 16 w 0 (omega (arith, wide, some_slot));
+          taken = ap (λ k. k + 1) r.taken ∙ (let e : (m + count_by is_pop r.history) + 1 ≡ m + (count_by is_pop r.history + 1) = omega arith in e) ∙ ap (λ k. m + k) (sym (sum_by-append _ r.history (Pop n y ∷ [])));
+          leads = leads_pop r.history r.shut y ys n (subst (Leads r.history r.shut) is r.leads);
+          permitted = all_one (IsPermitted (permits_of z)) r.history (Pop n y) r.permitted permit;
+          counted = omega (arith, c, lengths);
+          unshut = r.unshut;
+          spare = omega (arith, s, totals);
+          roomy = omega (arith, a, totals);
+          limited = omega (arith, b, totals);
+          logged = λ i u at. let e : r.head + 1 + i ≡ r.head + suc i = omega arith in ap r.log e ∙ r.logged (suc i) u (ap (λ vs. slice_get vs (suc i)) is ∙ at);
+          marked = λ p from to. r.marked p (omega (arith, from, lengths)) to;
+          fits = r.fits;
+          each_cell = λ j lt. cell_on w j (r.cells j) refl (r.each_cell j lt);
+          filling = λ j lt. filler_on (length z.roles) r.log r.log seats (put seats n v) (r.cells j).place (r.cells j).filler refl (λ k. claimed_beside seats n v rested k (r.cells j).place (r.log (r.cells j).place)) (r.filling j lt);
+          each_seat = λ k. put_each seats n k v (SeatOk z (r.head + 1) r.tail ((r.head + 1) + length ys) r.log r.cells (r.history ++ Pop n y ∷ [])) ok
+              (λ ne. seat_stays z r.head r.tail live (r.head + 1) r.tail ((r.head + 1) + length ys) r.log r.log r.cells r.cells r.history (Pop n y ∷ []) k (seats k)
+              (omega arith) (own_other k r.history (Pop n y) (λ e. ne (sym e))) (others_pop (omega (arith, lengths)) (seats k) (r.each_seat k).behind (seats k).stage) (r.each_seat k));
+        },
+        refl,
+        refl,
+        refl,
+        refl,
+        refl,
+      )
     where
       cell_on : (w j : ℕ) (d : Cell) → r.cells j ≡ d → CellOk m r.head r.tail r.log words j d → CellOk m (r.head + 1) r.tail r.log (set words 16 w) j d
       cell_on w j d at k = record {
@@ -383,21 +455,22 @@ module _ (z : Layout) (words : List ℕ) (seats : ℕ → SeatView) (r : Ring z 
       others_pop more u behind st before =
           stands_on m r.head r.tail live (r.head + 1) r.tail ((r.head + 1) + length ys) r.log r.log r.cells r.cells u more
           (λ q x theirs lies. (theirs, lies))
-          (λ w knows e. absurd (omega (arith, behind, e)))
+          (λ i w knows e. absurd (omega (arith, behind, e)))
           st before
 
   -- the queue is shut
-  pub shuts : (n : ℕ) (v : SeatView) → r.shut ≡ false → IsPermitted (permits_of z) (Shut n)
+  pub shuts : (n : ℕ) (v : SeatView) → Rests (seats n).stage → r.shut ≡ false → IsPermitted (permits_of z) (Shut n)
       → SeatOk z r.head r.tail live r.log r.cells (r.history ++ Shut n ∷ []) n v
       → v.credits ≡ (seats n).credits
       → Ring z (set words 0 (tail_word r.tail true)) (put seats n v)
-  shuts n v unshut permit ok same =
+  shuts n v rested unshut permit ok same =
       let w : ℕ = tail_word r.tail true in
       let wide = r.wide in
       let totals : total (length z.roles) (put seats n v) ≡ total (length z.roles) seats = total_same (length z.roles) seats (put seats n v)
       (λ k. put_each seats n k v (λ q (u : SeatView). u.credits ≡ (seats q).credits) same (λ _. refl)) in
       let a = r.roomy in
       let b = r.limited in
+      let s = r.spare in
       record {
         planned = r.planned;
         head = r.head;
@@ -416,6 +489,7 @@ module _ (z : Layout) (words : List ℕ) (seats : ℕ → SeatView) (r : Ring z 
         permitted = all_one (IsPermitted (permits_of z)) r.history (Shut n) r.permitted permit;
         counted = r.counted;
         unshut = λ e. r.unshut unshut;
+        spare = omega (arith, s, totals);
         roomy = omega (arith, a, totals);
         limited = omega (arith, b, totals);
         logged = r.logged;
@@ -427,6 +501,7 @@ module _ (z : Layout) (words : List ℕ) (seats : ℕ → SeatView) (r : Ring z 
           last = k.last;
           lies = subst (λ (y : ℕ). Lies m r.head r.log y (r.cells j).place (r.cells j).filler) (sym (slot_after_tail w j)) k.lies;
         };
+        filling = λ j lt. filler_on (length z.roles) r.log r.log seats (put seats n v) (r.cells j).place (r.cells j).filler refl (λ k. claimed_beside seats n v rested k (r.cells j).place (r.log (r.cells j).place)) (r.filling j lt);
         each_seat = λ k. put_each seats n k v (SeatOk z r.head r.tail live r.log r.cells (r.history ++ Shut n ∷ [])) ok
             (λ ne. seat_stays z r.head r.tail live r.head r.tail live r.log r.log r.cells r.cells r.history (Shut n ∷ []) k (seats k)
             (omega arith) (own_other k r.history (Shut n) (λ e. ne (sym e))) (λ s. s) (r.each_seat k));

@@ -1,27 +1,28 @@
 -- Each line, on the ring's words.
-use Rattle.std.proofs.Common.{inr, inl, ◌≡◌, ◌≢◌, ℕ, ◌+◌, ◌-◌, ◌/◌, ◌%◌, ◌^◌, ◌<◌, ◌≤◌, Bool, true, false, List, [], ◌∷◌, ◌++◌, length, get_or, Option, Some, None, slice_get, mod-lt, sym, refl, ap, ◌∙◌, subst, arith}
+use Rattle.std.proofs.Common.{⊎_elim, zero, suc, inr, inl, ◌≡◌, ◌≢◌, ℕ, ◌+◌, ◌-◌, ◌/◌, ◌%◌, ◌^◌, ◌<◌, ◌≤◌, Bool, true, false, List, [], ◌∷◌, ◌++◌, length, get_or, Option, Some, None, slice_get, mod-lt, sym, refl, ap, ◌∙◌, subst, arith}
 use Rattle.std.specs.List.{All, count_by}
 use mathlib.Core.Logic.{dite}
 use native.Mathlib.Decide.{dec_le}
-use Rattle.std.proofs.lemmas.Option.{none-some}
+use Rattle.std.proofs.lemmas.Option.{none-some, same_Some}
 use Rattle.std.proofs.Math.Nat.{add-mod_right}
 use Rattle.history.specs.declared.operations.Taken.{Taken}
-use Rattle.history.specs.Entries.{Leads, LeadsTo, LeadsToShut, is_push}
+use Rattle.history.specs.Entries.{Leads, LeadsTo, LeadsToShut, is_push, is_pop}
 use Rattle.history.specs.Seats.{IsNoted}
 use Rattle.history.specs.Answers.{SeesMore, FoundShut, FoundEmpty, FoundShutEmpty}
 use Rattle.history.proofs.Sums.{pushes-Leads}
-use Rattle.ring_queue.specs.Words.{face, parity, slot_word, tail_word}
+use Rattle.ring_queue.specs.Words.{payload, face, parity, slot_word, tail_word}
 use Rattle.ring_queue.specs.Plans.{Layout, reserve}
 use Rattle.ring_queue.specs.Seeing.{Stage, rests, saw, found, SeatView, known_by}
-use Rattle.ring_queue.specs.Rule.{Lies, CellOk, SeatOk, Stands, total, put, Ring}
-use Rattle.ring_queue.specs.Steps.{IsAhead, TailFound, HeadFound, MarkFound, FrontFound, EndFound}
+use Rattle.ring_queue.specs.Rule.{IsFilled, Lies, CellOk, SeatOk, Stands, total, put, Ring}
+use Rattle.ring_queue.specs.Steps.{Rests, IsAhead, LeadsToSome, HoldsSoMany, TailFound, TailSeen, HeadFound, MarkFound, FrontFound, NextFound, EndFound}
 use Rattle.ring_queue.proofs.Numbers.{same_place, parity_turns, face_parity, face_payload, payload_none}
 use Rattle.ring_queue.proofs.Puts.{same_or_not, put_each, total_bound}
 use Rattle.ring_queue.proofs.Histories.{noted_empty, noted_shut, all_one_note}
 use Rattle.ring_queue.proofs.Keeps.{some_slot, watches, head_below, cell}
+use Rattle.ring_queue.proofs.Puts.{got_snoc}
 use Rattle.ring_queue.proofs.Tables.{it_fits, notes_stay, saw_all, looks, learns}
 
-module _ (z : Layout) (words : List ℕ) (seats : ℕ → SeatView) (r : Ring z words seats) (v : SeatView) (is : seats v.number ≡ v) where
+module _ (z : Layout) (words : List ℕ) (seats : ℕ → SeatView) (r : Ring z words seats) (v : SeatView) (is : seats v.number ≡ v) (rested : Rests v.stage) where
   abbrev live : ℕ
   live = r.head + length r.values
 
@@ -60,7 +61,7 @@ module _ (z : Layout) (words : List ℕ) (seats : ℕ → SeatView) (r : Ring z 
   seen_ring : (st : Stage) (head : ℕ) (notes : List ℕ) → All (IsNoted r.history) notes → head ≤ r.head → Stands z.slots r.head r.tail live r.log r.cells (after st head v.credits notes) st
       → Ring z words (put seats v.number (after st head v.credits notes))
   seen_ring st head notes noted behind stands =
-      looks z words seats r v is (after st head v.credits notes) refl (saw_all z words seats r v is (after st head v.credits notes) refl refl refl noted behind fit.few stands)
+      looks z words seats r v is (after st head v.credits notes) rested refl (saw_all z words seats r v is (after st head v.credits notes) refl refl refl noted behind fit.few stands)
 
   -- Tail lies below the bit of the shut
   tail_small : r.tail < 2 ^ 62
@@ -129,9 +130,10 @@ module _ (z : Layout) (words : List ℕ) (seats : ℕ → SeatView) (r : Ring z 
           (λ k. put_each seats v.number k v' (λ q (u : SeatView). u.credits ≤ z.credits) (omega arith) (λ _. (r.each_seat k).few)) in
           let behind = fit.behind in
           let lt : n < v.head + z.most = omega (arith, apart) in
-          let ring : Ring z words (put seats v.number v') = watches z words seats r v.number v'
+          let none = r.unshut e in
+          let ring : Ring z words (put seats v.number v') = watches z words seats r v.number v' (subst (λ (u : SeatView). Rests u.stage) (sym is) rested)
           (saw_all z words seats r v is v' refl refl refl notes_stay' fit.behind (omega arith) tt)
-          (omega (arith, few, behind, lt, is_n)) (omega (arith, few, within, is_n)) in (
+          (omega (arith, few, behind, lt, is_n)) (omega (arith, few, within, is_n)) (omega (arith, few, none)) in (
             v',
             refl,
             ring,
@@ -163,6 +165,38 @@ module _ (z : Layout) (words : List ℕ) (seats : ℕ → SeatView) (r : Ring z 
             },
           ))
 
+  -- so many places were taken as there were slots and pops
+  head_counts : get_or words 16 0 ≡ z.slots + count_by is_pop r.history
+  head_counts = r.head_is ∙ r.taken
+
+  -- a front place with the mark is behind all values, and the queue is shut
+  marked_end : r.head < r.tail → r.log r.head ≡ None → Leads r.history true []
+  marked_end lt none = go r.values r.shut refl refl
+    where
+      go : (vs : List Taken) (b : Bool) → r.values ≡ vs → r.shut ≡ b → Leads r.history true []
+      go (y ∷ ys) b e f = absurd (none-some y (sym none ∙ (ap r.log (let q : r.head ≡ r.head + 0 = omega arith in q) ∙ r.logged 0 y (ap (λ vs. slice_get vs 0) e))))
+      go [] true e f = subst (λ (vs : List Taken). Leads r.history true vs) e (subst (λ b. Leads r.history b r.values) f r.leads)
+      go [] false e f = absurd (let c = r.counted in let u = r.unshut f in let l : length r.values ≡ 0 = ap length e in omega (arith, c, u, l, lt))
+
+  -- a front place without the mark has a value
+  valued_front : r.head < r.tail → 0 < payload (r.log r.head) → LeadsToSome r.history
+  valued_front lt some = go r.values refl
+    where
+      go : (vs : List Taken) → r.values ≡ vs → LeadsToSome r.history
+      go (y ∷ ys) e = record { shut = r.shut; front = y; others = ys; leads = subst (Leads r.history r.shut) e r.leads }
+      go [] e = absurd (let l : length r.values ≡ 0 = ap length e in let q : payload (r.log r.head) ≡ 0 = ap payload (r.marked r.head (omega (arith, l)) lt) in omega (arith, q, some))
+
+  -- the first word that a seat found at Head
+  at_head : (w : ℕ) → ((i u : ℕ) → slice_get (w ∷ []) i ≡ Some u → IsFilled z.slots r.tail r.log r.cells (r.head + i) u) → IsFilled z.slots r.tail r.log r.cells r.head w
+  at_head w knows = subst (λ p. IsFilled z.slots r.tail r.log r.cells p w) (let e : r.head + 0 ≡ r.head = omega arith in e) (knows 0 w refl)
+
+  -- what the word at Head's place tells, where this is filled
+  front_tells : (w : ℕ) → (r.head < r.tail) × (w ≡ face z.slots r.head (r.log r.head)) × (r.cells (r.head % z.slots) ≡ cell r.head None)
+      → (w % 2 ^ 63 ≡ 0 → Leads r.history true []) × (0 < w % 2 ^ 63 → LeadsToSome r.history)
+  front_tells w knows =
+      let says : w % 2 ^ 63 ≡ payload (r.log r.head) = ap (λ x. x % 2 ^ 63) knows.1 ∙ face_payload z.slots r.head (r.log r.head) (r.fits r.head) in
+      (λ mark. marked_end knows.0 (payload_none (r.log r.head) (r.fits r.head) (sym says ∙ mark)), λ some. valued_front knows.0 (omega (arith, says, some)))
+
   -- Head is read
   pub reads_head : Line (HeadFound z) (get_or words 16 0)
   reads_head =
@@ -178,6 +212,8 @@ module _ (z : Layout) (words : List ℕ) (seats : ℕ → SeatView) (r : Ring z 
           credits = refl;
           rests = tt;
           sees = sees rests r.head v.credits;
+          counts = head_counts;
+          front = λ w at same. front_tells w (at_head w (subst (Stands z.slots r.head r.tail live r.log r.cells v) at fit.stage (sym same ∙ r.head_is)));
           full = λ t at le.
               let far : t ≤ live = subst (Stands z.slots r.head r.tail live r.log r.cells v) at fit.stage in
               let e = r.head_is in
@@ -185,23 +221,13 @@ module _ (z : Layout) (words : List ℕ) (seats : ℕ → SeatView) (r : Ring z 
         },
       )
 
-  -- a front place with the mark is behind all values, and the queue is shut
-  marked_end : r.head < r.tail → r.log r.head ≡ None → Leads r.history true []
-  marked_end lt none = go r.values r.shut refl refl
-    where
-      go : (vs : List Taken) (b : Bool) → r.values ≡ vs → r.shut ≡ b → Leads r.history true []
-      go (y ∷ ys) b e f = absurd (none-some y (sym none ∙ (ap r.log (let q : r.head ≡ r.head + 0 = omega arith in q) ∙ r.logged 0 y (ap (λ vs. slice_get vs 0) e))))
-      go [] true e f = subst (λ (vs : List Taken). Leads r.history true vs) e (subst (λ b. Leads r.history b r.values) f r.leads)
-      go [] false e f = absurd (let c = r.counted in let u = r.unshut f in let l : length r.values ≡ 0 = ap length e in omega (arith, c, u, l, lt))
-
   -- Head is read by a pop that found the mark
-  pub checks_mark : (w : ℕ) → v.stage ≡ found w → w % 2 ^ 63 ≡ 0 → Line (MarkFound z) (get_or words 16 0)
+  pub checks_mark : (w : ℕ) → v.stage ≡ found (w ∷ []) → w % 2 ^ 63 ≡ 0 → Line (MarkFound z) (get_or words 16 0)
   checks_mark w at mark = same_or_not (get_or words 16 0) v.head
       (λ same.
       let here : v.head ≡ r.head = sym same ∙ r.head_is in
-      let knows : (r.head < r.tail) × (w ≡ face z.slots r.head (r.log r.head)) × (r.cells (r.head % z.slots) ≡ cell r.head None) = subst (Stands z.slots r.head r.tail live r.log r.cells v) at fit.stage here in
-      let none : r.log r.head ≡ None = payload_none (r.log r.head) (r.fits r.head) (sym (face_payload z.slots r.head (r.log r.head) (r.fits r.head)) ∙ (ap (λ x. x % 2 ^ 63) (sym knows.1) ∙ mark)) in
-      let ends : Leads r.history true [] = marked_end knows.0 none in
+      let knows : IsFilled z.slots r.tail r.log r.cells r.head w = at_head w (subst (Stands z.slots r.head r.tail live r.log r.cells v) at fit.stage here) in
+      let ends : Leads r.history true [] = (front_tells w knows).0 mark in
       let v' : SeatView = after rests r.head v.credits one_note in
       let ring : Ring z words (put seats v.number v') = seen_ring rests r.head one_note (notes_and_shut ([], ends)) (omega arith) tt in (
         v',
@@ -235,14 +261,12 @@ module _ (z : Layout) (words : List ℕ) (seats : ℕ → SeatView) (r : Ring z 
   abbrev front_word : ℕ → ℕ
   front_word h = get_or words (slot_word (h % z.slots)) 0
 
-  abbrev IsFront : ℕ → Type 0
-  IsFront w = (r.head < r.tail) × (w ≡ face z.slots r.head (r.log r.head)) × (r.cells (r.head % z.slots) ≡ cell r.head None)
-
-  -- where the word of Head's slot has the parity of Head's lap, Head's place is filled, and this is its word
-  front_filled : front_word r.head / 2 ^ 63 ≡ parity z.slots r.head → IsFront (front_word r.head)
-  front_filled same =
-      let ok : CellOk z.slots r.head r.tail r.log words (r.head % z.slots) (r.cells (r.head % z.slots)) = r.each_cell (r.head % z.slots) (mod-lt r.head (some_slot z words seats r)) in
-      go (r.cells (r.head % z.slots)).place (r.cells (r.head % z.slots)).filler refl ok.slot ok.claimed ok.last ok.lies
+  -- where the word of a slot has the parity of a place's lap that isn't below Head, nor a lap above it, the place is filled, and this is
+  -- its word
+  place_filled : (q : ℕ) → r.head ≤ q → q < r.head + z.slots → front_word q / 2 ^ 63 ≡ parity z.slots q → IsFilled z.slots r.tail r.log r.cells q (front_word q)
+  place_filled q low high same =
+      let ok : CellOk z.slots r.head r.tail r.log words (q % z.slots) (r.cells (q % z.slots)) = r.each_cell (q % z.slots) (mod-lt q (some_slot z words seats r)) in
+      go (r.cells (q % z.slots)).place (r.cells (q % z.slots)).filler refl ok.slot ok.claimed ok.last ok.lies
     where
       room : r.tail ≤ r.head + z.slots
       room = let a = r.roomy in let b = r.planned in let c = b.room in omega (arith, a, c)
@@ -250,29 +274,40 @@ module _ (z : Layout) (words : List ℕ) (seats : ℕ → SeatView) (r : Ring z 
       pos : 0 < z.slots
       pos = some_slot z words seats r
 
-      go : (p : ℕ) (f : Option ℕ) → r.cells (r.head % z.slots) ≡ cell p f → p % z.slots ≡ r.head % z.slots → p < r.tail → r.tail ≤ p + z.slots → Lies z.slots r.head r.log (front_word r.head) p f → IsFront (front_word r.head)
-      go p None is slot lt last lies = dite (dec_le r.tail r.head)
+      go : (p : ℕ) (f : Option ℕ) → r.cells (q % z.slots) ≡ cell p f → p % z.slots ≡ q % z.slots → p < r.tail → r.tail ≤ p + z.slots → Lies z.slots r.head r.log (front_word q) p f → IsFilled z.slots r.tail r.log r.cells q (front_word q)
+      go p None is slot lt last lies = dite (dec_le r.tail q)
           (λ none.
-          let back : r.head ≡ p + z.slots = same_place z.slots r.head (p + z.slots) pos (sym (add-mod_right p z.slots ∙ slot)) (omega (arith, last, none, pos)) (omega (arith, lt, head_below z words seats r, none)) in
-          absurd (parity_turns z.slots r.head pos (omega (arith, back))
-          (ap (parity z.slots) (let e : r.head - z.slots ≡ p = omega (arith, back) in e) ∙ (sym (face_parity z.slots p (r.log p) (r.fits p)) ∙ (ap (λ x. x / 2 ^ 63) (sym lies) ∙ same)))))
+          let back : q ≡ p + z.slots = same_place z.slots q (p + z.slots) pos (sym (add-mod_right p z.slots ∙ slot)) (omega (arith, high, last, head_below z words seats r)) (omega (arith, lt, none)) in
+          absurd (parity_turns z.slots q pos (omega (arith, back))
+          (ap (parity z.slots) (let e : q - z.slots ≡ p = omega (arith, back) in e) ∙ (sym (face_parity z.slots p (r.log p) (r.fits p)) ∙ (ap (λ x. x / 2 ^ 63) (sym lies) ∙ same)))))
           (λ some.
-          let here : p ≡ r.head = same_place z.slots p r.head pos slot (omega (arith, lt, room)) (omega (arith, last, some)) in
-          (omega (arith, some), lies ∙ ap (λ q. face z.slots q (r.log q)) here, is ∙ ap (λ q. cell q None) here))
+          let here : p ≡ q = same_place z.slots p q pos slot (omega (arith, lt, room, low)) (omega (arith, last, some)) in
+          (omega (arith, some), lies ∙ ap (λ x. face z.slots x (r.log x)) here, is ∙ ap (λ x. cell x None) here))
       go p (Some j) is slot lt last lies =
           let le = lies.2 in
-          let here : p ≡ r.head = same_place z.slots p r.head pos slot (omega (arith, lt, room)) (omega (arith, le, pos)) in
+          let here : p ≡ q = same_place z.slots p q pos slot (omega (arith, lt, room, low)) (omega (arith, le, high)) in
           absurd (parity_turns z.slots p pos lies.1
           (sym (face_parity z.slots (p - z.slots) (r.log (p - z.slots)) (r.fits (p - z.slots))) ∙ (ap (λ x. x / 2 ^ 63) (sym lies.0) ∙ (same ∙ ap (parity z.slots) (sym here)))))
+
+  one_found : v.head ≡ r.head → front_word v.head / 2 ^ 63 ≡ parity z.slots v.head → (i u : ℕ) → slice_get (front_word v.head ∷ []) i ≡ Some u → IsFilled z.slots r.tail r.log r.cells (r.head + i) u
+  one_found here same i u at =
+      let t = one_at i u at in
+      let zero_is = t.0 in
+      let pos = some_slot z words seats r in
+      let e : v.head ≡ r.head + i = omega (arith, here, zero_is) in
+      subst (λ (y : ℕ × ℕ). IsFilled z.slots r.tail r.log r.cells y.0 y.1) (λ k. (e k, t.1 k)) (place_filled v.head (omega (arith, here)) (omega (arith, here, pos)) same)
+    where
+      one_at : (i u : ℕ) → slice_get (front_word v.head ∷ []) i ≡ Some u → (i ≡ 0) × (front_word v.head ≡ u)
+      one_at zero u at = (refl, same_Some (front_word v.head) u at)
+      one_at (suc i) u at = absurd (none-some u at)
 
   -- the word at the place of the seat's head is read
   pub reads_front : Line (FrontFound z) (front_word v.head)
   reads_front = same_or_not (front_word v.head / 2 ^ 63) (parity z.slots v.head)
       (λ same.
       let w : ℕ = front_word v.head in
-      let v' : SeatView = after (found w) v.head v.credits v.notes in
-      let ring : Ring z words (put seats v.number v') = seen_ring (found w) v.head v.notes notes_stay' fit.behind
-      (λ here. subst (λ q. front_word q / 2 ^ 63 ≡ parity z.slots q → IsFront (front_word q)) (sym here) front_filled same) in (
+      let v' : SeatView = after (found (w ∷ [])) v.head v.credits v.notes in
+      let ring : Ring z words (put seats v.number v') = seen_ring (found (w ∷ [])) v.head v.notes notes_stay' fit.behind (λ here. one_found here same) in (
         v',
         refl,
         ring,
@@ -281,8 +316,9 @@ module _ (z : Layout) (words : List ℕ) (seats : ℕ → SeatView) (r : Ring z 
           head = refl;
           credits = refl;
           rests = tt;
-          sees = sees (found w) v.head v.credits;
+          sees = sees (found (w ∷ [])) v.head v.credits;
           filled = λ _. refl;
+          late = λ ne. absurd (ne same);
         },
       ))
       (λ apart.
@@ -298,6 +334,7 @@ module _ (z : Layout) (words : List ℕ) (seats : ℕ → SeatView) (r : Ring z 
           rests = tt;
           sees = sees rests v.head v.credits;
           filled = λ e. absurd (apart e);
+          late = λ ne. record { words = words; seats = seats; ring = r; history = refl; word = ne };
         },
       ))
 
@@ -382,3 +419,83 @@ module _ (z : Layout) (words : List ℕ) (seats : ℕ → SeatView) (r : Ring z 
           let counted = r.counted in
           let counts = tail_counts f in
           onward apart (λ e. omega (arith, e, is_n, small)) (inl (omega (arith, apart, is_n, behind, counted, counts))))
+
+  -- what Tail tells of how many values there are
+  holds_so_many : HoldsSoMany z n r.history
+  holds_so_many =
+      let counted = r.counted in
+      let taken = r.taken in
+      let spare = r.spare in
+      let small = tail_small in
+      let all : r.tail ≡ ((z.slots + count_by is_pop r.history) + length r.values) + r.voids = omega (arith, counted, taken) in
+      record {
+        shut = r.shut;
+        values = r.values;
+        voids = r.voids;
+        leads = r.leads;
+        counted = r.tail_is ∙ ap (λ t. tail_word t r.shut) all;
+        below = omega (arith, all, small);
+        unshut = r.unshut;
+        few = omega (arith, spare);
+      }
+
+  -- Tail is read by a seat that looks how many values there are
+  pub sees_tail : Line (TailSeen z) (get_or words 0 0)
+  sees_tail =
+      let v' : SeatView = after rests v.head v.credits v.notes in
+      let ring : Ring z words (put seats v.number v') = seen_ring rests v.head v.notes notes_stay' fit.behind tt in (
+        v',
+        refl,
+        ring,
+        record { learns = learns z words seats v v' refl ring; head = refl; credits = refl; rests = tt; sees = sees rests v.head v.credits; holds = holds_so_many },
+      )
+
+  -- the word at the place behind those that the seat found is read
+  pub reads_next : (ws : List ℕ) → v.stage ≡ found ws → length ws < z.slots → Line (NextFound z ws) (front_word (v.head + length ws))
+  reads_next ws at few = same_or_not (front_word (v.head + length ws) / 2 ^ 63) (parity z.slots (v.head + length ws))
+      (λ same. same_or_not (front_word (v.head + length ws) % 2 ^ 63) 0
+      (λ none. stays (λ _ some. absurd (omega (arith, none, some))))
+      (λ some.
+      let w : ℕ = front_word (v.head + length ws) in
+      let v' : SeatView = after (found (ws ++ w ∷ [])) v.head v.credits v.notes in
+      let ring : Ring z words (put seats v.number v') = seen_ring (found (ws ++ w ∷ [])) v.head v.notes notes_stay' fit.behind
+      (λ here i u got. ⊎_elim
+      (λ (old : slice_get ws i ≡ Some u). subst (Stands z.slots r.head r.tail live r.log r.cells v) at fit.stage here i u old)
+      (λ (new : (i ≡ length ws) × (w ≡ u)).
+      let e : v.head + length ws ≡ r.head + i = (let is = new.0 in omega (arith, here, is)) in
+      subst (λ (y : ℕ × ℕ). IsFilled z.slots r.tail r.log r.cells y.0 y.1) (λ k. (e k, new.1 k)) (place_filled (v.head + length ws) (omega (arith, here)) (omega (arith, here, few)) same))
+      (got_snoc ws w u i got)) in (
+        v',
+        refl,
+        ring,
+        record {
+          learns = learns z words seats v v' refl ring;
+          head = refl;
+          credits = refl;
+          rests = tt;
+          sees = sees (found (ws ++ w ∷ [])) v.head v.credits;
+          valued = λ _ _. refl;
+          late = λ ne. absurd (ne same);
+          mark = λ none. absurd (some none);
+        },
+      )))
+      (λ apart. stays (λ e _. absurd (apart e)))
+    where
+      stays : (front_word (v.head + length ws) / 2 ^ 63 ≡ parity z.slots (v.head + length ws) → 0 < front_word (v.head + length ws) % 2 ^ 63 → found ws ≡ found (ws ++ front_word (v.head + length ws) ∷ [])) → Line (NextFound z ws) (front_word (v.head + length ws))
+      stays valued =
+          let v' : SeatView = after (found ws) v.head v.credits v.notes in
+          let ring : Ring z words (put seats v.number v') = seen_ring (found ws) v.head v.notes notes_stay' fit.behind (subst (Stands z.slots r.head r.tail live r.log r.cells v) at fit.stage) in (
+            v',
+            refl,
+            ring,
+            record {
+              learns = learns z words seats v v' refl ring;
+              head = refl;
+              credits = refl;
+              rests = tt;
+              sees = sees (found ws) v.head v.credits;
+              valued = valued;
+              late = λ _. refl;
+              mark = λ _. refl;
+            },
+          )

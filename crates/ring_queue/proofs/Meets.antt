@@ -8,7 +8,7 @@ use Rattle.atomic_table.proofs.Lists.{at_set, set_else, set_again}
 use Rattle.history.specs.Answers.{SeesMore}
 use Rattle.ring_queue.specs.Plans.{Layout}
 use Rattle.ring_queue.specs.Seeing.{Stage, rests, saw, claimed, found, SeatView, View, keeper, seated, paired, spent, members, knows, knows_second, known_by, both_of, first_of, second_of}
-use Rattle.ring_queue.specs.Rule.{Stands, SeatOk, total, put, Ring, Holds}
+use Rattle.ring_queue.specs.Rule.{HasClaimed, Stands, SeatOk, total, put, Ring, Holds}
 use Rattle.ring_queue.specs.Meeting.{learned, Met}
 use Rattle.ring_queue.proofs.Keeps.{renewed}
 use Rattle.ring_queue.proofs.Puts.{put_here, put_else, put_each, total_same}
@@ -16,7 +16,7 @@ use Rattle.ring_queue.proofs.Tables.{one_of, it_fits, it_is_sound, notes_stay, s
 use Rattle.ring_queue.proofs.Deals.{at_end}
 
 -- the views change, and each seat that they speak of keeps its place in `own`
-views_now : (z : Layout) (s : State ℕ View) (h : Holds z s) (views : List View) (own : ℕ → ℕ × ℕ)
+pub views_now : (z : Layout) (s : State ℕ View) (h : Holds z s) (views : List View) (own : ℕ → ℕ × ℕ)
     → ((j i : ℕ) (u : View) (o : SeatView) → get_elem? views j ≡ some u → get_elem? (members u) i ≡ some o → (h.seats o.number ≡ o) × (own o.number ≡ (j, i)) × (o.number < h.dealt))
     → ((j m n : ℕ) → get_elem? views j ≡ some (keeper m n) → (j ≡ h.home) × (n ≡ h.dealt) × (m ≡ z.slots))
     → Holds z record { words = s.words; homes = s.homes; views = views }
@@ -36,7 +36,7 @@ two_of : (v w o : SeatView) (i : ℕ) → get_elem? (v ∷ w ∷ []) i ≡ some 
 two_of v w o zero e = inl (refl, some-injective v o e)
 two_of v w o (suc i) e = let t = one_of w o i e in inr (ap suc t.0, t.1)
 
-no_one : {X : Type 0} (o : SeatView) (i : ℕ) → get_elem? {A = SeatView} [] i ≡ some o → X
+pub no_one : {X : Type 0} (o : SeatView) (i : ℕ) → get_elem? {A = SeatView} [] i ≡ some o → X
 no_one o i e = absurd (some-ne-none o (sym e))
 
 -- two seats become one
@@ -121,8 +121,8 @@ module _ (z : Layout) (words : List ℕ) (seats : ℕ → SeatView) (r : Ring z 
       go : (st : Stage) → Stands z.slots r.head r.tail (r.head + length r.values) r.log r.cells u st → Stands z.slots r.head r.tail (r.head + length r.values) r.log r.cells (learned r.history u) st
       go rests k = k
       go (saw t) k = k
-      go (claimed p x) k = k
-      go (found q) k = k
+      go (claimed p xs) k = k
+      go (found ws) k = k
 
   -- the ring when both have seen the whole history
   both_look : Ring z words both
@@ -133,10 +133,14 @@ module _ (z : Layout) (words : List ℕ) (seats : ℕ → SeatView) (r : Ring z 
       (λ _. put_each seats v.number k (learned r.history v) (λ q (u : SeatView). u.credits ≡ (seats q).credits) (ap (λ (u : SeatView). u.credits) (sym is_v)) (λ _. refl))) in
       let a = r.roomy in
       let b = r.limited in
+      let s = r.spare in
       renewed z words seats r both
       (λ k. put_each (put seats v.number (learned r.history v)) w.number k (learned r.history w) (SeatOk z r.head r.tail (r.head + length r.values) r.log r.cells r.history) (fits_still w is_w)
       (λ _. put_each seats v.number k (learned r.history v) (SeatOk z r.head r.tail (r.head + length r.values) r.log r.cells r.history) (fits_still v is_v) (λ _. r.each_seat k)))
-      (omega (arith, a, totals)) (omega (arith, b, totals))
+      (omega (arith, a, totals)) (omega (arith, b, totals)) (omega (arith, s, totals))
+      (λ k p x e. put_each (put seats v.number (learned r.history v)) w.number k (learned r.history w) (λ q (u : SeatView). HasClaimed (seats q).stage p x → HasClaimed u.stage p x)
+      (subst (λ (u : SeatView). HasClaimed u.stage p x) is_w)
+      (λ _. put_each seats v.number k (learned r.history v) (λ q (u : SeatView). HasClaimed (seats q).stage p x → HasClaimed u.stage p x) (subst (λ (u : SeatView). HasClaimed u.stage p x) is_v) (λ _ h. h)) e)
 
   first_is : both v.number ≡ learned r.history v
   first_is = put_else (put seats v.number (learned r.history v)) w.number v.number (learned r.history w) (λ e. differ (sym e)) ∙ put_here seats v.number v.number (learned r.history v) refl

@@ -1,5 +1,5 @@
 -- One of many changed, and what the seats have in reserve together.
-use Rattle.std.proofs.Common.{◌≡◌, ◌≢◌, ℕ, zero, suc, ◌+◌, ◌*◌, ◌<◌, ◌≤◌, if◌then◌else◌, sym, refl, ap, subst, arith, ne_eqb}
+use Rattle.std.proofs.Common.{◌⊎◌, ⊎_elim, inl, inr, List, [], ◌∷◌, ◌++◌, length, set, Some, slice_get, ◌∙◌, ◌≡◌, ◌≢◌, ℕ, zero, suc, ◌+◌, ◌*◌, ◌<◌, ◌≤◌, if◌then◌else◌, sym, refl, ap, subst, arith, ne_eqb}
 use Rattle.std.proofs.lemmas.Bool.{eq-eqb}
 use mathlib.Core.Logic.{dite}
 use native.Mathlib.Decide.{dec_le}
@@ -62,3 +62,24 @@ total_bound (suc k) most seats few =
 pub total_same : (count : ℕ) (seats others : ℕ → SeatView) → ((n : ℕ) → (others n).credits ≡ (seats n).credits) → total count others ≡ total count seats
 total_same zero seats others same = refl
 total_same (suc k) seats others same = let ih : total k others ≡ total k seats = total_same k seats others same in let e = same (suc k) in omega (arith, ih, e)
+
+-- the elements of a list with one more
+pub got_snoc : {A : Type 0} (xs : List A) (a b : A) (k : ℕ) → slice_get (xs ++ a ∷ []) k ≡ Some b → (slice_get xs k ≡ Some b) ⊎ ((k ≡ length xs) × (a ≡ b))
+got_snoc [] a b zero e = inr (refl, cc)
+got_snoc [] a b (suc k) e = cc
+got_snoc (x ∷ xs) a b zero e = inl e
+got_snoc (x ∷ xs) a b (suc k) e = ⊎_elim (λ t. inl t) (λ (t : (k ≡ length xs) × (a ≡ b)). inr (ap suc t.0, t.1)) (got_snoc xs a b k e)
+
+-- a word written twice, and one of many changed twice
+pub set_twice : (words : List ℕ) (i a b : ℕ) → set (set words i a) i b ≡ set words i b
+set_twice [] i a b = refl
+set_twice (w ∷ ws) zero a b = refl
+set_twice (w ∷ ws) (suc i) a b = ap (λ us. w ∷ us) (set_twice ws i a b)
+
+pub put_twice : {X : Type 0} (f : ℕ → X) (n : ℕ) (x y : X) → put (put f n x) n y ≡ put f n y
+put_twice f n x y i k = at k i
+  where
+    at : (k : ℕ) → put (put f n x) n y k ≡ put f n y k
+    at k = same_or_not k n
+        (λ e. put_here (put f n x) n k y e ∙ sym (put_here f n k y e))
+        (λ ne. put_else (put f n x) n k y ne ∙ (put_else f n k x ne ∙ sym (put_else f n k y ne)))

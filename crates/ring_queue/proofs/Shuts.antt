@@ -11,7 +11,7 @@ use Rattle.ring_queue.specs.Words.{tail_word}
 use Rattle.ring_queue.specs.Plans.{Layout, permits_of}
 use Rattle.ring_queue.specs.Seeing.{Stage, rests, SeatView, known_by}
 use Rattle.ring_queue.specs.Rule.{Cell, Log, SeatOk, Stands, put, Ring}
-use Rattle.ring_queue.specs.Steps.{ShutMade}
+use Rattle.ring_queue.specs.Steps.{Rests, ShutMade}
 use Rattle.ring_queue.proofs.Histories.{own_one, all_noted_more, noted_shut, all_one_note}
 use Rattle.ring_queue.proofs.Keeps.{shuts}
 use Rattle.ring_queue.proofs.Tables.{it_fits, notes_stay, saw_all, looks, learns}
@@ -72,8 +72,8 @@ module _ (z : Layout) (words : List ℕ) (seats : ℕ → SeatView) (r : Ring z 
   Line fact number words' = (v' : SeatView) × (v'.number ≡ v.number) × Ring z words' (put seats v.number v') × fact v number v'
 
   -- the queue is shut
-  pub shuts_queue : IsPermitted (permits_of z) (Shut v.number) → Line (ShutMade z) n (set words 0 (bit_or n (2 ^ 62)))
-  shuts_queue permit = go r.shut refl
+  pub shuts_queue : Rests v.stage → IsPermitted (permits_of z) (Shut v.number) → Line (ShutMade z) n (set words 0 (bit_or n (2 ^ 62)))
+  shuts_queue rested permit = go r.shut refl
     where
       go : (b : Bool) → r.shut ≡ b → Line (ShutMade z) n (set words 0 (bit_or n (2 ^ 62)))
       go true f =
@@ -82,7 +82,7 @@ module _ (z : Layout) (words : List ℕ) (seats : ℕ → SeatView) (r : Ring z 
           let ok = saw_all z words seats r v is v' refl refl refl (notes_and_shut (shut_leads f)) fit.behind fit.few tt in
           let same : bit_or n (2 ^ 62) ≡ n = ap (λ x. bit_or x (2 ^ 62)) is_n ∙ (bit_stays r.tail tail_small ∙ sym is_n) in
           let ring : Ring z (set words 0 (bit_or n (2 ^ 62))) (put seats v.number v') =
-          subst (λ ws. Ring z ws (put seats v.number v')) (sym (ap (set words 0) same ∙ set-get_or words 0 0)) (looks z words seats r v is v' refl ok) in (
+          subst (λ ws. Ring z ws (put seats v.number v')) (sym (ap (set words 0) same ∙ set-get_or words 0 0)) (looks z words seats r v is v' rested refl ok) in (
             v',
             refl,
             ring,
@@ -99,7 +99,7 @@ module _ (z : Layout) (words : List ℕ) (seats : ℕ → SeatView) (r : Ring z 
           let is_n : n ≡ r.tail = r.tail_is ∙ ap (tail_word r.tail) f in
           let e : Entry = Shut v.number in
           let v' : SeatView = after rests v.head v.credits e in
-          let ring : Ring z (set words 0 (tail_word r.tail true)) (put seats v.number v') = shuts z words seats r v.number v' f permit
+          let ring : Ring z (set words 0 (tail_word r.tail true)) (put seats v.number v') = shuts z words seats r v.number v' (subst (λ (u : SeatView). Rests u.stage) (sym is) rested) f permit
           (acted r.head r.tail live r.log r.cells rests v.head v.credits e refl fit.behind fit.few tt) (ap (λ (u : SeatView). u.credits) (sym is)) in
           let ring' : Ring z (set words 0 (bit_or n (2 ^ 62))) (put seats v.number v') =
           subst (λ w. Ring z (set words 0 w) (put seats v.number v')) (sym (ap (λ x. bit_or x (2 ^ 62)) is_n ∙ bit_set r.tail tail_small)) ring in (

@@ -10,7 +10,7 @@ use Rattle.history.specs.Seats.{IsSound, IsNoted, IsPermitted}
 use Rattle.ring_queue.specs.Plans.{Layout, permits_of}
 use Rattle.ring_queue.specs.Seeing.{SeatView, View, keeper, seated, members, known_by}
 use Rattle.ring_queue.specs.Rule.{Stands, SeatOk, total, put, Ring, Holds}
-use Rattle.ring_queue.specs.Steps.{Learns}
+use Rattle.ring_queue.specs.Steps.{Rests, Learns}
 use Rattle.ring_queue.proofs.Puts.{put_here, put_else, put_each, total_same}
 use Rattle.ring_queue.proofs.Histories.{all_first, legal_first, all_noted_more}
 use Rattle.ring_queue.proofs.Keeps.{watches}
@@ -90,14 +90,15 @@ module _ (z : Layout) (words : List ℕ) (seats : ℕ → SeatView) (r : Ring z 
         stage = stands;
       }
 
-  -- a step that changes no word and no count of places in reserve keeps the ring
-  pub looks : (v' : SeatView) → v'.credits ≡ v.credits → SeatOk z r.head r.tail (r.head + length r.values) r.log r.cells r.history v.number v' → Ring z words (put seats v.number v')
-  looks v' same ok =
+  -- a step that changes no word and no count of places in reserve, of a seat that has claimed no place, keeps the ring
+  pub looks : (v' : SeatView) → Rests v.stage → v'.credits ≡ v.credits → SeatOk z r.head r.tail (r.head + length r.values) r.log r.cells r.history v.number v' → Ring z words (put seats v.number v')
+  looks v' rested same ok =
       let totals : total (length z.roles) (put seats v.number v') ≡ total (length z.roles) seats = total_same (length z.roles) seats (put seats v.number v')
       (λ k. put_each seats v.number k v' (λ q (u : SeatView). u.credits ≡ (seats q).credits) (same ∙ ap (λ (u : SeatView). u.credits) (sym is)) (λ _. refl)) in
       let a = r.roomy in
       let b = r.limited in
-      watches z words seats r v.number v' ok (omega (arith, a, totals)) (omega (arith, b, totals))
+      let s = r.spare in
+      watches z words seats r v.number v' (subst (λ (u : SeatView). Rests u.stage) (sym is) rested) ok (omega (arith, a, totals)) (omega (arith, b, totals)) (omega (arith, s, totals))
 
 -- no head of a seat is beyond the limit
 pub head_below : (z : Layout) (words : List ℕ) (seats : ℕ → SeatView) → Ring z words seats → (n : ℕ) → (seats n).head < 2 ^ 62

@@ -1,137 +1,214 @@
--- A pop takes the front.
-use Rattle.std.proofs.Common.{◌≡◌, ◌≢◌, ℕ, ◌+◌, ◌/◌, ◌%◌, ◌^◌, ◌<◌, ◌≤◌, true, nat_eq, List, [], ◌∷◌, ◌++◌, length, get_or, set, Some, None, slice_get, sym, refl, ap, ◌∙◌, subst, arith, append-nil, ne_eqb}
-use Rattle.std.specs.List.{All}
+-- A pop takes the front, or many at one step.
+use Rattle.std.proofs.Common.{◌≡◌, ◌≢◌, ℕ, suc, ◌+◌, ◌/◌, ◌%◌, ◌^◌, ◌<◌, ◌≤◌, nat_eq, List, [], ◌∷◌, ◌++◌, length, get_or, set, Some, None, slice_get, sym, refl, ap, ◌∙◌, subst, arith, append-nil, append_assoc, ne_eqb}
 use prog.Atomic.{either}
 use Rattle.std.proofs.lemmas.Bool.{eq-eqb}
 use Rattle.std.proofs.lemmas.List.{set-get_or}
+use Rattle.std.proofs.lemmas.List.Elements.{All-head, All-tail}
 use Rattle.std.proofs.lemmas.Option.{none-some, same_Some}
 use Rattle.history.specs.declared.operations.Entry.{Entry}
 use Rattle.history.specs.declared.operations.Entry.TheVariants.{Pop}
 use Rattle.history.specs.declared.operations.Taken.{Taken}
-use Rattle.history.specs.Entries.{Leads, LeadsToShut, seat_of, own_entries}
-use Rattle.history.specs.Seats.{IsNoted, IsPermitted}
-use Rattle.history.specs.Answers.{Adds, FoundShut}
+use Rattle.history.specs.Entries.{own_entries}
+use Rattle.history.specs.Seats.{IsPermitted}
 use Rattle.ring_queue.specs.Words.{payload, face}
 use Rattle.ring_queue.specs.Plans.{Layout, permits_of}
-use Rattle.ring_queue.specs.Seeing.{Stage, rests, found, SeatView, known_by}
-use Rattle.ring_queue.specs.Rule.{Cell, Log, SeatOk, Stands, put, Ring}
-use Rattle.ring_queue.specs.Steps.{taken_in, FrontTaken}
+use Rattle.ring_queue.specs.Seeing.{rests, found, SeatView}
+use Rattle.ring_queue.specs.Rule.{IsFilled, SeatOk, Stands, put, Ring}
+use Rattle.ring_queue.specs.Steps.{Rests, taken_in, AreValues, pops, FrontsTaken}
 use Rattle.ring_queue.proofs.Numbers.{face_payload, payload_some}
-use Rattle.ring_queue.proofs.Puts.{same_or_not}
-use Rattle.ring_queue.proofs.Histories.{own_one, all_noted_more, noted_shut, all_one_note}
-use Rattle.ring_queue.proofs.Keeps.{cell, pops}
+use Rattle.ring_queue.proofs.Puts.{same_or_not, put_here, set_twice, put_twice}
+use Rattle.ring_queue.proofs.Histories.{own_one, all_noted_more}
+use Rattle.ring_queue.proofs.Keeps as keeps
 use Rattle.ring_queue.proofs.Tables.{it_fits, notes_stay, saw_all, looks, learns}
 
-module _ (z : Layout) (words : List ℕ) (seats : ℕ → SeatView) (r : Ring z words seats) (v : SeatView) (is : seats v.number ≡ v) where
-  abbrev pub live : ℕ
-  live = r.head + length r.values
+-- a ring with a seat that is about to pop the values of these words, which are those of the places from Head on
+record Popping (z : Layout) (words : List ℕ) (seats : ℕ → SeatView) (ws : List ℕ) : Type 0 where
+  ring : Ring z words seats
+  seat : SeatView
+  its : seats seat.number ≡ seat
+  rested : Rests seat.stage
+  filled : (i w : ℕ) → slice_get ws i ≡ Some w → IsFilled z.slots ring.tail ring.log ring.cells (ring.head + i) w
 
-  abbrev pub fit : SeatOk z r.head r.tail live r.log r.cells r.history v.number v
+-- what the seat is after the first of them
+abbrev after_one : {z : Layout} {words : List ℕ} {seats : ℕ → SeatView} {ws : List ℕ} → Popping z words seats ws → ℕ → SeatView
+after_one c w = record {
+  number = c.seat.number;
+  stage = rests;
+  head = c.ring.head + 1;
+  credits = c.seat.credits;
+  seen = c.ring.history ++ Pop c.seat.number (taken_in w) ∷ [];
+  mine = c.seat.mine ++ Pop c.seat.number (taken_in w) ∷ [];
+  notes = c.seat.notes;
+}
+
+module _ (z : Layout) (words : List ℕ) (seats : ℕ → SeatView) (w : ℕ) (ws : List ℕ) (c : Popping z words seats (w ∷ ws)) where
+  abbrev r : Ring z words seats
+  r = c.ring
+
+  abbrev v : SeatView
+  v = c.seat
+
+  abbrev its_fit : SeatOk z r.head r.tail (r.head + length r.values) r.log r.cells r.history v.number v
+  its_fit = it_fits z words seats r v c.its
+
+  knows : IsFilled z.slots r.tail r.log r.cells r.head w
+  knows = subst (λ p. IsFilled z.slots r.tail r.log r.cells p w) (let e : r.head + 0 ≡ r.head = omega arith in e) (c.filled 0 w refl)
+
+  says : w % 2 ^ 63 ≡ payload (r.log r.head)
+  says = ap (λ x. x % 2 ^ 63) knows.1 ∙ face_payload z.slots r.head (r.log r.head) (r.fits r.head)
+
+  its_value : 0 < w % 2 ^ 63 → r.log r.head ≡ Some (taken_in w)
+  its_value some = payload_some (r.log r.head) (r.fits r.head) (let q = says in omega (arith, q, some)) ∙ ap (λ x. Some (record { from = x / 2 ^ 48; body = x % 2 ^ 48 })) (sym says)
+
+  abbrev One : Type 0
+  One = (r' : Ring z (set words 16 (r.head + 1)) (put seats v.number (after_one c w))) × (r'.head ≡ r.head + 1) × (r'.tail ≡ r.tail) × (r'.history ≡ r.history ++ Pop v.number (taken_in w) ∷ []) × (r'.cells ≡ r.cells) × (r'.log ≡ r.log)
+
+  -- the first value is popped
+  pop_one : 0 < w % 2 ^ 63 → IsPermitted (permits_of z) (Pop v.number (taken_in w)) → One
+  pop_one some permit = take r.values refl
+    where
+      take : (vs : List Taken) → r.values ≡ vs → One
+      take [] none = absurd (none-some (taken_in w) (sym (r.marked r.head (let l : length r.values ≡ 0 = ap length none in omega (arith, l)) knows.0) ∙ its_value some))
+      take (y ∷ ys) first =
+          let front : y ≡ taken_in w = same_Some y (taken_in w) (sym (r.logged 0 y (ap (λ vs. slice_get vs 0) first)) ∙ (ap r.log (let q : r.head + 0 ≡ r.head = omega arith in q) ∙ its_value some)) in
+          let e : Entry = Pop v.number (taken_in w) in
+          let own : own_entries v.number (r.history ++ e ∷ []) ≡ v.mine ++ e ∷ [] = own_one v.number r.history e refl ∙ ap (λ es. es ++ e ∷ []) its_fit.own in
+          keeps.pops z words seats r v.number (after_one c w) (subst (λ (u : SeatView). Rests u.stage) (sym c.its) c.rested) (taken_in w) ys (first ∙ ap (λ x. x ∷ ys) front) knows.2 permit
+          (record {
+            number = refl;
+            behind = omega arith;
+            few = its_fit.few;
+            rest = [];
+            begins = sym (append-nil (r.history ++ e ∷ []));
+            own = own;
+            known = own;
+            noted = all_noted_more r.history (e ∷ []) v.notes (notes_stay z words seats r v c.its);
+            stage = tt;
+          })
+          (ap (λ (u : SeatView). u.credits) (sym c.its))
+
+-- what the ring and the seat are after all these pops
+record Pops (z : Layout) (words : List ℕ) (seats : ℕ → SeatView) (ws : List ℕ) (c : Popping z words seats ws) : Type 0 where
+  seat : SeatView
+  number : seat.number ≡ c.seat.number
+  stage : seat.stage ≡ rests
+  head : seat.head ≡ c.ring.head + length ws
+  credits : seat.credits ≡ c.seat.credits
+  seen : seat.seen ≡ c.ring.history ++ pops c.seat.number ws
+  mine : seat.mine ≡ c.seat.mine ++ pops c.seat.number ws
+  notes : seat.notes ≡ c.seat.notes
+  ring : Ring z (set words 16 (c.ring.head + length ws)) (put seats c.seat.number seat)
+
+abbrev IsValue : ℕ → Type 0
+IsValue w = 0 < w % 2 ^ 63
+
+pop_all : (ws : List ℕ) (w : ℕ) (z : Layout) (words : List ℕ) (seats : ℕ → SeatView) (c : Popping z words seats (w ∷ ws)) → AreValues (w ∷ ws) → ((value : Taken) → IsPermitted (permits_of z) (Pop c.seat.number value)) → Pops z words seats (w ∷ ws) c
+pop_all [] w z words seats c some permit =
+    let one = pop_one z words seats w [] c (All-head IsValue w [] some) (permit (taken_in w)) in
+    record { seat = after_one c w; number = refl; stage = refl; head = refl; credits = refl; seen = refl; mine = refl; notes = refl; ring = one.0 }
+pop_all (w' ∷ ws) w z words seats c some permit =
+    let one = pop_one z words seats w (w' ∷ ws) c (All-head IsValue w (w' ∷ ws) some) (permit (taken_in w)) in
+    let n : ℕ = c.seat.number in
+    let v1 : SeatView = after_one c w in
+    let head1 = one.1 in
+    let many : length (w ∷ w' ∷ ws) ≡ length (w' ∷ ws) + 1 = omega arith in
+    let c1 : Popping z (set words 16 (c.ring.head + 1)) (put seats n v1) (w' ∷ ws) = record {
+      ring = one.0;
+      seat = v1;
+      its = put_here seats n n v1 refl;
+      rested = tt;
+      filled = λ i u got.
+          let old = c.filled (suc i) u got in
+          let e : one.0.head + i ≡ c.ring.head + suc i = omega (arith, head1) in
+          let lt = old.0 in
+          let tail1 = one.2 in (
+            omega (arith, lt, e, tail1),
+            old.1 ∙ (λ k. face z.slots (sym e k) (sym one.5 k (sym e k))),
+            ap (λ q. one.0.cells (q % z.slots)) e ∙ (ap (λ cs. cs ((c.ring.head + suc i) % z.slots)) one.4 ∙ (old.2 ∙ ap (λ q. record { place = q; filler = None }) (sym e))),
+          );
+    } in
+    let more = pop_all ws w' z (set words 16 (c.ring.head + 1)) (put seats n v1) c1 (All-tail IsValue w (w' ∷ ws) some) permit in
+    let head = more.head in
+    record {
+      seat = more.seat;
+      number = more.number;
+      stage = more.stage;
+      head = omega (arith, head, head1, many);
+      credits = more.credits;
+      seen = more.seen ∙ (ap (λ h. h ++ pops n (w' ∷ ws)) one.3 ∙ append_assoc c.ring.history (Pop n (taken_in w) ∷ []) (pops n (w' ∷ ws)));
+      mine = more.mine ∙ append_assoc c.seat.mine (Pop n (taken_in w) ∷ []) (pops n (w' ∷ ws));
+      notes = more.notes;
+      ring = subst (λ (y : List ℕ × (ℕ → SeatView)). Ring z y.0 y.1)
+          (λ i. ((set_twice words 16 (c.ring.head + 1) (one.0.head + length (w' ∷ ws)) ∙ ap (set words 16) (let q : one.0.head + length (w' ∷ ws) ≡ c.ring.head + length (w ∷ w' ∷ ws) = omega (arith, head1, many) in q)) i, put_twice seats n v1 more.seat i))
+          more.ring;
+    }
+
+module _ (z : Layout) (words : List ℕ) (seats : ℕ → SeatView) (r : Ring z words seats) (v : SeatView) (is : seats v.number ≡ v) where
+  abbrev fit : SeatOk z r.head r.tail (r.head + length r.values) r.log r.cells r.history v.number v
   fit = it_fits z words seats r v is
 
-  -- what the seat knows when it has seen the whole history, to which it added an entry
-  abbrev pub after : Stage → (head credits : ℕ) → Entry → SeatView
-  after st head credits e = record { number = v.number; stage = st; head = head; credits = credits; seen = r.history ++ e ∷ []; mine = v.mine ++ e ∷ []; notes = v.notes }
+  abbrev h : ℕ
+  h = get_or words 16 0
 
-  pub adds : (st : Stage) (head credits : ℕ) (e : Entry) → Adds (known_by v) e (known_by (after st head credits e))
-  adds st head credits e = record { number = refl; between = fit.rest; seen = ap (λ h. h ++ e ∷ []) fit.begins; mine = refl; notes = refl }
-
-  -- it fits, whatever the ring became
-  pub acted : (head' tail' live' : ℕ) (log' : Log) (cells' : ℕ → Cell) (st : Stage) (head credits : ℕ) (e : Entry) → seat_of e ≡ v.number → head ≤ head' → credits ≤ z.credits
-      → Stands z.slots head' tail' live' log' cells' (after st head credits e) st
-      → SeatOk z head' tail' live' log' cells' (r.history ++ e ∷ []) v.number (after st head credits e)
-  acted head' tail' live' log' cells' st head credits e its behind few stands =
-      let own : own_entries v.number (r.history ++ e ∷ []) ≡ v.mine ++ e ∷ [] = own_one v.number r.history e its ∙ ap (λ es. es ++ e ∷ []) fit.own in
-      record {
-        number = refl;
-        behind = behind;
-        few = few;
-        rest = [];
-        begins = sym (append-nil (r.history ++ e ∷ []));
-        own = own;
-        known = own;
-        noted = all_noted_more r.history (e ∷ []) v.notes (notes_stay z words seats r v is);
-        stage = stands;
-      }
-
-  -- what the seat knows when it has seen the whole history, which leads to a queue that is shut
-  abbrev pub noting : Stage → (head credits : ℕ) → SeatView
-  noting st head credits = record { number = v.number; stage = st; head = head; credits = credits; seen = r.history; mine = v.mine; notes = v.notes ++ length r.history ∷ [] }
-
-  pub finds_shut : (st : Stage) (head credits : ℕ) → LeadsToShut r.history → FoundShut (known_by v) (known_by (noting st head credits))
-  finds_shut st head credits h = record { number = refl; between = fit.rest; seen = fit.begins; shut = h; mine = refl; notes = refl }
-
-  pub notes_and_shut : LeadsToShut r.history → All (IsNoted r.history) (v.notes ++ length r.history ∷ [])
-  notes_and_shut h = all_one_note (IsNoted r.history) v.notes (length r.history) (notes_stay z words seats r v is) (noted_shut r.history h)
-
-  pub shut_leads : r.shut ≡ true → LeadsToShut r.history
-  shut_leads e = (r.values, subst (λ b. Leads r.history b r.values) e r.leads)
-
-  abbrev pub n : ℕ
-  n = get_or words 0 0
-
-  pub tail_small : r.tail < 2 ^ 62
-  tail_small = let a = r.limited in let b = r.planned in let c = b.limited in omega (arith, a, c)
-
-  abbrev pub Line : (SeatView → ℕ → SeatView → Type 0) → ℕ → List ℕ → Type 0
-  Line fact number words' = (v' : SeatView) × (v'.number ≡ v.number) × Ring z words' (put seats v.number v') × fact v number v'
+  -- the word of Head after an exchange that asks for so many places
+  abbrev raised : ℕ → ℕ
+  raised count = either (nat_eq (get_or words 16 0) v.head) (v.head + count) (get_or words 16 0)
 
   -- Head is raised, or another raised it
-  pub takes_front : (w : ℕ) → v.stage ≡ found w → 0 < w % 2 ^ 63 → IsPermitted (permits_of z) (Pop v.number (taken_in w))
-      → Line (FrontTaken z w) (get_or words 16 0) (set words 16 (either (nat_eq (get_or words 16 0) v.head) (v.head + 1) (get_or words 16 0)))
-  takes_front w at some permit = same_or_not h v.head won lost
+  takes_fronts : (w : ℕ) (ws : List ℕ) → v.stage ≡ found (w ∷ ws) → AreValues (w ∷ ws) → ((value : Taken) → IsPermitted (permits_of z) (Pop v.number value))
+      → (v' : SeatView) × (v'.number ≡ v.number) × Ring z (set words 16 (raised (length (w ∷ ws)))) (put seats v.number v') × FrontsTaken z (w ∷ ws) v h v'
+  takes_fronts w ws at some permit = same_or_not h v.head won lost
     where
-      h : ℕ
-      h = get_or words 16 0
+      count : ℕ
+      count = length (w ∷ ws)
 
-      won : get_or words 16 0 ≡ v.head → Line (FrontTaken z w) (get_or words 16 0) (set words 16 (either (nat_eq (get_or words 16 0) v.head) (v.head + 1) (get_or words 16 0)))
+      rested : Rests v.stage
+      rested = subst Rests (sym at) tt
+
+      won : h ≡ v.head → (v' : SeatView) × (v'.number ≡ v.number) × Ring z (set words 16 (raised count)) (put seats v.number v') × FrontsTaken z (w ∷ ws) v h v'
       won same =
           let here : v.head ≡ r.head = sym same ∙ r.head_is in
-          let knows : (r.head < r.tail) × (w ≡ face z.slots r.head (r.log r.head)) × (r.cells (r.head % z.slots) ≡ cell r.head None) = subst (Stands z.slots r.head r.tail live r.log r.cells v) at fit.stage here in
-          let says : w % 2 ^ 63 ≡ payload (r.log r.head) = ap (λ x. x % 2 ^ 63) knows.1 ∙ face_payload z.slots r.head (r.log r.head) (r.fits r.head) in
-          let it : r.log r.head ≡ Some (taken_in w) = payload_some (r.log r.head) (r.fits r.head) (omega (arith, says, some)) ∙ ap (λ x. Some (record { from = x / 2 ^ 48; body = x % 2 ^ 48 })) (sym says) in
-          take r.values refl it here knows
-        where
-          take : (vs : List Taken) → r.values ≡ vs → r.log r.head ≡ Some (taken_in w) → v.head ≡ r.head → (r.head < r.tail) × (w ≡ face z.slots r.head (r.log r.head)) × (r.cells (r.head % z.slots) ≡ cell r.head None)
-              → Line (FrontTaken z w) (get_or words 16 0) (set words 16 (either (nat_eq (get_or words 16 0) v.head) (v.head + 1) (get_or words 16 0)))
-          take [] none it here knows = absurd (none-some (taken_in w) (sym (r.marked r.head (let l : length r.values ≡ 0 = ap length none in omega (arith, l)) knows.0) ∙ it))
-          take (y ∷ ys) first it here knows =
-              let front : y ≡ taken_in w = same_Some y (taken_in w) (sym (r.logged 0 y (ap (λ vs. slice_get vs 0) first)) ∙ (ap r.log (let q : r.head + 0 ≡ r.head = omega arith in q) ∙ it)) in
-              let first' : r.values ≡ taken_in w ∷ ys = first ∙ ap (λ x. x ∷ ys) front in
-              let e : Entry = Pop v.number (taken_in w) in
-              let v' : SeatView = after rests (get_or words 16 0 + 1) v.credits e in
-              let ring : Ring z (set words 16 (r.head + 1)) (put seats v.number v') = pops z words seats r v.number v' (taken_in w) ys first' knows.2 permit
-              (acted (r.head + 1) r.tail ((r.head + 1) + length ys) r.log r.cells rests (get_or words 16 0 + 1) v.credits e refl (let q = r.head_is in omega (arith, q)) fit.few tt) (ap (λ (u : SeatView). u.credits) (sym is)) in
-              let word : r.head + 1 ≡ either (nat_eq (get_or words 16 0) v.head) (v.head + 1) (get_or words 16 0) = ap (λ x. x + 1) (sym here) ∙ ap (λ b. either b (v.head + 1) (get_or words 16 0)) (sym (eq-eqb (get_or words 16 0) v.head same)) in
-              let ring' = subst (λ x. Ring z (set words 16 x) (put seats v.number v')) word ring in (
-                v',
-                refl,
-                ring',
-                record {
-                  learns = learns z (set words 16 (either (nat_eq (get_or words 16 0) v.head) (v.head + 1) (get_or words 16 0))) seats v v' refl ring';
-                  credits = refl;
-                  rests = tt;
-                  won = λ _. (refl, adds rests (get_or words 16 0 + 1) v.credits e);
-                  lost = λ ne. absurd (ne same);
-                },
-              )
+          let c : Popping z words seats (w ∷ ws) = record { ring = r; seat = v; its = is; rested = rested; filled = subst (Stands z.slots r.head r.tail (r.head + length r.values) r.log r.cells v) at fit.stage here } in
+          let all = pop_all ws w z words seats c some permit in
+          let word : r.head + count ≡ raised count = ap (λ x. x + count) (sym here) ∙ ap (λ b. either b (v.head + count) h) (sym (eq-eqb h v.head same)) in
+          let ring' = subst (λ x. Ring z (set words 16 x) (put seats v.number all.seat)) word all.ring in (
+            all.seat,
+            all.number,
+            ring',
+            record {
+              learns = learns z (set words 16 (raised count)) seats v all.seat all.number ring';
+              credits = all.credits;
+              rests = subst Rests (sym all.stage) tt;
+              won = λ _. (
+                all.head ∙ ap (λ x. x + count) (sym r.head_is),
+                record { number = all.number; between = fit.rest; seen = all.seen ∙ ap (λ es. es ++ pops v.number (w ∷ ws)) fit.begins; mine = all.mine; notes = all.notes },
+              );
+              lost = λ ne. absurd (ne same);
+            },
+          )
 
-      lost : get_or words 16 0 ≢ v.head → Line (FrontTaken z w) (get_or words 16 0) (set words 16 (either (nat_eq (get_or words 16 0) v.head) (v.head + 1) (get_or words 16 0)))
+      lost : h ≢ v.head → (v' : SeatView) × (v'.number ≡ v.number) × Ring z (set words 16 (raised count)) (put seats v.number v') × FrontsTaken z (w ∷ ws) v h v'
       lost ne =
-          let v' : SeatView = record { number = v.number; stage = rests; head = get_or words 16 0; credits = v.credits; seen = r.history; mine = v.mine; notes = v.notes } in
+          let v' : SeatView = record { number = v.number; stage = rests; head = h; credits = v.credits; seen = r.history; mine = v.mine; notes = v.notes } in
           let ok = saw_all z words seats r v is v' refl refl refl (notes_stay z words seats r v is) (let q = r.head_is in omega (arith, q)) fit.few tt in
-          let ring : Ring z (set words 16 (either (nat_eq (get_or words 16 0) v.head) (v.head + 1) (get_or words 16 0))) (put seats v.number v') =
-          subst (λ ws. Ring z ws (put seats v.number v')) (sym (ap (λ b. set words 16 (either b (v.head + 1) (get_or words 16 0))) (ne_eqb (get_or words 16 0) v.head ne) ∙ set-get_or words 16 0)) (looks z words seats r v is v' refl ok) in
+          let ring : Ring z (set words 16 (raised count)) (put seats v.number v') =
+          subst (λ us. Ring z us (put seats v.number v')) (sym (ap (λ b. set words 16 (either b (v.head + count) h)) (ne_eqb h v.head ne) ∙ set-get_or words 16 0)) (looks z words seats r v is v' rested refl ok) in
           let b = fit.behind in
           let q = r.head_is in (
             v',
             refl,
             ring,
             record {
-              learns = learns z (set words 16 (either (nat_eq (get_or words 16 0) v.head) (v.head + 1) (get_or words 16 0))) seats v v' refl ring;
+              learns = learns z (set words 16 (raised count)) seats v v' refl ring;
               credits = refl;
               rests = tt;
               won = λ e. absurd (ne e);
               lost = λ _. (refl, omega (arith, b, q), record { number = refl; between = fit.rest; seen = fit.begins; mine = refl; notes = refl });
             },
           )
+
+  -- the same of any words, one at least
+  pub takes_words : (taken : List ℕ) → 1 ≤ length taken → v.stage ≡ found taken → AreValues taken → ((value : Taken) → IsPermitted (permits_of z) (Pop v.number value))
+      → (v' : SeatView) × (v'.number ≡ v.number) × Ring z (set words 16 (raised (length taken))) (put seats v.number v') × FrontsTaken z taken v h v'
+  takes_words [] some at values permit = absurd (let f : 1 ≤ 0 = some in omega (arith, f))
+  takes_words (w ∷ ws) some at values permit = takes_fronts w ws at values permit

@@ -1,7 +1,7 @@
 -- What a turn tells after others that only saw more.
-use Rattle.std.proofs.Common.{◌≡◌, ◌∷◌, ◌++◌, List, [], ℕ, ◌+◌, ◌<◌, ◌≤◌, Some, None, Result, OnOk, IfErr, sym, ap, ◌∙◌, subst, append_assoc, append-nil, ⊎_elim, inl, inr, arith}
+use Rattle.std.proofs.Common.{◌≡◌, ◌∷◌, ◌++◌, List, [], ℕ, ◌+◌, ◌<◌, ◌≤◌, take, Some, None, Result, OnOk, IfErr, IfOk, sym, ap, ◌∙◌, subst, append_assoc, append-nil, ⊎_elim, inl, inr, arith}
 use Rattle.std.specs.List.{count_by}
-use Rattle.std.proofs.lemmas.Result.{on_ok_weaker, IfErr-weaker}
+use Rattle.std.proofs.lemmas.Result.{on_ok_weaker, IfErr-weaker, IfOk-weaker}
 use Rattle.history.specs.declared.operations.Entry.{Entry}
 use Rattle.history.specs.declared.operations.Entry.TheVariants.{Push}
 use Rattle.history.specs.declared.refusals.Refusal.{Refusal}
@@ -15,7 +15,7 @@ use Rattle.ring_queue.specs.declared.popping.Turn.TheVariants.{Took, Empty, Clos
 use Rattle.ring_queue.specs.declared.seats.Seat.{Seat}
 use Rattle.ring_queue.specs.declared.looks.EndLook.TheVariants.{Ahead}
 use Rattle.ring_queue.specs.Plans.{Layout}
-use Rattle.ring_queue.specs.Steps.{IsAhead, WasAhead}
+use Rattle.ring_queue.specs.Steps.{IsAhead, WasAhead, PushedAll, pushes}
 use Rattle.ring_queue.specs.Seats.{known_of, view}
 use Rattle.ring_queue.specs.Looks.{EndSays}
 use Rattle.ring_queue.specs.Turns.{HaveFailed, TurnSays}
@@ -96,3 +96,17 @@ done_after a b c d body r f g = on_ok_weaker r (pushed_after a c d body (sees_th
 -- and of its refusal
 pub refused_after : {T : Type 0} (a b c d : Known) (r : Result T Refusal) → SeesMore a b → SeesMore b c → IfErr r (λ refusal. (refusal ≡ IsClosed) × FoundShut c d) → IfErr r (λ refusal. PushRefused a refusal d)
 refused_after a b c d r f g = IfErr-weaker r _ _ (λ refusal h. subst (λ x. PushRefused a x d) (sym h.0) (push_refused_then a c d IsClosed (sees_then a b c f g) h.1))
+
+-- pushes that are done after their seat saw more
+pushed_all_after : (a b c : Known) (bodies : List ℕ) → SeesMore a b → PushedAll b bodies c → PushedAll a bodies c
+pushed_all_after a b c bodies f g = record {
+  number = g.number ∙ f.number;
+  between = f.between ++ g.between;
+  seen = g.seen ∙ (λ i. (f.seen i ++ g.between) ++ pushes (f.number i) bodies) ∙ ap (λ es. es ++ pushes a.number bodies) (append_assoc a.seen f.between g.between);
+  mine = g.mine ∙ (λ i. f.mine i ++ pushes (f.number i) bodies);
+  notes = g.notes ∙ f.notes;
+}
+
+-- the same of a call that may be refused, of the first of some bodies
+pub all_done_after : (a b c : Known) (bodies : List ℕ) (r : Result ℕ Refusal) → SeesMore a b → IfOk r (λ count. PushedAll b (take count bodies) c) → IfOk r (λ count. PushedAll a (take count bodies) c)
+all_done_after a b c bodies r f = IfOk-weaker r _ _ (λ count. pushed_all_after a b c (take count bodies) f)

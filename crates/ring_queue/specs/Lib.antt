@@ -6,11 +6,16 @@ pub mod Steps
 pub mod Seats
 pub mod Looks
 pub mod Turns
+pub mod Lengths
 pub mod Causes
 pub mod Meeting
 pub mod Making
 pub mod Machine
 pub mod Moments
+pub mod Many
+pub mod Batches
+pub mod Remains
+pub mod Closing
 pub mod Laid
 pub mod Queues
 pub mod OneProof

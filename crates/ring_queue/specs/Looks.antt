@@ -1,5 +1,5 @@
 -- What the lines that read answer.
-use Rattle.std.specs.Prelude.{◌≡◌, ◌+◌, ◌<◌, ◌≤◌, Bool, true, false}
+use Rattle.std.specs.Prelude.{◌≡◌, ℕ, ◌+◌, ◌%◌, ◌^◌, ◌<◌, ◌≤◌, Bool, true, false, List, [], ◌∷◌, ◌++◌, Option, Some, None}
 use Rattle.history.specs.Answers.{FoundEmpty, FoundShut, FoundShutEmpty, SeesMore}
 use Rattle.ring_queue.specs.declared.looks.TailLook.{TailLook}
 use Rattle.ring_queue.specs.declared.looks.TailLook.TheVariants.{Shut, Worn, Room, Full}
@@ -7,7 +7,7 @@ use Rattle.ring_queue.specs.declared.looks.EndLook.{EndLook}
 use Rattle.ring_queue.specs.declared.looks.EndLook.TheVariants.{Empty, Closed, Ahead}
 use Rattle.ring_queue.specs.declared.seats.Seat.{Seat}
 use Rattle.ring_queue.specs.Plans.{Layout}
-use Rattle.ring_queue.specs.Seeing.{saw}
+use Rattle.ring_queue.specs.Seeing.{Stage, saw, found}
 use Rattle.ring_queue.specs.Steps.{IsFull, IsWorn, IsAhead}
 use Rattle.ring_queue.specs.Seats.{known_of, view}
 
@@ -33,3 +33,8 @@ abbrev pub EndSays : Layout → (s t : Seat) → EndLook → Type 0
 EndSays z s t Empty = FoundEmpty (known_of s) (known_of t)
 EndSays z s t Closed = FoundShutEmpty (known_of s) (known_of t)
 EndSays z s t Ahead = SeesMore (known_of s) (known_of t) × IsAhead z (view t).seen s.head × (t.head ≡ s.head)
+
+-- what the place behind those whose words a pop has found says: its word, of a value, is found too, or nothing more is
+abbrev pub NextSays : (words : List ℕ) → Stage → Option ℕ → Type 0
+NextSays words st None = st ≡ found words
+NextSays words st (Some word) = (st ≡ found (words ++ word ∷ [])) × (0 < word % 2 ^ 63)

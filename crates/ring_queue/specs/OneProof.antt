@@ -35,8 +35,8 @@ View-set = hlevel (props, SeatView-set)
 Rests-prop : (st : Stage) → IsProp (Rests st)
 Rests-prop rests = hlevel props
 Rests-prop (saw t) = hlevel props
-Rests-prop (claimed p x) = hlevel props
-Rests-prop (found w) = hlevel props
+Rests-prop (claimed p xs) = hlevel props
+Rests-prop (found ws) = hlevel props
 
 Sits-prop : (z : Layout) (t : TableId) (s : Seat) → IsProp (Sits z t s)
 Sits-prop z t s = hlevel (props, TableId-set, View-set, Role-set, IsSound-prop)

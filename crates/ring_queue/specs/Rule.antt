@@ -1,16 +1,16 @@
 -- The rule of a ring: its words and its seats are those of a queue, which a history leads to.
-use Rattle.std.specs.Prelude.{◌≡◌, ℕ, zero, suc, ◌+◌, ◌-◌, ◌*◌, ◌%◌, ◌^◌, ◌<◌, ◌≤◌, Bool, false, if◌then◌else◌, nat_eq, List, ◌++◌, length, Option, Some, None, slice_get, slice_index_or}
+use Rattle.std.specs.Prelude.{◌≡◌, ℕ, zero, suc, ◌+◌, ◌-◌, ◌*◌, ◌%◌, ◌^◌, ◌<◌, ◌≤◌, Bool, false, if◌then◌else◌, nat_eq, List, [], ◌++◌, length, Option, Some, None, slice_get, slice_index_or}
 use Rattle.std.specs.List.{All, count_by}
 use mathlib.Core.Option.{some}
 use lib.ListN.{get_elem?}
-use Rattle.atomic_table.specs.Table.{State}
+use Rattle.atomic_table.specs.Table.{State, Me}
 use Rattle.history.specs.declared.operations.Entry.{Entry}
 use Rattle.history.specs.declared.operations.Taken.{Taken}
 use Rattle.history.specs.Entries.{own_entries, is_pop, Leads}
 use Rattle.history.specs.Seats.{IsPermitted, IsNoted}
 use Rattle.ring_queue.specs.Words.{face, slot_word, tail_word}
 use Rattle.ring_queue.specs.Plans.{Layout, IsPlanned, reserve, permits_of}
-use Rattle.ring_queue.specs.Seeing.{Stage, rests, saw, claimed, found, SeatView, View, keeper, members, new_seat}
+use Rattle.ring_queue.specs.Seeing.{Stage, rests, saw, claimed, found, SeatView, View, keeper, gathered, members, new_seat}
 
 -- the last place of a slot that was claimed, and who will fill it, if it isn't filled
 pub record Cell : Type 0 where
@@ -39,15 +39,24 @@ pub record CellOk (slots head tail : ℕ) (log : Log) (words : List ℕ) (i : �
   pub last : tail ≤ c.place + slots
   pub lies : Lies slots head log (slice_index_or words (slot_word i) 0) c.place c.filler
 
+-- a seat that stands so has claimed a place, which it will fill with this
+abbrev pub HasClaimed : Stage → (place : ℕ) → Option Taken → Type 0
+HasClaimed (claimed p xs) place x = (p ≤ place) × (slice_get xs (place - p) ≡ Some x)
+HasClaimed st place x = ⊥
+
+-- a place was claimed, and is filled with this word
+abbrev pub IsFilled : (slots tail : ℕ) → Log → (ℕ → Cell) → (place word : ℕ) → Type 0
+IsFilled slots tail log cells place word = (place < tail) × (word ≡ face slots place (log place)) × (cells (place % slots) ≡ record { place = place; filler = None })
+
 -- what a seat knows by where it stands, where so many places were claimed while the queue wasn't shut: the places that it
--- read in Tail are among those; the place that it claimed is its own to fill; and if its head is still Head, the word that it
--- found is that of Head's place, which is filled
+-- read in Tail are among those; each place that it claimed is its own to fill; and if its head is still Head, each word that it
+-- found is that of its place, which is filled
 abbrev pub Stands : (slots head tail live : ℕ) → Log → (ℕ → Cell) → SeatView → Stage → Type 0
 Stands slots head tail live log cells v rests = Unit {0}
 Stands slots head tail live log cells v (saw t) = t ≤ live
-Stands slots head tail live log cells v (claimed p x) = (cells (p % slots) ≡ record { place = p; filler = Some v.number }) × (log p ≡ x)
-Stands slots head tail live log cells v (found w) = v.head ≡ head →
-    (head < tail) × (w ≡ face slots head (log head)) × (cells (head % slots) ≡ record { place = head; filler = None })
+Stands slots head tail live log cells v (claimed p xs) = (place : ℕ) (x : Option Taken) → HasClaimed (claimed p xs) place x
+    → (cells (place % slots) ≡ record { place = place; filler = Some v.number }) × (log place ≡ x)
+Stands slots head tail live log cells v (found ws) = v.head ≡ head → (i w : ℕ) → slice_get ws i ≡ Some w → IsFilled slots tail log cells (head + i) w
 
 -- a seat fits: its head isn't above Head, what it has seen is a prefix of the history, and its own entries are just those of
 -- it, and just those that it has seen
@@ -61,6 +70,11 @@ pub record SeatOk (z : Layout) (head tail live : ℕ) (log : Log) (cells : ℕ �
   pub known : own_entries n v.seen ≡ v.mine
   pub noted : All (IsNoted v.seen) v.notes
   pub stage : Stands z.slots head tail live log cells v v.stage
+
+-- who will fill a place is one of so many seats, and stands there with the place claimed
+abbrev pub FillerStands : (count : ℕ) → Log → (ℕ → SeatView) → (place : ℕ) → (filler : Option ℕ) → Type 0
+FillerStands count log seats place None = Unit {0}
+FillerStands count log seats place (Some n) = (1 ≤ n) × (n ≤ count) × HasClaimed (seats n).stage place (log place)
 
 -- how many places the first seats have in reserve
 abbrev pub total : (count : ℕ) → (ℕ → SeatView) → ℕ
@@ -91,12 +105,14 @@ pub record Ring (z : Layout) (words : List ℕ) (seats : ℕ → SeatView) : Typ
   pub permitted : All (IsPermitted (permits_of z)) history
   pub counted : (head + length values) + voids ≡ tail
   pub unshut : shut ≡ false → voids ≡ 0
+  pub spare : voids + total (length z.roles) seats ≤ reserve z
   pub roomy : tail + total (length z.roles) seats ≤ (head + z.most) + reserve z
   pub limited : tail + total (length z.roles) seats ≤ z.limit
   pub logged : (i : ℕ) (v : Taken) → slice_get values i ≡ Some v → log (head + i) ≡ Some v
   pub marked : (p : ℕ) → head + length values ≤ p → p < tail → log p ≡ None
   pub fits : (p : ℕ) → FitsWord (log p)
   pub each_cell : (i : ℕ) → i < z.slots → CellOk z.slots head tail log words i (cells i)
+  pub filling : (i : ℕ) → i < z.slots → FillerStands (length z.roles) log seats (cells i).place (cells i).filler
   pub each_seat : (n : ℕ) → SeatOk z head tail (head + length values) log cells history n (seats n)
 
 -- the rule of the table: its words are a ring's, whose seats its views speak of, no two of one number
@@ -110,6 +126,10 @@ pub record Holds (z : Layout) (s : State ℕ View) : Type 0 where
   pub owned : (j i : ℕ) (u : View) (v : SeatView) → get_elem? s.views j ≡ some u → get_elem? (members u) i ≡ some v → (owner v.number ≡ (j, i)) × (v.number < dealt)
   pub kept : (j m n : ℕ) → get_elem? s.views j ≡ some (keeper m n) → (j ≡ home) × (n ≡ dealt) × (m ≡ z.slots)
   pub undealt : (n : ℕ) → dealt ≤ n → seats n ≡ new_seat z.slots n
+
+-- a new token gathers
+abbrev pub Opens : Me ℕ View → Type 0
+Opens me = me ≡ (gathered [], [])
 
 -- the first view deals number 1 first
 abbrev pub first_view : Layout → View

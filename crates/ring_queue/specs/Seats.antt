@@ -37,6 +37,12 @@ pub record IsReady (z : Layout) (t : TableId) (s : Seat) : Type 0 where
   pub sits : Sits z t s
   pub rests : Rests (view s).stage
 
+-- a seat stays the same one, with as many places in reserve
+pub record KeepsStored (s t : Seat) : Type 0 where
+  pub number : t.number ≡ s.number
+  pub role : t.role ≡ s.role
+  pub reserve : reserve_of t ≡ reserve_of s
+
 -- a seat is the same one by its number and its role
 pub record KeepsName (s t : Seat) : Type 0 where
   pub number : t.number ≡ s.number

@@ -1,16 +1,22 @@
 -- What a seat knows.
-use Rattle.std.specs.Prelude.{ℕ, ◌+◌, List, [], ◌∷◌, Option}
+use Rattle.std.specs.Prelude.{ℕ, ◌+◌, List, [], ◌∷◌, ◌++◌, Option}
 use Rattle.history.specs.declared.operations.Entry.{Entry}
 use Rattle.history.specs.declared.operations.Taken.{Taken}
 use Rattle.history.specs.Seats.{Known}
 
 -- where a seat stands: at rest; with Tail read, so many places, where the queue wasn't shut; with a place claimed, which it
--- will fill with this; or with the word found at the place of its head, of that lap's parity
+-- will fill with the first of these, and those behind it with the others; or with the words found at the places from its head
+-- on, each of its lap's parity
 pub data Stage : Type 0 where
   rests : Stage
   saw : ℕ → Stage
-  claimed : ℕ → Option Taken → Stage
-  found : ℕ → Stage
+  claimed : ℕ → List (Option Taken) → Stage
+  found : List ℕ → Stage
+
+-- where a seat stands that has places from one on to fill with these, or none
+abbrev pub standing : ℕ → List (Option Taken) → Stage
+standing p [] = rests
+standing p (x ∷ xs) = claimed p (x ∷ xs)
 
 -- what a seat knows: its number, where it stands, a number that Head isn't below, how many places it has in reserve, a prefix
 -- of the history, its own entries, and its notes
@@ -27,9 +33,11 @@ pub record SeatView : Type 0 where
 abbrev pub known_by : SeatView → Known
 known_by v = record { number = v.number; seen = v.seen; mine = v.mine; notes = v.notes }
 
--- the views of the table: the first one deals numbers to seats of a ring of so many slots; two seats are one while they meet; a spent one knows nothing
+-- the views of the table: the first one deals numbers to seats of a ring of so many slots; one gathers those of seats that are
+-- closed; two seats are one while they meet; a spent one knows nothing
 pub data View : Type 0 where
   keeper : (slots n : ℕ) → View
+  gathered : List SeatView → View
   seated : SeatView → View
   paired : SeatView → SeatView → View
   spent : View
@@ -37,6 +45,7 @@ pub data View : Type 0 where
 -- the seats that a view speaks of
 abbrev pub members : View → List SeatView
 members (keeper m n) = []
+members (gathered vs) = vs
 members (seated v) = v ∷ []
 members (paired v w) = v ∷ w ∷ []
 members spent = []
@@ -48,6 +57,7 @@ new_seat slots n = record { number = n; stage = rests; head = slots; credits = 0
 -- what the first seat of a view knows
 abbrev pub knows : View → SeatView
 knows (keeper m n) = new_seat 0 0
+knows (gathered vs) = new_seat 0 0
 knows (seated v) = v
 knows (paired v w) = v
 knows spent = new_seat 0 0
@@ -55,6 +65,7 @@ knows spent = new_seat 0 0
 -- what the second seat of a view knows
 abbrev pub knows_second : View → SeatView
 knows_second (keeper m n) = new_seat 0 0
+knows_second (gathered vs) = new_seat 0 0
 knows_second (seated v) = v
 knows_second (paired v w) = w
 knows_second spent = new_seat 0 0
@@ -62,6 +73,7 @@ knows_second spent = new_seat 0 0
 -- what is left after a seat was dealt
 abbrev pub dealt_left : View → View
 dealt_left (keeper m n) = keeper m (n + 1)
+dealt_left (gathered vs) = spent
 dealt_left (seated v) = spent
 dealt_left (paired v w) = spent
 dealt_left spent = spent
@@ -69,13 +81,15 @@ dealt_left spent = spent
 -- the seat that is dealt
 abbrev pub dealt_right : View → View
 dealt_right (keeper m n) = seated (new_seat m n)
+dealt_right (gathered vs) = spent
 dealt_right (seated v) = spent
 dealt_right (paired v w) = spent
 dealt_right spent = spent
 
--- two seats become one
+-- two seats become one; one that gathers takes in a seat that is closed
 abbrev pub both_of : View → View → View
 both_of (seated v) (seated w) = paired v w
+both_of (gathered vs) (seated w) = gathered (vs ++ w ∷ [])
 both_of v w = v
 
 -- the first of two seats that were one

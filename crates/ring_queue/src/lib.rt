@@ -2,9 +2,12 @@
 #![tactic(auto)]
 
 mod acts;
+mod batches;
+mod closing;
 mod dealing;
 mod fifo;
 pub mod laws;
+mod lengths;
 mod looks;
 mod making;
 mod meeting;
@@ -13,10 +16,13 @@ mod plans;
 mod popping;
 mod pushing;
 mod queue;
+mod remains;
 mod roles;
 mod seats;
 mod views;
 
+pub use batches::MOST_AT_ONCE;
+pub use lengths::{Emptiness, Len};
 pub use making::MOST_SEATS;
 pub use queue::RingQueue;
 pub use roles::Role;

@@ -1,10 +1,13 @@
 //! The lines that read.
-ghost use Rattle.std.specs.Prelude.{◌≡◌, ◌+◌, ◌%◌, ◌^◌, ◌≤◌, IfSome};
+ghost use Rattle.std.specs.Prelude.{◌≡◌, ℕ, ◌<◌, List, [], ◌∷◌, length, ◌+◌, ◌%◌, ◌^◌, ◌≤◌, IfSome, IsNone};
 ghost use Rattle.history.specs.Answers.{SeesMore};
 ghost use Rattle.ring_queue.specs.Seeing.{saw, found};
-ghost use Rattle.ring_queue.specs.Seats.{IsReady, KeepsName, known_of, view};
-ghost use Rattle.ring_queue.specs.Looks.{TailSays, HeadSays, MarkSays, EndSays};
+ghost use Rattle.ring_queue.specs.Steps.{HoldsSoMany, WasLate};
+ghost use Rattle.ring_queue.specs.Lengths.{HeadCounts};
+ghost use Rattle.ring_queue.specs.Seats.{IsReady, KeepsName, known_of, reserve_of, view};
+ghost use Rattle.ring_queue.specs.Looks.{NextSays, TailSays, HeadSays, MarkSays, EndSays};
 
+use crate::acts::PARITY;
 use crate::places::{HEAD, SHUT, SLOTS, TAIL};
 use crate::queue::RingQueue;
 use crate::seats::Seat;
@@ -41,7 +44,7 @@ impl RingQueue {
         ensures says { TailSays self.now.plan seat.old seat.new result }
     {
         let plan = self.sizes();
-        let reserve = plan.credits * plan.roles.len() as u64;
+        let reserve = self.all_reserves();
         let tail = self.table.shared.load::<Brand>(&mut seat.token, TAIL);
         if tail >= SHUT {
             TailLook::Shut
@@ -70,13 +73,28 @@ impl RingQueue {
         most <= tail.saturating_sub(head)
     }
 
-    /// A pop reads Head.
+    /// A seat that looks how many values there are reads Tail.
+    pub(crate) fn see_tail(&self, seat: &mut Seat) -> u64
+        requires { IsReady self.now.plan self.now.table.shared.table_id seat.old }
+        ensures seat { IsReady self.now.plan self.now.table.shared.table_id seat.new }
+        ensures name { KeepsName seat.old seat.new }
+        ensures sees { SeesMore (known_of seat.old) (known_of seat.new) }
+        ensures head { seat.new.head ≡ seat.old.head }
+        ensures reserve { reserve_of seat.new ≡ reserve_of seat.old }
+        ensures holds { HoldsSoMany self.now.plan result (view seat.new).seen }
+    {
+        self.table.shared.load::<Brand>(&mut seat.token, TAIL)
+    }
+
+    /// A seat reads Head.
     pub(crate) fn look_at_head(&self, seat: &mut Seat)
         requires { IsReady self.now.plan self.now.table.shared.table_id seat.old }
         ensures seat { IsReady self.now.plan self.now.table.shared.table_id seat.new }
         ensures name { KeepsName seat.old seat.new }
         ensures sees { SeesMore (known_of seat.old) (known_of seat.new) }
         ensures more { seat.old.head ≤ seat.new.head }
+        ensures counts { HeadCounts self.now.plan seat.new }
+        ensures reserve { reserve_of seat.new ≡ reserve_of seat.old }
     {
         seat.head = self.table.shared.load::<Brand>(&mut seat.token, HEAD);
     }
@@ -84,7 +102,7 @@ impl RingQueue {
     /// A pop that found the mark at its place reads Head: whether the queue is shut and empty.
     pub(crate) fn finds_closed(&self, seat: &mut Seat, word: u64) -> bool
         requires ready { IsReady self.now.plan self.now.table.shared.table_id seat.old }
-        requires found { (view seat.old).stage ≡ found word }
+        requires found { (view seat.old).stage ≡ found (word ∷ []) }
         requires mark { word % 2 ^ 63 ≡ 0 }
         ensures seat { IsReady self.now.plan self.now.table.shared.table_id seat.new }
         ensures name { KeepsName seat.old seat.new }
@@ -103,7 +121,9 @@ impl RingQueue {
         ensures name { KeepsName seat.old seat.new }
         ensures sees { SeesMore (known_of seat.old) (known_of seat.new) }
         ensures head { seat.new.head ≡ seat.old.head }
-        ensures filled { IfSome result (λ word. (view seat.new).stage ≡ found word) }
+        ensures reserve { reserve_of seat.new ≡ reserve_of seat.old }
+        ensures filled { IfSome result (λ word. (view seat.new).stage ≡ found (word ∷ [])) }
+        ensures late { IsNone result → WasLate self.now.plan (view seat.new).seen seat.new.head }
     {
         let slot = self.slot_of(seat.head);
         let word = self
@@ -111,6 +131,34 @@ impl RingQueue {
             .shared
             .load::<Brand>(&mut seat.token, SLOTS + 2 * slot);
         if word >> 63 == self.parity_of(seat.head) {
+            Some(word)
+        } else {
+            None
+        }
+    }
+
+    /// A pop that found these words, so many, at its places reads the next one, if this has a value.
+    pub(crate) fn look_next(&self, seat: &mut Seat, words: &[u64], count: u64) -> Option<u64>
+        ghost before: { List ℕ }
+        requires ready { IsReady self.now.plan self.now.table.shared.table_id seat.old }
+        requires found { (view seat.old).stage ≡ found before }
+        requires words { before ≡ words.now }
+        requires count { count ≡ length words.now }
+        requires few { count < self.now.plan.slots }
+        ensures seat { IsReady self.now.plan self.now.table.shared.table_id seat.new }
+        ensures name { KeepsName seat.old seat.new }
+        ensures sees { SeesMore (known_of seat.old) (known_of seat.new) }
+        ensures head { seat.new.head ≡ seat.old.head }
+        ensures found { NextSays words.now (view seat.new).stage result }
+    {
+        let _ = words;
+        let place = seat.head + count;
+        let slot = self.slot_of(place);
+        let word = self
+            .table
+            .shared
+            .load::<Brand>(&mut seat.token, SLOTS + 2 * slot);
+        if word >> 63 == self.parity_of(place) && word % PARITY != 0 {
             Some(word)
         } else {
             None

@@ -1,5 +1,5 @@
 //! The pop of a ring.
-ghost use Rattle.std.specs.Prelude.{◌≡◌, ◌≤◌, IfOk, IfErr, IfSome};
+ghost use Rattle.std.specs.Prelude.{[], ◌∷◌, ◌≡◌, ◌≤◌, IfOk, IfErr, IfSome};
 ghost use Rattle.history.specs.Seats.{MayPop};
 ghost use Rattle.history.specs.Answers.{PopAnswers, PopRefused as RefusedPop, SeesMore, StopsPop};
 ghost use Rattle.ring_queue.specs.Plans.{permits_of};
@@ -52,13 +52,13 @@ impl RingQueue {
 
     /// A pop reads the word at its place, and where this isn't filled once more after a pause: without it a pop chases the
     /// push that fills its place.
-    fn look_twice_at_front(&self, seat: &mut Seat) -> Option<u64>
+    pub(crate) fn look_twice_at_front(&self, seat: &mut Seat) -> Option<u64>
         requires { IsReady self.now.plan self.now.table.shared.table_id seat.old }
         ensures seat { IsReady self.now.plan self.now.table.shared.table_id seat.new }
         ensures name { KeepsName seat.old seat.new }
         ensures sees { SeesMore (known_of seat.old) (known_of seat.new) }
         ensures head { seat.new.head ≡ seat.old.head }
-        ensures filled { IfSome result (λ word. (view seat.new).stage ≡ found word) }
+        ensures filled { IfSome result (λ word. (view seat.new).stage ≡ found (word ∷ [])) }
     {
         if let Some(word) = self.look_at_front(seat) {
             return Some(word);

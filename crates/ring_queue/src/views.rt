@@ -61,7 +61,16 @@ impl Split<Knowing> for Spare {
     ghost right = { λ _. spent };
 }
 
-/// Two seats become one.
+/// A new token, which gathers those of seats that are closed.
+pub(crate) struct Open;
+
+impl Play<u8, Knowing> for Open {
+    ghost use Rattle.ring_queue.specs.Rule.{Opens};
+
+    ghost then = { λ _ _ _ me. Opens me };
+}
+
+/// Two seats become one, or a token that gathers takes in one of a seat that is closed.
 pub(crate) struct Gather;
 
 impl Join<Knowing> for Gather {

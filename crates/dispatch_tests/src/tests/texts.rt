@@ -1,9 +1,11 @@
-//! Texts of jobs that are done over both queues, from any source to any sink.
-use super::queues::KINDS;
+//! Texts of jobs that are done over each queue, from any source to any sink.
 use any_queue::{AnyQueue, AnyQueueOf};
+use either_queue::EitherQueue;
 use history::Refusal;
 use job_engine::work_text;
 use line_table::Kind;
+use queue_kinds::QueueKind;
+use ring_queue::RingQueue;
 use std::test::Fail;
 use text_io::{Script, Trouble};
 
@@ -41,16 +43,24 @@ len              2
 div              1
 ";
 
+/// Each queue that jobs go over.
+const KINDS: [QueueKind; 3] = [
+    QueueKind::Linked(Kind::TwoLock),
+    QueueKind::Linked(Kind::NonBlocking),
+    QueueKind::Ring,
+];
+
 /// The place of Head among the words of a queue.
 const HEAD: usize = 2;
 
-// Which kind of queue this is, and how many values were taken from it: the count of its Head.
-fn taken(queue: &AnyQueue) -> (Kind, Option<u64>) {
+// Which kind of queue this is, and how many values were taken from it: the count of its Head. A ring doesn't tell.
+fn taken(queue: &EitherQueue<AnyQueue, RingQueue>) -> (QueueKind, Option<u64>) {
     let (kind, head) = match queue {
-        AnyQueueOf::NonBlocking(queue) => (Kind::NonBlocking, queue.peek(HEAD)),
-        AnyQueueOf::TwoLock(queue) => (Kind::TwoLock, queue.peek(HEAD)),
+        EitherQueue::First(AnyQueueOf::NonBlocking(queue)) => (Kind::NonBlocking, queue.peek(HEAD)),
+        EitherQueue::First(AnyQueueOf::TwoLock(queue)) => (Kind::TwoLock, queue.peek(HEAD)),
+        EitherQueue::Second(_) => return (QueueKind::Ring, None),
     };
-    (kind, head.map(|word| word >> 24))
+    (QueueKind::Linked(kind), head.map(|word| word >> 24))
 }
 
 /// As many values as jobs were taken from the queue that is answered.
@@ -67,9 +77,10 @@ fn each_jobs_result_is_told_in_order(rt: HostRuntime) -> Result<(), Fail> {
                 let mut reader = Script::reader(rt.alloc(), text, piece)?;
                 let mut writer = Script::writer(rt.alloc(), 1000, piece)?;
                 let answer = work_text(&rt, rt.alloc(), &mut reader, &mut writer, 2, kind, 5);
+                let known = (kind != QueueKind::Ring).then_some(*jobs);
                 assert_eq!(rt;
                     (answer.map(|done| taken(done.queue())), writer.written()),
-                    (Ok((kind, Some(*jobs))), *told),
+                    (Ok((kind, known)), *told),
                     "{piece} of {kind:?}"
                 );
             }

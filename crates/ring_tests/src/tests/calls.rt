@@ -3,7 +3,7 @@ ghost use Rattle.std.specs.Prelude.{IfOk};
 ghost use Rattle.std.specs.List.{All};
 ghost use Rattle.ring_queue.specs.Queues.{IsQueueSeat};
 
-use history::{Body, Fifo, Refusal};
+use history::{Body, Fifo, Refusal, Taken};
 use ring_queue::{RingQueue, Role, Seat};
 use std::alloc::Global;
 use std::fmt::Debug;
@@ -26,6 +26,23 @@ pub fn push(queue: &RingQueue, seat: &mut Seat, body: u64, turns: u32) -> Result
     queue.try_push(seat, body, turns)
 }
 
+/// Pushes the first of some small bodies in one turn: how many. A seat that may not push answers `BadSize`, which no queue does.
+pub fn push_all(queue: &RingQueue, seat: &mut Seat, numbers: &[u64]) -> Result<usize, Refusal>
+    requires { IsQueueSeat queue.now seat.old }
+    ensures { IsQueueSeat queue.now seat.new }
+{
+    let zero = Body::new(0).unwrap();
+    let mut bodies = [zero; 8];
+    let count = numbers.len().min(8);
+    for i in 0..count {
+        bodies[i] = Body::new(numbers[i]).ok_or(Refusal::BadSize)?;
+    }
+    if !queue.may_push(seat) {
+        return Err(Refusal::BadSize);
+    }
+    queue.try_push_all(seat, &bodies[..count], 1)
+}
+
 /// The value at the front, as its pusher and its body. A seat that may not pop answers `BadSize`, which no queue does.
 pub fn pop(queue: &RingQueue, seat: &mut Seat, turns: u32) -> Result<Option<(u16, u64)>, Refusal>
     requires { IsQueueSeat queue.now seat.old }
@@ -36,6 +53,23 @@ pub fn pop(queue: &RingQueue, seat: &mut Seat, turns: u32) -> Result<Option<(u16
     }
     let taken = queue.try_pop(seat, turns)?;
     Ok(taken.map(|value| (value.from, value.body.number())))
+}
+
+/// Pops so many values at the most in one turn, into a list with room for them: how many. A seat that may not pop, or a list with too
+/// little room, answers `BadSize`, which no queue does.
+pub fn pop_up_to(
+    queue: &RingQueue,
+    seat: &mut Seat,
+    most: usize,
+    into: &mut Vec<Taken>,
+) -> Result<usize, Refusal>
+    requires { IsQueueSeat queue.now seat.old }
+    ensures { IsQueueSeat queue.now seat.new }
+{
+    if most == 0 || into.capacity() - into.len() < most || !queue.may_pop(seat) {
+        return Err(Refusal::BadSize);
+    }
+    queue.try_pop_up_to(seat, most, into, 1)
 }
 
 /// Shuts the queue. A seat that may not push answers `BadSize`, which no queue does.

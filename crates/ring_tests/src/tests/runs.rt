@@ -1,5 +1,5 @@
 //! Runs of a few seats, one call after another.
-use super::calls::{last, pop, push, ring, same, shut};
+use super::calls::{last, pop, pop_up_to, push, push_all, ring, same, shut};
 use history::{Fifo, Refusal, WornWord};
 use ring_queue::{RingQueue, Role};
 use std::test::Fail;
@@ -61,6 +61,15 @@ fn a_shut_stops_pushes_and_then_pops(rt: HostRuntime) -> Result<(), Fail> {
             "shut and empty",
         );
     }
+    Ok(())
+}
+
+/// A seat that pops alone pushes nothing, and one that pushes alone pops nothing.
+#[test]
+fn seats_call_by_their_roles(rt: HostRuntime) -> Result<(), Fail> {
+    let (queue, mut seats) = ring(rt.alloc(), 8, 2, &[Role::Giver, Role::Taker])?;
+    let mut taker = last(&queue, &mut seats)?;
+    let mut giver = last(&queue, &mut seats)?;
     same(
         &rt,
         push(&queue, &mut taker, 1, 1),
@@ -156,6 +165,109 @@ fn places_are_used_up(rt: HostRuntime) -> Result<(), Fail> {
         Err(Refusal::Closed),
         "and empty",
     );
+    Ok(())
+}
+
+/// A push of many pushes as many as are in reserve, in their order; behind a shut it pushes none, and leaves its places marked.
+#[test]
+fn many_are_pushed_at_one_step(rt: HostRuntime) -> Result<(), Fail> {
+    let (queue, mut seats) = ring(rt.alloc(), 8, 3, &[Role::Both])?;
+    let mut seat = last(&queue, &mut seats)?;
+    let bodies = [4, 5, 6, 7, 8];
+    same(
+        &rt,
+        push_all(&queue, &mut seat, &bodies),
+        Ok(3),
+        "the reserve",
+    );
+    same(
+        &rt,
+        push_all(&queue, &mut seat, &bodies[3..4]),
+        Ok(1),
+        "one",
+    );
+    same(&rt, queue.reserve(&seat), 2, "two are left");
+    same(
+        &rt,
+        push_all(&queue, &mut seat, &bodies[..0]),
+        Ok(0),
+        "none",
+    );
+    for body in [4, 5, 6, 7] {
+        same(&rt, pop(&queue, &mut seat, 1), Ok(Some((1, body))), "a pop");
+    }
+    same(&rt, shut(&queue, &mut seat), Ok(()), "the shut");
+    let closed = Err(Refusal::Closed);
+    same(
+        &rt,
+        push_all(&queue, &mut seat, &bodies),
+        closed,
+        "two places",
+    );
+    same(&rt, queue.reserve(&seat), 0, "both were claimed");
+    same(
+        &rt,
+        pop(&queue, &mut seat, 1),
+        Err(Refusal::Closed),
+        "empty",
+    );
+    Ok(())
+}
+
+/// A pop of many takes as many as are there, or as it is to, across the end of eight slots too, and stops at a mark.
+#[test]
+fn many_are_popped_at_one_step(rt: HostRuntime) -> Result<(), Fail> {
+    let (queue, mut seats) = ring(rt.alloc(), 4, 4, &[Role::Both])?;
+    let mut seat = last(&queue, &mut seats)?;
+    let mut values = Vec::with_capacity(rt.alloc(), 32)?;
+    same(
+        &rt,
+        pop_up_to(&queue, &mut seat, 4, &mut values),
+        Ok(0),
+        "none",
+    );
+    for _ in 0..2 {
+        same(
+            &rt,
+            push_all(&queue, &mut seat, &[4, 5, 6]),
+            Ok(3),
+            "a push",
+        );
+        same(
+            &rt,
+            pop_up_to(&queue, &mut seat, 2, &mut values),
+            Ok(2),
+            "two",
+        );
+        same(&rt, push_all(&queue, &mut seat, &[7]), Ok(1), "one more");
+        same(
+            &rt,
+            pop_up_to(&queue, &mut seat, 9, &mut values),
+            Ok(2),
+            "the rest",
+        );
+    }
+    same(&rt, push_all(&queue, &mut seat, &[8]), Ok(1), "the last");
+    same(&rt, shut(&queue, &mut seat), Ok(()), "the shut");
+    let closed = Err(Refusal::Closed);
+    same(&rt, push_all(&queue, &mut seat, &[9]), closed, "behind it");
+    same(
+        &rt,
+        pop_up_to(&queue, &mut seat, 9, &mut values),
+        Ok(1),
+        "it alone",
+    );
+    let ended = Err(Refusal::Closed);
+    same(
+        &rt,
+        pop_up_to(&queue, &mut seat, 9, &mut values),
+        ended,
+        "empty",
+    );
+    let all = [4, 5, 6, 7, 4, 5, 6, 7, 8];
+    for i in 0..all.len() {
+        same(&rt, values[i].body.number(), all[i], "their order");
+    }
     Ok(())
 }
 

@@ -15,12 +15,15 @@ returns c =
     let to_is : rule_of c.help-3.result ≡ to = ap rule_of c.help-3.ensures ∙ c.number_option-to.ensures.rule in
     let actor_is : rule_of c.help-4.result ≡ actor = ap rule_of c.help-4.ensures ∙ c.number_option-actor.ensures.rule in
     let one : app_of c.in_ok-command-2.command ≡ with_rule (file_app (codes "show")) width =
-    c.in_ok-command-2.ensures.shape (search rules) ∙ ap₂ with_rule c.in_ok-command.ensures width_is in
+    c.in_ok-command-2.ensures.shape (ap (λ a. a.global) c.help.ensures ∙ c.number_option-width.ensures.local) ∙ ap₂ with_rule c.in_ok-command.ensures width_is in
     let two : app_of c.in_ok-command-3.command ≡ with_rule (with_rule (file_app (codes "show")) width) from =
-    c.in_ok-command-3.ensures.shape (search rules) ∙ ap₂ with_rule one from_is in
+    c.in_ok-command-3.ensures.shape (ap (λ a. a.global) c.help-2.ensures ∙ c.number_option-from.ensures.local) ∙ ap₂ with_rule one from_is in
     let three : app_of c.in_ok-command-4.command ≡ with_rule (with_rule (with_rule (file_app (codes "show")) width) from) to =
-    c.in_ok-command-4.ensures.shape (search rules) ∙ ap₂ with_rule two to_is in
+    c.in_ok-command-4.ensures.shape (ap (λ a. a.global) c.help-3.ensures ∙ c.number_option-to.ensures.local) ∙ ap₂ with_rule two to_is in
     let four : app_of c.in_ok-command-5.command ≡ with_rule (with_rule (with_rule (with_rule (file_app (codes "show")) width) from) to) actor =
-    c.in_ok-command-5.ensures.shape (search rules) ∙ ap₂ with_rule three actor_is in
+    c.in_ok-command-5.ensures.shape (ap (λ a. a.global) c.help-4.ensures ∙ c.number_option-actor.ensures.local) ∙ ap₂ with_rule three actor_is in
     let history_is : rule_of c.help-5.result ≡ flag_rule (codes "HISTORY") (codes "history") = ap rule_of c.help-5.ensures ∙ c.flag_option-history.ensures.rule in
-    IfOk-weaker c.arg-5.result _ _ (λ r h. h.shape (search rules) ∙ ap₂ with_rule four history_is) c.arg-5.ensures
+    let five : app_of c.in_ok-command-6.command ≡ with_rule (with_rule (with_rule (with_rule (with_rule (file_app (codes "show")) width) from) to) actor) (flag_rule (codes "HISTORY") (codes "history")) =
+    c.in_ok-command-6.ensures.shape (ap (λ a. a.global) c.help-5.ensures ∙ c.flag_option-history.ensures.local) ∙ ap₂ with_rule four history_is in
+    let page_is : rule_of c.help-6.result ≡ flag_rule (codes "HTML") (codes "html") = ap rule_of c.help-6.ensures ∙ c.flag_option-page.ensures.rule in
+    IfOk-weaker c.arg-6.result _ _ (λ r h. h.shape (ap (λ a. a.global) c.help-6.ensures ∙ c.flag_option-page.ensures.local) ∙ ap₂ with_rule five page_is) c.arg-6.ensures

@@ -13,4 +13,4 @@ load-word-requires c =
     let slot = c.slot_of-slot.ensures in
     let within = slot.within in
     asks q.plan q.table.shared.key q.table.shared.table_id s FrontFound q.laid (32 + 2 * c.slot_of-slot.result) (λ n. n) sits (omega (arith, words, within))
-    (fronts_there q.plan (view s) _ (ap (λ k. 32 + 2 * k) (slot.value ∙ ap (λ h. h % q.plan.slots) sits.head)))
+    (fronts_there q.plan (view s) _ c.requires.rests (ap (λ k. 32 + 2 * k) (slot.value ∙ ap (λ h. h % q.plan.slots) sits.head)))

@@ -11,4 +11,4 @@ load-seat-requires c =
     let sits = c.requires.sits in
     let words = q.laid.words in
     asks q.plan q.table.shared.key q.table.shared.table_id c.args.seat.now HeadFound q.laid 16 (λ n. n) sits (omega (arith, words))
-    (reads q.plan 16 (view c.args.seat.now) (HeadFound q.plan) (λ ws seats r is. reads_head q.plan ws seats r (view c.args.seat.now) is))
+    (reads q.plan 16 (view c.args.seat.now) (HeadFound q.plan) (λ ws seats r is. reads_head q.plan ws seats r (view c.args.seat.now) is c.requires.rests))

@@ -11,4 +11,4 @@ load-tail-requires c =
     let sits = c.requires.sits in
     let words = q.laid.words in
     asks q.plan q.table.shared.key q.table.shared.table_id c.args.seat.now TailFound q.laid 0 (λ n. n) sits (omega (arith, words))
-    (reads q.plan 0 (view c.args.seat.now) (TailFound q.plan) (λ ws seats r is. reads_tail q.plan ws seats r (view c.args.seat.now) is))
+    (reads q.plan 0 (view c.args.seat.now) (TailFound q.plan) (λ ws seats r is. reads_tail q.plan ws seats r (view c.args.seat.now) is c.requires.rests))

@@ -1,8 +1,8 @@
-use Rattle.std.proofs.Common.{ℕ, ◌+◌, nat_eq, sym, subst, arith}
+use Rattle.std.proofs.Common.{◌≡◌, ℕ, ◌+◌, nat_eq, length, ap, ◌∙◌, sym, subst, arith}
 use prog.Atomic.{either}
-use Rattle.ring_queue.specs.Steps.{FrontTaken}
+use Rattle.ring_queue.specs.Steps.{FrontsTaken}
 use Rattle.ring_queue.specs.Seats.{view}
-use Rattle.ring_queue.proofs.Takes.{takes_front}
+use Rattle.ring_queue.proofs.Takes.{takes_words}
 use Rattle.ring_queue.proofs.Calls.{Does, asks}
 use Rattle.ring_queue.proofs.queue.RingQueue.raise_head.Goals as goal
 
@@ -12,6 +12,8 @@ compare_exchange-was-requires g c =
     let s = c.args.seat.now in
     let sits = c.requires.0.sits in
     let words = q.laid.words in
-    let Raises : ℕ → Type 0 = λ h. Does q.plan 16 (view s) (λ n. either (nat_eq n h) (h + 1) n) (FrontTaken q.plan g.taken) in
-    asks q.plan q.table.shared.key q.table.shared.table_id s (λ y. FrontTaken y g.taken) q.laid 16 (λ n. either (nat_eq n s.head) (s.head + 1) n) sits (omega (arith, words))
-    (subst Raises (sym sits.head) (λ ws seats r is. takes_front q.plan ws seats r (view s) is g.taken c.requires.1.1.0 c.requires.1.1.1.0 c.requires.1.0))
+    let has = c.requires.1.1.1.0 in
+    let same : length g.taken ≡ c.args.count = ap length has.0 ∙ sym c.requires.1.1.1.1.0 in
+    let Raises : ℕ × ℕ → Type 0 = λ y. Does q.plan 16 (view s) (λ n. either (nat_eq n y.0) (y.0 + y.1) n) (FrontsTaken q.plan g.taken) in
+    asks q.plan q.table.shared.key q.table.shared.table_id s (λ y. FrontsTaken y g.taken) q.laid 16 (λ n. either (nat_eq n s.head) (s.head + c.args.count) n) sits (omega (arith, words))
+    (subst Raises (λ i. (sym sits.head i, same i)) (λ ws seats r is. takes_words q.plan ws seats r (view s) is g.taken has.1 c.requires.1.1.0 has.2 (λ value. c.requires.1.0)))

@@ -12,4 +12,4 @@ fetch_or-tail-requires c =
     let sits = c.requires.ready.sits in
     let words = q.laid.words in
     asks q.plan q.table.shared.key q.table.shared.table_id s ShutMade q.laid 0 (λ n. bit_or n (2 ^ 62)) sits (omega (arith, words))
-    (λ ws seats r is. shuts_queue q.plan ws seats r (view s) is c.requires.role)
+    (λ ws seats r is. shuts_queue q.plan ws seats r (view s) is c.requires.ready.rests c.requires.role)

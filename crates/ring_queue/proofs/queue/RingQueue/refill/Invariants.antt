@@ -1,7 +1,7 @@
 use Rattle.std.proofs.Common.{◌+◌, ◌≤◌}
 use Rattle.history.specs.Answers.{SeesMore}
 use Rattle.ring_queue.specs.Seats.{IsReady, KeepsName, known_of}
-use Rattle.ring_queue.proofs.queue.RingQueue.push_in.Given as goal
+use Rattle.ring_queue.proofs.queue.RingQueue.refill.Given as goal
 
 abbrev pub invariant-loop : goal.invariant-loop
 invariant-loop l =

@@ -1,0 +1,7 @@
+use Rattle.std.proofs.Common.{subst, sym}
+use Rattle.job_engine.specs.Crews.{IsCrew}
+use Rattle.job_engine.proofs.crews.results_over.Goals as goal
+
+pub results_with-requires-clause-crew : goal.results_with-requires-clause-crew
+results_with-requires-clause-crew g c κs within =
+    subst (λ q. IsCrew g.Q.Fifo.is_seat g.Q.Fifo.permits g.Q.Fifo.known q c.args.workers c.args.seats.items) (sym c.new-queue.ensures) c.requires.crew

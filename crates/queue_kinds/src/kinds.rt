@@ -1,0 +1,11 @@
+//! Which queue.
+use line_table::Kind;
+
+/// Which queue jobs or letters go over.
+#[derive(Clone, Copy, Debug, PartialEq, Eq)]
+pub enum QueueKind {
+    /// A linked list of nodes, of this kind.
+    Linked(Kind),
+    /// The ring.
+    Ring,
+}

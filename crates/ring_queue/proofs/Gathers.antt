@@ -1,0 +1,84 @@
+-- A token that gathers those of seats that are closed.
+use Rattle.std.proofs.Common.{◌≡◌, ◌≢◌, ℕ, ◌<◌, List, [], ◌∷◌, ◌++◌, length, map, set, sym, refl, ap, ◌∙◌, subst, ⊎_elim}
+use Rattle.std.specs.List.{All}
+use mathlib.Core.Option.{some}
+use mathlib.Core.List.{map-append}
+use lib.ListN.{get_elem?}
+use Rattle.atomic_table.specs.Table.{Me, Joins, Enters}
+use Rattle.atomic_table.specs.Seated.{TableId}
+use Rattle.atomic_table.specs.declared.shared.Seat.{Seat as Token}
+use Rattle.atomic_table.proofs.Lists.{at_set, set_else}
+use Rattle.ring_queue.specs.declared.queue.RingQueue.{RingQueue}
+use Rattle.ring_queue.specs.declared.seats.Seat.{Seat}
+use Rattle.ring_queue.specs.declared.views.Knowing.{Knowing}
+use Rattle.ring_queue.specs.Plans.{Layout}
+use Rattle.ring_queue.specs.Seeing.{SeatView, View, keeper, gathered, seated, spent, members, both_of}
+use Rattle.ring_queue.specs.Rule.{put, Holds, Opens}
+use Rattle.ring_queue.specs.Seats.{view}
+use Rattle.ring_queue.specs.Queues.{IsQueueSeat}
+use Rattle.ring_queue.specs.Closing.{HasToken, HasGathered}
+use Rattle.ring_queue.proofs.Puts.{put_here, put_else}
+use Rattle.ring_queue.proofs.Deals.{at_end}
+use Rattle.ring_queue.proofs.Meets.{views_now, no_one}
+
+-- a token that gathers takes in one of a seat
+gathers : (z : Layout) (id other : ℕ) (vs : List SeatView) (w : SeatView) → Joins {S = ℕ} (Holds z) id (gathered vs) other (seated w) (gathered (vs ++ w ∷ [])) spent
+gathers z id other vs w s h at_id ne at_other =
+    let all : View = gathered (vs ++ w ∷ []) in
+    let there : get_elem? s.views other ≡ some (seated w) = sym (set_else s.views id other all ne) ∙ at_other in
+    let l : ℕ = length vs in
+    let own : ℕ → ℕ × ℕ = put h.owner w.number (id, l) in
+    let ow = h.owned other 0 (seated w) w there refl in
+    let P : ℕ → ℕ → SeatView → Type 0 = λ j i o. (h.seats o.number ≡ o) × (own o.number ≡ (j, i)) × (o.number < h.dealt) in
+    let old : (j i : ℕ) (u : View) (o : SeatView) → j ≢ other → get_elem? s.views j ≡ some u → get_elem? (members u) i ≡ some o → P j i o = λ j i u o far a b.
+    let k = h.owned j i u o a b in (h.fits j i u o a b, put_else h.owner w.number o.number (id, l) (λ e. far (ap (λ (y : ℕ × ℕ). y.0) (sym k.0 ∙ (ap h.owner e ∙ ow.0)))) ∙ k.0, k.1) in
+    let new : P id l w = (h.fits other 0 (seated w) w there refl, put_here h.owner w.number w.number (id, l) refl, ow.1) in
+    views_now z s h (set (set s.views id all) other spent) own
+    (λ j i u o a b. ⊎_elim
+    (λ (t : (j ≡ other) × (spent ≡ u)). no_one o i (ap (λ (y : View). get_elem? (members y) i) t.1 ∙ b))
+    (λ (t : (j ≢ other) × (get_elem? (set s.views id all) j ≡ some u)). ⊎_elim
+    (λ (q : (j ≡ id) × (all ≡ u)). subst (λ x. P x i o) (sym q.0) (⊎_elim
+    (λ (y : get_elem? vs i ≡ some o). old id i (gathered vs) o (λ e. ne (sym e)) at_id y)
+    (λ (y : (i ≡ l) × (w ≡ o)). subst (λ (x : ℕ × SeatView). P id x.0 x.1) (λ c. (sym y.0 c, y.1 c)) new)
+    (at_end vs w o i (ap (λ (y : View). get_elem? (members y) i) q.1 ∙ b))))
+    (λ (q : (j ≢ id) × (get_elem? s.views j ≡ some u)). old j i u o t.0 q.1 b)
+    (at_set s.views id j all u t.1))
+    (at_set (set s.views id all) other j spent u a))
+    (λ j m n a. ⊎_elim (λ (t : (j ≡ other) × (spent ≡ keeper m n)). let e = t.1 in cc)
+    (λ (t : (j ≢ other) × (get_elem? (set s.views id all) j ≡ some (keeper m n))). ⊎_elim
+    (λ (q : (j ≡ id) × (all ≡ keeper m n)). let e = q.1 in cc)
+    (λ (q : (j ≢ id) × (get_elem? s.views j ≡ some (keeper m n))). h.kept j m n q.1)
+    (at_set s.views id j all (keeper m n) t.1))
+    (at_set (set s.views id all) other j spent (keeper m n) a))
+
+-- a new token gathers
+pub enters : (key : Layout) (slots word : ℕ) → Enters {S = ℕ} (Holds key) slots word (λ n w. Opens (w, []))
+enters key slots word s h empty fit = (
+  gathered [],
+  views_now key s h (s.views ++ gathered [] ∷ []) h.owner
+      (λ j i u o a b. ⊎_elim
+      (λ (t : get_elem? s.views j ≡ some u). let k = h.owned j i u o t b in (h.fits j i u o t b, k.0, k.1))
+      (λ (t : (j ≡ length s.views) × (gathered [] ≡ u)). no_one o i (ap (λ (y : View). get_elem? (members y) i) t.1 ∙ b))
+      (at_end s.views (gathered []) u j a))
+      (λ j m n a. ⊎_elim
+      (λ (t : get_elem? s.views j ≡ some (keeper m n)). h.kept j m n t)
+      (λ (t : (j ≡ length s.views) × (gathered [] ≡ keeper m n)). let e = t.1 in cc)
+      (at_end s.views (gathered []) (keeper m n) j a)),
+  refl,
+)
+
+-- the same at the names of a call
+pub gathers_at : (key : Layout) (id other : ℕ) (vs : List SeatView) (me him : Me ℕ View) (w : SeatView) → me ≡ (gathered vs, []) → him ≡ (seated w, []) → Joins {S = ℕ} (Holds key) id me.0 other him.0 (both_of me.0 him.0) spent
+gathers_at key id other vs me him w is his = subst (λ (y : Me ℕ View × Me ℕ View). Joins {S = ℕ} (Holds key) id y.0.0 other y.1.0 (both_of y.0.0 y.1.0) spent) (λ i. (sym is i, sym his i)) (gathers key id other vs w)
+
+-- a token that took in one more
+pub took_in : (t : TableId) (k k' : Token ℕ Knowing) (seats : List Seat) (s : Seat) → HasGathered t k (map view seats) → HasToken t s → k'.table_id ≡ k.table_id → k'.me ≡ (both_of k.me.0 s.token.me.0, k.me.1) → HasGathered t k' (map view (seats ++ s ∷ []))
+took_in t k k' seats s g has same is =
+    record {
+      table = same ∙ g.table;
+      seat = is ∙ (λ i. (both_of (g.seat i).0 (has.seat i).0, (g.seat i).1)) ∙ ap (λ vs. (gathered vs, [])) (sym (map-append view seats (s ∷ [])));
+    }
+
+-- each seat of a ring brings a token of its table
+pub have_tokens : (q : RingQueue) (seats : List Seat) → All (IsQueueSeat q) seats → All (HasToken q.table.shared.table_id) seats
+have_tokens q seats ready = λ k d lt. let h = ready k d lt in record { table = h.sits.table; seat = h.sits.seat }

@@ -1,0 +1,7 @@
+use Rattle.std.proofs.Common.{map, All}
+use Rattle.ring_queue.specs.Seats.{view}
+use Rattle.ring_queue.specs.Closing.{HasToken, HasGathered}
+use Rattle.ring_queue.proofs.closing.gather.Given as goal
+
+abbrev pub invariant-loop-seat : goal.invariant-loop-seat
+invariant-loop-seat l = HasGathered l.table.shared.table_id l.gatherer (map view l.yielded) × All (HasToken l.table.shared.table_id) l.seat-iterator.rest.items

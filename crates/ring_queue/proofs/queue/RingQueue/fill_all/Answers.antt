@@ -1,0 +1,36 @@
+use Rattle.std.proofs.Common.{◌≡◌, ◌+◌, drop, ap, ◌∙◌, arith}
+use Rattle.ring_queue.specs.Words.{payload}
+use Rattle.ring_queue.specs.Seeing.{standing}
+use Rattle.ring_queue.specs.Steps.{next_stage, content, contents}
+use Rattle.ring_queue.specs.Seats.{known_of}
+use Rattle.ring_queue.proofs.Fillings.{fillings_at, number_small}
+use Rattle.ring_queue.proofs.queue.RingQueue.fill_all.Goals as goal
+
+pub payload_of-payload-requires : goal.payload_of-payload-requires
+payload_of-payload-requires c = number_small c.args.self.now.plan c.args.self.now.table.shared.table_id c.loop-i.seat c.args.self.now.laid.planned c.loop-i.invariant.sits
+
+pub fill-requires-clause-claimed : goal.fill-requires-clause-claimed
+fill-requires-clause-claimed c =
+    let n = (known_of c.args.seat.now).number in
+    let sits = c.loop-i.invariant.sits in
+    let its : c.loop-i.seat.number ≡ n = sits.number ∙ ap (λ k. k.number) c.loop-i.invariant.known in (
+      content c.args.shut n c.index-bodies-i.result,
+      drop (c.loop-i.i + 1) (contents c.args.shut n c.args.bodies.now),
+      c.loop-i.invariant.stage ∙ ap (standing (c.args.place + c.loop-i.i)) (fillings_at c.args.shut n c.args.bodies.now c.loop-i.i c.index-bodies-i.result c.loop-i-test.true c.index-bodies-i.is),
+      c.payload_of-payload.ensures.value ∙ ap (λ k. payload (content c.args.shut k c.index-bodies-i.result)) its,
+    )
+
+pub loop-i-preserved : goal.loop-i-preserved
+loop-i-preserved c =
+    let n = (known_of c.args.seat.now).number in
+    let before = c.loop-i.invariant.name in
+    let name = c.fill.ensures.name in
+    record {
+      sits = c.fill.ensures.seat;
+      name = record { number = name.number ∙ before.number; role = name.role ∙ before.role };
+      reserve = c.fill.ensures.reserve ∙ c.loop-i.invariant.reserve;
+      known = c.fill.ensures.known ∙ c.loop-i.invariant.known;
+      stage = c.fill.ensures.stage
+          ∙ ap next_stage (c.loop-i.invariant.stage ∙ ap (standing (c.args.place + c.loop-i.i)) (fillings_at c.args.shut n c.args.bodies.now c.loop-i.i c.index-bodies-i.result c.loop-i-test.true c.index-bodies-i.is))
+          ∙ ap (λ p. standing p (drop (c.loop-i.i + 1) (contents c.args.shut n c.args.bodies.now))) (let e : c.args.place + c.loop-i.i + 1 ≡ c.args.place + (c.loop-i.i + 1) = omega arith in e);
+    }

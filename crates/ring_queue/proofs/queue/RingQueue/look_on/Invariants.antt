@@ -1,0 +1,25 @@
+use Rattle.std.proofs.Common.{◌≡◌, ◌-◌, ◌≤◌, length, take}
+use Rattle.history.specs.Answers.{SeesMore}
+use Rattle.ring_queue.specs.Seats.{IsReady, KeepsName, known_of, view}
+use Rattle.ring_queue.specs.Seeing.{found}
+use Rattle.ring_queue.specs.Steps.{AreValues}
+use Rattle.ring_queue.proofs.queue.RingQueue.look_on.Given as goal
+
+abbrev pub ghost-look_next : goal.ghost-look_next
+ghost-look_next a = a.words.now
+
+abbrev pub invariant-loop-count : goal.invariant-loop-count
+invariant-loop-count l = record {
+  seat : IsReady l.self.plan l.self.table.shared.table_id l.seat;
+  name : KeepsName l.fn.seat l.seat;
+  sees : SeesMore (known_of l.fn.seat) (known_of l.seat);
+  head : l.seat.head ≡ l.fn.seat.head;
+  found : (view l.seat).stage ≡ found (take l.count l.words);
+  values : AreValues (take l.count l.words);
+  some : 1 ≤ l.count;
+  few : l.count ≤ l.limit;
+  long : length l.words ≡ 32;
+}
+
+abbrev pub decreases-loop-count : goal.decreases-loop-count
+decreases-loop-count l = l.limit - l.count

@@ -1,0 +1,71 @@
+//! What is left in a ring, by the words of its closed table.
+ghost use Rattle.std.specs.Prelude.{◌≡◌, ◌+◌, ◌-◌, ◌*◌, ◌%◌, ◌^◌, ◌<◌, ◌≤◌, [], length, true};
+ghost use Rattle.std.specs.Prelude.{slice_index_or, vec_capacity};
+ghost use Rattle.std.specs.Slots.{slots_items, IsFull};
+ghost use Rattle.history.specs.Rests.{left_of, taken_of, whole_of, was_shut_of};
+ghost use Rattle.ring_queue.specs.Remains.{values_from, HasWords, was_shut_in};
+ghost use Rattle.ring_queue.specs.Moments.{head_in, tail_in};
+
+use crate::acts::{PARITY, taken_of};
+use crate::places::{HEAD, SHUT, SLOTS, TAIL};
+use atomic_table::Closed;
+use history::{Rest, Taken};
+use std::alloc::Global;
+
+/// The table of a ring, once no thread shares it any more.
+pub(crate) type ClosedTable = Closed<u8, Global>;
+
+// The word with an index.
+fn word_at(closed: &ClosedTable, index: usize) -> u64
+    requires full { IsFull closed.now.words }
+    requires there { index < length (slots_items closed.now.words) }
+    ensures { result ≡ slice_index_or (slots_items closed.now.words) index 0 }
+{
+    closed.word(index)
+}
+
+// The values from a place on, up to the mark or to Tail, put into an empty list that has room for them.
+fn values_left(
+    closed: &ClosedTable,
+    slots: u64,
+    head: u64,
+    tail: u64,
+    mut values: Vec<Taken>,
+) -> Vec<Taken>
+    requires full { IsFull closed.now.words }
+    requires words { HasWords slots (slots_items closed.now.words) }
+    requires room { tail - head ≤ vec_capacity values }
+    requires empty { values.items ≡ [] }
+    ensures { result.items ≡ values_from slots (slots_items closed.now.words) head (tail - head) }
+{
+    for place in head..tail {
+        let word = word_at(closed, SLOTS + 2 * (place % slots) as usize);
+        if word % PARITY == 0 {
+            return values;
+        }
+        values.push(taken_of(word)).unwrap();
+    }
+    values
+}
+
+/// What is left in a ring of so many slots in which each place that was claimed is filled, how many values were taken from it,
+/// and whether it was shut. The list is an empty one with room for the values left.
+pub(crate) fn rest_of(closed: &ClosedTable, slots: u64, room: Vec<Taken>) -> Rest
+    requires full { IsFull closed.now.words }
+    requires words { HasWords slots (slots_items closed.now.words) }
+    requires low { slots ≤ head_in (slots_items closed.now.words) }
+    requires room { tail_in (slots_items closed.now.words) - head_in (slots_items closed.now.words)
+        ≤ vec_capacity room }
+    requires empty { room.items ≡ [] }
+    ensures left { left_of result ≡ values_from slots (slots_items closed.now.words)
+        (head_in (slots_items closed.now.words))
+        (tail_in (slots_items closed.now.words) - head_in (slots_items closed.now.words)) }
+    ensures taken { taken_of result + slots ≡ head_in (slots_items closed.now.words) }
+    ensures whole { whole_of result ≡ true }
+    ensures shut { was_shut_of result ≡ was_shut_in (slots_items closed.now.words) }
+{
+    let tail = word_at(closed, TAIL);
+    let head = word_at(closed, HEAD);
+    let values = values_left(closed, slots, head, tail % SHUT, room);
+    Rest::of(values, head - slots, true, tail >= SHUT)
+}
