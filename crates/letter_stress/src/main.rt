@@ -5,8 +5,8 @@ mod queues;
 
 use crate::queues::{KINDS, came, kind_of};
 use history::Refusal;
-use line_table::Kind;
 use numbered_letters::{Came, Load};
+use queue_kinds::QueueKind;
 use std::alloc::Global;
 use std::rt::Clock;
 use std::sync::Wait;
@@ -37,13 +37,13 @@ const RUNS: [Runs; 2] = [
 ];
 
 /// The words that the program understands.
-const USAGE: &str = "letter_stress [two-lock|non-blocking SENDERS LETTERS]";
+const USAGE: &str = "letter_stress [two-lock|non-blocking|ring SENDERS LETTERS]";
 
 // What came of letters of so many senders, each with so many.
 fn one_run<R: Threads + Wait + Clock + Sync>(
     rt: &R,
     alloc: Global,
-    kind: Kind,
+    kind: QueueKind,
     senders: u16,
     letters: usize,
 ) -> Result<Came, Refusal> {
@@ -58,7 +58,7 @@ fn one_run<R: Threads + Wait + Clock + Sync>(
 fn good_runs<R: Threads + Wait + Clock + Sync>(
     rt: &R,
     alloc: Global,
-    kind: Kind,
+    kind: QueueKind,
     runs: Runs,
 ) -> u32 {
     let due = runs.letters.saturating_mul(usize::from(runs.senders));

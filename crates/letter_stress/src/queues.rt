@@ -1,24 +1,26 @@
 //! The queues that letters go over.
 use history::Refusal;
 use line_table::Kind;
-use mail_engine::mail_queue;
+use mail_engine::{mail_queue, mail_ring};
 use node_arena::{MOST_COUNT, MOST_NODE};
 use nonblocking::NonBlockingAlgorithm;
 use numbered_letters::{Came, Load, posted};
+use queue_kinds::QueueKind;
 use std::alloc::Global;
 use std::rt::Clock;
 use std::sync::Wait;
 use std::thread::Threads;
 use two_lock::TwoLockAlgorithm;
 
-/// Both queues, by their names on the command line.
-pub const KINDS: [(&str, Kind); 2] = [
-    ("two-lock", Kind::TwoLock),
-    ("non-blocking", Kind::NonBlocking),
+/// The queues, by their names on the command line.
+pub const KINDS: [(&str, QueueKind); 3] = [
+    ("two-lock", QueueKind::Linked(Kind::TwoLock)),
+    ("non-blocking", QueueKind::Linked(Kind::NonBlocking)),
+    ("ring", QueueKind::Ring),
 ];
 
 /// The queue of this name.
-pub fn kind_of(name: &str) -> Option<Kind> {
+pub fn kind_of(name: &str) -> Option<QueueKind> {
     for (its, kind) in &KINDS {
         if *its == name {
             return Some(*kind);
@@ -27,7 +29,8 @@ pub fn kind_of(name: &str) -> Option<Kind> {
     None
 }
 
-// A node for each letter and each sender, and two more; the most there may be, where there are more.
+// A node for each letter and each sender, and two more; the most there may be, where there are more. A ring is full of as many
+// values.
 fn nodes_for(senders: u16, load: Load) -> u32 {
     let senders = usize::from(senders);
     let letters = load
@@ -44,22 +47,26 @@ fn nodes_for(senders: u16, load: Load) -> u32 {
 pub fn came<R: Threads + Wait + Clock + Sync>(
     rt: &R,
     alloc: Global,
-    kind: Kind,
+    kind: QueueKind,
     senders: u16,
     load: Load,
 ) -> Result<Came, Refusal> {
     let nodes = nodes_for(senders, load);
     match kind {
-        Kind::TwoLock => {
+        QueueKind::Linked(Kind::TwoLock) => {
             let (queue, seats, receiver) = mail_queue::<TwoLockAlgorithm>(
                 alloc, nodes, MOST_COUNT, senders,
             )?;
             posted(rt, alloc, queue, seats, receiver, load)
         }
-        Kind::NonBlocking => {
+        QueueKind::Linked(Kind::NonBlocking) => {
             let (queue, seats, receiver) = mail_queue::<NonBlockingAlgorithm>(
                 alloc, nodes, MOST_COUNT, senders,
             )?;
+            posted(rt, alloc, queue, seats, receiver, load)
+        }
+        QueueKind::Ring => {
+            let (queue, seats, receiver) = mail_ring(alloc, nodes, senders)?;
             posted(rt, alloc, queue, seats, receiver, load)
         }
     }

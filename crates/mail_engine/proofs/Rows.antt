@@ -11,12 +11,18 @@ use Rattle.history.specs.Values.{OnlyPops}
 use Rattle.history.specs.Openings.{AreNew, newcomer}
 use Rattle.mailbox.specs.Openings.{CanSend, CanReceive}
 use Rattle.node_arena.specs.Plans.{permits_by}
-use Rattle.mail_engine.specs.Rows.{giver, taker, givers_and_taker, giver_and_taker_roles, IsOpened}
+use Rattle.ring_queue.specs.Plans.{permits_by as ring_permits_by}
+use Rattle.mail_engine.specs.Rows.{giver, taker, givers_and_taker, giver_and_taker_roles, ring_roles, IsOpened}
 
 -- so many givers and then a taker are permitted so
-permits_by-givers : (n : ℕ) → permits_by (giver_and_taker_roles n) ≡ givers_and_taker n
+pub permits_by-givers : (n : ℕ) → permits_by (giver_and_taker_roles n) ≡ givers_and_taker n
 permits_by-givers zero = refl
 permits_by-givers (suc n) = ap (λ ps. giver ∷ ps) (permits_by-givers n)
+
+-- the same of a ring
+pub permits_by-ring : (n : ℕ) → ring_permits_by (ring_roles n) ≡ givers_and_taker n
+permits_by-ring zero = refl
+permits_by-ring (suc n) = ap (λ ps. giver ∷ ps) (permits_by-ring n)
 
 -- each of the first n seats is a giver
 giver_at : (n k : ℕ) → k < n → slice_get (givers_and_taker n) k ≡ Some giver
@@ -107,9 +113,8 @@ module _ {Q S : Type 0} (is_seat : Q → S → Type 0) (permits : Q → List Per
       }
 
 -- a new queue of these roles, with its last seat told apart
-pub opened : {Q S : Type 0} (is_seat : Q → S → Type 0) (permits : Q → List Permit) (known : S → Known) (n : ℕ) (q : Q) (seats before : List S) (last : S) → permits q ≡ permits_by (giver_and_taker_roles n) → seats ≡ before ++ last ∷ [] → AreNew (permits q) (map known seats) → All (is_seat q) seats → IsOpened is_seat permits known n q before last
-opened is_seat permits known n q seats before last roles whole new all =
-    let row : permits q ≡ givers_and_taker n = roles ∙ permits_by-givers n in
+pub opened : {Q S : Type 0} (is_seat : Q → S → Type 0) (permits : Q → List Permit) (known : S → Known) (n : ℕ) (q : Q) (seats before : List S) (last : S) → permits q ≡ givers_and_taker n → seats ≡ before ++ last ∷ [] → AreNew (permits q) (map known seats) → All (is_seat q) seats → IsOpened is_seat permits known n q before last
+opened is_seat permits known n q seats before last row whole new all =
     let dealt : AreNew (permits q) (map known (before ++ last ∷ [])) = subst (λ ss. AreNew (permits q) (map known ss)) whole new in
     let each : All (is_seat q) (before ++ last ∷ []) = subst (All (is_seat q)) whole all in
     record {

@@ -10,6 +10,11 @@ use Rattle.history.specs.Openings.{AreNew}
 use Rattle.node_arena.specs.declared.roles.Role.{Role}
 use Rattle.node_arena.specs.declared.roles.Role.TheVariants.{Giver, Taker}
 use Rattle.node_arena.specs.Plans.{Layout}
+use Rattle.ring_queue.specs.declared.queue.RingQueue.{RingQueue}
+use Rattle.ring_queue.specs.declared.roles.Role.{Role as RingRole}
+use Rattle.ring_queue.specs.declared.roles.Role.TheVariants as ring
+use Rattle.ring_queue.specs.declared.seats.Seat.{Seat as RingSeat}
+use Rattle.ring_queue.specs.Making.{IsMade, NewRefused as RingRefused}
 use Rattle.node_arena.specs.Making.{plan, NewRefused}
 use Rattle.mailbox.specs.Openings.{CanSend, CanReceive}
 
@@ -29,6 +34,10 @@ givers_and_taker n = replicate n giver ++ taker ∷ []
 abbrev pub giver_and_taker_roles : ℕ → List Role
 giver_and_taker_roles n = replicate n Giver ++ Taker ∷ []
 
+-- the same of a ring
+abbrev pub ring_roles : ℕ → List RingRole
+ring_roles n = replicate n ring.Giver ++ ring.Taker ∷ []
+
 -- a new queue has a seat for each of so many senders, and then one for their receiver, and no others
 pub record IsOpened {Q S : Type 0} (is_seat : Q → S → Type 0) (permits : Q → List Permit) (known : S → Known) (n : ℕ) (queue : Q) (senders : List S) (receiver : S) : Type 0 where
   pub permitted : permits queue ≡ givers_and_taker n
@@ -47,3 +56,14 @@ abbrev pub OpenRefused : Layout → Refusal → Type 0
 OpenRefused z BadSize = NewRefused z BadSize
 OpenRefused z Memory = Unit {0}
 OpenRefused z _ = ⊥
+
+-- a ring was made for senders and their receiver: so many values make it full, each seat may have 32 places in reserve, its
+-- places go up to the greatest one of all, and these are its seats
+abbrev pub IsMailRing : (values senders : ℕ) → RingQueue → List RingSeat → Type 0
+IsMailRing values senders q seats = IsMade values 32 (2 ^ 62 - 1) (ring_roles senders) q seats
+
+-- a new ring is refused for this cause: a size is out of its range, or there was no memory
+abbrev pub OpenRingRefused : (values senders : ℕ) → Refusal → Type 0
+OpenRingRefused values senders BadSize = RingRefused values 32 (2 ^ 62 - 1) (ring_roles senders) BadSize
+OpenRingRefused values senders Memory = Unit {0}
+OpenRingRefused values senders _ = ⊥

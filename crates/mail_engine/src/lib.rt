@@ -7,5 +7,5 @@ mod sharing;
 mod telling;
 mod texts;
 
-pub use opening::mail_queue;
+pub use opening::{mail_queue, mail_ring};
 pub use posting::{Carrier, post_text};

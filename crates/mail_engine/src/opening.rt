@@ -4,12 +4,22 @@ ghost use Rattle.node_arena.specs.Making.{plan};
 ghost use Rattle.node_arena.specs.Plans.{IsPlanned};
 ghost use Rattle.node_arena.specs.Seats.{known_of};
 ghost use Rattle.arena_queue.specs.Queues.{permits_of, IsQueueSeat, IsQueueMade};
+ghost use Rattle.ring_queue.specs.Queues.{IsQueueSeat as IsRingSeat, permits_in};
+ghost use Rattle.ring_queue.specs.Seats.{known_of as ring_known};
 ghost use Rattle.mail_engine.specs.Rows.{giver_and_taker_roles, IsOpened, OpenRefused};
+ghost use Rattle.mail_engine.specs.Rows.{ring_roles, IsMailRing, OpenRingRefused};
 
 use arena_queue::{Algorithm, ArenaQueue};
 use history::Refusal;
 use node_arena::{Role, Seat};
+use ring_queue::{RingQueue, Role as RingRole, Seat as RingSeat};
 use std::alloc::Global;
+
+/// How many places a seat of a ring may have in reserve.
+const RESERVE: u32 = 32;
+
+/// The last place of a ring: the greatest one that a ring may have.
+const MOST_PLACE: u64 = (1 << 62) - 1;
 
 /// A queue with so many nodes and this greatest count, a seat for each of so many senders, and their receiver's.
 ///
@@ -39,6 +49,29 @@ pub fn mail_queue<A: Algorithm<24>>(
     Ok((queue, seats, receiver))
 }
 
+/// A ring that so many values make full, a seat for each of so many senders, and their receiver's.
+///
+/// Senders are numbered from 1 on. Refusals: `BadSize` where a size is out of the range of `RingQueue::new`, and
+/// `Memory`. Takes memory for the ring, and doesn't wait.
+pub fn mail_ring(
+    alloc: Global,
+    values: u32,
+    senders: u16,
+) -> Result<(RingQueue, Vec<RingSeat>, RingSeat), Refusal>
+    //= letters/ring_senders: A new ring of senders and their receiver is of the values and seats asked for.
+    ensures made { IfOk result (λ r. IsMailRing values senders r.0 (r.1.items ++ r.2 ∷ [])) }
+    ensures opened { IfOk result (λ r. IsOpened IsRingSeat permits_in ring_known
+        senders r.0 r.1.items r.2) }
+    ensures refused { IfErr result (OpenRingRefused values senders) }
+{
+    let roles = ring_roles_of(alloc, senders)?;
+    let (queue, mut seats) = RingQueue::new(alloc, values, RESERVE, MOST_PLACE, &roles)?;
+    let Some(receiver) = seats.pop() else {
+        unreachable!()
+    };
+    Ok((queue, seats, receiver))
+}
+
 // A role that gives for each sender, and then one that takes.
 fn roles_of(alloc: Global, senders: u16) -> Result<Vec<Role>, Refusal>
     ensures roles { IfOk result (λ roles. roles.items ≡ giver_and_taker_roles senders) }
@@ -48,6 +81,20 @@ fn roles_of(alloc: Global, senders: u16) -> Result<Vec<Role>, Refusal>
         return Err(Refusal::Memory);
     };
     match roles.push(Role::Taker) {
+        Ok(()) => Ok(roles),
+        Err(_) => Err(Refusal::Memory),
+    }
+}
+
+// The same of a ring.
+fn ring_roles_of(alloc: Global, senders: u16) -> Result<Vec<RingRole>, Refusal>
+    ensures roles { IfOk result (λ roles. roles.items ≡ ring_roles senders) }
+    ensures only_memory { IfErr result (λ refusal. refusal ≡ Refusal.Memory) }
+{
+    let Ok(mut roles) = vec![in alloc; RingRole::Giver; usize::from(senders)] else {
+        return Err(Refusal::Memory);
+    };
+    match roles.push(RingRole::Taker) {
         Ok(()) => Ok(roles),
         Err(_) => Err(Refusal::Memory),
     }

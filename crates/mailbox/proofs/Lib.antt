@@ -2,6 +2,5 @@ pub mod Codes
 pub mod Plans
 pub mod Counting
 pub mod Order
-pub mod Taking
 pub mod Openings
 pub mod Delivering

@@ -1,5 +1,5 @@
 -- A queue gives each sender's values in the order in which that sender pushed them.
-use Rattle.std.proofs.Common.{◌≡◌, ◌∙◌, sym, ap, ℕ, List, ◌++◌, map}
+use Rattle.std.proofs.Common.{◌≡◌, ◌∙◌, sym, ap, subst, ℕ, List, ◌++◌, map}
 use Rattle.std.proofs.lemmas.List.{map-append}
 use Rattle.std.proofs.lemmas.List.Elements.{filter-append}
 use Rattle.history.specs.declared.operations.Taken.{Taken}
@@ -22,3 +22,8 @@ in_order permits k sound only s =
 -- the same after a call
 pub in_order-after : (permits : List Permit) (k k' : Known) → k'.number ≡ k.number → OnlyPops permits k.number → IsSound permits k' → InOrder k'
 in_order-after permits k k' same only sound = in_order permits k' sound (λ n may. only n may ∙ sym same)
+
+-- the same after a call, and what then left the seat as it was
+pub in_order-then : {S : Type 0} (known : S → Known) (permits : List Permit) (s s' s'' : S) → s'' ≡ s' → (known s').number ≡ (known s).number → OnlyPops permits (known s).number → IsSound permits (known s') → InOrder (known s'')
+in_order-then known permits s s' s'' kept same only sound =
+    subst (λ t. InOrder (known t)) (sym kept) (in_order-after permits (known s) (known s') same only sound)

@@ -7,11 +7,12 @@ use Rattle.std.proofs.lemmas.List.{length-map}
 use Rattle.std.proofs.lemmas.List.Elements.{All-head, All-tail}
 use Rattle.history.specs.Seats.{Permit, Known, MayPush, MayPop}
 use Rattle.history.specs.Values.{OnlyPops}
+use Rattle.blocking_queue.specs.Queues.{queue_of}
 use Rattle.mailbox.specs.declared.office.Office.{Office}
 use Rattle.mailbox.specs.declared.receiver.Receiver.{Receiver}
 use Rattle.mailbox.specs.declared.posting.Task.{Task}
 use Rattle.mailbox.specs.Plans.{plan_numbers, IsDue, AreDue}
-use Rattle.mailbox.specs.Offices.{IsReceiver}
+use Rattle.mailbox.specs.Offices.{IsReceiver, queue_in}
 use Rattle.mailbox.specs.Posting.{IsTask, HasQueueOf, texts_in, letters_of}
 use Rattle.mailbox.proofs.Codes.{plan-same}
 
@@ -61,22 +62,26 @@ module _ {Q S : Type 0} (P : Task Q S → Type 0) (numbers : List ℕ) (number :
   pub others_due : (n : ℕ) → number + 1 ≡ n → AreDueFrom numbers n rest
   others_due n same = subst (λ m. AreDueFrom numbers m rest) same (subst (AreDueFrom numbers number) split due).1
 
+-- an office over the queue of another one
+pub queue_in-same : {Q S : Type 0} (o o' : Office Q S) → HasQueueOf o o' → queue_in o' ≡ queue_in o
+queue_in-same o o' same = ap queue_of same
+
 module _ {Q S : Type 0} (is_seat : Q → S → Type 0) (permits : Q → List Permit) (known : S → Known) (o o' : Office Q S) (same : HasQueueOf o o') where
   -- the tasks of an office are tasks of another one over the same queue
   pub tasks_of-same : (tasks : List (Task Q S)) → All (IsTask is_seat permits known o) tasks → All (IsTask is_seat permits known o') tasks
   tasks_of-same tasks all k d short =
       let is = all k d short in
       record {
-        seat = subst (λ q. is_seat q (get_or tasks k d).sender.seat) (sym same) is.seat;
-        role = subst (λ q. MayPush (permits q) (known (get_or tasks k d).sender.seat).number) (sym same) is.role;
+        seat = subst (λ q. is_seat (queue_of q) (get_or tasks k d).sender.seat) (sym same) is.seat;
+        role = subst (λ q. MayPush (permits (queue_of q)) (known (get_or tasks k d).sender.seat).number) (sym same) is.role;
       }
 
   -- and so is its receiver
   pub receiver_of-same : (r : Receiver Q S) → IsReceiver is_seat permits known o r → IsReceiver is_seat permits known o' r
   receiver_of-same r is = record {
-    seat = subst (λ q. is_seat q r.seat) (sym same) is.seat;
-    role = subst (λ q. MayPop (permits q) (known r.seat).number) (sym same) is.role;
-    only = subst (λ q. OnlyPops (permits q) (known r.seat).number) (sym same) is.only;
+    seat = subst (λ q. is_seat (queue_of q) r.seat) (sym same) is.seat;
+    role = subst (λ q. MayPop (permits (queue_of q)) (known r.seat).number) (sym same) is.role;
+    only = subst (λ q. OnlyPops (permits (queue_of q)) (known r.seat).number) (sym same) is.only;
   }
 
 -- how many letters tasks have to send

@@ -5,8 +5,11 @@ use Rattle.history.specs.Limits.{body_bits}
 use Rattle.history.specs.declared.operations.Taken.{Taken}
 use Rattle.history.specs.Seats.{Permit, Known, MayPush, MayPop}
 use Rattle.history.specs.declared.refusals.Refusal.{Refusal}
-use Rattle.history.specs.Answers.{Pushed, Popped, DidShut, FoundEmpty, PushRefused, PopRefused, EndsByTry}
+use Rattle.history.specs.Answers.{Pushed, Popped, DidShut, FoundEmpty, PushRefused, EndsByTry}
 use Rattle.history.specs.Values.{pushed, OnlyPops}
+use Rattle.blocking_queue.specs.Queues.{queue_of}
+use Rattle.blocking_queue.specs.Waits.{Waited}
+use Rattle.blocking_queue.specs.Answers.{Received, EndsAfterWait}
 use Rattle.mailbox.specs.Plans.{Fits}
 use Rattle.mailbox.specs.declared.office.Office.{Office}
 use Rattle.mailbox.specs.declared.sender.Sender.{Sender}
@@ -15,6 +18,10 @@ use Rattle.mailbox.specs.declared.receiver.Letter.{Letter}
 use Rattle.mailbox.specs.declared.parcels.Due.{Due}
 use Rattle.mailbox.specs.declared.parcels.Missing.{Missing}
 use Rattle.mailbox.specs.declared.parcels.Parcel.{Parcel}
+
+-- the queue of an office
+abbrev pub queue_in : {Q S : Type 0} → Office Q S → Q
+queue_in o = queue_of o.queue
 
 -- what the receiver knows of the queue
 abbrev pub receiver_knows : {Q S : Type 0} → (S → Known) → Receiver Q S → Known
@@ -30,14 +37,14 @@ marks o = o.letters.tag
 
 -- a sender of an office: its seat is the queue's, is in no call, and may push
 pub record IsSender {Q S : Type 0} (is_seat : Q → S → Type 0) (permits : Q → List Permit) (known : S → Known) (o : Office Q S) (s : Sender Q S) : Type 0 where
-  pub seat : is_seat o.queue s.seat
-  pub role : MayPush (permits o.queue) (known s.seat).number
+  pub seat : is_seat (queue_in o) s.seat
+  pub role : MayPush (permits (queue_in o)) (known s.seat).number
 
 -- the receiver of an office: its seat is the queue's, is in no call, and alone may pop
 pub record IsReceiver {Q S : Type 0} (is_seat : Q → S → Type 0) (permits : Q → List Permit) (known : S → Known) (o : Office Q S) (r : Receiver Q S) : Type 0 where
-  pub seat : is_seat o.queue r.seat
-  pub role : MayPop (permits o.queue) (known r.seat).number
-  pub only : OnlyPops (permits o.queue) (known r.seat).number
+  pub seat : is_seat (queue_in o) r.seat
+  pub role : MayPop (permits (queue_in o)) (known r.seat).number
+  pub only : OnlyPops (permits (queue_in o)) (known r.seat).number
 
 -- a token shows that an office holds this text at this index
 pub record ShowsText {Q S T : Type 0} (bytes : T → List ℕ) (o : Office Q S) (token : Option (Where T)) (index : ℕ) (text : List ℕ) : Type 0 where
@@ -101,11 +108,11 @@ pub record HasStored {Q S Z : Type 0} (o : Office Q S) (s' : Sender Q S) (text :
 
 -- a sender's push, or shut, of so many turns had this cause for its refusal
 abbrev pub SendHadCause : {Q S : Type 0} → (Q → S → S → ℕ → Refusal → Type 0) → Office Q S → (s s' : Sender Q S) → (turns : ℕ) → Refusal → Type 0
-SendHadCause cause o s s' turns = cause o.queue s.seat s'.seat turns
+SendHadCause cause o s s' turns = cause (queue_in o) s.seat s'.seat turns
 
 -- a send that waits, or a shut, ended by a push of so many turns, or a shut, which had this cause for its refusal
 abbrev pub SendEnded : {Q S : Type 0} → (Q → S → Type 0) → (S → Known) → (Q → S → S → ℕ → Refusal → Type 0) → Office Q S → (s s' : Sender Q S) → (turns : ℕ) → Refusal → Type 0
-SendEnded is_seat known cause o s s' turns = EndsByTry is_seat known cause o.queue s.seat s'.seat turns
+SendEnded is_seat known cause o s s' turns = EndsByTry is_seat known cause (queue_in o) s.seat s'.seat turns
 
 -- a letter was stored, at an index that is no body
 pub record HasNoBody {Q S Z : Type 0} (o : Office Q S) (s s' : Sender Q S) (text : String Z) : Type 0 where
@@ -114,10 +121,10 @@ pub record HasNoBody {Q S Z : Type 0} (o : Office Q S) (s s' : Sender Q S) (text
   pub large : 2 ^ body_bits ≤ index
   pub stored : Stored o s' index (string_bytes text)
 
--- a letter was taken: one value was popped, which this sender pushed, and this is the text at its body
-pub record TookText {Q S : Type 0} (known : S → Known) (o : Office Q S) (r : Receiver Q S) (from : ℕ) (text : List ℕ) (r' : Receiver Q S) : Type 0 where
+-- a letter was taken: one value was popped, at once or after a wait, which this sender pushed, and this is the text at its body
+pub record TookText {Q S : Type 0} (Pops : Known → Taken → Known → Type 0) (known : S → Known) (o : Office Q S) (r : Receiver Q S) (from : ℕ) (text : List ℕ) (r' : Receiver Q S) : Type 0 where
   pub value : Taken
-  pub popped : Popped (known r.seat) value (known r'.seat)
+  pub popped : Pops (known r.seat) value (known r'.seat)
   pub sender : value.from ≡ from
   pub read : Read o r' value.body text
   pub kept : has_lost r' ≡ false
@@ -131,36 +138,50 @@ pub record FoundNone {Q S : Type 0} (known : S → Known) (r r' : Receiver Q S) 
 -- what a take answers: a letter, or that there is none
 abbrev pub TakeAnswers : {Q S : Type 0} → (S → Known) → Office Q S → Receiver Q S → Option Letter → Receiver Q S → Type 0
 TakeAnswers known o r None r' = FoundNone known r r'
-TakeAnswers known o r (Some letter) r' = TookText known o r letter.from letter.text.now r'
+TakeAnswers known o r (Some letter) r' = TookText Popped known o r letter.from letter.text.now r'
 
--- a take was refused so, without a loss: nothing was taken, and the queue was found shut and empty, or else all that the
--- receiver knows is as before, but that it may have seen more
-pub record TookNothing {Q S : Type 0} (known : S → Known) (r : Receiver Q S) (refusal : Refusal) (r' : Receiver Q S) : Type 0 where
-  pub nothing : PopRefused (known r.seat) refusal (known r'.seat)
+-- there was no letter: the receiver waited
+pub record WaitedInVain {Q S : Type 0} (known : S → Known) (r r' : Receiver Q S) : Type 0 where
+  pub waited : Waited (known r.seat) (known r'.seat)
+  pub last : r'.last ≡ r.last
+  pub kept : has_lost r' ≡ false
+
+-- what a receive up to a deadline answers: a letter, or that there was none
+abbrev pub RecvAnswers : {Q S : Type 0} → (S → Known) → Office Q S → Receiver Q S → Option Letter → Receiver Q S → Type 0
+RecvAnswers known o r None r' = WaitedInVain known r r'
+RecvAnswers known o r (Some letter) r' = TookText Received known o r letter.from letter.text.now r'
+
+-- a take was refused so, without a loss: nothing was taken, as where a pop is refused, at once or after a wait
+pub record TookNothing {Q S : Type 0} (Refused : Known → Refusal → Known → Type 0) (known : S → Known) (r : Receiver Q S) (refusal : Refusal) (r' : Receiver Q S) : Type 0 where
+  pub nothing : Refused (known r.seat) refusal (known r'.seat)
   pub last : r'.last ≡ r.last
   pub was : has_lost r ≡ false
   pub kept : has_lost r' ≡ false
 
 -- the receiver's pop of so many turns had this cause for its refusal
 abbrev pub TakeHadCause : {Q S : Type 0} → (Q → S → S → ℕ → Refusal → Type 0) → Office Q S → (r r' : Receiver Q S) → (turns : ℕ) → Refusal → Type 0
-TakeHadCause cause o r r' turns = cause o.queue r.seat r'.seat turns
+TakeHadCause cause o r r' turns = cause (queue_in o) r.seat r'.seat turns
 
 -- a take that waits ended by a pop of so many turns, which had this cause for its refusal
 abbrev pub TakeEnded : {Q S : Type 0} → (Q → S → Type 0) → (S → Known) → (Q → S → S → ℕ → Refusal → Type 0) → Office Q S → (r r' : Receiver Q S) → (turns : ℕ) → Refusal → Type 0
-TakeEnded is_seat known cause o r r' turns = EndsByTry is_seat known cause o.queue r.seat r'.seat turns
+TakeEnded is_seat known cause o r r' turns = EndsByTry is_seat known cause (queue_in o) r.seat r'.seat turns
+
+-- a receive waited, and ended by a pop of so many turns, which had this cause for its refusal
+abbrev pub RecvEnded : {Q S : Type 0} → (Q → S → Type 0) → (S → Known) → (Q → S → S → ℕ → Refusal → Type 0) → Office Q S → (r r' : Receiver Q S) → (turns : ℕ) → Refusal → Type 0
+RecvEnded is_seat known cause o r r' turns = EndsAfterWait is_seat known cause (queue_in o) r.seat r'.seat turns
 
 -- the receiver was answered by the store of letters that it has none at this index
 abbrev pub FoundMissing : {Q S : Type 0} → Receiver Q S → (index : ℕ) → Type 0
 FoundMissing r index = IsSomeAnd r.missing (λ (m : Missing). m.index ≡ index)
 
--- one value was popped, and the store of letters answered that it has none at its body
-pub record TookMissing {Q S : Type 0} (known : S → Known) (r r' : Receiver Q S) : Type 0 where
+-- one value was popped, at once or after a wait, and the store of letters answered that it has none at its body
+pub record TookMissing {Q S : Type 0} (Pops : Known → Taken → Known → Type 0) (known : S → Known) (r r' : Receiver Q S) : Type 0 where
   pub value : Taken
-  pub popped : Popped (known r.seat) value (known r'.seat)
+  pub popped : Pops (known r.seat) value (known r'.seat)
   pub missing : FoundMissing r' value.body
 
 -- a letter is lost: where none was lost before, one value was popped that names no letter; else nothing was done
-pub record Loses {Q S : Type 0} (known : S → Known) (r r' : Receiver Q S) : Type 0 where
-  pub first : has_lost r ≡ false → TookMissing known r r'
+pub record Loses {Q S : Type 0} (Pops : Known → Taken → Known → Type 0) (known : S → Known) (r r' : Receiver Q S) : Type 0 where
+  pub first : has_lost r ≡ false → TookMissing Pops known r r'
   pub later : has_lost r ≡ true → r' ≡ r
   pub lost : has_lost r' ≡ true

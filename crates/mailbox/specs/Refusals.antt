@@ -19,24 +19,31 @@ StopsSend BadSize = Unit {0}
 StopsSend Closed = Unit {0}
 StopsSend _ = ⊥
 
--- whether a send that waits may be refused so: there was no memory or no body for the letter, no node, a word was worn out, or
--- the queue was shut
-abbrev pub ends_send : Refusal → Bool
-ends_send NoNode = true
-ends_send (WornOut word) = true
-ends_send Memory = true
-ends_send BadSize = true
-ends_send Closed = true
-ends_send _ = false
-
--- a send that waits may be refused so
+-- a send that waits may be refused so: there was no memory or no body for the letter, a word was worn out, or the queue was shut
 abbrev pub EndsSend : Refusal → Type 0
-EndsSend refusal = IsTrue (ends_send refusal)
+EndsSend (WornOut word) = Unit {0}
+EndsSend Memory = Unit {0}
+EndsSend BadSize = Unit {0}
+EndsSend Closed = Unit {0}
+EndsSend _ = ⊥
 
--- whether a sender may end so: all was sent, or a send that waits was refused
+-- whether a send of a letter that is due may be refused so: as one that waits, or there was no node up to its deadline
+abbrev pub ends_due : Refusal → Bool
+ends_due NoNode = true
+ends_due (WornOut word) = true
+ends_due Memory = true
+ends_due BadSize = true
+ends_due Closed = true
+ends_due _ = false
+
+-- a send of a letter that is due may be refused so
+abbrev pub EndsDue : Refusal → Type 0
+EndsDue refusal = IsTrue (ends_due refusal)
+
+-- whether a sender may end so: all was sent, or a send of a letter that is due was refused
 abbrev pub may_end : Option Refusal → Bool
 may_end None = true
-may_end (Some refusal) = ends_send refusal
+may_end (Some refusal) = ends_due refusal
 
 -- a refusal that is the queue's has this cause; one that is the office's own wants none
 abbrev pub HandsOn : (cause : Refusal → Type 0) → Refusal → Type 0

@@ -1,9 +1,11 @@
-//! How senders' threads end, and which of them is the last.
-ghost use Rattle.std.specs.Prelude.{◌≡◌, true, Some, None, IfSome};
-ghost use Rattle.mailbox.specs.Refusals.{EndsSend, may_end};
+//! How senders and their receiver end, and what they tell each other of it.
+ghost use Rattle.std.specs.Prelude.{◌≡◌, Bool, true, Some, None, IfSome};
+ghost use Rattle.mailbox.specs.Refusals.{EndsDue, may_end};
 
+use blocking_queue::Deadline;
 use history::Refusal;
-use std::sync::atomic::{AtomicUsize, Ordering};
+use std::sync::atomic::{AtomicBool, AtomicUsize, Ordering};
+use std::time::Duration;
 
 /// The refusal at which a sender ended, where it was refused.
 #[derive(Clone, Copy, Debug)]
@@ -22,7 +24,7 @@ impl Ended {
 
     /// A waiting send was refused.
     pub(crate) fn refused(refusal: Refusal) -> Ended
-        requires { EndsSend refusal }
+        requires { EndsDue refusal }
         ensures { result.refusal ≡ Some refusal }
     {
         Ended {
@@ -33,25 +35,27 @@ impl Ended {
     /// Its refusal, where it was refused.
     pub(crate) fn refusal(self) -> Option<Refusal>
         ensures same { result ≡ self.refusal }
-        ensures refusal { IfSome result EndsSend }
+        ensures refusal { IfSome result EndsDue }
     {
         self.refusal
     }
 }
 
-/// How many senders there are, and how many of them have ended.
+/// How many senders there are, how many of them have ended, and whether one was refused, or the receiver has ended.
 #[derive(Drop)]
 pub(crate) struct EndCounter {
     senders: usize,
     ended: AtomicUsize,
+    given_up: AtomicBool,
 }
 
 impl EndCounter {
-    /// So many senders, none of which has ended.
+    /// So many senders, none of which has ended, and a receiver that hasn't either.
     pub(crate) fn new(senders: usize) -> EndCounter {
         EndCounter {
             senders,
             ended: AtomicUsize::new(0),
+            given_up: AtomicBool::new(false),
         }
     }
 
@@ -60,8 +64,44 @@ impl EndCounter {
         self.ended.fetch_add(1, Ordering::SeqCst).wrapping_add(1) == self.senders
     }
 
-    /// Whether all senders have ended.
-    pub(crate) fn all_ended(&self) -> bool {
-        self.ended.load(Ordering::SeqCst) >= self.senders
+    /// A sender was refused, or the receiver has ended.
+    pub(crate) fn give_up(&self) {
+        self.given_up.store(true, Ordering::SeqCst);
+    }
+}
+
+/// That all senders have ended, which ends the wait for a letter.
+#[derive(Drop)]
+pub(crate) struct AllEnded<'a> {
+    pub(crate) counter: &'a EndCounter,
+}
+
+impl<'a> Deadline for AllEnded<'a> {
+    ghost comes = { λ d. true };
+
+    fn is_past(&self) -> bool {
+        self.counter.ended.load(Ordering::SeqCst) >= self.counter.senders
+    }
+
+    fn left(&self) -> Option<Duration> {
+        None
+    }
+}
+
+/// That a sender was refused, which may have kept a node, or the receiver has ended, which ends the wait for a node.
+#[derive(Drop)]
+pub(crate) struct GivenUp<'a> {
+    pub(crate) counter: &'a EndCounter,
+}
+
+impl<'a> Deadline for GivenUp<'a> {
+    ghost comes = { λ d. true };
+
+    fn is_past(&self) -> bool {
+        self.counter.given_up.load(Ordering::SeqCst)
+    }
+
+    fn left(&self) -> Option<Duration> {
+        None
     }
 }

@@ -7,14 +7,15 @@ ghost use Rattle.mailbox.specs.Offices.{IsSender, IsReceiver, TextsAt, Stored, R
 use crate::parcels::Letters;
 use crate::receiver::Receiver;
 use crate::sender::Sender;
+use blocking_queue::BlockingQueue;
 use boxcar::tag::Tag;
 use history::{Fifo, Refusal};
 use std::alloc::Global;
 
-/// A queue whose bodies are the indexes of letters. Threads share it by reference.
+/// A queue whose bodies are the indexes of letters, and whose calls may sleep. Threads share it by reference.
 #[derive(Drop)]
 pub struct Office<Q: Fifo + Drop> {
-    pub(crate) queue: Q,
+    pub(crate) queue: BlockingQueue<Q>,
     pub(crate) letters: Letters,
 }
 
@@ -57,6 +58,7 @@ impl<Q: Fifo + Drop> Office<Q> {
             last: None,
             missing: None,
         };
+        let queue = BlockingQueue::new(queue);
         Ok((Office { queue, letters }, all, receiver))
     }
 

@@ -5,14 +5,13 @@ ghost use Rattle.mailbox.specs.Deliveries.{InOrder};
 ghost use Rattle.mailbox.specs.Plans.{AreDue};
 ghost use Rattle.mailbox.specs.Offices.{IsSender, IsReceiver, marks, receiver_knows};
 ghost use Rattle.mailbox.specs.Posting.{IsTask, IsTaskAt, IsNext, Plans, BringTexts, AreThoseDue, Delivered, letters_of, texts_in, AddsEntries};
-ghost use Rattle.mailbox.specs.Refusals.{EndsSend, EndsPost};
+ghost use Rattle.mailbox.specs.Refusals.{EndsDue, EndsPost};
 
-use crate::ending::{EndCounter, Ended};
+use crate::ending::{AllEnded, EndCounter, Ended, GivenUp};
 use crate::office::Office;
 use crate::parcels::Due;
 use crate::receiver::{Letter, Receiver};
 use crate::sender::Sender;
-use crossbeam_utils::Backoff;
 use history::{Fifo, Refusal};
 use std::alloc::Global;
 use std::sync::Wait;
@@ -26,13 +25,15 @@ pub struct Task<Q: Fifo + Drop> {
     pub texts: Vec<String>,
 }
 
-// Sends the texts of the task of this number in order, up to the first refusal.
+// Sends the texts of the task of this number in order, up to the first refusal. Sleeps while there is no node for a letter, unless
+// another sender was refused, or the receiver has ended.
 fn send_texts<R: Wait, Q: Fifo + Drop>(
     rt: &R,
     office: &Office<Q>,
     number: usize,
     sender: &mut Sender<Q>,
     texts: Vec<String>,
+    ended: &EndCounter,
 ) -> Ended
     requires office { IsSender Q.is_seat Q.permits Q.known office.now sender.old }
     requires due { AreDue (marks office.now) number 0 texts.items }
@@ -40,13 +41,14 @@ fn send_texts<R: Wait, Q: Fifo + Drop>(
     ensures sent { result.refusal ≡ None
         → AddsEntries Q.known sender.old (length texts.items) sender.new }
 {
+    let until = GivenUp { counter: ended };
     let mut place = 0;
     for text in texts {
         let due = Due {
             task: number,
             place,
         };
-        if let Err(refusal) = sender.send_due(rt, office, text, Some(due)) {
+        if let Err(refusal) = sender.send_due(rt, office, text, due, &until) {
             return Ended::refused(refusal);
         }
         place += 1;
@@ -54,7 +56,14 @@ fn send_texts<R: Wait, Q: Fifo + Drop>(
     Ended::well()
 }
 
-// Sends the texts of the task of this number, and then counts its sender as ended. The last one shuts the queue.
+// Ends the waits for nodes: the letters won't all come.
+fn give_up<Q: Fifo + Drop>(office: &Office<Q>, ended: &EndCounter) {
+    ended.give_up();
+    office.queue.wake_all();
+}
+
+// Sends the texts of the task of this number, and then counts its sender as ended. The last one shuts the queue: no other sender
+// sends any more. Where the shut is refused, the receiver ends by the count, once it is woken.
 fn send_all<R: Wait, Q: Fifo + Drop>(
     rt: &R,
     office: &Office<Q>,
@@ -65,15 +74,18 @@ fn send_all<R: Wait, Q: Fifo + Drop>(
     requires { IsTaskAt Q.is_seat Q.permits Q.known office.now number task }
 {
     let Task { mut sender, texts } = task;
-    let end = send_texts(rt, office, number, &mut sender, texts);
-    if ended.ends_last() {
-        // No other sender sends any more. Where the shut is refused, the receiver ends by the count.
-        let _ = sender.shut(rt, office);
+    let end = send_texts(rt, office, number, &mut sender, texts, ended);
+    if end.refusal().is_some() {
+        give_up(office, ended);
+    }
+    if ended.ends_last() && sender.shut(rt, office).is_err() {
+        office.queue.wake_all();
     }
     end
 }
 
-// Starts the thread of a task's sender; none where no thread can be made, and the sender then counts as ended.
+// Starts the thread of a task's sender; none where no thread can be made, and the sender then counts as ended. The receiver
+// doesn't take letters yet, so none has to wake it.
 fn start<'s, E, R: Threads + Wait + Sync, Q: Fifo + Sync + Drop>(
     scope: &Scope<'s, E>,
     rt: &'s R,
@@ -136,13 +148,12 @@ fn take_all<'a, R: Wait, Q: Fifo + Drop>(
     ensures texts { IfOk result (λ v. AreThoseDue office.now (length counts.items) v.items) }
     ensures refusal { IfErr result EndsPost }
 {
-    let backoff = Backoff::new();
+    let until = AllEnded { counter: ended };
     for _ in rt.forever() {
         if letters.len() >= due {
             return Ok(letters);
         }
-        let all_ended = ended.all_ended();
-        match receiver.take(rt, office) {
+        match receiver.recv_until(rt, office, &until) {
             Ok(Some(letter)) => {
                 let Some(place) = receiver.last_due(office) else {
                     return Err(Refusal::Lost);
@@ -152,9 +163,7 @@ fn take_all<'a, R: Wait, Q: Fifo + Drop>(
                 }
                 letters.push_reserved(letter);
             }
-            Ok(None) if all_ended => return Ok(letters),
-            Ok(None) => backoff.snooze(),
-            Err(Refusal::Closed) => return Ok(letters),
+            Ok(None) | Err(Refusal::Closed) => return Ok(letters),
             Err(refusal) => return Err(refusal),
         }
     }
@@ -163,7 +172,7 @@ fn take_all<'a, R: Wait, Q: Fifo + Drop>(
 
 // What is answered of a sender's refusal: that its letters are lost, where it found the queue shut.
 fn answered(refusal: Option<Refusal>) -> Option<Refusal>
-    requires { IfSome refusal EndsSend }
+    requires { IfSome refusal EndsDue }
     ensures shut { refusal ≡ Some Refusal.Closed → result ≡ Some Refusal.Lost }
     ensures same { refusal ≢ Some Refusal.Closed → result ≡ refusal }
     ensures refusal { IfSome result EndsPost }
@@ -242,6 +251,7 @@ fn run<'s, 'a: 's, E, R: Threads + Wait + Sync, Q: Fifo + Sync + Drop>(
         threads.push_reserved(start(scope, rt, office, number, task, ended));
     }
     let taken = take_all(rt, office, receiver, letters, due, counts, ended);
+    give_up(office, ended);
     let refused = join_all(rt, threads);
     let letters = taken?;
     if letters.len() < due {
@@ -253,12 +263,15 @@ fn run<'s, 'a: 's, E, R: Threads + Wait + Sync, Q: Fifo + Sync + Drop>(
 /// Sends the letters of each task in a thread of its own, and takes them in the calling thread. The receiver comes back.
 ///
 /// The office was made for these tasks, by `Office::for_tasks`, and their seats are numbered from 1 on, in order. The letters
-/// come in the order in which they were taken. A sender ends at its first refusal, and the one that ends last shuts the
-/// queue, unless no thread could be made for it, or the shut is refused. Refusals: `Memory`, before any thread, where there
-/// is no room for the letters and threads; then that of a take, or `Lost` where a letter isn't the next one of its sender's;
-/// else, where letters are missing, the refusal of the first task whose sender was refused (`Memory` where its thread could
-/// not be made, `Lost` where it found the queue shut); else `Lost`. That a take finds the queue shut and empty is none.
-/// Takes memory for the letters and the threads, and waits for all of them.
+/// come in the order in which they were taken. The receiver sleeps while there is no letter, and a sender while there is no
+/// node for one. A sender ends at its first refusal, which is `NoNode` where there was no node and another sender had been
+/// refused, or the receiver had ended. The sender that ends last shuts the queue, unless no thread could be made for it, or
+/// the shut is refused.
+///
+/// Refusals: `Memory`, before any thread, where there is no room for the letters and threads; then that of a take, or `Lost`
+/// where a letter isn't the next one of its sender's; else, where letters are missing, the refusal of the first task whose
+/// sender was refused (`Memory` where its thread could not be made, `Lost` where it found the queue shut); else `Lost`. That
+/// a take finds the queue shut and empty is none. Takes memory for the letters and the threads, and waits for all of them.
 ///
 /// ```rust
 /// let office = office.for_tasks(alloc, &tasks)?;

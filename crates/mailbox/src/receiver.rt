@@ -1,20 +1,20 @@
 //! The receiver of letters.
-ghost use Rattle.std.specs.Prelude.{◌≡◌, ◌≤◌, ◌≢◌, true, Err, IfErr, IfOk};
+ghost use Rattle.std.specs.Prelude.{◌≡◌, ◌≤◌, ◌≢◌, true, Err, IfErr, IfOk, OnOk, OnErr};
 ghost use Rattle.history.specs.declared.refusals.Refusal.TheVariants.{Lost};
+ghost use Rattle.history.specs.Answers.{Popped, PopRefused};
+ghost use Rattle.blocking_queue.specs.Answers.{Received, RecvRefused};
 ghost use Rattle.mailbox.specs.Deliveries.{InOrder};
 ghost use Rattle.mailbox.specs.Offices.{IsReceiver, receiver_knows, has_lost};
-ghost use Rattle.mailbox.specs.Offices.{ShowsLast, LastIs, LastFits};
-ghost use Rattle.mailbox.specs.Offices.{TakeAnswers, TookNothing, Loses, TakeHadCause, TakeEnded};
+ghost use Rattle.mailbox.specs.Offices.{ShowsLast, LastIs, LastFits, Read, FoundMissing};
+ghost use Rattle.mailbox.specs.Offices.{TakeAnswers, TookText, TookNothing, Loses, RecvAnswers};
+ghost use Rattle.mailbox.specs.Offices.{TakeHadCause, TakeEnded, RecvEnded};
 ghost use Rattle.mailbox.specs.Refusals.{StopsTake, EndsTake, HandsOn};
 
 use crate::office::Office;
 use crate::parcels::{Due, Missing, Shown, find, parcel_at};
-use crossbeam_utils::Backoff;
-use history::{Fifo, Refusal};
+use blocking_queue::{Deadline, InTime};
+use history::{Fifo, Refusal, Taken};
 use std::sync::Wait;
-
-/// How many turns a waiting call takes before it lets others go on.
-const TURNS: u32 = 8;
 
 /// A letter taken: the number of its sender's seat, and its text.
 #[derive(Clone, Copy, Debug)]
@@ -32,6 +32,37 @@ pub struct Receiver<Q: Fifo + Drop> {
 }
 
 impl<Q: Fifo + Drop> Receiver<Q> {
+    // Whether a letter was lost.
+    fn has_lost(&self) -> bool
+        ensures { result ≡ has_lost self.now }
+    {
+        self.missing.is_some()
+    }
+
+    // The letter that a value names. Refused by `Lost` where the office shows none.
+    fn open<'a>(&mut self, office: &'a Office<Q>, value: Taken) -> Result<Letter<'a>, Refusal>
+        ensures seat { self.new.seat ≡ self.old.seat }
+        ensures from { IfOk result (λ letter. value.from ≡ letter.from) }
+        ensures read { IfOk result (λ letter. Read office.now self.new value.body letter.text.now) }
+        ensures kept { OnOk result (has_lost self.new ≡ has_lost self.old) }
+        ensures missing { OnErr result (FoundMissing self.new value.body) }
+        ensures refusal { IfErr result (λ refusal. refusal ≡ Lost) }
+    {
+        let shown = match find(&office.letters, value.body.number() as usize) {
+            Ok(shown) => shown,
+            Err(missing) => {
+                self.missing = Some(missing);
+                return Err(Refusal::Lost);
+            }
+        };
+        let parcel = parcel_at(&office.letters, &shown);
+        self.last = Some(shown);
+        Ok(Letter {
+            from: value.from,
+            text: parcel.text.as_str(),
+        })
+    }
+
     /// Takes the letter that is due, in so many turns at most, 1 or more; none where there was none. The office is the one
     /// that the receiver was made with.
     ///
@@ -61,37 +92,26 @@ impl<Q: Fifo + Drop> Receiver<Q> {
         //=   and keeps a `Missing` for its body, which only a look at a store that shows no letter there makes, and each
         //=   later one changes nothing and is refused so too.
         ensures refused { IfErr result
-            (λ refusal. refusal ≢ Lost → TookNothing Q.known self.old refusal self.new) }
-        ensures lost { result ≡ Err Lost → Loses Q.known self.old self.new }
+            (λ refusal. refusal ≢ Lost → TookNothing PopRefused Q.known self.old refusal self.new) }
+        ensures lost { result ≡ Err Lost → Loses Popped Q.known self.old self.new }
         ensures stays_lost { has_lost self.old ≡ true → result ≡ Err Lost }
         //= letters/refusals: A send is refused by `Memory` with the sender as it was, by `BadSize` where the index is
         //=   no body, or as a push; a take as a pop, or by `Lost`; a shut as the queue's. Those that wait are never
-        //=   refused by `Busy`.
+        //=   refused by `Busy`, and a `send` never by `NoNode`.
         ensures refusal { IfErr result StopsTake }
         //= letters/causes: A send, a shut or a take refused as the queue's call hands on; one that waits has the cause
         //=   of a try of 8 turns, as for `Fifo::push`, `shut` and `pop`.
         ensures caused { IfErr result
             (HandsOn (TakeHadCause Q.pop_cause office.now self.old self.new turns)) }
     {
-        if self.missing.is_some() {
+        if self.has_lost() {
             return Err(Refusal::Lost);
         }
         let Some(value) = office.queue.try_pop(&mut self.seat, turns)? else {
             return Ok(None);
         };
-        let shown = match find(&office.letters, value.body.number() as usize) {
-            Ok(shown) => shown,
-            Err(missing) => {
-                self.missing = Some(missing);
-                return Err(Refusal::Lost);
-            }
-        };
-        let parcel = parcel_at(&office.letters, &shown);
-        self.last = Some(shown);
-        Ok(Some(Letter {
-            from: value.from,
-            text: parcel.text.as_str(),
-        }))
+        let letter = self.open(office, value)?;
+        Ok(Some(letter))
     }
 
     /// Takes the letter that is due, and tries again while others are in the way; none where there was none.
@@ -99,9 +119,8 @@ impl<Q: Fifo + Drop> Receiver<Q> {
     /// Refusals as those of `try_take`, but never `Busy`. Takes no memory, and waits.
     ///
     /// ```rust
-    /// match receiver.take(rt, &office)? {
-    ///     Some(letter) => last = Some(letter.text),
-    ///     None => backoff.snooze(),
+    /// if let Some(letter) = receiver.take(rt, &office)? {
+    ///     last = Some(letter.text);
     /// }
     /// ```
     pub fn take<'a, R: Wait>(
@@ -117,8 +136,8 @@ impl<Q: Fifo + Drop> Receiver<Q> {
         ensures order { InOrder (receiver_knows Q.known self.new) }
         //= letters/refused_take (refused, lost, stays_lost)
         ensures refused { IfErr result
-            (λ refusal. refusal ≢ Lost → TookNothing Q.known self.old refusal self.new) }
-        ensures lost { result ≡ Err Lost → Loses Q.known self.old self.new }
+            (λ refusal. refusal ≢ Lost → TookNothing PopRefused Q.known self.old refusal self.new) }
+        ensures lost { result ≡ Err Lost → Loses Popped Q.known self.old self.new }
         ensures stays_lost { has_lost self.old ≡ true → result ≡ Err Lost }
         //= letters/refusals
         ensures refusal { IfErr result EndsTake }
@@ -126,15 +145,76 @@ impl<Q: Fifo + Drop> Receiver<Q> {
         ensures caused { IfErr result
             (HandsOn (TakeEnded Q.is_seat Q.known Q.pop_cause office.now self.old self.new 8)) }
     {
-        let backoff = Backoff::new();
-        for _ in rt.forever() {
-            match self.try_take(office, TURNS) {
-                Ok(letter) => return Ok(letter),
-                Err(Refusal::Busy) => backoff.snooze(),
-                Err(refusal) => return Err(refusal),
-            }
+        if self.has_lost() {
+            return Err(Refusal::Lost);
         }
-        unreachable!()
+        let Some(value) = office.queue.pop(rt, &mut self.seat)? else {
+            return Ok(None);
+        };
+        let letter = self.open(office, value)?;
+        Ok(Some(letter))
+    }
+
+    /// Takes the letter that is due, and sleeps while there is none, until a send or a shut wakes it.
+    ///
+    /// Refusals as those of `take`. Takes no memory, and waits.
+    ///
+    /// ```rust
+    /// // Until a sender shuts the office, and all letters are taken.
+    /// let letter = receiver.recv(rt, &office)?;
+    /// ```
+    pub fn recv<'a, R: Wait>(
+        &mut self,
+        rt: &R,
+        office: &'a Office<Q>,
+    ) -> Result<Letter<'a>, Refusal>
+        requires office { IsReceiver Q.is_seat Q.permits Q.known office.now self.old }
+        ensures office { IsReceiver Q.is_seat Q.permits Q.known office.now self.new }
+        //= letters/received (answer, refused, lost, stays_lost, caused): A `recv` takes a letter, or is refused, as a take
+        //=   that waits; before that its seat made no entry, saw no less, and noted only more.
+        ensures answer { IfOk result (λ letter. TookText Received Q.known office.now self.old
+            letter.from letter.text.now self.new) }
+        //= letters/in_order
+        ensures order { InOrder (receiver_knows Q.known self.new) }
+        ensures refused { IfErr result
+            (λ refusal. refusal ≢ Lost → TookNothing RecvRefused Q.known self.old refusal self.new) }
+        ensures lost { result ≡ Err Lost → Loses Received Q.known self.old self.new }
+        ensures stays_lost { has_lost self.old ≡ true → result ≡ Err Lost }
+        //= letters/refusals
+        ensures refusal { IfErr result EndsTake }
+        ensures caused { IfErr result
+            (HandsOn (RecvEnded Q.is_seat Q.known Q.pop_cause office.now self.old self.new 8)) }
+    {
+        if self.has_lost() {
+            return Err(Refusal::Lost);
+        }
+        let value = office.queue.recv(rt, &mut self.seat)?;
+        let letter = self.open(office, value)?;
+        Ok(letter)
+    }
+
+    /// As `recv`; none where there was no letter after the deadline had come.
+    pub(crate) fn recv_until<'a, R: Wait, D: Deadline>(
+        &mut self,
+        rt: &R,
+        office: &'a Office<Q>,
+        until: &D,
+    ) -> Result<Option<Letter<'a>>, Refusal>
+        requires office { IsReceiver Q.is_seat Q.permits Q.known office.now self.old }
+        ensures office { IsReceiver Q.is_seat Q.permits Q.known office.now self.new }
+        ensures answer { IfOk result (λ v. RecvAnswers Q.known office.now self.old v self.new) }
+        ensures order { InOrder (receiver_knows Q.known self.new) }
+        ensures refused { IfErr result
+            (λ refusal. refusal ≢ Lost → TookNothing RecvRefused Q.known self.old refusal self.new) }
+        ensures refusal { IfErr result EndsTake }
+    {
+        if self.has_lost() {
+            return Err(Refusal::Lost);
+        }
+        match &office.queue.recv_until(rt, &mut self.seat, until)? {
+            InTime::Done(value) => Ok(Some(self.open(office, *value)?)),
+            InTime::Late(_) => Ok(None),
+        }
     }
 
     /// Which of the texts due the letter is that was taken last; none where it is of no task.

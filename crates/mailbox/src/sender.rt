@@ -2,14 +2,15 @@
 ghost use Rattle.std.specs.Prelude.{◌≡◌, ◌≤◌, Err, OnOk, IfOk, IfErr, string_bytes};
 ghost use Rattle.history.specs.declared.refusals.Refusal.TheVariants.{Memory, BadSize};
 ghost use Rattle.history.specs.Answers.{StopsShut, EndsShut};
-ghost use Rattle.mailbox.specs.Refusals.{StopsStore, StopsSend, EndsSend, HandsOn};
-ghost use Rattle.mailbox.specs.Plans.{Fits};
+ghost use Rattle.mailbox.specs.Refusals.{StopsStore, StopsSend, EndsSend, EndsDue, HandsOn};
+ghost use Rattle.mailbox.specs.Plans.{Fits, IsDue};
 ghost use Rattle.mailbox.specs.Offices.{IsSender, marks, Stored, Sent, SentNothing, HasNoBody};
 ghost use Rattle.mailbox.specs.Offices.{HasStored, HasSentTheSame, DidShutOffice};
 ghost use Rattle.mailbox.specs.Offices.{SendHadCause, SendEnded};
 
 use crate::office::Office;
 use crate::parcels::{Due, Parcel, Shown};
+use blocking_queue::{Deadline, InTime};
 use history::{Body, Fifo, Refusal};
 use std::sync::Wait;
 
@@ -84,9 +85,9 @@ impl<Q: Fifo + Drop> Sender<Q> {
         office.queue.try_push(&mut self.seat, body, turns)
     }
 
-    /// Sends a letter, and tries again while others are in the way. The letter is stored once.
+    /// Sends a letter, and sleeps while there is no node for it, until a take or a shut wakes it. The letter is stored once.
     ///
-    /// Refusals as those of `try_send`, but never `Busy`. Takes memory for the letter, and waits.
+    /// Refusals as those of `try_send`, but never `Busy` or `NoNode`. Takes memory for the letter, and waits.
     ///
     /// ```rust
     /// sender.send(rt, &office, text)?;
@@ -106,32 +107,38 @@ impl<Q: Fifo + Drop> Sender<Q> {
         ensures caused { IfErr result
             (HandsOn (SendEnded Q.is_seat Q.known Q.push_cause office.now self.old self.new 8)) }
     {
-        self.send_due(rt, office, text, None)
+        let index = self.store(rt, office, text, None)?;
+        office.queue.send(rt, &mut self.seat, index)
     }
 
-    /// As `send`, of a letter that may be one of those due.
-    pub(crate) fn send_due<R: Wait>(
+    /// As `send`, of a letter that is one of those due; `NoNode` where there was no node for it when the deadline came.
+    pub(crate) fn send_due<R: Wait, D: Deadline>(
         &mut self,
         rt: &R,
         office: &Office<Q>,
         text: String,
-        due: Option<Due>,
+        due: Due,
+        until: &D,
     ) -> Result<(), Refusal>
         requires office { IsSender Q.is_seat Q.permits Q.known office.now self.old }
-        requires due { Fits (marks office.now) due (string_bytes text) }
+        requires due { IsDue (marks office.now) due (string_bytes text) }
         ensures office { IsSender Q.is_seat Q.permits Q.known office.now self.new }
         ensures sent { OnOk result (Sent Q.known office.now self.old self.new text) }
         ensures refused { IfErr result (λ refusal. SentNothing Q.known self.old refusal self.new) }
         ensures memory { result ≡ Err Memory → self.new ≡ self.old }
         ensures no_body { result ≡ Err BadSize → HasNoBody office.now self.old self.new text }
-        ensures refusal { IfErr result EndsSend }
+        ensures refusal { IfErr result EndsDue }
         ensures stored { IfErr result (HandsOn (λ _. HasStored office.now self.new text)) }
         ensures caused { IfErr result
             (HandsOn (SendEnded Q.is_seat Q.known Q.push_cause office.now self.old self.new 8)) }
     {
-        let body = self.store(rt, office, text, due)?;
-        office.queue.push(rt, &mut self.seat, body)
+        let body = self.store(rt, office, text, Some(due))?;
+        match office.queue.send_until(rt, &mut self.seat, body, until)? {
+            InTime::Done(()) => Ok(()),
+            InTime::Late(_) => Err(Refusal::NoNode),
+        }
     }
+
     /// Shuts the office's queue, in so many turns at most, 1 or more: no letter is sent after it, and those sent before
     /// stay to be taken. The office is the one that the sender was made with.
     ///

@@ -1,5 +1,6 @@
 //! Runs of letters, with the answers worked out by hand.
 mod comparing;
+mod drawn;
 mod letters;
 mod listed_runs;
 mod loads;
@@ -7,5 +8,6 @@ mod losses;
 mod nonblocking_runs;
 mod plans;
 mod shut_offices;
+mod sleeping;
 mod texts;
 mod two_lock_runs;

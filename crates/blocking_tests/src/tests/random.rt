@@ -5,16 +5,17 @@ use history::{Body, Fifo, Refusal};
 use node_arena::Role;
 use nonblocking::MsQueue;
 use queue_handles::{Handle, deal_side};
-use std::alloc::Global;
+use std::alloc::{Alloc, Global};
+use std::rt::Env;
 use std::sync::atomic::{AtomicU64, Ordering};
 use std::sync::{Arc, Wait};
 use std::test::Fail;
-use std::thread;
 use std::thread::{Threads, join};
 use std::time::{Clock, Duration};
+use std::{env, thread};
 use two_lock::TwoLockQueue;
 
-/// How many runs there are, half of them on each queue. By hand there were more.
+/// How many runs there are, half of them on each queue, unless `MSQ_RUNS` says how many: by hand there were more.
 const RUNS: u64 = 60;
 
 /// How many bodies a sender has.
@@ -236,12 +237,21 @@ fn run<R: Threads + Wait + Clock + Sync, Q: Fifo<Seat: Sync> + Sync + Send + Dro
     Ok((sent, wrong))
 }
 
+// How many runs are made.
+fn runs<R: Env + Alloc>(rt: &R) -> u64 {
+    match env::var(rt, "MSQ_RUNS") {
+        Ok(text) => text.parse().unwrap_or(RUNS),
+        Err(_) => RUNS,
+    }
+}
+
 /// Each run ends, and each value that was sent was received once, or is left. The last handle of a side shuts the queue.
 #[test]
 fn each_value_is_received_or_left(rt: HostRuntime) -> Result<(), Fail> {
     let mut draw = Draw { state: 7 };
     let mut all = 0u64;
-    for number in 0..RUNS {
+    let runs = runs(&rt);
+    for number in 0..runs {
         let nodes = 2 + draw.below(6) as u32;
         let seed = draw.below(1 << 30);
         let (sent, wrong) = if number % 2 == 0 {
@@ -254,6 +264,6 @@ fn each_value_is_received_or_left(rt: HostRuntime) -> Result<(), Fail> {
         assert_eq!(rt; wrong, 0, "run {number}, {nodes} nodes, seed {seed}");
         all = all.wrapping_add(sent);
     }
-    assert!(rt; all > RUNS, "{all} sent");
+    assert!(rt; all > runs, "{all} sent");
     Ok(())
 }

@@ -3,6 +3,7 @@ use super::comparing::same;
 use super::letters::{a_loss_is_told_from_then_on, letters_come_in_the_order_sent};
 use super::loads::LOADS;
 use super::shut_offices::{a_shut_ends_an_office, a_worn_tail_refuses_the_shut_of_an_office};
+use super::sleeping::{a_receiver_is_woken, a_sender_is_woken};
 use history::Refusal;
 use mail_engine::mail_queue;
 use nonblocking::NonBlockingAlgorithm;
@@ -82,5 +83,34 @@ fn each_senders_letters_come_in_order(rt: HostRuntime) -> Result<(), Fail> {
         let tried = format_args!("{senders} senders of {count} letters");
         same(&rt, found, Ok((Some(*all), *senders > 0)), tried);
     }
+    Ok(())
+}
+
+/// A receiver is woken by a letter and by a shut, and a sender beside a full queue by a take.
+/// Mutants, by hand, with which this doesn't end: a push, a pop or a shut that wakes nobody.
+#[test]
+fn who_sleeps_is_woken(rt: HostRuntime) -> Result<(), Fail> {
+    let (queue, seats, receiver) = mail_queue::<NonBlockingAlgorithm>(rt.alloc(), 4, 100, 1)?;
+    a_receiver_is_woken(&rt, rt.alloc(), queue, seats, receiver)?;
+    let (queue, seats, receiver) = mail_queue::<NonBlockingAlgorithm>(rt.alloc(), 2, 100, 1)?;
+    a_sender_is_woken(&rt, rt.alloc(), queue, seats, receiver)?;
+    Ok(())
+}
+
+/// All letters come through a queue with room for one.
+#[test]
+fn letters_come_through_a_small_queue(rt: HostRuntime) -> Result<(), Fail> {
+    let (queue, seats, receiver) = mail_queue::<NonBlockingAlgorithm>(
+        rt.alloc(),
+        2,
+        GREATEST_COUNT,
+        4,
+    )?;
+    let load = Load {
+        first: 200,
+        others: 200,
+    };
+    let came = posted(&rt, rt.alloc(), queue, seats, receiver, load)?;
+    same(&rt, (came.in_order, came.shut), (Some(800), true), "");
     Ok(())
 }

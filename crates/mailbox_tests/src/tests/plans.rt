@@ -63,8 +63,15 @@ impl Plan for Trouble {
     fn finds_empty(&self) {}
 }
 
-/// How long the first pop that finds none is held: so often it lets other threads go on.
+/// How long a call is held, so that others come to sleep or to their end: so often it lets other threads go on.
 const LATE_TURNS: u32 = 20_000;
+
+// Lets other threads come to sleep, or to their end.
+fn hold_long() {
+    for _ in 0..LATE_TURNS {
+        thread::yield_now();
+    }
+}
 
 /// Pushes are held until a pop found none. That pop is held so long that the push is made, and its sender ends.
 #[derive(Drop)]
@@ -98,14 +105,12 @@ impl Plan for Late {
 
     fn finds_empty(&self) {
         if self.empty.fetch_add(1, Ordering::SeqCst) == 0 {
-            for _ in 0..LATE_TURNS {
-                thread::yield_now();
-            }
+            hold_long();
         }
     }
 }
 
-/// The first push is handed on, and each later one and each shut is refused `WornOut(Tail)`.
+/// The first push is handed on, and each later one is held for long and then refused `WornOut(Tail)`, as each shut is.
 #[derive(Drop)]
 pub struct WornTail {
     pushes: AtomicU64,
@@ -125,6 +130,7 @@ impl Plan for WornTail {
         if self.pushes.fetch_add(1, Ordering::SeqCst) == 0 {
             None
         } else {
+            hold_long();
             Some(Refusal::WornOut(WornWord::Tail))
         }
     }
@@ -135,6 +141,23 @@ impl Plan for WornTail {
 
     fn shut_refusal(&self, _turns: u32) -> Option<Refusal> {
         Some(Refusal::WornOut(WornWord::Tail))
+    }
+
+    fn finds_empty(&self) {}
+}
+
+/// Each pop is held for long and then refused `WornOut(Head)`.
+#[derive(Drop)]
+pub struct WornHead;
+
+impl Plan for WornHead {
+    fn push_refusal(&self, _turns: u32) -> Option<Refusal> {
+        None
+    }
+
+    fn pop_refusal(&self, _turns: u32) -> Option<Refusal> {
+        hold_long();
+        Some(Refusal::WornOut(WornWord::Head))
     }
 
     fn finds_empty(&self) {}

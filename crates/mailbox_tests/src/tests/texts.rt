@@ -1,8 +1,9 @@
-//! Texts of mail that are posted over both queues, from any source to any sink.
+//! Texts of mail that are posted over each queue, from any source to any sink.
 use super::comparing::same;
 use history::Refusal;
 use line_table::Kind;
 use mail_engine::post_text;
+use queue_kinds::QueueKind;
 use std::alloc::Global;
 use std::process::Abort;
 use std::sync::Wait;
@@ -10,7 +11,11 @@ use std::test::Fail;
 use std::thread::Threads;
 use text_io::{Script, Trouble};
 
-const KINDS: [Kind; 2] = [Kind::TwoLock, Kind::NonBlocking];
+const KINDS: [QueueKind; 3] = [
+    QueueKind::Linked(Kind::TwoLock),
+    QueueKind::Linked(Kind::NonBlocking),
+    QueueKind::Ring,
+];
 
 const THREE: &[u8] = b"mail 2 3
 1 hello
@@ -52,7 +57,7 @@ fn posts<R: Threads + Wait + Sync + Abort>(
     rt: &R,
     alloc: Global,
     (mut reader, mut writer): (Script, Script),
-    kind: Kind,
+    kind: QueueKind,
     wanted: (Result<(), Refusal>, &[u8]),
     tried: usize,
 ) {
@@ -80,7 +85,7 @@ fn each_senders_letters_are_told_in_order(rt: HostRuntime) -> Result<(), Fail> {
 fn a_write_ends_it<R: Threads + Wait + Sync + Abort>(
     rt: &R,
     alloc: Global,
-    kind: Kind,
+    kind: QueueKind,
 ) -> Result<(), Fail> {
     for call in 1..=4u64 {
         for trouble in [Trouble::Failure, Trouble::Standstill] {
@@ -99,7 +104,7 @@ fn a_write_ends_it<R: Threads + Wait + Sync + Abort>(
 fn a_read_ends_it<R: Threads + Wait + Sync + Abort>(
     rt: &R,
     alloc: Global,
-    kind: Kind,
+    kind: QueueKind,
 ) -> Result<(), Fail> {
     for call in 1..=5u64 {
         let reader = Script::reader(alloc, THREE, 9)?.with(Trouble::Failure, call);

@@ -6,8 +6,9 @@ use super::losses::{
     a_letter_of_no_task_is_lost, a_post_in_a_shut_office_is_lost,
     tasks_in_another_order_lose_a_letter,
 };
-use super::plans::{Late, Trouble, WornTail};
+use super::plans::{Late, Trouble, WornHead, WornTail};
 use super::shut_offices::a_shut_ends_an_office;
+use super::sleeping::{a_receiver_is_woken, a_sender_is_woken};
 use history::{Refusal, WornWord};
 use mail_engine::mail_queue;
 use mock_queues::Planned;
@@ -155,7 +156,8 @@ fn a_letter_comes_that_is_sent_after_a_take_found_none(rt: HostRuntime) -> Resul
 
 /// Where Tail is worn out behind the first letter, the shut is refused too: the receiver ends by the count of those that ended,
 /// and the first sender's refusal is answered.
-/// A mutant, by hand: with a receiver that ends only where the queue is shut or all letters are there, this doesn't end.
+/// Mutants, by hand, with which this doesn't end: a receiver that ends only where the queue is shut or all letters are there;
+/// a last sender that wakes nobody where its shut is refused.
 #[test]
 fn a_post_ends_where_its_shut_is_refused(rt: HostRuntime) -> Result<(), Fail> {
     let (queue, seats, receiver) = mail_queue::<TwoLockAlgorithm>(
@@ -171,6 +173,55 @@ fn a_post_ends_where_its_shut_is_refused(rt: HostRuntime) -> Result<(), Fail> {
     };
     let found = posted(&rt, rt.alloc(), queue, seats, receiver, load).err();
     same(&rt, found, Some(Refusal::WornOut(WornWord::Tail)), "");
+    Ok(())
+}
+
+/// Senders that sleep beside a full queue end where their receiver is refused, whose refusal is answered.
+/// Mutants, by hand, with which this doesn't end: a receiver that tells nobody that it has ended, or wakes nobody then.
+#[test]
+fn a_post_ends_where_its_receiver_is_refused(rt: HostRuntime) -> Result<(), Fail> {
+    let (queue, seats, receiver) = mail_queue::<TwoLockAlgorithm>(
+        rt.alloc(),
+        6,
+        GREATEST_COUNT,
+        2,
+    )?;
+    let queue = Planned::new(queue, WornHead);
+    let load = Load {
+        first: 20,
+        others: 20,
+    };
+    let found = posted(&rt, rt.alloc(), queue, seats, receiver, load).err();
+    same(&rt, found, Some(Refusal::WornOut(WornWord::Head)), "");
+    Ok(())
+}
+
+/// A receiver is woken by a letter and by a shut, and a sender beside a full queue by a take.
+/// Mutants, by hand, with which this doesn't end: a push, a pop or a shut that wakes nobody.
+#[test]
+fn who_sleeps_is_woken(rt: HostRuntime) -> Result<(), Fail> {
+    let (queue, seats, receiver) = mail_queue::<TwoLockAlgorithm>(rt.alloc(), 4, 100, 1)?;
+    a_receiver_is_woken(&rt, rt.alloc(), queue, seats, receiver)?;
+    let (queue, seats, receiver) = mail_queue::<TwoLockAlgorithm>(rt.alloc(), 2, 100, 1)?;
+    a_sender_is_woken(&rt, rt.alloc(), queue, seats, receiver)?;
+    Ok(())
+}
+
+/// All letters come through a queue with room for one.
+#[test]
+fn letters_come_through_a_small_queue(rt: HostRuntime) -> Result<(), Fail> {
+    let (queue, seats, receiver) = mail_queue::<TwoLockAlgorithm>(
+        rt.alloc(),
+        2,
+        GREATEST_COUNT,
+        4,
+    )?;
+    let load = Load {
+        first: 200,
+        others: 200,
+    };
+    let came = posted(&rt, rt.alloc(), queue, seats, receiver, load)?;
+    same(&rt, (came.in_order, came.shut), (Some(800), true), "");
     Ok(())
 }
 

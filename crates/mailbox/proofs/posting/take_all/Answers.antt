@@ -27,8 +27,8 @@ last_due-requires-clause-shown g c κs within =
     let took = rw c.in-Ok-Some.field-0-is at c.in-Ok-Some.ensures.answer in
     subst (λ last. IfSome last (Shows c.args.office.now.letters)) (sym took.read.is) took.read.here
 
-pub loop-preserved-in-Ok-Some : goal.loop-preserved-in-Ok-Some
-loop-preserved-in-Ok-Some g c =
+pub loop-preserved : goal.loop-preserved
+loop-preserved g c =
     let took = rw c.in-Ok-Some.field-0-is at c.in-Ok-Some.ensures.answer in
     let next : IsNext c.loop.counts.items c.in-Ok-Some.letter.from c.in-Some-last_due.place c.is_next.new.counts = subst (λ cs. IsNext cs c.in-Ok-Some.letter.from c.in-Some-last_due.place c.is_next.new.counts) c.deref_mut.ensures.value (c.if-not-is_next.ensures refl) in
     let fits = subst (λ due. Fits (marks c.args.office.now) due c.in-Ok-Some.letter.text.now) c.in-Some-last_due.is (c.last_due.ensures.fits took.value.body c.in-Ok-Some.letter.text.now took.read) in
@@ -54,8 +54,4 @@ returns-then-len-due-clause-texts g c =
 
 pub returns-in-Ok-None-clause-texts : goal.returns-in-Ok-None-clause-texts
 returns-in-Ok-None-clause-texts g c =
-    counted_those c.args.office.now c.loop.counts.items c.loop.letters.items _ c.loop.invariant.senders c.loop.invariant.counted
-
-pub returns-in-Err-Closed-clause-texts : goal.returns-in-Err-Closed-clause-texts
-returns-in-Err-Closed-clause-texts g c =
     counted_those c.args.office.now c.loop.counts.items c.loop.letters.items _ c.loop.invariant.senders c.loop.invariant.counted

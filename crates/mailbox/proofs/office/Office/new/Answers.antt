@@ -8,4 +8,4 @@ returns-clause-each g c =
     let steps = c.in-None.ensures.steps in
     let kept = c.loop-seat.invariant in
     let same : map (λ s. s.seat) c.loop-seat.all.items ≡ c.args.senders.items = grind (arith, common_steps) in
-    senders_of-seats _ _ _ _ c.args.senders.items c.loop-seat.all.items same c.requires.senders
+    senders_of-seats _ _ _ (record { queue = c.new-queue.result; letters = c.in-Ok.letters }) c.args.queue c.new-queue.ensures c.args.senders.items c.loop-seat.all.items same c.requires.senders
