@@ -7,7 +7,7 @@ use Rattle.placing.specs.declared.answers.Span.{Span}
 use Rattle.placing.specs.declared.answers.Reason.{Reason}
 use Rattle.placing.specs.declared.answers.Reason.TheVariants.{Shape, Span as Spans, Reply, Sooner, Order, Full, Late, Twice, Unshut, Undrained}
 use Rattle.placing.specs.declared.answers.Unknown.{Unknown}
-use Rattle.placing.specs.declared.answers.Unknown.TheVariants.{Steps, Searched}
+use Rattle.placing.specs.declared.answers.Unknown.TheVariants.{Steps, Searched, Unplaced}
 use Rattle.placing.specs.declared.answers.Placed.{Placed}
 use Rattle.placing.specs.declared.answers.Placed.TheVariants.{History, Impossible, Open}
 use Rattle.history_text.specs.HistoryText.{history_text}
@@ -72,6 +72,7 @@ no_text reason = head_text reason ++ others_text reason ++ codes "\n"
 abbrev pub unknown_name : Unknown → List ℕ
 unknown_name Steps = codes "Steps"
 unknown_name Searched = codes "Searched"
+unknown_name Unplaced = codes "Unplaced"
 
 -- the line that tells that nothing was found
 unfoldable pub open_text : Unknown → List ℕ

@@ -7,7 +7,7 @@ use Rattle.history.specs.declared.operations.Stamped.{Stamped}
 use Rattle.placing.specs.declared.answers.Placed.{Placed}
 use Rattle.placing.specs.declared.answers.Placed.TheVariants.{History, Impossible, Open}
 use Rattle.placing.specs.Calls.{IsOfQueue}
-use Rattle.placing.specs.Answers.{IsAnswer}
+use Rattle.placing.specs.Answers.{IsAnswer, HasCause}
 use Rattle.place_engine.specs.FoundTexts.{found_text}
 use Rattle.recorded_source.specs.Given.{IsRecordOf}
 
@@ -17,20 +17,22 @@ SaysOf ops (History new) = IsOfQueue ops
 SaysOf ops (Impossible reason) = IsOfQueue ops → ⊥
 SaysOf ops (Open cause) = Unit {0}
 
--- known bytes were the text of a recorded history or of a recording, the answer is one of it and says what is so, and
--- the text that tells it was written
-pub record TellsPlaces (given : Option (List ℕ)) (old new : SinkState) (answer : Placed) : Type 0 where
+-- known bytes were the text of a recorded history or of a recording, the answer is one of it, by a search of at most so
+-- many steps, and says what is so, and the text that tells it was written
+pub record TellsPlaces (given : Option (List ℕ)) (steps : ℕ) (old new : SinkState) (answer : Placed) : Type 0 where
   pub operations : List Stamped
   pub history : IsRecordOf given operations
   pub answers : IsAnswer operations answer
+  pub cause : HasCause operations steps answer
   pub right : SaysOf operations answer
   pub written : Appends old.contents new.contents (found_text answer)
 
 -- known bytes were the text of a recorded history or of a recording, and a prefix of the text that tells an answer of
--- it was written
-pub record BeginsPlaces (given : Option (List ℕ)) (old new : SinkState) : Type 0 where
+-- it was written, by a search of at most so many steps
+pub record BeginsPlaces (given : Option (List ℕ)) (steps : ℕ) (old new : SinkState) : Type 0 where
   pub operations : List Stamped
   pub answer : Placed
   pub history : IsRecordOf given operations
   pub answers : IsAnswer operations answer
+  pub cause : HasCause operations steps answer
   pub begun : TakesPrefix old.contents new.contents (found_text answer)

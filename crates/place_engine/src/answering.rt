@@ -30,14 +30,14 @@ pub fn place_text<R: Source, W: Sink>(
     //= program/place (ok, quiet): `place_text` answers points, a reason or that it is open, for the history read or the
     //=   recording's, and its text is written. With points the history is one of a queue, with a reason it isn't.
     //= program/judge_refusals (ok, text, prefix, write, unwritten, refusal, reader)
-    ensures ok { IfOk result (TellsPlaces (R.state reader.old).left (W.state writer.old)
+    ensures ok { IfOk result (TellsPlaces (R.state reader.old).left steps (W.state writer.old)
         (W.state writer.new)) }
     ensures quiet { OnOk result ((W.state writer.new).failures ≡ (W.state writer.old).failures) }
     // A text is refused by its first faulty line.
     ensures text { IfErr result (TellsFaultOfRecord (R.state reader.old).left) }
     // Where writing fails, a prefix of the text that tells an answer is written.
     ensures prefix { IfErr result (λ refusal. refusal ≡ Refusal.Write
-        → BeginsPlaces (R.state reader.old).left (W.state writer.old) (W.state writer.new)) }
+        → BeginsPlaces (R.state reader.old).left steps (W.state writer.old) (W.state writer.new)) }
     ensures write { IfErr result (λ refusal. refusal ≡ Refusal.Write
         → GivesUp (W.state writer.old) (W.state writer.new)) }
     // At any other refusal nothing is.

@@ -171,5 +171,6 @@ fn name_of(cause: Unknown) -> &'static [u8]
     match cause {
         Unknown::Steps => b"Steps",
         Unknown::Searched => b"Searched",
+        Unknown::Unplaced => b"Unplaced",
     }
 }

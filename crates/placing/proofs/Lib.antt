@@ -11,3 +11,6 @@ mod Ranks
 pub mod InOrder
 pub mod Spreads
 mod Pushed
+pub mod Trying
+pub mod EdgeOrders
+mod SmallSearches

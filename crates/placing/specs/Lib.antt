@@ -5,3 +5,5 @@ pub mod Reasons
 pub mod Faults
 pub mod Answers
 pub mod Seen
+pub mod TriedQueues
+pub mod Tries

@@ -55,8 +55,10 @@ pub enum Reason {
 pub enum Unknown {
     /// The search for an order used up its steps: values were pushed more than once, or the queue was shut.
     Steps,
-    /// The search tried all orders in vain. That is no reason that could be tested.
+    /// The search found no order, and nothing was left to try. That is no reason that could be tested.
     Searched,
+    /// The order that the search found got no points that `check` judges Yes.
+    Unplaced,
 }
 
 /// What is found of a recorded history.

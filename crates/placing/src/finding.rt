@@ -5,7 +5,7 @@ ghost use Rattle.history.specs.History.{verdict};
 ghost use Rattle.placing.specs.declared.answers.Placed.TheVariants.{History};
 ghost use Rattle.placing.specs.Spreading.{IsSpread};
 ghost use Rattle.placing.specs.Faults.{IsFaultless};
-ghost use Rattle.placing.specs.Answers.{IsAnswer};
+ghost use Rattle.placing.specs.Answers.{IsAnswer, HasCause};
 
 use crate::answers::{Placed, Reason, Unknown};
 use crate::cutting::{Cutting, cut};
@@ -44,6 +44,9 @@ pub fn place(alloc: Global, history: &[Stamped], steps: u64) -> Result<Placed, R
     //= judge/answers (answer, only_memory): A recorded history is answered with points, by a reason that holds, or that
     //=   neither was found, which is said of none with an operation that is wrong by itself. Or Memory.
     ensures answer { IfOk result (IsAnswer history.now) }
+    //= judge/open: Open is told by a search, defined step by step: `Steps` after as many steps as were given, of which
+    //=   none ended it, `Searched` where it ended within them with nothing left to try, `Unplaced` with an order.
+    ensures cause { IfOk result (HasCause history.now steps) }
     ensures only_memory { IfErr result (λ refusal. refusal ≡ Refusal.Memory) }
 {
     if let Some(fault) = first_fault(history) {
@@ -61,15 +64,17 @@ pub fn place(alloc: Global, history: &[Stamped], steps: u64) -> Result<Placed, R
 }
 
 // The history with points by an order that a search finds.
+#[tactic(auto, using(crate::proofs::Trying::finds_unplaced))]
 fn sought(alloc: Global, history: &[Stamped], steps: u64) -> Result<Placed, Refusal>
     requires { All IsFaultless history.now }
     ensures answer { IfOk result (IsAnswer history.now) }
+    ensures cause { IfOk result (HasCause history.now steps) }
     ensures only_memory { IfErr result (λ refusal. refusal ≡ Refusal.Memory) }
 {
     match searched(alloc, history, steps) {
         Ok(Outcome::Order(order)) => match placed(alloc, history, &order)? {
             Some(new) => Ok(Placed::History(new)),
-            None => Ok(Placed::Open(Unknown::Searched)),
+            None => Ok(Placed::Open(Unknown::Unplaced)),
         },
         Ok(Outcome::Nothing) => Ok(Placed::Open(Unknown::Searched)),
         Ok(Outcome::Steps) => Ok(Placed::Open(Unknown::Steps)),
@@ -86,6 +91,7 @@ fn excluded(
 ) -> Result<Placed, Refusal>
     requires { All IsFaultless history.now }
     ensures answer { IfOk result (IsAnswer history.now) }
+    ensures cause { IfOk result (HasCause history.now steps) }
     ensures only_memory { IfErr result (λ refusal. refusal ≡ Refusal.Memory) }
 {
     match Known::of(alloc, history) {

@@ -1,5 +1,5 @@
 //! Laws of what is answered of a recorded history, each the contract of a function that does nothing.
-ghost use Rattle.std.specs.Prelude.{◌≡◌, ◌↔◌, List};
+ghost use Rattle.std.specs.Prelude.{◌≡◌, ◌↔◌, ℕ, ◌+◌, List};
 ghost use Rattle.history.specs.declared.operations.Stamped.{Stamped};
 ghost use Rattle.history.specs.declared.operations.Verdict.TheVariants.{Yes};
 ghost use Rattle.history.specs.History.{verdict};
@@ -7,6 +7,7 @@ ghost use Rattle.placing.specs.declared.answers.Reason.{Reason};
 ghost use Rattle.placing.specs.Calls.{IsOfQueue};
 ghost use Rattle.placing.specs.Spreading.{IsSpread, KeepsEachOrder};
 ghost use Rattle.placing.specs.Reasons.{IsReason};
+ghost use Rattle.placing.specs.Tries.{Ending, UsedUp, Ends};
 
 /// Where a history with points is judged `Yes`, and is another one but for stamps spread alike, that one is one of a
 /// queue.
@@ -32,4 +33,18 @@ pub fn a_reason_excludes()
     //= judge/reasons: A recorded history of which a reason holds is not one of a queue, whatever pending operations
     //=   did, and with operations on one number.
     ensures { (ops : List Stamped) (reason : Reason) → IsReason ops reason → ¬ IsOfQueue ops }
+{}
+
+/// With more steps a search that wasn't out of steps ends as it did: with the same order, or with nothing left to try.
+pub fn more_steps_end_alike()
+    //= judge/steps: A search that ended before its steps were used up ends so with more steps too.
+    ensures { (ops : List Stamped) (steps more : ℕ) (ending : Ending)
+        → ¬ (ending ≡ UsedUp) → Ends ops steps ending → Ends ops (steps + more) ending }
+{}
+
+/// A search ends in one way: where several operations begin or end at one number, in the order of their indices.
+pub fn a_search_ends_in_one_way()
+    //= judge/one_way: Within the same steps a search of the same operations ends in one way.
+    ensures { (ops : List Stamped) (steps : ℕ) (one other : Ending)
+        → Ends ops steps one → Ends ops steps other → one ≡ other }
 {}

@@ -11,6 +11,7 @@ mod holding;
 mod known;
 pub mod laws;
 mod lining;
+mod links;
 mod object;
 mod operations;
 mod ordering;

@@ -1,6 +1,12 @@
 //! The queue of a search: a list and whether it is shut, changed by one operation after another and back.
+ghost use Rattle.std.specs.Prelude.{◌≡◌, OnOk, IsTrue, ◌↔◌, is_some};
+ghost use Rattle.history.specs.History as rule;
+ghost use Rattle.placing.specs.TriedQueues as queues;
+ghost use Rattle.placing.specs.TriedQueues.{queue_of, no_values, queue_mark, pending_effect, done_effect, value_effect, empty_effect, closed_effect, is_value, applied, pushed_to, undone, changes};
+
+use crate::operations::is_closed;
 use crate::searching::mixed;
-use history::{Op, Refusal, Reply, Stamped, Taken};
+use history::{Op, Reply, Stamped, Taken};
 use std::alloc::{AllocError, Global};
 
 /// What an operation does to the queue.
@@ -10,6 +16,18 @@ pub(crate) enum Effect {
     Take,
     Shut,
     None,
+}
+
+impl Effect {
+    /// Whether it changes the queue.
+    pub(crate) fn changes(self) -> bool
+        ensures { result ≡ changes self }
+    {
+        match self {
+            Effect::Push | Effect::Take | Effect::Shut => true,
+            Effect::None => false,
+        }
+    }
 }
 
 // A value that was pushed, and a mark of it and of its place.
@@ -30,7 +48,9 @@ pub(crate) struct Object {
 }
 
 impl Object {
-    pub(crate) fn new(alloc: Global) -> Object {
+    pub(crate) fn new(alloc: Global) -> Object
+        ensures { queue_of result ≡ no_values }
+    {
         Object {
             pushed: Vec::new(alloc),
             taken: 0,
@@ -40,83 +60,166 @@ impl Object {
     }
 
     /// A mark of the values that are in the queue, and of whether it is shut.
-    pub(crate) fn mark(&self) -> u64 {
+    pub(crate) fn mark(&self) -> u64
+        ensures { result ≡ queue_mark (queue_of self.now) }
+    {
         if self.is_shut { !self.mark } else { self.mark }
     }
 
-    fn front(&self) -> Option<Pushed> {
+    fn front(&self) -> Option<Pushed>
+        ensures { result ≡ queues.front (queue_of self.now) }
+    {
         self.pushed.get(self.taken).copied()
     }
 
     /// What an operation does, where it may be next; none where it may not, or need not, since nobody was told of it and
     /// it does nothing.
-    pub(crate) fn effect_of(&self, operation: &Stamped) -> Option<Effect> {
-        match (operation.op, operation.reply) {
-            (Op::Deq, Some(Reply::Refused(Refusal::Closed))) => self.where_empty(self.is_shut),
-            (_, Some(Reply::Refused(Refusal::Closed))) => where_so(self.is_shut, Effect::None),
-            (_, Some(Reply::Refused(_))) => Some(Effect::None),
-            (Op::Enq(_), Some(Reply::Done) | None) => where_so(!self.is_shut, Effect::Push),
-            (Op::Shut, Some(Reply::Done) | None) => where_so(!self.is_shut, Effect::Shut),
-            (Op::Deq, Some(Reply::Value(value))) => where_so(self.is_front(&value), Effect::Take),
-            (Op::Deq, Some(Reply::Empty)) => self.where_empty(!self.is_shut),
-            (Op::Deq, None) => where_so(self.front().is_some(), Effect::Take),
-            (Op::Deq, Some(Reply::Done))
-            | (Op::Enq(_) | Op::Shut, Some(Reply::Value(_) | Reply::Empty)) => None,
+    pub(crate) fn effect_of(&self, op: Op, reply: Option<Reply>) -> Option<Effect>
+        ensures { result ≡ queues.effect_of (queue_of self.now) op reply }
+    {
+        match reply {
+            None => self.pending_effect(op),
+            Some(Reply::Done) => self.done_effect(op),
+            Some(Reply::Value(value)) => self.value_effect(&value, op),
+            Some(Reply::Empty) => self.empty_effect(op),
+            Some(Reply::Refused(refusal)) => {
+                if is_closed(refusal) {
+                    self.closed_effect(op)
+                } else {
+                    Some(Effect::None)
+                }
+            }
         }
     }
 
-    fn is_front(&self, value: &Taken) -> bool {
-        match self.front() {
-            Some(front) => front.from == value.from && front.body == value.body.number(),
-            None => false,
+    fn pending_effect(&self, op: Op) -> Option<Effect>
+        ensures { result ≡ pending_effect (queue_of self.now) op }
+    {
+        match op {
+            Op::Enq(_) => where_so(!self.is_shut, Effect::Push),
+            Op::Deq => where_so(self.front().is_some(), Effect::Take),
+            Op::Shut => where_so(!self.is_shut, Effect::Shut),
         }
     }
 
-    fn where_empty(&self, holds: bool) -> Option<Effect> {
-        where_so(holds && self.front().is_none(), Effect::None)
+    fn done_effect(&self, op: Op) -> Option<Effect>
+        ensures { result ≡ done_effect (queue_of self.now) op }
+    {
+        match op {
+            Op::Enq(_) => where_so(!self.is_shut, Effect::Push),
+            Op::Deq => None,
+            Op::Shut => where_so(!self.is_shut, Effect::Shut),
+        }
+    }
+
+    fn value_effect(&self, value: &Taken, op: Op) -> Option<Effect>
+        ensures { result ≡ value_effect (queue_of self.now) value.now op }
+    {
+        match op {
+            Op::Deq => where_so(is_value(value, self.front()), Effect::Take),
+            Op::Enq(_) | Op::Shut => None,
+        }
+    }
+
+    fn empty_effect(&self, op: Op) -> Option<Effect>
+        ensures { result ≡ empty_effect (queue_of self.now) op }
+    {
+        match op {
+            Op::Deq => where_so(!self.is_shut && !self.front().is_some(), Effect::None),
+            Op::Enq(_) | Op::Shut => None,
+        }
+    }
+
+    fn closed_effect(&self, op: Op) -> Option<Effect>
+        ensures { result ≡ closed_effect (queue_of self.now) op }
+    {
+        match op {
+            Op::Deq => where_so(self.is_shut && !self.front().is_some(), Effect::None),
+            Op::Enq(_) | Op::Shut => where_so(self.is_shut, Effect::None),
+        }
     }
 
     /// Changes the queue as an operation does.
-    pub(crate) fn apply(&mut self, operation: &Stamped, effect: Effect) -> Result<(), AllocError> {
-        match (effect, operation.op) {
-            (Effect::Push, Op::Enq(body)) => self.push(operation.actor, body.number())?,
-            (Effect::Take, _) => {
-                let mark = self.front().map_or(0, |front| front.mark);
-                self.mark = self.mark.wrapping_sub(mark);
-                self.taken = self.taken.saturating_add(1);
+    pub(crate) fn apply(&mut self, actor: u16, op: Op, effect: Effect) -> Result<(), AllocError>
+        ensures { OnOk result (queue_of self.new ≡ applied (queue_of self.old) actor op effect) }
+    {
+        match effect {
+            Effect::Push => self.push(actor, op),
+            Effect::Take => {
+                if let Some(front) = self.front() {
+                    self.mark = self.mark.wrapping_sub(front.mark);
+                    self.taken += 1;
+                }
+                Ok(())
             }
-            (Effect::Shut, _) => self.is_shut = true,
-            (Effect::Push | Effect::None, _) => {}
+            Effect::Shut => {
+                self.is_shut = true;
+                Ok(())
+            }
+            Effect::None => Ok(()),
         }
-        Ok(())
     }
 
-    fn push(&mut self, from: u16, body: u64) -> Result<(), AllocError> {
-        let place = mixed(self.pushed.len() as u64);
-        let mark = mixed(mixed(body ^ place).wrapping_add(u64::from(from)));
-        self.pushed.push(Pushed { from, body, mark })?;
-        self.mark = self.mark.wrapping_add(mark);
+    fn push(&mut self, actor: u16, op: Op) -> Result<(), AllocError>
+        ensures { OnOk result (queue_of self.new ≡ pushed_to (queue_of self.old) actor op) }
+    {
+        if let Op::Enq(body) = op {
+            let body = body.number();
+            let place = mixed(self.pushed.len() as u64);
+            let mark = mixed(mixed(body ^ place).wrapping_add(u64::from(actor)));
+            self.pushed.push(Pushed {
+                from: actor,
+                body,
+                mark,
+            })?;
+            self.mark = self.mark.wrapping_add(mark);
+        }
         Ok(())
     }
 
     /// Changes the queue back, the last change first.
-    pub(crate) fn undo(&mut self, effect: Effect) {
+    pub(crate) fn undo(&mut self, effect: Effect)
+        ensures { queue_of self.new ≡ undone (queue_of self.old) effect }
+    {
         match effect {
-            Effect::Push => {
-                let mark = self.pushed.pop().map_or(0, |pushed| pushed.mark);
-                self.mark = self.mark.wrapping_sub(mark);
-            }
-            Effect::Take => {
-                self.taken = self.taken.saturating_sub(1);
-                let mark = self.front().map_or(0, |front| front.mark);
-                self.mark = self.mark.wrapping_add(mark);
-            }
+            Effect::Push => self.undo_push(),
+            Effect::Take => self.undo_take(),
             Effect::Shut => self.is_shut = false,
             Effect::None => {}
         }
     }
+
+    fn undo_push(&mut self)
+        ensures { queue_of self.new ≡ undone (queue_of self.old) Effect.Push }
+    {
+        if let Some(pushed) = self.pushed.pop() {
+            self.mark = self.mark.wrapping_sub(pushed.mark);
+        }
+    }
+
+    fn undo_take(&mut self)
+        ensures { queue_of self.new ≡ undone (queue_of self.old) Effect.Take }
+    {
+        let before = self.taken.saturating_sub(1);
+        if let Some(front) = self.pushed.get(before).copied() {
+            self.mark = self.mark.wrapping_add(front.mark);
+            self.taken = before;
+        }
+    }
 }
 
-fn where_so(holds: bool, effect: Effect) -> Option<Effect> {
+// Whether a value is this one.
+fn is_value(value: &Taken, front: Option<Pushed>) -> bool
+    ensures { result ≡ is_value value.now front }
+{
+    match front {
+        Some(front) => front.from == value.from && front.body == value.body.number(),
+        None => false,
+    }
+}
+
+fn where_so(holds: bool, effect: Effect) -> Option<Effect>
+    ensures { result ≡ queues.where_so holds effect }
+{
     if holds { Some(effect) } else { None }
 }

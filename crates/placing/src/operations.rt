@@ -123,7 +123,7 @@ pub(crate) fn may_shut(told: Option<Reply>, op: Op) -> bool
     is_not_refused(told) && is_shut_call(op)
 }
 
-fn is_closed(refusal: Refusal) -> bool
+pub(crate) fn is_closed(refusal: Refusal) -> bool
     ensures { result ≡ rule.is_closed refusal }
 {
     match refusal {

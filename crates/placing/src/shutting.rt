@@ -122,9 +122,9 @@ pub(crate) fn is_run(
             return Ok(false);
         };
         time = operation.first.max(time);
-        match object.effect_of(operation) {
+        match object.effect_of(operation.op, operation.reply) {
             Some(effect) if time <= operation.last.unwrap_or(time) => {
-                object.apply(operation, effect)?;
+                object.apply(operation.actor, operation.op, effect)?;
             }
             Some(_) | None => return Ok(false),
         }
