@@ -1,0 +1,10 @@
+use Rattle.blocking_carrier.proofs.Waiting.{waits_not, waits_on, sees}
+use Rattle.blocking_carrier.proofs.queue.BlockingCarrier.look.Goals as goal
+
+pub loop-init : goal.loop-init
+loop-init g c = record { seat = c.requires.seat; waited = waits_not _ }
+
+pub returns-in-Err-clause-caused : goal.returns-in-Err-clause-caused
+returns-in-Err-clause-caused g c =
+    let e = c.in-Err.ensures.caused in
+    record { last = e.last; seat = e.seat; waited = waits_on _ _ _ c.loop.invariant.waited (sees _ _ e.more); caused = e.caused }

@@ -1,0 +1,18 @@
+use Rattle.carriers.proofs.Learning.{push_refused_then, sees_then}
+use Rattle.blocking_carrier.proofs.queue.BlockingCarrier.offer.Goals as goal
+
+pub returns-in_default-clause-refused : goal.returns-in_default-clause-refused
+returns-in_default-clause-refused g c = push_refused_then _ _ _ c.in-Err.unpushed.refusal c.loop.invariant.more c.in-Err.ensures.refused
+
+pub returns-in_default-clause-caused : goal.returns-in_default-clause-caused
+returns-in_default-clause-caused g c =
+    let e = c.in-Err.ensures.caused in
+    record { last = e.last; seat = e.seat; more = sees_then _ _ _ c.loop.invariant.more e.more; caused = e.caused }
+
+pub returns-in-Err-push-clause-refused : goal.returns-in-Err-push-clause-refused
+returns-in-Err-push-clause-refused g c = push_refused_then _ _ _ c.in-Err-push.unpushed.refusal c.loop.invariant.more c.in-Err-push.ensures.refused
+
+pub returns-in-Err-push-clause-caused : goal.returns-in-Err-push-clause-caused
+returns-in-Err-push-clause-caused g c =
+    let e = c.in-Err-push.ensures.caused in
+    record { last = e.last; seat = e.seat; more = sees_then _ _ _ c.loop.invariant.more e.more; caused = e.caused }

@@ -1,0 +1,6 @@
+-- Calls that listen.
+use Rattle.blocking_carrier.specs.declared.bells.Listener.{Listener}
+
+-- what the call's seat was as it began to listen
+abbrev pub seat_heard : {C A S : Type 0} → Listener C A S → S
+seat_heard l = l.at.value

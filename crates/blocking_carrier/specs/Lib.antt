@@ -1,0 +1,7 @@
+pub mod Answers
+pub mod Bells
+pub mod Causes
+pub mod Lates
+pub mod Queues
+pub mod Unshuts
+pub mod Waits

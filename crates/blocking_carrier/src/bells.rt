@@ -1,0 +1,116 @@
+//! What calls sleep on.
+ghost use Rattle.std.specs.Prelude.{◌≡◌};
+ghost use Rattle.history.specs.declared.refusals.Refusal.TheVariants.{NoNode};
+ghost use Rattle.carriers.specs.Answers.{EndsByTryOf, SeesMoreOf};
+ghost use Rattle.blocking_carrier.specs.Waits.{EmptySinceOf};
+ghost use Rattle.blocking_carrier.specs.Bells.{seat_heard};
+ghost use Rattle.blocking_carrier.specs.Unshuts.{seat_unshut};
+
+use crate::deadlines::park;
+use crate::shuts::Unshut;
+use blocking_queue::Deadline;
+use carriers::Carrier;
+use std::snapshot::Snapshot;
+use std::sync::Wait;
+use std::sync::atomic::AtomicU64;
+use std::sync::atomic::Ordering::SeqCst;
+
+/// What calls sleep on until it rings. While nobody listens a ring is one load.
+///
+/// A listener is counted, looks once more whether it has to wait, and then sleeps unless it rang since it was counted. A sleep
+/// compares 32 bits, so it misses the rings since then only where their number is a multiple of 2^32.
+#[derive(Drop)]
+pub(crate) struct Bell {
+    rings: AtomicU64,
+    listeners: AtomicU64,
+}
+
+/// A call that listens to a bell, with what its seat was as it began to; dropping it ends that.
+pub(crate) struct Listener<'a, C: Carrier> {
+    bell: &'a Bell,
+    heard: u64,
+    pub(crate) at: Snapshot<C::Seat>,
+}
+
+impl Bell {
+    pub(crate) const fn new() -> Bell {
+        Bell {
+            rings: AtomicU64::new(0),
+            listeners: AtomicU64::new(0),
+        }
+    }
+
+    /// Wakes one of those that listen, after a step that lets one of them go on.
+    pub(crate) fn ring(&self) {
+        if self.listeners.load(SeqCst) != 0 {
+            self.rings.fetch_add(1, SeqCst);
+            self.rings.wake_one();
+        }
+    }
+
+    /// Wakes all that listen, after a step that lets all of them go on.
+    pub(crate) fn ring_all(&self) {
+        if self.listeners.load(SeqCst) != 0 {
+            self.rings.fetch_add(1, SeqCst);
+            self.rings.wake_all();
+        }
+    }
+
+    pub(crate) fn listen<C: Carrier>(&self, seat: &C::Seat) -> Listener<'_, C>
+        ensures { seat_heard result ≡ seat.now }
+    {
+        self.listeners.fetch_add(1, SeqCst);
+        Listener {
+            bell: self,
+            heard: self.rings.load(SeqCst),
+            at: Snapshot::of(seat),
+        }
+    }
+}
+
+impl<C: Carrier> Listener<'_, C> {
+    /// Sleeps until the bell rings, or the deadline. The seat has found the queue empty since it listens.
+    pub(crate) fn sleep_empty<R: Wait, D: Deadline>(self, rt: &R, seat: &C::Seat, until: &D)
+        requires looked { EmptySinceOf (C.known (seat_heard self)) (C.known seat.now) }
+    {
+        self.sleep(rt, until);
+    }
+
+    /// Sleeps until the bell rings, or the deadline. Since it listens the seat has looked for a shut, and has then had a push
+    /// refused for want of a node.
+    pub(crate) fn sleep_full<R: Wait, D: Deadline>(
+        self,
+        rt: &R,
+        queue: &C,
+        seat: &C::Seat,
+        unshut: Unshut<C::Seat>,
+        until: &D,
+    )
+        requires unshut { SeesMoreOf (C.known (seat_heard self)) (C.known (seat_unshut unshut)) }
+        requires looked { EndsByTryOf C.is_seat C.known C.push_cause queue.now (seat_unshut unshut)
+            seat.now 8 NoNode }
+    {
+        self.sleep(rt, until);
+    }
+
+    fn sleep<R: Wait, D: Deadline>(self, rt: &R, until: &D) {
+        let rings = &self.bell.rings;
+        for _ in rt.forever() {
+            if rings.load(SeqCst) != self.heard || until.is_past() {
+                break;
+            }
+            park(rt, rings, (self.heard & 0xffff_ffff) as u32, until);
+        }
+    }
+}
+
+impl<C: Carrier> Drop for Listener<'_, C> {
+    fn drop(self) {
+        let Self {
+            bell,
+            heard: _,
+            at: _,
+        } = self;
+        bell.listeners.fetch_sub(1, SeqCst);
+    }
+}

@@ -1,0 +1,5 @@
+//! Senders and receivers of values in threads.
+mod common;
+mod ends;
+mod random;
+mod waking;

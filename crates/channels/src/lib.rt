@@ -1,0 +1,17 @@
+//! Channels of values of any type: senders and receivers, of which the last one of a side shuts the queue as it is dropped.
+#![tactic(auto)]
+
+mod dealing;
+mod receiver;
+mod receiving;
+mod sender;
+mod sending;
+mod sides;
+
+pub use dealing::{receivers, senders};
+pub use receiver::Receiver;
+pub use sender::Sender;
+pub use sides::Side;
+
+/// How many turns a call takes that doesn't wait.
+const TURNS: u32 = 8;

@@ -1,0 +1,43 @@
+//! The side of a channel that sends.
+ghost use Rattle.std.specs.Prelude.{◌≡◌, ◌<◌};
+ghost use Rattle.blocking_carrier.specs.Queues.{queue_of};
+ghost use Rattle.channels.specs.Seats.{IsGiver};
+
+use crate::sides::Side;
+use blocking_carrier::BlockingCarrier;
+use carriers::Carrier;
+use std::alloc::Global;
+use std::sync::Arc;
+
+/// A seat that pushes, with a share of its queue and of the side of the senders. The last sender that is dropped shuts the
+/// queue. Its type says that the seat is one of this queue's, in no call, and that it may push.
+#[derive(Drop)]
+pub struct Sender<C: Carrier + Drop> {
+    pub(crate) queue: Arc<BlockingCarrier<C>, Global>,
+    side: Arc<Side<C>, Global>,
+    pub(crate) seat: C::Seat,
+    ghost sits: { ∥ IsGiver C.is_seat C.permits C.known (queue_of queue.value) seat ∥₁ },
+}
+
+impl<C: Carrier + Drop> Sender<C> {
+    ghost use Rattle.channels.specs.Handles.{sender_queue, sender_seat};
+
+    pub(crate) fn new(
+        queue: Arc<BlockingCarrier<C>, Global>,
+        side: Arc<Side<C>, Global>,
+        seat: C::Seat,
+    ) -> Sender<C>
+        requires { IsGiver C.is_seat C.permits C.known (queue_of queue.value) seat }
+        ensures queue { sender_queue result ≡ queue_of queue.value }
+        ensures seat { sender_seat result ≡ seat }
+    {
+        Sender { queue, side, seat }
+    }
+
+    /// How many senders there are at one moment. Takes no memory and doesn't wait.
+    pub fn count(&self) -> usize
+        ensures { 0 < result }
+    {
+        Arc::strong_count(&self.side)
+    }
+}
