@@ -1,5 +1,6 @@
 //! Values of several types that go through queues, and come back from them.
 mod calls;
+mod handed;
 mod numbers;
 mod texts;
 mod waiting;

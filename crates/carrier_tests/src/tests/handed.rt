@@ -1,0 +1,295 @@
+//! Values that go through the queues of values, and come back where they don't.
+ghost use Rattle.std.specs.Prelude.{IfOk};
+ghost use Rattle.std.specs.List.{All};
+ghost use Rattle.value_queue.specs.Queues.{IsQueueSeat};
+
+use super::calls::{pop, push, shut};
+use arena_queue::Algorithm;
+use carriers::{Carrier, CloseCarrier, ItemOf, Unpushed};
+use history::Refusal;
+use node_arena::{Role, Seat};
+use nonblocking::NonBlockingAlgorithm;
+use std::alloc::{AllocError, Global};
+use std::fmt::Debug;
+use std::process::Abort;
+use std::sync::Wait;
+use std::test::Fail;
+use std::thread::{Threads, join};
+use two_lock::TwoLockAlgorithm;
+use value_queue::{MsValueQueue, QueueOf};
+
+/// A greatest count that no run here gets near.
+const AMPLE_COUNT: u64 = 100_000;
+
+/// On three nodes, of which one is always in the queue: room for two values.
+const NODES: u32 = 3;
+
+/// How many values go through where they are many.
+const ROUNDS: u64 = 1000;
+
+/// So many nodes that none of them finds the queue full.
+const ROOM_FOR_ALL: u32 = 1002;
+
+/// The last of these seats, taken from them.
+fn last<C: Carrier>(queue: &C, seats: &mut Vec<C::Seat>) -> Result<C::Seat, Refusal>
+    requires { All (C.is_seat queue.now) seats.old.items }
+    ensures { IfOk result (λ s. C.is_seat queue.now s × All (C.is_seat queue.now) seats.new.items) }
+{
+    let _ = queue;
+    match seats.pop() {
+        Some(seat) => Ok(seat),
+        None => Err(Refusal::BadSize),
+    }
+}
+
+// Pushes two values, and a third one that has no node; pops the first, pushes the fourth, and pops both that are left; shuts the
+// queue, and pushes the fifth. Each comes out, or back, as the one that is wanted.
+fn goes<T: PartialEq + Debug + Drop + Send, A: Algorithm<24>>(
+    rt: &impl Abort,
+    queue: &QueueOf<T, A, 24>,
+    seat: &mut Seat<T>,
+    values: [T; 5],
+    wanted: [T; 5],
+)
+    requires { IsQueueSeat queue.now seat.old }
+{
+    let [first, second, third, fourth, fifth] = values;
+    let [one, two, three, four, five] = wanted;
+    let refused = |refusal, value| Err(Unpushed { refusal, value });
+    let popped = |value| Ok(Some(ItemOf { from: 1, value }));
+    assert_eq!(rt; push(queue, seat, first), Ok(()));
+    assert_eq!(rt; push(queue, seat, second), Ok(()));
+    assert_eq!(rt; push(queue, seat, third), refused(Refusal::NoNode, three));
+    assert_eq!(rt; pop(queue, seat), popped(one));
+    assert_eq!(rt; push(queue, seat, fourth), Ok(()));
+    assert_eq!(rt; pop(queue, seat), popped(two));
+    assert_eq!(rt; pop(queue, seat), popped(four));
+    assert_eq!(rt; pop(queue, seat), Ok(None));
+    assert_eq!(rt; shut(queue, seat), Ok(()));
+    assert_eq!(rt; push(queue, seat, fifth), refused(Refusal::Closed, five));
+    assert_eq!(rt; pop(queue, seat), Err(Refusal::Closed));
+}
+
+// Five texts, of which one is empty.
+fn texts(alloc: Global) -> Result<[String; 5], AllocError> {
+    Ok([
+        String::from_str(alloc, "one")?,
+        String::from_str(alloc, "")?,
+        String::from_str(alloc, "three")?,
+        String::from_str(alloc, "four")?,
+        String::from_str(alloc, "five")?,
+    ])
+}
+
+fn texts_go<A: Algorithm<24>>(rt: &impl Abort, alloc: Global) -> Result<(), Fail> {
+    let roles = [Role::Both];
+    let (queue, mut seats) = QueueOf::<String, A, 24>::new(alloc, NODES, AMPLE_COUNT, &roles)?;
+    let mut seat = last(&queue, &mut seats)?;
+    goes(rt, &queue, &mut seat, texts(alloc)?, texts(alloc)?);
+    Ok(())
+}
+
+#[test]
+fn texts_go_through(rt: HostRuntime) -> Result<(), Fail> {
+    texts_go::<NonBlockingAlgorithm>(&rt, rt.alloc())?;
+    texts_go::<TwoLockAlgorithm>(&rt, rt.alloc())
+}
+
+fn units_go<A: Algorithm<24>>(rt: &impl Abort, alloc: Global) -> Result<(), Fail> {
+    let roles = [Role::Both];
+    let (queue, mut seats) = QueueOf::<(), A, 24>::new(alloc, NODES, AMPLE_COUNT, &roles)?;
+    let mut seat = last(&queue, &mut seats)?;
+    goes(rt, &queue, &mut seat, [(); 5], [(); 5]);
+    Ok(())
+}
+
+#[test]
+fn values_of_no_size_go_through(rt: HostRuntime) -> Result<(), Fail> {
+    units_go::<NonBlockingAlgorithm>(&rt, rt.alloc())?;
+    units_go::<TwoLockAlgorithm>(&rt, rt.alloc())
+}
+
+/// A queue that is dropped drops the values left.
+#[test]
+fn values_left_are_dropped(rt: HostRuntime) -> Result<(), Fail> {
+    let (queue, mut seats) = MsValueQueue::<String>::new(
+        rt.alloc(),
+        NODES,
+        AMPLE_COUNT,
+        &[Role::Both],
+    )?;
+    let mut seat = last(&queue, &mut seats)?;
+    assert_eq!(rt;
+        push(&queue, &mut seat, format!(in rt.alloc(); "left")?),
+        Ok(())
+    );
+    Ok(())
+}
+
+// Pushes a value, and pops one. Nothing is asked of the values' type: one that isn't `Drop` can't be lost here.
+fn through<T: Send>(
+    queue: &MsValueQueue<T>,
+    seat: &mut Seat<T>,
+    value: T,
+) -> Result<Result<Option<ItemOf<T>>, Refusal>, Unpushed<T>>
+    requires { IsQueueSeat queue.now seat.old }
+    ensures { IsQueueSeat queue.now seat.new }
+{
+    push(queue, seat, value)?;
+    Ok(pop(queue, seat))
+}
+
+/// Two nodes have two slots, of which one value at most takes one: each is used again and again.
+#[test]
+fn slots_are_used_again(rt: HostRuntime) -> Result<(), Fail> {
+    let (queue, mut seats) = MsValueQueue::<u64>::new(rt.alloc(), 2, AMPLE_COUNT, &[Role::Both])?;
+    let mut seat = last(&queue, &mut seats)?;
+    let mut came = 0u64;
+    for value in 0..ROUNDS {
+        if through(&queue, &mut seat, value) == Ok(Ok(Some(ItemOf { from: 1, value }))) {
+            came += 1;
+        }
+    }
+    assert_eq!(rt; came, ROUNDS);
+    Ok(())
+}
+
+// Pushes the texts of the numbers below `most`.
+fn gives<R: Wait>(
+    rt: &R,
+    alloc: Global,
+    queue: &MsValueQueue<String>,
+    mut seat: Seat<String>,
+    most: u64,
+) -> Result<(), Refusal>
+    requires { IsQueueSeat queue.now seat }
+{
+    if !queue.may_push(&seat) {
+        return Err(Refusal::BadSize);
+    }
+    for number in 0..most {
+        let Ok(text) = format!(in alloc; "{number}") else {
+            return Err(Refusal::Memory);
+        };
+        queue.push(rt, &mut seat, text)?;
+    }
+    Ok(())
+}
+
+// Pops as many texts, and tells how many came in their order.
+fn takes<R: Wait>(
+    rt: &R,
+    alloc: Global,
+    queue: &MsValueQueue<String>,
+    mut seat: Seat<String>,
+    most: u64,
+) -> Result<u64, Refusal>
+    requires { IsQueueSeat queue.now seat }
+{
+    if !queue.may_pop(&seat) {
+        return Err(Refusal::BadSize);
+    }
+    let mut next = 0;
+    for _ in rt.forever() {
+        if next >= most {
+            break;
+        }
+        let Some(item) = queue.pop(rt, &mut seat)? else {
+            continue;
+        };
+        let Ok(wanted) = format!(in alloc; "{next}") else {
+            return Err(Refusal::Memory);
+        };
+        if item.value != wanted {
+            break;
+        }
+        next += 1;
+    }
+    Ok(next)
+}
+
+// The same in two threads.
+fn hands_over<R: Threads + Wait + Sync>(
+    rt: &R,
+    alloc: Global,
+    queue: &MsValueQueue<String>,
+    giver: Seat<String>,
+    taker: Seat<String>,
+) -> (Result<(), Refusal>, Result<u64, Refusal>)
+    requires giver { IsQueueSeat queue.now giver }
+    requires taker { IsQueueSeat queue.now taker }
+{
+    join(
+        rt,
+        || -> Result<(), Refusal>
+            requires { IsQueueSeat queue.now giver }
+        { gives(rt, alloc, queue, giver, ROUNDS) },
+        || -> Result<u64, Refusal>
+            requires { IsQueueSeat queue.now taker }
+        { takes(rt, alloc, queue, taker, ROUNDS) },
+    )
+}
+
+/// Texts that one thread makes are taken, and dropped, by another.
+#[test]
+fn threads_hand_texts_over(rt: HostRuntime) -> Result<(), Fail> {
+    let roles = [Role::Giver, Role::Taker];
+    let (queue, mut seats) = MsValueQueue::<String>::new(
+        rt.alloc(),
+        ROOM_FOR_ALL,
+        AMPLE_COUNT,
+        &roles,
+    )?;
+    let taker = last(&queue, &mut seats)?;
+    let giver = last(&queue, &mut seats)?;
+    let came = hands_over(&rt, rt.alloc(), &queue, giver, taker);
+    assert_eq!(rt; came, (Ok(()), Ok(ROUNDS)));
+    Ok(())
+}
+
+// Two seats push three texts, one pops the first, and the other shuts the queue; closed, it gives the other two, in order.
+fn texts_are_left<A: Algorithm<24>>(rt: &impl Abort, alloc: Global) -> Result<(), Fail> {
+    let roles = [Role::Both, Role::Giver];
+    let (queue, mut seats) = QueueOf::<String, A, 24>::new(alloc, 5, AMPLE_COUNT, &roles)?;
+    let mut giver = last(&queue, &mut seats)?;
+    let mut other = last(&queue, &mut seats)?;
+    let [first, second, third, _, _] = texts(alloc)?;
+    assert_eq!(rt; push(&queue, &mut other, first), Ok(()));
+    assert_eq!(rt; push(&queue, &mut giver, second), Ok(()));
+    assert_eq!(rt; push(&queue, &mut other, third), Ok(()));
+    assert!(rt; pop(&queue, &mut other).is_ok());
+    assert_eq!(rt; shut(&queue, &mut giver), Ok(()));
+    let mut seats = Vec::new(alloc);
+    seats.push(other)?;
+    seats.push(giver)?;
+    let Ok((mut rest, _end)) = queue.close(alloc, seats) else {
+        return Err(Fail::from("no memory"));
+    };
+    let [_, second, third, _, _] = texts(alloc)?;
+    assert_eq!(rt;
+        rest.next(),
+        Some(ItemOf {
+            from: 2,
+            value: second
+        })
+    );
+    assert_eq!(rt;
+        rest.next(),
+        Some(ItemOf {
+            from: 1,
+            value: third
+        })
+    );
+    assert_eq!(rt; rest.next(), None);
+    assert_eq!(rt;
+        (rest.taken(), rest.whole(), rest.was_shut()),
+        (1, true, true)
+    );
+    Ok(())
+}
+
+#[test]
+fn values_left_come_in_order(rt: HostRuntime) -> Result<(), Fail> {
+    texts_are_left::<NonBlockingAlgorithm>(&rt, rt.alloc())?;
+    texts_are_left::<TwoLockAlgorithm>(&rt, rt.alloc())
+}

@@ -1,0 +1,8 @@
+//! The queue of values of any type, of the split for its nodes.
+#![tactic(auto)]
+
+mod carrier;
+mod closing;
+mod queue;
+
+pub use queue::ValueQueue;

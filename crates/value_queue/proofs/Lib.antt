@@ -1,0 +1,6 @@
+pub mod Learned
+pub mod Opened
+pub mod Kept
+pub mod Pushed
+pub mod Popped
+pub mod Closings

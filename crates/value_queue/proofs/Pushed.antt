@@ -1,0 +1,201 @@
+-- What a push of a value answers, by what its parts do.
+use Rattle.std.proofs.Common.{◌≡◌, ℕ, ◌+◌, ◌-◌, List, [], ◌∷◌, ◌++◌, length, true, Option, Some, None, Result, Ok, Err, IfErr, IsErrAnd, inl, inr, sym, refl, ap, subst, ◌∙◌, arith, append_assoc}
+use Rattle.history.specs.declared.operations.Entry.TheVariants.{Push}
+use Rattle.history.specs.declared.refusals.Refusal.{Refusal}
+use Rattle.history.specs.declared.refusals.Refusal.TheVariants.{NoNode, WornOut, Busy, Closed}
+use Rattle.history.specs.declared.refusals.WornWord.{WornWord}
+use Rattle.history.specs.declared.refusals.WornWord.TheVariants.{Free as OfFree, Next as OfNext, Tail as OfTail, Head as OfHead}
+use Rattle.history.specs.Answers.{SeesMore, StopsPush}
+use Rattle.history.proofs.Learning.{sees_itself}
+use Rattle.carriers.specs.declared.items.Unpushed.{Unpushed}
+use Rattle.carriers.specs.Answers.{PushRefusedOf}
+use Rattle.node_arena.specs.Machine.{Held}
+use Rattle.node_arena.specs.Arenas.{Arena}
+use Rattle.node_arena.specs.declared.seats.Seat.{Seat}
+use Rattle.node_arena.specs.declared.slots.Got.{Got}
+use Rattle.node_arena.specs.Seeing.{SeatView}
+use Rattle.node_arena.specs.Seeing as seeing
+use Rattle.node_arena.specs.Deeds.{Deed, pushed}
+use Rattle.node_arena.specs.Beside.{slots_in}
+use Rattle.node_arena.specs.Hands.{KeepsKnown, AddsOwn, FailedTries}
+use Rattle.node_arena.specs.Seats.{IsReady, KeepsSlots, KeepsName, HasNoSlot, SeesMoreDeeds, carries_of, deeds_of, known_of, view}
+use Rattle.node_arena.specs.Paths.{ExtendsPath, added}
+use Rattle.node_arena.specs.Turns.{failed_turns}
+use Rattle.node_arena.proofs.Moved.{one_value}
+use Rattle.node_arena.proofs.Paths.{no_walk, sees_on}
+use Rattle.free_list.specs.Takes.{TakeRefused}
+use Rattle.arena_queue.specs.Answers.{PutRefused, PutsAnd}
+use Rattle.arena_queue.proofs.Pushes.{put_behind, learns, learns_of_take}
+use Rattle.value_queue.specs.Telling.{known_by}
+use Rattle.value_queue.specs.Pushes.{HasNode, HasLoad, PutsSlot, MissedSlots, PushRefused, AnswersPush}
+use Rattle.value_queue.proofs.Learned.{push-deed, push_refused-deeds}
+use Rattle.value_queue.proofs.Kept.{added_still, name_still}
+
+-- what a seat has seen goes on, and then on
+pub more_on : {T : Type 0} (s t u : Seat T) → SeesMoreDeeds s t → SeesMoreDeeds t u → SeesMoreDeeds s u
+more_on s t u f g = record { between = f.between ++ g.between; deeds = g.deeds ∙ (ap (λ ds. ds ++ g.between) f.deeds ∙ append_assoc (deeds_of s) f.between g.between) }
+
+-- and then by a deed of one's own
+adds_from : {T : Type 0} (s t u : Seat T) (d d' : Deed T) → d ≡ d' → SeesMoreDeeds s t → AddsOwn t u d → AddsOwn s u d'
+adds_from s t u d d' same f g =
+    record {
+      between = f.between ++ g.between;
+      deeds = g.deeds ∙ (λ i. (f.deeds i ++ g.between) ++ same i ∷ []) ∙ ap (λ ds. ds ++ d' ∷ []) (append_assoc (deeds_of s) f.between g.between);
+    }
+
+-- a refusal that is handed on
+pub passed : {X E : Type 0} (out : Result X E) (e : E) (P : E → Type 0) → IsErrAnd out (λ y. y ≡ e) → P e → IfErr out P
+passed (Ok x) e P its p = tt
+passed (Err y) e P its p = subst P (sym its) p
+
+-- a slot has one value
+value_is : {T : Type 0} (held : List (ℕ × Option T)) (slot : ℕ) (x y : T) → held ≡ (slot, Some x) ∷ [] → held ≡ (slot, Some y) ∷ [] → x ≡ y
+value_is {T} held slot x y e f = ap value_or (sym e ∙ f)
+  where
+    value_or : List (ℕ × Option T) → T
+    value_or [] = x
+    value_or ((i, None) ∷ xs) = x
+    value_or ((i, Some z) ∷ xs) = z
+
+module _ {T : Type 0} (worn : WornWord → Option Held → Type 0) (r : Arena) (carries : carries_of r ≡ true) (s : Seat T) (is : IsReady r s) (none : HasNoSlot s) (value : T) (turns : ℕ) where
+  stays_without : (t : Seat T) → KeepsSlots s t → HasNoSlot t
+  stays_without t k = (ap length k.same ∙ none.0, ap slots_in k.hand ∙ none.1)
+
+  missed_none : MissedSlots r s 0
+  missed_none = record { seat = s; more = sees_itself (known_of s); node = 0; missed = tt }
+
+  -- there was no node
+  pub no_node : (t : Seat T) (refusal : Refusal) → HasNode r s t turns (Err refusal) → AnswersPush worn r s t value turns (Err (record { refusal = refusal; value = value }))
+  no_node t refusal h =
+      record {
+        ready = h.ready;
+        none_out = stays_without t h.slots;
+        same = h.same;
+        pushed = tt;
+        few = tt;
+        pocket = tt;
+        back = refl;
+        refused = push_refused-deeds r carries s t is.seat h.ready.seat refusal h.slots.more (learns_of_take r s t turns refusal h.lines h.refused);
+        refusal = stops refusal h.refused;
+        caused = by_cause refusal h.refused;
+      }
+    where
+      stops : (refusal : Refusal) → TakeRefused r s t turns refusal → StopsPush refusal
+      stops NoNode x = tt
+      stops (WornOut word) x = tt
+      stops Busy x = tt
+      stops Closed x = tt
+      stops _ x = absurd x
+
+      by_cause : (refusal : Refusal) → TakeRefused r s t turns refusal → PushRefused worn r s t turns refusal
+      by_cause Busy x = (0, (let f = x.0 in omega arith), missed_none, inl x.1)
+      by_cause NoNode x = x
+      by_cause (WornOut OfFree) x = x
+      by_cause _ x = absurd x
+
+  module _ (u v : Seat T) (held : Held) (spent : ℕ) (h : HasNode r s u turns (Ok (held, spent))) where
+    -- since then a seat knows the same
+    seen_since : KeepsKnown u v → SeesMore (known_of s) (known_of v)
+    seen_since k = subst (λ (w : SeatView). SeesMore (known_of s) (seeing.known_by w)) (sym k.view) (sees_on (view s) (view u) (added s u) h.lines)
+
+    more_since : KeepsKnown u v → SeesMoreDeeds s v
+    more_since k = record { between = h.slots.more.between; deeds = k.deeds ∙ h.slots.more.deeds }
+
+    missed_since : (tries : ℕ) → FailedTries r u held.node tries → MissedSlots r s tries
+    missed_since tries missed = record { seat = u; more = sees_on (view s) (view u) (added s u) h.lines; node = held.node; missed = missed }
+
+    -- there was no slot
+    pub no_slot : (unpushed : Unpushed T) → HasLoad r u v held.node value (turns - spent) (Err unpushed) → AnswersPush worn r s v value turns (Err unpushed)
+    no_slot unpushed l =
+        let k = l.keeps in
+        let busy : Busy ≡ unpushed.refusal = sym l.back.0 in
+        record {
+          ready = l.ready;
+          none_out = l.back.2;
+          same = name_still s u v k h.same;
+          pushed = tt;
+          few = tt;
+          pocket = tt;
+          back = l.back.1;
+          refused = subst (λ q. PushRefusedOf (known_by s) q (known_by v)) busy (push_refused-deeds r carries s v is.seat l.ready.seat Busy (more_since k) (seen_since k));
+          refusal = subst StopsPush busy tt;
+          caused = subst (PushRefused worn r s v turns) busy (
+            turns - spent,
+            (let a = ap failed_turns (added_still s u v k) in let b = h.spent.0 in let c = h.spent.1 in omega (arith, a, b, c)),
+            missed_since (turns - spent) l.back.3,
+            inr (let c = h.spent.1 in omega (arith, c)),
+          );
+        }
+
+    module _ (x : Seat T) (got : Got) (l : HasLoad r u v held.node value (turns - spent) (Ok got)) where
+      k : KeepsKnown u v
+      k = l.keeps
+
+      same_name : KeepsName u v
+      same_name = record { number = k.stored.number; role = k.stored.role; keeps = k.stored.keeps }
+
+      no_lines : ExtendsPath (view u) (view v) []
+      no_lines = subst (λ (w : SeatView). ExtendsPath (view u) w []) (sym k.view) (no_walk (view u))
+
+      -- the push of the slot's number, behind the lines before it
+      put_since : (out : Result (Unit {0}) Refusal) → PutsAnd (Unit {0}) worn r v x held.node got.slot (spent + got.failed) turns out → PutsAnd (Unit {0}) worn r s x held.node got.slot got.failed turns out
+      put_since out p =
+          put_behind worn (Unit {0}) (Unit {0}) (λ y. y) r s u x (added s u) h.lines h.same held.node got.slot got.failed (spent + got.failed) turns out (let b = h.spent.0 in omega (arith, b))
+          (put_behind worn (Unit {0}) (Unit {0}) (λ y. y) r u v x [] no_lines same_name held.node got.slot (spent + got.failed) (spent + got.failed) turns out (let z : failed_turns [] ≡ 0 = refl in omega (arith, z)) p)
+
+      -- the value was pushed
+      pub value_pushed : PutsSlot worn r v x held.node got.slot (spent + got.failed) turns (Ok tt) → AnswersPush worn r s x value turns (Ok tt)
+      value_pushed p =
+          let n = put_since (Ok tt) p.numbers in
+          let number : (view v).number ≡ (view s).number = ap (λ (w : SeatView). w.number) k.view ∙ h.slots.number in
+          let its : p.pushed.0 ≡ value = value_is v.token.me.1 got.slot p.pushed.0 value p.pushed.1 l.loaded.0.out in
+          let adds : AddsOwn s x (pushed (view s).number value) = adds_from s v x (pushed (view v).number p.pushed.0) (pushed (view s).number value) (λ i. pushed (number i) (its i)) (more_since k) p.pushed.2 in
+          record {
+            ready = n.ready;
+            none_out = p.none_out;
+            same = n.same;
+            pushed = push-deed r carries s x is.seat n.ready.seat (Push (view s).number got.slot) value adds n.pushed.0.adds;
+            few = (let f = n.pushed.2 in omega (arith, f));
+            pocket = n.pushed.1;
+            back = tt;
+            refused = tt;
+            refusal = tt;
+            caused = tt;
+          }
+
+      -- it came back
+      pub value_back : (unpushed : Unpushed T) → PutsSlot worn r v x held.node got.slot (spent + got.failed) turns (Err unpushed) → AnswersPush worn r s x value turns (Err unpushed)
+      value_back unpushed p =
+          let n = put_since (Err unpushed.refusal) p.numbers in
+          record {
+            ready = n.ready;
+            none_out = p.none_out;
+            same = n.same;
+            pushed = tt;
+            few = tt;
+            pocket = tt;
+            back = one_value r v got.slot unpushed.value value p.back.0 l.loaded.0;
+            refused = push_refused-deeds r carries s x is.seat n.ready.seat unpushed.refusal (more_on s v x (more_since k) p.back.1) (learns s x unpushed.refusal n.refused.0);
+            refusal = stops unpushed.refusal n.refused.1;
+            caused = by_cause unpushed.refusal n.refused.1;
+          }
+        where
+          stops : (refusal : Refusal) → PutRefused worn r s x held.node got.failed turns refusal → StopsPush refusal
+          stops Busy y = tt
+          stops (WornOut word) y = tt
+          stops Closed y = tt
+          stops _ y = absurd y
+
+          by_cause : (refusal : Refusal) → PutRefused worn r s x held.node got.failed turns refusal → PushRefused worn r s x turns refusal
+          by_cause Busy y = (got.failed, (let f = y.0 in omega (arith, f)), missed_since got.failed l.loaded.2, inl y.1)
+          by_cause (WornOut OfFree) y = y.0
+          by_cause (WornOut OfNext) y = (y.0, y.1)
+          by_cause (WornOut OfTail) y = (y.0, y.1)
+          by_cause (WornOut OfHead) y = (y.0, y.1)
+          by_cause Closed y = y.0
+          by_cause _ y = absurd y
+
+      -- one or the other
+      pub slot_pushed : (out : Result (Unit {0}) (Unpushed T)) → PutsSlot worn r v x held.node got.slot (spent + got.failed) turns out → AnswersPush worn r s x value turns out
+      slot_pushed (Ok tt) p = value_pushed p
+      slot_pushed (Err unpushed) p = value_back unpushed p

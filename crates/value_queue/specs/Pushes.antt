@@ -1,0 +1,77 @@
+-- What the parts of a push of a value answer, and the whole push.
+use Rattle.std.specs.Prelude.{◌≡◌, ℕ, ◌+◌, ◌≤◌, ◌<◌, ◌⊎◌, Option, Some, None, Result, Ok, Err, OnOk, IfOk, IfErr}
+use Rattle.history.specs.declared.refusals.Refusal.{Refusal}
+use Rattle.history.specs.declared.refusals.Refusal.TheVariants.{Busy}
+use Rattle.history.specs.declared.refusals.WornWord.{WornWord}
+use Rattle.history.specs.Answers.{SeesMore, StopsPush}
+use Rattle.carriers.specs.declared.items.Unpushed.{Unpushed}
+use Rattle.carriers.specs.Answers.{PushedOf, PushRefusedOf}
+use Rattle.node_arena.specs.Machine.{Held}
+use Rattle.node_arena.specs.Arenas.{Arena}
+use Rattle.node_arena.specs.declared.seats.Seat.{Seat}
+use Rattle.node_arena.specs.declared.slots.Got.{Got}
+use Rattle.node_arena.specs.Hands.{HasSlot, KeepsKnown, FailedTries}
+use Rattle.node_arena.specs.Loads.{PushesFrom}
+use Rattle.node_arena.specs.Seats.{IsReady, KeepsName, KeepsSlots, HasNoSlot, SeesMoreDeeds, known_of, pocket_of}
+use Rattle.node_arena.specs.Turns.{failed_turns}
+use Rattle.node_arena.specs.Paths.{HadNoEffect, EndsFailed, added}
+use Rattle.free_list.specs.Takes.{TakeRefused}
+use Rattle.arena_queue.specs.Answers.{PutsAnd, FailsFewer}
+use Rattle.arena_queue.specs.Answers as numbers
+use Rattle.value_queue.specs.Telling.{known_by}
+
+-- a push has a node in its seat's pocket, after so many failed turns, or there was none
+pub record HasNode {T : Type 0} (r : Arena) (s t : Seat T) (turns : ℕ) (out : Result (Held × ℕ) Refusal) : Type 0 where
+  pub ready : IsReady r t
+  pub same : KeepsName s t
+  pub slots : KeepsSlots s t
+  pub lines : HadNoEffect s t
+  pub pocket : IfOk out (λ got. pocket_of t ≡ Some got.0)
+  pub spent : IfOk out (λ got. (got.1 ≡ failed_turns (added s t)) × (got.1 < turns))
+  pub refused : IfErr out (TakeRefused r s t turns)
+
+-- a push has its value in a slot, after some failed tries at others, or each of so many tries failed and the value came back
+pub record HasLoad {T : Type 0} (r : Arena) (s t : Seat T) (node : ℕ) (value : T) (turns : ℕ) (out : Result Got (Unpushed T)) : Type 0 where
+  pub ready : IsReady r t
+  pub keeps : KeepsKnown s t
+  pub loaded : IfOk out (λ got. HasSlot r t got.slot (Some value) × (got.failed < turns) × FailedTries r s node got.failed)
+  pub back : IfErr out (λ unpushed. (unpushed.refusal ≡ Busy) × (unpushed.value ≡ value) × HasNoSlot t × FailedTries r s node turns)
+
+-- what was refused a push, without its value
+abbrev pub outcome_of : {T : Type 0} → Result (Unit {0}) (Unpushed T) → Result (Unit {0}) Refusal
+outcome_of (Ok x) = Ok x
+outcome_of (Err unpushed) = Err unpushed.refusal
+
+-- what a push answers that has its node and its slot, where so many turns failed before: the value that lay there was pushed,
+-- or came back, and no slot is out with the seat
+pub record PutsSlot {T : Type 0} (worn : WornWord → Option Held → Type 0) (r : Arena) (s t : Seat T) (node slot spent turns : ℕ) (out : Result (Unit {0}) (Unpushed T)) : Type 0 where
+  pub numbers : PutsAnd (Unit {0}) worn r s t node slot spent turns (outcome_of out)
+  pub none_out : HasNoSlot t
+  pub pushed : OnOk out (PushesFrom slot s t)
+  pub back : IfErr out (λ unpushed. HasSlot r s slot (Some unpushed.value) × SeesMoreDeeds s t)
+
+-- so many tries at slots failed at some moment of a call, before which the seat had seen no less than before the call
+pub record MissedSlots {T : Type 0} (r : Arena) (s : Seat T) (tries : ℕ) : Type 0 where
+  pub seat : Seat T
+  pub more : SeesMore (known_of s) (known_of seat)
+  pub node : ℕ
+  pub missed : FailedTries r seat node tries
+
+-- why a push of a value is refused: where others were in the way, turns of lines and tries at slots failed, so many together,
+-- and where no try did, the last turn failed at the call's last step; else as a push of a number is
+abbrev pub PushRefused : {T : Type 0} (worn : WornWord → Option Held → Type 0) → Arena → Seat T → Seat T → (turns : ℕ) → Refusal → Type 0
+PushRefused worn r s t turns Busy = (tries : ℕ) × (failed_turns (added s t) + tries ≡ turns) × MissedSlots r s tries × (EndsFailed s t ⊎ (1 ≤ tries))
+PushRefused worn r s t turns refusal = numbers.PushRefused worn r s t turns refusal
+
+-- what a push of a value answers
+pub record AnswersPush {T : Type 0} (worn : WornWord → Option Held → Type 0) (r : Arena) (s t : Seat T) (value : T) (turns : ℕ) (out : Result (Unit {0}) (Unpushed T)) : Type 0 where
+  pub ready : IsReady r t
+  pub none_out : HasNoSlot t
+  pub same : KeepsName s t
+  pub pushed : OnOk out (PushedOf (known_by s) value (known_by t))
+  pub few : OnOk out (FailsFewer s t turns)
+  pub pocket : OnOk out (pocket_of t ≡ None)
+  pub back : IfErr out (λ unpushed. unpushed.value ≡ value)
+  pub refused : IfErr out (λ unpushed. PushRefusedOf (known_by s) unpushed.refusal (known_by t))
+  pub refusal : IfErr out (λ unpushed. StopsPush unpushed.refusal)
+  pub caused : IfErr out (λ unpushed. PushRefused worn r s t turns unpushed.refusal)
