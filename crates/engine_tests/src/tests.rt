@@ -3,6 +3,7 @@ mod endings;
 mod engine;
 mod faults;
 mod judging;
+mod pages;
 mod points;
 mod recordings;
 mod trials;

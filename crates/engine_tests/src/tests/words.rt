@@ -1,6 +1,7 @@
 use crate::tests::comparing::same;
 use command_line::{Command, Task, read_words};
 use line_table::Kind;
+use queue_kinds::QueueKind;
 use std::alloc::{AllocError, Global};
 use std::process::Abort;
 use std::test::Fail;
@@ -10,7 +11,7 @@ use std::test::Fail;
 type Told = (u8, u32, u8, u32);
 
 /// Words, what they ask for, and the file.
-const COMMANDS: [(&[&str], Told, &str); 26] = [
+const COMMANDS: [(&[&str], Told, &str); 28] = [
     (&[], (1, 0, 0, 0), "-"),
     (&["run", "-"], (1, 0, 0, 0), "-"),
     (&["run", "row.schedule"], (1, 0, 0, 0), "row.schedule"),
@@ -37,6 +38,7 @@ const COMMANDS: [(&[&str], Told, &str); 26] = [
         (3, 4, 2, 1024),
         "a",
     ),
+    (&["work", "a", "--queue", "ring"], (3, 4, 3, 1024), "a"),
     (
         &["work", "a", "--nodes", "16777214", "--workers", "2"],
         (3, 2, 2, 16_777_214),
@@ -45,6 +47,7 @@ const COMMANDS: [(&[&str], Told, &str); 26] = [
     (&["post", "a"], (4, 0, 2, 0), "a"),
     (&["post", "--queue=two-lock", "-"], (4, 0, 1, 0), "-"),
     (&["post", "a", "--queue", "nonblocking"], (4, 0, 2, 0), "a"),
+    (&["post", "a", "--queue", "ring"], (4, 0, 3, 0), "a"),
     (&["explain", "10"], (8, 0, 0, 0), "10"),
     (&["explain", "WornOut"], (8, 0, 0, 0), "WornOut"),
     (&["explain", "17"], (8, 0, 0, 0), "17"),
@@ -93,7 +96,7 @@ const PICTURES: [(&[&str], [u32; 4], bool, &str); 5] = [
 ];
 
 /// Words that ask for no command, and the status.
-const OTHERS: [(&[&str], u8); 46] = [
+const OTHERS: [(&[&str], u8); 47] = [
     (&["run"], 2),
     (&["run", "a", "b"], 2),
     (&["run", "--fast", "a"], 2),
@@ -126,6 +129,7 @@ const OTHERS: [(&[&str], u8); 46] = [
     (&["post", "a", "b"], 2),
     (&["post", "a", "--workers", "2"], 2),
     (&["post", "a", "--queue", "two_lock"], 2),
+    (&["post", "a", "--queue", "Ring"], 2),
     (&["post", "--help"], 0),
     (&["explain"], 2),
     (&["explain", "1", "2"], 2),
@@ -156,10 +160,11 @@ fn told(task: Task) -> Told {
 }
 
 /// The number of a queue's kind.
-fn number_of(kind: Kind) -> u8 {
+fn number_of(kind: QueueKind) -> u8 {
     match kind {
-        Kind::TwoLock => 1,
-        Kind::NonBlocking => 2,
+        QueueKind::Linked(Kind::TwoLock) => 1,
+        QueueKind::Linked(Kind::NonBlocking) => 2,
+        QueueKind::Ring => 3,
     }
 }
 
