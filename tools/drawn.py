@@ -7,6 +7,7 @@ import traced
 NAMES = {"1": "NoNode", "2": "WornOut", "3": "Busy", "16": "Closed"}
 EXCHANGES = set("N4 N5 F3 E9 E13 E17 D10 D13 A3 A5 B1 S4 S5 S6 S8".split())
 ROW = re.compile(r"(\d+) (\d+) (\w+) (?:(gives)|(.+) found (.+) now (.+?))(?: reply (.+))?")
+STAND = re.compile(r"(\d+) at (\w+) (.+) holds (.+)")
 OPERATION = re.compile(r"(\d+) (enq \d+|deq|shut) first (\d+) last (-|\d+) at (-|\d+) reply (.+)")
 
 
@@ -62,16 +63,17 @@ def effects(rows):
     return numbers | {call["effect"] for call in calls.values()}
 
 
-def due(schedule, width=80, first=1, last=0, actor=0):
-    """The picture of a schedule, or the line of the fault by which it is refused."""
-    trace = traced.due(schedule)
-    if trace.startswith("fault"):
-        return trace
+def told(schedule, width=80, first=1, last=0, actor=0):
+    """What is drawn of a schedule, and the line of the fault by which one of its events is refused, or nothing."""
+    trace, fault = traced.told(schedule)
     lines = schedule.split("\n")[:-1]
     at = 3 if lines[0].endswith("2") else 2
     kind, (nodes, limit, actors) = lines[1].split()[1], [line.split()[1] for line in lines[at : at + 3]]
     bits = lines[2].split()[1] if at == 3 else "24"
-    marked = effects(trace.split("\n")[7:-1])
+    steps = int(trace.split("\n")[6].split()[1])
+    marked = effects(trace.split("\n")[7 : 7 + steps])
+    stands = [STAND.fullmatch(line) for line in trace.split("\n")[7 + steps : -1]]
+    refused = int(fault.split()[-1]) if fault else len(lines) + 1
     width = max(40, min(width, 190))
     room = width * 5 // 8
     many = 1 if actor else min(int(actors), (room - 7) // 8)
@@ -103,7 +105,7 @@ def due(schedule, width=80, first=1, last=0, actor=0):
         text = (number.rjust(6) + " ").ljust(column(me)) + cell
         put(text.ljust(side) + after if machine.steps == first or before != after else text)
 
-    for line in lines[at + 4 :]:
+    for line in lines[at + 4 : refused - 1]:
         words = line.split()
         me = int(words[1])
         if words[0] == "begin":
@@ -117,9 +119,17 @@ def due(schedule, width=80, first=1, last=0, actor=0):
             step(me, lambda: machine.step(me, words[2]))
         else:
             step(me, lambda: machine.give(me))
-    steps = machine.steps
+    for me, line, word, holds in (it.groups() for it in stands if it):
+        if begin <= int(me) < begin + many:
+            put(f"{' ' * column(int(me))} at {line} {name(word)} {content(word, holds)}")
     rows.append(f"steps {first} to {min(end, steps)} of {steps}, actors {begin} to {begin + many - 1} of {actors}")
-    return "".join(f"{row}\n" for row in rows)
+    return "".join(f"{row}\n" for row in rows), fault
+
+
+def due(schedule, **view):
+    """The picture of a schedule, or the line of the fault by which it is refused."""
+    written, fault = told(schedule, **view)
+    return fault or written
 
 
 def timeline(history, width=80, first=1, last=0, actor=0):

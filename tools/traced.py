@@ -1,4 +1,5 @@
 """The trace that is due of a schedule, by the tables of docs/LINES.md and the texts of docs/FORMATS.md alone."""
+import copy
 
 
 class Refused(Exception):
@@ -256,28 +257,70 @@ def shown(content):
     return f"closed {content[1]}" if content[0] == "end" else f"{content[0]} {content[1]}"
 
 
-def due(text):
-    """The trace of the text of a schedule, or the line of the fault by which it is refused."""
+def make(machine, words):
+    """Makes an event."""
+    me = int(words[1])
+    if words[0] == "begin":
+        machine.begin(me, words[2:])
+    elif words[0] == "step":
+        machine.step(me, words[2])
+    elif words[0] == "steps":
+        for _ in range(int(words[2])):
+            machine.step(me)
+    else:
+        machine.give(me)
+
+
+def alone(machine, me):
+    """How many steps of an actor alone end its call; a dash where 64 don't."""
+    machine = copy.deepcopy(machine)
+    for count in range(1, 65):
+        machine.step(me)
+        if not machine.actors[me]["line"]:
+            return str(count)
+    return "-"
+
+
+def standings(machine, words):
+    """Where each actor that has a call stands as an event is refused, and how soon the call of the event's ends alone."""
+    rows = []
+    for me, a in enumerate(machine.actors):
+        if a and a["line"]:
+            name, _ = machine.access(a["line"], a, me, lambda ref, node: (node, ref[1] + 1))
+            rows.append(f"{me} at {a['line']} {name} holds {shown(machine.word(name))}")
+    me = int(words[1])
+    if me < len(machine.actors) and machine.actors[me]["line"]:
+        rows.append(f"{me} alone {alone(machine, me)}")
+    return rows
+
+
+def made(setup, events):
+    """The machine after events, which of them is refused first, and what it is refused; or how many they are, and nothing."""
+    machine = Machine(*setup)
+    for at, words in enumerate(events):
+        try:
+            make(machine, words)
+        except Refused as refused:
+            return made(setup, events[:at])[0], at, str(refused)
+    return machine, len(events), ""
+
+
+def told(text):
+    """What is written of the text of a schedule, and the line of the fault by which one of its events is refused, or nothing."""
     lines = text.split("\n")[:-1]
     version = lines[0].split()[2]
     bits = "24" if version == "1" else lines[2].split()[1]
     sizes = [line.split()[1] for line in lines[3 if version == "2" else 2 :][:3]]
     kind = lines[1].split()[1]
-    machine = Machine(kind, *map(int, sizes))
     first = 8 if version == "2" else 7
-    for number, line in enumerate(lines[first - 1 :], first):
-        words = line.split()
-        try:
-            if words[0] == "begin":
-                machine.begin(int(words[1]), words[2:])
-            elif words[0] == "step":
-                machine.step(int(words[1]), words[2])
-            elif words[0] == "steps":
-                for _ in range(int(words[2])):
-                    machine.step(int(words[1]))
-            else:
-                machine.give(int(words[1]))
-        except Refused as refused:
-            return f"fault {refused} line {number}\n"
+    events = [line.split() for line in lines[first - 1 :]]
+    machine, at, refused = made((kind, *map(int, sizes)), events)
+    behind = standings(machine, events[at]) if refused else []
     head = ["msq trace 1", f"queue {kind}", f"bits {bits}", f"nodes {sizes[0]}", f"limit {sizes[1]}", f"actors {sizes[2]}", f"steps {machine.steps}"]
-    return "".join(f"{line}\n" for line in head + machine.rows)
+    return "".join(f"{line}\n" for line in head + machine.rows + behind), f"fault {refused} line {first + at}\n" if refused else ""
+
+
+def due(text):
+    """The trace of the text of a schedule, or the line of the fault by which it is refused."""
+    written, fault = told(text)
+    return fault or written

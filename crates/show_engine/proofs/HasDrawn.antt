@@ -1,7 +1,7 @@
 -- Moves of which some were made and drawn.
-use Rattle.std.proofs.Common.{◌≡◌, ℕ, ◌+◌, ◌-◌, ◌<◌, List, [], ◌∷◌, ◌++◌, length, drop, get_or, Option, Some, refl, sym, ap, subst, ◌∙◌, append_assoc, Result, Ok, Err}
+use Rattle.std.proofs.Common.{◌≡◌, ℕ, ◌+◌, ◌-◌, ◌<◌, List, [], ◌∷◌, ◌++◌, length, drop, get_or, Option, Some, refl, sym, ap, subst, ◌∙◌, append_assoc}
 use Rattle.std.specs.Prelude.{IsSome, replicate}
-use Rattle.history.specs.declared.refusals.Refusal.{Refusal}
+use Rattle.std.proofs.lemmas.List.{append-nil}
 use Rattle.schedule_text.specs.declared.schedules.Event.{Event}
 use Rattle.schedule_text.specs.Schedules.{moves_of, moves_of_event}
 use Rattle.step_machine.specs.declared.actors.Move.{Move}
@@ -11,8 +11,6 @@ use Rattle.text_io.specs.Devices.{SinkState}
 use Rattle.text_io.proofs.Sends.{Sends-trans, TakesPrefix-longer, TakesPrefix-trans}
 use Rattle.run_engine.specs.Runs.{world_after}
 use Rattle.run_engine.proofs.Moves.{world_after_both, world_after_one}
-use Rattle.trace_engine.specs.Tracing.{Tells}
-use Rattle.trace_engine.proofs.HasTold.{StopsTelling-behind}
 use Rattle.trace_engine.proofs.Texts.{first_moves, later_moves, moves_of-drop, replicate-first}
 use Rattle.show_engine.specs.Pictures.{moves_text}
 use Rattle.show_engine.proofs.Texts.{moves_text-append}
@@ -30,6 +28,11 @@ module _ (each : World → World → Move → List ℕ) (a b : SinkState) (text 
   pub HasDrawn-can : (w : World) (held : List ℕ) (rest : List Move) → HasDrawn each a b text start moves w held rest → IsSome (world_after moves start) → IsSome (world_after rest w)
   HasDrawn-can w held rest t can =
       later_moves t.before rest start w t.led (subst (λ (ms : List Move). IsSome (world_after ms start)) t.split can)
+
+  -- where nothing is left, all were made
+  pub HasDrawn-led : (w : World) (held : List ℕ) (rest : List Move) → HasDrawn each a b text start moves w held rest → rest ≡ [] → world_after moves start ≡ Some w
+  HasDrawn-led w held rest d none =
+      ap (λ (ms : List Move). world_after ms start) (d.split ∙ ap (λ (ms : List Move). d.before ++ ms) none ∙ append-nil d.before) ∙ d.led
 
   -- some more were made and drawn
   pub HasDrawn-more : (c : SinkState) (w v : World) (held after : List ℕ) (left chunk rest : List Move) → HasDrawn each a b text start moves w held left → left ≡ chunk ++ rest → world_after chunk w ≡ Some v
@@ -107,27 +110,3 @@ module _ (each : World → World → Move → List ℕ) (a b c : SinkState) (tex
       → TakesPrefix a.contents c.contents (text ++ moves_text each (moves_of events) start)
   stopped_event can begun =
       HasDrawn-stopped each a b text start (moves_of events) c w (first can).0 held (moves_of (drop i events)) chunk (moves_of (drop (i + 1) events)) drawn parts (first can).1 begun
-
--- behind what was told of a text, more of it is told
-pub Tells-then : {A : Type 0} (a b c : SinkState) (text held more after : List ℕ) (result : Result A Refusal) → Sends a.contents b.contents text held → b.failures ≡ a.failures
-    → Tells b c (held ++ more) after result → Tells a c (text ++ more) after result
-Tells-then a b c text held more after (Ok done) sends quiet tells = record {
-  ok = Sends-trans a.contents b.contents c.contents text held more after sends tells.ok;
-  quiet = tells.quiet ∙ quiet;
-  prefix = tt;
-  cause = tt;
-}
-Tells-then a b c text held more after (Err refusal) sends quiet tells = record {
-  ok = tt;
-  quiet = tt;
-  prefix = TakesPrefix-trans a.contents b.contents c.contents text held more sends tells.prefix;
-  cause = StopsTelling-behind a b c refusal quiet tells.cause;
-}
-
--- where the telling of a text is refused, so is that of a longer one
-pub Tells-longer : {A B : Type 0} (a b : SinkState) (text held more after : List ℕ) (refusal : Refusal) → Tells {A = A} a b text held (Err refusal) → Tells {A = B} a b (text ++ more) after (Err refusal)
-Tells-longer a b text held more after refusal tells = record { ok = tt; quiet = tt; prefix = TakesPrefix-longer a.contents b.contents text more tells.prefix; cause = tells.cause }
-
--- where a telling is refused, nothing is said of what is held back
-pub Tells-held : {A B : Type 0} (a b : SinkState) (text held after : List ℕ) (refusal : Refusal) → Tells {A = A} a b text held (Err refusal) → Tells {A = B} a b text after (Err refusal)
-Tells-held a b text held after refusal tells = record { ok = tt; quiet = tt; prefix = tells.prefix; cause = tells.cause }

@@ -41,9 +41,13 @@ frame_of view actors =
       count = shown_of view actors;
     }
 
+-- whether an actor has a column
+abbrev pub has_column : Frame → (me : ℕ) → Bool
+has_column f me = nat_le f.first me && nat_lt me (f.first + f.count)
+
 -- whether a move at a number by an actor is shown
 abbrev pub shows : Frame → (number me : ℕ) → Bool
-shows f number me = nat_le f.from number && nat_le number f.to && nat_le f.first me && nat_lt me (f.first + f.count)
+shows f number me = nat_le f.from number && nat_le number f.to && has_column f me
 
 -- the column at which an actor's text begins: those of two neighbours are at most 12 columns apart
 abbrev pub column_of : Frame → (me : ℕ) → ℕ

@@ -3,7 +3,9 @@ pub mod Rows
 pub mod Cells
 pub mod Chains
 pub mod Pictures
+pub mod Standing
 pub mod Showing
+pub mod Stopping
 pub mod Scales
 pub mod Timelines
 pub mod Telling

@@ -3,6 +3,7 @@ use Rattle.std.specs.Prelude.{ℕ, ◌+◌, Bool, false, List, [], ◌∷◌, �
 use Rattle.std.specs.List.{list_any}
 use Rattle.history.specs.declared.operations.Stamped.{Stamped}
 use Rattle.history_text.specs.HistoryText.{call_text}
+use Rattle.schedule_text.specs.declared.schedules.Event.{Event}
 use Rattle.schedule_text.specs.Schedules.{Schedule, moves_of}
 use Rattle.step_machine.specs.declared.actors.Move.{Move}
 use Rattle.step_machine.specs.declared.actors.Move.TheVariants.{Begin, Step, Give}
@@ -18,6 +19,7 @@ use Rattle.show_engine.specs.Frames.{frame_of, shows}
 use Rattle.show_engine.specs.Rows.{names_row, number_text, queue_text, row_text, shown_text}
 use Rattle.show_engine.specs.Cells.{cell_text, gives_text, touch_text}
 use Rattle.show_engine.specs.Chains.{side_text, state_text}
+use Rattle.show_engine.specs.Standing.{rest_text}
 
 -- these numbers, behind another one, if there is one
 abbrev pub with_point : Option ℕ → List ℕ → List ℕ
@@ -61,14 +63,27 @@ abbrev pub moves_text : (World → World → Move → List ℕ) → List Move �
 moves_text text [] w = []
 moves_text text (m ∷ ms) w = text_on (λ v. text w v m ++ moves_text text ms v) (next w m)
 
--- the rows of a schedule's moves, where so many bits hold a node
-abbrev pub rows_text : Frame → (marked : ℕ → Bool) → (bits : ℕ) → Schedule → List ℕ
-rows_text f marked bits s = moves_text (drawn_text f marked bits) (moves_of s.events) (opening_of s)
+-- the rows of the moves of these events of a schedule, where so many bits hold a node
+abbrev pub rows_text : Frame → (marked : ℕ → Bool) → (bits : ℕ) → Schedule → List Event → List ℕ
+rows_text f marked bits s events = moves_text (drawn_text f marked bits) (moves_of events) (opening_of s)
 
--- a picture of a schedule in a frame, whose run has so many steps
-abbrev pub framed_text : Frame → (marked : ℕ → Bool) → (steps bits : ℕ) → Schedule → List ℕ
-framed_text f marked steps bits s = ((queue_text s ++ names_row f) ++ rows_text f marked bits s) ++ shown_text f s.actors steps
+-- a picture in a frame of these events of a schedule, which are so many steps, with these rows behind theirs
+abbrev pub framed_text : Frame → (marked : ℕ → Bool) → (steps bits : ℕ) → Schedule → List Event → (behind : List ℕ) → List ℕ
+framed_text f marked steps bits s events behind =
+    (((queue_text s ++ names_row f) ++ rows_text f marked bits s events) ++ behind) ++ shown_text f s.actors steps
 
--- the picture of a schedule that leads to a world: a row is marked where an operation of that world takes effect
+-- a picture of these events of a schedule, which lead to a world, with these rows behind theirs: a row is marked where an operation
+-- of that world takes effect
+abbrev pub events_text : View → Schedule → List Event → World → (behind : List ℕ) → List ℕ
+events_text view s events w behind =
+    framed_text (frame_of view s.actors) (takes_effect w.operations) w.steps s.bits s events behind
+
+-- the picture of a schedule that leads to a world
 abbrev pub picture_text : View → Schedule → World → List ℕ
-picture_text view s w = framed_text (frame_of view s.actors) (takes_effect w.operations) w.steps s.bits s
+picture_text view s w = events_text view s s.events w []
+
+-- the picture of a schedule of which these events lead to a world and the next one is refused: where actors stand then is behind
+-- their rows
+abbrev pub stopped_text : View → Schedule → List Event → World → Event → List ℕ
+stopped_text view s before w event =
+    events_text view s before w (rest_text (frame_of view s.actors) s.bits w s.actors (Some event))

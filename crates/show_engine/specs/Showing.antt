@@ -7,8 +7,8 @@ use Rattle.history.specs.declared.operations.Stamped.{Stamped}
 use Rattle.run_engine.specs.Runs.{EventsLead, opening_of}
 use Rattle.schedule_text.specs.Schedules.{Schedule}
 use Rattle.step_machine.specs.Machine.{World}
-use Rattle.text_io.specs.Blocks.{TakesPrefix}
 use Rattle.text_io.specs.Devices.{SinkState}
+use Rattle.trace_engine.specs.Stopping.{IsCountOf as IsRunOf}
 use Rattle.trace_engine.specs.Tracing.{OfSchedule}
 use Rattle.show_engine.specs.declared.counting.Counted.{Counted}
 use Rattle.show_engine.specs.declared.framing.View.{View}
@@ -23,12 +23,10 @@ pub record AreEffects (ops : List Stamped) (numbers : List ℕ) : Type 0 where
   pub rising : IsNonDecreasing numbers
   pub each : (number : ℕ) → is_among numbers number ≡ takes_effect ops number
 
--- a schedule's events lead to a world with so many steps, whose operations take effect at these numbers
+-- how far a schedule's events can be made, and the numbers at which operations of the world that these lead to take effect
 pub record IsCountOf (s : Schedule) (counted : Counted) : Type 0 where
-  pub world : World
-  pub led : EventsLead (opening_of s) s.events world
-  pub steps : counted.steps ≡ world.steps
-  pub effects : AreEffects world.operations counted.effects.items
+  pub run : IsRunOf s counted.run
+  pub effects : AreEffects run.world.operations counted.effects.items
 
 -- a schedule's events lead to a world, whose picture this is
 pub record IsPictureOf (view : View) (s : Schedule) (text : List ℕ) : Type 0 where
@@ -40,14 +38,6 @@ pub record IsPictureOf (view : View) (s : Schedule) (text : List ℕ) : Type 0 w
 abbrev pub HasShown : View → Schedule → (old new : SinkState) → Type 0
 HasShown view s old new = (text : List ℕ) × IsPictureOf view s text × Appends old.contents new.contents text
 
--- a prefix of the picture of a schedule was written
-abbrev pub HasBegun : View → Schedule → (old new : SinkState) → Type 0
-HasBegun view s old new = (text : List ℕ) × IsPictureOf view s text × TakesPrefix old.contents new.contents text
-
 -- known bytes were the text of a schedule, and its picture was written
 abbrev pub WritesPicture : View → (given : Option (List ℕ)) → (old new : SinkState) → Type 0
 WritesPicture view given old new = OfSchedule given (λ s. HasShown view s old new)
-
--- known bytes were the text of a schedule, and a prefix of its picture was written
-abbrev pub BeginsPicture : View → (given : Option (List ℕ)) → (old new : SinkState) → Type 0
-BeginsPicture view given old new = OfSchedule given (λ s. HasBegun view s old new)

@@ -2,6 +2,7 @@
 ghost use Rattle.std.specs.Prelude.{◌≡◌, ◌+◌, ◌≤◌, ◌++◌, codes, length, decimal};
 ghost use Rattle.history_text.specs.HistoryText.{call_text};
 ghost use Rattle.step_machine.specs.Accesses.{word_named};
+ghost use Rattle.trace_engine.specs.Standing.{at_text};
 ghost use Rattle.show_engine.specs.Cells.{access_text, answer_text, cell_text, change_text, exchanges, gives_text, held_text, mark_text, name_text, named_reply, place_text};
 
 use history::{Op, Refusal, Reply};
@@ -9,6 +10,7 @@ use history_text::{push_call, push_reply};
 use line_table::Line as At;
 use step_machine::{Contents, Stepped, WordName};
 use text_io::{LINE_ROOM, Line};
+use trace_engine::push_at;
 
 /// Puts the name of a word at the end of a line.
 fn push_place(line: &mut Line, word: WordName)
@@ -112,6 +114,21 @@ fn push_access(line: &mut Line, at: At, word: WordName, found: Contents, now: Co
     line.push(b" ");
     push_place(line, word);
     push_change(line, at, held(found).as_slice(), held(now).as_slice());
+}
+
+/// Where an actor stands whose next step touches this word: before which line, and what the word holds.
+pub(crate) fn stand_cell(at: Option<At>, word: WordName, holds: Contents) -> Line
+    ensures { result ≡ codes " at " ++ at_text at ++ codes " " ++ place_text (word_named word)
+        ++ codes " " ++ held_text holds }
+{
+    let mut line = Line::new();
+    line.push(b" at ");
+    push_at(&mut line, at);
+    line.push(b" ");
+    push_place(&mut line, word);
+    line.push(b" ");
+    line.push(held(holds).as_slice());
+    line
 }
 
 /// A line with the mark before a step.

@@ -1,26 +1,31 @@
 //! Makes the moves of a schedule, and writes a picture of them.
-ghost use Rattle.std.specs.Prelude.{◌≡◌, ◌+◌, ◌<◌, ◌≤◌, ◌^◌, ◌++◌, ◌∷◌, [], All, Some, IsSome, OnOk, length, replicate};
+ghost use Rattle.std.specs.Prelude.{◌≡◌, ◌+◌, ◌<◌, ◌≤◌, ◌^◌, ◌++◌, ◌∷◌, [], All, Some, IsSome, OnOk, length, replicate, take};
+ghost use Rattle.std.specs.List.{slice_get};
 ghost use Rattle.std.specs.List.Sorted.{IsNonDecreasing};
-ghost use Rattle.run_engine.specs.Runs.{world_after, world_of};
+ghost use Rattle.run_engine.specs.Runs.{EventsLead, opening_of, world_after};
 ghost use Rattle.schedule_text.specs.Schedules.{moves_of, moves_of_event};
 ghost use Rattle.schedule_text.specs.Texts.{IsEventInRange, IsInRange};
-ghost use Rattle.step_machine.specs.Machine.{next};
+ghost use Rattle.step_machine.specs.Machine.{World, next};
 ghost use Rattle.text_io.specs.Blocks.{Puts};
 ghost use Rattle.trace_engine.specs.Tracing.{Tells};
 ghost use Rattle.show_engine.specs.Frames.{IsFitting};
-ghost use Rattle.show_engine.specs.Pictures.{drawn_text, framed_text, moves_text};
+ghost use Rattle.show_engine.specs.Pictures.{drawn_text, moves_text};
 ghost use Rattle.show_engine.specs.Rows.{names_row, queue_text};
-ghost use Rattle.show_engine.specs.Showing.{is_among};
+ghost use Rattle.show_engine.specs.Showing.{IsCountOf, is_among};
+ghost use Rattle.show_engine.specs.Standing.{rest_text};
+ghost use Rattle.show_engine.specs.Stopping.{due_text};
 
-use crate::counting::{Counted, opening_world};
+use crate::counting::Counted;
 use crate::framing::Frame;
 use crate::moving::draw_move;
 use crate::rows::{names_line, queue_line, shown_line};
+use crate::standing::put_stands;
 use history::Refusal;
 use schedule_text::{Event, Schedule};
 use std::alloc::Global;
 use step_machine::{Move, WorldOf};
 use text_io::{Block, Sink};
+use trace_engine::{first_events, opening_world};
 
 /// Makes a move that can be made, and puts what a picture has of it.
 fn put_move<const B: u32, W: Sink>(
@@ -102,7 +107,8 @@ fn put_all<const B: u32, W: Sink>(
     requires can { IsSome (world_after (moves_of events.now) world.old) }
     requires fits { IsFitting frame }
     requires rising { IsNonDecreasing effects.now }
-    ensures { Tells (W.state writer.old) (W.state writer.new)
+    ensures ok { OnOk result (world_after (moves_of events.now) world.old ≡ Some world.new) }
+    ensures tells { Tells (W.state writer.old) (W.state writer.new)
         (block.old
         ++ moves_text (drawn_text frame (is_among effects.now) B) (moves_of events.now) world.old)
         block.new result }
@@ -129,7 +135,28 @@ fn put_heading<W: Sink>(
     block.put(writer, names_line(frame).as_slice())
 }
 
-/// Writes the picture of a schedule whose events can be made, by what a run of it has left.
+/// Puts where actors stand if an event of a schedule is refused, behind so many that were made.
+fn put_rest<const B: u32, W: Sink>(
+    world: &WorldOf<B>,
+    frame: Frame,
+    schedule: &Schedule,
+    made: usize,
+    block: &mut Block,
+    writer: &mut W,
+) -> Result<(), Refusal>
+    requires { IsFitting frame }
+    ensures { Puts (W.state writer.old) (W.state writer.new) (block.old
+        ++ rest_text frame B world.now schedule.now.actors (slice_get schedule.now.events made)) block.new
+        result }
+{
+    match schedule.events.get(made) {
+        Some(_) => put_stands(world, frame, schedule.actors, block, writer),
+        None => Ok(()),
+    }
+}
+
+/// Writes the picture of the events of a schedule that can be made, by what a run of it has left, and where actors stand if the next
+/// one is refused.
 pub(crate) fn draw<const B: u32, W: Sink>(
     alloc: Global,
     schedule: &Schedule,
@@ -139,25 +166,28 @@ pub(crate) fn draw<const B: u32, W: Sink>(
 ) -> Result<(), Refusal>
     requires range { IsInRange schedule.now }
     requires bits { schedule.now.bits ≡ B }
-    requires can { IsSome (world_of schedule.now) }
+    requires count { IsCountOf schedule.now counted.now }
     requires fits { IsFitting frame }
-    requires rising { IsNonDecreasing counted.now.effects.items }
-    ensures { Tells (W.state writer.old) (W.state writer.new)
-        (framed_text frame (is_among counted.now.effects.items) counted.now.steps B schedule.now)
-        [] result }
+    ensures { (w : World) → EventsLead (opening_of schedule.now)
+        (take counted.now.run.made schedule.now.events) w → counted.now.run.steps ≡ w.steps
+        → Tells (W.state writer.old) (W.state writer.new) (due_text frame B schedule.now counted.now w) []
+        result }
 {
     let mut world = opening_world::<B>(alloc, schedule)?;
     let mut block = Block::new();
     put_heading(schedule, frame, &mut block, writer)?;
-    put_all(
-        &mut world,
+    let events = first_events(schedule, counted.run.made);
+    let effects = counted.effects.as_slice();
+    put_all(&mut world, frame, effects, events, &mut block, writer)?;
+    put_rest(
+        &world,
         frame,
-        counted.effects.as_slice(),
-        &schedule.events,
+        schedule,
+        counted.run.made,
         &mut block,
         writer,
     )?;
-    let last = shown_line(frame, schedule.actors, counted.steps);
+    let last = shown_line(frame, schedule.actors, counted.run.steps);
     block.put(writer, last.as_slice())?;
     block.finish(writer)
 }

@@ -1,10 +1,10 @@
 //! The engine of `show`: from a reader's bytes to a writer's.
-ghost use Rattle.std.specs.Prelude.{◌≡◌, ◌≢◌, ◌⊎◌, IfErr, IsSome, OnOk, IfSome};
+ghost use Rattle.std.specs.Prelude.{◌≡◌, ◌≢◌, ◌⊎◌, None, IfErr, OnOk, IfSome};
 ghost use Rattle.run_engine.specs.Runs.{EndsReading, IsRunFault, RunRefused, TellsFaultyLine};
 ghost use Rattle.schedule_text.specs.Texts.{IsInRange};
 ghost use Rattle.text_io.specs.Blocks.{GivesUp};
-ghost use Rattle.trace_engine.specs.Tracing.{IsRefusedIn, IsTracingFault};
-ghost use Rattle.show_engine.specs.Showing.{BeginsPicture, HasBegun, HasShown, WritesPicture};
+ghost use Rattle.show_engine.specs.Showing.{WritesPicture};
+ghost use Rattle.show_engine.specs.Stopping.{BeginsPicture, Draws, WritesStop};
 
 use crate::counting::count;
 use crate::drawing::draw;
@@ -25,7 +25,7 @@ macro_rules! by_bits {
     };
 }
 
-/// Writes the picture of a schedule of `B` bits, which is run once before, so that nothing is written where it is refused.
+/// Writes the picture of a schedule of `B` bits, which is run once before, to find where its operations take effect.
 fn show_with<const B: u32, W: Sink>(
     alloc: Global,
     schedule: &Schedule,
@@ -34,23 +34,19 @@ fn show_with<const B: u32, W: Sink>(
 ) -> Result<(), Fault>
     requires range { IsInRange schedule.now }
     requires bits { schedule.now.bits ≡ B }
-    ensures ok { OnOk result (HasShown view schedule.now (W.state writer.old) (W.state writer.new)) }
-    ensures quiet { OnOk result ((W.state writer.new).failures ≡ (W.state writer.old).failures) }
-    ensures fault { IfErr result (λ fault. IsTracingFault fault.refusal fault.line) }
-    ensures refused { IfErr result (λ fault. IsRefusedIn schedule.now fault.line fault.refusal) }
-    ensures unwritten { IfErr result (λ fault. IsSome fault.line → writer.new ≡ writer.old) }
-    ensures memory { IfErr result (λ fault. fault.refusal ≡ Refusal.Memory → (writer.new ≡ writer.old)
-        ⊎ HasBegun view schedule.now (W.state writer.old) (W.state writer.new)) }
-    ensures none_failed { IfErr result (λ fault. fault.refusal ≡ Refusal.Memory
-        → (W.state writer.new).failures ≡ (W.state writer.old).failures) }
-    ensures write { IfErr result (λ fault. fault.refusal ≡ Refusal.Write
-        → HasBegun view schedule.now (W.state writer.old) (W.state writer.new)
-        × GivesUp (W.state writer.old) (W.state writer.new)) }
+    ensures { Draws view schedule.now (W.state writer.old) (W.state writer.new)
+        (writer.new ≡ writer.old) result }
 {
     let counted = count::<B>(alloc, schedule)?;
     let frame = Frame::of(view, schedule.actors);
     draw::<B, W>(alloc, schedule, frame, &counted, writer)?;
-    Ok(())
+    match counted.run.refusal {
+        None => Ok(()),
+        Some(refusal) => {
+            let before = schedule.version.header_lines() + counted.run.made as u64;
+            Err(Fault::at(before + 1, refusal))
+        }
+    }
 }
 
 /// The same with as many bits as the schedule says.
@@ -61,18 +57,8 @@ fn show_in<W: Sink>(
     writer: &mut W,
 ) -> Result<(), Fault>
     requires range { IsInRange schedule.now }
-    ensures ok { OnOk result (HasShown view schedule.now (W.state writer.old) (W.state writer.new)) }
-    ensures quiet { OnOk result ((W.state writer.new).failures ≡ (W.state writer.old).failures) }
-    ensures fault { IfErr result (λ fault. IsTracingFault fault.refusal fault.line) }
-    ensures refused { IfErr result (λ fault. IsRefusedIn schedule.now fault.line fault.refusal) }
-    ensures unwritten { IfErr result (λ fault. IsSome fault.line → writer.new ≡ writer.old) }
-    ensures memory { IfErr result (λ fault. fault.refusal ≡ Refusal.Memory → (writer.new ≡ writer.old)
-        ⊎ HasBegun view schedule.now (W.state writer.old) (W.state writer.new)) }
-    ensures none_failed { IfErr result (λ fault. fault.refusal ≡ Refusal.Memory
-        → (W.state writer.new).failures ≡ (W.state writer.old).failures) }
-    ensures write { IfErr result (λ fault. fault.refusal ≡ Refusal.Write
-        → HasBegun view schedule.now (W.state writer.old) (W.state writer.new)
-        × GivesUp (W.state writer.old) (W.state writer.new)) }
+    ensures { Draws view schedule.now (W.state writer.old) (W.state writer.new)
+        (writer.new ≡ writer.old) result }
 {
     let bits = schedule.bits;
     by_bits!(bits, show_with (alloc, schedule, view, writer)
@@ -81,15 +67,17 @@ fn show_in<W: Sink>(
 
 /// Writes a picture of the schedule whose text the reader gives: an actor a column and a step a row, and a star where an operation
 /// takes effect. The chains of nodes from Head and from Free, with an arrow at Tail's node, and who holds a lock stand beside a row
-/// that changed one of them. The view says which steps and actors are shown, and the last line says it too.
+/// that changed one of them. The view says which steps and actors are shown, and the last line says it too. Where an event is refused,
+/// these are the rows of the events before it, and behind them a row for each actor with a column and a call says where it stands.
 ///
 /// The schedule's events are held, at most 1,000,000, and where its operations take effect. None of its steps is. The
-/// events are made twice: first to find whether one is refused, and then step by step as the rows are written.
+/// events are made twice, and those before one that is refused once more: first to find whether one is, and at last step by step as
+/// the rows are written.
 ///
 /// A fault is, in this order: `Memory`, as soon as a growth is refused; `Read`, where a call of the
-/// reader fails; `Text`, where the bytes are no schedule; the refusal of the first event that is
-/// refused, with its line; `Write`, where a call of the writer fails or takes nothing. Memory may be refused too
-/// while the rows are written. It takes memory; whether it waits is up to the reader and the writer.
+/// reader fails; `Text`, where the bytes are no schedule; `Write`, where a call of the writer fails or takes nothing; the
+/// refusal of the first event that is refused, with its line. Memory may be refused too while the rows are written. It
+/// takes memory; whether it waits is up to the reader and the writer.
 pub fn show_text<R: Source, W: Sink>(
     alloc: Global,
     reader: &mut R,
@@ -112,9 +100,14 @@ pub fn show_text<R: Source, W: Sink>(
         ⊎ BeginsPicture view (R.state reader.old).left (W.state writer.old) (W.state writer.new)) }
     ensures none_failed { IfErr result (λ fault. fault.refusal ≡ Refusal.Memory
         → (W.state writer.new).failures ≡ (W.state writer.old).failures) }
-    // At any other fault nothing is.
-    ensures unwritten { IfErr result (λ fault. fault.refusal ≢ Refusal.Write
+    // At any other fault without a line nothing is.
+    ensures unwritten { IfErr result (λ fault. fault.line ≡ None → fault.refusal ≢ Refusal.Write
         → fault.refusal ≢ Refusal.Memory → writer.new ≡ writer.old) }
+    //= program/stopped (stopped, none_failed_there)
+    ensures stopped { IfErr result (λ fault. IfSome fault.line (λ line. WritesStop view
+        (R.state reader.old).left line fault.refusal (W.state writer.old) (W.state writer.new))) }
+    ensures none_failed_there { IfErr result (λ fault. IfSome fault.line (λ line.
+        (W.state writer.new).failures ≡ (W.state writer.old).failures)) }
     //= program/other_faults (fault, text, refused, reader)
     ensures fault { IfErr result (λ fault. IsRunFault fault.refusal fault.line) }
     // A text that is no schedule is refused by its first faulty line.

@@ -1,6 +1,6 @@
 //! What of a run is shown, and in which columns.
 ghost use Rattle.std.specs.Prelude.{◌≡◌, ◌≤◌, ◌<◌, ◌^◌};
-ghost use Rattle.show_engine.specs.Frames.{IsFitting, column_of, end_of, frame_of, shown_within, shows, width_of};
+ghost use Rattle.show_engine.specs.Frames.{IsFitting, column_of, end_of, frame_of, has_column, shown_within, shows, width_of};
 
 /// What of a run is shown.
 #[derive(Clone, Copy, Debug)]
@@ -92,16 +92,21 @@ impl Frame {
         }
     }
 
+    /// Whether this actor has a column.
+    pub(crate) fn has_column(self, actor: u16) -> bool
+        requires { IsFitting self }
+        ensures { result ≡ has_column self actor }
+    {
+        let actor = u64::from(actor);
+        self.first <= actor && actor < self.first + self.count
+    }
+
     /// Whether a move at this number by this actor is shown.
     pub(crate) fn shows(self, number: u64, actor: u16) -> bool
         requires { IsFitting self }
         ensures { result ≡ shows self number actor }
     {
-        let actor = u64::from(actor);
-        self.from <= number
-            && number <= self.to
-            && self.first <= actor
-            && actor < self.first + self.count
+        self.from <= number && number <= self.to && self.has_column(actor)
     }
 
     /// The column at which the text of this actor begins.

@@ -12,6 +12,7 @@ mod framing;
 mod moving;
 mod rows;
 mod scales;
+mod standing;
 mod timeline;
 
 pub use engine::show_text;

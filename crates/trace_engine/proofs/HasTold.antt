@@ -1,6 +1,7 @@
 -- Moves of which some were made and told.
 use Rattle.std.proofs.Common.{◌≡◌, ℕ, ◌+◌, ◌-◌, ◌<◌, List, [], ◌∷◌, ◌++◌, length, drop, get_or, Option, Some, refl, sym, ap, subst, ◌∙◌, append_assoc, inl, inr, Result, Ok, Err}
 use Rattle.std.specs.Prelude.{IsSome, replicate}
+use Rattle.std.proofs.lemmas.List.{append-nil}
 use Rattle.history.specs.declared.refusals.Refusal.{Refusal}
 use Rattle.history.specs.declared.refusals.Refusal.TheVariants.{Memory, Write}
 use Rattle.schedule_text.specs.declared.schedules.Event.{Event}
@@ -29,6 +30,11 @@ module _ (bits : ℕ) (a b : SinkState) (text : List ℕ) (start : World) (moves
   pub HasTold-can : (w : World) (held : List ℕ) (rest : List Move) → HasTold bits a b text start moves w held rest → IsSome (world_after moves start) → IsSome (world_after rest w)
   HasTold-can w held rest t can =
       later_moves t.before rest start w t.led (subst (λ (ms : List Move). IsSome (world_after ms start)) t.split can)
+
+  -- where nothing is left, all were made
+  pub HasTold-led : (w : World) (held : List ℕ) (rest : List Move) → HasTold bits a b text start moves w held rest → rest ≡ [] → world_after moves start ≡ Some w
+  HasTold-led w held rest t none =
+      ap (λ (ms : List Move). world_after ms start) (t.split ∙ ap (λ (ms : List Move). t.before ++ ms) none ∙ append-nil t.before) ∙ t.led
 
   -- some more were made and told
   pub HasTold-more : (c : SinkState) (w v : World) (held after : List ℕ) (left chunk rest : List Move) → HasTold bits a b text start moves w held left → left ≡ chunk ++ rest → world_after chunk w ≡ Some v
@@ -139,3 +145,27 @@ module _ (bits : ℕ) (a b c : SinkState) (text : List ℕ) (start : World) (eve
       → TakesPrefix a.contents c.contents (text ++ moves_text bits (moves_of events) start)
   stopped_event can begun =
       HasTold-stopped bits a b text start (moves_of events) c w (first can).0 held (moves_of (drop i events)) chunk (moves_of (drop (i + 1) events)) told parts (first can).1 begun
+
+-- behind what was told of a text, more of it is told
+pub Tells-then : {A : Type 0} (a b c : SinkState) (text held more after : List ℕ) (result : Result A Refusal) → Sends a.contents b.contents text held → b.failures ≡ a.failures
+    → Tells b c (held ++ more) after result → Tells a c (text ++ more) after result
+Tells-then a b c text held more after (Ok done) sends quiet tells = record {
+  ok = Sends-trans a.contents b.contents c.contents text held more after sends tells.ok;
+  quiet = tells.quiet ∙ quiet;
+  prefix = tt;
+  cause = tt;
+}
+Tells-then a b c text held more after (Err refusal) sends quiet tells = record {
+  ok = tt;
+  quiet = tt;
+  prefix = TakesPrefix-trans a.contents b.contents c.contents text held more sends tells.prefix;
+  cause = StopsTelling-behind a b c refusal quiet tells.cause;
+}
+
+-- where the telling of a text is refused, so is that of a longer one
+pub Tells-longer : {A B : Type 0} (a b : SinkState) (text held more after : List ℕ) (refusal : Refusal) → Tells {A = A} a b text held (Err refusal) → Tells {A = B} a b (text ++ more) after (Err refusal)
+Tells-longer a b text held more after refusal tells = record { ok = tt; quiet = tt; prefix = TakesPrefix-longer a.contents b.contents text more tells.prefix; cause = tells.cause }
+
+-- where a telling is refused, nothing is said of what is held back
+pub Tells-held : {A B : Type 0} (a b : SinkState) (text held after : List ℕ) (refusal : Refusal) → Tells {A = A} a b text held (Err refusal) → Tells {A = B} a b text after (Err refusal)
+Tells-held a b text held after refusal tells = record { ok = tt; quiet = tt; prefix = tells.prefix; cause = tells.cause }

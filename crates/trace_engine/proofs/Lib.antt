@@ -1,5 +1,7 @@
 mod Decimals
 pub mod Texts
 pub mod HasTold
-pub mod Counted
-pub mod Made
+pub mod HasCounted
+pub mod Stops
+pub mod Answered
+pub mod Standings

@@ -37,10 +37,6 @@ pub record IsTraceOf (s : Schedule) (text : List ℕ) : Type 0 where
 abbrev pub HasTraced : Schedule → (old new : SinkState) → Type 0
 HasTraced s old new = (text : List ℕ) × IsTraceOf s text × Appends old.contents new.contents text
 
--- a prefix of the trace of a schedule was written
-abbrev pub HasBegun : Schedule → (old new : SinkState) → Type 0
-HasBegun s old new = (text : List ℕ) × IsTraceOf s text × TakesPrefix old.contents new.contents text
-
 -- what the tracing of a schedule may be refused as a whole
 abbrev pub IsTracingRefusal : Refusal → Type 0
 IsTracingRefusal Memory = Unit {0}
@@ -67,7 +63,3 @@ pub record OfSchedule (given : Option (List ℕ)) (P : Schedule → Type 0) : Ty
 -- known bytes were the text of a schedule, and the text of its trace was written
 abbrev pub WritesTrace : (given : Option (List ℕ)) → (old new : SinkState) → Type 0
 WritesTrace given old new = OfSchedule given (λ s. HasTraced s old new)
-
--- known bytes were the text of a schedule, and a prefix of the text of its trace was written
-abbrev pub BeginsTrace : (given : Option (List ℕ)) → (old new : SinkState) → Type 0
-BeginsTrace given old new = OfSchedule given (λ s. HasBegun s old new)

@@ -1,22 +1,29 @@
-//! Runs a schedule once, to find what it is refused, and how many steps it has.
-ghost use Rattle.std.specs.Prelude.{◌≡◌, ◌≤◌, All, IfOk, IfErr, IfSome, OnOk, length};
+//! Runs a schedule once, to find how many of its events can be made, how many steps these are, and what the next one is refused.
+ghost use Rattle.std.specs.Prelude.{◌≡◌, ◌≤◌, None, All, IfOk, IfErr, length};
 ghost use Rattle.history.specs.declared.refusals.Refusal.TheVariants.{Memory};
-ghost use Rattle.engine_faults.specs.Faults.{IsEventFault};
-ghost use Rattle.run_engine.specs.Runs.{opening_of, EventsLead, EventsRefused};
+ghost use Rattle.run_engine.specs.Runs.{EventsLead, opening_of};
 ghost use Rattle.schedule_text.specs.Texts.{IsEventInRange, IsInRange};
-ghost use Rattle.step_machine.specs.Machine.{World};
-ghost use Rattle.text_lines.specs.Numerals.{IsWithin};
-ghost use Rattle.trace_engine.specs.Tracing.{IsRefusedIn};
+ghost use Rattle.trace_engine.specs.Stopping.{IsCount, IsCountOf};
 
-use engine_faults::Fault;
 use history::Refusal;
 use run_engine::make;
 use schedule_text::{Event, Schedule};
 use std::alloc::Global;
 use step_machine::WorldOf;
 
+/// How far the events of a schedule can be made.
+#[derive(Drop)]
+pub struct Counted {
+    /// How many of them can be, one after another.
+    pub made: usize,
+    /// How many steps these are.
+    pub steps: u64,
+    /// What the next one is refused, if there is one.
+    pub refusal: Option<Refusal>,
+}
+
 /// The world of a schedule in which nothing happened yet.
-pub(crate) fn opening_world<const B: u32>(
+pub fn opening_world<const B: u32>(
     alloc: Global,
     schedule: &Schedule,
 ) -> Result<WorldOf<B>, Refusal>
@@ -29,41 +36,49 @@ pub(crate) fn opening_world<const B: u32>(
     WorldOf::new(alloc, schedule.kind, schedule.nodes, schedule.limit, actors)
 }
 
-/// Makes events, of which the first stands behind so many lines.
-fn make_all<const B: u32>(world: &mut WorldOf<B>, lines: u64, events: &[Event]) -> Result<(), Fault>
+/// Makes events, as far as they can be made. Where one is refused, the world is whatever the moves of that left.
+pub fn make_all<const B: u32>(world: &mut WorldOf<B>, events: &[Event]) -> Result<Counted, Refusal>
     requires range { All IsEventInRange events.now }
     requires few { length events.now ≤ 1000000 }
     requires left { world.old.steps ≡ 0 }
-    requires lines { IsWithin 6 7 lines }
-    ensures ok { OnOk result (EventsLead world.old events.now world.new) }
-    ensures fault { IfErr result (λ fault. IsEventFault fault.refusal fault.line) }
-    ensures refused { IfErr result (λ fault. IfSome fault.line (λ line.
-        EventsRefused lines world.old events.now line fault.refusal)) }
+    ensures ok { IfOk result (IsCount world.old events.now) }
+    ensures whole { IfOk result (λ counted. counted.refusal ≡ None
+        → EventsLead world.old events.now world.new) }
+    ensures err { IfErr result (λ refusal. refusal ≡ Memory) }
 {
-    let mut line = lines + 1;
+    let mut made = 0usize;
     for event in events {
+        let steps = world.steps();
         match make(world, *event) {
-            Ok(()) => line += 1,
-            Err(refusal) => return Err(Fault::at(line, refusal)),
+            Ok(()) => made += 1,
+            Err(Refusal::Memory) => return Err(Refusal::Memory),
+            Err(refusal) => {
+                let refusal = Some(refusal);
+                return Ok(Counted {
+                    made,
+                    steps,
+                    refusal,
+                });
+            }
         }
     }
-    Ok(())
+    Ok(Counted {
+        made,
+        steps: world.steps(),
+        refusal: None,
+    })
 }
 
-/// How many steps the events of a schedule are, which are made on a world of their own.
-pub(crate) fn count_steps<const B: u32>(alloc: Global, schedule: &Schedule) -> Result<u64, Fault>
+/// How far the events of a schedule can be made, on a world of their own.
+pub(crate) fn count_steps<const B: u32>(
+    alloc: Global,
+    schedule: &Schedule,
+) -> Result<Counted, Refusal>
     requires range { IsInRange schedule.now }
     requires bits { schedule.now.bits ≡ B }
-    ensures ok { IfOk result (λ steps. (w : World)
-        × EventsLead (opening_of schedule.now) schedule.now.events w × (steps ≡ w.steps)) }
-    ensures fault { IfErr result (λ fault. IsEventFault fault.refusal fault.line) }
-    ensures refused { IfErr result (λ fault. IsRefusedIn schedule.now fault.line fault.refusal) }
+    ensures ok { IfOk result (IsCountOf schedule.now) }
+    ensures err { IfErr result (λ refusal. refusal ≡ Memory) }
 {
     let mut world = opening_world::<B>(alloc, schedule)?;
-    make_all(
-        &mut world,
-        schedule.version.header_lines(),
-        &schedule.events,
-    )?;
-    Ok(world.steps())
+    make_all(&mut world, &schedule.events)
 }

@@ -1,12 +1,12 @@
 //! The engine of `trace`: from a reader's bytes to a writer's.
-ghost use Rattle.std.specs.Prelude.{◌≡◌, ◌≢◌, ◌⊎◌, IfErr, IsSome, OnOk, IfSome};
+ghost use Rattle.std.specs.Prelude.{◌≡◌, ◌≢◌, ◌⊎◌, None, IfErr, OnOk, IfSome};
 ghost use Rattle.run_engine.specs.Runs.{EndsReading, IsRunFault, RunRefused, TellsFaultyLine};
 ghost use Rattle.schedule_text.specs.Texts.{IsInRange};
 ghost use Rattle.text_io.specs.Blocks.{GivesUp};
-ghost use Rattle.trace_engine.specs.Tracing.{BeginsTrace, HasBegun, HasTraced, IsRefusedIn, IsTracingFault, WritesTrace};
+ghost use Rattle.trace_engine.specs.Stopping.{BeginsTrace, Traces, WritesStop};
+ghost use Rattle.trace_engine.specs.Tracing.{WritesTrace};
 
 use crate::counting::count_steps;
-use crate::printing::header_lines;
 use crate::telling::tell_steps;
 use engine_faults::Fault;
 use history::Refusal;
@@ -24,7 +24,7 @@ macro_rules! by_bits {
     };
 }
 
-/// Writes the trace of a schedule of `B` bits, which is run once before, so that nothing is written where it is refused.
+/// Writes the trace of a schedule of `B` bits, which is run once before, so that the header tells how many steps there are.
 fn trace_with<const B: u32, W: Sink>(
     alloc: Global,
     schedule: &Schedule,
@@ -32,55 +32,42 @@ fn trace_with<const B: u32, W: Sink>(
 ) -> Result<(), Fault>
     requires range { IsInRange schedule.now }
     requires bits { schedule.now.bits ≡ B }
-    ensures ok { OnOk result (HasTraced schedule.now (W.state writer.old) (W.state writer.new)) }
-    ensures quiet { OnOk result ((W.state writer.new).failures ≡ (W.state writer.old).failures) }
-    ensures fault { IfErr result (λ fault. IsTracingFault fault.refusal fault.line) }
-    ensures refused { IfErr result (λ fault. IsRefusedIn schedule.now fault.line fault.refusal) }
-    ensures unwritten { IfErr result (λ fault. IsSome fault.line → writer.new ≡ writer.old) }
-    ensures memory { IfErr result (λ fault. fault.refusal ≡ Refusal.Memory → (writer.new ≡ writer.old)
-        ⊎ HasBegun schedule.now (W.state writer.old) (W.state writer.new)) }
-    ensures none_failed { IfErr result (λ fault. fault.refusal ≡ Refusal.Memory
-        → (W.state writer.new).failures ≡ (W.state writer.old).failures) }
-    ensures write { IfErr result (λ fault. fault.refusal ≡ Refusal.Write
-        → HasBegun schedule.now (W.state writer.old) (W.state writer.new)
-        × GivesUp (W.state writer.old) (W.state writer.new)) }
+    ensures { Traces schedule.now (W.state writer.old) (W.state writer.new) (writer.new ≡ writer.old)
+        result }
 {
-    let steps = count_steps::<B>(alloc, schedule)?;
-    let header = header_lines(schedule, steps);
-    tell_steps::<B, W>(alloc, schedule, header, writer)?;
-    Ok(())
+    let counted = count_steps::<B>(alloc, schedule)?;
+    tell_steps::<B, W>(alloc, schedule, &counted, writer)?;
+    match counted.refusal {
+        None => Ok(()),
+        Some(refusal) => {
+            let before = schedule.version.header_lines() + counted.made as u64;
+            Err(Fault::at(before + 1, refusal))
+        }
+    }
 }
 
 /// The same with as many bits as the schedule says.
 fn trace_in<W: Sink>(alloc: Global, schedule: &Schedule, writer: &mut W) -> Result<(), Fault>
     requires range { IsInRange schedule.now }
-    ensures ok { OnOk result (HasTraced schedule.now (W.state writer.old) (W.state writer.new)) }
-    ensures quiet { OnOk result ((W.state writer.new).failures ≡ (W.state writer.old).failures) }
-    ensures fault { IfErr result (λ fault. IsTracingFault fault.refusal fault.line) }
-    ensures refused { IfErr result (λ fault. IsRefusedIn schedule.now fault.line fault.refusal) }
-    ensures unwritten { IfErr result (λ fault. IsSome fault.line → writer.new ≡ writer.old) }
-    ensures memory { IfErr result (λ fault. fault.refusal ≡ Refusal.Memory → (writer.new ≡ writer.old)
-        ⊎ HasBegun schedule.now (W.state writer.old) (W.state writer.new)) }
-    ensures none_failed { IfErr result (λ fault. fault.refusal ≡ Refusal.Memory
-        → (W.state writer.new).failures ≡ (W.state writer.old).failures) }
-    ensures write { IfErr result (λ fault. fault.refusal ≡ Refusal.Write
-        → HasBegun schedule.now (W.state writer.old) (W.state writer.new)
-        × GivesUp (W.state writer.old) (W.state writer.new)) }
+    ensures { Traces schedule.now (W.state writer.old) (W.state writer.new) (writer.new ≡ writer.old)
+        result }
 {
     let bits = schedule.bits;
     by_bits!(bits, trace_with (alloc, schedule, writer)
         16 17 18 19 20 21 22 23 24 25 26 27 28 29 30 31 32)
 }
 
-/// Writes the trace of the schedule whose text the reader gives: a header, and then a line for each of its steps.
+/// Writes the trace of the schedule whose text the reader gives: a header, and then a line for each of its steps. Where an event is
+/// refused, these are the steps of the events before it, and behind them a line for each actor that has a call says where it
+/// stands, and a last one how soon the call of the event's actor ends alone.
 ///
 /// The schedule's events are held, at most 1,000,000, and none of its steps is. They are made twice: first to find
 /// whether one is refused, and then step by step as the lines are written.
 ///
 /// A fault is, in this order: `Memory`, as soon as a growth is refused; `Read`, where a call of the
-/// reader fails; `Text`, where the bytes are no schedule; the refusal of the first event that is
-/// refused, with its line; `Write`, where a call of the writer fails or takes nothing. Memory may be refused too
-/// while the steps are written. It takes memory; whether it waits is up to the reader and the writer.
+/// reader fails; `Text`, where the bytes are no schedule; `Write`, where a call of the writer fails or takes nothing; the
+/// refusal of the first event that is refused, with its line. Memory may be refused too while the steps are written. It
+/// takes memory; whether it waits is up to the reader and the writer.
 pub fn trace_text<R: Source, W: Sink>(
     alloc: Global,
     reader: &mut R,
@@ -93,7 +80,7 @@ pub fn trace_text<R: Source, W: Sink>(
     ensures quiet { OnOk result ((W.state writer.new).failures ≡ (W.state writer.old).failures) }
     //= program/prefix (prefix, write, memory, none_failed, unwritten): If a trace or a picture is refused `Write`, a
     //=   prefix of it was written, and a write failed or took nothing. At `Memory` nothing or a prefix was written,
-    //=   and no write failed. At any other refusal nothing was written.
+    //=   and no write failed. At any other refusal without a line nothing was written.
     ensures prefix { IfErr result (λ fault. fault.refusal ≡ Refusal.Write
         → BeginsTrace (R.state reader.old).left (W.state writer.old) (W.state writer.new)) }
     ensures write { IfErr result (λ fault. fault.refusal ≡ Refusal.Write
@@ -103,9 +90,16 @@ pub fn trace_text<R: Source, W: Sink>(
         ⊎ BeginsTrace (R.state reader.old).left (W.state writer.old) (W.state writer.new)) }
     ensures none_failed { IfErr result (λ fault. fault.refusal ≡ Refusal.Memory
         → (W.state writer.new).failures ≡ (W.state writer.old).failures) }
-    // At any other fault nothing is.
-    ensures unwritten { IfErr result (λ fault. fault.refusal ≢ Refusal.Write
+    // At any other fault without a line nothing is.
+    ensures unwritten { IfErr result (λ fault. fault.line ≡ None → fault.refusal ≢ Refusal.Write
         → fault.refusal ≢ Refusal.Memory → writer.new ≡ writer.old) }
+    //= program/stopped (stopped, none_failed_there): Where an event is refused, the trace or the picture of the events
+    //=   before it is written, and then where each actor stands that has a call and is shown; in a trace, how many
+    //=   steps alone end the call of the event's actor, too.
+    ensures stopped { IfErr result (λ fault. IfSome fault.line (λ line. WritesStop (R.state reader.old).left
+        line fault.refusal (W.state writer.old) (W.state writer.new))) }
+    ensures none_failed_there { IfErr result (λ fault. IfSome fault.line (λ line.
+        (W.state writer.new).failures ≡ (W.state writer.old).failures)) }
     //= program/other_faults (fault, text, refused, reader): Other faults of a trace or a picture, and the reader's end,
     //=   are as of `run_text`.
     ensures fault { IfErr result (λ fault. IsRunFault fault.refusal fault.line) }

@@ -46,7 +46,7 @@ fn push_number(line: &mut Line, number: u64)
 }
 
 /// Puts a number of 32 bits at the end of a line.
-fn push_short(line: &mut Line, number: u32)
+pub(crate) fn push_short(line: &mut Line, number: u32)
     requires { length line.old + 10 ≤ LINE_ROOM }
     ensures digits { line.new ≡ line.old ++ decimal number }
     ensures short { length line.new ≤ length line.old + 10 }
@@ -55,7 +55,7 @@ fn push_short(line: &mut Line, number: u32)
 }
 
 /// Puts the name of a word at the end of a line.
-fn push_word(line: &mut Line, word: WordName)
+pub(crate) fn push_word(line: &mut Line, word: WordName)
     requires { length line.old + 30 ≤ LINE_ROOM }
     ensures text { line.new ≡ line.old ++ word_text (word_named word) }
     ensures short { length line.new ≤ length line.old + 16 }
@@ -79,7 +79,7 @@ fn push_word(line: &mut Line, word: WordName)
 }
 
 /// Puts what a word holds at the end of a line.
-fn push_contents(line: &mut Line, contents: &Contents)
+pub(crate) fn push_contents(line: &mut Line, contents: &Contents)
     requires { length line.old + 31 ≤ LINE_ROOM }
     ensures text { line.new ≡ line.old ++ contents_text contents.now }
     ensures short { length line.new ≤ length line.old + 31 }

@@ -175,18 +175,85 @@ const PICTURES: [(&str, View, &str); 7] = [
     ),
 ];
 
-const FAULTS: [(&str, &str, u64, Refusal); 5] = [
+/// A line of a schedule, what stands there in its place, the line and the refusal of the event that is then refused, the beginning of
+/// the first row that isn't made, and what is behind the rows.
+type Stop = (
+    &'static str,
+    &'static str,
+    u64,
+    Refusal,
+    &'static str,
+    &'static str,
+);
+
+const STOPS: [Stop; 4] = [
     (
-        "events 9",
-        "events 10",
-        16,
-        Refusal::Text(16, TextCause::End),
+        "begin 1 enq 5",
+        "begin 3 enq 5",
+        7,
+        Refusal::NoSuchActor,
+        "        enq 5\n",
+        "steps 1 to 0 of 0, actors 1 to 2 of 2\n",
     ),
-    ("begin 1 enq 5", "begin 3 enq 5", 7, Refusal::NoSuchActor),
-    ("give 1", "begin 1 deq", 14, Refusal::ActorBusy),
-    ("step 2 D13", "step 2 D12", 11, Refusal::NotHere),
-    ("give 2", "step 1 N1", 12, Refusal::IdleActor),
+    (
+        "give 1",
+        "begin 1 deq",
+        14,
+        Refusal::ActorBusy,
+        "    18",
+        "        at N1 Fresh 2\nsteps 1 to 17 of 17, actors 1 to 2 of 2\n",
+    ),
+    (
+        "step 2 D13",
+        "step 2 D12",
+        11,
+        Refusal::NotHere,
+        "    16",
+        "                    at D13 Head <1,0>\nsteps 1 to 15 of 15, actors 1 to 2 of 2\n",
+    ),
+    (
+        "give 2",
+        "step 1 N1",
+        12,
+        Refusal::IdleActor,
+        "    17",
+        "                    at F1 Free <0,0>\nsteps 1 to 16 of 16, actors 1 to 2 of 2\n",
+    ),
 ];
+
+/// A look that finds the queue empty in the steps of an event that is refused.
+const EMPTY: &str = "msq schedule 1
+queue nonblocking
+nodes 2
+limit 1
+actors 2
+events 4
+begin 1 deq
+steps 1 3
+begin 2 enq 1
+steps 1 9
+";
+
+/// It has no effect before that event.
+const EMPTY_PICTURE: &str = "queue nonblocking, bits 24, nodes 2, limit 1, actors 2
+ actor  1           2
+        deq
+     1  D2 Head <1,0>                             | Head >1, Free -
+     2  D3 Tail <1,0>
+     3  D4 1.next <0,0>
+                    enq 1
+        at D5 Head <1,0>
+                    at N1 Fresh 1
+steps 1 to 3 of 3, actors 1 to 2 of 2
+";
+
+/// The same of actor 2 alone.
+const EMPTY_PART: &str = "queue nonblocking, bits 24, nodes 2, limit 1, actors 2
+ actor  2
+        enq 1
+        at N1 Fresh 1
+steps 1 to 3 of 3, actors 2 to 2 of 2
+";
 
 // What is written of a text that comes and goes in pieces of this size.
 fn by_piece(alloc: Global, text: &str, view: View, piece: usize) -> Result<String, Fail>
@@ -219,25 +286,54 @@ fn draws_what_the_view_says(rt: HostRuntime) -> Result<(), Fail> {
 }
 
 #[test]
-fn writes_nothing_at_a_fault(rt: HostRuntime) -> Result<(), Fail> {
-    for (old, new, line, refusal) in &FAULTS {
+fn writes_nothing_of_a_faulty_text(rt: HostRuntime) -> Result<(), Fail> {
+    let (before, after) = FIRST.split_once("events 9").ok_or("the line")?;
+    let text = format!(in rt.alloc(); "{before}events 10{after}")?;
+    let reader = Script::reader(rt.alloc(), text.as_bytes(), 100)?;
+    let writer = Script::writer(rt.alloc(), 2000, 100)?;
+    let due = Fault::from(Refusal::Text(16, TextCause::End));
+    same(&rt, answered(rt.alloc(), reader, writer), (Err(due), 0), 16);
+    Ok(())
+}
+
+// What the engine answers of a text, and what it draws.
+fn drawn(alloc: Global, text: &str, view: View) -> Result<(Result<(), Fault>, String), Fail> {
+    let mut reader = Script::reader(alloc, text.as_bytes(), 100)?;
+    let mut writer = Script::writer(alloc, 2000, 100)?;
+    let answer = show_text(alloc, &mut reader, &mut writer, view);
+    let picture = std::str::from_utf8(writer.written()).ok().ok_or("no text")?;
+    Ok((answer, String::from_str(alloc, picture)?))
+}
+
+#[test]
+fn draws_where_actors_stand_as_an_event_is_refused(rt: HostRuntime) -> Result<(), Fail> {
+    for (old, new, line, refusal, next, behind) in &STOPS {
         let (before, after) = FIRST.split_once(*old).ok_or("the line")?;
         let text = format!(in rt.alloc(); "{before}{new}{after}")?;
-        let reader = Script::reader(rt.alloc(), text.as_bytes(), 100)?;
-        let writer = Script::writer(rt.alloc(), 2000, 100)?;
-        let due = match refusal {
-            Refusal::Text(_, _) => Fault::from(*refusal),
-            _ => Fault {
-                refusal: *refusal,
-                line: Some(*line),
-            },
+        let (made, _) = FIRST_PICTURE.split_once(*next).ok_or("the row")?;
+        let picture = format!(in rt.alloc(); "{made}{behind}")?;
+        let (answer, found) = drawn(rt.alloc(), text.as_str(), WHOLE)?;
+        let due = Fault {
+            refusal: *refusal,
+            line: Some(*line),
         };
-        same(
-            &rt,
-            answered(rt.alloc(), reader, writer),
-            (Err(due), 0),
-            *new,
-        );
+        same(&rt, answer, Err(due), *new);
+        same(&rt, found.as_str(), picture.as_str(), *new);
+    }
+    Ok(())
+}
+
+#[test]
+fn stars_no_step_for_what_a_refused_event_did(rt: HostRuntime) -> Result<(), Fail> {
+    let second = View { actor: 2, ..WHOLE };
+    let due = Fault {
+        refusal: Refusal::IdleActor,
+        line: Some(10),
+    };
+    for (view, picture) in [(WHOLE, EMPTY_PICTURE), (second, EMPTY_PART)] {
+        let (answer, found) = drawn(rt.alloc(), EMPTY, view)?;
+        same(&rt, answer, Err(due), view.actor);
+        same(&rt, found.as_str(), picture, view.actor);
     }
     Ok(())
 }

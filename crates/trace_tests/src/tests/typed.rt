@@ -83,17 +83,55 @@ steps 8
 8 1 B6 H_lock found 1 now 0 reply refused 16
 ";
 
-const FAULTS: [(&str, &str, u64, Refusal); 5] = [
+/// A line of a schedule, what stands there in its place, the line and the refusal of the event that is then refused, how many steps
+/// come before it, the beginning of the first row that isn't made, and where the actors stand.
+type Stop = (
+    &'static str,
+    &'static str,
+    u64,
+    Refusal,
+    &'static str,
+    &'static str,
+    &'static str,
+);
+
+const STOPS: [Stop; 4] = [
     (
-        "events 9",
-        "events 10",
-        16,
-        Refusal::Text(16, TextCause::End),
+        "begin 1 enq 5",
+        "begin 3 enq 5",
+        7,
+        Refusal::NoSuchActor,
+        "0",
+        "1 1 N1",
+        "",
     ),
-    ("begin 1 enq 5", "begin 3 enq 5", 7, Refusal::NoSuchActor),
-    ("give 1", "begin 1 deq", 14, Refusal::ActorBusy),
-    ("step 2 D13", "step 2 D12", 11, Refusal::NotHere),
-    ("give 2", "step 1 N1", 12, Refusal::IdleActor),
+    (
+        "give 1",
+        "begin 1 deq",
+        14,
+        Refusal::ActorBusy,
+        "17",
+        "18 1 N1",
+        "1 at N1 Fresh holds 2\n1 alone 2\n",
+    ),
+    (
+        "step 2 D13",
+        "step 2 D12",
+        11,
+        Refusal::NotHere,
+        "15",
+        "16 2 D13",
+        "2 at D13 Head holds 1 0\n2 alone 4\n",
+    ),
+    (
+        "give 2",
+        "step 1 N1",
+        12,
+        Refusal::IdleActor,
+        "16",
+        "17 2 F1",
+        "2 at F1 Free holds 0 0\n",
+    ),
 ];
 
 // What is written of a text that comes and goes in pieces of this size.
@@ -127,25 +165,34 @@ fn tells_each_form_of_line(rt: HostRuntime) -> Result<(), Fail> {
 }
 
 #[test]
-fn writes_nothing_at_a_fault(rt: HostRuntime) -> Result<(), Fail> {
-    for (old, new, line, refusal) in &FAULTS {
+fn writes_nothing_of_a_faulty_text(rt: HostRuntime) -> Result<(), Fail> {
+    let (before, after) = FIRST.split_once("events 9").ok_or("the line")?;
+    let text = format!(in rt.alloc(); "{before}events 10{after}")?;
+    let reader = Script::reader(rt.alloc(), text.as_bytes(), 100)?;
+    let writer = Script::writer(rt.alloc(), 2000, 100)?;
+    let due = Fault::from(Refusal::Text(16, TextCause::End));
+    same(&rt, answered(rt.alloc(), reader, writer), (Err(due), 0), 16);
+    Ok(())
+}
+
+#[test]
+fn tells_where_actors_stand_as_an_event_is_refused(rt: HostRuntime) -> Result<(), Fail> {
+    let (head, rows) = FIRST_TRACE.split_once("steps 18\n").ok_or("the header")?;
+    for (old, new, line, refusal, steps, next, behind) in &STOPS {
         let (before, after) = FIRST.split_once(*old).ok_or("the line")?;
         let text = format!(in rt.alloc(); "{before}{new}{after}")?;
-        let reader = Script::reader(rt.alloc(), text.as_bytes(), 100)?;
-        let writer = Script::writer(rt.alloc(), 2000, 100)?;
-        let due = match refusal {
-            Refusal::Text(_, _) => Fault::from(*refusal),
-            _ => Fault {
-                refusal: *refusal,
-                line: Some(*line),
-            },
+        let mut reader = Script::reader(rt.alloc(), text.as_bytes(), 100)?;
+        let mut writer = Script::writer(rt.alloc(), 2000, 100)?;
+        let answer = trace_text(rt.alloc(), &mut reader, &mut writer);
+        let due = Fault {
+            refusal: *refusal,
+            line: Some(*line),
         };
-        same(
-            &rt,
-            answered(rt.alloc(), reader, writer),
-            (Err(due), 0),
-            *new,
-        );
+        same(&rt, answer, Err(due), *new);
+        let (made, _) = rows.split_once(*next).ok_or("the row")?;
+        let trace = format!(in rt.alloc(); "{head}steps {steps}\n{made}{behind}")?;
+        let found = std::str::from_utf8(writer.written()).ok().ok_or("no text")?;
+        same(&rt, found, trace.as_str(), *new);
     }
     Ok(())
 }

@@ -1,10 +1,12 @@
-use Rattle.std.proofs.Common.{arith}
+use Rattle.std.proofs.Common.{ap, arith, drop}
 use Rattle.std.specs.Prelude.{replicate}
 use Rattle.std.proofs.lemmas.Result.{err_from_is_err_and}
+use Rattle.std.proofs.lemmas.List.{drop_all}
+use Rattle.schedule_text.specs.Schedules.{moves_of}
 use Rattle.trace_engine.proofs.HasTold.{StopsTelling-behind, Tells-refused}
 use Rattle.show_engine.specs.Pictures.{drawn_text}
 use Rattle.show_engine.specs.Showing.{is_among}
-use Rattle.show_engine.proofs.HasDrawn.{can_event, drawn_event, stopped_event}
+use Rattle.show_engine.proofs.HasDrawn.{HasDrawn-led, can_event, drawn_event, stopped_event}
 use Rattle.show_engine.proofs.drawing.put_all.Goals as goal
 
 pub put_moves-requires : goal.put_moves-requires
@@ -21,8 +23,8 @@ put_moves-requires g c =
       ),
     )
 
-pub returns-in_err-put_moves : goal.returns-in_err-put_moves
-returns-in_err-put_moves g c =
+pub returns-in_err-put_moves-clause-tells : goal.returns-in_err-put_moves-clause-tells
+returns-in_err-put_moves-clause-tells g c =
     let p = err_from_is_err_and c.from_residual.result c.from_residual.ensures.1 in
     let one = c.moves_in-one in
     let each = drawn_text c.args.frame (is_among c.args.effects.now) g.row.B in
@@ -47,3 +49,10 @@ loop-event-preserved g c =
           c.loop-event.block (replicate one.result.1 one.result.0) one.ensures.moves c.loop-event.invariant.drawn _ _ ensures.ok ensures.tells.ok ensures.tells.quiet;
       steps = omega (arith, ensures.steps, one.ensures.few, c.loop-event.invariant.steps);
     }
+
+pub returns-clause-ok : goal.returns-clause-ok
+returns-clause-ok g c =
+    let i = c.loop-event.event-index in
+    let each = drawn_text c.args.frame (is_among c.args.effects.now) g.row.B in
+    HasDrawn-led each (g.W.Sink.state c.args.writer.now) (g.W.Sink.state c.loop-event.writer) c.args.block.now c.args.world.now (moves_of c.args.events.now) c.loop-event.world c.loop-event.block
+    (moves_of (drop i c.args.events.now)) c.loop-event.invariant.drawn (ap moves_of (drop_all i c.args.events.now c.loop-event-test.false))

@@ -1,6 +1,11 @@
-use Rattle.trace_engine.proofs.Counted.{HasCounted}
+use Rattle.std.proofs.Common.{◌≡◌, ◌≤◌, length}
+use Rattle.trace_engine.proofs.HasCounted.{HasCounted}
 use Rattle.trace_engine.proofs.counting.make_all.Given as goal
 
 -- the events before the one at hand were made
 abbrev pub invariant-loop-event : goal.invariant-loop-event
-invariant-loop-event g l = HasCounted l.lines l.fn.world l.events l.world l.event-index l.line
+invariant-loop-event g l = record {
+  counted : HasCounted l.fn.world l.events l.world l.event-index;
+  made : l.made ≡ l.event-index;
+  within : l.event-index ≤ length l.events;
+}

@@ -1,7 +1,9 @@
-use Rattle.std.proofs.Common.{arith}
+use Rattle.std.proofs.Common.{ap, arith, drop}
 use Rattle.std.specs.Prelude.{replicate}
 use Rattle.std.proofs.lemmas.Result.{err_from_is_err_and}
-use Rattle.trace_engine.proofs.HasTold.{StopsTelling-behind, Tells-refused, can_event, stopped_event, told_event}
+use Rattle.std.proofs.lemmas.List.{drop_all}
+use Rattle.schedule_text.specs.Schedules.{moves_of}
+use Rattle.trace_engine.proofs.HasTold.{HasTold-led, StopsTelling-behind, Tells-refused, can_event, stopped_event, told_event}
 use Rattle.trace_engine.proofs.telling.tell_all.Goals as goal
 
 pub tell_moves-requires : goal.tell_moves-requires
@@ -16,8 +18,8 @@ tell_moves-requires g c =
       ),
     )
 
-pub returns-in_err-tell_moves : goal.returns-in_err-tell_moves
-returns-in_err-tell_moves g c =
+pub returns-in_err-tell_moves-clause-tells : goal.returns-in_err-tell_moves-clause-tells
+returns-in_err-tell_moves-clause-tells g c =
     let p = err_from_is_err_and c.from_residual.result c.from_residual.ensures.1 in
     let one = c.moves_in-one in
     let told = c.loop-event.invariant.told in
@@ -37,3 +39,9 @@ loop-event-preserved g c =
           c.loop-event.block (replicate one.result.1 one.result.0) one.ensures.moves c.loop-event.invariant.told _ _ ensures.ok ensures.tells.ok ensures.tells.quiet;
       steps = omega (arith, ensures.steps, one.ensures.few, c.loop-event.invariant.steps);
     }
+
+pub returns-clause-ok : goal.returns-clause-ok
+returns-clause-ok g c =
+    let i = c.loop-event.event-index in
+    HasTold-led g.row.B (g.W.Sink.state c.args.writer.now) (g.W.Sink.state c.loop-event.writer) c.args.block.now c.args.world.now (moves_of c.args.events.now) c.loop-event.world c.loop-event.block
+    (moves_of (drop i c.args.events.now)) c.loop-event.invariant.told (ap moves_of (drop_all i c.args.events.now c.loop-event-test.false))
