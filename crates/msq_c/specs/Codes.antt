@@ -4,7 +4,6 @@ use Rattle.history.specs.declared.refusals.Refusal.{Refusal}
 use Rattle.history.specs.declared.refusals.Refusal.TheVariants.{NoNode, WornOut, Busy, Memory, BadSize, IdleActor, ActorBusy, NotHere, NoSuchActor, Text, Read, Write, Stranger, Double, Lost, Closed}
 use Rattle.history.specs.declared.refusals.WornWord.{WornWord}
 use Rattle.history.specs.declared.refusals.WornWord.TheVariants.{Free, Next, Tail, Head}
-use Rattle.history.specs.declared.operations.Taken.{Taken}
 use Rattle.msq_c.specs.declared.troubles.Trouble.{Trouble}
 use Rattle.msq_c.specs.declared.troubles.Trouble.TheVariants as troubles
 
@@ -49,7 +48,7 @@ done_code (Ok x) = 0
 done_code (Err refusal) = code_of refusal
 
 -- the code of a pop's answer: 32 where the queue was empty
-abbrev pub pop_code : Result (Option Taken) Trouble → ℕ
+abbrev pub pop_code : {A : Type 0} → Result (Option A) Trouble → ℕ
 pop_code (Ok (Some taken)) = 0
 pop_code (Ok None) = 32
 pop_code (Err refusal) = code_of refusal

@@ -7,3 +7,9 @@ pub mod Own
 pub mod Rests
 pub mod Seats
 pub mod Values
+pub mod Words
+pub mod WordOwn
+pub mod WordSeats
+pub mod WordEnds
+pub mod WordMade
+pub mod WordRests

@@ -13,10 +13,14 @@ abbrev pub IsWritten : Result (Option Taken) Trouble → MsqValue → MsqValue �
 IsWritten (Ok (Some taken)) v v' = v' ≡ value_of taken
 IsWritten out v v' = v' ≡ v
 
+-- what C gets of each of these was written from the front, as many as there is room for
+abbrev pub AreLaid : {A B : Type 0} → (A → B) → List A → List B → List B → Type 0
+AreLaid told left vs vs' = vs' ≡ take (length vs) (map told left) ++ drop (length left) vs
+
 -- these values were written from the front, as many as there is room for
 abbrev pub AreWritten : (left : List Taken) → List MsqValue → List MsqValue → Type 0
-AreWritten left vs vs' = vs' ≡ take (length vs) (map value_of left) ++ drop (length left) vs
+AreWritten left vs vs' = AreLaid value_of left vs vs'
 
 -- the number of values as C gets it, up to 2^64 - 1
-abbrev pub count_told : List Taken → ℕ
+abbrev pub count_told : {A : Type 0} → List A → ℕ
 count_told left = min (length left) (2 ^ 64 - 1)

@@ -1,4 +1,4 @@
-//! The queues for C: each handle is a seat with its share of the queue.
+//! The queues for C, of numbers and of words: each handle is a seat with its share of the queue.
 #![tactic(auto)]
 
 ghost use Rattle.std.specs.Prelude.{◌≡◌, false};
@@ -24,6 +24,14 @@ mod parts;
 mod rests;
 mod troubles;
 mod values;
+mod word_calls;
+mod word_ending;
+mod word_exports;
+mod word_handles;
+mod word_making;
+mod word_rests;
+mod word_seats;
+mod words;
 
 use crate::bounds::{MsqLeft, MsqLen};
 use crate::handles::MsqSeat;

@@ -44,7 +44,7 @@ fn role_of(number: u8) -> Role
 }
 
 // The roles of these numbers.
-fn roles_of(alloc: Global, numbers: &[u8]) -> Result<Vec<Role>, Trouble>
+pub(crate) fn roles_of(alloc: Global, numbers: &[u8]) -> Result<Vec<Role>, Trouble>
     requires { All IsRole numbers.now }
     ensures roles { IfOk result (λ roles. map role_number roles.items ≡ numbers.now) }
     ensures only_memory { IfErr result IsMemory }
@@ -79,7 +79,7 @@ fn are_sizes(nodes: u32, limit: u64, seats: usize) -> bool
 }
 
 // Whether all these numbers are in their ranges.
-fn are_asked(kind: u32, nodes: u32, limit: u64, roles: &[u8]) -> bool
+pub(crate) fn are_asked(kind: u32, nodes: u32, limit: u64, roles: &[u8]) -> bool
     ensures { MatchBool result (Asks kind nodes limit roles.now)
         (IsOutOfRange kind nodes limit roles.now) }
 {
@@ -95,12 +95,12 @@ const TWO_PAGES: usize = 1024;
 // Blocks that keep what is allocated next off the pages with a new queue's words: one takes the place of the words that the
 // queue was made from, the other two pages. A processor that reads there fetches words that other threads write.
 #[derive(Drop)]
-struct Spacer {
+pub(crate) struct Spacer {
     _words: Vec<u64>,
     _pages: Vec<u64>,
 }
 
-fn spacer_for(alloc: Global, nodes: u32) -> Result<Spacer, Trouble>
+pub(crate) fn spacer_for(alloc: Global, nodes: u32) -> Result<Spacer, Trouble>
     ensures { IfErr result IsMemory }
 {
     let words = (nodes as usize).saturating_mul(2).saturating_add(48);
@@ -117,7 +117,7 @@ fn spacer_for(alloc: Global, nodes: u32) -> Result<Spacer, Trouble>
 }
 
 // The greatest count of a queue of so many nodes, with this limit.
-fn count_for(nodes: u32, limit: u64) -> u64
+pub(crate) fn count_for(nodes: u32, limit: u64) -> u64
     ensures { result ≡ made.count_for nodes limit }
 {
     limit.min(most_count(bits_for(nodes)))
@@ -211,7 +211,7 @@ fn handles_of(
 }
 
 // Hands over what may go to another thread.
-fn hand_over<T: Send + Drop>(slots: &mut [T], handles: &mut [T])
+pub(crate) fn hand_over<T: Send + Drop>(slots: &mut [T], handles: &mut [T])
     requires { length slots.old ≡ length handles.old }
     ensures { slots.new ≡ handles.old }
 {

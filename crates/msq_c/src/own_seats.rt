@@ -10,7 +10,7 @@ use std::alloc::Global;
 
 /// How many words keep two seats apart whose blocks lie next to each other: each call writes its seat, and no two may be on
 /// one line of the cache, or on two that are fetched together.
-const APART: usize = 16;
+pub(crate) const APART: usize = 16;
 
 /// A seat of a queue of either kind, with its share of the queue, which lies first: include/msq.h compares these.
 #[repr(C)]

@@ -1,0 +1,69 @@
+-- What the calls of a seat of a queue of words, with its share, answer.
+use Rattle.std.specs.Prelude.{◌≡◌, ℕ, List}
+use Rattle.history.specs.Seats.{Permit, MayPush, MayPop}
+use Rattle.history.specs.Answers.{StopsPush, StopsPop, StopsShut}
+use Rattle.carriers.specs.Knowledge.{KnownOf}
+use Rattle.carriers.specs.Answers.{PushRefusedOf, PopRefusedOf}
+use Rattle.node_arena.specs.declared.seats.Seat.{Seat}
+use Rattle.arena_queue.specs.Answers.{PopRefused, ShutRefused}
+use Rattle.nonblocking.specs.Worn.{push_worn, pop_worn, shut_worn}
+use Rattle.value_queue.specs.Telling.{known_by}
+use Rattle.value_queue.specs.Pushes.{PushRefused}
+use Rattle.picked_values.specs.contracts.carrier.ValueQueueCarrier.TheImpl as carrier
+use Rattle.picked_values.specs.Queues.{arena_of, permits_of}
+use Rattle.owned_values.specs.declared.seats.ValueSeat.{ValueSeat}
+use Rattle.owned_values.specs.Owned.{queue_of, seat_of}
+use Rattle.msq_c.specs.declared.words.MsqWords.{MsqWords}
+use Rattle.msq_c.specs.contracts.words.MsqWords.{the_row}
+use Rattle.msq_c.specs.declared.word_seats.OwnWords.{OwnWords}
+use Rattle.msq_c.specs.declared.troubles.Trouble.{Trouble}
+use Rattle.msq_c.specs.declared.troubles.Trouble.TheVariants.{Refused, BadSize, NoRole}
+use Rattle.msq_c.specs.Words.{WordQueue}
+
+-- a seat of a queue of words, with its share
+abbrev pub Owned : Type 0
+Owned = ValueSeat WordQueue MsqWords (Seat MsqWords) (carrier.ghosts the_row)
+
+-- the seat with its share
+abbrev pub owned_in : OwnWords → Owned
+owned_in s = s.owned
+
+-- the queue of a seat
+abbrev pub queue_in : OwnWords → WordQueue
+queue_in s = queue_of s.owned
+
+-- the seat itself
+abbrev pub seat_in : OwnWords → Seat MsqWords
+seat_in s = seat_of s.owned
+
+-- what a seat knows
+abbrev pub known_in : OwnWords → KnownOf MsqWords
+known_in s = known_by (seat_in s)
+
+-- what each seat of its queue may do
+abbrev pub permits_in : OwnWords → List Permit
+permits_in s = permits_of (queue_in s)
+
+-- why a push is refused: by the queue, for its cause; or the turns are none, or the seat may not push, and nothing changed
+abbrev pub RefusesPush : OwnWords → OwnWords → (turns : ℕ) → Trouble → Type 0
+RefusesPush s t turns (Refused refusal) =
+    StopsPush refusal × PushRefusedOf (known_in s) refusal (known_in t) × PushRefused push_worn (arena_of (queue_in s)) (seat_in s) (seat_in t) turns refusal
+RefusesPush s t turns BadSize = (turns ≡ 0) × (t ≡ s)
+RefusesPush s t turns NoRole = (MayPush (permits_in s) (known_in s).number → ⊥) × (t ≡ s)
+RefusesPush s t turns _ = ⊥
+
+-- why a pop is refused: by the queue, for its cause; or the turns are none, or the seat may not pop, and nothing changed
+abbrev pub RefusesPop : OwnWords → OwnWords → (turns : ℕ) → Trouble → Type 0
+RefusesPop s t turns (Refused refusal) =
+    StopsPop refusal × PopRefusedOf (known_in s) refusal (known_in t) × PopRefused pop_worn (arena_of (queue_in s)) (seat_in s) (seat_in t) turns refusal
+RefusesPop s t turns BadSize = (turns ≡ 0) × (t ≡ s)
+RefusesPop s t turns NoRole = (MayPop (permits_in s) (known_in s).number → ⊥) × (t ≡ s)
+RefusesPop s t turns _ = ⊥
+
+-- why a shut is refused: by the queue, for its cause; or the turns are none, or the seat may not push, and nothing changed
+abbrev pub RefusesShut : OwnWords → OwnWords → (turns : ℕ) → Trouble → Type 0
+RefusesShut s t turns (Refused refusal) =
+    StopsShut refusal × PushRefusedOf (known_in s) refusal (known_in t) × ShutRefused shut_worn (arena_of (queue_in s)) (seat_in s) (seat_in t) turns refusal
+RefusesShut s t turns BadSize = (turns ≡ 0) × (t ≡ s)
+RefusesShut s t turns NoRole = (MayPush (permits_in s) (known_in s).number → ⊥) × (t ≡ s)
+RefusesShut s t turns _ = ⊥

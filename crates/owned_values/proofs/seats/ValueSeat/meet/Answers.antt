@@ -1,0 +1,10 @@
+-- Both seats are the queue's by their types.
+use Rattle.std.proofs.Common.{sym, ◌∙◌}
+use Rattle.owned_values.proofs.Shares.{sits_in}
+use Rattle.owned_values.proofs.seats.ValueSeat.meet.Goals as goal
+
+pub meet-requires-clause-one : goal.meet-requires-clause-one
+meet-requires-clause-one g c = sits_in g.met.C.Carrier.seat_prop c.deref.result.now c.args.self.now (sym c.deref.ensures)
+
+pub meet-requires-clause-other : goal.meet-requires-clause-other
+meet-requires-clause-other g c = sits_in g.met.C.Carrier.seat_prop c.deref.result.now c.args.other.now (c.requires ∙ sym c.deref.ensures)
