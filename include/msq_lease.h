@@ -3,6 +3,7 @@
  *
  * All threads share one msq_queue by its address. msq_lease hands out a seat of it, which is the caller's alone until
  * msq_release gives it back, and a seat as any other of msq.h meanwhile. What it has seen goes along to who leases it next.
+ * Its bells are there for calls of msq_wait.h by leased seats: where one of its threads sleeps, each makes its calls so.
  * No call waits, and msq_queue_create and msq_queue_close alone take memory.
  *
  * What is tested, and not proved: that no seat is leased twice at one time, and that none is lost.
@@ -14,7 +15,7 @@
 #ifndef MSQ_LEASE_H
 #define MSQ_LEASE_H
 
-#include "msq.h"
+#include "msq_wait.h"
 
 #include <stdlib.h>
 
@@ -37,24 +38,27 @@ typedef struct msq_queue {
     uint8_t *roles;      /* of each place the role of its seat */
     uint8_t *free_roles; /* the same, and 0 while the seat is leased */
     size_t count;
+    uint32_t nodes;
+    void *block; /* the memory of the places, the first of which begins with a line of the cache */
+    msq_bells bells;
 } msq_queue;
 
 /* Gives back the memory of the places. */
 MSQ_INLINE void msq_queue_free(msq_queue *queue) {
-    free(queue->places);
+    const msq_queue none = {NULL, NULL, NULL, 0, 0, NULL, {{0, 0, {0}}, {0, 0, {0}}, 0}};
+    free(queue->block);
     free(queue->roles);
-    queue->places = NULL;
-    queue->roles = queue->free_roles = NULL;
-    queue->count = 0;
+    *queue = none;
 }
 
 /* Memory for so many places; whether there is. */
 MSQ_INLINE bool msq_queue_room(msq_queue *queue, const uint8_t *roles, size_t count) {
-    queue->places = (struct msq_place *)aligned_alloc(MSQ_APART, count * sizeof *queue->places);
+    queue->block = malloc((count + 1) * sizeof *queue->places);
     queue->roles = (uint8_t *)malloc(2 * count);
-    if (queue->places == NULL || queue->roles == NULL) {
+    if (queue->block == NULL || queue->roles == NULL) {
         return false;
     }
+    queue->places = (struct msq_place *)(((uintptr_t)queue->block + MSQ_APART - 1) / MSQ_APART * MSQ_APART);
     queue->free_roles = queue->roles + count;
     queue->count = count;
     for (size_t place = 0; place < count; place++) {
@@ -86,6 +90,7 @@ MSQ_INLINE uint32_t msq_queue_create(msq_queue *queue, uint32_t kind, uint32_t n
     if (code != MSQ_OK) {
         msq_queue_free(queue);
     }
+    queue->nodes = nodes;
     free(seats);
     return code;
 }

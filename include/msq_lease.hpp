@@ -1,4 +1,5 @@
-// The leases of msq_lease.h for C++17: one handle of a queue, copied at will, and leases that give their seats back.
+// The leases of msq_lease.h for C++14 and later: a pool of the seats of a queue, copied at will, and leases that give their seats
+// back. Their calls wake who sleeps, and sleep where they are asked to.
 #ifndef MSQ_LEASE_HPP
 #define MSQ_LEASE_HPP
 
@@ -27,35 +28,60 @@ public:
 
     // The calls of a seat. Of a lease that holds none they answer MSQ_NO_SEAT.
     msq_code try_push(uint64_t body, uint32_t turns = 8) noexcept {
-        return raw_ ? static_cast<msq_code>(msq_try_push(raw_, body, turns)) : MSQ_NO_SEAT;
+        return answer([&] { return msq_push_wake(raw_, bells(), body, turns); });
     }
-    std::pair<msq_code, std::optional<msq_value>> try_pop(uint32_t turns = 8) noexcept {
-        msq_value value{};
-        auto code = raw_ ? static_cast<msq_code>(msq_try_pop(raw_, turns, &value)) : MSQ_NO_SEAT;
-        return {code, code == MSQ_OK ? std::optional<msq_value>(value) : std::nullopt};
+    msq_code try_pop(msq_value &value, uint32_t turns = 8) noexcept {
+        return answer([&] { return msq_pop_wake(raw_, bells(), turns, &value); });
     }
     msq_code try_shut(uint32_t turns = 8) noexcept {
-        return raw_ ? static_cast<msq_code>(msq_try_shut(raw_, turns)) : MSQ_NO_SEAT;
+        return answer([&] { return msq_shut_wake(raw_, bells(), turns); });
     }
+    msq_code push_wait(uint64_t body) noexcept {
+        return answer([&] { return msq_push_wait(raw_, bells(), body); });
+    }
+    template <class Rep, class Period>
+    msq_code push_wait_for(uint64_t body, std::chrono::duration<Rep, Period> time) noexcept {
+        return answer([&] { return msq_push_wait_for(raw_, bells(), body, detail::nanoseconds(time)); });
+    }
+    msq_code pop_wait(msq_value &value) noexcept {
+        return answer([&] { return msq_pop_wait(raw_, bells(), &value); });
+    }
+    template <class Rep, class Period>
+    msq_code pop_wait_for(msq_value &value, std::chrono::duration<Rep, Period> time) noexcept {
+        return answer([&] { return msq_pop_wait_for(raw_, bells(), detail::nanoseconds(time), &value); });
+    }
+#if __cplusplus >= 201703L
+    // The value is there exactly at MSQ_OK.
+    std::pair<msq_code, std::optional<msq_value>> try_pop(uint32_t turns = 8) noexcept {
+        msq_value value{};
+        const msq_code code = try_pop(value, turns);
+        return {code, code == MSQ_OK ? std::optional<msq_value>(value) : std::nullopt};
+    }
+#endif
     msq_code meet(lease &other) noexcept {
         return raw_ && other.raw_ ? static_cast<msq_code>(msq_meet(raw_, other.raw_)) : MSQ_NO_SEAT;
     }
     explicit operator bool() const noexcept { return raw_ != nullptr; }
 
 private:
-    friend class queue;
+    friend class seat_pool;
+
+    msq_bells *bells() noexcept { return &home_->bells; }
+    template <class Call> msq_code answer(Call call) noexcept {
+        return raw_ ? static_cast<msq_code>(call()) : MSQ_NO_SEAT;
+    }
     lease(std::shared_ptr<msq_queue> home, msq_seat *raw) noexcept : home_(std::move(home)), raw_(raw) {}
     std::shared_ptr<msq_queue> home_;
     msq_seat *raw_ = nullptr;
 };
 
-// A handle of a queue, for any thread. The queue lives as long as one of its handles or leases.
-class queue {
+// The seats of a queue, for any thread: a copy is the same pool. The queue lives as long as one of its pools or leases.
+class seat_pool {
 public:
     // With a seat for each role; none but at MSQ_OK.
-    static std::pair<msq_code, queue> create(kind kind, uint32_t nodes, const std::vector<role> &roles,
+    static std::pair<msq_code, seat_pool> create(kind kind, uint32_t nodes, const std::vector<role> &roles,
                                              uint64_t limit = MSQ_MOST_COUNT) {
-        queue made;
+        seat_pool made;
         made.home_ = {new msq_queue{}, [](msq_queue *home) {
                           msq_queue_drop(home);
                           delete home;
@@ -63,7 +89,7 @@ public:
         auto code = static_cast<msq_code>(msq_queue_create(made.home_.get(), static_cast<uint32_t>(kind), nodes, limit,
                                                            reinterpret_cast<const uint8_t *>(roles.data()),
                                                            roles.size()));
-        return {code, code == MSQ_OK ? std::move(made) : queue{}};
+        return {code, code == MSQ_OK ? std::move(made) : seat_pool{}};
     }
 
     // A seat of this role, until the lease ends; none where each such seat was found leased.
@@ -73,7 +99,7 @@ public:
     }
     explicit operator bool() const noexcept { return home_ != nullptr; }
 
-    // Ends the queue, no seat of which is leased: of this handle and all others. `room` is the number of its nodes.
+    // Ends the queue, no seat of which is leased, with room for so many values: of this pool and its copies.
     closed close(size_t room) {
         closed found{MSQ_NO_SEAT, msq_rest{}, std::vector<msq_value>(room), 0};
         if (home_) {
@@ -84,6 +110,9 @@ public:
         found.lost = found.rest.left - found.left.size();
         return found;
     }
+
+    // The same with room for all values that the queue may hold.
+    closed close() { return close(home_ ? home_->nodes : 0); }
 
 private:
     std::shared_ptr<msq_queue> home_;

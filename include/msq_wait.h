@@ -30,7 +30,7 @@ extern long syscall(long number, ...);
 
 /* How often a call looks before it sleeps, and the turns of each look. */
 #ifndef MSQ_LOOKS
-#define MSQ_LOOKS 100
+#define MSQ_LOOKS 11
 #endif
 #define MSQ_TURNS 64
 
@@ -91,13 +91,15 @@ struct msq_moment {
     int64_t s, ns;
 };
 
-/* A call that may sleep: a pop into `value`, or a push of `body`. */
+/* A call that may sleep: a pop into `value`, or a push of `body`. It looks by `once`: by its seat, or by one of its queue. */
 struct msq_want {
     msq_seat *seat;
     msq_bells *bells;
     bool pops;
     msq_value *value;
     uint64_t body;
+    uint32_t (*once)(const struct msq_want *want);
+    void *queue;
 };
 
 /* The moment in so many nanoseconds. The clock is CLOCK_MONOTONIC, which time.h doesn't name to each standard. */
@@ -151,9 +153,8 @@ MSQ_INLINE void msq_tell_end(msq_bells *bells, uint32_t code) {
     }
 }
 
-/* A push that wakes. */
-MSQ_INLINE uint32_t msq_push_once(msq_seat *seat, msq_bells *bells, uint64_t body, uint32_t turns) {
-    const uint32_t code = (msq_try_push)(seat, body, turns);
+/* What a push answers, once it has woken who is to be. */
+MSQ_INLINE uint32_t msq_pushed(msq_bells *bells, uint32_t code) {
     if (code == MSQ_OK) {
         msq_ring(&bells->values, 1);
     } else if (code == MSQ_NO_NODE) {
@@ -164,12 +165,21 @@ MSQ_INLINE uint32_t msq_push_once(msq_seat *seat, msq_bells *bells, uint64_t bod
     return code;
 }
 
-/* A pop that wakes: it may give a node back also where it takes no value. */
-MSQ_INLINE uint32_t msq_pop_once(msq_seat *seat, msq_bells *bells, uint32_t turns, msq_value *value) {
-    const uint32_t code = (msq_try_pop)(seat, turns, value);
+/* What a pop answers, once it has woken: it may give a node back also where it takes no value. */
+MSQ_INLINE uint32_t msq_popped(msq_bells *bells, uint32_t code) {
     msq_ring(&bells->nodes, 1);
     msq_tell_end(bells, code);
     return code;
+}
+
+/* A push that wakes. */
+MSQ_INLINE uint32_t msq_push_once(msq_seat *seat, msq_bells *bells, uint64_t body, uint32_t turns) {
+    return msq_pushed(bells, (msq_try_push)(seat, body, turns));
+}
+
+/* A pop that wakes. */
+MSQ_INLINE uint32_t msq_pop_once(msq_seat *seat, msq_bells *bells, uint32_t turns, msq_value *value) {
+    return msq_popped(bells, (msq_try_pop)(seat, turns, value));
 }
 
 /* What a call that found nothing is told. */
@@ -181,17 +191,18 @@ MSQ_INLINE struct msq_bell *msq_bell_for(const struct msq_want *want) {
     return want->pops ? &want->bells->values : &want->bells->nodes;
 }
 
-MSQ_INLINE uint32_t msq_look_once(const struct msq_want *want) {
+/* A look by the seat of the call. */
+MSQ_INLINE uint32_t msq_look_by_seat(const struct msq_want *want) {
     return want->pops ? msq_pop_once(want->seat, want->bells, MSQ_TURNS, want->value)
                       : msq_push_once(want->seat, want->bells, want->body, MSQ_TURNS);
 }
 
 /* Looks until others aren't in the way, or its time is over: where it was woken, it then hands that on. */
 MSQ_INLINE uint32_t msq_look(const struct msq_want *want, const struct msq_moment *until) {
-    uint32_t code = msq_look_once(want);
+    uint32_t code = want->once(want);
     while (code == MSQ_BUSY && !msq_is_past(until)) {
         sched_yield();
-        code = msq_look_once(want);
+        code = want->once(want);
     }
     if (code == MSQ_BUSY) {
         msq_ring(msq_bell_for(want), 1);
@@ -199,13 +210,24 @@ MSQ_INLINE uint32_t msq_look(const struct msq_want *want, const struct msq_momen
     return code;
 }
 
+/* Rests after so many looks: for ever more pauses at first, later while others run. */
+MSQ_INLINE void msq_pause_after(int looks) {
+    if (looks > 7) {
+        sched_yield();
+        return;
+    }
+#if defined(__x86_64__)
+    for (int k = 0; k < 1 << (looks - 1); k++) {
+        __builtin_ia32_pause();
+    }
+#endif
+}
+
 /* Looks so often while it finds nothing. */
 MSQ_INLINE uint32_t msq_looks(const struct msq_want *want, const struct msq_moment *until) {
     uint32_t code = msq_look(want, until);
     for (int k = 1; k < MSQ_LOOKS && code == msq_nothing_for(want); k++) {
-#if defined(__x86_64__)
-        __builtin_ia32_pause();
-#endif
+        msq_pause_after(k);
         code = msq_look(want, until);
     }
     return code;
@@ -235,38 +257,43 @@ MSQ_INLINE uint32_t msq_wait_until(const struct msq_want *want, const struct msq
 }
 
 /* The time begins where the first look finds nothing. */
+MSQ_INLINE uint32_t msq_look_for(const struct msq_want *want, uint64_t ns) {
+    const uint32_t code = want->once(want);
+    if (code == msq_nothing_for(want) || code == MSQ_BUSY) {
+        const struct msq_moment until = msq_moment_in(ns);
+        return msq_wait_until(want, ns == MSQ_FOREVER ? NULL : &until);
+    }
+    return code;
+}
+
 MSQ_INLINE uint32_t msq_wait_for(const struct msq_want *want, uint64_t ns) {
     struct msq_call call;
     uint32_t code;
     if (!msq_begin(&call, want->seat, 1)) {
         return MSQ_TWO_CALLS;
     }
-    code = msq_look_once(want);
-    if (code == msq_nothing_for(want) || code == MSQ_BUSY) {
-        const struct msq_moment until = msq_moment_in(ns);
-        code = msq_wait_until(want, ns == MSQ_FOREVER ? NULL : &until);
-    }
+    code = msq_look_for(want, ns);
     msq_end(&call);
     return code;
 }
 
 MSQ_INLINE uint32_t msq_pop_wait(msq_seat *seat, msq_bells *bells, msq_value *value) {
-    const struct msq_want want = {seat, bells, true, value, 0};
+    const struct msq_want want = {seat, bells, true, value, 0, msq_look_by_seat, NULL};
     return msq_wait_for(&want, MSQ_FOREVER);
 }
 
 MSQ_INLINE uint32_t msq_pop_wait_for(msq_seat *seat, msq_bells *bells, uint64_t ns, msq_value *value) {
-    const struct msq_want want = {seat, bells, true, value, 0};
+    const struct msq_want want = {seat, bells, true, value, 0, msq_look_by_seat, NULL};
     return msq_wait_for(&want, ns);
 }
 
 MSQ_INLINE uint32_t msq_push_wait(msq_seat *seat, msq_bells *bells, uint64_t body) {
-    const struct msq_want want = {seat, bells, false, NULL, body};
+    const struct msq_want want = {seat, bells, false, NULL, body, msq_look_by_seat, NULL};
     return msq_wait_for(&want, MSQ_FOREVER);
 }
 
 MSQ_INLINE uint32_t msq_push_wait_for(msq_seat *seat, msq_bells *bells, uint64_t body, uint64_t ns) {
-    const struct msq_want want = {seat, bells, false, NULL, body};
+    const struct msq_want want = {seat, bells, false, NULL, body, msq_look_by_seat, NULL};
     return msq_wait_for(&want, ns);
 }
 

@@ -18,7 +18,7 @@ std::array<std::atomic<unsigned>, pairs * values> takes;
 std::atomic<bool> wrong{false};
 
 // A seat of this role, once there is one.
-msq::lease leased(const msq::queue &queue, msq::role role) {
+msq::lease leased(const msq::seat_pool &queue, msq::role role) {
     for (;;) {
         if (auto lease = queue.lease(role)) {
             return lease;
@@ -28,7 +28,7 @@ msq::lease leased(const msq::queue &queue, msq::role role) {
 }
 
 // Pushes the values of a visit, in order.
-void give(msq::queue queue, uint64_t visit) {
+void give(msq::seat_pool queue, uint64_t visit) {
     auto lease = leased(queue, msq::role::giver);
     for (uint64_t value = 0; value < values && !wrong;) {
         auto code = lease.try_push(visit * values + value);
@@ -43,7 +43,7 @@ void give(msq::queue queue, uint64_t visit) {
 }
 
 // Pops as many values as a visit pushes; those of one visit rise.
-void take(msq::queue queue) {
+void take(msq::seat_pool queue) {
     std::array<uint64_t, pairs> next{};
     auto lease = leased(queue, msq::role::taker);
     for (uint64_t taken = 0; taken < values && !wrong;) {
@@ -60,7 +60,7 @@ void take(msq::queue queue) {
     }
 }
 
-void come_and_go(const msq::queue &queue) {
+void come_and_go(const msq::seat_pool &queue) {
     std::vector<std::thread> threads;
     for (uint64_t visit = 0; visit < pairs; visit++) {
         threads.emplace_back(give, queue, visit);
@@ -77,7 +77,7 @@ bool is_right(msq::kind kind, unsigned rounds) {
     for (size_t k = 0; k < seats; k++) {
         roles.insert(roles.end(), {msq::role::giver, msq::role::taker});
     }
-    auto [code, queue] = msq::queue::create(kind, nodes, roles);
+    auto [code, queue] = msq::seat_pool::create(kind, nodes, roles);
     if (code != MSQ_OK) {
         return false;
     }

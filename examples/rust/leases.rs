@@ -1,7 +1,7 @@
 //! Threads that come and go over few seats: each has a clone of one handle, leases a seat, pushes or pops some values, and ends.
 //!
 //!     leases ROUNDS: in each round 32 threads push and 32 pop 1,000 values each by 8 seats of each role, over either queue.
-use msq::{Body, Kind, Lease, Queue, Refusal};
+use msq::{Body, Kind, Lease, Refusal, SeatPool};
 use std::env;
 use std::process::ExitCode;
 use std::sync::atomic::{AtomicU32, Ordering};
@@ -22,7 +22,7 @@ fn waited<S>(lease: impl Fn() -> Option<Lease<S>>) -> Lease<S> {
 }
 
 // Pushes the values of a visit, in order.
-fn give(queue: &Queue, visit: u64) -> Result<(), Refusal> {
+fn give(queue: &SeatPool, visit: u64) -> Result<(), Refusal> {
     let mut sender = waited(|| queue.sender());
     for number in visit * VALUES..(visit + 1) * VALUES {
         let body = Body::new(number).ok_or(Refusal::BadSize)?;
@@ -37,7 +37,7 @@ fn give(queue: &Queue, visit: u64) -> Result<(), Refusal> {
 }
 
 // Pops as many values as a visit pushes; those of one visit rise.
-fn take(queue: &Queue, takes: &[AtomicU32]) -> Result<(), Refusal> {
+fn take(queue: &SeatPool, takes: &[AtomicU32]) -> Result<(), Refusal> {
     let mut next = [0; PAIRS as usize];
     let mut receiver = waited(|| queue.receiver());
     let mut taken = 0;
@@ -61,7 +61,7 @@ fn take(queue: &Queue, takes: &[AtomicU32]) -> Result<(), Refusal> {
 }
 
 // One round; whether each thread did all.
-fn come_and_go(queue: &Queue, takes: &Arc<Vec<AtomicU32>>) -> bool {
+fn come_and_go(queue: &SeatPool, takes: &Arc<Vec<AtomicU32>>) -> bool {
     let mut threads = Vec::new();
     for visit in 0..PAIRS {
         let (giving, taking, takes) = (queue.clone(), queue.clone(), Arc::clone(takes));
@@ -73,7 +73,7 @@ fn come_and_go(queue: &Queue, takes: &Arc<Vec<AtomicU32>>) -> bool {
 
 // Whether so many rounds took each value once a round, and all seats were back at their end.
 fn is_right(kind: Kind, rounds: u32) -> bool {
-    let Ok(queue) = Queue::new(kind, 256, 8, 8) else {
+    let Ok(queue) = SeatPool::new(kind, 256, 8, 8) else {
         return false;
     };
     let takes = Arc::new((0..PAIRS * VALUES).map(|_| AtomicU32::new(0)).collect::<Vec<_>>());

@@ -7,7 +7,7 @@ use std::time::{Duration, Instant};
 use std::{hint, ptr, thread};
 
 /// How often a call looks before it sleeps, and the turns of each look.
-const LOOKS: u32 = 100;
+const LOOKS: u32 = 11;
 pub const TURNS: u32 = 64;
 
 const ALL: c_int = c_int::MAX;
@@ -52,6 +52,17 @@ pub fn after(time: Duration) -> Deadline {
 
 fn is_past(until: Deadline) -> bool {
     until.is_some_and(|when| Instant::now() >= when)
+}
+
+// Rests after so many looks: for ever more pauses at first, later while others run.
+fn rest(looks: u32) {
+    if looks > 6 {
+        thread::yield_now();
+        return;
+    }
+    for _ in 0..1 << looks {
+        hint::spin_loop();
+    }
 }
 
 impl Bell {
@@ -114,11 +125,11 @@ impl Bell {
         mut call: impl FnMut() -> Result<Option<T>, Refusal>,
     ) -> Result<Option<T>, Refusal> {
         loop {
-            for _ in 0..LOOKS {
+            for looks in 0..LOOKS {
                 if let Some(found) = self.look(until, &mut call)? {
                     return Ok(Some(found));
                 }
-                hint::spin_loop();
+                rest(looks);
             }
             let heard = self.listen();
             // (what came before it listened rang no bell for it)

@@ -2,6 +2,7 @@
 use crate::{bells, queue_with_limit, raw, Body, Kind, Receiver, Refusal, Sender};
 use std::cell::Cell;
 use std::marker::PhantomData;
+use std::slice;
 use std::sync::Arc;
 use std::time::Duration;
 
@@ -78,7 +79,7 @@ impl<T> Drop for Rest<T> {
             }
         }
         // (where a word is worn pops end before the queue is empty, but not the close)
-        for value in self.taker.close(self.nodes) {
+        for value in raw::closed(slice::from_mut(&mut self.taker.seat.raw), self.nodes) {
             drop(unboxed::<T>(value.body));
         }
     }
@@ -163,33 +164,5 @@ impl<T: Send> BoxReceiver<T> {
     pub fn recv_timeout(&mut self, time: Duration) -> Result<Option<Box<T>>, Refusal> {
         let value = self.seat.recv_timeout(time)?;
         Ok(value.map(|value| unboxed(value.body.number())))
-    }
-}
-
-impl Receiver {
-    // Ends the queue by its last seat: what is left in it.
-    fn close(&mut self, nodes: u32) -> Vec<raw::Value> {
-        let mut values = Vec::new();
-        if values.try_reserve_exact(nodes as usize).is_err() {
-            return Vec::new();
-        }
-        values.resize_with(nodes as usize, || raw::Value { body: 0, from: 0 });
-        let mut rest = raw::Rest::default();
-        // SAFETY: the seat is full and in no other call, and the slice is as long as is said.
-        let code = unsafe {
-            raw::msq_close(
-                &mut self.seat.raw,
-                1,
-                values.as_mut_ptr(),
-                values.len(),
-                &mut rest,
-            )
-        };
-        values.truncate(if code == raw::OK {
-            rest.left as usize
-        } else {
-            0
-        });
-        values
     }
 }

@@ -26,10 +26,10 @@ impl<S> Places<S> {
     }
 }
 
-/// A handle of a queue, for any thread: a clone is a further one. The queue lives as long as one of its handles or leases.
+/// The seats of a queue, for any thread: a clone is the same pool. The queue lives as long as one of its pools or leases.
 ///
 /// ```
-/// let queue = msq::Queue::new(msq::Kind::NonBlocking, 64, 1, 1).unwrap();
+/// let queue = msq::SeatPool::new(msq::Kind::NonBlocking, 64, 1, 1).unwrap();
 /// let further = queue.clone();
 /// std::thread::spawn(move || {
 ///     let mut sender = further.sender().unwrap();
@@ -41,15 +41,20 @@ impl<S> Places<S> {
 /// assert_eq!(receiver.try_pop(8).unwrap().unwrap().body.number(), 42);
 /// ```
 #[derive(Clone)]
-pub struct Queue {
+pub struct SeatPool {
     senders: Arc<Places<Sender>>,
     receivers: Arc<Places<Receiver>>,
 }
 
-impl Queue {
+impl SeatPool {
     /// A queue with so many nodes, and so many seats that push and that pop, as [`queue`](crate::queue) makes it.
-    pub fn new(kind: Kind, nodes: u32, senders: u16, receivers: u16) -> Result<Queue, Refusal> {
-        Queue::with_limit(kind, nodes, raw::MOST_COUNT, senders, receivers)
+    pub fn new(
+        kind: Kind,
+        nodes: u32,
+        senders: u16,
+        receivers: u16,
+    ) -> Result<SeatPool, Refusal> {
+        SeatPool::with_limit(kind, nodes, raw::MOST_COUNT, senders, receivers)
     }
 
     /// As [`queue_with_limit`] makes it: for tests.
@@ -59,9 +64,9 @@ impl Queue {
         limit: u64,
         senders: u16,
         receivers: u16,
-    ) -> Result<Queue, Refusal> {
+    ) -> Result<SeatPool, Refusal> {
         let (senders, receivers) = queue_with_limit(kind, nodes, limit, senders, receivers)?;
-        Ok(Queue {
+        Ok(SeatPool {
             senders: Places::of(senders),
             receivers: Places::of(receivers),
         })

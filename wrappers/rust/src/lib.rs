@@ -2,7 +2,10 @@
 //!
 //! A thread calls by a seat of its own: a [`Sender`] or a [`Receiver`]. `send`, `recv` and those with a timeout sleep while the queue
 //! is full, or empty; no other call waits. None takes memory but [`queue`], [`queue_with_limit`] and [`boxed`], of a queue of
-//! boxes, which drops what is left in it. Threads that come and go each have a clone of a [`Queue`], and lease its seats.
+//! boxes, which drops what is left in it. Threads that come and go each have a clone of a [`SeatPool`], and lease its seats.
+//!
+//! Where no thread is to have a seat of its own, a [`Queue`] passes values of any type, which any thread pushes and pops, and
+//! [`channel::bounded`] makes a channel, as crossbeam-channel does.
 //!
 //! ```
 //! let (mut senders, mut receivers) = msq::queue(msq::Kind::NonBlocking, 64, 1, 1).unwrap();
@@ -20,14 +23,18 @@ use std::time::Duration;
 
 mod bells;
 mod boxes;
+pub mod channel;
 mod leases;
 mod looks;
+mod pooled;
+mod queues;
 mod raw;
 
 use bells::Bells;
 pub use boxes::{boxed, boxed_with_limit, BoxReceiver, BoxSender, Ends, Refused};
-pub use leases::{Lease, Queue};
+pub use leases::{Lease, SeatPool};
 pub use looks::{Emptiness, Left, Length};
+pub use queues::{PushError, Queue};
 
 /// What is pushed: a number below 2^48.
 #[derive(Clone, Copy, Debug, PartialEq, Eq, PartialOrd, Ord, Hash)]
@@ -243,24 +250,7 @@ pub fn queue_with_limit(
     let (senders, receivers) = (usize::from(senders), usize::from(receivers));
     let mut roles = vec![raw::GIVER; senders];
     roles.resize(senders + receivers, raw::TAKER);
-    let mut made: Vec<raw::Seat> = roles.iter().map(|_| raw::Seat::EMPTY).collect();
-    let kind = match kind {
-        Kind::NonBlocking => raw::NON_BLOCKING,
-        Kind::TwoLock => raw::TWO_LOCK,
-    };
-    // SAFETY: both slices are as long as is said, and each seat is empty.
-    let code = unsafe {
-        raw::msq_create(
-            kind,
-            nodes,
-            limit,
-            roles.as_ptr(),
-            roles.len(),
-            made.as_mut_ptr(),
-            made.len(),
-        )
-    };
-    answer(code)?;
+    let made = raw::seats(kind, nodes, limit, &roles)?;
     let bells = Arc::new(Bells::default());
     let mut seats = made.into_iter().map(|raw| Seat::of(raw, &bells));
     let givers = seats

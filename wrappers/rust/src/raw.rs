@@ -1,4 +1,5 @@
-//! The functions of include/msq.h.
+//! The functions of include/msq.h, and two that fit them to Rust.
+use crate::{answer, Kind, Refusal};
 
 pub const OK: u32 = 0;
 pub const NO_NODE: u32 = 1;
@@ -16,6 +17,7 @@ pub const NON_BLOCKING: u32 = 0;
 pub const TWO_LOCK: u32 = 1;
 pub const GIVER: u8 = 1;
 pub const TAKER: u8 = 2;
+pub const BOTH: u8 = 3;
 pub const MOST_COUNT: u64 = (1 << 48) - 1;
 
 #[repr(C)]
@@ -84,4 +86,49 @@ extern "C" {
         rest: *mut Rest,
     ) -> u32;
     pub fn msq_drop(seat: *mut Seat);
+}
+
+/// The seats of a new queue, one for each role.
+pub fn seats(kind: Kind, nodes: u32, limit: u64, roles: &[u8]) -> Result<Vec<Seat>, Refusal> {
+    let mut seats: Vec<Seat> = roles.iter().map(|_| Seat::EMPTY).collect();
+    let kind = match kind {
+        Kind::NonBlocking => NON_BLOCKING,
+        Kind::TwoLock => TWO_LOCK,
+    };
+    // SAFETY: both slices are as long as is said, and each seat is empty.
+    let code = unsafe {
+        msq_create(
+            kind,
+            nodes,
+            limit,
+            roles.as_ptr(),
+            roles.len(),
+            seats.as_mut_ptr(),
+            seats.len(),
+        )
+    };
+    answer(code)?;
+    Ok(seats)
+}
+
+/// Ends the queue of these seats, which are all that it has: what is left in it; nothing where there is no memory.
+pub fn closed(seats: &mut [Seat], nodes: u32) -> Vec<Value> {
+    let mut values = Vec::new();
+    if values.try_reserve_exact(nodes as usize).is_err() {
+        return values;
+    }
+    values.resize_with(nodes as usize, || Value { body: 0, from: 0 });
+    let mut rest = Rest::default();
+    // SAFETY: each seat is full and in no other call, and both slices are as long as is said.
+    let code = unsafe {
+        msq_close(
+            seats.as_mut_ptr(),
+            seats.len(),
+            values.as_mut_ptr(),
+            values.len(),
+            &mut rest,
+        )
+    };
+    values.truncate(if code == OK { rest.left as usize } else { 0 });
+    values
 }

@@ -1,0 +1,242 @@
+/*
+ * A queue of pointers for any threads, which share it by its address: an msq_queue of msq_lease.h. Each call leases a seat for as
+ * long as it looks, and sleeps without one. So no thread has a seat of its own, and a queue serves more threads than it has
+ * seats: one that finds each seat leased yields, and tries again.
+ *
+ * A pointer that was pushed comes out once. Those of one thread come in its order. It is below 2^48, as each address of a program
+ * on x86-64 Linux is that asks for none above.
+ *
+ * Only tested, as all of msq_lease.h and msq_wait.h. Each push, pop and shut of such a queue is a call of this header, or one of
+ * msq_wait.h by a leased seat and the bells of the queue: else nobody is woken. What the caller owes stands in msq.h and msq_lease.h.
+ */
+#ifndef MSQ_QUEUE_H
+#define MSQ_QUEUE_H
+
+#include "msq_lease.h"
+
+#ifdef __cplusplus
+extern "C" {
+#endif
+
+/* What is done with a pointer that is left at the end, with the context that the caller gave. */
+typedef void (*msq_free_one)(void *object, void *context);
+
+/*
+ * Makes a queue, all zeros before, with room for `capacity` pointers, and seats for `threads` threads that call it at one time,
+ * up to 65,535. More may find room, as many as there are seats at most.
+ * MSQ_OK; MSQ_IN_USE where there is a queue already; else MSQ_BAD_SIZE or MSQ_MEMORY, and there is none.
+ */
+MSQ_INLINE uint32_t msq_queue_open(msq_queue *queue, uint32_t kind, uint32_t capacity, uint16_t threads);
+
+/*
+ * Pushes a pointer: where the queue is full it answers MSQ_NO_NODE, sleeps as long as it takes, or for so many nanoseconds.
+ * What msq_push_wake, msq_push_wait and msq_push_wait_for answer; MSQ_BAD_SIZE where it is from 2^48 on.
+ */
+MSQ_INLINE uint32_t msq_queue_push(msq_queue *queue, void *object);
+MSQ_INLINE uint32_t msq_queue_push_wait(msq_queue *queue, void *object);
+MSQ_INLINE uint32_t msq_queue_push_wait_for(msq_queue *queue, void *object, uint64_t ns);
+
+/*
+ * Pops the pointer at the front: where the queue is empty it answers MSQ_EMPTY, sleeps as long as it takes, or for so many
+ * nanoseconds. What msq_pop_wake, msq_pop_wait and msq_pop_wait_for answer; `object` is written at MSQ_OK alone.
+ */
+MSQ_INLINE uint32_t msq_queue_pop(msq_queue *queue, void **object);
+MSQ_INLINE uint32_t msq_queue_pop_wait(msq_queue *queue, void **object);
+MSQ_INLINE uint32_t msq_queue_pop_wait_for(msq_queue *queue, void **object, uint64_t ns);
+
+/*
+ * Shuts the queue: no push comes after it, what is in it stays to be popped, and all that sleep are woken.
+ * What msq_shut_wake answers, but for MSQ_BUSY: it tries again.
+ */
+MSQ_INLINE uint32_t msq_queue_shut(msq_queue *queue);
+
+/* What msq_emptiness, msq_len and msq_left tell. */
+MSQ_INLINE uint32_t msq_queue_emptiness(msq_queue *queue);
+MSQ_INLINE uint32_t msq_queue_len(msq_queue *queue, msq_length *length);
+MSQ_INLINE uint32_t msq_queue_left(msq_queue *queue, msq_remaining *left);
+
+/*
+ * Ends a queue that no other call uses. Each pointer left goes to `free_one`, from the front, with the context, unless `free_one`
+ * is NULL. There is no queue afterwards.
+ * MSQ_OK; MSQ_NO_SEAT where there is none, MSQ_IN_USE where a seat is leased; MSQ_MEMORY, only where a word is worn: the queue
+ * then has what no call of `free_one` got.
+ */
+MSQ_INLINE uint32_t msq_destroy(msq_queue *queue, msq_free_one free_one, void *context);
+
+/*
+ * A seat that may do what this role does, once there is one; none of no queue. Each thread begins at a place of its own, by where
+ * its stack lies, so that two rarely try the same one.
+ */
+MSQ_INLINE msq_seat *msq_lease_for(msq_queue *queue, uint32_t role) {
+    const size_t first = (size_t)((uintptr_t)&role >> 20);
+    while (queue->count > 0) {
+        for (size_t k = 0; k < queue->count; k++) {
+            const size_t place = (first + k) % queue->count;
+            if ((queue->roles[place] & role) == role && msq_lease_at(queue, place)) {
+                return &queue->places[place].seat;
+            }
+        }
+        sched_yield();
+    }
+    return NULL;
+}
+
+/* A look by a seat that is leased for it. */
+MSQ_INLINE uint32_t msq_look_by_lease(const struct msq_want *want) {
+    msq_queue *queue = (msq_queue *)want->queue;
+    msq_seat *seat = msq_lease_for(queue, want->pops ? MSQ_TAKER : MSQ_GIVER);
+    uint32_t code = MSQ_NO_SEAT;
+    if (seat != NULL) {
+        code = want->pops ? msq_pop_wake(seat, &queue->bells, MSQ_TURNS, want->value)
+                          : msq_push_wake(seat, &queue->bells, want->body, MSQ_TURNS);
+        msq_release(queue, seat);
+    }
+    return code;
+}
+
+MSQ_INLINE uint32_t msq_queue_open(msq_queue *queue, uint32_t kind, uint32_t capacity, uint16_t threads) {
+    uint8_t *roles;
+    uint32_t code = MSQ_MEMORY;
+    if (capacity < 1 || threads < 1 || capacity > MSQ_MOST_NODES - threads - 1) {
+        return MSQ_BAD_SIZE;
+    }
+    roles = (uint8_t *)malloc(threads);
+    if (roles != NULL) {
+        for (size_t place = 0; place < threads; place++) {
+            roles[place] = MSQ_BOTH;
+        }
+        code = msq_queue_create(queue, kind, capacity + 1 + threads, MSQ_MOST_COUNT, roles, threads);
+        free(roles);
+    }
+    return code;
+}
+
+MSQ_INLINE uint32_t msq_queue_push(msq_queue *queue, void *object) {
+    const struct msq_want want = {NULL, &queue->bells, false, NULL, (uintptr_t)object, msq_look_by_lease, queue};
+    return msq_look_by_lease(&want);
+}
+
+MSQ_INLINE uint32_t msq_queue_push_wait_for(msq_queue *queue, void *object, uint64_t ns) {
+    const struct msq_want want = {NULL, &queue->bells, false, NULL, (uintptr_t)object, msq_look_by_lease, queue};
+    return msq_look_for(&want, ns);
+}
+
+MSQ_INLINE uint32_t msq_queue_push_wait(msq_queue *queue, void *object) {
+    return msq_queue_push_wait_for(queue, object, MSQ_FOREVER);
+}
+
+/* The object of a value that was popped. */
+MSQ_INLINE uint32_t msq_objects_code(uint32_t code, const msq_value *value, void **object) {
+    if (code == MSQ_OK) {
+        *object = (void *)(uintptr_t)value->body;
+    }
+    return code;
+}
+
+MSQ_INLINE uint32_t msq_queue_pop(msq_queue *queue, void **object) {
+    msq_value value = {0, 0};
+    const struct msq_want want = {NULL, &queue->bells, true, &value, 0, msq_look_by_lease, queue};
+    return msq_objects_code(msq_look_by_lease(&want), &value, object);
+}
+
+MSQ_INLINE uint32_t msq_queue_pop_wait_for(msq_queue *queue, void **object, uint64_t ns) {
+    msq_value value = {0, 0};
+    const struct msq_want want = {NULL, &queue->bells, true, &value, 0, msq_look_by_lease, queue};
+    return msq_objects_code(msq_look_for(&want, ns), &value, object);
+}
+
+MSQ_INLINE uint32_t msq_queue_pop_wait(msq_queue *queue, void **object) {
+    return msq_queue_pop_wait_for(queue, object, MSQ_FOREVER);
+}
+
+MSQ_INLINE uint32_t msq_queue_shut(msq_queue *queue) {
+    uint32_t code = MSQ_NO_SEAT;
+    msq_seat *seat = msq_lease_for(queue, MSQ_GIVER);
+    if (seat == NULL) {
+        return code;
+    }
+    while ((code = msq_shut_wake(seat, &queue->bells, MSQ_TURNS)) == MSQ_BUSY) {
+        sched_yield();
+    }
+    msq_release(queue, seat);
+    return code;
+}
+
+MSQ_INLINE uint32_t msq_queue_emptiness(msq_queue *queue) {
+    uint32_t code = MSQ_NO_SEAT;
+    msq_seat *seat = msq_lease_for(queue, 0);
+    if (seat != NULL) {
+        code = msq_emptiness(seat);
+        msq_release(queue, seat);
+    }
+    return code;
+}
+
+MSQ_INLINE uint32_t msq_queue_len(msq_queue *queue, msq_length *length) {
+    uint32_t code = MSQ_NO_SEAT;
+    msq_seat *seat = msq_lease_for(queue, 0);
+    if (seat != NULL) {
+        code = msq_len(seat, length);
+        msq_release(queue, seat);
+    }
+    return code;
+}
+
+MSQ_INLINE uint32_t msq_queue_left(msq_queue *queue, msq_remaining *left) {
+    uint32_t code = MSQ_NO_SEAT;
+    msq_seat *seat = msq_lease_for(queue, 0);
+    if (seat != NULL) {
+        code = msq_left(seat, left);
+        msq_release(queue, seat);
+    }
+    return code;
+}
+
+/* Ends a queue of which a word is worn, so that pops end before it is empty. */
+MSQ_INLINE uint32_t msq_destroy_worn(msq_queue *queue, msq_free_one free_one, void *context) {
+    msq_rest rest = {0, 0, false, false};
+    uint32_t code = MSQ_MEMORY;
+    msq_value *values = (msq_value *)calloc(queue->nodes, sizeof *values);
+    if (values != NULL) {
+        code = msq_queue_close(queue, values, queue->nodes, &rest);
+        for (uint64_t k = 0; code == MSQ_OK && free_one != NULL && k < rest.left; k++) {
+            free_one((void *)(uintptr_t)values[k].body, context);
+        }
+        free(values);
+    }
+    return code;
+}
+
+MSQ_INLINE uint32_t msq_destroy(msq_queue *queue, msq_free_one free_one, void *context) {
+    uint32_t code = MSQ_BUSY;
+    msq_value value = {0, 0};
+    msq_seat *seat;
+    if (queue->places == NULL) {
+        return MSQ_NO_SEAT;
+    }
+    if (!msq_lease_all(queue)) {
+        return MSQ_IN_USE;
+    }
+    for (size_t place = 0; place < queue->count; place++) {
+        msq_release(queue, &queue->places[place].seat);
+    }
+    seat = msq_lease_for(queue, MSQ_TAKER);
+    while (code == MSQ_BUSY || code == MSQ_OK) {
+        code = msq_try_pop(seat, MSQ_TURNS, &value);
+        if (code == MSQ_OK && free_one != NULL) {
+            free_one((void *)(uintptr_t)value.body, context);
+        }
+    }
+    msq_release(queue, seat);
+    if (code != MSQ_EMPTY && code != MSQ_CLOSED) {
+        return msq_destroy_worn(queue, free_one, context);
+    }
+    msq_queue_drop(queue);
+    return MSQ_OK;
+}
+
+#ifdef __cplusplus
+}
+#endif
+
+#endif

@@ -1,0 +1,509 @@
+//! Channels with a bound, as crossbeam-channel has them: [`bounded`] makes one, and clones of its ends are for any threads.
+//!
+//! ```
+//! use msq::channel;
+//!
+//! let (sender, receiver) = channel::bounded(16).unwrap();
+//! for name in ["one", "two"] {
+//!     let sender = sender.clone();
+//!     std::thread::spawn(move || sender.send(name.to_string()).unwrap());
+//! }
+//! drop(sender); // the last one that goes disconnects the channel, and the loop ends
+//! let mut names: Vec<String> = receiver.iter().collect();
+//! names.sort();
+//! assert_eq!(names, ["one", "two"]);
+//! ```
+//!
+//! A value lies in a box of its own. Values of one thread come in its order, each once, and what is left is dropped with the
+//! last end. A channel lasts for years, as docs/QUEUES.md says of its queue; one that is worn out disconnects.
+use crate::bells::{after, Deadline};
+use crate::pooled::{Pooled, THREADS};
+use crate::{Kind, Refusal};
+use std::fmt;
+use std::iter::FusedIterator;
+use std::sync::atomic::AtomicUsize;
+use std::sync::atomic::Ordering::SeqCst;
+use std::sync::Arc;
+use std::time::{Duration, Instant};
+
+/// A value that wasn't sent, since all receivers are gone.
+#[derive(Clone, Copy, PartialEq, Eq)]
+pub struct SendError<T>(pub T);
+
+/// A value that wasn't sent by [`Sender::try_send`].
+#[derive(Clone, Copy, PartialEq, Eq)]
+pub enum TrySendError<T> {
+    /// The channel is full.
+    Full(T),
+    /// All receivers are gone.
+    Disconnected(T),
+}
+
+/// A value that wasn't sent by [`Sender::send_timeout`].
+#[derive(Clone, Copy, PartialEq, Eq)]
+pub enum SendTimeoutError<T> {
+    /// The channel was full for all that time.
+    Timeout(T),
+    /// All receivers are gone.
+    Disconnected(T),
+}
+
+/// Nothing was received: the channel is empty, and all senders are gone.
+#[derive(Clone, Copy, Debug, PartialEq, Eq)]
+pub struct RecvError;
+
+/// Why nothing was received by [`Receiver::try_recv`].
+#[derive(Clone, Copy, Debug, PartialEq, Eq)]
+pub enum TryRecvError {
+    /// The channel is empty.
+    Empty,
+    /// It is empty, and all senders are gone.
+    Disconnected,
+}
+
+/// Why nothing was received by [`Receiver::recv_timeout`].
+#[derive(Clone, Copy, Debug, PartialEq, Eq)]
+pub enum RecvTimeoutError {
+    /// The channel was empty for all that time.
+    Timeout,
+    /// It is empty, and all senders are gone.
+    Disconnected,
+}
+
+impl<T> SendError<T> {
+    /// The value.
+    pub fn into_inner(self) -> T {
+        self.0
+    }
+}
+
+impl<T> TrySendError<T> {
+    /// The value.
+    pub fn into_inner(self) -> T {
+        match self {
+            TrySendError::Full(value) | TrySendError::Disconnected(value) => value,
+        }
+    }
+
+    /// Whether the channel is full.
+    pub fn is_full(&self) -> bool {
+        matches!(self, TrySendError::Full(_))
+    }
+
+    /// Whether all receivers are gone.
+    pub fn is_disconnected(&self) -> bool {
+        matches!(self, TrySendError::Disconnected(_))
+    }
+}
+
+impl<T> SendTimeoutError<T> {
+    /// The value.
+    pub fn into_inner(self) -> T {
+        match self {
+            SendTimeoutError::Timeout(value) | SendTimeoutError::Disconnected(value) => value,
+        }
+    }
+
+    /// Whether the channel was full for all that time.
+    pub fn is_timeout(&self) -> bool {
+        matches!(self, SendTimeoutError::Timeout(_))
+    }
+
+    /// Whether all receivers are gone.
+    pub fn is_disconnected(&self) -> bool {
+        matches!(self, SendTimeoutError::Disconnected(_))
+    }
+}
+
+// (these don't ask the values to be `Debug`)
+impl<T> fmt::Debug for SendError<T> {
+    fn fmt(&self, f: &mut fmt::Formatter<'_>) -> fmt::Result {
+        f.write_str("SendError(..)")
+    }
+}
+
+impl<T> fmt::Debug for TrySendError<T> {
+    fn fmt(&self, f: &mut fmt::Formatter<'_>) -> fmt::Result {
+        f.write_str(match self {
+            TrySendError::Full(_) => "Full(..)",
+            TrySendError::Disconnected(_) => "Disconnected(..)",
+        })
+    }
+}
+
+impl<T> fmt::Debug for SendTimeoutError<T> {
+    fn fmt(&self, f: &mut fmt::Formatter<'_>) -> fmt::Result {
+        f.write_str(match self {
+            SendTimeoutError::Timeout(_) => "Timeout(..)",
+            SendTimeoutError::Disconnected(_) => "Disconnected(..)",
+        })
+    }
+}
+
+const NO_RECEIVER: &str = "sending on a disconnected channel";
+const NO_SENDER: &str = "receiving on an empty and disconnected channel";
+
+impl<T> fmt::Display for SendError<T> {
+    fn fmt(&self, f: &mut fmt::Formatter<'_>) -> fmt::Result {
+        f.write_str(NO_RECEIVER)
+    }
+}
+
+impl<T> fmt::Display for TrySendError<T> {
+    fn fmt(&self, f: &mut fmt::Formatter<'_>) -> fmt::Result {
+        f.write_str(match self {
+            TrySendError::Full(_) => "sending on a full channel",
+            TrySendError::Disconnected(_) => NO_RECEIVER,
+        })
+    }
+}
+
+impl<T> fmt::Display for SendTimeoutError<T> {
+    fn fmt(&self, f: &mut fmt::Formatter<'_>) -> fmt::Result {
+        f.write_str(match self {
+            SendTimeoutError::Timeout(_) => "timed out waiting on send operation",
+            SendTimeoutError::Disconnected(_) => NO_RECEIVER,
+        })
+    }
+}
+
+impl fmt::Display for RecvError {
+    fn fmt(&self, f: &mut fmt::Formatter<'_>) -> fmt::Result {
+        f.write_str(NO_SENDER)
+    }
+}
+
+impl fmt::Display for TryRecvError {
+    fn fmt(&self, f: &mut fmt::Formatter<'_>) -> fmt::Result {
+        f.write_str(match self {
+            TryRecvError::Empty => "receiving on an empty channel",
+            TryRecvError::Disconnected => NO_SENDER,
+        })
+    }
+}
+
+impl fmt::Display for RecvTimeoutError {
+    fn fmt(&self, f: &mut fmt::Formatter<'_>) -> fmt::Result {
+        f.write_str(match self {
+            RecvTimeoutError::Timeout => "timed out waiting on receive operation",
+            RecvTimeoutError::Disconnected => NO_SENDER,
+        })
+    }
+}
+
+impl<T> std::error::Error for SendError<T> {}
+impl<T> std::error::Error for TrySendError<T> {}
+impl<T> std::error::Error for SendTimeoutError<T> {}
+impl std::error::Error for RecvError {}
+impl std::error::Error for TryRecvError {}
+impl std::error::Error for RecvTimeoutError {}
+
+// What the ends of a channel share, and how many there are of each.
+struct Shared<T> {
+    queue: Pooled<T>,
+    senders: AtomicUsize,
+    receivers: AtomicUsize,
+}
+
+/// A channel with room for `capacity` values at least, 1 or more, over the non-blocking queue. Refused `BadSize` or `Memory`.
+///
+/// ```
+/// let (sender, receiver) = msq::channel::bounded(2).unwrap();
+/// sender.send(1).unwrap();
+/// assert_eq!(receiver.recv(), Ok(1));
+/// ```
+pub fn bounded<T: Send>(capacity: u32) -> Result<(Sender<T>, Receiver<T>), Refusal> {
+    bounded_for(capacity, THREADS)
+}
+
+/// As [`bounded`], with so many seats: of more threads that are in a call at one time, some wait for others to leave it. A thread
+/// that sleeps is in none.
+pub fn bounded_for<T: Send>(
+    capacity: u32,
+    threads: u16,
+) -> Result<(Sender<T>, Receiver<T>), Refusal> {
+    let shared = Arc::new(Shared {
+        queue: Pooled::new(Kind::NonBlocking, capacity, threads)?,
+        senders: AtomicUsize::new(1),
+        receivers: AtomicUsize::new(1),
+    });
+    let sender = Sender {
+        shared: Arc::clone(&shared),
+    };
+    Ok((sender, Receiver { shared }))
+}
+
+/// The sending end of a channel. A clone is a further one, and the last one that is dropped disconnects the channel.
+///
+/// What can't go to another thread can't be sent, and an end that is shared goes by reference:
+///
+/// ```compile_fail
+/// let (sender, receiver) = msq::channel::bounded(1).unwrap();
+/// sender.send(std::rc::Rc::new(1)).unwrap();
+/// ```
+/// ```
+/// fn is_shared<T: Send + Sync>(_: &T) {}
+/// let (sender, receiver) = msq::channel::bounded::<std::cell::Cell<u8>>(1).unwrap();
+/// is_shared(&sender);
+/// is_shared(&receiver);
+/// ```
+pub struct Sender<T> {
+    shared: Arc<Shared<T>>,
+}
+
+/// The receiving end of a channel. A clone is a further one: each value comes to one of them. With the last one that is dropped
+/// sends end, and what is in the channel is dropped with the last end of all.
+pub struct Receiver<T> {
+    shared: Arc<Shared<T>>,
+}
+
+impl<T> Sender<T> {
+    /// Sends a value, and sleeps while the channel is full.
+    ///
+    /// ```
+    /// let (sender, receiver) = msq::channel::bounded(1).unwrap();
+    /// assert!(sender.send("text".to_string()).is_ok());
+    /// drop(receiver);
+    /// assert_eq!(sender.send("lost".to_string()).unwrap_err().into_inner(), "lost");
+    /// ```
+    pub fn send(&self, value: T) -> Result<(), SendError<T>> {
+        self.send_until(value, None)
+            .map_err(|(_, value)| SendError(value))
+    }
+
+    /// Sends a value unless the channel is full.
+    ///
+    /// ```
+    /// let (sender, receiver) = msq::channel::bounded(1).unwrap();
+    /// while sender.try_send(1).is_ok() {}
+    /// assert!(sender.try_send(2).unwrap_err().is_full());
+    /// ```
+    pub fn try_send(&self, value: T) -> Result<(), TrySendError<T>> {
+        self.shared
+            .queue
+            .try_push(value)
+            .map_err(|(refusal, value)| match refusal {
+                Refusal::NoNode => TrySendError::Full(value),
+                _ => TrySendError::Disconnected(value),
+            })
+    }
+
+    /// Sends a value, and sleeps while the channel is full, for this time at most.
+    pub fn send_timeout(&self, value: T, time: Duration) -> Result<(), SendTimeoutError<T>> {
+        self.send_in_time(value, after(time))
+    }
+
+    /// Sends a value, and sleeps while the channel is full, until this moment at most.
+    pub fn send_deadline(&self, value: T, until: Instant) -> Result<(), SendTimeoutError<T>> {
+        self.send_in_time(value, Some(until))
+    }
+
+    fn send_in_time(&self, value: T, until: Deadline) -> Result<(), SendTimeoutError<T>> {
+        self.send_until(value, until)
+            .map_err(|(refusal, value)| match refusal {
+                Refusal::NoNode | Refusal::Busy => SendTimeoutError::Timeout(value),
+                _ => SendTimeoutError::Disconnected(value),
+            })
+    }
+
+    fn send_until(&self, value: T, until: Deadline) -> Result<(), (Refusal, T)> {
+        self.shared.queue.push_until(value, until)
+    }
+}
+
+impl<T> Receiver<T> {
+    /// Receives the value at the front, and sleeps while the channel is empty.
+    pub fn recv(&self) -> Result<T, RecvError> {
+        loop {
+            match self.shared.queue.pop_until(None) {
+                Ok(Some(value)) => return Ok(value),
+                Ok(None) => {}
+                Err(_) => return Err(RecvError),
+            }
+        }
+    }
+
+    /// Receives the value at the front, unless the channel is empty.
+    ///
+    /// ```
+    /// use msq::channel::{bounded, TryRecvError};
+    /// let (sender, receiver) = bounded::<String>(1).unwrap();
+    /// assert_eq!(receiver.try_recv(), Err(TryRecvError::Empty));
+    /// drop(sender);
+    /// assert_eq!(receiver.try_recv(), Err(TryRecvError::Disconnected));
+    /// ```
+    pub fn try_recv(&self) -> Result<T, TryRecvError> {
+        match self.shared.queue.try_pop() {
+            Ok(Some(value)) => Ok(value),
+            Ok(None) => Err(TryRecvError::Empty),
+            Err(_) => Err(TryRecvError::Disconnected),
+        }
+    }
+
+    /// Receives the value at the front, and sleeps while the channel is empty, for this time at most.
+    pub fn recv_timeout(&self, time: Duration) -> Result<T, RecvTimeoutError> {
+        self.recv_in_time(after(time))
+    }
+
+    /// Receives the value at the front, and sleeps while the channel is empty, until this moment at most.
+    pub fn recv_deadline(&self, until: Instant) -> Result<T, RecvTimeoutError> {
+        self.recv_in_time(Some(until))
+    }
+
+    fn recv_in_time(&self, until: Deadline) -> Result<T, RecvTimeoutError> {
+        match self.shared.queue.pop_until(until) {
+            Ok(Some(value)) => Ok(value),
+            Ok(None) | Err(Refusal::Busy) => Err(RecvTimeoutError::Timeout),
+            Err(_) => Err(RecvTimeoutError::Disconnected),
+        }
+    }
+
+    /// The values that come, which sleeps while there is none, until all senders are gone.
+    pub fn iter(&self) -> Iter<'_, T> {
+        Iter { receiver: self }
+    }
+
+    /// The values that are there, until the channel is found empty.
+    ///
+    /// ```
+    /// let (sender, receiver) = msq::channel::bounded(8).unwrap();
+    /// sender.send(1).unwrap();
+    /// sender.send(2).unwrap();
+    /// assert_eq!(receiver.try_iter().collect::<Vec<_>>(), [1, 2]);
+    /// ```
+    pub fn try_iter(&self) -> TryIter<'_, T> {
+        TryIter { receiver: self }
+    }
+}
+
+// What both ends tell of the channel.
+macro_rules! ends {
+    ($end:ident, $count:ident, $other:ident) => {
+        impl<T> $end<T> {
+            /// How many values the channel held, at a moment of the call, at least.
+            ///
+            /// ```
+            /// let (sender, receiver) = msq::channel::bounded(8).unwrap();
+            /// sender.send(1).unwrap();
+            /// assert_eq!((sender.len(), receiver.len()), (1, 1));
+            /// ```
+            pub fn len(&self) -> usize {
+                let found = self.shared.queue.len();
+                found.map_or(0, |found| {
+                    usize::try_from(found.least).unwrap_or(usize::MAX)
+                })
+            }
+
+            /// Whether the channel is empty.
+            pub fn is_empty(&self) -> bool {
+                self.shared.queue.is_empty()
+            }
+
+            /// Whether the channel holds as many values as there is room for at least.
+            pub fn is_full(&self) -> bool {
+                self.len() >= self.shared.queue.capacity() as usize
+            }
+
+            /// How many values there is room for at least.
+            pub fn capacity(&self) -> Option<usize> {
+                usize::try_from(self.shared.queue.capacity()).ok()
+            }
+
+            /// Whether both are ends of one channel.
+            pub fn same_channel(&self, other: &$end<T>) -> bool {
+                Arc::ptr_eq(&self.shared, &other.shared)
+            }
+        }
+
+        impl<T> Clone for $end<T> {
+            fn clone(&self) -> $end<T> {
+                self.shared.$count.fetch_add(1, SeqCst);
+                $end {
+                    shared: Arc::clone(&self.shared),
+                }
+            }
+        }
+
+        impl<T> Drop for $end<T> {
+            fn drop(&mut self) {
+                if self.shared.$count.fetch_sub(1, SeqCst) == 1 {
+                    // (refused where the other side was gone before, or a word is worn: it is then at its end too)
+                    let _ = self.shared.queue.shut();
+                }
+            }
+        }
+
+        impl<T> fmt::Debug for $end<T> {
+            fn fmt(&self, f: &mut fmt::Formatter<'_>) -> fmt::Result {
+                f.pad(concat!(stringify!($end), " { .. }"))
+            }
+        }
+    };
+}
+
+ends!(Sender, senders, Receiver);
+ends!(Receiver, receivers, Sender);
+
+/// The values that come to a [`Receiver`], until all senders are gone.
+#[derive(Debug)]
+pub struct Iter<'a, T> {
+    receiver: &'a Receiver<T>,
+}
+
+impl<T> Iterator for Iter<'_, T> {
+    type Item = T;
+
+    fn next(&mut self) -> Option<T> {
+        self.receiver.recv().ok()
+    }
+}
+
+impl<T> FusedIterator for Iter<'_, T> {}
+
+/// The values that are there for a [`Receiver`], until the channel is found empty.
+#[derive(Debug)]
+pub struct TryIter<'a, T> {
+    receiver: &'a Receiver<T>,
+}
+
+impl<T> Iterator for TryIter<'_, T> {
+    type Item = T;
+
+    fn next(&mut self) -> Option<T> {
+        self.receiver.try_recv().ok()
+    }
+}
+
+/// The values that come to a [`Receiver`] that is then no more, until all senders are gone.
+#[derive(Debug)]
+pub struct IntoIter<T> {
+    receiver: Receiver<T>,
+}
+
+impl<T> Iterator for IntoIter<T> {
+    type Item = T;
+
+    fn next(&mut self) -> Option<T> {
+        self.receiver.recv().ok()
+    }
+}
+
+impl<T> FusedIterator for IntoIter<T> {}
+
+impl<T> IntoIterator for Receiver<T> {
+    type Item = T;
+    type IntoIter = IntoIter<T>;
+
+    fn into_iter(self) -> IntoIter<T> {
+        IntoIter { receiver: self }
+    }
+}
+
+impl<'a, T> IntoIterator for &'a Receiver<T> {
+    type Item = T;
+    type IntoIter = Iter<'a, T>;
+
+    fn into_iter(self) -> Iter<'a, T> {
+        self.iter()
+    }
+}

@@ -1,0 +1,227 @@
+//! A queue of boxes that any thread calls: each call leases a seat for as long as it looks, and sleeps without one.
+use crate::bells::{Bells, Deadline, TURNS};
+use crate::{answer, raw, Kind, Length, Refusal};
+use std::cell::{Cell, UnsafeCell};
+use std::marker::PhantomData;
+use std::sync::atomic::Ordering::SeqCst;
+use std::sync::atomic::{AtomicBool, AtomicUsize};
+use std::thread;
+
+/// How many threads may be in a call at one time, where none is said, before one waits for another to leave it.
+pub const THREADS: u16 = 64;
+
+// A seat, which one call leases at a time; no two are on one line of the cache, or on two that are fetched together.
+#[repr(align(128))]
+struct Place {
+    leased: AtomicBool,
+    seat: UnsafeCell<raw::Seat>,
+}
+
+/// The queue, and the boxes in it.
+pub struct Pooled<T> {
+    places: Vec<Place>,
+    bells: Bells,
+    nodes: u32,
+    capacity: u32,
+    // (a cell, since what one thread pushes is just what another gets)
+    owns: PhantomData<Cell<Box<T>>>,
+}
+
+// SAFETY: a seat may go to another thread, and so may the boxes in the queue.
+unsafe impl<T: Send> Send for Pooled<T> {}
+// SAFETY: a seat is used by the call alone that leased it, and a value goes from one thread to another, to whom alone it is then.
+unsafe impl<T: Send> Sync for Pooled<T> {}
+
+// The place where this thread begins to look for a seat.
+fn first_place() -> usize {
+    static NEXT: AtomicUsize = AtomicUsize::new(0);
+    thread_local! {
+        static FIRST: usize = NEXT.fetch_add(1, SeqCst);
+    }
+    FIRST.try_with(|first| *first).unwrap_or_default()
+}
+
+// A seat that is given back at its end, also where a call panics.
+struct Leased<'a> {
+    place: &'a Place,
+}
+
+impl Drop for Leased<'_> {
+    fn drop(&mut self) {
+        self.place.leased.store(false, SeqCst);
+    }
+}
+
+impl<T> Pooled<T> {
+    /// With room for so many values, and so many seats.
+    pub fn new(kind: Kind, capacity: u32, threads: u16) -> Result<Pooled<T>, Refusal> {
+        let more = 1 + u32::from(threads);
+        let nodes = capacity.checked_add(more).ok_or(Refusal::BadSize)?;
+        if capacity == 0 {
+            return Err(Refusal::BadSize);
+        }
+        let roles = vec![raw::BOTH; usize::from(threads)];
+        let places = raw::seats(kind, nodes, raw::MOST_COUNT, &roles)?
+            .into_iter()
+            .map(|seat| Place {
+                leased: AtomicBool::new(false),
+                seat: UnsafeCell::new(seat),
+            })
+            .collect();
+        Ok(Pooled {
+            places,
+            bells: Bells::default(),
+            nodes,
+            capacity,
+            owns: PhantomData,
+        })
+    }
+
+    /// How many values there is room for at least.
+    pub fn capacity(&self) -> u32 {
+        self.capacity
+    }
+
+    fn lease(&self) -> Leased<'_> {
+        let first = first_place() % self.places.len();
+        loop {
+            let (before, behind) = self.places.split_at(first);
+            let mut places = behind.iter().chain(before);
+            if let Some(place) = places.find(|place| !place.leased.swap(true, SeqCst)) {
+                return Leased { place };
+            }
+            thread::yield_now();
+        }
+    }
+
+    // A call by a leased seat.
+    fn call(&self, call: impl FnOnce(*mut raw::Seat) -> u32) -> u32 {
+        let leased = self.lease();
+        call(leased.place.seat.get())
+    }
+
+    fn push_once(&self, address: u64) -> Result<(), Refusal> {
+        // SAFETY: the seat is full, and leased by this call alone.
+        let code = self.call(|seat| unsafe { raw::msq_try_push(seat, address, TURNS) });
+        self.bells.pushed(code)
+    }
+
+    fn pop_once(&self) -> Result<Option<T>, Refusal> {
+        let mut value = raw::Value { body: 0, from: 0 };
+        // SAFETY: as for a push.
+        let code = self.call(|seat| unsafe { raw::msq_try_pop(seat, TURNS, &mut value) });
+        self.bells.popped(code);
+        if code == raw::EMPTY {
+            return Ok(None);
+        }
+        answer(code)?;
+        Ok(Some(unboxed(value.body)))
+    }
+
+    // Pushes a box by its address; it comes back where that is refused.
+    fn push(
+        &self,
+        value: T,
+        push: impl FnOnce(u64) -> Result<(), Refusal>,
+    ) -> Result<(), (Refusal, T)> {
+        let address = Box::into_raw(Box::new(value)) as usize as u64;
+        push(address).map_err(|refusal| (refusal, unboxed(address)))
+    }
+
+    /// Pushes a value, and tries again while others are in the way; refused `NoNode` where the queue is full.
+    pub fn try_push(&self, value: T) -> Result<(), (Refusal, T)> {
+        self.push(value, |address| loop {
+            match self.push_once(address) {
+                Err(Refusal::Busy) => thread::yield_now(),
+                answer => return answer,
+            }
+        })
+    }
+
+    /// Pushes a value, and sleeps while the queue is full, until then; refused `NoNode` after it.
+    pub fn push_until(&self, value: T, until: Deadline) -> Result<(), (Refusal, T)> {
+        self.push(value, |address| {
+            let pushed = self
+                .bells
+                .nodes()
+                .wait(until, || match self.push_once(address) {
+                    Err(Refusal::NoNode) => Ok(None),
+                    answer => answer.map(Some),
+                })?;
+            pushed.ok_or(Refusal::NoNode)
+        })
+    }
+
+    /// Pops the value at the front, and tries again while others are in the way; none where the queue is empty.
+    pub fn try_pop(&self) -> Result<Option<T>, Refusal> {
+        loop {
+            match self.pop_once() {
+                Err(Refusal::Busy) => thread::yield_now(),
+                answer => return answer,
+            }
+        }
+    }
+
+    /// Pops the value at the front, and sleeps while the queue is empty, until then; none after it.
+    pub fn pop_until(&self, until: Deadline) -> Result<Option<T>, Refusal> {
+        self.bells.values().wait(until, || self.pop_once())
+    }
+
+    /// Shuts the queue: no push comes after it. Refused `Closed` where it was shut before.
+    pub fn shut(&self) -> Result<(), Refusal> {
+        loop {
+            // SAFETY: as for a push.
+            let code = self.call(|seat| unsafe { raw::msq_try_shut(seat, TURNS) });
+            match self.bells.shut(code) {
+                Err(Refusal::Busy) => thread::yield_now(),
+                answer => return answer,
+            }
+        }
+    }
+
+    /// Bounds of how many values the queue holds; none of the two-lock queue.
+    pub fn len(&self) -> Option<Length> {
+        let mut len = raw::Length { least: 0, most: 0 };
+        // SAFETY: as for a push.
+        let code = self.call(|seat| unsafe { raw::msq_len(seat, &mut len) });
+        (code == raw::OK).then_some(Length {
+            least: len.least,
+            most: len.most,
+        })
+    }
+
+    /// Whether the queue held no value, at a moment at which no pop was under way.
+    pub fn is_empty(&self) -> bool {
+        loop {
+            // SAFETY: as for a push.
+            match self.call(|seat| unsafe { raw::msq_emptiness(seat) }) {
+                raw::BUSY => thread::yield_now(),
+                code => return code != raw::OK,
+            }
+        }
+    }
+}
+
+// The box of an address that was pushed, and popped once, or not pushed.
+fn unboxed<T>(address: u64) -> T {
+    // SAFETY: the queue has addresses alone that `into_raw` gave, each is popped once, and its type is the queue's.
+    *unsafe { Box::from_raw(address as usize as *mut T) }
+}
+
+impl<T> Drop for Pooled<T> {
+    fn drop(&mut self) {
+        while let Ok(Some(value)) = self.try_pop() {
+            drop(value);
+        }
+        // (where a word is worn pops end before the queue is empty, but not the close)
+        let places = self.places.drain(..);
+        let mut seats: Vec<raw::Seat> = places.map(|place| place.seat.into_inner()).collect();
+        for value in raw::closed(&mut seats, self.nodes) {
+            drop(unboxed::<T>(value.body));
+        }
+        for seat in &mut seats {
+            // SAFETY: the seat is what the last call left, and in no call.
+            unsafe { raw::msq_drop(seat) }
+        }
+    }
+}

@@ -1,0 +1,155 @@
+//! A queue of values of any type, which any thread calls.
+use crate::bells::after;
+use crate::pooled::{Pooled, THREADS};
+use crate::{Kind, Length, Refusal};
+use std::fmt;
+use std::time::Duration;
+
+/// A bounded queue of values of any type, as crossbeam's `ArrayQueue`, shared by reference or in an `Arc`. It can be closed, and
+/// calls may sleep. Each value is in a box of its own; those of one thread come in its order, each once, and what is left is dropped
+/// with the queue.
+///
+/// ```
+/// let queue = msq::Queue::new(8).unwrap();
+/// std::thread::scope(|scope| {
+///     scope.spawn(|| {
+///         queue.push_wait("text".to_string()).unwrap();
+///         queue.close().unwrap();
+///     });
+///     while let Some(text) = queue.pop_wait() {
+///         assert_eq!(text, "text");
+///     }
+/// });
+/// ```
+///
+/// Threads share it where its values may go to another thread, and not else:
+///
+/// ```
+/// fn is_shared<T: Send + Sync>() {}
+/// is_shared::<msq::Queue<std::cell::Cell<u8>>>();
+/// ```
+/// ```compile_fail
+/// fn is_shared<T: Sync>() {}
+/// is_shared::<msq::Queue<std::rc::Rc<u8>>>();
+/// ```
+pub struct Queue<T> {
+    queue: Pooled<T>,
+}
+
+/// A value that wasn't pushed, and why.
+#[derive(Clone, Copy, PartialEq, Eq)]
+pub struct PushError<T> {
+    /// `NoNode` where the queue is full, `Closed`, or a word that is worn.
+    pub refusal: Refusal,
+    /// The value.
+    pub value: T,
+}
+
+impl<T> fmt::Debug for PushError<T> {
+    fn fmt(&self, f: &mut fmt::Formatter<'_>) -> fmt::Result {
+        write!(f, "PushError({:?}, ..)", self.refusal)
+    }
+}
+
+impl<T> fmt::Display for PushError<T> {
+    fn fmt(&self, f: &mut fmt::Formatter<'_>) -> fmt::Result {
+        self.refusal.fmt(f)
+    }
+}
+
+impl<T> std::error::Error for PushError<T> {}
+
+fn unpushed<T>((refusal, value): (Refusal, T)) -> PushError<T> {
+    PushError { refusal, value }
+}
+
+impl<T: Send> Queue<T> {
+    /// A non-blocking queue with room for so many values at least, 1 or more. Refused `BadSize` or `Memory`.
+    pub fn new(capacity: u32) -> Result<Queue<T>, Refusal> {
+        Queue::of(Kind::NonBlocking, capacity, THREADS)
+    }
+
+    /// A queue of this kind, with so many seats: of more threads that are in a call at one time, some wait for others to leave it.
+    /// A thread that sleeps is in none.
+    pub fn of(kind: Kind, capacity: u32, threads: u16) -> Result<Queue<T>, Refusal> {
+        Ok(Queue {
+            queue: Pooled::new(kind, capacity, threads)?,
+        })
+    }
+}
+
+impl<T> Queue<T> {
+    /// Pushes a value. Refused `NoNode` where the queue is full, or `Closed`.
+    ///
+    /// ```
+    /// let queue = msq::Queue::new(8).unwrap();
+    /// queue.push(1).unwrap();
+    /// queue.close().unwrap();
+    /// let unpushed = queue.push(2).unwrap_err();
+    /// assert_eq!((unpushed.refusal, unpushed.value), (msq::Refusal::Closed, 2));
+    /// assert_eq!(queue.pop(), Ok(Some(1)));
+    /// assert_eq!(queue.pop(), Err(msq::Refusal::Closed));
+    /// ```
+    pub fn push(&self, value: T) -> Result<(), PushError<T>> {
+        self.queue.try_push(value).map_err(unpushed)
+    }
+
+    /// Pushes a value, and sleeps while the queue is full. Refused `Closed`.
+    pub fn push_wait(&self, value: T) -> Result<(), PushError<T>> {
+        self.queue.push_until(value, None).map_err(unpushed)
+    }
+
+    /// The same, for this time at most; refused `NoNode` after it.
+    pub fn push_timeout(&self, value: T, time: Duration) -> Result<(), PushError<T>> {
+        self.queue.push_until(value, after(time)).map_err(unpushed)
+    }
+
+    /// Pops the value at the front; none where the queue is empty. Refused `Closed` where it is closed too.
+    pub fn pop(&self) -> Result<Option<T>, Refusal> {
+        self.queue.try_pop()
+    }
+
+    /// Pops the value at the front, and sleeps while the queue is empty; none where it is closed too, or worn.
+    pub fn pop_wait(&self) -> Option<T> {
+        loop {
+            match self.queue.pop_until(None) {
+                Ok(None) => {}
+                answer => return answer.ok().flatten(),
+            }
+        }
+    }
+
+    /// Pops the value at the front, and sleeps while the queue is empty, for this time at most; none after it. Refused `Closed`.
+    pub fn pop_timeout(&self, time: Duration) -> Result<Option<T>, Refusal> {
+        self.queue.pop_until(after(time))
+    }
+
+    /// Closes the queue: no push comes after it, and what is in it stays to be popped. All that sleep are woken. Refused
+    /// `Closed` where it was closed before.
+    pub fn close(&self) -> Result<(), Refusal> {
+        self.queue.shut()
+    }
+
+    /// Bounds of how many values the queue held at a moment of the call; none of the two-lock queue.
+    pub fn len(&self) -> Option<Length> {
+        self.queue.len()
+    }
+
+    /// Whether the queue held no value at a moment of the call.
+    pub fn is_empty(&self) -> bool {
+        self.queue.is_empty()
+    }
+
+    /// How many values there is room for at least.
+    pub fn capacity(&self) -> u32 {
+        self.queue.capacity()
+    }
+}
+
+impl<T> fmt::Debug for Queue<T> {
+    fn fmt(&self, f: &mut fmt::Formatter<'_>) -> fmt::Result {
+        f.debug_struct("Queue")
+            .field("capacity", &self.capacity())
+            .finish_non_exhaustive()
+    }
+}

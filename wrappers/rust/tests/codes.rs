@@ -1,0 +1,178 @@
+//! What each call of a queue of values, and of a channel, answers in each case that it has an answer for, and what becomes of values.
+use msq::channel::{
+    bounded, RecvError, RecvTimeoutError, SendTimeoutError, TryRecvError, TrySendError,
+};
+use msq::{Kind, Queue, Refusal};
+use std::sync::atomic::AtomicIsize;
+use std::sync::atomic::Ordering::SeqCst;
+use std::sync::Arc;
+use std::thread;
+use std::time::{Duration, Instant};
+
+const KINDS: [Kind; 2] = [Kind::NonBlocking, Kind::TwoLock];
+const SHORT: Duration = Duration::from_millis(1);
+
+/// A value of which those alive are counted.
+struct Counted(Arc<AtomicIsize>, u64);
+
+impl Counted {
+    fn new(alive: &Arc<AtomicIsize>, number: u64) -> Counted {
+        alive.fetch_add(1, SeqCst);
+        Counted(Arc::clone(alive), number)
+    }
+}
+
+impl Drop for Counted {
+    fn drop(&mut self) {
+        self.0.fetch_sub(1, SeqCst);
+    }
+}
+
+#[test]
+fn no_queue_has_such_sizes() {
+    for kind in KINDS {
+        let refused = |capacity, threads| Queue::<u8>::of(kind, capacity, threads).err();
+        assert_eq!(refused(0, 1), Some(Refusal::BadSize), "no place");
+        assert_eq!(refused(1, 0), Some(Refusal::BadSize), "no thread");
+        assert_eq!(
+            refused(u32::MAX - 1, 1),
+            Some(Refusal::BadSize),
+            "too many nodes"
+        );
+        assert_eq!(
+            refused(u32::MAX, 9),
+            Some(Refusal::BadSize),
+            "more than a number has"
+        );
+    }
+    assert!(matches!(bounded::<u8>(0), Err(Refusal::BadSize)));
+}
+
+#[test]
+fn a_queue_answers() {
+    for kind in KINDS {
+        let queue = Queue::of(kind, 2, 1).unwrap();
+        assert_eq!(queue.capacity(), 2);
+        assert!(queue.is_empty());
+        assert_eq!(queue.pop(), Ok(None));
+        assert_eq!(queue.pop_timeout(SHORT), Ok(None));
+        queue.push("one".to_string()).unwrap();
+        queue.push_wait("two".to_string()).unwrap();
+        assert!(!queue.is_empty());
+        let length = queue.len().map(|it| (it.least, it.most));
+        assert_eq!(length, (kind == Kind::NonBlocking).then_some((2, 2)));
+        while queue.push("more".to_string()).is_ok() {}
+        let full = queue.push("over".to_string()).unwrap_err();
+        assert_eq!(
+            (full.refusal, full.value.as_str()),
+            (Refusal::NoNode, "over")
+        );
+        let full = queue.push_timeout("over".to_string(), SHORT).unwrap_err();
+        assert_eq!(
+            (full.refusal, full.value.as_str()),
+            (Refusal::NoNode, "over")
+        );
+        assert_eq!(queue.pop(), Ok(Some("one".to_string())));
+        assert_eq!(queue.pop_wait(), Some("two".to_string()));
+        assert_eq!(queue.close(), Ok(()));
+        assert_eq!(queue.close(), Err(Refusal::Closed));
+        let closed = queue.push_wait("late".to_string()).unwrap_err();
+        assert_eq!(
+            (closed.refusal, closed.value.as_str()),
+            (Refusal::Closed, "late")
+        );
+        while queue.pop_timeout(SHORT) == Ok(Some("more".to_string())) {}
+        assert_eq!(queue.pop(), Err(Refusal::Closed));
+        assert_eq!(queue.pop_timeout(SHORT), Err(Refusal::Closed));
+        assert_eq!(queue.pop_wait(), None);
+        assert_eq!(format!("{queue:?}"), "Queue { capacity: 2, .. }");
+        assert_eq!(
+            format!("{closed:?}: {closed}"),
+            "PushError(Closed, ..): the queue is shut"
+        );
+    }
+}
+
+#[test]
+fn a_channel_answers() {
+    let (sender, receiver) = bounded(1).unwrap();
+    assert_eq!(receiver.try_recv(), Err(TryRecvError::Empty));
+    assert_eq!(receiver.recv_timeout(SHORT), Err(RecvTimeoutError::Timeout));
+    assert_eq!(
+        receiver.recv_deadline(Instant::now()),
+        Err(RecvTimeoutError::Timeout)
+    );
+    assert_eq!(sender.send(1), Ok(()));
+    while sender.try_send(2).is_ok() {}
+    assert!(sender.is_full() && !receiver.is_empty() && sender.capacity() == Some(1));
+    assert_eq!(sender.try_send(3), Err(TrySendError::Full(3)));
+    assert_eq!(
+        sender.send_timeout(3, SHORT),
+        Err(SendTimeoutError::Timeout(3))
+    );
+    assert_eq!(
+        sender.send_deadline(3, Instant::now()),
+        Err(SendTimeoutError::Timeout(3))
+    );
+    assert_eq!(receiver.recv(), Ok(1));
+    assert_eq!(receiver.recv_timeout(SHORT), Ok(2));
+    drop(sender);
+    assert!(receiver.try_iter().all(|it| it == 2));
+    assert_eq!(receiver.try_recv(), Err(TryRecvError::Disconnected));
+    assert_eq!(
+        receiver.recv_timeout(SHORT),
+        Err(RecvTimeoutError::Disconnected)
+    );
+    assert_eq!(receiver.recv(), Err(RecvError));
+    assert_eq!(receiver.into_iter().next(), None);
+}
+
+#[test]
+fn with_the_last_receiver_sends_end() {
+    let (sender, receiver) = bounded(4).unwrap();
+    let further = receiver.clone();
+    assert!(receiver.same_channel(&further));
+    drop(receiver);
+    assert_eq!(sender.send(1), Ok(()));
+    drop(further);
+    assert_eq!(sender.send(2).unwrap_err().into_inner(), 2);
+    assert_eq!(sender.try_send(2), Err(TrySendError::Disconnected(2)));
+    assert_eq!(
+        sender.send_timeout(2, SHORT),
+        Err(SendTimeoutError::Disconnected(2))
+    );
+    assert_eq!(format!("{sender:?}"), "Sender { .. }");
+}
+
+#[test]
+fn a_sleeper_is_woken_by_the_last_sender() {
+    let (sender, receiver) = bounded::<u8>(1).unwrap();
+    thread::scope(|scope| {
+        let waits = scope.spawn(|| receiver.recv());
+        thread::sleep(Duration::from_millis(20));
+        drop(sender);
+        assert_eq!(waits.join().unwrap(), Err(RecvError));
+    });
+}
+
+#[test]
+fn what_is_left_is_dropped() {
+    for kind in KINDS {
+        let alive = Arc::new(AtomicIsize::new(0));
+        let queue = Queue::of(kind, 8, 2).unwrap();
+        for number in 0..8 {
+            assert!(queue.push(Counted::new(&alive, number)).is_ok());
+        }
+        assert!(queue.pop().is_ok_and(|it| it.is_some_and(|it| it.1 == 0)));
+        assert_eq!(alive.load(SeqCst), 7);
+        drop(queue);
+        assert_eq!(alive.load(SeqCst), 0);
+    }
+}
+
+#[test]
+fn values_without_bytes_pass() {
+    let queue = Queue::new(3).unwrap();
+    assert_eq!(queue.push(()), Ok(()));
+    assert_eq!(queue.pop(), Ok(Some(())));
+}
